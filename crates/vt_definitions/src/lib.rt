@@ -1,0 +1,8 @@
+//! The definitions that several crates cite, and the laws about them.
+#![tactic(auto)]
+
+mod sides;
+mod texels;
+
+pub use sides::{level_count_is_least, level_count_is_one, side_is_positive};
+pub use texels::word_has_its_bytes;
