@@ -1,0 +1,23 @@
+-- The words for what a count of faults, or of refused puts, did in a call. A count has 64 bits; at the end of its type it stands still.
+use Rattle.std.specs.Prelude.{◌≡◌, ℕ, ◌+◌, ◌-◌, ◌^◌, ◌<◌, ◌≤◌, min}
+
+-- where a count stands still
+abbrev pub count_end : ℕ
+count_end = 2 ^ 64 - 1
+
+-- a count after some more, up to the end of its type
+abbrev pub added : ℕ → ℕ → ℕ
+added count more = min (count + more) count_end
+
+-- the count rose by at least so many, or has come to the end of its type
+abbrev pub RoseBy : ℕ → ℕ → ℕ → Type 0
+RoseBy n before after = added before n ≤ after
+
+-- the count rose
+abbrev pub Rose : ℕ → ℕ → Type 0
+Rose = RoseBy 1
+
+-- the count is the same, and not at the end of its type
+pub record NoFault (before after : ℕ) : Type 0 where
+  pub same : after ≡ before
+  pub below_end : after < count_end
