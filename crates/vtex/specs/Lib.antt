@@ -1,0 +1,4 @@
+pub mod Words
+pub mod Names
+pub mod Lines
+pub mod PlainWords

@@ -1,0 +1,7 @@
+//! A page cache for software virtual texturing: the program.
+#![tactic(auto)]
+
+mod names;
+mod words;
+
+fn main(_rt: HostRuntime) {}
