@@ -16,4 +16,4 @@ abbrev pub fault_line : List ℕ
 fault_line = codes "vtex: fault on files or output\n"
 
 abbrev pub bad_input_line : List ℕ → List ℕ → List ℕ
-bad_input_line name place = codes "vtex: bad input: " ++ name ++ codes ": " ++ place ++ codes "\n"
+bad_input_line name place = codes "vtex: bad input: " ++ (name ++ (codes ": " ++ (place ++ codes "\n")))

@@ -19,7 +19,11 @@ fn is_picture_ending(ending: &[u8]) -> bool
 {
     match ending {
         [a, b, c, d, rest @ ..] => {
-            is_digit(*a) && is_digit(*b) && is_digit(*c) && is_digit(*d) && rest == b".ppm".as_slice()
+            is_digit(*a)
+                && is_digit(*b)
+                && is_digit(*c)
+                && is_digit(*d)
+                && rest == b".ppm".as_slice()
         }
         _ => false,
     }
