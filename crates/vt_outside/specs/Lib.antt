@@ -2,3 +2,10 @@ pub mod Counts
 pub mod Files
 pub mod Listed
 pub mod Lends
+pub mod Entries
+pub mod Failures
+pub mod Fails
+pub mod Closed
+pub mod MemoryFile
+pub mod MemoryFolder
+pub mod MemorySink

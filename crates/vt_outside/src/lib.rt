@@ -2,11 +2,31 @@
 #![tactic(auto)]
 
 mod answers;
+mod closed;
+mod fails;
+mod gate;
 mod items;
+mod memory_file;
+mod memory_folder;
+mod memory_sink;
 mod outside;
 mod place;
+mod real_file;
+mod real_folder;
+mod real_sink;
 
 pub use answers::{Failed, NoMemory, OutsideError};
+pub use fails::{Fail, Fails};
+pub use gate::OpenGate;
 pub use items::{Bytes, Items};
+pub use memory_file::MemoryFile;
+pub use memory_folder::MemoryFolder;
+pub use memory_sink::MemorySink;
 pub use outside::{File, Folder, Gate, Sink};
 pub use place::{Place, Point};
+pub use real_file::RealFile;
+pub use real_folder::RealFolder;
+pub use real_sink::RealSink;
+
+#[cfg(test)]
+mod tests;

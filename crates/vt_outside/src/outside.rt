@@ -88,6 +88,7 @@ pub trait Folder {
     fn close(&mut self, file: Self::File)
         ensures asked { asked self.new ≡ option_map (with_places (Self.File.name file) (Self.File.asked file)) (asked self.old) }
         ensures faults { faults self.new ≡ added (faults self.old) (Self.File.faults file) }
+        ensures kept { faults self.old ≤ faults self.new }
         ensures files { files self.new ≡ files self.old };
 
     /// Makes the name hold no bytes, whether it was there or not. After a refusal the files are as before.

@@ -144,7 +144,9 @@ pub fn spelling_is_unique()
 /// A number that is written is read as that number, where the bounds admit it.
 pub fn written_is_read(line: &mut [u8], at: usize, n: u64, most: i64) -> Result<i64, TextError>
     requires { at + 20 ≤ length line.old }
-    ensures { pos n ≤ℤ most → result ≡ Ok (pos n) }
+    ensures read { pos n ≤ℤ most → result ≡ Ok (pos n) }
+    ensures outside { most <ℤ pos n → result ≡ Err TextError.OutOfRange }
+    ensures written { line.new ≡ take at line.old ++ number_spelling n ++ drop (at + length (number_spelling n)) line.old }
 {
     let end = put_number(line, at, n);
     decimal(&line[at..end], 0, most)

@@ -48,3 +48,11 @@ part_of_joined pieces i d k inside =
           ∙ sym (take-append-add a (x ++ w.0) m)
           ∙ ap (take (length a + m)) (sym w.1),
     )
+
+-- the text of three pieces, of which each is known
+pub three_pieces : (a b c x y z : List ℕ) → a ≡ x → b ≡ y → c ≡ z → a ++ (b ++ (c ++ [])) ≡ x ++ (y ++ z)
+three_pieces a b c x y z p q r =
+    ap (λ (t : List ℕ). a ++ (b ++ t)) (append-nil c)
+    ∙ ap (λ (t : List ℕ). t ++ (b ++ c)) p
+    ∙ ap (λ (t : List ℕ). x ++ (t ++ c)) q
+    ∙ ap (λ (t : List ℕ). x ++ (y ++ t)) r

@@ -5,3 +5,6 @@ pub mod PlainWords
 pub mod Pieces
 pub mod Endings
 pub mod Told
+pub mod Plain
+pub mod Causes
+pub mod Refusals

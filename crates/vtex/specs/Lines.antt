@@ -3,7 +3,7 @@ use Rattle.std.specs.Prelude.{ℕ, List, [], ◌∷◌, ◌++◌, codes, decimal
 
 -- the last line of `plain`: how many pictures it has written (this project's profile)
 abbrev pub end_line : ℕ → List ℕ
-end_line pictures = codes "end pictures " ++ decimal pictures ++ codes "\n"
+end_line pictures = codes "end pictures " ++ (decimal pictures ++ codes "\n")
 
 -- the lines on the error output (this project's profile)
 abbrev pub memory_line : List ℕ

@@ -1,4 +1,4 @@
-use Rattle.std.proofs.Common.{◌≡◌, ◌≤◌, ◌+◌, ◌-◌, ◌++◌, ℕ, List, length, take, drop, ap, ◌∙◌, refl, pos, arith}
+use Rattle.std.proofs.Common.{◌≡◌, ◌≤◌, ◌+◌, ◌-◌, ◌++◌, ℕ, List, length, take, drop, ap, ◌∙◌, refl, inr, pos, arith}
 use Rattle.std.proofs.lemmas.List.{append_assoc, drop_at, take_at, length-take}
 use Rattle.std.proofs.lemmas.Int.{ints}
 use Rattle.vt_text.proofs.numbers.written_is_read.Goals as goal
@@ -13,7 +13,11 @@ between_pieces at end xs ws new fits is written =
     ∙ ap (take (length ws)) (drop_at (take at xs) (ws ++ drop end xs) at front)
     ∙ take_at ws (drop end xs) (length ws) refl
 
-pub returns : goal.returns
-returns c = λ within. c.decimal.ensures.found (pos c.args.n)
+pub returns-clause-read : goal.returns-clause-read
+returns-clause-read c = λ within. c.decimal.ensures.found (pos c.args.n)
     (between_pieces c.args.at c.put_number-end.result c.args.line.now _ _ (omega arith) c.put_number-end.ensures.end c.put_number-end.ensures.written)
     (omega (arith, ints), omega (arith, ints, within))
+
+pub returns-clause-outside : goal.returns-clause-outside
+returns-clause-outside c = λ above. c.decimal.ensures.out_of_range.1
+    (pos c.args.n, between_pieces c.args.at c.put_number-end.result c.args.line.now _ _ (omega arith) c.put_number-end.ensures.end c.put_number-end.ensures.written, inr (omega (arith, ints, above)))

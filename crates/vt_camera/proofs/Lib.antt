@@ -1,0 +1,5 @@
+pub mod Ground
+pub mod LevelLemmas
+pub mod PathLines
+pub mod PathFields
+pub mod PathReadingLemmas

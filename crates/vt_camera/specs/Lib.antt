@@ -1,0 +1,5 @@
+pub mod Paths
+pub mod Rows
+pub mod RowParts
+pub mod PathText
+pub mod PathReading

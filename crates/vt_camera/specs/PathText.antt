@@ -1,0 +1,63 @@
+-- The text of a path: lines of fields, one line for the sides, one for the focal number, and one for each key.
+use Rattle.std.specs.Prelude.{◌≡◌, ℕ, ◌++◌, List, [], ◌∷◌, map, codes, All}
+use Rattle.std.specs.List.{join_with_byte, flat_map}
+use Rattle.vt_text.specs.Numbers.{number_spelling, spelling}
+use Rattle.vt_camera.specs.declared.paths.Camera.{Camera}
+use Rattle.vt_camera.specs.Paths.{PathView, IsCamera, IsPath}
+
+-- what a line from the third on stands for: a picture's camera (this project's profile)
+pub data Key : Type 0 where
+  At : Camera → Key
+
+-- the text of lines, each a list of fields: the fields are joined by blanks, and a line feed ends each line (this project's profile)
+abbrev pub text_of : List (List (List ℕ)) → List ℕ
+text_of lines = flat_map (λ fields. join_with_byte 32 fields ++ 10 ∷ []) lines
+
+-- the fields of the first line of a path: the sides of its pictures (this project's profile)
+abbrev pub size_fields : ℕ → ℕ → List (List ℕ)
+size_fields width height = codes "size" ∷ number_spelling width ∷ number_spelling height ∷ []
+
+-- the fields of the second line: the focal number (this project's profile)
+abbrev pub focal_fields : ℕ → List (List ℕ)
+focal_fields focal = codes "focal" ∷ number_spelling focal ∷ []
+
+-- the fields of a line that gives one picture: its camera (this project's profile)
+abbrev pub camera_fields : Camera → List (List ℕ)
+camera_fields camera =
+    codes "at" ∷ spelling camera.u ∷ spelling camera.v ∷ spelling camera.h ∷ spelling camera.c ∷ spelling camera.s ∷ []
+
+-- the fields of a key's line (this project's profile)
+abbrev pub key_fields : Key → List (List ℕ)
+key_fields (At camera) = camera_fields camera
+
+-- the numbers of a key are within their limits (this project's profile)
+abbrev pub IsKey : Key → Type 0
+IsKey (At camera) = IsCamera camera
+
+-- the cameras that keys give, one to a picture (this project's profile)
+abbrev pub cameras_of : List Key → List Camera
+cameras_of [] = []
+cameras_of (At camera ∷ keys) = camera ∷ cameras_of keys
+
+-- the lines of a path (this project's profile)
+abbrev pub path_lines : ℕ → ℕ → ℕ → List Key → List (List (List ℕ))
+path_lines width height focal keys = size_fields width height ∷ focal_fields focal ∷ map key_fields keys
+
+-- the text of a path with these numbers and keys (this project's profile)
+abbrev pub path_text : ℕ → ℕ → ℕ → List Key → List ℕ
+path_text width height focal keys = text_of (path_lines width height focal keys)
+
+-- the text is that of the path by these keys (this project's profile)
+pub record IsPathBy (text : List ℕ) (path : PathView) (keys : List Key) : Type 0 where
+  pub spelled : text ≡ path_text path.width path.height path.focal keys
+  pub within : IsPath path
+  pub each : All IsKey keys
+  pub cameras : path.cameras ≡ cameras_of keys
+
+-- the text is that of the path, by some keys (this project's profile)
+abbrev pub IsPathText : List ℕ → PathView → Type 0
+IsPathText text path = (keys : List Key) × IsPathBy text path keys
+
+-- the text is that of the path, by one camera for one picture (this project's profile)
+abbrev pub IsOneKeyPath : List ℕ → PathView → Type 0
+IsOneKeyPath text path = (camera : Camera) × IsPathBy text path (At camera ∷ [])

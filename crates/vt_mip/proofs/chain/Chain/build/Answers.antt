@@ -1,0 +1,15 @@
+use Rattle.std.proofs.Common.{arith, rules}
+use Rattle.vt_mip.proofs.Fronts.{growing_first, growing_more, smaller, front_whole}
+use Rattle.vt_mip.proofs.chain.Chain.build.Goals as goal
+
+pub loop-alloc-init : goal.loop-alloc-init
+loop-alloc-init c = growing_first _ _ _ c.width.ensures.limits (search rules)
+
+pub loop-alloc-preserved : goal.loop-alloc-preserved
+loop-alloc-preserved c = growing_more _ _ _ _ c.loop-alloc.invariant (search rules) c.in_ok-add_level.ensures
+
+pub loop-alloc-smaller : goal.loop-alloc-smaller
+loop-alloc-smaller c = smaller _ _ c.args.tile (grind arith) c.loop-alloc.invariant.front (search rules) c.in_ok-add_level.ensures
+
+pub invariant_of-result : goal.invariant_of-result
+invariant_of-result c = front_whole _ _ (grind arith) c.loop-alloc.invariant.front (search rules)

@@ -1,0 +1,56 @@
+use crate::Chain;
+use std::test::Fail;
+use vt_ppm::Image;
+
+#[test]
+fn four_by_four(rt: HostRuntime) -> Result<(), Fail> {
+    let samples = [
+        0, 0, 0, 1, 1, 1, 2, 2, 2, 3, 3, 3, 4, 4, 4, 5, 5, 5, 6, 6, 6, 7, 7, 7, 8, 8, 8, 9, 9, 9,
+        10, 10, 10, 11, 11, 11, 12, 12, 12, 13, 13, 13, 14, 14, 14, 15, 15, 15,
+    ];
+    let image = Image::new(4, 4, Vec::from_array(rt.alloc(), samples)?);
+    let chain = Chain::build(rt.alloc(), image, 2)?;
+    assert_eq!(rt; chain.tile_side(), 2);
+    assert_eq!(rt; chain.levels(), 2);
+    assert_eq!(rt; chain.size(0), (4, 4));
+    assert_eq!(rt; chain.texel(0, 1, 3), 0x0d0d0d);
+    assert_eq!(rt; chain.size(1), (2, 2));
+    assert_eq!(rt; chain.texel(1, 0, 0), 0x030303);
+    assert_eq!(rt; chain.texel(1, 1, 0), 0x050505);
+    assert_eq!(rt; chain.row(1, 1), [11, 11, 11, 13, 13, 13].as_slice());
+    Ok(())
+}
+
+#[test]
+fn five_by_three(rt: HostRuntime) -> Result<(), Fail> {
+    let samples = [
+        0, 0, 0, 1, 1, 1, 2, 2, 2, 3, 3, 3, 4, 4, 4, 10, 10, 10, 11, 11, 11, 12, 12, 12, 13, 13,
+        13, 14, 14, 14, 20, 20, 20, 21, 21, 21, 22, 22, 22, 23, 23, 23, 24, 24, 24,
+    ];
+    let image = Image::new(5, 3, Vec::from_array(rt.alloc(), samples)?);
+    let chain = Chain::build(rt.alloc(), image, 2)?;
+    assert_eq!(rt; chain.levels(), 3);
+    assert_eq!(rt; chain.size(0), (5, 3));
+    assert_eq!(rt; chain.size(1), (3, 2));
+    assert_eq!(rt; chain.row(1, 0), [6, 6, 6, 8, 8, 8, 9, 9, 9].as_slice());
+    assert_eq!(rt;
+        chain.row(1, 1),
+        [21, 21, 21, 23, 23, 23, 24, 24, 24].as_slice()
+    );
+    assert_eq!(rt; chain.size(2), (2, 1));
+    assert_eq!(rt; chain.row(2, 0), [15, 15, 15, 17, 17, 17].as_slice());
+    Ok(())
+}
+
+#[test]
+fn boxes(rt: HostRuntime) -> Result<(), Fail> {
+    let samples = [
+        0, 10, 20, 1, 11, 21, 0, 10, 20, 0, 10, 20, 2, 12, 22, 3, 13, 23, 0, 10, 20, 1, 11, 21,
+    ];
+    let image = Image::new(4, 2, Vec::from_array(rt.alloc(), samples)?);
+    let chain = Chain::build(rt.alloc(), image, 2)?;
+    assert_eq!(rt; chain.levels(), 2);
+    assert_eq!(rt; chain.size(1), (2, 1));
+    assert_eq!(rt; chain.row(1, 0), [2, 12, 22, 0, 10, 20].as_slice());
+    Ok(())
+}

@@ -1,0 +1,4 @@
+pub mod Changes
+pub mod Risen
+pub mod Told
+pub mod Fronts

@@ -1,0 +1,9 @@
+use Rattle.std.proofs.Common.{arith}
+use Rattle.std.proofs.lemmas.Map.Text.{text_keys}
+use Rattle.vt_outside.proofs.memory_folder.append_bytes.Goals as goal
+
+pub returns-in_err-extend_from_slice-clause-added : goal.returns-in_err-extend_from_slice-clause-added
+returns-in_err-extend_from_slice-clause-added c = λ q. grind (arith, text_keys)
+
+pub returns-clause-added : goal.returns-clause-added
+returns-clause-added c = λ q. grind (arith, text_keys)

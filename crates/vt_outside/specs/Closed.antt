@@ -1,0 +1,10 @@
+-- The places asked of each name by the files that a folder in memory has closed.
+use Rattle.std.specs.Prelude.{[], ◌++◌, string_bytes, if◌then◌else◌}
+use Rattle.std.specs.Str.{bytes_eq}
+use Rattle.vt_outside.specs.Files.{Asked}
+use Rattle.vt_outside.specs.declared.closed.Closed.{Closed, Nothing, File'}
+
+-- the places of each closed file of the name, in the order of closing (this project's profile)
+abbrev pub places_in : Closed → Asked
+places_in Nothing q = []
+places_in (File' name places p rest) q = if bytes_eq q (string_bytes name) then places_in rest q ++ places.items else places_in rest q

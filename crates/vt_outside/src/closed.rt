@@ -1,0 +1,51 @@
+ghost use Rattle.std.specs.Prelude.{◌≡◌, ◌+◌, ◌-◌, ◌≤◌, Some, length, slice_get, MatchResult};
+ghost use Rattle.vt_outside.specs.Closed.{places_in};
+
+use crate::Place;
+
+/// The files that a folder in memory has closed, the last one first.
+#[derive(Drop)]
+pub enum Closed {
+    Nothing,
+    File {
+        name: String,
+        places: Vec<Place>,
+        rest: Box<Closed>,
+    },
+}
+
+// The place of that number among those asked of the name, or where there is none, how many there are.
+pub fn place_in(closed: &Closed, name: &str, i: usize) -> Result<Place, usize>
+    ensures { MatchResult result (λ place. slice_get (places_in closed.now name.now) i ≡ Some place) (λ n. (n ≡ length (places_in closed.now name.now)) × (n ≤ i)) }
+{
+    match closed {
+        Closed::Nothing => Err(0),
+        Closed::File {
+            name: of,
+            places,
+            rest,
+        } => {
+            let before = match place_in(rest, name, i) {
+                Ok(place) => return Ok(place),
+                Err(before) => before,
+            };
+            if name == of.as_str() {
+                place_at(places, i, before)
+            } else {
+                Err(before)
+            }
+        }
+    }
+}
+
+// The place of that number, where so many stand before the list.
+fn place_at(places: &[Place], i: usize, before: usize) -> Result<Place, usize>
+    requires { before ≤ i }
+    ensures { MatchResult result (λ place. slice_get places.now (i - before) ≡ Some place) (λ n. (n ≡ before + length places.now) × (n ≤ i)) }
+{
+    if i - before < places.len() {
+        Ok(places[i - before])
+    } else {
+        Err(before + places.len())
+    }
+}

@@ -1,0 +1,183 @@
+ghost use Rattle.std.specs.Prelude.{◌≡◌, ◌+◌, ◌≤◌, ◌||◌, [], Some, length, not, nat_le, is_err, string_bytes, IfOk, OnOk, OnErr};
+ghost use Rattle.std.specs.Bool.{OnTrue, OnFalse};
+ghost use Rattle.vt_outside.specs.Counts.{added};
+ghost use Rattle.vt_outside.specs.Fails.{is_listed};
+ghost use Rattle.vt_outside.specs.Files.{IsPiece, noted};
+
+use crate::closed::Closed;
+use crate::fails::{meets_fault, next};
+use crate::{Fail, Failed, File, NoMemory, Place};
+use std::alloc::Global;
+
+/// A file of a folder in memory: a copy of the bytes at its opening.
+#[derive(Drop)]
+pub struct MemoryFile {
+    name: String,
+    bytes: Vec<u8>,
+    places: Vec<Place>,
+    fails: Vec<Fail>,
+    opening: u64,
+    reads: u64,
+    faults: u64,
+    // What the folder keeps the name and the places in, once the file is closed.
+    cell: Box<Closed>,
+}
+
+/// What is left of a file that was closed.
+#[derive(Drop)]
+pub(crate) struct Remains {
+    pub name: String,
+    pub places: Vec<Place>,
+    pub faults: u64,
+    pub cell: Box<Closed>,
+}
+
+impl MemoryFile {
+    ghost use Rattle.vt_outside.specs.MemoryFile.{file_name, file_bytes, file_places, file_fails, file_opening, file_reads, file_faults};
+
+    // A file of these bytes that was not read yet.
+    pub(crate) fn new(
+        alloc: Global,
+        name: &str,
+        bytes: &[u8],
+        fails: &[Fail],
+        opening: u64,
+    ) -> Result<MemoryFile, NoMemory>
+        ensures name { IfOk result (λ file. file_name file ≡ name.now) }
+        ensures bytes { IfOk result (λ file. file_bytes file ≡ bytes.now) }
+        ensures places { IfOk result (λ file. file_places file ≡ []) }
+        ensures fails { IfOk result (λ file. file_fails file ≡ fails.now) }
+        ensures opening { IfOk result (λ file. file_opening file ≡ opening) }
+        ensures reads { IfOk result (λ file. file_reads file ≡ 0) }
+        ensures faults { IfOk result (λ file. file_faults file ≡ 0) }
+    {
+        Ok(MemoryFile {
+            name: String::from_str(alloc, name)?,
+            bytes: Vec::from_slice(alloc, bytes)?,
+            places: Vec::new(alloc),
+            fails: Vec::from_slice(alloc, fails)?,
+            opening,
+            reads: 0,
+            faults: 0,
+            cell: Box::new(alloc, Closed::Nothing)?,
+        })
+    }
+
+    // What the folder keeps of the file.
+    pub(crate) fn remains(self) -> Remains
+        ensures name { string_bytes result.name ≡ file_name self }
+        ensures places { result.places.items ≡ file_places self }
+        ensures faults { result.faults ≡ file_faults self }
+    {
+        Remains {
+            name: self.name,
+            places: self.places,
+            faults: self.faults,
+            cell: self.cell,
+        }
+    }
+}
+
+impl File for MemoryFile {
+    ghost use Rattle.vt_outside.specs.Failures.{raised_if};
+    ghost use Rattle.vt_outside.specs.MemoryFile.{file_name, file_bytes, file_places, file_spare, file_fails, file_opening, file_reads, file_faults};
+
+    ghost bytes = { λ file. Some (file_bytes file) };
+
+    ghost asked = { λ file. Some (file_places file) };
+
+    ghost name = { file_name };
+
+    ghost spare = { file_spare };
+
+    ghost faults = { file_faults };
+
+    /// Answers the number of bytes. It fails exactly where `Length` of this opening is in the list.
+    fn length(&mut self) -> Result<u64, Failed>
+        ensures told { IfOk result (λ n. n ≡ length (file_bytes self.old)) }
+        ensures failed { is_err result ≡ is_listed (file_fails self.old) (Fail.Length (file_opening self.old)) }
+        ensures faults { file_faults self.new ≡ raised_if (is_err result) (file_faults self.old) }
+        ensures rises { file_faults self.old ≤ file_faults self.new }
+        ensures bytes { file_bytes self.new ≡ file_bytes self.old }
+        ensures asked { file_places self.new ≡ file_places self.old }
+        ensures name { file_name self.new ≡ file_name self.old }
+        ensures spare { file_spare self.new ≡ file_spare self.old }
+        ensures fails { file_fails self.new ≡ file_fails self.old }
+        ensures opening { file_opening self.new ≡ file_opening self.old }
+        ensures reads { file_reads self.new ≡ file_reads self.old }
+    {
+        if meets_fault(
+            &self.fails,
+            Fail::Length {
+                opening: self.opening,
+            },
+            &mut self.faults,
+        ) {
+            return Err(Failed);
+        }
+        Ok(self.bytes.len() as u64)
+    }
+
+    /// Makes room to note so many more reads. After a refusal nothing changed.
+    fn reserve(&mut self, reads: u64) -> Result<(), NoMemory>
+        ensures room { OnOk result (reads ≤ file_spare self.new) }
+        ensures refused { OnErr result (file_spare self.new ≡ file_spare self.old) }
+        ensures bytes { file_bytes self.new ≡ file_bytes self.old }
+        ensures asked { file_places self.new ≡ file_places self.old }
+        ensures name { file_name self.new ≡ file_name self.old }
+        ensures faults { file_faults self.new ≡ file_faults self.old }
+        ensures fails { file_fails self.new ≡ file_fails self.old }
+        ensures opening { file_opening self.new ≡ file_opening self.old }
+        ensures reads { file_reads self.new ≡ file_reads self.old }
+    {
+        self.places.reserve(reads as usize)?;
+        Ok(())
+    }
+
+    /// Fills `buf` with the bytes from `at` on, and notes the place. It fails exactly where the place passes the end,
+    /// or where `Read` of this opening and of the number of reads so far is in the list; only then the count rises.
+    fn read_at(&mut self, at: u64, buf: &mut [u8]) -> Result<(), Failed>
+        requires { 1 ≤ file_spare self.old }
+        ensures piece { OnOk result (IsPiece (file_bytes self.old) at buf.new) }
+        ensures failed { is_err result ≡ (is_listed (file_fails self.old) (Fail.Read (file_opening self.old) (file_reads self.old)) || not (nat_le (at + length buf.new) (length (file_bytes self.old)))) }
+        ensures faults { file_faults self.new ≡ raised_if (is_listed (file_fails self.old) (Fail.Read (file_opening self.old) (file_reads self.old))) (file_faults self.old) }
+        ensures rises { file_faults self.old ≤ file_faults self.new }
+        ensures asked { file_places self.new ≡ noted at (length buf.new) (is_err result) (file_places self.old) }
+        ensures reads { file_reads self.new ≡ added (file_reads self.old) 1 }
+        ensures spare { file_spare self.old ≤ file_spare self.new + 1 }
+        ensures bytes { file_bytes self.new ≡ file_bytes self.old }
+        ensures name { file_name self.new ≡ file_name self.old }
+        ensures fails { file_fails self.new ≡ file_fails self.old }
+        ensures opening { file_opening self.new ≡ file_opening self.old }
+    {
+        let call = Fail::Read {
+            opening: self.opening,
+            read: self.reads,
+        };
+        self.reads = next(self.reads);
+        let met = meets_fault(&self.fails, call, &mut self.faults);
+        let copied = copy_at(&self.bytes, at, buf);
+        let failed = met || !copied;
+        self.places.push_reserved(Place {
+            at,
+            len: buf.len() as u64,
+            failed,
+        });
+        if failed { Err(Failed) } else { Ok(()) }
+    }
+}
+
+// Fills the buffer with the bytes from a place on; no, and nothing changes, where that passes their end.
+fn copy_at(bytes: &[u8], at: u64, buf: &mut [u8]) -> bool
+    ensures within { result ≡ nat_le (at + length buf.old) (length bytes.now) }
+    ensures piece { OnTrue result (IsPiece bytes.now at buf.new) }
+    ensures unchanged { OnFalse result (buf.new ≡ buf.old) }
+{
+    let len = buf.len();
+    if at as usize > bytes.len() || len > bytes.len() - at as usize {
+        return false;
+    }
+    let start = at as usize;
+    buf.copy_from_slice(&bytes[start..start + len]);
+    true
+}

@@ -1,0 +1,101 @@
+-- What the calls that make a geometry find.
+use Rattle.std.proofs.Common.{◌≡◌, ℕ, suc, ◌+◌, ◌-◌, ◌*◌, ◌^◌, ◌<◌, ◌≤◌, inl, inr, Bool, true, false, Some, None, refl, sym, subst, slice_index, arith}
+use Rattle.std.proofs.lemmas.Bool.{cases_lt}
+use Rattle.std.proofs.lemmas.Nat.{mul-le}
+use Rattle.std.proofs.lemmas.Bool.Decides.{nat_tests}
+use Rattle.std.specs.Prelude.{nat_le, ◌&&◌, IsTrue}
+use Rattle.vt_definitions.specs.Sides.{side}
+use Rattle.vt_pages.specs.declared.TheConstants.{MOST_SIDE, MOST_PAGES, MOST_LEVELS}
+use Rattle.vt_pages.specs.declared.PagesError.TheVariants.{BadTile, BadSide, TooManyPages}
+use Rattle.vt_pages.specs.declared.tables.Tables.{Tables}
+use Rattle.vt_pages.specs.Shape.{Shape, is_tile_side, is_texture_side}
+use Rattle.vt_pages.specs.Tables.{IsTabled, IsTileShift}
+use Rattle.vt_pages.specs.Pages.{columns_at, rows_at, levels_of, pages_of, refusal_of, IsWithinLimits}
+use Rattle.vt_pages.proofs.Counts.{levels_count, side_halved, pages_below-suc, pages_below_le, columns_some, rows_some, pages_below_most}
+
+true_is : (b : Bool) → b ≡ true → IsTrue b
+true_is b e = e
+
+pub refusal_tile : (s : Shape) → is_tile_side s.tile ≡ false → refusal_of s ≡ Some BadTile
+unfolding refusal_of
+refusal_tile s e = rw e refl
+
+pub refusal_side : (s : Shape) → is_tile_side s.tile ≡ true → (is_texture_side s.width && is_texture_side s.height) ≡ false → refusal_of s ≡ Some BadSide
+unfolding refusal_of
+refusal_side s e f = rw (e, f) refl
+
+pub refusal_pages : (s : Shape) → is_tile_side s.tile ≡ true → (is_texture_side s.width && is_texture_side s.height) ≡ true → MOST_PAGES < pages_of s → refusal_of s ≡ Some (TooManyPages (pages_of s))
+unfolding refusal_of
+refusal_pages s e f more = let g : nat_le (pages_of s) MOST_PAGES ≡ false = grind (arith, nat_tests) in rw (e, f, g) refl
+
+pub refusal_none : (s : Shape) → is_tile_side s.tile ≡ true → (is_texture_side s.width && is_texture_side s.height) ≡ true → pages_of s ≤ MOST_PAGES → refusal_of s ≡ None
+unfolding refusal_of
+refusal_none s e f most = let g : nat_le (pages_of s) MOST_PAGES ≡ true = grind (arith, nat_tests) in rw (e, f, g) refl
+
+pub record AreSides (w h : ℕ) : Type 0 where
+  pub least_width : 1 ≤ w
+  pub most_width : w ≤ MOST_SIDE
+  pub least_height : 1 ≤ h
+  pub most_height : h ≤ MOST_SIDE
+
+pub are_sides : (w h : ℕ) → (is_texture_side w && is_texture_side h) ≡ true → AreSides w h
+are_sides w h e = record { least_width = grind (arith, nat_tests); most_width = grind (arith, nat_tests); least_height = grind (arith, nat_tests); most_height = grind (arith, nat_tests) }
+
+-- the level that the search ends at is the last of the chain
+pub last_is : (s : Shape) (t : Tables) (last : ℕ) → 2 ≤ s.tile → s.width ≤ MOST_SIDE → s.height ≤ MOST_SIDE → IsTabled s t → last < MOST_LEVELS
+    → ((k : ℕ) → k < last → slice_index t.widths k ≤ s.tile → slice_index t.heights k ≤ s.tile → ⊥)
+    → (last + 1 < MOST_LEVELS → (slice_index t.widths last ≤ s.tile) × (slice_index t.heights last ≤ s.tile))
+    → last + 1 ≡ levels_of s
+last_is s t last two wide high tabled inside before fits =
+    let count = levels_count s (omega arith) in
+    let no_sooner : levels_of s - 1 < last → ⊥ = λ h. before (levels_of s - 1) h
+    (rw (tabled.widths (levels_of s - 1) (omega arith)) count.last_width)
+    (rw (tabled.heights (levels_of s - 1) (omega arith)) count.last_height) in
+    let here : (side s.width last ≤ s.tile) × (side s.height last ≤ s.tile) =
+    elim (cases_lt (last + 1) MOST_LEVELS) [
+      | inl within ↦ (rw (tabled.widths last inside) at (fits within).0, rw (tabled.heights last inside) at (fits within).1)
+      | inr past ↦
+          let e : last ≡ MOST_LEVELS - 1 = omega arith in
+          (rw e (omega (arith, side_halved s.width 2 (MOST_LEVELS - 1) (omega arith))), rw e (omega (arith, side_halved s.height 2 (MOST_LEVELS - 1) (omega arith))))
+    ] in
+    let no_later : levels_of s ≤ last + 1 = count.least last here.0 here.1 in
+    elim (cases_lt (levels_of s - 1) last) [ inl sooner ↦ absurd (no_sooner sooner) | inr from ↦ omega (arith, count.some) ]
+
+-- its pages are the last of the chain
+pub pages_is : (s : Shape) (t : Tables) (last : ℕ) → IsTabled s t → last < MOST_LEVELS → last + 1 ≡ levels_of s
+    → slice_index t.first last + slice_index t.rows last * slice_index t.columns last ≡ pages_of s
+unfolding pages_of
+pages_is s t last tabled inside e =
+    let next : suc last ≡ levels_of s = omega arith in
+    rw (tabled.first last inside, tabled.rows last inside, tabled.columns last inside, ← next) (sym (pages_below-suc s last))
+
+pub pages_some : (s : Shape) → 1 ≤ s.tile → 1 ≤ s.width → 1 ≤ s.height → 1 ≤ pages_of s
+unfolding pages_of
+pages_some s some wide high =
+    omega (arith, pages_below_le s 1 (levels_of s) (levels_count s some).some, pages_below-suc s 0, mul-le 1 1 (rows_at s 0) (columns_at s 0) (rows_some s 0 some high) (columns_some s 0 some wide))
+
+pub pages_most : (s : Shape) → 1 ≤ s.tile → s.width ≤ MOST_SIDE → s.height ≤ MOST_SIDE → levels_of s ≤ MOST_LEVELS → pages_of s ≤ MOST_LEVELS * (MOST_SIDE * MOST_SIDE)
+unfolding pages_of
+pages_most s some wide high levels =
+    omega (arith, pages_below_most s (levels_of s) MOST_SIDE some (omega arith) wide high)
+
+-- a shape that is not refused keeps the limits
+pub limits_hold : (s : Shape) (shift : ℕ) → IsTileShift s.tile shift → (is_texture_side s.width && is_texture_side s.height) ≡ true → pages_of s ≤ MOST_PAGES → levels_of s ≤ MOST_LEVELS → IsWithinLimits s
+limits_hold s shift tile sides pages levels =
+    let both = are_sides s.width s.height sides in
+    let some : 1 ≤ s.tile = omega (arith, tile.least) in
+    record {
+      accepted = refusal_none s tile.lawful sides pages;
+      tile_side = true_is (is_tile_side s.tile) tile.lawful;
+      tile_power = subst (λ e. s.tile ≡ 2 ^ e) tile.exponent tile.power;
+      least_tile = tile.least;
+      most_tile = tile.most;
+      least_width = both.least_width;
+      most_width = both.most_width;
+      least_height = both.least_height;
+      most_height = both.most_height;
+      some_level = (levels_count s some).some;
+      most_levels = levels;
+      some_page = pages_some s some both.least_width both.least_height;
+      most_pages = pages;
+    }

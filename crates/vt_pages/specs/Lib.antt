@@ -1,0 +1,5 @@
+pub mod Shape
+pub mod Pages
+pub mod Tables
+pub mod Laws
+pub mod Giving

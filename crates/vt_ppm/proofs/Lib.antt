@@ -1,0 +1,4 @@
+pub mod Fields
+pub mod Headers
+pub mod Images
+pub mod Written

@@ -1,0 +1,56 @@
+ghost use Rattle.std.specs.Prelude.{◌≡◌};
+ghost use Rattle.vt_ppm.specs.declared.error.PpmError.TheVariants as ppm_error;
+
+use thiserror::Error;
+use vt_outside::{Failed, NoMemory};
+
+/// Why an image was not read.
+#[derive(Clone, Copy, Debug, PartialEq, Eq, Error)]
+pub enum PpmError {
+    /// The first two bytes are not `P6`.
+    #[error("bad magic")]
+    BadMagic,
+    /// The header does not go on at byte `at`, the first such byte.
+    #[error("bad header at byte {at}")]
+    BadHeader { at: u64 },
+    /// A side is outside 1 to 8,192.
+    #[error("bad size")]
+    BadSize,
+    /// The maximum is 0 or above 65,535.
+    #[error("bad maximum")]
+    BadMaximum,
+    /// The maximum is above 255, so that a sample has two bytes.
+    #[error("wide samples")]
+    WideSamples,
+    /// `have` bytes follow the header, and the raster has `want`.
+    #[error("raster of {have} bytes, wanted {want}")]
+    Truncated { want: u64, have: u64 },
+    /// A sample is above the maximum; the first such one is byte `at` of the file.
+    #[error("sample over maximum at byte {at}")]
+    SampleOver { at: u64 },
+    /// A call on the file failed.
+    #[error("fault on the file")]
+    Failed,
+    /// Memory was refused.
+    #[error("out of memory")]
+    NoMemory,
+    /// The form is not built yet: a comment in the header, or another maximum than 255, or one of the first seven.
+    #[error("form not built")]
+    Unbuilt,
+}
+
+impl From<Failed> for PpmError {
+    ghost from_gives = { λ _ e. e ≡ ppm_error.Failed };
+
+    fn from(_: Failed) -> PpmError {
+        PpmError::Failed
+    }
+}
+
+impl From<NoMemory> for PpmError {
+    ghost from_gives = { λ _ e. e ≡ ppm_error.NoMemory };
+
+    fn from(_: NoMemory) -> PpmError {
+        PpmError::NoMemory
+    }
+}

@@ -1,0 +1,7 @@
+use Rattle.std.proofs.Common.{◌≡◌, ◌++◌}
+use Rattle.vtex.specs.Plain.{chain_of, row_samples}
+use Rattle.vtex.proofs.drawing.draw_row.Given as goal
+
+-- the pixels so far were added
+abbrev pub invariant-loop-x : goal.invariant-loop-x
+invariant-loop-x l = l.samples.items ≡ l.fn.samples.items ++ row_samples (chain_of l.chain.base) l.row l.x

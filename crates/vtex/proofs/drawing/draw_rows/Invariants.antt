@@ -1,0 +1,7 @@
+use Rattle.std.proofs.Common.{◌≡◌, ◌++◌}
+use Rattle.vtex.specs.Plain.{chain_of, picture_samples}
+use Rattle.vtex.proofs.drawing.draw_rows.Given as goal
+
+-- the rows so far were added
+abbrev pub invariant-loop-y : goal.invariant-loop-y
+invariant-loop-y l = l.samples.items ≡ l.fn.samples.items ++ picture_samples (chain_of l.chain.base) l.surface l.path l.camera l.y

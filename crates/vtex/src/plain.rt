@@ -1,0 +1,91 @@
+//! The command `plain`: the plain picture of each camera of a path over a texture.
+
+ghost use Rattle.std.specs.Prelude.{◌≡◌, ◌≢◌, ◌<◌, ◌≤◌, ◌⊎◌, ℕ, length, take, option_map, IsSome, OnOk, OnErr, IsErrOf, Err};
+ghost use Rattle.vt_outside.specs.Counts.{Rose};
+ghost use Rattle.vt_outside.specs.Files.{with_bytes};
+ghost use Rattle.vtex.specs.Names.{picture_name};
+ghost use Rattle.vtex.specs.Plain.{plain_file};
+ghost use Rattle.vtex.specs.PlainWords.{shown};
+ghost use Rattle.vtex.specs.Refusals.{HoldsNoPath, HoldsNoTexture, IsDone, IsLeft, IsMissing, IsPartOf, with_pictures};
+
+use crate::drawing::draw_plain;
+use crate::input::{read_path, read_texture};
+use crate::names::picture_name;
+use crate::output::{put_end, write_file};
+use crate::refusal::Refusal;
+use crate::words::PlainWords;
+use std::alloc::Global;
+use vt_camera::Path;
+use vt_mip::Chain;
+use vt_outside::{Folder, Sink};
+use vt_ppm::encode;
+
+/// Reads the path and then the texture, writes the plain picture of each camera under its name, and puts the end line.
+pub fn plain<D: Folder, O: Sink>(
+    alloc: Global,
+    words: &PlainWords<'_>,
+    folder: &mut D,
+    out: &mut O,
+) -> Result<(), Refusal>
+    ensures done { OnOk result (IsSome (D.files folder.old) → IsDone (shown words.now) (D.files folder.old) (D.files folder.new) (O.held out.old) (O.held out.new)) }
+    ensures left { OnErr result (IsSome (D.files folder.old) → IsLeft (shown words.now) (D.files folder.old) (D.files folder.new) (O.held out.old) (O.held out.new)) }
+    ensures path { IsErrOf result Refusal.Path → IsSome (D.files folder.old) → HoldsNoPath (D.files folder.old) words.now.path.now }
+    ensures texture { IsErrOf result Refusal.Texture → IsSome (D.files folder.old) → HoldsNoTexture (D.files folder.old) words.now.texture.now }
+    ensures untouched { IsErrOf result Refusal.Path ⊎ IsErrOf result Refusal.Texture → (D.files folder.new ≡ D.files folder.old) × (O.held out.new ≡ O.held out.old) }
+    ensures fault { IsErrOf result Refusal.Fault → Rose (D.faults folder.old) (D.faults folder.new) ⊎ (Rose (O.faults out.old) (O.faults out.new) ⊎ IsMissing (shown words.now) (D.files folder.old)) }
+{
+    let path = read_path(alloc, folder, words.path)?;
+    let texture = read_texture(alloc, folder, words.texture)?;
+    let chain = Chain::build(alloc, texture, words.tile)?;
+    write_pictures(alloc, &chain, &path, words.prefix, folder)?;
+    put_end(out, path.pictures())?;
+    Ok(())
+}
+
+// Writes all pictures of the path, in the order of their numbers.
+fn write_pictures<D: Folder>(
+    alloc: Global,
+    chain: &Chain,
+    path: &Path,
+    prefix: &str,
+    folder: &mut D,
+) -> Result<(), Refusal>
+    ensures whole { OnOk result (D.files folder.new ≡ option_map (with_pictures prefix.now (plain_file chain.now.base chain.now.tile path.now) (length path.now.cameras)) (D.files folder.old)) }
+    ensures part { OnErr result ((whole : ℕ) × (whole ≤ length path.now.cameras) × IsPartOf prefix.now (plain_file chain.now.base chain.now.tile path.now) (length path.now.cameras) whole (D.files folder.old) (D.files folder.new)) }
+    ensures fault { IsErrOf result Refusal.Fault → Rose (D.faults folder.old) (D.faults folder.new) }
+    ensures not_path { result ≢ Err Refusal.Path }
+    ensures not_texture { result ≢ Err Refusal.Texture }
+    ensures faults { D.faults folder.old ≤ D.faults folder.new }
+{
+    for picture in 0..path.pictures() {
+        write_picture(alloc, chain, path, picture, prefix, folder)?;
+    }
+    Ok(())
+}
+
+// Draws a picture and writes it under its name.
+fn write_picture<D: Folder>(
+    alloc: Global,
+    chain: &Chain,
+    path: &Path,
+    picture: u32,
+    prefix: &str,
+    folder: &mut D,
+) -> Result<(), Refusal>
+    requires { picture < length path.now.cameras }
+    ensures whole { OnOk result (D.files folder.new ≡ option_map (with_bytes (picture_name prefix.now picture) (plain_file chain.now.base chain.now.tile path.now picture)) (D.files folder.old)) }
+    ensures part { OnErr result ((D.files folder.new ≡ D.files folder.old)
+        ⊎ ((k : ℕ) × (D.files folder.new ≡ option_map (with_bytes (picture_name prefix.now picture) (take k (plain_file chain.now.base chain.now.tile path.now picture))) (D.files folder.old)))) }
+    ensures fault { IsErrOf result Refusal.Fault → Rose (D.faults folder.old) (D.faults folder.new) }
+    ensures not_path { result ≢ Err Refusal.Path }
+    ensures not_texture { result ≢ Err Refusal.Texture }
+    ensures faults { D.faults folder.old ≤ D.faults folder.new }
+{
+    let samples = draw_plain(alloc, chain, path, picture)?;
+    let bytes = encode(alloc, path.width(), path.height(), &samples)?;
+    let name = picture_name(alloc, prefix, picture)?;
+    match write_file(folder, name.as_str(), &bytes) {
+        Ok(()) => Ok(()),
+        Err(refusal) => Err(Refusal::from(refusal)),
+    }
+}
