@@ -1,3 +1,5 @@
 pub mod Held
 pub mod Drawn
 pub mod Opened
+pub mod Stops
+pub mod Ended

@@ -1,5 +1,5 @@
 -- What was read of a file that a folder opened.
-use Rattle.std.proofs.Common.{◌≡◌, ℕ, List, Option, Some, None, true, false, refl, sym, ap, ◌∙◌}
+use Rattle.std.proofs.Common.{◌≡◌, ℕ, List, Option, Some, None, true, false, refl, sym, ap, subst, ◌∙◌}
 use Rattle.std.specs.Option.{IsSome, is_some, IfSome}
 use Rattle.std.proofs.lemmas.Bool.{false≢true}
 use Rattle.vt_outside.specs.Files.{Files, bytes_at}
@@ -15,3 +15,7 @@ pub fact_there : (P : List ℕ → Type 0) (files : Option Files) (name : List �
     → bytes ≡ bytes_at files name → is_some bytes ≡ is_some files → IfSome bytes P → IsSome files → (text : List ℕ) × (bytes_at files name ≡ Some text) × P text
 fact_there P files name None same tells fact told = absurd (false≢true (tells ∙ told))
 fact_there P files name (Some b) same tells fact told = (b, sym same, fact)
+
+-- what holds of a folder that tells, holds of the one that it is the same as
+pub carried : (P : Option Files → Type 0) (before after : Option Files) → after ≡ before → (IsSome after → P after) → IsSome before → P before
+carried P before after same fact told = subst P same (fact (subst IsSome (sym same) told))

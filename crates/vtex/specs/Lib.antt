@@ -8,3 +8,4 @@ pub mod Told
 pub mod Plain
 pub mod Causes
 pub mod Refusals
+pub mod Runs

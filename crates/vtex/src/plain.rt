@@ -3,10 +3,12 @@
 ghost use Rattle.std.specs.Prelude.{◌≡◌, ◌≢◌, ◌<◌, ◌≤◌, ◌⊎◌, ℕ, length, take, option_map, IsSome, OnOk, OnErr, IsErrOf, Err};
 ghost use Rattle.vt_outside.specs.Counts.{Rose};
 ghost use Rattle.vt_outside.specs.Files.{with_bytes};
+ghost use Rattle.vt_camera.specs.Paths.{PathView};
+ghost use Rattle.vt_mip.specs.Tiles.{IsTileSide};
 ghost use Rattle.vtex.specs.Names.{picture_name};
 ghost use Rattle.vtex.specs.Plain.{plain_file};
 ghost use Rattle.vtex.specs.PlainWords.{shown};
-ghost use Rattle.vtex.specs.Refusals.{HoldsNoPath, HoldsNoTexture, IsDone, IsLeft, IsMissing, IsPartOf, with_pictures};
+ghost use Rattle.vtex.specs.Refusals.{HoldsPath, HoldsNoPath, HoldsNoTexture, IsDone, IsLeft, IsMissing, IsPartOf, with_pictures};
 
 use crate::drawing::draw_plain;
 use crate::input::{read_path, read_texture};
@@ -27,10 +29,12 @@ pub fn plain<D: Folder, O: Sink>(
     folder: &mut D,
     out: &mut O,
 ) -> Result<(), Refusal>
+    requires { IsTileSide words.now.tile }
     ensures done { OnOk result (IsSome (D.files folder.old) → IsDone (shown words.now) (D.files folder.old) (D.files folder.new) (O.held out.old) (O.held out.new)) }
     ensures left { OnErr result (IsSome (D.files folder.old) → IsLeft (shown words.now) (D.files folder.old) (D.files folder.new) (O.held out.old) (O.held out.new)) }
     ensures path { IsErrOf result Refusal.Path → IsSome (D.files folder.old) → HoldsNoPath (D.files folder.old) words.now.path.now }
     ensures texture { IsErrOf result Refusal.Texture → IsSome (D.files folder.old) → HoldsNoTexture (D.files folder.old) words.now.texture.now }
+    ensures path_first { IsErrOf result Refusal.Texture → IsSome (D.files folder.old) → (path : PathView) × HoldsPath (D.files folder.old) words.now.path.now path }
     ensures untouched { IsErrOf result Refusal.Path ⊎ IsErrOf result Refusal.Texture → (D.files folder.new ≡ D.files folder.old) × (O.held out.new ≡ O.held out.old) }
     ensures fault { IsErrOf result Refusal.Fault → Rose (D.faults folder.old) (D.faults folder.new) ⊎ (Rose (O.faults out.old) (O.faults out.new) ⊎ IsMissing (shown words.now) (D.files folder.old)) }
 {
@@ -58,7 +62,10 @@ fn write_pictures<D: Folder>(
     ensures faults { D.faults folder.old ≤ D.faults folder.new }
 {
     for picture in 0..path.pictures() {
-        write_picture(alloc, chain, path, picture, prefix, folder)?;
+        match write_picture(alloc, chain, path, picture, prefix, folder) {
+            Ok(()) => {}
+            Err(refusal) => return Err(refusal),
+        }
     }
     Ok(())
 }
@@ -72,7 +79,8 @@ fn write_picture<D: Folder>(
     prefix: &str,
     folder: &mut D,
 ) -> Result<(), Refusal>
-    requires { picture < length path.now.cameras }
+    requires picture { picture < length path.now.cameras }
+    requires few { picture < 10000 }
     ensures whole { OnOk result (D.files folder.new ≡ option_map (with_bytes (picture_name prefix.now picture) (plain_file chain.now.base chain.now.tile path.now picture)) (D.files folder.old)) }
     ensures part { OnErr result ((D.files folder.new ≡ D.files folder.old)
         ⊎ ((k : ℕ) × (D.files folder.new ≡ option_map (with_bytes (picture_name prefix.now picture) (take k (plain_file chain.now.base chain.now.tile path.now picture))) (D.files folder.old)))) }

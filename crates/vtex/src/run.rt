@@ -1,22 +1,25 @@
 //! The top call.
 
-ghost use Rattle.std.specs.Prelude.{◌≡◌, ◌≢◌, ◌≤◌, ◌⊎◌, ◌↔◌, IsNone, IsSome, IsSomeAnd, IfSome, codes};
+ghost use Rattle.std.specs.Prelude.{◌≡◌, ◌≢◌, ◌≤◌, ◌⊎◌, ◌↔◌, IsNone, IsSome, Some, List, ℕ, codes};
 ghost use Rattle.vt_outside.specs.Counts.{Rose, NoFault};
-ghost use Rattle.vtex.specs.Words.{plain_text, texts};
-ghost use Rattle.vtex.specs.Lines.{memory_line, usage_line, fault_line};
+ghost use Rattle.vt_ppm.specs.Image.{Picture};
+ghost use Rattle.vt_camera.specs.Paths.{PathView};
+ghost use Rattle.vtex.specs.Words.{PlainText, plain_text, texts};
+ghost use Rattle.vtex.specs.Lines.{memory_line, usage_line, fault_line, bad_input_line};
 ghost use Rattle.vtex.specs.Told.{Tells};
-ghost use Rattle.vtex.specs.Refusals.{IsAccepted, IsBadInput, IsDone, IsLeft, IsMissing};
+ghost use Rattle.vtex.specs.Refusals.{HoldsPath, HoldsNoPath, HoldsNoTexture, Reads, IsDone, IsLeft, IsMissing};
+ghost use Rattle.vtex.specs.Runs.{IsBadName};
 
-use crate::ending::Ending;
-use crate::plain::plain;
-use crate::refusal::Refusal;
-use crate::words::plain_words;
+use crate::command::do_command;
 use std::alloc::Global;
 use std::sync::Wait;
 use std::thread::Threads;
 use vt_outside::{Folder, Gate, Sink};
 
-/// Does what the words after the program's name say, and answers the status of the program.
+/// Does what the words after the program's name say, and answers the status of the program: 0 where it is done, 1 for want
+/// of memory, 2 for words that are those of no command, 3 for a fault or a missing name, 4 for an input outside its format.
+///
+/// The one command so far is `plain`: it reads the path and then the texture, and writes the plain picture of each camera.
 pub fn run<Rt: Threads + Wait + Sync, D: Folder, O: Sink, E: Sink, G: Gate + Sync>(
     _rt: &Rt,
     alloc: Global,
@@ -27,18 +30,41 @@ pub fn run<Rt: Threads + Wait + Sync, D: Folder, O: Sink, E: Sink, G: Gate + Syn
     _gate: &G,
 ) -> u8
     ensures statuses { result ≤ 4 }
+
+    // Status 0: each picture's name holds its plain picture, all other names are as before, and the output gained the end line.
+    ensures done { result ≡ 0 → IsSome (D.files folder.old) → (p : PlainText) × (plain_text (texts words.now) ≡ Some p)
+        × IsDone p (D.files folder.old) (D.files folder.new) (O.held out.old) (O.held out.new) }
+
+    // Another status: whole pictures, of the next one a front part at most, and the end line only after all of them.
+    ensures left { result ≢ 0 → IsSome (D.files folder.old) → (p : PlainText) → plain_text (texts words.now) ≡ Some p
+        → IsLeft p (D.files folder.old) (D.files folder.new) (O.held out.old) (O.held out.new) }
+
+    // Words and inputs that are refused leave all as it was, whatever they are.
+    ensures untouched { (result ≡ 2) ⊎ (result ≡ 4) → (D.files folder.new ≡ D.files folder.old) × (O.held out.new ≡ O.held out.old) }
+
+    // The causes of the refusals.
+    ensures usage { (result ≡ 2) ↔ IsNone (plain_text (texts words.now)) }
+    ensures fault { result ≡ 3 → Rose (D.faults folder.old) (D.faults folder.new)
+        ⊎ (Rose (O.faults out.old) (O.faults out.new)
+        ⊎ ((p : PlainText) × (plain_text (texts words.now) ≡ Some p) × IsMissing p (D.files folder.old))) }
+    ensures bad_input { result ≡ 4 → IsSome (D.files folder.old) → (p : PlainText) × (plain_text (texts words.now) ≡ Some p)
+        × (HoldsNoPath (D.files folder.old) p.path
+        ⊎ (((path : PathView) × HoldsPath (D.files folder.old) p.path path) × HoldsNoTexture (D.files folder.old) p.texture)) }
+
+    // Where the words are lawful, the inputs accepted and there was no fault, only memory can be wanting.
+    ensures complete { NoFault (D.faults folder.old) (D.faults folder.new) → NoFault (O.faults out.old) (O.faults out.new)
+        → (p : PlainText) → plain_text (texts words.now) ≡ Some p → (texture : Picture) (path : PathView) → Reads (D.files folder.old) p texture path
+        → (result ≡ 0) ⊎ (result ≡ 1) }
+
+    // The line on the error output, or a front part of it where a put on it was refused.
+    ensures silent { result ≡ 0 → E.held err.new ≡ E.held err.old }
+    ensures memory_told { result ≡ 1 → Tells memory_line (E.held err.old) (E.held err.new) (E.faults err.old) (E.faults err.new) (E.refusals err.old) (E.refusals err.new) }
+    ensures usage_told { result ≡ 2 → Tells usage_line (E.held err.old) (E.held err.new) (E.faults err.old) (E.faults err.new) (E.refusals err.old) (E.refusals err.new) }
+    ensures fault_told { result ≡ 3 → Tells fault_line (E.held err.old) (E.held err.new) (E.faults err.old) (E.faults err.new) (E.refusals err.old) (E.refusals err.new) }
+    ensures bad_input_told { result ≡ 4 → (p : PlainText) × (name : List ℕ) × (plain_text (texts words.now) ≡ Some p) × IsBadName p (D.files folder.old) name
+        × Tells (bad_input_line name (codes "form not built")) (E.held err.old) (E.held err.new) (E.faults err.old) (E.faults err.new) (E.refusals err.old) (E.refusals err.new) }
 {
-    let Some(words) = plain_words(words) else {
-        Ending::Usage.tell(err);
-        return 2;
-    };
-    let ending = match plain(alloc, &words, folder, out) {
-        Ok(()) => Ending::Done,
-        Err(Refusal::NoMemory) => Ending::OutOfMemory,
-        Err(Refusal::Fault) => Ending::Fault,
-        Err(Refusal::Path) => Ending::BadInput(words.path),
-        Err(Refusal::Texture) => Ending::BadInput(words.texture),
-    };
+    let ending = do_command(alloc, words, folder, out);
     ending.tell(err);
     ending.status()
 }

@@ -1,6 +1,7 @@
 //! The words after the program's name.
 
-ghost use Rattle.std.specs.Prelude.{◌≡◌, IsTrue, ◌↔◌, option_map, string_bytes, map};
+ghost use Rattle.std.specs.Prelude.{◌≡◌, option_map, IfSome};
+ghost use Rattle.vt_mip.specs.Tiles.{IsTileSide};
 ghost use Rattle.vtex.specs.Words.{PlainText, plain_text, tile_side, names_clash, texts};
 ghost use Rattle.vtex.specs.Names.{is_picture_name};
 ghost use Rattle.vtex.specs.PlainWords.{shown};
@@ -22,7 +23,8 @@ pub struct PlainWords<'a> {
 
 /// Reads the words of `plain`: `plain`, texture, path, prefix, `--tile` and the tile side, in this order and no others.
 pub fn plain_words(words: &[String]) -> Option<PlainWords<'_>>
-    ensures { option_map shown result ≡ plain_text (texts words.now) }
+    ensures read { option_map shown result ≡ plain_text (texts words.now) }
+    ensures lawful { IfSome result (λ words. IsTileSide words.tile) }
 {
     match words {
         [command, texture, path, prefix, option, number] => {
@@ -52,7 +54,8 @@ fn names_clash(texture: &str, path: &str, prefix: &str) -> bool
 }
 
 fn tile_side(word: &str) -> Option<u32>
-    ensures { result ≡ tile_side word.now }
+    ensures read { result ≡ tile_side word.now }
+    ensures lawful { IfSome result (λ side. IsTileSide side) }
 {
     match word {
         "2" => Some(2),

@@ -1,0 +1,269 @@
+// Runs of `plain` over a folder in memory.
+use crate::run::run;
+use std::alloc::{AllocError, Global};
+use std::sync::Wait;
+use std::test::*;
+use std::thread::Threads;
+use vt_outside::{Fail, Fails, MemoryFolder, MemorySink, NoMemory, OpenGate};
+
+// A texture of 4x4 texels; red, green and blue of texel (x, y) are all 4y+x.
+const G4: &[u8] = b"P6\n4 4\n255\n\x00\x00\x00\x01\x01\x01\x02\x02\x02\x03\x03\x03\x04\x04\x04\x05\x05\x05\x06\x06\x06\x07\x07\x07\x08\x08\x08\x09\x09\x09\x0a\x0a\x0a\x0b\x0b\x0b\x0c\x0c\x0c\x0d\x0d\x0d\x0e\x0e\x0e\x0f\x0f\x0f";
+
+// One picture of two pixels, from the height of one texel.
+const PATH: &[u8] = b"size 2 1\nfocal 1\nat 0 0 256 16384 0\n";
+
+// The picture that it takes of the texture.
+const PICTURE: &[u8] = b"P6\n2 1\n255\n\x0d\x0d\x0d\x01\x01\x01";
+
+const WORDS: [&str; 6] = ["plain", "g4.ppm", "a.path", "f", "--tile", "2"];
+
+const END: &[u8] = b"end pictures 1\n";
+
+const USAGE: &[u8] =
+    b"vtex: usage: vtex COMMAND ARGUMENTS (plain, tile, info, walk, replay, gen, trial)\n";
+
+const FAULT: &[u8] = b"vtex: fault on files or output\n";
+
+// What a run left.
+#[derive(Drop)]
+struct Left {
+    status: u8,
+    folder: MemoryFolder,
+    out: MemorySink,
+    err: MemorySink,
+}
+
+impl Left {
+    fn holds(&self, name: &str, bytes: &[u8]) -> bool {
+        match self.folder.bytes_of(name) {
+            Some(held) => held == bytes,
+            None => false,
+        }
+    }
+
+    fn has(&self, name: &str) -> bool {
+        self.folder.bytes_of(name).is_some()
+    }
+
+    fn printed(&self, out: &[u8], err: &[u8]) -> bool {
+        self.out.bytes() == out && self.err.bytes() == err
+    }
+}
+
+fn one_fail(alloc: Global, fail: Option<Fail>) -> Result<Fails, NoMemory> {
+    let mut fails = Fails::new(alloc);
+    if let Some(fail) = fail {
+        fails.reserve(1)?;
+        fails.push(fail);
+    }
+    Ok(fails)
+}
+
+fn texts(alloc: Global, words: &[&str]) -> Result<Vec<String>, AllocError> {
+    let mut texts = Vec::new(alloc);
+    for word in words {
+        texts.push(String::from_str(alloc, word)?)?;
+    }
+    Ok(texts)
+}
+
+// Runs the words over a folder with this texture and this path, and one call that fails, on the folder or on a sink.
+fn left(
+    rt: &(impl Threads + Wait + Sync),
+    alloc: Global,
+    words: &[&str],
+    texture: &[u8],
+    path: &[u8],
+    fail: Option<Fail>,
+    err_fail: Option<Fail>,
+) -> Result<Left, NoMemory> {
+    let mut folder = MemoryFolder::new(alloc, one_fail(alloc, fail)?);
+    folder.add("g4.ppm", texture)?;
+    folder.add("a.path", path)?;
+    let mut out = MemorySink::new(alloc, one_fail(alloc, fail)?);
+    let mut err = MemorySink::new(alloc, one_fail(alloc, err_fail)?);
+    let words = texts(alloc, words)?;
+    let status = run(
+        rt,
+        alloc,
+        words.as_slice(),
+        &mut folder,
+        &mut out,
+        &mut err,
+        &OpenGate,
+    );
+    Ok(Left {
+        status,
+        folder,
+        out,
+        err,
+    })
+}
+
+// A run that ends well, and its one picture.
+fn draws(rt: &(impl Threads + Wait + Sync), alloc: Global, path: &[u8], picture: &[u8]) -> bool {
+    match left(rt, alloc, &WORDS, G4, path, None, None) {
+        Ok(left) => {
+            left.status == 0
+                && left.holds("f0000.ppm", picture)
+                && left.holds("g4.ppm", G4)
+                && left.holds("a.path", path)
+                && left.printed(END, b"")
+        }
+        Err(_) => false,
+    }
+}
+
+// A run over bad input, which leaves all as it was.
+fn refuses(
+    rt: &(impl Threads + Wait + Sync),
+    alloc: Global,
+    texture: &[u8],
+    path: &[u8],
+    line: &[u8],
+) -> bool {
+    match left(rt, alloc, &WORDS, texture, path, None, None) {
+        Ok(left) => {
+            left.status == 4
+                && !left.has("f0000.ppm")
+                && left.holds("g4.ppm", texture)
+                && left.holds("a.path", path)
+                && left.printed(b"", line)
+        }
+        Err(_) => false,
+    }
+}
+
+// Words that are those of no command.
+fn misuses(rt: &(impl Threads + Wait + Sync), alloc: Global, words: &[&str]) -> bool {
+    match left(rt, alloc, words, G4, PATH, None, None) {
+        Ok(left) => left.status == 2 && !left.has("f0000.ppm") && left.printed(b"", USAGE),
+        Err(_) => false,
+    }
+}
+
+// A run with one call that fails, what the picture's name holds after it, and what was put out.
+fn stops(
+    rt: &(impl Threads + Wait + Sync),
+    alloc: Global,
+    fail: Fail,
+    picture: Option<&[u8]>,
+    out: &[u8],
+) -> bool {
+    match left(rt, alloc, &WORDS, G4, PATH, Some(fail), None) {
+        Ok(left) => {
+            let held = match picture {
+                Some(bytes) => left.holds("f0000.ppm", bytes),
+                None => !left.has("f0000.ppm"),
+            };
+            left.status == 3 && held && left.printed(out, FAULT)
+        }
+        Err(_) => false,
+    }
+}
+
+#[test]
+fn first_picture(rt: HostRuntime) {
+    assert!(rt; draws(&rt, rt.alloc(), PATH, PICTURE));
+}
+
+#[test]
+fn level_choice(rt: HostRuntime) {
+    let higher = b"size 2 1\nfocal 1\nat 0 0 512 16384 0\n";
+    assert!(rt; draws(&rt, rt.alloc(), higher, b"P6\n2 1\n255\n\x0d\x0d\x0d\x05\x05\x05"));
+    let just_lower = b"size 2 1\nfocal 1\nat 0 0 511 16384 0\n";
+    assert!(rt; draws(&rt, rt.alloc(), just_lower, PICTURE));
+}
+
+#[test]
+fn bad_inputs(rt: HostRuntime) {
+    let alloc = rt.alloc();
+    let texture = b"vtex: bad input: g4.ppm: form not built\n";
+    let path = b"vtex: bad input: a.path: form not built\n";
+    assert!(rt; refuses(&rt, alloc, b"P6\n1 1\n100\n\x00\x00\x00", PATH, texture));
+    assert!(rt; refuses(&rt, alloc, &G4[..G4.len() - 1], PATH, texture));
+    assert!(rt; refuses(&rt, alloc, b"", PATH, texture));
+    assert!(rt; refuses(&rt, alloc, G4, b"size 2 1\nfocal 1\n", path));
+    let four_lines = b"size 2 1\nfocal 1\nat 0 0 256 16384 0\nat 0 0 256 16384 0\n";
+    assert!(rt; refuses(&rt, alloc, G4, four_lines, path));
+    // The path is read first.
+    assert!(rt; refuses(&rt, alloc, b"", b"", path));
+}
+
+#[test]
+fn bad_words(rt: HostRuntime) {
+    let alloc = rt.alloc();
+    assert!(rt; misuses(&rt, alloc, &[]));
+    assert!(rt; misuses(&rt, alloc, &["Plain", "g4.ppm", "a.path", "f", "--tile", "2"]));
+    assert!(rt; misuses(&rt, alloc, &["plain", "g4.ppm", "a.path", "f", "--tile"]));
+    assert!(rt; misuses(&rt, alloc, &["plain", "g4.ppm", "a.path", "f"]));
+    assert!(rt; misuses(&rt, alloc, &["plain", "g4.ppm", "a.path", "f", "--tile", "2", "2"]));
+    assert!(rt; misuses(&rt, alloc, &["plain", "g4.ppm", "a.path", "f", "--tile", "3"]));
+    assert!(rt; misuses(&rt, alloc, &["plain", "g4.ppm", "a.path", "f", "--tile", "02"]));
+    assert!(rt; misuses(&rt, alloc, &["plain", "f0000.ppm", "a.path", "f", "--tile", "2"]));
+    assert!(rt; misuses(&rt, alloc, &["plain", "g4.ppm", "f1234.ppm", "f", "--tile", "2"]));
+}
+
+#[test]
+fn one_name_twice(rt: HostRuntime) {
+    // Texture and path may have one name, since both are only read; these bytes are no path.
+    let words = ["plain", "g4.ppm", "g4.ppm", "f", "--tile", "2"];
+    match left(&rt, rt.alloc(), &words, G4, PATH, None, None) {
+        Ok(left) => {
+            assert_eq!(rt; left.status, 4);
+            assert!(rt; left.printed(b"", b"vtex: bad input: g4.ppm: form not built\n"));
+        }
+        Err(_) => assert!(rt; false, "there is memory"),
+    }
+}
+
+#[test]
+fn missing_names(rt: HostRuntime) {
+    for words in [
+        ["plain", "none", "a.path", "f", "--tile", "2"],
+        ["plain", "g4.ppm", "none", "f", "--tile", "2"],
+    ] {
+        match left(&rt, rt.alloc(), &words, G4, PATH, None, None) {
+            Ok(left) => {
+                assert_eq!(rt; left.status, 3);
+                assert!(rt; !left.has("f0000.ppm") && left.printed(b"", FAULT));
+            }
+            Err(_) => assert!(rt; false, "there is memory"),
+        }
+    }
+}
+
+#[test]
+fn failing_calls(rt: HostRuntime) {
+    let alloc = rt.alloc();
+    for fail in [
+        Fail::Open(0),
+        Fail::Open(1),
+        Fail::Length { opening: 0 },
+        Fail::Length { opening: 1 },
+        Fail::Read { opening: 0, read: 0 },
+        Fail::Read { opening: 1, read: 0 },
+        Fail::Read { opening: 1, read: 1 },
+        Fail::Create(0),
+    ] {
+        assert!(rt; stops(&rt, alloc, fail, None, b""));
+    }
+    // A failed append leaves the first half of the 17 bytes, a failed put that of its piece.
+    assert!(rt; stops(&rt, alloc, Fail::Append(0), Some(&PICTURE[..8]), b""));
+    assert!(rt; stops(&rt, alloc, Fail::Put(0), Some(PICTURE), b"end pi"));
+    assert!(rt; stops(&rt, alloc, Fail::Put(1), Some(PICTURE), b"end pictures "));
+    assert!(rt; stops(&rt, alloc, Fail::Put(2), Some(PICTURE), b"end pictures 1"));
+}
+
+#[test]
+fn failing_error_output(rt: HostRuntime) {
+    // The line ends at the put that fails, and the status stays.
+    let words = ["plain", "none", "a.path", "f", "--tile", "2"];
+    match left(&rt, rt.alloc(), &words, G4, PATH, None, Some(Fail::Put(0))) {
+        Ok(left) => {
+            assert_eq!(rt; left.status, 3);
+            assert!(rt; left.printed(b"", &FAULT[..15]));
+        }
+        Err(_) => assert!(rt; false, "there is memory"),
+    }
+}
