@@ -63,10 +63,10 @@ complete_of Usage c h no_fault no_out p is texture path reads = absurd (none_pla
 complete_of Fault c h no_fault no_out p is texture path reads = absurd (⊎_elim
     (λ rose. NoFault-Rose c.folder_faults c.folder_faults_after no_fault rose)
     (λ later. ⊎_elim (λ rose. NoFault-Rose c.out_faults c.out_faults_after no_out rose)
-        (λ missing. not_missing p c.before texture path reads (subst (λ (q : PlainText). IsMissing q c.before) (same_words c h.0 p h.1 is) missing)) later) h.3)
+    (λ missing. not_missing p c.before texture path reads (subst (λ (q : PlainText). IsMissing q c.before) (same_words c h.0 p h.1 is) missing)) later) h.3)
 complete_of (BadInput name) c h no_fault no_out p is texture path reads =
     let told = tells c.before p texture path reads in
     let same = same_words c h.0 p h.1 is in
     absurd (⊎_elim
-        (λ refused. path_held c.before p.path path reads.is_path (subst (λ (q : PlainText). HoldsNoPath c.before q.path) same (refused.none told)))
-        (λ refused. texture_held c.before p.texture texture reads.is_texture (subst (λ (q : PlainText). HoldsNoTexture c.before q.texture) same (refused.none told))) h.3)
+    (λ refused. path_held c.before p.path path reads.is_path (subst (λ (q : PlainText). HoldsNoPath c.before q.path) same (refused.none told)))
+    (λ refused. texture_held c.before p.texture texture reads.is_texture (subst (λ (q : PlainText). HoldsNoTexture c.before q.texture) same (refused.none told))) h.3)

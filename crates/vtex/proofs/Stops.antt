@@ -34,7 +34,7 @@ stopped_writing words before mid after held texture path chain is_path is_textur
   some = part.1;
   files = subst (λ (m : Option Files). IsPartOf words.prefix (plain_file texture words.tile path) (length path.cameras) part.0 m after) same
       (subst (λ (ch : ChainView). IsPartOf words.prefix (plain_file ch.base ch.tile path) (length path.cameras) part.0 mid after) made part.2);
-  out = inl refl
+  out = inl refl;
 }
 
 -- a stop at the end line
@@ -45,9 +45,9 @@ pub stopped_ending : (words : PlainText) (before mid after : Option Files) (held
     → IsStopped words before after held shown
 stopped_ending words before mid after held shown texture path chain pictures is_path is_texture same made files all part =
     let written : after ≡ option_map (with_pictures words.prefix (plain_file texture words.tile path) (length path.cameras)) before =
-        files
-        ∙ ap (λ (ch : ChainView). option_map (with_pictures words.prefix (plain_file ch.base ch.tile path) (length path.cameras)) mid) made
-        ∙ ap (option_map (with_pictures words.prefix (plain_file texture words.tile path) (length path.cameras))) same in
+    files
+    ∙ ap (λ (ch : ChainView). option_map (with_pictures words.prefix (plain_file ch.base ch.tile path) (length path.cameras)) mid) made
+    ∙ ap (option_map (with_pictures words.prefix (plain_file texture words.tile path) (length path.cameras))) same in
     record {
       texture = texture;
       path = path;
@@ -55,5 +55,5 @@ stopped_ending words before mid after held shown texture path chain pictures is_
       whole = length path.cameras;
       some = omega arith;
       files = inl written;
-      out = inr (written, part.0, part.1 ∙ ap (λ (n : ℕ). option_map (gained (take part.0 (end_line n))) held) all)
+      out = inr (written, part.0, part.1 ∙ ap (λ (n : ℕ). option_map (gained (take part.0 (end_line n))) held) all);
     }

@@ -73,7 +73,7 @@ pub record IsStopped (words : PlainText) (before after : Option Files) (held sho
   pub files : IsPartOf words.prefix (plain_file texture words.tile path) (length path.cameras) whole before after
   pub out : (shown ≡ held)
       ⊎ ((after ≡ option_map (with_pictures words.prefix (plain_file texture words.tile path) (length path.cameras)) before)
-        × (k : ℕ) × (shown ≡ option_map (gained (take k (end_line (length path.cameras)))) held))
+      × (k : ℕ) × (shown ≡ option_map (gained (take k (end_line (length path.cameras)))) held))
 
 -- nothing was written, or `plain` came to a stop
 abbrev pub IsLeft : PlainText → Option Files → Option Files → Option (List ℕ) → Option (List ℕ) → Type 0

@@ -18,11 +18,16 @@ pub fn do_command<'a, D: Folder, O: Sink>(
     out: &mut O,
 ) -> Ending<'a>
     ensures { IsEnding result (record {
-        words = texts words.now;
-        before = D.files folder.old; after = D.files folder.new;
-        held = O.held out.old; shown = O.held out.new;
-        folder_faults = D.faults folder.old; folder_faults_after = D.faults folder.new;
-        out_faults = O.faults out.old; out_faults_after = O.faults out.new }) }
+      words = texts words.now;
+      before = D.files folder.old;
+      after = D.files folder.new;
+      held = O.held out.old;
+      shown = O.held out.new;
+      folder_faults = D.faults folder.old;
+      folder_faults_after = D.faults folder.new;
+      out_faults = O.faults out.old;
+      out_faults_after = O.faults out.new;
+    }) }
 {
     let Some(words) = plain_words(words) else {
         return Ending::Usage;

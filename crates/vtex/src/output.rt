@@ -11,11 +11,7 @@ use vt_outside::{Folder, OutsideError, Sink};
 
 /// Makes the name hold these bytes, by one creation and one append. After a refusal the name is as before, or holds a front
 /// part of the bytes.
-pub fn write_file<D: Folder>(
-    folder: &mut D,
-    name: &str,
-    bytes: &[u8],
-) -> Result<(), OutsideError>
+pub fn write_file<D: Folder>(folder: &mut D, name: &str, bytes: &[u8]) -> Result<(), OutsideError>
     ensures whole { OnOk result (D.files folder.new ≡ option_map (with_bytes name.now bytes.now) (D.files folder.old)) }
     ensures part { OnErr result ((D.files folder.new ≡ D.files folder.old)
         ⊎ ((k : ℕ) × (D.files folder.new ≡ option_map (with_bytes name.now (take k bytes.now)) (D.files folder.old)))) }

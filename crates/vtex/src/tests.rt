@@ -7,7 +7,8 @@ use std::thread::Threads;
 use vt_outside::{Fail, Fails, MemoryFolder, MemorySink, NoMemory, OpenGate};
 
 // A texture of 4x4 texels; red, green and blue of texel (x, y) are all 4y+x.
-const G4: &[u8] = b"P6\n4 4\n255\n\x00\x00\x00\x01\x01\x01\x02\x02\x02\x03\x03\x03\x04\x04\x04\x05\x05\x05\x06\x06\x06\x07\x07\x07\x08\x08\x08\x09\x09\x09\x0a\x0a\x0a\x0b\x0b\x0b\x0c\x0c\x0c\x0d\x0d\x0d\x0e\x0e\x0e\x0f\x0f\x0f";
+const G4: &[u8] =
+    b"P6\n4 4\n255\n\x00\x00\x00\x01\x01\x01\x02\x02\x02\x03\x03\x03\x04\x04\x04\x05\x05\x05\x06\x06\x06\x07\x07\x07\x08\x08\x08\x09\x09\x09\x0a\x0a\x0a\x0b\x0b\x0b\x0c\x0c\x0c\x0d\x0d\x0d\x0e\x0e\x0e\x0f\x0f\x0f";
 
 // One picture of two pixels, from the height of one texel.
 const PATH: &[u8] = b"size 2 1\nfocal 1\nat 0 0 256 16384 0\n";
@@ -68,7 +69,7 @@ fn texts(alloc: Global, words: &[&str]) -> Result<Vec<String>, AllocError> {
 }
 
 // Runs the words over a folder with this texture and this path, and one call that fails, on the folder or on a sink.
-fn left(
+fn play(
     rt: &(impl Threads + Wait + Sync),
     alloc: Global,
     words: &[&str],
@@ -102,7 +103,7 @@ fn left(
 
 // A run that ends well, and its one picture.
 fn draws(rt: &(impl Threads + Wait + Sync), alloc: Global, path: &[u8], picture: &[u8]) -> bool {
-    match left(rt, alloc, &WORDS, G4, path, None, None) {
+    match play(rt, alloc, &WORDS, G4, path, None, None) {
         Ok(left) => {
             left.status == 0
                 && left.holds("f0000.ppm", picture)
@@ -122,7 +123,7 @@ fn refuses(
     path: &[u8],
     line: &[u8],
 ) -> bool {
-    match left(rt, alloc, &WORDS, texture, path, None, None) {
+    match play(rt, alloc, &WORDS, texture, path, None, None) {
         Ok(left) => {
             left.status == 4
                 && !left.has("f0000.ppm")
@@ -136,7 +137,7 @@ fn refuses(
 
 // Words that are those of no command.
 fn misuses(rt: &(impl Threads + Wait + Sync), alloc: Global, words: &[&str]) -> bool {
-    match left(rt, alloc, words, G4, PATH, None, None) {
+    match play(rt, alloc, words, G4, PATH, None, None) {
         Ok(left) => left.status == 2 && !left.has("f0000.ppm") && left.printed(b"", USAGE),
         Err(_) => false,
     }
@@ -150,7 +151,7 @@ fn stops(
     picture: Option<&[u8]>,
     out: &[u8],
 ) -> bool {
-    match left(rt, alloc, &WORDS, G4, PATH, Some(fail), None) {
+    match play(rt, alloc, &WORDS, G4, PATH, Some(fail), None) {
         Ok(left) => {
             let held = match picture {
                 Some(bytes) => left.holds("f0000.ppm", bytes),
@@ -170,7 +171,14 @@ fn first_picture(rt: HostRuntime) {
 #[test]
 fn level_choice(rt: HostRuntime) {
     let higher = b"size 2 1\nfocal 1\nat 0 0 512 16384 0\n";
-    assert!(rt; draws(&rt, rt.alloc(), higher, b"P6\n2 1\n255\n\x0d\x0d\x0d\x05\x05\x05"));
+    assert!(rt;
+        draws(
+            &rt,
+            rt.alloc(),
+            higher,
+            b"P6\n2 1\n255\n\x0d\x0d\x0d\x05\x05\x05"
+        )
+    );
     let just_lower = b"size 2 1\nfocal 1\nat 0 0 511 16384 0\n";
     assert!(rt; draws(&rt, rt.alloc(), just_lower, PICTURE));
 }
@@ -194,21 +202,57 @@ fn bad_inputs(rt: HostRuntime) {
 fn bad_words(rt: HostRuntime) {
     let alloc = rt.alloc();
     assert!(rt; misuses(&rt, alloc, &[]));
-    assert!(rt; misuses(&rt, alloc, &["Plain", "g4.ppm", "a.path", "f", "--tile", "2"]));
+    assert!(rt;
+        misuses(
+            &rt,
+            alloc,
+            &["Plain", "g4.ppm", "a.path", "f", "--tile", "2"]
+        )
+    );
     assert!(rt; misuses(&rt, alloc, &["plain", "g4.ppm", "a.path", "f", "--tile"]));
     assert!(rt; misuses(&rt, alloc, &["plain", "g4.ppm", "a.path", "f"]));
-    assert!(rt; misuses(&rt, alloc, &["plain", "g4.ppm", "a.path", "f", "--tile", "2", "2"]));
-    assert!(rt; misuses(&rt, alloc, &["plain", "g4.ppm", "a.path", "f", "--tile", "3"]));
-    assert!(rt; misuses(&rt, alloc, &["plain", "g4.ppm", "a.path", "f", "--tile", "02"]));
-    assert!(rt; misuses(&rt, alloc, &["plain", "f0000.ppm", "a.path", "f", "--tile", "2"]));
-    assert!(rt; misuses(&rt, alloc, &["plain", "g4.ppm", "f1234.ppm", "f", "--tile", "2"]));
+    assert!(rt;
+        misuses(
+            &rt,
+            alloc,
+            &["plain", "g4.ppm", "a.path", "f", "--tile", "2", "2"]
+        )
+    );
+    assert!(rt;
+        misuses(
+            &rt,
+            alloc,
+            &["plain", "g4.ppm", "a.path", "f", "--tile", "3"]
+        )
+    );
+    assert!(rt;
+        misuses(
+            &rt,
+            alloc,
+            &["plain", "g4.ppm", "a.path", "f", "--tile", "02"]
+        )
+    );
+    assert!(rt;
+        misuses(
+            &rt,
+            alloc,
+            &["plain", "f0000.ppm", "a.path", "f", "--tile", "2"]
+        )
+    );
+    assert!(rt;
+        misuses(
+            &rt,
+            alloc,
+            &["plain", "g4.ppm", "f1234.ppm", "f", "--tile", "2"]
+        )
+    );
 }
 
 #[test]
 fn one_name_twice(rt: HostRuntime) {
     // Texture and path may have one name, since both are only read; these bytes are no path.
     let words = ["plain", "g4.ppm", "g4.ppm", "f", "--tile", "2"];
-    match left(&rt, rt.alloc(), &words, G4, PATH, None, None) {
+    match play(&rt, rt.alloc(), &words, G4, PATH, None, None) {
         Ok(left) => {
             assert_eq!(rt; left.status, 4);
             assert!(rt; left.printed(b"", b"vtex: bad input: g4.ppm: form not built\n"));
@@ -223,7 +267,7 @@ fn missing_names(rt: HostRuntime) {
         ["plain", "none", "a.path", "f", "--tile", "2"],
         ["plain", "g4.ppm", "none", "f", "--tile", "2"],
     ] {
-        match left(&rt, rt.alloc(), &words, G4, PATH, None, None) {
+        match play(&rt, rt.alloc(), &words, G4, PATH, None, None) {
             Ok(left) => {
                 assert_eq!(rt; left.status, 3);
                 assert!(rt; !left.has("f0000.ppm") && left.printed(b"", FAULT));
@@ -241,9 +285,18 @@ fn failing_calls(rt: HostRuntime) {
         Fail::Open(1),
         Fail::Length { opening: 0 },
         Fail::Length { opening: 1 },
-        Fail::Read { opening: 0, read: 0 },
-        Fail::Read { opening: 1, read: 0 },
-        Fail::Read { opening: 1, read: 1 },
+        Fail::Read {
+            opening: 0,
+            read: 0,
+        },
+        Fail::Read {
+            opening: 1,
+            read: 0,
+        },
+        Fail::Read {
+            opening: 1,
+            read: 1,
+        },
         Fail::Create(0),
     ] {
         assert!(rt; stops(&rt, alloc, fail, None, b""));
@@ -259,7 +312,7 @@ fn failing_calls(rt: HostRuntime) {
 fn failing_error_output(rt: HostRuntime) {
     // The line ends at the put that fails, and the status stays.
     let words = ["plain", "none", "a.path", "f", "--tile", "2"];
-    match left(&rt, rt.alloc(), &words, G4, PATH, None, Some(Fail::Put(0))) {
+    match play(&rt, rt.alloc(), &words, G4, PATH, None, Some(Fail::Put(0))) {
         Ok(left) => {
             assert_eq!(rt; left.status, 3);
             assert!(rt; left.printed(b"", &FAULT[..15]));

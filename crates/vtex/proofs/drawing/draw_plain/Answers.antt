@@ -22,5 +22,5 @@ pub returns : goal.returns
 unfolding plain_samples
 returns c = record {
   samples = same c;
-  size = ap length (same c) ∙ length-picture_samples (chain_of c.args.chain.now.base) (surface_of c.args.chain.now.base c.args.chain.now.tile) c.args.path.now (camera_at c.args.path.now c.args.picture) c.args.path.now.height
+  size = ap length (same c) ∙ length-picture_samples (chain_of c.args.chain.now.base) (surface_of c.args.chain.now.base c.args.chain.now.tile) c.args.path.now (camera_at c.args.path.now c.args.picture) c.args.path.now.height;
 }

@@ -15,7 +15,7 @@ loop-x-preserved c =
     let x = c.loop-x.x in
     let here = c.texel-column in
     let shown : ◌≡◌ {A = List ℕ} (bytes (source c.level-level.result (here.result.0 / 2 ^ c.level-level.result) (here.result.1 / 2 ^ c.level-level.result))) (bytes (shown_word source row x)) =
-        rw (c.level-level.ensures.value, here.ensures.column, here.ensures.row) refl in
+    rw (c.level-level.ensures.value, here.ensures.column, here.ensures.row) refl in
     c.in_ok-push_texel.ensures
     ∙ ap (λ (t : List ℕ). c.loop-x.samples.items ++ t) shown
     ∙ ap (λ (t : List ℕ). t ++ bytes (shown_word source row x)) c.loop-x.invariant

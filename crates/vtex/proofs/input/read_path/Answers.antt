@@ -7,5 +7,5 @@ pub returns-in-Ok-text-clause-no_path : goal.returns-in-Ok-text-clause-no_path
 returns-in-Ok-text-clause-no_path g c = λ refused told. record {
   text = c.in-Ok-text.text.items;
   there = read_there (g.D.Folder.files c.args.folder.now) c.args.name.now (g.D.File.File.bytes c.in-Ok.file) c.in-Ok-text.text.items c.in-Ok.ensures.bytes c.in-Ok.ensures.tells c.in-Ok-text.ensures.bytes told;
-  none = rw c.deref.ensures.value at (c.path_of.ensures.no_path refused)
+  none = rw c.deref.ensures.value at (c.path_of.ensures.no_path refused);
 }

@@ -13,8 +13,8 @@ returns-in-Ok-clause-whole g c =
     let path = c.args.path.now in
     let name : c.as_str.result.now ≡ picture_name c.args.prefix.now c.args.picture = c.as_str.ensures.value ∙ c.in_ok-name.ensures in
     let file : c.deref-2.result.now ≡ plain_file base tile path c.args.picture =
-        file_is base tile path c.args.picture c.width.result c.height.result c.deref-2.result.now c.in_ok-bytes.bytes.items c.deref.result.now c.in_ok-samples.samples.items
-            c.deref-2.ensures.value c.in_ok-bytes.ensures c.deref.ensures.value c.in_ok-samples.ensures.samples c.width.ensures.value c.height.ensures.value in
+    file_is base tile path c.args.picture c.width.result c.height.result c.deref-2.result.now c.in_ok-bytes.bytes.items c.deref.result.now c.in_ok-samples.samples.items
+    c.deref-2.ensures.value c.in_ok-bytes.ensures c.deref.ensures.value c.in_ok-samples.ensures.samples c.width.ensures.value c.height.ensures.value in
     c.in-Ok.ensures.whole
     ∙ ap (λ (n : List ℕ). option_map (with_bytes n c.deref-2.result.now) (g.D.Folder.files c.args.folder.now)) name
     ∙ ap (λ (b : List ℕ). option_map (with_bytes (picture_name c.args.prefix.now c.args.picture) b) (g.D.Folder.files c.args.folder.now)) file
@@ -26,6 +26,6 @@ returns-clause-part g c =
     let path = c.args.path.now in
     let name : c.as_str.result.now ≡ picture_name c.args.prefix.now c.args.picture = c.as_str.ensures.value ∙ c.in_ok-name.ensures in
     let file : c.deref-2.result.now ≡ plain_file base tile path c.args.picture =
-        file_is base tile path c.args.picture c.width.result c.height.result c.deref-2.result.now c.in_ok-bytes.bytes.items c.deref.result.now c.in_ok-samples.samples.items
-            c.deref-2.ensures.value c.in_ok-bytes.ensures c.deref.ensures.value c.in_ok-samples.ensures.samples c.width.ensures.value c.height.ensures.value in
+    file_is base tile path c.args.picture c.width.result c.height.result c.deref-2.result.now c.in_ok-bytes.bytes.items c.deref.result.now c.in_ok-samples.samples.items
+    c.deref-2.ensures.value c.in_ok-bytes.ensures c.deref.ensures.value c.in_ok-samples.ensures.samples c.width.ensures.value c.height.ensures.value in
     rw (name, file) at c.in-Err.ensures.part

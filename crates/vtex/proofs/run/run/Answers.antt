@@ -10,19 +10,29 @@ pub returns-clause-complete : goal.returns-clause-complete
 returns-clause-complete g c = λ no_fault no_out p is texture path reads.
     let course : Course = record {
       words = texts c.args.words.now;
-      before = g.D.Folder.files c.args.folder.now; after = g.D.Folder.files c.do_command-ending.new.folder;
-      held = g.O.Sink.held c.args.out.now; shown = g.O.Sink.held c.do_command-ending.new.out;
-      folder_faults = g.D.Folder.faults c.args.folder.now; folder_faults_after = g.D.Folder.faults c.do_command-ending.new.folder;
-      out_faults = g.O.Sink.faults c.args.out.now; out_faults_after = g.O.Sink.faults c.do_command-ending.new.out } in
+      before = g.D.Folder.files c.args.folder.now;
+      after = g.D.Folder.files c.do_command-ending.new.folder;
+      held = g.O.Sink.held c.args.out.now;
+      shown = g.O.Sink.held c.do_command-ending.new.out;
+      folder_faults = g.D.Folder.faults c.args.folder.now;
+      folder_faults_after = g.D.Folder.faults c.do_command-ending.new.folder;
+      out_faults = g.O.Sink.faults c.args.out.now;
+      out_faults_after = g.O.Sink.faults c.do_command-ending.new.out;
+    } in
     rw c.status.ensures (complete_of c.do_command-ending.result course c.do_command-ending.ensures no_fault no_out p is texture path reads)
 
 pub returns-clause-bad_input_told : goal.returns-clause-bad_input_told
 returns-clause-bad_input_told g c = λ status.
     let course : Course = record {
       words = texts c.args.words.now;
-      before = g.D.Folder.files c.args.folder.now; after = g.D.Folder.files c.do_command-ending.new.folder;
-      held = g.O.Sink.held c.args.out.now; shown = g.O.Sink.held c.do_command-ending.new.out;
-      folder_faults = g.D.Folder.faults c.args.folder.now; folder_faults_after = g.D.Folder.faults c.do_command-ending.new.folder;
-      out_faults = g.O.Sink.faults c.args.out.now; out_faults_after = g.O.Sink.faults c.do_command-ending.new.out } in
+      before = g.D.Folder.files c.args.folder.now;
+      after = g.D.Folder.files c.do_command-ending.new.folder;
+      held = g.O.Sink.held c.args.out.now;
+      shown = g.O.Sink.held c.do_command-ending.new.out;
+      folder_faults = g.D.Folder.faults c.args.folder.now;
+      folder_faults_after = g.D.Folder.faults c.do_command-ending.new.folder;
+      out_faults = g.O.Sink.faults c.args.out.now;
+      out_faults_after = g.O.Sink.faults c.do_command-ending.new.out;
+    } in
     let named = bad_name_of c.do_command-ending.result course c.do_command-ending.ensures (rw c.status.ensures at status) in
     (named.0, named.1, named.2, named.3, subst (λ (line : List ℕ). Tells line (g.E.Sink.held c.args.err.now) (g.E.Sink.held c.tell.new.err) (g.E.Sink.faults c.args.err.now) (g.E.Sink.faults c.tell.new.err) (g.E.Sink.refusals c.args.err.now) (g.E.Sink.refusals c.tell.new.err)) named.4 c.tell.ensures)
