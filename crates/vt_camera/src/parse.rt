@@ -1,15 +1,19 @@
 //! The text of a path, read.
 
-ghost use Rattle.std.specs.Prelude.{◌≡◌, ◌≢◌, ◌≤◌, ◌⊎◌, ◌↔◌, ℕ, List, [], ◌∷◌, slice_get, Some, None, MatchOption, IfOk, IfErr};
+ghost use Rattle.std.specs.Prelude.{◌≡◌, ◌≢◌, ◌≤◌, ◌<◌, ◌+◌, ◌++◌, ◌⊎◌, ◌↔◌, ℕ, List, [], ◌∷◌, length, drop, slice_get, Some, None, MatchOption, MatchResult, IfOk, IfErr};
 ghost use Rattle.std.specs.Bool.{MatchBool};
-ghost use Rattle.vt_text.specs.Lines.{fields_of};
+ghost use Rattle.vt_text.specs.Lines.{fields_of, lines_of};
 ghost use Rattle.vt_camera.specs.declared.paths.Camera.{Camera};
+ghost use Rattle.vt_camera.specs.declared.parse.PathError.{PathError};
 ghost use Rattle.vt_camera.specs.Paths.{PathView, IsCamera};
-ghost use Rattle.vt_camera.specs.PathText.{size_fields, focal_fields, camera_fields, IsPathText, IsOneKeyPath};
-ghost use Rattle.vt_camera.specs.PathReading.{IsNaturalAt, IsIntegerAt, AreSides, IsFocal, IsOneKeyText};
+ghost use Rattle.vt_camera.specs.PathText.{Key, IsKey, At, To, key_fields, size_fields, focal_fields, camera_fields, way_fields, IsPathText};
+ghost use Rattle.vt_camera.specs.Ways.{way};
+ghost use Rattle.vt_camera.specs.PathFaults.{IsSizeLine, IsFocalLine, IsKeyLine, count_fault, IsLineFault, IsFaultFrom, IsPathFault};
+ghost use Rattle.vt_camera.specs.PathReading.{IsNaturalAt, IsIntegerAt, AreNumbersAt, key_of, IsHead, IsLast, AddsKey, GivesPictures};
 
 use crate::paths::{Camera, Path};
-use std::alloc::{AllocError, Global};
+use crate::ways::add_way;
+use std::alloc::Global;
 use thiserror::Error;
 use vt_text::{decimal, field, next_line};
 
@@ -18,6 +22,9 @@ const MOST_SIDE: u32 = 2048;
 
 /// The greatest focal number.
 const MOST_FOCAL: u32 = 4096;
+
+/// The greatest number of pictures.
+const MOST_PICTURES: u32 = 9999;
 
 /// Why a text was not read as a path. Lines count from 1.
 #[derive(Clone, Copy, Debug, PartialEq, Eq, Error)]
@@ -34,9 +41,6 @@ pub enum PathError {
     /// There was no memory for the cameras.
     #[error("out of memory")]
     NoMemory,
-    /// The text is not that of a path of three lines, the one form that is read so far.
-    #[error("not a path of one key")]
-    Unbuilt,
 }
 
 /// The sides of the pictures.
@@ -46,12 +50,19 @@ struct Sides {
     height: u32,
 }
 
-/// What the three lines of a path with one key say.
+/// What the first two lines of a path say, and the place after them.
 #[derive(Clone, Copy)]
-struct OneKey {
+struct Head {
     sides: Sides,
     focal: u32,
-    camera: Camera,
+    end: usize,
+}
+
+/// What a line from the third on says: one picture, or so many on the way from the key before it.
+#[derive(Clone, Copy)]
+enum LineKey {
+    Single(Camera),
+    Steps(u32, Camera),
 }
 
 /// Whether a line's first field is the word.
@@ -92,8 +103,7 @@ fn natural_at(line: &[u8], i: usize, most: u32) -> Option<u32>
 
 /// The sides that a path's first line gives.
 fn read_sides(line: &[u8]) -> Option<Sides>
-    ensures { MatchOption result ((width height : ℕ) → AreSides width height → fields_of line.now ≢ size_fields width height)
-        (λ s. AreSides s.width s.height × (fields_of line.now ≡ size_fields s.width s.height)) }
+    ensures { MatchOption result ((width height : ℕ) → ¬ IsSizeLine line.now width height) (λ s. IsSizeLine line.now s.width s.height) }
 {
     if !has_word(line, b"size") {
         return None;
@@ -108,8 +118,7 @@ fn read_sides(line: &[u8]) -> Option<Sides>
 
 /// The focal number that a path's second line gives.
 fn read_focal(line: &[u8]) -> Option<u32>
-    ensures { MatchOption result ((focal : ℕ) → IsFocal focal → fields_of line.now ≢ focal_fields focal)
-        (λ focal. IsFocal focal × (fields_of line.now ≡ focal_fields focal)) }
+    ensures { MatchOption result ((focal : ℕ) → ¬ IsFocalLine line.now focal) (λ focal. IsFocalLine line.now focal) }
 {
     if !has_word(line, b"focal") {
         return None;
@@ -120,7 +129,21 @@ fn read_focal(line: &[u8]) -> Option<u32>
     natural_at(line, 1, MOST_FOCAL)
 }
 
-/// The camera that the line of a key gives.
+/// The camera whose numbers stand in a line from field `i` on.
+fn camera_at(line: &[u8], i: usize) -> Option<Camera>
+    requires { i ≤ 2 }
+    ensures { MatchOption result ((camera : Camera) → IsCamera camera → ¬ AreNumbersAt line.now i camera)
+        (λ camera. IsCamera camera × AreNumbersAt line.now i camera) }
+{
+    let u = integer_at(line, i, -2_147_483_648, 2_147_483_648)?;
+    let v = integer_at(line, i + 1, -2_147_483_648, 2_147_483_648)?;
+    let h = integer_at(line, i + 2, 1, 16_777_216)?;
+    let c = integer_at(line, i + 3, -16_384, 16_384)?;
+    let s = integer_at(line, i + 4, -16_384, 16_384)?;
+    Some(Camera { u, v, h, c, s })
+}
+
+/// The camera that a line of one picture gives.
 fn read_camera(line: &[u8]) -> Option<Camera>
     ensures { MatchOption result ((camera : Camera) → IsCamera camera → fields_of line.now ≢ camera_fields camera)
         (λ camera. IsCamera camera × (fields_of line.now ≡ camera_fields camera)) }
@@ -131,68 +154,181 @@ fn read_camera(line: &[u8]) -> Option<Camera>
     if !ends_before(line, 6) {
         return None;
     }
-    let u = integer_at(line, 1, -2_147_483_648, 2_147_483_648)?;
-    let v = integer_at(line, 2, -2_147_483_648, 2_147_483_648)?;
-    let h = integer_at(line, 3, 1, 16_777_216)?;
-    let c = integer_at(line, 4, -16_384, 16_384)?;
-    let s = integer_at(line, 5, -16_384, 16_384)?;
-    Some(Camera { u, v, h, c, s })
+    camera_at(line, 1)
 }
 
-/// What a text of just three lines says, where it is that of a path.
-fn read_one_key(text: &[u8]) -> Option<OneKey>
-    ensures { MatchOption result
-        ((width height focal : ℕ) (camera : Camera) → IsOneKeyText text.now width height focal camera → ⊥)
-        (λ r. IsOneKeyText text.now r.sides.width r.sides.height r.focal r.camera) }
+/// The key that a line of several pictures gives.
+fn read_steps(line: &[u8]) -> Option<LineKey>
+    ensures { MatchOption result ((pictures : ℕ) (camera : Camera) → IsKey (To pictures camera) → fields_of line.now ≢ way_fields pictures camera)
+        (λ key. IsKeyLine line.now (key_of key)) }
 {
-    let first = next_line(text, 0)?;
-    let second = next_line(text, first + 1)?;
-    let third = next_line(text, second + 1)?;
-    if third + 1 != text.len() {
+    if !has_word(line, b"to") {
         return None;
     }
-    let sides = read_sides(&text[0..first])?;
-    let focal = read_focal(&text[first + 1..second])?;
-    let camera = read_camera(&text[second + 1..third])?;
-    Some(OneKey {
-        sides,
-        focal,
-        camera,
-    })
+    if !ends_before(line, 7) {
+        return None;
+    }
+    let pictures = natural_at(line, 1, MOST_PICTURES)?;
+    let camera = camera_at(line, 2)?;
+    Some(LineKey::Steps(pictures, camera))
 }
 
-/// The list of one camera.
-fn one_camera(alloc: Global, camera: Camera) -> Result<Vec<Camera>, AllocError>
-    ensures { IfOk result (λ cameras. cameras.items ≡ camera ∷ []) }
+/// The key that a line gives.
+fn read_key(line: &[u8]) -> Option<LineKey>
+    ensures { MatchOption result ((key : Key) → ¬ IsKeyLine line.now key) (λ key. IsKeyLine line.now (key_of key)) }
 {
-    let mut cameras = Vec::with_capacity(alloc, 1)?;
-    cameras.push(camera)?;
+    match read_camera(line) {
+        Some(camera) => Some(LineKey::Single(camera)),
+        None => read_steps(line),
+    }
+}
+
+/// What the first two lines of a path say.
+fn read_head(text: &[u8]) -> Result<Head, PathError>
+    ensures { MatchResult result (λ h. IsHead text.now h.sides.width h.sides.height h.focal h.end) (λ e. IsPathFault text.now e) }
+{
+    let Some(first) = next_line(text, 0) else {
+        return Err(PathError::BadLine { line: 1 });
+    };
+    let Some(sides) = read_sides(&text[0..first]) else {
+        return Err(PathError::BadLine { line: 1 });
+    };
+    let Some(second) = next_line(text, first + 1) else {
+        return Err(PathError::BadLine { line: 2 });
+    };
+    let Some(focal) = read_focal(&text[first + 1..second]) else {
+        return Err(PathError::BadLine { line: 2 });
+    };
+    let end = second + 1;
+    Ok(Head { sides, focal, end })
+}
+
+/// Adds one picture, and answers its camera.
+fn add_single(cameras: &mut Vec<Camera>, camera: Camera) -> Result<Camera, PathError>
+    requires { length cameras.old.items ≤ 9999 }
+    ensures { MatchResult result
+        (λ c. (c ≡ camera) × (cameras.new.items ≡ cameras.old.items ++ camera ∷ []) × (count_fault (length cameras.old.items + 1) ≡ None))
+        (λ e. (e ≡ PathError.NoMemory) ⊎ (count_fault (length cameras.old.items + 1) ≡ Some e)) }
+{
+    if cameras.len() + 1 > MOST_PICTURES as usize {
+        return Err(PathError::TooManyPictures);
+    }
+    match cameras.push(camera) {
+        Ok(()) => Ok(camera),
+        Err(_) => Err(PathError::NoMemory),
+    }
+}
+
+/// Adds the pictures on the way from one camera to another, and answers the latter.
+fn add_steps(
+    cameras: &mut Vec<Camera>,
+    from: Camera,
+    to: Camera,
+    pictures: u32,
+) -> Result<Camera, PathError>
+    requires room { length cameras.old.items ≤ 9999 }
+    requires few { pictures ≤ 9999 }
+    requires from_limits { IsCamera from }
+    requires to_limits { IsCamera to }
+    ensures { MatchResult result
+        (λ c. (c ≡ to) × (cameras.new.items ≡ cameras.old.items ++ way from to pictures) × (count_fault (length cameras.old.items + pictures) ≡ None))
+        (λ e. (e ≡ PathError.NoMemory) ⊎ (count_fault (length cameras.old.items + pictures) ≡ Some e)) }
+{
+    if cameras.len() + pictures as usize > MOST_PICTURES as usize {
+        return Err(PathError::TooManyPictures);
+    }
+    match add_way(cameras, &from, &to, pictures) {
+        Ok(()) => Ok(to),
+        Err(_) => Err(PathError::NoMemory),
+    }
+}
+
+/// Adds the pictures of a line's key, where `last` is the camera of the key before it, and answers the key's camera.
+fn add_key(
+    cameras: &mut Vec<Camera>,
+    last: Option<Camera>,
+    line: &[u8],
+    number: u32,
+) -> Result<Camera, PathError>
+    requires room { length cameras.old.items ≤ 9999 }
+    requires last { IsLast last (length cameras.old.items) }
+    ensures { MatchResult result (λ c. AddsKey number line.now last cameras.old.items cameras.new.items c)
+        (λ e. (e ≡ PathError.NoMemory) ⊎ IsLineFault number (length cameras.old.items) line.now e) }
+{
+    match read_key(line) {
+        None => Err(PathError::BadLine { line: number }),
+        Some(LineKey::Single(camera)) => add_single(cameras, camera),
+        Some(LineKey::Steps(pictures, camera)) => match last {
+            None => Err(PathError::NoKey { line: number }),
+            Some(from) => add_steps(cameras, from, camera, pictures),
+        },
+    }
+}
+
+/// The cameras of the keys in the lines from `start` on, of which the first is the third of the text.
+fn read_keys(alloc: Global, text: &[u8], start: usize) -> Result<Vec<Camera>, PathError>
+    requires { start ≤ length text.now }
+    ensures { MatchResult result (λ cameras. GivesPictures (lines_of (drop start text.now)) cameras.items)
+        (λ e. (e ≡ PathError.NoMemory) ⊎ IsFaultFrom 3 0 (lines_of (drop start text.now)) e) }
+{
+    let mut cameras = Vec::new(alloc);
+    let mut last: Option<Camera> = None;
+    let mut number: u32 = 3;
+    let mut at = start;
+    while at < text.len() {
+        let Some(end) = next_line(text, at) else {
+            return Err(PathError::BadLine { line: number });
+        };
+        let camera = match add_key(&mut cameras, last, &text[at..end], number) {
+            Ok(camera) => camera,
+            Err(error) => return Err(error),
+        };
+        last = Some(camera);
+        at = end + 1;
+        number += 1;
+    }
     Ok(cameras)
 }
 
-/// Reads the text of a path, so far of one with a single key: the lines `size W H`, `focal f` and `at u v h c s`, each
-/// ended by a line feed, with one blank between fields and nothing after the third line. W and H are from 1 to 2048,
-/// f from 1 to 4096, and the camera's numbers within the limits of [`Camera`].
-///
-/// `Unbuilt` comes exactly for another text, and `NoMemory` where there is no memory for the camera.
-pub fn parse_path(alloc: Global, text: &[u8]) -> Result<Path, PathError>
-    ensures ok { IfOk result (λ path. IsOneKeyPath text.now path) }
-    ensures formed { (path : PathView) → IsOneKeyPath text.now path → (result ≡ Ok path) ⊎ (result ≡ Err PathError.NoMemory) }
-    ensures unbuilt { (result ≡ Err PathError.Unbuilt) ↔ ((path : PathView) → ¬ IsOneKeyPath text.now path) }
-    ensures refusals { IfErr result (λ e. (e ≡ PathError.NoMemory) ⊎ (e ≡ PathError.Unbuilt)) }
+/// The path of a text, or the refusal of its first faulty line.
+fn read_path(alloc: Global, text: &[u8]) -> Result<Path, PathError>
+    ensures { MatchResult result (λ path. IsPathText text.now path) (λ e. (e ≡ PathError.NoMemory) ⊎ IsPathFault text.now e) }
 {
-    let Some(read) = read_one_key(text) else {
-        return Err(PathError::Unbuilt);
-    };
-    let Ok(cameras) = one_camera(alloc, read.camera) else {
-        return Err(PathError::NoMemory);
-    };
-    Ok(Path::from_parts(read.sides.width, read.sides.height, read.focal, cameras))
+    let head = read_head(text)?;
+    let cameras = read_keys(alloc, text, head.end)?;
+    Ok(Path::from_parts(head.sides.width, head.sides.height, head.focal, cameras))
+}
+
+/// Reads the text of a path: the lines `size W H` and `focal f`, and then a line for each key, each ended by a line feed,
+/// with one blank between fields. W and H are from 1 to 2048, f from 1 to 4096. `at u v h c s` is a key of one picture;
+/// `to n u v h c s` is a key of n pictures, from 1 to 9999, on the way from the key before it, each number of their
+/// cameras rounded down. The cameras' numbers are within the limits of [`Camera`]. There may be no key.
+///
+/// The first faulty line is refused: with `BadLine` where it has no such form, is missing or ends without a line feed,
+/// else with `NoKey` where `to` has no key before it, else with `TooManyPictures` where its pictures and those before it
+/// are more than 9999. `NoMemory` comes where there is no memory for the cameras.
+pub fn parse_path(alloc: Global, text: &[u8]) -> Result<Path, PathError>
+    ensures ok { IfOk result (λ path. IsPathText text.now path) }
+    ensures refused { IfErr result (λ e. (e ≡ PathError.NoMemory) ⊎ IsPathFault text.now e) }
+    ensures formed { (path : PathView) → IsPathText text.now path → (result ≡ Ok path) ⊎ (result ≡ Err PathError.NoMemory) }
+    ensures faulty { (e : PathError) → IsPathFault text.now e → (result ≡ Err e) ⊎ (result ≡ Err PathError.NoMemory) }
+{
+    read_path(alloc, text)
 }
 
 /// One text is that of one path.
 pub fn path_is_unique()
     ensures { (text : List ℕ) (p q : PathView) → IsPathText text p → IsPathText text q → p ≡ q }
+{}
+
+/// One text has one fault: that of its first faulty line.
+pub fn path_fault_is_unique()
+    ensures { (text : List ℕ) (e f : PathError) → IsPathFault text e → IsPathFault text f → e ≡ f }
+{}
+
+/// The text of a path has no fault.
+pub fn path_has_no_fault()
+    ensures { (text : List ℕ) (path : PathView) (e : PathError) → IsPathText text path → ¬ IsPathFault text e }
 {}
 
 #[cfg(test)]

@@ -9,12 +9,16 @@ use Rattle.vt_outside.proofs.Risen.{NoFault-Rose}
 use Rattle.vt_ppm.specs.Image.{Picture}
 use Rattle.vt_camera.specs.Paths.{PathView}
 use Rattle.vt_ppm.specs.Format.{IsPlainImage}
-use Rattle.vt_camera.specs.PathText.{IsOneKeyPath}
+use Rattle.vt_camera.specs.PathFaults.{IsPathFault}
+use Rattle.vt_camera.specs.declared.parse.PathError.{PathError}
+use Rattle.vt_camera.proofs.PathFaultLemmas.{no_path_fault}
 use Rattle.vtex.specs.Words.{PlainText, plain_text}
-use Rattle.vtex.specs.Refusals.{HoldsPath, HoldsNoPath, HoldsTexture, HoldsNoTexture, Reads, IsDone, IsLeft, IsMissing}
-use Rattle.vtex.specs.Runs.{Course, IsEnding, IsUntouched, IsPlain, EndsDone, IsBadName}
-use Rattle.vtex.specs.Endings.{status_of, line_of}
+use Rattle.vtex.specs.Refusals.{HoldsPath, HoldsFaultyPath, HoldsTexture, HoldsNoTexture, Reads, IsDone, IsLeft, IsMissing}
+use Rattle.vtex.specs.Runs.{Course, IsEnding, IsUntouched, IsPlain, HasFlaw}
+use Rattle.vtex.specs.Endings.{status_of, line_of, place_of}
 use Rattle.vtex.specs.Lines.{bad_input_line}
+use Rattle.vtex.specs.declared.ending.Flaw.{Flaw}
+use Rattle.vtex.specs.declared.ending.Flaw.TheVariants as flaws
 use Rattle.vtex.specs.declared.ending.Ending.{Ending}
 use Rattle.vtex.specs.declared.ending.Ending.TheVariants.{Done, OutOfMemory, Usage, Fault, BadInput}
 
@@ -25,21 +29,21 @@ same_words c p q a b = cc
 none_plain : (c : Course) (p : PlainText) → IsPlain c p → IsNone (plain_text c.words) → ⊥
 none_plain c p is none = false≢true (sym none ∙ ap is_some is)
 
-pub bad_name_of : (e : Ending) (c : Course) → IsEnding e c → status_of e ≡ 4
-    → (p : PlainText) × (name : List ℕ) × (plain_text c.words ≡ Some p) × IsBadName p c.before name × (line_of e ≡ bad_input_line name (codes "form not built"))
-bad_name_of Done c h s = absurd (omega arith)
-bad_name_of OutOfMemory c h s = absurd (omega arith)
-bad_name_of Usage c h s = absurd (omega arith)
-bad_name_of Fault c h s = absurd (omega arith)
-bad_name_of (BadInput name) c h s = (h.0, name.now, h.1, ⊎_elim (λ refused. inl (refused.name_is, refused.none)) (λ refused. inr (refused.name_is, refused.none)) h.3, refl)
+pub bad_input_of : (e : Ending) (c : Course) → IsEnding e c → status_of e ≡ 4
+    → (p : PlainText) × (name : List ℕ) × (flaw : Flaw) × (plain_text c.words ≡ Some p) × HasFlaw p c.before name flaw × (line_of e ≡ bad_input_line name (place_of flaw))
+bad_input_of Done c h s = absurd (omega arith)
+bad_input_of OutOfMemory c h s = absurd (omega arith)
+bad_input_of Usage c h s = absurd (omega arith)
+bad_input_of Fault c h s = absurd (omega arith)
+bad_input_of (BadInput name flaw) c h s = (h.0, name.now, flaw, h.1, h.3, refl)
 
 -- two readings of one name
 same_text : (files : Option Files) (name s t : List ℕ) → bytes_at files name ≡ Some s → bytes_at files name ≡ Some t → s ≡ t
 same_text files name s t a b = cc
 
-path_held : (files : Option Files) (name : List ℕ) (path : PathView) → HoldsPath files name path → HoldsNoPath files name → ⊥
-path_held files name path held none =
-    none.none path (subst (λ (text : List ℕ). IsOneKeyPath text path) (same_text files name held.text none.text held.there none.there) held.spelled)
+path_held : (files : Option Files) (name : List ℕ) (path : PathView) (e : PathError) → HoldsPath files name path → HoldsFaultyPath files name e → ⊥
+path_held files name path e held faulty =
+    no_path_fault held.text path e held.spelled (subst (λ (text : List ℕ). IsPathFault text e) (sym (same_text files name held.text faulty.text held.there faulty.there)) faulty.fault)
 
 texture_held : (files : Option Files) (name : List ℕ) (texture : Picture) → HoldsTexture files name texture → HoldsNoTexture files name → ⊥
 texture_held files name texture held none =
@@ -55,6 +59,10 @@ tells : (files : Option Files) (words : PlainText) (texture : Picture) (path : P
 tells None words texture path reads = absurd (let e = reads.is_path.there in cc)
 tells (Some files) words texture path reads = refl
 
+has_no_flaw : (words : PlainText) (files : Option Files) (name : List ℕ) (flaw : Flaw) (texture : Picture) (path : PathView) → Reads files words texture path → IsSome files → HasFlaw words files name flaw → ⊥
+has_no_flaw words files name (flaws.Path e) texture path reads told flaw = path_held files words.path path e reads.is_path (flaw.1 told)
+has_no_flaw words files name flaws.Texture texture path reads told flaw = texture_held files words.texture texture reads.is_texture (flaw.1 told).1
+
 pub complete_of : (e : Ending) (c : Course) → IsEnding e c → NoFault c.folder_faults c.folder_faults_after → NoFault c.out_faults c.out_faults_after
     → (p : PlainText) → plain_text c.words ≡ Some p → (texture : Picture) (path : PathView) → Reads c.before p texture path → (status_of e ≡ 0) ⊎ (status_of e ≡ 1)
 complete_of Done c h no_fault no_out p is texture path reads = inl refl
@@ -64,9 +72,6 @@ complete_of Fault c h no_fault no_out p is texture path reads = absurd (⊎_elim
     (λ rose. NoFault-Rose c.folder_faults c.folder_faults_after no_fault rose)
     (λ later. ⊎_elim (λ rose. NoFault-Rose c.out_faults c.out_faults_after no_out rose)
     (λ missing. not_missing p c.before texture path reads (subst (λ (q : PlainText). IsMissing q c.before) (same_words c h.0 p h.1 is) missing)) later) h.3)
-complete_of (BadInput name) c h no_fault no_out p is texture path reads =
+complete_of (BadInput name flaw) c h no_fault no_out p is texture path reads =
     let told = tells c.before p texture path reads in
-    let same = same_words c h.0 p h.1 is in
-    absurd (⊎_elim
-    (λ refused. path_held c.before p.path path reads.is_path (subst (λ (q : PlainText). HoldsNoPath c.before q.path) same (refused.none told)))
-    (λ refused. texture_held c.before p.texture texture reads.is_texture (subst (λ (q : PlainText). HoldsNoTexture c.before q.texture) same (refused.none told))) h.3)
+    absurd (has_no_flaw p c.before name.now flaw texture path reads told (subst (λ (q : PlainText). HasFlaw q c.before name.now flaw) (same_words c h.0 p h.1 is) h.3))

@@ -1,8 +1,19 @@
 -- How commands end.
-use Rattle.std.specs.Prelude.{ℕ, List, [], codes}
+use Rattle.std.specs.Prelude.{ℕ, List, [], ◌++◌, codes, decimal}
+use Rattle.vt_camera.specs.declared.parse.PathError.TheVariants as path
 use Rattle.vtex.specs.Lines.{memory_line, usage_line, fault_line, bad_input_line}
+use Rattle.vtex.specs.declared.ending.Flaw.{Flaw}
+use Rattle.vtex.specs.declared.ending.Flaw.TheVariants as flaws
 use Rattle.vtex.specs.declared.ending.Ending.{Ending}
 use Rattle.vtex.specs.declared.ending.Ending.TheVariants.{Done, OutOfMemory, Usage, Fault, BadInput}
+
+-- the place of an input's flaw as it is printed: what is wrong, and the number of the line (this project's profile)
+abbrev pub place_of : Flaw → List ℕ
+place_of (flaws.Path (path.BadLine line)) = codes "bad line " ++ decimal line
+place_of (flaws.Path (path.NoKey line)) = codes "no key at line " ++ decimal line
+place_of (flaws.Path path.TooManyPictures) = codes "too many pictures"
+place_of (flaws.Path path.NoMemory) = []
+place_of flaws.Texture = codes "form not built"
 
 -- the status of an ending (this project's profile)
 abbrev pub status_of : Ending → ℕ
@@ -10,7 +21,7 @@ status_of Done = 0
 status_of OutOfMemory = 1
 status_of Usage = 2
 status_of Fault = 3
-status_of (BadInput name) = 4
+status_of (BadInput name flaw) = 4
 
 -- the line of an ending on the error output (this project's profile)
 abbrev pub line_of : Ending → List ℕ
@@ -18,4 +29,4 @@ line_of Done = []
 line_of OutOfMemory = memory_line
 line_of Usage = usage_line
 line_of Fault = fault_line
-line_of (BadInput name) = bad_input_line name.now (codes "form not built")
+line_of (BadInput name flaw) = bad_input_line name.now (place_of flaw)

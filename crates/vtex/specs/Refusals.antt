@@ -5,7 +5,9 @@ use Rattle.vt_outside.specs.Files.{Files, with_bytes, bytes_at, gained}
 use Rattle.vt_ppm.specs.Image.{Picture}
 use Rattle.vt_ppm.specs.Format.{IsPlainImage}
 use Rattle.vt_camera.specs.Paths.{PathView}
-use Rattle.vt_camera.specs.PathText.{IsOneKeyPath}
+use Rattle.vt_camera.specs.PathText.{IsPathText}
+use Rattle.vt_camera.specs.PathFaults.{IsPathFault}
+use Rattle.vt_camera.specs.declared.parse.PathError.{PathError}
 use Rattle.vtex.specs.Words.{PlainText}
 use Rattle.vtex.specs.Names.{picture_name}
 use Rattle.vtex.specs.Lines.{end_line}
@@ -19,13 +21,13 @@ IsThere files name = OnSome files (IsSome (bytes_at files name))
 pub record HoldsPath (files : Option Files) (name : List ℕ) (path : PathView) : Type 0 where
   pub text : List ℕ
   pub there : bytes_at files name ≡ Some text
-  pub spelled : IsOneKeyPath text path
+  pub spelled : IsPathText text path
 
--- the name holds bytes that are the text of no path
-pub record HoldsNoPath (files : Option Files) (name : List ℕ) : Type 0 where
+-- the name holds bytes whose first faulty line is refused in this way
+pub record HoldsFaultyPath (files : Option Files) (name : List ℕ) (e : PathError) : Type 0 where
   pub text : List ℕ
   pub there : bytes_at files name ≡ Some text
-  pub none : (path : PathView) → IsOneKeyPath text path → ⊥
+  pub fault : IsPathFault text e
 
 -- the name holds the bytes of this texture
 pub record HoldsTexture (files : Option Files) (name : List ℕ) (texture : Picture) : Type 0 where

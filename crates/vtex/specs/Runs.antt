@@ -4,7 +4,10 @@ use Rattle.vt_outside.specs.Counts.{Rose}
 use Rattle.vt_outside.specs.Files.{Files}
 use Rattle.vt_camera.specs.Paths.{PathView}
 use Rattle.vtex.specs.Words.{PlainText, plain_text}
-use Rattle.vtex.specs.Refusals.{HoldsPath, HoldsNoPath, HoldsNoTexture, IsDone, IsLeft, IsMissing}
+use Rattle.vt_camera.specs.declared.parse.PathError.{PathError}
+use Rattle.vtex.specs.Refusals.{HoldsPath, HoldsFaultyPath, HoldsNoTexture, IsDone, IsLeft, IsMissing}
+use Rattle.vtex.specs.declared.ending.Flaw.{Flaw}
+use Rattle.vtex.specs.declared.ending.Flaw.TheVariants as flaws
 use Rattle.vtex.specs.declared.ending.Ending.{Ending}
 use Rattle.vtex.specs.declared.ending.Ending.TheVariants.{Done, OutOfMemory, Usage, Fault, BadInput}
 
@@ -29,20 +32,11 @@ pub record IsUntouched (c : Course) : Type 0 where
 abbrev pub IsPlain : Course → PlainText → Type 0
 IsPlain c words = plain_text c.words ≡ Some words
 
--- the path's name holds the text of no path
-pub record IsPathRefused (c : Course) (words : PlainText) (name : List ℕ) : Type 0 where
-  pub name_is : name ≡ words.path
-  pub none : IsSome c.before → HoldsNoPath c.before words.path
-
--- the path was read, and the texture's name holds the bytes of no texture
-pub record IsTextureRefused (c : Course) (words : PlainText) (name : List ℕ) : Type 0 where
-  pub name_is : name ≡ words.texture
-  pub path_first : IsSome c.before → (path : PathView) × HoldsPath c.before words.path path
-  pub none : IsSome c.before → HoldsNoTexture c.before words.texture
-
--- an input of this name was refused, the path before the texture
-abbrev pub IsRefused : Course → PlainText → List ℕ → Type 0
-IsRefused c words name = IsPathRefused c words name ⊎ IsTextureRefused c words name
+-- the flaw of the input of this name: that of the path's first faulty line, or else that the texture's bytes are those of no texture
+abbrev pub HasFlaw : PlainText → Option Files → List ℕ → Flaw → Type 0
+HasFlaw words files name (flaws.Path e) = (name ≡ words.path) × (IsSome files → HoldsFaultyPath files words.path e)
+HasFlaw words files name flaws.Texture =
+    (name ≡ words.texture) × (IsSome files → ((path : PathView) × HoldsPath files words.path path) × HoldsNoTexture files words.texture)
 
 -- a fault of the folder or the output, or a name that is told to be missing
 abbrev pub HasFault : Course → PlainText → Type 0
@@ -62,10 +56,4 @@ IsEnding Done c = EndsDone c
 IsEnding OutOfMemory c = EndsLeft c (λ words. Unit {0})
 IsEnding Usage c = IsNone (plain_text c.words) × IsUntouched c
 IsEnding Fault c = EndsLeft c (HasFault c)
-IsEnding (BadInput name) c = (words : PlainText) × IsPlain c words × IsUntouched c × IsRefused c words name.now
-
--- the name of the input that is refused: the path's where it is no path, else the texture's where it is no texture
-abbrev pub IsBadName : PlainText → Option Files → List ℕ → Type 0
-IsBadName words files name =
-    ((name ≡ words.path) × (IsSome files → HoldsNoPath files words.path))
-    ⊎ ((name ≡ words.texture) × (IsSome files → HoldsNoTexture files words.texture))
+IsEnding (BadInput name flaw) c = (words : PlainText) × IsPlain c words × IsUntouched c × HasFlaw words c.before name.now flaw

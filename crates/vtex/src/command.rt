@@ -3,7 +3,7 @@
 ghost use Rattle.vtex.specs.Words.{texts};
 ghost use Rattle.vtex.specs.Runs.{IsEnding};
 
-use crate::ending::Ending;
+use crate::ending::{Ending, Flaw};
 use crate::plain::plain;
 use crate::refusal::Refusal;
 use crate::words::plain_words;
@@ -36,7 +36,7 @@ pub fn do_command<'a, D: Folder, O: Sink>(
         Ok(()) => Ending::Done,
         Err(Refusal::NoMemory) => Ending::OutOfMemory,
         Err(Refusal::Fault) => Ending::Fault,
-        Err(Refusal::Path) => Ending::BadInput(words.path),
-        Err(Refusal::Texture) => Ending::BadInput(words.texture),
+        Err(Refusal::Path(error)) => Ending::BadInput(words.path, Flaw::Path(error)),
+        Err(Refusal::Texture) => Ending::BadInput(words.texture, Flaw::Texture),
     }
 }

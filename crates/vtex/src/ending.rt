@@ -1,11 +1,23 @@
 //! How a command ends: its status, and its line on the error output.
 
-ghost use Rattle.std.specs.Prelude.{◌≡◌};
-ghost use Rattle.vtex.specs.Endings.{status_of, line_of};
+ghost use Rattle.std.specs.Prelude.{◌≡◌, ◌++◌};
+ghost use Rattle.vtex.specs.Endings.{status_of, line_of, place_of};
+ghost use Rattle.vtex.specs.Lines.{bad_input_line, line_number};
 ghost use Rattle.vtex.specs.Told.{Tells};
 
 use crate::lines::tell_pieces;
+use itoa::Buffer;
+use vt_camera::PathError;
 use vt_outside::Sink;
+
+/// What is wrong with an input.
+#[derive(Clone, Copy)]
+pub enum Flaw {
+    /// The path's first faulty line.
+    Path(PathError),
+    /// The texture has not the form that is read so far.
+    Texture,
+}
 
 /// How a command ended.
 #[derive(Clone, Copy)]
@@ -18,8 +30,8 @@ pub enum Ending<'a> {
     Usage,
     /// A call on the folder or the output failed, or a name is missing.
     Fault,
-    /// The file of this name is outside its format.
-    BadInput(&'a str),
+    /// The file of this name is outside its format, and how.
+    BadInput(&'a str, Flaw),
 }
 
 impl Ending<'_> {
@@ -32,7 +44,7 @@ impl Ending<'_> {
             Ending::OutOfMemory => 1,
             Ending::Usage => 2,
             Ending::Fault => 3,
-            Ending::BadInput(_) => 4,
+            Ending::BadInput(_, _) => 4,
         }
     }
 
@@ -50,14 +62,44 @@ impl Ending<'_> {
                 ],
             ),
             Ending::Fault => tell_pieces(err, &[b"vtex: fault on files or output\n".as_slice()]),
-            Ending::BadInput(name) => tell_pieces(
-                err,
-                &[
-                    b"vtex: bad input: ".as_slice(),
-                    name.as_bytes(),
-                    b": form not built\n".as_slice(),
-                ],
-            ),
+            Ending::BadInput(name, flaw) => tell_flaw(err, name, *flaw),
         }
     }
+}
+
+// Puts the line of an input that is refused: its name and the place of its flaw.
+fn tell_flaw<E: Sink>(err: &mut E, name: &str, flaw: Flaw)
+    ensures { Tells (bad_input_line name.now (place_of flaw)) (E.held err.old) (E.held err.new) (E.faults err.old) (E.faults err.new) (E.refusals err.old) (E.refusals err.new) }
+{
+    match flaw {
+        Flaw::Path(PathError::BadLine { line }) => tell_place(err, name, b"bad line ", Some(line)),
+        Flaw::Path(PathError::NoKey { line }) => {
+            tell_place(err, name, b"no key at line ", Some(line))
+        }
+        Flaw::Path(PathError::TooManyPictures) => tell_place(err, name, b"too many pictures", None),
+        Flaw::Path(PathError::NoMemory) => tell_place(err, name, b"", None),
+        Flaw::Texture => tell_place(err, name, b"form not built", None),
+    }
+}
+
+// Puts the line of an input that is refused: its name, some words, and the number of a line where there is one.
+fn tell_place<E: Sink>(err: &mut E, name: &str, words: &[u8], line: Option<u32>)
+    ensures { Tells (bad_input_line name.now (words.now ++ line_number line)) (E.held err.old) (E.held err.new) (E.faults err.old) (E.faults err.new) (E.refusals err.old) (E.refusals err.new) }
+{
+    let mut digits = Buffer::new();
+    let number = match line {
+        Some(line) => digits.format(line),
+        None => "",
+    };
+    tell_pieces(
+        err,
+        &[
+            b"vtex: bad input: ".as_slice(),
+            name.as_bytes(),
+            b": ".as_slice(),
+            words,
+            number.as_bytes(),
+            b"\n".as_slice(),
+        ],
+    );
 }

@@ -2,13 +2,14 @@
 
 ghost use Rattle.std.specs.Prelude.{◌≡◌, ◌≢◌, ◌≤◌, IfOk, IfSome, IsSome, IsErrOf, Err};
 ghost use Rattle.vt_outside.specs.Counts.{Rose};
-ghost use Rattle.vt_camera.specs.Paths.{PathView};
-ghost use Rattle.vt_camera.specs.PathText.{IsOneKeyPath};
-ghost use Rattle.vtex.specs.Refusals.{IsThere, HoldsPath, HoldsNoPath, HoldsTexture, HoldsNoTexture};
+ghost use Rattle.vt_camera.specs.declared.parse.PathError.{PathError};
+ghost use Rattle.vt_camera.specs.PathText.{IsPathText};
+ghost use Rattle.vt_camera.specs.PathFaults.{IsPathFault};
+ghost use Rattle.vtex.specs.Refusals.{IsThere, HoldsPath, HoldsFaultyPath, HoldsTexture, HoldsNoTexture};
 
 use crate::refusal::Refusal;
 use std::alloc::Global;
-use vt_camera::{Path, PathError, parse_path};
+use vt_camera::{Path, parse_path};
 use vt_outside::{File, Folder, OutsideError};
 use vt_ppm::{Image, PpmError, read_image};
 
@@ -28,7 +29,7 @@ pub fn read_whole<F: File>(alloc: Global, file: &mut F) -> Result<Vec<u8>, Outsi
 /// Reads the path of a name, and closes its file.
 pub fn read_path<D: Folder>(alloc: Global, folder: &mut D, name: &str) -> Result<Path, Refusal>
     ensures path { IfOk result (λ path. IsSome (D.files folder.old) → HoldsPath (D.files folder.old) name.now path) }
-    ensures no_path { IsErrOf result Refusal.Path → IsSome (D.files folder.old) → HoldsNoPath (D.files folder.old) name.now }
+    ensures flawed { (e : PathError) → result ≡ Err (Refusal.Path e) → IsSome (D.files folder.old) → HoldsFaultyPath (D.files folder.old) name.now e }
     ensures fault { IsErrOf result Refusal.Fault → IsThere (D.files folder.old) name.now → Rose (D.faults folder.old) (D.faults folder.new) }
     ensures not_texture { result ≢ Err Refusal.Texture }
     ensures files { D.files folder.new ≡ D.files folder.old }
@@ -48,16 +49,14 @@ pub fn read_path<D: Folder>(alloc: Global, folder: &mut D, name: &str) -> Result
 
 // The path that a text spells.
 fn path_of(alloc: Global, text: &[u8]) -> Result<Path, Refusal>
-    ensures path { IfOk result (λ path. IsOneKeyPath text.now path) }
-    ensures no_path { IsErrOf result Refusal.Path → (path : PathView) → IsOneKeyPath text.now path → ⊥ }
+    ensures path { IfOk result (λ path. IsPathText text.now path) }
+    ensures flawed { (e : PathError) → result ≡ Err (Refusal.Path e) → IsPathFault text.now e }
     ensures no_fault { result ≢ Err Refusal.Fault }
     ensures not_texture { result ≢ Err Refusal.Texture }
 {
     match parse_path(alloc, text) {
         Ok(path) => Ok(path),
-        Err(PathError::Unbuilt) => Err(Refusal::Path),
-        // The one other refusal that the reader has is want of memory.
-        Err(_) => Err(Refusal::NoMemory),
+        Err(error) => Err(Refusal::from(error)),
     }
 }
 
@@ -66,7 +65,7 @@ pub fn read_texture<D: Folder>(alloc: Global, folder: &mut D, name: &str) -> Res
     ensures texture { IfOk result (λ texture. IsSome (D.files folder.old) → HoldsTexture (D.files folder.old) name.now texture) }
     ensures no_texture { IsErrOf result Refusal.Texture → IsSome (D.files folder.old) → HoldsNoTexture (D.files folder.old) name.now }
     ensures fault { IsErrOf result Refusal.Fault → IsThere (D.files folder.old) name.now → Rose (D.faults folder.old) (D.faults folder.new) }
-    ensures not_path { result ≢ Err Refusal.Path }
+    ensures not_path { (e : PathError) → result ≢ Err (Refusal.Path e) }
     ensures files { D.files folder.new ≡ D.files folder.old }
     ensures faults { D.faults folder.old ≤ D.faults folder.new }
 {

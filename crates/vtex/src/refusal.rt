@@ -2,9 +2,10 @@
 
 ghost use Rattle.std.specs.Prelude.{◌≡◌};
 ghost use Rattle.vtex.specs.declared.refusal.Refusal.TheVariants as refusal;
-ghost use Rattle.vtex.specs.Causes.{cause_of};
+ghost use Rattle.vtex.specs.Causes.{cause_of, path_refusal};
 
 use std::alloc::AllocError;
+use vt_camera::PathError;
 use vt_outside::{NoMemory, OutsideError};
 
 /// Why a command was refused after its words were read.
@@ -14,8 +15,8 @@ pub enum Refusal {
     NoMemory,
     /// A call on the folder or the output failed.
     Fault,
-    /// The path is outside its format.
-    Path,
+    /// The path is outside its format, and how.
+    Path(PathError),
     /// The texture is outside its format.
     Texture,
 }
@@ -33,6 +34,17 @@ impl From<AllocError> for Refusal {
 
     fn from(_: AllocError) -> Refusal {
         Refusal::NoMemory
+    }
+}
+
+impl From<PathError> for Refusal {
+    ghost from_gives = { λ e r. r ≡ path_refusal e };
+
+    fn from(error: PathError) -> Refusal {
+        match error {
+            PathError::NoMemory => Refusal::NoMemory,
+            _ => Refusal::Path(error),
+        }
     }
 }
 

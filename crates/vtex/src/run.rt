@@ -1,14 +1,16 @@
 //! The top call.
 
-ghost use Rattle.std.specs.Prelude.{◌≡◌, ◌≢◌, ◌≤◌, ◌⊎◌, ◌↔◌, IsNone, IsSome, Some, List, ℕ, codes};
+ghost use Rattle.std.specs.Prelude.{◌≡◌, ◌≢◌, ◌≤◌, ◌⊎◌, ◌↔◌, IsNone, IsSome, Some, List, ℕ};
 ghost use Rattle.vt_outside.specs.Counts.{Rose, NoFault};
 ghost use Rattle.vt_ppm.specs.Image.{Picture};
 ghost use Rattle.vt_camera.specs.Paths.{PathView};
 ghost use Rattle.vtex.specs.Words.{PlainText, plain_text, texts};
 ghost use Rattle.vtex.specs.Lines.{memory_line, usage_line, fault_line, bad_input_line};
 ghost use Rattle.vtex.specs.Told.{Tells};
-ghost use Rattle.vtex.specs.Refusals.{HoldsPath, HoldsNoPath, HoldsNoTexture, Reads, IsDone, IsLeft, IsMissing};
-ghost use Rattle.vtex.specs.Runs.{IsBadName};
+ghost use Rattle.vtex.specs.Refusals.{Reads, IsDone, IsLeft, IsMissing};
+ghost use Rattle.vtex.specs.Runs.{HasFlaw};
+ghost use Rattle.vtex.specs.Endings.{place_of};
+ghost use Rattle.vtex.specs.declared.ending.Flaw.{Flaw};
 
 use crate::command::do_command;
 use std::alloc::Global;
@@ -47,10 +49,6 @@ pub fn run<Rt: Threads + Wait + Sync, D: Folder, O: Sink, E: Sink, G: Gate + Syn
     ensures fault { result ≡ 3 → Rose (D.faults folder.old) (D.faults folder.new)
         ⊎ (Rose (O.faults out.old) (O.faults out.new)
         ⊎ ((p : PlainText) × (plain_text (texts words.now) ≡ Some p) × IsMissing p (D.files folder.old))) }
-    ensures bad_input { result ≡ 4 → IsSome (D.files folder.old) → (p : PlainText) × (plain_text (texts words.now) ≡ Some p)
-        × (HoldsNoPath (D.files folder.old) p.path
-        ⊎ (((path : PathView) × HoldsPath (D.files folder.old) p.path path) × HoldsNoTexture (D.files folder.old) p.texture)) }
-
     // Where the words are lawful, the inputs accepted and there was no fault, only memory can be wanting.
     ensures complete { NoFault (D.faults folder.old) (D.faults folder.new) → NoFault (O.faults out.old) (O.faults out.new)
         → (p : PlainText) → plain_text (texts words.now) ≡ Some p → (texture : Picture) (path : PathView) → Reads (D.files folder.old) p texture path
@@ -61,8 +59,8 @@ pub fn run<Rt: Threads + Wait + Sync, D: Folder, O: Sink, E: Sink, G: Gate + Syn
     ensures memory_told { result ≡ 1 → Tells memory_line (E.held err.old) (E.held err.new) (E.faults err.old) (E.faults err.new) (E.refusals err.old) (E.refusals err.new) }
     ensures usage_told { result ≡ 2 → Tells usage_line (E.held err.old) (E.held err.new) (E.faults err.old) (E.faults err.new) (E.refusals err.old) (E.refusals err.new) }
     ensures fault_told { result ≡ 3 → Tells fault_line (E.held err.old) (E.held err.new) (E.faults err.old) (E.faults err.new) (E.refusals err.old) (E.refusals err.new) }
-    ensures bad_input_told { result ≡ 4 → (p : PlainText) × (name : List ℕ) × (plain_text (texts words.now) ≡ Some p) × IsBadName p (D.files folder.old) name
-        × Tells (bad_input_line name (codes "form not built")) (E.held err.old) (E.held err.new) (E.faults err.old) (E.faults err.new) (E.refusals err.old) (E.refusals err.new) }
+    ensures bad_input { result ≡ 4 → (p : PlainText) × (name : List ℕ) × (flaw : Flaw) × (plain_text (texts words.now) ≡ Some p) × HasFlaw p (D.files folder.old) name flaw
+        × Tells (bad_input_line name (place_of flaw)) (E.held err.old) (E.held err.new) (E.faults err.old) (E.faults err.new) (E.refusals err.old) (E.refusals err.new) }
 {
     let ending = do_command(alloc, words, folder, out);
     ending.tell(err);

@@ -187,15 +187,51 @@ fn level_choice(rt: HostRuntime) {
 fn bad_inputs(rt: HostRuntime) {
     let alloc = rt.alloc();
     let texture = b"vtex: bad input: g4.ppm: form not built\n";
-    let path = b"vtex: bad input: a.path: form not built\n";
+    
     assert!(rt; refuses(&rt, alloc, b"P6\n1 1\n100\n\x00\x00\x00", PATH, texture));
     assert!(rt; refuses(&rt, alloc, &G4[..G4.len() - 1], PATH, texture));
     assert!(rt; refuses(&rt, alloc, b"", PATH, texture));
-    assert!(rt; refuses(&rt, alloc, G4, b"size 2 1\nfocal 1\n", path));
-    let four_lines = b"size 2 1\nfocal 1\nat 0 0 256 16384 0\nat 0 0 256 16384 0\n";
-    assert!(rt; refuses(&rt, alloc, G4, four_lines, path));
     // The path is read first.
-    assert!(rt; refuses(&rt, alloc, b"", b"", path));
+    assert!(rt; refuses(&rt, alloc, b"", b"", b"vtex: bad input: a.path: bad line 1\n"));
+}
+
+#[test]
+fn bad_paths(rt: HostRuntime) {
+    let alloc = rt.alloc();
+    let bad_line: &[u8] = b"vtex: bad input: a.path: bad line 2\n";
+    assert!(rt; refuses(&rt, alloc, G4, b"size 2 1\nsize 2 1\n", bad_line));
+    assert!(rt; refuses(&rt, alloc, G4, b"size 2 1\nfocal 1", bad_line));
+    let no_key: &[u8] = b"vtex: bad input: a.path: no key at line 3\n";
+    assert!(rt; refuses(&rt, alloc, G4, b"size 2 1\nfocal 1\nto 1 0 0 1 0 0\n", no_key));
+    let many: &[u8] = b"size 2 1\nfocal 1\nat 0 0 1 0 0\nto 9999 0 0 1 0 0\n";
+    assert!(rt; refuses(&rt, alloc, G4, many, b"vtex: bad input: a.path: too many pictures\n"));
+}
+
+#[test]
+fn pictures_on_the_way(rt: HostRuntime) {
+    // The places 0, -4, -7 and -10: from the second on the pixels show the column before.
+    let path = b"size 2 1\nfocal 1\nat 0 0 256 16384 0\nto 3 -10 0 256 16384 0\n";
+    let moved: &[u8] = b"P6\n2 1\n255\n\x0c\x0c\x0c\x00\x00\x00";
+    match play(&rt, rt.alloc(), &WORDS, G4, path, None, None) {
+        Ok(left) => {
+            assert_eq!(rt; left.status, 0);
+            assert!(rt; left.holds("f0000.ppm", PICTURE) && left.holds("f0001.ppm", moved));
+            assert!(rt; left.holds("f0002.ppm", moved) && left.holds("f0003.ppm", moved));
+            assert!(rt; !left.has("f0004.ppm") && left.printed(b"end pictures 4\n", b""));
+        }
+        Err(_) => assert!(rt; false, "there is memory"),
+    }
+}
+
+#[test]
+fn no_pictures(rt: HostRuntime) {
+    match play(&rt, rt.alloc(), &WORDS, G4, b"size 2 1\nfocal 1\n", None, None) {
+        Ok(left) => {
+            assert_eq!(rt; left.status, 0);
+            assert!(rt; !left.has("f0000.ppm") && left.printed(b"end pictures 0\n", b""));
+        }
+        Err(_) => assert!(rt; false, "there is memory"),
+    }
 }
 
 #[test]
@@ -255,7 +291,7 @@ fn one_name_twice(rt: HostRuntime) {
     match play(&rt, rt.alloc(), &words, G4, PATH, None, None) {
         Ok(left) => {
             assert_eq!(rt; left.status, 4);
-            assert!(rt; left.printed(b"", b"vtex: bad input: g4.ppm: form not built\n"));
+            assert!(rt; left.printed(b"", b"vtex: bad input: g4.ppm: bad line 1\n"));
         }
         Err(_) => assert!(rt; false, "there is memory"),
     }

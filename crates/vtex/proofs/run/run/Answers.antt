@@ -3,7 +3,7 @@ use Rattle.std.specs.Prelude.{codes}
 use Rattle.vtex.specs.Words.{texts}
 use Rattle.vtex.specs.Runs.{Course}
 use Rattle.vtex.specs.Told.{Tells}
-use Rattle.vtex.proofs.Ended.{complete_of, bad_name_of}
+use Rattle.vtex.proofs.Ended.{complete_of, bad_input_of}
 use Rattle.vtex.proofs.run.run.Goals as goal
 
 pub returns-clause-complete : goal.returns-clause-complete
@@ -21,8 +21,8 @@ returns-clause-complete g c = λ no_fault no_out p is texture path reads.
     } in
     rw c.status.ensures (complete_of c.do_command-ending.result course c.do_command-ending.ensures no_fault no_out p is texture path reads)
 
-pub returns-clause-bad_input_told : goal.returns-clause-bad_input_told
-returns-clause-bad_input_told g c = λ status.
+pub returns-clause-bad_input : goal.returns-clause-bad_input
+returns-clause-bad_input g c = λ status.
     let course : Course = record {
       words = texts c.args.words.now;
       before = g.D.Folder.files c.args.folder.now;
@@ -34,5 +34,5 @@ returns-clause-bad_input_told g c = λ status.
       out_faults = g.O.Sink.faults c.args.out.now;
       out_faults_after = g.O.Sink.faults c.do_command-ending.new.out;
     } in
-    let named = bad_name_of c.do_command-ending.result course c.do_command-ending.ensures (rw c.status.ensures at status) in
-    (named.0, named.1, named.2, named.3, subst (λ (line : List ℕ). Tells line (g.E.Sink.held c.args.err.now) (g.E.Sink.held c.tell.new.err) (g.E.Sink.faults c.args.err.now) (g.E.Sink.faults c.tell.new.err) (g.E.Sink.refusals c.args.err.now) (g.E.Sink.refusals c.tell.new.err)) named.4 c.tell.ensures)
+    let named = bad_input_of c.do_command-ending.result course c.do_command-ending.ensures (rw c.status.ensures at status) in
+    (named.0, named.1, named.2, named.3, named.4, subst (λ (line : List ℕ). Tells line (g.E.Sink.held c.args.err.now) (g.E.Sink.held c.tell.new.err) (g.E.Sink.faults c.args.err.now) (g.E.Sink.faults c.tell.new.err) (g.E.Sink.refusals c.args.err.now) (g.E.Sink.refusals c.tell.new.err)) named.5 c.tell.ensures)
