@@ -10,7 +10,6 @@ ghost use Rattle.vtex.specs.Plain.{plain_file};
 ghost use Rattle.vtex.specs.PlainWords.{shown};
 ghost use Rattle.vtex.specs.Refusals.{HoldsPath, HoldsNoPath, HoldsNoTexture, IsDone, IsLeft, IsMissing, IsPartOf, with_pictures};
 
-use crate::drawing::draw_plain;
 use crate::input::{read_path, read_texture};
 use crate::names::picture_name;
 use crate::output::{put_end, write_file};
