@@ -12,7 +12,7 @@ use Rattle.vt_camera.specs.Rows.{RowView, row_of}
 use Rattle.vt_draw.specs.Plain.{shown_word, row_samples, picture_samples}
 
 -- one number more at the end of a range
-range_more : (a n : ℕ) → range_with_len a (suc n) ≡ range_with_len a n ++ (a + n) ∷ []
+pub range_more : (a n : ℕ) → range_with_len a (suc n) ≡ range_with_len a n ++ (a + n) ∷ []
 range_more a zero = ap (λ (m : ℕ). m ∷ []) (sym (add-zero a))
 range_more a (suc n) = ap (λ (t : List ℕ). a ∷ t) (range_more (a + 1) n ∙ ap (λ (m : ℕ). range_with_len (a + 1) n ++ m ∷ []) (omega arith))
 

@@ -1,6 +1,11 @@
 //! Drawing the pictures of a path: over a whole mip chain, and over any look-up of pages.
 #![tactic(auto)]
 
+mod lookups;
+mod pixels;
 mod plain;
+mod shots;
 
+pub use lookups::{Found, Lookup};
 pub use plain::draw_plain;
+pub use shots::{Shot, draw_row};

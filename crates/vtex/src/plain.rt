@@ -17,6 +17,7 @@ use crate::refusal::Refusal;
 use crate::words::PlainWords;
 use std::alloc::Global;
 use vt_camera::Path;
+use vt_draw::draw_plain;
 use vt_mip::Chain;
 use vt_outside::{Folder, Sink};
 use vt_ppm::encode;
