@@ -1,5 +1,5 @@
 -- What was drawn stays drawn: a look-up goes on to say what it says.
-use Rattle.std.proofs.Common.{◌≡◌, ◌≢◌, ℕ, ◌+◌, ◌/◌, ◌^◌, ◌<◌, ◌⊎◌, List, refl, sym, ap, subst, ◌∙◌, ⊎_elim, inl, inr, arith}
+use Rattle.std.proofs.Common.{◌≡◌, ◌≢◌, ℕ, ◌+◌, ◌/◌, ◌^◌, ◌<◌, ◌⊎◌, List, sym, ap, subst, ◌∙◌, ⊎_elim, arith}
 use Rattle.vt_pages.specs.Shape.{Shape}
 use Rattle.vt_pages.specs.Pages.{texel_page}
 use Rattle.vt_camera.specs.Rows.{RowView, row_level, row_place}
@@ -38,7 +38,7 @@ drawn-more s version says later row x before after said kept here so_far i below
     let Q : ℕ → Type 0 = λ j. IsDrawn s version later row j (samples_at after j) in
     let or : (i < x) ⊎ (i ≡ x) = grind arith in
     ⊎_elim (λ (low : i < x). let apart : i ≢ x = omega arith in subst P (sym (kept i apart)) (drawn_kept s version says later row i (samples_at before i) said (so_far i low)))
-        (λ (same : i ≡ x). subst Q (sym same) here) or
+    (λ (same : i ≡ x). subst Q (sym same) here) or
 
 -- the same of a look-up that has the same shape and version under other names
 pub finest_moved : (s t : Shape) (version same : ℕ) (says later : Note → Type 0) (p : ℕ) (found : Found) → t ≡ s → same ≡ version → ((note : Note) → says note → later note)
@@ -64,8 +64,8 @@ pub read_is : (s t : Shape) (version same : ℕ) (says : Note → Type 0) (row :
 read_is s t version same says row x slot word level column line shape number c l h =
     let P : Note → Type 0 = λ n. says n in
     subst P
-        (ap (λ (z : Shape). WordNote same slot (place_in_tile z (column / 2 ^ level) (line / 2 ^ level)) word) shape
-        ∙ ap (λ (n : ℕ). WordNote n slot (place_in_tile s (column / 2 ^ level) (line / 2 ^ level)) word) number
-        ∙ ap (λ (i : ℕ). WordNote version slot (place_in_tile s (i / 2 ^ level) (line / 2 ^ level)) word) c
-        ∙ ap (λ (i : ℕ). WordNote version slot (place_in_tile s ((row_place row x).0 / 2 ^ level) (i / 2 ^ level)) word) l)
-        h
+    (ap (λ (z : Shape). WordNote same slot (place_in_tile z (column / 2 ^ level) (line / 2 ^ level)) word) shape
+    ∙ ap (λ (n : ℕ). WordNote n slot (place_in_tile s (column / 2 ^ level) (line / 2 ^ level)) word) number
+    ∙ ap (λ (i : ℕ). WordNote version slot (place_in_tile s (i / 2 ^ level) (line / 2 ^ level)) word) c
+    ∙ ap (λ (i : ℕ). WordNote version slot (place_in_tile s ((row_place row x).0 / 2 ^ level) (i / 2 ^ level)) word) l)
+    h

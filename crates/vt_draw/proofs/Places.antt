@@ -1,5 +1,5 @@
 -- Where the texel of a pixel lies in the page that was found for it.
-use Rattle.std.proofs.Common.{◌≡◌, ℕ, ◌+◌, ◌-◌, ◌*◌, ◌/◌, ◌^◌, ◌<◌, ◌≤◌, refl, sym, ap, ◌∙◌, arith}
+use Rattle.std.proofs.Common.{◌≡◌, ℕ, ◌+◌, ◌-◌, ◌/◌, ◌^◌, ◌<◌, ◌≤◌, sym, ap, ◌∙◌, arith}
 use Rattle.std.proofs.lemmas.Nat.{pow-add}
 use Rattle.std.proofs.Math.Nat.{div-div-eq-div-mul}
 use Rattle.vt_pages.specs.Shape.{Shape}
@@ -30,8 +30,8 @@ found_covers s version says k x y found some level column line finest =
     let low : k ≤ found.level = omega arith in
     let up : k + (found.level - k) ≡ found.level = omega arith in
     let above : ancestor_of s p (k + (found.level - k)) ≡ texel_page s (k + (found.level - k)) (x / 2 ^ k / 2 ^ (found.level - k)) (y / 2 ^ k / 2 ^ (found.level - k)) =
-        (lines_follow_places s some k (x / 2 ^ k) (y / 2 ^ k) (found.level - k) inside (omega arith)).1 in
+    (lines_follow_places s some k (x / 2 ^ k) (y / 2 ^ k) (found.level - k) inside (omega arith)).1 in
     sym (finest.page ∙ ap (ancestor_of s p) (sym up) ∙ above
-        ∙ ap (λ (j : ℕ). texel_page s j (x / 2 ^ k / 2 ^ (found.level - k)) (y / 2 ^ k / 2 ^ (found.level - k))) up
-        ∙ ap (λ (i : ℕ). texel_page s found.level i (y / 2 ^ k / 2 ^ (found.level - k))) (deeper x k found.level low)
-        ∙ ap (λ (i : ℕ). texel_page s found.level (x / 2 ^ found.level) i) (deeper y k found.level low))
+    ∙ ap (λ (j : ℕ). texel_page s j (x / 2 ^ k / 2 ^ (found.level - k)) (y / 2 ^ k / 2 ^ (found.level - k))) up
+    ∙ ap (λ (i : ℕ). texel_page s found.level i (y / 2 ^ k / 2 ^ (found.level - k))) (deeper x k found.level low)
+    ∙ ap (λ (i : ℕ). texel_page s found.level (x / 2 ^ found.level) i) (deeper y k found.level low))

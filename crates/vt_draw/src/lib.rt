@@ -9,3 +9,6 @@ mod shots;
 pub use lookups::{Found, Lookup};
 pub use plain::draw_plain;
 pub use shots::{Shot, draw_row};
+
+#[cfg(test)]
+mod tests;

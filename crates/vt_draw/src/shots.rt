@@ -46,13 +46,7 @@ fn row_of(shot: &Shot, y: u32) -> Row
 /// `y` is below the picture's height, `out` has three bytes for each column, and `counts` has a number for each page, each of
 /// which can rise by the picture's width. The look-up is asked once for a run of neighbouring pixels that want the same page.
 /// It takes no memory and refuses nothing.
-pub fn draw_row<K: Lookup>(
-    lookup: &mut K,
-    shot: &Shot,
-    y: u32,
-    out: &mut [u8],
-    counts: &mut [u32],
-)
+pub fn draw_row<K: Lookup>(lookup: &mut K, shot: &Shot, y: u32, out: &mut [u8], counts: &mut [u32])
     requires picture { shot.now.picture < length shot.now.path.now.cameras }
     requires within { y < shot.now.path.now.height }
     requires samples { length out.old ≡ 3 * shot.now.path.now.width }

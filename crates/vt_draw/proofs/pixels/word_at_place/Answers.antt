@@ -10,4 +10,4 @@ pub texel-requires-clause-page : goal.texel-requires-clause-page
 texel-requires-clause-page g c =
     let least : 2 ≤ (g.K.Lookup.shape c.args.lookup.now).tile = c.requires.limits.least_tile in
     found_covers (g.K.Lookup.shape c.args.lookup.now) (g.K.Lookup.version c.args.lookup.now) (g.K.Lookup.says c.args.lookup.now) c.args.level c.args.column c.args.line c.args.found.now
-        (omega arith) c.requires.level c.requires.column c.requires.line c.requires.finest
+    (omega arith) c.requires.level c.requires.column c.requires.line c.requires.finest

@@ -1,6 +1,6 @@
-use Rattle.std.proofs.Common.{◌≡◌, ℕ, ◌+◌, ◌<◌, ◌≤◌, ◌^◌, length, slice_index, ap, subst, sym, ◌∙◌, arith}
-use Rattle.vt_draw.specs.Lookups.{Note, IsFinest}
-use Rattle.vt_draw.specs.Shots.{wanted_page, pixels_wanting, samples_at, IsDrawn}
+use Rattle.std.proofs.Common.{◌≡◌, ℕ, ◌<◌, length, subst, sym, ◌∙◌, arith}
+use Rattle.vt_draw.specs.Lookups.{IsFinest}
+use Rattle.vt_draw.specs.Shots.{wanted_page, samples_at, IsDrawn}
 use Rattle.vt_draw.proofs.Counts.{pixels-none, pixels-most, counted-more}
 use Rattle.vt_draw.proofs.DrawnPixels.{finest_moved, drawn-more, wanted_is, read_is}
 use Rattle.vt_draw.proofs.shots.draw_row.Goals as goal
@@ -34,11 +34,11 @@ loop-x-preserved g c =
     let shape : g.K.Lookup.shape last ≡ s = c.word_at_place-word.ensures.shape ∙ c.found_for-found.ensures.shape ∙ c.loop-x.invariant.shape in
     let number : g.K.Lookup.version last ≡ version = c.word_at_place-word.ensures.version ∙ c.found_for-found.ensures.version ∙ c.loop-x.invariant.version in
     let finest : IsFinest (g.K.Lookup.shape last) (g.K.Lookup.version last) (g.K.Lookup.says last) page found =
-        finest_moved (g.K.Lookup.shape middle) (g.K.Lookup.shape last) (g.K.Lookup.version middle) (g.K.Lookup.version last) (g.K.Lookup.says middle) (g.K.Lookup.says last) page found
-            c.word_at_place-word.ensures.shape c.word_at_place-word.ensures.version c.word_at_place-word.ensures.said c.found_for-found.ensures.finest in
+    finest_moved (g.K.Lookup.shape middle) (g.K.Lookup.shape last) (g.K.Lookup.version middle) (g.K.Lookup.version last) (g.K.Lookup.says middle) (g.K.Lookup.says last) page found
+    c.word_at_place-word.ensures.shape c.word_at_place-word.ensures.version c.word_at_place-word.ensures.said c.found_for-found.ensures.finest in
     let here = c.texel-column-in-loop-x in
     let wants : page ≡ wanted_page s row x =
-        wanted_is s row x page c.level-level.result here.result.0 here.result.1 c.page_at_place-page.ensures.page c.level-level.ensures.value here.ensures.column here.ensures.row in
+    wanted_is s row x page c.level-level.result here.result.0 here.result.1 c.page_at_place-page.ensures.page c.level-level.ensures.value here.ensures.column here.ensures.row in
     let F : ℕ → Type 0 = λ p. IsFinest s version (g.K.Lookup.says last) p found in
     let drawn : IsDrawn s version (g.K.Lookup.says last) row x (samples_at c.put_samples.new.out x) = record {
       found = found;
