@@ -1,8 +1,7 @@
 //! Drawing a row of a picture over a look-up of pages.
 
 ghost use Rattle.std.specs.Prelude.{◌≡◌, ℕ, ◌+◌, ◌*◌, ◌<◌, ◌≤◌, ◌^◌, length, slice_index};
-ghost use Rattle.vt_pages.specs.Pages.{pages_of, levels_of, IsWithinLimits};
-ghost use Rattle.vt_camera.specs.Rows.{row_level};
+ghost use Rattle.vt_pages.specs.Pages.{pages_of, IsWithinLimits};
 ghost use Rattle.vt_draw.specs.Lookups.{Note};
 ghost use Rattle.vt_draw.specs.Shots.{paged_surface, shot_row, pixels_wanting, samples_at, IsDrawn};
 
