@@ -7,7 +7,8 @@ use Rattle.vt_ppm.specs.Picture.{picture_bytes}
 use Rattle.vt_mip.specs.Chains.{ChainView}
 use Rattle.vt_camera.specs.Paths.{PathView}
 use Rattle.vtex.specs.Lines.{end_line}
-use Rattle.vtex.specs.Plain.{plain_samples, plain_file}
+use Rattle.vt_draw.specs.Plain.{plain_samples}
+use Rattle.vtex.specs.Plain.{plain_file}
 use Rattle.vtex.specs.Refusals.{HoldsPath, HoldsTexture, Reads, with_pictures, IsPartOf, IsStopped}
 use Rattle.vtex.specs.Words.{PlainText}
 

@@ -1,44 +1,10 @@
--- The plain picture: what a camera shows of a whole mip chain.
-use Rattle.std.specs.Prelude.{ℕ, ◌/◌, ◌^◌, List, slice_index_or, pos}
-use Rattle.std.specs.List.{flat_map, range_with_len}
-use Rattle.vt_definitions.specs.Sides.{level_count}
-use Rattle.vt_definitions.specs.Texels.{Source, bytes}
-use Rattle.vt_ppm.specs.Image.{Picture, texel_of}
+-- The file of a plain picture.
+use Rattle.std.specs.Prelude.{ℕ, List}
+use Rattle.vt_ppm.specs.Image.{Picture}
 use Rattle.vt_ppm.specs.Picture.{picture_bytes}
-use Rattle.vt_mip.specs.Chains.{chain}
-use Rattle.vt_camera.specs.declared.paths.Camera.{Camera}
-use Rattle.vt_camera.specs.declared.surfaces.Surface.{Surface}
 use Rattle.vt_camera.specs.Paths.{PathView}
-use Rattle.vt_camera.specs.Rows.{RowView, row_of, row_level, row_place}
+use Rattle.vt_draw.specs.Plain.{plain_samples}
 
--- the word that pixel x of a row shows: the source's texel at the row's own level (van Waveren 2012)
-abbrev pub shown_word : Source → RowView → ℕ → ℕ
-shown_word source row x = source (row_level row) ((row_place row x).0 / 2 ^ row_level row) ((row_place row x).1 / 2 ^ row_level row)
-
--- the samples of the first pixels of a row, three bytes a pixel
-unfoldable pub row_samples : Source → RowView → ℕ → List ℕ
-row_samples source row columns = flat_map (λ x. bytes (shown_word source row x)) (range_with_len 0 columns)
-
--- the samples of the first rows of the picture that a camera takes of a source, from the top
-unfoldable pub picture_samples : Source → Surface → PathView → Camera → ℕ → List ℕ
-picture_samples source surface path camera rows = flat_map (λ y. row_samples source (row_of path camera y surface) path.width) (range_with_len 0 rows)
-
--- a texture as a camera sees it: its sides and its number of levels
-abbrev pub surface_of : Picture → ℕ → Surface
-surface_of texture tile = record { width = texture.width; height = texture.height; levels = level_count texture.width texture.height tile }
-
--- the mip chain of a texture, as a source of texels
-abbrev pub chain_of : Picture → Source
-chain_of texture = chain (texel_of texture) texture.width texture.height
-
--- the camera of a picture of a path; pictures count from 0
-abbrev pub camera_at : PathView → ℕ → Camera
-camera_at path picture = slice_index_or path.cameras picture (record { u = pos 0; v = pos 0; h = pos 1; c = pos 0; s = pos 0 })
-
--- the samples of the plain picture of a texture, a tile side, a path and the number of a picture
-unfoldable pub plain_samples : Picture → ℕ → PathView → ℕ → List ℕ
-plain_samples texture tile path picture = picture_samples (chain_of texture) (surface_of texture tile) path (camera_at path picture) path.height
-
--- the file of that picture (the Netpbm manual's P6 page)
+-- the file of the plain picture of a texture, a tile side, a path and the number of a picture (the Netpbm manual's P6 page)
 unfoldable pub plain_file : Picture → ℕ → PathView → ℕ → List ℕ
 plain_file texture tile path picture = picture_bytes path.width path.height (plain_samples texture tile path picture)

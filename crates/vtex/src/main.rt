@@ -2,7 +2,6 @@
 #![tactic(auto)]
 
 mod command;
-mod drawing;
 mod ending;
 mod input;
 mod lines;

@@ -10,7 +10,6 @@ ghost use Rattle.vtex.specs.Plain.{plain_file};
 ghost use Rattle.vtex.specs.PlainWords.{shown};
 ghost use Rattle.vtex.specs.Refusals.{HoldsPath, HoldsNoPath, HoldsNoTexture, IsDone, IsLeft, IsMissing, IsPartOf, with_pictures};
 
-use crate::drawing::draw_plain;
 use crate::input::{read_path, read_texture};
 use crate::names::picture_name;
 use crate::output::{put_end, write_file};
@@ -18,6 +17,7 @@ use crate::refusal::Refusal;
 use crate::words::PlainWords;
 use std::alloc::Global;
 use vt_camera::Path;
+use vt_draw::draw_plain;
 use vt_mip::Chain;
 use vt_outside::{Folder, Sink};
 use vt_ppm::encode;

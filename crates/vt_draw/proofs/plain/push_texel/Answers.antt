@@ -1,8 +1,7 @@
-use Rattle.std.proofs.Common.{◌≡◌, ℕ, ◌+◌, ◌*◌, ◌<◌, ◌≤◌, ◌/◌, ◌^◌, length, arith, rules}
+use Rattle.std.proofs.Common.{◌<◌, ◌/◌, ◌^◌, arith}
 use Rattle.vt_definitions.specs.Sides.{side}
 use Rattle.vt_camera.proofs.LevelLemmas.{inside_level}
-use Rattle.vtex.proofs.Drawn.{texel_at}
-use Rattle.vtex.proofs.drawing.push_texel.Goals as goal
+use Rattle.vt_draw.proofs.plain.push_texel.Goals as goal
 
 pub row-texels-requires-clause-row : goal.row-texels-requires-clause-row
 row-texels-requires-clause-row c = inside_level c.args.chain.now.base.height c.args.line c.args.level c.requires.line

@@ -5,7 +5,7 @@ ghost use Rattle.vt_definitions.specs.Texels.{bytes};
 ghost use Rattle.vt_camera.specs.Paths.{IsCamera};
 ghost use Rattle.vt_camera.specs.Rows.{IsSurface};
 ghost use Rattle.vt_mip.specs.Chains.{chain_levels, chain_width, chain_height};
-ghost use Rattle.vtex.specs.Plain.{chain_of, surface_of, row_samples, picture_samples, plain_samples};
+ghost use Rattle.vt_draw.specs.Plain.{chain_of, surface_of, row_samples, picture_samples, plain_samples};
 
 use std::alloc::{AllocError, Global};
 use vt_camera::{Camera, Path, Row, Surface};
@@ -63,13 +63,18 @@ fn draw_rows(
 {
     for y in 0..path.height() {
         let row = Row::of(path, camera, y, surface);
-        draw_row(chain, &row, path.width(), samples)?;
+        draw_plain_row(chain, &row, path.width(), samples)?;
     }
     Ok(())
 }
 
 // Adds the samples of a row of so many pixels.
-fn draw_row(chain: &Chain, row: &Row, columns: u32, samples: &mut Vec<u8>) -> Result<(), AllocError>
+fn draw_plain_row(
+    chain: &Chain,
+    row: &Row,
+    columns: u32,
+    samples: &mut Vec<u8>,
+) -> Result<(), AllocError>
     requires surface { row.now.surface ≡ surface_of chain.now.base chain.now.tile }
     requires width { columns ≤ row.now.width }
     requires levels { row.now.surface.levels ≤ 14 }

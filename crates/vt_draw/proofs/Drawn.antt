@@ -1,5 +1,5 @@
 -- The samples of a picture, pixel by pixel and row by row.
-use Rattle.std.proofs.Common.{◌≡◌, ℕ, zero, suc, ◌+◌, ◌*◌, ◌<◌, ◌≤◌, List, [], ◌∷◌, ◌++◌, length, take, drop, get_or, refl, sym, ap, ◌∙◌, append_assoc, add-zero, add-one, arith}
+use Rattle.std.proofs.Common.{◌≡◌, ℕ, zero, suc, ◌+◌, ◌*◌, ◌≤◌, List, [], ◌∷◌, ◌++◌, length, take, drop, get_or, refl, sym, ap, ◌∙◌, append_assoc, add-zero, add-one, arith}
 use Rattle.std.specs.List.{flat_map, range_with_len}
 use Rattle.std.proofs.lemmas.List.{append-nil, length-append}
 use Rattle.std.proofs.lemmas.List.Concat.{flat_map-append}
@@ -9,10 +9,10 @@ use Rattle.vt_camera.specs.declared.paths.Camera.{Camera}
 use Rattle.vt_camera.specs.declared.surfaces.Surface.{Surface}
 use Rattle.vt_camera.specs.Paths.{PathView}
 use Rattle.vt_camera.specs.Rows.{RowView, row_of}
-use Rattle.vtex.specs.Plain.{shown_word, row_samples, picture_samples}
+use Rattle.vt_draw.specs.Plain.{shown_word, row_samples, picture_samples}
 
 -- one number more at the end of a range
-range_more : (a n : ℕ) → range_with_len a (suc n) ≡ range_with_len a n ++ (a + n) ∷ []
+pub range_more : (a n : ℕ) → range_with_len a (suc n) ≡ range_with_len a n ++ (a + n) ∷ []
 range_more a zero = ap (λ (m : ℕ). m ∷ []) (sym (add-zero a))
 range_more a (suc n) = ap (λ (t : List ℕ). a ∷ t) (range_more (a + 1) n ∙ ap (λ (m : ℕ). range_with_len (a + 1) n ++ m ∷ []) (omega arith))
 

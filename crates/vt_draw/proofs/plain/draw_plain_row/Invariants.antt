@@ -1,6 +1,6 @@
 use Rattle.std.proofs.Common.{◌≡◌, ◌++◌}
-use Rattle.vtex.specs.Plain.{chain_of, row_samples}
-use Rattle.vtex.proofs.drawing.draw_row.Given as goal
+use Rattle.vt_draw.specs.Plain.{chain_of, row_samples}
+use Rattle.vt_draw.proofs.plain.draw_plain_row.Given as goal
 
 -- the pixels so far were added
 abbrev pub invariant-loop-x : goal.invariant-loop-x

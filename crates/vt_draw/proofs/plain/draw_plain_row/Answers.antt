@@ -1,9 +1,8 @@
 use Rattle.std.proofs.Common.{◌≡◌, ◌/◌, ◌^◌, ℕ, List, ◌++◌, refl, ap, ◌∙◌}
 use Rattle.vt_definitions.specs.Texels.{bytes}
-use Rattle.vt_camera.specs.Rows.{row_level, row_place}
-use Rattle.vtex.specs.Plain.{chain_of, shown_word, row_samples}
-use Rattle.vtex.proofs.Drawn.{row_samples-none, row_samples-more}
-use Rattle.vtex.proofs.drawing.draw_row.Goals as goal
+use Rattle.vt_draw.specs.Plain.{chain_of, shown_word}
+use Rattle.vt_draw.proofs.Drawn.{row_samples-none, row_samples-more}
+use Rattle.vt_draw.proofs.plain.draw_plain_row.Goals as goal
 
 pub loop-x-init : goal.loop-x-init
 loop-x-init c = row_samples-none (chain_of c.args.chain.now.base) c.args.row.now c.args.samples.now.items

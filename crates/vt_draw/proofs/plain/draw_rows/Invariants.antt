@@ -1,6 +1,6 @@
 use Rattle.std.proofs.Common.{◌≡◌, ◌++◌}
-use Rattle.vtex.specs.Plain.{chain_of, picture_samples}
-use Rattle.vtex.proofs.drawing.draw_rows.Given as goal
+use Rattle.vt_draw.specs.Plain.{chain_of, picture_samples}
+use Rattle.vt_draw.proofs.plain.draw_rows.Given as goal
 
 -- the rows so far were added
 abbrev pub invariant-loop-y : goal.invariant-loop-y

@@ -1,11 +1,11 @@
-use Rattle.std.proofs.Common.{◌≡◌, ◌*◌, ℕ, List, ◌++◌, length, ap, sym, ◌∙◌}
+use Rattle.std.proofs.Common.{◌≡◌, ℕ, List, ◌++◌, length, ap, sym, ◌∙◌}
 use Rattle.std.specs.Prelude.{pos}
 use Rattle.std.proofs.lemmas.Option.{get_or_from_slice_get}
 use Rattle.vt_camera.specs.declared.paths.Camera.{Camera}
 use Rattle.vt_camera.specs.declared.surfaces.Surface.{Surface}
-use Rattle.vtex.specs.Plain.{chain_of, surface_of, camera_at, picture_samples, plain_samples}
-use Rattle.vtex.proofs.Drawn.{length-picture_samples}
-use Rattle.vtex.proofs.drawing.draw_plain.Goals as goal
+use Rattle.vt_draw.specs.Plain.{chain_of, surface_of, camera_at, picture_samples, plain_samples}
+use Rattle.vt_draw.proofs.Drawn.{length-picture_samples}
+use Rattle.vt_draw.proofs.plain.draw_plain.Goals as goal
 
 -- the samples are those of all rows
 same : (c : goal.In_ok-draw_rows) → c.draw_rows.new.samples.items ≡ plain_samples c.args.chain.now.base c.args.chain.now.tile c.args.path.now c.args.picture

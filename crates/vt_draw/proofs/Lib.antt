@@ -1,0 +1,4 @@
+pub mod Drawn
+pub mod Places
+pub mod Counts
+pub mod DrawnPixels

@@ -1,0 +1,78 @@
+//! Drawing a row of a picture over a look-up of pages.
+
+ghost use Rattle.std.specs.Prelude.{◌≡◌, ℕ, ◌+◌, ◌*◌, ◌<◌, ◌≤◌, ◌^◌, length, slice_index};
+ghost use Rattle.vt_pages.specs.Pages.{pages_of, IsWithinLimits};
+ghost use Rattle.vt_draw.specs.Lookups.{Note};
+ghost use Rattle.vt_draw.specs.Shots.{paged_surface, shot_row, pixels_wanting, samples_at, IsDrawn};
+
+use crate::lookups::Lookup;
+use crate::pixels::{found_for, page_at_place, put_samples, word_at_place};
+use vt_camera::{Path, Row, Surface};
+use vt_pages::Geometry;
+
+/// A picture to draw: a texture that is cut into pages, a path, and the number of one of the path's pictures.
+#[derive(Clone, Copy)]
+pub struct Shot<'a> {
+    /// How the texture is cut into pages.
+    pub geometry: &'a Geometry,
+    /// The path along which pictures are taken.
+    pub path: &'a Path,
+    /// The picture's number, below the path's number of pictures.
+    pub picture: u32,
+}
+
+// Row y of the picture.
+fn row_of(shot: &Shot, y: u32) -> Row
+    requires picture { shot.now.picture < length shot.now.path.now.cameras }
+    requires within { y < shot.now.path.now.height }
+    ensures row { result ≡ shot_row shot.now.geometry.now shot.now.path.now shot.now.picture y }
+    ensures width { result.width ≡ shot.now.path.now.width }
+    ensures surface { result.surface ≡ paged_surface shot.now.geometry.now }
+    ensures limits { IsWithinLimits shot.now.geometry.now }
+{
+    let surface = Surface {
+        width: shot.geometry.width(),
+        height: shot.geometry.height(),
+        levels: shot.geometry.levels(),
+    };
+    let camera = shot.path.camera(shot.picture);
+    Row::of(shot.path, &camera, y, &surface)
+}
+
+/// Draws row `y` of a picture: writes its samples to `out`, three bytes a pixel, and adds its pixels to the counts of their
+/// wanted pages.
+///
+/// `y` is below the picture's height, `out` has three bytes for each column, and `counts` has a number for each page, each of
+/// which can rise by the picture's width. The look-up is asked once for a run of neighbouring pixels that want the same page.
+/// It takes no memory and refuses nothing.
+pub fn draw_row<K: Lookup>(lookup: &mut K, shot: &Shot, y: u32, out: &mut [u8], counts: &mut [u32])
+    requires picture { shot.now.picture < length shot.now.path.now.cameras }
+    requires within { y < shot.now.path.now.height }
+    requires samples { length out.old ≡ 3 * shot.now.path.now.width }
+    requires pages { length counts.old ≡ pages_of shot.now.geometry.now }
+    requires room { (p : ℕ) → p < length counts.old → slice_index counts.old p + shot.now.path.now.width < 2 ^ 32 }
+    requires shape { K.shape lookup.old ≡ shot.now.geometry.now }
+    ensures drawn { let row = shot_row shot.now.geometry.now shot.now.path.now shot.now.picture y in
+        (x : ℕ) → x < shot.now.path.now.width → IsDrawn shot.now.geometry.now (K.version lookup.new) (K.says lookup.new) row x (samples_at out.new x) }
+    ensures counted { let row = shot_row shot.now.geometry.now shot.now.path.now shot.now.picture y in
+        (p : ℕ) → p < length counts.new → slice_index counts.new p ≡ slice_index counts.old p + pixels_wanting shot.now.geometry.now row shot.now.path.now.width p }
+    ensures said { (note : Note) → K.says lookup.old note → K.says lookup.new note }
+    ensures version { K.version lookup.new ≡ K.version lookup.old }
+    ensures shape { K.shape lookup.new ≡ K.shape lookup.old }
+{
+    let geometry = shot.geometry;
+    let row = row_of(shot, y);
+    let level = row.level();
+    let (column, line) = row.texel(0);
+    let mut wanted = page_at_place(geometry, level, column, line);
+    let mut found = lookup.find(wanted);
+    for x in 0..shot.path.width() {
+        let (column, line) = row.texel(x);
+        let page = page_at_place(geometry, level, column, line);
+        found = found_for(lookup, wanted, found, page);
+        wanted = page;
+        let word = word_at_place(lookup, &found, level, column, line);
+        put_samples(out, x, word);
+        counts[page as usize] += 1;
+    }
+}

@@ -1,0 +1,68 @@
+//! The worked picture over two look-ups and over the whole chain.
+
+mod tables;
+
+use crate::tests::tables::Table;
+use crate::{Shot, draw_plain, draw_row};
+use std::alloc::Global;
+use std::process::Abort;
+use std::test::Fail;
+use vt_camera::parse_path;
+use vt_mip::Chain;
+use vt_pages::Geometry;
+use vt_ppm::Image;
+
+// One picture of two pixels, from the height of one texel.
+const PATH: &[u8] = b"size 2 1\nfocal 1\nat 0 0 256 16384 0\n";
+
+// Draws the picture over a table that maps the pages from a level on: its samples, and the counts, which were 7 each.
+fn drawn(rt: &impl Abort, alloc: Global, least: u32) -> Result<([u8; 6], [u32; 5]), Fail> {
+    let geometry = Geometry::new(4, 4, 2)?;
+    let path = parse_path(alloc, PATH)?;
+    assert!(rt; geometry.page_count() == 5 && least < geometry.levels());
+    assert!(rt; path.pictures() == 1 && path.width() == 2 && path.height() == 1);
+    let shot = Shot {
+        geometry: &geometry,
+        path: &path,
+        picture: 0,
+    };
+    let mut table = Table::new(geometry, least);
+    let mut out = [0; 6];
+    let mut counts = [7; 5];
+    draw_row(&mut table, &shot, 0, &mut out, &mut counts);
+    Ok((out, counts))
+}
+
+#[test]
+fn every_page_mapped(rt: HostRuntime) -> Result<(), Fail> {
+    let (out, counts) = drawn(&rt, rt.alloc(), 0)?;
+    assert_eq!(rt; out, [0x0d, 0x0d, 0x0d, 0x01, 0x01, 0x01]);
+    assert_eq!(rt; counts, [8, 7, 8, 7, 7]);
+    Ok(())
+}
+
+#[test]
+fn root_alone_mapped(rt: HostRuntime) -> Result<(), Fail> {
+    let (out, counts) = drawn(&rt, rt.alloc(), 1)?;
+    assert_eq!(rt; out, [0x0b, 0x0b, 0x0b, 0x03, 0x03, 0x03]);
+    assert_eq!(rt; counts, [8, 7, 8, 7, 7]);
+    Ok(())
+}
+
+#[test]
+fn whole_chain(rt: HostRuntime) -> Result<(), Fail> {
+    let samples = [
+        0, 0, 0, 1, 1, 1, 2, 2, 2, 3, 3, 3, 4, 4, 4, 5, 5, 5, 6, 6, 6, 7, 7, 7, 8, 8, 8, 9, 9, 9,
+        10, 10, 10, 11, 11, 11, 12, 12, 12, 13, 13, 13, 14, 14, 14, 15, 15, 15,
+    ];
+    let image = Image::new(4, 4, Vec::from_array(rt.alloc(), samples)?);
+    let chain = Chain::build(rt.alloc(), image, 2)?;
+    let path = parse_path(rt.alloc(), PATH)?;
+    assert!(rt; path.pictures() == 1);
+    let picture = draw_plain(rt.alloc(), &chain, &path, 0)?;
+    assert_eq!(rt;
+        picture.as_slice(),
+        [0x0d, 0x0d, 0x0d, 0x01, 0x01, 0x01].as_slice()
+    );
+    Ok(())
+}
