@@ -1,15 +1,15 @@
 -- The first fault of a text: there is one at most, and none in the text of a path.
-use Rattle.std.proofs.Common.{◌≡◌, ◌≢◌, ℕ, zero, suc, ◌+◌, ◌<◌, ◌≤◌, ◌⊎◌, inl, inr, List, [], ◌∷◌, ◌++◌, length, map, refl, sym, ap, ◌∙◌, subst, arith, Option, Some, None, Result, Ok, Err, cond, MatchResult, length-append}
-use Rattle.std.specs.List.{All, join_with_byte, range_with_len}
+use Rattle.std.proofs.Common.{◌≡◌, ◌≢◌, ℕ, zero, suc, ◌+◌, ◌<◌, ◌≤◌, ◌⊎◌, inl, inr, List, [], ◌∷◌, ◌++◌, length, map, refl, sym, ap, ◌∙◌, subst, arith, Option, Some, None, Result, Ok, Err, MatchResult, length-append}
+use Rattle.std.specs.List.{All, join_with_byte}
 use Rattle.std.proofs.lemmas.Bool.{le-leb, lt-leb, cases_lt}
 use Rattle.std.proofs.lemmas.List.Elements.{All-head, All-tail}
 use Rattle.std.proofs.lemmas.List.FromFn.{length-map-range_with_len}
-use Rattle.vt_text.specs.Lines.{lines_of, fields_of}
+use Rattle.vt_text.specs.Lines.{lines_of}
 use Rattle.vt_camera.specs.declared.paths.Camera.{Camera}
 use Rattle.vt_camera.specs.declared.parse.PathError.{PathError}
-use Rattle.vt_camera.specs.declared.parse.PathError.TheVariants.{BadLine, NoKey, TooManyPictures, NoMemory}
+use Rattle.vt_camera.specs.declared.parse.PathError.TheVariants.{TooManyPictures, NoMemory}
 use Rattle.vt_camera.specs.Paths.{PathView, IsCamera}
-use Rattle.vt_camera.specs.Ways.{way, camera_on_way}
+use Rattle.vt_camera.specs.Ways.{camera_on_way}
 use Rattle.vt_camera.specs.PathText.{Key, At, To, IsKey, key_fields, key_camera, key_pictures, key_cameras, cameras_after, BeginsAnew, size_fields, focal_fields, path_lines, IsPathText}
 use Rattle.vt_camera.specs.PathFaults.{IsSizeLine, IsFocalLine, IsKeyLine, count_fault, key_fault, IsLineFault, IsFaultFrom, IsFaultFromSecond, IsFaultFromFirst, IsPathFault}
 use Rattle.vt_camera.specs.PathReading.{IsLast}

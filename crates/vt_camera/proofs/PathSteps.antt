@@ -1,18 +1,18 @@
 -- The reading of a path's keys, line by line.
-use Rattle.std.proofs.Common.{◌≡◌, ◌≢◌, ℕ, zero, suc, ◌+◌, ◌<◌, ◌≤◌, ◌⊎◌, inl, inr, List, [], ◌∷◌, ◌++◌, length, map, drop, refl, sym, ap, ◌∙◌, subst, arith, Option, Some, None, length-append, append_assoc, eqb}
+use Rattle.std.proofs.Common.{◌≡◌, ◌≢◌, ℕ, ◌+◌, ◌<◌, ◌≤◌, inr, List, [], ◌∷◌, ◌++◌, length, map, drop, refl, sym, ap, ◌∙◌, subst, arith, Option, Some, None, length-append, append_assoc, eqb}
 use Rattle.std.specs.List.{All, join_with_byte, range_with_len}
 use Rattle.std.proofs.lemmas.List.{append-nil, drop_all, length-drop}
 use Rattle.std.proofs.lemmas.List.Elements.{All-nil, All-cons, All-append, All-map}
 use Rattle.std.proofs.lemmas.List.FromFn.{length-range_with_len, get_or-range_with_len}
 use Rattle.std.proofs.lemmas.List.Splits.{length-slice_split}
-use Rattle.vt_text.specs.Lines.{lines_of, fields_of, parts_of}
+use Rattle.vt_text.specs.Lines.{lines_of, parts_of}
 use Rattle.vt_camera.specs.declared.paths.Camera.{Camera}
 use Rattle.vt_camera.specs.declared.parse.PathError.{PathError}
 use Rattle.vt_camera.specs.declared.parse.PathError.TheVariants.{BadLine}
 use Rattle.vt_camera.specs.Paths.{PathView, IsCamera}
 use Rattle.vt_camera.specs.Ways.{way, camera_on_way}
-use Rattle.vt_camera.specs.PathText.{Key, At, To, IsKey, key_fields, key_camera, key_pictures, key_cameras, cameras_after, BeginsAnew, size_fields, focal_fields, path_lines, path_text, IsPathText}
-use Rattle.vt_camera.specs.PathFaults.{IsSizeLine, IsFocalLine, IsKeyLine, key_fault, IsLineFault, IsFaultFrom, IsFaultFromSecond, IsFaultFromFirst, IsPathFault}
+use Rattle.vt_camera.specs.PathText.{Key, At, To, IsKey, key_fields, key_camera, key_pictures, key_cameras, cameras_after, size_fields, focal_fields, path_lines, IsPathText}
+use Rattle.vt_camera.specs.PathFaults.{IsFocalLine, IsLineFault, IsFaultFrom, IsFaultFromSecond, IsFaultFromFirst, IsPathFault}
 use Rattle.vt_camera.specs.PathReading.{IsHead, IsLast, AddsKey, GiveCameras, GivesPictures}
 use Rattle.vt_camera.proofs.PathLines.{join-fields_of, text_of-lines}
 use Rattle.vt_camera.proofs.PathFaultLemmas.{room_of, begins_of, pictures_of, some_picture, camera_within, fault_here, fault_later, lines_of_keys}

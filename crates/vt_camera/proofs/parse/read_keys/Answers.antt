@@ -1,4 +1,4 @@
-use Rattle.std.proofs.Common.{◌-◌, ◌⊎◌, inl, inr, take, drop, arith}
+use Rattle.std.proofs.Common.{◌-◌, inl, inr, take, drop}
 use Rattle.vt_camera.proofs.PathSteps.{line_refused, line_read, all_read}
 use Rattle.vt_camera.proofs.parse.read_keys.Goals as goal
 

@@ -1,9 +1,8 @@
-use Rattle.std.proofs.Common.{ℕ, ◌≡◌, ◌+ℤ◌, ◌-ℤ◌, ◌*ℤ◌, ◌≤ℤ◌, pos, negsuc, ℤ, to_z, of_z, w64, arith, ap, sym, ◌∙◌, subst, FitsSigned}
+use Rattle.std.proofs.Common.{ℕ, ◌≡◌, ◌+ℤ◌, ◌-ℤ◌, ◌*ℤ◌, ◌≤ℤ◌, pos, negsuc, ℤ, to_z, of_z, w64, arith, ap, sym, ◌∙◌, subst}
 use Rattle.std.proofs.lemmas.Int.{ints}
 use Rattle.vt_text.specs.Numbers.{IsWithin}
 use Rattle.vt_camera.specs.Rows.{floor_div}
 use Rattle.vt_camera.specs.Ways.{place_between}
-use Rattle.vt_camera.proofs.PathReadingLemmas.{back}
 use Rattle.vt_camera.proofs.WayLemmas.{gone_limits, between_limits}
 use Rattle.vt_camera.proofs.ways.between.Goals as goal
 
