@@ -56,3 +56,9 @@ three_pieces a b c x y z p q r =
     ∙ ap (λ (t : List ℕ). t ++ (b ++ c)) p
     ∙ ap (λ (t : List ℕ). x ++ (t ++ c)) q
     ∙ ap (λ (t : List ℕ). x ++ (y ++ t)) r
+
+pub five_pieces : (a b c d e x y z u v : List ℕ) → a ≡ x → b ≡ y → c ≡ z → d ≡ u → e ≡ v → a ++ (b ++ (c ++ (d ++ (e ++ [])))) ≡ x ++ (y ++ (z ++ (u ++ v)))
+five_pieces a b c d e x y z u v p q r s t = cc (append-nil e)
+
+pub six_pieces : (a b c d e f x y z u v w : List ℕ) → a ≡ x → b ≡ y → c ≡ z → d ≡ u → e ≡ v → f ≡ w → a ++ (b ++ (c ++ (d ++ (e ++ (f ++ []))))) ≡ x ++ (y ++ (z ++ ((u ++ v) ++ w)))
+six_pieces a b c d e f x y z u v w p q r s t o = cc (append-nil f, append_assoc u v w)

@@ -1,5 +1,6 @@
 -- How commands end.
 use Rattle.std.specs.Prelude.{ℕ, List, [], ◌++◌, codes, decimal}
+use Rattle.vt_camera.specs.declared.parse.PathError.{PathError}
 use Rattle.vt_camera.specs.declared.parse.PathError.TheVariants as path
 use Rattle.vtex.specs.Lines.{memory_line, usage_line, fault_line, bad_input_line}
 use Rattle.vtex.specs.declared.ending.Flaw.{Flaw}
@@ -7,12 +8,16 @@ use Rattle.vtex.specs.declared.ending.Flaw.TheVariants as flaws
 use Rattle.vtex.specs.declared.ending.Ending.{Ending}
 use Rattle.vtex.specs.declared.ending.Ending.TheVariants.{Done, OutOfMemory, Usage, Fault, BadInput}
 
--- the place of an input's flaw as it is printed: what is wrong, and the number of the line (this project's profile)
+-- what is wrong with a path as it is printed, with the number of the line (this project's profile)
+abbrev pub path_place : PathError → List ℕ
+path_place (path.BadLine line) = codes "bad line " ++ decimal line
+path_place (path.NoKey line) = codes "no key at line " ++ decimal line
+path_place path.TooManyPictures = codes "too many pictures"
+path_place path.NoMemory = []
+
+-- the place of an input's flaw as it is printed (this project's profile)
 abbrev pub place_of : Flaw → List ℕ
-place_of (flaws.Path (path.BadLine line)) = codes "bad line " ++ decimal line
-place_of (flaws.Path (path.NoKey line)) = codes "no key at line " ++ decimal line
-place_of (flaws.Path path.TooManyPictures) = codes "too many pictures"
-place_of (flaws.Path path.NoMemory) = []
+place_of (flaws.Path error) = path_place error
 place_of flaws.Texture = codes "form not built"
 
 -- the status of an ending (this project's profile)

@@ -1,5 +1,5 @@
 -- What the program prints.
-use Rattle.std.specs.Prelude.{ℕ, List, [], ◌++◌, codes, decimal, Option, Some, None}
+use Rattle.std.specs.Prelude.{ℕ, List, [], ◌++◌, codes, decimal}
 
 -- the last line of `plain`: how many pictures it has written (this project's profile)
 abbrev pub end_line : ℕ → List ℕ
@@ -17,8 +17,3 @@ fault_line = codes "vtex: fault on files or output\n"
 
 abbrev pub bad_input_line : List ℕ → List ℕ → List ℕ
 bad_input_line name place = codes "vtex: bad input: " ++ (name ++ (codes ": " ++ (place ++ codes "\n")))
-
--- the number of a line, where there is one
-abbrev pub line_number : Option ℕ → List ℕ
-line_number None = []
-line_number (Some line) = decimal line

@@ -3,7 +3,6 @@ use Rattle.std.specs.Prelude.{codes}
 use Rattle.std.proofs.lemmas.List.{append-nil}
 use Rattle.vtex.specs.Lines.{memory_line, usage_line, fault_line, bad_input_line}
 use Rattle.vtex.specs.Pieces.{joined}
-use Rattle.vtex.proofs.Held.{three_pieces}
 use Rattle.vtex.proofs.ending.Ending.tell.Goals as goal
 
 pub returns-in-OutOfMemory : goal.returns-in-OutOfMemory
@@ -22,8 +21,4 @@ returns-in-Fault g c =
     rw (c.in-Fault.is, ← e) c.tell_pieces-in-Fault.ensures
 
 pub returns-in-BadInput : goal.returns-in-BadInput
-returns-in-BadInput g c =
-    let name = c.in-BadInput.name.now in
-    let e : joined (c.as_slice-in-BadInput.result ∷ c.as_bytes.result ∷ c.as_slice-in-BadInput-2.result ∷ []) ≡ codes "vtex: bad input: " ++ (name ++ codes ": form not built\n") =
-    three_pieces c.as_slice-in-BadInput.result.now c.as_bytes.result.now c.as_slice-in-BadInput-2.result.now (codes "vtex: bad input: ") name (codes ": form not built\n") c.as_slice-in-BadInput.ensures c.as_bytes.ensures.value c.as_slice-in-BadInput-2.ensures in
-    rw (c.in-BadInput.is, ← e) c.tell_pieces-in-BadInput.ensures
+returns-in-BadInput g c = rw c.in-BadInput.is c.tell_flaw.ensures
