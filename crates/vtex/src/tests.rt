@@ -187,12 +187,20 @@ fn level_choice(rt: HostRuntime) {
 fn bad_inputs(rt: HostRuntime) {
     let alloc = rt.alloc();
     let texture = b"vtex: bad input: g4.ppm: form not built\n";
-    
+
     assert!(rt; refuses(&rt, alloc, b"P6\n1 1\n100\n\x00\x00\x00", PATH, texture));
     assert!(rt; refuses(&rt, alloc, &G4[..G4.len() - 1], PATH, texture));
     assert!(rt; refuses(&rt, alloc, b"", PATH, texture));
     // The path is read first.
-    assert!(rt; refuses(&rt, alloc, b"", b"", b"vtex: bad input: a.path: bad line 1\n"));
+    assert!(rt;
+        refuses(
+            &rt,
+            alloc,
+            b"",
+            b"",
+            b"vtex: bad input: a.path: bad line 1\n"
+        )
+    );
 }
 
 #[test]
@@ -202,9 +210,25 @@ fn bad_paths(rt: HostRuntime) {
     assert!(rt; refuses(&rt, alloc, G4, b"size 2 1\nsize 2 1\n", bad_line));
     assert!(rt; refuses(&rt, alloc, G4, b"size 2 1\nfocal 1", bad_line));
     let no_key: &[u8] = b"vtex: bad input: a.path: no key at line 3\n";
-    assert!(rt; refuses(&rt, alloc, G4, b"size 2 1\nfocal 1\nto 1 0 0 1 0 0\n", no_key));
+    assert!(rt;
+        refuses(
+            &rt,
+            alloc,
+            G4,
+            b"size 2 1\nfocal 1\nto 1 0 0 1 0 0\n",
+            no_key
+        )
+    );
     let many: &[u8] = b"size 2 1\nfocal 1\nat 0 0 1 0 0\nto 9999 0 0 1 0 0\n";
-    assert!(rt; refuses(&rt, alloc, G4, many, b"vtex: bad input: a.path: too many pictures\n"));
+    assert!(rt;
+        refuses(
+            &rt,
+            alloc,
+            G4,
+            many,
+            b"vtex: bad input: a.path: too many pictures\n"
+        )
+    );
 }
 
 #[test]
@@ -225,7 +249,15 @@ fn pictures_on_the_way(rt: HostRuntime) {
 
 #[test]
 fn no_pictures(rt: HostRuntime) {
-    match play(&rt, rt.alloc(), &WORDS, G4, b"size 2 1\nfocal 1\n", None, None) {
+    match play(
+        &rt,
+        rt.alloc(),
+        &WORDS,
+        G4,
+        b"size 2 1\nfocal 1\n",
+        None,
+        None,
+    ) {
         Ok(left) => {
             assert_eq!(rt; left.status, 0);
             assert!(rt; !left.has("f0000.ppm") && left.printed(b"end pictures 0\n", b""));
