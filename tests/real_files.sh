@@ -44,6 +44,32 @@ done <<'ROWS'
 130 257 128 50x20 7 0,0,65535,0,-16384
 ROWS
 
+# Several keys: rounding down on the way in both directions, a step of one picture, and a key of its own in between.
+$reference make 53 40 9 way.ppm
+printf 'size 9 6\nfocal 7\nat 100 -100 9000 16384 0\nto 7 -99 1 300 -16384 5\nat 5 5 4096 0 16384\nto 1 6 4 4095 1 16383\nto 3 9 -9 70000 16384 -3\n' > way.path
+$reference way.ppm way.path want.way 4
+printed=$("$program" plain way.ppm way.path got.way --tile 4)
+[ "$printed" = "end pictures 13" ]; say $? "several keys: the end line"
+same=0
+for k in 00 01 02 03 04 05 06 07 08 09 10 11 12; do cmp -s "want.way00$k.ppm" "got.way00$k.ppm" || same=1; done
+say "$same" "several keys: bytes"
+[ ! -e got.way0013.ppm ]; say $? "several keys: no further picture"
+
+# A path with no key draws nothing; paths that are refused name the line and its fault.
+refused() {
+  printf "$1" > refused.path
+  "$program" plain g4.ppm refused.path g --tile 2 > out 2> err; status=$?
+  [ "$status" -eq 4 ] && [ ! -s out ] && [ "$(cat err)" = "vtex: bad input: refused.path: $2" ] && [ ! -e g0000.ppm ]; say $? "$2"
+}
+printf 'size 2 1\nfocal 1\n' > none.path
+printed=$("$program" plain g4.ppm none.path g --tile 2)
+[ "$printed" = "end pictures 0" ] && [ ! -e g0000.ppm ]; say $? "a path with no key"
+refused 'size 2 1\n' 'bad line 2'
+refused 'size 2 1\nfocal 1\nat 0 0 256 16384 0\nat 0 0 0 16384 0\n' 'bad line 4'
+refused 'size 2 1\nfocal 1\nat 0 0 256 16384 0' 'bad line 3'
+refused 'size 2 1\nfocal 1\nto 2 0 0 256 16384 0\nat\n' 'no key at line 3'
+refused 'size 2 1\nfocal 1\nat 0 0 256 16384 0\nto 9999 0 0 256 16384 0\n' 'too many pictures'
+
 # Refusals print one line and write nothing.
 "$program" plain g4.ppm none g --tile 2 > out 2> err; status=$?
 [ "$status" -eq 3 ] && [ ! -s out ] && [ "$(cat err)" = "vtex: fault on files or output" ]; say $? "a missing path"

@@ -62,9 +62,17 @@ def draw(texture, path, prefix, tile):
     lines = [line.split(" ") for line in open(path).read().splitlines()]
     size, focal = (int(lines[0][1]), int(lines[0][2])), int(lines[1][1])
     levels = chain_of(read_texture(texture), int(tile))
-    for number, line in enumerate(lines[2:]):
-        assert line[0] == "at"
-        open("%s%04d.ppm" % (prefix, number), "wb").write(picture_of(levels, size, focal, [int(f) for f in line[1:]]))
+    cameras = []
+    for line in lines[2:]:
+        numbers = [int(field) for field in line[1:]]
+        if line[0] == "to":
+            first, steps, last = cameras[-1], numbers[0], numbers[1:]
+            cameras += [[a + (b - a) * step // steps for a, b in zip(first, last)] for step in range(1, steps + 1)]
+        else:
+            assert line[0] == "at"
+            cameras.append(numbers)
+    for number, camera in enumerate(cameras):
+        open("%s%04d.ppm" % (prefix, number), "wb").write(picture_of(levels, size, focal, camera))
 
 
 def make(width, height, seed, name):
