@@ -55,20 +55,51 @@ for k in 00 01 02 03 04 05 06 07 08 09 10 11 12; do cmp -s "want.way00$k.ppm" "g
 say "$same" "several keys: bytes"
 [ ! -e got.way0013.ppm ]; say $? "several keys: no further picture"
 
-# A path with no key draws nothing; paths that are refused name the line and its fault.
-refused() {
-  printf "$1" > refused.path
-  "$program" plain g4.ppm refused.path g --tile 2 > out 2> err; status=$?
-  [ "$status" -eq 4 ] && [ ! -s out ] && [ "$(cat err)" = "vtex: bad input: refused.path: $2" ] && [ ! -e g0000.ppm ]; say $? "$2"
-}
-printf 'size 2 1\nfocal 1\n' > none.path
-printed=$("$program" plain g4.ppm none.path g --tile 2)
-[ "$printed" = "end pictures 0" ] && [ ! -e g0000.ppm ]; say $? "a path with no key"
-refused 'size 2 1\n' 'bad line 2'
-refused 'size 2 1\nfocal 1\nat 0 0 256 16384 0\nat 0 0 0 16384 0\n' 'bad line 4'
-refused 'size 2 1\nfocal 1\nat 0 0 256 16384 0' 'bad line 3'
-refused 'size 2 1\nfocal 1\nto 2 0 0 256 16384 0\nat\n' 'no key at line 3'
-refused 'size 2 1\nfocal 1\nat 0 0 256 16384 0\nto 9999 0 0 256 16384 0\n' 'too many pictures'
+# Paths, in one table: the text as printf has it, and the number of pictures or the fault that is printed.
+while IFS='|' read -r text answer; do
+  printf "$text" > row.path
+  printed=$("$program" plain g4.ppm row.path row. --tile 2 2> err); status=$?
+  if [ "$answer" -eq "$answer" ] 2> /dev/null; then
+    [ "$status" -eq 0 ] && [ "$printed" = "end pictures $answer" ] && [ "$(ls | grep -c '^row\.0')" -eq "$answer" ]
+  else
+    [ "$status" -eq 4 ] && [ -z "$printed" ] && [ "$(cat err)" = "vtex: bad input: row.path: $answer" ] && [ ! -e row.0000.ppm ]
+  fi
+  say $? "path $text: $answer"
+  find . -name 'row.0*' -delete
+done <<'ROWS'
+size 2 1\nfocal 1\nat 0 0 256 16384 0\n|1
+size 2 1\nfocal 1\nat 0 0 256 16384 0\nto 3 -10 0 256 16384 0\n|4
+size 2 1\nfocal 1\n|0
+|bad line 1
+size 2 1|bad line 1
+size 2 1\n|bad line 2
+size 2 1\nfocal 1|bad line 2
+size 2 1\nsize 2 1\n|bad line 2
+size 2  1\nfocal 1\n|bad line 1
+size 0 1\n|bad line 1
+size 02 1\n|bad line 1
+size 2 1 \n|bad line 1
+size 2 1\r\n|bad line 1
+size 2 1\nfocal 1\n\n|bad line 3
+size 2 1\nfocal 1\nat -0 0 256 0 0\n|bad line 3
+size 2 1\nfocal 1\nat 0 0 0 0 0\n|bad line 3
+size 2 1\nfocal 1\nat -2147483649 0 1 0 0\n|bad line 3
+size 2 1\nfocal 1\nat 0 0 256 16384 0|bad line 3
+size 2 1\nfocal 1\nto 1 0 0 1 0 0\n|no key at line 3
+size 2 1\nfocal 1\nto 9999 0 0 1 0 0\n|no key at line 3
+size 2 1\nfocal 1\nto 2 0 0 256 16384 0\nat\n|no key at line 3
+size 2 1\nfocal 1\nto x 0 0 1 0 0\n|bad line 3
+size 2 1\nfocal 1\nat 0 0 256 16384 0\nto 0 0 0 1 0 0\n|bad line 4
+size 2 1\nfocal 1\nat 0 0 1 0 0\nto 9999 0 0 1 0 0\n|too many pictures
+ROWS
+
+# As many pictures as a path may have, of one pixel, over one texel.
+$reference make 1 1 5 dot.ppm
+printf 'size 1 1\nfocal 1\nat 0 0 256 16384 0\nto 9998 9 9 256 16384 0\n' > most.path
+mkdir most
+printed=$("$program" plain dot.ppm most.path most/p --tile 2)
+[ "$printed" = "end pictures 9999" ] && [ "$(ls most | wc -l)" -eq 9999 ]; say $? "9,999 pictures: the end line and their number"
+[ "$(cat most/*.ppm | md5sum)" = "$(for _ in $(seq 9999); do cat dot.ppm; done | md5sum)" ]; say $? "9,999 pictures: bytes"
 
 # Refusals print one line and write nothing.
 "$program" plain g4.ppm none g --tile 2 > out 2> err; status=$?
