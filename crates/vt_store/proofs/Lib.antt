@@ -1,0 +1,7 @@
+pub mod Accepted
+pub mod Faults
+pub mod Opening
+pub mod Spans
+pub mod Stored
+pub mod Tiles
+pub mod Writing

@@ -1,0 +1,49 @@
+use Rattle.std.proofs.Common.{◌≡◌, ◌-◌, ◌++◌, inr, sym, ap, ◌∙◌, arith}
+use Rattle.std.specs.Prelude.{option_map}
+use Rattle.vt_outside.proofs.Told.{OnErr-all}
+use Rattle.vt_outside.specs.Files.{with_bytes}
+use Rattle.vt_mip.specs.Chains.{chain_texel}
+use Rattle.vt_pages.specs.Pages.{pages_of}
+use Rattle.vt_store.specs.Format.{tiles_bytes}
+use Rattle.vt_store.specs.Written.{front_bytes}
+use Rattle.vt_store.proofs.Writing.{header_part, header_whole, kept_part, tiles_part, tiles_whole, front_all}
+use Rattle.vt_store.proofs.write.write_rows.Goals as goal
+
+pub returns-in_err-append-clause-part : goal.returns-in_err-append-clause-part
+returns-in_err-append-clause-part g c = OnErr-all _ _ (inr (header_part (g.D.Folder.files c.args.folder.now) (g.D.Folder.files c.create.new.self) (g.D.Folder.files c.append.new.self) c.args.name.now c.args.chain.now c.args.geometry.now c.header_of.result c.header_of.ensures c.in_ok-create.ensures.files c.in_err-append.ensures.part))
+
+pub returns-in_err-tiles-clause-part : goal.returns-in_err-tiles-clause-part
+returns-in_err-tiles-clause-part g c = OnErr-all _ _ (inr (kept_part (g.D.Folder.files c.args.folder.now) (g.D.Folder.files c.append.new.self) c.args.name.now c.args.chain.now c.args.geometry.now 0 (omega arith)
+    (header_whole (g.D.Folder.files c.args.folder.now) (g.D.Folder.files c.create.new.self) (g.D.Folder.files c.append.new.self) c.args.name.now c.args.chain.now c.args.geometry.now c.header_of.result c.header_of.ensures c.in_ok-create.ensures.files c.in_ok-append.ensures.files)))
+
+pub loop-page-init : goal.loop-page-init
+loop-page-init g c = record {
+  inside = omega arith;
+  held = header_whole (g.D.Folder.files c.args.folder.now) (g.D.Folder.files c.create.new.self) (g.D.Folder.files c.append.new.self) c.args.name.now c.args.chain.now c.args.geometry.now c.header_of.result c.header_of.ensures c.in_ok-create.ensures.files c.in_ok-append.ensures.files;
+  asked = c.append.ensures.asked ∙ c.create.ensures.asked;
+  faults = omega (arith, c.append.ensures.faults, c.create.ensures.faults);
+}
+
+pub returns-in_err-page-clause-part : goal.returns-in_err-page-clause-part
+returns-in_err-page-clause-part g c = OnErr-all _ _ (inr (kept_part (g.D.Folder.files c.args.folder.now) (g.D.Folder.files c.loop-page.folder) c.args.name.now c.args.chain.now c.args.geometry.now c.loop-page.page c.loop-page.invariant.inside c.loop-page.invariant.held))
+
+pub loop-page-preserved : goal.loop-page-preserved
+loop-page-preserved g c = record {
+  inside = c.in_ok-page.ensures.inside;
+  held = tiles_whole (g.D.Folder.files c.args.folder.now) (g.D.Folder.files c.loop-page.folder) (g.D.Folder.files c.append-in-loop-page.new.self) c.args.name.now c.deref.result.now c.args.chain.now c.args.geometry.now c.loop-page.page c.in_ok-page.page (omega (arith, c.in_ok-page.ensures.longer))
+      (c.deref.ensures.value ∙ c.in_ok-page.ensures.tiles ∙ ap (λ l. l ++ tiles_bytes c.args.geometry.now (chain_texel c.args.chain.now) c.loop-page.page (c.in_ok-page.page - c.loop-page.page)) c.clear.ensures.items)
+      c.loop-page.invariant.held c.in_ok-append-2.ensures.files;
+  asked = c.append-in-loop-page.ensures.asked ∙ c.loop-page.invariant.asked;
+  faults = omega (arith, c.append-in-loop-page.ensures.faults, c.loop-page.invariant.faults);
+}
+
+pub returns-in_err-append-2-clause-part : goal.returns-in_err-append-2-clause-part
+returns-in_err-append-2-clause-part g c = OnErr-all _ _ (inr (tiles_part (g.D.Folder.files c.args.folder.now) (g.D.Folder.files c.loop-page.folder) (g.D.Folder.files c.append-in-loop-page.new.self) c.args.name.now c.deref.result.now c.args.chain.now c.args.geometry.now c.loop-page.page c.in_ok-page.page (omega (arith, c.in_ok-page.ensures.longer)) c.in_ok-page.ensures.inside
+    (c.deref.ensures.value ∙ c.in_ok-page.ensures.tiles ∙ ap (λ l. l ++ tiles_bytes c.args.geometry.now (chain_texel c.args.chain.now) c.loop-page.page (c.in_ok-page.page - c.loop-page.page)) c.clear.ensures.items)
+    c.loop-page.invariant.held c.in_err-append-2.ensures.part))
+
+pub returns-clause-whole : goal.returns-clause-whole
+returns-clause-whole g c =
+    let e : c.loop-page.page ≡ pages_of c.args.geometry.now = omega (arith, c.page_count.ensures.pages, c.loop-page.invariant.inside) in
+    c.loop-page.invariant.held ∙ ap (λ p. option_map (with_bytes c.args.name.now (front_bytes c.args.chain.now c.args.geometry.now p)) (g.D.Folder.files c.args.folder.now)) e
+    ∙ ap (λ l. option_map (with_bytes c.args.name.now l) (g.D.Folder.files c.args.folder.now)) (front_all c.args.chain.now c.args.geometry.now)

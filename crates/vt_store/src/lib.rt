@@ -1,0 +1,16 @@
+//! Tile stores: the tiles of all pages of a mip chain in one file, raw, each at a place that its page's index tells.
+#![tactic(auto)]
+
+mod error;
+mod header;
+mod laws;
+mod store;
+mod write;
+
+pub use error::StoreError;
+pub use laws::{pieces_hold_texels, stores_hold_sources, stores_open};
+pub use store::Store;
+pub use write::write_store;
+
+#[cfg(test)]
+mod tests;

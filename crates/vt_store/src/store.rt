@@ -1,0 +1,131 @@
+//! A store that is read tile by tile.
+ghost use Rattle.std.specs.Prelude.{◌≡◌, ℕ, ◌+◌, ◌*◌, ◌<◌, ◌≤◌, ◌≢◌, length, false, is_err, option_map, Option, Some, None, IsErr, IsErrOf, IfOk, IfErr, IfSome, OnOk, OnErr};
+ghost use Rattle.vt_outside.specs.Counts.{Rose};
+ghost use Rattle.vt_outside.specs.Files.{IsPiece, noted};
+ghost use Rattle.vt_pages.specs.Pages.{pages_of};
+ghost use Rattle.vt_store.specs.Format.{store_fault, tile_start, tile_length};
+ghost use Rattle.vt_store.specs.Opened.{StoreView, IsStore, IsStoreIfTold, file_after, AsksOneAtMost};
+ghost use Rattle.vt_store.specs.Refusals.{IsFault};
+
+use crate::StoreError;
+use crate::header::{HEADER_LENGTH, geometry_of, tile_start};
+use std::marker::Model;
+use vt_outside::{Failed, File, NoMemory};
+use vt_pages::Geometry;
+
+/// A file that holds the tiles of all pages of a mip chain. Contracts see the file and the shape of the pages.
+pub struct Store<F: File> {
+    file: F,
+    geometry: Geometry,
+}
+
+impl<F: File> Model for Store<F> {
+    ghost use Rattle.vt_store.specs.Opened.{StoreView, IsStoreIfTold};
+
+    ghost Value = { StoreView F };
+
+    ghost view = { λ s. record { file = s.file; shape = s.geometry } };
+
+    ghost invariant = { λ s. IsStoreIfTold (F.bytes s.file) s.geometry };
+}
+
+/// Reads the header of a file, by one read of its first 16 bytes, or of all where there are fewer.
+fn read_geometry<F: File>(file: &mut F) -> Result<Geometry, StoreError>
+    ensures store { IfOk result (λ g. IsStoreIfTold (F.bytes file.old) g) }
+    ensures fault { IfErr result (λ e. (IsFault e → ⊥) → IfSome (F.bytes file.old) (λ b. store_fault b ≡ Some e)) }
+    ensures failed { IsErrOf result StoreError.Failed → Rose (F.faults file.old) (F.faults file.new) }
+    ensures read { OnOk result (F.asked file.new ≡ option_map (noted 0 16 false) (F.asked file.old)) }
+    ensures asked { AsksOneAtMost (F.asked file.old) (F.asked file.new) }
+    ensures bytes { F.bytes file.new ≡ F.bytes file.old }
+    ensures name { F.name file.new ≡ F.name file.old }
+    ensures faults { F.faults file.old ≤ F.faults file.new }
+{
+    let have = file.length()?;
+    file.reserve(1)?;
+    let mut buffer = [0; HEADER_LENGTH];
+    let head = &mut buffer[..have.min(HEADER_LENGTH as u64) as usize];
+    file.read_at(0, head)?;
+    geometry_of(head, have)
+}
+
+impl<F: File> Store<F> {
+    /// Opens the store of a file: asks its length, and reads its first 16 bytes, or all where there are fewer.
+    /// A refusal hands the file back.
+    ///
+    /// Where the file tells its bytes, `BadMagic`, `BadGeometry` and `WrongLength` come exactly as the first fault of those
+    /// bytes. `Failed` comes only where the file's count of faults rose, and `NoMemory` where memory was refused.
+    pub fn open(mut file: F) -> Result<Store<F>, (F, StoreError)>
+        ensures store { IfOk result (λ s. IsStoreIfTold (F.bytes file) s.shape) }
+        ensures fault { IfErr result (λ e. (IsFault e.1 → ⊥) → IfSome (F.bytes file) (λ b. store_fault b ≡ Some e.1)) }
+        ensures failed { IfErr result (λ e. e.1 ≡ StoreError.Failed → Rose (F.faults file) (F.faults e.0)) }
+        ensures read { IfOk result (λ s. F.asked s.file ≡ option_map (noted 0 16 false) (F.asked file)) }
+        ensures asked { AsksOneAtMost (F.asked file) (F.asked (file_after result)) }
+        ensures bytes { F.bytes (file_after result) ≡ F.bytes file }
+        ensures name { F.name (file_after result) ≡ F.name file }
+        ensures faults { F.faults file ≤ F.faults (file_after result) }
+    {
+        match read_geometry(&mut file) {
+            Ok(geometry) => Ok(Store { file, geometry }),
+            Err(refusal) => Err((file, refusal)),
+        }
+    }
+
+    /// A reader of a file without a read, where the file's bytes are known to be a store of this geometry, as those of a
+    /// file that was opened before.
+    pub fn same(file: F, geometry: &Geometry) -> Store<F>
+        requires { IsStoreIfTold (F.bytes file) geometry.now }
+        ensures { result ≡ record { file = file; shape = geometry.now } }
+    {
+        Store {
+            file,
+            geometry: *geometry,
+        }
+    }
+
+    /// Makes room to note so many more reads. After a refusal nothing changed.
+    pub fn reserve(&mut self, reads: u64) -> Result<(), NoMemory>
+        ensures room { OnOk result (reads ≤ F.spare self.new.file) }
+        ensures refused { OnErr result (F.spare self.new.file ≡ F.spare self.old.file) }
+        ensures bytes { F.bytes self.new.file ≡ F.bytes self.old.file }
+        ensures asked { F.asked self.new.file ≡ F.asked self.old.file }
+        ensures name { F.name self.new.file ≡ F.name self.old.file }
+        ensures faults { F.faults self.new.file ≡ F.faults self.old.file }
+        ensures shape { self.new.shape ≡ self.old.shape }
+    {
+        self.file.reserve(reads)
+    }
+
+    /// Fills the buffer, which has the length of a tile, with the tile of a page, by one read. The place is noted whatever
+    /// the answer. `Failed` comes only where the file's count of faults rose.
+    pub fn read_tile(&mut self, page: u32, buf: &mut [u8]) -> Result<(), Failed>
+        requires size { length buf.old ≡ tile_length self.old.shape }
+        requires spare { 1 ≤ F.spare self.old.file }
+        requires page { page < pages_of self.old.shape }
+        ensures tile { OnOk result (IfSome (F.bytes self.old.file) (λ b. IsPiece b (tile_start self.old.shape page) buf.new)) }
+        ensures failed { IsErr result → Rose (F.faults self.old.file) (F.faults self.new.file) }
+        ensures asked { F.asked self.new.file ≡ option_map (noted (tile_start self.old.shape page) (tile_length self.old.shape) (is_err result)) (F.asked self.old.file) }
+        ensures spare { F.spare self.old.file ≤ F.spare self.new.file + 1 }
+        ensures bytes { F.bytes self.new.file ≡ F.bytes self.old.file }
+        ensures name { F.name self.new.file ≡ F.name self.old.file }
+        ensures faults { F.faults self.old.file ≤ F.faults self.new.file }
+        ensures shape { self.new.shape ≡ self.old.shape }
+    {
+        self.file.read_at(tile_start(&self.geometry, page), buf)
+    }
+
+    /// How the store is cut into pages.
+    pub fn geometry(&self) -> Geometry
+        ensures shape { result ≡ self.now.shape }
+        ensures store { IsStoreIfTold (F.bytes self.now.file) self.now.shape }
+    {
+        self.geometry
+    }
+
+    /// The file, in place of the store.
+    pub fn into_file(self) -> F
+        ensures { result ≡ self.file }
+    {
+        let Store { file, geometry: _ } = self;
+        file
+    }
+}

@@ -1,0 +1,199 @@
+use crate::{Store, StoreError, write_store};
+use std::alloc::Global;
+use std::test::Fail as TestFail;
+use vt_mip::Chain;
+use vt_outside::{Fail, Fails, Folder, MemoryFolder, NoMemory, Place};
+use vt_pages::Geometry;
+use vt_ppm::Image;
+
+const STORE_G4: [u8; 76] = [
+    0x56, 0x54, 0x53, 0x31, 0, 0, 0, 4, 0, 0, 0, 4, 0, 0, 0, 2, 0, 0, 0, 1, 1, 1, 4, 4, 4, 5, 5, 5,
+    2, 2, 2, 3, 3, 3, 6, 6, 6, 7, 7, 7, 8, 8, 8, 9, 9, 9, 12, 12, 12, 13, 13, 13, 10, 10, 10, 11,
+    11, 11, 14, 14, 14, 15, 15, 15, 3, 3, 3, 5, 5, 5, 11, 11, 11, 13, 13, 13,
+];
+
+fn list_of(alloc: Global, calls: &[Fail]) -> Result<Fails, NoMemory> {
+    let mut fails = Fails::new(alloc);
+    for call in calls {
+        fails.reserve(1)?;
+        fails.push(*call);
+    }
+    Ok(fails)
+}
+
+fn folder_of(alloc: Global, calls: &[Fail], bytes: &[u8]) -> Result<MemoryFolder, NoMemory> {
+    let mut folder = MemoryFolder::new(alloc, list_of(alloc, calls)?);
+    folder.add("a", bytes)?;
+    Ok(folder)
+}
+
+fn holds(folder: &MemoryFolder, name: &str, bytes: &[u8]) -> bool {
+    match folder.bytes_of(name) {
+        Some(held) => held == bytes,
+        None => false,
+    }
+}
+
+// The sides and the tile side of the store that a name holds, or why it was refused.
+fn opened(folder: &mut impl Folder, name: &str) -> Result<(u32, u32, u32), StoreError> {
+    let file = match folder.open(name) {
+        Ok(file) => file,
+        Err(refusal) => return Err(StoreError::from(refusal)),
+    };
+    match Store::open(file) {
+        Ok(store) => {
+            let geometry = store.geometry();
+            folder.close(store.into_file());
+            Ok((geometry.width(), geometry.height(), geometry.tile()))
+        }
+        Err((file, refusal)) => {
+            folder.close(file);
+            Err(refusal)
+        }
+    }
+}
+
+// The tile of a page of the store with tiles of side 2 that a name holds.
+fn tile_of(folder: &mut impl Folder, name: &str, page: u32) -> Option<[u8; 12]> {
+    let file = folder.open(name).ok()?;
+    let mut store = match Store::open(file) {
+        Ok(store) => store,
+        Err((file, _)) => {
+            folder.close(file);
+            return None;
+        }
+    };
+    let geometry = store.geometry();
+    let mut tile = [0; 12];
+    let is_read = geometry.tile() == 2
+        && page < geometry.page_count()
+        && store.reserve(1).is_ok()
+        && store.read_tile(page, &mut tile).is_ok();
+    folder.close(store.into_file());
+    if is_read { Some(tile) } else { None }
+}
+
+// Makes the name `b` hold the store with tiles of side 2 of an image of so many columns, the samples of each texel being one gray.
+fn written(alloc: Global, folder: &mut impl Folder, image: Image) -> Result<(), StoreError> {
+    let geometry = match Geometry::new(image.width(), image.height(), 2) {
+        Ok(geometry) => geometry,
+        Err(_) => return Err(StoreError::BadGeometry),
+    };
+    let chain = Chain::build(alloc, image, 2)?;
+    write_store(alloc, &chain, &geometry, folder, "b")
+}
+
+fn image_g4(alloc: Global) -> Result<Image, NoMemory> {
+    let samples = [
+        0, 0, 0, 1, 1, 1, 2, 2, 2, 3, 3, 3, 4, 4, 4, 5, 5, 5, 6, 6, 6, 7, 7, 7, 8, 8, 8, 9, 9, 9,
+        10, 10, 10, 11, 11, 11, 12, 12, 12, 13, 13, 13, 14, 14, 14, 15, 15, 15,
+    ];
+    Ok(Image::new(4, 4, Vec::from_array(alloc, samples)?))
+}
+
+#[test]
+fn four_by_four(rt: HostRuntime) -> Result<(), TestFail> {
+    let mut folder = folder_of(rt.alloc(), &[], b"old")?;
+    let image = image_g4(rt.alloc())?;
+    written(rt.alloc(), &mut folder, image)?;
+    assert!(rt; holds(&folder, "b", &STORE_G4));
+    assert_eq!(rt; opened(&mut folder, "b"), Ok((4, 4, 2)));
+    let want = [2, 2, 2, 3, 3, 3, 6, 6, 6, 7, 7, 7];
+    assert_eq!(rt; tile_of(&mut folder, "b", 1), Some(want));
+    let place = |at, len| Some(Place {
+        at,
+        len,
+        failed: false,
+    });
+    assert_eq!(rt; folder.asked("b", 1), place(0, 16));
+    assert_eq!(rt; folder.asked("b", 2), place(28, 12));
+    assert!(rt; folder.asked("b", 3).is_none());
+    Ok(())
+}
+
+#[test]
+fn one_by_one(rt: HostRuntime) -> Result<(), TestFail> {
+    let mut folder = folder_of(rt.alloc(), &[], b"old")?;
+    let image = Image::new(1, 1, Vec::from_array(rt.alloc(), [10, 20, 30])?);
+    written(rt.alloc(), &mut folder, image)?;
+    let want = [
+        0x56, 0x54, 0x53, 0x31, 0, 0, 0, 1, 0, 0, 0, 1, 0, 0, 0, 2, 10, 20, 30, 10, 20, 30, 10, 20,
+        30, 10, 20, 30,
+    ];
+    assert!(rt; holds(&folder, "b", &want));
+    Ok(())
+}
+
+#[test]
+fn odd_sides(rt: HostRuntime) -> Result<(), TestFail> {
+    let mut folder = folder_of(rt.alloc(), &[], b"old")?;
+    let samples = [
+        0, 0, 0, 1, 1, 1, 2, 2, 2, 3, 3, 3, 4, 4, 4, 10, 10, 10, 11, 11, 11, 12, 12, 12, 13, 13,
+        13, 14, 14, 14, 20, 20, 20, 21, 21, 21, 22, 22, 22, 23, 23, 23, 24, 24, 24,
+    ];
+    let image = Image::new(5, 3, Vec::from_array(rt.alloc(), samples)?);
+    written(rt.alloc(), &mut folder, image)?;
+    assert_eq!(rt; opened(&mut folder, "b"), Ok((5, 3, 2)));
+    let edge = [4, 4, 4, 4, 4, 4, 14, 14, 14, 14, 14, 14];
+    assert_eq!(rt; tile_of(&mut folder, "b", 2), Some(edge));
+    let corner = [24, 24, 24, 24, 24, 24, 24, 24, 24, 24, 24, 24];
+    assert_eq!(rt; tile_of(&mut folder, "b", 5), Some(corner));
+    let last = [15, 15, 15, 17, 17, 17, 15, 15, 15, 17, 17, 17];
+    assert_eq!(rt; tile_of(&mut folder, "b", 8), Some(last));
+    Ok(())
+}
+
+#[test]
+fn refusals(rt: HostRuntime) -> Result<(), TestFail> {
+    let longer = [0; 77];
+    let mut bytes = longer;
+    bytes[..76].copy_from_slice(&STORE_G4);
+    let mut other_tile = STORE_G4;
+    other_tile[15] = 3;
+    let wrong = |want, have| Err(StoreError::WrongLength { want, have });
+    let rows = [
+        (&STORE_G4[..3], Err(StoreError::BadMagic)),
+        (b"VTS2".as_slice(), Err(StoreError::BadMagic)),
+        (&STORE_G4[..4], wrong(16, 4)),
+        (&STORE_G4[..15], wrong(16, 15)),
+        (&STORE_G4[..16], wrong(76, 16)),
+        (&STORE_G4[..75], wrong(76, 75)),
+        (&other_tile[..], Err(StoreError::BadGeometry)),
+        (&bytes[..], wrong(76, 77)),
+        (&STORE_G4[..], Ok((4, 4, 2))),
+    ];
+    for (bytes, want) in rows {
+        let mut folder = folder_of(rt.alloc(), &[], bytes)?;
+        assert_eq!(rt; opened(&mut folder, "a"), want);
+    }
+    Ok(())
+}
+
+#[test]
+fn faults(rt: HostRuntime) -> Result<(), TestFail> {
+    let calls = [
+        Fail::Length { opening: 0 },
+        Fail::Read {
+            opening: 1,
+            read: 0,
+        },
+        Fail::Append(2),
+        Fail::Create(1),
+    ];
+    let mut folder = folder_of(rt.alloc(), &calls, &STORE_G4)?;
+    assert_eq!(rt; opened(&mut folder, "a"), Err(StoreError::Failed));
+    assert_eq!(rt; opened(&mut folder, "a"), Err(StoreError::Failed));
+    let image = image_g4(rt.alloc())?;
+    assert_eq!(rt;
+        written(rt.alloc(), &mut folder, image),
+        Err(StoreError::Failed)
+    );
+    assert!(rt; holds(&folder, "b", &STORE_G4[..52]));
+    let image = image_g4(rt.alloc())?;
+    assert_eq!(rt;
+        written(rt.alloc(), &mut folder, image),
+        Err(StoreError::Failed)
+    );
+    assert!(rt; holds(&folder, "b", &STORE_G4[..52]));
+    Ok(())
+}
