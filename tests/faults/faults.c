@@ -63,22 +63,24 @@ ssize_t write(int file, const void *buffer, size_t n) {
     return real(file, buffer, hit("short_write") && n > 1 ? n / 2 : n);
 }
 
-int open(const char *name, int flags, ...) {
-    int (*real)(const char *, int, ...) = dlsym(RTLD_NEXT, "open");
-    va_list rest;
-    va_start(rest, flags);
-    int mode = va_arg(rest, int);
-    va_end(rest);
+static int opened(const char *call, const char *name, int flags, int mode) {
+    int (*real)(const char *, int, ...) = dlsym(RTLD_NEXT, call);
     if (hit("open")) { errno = EIO; return -1; }
     return real(name, flags, mode);
 }
 
-int open64(const char *name, int flags, ...) {
-    int (*real)(const char *, int, ...) = dlsym(RTLD_NEXT, "open64");
+int open(const char *name, int flags, ...) {
     va_list rest;
     va_start(rest, flags);
-    int mode = va_arg(rest, int);
+    int file = opened("open", name, flags, va_arg(rest, int));
     va_end(rest);
-    if (hit("open")) { errno = EIO; return -1; }
-    return real(name, flags, mode);
+    return file;
+}
+
+int open64(const char *name, int flags, ...) {
+    va_list rest;
+    va_start(rest, flags);
+    int file = opened("open64", name, flags, va_arg(rest, int));
+    va_end(rest);
+    return file;
 }
