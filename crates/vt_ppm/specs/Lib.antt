@@ -1,5 +1,5 @@
 pub mod Image
 pub mod Format
-pub mod Header
+pub mod Faults
 pub mod Picture
 pub mod Refusals

@@ -1,6 +1,6 @@
 -- Which refusals come.
 use Rattle.vt_ppm.specs.declared.error.PpmError.{PpmError}
-use Rattle.vt_ppm.specs.declared.error.PpmError.TheVariants.{Failed, NoMemory, Unbuilt}
+use Rattle.vt_ppm.specs.declared.error.PpmError.TheVariants.{Failed, NoMemory, Truncated, SampleOver}
 
 -- a refusal that the file or the memory makes (this project's profile)
 abbrev pub IsFault : PpmError → Type 0
@@ -8,7 +8,8 @@ IsFault Failed = Unit {0}
 IsFault NoMemory = Unit {0}
 IsFault _ = ⊥
 
--- a refusal that comes as long as only plain images are read (this project's profile)
-abbrev pub IsFirstRefusal : PpmError → Type 0
-IsFirstRefusal Unbuilt = Unit {0}
-IsFirstRefusal e = IsFault e
+-- a refusal that speaks of the raster, and so none that reading a header alone has (this project's profile)
+abbrev pub IsRasterRefusal : PpmError → Type 0
+IsRasterRefusal (Truncated want have) = Unit {0}
+IsRasterRefusal (SampleOver at) = Unit {0}
+IsRasterRefusal _ = ⊥

@@ -10,7 +10,8 @@ pub enum PpmError {
     /// The first two bytes are not `P6`.
     #[error("bad magic")]
     BadMagic,
-    /// The header does not go on at byte `at`, the first such byte.
+    /// The header does not go on at byte `at`, the first such byte; this is the length where the file ends inside the
+    /// header, and 65,536 where the header does not end before that byte.
     #[error("bad header at byte {at}")]
     BadHeader { at: u64 },
     /// A side is outside 1 to 8,192.
@@ -34,9 +35,6 @@ pub enum PpmError {
     /// Memory was refused.
     #[error("out of memory")]
     NoMemory,
-    /// The form is not built yet: a comment in the header, or another maximum than 255, or one of the first seven.
-    #[error("form not built")]
-    Unbuilt,
 }
 
 impl From<Failed> for PpmError {

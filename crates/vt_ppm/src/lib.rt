@@ -4,15 +4,11 @@
 mod error;
 mod header;
 mod image;
-mod laws;
 mod picture;
 mod read;
 
 pub use error::PpmError;
+pub use header::Header;
 pub use image::Image;
-pub use laws::{plain_image_is_one, written_is_read};
 pub use picture::encode;
-pub use read::read_image;
-
-#[cfg(test)]
-mod tests;
+pub use read::{read_header, read_image};

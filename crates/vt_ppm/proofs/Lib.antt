@@ -1,4 +1,0 @@
-pub mod Fields
-pub mod Headers
-pub mod Images
-pub mod Written
