@@ -4,11 +4,15 @@
 mod error;
 mod header;
 mod image;
+mod laws;
 mod picture;
 mod read;
 
 pub use error::PpmError;
 pub use header::Header;
 pub use image::Image;
+pub use laws::{
+    fault_is_one, header_has_no_fault, image_has_no_fault, image_is_one, written_is_read,
+};
 pub use picture::encode;
 pub use read::{read_header, read_image};

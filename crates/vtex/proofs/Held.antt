@@ -62,3 +62,7 @@ five_pieces a b c d e x y z u v p q r s t = cc (append-nil e)
 
 pub six_pieces : (a b c d e f x y z u v w : List ℕ) → a ≡ x → b ≡ y → c ≡ z → d ≡ u → e ≡ v → f ≡ w → a ++ (b ++ (c ++ (d ++ (e ++ (f ++ []))))) ≡ x ++ (y ++ (z ++ ((u ++ v) ++ w)))
 six_pieces a b c d e f x y z u v w p q r s t o = cc (append-nil f, append_assoc u v w)
+
+pub eight_pieces : (a b c d e f g h x y z u v w s t : List ℕ) → a ≡ x → b ≡ y → c ≡ z → d ≡ u → e ≡ v → f ≡ w → g ≡ s → h ≡ t
+    → a ++ (b ++ (c ++ (d ++ (e ++ (f ++ (g ++ (h ++ []))))))) ≡ x ++ (y ++ (z ++ ((u ++ (v ++ (w ++ s))) ++ t)))
+eight_pieces a b c d e f g h x y z u v w s t p q r o i j k l = cc (append-nil h, append_assoc u (v ++ (w ++ s)) t, append_assoc v (w ++ s) t, append_assoc w s t)

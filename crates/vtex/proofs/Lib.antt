@@ -1,4 +1,6 @@
 pub mod Held
 pub mod Opened
 pub mod Stops
+pub mod TileStops
+pub mod FlawLemmas
 pub mod Ended

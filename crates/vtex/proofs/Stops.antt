@@ -9,7 +9,8 @@ use Rattle.vt_camera.specs.Paths.{PathView}
 use Rattle.vtex.specs.Lines.{end_line}
 use Rattle.vt_draw.specs.Plain.{plain_samples}
 use Rattle.vtex.specs.Plain.{plain_file}
-use Rattle.vtex.specs.Refusals.{HoldsPath, HoldsTexture, Reads, with_pictures, IsPartOf, IsStopped}
+use Rattle.vtex.specs.Inputs.{HoldsPath, HoldsTexture}
+use Rattle.vtex.specs.PlainRuns.{Reads, with_pictures, IsPartOf, PlainDone, PlainStopped}
 use Rattle.vtex.specs.Words.{PlainText}
 
 -- the bytes that were encoded of a picture's samples are its file
@@ -26,7 +27,7 @@ file_is texture tile path picture w h given bytes shown samples a b c d e f =
 pub stopped_writing : (words : PlainText) (before mid after : Option Files) (held : Option (List ℕ)) (texture : Picture) (path : PathView) (chain : ChainView)
     → HoldsPath before words.path path → HoldsTexture before words.texture texture → mid ≡ before → chain ≡ record { base = texture; tile = words.tile }
     → ((whole : ℕ) × (whole ≤ length path.cameras) × IsPartOf words.prefix (plain_file chain.base chain.tile path) (length path.cameras) whole mid after)
-    → IsStopped words before after held held
+    → PlainStopped words before after held held
 stopped_writing words before mid after held texture path chain is_path is_texture same made part = record {
   texture = texture;
   path = path;
@@ -43,7 +44,7 @@ pub stopped_ending : (words : PlainText) (before mid after : Option Files) (held
     → HoldsPath before words.path path → HoldsTexture before words.texture texture → mid ≡ before → chain ≡ record { base = texture; tile = words.tile }
     → after ≡ option_map (with_pictures words.prefix (plain_file chain.base chain.tile path) (length path.cameras)) mid
     → pictures ≡ length path.cameras → ((k : ℕ) × (shown ≡ option_map (gained (take k (end_line pictures))) held))
-    → IsStopped words before after held shown
+    → PlainStopped words before after held shown
 stopped_ending words before mid after held shown texture path chain pictures is_path is_texture same made files all part =
     let written : after ≡ option_map (with_pictures words.prefix (plain_file texture words.tile path) (length path.cameras)) before =
     files
@@ -58,3 +59,19 @@ stopped_ending words before mid after held shown texture path chain pictures is_
       files = inl written;
       out = inr (written, part.0, part.1 ∙ ap (λ (n : ℕ). option_map (gained (take part.0 (end_line n))) held) all);
     }
+
+-- all pictures and the end line
+pub all_written : (words : PlainText) (before mid after : Option Files) (held shown : Option (List ℕ)) (texture : Picture) (path : PathView) (chain : ChainView) (pictures : ℕ)
+    → HoldsPath before words.path path → HoldsTexture before words.texture texture → mid ≡ before → chain ≡ record { base = texture; tile = words.tile }
+    → after ≡ option_map (with_pictures words.prefix (plain_file chain.base chain.tile path) (length path.cameras)) mid
+    → pictures ≡ length path.cameras → shown ≡ option_map (gained (end_line pictures)) held
+    → PlainDone words before after held shown
+all_written words before mid after held shown texture path chain pictures is_path is_texture same made files all out = record {
+  texture = texture;
+  path = path;
+  reads = record { is_path = is_path; is_texture = is_texture };
+  files = files
+      ∙ ap (λ (ch : ChainView). option_map (with_pictures words.prefix (plain_file ch.base ch.tile path) (length path.cameras)) mid) made
+      ∙ ap (option_map (with_pictures words.prefix (plain_file texture words.tile path) (length path.cameras))) same;
+  out = out ∙ ap (λ (n : ℕ). option_map (gained (end_line n)) held) all;
+}

@@ -1,11 +1,15 @@
 pub mod Words
 pub mod Names
 pub mod Lines
-pub mod PlainWords
+pub mod Shown
 pub mod Pieces
 pub mod Endings
 pub mod Told
 pub mod Plain
 pub mod Causes
-pub mod Refusals
+pub mod Inputs
+pub mod FlawedInputs
+pub mod PlainRuns
+pub mod TileRuns
+pub mod InfoRuns
 pub mod Runs

@@ -1,12 +1,19 @@
 //! Which command the words ask for, and how it ends.
 
+ghost use Rattle.std.specs.Prelude.{◌≡◌, ◌⊎◌, IsSome, OnOk, OnErr, IsErrOf, Err};
+ghost use Rattle.vt_outside.specs.Counts.{Rose};
 ghost use Rattle.vtex.specs.Words.{texts};
-ghost use Rattle.vtex.specs.Runs.{IsEnding};
+ghost use Rattle.vtex.specs.Shown.{shown, HasTileSide};
+ghost use Rattle.vtex.specs.Runs.{IsDone, IsLeft, IsMissing, HasFlaw, IsEnding, flawed_name};
+ghost use Rattle.vtex.specs.declared.flaws.Flaw.{Flaw};
 
-use crate::ending::{Ending, Flaw};
+use crate::ending::Ending;
+use crate::flaws::Flaw;
+use crate::info::info;
 use crate::plain::plain;
 use crate::refusal::Refusal;
-use crate::words::plain_words;
+use crate::tile::tile;
+use crate::words::{Command, command_words};
 use std::alloc::Global;
 use vt_outside::{Folder, Sink};
 
@@ -29,14 +36,48 @@ pub fn do_command<'a, D: Folder, O: Sink>(
       out_faults_after = O.faults out.new;
     }) }
 {
-    let Some(words) = plain_words(words) else {
+    let Some(command) = command_words(words) else {
         return Ending::Usage;
     };
-    match plain(alloc, &words, folder, out) {
+    match perform(alloc, &command, folder, out) {
         Ok(()) => Ending::Done,
         Err(Refusal::NoMemory) => Ending::OutOfMemory,
         Err(Refusal::Fault) => Ending::Fault,
-        Err(Refusal::Path(error)) => Ending::BadInput(words.path, Flaw::Path(error)),
-        Err(Refusal::Texture) => Ending::BadInput(words.texture, Flaw::Texture),
+        Err(Refusal::Flaw(flaw)) => Ending::BadInput(flawed_name(&command, flaw), flaw),
+    }
+}
+
+// Does a command.
+fn perform<D: Folder, O: Sink>(
+    alloc: Global,
+    command: &Command<'_>,
+    folder: &mut D,
+    out: &mut O,
+) -> Result<(), Refusal>
+    requires { HasTileSide command.now }
+    ensures done { OnOk result (IsSome (D.files folder.old) → IsDone (shown command.now) (D.files folder.old) (D.files folder.new) (O.held out.old) (O.held out.new)) }
+    ensures left { OnErr result (IsSome (D.files folder.old) → IsLeft (shown command.now) (D.files folder.old) (D.files folder.new) (O.held out.old) (O.held out.new)) }
+    ensures flawed { (flaw : Flaw) → result ≡ Err (Refusal.Flaw flaw) → IsSome (D.files folder.old) → HasFlaw (shown command.now) (D.files folder.old) flaw }
+    ensures untouched { (flaw : Flaw) → result ≡ Err (Refusal.Flaw flaw) → (D.files folder.new ≡ D.files folder.old) × (O.held out.new ≡ O.held out.old) }
+    ensures fault { IsErrOf result Refusal.Fault → Rose (D.faults folder.old) (D.faults folder.new) ⊎ (Rose (O.faults out.old) (O.faults out.new) ⊎ IsMissing (shown command.now) (D.files folder.old)) }
+{
+    match command {
+        Command::Plain(words) => plain(alloc, words, folder, out),
+        Command::Tile(words) => tile(alloc, words, folder, out),
+        Command::Info(words) => info(alloc, words, folder, out),
+    }
+}
+
+// The name of the input that has a flaw.
+fn flawed_name<'a>(command: &Command<'a>, flaw: Flaw) -> &'a str
+    ensures { result.now ≡ flawed_name (shown command.now) flaw }
+{
+    match command {
+        Command::Plain(words) => match flaw {
+            Flaw::Path(_) => words.path,
+            _ => words.texture,
+        },
+        Command::Tile(words) => words.texture,
+        Command::Info(words) => words.store,
     }
 }

@@ -1,23 +1,12 @@
 //! How a command ends: its status, and its line on the error output.
 
-ghost use Rattle.std.specs.Prelude.{◌≡◌, ◌++◌, decimal};
-ghost use Rattle.vtex.specs.Endings.{status_of, line_of, place_of, path_place};
-ghost use Rattle.vtex.specs.Lines.{bad_input_line};
+ghost use Rattle.std.specs.Prelude.{◌≡◌};
+ghost use Rattle.vtex.specs.Endings.{status_of, line_of};
 ghost use Rattle.vtex.specs.Told.{Tells};
 
+use crate::flaws::{Flaw, tell_flaw};
 use crate::lines::tell_pieces;
-use itoa::Buffer;
-use vt_camera::PathError;
 use vt_outside::Sink;
-
-/// What is wrong with an input.
-#[derive(Clone, Copy)]
-pub enum Flaw {
-    /// The path's first faulty line.
-    Path(PathError),
-    /// The texture has not the form that is read so far.
-    Texture,
-}
 
 /// How a command ended.
 #[derive(Clone, Copy)]
@@ -65,60 +54,4 @@ impl Ending<'_> {
             Ending::BadInput(name, flaw) => tell_flaw(err, name, *flaw),
         }
     }
-}
-
-// Puts the line of an input that is refused: its name and the place of its flaw.
-fn tell_flaw<E: Sink>(err: &mut E, name: &str, flaw: Flaw)
-    ensures { Tells (bad_input_line name.now (place_of flaw)) (E.held err.old) (E.held err.new) (E.faults err.old) (E.faults err.new) (E.refusals err.old) (E.refusals err.new) }
-{
-    match flaw {
-        Flaw::Path(error) => tell_path(err, name, error),
-        Flaw::Texture => tell_words(err, name, b"form not built"),
-    }
-}
-
-// Puts the line of a path that is refused: its name and its first faulty line.
-fn tell_path<E: Sink>(err: &mut E, name: &str, error: PathError)
-    ensures { Tells (bad_input_line name.now (path_place error)) (E.held err.old) (E.held err.new) (E.faults err.old) (E.faults err.new) (E.refusals err.old) (E.refusals err.new) }
-{
-    match error {
-        PathError::BadLine { line } => tell_line(err, name, b"bad line ", line),
-        PathError::NoKey { line } => tell_line(err, name, b"no key at line ", line),
-        PathError::TooManyPictures => tell_words(err, name, b"too many pictures"),
-        PathError::NoMemory => tell_words(err, name, b""),
-    }
-}
-
-// Puts the line of an input that is refused: its name and some words.
-fn tell_words<E: Sink>(err: &mut E, name: &str, words: &[u8])
-    ensures { Tells (bad_input_line name.now words.now) (E.held err.old) (E.held err.new) (E.faults err.old) (E.faults err.new) (E.refusals err.old) (E.refusals err.new) }
-{
-    tell_pieces(
-        err,
-        &[
-            b"vtex: bad input: ".as_slice(),
-            name.as_bytes(),
-            b": ".as_slice(),
-            words,
-            b"\n".as_slice(),
-        ],
-    );
-}
-
-// Puts the line of an input that is refused: its name, some words and the number of a line.
-fn tell_line<E: Sink>(err: &mut E, name: &str, words: &[u8], line: u32)
-    ensures { Tells (bad_input_line name.now (words.now ++ decimal line)) (E.held err.old) (E.held err.new) (E.faults err.old) (E.faults err.new) (E.refusals err.old) (E.refusals err.new) }
-{
-    let mut digits = Buffer::new();
-    tell_pieces(
-        err,
-        &[
-            b"vtex: bad input: ".as_slice(),
-            name.as_bytes(),
-            b": ".as_slice(),
-            words,
-            digits.format(line).as_bytes(),
-            b"\n".as_slice(),
-        ],
-    );
 }

@@ -2,16 +2,20 @@
 
 ghost use Rattle.std.specs.Prelude.{◌≡◌, ◌≢◌, ◌≤◌, IfOk, IfSome, IsSome, IsErrOf, Err};
 ghost use Rattle.vt_outside.specs.Counts.{Rose};
-ghost use Rattle.vt_camera.specs.declared.parse.PathError.{PathError};
 ghost use Rattle.vt_camera.specs.PathText.{IsPathText};
 ghost use Rattle.vt_camera.specs.PathFaults.{IsPathFault};
-ghost use Rattle.vtex.specs.Refusals.{IsThere, HoldsPath, HoldsFaultyPath, HoldsTexture, HoldsNoTexture};
+ghost use Rattle.vt_camera.specs.declared.parse.PathError.{PathError};
+ghost use Rattle.vtex.specs.Inputs.{IsThere, HoldsPath, HoldsTexture, HoldsStore};
+ghost use Rattle.vtex.specs.FlawedInputs.{HasPathFlaw, HasTextureFlaw, HasStoreFlaw};
+ghost use Rattle.vtex.specs.declared.flaws.Flaw.{Flaw};
 
 use crate::refusal::Refusal;
 use std::alloc::Global;
 use vt_camera::{Path, parse_path};
 use vt_outside::{File, Folder, OutsideError};
-use vt_ppm::{Image, PpmError, read_image};
+use vt_pages::Geometry;
+use vt_ppm::{Image, read_image};
+use vt_store::Store;
 
 /// Reads all bytes of a file, by one read.
 pub fn read_whole<F: File>(alloc: Global, file: &mut F) -> Result<Vec<u8>, OutsideError>
@@ -29,9 +33,8 @@ pub fn read_whole<F: File>(alloc: Global, file: &mut F) -> Result<Vec<u8>, Outsi
 /// Reads the path of a name, and closes its file.
 pub fn read_path<D: Folder>(alloc: Global, folder: &mut D, name: &str) -> Result<Path, Refusal>
     ensures path { IfOk result (λ path. IsSome (D.files folder.old) → HoldsPath (D.files folder.old) name.now path) }
-    ensures flawed { (e : PathError) → result ≡ Err (Refusal.Path e) → IsSome (D.files folder.old) → HoldsFaultyPath (D.files folder.old) name.now e }
+    ensures flawed { (flaw : Flaw) → result ≡ Err (Refusal.Flaw flaw) → IsSome (D.files folder.old) → HasPathFlaw (D.files folder.old) name.now flaw }
     ensures fault { IsErrOf result Refusal.Fault → IsThere (D.files folder.old) name.now → Rose (D.faults folder.old) (D.faults folder.new) }
-    ensures not_texture { result ≢ Err Refusal.Texture }
     ensures files { D.files folder.new ≡ D.files folder.old }
     ensures faults { D.faults folder.old ≤ D.faults folder.new }
 {
@@ -50,9 +53,8 @@ pub fn read_path<D: Folder>(alloc: Global, folder: &mut D, name: &str) -> Result
 // The path that a text spells.
 fn path_of(alloc: Global, text: &[u8]) -> Result<Path, Refusal>
     ensures path { IfOk result (λ path. IsPathText text.now path) }
-    ensures flawed { (e : PathError) → result ≡ Err (Refusal.Path e) → IsPathFault text.now e }
+    ensures flawed { (flaw : Flaw) → result ≡ Err (Refusal.Flaw flaw) → (e : PathError) × (flaw ≡ Flaw.Path e) × IsPathFault text.now e }
     ensures no_fault { result ≢ Err Refusal.Fault }
-    ensures not_texture { result ≢ Err Refusal.Texture }
 {
     match parse_path(alloc, text) {
         Ok(path) => Ok(path),
@@ -63,9 +65,8 @@ fn path_of(alloc: Global, text: &[u8]) -> Result<Path, Refusal>
 /// Reads the texture of a name, and closes its file.
 pub fn read_texture<D: Folder>(alloc: Global, folder: &mut D, name: &str) -> Result<Image, Refusal>
     ensures texture { IfOk result (λ texture. IsSome (D.files folder.old) → HoldsTexture (D.files folder.old) name.now texture) }
-    ensures no_texture { IsErrOf result Refusal.Texture → IsSome (D.files folder.old) → HoldsNoTexture (D.files folder.old) name.now }
+    ensures flawed { (flaw : Flaw) → result ≡ Err (Refusal.Flaw flaw) → IsSome (D.files folder.old) → HasTextureFlaw (D.files folder.old) name.now flaw }
     ensures fault { IsErrOf result Refusal.Fault → IsThere (D.files folder.old) name.now → Rose (D.faults folder.old) (D.faults folder.new) }
-    ensures not_path { (e : PathError) → result ≢ Err (Refusal.Path e) }
     ensures files { D.files folder.new ≡ D.files folder.old }
     ensures faults { D.faults folder.old ≤ D.faults folder.new }
 {
@@ -77,9 +78,31 @@ pub fn read_texture<D: Folder>(alloc: Global, folder: &mut D, name: &str) -> Res
     folder.close(file);
     match image {
         Ok(image) => Ok(image),
-        Err(PpmError::Unbuilt) => Err(Refusal::Texture),
-        Err(PpmError::Failed) => Err(Refusal::Fault),
-        // The one other refusal that the reader has is want of memory.
-        Err(_) => Err(Refusal::NoMemory),
+        Err(error) => Err(Refusal::from(error)),
+    }
+}
+
+/// Opens the store of a name for its header alone, and closes its file.
+pub fn read_geometry<D: Folder>(folder: &mut D, name: &str) -> Result<Geometry, Refusal>
+    ensures store { IfOk result (λ geometry. IsSome (D.files folder.old) → HoldsStore (D.files folder.old) name.now geometry) }
+    ensures flawed { (flaw : Flaw) → result ≡ Err (Refusal.Flaw flaw) → IsSome (D.files folder.old) → HasStoreFlaw (D.files folder.old) name.now flaw }
+    ensures fault { IsErrOf result Refusal.Fault → IsThere (D.files folder.old) name.now → Rose (D.faults folder.old) (D.faults folder.new) }
+    ensures files { D.files folder.new ≡ D.files folder.old }
+    ensures faults { D.faults folder.old ≤ D.faults folder.new }
+{
+    let file = match folder.open(name) {
+        Ok(file) => file,
+        Err(refusal) => return Err(Refusal::from(refusal)),
+    };
+    match Store::open(file) {
+        Ok(store) => {
+            let geometry = store.geometry();
+            folder.close(store.into_file());
+            Ok(geometry)
+        }
+        Err((file, error)) => {
+            folder.close(file);
+            Err(Refusal::from(error))
+        }
     }
 }

@@ -3,6 +3,8 @@
 
 mod command;
 mod ending;
+mod flaws;
+mod info;
 mod input;
 mod lines;
 mod names;
@@ -12,6 +14,7 @@ mod refusal;
 mod run;
 #[cfg(test)]
 mod tests;
+mod tile;
 mod words;
 
 use ending::Ending;

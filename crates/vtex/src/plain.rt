@@ -3,13 +3,14 @@
 ghost use Rattle.std.specs.Prelude.{◌≡◌, ◌≢◌, ◌<◌, ◌≤◌, ◌⊎◌, ℕ, length, take, option_map, IsSome, OnOk, OnErr, IsErrOf, Err};
 ghost use Rattle.vt_outside.specs.Counts.{Rose};
 ghost use Rattle.vt_outside.specs.Files.{with_bytes};
-ghost use Rattle.vt_camera.specs.Paths.{PathView};
-ghost use Rattle.vt_camera.specs.declared.parse.PathError.{PathError};
 ghost use Rattle.vt_mip.specs.Tiles.{IsTileSide};
 ghost use Rattle.vtex.specs.Names.{picture_name};
+ghost use Rattle.vtex.specs.Words.{PlainCommand};
 ghost use Rattle.vtex.specs.Plain.{plain_file};
-ghost use Rattle.vtex.specs.PlainWords.{shown};
-ghost use Rattle.vtex.specs.Refusals.{HoldsPath, HoldsFaultyPath, HoldsNoTexture, IsDone, IsLeft, IsMissing, IsPartOf, with_pictures};
+ghost use Rattle.vtex.specs.Shown.{shown_plain};
+ghost use Rattle.vtex.specs.PlainRuns.{PlainDone, PlainLeft, PlainMissing, IsPartOf, with_pictures};
+ghost use Rattle.vtex.specs.Runs.{HasFlaw};
+ghost use Rattle.vtex.specs.declared.flaws.Flaw.{Flaw};
 
 use crate::input::{read_path, read_texture};
 use crate::names::picture_name;
@@ -31,14 +32,11 @@ pub fn plain<D: Folder, O: Sink>(
     out: &mut O,
 ) -> Result<(), Refusal>
     requires { IsTileSide words.now.tile }
-    ensures done { OnOk result (IsSome (D.files folder.old) → IsDone (shown words.now) (D.files folder.old) (D.files folder.new) (O.held out.old) (O.held out.new)) }
-    ensures left { OnErr result (IsSome (D.files folder.old) → IsLeft (shown words.now) (D.files folder.old) (D.files folder.new) (O.held out.old) (O.held out.new)) }
-    ensures path { (e : PathError) → result ≡ Err (Refusal.Path e) → IsSome (D.files folder.old) → HoldsFaultyPath (D.files folder.old) words.now.path.now e }
-    ensures texture { IsErrOf result Refusal.Texture → IsSome (D.files folder.old) → HoldsNoTexture (D.files folder.old) words.now.texture.now }
-    ensures path_first { IsErrOf result Refusal.Texture → IsSome (D.files folder.old) → (path : PathView) × HoldsPath (D.files folder.old) words.now.path.now path }
-    ensures untouched_path { (e : PathError) → result ≡ Err (Refusal.Path e) → (D.files folder.new ≡ D.files folder.old) × (O.held out.new ≡ O.held out.old) }
-    ensures untouched { IsErrOf result Refusal.Texture → (D.files folder.new ≡ D.files folder.old) × (O.held out.new ≡ O.held out.old) }
-    ensures fault { IsErrOf result Refusal.Fault → Rose (D.faults folder.old) (D.faults folder.new) ⊎ (Rose (O.faults out.old) (O.faults out.new) ⊎ IsMissing (shown words.now) (D.files folder.old)) }
+    ensures done { OnOk result (IsSome (D.files folder.old) → PlainDone (shown_plain words.now) (D.files folder.old) (D.files folder.new) (O.held out.old) (O.held out.new)) }
+    ensures left { OnErr result (IsSome (D.files folder.old) → PlainLeft (shown_plain words.now) (D.files folder.old) (D.files folder.new) (O.held out.old) (O.held out.new)) }
+    ensures flawed { (flaw : Flaw) → result ≡ Err (Refusal.Flaw flaw) → IsSome (D.files folder.old) → HasFlaw (PlainCommand (shown_plain words.now)) (D.files folder.old) flaw }
+    ensures untouched { (flaw : Flaw) → result ≡ Err (Refusal.Flaw flaw) → (D.files folder.new ≡ D.files folder.old) × (O.held out.new ≡ O.held out.old) }
+    ensures fault { IsErrOf result Refusal.Fault → Rose (D.faults folder.old) (D.faults folder.new) ⊎ (Rose (O.faults out.old) (O.faults out.new) ⊎ PlainMissing (shown_plain words.now) (D.files folder.old)) }
 {
     let path = read_path(alloc, folder, words.path)?;
     let texture = read_texture(alloc, folder, words.texture)?;
@@ -59,8 +57,7 @@ fn write_pictures<D: Folder>(
     ensures whole { OnOk result (D.files folder.new ≡ option_map (with_pictures prefix.now (plain_file chain.now.base chain.now.tile path.now) (length path.now.cameras)) (D.files folder.old)) }
     ensures part { OnErr result ((whole : ℕ) × (whole ≤ length path.now.cameras) × IsPartOf prefix.now (plain_file chain.now.base chain.now.tile path.now) (length path.now.cameras) whole (D.files folder.old) (D.files folder.new)) }
     ensures fault { IsErrOf result Refusal.Fault → Rose (D.faults folder.old) (D.faults folder.new) }
-    ensures not_path { (e : PathError) → result ≢ Err (Refusal.Path e) }
-    ensures not_texture { result ≢ Err Refusal.Texture }
+    ensures no_flaw { (flaw : Flaw) → result ≢ Err (Refusal.Flaw flaw) }
     ensures faults { D.faults folder.old ≤ D.faults folder.new }
 {
     for picture in 0..path.pictures() {
@@ -87,8 +84,7 @@ fn write_picture<D: Folder>(
     ensures part { OnErr result ((D.files folder.new ≡ D.files folder.old)
         ⊎ ((k : ℕ) × (D.files folder.new ≡ option_map (with_bytes (picture_name prefix.now picture) (take k (plain_file chain.now.base chain.now.tile path.now picture))) (D.files folder.old)))) }
     ensures fault { IsErrOf result Refusal.Fault → Rose (D.faults folder.old) (D.faults folder.new) }
-    ensures not_path { (e : PathError) → result ≢ Err (Refusal.Path e) }
-    ensures not_texture { result ≢ Err Refusal.Texture }
+    ensures no_flaw { (flaw : Flaw) → result ≢ Err (Refusal.Flaw flaw) }
     ensures faults { D.faults folder.old ≤ D.faults folder.new }
 {
     let samples = draw_plain(alloc, chain, path, picture)?;

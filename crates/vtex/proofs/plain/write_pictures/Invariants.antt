@@ -1,7 +1,7 @@
 use Rattle.std.proofs.Common.{◌≡◌, ◌≤◌}
 use Rattle.std.specs.Option.{option_map}
 use Rattle.vtex.specs.Plain.{plain_file}
-use Rattle.vtex.specs.Refusals.{with_pictures}
+use Rattle.vtex.specs.PlainRuns.{with_pictures}
 use Rattle.vtex.proofs.plain.write_pictures.Given as goal
 
 -- the pictures so far are written

@@ -4,7 +4,7 @@ use Rattle.vtex.specs.Lines.{bad_input_line}
 use Rattle.vtex.specs.Pieces.{joined}
 use Rattle.vtex.specs.Told.{Tells}
 use Rattle.vtex.proofs.Held.{five_pieces}
-use Rattle.vtex.proofs.ending.tell_words.Goals as goal
+use Rattle.vtex.proofs.flaws.tell_words.Goals as goal
 
 pub returns : goal.returns
 returns g c =

@@ -3,12 +3,12 @@ use Rattle.std.specs.Prelude.{codes, decimal}
 use Rattle.vtex.specs.Lines.{bad_input_line}
 use Rattle.vtex.specs.Told.{Tells}
 use Rattle.vtex.proofs.Held.{six_pieces}
-use Rattle.vtex.proofs.ending.tell_line.Goals as goal
+use Rattle.vtex.proofs.flaws.tell_number.Goals as goal
 
 pub returns : goal.returns
 returns g c =
     let name = c.args.name.now in
-    let e : c.as_slice.result.now ++ (c.as_bytes.result.now ++ (c.as_slice-2.result.now ++ (c.args.words.now ++ (c.as_bytes-2.result.now ++ (c.as_slice-3.result.now ++ []))))) ≡ bad_input_line name (c.args.words.now ++ decimal c.args.line) =
+    let e : c.as_slice.result.now ++ (c.as_bytes.result.now ++ (c.as_slice-2.result.now ++ (c.args.words.now ++ (c.as_bytes-2.result.now ++ (c.as_slice-3.result.now ++ []))))) ≡ bad_input_line name (c.args.words.now ++ decimal c.args.number) =
     six_pieces c.as_slice.result.now c.as_bytes.result.now c.as_slice-2.result.now c.args.words.now c.as_bytes-2.result.now c.as_slice-3.result.now
-    (codes "vtex: bad input: ") name (codes ": ") c.args.words.now (decimal c.args.line) (codes "\n") c.as_slice.ensures c.as_bytes.ensures.value c.as_slice-2.ensures refl (c.as_bytes-2.ensures.value ∙ c.format.ensures.text) c.as_slice-3.ensures in
+    (codes "vtex: bad input: ") name (codes ": ") c.args.words.now (decimal c.args.number) (codes "\n") c.as_slice.ensures c.as_bytes.ensures.value c.as_slice-2.ensures refl (c.as_bytes-2.ensures.value ∙ c.format.ensures.text) c.as_slice-3.ensures in
     subst (λ (line : List ℕ). Tells line (g.E.Sink.held c.args.err.now) (g.E.Sink.held c.tell_pieces.new.sink) (g.E.Sink.faults c.args.err.now) (g.E.Sink.faults c.tell_pieces.new.sink) (g.E.Sink.refusals c.args.err.now) (g.E.Sink.refusals c.tell_pieces.new.sink)) e c.tell_pieces.ensures

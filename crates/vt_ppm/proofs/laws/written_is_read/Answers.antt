@@ -1,0 +1,5 @@
+use Rattle.vt_ppm.proofs.Written.{written_image}
+use Rattle.vt_ppm.proofs.laws.written_is_read.Goals as goal
+
+pub returns : goal.returns
+returns c = written_image
