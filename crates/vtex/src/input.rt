@@ -38,16 +38,10 @@ pub fn read_path<D: Folder>(alloc: Global, folder: &mut D, name: &str) -> Result
     ensures files { D.files folder.new ≡ D.files folder.old }
     ensures faults { D.faults folder.old ≤ D.faults folder.new }
 {
-    let mut file = match folder.open(name) {
-        Ok(file) => file,
-        Err(refusal) => return Err(Refusal::from(refusal)),
-    };
+    let mut file = folder.open(name)?;
     let text = read_whole(alloc, &mut file);
     folder.close(file);
-    match text {
-        Err(refusal) => Err(Refusal::from(refusal)),
-        Ok(text) => path_of(alloc, &text),
-    }
+    path_of(alloc, &text?)
 }
 
 // The path that a text spells.
@@ -56,10 +50,7 @@ fn path_of(alloc: Global, text: &[u8]) -> Result<Path, Refusal>
     ensures flawed { (flaw : Flaw) → result ≡ Err (Refusal.Flaw flaw) → (e : PathError) × (flaw ≡ Flaw.Path e) × IsPathFault text.now e }
     ensures no_fault { result ≢ Err Refusal.Fault }
 {
-    match parse_path(alloc, text) {
-        Ok(path) => Ok(path),
-        Err(error) => Err(Refusal::from(error)),
-    }
+    Ok(parse_path(alloc, text)?)
 }
 
 /// Reads the texture of a name, and closes its file.
@@ -70,16 +61,10 @@ pub fn read_texture<D: Folder>(alloc: Global, folder: &mut D, name: &str) -> Res
     ensures files { D.files folder.new ≡ D.files folder.old }
     ensures faults { D.faults folder.old ≤ D.faults folder.new }
 {
-    let mut file = match folder.open(name) {
-        Ok(file) => file,
-        Err(refusal) => return Err(Refusal::from(refusal)),
-    };
+    let mut file = folder.open(name)?;
     let image = read_image(alloc, &mut file);
     folder.close(file);
-    match image {
-        Ok(image) => Ok(image),
-        Err(error) => Err(Refusal::from(error)),
-    }
+    Ok(image?)
 }
 
 /// Opens the store of a name for its header alone, and closes its file.
@@ -90,10 +75,7 @@ pub fn read_geometry<D: Folder>(folder: &mut D, name: &str) -> Result<Geometry, 
     ensures files { D.files folder.new ≡ D.files folder.old }
     ensures faults { D.faults folder.old ≤ D.faults folder.new }
 {
-    let file = match folder.open(name) {
-        Ok(file) => file,
-        Err(refusal) => return Err(Refusal::from(refusal)),
-    };
+    let file = folder.open(name)?;
     match Store::open(file) {
         Ok(store) => {
             let geometry = store.geometry();

@@ -57,10 +57,8 @@ pub fn put_store_line<O: Sink>(
     ensures faults { O.faults out.old ≤ O.faults out.new }
 {
     let line = store_line(alloc, geometry)?;
-    match out.put(&line) {
-        Ok(()) => Ok(()),
-        Err(refusal) => Err(Refusal::from(refusal)),
-    }
+    out.put(&line)?;
+    Ok(())
 }
 
 // The line of a store.

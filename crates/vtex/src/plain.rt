@@ -61,10 +61,7 @@ fn write_pictures<D: Folder>(
     ensures faults { D.faults folder.old ≤ D.faults folder.new }
 {
     for picture in 0..path.pictures() {
-        match write_picture(alloc, chain, path, picture, prefix, folder) {
-            Ok(()) => {}
-            Err(refusal) => return Err(refusal),
-        }
+        write_picture(alloc, chain, path, picture, prefix, folder)?;
     }
     Ok(())
 }
@@ -90,8 +87,6 @@ fn write_picture<D: Folder>(
     let samples = draw_plain(alloc, chain, path, picture)?;
     let bytes = encode(alloc, path.width(), path.height(), &samples)?;
     let name = picture_name(alloc, prefix, picture)?;
-    match write_file(folder, name.as_str(), &bytes) {
-        Ok(()) => Ok(()),
-        Err(refusal) => Err(Refusal::from(refusal)),
-    }
+    write_file(folder, name.as_str(), &bytes)?;
+    Ok(())
 }

@@ -89,8 +89,6 @@ fn write_tiles<D: Folder>(
     ensures faults { D.faults folder.old ≤ D.faults folder.new }
 {
     let chain = Chain::build(alloc, texture, geometry.tile())?;
-    match write_store(alloc, &chain, geometry, folder, name) {
-        Ok(()) => Ok(()),
-        Err(error) => Err(Refusal::from(error)),
-    }
+    write_store(alloc, &chain, geometry, folder, name)?;
+    Ok(())
 }
