@@ -1,5 +1,7 @@
 -- How commands end.
 use Rattle.std.specs.Prelude.{ℕ, List, [], ◌++◌, codes, decimal}
+use Rattle.std.specs.declared.io.ErrorKind.{ErrorKind}
+use Rattle.std.specs.declared.io.ErrorKind.TheVariants as kinds
 use Rattle.vt_ppm.specs.declared.error.PpmError.{PpmError}
 use Rattle.vt_ppm.specs.declared.error.PpmError.TheVariants as ppm
 use Rattle.vt_camera.specs.declared.parse.PathError.{PathError}
@@ -61,3 +63,8 @@ line_of OutOfMemory = memory_line
 line_of Usage = usage_line
 line_of Fault = fault_line
 line_of (BadInput name flaw) = bad_input_line name.now (place_of flaw)
+
+-- the ending where the words could not be read: a word that is no text is none of a command's (this project's profile)
+abbrev pub unread_ending : ErrorKind → Ending
+unread_ending kinds.OutOfMemory = OutOfMemory
+unread_ending _ = Usage

@@ -1,6 +1,10 @@
 //! A page cache for software virtual texturing: the program.
 #![tactic(auto)]
 
+ghost use Rattle.std.specs.Prelude.{◌≡◌};
+ghost use Rattle.std.specs.IoError.{error_kind};
+ghost use Rattle.vtex.specs.Endings.{unread_ending};
+
 mod command;
 mod ending;
 mod flaws;
@@ -35,11 +39,12 @@ fn words_of(rt: &HostRuntime, alloc: Global) -> io::Result<Vec<String>> {
 }
 
 // The ending where the words could not be read: a word that is no text is none of a command's.
-fn unread(error: &io::Error) -> Ending<'static> {
-    if error.kind() == ErrorKind::OutOfMemory {
-        Ending::OutOfMemory
-    } else {
-        Ending::Usage
+fn unread(error: &io::Error) -> Ending<'static>
+    ensures { result ≡ unread_ending (error_kind error.now) }
+{
+    match error.kind() {
+        ErrorKind::OutOfMemory => Ending::OutOfMemory,
+        _ => Ending::Usage,
     }
 }
 
