@@ -1,5 +1,11 @@
 pub mod Gaps
 pub mod Headers
+pub mod Runs
+pub mod Fields
+pub mod Breaks
+pub mod Found
+pub mod Rasters
+pub mod Told
 pub mod ImageLaws
 pub mod FaultLaws
 pub mod Written

@@ -1,4 +1,24 @@
 //! The header of an image.
+ghost use Rattle.std.specs.Prelude.{◌≡◌, ◌≤◌, length, take, codes, ◌↔◌, MatchBool, IfOk, IfErr, IsTrue};
+ghost use Rattle.vt_ppm.specs.Format.{header_limit};
+ghost use Rattle.vt_ppm.specs.Faults.{IsImageFault, IsBrokenAt, AreSides, IsLawfulHeader};
+ghost use Rattle.vt_ppm.specs.Header.{IsFirstHeader};
+ghost use Rattle.vt_ppm.specs.Refusals.{IsRasterRefusal};
+
+use crate::PpmError;
+use crate::field::{field_at, is_white_byte};
+
+/// Within how many bytes a header ends.
+pub const HEADER_LIMIT: u64 = 65536;
+
+/// The largest side of an image.
+const LARGEST_SIDE: u64 = 8192;
+
+/// The largest maximum of a raster.
+const LARGEST_MAXIMUM: u64 = 65535;
+
+/// The largest maximum of samples of one byte.
+const LARGEST_BYTE: u64 = 255;
 
 /// A header's numbers, and the place of the first raster byte.
 #[derive(Clone, Copy, Debug, PartialEq, Eq)]
@@ -11,4 +31,80 @@ pub struct Header {
     pub maximum: u32,
     /// The place of the first raster byte, at most 65,536.
     pub raster: u64,
+}
+
+/// A header as it is spelled: its numbers, whatever they are, and the place of the first raster byte.
+#[derive(Clone, Copy)]
+struct Spelled {
+    width: u64,
+    height: u64,
+    maximum: u64,
+    raster: usize,
+}
+
+/// Whether the first two bytes are `P6`.
+fn has_magic(bytes: &[u8]) -> bool
+    ensures { IsTrue result ↔ (take 2 bytes.now ≡ codes "P6") }
+{
+    bytes.len() >= 2 && bytes[0] == b'P' && bytes[1] == b'6'
+}
+
+/// The header in front; or the first byte with which none can stand there, which is the length where the bytes end too
+/// soon.
+fn first_header(head: &[u8]) -> Result<Spelled, usize>
+    requires few { length head.now ≤ header_limit }
+    requires magic { take 2 head.now ≡ codes "P6" }
+    ensures header { IfOk result (λ h. IsFirstHeader head.now h.raster h.width h.height h.maximum) }
+    ensures broken { IfErr result (λ at. IsBrokenAt head.now at) }
+{
+    let width = field_at(head, 2)?;
+    let height = field_at(head, width.end)?;
+    let maximum = field_at(head, height.end)?;
+    if maximum.end == head.len() || !is_white_byte(head[maximum.end]) {
+        return Err(maximum.end);
+    }
+    Ok(Spelled {
+        width: width.value,
+        height: height.value,
+        maximum: maximum.value,
+        raster: maximum.end + 1,
+    })
+}
+
+/// Whether these are sides of an image.
+fn are_sides(width: u64, height: u64) -> bool
+    ensures { MatchBool result (AreSides width height) (AreSides width height → ⊥) }
+{
+    width >= 1 && width <= LARGEST_SIDE && height >= 1 && height <= LARGEST_SIDE
+}
+
+/// The header in the first bytes of an image; or the first fault of those bytes, which is none of the raster.
+pub fn lawful_header(head: &[u8]) -> Result<Header, PpmError>
+    requires { length head.now ≤ header_limit }
+    ensures header { IfOk result (λ h. IsLawfulHeader head.now h.raster h.width h.height h.maximum) }
+    ensures fault { IfErr result (λ e. IsImageFault head.now e) }
+    ensures no_raster { IfErr result (λ e. IsRasterRefusal e → ⊥) }
+{
+    if !has_magic(head) {
+        return Err(PpmError::BadMagic);
+    }
+    let spelled = match first_header(head) {
+        Ok(spelled) => spelled,
+        Err(at) => return Err(PpmError::BadHeader { at: at as u64 }),
+    };
+    if !are_sides(spelled.width, spelled.height) {
+        return Err(PpmError::BadSize);
+    }
+    if spelled.maximum == 0 || spelled.maximum > LARGEST_MAXIMUM {
+        return Err(PpmError::BadMaximum);
+    }
+    if spelled.maximum > LARGEST_BYTE {
+        return Err(PpmError::WideSamples);
+    }
+    Ok(Header {
+        width: spelled.width as u32,
+        height: spelled.height as u32,
+        maximum: spelled.maximum as u32,
+        raster: spelled.raster as u64,
+    })
 }

@@ -2,11 +2,14 @@
 #![tactic(auto)]
 
 mod error;
+mod field;
 mod header;
 mod image;
 mod laws;
 mod picture;
 mod read;
+mod samples;
+mod whole;
 
 pub use error::PpmError;
 pub use header::Header;
@@ -16,3 +19,7 @@ pub use laws::{
 };
 pub use picture::encode;
 pub use read::{read_header, read_image};
+pub use whole::image_fault;
+
+#[cfg(test)]
+mod tests;

@@ -1,13 +1,38 @@
 //! Images are read from a file.
-ghost use Rattle.std.specs.Prelude.{◌≡◌, ℕ, ◌≤◌, List, IfOk, IfErr, IfSome, IsErrOf};
+ghost use Rattle.std.specs.Prelude.{◌≡◌, ℕ, ◌+◌, ◌≤◌, List, length, IfOk, IfErr, IfSome, IsErrOf};
 ghost use Rattle.vt_outside.specs.Counts.{Rose};
+ghost use Rattle.vt_outside.specs.Files.{IsPiece};
 ghost use Rattle.vt_ppm.specs.Format.{IsImage};
 ghost use Rattle.vt_ppm.specs.Faults.{IsImageFault, IsLawfulHeader};
 ghost use Rattle.vt_ppm.specs.Refusals.{IsFault, IsRasterRefusal};
 
+use crate::header::{HEADER_LIMIT, lawful_header};
+use crate::samples::{first_over, scale};
 use crate::{Header, Image, PpmError};
 use std::alloc::Global;
 use vt_outside::File;
+
+/// The bytes of the file from `at` on, so many.
+fn bytes_at<F: File>(
+    alloc: Global,
+    file: &mut F,
+    at: u64,
+    count: usize,
+) -> Result<Vec<u8>, PpmError>
+    requires { 1 ≤ F.spare file.old }
+    ensures piece { IfOk result (λ v. IfSome (F.bytes file.old) (λ b. IsPiece b at v.items)) }
+    ensures count { IfOk result (λ v. length v.items ≡ count) }
+    ensures refusals { IfErr result IsFault }
+    ensures failed { IsErrOf result PpmError.Failed → IfSome (F.bytes file.old) (λ b. at + count ≤ length b) → Rose (F.faults file.old) (F.faults file.new) }
+    ensures spare { F.spare file.old ≤ F.spare file.new + 1 }
+    ensures bytes { F.bytes file.new ≡ F.bytes file.old }
+    ensures name { F.name file.new ≡ F.name file.old }
+    ensures faults { F.faults file.old ≤ F.faults file.new }
+{
+    let mut bytes = vec![in alloc; 0u8; count].map_err(|_| PpmError::NoMemory)?;
+    file.read_at(at, bytes.as_mut_slice())?;
+    Ok(bytes)
+}
 
 /// Reads the header of an image (the Netpbm manual's P6 page, with this project's comments and bounds), which ends within the
 /// first 65,536 bytes.
@@ -15,16 +40,19 @@ use vt_outside::File;
 /// Where the file tells its bytes, `BadMagic`, `BadHeader`, `BadSize`, `BadMaximum` and `WideSamples` come exactly as the first
 /// fault of those bytes. `Failed` comes only where the file's count of faults rose, and `NoMemory` where memory was refused. No
 /// other refusal comes.
-pub fn read_header<F: File>(_alloc: Global, _file: &mut F) -> Result<Header, PpmError>
-    ensures header { IfOk result (λ h. IfSome (F.bytes _file.old) (λ b. IsLawfulHeader b h.raster h.width h.height h.maximum)) }
-    ensures fault { IfErr result (λ e. (IsFault e → ⊥) → IfSome (F.bytes _file.old) (λ b. IsImageFault b e)) }
+pub fn read_header<F: File>(alloc: Global, file: &mut F) -> Result<Header, PpmError>
+    ensures header { IfOk result (λ h. IfSome (F.bytes file.old) (λ b. IsLawfulHeader b h.raster h.width h.height h.maximum)) }
+    ensures fault { IfErr result (λ e. (IsFault e → ⊥) → IfSome (F.bytes file.old) (λ b. IsImageFault b e)) }
     ensures no_raster { IfErr result (λ e. IsRasterRefusal e → ⊥) }
-    ensures failed { IsErrOf result PpmError.Failed → Rose (F.faults _file.old) (F.faults _file.new) }
-    ensures bytes { F.bytes _file.new ≡ F.bytes _file.old }
-    ensures name { F.name _file.new ≡ F.name _file.old }
-    ensures faults { F.faults _file.old ≤ F.faults _file.new }
+    ensures failed { IsErrOf result PpmError.Failed → Rose (F.faults file.old) (F.faults file.new) }
+    ensures bytes { F.bytes file.new ≡ F.bytes file.old }
+    ensures name { F.name file.new ≡ F.name file.old }
+    ensures faults { F.faults file.old ≤ F.faults file.new }
 {
-    Err(PpmError::NoMemory)
+    let length = file.length()?;
+    file.reserve(1)?;
+    let head = bytes_at(alloc, file, 0, length.min(HEADER_LIMIT) as usize)?;
+    lawful_header(&head)
 }
 
 /// Reads the image of a file (the Netpbm manual's P6 page, with this project's comments and bounds), each sample scaled so that
@@ -32,13 +60,29 @@ pub fn read_header<F: File>(_alloc: Global, _file: &mut F) -> Result<Header, Ppm
 ///
 /// Where the file tells its bytes, `BadMagic` to `SampleOver` come exactly as the first fault of those bytes. `Failed` comes only
 /// where the file's count of faults rose, and `NoMemory` where memory was refused.
-pub fn read_image<F: File>(_alloc: Global, _file: &mut F) -> Result<Image, PpmError>
-    ensures image { IfOk result (λ i. IfSome (F.bytes _file.old) (λ b. IsImage b i)) }
-    ensures fault { IfErr result (λ e. (IsFault e → ⊥) → IfSome (F.bytes _file.old) (λ b. IsImageFault b e)) }
-    ensures failed { IsErrOf result PpmError.Failed → Rose (F.faults _file.old) (F.faults _file.new) }
-    ensures bytes { F.bytes _file.new ≡ F.bytes _file.old }
-    ensures name { F.name _file.new ≡ F.name _file.old }
-    ensures faults { F.faults _file.old ≤ F.faults _file.new }
+pub fn read_image<F: File>(alloc: Global, file: &mut F) -> Result<Image, PpmError>
+    ensures image { IfOk result (λ i. IfSome (F.bytes file.old) (λ b. IsImage b i)) }
+    ensures fault { IfErr result (λ e. (IsFault e → ⊥) → IfSome (F.bytes file.old) (λ b. IsImageFault b e)) }
+    ensures failed { IsErrOf result PpmError.Failed → Rose (F.faults file.old) (F.faults file.new) }
+    ensures bytes { F.bytes file.new ≡ F.bytes file.old }
+    ensures name { F.name file.new ≡ F.name file.old }
+    ensures faults { F.faults file.old ≤ F.faults file.new }
 {
-    Err(PpmError::NoMemory)
+    let length = file.length()?;
+    file.reserve(2)?;
+    let head = bytes_at(alloc, file, 0, length.min(HEADER_LIMIT) as usize)?;
+    let header = lawful_header(&head)?;
+    let want = 3 * (header.width as u64 * header.height as u64);
+    let have = length - header.raster;
+    if have < want {
+        return Err(PpmError::Truncated { want, have });
+    }
+    let mut samples = bytes_at(alloc, file, header.raster, want as usize)?;
+    if let Some(at) = first_over(&samples, header.maximum) {
+        return Err(PpmError::SampleOver {
+            at: header.raster + at as u64,
+        });
+    }
+    scale(samples.as_mut_slice(), header.maximum);
+    Ok(Image::new(header.width, header.height, samples))
 }

@@ -1,4 +1,6 @@
-// Runs of `plain` over a folder in memory.
+// Runs over a folder in memory: those of `plain`, and what all tests share.
+mod stores;
+
 use crate::run::run;
 use std::alloc::{AllocError, Global};
 use std::sync::Wait;
@@ -81,6 +83,18 @@ fn play(
     let mut folder = MemoryFolder::new(alloc, one_fail(alloc, fail)?);
     folder.add("g4.ppm", texture)?;
     folder.add("a.path", path)?;
+    play_over(rt, alloc, words, folder, fail, err_fail)
+}
+
+// Runs the words over a folder, and one call that fails on a sink.
+fn play_over(
+    rt: &(impl Threads + Wait + Sync),
+    alloc: Global,
+    words: &[&str],
+    mut folder: MemoryFolder,
+    fail: Option<Fail>,
+    err_fail: Option<Fail>,
+) -> Result<Left, NoMemory> {
     let mut out = MemorySink::new(alloc, one_fail(alloc, fail)?);
     let mut err = MemorySink::new(alloc, one_fail(alloc, err_fail)?);
     let words = texts(alloc, words)?;
@@ -186,11 +200,30 @@ fn level_choice(rt: HostRuntime) {
 #[test]
 fn bad_inputs(rt: HostRuntime) {
     let alloc = rt.alloc();
-    let texture = b"vtex: bad input: g4.ppm: form not built\n";
-
-    assert!(rt; refuses(&rt, alloc, b"P6\n1 1\n100\n\x00\x00\x00", PATH, texture));
-    assert!(rt; refuses(&rt, alloc, &G4[..G4.len() - 1], PATH, texture));
-    assert!(rt; refuses(&rt, alloc, b"", PATH, texture));
+    // Each fault of a texture, with its place.
+    for (texture, line) in [
+        (
+            b"".as_slice(),
+            b"vtex: bad input: g4.ppm: bad magic\n".as_slice(),
+        ),
+        (
+            b"P6 1 1 255#",
+            b"vtex: bad input: g4.ppm: bad header at byte 10\n",
+        ),
+        (b"P6 0 1 255\n", b"vtex: bad input: g4.ppm: bad size\n"),
+        (b"P6 1 1 0\n", b"vtex: bad input: g4.ppm: bad maximum\n"),
+        (b"P6 1 1 256\n", b"vtex: bad input: g4.ppm: wide samples\n"),
+        (
+            &G4[..G4.len() - 1],
+            b"vtex: bad input: g4.ppm: raster of 47 bytes, wanted 48\n",
+        ),
+        (
+            b"P6 1 1 100\n\x01\x65\x00",
+            b"vtex: bad input: g4.ppm: sample over maximum at byte 12\n",
+        ),
+    ] {
+        assert!(rt; refuses(&rt, alloc, texture, PATH, line));
+    }
     // The path is read first.
     assert!(rt;
         refuses(
@@ -201,6 +234,20 @@ fn bad_inputs(rt: HostRuntime) {
             b"vtex: bad input: a.path: bad line 1\n"
         )
     );
+}
+
+#[test]
+fn scaled_texture(rt: HostRuntime) {
+    // The first picture's texture with 100 as its maximum: 13 becomes 33, and 1 becomes 3.
+    let texture =
+        *b"P6\n4 4\n100\n\x00\x00\x00\x01\x01\x01\x02\x02\x02\x03\x03\x03\x04\x04\x04\x05\x05\x05\x06\x06\x06\x07\x07\x07\x08\x08\x08\x09\x09\x09\x0a\x0a\x0a\x0b\x0b\x0b\x0c\x0c\x0c\x0d\x0d\x0d\x0e\x0e\x0e\x0f\x0f\x0f";
+    match play(&rt, rt.alloc(), &WORDS, &texture, PATH, None, None) {
+        Ok(left) => {
+            assert_eq!(rt; left.status, 0);
+            assert!(rt; left.holds("f0000.ppm", b"P6\n2 1\n255\n\x21\x21\x21\x03\x03\x03"));
+        }
+        Err(_) => assert!(rt; false, "there is memory"),
+    }
 }
 
 #[test]

@@ -1,0 +1,34 @@
+//! Bytes that are all at hand are looked over.
+ghost use Rattle.std.specs.Prelude.{IfSome, IfNone};
+ghost use Rattle.vt_ppm.specs.Format.{IsImage};
+ghost use Rattle.vt_ppm.specs.Faults.{IsImageFault};
+ghost use Rattle.vt_ppm.specs.Image.{Picture};
+
+use crate::PpmError;
+use crate::header::{HEADER_LIMIT, lawful_header};
+use crate::samples::first_over;
+
+/// The fault of bytes that are all at hand, and none where they spell an image. It takes no memory.
+pub fn image_fault(bytes: &[u8]) -> Option<PpmError>
+    ensures none { IfNone result ((p : Picture) × IsImage bytes.now p) }
+    ensures some { IfSome result (λ e. IsImageFault bytes.now e) }
+{
+    let (head, _) = bytes.split_at(bytes.len().min(HEADER_LIMIT as usize));
+    let header = match lawful_header(head) {
+        Ok(header) => header,
+        Err(fault) => return Some(fault),
+    };
+    let (_, behind) = bytes.split_at(header.raster as usize);
+    let want = 3 * (header.width as usize * header.height as usize);
+    if behind.len() < want {
+        return Some(PpmError::Truncated {
+            want: want as u64,
+            have: behind.len() as u64,
+        });
+    }
+    let (raster, _) = behind.split_at(want);
+    let at = first_over(raster, header.maximum)?;
+    Some(PpmError::SampleOver {
+        at: header.raster + at as u64,
+    })
+}

@@ -1,0 +1,298 @@
+// Runs of `tile` and `info`.
+use super::{FAULT, G4, Left, PATH, USAGE, one_fail, play_over};
+use std::alloc::Global;
+use std::sync::Wait;
+use std::test::*;
+use std::thread::Threads;
+use vt_outside::{Fail, MemoryFolder, NoMemory};
+
+// The store of the texture of 4x4 texels, for tiles of 2x2.
+const G4_STORE: &[u8] =
+    b"VTS1\x00\x00\x00\x04\x00\x00\x00\x04\x00\x00\x00\x02\x00\x00\x00\x01\x01\x01\x04\x04\x04\x05\x05\x05\x02\x02\x02\x03\x03\x03\x06\x06\x06\x07\x07\x07\x08\x08\x08\x09\x09\x09\x0c\x0c\x0c\x0d\x0d\x0d\x0a\x0a\x0a\x0b\x0b\x0b\x0e\x0e\x0e\x0f\x0f\x0f\x03\x03\x03\x05\x05\x05\x0b\x0b\x0b\x0d\x0d\x0d";
+
+const G4_LINE: &[u8] = b"store 4 4 tile 2 levels 2 pages 5 bytes 76\n";
+
+const TILE: [&str; 5] = ["tile", "t.ppm", "s.vts", "--tile", "2"];
+
+// Runs the words over a folder with one file more than the path, and one call that fails.
+fn play_on(
+    rt: &(impl Threads + Wait + Sync),
+    alloc: Global,
+    words: &[&str],
+    name: &str,
+    bytes: &[u8],
+    fail: Option<Fail>,
+) -> Result<Left, NoMemory> {
+    let mut folder = MemoryFolder::new(alloc, one_fail(alloc, fail)?);
+    folder.add(name, bytes)?;
+    folder.add("a.path", PATH)?;
+    play_over(rt, alloc, words, folder, fail, None)
+}
+
+// Tiling a texture writes this store and this line, and `info` tells the store by the same line.
+fn tiles(
+    rt: &(impl Threads + Wait + Sync),
+    alloc: Global,
+    texture: &[u8],
+    store: &[u8],
+    line: &[u8],
+) -> bool {
+    match play_on(rt, alloc, &TILE, "t.ppm", texture, None) {
+        Ok(left) => {
+            left.status == 0
+                && left.holds("s.vts", store)
+                && left.holds("t.ppm", texture)
+                && left.holds("a.path", PATH)
+                && left.printed(line, b"")
+                && informs(rt, alloc, store, line)
+        }
+        Err(_) => false,
+    }
+}
+
+// `info` of a store tells it by this line and changes nothing.
+fn informs(rt: &(impl Threads + Wait + Sync), alloc: Global, store: &[u8], line: &[u8]) -> bool {
+    match play_on(rt, alloc, &["info", "s.vts"], "s.vts", store, None) {
+        Ok(left) => left.status == 0 && left.holds("s.vts", store) && left.printed(line, b""),
+        Err(_) => false,
+    }
+}
+
+// A run that is refused with this status and this line, and leaves all as it was.
+fn refuses(
+    rt: &(impl Threads + Wait + Sync),
+    alloc: Global,
+    words: &[&str],
+    bytes: &[u8],
+    status: u8,
+    line: &[u8],
+) -> bool {
+    match play_on(rt, alloc, words, "t.ppm", bytes, None) {
+        Ok(left) => {
+            left.status == status
+                && left.holds("t.ppm", bytes)
+                && !left.has("s.vts")
+                && left.printed(b"", line)
+        }
+        Err(_) => false,
+    }
+}
+
+// A run of `tile` with one call that fails, what the store's name holds after it, and what was put out.
+fn stops(
+    rt: &(impl Threads + Wait + Sync),
+    alloc: Global,
+    fail: Fail,
+    store: Option<&[u8]>,
+    out: &[u8],
+) -> bool {
+    match play_on(rt, alloc, &TILE, "t.ppm", G4, Some(fail)) {
+        Ok(left) => {
+            let held = match store {
+                Some(bytes) => left.holds("s.vts", bytes),
+                None => !left.has("s.vts"),
+            };
+            left.status == 3 && held && left.printed(out, FAULT)
+        }
+        Err(_) => false,
+    }
+}
+
+#[test]
+fn single_texel(rt: HostRuntime) {
+    assert!(rt;
+        tiles(
+            &rt,
+            rt.alloc(),
+            b"P6\n1 1\n255\n\x0a\x14\x1e",
+            b"VTS1\x00\x00\x00\x01\x00\x00\x00\x01\x00\x00\x00\x02\x0a\x14\x1e\x0a\x14\x1e\x0a\x14\x1e\x0a\x14\x1e",
+            b"store 1 1 tile 2 levels 1 pages 1 bytes 28\n"
+        )
+    );
+}
+
+#[test]
+fn store_of_four_by_four(rt: HostRuntime) {
+    assert!(rt; tiles(&rt, rt.alloc(), G4, G4_STORE, G4_LINE));
+}
+
+#[test]
+fn odd_sides(rt: HostRuntime) {
+    // All channels of texel (x, y) are 10y+x.
+    assert!(rt;
+        tiles(
+            &rt,
+            rt.alloc(),
+            b"P6\n5 3\n255\n\x00\x00\x00\x01\x01\x01\x02\x02\x02\x03\x03\x03\x04\x04\x04\x0a\x0a\x0a\x0b\x0b\x0b\x0c\x0c\x0c\x0d\x0d\x0d\x0e\x0e\x0e\x14\x14\x14\x15\x15\x15\x16\x16\x16\x17\x17\x17\x18\x18\x18",
+            b"VTS1\x00\x00\x00\x05\x00\x00\x00\x03\x00\x00\x00\x02\x00\x00\x00\x01\x01\x01\x0a\x0a\x0a\x0b\x0b\x0b\x02\x02\x02\x03\x03\x03\x0c\x0c\x0c\x0d\x0d\x0d\x04\x04\x04\x04\x04\x04\x0e\x0e\x0e\x0e\x0e\x0e\x14\x14\x14\x15\x15\x15\x14\x14\x14\x15\x15\x15\x16\x16\x16\x17\x17\x17\x16\x16\x16\x17\x17\x17\x18\x18\x18\x18\x18\x18\x18\x18\x18\x18\x18\x18\x06\x06\x06\x08\x08\x08\x15\x15\x15\x17\x17\x17\x09\x09\x09\x09\x09\x09\x18\x18\x18\x18\x18\x18\x0f\x0f\x0f\x11\x11\x11\x0f\x0f\x0f\x11\x11\x11",
+            b"store 5 3 tile 2 levels 3 pages 9 bytes 124\n"
+        )
+    );
+}
+
+#[test]
+fn box_rounding(rt: HostRuntime) {
+    // The boxes of 0, 1, 2, 3 and of 0, 0, 0, 1 are the two texels of level 1: 2 and 0.
+    assert!(rt;
+        tiles(
+            &rt,
+            rt.alloc(),
+            b"P6\n4 2\n255\n\x00\x00\x00\x01\x01\x01\x00\x00\x00\x00\x00\x00\x02\x02\x02\x03\x03\x03\x00\x00\x00\x01\x01\x01",
+            b"VTS1\x00\x00\x00\x04\x00\x00\x00\x02\x00\x00\x00\x02\x00\x00\x00\x01\x01\x01\x02\x02\x02\x03\x03\x03\x00\x00\x00\x00\x00\x00\x00\x00\x00\x01\x01\x01\x02\x02\x02\x00\x00\x00\x02\x02\x02\x00\x00\x00",
+            b"store 4 2 tile 2 levels 2 pages 3 bytes 52\n"
+        )
+    );
+}
+
+#[test]
+fn store_refusals(rt: HostRuntime) {
+    let alloc = rt.alloc();
+    let info = ["info", "t.ppm"];
+    let tile_of_three: &[u8] = b"VTS1\x00\x00\x00\x04\x00\x00\x00\x04\x00\x00\x00\x03\x00\x00\x00";
+    let too_many: &[u8] = b"VTS1\x00\x00\x20\x00\x00\x00\x20\x00\x00\x00\x00\x02\x00\x00\x00";
+    let longer: &[u8] =
+        b"VTS1\x00\x00\x00\x01\x00\x00\x00\x01\x00\x00\x00\x02\x0a\x14\x1e\x0a\x14\x1e\x0a\x14\x1e\x0a\x14\x1e\x00";
+    for (bytes, line) in [
+        (
+            longer,
+            b"vtex: bad input: t.ppm: length 29, wanted 28\n".as_slice(),
+        ),
+        (
+            &G4_STORE[..75],
+            b"vtex: bad input: t.ppm: length 75, wanted 76\n",
+        ),
+        (tile_of_three, b"vtex: bad input: t.ppm: bad geometry\n"),
+        (too_many, b"vtex: bad input: t.ppm: bad geometry\n"),
+        (
+            b"VTS1\x00",
+            b"vtex: bad input: t.ppm: length 5, wanted 16\n",
+        ),
+        (b"VTS", b"vtex: bad input: t.ppm: bad magic\n"),
+        (G4, b"vtex: bad input: t.ppm: bad magic\n"),
+    ] {
+        assert!(rt; refuses(&rt, alloc, &info, bytes, 4, line));
+    }
+}
+
+#[test]
+fn refused_words(rt: HostRuntime) {
+    let alloc = rt.alloc();
+    assert!(rt;
+        refuses(
+            &rt,
+            alloc,
+            &["tile", "t.ppm", "t.ppm", "--tile", "2"],
+            G4,
+            2,
+            USAGE
+        )
+    );
+    assert!(rt;
+        refuses(
+            &rt,
+            alloc,
+            &["tile", "t.ppm", "s.vts", "--tile", "3"],
+            G4,
+            2,
+            USAGE
+        )
+    );
+    assert!(rt;
+        refuses(
+            &rt,
+            alloc,
+            &["tile", "t.ppm", "s.vts", "--tiles", "2"],
+            G4,
+            2,
+            USAGE
+        )
+    );
+    assert!(rt;
+        refuses(
+            &rt,
+            alloc,
+            &["tile", "t.ppm", "s.vts", "--tile"],
+            G4,
+            2,
+            USAGE
+        )
+    );
+    assert!(rt;
+        refuses(
+            &rt,
+            alloc,
+            &["tile", "t.ppm", "s.vts", "--tile", "2", "2"],
+            G4,
+            2,
+            USAGE
+        )
+    );
+    assert!(rt; refuses(&rt, alloc, &["info"], G4, 2, USAGE));
+    assert!(rt; refuses(&rt, alloc, &["info", "t.ppm", "t.ppm"], G4, 2, USAGE));
+    assert!(rt; refuses(&rt, alloc, &["walk", "t.ppm"], G4, 2, USAGE));
+}
+
+#[test]
+fn refused_textures(rt: HostRuntime) {
+    let alloc = rt.alloc();
+    let bad_magic = b"vtex: bad input: t.ppm: bad magic\n";
+    assert!(rt; refuses(&rt, alloc, &TILE, b"P5 1 1 255\n\x00", 4, bad_magic));
+    let missing = ["tile", "none", "s.vts", "--tile", "2"];
+    assert!(rt; refuses(&rt, alloc, &missing, G4, 3, FAULT));
+    assert!(rt; refuses(&rt, alloc, &["info", "none"], G4, 3, FAULT));
+}
+
+#[test]
+fn failing_calls(rt: HostRuntime) {
+    let alloc = rt.alloc();
+    for fail in [
+        Fail::Open(0),
+        Fail::Length { opening: 0 },
+        Fail::Read {
+            opening: 0,
+            read: 0,
+        },
+        Fail::Read {
+            opening: 0,
+            read: 1,
+        },
+        Fail::Create(0),
+    ] {
+        assert!(rt; stops(&rt, alloc, fail, None, b""));
+    }
+    // A failed append leaves the first half of its piece: the header, the two rows of tiles of level 0, and that of level 1.
+    assert!(rt; stops(&rt, alloc, Fail::Append(0), Some(&G4_STORE[..8]), b""));
+    assert!(rt; stops(&rt, alloc, Fail::Append(1), Some(&G4_STORE[..28]), b""));
+    assert!(rt; stops(&rt, alloc, Fail::Append(2), Some(&G4_STORE[..52]), b""));
+    assert!(rt; stops(&rt, alloc, Fail::Append(3), Some(&G4_STORE[..70]), b""));
+    // A failed put leaves the first half of the line's 43 bytes.
+    assert!(rt; stops(&rt, alloc, Fail::Put(0), Some(G4_STORE), &G4_LINE[..21]));
+}
+
+#[test]
+fn failing_calls_of_info(rt: HostRuntime) {
+    let alloc = rt.alloc();
+    for fail in [
+        Fail::Open(0),
+        Fail::Length { opening: 0 },
+        Fail::Read {
+            opening: 0,
+            read: 0,
+        },
+    ] {
+        match play_on(
+            &rt,
+            alloc,
+            &["info", "s.vts"],
+            "s.vts",
+            G4_STORE,
+            Some(fail),
+        ) {
+            Ok(left) => {
+                assert_eq!(rt; left.status, 3);
+                assert!(rt; left.holds("s.vts", G4_STORE) && left.printed(b"", FAULT));
+            }
+            Err(_) => assert!(rt; false, "there is memory"),
+        }
+    }
+}
