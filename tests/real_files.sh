@@ -1,5 +1,5 @@
 #!/usr/bin/env bash
-# Runs the built program on real files and compares its pictures byte for byte with those of an independent program.
+# Runs the built program on real files and compares its pictures and stores byte for byte with those of an independent program.
 set -u
 top=$(cd "$(dirname "$0")/.." && pwd)
 program=$top/crates/vtex/out/vtex
@@ -101,11 +101,121 @@ printed=$("$program" plain dot.ppm most.path most/p --tile 2)
 [ "$printed" = "end pictures 9999" ] && [ "$(ls most | wc -l)" -eq 9999 ]; say $? "9,999 pictures: the end line and their number"
 [ "$(cat most/*.ppm | md5sum)" = "$(for _ in $(seq 9999); do cat dot.ppm; done | md5sum)" ]; say $? "9,999 pictures: bytes"
 
+# Textures, in one table: the header as printf has it with its raster, and what the picture's one pixel shows or the place that is
+# printed. The camera shows the texture's first texel.
+printf 'size 1 1\nfocal 1\nat 0 0 256 0 0\n' > pixel.path
+while IFS='|' read -r texture answer; do
+  printf "$texture" > row.ppm
+  printed=$("$program" plain row.ppm pixel.path row. --tile 2 2> err); status=$?
+  case "$answer" in
+    texel*) [ "$status" -eq 0 ] && [ "$(tail -c 3 row.0000.ppm | od -An -tx1)" = "${answer#texel}" ];;
+    *) [ "$status" -eq 4 ] && [ -z "$printed" ] && [ "$(cat err)" = "vtex: bad input: row.ppm: $answer" ] && [ ! -e row.0000.ppm ];;
+  esac
+  say $? "texture $texture: $answer"
+  "$program" tile row.ppm row.vts --tile 2 > /dev/null 2> tile.err; status=$?
+  case "$answer" in
+    texel*) [ "$status" -eq 0 ] && [ "$(tail -c +17 row.vts | head -c 3 | od -An -tx1)" = "${answer#texel}" ];;
+    *) [ "$status" -eq 4 ] && cmp -s err tile.err && [ ! -e row.vts ];;
+  esac
+  say $? "the same by tile: $texture: $answer"
+  rm -f row.0000.ppm row.vts
+done <<'ROWS'
+P6 1 1 255\n\0abc|texel 00 61 62
+P6\r\n# made by hand\r\n2 1\n100\n\0\062\144\144\062\0|texel 00 80 ff
+P6 2 1 255\r\n\001\002\003\004\005\006|texel 0a 01 02
+P6 01 1 255\nabc|texel 61 62 63
+P6 #a\n#b\n1 1 255\nabc|texel 61 62 63
+P6\t#\r \n#\n0000000001\n1 #x\n 0255\tabcd|texel 61 62 63
+P6 1 1 1\n\001\0\001|texel ff 00 ff
+P6 1 1 254\n\177\376\001|texel 80 ff 01
+|bad magic
+P|bad magic
+P5 1 1 255\n\0|bad magic
+P6|bad header at byte 2
+P6 1 1 255|bad header at byte 10
+P6 1 1 255#|bad header at byte 10
+P6 1 1#a\n255\n|bad header at byte 6
+P6 1 1 #a|bad header at byte 9
+P6 1 1\v255\n|bad header at byte 6
+P6 -1 1 255\n|bad header at byte 3
+P6 00000000001 1 255\n|bad header at byte 13
+P6#a\n1 1 255\n|bad header at byte 2
+P6\v1 1 255\n|bad header at byte 2
+P6 0 1 255\n|bad size
+P6 1 8193 255\nabc|bad size
+P6 9999999999 1 255\n|bad size
+P6 1 1 0\nabc|bad maximum
+P6 1 1 65536\nabc|bad maximum
+P6 1 1 256\nabcdef|wide samples
+P6 1 1 65535\nabcdef|wide samples
+P6 1 1 255\nab|raster of 2 bytes, wanted 3
+P6 8192 8192 255\n|raster of 0 bytes, wanted 201326592
+P6 1 1 100\n\001\145\0|sample over maximum at byte 12
+ROWS
+for blanks in 100 70000; do
+  { printf P6; head -c "$blanks" /dev/zero | tr '\0' ' '; } > row.ppm
+  "$program" plain row.ppm pixel.path row. --tile 2 2> err; status=$?
+  at=$((blanks + 2)); [ "$at" -le 65536 ] || at=65536
+  [ "$status" -eq 4 ] && [ "$(cat err)" = "vtex: bad input: row.ppm: bad header at byte $at" ]; say $? "P6 and $blanks blanks"
+done
+
+# Textures that other programs wrote, where these are installed; the last is of the form that GIMP writes.
+picture_of() {
+  if [ ! -s other.ppm ]; then echo "skipped: a texture by $1, which is not here"; return; fi
+  $reference other.ppm way.path want.other. 8
+  "$program" plain other.ppm way.path got.other. --tile 8 > /dev/null && cmp -s want.other.0000.ppm got.other.0000.ppm && cmp -s want.other.0012.ppm got.other.0012.ppm
+  say $? "plain of a texture by $1"
+  $reference tile other.ppm want.vts 8 > want.line
+  "$program" tile other.ppm got.vts --tile 8 > got.line && cmp -s want.vts got.vts && cmp -s want.line got.line; say $? "tile of a texture by $1"
+  rm -f other.ppm
+}
+ppmpat -gingham2 -randomseed=1 61 47 > other.ppm 2> /dev/null; picture_of "netpbm's ppmpat"
+ppmpat -plaid -randomseed=2 40 33 2> /dev/null | pamdepth 100 > other.ppm 2> /dev/null; picture_of "netpbm's pamdepth"
+magick=$(PATH=/usr/bin:/bin:$PATH command -v magick || PATH=/usr/bin:/bin:$PATH command -v convert-im6.q16 || PATH=/usr/bin:/bin:$PATH command -v convert)
+"${magick:-none}" -seed 3 -size 59x31 plasma:red-blue -depth 8 ppm:other.ppm 2> /dev/null; picture_of ImageMagick
+ffmpeg -v quiet -y -f lavfi -i testsrc=size=64x48 -frames:v 1 -pix_fmt rgb24 other.ppm < /dev/null; picture_of ffmpeg
+$reference make 21 13 77 raw.ppm
+{ printf 'P6\n# Created by GIMP version 2.10.34 PNM plug-in\n21 13\n255\n'; tail -c 819 raw.ppm; } > other.ppm; picture_of "GIMP's writer (its form)"
+
+# Stores: tiled, told and read back.
+number=0
+while read -r width height tile; do
+  number=$((number + 1))
+  $reference make "$width" "$height" "$number" "s$number.ppm"
+  $reference tile "s$number.ppm" "want$number.vts" "$tile" > want.line
+  "$program" tile "s$number.ppm" "got$number.vts" --tile "$tile" > got.line
+  cmp -s "want$number.vts" "got$number.vts" && cmp -s want.line got.line; say $? "store $number: $width $height $tile"
+  "$program" info "got$number.vts" > got.line && cmp -s want.line got.line; say $? "info of store $number"
+  $reference texels "s$number.ppm" "got$number.vts"; say $? "store $number read back"
+done <<'ROWS'
+1 1 2
+5 3 2
+4 4 2
+129 3 128
+64 64 64
+65 63 8
+2 300 16
+ROWS
+for bytes in 3 4 15 16 75; do
+  "$program" tile g4.ppm g4.vts --tile 2 > /dev/null; head -c "$bytes" g4.vts > cut.vts
+  "$program" info cut.vts > out 2> err; status=$?
+  case "$bytes" in 3) place="bad magic";; 4 | 15) place="length $bytes, wanted 16";; *) place="length $bytes, wanted 76";; esac
+  [ "$status" -eq 4 ] && [ ! -s out ] && [ "$(cat err)" = "vtex: bad input: cut.vts: $place" ]; say $? "a store cut to $bytes bytes"
+done
+{ cat g4.vts; printf x; } > long.vts
+"$program" info long.vts 2> err; status=$?
+[ "$status" -eq 4 ] && [ "$(cat err)" = "vtex: bad input: long.vts: length 77, wanted 76" ]; say $? "a store with a byte more"
+$reference make 8192 128 1 wide.ppm
+"$program" tile wide.ppm wide.vts --tile 2 > out 2> err; status=$?
+[ "$status" -eq 4 ] && [ ! -s out ] && [ ! -e wide.vts ] && [ "$(cat err)" = "vtex: bad input: wide.ppm: too many pages 349567" ]; say $? "too many pages"
+"$program" tile g4.ppm g4.ppm --tile 2 2> err; status=$?
+[ "$status" -eq 2 ] && cmp -s g4.ppm "$top/crates/vtex/data/g4.ppm"; say $? "a store under the texture's name"
+
 # Refusals print one line and write nothing.
 "$program" plain g4.ppm none g --tile 2 > out 2> err; status=$?
 [ "$status" -eq 3 ] && [ ! -s out ] && [ "$(cat err)" = "vtex: fault on files or output" ]; say $? "a missing path"
 "$program" plain a.path a.path g --tile 2 > out 2> err; status=$?
-[ "$status" -eq 4 ] && [ "$(cat err)" = "vtex: bad input: a.path: form not built" ]; say $? "a texture that is none"
+[ "$status" -eq 4 ] && [ "$(cat err)" = "vtex: bad input: a.path: bad magic" ]; say $? "a texture that is none"
 "$program" plain g4.ppm a.path g --tile 3 > out 2> err; status=$?
 [ "$status" -eq 2 ] && [ ! -e g0000.ppm ]; say $? "an unlawful tile side"
 "$program" plain g4.ppm a.path h --tile 2 > /dev/full 2> err; status=$?

@@ -1,8 +1,10 @@
 #!/usr/bin/env python3
-"""Draws plain pictures by the rules of docs/FORMATS.md, pixel by pixel, apart from the program.
+"""Draws plain pictures and writes tile stores by the rules of docs/FORMATS.md, texel by texel, apart from the program.
 
-usage: reference.py TEXTURE PATH PREFIX TILE     writes PREFIX0000.ppm and so on
-       reference.py make WIDTH HEIGHT SEED NAME  writes a P6 texture of pseudo-random samples
+usage: reference.py TEXTURE PATH PREFIX TILE          writes PREFIX0000.ppm and so on
+       reference.py tile TEXTURE STORE TILE           writes the store, and prints its line
+       reference.py texels TEXTURE STORE              reads each texel of each level back from the store, by its place
+       reference.py make WIDTH HEIGHT SEED NAME       writes a P6 texture of pseudo-random samples
 """
 import sys
 
@@ -11,15 +13,18 @@ def read_texture(name):
     data = open(name, "rb").read()
     fields, at = [], 2
     while len(fields) < 3:
-        while data[at : at + 1].isspace():
+        while data[at : at + 1] in (b" ", b"\t", b"\n", b"\r", b"#"):
+            if data[at : at + 1] == b"#":
+                while data[at : at + 1] not in (b"\n", b"\r"):
+                    at += 1
             at += 1
         start = at
         while data[at : at + 1].isdigit():
             at += 1
         fields.append(int(data[start:at]))
-    width, height, maximum = fields
-    assert data[:2] == b"P6" and maximum == 255
-    raster = data[at + 1 : at + 1 + 3 * width * height]
+    width, height, most = fields
+    assert data[:2] == b"P6" and 1 <= most <= 255
+    raster = [(sample * 255 + most // 2) // most for sample in data[at + 1 : at + 1 + 3 * width * height]]
     return [[tuple(raster[3 * (y * width + x) : 3 * (y * width + x) + 3]) for x in range(width)] for y in range(height)]
 
 
@@ -75,6 +80,46 @@ def draw(texture, path, prefix, tile):
         open("%s%04d.ppm" % (prefix, number), "wb").write(picture_of(levels, size, focal, camera))
 
 
+def pages_of(levels, tile):
+    pages = []
+    for k, level in enumerate(levels):
+        for row in range(-(-len(level) // tile)):
+            for column in range(-(-len(level[0]) // tile)):
+                pages.append((k, column, row))
+    return pages
+
+
+def write_store(texture, store, tile):
+    tile = int(tile)
+    levels = chain_of(read_texture(texture), tile)
+    pages = pages_of(levels, tile)
+    width, height = len(levels[0][0]), len(levels[0])
+    out = bytearray(b"VTS1" + b"".join(n.to_bytes(4, "big") for n in (width, height, tile)))
+    for k, column, row in pages:
+        for y in range(row * tile, row * tile + tile):
+            line = levels[k][min(y, len(levels[k]) - 1)]
+            for x in range(column * tile, column * tile + tile):
+                out += bytes(line[min(x, len(line) - 1)])
+    open(store, "wb").write(out)
+    print("store %d %d tile %d levels %d pages %d bytes %d" % (width, height, tile, len(levels), len(pages), len(out)))
+
+
+def read_back(texture, store):
+    data = open(store, "rb").read()
+    tile = int.from_bytes(data[12:16], "big")
+    levels = chain_of(read_texture(texture), tile)
+    first = 0
+    for level in levels:
+        columns, rows = -(-len(level[0]) // tile), -(-len(level) // tile)
+        for y, line in enumerate(level):
+            for x, texel in enumerate(line):
+                page = first + y // tile * columns + x // tile
+                at = 16 + 3 * (tile * tile * page + y % tile * tile + x % tile)
+                assert tuple(data[at : at + 3]) == texel, (x, y)
+        first += columns * rows
+    assert len(data) == 16 + 3 * tile * tile * first
+
+
 def make(width, height, seed, name):
     state, samples = int(seed), bytearray()
     for _ in range(3 * int(width) * int(height)):
@@ -83,7 +128,8 @@ def make(width, height, seed, name):
     open(name, "wb").write(b"P6\n%d %d\n255\n" % (int(width), int(height)) + samples)
 
 
-if sys.argv[1] == "make":
-    make(*sys.argv[2:])
+jobs = {"make": make, "tile": write_store, "texels": read_back}
+if sys.argv[1] in jobs:
+    jobs[sys.argv[1]](*sys.argv[2:])
 else:
     draw(*sys.argv[1:])
