@@ -170,7 +170,7 @@ picture_of() {
   rm -f other.ppm
 }
 ppmpat -gingham2 -randomseed=1 61 47 > other.ppm 2> /dev/null; picture_of "netpbm's ppmpat"
-ppmpat -plaid -randomseed=2 40 33 2> /dev/null | pamdepth 100 > other.ppm 2> /dev/null; picture_of "netpbm's pamdepth"
+ppmpat -tartan -randomseed=2 40 33 2> /dev/null | pamdepth 100 > other.ppm 2> /dev/null; picture_of "netpbm's pamdepth"
 magick=$(PATH=/usr/bin:/bin:$PATH command -v magick || PATH=/usr/bin:/bin:$PATH command -v convert-im6.q16 || PATH=/usr/bin:/bin:$PATH command -v convert)
 "${magick:-none}" -seed 3 -size 59x31 plasma:red-blue -depth 8 ppm:other.ppm 2> /dev/null; picture_of ImageMagick
 ffmpeg -v quiet -y -f lavfi -i testsrc=size=64x48 -frames:v 1 -pix_fmt rgb24 other.ppm < /dev/null; picture_of ffmpeg
