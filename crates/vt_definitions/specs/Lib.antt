@@ -1,2 +1,3 @@
 pub mod Sides
 pub mod Texels
+pub mod Tiles

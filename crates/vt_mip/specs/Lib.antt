@@ -1,3 +1,2 @@
-pub mod Tiles
 pub mod Chains
 pub mod Halves

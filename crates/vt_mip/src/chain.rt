@@ -1,6 +1,6 @@
 ghost use Rattle.std.specs.Prelude.{◌≡◌, ℕ, ◌+◌, ◌-◌, ◌*◌, ◌<◌, ◌≤◌, ◌++◌, ◌∷◌, [], ◌↔◌, length, IfOk, OnOk, IsTrue, vec_len, slice_range};
 ghost use Rattle.vt_ppm.specs.Image.{Picture, IsPicture};
-ghost use Rattle.vt_mip.specs.Tiles.{IsTileSide};
+ghost use Rattle.vt_definitions.specs.Tiles.{IsTileSide};
 ghost use Rattle.vt_mip.specs.Chains.{ChainView, chain_levels, chain_width, chain_height, chain_texel, IsTexelRow};
 ghost use Rattle.vt_mip.specs.Halves.{IsChainFront, IsWholeChain, IsMadeFrom, IsLastFitting, HasBytes};
 

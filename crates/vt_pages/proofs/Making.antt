@@ -8,7 +8,8 @@ use Rattle.vt_definitions.specs.Sides.{side}
 use Rattle.vt_pages.specs.declared.TheConstants.{MOST_SIDE, MOST_PAGES, MOST_LEVELS}
 use Rattle.vt_pages.specs.declared.PagesError.TheVariants.{BadTile, BadSide, TooManyPages}
 use Rattle.vt_pages.specs.declared.tables.Tables.{Tables}
-use Rattle.vt_pages.specs.Shape.{Shape, is_tile_side, is_texture_side}
+use Rattle.vt_definitions.specs.Tiles.{is_tile_side}
+use Rattle.vt_pages.specs.Shape.{Shape, is_texture_side}
 use Rattle.vt_pages.specs.Tables.{IsTabled, IsTileShift}
 use Rattle.vt_pages.specs.Pages.{columns_at, rows_at, levels_of, pages_of, refusal_of, IsWithinLimits}
 use Rattle.vt_pages.proofs.Counts.{levels_count, side_halved, pages_below-suc, pages_below_le, columns_some, rows_some, pages_below_most}

@@ -7,7 +7,8 @@ use Rattle.vt_pages.specs.declared.TheConstants.{MOST_SIDE, MOST_PAGES, MOST_LEV
 use Rattle.vt_pages.specs.declared.PageName.{PageName}
 use Rattle.vt_pages.specs.declared.PagesError.{PagesError}
 use Rattle.vt_pages.specs.declared.PagesError.TheVariants.{BadTile, BadSide, TooManyPages}
-use Rattle.vt_pages.specs.Shape.{Shape, is_tile_side, tile_exponent, is_texture_side}
+use Rattle.vt_definitions.specs.Tiles.{is_tile_side}
+use Rattle.vt_pages.specs.Shape.{Shape, tile_exponent, is_texture_side}
 
 -- the columns of pages of a level: its width over the tile side, rounded up (van Waveren 2012)
 unfoldable pub columns_at : Shape → ℕ → ℕ

@@ -1,5 +1,5 @@
 -- The three numbers that say how a texture is cut into pages, and their limits.
-use Rattle.std.specs.Prelude.{ℕ, Bool, ◌==◌, nat_le, ◌&&◌, ◌||◌, if◌then◌else◌}
+use Rattle.std.specs.Prelude.{ℕ, Bool, ◌==◌, nat_le, ◌&&◌, if◌then◌else◌}
 use Rattle.vt_pages.specs.declared.TheConstants.{MOST_SIDE}
 
 -- the sides of a texture and the side of its tiles, in texels (van Waveren 2012)
@@ -11,10 +11,6 @@ pub record Shape : Type 0 where
 -- the shape of three numbers (van Waveren 2012)
 abbrev pub shape_of : ℕ → ℕ → ℕ → Shape
 shape_of width height tile = record { width = width; height = height; tile = tile }
-
--- a tile side is a power of two from 2 to 128 (this project's profile)
-abbrev pub is_tile_side : ℕ → Bool
-is_tile_side t = t == 2 || t == 4 || t == 8 || t == 16 || t == 32 || t == 64 || t == 128
 
 -- a side of a texture is from 1 to the greatest side (this project's profile)
 abbrev pub is_texture_side : ℕ → Bool

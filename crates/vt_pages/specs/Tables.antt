@@ -4,7 +4,8 @@ use Rattle.std.specs.List.{range_with_len}
 use Rattle.vt_definitions.specs.Sides.{side}
 use Rattle.vt_pages.specs.declared.TheConstants.{MOST_LEVELS}
 use Rattle.vt_pages.specs.declared.tables.Tables.{Tables}
-use Rattle.vt_pages.specs.Shape.{Shape, is_tile_side, tile_exponent}
+use Rattle.vt_definitions.specs.Tiles.{is_tile_side}
+use Rattle.vt_pages.specs.Shape.{Shape, tile_exponent}
 use Rattle.vt_pages.specs.Pages.{columns_at, rows_at, pages_below, levels_of, pages_of, IsWithinLimits}
 
 -- a tile side is 2 to the power of the shift (this project's profile)

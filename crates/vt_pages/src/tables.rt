@@ -2,7 +2,8 @@
 
 ghost use Rattle.std.specs.Prelude.{◌≡◌, ℕ, ◌+◌, ◌-◌, ◌*◌, ◌/◌, ◌%◌, ◌^◌, ◌<◌, ◌≤◌, IsTrue, true, false, MatchOption, slice_index};
 ghost use Rattle.vt_definitions.specs.Sides.{side};
-ghost use Rattle.vt_pages.specs.Shape.{is_tile_side, shape_of};
+ghost use Rattle.vt_definitions.specs.Tiles.{is_tile_side};
+ghost use Rattle.vt_pages.specs.Shape.{shape_of};
 ghost use Rattle.vt_pages.specs.Tables.{IsTabled, IsTileShift};
 
 use crate::{MOST_LEVELS, MOST_SIDE};

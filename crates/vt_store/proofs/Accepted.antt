@@ -5,7 +5,8 @@ use Rattle.std.proofs.lemmas.Bool.Decides.{nat_tests}
 use Rattle.vt_pages.specs.declared.TheConstants.{MOST_SIDE, MOST_PAGES}
 use Rattle.vt_pages.specs.declared.PagesError.{PagesError}
 use Rattle.vt_pages.specs.declared.PagesError.TheVariants.{BadTile, BadSide, TooManyPages}
-use Rattle.vt_pages.specs.Shape.{Shape, is_tile_side, is_texture_side}
+use Rattle.vt_definitions.specs.Tiles.{is_tile_side}
+use Rattle.vt_pages.specs.Shape.{Shape, is_texture_side}
 use Rattle.vt_pages.specs.Pages.{pages_of, refusal_of}
 
 -- the limits of an accepted shape that a header needs

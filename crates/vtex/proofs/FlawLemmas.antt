@@ -4,10 +4,10 @@ use Rattle.std.proofs.lemmas.Bool.Decides.{nat_tests}
 use Rattle.std.specs.Prelude.{Bool, ◌&&◌, if◌then◌else◌, nat_le}
 use Rattle.vt_outside.specs.Files.{Files}
 use Rattle.vt_camera.specs.Paths.{PathView}
-use Rattle.vt_mip.specs.Tiles.{IsTileSide}
 use Rattle.vt_mip.specs.Chains.{ChainView}
 use Rattle.vt_ppm.specs.Image.{Picture, IsPicture}
-use Rattle.vt_pages.specs.Shape.{Shape, shape_of, is_tile_side, is_texture_side}
+use Rattle.vt_definitions.specs.Tiles.{IsTileSide, is_tile_side}
+use Rattle.vt_pages.specs.Shape.{Shape, shape_of, is_texture_side}
 use Rattle.vt_pages.specs.Pages.{refusal_of, pages_of}
 use Rattle.vt_pages.specs.declared.TheConstants.{MOST_PAGES}
 use Rattle.vt_pages.specs.declared.PagesError.{PagesError}
@@ -45,10 +45,7 @@ info_flaw words files (Texture e) h = absurd h
 info_flaw words files (Pages pages) h = absurd h
 info_flaw words files (Store e) h = h
 
--- a lawful tile side passes the test of geometries
-lawful_side : (t : ℕ) → IsTileSide t → is_tile_side t ≡ true
-lawful_side t h = grind (arith, nat_tests)
-
+-- the sides of an image pass the test of geometries
 lawful_sides : (w h : ℕ) → 1 ≤ w → w ≤ 8192 → 1 ≤ h → h ≤ 8192 → (is_texture_side w && is_texture_side h) ≡ true
 lawful_sides w h a b c d = grind (arith, nat_tests)
 
@@ -60,8 +57,9 @@ chosen false pages e h = let same : TooManyPages pages ≡ e = cc in subst IsMan
 pub only_many_pages : (p : Picture) (t : ℕ) (e : PagesError) → IsPicture p → IsTileSide t → refusal_of (shape_in p t) ≡ Some e → IsManyPages e
 unfolding refusal_of
 only_many_pages p t e is side refused =
+    let lawful : is_tile_side t ≡ true = side in
     chosen (nat_le (pages_of (shape_in p t)) MOST_PAGES) (pages_of (shape_in p t)) e
-    (rw (lawful_side t side, lawful_sides p.width p.height is.some_columns is.few_columns is.some_rows is.few_rows) at refused)
+    (rw (lawful, lawful_sides p.width p.height is.some_columns is.few_columns is.some_rows is.few_rows) at refused)
 
 -- the store of a texture's chain
 pub store_file_is : (texture : Picture) (tile t : ℕ) (chain : ChainView) (shape : Shape) → chain ≡ record { base = texture; tile = t } → t ≡ tile → shape ≡ shape_in texture tile → chain_store chain shape ≡ store_file texture tile

@@ -17,6 +17,26 @@ pub on_err : {T E : Type 0} (r : Result T E) (P Q : Type 0) → (P → Q) → On
 on_err (Ok x) P Q f h = h
 on_err (Err e) P Q f h = f h
 
+-- a stop while the store was written
+pub stopped_storing : (words : TileText) (before mid after : Option Files) (held : Option (List ℕ)) (texture : Picture) (shape : Shape)
+    → HoldsTexture before words.texture texture → refusal_of (shape_in texture words.tile) ≡ None → mid ≡ before → shape ≡ shape_in texture words.tile
+    → (after ≡ mid) ⊎ ((k : ℕ) × (after ≡ option_map (with_bytes words.store (take k (store_file texture shape.tile))) mid))
+    → TileStopped words before after held held
+stopped_storing words before mid after held texture shape is_texture accepted same is part = record {
+  texture = texture;
+  reads = record { is_texture = is_texture; accepted = accepted };
+  files = elim part [
+    | inl none ↦ inl (none ∙ same)
+    | inr some ↦ inr (
+      some.0,
+      some.1
+          ∙ ap (λ (s : Shape). option_map (with_bytes words.store (take some.0 (store_file texture s.tile))) mid) is
+          ∙ ap (option_map (with_bytes words.store (take some.0 (store_file texture words.tile)))) same,
+    )
+  ];
+  out = inl refl;
+}
+
 -- a stop at the store's line
 pub stopped_telling : (words : TileText) (before mid after : Option Files) (held shown : Option (List ℕ)) (texture : Picture) (shape : Shape)
     → HoldsTexture before words.texture texture → refusal_of (shape_in texture words.tile) ≡ None → mid ≡ before → shape ≡ shape_in texture words.tile

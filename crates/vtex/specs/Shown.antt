@@ -1,6 +1,6 @@
 -- The words of the commands, without where they lie in memory.
 use Rattle.vtex.specs.Words.{PlainText, TileText, InfoText, CommandText, PlainCommand, TileCommand, InfoCommand}
-use Rattle.vt_mip.specs.Tiles.{IsTileSide}
+use Rattle.vt_definitions.specs.Tiles.{IsTileSide}
 use Rattle.vtex.specs.declared.words.PlainWords.{PlainWords}
 use Rattle.vtex.specs.declared.words.TileWords.{TileWords}
 use Rattle.vtex.specs.declared.words.InfoWords.{InfoWords}

@@ -3,7 +3,7 @@
 ghost use Rattle.std.specs.Prelude.{◌≡◌, ◌≢◌, ◌<◌, ◌≤◌, ◌⊎◌, ℕ, length, take, option_map, IsSome, OnOk, OnErr, IsErrOf, Err};
 ghost use Rattle.vt_outside.specs.Counts.{Rose};
 ghost use Rattle.vt_outside.specs.Files.{with_bytes};
-ghost use Rattle.vt_mip.specs.Tiles.{IsTileSide};
+ghost use Rattle.vt_definitions.specs.Tiles.{IsTileSide};
 ghost use Rattle.vtex.specs.Names.{picture_name};
 ghost use Rattle.vtex.specs.Words.{PlainCommand};
 ghost use Rattle.vtex.specs.Plain.{plain_file};

@@ -3,7 +3,7 @@
 ghost use Rattle.std.specs.Prelude.{◌≡◌, ◌≢◌, ◌≤◌, ◌⊎◌, ℕ, Some, None, take, option_map, IsSome, IfOk, OnOk, OnErr, IsErrOf, Err};
 ghost use Rattle.vt_outside.specs.Counts.{Rose};
 ghost use Rattle.vt_outside.specs.Files.{with_bytes};
-ghost use Rattle.vt_mip.specs.Tiles.{IsTileSide};
+ghost use Rattle.vt_definitions.specs.Tiles.{IsTileSide};
 ghost use Rattle.vt_pages.specs.Pages.{refusal_of};
 ghost use Rattle.vtex.specs.Shown.{shown_tile};
 ghost use Rattle.vtex.specs.Inputs.{shape_in};

@@ -1,7 +1,7 @@
 //! The words after the program's name.
 
 ghost use Rattle.std.specs.Prelude.{◌≡◌, option_map, IfSome};
-ghost use Rattle.vt_mip.specs.Tiles.{IsTileSide};
+ghost use Rattle.vt_definitions.specs.Tiles.{IsTileSide};
 ghost use Rattle.vtex.specs.Words.{plain_text, tile_text, info_text, command_text, tile_side, names_clash, texts};
 ghost use Rattle.vtex.specs.Shown.{shown_plain, shown_tile, shown_info, shown, HasTileSide};
 
