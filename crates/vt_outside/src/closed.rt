@@ -14,7 +14,7 @@ pub enum Closed {
     },
 }
 
-// The place of that number among those asked of the name, or where there is none, how many there are.
+/// The place of that number among those asked of the name, or where there is none, how many there are.
 pub fn place_in(closed: &Closed, name: &str, i: usize) -> Result<Place, usize>
     ensures { MatchResult result (λ place. slice_get (places_in closed.now name.now) i ≡ Some place) (λ n. (n ≡ length (places_in closed.now name.now)) × (n ≤ i)) }
 {

@@ -32,7 +32,7 @@ fn is_listed(fails: &[Fail], call: Fail) -> bool
     fails.contains(&call)
 }
 
-// Whether the call is in the list; if so, it is a fault.
+/// Whether the call is in the list; if so, it is a fault.
 pub fn meets_fault(fails: &[Fail], call: Fail, faults: &mut u64) -> bool
     ensures met { result ≡ is_listed fails.now call }
     ensures rises { faults.old ≤ faults.new }
@@ -46,7 +46,7 @@ pub fn meets_fault(fails: &[Fail], call: Fail, faults: &mut u64) -> bool
     met
 }
 
-// One more, up to the end of the type.
+/// One more, up to the end of the type.
 pub fn next(count: u64) -> u64
     ensures { result ≡ added count 1 }
 {

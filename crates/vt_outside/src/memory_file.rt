@@ -35,7 +35,7 @@ pub(crate) struct Remains {
 impl MemoryFile {
     ghost use Rattle.vt_outside.specs.MemoryFile.{file_name, file_bytes, file_places, file_fails, file_opening, file_reads, file_faults};
 
-    // A file of these bytes that was not read yet.
+    /// A file of these bytes that was not read yet.
     pub(crate) fn new(
         alloc: Global,
         name: &str,
@@ -63,7 +63,7 @@ impl MemoryFile {
         })
     }
 
-    // What the folder keeps of the file.
+    /// What the folder keeps of the file.
     pub(crate) fn remains(self) -> Remains
         ensures name { string_bytes result.name ≡ file_name self }
         ensures places { result.places.items ≡ file_places self }
