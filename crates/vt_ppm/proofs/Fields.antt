@@ -48,15 +48,19 @@ ahead_is_white b c rest ahead e =
     let first : c ≡ w.first = cc same in
     ap is_white first ∙ w.white
 
+-- no bytes begin a field
+nothing_begins : IsFieldFront []
+nothing_begins = record { rest = codes " 1"; value = digits_value 10 (codes "1"); field = field_of (codes " ") (codes "1") (white_is_gap 32 refl) (omega arith) (omega arith) refl }
+
 -- no white space in front
 no_gap : (b : List ℕ) → prefix_len is_white b ≡ 0 → IsBrokenField b 0
 no_gap [] none = record {
   within = omega arith;
   none = λ ahead. absurd (omega (arith, ap length ahead.spelt, length-append ahead.text (ahead.space ∷ ahead.rest)));
-  front = record { rest = codes " 1"; value = digits_value 10 (codes "1"); field = field_of (codes " ") (codes "1") (white_is_gap 32 refl) (omega arith) (omega arith) refl };
+  front = nothing_begins;
   breaks = inl refl;
 }
-no_gap (c ∷ cs) none = broken_by (c ∷ cs) 0 (omega arith) (record { rest = codes " 1"; value = digits_value 10 (codes "1"); field = field_of (codes " ") (codes "1") (white_is_gap 32 refl) (omega arith) (omega arith) refl })
+no_gap (c ∷ cs) none = broken_by (c ∷ cs) 0 (omega arith) nothing_begins
     (λ rest ahead. black none (ahead_is_white (c ∷ rest) c rest ahead refl))
   where
     black : prefix_len is_white (c ∷ cs) ≡ 0 → is_white c ≡ true → ⊥
@@ -78,9 +82,9 @@ gap_to_end b gap = record {
     never : IsFieldAhead b → ⊥
     never ahead =
         let x : List ℕ = (ahead.space ∷ ahead.rest) ++ (10 ∷ codes "1") in
-        let e : ahead.text ++ ((ahead.space ∷ ahead.rest) ++ (10 ∷ codes "1")) ≡ (b ++ (10 ∷ [])) ++ (codes "1" ++ []) =
+        let e : ahead.text ++ x ≡ (b ++ (10 ∷ [])) ++ (codes "1" ++ []) =
         sym (append_assoc ahead.text (ahead.space ∷ ahead.rest) (10 ∷ codes "1")) ∙ ap (λ xs. xs ++ (10 ∷ codes "1")) (sym ahead.spelt) ∙ sym (append_assoc b (10 ∷ []) (codes "1")) in
-        let same : ahead.field.gap ≡ b ++ (10 ∷ []) = gap_of_field ahead.text ((ahead.space ∷ ahead.rest) ++ (10 ∷ codes "1")) (b ++ (10 ∷ [])) (codes "1") [] ahead.value ahead.field gap (omega arith) refl e in
+        let same : ahead.field.gap ≡ b ++ (10 ∷ []) = gap_of_field ahead.text x (b ++ (10 ∷ [])) (codes "1") [] ahead.value ahead.field gap (omega arith) refl e in
         let long : length b ≡ length ahead.text + suc (length ahead.rest) = ap length ahead.spelt ∙ length-append ahead.text (ahead.space ∷ ahead.rest) in
         let text : length ahead.text ≡ length ahead.field.gap + length ahead.field.digits = ap length ahead.field.spelt ∙ length-append ahead.field.gap ahead.field.digits in
         let more : length ahead.field.gap ≡ length b + 1 = ap length same ∙ length-append b (10 ∷ []) in
@@ -121,29 +125,29 @@ eleven : (g ds rest : List ℕ) → IsGap g → length ds ≡ 11 → list_all is
 eleven g ds rest gap len all ahead =
     let e : ahead.field.digits ++ (ahead.space ∷ ahead.rest) ≡ ds ++ rest = digits_of_field ahead.text (ahead.space ∷ ahead.rest) g ds rest ahead.value ahead.field gap (omega arith) all (sym ahead.spelt) in
     let k : ℕ = length ahead.field.digits in
-    let few : length ahead.field.digits ≤ 10 = ahead.field.is_number.few in
-    let left : get_or (ahead.field.digits ++ (ahead.space ∷ ahead.rest)) (length ahead.field.digits) 0 ≡ ahead.space = get_or_at ahead.field.digits ahead.space ahead.rest 0 (length ahead.field.digits) refl in
-    let right : get_or (ds ++ rest) (length ahead.field.digits) 0 ≡ get_or ds (length ahead.field.digits) 0 = get_or_append_left ds rest 0 (length ahead.field.digits) (omega arith) in
-    let same : ahead.space ≡ get_or ds (length ahead.field.digits) 0 = sym left ∙ ap (λ xs. get_or xs (length ahead.field.digits) 0) e ∙ right in
-    never_both (is_ascii_digit ahead.space) (ap is_ascii_digit same ∙ passes_at ds (length ahead.field.digits) (omega arith) all) (white_is_no_digit ahead.space ahead.white)
+    let few : k ≤ 10 = ahead.field.is_number.few in
+    let left : get_or (ahead.field.digits ++ (ahead.space ∷ ahead.rest)) k 0 ≡ ahead.space = get_or_at ahead.field.digits ahead.space ahead.rest 0 k refl in
+    let right : get_or (ds ++ rest) k 0 ≡ get_or ds k 0 = get_or_append_left ds rest 0 k (omega arith) in
+    let same : ahead.space ≡ get_or ds k 0 = sym left ∙ ap (λ xs. get_or xs k 0) e ∙ right in
+    never_both (is_ascii_digit ahead.space) (ap is_ascii_digit same ∙ passes_at ds k (omega arith) all) (white_is_no_digit ahead.space ahead.white)
 
 many_digits : (b : List ℕ) (g count : ℕ) → IsGap (take g b) → count ≡ prefix_len is_ascii_digit (drop g b) → 10 < count → IsBrokenField b (g + 10)
 many_digits b g count gap ec many =
     let x : List ℕ = drop g b in
-    let within : count ≤ length (drop g b) = omega (arith, ec, prefix_len-le-length is_ascii_digit (drop g b)) in
+    let within : count ≤ length x = omega (arith, ec, prefix_len-le-length is_ascii_digit x) in
     let long : g + 10 < length b = omega (arith, length-drop g b) in
-    let ten : length (take 10 (drop g b)) ≡ 10 = length-take-le 10 (drop g b) (omega arith) in
-    let last : length (take 11 (drop g b)) ≡ 11 = length-take-le 11 (drop g b) (omega arith) in
+    let ten : length (take 10 x) ≡ 10 = length-take-le 10 x (omega arith) in
+    let last : length (take 11 x) ≡ 11 = length-take-le 11 x (omega arith) in
     let front : IsFieldFront (take (g + 10) b) = subst IsFieldFront (sym (take-add g 10 b)) (record {
       rest = [];
-      value = digits_value 10 (take 10 (drop g b));
-      field = subst (λ xs. IsField xs (digits_value 10 (take 10 (drop g b)))) (sym (append-nil (take g b ++ take 10 (drop g b))))
-          (field_of (take g b) (take 10 (drop g b)) gap (omega arith) (omega arith) (passes_take 10 (drop g b) count ec (omega arith)));
+      value = digits_value 10 (take 10 x);
+      field = subst (λ xs. IsField xs (digits_value 10 (take 10 x))) (sym (append-nil (take g b ++ take 10 x)))
+          (field_of (take g b) (take 10 x) gap (omega arith) (omega arith) (passes_take 10 x count ec (omega arith)));
     }) in
     let plus : g + 10 + 1 ≡ g + 11 = omega arith in
-    let parts : take (g + 10 + 1) b ≡ take g b ++ take 11 (drop g b) = ap (λ n. take n b) plus ∙ take-add g 11 b in
+    let parts : take (g + 10 + 1) b ≡ take g b ++ take 11 x = ap (λ n. take n b) plus ∙ take-add g 11 b in
     broken_by b (g + 10) long front
-    (λ rest ahead. eleven (take g b) (take 11 (drop g b)) rest gap last (passes_take 11 (drop g b) count ec (omega arith)) (subst IsFieldAhead (ap (λ xs. xs ++ rest) parts ∙ append_assoc (take g b) (take 11 (drop g b)) rest) ahead))
+    (λ rest ahead. eleven (take g b) (take 11 x) rest gap last (passes_take 11 x count ec (omega arith)) (subst IsFieldAhead (ap (λ xs. xs ++ rest) parts ∙ append_assoc (take g b) (take 11 x) rest) ahead))
 
 -- the field that a gap and digits make
 made_field : (b : List ℕ) (g count value : ℕ) → IsGap (take g b) → g ≤ length b → count ≡ prefix_len is_ascii_digit (drop g b) → 1 ≤ count → count ≤ 10 → value ≡ digits_value 10 (take count (drop g b)) → IsFirstField b (g + count) value

@@ -49,9 +49,6 @@ header_of xs t = record {
 }
 
 -- and the other way
-header_rest : (text : List ℕ) (w h m : ℕ) → IsHeader text w h m → List ℕ
-header_rest text w h m i = i.first ++ (i.second ++ (i.third ++ (i.space ∷ [])))
-
 fields_of : (xs text : List ℕ) (w h m : ℕ) (i : IsHeader text w h m) → xs ≡ i.first ++ (i.second ++ (i.third ++ (i.space ∷ []))) → AreThree xs
 fields_of xs text w h m i e = record {
   text = i.first;
@@ -114,15 +111,14 @@ module _ (b : List ℕ) (few : length b ≤ 65536) (magic : take 2 b ≡ codes "
 
   no_header : (Begins AreThree (drop 2 b) → ⊥) → (raster w h m : ℕ) → HasHeader b raster w h m → ⊥
   no_header never raster w h m has =
-      let i : IsHeader (take raster b) w h m = has.header in
       let text : List ℕ = has.header.first ++ (has.header.second ++ (has.header.third ++ (has.header.space ∷ []))) in
-      let whole : codes "P6" ++ drop 2 b ≡ codes "P6" ++ ((has.header.first ++ (has.header.second ++ (has.header.third ++ (has.header.space ∷ [])))) ++ drop raster b) =
+      let whole : codes "P6" ++ drop 2 b ≡ codes "P6" ++ (text ++ drop raster b) =
       ap (λ xs. xs ++ drop 2 b) (sym magic) ∙ take-append-drop 2 b ∙ sym (take-append-drop raster b) ∙ ap (λ xs. xs ++ drop raster b) has.header.spelt in
       never (record {
-        text = has.header.first ++ (has.header.second ++ (has.header.third ++ (has.header.space ∷ [])));
+        text = text;
         rest = drop raster b;
-        spelt = append_cancel_left (codes "P6") (drop 2 b) ((has.header.first ++ (has.header.second ++ (has.header.third ++ (has.header.space ∷ [])))) ++ drop raster b) whole;
-        next = fields_of (has.header.first ++ (has.header.second ++ (has.header.third ++ (has.header.space ∷ [])))) (take raster b) w h m has.header refl;
+        spelt = append_cancel_left (codes "P6") (drop 2 b) (text ++ drop raster b) whole;
+        next = fields_of text (take raster b) w h m has.header refl;
       })
 
   front_of : (n : ℕ) (rest : List ℕ) → AreThree (take n (drop 2 b) ++ rest) → IsHeaderFront (take (2 + n) b)

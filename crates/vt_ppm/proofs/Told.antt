@@ -15,21 +15,24 @@ use Rattle.vt_ppm.proofs.Rasters.{head_is, lawful_header, fault_of_head, image_m
 abbrev pub IsHead : Option (List ℕ) → List ℕ → Type 0
 IsHead o head = IfSome o (λ b. head ≡ take 65536 b)
 
-pub head_told : (o o1 : Option (List ℕ)) (head : List ℕ) (n : ℕ) → o1 ≡ o → IfSome o (λ b. n ≡ length b) → IfSome o1 (λ b. IsPiece b 0 head) → length head ≡ min n 65536 → IfSome o (λ b. head ≡ take 65536 b)
+pub head_told : (o o1 : Option (List ℕ)) (head : List ℕ) (n : ℕ) → o1 ≡ o → IfSome o (λ b. n ≡ length b) → IfSome o1 (λ b. IsPiece b 0 head) → length head ≡ min n 65536 → IsHead o head
 head_told None o1 head n e told front len = tt
 head_told (Some b) o1 head n e told front len =
     let piece : IsPiece b 0 head = subst (λ o. IfSome o (λ b. IsPiece b 0 head)) e front in
     head_is b head n told (piece.same ∙ ap (λ k. take k b) len)
 
-pub header_told : (o : Option (List ℕ)) (head : List ℕ) (r w h m : ℕ) → IfSome o (λ b. head ≡ take 65536 b) → IsLawfulHeader head r w h m → IfSome o (λ b. IsLawfulHeader b r w h m)
+header_told : (o : Option (List ℕ)) (head : List ℕ) (r w h m : ℕ) → IsHead o head → IsLawfulHeader head r w h m → IfSome o (λ b. IsLawfulHeader b r w h m)
 header_told None head r w h m first l = tt
 header_told (Some b) head r w h m first l = lawful_header b head first r w h m l
 
-pub fault_told : (o : Option (List ℕ)) (head : List ℕ) (e : PpmError) → IfSome o (λ b. head ≡ take 65536 b) → (IsRasterRefusal e → ⊥) → IsImageFault head e → IfSome o (λ b. IsImageFault b e)
+pub lawful_told : (o o1 : Option (List ℕ)) (head : List ℕ) (n r w h m : ℕ) → o1 ≡ o → IfSome o (λ b. n ≡ length b) → IfSome o1 (λ b. IsPiece b 0 head) → length head ≡ min n 65536 → IsLawfulHeader head r w h m → IfSome o (λ b. IsLawfulHeader b r w h m)
+lawful_told o o1 head n r w h m e told front len l = header_told o head r w h m (head_told o o1 head n e told front len) l
+
+pub fault_told : (o : Option (List ℕ)) (head : List ℕ) (e : PpmError) → IsHead o head → (IsRasterRefusal e → ⊥) → IsImageFault head e → IfSome o (λ b. IsImageFault b e)
 fault_told None head e first no_raster f = tt
 fault_told (Some b) head e first no_raster f = fault_of_head b head first e no_raster f
 
-pub any_fault_told : (o : Option (List ℕ)) (head : List ℕ) (r : Result Header PpmError) → IfSome o (λ b. head ≡ take 65536 b) → IfErr r (λ e. IsRasterRefusal e → ⊥) → IfErr r (λ e. IsImageFault head e)
+pub any_fault_told : (o : Option (List ℕ)) (head : List ℕ) (r : Result Header PpmError) → IsHead o head → IfErr r (λ e. IsRasterRefusal e → ⊥) → IfErr r (λ e. IsImageFault head e)
     → IfErr r (λ e. (IsFault e → ⊥) → IfSome o (λ b. IsImageFault b e))
 any_fault_told o head (Ok h) first no_raster f = tt
 any_fault_told o head (Err e) first no_raster f = λ _. fault_told o head e first no_raster f

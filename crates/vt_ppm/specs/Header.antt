@@ -4,7 +4,8 @@ use Rattle.std.specs.List.{prefix_len}
 use Rattle.std.specs.Char.{is_ascii_digit}
 use Rattle.vt_ppm.specs.Format.{is_white, IsGap, IsField, IsHeader}
 
--- the first bytes, so many, are a gap; or all bytes are so many, and a line end makes them one; or there are none (the Netpbm manual's P6 page)
+-- so many bytes in front go on as a gap: they are one, or they are all and a line end makes them one, or there are none; and no white
+-- space follows (this project's profile)
 pub record IsGapFront (b : List ℕ) (len : ℕ) : Type 0 where
   pub within : len ≤ length b
   pub none : len ≡ 0 → prefix_len is_white b ≡ 0

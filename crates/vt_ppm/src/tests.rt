@@ -133,7 +133,7 @@ fn accepted(rt: HostRuntime) -> Result<(), Fail> {
 
 #[test]
 fn refused(rt: HostRuntime) -> Result<(), Fail> {
-    let faults: [(&[u8], PpmError); 17] = [
+    let faults: [(&[u8], PpmError); 19] = [
         (b"", PpmError::BadMagic),
         (b"P5 1 1 255\nabc", PpmError::BadMagic),
         (b"P6", PpmError::BadHeader { at: 2 }),
@@ -141,6 +141,8 @@ fn refused(rt: HostRuntime) -> Result<(), Fail> {
         (b"P6\x0b1 1 255\n", PpmError::BadHeader { at: 2 }),
         (b"P6 1 1 255", PpmError::BadHeader { at: 10 }),
         (b"P6 1 1 255#", PpmError::BadHeader { at: 10 }),
+        (b"P6 #1 1 255 abc", PpmError::BadHeader { at: 15 }),
+        (b"P6 1 1x255\nabc", PpmError::BadHeader { at: 6 }),
         (b"P6 00000000001 1 255\n", PpmError::BadHeader { at: 13 }),
         (b"P6 0 1 255\n", PpmError::BadSize),
         (b"P6 9999999999 1 255\n", PpmError::BadSize),
@@ -172,12 +174,19 @@ fn endless_headers(rt: HostRuntime) -> Result<(), Fail> {
         refusal(rt.alloc(), &few, 0)?,
         Some(PpmError::BadHeader { at: 102 })
     );
-    let mut many = blanks(rt.alloc(), 70000)?;
-    many.extend_from_slice(b"1 1 255\nabc")?;
     let late = Some(PpmError::BadHeader { at: 65536 });
-    assert_eq!(rt; refusal(rt.alloc(), &many, 0)?, late);
-    assert_eq!(rt; header_refusal(rt.alloc(), &many, 0)?, late);
-    assert_eq!(rt; image_fault(&many), late);
+    for count in [65527, 70000] {
+        let mut many = blanks(rt.alloc(), count)?;
+        many.extend_from_slice(b"1 1 255\nabc")?;
+        assert_eq!(rt; refusal(rt.alloc(), &many, 0)?, late);
+        assert_eq!(rt; header_refusal(rt.alloc(), &many, 0)?, late);
+        assert_eq!(rt; image_fault(&many), late);
+    }
+    let mut longest = blanks(rt.alloc(), 65526)?;
+    longest.extend_from_slice(b"1 1 255\nabc")?;
+    assert_eq!(rt; refusal(rt.alloc(), &longest, 0)?, None);
+    assert_eq!(rt; header_refusal(rt.alloc(), &longest, 0)?, None);
+    assert_eq!(rt; image_fault(&longest), None);
     Ok(())
 }
 
@@ -205,6 +214,7 @@ fn four_by_four(rt: HostRuntime) -> Result<(), Fail> {
     assert_eq!(rt; image.word(1, 0), 0x010101);
     assert_eq!(rt; image.word(3, 2), 0x0b0b0b);
     assert_eq!(rt; image.word(3, 3), 0x0f0f0f);
+    assert_eq!(rt; image.into_samples().len(), 48);
     Ok(())
 }
 
