@@ -1,6 +1,6 @@
 -- Bytes that stand one after the other, piece by piece.
-use Rattle.std.proofs.Common.{◌≡◌, ℕ, zero, suc, ◌+◌, ◌-◌, ◌*◌, ◌/◌, ◌%◌, ◌<◌, ◌≤◌, List, [], ◌∷◌, ◌++◌, length, get_or, min, refl, sym, ap, ◌∙◌, arith, append_assoc, add-one}
-use Rattle.std.proofs.lemmas.List.{append-nil, length-append, get_or_append_left, get_or-append-add}
+use Rattle.std.proofs.Common.{◌≡◌, ℕ, zero, suc, ◌+◌, ◌-◌, ◌*◌, ◌/◌, ◌<◌, ◌≤◌, List, [], ◌∷◌, ◌++◌, length, get_or, take, drop, min, refl, sym, ap, ◌∙◌, arith, append_assoc}
+use Rattle.std.proofs.lemmas.List.{append-nil, length-append, get_or_append_left, get_or-append-add, drop_more}
 use Rattle.std.specs.Prelude.{flat_map, slice_index}
 use Rattle.std.specs.List.{range_with_len}
 use Rattle.vt_store.specs.Written.{clamped_bytes, span_bytes}
@@ -62,3 +62,39 @@ span_step old now new row first x m h at so_far grown =
     grown ∙ ap (λ l. l ++ slice_index row (3 * m) ∷ slice_index row (3 * m + 1) ∷ slice_index row (3 * m + 2) ∷ []) so_far
     ∙ ap (λ i. (old ++ span_bytes row first (x - first)) ++ slice_index row (3 * i) ∷ slice_index row (3 * i + 1) ∷ slice_index row (3 * i + 2) ∷ []) at
     ∙ span_grown old row first x h
+
+-- three bytes more of a list, from a place on
+three_more : (row : List ℕ) (at m : ℕ) (rest : List ℕ) → at + 3 ≤ length row → take m (drop (at + 3) row) ≡ rest → take (m + 3) (drop at row) ≡ get_or row at 0 ∷ get_or row (at + 1) 0 ∷ get_or row (at + 2) 0 ∷ rest
+three_more row at m rest room e =
+    let three : m + 3 ≡ suc (suc (suc m)) = omega arith in
+    let second : at + 1 + 1 ≡ at + 2 = omega arith in
+    let third : at + 2 + 1 ≡ at + 3 = omega arith in
+    ap (λ i. take i (drop at row)) three
+    ∙ ap (λ l. take (suc (suc (suc m))) l) (drop_more row at 0 (omega arith) ∙ ap (λ l. get_or row at 0 ∷ l) (drop_more row (at + 1) 0 (omega arith) ∙ ap (λ i. get_or row (at + 1) 0 ∷ drop i row) second ∙ ap (λ l. get_or row (at + 1) 0 ∷ l) (drop_more row (at + 2) 0 (omega arith) ∙ ap (λ i. get_or row (at + 2) 0 ∷ drop i row) third)))
+    ∙ ap (λ l. get_or row at 0 ∷ get_or row (at + 1) 0 ∷ get_or row (at + 2) 0 ∷ l) e
+
+-- texels inside a row are a slice of it
+pub span_slice : (row : List ℕ) (first n : ℕ) → first + n ≤ length row / 3 → take (3 * n) (drop (3 * first) row) ≡ span_bytes row first n
+unfolding span_bytes
+span_slice row first zero inside = refl
+span_slice row first (suc n) inside =
+    let more : 3 * suc n ≡ 3 * n + 3 = omega arith in
+    let next : 3 * first + 3 ≡ 3 * (first + 1) = omega arith in
+    let here : first ≡ min first (length row / 3 - 1) = omega arith in
+    ap (λ i. take i (drop (3 * first) row)) more
+    ∙ three_more row (3 * first) (3 * n) (flat_map (clamped_bytes row) (range_with_len (first + 1) n)) (omega arith) (ap (λ i. take (3 * n) (drop i row)) next ∙ span_slice row (first + 1) n (omega arith))
+    ∙ ap (λ i. get_or row (3 * i) 0 ∷ get_or row (3 * i + 1) 0 ∷ get_or row (3 * i + 2) 0 ∷ flat_map (clamped_bytes row) (range_with_len (first + 1) n)) here
+
+-- texels inside a row, and those behind them
+pub span_whole : (old now new row : List ℕ) (first end count : ℕ) → first < length row / 3 → end ≡ min (first + count) (length row / 3)
+    → now ≡ old ++ take (3 * end - 3 * first) (drop (3 * first) row) → new ≡ now ++ span_bytes row end (first + count - end) → new ≡ old ++ span_bytes row first count
+unfolding span_bytes
+span_whole old now new row first end count inside cut so_far grown =
+    let n : 3 * end - 3 * first ≡ 3 * (end - first) = omega arith in
+    let here : first + (end - first) ≡ end = omega arith in
+    let all : end - first + (first + count - end) ≡ count = omega arith in
+    let front : now ≡ old ++ flat_map (clamped_bytes row) (range_with_len first (end - first)) = so_far ∙ ap (λ l. old ++ l) (ap (λ m. take m (drop (3 * first) row)) n ∙ span_slice row first (end - first) (omega arith)) in
+    grown ∙ ap (λ l. l ++ flat_map (clamped_bytes row) (range_with_len end (first + count - end))) front
+    ∙ append_assoc old (flat_map (clamped_bytes row) (range_with_len first (end - first))) (flat_map (clamped_bytes row) (range_with_len end (first + count - end)))
+    ∙ ap (λ l. old ++ l) (ap (λ i. flat_map (clamped_bytes row) (range_with_len first (end - first)) ++ flat_map (clamped_bytes row) (range_with_len i (first + count - end))) (sym here)
+    ∙ sym (span_add (clamped_bytes row) first (end - first) (first + count - end)) ∙ ap (λ m. flat_map (clamped_bytes row) (range_with_len first m)) all)

@@ -1,22 +1,21 @@
 -- What a store holds.
-use Rattle.std.proofs.Common.{◌≡◌, ℕ, ◌+◌, ◌-◌, ◌*◌, ◌/◌, ◌%◌, ◌^◌, ◌<◌, ◌≤◌, Bool, true, Option, Some, None, List, [], ◌∷◌, ◌++◌, length, take, drop, get_or, refl, sym, ap, ◌∙◌, arith, mul_comm, bytes_eq}
-use Rattle.std.proofs.lemmas.List.{length-append, get_or-append-add, get_or-take, get_or-drop}
+use Rattle.std.proofs.Common.{◌≡◌, ℕ, ◌+◌, ◌*◌, ◌/◌, ◌%◌, ◌^◌, ◌<◌, ◌≤◌, true, None, List, length, take, drop, refl, sym, ap, ◌∙◌, arith, mul_comm, bytes_eq}
+use Rattle.std.proofs.lemmas.List.{get_or-append-add, get_or-take, get_or-drop}
 use Rattle.std.proofs.lemmas.List.FromFn.{get_or-map-range_with_len}
-use Rattle.std.proofs.lemmas.Nat.{mul-add-lt, mul-le, mod_below}
+use Rattle.std.proofs.lemmas.Nat.{mul-add-lt, mod_below}
 use Rattle.std.specs.Prelude.{slice_index, flat_map}
 use Rattle.std.specs.List.{range_with_len}
 use Rattle.vt_definitions.specs.Texels.{Source, word, red, green, blue, bytes}
 use Rattle.vt_outside.specs.Files.{IsPiece}
-use Rattle.vt_pages.specs.Shape.{Shape, shape_of}
-use Rattle.vt_pages.specs.Pages.{IsPageAt, pages_of, refusal_of, name_at, texel_page, clamped_word, tile_words}
+use Rattle.vt_pages.specs.Shape.{Shape}
+use Rattle.vt_pages.specs.Pages.{pages_of, refusal_of, name_at, texel_page, clamped_word, tile_words}
 use Rattle.vt_pages.specs.Laws.{IsInside}
 use Rattle.vt_pages.proofs.Lines.{texel_is_page}
 use Rattle.vt_pages.proofs.Tiles.{tiles_hold_places}
-use Rattle.vt_store.specs.Format.{number_bytes, number_at, magic, header_bytes, header_length, tile_length, tile_start, tile_bytes, tiles_bytes, store_bytes, store_length, shape_in, store_fault, texel_start, stored}
+use Rattle.vt_store.specs.Format.{number_at, magic, header_bytes, tile_length, tile_start, tile_bytes, tiles_bytes, store_bytes, store_length, shape_in, stored}
 use Rattle.vt_store.specs.Laws.{StoresOpen, StoresHoldSources, PiecesHoldTexels}
-use Rattle.vt_store.specs.Opened.{IsStore}
 use Rattle.vt_store.specs.Written.{texel_bytes, lines_bytes}
-use Rattle.vt_store.proofs.Accepted.{IsSmall, accepted_small}
+use Rattle.vt_store.proofs.Accepted.{accepted_small}
 use Rattle.vt_store.proofs.Faults.{no_fault, told_shape, whole_shape}
 use Rattle.vt_store.proofs.Spans.{span_length, span_at}
 use Rattle.vt_store.proofs.Tiles.{tile_span}

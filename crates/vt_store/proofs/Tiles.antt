@@ -1,12 +1,12 @@
 -- The tiles of pages as bytes.
-use Rattle.std.proofs.Common.{◌≡◌, ℕ, suc, ◌+◌, ◌-◌, ◌*◌, ◌/◌, ◌%◌, ◌<◌, ◌≤◌, List, [], ◌∷◌, ◌++◌, length, min, refl, sym, ap, ◌∙◌, subst, arith, append_assoc}
+use Rattle.std.proofs.Common.{◌≡◌, ℕ, suc, ◌+◌, ◌-◌, ◌*◌, ◌/◌, ◌%◌, ◌<◌, ◌≤◌, List, ◌++◌, length, min, refl, sym, ap, ◌∙◌, subst, arith, append_assoc}
 use Rattle.std.proofs.lemmas.List.{append-nil}
 use Rattle.std.proofs.lemmas.List.Folds.{flat_map-map}
 use Rattle.std.proofs.lemmas.Nat.{mod-mul-add, div-mul-add}
-use Rattle.std.specs.Prelude.{flat_map, slice_index}
+use Rattle.std.specs.Prelude.{flat_map}
 use Rattle.std.specs.List.{range_with_len}
 use Rattle.vt_definitions.specs.Sides.{side}
-use Rattle.vt_definitions.specs.Texels.{Source, red, green, blue, bytes}
+use Rattle.vt_definitions.specs.Texels.{Source, bytes}
 use Rattle.vt_mip.specs.Chains.{ChainView, chain_levels, IsTexelRow}
 use Rattle.vt_pages.specs.declared.PageName.{PageName}
 use Rattle.vt_pages.specs.Shape.{Shape}
@@ -89,6 +89,13 @@ column_small s k c t limits h e =
     let here : c * s.tile < side s.width k = lt_up (side s.width k) s.tile c (omega (arith, limits.least_tile)) h in
     let most : side s.width k ≤ 8192 = side_most s.width 8192 k (omega arith) limits.most_width in
     rw e (omega arith)
+
+-- it begins inside a row of texels
+pub column_begins : (s : Shape) (k c t n w : ℕ) → IsWithinLimits s → c < columns_at s k → t ≡ s.tile → w ≡ side s.width k → n ≡ 3 * w → c * t < n / 3
+unfolding columns_at
+column_begins s k c t n w limits h e wide full =
+    let here : c * s.tile < side s.width k = lt_up (side s.width k) s.tile c (omega (arith, limits.least_tile)) h in
+    rw (e, full, wide) (omega arith)
 
 -- and a row of pages
 pub row_small : (s : Shape) (k r t : ℕ) → IsWithinLimits s → r < rows_at s k → t ≡ s.tile → r * t < 8192

@@ -15,18 +15,29 @@ use vt_mip::Chain;
 use vt_outside::{Folder, OutsideError};
 use vt_pages::Geometry;
 
-/// Appends so many texels of a row from a column on; past the row's end its last texel stands again.
-fn push_span(tiles: &mut Vec<u8>, row: &[u8], first: usize, count: usize) -> Result<(), AllocError>
+/// Appends the last texel of a row once for each of so many columns from one on; no column is before the last.
+fn push_last(tiles: &mut Vec<u8>, row: &[u8], first: usize, count: usize) -> Result<(), AllocError>
     requires some { 3 ≤ length row.now }
     requires few { first + count ≤ 16384 }
+    requires past { 1 ≤ count → length row.now / 3 ≤ first + 1 }
     ensures { OnOk result (tiles.new.items ≡ tiles.old.items ++ span_bytes row.now first count) }
 {
-    let last = row.len() / 3 - 1;
-    for x in first..first + count {
-        let at = 3 * x.min(last);
+    let at = 3 * (row.len() / 3 - 1);
+    for _x in first..first + count {
         tiles.extend_from_slice(&[row[at], row[at + 1], row[at + 2]])?;
     }
     Ok(())
+}
+
+/// Appends so many texels of a row from a column inside it on; past the row's end its last texel stands again.
+fn push_span(tiles: &mut Vec<u8>, row: &[u8], first: usize, count: usize) -> Result<(), AllocError>
+    requires inside { first < length row.now / 3 }
+    requires few { first + count ≤ 16384 }
+    ensures { OnOk result (tiles.new.items ≡ tiles.old.items ++ span_bytes row.now first count) }
+{
+    let end = (first + count).min(row.len() / 3);
+    tiles.extend_from_slice(&row[3 * first..3 * end])?;
+    push_last(tiles, row, end, first + count - end)
 }
 
 /// Appends the tile of a page.

@@ -1,8 +1,8 @@
-use Rattle.std.proofs.Common.{◌≡◌, ◌≤◌, ◌++◌, sym, ap, ◌∙◌, arith}
+use Rattle.std.proofs.Common.{◌≡◌, ◌++◌, length, sym, ap, ◌∙◌, arith}
 use Rattle.vt_definitions.specs.Sides.{side}
 use Rattle.vt_mip.specs.Chains.{chain_texel}
 use Rattle.vt_store.specs.Written.{lines_bytes}
-use Rattle.vt_store.proofs.Tiles.{level_inside, column_small, row_small, no_lines, line_grown, tile_span}
+use Rattle.vt_store.proofs.Tiles.{level_inside, column_small, column_begins, row_small, no_lines, line_grown, tile_span}
 use Rattle.vt_store.proofs.write.push_tile.Goals as goal
 
 pub size-height-requires : goal.size-height-requires
@@ -22,6 +22,11 @@ row-row-requires-clause-level c = level_inside c.args.chain.now c.args.geometry.
 
 pub overflow_mul-name-in-loop-line : goal.overflow_mul-name-in-loop-line
 overflow_mul-name-in-loop-line c = omega (arith, column_small c.args.geometry.now c.page_at-name.result.level c.page_at-name.result.col c.tile-side.result c.tile-side.ensures.limits c.page_at-name.ensures.in_chain.col_inside c.tile-side.ensures.tile)
+
+pub push_span-requires-clause-inside : goal.push_span-requires-clause-inside
+push_span-requires-clause-inside c =
+    let level = c.page_at-name.result.level in
+    column_begins c.args.geometry.now level c.page_at-name.result.col c.tile-side.result (length c.row-row.result.now) (side c.args.chain.now.base.width level) c.tile-side.ensures.limits c.page_at-name.ensures.in_chain.col_inside c.tile-side.ensures.tile (ap (λ v. side v.width level) c.requires.shape.same) c.row-row.ensures.full
 
 pub push_span-requires-clause-few : goal.push_span-requires-clause-few
 push_span-requires-clause-few c = omega (arith, c.tile-side.ensures.limits.most_tile, column_small c.args.geometry.now c.page_at-name.result.level c.page_at-name.result.col c.tile-side.result c.tile-side.ensures.limits c.page_at-name.ensures.in_chain.col_inside c.tile-side.ensures.tile)

@@ -1,5 +1,4 @@
-use Rattle.std.proofs.Common.{◌≡◌, ◌+◌, ◌-◌, ◌/◌, ◌≤◌, ap, arith}
-use Rattle.vt_pages.specs.Pages.{columns_at, index_of, pages_of}
+use Rattle.std.proofs.Common.{ap, arith}
 use Rattle.vt_store.proofs.Tiles.{columns_are, row_inside}
 use Rattle.vt_store.proofs.write.row_end.Goals as goal
 

@@ -1,4 +1,4 @@
-use Rattle.std.proofs.Common.{◌≡◌, ◌-◌, ◌++◌, inr, sym, ap, ◌∙◌, arith}
+use Rattle.std.proofs.Common.{◌≡◌, ◌-◌, ◌++◌, inr, ap, ◌∙◌, arith}
 use Rattle.std.specs.Prelude.{option_map}
 use Rattle.vt_outside.proofs.Told.{OnErr-all}
 use Rattle.vt_outside.specs.Files.{with_bytes}
