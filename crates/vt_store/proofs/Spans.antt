@@ -1,9 +1,10 @@
 -- Bytes that stand one after the other, piece by piece.
-use Rattle.std.proofs.Common.{◌≡◌, ℕ, zero, suc, ◌+◌, ◌-◌, ◌*◌, ◌/◌, ◌<◌, ◌≤◌, List, [], ◌∷◌, ◌++◌, length, get_or, take, drop, min, refl, sym, ap, ◌∙◌, arith, append_assoc}
-use Rattle.std.proofs.lemmas.List.{append-nil, length-append, get_or_append_left, get_or-append-add, drop_more}
-use Rattle.std.specs.Prelude.{flat_map, slice_index}
+use Rattle.std.proofs.Common.{◌≡◌, ℕ, zero, suc, ◌+◌, ◌-◌, ◌*◌, ◌/◌, ◌<◌, ◌≤◌, ◌⊎◌, inl, inr, List, ◌++◌, length, get_or, take, drop, min, refl, sym, ap, ◌∙◌, arith, append_assoc}
+use Rattle.std.proofs.lemmas.List.{append-nil, length-append, length-drop, length-take-le, get_or-take, get_or-drop, get_or_append_left, get_or-append_right, get_or-append-add}
+use Rattle.std.specs.Prelude.{flat_map}
 use Rattle.std.specs.List.{range_with_len}
-use Rattle.vt_store.specs.Written.{clamped_bytes, span_bytes}
+use borrow.Rule.Slice.PartMut.{put_mid, post_of}
+use Rattle.vt_store.specs.Written.{IsSpan, clamped_sample}
 
 pub span_suc : {X : Type 0} (f : ℕ → List X) (a n : ℕ) → flat_map f (range_with_len a (suc n)) ≡ flat_map f (range_with_len a n) ++ f (a + n)
 span_suc f a zero = let e : a + 0 ≡ a = omega arith in append-nil (f a) ∙ ap f (sym e)
@@ -42,59 +43,38 @@ span_at f a (suc n) t (suc i) j d each h short =
     let z : a + 1 + i ≡ a + suc i = omega arith in
     ap (λ m. get_or (f a ++ flat_map f (range_with_len (a + 1) n)) m d) e ∙ get_or-append-add (f a) (flat_map f (range_with_len (a + 1) n)) (i * t + j) d ∙ span_at f (a + 1) n t i j d each (omega arith) short ∙ ap (λ m. get_or (f m) j d) z
 
--- one texel more
-pub span_grown : (old row : List ℕ) (first x : ℕ) → first ≤ x → (old ++ span_bytes row first (x - first)) ++ clamped_bytes row x ≡ old ++ span_bytes row first (x + 1 - first)
-unfolding span_bytes
-span_grown old row first x h =
-    let n : x + 1 - first ≡ suc (x - first) = omega arith in
-    let here : first + (x - first) ≡ x = omega arith in
-    append_assoc old (flat_map (clamped_bytes row) (range_with_len first (x - first))) (clamped_bytes row x)
-    ∙ ap (λ l. old ++ l) (sym (span_suc (clamped_bytes row) first (x - first) ∙ ap (λ i. flat_map (clamped_bytes row) (range_with_len first (x - first)) ++ clamped_bytes row i) here))
-    ∙ ap (λ m. old ++ flat_map (clamped_bytes row) (range_with_len first m)) (sym n)
+-- a sample of a slice of a row
+cut_sample : (row : List ℕ) (at n i place : ℕ) → i < n → place ≡ at + i → get_or (take n (drop at row)) i 0 ≡ get_or row place 0
+cut_sample row at n i place inside e = get_or-take n (drop at row) i 0 inside ∙ get_or-drop at row i 0 ∙ ap (λ m. get_or row m 0) (sym e)
 
-pub no_span : (old row : List ℕ) (first : ℕ) → old ≡ old ++ span_bytes row first (first - first)
-unfolding span_bytes
-no_span old row first = let z : first - first ≡ 0 = omega arith in sym (append-nil old) ∙ ap (λ n. old ++ flat_map (clamped_bytes row) (range_with_len first n)) (sym z)
+-- the texels of a row from a column on, and behind them the row's last texel
+pub span_put : (row out copied filled : List ℕ) (first end count k m j : ℕ) → first < length row / 3 → end ≡ min (first + count) (length row / 3) → length out ≡ 3 * count
+    → copied ≡ take (3 * end - 3 * first) (drop (3 * first) row) → m ≡ length (take (length (copied ++ drop (3 * (end - first)) out) - 3 * (end - first)) (drop (3 * (end - first)) (copied ++ drop (3 * (end - first)) out))) → j ≡ 3 → length filled ≡ m
+    → ((x c : ℕ) → x < m / 3 → c < 3 → get_or filled (3 * x + c) 0 ≡ get_or (take j (drop (3 * (length row / 3) - 3) row)) c 0)
+    → IsSpan row first count (put_mid (3 * (end - first)) k (copied ++ drop (3 * (end - first)) out) filled)
+span_put row out copied filled first end count k m j inside cut room same size three whole fill = record {
+  each = λ x c p q. each x c p q (grind arith);
+} where
+  copied_length : length copied ≡ 3 * (end - first)
+  copied_length = ap length same ∙ length-take-le (3 * end - 3 * first) (drop (3 * first) row) (omega (arith, length-drop (3 * first) row)) ∙ omega arith
 
-pub span_step : (old now new row : List ℕ) (first x m : ℕ) → first ≤ x → m ≡ min x (length row / 3 - 1) → now ≡ old ++ span_bytes row first (x - first)
-    → new ≡ now ++ slice_index row (3 * m) ∷ slice_index row (3 * m + 1) ∷ slice_index row (3 * m + 2) ∷ [] → new ≡ old ++ span_bytes row first (x + 1 - first)
-span_step old now new row first x m h at so_far grown =
-    grown ∙ ap (λ l. l ++ slice_index row (3 * m) ∷ slice_index row (3 * m + 1) ∷ slice_index row (3 * m + 2) ∷ []) so_far
-    ∙ ap (λ i. (old ++ span_bytes row first (x - first)) ++ slice_index row (3 * i) ∷ slice_index row (3 * i + 1) ∷ slice_index row (3 * i + 2) ∷ []) at
-    ∙ span_grown old row first x h
+  front_length : length (take (3 * (end - first)) (copied ++ drop (3 * (end - first)) out)) ≡ 3 * (end - first)
+  front_length = length-take-le (3 * (end - first)) (copied ++ drop (3 * (end - first)) out) (omega (arith, length-append copied (drop (3 * (end - first)) out), copied_length))
 
--- three bytes more of a list, from a place on
-three_more : (row : List ℕ) (at m : ℕ) (rest : List ℕ) → at + 3 ≤ length row → take m (drop (at + 3) row) ≡ rest → take (m + 3) (drop at row) ≡ get_or row at 0 ∷ get_or row (at + 1) 0 ∷ get_or row (at + 2) 0 ∷ rest
-three_more row at m rest room e =
-    let three : m + 3 ≡ suc (suc (suc m)) = omega arith in
-    let second : at + 1 + 1 ≡ at + 2 = omega arith in
-    let third : at + 2 + 1 ≡ at + 3 = omega arith in
-    ap (λ i. take i (drop at row)) three
-    ∙ ap (λ l. take (suc (suc (suc m))) l) (drop_more row at 0 (omega arith) ∙ ap (λ l. get_or row at 0 ∷ l) (drop_more row (at + 1) 0 (omega arith) ∙ ap (λ i. get_or row (at + 1) 0 ∷ drop i row) second ∙ ap (λ l. get_or row (at + 1) 0 ∷ l) (drop_more row (at + 2) 0 (omega arith) ∙ ap (λ i. get_or row (at + 2) 0 ∷ drop i row) third)))
-    ∙ ap (λ l. get_or row at 0 ∷ get_or row (at + 1) 0 ∷ get_or row (at + 2) 0 ∷ l) e
+  rest : m ≡ 3 * count - 3 * (end - first)
+  rest = size ∙ length-take-le (length (copied ++ drop (3 * (end - first)) out) - 3 * (end - first)) (drop (3 * (end - first)) (copied ++ drop (3 * (end - first)) out)) (omega (arith, length-drop (3 * (end - first)) (copied ++ drop (3 * (end - first)) out)))
+      ∙ omega (arith, length-append copied (drop (3 * (end - first)) out), copied_length, length-drop (3 * (end - first)) out)
 
--- texels inside a row are a slice of it
-pub span_slice : (row : List ℕ) (first n : ℕ) → first + n ≤ length row / 3 → take (3 * n) (drop (3 * first) row) ≡ span_bytes row first n
-unfolding span_bytes
-span_slice row first zero inside = refl
-span_slice row first (suc n) inside =
-    let more : 3 * suc n ≡ 3 * n + 3 = omega arith in
-    let next : 3 * first + 3 ≡ 3 * (first + 1) = omega arith in
-    let here : first ≡ min first (length row / 3 - 1) = omega arith in
-    ap (λ i. take i (drop (3 * first) row)) more
-    ∙ three_more row (3 * first) (3 * n) (flat_map (clamped_bytes row) (range_with_len (first + 1) n)) (omega arith) (ap (λ i. take (3 * n) (drop i row)) next ∙ span_slice row (first + 1) n (omega arith))
-    ∙ ap (λ i. get_or row (3 * i) 0 ∷ get_or row (3 * i + 1) 0 ∷ get_or row (3 * i + 2) 0 ∷ flat_map (clamped_bytes row) (range_with_len (first + 1) n)) here
-
--- texels inside a row, and those behind them
-pub span_whole : (old now new row : List ℕ) (first end count : ℕ) → first < length row / 3 → end ≡ min (first + count) (length row / 3)
-    → now ≡ old ++ take (3 * end - 3 * first) (drop (3 * first) row) → new ≡ now ++ span_bytes row end (first + count - end) → new ≡ old ++ span_bytes row first count
-unfolding span_bytes
-span_whole old now new row first end count inside cut so_far grown =
-    let n : 3 * end - 3 * first ≡ 3 * (end - first) = omega arith in
-    let here : first + (end - first) ≡ end = omega arith in
-    let all : end - first + (first + count - end) ≡ count = omega arith in
-    let front : now ≡ old ++ flat_map (clamped_bytes row) (range_with_len first (end - first)) = so_far ∙ ap (λ l. old ++ l) (ap (λ m. take m (drop (3 * first) row)) n ∙ span_slice row first (end - first) (omega arith)) in
-    grown ∙ ap (λ l. l ++ flat_map (clamped_bytes row) (range_with_len end (first + count - end))) front
-    ∙ append_assoc old (flat_map (clamped_bytes row) (range_with_len first (end - first))) (flat_map (clamped_bytes row) (range_with_len end (first + count - end)))
-    ∙ ap (λ l. old ++ l) (ap (λ i. flat_map (clamped_bytes row) (range_with_len first (end - first)) ++ flat_map (clamped_bytes row) (range_with_len i (first + count - end))) (sym here)
-    ∙ sym (span_add (clamped_bytes row) first (end - first) (first + count - end)) ∙ ap (λ m. flat_map (clamped_bytes row) (range_with_len first m)) all)
+  each : (x c : ℕ) → x < count → c < 3 → (x < end - first) ⊎ (end - first ≤ x) → get_or (put_mid (3 * (end - first)) k (copied ++ drop (3 * (end - first)) out) filled) (3 * x + c) 0 ≡ clamped_sample row (first + x) c
+  each x c p q (inl h) =
+      get_or_append_left (take (3 * (end - first)) (copied ++ drop (3 * (end - first)) out)) (filled ++ post_of (3 * (end - first)) k (copied ++ drop (3 * (end - first)) out)) 0 (3 * x + c) (omega (arith, front_length))
+      ∙ get_or-take (3 * (end - first)) (copied ++ drop (3 * (end - first)) out) (3 * x + c) 0 (omega arith)
+      ∙ get_or_append_left copied (drop (3 * (end - first)) out) 0 (3 * x + c) (omega (arith, copied_length))
+      ∙ ap (λ l. get_or l (3 * x + c) 0) same
+      ∙ cut_sample row (3 * first) (3 * end - 3 * first) (3 * x + c) (3 * min (first + x) (length row / 3 - 1) + c) (omega arith) (omega arith)
+  each x c p q (inr h) =
+      get_or-append_right (take (3 * (end - first)) (copied ++ drop (3 * (end - first)) out)) (filled ++ post_of (3 * (end - first)) k (copied ++ drop (3 * (end - first)) out)) (3 * (end - first)) (3 * x + c) 0 front_length (omega arith)
+      ∙ ap (λ i. get_or (filled ++ post_of (3 * (end - first)) k (copied ++ drop (3 * (end - first)) out)) i 0) (let s : 3 * x + c - 3 * (end - first) ≡ 3 * (x - (end - first)) + c = omega arith in s)
+      ∙ get_or_append_left filled (post_of (3 * (end - first)) k (copied ++ drop (3 * (end - first)) out)) 0 (3 * (x - (end - first)) + c) (omega (arith, rest))
+      ∙ fill (x - (end - first)) c (omega (arith, rest)) q
+      ∙ cut_sample row (3 * (length row / 3) - 3) j c (3 * min (first + x) (length row / 3 - 1) + c) (omega arith) (omega arith)
