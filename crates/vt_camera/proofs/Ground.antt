@@ -3,7 +3,6 @@ use Rattle.std.proofs.Common.{◌≡◌, ℕ, ◌+◌, ◌*◌, ◌/◌, ◌%◌
 use Rattle.std.proofs.Common.{to_z, of_z, to_z-of_z, FitsSigned}
 use Rattle.std.specs.Prelude.{◌≤ℤ◌, unsigned_abs}
 use Rattle.std.specs.Int.{Width}
-use lib.Signed.{shr_z, mag_shr}
 use Rattle.std.proofs.lemmas.Int.{ints, int_rem_euclid_is, unsigned_abs-mul}
 use Rattle.std.proofs.lemmas.Nat.{mul-le}
 use Rattle.vt_camera.specs.declared.paths.Camera.{Camera}
@@ -39,10 +38,6 @@ same_texel_further z w k side some e positive =
 product_at_most : (a b : ℤ) (m n : ℕ) → unsigned_abs a ≤ m → unsigned_abs b ≤ n → unsigned_abs (a *ℤ b) ≤ m * n
 product_at_most a b m n f g = omega (arith, unsigned_abs-mul a b, mul-le (unsigned_abs a) (unsigned_abs b) m n f g)
 
-floor_14 : (z : ℤ) → unsigned_abs z ≤ 1125899906842624 → (negsuc 68719476735 ≤ℤ floor_div z 16384) × (floor_div z 16384 ≤ℤ pos 68719476736)
-floor_14 (pos a) h = (omega (arith, ints), omega (arith, ints))
-floor_14 (negsuc a) h = (omega (arith, ints), omega (arith, ints))
-
 -- how far a pixel can lie from the row's middle
 pub away_fits : (off across : ℤ) → negsuc 2046 ≤ℤ off → off ≤ℤ pos 2047 → negsuc 274877906943 ≤ℤ across → across ≤ℤ pos 274877906944 → unsigned_abs (off *ℤ across) ≤ 562675075514368
 away_fits off across a b c d =
@@ -56,33 +51,6 @@ product_value w a b f g h =
     ap (λ (x : ℤ). to_z w (of_z w (x *ℤ to_z w (of_z w b)))) (to_z-of_z f)
     ∙ ap (λ (x : ℤ). to_z w (of_z w (a *ℤ x))) (to_z-of_z g)
     ∙ to_z-of_z h
-
--- how far the ground of a row can lie off along one axis
-pub far_fits : (off : ℕ) (direction : ℤ) → off ≤ 68719476736 → negsuc 16383 ≤ℤ direction → direction ≤ℤ pos 16384
-    → (negsuc 68719476735 ≤ℤ floor_div (pos off *ℤ direction) 16384) × (floor_div (pos off *ℤ direction) 16384 ≤ℤ pos 68719476736)
-far_fits off direction a b c =
-    let g : unsigned_abs direction ≤ 16384 = omega (arith, ints) in
-    floor_14 (pos off *ℤ direction) (product_at_most (pos off) direction 68719476736 16384 a g)
-
--- whole turns are long enough, and no longer than need be
-pub turns_fit : (side : ℕ) → 1 ≤ side → side ≤ 16384 → (274877906944 ≤ whole_turns side) × (whole_turns side ≤ 274882101248)
-turns_fit side some most = (omega arith, omega arith)
-
-shr_floor : (z : ℤ) (m : ℕ) → shr_z z m ≡ floor_div z m
-shr_floor (pos a) m = refl
-shr_floor (negsuc a) m = refl
-
-shifted_fits : (w : Width) (z : ℤ) (m : ℕ) → FitsSigned w z → FitsSigned w (shr_z z m)
-shifted_fits w z m f = record { sfits = omega (arith, mag_shr z m, f.sfits) }
-
--- a shift to the right of a product is the floor of its quotient
-pub shift_value : (w : Width) (a b : ℤ) (m : ℕ) → FitsSigned w a → FitsSigned w b → FitsSigned w (a *ℤ b)
-    → to_z w (of_z w (shr_z (to_z w (of_z w (to_z w (of_z w a) *ℤ to_z w (of_z w b)))) m)) ≡ floor_div (a *ℤ b) m
-shift_value w a b m f g h =
-    ap (λ (x : ℤ). to_z w (of_z w (shr_z (to_z w (of_z w (x *ℤ to_z w (of_z w b)))) m))) (to_z-of_z f)
-    ∙ ap (λ (x : ℤ). to_z w (of_z w (shr_z (to_z w (of_z w (a *ℤ x))) m))) (to_z-of_z g)
-    ∙ ap (λ (x : ℤ). to_z w (of_z w (shr_z x m))) (to_z-of_z h)
-    ∙ to_z-of_z (shifted_fits w (a *ℤ b) m h) ∙ shr_floor (a *ℤ b) m
 
 minus_turns : (place far step step' turns middle u : ℤ) → middle ≡ place +ℤ far +ℤ turns → step ≡ step' → u ≡ middle -ℤ step → place +ℤ far -ℤ step' +ℤ turns ≡ u
 minus_turns place far step step' turns middle u e f g = omega (arith, ints)

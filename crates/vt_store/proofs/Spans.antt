@@ -1,16 +1,10 @@
 -- Bytes that stand one after the other, piece by piece.
-use Rattle.std.proofs.Common.{◌≡◌, ℕ, zero, suc, ◌+◌, ◌-◌, ◌*◌, ◌/◌, ◌<◌, ◌≤◌, ◌⊎◌, inl, inr, List, ◌++◌, length, get_or, take, drop, min, refl, sym, ap, ◌∙◌, arith, append_assoc}
-use Rattle.std.proofs.lemmas.List.{append-nil, length-append, length-drop, length-take-le, get_or-take, get_or-drop, get_or_append_left, get_or-append_right, get_or-append-add}
+use Rattle.std.proofs.Common.{◌≡◌, ℕ, zero, suc, ◌+◌, ◌-◌, ◌*◌, ◌/◌, ◌<◌, ◌≤◌, ◌⊎◌, inl, inr, List, ◌++◌, length, get_or, take, drop, min, sym, ap, ◌∙◌, arith, append_assoc}
+use Rattle.std.proofs.lemmas.List.{length-append, length-drop, length-take-le, get_or-take, get_or-drop, get_or_append_left, get_or-append_right, get_or-append-add}
 use Rattle.std.specs.Prelude.{flat_map}
 use Rattle.std.specs.List.{range_with_len}
 use borrow.Rule.Slice.PartMut.{put_mid, post_of}
 use Rattle.vt_store.specs.Written.{IsSpan, clamped_sample}
-
-pub span_suc : {X : Type 0} (f : ℕ → List X) (a n : ℕ) → flat_map f (range_with_len a (suc n)) ≡ flat_map f (range_with_len a n) ++ f (a + n)
-span_suc f a zero = let e : a + 0 ≡ a = omega arith in append-nil (f a) ∙ ap f (sym e)
-span_suc f a (suc n) =
-    let e : a + 1 + n ≡ a + suc n = omega arith in
-    ap (λ l. f a ++ l) (span_suc f (a + 1) n) ∙ sym (append_assoc (f a) (flat_map f (range_with_len (a + 1) n)) (f (a + 1 + n))) ∙ ap (λ i. (f a ++ flat_map f (range_with_len (a + 1) n)) ++ f i) e
 
 pub span_add : {X : Type 0} (f : ℕ → List X) (a n m : ℕ) → flat_map f (range_with_len a (n + m)) ≡ flat_map f (range_with_len a n) ++ flat_map f (range_with_len (a + n) m)
 span_add f a zero m =
@@ -21,11 +15,6 @@ span_add f a (suc n) m =
     let e : suc n + m ≡ suc (n + m) = omega arith in
     let z : a + 1 + n ≡ a + suc n = omega arith in
     ap (λ i. flat_map f (range_with_len a i)) e ∙ ap (λ l. f a ++ l) (span_add f (a + 1) n m ∙ ap (λ i. flat_map f (range_with_len (a + 1) n) ++ flat_map f (range_with_len i m)) z) ∙ sym (append_assoc (f a) (flat_map f (range_with_len (a + 1) n)) (flat_map f (range_with_len (a + suc n) m)))
-
-pub span_same : {X : Type 0} (f g : ℕ → List X) (a b n : ℕ) → ((i : ℕ) → i < n → f (a + i) ≡ g (b + i)) → flat_map f (range_with_len a n) ≡ flat_map g (range_with_len b n)
-span_same f g a b zero same = refl
-span_same f g a b (suc n) same =
-    span_suc f a n ∙ ap (λ l. l ++ f (a + n)) (span_same f g a b n (λ i h. same i (omega arith))) ∙ ap (λ l. flat_map g (range_with_len b n) ++ l) (same n (omega arith)) ∙ sym (span_suc g b n)
 
 pub span_length : {X : Type 0} (f : ℕ → List X) (a n t : ℕ) → ((i : ℕ) → length (f i) ≡ t) → length (flat_map f (range_with_len a n)) ≡ n * t
 span_length f a zero t each = let e : 0 * t ≡ 0 = omega arith in sym e
