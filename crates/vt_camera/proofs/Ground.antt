@@ -3,12 +3,12 @@ use Rattle.std.proofs.Common.{◌≡◌, ℕ, ◌+◌, ◌*◌, ◌/◌, ◌%◌
 use Rattle.std.proofs.Common.{to_z, of_z, to_z-of_z, FitsSigned}
 use Rattle.std.specs.Prelude.{◌≤ℤ◌, unsigned_abs}
 use Rattle.std.specs.Int.{Width}
-use lib.Signed.{shr_z, mag_shr}
 use Rattle.std.proofs.lemmas.Int.{ints, int_rem_euclid_is, unsigned_abs-mul}
 use Rattle.std.proofs.lemmas.Nat.{mul-le}
 use Rattle.vt_camera.specs.declared.paths.Camera.{Camera}
 use Rattle.vt_camera.specs.Rows.{floor_div, ring_place, off_middle, depth, span, ground_u, ground_v, place_of}
-use Rattle.vt_camera.specs.RowParts.{whole_turns, middle_of}
+use Rattle.vt_camera.specs.declared.rows.Axis.{Axis}
+use Rattle.vt_camera.specs.RowParts.{whole_turns, middle_of, IsAxis}
 
 pub ring_place_below : (z : ℤ) (n : ℕ) → 1 ≤ n → ring_place z n < n
 ring_place_below (pos a) n some = omega arith
@@ -38,48 +38,19 @@ same_texel_further z w k side some e positive =
 product_at_most : (a b : ℤ) (m n : ℕ) → unsigned_abs a ≤ m → unsigned_abs b ≤ n → unsigned_abs (a *ℤ b) ≤ m * n
 product_at_most a b m n f g = omega (arith, unsigned_abs-mul a b, mul-le (unsigned_abs a) (unsigned_abs b) m n f g)
 
-floor_15 : (z : ℤ) → unsigned_abs z ≤ 562675075514368 → (negsuc 17179869183 ≤ℤ floor_div z 32768) × (floor_div z 32768 ≤ℤ pos 17179869184)
-floor_15 (pos a) h = (omega (arith, ints), omega (arith, ints))
-floor_15 (negsuc a) h = (omega (arith, ints), omega (arith, ints))
-
-floor_14 : (z : ℤ) → unsigned_abs z ≤ 1125899906842624 → (negsuc 68719476735 ≤ℤ floor_div z 16384) × (floor_div z 16384 ≤ℤ pos 68719476736)
-floor_14 (pos a) h = (omega (arith, ints), omega (arith, ints))
-floor_14 (negsuc a) h = (omega (arith, ints), omega (arith, ints))
-
 -- how far a pixel can lie from the row's middle
-pub step_fits : (off across : ℤ) → negsuc 2046 ≤ℤ off → off ≤ℤ pos 2047 → negsuc 274877906943 ≤ℤ across → across ≤ℤ pos 274877906944
-    → (negsuc 17179869183 ≤ℤ floor_div (off *ℤ across) 32768) × (floor_div (off *ℤ across) 32768 ≤ℤ pos 17179869184)
-step_fits off across a b c d =
+pub away_fits : (off across : ℤ) → negsuc 2046 ≤ℤ off → off ≤ℤ pos 2047 → negsuc 274877906943 ≤ℤ across → across ≤ℤ pos 274877906944 → unsigned_abs (off *ℤ across) ≤ 562675075514368
+away_fits off across a b c d =
     let f : unsigned_abs off ≤ 2047 = omega (arith, ints) in
     let g : unsigned_abs across ≤ 274877906944 = omega (arith, ints) in
-    floor_15 (off *ℤ across) (product_at_most off across 2047 274877906944 f g)
+    product_at_most off across 2047 274877906944 f g
 
--- how far the ground of a row can lie off along one axis
-pub far_fits : (off : ℕ) (direction : ℤ) → off ≤ 68719476736 → negsuc 16383 ≤ℤ direction → direction ≤ℤ pos 16384
-    → (negsuc 68719476735 ≤ℤ floor_div (pos off *ℤ direction) 16384) × (floor_div (pos off *ℤ direction) 16384 ≤ℤ pos 68719476736)
-far_fits off direction a b c =
-    let g : unsigned_abs direction ≤ 16384 = omega (arith, ints) in
-    floor_14 (pos off *ℤ direction) (product_at_most (pos off) direction 68719476736 16384 a g)
-
--- whole turns are long enough, and no longer than need be
-pub turns_fit : (side : ℕ) → 1 ≤ side → side ≤ 16384 → (274877906944 ≤ whole_turns side) × (whole_turns side ≤ 274882101248)
-turns_fit side some most = (omega arith, omega arith)
-
-shr_floor : (z : ℤ) (m : ℕ) → shr_z z m ≡ floor_div z m
-shr_floor (pos a) m = refl
-shr_floor (negsuc a) m = refl
-
-shifted_fits : (w : Width) (z : ℤ) (m : ℕ) → FitsSigned w z → FitsSigned w (shr_z z m)
-shifted_fits w z m f = record { sfits = omega (arith, mag_shr z m, f.sfits) }
-
--- a shift to the right of a product is the floor of its quotient
-pub shift_value : (w : Width) (a b : ℤ) (m : ℕ) → FitsSigned w a → FitsSigned w b → FitsSigned w (a *ℤ b)
-    → to_z w (of_z w (shr_z (to_z w (of_z w (to_z w (of_z w a) *ℤ to_z w (of_z w b)))) m)) ≡ floor_div (a *ℤ b) m
-shift_value w a b m f g h =
-    ap (λ (x : ℤ). to_z w (of_z w (shr_z (to_z w (of_z w (x *ℤ to_z w (of_z w b)))) m))) (to_z-of_z f)
-    ∙ ap (λ (x : ℤ). to_z w (of_z w (shr_z (to_z w (of_z w (a *ℤ x))) m))) (to_z-of_z g)
-    ∙ ap (λ (x : ℤ). to_z w (of_z w (shr_z x m))) (to_z-of_z h)
-    ∙ to_z-of_z (shifted_fits w (a *ℤ b) m h) ∙ shr_floor (a *ℤ b) m
+-- a product of numbers that fit
+pub product_value : (w : Width) (a b : ℤ) → FitsSigned w a → FitsSigned w b → FitsSigned w (a *ℤ b) → to_z w (of_z w (to_z w (of_z w a) *ℤ to_z w (of_z w b))) ≡ a *ℤ b
+product_value w a b f g h =
+    ap (λ (x : ℤ). to_z w (of_z w (x *ℤ to_z w (of_z w b)))) (to_z-of_z f)
+    ∙ ap (λ (x : ℤ). to_z w (of_z w (a *ℤ x))) (to_z-of_z g)
+    ∙ to_z-of_z h
 
 minus_turns : (place far step step' turns middle u : ℤ) → middle ≡ place +ℤ far +ℤ turns → step ≡ step' → u ≡ middle -ℤ step → place +ℤ far -ℤ step' +ℤ turns ≡ u
 minus_turns place far step step' turns middle u e f g = omega (arith, ints)
@@ -87,8 +58,20 @@ minus_turns place far step step' turns middle u e f g = omega (arith, ints)
 plus_turns : (place far step step' turns middle v : ℤ) → middle ≡ place +ℤ far +ℤ turns → step ≡ step' → v ≡ middle +ℤ step → place +ℤ far +ℤ step' +ℤ turns ≡ v
 plus_turns place far step step' turns middle v e f g = omega (arith, ints)
 
+-- the floor of a place before a middle is the middle less a floor
+before_middle : (middle t w : ℤ) → pos 0 ≤ℤ w → w ≡ middle *ℤ pos 32768 +ℤ pos 32767 -ℤ t → floor_div w 32768 ≡ middle -ℤ floor_div t 32768
+before_middle middle (pos a) (pos n) some e = omega (arith, ints)
+before_middle middle (negsuc a) (pos n) some e = omega (arith, ints)
+before_middle middle t (negsuc n) some e = absurd (let no : ⊥ = omega (arith, ints) in no)
+
+-- and of one beyond it, the middle and a floor
+beyond_middle : (middle t w : ℤ) → pos 0 ≤ℤ w → w ≡ middle *ℤ pos 32768 +ℤ t → floor_div w 32768 ≡ middle +ℤ floor_div t 32768
+beyond_middle middle (pos a) (pos n) some e = omega (arith, ints)
+beyond_middle middle (negsuc a) (pos n) some e = omega (arith, ints)
+beyond_middle middle t (negsuc n) some e = absurd (let no : ⊥ = omega (arith, ints) in no)
+
 -- the code's sum for the column leads to the texel of the definition
-pub column_is : (width focal : ℕ) (camera : Camera) (x y columns rows : ℕ) (middle step u : ℤ) → 1 ≤ columns
+column_is : (width focal : ℕ) (camera : Camera) (x y columns rows : ℕ) (middle step u : ℤ) → 1 ≤ columns
     → middle ≡ middle_of camera.u (depth focal camera y) camera.c columns
     → step ≡ floor_div (off_middle width x *ℤ (pos (span camera y) *ℤ camera.s)) 32768
     → u ≡ middle -ℤ step → pos 0 ≤ℤ u → ring_place (floor_div u 256) columns ≡ (place_of width focal camera x y columns rows).0
@@ -98,7 +81,7 @@ column_is width focal camera x y columns rows middle step u some e f g positive 
     (minus_turns camera.u (floor_div (pos (depth focal camera y) *ℤ camera.c) 16384) step _ (pos (whole_turns columns)) middle u e f g) positive
 
 -- and likewise for the row
-pub row_is : (width focal : ℕ) (camera : Camera) (x y columns rows : ℕ) (middle step v : ℤ) → 1 ≤ rows
+row_is : (width focal : ℕ) (camera : Camera) (x y columns rows : ℕ) (middle step v : ℤ) → 1 ≤ rows
     → middle ≡ middle_of camera.v (depth focal camera y) camera.s rows
     → step ≡ floor_div (off_middle width x *ℤ (pos (span camera y) *ℤ camera.c)) 32768
     → v ≡ middle +ℤ step → pos 0 ≤ℤ v → ring_place (floor_div v 256) rows ≡ (place_of width focal camera x y columns rows).1
@@ -106,3 +89,25 @@ unfolding place_of ground_v
 row_is width focal camera x y columns rows middle step v some e f g positive =
     same_texel_further _ v (1073741824 / rows + 1) rows some
     (plus_turns camera.v (floor_div (pos (depth focal camera y) *ℤ camera.s) 16384) step _ (pos (whole_turns rows)) middle v e f g) positive
+
+-- the texel of the whole places of the code's sum for the column
+pub column_shown : (width focal : ℕ) (camera : Camera) (x y columns rows : ℕ) (middle away place : ℤ) (u : ℕ) → 1 ≤ columns
+    → middle ≡ middle_of camera.u (depth focal camera y) camera.c columns *ℤ pos 32768 +ℤ pos 32767
+    → away ≡ off_middle width x *ℤ (pos (span camera y) *ℤ camera.s)
+    → place ≡ middle -ℤ away → pos 0 ≤ℤ place → pos u ≡ floor_div place 32768 → u / 256 % columns ≡ (place_of width focal camera x y columns rows).0
+column_shown width focal camera x y columns rows middle away place u some e f g positive whole =
+    column_is width focal camera x y columns rows (middle_of camera.u (depth focal camera y) camera.c columns) (floor_div away 32768) (pos u) some refl (ap (λ (z : ℤ). floor_div z 32768) f)
+    (whole ∙ before_middle (middle_of camera.u (depth focal camera y) camera.c columns) away place positive (g ∙ ap (λ (z : ℤ). z -ℤ away) e)) (omega (arith, ints))
+
+-- and of the sum for the row
+pub row_shown : (width focal : ℕ) (camera : Camera) (x y columns rows : ℕ) (middle away place : ℤ) (v : ℕ) → 1 ≤ rows
+    → middle ≡ middle_of camera.v (depth focal camera y) camera.s rows *ℤ pos 32768
+    → away ≡ off_middle width x *ℤ (pos (span camera y) *ℤ camera.c)
+    → place ≡ middle +ℤ away → pos 0 ≤ℤ place → pos v ≡ floor_div place 32768 → v / 256 % rows ≡ (place_of width focal camera x y columns rows).1
+row_shown width focal camera x y columns rows middle away place v some e f g positive whole =
+    row_is width focal camera x y columns rows (middle_of camera.v (depth focal camera y) camera.s rows) (floor_div away 32768) (pos v) some refl (ap (λ (z : ℤ). floor_div z 32768) f)
+    (whole ∙ beyond_middle (middle_of camera.v (depth focal camera y) camera.s rows) away place positive (g ∙ ap (λ (z : ℤ). z +ℤ away) e)) (omega (arith, ints))
+
+-- an axis is one of equal numbers
+pub same_axis : (side level : ℕ) (middle middle' across across' : ℤ) (axis : Axis) → middle ≡ middle' → across ≡ across' → IsAxis side level middle across axis → IsAxis side level middle' across' axis
+same_axis side level middle middle' across across' axis e f is = rw (← e, ← f) is

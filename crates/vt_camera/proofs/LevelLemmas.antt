@@ -45,7 +45,7 @@ pub lowest : (p last : ℕ) → p / 256 ≡ 0 → level_within p last ≡ 0
 lowest p last small = same_level p last _ 0 (level_within_is p last)
     (record { exists = omega arith; fits = inl refl; greatest = λ j within fits. absurd (omega (arith, pow_pos j)) })
 
-exponent_below : (i j : ℕ) → 2 ^ j < 2 * 2 ^ i → j ≤ i
+pub exponent_below : (i j : ℕ) → 2 ^ j < 2 * 2 ^ i → j ≤ i
 exponent_below i j h = ⊎_elim (λ (over : i < j). let more : 2 ^ suc i ≤ 2 ^ j = pow-le-pow_right (omega arith) over in absurd (omega (arith, pow-suc 2 i))) (λ (under : j ≤ i). under) (cases_lt i j)
 
 -- the logarithm of the texels that a pixel spans, cut at the last level

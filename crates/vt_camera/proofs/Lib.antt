@@ -1,4 +1,5 @@
 pub mod Ground
+pub mod Rings
 pub mod LevelLemmas
 pub mod PathLines
 pub mod PathFields

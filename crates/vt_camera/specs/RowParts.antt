@@ -1,6 +1,7 @@
 -- What a `Row` keeps beside what it stands for: the numbers that are the same at each pixel of it.
-use Rattle.std.specs.Prelude.{◌≡◌, ℕ, ◌+◌, ◌*◌, ◌/◌, ◌≤◌, ℤ, pos, negsuc, ◌+ℤ◌, ◌*ℤ◌, ◌≤ℤ◌}
+use Rattle.std.specs.Prelude.{◌≡◌, ℕ, ◌+◌, ◌-◌, ◌*◌, ◌/◌, ◌%◌, ◌^◌, ◌≤◌, ℤ, pos, negsuc, ◌+ℤ◌, ◌*ℤ◌, ◌≤ℤ◌}
 use Rattle.vt_camera.specs.Paths.{IsCamera}
+use Rattle.vt_camera.specs.declared.rows.Axis.{Axis}
 use Rattle.vt_camera.specs.Rows.{RowView, IsSurface, floor_div, depth, span, row_level}
 
 -- whole turns round a ring of so many texels, in 1/256 texel, that outweigh each place of the ground (this project's profile)
@@ -11,23 +12,37 @@ whole_turns side = (1073741824 / side + 1) * (256 * side)
 abbrev pub middle_of : ℤ → ℕ → ℤ → ℕ → ℤ
 middle_of place off direction side = place +ℤ floor_div (pos off *ℤ direction) 16384 +ℤ pos (whole_turns side)
 
--- a row's level, and for both axes its middle and how far it goes in two pixels (this project's profile)
-pub record IsRow (row : RowView) (level : ℕ) (middle_u middle_v across_u across_v : ℤ) : Type 0 where
+-- how many of 2^64 parts of a turn 1/256 texel is, rounded up (this project's profile)
+abbrev pub part_of : ℕ → ℕ
+part_of side = 18446744073709551615 / (256 * side) + 1
+
+-- how many texels of a level a turn has, in 1/65536 texel (this project's profile)
+abbrev pub turn_at : ℕ → ℕ → ℕ
+turn_at side level = side * 2 ^ (16 - level)
+
+-- which of the equal pieces of a turn a place lies on, by its parts (this project's profile)
+abbrev pub on_ring : ℕ → ℕ → ℕ → ℕ
+on_ring place part pieces = place * part % 2 ^ 64 * pieces / 2 ^ 64
+
+-- an axis of a row whose middle lies at a place of the texture's side, and which goes so far in half a pixel (this project's profile)
+pub record IsAxis (side level : ℕ) (middle across : ℤ) (axis : Axis) : Type 0 where
+  pub middle_is : axis.middle ≡ middle
+  pub across_is : axis.across ≡ across
+  pub part_is : axis.part ≡ part_of side
+  pub turn_is : axis.turn ≡ turn_at side level
+  pub middle_low : pos 4503599627370496 ≤ℤ middle
+  pub middle_high : middle ≤ℤ pos 13510798882144255
+  pub across_low : negsuc 274877906943 ≤ℤ across
+  pub across_high : across ≤ℤ pos 274877906944
+
+-- a row's level, and what is the same at each of its pixels along both axes (this project's profile)
+pub record IsRow (row : RowView) (level : ℕ) (columns rows : Axis) : Type 0 where
   pub width_low : 1 ≤ row.width
   pub width_high : row.width ≤ 2048
   pub focal_high : row.focal ≤ 4096
   pub camera : IsCamera row.camera
   pub surface : IsSurface row.surface
   pub level_is : level ≡ row_level row
-  pub middle_u_is : middle_u ≡ middle_of row.camera.u (depth row.focal row.camera row.y) row.camera.c row.surface.width
-  pub middle_v_is : middle_v ≡ middle_of row.camera.v (depth row.focal row.camera row.y) row.camera.s row.surface.height
-  pub across_u_is : across_u ≡ pos (span row.camera row.y) *ℤ row.camera.s
-  pub across_v_is : across_v ≡ pos (span row.camera row.y) *ℤ row.camera.c
-  pub middle_u_low : pos 137438953472 ≤ℤ middle_u
-  pub middle_u_high : middle_u ≤ℤ pos 412316860416
-  pub middle_v_low : pos 137438953472 ≤ℤ middle_v
-  pub middle_v_high : middle_v ≤ℤ pos 412316860416
-  pub across_u_low : negsuc 274877906943 ≤ℤ across_u
-  pub across_u_high : across_u ≤ℤ pos 274877906944
-  pub across_v_low : negsuc 274877906943 ≤ℤ across_v
-  pub across_v_high : across_v ≤ℤ pos 274877906944
+  pub level_high : level ≤ 16
+  pub columns_are : IsAxis row.surface.width level (middle_of row.camera.u (depth row.focal row.camera row.y) row.camera.c row.surface.width *ℤ pos 32768 +ℤ pos 32767) (pos (span row.camera row.y) *ℤ row.camera.s) columns
+  pub rows_are : IsAxis row.surface.height level (middle_of row.camera.v (depth row.focal row.camera row.y) row.camera.s row.surface.height *ℤ pos 32768) (pos (span row.camera row.y) *ℤ row.camera.c) rows

@@ -1,9 +1,10 @@
 //! A row of a picture: its mip level, and the texel that each of its pixels shows.
 
-ghost use Rattle.std.specs.Prelude.{◌≡◌, ℕ, ◌+◌, ◌-◌, ◌*◌, ◌^◌, ◌<◌, ◌≤◌, ℤ, pos, negsuc, ◌+ℤ◌, ◌-ℤ◌, ◌*ℤ◌, ◌≤ℤ◌, ◌<ℤ◌, unsigned_abs};
+ghost use Rattle.std.specs.Prelude.{◌≡◌, ℕ, ◌+◌, ◌-◌, ◌*◌, ◌/◌, ◌%◌, ◌^◌, ◌<◌, ◌≤◌, ℤ, pos, negsuc, ◌+ℤ◌, ◌-ℤ◌, ◌*ℤ◌, ◌≤ℤ◌, ◌<ℤ◌, unsigned_abs};
 ghost use Rattle.vt_camera.specs.Paths.{IsCamera};
 ghost use Rattle.vt_camera.specs.Rows.{IsSurface, floor_div, ring_place, level_within, off_middle, row_of, row_level, row_place};
-ghost use Rattle.vt_camera.specs.RowParts.{whole_turns, middle_of};
+ghost use Rattle.vt_camera.specs.RowParts.{whole_turns, middle_of, part_of, turn_at, on_ring, IsAxis};
+ghost use Rattle.vt_definitions.specs.Sides.{side};
 
 use crate::paths::{Camera, Path};
 use crate::surfaces::Surface;
@@ -20,10 +21,43 @@ pub struct Row {
     y: u32,
     surface: Surface,
     level: u32,
-    middle_u: i64,
-    middle_v: i64,
-    across_u: i64,
-    across_v: i64,
+    columns: Axis,
+    rows: Axis,
+}
+
+// What is the same at each pixel of a row along one of the two axes of the ground. The texture repeats along it: its side
+// is a ring, and 2^64 parts make one turn of the ring.
+#[derive(Clone, Copy)]
+struct Axis {
+    // Where the row's middle lies, whole turns further on, in 1/2^23 texel.
+    middle: i64,
+    // How far the row goes in half a pixel, in 1/2^23 texel.
+    across: i64,
+    // How many parts of the turn 1/256 texel is, rounded up.
+    part: u64,
+    // How many texels of the row's level the turn has, in 1/65536 texel.
+    turn: u64,
+}
+
+impl Axis {
+    // The axis of a row of this level, on which the texture has this side.
+    fn of(middle: i64, across: i64, side: u32, level: u32) -> Axis
+        requires middle_low { pos 4503599627370496 ≤ℤ middle }
+        requires middle_high { middle ≤ℤ pos 13510798882144255 }
+        requires across_low { negsuc 274877906943 ≤ℤ across }
+        requires across_high { across ≤ℤ pos 274877906944 }
+        requires side_low { 1 ≤ side }
+        requires side_high { side ≤ 16384 }
+        requires level { level ≤ 16 }
+        ensures { IsAxis side level middle across result }
+    {
+        Axis {
+            middle,
+            across,
+            part: part_of(side),
+            turn: turn_at(side, level),
+        }
+    }
 }
 
 impl Model for Row {
@@ -36,7 +70,7 @@ impl Model for Row {
 
     ghost invariant = { λ r.
         IsRow (record { width = r.width; focal = r.focal; camera = r.camera; y = r.y; surface = r.surface })
-        r.level r.middle_u r.middle_v r.across_u r.across_v };
+        r.level r.columns r.rows };
 }
 
 impl Row {
@@ -53,17 +87,27 @@ impl Row {
         let height = camera.h.unsigned_abs();
         let depth = height * u64::from(focal) / (u64::from(y) + 1);
         let span = height / (u64::from(y) + 1);
+        let level = greatest_level(span, surface.levels - 1);
         Row {
             width,
             focal,
             camera: *camera,
             y,
             surface: *surface,
-            level: greatest_level(span, surface.levels - 1),
-            middle_u: middle(camera.u, depth, camera.c, surface.width),
-            middle_v: middle(camera.v, depth, camera.s, surface.height),
-            across_u: scaled(span, camera.s),
-            across_v: scaled(span, camera.c),
+            level,
+            // What is taken away from this middle is to be rounded down, so the difference is rounded up.
+            columns: Axis::of(
+                finer(middle(camera.u, depth, camera.c, surface.width)) + 32767,
+                scaled(span, camera.s),
+                surface.width,
+                level,
+            ),
+            rows: Axis::of(
+                finer(middle(camera.v, depth, camera.s, surface.height)),
+                scaled(span, camera.c),
+                surface.height,
+                level,
+            ),
         }
     }
 
@@ -85,12 +129,43 @@ impl Row {
         ensures column_within { result.0 < self.now.surface.width }
         ensures row_within { result.1 < self.now.surface.height }
     {
-        let off = half_pixels(x, self.width);
-        let u = self.middle_u - step(off, self.across_u);
-        let v = self.middle_v + step(off, self.across_v);
+        let (u, v) = self.ground(x);
         (
-            texel_on_ring(u, self.surface.width),
-            texel_on_ring(v, self.surface.height),
+            on_ring(u, self.columns.part, u64::from(self.surface.width)) as u32,
+            on_ring(v, self.rows.part, u64::from(self.surface.height)) as u32,
+        )
+    }
+
+    /// The column and the row of the texel of the row's own level that pixel x of the row shows, x below the picture's
+    /// width. It takes no memory.
+    #[inline(always)]
+    pub fn texel_in_level(&self, x: u32) -> (u32, u32)
+        requires { x < self.now.width }
+        ensures column { result.0 ≡ (row_place self.now x).0 / 2 ^ row_level self.now }
+        ensures row { result.1 ≡ (row_place self.now x).1 / 2 ^ row_level self.now }
+        ensures column_within { result.0 < side self.now.surface.width (row_level self.now) }
+        ensures row_within { result.1 < side self.now.surface.height (row_level self.now) }
+    {
+        let (u, v) = self.ground(x);
+        (
+            (on_ring(u, self.columns.part, self.columns.turn) >> 16) as u32,
+            (on_ring(v, self.rows.part, self.rows.turn) >> 16) as u32,
+        )
+    }
+
+    // The column and the row of the ground that pixel x shows, whole turns further on, in 1/256 texel.
+    #[inline(always)]
+    fn ground(&self, x: u32) -> (u64, u64)
+        requires { x < self.now.width }
+        ensures column { result.0 / 256 % self.now.surface.width ≡ (row_place self.now x).0 }
+        ensures row { result.1 / 256 % self.now.surface.height ≡ (row_place self.now x).1 }
+        ensures column_high { result.0 < 549755813888 }
+        ensures row_high { result.1 < 549755813888 }
+    {
+        let off = half_pixels(x, self.width);
+        (
+            whole_places(self.columns.middle - away(off, self.columns.across)),
+            whole_places(self.rows.middle + away(off, self.rows.across)),
         )
     }
 }
@@ -100,6 +175,7 @@ fn greatest_level(span: u64, last: u32) -> u32
     requires { span ≤ 16777216 }
     ensures value { result ≡ level_within span last }
     ensures within { result ≤ last }
+    ensures few { result ≤ 16 }
 {
     let texels = span / 256;
     if texels == 0 {
@@ -168,29 +244,66 @@ fn half_pixels(x: u32, width: u32) -> i64
     ensures low { negsuc 2046 ≤ℤ result }
     ensures high { result ≤ℤ pos 2047 }
 {
-    i64::from(2 * x + 1) - i64::from(width)
+    2 * i64::from(x) + 1 - i64::from(width)
 }
 
 // How far a pixel lies from the row's middle along one axis.
-fn step(off: i64, across: i64) -> i64
+fn away(off: i64, across: i64) -> i64
     requires off_low { negsuc 2046 ≤ℤ off }
     requires off_high { off ≤ℤ pos 2047 }
     requires across_low { negsuc 274877906943 ≤ℤ across }
     requires across_high { across ≤ℤ pos 274877906944 }
-    ensures value { result ≡ floor_div (off *ℤ across) 32768 }
-    ensures low { negsuc 17179869183 ≤ℤ result }
-    ensures high { result ≤ℤ pos 17179869184 }
+    ensures value { result ≡ off *ℤ across }
+    ensures low { negsuc 562675075514367 ≤ℤ result }
+    ensures high { result ≤ℤ pos 562675075514368 }
 {
-    (off * across) >> 15
+    off * across
 }
 
-// The texel that a place in 1/256 texel falls on, of a texture that repeats.
-fn texel_on_ring(place: i64, side: u32) -> u32
+// The 1/256 texel that a place in 1/2^23 texel falls on.
+fn whole_places(place: i64) -> u64
     requires low { pos 0 ≤ℤ place }
-    requires high { place <ℤ pos 549755813888 }
-    requires side { 1 ≤ side }
-    ensures value { result ≡ ring_place (floor_div place 256) side }
-    ensures within { result < side }
+    requires high { place <ℤ pos 18014398509481984 }
+    ensures value { pos result ≡ floor_div place 32768 }
+    ensures high { result < 549755813888 }
 {
-    (place as u64 >> 8) as u32 % side
+    place as u64 >> 15
+}
+
+// A place in 1/256 texel, in 1/2^23 texel.
+fn finer(place: i64) -> i64
+    requires low { pos 137438953472 ≤ℤ place }
+    requires high { place ≤ℤ pos 412316860416 }
+    ensures value { result ≡ place *ℤ pos 32768 }
+    ensures low { pos 4503599627370496 ≤ℤ result }
+    ensures high { result ≤ℤ pos 13510798882111488 }
+{
+    place * 32768
+}
+
+// How many of 2^64 parts of a turn 1/256 texel is, rounded up.
+fn part_of(side: u32) -> u64
+    requires side_low { 1 ≤ side }
+    requires side_high { side ≤ 16384 }
+    ensures { result ≡ part_of side }
+{
+    u64::MAX / (256 * u64::from(side)) + 1
+}
+
+// How many texels of a level a turn has, in 1/65536 texel.
+fn turn_at(side: u32, level: u32) -> u64
+    requires side { side ≤ 16384 }
+    requires level { level ≤ 16 }
+    ensures { result ≡ turn_at side level }
+{
+    u64::from(side) << (16 - level)
+}
+
+// Which of the equal pieces of a turn a place of 1/256 texel lies on.
+#[inline(always)]
+fn on_ring(place: u64, part: u64, pieces: u64) -> u64
+    requires { pieces ≤ 1073741824 }
+    ensures { result ≡ on_ring place part pieces }
+{
+    (u128::from(place.wrapping_mul(part)) * u128::from(pieces) >> 64) as u64
 }

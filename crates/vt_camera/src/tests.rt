@@ -79,11 +79,12 @@ fn level_choice(rt: HostRuntime) -> Result<(), Fail> {
     assert_eq!(rt; below.texel(0), (1, 3));
     assert_eq!(rt; below.texel(1), (1, 0));
 
-    // At level 1 these are (1, 1) and (1, 0).
     let row = square_row(rt.alloc(), 512)?;
     assert_eq!(rt; row.level(), 1);
     assert_eq!(rt; row.texel(0), (2, 3));
     assert_eq!(rt; row.texel(1), (2, 1));
+    assert_eq!(rt; row.texel_in_level(0), (1, 1));
+    assert_eq!(rt; row.texel_in_level(1), (1, 0));
     Ok(())
 }
 
@@ -114,6 +115,9 @@ fn slanted_rows(rt: HostRuntime) -> Result<(), Fail> {
     assert_eq!(rt; far.texel(0), (2, 5));
     assert_eq!(rt; far.texel(1), (4, 0));
     assert_eq!(rt; far.texel(2), (1, 2));
+    assert_eq!(rt; far.texel_in_level(0), (1, 2));
+    assert_eq!(rt; far.texel_in_level(1), (2, 0));
+    assert_eq!(rt; far.texel_in_level(2), (0, 1));
     Ok(())
 }
 
@@ -137,5 +141,6 @@ fn largest_numbers(rt: HostRuntime) -> Result<(), Fail> {
     let row = Row::of(&path, &camera, 0, &surface);
     assert_eq!(rt; row.level(), 16);
     assert_eq!(rt; row.texel(0), (11778, 12800));
+    assert_eq!(rt; row.texel_in_level(0), (0, 0));
     Ok(())
 }

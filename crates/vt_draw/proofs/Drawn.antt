@@ -1,14 +1,14 @@
 -- The samples of a picture, pixel by pixel and row by row.
-use Rattle.std.proofs.Common.{◌≡◌, ℕ, zero, suc, ◌+◌, ◌*◌, ◌≤◌, List, [], ◌∷◌, ◌++◌, length, take, drop, get_or, refl, sym, ap, ◌∙◌, append_assoc, add-zero, add-one, arith}
+use Rattle.std.proofs.Common.{◌≡◌, ℕ, zero, suc, ◌+◌, ◌*◌, ◌/◌, ◌^◌, ◌<◌, List, [], ◌∷◌, ◌++◌, length, take, get_or, refl, sym, ap, ◌∙◌, append_assoc, add-zero, add-one, arith}
 use Rattle.std.specs.List.{flat_map, range_with_len}
 use Rattle.std.proofs.lemmas.List.{append-nil, length-append}
 use Rattle.std.proofs.lemmas.List.Concat.{flat_map-append}
-use Rattle.std.proofs.Math.Seq.{drop-cons}
-use Rattle.vt_definitions.specs.Texels.{Source, bytes, red, green, blue}
+use Rattle.vt_definitions.specs.Texels.{Source, bytes}
 use Rattle.vt_camera.specs.declared.paths.Camera.{Camera}
 use Rattle.vt_camera.specs.declared.surfaces.Surface.{Surface}
 use Rattle.vt_camera.specs.Paths.{PathView}
-use Rattle.vt_camera.specs.Rows.{RowView, row_of}
+use Rattle.vt_camera.specs.Rows.{RowView, row_of, row_level, row_place}
+use Rattle.vt_mip.specs.Chains.{IsTexelRaster}
 use Rattle.vt_draw.specs.Plain.{shown_word, row_samples, picture_samples}
 
 -- one number more at the end of a range
@@ -24,15 +24,13 @@ over_more f n =
     ∙ flat_map-append f (range_with_len 0 n) (n ∷ [])
     ∙ ap (λ (t : List ℕ). flat_map f (range_with_len 0 n) ++ t) (append-nil (f n))
 
-pub row_samples-none : (source : Source) (row : RowView) (held : List ℕ) → held ≡ held ++ row_samples source row 0
+pub row_samples-none : (source : Source) (row : RowView) → ◌≡◌ {A = List ℕ} [] (row_samples source row 0)
 unfolding row_samples
-row_samples-none source row held = sym (append-nil held)
+row_samples-none source row = refl
 
-pub row_samples-more : (source : Source) (row : RowView) (x : ℕ) (held : List ℕ) → (held ++ row_samples source row x) ++ bytes (shown_word source row x) ≡ held ++ row_samples source row (x + 1)
+row_samples-more : (source : Source) (row : RowView) (x : ℕ) → row_samples source row x ++ bytes (shown_word source row x) ≡ row_samples source row (x + 1)
 unfolding row_samples
-row_samples-more source row x held =
-    append_assoc held (row_samples source row x) (bytes (shown_word source row x))
-    ∙ ap (λ (t : List ℕ). held ++ t) (sym (over_more (λ (i : ℕ). bytes (shown_word source row i)) x))
+row_samples-more source row x = sym (over_more (λ (i : ℕ). bytes (shown_word source row i)) x)
 
 pub picture_samples-none : (source : Source) (surface : Surface) (path : PathView) (camera : Camera) (held : List ℕ) → held ≡ held ++ picture_samples source surface path camera 0
 unfolding picture_samples
@@ -58,14 +56,22 @@ thrice f m (suc n) each =
 three : {a b c x y z : ℕ} → a ≡ x → b ≡ y → c ≡ z → ◌≡◌ {A = List ℕ} (a ∷ b ∷ c ∷ []) (x ∷ y ∷ z ∷ [])
 three p q r = cc
 
--- the three bytes at a place of a row of texels
-pub texel_at : (texels : List ℕ) (at w : ℕ) → at + 3 ≤ length texels → get_or texels at 0 ≡ red w → get_or texels (at + 1) 0 ≡ green w → get_or texels (at + 2) 0 ≡ blue w
-    → take 3 (drop at texels) ≡ bytes w
-texel_at texels at w inside r g b =
-    ap (take 3) (drop-cons texels at 0 (omega arith))
-    ∙ ap (λ (t : List ℕ). get_or texels at 0 ∷ take 2 t) (drop-cons texels (suc at) 0 (omega arith))
-    ∙ ap (λ (t : List ℕ). get_or texels at 0 ∷ get_or texels (suc at) 0 ∷ take 1 t) (drop-cons texels (suc (suc at)) 0 (omega arith))
-    ∙ three r (ap (λ (i : ℕ). get_or texels i 0) (sym (add-one at)) ∙ g) (ap (λ (i : ℕ). get_or texels i 0) (omega arith) ∙ b)
+-- one pixel more of a row that is drawn
+pub pixel_drawn : (source : Source) (row : RowView) (x level column line columns lines at width : ℕ) (texels before after : List ℕ) → IsTexelRaster (source level) columns lines texels
+    → level ≡ row_level row → column ≡ (row_place row x).0 / 2 ^ row_level row → line ≡ (row_place row x).1 / 2 ^ row_level row → column < columns → line < lines → width ≡ columns → at ≡ 3 * (line * width + column)
+    → take (3 * x) before ≡ row_samples source row x → take (3 * x + 3) after ≡ take (3 * x) before ++ get_or texels at 0 ∷ get_or texels (at + 1) 0 ∷ get_or texels (at + 2) 0 ∷ []
+    → take (3 * (x + 1)) after ≡ row_samples source row (x + 1)
+pixel_drawn source row x level column line columns lines at width texels before after is k i j wide high w e so_far written =
+    let place : at ≡ 3 * (line * columns + column) = e ∙ ap (λ (n : ℕ). 3 * (line * n + column)) w in
+    let texel : bytes (source level column line) ≡ bytes (shown_word source row x) = rw (k, i, j) refl in
+    ap (λ (n : ℕ). take n after) (let more : 3 * (x + 1) ≡ 3 * x + 3 = omega arith in more)
+    ∙ written
+    ∙ ap (λ (t : List ℕ). t ++ get_or texels at 0 ∷ get_or texels (at + 1) 0 ∷ get_or texels (at + 2) 0 ∷ []) so_far
+    ∙ ap (λ (t : List ℕ). row_samples source row x ++ t) (
+    three (ap (λ (n : ℕ). get_or texels n 0) place ∙ is.red_at column line wide high) (ap (λ (n : ℕ). get_or texels (n + 1) 0) place ∙ is.green_at column line wide high) (ap (λ (n : ℕ). get_or texels (n + 2) 0) place ∙ is.blue_at column line wide high)
+    ∙ texel
+    )
+    ∙ row_samples-more source row x
 
 pub length-row_samples : (source : Source) (row : RowView) (columns : ℕ) → length (row_samples source row columns) ≡ 3 * columns
 unfolding row_samples

@@ -1,16 +1,17 @@
 //! Drawing the plain picture.
 
-ghost use Rattle.std.specs.Prelude.{◌≡◌, ◌*◌, ◌/◌, ◌<◌, ◌≤◌, ◌^◌, ◌++◌, length, IfOk, OnOk};
-ghost use Rattle.vt_definitions.specs.Texels.{bytes};
+ghost use Rattle.std.specs.Prelude.{◌≡◌, ◌+◌, ◌*◌, ◌<◌, ◌≤◌, ◌++◌, ◌∷◌, [], length, slice_index, take, IfOk, OnOk};
 ghost use Rattle.vt_camera.specs.Paths.{IsCamera};
 ghost use Rattle.vt_camera.specs.Rows.{IsSurface};
-ghost use Rattle.vt_mip.specs.Chains.{chain_levels, chain_width, chain_height};
 ghost use Rattle.vt_draw.specs.Plain.{chain_of, surface_of, row_samples, picture_samples, plain_samples};
 
 use std::alloc::{AllocError, Global};
 use vt_camera::{Camera, Path, Row, Surface};
 use vt_mip::Chain;
 use vt_outside::NoMemory;
+
+// How many samples the longest row of a picture has.
+const MOST_ROW_SIZE: usize = 6144;
 
 /// The samples of the plain picture of the path's picture with this number: three bytes a pixel, row by row from the top.
 /// Each pixel is the chain's texel at its row's own level (van Waveren 2012).
@@ -26,9 +27,11 @@ pub fn draw_plain(
 {
     let surface = surface_of(chain);
     let camera = path.camera(picture);
-    let size = 3 * path.width() as usize * path.height() as usize;
-    let mut samples = Vec::with_capacity(alloc, size)?;
-    draw_rows(chain, path, &camera, &surface, &mut samples)?;
+    let row_size = 3 * path.width() as usize;
+    let mut samples = Vec::with_capacity(alloc, row_size * path.height() as usize)?;
+    let mut row_samples = [0; MOST_ROW_SIZE];
+    let row_samples = &mut row_samples[..row_size];
+    draw_rows(chain, path, &camera, &surface, row_samples, &mut samples)?;
     Ok(samples)
 }
 
@@ -47,62 +50,60 @@ fn surface_of(chain: &Chain) -> Surface
     }
 }
 
-// Adds the samples of all rows of the picture that a camera takes.
+// Adds the samples of all rows of the picture that a camera takes, each by way of a row's room.
 fn draw_rows(
     chain: &Chain,
     path: &Path,
     camera: &Camera,
     surface: &Surface,
+    row_samples: &mut [u8],
     samples: &mut Vec<u8>,
 ) -> Result<(), AllocError>
     requires surface { surface.now ≡ surface_of chain.now.base chain.now.tile }
     requires limits { IsSurface surface.now }
     requires camera { IsCamera camera.now }
     requires levels { surface.now.levels ≤ 14 }
+    requires room { length row_samples.old ≡ 3 * path.now.width }
     ensures { OnOk result (samples.new.items ≡ samples.old.items ++ picture_samples (chain_of chain.now.base) surface.now path.now camera.now path.now.height) }
 {
     for y in 0..path.height() {
         let row = Row::of(path, camera, y, surface);
-        draw_plain_row(chain, &row, path.width(), samples)?;
+        draw_plain_row(chain, row, path.width(), row_samples);
+        samples.extend_from_slice(row_samples)?;
     }
     Ok(())
 }
 
-// Adds the samples of a row of so many pixels.
-fn draw_plain_row(
-    chain: &Chain,
-    row: &Row,
-    columns: u32,
-    samples: &mut Vec<u8>,
-) -> Result<(), AllocError>
-    requires surface { row.now.surface ≡ surface_of chain.now.base chain.now.tile }
-    requires width { columns ≤ row.now.width }
-    requires levels { row.now.surface.levels ≤ 14 }
-    ensures { OnOk result (samples.new.items ≡ samples.old.items ++ row_samples (chain_of chain.now.base) row.now columns) }
+// Writes the samples of a row of so many pixels. It takes the row by value, for then no write can be one to the row's numbers.
+#[inline(never)]
+fn draw_plain_row(chain: &Chain, row: Row, columns: u32, out: &mut [u8])
+    requires surface { row.surface ≡ surface_of chain.now.base chain.now.tile }
+    requires width { columns ≤ row.width }
+    requires levels { row.surface.levels ≤ 14 }
+    requires room { length out.old ≡ 3 * columns }
+    ensures { out.new ≡ row_samples (chain_of chain.now.base) row columns }
 {
     let level = row.level();
+    let texels = chain.samples(level);
+    let (width, _) = chain.size(level);
     for x in 0..columns {
-        let (column, line) = row.texel(x);
-        push_texel(chain, level, column, line, samples)?;
+        let (column, line) = row.texel_in_level(x);
+        let at = 3 * (line as usize * width as usize + column as usize);
+        put_texel(texels, at, out, 3 * x as usize);
     }
-    Ok(())
 }
 
-// Adds the samples of the texel of a level that covers a place of level 0.
-fn push_texel(
-    chain: &Chain,
-    level: u32,
-    column: u32,
-    line: u32,
-    samples: &mut Vec<u8>,
-) -> Result<(), AllocError>
-    requires level { level < chain_levels chain.now }
-    requires few { level < 14 }
-    requires column { column < chain_width chain.now 0 }
-    requires line { line < chain_height chain.now 0 }
-    ensures { OnOk result (samples.new.items ≡ samples.old.items ++ bytes (chain_of chain.now.base level (column / 2 ^ level) (line / 2 ^ level))) }
+// Copies the three samples of a texel behind those that stand before their place.
+#[inline(always)]
+fn put_texel(texels: &[u8], from: usize, out: &mut [u8], to: usize)
+    requires from { from + 3 ≤ length texels.now }
+    requires to { to + 3 ≤ length out.old }
+    ensures { take (to + 3) out.new ≡ take to out.old ++ slice_index texels.now from ∷ slice_index texels.now (from + 1) ∷ slice_index texels.now (from + 2) ∷ [] }
 {
-    let texels = chain.row(level, line >> level);
-    let at = 3 * (column >> level) as usize;
-    samples.extend_from_slice(&texels[at..at + 3])
+    let red = texels[from];
+    let green = texels[from + 1];
+    let blue = texels[from + 2];
+    out[to] = red;
+    out[to + 1] = green;
+    out[to + 2] = blue;
 }

@@ -7,9 +7,9 @@ use Rattle.vt_definitions.specs.Sides.{side, level_count}
 use Rattle.vt_definitions.proofs.Levels.{level_count_least}
 use Rattle.vt_ppm.specs.Image.{Picture, IsPicture}
 use Rattle.vt_mip.specs.Halves.{IsLevel, IsMadeFrom, IsChainFront, IsLastFitting, IsGrowing, IsWholeChain, HasBytes, level_of, blank}
-use Rattle.vt_mip.specs.Chains.{ChainView, chain_levels, chain_width, chain_height, chain_texel, IsTexelRow}
+use Rattle.vt_mip.specs.Chains.{ChainView, chain_levels, chain_width, chain_height, chain_texel, IsTexelRow, IsTexelRaster}
 use Rattle.vt_mip.proofs.Rasters.{row_room}
-use Rattle.vt_mip.proofs.Words.{first_level, next_level, texel_row}
+use Rattle.vt_mip.proofs.Words.{first_level, next_level, texel_row, texel_raster}
 
 -- a texture alone
 pub front_first : (base : Picture) (t : ℕ) → IsPicture base → IsChainFront (base ∷ []) t
@@ -143,3 +143,13 @@ chain_row levels t k y w p v samples row view whole below high read same wide cu
 
   fits : 3 * w * y + (3 * w * y + 3 * w - 3 * w * y) ≤ length p.samples
   fits = rw wide (omega (arith, room))
+
+-- the samples of the level that was read from the list of levels
+pub chain_raster : (levels : List Picture) (t k : ℕ) (p : Picture) (v : ChainView) (samples raster : List ℕ) → record { base = level_of levels 0; tile = t } ≡ v → IsWholeChain levels t → k < chain_levels v → p ≡ get_or levels k p → samples ≡ p.samples → raster ≡ samples → HasBytes samples
+    → IsTexelRaster (chain_texel v k) (chain_width v k) (chain_height v k) raster
+chain_raster levels t k p v samples raster view whole below read same as_it_is bytes = rw (← view, as_it_is, same) (texel_raster (level_of levels 0) k p level (rw same at bytes)) where
+  low : k < length levels
+  low = omega (arith, whole.count, (rw (← view) at below))
+
+  level : IsLevel (level_of levels 0) k p
+  level = rw (get_or_read levels k p low read blank) (whole.front.each k low)

@@ -1,3 +1,4 @@
 pub mod Rasters
 pub mod Words
 pub mod Fronts
+pub mod Blocks

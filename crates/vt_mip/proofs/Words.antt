@@ -5,7 +5,7 @@ use Rattle.std.proofs.lemmas.List.{length-take-le, length-drop}
 use Rattle.vt_definitions.specs.Sides.{side}
 use Rattle.vt_definitions.specs.Texels.{word, red, green, blue}
 use Rattle.vt_ppm.specs.Image.{Picture, IsPicture, sample_of, texel_of}
-use Rattle.vt_mip.specs.Chains.{box, box_word, clamped, halved, chain, IsTexelRow}
+use Rattle.vt_mip.specs.Chains.{box, box_word, clamped, halved, chain, IsTexelRow, IsTexelRaster}
 use Rattle.vt_mip.specs.Halves.{IsHalf, HasBytes, IsLevel, raster_sample}
 use Rattle.vt_mip.proofs.Rasters.{row_sample, box_same, clamped_below}
 
@@ -105,3 +105,12 @@ texel_row base k p y n m level bytes high e f room = record {
 
   word : (x : ℕ) → x < side base.width k → texel_of p x y ≡ chain (texel_of base) base.width base.height k x y
   word x wide = level.texels x y (inside x wide) high
+
+-- the bytes of a level hold the chain's words
+pub texel_raster : (base : Picture) (k : ℕ) (p : Picture) → IsLevel base k p → HasBytes p.samples → IsTexelRaster (chain (texel_of base) base.width base.height k) (side base.width k) (side base.height k) p.samples
+texel_raster base k p level bytes = rw (← level.columns, ← level.rows) (record {
+  full = level.lawful.full;
+  red_at = λ x y wide high. (let e0 : 3 * (y * p.width + x) ≡ 3 * (y * p.width + x) + 0 = omega arith in ap (λ (i : ℕ). slice_index p.samples i) e0) ∙ sym (red-texel p x y bytes) ∙ ap red (level.texels x y wide high);
+  green_at = λ x y wide high. sym (green-texel p x y bytes) ∙ ap green (level.texels x y wide high);
+  blue_at = λ x y wide high. sym (blue-texel p x y bytes) ∙ ap blue (level.texels x y wide high);
+})

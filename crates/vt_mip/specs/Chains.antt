@@ -52,3 +52,10 @@ pub record IsTexelRow (word_at : ℕ → ℕ) (columns : ℕ) (bytes : List ℕ)
   pub red_at : (x : ℕ) → x < columns → slice_index bytes (3 * x) ≡ red (word_at x)
   pub green_at : (x : ℕ) → x < columns → slice_index bytes (3 * x + 1) ≡ green (word_at x)
   pub blue_at : (x : ℕ) → x < columns → slice_index bytes (3 * x + 2) ≡ blue (word_at x)
+
+-- bytes that hold the words of a raster of so many columns and rows, three bytes a texel, red first, row by row (this project's profile)
+pub record IsTexelRaster (word_at : ℕ → ℕ → ℕ) (columns rows : ℕ) (bytes : List ℕ) : Type 0 where
+  pub full : length bytes ≡ 3 * (columns * rows)
+  pub red_at : (x y : ℕ) → x < columns → y < rows → slice_index bytes (3 * (y * columns + x)) ≡ red (word_at x y)
+  pub green_at : (x y : ℕ) → x < columns → y < rows → slice_index bytes (3 * (y * columns + x) + 1) ≡ green (word_at x y)
+  pub blue_at : (x y : ℕ) → x < columns → y < rows → slice_index bytes (3 * (y * columns + x) + 2) ≡ blue (word_at x y)

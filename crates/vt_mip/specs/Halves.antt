@@ -8,6 +8,14 @@ use Rattle.vt_mip.specs.Chains.{box, clamped, chain}
 pub record IsHalvedRow (top bottom : List ℕ) (w n : ℕ) (out : List ℕ) : Type 0 where
   pub samples : (x c : ℕ) → x < n → c < 3 → slice_index out (3 * x + c) ≡ box (slice_index top (3 * clamped w (2 * x) + c)) (slice_index top (3 * clamped w (2 * x + 1) + c)) (slice_index bottom (3 * clamped w (2 * x) + c)) (slice_index bottom (3 * clamped w (2 * x + 1) + c))
 
+-- the first n samples are the boxes of a texel and the one behind it, of two rows (this project's profile)
+pub record AreBoxes (top bottom : List ℕ) (n : ℕ) (boxes : List ℕ) : Type 0 where
+  pub each : (i : ℕ) → i < n → slice_index boxes i ≡ box (slice_index top i) (slice_index top (i + 3)) (slice_index bottom i) (slice_index bottom (i + 3))
+
+-- the first n texels are every other one of some (this project's profile)
+pub record AreEveryOther (texels : List ℕ) (n : ℕ) (out : List ℕ) : Type 0 where
+  pub each : (x c : ℕ) → x < n → c < 3 → slice_index out (3 * x + c) ≡ slice_index texels (6 * x + c)
+
 -- the sample of a raster of w columns (this project's profile)
 abbrev pub raster_sample : List ℕ → ℕ → ℕ → ℕ → ℕ → ℕ
 raster_sample samples w x y c = slice_index samples (3 * (y * w + x) + c)

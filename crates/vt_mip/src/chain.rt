@@ -1,7 +1,7 @@
 ghost use Rattle.std.specs.Prelude.{◌≡◌, ℕ, ◌+◌, ◌-◌, ◌*◌, ◌<◌, ◌≤◌, ◌++◌, ◌∷◌, [], ◌↔◌, length, IfOk, OnOk, IsTrue, vec_len, slice_range};
 ghost use Rattle.vt_ppm.specs.Image.{Picture, IsPicture};
 ghost use Rattle.vt_definitions.specs.Tiles.{IsTileSide};
-ghost use Rattle.vt_mip.specs.Chains.{ChainView, chain_levels, chain_width, chain_height, chain_texel, IsTexelRow};
+ghost use Rattle.vt_mip.specs.Chains.{ChainView, chain_levels, chain_width, chain_height, chain_texel, IsTexelRow, IsTexelRaster};
 ghost use Rattle.vt_mip.specs.Halves.{IsChainFront, IsWholeChain, IsMadeFrom, IsLastFitting, HasBytes};
 
 use crate::halving::halved_image;
@@ -57,6 +57,14 @@ fn raster_row(samples: &[u8], width: usize, y: usize) -> &[u8]
     let row = 3 * width;
     let from = row * y;
     &samples[from..from + row]
+}
+
+/// The samples of a raster as they are.
+fn raster(samples: &[u8]) -> &[u8]
+    ensures same { result.now ≡ samples.now }
+    ensures bytes { HasBytes samples.now }
+{
+    samples
 }
 
 impl Chain {
@@ -116,6 +124,14 @@ impl Chain {
     {
         let level = &self.levels[level as usize];
         raster_row(level.samples(), level.width() as usize, y as usize)
+    }
+
+    /// The samples of a level, three bytes a texel, red first, row by row from the top.
+    pub fn samples(&self, level: u32) -> &[u8]
+        requires { level < chain_levels self.now }
+        ensures { IsTexelRaster (chain_texel self.now level) (chain_width self.now level) (chain_height self.now level) result.now }
+    {
+        raster(self.levels[level as usize].samples())
     }
 
     /// The tile side at which the chain ends.

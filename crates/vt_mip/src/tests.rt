@@ -18,6 +18,10 @@ fn four_by_four(rt: HostRuntime) -> Result<(), Fail> {
     assert_eq!(rt; chain.texel(1, 0, 0), 0x030303);
     assert_eq!(rt; chain.texel(1, 1, 0), 0x050505);
     assert_eq!(rt; chain.row(1, 1), [11, 11, 11, 13, 13, 13].as_slice());
+    assert_eq!(rt;
+        chain.samples(1),
+        [3, 3, 3, 5, 5, 5, 11, 11, 11, 13, 13, 13].as_slice()
+    );
     Ok(())
 }
 

@@ -1,5 +1,6 @@
 pub mod Accepted
 pub mod Faults
+pub mod Lines
 pub mod Opening
 pub mod Spans
 pub mod Stored

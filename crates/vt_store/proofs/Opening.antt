@@ -1,13 +1,13 @@
 -- What the first bytes of a store tell of it.
-use Rattle.std.proofs.Common.{◌≡◌, ℕ, ◌+◌, ◌-◌, ◌*◌, ◌<◌, ◌≤◌, min, Option, Some, None, Ok, Err, List, length, take, drop, get_or, refl, sym, ap, ◌∙◌, subst, arith, rules}
+use Rattle.std.proofs.Common.{◌≡◌, ℕ, ◌+◌, ◌*◌, ◌<◌, ◌≤◌, min, Option, Some, None, Ok, Err, List, length, take, refl, sym, ap, ◌∙◌, subst, arith}
 use Rattle.std.proofs.lemmas.List.{take_min, take-take, get_or-take}
 use Rattle.std.proofs.lemmas.Nat.{mul-le}
-use Rattle.std.specs.Prelude.{Result, IfOk, IfErr, IfSome, OnOk, OnErr, IsErr, IsErrOf, slice_index}
+use Rattle.std.specs.Prelude.{Result, IfOk, IfErr, IfSome, OnOk, IsErrOf, slice_index}
 use Rattle.vt_outside.specs.Counts.{Rose}
 use Rattle.vt_outside.specs.Files.{IsPiece}
 use Rattle.vt_pages.specs.Shape.{Shape}
 use Rattle.vt_pages.specs.Pages.{pages_of}
-use Rattle.vt_store.specs.Format.{fault_of, shape_in, number_at, store_fault, store_length, tile_start, tile_length, header_length}
+use Rattle.vt_store.specs.Format.{fault_of, shape_in, number_at, store_fault, store_length, tile_start, tile_length}
 use Rattle.vt_store.specs.Opened.{IsStore, IsStoreIfTold}
 use Rattle.vt_store.specs.Refusals.{IsFault}
 use Rattle.vt_store.specs.declared.error.StoreError.{StoreError}

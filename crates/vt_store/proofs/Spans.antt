@@ -1,15 +1,10 @@
 -- Bytes that stand one after the other, piece by piece.
-use Rattle.std.proofs.Common.{◌≡◌, ℕ, zero, suc, ◌+◌, ◌-◌, ◌*◌, ◌/◌, ◌%◌, ◌<◌, ◌≤◌, List, [], ◌∷◌, ◌++◌, length, get_or, min, refl, sym, ap, ◌∙◌, arith, append_assoc, add-one}
-use Rattle.std.proofs.lemmas.List.{append-nil, length-append, get_or_append_left, get_or-append-add}
-use Rattle.std.specs.Prelude.{flat_map, slice_index}
+use Rattle.std.proofs.Common.{◌≡◌, ℕ, zero, suc, ◌+◌, ◌-◌, ◌*◌, ◌/◌, ◌<◌, ◌≤◌, ◌⊎◌, inl, inr, List, ◌++◌, length, get_or, take, drop, min, sym, ap, ◌∙◌, arith, append_assoc}
+use Rattle.std.proofs.lemmas.List.{length-append, length-drop, length-take-le, get_or-take, get_or-drop, get_or_append_left, get_or-append_right, get_or-append-add}
+use Rattle.std.specs.Prelude.{flat_map}
 use Rattle.std.specs.List.{range_with_len}
-use Rattle.vt_store.specs.Written.{clamped_bytes, span_bytes}
-
-pub span_suc : {X : Type 0} (f : ℕ → List X) (a n : ℕ) → flat_map f (range_with_len a (suc n)) ≡ flat_map f (range_with_len a n) ++ f (a + n)
-span_suc f a zero = let e : a + 0 ≡ a = omega arith in append-nil (f a) ∙ ap f (sym e)
-span_suc f a (suc n) =
-    let e : a + 1 + n ≡ a + suc n = omega arith in
-    ap (λ l. f a ++ l) (span_suc f (a + 1) n) ∙ sym (append_assoc (f a) (flat_map f (range_with_len (a + 1) n)) (f (a + 1 + n))) ∙ ap (λ i. (f a ++ flat_map f (range_with_len (a + 1) n)) ++ f i) e
+use borrow.Rule.Slice.PartMut.{put_mid, post_of}
+use Rattle.vt_store.specs.Written.{IsSpan, clamped_sample}
 
 pub span_add : {X : Type 0} (f : ℕ → List X) (a n m : ℕ) → flat_map f (range_with_len a (n + m)) ≡ flat_map f (range_with_len a n) ++ flat_map f (range_with_len (a + n) m)
 span_add f a zero m =
@@ -20,11 +15,6 @@ span_add f a (suc n) m =
     let e : suc n + m ≡ suc (n + m) = omega arith in
     let z : a + 1 + n ≡ a + suc n = omega arith in
     ap (λ i. flat_map f (range_with_len a i)) e ∙ ap (λ l. f a ++ l) (span_add f (a + 1) n m ∙ ap (λ i. flat_map f (range_with_len (a + 1) n) ++ flat_map f (range_with_len i m)) z) ∙ sym (append_assoc (f a) (flat_map f (range_with_len (a + 1) n)) (flat_map f (range_with_len (a + suc n) m)))
-
-pub span_same : {X : Type 0} (f g : ℕ → List X) (a b n : ℕ) → ((i : ℕ) → i < n → f (a + i) ≡ g (b + i)) → flat_map f (range_with_len a n) ≡ flat_map g (range_with_len b n)
-span_same f g a b zero same = refl
-span_same f g a b (suc n) same =
-    span_suc f a n ∙ ap (λ l. l ++ f (a + n)) (span_same f g a b n (λ i h. same i (omega arith))) ∙ ap (λ l. flat_map g (range_with_len b n) ++ l) (same n (omega arith)) ∙ sym (span_suc g b n)
 
 pub span_length : {X : Type 0} (f : ℕ → List X) (a n t : ℕ) → ((i : ℕ) → length (f i) ≡ t) → length (flat_map f (range_with_len a n)) ≡ n * t
 span_length f a zero t each = let e : 0 * t ≡ 0 = omega arith in sym e
@@ -42,23 +32,38 @@ span_at f a (suc n) t (suc i) j d each h short =
     let z : a + 1 + i ≡ a + suc i = omega arith in
     ap (λ m. get_or (f a ++ flat_map f (range_with_len (a + 1) n)) m d) e ∙ get_or-append-add (f a) (flat_map f (range_with_len (a + 1) n)) (i * t + j) d ∙ span_at f (a + 1) n t i j d each (omega arith) short ∙ ap (λ m. get_or (f m) j d) z
 
--- one texel more
-pub span_grown : (old row : List ℕ) (first x : ℕ) → first ≤ x → (old ++ span_bytes row first (x - first)) ++ clamped_bytes row x ≡ old ++ span_bytes row first (x + 1 - first)
-unfolding span_bytes
-span_grown old row first x h =
-    let n : x + 1 - first ≡ suc (x - first) = omega arith in
-    let here : first + (x - first) ≡ x = omega arith in
-    append_assoc old (flat_map (clamped_bytes row) (range_with_len first (x - first))) (clamped_bytes row x)
-    ∙ ap (λ l. old ++ l) (sym (span_suc (clamped_bytes row) first (x - first) ∙ ap (λ i. flat_map (clamped_bytes row) (range_with_len first (x - first)) ++ clamped_bytes row i) here))
-    ∙ ap (λ m. old ++ flat_map (clamped_bytes row) (range_with_len first m)) (sym n)
+-- a sample of a slice of a row
+cut_sample : (row : List ℕ) (at n i place : ℕ) → i < n → place ≡ at + i → get_or (take n (drop at row)) i 0 ≡ get_or row place 0
+cut_sample row at n i place inside e = get_or-take n (drop at row) i 0 inside ∙ get_or-drop at row i 0 ∙ ap (λ m. get_or row m 0) (sym e)
 
-pub no_span : (old row : List ℕ) (first : ℕ) → old ≡ old ++ span_bytes row first (first - first)
-unfolding span_bytes
-no_span old row first = let z : first - first ≡ 0 = omega arith in sym (append-nil old) ∙ ap (λ n. old ++ flat_map (clamped_bytes row) (range_with_len first n)) (sym z)
+-- the texels of a row from a column on, and behind them the row's last texel
+pub span_put : (row out copied filled : List ℕ) (first end count k m j : ℕ) → first < length row / 3 → end ≡ min (first + count) (length row / 3) → length out ≡ 3 * count
+    → copied ≡ take (3 * end - 3 * first) (drop (3 * first) row) → m ≡ length (take (length (copied ++ drop (3 * (end - first)) out) - 3 * (end - first)) (drop (3 * (end - first)) (copied ++ drop (3 * (end - first)) out))) → j ≡ 3 → length filled ≡ m
+    → ((x c : ℕ) → x < m / 3 → c < 3 → get_or filled (3 * x + c) 0 ≡ get_or (take j (drop (3 * (length row / 3) - 3) row)) c 0)
+    → IsSpan row first count (put_mid (3 * (end - first)) k (copied ++ drop (3 * (end - first)) out) filled)
+span_put row out copied filled first end count k m j inside cut room same size three whole fill = record {
+  each = λ x c p q. each x c p q (grind arith);
+} where
+  copied_length : length copied ≡ 3 * (end - first)
+  copied_length = ap length same ∙ length-take-le (3 * end - 3 * first) (drop (3 * first) row) (omega (arith, length-drop (3 * first) row)) ∙ omega arith
 
-pub span_step : (old now new row : List ℕ) (first x m : ℕ) → first ≤ x → m ≡ min x (length row / 3 - 1) → now ≡ old ++ span_bytes row first (x - first)
-    → new ≡ now ++ slice_index row (3 * m) ∷ slice_index row (3 * m + 1) ∷ slice_index row (3 * m + 2) ∷ [] → new ≡ old ++ span_bytes row first (x + 1 - first)
-span_step old now new row first x m h at so_far grown =
-    grown ∙ ap (λ l. l ++ slice_index row (3 * m) ∷ slice_index row (3 * m + 1) ∷ slice_index row (3 * m + 2) ∷ []) so_far
-    ∙ ap (λ i. (old ++ span_bytes row first (x - first)) ++ slice_index row (3 * i) ∷ slice_index row (3 * i + 1) ∷ slice_index row (3 * i + 2) ∷ []) at
-    ∙ span_grown old row first x h
+  front_length : length (take (3 * (end - first)) (copied ++ drop (3 * (end - first)) out)) ≡ 3 * (end - first)
+  front_length = length-take-le (3 * (end - first)) (copied ++ drop (3 * (end - first)) out) (omega (arith, length-append copied (drop (3 * (end - first)) out), copied_length))
+
+  rest : m ≡ 3 * count - 3 * (end - first)
+  rest = size ∙ length-take-le (length (copied ++ drop (3 * (end - first)) out) - 3 * (end - first)) (drop (3 * (end - first)) (copied ++ drop (3 * (end - first)) out)) (omega (arith, length-drop (3 * (end - first)) (copied ++ drop (3 * (end - first)) out)))
+      ∙ omega (arith, length-append copied (drop (3 * (end - first)) out), copied_length, length-drop (3 * (end - first)) out)
+
+  each : (x c : ℕ) → x < count → c < 3 → (x < end - first) ⊎ (end - first ≤ x) → get_or (put_mid (3 * (end - first)) k (copied ++ drop (3 * (end - first)) out) filled) (3 * x + c) 0 ≡ clamped_sample row (first + x) c
+  each x c p q (inl h) =
+      get_or_append_left (take (3 * (end - first)) (copied ++ drop (3 * (end - first)) out)) (filled ++ post_of (3 * (end - first)) k (copied ++ drop (3 * (end - first)) out)) 0 (3 * x + c) (omega (arith, front_length))
+      ∙ get_or-take (3 * (end - first)) (copied ++ drop (3 * (end - first)) out) (3 * x + c) 0 (omega arith)
+      ∙ get_or_append_left copied (drop (3 * (end - first)) out) 0 (3 * x + c) (omega (arith, copied_length))
+      ∙ ap (λ l. get_or l (3 * x + c) 0) same
+      ∙ cut_sample row (3 * first) (3 * end - 3 * first) (3 * x + c) (3 * min (first + x) (length row / 3 - 1) + c) (omega arith) (omega arith)
+  each x c p q (inr h) =
+      get_or-append_right (take (3 * (end - first)) (copied ++ drop (3 * (end - first)) out)) (filled ++ post_of (3 * (end - first)) k (copied ++ drop (3 * (end - first)) out)) (3 * (end - first)) (3 * x + c) 0 front_length (omega arith)
+      ∙ ap (λ i. get_or (filled ++ post_of (3 * (end - first)) k (copied ++ drop (3 * (end - first)) out)) i 0) (let s : 3 * x + c - 3 * (end - first) ≡ 3 * (x - (end - first)) + c = omega arith in s)
+      ∙ get_or_append_left filled (post_of (3 * (end - first)) k (copied ++ drop (3 * (end - first)) out)) 0 (3 * (x - (end - first)) + c) (omega (arith, rest))
+      ∙ fill (x - (end - first)) c (omega (arith, rest)) q
+      ∙ cut_sample row (3 * (length row / 3) - 3) j c (3 * min (first + x) (length row / 3 - 1) + c) (omega arith) (omega arith)

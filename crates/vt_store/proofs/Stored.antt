@@ -1,25 +1,24 @@
 -- What a store holds.
-use Rattle.std.proofs.Common.{◌≡◌, ℕ, ◌+◌, ◌-◌, ◌*◌, ◌/◌, ◌%◌, ◌^◌, ◌<◌, ◌≤◌, Bool, true, Option, Some, None, List, [], ◌∷◌, ◌++◌, length, take, drop, get_or, refl, sym, ap, ◌∙◌, arith, mul_comm, bytes_eq}
-use Rattle.std.proofs.lemmas.List.{length-append, get_or-append-add, get_or-take, get_or-drop}
+use Rattle.std.proofs.Common.{◌≡◌, ℕ, ◌+◌, ◌*◌, ◌/◌, ◌%◌, ◌^◌, ◌<◌, ◌≤◌, true, None, List, length, take, drop, refl, sym, ap, ◌∙◌, arith, mul_comm, bytes_eq}
+use Rattle.std.proofs.lemmas.List.{get_or-append-add, get_or-take, get_or-drop}
 use Rattle.std.proofs.lemmas.List.FromFn.{get_or-map-range_with_len}
-use Rattle.std.proofs.lemmas.Nat.{mul-add-lt, mul-le, mod_below}
+use Rattle.std.proofs.lemmas.Nat.{mul-add-lt, mod_below}
 use Rattle.std.specs.Prelude.{slice_index, flat_map}
 use Rattle.std.specs.List.{range_with_len}
 use Rattle.vt_definitions.specs.Texels.{Source, word, red, green, blue, bytes}
 use Rattle.vt_outside.specs.Files.{IsPiece}
-use Rattle.vt_pages.specs.Shape.{Shape, shape_of}
-use Rattle.vt_pages.specs.Pages.{IsPageAt, pages_of, refusal_of, name_at, texel_page, clamped_word, tile_words}
+use Rattle.vt_pages.specs.Shape.{Shape}
+use Rattle.vt_pages.specs.Pages.{pages_of, refusal_of, name_at, texel_page, clamped_word, tile_words}
 use Rattle.vt_pages.specs.Laws.{IsInside}
 use Rattle.vt_pages.proofs.Lines.{texel_is_page}
 use Rattle.vt_pages.proofs.Tiles.{tiles_hold_places}
-use Rattle.vt_store.specs.Format.{number_bytes, number_at, magic, header_bytes, header_length, tile_length, tile_start, tile_bytes, tiles_bytes, store_bytes, store_length, shape_in, store_fault, texel_start, stored}
+use Rattle.vt_store.specs.Format.{number_at, magic, header_bytes, tile_length, tile_start, tile_bytes, tiles_bytes, store_bytes, store_length, shape_in, stored}
 use Rattle.vt_store.specs.Laws.{StoresOpen, StoresHoldSources, PiecesHoldTexels}
-use Rattle.vt_store.specs.Opened.{IsStore}
-use Rattle.vt_store.specs.Written.{texel_bytes, lines_bytes}
-use Rattle.vt_store.proofs.Accepted.{IsSmall, accepted_small}
+use Rattle.vt_store.specs.Written.{texel_bytes}
+use Rattle.vt_store.proofs.Accepted.{accepted_small}
 use Rattle.vt_store.proofs.Faults.{no_fault, told_shape, whole_shape}
 use Rattle.vt_store.proofs.Spans.{span_length, span_at}
-use Rattle.vt_store.proofs.Tiles.{tile_span}
+use Rattle.vt_store.proofs.Tiles.{length-tile, tile_at}
 
 -- a small number is the one that its four bytes spell
 number_back : (n : ℕ) → n ≤ 8192 → (n / 16777216 % 256) * 16777216 + (n / 65536 % 256) * 65536 + (n / 256 % 256) * 256 + n % 256 ≡ n
@@ -43,10 +42,6 @@ store_shape s src accepted =
     told_shape (store_bytes s src) s.width s.height s.tile
     (sym (store_width s src ∙ number_back s.width small.few_columns)) (sym (store_height s src ∙ number_back s.height small.few_rows)) (sym (store_tile s src ∙ number_back s.tile (omega (arith, small.few_tile))))
 
-length-tile : (s : Shape) (src : Source) (p : ℕ) → length (tile_bytes s src p) ≡ tile_length s
-unfolding lines_bytes
-length-tile s src p = ap length (tile_span s src p) ∙ span_length (texel_bytes s src p) 0 (s.tile * s.tile) 3 (λ i. refl)
-
 pub length-store : (s : Shape) (src : Source) → length (store_bytes s src) ≡ store_length s
 unfolding store_bytes header_bytes tiles_bytes
 length-store s src = omega (arith, span_length (tile_bytes s src) 0 (pages_of s) (tile_length s) (length-tile s src))
@@ -63,13 +58,6 @@ stores_open s src accepted =
       no_fault = no_fault (store_bytes s src) (length (store_bytes s src)) (store_magic s src) long (ap refusal_of shape ∙ accepted) (length-store s src ∙ ap store_length (sym shape));
       shape_is = shape;
     }
-
--- a byte of a page's tile
-tile_at : (s : Shape) (src : Source) (p j c : ℕ) → j < s.tile * s.tile → c < 3 → slice_index (tile_bytes s src p) (j * 3 + c) ≡ slice_index (texel_bytes s src p j) c
-unfolding lines_bytes
-tile_at s src p j c inside h =
-    let z : 0 + j ≡ j = omega arith in
-    ap (λ l. slice_index l (j * 3 + c)) (tile_span s src p) ∙ span_at (texel_bytes s src p) 0 (s.tile * s.tile) 3 j c 0 (λ i. refl) inside h ∙ ap (λ i. slice_index (texel_bytes s src p i) c) z
 
 area_place : (a p : ℕ) → a * p ≡ p * a
 area_place a p = mul_comm a p

@@ -1,12 +1,11 @@
 -- What a name holds while a store is written to it.
-use Rattle.std.proofs.Common.{◌≡◌, ℕ, ◌+◌, ◌-◌, ◌≤◌, Option, Some, None, List, [], ◌++◌, length, take, refl, sym, ap, ◌∙◌, subst, arith, append_assoc, true}
+use Rattle.std.proofs.Common.{◌≡◌, ℕ, ◌+◌, ◌-◌, ◌≤◌, Option, List, [], ◌++◌, length, take, refl, sym, ap, ◌∙◌, arith, append_assoc}
 use Rattle.std.proofs.lemmas.List.{append-nil}
 use Rattle.std.proofs.Math.Seq.{take-append_seam}
-use Rattle.std.specs.Prelude.{option_map, OnSome, IsSome, flat_map}
+use Rattle.std.specs.Prelude.{option_map, flat_map}
 use Rattle.std.specs.List.{range_with_len}
-use Rattle.vt_outside.specs.Files.{Files, with_bytes, with_appended, bytes_at}
-use Rattle.vt_outside.proofs.Changes.{told-bytes-appended, bytes_at-with_bytes, front_of_two, front_of_first}
-use Rattle.vt_definitions.specs.Texels.{Source}
+use Rattle.vt_outside.specs.Files.{Files, with_bytes, with_appended}
+use Rattle.vt_outside.proofs.Changes.{told-bytes-appended, front_of_two, front_of_first}
 use Rattle.vt_mip.specs.Chains.{ChainView, chain_texel}
 use Rattle.vt_pages.specs.Shape.{Shape}
 use Rattle.vt_pages.specs.Pages.{pages_of}

@@ -1,54 +1,89 @@
 //! Writing the store of a mip chain.
-ghost use Rattle.std.specs.Prelude.{◌≡◌, ℕ, ◌+◌, ◌-◌, ◌*◌, ◌/◌, ◌%◌, ◌<◌, ◌≤◌, ◌⊎◌, ◌++◌, length, take, option_map, IfOk, IfErr, OnOk, OnErr, IsErrOf};
+ghost use Rattle.std.specs.Prelude.{◌≡◌, ℕ, ◌+◌, ◌-◌, ◌*◌, ◌/◌, ◌%◌, ◌<◌, ◌≤◌, ◌⊎◌, ◌++◌, length, take, option_map, slice_index, IfOk, IfErr, OnOk, OnErr, IsErrOf};
 ghost use Rattle.vt_outside.specs.Counts.{Rose};
 ghost use Rattle.vt_outside.specs.Files.{with_bytes};
 ghost use Rattle.vt_mip.specs.Chains.{chain_texel};
-ghost use Rattle.vt_pages.specs.Pages.{pages_of, columns_at, IsWithinLimits};
-ghost use Rattle.vt_store.specs.Format.{header_bytes, tile_bytes, tile_length, tiles_bytes};
-ghost use Rattle.vt_store.specs.Written.{HasShape, chain_store, span_bytes};
+ghost use Rattle.vt_pages.specs.Pages.{pages_of, columns_at, name_at, IsWithinLimits};
+ghost use Rattle.vt_store.specs.Format.{header_bytes, tile_length, tiles_bytes};
+ghost use Rattle.vt_store.specs.Written.{HasShape, IsSpan, GainsLine, chain_store};
 ghost use Rattle.vt_store.specs.Refusals.{IsFault};
 
 use crate::StoreError;
 use crate::header::header_of;
-use std::alloc::{AllocError, Global};
+use std::alloc::Global;
 use vt_mip::Chain;
 use vt_outside::{Folder, OutsideError};
 use vt_pages::Geometry;
 
-/// Appends so many texels of a row from a column on; past the row's end its last texel stands again.
-fn push_span(tiles: &mut Vec<u8>, row: &[u8], first: usize, count: usize) -> Result<(), AllocError>
-    requires some { 3 ≤ length row.now }
-    requires few { first + count ≤ 16384 }
-    ensures { OnOk result (tiles.new.items ≡ tiles.old.items ++ span_bytes row.now first count) }
+/// Writes a texel's three samples all over.
+fn fill_texels(out: &mut [u8], texel: &[u8])
+    requires { length texel.now ≡ 3 }
+    ensures { (x c : ℕ) → x < length out.old / 3 → c < 3 → slice_index out.new (3 * x + c) ≡ slice_index texel.now c }
 {
-    let last = row.len() / 3 - 1;
-    for x in first..first + count {
-        let at = 3 * x.min(last);
-        tiles.extend_from_slice(&[row[at], row[at + 1], row[at + 2]])?;
+    for x in 0..out.len() / 3 {
+        out[3 * x] = texel[0];
+        out[3 * x + 1] = texel[1];
+        out[3 * x + 2] = texel[2];
     }
-    Ok(())
 }
 
-/// Appends the tile of a page.
-fn push_tile(
-    tiles: &mut Vec<u8>,
-    chain: &Chain,
-    geometry: &Geometry,
-    page: u32,
-) -> Result<(), AllocError>
+/// Writes so many texels of a row from a column inside it on; past the row's end its last texel stands again.
+fn put_span(out: &mut [u8], row: &[u8], first: usize, count: usize)
+    requires room { length out.old ≡ 3 * count }
+    requires inside { first < length row.now / 3 }
+    requires few { first + count ≤ 16384 }
+    ensures { IsSpan row.now first count out.new }
+{
+    let columns = row.len() / 3;
+    let end = (first + count).min(columns);
+    let inside = 3 * (end - first);
+    out[..inside].copy_from_slice(&row[3 * first..3 * end]);
+    fill_texels(&mut out[inside..], &row[3 * columns - 3..3 * columns]);
+}
+
+/// Writes one line of so many tiles that lie side by side, from a row of texels and a column of tiles on.
+fn put_line(tiles: &mut [u8], row: &[u8], side: usize, column: usize, line: usize, count: usize)
+    requires room { length tiles.old ≡ count * (side * side * 3) }
+    requires inside { 1 ≤ count → (column + count - 1) * side < length row.now / 3 }
+    requires few { (column + count) * side ≤ 16384 }
+    requires side { side ≤ 128 }
+    requires line { line < side }
+    ensures { GainsLine row.now side column line count count tiles.old tiles.new }
+{
+    for tile in 0..count {
+        let at = tile * (side * side * 3) + 3 * (line * side);
+        put_span(
+            &mut tiles[at..at + 3 * side],
+            row,
+            (column + tile) * side,
+            side,
+        );
+    }
+}
+
+/// Writes the tiles of so many pages of a row of tiles, side by side.
+fn put_tiles(tiles: &mut [u8], chain: &Chain, geometry: &Geometry, first: u32, count: u32)
     requires shape { HasShape chain.now geometry.now }
-    requires page { page < pages_of geometry.now }
-    ensures { OnOk result (tiles.new.items ≡ tiles.old.items ++ tile_bytes geometry.now (chain_texel chain.now) page) }
+    requires page { first < pages_of geometry.now }
+    requires row { (name_at geometry.now first).col + count ≤ columns_at geometry.now (name_at geometry.now first).level }
+    requires room { length tiles.old ≡ count * tile_length geometry.now }
+    ensures { tiles.new ≡ tiles_bytes geometry.now (chain_texel chain.now) first count }
 {
     let side = geometry.tile();
-    let name = geometry.page_at(page);
+    let name = geometry.page_at(first);
     let (_, height) = chain.size(name.level);
     for line in 0..side {
         let y = (name.row * side + line).min(height - 1);
         let row = chain.row(name.level, y);
-        push_span(tiles, row, (name.col * side) as usize, side as usize)?;
+        put_line(
+            tiles,
+            row,
+            side as usize,
+            name.col as usize,
+            line as usize,
+            count as usize,
+        );
     }
-    Ok(())
 }
 
 /// The page after the last one of a page's row of tiles.
@@ -56,6 +91,8 @@ fn row_end(geometry: &Geometry, page: u32) -> u32
     requires { page < pages_of geometry.now }
     ensures longer { page < result }
     ensures inside { result ≤ pages_of geometry.now }
+    ensures row { (name_at geometry.now page).col + (result - page) ≤ columns_at geometry.now (name_at geometry.now page).level }
+    ensures short { result - page ≤ columns_at geometry.now 0 }
 {
     let side = geometry.tile();
     let name = geometry.page_at(page);
@@ -63,24 +100,13 @@ fn row_end(geometry: &Geometry, page: u32) -> u32
     page + ((width + side - 1) / side - name.col)
 }
 
-/// Appends the tiles of a page and of those behind it in its row of tiles, and answers the page after them.
-fn push_tile_row(
-    tiles: &mut Vec<u8>,
-    chain: &Chain,
-    geometry: &Geometry,
-    first: u32,
-) -> Result<u32, AllocError>
-    requires shape { HasShape chain.now geometry.now }
-    requires page { first < pages_of geometry.now }
-    ensures longer { IfOk result (λ next. first < next) }
-    ensures inside { IfOk result (λ next. next ≤ pages_of geometry.now) }
-    ensures tiles { IfOk result (λ next. tiles.new.items ≡ tiles.old.items ++ tiles_bytes geometry.now (chain_texel chain.now) first (next - first)) }
+/// How many bytes a tile has.
+fn tile_size(geometry: &Geometry) -> usize
+    ensures value { result ≡ tile_length geometry.now }
+    ensures few { result ≤ 49152 }
 {
-    let end = row_end(geometry, first);
-    for page in first..end {
-        push_tile(tiles, chain, geometry, page)?;
-    }
-    Ok(end)
+    let side = geometry.tile() as usize;
+    side * side * 3
 }
 
 /// How many bytes the longest row of tiles has.
@@ -89,7 +115,7 @@ fn longest_row(geometry: &Geometry) -> usize
 {
     let side = geometry.tile() as usize;
     let columns = (geometry.width() as usize + side - 1) / side;
-    columns * (side * side * 3)
+    columns * tile_size(geometry)
 }
 
 /// Makes the name hold the store of a mip chain; each append is one row of tiles.
@@ -110,12 +136,15 @@ fn write_rows<D: Folder>(
 {
     folder.create(name)?;
     folder.append(name, &header_of(geometry))?;
-    let mut tiles = Vec::with_capacity(alloc, longest_row(geometry))?;
+    let mut room = vec![in alloc; 0; longest_row(geometry)]?;
+    let tiles = room.as_mut_slice();
     let mut page = 0;
     while page < geometry.page_count() {
-        tiles.clear();
-        page = push_tile_row(&mut tiles, chain, geometry, page)?;
-        folder.append(name, &tiles)?;
+        let end = row_end(geometry, page);
+        let row = &mut tiles[..(end - page) as usize * tile_size(geometry)];
+        put_tiles(row, chain, geometry, page, end - page);
+        folder.append(name, row)?;
+        page = end;
     }
     Ok(())
 }

@@ -1,21 +1,18 @@
-use Rattle.std.proofs.Common.{◌≡◌, ◌/◌, ◌^◌, ℕ, List, ◌++◌, refl, ap, ◌∙◌}
-use Rattle.vt_definitions.specs.Texels.{bytes}
-use Rattle.vt_draw.specs.Plain.{chain_of, shown_word}
-use Rattle.vt_draw.proofs.Drawn.{row_samples-none, row_samples-more}
+use Rattle.std.proofs.Common.{◌+◌, ◌*◌, refl}
+use Rattle.vt_mip.specs.Chains.{chain_width, chain_height}
+use Rattle.vt_draw.specs.Plain.{chain_of}
+use Rattle.vt_draw.proofs.Drawn.{row_samples-none, pixel_drawn}
 use Rattle.vt_draw.proofs.plain.draw_plain_row.Goals as goal
 
 pub loop-x-init : goal.loop-x-init
-loop-x-init c = row_samples-none (chain_of c.args.chain.now.base) c.args.row.now c.args.samples.now.items
+loop-x-init c = row_samples-none (chain_of c.args.chain.now.base) c.args.row
 
 pub loop-x-preserved : goal.loop-x-preserved
 loop-x-preserved c =
-    let source = chain_of c.args.chain.now.base in
-    let row = c.args.row.now in
-    let x = c.loop-x.x in
-    let here = c.texel-column in
-    let shown : ◌≡◌ {A = List ℕ} (bytes (source c.level-level.result (here.result.0 / 2 ^ c.level-level.result) (here.result.1 / 2 ^ c.level-level.result))) (bytes (shown_word source row x)) =
-    rw (c.level-level.ensures.value, here.ensures.column, here.ensures.row) refl in
-    c.in_ok-push_texel.ensures
-    ∙ ap (λ (t : List ℕ). c.loop-x.samples.items ++ t) shown
-    ∙ ap (λ (t : List ℕ). t ++ bytes (shown_word source row x)) c.loop-x.invariant
-    ∙ row_samples-more source row x c.args.samples.now.items
+    let chain = c.args.chain.now in
+    let level = c.level-level.result in
+    let texel = c.texel_in_level-column in
+    let width = c.size-width.result.0 in
+    pixel_drawn (chain_of chain.base) c.args.row c.loop-x.x level texel.result.0 texel.result.1 (chain_width chain level) (chain_height chain level) (3 * (texel.result.1 * width + texel.result.0)) width
+    c.samples-texels.result.now c.loop-x.out c.put_texel.new.out c.samples-texels.ensures c.level-level.ensures.value texel.ensures.column texel.ensures.row
+    (rw (← c.level-level.ensures.value, c.requires.surface) at texel.ensures.column_within) (rw (← c.level-level.ensures.value, c.requires.surface) at texel.ensures.row_within) c.size-width.ensures.width refl c.loop-x.invariant c.put_texel.ensures

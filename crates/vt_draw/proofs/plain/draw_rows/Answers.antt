@@ -12,7 +12,8 @@ loop-y-preserved c =
     let source = chain_of c.args.chain.now.base in
     let path = c.args.path.now in
     let y = c.loop-y.y in
-    c.in_ok-draw_plain_row.ensures
+    c.in_ok-extend_from_slice.ensures.items
+    ∙ ap (λ (t : List ℕ). c.loop-y.samples.items ++ t) c.draw_plain_row.ensures
     ∙ ap (λ (r : RowView). c.loop-y.samples.items ++ row_samples source r c.width.result) c.of-row.ensures
     ∙ ap (λ (n : ℕ). c.loop-y.samples.items ++ row_samples source (row_of path c.args.camera.now y c.args.surface.now) n) c.width.ensures.value
     ∙ ap (λ (t : List ℕ). t ++ row_samples source (row_of path c.args.camera.now y c.args.surface.now) path.width) c.loop-y.invariant

@@ -1,4 +1,4 @@
-use Rattle.std.proofs.Common.{◌∙◌, sym, ap, arith, rules}
+use Rattle.std.proofs.Common.{◌∙◌, sym, ap}
 use Rattle.vt_pages.specs.Shape.{shape_of}
 use Rattle.vt_pages.specs.Pages.{refusal_of}
 use Rattle.vt_store.proofs.Faults.{magic_fault, short_fault, geometry_fault, length_fault, no_fault, told_shape, told_length}

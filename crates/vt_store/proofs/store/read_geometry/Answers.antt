@@ -1,4 +1,4 @@
-use Rattle.std.proofs.Common.{◌∙◌, sym, ap, arith, rules}
+use Rattle.std.proofs.Common.{◌∙◌, rules}
 use Rattle.vt_store.proofs.Opening.{opened_store, refused_store, no_failure}
 use Rattle.vt_store.proofs.store.read_geometry.Goals as goal
 

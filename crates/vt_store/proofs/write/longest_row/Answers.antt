@@ -1,4 +1,4 @@
-use Rattle.std.proofs.Common.{rules, refl}
+use Rattle.std.proofs.Common.{rules}
 use Rattle.vt_pages.specs.Pages.{columns_at}
 use Rattle.vt_store.proofs.write.longest_row.Goals as goal
 

@@ -1,8 +1,6 @@
-use Rattle.std.proofs.Common.{◌≡◌, ◌∙◌, ◌<◌, sym, ap, subst, length}
-use Rattle.vt_outside.specs.Counts.{Rose}
+use Rattle.std.proofs.Common.{◌≡◌, ◌∙◌, ◌<◌, sym, ap, length}
 use Rattle.vt_pages.specs.Pages.{pages_of}
 use Rattle.vt_store.specs.Format.{tile_length}
-use Rattle.vt_store.specs.Opened.{StoreView}
 use Rattle.vt_store.proofs.Opening.{tile_inside}
 use Rattle.vt_store.proofs.store.Store.read_tile.Goals as goal
 

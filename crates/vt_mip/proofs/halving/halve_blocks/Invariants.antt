@@ -1,0 +1,6 @@
+use Rattle.std.proofs.Common.{◌*◌}
+use Rattle.vt_mip.specs.Halves.{IsHalvedRow}
+use Rattle.vt_mip.proofs.halving.halve_blocks.Given as goal
+
+abbrev pub invariant-loop-block : goal.invariant-loop-block
+invariant-loop-block l = IsHalvedRow l.top l.bottom l.width (16 * l.block) l.out

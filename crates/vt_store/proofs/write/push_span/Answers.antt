@@ -1,9 +1,0 @@
-use Rattle.std.proofs.Common.{arith}
-use Rattle.vt_store.proofs.Spans.{no_span, span_step}
-use Rattle.vt_store.proofs.write.push_span.Goals as goal
-
-pub loop-x-init : goal.loop-x-init
-loop-x-init c = no_span c.args.tiles.now.items c.args.row.now c.args.first
-
-pub loop-x-preserved : goal.loop-x-preserved
-loop-x-preserved c = span_step c.args.tiles.now.items c.loop-x.tiles.items c.extend_from_slice.new.self.items c.args.row.now c.args.first c.loop-x.x c.min-at.result (omega arith) c.min-at.ensures c.loop-x.invariant c.in_ok-extend_from_slice.ensures.items

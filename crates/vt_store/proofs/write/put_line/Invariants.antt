@@ -1,0 +1,5 @@
+use Rattle.vt_store.specs.Written.{GainsLine}
+use Rattle.vt_store.proofs.write.put_line.Given as goal
+
+abbrev pub invariant-loop-tile : goal.invariant-loop-tile
+invariant-loop-tile l = GainsLine l.row l.side l.column l.line l.count l.tile l.fn.tiles l.tiles
