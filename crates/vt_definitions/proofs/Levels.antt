@@ -1,7 +1,7 @@
 -- Where the halving of sides ends.
-use Rattle.std.proofs.Common.{◌≡◌, ℕ, zero, suc, ◌+◌, ◌-◌, ◌/◌, ◌<◌, ◌≤◌, ◌⊎◌, Bool, true, false, inl, inr, refl, sym, ap, ◌∙◌, add-zero, arith, rules}
+use Rattle.std.proofs.Common.{◌≡◌, ℕ, zero, suc, ◌+◌, ◌-◌, ◌≤◌, Bool, true, false, refl, sym, ap, ◌∙◌, add-zero, arith}
 use Rattle.std.proofs.lemmas.Bool.{false≢true}
-use Rattle.std.specs.Prelude.{max, nat_le, ◌&&◌}
+use Rattle.std.specs.Prelude.{max}
 use Rattle.std.proofs.lemmas.Bool.Decides.{nat_tests}
 use Rattle.vt_definitions.specs.Sides.{side, fits_tile, first_fit, level_count, IsLevelCount}
 
@@ -26,11 +26,12 @@ past k j from apart = grind arith
 -- the first level that fits does fit, where one of those that are tried does
 pub first_fits : (rest w h t k : ℕ) → fits_tile w h t (k + rest) ≡ true → fits_tile w h t (first_fit rest w h t k) ≡ true
 first_fits zero w h t k last = rw add-zero at last
-first_fits (suc rest) w h t k last = step (first_fits rest w h t (k + 1) (let same : k + suc rest ≡ k + 1 + rest = omega arith in rw same at last)) (fits_tile w h t k) refl where
-  step : fits_tile w h t (first_fit rest w h t (k + 1)) ≡ true → (b : Bool) → fits_tile w h t k ≡ b
-      → fits_tile w h t (elim b as (λ x. ℕ) [ true ↦ k | false ↦ first_fit rest w h t (k + 1) ]) ≡ true
-  step later true e = e
-  step later false e = later
+first_fits (suc rest) w h t k last = step
+    (first_fits rest w h t (k + 1) (let same : k + suc rest ≡ k + 1 + rest = omega arith in rw same at last)) (fits_tile w h t k) refl where
+      step : fits_tile w h t (first_fit rest w h t (k + 1)) ≡ true → (b : Bool) → fits_tile w h t k ≡ b
+          → fits_tile w h t (elim b as (λ x. ℕ) [ true ↦ k | false ↦ first_fit rest w h t (k + 1) ]) ≡ true
+      step later true e = e
+      step later false e = later
 
 -- no level before it does
 pub first_is_least : (rest w h t k j : ℕ) → k ≤ j → fits_tile w h t j ≡ true → first_fit rest w h t k ≤ j
@@ -44,12 +45,14 @@ first_is_least (suc rest) w h t k j from fits = step (λ after. first_is_least r
 pub level_count_least : (w h t : ℕ) → 1 ≤ t → IsLevelCount w h t (level_count w h t)
 unfolding level_count
 level_count_least w h t some =
-    let last : fits_tile w h t (0 + (w + h)) ≡ true = tile_fits w h t (0 + (w + h)) (omega (arith, side_at_most w (0 + (w + h)))) (omega (arith, side_at_most h (0 + (w + h)))) in
+    let last : fits_tile w h t (0 + (w + h)) ≡ true =
+    tile_fits w h t (0 + (w + h)) (omega (arith, side_at_most w (0 + (w + h)))) (omega (arith, side_at_most h (0 + (w + h)))) in
     let fits = tile_test w h t (first_fit (w + h) w h t 0) (first_fits (w + h) w h t 0 last) in
     let here : first_fit (w + h) w h t 0 + 1 - 1 ≡ first_fit (w + h) w h t 0 = omega arith in
     record {
       some = omega arith;
       last_width = rw here fits.0;
       last_height = rw here fits.1;
-      least = λ k wide high. let j : first_fit (w + h) w h t 0 ≤ k = first_is_least (w + h) w h t 0 k (omega arith) (tile_fits w h t k wide high) in omega arith;
+      least = λ k wide high. let j : first_fit (w + h) w h t 0 ≤ k = first_is_least (w + h) w h t 0 k (omega arith)
+          (tile_fits w h t k wide high) in omega arith;
     }
