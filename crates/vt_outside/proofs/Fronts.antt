@@ -18,7 +18,8 @@ pub longer_front : (all done rest : List ℕ) (n : ℕ) → all ≡ done ++ rest
 longer_front all done rest n split = split ∙ ap (λ l. done ++ l) (sym (take-append-drop n rest)) ∙ sym (append_assoc done (take n rest) (drop n rest))
 
 -- a longer front part of all
-pub longer_part : (a b c : Option (List ℕ)) (all done rest : List ℕ) (n : ℕ) → all ≡ done ++ rest → Appends a b done → Appends b c (take n rest) → (k : ℕ) × Appends a c (take k all)
+pub longer_part : (a b c : Option (List ℕ)) (all done rest : List ℕ) (n : ℕ) → all ≡ done ++ rest → Appends a b done
+    → Appends b c (take n rest) → (k : ℕ) × Appends a c (take k all)
 longer_part a b c all done rest n split first next =
     front_part a c all (done ++ take n rest) (drop n rest) (longer_front all done rest n split) (Appends-trans a b c done (take n rest) first next)
 
@@ -39,7 +40,8 @@ slice_range-put_mid : (a k n : ℕ) (xs ys : List ℕ) → a ≤ length xs → n
 slice_range-put_mid a k n xs ys within fits =
     let same : (a + n) - a ≡ n = omega arith in
     let after = post_of a k xs in
-    ap (take ((a + n) - a)) (drop_at (take a xs) (ys ++ after) a (length-take-le a xs within)) ∙ ap (λ m. take m (ys ++ after)) same ∙ take-append-le n ys after fits
+    ap (take ((a + n) - a)) (drop_at (take a xs) (ys ++ after) a (length-take-le a xs within))
+    ∙ ap (λ m. take m (ys ++ after)) same ∙ take-append-le n ys after fits
 
 -- what stands at the front of a buffer stays there where a part behind it is written
 pub kept_front : (a k : ℕ) (buf part : List ℕ) → a ≤ length buf → take a (put_mid a k buf part) ≡ take a buf
@@ -48,4 +50,5 @@ kept_front a k buf part within = take-put_mid_below _ _ _ _ _ (le_refl _) within
 -- and the front grows by the first n of that part
 pub filled_front : (a k n : ℕ) (buf part : List ℕ) → a ≤ length buf → n ≤ length part → take a buf ++ take n part ≡ take (a + n) (put_mid a k buf part)
 filled_front a k n buf part within fits =
-    ap (λ l. take a buf ++ l) (sym (slice_range-put_mid a k n buf part within fits)) ∙ take_split a (a + n) buf (put_mid a k buf part) (omega arith) (kept_front a k buf part within)
+    ap (λ l. take a buf ++ l) (sym (slice_range-put_mid a k n buf part within fits))
+    ∙ take_split a (a + n) buf (put_mid a k buf part) (omega arith) (kept_front a k buf part within)

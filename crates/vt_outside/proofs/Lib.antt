@@ -1,4 +1,5 @@
 pub mod Changes
 pub mod Risen
-pub mod Told
+pub mod Untold
 pub mod Fronts
+pub mod SameLists

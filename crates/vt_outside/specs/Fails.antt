@@ -4,7 +4,7 @@ use Rattle.std.specs.List.{list_any}
 use Rattle.vt_outside.specs.declared.fails.Fail.{Fail}
 use Rattle.vt_outside.specs.declared.fails.Fail.TheVariants.{Open, Create, Append, Put, Length, Read}
 
--- two calls are the same (this project's profile)
+-- two calls are the same
 abbrev pub same_fail : Fail → Fail → Bool
 same_fail (Open n) (Open m) = n == m
 same_fail (Create n) (Create m) = n == m
@@ -14,6 +14,6 @@ same_fail (Length opening) (Length of) = opening == of
 same_fail (Read opening n) (Read of m) = opening == of && n == m
 same_fail _ _ = false
 
--- the call is in the list (this project's profile)
+-- the call is in the list
 abbrev pub is_listed : List Fail → Fail → Bool
 is_listed fails call = list_any (λ f. same_fail f call) fails

@@ -1,5 +1,5 @@
 -- What files, folders and sinks hold, and what calls do to it.
-use Rattle.std.specs.Prelude.{◌≡◌, ℕ, ◌+◌, ◌≤◌, Bool, List, [], ◌∷◌, ◌++◌, length, take, drop, Option, Some, option_map, option_and_then, unwrap_or, if◌then◌else◌}
+use Rattle.std.specs.Prelude.{◌≡◌, ℕ, ◌+◌, ◌≤◌, Bool, List, [], ◌∷◌, ◌++◌, length, take, drop, Option, Some, IsSome, IfSome, OnSome, option_map, option_and_then, unwrap_or, if◌then◌else◌}
 use Rattle.std.specs.Str.{bytes_eq}
 use Rattle.vt_outside.specs.declared.place.Place.{Place}
 
@@ -14,6 +14,14 @@ Asked = List ℕ → List Place
 -- what a folder that may tell its files tells of a name
 abbrev pub bytes_at : Option Files → List ℕ → Option (List ℕ)
 bytes_at told name = option_and_then (λ files. files name) told
+
+-- the name is there, where the folder tells its files
+abbrev pub IsThere : Option Files → List ℕ → Type 0
+IsThere told name = OnSome told (IsSome (bytes_at told name))
+
+-- the file has so many bytes from a place on, where it tells its bytes
+abbrev pub HasPlace : Option (List ℕ) → ℕ → ℕ → Type 0
+HasPlace told at len = IfSome told (λ bytes. at + len ≤ length bytes)
 
 -- piece is what stands in the bytes from a place on, and does not pass their end
 pub record IsPiece (bytes : List ℕ) (at : ℕ) (piece : List ℕ) : Type 0 where

@@ -1,11 +1,12 @@
 pub mod Counts
 pub mod Files
-pub mod Listed
-pub mod Lends
-pub mod Entries
-pub mod Failures
+pub mod Places
+pub mod Lists
+pub mod LentElements
+pub mod FileMaps
+pub mod Outcomes
 pub mod Fails
-pub mod Closed
+pub mod ClosedFiles
 pub mod MemoryFile
 pub mod MemoryFolder
 pub mod MemorySink

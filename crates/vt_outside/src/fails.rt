@@ -1,6 +1,6 @@
 ghost use Rattle.std.specs.Prelude.{◌≡◌, ◌≤◌};
 ghost use Rattle.vt_outside.specs.Counts.{added};
-ghost use Rattle.vt_outside.specs.Failures.{raised_if};
+ghost use Rattle.vt_outside.specs.Outcomes.{raised_if};
 ghost use Rattle.vt_outside.specs.Fails.{is_listed};
 
 use crate::Items;

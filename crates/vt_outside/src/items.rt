@@ -1,6 +1,6 @@
 ghost use Rattle.std.specs.Prelude.{◌≡◌, ℕ, ◌+◌, ◌-◌, ◌<◌, ◌≤◌, List, [], ◌∷◌, ◌++◌, length, Option, None, Some, IsSome, IfSome, IfNone, IfOk, OnOk, OnErr, slice_get, slice_index_or, slice_set};
 ghost use Rattle.std.specs.Borrow.{sem};
-ghost use Rattle.vt_outside.specs.Listed.{Listed};
+ghost use Rattle.vt_outside.specs.Lists.{ListView};
 
 use crate::NoMemory;
 use std::alloc::Global;
@@ -14,9 +14,9 @@ pub struct Items<I> {
 
 impl<I> Model for Items<I> {
     ghost use Rattle.std.specs.Prelude.{◌-◌, vec_len, vec_capacity};
-    ghost use Rattle.vt_outside.specs.Listed.{Listed};
+    ghost use Rattle.vt_outside.specs.Lists.{ListView};
 
-    ghost Value = { Listed I };
+    ghost Value = { ListView I };
 
     ghost view = { λ l. record { elements = l.items.items; spare = vec_capacity l.items - vec_len l.items } };
 }
@@ -25,7 +25,7 @@ impl<I> Model for Items<I> {
 pub type Bytes = Items<u8>;
 
 impl<I> Items<I> {
-    ghost use Rattle.vt_outside.specs.Lends.{lends_elements};
+    ghost use Rattle.vt_outside.specs.LentElements.{lends_elements};
 
     /// The empty list, which takes no memory.
     pub fn new(alloc: Global) -> Self
@@ -34,6 +34,13 @@ impl<I> Items<I> {
         Items {
             items: Vec::new(alloc),
         }
+    }
+
+    /// Ends an empty list, also one whose elements may not be dropped.
+    pub fn destroy_empty(self)
+        requires { self.elements ≡ [] }
+    {
+        self.items.destroy_empty();
     }
 
     /// Makes room for at least `n` more elements. After a refusal nothing changed.
@@ -103,5 +110,16 @@ impl<I> Items<I> {
         ensures spare { self.new.spare ≡ self.old.spare }
     {
         self.items[i] = item;
+    }
+}
+
+impl<I: Copy> Items<I> {
+    /// The list of these elements.
+    pub fn from_slice(alloc: Global, items: &[I]) -> Result<Self, NoMemory>
+        ensures { IfOk result (λ list. list.elements ≡ items.now) }
+    {
+        Ok(Items {
+            items: Vec::from_slice(alloc, items)?,
+        })
     }
 }

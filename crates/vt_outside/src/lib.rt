@@ -2,8 +2,9 @@
 #![tactic(auto)]
 
 mod answers;
-mod closed;
+mod closed_files;
 mod fails;
+mod fixtures;
 mod gate;
 mod items;
 mod memory_file;

@@ -4,7 +4,7 @@ ghost use Rattle.vt_outside.specs.Counts.{added};
 ghost use Rattle.vt_outside.specs.Fails.{is_listed};
 ghost use Rattle.vt_outside.specs.Files.{IsPiece, noted};
 
-use crate::closed::Closed;
+use crate::closed_files::ClosedFiles;
 use crate::fails::{meets_fault, next};
 use crate::{Fail, Failed, File, NoMemory, Place};
 use std::alloc::Global;
@@ -20,7 +20,7 @@ pub struct MemoryFile {
     reads: u64,
     faults: u64,
     // What the folder keeps the name and the places in, once the file is closed.
-    cell: Box<Closed>,
+    cell: Box<ClosedFiles>,
 }
 
 /// What is left of a file that was closed.
@@ -29,7 +29,7 @@ pub(crate) struct Remains {
     pub name: String,
     pub places: Vec<Place>,
     pub faults: u64,
-    pub cell: Box<Closed>,
+    pub cell: Box<ClosedFiles>,
 }
 
 impl MemoryFile {
@@ -59,7 +59,7 @@ impl MemoryFile {
             opening,
             reads: 0,
             faults: 0,
-            cell: Box::new(alloc, Closed::Nothing)?,
+            cell: Box::new(alloc, ClosedFiles::Nothing)?,
         })
     }
 
@@ -79,8 +79,8 @@ impl MemoryFile {
 }
 
 impl File for MemoryFile {
-    ghost use Rattle.vt_outside.specs.Failures.{raised_if};
-    ghost use Rattle.vt_outside.specs.MemoryFile.{file_name, file_bytes, file_places, file_spare, file_fails, file_opening, file_reads, file_faults};
+    ghost use Rattle.vt_outside.specs.Outcomes.{raised_if};
+    ghost use Rattle.vt_outside.specs.MemoryFile.{file_name, file_bytes, file_places, file_spare, file_fails, file_opening, file_reads, file_faults, passes_end, is_length_listed, is_read_listed};
 
     ghost bytes = { λ file. Some (file_bytes file) };
 
@@ -95,7 +95,7 @@ impl File for MemoryFile {
     /// Answers the number of bytes. It fails exactly where `Length` of this opening is in the list.
     fn length(&mut self) -> Result<u64, Failed>
         ensures told { IfOk result (λ n. n ≡ length (file_bytes self.old)) }
-        ensures failed { is_err result ≡ is_listed (file_fails self.old) (Fail.Length (file_opening self.old)) }
+        ensures failed { is_err result ≡ is_length_listed self.old }
         ensures faults { file_faults self.new ≡ raised_if (is_err result) (file_faults self.old) }
         ensures rises { file_faults self.old ≤ file_faults self.new }
         ensures bytes { file_bytes self.new ≡ file_bytes self.old }
@@ -139,8 +139,8 @@ impl File for MemoryFile {
     fn read_at(&mut self, at: u64, buf: &mut [u8]) -> Result<(), Failed>
         requires { 1 ≤ file_spare self.old }
         ensures piece { OnOk result (IsPiece (file_bytes self.old) at buf.new) }
-        ensures failed { is_err result ≡ (is_listed (file_fails self.old) (Fail.Read (file_opening self.old) (file_reads self.old)) || not (nat_le (at + length buf.new) (length (file_bytes self.old)))) }
-        ensures faults { file_faults self.new ≡ raised_if (is_listed (file_fails self.old) (Fail.Read (file_opening self.old) (file_reads self.old))) (file_faults self.old) }
+        ensures failed { is_err result ≡ (is_read_listed self.old || passes_end self.old at (length buf.new)) }
+        ensures faults { file_faults self.new ≡ raised_if (is_read_listed self.old) (file_faults self.old) }
         ensures rises { file_faults self.old ≤ file_faults self.new }
         ensures asked { file_places self.new ≡ noted at (length buf.new) (is_err result) (file_places self.old) }
         ensures reads { file_reads self.new ≡ added (file_reads self.old) 1 }

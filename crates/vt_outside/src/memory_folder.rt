@@ -1,11 +1,11 @@
-ghost use Rattle.std.specs.Prelude.{◌≡◌, ◌≤◌, ℕ, List, ◌++◌, ◌/◌, ◌||◌, [], Some, true, false, length, take, not, is_some, is_ok, if◌then◌else◌, slice_get, IfOk, IfSome, IsErrOf, OnOk, OnErr};
+ghost use Rattle.std.specs.Prelude.{◌≡◌, ◌≤◌, ℕ, List, ◌++◌, ◌/◌, ◌||◌, [], Some, true, false, length, take, IsTrue, is_some, is_ok, if◌then◌else◌, slice_get, IfOk, IfSome, IsErrOf, OnOk, OnErr};
 ghost use Rattle.std.specs.Option.{option_copied, option_map};
 ghost use Rattle.vt_outside.specs.Counts.{added};
-ghost use Rattle.vt_outside.specs.Entries.{held_by};
+ghost use Rattle.vt_outside.specs.FileMaps.{held_by};
 ghost use Rattle.vt_outside.specs.Fails.{is_listed};
 ghost use Rattle.vt_outside.specs.Files.{with_appended, with_bytes, with_places};
 
-use crate::closed::{Closed, place_in};
+use crate::closed_files::{ClosedFiles, place_in};
 use crate::fails::{meets_fault, next};
 use crate::memory_file::Remains;
 use crate::{Fail, Fails, Folder, MemoryFile, NoMemory, OutsideError, Place};
@@ -20,7 +20,7 @@ type Entries = BTreeMap<String, Vec<u8>>;
 pub struct MemoryFolder {
     alloc: Global,
     entries: Entries,
-    closed: Closed,
+    closed: ClosedFiles,
     fails: Fails,
     opens: u64,
     openings: u64,
@@ -46,7 +46,7 @@ impl MemoryFolder {
         MemoryFolder {
             alloc,
             entries: BTreeMap::new(alloc),
-            closed: Closed::Nothing,
+            closed: ClosedFiles::Nothing,
             fails,
             opens: 0,
             openings: 0,
@@ -101,7 +101,8 @@ fn put_bytes(
     name: &str,
     held: Vec<u8>,
 ) -> Result<(), AllocError>
-    ensures { (q : List ℕ) → held_by entries.new q ≡ (if is_ok result then with_bytes name.now held.items (held_by entries.old) q else held_by entries.old q) }
+    ensures { (q : List ℕ) → held_by entries.new q
+        ≡ (if is_ok result then with_bytes name.now held.items (held_by entries.old) q else held_by entries.old q) }
 {
     let key = String::from_str(alloc, name)?;
     entries.insert(key, held)?;
@@ -111,7 +112,8 @@ fn put_bytes(
 // Adds bytes to what the name holds; answers whether it is there.
 fn append_bytes(entries: &mut Entries, name: &str, bytes: &[u8]) -> Result<bool, AllocError>
     ensures found { IfOk result (λ found. found ≡ is_some (held_by entries.old name.now)) }
-    ensures added { (q : List ℕ) → held_by entries.new q ≡ (if is_ok result then with_appended name.now bytes.now (held_by entries.old) q else held_by entries.old q) }
+    ensures added { (q : List ℕ) → held_by entries.new q
+        ≡ (if is_ok result then with_appended name.now bytes.now (held_by entries.old) q else held_by entries.old q) }
 {
     let Some(held) = entries.get_mut(name) else {
         return Ok(false);
@@ -121,9 +123,9 @@ fn append_bytes(entries: &mut Entries, name: &str, bytes: &[u8]) -> Result<bool,
 }
 
 impl Folder for MemoryFolder {
-    ghost use Rattle.vt_outside.specs.MemoryFolder.{files_of, asked_of, fails_of, opens_of, openings_of, creates_of, appends_of, faults_of};
+    ghost use Rattle.vt_outside.specs.MemoryFolder.{files_of, asked_of, fails_of, opens_of, openings_of, creates_of, appends_of, faults_of, is_missing, is_open_listed, is_create_listed, is_append_listed};
     ghost use Rattle.vt_outside.specs.MemoryFile.{file_name, file_bytes, file_places, file_fails, file_opening, file_reads, file_faults};
-    ghost use Rattle.vt_outside.specs.Failures.{is_failed, raised_if};
+    ghost use Rattle.vt_outside.specs.Outcomes.{is_failed, raised_if};
 
     type File = MemoryFile;
 
@@ -143,8 +145,8 @@ impl Folder for MemoryFolder {
         ensures no_reads { IfOk result (λ file. file_reads file ≡ 0) }
         ensures list { IfOk result (λ file. file_fails file ≡ fails_of self.old) }
         ensures opening { IfOk result (λ file. file_opening file ≡ openings_of self.old) }
-        ensures failed { is_failed result ≡ (is_listed (fails_of self.old) (Fail.Open (opens_of self.old)) || not (is_some (files_of self.old name.now))) }
-        ensures faults { faults_of self.new ≡ raised_if (is_listed (fails_of self.old) (Fail.Open (opens_of self.old))) (faults_of self.old) }
+        ensures failed { is_failed result ≡ (is_open_listed self.old || is_missing self.old name.now) }
+        ensures faults { faults_of self.new ≡ raised_if (is_open_listed self.old) (faults_of self.old) }
         ensures rises { faults_of self.old ≤ faults_of self.new }
         ensures opens { opens_of self.new ≡ added (opens_of self.old) 1 }
         ensures openings { openings_of self.new ≡ raised_if (is_ok result) (openings_of self.old) }
@@ -186,8 +188,8 @@ impl Folder for MemoryFolder {
             mut cell,
         } = file.remains();
         self.faults = self.faults.saturating_add(faults);
-        *cell = mem::replace(&mut self.closed, Closed::Nothing);
-        self.closed = Closed::File {
+        *cell = mem::replace(&mut self.closed, ClosedFiles::Nothing);
+        self.closed = ClosedFiles::File {
             name,
             places,
             rest: cell,
@@ -197,7 +199,7 @@ impl Folder for MemoryFolder {
     /// Makes the name hold no bytes. It fails exactly where `Create` of the number of calls so far is in the list, and only then the count rises.
     fn create(&mut self, name: &str) -> Result<(), OutsideError>
         ensures files { files_of self.new ≡ (if is_ok result then with_bytes name.now [] (files_of self.old) else files_of self.old) }
-        ensures failed { is_failed result ≡ is_listed (fails_of self.old) (Fail.Create (creates_of self.old)) }
+        ensures failed { is_failed result ≡ is_create_listed self.old }
         ensures faults { faults_of self.new ≡ raised_if (is_failed result) (faults_of self.old) }
         ensures rises { faults_of self.old ≤ faults_of self.new }
         ensures creates { creates_of self.new ≡ added (creates_of self.old) 1 }
@@ -222,12 +224,14 @@ impl Folder for MemoryFolder {
     /// (their number halved, rounded down) where the name is there; one that is refused for memory leaves none.
     fn append(&mut self, name: &str, bytes: &[u8]) -> Result<(), OutsideError>
         ensures files { OnOk result (files_of self.new ≡ with_appended name.now bytes.now (files_of self.old)) }
-        ensures part { OnErr result ((k : ℕ) × (Some (files_of self.new) ≡ option_map (with_appended name.now (take k bytes.now)) (Some (files_of self.old)))) }
-        ensures half { IsErrOf result OutsideError.Failed → files_of self.new ≡ with_appended name.now (take (length bytes.now / 2) bytes.now) (files_of self.old) }
+        ensures part { OnErr result ((k : ℕ)
+            × (Some (files_of self.new) ≡ option_map (with_appended name.now (take k bytes.now)) (Some (files_of self.old)))) }
+        ensures half { IsErrOf result OutsideError.Failed
+            → files_of self.new ≡ with_appended name.now (take (length bytes.now / 2) bytes.now) (files_of self.old) }
         ensures none { IsErrOf result OutsideError.NoMemory → files_of self.new ≡ files_of self.old }
-        ensures failed { IsErrOf result OutsideError.Failed → (is_listed (fails_of self.old) (Fail.Append (appends_of self.old)) || not (is_some (files_of self.old name.now))) ≡ true }
-        ensures done { OnOk result ((is_listed (fails_of self.old) (Fail.Append (appends_of self.old)) || not (is_some (files_of self.old name.now))) ≡ false) }
-        ensures faults { faults_of self.new ≡ raised_if (is_listed (fails_of self.old) (Fail.Append (appends_of self.old))) (faults_of self.old) }
+        ensures failed { IsErrOf result OutsideError.Failed → IsTrue (is_append_listed self.old || is_missing self.old name.now) }
+        ensures done { OnOk result ((is_append_listed self.old || is_missing self.old name.now) ≡ false) }
+        ensures faults { faults_of self.new ≡ raised_if (is_append_listed self.old) (faults_of self.old) }
         ensures rises { faults_of self.old ≤ faults_of self.new }
         ensures appends { appends_of self.new ≡ added (appends_of self.old) 1 }
         ensures asked { asked_of self.new ≡ asked_of self.old }

@@ -1,4 +1,4 @@
-ghost use Rattle.std.specs.Prelude.{◌≡◌, ◌≤◌, ◌++◌, ◌/◌, [], Some, length, take, IsErrOf, OnOk, true, false};
+ghost use Rattle.std.specs.Prelude.{◌≡◌, ◌≤◌, ◌++◌, ◌/◌, [], Some, length, take, IsTrue, IsErrOf, OnOk, true, false};
 ghost use Rattle.vt_outside.specs.Counts.{added};
 ghost use Rattle.vt_outside.specs.Fails.{is_listed};
 ghost use Rattle.vt_outside.specs.Files.{gained};
@@ -46,8 +46,8 @@ impl MemorySink {
 }
 
 impl Sink for MemorySink {
-    ghost use Rattle.vt_outside.specs.MemorySink.{sink_bytes, sink_fails, sink_puts, sink_faults, sink_refusals};
-    ghost use Rattle.vt_outside.specs.Failures.{is_failed, is_no_memory, raised_if};
+    ghost use Rattle.vt_outside.specs.MemorySink.{sink_bytes, sink_fails, sink_puts, sink_faults, sink_refusals, is_put_listed};
+    ghost use Rattle.vt_outside.specs.Outcomes.{is_failed, is_no_memory, raised_if};
 
     ghost held = { λ sink. Some (sink_bytes sink) };
 
@@ -61,9 +61,9 @@ impl Sink for MemorySink {
         ensures held { OnOk result (sink_bytes self.new ≡ gained bytes.now (sink_bytes self.old)) }
         ensures half { IsErrOf result OutsideError.Failed → sink_bytes self.new ≡ gained (take (length bytes.now / 2) bytes.now) (sink_bytes self.old) }
         ensures none { IsErrOf result OutsideError.NoMemory → sink_bytes self.new ≡ sink_bytes self.old }
-        ensures failed { IsErrOf result OutsideError.Failed → is_listed (sink_fails self.old) (Fail.Put (sink_puts self.old)) ≡ true }
-        ensures done { OnOk result (is_listed (sink_fails self.old) (Fail.Put (sink_puts self.old)) ≡ false) }
-        ensures faults { sink_faults self.new ≡ raised_if (is_listed (sink_fails self.old) (Fail.Put (sink_puts self.old))) (sink_faults self.old) }
+        ensures failed { IsErrOf result OutsideError.Failed → IsTrue (is_put_listed self.old) }
+        ensures done { OnOk result (is_put_listed self.old ≡ false) }
+        ensures faults { sink_faults self.new ≡ raised_if (is_put_listed self.old) (sink_faults self.old) }
         ensures faults_rise { sink_faults self.old ≤ sink_faults self.new }
         ensures refusals { sink_refusals self.new ≡ raised_if (is_no_memory result) (sink_refusals self.old) }
         ensures refusals_rise { sink_refusals self.old ≤ sink_refusals self.new }

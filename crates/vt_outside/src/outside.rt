@@ -1,6 +1,6 @@
 ghost use Rattle.std.specs.Prelude.{◌≡◌, ℕ, ◌+◌, ◌≤◌, List, [], length, take, Option, Some, IsSome, is_some, is_err, option_map, if◌then◌else◌, IsErr, IsErrOf, IfOk, IfSome, OnOk, OnErr, OnSome};
 ghost use Rattle.vt_outside.specs.Counts.{Rose, added};
-ghost use Rattle.vt_outside.specs.Files.{Files, Asked, IsPiece, noted, with_bytes, with_appended, with_places, bytes_at, gained};
+ghost use Rattle.vt_outside.specs.Files.{Files, Asked, IsPiece, HasPlace, IsThere, noted, with_bytes, with_appended, with_places, bytes_at, gained};
 ghost use Rattle.vt_outside.specs.declared.place.Place.{Place};
 
 use crate::{Failed, NoMemory, OutsideError, Point};
@@ -48,8 +48,8 @@ pub trait File {
     fn read_at(&mut self, at: u64, buf: &mut [u8]) -> Result<(), Failed>
         requires { 1 ≤ spare self.old }
         ensures piece { OnOk result (IfSome (bytes self.old) (λ b. IsPiece b at buf.new)) }
-        // A place that is not told to pass the end fails only where the count rose.
-        ensures failed { IsErr result → IfSome (bytes self.old) (λ b. at + length buf.new ≤ length b) → Rose (faults self.old) (faults self.new) }
+        // The count rises, but at a place past the end of bytes that are told.
+        ensures failed { IsErr result → HasPlace (bytes self.old) at (length buf.new) → Rose (faults self.old) (faults self.new) }
         ensures asked { asked self.new ≡ option_map (noted at (length buf.new) (is_err result)) (asked self.old) }
         ensures spare { spare self.old ≤ spare self.new + 1 }
         ensures bytes { bytes self.new ≡ bytes self.old }
@@ -78,8 +78,8 @@ pub trait Folder {
         ensures no_places { IfOk result (λ file. Self.File.asked file ≡ option_map (λ _. []) (asked self.old)) }
         ensures name { IfOk result (λ file. OnSome (asked self.old) (Self.File.name file ≡ name.now)) }
         ensures no_faults { IfOk result (λ file. Self.File.faults file ≡ 0) }
-        // Of a name that is not told to be missing it fails only where the count rose.
-        ensures failed { IsErrOf result OutsideError.Failed → OnSome (files self.old) (IsSome (bytes_at (files self.old) name.now)) → Rose (faults self.old) (faults self.new) }
+        // The count rises, but at a missing name of files that are told.
+        ensures failed { IsErrOf result OutsideError.Failed → IsThere (files self.old) name.now → Rose (faults self.old) (faults self.new) }
         ensures files { files self.new ≡ files self.old }
         ensures asked { asked self.new ≡ asked self.old }
         ensures faults { faults self.old ≤ faults self.new };
@@ -101,8 +101,9 @@ pub trait Folder {
     /// Adds the bytes to the name's. After a refusal a front part of them was added.
     fn append(&mut self, name: &str, bytes: &[u8]) -> Result<(), OutsideError>
         ensures files { OnOk result (files self.new ≡ option_map (with_appended name.now bytes.now) (files self.old)) }
+        ensures there { OnOk result (IsThere (files self.old) name.now) }
         ensures part { OnErr result ((k : ℕ) × (files self.new ≡ option_map (with_appended name.now (take k bytes.now)) (files self.old))) }
-        ensures failed { IsErrOf result OutsideError.Failed → OnSome (files self.old) (IsSome (bytes_at (files self.old) name.now)) → Rose (faults self.old) (faults self.new) }
+        ensures failed { IsErrOf result OutsideError.Failed → IsThere (files self.old) name.now → Rose (faults self.old) (faults self.new) }
         ensures asked { asked self.new ≡ asked self.old }
         ensures faults { faults self.old ≤ faults self.new };
 }

@@ -1,7 +1,7 @@
 ghost use Rattle.std.specs.Bool.{OnTrue};
 ghost use Rattle.std.specs.Io.KnownBytes.{Consumes};
-ghost use Rattle.std.specs.Prelude.{◌≡◌, ◌≤◌, ◌-◌, ◌^◌, [], None, is_err};
-ghost use Rattle.vt_outside.specs.Failures.{raised_if};
+ghost use Rattle.std.specs.Prelude.{◌≡◌, ◌≤◌, ◌-◌, ◌^◌, [], None, is_err, IsOk};
+ghost use Rattle.vt_outside.specs.Outcomes.{raised_if};
 
 use crate::fails::next;
 use crate::{Failed, File, NoMemory};
@@ -57,7 +57,11 @@ impl<F: Read + Seek + OpenFile + Drop> File for RealFile<F> {
     }
 
     /// There is always room.
-    fn reserve(&mut self, _reads: u64) -> Result<(), NoMemory> {
+    fn reserve(&mut self, _reads: u64) -> Result<(), NoMemory>
+        ensures done { IsOk result }
+        ensures room { _reads ≤ 2 ^ 64 - 1 }
+        ensures faults { self.new.faults ≡ self.old.faults }
+    {
         Ok(())
     }
 

@@ -1,6 +1,6 @@
 ghost use Rattle.std.specs.Prelude.{◌≡◌, ◌≤◌, None, is_err, IfOk, IsErrOf};
 ghost use Rattle.vt_outside.specs.Counts.{added};
-ghost use Rattle.vt_outside.specs.Failures.{raised_if};
+ghost use Rattle.vt_outside.specs.Outcomes.{raised_if};
 
 use crate::fails::next;
 use crate::real_sink::is_written;

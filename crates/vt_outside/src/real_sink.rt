@@ -1,7 +1,7 @@
 ghost use Rattle.std.specs.Bool.{OnTrue};
 ghost use Rattle.std.specs.Io.KnownBytes.{Appends};
 ghost use Rattle.std.specs.Prelude.{◌≡◌, ◌≤◌, ℕ, None, take, is_err, IsErrOf, OnOk};
-ghost use Rattle.vt_outside.specs.Failures.{raised_if};
+ghost use Rattle.vt_outside.specs.Outcomes.{raised_if};
 
 use crate::fails::next;
 use crate::{OutsideError, Sink};

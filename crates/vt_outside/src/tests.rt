@@ -4,29 +4,9 @@ use std::test::Fail as TestFail;
 use std::{env, fs, process};
 
 fn folder_of(alloc: Global, calls: &[Fail], bytes: &[u8]) -> Result<MemoryFolder, NoMemory> {
-    let mut folder = MemoryFolder::new(alloc, list_of(alloc, calls)?);
+    let mut folder = MemoryFolder::new(alloc, Fails::from_slice(alloc, calls)?);
     folder.add("a", bytes)?;
     Ok(folder)
-}
-
-fn list_of(alloc: Global, calls: &[Fail]) -> Result<Fails, NoMemory> {
-    let mut fails = Fails::new(alloc);
-    for call in calls {
-        fails.reserve(1)?;
-        fails.push(*call);
-    }
-    Ok(fails)
-}
-
-fn holds(folder: &MemoryFolder, name: &str, bytes: &[u8]) -> bool {
-    match folder.bytes_of(name) {
-        Some(held) => held == bytes,
-        None => false,
-    }
-}
-
-fn was_asked(folder: &MemoryFolder, i: usize, at: u64, failed: bool) -> bool {
-    folder.asked("a", i) == Some(Place { at, len: 2, failed })
 }
 
 fn opens(folder: &mut impl Folder, name: &str) -> bool {
@@ -62,27 +42,40 @@ fn puts(sink: &mut impl Sink, bytes: &[u8]) -> bool {
 
 #[test]
 fn a_list_gives_back_what_it_was_given(rt: HostRuntime) -> Result<(), TestFail> {
-    let mut list = Bytes::new(rt.alloc());
+    let mut list = Bytes::from_slice(rt.alloc(), b"ab")?;
     list.reserve(2)?;
     list.push(7);
-    assert_eq!(rt; list.len(), 1);
-    assert_eq!(rt; *list.at(0), 7);
-    list.set(0, 8);
-    assert!(rt; list.slice() == [8].as_slice());
-    list.slice_mut()[0] = 9;
+    assert_eq!(rt; list.len(), 3);
+    assert_eq!(rt; *list.at(2), 7);
+    list.set(2, 8);
+    assert!(rt; list.slice() == b"ab\x08".as_slice());
+    list.slice_mut()[2] = 9;
     assert_eq!(rt; list.pop(), Some(9));
+    assert_eq!(rt; list.pop(), Some(b'b'));
+    assert_eq!(rt; list.pop(), Some(b'a'));
     assert_eq!(rt; list.pop(), None);
     Ok(())
+}
+
+// A value that may not be dropped.
+struct Kept;
+
+#[test]
+fn an_empty_list_of_what_may_not_be_dropped_ends(rt: HostRuntime) {
+    let mut list: Items<Kept> = Items::new(rt.alloc());
+    let has_room = list.reserve(2).is_ok();
+    list.destroy_empty();
+    assert!(rt; has_room);
 }
 
 #[test]
 fn a_name_is_made_and_added_to(rt: HostRuntime) -> Result<(), TestFail> {
     let mut folder = folder_of(rt.alloc(), &[], b"old")?;
     assert!(rt; creates(&mut folder, "a"));
-    assert!(rt; holds(&folder, "a", b""));
+    assert!(rt; folder.holds("a", b""));
     assert!(rt; appends(&mut folder, "a", b"one "));
     assert!(rt; appends(&mut folder, "a", b"two"));
-    assert!(rt; holds(&folder, "a", b"one two"));
+    assert!(rt; folder.holds("a", b"one two"));
     Ok(())
 }
 
@@ -93,7 +86,7 @@ fn a_missing_name_is_refused(rt: HostRuntime) -> Result<(), TestFail> {
     assert!(rt; !opens(&mut folder, "b"));
     assert!(rt; folder.bytes_of("b").is_none());
     assert!(rt; creates(&mut folder, "b"));
-    assert!(rt; holds(&folder, "a", b"old"));
+    assert!(rt; folder.holds("a", b"old"));
     Ok(())
 }
 
@@ -107,9 +100,12 @@ fn closed_files_leave_their_places(rt: HostRuntime) -> Result<(), TestFail> {
     assert!(rt; gives(&mut second, 2, *b"cd"));
     folder.close(second);
     folder.close(first);
-    assert!(rt; was_asked(&folder, 0, 2, false));
-    assert!(rt; was_asked(&folder, 1, 1, false));
-    assert!(rt; was_asked(&folder, 2, 3, true));
+    let place = |at, failed| Place { at, len: 2, failed };
+    let places = [place(2, false), place(1, false), place(3, true)];
+    assert!(rt; folder.was_asked("a", &places));
+    assert!(rt; !folder.was_asked("a", &places[..2]));
+    assert!(rt; folder.was_asked("b", &[]));
+    assert_eq!(rt; folder.asked("a", 1), Some(place(1, false)));
     assert!(rt; folder.asked("a", 3).is_none());
     Ok(())
 }
@@ -125,7 +121,7 @@ fn a_folder_fails_at_its_list(rt: HostRuntime) -> Result<(), TestFail> {
     assert!(rt; appends(&mut folder, "a", b"c"));
     // Three of seven bytes stay.
     assert!(rt; !appends(&mut folder, "a", b"defghij"));
-    assert!(rt; holds(&folder, "a", b"abcdef"));
+    assert!(rt; folder.holds("a", b"abcdef"));
     Ok(())
 }
 
@@ -149,7 +145,7 @@ fn a_file_fails_at_its_list(rt: HostRuntime) -> Result<(), TestFail> {
 
 #[test]
 fn a_sink_keeps_what_is_put(rt: HostRuntime) -> Result<(), TestFail> {
-    let mut sink = MemorySink::new(rt.alloc(), list_of(rt.alloc(), &[Fail::Put(1)])?);
+    let mut sink = MemorySink::new(rt.alloc(), Fails::from_slice(rt.alloc(), &[Fail::Put(1)])?);
     assert!(rt; puts(&mut sink, b"ab"));
     // One of three bytes stays.
     assert!(rt; !puts(&mut sink, b"cde"));

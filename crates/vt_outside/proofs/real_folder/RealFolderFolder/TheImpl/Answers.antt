@@ -1,5 +1,5 @@
 use Rattle.std.proofs.Common.{refl}
-use Rattle.vt_outside.proofs.Told.{IfOk-all, OnOk-all, OnErr-all, same-if, Rose-raised}
+use Rattle.vt_outside.proofs.Untold.{IfOk-all, OnOk-all, OnErr-all, same-if, Rose-raised}
 use Rattle.vt_outside.proofs.real_folder.RealFolderFolder.TheImpl.Goals as goal
 
 pub open-tells : goal.open-tells
@@ -26,6 +26,7 @@ create-tells g c = record {
 pub append-tells : goal.append-tells
 append-tells g c = record {
   files = OnOk-all c.result _ refl;
+  there = OnOk-all c.result _ tt;
   part = OnErr-all c.result _ (0, refl);
   failed = λ failed _. Rose-raised c.result _ _ c.ensures.faults failed;
   asked = refl;

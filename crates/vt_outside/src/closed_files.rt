@@ -1,26 +1,28 @@
 ghost use Rattle.std.specs.Prelude.{◌≡◌, ◌+◌, ◌-◌, ◌≤◌, Some, length, slice_get, MatchResult};
-ghost use Rattle.vt_outside.specs.Closed.{places_in};
+ghost use Rattle.vt_outside.specs.ClosedFiles.{places_in};
 
 use crate::Place;
 
 /// The files that a folder in memory has closed, the last one first.
 #[derive(Drop)]
-pub enum Closed {
+pub enum ClosedFiles {
     Nothing,
     File {
         name: String,
         places: Vec<Place>,
-        rest: Box<Closed>,
+        rest: Box<ClosedFiles>,
     },
 }
 
 /// The place of that number among those asked of the name, or where there is none, how many there are.
-pub fn place_in(closed: &Closed, name: &str, i: usize) -> Result<Place, usize>
-    ensures { MatchResult result (λ place. slice_get (places_in closed.now name.now) i ≡ Some place) (λ n. (n ≡ length (places_in closed.now name.now)) × (n ≤ i)) }
+pub fn place_in(closed: &ClosedFiles, name: &str, i: usize) -> Result<Place, usize>
+    ensures { MatchResult result
+        (λ place. slice_get (places_in closed.now name.now) i ≡ Some place)
+        (λ n. (n ≡ length (places_in closed.now name.now)) × (n ≤ i)) }
 {
     match closed {
-        Closed::Nothing => Err(0),
-        Closed::File {
+        ClosedFiles::Nothing => Err(0),
+        ClosedFiles::File {
             name: of,
             places,
             rest,
@@ -41,7 +43,9 @@ pub fn place_in(closed: &Closed, name: &str, i: usize) -> Result<Place, usize>
 // The place of that number, where so many stand before the list.
 fn place_at(places: &[Place], i: usize, before: usize) -> Result<Place, usize>
     requires { before ≤ i }
-    ensures { MatchResult result (λ place. slice_get places.now (i - before) ≡ Some place) (λ n. (n ≡ before + length places.now) × (n ≤ i)) }
+    ensures { MatchResult result
+        (λ place. slice_get places.now (i - before) ≡ Some place)
+        (λ n. (n ≡ before + length places.now) × (n ≤ i)) }
 {
     if i - before < places.len() {
         Ok(places[i - before])

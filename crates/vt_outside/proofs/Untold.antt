@@ -2,7 +2,7 @@
 use Rattle.std.proofs.Common.{◌≡◌, ℕ, Bool, true, false, refl, arith, Ok, Err}
 use Rattle.std.specs.Prelude.{Result, IfOk, OnOk, OnErr, IsErrOf, is_err, if◌then◌else◌}
 use Rattle.vt_outside.specs.Counts.{Rose}
-use Rattle.vt_outside.specs.Failures.{raised_if}
+use Rattle.vt_outside.specs.Outcomes.{raised_if}
 use Rattle.vt_outside.specs.declared.answers.OutsideError.{OutsideError}
 use Rattle.vt_outside.specs.declared.answers.OutsideError.TheVariants.{Failed}
 
