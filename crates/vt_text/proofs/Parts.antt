@@ -15,7 +15,8 @@ same : (x y : ℕ) → x ≡ y → eqb x y ≡ true
 same x y e = grind (arith, nat_tests)
 
 -- where the byte is absent between two places, no element of that piece passes the test
-all_differ : (byte : ℕ) (bs : List ℕ) (at end : ℕ) → end ≤ length bs → IsAbsentBetween byte bs at end → All (λ x. eqb x byte ≡ false) (take (end - at) (drop at bs))
+all_differ : (byte : ℕ) (bs : List ℕ) (at end : ℕ) → end ≤ length bs → IsAbsentBetween byte bs at end
+    → All (λ x. eqb x byte ≡ false) (take (end - at) (drop at bs))
 all_differ byte bs at end fits absent =
     All-from_get_or (λ x. eqb x byte ≡ false) (take (end - at) (drop at bs)) 0
     (λ k h. let small : k < end - at = omega (arith, length-take (end - at) (drop at bs), h) in
@@ -26,13 +27,16 @@ all_differ byte bs at end fits absent =
 cut : (bs : List ℕ) (at p : ℕ) → at ≤ p → p < length bs → drop at bs ≡ take (p - at) (drop at bs) ++ get_or bs p 0 ∷ drop (p + 1) bs
 cut bs at p low high =
     let e : at + (p - at) ≡ p = omega arith in
-    sym (take-append-drop (p - at) (drop at bs)) ∙ ap (λ xs. take (p - at) (drop at bs) ++ xs) (drop-drop (p - at) at bs ∙ ap (λ n. drop n bs) e ∙ drop_more bs p 0 high)
+    sym (take-append-drop (p - at) (drop at bs))
+    ∙ ap (λ xs. take (p - at) (drop at bs) ++ xs) (drop-drop (p - at) at bs ∙ ap (λ n. drop n bs) e ∙ drop_more bs p 0 high)
 
 -- the byte that was found cuts the first part off
-pub parts-found : (byte : ℕ) (bs : List ℕ) (at p : ℕ) → at ≤ p → p < length bs → get_or bs p 0 ≡ byte → IsAbsentBetween byte bs at p → parts_of byte (drop at bs) ≡ take (p - at) (drop at bs) ∷ parts_of byte (drop (p + 1) bs)
+pub parts-found : (byte : ℕ) (bs : List ℕ) (at p : ℕ) → at ≤ p → p < length bs → get_or bs p 0 ≡ byte
+    → IsAbsentBetween byte bs at p → parts_of byte (drop at bs) ≡ take (p - at) (drop at bs) ∷ parts_of byte (drop (p + 1) bs)
 parts-found byte bs at p low high is absent =
     ap (slice_split (λ b. eqb b byte)) (cut bs at p low high)
-    ∙ slice_split_at (λ b. eqb b byte) (take (p - at) (drop at bs)) (get_or bs p 0) (drop (p + 1) bs) (all_differ byte bs at p (omega arith) absent) (same (get_or bs p 0) byte is)
+    ∙ slice_split_at (λ b. eqb b byte) (take (p - at) (drop at bs)) (get_or bs p 0) (drop (p + 1) bs)
+    (all_differ byte bs at p (omega arith) absent) (same (get_or bs p 0) byte is)
 
 -- a byte that is absent leaves one part
 pub parts-absent : (byte : ℕ) (bs : List ℕ) (at : ℕ) → at ≤ length bs → IsAbsentBetween byte bs at (length bs) → parts_of byte (drop at bs) ≡ drop at bs ∷ []

@@ -23,7 +23,9 @@ digit_of_byte c low high = grind (arith, nat_tests)
 pub more_digits : (ds : List ℕ) (i : ℕ) → i < length ds → 48 ≤ get_or ds i 0 → get_or ds i 0 ≤ 57 → AllDigits 10 (take i ds) → AllDigits 10 (take (i + 1) ds)
 more_digits ds i within low high all = digits_more 10 ds i within all (omega (arith, digit_of_byte (get_or ds i 0) low high))
 
-pub more_size : (ds : List ℕ) (i size digit product sum : ℕ) → i < length ds → 48 ≤ get_or ds i 0 → get_or ds i 0 ≤ 57 → size ≡ min (digits_value 10 (take i ds)) (2 ^ 64 - 1) → digit ≡ get_or ds i 0 - 48 → product ≡ min (size * 10) (2 ^ 64 - 1) → sum ≡ min (product + digit) (2 ^ 64 - 1) → sum ≡ min (digits_value 10 (take (i + 1) ds)) (2 ^ 64 - 1)
+pub more_size : (ds : List ℕ) (i size digit product sum : ℕ) → i < length ds → 48 ≤ get_or ds i 0 → get_or ds i 0 ≤ 57
+    → size ≡ min (digits_value 10 (take i ds)) (2 ^ 64 - 1) → digit ≡ get_or ds i 0 - 48
+    → product ≡ min (size * 10) (2 ^ 64 - 1) → sum ≡ min (product + digit) (2 ^ 64 - 1) → sum ≡ min (digits_value 10 (take (i + 1) ds)) (2 ^ 64 - 1)
 more_size ds i size digit product sum within low high a b c d = omega (arith, digits_value_more 10 ds i within, digit_of_byte (get_or ds i 0) low high)
 
 -- a minus before what is no plain digits
@@ -32,7 +34,8 @@ none_after_minus bs ds d minus not (pos n) e = no_minus n (ap (λ xs. get_or xs 
 none_after_minus bs ds d minus not (negsuc n) e = not (subst IsPlainNumeral (sym (d ∙ ap (drop 1) e)) (plain-number_spelling (suc n)))
 
 -- a minus before the digits of 0
-pub none_minus_zero : (bs ds : List ℕ) (size : ℕ) → ds ≡ drop 1 bs → get_or bs 0 0 ≡ 45 → size ≡ min (digits_value 10 ds) (2 ^ 64 - 1) → size ≡ 0 → IsNoSpelling bs
+pub none_minus_zero : (bs ds : List ℕ) (size : ℕ) → ds ≡ drop 1 bs → get_or bs 0 0 ≡ 45
+    → size ≡ min (digits_value 10 ds) (2 ^ 64 - 1) → size ≡ 0 → IsNoSpelling bs
 none_minus_zero bs ds size d minus is none (pos n) e = no_minus n (ap (λ xs. get_or xs 0 0) (sym e) ∙ minus)
 none_minus_zero bs ds size d minus is none (negsuc n) e =
     let v : digits_value 10 ds ≡ suc n = ap (digits_value 10) (d ∙ ap (drop 1) e) ∙ digits_value-number_spelling (suc n) in omega (arith, v)
@@ -48,11 +51,14 @@ spelling_negative zero some = absurd (omega arith)
 spelling_negative (suc n) some = refl
 
 -- a minus before plain digits spells the negative of their number
-minus_spells : (bs : List ℕ) → get_or bs 0 0 ≡ 45 → IsPlainNumeral (drop 1 bs) → 0 < digits_value 10 (drop 1 bs) → bs ≡ spelling (neg_ℤ (pos (digits_value 10 (drop 1 bs))))
+minus_spells : (bs : List ℕ) → get_or bs 0 0 ≡ 45 → IsPlainNumeral (drop 1 bs) → 0 < digits_value 10 (drop 1 bs)
+    → bs ≡ spelling (neg_ℤ (pos (digits_value 10 (drop 1 bs))))
 minus_spells [] minus plain some = absurd (omega (arith, minus))
-minus_spells (c ∷ cs) minus plain some = ap (λ x. x ∷ cs) minus ∙ ap (λ xs. 45 ∷ xs) (sym (spelling-digits_value cs plain)) ∙ sym (spelling_negative (digits_value 10 cs) some)
+minus_spells (c ∷ cs) minus plain some = ap (λ x. x ∷ cs) minus ∙ ap (λ xs. 45 ∷ xs) (sym (spelling-digits_value cs plain))
+    ∙ sym (spelling_negative (digits_value 10 cs) some)
 
-pub minus_sized : (bs ds : List ℕ) (size : ℕ) → ds ≡ drop 1 bs → get_or bs 0 0 ≡ 45 → IsPlainNumeral ds → size ≡ min (digits_value 10 ds) (2 ^ 64 - 1) → size ≢ 0 → IsSizeOf bs true size
+pub minus_sized : (bs ds : List ℕ) (size : ℕ) → ds ≡ drop 1 bs → get_or bs 0 0 ≡ 45 → IsPlainNumeral ds
+    → size ≡ min (digits_value 10 ds) (2 ^ 64 - 1) → size ≢ 0 → IsSizeOf bs true size
 minus_sized bs ds size d minus plain is some =
     let v : digits_value 10 (drop 1 bs) ≡ digits_value 10 ds = ap (digits_value 10) (sym d) in
     let more : 0 < digits_value 10 (drop 1 bs) = omega arith in
@@ -75,9 +81,14 @@ number_from_size bs true size s fits = let small : size ≡ s.0 = omega (arith, 
 number_from_size bs false size s fits = let small : size ≡ s.0 = omega (arith, ints, s.2, fits) in s.1 ∙ ap (λ n. spelling (pos n)) (sym small)
 
 -- a size that does not fit is outside all bounds of 64 bits
-pub outside_from_size : (bs : List ℕ) (b : Bool) (size : ℕ) (least most : ℤ) → IsSizeOf bs b size → FitsSigned w64 least → FitsSigned w64 most → (FitsSigned w64 (signed_number b size) → ⊥) → SpellsOutside least most bs
-outside_from_size bs true size least most s low high unfit = elim (cases_lt (2 ^ 63) size) [ inl large ↦ (signed_number true s.0, s.1, inl (omega (arith, ints, s.2, low))) | inr small ↦ absurd (unfit (fits_negative size small)) ]
-outside_from_size bs false size least most s low high unfit = elim (cases_lt size (2 ^ 63)) [ inl small ↦ absurd (unfit (fits_positive size small)) | inr large ↦ (signed_number false s.0, s.1, inr (omega (arith, ints, s.2, high))) ]
+pub outside_from_size : (bs : List ℕ) (b : Bool) (size : ℕ) (least most : ℤ) → IsSizeOf bs b size → FitsSigned w64 least
+    → FitsSigned w64 most → (FitsSigned w64 (signed_number b size) → ⊥) → SpellsOutside least most bs
+outside_from_size bs true size least most s low high unfit = elim (cases_lt (2 ^ 63) size)
+    [ inl large ↦ (signed_number true s.0, s.1, inl (omega (arith, ints, s.2, low))) | inr small ↦ absurd (unfit (fits_negative size small)) ]
+outside_from_size bs false size least most s low high unfit = elim (cases_lt size (2 ^ 63)) [
+  | inl small ↦ absurd (unfit (fits_positive size small))
+  | inr large ↦ (signed_number false s.0, s.1, inr (omega (arith, ints, s.2, high)))
+]
 
 -- a number is not within the bounds and outside them
 pub not_both : (least most z : ℤ) → (z <ℤ least) ⊎ (most <ℤ z) → IsWithin least most z → ⊥
@@ -86,25 +97,30 @@ not_both least most z (inr high) within = omega (arith, ints, high, within.1)
 
 -- a text that spells a number outside the bounds spells none within them
 pub none_within : (bs : List ℕ) (least most z : ℤ) → SpellsOutside least most bs → bs ≡ spelling z → IsWithin least most z → ⊥
-none_within bs least most z (y, e, outside) f within = not_both least most z (subst (λ x. (x <ℤ least) ⊎ (most <ℤ x)) (spelling_injective y z (sym e ∙ f)) outside) within
+none_within bs least most z (y, e, outside) f within = not_both least most z
+    (subst (λ x. (x <ℤ least) ⊎ (most <ℤ x)) (spelling_injective y z (sym e ∙ f)) outside) within
 
 -- bounds on numbers that stand as their bits and back
-pub within_from_bits : (least most y : ℤ) → FitsSigned w64 least → FitsSigned w64 most → FitsSigned w64 y → IsWithin (to_z w64 (of_z w64 least)) (to_z w64 (of_z w64 most)) (to_z w64 (of_z w64 y)) → IsWithin least most y
+pub within_from_bits : (least most y : ℤ) → FitsSigned w64 least → FitsSigned w64 most → FitsSigned w64 y
+    → IsWithin (to_z w64 (of_z w64 least)) (to_z w64 (of_z w64 most)) (to_z w64 (of_z w64 y)) → IsWithin least most y
 within_from_bits least most y fl fm fy h = (omega (arith, ints, h.0), omega (arith, ints, h.1))
 
-pub outside_from_bits : (least most y : ℤ) → FitsSigned w64 least → FitsSigned w64 most → FitsSigned w64 y → (to_z w64 (of_z w64 y) <ℤ to_z w64 (of_z w64 least)) ⊎ (to_z w64 (of_z w64 most) <ℤ to_z w64 (of_z w64 y)) → (y <ℤ least) ⊎ (most <ℤ y)
+pub outside_from_bits : (least most y : ℤ) → FitsSigned w64 least → FitsSigned w64 most → FitsSigned w64 y
+    → (to_z w64 (of_z w64 y) <ℤ to_z w64 (of_z w64 least)) ⊎ (to_z w64 (of_z w64 most) <ℤ to_z w64 (of_z w64 y)) → (y <ℤ least) ⊎ (most <ℤ y)
 outside_from_bits least most y fl fm fy (inl h) = inl (omega (arith, ints, h))
 outside_from_bits least most y fl fm fy (inr h) = inr (omega (arith, ints, h))
 
 -- the clauses of a number that was read
-module _ (bs : List ℕ) (b : Bool) (size : ℕ) (y : ℤ) (least most : ℤ) (sized : IsSizeOf bs b size) (read : FitsSigned w64 (signed_number b size) × (y ≡ signed_number b size)) (fl : FitsSigned w64 least) (fm : FitsSigned w64 most) where
+module _ (bs : List ℕ) (b : Bool) (size : ℕ) (y : ℤ) (least most : ℤ) (sized : IsSizeOf bs b size)
+    (read : FitsSigned w64 (signed_number b size) × (y ≡ signed_number b size)) (fl : FitsSigned w64 least) (fm : FitsSigned w64 most) where
   fits : FitsSigned w64 y
   fits = subst (FitsSigned w64) (sym read.1) read.0
 
   spelled : bs ≡ spelling y
   spelled = number_from_size bs b size sized read.0 ∙ ap spelling (sym read.1)
 
-  pub ok_from_size : IsWithin (to_z w64 (of_z w64 least)) (to_z w64 (of_z w64 most)) (to_z w64 (of_z w64 y)) → (bs ≡ spelling (to_z w64 (of_z w64 y))) × IsWithin least most (to_z w64 (of_z w64 y))
+  pub ok_from_size : IsWithin (to_z w64 (of_z w64 least)) (to_z w64 (of_z w64 most)) (to_z w64 (of_z w64 y))
+      → (bs ≡ spelling (to_z w64 (of_z w64 y))) × IsWithin least most (to_z w64 (of_z w64 y))
   ok_from_size h = subst (λ x. (bs ≡ spelling x) × IsWithin least most x) (sym (to_z-of_z w64 y fits)) (spelled, within_from_bits least most y fl fm fits h)
 
   pub found_from_size : (z : ℤ) → bs ≡ spelling z → to_z w64 (of_z w64 y) ≡ z
@@ -113,5 +129,6 @@ module _ (bs : List ℕ) (b : Bool) (size : ℕ) (y : ℤ) (least most : ℤ) (s
   pub not_outside : IsWithin (to_z w64 (of_z w64 least)) (to_z w64 (of_z w64 most)) (to_z w64 (of_z w64 y)) → SpellsOutside least most bs → ⊥
   not_outside h outside = none_within bs least most y outside spelled (within_from_bits least most y fl fm fits h)
 
-  pub outside_from_read : (to_z w64 (of_z w64 y) <ℤ to_z w64 (of_z w64 least)) ⊎ (to_z w64 (of_z w64 most) <ℤ to_z w64 (of_z w64 y)) → SpellsOutside least most bs
+  pub outside_from_read : (to_z w64 (of_z w64 y) <ℤ to_z w64 (of_z w64 least)) ⊎
+      (to_z w64 (of_z w64 most) <ℤ to_z w64 (of_z w64 y)) → SpellsOutside least most bs
   outside_from_read h = (y, spelled, outside_from_bits least most y fl fm fits h)

@@ -78,9 +78,11 @@ spelling-above_zero : (c : ℕ) (cs : List ℕ) → AllDigits 10 (c ∷ cs) → 
 spelling-above_zero c cs all some =
     let below = all_below_base_from_digits 10 (c ∷ cs) all in
     let e : digits_value 10 (c ∷ cs) ≡ number_from_digits 10 (map digit_value (c ∷ cs)) = digits_value_is 10 (c ∷ cs) in
-    let large : 0 * 10 + digit_value c ≤ number_from_digits_after 10 (0 * 10 + digit_value c) (map digit_value cs) = number_after_ge 10 (0 * 10 + digit_value c) (map digit_value cs) (omega arith) in
+    let large : 0 * 10 + digit_value c ≤ number_from_digits_after 10 (0 * 10 + digit_value c) (map digit_value cs) =
+    number_after_ge 10 (0 * 10 + digit_value c) (map digit_value cs) (omega arith) in
     let more : 0 < number_from_digits 10 (map digit_value (c ∷ cs)) = omega (arith, large) in
-    ap number_spelling e ∙ spelling_above (number_from_digits 10 (map digit_value (c ∷ cs))) more ∙ ap (map (λ d. 48 + d)) (digits_of_number (digit_value c) (map digit_value cs) some below) ∙ bytes_of_values (c ∷ cs) all
+    ap number_spelling e ∙ spelling_above (number_from_digits 10 (map digit_value (c ∷ cs))) more
+    ∙ ap (map (λ d. 48 + d)) (digits_of_number (digit_value c) (map digit_value cs) some below) ∙ bytes_of_values (c ∷ cs) all
 
 -- a byte whose digit is 0 stands alone
 spelling-one_zero : (c : ℕ) (cs : List ℕ) → IsPlainNumeral (c ∷ cs) → digit_value c ≡ 0 → number_spelling (digits_value 10 (c ∷ cs)) ≡ c ∷ cs
@@ -116,7 +118,9 @@ pub digits_value-number_spelling : (n : ℕ) → digits_value 10 (number_spellin
 unfolding number_spelling
 digits_value-number_spelling zero = refl
 digits_value-number_spelling (suc n) =
-    digits_value_is 10 (map (λ d. 48 + d) (digits_of 10 (suc n))) ∙ ap (number_from_digits 10) (values_of_bytes (digits_of 10 (suc n)) (all_below_base_digits_of 10 (suc n) (omega arith))) ∙ number_digits_of 10 (suc n) (omega arith)
+    digits_value_is 10 (map (λ d. 48 + d) (digits_of 10 (suc n)))
+    ∙ ap (number_from_digits 10) (values_of_bytes (digits_of 10 (suc n))
+    (all_below_base_digits_of 10 (suc n) (omega arith))) ∙ number_digits_of 10 (suc n) (omega arith)
 
 -- natural numbers that are spelled alike are one
 pub number_spelling_injective : (m n : ℕ) → number_spelling m ≡ number_spelling n → m ≡ n

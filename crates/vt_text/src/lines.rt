@@ -2,15 +2,16 @@
 ghost use Rattle.std.specs.Prelude.{◌≡◌, ◌≤◌, length, slice_get};
 ghost use Rattle.std.specs.Option.{option_copied};
 ghost use Rattle.std.specs.List.{join_with_byte};
+ghost use Rattle.vt_definitions.specs.Limits.{line_feed, blank};
 ghost use Rattle.vt_text.specs.Lines.{IsNextPlace, IsCutAt, fields_of};
 
-/// The byte that ends a line.
-pub const LINE_FEED: u8 = 10;
+// The byte that ends a line.
+const LINE_FEED: u8 = 10;
 
-/// The byte between two fields of a line.
-pub const BLANK: u8 = 32;
+// The byte between two fields of a line.
+const BLANK: u8 = 32;
 
-/// The place of the first `byte` at or after `at`, or `None` where there is none.
+// The place of the first `byte` at or after `at`, or `None` where there is none.
 fn next_place(text: &[u8], at: usize, byte: u8) -> Option<usize>
     requires { at ≤ length text.now }
     ensures place { IsNextPlace byte text.now at result }
@@ -28,8 +29,8 @@ fn next_place(text: &[u8], at: usize, byte: u8) -> Option<usize>
 /// there is none. The line that begins at `at` is the bytes from `at` to that place.
 pub fn next_line(text: &[u8], at: usize) -> Option<usize>
     requires { at ≤ length text.now }
-    ensures place { IsNextPlace LINE_FEED text.now at result }
-    ensures line { IsCutAt LINE_FEED text.now at result }
+    ensures place { IsNextPlace line_feed text.now at result }
+    ensures line { IsCutAt line_feed text.now at result }
 {
     next_place(text, at, LINE_FEED)
 }
@@ -49,7 +50,7 @@ pub fn field(line: &[u8], i: usize) -> Option<&[u8]>
 
 /// The fields of a line, joined by single blanks, are the line: no byte of it is in no field.
 pub fn fields_join(line: &[u8])
-    ensures { join_with_byte BLANK (fields_of line.now) ≡ line.now }
+    ensures { join_with_byte blank (fields_of line.now) ≡ line.now }
 {
     let _line = line;
 }

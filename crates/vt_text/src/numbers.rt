@@ -8,18 +8,18 @@ ghost use Rattle.vt_text.specs.Numbers.{spelling, number_spelling, signed_number
 use crate::TextError;
 use itoa::Buffer;
 
-/// The size of the least `i64`.
+// The size of the least `i64`.
 const LEAST_SIZE: u64 = 9_223_372_036_854_775_808;
 
-/// A number by its sign and its size, where a size that is too great for a `u64` stands as the greatest.
+// A number by its sign and its size, where a size that is too great for a `u64` stands as the greatest.
 #[derive(Clone, Copy)]
 struct SignedSize {
     is_negative: bool,
     size: u64,
 }
 
-/// The number that plain digits write, or the greatest `u64` where it is greater; `None` where `digits` is no plain
-/// numeral.
+// The number that plain digits write, or the greatest `u64` where it is greater; `None` where `digits` is no plain
+// numeral.
 fn size_of_digits(digits: &[u8]) -> Option<u64>
     ensures { MatchOption result (¬ IsPlainNumeral digits.now)
         (λ n. IsPlainNumeral digits.now × (n ≡ min (digits_value 10 digits.now) (2 ^ 64 - 1))) }
@@ -40,14 +40,14 @@ fn size_of_digits(digits: &[u8]) -> Option<u64>
     Some(size)
 }
 
-/// Whether a field begins with `-`.
+// Whether a field begins with `-`.
 fn begins_with_minus(field: &[u8]) -> bool
     ensures { MatchBool result (slice_index field.now 0 ≡ 45) (slice_index field.now 0 ≢ 45) }
 {
     !field.is_empty() && field[0] == b'-'
 }
 
-/// The number that a field spells, or `None` where it spells none.
+// The number that a field spells, or `None` where it spells none.
 fn signed_size(field: &[u8]) -> Option<SignedSize>
     ensures { MatchOption result (IsNoSpelling field.now)
         (λ s. IsSizeOf field.now s.is_negative s.size) }
@@ -73,7 +73,7 @@ fn signed_size(field: &[u8]) -> Option<SignedSize>
     })
 }
 
-/// The `i64` of a sign and a size, where there is one.
+// The `i64` of a sign and a size, where there is one.
 fn number_of(is_negative: bool, size: u64) -> Option<i64>
     ensures { SomeIff result (FitsSigned w64 (signed_number is_negative size)) (signed_number is_negative size) }
 {
@@ -92,7 +92,7 @@ fn number_of(is_negative: bool, size: u64) -> Option<i64>
     Some(-(size as i64))
 }
 
-/// Whether a number is within the bounds.
+// Whether a number is within the bounds.
 fn is_within(number: i64, least: i64, most: i64) -> bool
     ensures { MatchBool result (IsWithin least most number) ((number <ℤ least) ⊎ (most <ℤ number)) }
 {

@@ -36,72 +36,58 @@ fn numbers_have_one_spelling(rt: HostRuntime) {
     assert_eq!(rt; decimal(b"0", least, most), Ok(0));
     assert_eq!(rt; decimal(b"-1", least, most), Ok(-1));
     assert_eq!(rt; decimal(b"10", least, most), Ok(10));
-    assert_eq!(rt; decimal(b"", least, most), Err(TextError::NotDecimal));
-    assert_eq!(rt; decimal(b"-", least, most), Err(TextError::NotDecimal));
-    assert_eq!(rt; decimal(b"-0", least, most), Err(TextError::NotDecimal));
-    assert_eq!(rt; decimal(b"00", least, most), Err(TextError::NotDecimal));
-    assert_eq!(rt; decimal(b"07", least, most), Err(TextError::NotDecimal));
-    assert_eq!(rt; decimal(b"-07", least, most), Err(TextError::NotDecimal));
-    assert_eq!(rt; decimal(b"+1", least, most), Err(TextError::NotDecimal));
-    assert_eq!(rt; decimal(b"--1", least, most), Err(TextError::NotDecimal));
-    assert_eq!(rt; decimal(b" 1", least, most), Err(TextError::NotDecimal));
-    assert_eq!(rt; decimal(b"1a", least, most), Err(TextError::NotDecimal));
-    assert_eq!(rt; decimal(b"1/", least, most), Err(TextError::NotDecimal));
-    assert_eq!(rt; decimal(b"1:", least, most), Err(TextError::NotDecimal));
+    for field in [
+        b"".as_slice(),
+        b"-",
+        b"-0",
+        b"00",
+        b"07",
+        b"-07",
+        b"+1",
+        b"--1",
+        b" 1",
+        b"1a",
+        b"1/",
+        b"1:",
+    ] {
+        assert_eq!(rt; decimal(field, least, most), Err(TextError::NotDecimal));
+    }
     spelling_is_unique();
 }
 
 #[test]
 fn long_numbers_never_wrap(rt: HostRuntime) {
-    let (least, most) = (i64::MIN, i64::MAX);
-    assert_eq!(rt; decimal(b"9223372036854775807", least, most), Ok(i64::MAX));
-    assert_eq!(rt;
-        decimal(b"9223372036854775808", least, most),
-        Err(TextError::OutOfRange)
-    );
-    assert_eq!(rt; decimal(b"-9223372036854775808", least, most), Ok(i64::MIN));
-    assert_eq!(rt;
-        decimal(b"-9223372036854775809", least, most),
-        Err(TextError::OutOfRange)
-    );
-    assert_eq!(rt;
-        decimal(b"1000000000000000000", least, most),
-        Ok(1_000_000_000_000_000_000)
-    );
-    assert_eq!(rt;
-        decimal(b"10000000000000000000", least, most),
-        Err(TextError::OutOfRange)
-    );
-    assert_eq!(rt;
-        decimal(b"18446744073709551616", least, most),
-        Err(TextError::OutOfRange)
-    );
-    assert_eq!(rt;
-        decimal(b"18446744073709551617", least, most),
-        Err(TextError::OutOfRange)
-    );
-    assert_eq!(rt;
-        decimal(b"-100000000000000000000000000", least, most),
-        Err(TextError::OutOfRange)
-    );
-    assert_eq!(rt;
-        decimal(b"100000000000000000000000000x", least, most),
-        Err(TextError::NotDecimal)
-    );
+    let past = Err(TextError::OutOfRange);
+    for (field, want) in [
+        (b"9223372036854775807".as_slice(), Ok(i64::MAX)),
+        (b"9223372036854775808", past),
+        (b"-9223372036854775808", Ok(i64::MIN)),
+        (b"-9223372036854775809", past),
+        (b"1000000000000000000", Ok(1_000_000_000_000_000_000)),
+        (b"10000000000000000000", past),
+        (b"18446744073709551616", past),
+        (b"18446744073709551617", past),
+        (b"-100000000000000000000000000", past),
+        (b"100000000000000000000000000x", Err(TextError::NotDecimal)),
+    ] {
+        assert_eq!(rt; decimal(field, i64::MIN, i64::MAX), want);
+    }
 }
 
 #[test]
 fn bounds_are_included(rt: HostRuntime) {
-    assert_eq!(rt; decimal(b"1", 1, 2048), Ok(1));
-    assert_eq!(rt; decimal(b"0", 1, 2048), Err(TextError::OutOfRange));
-    assert_eq!(rt; decimal(b"2048", 1, 2048), Ok(2048));
-    assert_eq!(rt; decimal(b"2049", 1, 2048), Err(TextError::OutOfRange));
-    assert_eq!(rt; decimal(b"-16384", -16384, 16384), Ok(-16384));
-    assert_eq!(rt;
-        decimal(b"-16385", -16384, 16384),
-        Err(TextError::OutOfRange)
-    );
-    assert_eq!(rt; decimal(b"5", 6, 4), Err(TextError::OutOfRange));
+    let past = Err(TextError::OutOfRange);
+    for (field, least, most, want) in [
+        (b"1".as_slice(), 1, 2048, Ok(1)),
+        (b"0", 1, 2048, past),
+        (b"2048", 1, 2048, Ok(2048)),
+        (b"2049", 1, 2048, past),
+        (b"-16384", -16384, 16384, Ok(-16384)),
+        (b"-16385", -16384, 16384, past),
+        (b"5", 6, 4, past),
+    ] {
+        assert_eq!(rt; decimal(field, least, most), want);
+    }
 }
 
 #[test]

@@ -14,7 +14,8 @@ returns-clause-end c =
 written_over : (at size : ℕ) (xs ys ws : List ℕ) → ys ≡ ws → put_mid at (at + size - at) xs ys ≡ take at xs ++ ws ++ drop (at + size) xs
 written_over at size xs ys ws e =
     let k : at + size - at ≡ size = omega arith in
-    ap (λ m. put_mid at m xs ys) k ∙ ap (λ zs. take at xs ++ (zs ++ drop size (drop at xs))) e ∙ ap (λ zs. take at xs ++ (ws ++ zs)) (drop-drop size at xs) ∙ sym (append_assoc (take at xs) ws (drop (at + size) xs))
+    ap (λ m. put_mid at m xs ys) k ∙ ap (λ zs. take at xs ++ (zs ++ drop size (drop at xs))) e
+    ∙ ap (λ zs. take at xs ++ (ws ++ zs)) (drop-drop size at xs) ∙ sym (append_assoc (take at xs) ws (drop (at + size) xs))
 
 pub returns-clause-written : goal.returns-clause-written
 returns-clause-written c =
