@@ -61,7 +61,15 @@ begins_is_spaced K spaced xs g =
 then_is_ahead : (K : List ℕ → Type 0) (xs : List ℕ) → AreSpaced K → IsFieldThen K xs → IsFieldAhead xs
 then_is_ahead K xs spaced t =
     let w : IsWhiteFront t.rest = spaced t.rest t.next in
-    record { text = t.text; space = w.first; rest = w.rest; value = t.value; spelt = t.spelt ∙ ap (λ ys. t.text ++ ys) w.spelt; field = t.field; white = w.white }
+    record {
+      text = t.text;
+      space = w.first;
+      rest = w.rest;
+      value = t.value;
+      spelt = t.spelt ∙ ap (λ ys. t.text ++ ys) w.spelt;
+      field = t.field;
+      white = w.white;
+    }
 
 then_begins : (K : List ℕ → Type 0) (b : List ℕ) → Begins (IsFieldThen K) b → IsFieldThen (Begins K) b
 then_begins K b g = record {
@@ -91,13 +99,15 @@ field_breaks K b at sample spaced some broken = record {
 }
 
 -- fields before bytes that are no digits are one
-field_before : (f g r s : List ℕ) (v u c d : ℕ) → IsField f v → IsField g u → is_ascii_digit c ≡ false → is_ascii_digit d ≡ false → f ++ (c ∷ r) ≡ g ++ (d ∷ s) → f ≡ g
+field_before : (f g r s : List ℕ) (v u c d : ℕ) → IsField f v → IsField g u → is_ascii_digit c ≡ false → is_ascii_digit d ≡ false
+    → f ++ (c ∷ r) ≡ g ++ (d ∷ s) → f ≡ g
 field_before f g r s v u c d i j hc hd e =
     let digits : list_all is_ascii_digit j.digits ≡ true = test_of_digits j.digits j.is_number.numeral.1 in
     let parts : f ++ (c ∷ r) ≡ j.gap ++ (j.digits ++ (d ∷ s)) = e ∙ field_parts g (d ∷ s) u j in
     let gaps : i.gap ≡ j.gap = gap_of_field f (c ∷ r) j.gap j.digits (d ∷ s) v i j.is_gap j.is_number.numeral.0 digits parts in
     let rests : i.digits ++ (c ∷ r) ≡ j.digits ++ (d ∷ s) = digits_of_field f (c ∷ r) j.gap j.digits (d ∷ s) v i j.is_gap j.is_number.numeral.0 digits parts in
-    let same : AreSame i.digits j.digits c d r s = run_is_one is_ascii_digit i.digits j.digits r s c d (test_of_digits i.digits i.is_number.numeral.1) digits hc hd rests in
+    let same : AreSame i.digits j.digits c d r s = run_is_one is_ascii_digit i.digits j.digits r s c d
+    (test_of_digits i.digits i.is_number.numeral.1) digits hc hd rests in
     i.spelt ∙ ap (λ xs. xs ++ i.digits) gaps ∙ ap (λ xs. j.gap ++ xs) same.front ∙ sym j.spelt
 
 -- bytes that do not begin with a digit, with a line end behind them
@@ -121,9 +131,11 @@ behind_field K f xs v spaced i none t =
     let w : IsWhiteFront t.rest = spaced t.rest t.next in
     let d : IsDigitless xs = digitless xs none in
     let left : (f ++ xs) ++ (10 ∷ []) ≡ f ++ (d.first ∷ d.rest) = append_assoc f xs (10 ∷ []) ∙ ap (λ ys. f ++ ys) d.spelt in
-    let right : (t.text ++ t.rest) ++ (10 ∷ []) ≡ t.text ++ (w.first ∷ (w.rest ++ (10 ∷ []))) = append_assoc t.text t.rest (10 ∷ []) ∙ ap (λ ys. t.text ++ (ys ++ (10 ∷ []))) w.spelt in
+    let right : (t.text ++ t.rest) ++ (10 ∷ []) ≡ t.text ++ (w.first ∷ (w.rest ++ (10 ∷ []))) = append_assoc t.text t.rest (10 ∷ [])
+    ∙ ap (λ ys. t.text ++ (ys ++ (10 ∷ []))) w.spelt in
     let all : f ++ (d.first ∷ d.rest) ≡ t.text ++ (w.first ∷ (w.rest ++ (10 ∷ []))) = sym left ∙ ap (λ ys. ys ++ (10 ∷ [])) t.spelt ∙ right in
-    let texts : f ≡ t.text = field_before f t.text d.rest (w.rest ++ (10 ∷ [])) v t.value d.first w.first i t.field d.no_digit (white_is_no_digit w.first w.white) all in
+    let texts : f ≡ t.text = field_before f t.text d.rest (w.rest ++ (10 ∷ [])) v t.value d.first w.first i t.field d.no_digit
+    (white_is_no_digit w.first w.white) all in
     let rests : xs ≡ t.rest = append_cancel_left f xs t.rest (t.spelt ∙ ap (λ ys. ys ++ t.rest) (sym texts)) in
     subst K (sym rests) t.next
 
@@ -136,10 +148,12 @@ no_digit_in_front (c ∷ cs) ys at within none =
     rw one (no_run is_ascii_digit c (take at cs ++ ys) (ap is_ascii_digit same ∙ d.no_digit))
 
 -- where the bytes behind a field break, the whole does
-pub rest_breaks : (K : List ℕ → Type 0) (b : List ℕ) (len value at : ℕ) → AreSpaced K → IsFirstField b len value → Breaks K (drop len b) at → Breaks (IsFieldThen K) b (len + at)
+pub rest_breaks : (K : List ℕ → Type 0) (b : List ℕ) (len value at : ℕ) → AreSpaced K → IsFirstField b len value → Breaks K (drop len b) at
+    → Breaks (IsFieldThen K) b (len + at)
 rest_breaks K b len value at spaced f broken = record {
   within = omega (arith, length-drop len b, f.within, broken.within);
-  none = λ g. broken.none (behind_field (Begins K) (take len b) (drop len b) value (begins_is_spaced K spaced) f.field f.ended (subst (IsFieldThen (Begins K)) (sym (take-append-drop len b)) (then_begins K b g)));
+  none = λ g. broken.none (behind_field (Begins K) (take len b) (drop len b) value (begins_is_spaced K spaced) f.field f.ended
+      (subst (IsFieldThen (Begins K)) (sym (take-append-drop len b)) (then_begins K b g)));
   rest = broken.rest;
   front = record {
     text = take len b;

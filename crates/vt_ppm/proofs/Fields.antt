@@ -32,7 +32,8 @@ gap_begins : (g : List ℕ) → IsGap g → IsFieldFront g
 gap_begins g gap = record { rest = codes "1"; value = digits_value 10 (codes "1"); field = field_of g (codes "1") gap (omega arith) (omega arith) refl }
 
 -- where the bytes go on, no field and white space stand in front only if they can stand behind one byte more
-broken_by : (b : List ℕ) (at : ℕ) → at < length b → IsFieldFront (take at b) → ((rest : List ℕ) → IsFieldAhead (take (at + 1) b ++ rest) → ⊥) → IsBrokenField b at
+broken_by : (b : List ℕ) (at : ℕ) → at < length b → IsFieldFront (take at b) → ((rest : List ℕ) → IsFieldAhead (take (at + 1) b ++ rest) → ⊥)
+    → IsBrokenField b at
 broken_by b at within front never = record {
   within = omega arith;
   none = λ ahead. never (drop (at + 1) b) (subst IsFieldAhead (sym (take-append-drop (at + 1) b)) ahead);
@@ -50,7 +51,11 @@ ahead_is_white b c rest ahead e =
 
 -- no bytes begin a field
 nothing_begins : IsFieldFront []
-nothing_begins = record { rest = codes " 1"; value = digits_value 10 (codes "1"); field = field_of (codes " ") (codes "1") (white_is_gap 32 refl) (omega arith) (omega arith) refl }
+nothing_begins = record {
+  rest = codes " 1";
+  value = digits_value 10 (codes "1");
+  field = field_of (codes " ") (codes "1") (white_is_gap 32 refl) (omega arith) (omega arith) refl;
+}
 
 -- no white space in front
 no_gap : (b : List ℕ) → prefix_len is_white b ≡ 0 → IsBrokenField b 0
@@ -74,7 +79,8 @@ gap_to_end b gap = record {
   front = subst IsFieldFront (sym (take_all (length b) b (omega arith))) (record {
     rest = 10 ∷ codes "1";
     value = digits_value 10 (codes "1");
-    field = subst (λ xs. IsField xs (digits_value 10 (codes "1"))) (append_assoc b (10 ∷ []) (codes "1")) (field_of (b ++ (10 ∷ [])) (codes "1") gap (omega arith) (omega arith) refl);
+    field = subst (λ xs. IsField xs (digits_value 10 (codes "1"))) (append_assoc b (10 ∷ []) (codes "1"))
+        (field_of (b ++ (10 ∷ [])) (codes "1") gap (omega arith) (omega arith) refl);
   });
   breaks = inl refl;
 }
@@ -83,15 +89,19 @@ gap_to_end b gap = record {
     never ahead =
         let x : List ℕ = (ahead.space ∷ ahead.rest) ++ (10 ∷ codes "1") in
         let e : ahead.text ++ x ≡ (b ++ (10 ∷ [])) ++ (codes "1" ++ []) =
-        sym (append_assoc ahead.text (ahead.space ∷ ahead.rest) (10 ∷ codes "1")) ∙ ap (λ xs. xs ++ (10 ∷ codes "1")) (sym ahead.spelt) ∙ sym (append_assoc b (10 ∷ []) (codes "1")) in
-        let same : ahead.field.gap ≡ b ++ (10 ∷ []) = gap_of_field ahead.text x (b ++ (10 ∷ [])) (codes "1") [] ahead.value ahead.field gap (omega arith) refl e in
+        sym (append_assoc ahead.text (ahead.space ∷ ahead.rest) (10 ∷ codes "1")) ∙ ap (λ xs. xs ++ (10 ∷ codes "1")) (sym ahead.spelt)
+        ∙ sym (append_assoc b (10 ∷ []) (codes "1")) in
+        let same : ahead.field.gap ≡ b ++ (10 ∷ []) = gap_of_field ahead.text x (b ++ (10 ∷ [])) (codes "1") [] ahead.value ahead.field gap
+        (omega arith) refl e in
         let long : length b ≡ length ahead.text + suc (length ahead.rest) = ap length ahead.spelt ∙ length-append ahead.text (ahead.space ∷ ahead.rest) in
-        let text : length ahead.text ≡ length ahead.field.gap + length ahead.field.digits = ap length ahead.field.spelt ∙ length-append ahead.field.gap ahead.field.digits in
+        let text : length ahead.text ≡ length ahead.field.gap + length ahead.field.digits = ap length ahead.field.spelt
+        ∙ length-append ahead.field.gap ahead.field.digits in
         let more : length ahead.field.gap ≡ length b + 1 = ap length same ∙ length-append b (10 ∷ []) in
         omega arith
 
 -- a byte after a gap that neither goes on with it nor is a digit
-no_digit : (b : List ℕ) (at : ℕ) → at < length b → IsGap (take at b) → is_white (get_or b at 0) ≡ false → (get_or b at 0 ≡ 35 → ⊥) → is_ascii_digit (get_or b at 0) ≡ false → IsBrokenField b at
+no_digit : (b : List ℕ) (at : ℕ) → at < length b → IsGap (take at b) → is_white (get_or b at 0) ≡ false → (get_or b at 0 ≡ 35 → ⊥)
+    → is_ascii_digit (get_or b at 0) ≡ false → IsBrokenField b at
 no_digit b at within gap no_white no_hash black = broken_by b at within (gap_begins (take at b) gap) never
   where
     apart : (f : List ℕ) (v : ℕ) (x rest : List ℕ) (i : IsField f v) (ds : List ℕ) → ds ≡ i.digits → f ++ x ≡ take at b ++ (get_or b at 0 ∷ rest) → ⊥
@@ -100,13 +110,16 @@ no_digit b at within gap no_white no_hash black = broken_by b at within (gap_beg
         let digits : list_all is_ascii_digit (d ∷ ds) ≡ true = ap (list_all is_ascii_digit) eds ∙ test_of_digits i.digits i.is_number.numeral.1 in
         let digit : is_ascii_digit d ≡ true = passes_first is_ascii_digit d ds digits in
         let parts : i.gap ++ (d ∷ (ds ++ x)) ≡ take at b ++ (get_or b at 0 ∷ rest) = ap (λ xs. i.gap ++ (xs ++ x)) eds ∙ sym (field_parts f x v i) ∙ e in
-        let gaps : i.gap ≡ take at b = gap_is_one i.gap (take at b) (ds ++ x) rest d (get_or b at 0) i.is_gap gap (digit_is_no_white d digit) (digit_is_no_hash d digit) no_white no_hash parts in
-        let tails : d ∷ (ds ++ x) ≡ get_or b at 0 ∷ rest = append_cancel_left (take at b) (d ∷ (ds ++ x)) (get_or b at 0 ∷ rest) (ap (λ xs. xs ++ (d ∷ (ds ++ x))) (sym gaps) ∙ parts) in
+        let gaps : i.gap ≡ take at b = gap_is_one i.gap (take at b) (ds ++ x) rest d (get_or b at 0) i.is_gap gap (digit_is_no_white d digit)
+        (digit_is_no_hash d digit) no_white no_hash parts in
+        let tails : d ∷ (ds ++ x) ≡ get_or b at 0 ∷ rest = append_cancel_left (take at b) (d ∷ (ds ++ x)) (get_or b at 0 ∷ rest)
+        (ap (λ xs. xs ++ (d ∷ (ds ++ x))) (sym gaps) ∙ parts) in
         let same : d ≡ get_or b at 0 = cc tails in
         never_both (is_ascii_digit d) digit (ap is_ascii_digit same ∙ black)
 
     never : (rest : List ℕ) → IsFieldAhead (take (at + 1) b ++ rest) → ⊥
-    never rest ahead = apart ahead.text ahead.value (ahead.space ∷ ahead.rest) rest ahead.field ahead.field.digits refl (sym ahead.spelt ∙ first_of_more b rest at within)
+    never rest ahead = apart ahead.text ahead.value (ahead.space ∷ ahead.rest) rest ahead.field ahead.field.digits refl
+        (sym ahead.spelt ∙ first_of_more b rest at within)
 
 -- an element of elements that pass
 passes_at : (ds : List ℕ) (k : ℕ) → k < length ds → list_all is_ascii_digit ds ≡ true → is_ascii_digit (get_or ds k 0) ≡ true
@@ -123,7 +136,8 @@ passes_take n xs count ec few =
 -- a digit too many
 eleven : (g ds rest : List ℕ) → IsGap g → length ds ≡ 11 → list_all is_ascii_digit ds ≡ true → IsFieldAhead (g ++ (ds ++ rest)) → ⊥
 eleven g ds rest gap len all ahead =
-    let e : ahead.field.digits ++ (ahead.space ∷ ahead.rest) ≡ ds ++ rest = digits_of_field ahead.text (ahead.space ∷ ahead.rest) g ds rest ahead.value ahead.field gap (omega arith) all (sym ahead.spelt) in
+    let e : ahead.field.digits ++ (ahead.space ∷ ahead.rest) ≡ ds ++ rest =
+    digits_of_field ahead.text (ahead.space ∷ ahead.rest) g ds rest ahead.value ahead.field gap (omega arith) all (sym ahead.spelt) in
     let k : ℕ = length ahead.field.digits in
     let few : k ≤ 10 = ahead.field.is_number.few in
     let left : get_or (ahead.field.digits ++ (ahead.space ∷ ahead.rest)) k 0 ≡ ahead.space = get_or_at ahead.field.digits ahead.space ahead.rest 0 k refl in
@@ -147,24 +161,30 @@ many_digits b g count gap ec many =
     let plus : g + 10 + 1 ≡ g + 11 = omega arith in
     let parts : take (g + 10 + 1) b ≡ take g b ++ take 11 x = ap (λ n. take n b) plus ∙ take-add g 11 b in
     broken_by b (g + 10) long front
-    (λ rest ahead. eleven (take g b) (take 11 x) rest gap last (passes_take 11 x count ec (omega arith)) (subst IsFieldAhead (ap (λ xs. xs ++ rest) parts ∙ append_assoc (take g b) (take 11 x) rest) ahead))
+    (λ rest ahead. eleven (take g b) (take 11 x) rest gap last (passes_take 11 x count ec (omega arith))
+    (subst IsFieldAhead (ap (λ xs. xs ++ rest) parts ∙ append_assoc (take g b) (take 11 x) rest) ahead))
 
 -- the field that a gap and digits make
-made_field : (b : List ℕ) (g count value : ℕ) → IsGap (take g b) → g ≤ length b → count ≡ prefix_len is_ascii_digit (drop g b) → 1 ≤ count → count ≤ 10 → value ≡ digits_value 10 (take count (drop g b)) → IsFirstField b (g + count) value
+made_field : (b : List ℕ) (g count value : ℕ) → IsGap (take g b) → g ≤ length b → count ≡ prefix_len is_ascii_digit (drop g b) → 1 ≤ count
+    → count ≤ 10 → value ≡ digits_value 10 (take count (drop g b)) → IsFirstField b (g + count) value
 made_field b g count value gap inside ec some few ev =
     let within : count ≤ length (drop g b) = omega (arith, ec, prefix_len-le-length is_ascii_digit (drop g b)) in
     let len : length (take count (drop g b)) ≡ count = length-take-le count (drop g b) within in
-    let field : IsField (take g b ++ take count (drop g b)) (digits_value 10 (take count (drop g b))) = field_of (take g b) (take count (drop g b)) gap (omega arith) (omega arith) (passes_take count (drop g b) count ec (omega arith)) in
+    let field : IsField (take g b ++ take count (drop g b)) (digits_value 10 (take count (drop g b))) =
+    field_of (take g b) (take count (drop g b)) gap (omega arith) (omega arith) (passes_take count (drop g b) count ec (omega arith)) in
     record {
       within = omega (arith, length-drop g b);
-      field = subst (λ v. IsField (take (g + count) b) v) (sym ev) (subst (λ xs. IsField xs (digits_value 10 (take count (drop g b)))) (sym (take-add g count b)) field);
-      ended = ap (prefix_len is_ascii_digit) (sym (drop-drop count g b)) ∙ ap (λ n. prefix_len is_ascii_digit (drop n (drop g b))) ec ∙ run_ended is_ascii_digit (drop g b);
+      field = subst (λ v. IsField (take (g + count) b) v) (sym ev) (subst (λ xs. IsField xs (digits_value 10 (take count (drop g b))))
+          (sym (take-add g count b)) field);
+      ended = ap (prefix_len is_ascii_digit) (sym (drop-drop count g b)) ∙ ap (λ n. prefix_len is_ascii_digit (drop n (drop g b))) ec
+          ∙ run_ended is_ascii_digit (drop g b);
     }
 
 -- where the gap or the digits are missing
-no_field_after : (b : List ℕ) (g count : ℕ) → 1 ≤ g → IsGapRun b g → count ≡ prefix_len is_ascii_digit (drop g b) → count ≡ 0 → (g < length b) ⊎ (length b ≤ g) → IsBrokenField b g
+no_field_after : (b : List ℕ) (g count : ℕ) → 1 ≤ g → IsGapRun b g → count ≡ prefix_len is_ascii_digit (drop g b) → count ≡ 0
+    → (g < length b) ⊎ (length b ≤ g) → IsBrokenField b g
 no_field_after b g count some run ec none (inl within) =
-    no_digit b g within (run.front.gap some within) (run.front.no_white some within) (run.no_remark some within)
+    no_digit b g within (run.front.gap some within) (run.front.no_white some within) (λ e. run.no_remark some (within, e))
     (ap (λ i. is_ascii_digit (get_or b i 0)) (omega arith) ∙ run_stops is_ascii_digit b g 0 (sym none ∙ ec) (omega arith))
 no_field_after b g count some run ec none (inr past) =
     let end : length b ≡ g = omega (arith, run.front.within) in
@@ -176,7 +196,8 @@ no_field b (suc g) count run ec (inl none) = absurd (omega (arith, none))
 no_field b (suc g) count run ec (inr none) = no_field_after b (suc g) count (omega arith) run ec none (cases_lt (suc g) (length b))
 
 -- the same from a place on, where the rests are known by equations
-module _ (b rest after : List ℕ) (from gap count : ℕ) (inside : from ≤ length b) (er : rest ≡ drop from b) (run : IsGapRun rest gap) (ea : after ≡ drop gap rest) (ec : count ≡ prefix_len is_ascii_digit after) where
+module _ (b rest after : List ℕ) (from gap count : ℕ) (inside : from ≤ length b) (er : rest ≡ drop from b) (run : IsGapRun rest gap)
+    (ea : after ≡ drop gap rest) (ec : count ≡ prefix_len is_ascii_digit after) where
   digits_run : count ≡ prefix_len is_ascii_digit (drop gap rest)
   digits_run = ec ∙ ap (prefix_len is_ascii_digit) ea
 
@@ -201,7 +222,8 @@ module _ (b rest after : List ℕ) (from gap count : ℕ) (inside : from ≤ len
   field_made_at value some digits few ev =
       let within : gap < length rest = digits_within (omega arith) in
       let front : IsGap (take gap rest) = run.front.gap (omega arith) within in
-      let field : IsFirstField rest (gap + count) value = made_field rest gap count value front (omega arith) digits_run (omega arith) few (ev ∙ ap (λ xs. digits_value 10 (take count xs)) ea) in
+      let field : IsFirstField rest (gap + count) value = made_field rest gap count value front (omega arith) digits_run (omega arith) few
+      (ev ∙ ap (λ xs. digits_value 10 (take count xs)) ea) in
       record {
         len = gap + count;
         end_is = omega arith;

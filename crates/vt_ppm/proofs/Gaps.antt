@@ -36,7 +36,8 @@ pub record AreSame (xs ys : List ℕ) (c d : ℕ) (r s : List ℕ) : Type 0 wher
   pub rest : r ≡ s
 
 -- a run of elements that pass is cut off by the first that does not
-pub run_is_one : (p : ℕ → Bool) (xs ys r s : List ℕ) (c d : ℕ) → list_all p xs ≡ true → list_all p ys ≡ true → p c ≡ false → p d ≡ false → xs ++ (c ∷ r) ≡ ys ++ (d ∷ s) → AreSame xs ys c d r s
+pub run_is_one : (p : ℕ → Bool) (xs ys r s : List ℕ) (c d : ℕ) → list_all p xs ≡ true → list_all p ys ≡ true → p c ≡ false → p d ≡ false
+    → xs ++ (c ∷ r) ≡ ys ++ (d ∷ s) → AreSame xs ys c d r s
 run_is_one p [] [] r s c d hx hy hc hd e = record { front = refl; stop = cc; rest = cc }
 run_is_one p [] (y ∷ ys) r s c d hx hy hc hd e = absurd (passes_apart p y c (passes_first p y ys hy) hc cc)
 run_is_one p (x ∷ xs) [] r s c d hx hy hc hd e = absurd (passes_apart p x d (passes_first p x xs hx) hd cc)
@@ -71,7 +72,8 @@ comment_is_one p q x y j k e =
     let ek : q ++ y ≡ 35 ∷ (k.remark ++ (k.ending ∷ y)) = ap (λ xs. xs ++ y) k.spelt ∙ ap (λ xs. 35 ∷ xs) (append_assoc k.remark (k.ending ∷ []) y) in
     let all : 35 ∷ (j.remark ++ (j.ending ∷ x)) ≡ 35 ∷ (k.remark ++ (k.ending ∷ y)) = sym ej ∙ e ∙ ek in
     let tails : j.remark ++ (j.ending ∷ x) ≡ k.remark ++ (k.ending ∷ y) = cc all in
-    let same : AreSame j.remark k.remark j.ending k.ending x y = run_is_one (λ c. not (is_line_end c)) j.remark k.remark x y j.ending k.ending j.one_line k.one_line (ap not j.ended) (ap not k.ended) tails in
+    let same : AreSame j.remark k.remark j.ending k.ending x y = run_is_one
+    (λ c. not (is_line_end c)) j.remark k.remark x y j.ending k.ending j.one_line k.one_line (ap not j.ended) (ap not k.ended) tails in
     record {
       front = j.spelt ∙ ap (λ xs. 35 ∷ (xs ++ (j.ending ∷ []))) same.front ∙ ap (λ c. 35 ∷ (k.remark ++ (c ∷ []))) same.stop ∙ sym k.spelt;
       rest = same.rest;
@@ -95,7 +97,8 @@ part_is_one p q x y (inr j) (inl w) e =
 part_is_one p q x y (inr j) (inr k) e = comment_is_one p q x y j k e
 
 -- parts are cut off by the first byte with which none begins
-pub parts_are_one : (ps qs : List (List ℕ)) (r s : List ℕ) (c d : ℕ) → All IsGapPart ps → All IsGapPart qs → IsBlack c → IsBlack d → joined ps ++ (c ∷ r) ≡ joined qs ++ (d ∷ s) → joined ps ≡ joined qs
+pub parts_are_one : (ps qs : List (List ℕ)) (r s : List ℕ) (c d : ℕ) → All IsGapPart ps → All IsGapPart qs → IsBlack c → IsBlack d
+    → joined ps ++ (c ∷ r) ≡ joined qs ++ (d ∷ s) → joined ps ≡ joined qs
 parts_are_one [] [] r s c d hp hq hc hd e = refl
 parts_are_one [] (q ∷ qs) r s c d hp hq hc hd e =
     absurd (part_begins q (joined qs ++ (d ∷ s)) r c (All-head IsGapPart q qs hq) hc (sym (append_assoc q (joined qs) (d ∷ s)) ∙ sym e))
@@ -103,17 +106,21 @@ parts_are_one (p ∷ ps) [] r s c d hp hq hc hd e =
     absurd (part_begins p (joined ps ++ (c ∷ r)) s d (All-head IsGapPart p ps hp) hd (sym (append_assoc p (joined ps) (c ∷ r)) ∙ e))
 parts_are_one (p ∷ ps) (q ∷ qs) r s c d hp hq hc hd e =
     let all : p ++ (joined ps ++ (c ∷ r)) ≡ q ++ (joined qs ++ (d ∷ s)) = sym (append_assoc p (joined ps) (c ∷ r)) ∙ e ∙ append_assoc q (joined qs) (d ∷ s) in
-    let same : AreSameFronts p q (joined ps ++ (c ∷ r)) (joined qs ++ (d ∷ s)) = part_is_one p q (joined ps ++ (c ∷ r)) (joined qs ++ (d ∷ s)) (All-head IsGapPart p ps hp) (All-head IsGapPart q qs hq) all in
+    let same : AreSameFronts p q (joined ps ++ (c ∷ r)) (joined qs ++ (d ∷ s)) =
+    part_is_one p q (joined ps ++ (c ∷ r)) (joined qs ++ (d ∷ s)) (All-head IsGapPart p ps hp) (All-head IsGapPart q qs hq) all in
     let after : joined ps ≡ joined qs = parts_are_one ps qs r s c d (All-tail IsGapPart p ps hp) (All-tail IsGapPart q qs hq) hc hd same.rest in
     ap (λ xs. xs ++ joined ps) same.front ∙ ap (λ xs. q ++ xs) after
 
 -- a gap is cut off by the first byte that is neither white space nor `#`
-pub gap_is_one : (g h r s : List ℕ) (c d : ℕ) → IsGap g → IsGap h → is_white c ≡ false → (c ≡ 35 → ⊥) → is_white d ≡ false → (d ≡ 35 → ⊥) → g ++ (c ∷ r) ≡ h ++ (d ∷ s) → g ≡ h
+pub gap_is_one : (g h r s : List ℕ) (c d : ℕ) → IsGap g → IsGap h → is_white c ≡ false → (c ≡ 35 → ⊥) → is_white d ≡ false → (d ≡ 35 → ⊥)
+    → g ++ (c ∷ r) ≡ h ++ (d ∷ s) → g ≡ h
 gap_is_one g h r s c d i j wc kc wd kd e =
-    let all : i.first ∷ (joined i.parts ++ (c ∷ r)) ≡ j.first ∷ (joined j.parts ++ (d ∷ s)) = ap (λ xs. xs ++ (c ∷ r)) (sym i.spelt) ∙ e ∙ ap (λ xs. xs ++ (d ∷ s)) j.spelt in
+    let all : i.first ∷ (joined i.parts ++ (c ∷ r)) ≡ j.first ∷ (joined j.parts ++ (d ∷ s)) = ap (λ xs. xs ++ (c ∷ r)) (sym i.spelt) ∙ e
+    ∙ ap (λ xs. xs ++ (d ∷ s)) j.spelt in
     let first : i.first ≡ j.first = cc all in
     let tails : joined i.parts ++ (c ∷ r) ≡ joined j.parts ++ (d ∷ s) = cc all in
-    let same : joined i.parts ≡ joined j.parts = parts_are_one i.parts j.parts r s c d i.each j.each record { no_white = wc; no_hash = kc } record { no_white = wd; no_hash = kd } tails in
+    let same : joined i.parts ≡ joined j.parts = parts_are_one i.parts j.parts r s c d i.each j.each record { no_white = wc; no_hash = kc } record
+    { no_white = wd; no_hash = kd } tails in
     i.spelt ∙ ap (λ a. a ∷ joined i.parts) first ∙ ap (λ xs. j.first ∷ xs) same ∙ sym j.spelt
 
 -- one white space byte is a gap
@@ -127,7 +134,8 @@ gap_and_part g part i is =
     record {
       first = i.first;
       parts = i.parts ++ (part ∷ []);
-      spelt = ap (λ xs. xs ++ part) i.spelt ∙ ap (λ xs. i.first ∷ xs) (ap (λ xs. joined i.parts ++ xs) (sym one) ∙ sym (flat_map-append (λ xs. xs) i.parts (part ∷ [])));
+      spelt = ap (λ xs. xs ++ part) i.spelt ∙ ap (λ xs. i.first ∷ xs) (ap (λ xs. joined i.parts ++ xs) (sym one)
+          ∙ sym (flat_map-append (λ xs. xs) i.parts (part ∷ [])));
       white = i.white;
       each = All-append IsGapPart i.parts (part ∷ []) i.each (All-cons IsGapPart part [] is (All-nil IsGapPart));
     }
@@ -140,7 +148,8 @@ gap_and_byte g c i white = gap_and_part g (c ∷ []) i (inl (c, refl, white))
 pub gap_and_white : (g w : List ℕ) → IsGap g → IsTrue (list_all is_white w) → IsGap (g ++ w)
 gap_and_white g [] i white = subst IsGap (sym (append-nil g)) i
 gap_and_white g (c ∷ w) i white =
-    subst IsGap (append_assoc g (c ∷ []) w) (gap_and_white (g ++ (c ∷ [])) w (gap_and_byte g c i (passes_first is_white c w white)) (passes_rest is_white c w white))
+    subst IsGap (append_assoc g (c ∷ []) w) (gap_and_white (g ++ (c ∷ [])) w (gap_and_byte g c i (passes_first is_white c w white))
+    (passes_rest is_white c w white))
 
 -- a gap and a whole comment is a gap
 pub gap_and_comment : (g text : List ℕ) → IsGap g → IsComment text → IsGap (g ++ text)

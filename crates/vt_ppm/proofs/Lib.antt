@@ -3,9 +3,10 @@ pub mod Headers
 pub mod Runs
 pub mod Fields
 pub mod Breaks
-pub mod Found
+pub mod HeaderFields
 pub mod Rasters
-pub mod Told
+pub mod TellingFiles
 pub mod ImageLaws
-pub mod FaultLaws
-pub mod Written
+pub mod FlawLaws
+pub mod WrittenPictures
+pub mod AskedPlaces

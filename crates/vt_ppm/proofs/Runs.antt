@@ -10,7 +10,7 @@ use Rattle.std.proofs.lemmas.List.{take-append-drop, take_all, drop-drop, drop_m
 use Rattle.std.proofs.lemmas.List.Sums.{take_while-cons, prefix_len-le-length, prefix_len_stops}
 use Rattle.std.proofs.lemmas.Int.Digits.{digits_value-lt}
 use Rattle.vt_ppm.specs.Format.{is_white, is_line_end, IsComment, IsGap}
-use Rattle.vt_ppm.specs.Header.{IsGapFront}
+use Rattle.vt_ppm.specs.Header.{BeginsComment, IsGapFront}
 use Rattle.vt_ppm.proofs.Gaps.{gap_and_white, gap_and_comment, whites_are_gap, passes_first, passes_rest}
 use Rattle.vt_ppm.proofs.Headers.{digits_of_test}
 
@@ -80,13 +80,20 @@ pub white_front_is : (b : List ℕ) (len : ℕ) → len ≡ prefix_len is_white 
 white_front_is b len e = subst (IsGapFront b) (sym e) (record {
   within = prefix_len-le-length is_white b;
   none = λ h. h;
-  whole = λ some h. subst (λ xs. IsGap (xs ++ (10 ∷ []))) (take_all (prefix_len is_white b) b (omega (arith, h))) (gap_and_white (take (prefix_len is_white b) b) (10 ∷ []) (gap some) refl);
+  whole = λ some h. subst (λ xs. IsGap (xs ++ (10 ∷ []))) (take_all (prefix_len is_white b) b (omega (arith, h)))
+      (gap_and_white (take (prefix_len is_white b) b) (10 ∷ []) (gap some) refl);
   gap = λ some h. gap some;
   no_white = λ some h. prefix_len_stops is_white b 0 h;
 })
   where
     gap : 1 ≤ prefix_len is_white b → IsGap (take (prefix_len is_white b) b)
-    gap some = white_gap (take (prefix_len is_white b) b) (omega (arith, length-take (prefix_len is_white b) b, prefix_len-le-length is_white b, some)) (run_passes is_white b)
+    gap some = white_gap (take (prefix_len is_white b) b) (omega (
+      arith,
+      length-take
+          (prefix_len is_white b) b,
+      prefix_len-le-length is_white b,
+      some,
+    )) (run_passes is_white b)
 
 -- a byte that ends a line is white space
 line_end_is_white : (c : ℕ) → is_line_end c ≡ true → is_white c ≡ true
@@ -114,16 +121,19 @@ unended_gap g ys m em none gap =
     subst IsGap (sym (append_assoc g (35 ∷ ys) (10 ∷ []))) (gap_and_comment g (35 ∷ (ys ++ (10 ∷ []))) gap text)
 
 -- a comment, and the white space that ends it and follows it
-ended_gap : (g ys zs : List ℕ) (c k : ℕ) → is_line_end c ≡ true → k ≡ prefix_len is_white (c ∷ zs) → IsGap g → IsGap (g ++ ((35 ∷ take_while in_line ys) ++ take k (c ∷ zs)))
+ended_gap : (g ys zs : List ℕ) (c k : ℕ) → is_line_end c ≡ true → k ≡ prefix_len is_white (c ∷ zs) → IsGap g
+    → IsGap (g ++ ((35 ∷ take_while in_line ys) ++ take k (c ∷ zs)))
 ended_gap g ys zs c k ends ek gap =
     let line : List ℕ = take_while in_line ys in
     let whites : IsTrue (list_all is_white (take_while is_white zs)) = run_passes is_white zs in
-    let run : take k (c ∷ zs) ≡ c ∷ take_while is_white zs = ap (λ n. take n (c ∷ zs)) ek ∙ take_while-cons is_white c zs ∙ ap (λ v. cond v (c ∷ take_while is_white zs) []) (line_end_is_white c ends) in
+    let run : take k (c ∷ zs) ≡ c ∷ take_while is_white zs = ap (λ n. take n (c ∷ zs)) ek ∙ take_while-cons is_white c zs
+    ∙ ap (λ v. cond v (c ∷ take_while is_white zs) []) (line_end_is_white c ends) in
     let parts : g ++ ((35 ∷ line) ++ take k (c ∷ zs)) ≡ (g ++ (35 ∷ (line ++ (c ∷ [])))) ++ take_while is_white zs =
     ap (λ xs. g ++ ((35 ∷ line) ++ xs)) run
     ∙ ap (λ xs. g ++ (35 ∷ xs)) (sym (append_assoc (line) (c ∷ []) (take_while is_white zs)))
     ∙ sym (append_assoc g (35 ∷ (line ++ (c ∷ []))) (take_while is_white zs)) in
-    subst IsGap (sym parts) (gap_and_white (g ++ (35 ∷ (line ++ (c ∷ [])))) (take_while is_white zs) (gap_and_comment g (35 ∷ (line ++ (c ∷ []))) gap (comment_of_line ys c ends)) whites)
+    subst IsGap (sym parts) (gap_and_white (g ++ (35 ∷ (line ++ (c ∷ [])))) (take_while is_white zs)
+    (gap_and_comment g (35 ∷ (line ++ (c ∷ []))) gap (comment_of_line ys c ends)) whites)
 
 -- what does not fail a test's opposite
 passes_back : (v : Bool) → not v ≡ false → v ≡ true
@@ -131,7 +141,8 @@ passes_back true e = refl
 passes_back false e = absurd cc
 
 -- a gap goes on with a comment and the white space behind it
-goes_on : (b ys z : List ℕ) (at n m k : ℕ) → IsGap (take at b) → 1 ≤ at → at < length b → drop at b ≡ 35 ∷ ys → n ≡ suc m → m ≡ prefix_len in_line ys → drop m ys ≡ z → k ≡ prefix_len is_white z → IsGapFront b (at + (n + k))
+goes_on : (b ys z : List ℕ) (at n m k : ℕ) → IsGap (take at b) → 1 ≤ at → at < length b → drop at b ≡ 35 ∷ ys → n ≡ suc m → m ≡ prefix_len in_line ys
+    → drop m ys ≡ z → k ≡ prefix_len is_white z → IsGapFront b (at + (n + k))
 goes_on b ys [] at n m k gap some within e en em ez ek =
     let long : length b ≡ at + suc (length ys) = omega (arith, length-drop at b, ap length e) in
     let end : at + (n + k) ≡ length b = omega (arith, ap length ez, length-drop m ys, em, prefix_len-le-length in_line ys) in
@@ -146,19 +157,23 @@ goes_on b ys [] at n m k gap some within e en em ez ek =
 goes_on b ys (c ∷ zs) at n m k gap some within e en em ez ek =
     let run : m < length ys = omega (arith, length-drop m ys, ap length ez) in
     let here : prefix_len in_line ys < length ys = omega (arith, em) in
-    let first : get_or ys (prefix_len in_line ys) 0 ≡ c = ap (λ i. get_or ys i 0) (omega (arith, em)) ∙ sym (get_or-drop m ys 0 0) ∙ ap (λ xs. get_or xs 0 0) ez in
-    let ends : is_line_end c ≡ true = ap is_line_end (sym first) ∙ passes_back (is_line_end (get_or ys (prefix_len in_line ys) 0)) (prefix_len_stops in_line ys 0 here) in
+    let first : get_or ys (prefix_len in_line ys) 0 ≡ c = ap (λ i. get_or ys i 0) (omega (arith, em)) ∙ sym (get_or-drop m ys 0 0)
+    ∙ ap (λ xs. get_or xs 0 0) ez in
+    let ends : is_line_end c ≡ true = ap is_line_end (sym first) ∙ passes_back (is_line_end (get_or ys (prefix_len in_line ys) 0))
+    (prefix_len_stops in_line ys 0 here) in
     let line : take n (drop at b) ≡ 35 ∷ take_while in_line ys = ap (λ i. take i (drop at b)) en ∙ ap (take (suc m)) e ∙ ap (λ i. 35 ∷ take i ys) em in
     let behind : drop n (drop at b) ≡ c ∷ zs = ap (λ i. drop i (drop at b)) en ∙ ap (drop (suc m)) e ∙ ez in
-    let both : take (n + k) (drop at b) ≡ (35 ∷ take_while in_line ys) ++ take k (c ∷ zs) = take-add n k (drop at b) ∙ ap (λ xs. xs ++ take k (drop n (drop at b))) line ∙ ap (λ xs. (35 ∷ take_while in_line ys) ++ take k xs) behind in
-    let whole : take (at + (n + k)) b ≡ take at b ++ ((35 ∷ take_while in_line ys) ++ take k (c ∷ zs)) = take-add at (n + k) b ∙ ap (λ xs. take at b ++ xs) both in
+    let both : take (n + k) (drop at b) ≡ (35 ∷ take_while in_line ys) ++ take k (c ∷ zs) = take-add n k (drop at b)
+    ∙ ap (λ xs. xs ++ take k (drop n (drop at b))) line ∙ ap (λ xs. (35 ∷ take_while in_line ys) ++ take k xs) behind in
+    let whole : take (at + (n + k)) b ≡ take at b ++ ((35 ∷ take_while in_line ys) ++ take k (c ∷ zs)) = take-add at (n + k) b
+    ∙ ap (λ xs. take at b ++ xs) both in
     let longer : IsGap (take (at + (n + k)) b) = subst IsGap (sym whole) (ended_gap (take at b) ys zs c k ends ek gap) in
     let few : k ≤ length (c ∷ zs) = omega (arith, ek, prefix_len-le-length is_white (c ∷ zs)) in
     let rest : k ≡ prefix_len is_white (drop (at + n) b) = ek ∙ ap (prefix_len is_white) (sym behind ∙ drop-drop n at b) in
     front_of_gap b (at + (n + k)) (omega arith) (omega (arith, few, length-drop m ys, ap length ez, length-drop at b, ap length e)) longer
     (λ h. ap (λ i. is_white (get_or b i 0)) (omega arith) ∙ run_stops is_white b (at + n) k rest (omega (arith, h)))
 
-pub gap_goes_on : (b comment : List ℕ) (at more : ℕ) → IsGapFront b at → 1 ≤ at → (at < length b) × (get_or b at 0 ≡ 35) → comment ≡ drop at b
+pub gap_goes_on : (b comment : List ℕ) (at more : ℕ) → IsGapFront b at → 1 ≤ at → BeginsComment b at → comment ≡ drop at b
     → more ≡ prefix_len in_line comment + prefix_len is_white (drop (prefix_len in_line comment) comment) → IsGapFront b (at + more)
 gap_goes_on b comment at more front some here ec em =
     let ys : List ℕ = drop (at + 1) b in
@@ -172,11 +187,3 @@ gap_goes_on b comment at more front some here ec em =
     subst (λ i. IsGapFront b (at + i)) (sym em)
     (goes_on b ys (drop m ys) at n m
     (prefix_len is_white (drop n comment)) gap some here.0 e len refl refl (ap (prefix_len is_white) behind))
-
--- and so it comes to an end
-pub comment_has_bytes : (b comment : List ℕ) (at more : ℕ) → (at < length b) × (get_or b at 0 ≡ 35) → comment ≡ drop at b
-    → more ≡ prefix_len in_line comment + prefix_len is_white (drop (prefix_len in_line comment) comment) → 1 ≤ more
-comment_has_bytes b comment at more here ec em =
-    let e : drop at b ≡ 35 ∷ drop (at + 1) b = drop_more b at 0 here.0 ∙ ap (λ c. c ∷ drop (at + 1) b) here.1 in
-    let len : prefix_len in_line comment ≡ suc (prefix_len in_line (drop (at + 1) b)) = ap (prefix_len in_line) (ec ∙ e) ∙ omega arith in
-    omega (arith, em, len)

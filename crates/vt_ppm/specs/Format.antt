@@ -2,29 +2,54 @@
 use Rattle.std.specs.Prelude.{◌≡◌, ◌⊎◌, ℕ, ◌+◌, ◌*◌, ◌/◌, ◌≤◌, ◌==◌, ◌||◌, Bool, not, IsTrue, List, [], ◌∷◌, ◌++◌, length, take, map, All, codes}
 use Rattle.std.specs.List.{list_all, flat_map}
 use Rattle.std.specs.Str.Parse.{digits_value, IsNumeral}
-use Rattle.vt_ppm.specs.Image.{Picture, IsPicture}
+use Rattle.vt_definitions.specs.Limits.{header_limit, line_feed, blank}
+use Rattle.vt_ppm.specs.Image.{ImageView, IsLawfulImage}
 
--- white space: blank, tab, line feed and carriage return (this project's profile)
+-- the tab, which is white space
+abbrev pub tab : ℕ
+tab = 9
+
+-- the carriage return, which ends a line as the line feed does
+abbrev pub carriage_return : ℕ
+carriage_return = 13
+
+-- the byte that begins a comment, `#`
+abbrev pub hash : ℕ
+hash = 35
+
+-- how many digits a number may have
+abbrev pub most_digits : ℕ
+most_digits = 10
+
+-- the largest maximum of a raster (the Netpbm manual's P6 page)
+abbrev pub most_maximum : ℕ
+most_maximum = 65535
+
+-- the largest maximum of samples of one byte (the Netpbm manual's P6 page)
+abbrev pub most_byte : ℕ
+most_byte = 255
+
+-- white space: blank, tab, line feed and carriage return
 abbrev pub is_white : ℕ → Bool
-is_white c = c == 32 || c == 9 || c == 10 || c == 13
+is_white c = c == blank || c == tab || c == line_feed || c == carriage_return
 
--- a byte that ends a comment: line feed or carriage return (this project's profile)
+-- a byte that ends a comment: line feed or carriage return
 abbrev pub is_line_end : ℕ → Bool
-is_line_end c = c == 10 || c == 13
+is_line_end c = c == line_feed || c == carriage_return
 
--- a comment: `#`, bytes that end no line, and the byte that ends it (this project's profile)
+-- a comment: `#`, bytes that end no line, and the byte that ends it
 pub record IsComment (text : List ℕ) : Type 0 where
   pub remark : List ℕ
   pub ending : ℕ
-  pub spelt : text ≡ 35 ∷ (remark ++ (ending ∷ []))
+  pub spelt : text ≡ hash ∷ (remark ++ (ending ∷ []))
   pub one_line : IsTrue (list_all (λ c. not (is_line_end c)) remark)
   pub ended : IsTrue (is_line_end ending)
 
--- what may stand in a gap after its first byte: a white space byte, or a comment (this project's profile)
+-- what may stand in a gap after its first byte: a white space byte, or a comment
 abbrev pub IsGapPart : List ℕ → Type 0
 IsGapPart text = ((c : ℕ) × (text ≡ c ∷ []) × IsTrue (is_white c)) ⊎ IsComment text
 
--- a gap: a white space byte, and then any number of white space bytes and comments (this project's profile)
+-- a gap: a white space byte, and then any number of white space bytes and comments
 pub record IsGap (gap : List ℕ) : Type 0 where
   pub first : ℕ
   pub parts : List (List ℕ)
@@ -32,13 +57,13 @@ pub record IsGap (gap : List ℕ) : Type 0 where
   pub white : IsTrue (is_white first)
   pub each : All IsGapPart parts
 
--- a number: 1 to 10 decimal digits, zeros in front allowed (this project's profile)
+-- a number: some decimal digits, of which the first may be zeros
 pub record IsNumber (digits : List ℕ) (value : ℕ) : Type 0 where
   pub numeral : IsNumeral 10 digits
-  pub few : length digits ≤ 10
+  pub few : length digits ≤ most_digits
   pub value_is : value ≡ digits_value 10 digits
 
--- a field of the header: a gap and a number (the Netpbm manual's P6 page)
+-- a field of the header: a gap and a number
 pub record IsField (text : List ℕ) (value : ℕ) : Type 0 where
   pub gap : List ℕ
   pub digits : List ℕ
@@ -58,27 +83,30 @@ pub record IsHeader (text : List ℕ) (width height maximum : ℕ) : Type 0 wher
   pub maximum_field : IsField third maximum
   pub white : IsTrue (is_white space)
 
--- within how many bytes a header ends (this project's profile)
-abbrev pub header_limit : ℕ
-header_limit = 65536
-
--- the bytes begin with a header, after which the raster would stand (the Netpbm manual's P6 page; the limit is this project's profile)
+-- the bytes begin with a header, after which the raster would stand (the Netpbm manual's P6 page)
 pub record HasHeader (b : List ℕ) (raster width height maximum : ℕ) : Type 0 where
   pub within : raster ≤ length b
   pub early : raster ≤ header_limit
   pub header : IsHeader (take raster b) width height maximum
 
+-- two headers are one: the place of the raster, the sides and the maximum of one are the other's
+pub record AreSameHeaders (r w h m s u v n : ℕ) : Type 0 where
+  pub raster : r ≡ s
+  pub width : w ≡ u
+  pub height : h ≡ v
+  pub maximum : m ≡ n
+
 -- a maximum of samples of one byte (the Netpbm manual's P6 page)
 pub record IsByteMaximum (maximum : ℕ) : Type 0 where
   pub some : 1 ≤ maximum
-  pub one_byte : maximum ≤ 255
+  pub one_byte : maximum ≤ most_byte
 
--- a sample as it is kept, where the largest is 255: to the nearest, halves up (this project's profile)
+-- a sample as it is kept, where the largest is that of a byte: to the nearest, halves up
 abbrev pub scaled : ℕ → ℕ → ℕ
-scaled maximum sample = (sample * 255 + maximum / 2) / maximum
+scaled maximum sample = (sample * most_byte + maximum / 2) / maximum
 
 -- the bytes spell an image: a header, its raster, row by row from the top, and any rest (the Netpbm manual's P6 page)
-pub record IsImage (b : List ℕ) (p : Picture) : Type 0 where
+pub record IsImage (b : List ℕ) (p : ImageView) : Type 0 where
   pub text : List ℕ
   pub raster : List ℕ
   pub rest : List ℕ
@@ -87,7 +115,7 @@ pub record IsImage (b : List ℕ) (p : Picture) : Type 0 where
   pub header : IsHeader text p.width p.height maximum
   pub early : length text ≤ header_limit
   pub lawful : IsByteMaximum maximum
-  pub picture : IsPicture p
+  pub image : IsLawfulImage p
   pub full : length raster ≡ 3 * (p.width * p.height)
   pub few : All (λ sample. sample ≤ maximum) raster
   pub kept : p.samples ≡ map (scaled maximum) raster

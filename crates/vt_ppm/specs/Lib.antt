@@ -1,7 +1,8 @@
 pub mod Image
 pub mod Format
-pub mod Faults
+pub mod Flaws
 pub mod Header
 pub mod Picture
+pub mod Reads
 pub mod Refusals
 pub mod Samples

@@ -10,11 +10,11 @@ pub enum PpmError {
     /// The first two bytes are not `P6`.
     #[error("bad magic")]
     BadMagic,
-    /// The header does not go on at byte `at`, the first such byte; this is the length where the file ends inside the
-    /// header, and 65,536 where the header does not end before that byte.
+    /// Some header begins as the first `at` bytes do, and none as those and the byte behind them do. Where no byte is
+    /// wrong so, `at` is how many bytes there are, or how many a header may have.
     #[error("bad header at byte {at}")]
     BadHeader { at: u64 },
-    /// A side is outside 1 to 8,192.
+    /// A side is 0, or above 8,192.
     #[error("bad size")]
     BadSize,
     /// The maximum is 0 or above 65,535.

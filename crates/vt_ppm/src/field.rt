@@ -1,13 +1,24 @@
 //! A field of the header is found: its gap and its number.
-ghost use Rattle.std.specs.Prelude.{◌≡◌, ◌+◌, ◌<◌, ◌≤◌, MatchBool, length, not, drop, slice_index, IfOk, IfErr};
+ghost use Rattle.std.specs.Prelude.{◌≡◌, ◌+◌, ◌<◌, ◌≤◌, MatchBool, length, not, drop, IfOk, IfErr};
 ghost use Rattle.std.specs.Char.{is_ascii_digit};
 ghost use Rattle.std.specs.List.{prefix_len};
 ghost use Rattle.std.specs.Str.Parse.{digits_value, AllDigits};
-ghost use Rattle.vt_ppm.specs.Format.{is_white, is_line_end};
-ghost use Rattle.vt_ppm.specs.Header.{IsGapRun, IsFieldAt, IsBrokenFieldAt};
+ghost use Rattle.vt_ppm.specs.Format.{is_white, is_line_end, most_digits};
+ghost use Rattle.vt_ppm.specs.Header.{BeginsComment, IsGapRun, IsFieldAt, IsBrokenFieldAt};
 
-/// The largest number of digits of a number.
+// The largest number of digits of a number.
 const MOST_DIGITS: usize = 10;
+
+const BLANK: u8 = b' ';
+
+const TAB: u8 = b'\t';
+
+const LINE_FEED: u8 = b'\n';
+
+const CARRIAGE_RETURN: u8 = b'\r';
+
+// The byte that begins a comment.
+const HASH: u8 = b'#';
 
 /// A field of the header: the place after it, and its number.
 #[derive(Clone, Copy)]
@@ -20,17 +31,17 @@ pub struct Field {
 pub fn is_white_byte(byte: u8) -> bool
     ensures { result ≡ is_white byte }
 {
-    byte == b' ' || byte == b'\t' || byte == b'\n' || byte == b'\r'
+    byte == BLANK || byte == TAB || is_line_end_byte(byte)
 }
 
-/// Whether a byte ends a comment.
+// Whether a byte ends a comment.
 fn is_line_end_byte(byte: u8) -> bool
     ensures { result ≡ is_line_end byte }
 {
-    byte == b'\n' || byte == b'\r'
+    byte == LINE_FEED || byte == CARRIAGE_RETURN
 }
 
-/// The number of white space bytes in front.
+// The number of white space bytes in front.
 fn white_run(bytes: &[u8]) -> usize
     ensures run { result ≡ prefix_len is_white bytes.now }
     ensures within { result ≤ length bytes.now }
@@ -38,7 +49,7 @@ fn white_run(bytes: &[u8]) -> usize
     bytes.iter().take_while(|b| is_white_byte(**b)).count()
 }
 
-/// The number of bytes in front that end no line.
+// The number of bytes in front that end no line.
 fn line_run(bytes: &[u8]) -> usize
     ensures run { result ≡ prefix_len (λ c. not (is_line_end c)) bytes.now }
     ensures within { result ≤ length bytes.now }
@@ -46,7 +57,7 @@ fn line_run(bytes: &[u8]) -> usize
     bytes.iter().take_while(|b| !is_line_end_byte(**b)).count()
 }
 
-/// The number of decimal digits in front.
+// The number of decimal digits in front.
 fn digit_run(bytes: &[u8]) -> usize
     ensures run { result ≡ prefix_len is_ascii_digit bytes.now }
     ensures within { result ≤ length bytes.now }
@@ -54,15 +65,15 @@ fn digit_run(bytes: &[u8]) -> usize
     bytes.iter().take_while(|b| b.is_ascii_digit()).count()
 }
 
-/// Whether a comment begins at a place.
+// Whether a comment begins at a place.
 fn begins_comment(bytes: &[u8], at: usize) -> bool
-    ensures { MatchBool result ((at < length bytes.now) × (slice_index bytes.now at ≡ 35)) (at < length bytes.now → slice_index bytes.now at ≡ 35 → ⊥) }
+    ensures { MatchBool result (BeginsComment bytes.now at) (BeginsComment bytes.now at → ⊥) }
 {
-    at < bytes.len() && bytes[at] == b'#'
+    at < bytes.len() && bytes[at] == HASH
 }
 
-/// The number of bytes of the comment in front and of the white space that ends and follows it; all bytes where it is
-/// not ended.
+// The number of bytes of the comment in front and of the white space that ends and follows it; all bytes where it is
+// not ended.
 fn comment_run(bytes: &[u8]) -> usize
     ensures run { let line = prefix_len (λ c. not (is_line_end c)) bytes.now in result ≡ line + prefix_len is_white (drop line bytes.now) }
     ensures within { result ≤ length bytes.now }
@@ -72,7 +83,7 @@ fn comment_run(bytes: &[u8]) -> usize
     line + white_run(rest)
 }
 
-/// The number of bytes in front with which a gap goes on, which a comment that is not ended does to the end.
+// The number of bytes in front with which a gap goes on, which a comment that is not ended does to the end.
 fn gap_run(bytes: &[u8]) -> usize
     ensures { IsGapRun bytes.now result }
 {
@@ -87,9 +98,9 @@ fn gap_run(bytes: &[u8]) -> usize
     at
 }
 
-/// The number that at most ten digits write.
+// The number that at most ten digits write.
 fn number_of(digits: &[u8]) -> u64
-    requires few { length digits.now ≤ 10 }
+    requires few { length digits.now ≤ most_digits }
     requires numeral { AllDigits 10 digits.now }
     ensures { result ≡ digits_value 10 digits.now }
 {

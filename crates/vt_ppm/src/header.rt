@@ -1,7 +1,7 @@
 //! The header of an image.
 ghost use Rattle.std.specs.Prelude.{◌≡◌, ◌≤◌, length, take, codes, ◌↔◌, MatchBool, IfOk, IfErr, IsTrue};
-ghost use Rattle.vt_ppm.specs.Format.{header_limit};
-ghost use Rattle.vt_ppm.specs.Faults.{IsImageFault, IsBrokenAt, AreSides, IsLawfulHeader};
+ghost use Rattle.vt_definitions.specs.Limits.{header_limit};
+ghost use Rattle.vt_ppm.specs.Flaws.{IsFlawUpTo, IsBrokenAt, AreImageSides, IsLawfulHeader};
 ghost use Rattle.vt_ppm.specs.Header.{IsFirstHeader};
 ghost use Rattle.vt_ppm.specs.Refusals.{IsRasterRefusal};
 
@@ -11,14 +11,17 @@ use crate::field::{field_at, is_white_byte};
 /// Within how many bytes a header ends.
 pub const HEADER_LIMIT: u64 = 65536;
 
-/// The largest side of an image.
-const LARGEST_SIDE: u64 = 8192;
+/// The largest side of an image that is read whole.
+pub const MOST_READ_SIDE: u32 = 8192;
 
-/// The largest maximum of a raster.
-const LARGEST_MAXIMUM: u64 = 65535;
+/// The largest side of an image of which the header is read.
+pub const MOST_TILED_SIDE: u32 = 8192;
 
-/// The largest maximum of samples of one byte.
-const LARGEST_BYTE: u64 = 255;
+// The largest maximum of a raster.
+const MOST_MAXIMUM: u64 = 65535;
+
+// The largest maximum of samples of one byte.
+const MOST_BYTE: u64 = 255;
 
 /// A header's numbers, and the place of the first raster byte.
 #[derive(Clone, Copy, Debug, PartialEq, Eq)]
@@ -33,7 +36,7 @@ pub struct Header {
     pub raster: u64,
 }
 
-/// A header as it is spelled: its numbers, whatever they are, and the place of the first raster byte.
+// A header as it is spelled: its numbers, whatever they are, and the place of the first raster byte.
 #[derive(Clone, Copy)]
 struct Spelled {
     width: u64,
@@ -42,15 +45,15 @@ struct Spelled {
     raster: usize,
 }
 
-/// Whether the first two bytes are `P6`.
+// Whether the first two bytes are `P6`.
 fn has_magic(bytes: &[u8]) -> bool
     ensures { IsTrue result ↔ (take 2 bytes.now ≡ codes "P6") }
 {
     bytes.len() >= 2 && bytes[0] == b'P' && bytes[1] == b'6'
 }
 
-/// The header in front; or the first byte with which none can stand there, which is the length where the bytes end too
-/// soon.
+// The header in front; or the first byte with which none can stand there, which is the length where the bytes end too
+// soon.
 fn first_header(head: &[u8]) -> Result<Spelled, usize>
     requires few { length head.now ≤ header_limit }
     requires magic { take 2 head.now ≡ codes "P6" }
@@ -71,18 +74,19 @@ fn first_header(head: &[u8]) -> Result<Spelled, usize>
     })
 }
 
-/// Whether these are sides of an image.
-fn are_sides(width: u64, height: u64) -> bool
-    ensures { MatchBool result (AreSides width height) (AreSides width height → ⊥) }
+// Whether these are sides of an image, where none is to be above `most`.
+fn are_sides(width: u64, height: u64, most: u64) -> bool
+    ensures { MatchBool result (AreImageSides most width height) (AreImageSides most width height → ⊥) }
 {
-    width >= 1 && width <= LARGEST_SIDE && height >= 1 && height <= LARGEST_SIDE
+    width >= 1 && width <= most && height >= 1 && height <= most
 }
 
-/// The header in the first bytes of an image; or the first fault of those bytes, which is none of the raster.
-pub fn lawful_header(head: &[u8]) -> Result<Header, PpmError>
+/// The header in the first bytes of an image; or the first flaw of those bytes, which is none of the raster. No side is
+/// to be above `most`.
+pub fn lawful_header(head: &[u8], most: u32) -> Result<Header, PpmError>
     requires { length head.now ≤ header_limit }
-    ensures header { IfOk result (λ h. IsLawfulHeader head.now h.raster h.width h.height h.maximum) }
-    ensures fault { IfErr result (λ e. IsImageFault head.now e) }
+    ensures header { IfOk result (λ h. IsLawfulHeader most head.now h.raster h.width h.height h.maximum) }
+    ensures flaw { IfErr result (λ e. IsFlawUpTo most head.now e) }
     ensures no_raster { IfErr result (λ e. IsRasterRefusal e → ⊥) }
 {
     if !has_magic(head) {
@@ -92,13 +96,13 @@ pub fn lawful_header(head: &[u8]) -> Result<Header, PpmError>
         Ok(spelled) => spelled,
         Err(at) => return Err(PpmError::BadHeader { at: at as u64 }),
     };
-    if !are_sides(spelled.width, spelled.height) {
+    if !are_sides(spelled.width, spelled.height, u64::from(most)) {
         return Err(PpmError::BadSize);
     }
-    if spelled.maximum == 0 || spelled.maximum > LARGEST_MAXIMUM {
+    if spelled.maximum == 0 || spelled.maximum > MOST_MAXIMUM {
         return Err(PpmError::BadMaximum);
     }
-    if spelled.maximum > LARGEST_BYTE {
+    if spelled.maximum > MOST_BYTE {
         return Err(PpmError::WideSamples);
     }
     Ok(Header {

@@ -1,5 +1,5 @@
-ghost use Rattle.std.specs.Prelude.{◌≡◌, ◌+◌, ◌*◌, ◌<◌, ◌≤◌, ◌^◌, length, vec_len};
-ghost use Rattle.vt_ppm.specs.Image.{Picture, IsPicture, largest_side, texel_of};
+ghost use Rattle.std.specs.Prelude.{◌≡◌, ◌+◌, ◌*◌, ◌<◌};
+ghost use Rattle.vt_ppm.specs.Image.{ImageView, IsLawfulImage, texel_of};
 
 use std::marker::Model;
 
@@ -12,19 +12,19 @@ pub struct Image {
 }
 
 impl Model for Image {
-    ghost use Rattle.vt_ppm.specs.Image.{Picture, IsPicture};
+    ghost use Rattle.vt_ppm.specs.Image.{ImageView, IsLawfulImage};
 
-    ghost Value = { Picture };
+    ghost Value = { ImageView };
 
     ghost view = { λ i. record { width = i.width; height = i.height; samples = i.samples.items } };
 
-    ghost invariant = { λ i. IsPicture (record { width = i.width; height = i.height; samples = i.samples.items }) };
+    ghost invariant = { λ i. IsLawfulImage (record { width = i.width; height = i.height; samples = i.samples.items }) };
 }
 
 impl Image {
     /// Makes an image of its samples, of which there are three a texel.
     pub fn new(width: u32, height: u32, samples: Vec<u8>) -> Image
-        requires { IsPicture (record { width = width; height = height; samples = samples.items }) }
+        requires { IsLawfulImage (record { width = width; height = height; samples = samples.items }) }
         ensures { result ≡ record { width = width; height = height; samples = samples.items } }
     {
         Image {
@@ -37,7 +37,7 @@ impl Image {
     /// The number of columns, from 1 to 8,192.
     pub fn width(&self) -> u32
         ensures value { result ≡ self.now.width }
-        ensures limits { IsPicture self.now }
+        ensures limits { IsLawfulImage self.now }
     {
         let _ = &self.samples;
         self.width
@@ -46,7 +46,7 @@ impl Image {
     /// The number of rows, from 1 to 8,192.
     pub fn height(&self) -> u32
         ensures value { result ≡ self.now.height }
-        ensures limits { IsPicture self.now }
+        ensures limits { IsLawfulImage self.now }
     {
         let _ = &self.samples;
         self.height
@@ -55,7 +55,7 @@ impl Image {
     /// All samples, three a texel, row by row.
     pub fn samples(&self) -> &[u8]
         ensures value { result.now ≡ self.now.samples }
-        ensures limits { IsPicture self.now }
+        ensures limits { IsLawfulImage self.now }
     {
         self.samples.as_slice()
     }
@@ -63,7 +63,7 @@ impl Image {
     /// The samples, in place of the image.
     pub fn into_samples(self) -> Vec<u8>
         ensures value { result.items ≡ self.samples }
-        ensures limits { IsPicture self }
+        ensures limits { IsLawfulImage self }
     {
         let Image {
             width: _,

@@ -1,33 +1,64 @@
 //! Laws of the image format.
-ghost use Rattle.std.specs.Prelude.{◌≡◌, ℕ, ◌≤◌, List, All};
+ghost use Rattle.std.specs.Prelude.{◌≡◌, ℕ, ◌<◌, ◌^◌, List};
 ghost use Rattle.vt_ppm.specs.declared.error.PpmError.{PpmError};
-ghost use Rattle.vt_ppm.specs.Faults.{IsImageFault, IsLawfulHeader};
-ghost use Rattle.vt_ppm.specs.Format.{IsImage};
-ghost use Rattle.vt_ppm.specs.Image.{Picture, IsPicture};
+ghost use Rattle.vt_ppm.specs.Flaws.{IsFlawUpTo, IsImageFlaw, IsLawfulHeader};
+ghost use Rattle.vt_ppm.specs.Format.{AreSameHeaders, HasHeader, IsImage};
+ghost use Rattle.vt_ppm.specs.Image.{AreBytes, ImageView, IsLawfulImage, texel_of};
 ghost use Rattle.vt_ppm.specs.Picture.{picture_bytes};
 ghost use Rattle.vt_ppm.specs.Refusals.{IsRasterRefusal};
 
+use crate::Image;
+
+/// Bytes begin with one header at most: of two, the places of the raster, the sides and the maxima are the same.
+pub fn header_is_one()
+    ensures { (b : List ℕ) (r w h m s u v n : ℕ) → HasHeader b r w h m → HasHeader b s u v n → AreSameHeaders r w h m s u v n }
+{}
+
 /// Bytes spell one image at most, so that a reader of told bytes can answer no other.
 pub fn image_is_one()
-    ensures { (b : List ℕ) (p q : Picture) → IsImage b p → IsImage b q → p ≡ q }
+    ensures { (b : List ℕ) (p q : ImageView) → IsImage b p → IsImage b q → p ≡ q }
 {}
 
 /// The bytes that are written of an image spell that image.
 pub fn written_is_read()
-    ensures { (p : Picture) → IsPicture p → All (λ sample. sample ≤ 255) p.samples → IsImage (picture_bytes p.width p.height p.samples) p }
+    ensures { (p : ImageView) → IsLawfulImage p → AreBytes p.samples → IsImage (picture_bytes p.width p.height p.samples) p }
 {}
 
-/// The bytes of an image have no fault, so that a reader that refuses only for a fault of the bytes refuses no image.
-pub fn image_has_no_fault()
-    ensures { (b : List ℕ) (p : Picture) (e : PpmError) → IsImage b p → IsImageFault b e → ⊥ }
+/// The samples of an image that bytes spell are bytes.
+pub fn spelt_samples_are_bytes()
+    ensures { (b : List ℕ) (p : ImageView) → IsImage b p → AreBytes p.samples }
 {}
 
-/// Bytes have one fault at most, so that a reader of told bytes can name no other.
-pub fn fault_is_one()
-    ensures { (b : List ℕ) (e f : PpmError) → IsImageFault b e → IsImageFault b f → e ≡ f }
+/// The samples of an image in memory are bytes.
+pub fn samples_are_bytes(image: &Image)
+    ensures { AreBytes image.now.samples }
+{
+    are_bytes(image.samples());
+}
+
+// The numbers of a slice of bytes are below 256.
+fn are_bytes(bytes: &[u8])
+    ensures { AreBytes bytes.now }
+{
+    let _ = bytes;
+}
+
+/// The words of the texels of an image whose samples are bytes are below 2^24.
+pub fn texel_words_are_small()
+    ensures { (p : ImageView) (x y : ℕ) → AreBytes p.samples → texel_of p x y < 2 ^ 24 }
 {}
 
-/// Bytes that begin with a lawful header have no fault but one of the raster.
-pub fn header_has_no_fault()
-    ensures { (b : List ℕ) (raster width height maximum : ℕ) (e : PpmError) → IsLawfulHeader b raster width height maximum → (IsRasterRefusal e → ⊥) → IsImageFault b e → ⊥ }
+/// The bytes of an image have no flaw, so that a reader that refuses only for a flaw of the bytes refuses no image.
+pub fn image_has_no_flaw()
+    ensures { (b : List ℕ) (p : ImageView) (e : PpmError) → IsImage b p → IsImageFlaw b e → ⊥ }
+{}
+
+/// Bytes have one flaw at most, whatever the largest side that is taken, so that a reader of told bytes can name no other.
+pub fn flaw_is_one()
+    ensures { (most : ℕ) (b : List ℕ) (e f : PpmError) → IsFlawUpTo most b e → IsFlawUpTo most b f → e ≡ f }
+{}
+
+/// Bytes that begin with a lawful header have no flaw but one of the raster.
+pub fn header_has_no_flaw()
+    ensures { (most : ℕ) (b : List ℕ) (r w h m : ℕ) (e : PpmError) → IsLawfulHeader most b r w h m → IsFlawUpTo most b e → IsRasterRefusal e }
 {}

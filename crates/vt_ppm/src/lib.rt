@@ -15,11 +15,12 @@ pub use error::PpmError;
 pub use header::Header;
 pub use image::Image;
 pub use laws::{
-    fault_is_one, header_has_no_fault, image_has_no_fault, image_is_one, written_is_read,
+    flaw_is_one, header_has_no_flaw, header_is_one, image_has_no_flaw, image_is_one,
+    samples_are_bytes, spelt_samples_are_bytes, texel_words_are_small, written_is_read,
 };
 pub use picture::encode;
 pub use read::{read_header, read_image};
-pub use whole::image_fault;
+pub use whole::image_flaw;
 
 #[cfg(test)]
 mod tests;

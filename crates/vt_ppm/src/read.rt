@@ -1,18 +1,27 @@
 //! Images are read from a file.
-ghost use Rattle.std.specs.Prelude.{◌≡◌, ℕ, ◌+◌, ◌≤◌, List, length, IfOk, IfErr, IfSome, IsErrOf};
+ghost use Rattle.std.specs.Prelude.{◌≡◌, ◌+◌, ◌≤◌, length, min, IfOk, IfErr, IfSome, IsErrOf, OnOk};
+ghost use Rattle.vt_definitions.specs.Limits.{header_limit, most_tiled_side};
 ghost use Rattle.vt_outside.specs.Counts.{Rose};
 ghost use Rattle.vt_outside.specs.Files.{IsPiece};
 ghost use Rattle.vt_ppm.specs.Format.{IsImage};
-ghost use Rattle.vt_ppm.specs.Faults.{IsImageFault, IsLawfulHeader};
-ghost use Rattle.vt_ppm.specs.Refusals.{IsFault, IsRasterRefusal};
+ghost use Rattle.vt_ppm.specs.Flaws.{IsHeaderFlaw, IsImageFlaw, IsLawfulHeader};
+ghost use Rattle.vt_ppm.specs.Reads.{AsksHeader, AsksImage, AnswersOfHeader, AnswersOfImage, ReadsFront, NotesRead, IsFront};
+ghost use Rattle.vt_ppm.specs.Refusals.{IsOutsideRefusal, IsRasterRefusal};
 
-use crate::header::{HEADER_LIMIT, lawful_header};
+use crate::header::{HEADER_LIMIT, MOST_READ_SIDE, MOST_TILED_SIDE, lawful_header};
 use crate::samples::{first_over, scale};
 use crate::{Header, Image, PpmError};
 use std::alloc::Global;
 use vt_outside::File;
 
-/// The bytes of the file from `at` on, so many.
+// The front of a file, as far as a header may reach, and the length of the whole.
+#[derive(Drop)]
+struct Front {
+    bytes: Vec<u8>,
+    length: u64,
+}
+
+// The bytes of the file from `at` on, so many.
 fn bytes_at<F: File>(
     alloc: Global,
     file: &mut F,
@@ -22,8 +31,9 @@ fn bytes_at<F: File>(
     requires { 1 ≤ F.spare file.old }
     ensures piece { IfOk result (λ v. IfSome (F.bytes file.old) (λ b. IsPiece b at v.items)) }
     ensures count { IfOk result (λ v. length v.items ≡ count) }
-    ensures refusals { IfErr result IsFault }
+    ensures refusals { IfErr result IsOutsideRefusal }
     ensures failed { IsErrOf result PpmError.Failed → IfSome (F.bytes file.old) (λ b. at + count ≤ length b) → Rose (F.faults file.old) (F.faults file.new) }
+    ensures asked { NotesRead result at count (F.asked file.old) (F.asked file.new) }
     ensures spare { F.spare file.old ≤ F.spare file.new + 1 }
     ensures bytes { F.bytes file.new ≡ F.bytes file.old }
     ensures name { F.name file.new ≡ F.name file.old }
@@ -34,46 +44,67 @@ fn bytes_at<F: File>(
     Ok(bytes)
 }
 
-/// Reads the header of an image (the Netpbm manual's P6 page, with this project's comments and bounds), which ends within the
-/// first 65,536 bytes.
-///
-/// Where the file tells its bytes, `BadMagic`, `BadHeader`, `BadSize`, `BadMaximum` and `WideSamples` come exactly as the first
-/// fault of those bytes. `Failed` comes only where the file's count of faults rose, and `NoMemory` where memory was refused. No
-/// other refusal comes.
-pub fn read_header<F: File>(alloc: Global, file: &mut F) -> Result<Header, PpmError>
-    ensures header { IfOk result (λ h. IfSome (F.bytes file.old) (λ b. IsLawfulHeader b h.raster h.width h.height h.maximum)) }
-    ensures fault { IfErr result (λ e. (IsFault e → ⊥) → IfSome (F.bytes file.old) (λ b. IsImageFault b e)) }
-    ensures no_raster { IfErr result (λ e. IsRasterRefusal e → ⊥) }
+// Reads the front of the file, after making room to note so many reads, of which this is one.
+fn front_of<F: File>(alloc: Global, file: &mut F, reads: u64) -> Result<Front, PpmError>
+    requires { 1 ≤ reads }
+    ensures front { IfOk result (λ f. IfSome (F.bytes file.old) (λ b. IsFront b f.length f.bytes.items)) }
+    ensures few { IfOk result (λ f. length f.bytes.items ≡ min f.length header_limit) }
+    ensures refusals { IfErr result IsOutsideRefusal }
     ensures failed { IsErrOf result PpmError.Failed → Rose (F.faults file.old) (F.faults file.new) }
+    ensures asked { AsksHeader (F.bytes file.old) (F.asked file.old) (F.asked file.new) }
+    ensures read { OnOk result (ReadsFront (F.bytes file.old) (F.asked file.old) (F.asked file.new)) }
+    ensures spare { OnOk result (reads ≤ F.spare file.new + 1) }
     ensures bytes { F.bytes file.new ≡ F.bytes file.old }
     ensures name { F.name file.new ≡ F.name file.old }
     ensures faults { F.faults file.old ≤ F.faults file.new }
 {
     let length = file.length()?;
-    file.reserve(1)?;
-    let head = bytes_at(alloc, file, 0, length.min(HEADER_LIMIT) as usize)?;
-    lawful_header(&head)
+    file.reserve(reads)?;
+    let bytes = bytes_at(alloc, file, 0, length.min(HEADER_LIMIT) as usize)?;
+    Ok(Front { bytes, length })
+}
+
+/// Reads the header of an image (the Netpbm manual's P6 page, with this project's comments and bounds), which ends within the
+/// first 65,536 bytes.
+///
+/// Where the file tells its bytes, `BadMagic`, `BadHeader`, `BadSize`, `BadMaximum` and `WideSamples` come exactly as the first
+/// flaw of those bytes. `Failed` comes only where the file's count of faults rose, and `NoMemory` where memory was refused. No
+/// other refusal comes. It asks for one place at most: the front of the file, as far as a header may reach.
+pub fn read_header<F: File>(alloc: Global, file: &mut F) -> Result<Header, PpmError>
+    ensures header { IfOk result (λ h. IfSome (F.bytes file.old) (λ b. IsLawfulHeader most_tiled_side b h.raster h.width h.height h.maximum)) }
+    ensures flaw { IfErr result (λ e. (IsOutsideRefusal e → ⊥) → IfSome (F.bytes file.old) (λ b. IsHeaderFlaw b e)) }
+    ensures no_raster { IfErr result (λ e. IsRasterRefusal e → ⊥) }
+    ensures failed { IsErrOf result PpmError.Failed → Rose (F.faults file.old) (F.faults file.new) }
+    ensures asked { AsksHeader (F.bytes file.old) (F.asked file.old) (F.asked file.new) }
+    ensures read { AnswersOfHeader result (F.bytes file.old) (F.asked file.old) (F.asked file.new) }
+    ensures bytes { F.bytes file.new ≡ F.bytes file.old }
+    ensures name { F.name file.new ≡ F.name file.old }
+    ensures faults { F.faults file.old ≤ F.faults file.new }
+{
+    let front = front_of(alloc, file, 1)?;
+    lawful_header(&front.bytes, MOST_TILED_SIDE)
 }
 
 /// Reads the image of a file (the Netpbm manual's P6 page, with this project's comments and bounds), each sample scaled so that
 /// the greatest is 255. Bytes after the raster are left unread.
 ///
-/// Where the file tells its bytes, `BadMagic` to `SampleOver` come exactly as the first fault of those bytes. `Failed` comes only
-/// where the file's count of faults rose, and `NoMemory` where memory was refused.
+/// Where the file tells its bytes, `BadMagic` to `SampleOver` come exactly as the first flaw of those bytes. `Failed` comes only
+/// where the file's count of faults rose, and `NoMemory` where memory was refused. It asks for two places at most: the front of
+/// the file, as far as a header may reach, and then the raster.
 pub fn read_image<F: File>(alloc: Global, file: &mut F) -> Result<Image, PpmError>
     ensures image { IfOk result (λ i. IfSome (F.bytes file.old) (λ b. IsImage b i)) }
-    ensures fault { IfErr result (λ e. (IsFault e → ⊥) → IfSome (F.bytes file.old) (λ b. IsImageFault b e)) }
+    ensures flaw { IfErr result (λ e. (IsOutsideRefusal e → ⊥) → IfSome (F.bytes file.old) (λ b. IsImageFlaw b e)) }
     ensures failed { IsErrOf result PpmError.Failed → Rose (F.faults file.old) (F.faults file.new) }
+    ensures asked { AsksImage (F.bytes file.old) (F.asked file.old) (F.asked file.new) }
+    ensures read { AnswersOfImage result (F.bytes file.old) (F.asked file.old) (F.asked file.new) }
     ensures bytes { F.bytes file.new ≡ F.bytes file.old }
     ensures name { F.name file.new ≡ F.name file.old }
     ensures faults { F.faults file.old ≤ F.faults file.new }
 {
-    let length = file.length()?;
-    file.reserve(2)?;
-    let head = bytes_at(alloc, file, 0, length.min(HEADER_LIMIT) as usize)?;
-    let header = lawful_header(&head)?;
+    let front = front_of(alloc, file, 2)?;
+    let header = lawful_header(&front.bytes, MOST_READ_SIDE)?;
     let want = 3 * (header.width as u64 * header.height as u64);
-    let have = length - header.raster;
+    let have = front.length - header.raster;
     if have < want {
         return Err(PpmError::Truncated { want, have });
     }

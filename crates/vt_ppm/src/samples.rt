@@ -1,5 +1,5 @@
 //! The passes over a raster whose maximum is below 255.
-ghost use Rattle.std.specs.Prelude.{◌≡◌, ◌≤◌, length, map, All, MatchOption};
+ghost use Rattle.std.specs.Prelude.{◌≡◌, ◌≤◌, map, All, MatchOption};
 ghost use Rattle.vt_ppm.specs.Format.{scaled};
 ghost use Rattle.vt_ppm.specs.Samples.{IsFirstOver, IsScale};
 

@@ -1,113 +1,67 @@
-ghost use Rattle.std.specs.Prelude.{◌≡◌, ℕ, ◌+◌, ◌^◌, Option, None};
-
-use crate::{PpmError, encode, image_fault, read_header, read_image};
+use crate::{Image, PpmError, encode, image_flaw, read_header, read_image};
 use std::alloc::{AllocError, Global};
-use std::test::Fail;
-use vt_outside::{Failed, File, NoMemory};
+use std::test::Fail as TestFail;
+use vt_outside::{Fail, Fails, Folder, MemoryFolder, NoMemory, Place};
 
-/// A file in memory that does not tell its bytes, and of which the call of that number fails.
-#[derive(Drop)]
-struct HeldFile {
-    bytes: Vec<u8>,
-    calls: u64,
-    failing: u64,
-    faults: u64,
+// A folder in which `t` holds these bytes, and of which these calls fail.
+fn folder_of(alloc: Global, bytes: &[u8], calls: &[Fail]) -> Result<MemoryFolder, NoMemory> {
+    let mut fails = Fails::new(alloc);
+    for call in calls {
+        fails.reserve(1)?;
+        fails.push(*call);
+    }
+    let mut folder = MemoryFolder::new(alloc, fails);
+    folder.add("t", bytes)?;
+    Ok(folder)
 }
 
-impl HeldFile {
-    fn fails_now(&mut self) -> bool
-        ensures bytes { self.new.bytes ≡ self.old.bytes }
-        ensures faults { self.new.faults ≡ self.old.faults }
-    {
-        self.calls = self.calls.wrapping_add(1);
-        self.calls == self.failing
-    }
+// The image that `t` holds.
+fn image_in(alloc: Global, folder: &mut MemoryFolder) -> Result<Image, PpmError> {
+    let Ok(mut file) = folder.open("t") else {
+        return Err(PpmError::Failed);
+    };
+    let image = read_image(alloc, &mut file);
+    folder.close(file);
+    image
 }
 
-impl File for HeldFile {
-    ghost use Rattle.std.specs.Prelude.{ℕ, List, [], ◌^◌, None};
-
-    ghost bytes = { λ _. None };
-
-    ghost asked = { λ _. None };
-
-    ghost name = { λ _. [] };
-
-    ghost spare = { λ _. 2 ^ 64 };
-
-    ghost faults = { λ f. f.faults };
-
-    fn length(&mut self) -> Result<u64, Failed> {
-        if self.fails_now() {
-            self.faults = self.faults.saturating_add(1);
-            return Err(Failed);
-        }
-        Ok(self.bytes.len() as u64)
-    }
-
-    fn reserve(&mut self, _reads: u64) -> Result<(), NoMemory> {
-        Ok(())
-    }
-
-    fn read_at(&mut self, at: u64, buf: &mut [u8]) -> Result<(), Failed> {
-        let start = at as usize;
-        let is_inside = start <= self.bytes.len() && buf.len() <= self.bytes.len() - start;
-        if !is_inside || self.fails_now() {
-            self.faults = self.faults.saturating_add(1);
-            return Err(Failed);
-        }
-        let all = self.bytes.as_slice();
-        for (i, byte) in buf.iter_mut().enumerate() {
-            if let Some(held) = all.get(start.wrapping_add(i)) {
-                *byte = *held;
-            }
-        }
-        Ok(())
-    }
+// The place of the raster that the header of `t` answers.
+fn raster_in(alloc: Global, folder: &mut MemoryFolder) -> Result<u64, PpmError> {
+    let Ok(mut file) = folder.open("t") else {
+        return Err(PpmError::Failed);
+    };
+    let header = read_header(alloc, &mut file);
+    folder.close(file);
+    Ok(header?.raster)
 }
 
-/// A file of these bytes whose call of that number fails, where the first is 1.
-fn file_of(alloc: Global, bytes: &[u8], failing: u64) -> Result<HeldFile, AllocError> {
-    Ok(HeldFile {
-        bytes: Vec::from_slice(alloc, bytes)?,
-        calls: 0,
-        failing,
-        faults: 0,
-    })
+// The refusal of these bytes as an image.
+fn refusal(alloc: Global, bytes: &[u8], calls: &[Fail]) -> Result<Option<PpmError>, NoMemory> {
+    let mut folder = folder_of(alloc, bytes, calls)?;
+    Ok(image_in(alloc, &mut folder).err())
 }
 
-/// The refusal of a file of these bytes, if there is one.
-fn refusal(alloc: Global, bytes: &[u8], failing: u64) -> Result<Option<PpmError>, AllocError> {
-    let mut file = file_of(alloc, bytes, failing)?;
-    match read_image(alloc, &mut file) {
-        Ok(_) => Ok(None),
-        Err(error) => Ok(Some(error)),
-    }
-}
-
-/// The refusal of a file of these bytes by the reader of headers alone, if there is one.
+// The refusal of these bytes as a header.
 fn header_refusal(
     alloc: Global,
     bytes: &[u8],
-    failing: u64,
-) -> Result<Option<PpmError>, AllocError> {
-    let mut file = file_of(alloc, bytes, failing)?;
-    match read_header(alloc, &mut file) {
-        Ok(_) => Ok(None),
-        Err(error) => Ok(Some(error)),
-    }
+    calls: &[Fail],
+) -> Result<Option<PpmError>, NoMemory> {
+    let mut folder = folder_of(alloc, bytes, calls)?;
+    Ok(raster_in(alloc, &mut folder).err())
 }
 
-/// `P6` and so many blanks.
-fn blanks(alloc: Global, count: usize) -> Result<Vec<u8>, AllocError> {
+// An image of one texel behind `P6` and so many blanks.
+fn behind_blanks(alloc: Global, count: usize) -> Result<Vec<u8>, AllocError> {
     let mut bytes = Vec::from_slice(alloc, b"P6")?;
-    let spaces = vec![in alloc; b' '; count]?;
-    bytes.extend_from_slice(&spaces)?;
+    let blanks = vec![in alloc; b' '; count]?;
+    bytes.extend_from_slice(&blanks)?;
+    bytes.extend_from_slice(b"1 1 255\nabc")?;
     Ok(bytes)
 }
 
 #[test]
-fn accepted(rt: HostRuntime) -> Result<(), Fail> {
+fn every_spelling_of_a_header_is_read(rt: HostRuntime) -> Result<(), TestFail> {
     let spellings: [(&[u8], &[u8]); 6] = [
         (
             b"P6\r\n# made by hand\r\n2 1\n100\n\x00\x32\x64\x64\x32\x00",
@@ -123,17 +77,17 @@ fn accepted(rt: HostRuntime) -> Result<(), Fail> {
         (b"P6 1 1 1\n\x00\x01\x00", b"\x00\xff\x00"),
     ];
     for (bytes, samples) in spellings {
-        let mut file = file_of(rt.alloc(), bytes, 0)?;
-        let image = read_image(rt.alloc(), &mut file)?;
+        let mut folder = folder_of(rt.alloc(), bytes, &[])?;
+        let image = image_in(rt.alloc(), &mut folder)?;
         assert_eq!(rt; image.samples(), samples);
-        assert_eq!(rt; image_fault(bytes), None);
+        assert_eq!(rt; image_flaw(bytes), None);
     }
     Ok(())
 }
 
 #[test]
-fn refused(rt: HostRuntime) -> Result<(), Fail> {
-    let faults: [(&[u8], PpmError); 19] = [
+fn the_first_flaw_is_named(rt: HostRuntime) -> Result<(), TestFail> {
+    let flaws: [(&[u8], PpmError); 19] = [
         (b"", PpmError::BadMagic),
         (b"P5 1 1 255\nabc", PpmError::BadMagic),
         (b"P6", PpmError::BadHeader { at: 2 }),
@@ -160,85 +114,83 @@ fn refused(rt: HostRuntime) -> Result<(), Fail> {
         (b"P6 1 1 255\nab", PpmError::Truncated { want: 3, have: 2 }),
         (b"P6 1 1 100\n\x01\x65\x00", PpmError::SampleOver { at: 12 }),
     ];
-    for (bytes, fault) in faults {
-        assert_eq!(rt; refusal(rt.alloc(), bytes, 0)?, Some(fault));
-        assert_eq!(rt; image_fault(bytes), Some(fault));
+    for (bytes, flaw) in flaws {
+        assert_eq!(rt; refusal(rt.alloc(), bytes, &[])?, Some(flaw));
+        assert_eq!(rt; image_flaw(bytes), Some(flaw));
     }
     Ok(())
 }
 
 #[test]
-fn endless_headers(rt: HostRuntime) -> Result<(), Fail> {
-    let few = blanks(rt.alloc(), 100)?;
-    assert_eq!(rt;
-        refusal(rt.alloc(), &few, 0)?,
-        Some(PpmError::BadHeader { at: 102 })
-    );
+fn a_header_ends_within_its_limit(rt: HostRuntime) -> Result<(), TestFail> {
     let late = Some(PpmError::BadHeader { at: 65536 });
-    for count in [65527, 70000] {
-        let mut many = blanks(rt.alloc(), count)?;
-        many.extend_from_slice(b"1 1 255\nabc")?;
-        assert_eq!(rt; refusal(rt.alloc(), &many, 0)?, late);
-        assert_eq!(rt; header_refusal(rt.alloc(), &many, 0)?, late);
-        assert_eq!(rt; image_fault(&many), late);
+    let cases = [(100, None), (65526, None), (65527, late), (70000, late)];
+    for (count, want) in cases {
+        let bytes = behind_blanks(rt.alloc(), count)?;
+        assert_eq!(rt; refusal(rt.alloc(), &bytes, &[])?, want);
+        assert_eq!(rt; header_refusal(rt.alloc(), &bytes, &[])?, want);
+        assert_eq!(rt; image_flaw(&bytes), want);
     }
-    let mut longest = blanks(rt.alloc(), 65526)?;
-    longest.extend_from_slice(b"1 1 255\nabc")?;
-    assert_eq!(rt; refusal(rt.alloc(), &longest, 0)?, None);
-    assert_eq!(rt; header_refusal(rt.alloc(), &longest, 0)?, None);
-    assert_eq!(rt; image_fault(&longest), None);
     Ok(())
 }
 
 #[test]
-fn header(rt: HostRuntime) -> Result<(), Fail> {
-    let mut file = file_of(rt.alloc(), b"P6 3 2 255\n", 0)?;
-    let header = read_header(rt.alloc(), &mut file)?;
-    assert_eq!(rt; header.width, 3);
-    assert_eq!(rt; header.height, 2);
-    assert_eq!(rt; header.maximum, 255);
-    assert_eq!(rt; header.raster, 11);
-    Ok(())
-}
-
-#[test]
-fn four_by_four(rt: HostRuntime) -> Result<(), Fail> {
-    let mut bytes = Vec::from_slice(rt.alloc(), b"P6\n4 4\n255\n")?;
-    for i in 0..16u8 {
-        bytes.extend_from_slice(&[i, i, i])?;
-    }
-    let mut file = file_of(rt.alloc(), &bytes, 0)?;
-    let image = read_image(rt.alloc(), &mut file)?;
-    assert_eq!(rt; image.width(), 4);
-    assert_eq!(rt; image.height(), 4);
-    assert_eq!(rt; image.word(1, 0), 0x010101);
-    assert_eq!(rt; image.word(3, 2), 0x0b0b0b);
-    assert_eq!(rt; image.word(3, 3), 0x0f0f0f);
-    assert_eq!(rt; image.into_samples().len(), 48);
-    Ok(())
-}
-
-#[test]
-fn faults(rt: HostRuntime) -> Result<(), Fail> {
-    let failed = Some(PpmError::Failed);
-    let bytes = b"P6 1 1 255\nabc";
-    assert_eq!(rt; refusal(rt.alloc(), bytes, 1)?, failed);
-    assert_eq!(rt; refusal(rt.alloc(), bytes, 2)?, failed);
-    assert_eq!(rt; refusal(rt.alloc(), bytes, 3)?, failed);
-    assert_eq!(rt; refusal(rt.alloc(), bytes, 4)?, None);
-    assert_eq!(rt; header_refusal(rt.alloc(), bytes, 1)?, failed);
-    assert_eq!(rt; header_refusal(rt.alloc(), bytes, 2)?, failed);
-    assert_eq!(rt; header_refusal(rt.alloc(), bytes, 3)?, None);
-    Ok(())
-}
-
-#[test]
-fn written(rt: HostRuntime) -> Result<(), Fail> {
-    let samples = [0x0d, 0x0d, 0x0d, 1, 1, 1];
-    let bytes = match encode(rt.alloc(), 2, 1, &samples) {
-        Ok(bytes) => bytes,
-        Err(NoMemory) => return Err(Fail::from("out of memory")),
+fn a_header_is_looked_for_in_one_place(rt: HostRuntime) -> Result<(), TestFail> {
+    let mut folder = folder_of(rt.alloc(), b"P6 3 2 255\n", &[])?;
+    assert_eq!(rt; raster_in(rt.alloc(), &mut folder)?, 11);
+    let front = Place {
+        at: 0,
+        len: 11,
+        failed: false,
     };
+    assert_eq!(rt; folder.asked("t", 0), Some(front));
+    assert_eq!(rt; folder.asked("t", 1), None);
+    Ok(())
+}
+
+#[test]
+fn an_image_is_read_from_two_places(rt: HostRuntime) -> Result<(), TestFail> {
+    let bytes = b"P6 2 1 255\nabcdef and more";
+    let mut folder = folder_of(rt.alloc(), bytes, &[])?;
+    let image = image_in(rt.alloc(), &mut folder)?;
+    assert_eq!(rt; image.width(), 2);
+    assert_eq!(rt; image.height(), 1);
+    assert_eq!(rt; image.word(0, 0), 0x616263);
+    assert_eq!(rt; image.word(1, 0), 0x646566);
+    assert_eq!(rt; image.into_samples().len(), 6);
+    let raster = Place {
+        at: 11,
+        len: 6,
+        failed: false,
+    };
+    assert_eq!(rt; folder.asked("t", 1), Some(raster));
+    assert_eq!(rt; folder.asked("t", 2), None);
+    Ok(())
+}
+
+#[test]
+fn each_failing_call_is_told(rt: HostRuntime) -> Result<(), TestFail> {
+    let failed = Some(PpmError::Failed);
+    let length = Fail::Length { opening: 0 };
+    let reads = [0, 1, 2].map(|read| Fail::Read { opening: 0, read });
+    let cases = [
+        (length, failed, failed),
+        (reads[0], failed, failed),
+        (reads[1], failed, None),
+        (reads[2], None, None),
+    ];
+    for (call, image, header) in cases {
+        let bytes = b"P6 1 1 255\nabc";
+        assert_eq!(rt; refusal(rt.alloc(), bytes, &[call])?, image);
+        assert_eq!(rt; header_refusal(rt.alloc(), bytes, &[call])?, header);
+    }
+    Ok(())
+}
+
+#[test]
+fn a_picture_is_written(rt: HostRuntime) -> Result<(), TestFail> {
+    let samples = [0x0d, 0x0d, 0x0d, 1, 1, 1];
+    let bytes = encode(rt.alloc(), 2, 1, &samples)?;
     assert_eq!(rt;
         bytes.as_slice(),
         b"P6\n2 1\n255\n\x0d\x0d\x0d\x01\x01\x01".as_slice()

@@ -11,5 +11,6 @@ loop-comment-init c = record {
 pub loop-comment-preserved : goal.loop-comment-preserved
 loop-comment-preserved c = record {
   some = omega (arith, c.loop-comment.invariant.some);
-  front = gap_goes_on c.args.bytes.now c.split_at.result.1.now c.loop-comment.at c.comment_run-at.result c.loop-comment.invariant.front c.loop-comment.invariant.some c.loop-comment-test.ensures c.split_at.ensures.back c.comment_run-at.ensures.run;
+  front = gap_goes_on c.args.bytes.now c.split_at.result.1.now c.loop-comment.at c.comment_run-at.result c.loop-comment.invariant.front
+      c.loop-comment.invariant.some c.loop-comment-test.ensures c.split_at.ensures.back c.comment_run-at.ensures.run;
 }

@@ -1,4 +1,4 @@
-use Rattle.vt_ppm.proofs.Written.{written_image}
+use Rattle.vt_ppm.proofs.WrittenPictures.{written_image}
 use Rattle.vt_ppm.proofs.laws.written_is_read.Goals as goal
 
 pub returns : goal.returns

@@ -1,35 +1,65 @@
-use Rattle.std.proofs.Common.{◌≤◌, ◌∙◌, length, refl, arith}
+use Rattle.std.proofs.Common.{refl}
 use Rattle.std.proofs.lemmas.Result.{err_from_is_err_and}
-use Rattle.vt_ppm.proofs.Told.{head_told, lawful_told, fault_told, truncated_told, over_told, image_told, scaled_buffer}
+use Rattle.vt_definitions.specs.Limits.{most_read_side}
+use Rattle.vt_ppm.proofs.AskedPlaces.{asks_raster, reads_raster}
+use Rattle.vt_ppm.proofs.TellingFiles.{flaw_told, truncated_told, over_told, image_told, scaled_buffer}
 use Rattle.vt_ppm.proofs.read.read_image.Goals as goal
 
-pub returns-in_err-header-clause-fault : goal.returns-in_err-header-clause-fault
-returns-in_err-header-clause-fault g c =
+pub returns-in_err-header-clause-flaw : goal.returns-in_err-header-clause-flaw
+returns-in_err-header-clause-flaw g c =
     let p = err_from_is_err_and c.from_residual-in_err-header.result c.from_residual-in_err-header.ensures.1 in
-    rw (p.1, p.2) (λ _. fault_told _ c.deref.result.now c.in_err-header.field-0.0
-    (head_told _ _ c.deref.result.now c.in_ok-length.length (c.reserve.ensures.bytes ∙ c.length.ensures.bytes) c.in_ok-length.ensures.told (rw c.deref.ensures.value c.in_ok-head.ensures.piece) (rw c.deref.ensures.value (c.in_ok-head.ensures.count ∙ c.min.ensures)))
-    c.in_err-header.ensures.no_raster c.in_err-header.ensures.fault)
+    rw (p.1, p.2) (λ _. flaw_told most_read_side _ c.in_ok-front.front.length c.deref.result.now (rw c.deref.ensures.value c.in_ok-front.ensures.front)
+    c.in_err-header.field-0.0 c.in_err-header.ensures.no_raster c.in_err-header.ensures.flaw)
 
-pub returns-then-have-want-clause-fault : goal.returns-then-have-want-clause-fault
-returns-then-have-want-clause-fault g c =
+pub returns-then-have-want-clause-flaw : goal.returns-then-have-want-clause-flaw
+returns-then-have-want-clause-flaw g c =
     let h = c.in_ok-header.header in
-    let len : length c.deref.result.now ≤ c.in_ok-length.length = rw c.deref.ensures.value (omega (arith, c.in_ok-head.ensures.count, c.min.ensures)) in
-    λ _. truncated_told _ c.in_ok-length.length h.raster h.width h.height h.maximum _ _ c.in_ok-length.ensures.told
-    (lawful_told _ _ c.deref.result.now c.in_ok-length.length h.raster h.width h.height h.maximum (c.reserve.ensures.bytes ∙ c.length.ensures.bytes) c.in_ok-length.ensures.told (rw c.deref.ensures.value c.in_ok-head.ensures.piece) (rw c.deref.ensures.value (c.in_ok-head.ensures.count ∙ c.min.ensures)) c.in_ok-header.ensures.header)
-    refl refl (omega (arith, len, c.in_ok-header.ensures.header.sized.header.within)) c.if-have-want.true
+    λ _. truncated_told _ c.in_ok-front.front.length h.raster h.width h.height h.maximum c.deref.result.now (rw c.deref.ensures.value c.in_ok-front.ensures.front) c.in_ok-header.ensures.header
+    _ _ (rw c.deref.ensures.value c.in_ok-front.ensures.few) refl refl c.if-have-want.true
 
-pub returns-in-Some-clause-fault : goal.returns-in-Some-clause-fault
-returns-in-Some-clause-fault g c =
+pub returns-in_err-samples-clause-asked : goal.returns-in_err-samples-clause-asked
+returns-in_err-samples-clause-asked g c =
     let h = c.in_ok-header.header in
-    λ _. over_told _ _ c.deref-2.result.now h.raster h.width h.height h.maximum c.in-Some.at (c.bytes_at.ensures.bytes ∙ c.reserve.ensures.bytes ∙ c.length.ensures.bytes)
-    (lawful_told _ _ c.deref.result.now c.in_ok-length.length h.raster h.width h.height h.maximum (c.reserve.ensures.bytes ∙ c.length.ensures.bytes) c.in_ok-length.ensures.told (rw c.deref.ensures.value c.in_ok-head.ensures.piece) (rw c.deref.ensures.value (c.in_ok-head.ensures.count ∙ c.min.ensures)) c.in_ok-header.ensures.header)
+    asks_raster _ _ _ _ c.in_ok-front.front.length h.raster h.width h.height h.maximum _ c.deref.result.now c.in_ok-front.ensures.read
+    (rw c.deref.ensures.value c.in_ok-front.ensures.front) (rw c.deref.ensures.value c.in_ok-front.ensures.few) c.in_ok-header.ensures.header refl c.if-have-want.false c.bytes_at.result c.bytes_at.ensures.asked
+
+pub returns-in-Some-clause-asked : goal.returns-in-Some-clause-asked
+returns-in-Some-clause-asked g c =
+    let h = c.in_ok-header.header in
+    asks_raster _ _ _ _ c.in_ok-front.front.length h.raster h.width h.height h.maximum _ c.deref.result.now c.in_ok-front.ensures.read
+    (rw c.deref.ensures.value c.in_ok-front.ensures.front) (rw c.deref.ensures.value c.in_ok-front.ensures.few) c.in_ok-header.ensures.header refl c.if-have-want.false c.bytes_at.result c.bytes_at.ensures.asked
+
+pub returns-clause-asked : goal.returns-clause-asked
+returns-clause-asked g c =
+    let h = c.in_ok-header.header in
+    asks_raster _ _ _ _ c.in_ok-front.front.length h.raster h.width h.height h.maximum _ c.deref.result.now c.in_ok-front.ensures.read
+    (rw c.deref.ensures.value c.in_ok-front.ensures.front) (rw c.deref.ensures.value c.in_ok-front.ensures.few) c.in_ok-header.ensures.header refl c.if-have-want.false c.bytes_at.result c.bytes_at.ensures.asked
+
+pub returns-in-Some-clause-read : goal.returns-in-Some-clause-read
+returns-in-Some-clause-read g c =
+    let h = c.in_ok-header.header in
+    reads_raster _ _ _ _ c.in_ok-front.front.length h.raster h.width h.height h.maximum _ c.deref.result.now c.in_ok-front.ensures.read
+    (rw c.deref.ensures.value c.in_ok-front.ensures.front) (rw c.deref.ensures.value c.in_ok-front.ensures.few) c.in_ok-header.ensures.header refl c.if-have-want.false c.in_ok-samples.ensures.asked
+
+pub returns-clause-read : goal.returns-clause-read
+returns-clause-read g c =
+    let h = c.in_ok-header.header in
+    reads_raster _ _ _ _ c.in_ok-front.front.length h.raster h.width h.height h.maximum _ c.deref.result.now c.in_ok-front.ensures.read
+    (rw c.deref.ensures.value c.in_ok-front.ensures.front) (rw c.deref.ensures.value c.in_ok-front.ensures.few) c.in_ok-header.ensures.header refl c.if-have-want.false c.in_ok-samples.ensures.asked
+
+pub returns-in-Some-clause-flaw : goal.returns-in-Some-clause-flaw
+returns-in-Some-clause-flaw g c =
+    let h = c.in_ok-header.header in
+    λ _. over_told _ c.in_ok-front.front.length h.raster h.width h.height h.maximum c.deref.result.now (rw c.deref.ensures.value c.in_ok-front.ensures.front) c.in_ok-header.ensures.header
+    _ c.deref-2.result.now c.in-Some.at c.front_of.ensures.bytes
     (rw c.deref-2.ensures.value c.in_ok-samples.ensures.piece) (rw c.deref-2.ensures.value c.in_ok-samples.ensures.count) c.in-Some.ensures
 
 pub returns-clause-image : goal.returns-clause-image
 returns-clause-image g c =
     let h = c.in_ok-header.header in
     rw c.new.ensures
-    (image_told _ _ c.deref-2.result.now _ h.raster h.width h.height h.maximum (c.bytes_at.ensures.bytes ∙ c.reserve.ensures.bytes ∙ c.length.ensures.bytes)
-    (lawful_told _ _ c.deref.result.now c.in_ok-length.length h.raster h.width h.height h.maximum (c.reserve.ensures.bytes ∙ c.length.ensures.bytes) c.in_ok-length.ensures.told (rw c.deref.ensures.value c.in_ok-head.ensures.piece) (rw c.deref.ensures.value (c.in_ok-head.ensures.count ∙ c.min.ensures)) c.in_ok-header.ensures.header)
+    (image_told _ c.in_ok-front.front.length h.raster h.width h.height h.maximum c.deref.result.now (rw c.deref.ensures.value c.in_ok-front.ensures.front) c.in_ok-header.ensures.header
+    _ c.deref-2.result.now _ c.front_of.ensures.bytes
     (rw c.deref-2.ensures.value c.in_ok-samples.ensures.piece) (rw c.deref-2.ensures.value c.in_ok-samples.ensures.count) c.in_default.ensures
-    (scaled_buffer _ c.as_mut_slice.result.now _ c.deref-2.result.now _ h.maximum c.as_mut_slice.ensures.value c.as_mut_slice.ensures.len c.scale.ensures c.deref-2.ensures.value))
+    (scaled_buffer _ c.as_mut_slice.result.now _ c.deref-2.result.now _ h.maximum c.as_mut_slice.ensures.value c.as_mut_slice.ensures.len
+    c.scale.ensures c.deref-2.ensures.value))

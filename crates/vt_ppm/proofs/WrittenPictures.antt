@@ -1,9 +1,10 @@
 -- What is written of an image is that image.
-use Rattle.std.proofs.Common.{◌≡◌, ℕ, ◌<◌, ◌≤◌, ◌^◌, List, [], ◌∷◌, ◌++◌, length, get_or, map, refl, sym, ap, arith, append_assoc, length-append, All, codes, decimal}
+use Rattle.std.proofs.Common.{◌≡◌, ℕ, ◌<◌, ◌≤◌, ◌^◌, List, [], ◌∷◌, ◌++◌, length, get_or, map, refl, sym, ap, arith, append_assoc, length-append, codes, decimal}
 use Rattle.std.proofs.lemmas.Fmt.{decimal_is_IsNumeral, length-decimal-le}
 use Rattle.std.proofs.lemmas.List.{append-nil}
+use Rattle.std.proofs.lemmas.List.Elements.{All-weaker}
 use Rattle.std.proofs.lemmas.List.Folds.{map_fixed}
-use Rattle.vt_ppm.specs.Image.{Picture, IsPicture}
+use Rattle.vt_ppm.specs.Image.{ImageView, IsLawfulImage, AreBytes}
 use Rattle.vt_ppm.specs.Format.{IsGap, IsNumber, IsField, IsHeader, IsImage, scaled}
 use Rattle.vt_ppm.specs.Picture.{picture_bytes}
 use Rattle.vt_ppm.proofs.Gaps.{white_is_gap}
@@ -34,7 +35,8 @@ maximum_field = record {
   is_number = record { numeral = (omega arith, (omega arith, (omega arith, (omega arith, tt)))); few = omega arith; value_is = refl };
 }
 
-header_parts : (xs ys : List ℕ) → codes "P6\n" ++ xs ++ codes " " ++ ys ++ codes "\n255\n" ≡ codes "P6" ++ ((10 ∷ xs) ++ ((32 ∷ ys) ++ (codes "\n255" ++ (10 ∷ []))))
+header_parts : (xs ys : List ℕ) → codes "P6\n" ++ xs ++ codes " " ++ ys ++ codes "\n255\n" ≡ codes "P6" ++
+    ((10 ∷ xs) ++ ((32 ∷ ys) ++ (codes "\n255" ++ (10 ∷ []))))
 header_parts xs ys = simp append_assoc
 
 picture_header : (w h : ℕ) → w ≤ 8192 → h ≤ 8192 → IsHeader (codes "P6\n" ++ decimal w ++ codes " " ++ decimal h ++ codes "\n255\n") w h 255
@@ -53,7 +55,7 @@ picture_header w h columns rows = record {
 picture_is_short : (xs ys : List ℕ) → length xs ≤ 10 → length ys ≤ 10 → length (codes "P6\n" ++ xs ++ codes " " ++ ys ++ codes "\n255\n") ≤ 65536
 picture_is_short xs ys few many = simp length-append (omega arith)
 
-pub written_image : (p : Picture) → IsPicture p → All (λ sample. sample ≤ 255) p.samples → IsImage (picture_bytes p.width p.height p.samples) p
+pub written_image : (p : ImageView) → IsLawfulImage p → AreBytes p.samples → IsImage (picture_bytes p.width p.height p.samples) p
 written_image p is few = record {
   text = codes "P6\n" ++ decimal p.width ++ codes " " ++ decimal p.height ++ codes "\n255\n";
   raster = p.samples;
@@ -63,8 +65,8 @@ written_image p is few = record {
   header = picture_header p.width p.height is.few_columns is.few_rows;
   early = picture_is_short (decimal p.width) (decimal p.height) (decimal_is_number p.width is.few_columns).few (decimal_is_number p.height is.few_rows).few;
   lawful = record { some = omega arith; one_byte = omega arith };
-  picture = is;
+  image = is;
   full = is.full;
-  few = few;
+  few = All-weaker (λ s. s < 256) (λ s. s ≤ 255) (λ s less. omega arith) p.samples few;
   kept = sym (kept_all p.samples);
 }

@@ -4,7 +4,7 @@ use Rattle.std.specs.Str.Parse.{digits_value}
 use Rattle.std.proofs.Math.Seq.{take-add}
 use Rattle.std.proofs.lemmas.List.{append_cancel_left, take-append-drop, drop-drop, drop_more, get_or-drop}
 use Rattle.vt_ppm.specs.Format.{is_white, IsHeader, HasHeader}
-use Rattle.vt_ppm.specs.Faults.{IsHeaderFront, IsBrokenAt}
+use Rattle.vt_ppm.specs.Flaws.{IsHeaderFront, IsBrokenAt}
 use Rattle.vt_ppm.specs.Header.{IsFieldAt, IsBrokenFieldAt, IsFirstHeader}
 use Rattle.vt_ppm.proofs.Gaps.{white_is_gap}
 use Rattle.vt_ppm.proofs.Fields.{field_of}
@@ -41,7 +41,8 @@ header_of xs t = record {
   second = t.next.text;
   third = t.next.next.text;
   space = t.next.next.next.space;
-  spelt = ap (λ ys. codes "P6" ++ ys) (t.spelt ∙ ap (λ ys. t.text ++ ys) (t.next.spelt ∙ ap (λ ys. t.next.text ++ ys) (t.next.next.spelt ∙ ap (λ ys. t.next.next.text ++ ys) t.next.next.next.spelt)));
+  spelt = ap (λ ys. codes "P6" ++ ys) (t.spelt ∙ ap (λ ys. t.text ++ ys)
+      (t.next.spelt ∙ ap (λ ys. t.next.text ++ ys) (t.next.next.spelt ∙ ap (λ ys. t.next.next.text ++ ys) t.next.next.next.spelt)));
   width_field = t.field;
   height_field = t.next.field;
   maximum_field = t.next.next.field;
@@ -79,10 +80,16 @@ pub record BreaksFrom (K : List ℕ → Type 0) (b : List ℕ) (from at : ℕ) :
   pub at_is : at ≡ from + len
   pub breaks : Breaks K (drop from b) len
 
-field_breaks_from : (K : List ℕ → Type 0) (b : List ℕ) (from at : ℕ) (sample : List ℕ) → AreSpaced K → K sample → IsBrokenFieldAt b from at → BreaksFrom (IsFieldThen K) b from at
-field_breaks_from K b from at sample spaced some broken = record { len = broken.len; at_is = broken.at_is; breaks = field_breaks K (drop from b) broken.len sample spaced some broken.broken }
+field_breaks_from : (K : List ℕ → Type 0) (b : List ℕ) (from at : ℕ) (sample : List ℕ) → AreSpaced K → K sample → IsBrokenFieldAt b from at
+    → BreaksFrom (IsFieldThen K) b from at
+field_breaks_from K b from at sample spaced some broken = record {
+  len = broken.len;
+  at_is = broken.at_is;
+  breaks = field_breaks K (drop from b) broken.len sample spaced some broken.broken;
+}
 
-rest_breaks_from : (K : List ℕ → Type 0) (b : List ℕ) (from end value at : ℕ) → AreSpaced K → IsFieldAt b from end value → BreaksFrom K b end at → BreaksFrom (IsFieldThen K) b from at
+rest_breaks_from : (K : List ℕ → Type 0) (b : List ℕ) (from end value at : ℕ) → AreSpaced K → IsFieldAt b from end value → BreaksFrom K b end at
+    → BreaksFrom (IsFieldThen K) b from at
 rest_breaks_from K b from end value at spaced f broken =
     let rests : drop end b ≡ drop f.len (drop from b) = ap (λ n. drop n b) f.end_is ∙ sym (drop-drop f.len from b) in
     record {
@@ -132,7 +139,8 @@ module _ (b : List ℕ) (few : length b ≤ 65536) (magic : take 2 b ≡ codes "
 
   no_front : (n : ℕ) → ((rest : List ℕ) → AreThree (take n (drop 2 b) ++ rest) → ⊥) → IsHeaderFront (take (2 + n) b) → ⊥
   no_front n never f =
-      let whole : codes "P6" ++ (take n (drop 2 b) ++ f.rest) ≡ codes "P6" ++ (f.header.first ++ (f.header.second ++ (f.header.third ++ (f.header.space ∷ [])))) =
+      let whole : codes "P6" ++ (take n (drop 2 b) ++ f.rest) ≡ codes "P6" ++
+      (f.header.first ++ (f.header.second ++ (f.header.third ++ (f.header.space ∷ [])))) =
       ap (λ xs. xs ++ f.rest) (sym (split n)) ∙ f.header.spelt in
       never f.rest (fields_of (take n (drop 2 b) ++ f.rest) (take (2 + n) b ++ f.rest) f.width f.height f.maximum f.header
       (append_cancel_left (codes "P6") (take n (drop 2 b) ++ f.rest) (f.header.first ++ (f.header.second ++ (f.header.third ++ (f.header.space ∷ [])))) whole))
@@ -143,34 +151,48 @@ module _ (b : List ℕ) (few : length b ≤ 65536) (magic : take 2 b ≡ codes "
     front = front_of broken.len broken.breaks.rest broken.breaks.front;
     breaks = elim broken.breaks.breaks [
       | inl end ↦ inl (omega (arith, end, length-drop 2 b, two, few))
-      | inr short ↦ inr (omega (arith, short.0, length-drop 2 b, two, few), λ f. no_front (broken.len + 1) short.1 (subst (λ n. IsHeaderFront (take n b)) (omega arith) f))
+      | inr short ↦ inr (
+        omega (arith, short.0, length-drop 2 b, two, few),
+        λ f. no_front (broken.len + 1) short.1
+            (subst (λ n. IsHeaderFront (take n b)) (omega arith) f),
+      )
     ];
   })
 
   pub width_breaks : (at : ℕ) → IsBrokenFieldAt b 2 at → IsBrokenAt b at
-  width_breaks at broken = header_breaks at (field_breaks_from AreTwo b 2 at (codes " 1" ++ (codes " 1" ++ codes " ")) (then_is_spaced IsLast) (and_field IsLast (codes " 1" ++ codes " ") (and_field IsSpace (codes " ") one_space)) broken)
+  width_breaks at broken = header_breaks at (field_breaks_from AreTwo b 2 at (codes " 1" ++ (codes " 1" ++ codes " ")) (then_is_spaced IsLast)
+      (and_field IsLast (codes " 1" ++ codes " ") (and_field IsSpace (codes " ") one_space)) broken)
 
   module _ (e1 w : ℕ) (f1 : IsFieldAt b 2 e1 w) where
     pub height_breaks : (at : ℕ) → IsBrokenFieldAt b e1 at → IsBrokenAt b at
-    height_breaks at broken = header_breaks at (rest_breaks_from AreTwo b 2 e1 w at (then_is_spaced IsLast) f1 (field_breaks_from IsLast b e1 at (codes " 1" ++ codes " ") (then_is_spaced IsSpace) (and_field IsSpace (codes " ") one_space) broken))
+    height_breaks at broken = header_breaks at (rest_breaks_from AreTwo b 2 e1 w at (then_is_spaced IsLast) f1
+        (field_breaks_from IsLast b e1 at (codes " 1" ++ codes " ") (then_is_spaced IsSpace) (and_field IsSpace (codes " ") one_space) broken))
 
     module _ (e2 h : ℕ) (f2 : IsFieldAt b e1 e2 h) where
       pub maximum_breaks : (at : ℕ) → IsBrokenFieldAt b e2 at → IsBrokenAt b at
-      maximum_breaks at broken = header_breaks at (rest_breaks_from AreTwo b 2 e1 w at (then_is_spaced IsLast) f1 (rest_breaks_from IsLast b e1 e2 h at (then_is_spaced IsSpace) f2 (field_breaks_from IsSpace b e2 at (codes " ") space_is_spaced one_space broken)))
+      maximum_breaks at broken = header_breaks at (rest_breaks_from AreTwo b 2 e1 w at (then_is_spaced IsLast) f1
+          (rest_breaks_from IsLast b e1 e2 h at (then_is_spaced IsSpace) f2 (field_breaks_from IsSpace b e2 at (codes " ") space_is_spaced one_space broken)))
 
       module _ (e3 m : ℕ) (f3 : IsFieldAt b e2 e3 m) where
         pub end_breaks : (e3 ≡ length b) ⊎ (is_white (get_or b e3 0) ≡ false) → IsBrokenAt b e3
-        end_breaks bad = header_breaks e3 (rest_breaks_from AreTwo b 2 e1 w e3 (then_is_spaced IsLast) f1 (rest_breaks_from IsLast b e1 e2 h e3 (then_is_spaced IsSpace) f2 (rest_breaks_from IsSpace b e2 e3 m e3 space_is_spaced f3 (space_breaks_from b e3 f3.within bad))))
+        end_breaks bad = header_breaks e3 (rest_breaks_from AreTwo b 2 e1 w e3 (then_is_spaced IsLast) f1
+            (rest_breaks_from IsLast b e1 e2 h e3 (then_is_spaced IsSpace) f2
+            (rest_breaks_from IsSpace b e2 e3 m e3 space_is_spaced f3 (space_breaks_from b e3 f3.within bad))))
 
         behind : (from end v n : ℕ) (f : IsFieldAt b from end v) → take (f.len + n) (drop from b) ≡ take f.len (drop from b) ++ take n (drop end b)
-        behind from end v n f = take-add f.len n (drop from b) ∙ ap (λ xs. take f.len (drop from b) ++ take n xs) (drop-drop f.len from b ∙ ap (λ k. drop k b) (sym f.end_is))
+        behind from end v n f = take-add f.len n (drop from b) ∙ ap (λ xs. take f.len (drop from b) ++ take n xs)
+            (drop-drop f.len from b ∙ ap (λ k. drop k b) (sym f.end_is))
 
         pub header_found : e3 < length b → is_white (get_or b e3 0) ≡ true → IsFirstHeader b (e3 + 1) w h m
         header_found within white =
             let last : take 1 (drop e3 b) ≡ get_or b e3 0 ∷ [] = ap (take 1) (drop_more b e3 0 within) in
-            let third : take (f3.len + 1) (drop e2 b) ≡ take f3.len (drop e2 b) ++ (get_or b e3 0 ∷ []) = behind e2 e3 m 1 f3 ∙ ap (λ xs. take f3.len (drop e2 b) ++ xs) last in
-            let second : take (f2.len + (f3.len + 1)) (drop e1 b) ≡ take f2.len (drop e1 b) ++ (take f3.len (drop e2 b) ++ (get_or b e3 0 ∷ [])) = behind e1 e2 h (f3.len + 1) f2 ∙ ap (λ xs. take f2.len (drop e1 b) ++ xs) third in
-            let first : take (f1.len + (f2.len + (f3.len + 1))) (drop 2 b) ≡ take f1.len (drop 2 b) ++ (take f2.len (drop e1 b) ++ (take f3.len (drop e2 b) ++ (get_or b e3 0 ∷ []))) = behind 2 e1 w (f2.len + (f3.len + 1)) f1 ∙ ap (λ xs. take f1.len (drop 2 b) ++ xs) second in
+            let third : take (f3.len + 1) (drop e2 b) ≡ take f3.len (drop e2 b) ++ (get_or b e3 0 ∷ []) = behind e2 e3 m 1 f3
+            ∙ ap (λ xs. take f3.len (drop e2 b) ++ xs) last in
+            let second : take (f2.len + (f3.len + 1)) (drop e1 b) ≡ take f2.len (drop e1 b) ++ (take f3.len (drop e2 b) ++ (get_or b e3 0 ∷ [])) =
+            behind e1 e2 h (f3.len + 1) f2 ∙ ap (λ xs. take f2.len (drop e1 b) ++ xs) third in
+            let first : take (f1.len + (f2.len + (f3.len + 1))) (drop 2 b) ≡ take f1.len (drop 2 b) ++
+            (take f2.len (drop e1 b) ++ (take f3.len (drop e2 b) ++ (get_or b e3 0 ∷ []))) = behind 2 e1 w (f2.len + (f3.len + 1)) f1
+            ∙ ap (λ xs. take f1.len (drop 2 b) ++ xs) second in
             let end : e3 + 1 ≡ 2 + (f1.len + (f2.len + (f3.len + 1))) = omega (arith, f1.end_is, f2.end_is, f3.end_is) in
             record {
               within = omega arith;

@@ -1,0 +1,89 @@
+-- What is found in the bytes that a file gives is so of its bytes, where it tells them.
+use Rattle.std.proofs.Common.{◌≡◌, ℕ, ◌+◌, ◌-◌, ◌*◌, ◌<◌, ◌≤◌, List, ◌++◌, length, take, drop, map, min, Option, Some, None, IfSome, Result, Ok, Err, IfOk, IfErr, sym, ap, ◌∙◌, subst, arith, All}
+use Rattle.std.proofs.lemmas.List.{length-map, take_at}
+use Rattle.vt_definitions.specs.Limits.{header_limit, most_read_side}
+use Rattle.vt_outside.specs.Files.{IsPiece}
+use Rattle.vt_ppm.specs.declared.error.PpmError.{PpmError}
+use Rattle.vt_ppm.specs.declared.error.PpmError.TheVariants.{Truncated, SampleOver}
+use Rattle.vt_ppm.specs.declared.header.Header.{Header}
+use Rattle.vt_ppm.specs.Format.{IsImage, scaled}
+use Rattle.vt_ppm.specs.Flaws.{IsLawfulHeader, IsFlawUpTo, IsImageFlaw}
+use Rattle.vt_ppm.specs.Reads.{IsFront}
+use Rattle.vt_ppm.specs.Refusals.{IsOutsideRefusal, IsRasterRefusal}
+use Rattle.vt_ppm.specs.Samples.{IsFirstOver}
+use Rattle.vt_ppm.proofs.Rasters.{head_is, lawful_header, flaw_of_head, image_made, sample_over, truncated}
+
+-- the front that was read is that of the file
+pub front_told : (o o1 : Option (List ℕ)) (front : List ℕ) (n : ℕ) → o1 ≡ o → IfSome o (λ b. n ≡ length b) → IfSome o1 (λ b. IsPiece b 0 front)
+    → length front ≡ min n header_limit → IfSome o (λ b. IsFront b n front)
+front_told None o1 front n e told piece len = tt
+front_told (Some b) o1 front n e told piece len =
+    let here : IsPiece b 0 front = subst (λ o. IfSome o (λ b. IsPiece b 0 front)) e piece in
+    record { len_is = told; front_is = head_is b front n told (here.same ∙ ap (λ k. take k b) len) }
+
+-- what the front holds is so of the whole
+module _ (most : ℕ) (o : Option (List ℕ)) (n : ℕ) (front : List ℕ) (is : IfSome o (λ b. IsFront b n front)) where
+  pub header_told : (r w h m : ℕ) → IsLawfulHeader most front r w h m → IfSome o (λ b. IsLawfulHeader most b r w h m)
+  header_told r w h m l = told o is
+    where
+      told : (o : Option (List ℕ)) → IfSome o (λ b. IsFront b n front) → IfSome o (λ b. IsLawfulHeader most b r w h m)
+      told None f = tt
+      told (Some b) f = lawful_header most b front f.front_is r w h m l
+
+  pub flaw_told : (e : PpmError) → (IsRasterRefusal e → ⊥) → IsFlawUpTo most front e → IfSome o (λ b. IsFlawUpTo most b e)
+  flaw_told e other flaw = told o is
+    where
+      told : (o : Option (List ℕ)) → IfSome o (λ b. IsFront b n front) → IfSome o (λ b. IsFlawUpTo most b e)
+      told None f = tt
+      told (Some b) f = flaw_of_head most b front f.front_is e other flaw
+
+  pub answer_told : (r : Result Header PpmError) → IfErr r (λ e. IsRasterRefusal e → ⊥) → IfErr r (λ e. IsFlawUpTo most front e)
+      → IfErr r (λ e. (IsOutsideRefusal e → ⊥) → IfSome o (λ b. IsFlawUpTo most b e))
+  answer_told (Ok h) other flaw = tt
+  answer_told (Err e) other flaw = λ _. flaw_told e other flaw
+
+  pub header_answer_told : (r : Result Header PpmError) → IfOk r (λ h. IsLawfulHeader most front h.raster h.width h.height h.maximum)
+      → IfOk r (λ h. IfSome o (λ b. IsLawfulHeader most b h.raster h.width h.height h.maximum))
+  header_answer_told (Ok h) l = header_told h.raster h.width h.height h.maximum l
+  header_answer_told (Err e) l = tt
+
+-- what is found with the header of the front is so of the file
+module _ (o : Option (List ℕ)) (n r w h m : ℕ) (front : List ℕ) (is : IfSome o (λ b. IsFront b n front)) (header : IsLawfulHeader most_read_side front r w h m) where
+  told : IfSome o (λ b. IsLawfulHeader most_read_side b r w h m)
+  told = header_told most_read_side o n front is r w h m header
+
+  -- the file has too few bytes for the raster
+  pub truncated_told : (want have : ℕ) → length front ≡ min n header_limit → want ≡ 3 * (w * h) → have ≡ n - r → have < want
+      → IfSome o (λ b. IsImageFlaw b (Truncated want have))
+  truncated_told want have few ew eh short = found o is told
+    where
+      found : (o : Option (List ℕ)) → IfSome o (λ b. IsFront b n front) → IfSome o (λ b. IsLawfulHeader most_read_side b r w h m)
+          → IfSome o (λ b. IsImageFlaw b (Truncated want have))
+      found None f l = tt
+      found (Some b) f l = truncated b r w h m want have l ew (omega (arith, f.len_is, few, header.sized.header.within, eh)) short
+
+  -- the first sample above the maximum is that of the file
+  pub over_told : (o1 : Option (List ℕ)) (raster : List ℕ) (at : ℕ) → o1 ≡ o → IfSome o1 (λ b. IsPiece b r raster) → length raster ≡ 3 * (w * h)
+      → IsFirstOver raster m at → IfSome o (λ b. IsImageFlaw b (SampleOver (r + at)))
+  over_told o1 raster at e piece full over = found o told (subst (λ o. IfSome o (λ b. IsPiece b r raster)) e piece)
+    where
+      found : (o : Option (List ℕ)) → IfSome o (λ b. IsLawfulHeader most_read_side b r w h m) → IfSome o (λ b. IsPiece b r raster)
+          → IfSome o (λ b. IsImageFlaw b (SampleOver (r + at)))
+      found None l p = tt
+      found (Some b) l p = sample_over b raster r w h m l p full at over
+
+  -- the samples that were read and scaled are those of the file's image
+  pub image_told : (o1 : Option (List ℕ)) (raster samples : List ℕ) → o1 ≡ o → IfSome o1 (λ b. IsPiece b r raster) → length raster ≡ 3 * (w * h)
+      → All (λ sample. sample ≤ m) raster → samples ≡ map (scaled m) raster → IfSome o (λ b. IsImage b (record { width = w; height = h; samples = samples }))
+  image_told o1 raster samples e piece full few kept = found o told (subst (λ o. IfSome o (λ b. IsPiece b r raster)) e piece)
+    where
+      found : (o : Option (List ℕ)) → IfSome o (λ b. IsLawfulHeader most_read_side b r w h m) → IfSome o (λ b. IsPiece b r raster)
+          → IfSome o (λ b. IsImage b (record { width = w; height = h; samples = samples }))
+      found None l p = tt
+      found (Some b) l p = image_made b raster r w h m l p full samples few kept
+
+-- what a buffer holds once all of it was scaled
+pub scaled_buffer : (items all new seen : List ℕ) (len m : ℕ) → all ≡ items → length all ≡ len → new ≡ map (scaled m) all → seen ≡ items
+    → take len (new ++ drop (length new) items) ≡ map (scaled m) seen
+scaled_buffer items all new seen len m ea el en es =
+    take_at new (drop (length new) items) len (ap length en ∙ length-map all (scaled m) ∙ el) ∙ en ∙ ap (map (scaled m)) (ea ∙ sym es)

@@ -1,5 +1,0 @@
-use Rattle.vt_ppm.proofs.ImageLaws.{no_image_fault}
-use Rattle.vt_ppm.proofs.laws.image_has_no_fault.Goals as goal
-
-pub returns : goal.returns
-returns c = no_image_fault
