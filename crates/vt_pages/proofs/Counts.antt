@@ -109,7 +109,8 @@ side_halved w m (suc k) most =
 
 -- no more parts than texels
 up_most : (a t : ℕ) → 1 ≤ t → (a + t - 1) / t ≤ a
-up_most a t some = elim (cases_lt a ((a + t - 1) / t)) [ inl more ↦ absurd (omega (arith, lt_up a t a some more, mul-le a 1 a t (omega arith) some)) | inr most ↦ most ]
+up_most a t some =
+    elim (cases_lt a ((a + t - 1) / t)) [ inl more ↦ absurd (omega (arith, lt_up a t a some more, mul-le a 1 a t (omega arith) some)) | inr most ↦ most ]
 
 pub columns_most : (s : Shape) (k m : ℕ) → 1 ≤ s.tile → 1 ≤ m → s.width ≤ m → columns_at s k ≤ m
 unfolding columns_at
@@ -122,7 +123,12 @@ rows_most s k m some more most = omega (arith, up_most (side s.height k) s.tile 
 pub pages_below_most : (s : Shape) (k m : ℕ) → 1 ≤ s.tile → 1 ≤ m → s.width ≤ m → s.height ≤ m → pages_below s k ≤ k * (m * m)
 pages_below_most s zero m some more wide high = omega (arith, pages_below-zero s)
 pages_below_most s (suc k) m some more wide high =
-    omega (arith, pages_below-suc s k, pages_below_most s k m some more wide high, mul-le (rows_at s k) (columns_at s k) m m (rows_most s k m some more high) (columns_most s k m some more wide))
+    omega (
+      arith,
+      pages_below-suc s k,
+      pages_below_most s k m some more wide high,
+      mul-le (rows_at s k) (columns_at s k) m m (rows_most s k m some more high) (columns_most s k m some more wide),
+    )
 
 pub pages_of-is : (s : Shape) → pages_of s ≡ pages_below s (levels_of s)
 unfolding pages_of

@@ -4,3 +4,4 @@ pub mod Names
 pub mod Lines
 pub mod Pinned
 pub mod Tiles
+pub mod Seen

@@ -88,7 +88,8 @@ above-level : (i : ℕ) (n : PageName) → (above i n).level ≡ n.level + i
 unfolding above
 above-level i n = refl
 
-line_page : (s : Shape) (p i : ℕ) → 1 ≤ s.tile → 1 ≤ s.width → p < pages_of s → level_of s p + i < levels_of s → IsPageAt s (level_of s p + i) (index_of s (above i (name_at s p)))
+line_page : (s : Shape) (p i : ℕ) → 1 ≤ s.tile → 1 ≤ s.width → p < pages_of s → level_of s p + i < levels_of s
+    → IsPageAt s (level_of s p + i) (index_of s (above i (name_at s p)))
 line_page s p i some wide inside within =
     let page = index_of_page s (above i (name_at s p)) (line_at_page s p i some wide inside within) in
     let level : (above i (name_at s p)).level ≡ level_of s p + i = above-level i (name_at s p) ∙ ap (λ l. l + i) (name_at-level s p) in
@@ -154,11 +155,6 @@ pub parent_none : (s : Shape) (p : ℕ) → level_of s p + 1 ≡ levels_of s →
 unfolding parent_of
 parent_none s p last = let e : (level_of s p + 1 == levels_of s) ≡ true = grind (arith, nat_tests) in rw e refl
 
-pub parent_page : (s : Shape) (p : ℕ) → 1 ≤ s.tile → 1 ≤ s.width → p < pages_of s → level_of s p + 1 < levels_of s → IsPageAt s (level_of s p + 1) (index_of s (parent_name (name_at s p)))
-parent_page s p some wide inside more =
-    let page = index_of_page s (parent_name (name_at s p)) (parent_is_page s (name_at s p) some (name_at_is_page s p some wide inside) (rw name_at-level more)) in
-    record { inside = page.inside; level = page.level ∙ ap (λ l. l + 1) (name_at-level s p) }
-
 div_swap : (x a b : ℕ) → x / a / b ≡ x / b / a
 div_swap x a b = div-div-eq-div-mul x a b ∙ ap (λ n. x / n) (mul_comm a b) ∙ sym (div-div-eq-div-mul x b a)
 
@@ -167,7 +163,8 @@ texel_code : (s : Shape) (k x y c r : ℕ) → c ≡ x / s.tile → r ≡ y / s.
 unfolding texel_page
 texel_code s k x y c r p q = rw (p, q) refl
 
-pub texel_name : (s : Shape) (k x y : ℕ) → 1 ≤ s.tile → IsInside s k x y → name_at s (texel_page s k x y) ≡ record { level = k; col = x / s.tile; row = y / s.tile }
+pub texel_name : (s : Shape) (k x y : ℕ) → 1 ≤ s.tile → IsInside s k x y
+    → name_at s (texel_page s k x y) ≡ record { level = k; col = x / s.tile; row = y / s.tile }
 unfolding texel_page
 texel_name s k x y some h = name_at-index s k (x / s.tile) (y / s.tile) h.0 (columns_cover s k x some h.1) (rows_cover s k y some h.2)
 
@@ -184,8 +181,10 @@ side_suc w k = let e : k + 1 ≡ suc k = omega arith in rw e refl
 inside_half : (s : Shape) (k x y : ℕ) → k + 1 < levels_of s → IsInside s k x y → IsInside s (k + 1) (x / 2) (y / 2)
 inside_half s k x y more h = (more, rw side_suc (omega (arith, h.1)), rw side_suc (omega (arith, h.2)))
 
-texel_parent : (s : Shape) (k x y : ℕ) → 1 ≤ s.tile → IsInside s k x y → index_of s (parent_name (name_at s (texel_page s k x y))) ≡ texel_page s (k + 1) (x / 2) (y / 2)
-texel_parent s k x y some h = rw (texel_name s k x y some h) (texel_code s (k + 1) (x / 2) (y / 2) (x / s.tile / 2) (y / s.tile / 2) (div_swap x s.tile 2) (div_swap y s.tile 2))
+texel_parent : (s : Shape) (k x y : ℕ) → 1 ≤ s.tile → IsInside s k x y
+    → index_of s (parent_name (name_at s (texel_page s k x y))) ≡ texel_page s (k + 1) (x / 2) (y / 2)
+texel_parent s k x y some h =
+    rw (texel_name s k x y some h) (texel_code s (k + 1) (x / 2) (y / 2) (x / s.tile / 2) (y / s.tile / 2) (div_swap x s.tile 2) (div_swap y s.tile 2))
 
 pub places_nest : (s : Shape) → 1 ≤ s.tile → PlacesNest s
 places_nest s some k x y more h = (
@@ -200,12 +199,14 @@ inside_up s (suc j) k x y within h =
     let e : k + suc j ≡ k + 1 + j = omega arith in
     rw (e, ← halves x j, ← halves y j) (inside_up s j (k + 1) (x / 2) (y / 2) (omega arith) (inside_half s k x y (omega arith) h))
 
-texel_line : (s : Shape) (k x y j : ℕ) → 1 ≤ s.tile → IsInside s k x y → k + j < levels_of s → ancestor_of s (texel_page s k x y) (k + j) ≡ texel_page s (k + j) (x / 2 ^ j) (y / 2 ^ j)
+texel_line : (s : Shape) (k x y j : ℕ) → 1 ≤ s.tile → IsInside s k x y → k + j < levels_of s
+    → ancestor_of s (texel_page s k x y) (k + j) ≡ texel_page s (k + j) (x / 2 ^ j) (y / 2 ^ j)
 texel_line s k x y j some h within =
     let level = (texel_is_page s k x y some h).level in
     let up : k + j - k ≡ j = omega arith in
     ancestor_at_level s (texel_page s k x y) (k + j) (omega (arith, level)) within
-    ∙ rw (texel_name s k x y some h, level, up) (texel_code s (k + j) (x / 2 ^ j) (y / 2 ^ j) (x / s.tile / 2 ^ j) (y / s.tile / 2 ^ j) (div_swap x s.tile (2 ^ j)) (div_swap y s.tile (2 ^ j)))
+    ∙ rw (texel_name s k x y some h, level, up)
+    (texel_code s (k + j) (x / 2 ^ j) (y / 2 ^ j) (x / s.tile / 2 ^ j) (y / s.tile / 2 ^ j) (div_swap x s.tile (2 ^ j)) (div_swap y s.tile (2 ^ j)))
 
 pub lines_follow_places : (s : Shape) → 1 ≤ s.tile → LinesFollowPlaces s
 lines_follow_places s some k x y j h within = (inside_up s j k x y within h, texel_line s k x y j some h within)
@@ -221,7 +222,8 @@ unfolding texel_page
 texel_shift s k x y shift e = rw e refl
 
 -- the parent by its name
-pub parent_code : (s : Shape) (p : ℕ) (n : PageName) → n ≡ name_at s p → n.level + 1 < levels_of s → parent_of s p ≡ Some (index_at s (n.level + 1) (n.col / 2) (n.row / 2))
+pub parent_code : (s : Shape) (p : ℕ) (n : PageName) → n ≡ name_at s p → n.level + 1 < levels_of s
+    → parent_of s p ≡ Some (index_at s (n.level + 1) (n.col / 2) (n.row / 2))
 parent_code s p n e more =
     let level : n.level ≡ level_of s p = ap (λ (m : PageName). m.level) e ∙ name_at-level s p in
     parent_is s p (rw level at more) ∙ ap (λ (m : PageName). Some (index_of s (parent_name m))) (sym e)

@@ -33,7 +33,8 @@ level_from_is s p k (suc j) within from to = step (λ w. level_from_is s p k j w
       ]
   step earlier false e =
       elim (zero_or_more k j within) [
-        | inl same ↦ absurd (let later : pages_below s k ≡ pages_below s (suc j) = ap (pages_below s) same in omega (arith, le_false (pages_below s (suc j)) p e))
+        | inl same ↦ absurd
+            (let later : pages_below s k ≡ pages_below s (suc j) = ap (pages_below s) same in omega (arith, le_false (pages_below s (suc j)) p e))
         | inr below ↦ earlier below
       ]
 
@@ -73,7 +74,8 @@ pub same_name : (a b c d e f : ℕ) → a ≡ d → b ≡ e → c ≡ f → ◌�
 same_name a b c d e f p q r = cc
 
 -- the name of a page's index is the page's
-pub name_at-index : (s : Shape) (k c r : ℕ) → k < levels_of s → c < columns_at s k → r < rows_at s k → name_at s (index_at s k c r) ≡ record { level = k; col = c; row = r }
+pub name_at-index : (s : Shape) (k c r : ℕ) → k < levels_of s → c < columns_at s k → r < rows_at s k
+    → name_at s (index_at s k c r) ≡ record { level = k; col = c; row = r }
 unfolding name_at index_at
 name_at-index s k c r within wide high =
     let columns = columns_at s k in
@@ -118,7 +120,11 @@ index_at_is_page s k c r within wide high = record {
 
 pub are_inverse : (s : Shape) → 1 ≤ s.tile → 1 ≤ s.width → AreInverse s
 are_inverse s some wide = record {
-  name = λ n h. (index_at_below s n.level n.col n.row h.level_inside h.col_inside h.row_inside, name_at-index s n.level n.col n.row h.level_inside h.col_inside h.row_inside);
+  name =
+      λ n h. (
+        index_at_below s n.level n.col n.row h.level_inside h.col_inside h.row_inside,
+        name_at-index s n.level n.col n.row h.level_inside h.col_inside h.row_inside,
+      );
   index = λ p h. (name_at_is_page s p some wide h, index_of-name_at s p some h);
 }
 
@@ -140,7 +146,8 @@ name_code s p k first columns level from wide = rw (from, wide, level) refl
 pub level_code : (s : Shape) (p k : ℕ) → k < levels_of s → pages_below s k ≤ p → p < pages_below s (k + 1) → k ≡ level_of s p
 level_code s p k within from to = sym (level_of_is s p k within from (rw add-one at to))
 
-pub level_of_from : (s : Shape) (p : ℕ) → 1 ≤ s.tile → p < pages_of s → (pages_below s (level_of s p) ≤ p) × (p < pages_below s (suc (level_of s p))) × (level_of s p < levels_of s)
+pub level_of_from : (s : Shape) (p : ℕ) → 1 ≤ s.tile → p < pages_of s
+    → (pages_below s (level_of s p) ≤ p) × (p < pages_below s (suc (level_of s p))) × (level_of s p < levels_of s)
 level_of_from s p some inside =
     let h = level_of_has s p (levels_count s some).some inside in
     (h.from, h.to, omega (arith, h.within, (levels_count s some).some))

@@ -31,7 +31,8 @@ pinned_last s n count p some e inside =
           elim (cases_lt (level_of s p + n) (levels_of s)) [
             | inr h ↦ h
             | inl early ↦
-                let to : pages_below s (suc (level_of s p)) ≤ pages_below s (levels_of s - n) = pages_below_le s (suc (level_of s p)) (levels_of s - n) (omega arith) in
+                let to : pages_below s (suc (level_of s p)) ≤ pages_below s (levels_of s - n) =
+                pages_below_le s (suc (level_of s p)) (levels_of s - n) (omega arith) in
                 absurd (omega (arith, at.1))
           ],
     )

@@ -19,7 +19,9 @@ pub get_or-tile_words : (s : Shape) (src : Source) (p c r : ℕ) → c < s.tile 
     → get_or (tile_words s src p) (r * s.tile + c) 0 ≡ clamped_word s src (name_at s p).level ((name_at s p).col * s.tile + c) ((name_at s p).row * s.tile + r)
 unfolding tile_words
 get_or-tile_words s src p c r wide high =
-    get_or-map-range_with_len (λ i. clamped_word s src (name_at s p).level ((name_at s p).col * s.tile + i % s.tile) ((name_at s p).row * s.tile + i / s.tile)) 0 (s.tile * s.tile) (r * s.tile + c) (r * s.tile + c) 0 (mul-add-lt r s.tile c s.tile high wide) (omega arith)
+    get_or-map-range_with_len
+    (λ i. clamped_word s src (name_at s p).level ((name_at s p).col * s.tile + i % s.tile) ((name_at s p).row * s.tile + i / s.tile))
+    0 (s.tile * s.tile) (r * s.tile + c) (r * s.tile + c) 0 (mul-add-lt r s.tile c s.tile high wide) (omega arith)
     ∙ rw (mod-mul-add r s.tile c wide, div-mul-add r s.tile c wide) refl
 
 -- inside the level nothing is clamped

@@ -6,7 +6,7 @@ use Rattle.vt_pages.specs.declared.PageName.{PageName}
 use Rattle.vt_pages.specs.Shape.{Shape}
 use Rattle.vt_pages.specs.Pages.{IsPage, index_of, name_at, level_of, levels_of, pages_of, parent_of, line_of, ancestor_of, root_of, texel_page, tile_words}
 
--- names and indexes of pages undo each other (this project's profile)
+-- names and indexes of pages undo each other
 pub record AreInverse (s : Shape) : Type 0 where
   pub name : (n : PageName) → IsPage s n → (index_of s n < pages_of s) × (name_at s (index_of s n) ≡ n)
   pub index : (p : ℕ) → p < pages_of s → IsPage s (name_at s p) × (index_of s (name_at s p) ≡ p)

@@ -1,14 +1,14 @@
 -- The pages of a mip chain: their names, their indexes, their ancestors and their tiles.
 use Rattle.std.specs.Prelude.{◌≡◌, ℕ, zero, suc, ◌+◌, ◌-◌, ◌*◌, ◌/◌, ◌%◌, ◌^◌, ◌<◌, ◌≤◌, min, ◌==◌, ◌&&◌, not, nat_le, if◌then◌else◌, IsTrue, Option, Some, None, List, [], ◌∷◌, map, slice_index}
 use Rattle.std.specs.List.{range_with_len}
+use Rattle.vt_definitions.specs.Limits.{most_tiled_side, most_pages}
 use Rattle.vt_definitions.specs.Sides.{side, level_count}
 use Rattle.vt_definitions.specs.Texels.{Source}
-use Rattle.vt_pages.specs.declared.TheConstants.{MOST_SIDE, MOST_PAGES, MOST_LEVELS}
+use Rattle.vt_definitions.specs.Tiles.{is_tile_side}
 use Rattle.vt_pages.specs.declared.PageName.{PageName}
 use Rattle.vt_pages.specs.declared.PagesError.{PagesError}
 use Rattle.vt_pages.specs.declared.PagesError.TheVariants.{BadTile, BadSide, TooManyPages}
-use Rattle.vt_definitions.specs.Tiles.{is_tile_side}
-use Rattle.vt_pages.specs.Shape.{Shape, tile_exponent, is_texture_side}
+use Rattle.vt_pages.specs.Shape.{Shape, tile_exponent, is_texture_side, level_limit}
 
 -- the columns of pages of a level: its width over the tile side, rounded up (van Waveren 2012)
 unfoldable pub columns_at : Shape → ℕ → ℕ
@@ -18,16 +18,16 @@ columns_at s k = (side s.width k + s.tile - 1) / s.tile
 unfoldable pub rows_at : Shape → ℕ → ℕ
 rows_at s k = (side s.height k + s.tile - 1) / s.tile
 
--- how many pages the levels below a level have (this project's profile)
+-- how many pages the levels below a level have
 unfoldable pub pages_below : Shape → ℕ → ℕ
 pages_below s zero = 0
 pages_below s (suc k) = pages_below s k + rows_at s k * columns_at s k
 
--- the number of levels: the last is the first whose two sides are at most the tile side (this project's profile)
+-- the number of levels: the last is the first whose two sides are at most the tile side
 unfoldable pub levels_of : Shape → ℕ
 levels_of s = level_count s.width s.height s.tile
 
--- the number of pages of the whole chain (this project's profile)
+-- the number of pages of the whole chain
 unfoldable pub pages_of : Shape → ℕ
 pages_of s = pages_below s (levels_of s)
 
@@ -37,31 +37,31 @@ pub record IsPage (s : Shape) (n : PageName) : Type 0 where
   pub col_inside : n.col < columns_at s n.level
   pub row_inside : n.row < rows_at s n.level
 
--- the index of a page: the finer levels' pages come first, and a level's go row by row (this project's profile)
+-- the index of a page: the finer levels' pages come first, and a level's go row by row
 unfoldable pub index_at : Shape → ℕ → ℕ → ℕ → ℕ
 index_at s k c r = pages_below s k + (r * columns_at s k + c)
 
--- the index of a page by its name (this project's profile)
+-- the index of a page by its name
 abbrev pub index_of : Shape → PageName → ℕ
 index_of s n = index_at s n.level n.col n.row
 
--- the last of the levels 0 to k that has no page behind page p (this project's profile)
+-- the last of the levels 0 to k that has no page behind page p
 unfoldable pub last_level_from : Shape → ℕ → ℕ → ℕ
 last_level_from s p zero = 0
 last_level_from s p (suc k) = if nat_le (pages_below s (suc k)) p then suc k else last_level_from s p k
 
--- the level of the page with an index (this project's profile)
+-- the level of the page with an index
 unfoldable pub level_of : Shape → ℕ → ℕ
 level_of s p = last_level_from s p (levels_of s - 1)
 
--- the name of the page with an index (this project's profile)
+-- the name of the page with an index
 unfoldable pub name_at : Shape → ℕ → PageName
 name_at s p =
     let place = p - pages_below s (level_of s p) in
     let columns = columns_at s (level_of s p) in
     record { level = level_of s p; col = place % columns; row = place / columns }
 
--- an index is of a page of a level of the chain (this project's profile)
+-- an index is of a page of a level of the chain
 pub record IsPageAt (s : Shape) (k p : ℕ) : Type 0 where
   pub inside : p < pages_of s
   pub level : level_of s p ≡ k
@@ -99,7 +99,7 @@ texel_page s k x y = index_at s k (x / s.tile) (y / s.tile)
 unfoldable pub pinned_of : Shape → ℕ → ℕ
 pinned_of s n = pages_of s - pages_below s (levels_of s - n)
 
--- the word of a source at a place of a level, or at the last column or row where the place is past it (this project's profile)
+-- the word of a source at a place of a level, or at the last column or row where the place is past it
 abbrev pub clamped_word : Shape → Source → ℕ → ℕ → ℕ → ℕ
 clamped_word s src k x y = src k (min x (side s.width k - 1)) (min y (side s.height k - 1))
 
@@ -109,15 +109,15 @@ tile_words s src p =
     let n = name_at s p in
     map (λ i. clamped_word s src n.level (n.col * s.tile + i % s.tile) (n.row * s.tile + i / s.tile)) (range_with_len 0 (s.tile * s.tile))
 
--- why a shape is refused, if it is: its tile side, then its sides, then its number of pages (this project's profile)
+-- why a shape is refused, if it is: its tile side, then its sides, then its number of pages
 unfoldable pub refusal_of : Shape → Option PagesError
 refusal_of s =
     if not (is_tile_side s.tile) then Some BadTile
     else (if not (is_texture_side s.width && is_texture_side s.height) then Some BadSide
-    else (if nat_le (pages_of s) MOST_PAGES then None
+    else (if nat_le (pages_of s) most_pages then None
     else Some (TooManyPages (pages_of s))))
 
--- the limits that each shape of a geometry keeps (this project's profile)
+-- the limits that each shape of a geometry keeps
 pub record IsWithinLimits (s : Shape) : Type 0 where
   pub accepted : refusal_of s ≡ None
   pub tile_side : IsTrue (is_tile_side s.tile)
@@ -125,10 +125,10 @@ pub record IsWithinLimits (s : Shape) : Type 0 where
   pub least_tile : 2 ≤ s.tile
   pub most_tile : s.tile ≤ 128
   pub least_width : 1 ≤ s.width
-  pub most_width : s.width ≤ MOST_SIDE
+  pub most_width : s.width ≤ most_tiled_side
   pub least_height : 1 ≤ s.height
-  pub most_height : s.height ≤ MOST_SIDE
+  pub most_height : s.height ≤ most_tiled_side
   pub some_level : 1 ≤ levels_of s
-  pub most_levels : levels_of s ≤ MOST_LEVELS
+  pub most_levels : levels_of s ≤ level_limit
   pub some_page : 1 ≤ pages_of s
-  pub most_pages : pages_of s ≤ MOST_PAGES
+  pub most_pages : pages_of s ≤ most_pages

@@ -18,10 +18,10 @@ mod tables;
 
 use tables::{Tables, last_level, make_tables, tile_shift};
 
-/// The greatest side of a texture, in texels.
+/// The largest side of a texture, in texels.
 pub const MOST_SIDE: u32 = 8_192;
 
-/// The greatest number of pages of a chain.
+/// The largest number of pages of a chain.
 pub const MOST_PAGES: u32 = 262_144;
 
 /// How many levels the tables have room for: no chain has more.
@@ -101,6 +101,7 @@ impl Model for Geometry {
     } };
 }
 
+// Whether both numbers are sides that a texture may have.
 fn are_texture_sides(width: u32, height: u32) -> bool
     ensures { result ≡ (is_texture_side width && is_texture_side height) }
 {
@@ -197,7 +198,7 @@ impl Geometry {
         )
     }
 
-    /// The index of the page at a level, a column and a row.
+    // The index of the page at a level, a column and a row.
     #[inline]
     fn index_at(&self, level: u32, col: u32, row: u32) -> u32
         requires level_inside { level < levels_of self.now }
@@ -222,7 +223,7 @@ impl Geometry {
         self.index_at(name.level, name.col, name.row)
     }
 
-    /// The level of the page with an index.
+    // The level of the page with an index.
     fn level_of(&self, page: u32) -> u32
         requires { page < pages_of self.now }
         ensures level { result ≡ level_of self.now page }

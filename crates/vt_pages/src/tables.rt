@@ -1,12 +1,13 @@
 //! What a geometry computes once for all levels.
 
-ghost use Rattle.std.specs.Prelude.{◌≡◌, ℕ, ◌+◌, ◌-◌, ◌*◌, ◌/◌, ◌%◌, ◌^◌, ◌<◌, ◌≤◌, IsTrue, true, false, MatchOption, slice_index};
+ghost use Rattle.std.specs.Prelude.{◌≡◌, ◌+◌, ◌-◌, ◌*◌, ◌/◌, ◌^◌, ◌<◌, ◌≤◌, false, MatchOption};
+ghost use Rattle.vt_definitions.specs.Limits.{most_tiled_side};
 ghost use Rattle.vt_definitions.specs.Sides.{side};
 ghost use Rattle.vt_definitions.specs.Tiles.{is_tile_side};
 ghost use Rattle.vt_pages.specs.Shape.{shape_of};
-ghost use Rattle.vt_pages.specs.Tables.{IsTabled, IsTileShift};
+ghost use Rattle.vt_pages.specs.Tables.{IsTabled, IsTileShift, IsFirstFit};
 
-use crate::{MOST_LEVELS, MOST_SIDE};
+use crate::MOST_LEVELS;
 
 /// For each level its first page, its columns and rows of pages, and its sides in texels.
 #[derive(Clone, Copy)]
@@ -36,8 +37,8 @@ pub fn tile_shift(tile: u32) -> Option<u32>
 
 /// The tables of a texture in tiles of `tile`, which is 2 to the power `shift`.
 pub fn make_tables(width: u32, height: u32, tile: u32, shift: u32) -> Tables
-    requires width_inside { width ≤ MOST_SIDE }
-    requires height_inside { height ≤ MOST_SIDE }
+    requires width_inside { width ≤ most_tiled_side }
+    requires height_inside { height ≤ most_tiled_side }
     requires power { tile ≡ 2 ^ shift }
     requires shift_inside { shift < 8 }
     ensures { IsTabled (shape_of width height tile) result }
@@ -71,9 +72,7 @@ pub fn make_tables(width: u32, height: u32, tile: u32, shift: u32) -> Tables
 
 /// The first level whose two sides are at most `tile`, or the last one of the tables.
 pub fn last_level(tables: &Tables, tile: u32) -> usize
-    ensures inside { result < MOST_LEVELS }
-    ensures before { (k : ℕ) → k < result → slice_index tables.now.widths k ≤ tile → slice_index tables.now.heights k ≤ tile → ⊥ }
-    ensures fits { result + 1 < MOST_LEVELS → (slice_index tables.now.widths result ≤ tile) × (slice_index tables.now.heights result ≤ tile) }
+    ensures { IsFirstFit tables.now tile result }
 {
     let mut level = 0;
     while level + 1 < MOST_LEVELS && (tables.widths[level] > tile || tables.heights[level] > tile) {

@@ -2,7 +2,7 @@ use super::*;
 use std::test::Fail;
 
 #[test]
-fn limits(rt: HostRuntime) {
+fn the_first_limit_that_a_shape_breaks_is_named(rt: HostRuntime) {
     let too_many = |pages| Err(PagesError::TooManyPages { pages });
     let rows = [
         (4, 4, 2, Ok((2, 5))),
@@ -29,20 +29,41 @@ fn limits(rt: HostRuntime) {
     }
 }
 
+// A texture of 5 by 3 texels has levels of 5x3, 3x2 and 2x1 texels, of 6, 2 and 1 pages.
 #[test]
-fn odd_sides(rt: HostRuntime) -> Result<(), Fail> {
+fn odd_sides_are_rounded_up(rt: HostRuntime) -> Result<(), Fail> {
     let geometry = Geometry::new(5, 3, 2)?;
-    let geometry = geometry.clone()?;
     assert_eq!(rt;
         (geometry.width(), geometry.height(), geometry.tile()),
         (5, 3, 2)
     );
-    assert_eq!(rt; geometry.levels(), 3);
-    assert_eq!(rt; geometry.page_count(), 9);
+    assert_eq!(rt; (geometry.levels(), geometry.page_count()), (3, 9));
     for (level, want) in [(0, (5, 3)), (1, (3, 2)), (2, (2, 1))] {
         assert!(rt; level < geometry.levels());
         assert_eq!(rt; geometry.level_size(level), want);
     }
+    for (level, x, y, page) in [
+        (0, 4, 2, 5),
+        (0, 1, 1, 0),
+        (0, 2, 0, 1),
+        (0, 0, 2, 3),
+        (1, 2, 1, 7),
+        (2, 1, 0, 8),
+    ] {
+        assert!(rt; level < geometry.levels());
+        let (width, height) = geometry.level_size(level);
+        assert!(rt; x < width && y < height);
+        assert_eq!(rt; geometry.page_of_texel(level, x, y), page);
+    }
+    for (n, pages) in [(0, 0), (1, 1), (2, 3), (3, 9), (4, 9)] {
+        assert_eq!(rt; geometry.pinned_count(n), pages);
+    }
+    Ok(())
+}
+
+#[test]
+fn each_page_has_its_name_and_its_parent(rt: HostRuntime) -> Result<(), Fail> {
+    let geometry = Geometry::new(5, 3, 2)?.clone()?;
     let rows = [
         (0, (0, 0, 0), Some(6)),
         (1, (0, 1, 0), Some(6)),
@@ -62,22 +83,6 @@ fn odd_sides(rt: HostRuntime) -> Result<(), Fail> {
         assert_eq!(rt; geometry.parent(page), parent);
         assert!(rt; name.level <= 2 && 2 < geometry.levels());
         assert_eq!(rt; geometry.ancestor_at(page, 2), 8);
-    }
-    for (level, x, y, page) in [
-        (0, 4, 2, 5),
-        (0, 1, 1, 0),
-        (0, 2, 0, 1),
-        (0, 0, 2, 3),
-        (1, 2, 1, 7),
-        (2, 1, 0, 8),
-    ] {
-        assert!(rt; level < geometry.levels());
-        let (width, height) = geometry.level_size(level);
-        assert!(rt; x < width && y < height);
-        assert_eq!(rt; geometry.page_of_texel(level, x, y), page);
-    }
-    for (n, pages) in [(0, 0), (1, 1), (2, 3), (3, 9), (4, 9)] {
-        assert_eq!(rt; geometry.pinned_count(n), pages);
     }
     Ok(())
 }

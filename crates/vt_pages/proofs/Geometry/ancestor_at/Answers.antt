@@ -14,7 +14,9 @@ overflow_shr-name-2 c = omega (arith, c.page_at-name.ensures.limits.most_levels,
 pub index_at-requires : goal.index_at-requires
 index_at-requires c =
     let found = c.page_at-name.ensures in
-    let inside = above_inside c.args.self.now c.page_at-name.result c.args.level (omega (arith, found.limits.least_tile)) found.in_chain (omega (arith, found.level, c.requires.no_finer)) c.requires.level_inside in
+    let inside =
+    above_inside c.args.self.now c.page_at-name.result c.args.level (omega (arith, found.limits.least_tile))
+    found.in_chain (omega (arith, found.level, c.requires.no_finer)) c.requires.level_inside in
     record { level_inside = c.requires.level_inside; col_inside = inside.0; row_inside = inside.1 }
 
 pub returns : goal.returns
@@ -24,7 +26,9 @@ returns c =
     let some : 1 ≤ c.args.self.now.tile = omega (arith, found.limits.least_tile) in
     let code = c.index_at.ensures in
     record {
-      ancestor = code.index ∙ ancestor_code c.args.self.now c.args.page c.args.level c.page_at-name.result found.name c.requires.no_finer c.requires.level_inside;
+      ancestor =
+          code.index
+          ∙ ancestor_code c.args.self.now c.args.page c.args.level c.page_at-name.result found.name c.requires.no_finer c.requires.level_inside;
       inside = code.page.inside;
       level = code.page.level;
       line = reaches_root c.args.self.now c.args.page some found.limits.least_width found.limits.least_height c.requires.page_inside;

@@ -1,22 +1,20 @@
 use Rattle.std.proofs.Common.{◌<◌, ◌≤◌, subst, sym, ap, ◌∙◌, arith}
-use Rattle.vt_pages.specs.declared.TheConstants.{MOST_LEVELS}
-use Rattle.vt_pages.specs.Tables.{IsGeometry}
+use Rattle.vt_pages.specs.Shape.{level_limit}
 use Rattle.vt_pages.specs.Pages.{index_of, IsPage}
 use Rattle.vt_pages.proofs.Counts.{columns_some}
 use Rattle.vt_pages.proofs.Names.{are_inverse, name_at_is_page, index_of-name_at, name_code}
+use Rattle.vt_pages.proofs.Seen.{seen}
 use Rattle.vt_pages.proofs.Geometry.page_at.Goals as goal
 
 pub overflow_sub-place : goal.overflow_sub-place
 overflow_sub-place c =
-    let i = c.self.inside in
-    let g : IsGeometry c.args.self.now i.shift i.levels i.pages i.tables = subst (λ s. IsGeometry s i.shift i.levels i.pages i.tables) c.self.view_is c.self.invariant in
+    let g = seen c.self.view_is c.self.invariant in
     let found = c.level_of-level.ensures in
     rw (g.tabled.first c.level_of-level.result (omega (arith, found.inside, g.limits.most_levels))) found.from
 
 pub nonzero_rem-result : goal.nonzero_rem-result
 nonzero_rem-result c =
-    let i = c.self.inside in
-    let g : IsGeometry c.args.self.now i.shift i.levels i.pages i.tables = subst (λ s. IsGeometry s i.shift i.levels i.pages i.tables) c.self.view_is c.self.invariant in
+    let g = seen c.self.view_is c.self.invariant in
     let found = c.level_of-level.ensures in
     let e = g.tabled.columns c.level_of-level.result (omega (arith, found.inside, g.limits.most_levels)) in
     let some = columns_some c.args.self.now c.level_of-level.result (omega (arith, g.limits.least_tile)) g.limits.least_width in
@@ -24,8 +22,7 @@ nonzero_rem-result c =
 
 pub nonzero_div-result : goal.nonzero_div-result
 nonzero_div-result c =
-    let i = c.self.inside in
-    let g : IsGeometry c.args.self.now i.shift i.levels i.pages i.tables = subst (λ s. IsGeometry s i.shift i.levels i.pages i.tables) c.self.view_is c.self.invariant in
+    let g = seen c.self.view_is c.self.invariant in
     let found = c.level_of-level.ensures in
     let e = g.tabled.columns c.level_of-level.result (omega (arith, found.inside, g.limits.most_levels)) in
     let some = columns_some c.args.self.now c.level_of-level.result (omega (arith, g.limits.least_tile)) g.limits.least_width in
@@ -33,12 +30,13 @@ nonzero_div-result c =
 
 pub returns : goal.returns
 returns c =
-    let i = c.self.inside in
-    let g : IsGeometry c.args.self.now i.shift i.levels i.pages i.tables = subst (λ s. IsGeometry s i.shift i.levels i.pages i.tables) c.self.view_is c.self.invariant in
+    let g = seen c.self.view_is c.self.invariant in
     let found = c.level_of-level.ensures in
-    let inside : c.level_of-level.result < MOST_LEVELS = omega (arith, found.inside, g.limits.most_levels) in
+    let inside : c.level_of-level.result < level_limit = omega (arith, found.inside, g.limits.most_levels) in
     let some : 1 ≤ c.args.self.now.tile = omega (arith, g.limits.least_tile) in
-    let e = name_code c.args.self.now c.args.page c.level_of-level.result _ _ found.level (g.tabled.first c.level_of-level.result inside) (g.tabled.columns c.level_of-level.result inside) in
+    let e =
+    name_code c.args.self.now c.args.page c.level_of-level.result _ _ found.level
+    (g.tabled.first c.level_of-level.result inside) (g.tabled.columns c.level_of-level.result inside) in
     record {
       name = e;
       level = found.level;

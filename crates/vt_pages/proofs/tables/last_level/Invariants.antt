@@ -1,13 +1,13 @@
 use Rattle.std.proofs.Common.{◌-◌, ℕ, ◌<◌, ◌≤◌, slice_index}
-use Rattle.vt_pages.specs.declared.TheConstants.{MOST_LEVELS}
+use Rattle.vt_pages.specs.Shape.{level_limit}
 use Rattle.vt_pages.proofs.tables.last_level.Given as goal
 
 abbrev pub invariant-loop-level : goal.invariant-loop-level
 invariant-loop-level l =
     record {
-      inside : l.level < MOST_LEVELS;
+      inside : l.level < level_limit;
       before : (k : ℕ) → k < l.level → slice_index l.tables.widths k ≤ l.tile → slice_index l.tables.heights k ≤ l.tile → ⊥;
     }
 
 abbrev pub decreases-loop-level : goal.decreases-loop-level
-decreases-loop-level l = MOST_LEVELS - l.level
+decreases-loop-level l = level_limit - l.level

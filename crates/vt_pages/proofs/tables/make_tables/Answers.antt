@@ -2,14 +2,15 @@ use Rattle.std.proofs.Common.{◌≡◌, ℕ, suc, ◌+◌, ◌-◌, ◌*◌, �
 use Rattle.std.proofs.lemmas.List.Edits.{fill_by_more}
 use Rattle.std.proofs.Math.Pow.{pow_pos}
 use Rattle.std.proofs.lemmas.Grind.{common_steps}
+use Rattle.vt_definitions.specs.Limits.{most_tiled_side}
 use Rattle.vt_definitions.specs.Sides.{side}
-use Rattle.vt_pages.specs.declared.TheConstants.{MOST_SIDE, MOST_LEVELS}
-use Rattle.vt_pages.specs.Shape.{Shape}
+use Rattle.vt_pages.specs.Shape.{Shape, level_limit}
 use Rattle.vt_pages.specs.Pages.{columns_at, rows_at, pages_below}
 use Rattle.vt_pages.proofs.Counts.{pages_below-zero, pages_below-suc, pages_below_most}
 use Rattle.vt_pages.proofs.tables.make_tables.Goals as goal
 
-more : (f : ℕ → ℕ) (xs : List ℕ) (i v : ℕ) → i < length xs → v ≡ f i → ((k : ℕ) → k < i → get_or xs k 0 ≡ f k) → (k : ℕ) → k < i + 1 → get_or (set xs i v) k 0 ≡ f k
+more : (f : ℕ → ℕ) (xs : List ℕ) (i v : ℕ) → i < length xs → v ≡ f i → ((k : ℕ) → k < i → get_or xs k 0 ≡ f k)
+    → (k : ℕ) → k < i + 1 → get_or (set xs i v) k 0 ≡ f k
 more f xs i v inside e before k h = rw e (fill_by_more f xs i 0 inside before k h)
 
 side-more : (w k v : ℕ) → v ≡ side w k → (v + 1) / 2 ≡ side w (k + 1)
@@ -29,10 +30,11 @@ total-code : (s : Shape) (k total wide high shift : ℕ) → s.tile ≡ 2 ^ shif
 total-code s k total wide high shift p t w h =
     rw (columns-code s k wide shift p w, rows-code s k high shift p h, t, add-one) (sym (pages_below-suc s k))
 
-total_most : (s : Shape) (k shift : ℕ) → s.tile ≡ 2 ^ shift → s.width ≤ MOST_SIDE → s.height ≤ MOST_SIDE → k < MOST_LEVELS → pages_below s (k + 1) ≤ MOST_LEVELS * (MOST_SIDE * MOST_SIDE)
+total_most : (s : Shape) (k shift : ℕ) → s.tile ≡ 2 ^ shift → s.width ≤ most_tiled_side → s.height ≤ most_tiled_side
+    → k < level_limit → pages_below s (k + 1) ≤ level_limit * (most_tiled_side * most_tiled_side)
 total_most s k shift p wide high inside =
     let some : 1 ≤ s.tile = omega (arith, pow_pos shift) in
-    omega (arith, pages_below_most s (k + 1) MOST_SIDE some (omega arith) wide high)
+    omega (arith, pages_below_most s (k + 1) most_tiled_side some (omega arith) wide high)
 
 pub loop-k-init : goal.loop-k-init
 loop-k-init c =
