@@ -1,2 +1,4 @@
 pub mod Chains
 pub mod Halves
+pub mod Levels
+pub mod Laws

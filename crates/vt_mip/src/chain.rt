@@ -1,14 +1,16 @@
-ghost use Rattle.std.specs.Prelude.{◌≡◌, ℕ, ◌+◌, ◌-◌, ◌*◌, ◌<◌, ◌≤◌, ◌++◌, ◌∷◌, [], ◌↔◌, length, IfOk, OnOk, IsTrue, vec_len, slice_range};
-ghost use Rattle.vt_ppm.specs.Image.{Picture, IsPicture};
+ghost use Rattle.std.specs.Prelude.{◌≡◌, ◌+◌, ◌-◌, ◌*◌, ◌<◌, ◌≤◌, ◌↔◌, length, IfOk, OnOk, IsTrue, vec_len, slice_range};
+ghost use Rattle.vt_definitions.specs.Limits.{most_read_side};
+ghost use Rattle.vt_ppm.specs.Image.{AreBytes};
 ghost use Rattle.vt_definitions.specs.Tiles.{IsTileSide};
 ghost use Rattle.vt_mip.specs.Chains.{ChainView, chain_levels, chain_width, chain_height, chain_texel, IsTexelRow, IsTexelRaster};
-ghost use Rattle.vt_mip.specs.Halves.{IsChainFront, IsWholeChain, IsMadeFrom, IsLastFitting, HasBytes};
+ghost use Rattle.vt_mip.specs.Halves.{HasBytes};
+ghost use Rattle.vt_mip.specs.Levels.{GainsHalf, IsLastFitting};
 
 use crate::halving::halved_image;
 use std::alloc::Global;
 use std::marker::Model;
 use vt_outside::NoMemory;
-use vt_ppm::Image;
+use vt_ppm::{Image, samples_are_bytes};
 
 /// A texture and its coarser levels, each the one before it halved, down to the first whose two sides are at most the tile side.
 #[derive(Drop)]
@@ -19,16 +21,16 @@ pub struct Chain {
 
 impl Model for Chain {
     ghost use Rattle.vt_mip.specs.Chains.{ChainView};
-    ghost use Rattle.vt_mip.specs.Halves.{IsWholeChain, level_of};
+    ghost use Rattle.vt_mip.specs.Levels.{IsWholeChain, level_at};
 
     ghost Value = { ChainView };
 
-    ghost view = { λ c. record { base = level_of c.levels.items 0; tile = c.tile } };
+    ghost view = { λ c. record { base = level_at c.levels.items 0; tile = c.tile } };
 
     ghost invariant = { λ c. IsWholeChain c.levels.items c.tile };
 }
 
-/// Whether both sides of the last level are at most the tile side.
+// Whether both sides of the last level are at most the tile side.
 fn last_fits(levels: &Vec<Image>, tile: u32) -> bool
     requires { 1 ≤ vec_len levels.now }
     ensures { IsTrue result ↔ IsLastFitting levels.now.items tile }
@@ -37,10 +39,10 @@ fn last_fits(levels: &Vec<Image>, tile: u32) -> bool
     last.width() <= tile && last.height() <= tile
 }
 
-/// The levels with the next one, the last one halved.
+// The levels with the next one, the last one halved.
 fn add_level(alloc: Global, levels: &mut Vec<Image>) -> Result<(), NoMemory>
     requires { 1 ≤ vec_len levels.old }
-    ensures { OnOk result (IsMadeFrom levels.old.items levels.new.items) }
+    ensures { OnOk result (GainsHalf levels.old.items levels.new.items) }
 {
     let last = levels.len() - 1;
     let next = halved_image(alloc, &levels[last])?;
@@ -48,7 +50,7 @@ fn add_level(alloc: Global, levels: &mut Vec<Image>) -> Result<(), NoMemory>
     Ok(())
 }
 
-/// A row of a raster of so many columns, three bytes a texel.
+// A row of a raster of so many columns, three bytes a texel.
 fn raster_row(samples: &[u8], width: usize, y: usize) -> &[u8]
     requires { 3 * width * y + 3 * width ≤ length samples.now }
     ensures row { result.now ≡ slice_range samples.now (3 * width * y) (3 * width * y + 3 * width) }
@@ -59,7 +61,7 @@ fn raster_row(samples: &[u8], width: usize, y: usize) -> &[u8]
     &samples[from..from + row]
 }
 
-/// The samples of a raster as they are.
+// The samples of a raster as they are.
 fn raster(samples: &[u8]) -> &[u8]
     ensures same { result.now ≡ samples.now }
     ensures bytes { HasBytes samples.now }
@@ -98,9 +100,9 @@ impl Chain {
         ensures width { result.0 ≡ chain_width self.now level }
         ensures height { result.1 ≡ chain_height self.now level }
         ensures some_columns { 1 ≤ result.0 }
-        ensures few_columns { result.0 ≤ 8192 }
+        ensures few_columns { result.0 ≤ most_read_side }
         ensures some_rows { 1 ≤ result.1 }
-        ensures few_rows { result.1 ≤ 8192 }
+        ensures few_rows { result.1 ≤ most_read_side }
     {
         let level = &self.levels[level as usize];
         (level.width(), level.height())
@@ -140,4 +142,11 @@ impl Chain {
     {
         self.tile
     }
+}
+
+/// The samples of a chain's texture are bytes, and so its words are below 2^24 at every level.
+pub fn texture_samples_are_bytes(chain: &Chain)
+    ensures { AreBytes chain.now.base.samples }
+{
+    samples_are_bytes(&chain.levels[0]);
 }

@@ -1,5 +1,6 @@
-ghost use Rattle.std.specs.Prelude.{◌≡◌, ℕ, ◌+◌, ◌-◌, ◌*◌, ◌/◌, ◌<◌, ◌≤◌, length, IfOk, OnOk, slice_index};
-ghost use Rattle.vt_ppm.specs.Image.{IsPicture};
+ghost use Rattle.std.specs.Prelude.{◌≡◌, ◌+◌, ◌-◌, ◌*◌, ◌/◌, ◌<◌, ◌≤◌, length, IfOk, OnOk};
+ghost use Rattle.vt_definitions.specs.Limits.{most_read_side};
+ghost use Rattle.vt_ppm.specs.Image.{IsLawfulImage};
 ghost use Rattle.vt_mip.specs.Chains.{box};
 ghost use Rattle.vt_mip.specs.Halves.{AreBoxes, AreEveryOther, IsHalvedRow, IsHalvedRaster, IsHalf, HasBytes};
 
@@ -7,7 +8,7 @@ use std::alloc::Global;
 use vt_outside::NoMemory;
 use vt_ppm::Image;
 
-/// The box filter of four samples of one channel: their mean, a half rounded up.
+// The box filter of four samples of one channel: their mean, a half rounded up.
 #[inline(always)]
 fn box_of(a: u8, b: u8, c: u8, d: u8) -> u8
     ensures { result ≡ box a b c d }
@@ -15,14 +16,14 @@ fn box_of(a: u8, b: u8, c: u8, d: u8) -> u8
     ((a as u32 + b as u32 + c as u32 + d as u32 + 2) / 4) as u8
 }
 
-/// How many texels of a row are halved at once.
+// How many texels of a row are halved at once.
 const BLOCK: usize = 32;
 
-/// How many samples they have.
+// How many samples they have.
 const BLOCK_SAMPLES: usize = 96;
 
-/// Boxes each texel of a block of two rows but the last with the texel behind it, also those that begin no pair: the samples
-/// then lie side by side.
+// Boxes each texel of a block of two rows but the last with the texel behind it, also those that begin no pair: the samples
+// then lie side by side.
 #[inline(always)]
 fn box_neighbours(top: &[u8], bottom: &[u8], boxes: &mut [u8; BLOCK_SAMPLES])
     requires top { length top.now ≡ 96 }
@@ -34,7 +35,7 @@ fn box_neighbours(top: &[u8], bottom: &[u8], boxes: &mut [u8; BLOCK_SAMPLES])
     }
 }
 
-/// Copies every other texel of a block.
+// Copies every other texel of a block.
 #[inline(always)]
 fn copy_every_other(texels: &[u8; BLOCK_SAMPLES], out: &mut [u8])
     requires { length out.old ≡ 48 }
@@ -47,7 +48,7 @@ fn copy_every_other(texels: &[u8; BLOCK_SAMPLES], out: &mut [u8])
     }
 }
 
-/// Halves a block of texels of two rows.
+// Halves a block of texels of two rows.
 #[inline(always)]
 fn halve_block(top: &[u8], bottom: &[u8], out: &mut [u8])
     requires top { length top.now ≡ 96 }
@@ -60,7 +61,7 @@ fn halve_block(top: &[u8], bottom: &[u8], out: &mut [u8])
     copy_every_other(&boxes, out);
 }
 
-/// Halves the whole blocks of two rows.
+// Halves the whole blocks of two rows.
 fn halve_blocks(width: usize, top: &[u8], bottom: &[u8], out: &mut [u8])
     requires top { length top.now ≡ 3 * width }
     requires bottom { length bottom.now ≡ 3 * width }
@@ -78,7 +79,7 @@ fn halve_blocks(width: usize, top: &[u8], bottom: &[u8], out: &mut [u8])
     }
 }
 
-/// Halves the pairs of columns of two rows behind the whole blocks, which are halved.
+// Halves the pairs of columns of two rows behind the whole blocks, which are halved.
 fn halve_pairs(width: usize, top: &[u8], bottom: &[u8], out: &mut [u8])
     requires top { length top.now ≡ 3 * width }
     requires bottom { length bottom.now ≡ 3 * width }
@@ -105,7 +106,7 @@ fn halve_pairs(width: usize, top: &[u8], bottom: &[u8], out: &mut [u8])
     }
 }
 
-/// Halves two rows of texels, three bytes a texel: an odd last column counts twice.
+// Halves two rows of texels, three bytes a texel: an odd last column counts twice.
 fn halve_row(width: usize, top: &[u8], bottom: &[u8], out: &mut [u8])
     requires top { length top.now ≡ 3 * width }
     requires bottom { length bottom.now ≡ 3 * width }
@@ -133,12 +134,12 @@ fn halve_row(width: usize, top: &[u8], bottom: &[u8], out: &mut [u8])
     }
 }
 
-/// Halves a raster of texels, three bytes a texel, row by row: an odd last row counts twice.
+// Halves a raster of texels, three bytes a texel, row by row: an odd last row counts twice.
 fn halve_raster(width: usize, height: usize, source: &[u8], out: &mut [u8])
     requires some_columns { 1 ≤ width }
-    requires few_columns { width ≤ 8192 }
+    requires few_columns { width ≤ most_read_side }
     requires some_rows { 1 ≤ height }
-    requires few_rows { height ≤ 8192 }
+    requires few_rows { height ≤ most_read_side }
     requires source { length source.now ≡ 3 * (width * height) }
     requires out { length out.old ≡ 3 * ((width + 1) / 2 * ((height + 1) / 2)) }
     ensures halved { IsHalvedRaster source.now width height ((height + 1) / 2) out.new }
@@ -162,7 +163,7 @@ fn halve_raster(width: usize, height: usize, source: &[u8], out: &mut [u8])
 /// Halves an image, each channel by itself.
 pub(crate) fn halved_image(alloc: Global, image: &Image) -> Result<Image, NoMemory>
     ensures half { IfOk result (λ half. IsHalf image.now half) }
-    ensures lawful { IfOk result (λ half. IsPicture half) }
+    ensures lawful { IfOk result (λ half. IsLawfulImage half) }
     ensures bytes { OnOk result (HasBytes image.now.samples) }
 {
     let width = image.width() as usize;

@@ -3,8 +3,10 @@
 
 mod chain;
 mod halving;
+mod laws;
 
-pub use chain::Chain;
+pub use chain::{Chain, texture_samples_are_bytes};
+pub use laws::chain_words_are_small;
 
 #[cfg(test)]
 mod tests;

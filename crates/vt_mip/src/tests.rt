@@ -3,7 +3,7 @@ use std::test::Fail;
 use vt_ppm::Image;
 
 #[test]
-fn four_by_four(rt: HostRuntime) -> Result<(), Fail> {
+fn a_texture_of_four_by_four_is_halved_once(rt: HostRuntime) -> Result<(), Fail> {
     let samples = [
         0, 0, 0, 1, 1, 1, 2, 2, 2, 3, 3, 3, 4, 4, 4, 5, 5, 5, 6, 6, 6, 7, 7, 7, 8, 8, 8, 9, 9, 9,
         10, 10, 10, 11, 11, 11, 12, 12, 12, 13, 13, 13, 14, 14, 14, 15, 15, 15,
@@ -26,7 +26,7 @@ fn four_by_four(rt: HostRuntime) -> Result<(), Fail> {
 }
 
 #[test]
-fn five_by_three(rt: HostRuntime) -> Result<(), Fail> {
+fn odd_last_columns_and_rows_count_twice(rt: HostRuntime) -> Result<(), Fail> {
     let samples = [
         0, 0, 0, 1, 1, 1, 2, 2, 2, 3, 3, 3, 4, 4, 4, 10, 10, 10, 11, 11, 11, 12, 12, 12, 13, 13,
         13, 14, 14, 14, 20, 20, 20, 21, 21, 21, 22, 22, 22, 23, 23, 23, 24, 24, 24,
@@ -47,7 +47,7 @@ fn five_by_three(rt: HostRuntime) -> Result<(), Fail> {
 }
 
 #[test]
-fn boxes(rt: HostRuntime) -> Result<(), Fail> {
+fn a_half_counts_up_and_channels_stay_apart(rt: HostRuntime) -> Result<(), Fail> {
     let samples = [
         0, 10, 20, 1, 11, 21, 0, 10, 20, 0, 10, 20, 2, 12, 22, 3, 13, 23, 0, 10, 20, 1, 11, 21,
     ];
