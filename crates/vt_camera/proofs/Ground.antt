@@ -5,9 +5,9 @@ use Rattle.std.specs.Prelude.{◌≤ℤ◌, unsigned_abs}
 use Rattle.std.specs.Int.{Width}
 use Rattle.std.proofs.lemmas.Int.{ints, int_rem_euclid_is, unsigned_abs-mul}
 use Rattle.std.proofs.lemmas.Nat.{mul-le}
-use Rattle.vt_camera.specs.declared.paths.Camera.{Camera}
-use Rattle.vt_camera.specs.Rows.{floor_div, ring_place, off_middle, depth, span, ground_u, ground_v, place_of}
 use Rattle.vt_camera.specs.declared.rows.Axis.{Axis}
+use Rattle.vt_camera.specs.declared.paths.Camera.{Camera}
+use Rattle.vt_camera.specs.Rows.{floor_div, ring_place, off_middle, distance, span, ground_u, ground_v, camera_place}
 use Rattle.vt_camera.specs.RowParts.{whole_turns, middle_of, IsAxis}
 
 pub ring_place_below : (z : ℤ) (n : ℕ) → 1 ≤ n → ring_place z n < n
@@ -29,7 +29,8 @@ natural : (z : ℤ) → pos 0 ≤ℤ z → z ≡ pos (unsigned_abs z)
 natural z h = omega (arith, ints)
 
 -- the same, where the place further on is not written as a natural number
-pub same_texel_further : (z w : ℤ) (k side : ℕ) → 1 ≤ side → z +ℤ pos (k * (256 * side)) ≡ w → pos 0 ≤ℤ w → ring_place (floor_div w 256) side ≡ ring_place (floor_div z 256) side
+pub same_texel_further : (z w : ℤ) (k side : ℕ) → 1 ≤ side → z +ℤ pos (k * (256 * side)) ≡ w → pos 0 ≤ℤ w
+    → ring_place (floor_div w 256) side ≡ ring_place (floor_div z 256) side
 same_texel_further z w k side some e positive =
     let m : w ≡ pos (unsigned_abs w) = natural w positive in
     let none : w +ℤ pos (0 * (256 * side)) ≡ pos (unsigned_abs w) = omega (arith, ints) in
@@ -39,20 +40,23 @@ product_at_most : (a b : ℤ) (m n : ℕ) → unsigned_abs a ≤ m → unsigned_
 product_at_most a b m n f g = omega (arith, unsigned_abs-mul a b, mul-le (unsigned_abs a) (unsigned_abs b) m n f g)
 
 -- how far a pixel can lie from the row's middle
-pub away_fits : (off across : ℤ) → negsuc 2046 ≤ℤ off → off ≤ℤ pos 2047 → negsuc 274877906943 ≤ℤ across → across ≤ℤ pos 274877906944 → unsigned_abs (off *ℤ across) ≤ 562675075514368
+pub away_fits : (off across : ℤ) → negsuc 2046 ≤ℤ off → off ≤ℤ pos 2047 → negsuc 274877906943 ≤ℤ across
+    → across ≤ℤ pos 274877906944 → unsigned_abs (off *ℤ across) ≤ 562675075514368
 away_fits off across a b c d =
     let f : unsigned_abs off ≤ 2047 = omega (arith, ints) in
     let g : unsigned_abs across ≤ 274877906944 = omega (arith, ints) in
     product_at_most off across 2047 274877906944 f g
 
 -- a product of numbers that fit
-pub product_value : (w : Width) (a b : ℤ) → FitsSigned w a → FitsSigned w b → FitsSigned w (a *ℤ b) → to_z w (of_z w (to_z w (of_z w a) *ℤ to_z w (of_z w b))) ≡ a *ℤ b
+pub product_value : (w : Width) (a b : ℤ) → FitsSigned w a → FitsSigned w b → FitsSigned w (a *ℤ b)
+    → to_z w (of_z w (to_z w (of_z w a) *ℤ to_z w (of_z w b))) ≡ a *ℤ b
 product_value w a b f g h =
     ap (λ (x : ℤ). to_z w (of_z w (x *ℤ to_z w (of_z w b)))) (to_z-of_z f)
     ∙ ap (λ (x : ℤ). to_z w (of_z w (a *ℤ x))) (to_z-of_z g)
     ∙ to_z-of_z h
 
-minus_turns : (place far step step' turns middle u : ℤ) → middle ≡ place +ℤ far +ℤ turns → step ≡ step' → u ≡ middle -ℤ step → place +ℤ far -ℤ step' +ℤ turns ≡ u
+minus_turns : (place far step step' turns middle u : ℤ) → middle ≡ place +ℤ far +ℤ turns → step ≡ step'
+    → u ≡ middle -ℤ step → place +ℤ far -ℤ step' +ℤ turns ≡ u
 minus_turns place far step step' turns middle u e f g = omega (arith, ints)
 
 plus_turns : (place far step step' turns middle v : ℤ) → middle ≡ place +ℤ far +ℤ turns → step ≡ step' → v ≡ middle +ℤ step → place +ℤ far +ℤ step' +ℤ turns ≡ v
@@ -72,42 +76,51 @@ beyond_middle middle t (negsuc n) some e = absurd (let no : ⊥ = omega (arith, 
 
 -- the code's sum for the column leads to the texel of the definition
 column_is : (width focal : ℕ) (camera : Camera) (x y columns rows : ℕ) (middle step u : ℤ) → 1 ≤ columns
-    → middle ≡ middle_of camera.u (depth focal camera y) camera.c columns
+    → middle ≡ middle_of camera.u (distance focal camera y) camera.c columns
     → step ≡ floor_div (off_middle width x *ℤ (pos (span camera y) *ℤ camera.s)) 32768
-    → u ≡ middle -ℤ step → pos 0 ≤ℤ u → ring_place (floor_div u 256) columns ≡ (place_of width focal camera x y columns rows).0
-unfolding place_of ground_u
+    → u ≡ middle -ℤ step → pos 0 ≤ℤ u → ring_place (floor_div u 256) columns ≡ (camera_place width focal camera x y columns rows).0
+unfolding camera_place ground_u
 column_is width focal camera x y columns rows middle step u some e f g positive =
     same_texel_further _ u (1073741824 / columns + 1) columns some
-    (minus_turns camera.u (floor_div (pos (depth focal camera y) *ℤ camera.c) 16384) step _ (pos (whole_turns columns)) middle u e f g) positive
+    (minus_turns camera.u (floor_div (pos (distance focal camera y) *ℤ camera.c) 16384) step _ (pos (whole_turns columns)) middle u e f g) positive
 
 -- and likewise for the row
 row_is : (width focal : ℕ) (camera : Camera) (x y columns rows : ℕ) (middle step v : ℤ) → 1 ≤ rows
-    → middle ≡ middle_of camera.v (depth focal camera y) camera.s rows
+    → middle ≡ middle_of camera.v (distance focal camera y) camera.s rows
     → step ≡ floor_div (off_middle width x *ℤ (pos (span camera y) *ℤ camera.c)) 32768
-    → v ≡ middle +ℤ step → pos 0 ≤ℤ v → ring_place (floor_div v 256) rows ≡ (place_of width focal camera x y columns rows).1
-unfolding place_of ground_v
+    → v ≡ middle +ℤ step → pos 0 ≤ℤ v → ring_place (floor_div v 256) rows ≡ (camera_place width focal camera x y columns rows).1
+unfolding camera_place ground_v
 row_is width focal camera x y columns rows middle step v some e f g positive =
     same_texel_further _ v (1073741824 / rows + 1) rows some
-    (plus_turns camera.v (floor_div (pos (depth focal camera y) *ℤ camera.s) 16384) step _ (pos (whole_turns rows)) middle v e f g) positive
+    (plus_turns camera.v (floor_div (pos (distance focal camera y) *ℤ camera.s) 16384) step _ (pos (whole_turns rows)) middle v e f g) positive
 
 -- the texel of the whole places of the code's sum for the column
 pub column_shown : (width focal : ℕ) (camera : Camera) (x y columns rows : ℕ) (middle away place : ℤ) (u : ℕ) → 1 ≤ columns
-    → middle ≡ middle_of camera.u (depth focal camera y) camera.c columns *ℤ pos 32768 +ℤ pos 32767
+    → middle ≡ middle_of camera.u (distance focal camera y) camera.c columns *ℤ pos 32768 +ℤ pos 32767
     → away ≡ off_middle width x *ℤ (pos (span camera y) *ℤ camera.s)
-    → place ≡ middle -ℤ away → pos 0 ≤ℤ place → pos u ≡ floor_div place 32768 → u / 256 % columns ≡ (place_of width focal camera x y columns rows).0
+    → place ≡ middle -ℤ away → pos 0 ≤ℤ place → pos u ≡ floor_div place 32768 → u / 256 % columns ≡ (camera_place width focal camera x y columns rows).0
 column_shown width focal camera x y columns rows middle away place u some e f g positive whole =
-    column_is width focal camera x y columns rows (middle_of camera.u (depth focal camera y) camera.c columns) (floor_div away 32768) (pos u) some refl (ap (λ (z : ℤ). floor_div z 32768) f)
-    (whole ∙ before_middle (middle_of camera.u (depth focal camera y) camera.c columns) away place positive (g ∙ ap (λ (z : ℤ). z -ℤ away) e)) (omega (arith, ints))
+    column_is width focal camera x y columns rows (middle_of camera.u (distance focal camera y) camera.c columns)
+    (floor_div away 32768) (pos u) some refl (ap (λ (z : ℤ). floor_div z 32768) f)
+    (whole ∙ before_middle (middle_of camera.u (distance focal camera y) camera.c columns) away place positive (g ∙ ap (λ (z : ℤ). z -ℤ away) e)) (omega (
+      arith,
+      ints,
+    ))
 
 -- and of the sum for the row
 pub row_shown : (width focal : ℕ) (camera : Camera) (x y columns rows : ℕ) (middle away place : ℤ) (v : ℕ) → 1 ≤ rows
-    → middle ≡ middle_of camera.v (depth focal camera y) camera.s rows *ℤ pos 32768
+    → middle ≡ middle_of camera.v (distance focal camera y) camera.s rows *ℤ pos 32768
     → away ≡ off_middle width x *ℤ (pos (span camera y) *ℤ camera.c)
-    → place ≡ middle +ℤ away → pos 0 ≤ℤ place → pos v ≡ floor_div place 32768 → v / 256 % rows ≡ (place_of width focal camera x y columns rows).1
+    → place ≡ middle +ℤ away → pos 0 ≤ℤ place → pos v ≡ floor_div place 32768 → v / 256 % rows ≡ (camera_place width focal camera x y columns rows).1
 row_shown width focal camera x y columns rows middle away place v some e f g positive whole =
-    row_is width focal camera x y columns rows (middle_of camera.v (depth focal camera y) camera.s rows) (floor_div away 32768) (pos v) some refl (ap (λ (z : ℤ). floor_div z 32768) f)
-    (whole ∙ beyond_middle (middle_of camera.v (depth focal camera y) camera.s rows) away place positive (g ∙ ap (λ (z : ℤ). z +ℤ away) e)) (omega (arith, ints))
+    row_is width focal camera x y columns rows (middle_of camera.v (distance focal camera y) camera.s rows)
+    (floor_div away 32768) (pos v) some refl (ap (λ (z : ℤ). floor_div z 32768) f)
+    (whole ∙ beyond_middle (middle_of camera.v (distance focal camera y) camera.s rows) away place positive (g ∙ ap (λ (z : ℤ). z +ℤ away) e)) (omega (
+      arith,
+      ints,
+    ))
 
 -- an axis is one of equal numbers
-pub same_axis : (side level : ℕ) (middle middle' across across' : ℤ) (axis : Axis) → middle ≡ middle' → across ≡ across' → IsAxis side level middle across axis → IsAxis side level middle' across' axis
+pub same_axis : (side level : ℕ) (middle middle' across across' : ℤ) (axis : Axis) → middle ≡ middle'
+    → across ≡ across' → IsAxis side level middle across axis → IsAxis side level middle' across' axis
 same_axis side level middle middle' across across' axis e f is = rw (← e, ← f) is

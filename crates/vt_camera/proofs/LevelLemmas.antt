@@ -6,7 +6,7 @@ use Rattle.std.proofs.Math.Nat.{pow-le-pow_right, pow-suc, div-div-eq-div-mul}
 use Rattle.std.specs.Prelude.{nat_le, if◌then◌else◌}
 use Rattle.vt_definitions.specs.Sides.{side}
 use Rattle.vt_camera.specs.declared.paths.Camera.{Camera}
-use Rattle.vt_camera.specs.Rows.{level_within, level_of, span, IsLevelOf}
+use Rattle.vt_camera.specs.Rows.{level_within, camera_level, span, IsLevelOf}
 
 below_suc : (j k : ℕ) → j ≤ suc k → (j ≤ k) ⊎ (j ≡ suc k)
 below_suc j k h = grind arith
@@ -20,7 +20,10 @@ one_more p k m false e known =
     record {
       exists = omega (arith, known.exists);
       fits = known.fits;
-      greatest = λ j within fits. ⊎_elim (λ (low : j ≤ k). known.greatest j low fits) (λ (same : j ≡ suc k). let larger : 256 * 2 ^ suc k ≤ p = (let P : ℕ → Type 0 = λ i. 256 * 2 ^ i ≤ p in subst P same fits) in absurd (omega arith)) (below_suc j k within);
+      greatest =
+          λ j within fits. ⊎_elim (λ (low : j ≤ k). known.greatest j low fits)
+          (λ (same : j ≡ suc k). let larger : 256 * 2 ^ suc k ≤ p = (let P : ℕ → Type 0 = λ i. 256 * 2 ^ i ≤ p in subst P same fits) in absurd (omega arith))
+          (below_suc j k within);
     }
 
 pub level_within_is : (p last : ℕ) → IsLevelOf p last (level_within p last)
@@ -33,11 +36,11 @@ no_larger p last k m a b = ⊎_elim (λ (none : k ≡ 0). omega arith) (λ (fits
 pub same_level : (p last k m : ℕ) → IsLevelOf p last k → IsLevelOf p last m → k ≡ m
 same_level p last k m a b = omega (arith, no_larger p last k m a b, no_larger p last m k b a)
 
-pub level_of_is : (camera : Camera) (y levels : ℕ) → IsLevelOf (span camera y) (levels - 1) (level_of camera y levels)
-unfolding level_of
+pub level_of_is : (camera : Camera) (y levels : ℕ) → IsLevelOf (span camera y) (levels - 1) (camera_level camera y levels)
+unfolding camera_level
 level_of_is camera y levels = level_within_is (span camera y) (levels - 1)
 
-pub level_of_within : (camera : Camera) (y levels : ℕ) → 1 ≤ levels → level_of camera y levels < levels
+pub level_of_within : (camera : Camera) (y levels : ℕ) → 1 ≤ levels → camera_level camera y levels < levels
 level_of_within camera y levels some = omega (arith, (level_of_is camera y levels).exists)
 
 -- a span below a texel of level 0
@@ -46,7 +49,10 @@ lowest p last small = same_level p last _ 0 (level_within_is p last)
     (record { exists = omega arith; fits = inl refl; greatest = λ j within fits. absurd (omega (arith, pow_pos j)) })
 
 pub exponent_below : (i j : ℕ) → 2 ^ j < 2 * 2 ^ i → j ≤ i
-exponent_below i j h = ⊎_elim (λ (over : i < j). let more : 2 ^ suc i ≤ 2 ^ j = pow-le-pow_right (omega arith) over in absurd (omega (arith, pow-suc 2 i))) (λ (under : j ≤ i). under) (cases_lt i j)
+exponent_below i j h =
+    ⊎_elim
+    (λ (over : i < j). let more : 2 ^ suc i ≤ 2 ^ j = pow-le-pow_right (omega arith) over in absurd (omega (arith, pow-suc 2 i)))
+    (λ (under : j ≤ i). under) (cases_lt i j)
 
 -- the logarithm of the texels that a pixel spans, cut at the last level
 pub by_logarithm : (p last r : ℕ) → 2 ^ r ≤ p / 256 → p / 256 < 2 * 2 ^ r → level_within p last ≡ min r last

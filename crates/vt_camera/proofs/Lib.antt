@@ -5,5 +5,5 @@ pub mod PathLines
 pub mod PathFields
 pub mod PathReadingLemmas
 pub mod WayLemmas
-pub mod PathFaultLemmas
+pub mod PathFlawLemmas
 pub mod PathSteps

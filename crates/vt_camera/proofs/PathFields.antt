@@ -13,10 +13,25 @@ pub words-focal : (f : ℕ) → HasWords (focal_fields f)
 words-focal f = (omega arith, ((omega arith, (omega arith, (omega arith, (omega arith, (omega arith, tt))))), (word-number_spelling f, tt)))
 
 pub words-camera : (camera : Camera) → HasWords (camera_fields camera)
-words-camera camera = (omega arith, ((omega arith, (omega arith, tt)), (word-spelling camera.u, (word-spelling camera.v, (word-spelling camera.h, (word-spelling camera.c, (word-spelling camera.s, tt)))))))
+words-camera camera = (
+  omega arith,
+  (
+    (omega arith, (omega arith, tt)),
+    (word-spelling camera.u, (word-spelling camera.v, (word-spelling camera.h, (word-spelling camera.c, (word-spelling camera.s, tt))))),
+  ),
+)
 
 words-way : (n : ℕ) (camera : Camera) → HasWords (way_fields n camera)
-words-way n camera = (omega arith, ((omega arith, (omega arith, tt)), (word-number_spelling n, (word-spelling camera.u, (word-spelling camera.v, (word-spelling camera.h, (word-spelling camera.c, (word-spelling camera.s, tt))))))))
+words-way n camera = (
+  omega arith,
+  (
+    (omega arith, (omega arith, tt)),
+    (
+      word-number_spelling n,
+      (word-spelling camera.u, (word-spelling camera.v, (word-spelling camera.h, (word-spelling camera.c, (word-spelling camera.s, tt))))),
+    ),
+  ),
+)
 
 pub words-key : (key : Key) → HasWords (key_fields key)
 words-key (At camera) = words-camera camera
@@ -38,7 +53,8 @@ camera_fields_injective a b e =
     let c : a.c ≡ b.c = spelling_injective a.c b.c (cc) in
     let s : a.s ≡ b.s = spelling_injective a.s b.s (cc) in
     let made : ℤ → ℤ → ℤ → ℤ → ℤ → Camera = λ u v h c s. record { u = u; v = v; h = h; c = c; s = s } in
-    ap (λ x. made x a.v a.h a.c a.s) u ∙ ap (λ x. made b.u x a.h a.c a.s) v ∙ ap (λ x. made b.u b.v x a.c a.s) h ∙ ap (λ x. made b.u b.v b.h x a.s) c ∙ ap (λ x. made b.u b.v b.h b.c x) s
+    ap (λ x. made x a.v a.h a.c a.s) u ∙ ap (λ x. made b.u x a.h a.c a.s) v ∙ ap (λ x. made b.u b.v x a.c a.s) h
+    ∙ ap (λ x. made b.u b.v b.h x a.s) c ∙ ap (λ x. made b.u b.v b.h b.c x) s
 
 way_fields_injective : (m n : ℕ) (a b : Camera) → way_fields m a ≡ way_fields n b → To m a ≡ To n b
 way_fields_injective m n a b e =
@@ -72,7 +88,8 @@ record SameNumbers (w w' h h' f f' : ℕ) (ks ks' : List Key) : Type 0 where
 
 same_numbers : (w w' h h' f f' : ℕ) (ks ks' : List Key) → path_text w h f ks ≡ path_text w' h' f' ks' → SameNumbers w w' h h' f f' ks ks'
 same_numbers w w' h h' f f' ks ks' e =
-    let lines : path_lines w h f ks ≡ path_lines w' h' f' ks' = text_of_injective (path_lines w h f ks) (path_lines w' h' f' ks') (words-path w h f ks) (words-path w' h' f' ks') e in
+    let lines : path_lines w h f ks ≡ path_lines w' h' f' ks' =
+    text_of_injective (path_lines w h f ks) (path_lines w' h' f' ks') (words-path w h f ks) (words-path w' h' f' ks') e in
     record {
       width = number_spelling_injective w w' (cc);
       height = number_spelling_injective h h' (cc);
@@ -86,4 +103,5 @@ path_unique text p q (ks, a) (ls, b) =
     let same = same_numbers p.width q.width p.height q.height p.focal q.focal ks ls (sym a.spelled ∙ b.spelled) in
     let cameras : p.cameras ≡ q.cameras = a.cameras ∙ ap cameras_of same.keys ∙ sym b.cameras in
     let made : ℕ → ℕ → ℕ → List Camera → PathView = λ w h f cs. record { width = w; height = h; focal = f; cameras = cs } in
-    ap (λ x. made x p.height p.focal p.cameras) same.width ∙ ap (λ x. made q.width x p.focal p.cameras) same.height ∙ ap (λ x. made q.width q.height x p.cameras) same.focal ∙ ap (λ x. made q.width q.height q.focal x) cameras
+    ap (λ x. made x p.height p.focal p.cameras) same.width ∙ ap (λ x. made q.width x p.focal p.cameras) same.height
+    ∙ ap (λ x. made q.width q.height x p.cameras) same.focal ∙ ap (λ x. made q.width q.height q.focal x) cameras

@@ -8,6 +8,7 @@ use Rattle.std.proofs.lemmas.List.Elements.{All-from_recursion}
 use Rattle.std.proofs.lemmas.List.Splits.{slice_split_at, slice_split_none, join_with_byte-slice_split}
 use Rattle.std.proofs.lemmas.Str.Parse.{digit_from_value}
 use Rattle.std.proofs.lemmas.Bool.Decides.{nat_tests}
+use Rattle.vt_definitions.specs.Limits.{line_feed, blank}
 use Rattle.vt_text.specs.Numbers.{number_spelling, spelling}
 use Rattle.vt_text.specs.Lines.{fields_of, lines_of}
 use Rattle.vt_text.proofs.Spelling.{plain-number_spelling}
@@ -15,7 +16,7 @@ use Rattle.vt_camera.specs.PathText.{text_of}
 
 -- a word: no byte of it is a blank or below
 abbrev pub IsWord : List ℕ → Type 0
-IsWord bs = AllByRecursion (λ b. 32 < b) bs
+IsWord bs = AllByRecursion (λ b. blank < b) bs
 
 -- each field of a line is a word
 abbrev pub AreWords : List (List ℕ) → Type 0
@@ -45,65 +46,67 @@ word-spelling (negsuc n) = (omega arith, word-number_spelling (suc n))
 larger : (b c : ℕ) → c < b → eqb b c ≡ false
 larger b c h = grind (arith, nat_tests)
 
-no_blank : (bs : List ℕ) → IsWord bs → AllByRecursion (λ b. eqb b 32 ≡ false) bs
+no_blank : (bs : List ℕ) → IsWord bs → AllByRecursion (λ b. eqb b blank ≡ false) bs
 no_blank [] word = tt
-no_blank (b ∷ bs) word = (larger b 32 word.0, no_blank bs word.1)
+no_blank (b ∷ bs) word = (larger b blank word.0, no_blank bs word.1)
 
 -- joined bytes that are blanks or above hold no line feed
 abbrev IsLine : List ℕ → Type 0
-IsLine bs = AllByRecursion (λ b. eqb b 10 ≡ false) bs
+IsLine bs = AllByRecursion (λ b. eqb b line_feed ≡ false) bs
 
 line-word : (bs : List ℕ) → IsWord bs → IsLine bs
 line-word [] word = tt
-line-word (b ∷ bs) word = (larger b 10 (omega (arith, word.0)), line-word bs word.1)
+line-word (b ∷ bs) word = (larger b line_feed (omega (arith, word.0)), line-word bs word.1)
 
 line-append : (xs ys : List ℕ) → IsLine xs → IsLine ys → IsLine (xs ++ ys)
 line-append [] ys a b = b
 line-append (x ∷ xs) ys a b = (a.0, line-append xs ys a.1 b)
 
-line-join : (fields : List (List ℕ)) → AreWords fields → IsLine (join_with_byte 32 fields)
+line-join : (fields : List (List ℕ)) → AreWords fields → IsLine (join_with_byte blank fields)
 line-join [] words = tt
 line-join (x ∷ []) words = line-word x words.0
-line-join (x ∷ y ∷ xs) words = line-append x (32 ∷ join_with_byte 32 (y ∷ xs)) (line-word x words.0) (refl, line-join (y ∷ xs) words.1)
+line-join (x ∷ y ∷ xs) words = line-append x (blank ∷ join_with_byte blank (y ∷ xs)) (line-word x words.0) (refl, line-join (y ∷ xs) words.1)
 
 -- the fields of joined words are those words
-pub fields_of-join : (fields : List (List ℕ)) → HasWords fields → fields_of (join_with_byte 32 fields) ≡ fields
+pub fields_of-join : (fields : List (List ℕ)) → HasWords fields → fields_of (join_with_byte blank fields) ≡ fields
 fields_of-join [] words = absurd (omega (arith, words.0))
-fields_of-join (x ∷ []) words = slice_split_none (λ b. eqb b 32) x (All-from_recursion (λ b. eqb b 32 ≡ false) x (no_blank x words.1.0))
+fields_of-join (x ∷ []) words = slice_split_none (λ b. eqb b blank) x (All-from_recursion (λ b. eqb b blank ≡ false) x (no_blank x words.1.0))
 fields_of-join (x ∷ y ∷ xs) words =
-    slice_split_at (λ b. eqb b 32) x 32 (join_with_byte 32 (y ∷ xs)) (All-from_recursion (λ b. eqb b 32 ≡ false) x (no_blank x words.1.0)) refl
+    slice_split_at (λ b. eqb b blank) x blank (join_with_byte blank (y ∷ xs)) (All-from_recursion (λ b. eqb b blank ≡ false) x (no_blank x words.1.0)) refl
     ∙ ap (λ ys. x ∷ ys) (fields_of-join (y ∷ xs) (omega arith, words.1.1))
 
 -- a line is its fields, joined
-pub join-fields_of : (line : List ℕ) (fields : List (List ℕ)) → fields_of line ≡ fields → line ≡ join_with_byte 32 fields
-join-fields_of line fields e = sym (join_with_byte-slice_split 32 line) ∙ ap (join_with_byte 32) e
+pub join-fields_of : (line : List ℕ) (fields : List (List ℕ)) → fields_of line ≡ fields → line ≡ join_with_byte blank fields
+join-fields_of line fields e = sym (join_with_byte-slice_split blank line) ∙ ap (join_with_byte blank) e
 
 -- the lines of a text that was joined from lines, with the empty rest
-pub lines_of-text_of : (lines : List (List (List ℕ))) → AllHaveWords lines → lines_of (text_of lines) ≡ map (join_with_byte 32) lines ++ ([] ∷ [])
+pub lines_of-text_of : (lines : List (List (List ℕ))) → AllHaveWords lines → lines_of (text_of lines) ≡ map (join_with_byte blank) lines ++ ([] ∷ [])
 lines_of-text_of [] words = refl
 lines_of-text_of (l ∷ ls) words =
-    ap lines_of (append_assoc (join_with_byte 32 l) (10 ∷ []) (text_of ls))
-    ∙ slice_split_at (λ b. eqb b 10) (join_with_byte 32 l) 10 (text_of ls) (All-from_recursion (λ b. eqb b 10 ≡ false) (join_with_byte 32 l) (line-join l words.0.1)) refl
-    ∙ ap (λ xs. join_with_byte 32 l ∷ xs) (lines_of-text_of ls words.1)
+    ap lines_of (append_assoc (join_with_byte blank l) (line_feed ∷ []) (text_of ls))
+    ∙ slice_split_at (λ b. eqb b line_feed) (join_with_byte blank l) line_feed (text_of ls)
+    (All-from_recursion (λ b. eqb b line_feed ≡ false) (join_with_byte blank l) (line-join l words.0.1)) refl
+    ∙ ap (λ xs. join_with_byte blank l ∷ xs) (lines_of-text_of ls words.1)
 
 -- lines with an empty rest, joined by line feeds, are the text of the lines
-join-lines : (lines : List (List (List ℕ))) → join_with_byte 10 (map (join_with_byte 32) lines ++ ([] ∷ [])) ≡ text_of lines
+join-lines : (lines : List (List (List ℕ))) → join_with_byte line_feed (map (join_with_byte blank) lines ++ ([] ∷ [])) ≡ text_of lines
 join-lines [] = refl
-join-lines (l ∷ []) = sym (append-nil (join_with_byte 32 l ++ 10 ∷ []))
+join-lines (l ∷ []) = sym (append-nil (join_with_byte blank l ++ line_feed ∷ []))
 join-lines (l ∷ m ∷ ls) =
-    ap (λ xs. join_with_byte 32 l ++ (10 ∷ xs)) (join-lines (m ∷ ls)) ∙ sym (append_assoc (join_with_byte 32 l) (10 ∷ []) (text_of (m ∷ ls)))
+    ap (λ xs. join_with_byte blank l ++ (line_feed ∷ xs)) (join-lines (m ∷ ls))
+    ∙ sym (append_assoc (join_with_byte blank l) (line_feed ∷ []) (text_of (m ∷ ls)))
 
-pub text_of-lines : (text : List ℕ) (lines : List (List (List ℕ))) → lines_of text ≡ map (join_with_byte 32) lines ++ ([] ∷ []) → text ≡ text_of lines
-text_of-lines text lines e = sym (join_with_byte-slice_split 10 text) ∙ ap (join_with_byte 10) e ∙ join-lines lines
+pub text_of-lines : (text : List ℕ) (lines : List (List (List ℕ))) → lines_of text ≡ map (join_with_byte blank) lines ++ ([] ∷ []) → text ≡ text_of lines
+text_of-lines text lines e = sym (join_with_byte-slice_split line_feed text) ∙ ap (join_with_byte line_feed) e ∙ join-lines lines
 
 -- lines that are joined alike are alike
-same_lines : (ls ms : List (List (List ℕ))) → AllHaveWords ls → AllHaveWords ms → map (join_with_byte 32) ls ≡ map (join_with_byte 32) ms → ls ≡ ms
+same_lines : (ls ms : List (List (List ℕ))) → AllHaveWords ls → AllHaveWords ms → map (join_with_byte blank) ls ≡ map (join_with_byte blank) ms → ls ≡ ms
 same_lines [] [] a b e = refl
 same_lines [] (m ∷ ms) a b e = cc
 same_lines (l ∷ ls) [] a b e = cc
 same_lines (l ∷ ls) (m ∷ ms) a b e =
-    let heads : join_with_byte 32 l ≡ join_with_byte 32 m = cc in
-    let tails : map (join_with_byte 32) ls ≡ map (join_with_byte 32) ms = cc in
+    let heads : join_with_byte blank l ≡ join_with_byte blank m = cc in
+    let tails : map (join_with_byte blank) ls ≡ map (join_with_byte blank) ms = cc in
     let same_head : l ≡ m = sym (fields_of-join l a.0) ∙ ap fields_of heads ∙ fields_of-join m b.0 in
     let same_tail : ls ≡ ms = same_lines ls ms a.1 b.1 tails in
     cc
@@ -111,4 +114,6 @@ same_lines (l ∷ ls) (m ∷ ms) a b e =
 -- one text is that of one list of lines
 pub text_of_injective : (ls ms : List (List (List ℕ))) → AllHaveWords ls → AllHaveWords ms → text_of ls ≡ text_of ms → ls ≡ ms
 text_of_injective ls ms a b e =
-    same_lines ls ms a b (append_cancel_right (map (join_with_byte 32) ls) (map (join_with_byte 32) ms) ([] ∷ []) (sym (lines_of-text_of ls a) ∙ ap lines_of e ∙ lines_of-text_of ms b))
+    same_lines ls ms a b
+    (append_cancel_right (map (join_with_byte blank) ls) (map (join_with_byte blank) ms) ([] ∷ [])
+    (sym (lines_of-text_of ls a) ∙ ap lines_of e ∙ lines_of-text_of ms b))

@@ -25,7 +25,9 @@ long_part : (d m : ℕ) → d ≤ 4194304 → 18446744073709551616 ≤ d * m →
 long_part d m few turn = let most : d * m ≤ 4194304 * m = mul-le d m 4194304 m few (omega arith) in omega arith
 
 -- the parts of a place, as far as they make no whole turn
-low_parts : (place side e m q r : ℕ) → e < 256 * side → 256 * side * m ≡ 18446744073709551616 + e → side ≤ 16384 → place < 549755813888 → place ≡ 256 * side * q + r → r < 256 * side → place * m % 18446744073709551616 ≡ q * e + r * m
+low_parts : (place side e m q r : ℕ) → e < 256 * side → 256 * side * m ≡ 18446744073709551616 + e → side ≤ 16384
+    → place < 549755813888 → place ≡ 256 * side * q + r → r < 256 * side
+    → place * m % 18446744073709551616 ≡ q * e + r * m
 low_parts place side e m q r small turn few near split part =
     let long : 4398046511104 ≤ m = long_part (256 * side) m (omega arith) (omega arith) in
     let whole : place * m ≡ q * 18446744073709551616 + (q * e + r * m) = ap (λ n. n * m) split ∙ parts_split 18446744073709551616 (256 * side) e m q r turn in
@@ -35,7 +37,8 @@ low_parts place side e m q r small turn few near split part =
     ap (λ n. n % 18446744073709551616) whole ∙ mod-mul-add q 18446744073709551616 (q * e + r * m) short
 
 -- the share of a turn that parts are, in texels, is the place's texel
-whole_texels : (place side e m q r : ℕ) → 1 ≤ side → side ≤ 16384 → e < 256 * side → 256 * side * m ≡ 18446744073709551616 + e → place < 549755813888 → place ≡ 256 * side * q + r
+whole_texels : (place side e m q r : ℕ) → 1 ≤ side → side ≤ 16384 → e < 256 * side
+    → 256 * side * m ≡ 18446744073709551616 + e → place < 549755813888 → place ≡ 256 * side * q + r
     → (q * e + r * m) * side / 18446744073709551616 ≡ r / 256
 whole_texels place side e m q r some few small turn near split =
     let turns : (q * e + r * m) * (256 * side) ≡ r * 18446744073709551616 + e * place = omega (arith, ap (λ n. r * n) turn, ap (λ n. e * n) split) in
@@ -68,7 +71,8 @@ turn_most side level few =
     mul-le side (2 ^ (16 - level)) 16384 65536 few most
 
 -- the texel of a level that a place lies on is the place's texel, halved once a level
-pub ring_level_texel : (place side level : ℕ) → 1 ≤ side → side ≤ 16384 → level ≤ 16 → place < 549755813888 → on_ring place (part_of side) (turn_at side level) / 65536 ≡ place / 256 % side / 2 ^ level
+pub ring_level_texel : (place side level : ℕ) → 1 ≤ side → side ≤ 16384 → level ≤ 16 → place < 549755813888
+    → on_ring place (part_of side) (turn_at side level) / 65536 ≡ place / 256 % side / 2 ^ level
 ring_level_texel place side level some few most near =
     let low = place * part_of side % 2 ^ 64 in
     let up = 2 ^ (16 - level) in
@@ -86,10 +90,12 @@ pub small_quotient : (n side level : ℕ) → 1 ≤ side → n % side / 2 ^ leve
 small_quotient n side level some = omega (arith, shr_le (n % side) level)
 
 -- the same, for the numbers that a row keeps
-pub kept_level_texel : (place side level part turn share : ℕ) → 1 ≤ side → side ≤ 16384 → level ≤ 16 → place < 549755813888 → part ≡ part_of side → turn ≡ turn_at side level → share ≡ on_ring place part turn
+pub kept_level_texel : (place side level part turn share : ℕ) → 1 ≤ side → side ≤ 16384 → level ≤ 16
+    → place < 549755813888 → part ≡ part_of side → turn ≡ turn_at side level → share ≡ on_ring place part turn
     → share / 65536 ≡ place / 256 % side / 2 ^ level
 kept_level_texel place side level part turn share some few most near p t e =
-    ap (λ n. n / 65536) (e ∙ ap (λ n. on_ring place n turn) p ∙ ap (λ n. on_ring place (part_of side) n) t) ∙ ring_level_texel place side level some few most near
+    ap (λ n. n / 65536) (e ∙ ap (λ n. on_ring place n turn) p ∙ ap (λ n. on_ring place (part_of side) n) t)
+    ∙ ring_level_texel place side level some few most near
 
 -- it is a texel of the level
 pub within_level : (place width level : ℕ) → 1 ≤ width → place % width / 2 ^ level < side width level

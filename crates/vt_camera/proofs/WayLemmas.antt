@@ -62,7 +62,9 @@ made u v h c s = record { u = u; v = v; h = h; c = c; s = s }
 plain : (a b r : ℤ) (i n : ℕ) → IsWithin (negsuc 2147483647) (pos 2147483648) a → IsWithin (negsuc 2147483647) (pos 2147483648) b → i ≤ n
     → r ≡ place_between (to_z w64 (of_z w64 a)) (to_z w64 (of_z w64 b)) i n → to_z w64 (of_z w64 r) ≡ place_between a b i n
 plain a b r i n wa wb within e =
-    let is : r ≡ place_between a b i n = e ∙ ap (λ (z : ℤ). place_between z (to_z w64 (of_z w64 b)) i n) (back a wa) ∙ ap (λ (z : ℤ). place_between a z i n) (back b wb) in
+    let is : r ≡ place_between a b i n =
+    e ∙ ap (λ (z : ℤ). place_between z (to_z w64 (of_z w64 b)) i n) (back a wa)
+    ∙ ap (λ (z : ℤ). place_between a z i n) (back b wb) in
     ap (λ (z : ℤ). to_z w64 (of_z w64 z)) is ∙ back (place_between a b i n) (between_limits a b i n within (negsuc 2147483647) (pos 2147483648) wa wb)
 
 -- the numbers between two cameras, where all stand as their bits, make the camera on the way
@@ -76,16 +78,21 @@ made_way a b i n u v h c s within x y eu ev eh ec es =
     let bits : ℤ → ℤ = λ (z : ℤ). to_z w64 (of_z w64 z) in
     let fu : bits u ≡ place_between a.u b.u i n = plain a.u b.u u i n (x.u_low, x.u_high) (y.u_low, y.u_high) within eu in
     let fv : bits v ≡ place_between a.v b.v i n = plain a.v b.v v i n (x.v_low, x.v_high) (y.v_low, y.v_high) within ev in
-    let fh : bits h ≡ place_between a.h b.h i n = plain a.h b.h h i n (omega (arith, ints, x.h_low), omega (arith, ints, x.h_high)) (omega (arith, ints, y.h_low), omega (arith, ints, y.h_high)) within eh in
-    let fc : bits c ≡ place_between a.c b.c i n = plain a.c b.c c i n (omega (arith, ints, x.c_low), omega (arith, ints, x.c_high)) (omega (arith, ints, y.c_low), omega (arith, ints, y.c_high)) within ec in
-    let fs : bits s ≡ place_between a.s b.s i n = plain a.s b.s s i n (omega (arith, ints, x.s_low), omega (arith, ints, x.s_high)) (omega (arith, ints, y.s_low), omega (arith, ints, y.s_high)) within es in
+    let fh : bits h ≡ place_between a.h b.h i n =
+    plain a.h b.h h i n (omega (arith, ints, x.h_low), omega (arith, ints, x.h_high)) (omega (arith, ints, y.h_low), omega (arith, ints, y.h_high)) within eh in
+    let fc : bits c ≡ place_between a.c b.c i n =
+    plain a.c b.c c i n (omega (arith, ints, x.c_low), omega (arith, ints, x.c_high)) (omega (arith, ints, y.c_low), omega (arith, ints, y.c_high)) within ec in
+    let fs : bits s ≡ place_between a.s b.s i n =
+    plain a.s b.s s i n (omega (arith, ints, x.s_low), omega (arith, ints, x.s_high)) (omega (arith, ints, y.s_low), omega (arith, ints, y.s_high)) within es in
     ap (λ z. made z (bits v) (bits h) (bits c) (bits s)) fu ∙ ap (λ z. made (place_between a.u b.u i n) z (bits h) (bits c) (bits s)) fv
     ∙ ap (λ z. made (place_between a.u b.u i n) (place_between a.v b.v i n) z (bits c) (bits s)) fh
     ∙ ap (λ z. made (place_between a.u b.u i n) (place_between a.v b.v i n) (place_between a.h b.h i n) z (bits s)) fc
     ∙ ap (λ z. made (place_between a.u b.u i n) (place_between a.v b.v i n) (place_between a.h b.h i n) (place_between a.c b.c i n) z) fs
 
 -- one more camera of a way
-pub one_more : (old now new : List Camera) (x : Camera) (f : ℕ → Camera) (k : ℕ) → now ≡ old ++ map f (range_with_len 1 k) → new ≡ now ++ x ∷ [] → x ≡ f (k + 1) → new ≡ old ++ map f (range_with_len 1 (k + 1))
+pub one_more : (old now new : List Camera) (x : Camera) (f : ℕ → Camera) (k : ℕ)
+    → now ≡ old ++ map f (range_with_len 1 k) → new ≡ now ++ x ∷ [] → x ≡ f (k + 1)
+    → new ≡ old ++ map f (range_with_len 1 (k + 1))
 one_more old now new x f k e g h =
     g ∙ ap (λ xs. xs ++ x ∷ []) e ∙ append_assoc old (map f (range_with_len 1 k)) (x ∷ []) ∙ ap (λ y. old ++ (map f (range_with_len 1 k) ++ y ∷ [])) h
     ∙ ap (λ xs. old ++ xs) (sym (map-range_with_len_more f 1 k (k + 1) (omega arith)))

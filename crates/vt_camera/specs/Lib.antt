@@ -2,6 +2,6 @@ pub mod Paths
 pub mod Rows
 pub mod RowParts
 pub mod PathText
-pub mod PathFaults
+pub mod PathFlaws
 pub mod PathReading
 pub mod Ways

@@ -1,14 +1,16 @@
+-- A path as its numbers, and the limits that they keep.
 use Rattle.std.specs.Prelude.{ℕ, ◌≤◌, List, length, pos, negsuc, ◌≤ℤ◌, All}
+use Rattle.vt_definitions.specs.Limits.{most_picture_side, most_focal, most_pictures}
 use Rattle.vt_camera.specs.declared.paths.Camera.{Camera}
 
--- a path as its numbers: the picture's sides, the focal number and a camera for each picture (this project's profile)
+-- a path as its numbers: the picture's sides, the focal number and a camera for each picture
 pub record PathView : Type 0 where
   pub width : ℕ
   pub height : ℕ
   pub focal : ℕ
   pub cameras : List Camera
 
--- a camera's place, height and direction are within their limits (this project's profile)
+-- a camera's place, height and direction are within their limits
 pub record IsCamera (camera : Camera) : Type 0 where
   pub u_low : negsuc 2147483647 ≤ℤ camera.u
   pub u_high : camera.u ≤ℤ pos 2147483648
@@ -21,13 +23,20 @@ pub record IsCamera (camera : Camera) : Type 0 where
   pub s_low : negsuc 16383 ≤ℤ camera.s
   pub s_high : camera.s ≤ℤ pos 16384
 
--- a path's numbers are within their limits, and so is each of its cameras (this project's profile)
+-- both sides of a picture are within their limits
+pub record ArePictureSides (width height : ℕ) : Type 0 where
+  pub width_low : 1 ≤ width
+  pub width_high : width ≤ most_picture_side
+  pub height_low : 1 ≤ height
+  pub height_high : height ≤ most_picture_side
+
+-- a focal number is within its limits
+abbrev pub IsFocal : ℕ → Type 0
+IsFocal focal = (1 ≤ focal) × (focal ≤ most_focal)
+
+-- a path's numbers are within their limits, and so is each of its cameras
 pub record IsPath (path : PathView) : Type 0 where
-  pub width_low : 1 ≤ path.width
-  pub width_high : path.width ≤ 2048
-  pub height_low : 1 ≤ path.height
-  pub height_high : path.height ≤ 2048
-  pub focal_low : 1 ≤ path.focal
-  pub focal_high : path.focal ≤ 4096
-  pub few : length path.cameras ≤ 9999
+  pub sides : ArePictureSides path.width path.height
+  pub focus : IsFocal path.focal
+  pub few : length path.cameras ≤ most_pictures
   pub each : All IsCamera path.cameras

@@ -5,11 +5,11 @@ use Rattle.vt_camera.specs.declared.paths.Camera.{Camera}
 use Rattle.vt_camera.specs.declared.surfaces.Surface.{Surface}
 use Rattle.vt_camera.specs.Paths.{PathView}
 
--- the longest side that a texture may have, in texels (this project's profile)
+-- the longest side of a texture that a camera may look at, in texels
 abbrev pub longest_side : ℕ
 longest_side = 16384
 
--- a texture's sides are within the limit, and it has a level (this project's profile)
+-- a texture's sides are within the limit, and it has a level
 pub record IsSurface (surface : Surface) : Type 0 where
   pub width_low : 1 ≤ surface.width
   pub width_high : surface.width ≤ longest_side
@@ -17,19 +17,19 @@ pub record IsSurface (surface : Surface) : Type 0 where
   pub height_high : surface.height ≤ longest_side
   pub some_level : 1 ≤ surface.levels
 
--- the greatest whole number that is not above z / n (this project's profile)
+-- the greatest whole number that is not above z / n
 abbrev pub floor_div : ℤ → ℕ → ℤ
 floor_div z n = int_div_euclid z (pos n)
 
--- where z comes to lie on a ring of n places, of which the first is 0 (this project's profile)
+-- where z comes to lie on a ring of n places, of which the first is 0
 abbrev pub ring_place : ℤ → ℕ → ℕ
 ring_place z n = unsigned_abs (int_rem_euclid z (pos n))
 
--- how far off the ground of row y lies, in 1/256 texel (this project's profile)
-abbrev pub depth : ℕ → Camera → ℕ → ℕ
-depth focal camera y = unsigned_abs camera.h * focal / (y + 1)
+-- how far off the ground of row y lies, in 1/256 texel
+abbrev pub distance : ℕ → Camera → ℕ → ℕ
+distance focal camera y = unsigned_abs camera.h * focal / (y + 1)
 
--- how much ground a pixel of row y spans, in 1/256 texel (this project's profile)
+-- how much ground a pixel of row y spans, in 1/256 texel
 abbrev pub span : Camera → ℕ → ℕ
 span camera y = unsigned_abs camera.h / (y + 1)
 
@@ -38,34 +38,34 @@ abbrev pub level_within : ℕ → ℕ → ℕ
 level_within p zero = 0
 level_within p (suc k) = if nat_le (256 * 2 ^ suc k) p then suc k else level_within p k
 
--- the level of row y, of a texture with this many (this project's profile)
-unfoldable pub level_of : Camera → ℕ → ℕ → ℕ
-level_of camera y levels = level_within (span camera y) (levels - 1)
+-- the level of row y, of a texture with this many
+unfoldable pub camera_level : Camera → ℕ → ℕ → ℕ
+camera_level camera y levels = level_within (span camera y) (levels - 1)
 
--- how far to the right of the picture's middle the middle of a pixel lies, in half pixels (this project's profile)
+-- how far to the right of the picture's middle the middle of a pixel lies, in half pixels
 abbrev pub off_middle : ℕ → ℕ → ℤ
 off_middle width x = pos (2 * x + 1) -ℤ pos width
 
--- the column of the ground that pixel (x, y) shows, in 1/256 texel, on a texture without end (this project's profile)
+-- the column of the ground that pixel (x, y) shows, in 1/256 texel, on a texture without end
 unfoldable pub ground_u : ℕ → ℕ → Camera → ℕ → ℕ → ℤ
 ground_u width focal camera x y =
-    camera.u +ℤ floor_div (pos (depth focal camera y) *ℤ camera.c) 16384
+    camera.u +ℤ floor_div (pos (distance focal camera y) *ℤ camera.c) 16384
     -ℤ floor_div (off_middle width x *ℤ (pos (span camera y) *ℤ camera.s)) 32768
 
--- the row of the ground that pixel (x, y) shows, in 1/256 texel, on a texture without end (this project's profile)
+-- the row of the ground that pixel (x, y) shows, in 1/256 texel, on a texture without end
 unfoldable pub ground_v : ℕ → ℕ → Camera → ℕ → ℕ → ℤ
 ground_v width focal camera x y =
-    camera.v +ℤ floor_div (pos (depth focal camera y) *ℤ camera.s) 16384
+    camera.v +ℤ floor_div (pos (distance focal camera y) *ℤ camera.s) 16384
     +ℤ floor_div (off_middle width x *ℤ (pos (span camera y) *ℤ camera.c)) 32768
 
--- the column and the row of the texel that pixel (x, y) shows, of a texture that repeats (this project's profile)
-unfoldable pub place_of : ℕ → ℕ → Camera → ℕ → ℕ → ℕ → ℕ → ℕ × ℕ
-place_of width focal camera x y columns rows = (
+-- the column and the row of the texel that pixel (x, y) shows, of a texture that repeats
+unfoldable pub camera_place : ℕ → ℕ → Camera → ℕ → ℕ → ℕ → ℕ → ℕ × ℕ
+camera_place width focal camera x y columns rows = (
   ring_place (floor_div (ground_u width focal camera x y) 256) columns,
   ring_place (floor_div (ground_v width focal camera x y) 256) rows,
 )
 
--- a row of a picture: the picture's width, the focal number, the camera, the row's number and the texture (this project's profile)
+-- a row of a picture: the picture's width, the focal number, the camera, the row's number and the texture
 pub record RowView : Type 0 where
   pub width : ℕ
   pub focal : ℕ
@@ -73,17 +73,17 @@ pub record RowView : Type 0 where
   pub y : ℕ
   pub surface : Surface
 
--- row y of the picture that this camera of a path takes of a texture (this project's profile)
+-- row y of the picture that this camera of a path takes of a texture
 abbrev pub row_of : PathView → Camera → ℕ → Surface → RowView
 row_of path camera y surface = record { width = path.width; focal = path.focal; camera = camera; y = y; surface = surface }
 
--- a row's level (this project's profile)
+-- a row's level
 abbrev pub row_level : RowView → ℕ
-row_level row = level_of row.camera row.y row.surface.levels
+row_level row = camera_level row.camera row.y row.surface.levels
 
--- the texel that pixel x of a row shows (this project's profile)
+-- the texel that pixel x of a row shows
 abbrev pub row_place : RowView → ℕ → ℕ × ℕ
-row_place row x = place_of row.width row.focal row.camera x row.y row.surface.width row.surface.height
+row_place row x = camera_place row.width row.focal row.camera x row.y row.surface.width row.surface.height
 
 -- k is the greatest level up to the last whose texels are no wider than the span p, or 0 where there is none (van Waveren 2012)
 pub record IsLevelOf (p last k : ℕ) : Type 0 where

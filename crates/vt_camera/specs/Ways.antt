@@ -4,11 +4,11 @@ use Rattle.std.specs.List.{range_with_len}
 use Rattle.vt_camera.specs.declared.paths.Camera.{Camera}
 use Rattle.vt_camera.specs.Rows.{floor_div}
 
--- the number i of n steps on the way from a to b, rounded down (this project's profile)
+-- the number i of n steps on the way from a to b, rounded down
 abbrev pub place_between : ℤ → ℤ → ℕ → ℕ → ℤ
 place_between a b i n = a +ℤ floor_div ((b -ℤ a) *ℤ pos i) n
 
--- the camera i of n steps on the way from one to another, each of its numbers by itself (this project's profile)
+-- the camera i of n steps on the way from one to another, each of its numbers by itself
 unfoldable pub camera_on_way : Camera → Camera → ℕ → ℕ → Camera
 camera_on_way a b n i = record {
   u = place_between a.u b.u i n;
@@ -18,6 +18,6 @@ camera_on_way a b n i = record {
   s = place_between a.s b.s i n;
 }
 
--- the cameras after each of the n steps from one to another (this project's profile)
+-- the cameras after each of the n steps from one to another
 abbrev pub way : Camera → Camera → ℕ → List Camera
 way a b n = map (camera_on_way a b n) (range_with_len 1 n)

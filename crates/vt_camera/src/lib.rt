@@ -11,7 +11,7 @@ mod tests;
 mod ways;
 
 pub use laws::{level_is_greatest, level_within_chain, place_within_level, place_within_surface};
-pub use parse::{PathError, parse_path, path_fault_is_unique, path_has_no_fault, path_is_unique};
+pub use parse::{PathError, parse_path, path_flaw_is_unique, path_has_no_flaw, path_is_unique};
 pub use paths::{Camera, Path};
 pub use rows::Row;
 pub use surfaces::Surface;

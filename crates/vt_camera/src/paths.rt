@@ -1,11 +1,12 @@
 //! A camera, and the path of cameras that a sequence of pictures is drawn along.
 
 ghost use Rattle.std.specs.Prelude.{◌≡◌, ◌<◌, ◌≤◌, length, slice_get, vec_len, All, Some};
+ghost use Rattle.vt_definitions.specs.Limits.{most_picture_side, most_focal, most_pictures};
 ghost use Rattle.vt_camera.specs.Paths.{IsCamera, IsPath};
 
 use std::marker::Model;
 
-/// Where a picture is taken from, by this project's profile.
+/// Where a picture is taken from.
 #[derive(Clone, Copy, Debug, PartialEq, Eq)]
 pub struct Camera {
     /// The column below the camera, in 1/256 texel, from -2147483648 to 2147483648.
@@ -20,8 +21,8 @@ pub struct Camera {
     pub s: i64,
 }
 
-/// The sides of the pictures, the focal number and the camera of each picture, all within the limits of this project's
-/// profile. `parse_path` makes it.
+/// The sides of the pictures, the focal number and the camera of each picture, all within their limits. `parse_path`
+/// makes it.
 #[derive(Drop)]
 pub struct Path {
     width: u32,
@@ -59,7 +60,7 @@ impl Path {
     pub fn width(&self) -> u32
         ensures value { result ≡ self.now.width }
         ensures low { 1 ≤ result }
-        ensures high { result ≤ 2048 }
+        ensures high { result ≤ most_picture_side }
     {
         self.width
     }
@@ -68,7 +69,7 @@ impl Path {
     pub fn height(&self) -> u32
         ensures value { result ≡ self.now.height }
         ensures low { 1 ≤ result }
-        ensures high { result ≤ 2048 }
+        ensures high { result ≤ most_picture_side }
     {
         self.height
     }
@@ -77,7 +78,7 @@ impl Path {
     pub fn focal(&self) -> u32
         ensures value { result ≡ self.now.focal }
         ensures low { 1 ≤ result }
-        ensures high { result ≤ 4096 }
+        ensures high { result ≤ most_focal }
     {
         self.focal
     }
@@ -85,7 +86,7 @@ impl Path {
     /// The number of pictures, one for each camera, at most 9999.
     pub fn pictures(&self) -> u32
         ensures value { result ≡ length self.now.cameras }
-        ensures high { result ≤ 9999 }
+        ensures high { result ≤ most_pictures }
     {
         self.cameras.len() as u32
     }

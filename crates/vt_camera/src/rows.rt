@@ -1,17 +1,18 @@
 //! A row of a picture: its mip level, and the texel that each of its pixels shows.
 
 ghost use Rattle.std.specs.Prelude.{◌≡◌, ℕ, ◌+◌, ◌-◌, ◌*◌, ◌/◌, ◌%◌, ◌^◌, ◌<◌, ◌≤◌, ℤ, pos, negsuc, ◌+ℤ◌, ◌-ℤ◌, ◌*ℤ◌, ◌≤ℤ◌, ◌<ℤ◌, unsigned_abs};
-ghost use Rattle.vt_camera.specs.Paths.{IsCamera};
-ghost use Rattle.vt_camera.specs.Rows.{IsSurface, floor_div, ring_place, level_within, off_middle, row_of, row_level, row_place};
-ghost use Rattle.vt_camera.specs.RowParts.{whole_turns, middle_of, part_of, turn_at, on_ring, IsAxis};
+ghost use Rattle.vt_definitions.specs.Limits.{most_picture_side};
 ghost use Rattle.vt_definitions.specs.Sides.{side};
+ghost use Rattle.vt_camera.specs.Paths.{IsCamera};
+ghost use Rattle.vt_camera.specs.Rows.{longest_side, IsSurface, floor_div, ring_place, level_within, off_middle, row_of, row_level, row_place};
+ghost use Rattle.vt_camera.specs.RowParts.{whole_turns, middle_of, part_of, turn_at, on_ring, IsAxis};
 
 use crate::paths::{Camera, Path};
 use crate::surfaces::Surface;
 use std::marker::Model;
 
-/// A row of a picture, with all that is the same at each of its pixels. It knows its level and the texel of each pixel, by
-/// this project's profile: the ground is seen from the camera's height, the row y lies y+1 pixels below the horizon, and
+/// A row of a picture, with all that is the same at each of its pixels. It knows its level and the texel of each pixel:
+/// the ground is seen from the camera's height, the row y lies y+1 pixels below the horizon, and
 /// the texture repeats in both directions.
 #[derive(Drop)]
 pub struct Row {
@@ -47,7 +48,7 @@ impl Axis {
         requires across_low { negsuc 274877906943 ≤ℤ across }
         requires across_high { across ≤ℤ pos 274877906944 }
         requires side_low { 1 ≤ side }
-        requires side_high { side ≤ 16384 }
+        requires side_high { side ≤ longest_side }
         requires level { level ≤ 16 }
         ensures { IsAxis side level middle across result }
     {
@@ -85,7 +86,7 @@ impl Row {
         let width = path.width();
         let focal = path.focal();
         let height = camera.h.unsigned_abs();
-        let depth = height * u64::from(focal) / (u64::from(y) + 1);
+        let distance = height * u64::from(focal) / (u64::from(y) + 1);
         let span = height / (u64::from(y) + 1);
         let level = greatest_level(span, surface.levels - 1);
         Row {
@@ -97,13 +98,13 @@ impl Row {
             level,
             // What is taken away from this middle is to be rounded down, so the difference is rounded up.
             columns: Axis::of(
-                finer(middle(camera.u, depth, camera.c, surface.width)) + 32767,
+                finer(middle(camera.u, distance, camera.c, surface.width)) + 32767,
                 scaled(span, camera.s),
                 surface.width,
                 level,
             ),
             rows: Axis::of(
-                finer(middle(camera.v, depth, camera.s, surface.height)),
+                finer(middle(camera.v, distance, camera.s, surface.height)),
                 scaled(span, camera.c),
                 surface.height,
                 level,
@@ -186,37 +187,37 @@ fn greatest_level(span: u64, last: u32) -> u32
 }
 
 // Where a row's middle lies on one axis, whole turns further on.
-fn middle(place: i64, depth: u64, direction: i64, side: u32) -> i64
+fn middle(place: i64, distance: u64, direction: i64, side: u32) -> i64
     requires place_low { negsuc 2147483647 ≤ℤ place }
     requires place_high { place ≤ℤ pos 2147483648 }
-    requires depth { depth ≤ 68719476736 }
+    requires distance { distance ≤ 68719476736 }
     requires direction_low { negsuc 16383 ≤ℤ direction }
     requires direction_high { direction ≤ℤ pos 16384 }
     requires side_low { 1 ≤ side }
-    requires side_high { side ≤ 16384 }
-    ensures value { result ≡ middle_of place depth direction side }
+    requires side_high { side ≤ longest_side }
+    ensures value { result ≡ middle_of place distance direction side }
     ensures low { pos 137438953472 ≤ℤ result }
     ensures high { result ≤ℤ pos 412316860416 }
 {
-    place + far_off(depth, direction) + turns(side)
+    place + far_off(distance, direction) + turns(side)
 }
 
 // How far off along one axis the ground of a row lies.
-fn far_off(depth: u64, direction: i64) -> i64
-    requires depth { depth ≤ 68719476736 }
+fn far_off(distance: u64, direction: i64) -> i64
+    requires distance { distance ≤ 68719476736 }
     requires direction_low { negsuc 16383 ≤ℤ direction }
     requires direction_high { direction ≤ℤ pos 16384 }
-    ensures value { result ≡ floor_div (pos depth *ℤ direction) 16384 }
+    ensures value { result ≡ floor_div (pos distance *ℤ direction) 16384 }
     ensures low { negsuc 68719476735 ≤ℤ result }
     ensures high { result ≤ℤ pos 68719476736 }
 {
-    (depth as i64 * direction) >> 14
+    (distance as i64 * direction) >> 14
 }
 
 // Whole turns round a ring of so many texels that outweigh each place of the ground.
 fn turns(side: u32) -> i64
     requires side_low { 1 ≤ side }
-    requires side_high { side ≤ 16384 }
+    requires side_high { side ≤ longest_side }
     ensures value { result ≡ pos (whole_turns side) }
     ensures low { pos 274877906944 ≤ℤ result }
     ensures high { result ≤ℤ pos 274882101248 }
@@ -239,7 +240,7 @@ fn scaled(span: u64, direction: i64) -> i64
 // How far the middle of a pixel lies to the right of the picture's middle, in half pixels.
 fn half_pixels(x: u32, width: u32) -> i64
     requires within { x < width }
-    requires width { width ≤ 2048 }
+    requires width { width ≤ most_picture_side }
     ensures value { result ≡ off_middle width x }
     ensures low { negsuc 2046 ≤ℤ result }
     ensures high { result ≤ℤ pos 2047 }
@@ -284,7 +285,7 @@ fn finer(place: i64) -> i64
 // How many of 2^64 parts of a turn 1/256 texel is, rounded up.
 fn part_of(side: u32) -> u64
     requires side_low { 1 ≤ side }
-    requires side_high { side ≤ 16384 }
+    requires side_high { side ≤ longest_side }
     ensures { result ≡ part_of side }
 {
     u64::MAX / (256 * u64::from(side)) + 1
@@ -292,7 +293,7 @@ fn part_of(side: u32) -> u64
 
 // How many texels of a level a turn has, in 1/65536 texel.
 fn turn_at(side: u32, level: u32) -> u64
-    requires side { side ≤ 16384 }
+    requires side { side ≤ longest_side }
     requires level { level ≤ 16 }
     ensures { result ≡ turn_at side level }
 {

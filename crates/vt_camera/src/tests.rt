@@ -24,7 +24,7 @@ fn one_picture(
 }
 
 #[test]
-fn path_gives_its_parts(rt: HostRuntime) -> Result<(), Fail> {
+fn a_path_gives_its_parts(rt: HostRuntime) -> Result<(), Fail> {
     let camera = Camera {
         u: -2147483648,
         v: 2147483648,
@@ -64,33 +64,26 @@ fn square_row(alloc: Global, h: u32) -> Result<Row, AllocError>
 }
 
 #[test]
-fn first_picture(rt: HostRuntime) -> Result<(), Fail> {
-    let row = square_row(rt.alloc(), 256)?;
-    assert_eq!(rt; row.level(), 0);
-    assert_eq!(rt; row.texel(0), (1, 3));
-    assert_eq!(rt; row.texel(1), (1, 0));
-    Ok(())
-}
-
-#[test]
-fn level_choice(rt: HostRuntime) -> Result<(), Fail> {
-    let below = square_row(rt.alloc(), 511)?;
-    assert_eq!(rt; below.level(), 0);
-    assert_eq!(rt; below.texel(0), (1, 3));
-    assert_eq!(rt; below.texel(1), (1, 0));
-
+fn a_coarser_level_comes_with_its_span(rt: HostRuntime) -> Result<(), Fail> {
+    for (h, level, first, second) in [
+        (256, 0, (1, 3), (1, 0)),
+        (511, 0, (1, 3), (1, 0)),
+        (512, 1, (2, 3), (2, 1)),
+    ] {
+        let row = square_row(rt.alloc(), h)?;
+        assert_eq!(rt; row.level(), level, "from the height {h}");
+        assert_eq!(rt; row.texel(0), first, "from the height {h}");
+        assert_eq!(rt; row.texel(1), second, "from the height {h}");
+    }
     let row = square_row(rt.alloc(), 512)?;
-    assert_eq!(rt; row.level(), 1);
-    assert_eq!(rt; row.texel(0), (2, 3));
-    assert_eq!(rt; row.texel(1), (2, 1));
     assert_eq!(rt; row.texel_in_level(0), (1, 1));
     assert_eq!(rt; row.texel_in_level(1), (1, 0));
     Ok(())
 }
 
-// Row 1 has the depth 1000 and the span 500, row 0 twice as much; no quotient is whole.
+// Row 1 has the distance 1000 and the span 500, row 0 twice as much; no quotient is whole.
 #[test]
-fn slanted_rows(rt: HostRuntime) -> Result<(), Fail> {
+fn slanted_rows_round_down(rt: HostRuntime) -> Result<(), Fail> {
     let camera = Camera {
         u: -1,
         v: 300,
@@ -124,7 +117,7 @@ fn slanted_rows(rt: HostRuntime) -> Result<(), Fail> {
 // Every number as large as it can be: the column is 2^15*5889 modulo 16383, the row is -2^15*9983 modulo 16383, and both
 // are found by 2^14 being 1 there.
 #[test]
-fn largest_numbers(rt: HostRuntime) -> Result<(), Fail> {
+fn the_largest_numbers_fit(rt: HostRuntime) -> Result<(), Fail> {
     let camera = Camera {
         u: -2147483648,
         v: 2147483648,

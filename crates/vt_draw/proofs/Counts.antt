@@ -29,13 +29,17 @@ pixels-more s row n p =
 
 pixels-same : (s : Shape) (row : RowView) (n p : ℕ) → wanted_page s row n ≢ p → pixels_wanting s row (n + 1) p ≡ pixels_wanting s row n p
 pixels-same s row n p other = step (wanted_page s row n == p) refl (pixels-more s row n p) where
-  step : (b : Bool) → (wanted_page s row n == p) ≡ b → pixels_wanting s row (n + 1) p ≡ pixels_wanting s row n p + (0 + cond b 1 0) → pixels_wanting s row (n + 1) p ≡ pixels_wanting s row n p
+  step : (b : Bool) → (wanted_page s row n == p) ≡ b
+      → pixels_wanting s row (n + 1) p ≡ pixels_wanting s row n p + (0 + cond b 1 0)
+      → pixels_wanting s row (n + 1) p ≡ pixels_wanting s row n p
   step true e more = absurd (other (eqb-true _ _ e))
   step false e more = omega arith
 
 pixels-one : (s : Shape) (row : RowView) (n p : ℕ) → wanted_page s row n ≡ p → pixels_wanting s row (n + 1) p ≡ pixels_wanting s row n p + 1
 pixels-one s row n p same = step (wanted_page s row n == p) refl (pixels-more s row n p) where
-  step : (b : Bool) → (wanted_page s row n == p) ≡ b → pixels_wanting s row (n + 1) p ≡ pixels_wanting s row n p + (0 + cond b 1 0) → pixels_wanting s row (n + 1) p ≡ pixels_wanting s row n p + 1
+  step : (b : Bool) → (wanted_page s row n == p) ≡ b
+      → pixels_wanting s row (n + 1) p ≡ pixels_wanting s row n p + (0 + cond b 1 0)
+      → pixels_wanting s row (n + 1) p ≡ pixels_wanting s row n p + 1
   step true e more = omega arith
   step false e more = absurd (eqb-false _ _ e same)
 
@@ -44,12 +48,14 @@ pub counted-more : (s : Shape) (row : RowView) (x page : ℕ) (old counts : List
     → ((p : ℕ) → p < length old → slice_index counts p ≡ slice_index old p + pixels_wanting s row x p)
     → (p : ℕ) → p < length old → slice_index (slice_set counts page (slice_index counts page + 1)) p ≡ slice_index old p + pixels_wanting s row (x + 1) p
 counted-more s row x page old counts wants inside so_far p below = step (wanted_page s row x == p) refl where
-  step : (b : Bool) → (wanted_page s row x == p) ≡ b → slice_index (slice_set counts page (slice_index counts page + 1)) p ≡ slice_index old p + pixels_wanting s row (x + 1) p
+  step : (b : Bool) → (wanted_page s row x == p) ≡ b
+      → slice_index (slice_set counts page (slice_index counts page + 1)) p ≡ slice_index old p + pixels_wanting s row (x + 1) p
   step true e =
       let same : wanted_page s row x ≡ p = eqb-true _ _ e in
       let here : page ≡ p = wants ∙ same in
       let first = ap (λ (i : ℕ). slice_index (slice_set counts page (slice_index counts page + 1)) i) (sym here) in
-      let written : slice_index (slice_set counts page (slice_index counts page + 1)) page ≡ slice_index counts page + 1 = get_or-set_same counts page (slice_index counts page + 1) 0 inside in
+      let written : slice_index (slice_set counts page (slice_index counts page + 1)) page ≡ slice_index counts page + 1 =
+      get_or-set_same counts page (slice_index counts page + 1) 0 inside in
       let before : slice_index counts page ≡ slice_index counts p = ap (slice_index counts) here in
       first ∙ written ∙ omega (arith, before, so_far p below, pixels-one s row x p same)
   step false e =

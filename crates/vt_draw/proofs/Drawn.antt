@@ -4,12 +4,12 @@ use Rattle.std.specs.List.{flat_map, range_with_len}
 use Rattle.std.proofs.lemmas.List.{append-nil, length-append}
 use Rattle.std.proofs.lemmas.List.Concat.{flat_map-append}
 use Rattle.vt_definitions.specs.Texels.{Source, bytes}
+use Rattle.vt_mip.specs.Chains.{IsTexelRaster}
 use Rattle.vt_camera.specs.declared.paths.Camera.{Camera}
 use Rattle.vt_camera.specs.declared.surfaces.Surface.{Surface}
 use Rattle.vt_camera.specs.Paths.{PathView}
 use Rattle.vt_camera.specs.Rows.{RowView, row_of, row_level, row_place}
-use Rattle.vt_mip.specs.Chains.{IsTexelRaster}
-use Rattle.vt_draw.specs.Plain.{shown_word, row_samples, picture_samples}
+use Rattle.vt_draw.specs.Plain.{shown_word, row_samples, first_rows}
 
 -- one number more at the end of a range
 pub range_more : (a n : ℕ) → range_with_len a (suc n) ≡ range_with_len a n ++ (a + n) ∷ []
@@ -32,15 +32,17 @@ row_samples-more : (source : Source) (row : RowView) (x : ℕ) → row_samples s
 unfolding row_samples
 row_samples-more source row x = sym (over_more (λ (i : ℕ). bytes (shown_word source row i)) x)
 
-pub picture_samples-none : (source : Source) (surface : Surface) (path : PathView) (camera : Camera) (held : List ℕ) → held ≡ held ++ picture_samples source surface path camera 0
-unfolding picture_samples
-picture_samples-none source surface path camera held = sym (append-nil held)
+pub first_rows-none : (source : Source) (surface : Surface) (path : PathView) (camera : Camera) (held : List ℕ)
+    → held ≡ held ++ first_rows source surface path camera 0
+unfolding first_rows
+first_rows-none source surface path camera held = sym (append-nil held)
 
-pub picture_samples-more : (source : Source) (surface : Surface) (path : PathView) (camera : Camera) (y : ℕ) (held : List ℕ)
-    → (held ++ picture_samples source surface path camera y) ++ row_samples source (row_of path camera y surface) path.width ≡ held ++ picture_samples source surface path camera (y + 1)
-unfolding picture_samples
-picture_samples-more source surface path camera y held =
-    append_assoc held (picture_samples source surface path camera y) (row_samples source (row_of path camera y surface) path.width)
+pub first_rows-more : (source : Source) (surface : Surface) (path : PathView) (camera : Camera) (y : ℕ) (held : List ℕ)
+    → (held ++ first_rows source surface path camera
+    y) ++ row_samples source (row_of path camera y surface) path.width ≡ held ++ first_rows source surface path camera (y + 1)
+unfolding first_rows
+first_rows-more source surface path camera y held =
+    append_assoc held (first_rows source surface path camera y) (row_samples source (row_of path camera y surface) path.width)
     ∙ ap (λ (t : List ℕ). held ++ t) (sym (over_more (λ (i : ℕ). row_samples source (row_of path camera i surface) path.width) y))
 
 -- three bytes for each number of a range
@@ -57,9 +59,13 @@ three : {a b c x y z : ℕ} → a ≡ x → b ≡ y → c ≡ z → ◌≡◌ {A
 three p q r = cc
 
 -- one pixel more of a row that is drawn
-pub pixel_drawn : (source : Source) (row : RowView) (x level column line columns lines at width : ℕ) (texels before after : List ℕ) → IsTexelRaster (source level) columns lines texels
-    → level ≡ row_level row → column ≡ (row_place row x).0 / 2 ^ row_level row → line ≡ (row_place row x).1 / 2 ^ row_level row → column < columns → line < lines → width ≡ columns → at ≡ 3 * (line * width + column)
-    → take (3 * x) before ≡ row_samples source row x → take (3 * x + 3) after ≡ take (3 * x) before ++ get_or texels at 0 ∷ get_or texels (at + 1) 0 ∷ get_or texels (at + 2) 0 ∷ []
+pub pixel_drawn : (source : Source) (row : RowView) (x level column line columns lines at width : ℕ) (texels before after : List ℕ)
+    → IsTexelRaster (source level) columns lines texels
+    → level ≡ row_level row → column ≡ (row_place row x).0 / 2 ^ row_level row
+    → line ≡ (row_place row x).1 / 2 ^ row_level row → column < columns → line < lines → width ≡ columns
+    → at ≡ 3 * (line * width + column)
+    → take (3 * x) before ≡ row_samples source row x
+    → take (3 * x + 3) after ≡ take (3 * x) before ++ get_or texels at 0 ∷ get_or texels (at + 1) 0 ∷ get_or texels (at + 2) 0 ∷ []
     → take (3 * (x + 1)) after ≡ row_samples source row (x + 1)
 pixel_drawn source row x level column line columns lines at width texels before after is k i j wide high w e so_far written =
     let place : at ≡ 3 * (line * columns + column) = e ∙ ap (λ (n : ℕ). 3 * (line * n + column)) w in
@@ -68,7 +74,9 @@ pixel_drawn source row x level column line columns lines at width texels before 
     ∙ written
     ∙ ap (λ (t : List ℕ). t ++ get_or texels at 0 ∷ get_or texels (at + 1) 0 ∷ get_or texels (at + 2) 0 ∷ []) so_far
     ∙ ap (λ (t : List ℕ). row_samples source row x ++ t) (
-    three (ap (λ (n : ℕ). get_or texels n 0) place ∙ is.red_at column line wide high) (ap (λ (n : ℕ). get_or texels (n + 1) 0) place ∙ is.green_at column line wide high) (ap (λ (n : ℕ). get_or texels (n + 2) 0) place ∙ is.blue_at column line wide high)
+    three (ap (λ (n : ℕ). get_or texels n 0) place ∙ is.red_at column line wide high)
+    (ap (λ (n : ℕ). get_or texels (n + 1) 0) place ∙ is.green_at column line wide high)
+    (ap (λ (n : ℕ). get_or texels (n + 2) 0) place ∙ is.blue_at column line wide high)
     ∙ texel
     )
     ∙ row_samples-more source row x
@@ -77,8 +85,10 @@ pub length-row_samples : (source : Source) (row : RowView) (columns : ℕ) → l
 unfolding row_samples
 length-row_samples source row columns = thrice (λ (x : ℕ). bytes (shown_word source row x)) 3 columns (λ x. refl)
 
-pub length-picture_samples : (source : Source) (surface : Surface) (path : PathView) (camera : Camera) (rows : ℕ) → length (picture_samples source surface path camera rows) ≡ 3 * (path.width * rows)
-unfolding picture_samples
-length-picture_samples source surface path camera rows =
-    thrice (λ (y : ℕ). row_samples source (row_of path camera y surface) path.width) (3 * path.width) rows (λ y. length-row_samples source (row_of path camera y surface) path.width)
+pub length-first_rows : (source : Source) (surface : Surface) (path : PathView) (camera : Camera) (rows : ℕ)
+    → length (first_rows source surface path camera rows) ≡ 3 * (path.width * rows)
+unfolding first_rows
+length-first_rows source surface path camera rows =
+    thrice (λ (y : ℕ). row_samples source (row_of path camera y surface) path.width) (3 * path.width) rows
+    (λ y. length-row_samples source (row_of path camera y surface) path.width)
     ∙ omega arith

@@ -5,7 +5,7 @@ use Rattle.vt_pages.specs.Pages.{texel_page}
 use Rattle.vt_camera.specs.Rows.{RowView, row_level, row_place}
 use Rattle.vt_draw.specs.declared.lookups.Found.{Found}
 use Rattle.vt_draw.specs.Lookups.{Note, WordNote, IsFinest, place_in_tile}
-use Rattle.vt_draw.specs.Shots.{wanted_page, samples_at, drawn_place, IsDrawn}
+use Rattle.vt_draw.specs.Shots.{wanted_page, pixel_bytes, drawn_place, IsDrawn}
 
 pub finest_kept : (s : Shape) (version : ℕ) (says later : Note → Type 0) (p : ℕ) (found : Found) → ((note : Note) → says note → later note)
     → IsFinest s version says p found → IsFinest s version later p found
@@ -18,9 +18,9 @@ finest_kept s version says later p found said h = record {
   mapped = said _ h.mapped;
 }
 
-pub drawn_kept : (s : Shape) (version : ℕ) (says later : Note → Type 0) (row : RowView) (x : ℕ) (samples : List ℕ) → ((note : Note) → says note → later note)
-    → IsDrawn s version says row x samples → IsDrawn s version later row x samples
-drawn_kept s version says later row x samples said h = record {
+pub drawn_kept : (s : Shape) (d version : ℕ) (says later : Note → Type 0) (row : RowView) (x : ℕ) (samples : List ℕ) → ((note : Note) → says note → later note)
+    → IsDrawn s d version says row x samples → IsDrawn s d version later row x samples
+drawn_kept s d version says later row x samples said h = record {
   found = h.found;
   word = h.word;
   finest = finest_kept s version says later _ h.found said h.finest;
@@ -29,19 +29,22 @@ drawn_kept s version says later row x samples said h = record {
 }
 
 -- one pixel more is drawn
-pub drawn-more : (s : Shape) (version : ℕ) (says later : Note → Type 0) (row : RowView) (x : ℕ) (before after : List ℕ) → ((note : Note) → says note → later note)
-    → ((i : ℕ) → i ≢ x → samples_at after i ≡ samples_at before i) → IsDrawn s version later row x (samples_at after x)
-    → ((i : ℕ) → i < x → IsDrawn s version says row i (samples_at before i))
-    → (i : ℕ) → i < x + 1 → IsDrawn s version later row i (samples_at after i)
-drawn-more s version says later row x before after said kept here so_far i below =
-    let P : List ℕ → Type 0 = λ t. IsDrawn s version later row i t in
-    let Q : ℕ → Type 0 = λ j. IsDrawn s version later row j (samples_at after j) in
+pub drawn-more : (s : Shape) (d version : ℕ) (says later : Note → Type 0) (row : RowView) (x : ℕ) (before after : List ℕ)
+    → ((note : Note) → says note → later note)
+    → ((i : ℕ) → i ≢ x → pixel_bytes d after i ≡ pixel_bytes d before i) → IsDrawn s d version later row x (pixel_bytes d after x)
+    → ((i : ℕ) → i < x → IsDrawn s d version says row i (pixel_bytes d before i))
+    → (i : ℕ) → i < x + 1 → IsDrawn s d version later row i (pixel_bytes d after i)
+drawn-more s d version says later row x before after said kept here so_far i below =
+    let P : List ℕ → Type 0 = λ t. IsDrawn s d version later row i t in
+    let Q : ℕ → Type 0 = λ j. IsDrawn s d version later row j (pixel_bytes d after j) in
     let or : (i < x) ⊎ (i ≡ x) = grind arith in
-    ⊎_elim (λ (low : i < x). let apart : i ≢ x = omega arith in subst P (sym (kept i apart)) (drawn_kept s version says later row i (samples_at before i) said (so_far i low)))
+    ⊎_elim (λ (low : i < x). let apart : i ≢ x = omega arith in subst P (sym (kept i apart))
+    (drawn_kept s d version says later row i (pixel_bytes d before i) said (so_far i low)))
     (λ (same : i ≡ x). subst Q (sym same) here) or
 
 -- the same of a look-up that has the same shape and version under other names
-pub finest_moved : (s t : Shape) (version same : ℕ) (says later : Note → Type 0) (p : ℕ) (found : Found) → t ≡ s → same ≡ version → ((note : Note) → says note → later note)
+pub finest_moved : (s t : Shape) (version same : ℕ) (says later : Note → Type 0) (p : ℕ) (found : Found) → t ≡ s
+    → same ≡ version → ((note : Note) → says note → later note)
     → IsFinest s version says p found → IsFinest t same later p found
 finest_moved s t version same says later p found shape number said h =
     let P : Shape → Type 0 = λ z. IsFinest z version later p found in

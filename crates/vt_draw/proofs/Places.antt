@@ -7,7 +7,7 @@ use Rattle.vt_pages.specs.Pages.{levels_of, level_of, ancestor_of, texel_page, I
 use Rattle.vt_pages.specs.Laws.{IsInside}
 use Rattle.vt_pages.proofs.Lines.{texel_is_page, lines_follow_places}
 use Rattle.vt_camera.specs.Paths.{PathView}
-use Rattle.vt_camera.specs.Rows.{RowView, row_level, row_place, place_of}
+use Rattle.vt_camera.specs.Rows.{RowView, row_level, row_place, camera_place}
 use Rattle.vt_camera.proofs.LevelLemmas.{inside_level, level_of_within}
 use Rattle.vt_camera.proofs.Ground.{ring_place_below}
 use Rattle.vt_draw.specs.declared.lookups.Found.{Found}
@@ -41,7 +41,8 @@ line_covers s k x y j some level column line low top =
 pub found_covers : (s : Shape) (version : ℕ) (says : Note → Type 0) (k x y : ℕ) (found : Found) → 1 ≤ s.tile → k < levels_of s → x < s.width → y < s.height
     → IsFinest s version says (texel_page s k (x / 2 ^ k) (y / 2 ^ k)) found → texel_page s found.level (x / 2 ^ found.level) (y / 2 ^ found.level) ≡ found.page
 found_covers s version says k x y found some level column line finest =
-    let at : level_of s (texel_page s k (x / 2 ^ k) (y / 2 ^ k)) ≡ k = (texel_is_page s k (x / 2 ^ k) (y / 2 ^ k) some (place_inside s k x y level column line)).level in
+    let at : level_of s (texel_page s k (x / 2 ^ k) (y / 2 ^ k)) ≡ k =
+    (texel_is_page s k (x / 2 ^ k) (y / 2 ^ k) some (place_inside s k x y level column line)).level in
     let no_finer : level_of s (texel_page s k (x / 2 ^ k) (y / 2 ^ k)) ≤ found.level = finest.no_finer in
     let low : k ≤ found.level = omega arith in
     sym (finest.page ∙ line_covers s k x y found.level some level column line low finest.level_inside)
@@ -53,7 +54,7 @@ pub record IsPixelInside (s : Shape) (row : RowView) (x : ℕ) : Type 0 where
   pub line : (row_place row x).1 < s.height
 
 pub pixel_inside : (s : Shape) (path : PathView) (picture y x : ℕ) → IsWithinLimits s → IsPixelInside s (shot_row s path picture y) x
-unfolding shot_row place_of
+unfolding shot_row camera_place
 pixel_inside s path picture y x limits = record {
   level = level_of_within (camera_at path picture) y (levels_of s) limits.some_level;
   column = ring_place_below _ s.width limits.least_width;
@@ -62,7 +63,8 @@ pixel_inside s path picture y x limits = record {
 
 wanted_at : (s : Shape) (row : RowView) (x : ℕ) → 1 ≤ s.tile → IsPixelInside s row x → IsPageAt s (row_level row) (wanted_page s row x)
 unfolding wanted_page
-wanted_at s row x some h = texel_is_page s (row_level row) _ _ some (place_inside s (row_level row) (row_place row x).0 (row_place row x).1 h.level h.column h.line)
+wanted_at s row x some h =
+    texel_is_page s (row_level row) _ _ some (place_inside s (row_level row) (row_place row x).0 (row_place row x).1 h.level h.column h.line)
 
 pub wanted_in_chain : (s : Shape) (path : PathView) (picture y x : ℕ) → IsWithinLimits s
     → IsPageAt s (row_level (shot_row s path picture y)) (wanted_page s (shot_row s path picture y) x)

@@ -1,9 +1,9 @@
--- The plain picture: what a camera shows of a whole mip chain.
+-- The plain picture: what a camera shows of a source of texels, and of a mip chain.
 use Rattle.std.specs.Prelude.{ℕ, ◌/◌, ◌^◌, List, slice_index_or, pos}
 use Rattle.std.specs.List.{flat_map, range_with_len}
 use Rattle.vt_definitions.specs.Sides.{level_count}
 use Rattle.vt_definitions.specs.Texels.{Source, bytes}
-use Rattle.vt_ppm.specs.Image.{Picture, texel_of}
+use Rattle.vt_ppm.specs.Image.{ImageView, texel_of}
 use Rattle.vt_mip.specs.Chains.{chain}
 use Rattle.vt_camera.specs.declared.paths.Camera.{Camera}
 use Rattle.vt_camera.specs.declared.surfaces.Surface.{Surface}
@@ -12,28 +12,38 @@ use Rattle.vt_camera.specs.Rows.{RowView, row_of, row_level, row_place}
 
 -- the word that pixel x of a row shows: the source's texel at the row's own level (van Waveren 2012)
 abbrev pub shown_word : Source → RowView → ℕ → ℕ
-shown_word source row x = source (row_level row) ((row_place row x).0 / 2 ^ row_level row) ((row_place row x).1 / 2 ^ row_level row)
+shown_word source row x =
+    source (row_level row) ((row_place row x).0 / 2 ^ row_level row) ((row_place row x).1 / 2 ^ row_level row)
 
 -- the samples of the first pixels of a row, three bytes a pixel
 unfoldable pub row_samples : Source → RowView → ℕ → List ℕ
 row_samples source row columns = flat_map (λ x. bytes (shown_word source row x)) (range_with_len 0 columns)
 
--- the samples of the first rows of the picture that a camera takes of a source, from the top
-unfoldable pub picture_samples : Source → Surface → PathView → Camera → ℕ → List ℕ
-picture_samples source surface path camera rows = flat_map (λ y. row_samples source (row_of path camera y surface) path.width) (range_with_len 0 rows)
-
--- a texture as a camera sees it: its sides and its number of levels
-abbrev pub surface_of : Picture → ℕ → Surface
-surface_of texture tile = record { width = texture.width; height = texture.height; levels = level_count texture.width texture.height tile }
-
--- the mip chain of a texture, as a source of texels
-abbrev pub chain_of : Picture → Source
-chain_of texture = chain (texel_of texture) texture.width texture.height
-
 -- the camera of a picture of a path; pictures count from 0
 abbrev pub camera_at : PathView → ℕ → Camera
 camera_at path picture = slice_index_or path.cameras picture (record { u = pos 0; v = pos 0; h = pos 1; c = pos 0; s = pos 0 })
 
--- the samples of the plain picture of a texture, a tile side, a path and the number of a picture
-unfoldable pub plain_samples : Picture → ℕ → PathView → ℕ → List ℕ
-plain_samples texture tile path picture = picture_samples (chain_of texture) (surface_of texture tile) path (camera_at path picture) path.height
+-- the samples of the first rows of the picture that a camera takes of a source of texels, from the top
+unfoldable pub first_rows : Source → Surface → PathView → Camera → ℕ → List ℕ
+first_rows source surface path camera rows =
+    flat_map (λ y. row_samples source (row_of path camera y surface) path.width) (range_with_len 0 rows)
+
+-- the plain picture: what a picture of a path shows of a source of texels, seen as this surface, with no pages (van Waveren 2012)
+abbrev pub plain_picture : Source → Surface → PathView → ℕ → List ℕ
+plain_picture source surface path picture = first_rows source surface path (camera_at path picture) path.height
+
+-- a texture as a camera sees it: its sides and its number of levels
+abbrev pub surface_of : ImageView → ℕ → Surface
+surface_of texture tile = record {
+  width = texture.width;
+  height = texture.height;
+  levels = level_count texture.width texture.height tile;
+}
+
+-- the mip chain of a texture, as a source of texels
+abbrev pub chain_of : ImageView → Source
+chain_of texture = chain (texel_of texture) texture.width texture.height
+
+-- the plain picture of a texture: of its mip chain, down to the level that a tile of this side holds
+unfoldable pub plain_samples : ImageView → ℕ → PathView → ℕ → List ℕ
+plain_samples texture tile path picture = plain_picture (chain_of texture) (surface_of texture tile) path picture

@@ -1,10 +1,10 @@
 //! The steps of drawing a pixel: its wanted page, the page that serves it, its word, and its samples.
 
 ghost use Rattle.std.specs.Prelude.{◌≡◌, ◌≢◌, ℕ, ◌+◌, ◌*◌, ◌/◌, ◌^◌, ◌<◌, ◌≤◌, length};
-ghost use Rattle.vt_definitions.specs.Texels.{bytes};
-ghost use Rattle.vt_pages.specs.Pages.{level_of, levels_of, pages_of, texel_page, IsWithinLimits};
-ghost use Rattle.vt_draw.specs.Lookups.{Note, WordNote, IsFinest, place_in_tile};
-ghost use Rattle.vt_draw.specs.Shots.{samples_at};
+ghost use Rattle.vt_definitions.specs.Depths.{IsDepth, texel_length, word_bytes};
+ghost use Rattle.vt_pages.specs.Pages.{level_of, levels_of, pages_of, IsWithinLimits};
+ghost use Rattle.vt_draw.specs.Lookups.{Note, WordNote, IsFinest, covering_page, covering_place};
+ghost use Rattle.vt_draw.specs.Shots.{pixel_bytes};
 
 use crate::lookups::{Found, Lookup};
 use vt_pages::Geometry;
@@ -15,7 +15,7 @@ pub(crate) fn page_at_place(geometry: &Geometry, level: u32, column: u32, line: 
     requires level { level < levels_of geometry.now }
     requires column { column < geometry.now.width }
     requires line { line < geometry.now.height }
-    ensures page { result ≡ texel_page geometry.now level (column / 2 ^ level) (line / 2 ^ level) }
+    ensures page { result ≡ covering_page geometry.now level column line }
     ensures inside { result < pages_of geometry.now }
 {
     let _levels = geometry.levels();
@@ -52,8 +52,10 @@ pub(crate) fn word_at_place<K: Lookup>(
     requires level { level < levels_of (K.shape lookup.old) }
     requires column { column < (K.shape lookup.old).width }
     requires line { line < (K.shape lookup.old).height }
-    requires finest { IsFinest (K.shape lookup.old) (K.version lookup.old) (K.says lookup.old) (texel_page (K.shape lookup.old) level (column / 2 ^ level) (line / 2 ^ level)) found.now }
-    ensures read { K.says lookup.new (WordNote (K.version lookup.new) found.now.slot (place_in_tile (K.shape lookup.new) (column / 2 ^ found.now.level) (line / 2 ^ found.now.level)) result) }
+    requires finest { IsFinest (K.shape lookup.old) (K.version lookup.old) (K.says lookup.old)
+        (covering_page (K.shape lookup.old) level column line) found.now }
+    ensures read { K.says lookup.new (WordNote (K.version lookup.new) found.now.slot
+        (covering_place (K.shape lookup.new) found.now.level column line) result) }
     ensures said { (note : Note) → K.says lookup.old note → K.says lookup.new note }
     ensures version { K.version lookup.new ≡ K.version lookup.old }
     ensures shape { K.shape lookup.new ≡ K.shape lookup.old }
@@ -61,15 +63,46 @@ pub(crate) fn word_at_place<K: Lookup>(
     lookup.texel(found, column >> found.level, line >> found.level)
 }
 
-// Writes the three samples of pixel x of a row.
+// Writes the bytes of pixel x of a row whose samples have DEPTH bytes.
 #[inline]
-pub(crate) fn put_samples(out: &mut [u8], x: u32, word: u64)
+pub(crate) fn put_pixel<const DEPTH: u32>(out: &mut [u8], x: u32, word: u64)
+    requires depth { IsDepth DEPTH }
+    requires room { texel_length DEPTH * x + texel_length DEPTH ≤ length out.old }
+    ensures written { pixel_bytes DEPTH out.new x ≡ word_bytes DEPTH word }
+    ensures kept { (i : ℕ) → i ≢ x → pixel_bytes DEPTH out.new i ≡ pixel_bytes DEPTH out.old i }
+{
+    if DEPTH == 1 {
+        put_narrow(out, x, word);
+    } else {
+        put_wide(out, x, word);
+    }
+}
+
+// Writes the three bytes of pixel x of a row of one-byte samples.
+#[inline]
+fn put_narrow(out: &mut [u8], x: u32, word: u64)
     requires { 3 * x + 3 ≤ length out.old }
-    ensures written { samples_at out.new x ≡ bytes word }
-    ensures kept { (i : ℕ) → i ≢ x → samples_at out.new i ≡ samples_at out.old i }
+    ensures written { pixel_bytes 1 out.new x ≡ word_bytes 1 word }
+    ensures kept { (i : ℕ) → i ≢ x → pixel_bytes 1 out.new i ≡ pixel_bytes 1 out.old i }
 {
     let at = 3 * x as usize;
     out[at] = (word / 65536 % 256) as u8;
     out[at + 1] = (word / 256 % 256) as u8;
     out[at + 2] = (word % 256) as u8;
+}
+
+// Writes the six bytes of pixel x of a row of two-byte samples.
+#[inline]
+fn put_wide(out: &mut [u8], x: u32, word: u64)
+    requires { 6 * x + 6 ≤ length out.old }
+    ensures written { pixel_bytes 2 out.new x ≡ word_bytes 2 word }
+    ensures kept { (i : ℕ) → i ≢ x → pixel_bytes 2 out.new i ≡ pixel_bytes 2 out.old i }
+{
+    let at = 6 * x as usize;
+    out[at] = (word / 1_099_511_627_776 % 256) as u8;
+    out[at + 1] = (word / 4_294_967_296 % 256) as u8;
+    out[at + 2] = (word / 16_777_216 % 256) as u8;
+    out[at + 3] = (word / 65536 % 256) as u8;
+    out[at + 4] = (word / 256 % 256) as u8;
+    out[at + 5] = (word % 256) as u8;
 }

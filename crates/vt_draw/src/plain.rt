@@ -1,9 +1,11 @@
 //! Drawing the plain picture.
 
 ghost use Rattle.std.specs.Prelude.{◌≡◌, ◌+◌, ◌*◌, ◌<◌, ◌≤◌, ◌++◌, ◌∷◌, [], length, slice_index, take, IfOk, OnOk};
+ghost use Rattle.vt_pages.specs.Shape.{level_limit};
 ghost use Rattle.vt_camera.specs.Paths.{IsCamera};
 ghost use Rattle.vt_camera.specs.Rows.{IsSurface};
-ghost use Rattle.vt_draw.specs.Plain.{chain_of, surface_of, row_samples, picture_samples, plain_samples};
+ghost use Rattle.vt_draw.specs.Plain.{chain_of, surface_of, row_samples, first_rows, plain_samples};
+ghost use Rattle.vt_draw.specs.Shots.{three_from};
 
 use std::alloc::{AllocError, Global};
 use vt_camera::{Camera, Path, Row, Surface};
@@ -13,8 +15,8 @@ use vt_outside::NoMemory;
 // How many samples the longest row of a picture has.
 const MOST_ROW_SIZE: usize = 6144;
 
-/// The samples of the plain picture of the path's picture with this number: three bytes a pixel, row by row from the top.
-/// Each pixel is the chain's texel at its row's own level (van Waveren 2012).
+/// Draws the plain picture with this number of a path: its samples are three bytes a pixel, row by row from the top. A pixel
+/// shows what the level of its row has at the pixel's place (van Waveren 2012).
 pub fn draw_plain(
     alloc: Global,
     chain: &Chain,
@@ -39,7 +41,7 @@ pub fn draw_plain(
 fn surface_of(chain: &Chain) -> Surface
     ensures value { result ≡ surface_of chain.now.base chain.now.tile }
     ensures limits { IsSurface result }
-    ensures levels { result.levels ≤ 14 }
+    ensures levels { result.levels ≤ level_limit }
 {
     let levels = chain.levels();
     let (width, height) = chain.size(0);
@@ -62,9 +64,10 @@ fn draw_rows(
     requires surface { surface.now ≡ surface_of chain.now.base chain.now.tile }
     requires limits { IsSurface surface.now }
     requires camera { IsCamera camera.now }
-    requires levels { surface.now.levels ≤ 14 }
+    requires levels { surface.now.levels ≤ level_limit }
     requires room { length row_samples.old ≡ 3 * path.now.width }
-    ensures { OnOk result (samples.new.items ≡ samples.old.items ++ picture_samples (chain_of chain.now.base) surface.now path.now camera.now path.now.height) }
+    ensures { OnOk result (samples.new.items
+        ≡ samples.old.items ++ first_rows (chain_of chain.now.base) surface.now path.now camera.now path.now.height) }
 {
     for y in 0..path.height() {
         let row = Row::of(path, camera, y, surface);
@@ -79,7 +82,7 @@ fn draw_rows(
 fn draw_plain_row(chain: &Chain, row: Row, columns: u32, out: &mut [u8])
     requires surface { row.surface ≡ surface_of chain.now.base chain.now.tile }
     requires width { columns ≤ row.width }
-    requires levels { row.surface.levels ≤ 14 }
+    requires levels { row.surface.levels ≤ level_limit }
     requires room { length out.old ≡ 3 * columns }
     ensures { out.new ≡ row_samples (chain_of chain.now.base) row columns }
 {
@@ -98,7 +101,7 @@ fn draw_plain_row(chain: &Chain, row: Row, columns: u32, out: &mut [u8])
 fn put_texel(texels: &[u8], from: usize, out: &mut [u8], to: usize)
     requires from { from + 3 ≤ length texels.now }
     requires to { to + 3 ≤ length out.old }
-    ensures { take (to + 3) out.new ≡ take to out.old ++ slice_index texels.now from ∷ slice_index texels.now (from + 1) ∷ slice_index texels.now (from + 2) ∷ [] }
+    ensures { take (to + 3) out.new ≡ take to out.old ++ three_from texels.now from }
 {
     let red = texels[from];
     let green = texels[from + 1];

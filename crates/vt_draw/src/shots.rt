@@ -1,12 +1,13 @@
 //! Drawing a row of a picture over a look-up of pages.
 
 ghost use Rattle.std.specs.Prelude.{◌≡◌, ℕ, ◌+◌, ◌*◌, ◌<◌, ◌≤◌, ◌^◌, length, slice_index};
+ghost use Rattle.vt_definitions.specs.Depths.{IsDepth, texel_length};
 ghost use Rattle.vt_pages.specs.Pages.{pages_of, IsWithinLimits};
 ghost use Rattle.vt_draw.specs.Lookups.{Note};
-ghost use Rattle.vt_draw.specs.Shots.{paged_surface, shot_row, pixels_wanting, samples_at, IsDrawn};
+ghost use Rattle.vt_draw.specs.Shots.{paged_surface, shot_row, AreDrawn, AreCounted};
 
 use crate::lookups::Lookup;
-use crate::pixels::{found_for, page_at_place, put_samples, word_at_place};
+use crate::pixels::{found_for, page_at_place, put_pixel, word_at_place};
 use vt_camera::{Path, Row, Surface};
 use vt_pages::Geometry;
 
@@ -19,6 +20,8 @@ pub struct Shot<'a> {
     pub path: &'a Path,
     /// The picture's number, below the path's number of pictures.
     pub picture: u32,
+    /// How many bytes a sample has, 1 or 2.
+    pub depth: u32,
 }
 
 // Row y of the picture.
@@ -39,23 +42,56 @@ fn row_of(shot: &Shot, y: u32) -> Row
     Row::of(shot.path, &camera, y, &surface)
 }
 
-/// Draws row `y` of a picture: writes its samples to `out`, three bytes a pixel, and adds its pixels to the counts of their
-/// wanted pages.
+/// Draws row `y` of a picture: writes the bytes of its pixels to `out`, three samples a pixel, the most significant byte of a
+/// sample first, and adds its pixels to the counts of their wanted pages.
 ///
-/// `y` is below the picture's height, `out` has three bytes for each column, and `counts` has a number for each page, each of
-/// which can rise by the picture's width. The look-up is asked once for a run of neighbouring pixels that want the same page.
-/// It takes no memory and refuses nothing.
+/// `y` is below the picture's height, the shot's depth is 1 or 2, `out` has three samples of so many bytes for each column,
+/// and `counts` has a number for each page, each of which can rise by the picture's width. The look-up is asked once for a
+/// run of neighbouring pixels that want the same page. It takes no memory and refuses nothing.
 pub fn draw_row<K: Lookup>(lookup: &mut K, shot: &Shot, y: u32, out: &mut [u8], counts: &mut [u32])
+    requires depth { IsDepth shot.now.depth }
     requires picture { shot.now.picture < length shot.now.path.now.cameras }
     requires within { y < shot.now.path.now.height }
-    requires samples { length out.old ≡ 3 * shot.now.path.now.width }
+    requires bytes { length out.old ≡ texel_length shot.now.depth * shot.now.path.now.width }
     requires pages { length counts.old ≡ pages_of shot.now.geometry.now }
     requires room { (p : ℕ) → p < length counts.old → slice_index counts.old p + shot.now.path.now.width < 2 ^ 32 }
     requires shape { K.shape lookup.old ≡ shot.now.geometry.now }
     ensures drawn { let row = shot_row shot.now.geometry.now shot.now.path.now shot.now.picture y in
-        (x : ℕ) → x < shot.now.path.now.width → IsDrawn shot.now.geometry.now (K.version lookup.new) (K.says lookup.new) row x (samples_at out.new x) }
+        AreDrawn shot.now.geometry.now shot.now.depth (K.version lookup.new) (K.says lookup.new) row
+        shot.now.path.now.width out.new }
     ensures counted { let row = shot_row shot.now.geometry.now shot.now.path.now shot.now.picture y in
-        (p : ℕ) → p < length counts.new → slice_index counts.new p ≡ slice_index counts.old p + pixels_wanting shot.now.geometry.now row shot.now.path.now.width p }
+        AreCounted shot.now.geometry.now row shot.now.path.now.width counts.old counts.new }
+    ensures said { (note : Note) → K.says lookup.old note → K.says lookup.new note }
+    ensures version { K.version lookup.new ≡ K.version lookup.old }
+    ensures shape { K.shape lookup.new ≡ K.shape lookup.old }
+{
+    if shot.depth == 1 {
+        draw_pixels::<K, 1>(lookup, shot, y, out, counts);
+    } else {
+        draw_pixels::<K, 2>(lookup, shot, y, out, counts);
+    }
+}
+
+// Draws row `y` of a picture whose samples have DEPTH bytes.
+fn draw_pixels<K: Lookup, const DEPTH: u32>(
+    lookup: &mut K,
+    shot: &Shot,
+    y: u32,
+    out: &mut [u8],
+    counts: &mut [u32],
+)
+    requires depth { IsDepth DEPTH }
+    requires picture { shot.now.picture < length shot.now.path.now.cameras }
+    requires within { y < shot.now.path.now.height }
+    requires bytes { length out.old ≡ texel_length DEPTH * shot.now.path.now.width }
+    requires pages { length counts.old ≡ pages_of shot.now.geometry.now }
+    requires room { (p : ℕ) → p < length counts.old → slice_index counts.old p + shot.now.path.now.width < 2 ^ 32 }
+    requires shape { K.shape lookup.old ≡ shot.now.geometry.now }
+    ensures drawn { let row = shot_row shot.now.geometry.now shot.now.path.now shot.now.picture y in
+        AreDrawn shot.now.geometry.now DEPTH (K.version lookup.new) (K.says lookup.new) row
+        shot.now.path.now.width out.new }
+    ensures counted { let row = shot_row shot.now.geometry.now shot.now.path.now shot.now.picture y in
+        AreCounted shot.now.geometry.now row shot.now.path.now.width counts.old counts.new }
     ensures said { (note : Note) → K.says lookup.old note → K.says lookup.new note }
     ensures version { K.version lookup.new ≡ K.version lookup.old }
     ensures shape { K.shape lookup.new ≡ K.shape lookup.old }
@@ -72,7 +108,7 @@ pub fn draw_row<K: Lookup>(lookup: &mut K, shot: &Shot, y: u32, out: &mut [u8], 
         found = found_for(lookup, wanted, found, page);
         wanted = page;
         let word = word_at_place(lookup, &found, level, column, line);
-        put_samples(out, x, word);
+        put_pixel::<DEPTH>(out, x, word);
         counts[page as usize] += 1;
     }
 }

@@ -2,6 +2,9 @@
 
 mod tables;
 
+ghost use Rattle.std.specs.Prelude.{◌≡◌, ◌*◌, length};
+ghost use Rattle.vt_definitions.specs.Depths.{IsDepth};
+
 use crate::tests::tables::Table;
 use crate::{Shot, draw_plain, draw_row};
 use std::alloc::Global;
@@ -15,8 +18,17 @@ use vt_ppm::Image;
 // One picture of two pixels, from the height of one texel.
 const PATH: &[u8] = b"size 2 1\nfocal 1\nat 0 0 256 16384 0\n";
 
-// Draws the picture over a table that maps the pages from a level on: its samples, and the counts, which were 7 each.
-fn drawn(rt: &impl Abort, alloc: Global, least: u32) -> Result<([u8; 6], [u32; 5]), Fail> {
+// Draws the picture at a depth over a table that maps the pages from a level on: its bytes, and the counts, which were 7 each.
+fn draw(
+    rt: &impl Abort,
+    alloc: Global,
+    least: u32,
+    depth: u32,
+    out: &mut [u8],
+) -> Result<[u32; 5], Fail>
+    requires depth { IsDepth depth }
+    requires room { length out.old ≡ 6 * depth }
+{
     let geometry = Geometry::new(4, 4, 2)?;
     let path = parse_path(alloc, PATH)?;
     assert!(rt; geometry.page_count() == 5 && least < geometry.levels());
@@ -25,32 +37,44 @@ fn drawn(rt: &impl Abort, alloc: Global, least: u32) -> Result<([u8; 6], [u32; 5
         geometry: &geometry,
         path: &path,
         picture: 0,
+        depth,
     };
-    let mut table = Table::new(geometry, least);
-    let mut out = [0; 6];
+    let mut table = Table::new(geometry, least, depth == 2);
     let mut counts = [7; 5];
-    draw_row(&mut table, &shot, 0, &mut out, &mut counts);
-    Ok((out, counts))
+    draw_row(&mut table, &shot, 0, out, &mut counts);
+    Ok(counts)
 }
 
 #[test]
-fn every_page_mapped(rt: HostRuntime) -> Result<(), Fail> {
-    let (out, counts) = drawn(&rt, rt.alloc(), 0)?;
-    assert_eq!(rt; out, [0x0d, 0x0d, 0x0d, 0x01, 0x01, 0x01]);
+fn an_unmapped_page_is_served_by_its_ancestor(rt: HostRuntime) -> Result<(), Fail> {
+    for (least, samples) in [
+        (0, [0x0d, 0x0d, 0x0d, 0x01, 0x01, 0x01]),
+        (1, [0x0b, 0x0b, 0x0b, 0x03, 0x03, 0x03]),
+    ] {
+        let mut out = [0; 6];
+        let counts = draw(&rt, rt.alloc(), least, 1, &mut out)?;
+        assert_eq!(rt; out, samples, "mapped from level {least}");
+        assert_eq!(rt; counts, [8, 7, 8, 7, 7], "mapped from level {least}");
+    }
+    Ok(())
+}
+
+#[test]
+fn wide_samples_have_their_high_byte_first(rt: HostRuntime) -> Result<(), Fail> {
+    let mut out = [0; 12];
+    let counts = draw(&rt, rt.alloc(), 0, 2, &mut out)?;
+    assert_eq!(rt;
+        out,
+        [
+            0x80, 0x0d, 0x80, 0x0d, 0x80, 0x0d, 0x80, 0x01, 0x80, 0x01, 0x80, 0x01
+        ]
+    );
     assert_eq!(rt; counts, [8, 7, 8, 7, 7]);
     Ok(())
 }
 
 #[test]
-fn root_alone_mapped(rt: HostRuntime) -> Result<(), Fail> {
-    let (out, counts) = drawn(&rt, rt.alloc(), 1)?;
-    assert_eq!(rt; out, [0x0b, 0x0b, 0x0b, 0x03, 0x03, 0x03]);
-    assert_eq!(rt; counts, [8, 7, 8, 7, 7]);
-    Ok(())
-}
-
-#[test]
-fn whole_chain(rt: HostRuntime) -> Result<(), Fail> {
+fn the_plain_picture_shows_the_chain(rt: HostRuntime) -> Result<(), Fail> {
     let samples = [
         0, 0, 0, 1, 1, 1, 2, 2, 2, 3, 3, 3, 4, 4, 4, 5, 5, 5, 6, 6, 6, 7, 7, 7, 8, 8, 8, 9, 9, 9,
         10, 10, 10, 11, 11, 11, 12, 12, 12, 13, 13, 13, 14, 14, 14, 15, 15, 15,

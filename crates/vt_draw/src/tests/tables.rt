@@ -18,15 +18,20 @@ fn coarser(level: u32, least: u32) -> u32
 pub struct Table {
     geometry: Geometry,
     least: u32,
+    wide: bool,
     ghost within: { least < levels_of geometry },
 }
 
 impl Table {
-    pub fn new(geometry: Geometry, least: u32) -> Table
+    pub fn new(geometry: Geometry, least: u32, wide: bool) -> Table
         requires { least < levels_of geometry }
         ensures { result.geometry ≡ geometry }
     {
-        Table { geometry, least }
+        Table {
+            geometry,
+            least,
+            wide,
+        }
     }
 }
 
@@ -59,6 +64,10 @@ impl Lookup for Table {
         } else {
             3 + 8 * y + 2 * x
         };
-        grey * 0x010101
+        if self.wide {
+            (0x8000 + grey % 256) * 0x0001_0001_0001
+        } else {
+            grey % 256 * 0x0001_0101
+        }
     }
 }

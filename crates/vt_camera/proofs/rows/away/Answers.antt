@@ -9,7 +9,8 @@ small : (c : goal.Start) → unsigned_abs (c.args.off *ℤ c.args.across) ≤ 56
 small c = away_fits c.args.off c.args.across c.requires.off_low c.requires.off_high c.requires.across_low c.requires.across_high
 
 product : (c : goal.Start) → to_z w64 (of_z w64 (to_z w64 (of_z w64 c.args.off) *ℤ to_z w64 (of_z w64 c.args.across))) ≡ c.args.off *ℤ c.args.across
-product c = product_value w64 c.args.off c.args.across c.ranges.off c.ranges.across (fits_signed_from_abs w64 (c.args.off *ℤ c.args.across) (omega (arith, small c)))
+product c =
+    product_value w64 c.args.off c.args.across c.ranges.off c.ranges.across (fits_signed_from_abs w64 (c.args.off *ℤ c.args.across) (omega (arith, small c)))
 
 pub returns-clause-value : goal.returns-clause-value
 returns-clause-value c = product c

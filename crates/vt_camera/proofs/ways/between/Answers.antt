@@ -34,8 +34,11 @@ returns-clause-limits c = λ low high x y.
 pub overflow_add-result : goal.overflow_add-result
 overflow_add-result c =
     let distance : to_z w64 (of_z w64 (to_z w64 (of_z w64 c.args.b) -ℤ to_z w64 (of_z w64 c.args.a))) ≡ c.args.b -ℤ c.args.a = omega (arith, ints) in
-    let is : c.gone.result ≡ floor_div ((c.args.b -ℤ c.args.a) *ℤ pos c.args.i) c.args.n = c.gone.ensures ∙ ap (λ (z : ℤ). floor_div (z *ℤ pos c.args.i) c.args.n) distance in
-    let limits = gone_limits (c.args.b -ℤ c.args.a) c.args.i c.args.n c.requires.within (negsuc 4294967295) (pos 4294967296) (omega (arith, ints)) (omega (arith, ints)) (omega (arith, ints), omega (arith, ints)) in
+    let is : c.gone.result ≡ floor_div ((c.args.b -ℤ c.args.a) *ℤ pos c.args.i) c.args.n =
+    c.gone.ensures ∙ ap (λ (z : ℤ). floor_div (z *ℤ pos c.args.i) c.args.n) distance in
+    let limits =
+    gone_limits (c.args.b -ℤ c.args.a) c.args.i c.args.n c.requires.within (negsuc 4294967295) (pos 4294967296)
+    (omega (arith, ints)) (omega (arith, ints)) (omega (arith, ints), omega (arith, ints)) in
     let low : negsuc 4294967295 ≤ℤ c.gone.result = subst (λ (z : ℤ). negsuc 4294967295 ≤ℤ z) (sym is) limits.0 in
     let high : c.gone.result ≤ℤ pos 4294967296 = subst (λ (z : ℤ). z ≤ℤ pos 4294967296) (sym is) limits.1 in
     omega (arith, ints)

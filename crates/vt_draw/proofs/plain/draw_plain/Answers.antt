@@ -3,8 +3,8 @@ use Rattle.std.specs.Prelude.{pos}
 use Rattle.std.proofs.lemmas.Option.{get_or_from_slice_get}
 use Rattle.vt_camera.specs.declared.paths.Camera.{Camera}
 use Rattle.vt_camera.specs.declared.surfaces.Surface.{Surface}
-use Rattle.vt_draw.specs.Plain.{chain_of, surface_of, camera_at, picture_samples, plain_samples}
-use Rattle.vt_draw.proofs.Drawn.{length-picture_samples}
+use Rattle.vt_draw.specs.Plain.{chain_of, surface_of, camera_at, first_rows, plain_samples}
+use Rattle.vt_draw.proofs.Drawn.{length-first_rows}
 use Rattle.vt_draw.proofs.plain.draw_plain.Goals as goal
 
 -- the samples are those of all rows
@@ -14,13 +14,23 @@ same c =
     let base = c.args.chain.now.base in
     let path = c.args.path.now in
     c.in_ok-draw_rows.ensures
-    ∙ ap (λ (t : List ℕ). t ++ picture_samples (chain_of base) c.surface_of-surface.result path c.camera-camera.result path.height) c.in_ok-samples.ensures.items
-    ∙ ap (λ (s : Surface). picture_samples (chain_of base) s path c.camera-camera.result path.height) c.surface_of-surface.ensures.value
-    ∙ ap (λ (m : Camera). picture_samples (chain_of base) (surface_of base c.args.chain.now.tile) path m path.height) (sym (get_or_from_slice_get path.cameras c.args.picture c.camera-camera.result (record { u = pos 0; v = pos 0; h = pos 1; c = pos 0; s = pos 0 }) c.camera-camera.ensures.value))
+    ∙ ap (λ (t : List ℕ). t ++ first_rows (chain_of base) c.surface_of-surface.result path c.camera-camera.result path.height) c.in_ok-samples.ensures.items
+    ∙ ap (λ (s : Surface). first_rows (chain_of base) s path c.camera-camera.result path.height) c.surface_of-surface.ensures.value
+    ∙ ap (λ (m : Camera). first_rows (chain_of base) (surface_of base c.args.chain.now.tile) path m path.height)
+    (sym (get_or_from_slice_get path.cameras c.args.picture c.camera-camera.result (record {
+      u = pos 0;
+      v = pos 0;
+      h = pos 1;
+      c = pos 0;
+      s = pos 0;
+    }) c.camera-camera.ensures.value))
 
 pub returns : goal.returns
 unfolding plain_samples
 returns c = record {
   samples = same c;
-  size = ap length (same c) ∙ length-picture_samples (chain_of c.args.chain.now.base) (surface_of c.args.chain.now.base c.args.chain.now.tile) c.args.path.now (camera_at c.args.path.now c.args.picture) c.args.path.now.height;
+  size =
+      ap length (same c)
+      ∙ length-first_rows (chain_of c.args.chain.now.base) (surface_of c.args.chain.now.base c.args.chain.now.tile)
+      c.args.path.now (camera_at c.args.path.now c.args.picture) c.args.path.now.height;
 }

@@ -13,6 +13,9 @@ loop-x-preserved c =
     let level = c.level-level.result in
     let texel = c.texel_in_level-column in
     let width = c.size-width.result.0 in
-    pixel_drawn (chain_of chain.base) c.args.row c.loop-x.x level texel.result.0 texel.result.1 (chain_width chain level) (chain_height chain level) (3 * (texel.result.1 * width + texel.result.0)) width
+    pixel_drawn (chain_of chain.base) c.args.row c.loop-x.x level texel.result.0 texel.result.1
+    (chain_width chain level) (chain_height chain level) (3 * (texel.result.1 * width + texel.result.0)) width
     c.samples-texels.result.now c.loop-x.out c.put_texel.new.out c.samples-texels.ensures c.level-level.ensures.value texel.ensures.column texel.ensures.row
-    (rw (← c.level-level.ensures.value, c.requires.surface) at texel.ensures.column_within) (rw (← c.level-level.ensures.value, c.requires.surface) at texel.ensures.row_within) c.size-width.ensures.width refl c.loop-x.invariant c.put_texel.ensures
+    (rw (← c.level-level.ensures.value, c.requires.surface) at texel.ensures.column_within)
+    (rw (← c.level-level.ensures.value, c.requires.surface) at texel.ensures.row_within) c.size-width.ensures.width
+    refl c.loop-x.invariant c.put_texel.ensures

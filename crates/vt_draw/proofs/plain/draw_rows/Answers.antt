@@ -1,11 +1,11 @@
 use Rattle.std.proofs.Common.{ℕ, List, ◌++◌, ap, ◌∙◌}
 use Rattle.vt_camera.specs.Rows.{RowView, row_of}
 use Rattle.vt_draw.specs.Plain.{chain_of, row_samples}
-use Rattle.vt_draw.proofs.Drawn.{picture_samples-none, picture_samples-more}
+use Rattle.vt_draw.proofs.Drawn.{first_rows-none, first_rows-more}
 use Rattle.vt_draw.proofs.plain.draw_rows.Goals as goal
 
 pub loop-y-init : goal.loop-y-init
-loop-y-init c = picture_samples-none (chain_of c.args.chain.now.base) c.args.surface.now c.args.path.now c.args.camera.now c.args.samples.now.items
+loop-y-init c = first_rows-none (chain_of c.args.chain.now.base) c.args.surface.now c.args.path.now c.args.camera.now c.args.samples.now.items
 
 pub loop-y-preserved : goal.loop-y-preserved
 loop-y-preserved c =
@@ -17,4 +17,4 @@ loop-y-preserved c =
     ∙ ap (λ (r : RowView). c.loop-y.samples.items ++ row_samples source r c.width.result) c.of-row.ensures
     ∙ ap (λ (n : ℕ). c.loop-y.samples.items ++ row_samples source (row_of path c.args.camera.now y c.args.surface.now) n) c.width.ensures.value
     ∙ ap (λ (t : List ℕ). t ++ row_samples source (row_of path c.args.camera.now y c.args.surface.now) path.width) c.loop-y.invariant
-    ∙ picture_samples-more source c.args.surface.now path c.args.camera.now y c.args.samples.now.items
+    ∙ first_rows-more source c.args.surface.now path c.args.camera.now y c.args.samples.now.items

@@ -14,7 +14,15 @@ returns-clause-row c =
     let path = c.args.shot.now.path.now in
     let shape = c.args.shot.now.geometry.now in
     let camera : c.camera-camera.result ≡ camera_at path c.args.shot.now.picture =
-    sym (get_or_from_slice_get path.cameras c.args.shot.now.picture c.camera-camera.result (record { u = pos 0; v = pos 0; h = pos 1; c = pos 0; s = pos 0 }) c.camera-camera.ensures.value) in
+    sym
+    (get_or_from_slice_get path.cameras c.args.shot.now.picture c.camera-camera.result (record {
+      u = pos 0;
+      v = pos 0;
+      h = pos 1;
+      c = pos 0;
+      s = pos 0;
+    }) c.camera-camera.ensures.value)
+    in
     let sides : ◌≡◌ {A = Surface} (record { width = c.width.result; height = c.height.result; levels = c.levels.result }) (paged_surface shape) =
     λ i. record { width = c.width.ensures.width i; height = c.height.ensures.height i; levels = c.levels.ensures.levels i } in
     c.of.ensures

@@ -23,14 +23,16 @@ whole_places-requires-2-clause-high c = omega (arith, ints)
 off_fits : (c : goal.After-whole_places-2) → FitsSigned w64 c.half_pixels-off.result
 off_fits c = omega (arith, ints)
 
-column_away : (c : goal.After-whole_places-2) → c.away.result ≡ off_middle c.self.inside.width c.args.x *ℤ (pos (span c.self.inside.camera c.self.inside.y) *ℤ c.self.inside.camera.s)
+column_away : (c : goal.After-whole_places-2)
+    → c.away.result ≡ off_middle c.self.inside.width c.args.x *ℤ (pos (span c.self.inside.camera c.self.inside.y) *ℤ c.self.inside.camera.s)
 column_away c =
     let across : FitsSigned w64 c.self.inside.columns.across = omega (arith, ints) in
     c.away.ensures.value
     ∙ ap (λ (z : ℤ). z *ℤ to_z w64 (of_z w64 c.self.inside.columns.across)) (to_z-of_z (off_fits c) ∙ c.half_pixels-off.ensures.value)
     ∙ ap (λ (z : ℤ). off_middle c.self.inside.width c.args.x *ℤ z) (to_z-of_z across ∙ c.self.invariant.columns_are.across_is)
 
-row_away : (c : goal.After-whole_places-2) → c.away-2.result ≡ off_middle c.self.inside.width c.args.x *ℤ (pos (span c.self.inside.camera c.self.inside.y) *ℤ c.self.inside.camera.c)
+row_away : (c : goal.After-whole_places-2)
+    → c.away-2.result ≡ off_middle c.self.inside.width c.args.x *ℤ (pos (span c.self.inside.camera c.self.inside.y) *ℤ c.self.inside.camera.c)
 row_away c =
     let across : FitsSigned w64 c.self.inside.rows.across = omega (arith, ints) in
     c.away-2.ensures.value
@@ -44,7 +46,8 @@ returns-clause-column c =
     subst Shown c.self.view_is
     (column_shown row.width row.focal row.camera c.args.x row.y row.surface.width row.surface.height row.columns.middle c.away.result
     (to_z w64 (of_z w64 (to_z w64 (of_z w64 row.columns.middle) -ℤ to_z w64 (of_z w64 c.away.result)))) c.whole_places.result
-    c.self.invariant.surface.width_low c.self.invariant.columns_are.middle_is (column_away c) (omega (arith, ints)) (omega (arith, ints)) c.whole_places.ensures.value)
+    c.self.invariant.surface.width_low c.self.invariant.columns_are.middle_is (column_away c) (omega (arith, ints))
+    (omega (arith, ints)) c.whole_places.ensures.value)
 
 pub returns-clause-row : goal.returns-clause-row
 returns-clause-row c =
@@ -53,4 +56,5 @@ returns-clause-row c =
     subst Shown c.self.view_is
     (row_shown row.width row.focal row.camera c.args.x row.y row.surface.width row.surface.height row.rows.middle c.away-2.result
     (to_z w64 (of_z w64 (to_z w64 (of_z w64 row.rows.middle) +ℤ to_z w64 (of_z w64 c.away-2.result)))) c.whole_places-2.result
-    c.self.invariant.surface.height_low c.self.invariant.rows_are.middle_is (row_away c) (omega (arith, ints)) (omega (arith, ints)) c.whole_places-2.ensures.value)
+    c.self.invariant.surface.height_low c.self.invariant.rows_are.middle_is (row_away c) (omega (arith, ints))
+    (omega (arith, ints)) c.whole_places-2.ensures.value)

@@ -4,10 +4,12 @@ use Rattle.vt_camera.proofs.Rings.{turn_most, kept_level_texel, small_quotient, 
 use Rattle.vt_camera.proofs.rows.Row.texel_in_level.Goals as goal
 
 pub on_ring-requires : goal.on_ring-requires
-on_ring-requires c = omega (arith, c.self.invariant.columns_are.turn_is, turn_most c.self.inside.surface.width c.self.inside.level c.self.invariant.surface.width_high)
+on_ring-requires c =
+    omega (arith, c.self.invariant.columns_are.turn_is, turn_most c.self.inside.surface.width c.self.inside.level c.self.invariant.surface.width_high)
 
 pub on_ring-requires-2 : goal.on_ring-requires-2
-on_ring-requires-2 c = omega (arith, c.self.invariant.rows_are.turn_is, turn_most c.self.inside.surface.height c.self.inside.level c.self.invariant.surface.height_high)
+on_ring-requires-2 c =
+    omega (arith, c.self.invariant.rows_are.turn_is, turn_most c.self.inside.surface.height c.self.inside.level c.self.invariant.surface.height_high)
 
 pub overflow_cast-result : goal.overflow_cast-result
 overflow_cast-result c =
@@ -16,7 +18,10 @@ overflow_cast-result c =
       arith,
       c.self.invariant.surface.width_high,
       small_quotient (c.ground-u.result.0 / 256) row.surface.width row.level c.self.invariant.surface.width_low,
-      kept_level_texel c.ground-u.result.0 row.surface.width row.level row.columns.part row.columns.turn c.on_ring.result c.self.invariant.surface.width_low c.self.invariant.surface.width_high c.self.invariant.level_high c.ground-u.ensures.column_high c.self.invariant.columns_are.part_is c.self.invariant.columns_are.turn_is c.on_ring.ensures,
+      kept_level_texel c.ground-u.result.0 row.surface.width row.level row.columns.part row.columns.turn
+          c.on_ring.result c.self.invariant.surface.width_low c.self.invariant.surface.width_high
+          c.self.invariant.level_high c.ground-u.ensures.column_high c.self.invariant.columns_are.part_is
+          c.self.invariant.columns_are.turn_is c.on_ring.ensures,
     )
 
 pub overflow_cast-result-2 : goal.overflow_cast-result-2
@@ -26,20 +31,29 @@ overflow_cast-result-2 c =
       arith,
       c.self.invariant.surface.height_high,
       small_quotient (c.ground-u.result.1 / 256) row.surface.height row.level c.self.invariant.surface.height_low,
-      kept_level_texel c.ground-u.result.1 row.surface.height row.level row.rows.part row.rows.turn c.on_ring-2.result c.self.invariant.surface.height_low c.self.invariant.surface.height_high c.self.invariant.level_high c.ground-u.ensures.row_high c.self.invariant.rows_are.part_is c.self.invariant.rows_are.turn_is c.on_ring-2.ensures,
+      kept_level_texel c.ground-u.result.1 row.surface.height row.level row.rows.part row.rows.turn c.on_ring-2.result
+          c.self.invariant.surface.height_low c.self.invariant.surface.height_high c.self.invariant.level_high
+          c.ground-u.ensures.row_high c.self.invariant.rows_are.part_is c.self.invariant.rows_are.turn_is
+          c.on_ring-2.ensures,
     )
 
 column_is : (c : goal.After-on_ring-2) → c.on_ring.result / 65536 ≡ c.ground-u.result.0 / 256 % c.args.self.now.surface.width / 2 ^ row_level c.args.self.now
 column_is c =
     let row = c.self.inside in
-    kept_level_texel c.ground-u.result.0 row.surface.width row.level row.columns.part row.columns.turn c.on_ring.result c.self.invariant.surface.width_low c.self.invariant.surface.width_high c.self.invariant.level_high c.ground-u.ensures.column_high c.self.invariant.columns_are.part_is c.self.invariant.columns_are.turn_is c.on_ring.ensures
+    kept_level_texel c.ground-u.result.0 row.surface.width row.level row.columns.part row.columns.turn
+    c.on_ring.result c.self.invariant.surface.width_low c.self.invariant.surface.width_high
+    c.self.invariant.level_high c.ground-u.ensures.column_high c.self.invariant.columns_are.part_is
+    c.self.invariant.columns_are.turn_is c.on_ring.ensures
     ∙ ap (λ (k : ℕ). c.ground-u.result.0 / 256 % row.surface.width / 2 ^ k) c.self.invariant.level_is
     ∙ ap (λ (r : RowView). c.ground-u.result.0 / 256 % r.surface.width / 2 ^ row_level r) c.self.view_is
 
 row_is : (c : goal.After-on_ring-2) → c.on_ring-2.result / 65536 ≡ c.ground-u.result.1 / 256 % c.args.self.now.surface.height / 2 ^ row_level c.args.self.now
 row_is c =
     let row = c.self.inside in
-    kept_level_texel c.ground-u.result.1 row.surface.height row.level row.rows.part row.rows.turn c.on_ring-2.result c.self.invariant.surface.height_low c.self.invariant.surface.height_high c.self.invariant.level_high c.ground-u.ensures.row_high c.self.invariant.rows_are.part_is c.self.invariant.rows_are.turn_is c.on_ring-2.ensures
+    kept_level_texel c.ground-u.result.1 row.surface.height row.level row.rows.part row.rows.turn c.on_ring-2.result
+    c.self.invariant.surface.height_low c.self.invariant.surface.height_high c.self.invariant.level_high
+    c.ground-u.ensures.row_high c.self.invariant.rows_are.part_is c.self.invariant.rows_are.turn_is
+    c.on_ring-2.ensures
     ∙ ap (λ (k : ℕ). c.ground-u.result.1 / 256 % row.surface.height / 2 ^ k) c.self.invariant.level_is
     ∙ ap (λ (r : RowView). c.ground-u.result.1 / 256 % r.surface.height / 2 ^ row_level r) c.self.view_is
 

@@ -22,7 +22,8 @@ returns-clause-finest c =
       page = c.ancestor_at-page.ensures.ancestor;
       level = sym reached;
       unmapped = λ i from high.
-          let at : level_of s (ancestor_of s p i) ≡ i = (ancestor_is_page s p i (omega arith) c.page_at.ensures.limits.least_width c.requires from (omega arith)).level in
+          let at : level_of s (ancestor_of s p i) ≡ i =
+          (ancestor_is_page s p i (omega arith) c.page_at.ensures.limits.least_width c.requires from (omega arith)).level in
           (λ _. refl, λ (over : c.args.self.now.least ≤ level_of s (ancestor_of s p i)). absurd (omega arith));
       mapped = (λ (over : level_of s c.ancestor_at-page.result < c.args.self.now.least). absurd (omega arith), λ _. refl);
     }

@@ -1,9 +1,9 @@
 use Rattle.std.proofs.Common.{◌≡◌, ℕ, ◌<◌, length, subst, sym, ◌∙◌, arith}
 use Rattle.vt_draw.specs.Lookups.{IsFinest}
-use Rattle.vt_draw.specs.Shots.{wanted_page, samples_at, IsDrawn}
+use Rattle.vt_draw.specs.Shots.{wanted_page, pixel_bytes, IsDrawn}
 use Rattle.vt_draw.proofs.Counts.{pixels-none, pixels-most, counted-more}
 use Rattle.vt_draw.proofs.DrawnPixels.{finest_moved, drawn-more, wanted_is, read_is}
-use Rattle.vt_draw.proofs.shots.draw_row.Goals as goal
+use Rattle.vt_draw.proofs.shots.draw_pixels.Goals as goal
 
 pub loop-x-init : goal.loop-x-init
 loop-x-init g c = record {
@@ -19,7 +19,12 @@ pub overflow_add-counts : goal.overflow_add-counts
 overflow_add-counts g c =
     let page = c.page_at_place-page.result in
     let below : page < length c.args.counts.now = omega arith in
-    omega (arith, c.loop-x.invariant.counted page below, c.requires.room page below, pixels-most c.args.shot.now.geometry.now c.row_of-row.result c.loop-x.x page)
+    omega (
+      arith,
+      c.loop-x.invariant.counted page below,
+      c.requires.room page below,
+      pixels-most c.args.shot.now.geometry.now c.row_of-row.result c.loop-x.x page,
+    )
 
 pub loop-x-preserved : goal.loop-x-preserved
 loop-x-preserved g c =
@@ -34,19 +39,26 @@ loop-x-preserved g c =
     let shape : g.K.Lookup.shape last ≡ s = c.word_at_place-word.ensures.shape ∙ c.found_for-found.ensures.shape ∙ c.loop-x.invariant.shape in
     let number : g.K.Lookup.version last ≡ version = c.word_at_place-word.ensures.version ∙ c.found_for-found.ensures.version ∙ c.loop-x.invariant.version in
     let finest : IsFinest (g.K.Lookup.shape last) (g.K.Lookup.version last) (g.K.Lookup.says last) page found =
-    finest_moved (g.K.Lookup.shape middle) (g.K.Lookup.shape last) (g.K.Lookup.version middle) (g.K.Lookup.version last) (g.K.Lookup.says middle) (g.K.Lookup.says last) page found
+    finest_moved (g.K.Lookup.shape middle) (g.K.Lookup.shape last) (g.K.Lookup.version middle)
+    (g.K.Lookup.version last) (g.K.Lookup.says middle) (g.K.Lookup.says last) page found
     c.word_at_place-word.ensures.shape c.word_at_place-word.ensures.version c.word_at_place-word.ensures.said c.found_for-found.ensures.finest in
     let here = c.texel-column-in-loop-x in
     let wants : page ≡ wanted_page s row x =
-    wanted_is s row x page c.level-level.result here.result.0 here.result.1 c.page_at_place-page.ensures.page c.level-level.ensures.value here.ensures.column here.ensures.row in
+    wanted_is s row x page c.level-level.result here.result.0 here.result.1 c.page_at_place-page.ensures.page
+    c.level-level.ensures.value here.ensures.column here.ensures.row in
     let F : ℕ → Type 0 = λ p. IsFinest s version (g.K.Lookup.says last) p found in
-    let drawn : IsDrawn s version (g.K.Lookup.says last) row x (samples_at c.put_samples.new.out x) = record {
+    let drawn : IsDrawn s g.row.DEPTH version (g.K.Lookup.says last) row x (pixel_bytes g.row.DEPTH c.put_pixel.new.out x) = record {
       found = found;
       word = c.word_at_place-word.result;
-      finest = subst F wants (finest_moved (g.K.Lookup.shape last) s (g.K.Lookup.version last) version (g.K.Lookup.says last) (g.K.Lookup.says last) page found (sym shape) (sym number) (λ note h. h) finest);
-      read = read_is s (g.K.Lookup.shape last) version (g.K.Lookup.version last) (g.K.Lookup.says last) row x found.slot c.word_at_place-word.result found.level here.result.0 here.result.1
+      finest =
+          subst F wants
+          (finest_moved (g.K.Lookup.shape last) s (g.K.Lookup.version last) version (g.K.Lookup.says last)
+          (g.K.Lookup.says last) page found (sym shape) (sym number) (λ note h. h) finest);
+      read =
+          read_is s (g.K.Lookup.shape last) version (g.K.Lookup.version last) (g.K.Lookup.says last) row x found.slot
+          c.word_at_place-word.result found.level here.result.0 here.result.1
           shape number here.ensures.column here.ensures.row c.word_at_place-word.ensures.read;
-      shown = c.put_samples.ensures.written;
+      shown = c.put_pixel.ensures.written;
     } in
     let below : page < length c.loop-x.counts = omega arith in
     record {
@@ -54,7 +66,7 @@ loop-x-preserved g c =
       version = number;
       said = λ note h. c.word_at_place-word.ensures.said note (c.found_for-found.ensures.said note (c.loop-x.invariant.said note h));
       finest = finest;
-      drawn = drawn-more s version (g.K.Lookup.says c.loop-x.lookup) (g.K.Lookup.says last) row x c.loop-x.out c.put_samples.new.out
-          (λ note h. c.word_at_place-word.ensures.said note (c.found_for-found.ensures.said note h)) c.put_samples.ensures.kept drawn c.loop-x.invariant.drawn;
+      drawn = drawn-more s g.row.DEPTH version (g.K.Lookup.says c.loop-x.lookup) (g.K.Lookup.says last) row x c.loop-x.out c.put_pixel.new.out
+          (λ note h. c.word_at_place-word.ensures.said note (c.found_for-found.ensures.said note h)) c.put_pixel.ensures.kept drawn c.loop-x.invariant.drawn;
       counted = counted-more s row x page c.args.counts.now c.loop-x.counts wants below c.loop-x.invariant.counted;
     }

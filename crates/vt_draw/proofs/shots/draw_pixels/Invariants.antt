@@ -1,7 +1,7 @@
 use Rattle.std.proofs.Common.{◌≡◌, ℕ, ◌+◌, ◌<◌, length, slice_index}
 use Rattle.vt_draw.specs.Lookups.{Note, IsFinest}
-use Rattle.vt_draw.specs.Shots.{pixels_wanting, samples_at, IsDrawn}
-use Rattle.vt_draw.proofs.shots.draw_row.Given as goal
+use Rattle.vt_draw.specs.Shots.{pixels_wanting, pixel_bytes, IsDrawn}
+use Rattle.vt_draw.proofs.shots.draw_pixels.Given as goal
 
 -- the pixels so far are drawn and counted, and the look-up stands for what was found for the last of them
 abbrev pub invariant-loop-x : goal.invariant-loop-x
@@ -10,6 +10,6 @@ invariant-loop-x g l = record {
   version : g.K.Lookup.version l.lookup ≡ g.K.Lookup.version l.fn.lookup;
   said : (note : Note) → g.K.Lookup.says l.fn.lookup note → g.K.Lookup.says l.lookup note;
   finest : IsFinest (g.K.Lookup.shape l.lookup) (g.K.Lookup.version l.lookup) (g.K.Lookup.says l.lookup) l.wanted l.found;
-  drawn : (i : ℕ) → i < l.x → IsDrawn l.geometry (g.K.Lookup.version l.fn.lookup) (g.K.Lookup.says l.lookup) l.row i (samples_at l.out i);
+  drawn : (i : ℕ) → i < l.x → IsDrawn l.geometry g.row.DEPTH (g.K.Lookup.version l.fn.lookup) (g.K.Lookup.says l.lookup) l.row i (pixel_bytes g.row.DEPTH l.out i);
   counted : (p : ℕ) → p < length l.fn.counts → slice_index l.counts p ≡ slice_index l.fn.counts p + pixels_wanting l.geometry l.row l.x p;
 }
