@@ -1,5 +1,5 @@
 pub mod Accepted
-pub mod Faults
+pub mod Flaws
 pub mod Lines
 pub mod Opening
 pub mod Spans

@@ -1,5 +1,7 @@
 pub mod Format
+pub mod ChainStores
 pub mod Laws
-pub mod Opened
+pub mod StoreViews
+pub mod Places
 pub mod Refusals
-pub mod Written
+pub mod TileLines

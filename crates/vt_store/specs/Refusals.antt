@@ -4,13 +4,13 @@ use Rattle.vt_outside.specs.declared.answers.OutsideError.TheVariants as outside
 use Rattle.vt_store.specs.declared.error.StoreError.{StoreError}
 use Rattle.vt_store.specs.declared.error.StoreError.TheVariants.{Failed, NoMemory}
 
--- a refusal that the file or the memory makes (this project's profile)
-abbrev pub IsFault : StoreError → Type 0
-IsFault Failed = Unit {0}
-IsFault NoMemory = Unit {0}
-IsFault _ = ⊥
+-- a refusal that the file or the memory makes
+abbrev pub IsOutsideRefusal : StoreError → Type 0
+IsOutsideRefusal Failed = Unit {0}
+IsOutsideRefusal NoMemory = Unit {0}
+IsOutsideRefusal _ = ⊥
 
--- the refusal that a call on the outside makes (this project's profile)
+-- the refusal that a call on the outside makes
 abbrev pub refusal_by : OutsideError → StoreError
 refusal_by outside_error.Failed = Failed
 refusal_by outside_error.NoMemory = NoMemory

@@ -8,9 +8,13 @@ mod store;
 mod write;
 
 pub use error::StoreError;
-pub use laws::{pieces_hold_texels, stores_hold_sources, stores_open};
+pub use header::{store_length, tile_length};
+pub use laws::{
+    pieces_hold_texels, stored_words_are_small, stores_hold_chains, stores_hold_sources,
+    stores_open,
+};
 pub use store::Store;
-pub use write::write_store;
+pub use write::{tile_columns, write_store};
 
 #[cfg(test)]
 mod tests;

@@ -1,14 +1,16 @@
 //! A store that is read tile by tile.
-ghost use Rattle.std.specs.Prelude.{◌≡◌, ℕ, ◌+◌, ◌*◌, ◌<◌, ◌≤◌, ◌≢◌, length, false, is_err, option_map, Option, Some, None, IsErr, IsErrOf, IfOk, IfErr, IfSome, OnOk, OnErr};
+ghost use Rattle.std.specs.Prelude.{◌≡◌, ◌+◌, ◌*◌, ◌<◌, ◌≤◌, length, is_err, Some, IsErr, IsErrOf, IfOk, IfErr, IfSome, OnOk, OnErr};
+ghost use Rattle.std.specs.Result.{result_err};
 ghost use Rattle.vt_outside.specs.Counts.{Rose};
-ghost use Rattle.vt_outside.specs.Files.{IsPiece, noted};
+ghost use Rattle.vt_outside.specs.Files.{IsPiece};
 ghost use Rattle.vt_pages.specs.Pages.{pages_of};
-ghost use Rattle.vt_store.specs.Format.{store_fault, tile_start, tile_length};
-ghost use Rattle.vt_store.specs.Opened.{StoreView, IsStore, IsStoreIfTold, file_after, AsksOneAtMost};
-ghost use Rattle.vt_store.specs.Refusals.{IsFault};
+ghost use Rattle.vt_store.specs.Format.{store_flaw, tile_start, tile_length};
+ghost use Rattle.vt_store.specs.Places.{OpenerAsks, TileAsked};
+ghost use Rattle.vt_store.specs.StoreViews.{IsStoreIfTold, file_after, refusal_in};
+ghost use Rattle.vt_store.specs.Refusals.{IsOutsideRefusal};
 
 use crate::StoreError;
-use crate::header::{HEADER_LENGTH, geometry_of, tile_start};
+use crate::header::{HEADER_LENGTH, header_geometry, tile_start};
 use std::marker::Model;
 use vt_outside::{Failed, File, NoMemory};
 use vt_pages::Geometry;
@@ -20,7 +22,7 @@ pub struct Store<F: File> {
 }
 
 impl<F: File> Model for Store<F> {
-    ghost use Rattle.vt_store.specs.Opened.{StoreView, IsStoreIfTold};
+    ghost use Rattle.vt_store.specs.StoreViews.{StoreView, IsStoreIfTold};
 
     ghost Value = { StoreView F };
 
@@ -29,13 +31,12 @@ impl<F: File> Model for Store<F> {
     ghost invariant = { λ s. IsStoreIfTold (F.bytes s.file) s.geometry };
 }
 
-/// Reads the header of a file, by one read of its first 16 bytes, or of all where there are fewer.
+// Reads the header of a file, by one read of its first 16 bytes, or of all where there are fewer.
 fn read_geometry<F: File>(file: &mut F) -> Result<Geometry, StoreError>
     ensures store { IfOk result (λ g. IsStoreIfTold (F.bytes file.old) g) }
-    ensures fault { IfErr result (λ e. (IsFault e → ⊥) → IfSome (F.bytes file.old) (λ b. store_fault b ≡ Some e)) }
+    ensures flaw { IfErr result (λ e. (IsOutsideRefusal e → ⊥) → IfSome (F.bytes file.old) (λ b. store_flaw b ≡ Some e)) }
     ensures failed { IsErrOf result StoreError.Failed → Rose (F.faults file.old) (F.faults file.new) }
-    ensures read { OnOk result (F.asked file.new ≡ option_map (noted 0 16 false) (F.asked file.old)) }
-    ensures asked { AsksOneAtMost (F.asked file.old) (F.asked file.new) }
+    ensures asked { OpenerAsks (F.bytes file.old) (result_err result) (F.asked file.old) (F.asked file.new) }
     ensures bytes { F.bytes file.new ≡ F.bytes file.old }
     ensures name { F.name file.new ≡ F.name file.old }
     ensures faults { F.faults file.old ≤ F.faults file.new }
@@ -45,21 +46,21 @@ fn read_geometry<F: File>(file: &mut F) -> Result<Geometry, StoreError>
     let mut buffer = [0; HEADER_LENGTH];
     let head = &mut buffer[..have.min(HEADER_LENGTH as u64) as usize];
     file.read_at(0, head)?;
-    geometry_of(head, have)
+    header_geometry(head, have)
 }
 
 impl<F: File> Store<F> {
     /// Opens the store of a file: asks its length, and reads its first 16 bytes, or all where there are fewer.
     /// A refusal hands the file back.
     ///
-    /// Where the file tells its bytes, `BadMagic`, `BadGeometry` and `WrongLength` come exactly as the first fault of those
-    /// bytes. `Failed` comes only where the file's count of faults rose, and `NoMemory` where memory was refused.
+    /// Where the file tells its bytes, `BadMagic`, `BadGeometry` and `WrongLength` come exactly as the first flaw of those
+    /// bytes, after that one read. `Failed` comes only where the file's count of faults rose, before the read or by it, and
+    /// `NoMemory` where memory was refused, before the read.
     pub fn open(mut file: F) -> Result<Store<F>, (F, StoreError)>
         ensures store { IfOk result (λ s. IsStoreIfTold (F.bytes file) s.shape) }
-        ensures fault { IfErr result (λ e. (IsFault e.1 → ⊥) → IfSome (F.bytes file) (λ b. store_fault b ≡ Some e.1)) }
+        ensures flaw { IfErr result (λ e. (IsOutsideRefusal e.1 → ⊥) → IfSome (F.bytes file) (λ b. store_flaw b ≡ Some e.1)) }
         ensures failed { IfErr result (λ e. e.1 ≡ StoreError.Failed → Rose (F.faults file) (F.faults e.0)) }
-        ensures read { IfOk result (λ s. F.asked s.file ≡ option_map (noted 0 16 false) (F.asked file)) }
-        ensures asked { AsksOneAtMost (F.asked file) (F.asked (file_after result)) }
+        ensures asked { OpenerAsks (F.bytes file) (refusal_in result) (F.asked file) (F.asked (file_after result)) }
         ensures bytes { F.bytes (file_after result) ≡ F.bytes file }
         ensures name { F.name (file_after result) ≡ F.name file }
         ensures faults { F.faults file ≤ F.faults (file_after result) }
@@ -103,7 +104,7 @@ impl<F: File> Store<F> {
         requires page { page < pages_of self.old.shape }
         ensures tile { OnOk result (IfSome (F.bytes self.old.file) (λ b. IsPiece b (tile_start self.old.shape page) buf.new)) }
         ensures failed { IsErr result → Rose (F.faults self.old.file) (F.faults self.new.file) }
-        ensures asked { F.asked self.new.file ≡ option_map (noted (tile_start self.old.shape page) (tile_length self.old.shape) (is_err result)) (F.asked self.old.file) }
+        ensures asked { TileAsked self.old.shape page (is_err result) (F.asked self.old.file) (F.asked self.new.file) }
         ensures spare { F.spare self.old.file ≤ F.spare self.new.file + 1 }
         ensures bytes { F.bytes self.new.file ≡ F.bytes self.old.file }
         ensures name { F.name self.new.file ≡ F.name self.old.file }

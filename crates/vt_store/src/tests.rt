@@ -1,4 +1,4 @@
-use crate::{Store, StoreError, write_store};
+use crate::{Store, StoreError, store_length, tile_columns, tile_length, write_store};
 use std::alloc::Global;
 use std::test::Fail as TestFail;
 use vt_mip::Chain;
@@ -91,8 +91,22 @@ fn image_g4(alloc: Global) -> Result<Image, NoMemory> {
     Ok(Image::new(4, 4, Vec::from_array(alloc, samples)?))
 }
 
+// The name `a` was asked for one place, the header of its bytes.
+fn header_was_read(folder: &MemoryFolder, bytes: &[u8]) -> bool {
+    folder.asked("a", 0) == read_of(0, bytes.len().min(16) as u64) && folder.asked("a", 1).is_none()
+}
+
+// A read that did not fail.
+fn read_of(at: u64, len: u64) -> Option<Place> {
+    Some(Place {
+        at,
+        len,
+        failed: false,
+    })
+}
+
 #[test]
-fn four_by_four(rt: HostRuntime) -> Result<(), TestFail> {
+fn a_store_is_written_and_read_tile_by_tile(rt: HostRuntime) -> Result<(), TestFail> {
     let mut folder = folder_of(rt.alloc(), &[], b"old")?;
     let image = image_g4(rt.alloc())?;
     written(rt.alloc(), &mut folder, image)?;
@@ -100,19 +114,23 @@ fn four_by_four(rt: HostRuntime) -> Result<(), TestFail> {
     assert_eq!(rt; opened(&mut folder, "b"), Ok((4, 4, 2)));
     let want = [2, 2, 2, 3, 3, 3, 6, 6, 6, 7, 7, 7];
     assert_eq!(rt; tile_of(&mut folder, "b", 1), Some(want));
-    let place = |at, len| Some(Place {
-        at,
-        len,
-        failed: false,
-    });
-    assert_eq!(rt; folder.asked("b", 1), place(0, 16));
-    assert_eq!(rt; folder.asked("b", 2), place(28, 12));
+    assert_eq!(rt; folder.asked("b", 1), read_of(0, 16));
+    assert_eq!(rt; folder.asked("b", 2), read_of(28, 12));
     assert!(rt; folder.asked("b", 3).is_none());
     Ok(())
 }
 
 #[test]
-fn one_by_one(rt: HostRuntime) -> Result<(), TestFail> {
+fn a_geometry_tells_the_lengths_of_its_store(rt: HostRuntime) {
+    if let Ok(geometry) = Geometry::new(5, 3, 2) {
+        assert_eq!(rt; store_length(&geometry), 124);
+        assert_eq!(rt; tile_length(&geometry), 12);
+        assert_eq!(rt; tile_columns(&geometry, 0), 3);
+    }
+}
+
+#[test]
+fn one_texel_fills_a_tile(rt: HostRuntime) -> Result<(), TestFail> {
     let mut folder = folder_of(rt.alloc(), &[], b"old")?;
     let image = Image::new(1, 1, Vec::from_array(rt.alloc(), [10, 20, 30])?);
     written(rt.alloc(), &mut folder, image)?;
@@ -125,7 +143,7 @@ fn one_by_one(rt: HostRuntime) -> Result<(), TestFail> {
 }
 
 #[test]
-fn odd_sides(rt: HostRuntime) -> Result<(), TestFail> {
+fn past_the_edge_the_last_texel_stands_again(rt: HostRuntime) -> Result<(), TestFail> {
     let mut folder = folder_of(rt.alloc(), &[], b"old")?;
     let samples = [
         0, 0, 0, 1, 1, 1, 2, 2, 2, 3, 3, 3, 4, 4, 4, 10, 10, 10, 11, 11, 11, 12, 12, 12, 13, 13,
@@ -144,33 +162,38 @@ fn odd_sides(rt: HostRuntime) -> Result<(), TestFail> {
 }
 
 #[test]
-fn refusals(rt: HostRuntime) -> Result<(), TestFail> {
+fn each_flaw_is_named_after_one_read_of_the_header(rt: HostRuntime) -> Result<(), TestFail> {
     let longer = [0; 77];
     let mut bytes = longer;
     bytes[..76].copy_from_slice(&STORE_G4);
     let mut other_tile = STORE_G4;
     other_tile[15] = 3;
+    let mut wide = STORE_G4;
+    wide[6..12].copy_from_slice(&[32, 0, 0, 0, 32, 0]);
     let wrong = |want, have| Err(StoreError::WrongLength { want, have });
     let rows = [
         (&STORE_G4[..3], Err(StoreError::BadMagic)),
         (b"VTS2".as_slice(), Err(StoreError::BadMagic)),
         (&STORE_G4[..4], wrong(16, 4)),
+        (b"VTS1\0".as_slice(), wrong(16, 5)),
         (&STORE_G4[..15], wrong(16, 15)),
         (&STORE_G4[..16], wrong(76, 16)),
         (&STORE_G4[..75], wrong(76, 75)),
         (&other_tile[..], Err(StoreError::BadGeometry)),
+        (&wide[..], Err(StoreError::BadGeometry)),
         (&bytes[..], wrong(76, 77)),
         (&STORE_G4[..], Ok((4, 4, 2))),
     ];
     for (bytes, want) in rows {
         let mut folder = folder_of(rt.alloc(), &[], bytes)?;
         assert_eq!(rt; opened(&mut folder, "a"), want);
+        assert!(rt; header_was_read(&folder, bytes));
     }
     Ok(())
 }
 
 #[test]
-fn faults(rt: HostRuntime) -> Result<(), TestFail> {
+fn a_fault_leaves_a_front_part_of_the_store(rt: HostRuntime) -> Result<(), TestFail> {
     let calls = [
         Fail::Length { opening: 0 },
         Fail::Read {

@@ -1,21 +1,23 @@
 //! Writing the store of a mip chain.
-ghost use Rattle.std.specs.Prelude.{◌≡◌, ℕ, ◌+◌, ◌-◌, ◌*◌, ◌/◌, ◌%◌, ◌<◌, ◌≤◌, ◌⊎◌, ◌++◌, length, take, option_map, slice_index, IfOk, IfErr, OnOk, OnErr, IsErrOf};
+ghost use Rattle.std.specs.Prelude.{◌≡◌, ℕ, ◌+◌, ◌-◌, ◌*◌, ◌/◌, ◌<◌, ◌≤◌, ◌⊎◌, length, take, option_map, slice_index, IfErr, OnOk, OnErr, IsErrOf};
 ghost use Rattle.vt_outside.specs.Counts.{Rose};
 ghost use Rattle.vt_outside.specs.Files.{with_bytes};
 ghost use Rattle.vt_mip.specs.Chains.{chain_texel};
-ghost use Rattle.vt_pages.specs.Pages.{pages_of, columns_at, name_at, IsWithinLimits};
-ghost use Rattle.vt_store.specs.Format.{header_bytes, tile_length, tiles_bytes};
-ghost use Rattle.vt_store.specs.Written.{HasShape, IsSpan, GainsLine, chain_store};
-ghost use Rattle.vt_store.specs.Refusals.{IsFault};
+ghost use Rattle.vt_definitions.specs.Limits.{most_tiled_side};
+ghost use Rattle.vt_pages.specs.Pages.{pages_of, levels_of, columns_at, name_at};
+ghost use Rattle.vt_store.specs.Format.{tile_length, tiles_bytes};
+ghost use Rattle.vt_store.specs.ChainStores.{HasShape, chain_store};
+ghost use Rattle.vt_store.specs.TileLines.{IsSpan, GainsLine};
+ghost use Rattle.vt_store.specs.Refusals.{IsOutsideRefusal};
 
 use crate::StoreError;
-use crate::header::header_of;
+use crate::header::{header_of, tile_length};
 use std::alloc::Global;
 use vt_mip::Chain;
 use vt_outside::{Folder, OutsideError};
 use vt_pages::Geometry;
 
-/// Writes a texel's three samples all over.
+// Writes a texel's three samples all over.
 fn fill_texels(out: &mut [u8], texel: &[u8])
     requires { length texel.now ≡ 3 }
     ensures { (x c : ℕ) → x < length out.old / 3 → c < 3 → slice_index out.new (3 * x + c) ≡ slice_index texel.now c }
@@ -27,11 +29,11 @@ fn fill_texels(out: &mut [u8], texel: &[u8])
     }
 }
 
-/// Writes so many texels of a row from a column inside it on; past the row's end its last texel stands again.
+// Writes so many texels of a row from a column inside it on; past the row's end its last texel stands again.
 fn put_span(out: &mut [u8], row: &[u8], first: usize, count: usize)
     requires room { length out.old ≡ 3 * count }
     requires inside { first < length row.now / 3 }
-    requires few { first + count ≤ 16384 }
+    requires few { first + count ≤ 2 * most_tiled_side }
     ensures { IsSpan row.now first count out.new }
 {
     let columns = row.len() / 3;
@@ -41,11 +43,11 @@ fn put_span(out: &mut [u8], row: &[u8], first: usize, count: usize)
     fill_texels(&mut out[inside..], &row[3 * columns - 3..3 * columns]);
 }
 
-/// Writes one line of so many tiles that lie side by side, from a row of texels and a column of tiles on.
+// Writes one line of so many tiles that lie side by side, from a row of texels and a column of tiles on.
 fn put_line(tiles: &mut [u8], row: &[u8], side: usize, column: usize, line: usize, count: usize)
     requires room { length tiles.old ≡ count * (side * side * 3) }
     requires inside { 1 ≤ count → (column + count - 1) * side < length row.now / 3 }
-    requires few { (column + count) * side ≤ 16384 }
+    requires few { (column + count) * side ≤ 2 * most_tiled_side }
     requires side { side ≤ 128 }
     requires line { line < side }
     ensures { GainsLine row.now side column line count count tiles.old tiles.new }
@@ -61,7 +63,7 @@ fn put_line(tiles: &mut [u8], row: &[u8], side: usize, column: usize, line: usiz
     }
 }
 
-/// Writes the tiles of so many pages of a row of tiles, side by side.
+// Writes the tiles of so many pages of a row of tiles, side by side.
 fn put_tiles(tiles: &mut [u8], chain: &Chain, geometry: &Geometry, first: u32, count: u32)
     requires shape { HasShape chain.now geometry.now }
     requires page { first < pages_of geometry.now }
@@ -86,7 +88,18 @@ fn put_tiles(tiles: &mut [u8], chain: &Chain, geometry: &Geometry, first: u32, c
     }
 }
 
-/// The page after the last one of a page's row of tiles.
+/// How many tiles lie side by side in a level.
+pub fn tile_columns(geometry: &Geometry, level: u32) -> u32
+    requires { level < levels_of geometry.now }
+    ensures value { result ≡ columns_at geometry.now level }
+    ensures few { result ≤ most_tiled_side }
+{
+    let side = geometry.tile();
+    let (width, _) = geometry.level_size(level);
+    (width + side - 1) / side
+}
+
+// The page after the last one of a page's row of tiles.
 fn row_end(geometry: &Geometry, page: u32) -> u32
     requires { page < pages_of geometry.now }
     ensures longer { page < result }
@@ -94,31 +107,19 @@ fn row_end(geometry: &Geometry, page: u32) -> u32
     ensures row { (name_at geometry.now page).col + (result - page) ≤ columns_at geometry.now (name_at geometry.now page).level }
     ensures short { result - page ≤ columns_at geometry.now 0 }
 {
-    let side = geometry.tile();
     let name = geometry.page_at(page);
-    let (width, _) = geometry.level_size(name.level);
-    page + ((width + side - 1) / side - name.col)
+    page + (tile_columns(geometry, name.level) - name.col)
 }
 
-/// How many bytes a tile has.
-fn tile_size(geometry: &Geometry) -> usize
-    ensures value { result ≡ tile_length geometry.now }
-    ensures few { result ≤ 49152 }
-{
-    let side = geometry.tile() as usize;
-    side * side * 3
-}
-
-/// How many bytes the longest row of tiles has.
+// How many bytes the longest row of tiles has.
 fn longest_row(geometry: &Geometry) -> usize
     ensures { result ≡ columns_at geometry.now 0 * tile_length geometry.now }
 {
-    let side = geometry.tile() as usize;
-    let columns = (geometry.width() as usize + side - 1) / side;
-    columns * tile_size(geometry)
+    let _ = geometry.levels();
+    tile_columns(geometry, 0) as usize * tile_length(geometry)
 }
 
-/// Makes the name hold the store of a mip chain; each append is one row of tiles.
+// Makes the name hold the store of a mip chain; each append is one row of tiles.
 fn write_rows<D: Folder>(
     alloc: Global,
     chain: &Chain,
@@ -141,7 +142,7 @@ fn write_rows<D: Folder>(
     let mut page = 0;
     while page < geometry.page_count() {
         let end = row_end(geometry, page);
-        let row = &mut tiles[..(end - page) as usize * tile_size(geometry)];
+        let row = &mut tiles[..(end - page) as usize * tile_length(geometry)];
         put_tiles(row, chain, geometry, page, end - page);
         folder.append(name, row)?;
         page = end;
@@ -165,7 +166,7 @@ pub fn write_store<D: Folder>(
     ensures whole { OnOk result (D.files folder.new ≡ option_map (with_bytes name.now (chain_store chain.now geometry.now)) (D.files folder.old)) }
     ensures part { OnErr result ((D.files folder.new ≡ D.files folder.old)
         ⊎ ((k : ℕ) × (D.files folder.new ≡ option_map (with_bytes name.now (take k (chain_store chain.now geometry.now))) (D.files folder.old)))) }
-    ensures refusals { IfErr result IsFault }
+    ensures refusals { IfErr result IsOutsideRefusal }
     ensures failed { IsErrOf result StoreError.Failed → Rose (D.faults folder.old) (D.faults folder.new) }
     ensures asked { D.asked folder.new ≡ D.asked folder.old }
     ensures faults { D.faults folder.old ≤ D.faults folder.new }

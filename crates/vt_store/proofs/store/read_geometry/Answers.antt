@@ -3,10 +3,14 @@ use Rattle.vt_store.proofs.Opening.{opened_store, refused_store, no_failure}
 use Rattle.vt_store.proofs.store.read_geometry.Goals as goal
 
 pub returns-clause-store : goal.returns-clause-store
-returns-clause-store g c = opened_store c.geometry_of.result (g.F.File.bytes c.args.file.now) (g.F.File.bytes c.reserve.new.self) c.read_at.new.buf c.in_ok-have.have (c.reserve.ensures.bytes ∙ c.length.ensures.bytes) c.in_ok-have.ensures.told c.in_ok-read_at.ensures.piece (search rules) c.geometry_of.ensures.shape c.geometry_of.ensures.no_fault
+returns-clause-store g c = opened_store c.header_geometry.result (g.F.File.bytes c.args.file.now)
+    (g.F.File.bytes c.reserve.new.self) c.read_at.new.buf c.in_ok-have.have (c.reserve.ensures.bytes ∙ c.length.ensures.bytes)
+    c.in_ok-have.ensures.told c.in_ok-read_at.ensures.piece (search rules) c.header_geometry.ensures.shape c.header_geometry.ensures.no_flaw
 
-pub returns-clause-fault : goal.returns-clause-fault
-returns-clause-fault g c = refused_store c.geometry_of.result (g.F.File.bytes c.args.file.now) (g.F.File.bytes c.reserve.new.self) c.read_at.new.buf c.in_ok-have.have (c.reserve.ensures.bytes ∙ c.length.ensures.bytes) c.in_ok-have.ensures.told c.in_ok-read_at.ensures.piece (search rules) c.geometry_of.ensures.fault
+pub returns-clause-flaw : goal.returns-clause-flaw
+returns-clause-flaw g c = refused_store c.header_geometry.result (g.F.File.bytes c.args.file.now)
+    (g.F.File.bytes c.reserve.new.self) c.read_at.new.buf c.in_ok-have.have (c.reserve.ensures.bytes ∙ c.length.ensures.bytes)
+    c.in_ok-have.ensures.told c.in_ok-read_at.ensures.piece (search rules) c.header_geometry.ensures.flaw
 
 pub returns-clause-failed : goal.returns-clause-failed
-returns-clause-failed g c = no_failure c.geometry_of.result _ _ c.geometry_of.ensures.no_failure
+returns-clause-failed g c = no_failure c.header_geometry.result _ _ c.header_geometry.ensures.no_failure

@@ -1,4 +1,4 @@
-use Rattle.vt_store.specs.Written.{GainsLine}
+use Rattle.vt_store.specs.TileLines.{GainsLine}
 use Rattle.vt_store.proofs.write.put_line.Given as goal
 
 abbrev pub invariant-loop-tile : goal.invariant-loop-tile

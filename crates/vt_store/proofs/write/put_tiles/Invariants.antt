@@ -1,5 +1,5 @@
 use Rattle.vt_mip.specs.Chains.{chain_texel}
-use Rattle.vt_store.specs.Written.{HasLines}
+use Rattle.vt_store.specs.TileLines.{HasLines}
 use Rattle.vt_store.proofs.write.put_tiles.Given as goal
 
 abbrev pub invariant-loop-line : goal.invariant-loop-line

@@ -1,25 +1,33 @@
 use Rattle.std.proofs.Common.{◌≡◌, ℕ, ◌-◌, ◌*◌, ◌≤◌, length, inr, ap, ◌∙◌, arith}
 use Rattle.std.specs.Prelude.{option_map}
 use Rattle.std.proofs.lemmas.Nat.{mul-le}
-use Rattle.vt_outside.proofs.Told.{OnErr-all}
+use Rattle.vt_outside.proofs.Untold.{OnErr-all}
 use Rattle.vt_outside.specs.Files.{with_bytes}
 use Rattle.vt_pages.specs.Pages.{pages_of, columns_at}
 use Rattle.vt_store.specs.Format.{tile_length}
-use Rattle.vt_store.specs.Written.{front_bytes}
-use Rattle.vt_store.proofs.Writing.{header_part, header_whole, kept_part, tiles_part, tiles_whole, front_all}
+use Rattle.vt_store.proofs.Writing.{front_bytes, header_part, header_whole, kept_part, tiles_part, tiles_whole, front_all}
 use Rattle.vt_store.proofs.write.write_rows.Goals as goal
 
 pub returns-in_err-append-clause-part : goal.returns-in_err-append-clause-part
-returns-in_err-append-clause-part g c = OnErr-all _ _ (inr (header_part (g.D.Folder.files c.args.folder.now) (g.D.Folder.files c.create.new.self) (g.D.Folder.files c.append.new.self) c.args.name.now c.args.chain.now c.args.geometry.now c.header_of.result c.header_of.ensures c.in_ok-create.ensures.files c.in_err-append.ensures.part))
+returns-in_err-append-clause-part g c =
+    OnErr-all _ _ (inr (header_part (g.D.Folder.files c.args.folder.now) (g.D.Folder.files c.create.new.self)
+    (g.D.Folder.files c.append.new.self) c.args.name.now c.args.chain.now c.args.geometry.now c.header_of.result
+    c.header_of.ensures c.in_ok-create.ensures.files c.in_err-append.ensures.part))
 
 pub returns-in_err-room-clause-part : goal.returns-in_err-room-clause-part
-returns-in_err-room-clause-part g c = OnErr-all _ _ (inr (kept_part (g.D.Folder.files c.args.folder.now) (g.D.Folder.files c.append.new.self) c.args.name.now c.args.chain.now c.args.geometry.now 0 (omega arith)
-    (header_whole (g.D.Folder.files c.args.folder.now) (g.D.Folder.files c.create.new.self) (g.D.Folder.files c.append.new.self) c.args.name.now c.args.chain.now c.args.geometry.now c.header_of.result c.header_of.ensures c.in_ok-create.ensures.files c.in_ok-append.ensures.files)))
+returns-in_err-room-clause-part g c = OnErr-all _ _
+    (inr (kept_part (g.D.Folder.files c.args.folder.now) (g.D.Folder.files c.append.new.self) c.args.name.now c.args.chain.now
+    c.args.geometry.now 0 (omega arith)
+    (header_whole (g.D.Folder.files c.args.folder.now) (g.D.Folder.files c.create.new.self)
+    (g.D.Folder.files c.append.new.self) c.args.name.now c.args.chain.now c.args.geometry.now c.header_of.result
+    c.header_of.ensures c.in_ok-create.ensures.files c.in_ok-append.ensures.files)))
 
 pub loop-page-init : goal.loop-page-init
 loop-page-init g c = record {
   inside = omega arith;
-  held = header_whole (g.D.Folder.files c.args.folder.now) (g.D.Folder.files c.create.new.self) (g.D.Folder.files c.append.new.self) c.args.name.now c.args.chain.now c.args.geometry.now c.header_of.result c.header_of.ensures c.in_ok-create.ensures.files c.in_ok-append.ensures.files;
+  held = header_whole (g.D.Folder.files c.args.folder.now) (g.D.Folder.files c.create.new.self)
+      (g.D.Folder.files c.append.new.self) c.args.name.now c.args.chain.now c.args.geometry.now c.header_of.result
+      c.header_of.ensures c.in_ok-create.ensures.files c.in_ok-append.ensures.files;
   asked = c.append.ensures.asked ∙ c.create.ensures.asked;
   faults = omega (arith, c.append.ensures.faults, c.create.ensures.faults);
 }
@@ -27,14 +35,19 @@ loop-page-init g c = record {
 pub loop-page-preserved : goal.loop-page-preserved
 loop-page-preserved g c = record {
   inside = c.row_end-end.ensures.inside;
-  held = tiles_whole (g.D.Folder.files c.args.folder.now) (g.D.Folder.files c.loop-page.folder) (g.D.Folder.files c.append-in-loop-page.new.self) c.args.name.now c.put_tiles.new.tiles c.args.chain.now c.args.geometry.now c.loop-page.page c.row_end-end.result (omega (arith, c.row_end-end.ensures.longer))
+  held = tiles_whole (g.D.Folder.files c.args.folder.now) (g.D.Folder.files c.loop-page.folder)
+      (g.D.Folder.files c.append-in-loop-page.new.self) c.args.name.now c.put_tiles.new.tiles c.args.chain.now
+      c.args.geometry.now c.loop-page.page c.row_end-end.result (omega (arith, c.row_end-end.ensures.longer))
       c.put_tiles.ensures c.loop-page.invariant.held c.in_ok-append-2.ensures.files;
   asked = c.append-in-loop-page.ensures.asked ∙ c.loop-page.invariant.asked;
   faults = omega (arith, c.append-in-loop-page.ensures.faults, c.loop-page.invariant.faults);
 }
 
 pub returns-in_err-append-2-clause-part : goal.returns-in_err-append-2-clause-part
-returns-in_err-append-2-clause-part g c = OnErr-all _ _ (inr (tiles_part (g.D.Folder.files c.args.folder.now) (g.D.Folder.files c.loop-page.folder) (g.D.Folder.files c.append-in-loop-page.new.self) c.args.name.now c.put_tiles.new.tiles c.args.chain.now c.args.geometry.now c.loop-page.page c.row_end-end.result (omega (arith, c.row_end-end.ensures.longer)) c.row_end-end.ensures.inside
+returns-in_err-append-2-clause-part g c =
+    OnErr-all _ _ (inr (tiles_part (g.D.Folder.files c.args.folder.now) (g.D.Folder.files c.loop-page.folder)
+    (g.D.Folder.files c.append-in-loop-page.new.self) c.args.name.now c.put_tiles.new.tiles c.args.chain.now
+    c.args.geometry.now c.loop-page.page c.row_end-end.result (omega (arith, c.row_end-end.ensures.longer)) c.row_end-end.ensures.inside
     c.put_tiles.ensures c.loop-page.invariant.held c.in_err-append-2.ensures.part))
 
 -- a row of tiles has no more bytes than the longest one
@@ -43,11 +56,13 @@ row_fits n m size length_of whole short e full = omega (arith, mul-le n whole m 
 
 pub slice_bounds-row-end : goal.slice_bounds-row-end
 slice_bounds-row-end g c =
-    row_fits (c.row_end-end.result - c.loop-page.page) (columns_at c.args.geometry.now 0) c.tile_size.result (length c.loop-page.tiles) (tile_length c.args.geometry.now) c.row_end-end.ensures.short c.tile_size.ensures.value
+    row_fits (c.row_end-end.result - c.loop-page.page) (columns_at c.args.geometry.now 0) c.tile_length.result
+    (length c.loop-page.tiles) (tile_length c.args.geometry.now) c.row_end-end.ensures.short c.tile_length.ensures.value
     (c.loop-page.auto.tiles ∙ c.as_mut_slice-tiles.ensures.len ∙ c.in_ok-room.ensures.len ∙ c.longest_row.ensures)
 
 pub returns-clause-whole : goal.returns-clause-whole
 returns-clause-whole g c =
     let e : c.loop-page.page ≡ pages_of c.args.geometry.now = omega (arith, c.page_count.ensures.pages, c.loop-page.invariant.inside) in
-    c.loop-page.invariant.held ∙ ap (λ p. option_map (with_bytes c.args.name.now (front_bytes c.args.chain.now c.args.geometry.now p)) (g.D.Folder.files c.args.folder.now)) e
+    c.loop-page.invariant.held ∙ ap (λ p. option_map
+    (with_bytes c.args.name.now (front_bytes c.args.chain.now c.args.geometry.now p)) (g.D.Folder.files c.args.folder.now)) e
     ∙ ap (λ l. option_map (with_bytes c.args.name.now l) (g.D.Folder.files c.args.folder.now)) (front_all c.args.chain.now c.args.geometry.now)

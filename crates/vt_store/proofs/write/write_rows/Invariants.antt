@@ -1,7 +1,7 @@
 use Rattle.std.specs.Prelude.{◌≡◌, ◌-◌, ◌≤◌, option_map}
 use Rattle.vt_outside.specs.Files.{with_bytes}
 use Rattle.vt_pages.specs.Pages.{pages_of}
-use Rattle.vt_store.specs.Written.{front_bytes}
+use Rattle.vt_store.proofs.Writing.{front_bytes}
 use Rattle.vt_store.proofs.write.write_rows.Given as goal
 
 abbrev pub invariant-loop-page : goal.invariant-loop-page
