@@ -1,0 +1,3 @@
+pub mod Truths
+pub mod Spelled
+pub mod Named

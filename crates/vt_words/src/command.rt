@@ -1,0 +1,52 @@
+//! Which command the words ask for.
+
+ghost use Rattle.std.specs.Prelude.{◌≡◌, IfOk, IsErr, IsErrOf, IsNone, Some};
+ghost use Rattle.vt_words.specs.Arguments.{texts};
+ghost use Rattle.vt_words.specs.Commands.{command_text, shown, IsLawful};
+
+use crate::arguments::WordsError;
+use crate::generate::{GenWords, read_gen};
+use crate::info::{InfoWords, read_info};
+use crate::plain::{PlainWords, read_plain};
+use crate::tile::{TileWords, read_tile};
+use std::alloc::Global;
+
+/// A command and its words.
+#[derive(Clone, Copy)]
+pub enum Command<'a> {
+    /// Draws plain pictures of a texture.
+    Plain(PlainWords<'a>),
+    /// Writes the tile store of a texture.
+    Tile(TileWords<'a>),
+    /// Tells what a tile store holds.
+    Info(InfoWords<'a>),
+    /// Writes a texture that is made from a number.
+    Gen(GenWords<'a>),
+}
+
+/// Reads the words after the program's name: the first names the command, whose `clap` command is handed all of them.
+///
+/// `Usage` comes only where they are no command's. Where they are, the answer may still be `NoMemory`.
+pub fn read_command<'a>(alloc: Global, words: &'a [String]) -> Result<Command<'a>, WordsError>
+    ensures read { IfOk result (λ command. command_text (texts words.entry.now) ≡ Some (shown command)) }
+    ensures usage { IsErrOf result WordsError.Usage → IsNone (command_text (texts words.entry.now)) }
+    ensures lawful { IfOk result IsLawful }
+    ensures refused { IsNone (command_text (texts words.entry.now)) → IsErr result }
+{
+    let Some(name) = words.first() else {
+        return Err(WordsError::Usage);
+    };
+    if name.as_str() == "plain" {
+        return read_plain(alloc, words).map(Command::Plain);
+    }
+    if name.as_str() == "tile" {
+        return read_tile(alloc, words).map(Command::Tile);
+    }
+    if name.as_str() == "info" {
+        return read_info(alloc, words).map(Command::Info);
+    }
+    if name.as_str() == "gen" {
+        return read_gen(alloc, words).map(Command::Gen);
+    }
+    Err(WordsError::Usage)
+}

@@ -1,0 +1,24 @@
+//! The words of the commands, each read by a simple `clap` command of its own.
+#![tactic(auto)]
+
+mod arguments;
+mod command;
+mod generate;
+mod info;
+mod laws;
+mod names;
+mod numbers;
+mod plain;
+mod tile;
+
+pub use arguments::WordsError;
+pub use command::{Command, read_command};
+pub use generate::GenWords;
+pub use info::InfoWords;
+pub use laws::{known_names_are_pictures, picture_names_are_known};
+pub use names::{is_picture_name, picture_name};
+pub use plain::PlainWords;
+pub use tile::TileWords;
+
+#[cfg(test)]
+mod tests;

@@ -1,0 +1,160 @@
+//! Words as they are typed, and what they ask for.
+
+use crate::arguments::WordsError;
+use crate::command::{Command, read_command};
+use crate::names::{is_picture_name, picture_name};
+use std::alloc::{AllocError, Global};
+
+// The answer as a text: the command and its values, a blank before each.
+fn answer(alloc: Global, words: &[&str]) -> Result<String, AllocError> {
+    let mut list = Vec::new(alloc);
+    for word in words {
+        list.push(String::from_str(alloc, word)?)?;
+    }
+    match read_command(alloc, list.as_slice()) {
+        Ok(Command::Plain(read)) => {
+            let (texture, path, prefix) = (read.texture, read.path, read.prefix);
+            let tile = read.tile;
+            format!(in alloc; "plain {texture} {path} {prefix} {tile}")
+        }
+        Ok(Command::Tile(read)) => {
+            let (texture, store, tile) = (read.texture, read.store, read.tile);
+            format!(in alloc; "tile {texture} {store} {tile}")
+        }
+        Ok(Command::Info(read)) => {
+            let store = read.store;
+            format!(in alloc; "info {store}")
+        }
+        Ok(Command::Gen(read)) => {
+            let (number, width, height) = (read.number, read.width, read.height);
+            let name = read.name;
+            format!(in alloc; "gen {number} {width} {height} {name}")
+        }
+        Err(WordsError::Usage) => String::from_str(alloc, "usage"),
+        Err(WordsError::NoMemory) => String::from_str(alloc, "memory"),
+    }
+}
+
+// How many of the cases are answered otherwise than by their second text.
+fn misread(alloc: Global, cases: &[(&[&str], &str)]) -> Result<usize, AllocError> {
+    let mut count: usize = 0;
+    for (words, expected) in cases {
+        if answer(alloc, words)?.as_str() != *expected {
+            count = count.saturating_add(1);
+        }
+    }
+    Ok(count)
+}
+
+#[test]
+fn the_tile_side_is_one_of_seven_and_else_64(rt: HostRuntime) {
+    let cases: [(&[&str], &str); 16] = [
+        (&["plain", "t", "p", "x"], "plain t p x 64"),
+        (&["tile", "t", "s"], "tile t s 64"),
+        (&["tile", "t", "s", "--tile", "2"], "tile t s 2"),
+        (&["tile", "t", "s", "--tile", "128"], "tile t s 128"),
+        (&["tile", "t", "s", "--tile", "1"], "usage"),
+        (&["tile", "t", "s", "--tile", "129"], "usage"),
+        (&["tile", "t", "s", "--tile", "256"], "usage"),
+        (&["tile", "t", "s", "--tile", "3"], "usage"),
+        (&["tile", "t", "s", "--tile", "08"], "usage"),
+        (&["tile", "t", "s", "--tile="], "usage"),
+        (&["tile", "t", "s", "--tile=8"], "tile t s 8"),
+        (&["tile", "--tile", "16", "t", "s"], "tile t s 16"),
+        (&["plain", "t", "--tile=32", "p", "x"], "plain t p x 32"),
+        (&["tile", "t", "s", "--tile", "8", "--tile", "8"], "usage"),
+        (&["tile", "t", "s", "--tile"], "usage"),
+        (&["tile", "t", "s", "--til", "8"], "usage"),
+    ];
+    assert_eq!(rt; misread(rt.alloc(), cases.as_slice()), Ok(0));
+}
+
+#[test]
+fn words_after_two_dashes_are_names(rt: HostRuntime) {
+    let cases: [(&[&str], &str); 6] = [
+        (&["info", "--", "--tile"], "info --tile"),
+        (&["tile", "t", "--", "--tile"], "tile t --tile 64"),
+        (&["tile", "t", "s", "--", "--tile", "8"], "usage"),
+        (&["tile", "--tile=4", "--", "-t", "-s"], "tile -t -s 4"),
+        (&["info", "--"], "usage"),
+        (&["gen", "1", "2", "3", "--", "-n"], "gen 1 2 3 -n"),
+    ];
+    assert_eq!(rt; misread(rt.alloc(), cases.as_slice()), Ok(0));
+}
+
+#[test]
+fn each_command_has_its_words_and_no_more(rt: HostRuntime) {
+    let cases: [(&[&str], &str); 19] = [
+        (&[], "usage"),
+        (&[""], "usage"),
+        (&["walk", "s", "p", "x"], "usage"),
+        (&["Plain", "t", "p", "x"], "usage"),
+        (&["plain", "t", "p"], "usage"),
+        (&["plain", "t", "p", "x", "y"], "usage"),
+        (&["plain", "", "", ""], "plain    64"),
+        (&["plain", "-t", "p", "x"], "usage"),
+        (&["tile", "t"], "usage"),
+        (&["tile", "t", "s", "u"], "usage"),
+        (&["tile", "-", "s"], "tile - s 64"),
+        (&["info"], "usage"),
+        (&["info", "s", "u"], "usage"),
+        (&["info", "-5"], "usage"),
+        (&["info", "help"], "info help"),
+        (&["info", "--help"], "usage"),
+        (&["info", "s", "-h"], "usage"),
+        (&["info", "s", "--version"], "usage"),
+        (&["info", "s", "--tile", "8"], "usage"),
+    ];
+    assert_eq!(rt; misread(rt.alloc(), cases.as_slice()), Ok(0));
+}
+
+#[test]
+fn the_numbers_of_gen_have_bounds(rt: HostRuntime) {
+    let cases: [(&[&str], &str); 14] = [
+        (&["gen", "0", "1", "1", "n"], "gen 0 1 1 n"),
+        (
+            &["gen", "65535", "8192", "8192", "n"],
+            "gen 65535 8192 8192 n",
+        ),
+        (&["gen", "65536", "1", "1", "n"], "usage"),
+        (&["gen", "-1", "1", "1", "n"], "usage"),
+        (&["gen", "--", "-1", "1", "1", "n"], "usage"),
+        (&["gen", "0", "0", "1", "n"], "usage"),
+        (&["gen", "0", "8193", "1", "n"], "usage"),
+        (&["gen", "0", "1", "0", "n"], "usage"),
+        (&["gen", "0", "1", "8193", "n"], "usage"),
+        (&["gen", "", "1", "1", "n"], "usage"),
+        (&["gen", "+1", "1", "1", "n"], "usage"),
+        (&["gen", "1", "1", "n"], "usage"),
+        (&["gen", "1", "1", "1", "n", "m"], "usage"),
+        (&["gen", "1", "1", "1", "n", "--tile", "8"], "usage"),
+    ];
+    assert_eq!(rt; misread(rt.alloc(), cases.as_slice()), Ok(0));
+}
+
+#[test]
+fn a_name_is_not_both_read_and_written(rt: HostRuntime) {
+    let cases: [(&[&str], &str); 8] = [
+        (&["tile", "a", "a"], "usage"),
+        (&["tile", "a", "./a"], "tile a ./a 64"),
+        (&["plain", "x0000.ppm", "p", "x"], "usage"),
+        (&["plain", "t", "x9999.ppm", "x"], "usage"),
+        (
+            &["plain", "x10000.ppm", "x000.ppm", "x"],
+            "plain x10000.ppm x000.ppm x 64",
+        ),
+        (&["plain", "0001.ppm", "p", ""], "usage"),
+        (&["plain", "y0001.ppm", "p", "x"], "plain y0001.ppm p x 64"),
+        (&["plain", "a", "a", "a"], "plain a a a 64"),
+    ];
+    assert_eq!(rt; misread(rt.alloc(), cases.as_slice()), Ok(0));
+}
+
+#[test]
+fn a_picture_has_four_digits(rt: HostRuntime) {
+    assert!(rt; is_picture_name("a/", "a/0730.ppm"));
+    assert!(rt; !is_picture_name("a/", "a/0730.pp"));
+    assert!(rt; !is_picture_name("a/", "a/073:.ppm"));
+    let name = picture_name(rt.alloc(), "a/", 73).expect(&rt, "memory");
+    assert!(rt; name.as_str() == "a/0073.ppm");
+}
