@@ -211,6 +211,38 @@ $reference make 8192 128 1 wide.ppm
 "$program" tile g4.ppm g4.ppm --tile 2 2> err; status=$?
 [ "$status" -eq 2 ] && cmp -s g4.ppm "$top/crates/vtex/data/g4.ppm"; say $? "a store under the texture's name"
 
+# Textures made from numbers; the largest is made in less memory than it has bytes.
+printf 'P6\n2 1\n255\n\001\003\007\002\003\007' > want.ppm
+"$program" gen 1 2 1 got.ppm > out 2> err && [ ! -s out ] && [ ! -s err ] && cmp -s want.ppm got.ppm; say $? "gen 1 2 1"
+while read -r number width height; do
+  $reference gen "$number" "$width" "$height" want.ppm
+  "$program" gen "$number" "$width" "$height" got.ppm > out 2> err && [ ! -s out ] && [ ! -s err ] && cmp -s want.ppm got.ppm
+  say $? "gen $number $width $height"
+done <<'ROWS'
+0 1 1
+1 300 257
+7 64 64
+65535 3 700
+256 8192 3
+3 1 8192
+ROWS
+(ulimit -v 100000; "$program" gen 65535 8192 8192 got.ppm) && [ "$(stat -c %s got.ppm)" -eq 201326609 ] \
+  && [ "$(tail -c 3 got.ppm | od -An -tx1)" = " fe fc fa" ]; say $? "gen of the largest sides"
+rm -f got.ppm
+for words in "0 0 1" "0 8193 1" "65536 1 1" "01 1 1" "0 1"; do
+  # shellcheck disable=SC2086
+  "$program" gen $words no.ppm > out 2> err; status=$?
+  [ "$status" -eq 2 ] && [ ! -s out ] && [ ! -e no.ppm ]; say $? "gen $words"
+done
+
+# An option may be left out, stand anywhere and be joined with its value.
+"$program" tile g4.ppm long.vts --tile 64 > want.line && "$program" tile g4.ppm short.vts > got.line \
+  && cmp -s long.vts short.vts && cmp -s want.line got.line; say $? "tile with no tile side"
+"$program" plain g4.ppm a.path long --tile 64 > want.line && "$program" plain g4.ppm a.path short > got.line \
+  && cmp -s long0000.ppm short0000.ppm && cmp -s want.line got.line; say $? "plain with no tile side"
+"$program" tile g4.ppm long.vts --tile 2 > want.line && "$program" tile --tile=2 g4.ppm short.vts > got.line \
+  && cmp -s long.vts short.vts && cmp -s want.line got.line; say $? "tile with its option first"
+
 # Refusals print one line and write nothing.
 "$program" plain g4.ppm none g --tile 2 > out 2> err; status=$?
 [ "$status" -eq 3 ] && [ ! -s out ] && [ "$(cat err)" = "vtex: fault on files or output" ]; say $? "a missing path"

@@ -1,9 +1,10 @@
 #!/usr/bin/env python3
-"""Draws plain pictures and writes tile stores by the rules of docs/FORMATS.md, texel by texel, apart from the program.
+"""Draws plain pictures, writes tile stores and makes textures by the rules of docs/FORMATS.md, texel by texel, apart from the program.
 
 usage: reference.py TEXTURE PATH PREFIX TILE          writes PREFIX0000.ppm and so on
        reference.py tile TEXTURE STORE TILE           writes the store, and prints its line
        reference.py texels TEXTURE STORE              reads each texel of each level back from the store, by its place
+       reference.py gen NUMBER WIDTH HEIGHT NAME      writes the texture of a number
        reference.py make WIDTH HEIGHT SEED NAME       writes a P6 texture of pseudo-random samples
 """
 import sys
@@ -120,6 +121,15 @@ def read_back(texture, store):
     assert len(data) == 16 + 3 * tile * tile * first
 
 
+def generate(number, width, height, name):
+    number, width, height = int(number), int(width), int(height)
+    out = bytearray(b"P6\n%d %d\n255\n" % (width, height))
+    for y in range(height):
+        for x in range(width):
+            out += bytes(((x + number) % 256, (y + 3 * number) % 256, (x * y + 7 * number) % 256))
+    open(name, "wb").write(out)
+
+
 def make(width, height, seed, name):
     state, samples = int(seed), bytearray()
     for _ in range(3 * int(width) * int(height)):
@@ -128,7 +138,7 @@ def make(width, height, seed, name):
     open(name, "wb").write(b"P6\n%d %d\n255\n" % (int(width), int(height)) + samples)
 
 
-jobs = {"make": make, "tile": write_store, "texels": read_back}
+jobs = {"make": make, "gen": generate, "tile": write_store, "texels": read_back}
 if sys.argv[1] in jobs:
     jobs[sys.argv[1]](*sys.argv[2:])
 else:

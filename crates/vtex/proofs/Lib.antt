@@ -1,6 +1,11 @@
-pub mod Held
-pub mod Opened
-pub mod Stops
-pub mod TileStops
-pub mod FlawLemmas
-pub mod Ended
+pub mod Counting
+pub mod Reading
+pub mod Contents
+pub mod Excluded
+pub mod Ending
+pub mod Clauses
+pub mod Writing
+pub mod Leaving
+pub mod Drawing
+pub mod Tiling
+pub mod Making

@@ -1,34 +1,57 @@
--- What a refusal of a part is to a command.
-use Rattle.vt_outside.specs.declared.answers.OutsideError.{OutsideError}
-use Rattle.vt_outside.specs.declared.answers.OutsideError.TheVariants as outside
-use Rattle.vt_ppm.specs.declared.error.PpmError.{PpmError}
-use Rattle.vt_ppm.specs.declared.error.PpmError.TheVariants as ppm
-use Rattle.vt_camera.specs.declared.parse.PathError.{PathError}
-use Rattle.vt_camera.specs.declared.parse.PathError.TheVariants as path
-use Rattle.vt_store.specs.declared.error.StoreError.{StoreError}
-use Rattle.vt_store.specs.declared.error.StoreError.TheVariants as store
-use Rattle.vtex.specs.declared.flaws.Flaw.TheVariants as flaws
-use Rattle.vtex.specs.declared.refusal.Refusal.{Refusal}
-use Rattle.vtex.specs.declared.refusal.Refusal.TheVariants as refusal
+-- What stands in a command's way among its inputs: the first in their order decides.
+use Rattle.std.specs.Prelude.{◌≡◌, ◌⊎◌, ℕ, List, [], ◌∷◌, ◌++◌, Option, Some, option_map}
+use Rattle.vt_outside.specs.Files.{Files, Asked, bytes_at, with_places}
+use Rattle.vt_outside.specs.declared.place.Place.{Place}
+use Rattle.vtex.specs.Courses.{Passage}
+use Rattle.vtex.specs.Inputs.{Input, Content, name_of, MayAsk}
+use Rattle.vtex.specs.HeldInputs.{Holds, HasFlaw, IsMissing}
+use Rattle.vtex.specs.declared.flaws.Flaw.{Flaw}
 
--- a failed call is a fault, and want of memory is itself
-abbrev pub cause_of : OutsideError → Refusal
-cause_of outside.Failed = refusal.Fault
-cause_of outside.NoMemory = refusal.NoMemory
+-- a name that is missing, or the flaw of the input of a name
+pub data Cause : Type 0 where
+  MissingName : List ℕ → Cause
+  FlawedInput : List ℕ → Flaw → Cause
 
--- a path that is refused is outside its format, but for want of memory
-abbrev pub path_refusal : PathError → Refusal
-path_refusal path.NoMemory = refusal.NoMemory
-path_refusal e = refusal.Flaw (flaws.Path e)
+-- the status that a cause comes to
+abbrev pub cause_status : Cause → ℕ
+cause_status (MissingName name) = 3
+cause_status (FlawedInput name flaw) = 4
 
--- a texture that is refused is outside its format, but for a failed call and want of memory
-abbrev pub texture_refusal : PpmError → Refusal
-texture_refusal ppm.Failed = refusal.Fault
-texture_refusal ppm.NoMemory = refusal.NoMemory
-texture_refusal e = refusal.Flaw (flaws.Texture e)
+-- an input has this cause
+abbrev pub HasCause : Option Files → Input → Cause → Type 0
+HasCause files input (MissingName name) = (name ≡ name_of input) × IsMissing files input
+HasCause files input (FlawedInput name flaw) = (name ≡ name_of input) × HasFlaw files input flaw
 
--- a store that is refused is outside its format, but for a failed call and want of memory
-abbrev pub store_refusal : StoreError → Refusal
-store_refusal store.Failed = refusal.Fault
-store_refusal store.NoMemory = refusal.NoMemory
-store_refusal e = refusal.Flaw (flaws.Store e)
+-- an input is there and accepted
+abbrev pub IsAccepted : Option Files → Input → Type 0
+IsAccepted files input = (content : Content) × Holds files input content
+
+-- the inputs hold these contents, one by one
+abbrev pub AreHeld : Option Files → List Input → List Content → Type 0
+AreHeld files [] [] = Unit {0}
+AreHeld files (input ∷ inputs) (content ∷ contents) = Holds files input content × AreHeld files inputs contents
+AreHeld files _ _ = ⊥
+
+-- this is the cause of an input, and each input before it is accepted
+abbrev pub IsFirstCause : Option Files → List Input → Cause → Type 0
+IsFirstCause files [] cause = ⊥
+IsFirstCause files (input ∷ inputs) cause = HasCause files input cause ⊎ (IsAccepted files input × IsFirstCause files inputs cause)
+
+-- each input was asked in its turn for places that it may be asked for, and no other name was
+abbrev pub AreAsked : Option Files → List Input → Option Asked → Option Asked → Type 0
+AreAsked files [] before after = after ≡ before
+AreAsked files (input ∷ inputs) before after =
+    (places : List Place) × MayAsk input (bytes_at files (name_of input)) places
+    × AreAsked files inputs (option_map (with_places (name_of input) (Some places)) before) after
+
+-- some of the inputs, from the first on, were asked
+pub record AsksInOrder (inputs : List Input) (p : Passage) : Type 0 where
+  pub some : List Input
+  pub rest : List Input
+  pub split : inputs ≡ some ++ rest
+  pub asked : AreAsked p.before.files some p.before.asked p.after.asked
+
+-- all inputs are there and accepted, so that there is no first cause
+abbrev pub AreAccepted : Option Files → List Input → Type 0
+AreAccepted files [] = Unit {0}
+AreAccepted files (input ∷ inputs) = IsAccepted files input × AreAccepted files inputs

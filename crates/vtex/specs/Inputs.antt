@@ -1,67 +1,107 @@
--- What the names that a command reads hold.
-use Rattle.std.specs.Prelude.{◌≡◌, ℕ, List, Option, Some, None, IsSome, OnSome}
-use Rattle.vt_outside.specs.Files.{Files, bytes_at}
-use Rattle.vt_ppm.specs.Image.{Picture}
+-- What a command reads: the kinds of inputs, each with a row in every definition here.
+use Rattle.std.specs.Prelude.{◌≡◌, ◌⊎◌, ℕ, ◌≤◌, Bool, List, [], length, min, Option, Some, None, Ok, IfSome}
+use Rattle.vt_outside.specs.Files.{noted}
+use Rattle.vt_outside.specs.declared.place.Place.{Place}
+use Rattle.vt_ppm.specs.Image.{ImageView}
 use Rattle.vt_ppm.specs.Format.{IsImage}
-use Rattle.vt_ppm.specs.Faults.{IsImageFault}
+use Rattle.vt_ppm.specs.Flaws.{IsImageFlaw}
+use Rattle.vt_ppm.specs.Reads.{AreImagePlaces}
 use Rattle.vt_ppm.specs.declared.error.PpmError.{PpmError}
 use Rattle.vt_camera.specs.Paths.{PathView}
 use Rattle.vt_camera.specs.PathText.{IsPathText}
-use Rattle.vt_camera.specs.PathFaults.{IsPathFault}
+use Rattle.vt_camera.specs.PathFlaws.{IsPathFlaw}
 use Rattle.vt_camera.specs.declared.parse.PathError.{PathError}
 use Rattle.vt_pages.specs.Shape.{Shape, shape_of}
 use Rattle.vt_pages.specs.Pages.{refusal_of}
-use Rattle.vt_pages.specs.declared.PagesError.TheVariants.{TooManyPages}
-use Rattle.vt_store.specs.Format.{store_fault}
-use Rattle.vt_store.specs.Opened.{IsStore}
+use Rattle.vt_pages.specs.declared.PagesError.TheVariants as pages_error
+use Rattle.vt_store.specs.Format.{store_flaw, header_length}
+use Rattle.vt_store.specs.StoreViews.{IsStore}
 use Rattle.vt_store.specs.declared.error.StoreError.{StoreError}
+use Rattle.vtex.specs.Flaws.{flaw_of_path, flaw_of_texture, flaw_of_store}
+use Rattle.vtex.specs.declared.flaws.Flaw.{Flaw}
+use Rattle.vtex.specs.declared.flaws.Flaw.TheVariants.{TooManyPages}
 
--- the name is not told to be missing
-abbrev pub IsThere : Option Files → List ℕ → Type 0
-IsThere files name = OnSome files (IsSome (bytes_at files name))
+-- a file that a command reads, by its name: a path, a texture, a texture that is to have few enough pages of a tile side, or a store
+pub data Input : Type 0 where
+  PathInput : List ℕ → Input
+  TextureInput : List ℕ → Input
+  TiledTexture : List ℕ → ℕ → Input
+  StoreInput : List ℕ → Input
 
--- the name holds the text of this path
-pub record HoldsPath (files : Option Files) (name : List ℕ) (path : PathView) : Type 0 where
-  pub text : List ℕ
-  pub there : bytes_at files name ≡ Some text
-  pub spelled : IsPathText text path
+-- what an input holds
+pub data Content : Type 0 where
+  PathContent : PathView → Content
+  TextureContent : ImageView → Content
+  StoreContent : Shape → Content
 
--- the name holds bytes whose first faulty line is refused in this way
-pub record HoldsFaultyPath (files : Option Files) (name : List ℕ) (e : PathError) : Type 0 where
-  pub text : List ℕ
-  pub there : bytes_at files name ≡ Some text
-  pub fault : IsPathFault text e
-
--- the name holds the bytes of this texture
-pub record HoldsTexture (files : Option Files) (name : List ℕ) (texture : Picture) : Type 0 where
-  pub text : List ℕ
-  pub there : bytes_at files name ≡ Some text
-  pub spelled : IsImage text texture
-
--- the name holds bytes whose first fault as a texture is this one
-pub record HoldsFaultyTexture (files : Option Files) (name : List ℕ) (e : PpmError) : Type 0 where
-  pub text : List ℕ
-  pub there : bytes_at files name ≡ Some text
-  pub fault : IsImageFault text e
+-- the name of an input
+abbrev pub name_of : Input → List ℕ
+name_of (PathInput name) = name
+name_of (TextureInput name) = name
+name_of (TiledTexture name tile) = name
+name_of (StoreInput name) = name
 
 -- the shape of a texture's pages
-abbrev pub shape_in : Picture → ℕ → Shape
-shape_in texture tile = shape_of texture.width texture.height tile
+abbrev pub texture_shape : ImageView → ℕ → Shape
+texture_shape texture tile = shape_of texture.width texture.height tile
 
--- the name holds the bytes of a texture that has so many pages of the tile side, which is too many
-pub record HoldsManyPages (files : Option Files) (name : List ℕ) (tile pages : ℕ) : Type 0 where
-  pub texture : Picture
-  pub held : HoldsTexture files name texture
-  pub refused : refusal_of (shape_in texture tile) ≡ Some (TooManyPages pages)
+-- the bytes are those of an input with this content
+abbrev pub IsContent : Input → List ℕ → Content → Type 0
+IsContent (PathInput name) bytes (PathContent path) = IsPathText bytes path
+IsContent (TextureInput name) bytes (TextureContent texture) = IsImage bytes texture
+IsContent (TiledTexture name tile) bytes (TextureContent texture) = IsImage bytes texture × (refusal_of (texture_shape texture tile) ≡ None)
+IsContent (StoreInput name) bytes (StoreContent shape) = IsStore bytes shape
+IsContent _ bytes _ = ⊥
 
--- the name holds the bytes of a store of this shape
-pub record HoldsStore (files : Option Files) (name : List ℕ) (shape : Shape) : Type 0 where
-  pub bytes : List ℕ
-  pub there : bytes_at files name ≡ Some bytes
-  pub is : IsStore bytes shape
+-- a path has this flaw
+abbrev pub IsFlawOfPath : List ℕ → Flaw → Type 0
+IsFlawOfPath bytes flaw = (e : PathError) × IsPathFlaw bytes e × (flaw_of_path e ≡ Ok flaw)
 
--- the name holds bytes whose first fault as a store is this one
-pub record HoldsFaultyStore (files : Option Files) (name : List ℕ) (e : StoreError) : Type 0 where
-  pub bytes : List ℕ
-  pub there : bytes_at files name ≡ Some bytes
-  pub fault : store_fault bytes ≡ Some e
+-- a texture has this flaw
+abbrev pub IsFlawOfTexture : List ℕ → Flaw → Type 0
+IsFlawOfTexture bytes flaw = (e : PpmError) × IsImageFlaw bytes e × (flaw_of_texture e ≡ Ok flaw)
+
+-- a texture has too many pages of a tile side
+pub record HasManyPages (bytes : List ℕ) (tile : ℕ) (flaw : Flaw) : Type 0 where
+  pub texture : ImageView
+  pub is : IsImage bytes texture
+  pub pages : ℕ
+  pub many : refusal_of (texture_shape texture tile) ≡ Some (pages_error.TooManyPages pages)
+  pub flaw_is : flaw ≡ TooManyPages pages
+
+-- a store has this flaw
+abbrev pub IsFlawOfStore : List ℕ → Flaw → Type 0
+IsFlawOfStore bytes flaw = (e : StoreError) × (store_flaw bytes ≡ Some e) × (flaw_of_store e ≡ Ok flaw)
+
+-- the bytes have this flaw as those of an input
+abbrev pub IsFlawOf : Input → List ℕ → Flaw → Type 0
+IsFlawOf (PathInput name) bytes flaw = IsFlawOfPath bytes flaw
+IsFlawOf (TextureInput name) bytes flaw = IsFlawOfTexture bytes flaw
+IsFlawOf (TiledTexture name tile) bytes flaw = IsFlawOfTexture bytes flaw ⊎ HasManyPages bytes tile flaw
+IsFlawOf (StoreInput name) bytes flaw = IsFlawOfStore bytes flaw
+
+-- the flaw is of a kind that an input may have, whatever its bytes
+abbrev pub Fits : Input → Flaw → Type 0
+Fits (PathInput name) flaw = (e : PathError) × (flaw_of_path e ≡ Ok flaw)
+Fits (TextureInput name) flaw = (e : PpmError) × (flaw_of_texture e ≡ Ok flaw)
+Fits (TiledTexture name tile) flaw = ((e : PpmError) × (flaw_of_texture e ≡ Ok flaw)) ⊎ ((n : ℕ) × (flaw ≡ TooManyPages n))
+Fits (StoreInput name) flaw = (e : StoreError) × (flaw_of_store e ≡ Ok flaw)
+
+-- no place was asked, or one from the beginning on, of a length
+abbrev pub AsksFront : (ℕ → Type 0) → List Place → Type 0
+AsksFront IsLength places = (places ≡ []) ⊎ ((n : ℕ) × (failed : Bool) × IsLength n × (places ≡ noted 0 n failed []))
+
+-- all bytes may be asked at once
+abbrev pub AsksWhole : Option (List ℕ) → List Place → Type 0
+AsksWhole told places = AsksFront (λ n. IfSome told (λ bytes. n ≡ length bytes)) places
+
+-- the header of a store may be asked, or all bytes where there are fewer
+abbrev pub AsksHeader : Option (List ℕ) → List Place → Type 0
+AsksHeader told places = AsksFront (λ n. (n ≤ header_length) × IfSome told (λ bytes. n ≡ min (length bytes) header_length)) places
+
+-- the places that may be asked of an input whose bytes may be told: of a texture a front part that holds its header, and then its raster
+abbrev pub MayAsk : Input → Option (List ℕ) → List Place → Type 0
+MayAsk (PathInput name) = AsksWhole
+MayAsk (TextureInput name) = AreImagePlaces
+MayAsk (TiledTexture name tile) = AreImagePlaces
+MayAsk (StoreInput name) = AsksHeader

@@ -1,97 +1,64 @@
--- What a run leaves, command by command and ending by ending.
-use Rattle.std.specs.Prelude.{◌≡◌, ◌⊎◌, ℕ, List, Option, Some, None, IsNone, IsSome}
-use Rattle.vt_outside.specs.Counts.{Rose}
-use Rattle.vt_outside.specs.Files.{Files}
-use Rattle.vt_ppm.specs.Image.{Picture}
-use Rattle.vt_pages.specs.Shape.{Shape}
-use Rattle.vt_camera.specs.Paths.{PathView}
-use Rattle.vtex.specs.Words.{CommandText, PlainCommand, TileCommand, InfoCommand, command_text}
-use Rattle.vtex.specs.Inputs.{HoldsPath, HoldsFaultyPath, HoldsFaultyTexture, HoldsManyPages, HoldsStore, HoldsFaultyStore}
-use Rattle.vtex.specs.PlainRuns.{Reads, PlainDone, PlainLeft, PlainMissing}
-use Rattle.vtex.specs.TileRuns.{Tiles, TileDone, TileLeft, TileMissing}
-use Rattle.vtex.specs.InfoRuns.{InfoDone, InfoLeft, InfoMissing}
+-- What the top call says of a run, by its words, its course and its status.
+use Rattle.std.specs.Prelude.{◌≡◌, ◌⊎◌, ℕ, List, Some, IsSome, IsNone}
+use Rattle.vt_outside.specs.Counts.{NoFault}
+use Rattle.vt_print.specs.Places.{bad_input_line}
+use Rattle.vtex.specs.Courses.{Course, Gain}
+use Rattle.vtex.specs.Flaws.{flaw_place}
+use Rattle.vtex.specs.Refusals.{Told}
+use Rattle.vtex.specs.Causes.{Cause, cause_status, IsFirstCause, AreAccepted, AsksInOrder}
+use Rattle.vtex.specs.Tasks.{IsDone, IsLeft, HasFault, HasBadInput}
+use Rattle.vt_words.specs.Commands.{CommandText, command_text}
+use Rattle.vtex.specs.commands.{task_of}
 use Rattle.vtex.specs.declared.flaws.Flaw.{Flaw}
-use Rattle.vtex.specs.declared.flaws.Flaw.TheVariants as flaws
-use Rattle.vtex.specs.declared.ending.Ending.{Ending}
-use Rattle.vtex.specs.declared.ending.Ending.TheVariants.{Done, OutOfMemory, Usage, Fault, BadInput}
 
--- a command is done
-abbrev pub IsDone : CommandText → Option Files → Option Files → Option (List ℕ) → Option (List ℕ) → Type 0
-IsDone (PlainCommand words) = PlainDone words
-IsDone (TileCommand words) = TileDone words
-IsDone (InfoCommand words) = InfoDone words
+-- the words ask for a command
+abbrev pub Asks : List (List ℕ) → CommandText → Type 0
+Asks words command = command_text words ≡ Some command
 
--- what a command leaves that is not done
-abbrev pub IsLeft : CommandText → Option Files → Option Files → Option (List ℕ) → Option (List ℕ) → Type 0
-IsLeft (PlainCommand words) = PlainLeft words
-IsLeft (TileCommand words) = TileLeft words
-IsLeft (InfoCommand words) = InfoLeft words
+-- the words are those of no command
+abbrev pub AsksNothing : List (List ℕ) → Type 0
+AsksNothing words = IsNone (command_text words)
 
--- a name that a command reads is told to be missing
-abbrev pub IsMissing : CommandText → Option Files → Type 0
-IsMissing (PlainCommand words) = PlainMissing words
-IsMissing (TileCommand words) = TileMissing words
-IsMissing (InfoCommand words) = InfoMissing words
+-- the folder tells what its names held
+abbrev pub Tells : Course → Type 0
+Tells c = IsSome c.folder.before.files
 
--- all that a command reads is there and accepted
-abbrev pub IsAccepted : CommandText → Option Files → Type 0
-IsAccepted (PlainCommand words) files = (texture : Picture) × (path : PathView) × Reads files words texture path
-IsAccepted (TileCommand words) files = (texture : Picture) × Tiles files words texture
-IsAccepted (InfoCommand words) files = (shape : Shape) × HoldsStore files words.store shape
-
--- the name of the input that has a flaw (this project's profile)
-abbrev pub flawed_name : CommandText → Flaw → List ℕ
-flawed_name (PlainCommand words) (flaws.Path e) = words.path
-flawed_name (PlainCommand words) _ = words.texture
-flawed_name (TileCommand words) flaw = words.texture
-flawed_name (InfoCommand words) flaw = words.store
-
--- the first input of a command that has a flaw has this one: of `plain` the path is looked at first (this project's profile)
-abbrev pub HasFlaw : CommandText → Option Files → Flaw → Type 0
-HasFlaw (PlainCommand words) files (flaws.Path e) = HoldsFaultyPath files words.path e
-HasFlaw (PlainCommand words) files (flaws.Texture e) = ((path : PathView) × HoldsPath files words.path path) × HoldsFaultyTexture files words.texture e
-HasFlaw (TileCommand words) files (flaws.Texture e) = HoldsFaultyTexture files words.texture e
-HasFlaw (TileCommand words) files (flaws.Pages pages) = HoldsManyPages files words.texture words.tile pages
-HasFlaw (InfoCommand words) files (flaws.Store e) = HoldsFaultyStore files words.store e
-HasFlaw _ files _ = ⊥
-
--- what a run is about: the words, and before and after it what the folder and the output hold and their counts of faults
-pub record Course : Type 0 where
-  pub words : List (List ℕ)
-  pub before : Option Files
-  pub after : Option Files
-  pub held : Option (List ℕ)
-  pub shown : Option (List ℕ)
-  pub folder_faults : ℕ
-  pub folder_faults_after : ℕ
-  pub out_faults : ℕ
-  pub out_faults_after : ℕ
-
--- nothing was written
-pub record IsUntouched (c : Course) : Type 0 where
-  pub files : c.after ≡ c.before
-  pub out : c.shown ≡ c.held
-
--- the words are those of a command
-abbrev pub Asks : Course → CommandText → Type 0
-Asks c command = command_text c.words ≡ Some command
-
--- a fault of the folder or the output, or a name that is told to be missing
-abbrev pub HasFault : Course → CommandText → Type 0
-HasFault c command = Rose c.folder_faults c.folder_faults_after ⊎ (Rose c.out_faults c.out_faults_after ⊎ IsMissing command c.before)
+-- no call on the folder or the output failed
+pub record IsFaultless (c : Course) : Type 0 where
+  pub folder : NoFault c.folder.before.faults c.folder.after.faults
+  pub out : NoFault c.out.before.faults c.out.after.faults
 
 -- the words' command is done
-abbrev pub EndsDone : Course → Type 0
-EndsDone c = (command : CommandText) × Asks c command × (IsSome c.before → IsDone command c.before c.after c.held c.shown)
+abbrev pub RunDone : List (List ℕ) → Course → Type 0
+RunDone words c = (command : CommandText) × Asks words command × IsDone (task_of command) c
 
--- the words' command, and what it left
-abbrev pub EndsLeft : Course → (CommandText → Type 0) → Type 0
-EndsLeft c P = (command : CommandText) × Asks c command × (IsSome c.before → IsLeft command c.before c.after c.held c.shown) × P command
+-- the words' command left a part of what is due
+abbrev pub RunLeft : List (List ℕ) → Course → Type 0
+RunLeft words c = (command : CommandText) → Asks words command → IsLeft (task_of command) c
 
--- what each ending says of the run
-abbrev pub IsEnding : Ending → Course → Type 0
-IsEnding Done c = EndsDone c
-IsEnding OutOfMemory c = EndsLeft c (λ command. Unit {0})
-IsEnding Usage c = IsNone (command_text c.words) × IsUntouched c
-IsEnding Fault c = EndsLeft c (HasFault c)
-IsEnding (BadInput name flaw) c = (command : CommandText) × Asks c command × IsUntouched c × (name.now ≡ flawed_name command flaw) × (IsSome c.before → HasFlaw command c.before flaw)
+-- only inputs of the words' command were asked, in their order and for the places of their kind
+abbrev pub RunAsked : List (List ℕ) → Course → Type 0
+RunAsked words c = (command : CommandText) → Asks words command → AsksInOrder (task_of command).inputs c.folder
+
+-- a count rose, or the first cause among the inputs is a missing name
+abbrev pub RunFault : List (List ℕ) → Course → Type 0
+RunFault words c = (command : CommandText) × Asks words command × HasFault (task_of command) c
+
+-- the first cause among the inputs is a flaw, and its line was told
+pub record RunBadInput (words : List (List ℕ)) (c : Course) (err : Gain) : Type 0 where
+  pub command : CommandText
+  pub asks : Asks words command
+  pub name : List ℕ
+  pub flaw : Flaw
+  pub bad : HasBadInput (task_of command) c name flaw
+  pub told : Told (bad_input_line name (flaw_place flaw)) err
+
+-- the status is that of the first cause among the inputs, but for want of memory
+abbrev pub RunCaused : List (List ℕ) → Course → ℕ → Type 0
+RunCaused words c status = (command : CommandText) (cause : Cause) → Asks words command
+    → IsFirstCause c.folder.before.files (task_of command).inputs cause → (status ≡ cause_status cause) ⊎ (status ≡ 1)
+
+-- where the inputs are accepted, the status is 0, but for want of memory
+abbrev pub RunComplete : List (List ℕ) → Course → ℕ → Type 0
+RunComplete words c status = (command : CommandText) → Asks words command
+    → AreAccepted c.folder.before.files (task_of command).inputs → (status ≡ 0) ⊎ (status ≡ 1)

@@ -1,148 +1,111 @@
 //! What may be wrong with an input, and how it is told.
 
-ghost use Rattle.std.specs.Prelude.{◌≡◌, ◌++◌, decimal};
-ghost use Rattle.vtex.specs.Endings.{place_of, path_place, texture_place, store_place};
-ghost use Rattle.vtex.specs.Lines.{bad_input_line};
-ghost use Rattle.vtex.specs.Told.{Tells};
+ghost use Rattle.std.specs.Prelude.{◌≡◌};
+ghost use Rattle.vt_print.specs.Places.{place_text};
+ghost use Rattle.vtex.specs.Flaws.{flaw_place, flaw_of_path, flaw_of_texture, flaw_of_store};
 
-use crate::lines::tell_pieces;
-use itoa::Buffer;
 use vt_camera::PathError;
-use vt_outside::Sink;
+use vt_outside::OutsideError;
 use vt_ppm::PpmError;
+use vt_print::Place;
 use vt_store::StoreError;
 
-/// What is wrong with an input.
+/// What is wrong with an input: the first flaw of its bytes. Lines count from 1, bytes from 0.
 #[derive(Clone, Copy, Debug, PartialEq, Eq)]
 pub enum Flaw {
-    /// The path's first faulty line.
-    Path(PathError),
-    /// The texture's first fault.
-    Texture(PpmError),
-    /// The texture has so many pages, which is too many.
-    Pages(u64),
-    /// The store's first fault.
-    Store(StoreError),
+    /// A line of a path has none of its forms.
+    BadLine(u32),
+    /// A line of a path goes on from a key, and there is none.
+    NoKey(u32),
+    /// A path has more than 9999 pictures.
+    TooManyPictures,
+    /// A texture or a store does not begin as one.
+    BadMagic,
+    /// A texture's header does not go on at a byte.
+    BadHeader(u64),
+    /// A texture's side is outside its limits.
+    BadSize,
+    /// A texture's maximum is outside its limits.
+    BadMaximum,
+    /// A texture's samples have two bytes.
+    WideSamples,
+    /// A texture's raster has so many bytes, and should have others.
+    Truncated { want: u64, have: u64 },
+    /// A texture's sample at a byte is above the maximum.
+    SampleOver(u64),
+    /// A texture has so many pages, which is too many.
+    TooManyPages(u64),
+    /// A store's header makes no geometry of pages.
+    BadGeometry,
+    /// A store has so many bytes, and should have others.
+    WrongLength { want: u64, have: u64 },
 }
 
-/// Puts the line of an input that is refused: its name and the place of its flaw. It takes no memory of its own.
-pub fn tell_flaw<E: Sink>(err: &mut E, name: &str, flaw: Flaw)
-    ensures { Tells (bad_input_line name.now (place_of flaw)) (E.held err.old) (E.held err.new) (E.faults err.old) (E.faults err.new) (E.refusals err.old) (E.refusals err.new) }
-{
-    match flaw {
-        Flaw::Path(error) => tell_path(err, name, error),
-        Flaw::Texture(error) => tell_texture(err, name, error),
-        Flaw::Pages(pages) => tell_number(err, name, b"too many pages ", pages),
-        Flaw::Store(error) => tell_store(err, name, error),
+impl Flaw {
+    /// The place of the flaw, as it is printed.
+    pub fn place(&self) -> Place<'static>
+        ensures { place_text result ≡ flaw_place self.now }
+    {
+        match self {
+            Flaw::BadLine(line) => Place::number(b"bad line ", *line as u64),
+            Flaw::NoKey(line) => Place::number(b"no key at line ", *line as u64),
+            Flaw::TooManyPictures => Place::words(b"too many pictures"),
+            Flaw::BadMagic => Place::words(b"bad magic"),
+            Flaw::BadHeader(at) => Place::number(b"bad header at byte ", *at),
+            Flaw::BadSize => Place::words(b"bad size"),
+            Flaw::BadMaximum => Place::words(b"bad maximum"),
+            Flaw::WideSamples => Place::words(b"wide samples"),
+            Flaw::Truncated { want, have } => {
+                Place::two_numbers(b"raster of ", *have, b" bytes, wanted ", *want)
+            }
+            Flaw::SampleOver(at) => Place::number(b"sample over maximum at byte ", *at),
+            Flaw::TooManyPages(pages) => Place::number(b"too many pages ", *pages),
+            Flaw::BadGeometry => Place::words(b"bad geometry"),
+            Flaw::WrongLength { want, have } => {
+                Place::two_numbers(b"length ", *have, b", wanted ", *want)
+            }
+        }
     }
 }
 
-// Puts the line of a path that is refused: its name and its first faulty line.
-fn tell_path<E: Sink>(err: &mut E, name: &str, error: PathError)
-    ensures { Tells (bad_input_line name.now (path_place error)) (E.held err.old) (E.held err.new) (E.faults err.old) (E.faults err.new) (E.refusals err.old) (E.refusals err.new) }
+/// The flaw of a path that is refused, or what the outside refused.
+pub fn flaw_of_path(error: PathError) -> Result<Flaw, OutsideError>
+    ensures { result ≡ flaw_of_path error }
 {
     match error {
-        PathError::BadLine { line } => tell_number(err, name, b"bad line ", line as u64),
-        PathError::NoKey { line } => tell_number(err, name, b"no key at line ", line as u64),
-        PathError::TooManyPictures => tell_words(err, name, b"too many pictures"),
-        PathError::NoMemory => tell_words(err, name, b""),
+        PathError::BadLine { line } => Ok(Flaw::BadLine(line)),
+        PathError::NoKey { line } => Ok(Flaw::NoKey(line)),
+        PathError::TooManyPictures => Ok(Flaw::TooManyPictures),
+        PathError::NoMemory => Err(OutsideError::NoMemory),
     }
 }
 
-// Puts the line of a texture that is refused: its name and its first fault.
-fn tell_texture<E: Sink>(err: &mut E, name: &str, error: PpmError)
-    ensures { Tells (bad_input_line name.now (texture_place error)) (E.held err.old) (E.held err.new) (E.faults err.old) (E.faults err.new) (E.refusals err.old) (E.refusals err.new) }
+/// The flaw of a texture that is refused, or what the outside refused.
+pub fn flaw_of_texture(error: PpmError) -> Result<Flaw, OutsideError>
+    ensures { result ≡ flaw_of_texture error }
 {
     match error {
-        PpmError::BadMagic => tell_words(err, name, b"bad magic"),
-        PpmError::BadHeader { at } => tell_number(err, name, b"bad header at byte ", at),
-        PpmError::BadSize => tell_words(err, name, b"bad size"),
-        PpmError::BadMaximum => tell_words(err, name, b"bad maximum"),
-        PpmError::WideSamples => tell_words(err, name, b"wide samples"),
-        PpmError::Truncated { want, have } => {
-            tell_numbers(err, name, b"raster of ", have, b" bytes, wanted ", want)
-        }
-        PpmError::SampleOver { at } => {
-            tell_number(err, name, b"sample over maximum at byte ", at)
-        }
-        PpmError::Failed => tell_words(err, name, b""),
-        PpmError::NoMemory => tell_words(err, name, b""),
+        PpmError::BadMagic => Ok(Flaw::BadMagic),
+        PpmError::BadHeader { at } => Ok(Flaw::BadHeader(at)),
+        PpmError::BadSize => Ok(Flaw::BadSize),
+        PpmError::BadMaximum => Ok(Flaw::BadMaximum),
+        PpmError::WideSamples => Ok(Flaw::WideSamples),
+        PpmError::Truncated { want, have } => Ok(Flaw::Truncated { want, have }),
+        PpmError::SampleOver { at } => Ok(Flaw::SampleOver(at)),
+        PpmError::Failed => Err(OutsideError::Failed),
+        PpmError::NoMemory => Err(OutsideError::NoMemory),
     }
 }
 
-// Puts the line of a store that is refused: its name and its first fault.
-fn tell_store<E: Sink>(err: &mut E, name: &str, error: StoreError)
-    ensures { Tells (bad_input_line name.now (store_place error)) (E.held err.old) (E.held err.new) (E.faults err.old) (E.faults err.new) (E.refusals err.old) (E.refusals err.new) }
+/// The flaw of a store that is refused, or what the outside refused.
+pub fn flaw_of_store(error: StoreError) -> Result<Flaw, OutsideError>
+    ensures { result ≡ flaw_of_store error }
 {
     match error {
-        StoreError::BadMagic => tell_words(err, name, b"bad magic"),
-        StoreError::BadGeometry => tell_words(err, name, b"bad geometry"),
-        StoreError::WrongLength { want, have } => {
-            tell_numbers(err, name, b"length ", have, b", wanted ", want)
-        }
-        StoreError::Failed => tell_words(err, name, b""),
-        StoreError::NoMemory => tell_words(err, name, b""),
+        StoreError::BadMagic => Ok(Flaw::BadMagic),
+        StoreError::BadGeometry => Ok(Flaw::BadGeometry),
+        StoreError::WrongLength { want, have } => Ok(Flaw::WrongLength { want, have }),
+        StoreError::Failed => Err(OutsideError::Failed),
+        StoreError::NoMemory => Err(OutsideError::NoMemory),
     }
-}
-
-// Puts the line of an input that is refused: its name and some words.
-fn tell_words<E: Sink>(err: &mut E, name: &str, words: &[u8])
-    ensures { Tells (bad_input_line name.now words.now) (E.held err.old) (E.held err.new) (E.faults err.old) (E.faults err.new) (E.refusals err.old) (E.refusals err.new) }
-{
-    tell_pieces(
-        err,
-        &[
-            b"vtex: bad input: ".as_slice(),
-            name.as_bytes(),
-            b": ".as_slice(),
-            words,
-            b"\n".as_slice(),
-        ],
-    );
-}
-
-// Puts the line of an input that is refused: its name, some words and a number.
-fn tell_number<E: Sink>(err: &mut E, name: &str, words: &[u8], number: u64)
-    ensures { Tells (bad_input_line name.now (words.now ++ decimal number)) (E.held err.old) (E.held err.new) (E.faults err.old) (E.faults err.new) (E.refusals err.old) (E.refusals err.new) }
-{
-    let mut digits = Buffer::new();
-    tell_pieces(
-        err,
-        &[
-            b"vtex: bad input: ".as_slice(),
-            name.as_bytes(),
-            b": ".as_slice(),
-            words,
-            digits.format(number).as_bytes(),
-            b"\n".as_slice(),
-        ],
-    );
-}
-
-// Puts the line of an input that is refused: its name, and two numbers, each after some words.
-fn tell_numbers<'a, E: Sink>(
-    err: &mut E,
-    name: &'a str,
-    words: &'a [u8],
-    number: u64,
-    between: &'a [u8],
-    last: u64,
-)
-    ensures { Tells (bad_input_line name.now (words.now ++ (decimal number ++ (between.now ++ decimal last)))) (E.held err.old) (E.held err.new) (E.faults err.old) (E.faults err.new) (E.refusals err.old) (E.refusals err.new) }
-{
-    let mut digits = Buffer::new();
-    let mut last_digits = Buffer::new();
-    tell_pieces(
-        err,
-        &[
-            b"vtex: bad input: ".as_slice(),
-            name.as_bytes(),
-            b": ".as_slice(),
-            words,
-            digits.format(number).as_bytes(),
-            between,
-            last_digits.format(last).as_bytes(),
-            b"\n".as_slice(),
-        ],
-    );
 }

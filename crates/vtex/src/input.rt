@@ -1,15 +1,14 @@
-//! Reading what the commands work on.
+//! Reading what the commands work on. Each reader opens a name, reads its file and closes it.
 
-ghost use Rattle.std.specs.Prelude.{◌≡◌, ◌≢◌, ◌≤◌, IfOk, IfSome, IsSome, IsErrOf, Err};
+ghost use Rattle.std.specs.Prelude.{◌≡◌, IfOk, IfSome, IsErrOf};
 ghost use Rattle.vt_outside.specs.Counts.{Rose};
-ghost use Rattle.vt_camera.specs.PathText.{IsPathText};
-ghost use Rattle.vt_camera.specs.PathFaults.{IsPathFault};
-ghost use Rattle.vt_camera.specs.declared.parse.PathError.{PathError};
-ghost use Rattle.vtex.specs.Inputs.{IsThere, HoldsPath, HoldsTexture, HoldsStore};
-ghost use Rattle.vtex.specs.FlawedInputs.{HasPathFlaw, HasTextureFlaw, HasStoreFlaw};
-ghost use Rattle.vtex.specs.declared.flaws.Flaw.{Flaw};
+ghost use Rattle.vt_ppm.specs.Reads.{AreImagePlaces};
+ghost use Rattle.vtex.specs.Courses.{passage};
+ghost use Rattle.vtex.specs.Inputs.{PathInput, TextureInput, StoreInput, PathContent, TextureContent, StoreContent, AsksWhole, AsksHeader};
+ghost use Rattle.vtex.specs.Reads.{visit, Visits, FindsIn, Finds, Reads};
 
-use crate::refusal::Refusal;
+use crate::flaws::{flaw_of_path, flaw_of_store, flaw_of_texture};
+use crate::refusal::{Refusal, refusal_of};
 use std::alloc::Global;
 use vt_camera::{Path, parse_path};
 use vt_outside::{File, Folder, OutsideError};
@@ -17,11 +16,36 @@ use vt_pages::Geometry;
 use vt_ppm::{Image, read_image};
 use vt_store::Store;
 
-/// Reads all bytes of a file, by one read.
-pub fn read_whole<F: File>(alloc: Global, file: &mut F) -> Result<Vec<u8>, OutsideError>
+/// Reads the path of a name.
+pub fn read_path<'a, D: Folder>(
+    alloc: Global,
+    folder: &mut D,
+    name: &'a str,
+) -> Result<Path, Refusal<'a>>
+    ensures { Reads (PathInput name.now) PathContent (passage D.Folder folder.old folder.new) result }
+{
+    let mut file = folder.open(name)?;
+    let path = path_in(alloc, name, &mut file);
+    folder.close(file);
+    path
+}
+
+// The path in an open file.
+fn path_in<'a, F: File>(alloc: Global, name: &'a str, file: &mut F) -> Result<Path, Refusal<'a>>
+    ensures finds { Finds (PathInput name.now) PathContent (visit F.File file.old file.new) result }
+    ensures visits { Visits AsksWhole (visit F.File file.old file.new) }
+{
+    match read_whole(alloc, file) {
+        Ok(text) => path_of(alloc, name, &text),
+        Err(error) => Err(Refusal::from(error)),
+    }
+}
+
+// Reads all bytes of a file, by one read.
+fn read_whole<F: File>(alloc: Global, file: &mut F) -> Result<Vec<u8>, OutsideError>
     ensures bytes { IfOk result (λ text. IfSome (F.bytes file.old) (λ b. text.items ≡ b)) }
     ensures failed { IsErrOf result OutsideError.Failed → Rose (F.faults file.old) (F.faults file.new) }
-    ensures faults { F.faults file.old ≤ F.faults file.new }
+    ensures visits { Visits AsksWhole (visit F.File file.old file.new) }
 {
     let length = file.length()?;
     file.reserve(1)?;
@@ -30,61 +54,61 @@ pub fn read_whole<F: File>(alloc: Global, file: &mut F) -> Result<Vec<u8>, Outsi
     Ok(text)
 }
 
-/// Reads the path of a name, and closes its file.
-pub fn read_path<D: Folder>(alloc: Global, folder: &mut D, name: &str) -> Result<Path, Refusal>
-    ensures path { IfOk result (λ path. IsSome (D.files folder.old) → HoldsPath (D.files folder.old) name.now path) }
-    ensures flawed { (flaw : Flaw) → result ≡ Err (Refusal.Flaw flaw) → IsSome (D.files folder.old) → HasPathFlaw (D.files folder.old) name.now flaw }
-    ensures fault { IsErrOf result Refusal.Fault → IsThere (D.files folder.old) name.now → Rose (D.faults folder.old) (D.faults folder.new) }
-    ensures files { D.files folder.new ≡ D.files folder.old }
-    ensures faults { D.faults folder.old ≤ D.faults folder.new }
-{
-    let mut file = folder.open(name)?;
-    let text = read_whole(alloc, &mut file);
-    folder.close(file);
-    path_of(alloc, &text?)
-}
-
 // The path that a text spells.
-fn path_of(alloc: Global, text: &[u8]) -> Result<Path, Refusal>
-    ensures path { IfOk result (λ path. IsPathText text.now path) }
-    ensures flawed { (flaw : Flaw) → result ≡ Err (Refusal.Flaw flaw) → (e : PathError) × (flaw ≡ Flaw.Path e) × IsPathFault text.now e }
-    ensures no_fault { result ≢ Err Refusal.Fault }
+fn path_of<'a>(alloc: Global, name: &'a str, text: &[u8]) -> Result<Path, Refusal<'a>>
+    ensures { FindsIn (PathInput name.now) PathContent text.now result }
 {
-    Ok(parse_path(alloc, text)?)
+    match parse_path(alloc, text) {
+        Ok(path) => Ok(path),
+        Err(error) => Err(refusal_of(name, flaw_of_path(error))),
+    }
 }
 
-/// Reads the texture of a name, and closes its file.
-pub fn read_texture<D: Folder>(alloc: Global, folder: &mut D, name: &str) -> Result<Image, Refusal>
-    ensures texture { IfOk result (λ texture. IsSome (D.files folder.old) → HoldsTexture (D.files folder.old) name.now texture) }
-    ensures flawed { (flaw : Flaw) → result ≡ Err (Refusal.Flaw flaw) → IsSome (D.files folder.old) → HasTextureFlaw (D.files folder.old) name.now flaw }
-    ensures fault { IsErrOf result Refusal.Fault → IsThere (D.files folder.old) name.now → Rose (D.faults folder.old) (D.faults folder.new) }
-    ensures files { D.files folder.new ≡ D.files folder.old }
-    ensures faults { D.faults folder.old ≤ D.faults folder.new }
+/// Reads the texture of a name.
+pub fn read_texture<'a, D: Folder>(
+    alloc: Global,
+    folder: &mut D,
+    name: &'a str,
+) -> Result<Image, Refusal<'a>>
+    ensures { Reads (TextureInput name.now) TextureContent (passage D.Folder folder.old folder.new) result }
 {
     let mut file = folder.open(name)?;
-    let image = read_image(alloc, &mut file);
+    let texture = texture_in(alloc, name, &mut file);
     folder.close(file);
-    Ok(image?)
+    texture
 }
 
-/// Opens the store of a name for its header alone, and closes its file.
-pub fn read_geometry<D: Folder>(folder: &mut D, name: &str) -> Result<Geometry, Refusal>
-    ensures store { IfOk result (λ geometry. IsSome (D.files folder.old) → HoldsStore (D.files folder.old) name.now geometry) }
-    ensures flawed { (flaw : Flaw) → result ≡ Err (Refusal.Flaw flaw) → IsSome (D.files folder.old) → HasStoreFlaw (D.files folder.old) name.now flaw }
-    ensures fault { IsErrOf result Refusal.Fault → IsThere (D.files folder.old) name.now → Rose (D.faults folder.old) (D.faults folder.new) }
-    ensures files { D.files folder.new ≡ D.files folder.old }
-    ensures faults { D.faults folder.old ≤ D.faults folder.new }
+// The texture in an open file.
+fn texture_in<'a, F: File>(alloc: Global, name: &'a str, file: &mut F) -> Result<Image, Refusal<'a>>
+    ensures finds { Finds (TextureInput name.now) TextureContent (visit F.File file.old file.new) result }
+    ensures visits { Visits AreImagePlaces (visit F.File file.old file.new) }
+{
+    match read_image(alloc, file) {
+        Ok(texture) => Ok(texture),
+        Err(error) => Err(refusal_of(name, flaw_of_texture(error))),
+    }
+}
+
+/// Opens the store of a name for its header alone.
+pub fn read_geometry<'a, D: Folder>(folder: &mut D, name: &'a str) -> Result<Geometry, Refusal<'a>>
+    ensures { Reads (StoreInput name.now) StoreContent (passage D.Folder folder.old folder.new) result }
 {
     let file = folder.open(name)?;
+    let visit = geometry_in(name, file);
+    folder.close(visit.0);
+    visit.1
+}
+
+// The geometry in an open file, and the file.
+fn geometry_in<F: File>(name: &str, file: F) -> (F, Result<Geometry, Refusal<'_>>)
+    ensures finds { Finds (StoreInput name.now) StoreContent (visit F.File file result.0) result.1 }
+    ensures visits { Visits AsksHeader (visit F.File file result.0) }
+{
     match Store::open(file) {
         Ok(store) => {
             let geometry = store.geometry();
-            folder.close(store.into_file());
-            Ok(geometry)
+            (store.into_file(), Ok(geometry))
         }
-        Err((file, error)) => {
-            folder.close(file);
-            Err(Refusal::from(error))
-        }
+        Err((file, error)) => (file, Err(refusal_of(name, flaw_of_store(error)))),
     }
 }

@@ -3,25 +3,18 @@
 
 ghost use Rattle.std.specs.Prelude.{◌≡◌};
 ghost use Rattle.std.specs.IoError.{error_kind};
-ghost use Rattle.vtex.specs.Endings.{unread_ending};
+ghost use Rattle.vtex.specs.Refusals.{unread_refusal};
 
-mod command;
-mod ending;
+mod commands;
 mod flaws;
-mod info;
 mod input;
-mod lines;
-mod names;
 mod output;
-mod plain;
 mod refusal;
 mod run;
 #[cfg(test)]
 mod tests;
-mod tile;
-mod words;
 
-use ending::Ending;
+use refusal::Refusal;
 use run::run;
 use std::alloc::Global;
 use std::io::ErrorKind;
@@ -38,13 +31,13 @@ fn words_of(rt: &HostRuntime, alloc: Global) -> io::Result<Vec<String>> {
     Ok(words)
 }
 
-// The ending where the words could not be read: a word that is no text is none of a command's.
-fn unread(error: &io::Error) -> Ending<'static>
-    ensures { result ≡ unread_ending (error_kind error.now) }
+// The refusal where the words could not be read: a word that is no text is none of a command's.
+fn unread(error: &io::Error) -> Refusal<'static>
+    ensures { result ≡ unread_refusal (error_kind error.now) }
 {
     match error.kind() {
-        ErrorKind::OutOfMemory => Ending::OutOfMemory,
-        _ => Ending::Usage,
+        ErrorKind::OutOfMemory => Refusal::NoMemory,
+        _ => Refusal::Usage,
     }
 }
 
@@ -54,9 +47,9 @@ fn main(rt: HostRuntime) -> ExitCode {
     let words = match words_of(&rt, alloc) {
         Ok(words) => words,
         Err(error) => {
-            let ending = unread(&error);
-            ending.tell(&mut err);
-            return ExitCode::from(ending.status());
+            let refusal = unread(&error);
+            refusal.tell(&mut err);
+            return ExitCode::from(refusal.status());
         }
     };
     let mut folder = RealFolder::new(&rt);

@@ -1,90 +1,70 @@
 //! Writing what the commands make.
 
-ghost use Rattle.std.specs.Prelude.{◌≡◌, ◌≢◌, ◌≤◌, ◌⊎◌, ℕ, take, option_map, IfOk, OnOk, OnErr, IsErrOf, Err};
-ghost use Rattle.vt_outside.specs.Counts.{Rose};
-ghost use Rattle.vt_outside.specs.Files.{with_bytes, gained};
-ghost use Rattle.vtex.specs.Lines.{end_line, store_line, sides_text, counts_text};
-ghost use Rattle.vtex.specs.declared.flaws.Flaw.{Flaw};
+ghost use Rattle.std.specs.Prelude.{◌≡◌, ◌+◌, ◌≤◌, ◌++◌, [], ◌∷◌, length};
+ghost use Rattle.vt_text.specs.Numbers.{number_spelling};
+ghost use Rattle.vtex.specs.Courses.{passage, gain};
+ghost use Rattle.vtex.specs.Dues.{Writes, Puts};
+ghost use Rattle.vtex.specs.Lines.{end_line, store_line};
 
-use crate::lines::put_pieces;
-use crate::refusal::Refusal;
-use itoa::Buffer;
-use std::alloc::{AllocError, Global};
 use vt_outside::{Folder, OutsideError, Sink};
 use vt_pages::Geometry;
+use vt_print::{LINE_ROOM, Line, put_pieces};
+use vt_store::store_length;
 
-/// Makes the name hold these bytes, by one creation and one append. After a refusal the name is as before, or holds a front
-/// part of the bytes.
+/// Makes the name hold these bytes, by one creation and one append.
 pub fn write_file<D: Folder>(folder: &mut D, name: &str, bytes: &[u8]) -> Result<(), OutsideError>
-    ensures whole { OnOk result (D.files folder.new ≡ option_map (with_bytes name.now bytes.now) (D.files folder.old)) }
-    ensures part { OnErr result ((D.files folder.new ≡ D.files folder.old)
-        ⊎ ((k : ℕ) × (D.files folder.new ≡ option_map (with_bytes name.now (take k bytes.now)) (D.files folder.old)))) }
-    ensures failed { IsErrOf result OutsideError.Failed → Rose (D.faults folder.old) (D.faults folder.new) }
-    ensures faults { D.faults folder.old ≤ D.faults folder.new }
+    ensures { Writes ((record { name = name.now; bytes = bytes.now }) ∷ []) (passage D.Folder folder.old folder.new) result }
 {
     folder.create(name)?;
     folder.append(name, bytes)
 }
 
-/// Puts the line that ends a command which wrote pictures: how many it wrote.
+/// Puts the line that ends a command which wrote pictures, in pieces: how many it wrote.
 pub fn put_end<O: Sink>(out: &mut O, pictures: u32) -> Result<(), OutsideError>
-    ensures whole { OnOk result (O.held out.new ≡ option_map (gained (end_line pictures)) (O.held out.old)) }
-    ensures part { OnErr result ((k : ℕ) × (O.held out.new ≡ option_map (gained (take k (end_line pictures))) (O.held out.old))) }
-    ensures failed { IsErrOf result OutsideError.Failed → Rose (O.faults out.old) (O.faults out.new) }
-    ensures faults { O.faults out.old ≤ O.faults out.new }
+    ensures { Puts (end_line pictures) (gain O.Sink out.old out.new) result }
 {
-    let mut digits = Buffer::new();
+    let mut number = Line::new();
+    number.number(pictures as u64);
     put_pieces(
         out,
         &[
             b"end pictures ".as_slice(),
-            digits.format(pictures).as_bytes(),
+            number.bytes(),
             b"\n".as_slice(),
         ],
     )
 }
 
-/// Puts the line of a store, by one put.
-pub fn put_store_line<O: Sink>(
-    alloc: Global,
-    out: &mut O,
-    geometry: &Geometry,
-) -> Result<(), Refusal>
-    ensures whole { OnOk result (O.held out.new ≡ option_map (gained (store_line geometry.now)) (O.held out.old)) }
-    ensures part { OnErr result ((k : ℕ) × (O.held out.new ≡ option_map (gained (take k (store_line geometry.now))) (O.held out.old))) }
-    ensures no_flaw { (flaw : Flaw) → result ≢ Err (Refusal.Flaw flaw) }
-    ensures fault { IsErrOf result Refusal.Fault → Rose (O.faults out.old) (O.faults out.new) }
-    ensures faults { O.faults out.old ≤ O.faults out.new }
+/// Puts the line of a store.
+pub fn put_store_line<O: Sink>(out: &mut O, geometry: &Geometry) -> Result<(), OutsideError>
+    ensures { Puts (store_line geometry.now) (gain O.Sink out.old out.new) result }
 {
-    let line = store_line(alloc, geometry)?;
-    out.put(&line)?;
-    Ok(())
+    let line = line_of_store(geometry);
+    out.put(line.bytes())
 }
 
 // The line of a store.
 #[tactic(auto, unfolding(crate::specs::Lines::store_line))]
-fn store_line(alloc: Global, geometry: &Geometry) -> Result<Vec<u8>, AllocError>
-    ensures { IfOk result (λ line. line.items ≡ store_line geometry.now) }
+fn line_of_store(geometry: &Geometry) -> Line
+    ensures { result ≡ store_line geometry.now }
 {
-    let (width, height, tile) = (geometry.width(), geometry.height(), geometry.tile());
-    let pages = geometry.page_count();
-    let bytes = 16 + pages as u64 * (tile as u64 * tile as u64 * 3);
-    let mut line = sides_text(alloc, width, height, tile)?;
-    let counts = counts_text(alloc, geometry.levels(), pages, bytes)?;
-    line.extend_from_slice(&counts)?;
-    Ok(line)
+    let mut line = Line::new();
+    add(&mut line, b"store ", geometry.width() as u64);
+    add(&mut line, b" ", geometry.height() as u64);
+    add(&mut line, b" tile ", geometry.tile() as u64);
+    add(&mut line, b" levels ", geometry.levels() as u64);
+    add(&mut line, b" pages ", geometry.page_count() as u64);
+    add(&mut line, b" bytes ", store_length(geometry));
+    line.words(b"\n");
+    line
 }
 
-// The front of a store's line, with its texture's sides and its tile side.
-fn sides_text(alloc: Global, width: u32, height: u32, tile: u32) -> Result<Vec<u8>, AllocError>
-    ensures { IfOk result (λ text. text.items ≡ sides_text width height tile) }
+// Adds words and a number to a line that has room for them.
+fn add(line: &mut Line, words: &[u8], number: u64)
+    requires { length line.old + (length words.now + 20) ≤ LINE_ROOM }
+    ensures gained { line.new ≡ line.old ++ words.now ++ number_spelling number }
+    ensures length { length line.new ≤ length line.old + (length words.now + 20) }
 {
-    Ok(format!(in alloc; "store {width} {height} tile {tile}")?.into_bytes())
-}
-
-// The rest of a store's line, with its numbers of levels, pages and bytes.
-fn counts_text(alloc: Global, levels: u32, pages: u32, bytes: u64) -> Result<Vec<u8>, AllocError>
-    ensures { IfOk result (λ text. text.items ≡ counts_text levels pages bytes) }
-{
-    Ok(format!(in alloc; " levels {levels} pages {pages} bytes {bytes}\n")?.into_bytes())
+    line.words(words);
+    line.number(number);
 }

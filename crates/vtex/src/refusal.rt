@@ -1,85 +1,111 @@
-//! Why a command was refused.
+//! How a command ends: its status, and its line on the error output.
 
 ghost use Rattle.std.specs.Prelude.{◌≡◌};
-ghost use Rattle.vtex.specs.declared.refusal.Refusal.TheVariants as refusal;
-ghost use Rattle.vtex.specs.Causes.{cause_of, path_refusal, texture_refusal, store_refusal};
+ghost use Rattle.vtex.specs.Courses.{gain};
+ghost use Rattle.vtex.specs.Refusals.{IsRefusalOf, cause_of, refusal_status, refusal_of_words, status_of, refusal_line, Told, EndTold};
 
 use crate::flaws::Flaw;
-use std::alloc::AllocError;
-use vt_camera::PathError;
-use vt_outside::{NoMemory, OutsideError};
-use vt_ppm::PpmError;
-use vt_store::StoreError;
+use vt_outside::{OutsideError, Sink};
+use vt_print::tell_bad_input;
+use vt_words::WordsError;
 
-/// Why a command was refused after its words were read.
-#[derive(Clone, Copy, Debug, PartialEq, Eq)]
-pub enum Refusal {
+/// Why a command was refused.
+#[derive(Clone, Copy, Debug)]
+pub enum Refusal<'a> {
     /// Memory was refused.
     NoMemory,
+    /// The words are not those of a command.
+    Usage,
     /// A call on the folder or the output failed, or a name is missing.
     Fault,
-    /// An input is outside its format, and how.
-    Flaw(Flaw),
+    /// The input of this name has this flaw.
+    Flawed(&'a str, Flaw),
 }
 
-impl From<NoMemory> for Refusal {
-    ghost from_gives = { λ _ e. e ≡ refusal.NoMemory };
-
-    fn from(_: NoMemory) -> Refusal {
-        Refusal::NoMemory
-    }
-}
-
-impl From<AllocError> for Refusal {
-    ghost from_gives = { λ _ e. e ≡ refusal.NoMemory };
-
-    fn from(_: AllocError) -> Refusal {
-        Refusal::NoMemory
-    }
-}
-
-impl From<PathError> for Refusal {
-    ghost from_gives = { λ e r. r ≡ path_refusal e };
-
-    fn from(error: PathError) -> Refusal {
-        match error {
-            PathError::NoMemory => Refusal::NoMemory,
-            _ => Refusal::Flaw(Flaw::Path(error)),
-        }
-    }
-}
-
-impl From<PpmError> for Refusal {
-    ghost from_gives = { λ e r. r ≡ texture_refusal e };
-
-    fn from(error: PpmError) -> Refusal {
-        match error {
-            PpmError::Failed => Refusal::Fault,
-            PpmError::NoMemory => Refusal::NoMemory,
-            _ => Refusal::Flaw(Flaw::Texture(error)),
-        }
-    }
-}
-
-impl From<StoreError> for Refusal {
-    ghost from_gives = { λ e r. r ≡ store_refusal e };
-
-    fn from(error: StoreError) -> Refusal {
-        match error {
-            StoreError::Failed => Refusal::Fault,
-            StoreError::NoMemory => Refusal::NoMemory,
-            _ => Refusal::Flaw(Flaw::Store(error)),
-        }
-    }
-}
-
-impl From<OutsideError> for Refusal {
+impl From<OutsideError> for Refusal<'_> {
     ghost from_gives = { λ e r. r ≡ cause_of e };
 
-    fn from(refusal: OutsideError) -> Refusal {
-        match refusal {
+    fn from(error: OutsideError) -> Self {
+        match error {
             OutsideError::Failed => Refusal::Fault,
             OutsideError::NoMemory => Refusal::NoMemory,
         }
+    }
+}
+
+impl From<WordsError> for Refusal<'_> {
+    ghost from_gives = { λ e r. r ≡ refusal_of_words e };
+
+    fn from(error: WordsError) -> Self {
+        match error {
+            WordsError::Usage => Refusal::Usage,
+            WordsError::NoMemory => Refusal::NoMemory,
+        }
+    }
+}
+
+/// The refusal of the input of a name, by its flaw or by the outside.
+pub fn refusal_of(name: &str, why: Result<Flaw, OutsideError>) -> Refusal<'_>
+    ensures { IsRefusalOf name.now why result }
+{
+    match why {
+        Ok(flaw) => Refusal::Flawed(name, flaw),
+        Err(error) => Refusal::from(error),
+    }
+}
+
+impl Refusal<'_> {
+    /// The status with which the program ends.
+    pub fn status(&self) -> u8
+        ensures { result ≡ refusal_status self.now }
+    {
+        match self {
+            Refusal::NoMemory => 1,
+            Refusal::Usage => 2,
+            Refusal::Fault => 3,
+            Refusal::Flawed(_, _) => 4,
+        }
+    }
+
+    /// Puts the line of the refusal; the first put that is refused ends it. It takes no memory of its own.
+    pub fn tell<E: Sink>(&self, err: &mut E)
+        ensures { Told (refusal_line self.now) (gain E.Sink err.old err.new) }
+    {
+        match self {
+            Refusal::NoMemory => tell_words(err, b"vtex: out of memory\n"),
+            Refusal::Usage => tell_words(
+                err,
+                b"vtex: usage: vtex COMMAND ARGUMENTS (plain, tile, info, walk, replay, gen, trial)\n",
+            ),
+            Refusal::Fault => tell_words(err, b"vtex: fault on files or output\n"),
+            Refusal::Flawed(name, flaw) => tell_bad_input(err, name, &flaw.place()),
+        }
+    }
+}
+
+// Puts a line that has no name and no number.
+fn tell_words<E: Sink>(err: &mut E, line: &[u8])
+    ensures { Told line.now (gain E.Sink err.old err.new) }
+{
+    let _ = err.put(line);
+}
+
+/// The status with which the program ends.
+pub fn status_of(end: &Result<(), Refusal<'_>>) -> u8
+    ensures { result ≡ status_of end.now }
+{
+    match end {
+        Ok(()) => 0,
+        Err(refusal) => refusal.status(),
+    }
+}
+
+/// Tells why a command was refused; of one that is done it tells nothing.
+pub fn tell_end<E: Sink>(end: &Result<(), Refusal<'_>>, err: &mut E)
+    ensures { EndTold end.now (gain E.Sink err.old err.new) }
+{
+    match end {
+        Ok(()) => {}
+        Err(refusal) => refusal.tell(err),
     }
 }

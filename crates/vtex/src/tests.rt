@@ -1,4 +1,5 @@
 // Runs over a folder in memory: those of `plain`, and what all tests share.
+mod generate;
 mod stores;
 
 use crate::run::run;
@@ -10,7 +11,9 @@ use vt_outside::{Fail, Fails, MemoryFolder, MemorySink, NoMemory, OpenGate};
 
 // A texture of 4x4 texels; red, green and blue of texel (x, y) are all 4y+x.
 const G4: &[u8] =
-    b"P6\n4 4\n255\n\x00\x00\x00\x01\x01\x01\x02\x02\x02\x03\x03\x03\x04\x04\x04\x05\x05\x05\x06\x06\x06\x07\x07\x07\x08\x08\x08\x09\x09\x09\x0a\x0a\x0a\x0b\x0b\x0b\x0c\x0c\x0c\x0d\x0d\x0d\x0e\x0e\x0e\x0f\x0f\x0f";
+    b"P6\n4 4\n255\n\x00\x00\x00\x01\x01\x01\x02\x02\x02\x03\x03\x03\x04\x04\x04\x05\x05\x05\x06\x06\x06\x07\
+        \x07\x07\x08\x08\x08\x09\x09\x09\x0a\x0a\x0a\x0b\x0b\x0b\x0c\x0c\x0c\x0d\x0d\x0d\x0e\x0e\x0e\x0f\x0f\
+        \x0f";
 
 // One picture of two pixels, from the height of one texel.
 const PATH: &[u8] = b"size 2 1\nfocal 1\nat 0 0 256 16384 0\n";
@@ -178,12 +181,12 @@ fn stops(
 }
 
 #[test]
-fn first_picture(rt: HostRuntime) {
+fn the_first_picture_is_drawn(rt: HostRuntime) {
     assert!(rt; draws(&rt, rt.alloc(), PATH, PICTURE));
 }
 
 #[test]
-fn level_choice(rt: HostRuntime) {
+fn a_row_is_drawn_at_its_own_level(rt: HostRuntime) {
     let higher = b"size 2 1\nfocal 1\nat 0 0 512 16384 0\n";
     assert!(rt;
         draws(
@@ -198,7 +201,7 @@ fn level_choice(rt: HostRuntime) {
 }
 
 #[test]
-fn bad_inputs(rt: HostRuntime) {
+fn a_flawed_texture_is_told_with_its_place(rt: HostRuntime) {
     let alloc = rt.alloc();
     // Each fault of a texture, with its place.
     for (texture, line) in [
@@ -237,10 +240,12 @@ fn bad_inputs(rt: HostRuntime) {
 }
 
 #[test]
-fn scaled_texture(rt: HostRuntime) {
+fn a_texture_is_scaled_by_its_maximum(rt: HostRuntime) {
     // The first picture's texture with 100 as its maximum: 13 becomes 33, and 1 becomes 3.
     let texture =
-        *b"P6\n4 4\n100\n\x00\x00\x00\x01\x01\x01\x02\x02\x02\x03\x03\x03\x04\x04\x04\x05\x05\x05\x06\x06\x06\x07\x07\x07\x08\x08\x08\x09\x09\x09\x0a\x0a\x0a\x0b\x0b\x0b\x0c\x0c\x0c\x0d\x0d\x0d\x0e\x0e\x0e\x0f\x0f\x0f";
+        *b"P6\n4 4\n100\n\x00\x00\x00\x01\x01\x01\x02\x02\x02\x03\x03\x03\x04\x04\x04\x05\x05\x05\x06\x06\
+            \x06\x07\x07\x07\x08\x08\x08\x09\x09\x09\x0a\x0a\x0a\x0b\x0b\x0b\x0c\x0c\x0c\x0d\x0d\x0d\x0e\x0e\
+            \x0e\x0f\x0f\x0f";
     match play(&rt, rt.alloc(), &WORDS, &texture, PATH, None, None) {
         Ok(left) => {
             assert_eq!(rt; left.status, 0);
@@ -251,7 +256,7 @@ fn scaled_texture(rt: HostRuntime) {
 }
 
 #[test]
-fn bad_paths(rt: HostRuntime) {
+fn a_flawed_path_is_told_with_its_line(rt: HostRuntime) {
     let alloc = rt.alloc();
     let bad_line: &[u8] = b"vtex: bad input: a.path: bad line 2\n";
     assert!(rt; refuses(&rt, alloc, G4, b"size 2 1\nsize 2 1\n", bad_line));
@@ -279,7 +284,7 @@ fn bad_paths(rt: HostRuntime) {
 }
 
 #[test]
-fn pictures_on_the_way(rt: HostRuntime) {
+fn pictures_on_the_way_are_drawn(rt: HostRuntime) {
     // The places 0, -4, -7 and -10: from the second on the pixels show the column before.
     let path = b"size 2 1\nfocal 1\nat 0 0 256 16384 0\nto 3 -10 0 256 16384 0\n";
     let moved: &[u8] = b"P6\n2 1\n255\n\x0c\x0c\x0c\x00\x00\x00";
@@ -295,7 +300,7 @@ fn pictures_on_the_way(rt: HostRuntime) {
 }
 
 #[test]
-fn no_pictures(rt: HostRuntime) {
+fn a_path_may_have_no_pictures(rt: HostRuntime) {
     match play(
         &rt,
         rt.alloc(),
@@ -314,57 +319,24 @@ fn no_pictures(rt: HostRuntime) {
 }
 
 #[test]
-fn bad_words(rt: HostRuntime) {
-    let alloc = rt.alloc();
-    assert!(rt; misuses(&rt, alloc, &[]));
-    assert!(rt;
-        misuses(
-            &rt,
-            alloc,
-            &["Plain", "g4.ppm", "a.path", "f", "--tile", "2"]
-        )
-    );
-    assert!(rt; misuses(&rt, alloc, &["plain", "g4.ppm", "a.path", "f", "--tile"]));
-    assert!(rt; misuses(&rt, alloc, &["plain", "g4.ppm", "a.path", "f"]));
-    assert!(rt;
-        misuses(
-            &rt,
-            alloc,
-            &["plain", "g4.ppm", "a.path", "f", "--tile", "2", "2"]
-        )
-    );
-    assert!(rt;
-        misuses(
-            &rt,
-            alloc,
-            &["plain", "g4.ppm", "a.path", "f", "--tile", "3"]
-        )
-    );
-    assert!(rt;
-        misuses(
-            &rt,
-            alloc,
-            &["plain", "g4.ppm", "a.path", "f", "--tile", "02"]
-        )
-    );
-    assert!(rt;
-        misuses(
-            &rt,
-            alloc,
-            &["plain", "f0000.ppm", "a.path", "f", "--tile", "2"]
-        )
-    );
-    assert!(rt;
-        misuses(
-            &rt,
-            alloc,
-            &["plain", "g4.ppm", "f1234.ppm", "f", "--tile", "2"]
-        )
-    );
+fn words_of_no_command_are_refused(rt: HostRuntime) {
+    let words: [&[&str]; 8] = [
+        &[],
+        &["Plain", "g4.ppm", "a.path", "f", "--tile", "2"],
+        &["plain", "g4.ppm", "a.path", "f", "--tile"],
+        &["plain", "g4.ppm", "a.path", "f", "--tile", "2", "2"],
+        &["plain", "g4.ppm", "a.path", "f", "--tile", "3"],
+        &["plain", "g4.ppm", "a.path", "f", "--tile", "02"],
+        &["plain", "f0000.ppm", "a.path", "f", "--tile", "2"],
+        &["plain", "g4.ppm", "f1234.ppm", "f", "--tile", "2"],
+    ];
+    for words in words {
+        assert!(rt; misuses(&rt, rt.alloc(), words));
+    }
 }
 
 #[test]
-fn one_name_twice(rt: HostRuntime) {
+fn texture_and_path_may_have_one_name(rt: HostRuntime) {
     // Texture and path may have one name, since both are only read; these bytes are no path.
     let words = ["plain", "g4.ppm", "g4.ppm", "f", "--tile", "2"];
     match play(&rt, rt.alloc(), &words, G4, PATH, None, None) {
@@ -377,7 +349,7 @@ fn one_name_twice(rt: HostRuntime) {
 }
 
 #[test]
-fn missing_names(rt: HostRuntime) {
+fn a_missing_name_is_a_fault(rt: HostRuntime) {
     for words in [
         ["plain", "none", "a.path", "f", "--tile", "2"],
         ["plain", "g4.ppm", "none", "f", "--tile", "2"],
@@ -393,7 +365,7 @@ fn missing_names(rt: HostRuntime) {
 }
 
 #[test]
-fn failing_calls(rt: HostRuntime) {
+fn a_call_that_fails_stops_plain(rt: HostRuntime) {
     let alloc = rt.alloc();
     for fail in [
         Fail::Open(0),
@@ -424,13 +396,59 @@ fn failing_calls(rt: HostRuntime) {
 }
 
 #[test]
-fn failing_error_output(rt: HostRuntime) {
+fn a_line_ends_where_a_put_fails(rt: HostRuntime) {
     // The line ends at the put that fails, and the status stays.
     let words = ["plain", "none", "a.path", "f", "--tile", "2"];
     match play(&rt, rt.alloc(), &words, G4, PATH, None, Some(Fail::Put(0))) {
         Ok(left) => {
             assert_eq!(rt; left.status, 3);
             assert!(rt; left.printed(b"", &FAULT[..15]));
+        }
+        Err(_) => assert!(rt; false, "there is memory"),
+    }
+}
+
+// Whether a run of `plain` over this texture and this path ends with this status and this line, and writes nothing.
+fn ends(
+    rt: &(impl Threads + Wait + Sync),
+    alloc: Global,
+    words: &[&str],
+    texture: &[u8],
+    path: &[u8],
+    status: u8,
+    line: &[u8],
+) -> bool {
+    match play(rt, alloc, words, texture, path, None, None) {
+        Ok(left) => left.status == status && !left.has("f0000.ppm") && left.printed(b"", line),
+        Err(_) => false,
+    }
+}
+
+#[test]
+fn the_first_cause_among_the_inputs_decides(rt: HostRuntime) {
+    let alloc = rt.alloc();
+    let flawed: &[u8] = b"vtex: bad input: a.path: bad line 1\n";
+    let no_texture = ["plain", "none", "a.path", "f", "--tile", "2"];
+    assert!(rt; ends(&rt, alloc, &no_texture, G4, b"", 4, flawed));
+    let no_path = ["plain", "g4.ppm", "none", "f", "--tile", "2"];
+    assert!(rt; ends(&rt, alloc, &no_path, b"", PATH, 3, FAULT));
+}
+
+#[test]
+fn each_picture_is_created_once(rt: HostRuntime) {
+    // A second creation would fail.
+    match play(
+        &rt,
+        rt.alloc(),
+        &WORDS,
+        G4,
+        PATH,
+        Some(Fail::Create(1)),
+        None,
+    ) {
+        Ok(left) => {
+            assert_eq!(rt; left.status, 0);
+            assert!(rt; left.holds("f0000.ppm", PICTURE) && left.printed(END, b""));
         }
         Err(_) => assert!(rt; false, "there is memory"),
     }

@@ -8,7 +8,9 @@ use vt_outside::{Fail, MemoryFolder, NoMemory};
 
 // The store of the texture of 4x4 texels, for tiles of 2x2.
 const G4_STORE: &[u8] =
-    b"VTS1\x00\x00\x00\x04\x00\x00\x00\x04\x00\x00\x00\x02\x00\x00\x00\x01\x01\x01\x04\x04\x04\x05\x05\x05\x02\x02\x02\x03\x03\x03\x06\x06\x06\x07\x07\x07\x08\x08\x08\x09\x09\x09\x0c\x0c\x0c\x0d\x0d\x0d\x0a\x0a\x0a\x0b\x0b\x0b\x0e\x0e\x0e\x0f\x0f\x0f\x03\x03\x03\x05\x05\x05\x0b\x0b\x0b\x0d\x0d\x0d";
+    b"VTS1\x00\x00\x00\x04\x00\x00\x00\x04\x00\x00\x00\x02\x00\x00\x00\x01\x01\x01\x04\x04\x04\x05\x05\x05\
+        \x02\x02\x02\x03\x03\x03\x06\x06\x06\x07\x07\x07\x08\x08\x08\x09\x09\x09\x0c\x0c\x0c\x0d\x0d\x0d\x0a\
+        \x0a\x0a\x0b\x0b\x0b\x0e\x0e\x0e\x0f\x0f\x0f\x03\x03\x03\x05\x05\x05\x0b\x0b\x0b\x0d\x0d\x0d";
 
 const G4_LINE: &[u8] = b"store 4 4 tile 2 levels 2 pages 5 bytes 76\n";
 
@@ -99,7 +101,7 @@ fn stops(
 }
 
 #[test]
-fn single_texel(rt: HostRuntime) {
+fn a_single_texel_fills_its_tile(rt: HostRuntime) {
     assert!(rt;
         tiles(
             &rt,
@@ -112,40 +114,50 @@ fn single_texel(rt: HostRuntime) {
 }
 
 #[test]
-fn store_of_four_by_four(rt: HostRuntime) {
+fn a_texture_of_four_by_four_is_tiled(rt: HostRuntime) {
     assert!(rt; tiles(&rt, rt.alloc(), G4, G4_STORE, G4_LINE));
 }
 
 #[test]
-fn odd_sides(rt: HostRuntime) {
+fn odd_sides_are_clamped(rt: HostRuntime) {
     // All channels of texel (x, y) are 10y+x.
     assert!(rt;
         tiles(
             &rt,
             rt.alloc(),
-            b"P6\n5 3\n255\n\x00\x00\x00\x01\x01\x01\x02\x02\x02\x03\x03\x03\x04\x04\x04\x0a\x0a\x0a\x0b\x0b\x0b\x0c\x0c\x0c\x0d\x0d\x0d\x0e\x0e\x0e\x14\x14\x14\x15\x15\x15\x16\x16\x16\x17\x17\x17\x18\x18\x18",
-            b"VTS1\x00\x00\x00\x05\x00\x00\x00\x03\x00\x00\x00\x02\x00\x00\x00\x01\x01\x01\x0a\x0a\x0a\x0b\x0b\x0b\x02\x02\x02\x03\x03\x03\x0c\x0c\x0c\x0d\x0d\x0d\x04\x04\x04\x04\x04\x04\x0e\x0e\x0e\x0e\x0e\x0e\x14\x14\x14\x15\x15\x15\x14\x14\x14\x15\x15\x15\x16\x16\x16\x17\x17\x17\x16\x16\x16\x17\x17\x17\x18\x18\x18\x18\x18\x18\x18\x18\x18\x18\x18\x18\x06\x06\x06\x08\x08\x08\x15\x15\x15\x17\x17\x17\x09\x09\x09\x09\x09\x09\x18\x18\x18\x18\x18\x18\x0f\x0f\x0f\x11\x11\x11\x0f\x0f\x0f\x11\x11\x11",
+            b"P6\n5 3\n255\n\x00\x00\x00\x01\x01\x01\x02\x02\x02\x03\x03\x03\x04\x04\x04\x0a\x0a\x0a\x0b\x0b\
+                \x0b\x0c\x0c\x0c\x0d\x0d\x0d\x0e\x0e\x0e\x14\x14\x14\x15\x15\x15\x16\x16\x16\x17\x17\x17\x18\
+                \x18\x18",
+            b"VTS1\x00\x00\x00\x05\x00\x00\x00\x03\x00\x00\x00\x02\x00\x00\x00\x01\x01\x01\x0a\x0a\x0a\x0b\
+                \x0b\x0b\x02\x02\x02\x03\x03\x03\x0c\x0c\x0c\x0d\x0d\x0d\x04\x04\x04\x04\x04\x04\x0e\x0e\x0e\
+                \x0e\x0e\x0e\x14\x14\x14\x15\x15\x15\x14\x14\x14\x15\x15\x15\x16\x16\x16\x17\x17\x17\x16\x16\
+                \x16\x17\x17\x17\x18\x18\x18\x18\x18\x18\x18\x18\x18\x18\x18\x18\x06\x06\x06\x08\x08\x08\x15\
+                \x15\x15\x17\x17\x17\x09\x09\x09\x09\x09\x09\x18\x18\x18\x18\x18\x18\x0f\x0f\x0f\x11\x11\x11\
+                \x0f\x0f\x0f\x11\x11\x11",
             b"store 5 3 tile 2 levels 3 pages 9 bytes 124\n"
         )
     );
 }
 
 #[test]
-fn box_rounding(rt: HostRuntime) {
+fn boxes_are_rounded(rt: HostRuntime) {
     // The boxes of 0, 1, 2, 3 and of 0, 0, 0, 1 are the two texels of level 1: 2 and 0.
     assert!(rt;
         tiles(
             &rt,
             rt.alloc(),
-            b"P6\n4 2\n255\n\x00\x00\x00\x01\x01\x01\x00\x00\x00\x00\x00\x00\x02\x02\x02\x03\x03\x03\x00\x00\x00\x01\x01\x01",
-            b"VTS1\x00\x00\x00\x04\x00\x00\x00\x02\x00\x00\x00\x02\x00\x00\x00\x01\x01\x01\x02\x02\x02\x03\x03\x03\x00\x00\x00\x00\x00\x00\x00\x00\x00\x01\x01\x01\x02\x02\x02\x00\x00\x00\x02\x02\x02\x00\x00\x00",
+            b"P6\n4 2\n255\n\x00\x00\x00\x01\x01\x01\x00\x00\x00\x00\x00\x00\x02\x02\x02\x03\x03\x03\x00\x00\
+                \x00\x01\x01\x01",
+            b"VTS1\x00\x00\x00\x04\x00\x00\x00\x02\x00\x00\x00\x02\x00\x00\x00\x01\x01\x01\x02\x02\x02\x03\
+                \x03\x03\x00\x00\x00\x00\x00\x00\x00\x00\x00\x01\x01\x01\x02\x02\x02\x00\x00\x00\x02\x02\x02\
+                \x00\x00\x00",
             b"store 4 2 tile 2 levels 2 pages 3 bytes 52\n"
         )
     );
 }
 
 #[test]
-fn store_refusals(rt: HostRuntime) {
+fn a_flawed_store_is_told_with_its_numbers(rt: HostRuntime) {
     let alloc = rt.alloc();
     let info = ["info", "t.ppm"];
     let tile_of_three: &[u8] = b"VTS1\x00\x00\x00\x04\x00\x00\x00\x04\x00\x00\x00\x03\x00\x00\x00";
@@ -175,65 +187,24 @@ fn store_refusals(rt: HostRuntime) {
 }
 
 #[test]
-fn refused_words(rt: HostRuntime) {
-    let alloc = rt.alloc();
-    assert!(rt;
-        refuses(
-            &rt,
-            alloc,
-            &["tile", "t.ppm", "t.ppm", "--tile", "2"],
-            G4,
-            2,
-            USAGE
-        )
-    );
-    assert!(rt;
-        refuses(
-            &rt,
-            alloc,
-            &["tile", "t.ppm", "s.vts", "--tile", "3"],
-            G4,
-            2,
-            USAGE
-        )
-    );
-    assert!(rt;
-        refuses(
-            &rt,
-            alloc,
-            &["tile", "t.ppm", "s.vts", "--tiles", "2"],
-            G4,
-            2,
-            USAGE
-        )
-    );
-    assert!(rt;
-        refuses(
-            &rt,
-            alloc,
-            &["tile", "t.ppm", "s.vts", "--tile"],
-            G4,
-            2,
-            USAGE
-        )
-    );
-    assert!(rt;
-        refuses(
-            &rt,
-            alloc,
-            &["tile", "t.ppm", "s.vts", "--tile", "2", "2"],
-            G4,
-            2,
-            USAGE
-        )
-    );
-    assert!(rt; refuses(&rt, alloc, &["info"], G4, 2, USAGE));
-    assert!(rt; refuses(&rt, alloc, &["info", "t.ppm", "t.ppm"], G4, 2, USAGE));
-    assert!(rt; refuses(&rt, alloc, &["walk", "t.ppm"], G4, 2, USAGE));
+fn words_of_neither_command_are_refused(rt: HostRuntime) {
+    let words: [&[&str]; 8] = [
+        &["tile", "t.ppm", "t.ppm", "--tile", "2"],
+        &["tile", "t.ppm", "s.vts", "--tile", "3"],
+        &["tile", "t.ppm", "s.vts", "--tiles", "2"],
+        &["tile", "t.ppm", "s.vts", "--tile"],
+        &["tile", "t.ppm", "s.vts", "--tile", "2", "2"],
+        &["info"],
+        &["info", "t.ppm", "t.ppm"],
+        &["walk", "t.ppm"],
+    ];
+    for words in words {
+        assert!(rt; refuses(&rt, rt.alloc(), words, G4, 2, USAGE));
+    }
 }
 
 #[test]
-fn refused_textures(rt: HostRuntime) {
+fn a_texture_that_is_flawed_or_missing_is_refused(rt: HostRuntime) {
     let alloc = rt.alloc();
     let bad_magic = b"vtex: bad input: t.ppm: bad magic\n";
     assert!(rt; refuses(&rt, alloc, &TILE, b"P5 1 1 255\n\x00", 4, bad_magic));
@@ -243,7 +214,7 @@ fn refused_textures(rt: HostRuntime) {
 }
 
 #[test]
-fn failing_calls(rt: HostRuntime) {
+fn a_call_that_fails_stops_tile(rt: HostRuntime) {
     let alloc = rt.alloc();
     for fail in [
         Fail::Open(0),
@@ -270,7 +241,7 @@ fn failing_calls(rt: HostRuntime) {
 }
 
 #[test]
-fn failing_calls_of_info(rt: HostRuntime) {
+fn a_call_that_fails_stops_info(rt: HostRuntime) {
     let alloc = rt.alloc();
     for fail in [
         Fail::Open(0),
@@ -294,5 +265,17 @@ fn failing_calls_of_info(rt: HostRuntime) {
             }
             Err(_) => assert!(rt; false, "there is memory"),
         }
+    }
+}
+
+#[test]
+fn a_store_is_created_once(rt: HostRuntime) {
+    // A second creation would fail.
+    match play_on(&rt, rt.alloc(), &TILE, "t.ppm", G4, Some(Fail::Create(1))) {
+        Ok(left) => {
+            assert_eq!(rt; left.status, 0);
+            assert!(rt; left.holds("s.vts", G4_STORE) && left.printed(G4_LINE, b""));
+        }
+        Err(_) => assert!(rt; false, "there is memory"),
     }
 }

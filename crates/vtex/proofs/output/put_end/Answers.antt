@@ -1,19 +1,17 @@
-use Rattle.std.proofs.Common.{◌≡◌, ℕ, List, [], ◌∷◌, ◌++◌, ap, ◌∙◌}
-use Rattle.std.specs.Prelude.{codes, decimal}
-use Rattle.std.proofs.lemmas.List.{append-nil}
+use Rattle.std.proofs.Common.{◌≡◌, ℕ, List, [], ◌++◌, ap, ◌∙◌}
+use Rattle.std.specs.Prelude.{codes}
+use Rattle.vt_text.specs.Numbers.{number_spelling}
+use Rattle.vtex.specs.Courses.{gain}
 use Rattle.vtex.specs.Lines.{end_line}
-use Rattle.vtex.specs.Pieces.{joined}
-use Rattle.vtex.proofs.Held.{three_pieces}
+use Rattle.vtex.proofs.Drawing.{three_pieces, pieces_put}
 use Rattle.vtex.proofs.output.put_end.Goals as goal
 
-pub returns-clause-whole : goal.returns-clause-whole
-returns-clause-whole g c =
-    let e : joined (c.as_slice.result ∷ c.as_bytes.result ∷ c.as_slice-2.result ∷ []) ≡ codes "end pictures " ++ (decimal c.args.pictures ++ codes "\n") =
-    three_pieces c.as_slice.result.now c.as_bytes.result.now c.as_slice-2.result.now (codes "end pictures ") (decimal c.args.pictures) (codes "\n") c.as_slice.ensures (c.as_bytes.ensures.value ∙ c.format.ensures.text) c.as_slice-2.ensures in
-    rw (← e) c.put_pieces.ensures.whole
-
-pub returns-clause-part : goal.returns-clause-part
-returns-clause-part g c =
-    let e : joined (c.as_slice.result ∷ c.as_bytes.result ∷ c.as_slice-2.result ∷ []) ≡ codes "end pictures " ++ (decimal c.args.pictures ++ codes "\n") =
-    three_pieces c.as_slice.result.now c.as_bytes.result.now c.as_slice-2.result.now (codes "end pictures ") (decimal c.args.pictures) (codes "\n") c.as_slice.ensures (c.as_bytes.ensures.value ∙ c.format.ensures.text) c.as_slice-2.ensures in
-    rw (← e) c.put_pieces.ensures.part
+pub returns : goal.returns
+returns g c =
+    let e : c.as_slice.result.now ++ (c.bytes.result.now ++ (c.as_slice-2.result.now ++ [])) ≡ end_line c.args.pictures =
+    three_pieces c.as_slice.result.now c.bytes.result.now c.as_slice-2.result.now (codes "end pictures ") (number_spelling c.args.pictures) (codes "\n")
+    c.as_slice.ensures (c.bytes.ensures ∙ c.number.ensures.gained
+    ∙ ap (λ (t : List ℕ). t ++ number_spelling c.args.pictures) c.new-number.ensures) c.as_slice-2.ensures in
+    let p = c.put_pieces.ensures in
+    pieces_put (c.as_slice.result.now ++ (c.bytes.result.now ++ (c.as_slice-2.result.now ++ []))) (end_line c.args.pictures)
+    (gain g.O.Sink c.args.out.now c.put_pieces.new.sink) c.put_pieces.result e p.whole p.part p.failed

@@ -1,60 +1,91 @@
-use Rattle.std.proofs.Common.{◌≡◌, List, ℕ, subst, ◌∙◌}
-use Rattle.vtex.specs.Words.{texts}
-use Rattle.vtex.specs.Runs.{Course}
-use Rattle.vtex.specs.Told.{Tells}
-use Rattle.vtex.proofs.Ended.{done_of, complete_of, memory_line_of, fault_line_of, bad_input_of}
+use Rattle.vtex.specs.Courses.{course, gain}
+use Rattle.vt_words.specs.Arguments.{texts}
+use Rattle.vtex.proofs.Clauses
 use Rattle.vtex.proofs.run.run.Goals as goal
 
 pub returns-clause-done : goal.returns-clause-done
-returns-clause-done g c = λ status told.
-    let course : Course = record {
-      words = texts c.args.words.now;
-      before = g.D.Folder.files c.args.folder.now;
-      after = g.D.Folder.files c.do_command-ending.new.folder;
-      held = g.O.Sink.held c.args.out.now;
-      shown = g.O.Sink.held c.do_command-ending.new.out;
-      folder_faults = g.D.Folder.faults c.args.folder.now;
-      folder_faults_after = g.D.Folder.faults c.do_command-ending.new.folder;
-      out_faults = g.O.Sink.faults c.args.out.now;
-      out_faults_after = g.O.Sink.faults c.do_command-ending.new.out;
-    } in
-    done_of c.do_command-ending.result course c.do_command-ending.ensures (rw c.status.ensures at status) told
+returns-clause-done g c =
+    λ s told. Clauses.done_of _ (texts c.args.words.now)
+    (course g.D.Folder g.O.Sink c.args.folder.now c.do_command-end.new.folder c.args.out.now c.do_command-end.new.out)
+    c.do_command-end.result c.do_command-end.ensures (rw c.status_of.ensures at s) told
 
-pub returns-clause-complete : goal.returns-clause-complete
-returns-clause-complete g c = λ no_fault no_out command is accepted.
-    let course : Course = record {
-      words = texts c.args.words.now;
-      before = g.D.Folder.files c.args.folder.now;
-      after = g.D.Folder.files c.do_command-ending.new.folder;
-      held = g.O.Sink.held c.args.out.now;
-      shown = g.O.Sink.held c.do_command-ending.new.out;
-      folder_faults = g.D.Folder.faults c.args.folder.now;
-      folder_faults_after = g.D.Folder.faults c.do_command-ending.new.folder;
-      out_faults = g.O.Sink.faults c.args.out.now;
-      out_faults_after = g.O.Sink.faults c.do_command-ending.new.out;
-    } in
-    rw c.status.ensures (complete_of c.do_command-ending.result course c.do_command-ending.ensures no_fault no_out command is accepted)
+pub returns-clause-left : goal.returns-clause-left
+returns-clause-left g c =
+    λ s told. Clauses.left_of _ (texts c.args.words.now)
+    (course g.D.Folder g.O.Sink c.args.folder.now c.do_command-end.new.folder c.args.out.now c.do_command-end.new.out)
+    c.do_command-end.result c.do_command-end.ensures (rw c.status_of.ensures at s) told
 
-pub returns-clause-memory_told : goal.returns-clause-memory_told
-returns-clause-memory_told g c = λ status.
-    subst (λ (line : List ℕ). Tells line (g.E.Sink.held c.args.err.now) (g.E.Sink.held c.tell.new.err) (g.E.Sink.faults c.args.err.now) (g.E.Sink.faults c.tell.new.err) (g.E.Sink.refusals c.args.err.now) (g.E.Sink.refusals c.tell.new.err)) (memory_line_of c.do_command-ending.result (rw c.status.ensures at status)) c.tell.ensures
+pub returns-clause-untouched : goal.returns-clause-untouched
+returns-clause-untouched g c =
+    rw c.status_of.ensures (Clauses.untouched_of _ (texts c.args.words.now)
+    (course g.D.Folder g.O.Sink c.args.folder.now c.do_command-end.new.folder c.args.out.now c.do_command-end.new.out)
+    c.do_command-end.result c.do_command-end.ensures)
 
-pub returns-clause-fault_told : goal.returns-clause-fault_told
-returns-clause-fault_told g c = λ status.
-    subst (λ (line : List ℕ). Tells line (g.E.Sink.held c.args.err.now) (g.E.Sink.held c.tell.new.err) (g.E.Sink.faults c.args.err.now) (g.E.Sink.faults c.tell.new.err) (g.E.Sink.refusals c.args.err.now) (g.E.Sink.refusals c.tell.new.err)) (fault_line_of c.do_command-ending.result (rw c.status.ensures at status)) c.tell.ensures
+pub returns-clause-asked : goal.returns-clause-asked
+returns-clause-asked g c =
+    Clauses.asked_of _ (texts c.args.words.now)
+    (course g.D.Folder g.O.Sink c.args.folder.now c.do_command-end.new.folder c.args.out.now c.do_command-end.new.out)
+    c.do_command-end.result c.do_command-end.ensures
+
+pub returns-clause-idle : goal.returns-clause-idle
+returns-clause-idle g c =
+    Clauses.idle_of _ (texts c.args.words.now)
+    (course g.D.Folder g.O.Sink c.args.folder.now c.do_command-end.new.folder c.args.out.now c.do_command-end.new.out)
+    c.do_command-end.result c.do_command-end.ensures
+
+pub returns-clause-usage : goal.returns-clause-usage
+returns-clause-usage g c =
+    λ s. Clauses.usage_of _ (texts c.args.words.now)
+    (course g.D.Folder g.O.Sink c.args.folder.now c.do_command-end.new.folder c.args.out.now c.do_command-end.new.out)
+    c.do_command-end.result c.do_command-end.ensures (rw c.status_of.ensures at s)
+
+pub returns-clause-no_command : goal.returns-clause-no_command
+returns-clause-no_command g c =
+    rw c.status_of.ensures (Clauses.no_command_of _ (texts c.args.words.now)
+    (course g.D.Folder g.O.Sink c.args.folder.now c.do_command-end.new.folder c.args.out.now c.do_command-end.new.out)
+    c.do_command-end.result c.do_command-end.ensures)
+
+pub returns-clause-fault : goal.returns-clause-fault
+returns-clause-fault g c =
+    λ s. Clauses.fault_of _ (texts c.args.words.now)
+    (course g.D.Folder g.O.Sink c.args.folder.now c.do_command-end.new.folder c.args.out.now c.do_command-end.new.out)
+    c.do_command-end.result c.do_command-end.ensures (rw c.status_of.ensures at s)
 
 pub returns-clause-bad_input : goal.returns-clause-bad_input
-returns-clause-bad_input g c = λ status.
-    let course : Course = record {
-      words = texts c.args.words.now;
-      before = g.D.Folder.files c.args.folder.now;
-      after = g.D.Folder.files c.do_command-ending.new.folder;
-      held = g.O.Sink.held c.args.out.now;
-      shown = g.O.Sink.held c.do_command-ending.new.out;
-      folder_faults = g.D.Folder.faults c.args.folder.now;
-      folder_faults_after = g.D.Folder.faults c.do_command-ending.new.folder;
-      out_faults = g.O.Sink.faults c.args.out.now;
-      out_faults_after = g.O.Sink.faults c.do_command-ending.new.out;
-    } in
-    let named = bad_input_of c.do_command-ending.result course c.do_command-ending.ensures (rw c.status.ensures at status) in
-    (named.0, named.1, named.2, named.3, subst (λ (line : List ℕ). Tells line (g.E.Sink.held c.args.err.now) (g.E.Sink.held c.tell.new.err) (g.E.Sink.faults c.args.err.now) (g.E.Sink.faults c.tell.new.err) (g.E.Sink.refusals c.args.err.now) (g.E.Sink.refusals c.tell.new.err)) named.4 c.tell.ensures)
+returns-clause-bad_input g c =
+    λ s. Clauses.bad_input_of _ (texts c.args.words.now)
+    (course g.D.Folder g.O.Sink c.args.folder.now c.do_command-end.new.folder c.args.out.now c.do_command-end.new.out)
+    c.do_command-end.result (gain g.E.Sink c.args.err.now c.tell_end.new.err) c.do_command-end.ensures c.tell_end.ensures
+    (rw c.status_of.ensures at s)
+
+pub returns-clause-caused : goal.returns-clause-caused
+returns-clause-caused g c =
+    rw c.status_of.ensures (Clauses.caused_of _ (texts c.args.words.now)
+    (course g.D.Folder g.O.Sink c.args.folder.now c.do_command-end.new.folder c.args.out.now c.do_command-end.new.out)
+    c.do_command-end.result c.do_command-end.ensures)
+
+pub returns-clause-complete : goal.returns-clause-complete
+returns-clause-complete g c =
+    rw c.status_of.ensures (Clauses.complete_of _ (texts c.args.words.now)
+    (course g.D.Folder g.O.Sink c.args.folder.now c.do_command-end.new.folder c.args.out.now c.do_command-end.new.out)
+    c.do_command-end.result c.do_command-end.ensures)
+
+pub returns-clause-statuses : goal.returns-clause-statuses
+returns-clause-statuses g c =
+    rw c.status_of.ensures (Clauses.small_of _ c.do_command-end.result)
+
+pub returns-clause-silent : goal.returns-clause-silent
+returns-clause-silent g c =
+    λ s. Clauses.silent_of _ c.do_command-end.result (gain g.E.Sink c.args.err.now c.tell_end.new.err) c.tell_end.ensures (rw c.status_of.ensures at s)
+
+pub returns-clause-memory_told : goal.returns-clause-memory_told
+returns-clause-memory_told g c =
+    λ s. Clauses.memory_told_of _ c.do_command-end.result (gain g.E.Sink c.args.err.now c.tell_end.new.err) c.tell_end.ensures (rw c.status_of.ensures at s)
+
+pub returns-clause-usage_told : goal.returns-clause-usage_told
+returns-clause-usage_told g c =
+    λ s. Clauses.usage_told_of _ c.do_command-end.result (gain g.E.Sink c.args.err.now c.tell_end.new.err) c.tell_end.ensures (rw c.status_of.ensures at s)
+
+pub returns-clause-fault_told : goal.returns-clause-fault_told
+returns-clause-fault_told g c =
+    λ s. Clauses.fault_told_of _ c.do_command-end.result (gain g.E.Sink c.args.err.now c.tell_end.new.err) c.tell_end.ensures (rw c.status_of.ensures at s)

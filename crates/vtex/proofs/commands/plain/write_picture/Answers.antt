@@ -1,0 +1,36 @@
+use Rattle.std.proofs.Common.{◌≡◌, ◌∙◌}
+use Rattle.std.proofs.lemmas.Result.{err_from_is_err_and}
+use Rattle.vtex.specs.Courses.{folder_state, passage}
+use Rattle.vt_words.specs.Names.{picture_name}
+use Rattle.vtex.specs.Pictures.{plain_file}
+use Rattle.vtex.proofs.Drawing.{file_is}
+use Rattle.vtex.proofs.Writing.{unwritten, written_as}
+use Rattle.vtex.proofs.commands.plain.write_picture.Goals as goal
+
+pub returns-in_err-samples : goal.returns-in_err-samples
+returns-in_err-samples g c =
+    let p = err_from_is_err_and c.from_residual.result c.from_residual.ensures.1 in
+    rw (p.1, p.2) (unwritten _ (folder_state g.D.Folder c.args.folder.now))
+
+pub returns-in_err-bytes : goal.returns-in_err-bytes
+returns-in_err-bytes g c =
+    let p = err_from_is_err_and c.from_residual-in_err-bytes.result c.from_residual-in_err-bytes.ensures.1 in
+    rw (p.1, p.2) (unwritten _ (folder_state g.D.Folder c.args.folder.now))
+
+pub returns-in_err-name : goal.returns-in_err-name
+returns-in_err-name g c =
+    let p = err_from_is_err_and c.from_residual-in_err-name.result c.from_residual-in_err-name.ensures.1 in
+    rw (p.1, p.2) (unwritten _ (folder_state g.D.Folder c.args.folder.now))
+
+pub returns : goal.returns
+returns g c =
+    let base = c.args.chain.now.base in
+    let tile = c.args.chain.now.tile in
+    let path = c.args.path.now in
+    let name : c.as_str.result.now ≡ picture_name c.args.prefix.now c.args.picture = c.as_str.ensures.value ∙ c.in_ok-name.ensures in
+    let file : c.deref-2.result.now ≡ plain_file base tile path c.args.picture =
+    file_is base tile path c.args.picture c.width.result c.height.result c.deref-2.result.now c.in_ok-bytes.bytes.items
+    c.deref.result.now c.in_ok-samples.samples.items
+    c.deref-2.ensures.value c.in_ok-bytes.ensures c.deref.ensures.value c.in_ok-samples.ensures.samples c.width.ensures.value c.height.ensures.value in
+    written_as c.as_str.result.now c.deref-2.result.now (picture_name c.args.prefix.now c.args.picture) (plain_file base tile path c.args.picture)
+    (passage g.D.Folder c.args.folder.now c.write_file.new.folder) c.write_file.result name file c.write_file.ensures

@@ -1,0 +1,35 @@
+-- The command `plain`: the plain picture of each camera of a path over a texture.
+use Rattle.std.specs.Prelude.{ℕ, List, [], ◌∷◌, length, map}
+use Rattle.std.specs.List.{range_with_len}
+use Rattle.vt_ppm.specs.Image.{ImageView}
+use Rattle.vt_camera.specs.Paths.{PathView}
+use Rattle.vt_words.specs.Plain.{PlainText}
+use Rattle.vt_words.specs.Names.{picture_name}
+use Rattle.vtex.specs.Lines.{end_line}
+use Rattle.vtex.specs.Pictures.{plain_file}
+use Rattle.vtex.specs.Inputs.{Content, PathInput, TextureInput, PathContent, TextureContent}
+use Rattle.vtex.specs.Dues.{FileDue, Due}
+use Rattle.vtex.specs.Tasks.{Task}
+
+-- a picture of a number, under its name
+abbrev pub picture_due : List ℕ → (ℕ → List ℕ) → ℕ → FileDue
+picture_due prefix file picture = record { name = picture_name prefix picture; bytes = file picture }
+
+-- so many pictures from the first on
+abbrev pub pictures_due : List ℕ → (ℕ → List ℕ) → ℕ → List FileDue
+pictures_due prefix file count = map (picture_due prefix file) (range_with_len 0 count)
+
+-- the pictures of a path over a texture, and the end line
+abbrev pub path_due : List ℕ → ImageView → ℕ → PathView → Due
+path_due prefix texture tile path = record {
+  files = pictures_due prefix (plain_file texture tile path) (length path.cameras);
+  text = end_line (length path.cameras);
+}
+
+abbrev pub plain_due : PlainText → List Content → Due
+plain_due words (PathContent path ∷ TextureContent texture ∷ []) = path_due words.prefix texture words.tile path
+plain_due words other = record { files = []; text = [] }
+
+-- `plain` reads the path and then the texture
+abbrev pub plain_task : PlainText → Task
+plain_task words = record { inputs = PathInput words.path ∷ TextureInput words.texture ∷ []; due = plain_due words }

@@ -1,0 +1,26 @@
+//! The command `info`: what the header of a tile store tells.
+
+ghost use Rattle.std.specs.Prelude.{◌≡◌};
+ghost use Rattle.vtex.specs.Courses.{course};
+ghost use Rattle.vt_words.specs.Info.{shown_info};
+ghost use Rattle.vtex.specs.Tasks.{Ends};
+ghost use Rattle.vtex.specs.commands.Info.{info_task};
+
+use crate::input::read_geometry;
+use crate::output::put_store_line;
+use crate::refusal::Refusal;
+use vt_outside::{Folder, Sink};
+use vt_words::InfoWords;
+
+/// Opens the store and puts its line.
+pub fn info<'a, D: Folder, O: Sink>(
+    words: &InfoWords<'a>,
+    folder: &mut D,
+    out: &mut O,
+) -> Result<(), Refusal<'a>>
+    ensures { Ends (info_task (shown_info words.now)) (course D.Folder O.Sink folder.old folder.new out.old out.new) result }
+{
+    let geometry = read_geometry(folder, words.store)?;
+    put_store_line(out, &geometry)?;
+    Ok(())
+}
