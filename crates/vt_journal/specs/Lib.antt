@@ -1,0 +1,11 @@
+pub mod Bounds
+pub mod Changes
+pub mod Journals
+pub mod Lookups
+pub mod JournalText
+pub mod Passes
+pub mod Kept
+pub mod JournalFlaws
+pub mod JournalReading
+pub mod Texts
+pub mod Following

@@ -1,0 +1,37 @@
+-- Which page stands in for a page that is not mapped (van Waveren 2012).
+use Rattle.std.specs.Prelude.{◌≡◌, ◌≢◌, ℕ, ◌<◌, Option, Some, None, List, [], ◌∷◌, slice_get}
+use Rattle.vt_pages.specs.Shape.{Shape}
+use Rattle.vt_pages.specs.Pages.{line_of}
+use Rattle.vt_journal.specs.declared.changes.Change.{Change}
+use Rattle.vt_journal.specs.declared.changes.Change.TheVariants.{Map, Unmap}
+use Rattle.vt_journal.specs.Changes.{Table}
+
+-- the first of these pages that the table maps
+abbrev pub first_mapped : Table → List ℕ → Option ℕ
+first_mapped m [] = None
+first_mapped m (p ∷ ps) = elim (m p) [ None ↦ first_mapped m ps | Some frame ↦ Some p ]
+
+-- the look-up of a page: the finest that the table maps of the page and its ancestors (van Waveren 2012)
+unfoldable pub lookup : Shape → Table → ℕ → Option ℕ
+lookup s m p = first_mapped m (line_of s p)
+
+-- a page of the list is mapped, and none before it
+pub record IsFirstMapped (m : Table) (ps : List ℕ) (a : ℕ) : Type 0 where
+  pub place : ℕ
+  pub stands : slice_get ps place ≡ Some a
+  pub frame : ℕ
+  pub mapped : m a ≡ Some frame
+  pub before : (k q : ℕ) → k < place → slice_get ps k ≡ Some q → m q ≡ None
+
+-- the finest mapped page among a page and its ancestors (van Waveren 2012)
+abbrev pub IsFinest : Shape → Table → ℕ → ℕ → Type 0
+IsFinest s m p a = IsFirstMapped m (line_of s p) a
+
+-- the page that a change maps or unmaps
+abbrev pub change_page : Change → ℕ
+change_page (Map page frame) = page
+change_page (Unmap page frame) = page
+
+-- the page is not among these
+abbrev pub IsAway : ℕ → List ℕ → Type 0
+IsAway page ps = (k q : ℕ) → slice_get ps k ≡ Some q → q ≢ page
