@@ -1,0 +1,16 @@
+pub mod LineLemmas
+pub mod ListLemmas
+pub mod WalkLemmas
+pub mod OrderLemmas
+pub mod TouchLemmas
+pub mod SettleLemmas
+pub mod PlanLemmas
+pub mod FreeLemmas
+pub mod FirstLemmas
+pub mod LawfulLemmas
+pub mod PairLemmas
+pub mod LineOrders
+pub mod StampOrder
+pub mod ReadPlaces
+pub mod StampLemmas
+pub mod StampRules

@@ -1,0 +1,61 @@
+-- What is kept beside the table: the marks of a walk over lines.
+use Rattle.std.specs.Prelude.{◌≡◌, ℕ, ◌+◌, ◌-◌, ◌^◌, ◌≤◌, ◌&&◌, not, nat_lt, [], Bool, true, false, nat_eq, slice_set, Option, None, Some, ◌∷◌, ◌++◌, if◌then◌else◌, slice_index, List, length, slice_index_or}
+use Rattle.std.specs.List.{IsDistinct, filter}
+use Rattle.vt_outside.specs.Lists.{ListView}
+use Rattle.vt_pages.specs.Shape.{Shape}
+use Rattle.vt_pages.specs.Pages.{pages_of, parent_of}
+use Rattle.vt_evict.specs.declared.batches.Planned.{Planned}
+use Rattle.vt_evict.specs.Orders.{is_in}
+use Rattle.vt_evict.specs.Views.{RecencyView, IsTable, is_held}
+
+-- of so many pages those that were walked over are marked, and there is room for the others
+pub record IsWalk (pages : ℕ) (marks : List Bool) (walked : ListView ℕ) : Type 0 where
+  pub marks_for_all : length marks ≡ pages
+  pub marked : (p : ℕ) → slice_index_or marks p false ≡ is_in walked.elements p
+  pub once : IsDistinct nat_eq walked.elements
+  pub room : pages ≤ walked.spare + length walked.elements
+
+-- the parents of a list's pages are in the list
+pub record IsClosed (s : Shape) (walked : List ℕ) : Type 0 where
+  pub parents : (p q : ℕ) → is_in walked p ≡ true → parent_of s p ≡ Some q → is_in walked q ≡ true
+
+-- what is kept beside a table: the free frames, the order's room, and a walk over no page
+pub record IsKept (v : RecencyView) (free : List ℕ) (cap : ℕ) (marks : List Bool) (walked : ListView ℕ) : Type 0 where
+  pub table : IsTable v
+  pub free_frames : (f : ℕ) → is_in free f ≡ (nat_lt f v.frames && not (is_held v.entries f))
+  pub no_bound : cap ≡ 2 ^ 64 - 1
+  pub walk : IsWalk (pages_of v.shape) marks walked
+  pub none : walked.elements ≡ []
+
+-- the entries without a victim
+abbrev pub without_victim : List ℕ → Option ℕ → List ℕ
+without_victim entries None = entries
+without_victim entries (Some v) = slice_set entries v 0
+
+-- the order without a victim
+abbrev pub order_without : List ℕ → Option ℕ → List ℕ
+order_without order None = order
+order_without order (Some v) = filter (λ y. not (nat_eq v y)) order
+
+-- the table after one entry
+unfoldable pub applied : RecencyView → Planned → RecencyView
+applied v e = record v {
+  entries = slice_set (without_victim v.entries e.victim) e.page (e.frame + 1);
+  order = e.page ∷ order_without v.order e.victim;
+}
+
+-- a list with a page at its end, unless it has it
+abbrev pub with_page : List ℕ → ℕ → List ℕ
+with_page xs p = if is_in xs p then xs else xs ++ p ∷ []
+
+-- an entry of a plan whose frame is free
+abbrev pub freed_at : List ℕ → List ℕ → ℕ → Planned
+freed_at missing free j = record { page = slice_index missing j; frame = slice_index free j; victim = None }
+
+-- an entry of a plan at a place, with a victim
+abbrev pub taken_with : List ℕ → List ℕ → ℕ → ℕ → Planned
+taken_with entries missing place victim = record { page = slice_index missing place; frame = slice_index entries victim - 1; victim = Some victim }
+
+-- an entry of a plan that has a victim, after so many that have none
+abbrev pub taken_at : List ℕ → List ℕ → List ℕ → ℕ → ℕ → Planned
+taken_at entries missing victims before j = taken_with entries missing (before + j) (slice_index victims j)

@@ -1,0 +1,16 @@
+//! A law of plans: the contract of a function that does nothing.
+
+ghost use Rattle.std.specs.Prelude.{ℕ, ◌<◌, ◌≤◌, List, length};
+ghost use Rattle.std.specs.List.{All};
+ghost use Rattle.vt_pages.specs.Pages.{pages_of};
+ghost use Rattle.vt_feedback.specs.declared.Wanted.{Wanted};
+ghost use Rattle.vt_evict.specs.Views.{RecencyView, IsTable};
+ghost use Rattle.vt_evict.specs.Batches.{IsLawful};
+ghost use Rattle.vt_evict.specs.Plans.{plan_of};
+
+/// The plan for a wanted list of the chain's pages is lawful for its table, and has at most `q` entries.
+pub fn plan_is_lawful()
+    ensures lawful { (v : RecencyView) (wants : List Wanted) (q : ℕ) → IsTable v → All (λ w. w.page < pages_of v.shape) wants
+        → IsLawful v (plan_of v wants q) }
+    ensures most { (v : RecencyView) (wants : List Wanted) (q : ℕ) → length (plan_of v wants q) ≤ q }
+{}

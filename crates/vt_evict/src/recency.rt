@@ -1,0 +1,241 @@
+//! The recency of mapped pages.
+
+ghost use Rattle.std.specs.Prelude.{◌≡◌, ℕ, ◌<◌, ◌≤◌, ◌&&◌, ◌||◌, if◌then◌else◌, not, nat_eq, nat_lt, count_by, length, IfOk, OnOk};
+ghost use Rattle.std.specs.List.{All};
+ghost use Rattle.vt_pages.specs.Pages.{pages_of};
+ghost use Rattle.vt_evict.specs.Orders.{is_in};
+ghost use Rattle.vt_evict.specs.Views.{IsTable, first_view, most_frames, touched, pages_needed};
+ghost use Rattle.vt_evict.specs.Batches.{IsLawful, IsLawfulEntry, IsSettled, read_entries};
+ghost use Rattle.vt_evict.specs.Kept.{applied};
+ghost use Rattle.vt_evict.specs.Plans.{plan_of};
+
+use crate::batches::{Batch, Losses, Planned};
+use crate::lines::{Walk, walk_lines};
+use crate::orders::{insert, put_first, remove};
+use crate::plans::{missing_of, put_free, put_victims};
+use lru::LruCache;
+use std::alloc::Global;
+use std::collections::BTreeSet;
+use std::marker::Model;
+use vt_feedback::Wants;
+use vt_outside::{Items, NoMemory};
+use vt_pages::Geometry;
+
+/// A table that maps pages to frames, with the recency of its mapped pages. Contracts see the table, and the unpinned
+/// mapped pages, the most recently used first.
+#[derive(Drop)]
+pub struct Recency {
+    geometry: Geometry,
+    frames: u32,
+    pinned: u32,
+    entries: Vec<u32>,
+    free: BTreeSet<u32>,
+    order: LruCache<u32, ()>,
+    walk: Walk,
+}
+
+impl Model for Recency {
+    ghost use Rattle.std.specs.Map.{keys_of};
+    ghost use Rattle.vt_evict.specs.Views.{RecencyView};
+    ghost use Rattle.vt_evict.specs.Kept.{IsKept};
+
+    ghost Value = { RecencyView };
+
+    ghost view = { λ a. record {
+      shape = a.geometry;
+      frames = a.frames;
+      pinned = a.pinned;
+      entries = a.entries.items;
+      order = keys_of a.order.entries;
+    } };
+
+    ghost invariant = { λ a. IsKept
+        (record { shape = a.geometry; frames = a.frames; pinned = a.pinned; entries = a.entries.items; order = keys_of a.order.entries })
+        a.free.keys a.order.cap a.walk.marks.items a.walk.walked };
+}
+
+impl Recency {
+    /// The table of so many frames in which the last so many pages are mapped, in the order of their indexes, to the
+    /// first frames. The pinned pages are at least one and at most the frames.
+    pub fn new(
+        alloc: Global,
+        geometry: &Geometry,
+        frames: u32,
+        pinned: u32,
+    ) -> Result<Recency, NoMemory>
+        requires most_frames { frames ≤ most_frames }
+        requires some_pinned { 1 ≤ pinned }
+        requires enough_frames { pinned ≤ frames }
+        requires enough_pages { pinned ≤ pages_of geometry.now }
+        ensures first { IfOk result (λ r. r ≡ first_view geometry.now frames pinned) }
+        ensures shape { IfOk result (λ r. r.shape ≡ geometry.now) }
+        ensures table { IfOk result IsTable }
+    {
+        let unpinned = geometry.page_count() - pinned;
+        let mut entries = Vec::from_elem(alloc, 0, unpinned as usize)?;
+        for i in 0..pinned {
+            entries.push(i + 1)?;
+        }
+        let mut free = BTreeSet::new(alloc);
+        for frame in pinned..frames {
+            put_frame(&mut free, frame)?;
+        }
+        let order = LruCache::unbounded(alloc)?;
+        let walk = Walk::new(alloc, geometry)?;
+        Ok(Recency {
+            geometry: *geometry,
+            frames,
+            pinned,
+            entries,
+            free,
+            order,
+            walk,
+        })
+    }
+
+    /// Applies the entries of a batch that were not lost: their victims are unmapped, and their pages mapped. These
+    /// become the most recent pages, the first of the batch before the others. After a refusal the value can only be
+    /// dropped.
+    pub fn settle(&mut self, batch: &Batch, lost: &Losses) -> Result<(), NoMemory>
+        requires lawful { IsLawful self.old batch.now.elements }
+        requires lost_for_all { length lost.now.elements ≡ length batch.now.elements }
+        ensures settled { OnOk result (IsSettled self.old (read_entries batch.now.elements lost.now.elements) self.new) }
+        ensures table { OnOk result (IsTable self.new) }
+    {
+        let _frames = self.frames();
+        let mut left = batch.len();
+        while left > 0 {
+            left -= 1;
+            let is_lost = *lost.at(left);
+            self.apply_unless(is_lost, batch.at(left))?;
+        }
+        Ok(())
+    }
+
+    // The number of frames.
+    fn frames(&self) -> u32
+        ensures frames { result ≡ self.now.frames }
+        ensures table { IsTable self.now }
+    {
+        self.frames
+    }
+
+    // Applies an entry whose tile was not lost.
+    fn apply_unless(&mut self, lost: bool, planned: &Planned) -> Result<(), NoMemory>
+        requires { IsLawfulEntry self.old planned.now }
+        ensures applied { OnOk result (self.new ≡ (if lost then self.old else applied self.old planned.now)) }
+        ensures table { OnOk result (IsTable self.new) }
+    {
+        let _frames = self.frames();
+        if lost {
+            return Ok(());
+        }
+        self.apply(planned)
+    }
+
+    // Unmaps an entry's victim and maps its page, which becomes the most recent one.
+    fn apply(&mut self, planned: &Planned) -> Result<(), NoMemory>
+        requires { IsLawfulEntry self.old planned.now }
+        ensures applied { OnOk result (self.new ≡ applied self.old planned.now) }
+        ensures table { OnOk result (IsTable self.new) }
+    {
+        let planned = *planned;
+        insert(&mut self.order, planned.page)?;
+        match planned.victim {
+            Some(victim) => {
+                remove(&mut self.order, victim);
+                self.entries[victim as usize] = 0;
+                self.entries[planned.page as usize] = planned.frame + 1;
+                Ok(())
+            }
+            None => {
+                take_frame(&mut self.free, planned.frame);
+                self.entries[planned.page as usize] = planned.frame + 1;
+                Ok(())
+            }
+        }
+    }
+
+    /// Makes the unpinned mapped pages in the lines of a wanted list the most recent ones: those of an earlier wanted
+    /// page before those of a later one, and in a line the coarser before the finer.
+    pub fn touch(&mut self, wants: &Wants)
+        requires { All (λ w. w.page < pages_of self.old.shape) wants.now.elements }
+        ensures touched { self.new ≡ touched self.old wants.now.elements }
+        ensures table { IsTable self.new }
+    {
+        let pages = self.geometry.page_count();
+        walk_lines(&self.geometry, &mut self.walk, wants);
+        put_first(
+            self.entries.as_slice(),
+            pages,
+            pages - self.pinned,
+            &mut self.walk,
+            &mut self.order,
+        );
+    }
+
+    /// The plan for a wanted list, with at most `q` entries: the missing pages, of which each is the coarsest unmapped page
+    /// below a wanted page's look-up, get the free frames and then those of the least recent pages that stand in no line of
+    /// a wanted page.
+    pub fn plan(&self, alloc: Global, wants: &Wants, q: u32) -> Result<Batch, NoMemory>
+        requires { All (λ w. w.page < pages_of self.now.shape) wants.now.elements }
+        ensures plan { IfOk result (λ b. b.elements ≡ plan_of self.now wants.now.elements q) }
+        ensures lawful { IfOk result (λ b. IsLawful self.now b.elements) }
+        ensures most { IfOk result (λ b. length b.elements ≤ q) }
+    {
+        let asked = missing_of(alloc, &self.geometry, self.entries.as_slice(), wants)?;
+        let missing = asked.walked.slice();
+        let most = missing.len().min(q as usize);
+        let mut batch = Batch::new(alloc);
+        batch.reserve(most as u64)?;
+        let _ordered = self.free.len();
+        put_free(&mut batch, missing, most, &self.free);
+        if batch.len() < most {
+            let mut walk = Walk::new(alloc, &self.geometry)?;
+            walk_lines(&self.geometry, &mut walk, wants);
+            put_victims(
+                &mut batch,
+                missing,
+                most,
+                walk.marks.as_slice(),
+                self.entries.as_slice(),
+                &self.order,
+            );
+        }
+        Ok(batch)
+    }
+
+    /// How many unpinned pages stand in the lines of a wanted list.
+    pub fn needed(&self, alloc: Global, wants: &Wants) -> Result<u32, NoMemory>
+        requires { All (λ w. w.page < pages_of self.now.shape) wants.now.elements }
+        ensures { IfOk result (λ n. n ≡ pages_needed self.now wants.now.elements) }
+    {
+        let unpinned = self.geometry.page_count() - self.pinned;
+        let mut walk = Walk::new(alloc, &self.geometry)?;
+        walk_lines(&self.geometry, &mut walk, wants);
+        let needed = count_below(walk.walked.slice(), unpinned);
+        Ok(needed as u32)
+    }
+}
+
+// How many of some pages are below a bound.
+fn count_below(pages: &[u32], bound: u32) -> usize
+    ensures { result ≡ count_by (λ p. nat_lt p bound) pages.now }
+{
+    pages.iter().filter(|page| **page < bound).count()
+}
+
+// Puts a frame among the free ones.
+fn put_frame(free: &mut BTreeSet<u32>, frame: u32) -> Result<(), NoMemory>
+    ensures { OnOk result ((f : ℕ) → is_in free.new.keys f ≡ (is_in free.old.keys f || nat_eq frame f)) }
+{
+    free.insert(frame)?;
+    Ok(())
+}
+
+// Takes a frame out of the free ones.
+fn take_frame(free: &mut BTreeSet<u32>, frame: u32)
+    ensures { (f : ℕ) → is_in free.new.keys f ≡ (is_in free.old.keys f && not (nat_eq frame f)) }
+{
+    free.remove(&frame);
+}
