@@ -1,5 +1,5 @@
 -- The depth of a texture: how many bytes each of its samples has, and the texel words that follow from it.
-use Rattle.std.specs.Prelude.{ℕ, ◌+◌, ◌-◌, ◌*◌, ◌/◌, ◌%◌, ◌^◌, ◌≡◌, ◌⊎◌, List, ◌++◌}
+use Rattle.std.specs.Prelude.{ℕ, zero, suc, ◌+◌, ◌-◌, ◌*◌, ◌/◌, ◌%◌, ◌^◌, ◌≡◌, ◌⊎◌, List, [], ◌∷◌, ◌++◌, slice_index, All, ◌<◌}
 use Rattle.vt_definitions.specs.Numbers.{number_from, number_bytes}
 
 -- a sample has one byte or two
@@ -42,3 +42,16 @@ sample_at d bytes i = number_from bytes (d * i) d
 -- the word of texel number i of bytes
 abbrev pub word_at : ℕ → List ℕ → ℕ → ℕ
 word_at d bytes i = word_of d (sample_at d bytes (3 * i)) (sample_at d bytes (3 * i + 1)) (sample_at d bytes (3 * i + 2))
+
+-- each is a byte
+abbrev pub AreBytes : List ℕ → Type 0
+AreBytes bytes = All (λ byte. byte < 256) bytes
+
+-- so many bytes from a place on
+abbrev pub bytes_from : List ℕ → ℕ → ℕ → List ℕ
+bytes_from bytes at zero = []
+bytes_from bytes at (suc n) = slice_index bytes at ∷ bytes_from bytes (at + 1) n
+
+-- the bytes of texel number i of bytes
+abbrev pub texel_bytes : ℕ → List ℕ → ℕ → List ℕ
+texel_bytes d bytes i = bytes_from bytes (texel_length d * i) (texel_length d)

@@ -13,6 +13,26 @@ most_read_side = 8192
 abbrev pub most_pages : ℕ
 most_pages = 262144
 
+-- how many levels a chain that is cut into tiles may have
+abbrev pub most_levels : ℕ
+most_levels = 14
+
+-- the largest number of frames of a cache
+abbrev pub most_frames : ℕ
+most_frames = 65535
+
+-- how many texels the frames of a cache have together at most
+abbrev pub most_frame_texels : ℕ
+most_frame_texels = 8388608
+
+-- the largest number of samplers
+abbrev pub most_samplers : ℕ
+most_samplers = 64
+
+-- the greatest version of a page table
+abbrev pub most_versions : ℕ
+most_versions = 4611686018427387904
+
 -- within how many bytes the header of a texture ends
 abbrev pub header_limit : ℕ
 header_limit = 65536

@@ -1,10 +1,15 @@
-//! The definitions that several crates cite, and the laws about them.
+//! The definitions that several crates cite, the laws about them, and the texels of bytes.
 #![tactic(auto)]
 
 mod depths;
 mod sides;
-mod texels;
 
-pub use depths::{bytes_make_their_word, words_have_their_samples};
+pub use depths::{
+    bytes_make_their_word, greatest_sample, put_sample, put_word, sample_at, texel_length,
+    texels_are_their_words, texels_with_bytes_have_words, word_at, words_have_their_samples,
+    words_of_bytes_are_small,
+};
 pub use sides::{level_count_is_least, level_count_is_one, side_is_positive};
-pub use texels::word_has_its_bytes;
+
+#[cfg(test)]
+mod tests;

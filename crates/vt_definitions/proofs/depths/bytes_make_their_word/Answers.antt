@@ -1,4 +1,3 @@
-use Rattle.std.proofs.Common.{rules}
 use Rattle.vt_definitions.proofs.Words.{bytes_make_word}
 use Rattle.vt_definitions.proofs.depths.bytes_make_their_word.Goals as goal
 
