@@ -1,7 +1,6 @@
 pub mod Ground
 pub mod Rings
 pub mod LevelLemmas
-pub mod PathLines
 pub mod PathFields
 pub mod PathReadingLemmas
 pub mod WayLemmas

@@ -4,7 +4,7 @@ use Rattle.vt_text.proofs.Spelling.{number_spelling_injective, spelling_injectiv
 use Rattle.vt_camera.specs.declared.paths.Camera.{Camera}
 use Rattle.vt_camera.specs.Paths.{PathView}
 use Rattle.vt_camera.specs.PathText.{Key, At, To, number_fields, way_fields, size_fields, focal_fields, camera_fields, key_fields, cameras_of, path_lines, path_text, IsPathText}
-use Rattle.vt_camera.proofs.PathLines.{HasWords, AllHaveWords, word-number_spelling, word-spelling, text_of_injective}
+use Rattle.vt_text.proofs.Words.{HasWords, AllHaveWords, word-number_spelling, word-spelling, text_of_injective}
 
 pub words-size : (w h : ℕ) → HasWords (size_fields w h)
 words-size w h = (omega arith, ((omega arith, (omega arith, (omega arith, (omega arith, tt)))), (word-number_spelling w, (word-number_spelling h, tt))))

@@ -14,7 +14,7 @@ use Rattle.vt_camera.specs.Ways.{camera_on_way}
 use Rattle.vt_camera.specs.PathText.{Key, At, To, IsKey, key_fields, key_camera, key_pictures, key_cameras, cameras_after, BeginsAnew, size_fields, focal_fields, path_lines, IsPathText}
 use Rattle.vt_camera.specs.PathFlaws.{IsSizeLine, IsFocalLine, IsKeyLine, count_flaw, key_flaw, IsLineFlaw, IsFlawFrom, IsFlawFromSecond, IsFlawFromFirst, IsPathFlaw}
 use Rattle.vt_camera.specs.PathReading.{IsLast}
-use Rattle.vt_camera.proofs.PathLines.{fields_of-join, lines_of-text_of}
+use Rattle.vt_text.proofs.Words.{fields_of-join, lines_of-text_of}
 use Rattle.vt_camera.proofs.PathFields.{words-size, words-focal, words-key, words-path, key_fields_injective, path_unique}
 
 none_some : (a : Option PathError) (e : PathError) → a ≡ None → a ≡ Some e → ⊥

@@ -14,7 +14,7 @@ use Rattle.vt_camera.specs.Ways.{way, camera_on_way}
 use Rattle.vt_camera.specs.PathText.{Key, At, To, IsKey, key_fields, key_camera, key_pictures, key_cameras, cameras_after, size_fields, focal_fields, path_lines, IsPathText}
 use Rattle.vt_camera.specs.PathFlaws.{IsLineFlaw, IsFlawFrom}
 use Rattle.vt_camera.specs.PathReading.{IsHead, IsLast, AddsKey, GiveCameras, GivesPictures}
-use Rattle.vt_camera.proofs.PathLines.{join-fields_of, text_of-lines}
+use Rattle.vt_text.proofs.Words.{join-fields_of, text_of-lines_of}
 use Rattle.vt_camera.proofs.PathFlawLemmas.{room_of, begins_of, pictures_of, some_picture, camera_within, flaw_here, flaw_later, lines_of_keys}
 use Rattle.vt_camera.proofs.WayLemmas.{between_camera}
 
@@ -134,7 +134,7 @@ path_read text w h f end cameras path e head gives =
     subst (IsPathText text) (sym e) (
       g.keys,
       record {
-        spelled = text_of-lines text (path_lines w h f g.keys) lines;
+        spelled = text_of-lines_of text (path_lines w h f g.keys) lines;
         within = record { sides = head.sides.0; focus = head.focus.0; few = gives.few; each = gives.each };
         each = g.each;
         first = g.first refl;

@@ -1,7 +1,7 @@
 -- The text of a path: lines of fields, one line for the sides, one for the focal number, and one for each key.
 use Rattle.std.specs.Prelude.{◌≡◌, ℕ, ◌≤◌, Option, Some, None, ◌++◌, List, [], ◌∷◌, map, codes, All}
-use Rattle.std.specs.List.{join_with_byte, flat_map}
-use Rattle.vt_definitions.specs.Limits.{most_pictures, line_feed, blank}
+use Rattle.vt_definitions.specs.Limits.{most_pictures}
+use Rattle.vt_text.specs.Lines.{text_of}
 use Rattle.vt_text.specs.Numbers.{number_spelling, spelling}
 use Rattle.vt_camera.specs.declared.paths.Camera.{Camera}
 use Rattle.vt_camera.specs.Ways.{way}
@@ -11,10 +11,6 @@ use Rattle.vt_camera.specs.Paths.{PathView, IsCamera, IsPath}
 pub data Key : Type 0 where
   At : Camera → Key
   To : ℕ → Camera → Key
-
--- the text of lines, each a list of fields: the fields are joined by blanks, and a line feed ends each line
-abbrev pub text_of : List (List (List ℕ)) → List ℕ
-text_of lines = flat_map (λ fields. join_with_byte blank fields ++ line_feed ∷ []) lines
 
 -- the fields of the first line of a path: the sides of its pictures
 abbrev pub size_fields : ℕ → ℕ → List (List ℕ)

@@ -1,6 +1,6 @@
 -- Lines and fields of a text, as lists of bytes.
-use Rattle.std.specs.Prelude.{◌≡◌, ◌≢◌, ◌+◌, ◌-◌, ◌<◌, ◌≤◌, ℕ, Option, List, [], ◌∷◌, length, take, drop, slice_index, ◌==◌, MatchOption}
-use Rattle.std.specs.List.{slice_split}
+use Rattle.std.specs.Prelude.{◌≡◌, ◌≢◌, ◌+◌, ◌-◌, ◌<◌, ◌≤◌, ℕ, Option, List, [], ◌∷◌, ◌++◌, length, take, drop, slice_index, ◌==◌, MatchOption}
+use Rattle.std.specs.List.{slice_split, join_with_byte, flat_map}
 use Rattle.vt_definitions.specs.Limits.{line_feed, blank}
 
 -- the parts of a text that a byte separates, the empty ones too
@@ -14,6 +14,10 @@ fields_of line = parts_of blank line
 -- the lines of a text: the parts that line feeds separate, where the last is what follows the last line feed
 abbrev pub lines_of : List ℕ → List (List ℕ)
 lines_of text = parts_of line_feed text
+
+-- the text of lines, each a list of fields: the fields are joined by blanks, and a line feed ends each line
+abbrev pub text_of : List (List (List ℕ)) → List ℕ
+text_of lines = flat_map (λ fields. join_with_byte blank fields ++ line_feed ∷ []) lines
 
 -- the byte does not stand from one place up to another, which is left out
 abbrev pub IsAbsentBetween : ℕ → List ℕ → ℕ → ℕ → Type 0

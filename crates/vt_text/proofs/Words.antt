@@ -10,9 +10,8 @@ use Rattle.std.proofs.lemmas.Str.Parse.{digit_from_value}
 use Rattle.std.proofs.lemmas.Bool.Decides.{nat_tests}
 use Rattle.vt_definitions.specs.Limits.{line_feed, blank}
 use Rattle.vt_text.specs.Numbers.{number_spelling, spelling}
-use Rattle.vt_text.specs.Lines.{fields_of, lines_of}
+use Rattle.vt_text.specs.Lines.{fields_of, lines_of, text_of}
 use Rattle.vt_text.proofs.Spelling.{plain-number_spelling}
-use Rattle.vt_camera.specs.PathText.{text_of}
 
 -- a word: no byte of it is a blank or below
 abbrev pub IsWord : List ℕ → Type 0
@@ -22,10 +21,11 @@ IsWord bs = AllByRecursion (λ b. blank < b) bs
 abbrev pub AreWords : List (List ℕ) → Type 0
 AreWords fields = AllByRecursion IsWord fields
 
--- each line has a field, and its fields are words
+-- a line has a field, and its fields are words
 abbrev pub HasWords : List (List ℕ) → Type 0
 HasWords fields = (0 < length fields) × AreWords fields
 
+-- so it is of each of these lines
 abbrev pub AllHaveWords : List (List (List ℕ)) → Type 0
 AllHaveWords lines = AllByRecursion HasWords lines
 
@@ -96,8 +96,9 @@ join-lines (l ∷ m ∷ ls) =
     ap (λ xs. join_with_byte blank l ++ (line_feed ∷ xs)) (join-lines (m ∷ ls))
     ∙ sym (append_assoc (join_with_byte blank l) (line_feed ∷ []) (text_of (m ∷ ls)))
 
-pub text_of-lines : (text : List ℕ) (lines : List (List (List ℕ))) → lines_of text ≡ map (join_with_byte blank) lines ++ ([] ∷ []) → text ≡ text_of lines
-text_of-lines text lines e = sym (join_with_byte-slice_split line_feed text) ∙ ap (join_with_byte line_feed) e ∙ join-lines lines
+-- a text of these lines, with the empty rest, is their text
+pub text_of-lines_of : (text : List ℕ) (lines : List (List (List ℕ))) → lines_of text ≡ map (join_with_byte blank) lines ++ ([] ∷ []) → text ≡ text_of lines
+text_of-lines_of text lines e = sym (join_with_byte-slice_split line_feed text) ∙ ap (join_with_byte line_feed) e ∙ join-lines lines
 
 -- lines that are joined alike are alike
 same_lines : (ls ms : List (List (List ℕ))) → AllHaveWords ls → AllHaveWords ms → map (join_with_byte blank) ls ≡ map (join_with_byte blank) ms → ls ≡ ms
