@@ -5,3 +5,5 @@ pub mod Lines
 pub mod Pinned
 pub mod Tiles
 pub mod Seen
+pub mod Parents
+pub mod Steps

@@ -4,12 +4,12 @@ use Rattle.std.proofs.lemmas.Bool.{cases_lt}
 use Rattle.std.proofs.lemmas.Nat.{mul-le}
 use Rattle.std.proofs.lemmas.Bool.Decides.{nat_tests}
 use Rattle.std.specs.Prelude.{nat_le, ◌&&◌, IsTrue}
-use Rattle.vt_definitions.specs.Limits.{most_tiled_side, most_pages}
+use Rattle.vt_definitions.specs.Limits.{most_tiled_side, most_pages, most_levels}
 use Rattle.vt_definitions.specs.Sides.{side}
 use Rattle.vt_definitions.specs.Tiles.{is_tile_side}
 use Rattle.vt_pages.specs.declared.PagesError.TheVariants.{BadTile, BadSide, TooManyPages}
 use Rattle.vt_pages.specs.declared.tables.Tables.{Tables}
-use Rattle.vt_pages.specs.Shape.{Shape, is_texture_side, level_limit}
+use Rattle.vt_pages.specs.Shape.{Shape, is_texture_side}
 use Rattle.vt_pages.specs.Tables.{IsTabled, IsTileShift, IsFirstFit}
 use Rattle.vt_pages.specs.Pages.{columns_at, rows_at, levels_of, pages_of, refusal_of, IsWithinLimits}
 use Rattle.vt_pages.proofs.Counts.{levels_count, side_halved, columns_most, rows_most, pages_below-suc, pages_below_le, columns_some, rows_some, pages_below_most}
@@ -63,19 +63,19 @@ last_is s t last two sides tabled found =
     (rw (tabled.widths (levels_of s - 1) (omega arith)) count.last_width)
     (rw (tabled.heights (levels_of s - 1) (omega arith)) count.last_height) in
     let here : (side s.width last ≤ s.tile) × (side s.height last ≤ s.tile) =
-    elim (cases_lt (last + 1) level_limit) [
+    elim (cases_lt (last + 1) most_levels) [
       | inl within ↦ (rw (tabled.widths last inside) at (found.fits within).0, rw (tabled.heights last inside) at (found.fits within).1)
       | inr past ↦
-          let e : last ≡ level_limit - 1 = omega arith in (
-            rw e (omega (arith, side_halved s.width 2 (level_limit - 1) (omega arith))),
-            rw e (omega (arith, side_halved s.height 2 (level_limit - 1) (omega arith))),
+          let e : last ≡ most_levels - 1 = omega arith in (
+            rw e (omega (arith, side_halved s.width 2 (most_levels - 1) (omega arith))),
+            rw e (omega (arith, side_halved s.height 2 (most_levels - 1) (omega arith))),
           )
     ] in
     let no_later : levels_of s ≤ last + 1 = count.least last here.0 here.1 in
     elim (cases_lt (levels_of s - 1) last) [ inl sooner ↦ absurd (no_sooner sooner) | inr from ↦ omega (arith, count.some) ]
 
 -- its pages are the last of the chain
-pages_is : (s : Shape) (t : Tables) (last : ℕ) → IsTabled s t → last < level_limit → last + 1 ≡ levels_of s
+pages_is : (s : Shape) (t : Tables) (last : ℕ) → IsTabled s t → last < most_levels → last + 1 ≡ levels_of s
     → slice_index t.first last + slice_index t.rows last * slice_index t.columns last ≡ pages_of s
 unfolding pages_of
 pages_is s t last tabled inside e =
@@ -93,7 +93,7 @@ pages_some s some wide high =
     )
 
 pages_most : (s : Shape) → 1 ≤ s.tile → s.width ≤ most_tiled_side → s.height ≤ most_tiled_side
-    → levels_of s ≤ level_limit → pages_of s ≤ level_limit * (most_tiled_side * most_tiled_side)
+    → levels_of s ≤ most_levels → pages_of s ≤ most_levels * (most_tiled_side * most_tiled_side)
 unfolding pages_of
 pages_most s some wide high levels =
     omega (arith, pages_below_most s (levels_of s) most_tiled_side some (omega arith) wide high)
@@ -101,10 +101,10 @@ pages_most s some wide high levels =
 -- what the calls that make the tables and search them found out
 pub record IsMade (s : Shape) (t : Tables) (last : ℕ) : Type 0 where
   pub levels : last + 1 ≡ levels_of s
-  pub few_levels : levels_of s ≤ level_limit
+  pub few_levels : levels_of s ≤ most_levels
   pub product : slice_index t.rows last * slice_index t.columns last ≤ most_tiled_side * most_tiled_side
   pub pages : slice_index t.first last + slice_index t.rows last * slice_index t.columns last ≡ pages_of s
-  pub few_pages : pages_of s ≤ level_limit * (most_tiled_side * most_tiled_side)
+  pub few_pages : pages_of s ≤ most_levels * (most_tiled_side * most_tiled_side)
 
 pub made : {s : Shape} {t : Tables} {last shift : ℕ} → IsTabled s t → IsFirstFit t s.tile last → IsTileShift s.tile shift
     → (is_texture_side s.width && is_texture_side s.height) ≡ true → IsMade s t last
@@ -113,7 +113,7 @@ made {s} {t} {last} tabled found power both =
     let two = power.least in
     let some : 1 ≤ s.tile = omega (arith, two) in
     let levels = last_is s t last two sides tabled found in
-    let few : levels_of s ≤ level_limit = omega (arith, found.inside) in
+    let few : levels_of s ≤ most_levels = omega (arith, found.inside) in
     let rows = rows_most s last most_tiled_side some (omega arith) sides.most_height in
     let columns = columns_most s last most_tiled_side some (omega arith) sides.most_width in
     record {
@@ -128,7 +128,7 @@ made {s} {t} {last} tabled found power both =
 -- a shape that is not refused keeps the limits
 pub limits_hold : (s : Shape) (shift : ℕ) → IsTileShift s.tile shift
     → (is_texture_side s.width && is_texture_side s.height) ≡ true → pages_of s ≤ most_pages
-    → levels_of s ≤ level_limit → IsWithinLimits s
+    → levels_of s ≤ most_levels → IsWithinLimits s
 limits_hold s shift tile sides pages levels =
     let both = texture_sides s.width s.height sides in
     let some : 1 ≤ s.tile = omega (arith, tile.least) in

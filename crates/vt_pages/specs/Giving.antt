@@ -1,20 +1,21 @@
 -- A shape gives back all that a geometry keeps beside it, so that a geometry may be copied.
 use Rattle.std.proofs.Common.{◌≡◌, ℕ, sym}
 use Rattle.std.proofs.lemmas.List.FromFn.{fill_by_all}
+use Rattle.vt_definitions.specs.Limits.{most_levels}
 use Rattle.vt_definitions.specs.Sides.{side}
 use Rattle.vt_pages.specs.declared.tables.Tables.{Tables}
-use Rattle.vt_pages.specs.Shape.{Shape, tile_exponent, level_limit}
+use Rattle.vt_pages.specs.Shape.{Shape, tile_exponent}
 use Rattle.vt_pages.specs.Tables.{IsTabled, IsGeometry, tables_of}
 use Rattle.vt_pages.specs.Pages.{columns_at, rows_at, pages_below, levels_of, pages_of}
 
 tables-tabled : (s : Shape) (t : Tables) → IsTabled s t → tables_of s ≡ t
 unfolding tables_of
 tables-tabled s t h = λ i. record {
-  first = sym (fill_by_all (pages_below s) t.first level_limit 0 h.first_len h.first) i;
-  columns = sym (fill_by_all (columns_at s) t.columns level_limit 0 h.columns_len h.columns) i;
-  rows = sym (fill_by_all (rows_at s) t.rows level_limit 0 h.rows_len h.rows) i;
-  widths = sym (fill_by_all (side s.width) t.widths level_limit 0 h.widths_len h.widths) i;
-  heights = sym (fill_by_all (side s.height) t.heights level_limit 0 h.heights_len h.heights) i;
+  first = sym (fill_by_all (pages_below s) t.first most_levels 0 h.first_len h.first) i;
+  columns = sym (fill_by_all (columns_at s) t.columns most_levels 0 h.columns_len h.columns) i;
+  rows = sym (fill_by_all (rows_at s) t.rows most_levels 0 h.rows_len h.rows) i;
+  widths = sym (fill_by_all (side s.width) t.widths most_levels 0 h.widths_len h.widths) i;
+  heights = sym (fill_by_all (side s.height) t.heights most_levels 0 h.heights_len h.heights) i;
 }
 
 -- the shape says what the other fields are

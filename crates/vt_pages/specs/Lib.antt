@@ -3,3 +3,4 @@ pub mod Pages
 pub mod Tables
 pub mod Laws
 pub mod Giving
+pub mod Lookups

@@ -1,14 +1,14 @@
 -- The pages of a mip chain: their names, their indexes, their ancestors and their tiles.
 use Rattle.std.specs.Prelude.{◌≡◌, ℕ, zero, suc, ◌+◌, ◌-◌, ◌*◌, ◌/◌, ◌%◌, ◌^◌, ◌<◌, ◌≤◌, min, ◌==◌, ◌&&◌, not, nat_le, if◌then◌else◌, IsTrue, Option, Some, None, List, [], ◌∷◌, map, slice_index}
 use Rattle.std.specs.List.{range_with_len}
-use Rattle.vt_definitions.specs.Limits.{most_tiled_side, most_pages}
+use Rattle.vt_definitions.specs.Limits.{most_tiled_side, most_pages, most_levels}
 use Rattle.vt_definitions.specs.Sides.{side, level_count}
 use Rattle.vt_definitions.specs.Texels.{Source}
 use Rattle.vt_definitions.specs.Tiles.{is_tile_side}
 use Rattle.vt_pages.specs.declared.PageName.{PageName}
 use Rattle.vt_pages.specs.declared.PagesError.{PagesError}
 use Rattle.vt_pages.specs.declared.PagesError.TheVariants.{BadTile, BadSide, TooManyPages}
-use Rattle.vt_pages.specs.Shape.{Shape, tile_exponent, is_texture_side, level_limit}
+use Rattle.vt_pages.specs.Shape.{Shape, tile_exponent, is_texture_side}
 
 -- the columns of pages of a level: its width over the tile side, rounded up (van Waveren 2012)
 unfoldable pub columns_at : Shape → ℕ → ℕ
@@ -129,6 +129,6 @@ pub record IsWithinLimits (s : Shape) : Type 0 where
   pub least_height : 1 ≤ s.height
   pub most_height : s.height ≤ most_tiled_side
   pub some_level : 1 ≤ levels_of s
-  pub most_levels : levels_of s ≤ level_limit
+  pub most_levels : levels_of s ≤ most_levels
   pub some_page : 1 ≤ pages_of s
   pub most_pages : pages_of s ≤ most_pages

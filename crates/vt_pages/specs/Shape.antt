@@ -20,7 +20,3 @@ is_texture_side n = nat_le 1 n && nat_le n most_tiled_side
 -- the exponent of a tile side as a power of two: how many of the powers 1, 2, 4 .. 64 are below it
 abbrev pub tile_exponent : ℕ → ℕ
 tile_exponent t = count_by (λ e. nat_lt (2 ^ e) t) (range_with_len 0 7)
-
--- no chain has more levels than this
-abbrev pub level_limit : ℕ
-level_limit = 14

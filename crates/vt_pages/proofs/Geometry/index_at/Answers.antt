@@ -1,7 +1,7 @@
 use Rattle.std.proofs.Common.{◌≡◌, ℕ, ◌+◌, ◌*◌, ◌<◌, slice_index, subst, refl, sym, arith}
-use Rattle.vt_definitions.specs.Limits.{most_pages}
+use Rattle.vt_definitions.specs.Limits.{most_pages, most_levels}
 use Rattle.vt_pages.specs.declared.tables.Tables.{Tables}
-use Rattle.vt_pages.specs.Shape.{Shape, level_limit}
+use Rattle.vt_pages.specs.Shape.{Shape}
 use Rattle.vt_pages.specs.Tables.{IsGeometry}
 use Rattle.vt_pages.specs.Pages.{columns_at, rows_at, levels_of, index_at, IsPageAt}
 use Rattle.vt_pages.proofs.Names.{index_at_is_page}
@@ -17,7 +17,7 @@ index_code : {s : Shape} {shift levels pages : ℕ} {t : Tables} (k c r : ℕ) �
     → k < levels_of s → c < columns_at s k → r < rows_at s k → IsIndexCode s t k c r
 unfolding index_at
 index_code {s} k c r g within wide high =
-    let inside : k < level_limit = omega (arith, g.limits.most_levels) in
+    let inside : k < most_levels = omega (arith, g.limits.most_levels) in
     let page = index_at_is_page s k c r within wide high in
     record {
       same = rw (g.tabled.first k inside, g.tabled.columns k inside) refl;

@@ -1,5 +1,5 @@
 use Rattle.std.proofs.Common.{◌<◌, ◌≤◌, subst, sym, ap, ◌∙◌, arith}
-use Rattle.vt_pages.specs.Shape.{level_limit}
+use Rattle.vt_definitions.specs.Limits.{most_levels}
 use Rattle.vt_pages.specs.Pages.{index_of, IsPage}
 use Rattle.vt_pages.proofs.Counts.{columns_some}
 use Rattle.vt_pages.proofs.Names.{are_inverse, name_at_is_page, index_of-name_at, name_code}
@@ -32,7 +32,7 @@ pub returns : goal.returns
 returns c =
     let g = seen c.self.view_is c.self.invariant in
     let found = c.level_of-level.ensures in
-    let inside : c.level_of-level.result < level_limit = omega (arith, found.inside, g.limits.most_levels) in
+    let inside : c.level_of-level.result < most_levels = omega (arith, found.inside, g.limits.most_levels) in
     let some : 1 ≤ c.args.self.now.tile = omega (arith, g.limits.least_tile) in
     let e =
     name_code c.args.self.now c.args.page c.level_of-level.result _ _ found.level

@@ -1,5 +1,5 @@
 use Rattle.std.proofs.Common.{◌≡◌, ◌-◌, ◌<◌, ◌≤◌, slice_index, ap, ◌∙◌, arith}
-use Rattle.vt_pages.specs.Shape.{level_limit}
+use Rattle.vt_definitions.specs.Limits.{most_levels}
 use Rattle.vt_pages.specs.Pages.{levels_of}
 use Rattle.vt_pages.proofs.Pinned.{unpinned_most, pinned_code, pinned_none, pinned_last}
 use Rattle.vt_pages.proofs.Seen.{seen}
@@ -19,7 +19,7 @@ overflow_sub-result c =
     let g = seen c.self.view_is c.self.invariant in
     let some : 1 ≤ c.args.self.now.tile = omega (arith, g.limits.least_tile) in
     let q : c.saturating_sub-unpinned.result ≡ levels_of c.args.self.now - c.args.n = rw g.levels_is at c.saturating_sub-unpinned.ensures in
-    let inside : c.saturating_sub-unpinned.result < level_limit = omega (arith, g.levels_is, g.limits.most_levels, c.if-unpinned-self.false) in
+    let inside : c.saturating_sub-unpinned.result < most_levels = omega (arith, g.levels_is, g.limits.most_levels, c.if-unpinned-self.false) in
     rw (g.tabled.first c.saturating_sub-unpinned.result inside, q, g.pages_is) (unpinned_most c.args.self.now c.args.n)
 
 pub returns : goal.returns
@@ -28,7 +28,7 @@ returns c =
     let g = seen c.self.view_is c.self.invariant in
     let some : 1 ≤ c.args.self.now.tile = omega (arith, g.limits.least_tile) in
     let q : c.saturating_sub-unpinned.result ≡ levels_of c.args.self.now - c.args.n = rw g.levels_is at c.saturating_sub-unpinned.ensures in
-    let inside : c.saturating_sub-unpinned.result < level_limit = omega (arith, g.levels_is, g.limits.most_levels, c.if-unpinned-self.false) in
+    let inside : c.saturating_sub-unpinned.result < most_levels = omega (arith, g.levels_is, g.limits.most_levels, c.if-unpinned-self.false) in
     let first = g.tabled.first c.saturating_sub-unpinned.result inside in
     let count =
     ap (λ n. n - slice_index i.tables.first c.saturating_sub-unpinned.result) g.pages_is

@@ -2,9 +2,9 @@ use Rattle.std.proofs.Common.{◌≡◌, ℕ, suc, ◌+◌, ◌-◌, ◌*◌, �
 use Rattle.std.proofs.lemmas.List.Edits.{fill_by_more}
 use Rattle.std.proofs.Math.Pow.{pow_pos}
 use Rattle.std.proofs.lemmas.Grind.{common_steps}
-use Rattle.vt_definitions.specs.Limits.{most_tiled_side}
+use Rattle.vt_definitions.specs.Limits.{most_tiled_side, most_levels}
 use Rattle.vt_definitions.specs.Sides.{side}
-use Rattle.vt_pages.specs.Shape.{Shape, level_limit}
+use Rattle.vt_pages.specs.Shape.{Shape}
 use Rattle.vt_pages.specs.Pages.{columns_at, rows_at, pages_below}
 use Rattle.vt_pages.proofs.Counts.{pages_below-zero, pages_below-suc, pages_below_most}
 use Rattle.vt_pages.proofs.tables.make_tables.Goals as goal
@@ -31,7 +31,7 @@ total-code s k total wide high shift p t w h =
     rw (columns-code s k wide shift p w, rows-code s k high shift p h, t, add-one) (sym (pages_below-suc s k))
 
 total_most : (s : Shape) (k shift : ℕ) → s.tile ≡ 2 ^ shift → s.width ≤ most_tiled_side → s.height ≤ most_tiled_side
-    → k < level_limit → pages_below s (k + 1) ≤ level_limit * (most_tiled_side * most_tiled_side)
+    → k < most_levels → pages_below s (k + 1) ≤ most_levels * (most_tiled_side * most_tiled_side)
 total_most s k shift p wide high inside =
     let some : 1 ≤ s.tile = omega (arith, pow_pos shift) in
     omega (arith, pages_below_most s (k + 1) most_tiled_side some (omega arith) wide high)

@@ -1,7 +1,7 @@
 use Rattle.std.proofs.Common.{◌≡◌, ℕ, ◌<◌, ◌≤◌, length, slice_index}
-use Rattle.vt_definitions.specs.Limits.{most_tiled_side}
+use Rattle.vt_definitions.specs.Limits.{most_tiled_side, most_levels}
 use Rattle.vt_definitions.specs.Sides.{side}
-use Rattle.vt_pages.specs.Shape.{Shape, level_limit}
+use Rattle.vt_pages.specs.Shape.{Shape}
 use Rattle.vt_pages.specs.Pages.{columns_at, rows_at, pages_below}
 use Rattle.vt_pages.proofs.tables.make_tables.Given as goal
 
@@ -14,11 +14,11 @@ invariant-loop-k l =
       high_is : l.high ≡ side l.height l.k;
       high_most : l.high ≤ most_tiled_side;
       total_is : l.total ≡ pages_below s l.k;
-      first_len : length l.first ≡ level_limit;
-      columns_len : length l.columns ≡ level_limit;
-      rows_len : length l.rows ≡ level_limit;
-      widths_len : length l.widths ≡ level_limit;
-      heights_len : length l.heights ≡ level_limit;
+      first_len : length l.first ≡ most_levels;
+      columns_len : length l.columns ≡ most_levels;
+      rows_len : length l.rows ≡ most_levels;
+      widths_len : length l.widths ≡ most_levels;
+      heights_len : length l.heights ≡ most_levels;
       first : (k : ℕ) → k < l.k → slice_index l.first k ≡ pages_below s k;
       columns : (k : ℕ) → k < l.k → slice_index l.columns k ≡ columns_at s k;
       rows : (k : ℕ) → k < l.k → slice_index l.rows k ≡ rows_at s k;
