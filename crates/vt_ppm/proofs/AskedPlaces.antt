@@ -1,11 +1,13 @@
 -- The places that a file was asked for, from one call to the next.
 use Rattle.std.proofs.Common.{◌≡◌, ℕ, ◌+◌, ◌-◌, ◌*◌, ◌≤◌, true, false, List, [], ◌∷◌, ◌++◌, length, min, Option, Some, None, option_map, IfSome, Result, Ok, Err, refl, sym, ap, ◌∙◌, subst, arith, append_assoc}
 use Rattle.std.proofs.lemmas.List.{append-nil}
+use Rattle.vt_definitions.specs.Depths.{texel_length}
 use Rattle.vt_definitions.specs.Limits.{header_limit, most_read_side}
 use Rattle.vt_outside.specs.declared.place.Place.{Place}
 use Rattle.vt_outside.specs.Files.{noted}
 use Rattle.vt_ppm.specs.declared.error.PpmError.{PpmError}
 use Rattle.vt_ppm.specs.declared.error.PpmError.TheVariants.{NoMemory}
+use Rattle.vt_ppm.specs.Format.{depth_of}
 use Rattle.vt_ppm.specs.Flaws.{IsLawfulHeader}
 use Rattle.vt_ppm.specs.Reads.{IsFrontPlace, IsRasterPlace, Gains, AsksHeader, AsksImage, ReadsFront, ReadsRaster, NotesRead, IsFront}
 use Rattle.vt_ppm.proofs.TellingFiles.{header_told}
@@ -53,7 +55,7 @@ module _ (t : Option (List ℕ)) (o p n : Option (List Place)) (len count : ℕ)
 -- the raster is asked for once the front was read
 module _ (t : Option (List ℕ)) (o p n : Option (List Place)) (len r w h m want : ℕ) (bytes : List ℕ) (front : ReadsFront t o p)
     (is : IfSome t (λ b. IsFront b len bytes)) (few : length bytes ≡ min len header_limit) (header : IsLawfulHeader most_read_side bytes r w h m)
-    (whole : want ≡ 3 * (w * h)) (enough : want ≤ len - r) where
+    (whole : want ≡ texel_length (depth_of m) * (w * h)) (enough : want ≤ len - r) where
   raster_place : (place : Place) → place.at ≡ r → place.len ≡ want → IsRasterPlace t place
   raster_place place ea el = record {
     width = w;

@@ -1,14 +1,15 @@
 -- Bytes have one flaw at most, and those with a lawful header have none of its flaws.
-use Rattle.std.proofs.Common.{◌≡◌, ◌⊎◌, inl, inr, ℕ, ◌+◌, ◌*◌, ◌<◌, ◌≤◌, ◌++◌, List, length, get_or, take, drop, min, refl, sym, ap, ◌∙◌, subst, arith, append_assoc}
+use Rattle.std.proofs.Common.{◌≡◌, ◌⊎◌, inl, inr, ℕ, ◌+◌, ◌*◌, ◌<◌, ◌≤◌, ◌++◌, List, length, take, drop, min, refl, sym, ap, ◌∙◌, subst, arith, append_assoc}
 use Rattle.std.proofs.lemmas.Bool.{cases_lt}
 use Rattle.std.proofs.lemmas.List.{take-append-drop, take-take}
+use Rattle.vt_definitions.specs.Depths.{sample_at, texel_length}
 use Rattle.vt_definitions.specs.Limits.{header_limit}
 use Rattle.vt_ppm.specs.declared.error.PpmError.{PpmError}
-use Rattle.vt_ppm.specs.declared.error.PpmError.TheVariants.{BadMagic, BadHeader, BadSize, BadMaximum, WideSamples, Truncated, SampleOver, Failed, NoMemory}
-use Rattle.vt_ppm.specs.Format.{IsHeader, AreSameHeaders}
-use Rattle.vt_ppm.specs.Flaws.{IsHeaderFront, IsBrokenAt, HasBadMaximum, HasWideSamples, IsLawfulHeader, IsTruncated, IsSampleOver, IsFlawUpTo}
+use Rattle.vt_ppm.specs.declared.error.PpmError.TheVariants.{BadMagic, BadHeader, BadSize, BadMaximum, Truncated, SampleOver, Failed, NoMemory}
+use Rattle.vt_ppm.specs.Format.{IsHeader, AreSameHeaders, depth_of}
+use Rattle.vt_ppm.specs.Flaws.{IsHeaderFront, IsBrokenAt, HasBadMaximum, IsLawfulHeader, IsTruncated, IsSampleOver, IsFlawUpTo}
 use Rattle.vt_ppm.specs.Refusals.{IsRasterRefusal}
-use Rattle.vt_ppm.proofs.ImageLaws.{start_is_one, magic_of_start, same_texels, size_is_good, maximum_is_good, samples_are_narrow}
+use Rattle.vt_ppm.proofs.ImageLaws.{start_is_one, magic_of_start, same_rasters, size_is_good, maximum_is_good}
 
 -- a front of a front is a front
 pub front_of_front : (n : ℕ) (xs : List ℕ) → IsHeaderFront xs → IsHeaderFront (take n xs)
@@ -45,7 +46,7 @@ module _ (most : ℕ) (b : List ℕ) where
   want_is_one want have other rest i j =
       let e : AreSameHeaders i.raster i.width i.height i.maximum j.raster j.width j.height j.maximum =
       start_is_one b i.raster i.width i.height i.maximum j.raster j.width j.height j.maximum i.header.sized.header j.header.sized.header in
-      i.want_is ∙ same_texels i.width i.height j.width j.height e.width e.height ∙ sym j.want_is
+      i.want_is ∙ same_rasters i.maximum i.width i.height j.maximum j.width j.height e.maximum e.width e.height ∙ sym j.want_is
 
   pub have_is_one : (want have other rest : ℕ) → IsTruncated most b want have → IsTruncated most b other rest → have ≡ rest
   have_is_one want have other rest i j =
@@ -57,34 +58,40 @@ module _ (most : ℕ) (b : List ℕ) where
   truncated_is_not_full want have at i j =
       let e : AreSameHeaders i.raster i.width i.height i.maximum j.raster j.width j.height j.maximum =
       start_is_one b i.raster i.width i.height i.maximum j.raster j.width j.height j.maximum i.header.sized.header j.header.sized.header in
-      short i.raster j.raster (3 * (i.width * i.height)) (3 * (j.width * j.height)) e.raster
-      (same_texels i.width i.height j.width j.height e.width e.height) i.want_is i.have_is i.short j.full
+      short i.raster j.raster (texel_length (depth_of i.maximum) * (i.width * i.height))
+      (texel_length (depth_of j.maximum) * (j.width * j.height)) e.raster
+      (same_rasters i.maximum i.width i.height j.maximum j.width j.height e.maximum e.width e.height) i.want_is i.have_is i.short j.full
     where
       short : (r s n k : ℕ) → r ≡ s → n ≡ k → want ≡ n → r + have ≡ length b → have < want → s + k ≤ length b → ⊥
       short r s n k e f want_is have_is less full = omega arith
 
-  not_over_before : (at to : ℕ) → IsSampleOver most b at → IsSampleOver most b to → at < to → ⊥
+  not_over_before : (at to : ℕ) → (i : IsSampleOver most b at) → (j : IsSampleOver most b to) → i.number < j.number → ⊥
   not_over_before at to i j lt =
       let e : AreSameHeaders i.raster i.width i.height i.maximum j.raster j.width j.height j.maximum =
       start_is_one b i.raster i.width i.height i.maximum j.raster j.width j.height j.maximum i.header.sized.header j.header.sized.header in
-      let few : get_or b at 0 ≤ j.maximum = j.first at (omega (arith, e.raster, i.from)) lt in
-      omega (arith, e.maximum, i.over, few)
+      let here : sample_at (depth_of i.maximum) (drop i.raster b) i.number ≡ sample_at (depth_of j.maximum) (drop j.raster b) i.number =
+      ap (λ m. sample_at (depth_of m) (drop i.raster b) i.number) e.maximum
+      ∙ ap (λ r. sample_at (depth_of j.maximum) (drop r b) i.number) e.raster in
+      over (sample_at (depth_of i.maximum) (drop i.raster b) i.number) (sample_at (depth_of j.maximum) (drop j.raster b) i.number)
+      i.maximum j.maximum here e.maximum i.over (j.first i.number lt)
+    where
+      over : (s t m n : ℕ) → s ≡ t → m ≡ n → m < s → t ≤ n → ⊥
+      over s t m n e f more few = omega arith
 
   pub over_is_one : (at to : ℕ) → IsSampleOver most b at → IsSampleOver most b to → at ≡ to
-  over_is_one at to i j = ends (not_over_before at to i j) (not_over_before to at j i)
+  over_is_one at to i j =
+      let e : AreSameHeaders i.raster i.width i.height i.maximum j.raster j.width j.height j.maximum =
+      start_is_one b i.raster i.width i.height i.maximum j.raster j.width j.height j.maximum i.header.sized.header j.header.sized.header in
+      let number : i.number ≡ j.number = ends (not_over_before at to i j) (not_over_before to at j i) in
+      i.at_is ∙ ap (λ r. r + depth_of i.maximum * i.number) e.raster ∙ ap (λ m. j.raster + depth_of m * i.number) e.maximum
+      ∙ ap (λ k. j.raster + depth_of j.maximum * k) number ∙ sym j.at_is
     where
-      ends : (at < to → ⊥) → (to < at → ⊥) → at ≡ to
+      ends : {n k : ℕ} → (n < k → ⊥) → (k < n → ⊥) → n ≡ k
       ends f g = omega arith
 
   -- what has a lawful header has none of the flaws of a maximum
   lawful_maximum : (r w h m : ℕ) → IsLawfulHeader most b r w h m → HasBadMaximum most b → ⊥
-  lawful_maximum r w h m i bad = maximum_is_good most b r w h m i.sized i.lawful.some (omega (arith, i.lawful.one_byte)) bad
-
-  lawful_samples : (r w h m : ℕ) → IsLawfulHeader most b r w h m → HasWideSamples most b → ⊥
-  lawful_samples r w h m i bad = samples_are_narrow most b r w h m i.sized i.lawful.one_byte bad
-
-  wide_maximum : HasWideSamples most b → HasBadMaximum most b → ⊥
-  wide_maximum i bad = maximum_is_good most b i.raster i.width i.height i.maximum i.sized (omega (arith, i.wide)) i.few bad
+  lawful_maximum r w h m i bad = maximum_is_good most b r w h m i.sized i.lawful.some i.lawful.few bad
 
 -- the line of the table in which a flaw stands
 abbrev line_of : PpmError → ℕ
@@ -92,11 +99,10 @@ line_of BadMagic = 0
 line_of (BadHeader at) = 1
 line_of BadSize = 2
 line_of BadMaximum = 3
-line_of WideSamples = 4
-line_of (Truncated want have) = 5
-line_of (SampleOver at) = 6
-line_of Failed = 7
-line_of NoMemory = 8
+line_of (Truncated want have) = 4
+line_of (SampleOver at) = 5
+line_of Failed = 6
+line_of NoMemory = 7
 
 -- of two flaws, the first in the table is the second also
 in_order : (most : ℕ) (b : List ℕ) (e f : PpmError) → line_of e ≤ line_of f → IsFlawUpTo most b e → IsFlawUpTo most b f → e ≡ f
@@ -108,27 +114,20 @@ in_order most b BadMagic BadMagic le i j = refl
 in_order most b BadMagic (BadHeader at) le i j = absurd (i j.0)
 in_order most b BadMagic BadSize le i j = absurd (i (magic_of_start b j.raster j.width j.height j.maximum j.header))
 in_order most b BadMagic BadMaximum le i j = absurd (i (magic_of_start b j.raster j.width j.height j.maximum j.sized.header))
-in_order most b BadMagic WideSamples le i j = absurd (i (magic_of_start b j.raster j.width j.height j.maximum j.sized.header))
 in_order most b BadMagic (Truncated want have) le i j = absurd (i (magic_of_start b j.raster j.width j.height j.maximum j.header.sized.header))
 in_order most b BadMagic (SampleOver at) le i j = absurd (i (magic_of_start b j.raster j.width j.height j.maximum j.header.sized.header))
 in_order most b (BadHeader at) (BadHeader to) le i j = ap BadHeader (broken_is_one b at to i.1 j.1)
 in_order most b (BadHeader at) BadSize le i j = absurd (i.1.none j.raster j.width j.height j.maximum j.header)
 in_order most b (BadHeader at) BadMaximum le i j = absurd (i.1.none j.raster j.width j.height j.maximum j.sized.header)
-in_order most b (BadHeader at) WideSamples le i j = absurd (i.1.none j.raster j.width j.height j.maximum j.sized.header)
 in_order most b (BadHeader at) (Truncated want have) le i j = absurd (i.1.none j.raster j.width j.height j.maximum j.header.sized.header)
 in_order most b (BadHeader at) (SampleOver to) le i j = absurd (i.1.none j.raster j.width j.height j.maximum j.header.sized.header)
 in_order most b BadSize BadSize le i j = refl
 in_order most b BadSize BadMaximum le i j = absurd (size_is_good most b j.raster j.width j.height j.maximum j.sized i)
-in_order most b BadSize WideSamples le i j = absurd (size_is_good most b j.raster j.width j.height j.maximum j.sized i)
 in_order most b BadSize (Truncated want have) le i j = absurd (size_is_good most b j.raster j.width j.height j.maximum j.header.sized i)
 in_order most b BadSize (SampleOver at) le i j = absurd (size_is_good most b j.raster j.width j.height j.maximum j.header.sized i)
 in_order most b BadMaximum BadMaximum le i j = refl
-in_order most b BadMaximum WideSamples le i j = absurd (wide_maximum most b j i)
 in_order most b BadMaximum (Truncated want have) le i j = absurd (lawful_maximum most b j.raster j.width j.height j.maximum j.header i)
 in_order most b BadMaximum (SampleOver at) le i j = absurd (lawful_maximum most b j.raster j.width j.height j.maximum j.header i)
-in_order most b WideSamples WideSamples le i j = refl
-in_order most b WideSamples (Truncated want have) le i j = absurd (lawful_samples most b j.raster j.width j.height j.maximum j.header i)
-in_order most b WideSamples (SampleOver at) le i j = absurd (lawful_samples most b j.raster j.width j.height j.maximum j.header i)
 in_order most b (Truncated want have) (Truncated other rest) le i j = ap (λ k. Truncated k have) (want_is_one most b want have other rest i j)
     ∙ ap (Truncated other) (have_is_one most b want have other rest i j)
 in_order most b (Truncated want have) (SampleOver at) le i j = absurd (truncated_is_not_full most b want have at i j)
@@ -148,7 +147,6 @@ no_header_flaw most b r w h m BadMagic i bad = absurd (bad (magic_of_start b r w
 no_header_flaw most b r w h m (BadHeader at) i bad = absurd (bad.1.none r w h m i.sized.header)
 no_header_flaw most b r w h m BadSize i bad = absurd (size_is_good most b r w h m i.sized bad)
 no_header_flaw most b r w h m BadMaximum i bad = absurd (lawful_maximum most b r w h m i bad)
-no_header_flaw most b r w h m WideSamples i bad = absurd (lawful_samples most b r w h m i bad)
 no_header_flaw most b r w h m (Truncated want have) i bad = tt
 no_header_flaw most b r w h m (SampleOver at) i bad = tt
 no_header_flaw most b r w h m Failed i bad = absurd bad

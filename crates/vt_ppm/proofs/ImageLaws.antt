@@ -1,18 +1,16 @@
 -- Bytes spell one image at most, and such bytes have no flaw.
-use Rattle.std.proofs.Common.{◌≡◌, inl, inr, ℕ, ◌+◌, ◌-◌, ◌*◌, ◌<◌, ◌≤◌, List, [], ◌∷◌, ◌++◌, length, get_or, take, drop, map, sym, ap, ◌∙◌, subst, arith, length-append, codes, All, ◌/◌, ◌^◌}
-use Rattle.std.proofs.Math.Nat.{div-lt_iff_lt-mul}
-use Rattle.std.proofs.lemmas.List.Elements.{All-get_or, All-weaker, All-same, All-map}
-use Rattle.std.proofs.Math.ListN.{get_or-append}
-use Rattle.std.proofs.Math.Seq.{take-append_seam, get_or-append_right}
-use Rattle.std.proofs.lemmas.Bool.{cases_lt}
-use Rattle.std.proofs.lemmas.List.{take-append-drop, length-take-le, get_or_past}
+use Rattle.std.proofs.Common.{◌≡◌, inl, inr, ℕ, ◌+◌, ◌*◌, ◌<◌, ◌≤◌, List, [], ◌∷◌, ◌++◌, length, take, drop, sym, ap, ◌∙◌, subst, arith, length-append, codes, ◌^◌}
+use Rattle.std.proofs.Math.Seq.{take-append_seam, drop-append_seam}
+use Rattle.std.proofs.lemmas.List.{take-append-drop, length-take-le}
 use Rattle.vt_ppm.specs.declared.error.PpmError.{PpmError}
-use Rattle.vt_ppm.specs.declared.error.PpmError.TheVariants.{BadMagic, BadHeader, BadSize, BadMaximum, WideSamples, Truncated, SampleOver, Failed, NoMemory}
+use Rattle.vt_ppm.specs.declared.error.PpmError.TheVariants.{BadMagic, BadHeader, BadSize, BadMaximum, Truncated, SampleOver, Failed, NoMemory}
 use Rattle.vt_definitions.specs.Limits.{most_read_side}
-use Rattle.vt_definitions.specs.Texels.{word}
-use Rattle.vt_ppm.specs.Image.{ImageView, AreBytes, sample_of, texel_of}
-use Rattle.vt_ppm.specs.Format.{IsHeader, HasHeader, AreSameHeaders, IsByteMaximum, IsImage, scaled}
-use Rattle.vt_ppm.specs.Flaws.{AreImageSides, HasBadSize, IsSized, HasBadMaximum, HasWideSamples, IsLawfulHeader, IsTruncated, IsSampleOver, IsImageFlaw}
+use Rattle.vt_definitions.specs.Depths.{IsDepth, AreBytes, sample_at, texel_length}
+use Rattle.vt_definitions.proofs.TexelWords.{words_small}
+use Rattle.vt_ppm.specs.Image.{ImageView, texel_of}
+use Rattle.vt_ppm.specs.Format.{IsHeader, HasHeader, AreSameHeaders, IsImage, AreScaled, depth_of, scaled}
+use Rattle.vt_ppm.specs.Flaws.{AreImageSides, HasBadSize, IsSized, HasBadMaximum, IsLawfulHeader, IsTruncated, IsSampleOver, IsImageFlaw}
+use Rattle.vt_ppm.proofs.SampleValues.{front_sample, sample_room, samples_of_texels, same_bytes}
 use Rattle.vt_ppm.proofs.Headers.{AreSameTexts, header_is_one}
 
 -- bytes begin with one header at most
@@ -49,8 +47,13 @@ start_of_image b p i =
 pub same_sides : (most w h u v : ℕ) → w ≡ u → h ≡ v → AreImageSides most w h → AreImageSides most u v
 same_sides most w h u v e f sides = subst (λ k. AreImageSides most k v) e (subst (λ k. AreImageSides most w k) f sides)
 
-pub same_texels : (w h u v : ℕ) → w ≡ u → h ≡ v → 3 * (w * h) ≡ 3 * (u * v)
-same_texels w h u v e f = ap (λ k. 3 * (k * h)) e ∙ ap (λ k. 3 * (u * k)) f
+-- headers that agree have rasters of one length, and as many samples
+pub same_rasters : (m w h n u v : ℕ) → m ≡ n → w ≡ u → h ≡ v → texel_length (depth_of m) * (w * h) ≡ texel_length (depth_of n) * (u * v)
+same_rasters m w h n u v d e f = ap (λ k. texel_length (depth_of k) * (w * h)) d ∙ ap (λ k. texel_length (depth_of n) * (k * h)) e
+    ∙ ap (λ k. texel_length (depth_of n) * (u * k)) f
+
+pub same_counts : (w h u v : ℕ) → w ≡ u → h ≡ v → 3 * (w * h) ≡ 3 * (u * v)
+same_counts w h u v e f = ap (λ k. 3 * (k * h)) e ∙ ap (λ k. 3 * (u * k)) f
 
 -- lawful headers have none of the flaws that speak of a header
 module _ (most : ℕ) (b : List ℕ) (r w h m : ℕ) (known : IsSized most b r w h m) where
@@ -65,12 +68,6 @@ module _ (most : ℕ) (b : List ℕ) (r w h m : ℕ) (known : IsSized most b r w
       let e : AreSameHeaders r w h m bad.raster bad.width bad.height bad.maximum =
       start_is_one b r w h m bad.raster bad.width bad.height bad.maximum known.header bad.sized.header in
       elim bad.bad [ inl none ↦ omega (arith, e.maximum, none, some) | inr many ↦ omega (arith, e.maximum, many, few) ]
-
-  pub samples_are_narrow : m ≤ 255 → HasWideSamples most b → ⊥
-  samples_are_narrow few bad =
-      let e : AreSameHeaders r w h m bad.raster bad.width bad.height bad.maximum =
-      start_is_one b r w h m bad.raster bad.width bad.height bad.maximum known.header bad.sized.header in
-      omega (arith, e.maximum, bad.wide, few)
 
 -- the header of an image is lawful
 pub lawful_of_image : (b : List ℕ) (p : ImageView) (i : IsImage b p) → IsLawfulHeader most_read_side b (length i.text) p.width p.height i.maximum
@@ -87,49 +84,53 @@ lawful_of_image b p i = record {
   lawful = i.lawful;
 }
 
--- the bytes of an image as those of its parts
-length_of_image : (b : List ℕ) (p : ImageView) (i : IsImage b p) → length b ≡ length i.text + (3 * (p.width * p.height) + length i.rest)
+-- the raster of an image, and the bytes of an image as those of its parts
+length_of_raster : (b : List ℕ) (p : ImageView) (i : IsImage b p) → length i.raster ≡ texel_length (depth_of i.maximum) * (p.width * p.height)
+length_of_raster b p i = i.full ∙ ap (λ d. texel_length d * (p.width * p.height)) i.depth_is
+
+length_of_image : (b : List ℕ) (p : ImageView) (i : IsImage b p)
+    → length b ≡ length i.text + (texel_length (depth_of i.maximum) * (p.width * p.height) + length i.rest)
 length_of_image b p i =
     ap length i.spelt ∙ length-append i.text (i.raster ++ i.rest) ∙ ap (λ k. length i.text + k)
-    (length-append i.raster i.rest ∙ ap (λ k. k + length i.rest) i.full)
+    (length-append i.raster i.rest ∙ ap (λ k. k + length i.rest) (length_of_raster b p i))
 
 image_is_whole : (b : List ℕ) (p : ImageView) (want have : ℕ) → IsImage b p → IsTruncated most_read_side b want have → ⊥
 image_is_whole b p want have i bad =
     let start : HasHeader b (length i.text) p.width p.height i.maximum = start_of_image b p i in
     let e : AreSameHeaders (length i.text) p.width p.height i.maximum bad.raster bad.width bad.height bad.maximum =
     start_is_one b (length i.text) p.width p.height i.maximum bad.raster bad.width bad.height bad.maximum start bad.header.sized.header in
-    let texels : 3 * (p.width * p.height) ≡ 3 * (bad.width * bad.height) = same_texels p.width p.height bad.width bad.height e.width e.height in
-    let total : length b ≡ length i.text + (3 * (p.width * p.height) + length i.rest) = length_of_image b p i in
-    few (length i.text) bad.raster (3 * (p.width * p.height)) (3 * (bad.width * bad.height)) (length i.rest)
-    (length b) want have e.raster texels total bad.want_is bad.have_is bad.short
+    few (length i.text) bad.raster (texel_length (depth_of i.maximum) * (p.width * p.height))
+    (texel_length (depth_of bad.maximum) * (bad.width * bad.height)) (length i.rest) (length b) want have e.raster
+    (same_rasters i.maximum p.width p.height bad.maximum bad.width bad.height e.maximum e.width e.height)
+    (length_of_image b p i) bad.want_is bad.have_is bad.short
   where
     few : (t r n k rest l want have : ℕ) → t ≡ r → n ≡ k → l ≡ t + (n + rest) → want ≡ k → r + have ≡ l → have < want → ⊥
     few t r n k rest l want have e f total want_is have_is short = omega arith
 
--- a byte of the middle of three parts
-middle_byte : (xs ys zs : List ℕ) (at : ℕ) → length xs ≤ at → at < length xs + length ys → get_or (xs ++ (ys ++ zs)) at 0 ≡ get_or ys (at - length xs) 0
-middle_byte xs ys zs at from within =
-    let inside : at - length xs < length ys = omega arith in
-    get_or-append_right xs (ys ++ zs) at 0 from ∙ get_or-append ys zs 0 (at - length xs) inside
-
-few_samples : (b : List ℕ) (p : ImageView) (at : ℕ) (i : IsImage b p) → length i.text ≤ at → at < length i.text + 3 * (p.width * p.height)
-    → get_or b at 0 ≤ i.maximum
-few_samples b p at i from within =
-    let inside : at - length i.text < length i.raster = omega (arith, i.full) in
-    let e : get_or b at 0 ≡ get_or i.raster (at - length i.text) 0 = ap (λ xs. get_or xs at 0) i.spelt
-    ∙ middle_byte i.text i.raster i.rest at from (omega (arith, i.full)) in
-    subst (λ k. k ≤ i.maximum) (sym e) (i.few (at - length i.text) 0 inside)
+-- a sample behind the header is that of the raster
+sample_of_image : (b : List ℕ) (p : ImageView) (i : IsImage b p) (d r n : ℕ) → d ≡ p.depth → length i.text ≡ r → n < 3 * (p.width * p.height)
+    → sample_at d (drop r b) n ≡ sample_at p.depth i.raster n
+sample_of_image b p i d r n same from inside =
+    let behind : drop r b ≡ i.raster ++ i.rest = ap (λ k. drop k b) (sym from) ∙ ap (drop (length i.text)) i.spelt
+    ∙ drop-append_seam i.text (i.raster ++ i.rest) in
+    ap (λ k. sample_at k (drop r b) n) same ∙ ap (λ xs. sample_at p.depth xs n) behind
+    ∙ front_sample p.depth i.raster i.rest n i.image.depth (omega (arith, i.full, sample_room p.depth n (p.width * p.height) i.image.depth inside))
 
 image_is_under : (b : List ℕ) (p : ImageView) (at : ℕ) → IsImage b p → IsSampleOver most_read_side b at → ⊥
 image_is_under b p at i bad =
     let start : HasHeader b (length i.text) p.width p.height i.maximum = start_of_image b p i in
     let e : AreSameHeaders (length i.text) p.width p.height i.maximum bad.raster bad.width bad.height bad.maximum =
     start_is_one b (length i.text) p.width p.height i.maximum bad.raster bad.width bad.height bad.maximum start bad.header.sized.header in
-    let texels : 3 * (p.width * p.height) ≡ 3 * (bad.width * bad.height) = same_texels p.width p.height bad.width bad.height e.width e.height in
-    let from : length i.text ≤ at = omega (arith, e.raster, bad.from) in
-    let within : at < length i.text + 3 * (p.width * p.height) = subst (λ k. at < length i.text + k) (sym texels)
-    (subst (λ k. at < k + 3 * (bad.width * bad.height)) (sym e.raster) bad.within) in
-    omega (arith, few_samples b p at i from within, bad.over, e.maximum)
+    let same : depth_of bad.maximum ≡ p.depth = ap depth_of (sym e.maximum) ∙ sym i.depth_is in
+    let inside : bad.number < 3 * (p.width * p.height) =
+    subst (λ k. bad.number < k) (sym (same_counts p.width p.height bad.width bad.height e.width e.height)) bad.within in
+    let here : sample_at (depth_of bad.maximum) (drop bad.raster b) bad.number ≡ sample_at p.depth i.raster bad.number =
+    sample_of_image b p i (depth_of bad.maximum) bad.raster bad.number same e.raster inside in
+    over (sample_at (depth_of bad.maximum) (drop bad.raster b) bad.number) (sample_at p.depth i.raster bad.number) i.maximum bad.maximum here
+    (i.few bad.number inside) bad.over e.maximum
+  where
+    over : (s t m n : ℕ) → s ≡ t → t ≤ m → n < s → m ≡ n → ⊥
+    over s t m n e few more f = omega arith
 
 -- an image has no flaw
 pub no_image_flaw : (b : List ℕ) (p : ImageView) (e : PpmError) → IsImage b p → IsImageFlaw b e → ⊥
@@ -137,51 +138,35 @@ no_image_flaw b p BadMagic i bad = bad (magic_of_start b (length i.text) p.width
 no_image_flaw b p (BadHeader at) i bad = bad.1.none (length i.text) p.width p.height i.maximum (start_of_image b p i)
 no_image_flaw b p BadSize i bad = size_is_good most_read_side b (length i.text) p.width p.height i.maximum (lawful_of_image b p i).sized bad
 no_image_flaw b p BadMaximum i bad = maximum_is_good most_read_side b (length i.text) p.width p.height i.maximum
-    (lawful_of_image b p i).sized i.lawful.some (omega (arith, i.lawful.one_byte)) bad
-no_image_flaw b p WideSamples i bad = samples_are_narrow most_read_side b (length i.text) p.width p.height i.maximum
-    (lawful_of_image b p i).sized i.lawful.one_byte bad
+    (lawful_of_image b p i).sized i.lawful.some i.lawful.few bad
 no_image_flaw b p (Truncated want have) i bad = image_is_whole b p want have i bad
 no_image_flaw b p (SampleOver at) i bad = image_is_under b p at i bad
 no_image_flaw b p Failed i bad = bad
 no_image_flaw b p NoMemory i bad = bad
 
-abbrev made : ℕ → ℕ → List ℕ → ImageView
-made w h xs = record { width = w; height = h; samples = xs }
+abbrev made : ℕ → ℕ → ℕ → List ℕ → ImageView
+made d w h xs = record { depth = d; width = w; height = h; samples = xs }
 
-view_same : (p q : ImageView) → p.width ≡ q.width → p.height ≡ q.height → p.samples ≡ q.samples → p ≡ q
-view_same p q e f g = ap (λ w. made w p.height p.samples) e ∙ ap (λ h. made q.width h p.samples) f ∙ ap (λ xs. made q.width q.height xs) g
+view_same : (p q : ImageView) → p.depth ≡ q.depth → p.width ≡ q.width → p.height ≡ q.height → p.samples ≡ q.samples → p ≡ q
+view_same p q d e f g = ap (λ n. made n p.width p.height p.samples) d ∙ ap (λ w. made q.depth w p.height p.samples) e
+    ∙ ap (λ h. made q.depth q.width h p.samples) f ∙ ap (λ xs. made q.depth q.width q.height xs) g
 
 -- lists of one length before others
 same_front : (xs ys r s : List ℕ) → length xs ≡ length ys → xs ++ r ≡ ys ++ s → xs ≡ ys
 same_front xs ys r s len e = sym (take-append_seam xs r) ∙ ap (λ k. take k (xs ++ r)) len ∙ ap (take (length ys)) e ∙ take-append_seam ys s
 
--- a sample up to the maximum is kept as a byte
-kept_is_byte : (m s : ℕ) → IsByteMaximum m → s ≤ m → scaled m s < 256
-kept_is_byte m s lawful few = (div-lt_iff_lt-mul {k = m} {x = s * 255 + m / 2} {y = 256} lawful.some).1 (below (m / 2) (omega (arith, lawful.some)))
-  where
-    below : (half : ℕ) → half < m → s * 255 + half < 256 * m
-    below half less = omega arith
-
 pub image_of_bytes : (b : List ℕ) (p : ImageView) → IsImage b p → AreBytes p.samples
-image_of_bytes b p i =
-    let each : All (λ s. scaled i.maximum s < 256) i.raster =
-    All-weaker (λ s. s ≤ i.maximum) (λ s. scaled i.maximum s < 256) (λ s few. kept_is_byte i.maximum s i.lawful few) i.raster i.few in
-    All-same (λ s. s < 256) p.samples (map (scaled i.maximum) i.raster) i.kept (All-map (λ s. s < 256) (scaled i.maximum) i.raster each)
+image_of_bytes b p i = i.bytes
 
--- a sample is below 256, also where there is none
-byte_at : (xs : List ℕ) (i : ℕ) → AreBytes xs → get_or xs i 0 < 256
-byte_at xs i all = elim (cases_lt i (length xs)) [
-  | inl within ↦ All-get_or (λ s. s < 256) xs i 0 within all
-  | inr past ↦ omega (arith, get_or_past xs i 0 past)
-]
+pub word_is_small : (p : ImageView) (x y : ℕ) → IsDepth p.depth → AreBytes p.samples → texel_of p x y < 2 ^ (24 * p.depth)
+word_is_small p x y depth all = words_small p.depth p.samples (y * p.width + x) depth all
 
-pub word_is_small : (p : ImageView) (x y : ℕ) → AreBytes p.samples → texel_of p x y < 2 ^ 24
-word_is_small p x y all =
-    small (sample_of p x y 0) (sample_of p x y 1) (sample_of p x y 2) (byte_at p.samples (3 * (y * p.width + x) + 0) all)
-    (byte_at p.samples (3 * (y * p.width + x) + 1) all) (byte_at p.samples (3 * (y * p.width + x) + 2) all)
-  where
-    small : (r g b : ℕ) → r < 256 → g < 256 → b < 256 → word r g b < 2 ^ 24
-    small r g b hr hg hb = omega arith
+-- samples that are kept of equal rasters are equal
+same_kept : (d e m n c k : ℕ) (r s xs ys : List ℕ) → d ≡ e → m ≡ n → c ≡ k → r ≡ s → AreScaled d m c r xs → AreScaled e n k s ys
+    → (i : ℕ) → i < c → sample_at d xs i ≡ sample_at d ys i
+same_kept d e m n c k r s xs ys same ms cs rs first second i inside =
+    let other : sample_at d ys i ≡ scaled d m (sample_at d r i) = rw (same, ms, rs) (second i (omega (arith, inside, cs))) in
+    first i inside ∙ sym other
 
 -- bytes spell one image at most
 pub one_image : (b : List ℕ) (p q : ImageView) → IsImage b p → IsImage b q → p ≡ q
@@ -189,6 +174,16 @@ one_image b p q i j =
     let both : i.text ++ (i.raster ++ i.rest) ≡ j.text ++ (j.raster ++ j.rest) = sym i.spelt ∙ j.spelt in
     let e : AreSameTexts i.text j.text (i.raster ++ i.rest) (j.raster ++ j.rest) p.width p.height i.maximum q.width q.height j.maximum =
     header_is_one i.text j.text (i.raster ++ i.rest) (j.raster ++ j.rest) p.width p.height i.maximum q.width q.height j.maximum i.header j.header both in
-    let len : length i.raster ≡ length j.raster = i.full ∙ same_texels p.width p.height q.width q.height e.width e.height ∙ sym j.full in
-    let rasters : i.raster ≡ j.raster = same_front i.raster j.raster i.rest j.rest len e.rest in
-    view_same p q e.width e.height (i.kept ∙ ap (λ m. map (scaled m) i.raster) e.maximum ∙ ap (map (scaled j.maximum)) rasters ∙ sym j.kept)
+    let depth : p.depth ≡ q.depth = i.depth_is ∙ ap depth_of e.maximum ∙ sym j.depth_is in
+    let counts : 3 * (p.width * p.height) ≡ 3 * (q.width * q.height) = same_counts p.width p.height q.width q.height e.width e.height in
+    let lengths : texel_length q.depth * (q.width * q.height) ≡ texel_length p.depth * (p.width * p.height) =
+    ap (λ d. texel_length d * (q.width * q.height)) (sym depth) ∙ texels p.depth (q.width * q.height) (p.width * p.height) (sym counts) in
+    let rasters : i.raster ≡ j.raster = same_front i.raster j.raster i.rest j.rest (i.full ∙ sym lengths ∙ sym j.full) e.rest in
+    let samples : p.samples ≡ q.samples = same_bytes p.depth (3 * (p.width * p.height)) p.samples q.samples i.image.depth
+    (i.image.full ∙ samples_of_texels p.depth (p.width * p.height)) (j.image.full ∙ lengths ∙ samples_of_texels p.depth (p.width * p.height)) i.bytes j.bytes
+    (same_kept p.depth q.depth i.maximum j.maximum (3 * (p.width * p.height)) (3 * (q.width * q.height)) i.raster j.raster p.samples q.samples depth
+    e.maximum counts rasters i.kept j.kept) in
+    view_same p q depth e.width e.height samples
+  where
+    texels : (d n k : ℕ) → 3 * n ≡ 3 * k → texel_length d * n ≡ texel_length d * k
+    texels d n k e = let same : n ≡ k = omega (arith, e) in ap (λ j. texel_length d * j) same

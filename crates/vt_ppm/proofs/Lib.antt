@@ -4,6 +4,7 @@ pub mod Runs
 pub mod Fields
 pub mod Breaks
 pub mod HeaderFields
+pub mod SampleValues
 pub mod Rasters
 pub mod TellingFiles
 pub mod ImageLaws

@@ -1,29 +1,33 @@
 -- Rasters: their samples as they are kept, and the images that they make.
-use Rattle.std.proofs.Common.{◌≡◌, inl, inr, ℕ, ◌+◌, ◌-◌, ◌*◌, ◌<◌, ◌≤◌, List, ◌∷◌, ◌++◌, length, get_or, set, take, drop, map, min, sym, ap, ◌∙◌, subst, arith, length-drop, length-take, All}
-use Rattle.std.proofs.lemmas.List.{length-map, take-append-drop, take-take, take_min, drop_more, get_or-take, get_or-drop, get_or_at, get_or_default, length-take-le}
-use Rattle.std.proofs.lemmas.List.Edits.{map_over_more}
-use Rattle.std.proofs.lemmas.List.Elements.{All-get_or}
+use Rattle.std.proofs.Common.{◌≡◌, inl, inr, ℕ, ◌+◌, ◌*◌, ◌<◌, ◌≤◌, List, ◌++◌, length, take, drop, min, refl, sym, ap, ◌∙◌, subst, arith, length-drop, length-take}
+use Rattle.std.proofs.lemmas.List.{take-append-drop, take-take, take_min, take_at, length-take-le}
+use Rattle.vt_definitions.specs.Depths.{AreBytes, sample_at, texel_length}
 use Rattle.vt_definitions.specs.Limits.{most_read_side}
 use Rattle.vt_outside.specs.Files.{IsPiece}
 use Rattle.vt_ppm.specs.declared.error.PpmError.{PpmError}
-use Rattle.vt_ppm.specs.declared.error.PpmError.TheVariants.{BadMagic, BadHeader, BadSize, BadMaximum, WideSamples, Truncated, SampleOver, Failed, NoMemory}
-use Rattle.vt_ppm.specs.Format.{IsHeader, HasHeader, IsImage, scaled}
+use Rattle.vt_ppm.specs.declared.error.PpmError.TheVariants.{BadMagic, BadHeader, BadSize, BadMaximum, Truncated, SampleOver, Failed, NoMemory}
+use Rattle.vt_ppm.specs.Format.{IsHeader, HasHeader, IsImage, AreUpTo, AreScaled, depth_of, scaled}
 use Rattle.vt_ppm.specs.Flaws.{IsHeaderFront, IsBrokenAt, IsSized, IsLawfulHeader, IsTruncated, IsSampleOver, IsFlawUpTo}
 use Rattle.vt_ppm.specs.Refusals.{IsRasterRefusal}
-use Rattle.vt_ppm.specs.Samples.{IsFirstOver, IsScale}
+use Rattle.vt_ppm.specs.Image.{ImageView}
+use Rattle.vt_ppm.specs.Samples.{IsOverAt, IsRasterImage}
+use Rattle.vt_ppm.proofs.SampleValues.{depth_is, front_sample, sample_room, kept_few, samples_of_texels, made, made_length, made_bytes, made_sample}
 
--- one more sample is scaled
-pub scale_more : (m : ℕ) (xs ys table : List ℕ) (i : ℕ) → All (λ sample. sample ≤ m) xs → IsScale table m → length ys ≡ length xs → i < length xs
-    → ys ≡ map (scaled m) (take i xs) ++ drop i xs
-    → set ys i (get_or table (get_or ys i 0) 0) ≡ map (scaled m) (take (i + 1) xs) ++ drop (i + 1) xs
-scale_more m xs ys table i few scale len within e =
-    let front : length (map (scaled m) (take i xs)) ≡ i = length-map (take i xs) (scaled m) ∙ length-take-le i xs (omega arith) in
-    let here : ys ≡ map (scaled m) (take i xs) ++ (get_or xs i 0 ∷ drop (i + 1) xs) = e ∙ ap (λ r. map (scaled m) (take i xs) ++ r) (drop_more xs i 0 within) in
-    let same : get_or ys i 0 ≡ get_or xs i 0 = ap (λ l. get_or l i 0) here
-    ∙ get_or_at (map (scaled m) (take i xs)) (get_or xs i 0) (drop (i + 1) xs) 0 i front in
-    let small : get_or xs i 0 ≤ m = All-get_or (λ sample. sample ≤ m) xs i 0 within few in
-    let kept : get_or table (get_or ys i 0) 0 ≡ scaled m (get_or ys i 0) = scale.each (get_or ys i 0) (omega arith) in
-    ap (λ v. set ys i v) kept ∙ map_over_more (scaled m) xs ys i (get_or ys i 0) within e (get_or_default ys i 0 (get_or ys i 0) (omega arith))
+abbrev view : ℕ → ℕ → ℕ → List ℕ → ImageView
+view d w h xs = record { depth = d; width = w; height = h; samples = xs }
+
+-- an image of a buffer that was scaled to its end
+pub raster_image : (w h m : ℕ) (items all new : List ℕ) (len count d : ℕ) (p : ImageView) → all ≡ items → length all ≡ len → length new ≡ length all
+    → count ≡ 3 * (w * h) → d ≡ depth_of m → AreScaled (depth_of m) m count all new → AreBytes new
+    → p ≡ record { depth = d; width = w; height = h; samples = take len (new ++ drop (length new) items) } → IsRasterImage w h m items p
+raster_image w h m items all new len count d p same size kept_size counted depth each bytes shape = record {
+  samples = new;
+  shape = shape ∙ ap (λ k. view k w h (take len (new ++ drop (length new) items))) depth
+      ∙ ap (view (depth_of m) w h) (take_at new (drop (length new) items) len (kept_size ∙ size));
+  full = kept_size ∙ ap length same;
+  kept = λ i inside. each i (omega (arith, inside, counted)) ∙ ap (λ xs. scaled (depth_of m) m (sample_at (depth_of m) xs i)) same;
+  bytes = bytes;
+}
 
 -- the bytes of which these are the first
 module _ (most : ℕ) (b head : List ℕ) (e : head ≡ take 65536 b) where
@@ -88,15 +92,6 @@ module _ (most : ℕ) (b head : List ℕ) (e : head ≡ take 65536 b) where
     sized = sized_header f.raster f.width f.height f.maximum f.sized;
     bad = f.bad;
   }
-  flaw_of_head WideSamples first f = record {
-    raster = f.raster;
-    width = f.width;
-    height = f.height;
-    maximum = f.maximum;
-    sized = sized_header f.raster f.width f.height f.maximum f.sized;
-    wide = f.wide;
-    few = f.few;
-  }
   flaw_of_head (Truncated want have) first f = absurd (first tt)
   flaw_of_head (SampleOver at) first f = absurd (first tt)
   flaw_of_head Failed first f = f
@@ -110,55 +105,76 @@ head_is b head n told e =
 
 -- a header and the raster behind it
 module _ (b raster : List ℕ) (r w h m : ℕ) (header : IsLawfulHeader most_read_side b r w h m) (piece : IsPiece b r raster)
-    (full : length raster ≡ 3 * (w * h)) where
-  pub image_made : (samples : List ℕ) → All (λ sample. sample ≤ m) raster → samples ≡ map (scaled m) raster
-      → IsImage b (record { width = w; height = h; samples = samples })
-  image_made samples few kept =
-      let parts : raster ++ drop (length raster) (drop r b) ≡ drop r b = ap (λ xs. xs ++ drop (length raster) (drop r b)) piece.same
-      ∙ take-append-drop (length raster) (drop r b) in
-      let whole : take r b ++ (raster ++ drop (length raster) (drop r b)) ≡ b = ap (λ xs. take r b ++ xs) parts ∙ take-append-drop r b in
-      record {
-        text = take r b;
-        raster = raster;
-        rest = drop (length raster) (drop r b);
-        maximum = m;
-        spelt = sym whole;
-        header = header.sized.header.header;
-        early = omega (arith, length-take-le r b header.sized.header.within, header.sized.header.early);
-        lawful = header.lawful;
-        image = record {
-          some_columns = header.sized.sides.some_columns;
-          few_columns = header.sized.sides.few_columns;
-          some_rows = header.sized.sides.some_rows;
-          few_rows = header.sized.sides.few_rows;
-          full = ap length kept ∙ length-map raster (scaled m) ∙ full;
-        };
-        full = full;
-        few = few;
-        kept = kept;
-      }
+    (full : length raster ≡ texel_length (depth_of m) * (w * h)) where
+  parts : raster ++ drop (length raster) (drop r b) ≡ drop r b
+  parts = ap (λ xs. xs ++ drop (length raster) (drop r b)) piece.same ∙ take-append-drop (length raster) (drop r b)
 
-  at_byte : (i : ℕ) → i < length raster → get_or b (r + i) 0 ≡ get_or raster i 0
-  at_byte i within = sym (get_or-drop r b i 0) ∙ sym (get_or-take (length raster) (drop r b) i 0 within) ∙ ap (λ xs. get_or xs i 0) (sym piece.same)
+  image_made : (samples : List ℕ) → AreUpTo (depth_of m) m (3 * (w * h)) raster → AreScaled (depth_of m) m (3 * (w * h)) raster samples
+      → length samples ≡ length raster → AreBytes samples → IsImage b (record { depth = depth_of m; width = w; height = h; samples = samples })
+  image_made samples few kept len bytes = record {
+    text = take r b;
+    raster = raster;
+    rest = drop (length raster) (drop r b);
+    maximum = m;
+    spelt = sym (ap (λ xs. take r b ++ xs) parts ∙ take-append-drop r b);
+    header = header.sized.header.header;
+    early = omega (arith, length-take-le r b header.sized.header.within, header.sized.header.early);
+    lawful = header.lawful;
+    depth_is = refl;
+    image = record {
+      depth = depth_is m;
+      some_columns = header.sized.sides.some_columns;
+      few_columns = header.sized.sides.few_columns;
+      some_rows = header.sized.sides.some_rows;
+      few_rows = header.sized.sides.few_rows;
+      full = len ∙ full;
+    };
+    full = full;
+    few = few;
+    kept = kept;
+    bytes = bytes;
+  }
 
-  pub sample_over : (at : ℕ) → IsFirstOver raster m at → IsSampleOver most_read_side b (r + at)
-  sample_over at over = record {
+  pub image_is : (p : ImageView) → AreUpTo (depth_of m) m (3 * (w * h)) raster → IsRasterImage w h m raster p → IsImage b p
+  image_is p few i = subst (IsImage b) (sym i.shape) (image_made i.samples few i.kept i.full i.bytes)
+
+  -- the samples of the raster up to the maximum make an image
+  pub image_there : AreUpTo (depth_of m) m (3 * (w * h)) raster → (p : ImageView) × IsImage b p
+  image_there few =
+      let d : ℕ = depth_of m in
+      let kept : ℕ → ℕ = λ i. scaled d m (sample_at d raster i) in
+      let len : length (made d kept (3 * (w * h))) ≡ length raster =
+      made_length d kept (3 * (w * h)) (depth_is m) ∙ sym (samples_of_texels d (w * h)) ∙ sym full in (
+        record { depth = d; width = w; height = h; samples = made d kept (3 * (w * h)) },
+        image_made (made d kept (3 * (w * h))) few
+            (λ i inside. made_sample d kept (3 * (w * h)) i (depth_is m)
+            (λ k within. kept_few d m (sample_at d raster k) (depth_is m) header.lawful.some (few k within)) inside)
+            len (made_bytes d kept (3 * (w * h)) (depth_is m)),
+      )
+
+  -- a sample of the raster is one behind the header
+  behind : (i : ℕ) → i < 3 * (w * h) → sample_at (depth_of m) (drop r b) i ≡ sample_at (depth_of m) raster i
+  behind i inside = ap (λ xs. sample_at (depth_of m) xs i) (sym parts)
+      ∙ front_sample (depth_of m) raster (drop (length raster) (drop r b)) i (depth_is m)
+      (omega (arith, full, sample_room (depth_of m) i (w * h) (depth_is m) inside))
+
+  pub sample_over : (at : ℕ) → IsOverAt r m (3 * (w * h)) raster at → IsSampleOver most_read_side b at
+  sample_over at place = let over = place.over in record {
     raster = r;
     width = w;
     height = h;
     maximum = m;
+    number = place.number;
     header = header;
     full = omega (arith, piece.within, full);
-    from = omega arith;
-    within = omega (arith, over.within, full);
-    over = omega (arith, over.over, at_byte at over.within);
-    first = λ i from before.
-        let back : r + (i - r) ≡ i = omega arith in
-        omega (arith, over.first (i - r) (omega arith), at_byte (i - r) (omega (arith, over.within)), ap (λ k. get_or b k 0) back);
+    within = over.within;
+    over = subst (λ s. m < s) (sym (behind place.number over.within)) over.over;
+    first = λ i before. subst (λ s. s ≤ m) (sym (behind i (omega (arith, before, over.within)))) (over.first i before);
+    at_is = place.at_is;
   }
 
-pub truncated : (b : List ℕ) (r w h m want have : ℕ) → IsLawfulHeader most_read_side b r w h m → want ≡ 3 * (w * h) → r + have ≡ length b
-    → have < want → IsTruncated most_read_side b want have
+pub truncated : (b : List ℕ) (r w h m want have : ℕ) → IsLawfulHeader most_read_side b r w h m → want ≡ texel_length (depth_of m) * (w * h)
+    → r + have ≡ length b → have < want → IsTruncated most_read_side b want have
 truncated b r w h m want have header want_is have_is short = record {
   raster = r;
   width = w;

@@ -1,17 +1,18 @@
 -- What is found in the bytes that a file gives is so of its bytes, where it tells them.
-use Rattle.std.proofs.Common.{◌≡◌, ℕ, ◌+◌, ◌-◌, ◌*◌, ◌<◌, ◌≤◌, List, ◌++◌, length, take, drop, map, min, Option, Some, None, IfSome, Result, Ok, Err, IfOk, IfErr, sym, ap, ◌∙◌, subst, arith, All}
-use Rattle.std.proofs.lemmas.List.{length-map, take_at}
+use Rattle.std.proofs.Common.{◌≡◌, ℕ, ◌-◌, ◌*◌, ◌<◌, List, length, take, min, Option, Some, None, IfSome, Result, Ok, Err, IfOk, IfErr, ap, ◌∙◌, subst, arith}
+use Rattle.vt_definitions.specs.Depths.{texel_length}
 use Rattle.vt_definitions.specs.Limits.{header_limit, most_read_side}
 use Rattle.vt_outside.specs.Files.{IsPiece}
 use Rattle.vt_ppm.specs.declared.error.PpmError.{PpmError}
 use Rattle.vt_ppm.specs.declared.error.PpmError.TheVariants.{Truncated, SampleOver}
 use Rattle.vt_ppm.specs.declared.header.Header.{Header}
-use Rattle.vt_ppm.specs.Format.{IsImage, scaled}
+use Rattle.vt_ppm.specs.Format.{IsImage, AreUpTo, depth_of}
+use Rattle.vt_ppm.specs.Image.{ImageView}
 use Rattle.vt_ppm.specs.Flaws.{IsLawfulHeader, IsFlawUpTo, IsImageFlaw}
 use Rattle.vt_ppm.specs.Reads.{IsFront}
 use Rattle.vt_ppm.specs.Refusals.{IsOutsideRefusal, IsRasterRefusal}
-use Rattle.vt_ppm.specs.Samples.{IsFirstOver}
-use Rattle.vt_ppm.proofs.Rasters.{head_is, lawful_header, flaw_of_head, image_made, sample_over, truncated}
+use Rattle.vt_ppm.specs.Samples.{IsOverAt, IsRasterImage}
+use Rattle.vt_ppm.proofs.Rasters.{head_is, lawful_header, flaw_of_head, image_is, sample_over, truncated}
 
 -- the front that was read is that of the file
 pub front_told : (o o1 : Option (List ℕ)) (front : List ℕ) (n : ℕ) → o1 ≡ o → IfSome o (λ b. n ≡ length b) → IfSome o1 (λ b. IsPiece b 0 front)
@@ -53,7 +54,7 @@ module _ (o : Option (List ℕ)) (n r w h m : ℕ) (front : List ℕ) (is : IfSo
   told = header_told most_read_side o n front is r w h m header
 
   -- the file has too few bytes for the raster
-  pub truncated_told : (want have : ℕ) → length front ≡ min n header_limit → want ≡ 3 * (w * h) → have ≡ n - r → have < want
+  pub truncated_told : (want have : ℕ) → length front ≡ min n header_limit → want ≡ texel_length (depth_of m) * (w * h) → have ≡ n - r → have < want
       → IfSome o (λ b. IsImageFlaw b (Truncated want have))
   truncated_told want have few ew eh short = found o is told
     where
@@ -63,27 +64,22 @@ module _ (o : Option (List ℕ)) (n r w h m : ℕ) (front : List ℕ) (is : IfSo
       found (Some b) f l = truncated b r w h m want have l ew (omega (arith, f.len_is, few, header.sized.header.within, eh)) short
 
   -- the first sample above the maximum is that of the file
-  pub over_told : (o1 : Option (List ℕ)) (raster : List ℕ) (at : ℕ) → o1 ≡ o → IfSome o1 (λ b. IsPiece b r raster) → length raster ≡ 3 * (w * h)
-      → IsFirstOver raster m at → IfSome o (λ b. IsImageFlaw b (SampleOver (r + at)))
+  pub over_told : (o1 : Option (List ℕ)) (raster : List ℕ) (at : ℕ) → o1 ≡ o → IfSome o1 (λ b. IsPiece b r raster)
+      → length raster ≡ texel_length (depth_of m) * (w * h) → IsOverAt r m (3 * (w * h)) raster at → IfSome o (λ b. IsImageFlaw b (SampleOver at))
   over_told o1 raster at e piece full over = found o told (subst (λ o. IfSome o (λ b. IsPiece b r raster)) e piece)
     where
       found : (o : Option (List ℕ)) → IfSome o (λ b. IsLawfulHeader most_read_side b r w h m) → IfSome o (λ b. IsPiece b r raster)
-          → IfSome o (λ b. IsImageFlaw b (SampleOver (r + at)))
+          → IfSome o (λ b. IsImageFlaw b (SampleOver at))
       found None l p = tt
       found (Some b) l p = sample_over b raster r w h m l p full at over
 
-  -- the samples that were read and scaled are those of the file's image
-  pub image_told : (o1 : Option (List ℕ)) (raster samples : List ℕ) → o1 ≡ o → IfSome o1 (λ b. IsPiece b r raster) → length raster ≡ 3 * (w * h)
-      → All (λ sample. sample ≤ m) raster → samples ≡ map (scaled m) raster → IfSome o (λ b. IsImage b (record { width = w; height = h; samples = samples }))
-  image_told o1 raster samples e piece full few kept = found o told (subst (λ o. IfSome o (λ b. IsPiece b r raster)) e piece)
+  -- the image that was made of the raster is the file's
+  pub image_told : (o1 : Option (List ℕ)) (raster : List ℕ) (p : ImageView) → o1 ≡ o → IfSome o1 (λ b. IsPiece b r raster)
+      → length raster ≡ texel_length (depth_of m) * (w * h) → AreUpTo (depth_of m) m (3 * (w * h)) raster → IsRasterImage w h m raster p
+      → IfSome o (λ b. IsImage b p)
+  image_told o1 raster p e piece full few image = found o told (subst (λ o. IfSome o (λ b. IsPiece b r raster)) e piece)
     where
       found : (o : Option (List ℕ)) → IfSome o (λ b. IsLawfulHeader most_read_side b r w h m) → IfSome o (λ b. IsPiece b r raster)
-          → IfSome o (λ b. IsImage b (record { width = w; height = h; samples = samples }))
-      found None l p = tt
-      found (Some b) l p = image_made b raster r w h m l p full samples few kept
-
--- what a buffer holds once all of it was scaled
-pub scaled_buffer : (items all new seen : List ℕ) (len m : ℕ) → all ≡ items → length all ≡ len → new ≡ map (scaled m) all → seen ≡ items
-    → take len (new ++ drop (length new) items) ≡ map (scaled m) seen
-scaled_buffer items all new seen len m ea el en es =
-    take_at new (drop (length new) items) len (ap length en ∙ length-map all (scaled m) ∙ el) ∙ en ∙ ap (map (scaled m)) (ea ∙ sym es)
+          → IfSome o (λ b. IsImage b p)
+      found None l piece = tt
+      found (Some b) l piece = image_is b raster r w h m l piece full p few image

@@ -1,9 +1,10 @@
 -- What keeps bytes from being an image: the first flaw that applies. The largest side that is taken is a number `most`.
-use Rattle.std.specs.Prelude.{◌≡◌, ◌⊎◌, ℕ, ◌+◌, ◌*◌, ◌<◌, ◌≤◌, List, ◌++◌, length, take, min, slice_index, codes}
+use Rattle.std.specs.Prelude.{◌≡◌, ◌⊎◌, ℕ, ◌+◌, ◌*◌, ◌<◌, ◌≤◌, List, ◌++◌, length, take, drop, min, codes}
+use Rattle.vt_definitions.specs.Depths.{texel_length, sample_at}
 use Rattle.vt_definitions.specs.Limits.{header_limit, most_read_side, most_tiled_side}
-use Rattle.vt_ppm.specs.Format.{IsHeader, HasHeader, IsByteMaximum, most_maximum, most_byte}
+use Rattle.vt_ppm.specs.Format.{IsHeader, HasHeader, IsMaximum, depth_of, AreUpTo, most_maximum}
 use Rattle.vt_ppm.specs.declared.error.PpmError.{PpmError}
-use Rattle.vt_ppm.specs.declared.error.PpmError.TheVariants.{BadMagic, BadHeader, BadSize, BadMaximum, WideSamples, Truncated, SampleOver, Failed, NoMemory}
+use Rattle.vt_ppm.specs.declared.error.PpmError.TheVariants.{BadMagic, BadHeader, BadSize, BadMaximum, Truncated, SampleOver, Failed, NoMemory}
 
 -- bytes with which some header begins
 pub record IsHeaderFront (front : List ℕ) : Type 0 where
@@ -50,20 +51,10 @@ pub record HasBadMaximum (most : ℕ) (b : List ℕ) : Type 0 where
   pub sized : IsSized most b raster width height maximum
   pub bad : (maximum ≡ 0) ⊎ (most_maximum < maximum)
 
--- the header's maximum is that of samples of two bytes (the Netpbm manual's P6 page)
-pub record HasWideSamples (most : ℕ) (b : List ℕ) : Type 0 where
-  pub raster : ℕ
-  pub width : ℕ
-  pub height : ℕ
-  pub maximum : ℕ
-  pub sized : IsSized most b raster width height maximum
-  pub wide : most_byte < maximum
-  pub few : maximum ≤ most_maximum
-
--- the bytes begin with a header of lawful sides and of samples of one byte (the Netpbm manual's P6 page)
+-- the bytes begin with a header of lawful sides and of a lawful maximum (the Netpbm manual's P6 page)
 pub record IsLawfulHeader (most : ℕ) (b : List ℕ) (raster width height maximum : ℕ) : Type 0 where
   pub sized : IsSized most b raster width height maximum
-  pub lawful : IsByteMaximum maximum
+  pub lawful : IsMaximum maximum
 
 -- fewer bytes follow the header than its raster has
 pub record IsTruncated (most : ℕ) (b : List ℕ) (want have : ℕ) : Type 0 where
@@ -72,22 +63,23 @@ pub record IsTruncated (most : ℕ) (b : List ℕ) (want have : ℕ) : Type 0 wh
   pub height : ℕ
   pub maximum : ℕ
   pub header : IsLawfulHeader most b raster width height maximum
-  pub want_is : want ≡ 3 * (width * height)
+  pub want_is : want ≡ texel_length (depth_of maximum) * (width * height)
   pub have_is : raster + have ≡ length b
   pub short : have < want
 
--- byte `at` is the first sample of the raster that is above the header's maximum
+-- at byte `at` begins the first sample of the raster that is above the header's maximum
 pub record IsSampleOver (most : ℕ) (b : List ℕ) (at : ℕ) : Type 0 where
   pub raster : ℕ
   pub width : ℕ
   pub height : ℕ
   pub maximum : ℕ
+  pub number : ℕ
   pub header : IsLawfulHeader most b raster width height maximum
-  pub full : raster + 3 * (width * height) ≤ length b
-  pub from : raster ≤ at
-  pub within : at < raster + 3 * (width * height)
-  pub over : maximum < slice_index b at
-  pub first : (i : ℕ) → raster ≤ i → i < at → slice_index b i ≤ maximum
+  pub full : raster + texel_length (depth_of maximum) * (width * height) ≤ length b
+  pub within : number < 3 * (width * height)
+  pub over : maximum < sample_at (depth_of maximum) (drop raster b) number
+  pub first : AreUpTo (depth_of maximum) maximum number (drop raster b)
+  pub at_is : at ≡ raster + depth_of maximum * number
 
 -- the first flaw of the bytes: the first line that applies, as each line leaves out what those before it say
 abbrev pub IsFlawUpTo : ℕ → List ℕ → PpmError → Type 0
@@ -95,7 +87,6 @@ IsFlawUpTo most b BadMagic = take 2 b ≡ codes "P6" → ⊥
 IsFlawUpTo most b (BadHeader at) = (take 2 b ≡ codes "P6") × IsBrokenAt b at
 IsFlawUpTo most b BadSize = HasBadSize most b
 IsFlawUpTo most b BadMaximum = HasBadMaximum most b
-IsFlawUpTo most b WideSamples = HasWideSamples most b
 IsFlawUpTo most b (Truncated want have) = IsTruncated most b want have
 IsFlawUpTo most b (SampleOver at) = IsSampleOver most b at
 IsFlawUpTo most b Failed = ⊥

@@ -1,7 +1,8 @@
 -- The image format: a header, and a raster of samples.
-use Rattle.std.specs.Prelude.{◌≡◌, ◌⊎◌, ℕ, ◌+◌, ◌*◌, ◌/◌, ◌≤◌, ◌==◌, ◌||◌, Bool, not, IsTrue, List, [], ◌∷◌, ◌++◌, length, take, map, All, codes}
+use Rattle.std.specs.Prelude.{◌≡◌, ◌⊎◌, ℕ, ◌+◌, ◌*◌, ◌/◌, ◌<◌, ◌≤◌, ◌==◌, ◌||◌, if◌then◌else◌, nat_le, Bool, not, IsTrue, List, [], ◌∷◌, ◌++◌, length, take, All, codes}
 use Rattle.std.specs.List.{list_all, flat_map}
 use Rattle.std.specs.Str.Parse.{digits_value, IsNumeral}
+use Rattle.vt_definitions.specs.Depths.{greatest_sample, texel_length, sample_at, AreBytes}
 use Rattle.vt_definitions.specs.Limits.{header_limit, line_feed, blank}
 use Rattle.vt_ppm.specs.Image.{ImageView, IsLawfulImage}
 
@@ -96,14 +97,27 @@ pub record AreSameHeaders (r w h m s u v n : ℕ) : Type 0 where
   pub height : h ≡ v
   pub maximum : m ≡ n
 
--- a maximum of samples of one byte (the Netpbm manual's P6 page)
-pub record IsByteMaximum (maximum : ℕ) : Type 0 where
+-- a maximum of a raster (the Netpbm manual's P6 page)
+pub record IsMaximum (maximum : ℕ) : Type 0 where
   pub some : 1 ≤ maximum
-  pub one_byte : maximum ≤ most_byte
+  pub few : maximum ≤ most_maximum
 
--- a sample as it is kept, where the largest is that of a byte: to the nearest, halves up
-abbrev pub scaled : ℕ → ℕ → ℕ
-scaled maximum sample = (sample * most_byte + maximum / 2) / maximum
+-- how many bytes a sample has: one where the maximum fits in one, else two (the Netpbm manual's P6 page)
+unfoldable pub depth_of : ℕ → ℕ
+depth_of maximum = if nat_le maximum most_byte then 1 else 2
+
+-- the first samples, so many, are not above the maximum
+abbrev pub AreUpTo : ℕ → ℕ → ℕ → List ℕ → Type 0
+AreUpTo depth maximum count samples = (i : ℕ) → i < count → sample_at depth samples i ≤ maximum
+
+-- a sample as it is kept, where the largest is the greatest of its depth: to the nearest, halves up
+abbrev pub scaled : ℕ → ℕ → ℕ → ℕ
+scaled depth maximum sample = (sample * greatest_sample depth + maximum / 2) / maximum
+
+-- the first samples, so many, are those of a raster as they are kept
+abbrev pub AreScaled : ℕ → ℕ → ℕ → List ℕ → List ℕ → Type 0
+AreScaled depth maximum count raster samples =
+    (i : ℕ) → i < count → sample_at depth samples i ≡ scaled depth maximum (sample_at depth raster i)
 
 -- the bytes spell an image: a header, its raster, row by row from the top, and any rest (the Netpbm manual's P6 page)
 pub record IsImage (b : List ℕ) (p : ImageView) : Type 0 where
@@ -114,8 +128,10 @@ pub record IsImage (b : List ℕ) (p : ImageView) : Type 0 where
   pub spelt : b ≡ text ++ (raster ++ rest)
   pub header : IsHeader text p.width p.height maximum
   pub early : length text ≤ header_limit
-  pub lawful : IsByteMaximum maximum
+  pub lawful : IsMaximum maximum
+  pub depth_is : p.depth ≡ depth_of maximum
   pub image : IsLawfulImage p
-  pub full : length raster ≡ 3 * (p.width * p.height)
-  pub few : All (λ sample. sample ≤ maximum) raster
-  pub kept : p.samples ≡ map (scaled maximum) raster
+  pub full : length raster ≡ texel_length p.depth * (p.width * p.height)
+  pub few : AreUpTo p.depth maximum (3 * (p.width * p.height)) raster
+  pub kept : AreScaled p.depth maximum (3 * (p.width * p.height)) raster p.samples
+  pub bytes : AreBytes p.samples

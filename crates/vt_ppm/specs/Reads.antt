@@ -1,10 +1,12 @@
 -- What the readers ask of a file.
 use Rattle.std.specs.Prelude.{◌≡◌, ℕ, ◌+◌, ◌*◌, ◌≤◌, true, false, List, [], ◌∷◌, ◌++◌, length, take, Option, option_map, IfSome, Result, Ok, Err}
+use Rattle.vt_definitions.specs.Depths.{texel_length}
 use Rattle.vt_definitions.specs.Limits.{header_limit, most_read_side}
 use Rattle.vt_outside.specs.declared.place.Place.{Place}
 use Rattle.vt_outside.specs.Files.{noted}
 use Rattle.vt_ppm.specs.declared.error.PpmError.{PpmError}
 use Rattle.vt_ppm.specs.declared.error.PpmError.TheVariants.{SampleOver, Failed, NoMemory}
+use Rattle.vt_ppm.specs.Format.{depth_of}
 use Rattle.vt_ppm.specs.Flaws.{IsLawfulHeader}
 
 -- where a header is looked for: from byte 0 on, no more bytes than a header may have, and no more than there are
@@ -19,7 +21,7 @@ pub record IsRasterPlace (told : Option (List ℕ)) (place : Place) : Type 0 whe
   pub height : ℕ
   pub maximum : ℕ
   pub behind : IfSome told (λ b. IsLawfulHeader most_read_side b place.at width height maximum)
-  pub whole : place.len ≡ 3 * (width * height)
+  pub whole : place.len ≡ texel_length (depth_of maximum) * (width * height)
   pub within : IfSome told (λ b. place.at + place.len ≤ length b)
 
 -- the places that are asked for a header: none, or one

@@ -20,13 +20,10 @@ pub enum PpmError {
     /// The maximum is 0 or above 65,535.
     #[error("bad maximum")]
     BadMaximum,
-    /// The maximum is above 255, so that a sample has two bytes.
-    #[error("wide samples")]
-    WideSamples,
     /// `have` bytes follow the header, and the raster has `want`.
     #[error("raster of {have} bytes, wanted {want}")]
     Truncated { want: u64, have: u64 },
-    /// A sample is above the maximum; the first such one is byte `at` of the file.
+    /// A sample is above the maximum; the first such one begins at byte `at` of the file.
     #[error("sample over maximum at byte {at}")]
     SampleOver { at: u64 },
     /// A call on the file failed.

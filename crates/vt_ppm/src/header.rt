@@ -1,7 +1,9 @@
 //! The header of an image.
-ghost use Rattle.std.specs.Prelude.{◌≡◌, ◌≤◌, length, take, codes, ◌↔◌, MatchBool, IfOk, IfErr, IsTrue};
-ghost use Rattle.vt_definitions.specs.Limits.{header_limit};
+ghost use Rattle.std.specs.Prelude.{◌≡◌, ◌*◌, ◌≤◌, length, take, codes, ◌↔◌, MatchBool, IfOk, IfErr, IsTrue};
+ghost use Rattle.vt_definitions.specs.Depths.{IsDepth, texel_length};
+ghost use Rattle.vt_definitions.specs.Limits.{header_limit, most_tiled_side};
 ghost use Rattle.vt_ppm.specs.Flaws.{IsFlawUpTo, IsBrokenAt, AreImageSides, IsLawfulHeader};
+ghost use Rattle.vt_ppm.specs.Format.{IsMaximum, depth_of};
 ghost use Rattle.vt_ppm.specs.Header.{IsFirstHeader};
 ghost use Rattle.vt_ppm.specs.Refusals.{IsRasterRefusal};
 
@@ -21,7 +23,7 @@ pub const MOST_TILED_SIDE: u32 = 8192;
 const MOST_MAXIMUM: u64 = 65535;
 
 // The largest maximum of samples of one byte.
-const MOST_BYTE: u64 = 255;
+const MOST_BYTE: u32 = 255;
 
 /// A header's numbers, and the place of the first raster byte.
 #[derive(Clone, Copy, Debug, PartialEq, Eq)]
@@ -30,7 +32,7 @@ pub struct Header {
     pub width: u32,
     /// The number of rows, from 1 to 8,192.
     pub height: u32,
-    /// The greatest sample, from 1 to 255.
+    /// The greatest sample, from 1 to 65,535. Where it is above 255, a sample has two bytes.
     pub maximum: u32,
     /// The place of the first raster byte, at most 65,536.
     pub raster: u64,
@@ -102,13 +104,36 @@ pub fn lawful_header(head: &[u8], most: u32) -> Result<Header, PpmError>
     if spelled.maximum == 0 || spelled.maximum > MOST_MAXIMUM {
         return Err(PpmError::BadMaximum);
     }
-    if spelled.maximum > MOST_BYTE {
-        return Err(PpmError::WideSamples);
-    }
     Ok(Header {
         width: spelled.width as u32,
         height: spelled.height as u32,
         maximum: spelled.maximum as u32,
         raster: spelled.raster as u64,
     })
+}
+
+/// How many bytes a sample has whose maximum is so much: 1 or 2.
+#[tactic(auto, unfolding(crate::specs::Format::depth_of))]
+pub fn depth_of(maximum: u32) -> u32
+    ensures value { result ≡ depth_of maximum }
+    ensures depth { IsDepth result }
+{
+    if maximum <= MOST_BYTE { 1 } else { 2 }
+}
+
+/// How many samples the raster behind a header has.
+pub fn sample_count(header: &Header) -> usize
+    requires { AreImageSides most_tiled_side header.now.width header.now.height }
+    ensures value { result ≡ 3 * (header.now.width * header.now.height) }
+    ensures few { result ≤ 201326592 }
+{
+    3 * (header.width as usize * header.height as usize)
+}
+
+/// How many bytes the raster behind a header has.
+pub fn raster_length(header: &Header) -> u64
+    requires { AreImageSides most_tiled_side header.now.width header.now.height }
+    ensures { result ≡ texel_length (depth_of header.now.maximum) * (header.now.width * header.now.height) }
+{
+    depth_of(header.maximum) as u64 * sample_count(header) as u64
 }

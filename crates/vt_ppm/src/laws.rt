@@ -1,9 +1,10 @@
 //! Laws of the image format.
-ghost use Rattle.std.specs.Prelude.{◌≡◌, ℕ, ◌<◌, ◌^◌, List};
+ghost use Rattle.std.specs.Prelude.{◌≡◌, ℕ, ◌*◌, ◌<◌, ◌^◌, List};
+ghost use Rattle.vt_definitions.specs.Depths.{IsDepth, AreBytes};
 ghost use Rattle.vt_ppm.specs.declared.error.PpmError.{PpmError};
 ghost use Rattle.vt_ppm.specs.Flaws.{IsFlawUpTo, IsImageFlaw, IsLawfulHeader};
 ghost use Rattle.vt_ppm.specs.Format.{AreSameHeaders, HasHeader, IsImage};
-ghost use Rattle.vt_ppm.specs.Image.{AreBytes, ImageView, IsLawfulImage, texel_of};
+ghost use Rattle.vt_ppm.specs.Image.{ImageView, IsLawfulImage, texel_of};
 ghost use Rattle.vt_ppm.specs.Picture.{picture_bytes};
 ghost use Rattle.vt_ppm.specs.Refusals.{IsRasterRefusal};
 
@@ -21,15 +22,15 @@ pub fn image_is_one()
 
 /// The bytes that are written of an image spell that image.
 pub fn written_is_read()
-    ensures { (p : ImageView) → IsLawfulImage p → AreBytes p.samples → IsImage (picture_bytes p.width p.height p.samples) p }
+    ensures { (p : ImageView) → IsLawfulImage p → AreBytes p.samples → IsImage (picture_bytes p.depth p.width p.height p.samples) p }
 {}
 
-/// The samples of an image that bytes spell are bytes.
+/// The samples of an image that bytes spell are kept in bytes.
 pub fn spelt_samples_are_bytes()
     ensures { (b : List ℕ) (p : ImageView) → IsImage b p → AreBytes p.samples }
 {}
 
-/// The samples of an image in memory are bytes.
+/// The samples of an image in memory are kept in bytes.
 pub fn samples_are_bytes(image: &Image)
     ensures { AreBytes image.now.samples }
 {
@@ -43,9 +44,9 @@ fn are_bytes(bytes: &[u8])
     let _ = bytes;
 }
 
-/// The words of the texels of an image whose samples are bytes are below 2^24.
+/// The words of the texels of an image whose samples are bytes are below 2^24 at one byte a sample, and below 2^48 at two.
 pub fn texel_words_are_small()
-    ensures { (p : ImageView) (x y : ℕ) → AreBytes p.samples → texel_of p x y < 2 ^ 24 }
+    ensures { (p : ImageView) (x y : ℕ) → IsDepth p.depth → AreBytes p.samples → texel_of p x y < 2 ^ (24 * p.depth) }
 {}
 
 /// The bytes of an image have no flaw, so that a reader that refuses only for a flaw of the bytes refuses no image.

@@ -7,8 +7,8 @@ mod header;
 mod image;
 mod laws;
 mod picture;
+mod raster;
 mod read;
-mod samples;
 mod whole;
 
 pub use error::PpmError;
@@ -18,7 +18,7 @@ pub use laws::{
     flaw_is_one, header_has_no_flaw, header_is_one, image_has_no_flaw, image_is_one,
     samples_are_bytes, spelt_samples_are_bytes, texel_words_are_small, written_is_read,
 };
-pub use picture::encode;
+pub use picture::{encode, encode_wide};
 pub use read::{read_header, read_image};
 pub use whole::image_flaw;
 

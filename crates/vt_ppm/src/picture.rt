@@ -1,17 +1,48 @@
 //! Pictures are written in the raw PPM form.
 ghost use Rattle.std.specs.Prelude.{◌≡◌, ◌*◌, length, IfOk};
+ghost use Rattle.vt_definitions.specs.Depths.{IsDepth};
 ghost use Rattle.vt_ppm.specs.Picture.{picture_bytes};
 
 use std::alloc::Global;
+use vt_definitions::greatest_sample;
 use vt_outside::NoMemory;
 
-/// The bytes of a picture of the samples, three a texel and row by row from the top: a header with 255 as maximum, and
-/// the samples.
+/// The bytes of a picture of the samples, three a texel and row by row from the top, each of one byte: a header with 255
+/// as maximum, and the samples.
 pub fn encode(alloc: Global, width: u32, height: u32, samples: &[u8]) -> Result<Vec<u8>, NoMemory>
     requires { length samples.now ≡ 3 * (width * height) }
-    ensures { IfOk result (λ bytes. bytes.items ≡ picture_bytes width height samples.now) }
+    ensures { IfOk result (λ bytes. bytes.items ≡ picture_bytes 1 width height samples.now) }
 {
-    let mut bytes = format!(in alloc; "P6\n{width} {height}\n255\n")?.into_bytes();
+    picture(alloc, 1, width, height, samples)
+}
+
+/// The bytes of a picture of the samples, three a texel and row by row from the top, each of two bytes with the most
+/// significant first: a header with 65,535 as maximum, and the samples.
+pub fn encode_wide(
+    alloc: Global,
+    width: u32,
+    height: u32,
+    samples: &[u8],
+) -> Result<Vec<u8>, NoMemory>
+    requires { length samples.now ≡ 6 * (width * height) }
+    ensures { IfOk result (λ bytes. bytes.items ≡ picture_bytes 2 width height samples.now) }
+{
+    picture(alloc, 2, width, height, samples)
+}
+
+// The bytes of a picture of samples that have `depth` bytes each.
+fn picture(
+    alloc: Global,
+    depth: u32,
+    width: u32,
+    height: u32,
+    samples: &[u8],
+) -> Result<Vec<u8>, NoMemory>
+    requires { IsDepth depth }
+    ensures { IfOk result (λ bytes. bytes.items ≡ picture_bytes depth width height samples.now) }
+{
+    let maximum = greatest_sample(depth);
+    let mut bytes = format!(in alloc; "P6\n{width} {height}\n{maximum}\n")?.into_bytes();
     bytes.extend_from_slice(samples)?;
     Ok(bytes)
 }

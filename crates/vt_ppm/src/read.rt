@@ -8,8 +8,8 @@ ghost use Rattle.vt_ppm.specs.Flaws.{IsHeaderFlaw, IsImageFlaw, IsLawfulHeader};
 ghost use Rattle.vt_ppm.specs.Reads.{AsksHeader, AsksImage, AnswersOfHeader, AnswersOfImage, ReadsFront, NotesRead, IsFront};
 ghost use Rattle.vt_ppm.specs.Refusals.{IsOutsideRefusal, IsRasterRefusal};
 
-use crate::header::{HEADER_LIMIT, MOST_READ_SIDE, MOST_TILED_SIDE, lawful_header};
-use crate::samples::{first_over, scale};
+use crate::header::{HEADER_LIMIT, MOST_READ_SIDE, MOST_TILED_SIDE, lawful_header, raster_length};
+use crate::raster::{image_of, over_at};
 use crate::{Header, Image, PpmError};
 use std::alloc::Global;
 use vt_outside::File;
@@ -67,7 +67,7 @@ fn front_of<F: File>(alloc: Global, file: &mut F, reads: u64) -> Result<Front, P
 /// Reads the header of an image (the Netpbm manual's P6 page, with this project's comments and bounds), which ends within the
 /// first 65,536 bytes.
 ///
-/// Where the file tells its bytes, `BadMagic`, `BadHeader`, `BadSize`, `BadMaximum` and `WideSamples` come exactly as the first
+/// Where the file tells its bytes, `BadMagic`, `BadHeader`, `BadSize` and `BadMaximum` come exactly as the first
 /// flaw of those bytes. `Failed` comes only where the file's count of faults rose, and `NoMemory` where memory was refused. No
 /// other refusal comes. It asks for one place at most: the front of the file, as far as a header may reach.
 pub fn read_header<F: File>(alloc: Global, file: &mut F) -> Result<Header, PpmError>
@@ -86,7 +86,7 @@ pub fn read_header<F: File>(alloc: Global, file: &mut F) -> Result<Header, PpmEr
 }
 
 /// Reads the image of a file (the Netpbm manual's P6 page, with this project's comments and bounds), each sample scaled so that
-/// the greatest is 255. Bytes after the raster are left unread.
+/// the greatest is 255, or 65,535 where the maximum is above 255. Bytes after the raster are left unread.
 ///
 /// Where the file tells its bytes, `BadMagic` to `SampleOver` come exactly as the first flaw of those bytes. `Failed` comes only
 /// where the file's count of faults rose, and `NoMemory` where memory was refused. It asks for two places at most: the front of
@@ -103,17 +103,14 @@ pub fn read_image<F: File>(alloc: Global, file: &mut F) -> Result<Image, PpmErro
 {
     let front = front_of(alloc, file, 2)?;
     let header = lawful_header(&front.bytes, MOST_READ_SIDE)?;
-    let want = 3 * (header.width as u64 * header.height as u64);
+    let want = raster_length(&header);
     let have = front.length - header.raster;
     if have < want {
         return Err(PpmError::Truncated { want, have });
     }
-    let mut samples = bytes_at(alloc, file, header.raster, want as usize)?;
-    if let Some(at) = first_over(&samples, header.maximum) {
-        return Err(PpmError::SampleOver {
-            at: header.raster + at as u64,
-        });
+    let raster = bytes_at(alloc, file, header.raster, want as usize)?;
+    if let Some(at) = over_at(&header, &raster) {
+        return Err(PpmError::SampleOver { at });
     }
-    scale(samples.as_mut_slice(), header.maximum);
-    Ok(Image::new(header.width, header.height, samples))
+    Ok(image_of(&header, raster))
 }

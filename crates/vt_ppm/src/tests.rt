@@ -1,4 +1,4 @@
-use crate::{Image, PpmError, encode, image_flaw, read_header, read_image};
+use crate::{Image, PpmError, encode, encode_wide, image_flaw, read_header, read_image};
 use std::alloc::{AllocError, Global};
 use std::test::Fail as TestFail;
 use vt_outside::{Fail, Fails, Folder, MemoryFolder, NoMemory, Place};
@@ -62,7 +62,7 @@ fn behind_blanks(alloc: Global, count: usize) -> Result<Vec<u8>, AllocError> {
 
 #[test]
 fn every_spelling_of_a_header_is_read(rt: HostRuntime) -> Result<(), TestFail> {
-    let spellings: [(&[u8], &[u8]); 6] = [
+    let spellings: [(&[u8], &[u8]); 8] = [
         (
             b"P6\r\n# made by hand\r\n2 1\n100\n\x00\x32\x64\x64\x32\x00",
             b"\x00\x80\xff\xff\x80\x00",
@@ -75,6 +75,14 @@ fn every_spelling_of_a_header_is_read(rt: HostRuntime) -> Result<(), TestFail> {
         (b"P6 #a\n#b\n1 1 255\n\x07\x08\x09", b"\x07\x08\x09"),
         (b"P6\t1\r1 #\r255 \x07\x08\x09\x0a", b"\x07\x08\x09"),
         (b"P6 1 1 1\n\x00\x01\x00", b"\x00\xff\x00"),
+        (
+            b"P6 1 1 65535\n\x00\x01\x80\x00\xff\xff",
+            b"\x00\x01\x80\x00\xff\xff",
+        ),
+        (
+            b"P6 1 1 256\n\x01\x00\x00\x80\x00\x01",
+            b"\xff\xff\x80\x00\x01\x00",
+        ),
     ];
     for (bytes, samples) in spellings {
         let mut folder = folder_of(rt.alloc(), bytes, &[])?;
@@ -87,7 +95,7 @@ fn every_spelling_of_a_header_is_read(rt: HostRuntime) -> Result<(), TestFail> {
 
 #[test]
 fn the_first_flaw_is_named(rt: HostRuntime) -> Result<(), TestFail> {
-    let flaws: [(&[u8], PpmError); 19] = [
+    let flaws: [(&[u8], PpmError); 22] = [
         (b"", PpmError::BadMagic),
         (b"P5 1 1 255\nabc", PpmError::BadMagic),
         (b"P6", PpmError::BadHeader { at: 2 }),
@@ -103,7 +111,6 @@ fn the_first_flaw_is_named(rt: HostRuntime) -> Result<(), TestFail> {
         (b"P6 1 8193 0\n", PpmError::BadSize),
         (b"P6 1 1 0\nabc", PpmError::BadMaximum),
         (b"P6 1 1 65536\nabc", PpmError::BadMaximum),
-        (b"P6 1 1 256\nabc", PpmError::WideSamples),
         (
             b"P6 8192 8192 255\n",
             PpmError::Truncated {
@@ -111,8 +118,24 @@ fn the_first_flaw_is_named(rt: HostRuntime) -> Result<(), TestFail> {
                 have: 0,
             },
         ),
+        (
+            b"P6 8192 8192 256\n",
+            PpmError::Truncated {
+                want: 402653184,
+                have: 0,
+            },
+        ),
         (b"P6 1 1 255\nab", PpmError::Truncated { want: 3, have: 2 }),
+        (b"P6 1 1 256\nabc", PpmError::Truncated { want: 6, have: 3 }),
         (b"P6 1 1 100\n\x01\x65\x00", PpmError::SampleOver { at: 12 }),
+        (
+            b"P6 1 1 256\n\x01\x01\x00\x80\x00\x01",
+            PpmError::SampleOver { at: 11 },
+        ),
+        (
+            b"P6 1 1 256\n\x01\x00\x00\x80\x01\x01",
+            PpmError::SampleOver { at: 15 },
+        ),
     ];
     for (bytes, flaw) in flaws {
         assert_eq!(rt; refusal(rt.alloc(), bytes, &[])?, Some(flaw));
@@ -195,5 +218,30 @@ fn a_picture_is_written(rt: HostRuntime) -> Result<(), TestFail> {
         bytes.as_slice(),
         b"P6\n2 1\n255\n\x0d\x0d\x0d\x01\x01\x01".as_slice()
     );
+    Ok(())
+}
+
+#[test]
+fn a_wide_picture_is_written(rt: HostRuntime) -> Result<(), TestFail> {
+    let bytes = encode_wide(rt.alloc(), 1, 1, b"\x00\x01\x80\x00\xff\xff")?;
+    assert_eq!(rt;
+        bytes.as_slice(),
+        b"P6\n1 1\n65535\n\x00\x01\x80\x00\xff\xff".as_slice()
+    );
+    Ok(())
+}
+
+#[test]
+fn a_texel_of_either_depth_has_its_word(rt: HostRuntime) -> Result<(), TestFail> {
+    let texels: [(&[u8], u32, u64); 2] = [
+        (b"P6 1 1 255\n\x01\x80\xff", 1, 98559),
+        (b"P6 1 1 65535\n\x00\x01\x80\x00\xff\xff", 2, 6442516479),
+    ];
+    for (bytes, depth, word) in texels {
+        let mut folder = folder_of(rt.alloc(), bytes, &[])?;
+        let image = image_in(rt.alloc(), &mut folder)?;
+        assert_eq!(rt; image.depth(), depth);
+        assert_eq!(rt; image.word(0, 0), word);
+    }
     Ok(())
 }

@@ -5,8 +5,8 @@ ghost use Rattle.vt_ppm.specs.Flaws.{IsImageFlaw};
 ghost use Rattle.vt_ppm.specs.Image.{ImageView};
 
 use crate::PpmError;
-use crate::header::{HEADER_LIMIT, MOST_READ_SIDE, lawful_header};
-use crate::samples::first_over;
+use crate::header::{HEADER_LIMIT, MOST_READ_SIDE, lawful_header, raster_length};
+use crate::raster::over_at;
 
 /// The first flaw of bytes that are all at hand, and none where they spell an image. It takes no memory.
 pub fn image_flaw(bytes: &[u8]) -> Option<PpmError>
@@ -19,16 +19,12 @@ pub fn image_flaw(bytes: &[u8]) -> Option<PpmError>
         Err(flaw) => return Some(flaw),
     };
     let (_, behind) = bytes.split_at(header.raster as usize);
-    let want = 3 * (header.width as usize * header.height as usize);
-    if behind.len() < want {
-        return Some(PpmError::Truncated {
-            want: want as u64,
-            have: behind.len() as u64,
-        });
+    let want = raster_length(&header);
+    let have = behind.len() as u64;
+    if have < want {
+        return Some(PpmError::Truncated { want, have });
     }
-    let (raster, _) = behind.split_at(want);
-    let at = first_over(raster, header.maximum)?;
-    Some(PpmError::SampleOver {
-        at: header.raster + at as u64,
-    })
+    let (raster, _) = behind.split_at(want as usize);
+    let at = over_at(&header, raster)?;
+    Some(PpmError::SampleOver { at })
 }

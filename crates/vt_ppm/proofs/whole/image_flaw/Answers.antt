@@ -1,9 +1,8 @@
-use Rattle.std.proofs.Common.{◌≡◌, ◌*◌, ◌∙◌, length, take, map, refl, ap}
+use Rattle.std.proofs.Common.{◌≡◌, ◌∙◌, length, take, refl, ap}
 use Rattle.vt_definitions.specs.Limits.{most_read_side}
 use Rattle.vt_outside.specs.Files.{IsPiece}
-use Rattle.vt_ppm.specs.Format.{scaled}
 use Rattle.vt_ppm.specs.Flaws.{IsLawfulHeader}
-use Rattle.vt_ppm.proofs.Rasters.{head_is, lawful_header, flaw_of_head, image_made, sample_over, piece_is}
+use Rattle.vt_ppm.proofs.Rasters.{head_is, lawful_header, flaw_of_head, image_there, sample_over, piece_is}
 use Rattle.vt_ppm.proofs.whole.image_flaw.Goals as goal
 
 pub returns-in-Err-clause-some : goal.returns-in-Err-clause-some
@@ -23,12 +22,9 @@ returns-in_err-at-clause-none c =
     let header : IsLawfulHeader most_read_side b h.raster h.width h.height h.maximum =
     lawful_header most_read_side b c.split_at.result.0.now first h.raster h.width h.height h.maximum c.in-Ok.ensures.header in
     let piece : IsPiece b h.raster raster = piece_is b c.split_at-2.result.1.now raster h.raster
-    (3 * (h.width * h.height)) header.sized.header.within c.split_at-2.ensures.back c.if-behind-want.false c.split_at-3.ensures.front in
-    rw c.from_residual.ensures (
-      _,
-      image_made b raster h.raster h.width h.height h.maximum header piece c.split_at-3.ensures.front_len
-          (map (scaled h.maximum) raster) c.in_err-at.ensures refl,
-    )
+    c.raster_length-want.result header.sized.header.within c.split_at-2.ensures.back c.if-have-want.false c.split_at-3.ensures.front in
+    rw c.from_residual.ensures
+    (image_there b raster h.raster h.width h.height h.maximum header piece (c.split_at-3.ensures.front_len ∙ c.raster_length-want.ensures) c.in_err-at.ensures.none)
 
 pub returns-clause-some : goal.returns-clause-some
 returns-clause-some c =
@@ -40,5 +36,6 @@ returns-clause-some c =
     let header : IsLawfulHeader most_read_side b h.raster h.width h.height h.maximum =
     lawful_header most_read_side b c.split_at.result.0.now first h.raster h.width h.height h.maximum c.in-Ok.ensures.header in
     let piece : IsPiece b h.raster raster = piece_is b c.split_at-2.result.1.now raster h.raster
-    (3 * (h.width * h.height)) header.sized.header.within c.split_at-2.ensures.back c.if-behind-want.false c.split_at-3.ensures.front in
-    sample_over b raster h.raster h.width h.height h.maximum header piece c.split_at-3.ensures.front_len c.in_ok-at.at c.in_ok-at.ensures
+    c.raster_length-want.result header.sized.header.within c.split_at-2.ensures.back c.if-have-want.false c.split_at-3.ensures.front in
+    sample_over b raster h.raster h.width h.height h.maximum header piece
+    (c.split_at-3.ensures.front_len ∙ c.raster_length-want.ensures) c.in_ok-at.at c.in_ok-at.ensures.some

@@ -1,0 +1,18 @@
+use Rattle.std.proofs.Common.{◌∙◌, ◌*◌, length, ap}
+use Rattle.vt_ppm.specs.Format.{depth_of}
+use Rattle.vt_ppm.proofs.Rasters.{raster_image}
+use Rattle.vt_ppm.proofs.SampleValues.{samples_full}
+use Rattle.vt_ppm.proofs.raster.image_of.Goals as goal
+
+pub scale-requires-clause-full : goal.scale-requires-clause-full
+scale-requires-clause-full c =
+    let h = c.args.header.now in
+    samples_full (depth_of h.maximum) (h.width * h.height) _ c.sample_count.result (ap length c.as_mut_slice.ensures.value ∙ c.requires.full)
+    c.sample_count.ensures.value
+
+pub returns : goal.returns
+returns c =
+    let h = c.args.header.now in
+    raster_image h.width h.height h.maximum c.args.raster.items c.as_mut_slice.result.now c.scale.new.raster _ c.sample_count.result c.depth_of.result
+    c.new.result c.as_mut_slice.ensures.value c.as_mut_slice.ensures.len c.scale.auto.raster c.sample_count.ensures.value c.depth_of.ensures.value
+    c.scale.ensures.scaled c.scale.ensures.bytes c.new.ensures
