@@ -1,15 +1,16 @@
 -- The levels of a chain as a list that grows to the last level.
-use Rattle.std.proofs.Common.{◌≡◌, ℕ, zero, suc, ◌+◌, ◌-◌, ◌*◌, ◌/◌, ◌^◌, ◌<◌, ◌≤◌, ◌⊎◌, inl, inr, List, [], ◌∷◌, ◌++◌, length, get_or, refl, sym, ap, subst, arith}
+use Rattle.std.proofs.Common.{◌≡◌, ℕ, zero, suc, ◌+◌, ◌-◌, ◌*◌, ◌/◌, ◌^◌, ◌<◌, ◌≤◌, ◌⊎◌, inl, inr, List, [], ◌∷◌, ◌++◌, length, get_or, refl, sym, ap, ◌∙◌, subst, arith}
 use Rattle.std.specs.List.{slice_range}
 use Rattle.std.proofs.lemmas.List.{get_or_read, get_or_push, get_or_append_left, length-append}
 use Rattle.std.proofs.Math.Nat.{pow-succ'}
+use Rattle.vt_definitions.specs.Depths.{AreBytes}
+use Rattle.vt_definitions.specs.Limits.{most_levels}
 use Rattle.vt_definitions.specs.Sides.{side, level_count}
 use Rattle.vt_definitions.proofs.Levels.{level_count_least}
 use Rattle.vt_ppm.specs.Image.{ImageView, IsLawfulImage}
-use Rattle.vt_mip.specs.Halves.{HasBytes}
 use Rattle.vt_mip.specs.Levels.{IsLevel, GainsHalf, IsChainFront, IsLastFitting, IsWholeChain, level_at, blank}
 use Rattle.vt_mip.specs.Chains.{ChainView, chain_levels, chain_width, chain_height, chain_texel, IsTexelRow, IsTexelRaster}
-use Rattle.vt_mip.proofs.Rasters.{row_room}
+use Rattle.vt_mip.proofs.Rasters.{texel_row_room}
 use Rattle.vt_mip.proofs.Words.{first_level, next_level, texel_row, texel_raster}
 
 -- a texture alone
@@ -98,7 +99,7 @@ side_scaled w (suc k) b small = omega (
 )
 
 -- fourteen levels suffice for the largest texture
-front_few : (levels : List ImageView) (t : ℕ) → 1 ≤ t → IsChainFront levels t → length levels ≤ 14
+front_few : (levels : List ImageView) (t : ℕ) → 1 ≤ t → IsChainFront levels t → length levels ≤ most_levels
 front_few levels t some front =
     let base = front.each 0 (omega (arith, front.some)) in
     front.needed 13 (omega (arith, side_scaled (level_at levels 0).width 13 1 (omega (arith, base.lawful.few_columns))))
@@ -142,38 +143,40 @@ smaller old new t some front large made =
       halves {a} {b} {a'} {b'} p q e f (inl two) = omega arith
       halves {a} {b} {a'} {b'} p q e f (inr two) = omega arith
 
--- the row of a level that was read from the list of levels
-pub chain_row : (levels : List ImageView) (t k y w : ℕ) (p : ImageView) (v : ChainView) (samples row : List ℕ)
-    → record { base = level_at levels 0; tile = t } ≡ v → IsWholeChain levels t → k < chain_levels v → y < chain_height v k
-    → p ≡ get_or levels k p → samples ≡ p.samples → w ≡ p.width → row ≡ slice_range samples (3 * w * y) (3 * w * y + 3 * w)
-    → HasBytes samples → IsTexelRow (λ x. chain_texel v k x y) (chain_width v k) row
-chain_row levels t k y w p v samples row view whole below high read same wide cut bytes =
-    rw (← view, cut, same) (texel_row (level_at levels 0) k p y (3 * w * y) (3 * w * y + 3 * w - 3 * w * y) level
-    (rw same at bytes) inside (ap (λ (n : ℕ). 3 * n * y) wide) (omega arith) fits) where
-      low : k < length levels
-      low = omega (arith, whole.count, (rw (← view) at below))
+-- a level that was read from the list of levels
+module _ (levels : List ImageView) (t k : ℕ) (p : ImageView) (v : ChainView) (view : record { base = level_at levels 0; tile = t } ≡ v)
+    (whole : IsWholeChain levels t) (below : k < chain_levels v) (read : p ≡ get_or levels k p) where
+  low : k < length levels
+  low = omega (arith, whole.count, (rw (← view) at below))
 
-      level : IsLevel (level_at levels 0) k p
-      level = rw (get_or_read levels k p low read blank) (whole.front.each k low)
+  level : IsLevel (level_at levels 0) k p
+  level = rw (get_or_read levels k p low read blank) (whole.front.each k low)
 
-      inside : y < p.height
-      inside = rw (level.rows) (rw (← view) at high)
+  inside : (y : ℕ) → y < chain_height v k → y < p.height
+  inside y high = rw (level.rows) (rw (← view) at high)
 
-      room : 3 * p.width * y + 3 * p.width ≤ length p.samples
-      room = row_room p.width p.height y (length p.samples) inside level.lawful.full
+  -- a row lies within the level's samples
+  pub row_fits : (y d w size : ℕ) (samples : List ℕ) → y < chain_height v k → samples ≡ p.samples → d ≡ p.depth → w ≡ p.width → size ≡ 3 * d
+      → size * w * y + size * w ≤ length samples
+  row_fits y d w size samples high same deep wide e =
+      texel_row_room d w p.height y size (length samples) e (ap length same ∙ level.lawful.full ∙ whole_size) (inside y high) where
+        whole_size : 3 * p.depth * (p.width * p.height) ≡ 3 * d * (w * p.height)
+        whole_size = rw (deep, wide) refl
 
-      fits : 3 * w * y + (3 * w * y + 3 * w - 3 * w * y) ≤ length p.samples
-      fits = rw wide (omega (arith, room))
+  -- the row of the level
+  pub chain_row : (y d w size : ℕ) (samples row : List ℕ) → y < chain_height v k → samples ≡ p.samples → d ≡ p.depth → w ≡ p.width
+      → size ≡ 3 * d → row ≡ slice_range samples (size * w * y) (size * w * y + size * w) → AreBytes p.samples
+      → IsTexelRow v.base.depth (λ x. chain_texel v k x y) (chain_width v k) row
+  chain_row y d w size samples row high same deep wide e cut bytes =
+      rw (← view, cut, same) (rw (level.depth) at (texel_row (level_at levels 0) k p y (size * w * y) (size * w * y + size * w - size * w * y)
+      level bytes (inside y high) (ap (λ (n : ℕ). n * y) is_size) (omega (arith, is_size)) fits)) where
+        is_size : size * w ≡ 3 * p.depth * p.width
+        is_size = ap (λ (n : ℕ). n * w) e ∙ ap (λ (n : ℕ). 3 * n * w) deep ∙ ap (λ (n : ℕ). 3 * p.depth * n) wide
 
--- the samples of the level that was read from the list of levels
-pub chain_raster : (levels : List ImageView) (t k : ℕ) (p : ImageView) (v : ChainView) (samples raster : List ℕ)
-    → record { base = level_at levels 0; tile = t } ≡ v → IsWholeChain levels t → k < chain_levels v → p ≡ get_or levels k p
-    → samples ≡ p.samples → raster ≡ samples → HasBytes samples
-    → IsTexelRaster (chain_texel v k) (chain_width v k) (chain_height v k) raster
-chain_raster levels t k p v samples raster view whole below read same as_it_is bytes =
-    rw (← view, as_it_is, same) (texel_raster (level_at levels 0) k p level (rw same at bytes)) where
-      low : k < length levels
-      low = omega (arith, whole.count, (rw (← view) at below))
+        fits : size * w * y + (size * w * y + size * w - size * w * y) ≤ length p.samples
+        fits = omega (arith, row_fits y d w size samples high same deep wide e, ap length same)
 
-      level : IsLevel (level_at levels 0) k p
-      level = rw (get_or_read levels k p low read blank) (whole.front.each k low)
+  -- the samples of the level
+  pub chain_raster : (samples : List ℕ) → samples ≡ p.samples → AreBytes p.samples
+      → IsTexelRaster v.base.depth (chain_texel v k) (chain_width v k) (chain_height v k) samples
+  chain_raster samples same bytes = rw (← view, same) (rw (level.depth) at (texel_raster (level_at levels 0) k p level bytes))

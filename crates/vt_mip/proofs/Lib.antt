@@ -1,5 +1,6 @@
+pub mod PartSamples
 pub mod Rasters
 pub mod Words
 pub mod Fronts
-pub mod Blocks
+pub mod BlockRows
 pub mod Small

@@ -1,7 +1,8 @@
 -- The box-filtered mip chain, each texel by itself.
-use Rattle.std.specs.Prelude.{◌≡◌, ℕ, zero, suc, ◌+◌, ◌-◌, ◌*◌, ◌/◌, ◌<◌, List, length, slice_index, min}
+use Rattle.std.specs.Prelude.{◌≡◌, ℕ, zero, suc, ◌+◌, ◌-◌, ◌*◌, ◌/◌, ◌<◌, List, length, min}
 use Rattle.vt_definitions.specs.Sides.{side, level_count}
-use Rattle.vt_definitions.specs.Texels.{Source, word, red, green, blue}
+use Rattle.vt_definitions.specs.Depths.{texel_length, word_of, red_of, green_of, blue_of, word_bytes, texel_bytes}
+use Rattle.vt_definitions.specs.Texels.{Source}
 use Rattle.vt_ppm.specs.Image.{ImageView, texel_of}
 
 -- the box filter: the mean of four samples, a half rounded up
@@ -18,15 +19,17 @@ halved s w h x y =
     box (s (clamped w (2 * x)) (clamped h (2 * y))) (s (clamped w (2 * x + 1)) (clamped h (2 * y)))
     (s (clamped w (2 * x)) (clamped h (2 * y + 1))) (s (clamped w (2 * x + 1)) (clamped h (2 * y + 1)))
 
--- the box filter of texel words, each channel by itself
-unfoldable pub halved_word : (ℕ → ℕ → ℕ) → ℕ → ℕ → ℕ → ℕ → ℕ
-halved_word t w h x y =
-    word (halved (λ i j. red (t i j)) w h x y) (halved (λ i j. green (t i j)) w h x y) (halved (λ i j. blue (t i j)) w h x y)
+-- the box filter of texel words at a depth, each channel by itself
+unfoldable pub halved_word : ℕ → (ℕ → ℕ → ℕ) → ℕ → ℕ → ℕ → ℕ → ℕ
+halved_word d t w h x y =
+    word_of d (halved (λ i j. red_of d (t i j)) w h x y) (halved (λ i j. green_of d (t i j)) w h x y)
+    (halved (λ i j. blue_of d (t i j)) w h x y)
 
--- the mip chain of a texture t of w columns and h rows: level 0 is the texture, and each next level is the one before it halved
-unfoldable pub chain : (ℕ → ℕ → ℕ) → ℕ → ℕ → Source
-chain t w h zero x y = t x y
-chain t w h (suc k) x y = halved_word (chain t w h k) (side w k) (side h k) x y
+-- the mip chain of a texture t of depth d, w columns and h rows: level 0 is the texture, and each next level is the one before
+-- it halved
+unfoldable pub chain : ℕ → (ℕ → ℕ → ℕ) → ℕ → ℕ → Source
+chain d t w h zero x y = t x y
+chain d t w h (suc k) x y = halved_word d (chain d t w h k) (side w k) (side h k) x y
 
 -- a chain as callers see it: its texture, and the tile side that says where it ends
 pub record ChainView : Type 0 where
@@ -45,20 +48,16 @@ chain_width v = side v.base.width
 abbrev pub chain_height : ChainView → ℕ → ℕ
 chain_height v = side v.base.height
 
--- the texel word of a level, a column and a row
+-- the texel word of a level, a column and a row, at the texture's depth
 abbrev pub chain_texel : ChainView → Source
-chain_texel v = chain (texel_of v.base) v.base.width v.base.height
+chain_texel v = chain v.base.depth (texel_of v.base) v.base.width v.base.height
 
--- bytes that hold the words of a row of so many columns, three bytes a texel, red first
-pub record IsTexelRow (word_at : ℕ → ℕ) (columns : ℕ) (bytes : List ℕ) : Type 0 where
-  pub full : length bytes ≡ 3 * columns
-  pub red_at : (x : ℕ) → x < columns → slice_index bytes (3 * x) ≡ red (word_at x)
-  pub green_at : (x : ℕ) → x < columns → slice_index bytes (3 * x + 1) ≡ green (word_at x)
-  pub blue_at : (x : ℕ) → x < columns → slice_index bytes (3 * x + 2) ≡ blue (word_at x)
+-- bytes that hold the words of a row of so many columns, at a depth
+pub record IsTexelRow (d : ℕ) (word_at : ℕ → ℕ) (columns : ℕ) (bytes : List ℕ) : Type 0 where
+  pub full : length bytes ≡ texel_length d * columns
+  pub each : (x : ℕ) → x < columns → texel_bytes d bytes x ≡ word_bytes d (word_at x)
 
--- bytes that hold the words of a raster of so many columns and rows, three bytes a texel, red first, row by row
-pub record IsTexelRaster (word_at : ℕ → ℕ → ℕ) (columns rows : ℕ) (bytes : List ℕ) : Type 0 where
-  pub full : length bytes ≡ 3 * (columns * rows)
-  pub red_at : (x y : ℕ) → x < columns → y < rows → slice_index bytes (3 * (y * columns + x)) ≡ red (word_at x y)
-  pub green_at : (x y : ℕ) → x < columns → y < rows → slice_index bytes (3 * (y * columns + x) + 1) ≡ green (word_at x y)
-  pub blue_at : (x y : ℕ) → x < columns → y < rows → slice_index bytes (3 * (y * columns + x) + 2) ≡ blue (word_at x y)
+-- bytes that hold the words of a raster of so many columns and rows, at a depth, row by row
+pub record IsTexelRaster (d : ℕ) (word_at : ℕ → ℕ → ℕ) (columns rows : ℕ) (bytes : List ℕ) : Type 0 where
+  pub full : length bytes ≡ texel_length d * (columns * rows)
+  pub each : (x y : ℕ) → x < columns → y < rows → texel_bytes d bytes (y * columns + x) ≡ word_bytes d (word_at x y)

@@ -1,14 +1,14 @@
 ghost use Rattle.std.specs.Prelude.{◌≡◌, ◌+◌, ◌-◌, ◌*◌, ◌<◌, ◌≤◌, ◌↔◌, length, IfOk, OnOk, IsTrue, vec_len, slice_range};
-ghost use Rattle.vt_definitions.specs.Limits.{most_read_side};
-ghost use Rattle.vt_ppm.specs.Image.{AreBytes};
+ghost use Rattle.vt_definitions.specs.Depths.{IsDepth, AreBytes};
+ghost use Rattle.vt_definitions.specs.Limits.{most_levels, most_read_side};
 ghost use Rattle.vt_definitions.specs.Tiles.{IsTileSide};
 ghost use Rattle.vt_mip.specs.Chains.{ChainView, chain_levels, chain_width, chain_height, chain_texel, IsTexelRow, IsTexelRaster};
-ghost use Rattle.vt_mip.specs.Halves.{HasBytes};
 ghost use Rattle.vt_mip.specs.Levels.{GainsHalf, IsLastFitting};
 
 use crate::halving::halved_image;
 use std::alloc::Global;
 use std::marker::Model;
+use vt_definitions::texel_length;
 use vt_outside::NoMemory;
 use vt_ppm::{Image, samples_are_bytes};
 
@@ -50,23 +50,13 @@ fn add_level(alloc: Global, levels: &mut Vec<Image>) -> Result<(), NoMemory>
     Ok(())
 }
 
-// A row of a raster of so many columns, three bytes a texel.
-fn raster_row(samples: &[u8], width: usize, y: usize) -> &[u8]
-    requires { 3 * width * y + 3 * width ≤ length samples.now }
-    ensures row { result.now ≡ slice_range samples.now (3 * width * y) (3 * width * y + 3 * width) }
-    ensures bytes { HasBytes samples.now }
+// Row y of a raster whose rows have so many bytes.
+fn raster_row(samples: &[u8], size: usize, y: usize) -> &[u8]
+    requires { size * y + size ≤ length samples.now }
+    ensures { result.now ≡ slice_range samples.now (size * y) (size * y + size) }
 {
-    let row = 3 * width;
-    let from = row * y;
-    &samples[from..from + row]
-}
-
-// The samples of a raster as they are.
-fn raster(samples: &[u8]) -> &[u8]
-    ensures same { result.now ≡ samples.now }
-    ensures bytes { HasBytes samples.now }
-{
-    samples
+    let from = size * y;
+    &samples[from..from + size]
 }
 
 impl Chain {
@@ -85,11 +75,19 @@ impl Chain {
         Ok(Chain { levels, tile })
     }
 
+    /// How many bytes a sample has: 1 or 2.
+    pub fn depth(&self) -> u32
+        ensures value { result ≡ self.now.base.depth }
+        ensures depth { IsDepth result }
+    {
+        self.levels[0].depth()
+    }
+
     /// The number of levels, from 1 to 14: the last is the first whose two sides are at most the tile side.
     pub fn levels(&self) -> u32
         ensures value { result ≡ chain_levels self.now }
         ensures some { 1 ≤ result }
-        ensures few { result ≤ 14 }
+        ensures few { result ≤ most_levels }
     {
         self.levels.len() as u32
     }
@@ -108,7 +106,8 @@ impl Chain {
         (level.width(), level.height())
     }
 
-    /// The word of a level's texel in column `x` and row `y`, which are inside the level: red * 65536 + green * 256 + blue.
+    /// The word of a level's texel in column `x` and row `y`, which are inside the level: its red, green and blue sample in one
+    /// number, red first, of 24 bits where a sample has one byte and of 48 where it has two.
     pub fn texel(&self, level: u32, x: u32, y: u32) -> u64
         requires level { level < chain_levels self.now }
         requires column { x < chain_width self.now level }
@@ -118,22 +117,28 @@ impl Chain {
         self.levels[level as usize].word(x, y)
     }
 
-    /// The samples of a level's row, three bytes a texel, red first.
+    /// The bytes of a level's row, three samples a texel, red first, the most significant byte of a sample first.
     pub fn row(&self, level: u32, y: u32) -> &[u8]
         requires level { level < chain_levels self.now }
         requires row { y < chain_height self.now level }
-        ensures { IsTexelRow (λ x. chain_texel self.now level x y) (chain_width self.now level) result.now }
+        ensures { IsTexelRow self.now.base.depth (λ x. chain_texel self.now level x y) (chain_width self.now level) result.now }
     {
         let level = &self.levels[level as usize];
-        raster_row(level.samples(), level.width() as usize, y as usize)
+        samples_are_bytes(level);
+        let size = texel_length(level.depth()) * level.width() as usize;
+        raster_row(level.samples(), size, y as usize)
     }
 
-    /// The samples of a level, three bytes a texel, red first, row by row from the top.
+    /// The bytes of a level, three samples a texel, red first, the most significant byte of a sample first, row by row from the
+    /// top.
     pub fn samples(&self, level: u32) -> &[u8]
         requires { level < chain_levels self.now }
-        ensures { IsTexelRaster (chain_texel self.now level) (chain_width self.now level) (chain_height self.now level) result.now }
+        ensures { IsTexelRaster self.now.base.depth (chain_texel self.now level) (chain_width self.now level)
+            (chain_height self.now level) result.now }
     {
-        raster(self.levels[level as usize].samples())
+        let level = &self.levels[level as usize];
+        samples_are_bytes(level);
+        level.samples()
     }
 
     /// The tile side at which the chain ends.
@@ -144,7 +149,7 @@ impl Chain {
     }
 }
 
-/// The samples of a chain's texture are bytes, and so its words are below 2^24 at every level.
+/// The samples of a chain's texture are kept in bytes, and so its words are small at every level.
 pub fn texture_samples_are_bytes(chain: &Chain)
     ensures { AreBytes chain.now.base.samples }
 {

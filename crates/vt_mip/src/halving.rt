@@ -1,157 +1,87 @@
-ghost use Rattle.std.specs.Prelude.{◌≡◌, ◌+◌, ◌-◌, ◌*◌, ◌/◌, ◌<◌, ◌≤◌, length, IfOk, OnOk};
+//! The halving of rasters, whose samples have one byte or two.
+
+ghost use Rattle.std.specs.Prelude.{◌≡◌, ℕ, ◌+◌, ◌-◌, ◌*◌, ◌/◌, ◌<◌, ◌≤◌, length, IfOk, OnOk};
+ghost use Rattle.vt_definitions.specs.Depths.{IsDepth, AreBytes, texel_length};
 ghost use Rattle.vt_definitions.specs.Limits.{most_read_side};
 ghost use Rattle.vt_ppm.specs.Image.{IsLawfulImage};
-ghost use Rattle.vt_mip.specs.Chains.{box};
-ghost use Rattle.vt_mip.specs.Halves.{AreBoxes, AreEveryOther, IsHalvedRow, IsHalvedRaster, IsHalf, HasBytes};
+ghost use Rattle.vt_mip.specs.Halves.{IsHalvedRow, IsHalvedRaster, IsHalf};
 
+use crate::blocks::{BLOCK, halve_block};
+use crate::boxes::put_boxes;
 use std::alloc::Global;
+use vt_definitions::texel_length;
 use vt_outside::NoMemory;
-use vt_ppm::Image;
-
-// The box filter of four samples of one channel: their mean, a half rounded up.
-#[inline(always)]
-fn box_of(a: u8, b: u8, c: u8, d: u8) -> u8
-    ensures { result ≡ box a b c d }
-{
-    ((a as u32 + b as u32 + c as u32 + d as u32 + 2) / 4) as u8
-}
-
-// How many texels of a row are halved at once.
-const BLOCK: usize = 32;
-
-// How many samples they have.
-const BLOCK_SAMPLES: usize = 96;
-
-// Boxes each texel of a block of two rows but the last with the texel behind it, also those that begin no pair: the samples
-// then lie side by side.
-#[inline(always)]
-fn box_neighbours(top: &[u8], bottom: &[u8], boxes: &mut [u8; BLOCK_SAMPLES])
-    requires top { length top.now ≡ 96 }
-    requires bottom { length bottom.now ≡ 96 }
-    ensures { AreBoxes top.now bottom.now 93 boxes.new }
-{
-    for i in 0..BLOCK_SAMPLES - 3 {
-        boxes[i] = box_of(top[i], top[i + 3], bottom[i], bottom[i + 3]);
-    }
-}
-
-// Copies every other texel of a block.
-#[inline(always)]
-fn copy_every_other(texels: &[u8; BLOCK_SAMPLES], out: &mut [u8])
-    requires { length out.old ≡ 48 }
-    ensures { AreEveryOther texels.now 16 out.new }
-{
-    for x in 0..BLOCK / 2 {
-        out[3 * x] = texels[6 * x];
-        out[3 * x + 1] = texels[6 * x + 1];
-        out[3 * x + 2] = texels[6 * x + 2];
-    }
-}
-
-// Halves a block of texels of two rows.
-#[inline(always)]
-fn halve_block(top: &[u8], bottom: &[u8], out: &mut [u8])
-    requires top { length top.now ≡ 96 }
-    requires bottom { length bottom.now ≡ 96 }
-    requires out { length out.old ≡ 48 }
-    ensures { IsHalvedRow top.now bottom.now 32 16 out.new }
-{
-    let mut boxes = [0; BLOCK_SAMPLES];
-    box_neighbours(top, bottom, &mut boxes);
-    copy_every_other(&boxes, out);
-}
+use vt_ppm::{Image, samples_are_bytes};
 
 // Halves the whole blocks of two rows.
-fn halve_blocks(width: usize, top: &[u8], bottom: &[u8], out: &mut [u8])
-    requires top { length top.now ≡ 3 * width }
-    requires bottom { length bottom.now ≡ 3 * width }
-    requires out { length out.old ≡ 3 * ((width + 1) / 2) }
-    ensures { IsHalvedRow top.now bottom.now width (16 * (width / 32)) out.new }
+fn halve_blocks<const DEPTH: u32>(width: usize, top: &[u8], bottom: &[u8], out: &mut [u8])
+    requires depth { IsDepth DEPTH }
+    requires top { length top.now ≡ texel_length DEPTH * width }
+    requires bottom { length bottom.now ≡ texel_length DEPTH * width }
+    requires out { length out.old ≡ texel_length DEPTH * ((width + 1) / 2) }
+    ensures { IsHalvedRow DEPTH top.now bottom.now width (16 * (width / 32)) out.new }
 {
+    let size = texel_length(DEPTH) * BLOCK;
+    let half_size = texel_length(DEPTH) * (BLOCK / 2);
     for block in 0..width / BLOCK {
-        let from = BLOCK_SAMPLES * block;
-        let to = BLOCK_SAMPLES / 2 * block;
-        halve_block(
-            &top[from..from + BLOCK_SAMPLES],
-            &bottom[from..from + BLOCK_SAMPLES],
-            &mut out[to..to + BLOCK_SAMPLES / 2],
+        let from = size * block;
+        let to = half_size * block;
+        halve_block::<DEPTH>(
+            &top[from..from + size],
+            &bottom[from..from + size],
+            &mut out[to..to + half_size],
         );
     }
 }
 
 // Halves the pairs of columns of two rows behind the whole blocks, which are halved.
-fn halve_pairs(width: usize, top: &[u8], bottom: &[u8], out: &mut [u8])
-    requires top { length top.now ≡ 3 * width }
-    requires bottom { length bottom.now ≡ 3 * width }
-    requires out { length out.old ≡ 3 * ((width + 1) / 2) }
-    requires blocks { IsHalvedRow top.now bottom.now width (16 * (width / 32)) out.old }
-    ensures { IsHalvedRow top.now bottom.now width (width / 2) out.new }
+fn halve_pairs<const DEPTH: u32>(width: usize, top: &[u8], bottom: &[u8], out: &mut [u8])
+    requires depth { IsDepth DEPTH }
+    requires top { length top.now ≡ texel_length DEPTH * width }
+    requires bottom { length bottom.now ≡ texel_length DEPTH * width }
+    requires out { length out.old ≡ texel_length DEPTH * ((width + 1) / 2) }
+    requires blocks { IsHalvedRow DEPTH top.now bottom.now width (16 * (width / 32)) out.old }
+    ensures { IsHalvedRow DEPTH top.now bottom.now width (width / 2) out.new }
 {
     for x in BLOCK / 2 * (width / BLOCK)..width / 2 {
-        let from = 6 * x;
-        let to = 3 * x;
-        out[to] = box_of(top[from], top[from + 3], bottom[from], bottom[from + 3]);
-        out[to + 1] = box_of(
-            top[from + 1],
-            top[from + 4],
-            bottom[from + 1],
-            bottom[from + 4],
-        );
-        out[to + 2] = box_of(
-            top[from + 2],
-            top[from + 5],
-            bottom[from + 2],
-            bottom[from + 5],
-        );
+        put_boxes::<DEPTH>(top, bottom, 6 * x, 6 * x + 3, out, 3 * x);
     }
 }
 
-// Halves two rows of texels, three bytes a texel: an odd last column counts twice.
-fn halve_row(width: usize, top: &[u8], bottom: &[u8], out: &mut [u8])
-    requires top { length top.now ≡ 3 * width }
-    requires bottom { length bottom.now ≡ 3 * width }
-    requires out { length out.old ≡ 3 * ((width + 1) / 2) }
-    ensures { IsHalvedRow top.now bottom.now width ((width + 1) / 2) out.new }
+// Halves two rows of texels: an odd last column counts twice.
+fn halve_row<const DEPTH: u32>(width: usize, top: &[u8], bottom: &[u8], out: &mut [u8])
+    requires depth { IsDepth DEPTH }
+    requires top { length top.now ≡ texel_length DEPTH * width }
+    requires bottom { length bottom.now ≡ texel_length DEPTH * width }
+    requires out { length out.old ≡ texel_length DEPTH * ((width + 1) / 2) }
+    ensures { IsHalvedRow DEPTH top.now bottom.now width ((width + 1) / 2) out.new }
 {
-    halve_blocks(width, top, bottom, out);
-    halve_pairs(width, top, bottom, out);
+    halve_blocks::<DEPTH>(width, top, bottom, out);
+    halve_pairs::<DEPTH>(width, top, bottom, out);
     if width % 2 == 1 {
-        let from = 3 * (width - 1);
-        let to = 3 * (width / 2);
-        out[to] = box_of(top[from], top[from], bottom[from], bottom[from]);
-        out[to + 1] = box_of(
-            top[from + 1],
-            top[from + 1],
-            bottom[from + 1],
-            bottom[from + 1],
-        );
-        out[to + 2] = box_of(
-            top[from + 2],
-            top[from + 2],
-            bottom[from + 2],
-            bottom[from + 2],
-        );
+        let last = 3 * (width - 1);
+        put_boxes::<DEPTH>(top, bottom, last, last, out, 3 * (width / 2));
     }
 }
 
-// Halves a raster of texels, three bytes a texel, row by row: an odd last row counts twice.
-fn halve_raster(width: usize, height: usize, source: &[u8], out: &mut [u8])
+// Halves a raster of texels row by row: an odd last row counts twice.
+fn halve_raster<const DEPTH: u32>(width: usize, height: usize, source: &[u8], out: &mut [u8])
+    requires depth { IsDepth DEPTH }
     requires some_columns { 1 ≤ width }
     requires few_columns { width ≤ most_read_side }
     requires some_rows { 1 ≤ height }
     requires few_rows { height ≤ most_read_side }
-    requires source { length source.now ≡ 3 * (width * height) }
-    requires out { length out.old ≡ 3 * ((width + 1) / 2 * ((height + 1) / 2)) }
-    ensures halved { IsHalvedRaster source.now width height ((height + 1) / 2) out.new }
-    ensures bytes { HasBytes source.now }
+    requires source { length source.now ≡ texel_length DEPTH * (width * height) }
+    requires out { length out.old ≡ texel_length DEPTH * ((width + 1) / 2 * ((height + 1) / 2)) }
+    ensures { IsHalvedRaster DEPTH source.now width height ((height + 1) / 2) out.new }
 {
-    let row = 3 * width;
-    let half_row = 3 * ((width + 1) / 2);
+    let row = texel_length(DEPTH) * width;
+    let half_row = texel_length(DEPTH) * ((width + 1) / 2);
     for y in 0..(height + 1) / 2 {
         let top = row * (2 * y);
         let bottom = row * (2 * y + 1).min(height - 1);
         let to = half_row * y;
-        halve_row(
+        halve_row::<DEPTH>(
             width,
             &source[top..top + row],
             &source[bottom..bottom + row],
@@ -160,17 +90,38 @@ fn halve_raster(width: usize, height: usize, source: &[u8], out: &mut [u8])
     }
 }
 
+// Halves a raster whose samples have so many bytes.
+fn halve_at(depth: u32, width: usize, height: usize, source: &[u8], out: &mut [u8])
+    requires depth { IsDepth depth }
+    requires some_columns { 1 ≤ width }
+    requires few_columns { width ≤ most_read_side }
+    requires some_rows { 1 ≤ height }
+    requires few_rows { height ≤ most_read_side }
+    requires source { length source.now ≡ texel_length depth * (width * height) }
+    requires out { length out.old ≡ texel_length depth * ((width + 1) / 2 * ((height + 1) / 2)) }
+    ensures { IsHalvedRaster depth source.now width height ((height + 1) / 2) out.new }
+{
+    if depth == 1 {
+        halve_raster::<1>(width, height, source, out);
+    } else {
+        halve_raster::<2>(width, height, source, out);
+    }
+}
+
 /// Halves an image, each channel by itself.
 pub(crate) fn halved_image(alloc: Global, image: &Image) -> Result<Image, NoMemory>
     ensures half { IfOk result (λ half. IsHalf image.now half) }
     ensures lawful { IfOk result (λ half. IsLawfulImage half) }
-    ensures bytes { OnOk result (HasBytes image.now.samples) }
+    ensures bytes { OnOk result (AreBytes image.now.samples) }
 {
+    let depth = image.depth();
     let width = image.width() as usize;
     let height = image.height() as usize;
     let half_width = (width + 1) / 2;
     let half_height = (height + 1) / 2;
-    let mut samples = vec![in alloc; 0u8; 3 * (half_width * half_height)]?;
-    halve_raster(width, height, image.samples(), &mut samples);
-    Ok(Image::new(half_width as u32, half_height as u32, samples))
+    let size = texel_length(depth) * (half_width * half_height);
+    let mut samples = vec![in alloc; 0u8; size]?;
+    samples_are_bytes(image);
+    halve_at(depth, width, height, image.samples(), &mut samples);
+    Ok(Image::new(depth, half_width as u32, half_height as u32, samples))
 }

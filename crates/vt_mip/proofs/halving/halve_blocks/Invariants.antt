@@ -3,4 +3,4 @@ use Rattle.vt_mip.specs.Halves.{IsHalvedRow}
 use Rattle.vt_mip.proofs.halving.halve_blocks.Given as goal
 
 abbrev pub invariant-loop-block : goal.invariant-loop-block
-invariant-loop-block l = IsHalvedRow l.top l.bottom l.width (16 * l.block) l.out
+invariant-loop-block g l = IsHalvedRow g.row.DEPTH l.top l.bottom l.width (16 * l.block) l.out

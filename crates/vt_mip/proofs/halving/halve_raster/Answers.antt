@@ -1,27 +1,49 @@
-use Rattle.std.proofs.Common.{◌≡◌, ℕ, ◌+◌, ◌-◌, ◌*◌, ◌/◌, ◌≤◌, arith, length, refl, ap}
-use Rattle.vt_mip.proofs.Rasters.{next_row, row_room}
+use Rattle.std.proofs.Common.{◌≡◌, ℕ, ◌+◌, ◌-◌, ◌*◌, ◌/◌, ◌≤◌, length, min, ap, ◌∙◌, arith}
+use Rattle.vt_mip.proofs.Rasters.{next_row, texel_row_room}
 use Rattle.vt_mip.proofs.halving.halve_raster.Goals as goal
 
-pub loop-y-init : goal.loop-y-init
-loop-y-init c = record { each = λ x y k p q r. absurd (let s : ⊥ = omega arith in s) }
-
 pub slice_bounds-halve_row-end : goal.slice_bounds-halve_row-end
-slice_bounds-halve_row-end c = omega (
+slice_bounds-halve_row-end g c = omega (
   arith,
-  row_room c.args.width c.args.height (2 * c.loop-y.y) (length c.args.source.now)
-      (omega arith) c.requires.source,
+  texel_row_room g.row.DEPTH c.args.width c.args.height (2 * c.loop-y.y) c.texel_length.result (length c.args.source.now)
+      c.texel_length.ensures.value c.requires.source (omega arith),
+)
+
+pub slice_bounds-halve_row-end-in-loop-y : goal.slice_bounds-halve_row-end-in-loop-y
+slice_bounds-halve_row-end-in-loop-y g c = omega (
+  arith,
+  texel_row_room g.row.DEPTH c.args.width c.args.height c.min.result c.texel_length.result (length c.args.source.now)
+      c.texel_length.ensures.value c.requires.source (omega (arith, c.min.ensures)),
+)
+
+pub slice_bounds-halve_row-end-in-loop-y-2 : goal.slice_bounds-halve_row-end-in-loop-y-2
+slice_bounds-halve_row-end-in-loop-y-2 g c = omega (
+  arith,
+  texel_row_room g.row.DEPTH ((c.args.width + 1) / 2) ((c.args.height + 1) / 2) c.loop-y.y c.texel_length-2.result
+      (length c.args.out.now) c.texel_length-2.ensures.value c.requires.out (omega arith),
 )
 
 pub loop-y-preserved : goal.loop-y-preserved
-loop-y-preserved c =
-    let room : 3 * ((c.args.width + 1) / 2) * c.loop-y.y + 3 * ((c.args.width + 1) / 2) ≤ length c.loop-y.out =
-    row_room ((c.args.width + 1) / 2) ((c.args.height + 1) / 2) c.loop-y.y (length c.loop-y.out) (omega arith) (omega arith) in
-    next_row c.args.source.now c.loop-y.out c.halve_row.new.out c.args.width c.args.height c.loop-y.y
-    (3 * c.args.width * (2 * c.loop-y.y)) (3 * c.args.width * c.min.result)
-    (3 * c.args.width * (2 * c.loop-y.y) + 3 * c.args.width - 3 * c.args.width * (2 * c.loop-y.y))
-    (3 * c.args.width * c.min.result + 3 * c.args.width - 3 * c.args.width * c.min.result) _ c.requires.some_columns
-    c.requires.some_rows (omega arith) refl (ap (λ (m : ℕ). 3 * c.args.width * m) c.min.ensures) (omega arith)
-    (omega arith) (omega arith) (omega arith) (omega arith) c.loop-y.invariant c.halve_row.ensures
-
-pub returns-clause-halved : goal.returns-clause-halved
-returns-clause-halved c = let e : c.loop-y.y ≡ (c.args.height + 1) / 2 = omega arith in rw (← e) c.loop-y.invariant
+loop-y-preserved g c =
+    let d = g.row.DEPTH in
+    let w = c.args.width in
+    let h = c.args.height in
+    let half = (c.args.width + 1) / 2 in
+    let y = c.loop-y.y in
+    let b = c.min.result in
+    let r = c.texel_length.result in
+    let s = c.texel_length-2.result in
+    let e : r ≡ 3 * d = c.texel_length.ensures.value in
+    let f : s ≡ 3 * d = c.texel_length-2.ensures.value in
+    let room : s * half * y + s * half ≤ length c.args.out.now =
+    texel_row_room d half ((h + 1) / 2) y s (length c.args.out.now) f c.requires.out (omega arith) in
+    let top : r * w * (2 * y) ≡ d * (3 * w * (2 * y)) = ap (λ (q : ℕ). q * w * (2 * y)) e ∙ omega arith in
+    let bottom : r * w * b ≡ d * (3 * w * min (2 * y + 1) (h - 1)) =
+    ap (λ (q : ℕ). q * w * b) e ∙ ap (λ (q : ℕ). 3 * d * w * q) c.min.ensures ∙ omega arith in
+    let place : s * half * y ≡ d * (3 * half * y) = ap (λ (q : ℕ). q * half * y) f ∙ omega arith in
+    let row : r * w ≡ d * (3 * w) = ap (λ (q : ℕ). q * w) e ∙ omega arith in
+    next_row d c.args.source.now c.loop-y.out c.halve_row.new.out w h y (r * w * (2 * y)) (r * w * b)
+    (r * w * (2 * y) + r * w - r * w * (2 * y)) (r * w * b + r * w - r * w * b) (s * half * y) _ c.requires.some_columns
+    c.requires.some_rows (omega arith) top bottom (omega (arith, row)) (omega (arith, row)) place (omega (arith, room))
+    (let k : length c.halve_row.new.out ≡ s * half = omega arith in k ∙ ap (λ (q : ℕ). q * half) f ∙ omega arith)
+    c.loop-y.invariant c.halve_row.ensures
