@@ -1,8 +1,12 @@
 pub mod Accepted
 pub mod Flaws
+pub mod Headers
 pub mod Lines
 pub mod Opening
+pub mod Pieces
 pub mod Spans
 pub mod Stored
 pub mod Tiles
+pub mod WideStores
+pub mod Widening
 pub mod Writing

@@ -1,161 +1,165 @@
 -- What a store holds.
-use Rattle.std.proofs.Common.{◌≡◌, ℕ, ◌+◌, ◌*◌, ◌/◌, ◌%◌, ◌^◌, ◌<◌, ◌≤◌, true, None, List, length, take, drop, refl, sym, ap, ◌∙◌, arith, mul_comm, bytes_eq}
-use Rattle.std.proofs.lemmas.List.{get_or-append-add, get_or-take, get_or-drop}
-use Rattle.std.proofs.lemmas.List.FromFn.{get_or-map-range_with_len}
+use Rattle.std.proofs.Common.{◌≡◌, ℕ, ◌+◌, ◌*◌, ◌%◌, ◌<◌, ◌≤◌, true, None, inl, inr, List, ◌++◌, length, drop, refl, sym, ap, ◌∙◌, arith}
+use Rattle.std.proofs.lemmas.List.{get_or-take, get_or-drop, length-append, length-drop}
+use Rattle.std.proofs.Math.Seq.{drop-append_seam}
 use Rattle.std.proofs.lemmas.Nat.{mul-add-lt, mod_below}
-use Rattle.std.specs.Prelude.{slice_index, flat_map}
-use Rattle.std.specs.List.{range_with_len}
-use Rattle.vt_definitions.specs.Texels.{Source, word, red, green, blue, bytes}
+use Rattle.std.specs.Prelude.{slice_index}
+use Rattle.vt_definitions.specs.Depths.{IsDepth, AreBytes, texel_length, word_bytes}
+use Rattle.vt_definitions.specs.Numbers.{number_from, number_bytes}
+use Rattle.vt_definitions.specs.Texels.{Source}
+use Rattle.vt_definitions.proofs.Words.{bytes_make_word}
+use Rattle.vt_definitions.proofs.TexelWords.{words_small}
 use Rattle.vt_outside.specs.Files.{IsPiece}
 use Rattle.vt_ppm.specs.Image.{texel_of}
 use Rattle.vt_ppm.proofs.ImageLaws.{image_of_bytes}
 use Rattle.vt_mip.specs.Chains.{chain}
-use Rattle.vt_mip.specs.Halves.{HasBytes}
-use Rattle.vt_mip.proofs.Small.{bytes_at_all, word_small, chain_words_are_small}
+use Rattle.vt_mip.proofs.Small.{chain_words_are_small}
 use Rattle.vt_pages.specs.Shape.{Shape, shape_of}
-use Rattle.vt_pages.specs.Pages.{pages_of, refusal_of, name_at, texel_page, clamped_word, tile_words}
+use Rattle.vt_pages.specs.Pages.{pages_of, refusal_of, texel_page}
 use Rattle.vt_pages.specs.Laws.{IsInside}
 use Rattle.vt_pages.proofs.Lines.{texel_is_page}
 use Rattle.vt_pages.proofs.Tiles.{tiles_hold_places}
-use Rattle.vt_store.specs.Format.{number_at, magic, header_bytes, tile_length, tile_start, tile_bytes, tiles_bytes, store_bytes, store_length, header_shape, stored}
+use Rattle.vt_store.specs.Format.{has_magic, header_bytes, tile_area, tile_length, tiles_bytes, store_bytes, store_length, store_depth, header_length, header_shape, texel_number, stored}
 use Rattle.vt_store.specs.Laws.{StoresOpen, StoresHoldSources, StoresHoldChains, StoredWordsAreSmall, PiecesHoldTexels}
-use Rattle.vt_store.specs.TileLines.{texel_bytes}
+use Rattle.vt_store.specs.TileLines.{piece_at, tile_word}
 use Rattle.vt_store.proofs.Accepted.{accepted_small}
 use Rattle.vt_store.proofs.Flaws.{no_flaw, told_shape, whole_shape}
-use Rattle.vt_store.proofs.Spans.{span_length, span_at}
-use Rattle.vt_store.proofs.Tiles.{length-tile, tile_at}
+use Rattle.vt_store.proofs.Headers.{told_depth, header_sixteen}
+use Rattle.vt_store.proofs.Pieces.{bytes_same, place_in, word_piece, word_same}
+use Rattle.vt_store.proofs.Tiles.{tiles_piece, tiles_bytes_length, tile_word_is}
 
 -- the number that the four bytes of a number spell
 abbrev spelled : ℕ → ℕ
-spelled n = (n / 16777216 % 256) * 16777216 + (n / 65536 % 256) * 65536 + (n / 256 % 256) * 256 + n % 256
+spelled n = number_from (number_bytes 4 n) 0 4
 
 -- it is that number, where it is small
 number_back : (n : ℕ) → n ≤ 8192 → spelled n ≡ n
 number_back n small = omega arith
 
-store_width : (s : Shape) (src : Source) → number_at (store_bytes s src) 4 ≡ spelled s.width
+store_width : (s : Shape) (d : ℕ) (src : Source) → IsDepth d → number_from (store_bytes s d src) 4 4 ≡ spelled s.width
 unfolding store_bytes header_bytes
-store_width s src = refl
+store_width s d src (inl one) = rw one refl
+store_width s d src (inr two) = rw two refl
 
-store_height : (s : Shape) (src : Source) → number_at (store_bytes s src) 8 ≡ spelled s.height
+store_height : (s : Shape) (d : ℕ) (src : Source) → IsDepth d → number_from (store_bytes s d src) 8 4 ≡ spelled s.height
 unfolding store_bytes header_bytes
-store_height s src = refl
+store_height s d src (inl one) = rw one refl
+store_height s d src (inr two) = rw two refl
 
-store_tile : (s : Shape) (src : Source) → number_at (store_bytes s src) 12 ≡ spelled s.tile
+store_tile : (s : Shape) (d : ℕ) (src : Source) → IsDepth d → number_from (store_bytes s d src) 12 4 ≡ spelled s.tile
 unfolding store_bytes header_bytes
-store_tile s src = refl
+store_tile s d src (inl one) = rw one refl
+store_tile s d src (inr two) = rw two refl
 
-pub store_shape : (s : Shape) (src : Source) → refusal_of s ≡ None → header_shape (store_bytes s src) ≡ s
-store_shape s src accepted =
+pub store_shape : (s : Shape) (d : ℕ) (src : Source) → IsDepth d → refusal_of s ≡ None → header_shape (store_bytes s d src) ≡ s
+store_shape s d src depth accepted =
     let small = accepted_small s accepted in
-    told_shape (store_bytes s src) s.width s.height s.tile
-    (sym (store_width s src ∙ number_back s.width small.few_columns))
-    (sym (store_height s src ∙ number_back s.height small.few_rows))
-    (sym (store_tile s src ∙ number_back s.tile (omega (arith, small.few_tile))))
+    told_shape (store_bytes s d src) s.width s.height s.tile
+    (sym (store_width s d src depth ∙ number_back s.width small.few_columns))
+    (sym (store_height s d src depth ∙ number_back s.height small.few_rows))
+    (sym (store_tile s d src depth ∙ number_back s.tile (omega (arith, small.few_tile))))
 
-pub length-store : (s : Shape) (src : Source) → length (store_bytes s src) ≡ store_length s
-unfolding store_bytes header_bytes tiles_bytes
-length-store s src = omega (arith, span_length (tile_bytes s src) 0 (pages_of s) (tile_length s) (length-tile s src))
+pub store_depth_is : (s : Shape) (d : ℕ) (src : Source) → IsDepth d → store_depth (store_bytes s d src) ≡ d
+unfolding store_bytes header_bytes store_depth
+store_depth_is s d src (inl one) = rw one refl
+store_depth_is s d src (inr two) = rw two refl
 
-store_magic : (s : Shape) (src : Source) → bytes_eq (take 4 (store_bytes s src)) magic ≡ true
-unfolding store_bytes header_bytes
-store_magic s src = refl
+store_magic : (s : Shape) (d : ℕ) (src : Source) → IsDepth d → has_magic (store_bytes s d src) ≡ true
+unfolding store_bytes header_bytes has_magic
+store_magic s d src (inl one) = rw one refl
+store_magic s d src (inr two) = rw two refl
+
+pub length-store : (s : Shape) (d : ℕ) (src : Source) → IsDepth d → length (store_bytes s d src) ≡ store_length s d
+unfolding store_bytes
+length-store s d src depth = omega (
+  arith,
+  length-append (header_bytes s d) (tiles_bytes s d src 0 (pages_of s)),
+  header_sixteen s d depth,
+  tiles_bytes_length s d src 0 (pages_of s) depth,
+)
+
+-- the texels of a store stand behind its header
+store_texels : (s : Shape) (d : ℕ) (src : Source) → IsDepth d → drop header_length (store_bytes s d src) ≡ tiles_bytes s d src 0 (pages_of s)
+unfolding store_bytes
+store_texels s d src depth =
+    ap (λ n. drop n (header_bytes s d ++ tiles_bytes s d src 0 (pages_of s))) (sym (header_sixteen s d depth))
+    ∙ drop-append_seam (header_bytes s d) (tiles_bytes s d src 0 (pages_of s))
 
 pub stores_open : StoresOpen
-stores_open s src accepted =
-    let shape = store_shape s src accepted in
-    let long : 16 ≤ length (store_bytes s src) = omega (arith, length-store s src) in
+stores_open s d src depth accepted =
+    let shape = store_shape s d src depth accepted in
+    let deep = store_depth_is s d src depth in
+    let whole = length-store s d src depth in
+    let long : 16 ≤ length (store_bytes s d src) = omega (arith, whole) in
     record {
-      no_flaw = no_flaw (store_bytes s src) (length (store_bytes s src)) (store_magic s src) long
-          (ap refusal_of shape ∙ accepted) (length-store s src ∙ ap store_length (sym shape));
+      no_flaw = no_flaw (store_bytes s d src) (length (store_bytes s d src)) (store_magic s d src depth) long
+          (ap refusal_of shape ∙ accepted)
+          (whole ∙ ap (λ z. store_length z d) (sym shape) ∙ ap (λ n. store_length (header_shape (store_bytes s d src)) n) (sym deep));
       shape_is = shape;
+      depth_is = deep;
     }
 
-area_place : (a p : ℕ) → a * p ≡ p * a
-area_place a p = mul_comm a p
-
--- and the same byte of the store
-store_at : (s : Shape) (src : Source) (p j c : ℕ) → p < pages_of s → j < s.tile * s.tile → c < 3
-    → slice_index (store_bytes s src) (16 + 3 * (s.tile * s.tile * p + j) + c) ≡ slice_index (texel_bytes s src p j) c
-unfolding store_bytes header_bytes tiles_bytes
-store_at s src p j c page inside h =
-    let z : 0 + p ≡ p = omega arith in
-    let e : 16 + 3 * (s.tile * s.tile * p + j) + c ≡ length (header_bytes s) + (p * tile_length s + (j * 3 + c)) =
-    omega (arith, area_place (s.tile * s.tile) p) in
-    ap (λ i. slice_index (store_bytes s src) i) e
-    ∙ get_or-append-add (header_bytes s) (flat_map (tile_bytes s src) (range_with_len 0 (pages_of s))) (p * tile_length s + (j * 3 + c)) 0
-    ∙ span_at (tile_bytes s src) 0 (pages_of s) (tile_length s) p (j * 3 + c) 0 (length-tile s src) page (omega arith)
-    ∙ ap (λ q. slice_index (tile_bytes s src q) (j * 3 + c)) z
-    ∙ tile_at s src p j c inside h
-
--- the texel of a tile is the source's
-place_inside : (s : Shape) (x y : ℕ) → 1 ≤ s.tile → y % s.tile * s.tile + x % s.tile < s.tile * s.tile
+place_inside : (s : Shape) (x y : ℕ) → 1 ≤ s.tile → y % s.tile * s.tile + x % s.tile < tile_area s
 place_inside s x y some = mul-add-lt (y % s.tile) s.tile (x % s.tile) s.tile (mod_below y s.tile some) (mod_below x s.tile some)
 
+-- the texel of a tile is the source's
 texel_is : (s : Shape) (src : Source) (k x y : ℕ) → 1 ≤ s.tile → IsInside s k x y
-    → texel_bytes s src (texel_page s k x y) (y % s.tile * s.tile + x % s.tile) ≡ bytes (src k x y)
-unfolding tile_words
+    → tile_word s src (texel_page s k x y) (y % s.tile * s.tile + x % s.tile) ≡ src k x y
 texel_is s src k x y some h =
-    let p = texel_page s k x y in
-    let j = y % s.tile * s.tile + x % s.tile in
-    let f : ℕ → ℕ = λ i. clamped_word s src (name_at s p).level ((name_at s p).col * s.tile + i % s.tile) ((name_at s p).row * s.tile + i / s.tile) in
-    ap bytes (sym (get_or-map-range_with_len f 0 (s.tile * s.tile) j j 0 (place_inside s x y some) (omega arith))
-    ∙ (tiles_hold_places s some src k x y h).1)
-
-word_back : (w : ℕ) → w < 2 ^ 24 → word (red w) (green w) (blue w) ≡ w
-word_back w small = omega arith
+    sym (tile_word_is s src (texel_page s k x y) (y % s.tile * s.tile + x % s.tile) (place_inside s x y some))
+    ∙ (tiles_hold_places s some src k x y h).1
 
 pub stores_hold_sources : StoresHoldSources
 unfolding stored
-stores_hold_sources s src k x y accepted h small =
+stores_hold_sources s d src k x y depth accepted h small =
     let some : 1 ≤ s.tile = (accepted_small s accepted).some_tile in
     let p = texel_page s k x y in
     let j = y % s.tile * s.tile + x % s.tile in
-    let inside : j < s.tile * s.tile = place_inside s x y some in
-    let page : p < pages_of s = (texel_is_page s k x y some h).inside in
-    let texel = texel_is s src k x y some h in
-    let zero : 16 + 3 * (s.tile * s.tile * p + j) ≡ 16 + 3 * (s.tile * s.tile * p + j) + 0 = omega arith in
-    let r : slice_index (store_bytes s src) (16 + 3 * (s.tile * s.tile * p + j)) ≡ red (src k x y) =
-    ap (λ i. slice_index (store_bytes s src) i) zero ∙ store_at s src p j 0 page inside (omega arith)
-    ∙ ap (λ l. slice_index l 0) texel in
-    let g : slice_index (store_bytes s src) (16 + 3 * (s.tile * s.tile * p + j) + 1) ≡ green (src k x y) =
-    store_at s src p j 1 page inside (omega arith) ∙ ap (λ l. slice_index l 1) texel in
-    let b : slice_index (store_bytes s src) (16 + 3 * (s.tile * s.tile * p + j) + 2) ≡ blue (src k x y) =
-    store_at s src p j 2 page inside (omega arith) ∙ ap (λ l. slice_index l 2) texel in
-    rw (store_shape s src accepted, r, g, b) (word_back (src k x y) small)
+    let z : 0 + p ≡ p = omega arith in
+    let piece : piece_at (texel_length d) (tiles_bytes s d src 0 (pages_of s)) (p * tile_area s + j) ≡ word_bytes d (src k x y) =
+    tiles_piece s d src 0 (pages_of s) p j depth (texel_is_page s k x y some h).inside (place_inside s x y some)
+    ∙ ap (λ q. word_bytes d (tile_word s src q j)) z ∙ ap (word_bytes d) (texel_is s src k x y some h) in
+    rw (store_shape s d src depth accepted, store_depth_is s d src depth, store_texels s d src depth)
+    (word_same d (tiles_bytes s d src 0 (pages_of s)) (word_bytes d (src k x y)) (p * tile_area s + j) 0
+    (piece ∙ sym (word_piece d (src k x y) depth))
+    ∙ bytes_make_word d (src k x y) depth small)
 
 -- and so the words of a texture's chain
 pub stores_hold_chains : StoresHoldChains
 stores_hold_chains b texture tile k x y image accepted inside =
-    stores_hold_sources (shape_of texture.width texture.height tile) (chain (texel_of texture) texture.width texture.height) k x y accepted inside
-    (chain_words_are_small texture k x y (image_of_bytes b texture image))
+    stores_hold_sources (shape_of texture.width texture.height tile) texture.depth
+    (chain texture.depth (texel_of texture) texture.width texture.height) k x y
+    image.image.depth accepted inside (chain_words_are_small texture k x y image.image.depth (image_of_bytes b texture image))
+
+dropped_bytes : (b : List ℕ) (k : ℕ) → AreBytes b → AreBytes (drop k b)
+dropped_bytes b k are = λ i d h. rw (get_or-drop k b i d) (are (k + i) d (omega (arith, length-drop k b)))
 
 pub stored_words_are_small : StoredWordsAreSmall
 unfolding stored
 stored_words_are_small b k x y bytes =
-    let all : HasBytes b = bytes_at_all b bytes in
-    word_small _ _ _ (all.below _) (all.below _) (all.below _)
+    words_small (store_depth b) (drop header_length b) (texel_number (header_shape b) k x y) (told_depth b) (dropped_bytes b header_length bytes)
 
 -- a byte of a piece
-piece_at : (b tile : List ℕ) (at n i : ℕ) → IsPiece b at tile → length tile ≡ n → i < n → slice_index tile i ≡ slice_index b (at + i)
-piece_at b tile at n i piece full h = ap (λ l. slice_index l i) piece.same
+byte_of_piece : (b tile : List ℕ) (at n i : ℕ) → IsPiece b at tile → length tile ≡ n → i < n → slice_index tile i ≡ slice_index b (at + i)
+byte_of_piece b tile at n i piece full h = ap (λ l. slice_index l i) piece.same
     ∙ get_or-take (length tile) (drop at b) i 0 (omega arith) ∙ get_or-drop at b i 0
+
+-- a texel of a piece that has the place of some tiles
+pub texel_of_piece : (b tiles : List ℕ) (area z p count j : ℕ) → IsPiece b (header_length + p * (area * z)) tiles
+    → length tiles ≡ count * (area * z) → j < count * area → piece_at z tiles j ≡ piece_at z (drop header_length b) (p * area + j)
+texel_of_piece b tiles area z p count j piece full h = bytes_same tiles (drop header_length b) (z * j) (z * (p * area + j)) z
+    (λ c q. byte_of_piece b tiles (header_length + p * (area * z)) (count * (area * z)) (z * j + c) piece full (place_in z count area j c h q)
+    ∙ ap (slice_index b) (let e : header_length + p * (area * z) + (z * j + c) ≡ header_length + (z * (p * area + j) + c) = omega arith in e)
+    ∙ sym (get_or-drop header_length b (z * (p * area + j) + c) 0))
 
 pub pieces_hold_texels : PiecesHoldTexels
 unfolding stored
-pieces_hold_texels s b tile k x y store h piece full =
+pieces_hold_texels s d b tile k x y store h piece full =
     let accepted : refusal_of s ≡ None = ap refusal_of (sym store.shape_is) ∙ whole_shape b (length b) store.no_flaw in
     let some : 1 ≤ s.tile = (accepted_small s accepted).some_tile in
-    let p = texel_page s k x y in
     let j = y % s.tile * s.tile + x % s.tile in
-    let inside : j < s.tile * s.tile = place_inside s x y some in
-    let e : tile_start s p + 3 * j ≡ 16 + 3 * (s.tile * s.tile * p + j) = omega (arith, area_place (s.tile * s.tile) p) in
-    let e1 : tile_start s p + (3 * j + 1) ≡ 16 + 3 * (s.tile * s.tile * p + j) + 1 = omega arith in
-    let e2 : tile_start s p + (3 * j + 2) ≡ 16 + 3 * (s.tile * s.tile * p + j) + 2 = omega arith in
-    let r : slice_index tile (3 * j) ≡ slice_index b (16 + 3 * (s.tile * s.tile * p + j)) =
-    piece_at b tile (tile_start s p) (tile_length s) (3 * j) piece full (omega arith) ∙ ap (λ i. slice_index b i) e in
-    let g : slice_index tile (3 * j + 1) ≡ slice_index b (16 + 3 * (s.tile * s.tile * p + j) + 1) =
-    piece_at b tile (tile_start s p) (tile_length s) (3 * j + 1) piece full (omega arith) ∙ ap (λ i. slice_index b i) e1 in
-    let l : slice_index tile (3 * j + 2) ≡ slice_index b (16 + 3 * (s.tile * s.tile * p + j) + 2) =
-    piece_at b tile (tile_start s p) (tile_length s) (3 * j + 2) piece full (omega arith) ∙ ap (λ i. slice_index b i) e2 in
-    rw (store.shape_is, r, g, l) refl
+    let inside : j < 1 * tile_area s = omega (arith, place_inside s x y some) in
+    let whole : length tile ≡ 1 * tile_length s d = omega (arith, full) in
+    rw (store.shape_is, store.depth_is)
+    (word_same d tile (drop header_length b) j (texel_page s k x y * tile_area s + j)
+    (texel_of_piece b tile (tile_area s) (texel_length d) (texel_page s k x y) 1 j piece whole inside))

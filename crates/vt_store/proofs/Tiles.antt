@@ -1,22 +1,22 @@
 -- The tiles of pages as bytes.
-use Rattle.std.proofs.Common.{◌≡◌, ℕ, zero, suc, ◌+◌, ◌-◌, ◌*◌, ◌/◌, ◌%◌, ◌<◌, ◌≤◌, ◌⊎◌, inl, inr, List, length, get_or, min, refl, sym, ap, ◌∙◌, subst, arith}
-use Rattle.std.proofs.lemmas.List.{ext_get_or}
-use Rattle.std.proofs.lemmas.List.Folds.{flat_map-map}
+use Rattle.std.proofs.Common.{◌≡◌, ℕ, zero, suc, ◌+◌, ◌-◌, ◌*◌, ◌/◌, ◌%◌, ◌<◌, ◌≤◌, ◌⊎◌, inl, inr, List, length, min, refl, sym, ap, ◌∙◌, subst, arith}
+use Rattle.std.proofs.lemmas.List.FromFn.{get_or-map-range_with_len, length-map-range_with_len}
 use Rattle.std.proofs.lemmas.Nat.{mod-mul-add, div-mul-add, mul-le, div-add-mod', div_below, mod_below, le-div}
 use Rattle.std.proofs.Math.Nat.{div-mul-le_self}
-use Rattle.std.specs.Prelude.{flat_map, slice_index}
-use Rattle.std.specs.List.{range_with_len}
+use Rattle.std.specs.Prelude.{slice_index}
+use Rattle.vt_definitions.specs.Depths.{IsDepth, texel_length, word_bytes}
 use Rattle.vt_definitions.specs.Sides.{side}
-use Rattle.vt_definitions.specs.Texels.{Source, bytes}
-use Rattle.vt_mip.specs.Chains.{ChainView, chain_levels, IsTexelRow}
+use Rattle.vt_definitions.specs.Texels.{Source}
+use Rattle.vt_mip.specs.Chains.{ChainView, chain_levels}
 use Rattle.vt_pages.specs.declared.PageName.{PageName}
 use Rattle.vt_pages.specs.Shape.{Shape}
 use Rattle.vt_pages.specs.Pages.{IsPage, IsWithinLimits, levels_of, rows_at, columns_at, pages_of, index_at, index_of, name_at, clamped_word, tile_words}
 use Rattle.vt_pages.proofs.Counts.{lt_up, side_most}
 use Rattle.vt_pages.proofs.Names.{index_at_below, name_at-index}
-use Rattle.vt_store.specs.Format.{tile_bytes, tiles_bytes, tile_length}
+use Rattle.vt_store.specs.Format.{tile_area, tile_bytes, tiles_bytes, tile_length}
 use Rattle.vt_store.specs.ChainStores.{HasShape}
-use Rattle.vt_store.specs.TileLines.{HasLines, GainsLine, clamped_sample, texel_bytes}
+use Rattle.vt_store.specs.TileLines.{HasLines, GainsLine, piece_at, tile_piece, tile_word}
+use Rattle.vt_store.proofs.Pieces.{bytes_same, piece_end, place_in, same_pieces, words_length, words_piece}
 use Rattle.vt_store.proofs.Spans.{span_length, span_at}
 
 pub columns_are : (s : Shape) (k w t : ℕ) → w ≡ side s.width k → t ≡ s.tile → (w + t - 1) / t ≡ columns_at s k
@@ -39,60 +39,80 @@ row_inside s n is =
     index_at_below s n.level (columns_at s n.level - 1) n.row is.level_inside (omega (arith, is.col_inside)) is.row_inside in
     omega (arith, last, is.col_inside)
 
--- the tile as the bytes of its texels
-pub tile_texels : (s : Shape) (src : Source) (p : ℕ) → tile_bytes s src p ≡ flat_map (texel_bytes s src p) (range_with_len 0 (s.tile * s.tile))
-unfolding tile_bytes tile_words
-tile_texels s src p = flat_map-map bytes
-    (λ i. clamped_word s src (name_at s p).level ((name_at s p).col * s.tile + i % s.tile)
-    ((name_at s p).row * s.tile + i / s.tile)) (range_with_len 0 (s.tile * s.tile))
+-- the words of a tile, by their places
+pub tile_word_is : (s : Shape) (src : Source) (p i : ℕ) → i < tile_area s → slice_index (tile_words s src p) i ≡ tile_word s src p i
+unfolding tile_words
+tile_word_is s src p i inside =
+    let f : ℕ → ℕ = λ i. clamped_word s src (name_at s p).level ((name_at s p).col * s.tile + i % s.tile) ((name_at s p).row * s.tile + i / s.tile) in
+    get_or-map-range_with_len f 0 (tile_area s) i i 0 inside (omega arith)
 
-pub length-tile : (s : Shape) (src : Source) (p : ℕ) → length (tile_bytes s src p) ≡ tile_length s
-length-tile s src p = ap length (tile_texels s src p) ∙ span_length (texel_bytes s src p) 0 (s.tile * s.tile) 3 (λ i. refl)
+words_are_many : (s : Shape) (src : Source) (p : ℕ) → length (tile_words s src p) ≡ tile_area s
+unfolding tile_words
+words_are_many s src p =
+    length-map-range_with_len (λ i. clamped_word s src (name_at s p).level ((name_at s p).col * s.tile + i % s.tile)
+    ((name_at s p).row * s.tile + i / s.tile)) 0 (tile_area s)
 
--- a byte of a page's tile
-pub tile_at : (s : Shape) (src : Source) (p j c : ℕ) → j < s.tile * s.tile → c < 3
-    → slice_index (tile_bytes s src p) (j * 3 + c) ≡ slice_index (texel_bytes s src p j) c
-tile_at s src p j c inside h =
-    let z : 0 + j ≡ j = omega arith in
-    ap (λ l. slice_index l (j * 3 + c)) (tile_texels s src p)
-    ∙ span_at (texel_bytes s src p) 0 (s.tile * s.tile) 3 j c 0 (λ i. refl) inside h ∙ ap (λ i. slice_index (texel_bytes s src p i) c) z
+pub length-tile : (s : Shape) (d : ℕ) (src : Source) (p : ℕ) → IsDepth d → length (tile_bytes s d src p) ≡ tile_length s d
+unfolding tile_bytes
+length-tile s d src p depth =
+    let many : texel_length d * length (tile_words s src p) ≡ texel_length d * tile_area s = ap (λ n. texel_length d * n) (words_are_many s src p) in
+    omega (arith, words_length d (tile_words s src p) depth, many)
 
--- a sample of a tile among others that lie side by side
-tiles_sample : (s : Shape) (src : Source) (first count t i c : ℕ) → t < count → i < s.tile * s.tile → c < 3
-    → slice_index (tiles_bytes s src first count) (t * tile_length s + (i * 3 + c)) ≡ slice_index (texel_bytes s src (first + t) i) c
+-- the texels of a page's tile
+pub tile_texel : (s : Shape) (d : ℕ) (src : Source) (p i : ℕ) → IsDepth d → i < tile_area s
+    → piece_at (texel_length d) (tile_bytes s d src p) i ≡ word_bytes d (tile_word s src p i)
+unfolding tile_bytes
+tile_texel s d src p i depth inside =
+    words_piece d (tile_words s src p) i depth (omega (arith, words_are_many s src p)) ∙ ap (word_bytes d) (tile_word_is s src p i inside)
+
+pub tiles_bytes_length : (s : Shape) (d : ℕ) (src : Source) (first count : ℕ) → IsDepth d
+    → length (tiles_bytes s d src first count) ≡ count * tile_length s d
 unfolding tiles_bytes
-tiles_sample s src first count t i c p q r =
-    let inside : i * 3 + c < tile_length s = omega (arith, mul-le (i + 1) 3 (s.tile * s.tile) 3 (omega arith) (omega arith)) in
-    span_at (tile_bytes s src) first count (tile_length s) t (i * 3 + c) 0 (length-tile s src) p inside ∙ tile_at s src (first + t) i c q r
+tiles_bytes_length s d src first count depth =
+    span_length (tile_bytes s d src) first count (tile_length s d) (λ p. length-tile s d src p depth)
 
-tiles_bytes_length : (s : Shape) (src : Source) (first count : ℕ) → length (tiles_bytes s src first count) ≡ count * tile_length s
+-- a texel of a tile among others that lie side by side
+pub tiles_piece : (s : Shape) (d : ℕ) (src : Source) (first count t i : ℕ) → IsDepth d → t < count → i < tile_area s
+    → piece_at (texel_length d) (tiles_bytes s d src first count) (t * tile_area s + i) ≡ word_bytes d (tile_word s src (first + t) i)
 unfolding tiles_bytes
-tiles_bytes_length s src first count = span_length (tile_bytes s src) first count (tile_length s) (length-tile s src)
+tiles_piece s d src first count t i depth p q =
+    let z = texel_length d in
+    bytes_same (tiles_bytes s d src first count) (tile_bytes s d src (first + t)) (z * (t * tile_area s + i)) (z * i) z
+    (λ c h. ap (slice_index (tiles_bytes s d src first count))
+    (let e : z * (t * tile_area s + i) + c ≡ t * tile_length s d + (z * i + c) = omega arith in e)
+    ∙ span_at (tile_bytes s d src) first count (tile_length s d) t (z * i + c) 0 (λ n. length-tile s d src n depth) p
+    (let e : z * i + c < 1 * (tile_area s * z) = place_in z 1 (tile_area s) i c (omega arith) h in omega arith))
+    ∙ tile_texel s d src (first + t) i depth q
 
 -- tiles that have all their lines are those of their pages
-pub tiles_are : (s : Shape) (src : Source) (first count : ℕ) (tiles : List ℕ) → 1 ≤ s.tile
-    → length tiles ≡ count * tile_length s → HasLines s src first count s.tile tiles → tiles ≡ tiles_bytes s src first count
-tiles_are s src first count tiles some full lines =
-    ext_get_or 0 tiles (tiles_bytes s src first count) (full ∙ sym (tiles_bytes_length s src first count))
-    (λ m below. each m (omega arith)) where
-      positive : 1 ≤ tile_length s
-      positive = omega (arith, mul-le 1 1 s.tile s.tile some some)
+pub tiles_are : (s : Shape) (d : ℕ) (src : Source) (first count : ℕ) (tiles : List ℕ) → IsDepth d → 1 ≤ s.tile
+    → length tiles ≡ count * tile_length s d → HasLines s d src first count s.tile tiles → tiles ≡ tiles_bytes s d src first count
+tiles_are s d src first count tiles depth some full lines =
+    same_pieces (texel_length d) (count * tile_area s) tiles (tiles_bytes s d src first count) (longer d depth)
+    (turned (length tiles) full) (turned (length (tiles_bytes s d src first count)) (tiles_bytes_length s d src first count depth))
+    (λ m below. each m below) where
+      longer : (d : ℕ) → IsDepth d → 1 ≤ texel_length d
+      longer d (inl one) = omega arith
+      longer d (inr two) = omega arith
 
-      each : (m : ℕ) → m < count * tile_length s → get_or tiles m 0 ≡ get_or (tiles_bytes s src first count) m 0
+      turned : (n : ℕ) → n ≡ count * tile_length s d → n ≡ texel_length d * (count * tile_area s)
+      turned n e = omega (arith, e)
+
+      area : 1 ≤ tile_area s
+      area = omega (arith, mul-le 1 1 s.tile s.tile some some)
+
+      each : (m : ℕ) → m < count * tile_area s
+          → piece_at (texel_length d) tiles m ≡ piece_at (texel_length d) (tiles_bytes s d src first count) m
       each m below =
-          let t = m / tile_length s in
-          let i = m % tile_length s / 3 in
-          let c = m % tile_length s % 3 in
-          let split : m ≡ t * tile_length s + (i * 3 + c) = omega (arith, div-add-mod' m (tile_length s)) in
-          let turned : t * tile_length s + (i * 3 + c) ≡ t * tile_length s + (3 * i + c) = omega arith in
-          let tile : t < count = div_below m (tile_length s) count positive below in
-          let part : m % tile_length s < tile_length s = mod_below m (tile_length s) positive in
-          let texel : i < s.tile * s.tile = omega arith in
-          let sample : c < 3 = omega arith in
-          ap (λ k. get_or tiles k 0) (split ∙ turned)
-          ∙ lines.each t i c tile texel sample
-          ∙ sym (tiles_sample s src first count t i c tile texel sample)
-          ∙ ap (λ k. get_or (tiles_bytes s src first count) k 0) (sym split)
+          let t = m / tile_area s in
+          let i = m % tile_area s in
+          let split : m ≡ t * tile_area s + i = omega (arith, div-add-mod' m (tile_area s)) in
+          let tile : t < count = div_below m (tile_area s) count area below in
+          let texel : i < tile_area s = mod_below m (tile_area s) area in
+          ap (piece_at (texel_length d) tiles) split
+          ∙ lines.each t i tile texel
+          ∙ sym (tiles_piece s d src first count t i depth tile texel)
+          ∙ ap (piece_at (texel_length d) (tiles_bytes s d src first count)) (sym split)
 
 -- the names of the pages of a row of tiles
 pub name_along : (s : Shape) (first t : ℕ) (name : PageName) → IsPage s name → index_of s name ≡ first
@@ -102,57 +122,41 @@ name_along s first t name is e below =
     let along : first + t ≡ index_at s name.level (name.col + t) name.row = omega (arith, e) in
     ap (name_at s) along ∙ name_at-index s name.level (name.col + t) name.row is.level_inside below is.row_inside
 
-of_three : (P : ℕ → Type 0) → P 0 → P 1 → P 2 → (c : ℕ) → c < 3 → P c
-of_three P a b d zero h = a
-of_three P a b d (suc zero) h = b
-of_three P a b d (suc (suc zero)) h = d
-of_three P a b d (suc (suc (suc c))) h = absurd (let no : ⊥ = omega arith in no)
-
--- the samples of a texel of a row are those of its word
-word_sample : (word_at : ℕ → ℕ) (columns x c : ℕ) (row : List ℕ) → 1 ≤ columns → IsTexelRow word_at columns row → c < 3
-    → clamped_sample row x c ≡ slice_index (bytes (word_at (min x (columns - 1)))) c
-word_sample word_at columns x c row some is few =
-    let e : length row / 3 ≡ columns = omega (arith, is.full) in
-    let inside : min x (columns - 1) < columns = omega arith in
-    let P : ℕ → Type 0 = λ k. slice_index row (3 * min x (columns - 1) + k) ≡ slice_index (bytes (word_at (min x (columns - 1)))) k in
-    let z : 3 * min x (columns - 1) + 0 ≡ 3 * min x (columns - 1) = omega arith in
-    ap (λ n. slice_index row (3 * min x (n - 1) + c)) e
-    ∙ of_three P (ap (λ n. slice_index row n) z ∙ is.red_at (min x (columns - 1)) inside)
-    (is.green_at (min x (columns - 1)) inside) (is.blue_at (min x (columns - 1)) inside) c few
-
-pub no_lines : (s : Shape) (src : Source) (first count : ℕ) (tiles : List ℕ) → HasLines s src first count 0 tiles
-no_lines s src first count tiles = record { each = λ t i c p q r. absurd (let no : ⊥ = omega arith in no) }
+pub no_lines : (s : Shape) (d : ℕ) (src : Source) (first count : ℕ) (tiles : List ℕ) → HasLines s d src first count 0 tiles
+no_lines s d src first count tiles = record { each = λ t i p q. absurd (let no : ⊥ = omega arith in no) }
 
 -- one line more
-pub next_line : (s : Shape) (src : Source) (first count line y w h t' : ℕ) (name : PageName) (row before after : List ℕ)
-    → t' ≡ s.tile → w ≡ side s.width name.level → h ≡ side s.height name.level → 1 ≤ w → y ≡ min (name.row * t' + line) (h - 1)
-    → IsPage s name → index_of s name ≡ first → name.col + count ≤ columns_at s name.level → IsTexelRow (λ x. src name.level x y) w row
-    → GainsLine row t' name.col line count count before after → HasLines s src first count line before → HasLines s src first count (line + 1) after
-next_line s src first count line y w h' t' name row before after et ew eh some ey is e inside texels gained lines = record {
-  each = λ t i c p q r. each t i c p q r (grind arith);
+pub next_line : (s : Shape) (d : ℕ) (src : Source) (first count line y w h t' z : ℕ) (name : PageName) (row before after : List ℕ)
+    → t' ≡ s.tile → z ≡ texel_length d → w ≡ side s.width name.level → h ≡ side s.height name.level → 1 ≤ w → y ≡ min (name.row * t' + line) (h - 1)
+    → IsPage s name → index_of s name ≡ first → name.col + count ≤ columns_at s name.level
+    → ((x : ℕ) → x < w → piece_at (texel_length d) row x ≡ word_bytes d (src name.level x y))
+    → GainsLine z row w t' name.col line count count before after → HasLines s d src first count line before
+    → HasLines s d src first count (line + 1) after
+next_line s d src first count line y w h' t' z name row before after et ez ew eh some ey is e inside texels gained lines = record {
+  each = λ t i p q. each t i p q (grind arith);
 } where
-  same : GainsLine row s.tile name.col line count count before after
-  same = (let P : ℕ → Type 0 = λ n. GainsLine row n name.col line count count before after in subst P et gained)
+  same : GainsLine (texel_length d) row w s.tile name.col line count count before after
+  same = (let P : ℕ → ℕ → Type 0 = λ m n. GainsLine m row w n name.col line count count before after in
+      subst (λ (m : ℕ). P m s.tile) ez (subst (P z) et gained))
 
-  each : (t i c : ℕ) → t < count → i < (line + 1) * s.tile → c < 3 → (i < line * s.tile) ⊎ (line * s.tile ≤ i)
-      → slice_index after (t * tile_length s + (3 * i + c)) ≡ slice_index (texel_bytes s src (first + t) i) c
-  each t i c p q r (inl h) = same.kept t i c p h r ∙ lines.each t i c p h r
-  each t i c p q r (inr h) =
+  each : (t i : ℕ) → t < count → i < (line + 1) * s.tile → (i < line * s.tile) ⊎ (line * s.tile ≤ i)
+      → tile_piece (texel_length d) s.tile after t i ≡ word_bytes d (tile_word s src (first + t) i)
+  each t i p q (inl h) = same.kept t i p h ∙ lines.each t i p h
+  each t i p q (inr h) =
       let x = i - line * s.tile in
       let short : x < s.tile = omega arith in
       let place : i ≡ line * s.tile + x = omega arith in
       let across : i % s.tile ≡ x = ap (λ n. n % s.tile) place ∙ mod-mul-add line s.tile x short in
       let down : i / s.tile ≡ line = ap (λ n. n / s.tile) place ∙ div-mul-add line s.tile x short in
-      ap (λ n. slice_index after (t * tile_length s + (3 * n + c))) place
-      ∙ same.here t x c p short r
-      ∙ word_sample (λ x. src name.level x y) w ((name.col + t) * s.tile + x) c row some texels r
-      ∙ ap (λ n. slice_index (bytes (src name.level (min ((name.col + t) * s.tile + x) (n - 1)) y)) c) ew
-      ∙ ap (λ n. slice_index (bytes (src name.level (min ((name.col + t) * s.tile + x) (side s.width name.level - 1)) n)) c)
+      ap (λ n. tile_piece (texel_length d) s.tile after t n) place
+      ∙ same.here t x p short
+      ∙ texels (min ((name.col + t) * s.tile + x) (w - 1)) (omega arith)
+      ∙ ap (λ n. word_bytes d (src name.level (min ((name.col + t) * s.tile + x) (n - 1)) y)) ew
+      ∙ ap (λ n. word_bytes d (src name.level (min ((name.col + t) * s.tile + x) (side s.width name.level - 1)) n))
       (ey ∙ ap (λ n. min (name.row * n + line) (h' - 1)) et ∙ ap (λ n. min (name.row * s.tile + line) (n - 1)) eh)
-      ∙ ap (λ n. slice_index (bytes (clamped_word s src name.level ((name.col + t) * s.tile + n) (name.row * s.tile + line))) c) (sym across)
-      ∙ ap (λ n. slice_index (bytes (clamped_word s src name.level ((name.col + t) * s.tile + i % s.tile) (name.row * s.tile + n))) c) (sym down)
-      ∙ ap (λ (n : PageName). slice_index (bytes
-      (clamped_word s src n.level (n.col * s.tile + i % s.tile) (n.row * s.tile + i / s.tile))) c)
+      ∙ ap (λ n. word_bytes d (clamped_word s src name.level ((name.col + t) * s.tile + n) (name.row * s.tile + line))) (sym across)
+      ∙ ap (λ n. word_bytes d (clamped_word s src name.level ((name.col + t) * s.tile + i % s.tile) (name.row * s.tile + n))) (sym down)
+      ∙ ap (λ (n : PageName). word_bytes d (clamped_word s src n.level (n.col * s.tile + i % s.tile) (n.row * s.tile + i / s.tile)))
       (sym (name_along s first t name is e (omega arith)))
 
 -- a level of the pages is one of the chain
@@ -174,11 +178,12 @@ columns_small s k zero t limits h e = omega arith
 columns_small s k (suc n) t limits h e = omega (arith, column_small s k n t limits h e, limits.most_tile)
 
 -- it begins inside a row of texels
-pub column_begins : (s : Shape) (k c t n w : ℕ) → IsWithinLimits s → c < columns_at s k → t ≡ s.tile → w ≡ side s.width k → n ≡ 3 * w → c * t < n / 3
+pub column_begins : (s : Shape) (k c t n w z : ℕ) → IsWithinLimits s → c < columns_at s k → t ≡ s.tile → w ≡ side s.width k → n ≡ z * w
+    → z * (c * t) + z ≤ n
 unfolding columns_at
-column_begins s k c t n w limits h e wide full =
+column_begins s k c t n w z limits h e wide full =
     let here : c * s.tile < side s.width k = lt_up (side s.width k) s.tile c (omega (arith, limits.least_tile)) h in
-    rw (e, full, wide) (omega arith)
+    rw (e, full, wide) (piece_end z (c * s.tile) (side s.width k) here)
 
 -- and a row of pages
 pub row_small : (s : Shape) (k r t : ℕ) → IsWithinLimits s → r < rows_at s k → t ≡ s.tile → r * t < 8192

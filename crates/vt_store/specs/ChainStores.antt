@@ -9,10 +9,12 @@ use Rattle.vt_store.specs.Format.{store_bytes}
 pub record HasShape (chain : ChainView) (shape : Shape) : Type 0 where
   pub same : shape_of chain.base.width chain.base.height chain.tile ≡ shape
 
--- the store of a mip chain
+-- the store of a mip chain, at its depth
 abbrev pub chain_store : ChainView → Shape → List ℕ
-chain_store chain shape = store_bytes shape (chain_texel chain)
+chain_store chain shape = store_bytes shape chain.base.depth (chain_texel chain)
 
 -- the store of a texture's mip chain, in tiles of a side
 abbrev pub texture_store : ImageView → ℕ → List ℕ
-texture_store texture tile = store_bytes (shape_of texture.width texture.height tile) (chain (texel_of texture) texture.width texture.height)
+texture_store texture tile =
+    store_bytes (shape_of texture.width texture.height tile) texture.depth
+    (chain texture.depth (texel_of texture) texture.width texture.height)

@@ -5,3 +5,4 @@ pub mod StoreViews
 pub mod Places
 pub mod Refusals
 pub mod TileLines
+pub mod Widening

@@ -1,32 +1,40 @@
--- The lines of tiles that lie side by side in memory.
-use Rattle.std.specs.Prelude.{◌≡◌, ℕ, ◌+◌, ◌-◌, ◌*◌, ◌/◌, ◌%◌, ◌<◌, List, length, min, slice_index}
-use Rattle.vt_definitions.specs.Texels.{Source, bytes}
+-- The lines of tiles that lie side by side in memory, in texels of so many bytes.
+use Rattle.std.specs.Prelude.{◌≡◌, ℕ, ◌+◌, ◌-◌, ◌*◌, ◌/◌, ◌%◌, ◌<◌, ◌≤◌, List, length, min, slice_index}
+use Rattle.vt_definitions.specs.Depths.{texel_length, word_bytes, bytes_from}
+use Rattle.vt_definitions.specs.Texels.{Source}
 use Rattle.vt_pages.specs.Shape.{Shape}
 use Rattle.vt_pages.specs.Pages.{name_at, clamped_word}
 
--- a sample of a row, by the column of its texel, or of the row's last texel where the column is past it, and its channel
-abbrev pub clamped_sample : List ℕ → ℕ → ℕ → ℕ
-clamped_sample row x c = slice_index row (3 * min x (length row / 3 - 1) + c)
+-- texel number i of bytes, where each has so many
+abbrev pub piece_at : ℕ → List ℕ → ℕ → List ℕ
+piece_at size bytes i = bytes_from bytes (size * i) size
 
--- the samples of so many texels of a row from a column on
-pub record IsSpan (row : List ℕ) (first count : ℕ) (out : List ℕ) : Type 0 where
-  pub each : (x c : ℕ) → x < count → c < 3 → slice_index out (3 * x + c) ≡ clamped_sample row (first + x) c
+-- bytes that are a texel again and again, as often as they have room for it
+pub record IsFilled (texel out : List ℕ) : Type 0 where
+  pub each : (x c : ℕ) → c < length texel → length texel * x + length texel ≤ length out
+      → slice_index out (length texel * x + c) ≡ slice_index texel c
 
--- a sample of tiles of a side, by the tile, the place of its texel in the tile and its channel
-abbrev pub tile_sample : ℕ → List ℕ → ℕ → ℕ → ℕ → ℕ
-tile_sample side tiles t i c = slice_index tiles (t * (side * side * 3) + (3 * i + c))
+-- so many texels of a row from a column on, and past the row's last column its last texel
+pub record IsSpan (size : ℕ) (row : List ℕ) (columns first count : ℕ) (out : List ℕ) : Type 0 where
+  pub each : (x : ℕ) → x < count → piece_at size out x ≡ piece_at size row (min (first + x) (columns - 1))
+
+-- a texel of tiles of a side, by the tile and its place in the tile
+abbrev pub tile_piece : ℕ → ℕ → List ℕ → ℕ → ℕ → List ℕ
+tile_piece size side tiles t i = piece_at size tiles (t * (side * side) + i)
 
 -- the first n of so many tiles gained a line, from a row of texels and a column of tiles on; the lines before it are as they were
-pub record GainsLine (row : List ℕ) (side column line count n : ℕ) (before after : List ℕ) : Type 0 where
-  pub here : (t x c : ℕ) → t < n → x < side → c < 3 → tile_sample side after t (line * side + x) c ≡ clamped_sample row ((column + t) * side + x) c
-  pub kept : (t i c : ℕ) → t < count → i < line * side → c < 3 → tile_sample side after t i c ≡ tile_sample side before t i c
+pub record GainsLine (size : ℕ) (row : List ℕ) (columns side column line count n : ℕ) (before after : List ℕ) : Type 0 where
+  pub here : (t x : ℕ) → t < n → x < side
+      → tile_piece size side after t (line * side + x) ≡ piece_at size row (min ((column + t) * side + x) (columns - 1))
+  pub kept : (t i : ℕ) → t < count → i < line * side → tile_piece size side after t i ≡ tile_piece size side before t i
 
--- the bytes of a texel of a page's tile, by its place in the tile
-abbrev pub texel_bytes : Shape → Source → ℕ → ℕ → List ℕ
-texel_bytes s src p i =
+-- the word of a texel of a page's tile, by its place in the tile
+abbrev pub tile_word : Shape → Source → ℕ → ℕ → ℕ
+tile_word s src p i =
     let n = name_at s p in
-    bytes (clamped_word s src n.level (n.col * s.tile + i % s.tile) (n.row * s.tile + i / s.tile))
+    clamped_word s src n.level (n.col * s.tile + i % s.tile) (n.row * s.tile + i / s.tile)
 
 -- the first lines of the tiles of so many pages from one on
-pub record HasLines (s : Shape) (src : Source) (first count lines : ℕ) (tiles : List ℕ) : Type 0 where
-  pub each : (t i c : ℕ) → t < count → i < lines * s.tile → c < 3 → tile_sample s.tile tiles t i c ≡ slice_index (texel_bytes s src (first + t) i) c
+pub record HasLines (s : Shape) (d : ℕ) (src : Source) (first count lines : ℕ) (tiles : List ℕ) : Type 0 where
+  pub each : (t i : ℕ) → t < count → i < lines * s.tile
+      → tile_piece (texel_length d) s.tile tiles t i ≡ word_bytes d (tile_word s src (first + t) i)

@@ -8,7 +8,7 @@ use vt_outside::{Failed, NoMemory, OutsideError};
 /// Why a store was not opened or not written.
 #[derive(Clone, Copy, Debug, PartialEq, Eq, Error)]
 pub enum StoreError {
-    /// The first four bytes are not `VTS1`.
+    /// The first four bytes are neither `VTS1` nor `VTS2`.
     #[error("bad magic")]
     BadMagic,
     /// The header's three numbers make no geometry of pages.

@@ -5,6 +5,7 @@ mod error;
 mod header;
 mod laws;
 mod store;
+mod widen;
 mod write;
 
 pub use error::StoreError;
@@ -13,7 +14,8 @@ pub use laws::{
     pieces_hold_texels, stored_words_are_small, stores_hold_chains, stores_hold_sources,
     stores_open,
 };
-pub use store::Store;
+pub use store::{Store, Stores};
+pub use widen::widen_store;
 pub use write::{tile_columns, write_store};
 
 #[cfg(test)]

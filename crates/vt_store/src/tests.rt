@@ -1,4 +1,6 @@
-use crate::{Store, StoreError, store_length, tile_columns, tile_length, write_store};
+use crate::{
+    Store, StoreError, Stores, store_length, tile_columns, tile_length, widen_store, write_store,
+};
 use std::alloc::Global;
 use std::test::Fail as TestFail;
 use vt_mip::Chain;
@@ -34,8 +36,8 @@ fn holds(folder: &MemoryFolder, name: &str, bytes: &[u8]) -> bool {
     }
 }
 
-// The sides and the tile side of the store that a name holds, or why it was refused.
-fn opened(folder: &mut impl Folder, name: &str) -> Result<(u32, u32, u32), StoreError> {
+// The sides, the tile side and the depth of the store that a name holds, or why it was refused.
+fn opened(folder: &mut impl Folder, name: &str) -> Result<(u32, u32, u32, u32), StoreError> {
     let file = match folder.open(name) {
         Ok(file) => file,
         Err(refusal) => return Err(StoreError::from(refusal)),
@@ -43,8 +45,9 @@ fn opened(folder: &mut impl Folder, name: &str) -> Result<(u32, u32, u32), Store
     match Store::open(file) {
         Ok(store) => {
             let geometry = store.geometry();
+            let depth = store.depth();
             folder.close(store.into_file());
-            Ok((geometry.width(), geometry.height(), geometry.tile()))
+            Ok((geometry.width(), geometry.height(), geometry.tile(), depth))
         }
         Err((file, refusal)) => {
             folder.close(file);
@@ -66,6 +69,7 @@ fn tile_of(folder: &mut impl Folder, name: &str, page: u32) -> Option<[u8; 12]> 
     let geometry = store.geometry();
     let mut tile = [0; 12];
     let is_read = geometry.tile() == 2
+        && store.depth() == 1
         && page < geometry.page_count()
         && store.reserve(1).is_ok()
         && store.read_tile(page, &mut tile).is_ok();
@@ -88,7 +92,49 @@ fn image_g4(alloc: Global) -> Result<Image, NoMemory> {
         0, 0, 0, 1, 1, 1, 2, 2, 2, 3, 3, 3, 4, 4, 4, 5, 5, 5, 6, 6, 6, 7, 7, 7, 8, 8, 8, 9, 9, 9,
         10, 10, 10, 11, 11, 11, 12, 12, 12, 13, 13, 13, 14, 14, 14, 15, 15, 15,
     ];
-    Ok(Image::new(4, 4, Vec::from_array(alloc, samples)?))
+    Ok(Image::new(1, 4, 4, Vec::from_array(alloc, samples)?))
+}
+
+// Makes the name `b` hold the store of two-byte samples that is made of the store of one-byte samples that `a` holds.
+fn widened<D: Folder>(alloc: Global, folder: &mut D) -> Result<(), StoreError> {
+    let file = match folder.open("a") {
+        Ok(file) => file,
+        Err(refusal) => return Err(StoreError::from(refusal)),
+    };
+    let mut store = match Store::open(file) {
+        Ok(store) => store,
+        Err((file, refusal)) => {
+            folder.close(file);
+            return Err(refusal);
+        }
+    };
+    let result = if store.depth() == 1 {
+        widen_store(alloc, &mut store, folder, "b")
+    } else {
+        Err(StoreError::BadMagic)
+    };
+    folder.close(store.into_file());
+    result
+}
+
+// How many stores a new list of stores has.
+fn new_list_length<D: Folder>(alloc: Global) -> usize {
+    let stores: Stores<D::File> = Stores::new(alloc);
+    let length = stores.len();
+    stores.destroy_empty();
+    length
+}
+
+// The store that G4 is widened to: the other magic, and behind the header each byte twice.
+fn wide_g4() -> [u8; 136] {
+    let mut wide = [0; 136];
+    wide[..16].copy_from_slice(&STORE_G4[..16]);
+    wide[3] = 0x32;
+    for i in 0..60 {
+        wide[16 + 2 * i] = STORE_G4[16 + i];
+        wide[17 + 2 * i] = STORE_G4[16 + i];
+    }
+    wide
 }
 
 // The name `a` was asked for one place, the header of its bytes.
@@ -111,7 +157,7 @@ fn a_store_is_written_and_read_tile_by_tile(rt: HostRuntime) -> Result<(), TestF
     let image = image_g4(rt.alloc())?;
     written(rt.alloc(), &mut folder, image)?;
     assert!(rt; holds(&folder, "b", &STORE_G4));
-    assert_eq!(rt; opened(&mut folder, "b"), Ok((4, 4, 2)));
+    assert_eq!(rt; opened(&mut folder, "b"), Ok((4, 4, 2, 1)));
     let want = [2, 2, 2, 3, 3, 3, 6, 6, 6, 7, 7, 7];
     assert_eq!(rt; tile_of(&mut folder, "b", 1), Some(want));
     assert_eq!(rt; folder.asked("b", 1), read_of(0, 16));
@@ -123,8 +169,10 @@ fn a_store_is_written_and_read_tile_by_tile(rt: HostRuntime) -> Result<(), TestF
 #[test]
 fn a_geometry_tells_the_lengths_of_its_store(rt: HostRuntime) {
     if let Ok(geometry) = Geometry::new(5, 3, 2) {
-        assert_eq!(rt; store_length(&geometry), 124);
-        assert_eq!(rt; tile_length(&geometry), 12);
+        assert_eq!(rt; store_length(&geometry, 1), 124);
+        assert_eq!(rt; store_length(&geometry, 2), 232);
+        assert_eq!(rt; tile_length(&geometry, 1), 12);
+        assert_eq!(rt; tile_length(&geometry, 2), 24);
         assert_eq!(rt; tile_columns(&geometry, 0), 3);
     }
 }
@@ -132,7 +180,7 @@ fn a_geometry_tells_the_lengths_of_its_store(rt: HostRuntime) {
 #[test]
 fn one_texel_fills_a_tile(rt: HostRuntime) -> Result<(), TestFail> {
     let mut folder = folder_of(rt.alloc(), &[], b"old")?;
-    let image = Image::new(1, 1, Vec::from_array(rt.alloc(), [10, 20, 30])?);
+    let image = Image::new(1, 1, 1, Vec::from_array(rt.alloc(), [10, 20, 30])?);
     written(rt.alloc(), &mut folder, image)?;
     let want = [
         0x56, 0x54, 0x53, 0x31, 0, 0, 0, 1, 0, 0, 0, 1, 0, 0, 0, 2, 10, 20, 30, 10, 20, 30, 10, 20,
@@ -143,15 +191,32 @@ fn one_texel_fills_a_tile(rt: HostRuntime) -> Result<(), TestFail> {
 }
 
 #[test]
+fn a_store_of_two_byte_samples_has_twice_as_many_bytes_a_texel(
+    rt: HostRuntime,
+) -> Result<(), TestFail> {
+    let mut folder = folder_of(rt.alloc(), &[], b"old")?;
+    let samples = [0, 1, 0x80, 0, 0xff, 0xff];
+    let image = Image::new(2, 1, 1, Vec::from_array(rt.alloc(), samples)?);
+    written(rt.alloc(), &mut folder, image)?;
+    let want = [
+        0x56, 0x54, 0x53, 0x32, 0, 0, 0, 1, 0, 0, 0, 1, 0, 0, 0, 2, 0, 1, 0x80, 0, 0xff, 0xff, 0,
+        1, 0x80, 0, 0xff, 0xff, 0, 1, 0x80, 0, 0xff, 0xff, 0, 1, 0x80, 0, 0xff, 0xff,
+    ];
+    assert!(rt; holds(&folder, "b", &want));
+    assert_eq!(rt; opened(&mut folder, "b"), Ok((1, 1, 2, 2)));
+    Ok(())
+}
+
+#[test]
 fn past_the_edge_the_last_texel_stands_again(rt: HostRuntime) -> Result<(), TestFail> {
     let mut folder = folder_of(rt.alloc(), &[], b"old")?;
     let samples = [
         0, 0, 0, 1, 1, 1, 2, 2, 2, 3, 3, 3, 4, 4, 4, 10, 10, 10, 11, 11, 11, 12, 12, 12, 13, 13,
         13, 14, 14, 14, 20, 20, 20, 21, 21, 21, 22, 22, 22, 23, 23, 23, 24, 24, 24,
     ];
-    let image = Image::new(5, 3, Vec::from_array(rt.alloc(), samples)?);
+    let image = Image::new(1, 5, 3, Vec::from_array(rt.alloc(), samples)?);
     written(rt.alloc(), &mut folder, image)?;
-    assert_eq!(rt; opened(&mut folder, "b"), Ok((5, 3, 2)));
+    assert_eq!(rt; opened(&mut folder, "b"), Ok((5, 3, 2, 1)));
     let edge = [4, 4, 4, 4, 4, 4, 14, 14, 14, 14, 14, 14];
     assert_eq!(rt; tile_of(&mut folder, "b", 2), Some(edge));
     let corner = [24, 24, 24, 24, 24, 24, 24, 24, 24, 24, 24, 24];
@@ -170,10 +235,14 @@ fn each_flaw_is_named_after_one_read_of_the_header(rt: HostRuntime) -> Result<()
     other_tile[15] = 3;
     let mut wide = STORE_G4;
     wide[6..12].copy_from_slice(&[32, 0, 0, 0, 32, 0]);
+    let mut two_bytes = STORE_G4;
+    two_bytes[3] = 0x32;
     let wrong = |want, have| Err(StoreError::WrongLength { want, have });
     let rows = [
         (&STORE_G4[..3], Err(StoreError::BadMagic)),
-        (b"VTS2".as_slice(), Err(StoreError::BadMagic)),
+        (b"VTS3".as_slice(), Err(StoreError::BadMagic)),
+        (b"VTS2".as_slice(), wrong(16, 4)),
+        (&two_bytes[..], wrong(136, 76)),
         (&STORE_G4[..4], wrong(16, 4)),
         (b"VTS1\0".as_slice(), wrong(16, 5)),
         (&STORE_G4[..15], wrong(16, 15)),
@@ -182,7 +251,7 @@ fn each_flaw_is_named_after_one_read_of_the_header(rt: HostRuntime) -> Result<()
         (&other_tile[..], Err(StoreError::BadGeometry)),
         (&wide[..], Err(StoreError::BadGeometry)),
         (&bytes[..], wrong(76, 77)),
-        (&STORE_G4[..], Ok((4, 4, 2))),
+        (&STORE_G4[..], Ok((4, 4, 2, 1))),
     ];
     for (bytes, want) in rows {
         let mut folder = folder_of(rt.alloc(), &[], bytes)?;
@@ -219,4 +288,76 @@ fn a_fault_leaves_a_front_part_of_the_store(rt: HostRuntime) -> Result<(), TestF
     );
     assert!(rt; holds(&folder, "b", &STORE_G4[..52]));
     Ok(())
+}
+
+#[test]
+fn a_widened_store_has_each_sample_times_257(rt: HostRuntime) -> Result<(), TestFail> {
+    let mut folder = folder_of(rt.alloc(), &[], &STORE_G4)?;
+    assert_eq!(rt; widened(rt.alloc(), &mut folder), Ok(()));
+    assert!(rt; holds(&folder, "b", &wide_g4()));
+    let wide = wide_g4();
+    let second_texel = &wide[22..28];
+    assert!(rt; second_texel == [1, 1, 1, 1, 1, 1].as_slice());
+    assert_eq!(rt; opened(&mut folder, "b"), Ok((4, 4, 2, 2)));
+    assert!(rt; holds(&folder, "a", &STORE_G4));
+    Ok(())
+}
+
+#[test]
+fn a_store_is_widened_in_pieces_that_are_read_once(rt: HostRuntime) -> Result<(), TestFail> {
+    let mut folder = folder_of(rt.alloc(), &[], &STORE_G4)?;
+    assert_eq!(rt; widened(rt.alloc(), &mut folder), Ok(()));
+    assert_eq!(rt; folder.asked("a", 0), read_of(0, 16));
+    assert_eq!(rt; folder.asked("a", 1), read_of(16, 24));
+    assert_eq!(rt; folder.asked("a", 2), read_of(40, 24));
+    assert_eq!(rt; folder.asked("a", 3), read_of(64, 12));
+    assert!(rt; folder.asked("a", 4).is_none());
+    Ok(())
+}
+
+#[test]
+fn a_widened_store_has_the_last_texel_past_the_edge_whatever_stood_there(
+    rt: HostRuntime,
+) -> Result<(), TestFail> {
+    let narrow = [
+        0x56, 0x54, 0x53, 0x31, 0, 0, 0, 1, 0, 0, 0, 1, 0, 0, 0, 2, 10, 20, 30, 1, 2, 3, 4, 5, 6,
+        7, 8, 9,
+    ];
+    let mut folder = folder_of(rt.alloc(), &[], &narrow)?;
+    assert_eq!(rt; widened(rt.alloc(), &mut folder), Ok(()));
+    let want = [
+        0x56, 0x54, 0x53, 0x32, 0, 0, 0, 1, 0, 0, 0, 1, 0, 0, 0, 2, 10, 10, 20, 20, 30, 30, 10, 10,
+        20, 20, 30, 30, 10, 10, 20, 20, 30, 30, 10, 10, 20, 20, 30, 30,
+    ];
+    assert!(rt; holds(&folder, "b", &want));
+    Ok(())
+}
+
+#[test]
+fn each_fault_of_a_widening_leaves_a_front_part(rt: HostRuntime) -> Result<(), TestFail> {
+    let read = |read| Fail::Read { opening: 0, read };
+    let rows = [
+        (Fail::Append(0), 8),
+        (read(1), 16),
+        (Fail::Append(1), 40),
+        (read(2), 64),
+        (Fail::Append(2), 88),
+        (read(3), 112),
+        (Fail::Append(3), 124),
+    ];
+    for (call, left) in rows {
+        let mut folder = folder_of(rt.alloc(), &[call], &STORE_G4)?;
+        assert_eq!(rt; widened(rt.alloc(), &mut folder), Err(StoreError::Failed));
+        assert!(rt; holds(&folder, "b", &wide_g4()[..left]));
+        assert!(rt; holds(&folder, "a", &STORE_G4));
+    }
+    let mut folder = folder_of(rt.alloc(), &[Fail::Create(0)], &STORE_G4)?;
+    assert_eq!(rt; widened(rt.alloc(), &mut folder), Err(StoreError::Failed));
+    assert!(rt; folder.bytes_of("b").is_none());
+    Ok(())
+}
+
+#[test]
+fn a_new_list_of_stores_is_empty(rt: HostRuntime) {
+    assert_eq!(rt; new_list_length::<MemoryFolder>(rt.alloc()), 0);
 }

@@ -1,0 +1,110 @@
+use Rattle.std.proofs.Common.{◌+◌, ◌-◌, ◌*◌, ◌/◌, inr, refl, sym, ◌∙◌, arith}
+use Rattle.vt_outside.proofs.Untold.{OnErr-all}
+use Rattle.vt_store.specs.declared.error.StoreError.TheVariants.{Failed}
+use Rattle.vt_store.proofs.WideStores.{some_columns, begun_pages, pages_moved, header_front, none_asked, front_asked, more_asked, piece_tried, piece_is, piece_part, piece_whole, all_done, all_pages, rose_along, carried, there}
+use Rattle.vt_store.proofs.widen.widen_store.Goals as goal
+
+pub nonzero_div-pieces : goal.nonzero_div-pieces
+nonzero_div-pieces g c = omega (arith, some_columns c.geometry-geometry.result c.levels.ensures.limits, c.tile_columns-step.ensures.value)
+
+pub returns-in_err-narrow_room-clause-front_read : goal.returns-in_err-narrow_room-clause-front_read
+returns-in_err-narrow_room-clause-front_read g c = OnErr-all _ _
+    (front_asked c.args.store.now.shape 0 (g.D.File.File.asked c.args.store.now.file) (g.D.File.File.asked c.reserve.new.self.file)
+    (omega arith) (none_asked c.args.store.now.shape (g.D.File.File.asked c.args.store.now.file)
+    (g.D.File.File.asked c.reserve.new.self.file) c.reserve.ensures.asked))
+
+pub returns-in_err-begin_store-clause-part : goal.returns-in_err-begin_store-clause-part
+returns-in_err-begin_store-clause-part g c = OnErr-all _ _
+    (header_front (g.D.File.File.bytes c.args.store.now.file) c.args.store.now.shape c.geometry-geometry.result c.args.name.now
+    (g.D.Folder.files c.args.folder.now) (g.D.Folder.files c.begin_store.new.folder) c.geometry-geometry.ensures.shape
+    c.in_err-begin_store.ensures.part)
+
+pub returns-in_err-begin_store-clause-front_read : goal.returns-in_err-begin_store-clause-front_read
+returns-in_err-begin_store-clause-front_read g c = OnErr-all _ _
+    (front_asked c.args.store.now.shape 0 (g.D.File.File.asked c.args.store.now.file) (g.D.File.File.asked c.reserve.new.self.file)
+    (omega arith) (none_asked c.args.store.now.shape (g.D.File.File.asked c.args.store.now.file)
+    (g.D.File.File.asked c.reserve.new.self.file) c.reserve.ensures.asked))
+
+pub loop-piece-init : goal.loop-piece-init
+loop-piece-init g c = record {
+  held = pages_moved (g.D.File.File.bytes c.args.store.now.file) c.args.store.now.shape c.args.name.now
+      (g.D.Folder.files c.args.folder.now) (g.D.Folder.files c.begin_store.new.folder) 0 _ (omega arith)
+      (begun_pages (g.D.File.File.bytes c.args.store.now.file) c.args.store.now.shape c.geometry-geometry.result c.args.name.now
+      (g.D.Folder.files c.args.folder.now) (g.D.Folder.files c.begin_store.new.folder) c.geometry-geometry.ensures.shape
+      c.in_ok-begin_store.ensures.whole);
+  read = none_asked c.args.store.now.shape (g.D.File.File.asked c.args.store.now.file) (g.D.File.File.asked c.reserve.new.self.file)
+      c.reserve.ensures.asked;
+  spare = (let done = all_done c.args.store.now.shape c.geometry-geometry.result c.tile_columns-step.result c.page_count-pages.result
+      ((c.page_count-pages.result + c.tile_columns-step.result - 1) / c.tile_columns-step.result)
+      c.geometry-geometry.ensures.shape c.levels.ensures.limits c.tile_columns-step.ensures.value c.page_count-pages.ensures.pages refl in
+      omega (arith, done.0, c.in_ok-reserve.ensures.room));
+  bytes = c.reserve.ensures.bytes;
+  called = c.reserve.ensures.name;
+  shape = c.reserve.ensures.shape;
+  depth = c.reserve.ensures.depth ∙ c.requires;
+  file_faults = omega (arith, c.reserve.ensures.faults);
+  asked = c.begin_store.ensures.asked;
+  faults = c.begin_store.ensures.faults;
+}
+
+pub returns-in_err-widen_piece-clause-part : goal.returns-in_err-widen_piece-clause-part
+returns-in_err-widen_piece-clause-part g c =
+    let piece = piece_is c.args.store.now.shape c.geometry-geometry.result c.tile_columns-step.result c.page_count-pages.result
+    c.loop-piece.piece (c.loop-piece.piece * c.tile_columns-step.result) c.min-count.result c.geometry-geometry.ensures.shape
+    c.levels.ensures.limits c.tile_columns-step.ensures.value c.page_count-pages.ensures.pages c.loop-piece-test.true refl c.min-count.ensures in
+    OnErr-all _ _ (inr (piece_part (g.D.File.File.bytes c.args.store.now.file) (g.D.File.File.bytes c.loop-piece.store.file)
+    c.args.store.now.shape c.loop-piece.store.shape c.args.name.now (g.D.Folder.files c.args.folder.now) (g.D.Folder.files c.loop-piece.folder)
+    (g.D.Folder.files c.widen_piece.new.folder) _ c.min-count.result (c.loop-piece.piece * c.tile_columns-step.result)
+    (omega (arith, piece.inside, piece.here)) c.loop-piece.invariant.bytes c.loop-piece.invariant.shape (sym piece.here)
+    c.loop-piece.invariant.held c.in_err-widen_piece.ensures.part))
+
+pub returns-in_err-widen_piece-clause-failed : goal.returns-in_err-widen_piece-clause-failed
+returns-in_err-widen_piece-clause-failed g c = λ failed.
+    rose_along (g.D.Folder.faults c.args.folder.now) (g.D.Folder.faults c.loop-piece.folder) (g.D.Folder.faults c.widen_piece.new.folder)
+    (g.D.File.File.faults c.args.store.now.file) (g.D.File.File.faults c.loop-piece.store.file)
+    (g.D.File.File.faults c.widen_piece.new.store.file) c.loop-piece.invariant.faults c.loop-piece.invariant.file_faults
+    (c.widen_piece.ensures.failed (carried c.widen_piece.result c.from_residual-in_err-widen_piece.result _ Failed c.in_err-widen_piece.was
+    c.from_residual-in_err-widen_piece.ensures.1 failed) (there (g.D.File.File.bytes c.args.store.now.file) c.args.store.now.shape c.args.name.now
+    (g.D.Folder.files c.args.folder.now) (g.D.Folder.files c.loop-piece.folder) _ c.loop-piece.invariant.held))
+
+pub returns-in_err-widen_piece-clause-front_read : goal.returns-in_err-widen_piece-clause-front_read
+returns-in_err-widen_piece-clause-front_read g c =
+    let piece = piece_is c.args.store.now.shape c.geometry-geometry.result c.tile_columns-step.result c.page_count-pages.result
+    c.loop-piece.piece (c.loop-piece.piece * c.tile_columns-step.result) c.min-count.result c.geometry-geometry.ensures.shape
+    c.levels.ensures.limits c.tile_columns-step.ensures.value c.page_count-pages.ensures.pages c.loop-piece-test.true refl c.min-count.ensures in
+    OnErr-all _ _ (piece_tried c.args.store.now.shape c.loop-piece.store.shape c.loop-piece.piece
+    (c.loop-piece.piece * c.tile_columns-step.result) c.min-count.result (g.D.File.File.asked c.args.store.now.file)
+    (g.D.File.File.asked c.loop-piece.store.file) (g.D.File.File.asked c.widen_piece.new.store.file) piece.below
+    c.loop-piece.invariant.read c.loop-piece.invariant.shape piece.begins piece.counts c.in_err-widen_piece.ensures.tried)
+
+pub loop-piece-preserved : goal.loop-piece-preserved
+loop-piece-preserved g c =
+    let piece = piece_is c.args.store.now.shape c.geometry-geometry.result c.tile_columns-step.result c.page_count-pages.result
+    c.loop-piece.piece (c.loop-piece.piece * c.tile_columns-step.result) c.min-count.result c.geometry-geometry.ensures.shape
+    c.levels.ensures.limits c.tile_columns-step.ensures.value c.page_count-pages.ensures.pages c.loop-piece-test.true refl c.min-count.ensures in
+    record {
+      held = piece_whole (g.D.File.File.bytes c.args.store.now.file) (g.D.File.File.bytes c.loop-piece.store.file)
+          c.args.store.now.shape c.loop-piece.store.shape c.args.name.now (g.D.Folder.files c.args.folder.now)
+          (g.D.Folder.files c.loop-piece.folder) (g.D.Folder.files c.widen_piece.new.folder) _ c.min-count.result
+          (c.loop-piece.piece * c.tile_columns-step.result) _ c.loop-piece.invariant.bytes c.loop-piece.invariant.shape (sym piece.here)
+          c.loop-piece.invariant.held c.in_ok-widen_piece.ensures.gained (omega (arith, piece.next, piece.here));
+      read = more_asked c.args.store.now.shape c.loop-piece.store.shape c.loop-piece.piece
+          (c.loop-piece.piece * c.tile_columns-step.result) c.min-count.result (g.D.File.File.asked c.args.store.now.file)
+          (g.D.File.File.asked c.loop-piece.store.file) (g.D.File.File.asked c.widen_piece.new.store.file)
+          c.loop-piece.invariant.read c.loop-piece.invariant.shape piece.begins piece.counts c.in_ok-widen_piece.ensures.read;
+      spare = omega (arith, c.widen_piece.ensures.spare, c.loop-piece.invariant.spare);
+      bytes = c.widen_piece.ensures.bytes ∙ c.loop-piece.invariant.bytes;
+      called = c.widen_piece.ensures.name ∙ c.loop-piece.invariant.called;
+      shape = c.widen_piece.ensures.shape ∙ c.loop-piece.invariant.shape;
+      depth = c.widen_piece.ensures.depth ∙ c.loop-piece.invariant.depth;
+      file_faults = omega (arith, c.widen_piece.ensures.file_faults, c.loop-piece.invariant.file_faults);
+      asked = c.widen_piece.ensures.asked ∙ c.loop-piece.invariant.asked;
+      faults = omega (arith, c.widen_piece.ensures.faults, c.loop-piece.invariant.faults);
+    }
+
+pub returns-clause-whole : goal.returns-clause-whole
+returns-clause-whole g c =
+    let done = all_done c.args.store.now.shape c.geometry-geometry.result c.tile_columns-step.result c.page_count-pages.result c.loop-piece.piece
+    c.geometry-geometry.ensures.shape c.levels.ensures.limits c.tile_columns-step.ensures.value c.page_count-pages.ensures.pages (omega arith) in
+    all_pages (g.D.File.File.bytes c.args.store.now.file) c.args.store.now.shape c.args.name.now (g.D.Folder.files c.args.folder.now)
+    (g.D.Folder.files c.loop-piece.folder) _ done.1 c.loop-piece.invariant.held
