@@ -5,7 +5,8 @@ use Rattle.vt_pages.specs.Pages.{texel_page}
 use Rattle.vt_camera.specs.Rows.{RowView, row_level, row_place}
 use Rattle.vt_draw.specs.declared.lookups.Found.{Found}
 use Rattle.vt_draw.specs.Lookups.{Note, WordNote, IsFinest, place_in_tile}
-use Rattle.vt_draw.specs.Shots.{wanted_page, pixel_bytes, drawn_place, IsDrawn}
+use Rattle.vt_definitions.specs.Depths.{texel_bytes}
+use Rattle.vt_draw.specs.Shots.{wanted_page, drawn_place, IsDrawn}
 
 pub finest_kept : (s : Shape) (version : ℕ) (says later : Note → Type 0) (p : ℕ) (found : Found) → ((note : Note) → says note → later note)
     → IsFinest s version says p found → IsFinest s version later p found
@@ -31,15 +32,15 @@ drawn_kept s d version says later row x samples said h = record {
 -- one pixel more is drawn
 pub drawn-more : (s : Shape) (d version : ℕ) (says later : Note → Type 0) (row : RowView) (x : ℕ) (before after : List ℕ)
     → ((note : Note) → says note → later note)
-    → ((i : ℕ) → i ≢ x → pixel_bytes d after i ≡ pixel_bytes d before i) → IsDrawn s d version later row x (pixel_bytes d after x)
-    → ((i : ℕ) → i < x → IsDrawn s d version says row i (pixel_bytes d before i))
-    → (i : ℕ) → i < x + 1 → IsDrawn s d version later row i (pixel_bytes d after i)
+    → ((i : ℕ) → i ≢ x → texel_bytes d after i ≡ texel_bytes d before i) → IsDrawn s d version later row x (texel_bytes d after x)
+    → ((i : ℕ) → i < x → IsDrawn s d version says row i (texel_bytes d before i))
+    → (i : ℕ) → i < x + 1 → IsDrawn s d version later row i (texel_bytes d after i)
 drawn-more s d version says later row x before after said kept here so_far i below =
     let P : List ℕ → Type 0 = λ t. IsDrawn s d version later row i t in
-    let Q : ℕ → Type 0 = λ j. IsDrawn s d version later row j (pixel_bytes d after j) in
+    let Q : ℕ → Type 0 = λ j. IsDrawn s d version later row j (texel_bytes d after j) in
     let or : (i < x) ⊎ (i ≡ x) = grind arith in
     ⊎_elim (λ (low : i < x). let apart : i ≢ x = omega arith in subst P (sym (kept i apart))
-    (drawn_kept s d version says later row i (pixel_bytes d before i) said (so_far i low)))
+    (drawn_kept s d version says later row i (texel_bytes d before i) said (so_far i low)))
     (λ (same : i ≡ x). subst Q (sym same) here) or
 
 -- the same of a look-up that has the same shape and version under other names

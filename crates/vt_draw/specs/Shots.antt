@@ -1,7 +1,7 @@
 -- A row of a picture that is drawn over a look-up of pages.
-use Rattle.std.specs.Prelude.{◌≡◌, ℕ, zero, suc, ◌+◌, ◌*◌, ◌<◌, ◌==◌, List, [], ◌∷◌, length, slice_index}
+use Rattle.std.specs.Prelude.{◌≡◌, ℕ, ◌+◌, ◌<◌, ◌==◌, List, length, slice_index}
 use Rattle.std.specs.List.{range_with_len, count_by}
-use Rattle.vt_definitions.specs.Depths.{texel_length, word_bytes}
+use Rattle.vt_definitions.specs.Depths.{texel_bytes, word_bytes}
 use Rattle.vt_pages.specs.Shape.{Shape}
 use Rattle.vt_pages.specs.Pages.{levels_of}
 use Rattle.vt_camera.specs.declared.surfaces.Surface.{Surface}
@@ -27,19 +27,6 @@ wanted_page s row x = covering_page s (row_level row) (row_place row x).0 (row_p
 unfoldable pub pixels_wanting : Shape → RowView → ℕ → ℕ → ℕ
 pixels_wanting s row n p = count_by (λ x. wanted_page s row x == p) (range_with_len 0 n)
 
--- the three samples from a place on
-abbrev pub three_from : List ℕ → ℕ → List ℕ
-three_from samples at = slice_index samples at ∷ slice_index samples (at + 1) ∷ slice_index samples (at + 2) ∷ []
-
--- so many bytes from a place on
-abbrev pub bytes_from : List ℕ → ℕ → ℕ → List ℕ
-bytes_from bytes at zero = []
-bytes_from bytes at (suc n) = slice_index bytes at ∷ bytes_from bytes (at + 1) n
-
--- the bytes of pixel x of a row, at a depth (the Netpbm manual's P6 page)
-abbrev pub pixel_bytes : ℕ → List ℕ → ℕ → List ℕ
-pixel_bytes d bytes x = bytes_from bytes (texel_length d * x) (texel_length d)
-
 -- the place in its page's tile of the texel of a level that pixel x of a row shows (van Waveren 2012)
 abbrev pub drawn_place : Shape → RowView → ℕ → ℕ → ℕ
 drawn_place s row x level = covering_place s level (row_place row x).0 (row_place row x).1
@@ -55,7 +42,7 @@ pub record IsDrawn (s : Shape) (d version : ℕ) (says : Note → Type 0) (row :
 
 -- by what is said, each of the first n pixels of a row is drawn, at a depth
 abbrev pub AreDrawn : Shape → ℕ → ℕ → (Note → Type 0) → RowView → ℕ → List ℕ → Type 0
-AreDrawn s d version says row n bytes = (x : ℕ) → x < n → IsDrawn s d version says row x (pixel_bytes d bytes x)
+AreDrawn s d version says row n bytes = (x : ℕ) → x < n → IsDrawn s d version says row x (texel_bytes d bytes x)
 
 -- each page's count was raised by how many of the first n pixels of a row want the page (Mayer 2010)
 abbrev pub AreCounted : Shape → RowView → ℕ → List ℕ → List ℕ → Type 0

@@ -1,10 +1,8 @@
-//! The steps of drawing a pixel: its wanted page, the page that serves it, its word, and its samples.
+//! The steps of drawing a pixel: its wanted page, the page that serves it, and its word.
 
-ghost use Rattle.std.specs.Prelude.{◌≡◌, ◌≢◌, ℕ, ◌+◌, ◌*◌, ◌/◌, ◌^◌, ◌<◌, ◌≤◌, length};
-ghost use Rattle.vt_definitions.specs.Depths.{IsDepth, texel_length, word_bytes};
+ghost use Rattle.std.specs.Prelude.{◌≡◌, ◌<◌};
 ghost use Rattle.vt_pages.specs.Pages.{level_of, levels_of, pages_of, IsWithinLimits};
 ghost use Rattle.vt_draw.specs.Lookups.{Note, WordNote, IsFinest, covering_page, covering_place};
-ghost use Rattle.vt_draw.specs.Shots.{pixel_bytes};
 
 use crate::lookups::{Found, Lookup};
 use vt_pages::Geometry;
@@ -61,48 +59,4 @@ pub(crate) fn word_at_place<K: Lookup>(
     ensures shape { K.shape lookup.new ≡ K.shape lookup.old }
 {
     lookup.texel(found, column >> found.level, line >> found.level)
-}
-
-// Writes the bytes of pixel x of a row whose samples have DEPTH bytes.
-#[inline]
-pub(crate) fn put_pixel<const DEPTH: u32>(out: &mut [u8], x: u32, word: u64)
-    requires depth { IsDepth DEPTH }
-    requires room { texel_length DEPTH * x + texel_length DEPTH ≤ length out.old }
-    ensures written { pixel_bytes DEPTH out.new x ≡ word_bytes DEPTH word }
-    ensures kept { (i : ℕ) → i ≢ x → pixel_bytes DEPTH out.new i ≡ pixel_bytes DEPTH out.old i }
-{
-    if DEPTH == 1 {
-        put_narrow(out, x, word);
-    } else {
-        put_wide(out, x, word);
-    }
-}
-
-// Writes the three bytes of pixel x of a row of one-byte samples.
-#[inline]
-fn put_narrow(out: &mut [u8], x: u32, word: u64)
-    requires { 3 * x + 3 ≤ length out.old }
-    ensures written { pixel_bytes 1 out.new x ≡ word_bytes 1 word }
-    ensures kept { (i : ℕ) → i ≢ x → pixel_bytes 1 out.new i ≡ pixel_bytes 1 out.old i }
-{
-    let at = 3 * x as usize;
-    out[at] = (word / 65536 % 256) as u8;
-    out[at + 1] = (word / 256 % 256) as u8;
-    out[at + 2] = (word % 256) as u8;
-}
-
-// Writes the six bytes of pixel x of a row of two-byte samples.
-#[inline]
-fn put_wide(out: &mut [u8], x: u32, word: u64)
-    requires { 6 * x + 6 ≤ length out.old }
-    ensures written { pixel_bytes 2 out.new x ≡ word_bytes 2 word }
-    ensures kept { (i : ℕ) → i ≢ x → pixel_bytes 2 out.new i ≡ pixel_bytes 2 out.old i }
-{
-    let at = 6 * x as usize;
-    out[at] = (word / 1_099_511_627_776 % 256) as u8;
-    out[at + 1] = (word / 4_294_967_296 % 256) as u8;
-    out[at + 2] = (word / 16_777_216 % 256) as u8;
-    out[at + 3] = (word / 65536 % 256) as u8;
-    out[at + 4] = (word / 256 % 256) as u8;
-    out[at + 5] = (word % 256) as u8;
 }

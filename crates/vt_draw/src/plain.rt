@@ -1,22 +1,24 @@
 //! Drawing the plain picture.
 
-ghost use Rattle.std.specs.Prelude.{◌≡◌, ◌+◌, ◌*◌, ◌<◌, ◌≤◌, ◌++◌, ◌∷◌, [], length, slice_index, take, IfOk, OnOk};
-ghost use Rattle.vt_pages.specs.Shape.{level_limit};
+ghost use Rattle.std.specs.Prelude.{◌≡◌, ◌+◌, ◌*◌, ◌<◌, ◌≤◌, ◌++◌, length, take, IfOk, OnOk};
+ghost use Rattle.vt_definitions.specs.Depths.{IsDepth, texel_length, texel_bytes};
+ghost use Rattle.vt_definitions.specs.Limits.{most_levels};
 ghost use Rattle.vt_camera.specs.Paths.{IsCamera};
 ghost use Rattle.vt_camera.specs.Rows.{IsSurface};
 ghost use Rattle.vt_draw.specs.Plain.{chain_of, surface_of, row_samples, first_rows, plain_samples};
-ghost use Rattle.vt_draw.specs.Shots.{three_from};
 
 use std::alloc::{AllocError, Global};
 use vt_camera::{Camera, Path, Row, Surface};
+use vt_definitions::texel_length;
 use vt_mip::Chain;
 use vt_outside::NoMemory;
 
-// How many samples the longest row of a picture has.
-const MOST_ROW_SIZE: usize = 6144;
+// How many bytes the longest row of a picture has.
+const MOST_ROW_SIZE: usize = 12288;
 
-/// Draws the plain picture with this number of a path: its samples are three bytes a pixel, row by row from the top. A pixel
-/// shows what the level of its row has at the pixel's place (van Waveren 2012).
+/// Draws the plain picture with this number of a path, row by row from the top: three samples a pixel, each of as many bytes as
+/// the chain's samples have, the most significant first. A pixel shows what the level of its row has at the pixel's place
+/// (van Waveren 2012).
 pub fn draw_plain(
     alloc: Global,
     chain: &Chain,
@@ -25,15 +27,36 @@ pub fn draw_plain(
 ) -> Result<Vec<u8>, NoMemory>
     requires { picture < length path.now.cameras }
     ensures samples { IfOk result (λ samples. samples.items ≡ plain_samples chain.now.base chain.now.tile path.now picture) }
-    ensures size { IfOk result (λ samples. length samples.items ≡ 3 * (path.now.width * path.now.height)) }
+    ensures size { IfOk result (λ samples.
+        length samples.items ≡ texel_length chain.now.base.depth * (path.now.width * path.now.height)) }
+{
+    if chain.depth() == 1 {
+        draw_picture::<1>(alloc, chain, path, picture)
+    } else {
+        draw_picture::<2>(alloc, chain, path, picture)
+    }
+}
+
+// Draws the plain picture of a chain whose samples have DEPTH bytes.
+fn draw_picture<const DEPTH: u32>(
+    alloc: Global,
+    chain: &Chain,
+    path: &Path,
+    picture: u32,
+) -> Result<Vec<u8>, NoMemory>
+    requires depth { IsDepth DEPTH }
+    requires own { chain.now.base.depth ≡ DEPTH }
+    requires picture { picture < length path.now.cameras }
+    ensures samples { IfOk result (λ samples. samples.items ≡ plain_samples chain.now.base chain.now.tile path.now picture) }
+    ensures size { IfOk result (λ samples. length samples.items ≡ texel_length DEPTH * (path.now.width * path.now.height)) }
 {
     let surface = surface_of(chain);
     let camera = path.camera(picture);
-    let row_size = 3 * path.width() as usize;
+    let row_size = texel_length(DEPTH) * path.width() as usize;
     let mut samples = Vec::with_capacity(alloc, row_size * path.height() as usize)?;
     let mut row_samples = [0; MOST_ROW_SIZE];
     let row_samples = &mut row_samples[..row_size];
-    draw_rows(chain, path, &camera, &surface, row_samples, &mut samples)?;
+    draw_rows::<DEPTH>(chain, path, &camera, &surface, row_samples, &mut samples)?;
     Ok(samples)
 }
 
@@ -41,7 +64,7 @@ pub fn draw_plain(
 fn surface_of(chain: &Chain) -> Surface
     ensures value { result ≡ surface_of chain.now.base chain.now.tile }
     ensures limits { IsSurface result }
-    ensures levels { result.levels ≤ level_limit }
+    ensures levels { result.levels ≤ most_levels }
 {
     let levels = chain.levels();
     let (width, height) = chain.size(0);
@@ -52,8 +75,8 @@ fn surface_of(chain: &Chain) -> Surface
     }
 }
 
-// Adds the samples of all rows of the picture that a camera takes, each by way of a row's room.
-fn draw_rows(
+// Adds the bytes of all rows of the picture that a camera takes, each by way of a row's room.
+fn draw_rows<const DEPTH: u32>(
     chain: &Chain,
     path: &Path,
     camera: &Camera,
@@ -61,52 +84,56 @@ fn draw_rows(
     row_samples: &mut [u8],
     samples: &mut Vec<u8>,
 ) -> Result<(), AllocError>
+    requires depth { IsDepth DEPTH }
+    requires own { chain.now.base.depth ≡ DEPTH }
     requires surface { surface.now ≡ surface_of chain.now.base chain.now.tile }
     requires limits { IsSurface surface.now }
     requires camera { IsCamera camera.now }
-    requires levels { surface.now.levels ≤ level_limit }
-    requires room { length row_samples.old ≡ 3 * path.now.width }
+    requires levels { surface.now.levels ≤ most_levels }
+    requires room { length row_samples.old ≡ texel_length DEPTH * path.now.width }
     ensures { OnOk result (samples.new.items
-        ≡ samples.old.items ++ first_rows (chain_of chain.now.base) surface.now path.now camera.now path.now.height) }
+        ≡ samples.old.items ++ first_rows DEPTH (chain_of chain.now.base) surface.now path.now camera.now path.now.height) }
 {
     for y in 0..path.height() {
         let row = Row::of(path, camera, y, surface);
-        draw_plain_row(chain, row, path.width(), row_samples);
+        draw_plain_row::<DEPTH>(chain, row, path.width(), row_samples);
         samples.extend_from_slice(row_samples)?;
     }
     Ok(())
 }
 
-// Writes the samples of a row of so many pixels. It takes the row by value, for then no write can be one to the row's numbers.
+// Writes the bytes of a row of so many pixels. It takes the row by value, for then no write can be one to the row's numbers.
 #[inline(never)]
-fn draw_plain_row(chain: &Chain, row: Row, columns: u32, out: &mut [u8])
+fn draw_plain_row<const DEPTH: u32>(chain: &Chain, row: Row, columns: u32, out: &mut [u8])
+    requires depth { IsDepth DEPTH }
+    requires own { chain.now.base.depth ≡ DEPTH }
     requires surface { row.surface ≡ surface_of chain.now.base chain.now.tile }
     requires width { columns ≤ row.width }
-    requires levels { row.surface.levels ≤ level_limit }
-    requires room { length out.old ≡ 3 * columns }
-    ensures { out.new ≡ row_samples (chain_of chain.now.base) row columns }
+    requires levels { row.surface.levels ≤ most_levels }
+    requires room { length out.old ≡ texel_length DEPTH * columns }
+    ensures { out.new ≡ row_samples DEPTH (chain_of chain.now.base) row columns }
 {
     let level = row.level();
     let texels = chain.samples(level);
     let (width, _) = chain.size(level);
     for x in 0..columns {
         let (column, line) = row.texel_in_level(x);
-        let at = 3 * (line as usize * width as usize + column as usize);
-        put_texel(texels, at, out, 3 * x as usize);
+        let texel = line as usize * width as usize + column as usize;
+        put_texel::<DEPTH>(texels, texel, out, x as usize);
     }
 }
 
-// Copies the three samples of a texel behind those that stand before their place.
+// Copies a texel behind those that stand before its place.
 #[inline(always)]
-fn put_texel(texels: &[u8], from: usize, out: &mut [u8], to: usize)
-    requires from { from + 3 ≤ length texels.now }
-    requires to { to + 3 ≤ length out.old }
-    ensures { take (to + 3) out.new ≡ take to out.old ++ three_from texels.now from }
+fn put_texel<const DEPTH: u32>(texels: &[u8], texel: usize, out: &mut [u8], x: usize)
+    requires depth { IsDepth DEPTH }
+    requires from { texel_length DEPTH * texel + texel_length DEPTH ≤ length texels.now }
+    requires to { texel_length DEPTH * x + texel_length DEPTH ≤ length out.old }
+    ensures { take (texel_length DEPTH * x + texel_length DEPTH) out.new
+        ≡ take (texel_length DEPTH * x) out.old ++ texel_bytes DEPTH texels.now texel }
 {
-    let red = texels[from];
-    let green = texels[from + 1];
-    let blue = texels[from + 2];
-    out[to] = red;
-    out[to + 1] = green;
-    out[to + 2] = blue;
+    let size = texel_length(DEPTH);
+    let from = size * texel;
+    let to = size * x;
+    out[to..to + size].copy_from_slice(&texels[from..from + size]);
 }

@@ -7,8 +7,9 @@ ghost use Rattle.vt_draw.specs.Lookups.{Note};
 ghost use Rattle.vt_draw.specs.Shots.{paged_surface, shot_row, AreDrawn, AreCounted};
 
 use crate::lookups::Lookup;
-use crate::pixels::{found_for, page_at_place, put_pixel, word_at_place};
+use crate::pixels::{found_for, page_at_place, word_at_place};
 use vt_camera::{Path, Row, Surface};
+use vt_definitions::put_word;
 use vt_pages::Geometry;
 
 /// A picture to draw: a texture that is cut into pages, a path, and the number of one of the path's pictures.
@@ -108,7 +109,7 @@ fn draw_pixels<K: Lookup, const DEPTH: u32>(
         found = found_for(lookup, wanted, found, page);
         wanted = page;
         let word = word_at_place(lookup, &found, level, column, line);
-        put_pixel::<DEPTH>(out, x, word);
+        put_word::<DEPTH>(out, x as usize, word);
         counts[page as usize] += 1;
     }
 }

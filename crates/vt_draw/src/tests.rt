@@ -7,7 +7,7 @@ ghost use Rattle.vt_definitions.specs.Depths.{IsDepth};
 
 use crate::tests::tables::Table;
 use crate::{Shot, draw_plain, draw_row};
-use std::alloc::Global;
+use std::alloc::{AllocError, Global};
 use std::process::Abort;
 use std::test::Fail;
 use vt_camera::parse_path;
@@ -73,20 +73,44 @@ fn wide_samples_have_their_high_byte_first(rt: HostRuntime) -> Result<(), Fail> 
     Ok(())
 }
 
-#[test]
-fn the_plain_picture_shows_the_chain(rt: HostRuntime) -> Result<(), Fail> {
-    let samples = [
-        0, 0, 0, 1, 1, 1, 2, 2, 2, 3, 3, 3, 4, 4, 4, 5, 5, 5, 6, 6, 6, 7, 7, 7, 8, 8, 8, 9, 9, 9,
-        10, 10, 10, 11, 11, 11, 12, 12, 12, 13, 13, 13, 14, 14, 14, 15, 15, 15,
-    ];
-    let image = Image::new(4, 4, Vec::from_array(rt.alloc(), samples)?);
-    let chain = Chain::build(rt.alloc(), image, 2)?;
-    let path = parse_path(rt.alloc(), PATH)?;
+// The texture of 4x4 texels whose texel (x, y) is 4y+x in each channel, or at two bytes a sample 32,768 more.
+fn texture(alloc: Global, depth: u32) -> Result<Vec<u8>, AllocError> {
+    let mut samples = Vec::new(alloc);
+    for i in 0..48u32 {
+        if depth == 2 {
+            samples.push(0x80)?;
+        }
+        samples.push((i / 3) as u8)?;
+    }
+    Ok(samples)
+}
+
+// Draws the plain picture of that texture.
+fn draw_texture(rt: &impl Abort, alloc: Global, depth: u32) -> Result<Vec<u8>, Fail>
+    requires { IsDepth depth }
+{
+    let samples = texture(alloc, depth)?;
+    assert!(rt; samples.len() == 48 * depth as usize);
+    let chain = Chain::build(alloc, Image::new(depth, 4, 4, samples), 2)?;
+    let path = parse_path(alloc, PATH)?;
     assert!(rt; path.pictures() == 1);
-    let picture = draw_plain(rt.alloc(), &chain, &path, 0)?;
+    Ok(draw_plain(alloc, &chain, &path, 0)?)
+}
+
+#[test]
+fn the_plain_picture_shows_the_chain_at_either_depth(rt: HostRuntime) -> Result<(), Fail> {
+    let narrow = draw_texture(&rt, rt.alloc(), 1)?;
     assert_eq!(rt;
-        picture.as_slice(),
+        narrow.as_slice(),
         [0x0d, 0x0d, 0x0d, 0x01, 0x01, 0x01].as_slice()
+    );
+    let wide = draw_texture(&rt, rt.alloc(), 2)?;
+    assert_eq!(rt;
+        wide.as_slice(),
+        [
+            0x80, 0x0d, 0x80, 0x0d, 0x80, 0x0d, 0x80, 0x01, 0x80, 0x01, 0x80, 0x01
+        ]
+        .as_slice()
     );
     Ok(())
 }

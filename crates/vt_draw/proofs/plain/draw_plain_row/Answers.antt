@@ -1,21 +1,26 @@
-use Rattle.std.proofs.Common.{◌+◌, ◌*◌, refl}
-use Rattle.vt_mip.specs.Chains.{chain_width, chain_height}
+use Rattle.std.proofs.Common.{◌≡◌, ℕ, ◌+◌, ◌*◌, take, refl, ap, ◌∙◌, subst, arith}
+use Rattle.vt_mip.specs.Chains.{chain_width, chain_height, IsTexelRaster}
 use Rattle.vt_draw.specs.Plain.{chain_of}
 use Rattle.vt_draw.proofs.Drawn.{row_samples-none, pixel_drawn}
 use Rattle.vt_draw.proofs.plain.draw_plain_row.Goals as goal
 
 pub loop-x-init : goal.loop-x-init
-loop-x-init c = row_samples-none (chain_of c.args.chain.now.base) c.args.row
+loop-x-init g c =
+    ap (λ (n : ℕ). take n c.args.out.now) (let none : 3 * g.row.DEPTH * 0 ≡ 0 = omega arith in none)
+    ∙ row_samples-none g.row.DEPTH (chain_of c.args.chain.now.base) c.args.row
 
 pub loop-x-preserved : goal.loop-x-preserved
-loop-x-preserved c =
+loop-x-preserved g c =
     let chain = c.args.chain.now in
     let level = c.level-level.result in
-    let texel = c.texel_in_level-column in
+    let place = c.texel_in_level-column in
     let width = c.size-width.result.0 in
-    pixel_drawn (chain_of chain.base) c.args.row c.loop-x.x level texel.result.0 texel.result.1
-    (chain_width chain level) (chain_height chain level) (3 * (texel.result.1 * width + texel.result.0)) width
-    c.samples-texels.result.now c.loop-x.out c.put_texel.new.out c.samples-texels.ensures c.level-level.ensures.value texel.ensures.column texel.ensures.row
-    (rw (← c.level-level.ensures.value, c.requires.surface) at texel.ensures.column_within)
-    (rw (← c.level-level.ensures.value, c.requires.surface) at texel.ensures.row_within) c.size-width.ensures.width
+    let P : ℕ → Type 0 = λ d. IsTexelRaster d (chain_of chain.base level) (chain_width chain level) (chain_height chain level)
+    c.samples-texels.result.now in
+    pixel_drawn g.row.DEPTH (chain_of chain.base) c.args.row c.loop-x.x level place.result.0 place.result.1
+    (chain_width chain level) (chain_height chain level) (place.result.1 * width + place.result.0) width
+    c.samples-texels.result.now c.loop-x.out c.put_texel.new.out (subst P c.requires.own c.samples-texels.ensures)
+    c.level-level.ensures.value place.ensures.column place.ensures.row
+    (rw (← c.level-level.ensures.value, c.requires.surface) at place.ensures.column_within)
+    (rw (← c.level-level.ensures.value, c.requires.surface) at place.ensures.row_within) c.size-width.ensures.width
     refl c.loop-x.invariant c.put_texel.ensures

@@ -4,4 +4,4 @@ use Rattle.vt_draw.proofs.plain.draw_plain_row.Given as goal
 
 -- the pixels so far were written
 abbrev pub invariant-loop-x : goal.invariant-loop-x
-invariant-loop-x l = take (3 * l.x) l.out ≡ row_samples (chain_of l.chain.base) l.row l.x
+invariant-loop-x g l = take (3 * g.row.DEPTH * l.x) l.out ≡ row_samples g.row.DEPTH (chain_of l.chain.base) l.row l.x

@@ -1,6 +1,7 @@
 use Rattle.std.proofs.Common.{◌≡◌, ℕ, ◌<◌, length, subst, sym, ◌∙◌, arith}
 use Rattle.vt_draw.specs.Lookups.{IsFinest}
-use Rattle.vt_draw.specs.Shots.{wanted_page, pixel_bytes, IsDrawn}
+use Rattle.vt_definitions.specs.Depths.{texel_bytes}
+use Rattle.vt_draw.specs.Shots.{wanted_page, IsDrawn}
 use Rattle.vt_draw.proofs.Counts.{pixels-none, pixels-most, counted-more}
 use Rattle.vt_draw.proofs.DrawnPixels.{finest_moved, drawn-more, wanted_is, read_is}
 use Rattle.vt_draw.proofs.shots.draw_pixels.Goals as goal
@@ -47,7 +48,7 @@ loop-x-preserved g c =
     wanted_is s row x page c.level-level.result here.result.0 here.result.1 c.page_at_place-page.ensures.page
     c.level-level.ensures.value here.ensures.column here.ensures.row in
     let F : ℕ → Type 0 = λ p. IsFinest s version (g.K.Lookup.says last) p found in
-    let drawn : IsDrawn s g.row.DEPTH version (g.K.Lookup.says last) row x (pixel_bytes g.row.DEPTH c.put_pixel.new.out x) = record {
+    let drawn : IsDrawn s g.row.DEPTH version (g.K.Lookup.says last) row x (texel_bytes g.row.DEPTH c.put_word.new.bytes x) = record {
       found = found;
       word = c.word_at_place-word.result;
       finest =
@@ -58,7 +59,7 @@ loop-x-preserved g c =
           read_is s (g.K.Lookup.shape last) version (g.K.Lookup.version last) (g.K.Lookup.says last) row x found.slot
           c.word_at_place-word.result found.level here.result.0 here.result.1
           shape number here.ensures.column here.ensures.row c.word_at_place-word.ensures.read;
-      shown = c.put_pixel.ensures.written;
+      shown = c.put_word.ensures.written;
     } in
     let below : page < length c.loop-x.counts = omega arith in
     record {
@@ -66,7 +67,7 @@ loop-x-preserved g c =
       version = number;
       said = λ note h. c.word_at_place-word.ensures.said note (c.found_for-found.ensures.said note (c.loop-x.invariant.said note h));
       finest = finest;
-      drawn = drawn-more s g.row.DEPTH version (g.K.Lookup.says c.loop-x.lookup) (g.K.Lookup.says last) row x c.loop-x.out c.put_pixel.new.out
-          (λ note h. c.word_at_place-word.ensures.said note (c.found_for-found.ensures.said note h)) c.put_pixel.ensures.kept drawn c.loop-x.invariant.drawn;
+      drawn = drawn-more s g.row.DEPTH version (g.K.Lookup.says c.loop-x.lookup) (g.K.Lookup.says last) row x c.loop-x.out c.put_word.new.bytes
+          (λ note h. c.word_at_place-word.ensures.said note (c.found_for-found.ensures.said note h)) c.put_word.ensures.kept drawn c.loop-x.invariant.drawn;
       counted = counted-more s row x page c.args.counts.now c.loop-x.counts wants below c.loop-x.invariant.counted;
     }

@@ -1,6 +1,7 @@
 use Rattle.std.proofs.Common.{◌≡◌, ℕ, ◌+◌, ◌<◌, length, slice_index}
 use Rattle.vt_draw.specs.Lookups.{Note, IsFinest}
-use Rattle.vt_draw.specs.Shots.{pixels_wanting, pixel_bytes, IsDrawn}
+use Rattle.vt_definitions.specs.Depths.{texel_bytes}
+use Rattle.vt_draw.specs.Shots.{pixels_wanting, IsDrawn}
 use Rattle.vt_draw.proofs.shots.draw_pixels.Given as goal
 
 -- the pixels so far are drawn and counted, and the look-up stands for what was found for the last of them
@@ -10,6 +11,6 @@ invariant-loop-x g l = record {
   version : g.K.Lookup.version l.lookup ≡ g.K.Lookup.version l.fn.lookup;
   said : (note : Note) → g.K.Lookup.says l.fn.lookup note → g.K.Lookup.says l.lookup note;
   finest : IsFinest (g.K.Lookup.shape l.lookup) (g.K.Lookup.version l.lookup) (g.K.Lookup.says l.lookup) l.wanted l.found;
-  drawn : (i : ℕ) → i < l.x → IsDrawn l.geometry g.row.DEPTH (g.K.Lookup.version l.fn.lookup) (g.K.Lookup.says l.lookup) l.row i (pixel_bytes g.row.DEPTH l.out i);
+  drawn : (i : ℕ) → i < l.x → IsDrawn l.geometry g.row.DEPTH (g.K.Lookup.version l.fn.lookup) (g.K.Lookup.says l.lookup) l.row i (texel_bytes g.row.DEPTH l.out i);
   counted : (p : ℕ) → p < length l.fn.counts → slice_index l.counts p ≡ slice_index l.fn.counts p + pixels_wanting l.geometry l.row l.x p;
 }
