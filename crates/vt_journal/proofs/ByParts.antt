@@ -32,7 +32,8 @@ more_changes : (js ks : List Change) → 1 ≤ length js → 1 ≤ length (js ++
 more_changes js ks some = omega (arith, some, length-append js ks)
 
 -- passes that follow one another are lines that may come, and leave none missing
-passes_admitted : (s : Shape) (height pinned : ℕ) (r : Reading) (ps : List Pass) → IsComplete s height r → pinned_by s r.changes ≡ pinned → 1 ≤ length r.changes → ArePassesAfter s height pinned r.changes r.passes r.picture ps
+passes_admitted : (s : Shape) (height pinned : ℕ) (r : Reading) (ps : List Pass) → IsComplete s height r
+    → pinned_by s r.changes ≡ pinned → 1 ≤ length r.changes → ArePassesAfter s height pinned r.changes r.passes r.picture ps
     → AreAdmitted s height r (flat_map pass_lines ps) × IsComplete s height (after_all r (flat_map pass_lines ps))
 passes_admitted s height pinned r [] whole by some all = (tt, whole)
 passes_admitted s height pinned r (p ∷ ps) whole by some all =
@@ -46,11 +47,13 @@ passes_admitted s height pinned r (p ∷ ps) whole by some all =
     )
 
 -- before a pass, or at the end, none is missing
-complete_before : (s : Shape) (height : ℕ) (r : Reading) (ps : List Pass) → AreAdmitted s height r (flat_map pass_lines ps) → IsComplete s height (after_all r (flat_map pass_lines ps)) → IsComplete s height r
+complete_before : (s : Shape) (height : ℕ) (r : Reading) (ps : List Pass) → AreAdmitted s height r (flat_map pass_lines ps)
+    → IsComplete s height (after_all r (flat_map pass_lines ps)) → IsComplete s height r
 complete_before s height r [] all whole = whole
 complete_before s height r (p ∷ ps) all whole = all.0.0
 
-passes_follow : (s : Shape) (height pinned : ℕ) (r : Reading) (ps : List Pass) → pinned_by s r.changes ≡ pinned → 1 ≤ length r.changes → AreAdmitted s height r (flat_map pass_lines ps)
+passes_follow : (s : Shape) (height pinned : ℕ) (r : Reading) (ps : List Pass) → pinned_by s r.changes ≡ pinned
+    → 1 ≤ length r.changes → AreAdmitted s height r (flat_map pass_lines ps)
     → IsComplete s height (after_all r (flat_map pass_lines ps)) → ArePassesAfter s height pinned r.changes r.passes r.picture ps
 passes_follow s height pinned r [] by some all whole = tt
 passes_follow s height pinned r (p ∷ ps) by some all whole =
@@ -108,7 +111,8 @@ parts_of_lawful s height c lawful =
     }
 
 -- the pinned pages of such a content are pinned
-events_pinned : (s : Shape) (pinned : ℕ) (changes : List Change) (es : List Event) → Pinned s changes pinned → pinned ≤ length changes → AreEventsAfter s pinned changes es → Pinned s (changes ++ changes_of es) pinned
+events_pinned : (s : Shape) (pinned : ℕ) (changes : List Change) (es : List Event) → Pinned s changes pinned
+    → pinned ≤ length changes → AreEventsAfter s pinned changes es → Pinned s (changes ++ changes_of es) pinned
 events_pinned s pinned changes [] pin some all = subst (λ (js : List Change). Pinned s js pinned) (sym (append-nil changes)) pin
 events_pinned s pinned changes (Changed (Map p f) ∷ es) pin some all =
     let grown = pinned-more s changes (Map p f) pinned pin some (λ q g e. cc) in
@@ -121,7 +125,8 @@ events_pinned s pinned changes (Changed (Unmap p f) ∷ es) pin some all =
     (events_pinned s pinned (changes ++ Unmap p f ∷ []) es grown (omega (arith, some, length-append changes (Unmap p f ∷ []))) all.2)
 events_pinned s pinned changes (Lost p ∷ es) pin some all = events_pinned s pinned changes es pin some all.2
 
-passes_pinned : (s : Shape) (height pinned passes before : ℕ) (changes : List Change) (ps : List Pass) → Pinned s changes pinned → pinned ≤ length changes → ArePassesAfter s height pinned changes passes before ps
+passes_pinned : (s : Shape) (height pinned passes before : ℕ) (changes : List Change) (ps : List Pass) → Pinned s changes pinned
+    → pinned ≤ length changes → ArePassesAfter s height pinned changes passes before ps
     → Pinned s (changes ++ passes_changes ps) pinned
 passes_pinned s height pinned passes before changes [] pin some all = subst (λ (js : List Change). Pinned s js pinned) (sym (append-nil changes)) pin
 passes_pinned s height pinned passes before changes (p ∷ ps) pin some all =
@@ -135,7 +140,8 @@ content_pinned s height c by =
     let count = count_to s c.pinned c.pinned in
     let head : Pinned s js c.pinned = record {
       few = by.head.few;
-      first = λ i small. slice_get-get_or js i (Map 0 0) (omega (arith, count, small)) ∙ ap Some (get_or-map-range_with_len (pinned_change s c.pinned) 0 c.pinned i i (Map 0 0) small (omega arith));
+      first = λ i small. slice_get-get_or js i (Map 0 0) (omega (arith, count, small))
+          ∙ ap Some (get_or-map-range_with_len (pinned_change s c.pinned) 0 c.pinned i i (Map 0 0) small (omega arith));
       kept = λ v p f high at. absurd (omega (arith, slice_get_within js v (Unmap p f) at, count, high));
     } in
     passes_pinned s height c.pinned 0 0 js c.passes head (omega (arith, count)) by.passes

@@ -21,7 +21,8 @@ length-changes_of [] = omega arith
 length-changes_of (Changed c ∷ es) = omega (arith, length-changes_of es)
 length-changes_of (Lost p ∷ es) = omega (arith, length-changes_of es)
 
-pub event_lines-append : (v : ℕ) (es fs : List Event) → event_lines v (es ++ fs) ≡ event_lines v es ++ event_lines (v + length (changes_of es)) fs
+pub event_lines-append : (v : ℕ) (es fs : List Event)
+    → event_lines v (es ++ fs) ≡ event_lines v es ++ event_lines (v + length (changes_of es)) fs
 event_lines-append v [] fs = let e : v ≡ v + 0 = omega arith in ap (λ n. event_lines n fs) e
 event_lines-append v (Changed c ∷ es) fs =
     let e : v + 1 + length (changes_of es) ≡ v + suc (length (changes_of es)) = omega arith in
@@ -29,7 +30,8 @@ event_lines-append v (Changed c ∷ es) fs =
 event_lines-append v (Lost p ∷ es) fs = ap (λ ls. Loses p ∷ ls) (event_lines-append v es fs)
 
 -- one event more
-pub version_more : (v w : ℕ) (es : List Event) (e : Event) → w ≡ v + length (changes_of es) → w + length (changes_of (e ∷ [])) ≡ v + length (changes_of (es ++ e ∷ []))
+pub version_more : (v w : ℕ) (es : List Event) (e : Event) → w ≡ v + length (changes_of es)
+    → w + length (changes_of (e ∷ [])) ≡ v + length (changes_of (es ++ e ∷ []))
 version_more v w es e is = omega (arith, is, ap length (changes_of-append es (e ∷ [])), length-append (changes_of es) (changes_of (e ∷ [])))
 
 pub lines_text-append : (s : Shape) (ls ms : List Line) → lines_text s (ls ++ ms) ≡ lines_text s ls ++ lines_text s ms

@@ -1,6 +1,7 @@
 -- The events of a pass, read one after another.
-use Rattle.std.proofs.Common.{◌≡◌, ◌≢◌, ℕ, ◌+◌, ◌≤◌, ◌^◌, inr, List, [], ◌∷◌, ◌++◌, length, refl, sym, ap, ◌∙◌, subst, arith, append_assoc, length-append, None, drop}
+use Rattle.std.proofs.Common.{◌≡◌, ◌≢◌, ℕ, ◌+◌, ◌≤◌, inr, List, [], ◌∷◌, ◌++◌, length, refl, sym, ap, ◌∙◌, subst, arith, append_assoc, length-append, None, drop}
 use Rattle.std.proofs.lemmas.List.{append-nil}
+use Rattle.vt_definitions.specs.Limits.{most_versions}
 use Rattle.vt_pages.specs.Shape.{Shape}
 use Rattle.vt_journal.specs.declared.changes.Change.{Change}
 use Rattle.vt_journal.specs.declared.changes.Change.TheVariants.{Map, Unmap}
@@ -25,16 +26,20 @@ abbrev made : List Change → ℕ → ℕ → ℕ → List RowLine → Reading
 made changes passes picture start rows = record { changes = changes; passes = passes; picture = picture; start = start; rows = rows }
 
 -- what events tell
-pub after_events : (r : Reading) (v : ℕ) (es : List Event) → after_all r (event_lines v es) ≡ made (r.changes ++ changes_of es) r.passes r.picture r.start r.rows
+pub after_events : (r : Reading) (v : ℕ) (es : List Event)
+    → after_all r (event_lines v es) ≡ made (r.changes ++ changes_of es) r.passes r.picture r.start r.rows
 after_events r v [] = ap (λ cs. made cs r.passes r.picture r.start r.rows) (sym (append-nil r.changes))
 after_events r v (Changed c ∷ es) =
-    after_events (after r (Makes (v + 1) c)) (v + 1) es ∙ ap (λ cs. made cs r.passes r.picture r.start r.rows) (append_assoc r.changes (c ∷ []) (changes_of es))
+    after_events (after r (Makes (v + 1) c)) (v + 1) es
+    ∙ ap (λ cs. made cs r.passes r.picture r.start r.rows) (append_assoc r.changes (c ∷ []) (changes_of es))
 after_events r v (Lost p ∷ es) = after_events r v es
 
 pub same_reading : (changes : List Change) (p q : PassText) → AreSameButEvents p q → reading_of changes q ≡ reading_of changes p
 same_reading changes p q same =
-    ap (λ x. made changes x q.picture q.start q.rows.elements) same.pass ∙ ap (λ x. made changes p.pass x q.start q.rows.elements) same.picture
-    ∙ ap (λ x. made changes p.pass p.picture x q.rows.elements) same.start ∙ ap (λ x. made changes p.pass p.picture p.start x) same.rows
+    ap (λ x. made changes x q.picture q.start q.rows.elements) same.pass
+    ∙ ap (λ x. made changes p.pass x q.start q.rows.elements) same.picture
+    ∙ ap (λ x. made changes p.pass p.picture x q.rows.elements) same.start
+    ∙ ap (λ x. made changes p.pass p.picture p.start x) same.rows
 
 -- the first change decides which pages are pinned
 pub pinned_stays : (s : Shape) (js ks : List Change) → 1 ≤ length js → pinned_by s (js ++ ks) ≡ pinned_by s js
@@ -42,13 +47,15 @@ pinned_stays s [] ks some = absurd (omega arith)
 pinned_stays s (j ∷ js) ks some = refl
 
 -- a change that may come among the events is a line that may come next
-pub change_admitted : (s : Shape) (height : ℕ) (changes : List Change) (pages pinned : ℕ) (pass : PassText) (v : ℕ) (c : Change) → IsInPass s height changes pages pinned pass → IsReadable s (Makes v c)
+pub change_admitted : (s : Shape) (height : ℕ) (changes : List Change) (pages pinned : ℕ) (pass : PassText) (v : ℕ) (c : Change)
+    → IsInPass s height changes pages pinned pass → IsReadable s (Makes v c)
     → IsEventChange s changes pinned v c → Admits s height (reading_of changes pass) (Makes v c)
 change_admitted s height changes pages pinned pass v (Map p f) is read may = (may.version_is, (read.page_inside, read.frame_inside, inr (is.in_pass, is.no_rows)), may.next)
 change_admitted s height changes pages pinned pass v (Unmap p f) is read may =
     (may.version_is, (read.page_inside, read.frame_inside, omega (arith, may.unpinned, is.pinned_is), (is.in_pass, is.no_rows)), may.next)
 
-pub admitted_change : (s : Shape) (height : ℕ) (changes : List Change) (pages pinned : ℕ) (pass : PassText) (v : ℕ) (c : Change) → IsInPass s height changes pages pinned pass
+pub admitted_change : (s : Shape) (height : ℕ) (changes : List Change) (pages pinned : ℕ) (pass : PassText) (v : ℕ) (c : Change)
+    → IsInPass s height changes pages pinned pass
     → Admits s height (reading_of changes pass) (Makes v c) → IsEventChange s changes pinned v c
 admitted_change s height changes pages pinned pass v (Map p f) is a = record { version_is = a.0; unpinned = tt; next = a.2 }
 admitted_change s height changes pages pinned pass v (Unmap p f) is a = record { version_is = a.0; unpinned = omega (arith, a.1.2, is.pinned_is); next = a.2 }
@@ -106,7 +113,9 @@ module _ (s : Shape) (height : ℕ) (text : List ℕ) where
   pub reading_after : (before mid : List Change) (pass pass_mid : PassText) (at number at1 number1 : ℕ) → (a : AreEventsRead s height text before mid pass pass_mid at number at1 number1)
       → reading_of mid pass_mid ≡ after_all (reading_of before pass) (event_lines (length before) a.events)
   reading_after before mid pass pass_mid at number at1 number1 a =
-      same_reading mid pass pass_mid a.same ∙ ap (λ cs. made cs pass.pass pass.picture pass.start pass.rows.elements) a.changes_are ∙ sym (after_events (reading_of before pass) (length before) a.events)
+      same_reading mid pass pass_mid a.same
+      ∙ ap (λ cs. made cs pass.pass pass.picture pass.start pass.rows.elements) a.changes_are
+      ∙ sym (after_events (reading_of before pass) (length before) a.events)
 
   -- events after events
   pub events_more : (before mid last : List Change) (pass pass_mid pass_last : PassText) (at number at1 number1 at2 number2 : ℕ) → AreEventsRead s height text before mid pass pass_mid at number at1 number1
@@ -120,7 +129,9 @@ module _ (s : Shape) (height : ℕ) (text : List ℕ) where
       record {
         events = a.events ++ b.events;
         added = b.added ∙ ap (λ x. x ++ b.events) a.added ∙ append_assoc pass.events.elements a.events b.events;
-        changes_are = b.changes_are ∙ ap (λ x. x ++ changes_of b.events) a.changes_are ∙ append_assoc before (changes_of a.events) (changes_of b.events) ∙ ap (λ x. before ++ x) (sym (changes_of-append a.events b.events));
+        changes_are = b.changes_are ∙ ap (λ x. x ++ changes_of b.events) a.changes_are
+            ∙ append_assoc before (changes_of a.events) (changes_of b.events)
+            ∙ ap (λ x. before ++ x) (sym (changes_of-append a.events b.events));
         same = record { pass = b.same.pass ∙ a.same.pass; picture = b.same.picture ∙ a.same.picture; start = b.same.start ∙ a.same.start; rows = b.same.rows ∙ a.same.rows };
         advances = subst (λ (ls : List Line). Advances s height text (reading_of before pass) at number ls at2 number2) lines
             (advance_more s height text (reading_of before pass) at number (event_lines (length before) a.events) (event_lines (length mid) b.events) at1 number1 at2 number2 a.advances rest);
@@ -135,7 +146,7 @@ module _ (s : Shape) (height : ℕ) (text : List ℕ) where
 
   -- a pass stays without rows
   pub in_pass_still : (before mid : List Change) (pages pages_mid pinned : ℕ) (pass pass_mid : PassText) (at number at1 number1 : ℕ) → AreEventsRead s height text before mid pass pass_mid at number at1 number1
-      → pages_mid ≡ pages → length mid ≤ 2 ^ 62 → IsInPass s height before pages pinned pass → IsInPass s height mid pages_mid pinned pass_mid
+      → pages_mid ≡ pages → length mid ≤ most_versions → IsInPass s height before pages pinned pass → IsInPass s height mid pages_mid pinned pass_mid
   in_pass_still before mid pages pages_mid pinned pass pass_mid at number at1 number1 a same few is = record {
     small = record { tile = is.small.tile; short = is.small.short; passes = omega (arith, is.small.passes, a.same.pass); picture = omega (arith, is.small.picture, a.same.pass, a.same.picture); changes = few };
     some = omega (arith, is.some, ap length a.changes_are, length-append before (changes_of a.events));

@@ -20,7 +20,8 @@ abbrev made : List Change → ℕ → ℕ → ℕ → List RowLine → Reading
 made changes passes picture start rows = record { changes = changes; passes = passes; picture = picture; start = start; rows = rows }
 
 -- events that may come after one another are lines that may
-events_admitted : (s : Shape) (height pinned passes picture start : ℕ) (changes : List Change) (es : List Event) → 1 ≤ passes → pinned_by s changes ≡ pinned → 1 ≤ length changes → AreEventsAfter s pinned changes es
+events_admitted : (s : Shape) (height pinned passes picture start : ℕ) (changes : List Change) (es : List Event) → 1 ≤ passes
+    → pinned_by s changes ≡ pinned → 1 ≤ length changes → AreEventsAfter s pinned changes es
     → AreAdmitted s height (made changes passes picture start []) (event_lines (length changes) es)
 events_admitted s height pinned passes picture start changes [] some_pass by some all = tt
 events_admitted s height pinned passes picture start changes (Changed (Map p f) ∷ es) some_pass by some all =
@@ -39,7 +40,8 @@ events_admitted s height pinned passes picture start changes (Lost p ∷ es) som
     (((some_pass, refl), all.0, all.1), events_admitted s height pinned passes picture start changes es some_pass by some all.2)
 
 -- rows that may come after one another are lines that may
-rows_admitted : (s : Shape) (height passes picture start : ℕ) (changes : List Change) (before rest whole : List RowLine) → 1 ≤ passes → whole ≡ before ++ rest → AreRowsOf height start (length changes) whole
+rows_admitted : (s : Shape) (height passes picture start : ℕ) (changes : List Change) (before rest whole : List RowLine)
+    → 1 ≤ passes → whole ≡ before ++ rest → AreRowsOf height start (length changes) whole
     → AreAdmitted s height (made changes passes picture start before) (map Draws rest)
 rows_admitted s height passes picture start changes before [] whole some_pass is all = tt
 rows_admitted s height passes picture start changes before (row ∷ rest) whole some_pass is all =
@@ -63,14 +65,17 @@ rows_admitted s height passes picture start changes before (row ∷ rest) whole 
     )
 
 -- what a pass tells
-pub told_by_pass : (r : Reading) (p : Pass) → after_all r (pass_lines p) ≡ made (r.changes ++ changes_of p.events) p.pass p.picture p.start p.rows
+pub told_by_pass : (r : Reading) (p : Pass)
+    → after_all r (pass_lines p) ≡ made (r.changes ++ changes_of p.events) p.pass p.picture p.start p.rows
 told_by_pass r p =
     let b = after r (Begins p.pass p.picture p.start) in
-    after_all-append b (event_lines p.start p.events) (map Draws p.rows) ∙ ap (λ (x : Reading). after_all x (map Draws p.rows)) (after_events b p.start p.events)
+    after_all-append b (event_lines p.start p.events) (map Draws p.rows)
+    ∙ ap (λ (x : Reading). after_all x (map Draws p.rows)) (after_events b p.start p.events)
     ∙ after_rows (made (r.changes ++ changes_of p.events) p.pass p.picture p.start []) p.rows
 
 -- a pass that may come next, by its lines
-pub pass_admitted : (s : Shape) (height pinned : ℕ) (r : Reading) (p : Pass) → IsComplete s height r → pinned_by s r.changes ≡ pinned → 1 ≤ length r.changes → IsPassAfter s height pinned r.changes r.passes r.picture p
+pub pass_admitted : (s : Shape) (height pinned : ℕ) (r : Reading) (p : Pass) → IsComplete s height r
+    → pinned_by s r.changes ≡ pinned → 1 ≤ length r.changes → IsPassAfter s height pinned r.changes r.passes r.picture p
     → AreAdmitted s height r (pass_lines p)
 pass_admitted s height pinned r p whole by some next =
     let b = after r (Begins p.pass p.picture p.start) in
@@ -84,6 +89,7 @@ pass_admitted s height pinned r p whole by some next =
     (rows_admitted s height p.pass p.picture p.start (r.changes ++ changes_of p.events) [] p.rows p.rows some_pass refl all) in
     ((whole, next.pass_is, next.picture_is, next.start_is), admitted-append s height b (event_lines p.start p.events) (map Draws p.rows) events rows)
 
-pub pass_complete : (s : Shape) (height pinned : ℕ) (r : Reading) (p : Pass) → IsPassAfter s height pinned r.changes r.passes r.picture p → IsComplete s height (after_all r (pass_lines p))
+pub pass_complete : (s : Shape) (height pinned : ℕ) (r : Reading) (p : Pass)
+    → IsPassAfter s height pinned r.changes r.passes r.picture p → IsComplete s height (after_all r (pass_lines p))
 pass_complete s height pinned r p next =
     subst (IsComplete s height) (sym (told_by_pass r p)) (record { head = λ none. absurd (omega (arith, next.pass_is, none)); rows = λ some. next.rows.count })

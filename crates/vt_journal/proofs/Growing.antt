@@ -17,13 +17,15 @@ use Rattle.vt_journal.proofs.Versions.{in_turn-none, in_turn-more}
 use Rattle.vt_journal.proofs.Stepping.{admitted-append, after_all-append}
 
 -- the changes that lines tell come in turn
-next_of : (s : Shape) (height : ℕ) (r : Reading) (l : Line) → Admits s height r l → AreInTurn r.changes → AreInTurn (after r l).changes
+next_of : (s : Shape) (height : ℕ) (r : Reading) (l : Line) → Admits s height r l → AreInTurn r.changes
+    → AreInTurn (after r l).changes
 next_of s height r (Begins n k v) a turn = turn
 next_of s height r (Makes v c) a turn = in_turn-more r.changes c turn a.2
 next_of s height r (Loses p) a turn = turn
 next_of s height r (Draws row) a turn = turn
 
-pub lines_in_turn : (s : Shape) (height : ℕ) (r : Reading) (ls : List Line) → AreAdmitted s height r ls → AreInTurn r.changes → AreInTurn (after_all r ls).changes
+pub lines_in_turn : (s : Shape) (height : ℕ) (r : Reading) (ls : List Line) → AreAdmitted s height r ls → AreInTurn r.changes
+    → AreInTurn (after_all r ls).changes
 lines_in_turn s height r [] a turn = turn
 lines_in_turn s height r (l ∷ ls) a turn = lines_in_turn s height (after r l) ls a.1 (next_of s height r l a.0 turn)
 
@@ -60,15 +62,19 @@ row_changes (row ∷ rows) = row_changes rows
 
 pass_changes : (p : Pass) → lines_changes (pass_lines p) ≡ changes_of p.events
 pass_changes p =
-    changes-append (event_lines p.start p.events) (map Draws p.rows) ∙ ap (λ cs. lines_changes (event_lines p.start p.events) ++ cs) (row_changes p.rows)
+    changes-append (event_lines p.start p.events) (map Draws p.rows)
+    ∙ ap (λ cs. lines_changes (event_lines p.start p.events) ++ cs) (row_changes p.rows)
     ∙ append-nil (lines_changes (event_lines p.start p.events)) ∙ event_changes p.start p.events
 
 all_pass_changes : (ps : List Pass) → lines_changes (flat_map pass_lines ps) ≡ passes_changes ps
 all_pass_changes [] = refl
 all_pass_changes (p ∷ ps) =
-    changes-append (pass_lines p) (flat_map pass_lines ps) ∙ ap (λ cs. cs ++ lines_changes (flat_map pass_lines ps)) (pass_changes p) ∙ ap (λ cs. changes_of p.events ++ cs) (all_pass_changes ps)
+    changes-append (pass_lines p) (flat_map pass_lines ps)
+    ∙ ap (λ cs. cs ++ lines_changes (flat_map pass_lines ps)) (pass_changes p)
+    ∙ ap (λ cs. changes_of p.events ++ cs) (all_pass_changes ps)
 
-head_changes : (s : Shape) (pinned : ℕ) (places : List ℕ) → lines_changes (map (λ i. Makes (i + 1) (pinned_change s pinned i)) places) ≡ map (pinned_change s pinned) places
+head_changes : (s : Shape) (pinned : ℕ) (places : List ℕ)
+    → lines_changes (map (λ i. Makes (i + 1) (pinned_change s pinned i)) places) ≡ map (pinned_change s pinned) places
 head_changes s pinned [] = refl
 head_changes s pinned (i ∷ places) = ap (λ cs. pinned_change s pinned i ∷ cs) (head_changes s pinned places)
 
@@ -76,7 +82,8 @@ head_changes s pinned (i ∷ places) = ap (λ cs. pinned_change s pinned i ∷ c
 pub told_content : (s : Shape) (c : Content) → (after_all nothing_read (content_lines s c)).changes ≡ content_changes s c
 told_content s c =
     told_changes nothing_read (content_lines s c) ∙ changes-append (head_lines s c.pinned) (flat_map pass_lines c.passes)
-    ∙ ap (λ cs. cs ++ lines_changes (flat_map pass_lines c.passes)) (head_changes s c.pinned (range_with_len 0 c.pinned)) ∙ ap (λ cs. pinned_changes s c.pinned ++ cs) (all_pass_changes c.passes)
+    ∙ ap (λ cs. cs ++ lines_changes (flat_map pass_lines c.passes)) (head_changes s c.pinned (range_with_len 0 c.pinned))
+    ∙ ap (λ cs. pinned_changes s c.pinned ++ cs) (all_pass_changes c.passes)
 
 -- the journal of a lawful content has its changes in turn
 pub lawful_in_turn : (s : Shape) (height : ℕ) (c : Content) → IsLawful s height c → AreInTurn (content_changes s c)
@@ -91,7 +98,8 @@ lines_more s c p =
     append_assoc (head_lines s c.pinned) (flat_map pass_lines c.passes) (pass_lines p)
     ∙ ap (λ ls. head_lines s c.pinned ++ ls) (ap (λ ls. flat_map pass_lines c.passes ++ ls) (sym (append-nil (pass_lines p))) ∙ sym (flat_map-append pass_lines c.passes (p ∷ [])))
 
-pub lawful_more : (s : Shape) (height : ℕ) (c : Content) (p : Pass) → IsLawful s height c → AreAdmitted s height (after_all nothing_read (content_lines s c)) (pass_lines p)
+pub lawful_more : (s : Shape) (height : ℕ) (c : Content) (p : Pass) → IsLawful s height c
+    → AreAdmitted s height (after_all nothing_read (content_lines s c)) (pass_lines p)
     → IsComplete s height (after_all (after_all nothing_read (content_lines s c)) (pass_lines p)) → IsLawful s height (with_pass c p)
 lawful_more s height c p lawful admitted complete = record {
   admitted = subst (AreAdmitted s height nothing_read) (lines_more s c p) (admitted-append s height nothing_read (content_lines s c) (pass_lines p) lawful.admitted admitted);

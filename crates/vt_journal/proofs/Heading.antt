@@ -38,11 +38,13 @@ after_heads s pinned (i ∷ places) r =
     ∙ ap (λ cs. made cs r.passes r.picture r.start r.rows) (append_assoc r.changes (pinned_change s pinned i ∷ []) (map (pinned_change s pinned) places))
 
 -- what the lines told
-pub told : (s : Shape) (pinned place : ℕ) (changes : List Change) → changes ≡ changes_to s pinned place → after_all nothing_read (lines_to s pinned place) ≡ head_reading changes
+pub told : (s : Shape) (pinned place : ℕ) (changes : List Change) → changes ≡ changes_to s pinned place
+    → after_all nothing_read (lines_to s pinned place) ≡ head_reading changes
 told s pinned place changes is = after_heads s pinned (range_with_len 0 place) nothing_read ∙ ap head_reading (sym is)
 
 -- how many pages are pinned by the first of their changes
-pub pinned_by_first : (s : Shape) (pinned place : ℕ) → 1 ≤ place → pinned ≤ pages_of s → pinned_by s (changes_to s pinned place) ≡ pinned
+pub pinned_by_first : (s : Shape) (pinned place : ℕ) → 1 ≤ place → pinned ≤ pages_of s
+    → pinned_by s (changes_to s pinned place) ≡ pinned
 pinned_by_first s pinned zero some few = absurd (omega arith)
 pinned_by_first s pinned (suc n) some few = omega (arith, few)
 
@@ -124,7 +126,8 @@ module _ (s : Shape) (height : ℕ) (text : List ℕ) (limits : IsSource s heigh
               let frame : f ≡ place = head.next_frame ∙ count in
               let version : v ≡ place + 1 = omega (arith, a.0, count) in
               let page : p ≡ pages_of s - pinned + place = omega (arith, head.next_page (omega (arith, count, begun.some)), count, by_first, begun.few) in (
-                ap (λ x. Makes x (Map p f)) version ∙ ap (λ x. Makes (place + 1) (Map x f)) page ∙ ap (λ x. Makes (place + 1) (Map (pages_of s - pinned + place) x)) frame,
+                ap (λ x. Makes x (Map p f)) version ∙ ap (λ x. Makes (place + 1) (Map x f)) page
+                    ∙ ap (λ x. Makes (place + 1) (Map (pages_of s - pinned + place) x)) frame,
                 subst (λ x. IsNext (newest changes) (Map x place)) page (subst (λ x. IsNext (newest changes) (Map p x)) frame a.2),
               )
           | inr before ↦ absurd (omega (arith, before.0))
@@ -152,7 +155,8 @@ module _ (s : Shape) (height : ℕ) (text : List ℕ) (limits : IsSource s heigh
           some = omega (arith, begun.some);
           most = omega (arith, below);
           few = begun.few;
-          changes_are = made_is ∙ ap (λ cs. cs ++ pinned_change s pinned place ∷ []) begun.changes_are ∙ sym (map-range_with_len_more (pinned_change s pinned) 0 place place (omega arith));
+          changes_are = made_is ∙ ap (λ cs. cs ++ pinned_change s pinned place ∷ []) begun.changes_are
+              ∙ sym (map-range_with_len_more (pinned_change s pinned) 0 place place (omega arith));
           advances = subst (λ (ls : List Line). Advances s height text nothing_read 0 1 ls next_at next_number) (sym (map-range_with_len_more (λ i. Makes (i + 1) (pinned_change s pinned i)) 0 place place (omega arith)))
               (advance_more s height text nothing_read 0 1 (lines_to s pinned place) (Makes (place + 1) (Map page place) ∷ []) at number next_at next_number begun.advances rest);
         }

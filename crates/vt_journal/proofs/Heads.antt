@@ -18,7 +18,8 @@ use Rattle.vt_journal.proofs.Stepping.{admitted-append}
 use Rattle.vt_journal.proofs.Heading.{lines_to, changes_to, told, pinned_by_first}
 
 -- no page is mapped by the maps of the pinned pages but these, each to its own frame
-newest_of_pinned : (s : Shape) (pinned n q f : ℕ) → newest (map (pinned_change s pinned) (range_with_len 0 n)) q ≡ Some f → (f < n) × (q ≡ pages_of s - pinned + f)
+newest_of_pinned : (s : Shape) (pinned n q f : ℕ) → newest (map (pinned_change s pinned) (range_with_len 0 n)) q ≡ Some f
+    → (f < n) × (q ≡ pages_of s - pinned + f)
 newest_of_pinned s pinned zero q f e = let both : None ≡ Some f = sym (newest-none q) ∙ e in cc
 newest_of_pinned s pinned (suc n) q f e =
     let js = map (pinned_change s pinned) (range_with_len 0 n) in
@@ -45,7 +46,8 @@ pub count_to : (s : Shape) (pinned n : ℕ) → length (changes_to s pinned n) �
 count_to s pinned n = length-map-range_with_len (pinned_change s pinned) 0 n
 
 -- the lines of the head may come one after another
-pub heads_admitted : (s : Shape) (height pinned n : ℕ) → MayBePinned s pinned → n ≤ pinned → AreAdmitted s height nothing_read (lines_to s pinned n)
+pub heads_admitted : (s : Shape) (height pinned n : ℕ) → MayBePinned s pinned → n ≤ pinned
+    → AreAdmitted s height nothing_read (lines_to s pinned n)
 heads_admitted s height pinned zero may low = tt
 heads_admitted s height pinned (suc n) may low =
     let next : suc n ≡ n + 1 = omega arith in
@@ -61,17 +63,20 @@ heads_admitted s height pinned (suc n) may low =
     (subst (λ (r : Reading). AreAdmitted s height r (Makes (n + 1) (pinned_change s pinned n) ∷ [])) (sym (told s pinned n js refl)) (one, tt)))
 
 -- what the head told
-pub told_by_head : (s : Shape) (pinned : ℕ) → after_all nothing_read (head_lines s pinned) ≡ head_reading (pinned_changes s pinned)
+pub told_by_head : (s : Shape) (pinned : ℕ)
+    → after_all nothing_read (head_lines s pinned) ≡ head_reading (pinned_changes s pinned)
 told_by_head s pinned = told s pinned pinned (pinned_changes s pinned) refl
 
-pub head_complete : (s : Shape) (height pinned : ℕ) → MayBePinned s pinned → IsComplete s height (head_reading (pinned_changes s pinned))
+pub head_complete : (s : Shape) (height pinned : ℕ) → MayBePinned s pinned
+    → IsComplete s height (head_reading (pinned_changes s pinned))
 head_complete s height pinned may =
     let count = count_to s pinned pinned in
     let by = pinned_by_first s pinned pinned may.some may.few in
     record { head = λ none. (omega (arith, count, may.some), count ∙ sym by); rows = λ some. absurd (omega (arith, some)) }
 
 -- a head alone
-pub head_lawful : (s : Shape) (height pinned : ℕ) → MayBePinned s pinned → IsLawful s height (record { pinned = pinned; passes = [] })
+pub head_lawful : (s : Shape) (height pinned : ℕ) → MayBePinned s pinned
+    → IsLawful s height (record { pinned = pinned; passes = [] })
 head_lawful s height pinned may =
     let same : head_lines s pinned ≡ head_lines s pinned ++ [] = sym (append-nil (head_lines s pinned)) in
     record {

@@ -1,8 +1,7 @@
 -- The numbers of pages and frames give each other.
 use Rattle.std.proofs.Common.{◌≡◌, ◌≢◌, ℕ, zero, suc, ◌+◌, ◌<◌, ◌≤◌, inl, inr, Bool, true, false, eqb, List, length, get_or, set, refl, sym, ap, ◌∙◌, arith, Some, None, MatchBool, get_or-set_other, get_or-set_same, length-set}
 use Rattle.std.proofs.lemmas.Bool.{eqb-true, eqb-false}
-use Rattle.vt_definitions.specs.Limits.{most_pages}
-use Rattle.vt_journal.specs.Bounds.{most_frames}
+use Rattle.vt_definitions.specs.Limits.{most_pages, most_frames}
 use Rattle.vt_journal.specs.Changes.{IsFree, nothing_mapped}
 use Rattle.vt_journal.specs.Kept.{entry_of, entries_of, ArePaired}
 use Rattle.vt_journal.proofs.Versions.{same_page}
@@ -24,16 +23,19 @@ free_zero frames pages f pair none p e =
     let back : get_or pages f 0 ≡ suc p = (pair.by_page p f (number_some (get_or frames p 0) f e)).1 in
     omega (arith, none, back)
 
-taken : (frames pages : List ℕ) (f n : ℕ) → ArePaired frames pages → get_or pages f 0 ≡ n → n ≢ 0 → IsFree (entries_of frames) f → ⊥
+taken : (frames pages : List ℕ) (f n : ℕ) → ArePaired frames pages → get_or pages f 0 ≡ n → n ≢ 0 → IsFree (entries_of frames) f
+    → ⊥
 taken frames pages f zero pair is some free = some refl
 taken frames pages f (suc p) pair is some free = free p (some_number (get_or frames p 0) f (pair.by_frame f p is))
 
-pub free_by_number : (frames pages : List ℕ) (f n : ℕ) (b : Bool) → ArePaired frames pages → get_or pages f 0 ≡ n → eqb n 0 ≡ b → MatchBool b (IsFree (entries_of frames) f) (IsFree (entries_of frames) f → ⊥)
+pub free_by_number : (frames pages : List ℕ) (f n : ℕ) (b : Bool) → ArePaired frames pages → get_or pages f 0 ≡ n → eqb n 0 ≡ b
+    → MatchBool b (IsFree (entries_of frames) f) (IsFree (entries_of frames) f → ⊥)
 free_by_number frames pages f n true pair is e = free_zero frames pages f pair (is ∙ eqb-true n 0 e)
 free_by_number frames pages f n false pair is e = taken frames pages f n pair is (eqb-false n 0 e)
 
 -- where all numbers are 0
-pub paired-none : (frames pages : List ℕ) → length frames ≤ most_pages → length pages ≡ most_frames → ((k : ℕ) → get_or frames k 0 ≡ 0) → ((k : ℕ) → get_or pages k 0 ≡ 0) → ArePaired frames pages
+pub paired-none : (frames pages : List ℕ) → length frames ≤ most_pages → length pages ≡ most_frames
+    → ((k : ℕ) → get_or frames k 0 ≡ 0) → ((k : ℕ) → get_or pages k 0 ≡ 0) → ArePaired frames pages
 paired-none frames pages few all none_f none_p = record {
   few_pages = few;
   all_frames = all;
@@ -52,7 +54,8 @@ set_elsewhere : (xs : List ℕ) (i v k : ℕ) → k ≢ i → get_or (set xs i v
 set_elsewhere xs i v k other = get_or-set_other xs i k v 0 other
 
 -- after a map
-pub paired-map : (frames pages : List ℕ) (page frame : ℕ) → ArePaired frames pages → page < length frames → frame < most_frames → entries_of frames page ≡ None → IsFree (entries_of frames) frame
+pub paired-map : (frames pages : List ℕ) (page frame : ℕ) → ArePaired frames pages → page < length frames → frame < most_frames
+    → entries_of frames page ≡ None → IsFree (entries_of frames) frame
     → ArePaired (set frames page (frame + 1)) (set pages frame (page + 1))
 paired-map frames pages page frame pair inside below none free = record {
   few_pages = omega (arith, pair.few_pages, length-set frames page (frame + 1));
@@ -93,7 +96,8 @@ paired-map frames pages page frame pair inside below none free = record {
         ]
 
 -- after an unmap
-pub paired-unmap : (frames pages : List ℕ) (page frame : ℕ) → ArePaired frames pages → page < length frames → frame < most_frames → entries_of frames page ≡ Some frame
+pub paired-unmap : (frames pages : List ℕ) (page frame : ℕ) → ArePaired frames pages → page < length frames → frame < most_frames
+    → entries_of frames page ≡ Some frame
     → ArePaired (set frames page 0) (set pages frame 0)
 paired-unmap frames pages page frame pair inside below mapped = record {
   few_pages = omega (arith, pair.few_pages, length-set frames page 0);

@@ -3,6 +3,7 @@ use Rattle.std.proofs.Common.{◌≡◌, ◌≢◌, ℕ, zero, suc, ◌+◌, ◌
 use Rattle.std.specs.List.{flat_map}
 use Rattle.std.proofs.lemmas.List.{append-nil, map-append, length-drop}
 use Rattle.std.proofs.lemmas.List.Concat.{flat_map-append}
+use Rattle.vt_definitions.specs.Limits.{most_versions}
 use Rattle.vt_text.specs.Lines.{lines_of}
 use Rattle.vt_pages.specs.Shape.{Shape}
 use Rattle.vt_journal.specs.declared.changes.Change.{Change}
@@ -47,7 +48,8 @@ none_or_more zero = inl refl
 none_or_more (suc n) = inr (omega arith)
 
 -- between passes no other line may come, where no event stands
-only_begin : (s : Shape) (height : ℕ) (r : Reading) (line : Line) → IsComplete s height r → ((height ≡ 0) → 1 ≤ r.passes → IsNoEvent line) → ((n k v : ℕ) → line ≢ Begins n k v)
+only_begin : (s : Shape) (height : ℕ) (r : Reading) (line : Line) → IsComplete s height r
+    → ((height ≡ 0) → 1 ≤ r.passes → IsNoEvent line) → ((n k v : ℕ) → line ≢ Begins n k v)
     → Admits s height r line → ⊥
 only_begin s height r (Begins n k v) whole quiet other a = other n k v refl
 only_begin s height r (Makes v (Map p f)) whole quiet other a =
@@ -85,7 +87,8 @@ module _ (s : Shape) (height : ℕ) (text : List ℕ) (changes : List Change) (p
       advance_line s height text r at number (Begins pass picture start) next_at next_number read (begin_admitted s height changes version passes before pass picture start r between newest next)
 
 -- a pass that has just begun
-pub pass_begun : (s : Shape) (height : ℕ) (changes : List Change) (pages pinned passes before : ℕ) (pass : PassText) → IsAwaited s height changes pages pinned passes before
+pub pass_begun : (s : Shape) (height : ℕ) (changes : List Change) (pages pinned passes before : ℕ) (pass : PassText)
+    → IsAwaited s height changes pages pinned passes before
     → pass.pass ≡ passes + 1 → pass.picture ≤ passes + 1 → pass.rows.elements ≡ [] → IsInPass s height changes pages pinned pass
 pass_begun s height changes pages pinned passes before pass awaited pass_is picture_is none = record {
   small = record { tile = awaited.tile; short = awaited.short; passes = omega (arith, awaited.few_passes, pass_is); picture = omega (arith, pass_is, picture_is); changes = awaited.few_changes };
@@ -107,7 +110,8 @@ module _ (s : Shape) (height : ℕ) (text : List ℕ) (r : Reading) (old mid : L
     (no_events : fresh.events.elements ≡ []) (no_rows : fresh.rows.elements ≡ []) where
   -- what was told when the pass has begun
   begun_is : after r (Begins fresh.pass fresh.picture fresh.start) ≡ reading_of old fresh
-  begun_is = ap (λ cs. made cs fresh.pass fresh.picture fresh.start []) between.changes_are ∙ ap (λ rs. made old fresh.pass fresh.picture fresh.start rs) (sym no_rows)
+  begun_is = ap (λ cs. made cs fresh.pass fresh.picture fresh.start []) between.changes_are
+      ∙ ap (λ rs. made old fresh.pass fresh.picture fresh.start rs) (sym no_rows)
 
   -- a refusal among its events
   pub events_refused : (at number at1 number1 : ℕ) (e : JournalError) → Advances s height text r at number (Begins fresh.pass fresh.picture fresh.start ∷ []) at1 number1
@@ -126,7 +130,8 @@ module _ (s : Shape) (height : ℕ) (text : List ℕ) (r : Reading) (old mid : L
   pub told_is : (at1 number1 at2 number2 : ℕ) → (a : AreEventsRead s height text old mid fresh pass at1 number1 at2 number2)
       → after_all (after r (Begins fresh.pass fresh.picture fresh.start)) (event_lines (length old) a.events) ≡ with_rows mid pass []
   told_is at1 number1 at2 number2 a =
-      ap (λ (x : Reading). after_all x (event_lines (length old) a.events)) begun_is ∙ sym (reading_after s height text old mid fresh pass at1 number1 at2 number2 a)
+      ap (λ (x : Reading). after_all x (event_lines (length old) a.events)) begun_is
+      ∙ sym (reading_after s height text old mid fresh pass at1 number1 at2 number2 a)
       ∙ ap (λ rs. made mid pass.pass pass.picture pass.start rs) (a.same.rows ∙ no_rows)
 
   -- a refusal among its rows
@@ -139,7 +144,7 @@ module _ (s : Shape) (height : ℕ) (text : List ℕ) (r : Reading) (old mid : L
   -- all of it
   pub pass_read : (at number at1 number1 at2 number2 at3 number3 : ℕ) (rows : List RowLine) (whole : PassText) → Advances s height text r at number (Begins fresh.pass fresh.picture fresh.start ∷ []) at1 number1
       → AreEventsRead s height text old mid fresh pass at1 number1 at2 number2 → Advances s height text (with_rows mid pass []) at2 number2 (map Draws rows) at3 number3
-      → length rows ≡ height → (height ≡ 0 → IsNoEventAt s text at3) → length mid ≤ 2 ^ 62 → fresh.picture ≤ fresh.pass
+      → length rows ≡ height → (height ≡ 0 → IsNoEventAt s text at3) → length mid ≤ most_versions → fresh.picture ≤ fresh.pass
       → whole.pass ≡ pass.pass → whole.picture ≡ pass.picture → whole.start ≡ pass.start → whole.events.elements ≡ pass.events.elements → whole.rows.elements ≡ rows
       → IsPassRead s height text r old mid passes whole at number at3 number3
   pass_read at number at1 number1 at2 number2 at3 number3 rows whole begin a drawn count quiet few low wp wk wv we wr =
@@ -168,7 +173,8 @@ module _ (s : Shape) (height : ℕ) (text : List ℕ) (r : Reading) (old mid : L
       }
 
 -- what a pass tells
-pub after_pass : (r : Reading) (pass : PassText) → after_all r (pass_lines (pass_of pass)) ≡ made (r.changes ++ changes_of pass.events.elements) pass.pass pass.picture pass.start pass.rows.elements
+pub after_pass : (r : Reading) (pass : PassText)
+    → after_all r (pass_lines (pass_of pass)) ≡ made (r.changes ++ changes_of pass.events.elements) pass.pass pass.picture pass.start pass.rows.elements
 after_pass r pass =
     let b = after r (Begins pass.pass pass.picture pass.start) in
     after_all-append b (event_lines pass.start pass.events.elements) (map Draws pass.rows.elements)
@@ -176,15 +182,19 @@ after_pass r pass =
     ∙ after_rows (made (r.changes ++ changes_of pass.events.elements) pass.pass pass.picture pass.start []) pass.rows.elements
 
 -- a pass more
-lines_more : (ps : List PassText) (p : PassText) → flat_map pass_lines (map pass_of ps) ++ pass_lines (pass_of p) ≡ flat_map pass_lines (map pass_of (ps ++ p ∷ []))
+lines_more : (ps : List PassText) (p : PassText)
+    → flat_map pass_lines (map pass_of ps) ++ pass_lines (pass_of p) ≡ flat_map pass_lines (map pass_of (ps ++ p ∷ []))
 lines_more ps p =
-    ap (λ x. flat_map pass_lines (map pass_of ps) ++ x) (sym (append-nil (pass_lines (pass_of p)))) ∙ sym (flat_map-append pass_lines (map pass_of ps) (pass_of p ∷ []))
+    ap (λ x. flat_map pass_lines (map pass_of ps) ++ x) (sym (append-nil (pass_lines (pass_of p))))
+    ∙ sym (flat_map-append pass_lines (map pass_of ps) (pass_of p ∷ []))
     ∙ ap (flat_map pass_lines) (sym (map-append pass_of ps (p ∷ [])))
 
-changes_more : (ps : List PassText) (p : PassText) → passes_changes (map pass_of ps) ++ changes_of p.events.elements ≡ passes_changes (map pass_of (ps ++ p ∷ []))
+changes_more : (ps : List PassText) (p : PassText)
+    → passes_changes (map pass_of ps) ++ changes_of p.events.elements ≡ passes_changes (map pass_of (ps ++ p ∷ []))
 changes_more ps p =
     let f : Pass → List Change = λ (pass : Pass). changes_of pass.events in
-    ap (λ x. passes_changes (map pass_of ps) ++ x) (sym (append-nil (changes_of p.events.elements))) ∙ sym (flat_map-append f (map pass_of ps) (pass_of p ∷ []))
+    ap (λ x. passes_changes (map pass_of ps) ++ x) (sym (append-nil (changes_of p.events.elements)))
+    ∙ sym (flat_map-append f (map pass_of ps) (pass_of p ∷ []))
     ∙ ap (flat_map f) (sym (map-append pass_of ps (p ∷ [])))
 
 pub passes_more : (s : Shape) (height : ℕ) (text : List ℕ) (first before last : List Change) (passes : List PassText) (pass : PassText) (picture at number at1 number1 at2 number2 : ℕ)
@@ -199,11 +209,13 @@ passes_more s height text first before last passes pass picture at number at1 nu
     let all = lines_more passes pass in
     let count = length-append passes (pass ∷ []) in
     let told : after_all (head_reading first) (flat_map pass_lines (map pass_of (passes ++ pass ∷ []))) ≡ made last pass.pass pass.picture pass.start pass.rows.elements =
-    ap (after_all (head_reading first)) (sym all) ∙ after_all-append (head_reading first) ls (pass_lines (pass_of pass)) ∙ after_pass r pass
+    ap (after_all (head_reading first)) (sym all) ∙ after_all-append (head_reading first) ls (pass_lines (pass_of pass))
+    ∙ after_pass r pass
     ∙ ap (λ cs. made (cs ++ changes_of pass.events.elements) pass.pass pass.picture pass.start pass.rows.elements) so_far.between.changes_are
     ∙ ap (λ cs. made cs pass.pass pass.picture pass.start pass.rows.elements) (sym read.changes_are) in
     record {
-      changes_are = read.changes_are ∙ ap (λ cs. cs ++ changes_of pass.events.elements) so_far.changes_are ∙ append_assoc first (passes_changes (map pass_of passes)) (changes_of pass.events.elements)
+      changes_are = read.changes_are ∙ ap (λ cs. cs ++ changes_of pass.events.elements) so_far.changes_are
+          ∙ append_assoc first (passes_changes (map pass_of passes)) (changes_of pass.events.elements)
           ∙ ap (λ cs. first ++ cs) (changes_more passes pass);
       advances = subst (λ (ls : List Line). Advances s height text (head_reading first) at number ls at2 number2) all
           (advance_more s height text (head_reading first) at number ls (pass_lines (pass_of pass)) at1 number1 at2 number2 so_far.advances read.advances);
@@ -217,7 +229,8 @@ passes_more s height text first before last passes pass picture at number at1 nu
     }
 
 -- the head is whole, and no pass was read
-pub no_pass : (s : Shape) (height : ℕ) (text : List ℕ) (changes : List Change) (pages pinned at number : ℕ) → IsHeadWhole s height changes pages pinned → IsCursor text at number
+pub no_pass : (s : Shape) (height : ℕ) (text : List ℕ) (changes : List Change) (pages pinned at number : ℕ)
+    → IsHeadWhole s height changes pages pinned → IsCursor text at number
     → ArePassesRead s height text changes changes [] 0 at number at number
 no_pass s height text changes pages pinned at number head cursor = record {
   changes_are = sym (append-nil changes);

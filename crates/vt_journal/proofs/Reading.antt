@@ -17,7 +17,8 @@ same_number o m n a b =
     number_spelling_injective m n (cc)
 
 -- a number above the limit is none up to it
-pub number_above : (line : List ℕ) (i most n : ℕ) → most < n → slice_get (fields_of line) i ≡ Some (number_spelling n) → IsNumberAt line i most None
+pub number_above : (line : List ℕ) (i most n : ℕ) → most < n → slice_get (fields_of line) i ≡ Some (number_spelling n)
+    → IsNumberAt line i most None
 number_above line i most n high is m low at = omega (arith, same_number (slice_get (fields_of line) i) m n at is)
 
 -- the numbers of a page's name fit 32 bits
@@ -49,18 +50,22 @@ name_read s line i page level col row at l c r =
     (same_number (slice_get (fields_of line) (i + 2)) (name_at s page).row row at.row r)
 
 -- a list by what stands at its places
-pub list_of_three : (xs : List (List ℕ)) (a b c : List ℕ) → slice_get xs 0 ≡ Some a → slice_get xs 1 ≡ Some b → slice_get xs 2 ≡ Some c → slice_get xs 3 ≡ None → xs ≡ a ∷ b ∷ c ∷ []
+pub list_of_three : (xs : List (List ℕ)) (a b c : List ℕ) → slice_get xs 0 ≡ Some a → slice_get xs 1 ≡ Some b
+    → slice_get xs 2 ≡ Some c → slice_get xs 3 ≡ None → xs ≡ a ∷ b ∷ c ∷ []
 list_of_three [] a b c e f g h = cc
 list_of_three (x ∷ []) a b c e f g h = cc
 list_of_three (x ∷ y ∷ []) a b c e f g h = cc
 list_of_three (x ∷ y ∷ z ∷ []) a b c e f g h = cc
 list_of_three (x ∷ y ∷ z ∷ w ∷ xs) a b c e f g h = cc
 
-pub list_of_four : (xs : List (List ℕ)) (a b c d : List ℕ) → slice_get xs 0 ≡ Some a → slice_get xs 1 ≡ Some b → slice_get xs 2 ≡ Some c → slice_get xs 3 ≡ Some d → slice_get xs 4 ≡ None → xs ≡ a ∷ b ∷ c ∷ d ∷ []
+pub list_of_four : (xs : List (List ℕ)) (a b c d : List ℕ) → slice_get xs 0 ≡ Some a → slice_get xs 1 ≡ Some b
+    → slice_get xs 2 ≡ Some c → slice_get xs 3 ≡ Some d → slice_get xs 4 ≡ None → xs ≡ a ∷ b ∷ c ∷ d ∷ []
 list_of_four [] a b c d e f g h i = cc
 list_of_four (x ∷ xs) a b c d e f g h i = let t = list_of_three xs b c d f g h i in let x' : x ≡ a = cc in cc
 
-pub list_of_six : (xs : List (List ℕ)) (a b c d e f : List ℕ) → slice_get xs 0 ≡ Some a → slice_get xs 1 ≡ Some b → slice_get xs 2 ≡ Some c → slice_get xs 3 ≡ Some d → slice_get xs 4 ≡ Some e → slice_get xs 5 ≡ Some f → slice_get xs 6 ≡ None → xs ≡ a ∷ b ∷ c ∷ d ∷ e ∷ f ∷ []
+pub list_of_six : (xs : List (List ℕ)) (a b c d e f : List ℕ) → slice_get xs 0 ≡ Some a → slice_get xs 1 ≡ Some b
+    → slice_get xs 2 ≡ Some c → slice_get xs 3 ≡ Some d → slice_get xs 4 ≡ Some e → slice_get xs 5 ≡ Some f
+    → slice_get xs 6 ≡ None → xs ≡ a ∷ b ∷ c ∷ d ∷ e ∷ f ∷ []
 list_of_six [] a b c d e f g h i j k l m = cc
 list_of_six (x ∷ []) a b c d e f g h i j k l m = cc
 list_of_six (x ∷ y ∷ xs) a b c d e f g h i j k l m =

@@ -21,7 +21,8 @@ abbrev made : List Change → ℕ → ℕ → ℕ → List RowLine → Reading
 made changes passes picture start rows = record { changes = changes; passes = passes; picture = picture; start = start; rows = rows }
 
 -- events whose lines may come one after another
-events_after : (s : Shape) (height pinned passes picture start v : ℕ) (changes : List Change) (es : List Event) → pinned_by s changes ≡ pinned → 1 ≤ length changes
+events_after : (s : Shape) (height pinned passes picture start v : ℕ) (changes : List Change) (es : List Event)
+    → pinned_by s changes ≡ pinned → 1 ≤ length changes
     → AreAdmitted s height (made changes passes picture start []) (event_lines v es) → AreEventsAfter s pinned changes es
 events_after s height pinned passes picture start v changes [] by some all = tt
 events_after s height pinned passes picture start v changes (Changed (Map p f) ∷ es) by some all =
@@ -39,7 +40,8 @@ record AreBegun (start last : ℕ) (rows : List RowLine) : Type 0 where
   each : (y : ℕ) (row : RowLine) → slice_get rows y ≡ Some row → IsRowOf start last y row
   rise : (i j : ℕ) (q row : RowLine) → i < j → slice_get rows i ≡ Some q → slice_get rows j ≡ Some row → q.sampler ≡ row.sampler → q.version ≤ row.version
 
-begun_more : (s : Shape) (height passes picture start : ℕ) (changes : List Change) (before : List RowLine) (row : RowLine) → AreBegun start (length changes) before → Admits s height (made changes passes picture start before) (Draws row)
+begun_more : (s : Shape) (height passes picture start : ℕ) (changes : List Change) (before : List RowLine) (row : RowLine)
+    → AreBegun start (length changes) before → Admits s height (made changes passes picture start before) (Draws row)
     → AreBegun start (length changes) (before ++ row ∷ [])
 begun_more s height passes picture start changes before row begun a = record {
   each = λ y r at. elim (slice_get-push before row y r at) [
@@ -55,7 +57,8 @@ begun_more s height passes picture start changes before row begun a = record {
   ];
 }
 
-rows_of : (s : Shape) (height passes picture start : ℕ) (changes : List Change) (before rest : List RowLine) → AreBegun start (length changes) before → AreAdmitted s height (made changes passes picture start before) (map Draws rest)
+rows_of : (s : Shape) (height passes picture start : ℕ) (changes : List Change) (before rest : List RowLine)
+    → AreBegun start (length changes) before → AreAdmitted s height (made changes passes picture start before) (map Draws rest)
     → AreBegun start (length changes) (before ++ rest)
 rows_of s height passes picture start changes before [] begun all = subst (AreBegun start (length changes)) (sym (append-nil before)) begun
 rows_of s height passes picture start changes before (row ∷ rest) begun all =
@@ -65,7 +68,8 @@ rows_of s height passes picture start changes before (row ∷ rest) begun all =
 none_begun : (start last : ℕ) → AreBegun start last []
 none_begun start last = record { each = λ y row at. cc; rise = λ i j q row low at_i at_j same. cc }
 
-pub pass_next : (s : Shape) (height pinned : ℕ) (r : Reading) (p : Pass) → AreAdmitted s height r (pass_lines p) → IsComplete s height (after_all r (pass_lines p)) → pinned_by s r.changes ≡ pinned → 1 ≤ length r.changes
+pub pass_next : (s : Shape) (height pinned : ℕ) (r : Reading) (p : Pass) → AreAdmitted s height r (pass_lines p)
+    → IsComplete s height (after_all r (pass_lines p)) → pinned_by s r.changes ≡ pinned → 1 ≤ length r.changes
     → IsPassAfter s height pinned r.changes r.passes r.picture p
 pass_next s height pinned r p all whole by some =
     let b = after r (Begins p.pass p.picture p.start) in

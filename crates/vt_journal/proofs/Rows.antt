@@ -10,7 +10,7 @@ use Rattle.vt_journal.specs.declared.lines.Line.TheVariants.{Begins, Makes, Lose
 use Rattle.vt_journal.specs.declared.passes.PassText.{PassText}
 use Rattle.vt_journal.specs.declared.parse.JournalError.{JournalError}
 use Rattle.vt_journal.specs.declared.parse.JournalError.TheVariants.{BadLine}
-use Rattle.vt_journal.specs.Bounds.{most_samplers}
+use Rattle.vt_definitions.specs.Limits.{most_samplers}
 use Rattle.vt_journal.specs.JournalFlaws.{Reading, Admits, IsComplete, after, after_all, IsFlawFrom}
 use Rattle.vt_journal.specs.JournalText.{line_fields}
 use Rattle.vt_text.specs.Lines.{fields_of, lines_of}
@@ -18,7 +18,8 @@ use Rattle.vt_journal.specs.JournalReading.{IsCursor, IsLineRead, IsNoLine, Adva
 use Rattle.vt_journal.proofs.Stepping.{advance_none, advance_more, refused_later, refused_unread, refused_read, some_lines, line_injective, readable_in_chain}
 
 -- no row was read
-pub seen_none : (start : ℕ) (rows : List RowLine) (seen : List ℕ) → rows ≡ [] → length seen ≡ most_samplers → ((k : ℕ) → k < most_samplers → get_or seen k 0 ≡ start) → AreSeen start rows seen
+pub seen_none : (start : ℕ) (rows : List RowLine) (seen : List ℕ) → rows ≡ [] → length seen ≡ most_samplers
+    → ((k : ℕ) → k < most_samplers → get_or seen k 0 ≡ start) → AreSeen start rows seen
 seen_none start rows seen none count all = record {
   count = count;
   from = λ k small. omega (arith, all k small);
@@ -91,7 +92,8 @@ no_event_unread s text at none l bytes [] cut some says = absurd (some refl)
 no_event_unread s text at none l bytes (next ∷ rest) cut some says = absurd (none l bytes next rest cut says)
 
 -- where another line is read, no event is
-pub no_event_read : (s : Shape) (text : List ℕ) (at number : ℕ) (line : Line) (next_at next_number : ℕ) → 1 ≤ s.tile → IsLineRead s text at number line next_at next_number → IsNoEvent line → IsNoEventAt s text at
+pub no_event_read : (s : Shape) (text : List ℕ) (at number : ℕ) (line : Line) (next_at next_number : ℕ) → 1 ≤ s.tile
+    → IsLineRead s text at number line next_at next_number → IsNoEvent line → IsNoEventAt s text at
 no_event_read s text at number line next_at next_number tile read quiet l bytes rest cut some says =
     let both : bytes ∷ rest ≡ read.bytes ∷ lines_of (drop next_at text) = sym cut ∙ read.cut in
     let same_bytes : bytes ≡ read.bytes = cc in
@@ -99,9 +101,12 @@ no_event_read s text at number line next_at next_number tile read quiet l bytes 
     subst IsNoEvent (line_injective s line l tile (readable_in_chain s line read.says.readable) (readable_in_chain s l says.readable) fields) quiet
 
 -- rows after rows
-pub after_rows : (r : Reading) (rows : List RowLine) → after_all r (map Draws rows) ≡ record { changes = r.changes; passes = r.passes; picture = r.picture; start = r.start; rows = r.rows ++ rows }
+pub after_rows : (r : Reading) (rows : List RowLine)
+    → after_all r (map Draws rows) ≡ record { changes = r.changes; passes = r.passes; picture = r.picture; start = r.start; rows = r.rows ++ rows }
 after_rows r [] = ap (λ rs. record { changes = r.changes; passes = r.passes; picture = r.picture; start = r.start; rows = rs }) (sym (append-nil r.rows))
-after_rows r (row ∷ rows) = after_rows (after r (Draws row)) rows ∙ ap (λ rs. record { changes = r.changes; passes = r.passes; picture = r.picture; start = r.start; rows = rs }) (append_assoc r.rows (row ∷ []) rows)
+after_rows r (row ∷ rows) =
+    after_rows (after r (Draws row)) rows
+    ∙ ap (λ rs. record { changes = r.changes; passes = r.passes; picture = r.picture; start = r.start; rows = rs }) (append_assoc r.rows (row ∷ []) rows)
 
 module _ (s : Shape) (height : ℕ) (text : List ℕ) (changes : List Change) (pass : PassText) (at number : ℕ) where
   -- the rows so far, and one more
@@ -122,7 +127,8 @@ pub rows_count : (rows after : List RowLine) (row : RowLine) → after ≡ rows 
 rows_count rows after row added = ap (λ rs. length {A = RowLine} rs) added ∙ length-append rows (row ∷ [])
 
 -- the rows begin
-pub begun_first : (s : Shape) (height : ℕ) (changes : List Change) (pass : PassText) (rows : List RowLine) (seen : List ℕ) → rows ≡ [] → IsSmall s height (with_rows changes pass []) → 1 ≤ pass.pass
+pub begun_first : (s : Shape) (height : ℕ) (changes : List Change) (pass : PassText) (rows : List RowLine) (seen : List ℕ)
+    → rows ≡ [] → IsSmall s height (with_rows changes pass []) → 1 ≤ pass.pass
     → AreSeen pass.start [] seen → AreRowsBegun s height changes pass rows seen
 begun_first s height changes pass rows seen none small in_pass seen_are =
     subst (λ (rs : List RowLine). AreRowsBegun s height changes pass rs seen) (sym none) (record { small = small; in_pass = in_pass; seen_are = seen_are })

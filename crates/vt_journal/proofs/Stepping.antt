@@ -21,7 +21,8 @@ use Rattle.vt_journal.specs.JournalReading.{IsReadable, line_bytes, IsCursor, Is
 use Rattle.vt_journal.proofs.SpelledLines.{fields_of-line, line_of-fields}
 
 -- the fields of a page tell the page
-pub page_injective : (s : Shape) (p q : ℕ) → 1 ≤ s.tile → p < pages_of s → q < pages_of s → page_fields s p ≡ page_fields s q → p ≡ q
+pub page_injective : (s : Shape) (p q : ℕ) → 1 ≤ s.tile → p < pages_of s → q < pages_of s → page_fields s p ≡ page_fields s q
+    → p ≡ q
 page_injective s p q tile pin qin e =
     let level : (name_at s p).level ≡ (name_at s q).level = number_spelling_injective (name_at s p).level (name_at s q).level (cc) in
     let col : (name_at s p).col ≡ (name_at s q).col = number_spelling_injective (name_at s p).col (name_at s q).col (cc) in
@@ -37,7 +38,8 @@ pair_injective s v w p q f g word tile pin qin e =
     (number_spelling_injective v w (cc), page_injective s p q tile pin qin fields, number_spelling_injective f g (cc))
 
 -- the fields of a line tell the line
-pub line_injective : (s : Shape) (l m : Line) → 1 ≤ s.tile → IsLineInChain s l → IsLineInChain s m → line_fields s l ≡ line_fields s m → l ≡ m
+pub line_injective : (s : Shape) (l m : Line) → 1 ≤ s.tile → IsLineInChain s l → IsLineInChain s m
+    → line_fields s l ≡ line_fields s m → l ≡ m
 line_injective s (Begins n k v) (Begins n' k' v') tile a b e =
     let en : n ≡ n' = number_spelling_injective n n' (cc) in
     let ek : k ≡ k' = number_spelling_injective k k' (cc) in
@@ -75,7 +77,8 @@ line_injective s (Draws r) (Draws t) tile a b e =
     let es : r.sampler ≡ t.sampler = number_spelling_injective r.sampler t.sampler (cc) in
     let ev : r.version ≡ t.version = number_spelling_injective r.version t.version (cc) in
     let made : ℕ → ℕ → ℕ → RowLine = λ x y z. record { row = x; sampler = y; version = z } in
-    ap (λ x. Draws (made x r.sampler r.version)) er ∙ ap (λ x. Draws (made t.row x r.version)) es ∙ ap (λ x. Draws (made t.row t.sampler x)) ev
+    ap (λ x. Draws (made x r.sampler r.version)) er ∙ ap (λ x. Draws (made t.row x r.version)) es
+    ∙ ap (λ x. Draws (made t.row t.sampler x)) ev
 
 -- a line that may come next names pages of the chain
 pub admitted_in_chain : (s : Shape) (height : ℕ) (r : Reading) (l : Line) → Admits s height r l → IsLineInChain s l
@@ -93,7 +96,8 @@ readable_in_chain s (Loses p) a = a
 readable_in_chain s (Draws row) a = tt
 
 -- a line that may come next can be read
-pub admitted_readable : (s : Shape) (height : ℕ) (r : Reading) (l : Line) → IsSmall s height r → Admits s height r l → IsReadable s l
+pub admitted_readable : (s : Shape) (height : ℕ) (r : Reading) (l : Line) → IsSmall s height r → Admits s height r l
+    → IsReadable s l
 admitted_readable s height r (Begins n k v) small a =
     let picture : k ≤ r.passes + 1 = elim (none_or_more r.passes) [
       | inl none ↦ omega (arith, a.2.first none)
@@ -118,18 +122,22 @@ pub one_empty : (bs : List ℕ) → lines_of bs ≡ [] ∷ [] → bs ≡ []
 one_empty bs e = sym (join_with_byte-slice_split 10 bs) ∙ ap (join_with_byte 10) e
 
 -- a line that may come next is the only one with its fields
-pub one_line : (s : Shape) (height : ℕ) (r : Reading) (bytes : List ℕ) (l m : Line) → 1 ≤ s.tile → SaysNext s height r bytes l → IsLineInChain s m → fields_of bytes ≡ line_fields s m → l ≡ m
-one_line s height r bytes l m tile says chain fields = line_injective s l m tile (admitted_in_chain s height r l says.0) chain (sym says.1 ∙ fields)
+pub one_line : (s : Shape) (height : ℕ) (r : Reading) (bytes : List ℕ) (l m : Line) → 1 ≤ s.tile → SaysNext s height r bytes l
+    → IsLineInChain s m → fields_of bytes ≡ line_fields s m → l ≡ m
+one_line s height r bytes l m tile says chain fields =
+    line_injective s l m tile (admitted_in_chain s height r l says.0) chain (sym says.1 ∙ fields)
 
 -- where no line is read
-pub flaw_unread : (s : Shape) (height number : ℕ) (r : Reading) (lines : List (List ℕ)) → lines ≢ [] → (lines ≡ [] ∷ [] → ¬ IsComplete s height r)
+pub flaw_unread : (s : Shape) (height number : ℕ) (r : Reading) (lines : List (List ℕ)) → lines ≢ []
+    → (lines ≡ [] ∷ [] → ¬ IsComplete s height r)
     → ((l : Line) (bytes next : List ℕ) (rest : List (List ℕ)) → lines ≡ bytes ∷ next ∷ rest → ¬ SaysNext s height r bytes l) → IsFlawFrom s height number r lines (BadLine number)
 flaw_unread s height number r [] some ends none = absurd (some refl)
 flaw_unread s height number r (rest ∷ []) some ends none = (λ e. ends (ap (λ x. x ∷ []) e), refl)
 flaw_unread s height number r (bytes ∷ next ∷ rest) some ends none = inl (λ l says. none l bytes next rest refl says, refl)
 
 -- where a line is read that may not come next
-pub flaw_refused : (s : Shape) (height number : ℕ) (r : Reading) (bytes : List ℕ) (rest : List (List ℕ)) (l : Line) → 1 ≤ s.tile → rest ≢ [] → IsLineInChain s l → fields_of bytes ≡ line_fields s l
+pub flaw_refused : (s : Shape) (height number : ℕ) (r : Reading) (bytes : List ℕ) (rest : List (List ℕ)) (l : Line) → 1 ≤ s.tile
+    → rest ≢ [] → IsLineInChain s l → fields_of bytes ≡ line_fields s l
     → ¬ Admits s height r l → IsFlawFrom s height number r (bytes ∷ rest) (BadLine number)
 flaw_refused s height number r bytes [] l tile some chain fields refused = absurd (some refl)
 flaw_refused s height number r bytes (next ∷ rest) l tile some chain fields refused =
@@ -142,7 +150,8 @@ flaw_later s height number r bytes [] l e some says flaw = absurd (some refl)
 flaw_later s height number r bytes (next ∷ rest) l e some says flaw = inr (l, says, flaw)
 
 -- a flaw after lines that may come next
-pub flaw_after_all : (s : Shape) (height number : ℕ) (r : Reading) (lines : List Line) (rest : List (List ℕ)) (e : JournalError) → rest ≢ [] → AreAdmitted s height r lines
+pub flaw_after_all : (s : Shape) (height number : ℕ) (r : Reading) (lines : List Line) (rest : List (List ℕ)) (e : JournalError)
+    → rest ≢ [] → AreAdmitted s height r lines
     → IsFlawFrom s height (number + length lines) (after_all r lines) rest e → IsFlawFrom s height number r (map (line_bytes s) lines ++ rest) e
 flaw_after_all s height number r [] rest e some all flaw = let z : number + 0 ≡ number = omega arith in subst (λ n. IsFlawFrom s height n r rest e) z flaw
 flaw_after_all s height number r (l ∷ ls) rest e some all flaw =
@@ -155,11 +164,13 @@ flaw_after_all s height number r (l ∷ ls) rest e some all flaw =
     more (l ∷ ls) e = cc
 
 -- lines one after another
-pub admitted-append : (s : Shape) (height : ℕ) (r : Reading) (ls ms : List Line) → AreAdmitted s height r ls → AreAdmitted s height (after_all r ls) ms → AreAdmitted s height r (ls ++ ms)
+pub admitted-append : (s : Shape) (height : ℕ) (r : Reading) (ls ms : List Line) → AreAdmitted s height r ls
+    → AreAdmitted s height (after_all r ls) ms → AreAdmitted s height r (ls ++ ms)
 admitted-append s height r [] ms a b = b
 admitted-append s height r (l ∷ ls) ms a b = (a.0, admitted-append s height (after r l) ls ms a.1 b)
 
-pub admitted-parts : (s : Shape) (height : ℕ) (r : Reading) (ls ms : List Line) → AreAdmitted s height r (ls ++ ms) → AreAdmitted s height r ls × AreAdmitted s height (after_all r ls) ms
+pub admitted-parts : (s : Shape) (height : ℕ) (r : Reading) (ls ms : List Line) → AreAdmitted s height r (ls ++ ms)
+    → AreAdmitted s height r ls × AreAdmitted s height (after_all r ls) ms
 admitted-parts s height r [] ms a = (tt, a)
 admitted-parts s height r (l ∷ ls) ms a = let rest = admitted-parts s height (after r l) ls ms a.1 in ((a.0, rest.0), rest.1)
 
@@ -168,7 +179,8 @@ after_all-append r [] ms = refl
 after_all-append r (l ∷ ls) ms = after_all-append (after r l) ls ms
 
 -- lines have one first refusal
-pub flaw_unique : (s : Shape) (height number : ℕ) (r : Reading) (lines : List (List ℕ)) (e f : JournalError) → 1 ≤ s.tile → IsFlawFrom s height number r lines e → IsFlawFrom s height number r lines f → e ≡ f
+pub flaw_unique : (s : Shape) (height number : ℕ) (r : Reading) (lines : List (List ℕ)) (e f : JournalError) → 1 ≤ s.tile
+    → IsFlawFrom s height number r lines e → IsFlawFrom s height number r lines f → e ≡ f
 flaw_unique s height number r [] e f tile a b = absurd a
 flaw_unique s height number r (rest ∷ []) e f tile a b = a.1 ∙ sym b.1
 flaw_unique s height number r (bytes ∷ next ∷ rest) e f tile (inl a) (inl b) = a.1 ∙ sym b.1
@@ -179,7 +191,8 @@ flaw_unique s height number r (bytes ∷ next ∷ rest) e f tile (inr (l, says, 
     flaw_unique s height (number + 1) (after r l) (next ∷ rest) e f tile later (subst (λ z. IsFlawFrom s height (number + 1) (after r z) (next ∷ rest) f) (sym same) later')
 
 -- a flaw of a line that may come next and of those after it is one of those after it
-flaw_rest : (s : Shape) (height number : ℕ) (r : Reading) (l : Line) (next : List ℕ) (rest : List (List ℕ)) (e : JournalError) → 1 ≤ s.tile → Admits s height r l
+flaw_rest : (s : Shape) (height number : ℕ) (r : Reading) (l : Line) (next : List ℕ) (rest : List (List ℕ)) (e : JournalError)
+    → 1 ≤ s.tile → Admits s height r l
     → IsFlawFrom s height number r (line_bytes s l ∷ next ∷ rest) e → IsFlawFrom s height (number + 1) (after r l) (next ∷ rest) e
 flaw_rest s height number r l next rest e tile admits (inl a) = absurd (a.0 l (admits, fields_of-line s l))
 flaw_rest s height number r l next rest e tile admits (inr (m, says, flaw)) =
@@ -187,7 +200,8 @@ flaw_rest s height number r l next rest e tile admits (inr (m, says, flaw)) =
     subst (λ z. IsFlawFrom s height (number + 1) (after r z) (next ∷ rest) e) same flaw
 
 -- lines that may come one after another, and are complete, have no flaw
-pub no_flaw : (s : Shape) (height number : ℕ) (r : Reading) (lines : List Line) (e : JournalError) → 1 ≤ s.tile → AreAdmitted s height r lines → IsComplete s height (after_all r lines)
+pub no_flaw : (s : Shape) (height number : ℕ) (r : Reading) (lines : List Line) (e : JournalError) → 1 ≤ s.tile
+    → AreAdmitted s height r lines → IsComplete s height (after_all r lines)
     → IsFlawFrom s height number r (map (line_bytes s) lines ++ ([] ∷ [])) e → ⊥
 no_flaw s height number r [] e tile all whole flaw = flaw.0 refl whole
 no_flaw s height number r (l ∷ []) e tile all whole flaw =
@@ -232,7 +246,9 @@ module _ (s : Shape) (height : ℕ) (text : List ℕ) (r : Reading) (at number :
   advance_more ls ms at1 number1 at2 number2 a b =
       let count = length-append ls ms in
       record {
-        spelled = a.spelled ∙ ap (λ x. map (line_bytes s) ls ++ x) b.spelled ∙ sym (append_assoc (map (line_bytes s) ls) (map (line_bytes s) ms) (lines_of (drop at2 text))) ∙ ap (λ x. x ++ lines_of (drop at2 text)) (sym (map-append (line_bytes s) ls ms));
+        spelled = a.spelled ∙ ap (λ x. map (line_bytes s) ls ++ x) b.spelled
+            ∙ sym (append_assoc (map (line_bytes s) ls) (map (line_bytes s) ms) (lines_of (drop at2 text)))
+            ∙ ap (λ x. x ++ lines_of (drop at2 text)) (sym (map-append (line_bytes s) ls ms));
         admitted = admitted-append s height r ls ms a.admitted b.admitted;
         number_is = omega (arith, a.number_is, b.number_is);
         forward = omega (arith, a.forward, b.forward);

@@ -21,7 +21,8 @@ slice_get-seam [] y ys = refl
 slice_get-seam (x ∷ xs) y ys = slice_get-seam xs y ys
 
 -- an element of a list with one more at its end
-pub slice_get-push : {X : Type 0} → (xs : List X) (y : X) (k : ℕ) (x : X) → slice_get (xs ++ y ∷ []) k ≡ Some x → ((k < length xs) × (slice_get xs k ≡ Some x)) ⊎ ((k ≡ length xs) × (y ≡ x))
+pub slice_get-push : {X : Type 0} → (xs : List X) (y : X) (k : ℕ) (x : X) → slice_get (xs ++ y ∷ []) k ≡ Some x
+    → ((k < length xs) × (slice_get xs k ≡ Some x)) ⊎ ((k ≡ length xs) × (y ≡ x))
 slice_get-push xs y k x is =
     elim (cases_lt k (length xs)) [
       | inl low ↦ inl (low, sym (slice_get-front xs (y ∷ []) k low) ∙ is)
@@ -37,7 +38,8 @@ pub at-front : (js ks : List Change) (v : ℕ) → v ≤ length js → at (js ++
 unfolding at
 at-front js ks zero h = refl
 at-front js ks (suc v) h =
-    ap (λ m. changed_by m (slice_get (js ++ ks) v)) (at-front js ks v (omega arith)) ∙ ap (changed_by (at js v)) (slice_get-front js ks v (omega arith))
+    ap (λ m. changed_by m (slice_get (js ++ ks) v)) (at-front js ks v (omega arith))
+    ∙ ap (changed_by (at js v)) (slice_get-front js ks v (omega arith))
 
 -- the version that a change makes
 pub at-next : (js : List Change) (v : ℕ) (c : Change) → slice_get js v ≡ Some c → at js (v + 1) ≡ changed (at js v) c
@@ -47,7 +49,8 @@ at-next js v c is = let next : v + 1 ≡ suc v = omega arith in ap (at js) next 
 pub newest-more : (js : List Change) (c : Change) → newest (js ++ c ∷ []) ≡ changed (newest js) c
 newest-more js c =
     let count : length (js ++ c ∷ []) ≡ length js + 1 = length-append js (c ∷ []) in
-    ap (at (js ++ c ∷ [])) count ∙ at-next (js ++ c ∷ []) (length js) c (slice_get-seam js c []) ∙ ap (λ m. changed m c) (at-front js (c ∷ []) (length js) (omega arith))
+    ap (at (js ++ c ∷ [])) count ∙ at-next (js ++ c ∷ []) (length js) c (slice_get-seam js c [])
+    ∙ ap (λ m. changed m c) (at-front js (c ∷ []) (length js) (omega arith))
 
 pub newest-none : (p : ℕ) → newest [] p ≡ None
 unfolding at
@@ -68,7 +71,8 @@ in_turn-more js c all next v change is =
 pub legal-none : (s : Shape) → AreLegal s []
 legal-none s v c is = cc
 
-pub legal-more : (s : Shape) (js : List Change) (c : Change) → AreLegal s js → IsLegalNext s (newest js) c → AreLegal s (js ++ c ∷ [])
+pub legal-more : (s : Shape) (js : List Change) (c : Change) → AreLegal s js → IsLegalNext s (newest js) c
+    → AreLegal s (js ++ c ∷ [])
 legal-more s js c all next v change is =
     elim (slice_get-push js c v change is) [
       | inl (low, before) ↦ subst (λ (m : Table). IsLegalNext s m change) (sym (at-front js (c ∷ []) v (omega (arith, low)))) (all v change before)
@@ -97,10 +101,12 @@ same_page q page =
     by (eqb q page) refl
 
 -- the frame of an entry after a map
-pub mapped_after_map : (m : Table) (page frame p f : ℕ) → changed m (Map page frame) p ≡ Some f → ((p ≡ page) × (frame ≡ f)) ⊎ ((p ≢ page) × (m p ≡ Some f))
+pub mapped_after_map : (m : Table) (page frame p f : ℕ) → changed m (Map page frame) p ≡ Some f
+    → ((p ≡ page) × (frame ≡ f)) ⊎ ((p ≢ page) × (m p ≡ Some f))
 mapped_after_map m page frame p f e =
     elim (same_page p page) [
-      | inl same ↦ let s : Some frame ≡ Some f = sym (entry_same m page (Some frame)) ∙ ap (with_entry m page (Some frame)) (sym same) ∙ e in inl (same, cc)
+      | inl same ↦ let s : Some frame ≡ Some f = sym (entry_same m page (Some frame))
+          ∙ ap (with_entry m page (Some frame)) (sym same) ∙ e in inl (same, cc)
       | inr other ↦ inr (other, sym (entry_other m page p (Some frame) other) ∙ e)
     ]
 
@@ -142,7 +148,8 @@ one_to_one js (suc v) all h =
     subst (λ (o : Option Change). IsOneToOne (changed_by (at js v) o)) (sym c.1) (one_to_one-changed (at js v) c.0 (one_to_one js v all (omega arith)) (all v c.0 c.1))
 
 -- the free frames after a map
-pub free_after_map : (m : Table) (page frame g : ℕ) → IsNext m (Map page frame) → IsFree (changed m (Map page frame)) g ↔ ((g ≢ frame) × IsFree m g)
+pub free_after_map : (m : Table) (page frame g : ℕ) → IsNext m (Map page frame)
+    → IsFree (changed m (Map page frame)) g ↔ ((g ≢ frame) × IsFree m g)
 free_after_map m page frame g next = (
   λ free. (
     λ e. free page (entry_same m page (Some frame) ∙ ap Some (sym e)),
@@ -155,7 +162,8 @@ free_after_map m page frame g next = (
 )
 
 -- and after an unmap
-pub free_after_unmap : (m : Table) (page frame g : ℕ) → IsOneToOne m → IsNext m (Unmap page frame) → IsFree (changed m (Unmap page frame)) g ↔ ((g ≡ frame) ⊎ IsFree m g)
+pub free_after_unmap : (m : Table) (page frame g : ℕ) → IsOneToOne m → IsNext m (Unmap page frame)
+    → IsFree (changed m (Unmap page frame)) g ↔ ((g ≡ frame) ⊎ IsFree m g)
 free_after_unmap m page frame g one next = (
   λ free. elim (same_page g frame) [
     | inl same ↦ inl same
@@ -177,7 +185,8 @@ pub in_turn-legal : (s : Shape) (js : List Change) → AreLegal s js → AreInTu
 in_turn-legal s js all v c is = (all v c is).0
 
 -- the pinned pages stay mapped
-pub pinned_stay : (s : Shape) (js : List Change) (pinned v i : ℕ) → AreInTurn js → Pinned s js pinned → v ≤ length js → i < pinned → i < v → at js v (pages_of s - pinned + i) ≡ Some i
+pub pinned_stay : (s : Shape) (js : List Change) (pinned v i : ℕ) → AreInTurn js → Pinned s js pinned → v ≤ length js
+    → i < pinned → i < v → at js v (pages_of s - pinned + i) ≡ Some i
 pinned_stay s js pinned zero i turn pin h small before = absurd (omega arith)
 pinned_stay s js pinned (suc v) i turn pin h small before =
     let next : suc v ≡ v + 1 = omega arith in
@@ -192,7 +201,8 @@ pinned_stay s js pinned (suc v) i turn pin h small before =
     later : (c : Change) → slice_get js v ≡ Some c → at js v (pages_of s - pinned + i) ≡ Some i → changed (at js v) c (pages_of s - pinned + i) ≡ Some i
     later (Map q f) is was =
         elim (same_page (pages_of s - pinned + i) q) [
-          | inl same ↦ let none : at js v q ≡ None = (turn v (Map q f) is).0 in let s : None ≡ Some i = sym none ∙ ap (at js v) (sym same) ∙ was in cc
+          | inl same ↦ let none : at js v q ≡ None = (turn v (Map q f) is).0 in let s : None ≡ Some i = sym none
+              ∙ ap (at js v) (sym same) ∙ was in cc
           | inr other ↦ entry_other (at js v) q (pages_of s - pinned + i) (Some f) other ∙ was
         ]
     later (Unmap q f) is was =
@@ -209,7 +219,8 @@ pinned_stay s js pinned (suc v) i turn pin h small before =
         let c_is : c ≡ Map (pages_of s - pinned + i) i = cc in
         ap (λ c. changed (at js v) c (pages_of s - pinned + i)) c_is ∙ entry_same (at js v) (pages_of s - pinned + i) (Some i)
 
-pub pinned-more : (s : Shape) (js : List Change) (c : Change) (pinned : ℕ) → Pinned s js pinned → pinned ≤ length js → ((page frame : ℕ) → c ≡ Unmap page frame → page + pinned < pages_of s) → Pinned s (js ++ c ∷ []) pinned
+pub pinned-more : (s : Shape) (js : List Change) (c : Change) (pinned : ℕ) → Pinned s js pinned → pinned ≤ length js
+    → ((page frame : ℕ) → c ≡ Unmap page frame → page + pinned < pages_of s) → Pinned s (js ++ c ∷ []) pinned
 pinned-more s js c pinned pin some keeps = record {
   few = pin.few;
   first = λ i small. slice_get-front js (c ∷ []) i (omega arith) ∙ pin.first i small;
@@ -220,7 +231,8 @@ pinned-more s js c pinned pin some keeps = record {
 }
 
 -- where the pinned pages are kept, so is the root
-pub legal-pinned : (s : Shape) (js : List Change) (pinned : ℕ) → root_of s + 1 ≡ pages_of s → 1 ≤ pinned → AreInTurn js → Pinned s js pinned → AreLegal s js
+pub legal-pinned : (s : Shape) (js : List Change) (pinned : ℕ) → root_of s + 1 ≡ pages_of s → 1 ≤ pinned → AreInTurn js
+    → Pinned s js pinned → AreLegal s js
 legal-pinned s js pinned root some turn pin v c is = (turn v c is, keeps c is)
   where
     keeps : (c : Change) → slice_get js v ≡ Some c → Keeps (root_of s) c

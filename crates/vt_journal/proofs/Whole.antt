@@ -25,7 +25,8 @@ whole_read s height text first last pinned at number passes head read =
     let heads = lines_to s pinned pinned in
     let rest = flat_map pass_lines (map pass_of passes) in
     let lines : lines_of text ≡ map (line_bytes s) (content_lines s content) ++ ([] ∷ []) =
-    head.advances.spelled ∙ ap (λ x. map (line_bytes s) heads ++ x) read.spelled ∙ sym (append_assoc (map (line_bytes s) heads) (map (line_bytes s) rest) ([] ∷ []))
+    head.advances.spelled ∙ ap (λ x. map (line_bytes s) heads ++ x) read.spelled
+    ∙ sym (append_assoc (map (line_bytes s) heads) (map (line_bytes s) rest) ([] ∷ []))
     ∙ ap (λ x. x ++ ([] ∷ [])) (sym (map-append (line_bytes s) heads rest)) in
     let said = told s pinned pinned first head.changes_are in
     record {
@@ -38,13 +39,16 @@ whole_read s height text first last pinned at number passes head read =
     }
 
 -- what the reading finds decides its answer
-pub formed : (s : Shape) (height : ℕ) (text : List ℕ) (result : Result TextView JournalError) → 1 ≤ s.tile → MatchResult result (IsJournalText s height text) (λ e. (e ≡ NoMemory) ⊎ IsJournalFlaw s height text e)
+pub formed : (s : Shape) (height : ℕ) (text : List ℕ) (result : Result TextView JournalError) → 1 ≤ s.tile
+    → MatchResult result (IsJournalText s height text) (λ e. (e ≡ NoMemory) ⊎ IsJournalFlaw s height text e)
     → (content : Content) → IsLawful s height content → text ≡ journal_text s content → MatchResult result (λ j. j.content ≡ content) (λ e. e ≡ NoMemory)
-formed s height text (Ok j) tile found content lawful same = content_unique s height j.content content tile found.lawful lawful (sym found.spelled ∙ same)
+formed s height text (Ok j) tile found content lawful same =
+    content_unique s height j.content content tile found.lawful lawful (sym found.spelled ∙ same)
 formed s height text (Err e) tile (inl memory) content lawful same = memory
 formed s height text (Err e) tile (inr flaw) content lawful same = absurd (lawful_has_no_flaw s height text content e tile lawful same flaw)
 
-pub faulty : (s : Shape) (height : ℕ) (text : List ℕ) (result : Result TextView JournalError) → 1 ≤ s.tile → MatchResult result (IsJournalText s height text) (λ e. (e ≡ NoMemory) ⊎ IsJournalFlaw s height text e)
+pub faulty : (s : Shape) (height : ℕ) (text : List ℕ) (result : Result TextView JournalError) → 1 ≤ s.tile
+    → MatchResult result (IsJournalText s height text) (λ e. (e ≡ NoMemory) ⊎ IsJournalFlaw s height text e)
     → (f : JournalError) → IsJournalFlaw s height text f → (result ≡ Err f) ⊎ (result ≡ Err NoMemory)
 faulty s height text (Ok j) tile found f flaw = absurd (lawful_has_no_flaw s height text j.content f tile found.lawful found.spelled flaw)
 faulty s height text (Err e) tile (inl memory) f flaw = inr (ap Err memory)

@@ -7,7 +7,7 @@ use Rattle.vt_journal.specs.declared.changes.Change.TheVariants.{Map, Unmap}
 use Rattle.vt_journal.specs.declared.changes.Event.{Event}
 use Rattle.vt_journal.specs.declared.changes.Event.TheVariants.{Changed, Lost}
 use Rattle.vt_journal.specs.declared.changes.RowLine.{RowLine}
-use Rattle.vt_journal.specs.Bounds.{most_frames, most_samplers}
+use Rattle.vt_definitions.specs.Limits.{most_frames, most_samplers}
 use Rattle.vt_journal.specs.Changes.{newest, IsNext}
 use Rattle.vt_journal.specs.JournalText.{Pass, Content, changes_of, pinned_changes}
 use Rattle.vt_journal.specs.JournalFlaws.{IsNextPicture}
@@ -20,8 +20,10 @@ IsWithin s pinned (Unmap page frame) = (page + pinned < pages_of s) × (frame < 
 -- each event may come after those before it: a change may come next, and a lost page is not mapped
 abbrev pub AreEventsAfter : Shape → ℕ → List Change → List Event → Type 0
 AreEventsAfter s pinned changes [] = Unit {0}
-AreEventsAfter s pinned changes (Changed change ∷ events) = IsWithin s pinned change × IsNext (newest changes) change × AreEventsAfter s pinned (changes ++ change ∷ []) events
-AreEventsAfter s pinned changes (Lost page ∷ events) = (page < pages_of s) × (newest changes page ≡ None) × AreEventsAfter s pinned changes events
+AreEventsAfter s pinned changes (Changed change ∷ events) =
+    IsWithin s pinned change × IsNext (newest changes) change × AreEventsAfter s pinned (changes ++ change ∷ []) events
+AreEventsAfter s pinned changes (Lost page ∷ events) =
+    (page < pages_of s) × (newest changes page ≡ None) × AreEventsAfter s pinned changes events
 
 -- a row of a pass: its place, its sampler, and a version of the pass
 pub record IsRowOf (start last y : ℕ) (row : RowLine) : Type 0 where
@@ -34,7 +36,8 @@ pub record IsRowOf (start last y : ℕ) (row : RowLine) : Type 0 where
 pub record AreRowsOf (height start last : ℕ) (rows : List RowLine) : Type 0 where
   pub count : length rows ≡ height
   pub each : (y : ℕ) (row : RowLine) → slice_get rows y ≡ Some row → IsRowOf start last y row
-  pub rise : (i j : ℕ) (before row : RowLine) → i < j → slice_get rows i ≡ Some before → slice_get rows j ≡ Some row → before.sampler ≡ row.sampler → before.version ≤ row.version
+  pub rise : (i j : ℕ) (before row : RowLine) → i < j → slice_get rows i ≡ Some before → slice_get rows j ≡ Some row
+      → before.sampler ≡ row.sampler → before.version ≤ row.version
 
 -- a pass may come after so many passes, of which the last had the picture before, in a journal of these changes
 pub record IsPassAfter (s : Shape) (height pinned : ℕ) (changes : List Change) (passes before : ℕ) (pass : Pass) : Type 0 where
@@ -48,7 +51,8 @@ pub record IsPassAfter (s : Shape) (height pinned : ℕ) (changes : List Change)
 abbrev pub ArePassesAfter : Shape → ℕ → ℕ → List Change → ℕ → ℕ → List Pass → Type 0
 ArePassesAfter s height pinned changes passes before [] = Unit {0}
 ArePassesAfter s height pinned changes passes before (pass ∷ rest) =
-    IsPassAfter s height pinned changes passes before pass × ArePassesAfter s height pinned (changes ++ changes_of pass.events) (passes + 1) pass.picture rest
+    IsPassAfter s height pinned changes passes before pass
+    × ArePassesAfter s height pinned (changes ++ changes_of pass.events) (passes + 1) pass.picture rest
 
 -- so many pages may be pinned
 pub record MayBePinned (s : Shape) (pinned : ℕ) : Type 0 where

@@ -10,7 +10,7 @@ use Rattle.vt_journal.specs.declared.lines.Line.{Line}
 use Rattle.vt_journal.specs.declared.lines.Line.TheVariants.{Begins, Makes, Loses, Draws}
 use Rattle.vt_journal.specs.declared.parse.JournalError.{JournalError}
 use Rattle.vt_journal.specs.declared.parse.JournalError.TheVariants.{BadLine}
-use Rattle.vt_journal.specs.Bounds.{most_frames, most_samplers}
+use Rattle.vt_definitions.specs.Limits.{most_frames, most_samplers}
 use Rattle.vt_journal.specs.Changes.{newest, IsNext}
 use Rattle.vt_journal.specs.Lookups.{change_page}
 use Rattle.vt_journal.specs.JournalText.{Content, line_fields, content_lines}
@@ -45,7 +45,8 @@ IsBeforeRows r = (1 ≤ r.passes) × (r.rows ≡ [])
 -- the change may stand there: page and frame are within their bounds, and an unmapped page is not pinned
 abbrev pub IsPlaced : Shape → Reading → Change → Type 0
 IsPlaced s r (Map page frame) = (page < pages_of s) × (frame < most_frames) × (IsInHead s r page frame ⊎ IsBeforeRows r)
-IsPlaced s r (Unmap page frame) = (page < pages_of s) × (frame < most_frames) × (page + pinned_by s r.changes < pages_of s) × IsBeforeRows r
+IsPlaced s r (Unmap page frame) =
+    (page < pages_of s) × (frame < most_frames) × (page + pinned_by s r.changes < pages_of s) × IsBeforeRows r
 
 -- the head is whole, or the last pass has all its rows
 pub record IsComplete (s : Shape) (height : ℕ) (r : Reading) : Type 0 where
@@ -65,21 +66,26 @@ pub record IsNextRow (height : ℕ) (r : Reading) (row : RowLine) : Type 0 where
   pub sampler : row.sampler < most_samplers
   pub from : r.start ≤ row.version
   pub to : row.version ≤ length r.changes
-  pub rises : (k : ℕ) (before : RowLine) → slice_get r.rows k ≡ Some before → before.sampler ≡ row.sampler → before.version ≤ row.version
+  pub rises : (k : ℕ) (before : RowLine) → slice_get r.rows k ≡ Some before → before.sampler ≡ row.sampler
+      → before.version ≤ row.version
 
 -- the line may come next
 abbrev pub Admits : Shape → ℕ → Reading → Line → Type 0
-Admits s height r (Begins pass picture start) = IsComplete s height r × (pass ≡ r.passes + 1) × IsNextPicture r.passes r.picture picture × (start ≡ length r.changes)
-Admits s height r (Makes version change) = (version ≡ length r.changes + 1) × IsPlaced s r change × IsNext (newest r.changes) change
+Admits s height r (Begins pass picture start) =
+    IsComplete s height r × (pass ≡ r.passes + 1) × IsNextPicture r.passes r.picture picture × (start ≡ length r.changes)
+Admits s height r (Makes version change) =
+    (version ≡ length r.changes + 1) × IsPlaced s r change × IsNext (newest r.changes) change
 Admits s height r (Loses page) = IsBeforeRows r × (page < pages_of s) × (newest r.changes page ≡ None)
 Admits s height r (Draws row) = IsNextRow height r row
 
 -- what was told once the line has told its part
 abbrev pub after : Reading → Line → Reading
 after r (Begins pass picture start) = record { changes = r.changes; passes = pass; picture = picture; start = start; rows = [] }
-after r (Makes version change) = record { changes = r.changes ++ change ∷ []; passes = r.passes; picture = r.picture; start = r.start; rows = r.rows }
+after r (Makes version change) =
+    record { changes = r.changes ++ change ∷ []; passes = r.passes; picture = r.picture; start = r.start; rows = r.rows }
 after r (Loses page) = r
-after r (Draws row) = record { changes = r.changes; passes = r.passes; picture = r.picture; start = r.start; rows = r.rows ++ row ∷ [] }
+after r (Draws row) =
+    record { changes = r.changes; passes = r.passes; picture = r.picture; start = r.start; rows = r.rows ++ row ∷ [] }
 
 -- each of the lines may come after those before it
 abbrev pub AreAdmitted : Shape → ℕ → Reading → List Line → Type 0
@@ -100,7 +106,8 @@ pub record IsLawful (s : Shape) (height : ℕ) (content : Content) : Type 0 wher
 abbrev pub SaysNext : Shape → ℕ → Reading → List ℕ → Line → Type 0
 SaysNext s height r bytes line = Admits s height r line × (fields_of bytes ≡ line_fields s line)
 
--- the first refusal of these lines, of which the first has this number and comes after what was told; the text may end only where it is complete, and nothing may follow the last line feed
+-- the first refusal of these lines, of which the first has this number and comes after what was told; the text may end only
+-- where it is complete, and nothing may follow the last line feed
 abbrev pub IsFlawFrom : Shape → ℕ → ℕ → Reading → List (List ℕ) → JournalError → Type 0
 IsFlawFrom s height number r [] e = ⊥
 IsFlawFrom s height number r (rest ∷ []) e = (rest ≡ [] → ¬ IsComplete s height r) × (e ≡ BadLine number)

@@ -1,7 +1,7 @@
 -- What the reading of a journal's lines finds, before a content is made of it.
 use Rattle.std.specs.Prelude.{◌≡◌, ◌≢◌, ℕ, ◌+◌, ◌<◌, ◌≤◌, ◌^◌, ◌⊎◌, List, [], ◌∷◌, ◌++◌, map, length, drop, Option, Some, slice_get, slice_index, MatchOption}
 use Rattle.std.specs.List.{join_with_byte, flat_map, range_with_len}
-use Rattle.vt_definitions.specs.Limits.{blank}
+use Rattle.vt_definitions.specs.Limits.{blank, most_versions, most_frames, most_samplers}
 use Rattle.vt_text.specs.Numbers.{number_spelling}
 use Rattle.vt_text.specs.Lines.{fields_of, lines_of}
 use Rattle.vt_pages.specs.Shape.{Shape}
@@ -15,7 +15,6 @@ use Rattle.vt_journal.specs.declared.lines.Line.{Line}
 use Rattle.vt_journal.specs.declared.lines.Line.TheVariants.{Begins, Makes, Loses, Draws}
 use Rattle.vt_journal.specs.declared.parse.JournalError.{JournalError}
 use Rattle.vt_journal.specs.declared.parse.JournalError.TheVariants.{NoMemory}
-use Rattle.vt_journal.specs.Bounds.{most_frames, most_samplers}
 use Rattle.vt_journal.specs.JournalText.{line_fields, changes_of, event_lines, pass_lines, passes_changes, pinned_change}
 use Rattle.vt_journal.specs.Changes.{newest, IsNext}
 use Rattle.vt_outside.specs.Lists.{ListView}
@@ -86,7 +85,8 @@ pub record IsLineRead (s : Shape) (text : List ℕ) (at number : ℕ) (line : Li
 
 -- no line stands at a place that the reader knows
 abbrev pub IsNoLine : Shape → List ℕ → ℕ → Type 0
-IsNoLine s text at = (line : Line) (bytes next : List ℕ) (rest : List (List ℕ)) → lines_of (drop at text) ≡ bytes ∷ next ∷ rest → ¬ Says s bytes line
+IsNoLine s text at = (line : Line) (bytes next : List ℕ) (rest : List (List ℕ))
+    → lines_of (drop at text) ≡ bytes ∷ next ∷ rest → ¬ Says s bytes line
 
 -- lines that may come after what was told stand from one place to another
 pub record Advances (s : Shape) (height : ℕ) (text : List ℕ) (r : Reading) (at number : ℕ) (lines : List Line) (next_at next_number : ℕ) : Type 0 where
@@ -106,7 +106,7 @@ pub record IsSmall (s : Shape) (height : ℕ) (r : Reading) : Type 0 where
   pub short : height < 2 ^ 32
   pub passes : r.passes + 1 < 2 ^ 32
   pub picture : r.picture ≤ r.passes
-  pub changes : length r.changes ≤ 2 ^ 62
+  pub changes : length r.changes ≤ most_versions
 
 -- the change does not unmap one of the last so many pages
 abbrev pub IsUnpinned : Shape → ℕ → Change → Type 0
@@ -147,7 +147,8 @@ pub record IsEventAdded (before after : KeptView) (pass pass_after : PassText) (
   pub same : AreSameButEvents pass pass_after
 
 -- events were read from one place to another: a pass has them, and a journal their changes
-pub record AreEventsRead (s : Shape) (height : ℕ) (text : List ℕ) (before after : List Change) (pass pass_after : PassText) (at number next_at next_number : ℕ) : Type 0 where
+pub record AreEventsRead (s : Shape) (height : ℕ) (text : List ℕ) (before after : List Change)
+    (pass pass_after : PassText) (at number next_at next_number : ℕ) : Type 0 where
   pub events : List Event
   pub added : pass_after.events.elements ≡ pass.events.elements ++ events
   pub changes_are : after ≡ before ++ changes_of events
@@ -163,7 +164,8 @@ IsNoEvent (Draws row) = Unit {0}
 
 -- no line that says an event stands at a place
 abbrev pub IsNoEventAt : Shape → List ℕ → ℕ → Type 0
-IsNoEventAt s text at = (line : Line) (bytes : List ℕ) (rest : List (List ℕ)) → lines_of (drop at text) ≡ bytes ∷ rest → rest ≢ [] → Says s bytes line → IsNoEvent line
+IsNoEventAt s text at = (line : Line) (bytes : List ℕ) (rest : List (List ℕ))
+    → lines_of (drop at text) ≡ bytes ∷ rest → rest ≢ [] → Says s bytes line → IsNoEvent line
 
 -- what was told when a pass has rows besides
 abbrev pub with_rows : List Change → PassText → List RowLine → Reading
@@ -174,7 +176,8 @@ pub record AreSeen (start : ℕ) (rows : List RowLine) (seen : List ℕ) : Type 
   pub count : length seen ≡ most_samplers
   pub from : (k : ℕ) → k < most_samplers → start ≤ slice_index seen k
   pub most : (i : ℕ) (row : RowLine) → slice_get rows i ≡ Some row → row.version ≤ slice_index seen row.sampler
-  pub some : (k : ℕ) → k < most_samplers → (slice_index seen k ≡ start) ⊎ ((i : ℕ) × (row : RowLine) × (slice_get rows i ≡ Some row) × (row.sampler ≡ k) × (row.version ≡ slice_index seen k))
+  pub some : (k : ℕ) → k < most_samplers → (slice_index seen k ≡ start)
+      ⊎ ((i : ℕ) × (row : RowLine) × (slice_get rows i ≡ Some row) × (row.sampler ≡ k) × (row.version ≡ slice_index seen k))
 
 -- the row comes next after so many, by what its sampler has seen and the newest version
 pub record IsRowInTurn (rows : ℕ) (seen : List ℕ) (version : ℕ) (row : RowLine) : Type 0 where
@@ -189,7 +192,8 @@ pub record AreRowsBegun (s : Shape) (height : ℕ) (changes : List Change) (pass
   pub seen_are : AreSeen pass.start rows seen
 
 -- a row was read and added
-pub record IsRowRead (s : Shape) (height : ℕ) (text : List ℕ) (changes : List Change) (pass : PassText) (rows rows_after : ListView RowLine) (seen_after : List ℕ) (at number next_at next_number : ℕ) : Type 0 where
+pub record IsRowRead (s : Shape) (height : ℕ) (text : List ℕ) (changes : List Change) (pass : PassText)
+    (rows rows_after : ListView RowLine) (seen_after : List ℕ) (at number next_at next_number : ℕ) : Type 0 where
   pub row : RowLine
   pub added : rows_after.elements ≡ rows.elements ++ row ∷ []
   pub spare : rows.spare ≤ rows_after.spare + 1
@@ -215,9 +219,10 @@ abbrev pub head_reading : List Change → Reading
 head_reading changes = record { changes = changes; passes = 0; picture = 0; start = 0; rows = [] }
 
 -- a pass was read, and a journal has its changes
-pub record IsPassRead (s : Shape) (height : ℕ) (text : List ℕ) (r : Reading) (before after : List Change) (passes : ℕ) (pass : PassText) (at number next_at next_number : ℕ) : Type 0 where
+pub record IsPassRead (s : Shape) (height : ℕ) (text : List ℕ) (r : Reading)
+    (before after : List Change) (passes : ℕ) (pass : PassText) (at number next_at next_number : ℕ) : Type 0 where
   pub changes_are : after ≡ before ++ changes_of pass.events.elements
-  pub few : length after ≤ 2 ^ 62
+  pub few : length after ≤ most_versions
   pub pass_is : pass.pass ≡ passes + 1
   pub picture_is : pass.picture ≤ pass.pass
   pub rows_are : length pass.rows.elements ≡ height
@@ -234,7 +239,8 @@ pub record IsHeadWhole (s : Shape) (height : ℕ) (changes : List Change) (pages
   pub pages_is : pages ≡ pages_of s
 
 -- passes were read up to a place, and a journal has their changes
-pub record ArePassesRead (s : Shape) (height : ℕ) (text : List ℕ) (before after : List Change) (passes : List PassText) (picture at number next_at next_number : ℕ) : Type 0 where
+pub record ArePassesRead (s : Shape) (height : ℕ) (text : List ℕ) (before after : List Change)
+    (passes : List PassText) (picture at number next_at next_number : ℕ) : Type 0 where
   pub changes_are : after ≡ before ++ passes_changes (map pass_of passes)
   pub advances : Advances s height text (head_reading before) at number (flat_map pass_lines (map pass_of passes)) next_at next_number
   pub between : IsBetween s height after (length passes) picture (after_all (head_reading before) (flat_map pass_lines (map pass_of passes)))
@@ -259,7 +265,7 @@ pub record IsHeadBegun (s : Shape) (height : ℕ) (text : List ℕ) (changes : L
 pub record IsAwaited (s : Shape) (height : ℕ) (changes : List Change) (pages pinned passes before : ℕ) : Type 0 where
   pub tile : 1 ≤ s.tile
   pub short : height < 2 ^ 32
-  pub few_changes : length changes ≤ 2 ^ 62
+  pub few_changes : length changes ≤ most_versions
   pub some : 1 ≤ length changes
   pub pinned_is : pinned ≡ pinned_by s changes
   pub pages_is : pages ≡ pages_of s

@@ -1,19 +1,14 @@
 -- Which page stands in for a page that is not mapped (van Waveren 2012).
-use Rattle.std.specs.Prelude.{◌≡◌, ◌≢◌, ℕ, ◌<◌, Option, Some, None, List, [], ◌∷◌, slice_get}
+use Rattle.std.specs.Prelude.{◌≡◌, ◌≢◌, ℕ, ◌<◌, Bool, is_some, Some, None, List, slice_get}
 use Rattle.vt_pages.specs.Shape.{Shape}
 use Rattle.vt_pages.specs.Pages.{line_of}
 use Rattle.vt_journal.specs.declared.changes.Change.{Change}
 use Rattle.vt_journal.specs.declared.changes.Change.TheVariants.{Map, Unmap}
 use Rattle.vt_journal.specs.Changes.{Table}
 
--- the first of these pages that the table maps
-abbrev pub first_mapped : Table → List ℕ → Option ℕ
-first_mapped m [] = None
-first_mapped m (p ∷ ps) = elim (m p) [ None ↦ first_mapped m ps | Some frame ↦ Some p ]
-
--- the look-up of a page: the finest that the table maps of the page and its ancestors (van Waveren 2012)
-unfoldable pub lookup : Shape → Table → ℕ → Option ℕ
-lookup s m p = first_mapped m (line_of s p)
+-- whether a table maps a page
+abbrev pub is_mapped : Table → ℕ → Bool
+is_mapped m p = is_some (m p)
 
 -- a page of the list is mapped, and none before it
 pub record IsFirstMapped (m : Table) (ps : List ℕ) (a : ℕ) : Type 0 where

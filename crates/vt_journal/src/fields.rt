@@ -1,10 +1,9 @@
 //! The fields of a journal's lines, read.
 
-ghost use Rattle.std.specs.Prelude.{◌≡◌, ◌≢◌, ◌+◌, ◌-◌, ◌*◌, ◌/◌, ◌<◌, ◌≤◌, ◌^◌, ℕ, slice_get, Some, None, MatchOption, IfSome};
+ghost use Rattle.std.specs.Prelude.{◌≡◌, ◌≢◌, ◌+◌, ◌-◌, ◌/◌, ◌<◌, ◌≤◌, ℕ, slice_get, Some, None, MatchOption};
 ghost use Rattle.std.specs.Bool.{MatchBool};
 ghost use Rattle.vt_text.specs.Lines.{fields_of};
-ghost use Rattle.vt_text.specs.Numbers.{number_spelling};
-ghost use Rattle.vt_pages.specs.Pages.{IsPage, IsWithinLimits, levels_of, columns_at, rows_at};
+ghost use Rattle.vt_pages.specs.Pages.{IsPage, levels_of};
 ghost use Rattle.vt_journal.specs.JournalReading.{IsNumberAt, StandsAt};
 
 use vt_pages::{Geometry, PageName};
@@ -12,7 +11,8 @@ use vt_text::{decimal, field};
 
 /// Whether a line's field `i` is the word.
 pub fn has_word(line: &[u8], i: usize, word: &[u8]) -> bool
-    ensures { MatchBool result (slice_get (fields_of line.now) i ≡ Some word.now) (slice_get (fields_of line.now) i ≢ Some word.now) }
+    ensures { MatchBool result (slice_get (fields_of line.now) i ≡ Some word.now)
+        (slice_get (fields_of line.now) i ≢ Some word.now) }
 {
     match field(line, i) {
         Some(found) => found == word,
@@ -49,7 +49,7 @@ pub fn small_at(line: &[u8], i: usize, most: u32) -> Option<u32>
     Some(number as u32)
 }
 
-/// Whether the tile at a place is one of those that cover a side.
+// Whether the tile at a place is one of those that cover a side.
 fn is_on_side(place: u32, tile: u32, side: u32) -> bool
     requires { 1 ≤ tile }
     ensures { MatchBool result (place < (side + tile - 1) / tile) (place < (side + tile - 1) / tile → ⊥) }
@@ -57,7 +57,7 @@ fn is_on_side(place: u32, tile: u32, side: u32) -> bool
     u64::from(place) * u64::from(tile) < u64::from(side)
 }
 
-/// Whether a name is of a page of the chain, where its level is one of the chain's.
+// Whether a name is of a page of the chain, where its level is one of the chain's.
 fn is_page(geometry: &Geometry, name: &PageName) -> bool
     requires { name.now.level < levels_of geometry.now }
     ensures { MatchBool result (IsPage geometry.now name.now) (IsPage geometry.now name.now → ⊥) }

@@ -1,15 +1,13 @@
 //! The versions of a page table, kept as the list of changes.
 
-ghost use Rattle.std.specs.Prelude.{◌≡◌, ◌+◌, ◌-◌, ◌<◌, ◌≤◌, List, [], ◌∷◌, ◌++◌, length, slice_get, Some, OnOk, OnErr};
+ghost use Rattle.std.specs.Prelude.{◌≡◌, ◌+◌, ◌-◌, ◌≤◌, [], ◌∷◌, ◌++◌, length, slice_get, Some, OnOk, OnErr};
+ghost use Rattle.vt_definitions.specs.Limits.{most_versions};
 ghost use Rattle.vt_journal.specs.Changes.{IsNext, AreInTurn, newest};
 
 use crate::changes::Change;
 use std::alloc::Global;
 use std::marker::Model;
 use vt_outside::{Items, NoMemory};
-
-/// The greatest version that a journal may have.
-const MOST_VERSIONS: u64 = 4_611_686_018_427_387_904;
 
 /// The versions of a page table: version 0 maps nothing, and each change makes the next version. Contracts see the
 /// changes, of which the last made the newest version, and the room for more.
@@ -20,6 +18,7 @@ pub struct Journal {
 
 impl Model for Journal {
     ghost use Rattle.std.specs.Prelude.{length, ◌≤◌};
+    ghost use Rattle.vt_definitions.specs.Limits.{most_versions};
     ghost use Rattle.vt_journal.specs.Changes.{AreInTurn};
     ghost use Rattle.vt_journal.specs.Journals.{JournalView, room_of};
 
@@ -27,7 +26,7 @@ impl Model for Journal {
 
     ghost view = { λ j. record { changes = j.changes.elements; spare = room_of j.changes.elements j.changes.spare } };
 
-    ghost invariant = { λ j. (length j.changes.elements ≤ 4611686018427387904) × AreInTurn j.changes.elements };
+    ghost invariant = { λ j. (length j.changes.elements ≤ most_versions) × AreInTurn j.changes.elements };
 }
 
 impl Journal {
@@ -42,10 +41,10 @@ impl Journal {
 
     /// Makes room for at least `n` more changes; no version may pass 2^62. After a refusal nothing changed.
     pub fn reserve(&mut self, n: u64) -> Result<(), NoMemory>
-        requires { length self.old.changes + n ≤ MOST_VERSIONS }
+        requires { length self.old.changes + n ≤ most_versions }
         ensures changes { self.new.changes ≡ self.old.changes }
         ensures room { OnOk result (n ≤ self.new.spare) }
-        ensures bound { length self.new.changes + self.new.spare ≤ MOST_VERSIONS }
+        ensures bound { length self.new.changes + self.new.spare ≤ most_versions }
         ensures refused { OnErr result (self.new.spare ≡ self.old.spare) }
     {
         self.changes.reserve(n)
@@ -58,7 +57,7 @@ impl Journal {
         requires in_turn { IsNext (newest self.old.changes) change }
         ensures changes { self.new.changes ≡ self.old.changes ++ change ∷ [] }
         ensures spare { self.old.spare ≤ self.new.spare + 1 }
-        ensures bound { length self.new.changes + self.new.spare ≤ MOST_VERSIONS }
+        ensures bound { length self.new.changes + self.new.spare ≤ most_versions }
     {
         self.changes.push(change);
     }
@@ -66,8 +65,8 @@ impl Journal {
     /// The newest version, which is the number of changes and at most 2^62.
     pub fn version(&self) -> u64
         ensures version { result ≡ length self.now.changes }
-        ensures most { result ≤ MOST_VERSIONS }
-        ensures bound { length self.now.changes + self.now.spare ≤ MOST_VERSIONS }
+        ensures most { result ≤ most_versions }
+        ensures bound { length self.now.changes + self.now.spare ≤ most_versions }
         ensures in_turn { AreInTurn self.now.changes }
     {
         self.changes.len() as u64

@@ -1,22 +1,19 @@
 //! A journal that is read, with its newest version.
 
-ghost use Rattle.std.specs.Prelude.{◌≡◌, ◌≢◌, ◌+◌, ◌<◌, ◌≤◌, None, List, [], ◌∷◌, ◌++◌, length, OnOk, IfOk};
+ghost use Rattle.std.specs.Prelude.{◌≡◌, ◌≢◌, ◌+◌, ◌<◌, ◌≤◌, None, [], ◌∷◌, ◌++◌, length, OnOk, IfOk};
 ghost use Rattle.std.specs.Bool.{MatchBool};
-ghost use Rattle.vt_definitions.specs.Limits.{most_pages};
-ghost use Rattle.vt_journal.specs.Bounds.{most_frames, most_versions};
+ghost use Rattle.vt_definitions.specs.Limits.{most_pages, most_versions};
 ghost use Rattle.vt_journal.specs.Changes.{IsNext, newest};
 ghost use Rattle.vt_journal.specs.Lookups.{change_page};
 ghost use Rattle.vt_journal.specs.Kept.{change_frame, IsWithinTable};
 
 use crate::changes::Change;
 use crate::journal::Journal;
+use crate::limits::MOST_VERSIONS;
 use crate::table::PageTable;
 use std::alloc::Global;
 use std::marker::Model;
 use vt_outside::NoMemory;
-
-/// The greatest version that a journal may have.
-const MOST_VERSIONS: u64 = 4_611_686_018_427_387_904;
 
 /// A journal and the page table of its newest version. Contracts see the changes and how many pages there are.
 #[derive(Drop)]
@@ -65,7 +62,7 @@ impl Kept {
         self.table.entry(page).is_some()
     }
 
-    /// Whether a page and a frame are free.
+    // Whether a page and a frame are free.
     fn is_map_next(&self, page: u32, frame: u32) -> bool
         requires { IsWithinTable self.now.pages page frame }
         ensures { MatchBool result (IsNext (newest self.now.changes) (Change.Map page frame))

@@ -45,18 +45,28 @@ pub fn lawful_content_grows()
 /// it starts at the newest version, each event may come after those before it, and it has all rows of a picture, each with
 /// a version of the pass, where those of one sampler never fall. After it the text may end.
 pub fn pass_may_follow()
-    ensures admitted { (s : Shape) (height pinned : ℕ) (r : Reading) (p : Pass) → IsComplete s height r → pinned_by s r.changes ≡ pinned
-        → 1 ≤ length r.changes → IsPassAfter s height pinned r.changes r.passes r.picture p → AreAdmitted s height r (pass_lines p) }
-    ensures complete { (s : Shape) (height pinned : ℕ) (r : Reading) (p : Pass) → IsPassAfter s height pinned r.changes r.passes r.picture p
+    ensures admitted { (s : Shape) (height pinned : ℕ) (r : Reading) (p : Pass) → IsComplete s height r
+        → pinned_by s r.changes ≡ pinned → 1 ≤ length r.changes
+        → IsPassAfter s height pinned r.changes r.passes r.picture p
+        → AreAdmitted s height r (pass_lines p) }
+    ensures complete { (s : Shape) (height pinned : ℕ) (r : Reading) (p : Pass)
+        → IsPassAfter s height pinned r.changes r.passes r.picture p
         → IsComplete s height (after_all r (pass_lines p)) }
     ensures told { (r : Reading) (p : Pass) → after_all r (pass_lines p)
-        ≡ record { changes = r.changes ++ changes_of p.events; passes = p.pass; picture = p.picture; start = p.start; rows = p.rows } }
+        ≡ record {
+          changes = r.changes ++ changes_of p.events;
+          passes = p.pass;
+          picture = p.picture;
+          start = p.start;
+          rows = p.rows;
+        } }
 {}
 
 /// The pinned pages alone are a lawful content, where there is one at least, there are no more than pages, and each has a
 /// frame that a text may name.
 pub fn head_is_lawful()
-    ensures lawful { (s : Shape) (height pinned : ℕ) → MayBePinned s pinned → IsLawful s height (record { pinned = pinned; passes = [] }) }
+    ensures lawful { (s : Shape) (height pinned : ℕ) → MayBePinned s pinned
+        → IsLawful s height (record { pinned = pinned; passes = [] }) }
     ensures told { (s : Shape) (pinned : ℕ) → after_all nothing_read (head_lines s pinned)
         ≡ record { changes = pinned_changes s pinned; passes = 0; picture = 0; start = 0; rows = [] } }
 {}

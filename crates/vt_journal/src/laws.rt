@@ -5,10 +5,11 @@ ghost use Rattle.std.specs.Prelude.{◌≡◌, ◌≢◌, ◌↔◌, ◌⊎◌, 
 ghost use Rattle.vt_pages.specs.Shape.{Shape};
 ghost use Rattle.vt_pages.specs.Pages.{pages_of, root_of, level_of, levels_of, line_of};
 ghost use Rattle.vt_pages.specs.Laws.{ReachesRoot};
+ghost use Rattle.vt_pages.specs.Lookups.{lookup};
 ghost use Rattle.vt_journal.specs.declared.changes.Change.{Change};
 ghost use Rattle.vt_journal.specs.declared.changes.Change.TheVariants.{Map, Unmap};
 ghost use Rattle.vt_journal.specs.Changes.{Table, at, newest, changed, IsFree, IsNext, IsLegalNext, AreInTurn, AreLegal, Pinned, IsOneToOne};
-ghost use Rattle.vt_journal.specs.Lookups.{lookup, IsFinest, IsAway, change_page};
+ghost use Rattle.vt_journal.specs.Lookups.{is_mapped, IsFinest, IsAway, change_page};
 
 /// Version 0 maps nothing, each change makes the next version, and no version changes as the journal grows.
 pub fn changes_make_versions()
@@ -65,13 +66,13 @@ pub fn pinned_pages_stay()
 /// A look-up is the finest mapped page among a page and its ancestors, where there is one; so it is where the root is
 /// mapped (van Waveren 2012).
 pub fn lookup_is_finest()
-    ensures finest { (s : Shape) (m : Table) (p a : ℕ) → (lookup s m p ≡ Some a) ↔ IsFinest s m p a }
+    ensures finest { (s : Shape) (m : Table) (p a : ℕ) → (lookup s (is_mapped m) p ≡ Some a) ↔ IsFinest s m p a }
     ensures root { (s : Shape) (m : Table) (p f : ℕ) → ReachesRoot s p → level_of s p < levels_of s → m (root_of s) ≡ Some f
-        → (a : ℕ) × (lookup s m p ≡ Some a) }
+        → (a : ℕ) × (lookup s (is_mapped m) p ≡ Some a) }
 {}
 
 /// A change of a page that is neither the page nor one of its ancestors leaves the look-up as it was.
 pub fn lookup_stays()
     ensures { (s : Shape) (m : Table) (c : Change) (p : ℕ) → IsAway (change_page c) (line_of s p)
-        → lookup s (changed m c) p ≡ lookup s m p }
+        → lookup s (is_mapped (changed m c)) p ≡ lookup s (is_mapped m) p }
 {}

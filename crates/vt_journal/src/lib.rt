@@ -8,6 +8,7 @@ mod journal;
 mod kept;
 mod lawful;
 mod laws;
+mod limits;
 mod lines;
 mod parse;
 mod passes;

@@ -1,6 +1,6 @@
 //! The lines of a journal's text, read.
 
-ghost use Rattle.std.specs.Prelude.{◌≡◌, ◌≢◌, ◌+◌, ◌<◌, ◌≤◌, ◌^◌, ℕ, slice_get, Some, None, MatchOption};
+ghost use Rattle.std.specs.Prelude.{◌≡◌, ◌≢◌, ◌<◌, ℕ, MatchOption};
 ghost use Rattle.vt_text.specs.Lines.{fields_of};
 ghost use Rattle.vt_journal.specs.declared.parse.JournalError.TheVariants as journal_error;
 ghost use Rattle.vt_pages.specs.Pages.{pages_of};
@@ -12,6 +12,7 @@ ghost use Rattle.vt_journal.specs.JournalReading.{Says, AreBeginNumbers, ArePair
 
 use crate::changes::{Change, RowLine};
 use crate::fields::{ends_before, has_word, number_at, page_at, small_at};
+use crate::limits::{MOST_FRAMES, MOST_SAMPLERS};
 use crate::lines::Line;
 use std::alloc::AllocError;
 use thiserror::Error;
@@ -45,13 +46,7 @@ impl From<AllocError> for JournalError {
     }
 }
 
-/// The greatest frame that a journal's text may name.
-const LAST_FRAME: u32 = 65_534;
-
-/// The greatest sampler that a journal's text may name.
-const LAST_SAMPLER: u32 = 63;
-
-/// The numbers of the line that begins a pass.
+// The numbers of the line that begins a pass.
 #[derive(Clone, Copy)]
 struct Begin {
     pass: u32,
@@ -59,7 +54,7 @@ struct Begin {
     start: u64,
 }
 
-/// The numbers of a change's line.
+// The numbers of a change's line.
 #[derive(Clone, Copy)]
 struct Pair {
     version: u64,
@@ -67,7 +62,7 @@ struct Pair {
     frame: u32,
 }
 
-/// What a line says of the beginning of a pass.
+// What a line says of the beginning of a pass.
 fn read_begin(line: &[u8]) -> Option<Begin>
     ensures { MatchOption result
         ((pass picture start : ℕ) → AreBeginNumbers pass picture start → fields_of line.now ≢ begin_fields pass picture start)
@@ -95,7 +90,7 @@ fn read_begin(line: &[u8]) -> Option<Begin>
     })
 }
 
-/// What a line says of a change, by the word that it begins with.
+// What a line says of a change, by the word that it begins with.
 fn read_pair(geometry: &Geometry, line: &[u8], word: &[u8]) -> Option<Pair>
     ensures { MatchOption result
         ((version page frame : ℕ) → ArePairNumbers geometry.now version page frame
@@ -111,7 +106,7 @@ fn read_pair(geometry: &Geometry, line: &[u8], word: &[u8]) -> Option<Pair>
     }
     let version = number_at(line, 1)?;
     let page = page_at(geometry, line, 2)?;
-    let frame = small_at(line, 5, LAST_FRAME)?;
+    let frame = small_at(line, 5, MOST_FRAMES - 1)?;
     Some(Pair {
         version,
         page,
@@ -119,34 +114,34 @@ fn read_pair(geometry: &Geometry, line: &[u8], word: &[u8]) -> Option<Pair>
     })
 }
 
-/// What a line says of a change that makes a version.
+// What a line says of a change that makes a version.
 fn read_change(geometry: &Geometry, line: &[u8]) -> Option<Line>
     ensures { MatchOption result
         ((version : ℕ) (change : Change) → ¬ Says geometry.now line.now (Line.Makes version change))
         (Says geometry.now line.now) }
 {
-    match read_pair(geometry, line, b"map") {
-        Some(pair) => Some(Line::Makes {
+    if let Some(pair) = read_pair(geometry, line, b"map") {
+        let change = Change::Map {
+            page: pair.page,
+            frame: pair.frame,
+        };
+        return Some(Line::Makes {
             version: pair.version,
-            change: Change::Map {
-                page: pair.page,
-                frame: pair.frame,
-            },
-        }),
-        None => match read_pair(geometry, line, b"unmap") {
-            Some(pair) => Some(Line::Makes {
-                version: pair.version,
-                change: Change::Unmap {
-                    page: pair.page,
-                    frame: pair.frame,
-                },
-            }),
-            None => None,
-        },
+            change,
+        });
     }
+    let pair = read_pair(geometry, line, b"unmap")?;
+    let change = Change::Unmap {
+        page: pair.page,
+        frame: pair.frame,
+    };
+    Some(Line::Makes {
+        version: pair.version,
+        change,
+    })
 }
 
-/// What a line says of a lost page.
+// What a line says of a lost page.
 fn read_loss(geometry: &Geometry, line: &[u8]) -> Option<u32>
     ensures { MatchOption result
         ((page : ℕ) → page < pages_of geometry.now → fields_of line.now ≢ loss_fields geometry.now page)
@@ -161,7 +156,7 @@ fn read_loss(geometry: &Geometry, line: &[u8]) -> Option<u32>
     page_at(geometry, line, 1)
 }
 
-/// What a line says of a row.
+// What a line says of a row.
 fn read_row(line: &[u8]) -> Option<RowLine>
     ensures { MatchOption result
         ((row : RowLine) → AreRowNumbers row → fields_of line.now ≢ row_fields row)
@@ -174,7 +169,7 @@ fn read_row(line: &[u8]) -> Option<RowLine>
         return None;
     }
     let row = small_at(line, 1, u32::MAX)?;
-    let sampler = small_at(line, 2, LAST_SAMPLER)?;
+    let sampler = small_at(line, 2, MOST_SAMPLERS as u32 - 1)?;
     let version = number_at(line, 3)?;
     Some(RowLine {
         row,
@@ -196,12 +191,10 @@ pub fn parse_line(geometry: &Geometry, line: &[u8]) -> Option<Line>
     if let Some(page) = read_loss(geometry, line) {
         return Some(Line::Loses { page });
     }
-    match read_begin(line) {
-        Some(begin) => Some(Line::Begins {
-            pass: begin.pass,
-            picture: begin.picture,
-            start: begin.start,
-        }),
-        None => None,
-    }
+    let begin = read_begin(line)?;
+    Some(Line::Begins {
+        pass: begin.pass,
+        picture: begin.picture,
+        start: begin.start,
+    })
 }

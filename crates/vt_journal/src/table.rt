@@ -2,19 +2,16 @@
 
 ghost use Rattle.std.specs.Prelude.{◌≡◌, ◌<◌, ◌≤◌, ℕ, length, slice_index, Some, None, IfOk};
 ghost use Rattle.std.specs.Bool.{MatchBool};
-ghost use Rattle.vt_definitions.specs.Limits.{most_pages};
-ghost use Rattle.vt_journal.specs.Bounds.{most_frames};
+ghost use Rattle.vt_definitions.specs.Limits.{most_pages, most_frames};
 ghost use Rattle.vt_journal.specs.Changes.{IsFree, IsNext, nothing_mapped, with_entry, changed};
 ghost use Rattle.vt_journal.specs.Lookups.{change_page};
 ghost use Rattle.vt_journal.specs.Kept.{IsWithinTable, entries_of, change_frame};
 
 use crate::changes::Change;
+use crate::limits::MOST_FRAMES;
 use std::alloc::Global;
 use std::marker::Model;
 use vt_outside::NoMemory;
-
-/// How many frames a journal's text may name.
-const MOST_FRAMES: usize = 65_535;
 
 /// A page table: for each page the number of its frame, and for each frame the number of its page, each one more than
 /// what it gives, and 0 for none. Contracts see the numbers of the pages.
@@ -35,7 +32,7 @@ impl Model for PageTable {
     ghost invariant = { λ t. ArePaired t.frames.items t.pages.items };
 }
 
-/// So many zeros.
+// So many zeros.
 fn zeros(alloc: Global, n: usize) -> Result<Vec<u32>, NoMemory>
     ensures count { IfOk result (λ v. length v.items ≡ n) }
     ensures zero { IfOk result (λ v. (k : ℕ) → slice_index v.items k ≡ 0) }
@@ -51,7 +48,7 @@ impl PageTable {
     {
         Ok(PageTable {
             frames: zeros(alloc, pages as usize)?,
-            pages: zeros(alloc, MOST_FRAMES)?,
+            pages: zeros(alloc, MOST_FRAMES as usize)?,
         })
     }
 

@@ -1,8 +1,8 @@
 //! A journal's text, read as a whole.
 
-ghost use Rattle.std.specs.Prelude.{◌≡◌, ◌+◌, ◌<◌, ◌≤◌, ◌⊎◌, ◌^◌, length, map, slice_get, Some, MatchResult, IfOk, IfErr};
+ghost use Rattle.std.specs.Prelude.{◌≡◌, ◌<◌, ◌⊎◌, ◌^◌, length, map, slice_get, Some, MatchResult, IfOk, IfErr};
 ghost use Rattle.vt_journal.specs.declared.parse.JournalError.{JournalError};
-ghost use Rattle.vt_journal.specs.JournalText.{Content, journal_text, content_changes};
+ghost use Rattle.vt_journal.specs.JournalText.{Content, journal_text};
 ghost use Rattle.vt_journal.specs.JournalFlaws.{IsLawful, IsJournalFlaw};
 ghost use Rattle.vt_journal.specs.Passes.{pass_of};
 ghost use Rattle.vt_journal.specs.Texts.{IsJournalText};
@@ -31,7 +31,10 @@ impl Model for JournalText {
 
     ghost Value = { TextView };
 
-    ghost view = { λ t. record { content = record { pinned = t.pinned; passes = map pass_of t.passes.items }; changes = t.journal.changes } };
+    ghost view = { λ t. record {
+      content = record { pinned = t.pinned; passes = map pass_of t.passes.items };
+      changes = t.journal.changes;
+    } };
 
     ghost invariant = { λ t. length t.passes.items < 2 ^ 32 };
 }
@@ -40,7 +43,10 @@ impl JournalText {
     /// Joins what was read.
     pub(crate) fn from_parts(journal: Journal, pinned: u32, passes: Vec<PassText>) -> JournalText
         requires { length passes.items < 2 ^ 32 }
-        ensures { result ≡ record { content = record { pinned = pinned; passes = map pass_of passes.items }; changes = journal.changes } }
+        ensures { result ≡ record {
+          content = record { pinned = pinned; passes = map pass_of passes.items };
+          changes = journal.changes;
+        } }
     {
         JournalText {
             journal,
@@ -94,7 +100,8 @@ pub fn parse_journal(
     ensures refused { IfErr result (λ e. (e ≡ JournalError.NoMemory) ⊎ IsJournalFlaw geometry.now height text.now e) }
     ensures formed { (content : Content) → IsLawful geometry.now height content → text.now ≡ journal_text geometry.now content
         → MatchResult result (λ j. j.content ≡ content) (λ e. e ≡ JournalError.NoMemory) }
-    ensures faulty { (e : JournalError) → IsJournalFlaw geometry.now height text.now e → (result ≡ Err e) ⊎ (result ≡ Err JournalError.NoMemory) }
+    ensures faulty { (e : JournalError) → IsJournalFlaw geometry.now height text.now e
+        → (result ≡ Err e) ⊎ (result ≡ Err JournalError.NoMemory) }
 {
     read_text(alloc, geometry, height, text)
 }

@@ -1,13 +1,13 @@
 //! The text of a journal, written.
 
-ghost use Rattle.std.specs.Prelude.{◌≡◌, ◌+◌, ◌-◌, ◌<◌, ◌≤◌, ◌*◌, ◌^◌, List, [], ◌∷◌, ◌++◌, length, map, take, OnOk, IfOk, All};
+ghost use Rattle.std.specs.Prelude.{◌≡◌, ◌+◌, ◌<◌, ◌≤◌, [], ◌∷◌, ◌++◌, length, map, OnOk, IfOk, All};
 ghost use Rattle.std.specs.List.{join_with_byte};
-ghost use Rattle.vt_definitions.specs.Limits.{blank, line_feed};
+ghost use Rattle.vt_definitions.specs.Limits.{blank, most_versions};
 ghost use Rattle.vt_text.specs.Numbers.{number_spelling};
 ghost use Rattle.vt_pages.specs.Pages.{pages_of};
 ghost use Rattle.vt_journal.specs.declared.lines.Line.{Line};
 ghost use Rattle.vt_journal.specs.Changes.{Pinned};
-ghost use Rattle.vt_journal.specs.JournalText.{changes_of, event_lines, page_fields, change_fields, begin_fields, loss_fields, row_fields, behind_blanks, line_text, lines_text, IsLineInChain, IsEventInChain, head_text, pass_text, pinned_change};
+ghost use Rattle.vt_journal.specs.JournalText.{changes_of, event_lines, page_fields, change_fields, begin_fields, loss_fields, row_fields, behind_blanks, line_text, lines_text, IsLineInChain, IsEventInChain, head_text, pass_text};
 ghost use Rattle.vt_journal.specs.Passes.{pass_of};
 
 use crate::changes::{Change, Event, RowLine};
@@ -19,7 +19,7 @@ use vt_outside::NoMemory;
 use vt_pages::Geometry;
 use vt_text::put_number;
 
-/// Appends bytes.
+// Appends bytes.
 fn add(text: &mut Vec<u8>, bytes: &[u8]) -> Result<(), NoMemory>
     ensures { OnOk result (text.new.items ≡ text.old.items ++ bytes.now) }
 {
@@ -27,7 +27,7 @@ fn add(text: &mut Vec<u8>, bytes: &[u8]) -> Result<(), NoMemory>
     Ok(())
 }
 
-/// Appends a blank and a number.
+// Appends a blank and a number.
 fn add_number(text: &mut Vec<u8>, n: u64) -> Result<(), NoMemory>
     ensures { OnOk result (text.new.items ≡ text.old.items ++ (blank ∷ number_spelling n)) }
 {
@@ -36,7 +36,7 @@ fn add_number(text: &mut Vec<u8>, n: u64) -> Result<(), NoMemory>
     add(text, &field[..end])
 }
 
-/// Appends the level, the column and the row of a page, each behind a blank.
+// Appends the level, the column and the row of a page, each behind a blank.
 fn add_page(text: &mut Vec<u8>, geometry: &Geometry, page: u32) -> Result<(), NoMemory>
     requires { page < pages_of geometry.now }
     ensures { OnOk result (text.new.items ≡ text.old.items ++ behind_blanks (page_fields geometry.now page)) }
@@ -47,7 +47,7 @@ fn add_page(text: &mut Vec<u8>, geometry: &Geometry, page: u32) -> Result<(), No
     add_number(text, u64::from(name.row))
 }
 
-/// Appends what stands in a line behind its first word, for a change that makes a version.
+// Appends what stands in a line behind its first word, for a change that makes a version.
 fn add_pair(
     text: &mut Vec<u8>,
     geometry: &Geometry,
@@ -64,7 +64,7 @@ fn add_pair(
     add_number(text, u64::from(frame))
 }
 
-/// Appends what stands in the line of a change before its line feed.
+// Appends what stands in the line of a change before its line feed.
 fn add_change(
     text: &mut Vec<u8>,
     geometry: &Geometry,
@@ -86,7 +86,7 @@ fn add_change(
     }
 }
 
-/// Appends the first line of a pass without its line feed.
+// Appends the first line of a pass without its line feed.
 fn add_begin(text: &mut Vec<u8>, pass: u32, picture: u32, start: u64) -> Result<(), NoMemory>
     ensures { OnOk result (text.new.items ≡ text.old.items ++ join_with_byte blank (begin_fields pass picture start)) }
 {
@@ -98,7 +98,7 @@ fn add_begin(text: &mut Vec<u8>, pass: u32, picture: u32, start: u64) -> Result<
     add_number(text, start)
 }
 
-/// Appends the line of a row without its line feed.
+// Appends the line of a row without its line feed.
 fn add_row(text: &mut Vec<u8>, row: RowLine) -> Result<(), NoMemory>
     ensures { OnOk result (text.new.items ≡ text.old.items ++ join_with_byte blank (row_fields row)) }
 {
@@ -108,7 +108,7 @@ fn add_row(text: &mut Vec<u8>, row: RowLine) -> Result<(), NoMemory>
     add_number(text, row.version)
 }
 
-/// Appends the line of a lost page without its line feed.
+// Appends the line of a lost page without its line feed.
 fn add_loss(text: &mut Vec<u8>, geometry: &Geometry, page: u32) -> Result<(), NoMemory>
     requires { page < pages_of geometry.now }
     ensures { OnOk result (text.new.items ≡ text.old.items ++ join_with_byte blank (loss_fields geometry.now page)) }
@@ -117,7 +117,7 @@ fn add_loss(text: &mut Vec<u8>, geometry: &Geometry, page: u32) -> Result<(), No
     add_page(text, geometry, page)
 }
 
-/// Appends a line.
+// Appends a line.
 fn add_line(text: &mut Vec<u8>, geometry: &Geometry, line: Line) -> Result<(), NoMemory>
     requires { IsLineInChain geometry.now line }
     ensures { OnOk result (text.new.items ≡ text.old.items ++ line_text geometry.now line) }
@@ -135,7 +135,7 @@ fn add_line(text: &mut Vec<u8>, geometry: &Geometry, line: Line) -> Result<(), N
     add(text, b"\n")
 }
 
-/// Appends the line of an event after a version, and answers the version after it.
+// Appends the line of an event after a version, and answers the version after it.
 fn add_event(
     text: &mut Vec<u8>,
     geometry: &Geometry,
@@ -143,7 +143,7 @@ fn add_event(
     event: Event,
 ) -> Result<u64, NoMemory>
     requires page { IsEventInChain geometry.now event }
-    requires room { version < 2 ^ 62 }
+    requires room { version < most_versions }
     ensures { IfOk result (λ v. (v ≡ version + length (changes_of (event ∷ [])))
         × (text.new.items ≡ text.old.items ++ lines_text geometry.now (event_lines version (event ∷ [])))) }
 {
@@ -160,7 +160,7 @@ fn add_event(
     }
 }
 
-/// Appends the lines of events after a version.
+// Appends the lines of events after a version.
 fn add_events(
     text: &mut Vec<u8>,
     geometry: &Geometry,
@@ -168,7 +168,7 @@ fn add_events(
     events: &[Event],
 ) -> Result<(), NoMemory>
     requires pages { All (IsEventInChain geometry.now) events.now }
-    requires room { start + length events.now ≤ 2 ^ 62 }
+    requires room { start + length events.now ≤ most_versions }
     ensures { OnOk result (text.new.items ≡ text.old.items ++ lines_text geometry.now (event_lines start events.now)) }
 {
     let mut version = start;
@@ -178,7 +178,7 @@ fn add_events(
     Ok(())
 }
 
-/// Appends the lines of rows.
+// Appends the lines of rows.
 fn add_rows(text: &mut Vec<u8>, geometry: &Geometry, rows: &[RowLine]) -> Result<(), NoMemory>
     ensures { OnOk result (text.new.items ≡ text.old.items ++ lines_text geometry.now (map Line.Draws rows.now)) }
 {
@@ -192,7 +192,7 @@ fn add_rows(text: &mut Vec<u8>, geometry: &Geometry, rows: &[RowLine]) -> Result
 /// of events together are at most 2^62.
 pub fn write_pass(alloc: Global, geometry: &Geometry, pass: &PassText) -> Result<Vec<u8>, NoMemory>
     requires pages { All (IsEventInChain geometry.now) pass.now.events.elements }
-    requires room { pass.now.start + length pass.now.events.elements ≤ 2 ^ 62 }
+    requires room { pass.now.start + length pass.now.events.elements ≤ most_versions }
     ensures { IfOk result (λ v. v.items ≡ pass_text geometry.now (pass_of pass.now)) }
 {
     let mut text = Vec::new(alloc);

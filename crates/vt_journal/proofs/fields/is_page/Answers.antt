@@ -5,15 +5,18 @@ use Rattle.vt_pages.specs.Shape.{Shape}
 use Rattle.vt_pages.specs.Pages.{IsPage, levels_of, columns_at, rows_at}
 use Rattle.vt_journal.proofs.fields.is_page.Goals as goal
 
-columns_code : (s : Shape) (k c width tile : ℕ) → width ≡ side s.width k → tile ≡ s.tile → (c < (width + tile - 1) / tile) ≡ (c < columns_at s k)
+columns_code : (s : Shape) (k c width tile : ℕ) → width ≡ side s.width k → tile ≡ s.tile
+    → (c < (width + tile - 1) / tile) ≡ (c < columns_at s k)
 unfolding columns_at
 columns_code s k c width tile w t = rw (w, t)
 
-rows_code : (s : Shape) (k r height tile : ℕ) → height ≡ side s.height k → tile ≡ s.tile → (r < (height + tile - 1) / tile) ≡ (r < rows_at s k)
+rows_code : (s : Shape) (k r height tile : ℕ) → height ≡ side s.height k → tile ≡ s.tile
+    → (r < (height + tile - 1) / tile) ≡ (r < rows_at s k)
 unfolding rows_at
 rows_code s k r height tile h t = rw (h, t)
 
-by_row : (s : Shape) (n : PageName) (b : Bool) → n.level < levels_of s → n.col < columns_at s n.level → MatchBool b (n.row < rows_at s n.level) (n.row < rows_at s n.level → ⊥) → MatchBool b (IsPage s n) (IsPage s n → ⊥)
+by_row : (s : Shape) (n : PageName) (b : Bool) → n.level < levels_of s → n.col < columns_at s n.level
+    → MatchBool b (n.row < rows_at s n.level) (n.row < rows_at s n.level → ⊥) → MatchBool b (IsPage s n) (IsPage s n → ⊥)
 by_row s n true level col row = record { level_inside = level; col_inside = col; row_inside = row }
 by_row s n false level col row = λ page. row page.row_inside
 

@@ -12,16 +12,20 @@ add_event-requires-clause-room c =
     omega (arith, c.loop-event.invariant.version, length-changes_of (take c.loop-event.event-index events), length-take {A = Event})
 
 -- the texts and the version, one event later
-version_after : (events : List Event) (i start v w : ℕ) (d : Event) → i < length events → v ≡ start + length (changes_of (take i events)) → w ≡ v + length (changes_of (get_or events i d ∷ []))
+version_after : (events : List Event) (i start v w : ℕ) (d : Event) → i < length events
+    → v ≡ start + length (changes_of (take i events)) → w ≡ v + length (changes_of (get_or events i d ∷ []))
     → w ≡ start + length (changes_of (take (i + 1) events))
 version_after events i start v w d within is next =
-    next ∙ version_more start v (take i events) (get_or events i d) is ∙ ap (λ es. start + length (changes_of es)) (sym (take_more events i d within))
+    next ∙ version_more start v (take i events) (get_or events i d) is
+    ∙ ap (λ es. start + length (changes_of es)) (sym (take_more events i d within))
 
-text_after : (s : Shape) (old before after : List ℕ) (events : List Event) (i start v : ℕ) (d : Event) → i < length events → v ≡ start + length (changes_of (take i events))
+text_after : (s : Shape) (old before after : List ℕ) (events : List Event) (i start v : ℕ) (d : Event) → i < length events
+    → v ≡ start + length (changes_of (take i events))
     → before ≡ old ++ lines_text s (event_lines start (take i events)) → after ≡ before ++ lines_text s (event_lines v (get_or events i d ∷ []))
     → after ≡ old ++ lines_text s (event_lines start (take (i + 1) events))
 text_after s old before after events i start v d within is was next =
-    next ∙ ap (λ t. t ++ lines_text s (event_lines v (get_or events i d ∷ []))) was ∙ text_more s old start v (take i events) (get_or events i d) is
+    next ∙ ap (λ t. t ++ lines_text s (event_lines v (get_or events i d ∷ []))) was
+    ∙ text_more s old start v (take i events) (get_or events i d) is
     ∙ ap (λ es. old ++ lines_text s (event_lines start es)) (sym (take_more events i d within))
 
 pub loop-event-preserved : goal.loop-event-preserved

@@ -15,13 +15,15 @@ change-change-requires-clause-inside c =
     omega (arith, within, c.from-version.ensures)
 
 -- the change of a pinned page
-given : (s : Shape) (js : List Change) (pinned place version : ℕ) (change : Change) → Pinned s js pinned → place < pinned → version ≡ place → slice_get js (version + 1 - 1) ≡ Some change → change ≡ pinned_change s pinned place
+given : (s : Shape) (js : List Change) (pinned place version : ℕ) (change : Change) → Pinned s js pinned → place < pinned
+    → version ≡ place → slice_get js (version + 1 - 1) ≡ Some change → change ≡ pinned_change s pinned place
 given s js pinned place version change pin within same is =
     let e : version + 1 - 1 ≡ place = omega arith in
     let both : Some change ≡ Some (pinned_change s pinned place) = sym is ∙ ap (slice_get js) e ∙ pin.first place within in
     cc
 
-head_after : (s : Shape) (js : List Change) (before after : List ℕ) (pinned place version : ℕ) (change : Change) → Pinned s js pinned → place < pinned → version ≡ place → slice_get js (version + 1 - 1) ≡ Some change
+head_after : (s : Shape) (js : List Change) (before after : List ℕ) (pinned place version : ℕ) (change : Change)
+    → Pinned s js pinned → place < pinned → version ≡ place → slice_get js (version + 1 - 1) ≡ Some change
     → before ≡ lines_text s (map (λ i. Makes (i + 1) (pinned_change s pinned i)) (range_with_len 0 place)) → after ≡ before ++ line_text s (Makes (version + 1) change)
     → after ≡ lines_text s (map (λ i. Makes (i + 1) (pinned_change s pinned i)) (range_with_len 0 (place + 1)))
 head_after s js before after pinned place version change pin within same is was next =

@@ -15,4 +15,5 @@ invariant_of-self-2 c =
     let js = c.self.inside.journal.changes in
     let kept : c.reserve.new.self.changes ≡ js = c.in_ok-reserve.ensures.changes in
     let made : c.push.new.self.changes ≡ js ++ c.args.change ∷ [] = c.push.ensures.changes ∙ ap (λ (ks : List Change). ks ++ c.args.change ∷ []) kept in
-    c.change.ensures.entries ∙ ap (λ m. changed m c.args.change) c.self.invariant ∙ sym (newest-more js c.args.change) ∙ ap newest (sym made)
+    c.change.ensures.entries ∙ ap (λ m. changed m c.args.change) c.self.invariant ∙ sym (newest-more js c.args.change)
+    ∙ ap newest (sym made)

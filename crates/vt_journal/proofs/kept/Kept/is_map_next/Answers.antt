@@ -5,7 +5,8 @@ use Rattle.vt_journal.specs.Kept.{entries_of}
 use Rattle.vt_journal.specs.Kept.{KeptView}
 use Rattle.vt_journal.proofs.kept.Kept.is_map_next.Goals as goal
 
-by_free : (m : Table) (page frame : ℕ) (b : Bool) → m page ≡ None → MatchBool b (IsFree m frame) (IsFree m frame → ⊥) → MatchBool b (IsNext m (Map page frame)) (IsNext m (Map page frame) → ⊥)
+by_free : (m : Table) (page frame : ℕ) (b : Bool) → m page ≡ None → MatchBool b (IsFree m frame) (IsFree m frame → ⊥)
+    → MatchBool b (IsNext m (Map page frame)) (IsNext m (Map page frame) → ⊥)
 by_free m page frame true none free = (none, free)
 by_free m page frame false none taken = λ next. taken next.1
 
