@@ -1,5 +1,5 @@
 -- Each plan is lawful for its table.
-use Rattle.std.proofs.Common.{◌≡◌, ◌≢◌, ℕ, zero, suc, ◌+◌, ◌-◌, ◌<◌, ◌≤◌, inl, inr, Bool, true, false, not, cond, ◌&&◌, nat_eq, nat_lt, nat_le, None, Some, List, [], ◌∷◌, ◌++◌, map, length, slice_index, get_or, reverse, refl, sym, ap, ◌∙◌, subst, arith}
+use Rattle.std.proofs.Common.{◌≡◌, ◌≢◌, ℕ, zero, suc, ◌+◌, ◌-◌, ◌<◌, ◌≤◌, inl, inr, Bool, true, false, not, cond, ◌&&◌, nat_eq, nat_lt, nat_le, None, Some, List, [], ◌∷◌, ◌++◌, map, length, slice_index, reverse, refl, sym, ap, ◌∙◌, subst, arith}
 use Rattle.std.specs.List.{All, AllByRecursion, IsDistinct, filter, range_with_len}
 use Rattle.std.proofs.lemmas.Bool.{false≢true, cases_lt}
 use Rattle.std.proofs.lemmas.Bool.Decides.{Decides-eqb, nat_tests}
@@ -13,18 +13,19 @@ use Rattle.std.proofs.lemmas.Map.Made.{AllPairs-from_IsDistinct}
 use Rattle.vt_pages.specs.Shape.{Shape}
 use Rattle.vt_pages.specs.Pages.{levels_of, pages_of, index_of, IsWithinLimits, level_of, name_at, parent_name, parent_of}
 use Rattle.vt_pages.proofs.Lines.{parent_is, parent_none}
+use Rattle.vt_pages.proofs.Parents.{parent_facts, level_below}
+use Rattle.vt_pages.proofs.Steps.{step_root, step_below, step_up}
 use Rattle.vt_feedback.specs.declared.Wanted.{Wanted}
 use Rattle.vt_feedback.specs.Wants.{pages_wanted}
 use Rattle.vt_evict.specs.declared.batches.Planned.{Planned}
-use Rattle.vt_evict.specs.Lookups.{step_of}
+use Rattle.vt_pages.specs.Lookups.{step_of}
 use Rattle.vt_evict.specs.Orders.{is_in, line_pages}
 use Rattle.vt_evict.specs.Views.{RecencyView, IsTable, is_mapped, is_pinned, is_loose, is_held, frame_of, free_frames}
-use Rattle.vt_evict.specs.Batches.{IsLawful, IsLawfulEntry, IsVictim}
+use Rattle.vt_evict.specs.Batches.{IsLawful, IsLawfulEntry}
 use Rattle.vt_evict.specs.Plans.{missing_pages, missing_from, candidates, planned_at, planned_count, plan_of}
 use Rattle.vt_evict.specs.Kept.{freed_at, taken_at}
 use Rattle.vt_evict.proofs.ListLemmas.{nat_eq_swap, is_in-filter, is_in-reverse, distinct-filter, each_once_distinct, by_recursion-each_once, range_once, and_true, and_false}
-use Rattle.vt_evict.proofs.LineLemmas.{parent_facts, level_below}
-use Rattle.vt_evict.proofs.PlanLemmas.{step_root, step_below, step_up, at_free, at_victim}
+use Rattle.vt_evict.proofs.PlanLemmas.{at_free, at_victim}
 use Rattle.vt_evict.proofs.FreeLemmas.{is_in-range}
 use Rattle.vt_evict.proofs.SettleLemmas.{self_eq, held_from, first_of_and, positive}
 

@@ -14,3 +14,4 @@ pub mod StampOrder
 pub mod ReadPlaces
 pub mod StampLemmas
 pub mod StampRules
+pub mod Seen

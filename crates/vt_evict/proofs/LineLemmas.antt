@@ -1,74 +1,43 @@
--- The line of a page is the page and the line of its parent.
-use Rattle.std.proofs.Common.{◌≡◌, ℕ, zero, suc, ◌+◌, ◌-◌, ◌<◌, ◌≤◌, Option, None, Some, List, [], ◌∷◌, ◌++◌, Bool, not, ◌||◌, inl, inr, reverse, append-nil, append_assoc, get_or, nat_eq, false, true, refl, sym, ap, ◌∙◌, subst, arith}
+-- Walks over lines: a list of pages that has the parent of each of its pages has their lines.
+use Rattle.std.proofs.Common.{◌≡◌, ℕ, zero, suc, ◌+◌, ◌-◌, ◌<◌, Option, None, Some, List, [], ◌∷◌, ◌++◌, Bool, cond, not, ◌||◌, inl, inr, reverse, append-nil, append_assoc, get_or, nat_eq, false, true, refl, sym, ap, ◌∙◌, arith}
 use Rattle.std.specs.List.{AllByRecursion, IsDistinct, filter, flat_map}
-use Rattle.std.proofs.lemmas.Grind.{flat_map-append, get_or_default_zero}
+use Rattle.std.proofs.lemmas.Grind.{flat_map-append}
 use Rattle.std.proofs.lemmas.List.Sorted.{IsPermutation-reverse}
-use Rattle.std.proofs.lemmas.Map.Keys.{IsDistinct-from_apart, IsDistinct-IsPermutation}
-use Rattle.std.proofs.lemmas.Bool.{cases_lt, false≢true}
+use Rattle.std.proofs.lemmas.Map.Keys.{IsDistinct-IsPermutation}
+use Rattle.std.proofs.lemmas.Bool.{false≢true, cases_lt, ne_eqb}
 use Rattle.std.proofs.lemmas.List.{reverse-append}
 use Rattle.std.proofs.lemmas.Bool.Decides.{nat_tests}
 use Rattle.std.proofs.lemmas.List.Elements.{All-from_get_or, filter-append}
 use Rattle.std.proofs.lemmas.List.Folds.{list_any_none}
-use Rattle.vt_pages.specs.declared.PageName.{PageName}
 use Rattle.vt_pages.specs.Shape.{Shape}
-use Rattle.vt_pages.specs.Pages.{levels_of, pages_of, index_of, IsPage, IsPageAt, IsWithinLimits, level_of, name_at, parent_name, parent_of, line_from, line_of}
-use Rattle.vt_pages.proofs.Names.{name_at_is_page, index_of-name_at, name_at-index, parent_is_page, index_at_is_page, level_of_from}
-use Rattle.vt_pages.proofs.Lines.{parent_is, parent_none, name_at-level, reaches_root}
+use Rattle.vt_pages.specs.Pages.{levels_of, pages_of, index_of, IsWithinLimits, level_of, name_at, parent_name, parent_of, line_of}
+use Rattle.vt_pages.proofs.Lines.{parent_is, reaches_root}
+use Rattle.vt_pages.proofs.Parents.{parent_page, line-root, line-parent, parent_facts, root_facts, level_below, line_distinct}
 use Rattle.vt_evict.specs.Orders.{is_in, each_once, line_pages}
-use Rattle.vt_evict.specs.Kept.{IsClosed}
+use Rattle.vt_evict.specs.Kept.{IsClosed, with_page}
 use Rattle.vt_evict.proofs.ListLemmas.{nat_eq_true, nat_eq_swap, filter_same, is_in-each_once, each_once-append, each_once-distinct, filter_none, by_recursion-reverse, is_in-more, is_in-reverse}
 use Rattle.vt_evict.proofs.WalkLemmas.{is_in-push, or_true, or_false}
-
-differ : (x y : ℕ) → (x ≡ y → ⊥) → nat_eq x y ≡ false
-differ x y h = grind (arith, nat_tests)
-
-line_over : (s : Shape) (up : ℕ) (p : ℕ) → level_of s p + suc up + 1 ≡ levels_of s → line_of s p ≡ index_of s (name_at s p) ∷ line_from s up (parent_name (name_at s p))
-unfolding line_of line_from
-line_over s up p e = let n : levels_of s - 1 - level_of s p ≡ suc up = omega arith in ap (λ k. line_from s k (name_at s p)) n
-
-line_at_name : (s : Shape) (n : PageName) (up : ℕ) → IsPage s n → n.level + up + 1 ≡ levels_of s → level_of s (index_of s n) ≡ n.level → line_of s (index_of s n) ≡ line_from s up n
-unfolding line_of
-line_at_name s n up h e level =
-    let k : levels_of s - 1 - level_of s (index_of s n) ≡ up = omega arith in
-    let name : name_at s (index_of s n) ≡ n = name_at-index s n.level n.col n.row h.level_inside h.col_inside h.row_inside in
-    ap (λ k. line_from s k (name_at s (index_of s n))) k ∙ ap (line_from s up) name
-
-parent_page : (s : Shape) (p : ℕ) → 1 ≤ s.tile → 1 ≤ s.width → p < pages_of s → level_of s p + 1 < levels_of s
-    → IsPageAt s (level_of s p + 1) (index_of s (parent_name (name_at s p)))
-parent_page s p some wide inside more =
-    let page = parent_is_page s (name_at s p) some (name_at_is_page s p some wide inside) (rw name_at-level more) in
-    let at = index_at_is_page s (parent_name (name_at s p)).level (parent_name (name_at s p)).col (parent_name (name_at s p)).row
-    page.level_inside page.col_inside page.row_inside in
-    record { inside = at.inside; level = at.level ∙ ap (λ l. l + 1) (name_at-level s p) }
-
--- the root's line is the root
-pub line-root : (s : Shape) (p : ℕ) → IsWithinLimits s → p < pages_of s → level_of s p + 1 ≡ levels_of s → line_of s p ≡ p ∷ []
-unfolding line_of line_from
-line-root s p limits inside last =
-    let n : levels_of s - 1 - level_of s p ≡ zero = omega arith in
-    ap (λ k. line_from s k (name_at s p)) n ∙ ap (λ (i : ℕ). i ∷ []) (index_of-name_at s p (omega (arith, limits.least_tile)) inside)
-
--- another page's line goes on with that of its parent
-pub line-parent : (s : Shape) (p : ℕ) → IsWithinLimits s → p < pages_of s → level_of s p + 1 < levels_of s
-    → line_of s p ≡ p ∷ line_of s (index_of s (parent_name (name_at s p)))
-line-parent s p limits inside more =
-    let n : PageName = name_at s p in
-    let tile : 1 ≤ s.tile = omega (arith, limits.least_tile) in
-    let up : level_of s p + suc (levels_of s - 2 - level_of s p) + 1 ≡ levels_of s = omega arith in
-    let level : n.level ≡ level_of s p = name_at-level s p in
-    let page = parent_is_page s n tile (name_at_is_page s p tile limits.least_width inside) (omega arith) in
-    let at = parent_page s p tile limits.least_width inside more in
-    let up' : (parent_name n).level + (levels_of s - 2 - level_of s p) + 1 ≡ levels_of s = omega arith in
-    line_over s (levels_of s - 2 - level_of s p) p up
-    ∙ ap (λ (i : ℕ). i ∷ line_from s (levels_of s - 2 - level_of s p) (parent_name n)) (index_of-name_at s p tile inside)
-    ∙ ap (λ (l : List ℕ). p ∷ l) (sym (line_at_name s (parent_name n) (levels_of s - 2 - level_of s p) page up' (at.level ∙ omega arith)))
 
 -- no page of a coarser page's line is this page
 pub not_above : (s : Shape) (p q : ℕ) → IsWithinLimits s → q < pages_of s → level_of s p < level_of s q → is_in (line_of s q) p ≡ false
 not_above s p q limits inside above =
     let line = reaches_root s q (omega (arith, limits.least_tile)) limits.least_width limits.least_height inside in
     list_any_none (nat_eq p) (line_of s q) (All-from_get_or (λ x. nat_eq p x ≡ false) (line_of s q) 0
-    (λ i h. differ p (get_or (line_of s q) i 0) (λ e. let level = (line.levels i h).1 in let l : level_of s p ≡ level_of s (get_or (line_of s q) i 0) = ap (level_of s) e in omega (arith, level, l))))
+    (λ i h. ne_eqb p (get_or (line_of s q) i 0) (λ e. let level = (line.levels i h).1 in let l : level_of s p ≡ level_of s (get_or (line_of s q) i 0) = ap (level_of s) e in omega (arith, level, l))))
+
+-- a page of a line is one of the chain's
+pub line_below : (s : Shape) (q p : ℕ) → IsWithinLimits s → q < pages_of s → is_in (line_of s q) p ≡ true → p < pages_of s
+line_below s q p limits inside there = elim (cases_lt p (pages_of s)) [
+  | inl below ↦ below
+  | inr past ↦
+      let line = reaches_root s q (omega (arith, limits.least_tile)) limits.least_width limits.least_height inside in
+      absurd (false≢true (sym (list_any_none (nat_eq p) (line_of s q) (All-from_get_or (λ x. nat_eq p x ≡ false) (line_of s q) 0
+      (λ i h. ne_eqb p (get_or (line_of s q) i 0) (λ e. omega (arith, e, (line.levels i h).0))))) ∙ there))
+]
+
+-- a list with a page that it lacked
+pub with_new : (xs : List ℕ) (p : ℕ) → is_in xs p ≡ false → with_page xs p ≡ xs ++ p ∷ []
+with_new xs p e = ap (λ (b : Bool). cond b xs (xs ++ p ∷ [])) e
 
 -- a closed list that has a page has its line
 pub line_within : (s : Shape) (w : List ℕ) (up p : ℕ) → IsWithinLimits s → IsClosed s w → level_of s p + up + 1 ≡ levels_of s → p < pages_of s → is_in w p ≡ true
@@ -79,38 +48,6 @@ line_within s w (suc up) p limits closed e inside there =
     let at = parent_page s p (omega (arith, limits.least_tile)) limits.least_width inside more in
     rw (line-parent s p limits inside more)
     (there, line_within s w up (index_of s (parent_name (name_at s p))) limits closed (omega (arith, at.level)) at.inside (closed.parents p _ there (parent_is s p more)))
-
--- what a parent is
-pub record IsParent (s : Shape) (p q : ℕ) : Type 0 where
-  pub inside : q < pages_of s
-  pub level : level_of s q ≡ level_of s p + 1
-  pub line : line_of s p ≡ p ∷ line_of s q
-
-pub level_below : (s : Shape) (p : ℕ) → IsWithinLimits s → p < pages_of s → level_of s p < levels_of s
-level_below s p limits inside = (level_of_from s p (omega (arith, limits.least_tile)) inside).2
-
-pub parent_facts : (s : Shape) (p q : ℕ) → IsWithinLimits s → p < pages_of s → parent_of s p ≡ Some q → IsParent s p q
-parent_facts s p q limits inside e = elim (cases_lt (level_of s p + 1) (levels_of s)) [
-  | inl more ↦
-      let at = parent_page s p (omega (arith, limits.least_tile)) limits.least_width inside more in
-      let found : Some (index_of s (parent_name (name_at s p))) ≡ Some q = sym (parent_is s p more) ∙ e in
-      let same : index_of s (parent_name (name_at s p)) ≡ q = (cc) in
-      record {
-        inside = subst (λ (r : ℕ). r < pages_of s) same at.inside;
-        level = subst (λ (r : ℕ). level_of s r ≡ level_of s p + 1) same at.level;
-        line = subst (λ (r : ℕ). line_of s p ≡ p ∷ line_of s r) same (line-parent s p limits inside more);
-      }
-  | inr last ↦
-      let below = level_below s p limits inside in
-      let none : parent_of s p ≡ None = parent_none s p (omega arith) in
-      absurd (cc)
-]
-
-pub root_facts : (s : Shape) (p : ℕ) → IsWithinLimits s → p < pages_of s → parent_of s p ≡ None → line_of s p ≡ p ∷ []
-root_facts s p limits inside e = elim (cases_lt (level_of s p + 1) (levels_of s)) [
-  | inl more ↦ let found = parent_is s p more in absurd (cc)
-  | inr last ↦ let below = level_below s p limits inside in line-root s p limits inside (omega arith)
-]
 
 -- the pages that a walk over the line of a page adds to a list
 abbrev pub walked_over : Shape → List ℕ → ℕ → List ℕ
@@ -173,16 +110,6 @@ closed_push s w p closed parent = record { parents = λ r q there e. is_in-push 
   found r q there e false other =
       let before : is_in w r ≡ true = sym (or_false (is_in w r)) ∙ ap (λ (b : Bool). is_in w r || b) (sym other) ∙ sym (is_in-push w p r) ∙ there in
       rw (closed.parents r q before e) refl
-
-line_distinct : (s : Shape) (p : ℕ) → IsWithinLimits s → p < pages_of s → IsDistinct nat_eq (line_of s p)
-line_distinct s p limits inside =
-    let line = reaches_root s p (omega (arith, limits.least_tile)) limits.least_width limits.least_height inside in
-    IsDistinct-from_apart nat_eq (line_of s p) (λ i j d below within.
-    let one : get_or (line_of s p) i d ≡ get_or (line_of s p) i 0 = get_or_default_zero (line_of s p) i d (omega arith) in
-    let two : get_or (line_of s p) j d ≡ get_or (line_of s p) j 0 = get_or_default_zero (line_of s p) j d within in
-    rw (one, two) (differ (get_or (line_of s p) i 0) (get_or (line_of s p) j 0) (λ e.
-    let first = (line.levels i (omega arith)).1 in let second = (line.levels j within).1 in
-    let l : level_of s (get_or (line_of s p) i 0) ≡ level_of s (get_or (line_of s p) j 0) = ap (level_of s) e in omega (arith, first, second))))
 
 -- one page more, whose line was walked over last
 pub line_pages-more : (s : Shape) (ps : List ℕ) (p : ℕ) → IsWithinLimits s → p < pages_of s → line_pages s (ps ++ p ∷ []) ≡ walked_over s (line_pages s ps) p

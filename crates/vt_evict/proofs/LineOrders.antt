@@ -1,15 +1,18 @@
 -- The pages of lines go by the first wanted page whose line has them, and then from coarse to fine.
-use Rattle.std.proofs.Common.{◌≡◌, ℕ, ◌+◌, ◌<◌, ◌⊎◌, inl, inr, Bool, true, false, not, ◌||◌, List, [], ◌∷◌, ◌++◌, reverse, get_or, append-nil, refl, sym, ap, ◌∙◌, subst, arith}
-use Rattle.std.specs.List.{All, AllPairs, filter, flat_map, list_any, position_or_len}
-use Rattle.std.proofs.lemmas.Grind.{get_or_default_zero}
-use Rattle.std.proofs.lemmas.List.Elements.{All-head, All-tail, filter_passes}
+use Rattle.std.proofs.Common.{◌≡◌, ℕ, ◌+◌, ◌<◌, ◌≤◌, ◌⊎◌, inl, inr, Bool, true, false, not, ◌||◌, List, [], ◌∷◌, ◌++◌, reverse, length, nat_eq, get_or, append-nil, refl, sym, ap, ◌∙◌, subst, arith}
+use Rattle.std.specs.List.{All, AllByRecursion, AllPairs, IsDistinct, filter, flat_map, list_any, position_or_len, range_with_len}
+use Rattle.std.specs.Cmp.{nat_eq_equiv}
+use Rattle.std.proofs.lemmas.Bool.{false≢true}
+use Rattle.std.proofs.lemmas.List.FromFn.{length-range_with_len}
+use Rattle.std.proofs.lemmas.Map.Made.{length-le_from_is_member}
+use Rattle.std.proofs.lemmas.List.Elements.{All-head, All-tail, filter_passes, recursion_from_All}
 use Rattle.std.proofs.lemmas.List.Kept.{AllPairs-filter}
 use Rattle.vt_pages.specs.Shape.{Shape}
 use Rattle.vt_pages.specs.Pages.{pages_of, level_of, line_of, IsWithinLimits}
-use Rattle.vt_pages.proofs.Lines.{reaches_root}
+use Rattle.vt_pages.proofs.Parents.{line_rises}
 use Rattle.vt_evict.specs.Orders.{is_in, each_once, line_pages}
-use Rattle.vt_evict.proofs.ListLemmas.{is_in-append, is_in-reverse, is_in-each_once, each_once-append, filter_all, all_true}
-use Rattle.vt_evict.proofs.LineLemmas.{line_pages-more}
+use Rattle.vt_evict.proofs.ListLemmas.{below_in, is_in-append, is_in-reverse, is_in-each_once, each_once-append, each_once_distinct, filter_all, all_true}
+use Rattle.vt_evict.proofs.LineLemmas.{line_below, line_pages-more}
 use Rattle.vt_evict.proofs.PairLemmas.{pairs_append, pairs_reverse, all_in, not_true}
 
 -- the place of the first page of a list whose line has a page
@@ -35,6 +38,28 @@ in_lines s ps p = is_in-each_once (flat_map (λ q. reverse (line_of s q)) ps) p 
       ∙ ap (λ (b : Bool). b || is_in (flat_map (λ q. reverse (line_of s q)) qs) p) (is_in-reverse (line_of s q) p)
       ∙ ap (λ (b : Bool). is_in (line_of s q) p || b) (each qs)
 
+-- the pages of lines are pages of the chain
+lines_below : (s : Shape) (ps : List ℕ) (p : ℕ) → IsWithinLimits s → AllByRecursion (λ q. q < pages_of s) ps
+    → list_any (λ q. is_in (line_of s q) p) ps ≡ true → p < pages_of s
+lines_below s [] p limits inside there = absurd (false≢true there)
+lines_below s (q ∷ qs) p limits inside there = split (λ e. lines_below s qs p limits inside.1 e) (is_in (line_of s q) p) refl there where
+  split : (list_any (λ q. is_in (line_of s q) p) qs ≡ true → p < pages_of s) → (b : Bool) → is_in (line_of s q) p ≡ b
+      → (b || list_any (λ q. is_in (line_of s q) p) qs) ≡ true → p < pages_of s
+  split rest true here e = line_below s q p limits inside.0 here
+  split rest false here e = rest e
+
+lines_apart : (s : Shape) (ps : List ℕ) → IsDistinct nat_eq (line_pages s ps)
+unfolding line_pages
+lines_apart s ps = each_once_distinct _
+
+-- and so there are at most as many
+pub lines_few : (s : Shape) (ps : List ℕ) → IsWithinLimits s → All (λ q. q < pages_of s) ps → length (line_pages s ps) ≤ pages_of s
+lines_few s ps limits inside =
+    let l : length (line_pages s ps) ≤ length (range_with_len 0 (pages_of s)) =
+    length-le_from_is_member nat_eq_equiv (line_pages s ps) (range_with_len 0 (pages_of s)) (lines_apart s ps)
+    (λ q e. below_in (pages_of s) q (lines_below s ps q limits (recursion_from_All _ ps inside) (sym (in_lines s ps q) ∙ e))) in
+    omega (arith, length-range_with_len 0 (pages_of s))
+
 line_once : (s : Shape) (p : ℕ) → IsWithinLimits s → p < pages_of s → each_once (reverse (line_of s p)) ≡ reverse (line_of s p)
 unfolding line_pages
 line_once s p limits inside =
@@ -47,16 +72,6 @@ unfolding line_pages
 line_pages-cons s p ps limits inside =
     each_once-append (reverse (line_of s p)) (flat_map (λ q. reverse (line_of s q)) ps)
     ∙ ap (λ (l : List ℕ). l ++ filter (is_off s p) (each_once (flat_map (λ q. reverse (line_of s q)) ps))) (line_once s p limits inside)
-
-line_rises : (s : Shape) (p : ℕ) → IsWithinLimits s → p < pages_of s → AllPairs (λ a b. level_of s a < level_of s b) (line_of s p)
-line_rises s p limits inside =
-    let line = reaches_root s p (omega (arith, limits.least_tile)) limits.least_width limits.least_height inside in
-    λ i j d below within.
-    let one : get_or (line_of s p) i d ≡ get_or (line_of s p) i 0 = get_or_default_zero (line_of s p) i d (omega arith) in
-    let two : get_or (line_of s p) j d ≡ get_or (line_of s p) j 0 = get_or_default_zero (line_of s p) j d within in
-    let first = (line.levels i (omega arith)).1 in
-    let second = (line.levels j within).1 in
-    rw (one, two) (omega (arith, first, second))
 
 first-here : (s : Shape) (q : ℕ) (ps : List ℕ) (p : ℕ) → is_in (line_of s q) p ≡ true → first_of s (q ∷ ps) p ≡ 0
 first-here s q ps p e = rw e refl

@@ -1,6 +1,6 @@
 -- The parts of a plan.
-use Rattle.std.proofs.Common.{◌≡◌, ℕ, zero, suc, ◌+◌, ◌-◌, ◌<◌, ◌≤◌, Bool, true, false, not, cond, nat_lt, min, Option, None, Some, List, [], ◌∷◌, ◌++◌, map, length, length-append, drop, drop-cons, length-drop, slice_index, slice_get, get_or, reverse, refl, sym, ap, ◌∙◌, append-nil, append_assoc, add-one, arith}
-use Rattle.std.specs.List.{filter, position_or_len, range_with_len}
+use Rattle.std.proofs.Common.{◌≡◌, ℕ, zero, suc, ◌+◌, ◌-◌, ◌<◌, ◌≤◌, Bool, true, false, not, cond, nat_lt, min, None, Some, List, [], ◌∷◌, ◌++◌, map, length, length-append, drop, drop-cons, length-drop, slice_index, slice_get, get_or, reverse, refl, sym, ap, ◌∙◌, append-nil, append_assoc, add-one, arith}
+use Rattle.std.specs.List.{filter, range_with_len}
 use Rattle.std.proofs.Math.Seq.{drop-append_seam}
 use Rattle.std.proofs.lemmas.Bool.Decides.{nat_tests}
 use Rattle.std.proofs.lemmas.List.{map-append, get_or-drop, reverse-append, get_or_append_left, get_or-append-add, get_or-map}
@@ -8,64 +8,13 @@ use Rattle.std.proofs.lemmas.Option.{slice_get-get_or}
 use Rattle.std.proofs.lemmas.List.Elements.{filter-append}
 use Rattle.std.proofs.lemmas.List.FromFn.{map-range_with_len_more}
 use Rattle.vt_pages.specs.Shape.{Shape}
-use Rattle.vt_pages.specs.Pages.{IsWithinLimits, pages_of, parent_of, line_of}
 use Rattle.vt_evict.specs.declared.batches.Planned.{Planned}
-use Rattle.vt_evict.specs.Lookups.{step_of}
+use Rattle.vt_pages.specs.Lookups.{step_of}
 use Rattle.vt_evict.specs.Orders.{is_in, each_once}
 use Rattle.vt_evict.specs.Views.{is_mapped, frame_of}
 use Rattle.vt_evict.specs.Plans.{missing_from, planned_at, planned_count}
 use Rattle.vt_evict.specs.Kept.{with_page, freed_at, taken_at, taken_with}
 use Rattle.vt_evict.proofs.ListLemmas.{each_once-append, is_in-each_once}
-use Rattle.vt_evict.proofs.LineLemmas.{parent_facts, root_facts}
-
--- the step in a list that stands for a line
-line_step : (m : ℕ → Bool) → List ℕ → ℕ
-line_step m line = slice_index line (position_or_len m line - 1)
-
-step_one : (m : ℕ → Bool) (p : ℕ) → line_step m (p ∷ []) ≡ p
-unfolding line_step
-step_one m p = test (m p) where
-  test : (b : Bool) → slice_index (p ∷ []) (cond (not b) (suc 0) 0 - 1) ≡ p
-  test true = refl
-  test false = refl
-
-step_here : (m : ℕ → Bool) (p q : ℕ) (rest : List ℕ) → m p ≡ false → m q ≡ true → line_step m (p ∷ q ∷ rest) ≡ p
-unfolding line_step
-step_here m p q rest low high = rw (low, high) refl
-
-step_on : (m : ℕ → Bool) (p q : ℕ) (rest : List ℕ) → m p ≡ false → m q ≡ false → line_step m (p ∷ q ∷ rest) ≡ line_step m (q ∷ rest)
-unfolding line_step
-step_on m p q rest low high = rw (low, high) (down (position_or_len m rest)) where
-  down : (n : ℕ) → get_or (p ∷ q ∷ rest) (1 + (1 + n) - 1) 0 ≡ get_or (q ∷ rest) (1 + n - 1) 0
-  down n =
-      let e : 1 + (1 + n) - 1 ≡ suc n = omega arith in
-      let f : 1 + n - 1 ≡ n = omega arith in
-      ap (λ (k : ℕ). get_or (p ∷ q ∷ rest) k 0) e ∙ ap (λ (k : ℕ). get_or (q ∷ rest) k 0) (sym f)
-
--- a line begins with its page
-begins : (s : Shape) (q : ℕ) → IsWithinLimits s → q < pages_of s → (rest : List ℕ) × (line_of s q ≡ q ∷ rest)
-begins s q limits inside = first (parent_of s q) refl where
-  first : (o : Option ℕ) → parent_of s q ≡ o → (rest : List ℕ) × (line_of s q ≡ q ∷ rest)
-  first None e = ([], root_facts s q limits inside e)
-  first (Some r) e = (line_of s r, (parent_facts s q r limits inside e).line)
-
-pub step_root : (s : Shape) (m : ℕ → Bool) (p : ℕ) → IsWithinLimits s → p < pages_of s → parent_of s p ≡ None → p ≡ step_of s m p
-unfolding step_of line_step
-step_root s m p limits inside e = sym (ap (line_step m) (root_facts s p limits inside e) ∙ step_one m p)
-
-pub step_below : (s : Shape) (m : ℕ → Bool) (p q : ℕ) → IsWithinLimits s → p < pages_of s → parent_of s p ≡ Some q → m p ≡ false → m q ≡ true → p ≡ step_of s m p
-unfolding step_of line_step
-step_below s m p q limits inside e low high =
-    let h = parent_facts s p q limits inside e in
-    let b = begins s q limits h.inside in
-    sym (ap (line_step m) (h.line ∙ ap (λ (l : List ℕ). p ∷ l) b.1) ∙ step_here m p q b.0 low high)
-
-pub step_up : (s : Shape) (m : ℕ → Bool) (p q : ℕ) → IsWithinLimits s → p < pages_of s → parent_of s p ≡ Some q → m p ≡ false → m q ≡ false → step_of s m q ≡ step_of s m p
-unfolding step_of line_step
-step_up s m p q limits inside e low high =
-    let h = parent_facts s p q limits inside e in
-    let b = begins s q limits h.inside in
-    sym (ap (line_step m) (h.line ∙ ap (λ (l : List ℕ). p ∷ l) b.1) ∙ step_on m p q b.0 low high ∙ ap (line_step m) (sym b.1))
 
 pub missing-none : (s : Shape) (entries : List ℕ) → missing_from s entries [] ≡ []
 unfolding missing_from

@@ -367,9 +367,6 @@ read_among (d ∷ batch) (false ∷ lost) e there = step (contains_head d (read_
 victim_not : (reads : List Planned) (p : ℕ) → ((e : Planned) → Contains reads e → is_page p e.victim ≡ false) → is_victim reads p ≡ false
 victim_not reads p h = list_any_none (λ e. is_page p e.victim) reads (λ k d inside. h (get_or reads k d) (k, inside, get_or_same reads k d inside))
 
-victim_of : (reads : List Planned) (p : ℕ) → is_victim reads p ≡ true → (e : Planned) × Contains reads e × (is_page p e.victim ≡ true)
-victim_of reads p e = let found = Any-from_list_any (λ e. is_page p e.victim) reads e in (found.1, (found.0, found.2, found.3), found.4)
-
 settled_after : (old now : RecencyView) (reads : List Planned) (e : Planned) (new : List ℕ) → IsAfter now.entries e.victim e.page e.frame new
     → IsTable now → IsSettled old reads now → IsLawfulEntry old e → IsLawfulEntry now e
     → ((r : Planned) → Contains reads r → IsLawfulEntry old r) → IsTable old → ((r : Planned) → Contains reads r → r.frame ≢ e.frame)

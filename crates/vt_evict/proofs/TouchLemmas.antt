@@ -1,19 +1,13 @@
 -- Tables after the stamps of a wanted list, and the number of pages that one needs.
-use Rattle.std.proofs.Common.{◌≡◌, ℕ, ◌+◌, ◌-◌, ◌≤◌, Bool, true, false, not, ◌&&◌, ◌||◌, nat_lt, nat_le, List, length, refl, ap, ◌∙◌, arith}
-use Rattle.std.specs.List.{filter, count_by, range_with_len}
-use Rattle.std.specs.Cmp.{nat_eq_equiv}
+use Rattle.std.proofs.Common.{◌≡◌, ℕ, ◌+◌, ◌-◌, Bool, true, false, not, ◌&&◌, ◌||◌, nat_lt, nat_le, List, refl, ap, ◌∙◌, arith}
+use Rattle.std.specs.List.{filter, count_by}
 use Rattle.std.proofs.lemmas.Bool.Decides.{nat_tests}
-use Rattle.std.proofs.lemmas.List.FromFn.{length-range_with_len}
-use Rattle.std.proofs.lemmas.Map.Made.{length-le_from_is_member}
-use Rattle.vt_outside.specs.Lists.{ListView}
 use Rattle.vt_pages.specs.Pages.{pages_of}
 use Rattle.vt_feedback.specs.declared.Wanted.{Wanted}
 use Rattle.vt_feedback.specs.Wants.{pages_wanted}
 use Rattle.vt_evict.specs.Orders.{is_in, put_first, line_pages}
 use Rattle.vt_evict.specs.Views.{RecencyView, IsTable, is_mapped, is_pinned, is_loose, is_loose_below, touched_pages, touched, pages_needed}
-use Rattle.vt_evict.specs.Kept.{IsWalk}
-use Rattle.vt_evict.proofs.ListLemmas.{filter_same, is_in-more, is_in-filter, below_in, distinct-filter, each_once_distinct, put_once}
-use Rattle.vt_evict.proofs.WalkLemmas.{marked_below}
+use Rattle.vt_evict.proofs.ListLemmas.{filter_same, is_in-more, is_in-filter, distinct-filter, each_once_distinct, put_once}
 
 loose_tests : (p pages pinned : ℕ) (m : Bool) → (nat_lt p (pages - pinned) && m) ≡ (m && not (nat_le pages (p + pinned)))
 loose_tests p pages pinned true = grind (arith, nat_tests)
@@ -66,9 +60,3 @@ needed_is v wants walked lines =
     count_same _ _ walked (λ p. tests p (pages_of v.shape) v.pinned) ∙ ap (count_by (λ p. not (is_pinned v p))) lines where
       tests : (p pages pinned : ℕ) → nat_lt p (pages - pinned) ≡ not (nat_le pages (p + pinned))
       tests p pages pinned = grind (arith, nat_tests)
-
-pub walk_length : (n : ℕ) (marks : List Bool) (walked : ListView ℕ) → IsWalk n marks walked → length walked.elements ≤ n
-walk_length n marks walked h =
-    let l : length walked.elements ≤ length (range_with_len 0 n) = length-le_from_is_member nat_eq_equiv walked.elements (range_with_len 0 n) h.once
-    (λ q e. below_in n q (marked_below n marks walked h q e)) in
-    omega (arith, length-range_with_len 0 n)

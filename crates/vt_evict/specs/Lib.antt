@@ -1,4 +1,3 @@
-pub mod Lookups
 pub mod Orders
 pub mod Views
 pub mod Batches

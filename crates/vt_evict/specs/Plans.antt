@@ -5,7 +5,7 @@ use Rattle.vt_pages.specs.Shape.{Shape}
 use Rattle.vt_feedback.specs.declared.Wanted.{Wanted}
 use Rattle.vt_feedback.specs.Wants.{pages_wanted}
 use Rattle.vt_evict.specs.declared.batches.Planned.{Planned}
-use Rattle.vt_evict.specs.Lookups.{step_of}
+use Rattle.vt_pages.specs.Lookups.{step_of}
 use Rattle.vt_evict.specs.Orders.{is_in, each_once, line_pages}
 use Rattle.vt_evict.specs.Views.{RecencyView, is_mapped, frame_of, free_frames}
 

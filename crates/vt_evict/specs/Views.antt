@@ -1,6 +1,7 @@
 -- What contracts see of the recency of mapped pages: the table, and the unpinned mapped pages, the most recent first.
 use Rattle.std.specs.Prelude.{◌≡◌, ℕ, ◌+◌, ◌-◌, ◌<◌, ◌≤◌, ◌==◌, true, replicate, [], ◌++◌, nat_eq, nat_lt, nat_le, Bool, not, ◌&&◌, List, length, slice_index}
 use Rattle.std.specs.List.{IsDistinct, count_by, filter, list_any, range_with_len}
+use Rattle.vt_definitions.specs.Limits.{most_frames}
 use Rattle.vt_pages.specs.Shape.{Shape}
 use Rattle.vt_pages.specs.Pages.{pages_of, IsWithinLimits}
 use Rattle.vt_feedback.specs.declared.Wanted.{Wanted}
@@ -15,10 +16,6 @@ pub record RecencyView : Type 0 where
   pub pinned : ℕ
   pub entries : List ℕ
   pub order : List ℕ
-
--- how many frames there may be
-abbrev pub most_frames : ℕ
-most_frames = 65535
 
 -- a page has a frame
 abbrev pub is_mapped : List ℕ → ℕ → Bool

@@ -1,12 +1,13 @@
 //! The pages that stand in the lines of wanted pages.
 
-ghost use Rattle.std.specs.Prelude.{◌≡◌, ℕ, ◌+◌, ◌-◌, ◌<◌, ◌≤◌, true, false, not, [], ◌∷◌, ◌++◌, IfOk, IfSome, IfNone, OnSome, reverse};
+ghost use Rattle.std.specs.Prelude.{◌≡◌, ◌+◌, ◌-◌, ◌<◌, true, false, not, [], ◌∷◌, ◌++◌, IfOk, IfSome, IfNone, OnOk, reverse};
 ghost use Rattle.std.specs.List.{filter, All};
-ghost use Rattle.vt_pages.specs.Pages.{IsWithinLimits, level_of, levels_of, pages_of, line_of};
+ghost use Rattle.vt_pages.specs.Pages.{IsWithinLimits, pages_of, line_of};
 ghost use Rattle.vt_feedback.specs.Wants.{pages_wanted};
 ghost use Rattle.vt_evict.specs.Orders.{is_in, line_pages};
 ghost use Rattle.vt_evict.specs.Kept.{IsWalk, IsClosed, with_page};
 
+use indexmap::IndexSet;
 use std::alloc::Global;
 use vt_feedback::Wants;
 use vt_outside::{Items, NoMemory};
@@ -54,18 +55,6 @@ impl Walk {
     {
         self.marks[page as usize] = true;
         self.walked.push(page);
-    }
-
-    /// Adds a page unless it is marked.
-    pub fn add_new(&mut self, pages: u32, page: u32)
-        requires walk { IsWalk pages self.old.marks.items self.old.walked }
-        requires inside { page < pages }
-        ensures walk { IsWalk pages self.new.marks.items self.new.walked }
-        ensures added { self.new.walked.elements ≡ with_page self.old.walked.elements page }
-    {
-        if !self.is_marked(pages, page) {
-            self.add(pages, page);
-        }
     }
 
     /// Takes out the page that was added last.
@@ -119,4 +108,52 @@ pub fn walk_lines(geometry: &Geometry, walk: &mut Walk, wants: &Wants)
     for want in list {
         walk_line(geometry, walk, want.page);
     }
+}
+
+/// Adds a page unless it is there.
+pub fn add_page(pages: &mut IndexSet<u32>, page: u32) -> Result<(), NoMemory>
+    ensures { OnOk result (pages.new.keys ≡ with_page pages.old.keys page) }
+{
+    pages.insert(page)?;
+    Ok(())
+}
+
+// Adds the pages of a page's line from its coarsest page on. The lines of pages that are there are there.
+fn add_line(geometry: &Geometry, pages: &mut IndexSet<u32>, page: u32) -> Result<(), NoMemory>
+    requires limits { IsWithinLimits geometry.now }
+    requires inside { page < pages_of geometry.now }
+    requires closed { IsClosed geometry.now pages.old.keys }
+    ensures closed { OnOk result (IsClosed geometry.now pages.new.keys) }
+    ensures added { OnOk result (pages.new.keys
+        ≡ pages.old.keys ++ filter (λ p. not (is_in pages.old.keys p)) (reverse (line_of geometry.now page))) }
+{
+    if pages.contains(&page) {
+        return Ok(());
+    }
+    match geometry.parent(page) {
+        Some(parent) => {
+            add_line(geometry, pages, parent)?;
+            add_page(pages, page)
+        }
+        None => add_page(pages, page),
+    }
+}
+
+/// The pages that stand in the lines of a wanted list, each once: line after line, each from its coarsest page on. They are
+/// gathered in a set of their own, since a plan only reads the table and cannot use its marks.
+pub fn lines_of(
+    alloc: Global,
+    geometry: &Geometry,
+    wants: &Wants,
+) -> Result<IndexSet<u32>, NoMemory>
+    requires { All (λ w. w.page < pages_of geometry.now) wants.now.elements }
+    ensures { IfOk result (λ s. s.keys ≡ line_pages geometry.now (pages_wanted wants.now.elements)) }
+{
+    let _limits = geometry.page_count();
+    let list = wants.slice();
+    let mut pages = IndexSet::with_capacity(alloc, list.len())?;
+    for want in list {
+        add_line(geometry, &mut pages, want.page)?;
+    }
+    Ok(pages)
 }

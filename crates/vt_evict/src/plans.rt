@@ -1,22 +1,24 @@
 //! The parts of a plan.
 
-ghost use Rattle.std.specs.Prelude.{◌≡◌, ℕ, ◌+◌, ◌-◌, ◌<◌, ◌≤◌, false, not, min, if◌then◌else◌, ◌++◌, [], ◌∷◌, map, reverse, length, IfOk, IfSome, IfNone, slice_index, slice_index_or};
+ghost use Rattle.std.specs.Prelude.{◌≡◌, ◌+◌, ◌-◌, ◌<◌, ◌≤◌, false, not, min, if◌then◌else◌, ◌++◌, [], ◌∷◌, map, reverse, length, IfOk, OnOk, IfSome, IfNone, slice_index};
 ghost use Rattle.std.specs.List.{All, filter, range_with_len};
 ghost use Rattle.std.specs.Map.{keys_of};
 ghost use Rattle.vt_pages.specs.Pages.{IsWithinLimits, pages_of};
 ghost use Rattle.vt_feedback.specs.Wants.{pages_wanted};
-ghost use Rattle.vt_evict.specs.Lookups.{step_of as step_above};
+ghost use Rattle.vt_pages.specs.Lookups.{step_of as step_above};
+ghost use Rattle.vt_evict.specs.Orders.{is_in};
 ghost use Rattle.vt_evict.specs.Views.{is_mapped};
 ghost use Rattle.vt_evict.specs.Plans.{missing_from};
-ghost use Rattle.vt_evict.specs.Kept.{IsWalk, with_page, freed_at, taken_at, taken_with};
+ghost use Rattle.vt_evict.specs.Kept.{with_page, freed_at, taken_at, taken_with};
 
 use crate::batches::{Batch, Planned};
-use crate::lines::Walk;
+use crate::lines::add_page;
+use indexmap::IndexSet;
 use lru::{Iter, LruCache};
 use std::alloc::Global;
 use std::collections::BTreeSet;
 use vt_feedback::Wants;
-use vt_outside::{Items, NoMemory};
+use vt_outside::NoMemory;
 use vt_pages::Geometry;
 
 // The page just before an unmapped page's look-up, in its line.
@@ -41,20 +43,23 @@ fn step_of(geometry: &Geometry, entries: &[u32], page: u32) -> u32
 }
 
 // Asks for the step of a page that is unmapped, unless it was asked for.
-fn ask(geometry: &Geometry, entries: &[u32], missing: &mut Walk, page: u32)
+fn ask(
+    geometry: &Geometry,
+    entries: &[u32],
+    missing: &mut IndexSet<u32>,
+    page: u32,
+) -> Result<(), NoMemory>
     requires inside { page < pages_of geometry.now }
     requires entries { length entries.now ≡ pages_of geometry.now }
-    requires walk { IsWalk (pages_of geometry.now) missing.old.marks.items missing.old.walked }
-    ensures walk { IsWalk (pages_of geometry.now) missing.new.marks.items missing.new.walked }
-    ensures asked { missing.new.walked.elements
-        ≡ (if is_mapped entries.now page then missing.old.walked.elements
-        else with_page missing.old.walked.elements (step_above geometry.now (is_mapped entries.now) page)) }
+    ensures { OnOk result (missing.new.keys
+        ≡ (if is_mapped entries.now page then missing.old.keys
+        else with_page missing.old.keys (step_above geometry.now (is_mapped entries.now) page))) }
 {
-    let pages = geometry.page_count();
+    let _limits = geometry.page_count();
     if entries[page as usize] > 0 {
-        return;
+        return Ok(());
     }
-    missing.add_new(pages, step_of(geometry, entries, page));
+    add_page(missing, step_of(geometry, entries, page))
 }
 
 /// The steps of the unmapped pages of a wanted list, each once at its first place.
@@ -63,15 +68,15 @@ pub fn missing_of(
     geometry: &Geometry,
     entries: &[u32],
     wants: &Wants,
-) -> Result<Walk, NoMemory>
+) -> Result<IndexSet<u32>, NoMemory>
     requires inside { All (λ w. w.page < pages_of geometry.now) wants.now.elements }
     requires entries { length entries.now ≡ pages_of geometry.now }
-    ensures { IfOk result (λ m. m.walked.elements ≡ missing_from geometry.now entries.now (pages_wanted wants.now.elements)) }
+    ensures { IfOk result (λ m. m.keys ≡ missing_from geometry.now entries.now (pages_wanted wants.now.elements)) }
 {
-    let mut missing = Walk::new(alloc, geometry)?;
+    let mut missing = IndexSet::new(alloc);
     let list = wants.slice();
     for want in list {
-        ask(geometry, entries, &mut missing, want.page);
+        ask(geometry, entries, &mut missing, want.page)?;
     }
     Ok(missing)
 }
@@ -99,19 +104,24 @@ pub fn put_free(batch: &mut Batch, missing: &[u32], most: usize, free: &BTreeSet
     }
 }
 
-// Gives a missing page the frame of a page, unless that is marked.
-fn put_victim(batch: &mut Batch, missing: &[u32], marks: &[bool], entries: &[u32], victim: u32)
+// Gives a missing page the frame of a page, unless that is one of the kept ones.
+fn put_victim(
+    batch: &mut Batch,
+    missing: &[u32],
+    kept: &IndexSet<u32>,
+    entries: &[u32],
+    victim: u32,
+)
     requires enough { length batch.old.elements < length missing.now }
     requires room { 1 ≤ batch.old.spare }
-    requires inside { victim < length marks.now }
-    requires entries { length entries.now ≡ length marks.now }
+    requires inside { victim < length entries.now }
     requires mapped { 0 < slice_index entries.now victim }
     ensures put { batch.new.elements
-        ≡ (if slice_index_or marks.now victim false then batch.old.elements
+        ≡ (if is_in kept.now.keys victim then batch.old.elements
         else batch.old.elements ++ taken_with entries.now missing.now (length batch.old.elements) victim ∷ []) }
     ensures room { batch.old.spare + length batch.old.elements ≤ batch.new.spare + length batch.new.elements }
 {
-    if marks[victim as usize] {
+    if kept.contains(&victim) {
         return;
     }
     batch.push(Planned {
@@ -132,21 +142,20 @@ fn take_oldest(rest: &mut Iter<'_, u32, ()>) -> Option<u32>
     }
 }
 
-/// Gives missing pages the frames of the least recent pages that are not marked, up to `most` entries.
+/// Gives missing pages the frames of the least recent pages that are not among the kept ones, up to `most` entries.
 pub fn put_victims(
     batch: &mut Batch,
     missing: &[u32],
     most: usize,
-    marks: &[bool],
+    kept: &IndexSet<u32>,
     entries: &[u32],
     order: &LruCache<u32, ()>,
 )
     requires enough { most ≤ length missing.now }
     requires room { most ≤ batch.old.spare + length batch.old.elements }
-    requires inside { All (λ p. p < length marks.now) (keys_of order.now.entries) }
-    requires entries { length entries.now ≡ length marks.now }
+    requires inside { All (λ p. p < length entries.now) (keys_of order.now.entries) }
     requires mapped { All (λ p. 0 < slice_index entries.now p) (keys_of order.now.entries) }
-    ensures put { let victims = filter (λ p. not (slice_index_or marks.now p false)) (reverse (keys_of order.now.entries)) in
+    ensures put { let victims = filter (λ p. not (is_in kept.now.keys p)) (reverse (keys_of order.now.entries)) in
         let before = length batch.old.elements in
         batch.new.elements ≡ batch.old.elements
         ++ map (taken_at entries.now missing.now victims before) (range_with_len 0 (min (most - before) (length victims))) }
@@ -159,6 +168,6 @@ pub fn put_victims(
         let Some(victim) = take_oldest(&mut rest) else {
             break;
         };
-        put_victim(batch, missing, marks, entries, victim);
+        put_victim(batch, missing, kept, entries, victim);
     }
 }

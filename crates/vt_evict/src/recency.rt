@@ -2,15 +2,16 @@
 
 ghost use Rattle.std.specs.Prelude.{◌≡◌, ℕ, ◌<◌, ◌≤◌, ◌&&◌, ◌||◌, if◌then◌else◌, not, nat_eq, nat_lt, count_by, length, IfOk, OnOk};
 ghost use Rattle.std.specs.List.{All};
+ghost use Rattle.vt_definitions.specs.Limits.{most_frames};
 ghost use Rattle.vt_pages.specs.Pages.{pages_of};
 ghost use Rattle.vt_evict.specs.Orders.{is_in};
-ghost use Rattle.vt_evict.specs.Views.{IsTable, first_view, most_frames, touched, pages_needed};
+ghost use Rattle.vt_evict.specs.Views.{IsTable, first_view, touched, pages_needed};
 ghost use Rattle.vt_evict.specs.Batches.{IsLawful, IsLawfulEntry, IsSettled, read_entries};
 ghost use Rattle.vt_evict.specs.Kept.{applied};
 ghost use Rattle.vt_evict.specs.Plans.{plan_of};
 
 use crate::batches::{Batch, Losses, Planned};
-use crate::lines::{Walk, walk_lines};
+use crate::lines::{Walk, lines_of, walk_lines};
 use crate::orders::{insert, put_first, remove};
 use crate::plans::{missing_of, put_free, put_victims};
 use lru::LruCache;
@@ -18,7 +19,7 @@ use std::alloc::Global;
 use std::collections::BTreeSet;
 use std::marker::Model;
 use vt_feedback::Wants;
-use vt_outside::{Items, NoMemory};
+use vt_outside::NoMemory;
 use vt_pages::Geometry;
 
 /// A table that maps pages to frames, with the recency of its mapped pages. Contracts see the table, and the unpinned
@@ -184,20 +185,19 @@ impl Recency {
         ensures most { IfOk result (λ b. length b.elements ≤ q) }
     {
         let asked = missing_of(alloc, &self.geometry, self.entries.as_slice(), wants)?;
-        let missing = asked.walked.slice();
+        let missing = asked.as_slice();
         let most = missing.len().min(q as usize);
         let mut batch = Batch::new(alloc);
         batch.reserve(most as u64)?;
         let _ordered = self.free.len();
         put_free(&mut batch, missing, most, &self.free);
         if batch.len() < most {
-            let mut walk = Walk::new(alloc, &self.geometry)?;
-            walk_lines(&self.geometry, &mut walk, wants);
+            let kept = lines_of(alloc, &self.geometry, wants)?;
             put_victims(
                 &mut batch,
                 missing,
                 most,
-                walk.marks.as_slice(),
+                &kept,
                 self.entries.as_slice(),
                 &self.order,
             );
@@ -211,9 +211,8 @@ impl Recency {
         ensures { IfOk result (λ n. n ≡ pages_needed self.now wants.now.elements) }
     {
         let unpinned = self.geometry.page_count() - self.pinned;
-        let mut walk = Walk::new(alloc, &self.geometry)?;
-        walk_lines(&self.geometry, &mut walk, wants);
-        let needed = count_below(walk.walked.slice(), unpinned);
+        let pages = lines_of(alloc, &self.geometry, wants)?;
+        let needed = count_below(pages.as_slice(), unpinned);
         Ok(needed as u32)
     }
 }

@@ -164,8 +164,39 @@ fn a_batch_of_one_goes_down_one_line_after_the_other(rt: HostRuntime) -> Result<
             plan: &[(12, 4, None)],
             lost: &[false],
         },
+        Pass {
+            pages: &[0, 12],
+            needed: 4,
+            plan: &[],
+            lost: &[],
+        },
     ];
     run(&rt, rt.alloc(), 8, 5, 1, &passes)
+}
+
+#[test]
+fn a_page_above_a_wanted_one_keeps_its_frame(rt: HostRuntime) -> Result<(), Fail> {
+    let passes = [
+        Pass {
+            pages: &[0],
+            needed: 2,
+            plan: &[(16, 1, None)],
+            lost: &[false],
+        },
+        Pass {
+            pages: &[0],
+            needed: 2,
+            plan: &[],
+            lost: &[],
+        },
+        Pass {
+            pages: &[12],
+            needed: 2,
+            plan: &[(18, 1, Some(16))],
+            lost: &[false],
+        },
+    ];
+    run(&rt, rt.alloc(), 8, 2, 64, &passes)
 }
 
 #[test]
@@ -187,12 +218,12 @@ fn a_lost_tile_leaves_its_victim(rt: HostRuntime) -> Result<(), Fail> {
             pages: &[1, 3],
             needed: 2,
             plan: &[(1, 2, Some(2)), (3, 1, Some(0))],
-            lost: &[false, true],
+            lost: &[true, false],
         },
         Pass {
             pages: &[1, 3],
             needed: 2,
-            plan: &[(3, 1, Some(0))],
+            plan: &[(1, 2, Some(2))],
             lost: &[false],
         },
     ];

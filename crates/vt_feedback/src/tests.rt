@@ -1,7 +1,7 @@
 //! The wanted lists of counts made by hand: a texture of 8 by 8 texels in tiles of 2 has the pages 0 to 15 at level 0,
 //! 16 to 19 at level 1, and 20.
 
-ghost use Rattle.std.specs.Prelude.{◌≡◌, ℕ, ◌<◌, length, slice_index};
+ghost use Rattle.std.specs.Prelude.{ℕ, ◌<◌, slice_index};
 
 use super::*;
 use std::test::Fail;

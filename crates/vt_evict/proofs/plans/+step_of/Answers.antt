@@ -1,9 +1,9 @@
 use Rattle.std.proofs.Common.{◌≡◌, ◌∙◌, Some, sym, arith}
 use Rattle.std.proofs.lemmas.Bool.Decides.{nat_tests}
 use Rattle.vt_pages.specs.Pages.{parent_of}
+use Rattle.vt_pages.proofs.Parents.{parent_facts, level_below}
+use Rattle.vt_pages.proofs.Steps.{step_root, step_below, step_up}
 use Rattle.vt_evict.specs.Views.{is_mapped}
-use Rattle.vt_evict.proofs.LineLemmas.{parent_facts, level_below}
-use Rattle.vt_evict.proofs.PlanLemmas.{step_root, step_below, step_up}
 use Rattle.vt_evict.proofs.plans.+step_of.Goals as goal
 
 pub step_of-requires : goal.step_of-requires

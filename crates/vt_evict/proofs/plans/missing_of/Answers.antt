@@ -3,7 +3,7 @@ use Rattle.std.proofs.lemmas.List.{map_more}
 use Rattle.vt_pages.specs.Shape.{Shape}
 use Rattle.vt_feedback.specs.declared.Wanted.{Wanted}
 use Rattle.vt_feedback.specs.Wants.{pages_wanted}
-use Rattle.vt_evict.specs.Lookups.{step_of}
+use Rattle.vt_pages.specs.Lookups.{step_of}
 use Rattle.vt_evict.specs.Views.{is_mapped}
 use Rattle.vt_evict.specs.Plans.{missing_from}
 use Rattle.vt_evict.specs.Kept.{with_page}
@@ -11,10 +11,7 @@ use Rattle.vt_evict.proofs.PlanLemmas.{missing-none, missing-more}
 use Rattle.vt_evict.proofs.plans.missing_of.Goals as goal
 
 pub loop-want-init : goal.loop-want-init
-loop-want-init c = record {
-  walk = c.in_ok-missing.ensures.walk;
-  asked = c.in_ok-missing.ensures.none ∙ sym (missing-none c.args.geometry.now c.args.entries.now);
-}
+loop-want-init c = c.new-missing.ensures.empty ∙ sym (missing-none c.args.geometry.now c.args.entries.now)
 
 pub loop-want-preserved : goal.loop-want-preserved
 loop-want-preserved c =
@@ -25,10 +22,7 @@ loop-want-preserved c =
     let d : Wanted = record { page = 0; pixels = 0 } in
     let p : ℕ = (get_or list i d).page in
     let within : i < length list = omega arith in
-    record {
-      walk = c.ask.ensures.walk;
-      asked = c.ask.ensures.asked
-          ∙ ap (λ (l : List ℕ). cond (is_mapped entries p) l (with_page l (step_of s (is_mapped entries) p))) c.loop-want.invariant.asked
-          ∙ sym (missing-more s entries (pages_wanted (take i list)) p)
-          ∙ ap (missing_from s entries) (sym (map_more (λ w. w.page) list i d within));
-    }
+    c.in_ok-ask.ensures
+    ∙ ap (λ (l : List ℕ). cond (is_mapped entries p) l (with_page l (step_of s (is_mapped entries) p))) c.loop-want.invariant
+    ∙ sym (missing-more s entries (pages_wanted (take i list)) p)
+    ∙ ap (missing_from s entries) (sym (map_more (λ w. w.page) list i d within))

@@ -1,8 +1,9 @@
-use Rattle.std.proofs.Common.{◌≡◌, ℕ, ◌+◌, ◌-◌, ◌<◌, Bool, false, not, List, [], ◌∷◌, ◌++◌, map, min, reverse, length, length-append, drop, slice_index, slice_index_or, sym, ap, ◌∙◌, subst, refl, arith}
+use Rattle.std.proofs.Common.{◌≡◌, ℕ, ◌+◌, ◌-◌, ◌<◌, Bool, not, List, [], ◌∷◌, ◌++◌, map, min, reverse, length, length-append, drop, slice_index, sym, ap, ◌∙◌, subst, refl, arith}
 use Rattle.std.specs.List.{filter, range_with_len}
 use Rattle.std.specs.Map.{keys_of}
 use Rattle.std.proofs.lemmas.List.{get_or_append_left, length-map}
 use Rattle.vt_evict.specs.declared.batches.Planned.{Planned}
+use Rattle.vt_evict.specs.Orders.{is_in}
 use Rattle.vt_evict.specs.Kept.{taken_at}
 use Rattle.vt_evict.proofs.PlanLemmas.{offer, last_at, kept_last, none_left}
 use Rattle.vt_evict.proofs.plans.put_victims.Goals as goal
@@ -25,7 +26,7 @@ put_victim-requires-clause-mapped c =
 
 pub loop-preserved : goal.loop-preserved
 loop-preserved c =
-    let victims : List ℕ = filter (λ p. not (slice_index_or c.args.marks.now p false)) (reverse (keys_of c.args.order.now.entries)) in
+    let victims : List ℕ = filter (λ p. not (is_in c.args.kept.now.keys p)) (reverse (keys_of c.args.order.now.entries)) in
     let start : List Planned = c.args.batch.now.elements in
     let now : List Planned = c.loop.batch.elements in
     let next : List Planned = c.put_victim.new.batch.elements in
@@ -33,9 +34,9 @@ loop-preserved c =
     let last : keys_of c.loop.rest ≡ before ++ c.in-Some.victim ∷ [] = c.in-Some.ensures.some in
     let n : length (keys_of c.loop.rest) ≡ length before + 1 = ap length last ∙ length-append before (c.in-Some.victim ∷ []) in
     let k : ℕ = length now - length start in
-    let step = offer c.args.entries.now c.args.missing.now victims (length start) start now next k c.in-Some.victim (slice_index_or c.args.marks.now c.in-Some.victim false)
-    (filter (λ p. not (slice_index_or c.args.marks.now p false)) (reverse before)) refl c.loop.invariant.least c.loop.invariant.put (omega (arith, c.loop.invariant.grown))
-    (c.loop.invariant.rest ∙ kept_last (λ p. not (slice_index_or c.args.marks.now p false)) (keys_of c.loop.rest) before c.in-Some.victim last) c.put_victim.ensures.put in
+    let step = offer c.args.entries.now c.args.missing.now victims (length start) start now next k c.in-Some.victim (is_in c.args.kept.now.keys c.in-Some.victim)
+    (filter (λ p. not (is_in c.args.kept.now.keys p)) (reverse before)) refl c.loop.invariant.least c.loop.invariant.put (omega (arith, c.loop.invariant.grown))
+    (c.loop.invariant.rest ∙ kept_last (λ p. not (is_in c.args.kept.now.keys p)) (keys_of c.loop.rest) before c.in-Some.victim last) c.put_victim.ensures.put in
     let g : length next - length start ≡ step.grown = omega (arith, step.count) in
     record {
       grown = omega (arith, step.count);
@@ -58,17 +59,17 @@ nothing_left ok (x ∷ es) e = absurd (omega arith)
 
 pub returns-after-loop : goal.returns-after-loop
 returns-after-loop c =
-    let victims : List ℕ = filter (λ p. not (slice_index_or c.args.marks.now p false)) (reverse (keys_of c.args.order.now.entries)) in
+    let victims : List ℕ = filter (λ p. not (is_in c.args.kept.now.keys p)) (reverse (keys_of c.args.order.now.entries)) in
     let start : List Planned = c.args.batch.now.elements in
     let k : ℕ = length c.loop.batch.elements - length start in
     let zero : length c.loop.rest ≡ 0 = omega (arith, c.loop.invariant.count, c.loop-test.false, c.len-end.ensures.len) in
-    let all = none_left victims k (c.loop.invariant.rest ∙ nothing_left (λ p. not (slice_index_or c.args.marks.now p false)) c.loop.rest zero) in
+    let all = none_left victims k (c.loop.invariant.rest ∙ nothing_left (λ p. not (is_in c.args.kept.now.keys p)) c.loop.rest zero) in
     let n : k ≡ min (c.args.most - length start) (length victims) = omega (arith, c.loop.invariant.most, c.loop.invariant.least) in
     record { put = c.loop.invariant.put ∙ ap (λ (n : ℕ). start ++ map (taken_at c.args.entries.now c.args.missing.now victims (length start)) (range_with_len 0 n)) n }
 
 pub returns-then-len-most : goal.returns-then-len-most
 returns-then-len-most c =
-    let victims : List ℕ = filter (λ p. not (slice_index_or c.args.marks.now p false)) (reverse (keys_of c.args.order.now.entries)) in
+    let victims : List ℕ = filter (λ p. not (is_in c.args.kept.now.keys p)) (reverse (keys_of c.args.order.now.entries)) in
     let start : List Planned = c.args.batch.now.elements in
     let k : ℕ = length c.loop.batch.elements - length start in
     let n : k ≡ min (c.args.most - length start) (length victims) = omega (arith, c.loop.invariant.most, c.loop.invariant.least, c.if-len-most.true, c.len.ensures) in

@@ -6,16 +6,12 @@ use Rattle.vt_evict.specs.Orders.{put_first}
 use Rattle.vt_evict.specs.Views.{RecencyView, IsTable, is_loose_below, touched}
 use Rattle.vt_evict.specs.Kept.{IsWalk}
 use Rattle.vt_evict.proofs.TouchLemmas.{touched_is, touched_table}
+use Rattle.vt_evict.proofs.Seen.{view_of}
 use Rattle.vt_evict.proofs.recency.Recency.touch.Goals as goal
 
 abbrev view : goal.After-put_first → RecencyView
-view c = record {
-  shape = c.self.inside.geometry;
-  frames = c.self.inside.frames;
-  pinned = c.self.inside.pinned;
-  entries = c.self.inside.entries.items;
-  order = keys_of c.self.inside.order.entries;
-}
+view c =
+    view_of c.self.inside.geometry c.self.inside.frames c.self.inside.pinned c.self.inside.entries.items (keys_of c.self.inside.order.entries)
 
 -- the order after the call, by the table before it
 order_is : (c : goal.After-put_first) → record (view c) { order = keys_of c.put_first.new.order.entries } ≡ touched (view c) c.args.wants.now.elements
