@@ -1,0 +1,21 @@
+-- What is true of a still page table.
+use Rattle.std.specs.Prelude.{◌≡◌, ℕ, ◌+◌, Option, Some, None, IsSome, length}
+use Rattle.vt_pages.specs.Pages.{root_of}
+use Rattle.vt_draw.specs.Lookups.{Note, EntryNote, WordNote}
+use Rattle.vt_journal.specs.Changes.{newest}
+use Rattle.vt_table.specs.Views.{TableView, IsMapped, word_in}
+
+-- the entry of a page: 0 where it is unmapped, and else its frame and 1
+abbrev pub entry_number : Option ℕ → ℕ
+entry_number None = 0
+entry_number (Some frame) = frame + 1
+
+-- a note is true of a table: it tells an entry of the newest version, or a word of the tile of a frame that is mapped then
+abbrev pub IsTrueOf : TableView → Note → Type 0
+IsTrueOf v (EntryNote version page entry) = (version ≡ length v.changes) × (entry ≡ entry_number (newest v.changes page))
+IsTrueOf v (WordNote version frame place word) =
+    (version ≡ length v.changes) × IsMapped (newest v.changes) frame × (word ≡ word_in v frame place)
+
+-- the newest version maps the root
+abbrev pub MapsRoot : TableView → Type 0
+MapsRoot v = IsSome (newest v.changes (root_of v.shape))

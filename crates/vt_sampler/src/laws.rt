@@ -1,0 +1,14 @@
+//! Laws of the definitions: each is the contract of a function that does nothing.
+
+ghost use Rattle.std.specs.Prelude.{◌≡◌, ℕ, ◌%◌, ◌<◌, ◌≤◌, ◌↔◌, Contains, sum_by};
+ghost use Rattle.std.specs.List.{range_with_len};
+ghost use Rattle.vt_pages.specs.Shape.{Shape};
+ghost use Rattle.vt_camera.specs.Paths.{PathView};
+ghost use Rattle.vt_sampler.specs.Samplers.{own_rows, pixels_in_rows};
+
+/// What the samplers of a picture count together is what all its rows want.
+pub fn samplers_share_the_rows()
+    ensures { (s : Shape) (path : PathView) (picture samplers height p : ℕ) → 1 ≤ samplers
+        → sum_by (λ k. pixels_in_rows s path picture (own_rows k samplers height) p) (range_with_len 0 samplers)
+        ≡ pixels_in_rows s path picture (range_with_len 0 height) p }
+{}

@@ -1,0 +1,95 @@
+//! The look-up over a page table that changes only between draws.
+
+ghost use Rattle.std.specs.Prelude.{◌≡◌, ℕ, ◌+◌, ◌-◌, ◌*◌, ◌%◌, ◌<◌, ◌≤◌, ◌^◌, bit_and, length};
+ghost use Rattle.vt_pages.specs.Shape.{Shape, tile_exponent};
+ghost use Rattle.vt_pages.specs.Pages.{pages_of, IsWithinLimits};
+ghost use Rattle.vt_draw.specs.Lookups.{IsFinest, place_in_tile};
+ghost use Rattle.vt_table.specs.Views.{TableView};
+ghost use Rattle.vt_sampler.specs.Notes.{IsTrueOf, MapsRoot};
+
+use std::marker::Model;
+use vt_draw::{Found, Lookup};
+use vt_pages::{Geometry, PageName};
+use vt_table::StillTable;
+
+/// A look-up of pages in a page table at its newest version, which maps the root (van Waveren 2012). Contracts see the
+/// table. It says what is true of the table, and nothing else.
+#[derive(Drop)]
+pub struct StillLookup<'a> {
+    table: &'a StillTable,
+    geometry: &'a Geometry,
+}
+
+impl<'a> Model for StillLookup<'a> {
+    ghost use Rattle.std.specs.Prelude.{◌≡◌};
+    ghost use Rattle.vt_table.specs.Views.{TableView};
+    ghost use Rattle.vt_sampler.specs.Notes.{MapsRoot};
+
+    ghost Value = { TableView };
+
+    ghost view = { λ l. l.table.now };
+
+    ghost invariant = { λ l. (l.table.now.shape ≡ l.geometry.now) × MapsRoot l.table.now };
+}
+
+impl<'a> StillLookup<'a> {
+    /// The look-up over a table, which maps the root, and the geometry of its pages. It takes no memory.
+    #[inline]
+    pub fn new(table: &'a StillTable, geometry: &'a Geometry) -> StillLookup<'a>
+        requires shape { table.now.shape ≡ geometry.now }
+        requires root { MapsRoot table.now }
+        ensures { result ≡ table.now }
+    {
+        StillLookup { table, geometry }
+    }
+}
+
+// The place of a texel of a level in the tile of its page.
+#[inline]
+fn place_of(geometry: &Geometry, x: u32, y: u32) -> u32
+    ensures place { result ≡ place_in_tile geometry.now x y }
+    ensures inside { result < geometry.now.tile * geometry.now.tile }
+{
+    let side = geometry.tile();
+    let mask = side - 1;
+    (y & mask) * side + (x & mask)
+}
+
+// The finest page that a table maps of a page and its ancestors.
+fn finest_mapped(table: &StillTable, geometry: &Geometry, page: u32) -> Found
+    requires shape { table.now.shape ≡ geometry.now }
+    requires root { MapsRoot table.now }
+    requires page { page < pages_of geometry.now }
+    ensures { IsFinest geometry.now (length table.now.changes) (IsTrueOf table.now) page result }
+{
+    let name = geometry.page_at(page);
+    let mut col = name.col;
+    let mut row = name.row;
+    for level in name.level..geometry.levels() {
+        let page = geometry.index_of(&PageName { level, col, row });
+        if let Some(slot) = table.frame_of(page) {
+            return Found { page, level, slot };
+        }
+        col /= 2;
+        row /= 2;
+    }
+    unreachable!()
+}
+
+impl Lookup for StillLookup<'_> {
+    ghost shape = { λ v. v.shape };
+
+    ghost version = { λ v. length v.changes };
+
+    ghost says = { IsTrueOf };
+
+    #[inline]
+    fn find(&mut self, page: u32) -> Found {
+        finest_mapped(self.table, self.geometry, page)
+    }
+
+    #[inline]
+    fn texel(&mut self, found: &Found, x: u32, y: u32) -> u64 {
+        self.table.word(found.slot, place_of(self.geometry, x, y))
+    }
+}

@@ -1,0 +1,155 @@
+//! A sampler, which draws its share of the rows of a picture.
+
+ghost use Rattle.std.specs.Prelude.{◌≡◌, ℕ, ◌+◌, ◌-◌, ◌*◌, ◌/◌, ◌%◌, ◌<◌, ◌≤◌, ◌^◌, length, slice_index, IfOk};
+ghost use Rattle.vt_definitions.specs.Limits.{most_samplers};
+ghost use Rattle.vt_definitions.specs.Depths.{IsDepth, texel_length};
+ghost use Rattle.vt_pages.specs.Pages.{pages_of};
+ghost use Rattle.vt_draw.specs.Shots.{shot_row, AreDrawn};
+ghost use Rattle.vt_sampler.specs.Notes.{IsTrueOf, MapsRoot};
+ghost use Rattle.vt_sampler.specs.Samplers.{SamplerView, IsOwn, IsFor, IsSampler, own_rows, pixels_in_rows, row_length, row_at, version_at};
+
+use crate::rows::{clear, draw_rows};
+use std::alloc::Global;
+use std::marker::Model;
+use vt_camera::Path;
+use vt_definitions::texel_length;
+use vt_draw::Shot;
+use vt_outside::NoMemory;
+use vt_pages::Geometry;
+use vt_table::StillTable;
+
+/// One of the samplers that share the rows of a picture: each draws the rows whose number leaves its own by the number of
+/// samplers. Contracts see the rows' bytes, the version at which they were drawn, and how many of their pixels want each
+/// page.
+#[derive(Drop)]
+pub struct Sampler {
+    sampler: u32,
+    samplers: u32,
+    width: u32,
+    height: u32,
+    depth: u32,
+    version: u64,
+    // The rows one after the other, from the top.
+    bytes: Vec<u8>,
+    counts: Vec<u32>,
+}
+
+impl Model for Sampler {
+    ghost use Rattle.vt_sampler.specs.Samplers.{SamplerView, IsSampler};
+
+    ghost Value = { SamplerView };
+
+    ghost view = { λ s. record {
+      sampler = s.sampler;
+      samplers = s.samplers;
+      width = s.width;
+      height = s.height;
+      depth = s.depth;
+      version = s.version;
+      bytes = s.bytes.items;
+      counts = s.counts.items;
+    } };
+
+    ghost invariant = { λ s. IsSampler (record {
+      sampler = s.sampler;
+      samplers = s.samplers;
+      width = s.width;
+      height = s.height;
+      depth = s.depth;
+      version = s.version;
+      bytes = s.bytes.items;
+      counts = s.counts.items;
+    }) };
+}
+
+impl Sampler {
+    /// The sampler of this number among so many, from 1 to 64, for pictures of a path, of a texture that is cut into pages, whose
+    /// samples have `depth` bytes, 1 or 2. It takes its buffers here, and none later.
+    pub fn new(
+        alloc: Global,
+        sampler: u32,
+        samplers: u32,
+        path: &Path,
+        geometry: &Geometry,
+        depth: u32,
+    ) -> Result<Sampler, NoMemory>
+        requires one_of { sampler < samplers }
+        requires few { samplers ≤ most_samplers }
+        requires depth { IsDepth depth }
+        ensures sampler { IfOk result (λ v. (v.sampler ≡ sampler) × (v.samplers ≡ samplers)) }
+        ensures version { IfOk result (λ v. v.version ≡ 0) }
+        ensures for_it { IfOk result (λ v. IsFor v geometry.now path.now depth) }
+    {
+        let line = texel_length(depth) * path.width() as usize;
+        let rows = (path.height() + samplers - 1 - sampler) / samplers;
+        let bytes = Vec::from_elem(alloc, 0, rows as usize * line)?;
+        let counts = Vec::from_elem(alloc, 0, geometry.page_count() as usize)?;
+        Ok(Sampler {
+            sampler,
+            samplers,
+            width: path.width(),
+            height: path.height(),
+            depth,
+            version: 0,
+            bytes,
+            counts,
+        })
+    }
+
+    /// Draws its rows of a picture over a page table, from the top, and counts how many of their pixels want each page. The
+    /// table maps the root, and all are for one path, one texture and one depth. It takes no memory and refuses nothing.
+    pub fn draw_still(&mut self, shot: &Shot, table: &StillTable)
+        requires for_it { IsFor self.old shot.now.geometry.now shot.now.path.now shot.now.depth }
+        requires picture { shot.now.picture < length shot.now.path.now.cameras }
+        requires shape { table.now.shape ≡ shot.now.geometry.now }
+        requires root { MapsRoot table.now }
+        ensures drawn { (y : ℕ) → IsOwn self.new y
+            → let row = shot_row shot.now.geometry.now shot.now.path.now shot.now.picture y in
+            AreDrawn shot.now.geometry.now shot.now.depth (version_at self.new y) (IsTrueOf table.now) row
+            shot.now.path.now.width (row_at self.new y) }
+        ensures version { (y : ℕ) → IsOwn self.new y → version_at self.new y ≡ length table.now.changes }
+        ensures counted { (p : ℕ) → p < length self.new.counts
+            → let rows = own_rows self.new.sampler self.new.samplers self.new.height in
+            slice_index self.new.counts p ≡ pixels_in_rows shot.now.geometry.now shot.now.path.now shot.now.picture rows p }
+        ensures sampler { (self.new.sampler ≡ self.old.sampler) × (self.new.samplers ≡ self.old.samplers) }
+        ensures for_it { IsFor self.new shot.now.geometry.now shot.now.path.now shot.now.depth }
+    {
+        clear(self.counts.as_mut_slice());
+        self.version = table.journal().version();
+        draw_rows(
+            table,
+            shot,
+            self.sampler,
+            self.samplers,
+            self.bytes.as_mut_slice(),
+            self.counts.as_mut_slice(),
+        );
+    }
+
+    /// The bytes of one of its rows: three samples a pixel, the most significant byte of a sample first.
+    pub fn row(&self, y: u32) -> &[u8]
+        requires { IsOwn self.now y }
+        ensures bytes { result.now ≡ row_at self.now y }
+        ensures length { length result.now ≡ row_length self.now.depth self.now.width }
+    {
+        let line = texel_length(self.depth) * self.width as usize;
+        let at = (y / self.samplers) as usize * line;
+        &self.bytes[at..at + line]
+    }
+
+    /// The version of the page table at which one of its rows was drawn, or 0 before the first.
+    pub fn version(&self, y: u32) -> u64
+        requires { IsOwn self.now y }
+        ensures { result ≡ version_at self.now y }
+    {
+        let _ = y;
+        self.version
+    }
+
+    /// For each page how many pixels of its rows want it.
+    pub fn counts(&self) -> &[u32]
+        ensures { result.now ≡ self.now.counts }
+    {
+        self.counts.as_slice()
+    }
+}

@@ -1,0 +1,237 @@
+-- What a table keeps after each of its calls.
+use Rattle.std.proofs.Common.{◌≡◌, ◌≢◌, ℕ, ◌+◌, ◌*◌, ◌≤◌, ◌<◌, inl, inr, Some, None, List, [], ◌∷◌, ◌++◌, length, get_or, set, drop, refl, sym, ap, ◌∙◌, subst, arith, length-set, get_or-set_other, get_or-set_same}
+use Rattle.std.proofs.lemmas.Nat.{mul-le}
+use Rattle.vt_definitions.specs.Limits.{most_frames}
+use Rattle.vt_definitions.specs.Depths.{word_at}
+use Rattle.vt_pages.specs.Shape.{Shape}
+use Rattle.vt_pages.specs.Pages.{pages_of, IsWithinLimits}
+use Rattle.vt_journal.specs.declared.changes.Change.{Change}
+use Rattle.vt_journal.specs.declared.changes.Change.TheVariants.{Map, Unmap}
+use Rattle.vt_journal.specs.Changes.{Table, newest, changed, nothing_mapped, IsFree, IsLegalNext, AreLegal}
+use Rattle.vt_journal.specs.Kept.{entry_of, entries_of}
+use Rattle.vt_journal.proofs.Versions.{newest-none, newest-more, legal-none, legal-more, in_turn-legal, one_to_one, same_page, entry-other, mapped_after_map, mapped_after_unmap}
+use Rattle.vt_table.specs.Views.{TableView, IsTable, IsTile, IsWithin, IsReady, filled_for, filled_after, word_in, tile_word}
+use Rattle.vt_table.specs.Kept.{room_of, tile_in, view_of, IsKept}
+use Rattle.vt_table.proofs.Rooms.{tiles_at, tile_length, word_in_room}
+use Rattle.vt_table.proofs.TileWords.{word_is}
+
+-- the depth of a tile, from its length
+pub depth_of_length : (s : Shape) (tile : List ℕ) (room d : ℕ) (h : IsTile s tile) → 1 ≤ s.tile → room ≡ room_of s.tile
+    → (length tile ≡ room → d ≡ 2) → (length tile ≢ room → d ≡ 1) → d ≡ h.depth
+depth_of_length s tile room d h some is wide narrow =
+    let texels : 1 ≤ s.tile * s.tile = mul-le 1 1 s.tile s.tile some some in
+    elim h.lawful [
+      | inl one ↦
+          let full : length tile ≡ 3 * 1 * (s.tile * s.tile) = h.full ∙ ap (λ n. 3 * n * (s.tile * s.tile)) one in
+          narrow (λ e. absurd (omega arith)) ∙ sym one
+      | inr two ↦
+          let full : length tile ≡ 3 * 2 * (s.tile * s.tile) = h.full ∙ ap (λ n. 3 * n * (s.tile * s.tile)) two in
+          wide (omega arith) ∙ sym two
+    ]
+
+-- a table over more spare room
+pub kept_reserved : (s : Shape) (js ks : List Change) (n m room : ℕ) (entries bytes depths owners : List ℕ) → ks ≡ js
+    → IsKept (view_of s js n bytes depths owners) room entries bytes depths → IsKept (view_of s ks m bytes depths owners) room entries bytes depths
+kept_reserved s js ks n m room entries bytes depths owners same k =
+    subst (λ (l : List Change). IsKept (view_of s l m bytes depths owners) room entries bytes depths) (sym same) (record {
+      table = record {
+        limits = k.table.limits;
+        some_frame = k.table.some_frame;
+        few_frames = k.table.few_frames;
+        legal = k.table.legal;
+        one_to_one = k.table.one_to_one;
+        pages_inside = k.table.pages_inside;
+        frames_inside = k.table.frames_inside;
+        filled = k.table.filled;
+      };
+      room_is = k.room_is;
+      few_bytes = k.few_bytes;
+      all_entries = k.all_entries;
+      agrees = k.agrees;
+      all_bytes = k.all_bytes;
+      all_depths = k.all_depths;
+      low_depth = k.low_depth;
+      high_depth = k.high_depth;
+    })
+
+set_low : (xs : List ℕ) (i d f : ℕ) → i < length xs → 1 ≤ d → 1 ≤ get_or xs f 0 → 1 ≤ get_or (set xs i d) f 0
+set_low xs i d f inside low was =
+    elim (same_page f i) [
+      | inl same ↦ let e : get_or (set xs i d) f 0 ≡ d = ap (λ j. get_or (set xs i d) j 0) same ∙ get_or-set_same xs i d 0 inside in omega arith
+      | inr other ↦ let e : get_or (set xs i d) f 0 ≡ get_or xs f 0 = get_or-set_other xs i f d 0 other in omega arith
+    ]
+
+set_high : (xs : List ℕ) (i d f : ℕ) → i < length xs → d ≤ 2 → get_or xs f 0 ≤ 2 → get_or (set xs i d) f 0 ≤ 2
+set_high xs i d f inside high was =
+    elim (same_page f i) [
+      | inl same ↦ let e : get_or (set xs i d) f 0 ≡ d = ap (λ j. get_or (set xs i d) j 0) same ∙ get_or-set_same xs i d 0 inside in omega arith
+      | inr other ↦ let e : get_or (set xs i d) f 0 ≡ get_or xs f 0 = get_or-set_other xs i f d 0 other in omega arith
+    ]
+
+-- a table of which a free frame was filled
+pub kept_filled : (s : Shape) (js : List Change) (n room frame page d : ℕ) (entries bytes depths owners new : List ℕ)
+    → frame < length owners → IsFree (newest js) frame
+    → 1 ≤ d → d ≤ 2 → length new ≡ length bytes → IsKept (view_of s js n bytes depths owners) room entries bytes depths
+    → IsKept (view_of s js n new (set depths frame d) (set owners frame (page + 1))) room entries new (set depths frame d)
+kept_filled s js n room frame page d entries bytes depths owners new inside free low high same k = record {
+  table = record {
+    limits = k.table.limits;
+    some_frame = omega (arith, k.table.some_frame, frames);
+    few_frames = omega (arith, k.table.few_frames, frames);
+    legal = k.table.legal;
+    one_to_one = k.table.one_to_one;
+    pages_inside = k.table.pages_inside;
+    frames_inside = λ p f e. omega (arith, k.table.frames_inside p f e, frames);
+    filled = λ p f e.
+        let other : f ≢ frame = λ is. free p (e ∙ ap Some is) in
+        ap entry_of (get_or-set_other owners frame f (page + 1) 0 other) ∙ k.table.filled p f e;
+  };
+  room_is = k.room_is;
+  few_bytes = rw frames k.few_bytes;
+  all_entries = k.all_entries;
+  agrees = k.agrees;
+  all_bytes = same ∙ k.all_bytes ∙ ap (λ i. i * room) (sym frames);
+  all_depths = length-set depths frame d ∙ k.all_depths ∙ sym frames;
+  low_depth = λ f h. set_low depths frame d f (omega (arith, k.all_depths)) low (k.low_depth f (omega (arith, frames)));
+  high_depth = λ f h. set_high depths frame d f (omega (arith, k.all_depths)) high (k.high_depth f (omega (arith, frames)));
+}
+  where
+    frames : length (set owners frame (page + 1)) ≡ length owners
+    frames = length-set owners frame (page + 1)
+
+-- what a change that is legal next leaves of a table
+record Follows (v w : TableView) (change : Change) : Type 0 where
+  pub shape : w.shape ≡ v.shape
+  pub frames : w.frames ≡ v.frames
+  pub changes : newest w.changes ≡ changed (newest v.changes) change
+  pub owners : filled_for w ≡ filled_after (filled_for v) change
+
+pages_after : (v w : TableView) (change : Change) → Follows v w change → IsTable v → IsWithin v change
+    → (p f : ℕ) → newest w.changes p ≡ Some f → p < pages_of v.shape
+pages_after v w (Map page frame) h t within p f e =
+    elim (mapped_after_map (newest v.changes) page frame p f (sym (ap (λ (m : Table). m p) h.changes) ∙ e)) [
+      | inl (same, is) ↦ omega (arith, within.page_inside, same)
+      | inr (other, was) ↦ t.pages_inside p f was
+    ]
+pages_after v w (Unmap page frame) h t within p f e =
+    t.pages_inside p f (mapped_after_unmap (newest v.changes) page frame p f (sym (ap (λ (m : Table). m p) h.changes) ∙ e)).1
+
+frames_after : (v w : TableView) (change : Change) → Follows v w change → IsTable v → IsWithin v change
+    → (p f : ℕ) → newest w.changes p ≡ Some f → f < v.frames
+frames_after v w (Map page frame) h t within p f e =
+    elim (mapped_after_map (newest v.changes) page frame p f (sym (ap (λ (m : Table). m p) h.changes) ∙ e)) [
+      | inl (same, is) ↦ omega (arith, within.frame_inside, is)
+      | inr (other, was) ↦ t.frames_inside p f was
+    ]
+frames_after v w (Unmap page frame) h t within p f e =
+    t.frames_inside p f (mapped_after_unmap (newest v.changes) page frame p f (sym (ap (λ (m : Table). m p) h.changes) ∙ e)).1
+
+filled_still : (v w : TableView) (change : Change) → Follows v w change → IsTable v → IsReady v change → IsLegalNext v.shape (newest v.changes) change
+    → (p f : ℕ) → newest w.changes p ≡ Some f → filled_for w f ≡ Some p
+filled_still v w (Map page frame) h t ready legal p f e =
+    ap (λ (m : Table). m f) h.owners
+    ∙ elim (mapped_after_map (newest v.changes) page frame p f (sym (ap (λ (m : Table). m p) h.changes) ∙ e)) [
+      | inl (same, is) ↦ ap (filled_for v) (sym is) ∙ ready ∙ ap Some (sym same)
+      | inr (other, was) ↦ t.filled p f was
+    ]
+filled_still v w (Unmap page frame) h t ready legal p f e =
+    let was = mapped_after_unmap (newest v.changes) page frame p f (sym (ap (λ (m : Table). m p) h.changes) ∙ e) in
+    let other : f ≢ frame = λ is. was.0 (t.one_to_one p page f was.1 (legal.0 ∙ ap Some (sym is))) in
+    ap (λ (m : Table). m f) h.owners ∙ entry-other (filled_for v) frame f None other ∙ t.filled p f was.1
+
+-- a table after a change
+pub kept_published : (s : Shape) (js : List Change) (n m room : ℕ) (change : Change)
+    (entries bytes depths owners to_entries to_owners : List ℕ) (ks : List Change)
+    → ks ≡ js ++ change ∷ [] → IsWithin (view_of s js n bytes depths owners) change → IsLegalNext s (newest js) change
+    → IsReady (view_of s js n bytes depths owners) change → length to_entries ≡ length entries → length to_owners ≡ length owners
+    → entries_of to_entries ≡ changed (entries_of entries) change → entries_of to_owners ≡ filled_after (entries_of owners) change
+    → IsKept (view_of s js n bytes depths owners) room entries bytes depths
+    → IsKept (view_of s ks m bytes depths to_owners) room to_entries bytes depths
+kept_published s js n m room change entries bytes depths owners to_entries to_owners ks
+    grown within legal ready all_entries all_owners new_entries new_owners k = record {
+      table = record {
+        limits = k.table.limits;
+        some_frame = omega (arith, k.table.some_frame);
+        few_frames = omega (arith, k.table.few_frames);
+        legal = lawful;
+        one_to_one = one_to_one ks (length ks) (in_turn-legal s ks lawful) (omega arith);
+        pages_inside = pages_after v w change follows k.table within;
+        frames_inside = λ p f e. omega (arith, frames_after v w change follows k.table within p f e);
+        filled = filled_still v w change follows k.table ready legal;
+      };
+      room_is = k.room_is;
+      few_bytes = rw all_owners k.few_bytes;
+      all_entries = all_entries ∙ k.all_entries;
+      agrees = new_entries ∙ ap (λ (m : Table). changed m change) k.agrees ∙ sym next;
+      all_bytes = k.all_bytes ∙ ap (λ i. i * room) (sym all_owners);
+      all_depths = k.all_depths ∙ sym all_owners;
+      low_depth = λ f h. k.low_depth f (omega arith);
+      high_depth = λ f h. k.high_depth f (omega arith);
+    }
+  where
+    v : TableView
+    v = view_of s js n bytes depths owners
+
+    w : TableView
+    w = view_of s ks m bytes depths to_owners
+
+    lawful : AreLegal s ks
+    lawful = subst (AreLegal s) (sym grown) (legal-more s js change k.table.legal legal)
+
+    next : newest ks ≡ changed (newest js) change
+    next = ap newest grown ∙ newest-more js change
+
+    follows : Follows v w change
+    follows = record { shape = refl; frames = all_owners; changes = next; owners = new_owners }
+
+-- where all numbers are 0
+entries_zero : (xs : List ℕ) → ((k : ℕ) → get_or xs k 0 ≡ 0) → entries_of xs ≡ nothing_mapped
+entries_zero xs none = λ i p. ap entry_of (none p) i
+
+pub entries_none : (xs : List ℕ) → ((k : ℕ) → get_or xs k 0 ≡ 0) → entries_of xs ≡ nothing_mapped
+entries_none = entries_zero
+
+-- a new table
+pub kept_new : (s : Shape) (js : List Change) (n room frames : ℕ) (entries bytes depths owners : List ℕ)
+    → IsWithinLimits s → js ≡ [] → 1 ≤ frames → frames ≤ most_frames
+    → room ≡ room_of s.tile → frames * room ≤ 50331648 → length entries ≡ pages_of s → ((k : ℕ) → get_or entries k 0 ≡ 0)
+    → length bytes ≡ frames * room → length depths ≡ frames → ((k : ℕ) → k < frames → get_or depths k 0 ≡ 1) → length owners ≡ frames
+    → IsKept (view_of s js n bytes depths owners) room entries bytes depths
+kept_new s js n room frames entries bytes depths owners limits empty some few is small all_entries zeros all_bytes all_depths ones all_owners = record {
+  table = record {
+    limits = limits;
+    some_frame = omega arith;
+    few_frames = omega arith;
+    legal = subst (AreLegal s) (sym empty) (legal-none s);
+    one_to_one = λ p q f e. absurd (nowhere p f e);
+    pages_inside = λ p f e. absurd (nowhere p f e);
+    frames_inside = λ p f e. absurd (nowhere p f e);
+    filled = λ p f e. absurd (nowhere p f e);
+  };
+  room_is = is;
+  few_bytes = rw all_owners small;
+  all_entries = all_entries;
+  agrees = entries_zero entries zeros ∙ (λ i p. sym (newest-none p) i) ∙ ap newest (sym empty);
+  all_bytes = all_bytes ∙ ap (λ i. i * room) (sym all_owners);
+  all_depths = all_depths ∙ sym all_owners;
+  low_depth = λ f h. let e : get_or depths f 0 ≡ 1 = ones f (omega arith) in omega arith;
+  high_depth = λ f h. let e : get_or depths f 0 ≡ 1 = ones f (omega arith) in omega arith;
+}
+  where
+    nowhere : (p f : ℕ) → newest js p ≡ Some f → ⊥
+    nowhere p f e = let none : newest js p ≡ None = ap (λ (l : List Change). newest l p) empty ∙ newest-none p in let s : None ≡ Some f = sym none ∙ e in cc
+
+-- a word of a frame's tile, read from what is kept
+pub word_kept : (s : Shape) (js : List Change) (n room frame place d : ℕ) (entries bytes depths owners : List ℕ)
+    → IsKept (view_of s js n bytes depths owners) room entries bytes depths → frame < length owners → place < s.tile * s.tile
+    → d ≡ get_or depths frame 0 → d ≤ 2
+    → word_at d (drop (frame * room) bytes) place ≡ word_in (view_of s js n bytes depths owners) frame place
+word_kept s js n room frame place d entries bytes depths owners k inside low is most =
+    let least : 2 ≤ s.tile = k.table.limits.least_tile in
+    let all : length bytes ≡ length owners * room_of s.tile = k.all_bytes ∙ ap (λ r. length owners * r) k.room_is in
+    let whole = mul-le d (3 * (place + 1)) d (3 * (s.tile * s.tile)) (omega arith) (omega arith) in
+    ap (λ r. word_at d (drop (frame * r) bytes) place) k.room_is
+    ∙ sym (word_in_room s.tile bytes d frame place (omega (arith, whole)) (omega (arith, whole)) (omega (arith, whole)))
+    ∙ sym (word_is s d (tile_in s.tile bytes d frame) place (omega arith) (tile_length s.tile bytes d (length owners) frame inside all most))
+    ∙ ap (λ (t : List ℕ). tile_word s t place)
+    (ap (λ e. tile_in s.tile bytes e frame) is ∙ sym (tiles_at s.tile bytes depths (length owners) frame inside))

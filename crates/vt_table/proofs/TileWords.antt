@@ -1,0 +1,38 @@
+-- The words of a tile.
+use Rattle.std.proofs.Common.{◌≡◌, ℕ, zero, suc, ◌+◌, ◌*◌, ◌/◌, ◌≤◌, List, length, get_or, take, refl, ap, ◌∙◌, arith}
+use Rattle.std.proofs.lemmas.List.{get_or-take}
+use Rattle.std.proofs.lemmas.Nat.{div-mul-add, mul-le}
+use Rattle.vt_definitions.specs.Depths.{texel_length, word_at}
+use Rattle.vt_definitions.specs.Numbers.{number_from}
+use Rattle.vt_pages.specs.Shape.{Shape}
+use Rattle.vt_table.specs.Views.{tile_depth, tile_word}
+
+some_texel : (t : ℕ) → 1 ≤ t → 1 ≤ t * t
+some_texel t some = mul-le 1 1 t t some some
+
+pub depth_is : (s : Shape) (d : ℕ) (tile : List ℕ) → 1 ≤ s.tile → length tile ≡ texel_length d * (s.tile * s.tile) → tile_depth s tile ≡ d
+unfolding tile_depth
+depth_is s d tile some full =
+    let e : length tile ≡ d * (3 * (s.tile * s.tile)) + 0 = omega (arith, full) in
+    ap (λ n. n / (3 * (s.tile * s.tile))) e ∙ div-mul-add d (3 * (s.tile * s.tile)) 0 (omega (arith, some_texel s.tile some))
+
+pub word_is : (s : Shape) (d : ℕ) (tile : List ℕ) (place : ℕ) → 1 ≤ s.tile → length tile ≡ texel_length d * (s.tile * s.tile)
+    → tile_word s tile place ≡ word_at d tile place
+unfolding tile_word
+word_is s d tile place some full = ap (λ n. word_at n tile place) (depth_is s d tile some full)
+
+-- a number in a front part
+number_from-take : (l : List ℕ) (m at n : ℕ) → at + n ≤ m → number_from (take m l) at n ≡ number_from l at n
+number_from-take l m at zero h = refl
+number_from-take l m at (suc n) h =
+    let here : get_or (take m l) (at + n) 0 ≡ get_or l (at + n) 0 = get_or-take m l (at + n) 0 (omega arith) in
+    let rest : number_from (take m l) at n ≡ number_from l at n = number_from-take l m at n (omega arith) in
+    rw (rest, here) refl
+
+pub word_at-take : (d m i : ℕ) (l : List ℕ) → d * (3 * i) + d ≤ m → d * (3 * i + 1) + d ≤ m → d * (3 * i + 2) + d ≤ m
+    → word_at d (take m l) i ≡ word_at d l i
+word_at-take d m i l a b c =
+    let red = number_from-take l m (d * (3 * i)) d a in
+    let green = number_from-take l m (d * (3 * i + 1)) d b in
+    let blue = number_from-take l m (d * (3 * i + 2)) d c in
+    rw (red, green, blue) refl

@@ -1,0 +1,12 @@
+//! A page table that changes only between draws: which page stands in which frame, and the tiles of the frames.
+#![tactic(auto)]
+
+mod laws;
+mod steps;
+mod table;
+
+pub use laws::{held_tiles_stay, tile_word_has_its_depth};
+pub use table::StillTable;
+
+#[cfg(test)]
+mod tests;
