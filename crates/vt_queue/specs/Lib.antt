@@ -1,0 +1,6 @@
+pub mod Limits
+pub mod PassViews
+pub mod Orders
+pub mod Steps
+pub mod Rules
+pub mod Queues

@@ -1,0 +1,120 @@
+ghost use Rattle.std.specs.Prelude.{◌≡◌, ◌+◌, ◌-◌, ◌/◌, ◌≤◌, [], List, IfOk, IfErr, OnErr, IfSome, IfNone, OnOk};
+ghost use Rattle.vt_queue.specs.Limits.{most_items};
+ghost use Rattle.vt_queue.specs.PassViews.{first_view, joined, Splits, all_shares, split_part};
+ghost use Rattle.vt_queue.specs.Steps.{Puts, Takes, IsAtStep};
+ghost use Rattle.vt_queue.specs.Queues.{view_of, splits_of, IsOf, capacity_of, WasFull};
+
+use crate::queue::{Putting, Queue, QueuePass, Sharing, Taking};
+use crossbeam_queue::RuledArrayQueue;
+use std::alloc::Global;
+use std::sync::Wait;
+use std::thread::Threads;
+use vt_outside::NoMemory;
+
+// How often a new pass may be split.
+const SPLITS: u64 = (1 << 60) - 1;
+
+// One of so many splits goes to the pass that is split off.
+const PART: u64 = 1024;
+
+/// The item that a full queue hands back.
+#[derive(Drop)]
+pub struct Full<I> {
+    /// The item.
+    pub item: I,
+}
+
+impl<I> Queue<I> {
+    /// An empty queue with room for `capacity` items, from 1 to 4,096, and its one pass.
+    pub fn new(alloc: Global, capacity: u32) -> Result<(Queue<I>, QueuePass<I>), NoMemory>
+        requires { (1 ≤ capacity) × (capacity ≤ most_items) }
+        ensures of { IfOk result (λ made. IsOf made.0 made.1) }
+        ensures capacity { IfOk result (λ made. capacity_of made.0 ≡ capacity) }
+        ensures view { IfOk result (λ made. view_of made.1 ≡ first_view) }
+        ensures splits { IfOk result (λ made. splits_of made.1 + 1 ≡ all_shares) }
+    {
+        let (ring, pass) = RuledArrayQueue::ruled(alloc, capacity as usize)?;
+        Ok((
+            Queue { ring },
+            QueuePass {
+                pass,
+                splits: SPLITS,
+            },
+        ))
+    }
+
+    /// How many items it has room for.
+    pub fn capacity(&self) -> u32
+        ensures { result ≡ capacity_of self.now }
+    {
+        self.ring.capacity() as u32
+    }
+
+    /// Splits a pass off, for another thread: it has no puts and takes of its own, and knows what this one put and knew. It is
+    /// refused only where this pass has no splits left, and then nothing changed.
+    pub fn split(&self, _alloc: Global, pass: &mut QueuePass<I>) -> Result<QueuePass<I>, NoMemory>
+        requires { IsOf self.now pass.old }
+        ensures of { IsOf self.now pass.new }
+        ensures other { IfOk result (λ other. IsOf self.now other) }
+        ensures splits { IfOk result (λ other. Splits (view_of pass.old) (view_of pass.new) (view_of other)) }
+        ensures budget { IfOk result (λ other. splits_of pass.new + splits_of other + 1 ≡ splits_of pass.old) }
+        ensures part { IfOk result (λ other. splits_of other ≡ (splits_of pass.old - 1) / split_part) }
+        ensures refused { OnErr result ((pass.new ≡ pass.old) × (splits_of pass.old ≡ 0)) }
+    {
+        if pass.splits == 0 {
+            return Err(NoMemory);
+        }
+        let given = (pass.splits - 1) / PART;
+        let other = self.ring.another::<Sharing>(&mut pass.pass);
+        pass.splits = pass.splits - 1 - given;
+        Ok(QueuePass {
+            pass: other,
+            splits: given,
+        })
+    }
+
+    /// Takes a pass in: what it put, took and knew is now this one's. Where no other pass is left, this one knows the queue.
+    pub fn join(&self, into: &mut QueuePass<I>, pass: QueuePass<I>)
+        requires { IsOf self.now into.old × IsOf self.now pass }
+        ensures of { IsOf self.now into.new }
+        ensures joined { view_of into.new ≡ joined (view_of into.old) (view_of pass) }
+        ensures splits { splits_of into.new ≡ splits_of into.old + splits_of pass + 1 }
+        ensures at_step { (left : List I) × IsAtStep (view_of into.new) left }
+    {
+        let QueuePass { pass, splits } = pass;
+        self.ring.absorb::<Sharing>(&mut into.pass, pass);
+        self.ring.learn_as::<Taking>(&mut into.pass);
+        into.splits += splits + 1;
+    }
+
+    /// Puts an item at the end. It is refused only if there was a step of the call at which every place was taken; the item
+    /// then comes back in `Full`.
+    pub fn put<Rt: Threads + Wait + Sync>(
+        &self,
+        rt: &Rt,
+        pass: &mut QueuePass<I>,
+        item: I,
+    ) -> Result<(), Full<I>>
+        requires { IsOf self.now pass.old }
+        ensures of { IsOf self.now pass.new × (splits_of pass.new ≡ splits_of pass.old) }
+        ensures puts { OnOk result (Puts (view_of pass.old) item (view_of pass.new)) }
+        ensures item { IfErr result (λ full. full.item ≡ item) }
+        ensures same { OnErr result (view_of pass.new ≡ view_of pass.old) }
+        ensures full { OnErr result (WasFull self.now (view_of pass.old)) }
+    {
+        match self.ring.push_as::<Putting, Rt>(rt, &mut pass.pass, item) {
+            Ok(()) => Ok(()),
+            Err(item) => Err(Full { item }),
+        }
+    }
+
+    /// Takes the first item. It answers `None` only if there was a step of the call at which the queue had no item.
+    pub fn take<Rt: Threads + Wait + Sync>(&self, rt: &Rt, pass: &mut QueuePass<I>) -> Option<I>
+        requires { IsOf self.now pass.old }
+        ensures of { IsOf self.now pass.new × (splits_of pass.new ≡ splits_of pass.old) }
+        ensures takes { IfSome result (λ item. Takes (view_of pass.old) item (view_of pass.new)) }
+        ensures empty { IfNone result ((view_of pass.new ≡ view_of pass.old) × IsAtStep (view_of pass.new) []) }
+    {
+        self.ring.pop_as::<Taking, Rt>(rt, &mut pass.pass)
+    }
+}
