@@ -1,0 +1,12 @@
+pub mod Lent
+pub mod Settled
+pub mod Streamed
+pub mod Streaming
+pub mod OneRead
+pub mod Entries
+pub mod Served
+pub mod Following
+pub mod AnyOrder
+pub mod Kits
+pub mod Rooms
+pub mod Finished

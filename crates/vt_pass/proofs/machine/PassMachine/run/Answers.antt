@@ -1,0 +1,21 @@
+use Rattle.std.proofs.Common.{List, ap, rules}
+use Rattle.vt_evict.specs.declared.batches.Planned.{Planned}
+use Rattle.vt_pass.specs.Scenes.{job_of}
+use Rattle.vt_pass.proofs.Lent.{same_number, one_did, all_did}
+use Rattle.vt_pass.proofs.machine.PassMachine.run.Goals as goal
+
+pub returns : goal.returns
+returns g c =
+    let shot = c.args.shot.now in
+    let with = λ (batch : List Planned). job_of shot batch in
+    let out = c.muster-loaders.result in
+    let done = c.work_together in
+    let same = ap with c.slice.ensures in
+    g.met.Self.PassMachine.has_run (with c.args.batch.now.elements) c.args.self.now c.muster-loaders.new.self c.dismiss.new.self
+    out.0.elements _ out.1.elements _ out.2 done.new.streamer c.dismiss.result
+    c.requires.ready c.requires.root c.requires.job c.muster-loaders.ensures.mustered
+    (same_number out.0.elements _ done.new.loaders c.slice_mut.ensures.value (search rules))
+    (same_number out.1.elements _ done.new.samplers c.slice_mut-2.ensures.value (search rules))
+    (all_did g.Self.Loader.Task.did _ _ _ _ c.shared.ensures same out.0.elements _ done.new.loaders c.slice_mut.ensures.value (search rules) done.ensures.loaders)
+    (all_did g.Self.Sampler.Task.did _ _ _ _ c.shared.ensures same out.1.elements _ done.new.samplers c.slice_mut-2.ensures.value (search rules) done.ensures.samplers)
+    (one_did g.Self.Streamer.Task.did _ _ _ _ c.shared.ensures same out.2 done.new.streamer done.ensures.streamer) c.dismiss.ensures

@@ -1,0 +1,17 @@
+pub mod Scenes
+pub mod Crews
+pub mod Outcomes
+pub mod RowOrders
+pub mod Requests
+pub mod Replays
+pub mod PictureWants
+pub mod Machines
+pub mod Frames
+pub mod Passes
+pub mod StillTasks
+pub mod Streams
+pub mod All
+pub mod Kits
+pub mod StillMachines
+pub mod Plainly
+pub mod StillLaws

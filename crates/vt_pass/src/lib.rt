@@ -1,0 +1,23 @@
+//! One pass of a walk: a batch of pages is streamed into the page table while a picture is drawn from it.
+//!
+//! `PassMachine` is what streams and draws, as its callers see it.
+#![tactic(auto)]
+
+mod crew;
+mod laws;
+mod machine;
+mod still;
+mod task;
+mod work;
+
+pub use crew::{Crew, PassReport};
+pub use laws::{
+    drawn_pixels_are_replayed, entries_are_streamed_one_by_one, mapped_pixels_are_plain,
+    order_leaves_one_table, reads_add_up, settled_pass_is_plain,
+};
+pub use machine::PassMachine;
+pub use still::{NoTask, PassKit, StillSampler};
+pub use task::Task;
+
+#[cfg(test)]
+mod tests;

@@ -1,0 +1,33 @@
+//! What one worker of a pass does.
+
+ghost use Rattle.vt_pass.specs.Scenes.{Job, job_of};
+
+use std::sync::Wait;
+use std::thread::Threads;
+use vt_draw::Shot;
+use vt_evict::Planned;
+use vt_outside::Gate;
+
+/// A part of a pass that one worker does: it changes itself alone, and reads what it shares with the other workers.
+pub trait Task {
+    /// What all workers share.
+    type Shared: Sync;
+
+    /// It may begin, on what is shared and for the pass's job.
+    ghost ready: { Self.Shared → Job → Self → Type 0 };
+
+    /// What it was and what it is, once it has worked.
+    ghost did: { Self.Shared → Job → Self → Self → Type 0 };
+
+    /// Does the part.
+    fn work<Rt: Threads + Wait, G: Gate>(
+        &mut self,
+        rt: &Rt,
+        shared: &Self::Shared,
+        shot: &Shot<'_>,
+        batch: &[Planned],
+        gate: &G,
+    )
+        requires { ready shared.now (job_of shot.now batch.now) self.old }
+        ensures { did shared.now (job_of shot.now batch.now) self.old self.new };
+}

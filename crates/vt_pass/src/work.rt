@@ -1,0 +1,126 @@
+//! The workers of a pass, at work at once.
+
+ghost use Rattle.std.specs.Prelude.{◌≡◌, ℕ, List, length};
+ghost use Rattle.std.specs.Thread.{IsSync, IsSend};
+ghost use Rattle.vt_pass.specs.Scenes.{Job, job_of};
+ghost use Rattle.vt_pass.specs.All.{AllReady, AllDid};
+
+use crate::task::Task;
+use std::sync::Wait;
+use std::thread::{Threads, join_mut};
+use vt_draw::Shot;
+use vt_evict::Planned;
+use vt_outside::Gate;
+
+// The loaders, and beside them the samplers and the streamer.
+pub(crate) fn work_together<
+    Rt: Threads + Wait + Sync,
+    S: Sync,
+    L: Task<Shared = S> + Send,
+    M: Task<Shared = S> + Send,
+    R: Task<Shared = S> + Send,
+    G: Gate + Sync,
+>(
+    rt: &Rt,
+    loaders: &mut [L],
+    samplers: &mut [M],
+    streamer: &mut R,
+    shared: &S,
+    shot: &Shot<'_>,
+    batch: &[Planned],
+    gate: &G,
+)
+    requires loaders { AllReady (L.ready shared.now (job_of shot.now batch.now)) loaders.old }
+    requires samplers { AllReady (M.ready shared.now (job_of shot.now batch.now)) samplers.old }
+    requires streamer { R.ready shared.now (job_of shot.now batch.now) streamer.old }
+    ensures loaders { AllDid (L.did shared.now (job_of shot.now batch.now)) loaders.old loaders.new }
+    ensures samplers { AllDid (M.did shared.now (job_of shot.now batch.now)) samplers.old samplers.new }
+    ensures streamer { R.did shared.now (job_of shot.now batch.now) streamer.old streamer.new }
+{
+    join_mut(
+        rt,
+        &mut || -> ()
+            requires { IsSync Rt.row × IsSync G.row × IsSync S.row × IsSend L.row
+                × AllReady (L.ready shared.now (job_of shot.now batch.now)) loaders.now }
+            ensures { AllDid (L.did shared.entry.now (job_of shot.entry.now batch.entry.now)) loaders.entry.now loaders.exit.now }
+        { work_all(rt, loaders, shared, shot, batch, gate) },
+        &mut || -> ()
+            requires { IsSync Rt.row × IsSync G.row × IsSync S.row × IsSend M.row × IsSend R.row
+                × AllReady (M.ready shared.now (job_of shot.now batch.now)) samplers.now
+                × R.ready shared.now (job_of shot.now batch.now) streamer.now }
+            ensures { AllDid (M.did shared.entry.now (job_of shot.entry.now batch.entry.now)) samplers.entry.now samplers.exit.now
+                × R.did shared.entry.now (job_of shot.entry.now batch.entry.now) streamer.entry.now streamer.exit.now }
+        { draw_beside(rt, samplers, streamer, shared, shot, batch, gate) },
+    );
+}
+
+// The samplers, and beside them the streamer.
+fn draw_beside<
+    Rt: Threads + Wait + Sync,
+    S: Sync,
+    M: Task<Shared = S> + Send,
+    R: Task<Shared = S> + Send,
+    G: Gate + Sync,
+>(
+    rt: &Rt,
+    samplers: &mut [M],
+    streamer: &mut R,
+    shared: &S,
+    shot: &Shot<'_>,
+    batch: &[Planned],
+    gate: &G,
+)
+    requires samplers { AllReady (M.ready shared.now (job_of shot.now batch.now)) samplers.old }
+    requires streamer { R.ready shared.now (job_of shot.now batch.now) streamer.old }
+    ensures samplers { AllDid (M.did shared.now (job_of shot.now batch.now)) samplers.old samplers.new }
+    ensures streamer { R.did shared.now (job_of shot.now batch.now) streamer.old streamer.new }
+{
+    join_mut(
+        rt,
+        &mut || -> ()
+            requires { IsSync Rt.row × IsSync G.row × IsSync S.row × IsSend M.row
+                × AllReady (M.ready shared.now (job_of shot.now batch.now)) samplers.now }
+            ensures { AllDid (M.did shared.entry.now (job_of shot.entry.now batch.entry.now)) samplers.entry.now samplers.exit.now }
+        { work_all(rt, samplers, shared, shot, batch, gate) },
+        &mut || -> ()
+            requires { IsSync Rt.row × IsSync G.row × IsSync S.row × IsSend R.row
+                × R.ready shared.now (job_of shot.now batch.now) streamer.now }
+            ensures { R.did shared.entry.now (job_of shot.entry.now batch.entry.now) streamer.entry.now streamer.exit.now }
+        { streamer.work(rt, shared, shot, batch, gate) },
+    );
+}
+
+// All tasks of a list, by halves.
+fn work_all<Rt: Threads + Wait + Sync, S: Sync, L: Task<Shared = S> + Send, G: Gate + Sync>(
+    rt: &Rt,
+    tasks: &mut [L],
+    shared: &S,
+    shot: &Shot<'_>,
+    batch: &[Planned],
+    gate: &G,
+)
+    requires { AllReady (L.ready shared.now (job_of shot.now batch.now)) tasks.old }
+    ensures { AllDid (L.did shared.now (job_of shot.now batch.now)) tasks.old tasks.new }
+{
+    if tasks.len() == 1 {
+        tasks[0].work(rt, shared, shot, batch, gate);
+        return;
+    }
+    if tasks.is_empty() {
+        return;
+    }
+    let (low, high) = tasks.split_at_mut(tasks.len() / 2);
+    join_mut(
+        rt,
+        &mut || -> ()
+            requires { IsSync Rt.row × IsSync G.row × IsSync S.row × IsSend L.row
+                × AllReady (L.ready shared.now (job_of shot.now batch.now)) low.now }
+            ensures { AllDid (L.did shared.entry.now (job_of shot.entry.now batch.entry.now)) low.entry.now low.exit.now }
+        { work_all(rt, low, shared, shot, batch, gate) },
+        &mut || -> ()
+            requires { IsSync Rt.row × IsSync G.row × IsSync S.row × IsSend L.row
+                × AllReady (L.ready shared.now (job_of shot.now batch.now)) high.now }
+            ensures { AllDid (L.did shared.entry.now (job_of shot.entry.now batch.entry.now)) high.entry.now high.exit.now }
+        { work_all(rt, high, shared, shot, batch, gate) },
+    );
+}
