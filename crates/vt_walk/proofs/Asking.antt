@@ -1,0 +1,48 @@
+-- What the passes of a run ask for, and what of it was lost, adds up.
+use Rattle.std.proofs.Common.{◌≡◌, ℕ, suc, ◌+◌, Bool, true, false, List, [], ◌∷◌, ◌++◌, length, refl, ap, ◌∙◌, length-append, arith}
+use Rattle.std.specs.List.{filter}
+use Rattle.std.proofs.lemmas.List.Elements.{filter-append}
+use Rattle.std.proofs.lemmas.List.Sums.{length-filter}
+use Rattle.vt_pages.specs.Shape.{Shape}
+use Rattle.vt_evict.specs.declared.batches.Planned.{Planned}
+use Rattle.vt_pass.specs.Outcomes.{lost_count}
+use Rattle.vt_pass.specs.Requests.{is_tile_at, times_planned, lost_entries}
+use Rattle.vt_walk.specs.Fits.{WalkSetup}
+use Rattle.vt_walk.specs.Runs.{WalkPass, IsRun, planned_in, lost_in}
+use Rattle.vt_walk.specs.Logs.{reads_of}
+
+planned_both : (s : Shape) (d at len : ℕ) (xs ys : List Planned) → times_planned s d (xs ++ ys) at len ≡ times_planned s d xs at len + times_planned s d ys at len
+planned_both s d at len xs ys =
+    let t : Planned → Bool = λ e. is_tile_at s d at len e.page in
+    omega (
+      arith,
+      length-filter t (xs ++ ys),
+      ap (λ (l : List Planned). length l) (filter-append t xs ys),
+      length-append (filter t xs) (filter t ys),
+      length-filter t xs,
+      length-filter t ys,
+    )
+
+pub planned_more : (s : Shape) (d at len : ℕ) (p : WalkPass) (passes : List WalkPass)
+    → times_planned s d (planned_in (p ∷ passes)) at len ≡ times_planned s d p.batch at len + times_planned s d (planned_in passes) at len
+planned_more s d at len p passes = planned_both s d at len p.batch (planned_in passes)
+
+pub lost_more : (s : Shape) (d at len : ℕ) (p : WalkPass) (passes : List WalkPass)
+    → times_planned s d (lost_in (p ∷ passes)) at len ≡ times_planned s d (lost_entries p.batch p.losses) at len + times_planned s d (lost_in passes) at len
+lost_more s d at len p passes = planned_both s d at len (lost_entries p.batch p.losses) (lost_in passes)
+
+kept_lost : (batch : List Planned) (losses : List Bool) → length losses ≡ length batch → length (lost_entries batch losses) ≡ length (filter (λ l. l) losses)
+kept_lost [] [] same = refl
+kept_lost [] (l ∷ losses) same = absurd (omega (arith, same))
+kept_lost (e ∷ batch) [] same = absurd (omega (arith, same))
+kept_lost (e ∷ batch) (true ∷ losses) same = ap suc (kept_lost batch losses (omega (arith, same)))
+kept_lost (e ∷ batch) (false ∷ losses) same = kept_lost batch losses (omega (arith, same))
+
+count_lost : (batch : List Planned) (losses : List Bool) → length losses ≡ length batch → length (lost_entries batch losses) ≡ lost_count losses
+count_lost batch losses same = kept_lost batch losses same ∙ length-filter (λ l. l) losses
+
+pub losses_more : (w : WalkSetup) (p : WalkPass) (passes : List WalkPass) → IsRun w (p ∷ passes) → length (lost_in (p ∷ passes)) ≡ lost_count p.losses + length (lost_in passes)
+losses_more w p passes run = omega (arith, length-append (lost_entries p.batch p.losses) (lost_in passes), count_lost p.batch p.losses run.1.outcome.told)
+
+pub reads_more : (w : WalkSetup) (p : WalkPass) (passes : List WalkPass) → reads_of w (p ∷ passes) ≡ reads_of w passes + length p.batch
+reads_more w p passes = omega (arith, length-append p.batch (planned_in passes))

@@ -1,0 +1,12 @@
+pub mod Agreeing
+pub mod Eventing
+pub mod Settling
+pub mod Running
+pub mod Telling
+pub mod Finishing
+pub mod Stamping
+pub mod Wholeness
+pub mod Showing
+pub mod Turning
+pub mod Asking
+pub mod Nexts

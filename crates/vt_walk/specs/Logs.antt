@@ -1,0 +1,69 @@
+-- What a walk prints.
+use Rattle.std.specs.Prelude.{ℕ, ◌+◌, ◌==◌, Bool, true, false, List, [], ◌∷◌, ◌++◌, length, sum_by, count_by, codes, flat_map}
+use Rattle.std.specs.List.{filter, range_with_len}
+use Rattle.vt_text.specs.Numbers.{number_spelling}
+use Rattle.vt_journal.specs.declared.changes.Change.TheVariants.{Map, Unmap}
+use Rattle.vt_journal.specs.declared.changes.Event.{Event}
+use Rattle.vt_journal.specs.declared.changes.Event.TheVariants.{Changed, Lost}
+use Rattle.vt_walk.specs.Fits.{WalkSetup}
+use Rattle.vt_walk.specs.Runs.{WalkPass, planned_in}
+
+-- the passes of a picture
+abbrev pub passes_of : ℕ → List WalkPass → List WalkPass
+passes_of picture passes = filter (λ p. p.picture == picture) passes
+
+-- how many pages are wanted in a picture's passes
+abbrev pub wanted_in : List WalkPass → ℕ
+wanted_in [] = 0
+wanted_in (p ∷ passes) = length p.wants
+
+-- a page was mapped
+abbrev pub is_load : Event → Bool
+is_load (Changed (Map page frame)) = true
+is_load (Changed (Unmap page frame)) = false
+is_load (Lost page) = false
+
+-- a page was unmapped
+abbrev pub is_eviction : Event → Bool
+is_eviction (Changed (Map page frame)) = false
+is_eviction (Changed (Unmap page frame)) = true
+is_eviction (Lost page) = false
+
+-- a page was lost
+abbrev pub is_loss : Event → Bool
+is_loss (Changed change) = false
+is_loss (Lost page) = true
+
+-- how many events of passes are of a kind
+abbrev pub events_in : (Event → Bool) → List WalkPass → ℕ
+events_in kind passes = sum_by (λ p. count_by kind p.events) passes
+
+-- a word of a line and the number behind it
+abbrev pub counted : List ℕ → ℕ → List ℕ
+counted word number = codes " " ++ word ++ codes " " ++ number_spelling number
+
+-- the numbers of a picture with these passes
+unfoldable pub pass_numbers : List WalkPass → List ℕ
+pass_numbers passes =
+    counted (codes "passes") (length passes) ++ counted (codes "wanted") (wanted_in passes) ++ counted (codes "loaded") (events_in is_load passes)
+    ++ counted (codes "lost") (events_in is_loss passes) ++ counted (codes "evicted") (events_in is_eviction passes)
+
+-- the line of a picture
+unfoldable pub picture_line : List WalkPass → ℕ → List ℕ
+picture_line passes picture = codes "picture " ++ number_spelling picture ++ pass_numbers (passes_of picture passes) ++ codes "\n"
+
+-- the lines of the first so many pictures
+abbrev pub picture_lines : List WalkPass → ℕ → List ℕ
+picture_lines passes pictures = flat_map (picture_line passes) (range_with_len 0 pictures)
+
+-- how many tiles were asked for: those of the pinned pages, and those of all batches
+abbrev pub reads_of : WalkSetup → List WalkPass → ℕ
+reads_of w passes = w.pinned + length (planned_in passes)
+
+-- the last line
+unfoldable pub walk_end_line : WalkSetup → List WalkPass → List ℕ
+walk_end_line w passes = codes "end pictures " ++ number_spelling w.pictures ++ codes " reads " ++ number_spelling (reads_of w passes) ++ codes "\n"
+
+-- what a whole run prints
+abbrev pub log_text : WalkSetup → List WalkPass → List ℕ
+log_text w passes = picture_lines passes w.pictures ++ walk_end_line w passes
