@@ -7,8 +7,9 @@ use Rattle.vt_words.specs.Plain.{PlainText, plain_text, shown_plain}
 use Rattle.vt_words.specs.Tile.{TileText, tile_text, shown_tile}
 use Rattle.vt_words.specs.Info.{InfoText, info_text, shown_info}
 use Rattle.vt_words.specs.Gen.{GenText, gen_text, shown_gen, IsLawfulGen}
+use Rattle.vt_words.specs.Upgrade.{UpgradeText, upgrade_text, shown_upgrade}
 use Rattle.vt_words.specs.declared.command.Command.{Command}
-use Rattle.vt_words.specs.declared.command.Command.TheVariants.{Plain, Tile, Info, Gen}
+use Rattle.vt_words.specs.declared.command.Command.TheVariants.{Plain, Tile, Info, Gen, Upgrade}
 
 -- a command and its words
 pub data CommandText : Type 0 where
@@ -16,6 +17,7 @@ pub data CommandText : Type 0 where
   TileCommand : TileText → CommandText
   InfoCommand : InfoText → CommandText
   GenCommand : GenText → CommandText
+  UpgradeCommand : UpgradeText → CommandText
 
 -- what the words after the program's name ask for: the first names the command, and all of them are what its `clap` command is handed
 abbrev pub command_text : List Text → Option CommandText
@@ -25,7 +27,8 @@ command_text (name ∷ words) =
     else (if bytes_eq name (codes "tile") then option_map TileCommand (tile_text (name ∷ words))
     else (if bytes_eq name (codes "info") then option_map InfoCommand (info_text (name ∷ words))
     else (if bytes_eq name (codes "gen") then option_map GenCommand (gen_text (name ∷ words))
-    else None)))
+    else (if bytes_eq name (codes "upgrade") then option_map UpgradeCommand (upgrade_text (name ∷ words))
+    else None))))
 
 -- the command without where its words lie in memory
 abbrev pub shown : Command → CommandText
@@ -33,6 +36,7 @@ shown (Plain words) = PlainCommand (shown_plain words)
 shown (Tile words) = TileCommand (shown_tile words)
 shown (Info words) = InfoCommand (shown_info words)
 shown (Gen words) = GenCommand (shown_gen words)
+shown (Upgrade words) = UpgradeCommand (shown_upgrade words)
 
 -- the numbers among the words of a command are lawful
 abbrev pub IsLawful : Command → Type 0
@@ -40,3 +44,4 @@ IsLawful (Plain words) = IsTileSide words.tile
 IsLawful (Tile words) = IsTileSide words.tile
 IsLawful (Info words) = Unit {0}
 IsLawful (Gen words) = IsLawfulGen words
+IsLawful (Upgrade words) = Unit {0}

@@ -5,4 +5,5 @@ pub mod Plain
 pub mod Tile
 pub mod Info
 pub mod Gen
+pub mod Upgrade
 pub mod Commands

@@ -9,6 +9,7 @@ use crate::generate::{GenWords, read_gen};
 use crate::info::{InfoWords, read_info};
 use crate::plain::{PlainWords, read_plain};
 use crate::tile::{TileWords, read_tile};
+use crate::upgrade::{UpgradeWords, read_upgrade};
 use std::alloc::Global;
 
 /// A command and its words.
@@ -22,6 +23,8 @@ pub enum Command<'a> {
     Info(InfoWords<'a>),
     /// Writes a texture that is made from a number.
     Gen(GenWords<'a>),
+    /// Writes the tile store of two-byte samples that one of one-byte samples makes.
+    Upgrade(UpgradeWords<'a>),
 }
 
 /// Reads the words after the program's name: the first names the command, whose `clap` command is handed all of them.
@@ -47,6 +50,9 @@ pub fn read_command<'a>(alloc: Global, words: &'a [String]) -> Result<Command<'a
     }
     if name.as_str() == "gen" {
         return read_gen(alloc, words).map(Command::Gen);
+    }
+    if name.as_str() == "upgrade" {
+        return read_upgrade(alloc, words).map(Command::Upgrade);
     }
     Err(WordsError::Usage)
 }

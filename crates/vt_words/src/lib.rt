@@ -10,6 +10,7 @@ mod names;
 mod numbers;
 mod plain;
 mod tile;
+mod upgrade;
 
 pub use arguments::WordsError;
 pub use command::{Command, read_command};
@@ -19,6 +20,7 @@ pub use laws::{known_names_are_pictures, picture_names_are_known};
 pub use names::{is_picture_name, picture_name};
 pub use plain::PlainWords;
 pub use tile::TileWords;
+pub use upgrade::UpgradeWords;
 
 #[cfg(test)]
 mod tests;

@@ -30,6 +30,10 @@ fn answer(alloc: Global, words: &[&str]) -> Result<String, AllocError> {
             let name = read.name;
             format!(in alloc; "gen {number} {width} {height} {name}")
         }
+        Ok(Command::Upgrade(read)) => {
+            let (store, new_store) = (read.store, read.new_store);
+            format!(in alloc; "upgrade {store} {new_store}")
+        }
         Err(WordsError::Usage) => String::from_str(alloc, "usage"),
         Err(WordsError::NoMemory) => String::from_str(alloc, "memory"),
     }
@@ -71,20 +75,21 @@ fn the_tile_side_is_one_of_seven_and_else_64(rt: HostRuntime) {
 
 #[test]
 fn words_after_two_dashes_are_names(rt: HostRuntime) {
-    let cases: [(&[&str], &str); 6] = [
+    let cases: [(&[&str], &str); 7] = [
         (&["info", "--", "--tile"], "info --tile"),
         (&["tile", "t", "--", "--tile"], "tile t --tile 64"),
         (&["tile", "t", "s", "--", "--tile", "8"], "usage"),
         (&["tile", "--tile=4", "--", "-t", "-s"], "tile -t -s 4"),
         (&["info", "--"], "usage"),
         (&["gen", "1", "2", "3", "--", "-n"], "gen 1 2 3 -n"),
+        (&["upgrade", "--", "-s", "--t"], "upgrade -s --t"),
     ];
     assert_eq!(rt; misread(rt.alloc(), cases.as_slice()), Ok(0));
 }
 
 #[test]
 fn each_command_has_its_words_and_no_more(rt: HostRuntime) {
-    let cases: [(&[&str], &str); 19] = [
+    let cases: [(&[&str], &str); 24] = [
         (&[], "usage"),
         (&[""], "usage"),
         (&["walk", "s", "p", "x"], "usage"),
@@ -104,6 +109,11 @@ fn each_command_has_its_words_and_no_more(rt: HostRuntime) {
         (&["info", "s", "-h"], "usage"),
         (&["info", "s", "--version"], "usage"),
         (&["info", "s", "--tile", "8"], "usage"),
+        (&["upgrade", "s", "n"], "upgrade s n"),
+        (&["upgrade"], "usage"),
+        (&["upgrade", "s"], "usage"),
+        (&["upgrade", "s", "n", "m"], "usage"),
+        (&["upgrade", "s", "n", "--tile", "8"], "usage"),
     ];
     assert_eq!(rt; misread(rt.alloc(), cases.as_slice()), Ok(0));
 }
@@ -134,7 +144,7 @@ fn the_numbers_of_gen_have_bounds(rt: HostRuntime) {
 
 #[test]
 fn a_name_is_not_both_read_and_written(rt: HostRuntime) {
-    let cases: [(&[&str], &str); 8] = [
+    let cases: [(&[&str], &str); 11] = [
         (&["tile", "a", "a"], "usage"),
         (&["tile", "a", "./a"], "tile a ./a 64"),
         (&["plain", "x0000.ppm", "p", "x"], "usage"),
@@ -146,6 +156,9 @@ fn a_name_is_not_both_read_and_written(rt: HostRuntime) {
         (&["plain", "0001.ppm", "p", ""], "usage"),
         (&["plain", "y0001.ppm", "p", "x"], "plain y0001.ppm p x 64"),
         (&["plain", "a", "a", "a"], "plain a a a 64"),
+        (&["upgrade", "a", "a"], "usage"),
+        (&["upgrade", "a", "./a"], "upgrade a ./a"),
+        (&["upgrade", "", ""], "usage"),
     ];
     assert_eq!(rt; misread(rt.alloc(), cases.as_slice()), Ok(0));
 }
