@@ -28,20 +28,26 @@ printf 'P6\n2 1\n255\n\015\015\015\001\001\001' | cmp -s - f0000.ppm; say $? "fi
 
 # Odd and even sides, slanted cameras, places before the texture's first column, and far levels.
 number=0
-while read -r width height tile size focal camera; do
+while read -r width height tile size focal camera most; do
   number=$((number + 1))
-  $reference make "$width" "$height" "$number" "t$number.ppm"
+  $reference make "$width" "$height" "$number" "t$number.ppm" "$most"
   printf 'size %s\nfocal %s\nat %s\n' "${size/x/ }" "$focal" "${camera//,/ }" > "t$number.path"
   $reference "t$number.ppm" "t$number.path" "want$number." "$tile"
   "$program" plain "t$number.ppm" "t$number.path" "got$number." --tile "$tile" > /dev/null
-  cmp -s "want$number.0000.ppm" "got$number.0000.ppm"; say $? "picture $number: $width $height $tile $size $focal $camera"
+  cmp -s "want$number.0000.ppm" "got$number.0000.ppm"; say $? "picture $number: $width $height $tile $size $focal $camera $most"
 done <<'ROWS'
-1 1 2 3x2 1 0,0,256,16384,0
-5 3 2 7x9 3 -1000,77,1024,11585,-11585
-64 64 8 40x30 20 300,-5000,20480,-3000,16000
-37 23 2 33x41 4 -2147483648,2147483648,16777216,-16384,16384
-200 119 16 64x48 100 12345,-6789,204800,16384,0
-130 257 128 50x20 7 0,0,65535,0,-16384
+1 1 2 3x2 1 0,0,256,16384,0 255
+5 3 2 7x9 3 -1000,77,1024,11585,-11585 255
+64 64 8 40x30 20 300,-5000,20480,-3000,16000 255
+37 23 2 33x41 4 -2147483648,2147483648,16777216,-16384,16384 255
+200 119 16 64x48 100 12345,-6789,204800,16384,0 255
+130 257 128 50x20 7 0,0,65535,0,-16384 255
+1 1 2 3x2 1 0,0,256,16384,0 65535
+5 3 2 7x9 3 -1000,77,1024,11585,-11585 65535
+64 64 8 40x30 20 300,-5000,20480,-3000,16000 256
+37 23 2 33x41 4 -2147483648,2147483648,16777216,-16384,16384 1000
+200 119 16 64x48 100 12345,-6789,204800,16384,0 65534
+130 257 128 50x20 7 0,0,65535,0,-16384 65535
 ROWS
 
 # Several keys: rounding down on the way in both directions, a step of one picture, and a key of its own in between.
@@ -106,15 +112,16 @@ printed=$("$program" plain dot.ppm most.path most/p --tile 2)
 printf 'size 1 1\nfocal 1\nat 0 0 256 0 0\n' > pixel.path
 while IFS='|' read -r texture answer; do
   printf "$texture" > row.ppm
+  bytes=$(echo "${answer#texel}" | wc -w)
   printed=$("$program" plain row.ppm pixel.path row. --tile 2 2> err); status=$?
   case "$answer" in
-    texel*) [ "$status" -eq 0 ] && [ "$(tail -c 3 row.0000.ppm | od -An -tx1)" = "${answer#texel}" ];;
+    texel*) [ "$status" -eq 0 ] && [ "$(tail -c "$bytes" row.0000.ppm | od -An -tx1)" = "${answer#texel}" ];;
     *) [ "$status" -eq 4 ] && [ -z "$printed" ] && [ "$(cat err)" = "vtex: bad input: row.ppm: $answer" ] && [ ! -e row.0000.ppm ];;
   esac
   say $? "texture $texture: $answer"
   "$program" tile row.ppm row.vts --tile 2 > /dev/null 2> tile.err; status=$?
   case "$answer" in
-    texel*) [ "$status" -eq 0 ] && [ "$(tail -c +17 row.vts | head -c 3 | od -An -tx1)" = "${answer#texel}" ];;
+    texel*) [ "$status" -eq 0 ] && [ "$(tail -c +17 row.vts | head -c "$bytes" | od -An -tx1)" = "${answer#texel}" ];;
     *) [ "$status" -eq 4 ] && cmp -s err tile.err && [ ! -e row.vts ];;
   esac
   say $? "the same by tile: $texture: $answer"
@@ -146,11 +153,15 @@ P6 1 8193 255\nabc|bad size
 P6 9999999999 1 255\n|bad size
 P6 1 1 0\nabc|bad maximum
 P6 1 1 65536\nabc|bad maximum
-P6 1 1 256\nabcdef|wide samples
-P6 1 1 65535\nabcdef|wide samples
+P6 1 1 65535\n\0\001\200\0\377\377|texel 00 01 80 00 ff ff
+P6 1 1 256\n\001\0\0\200\0\001|texel ff ff 80 00 01 00
 P6 1 1 255\nab|raster of 2 bytes, wanted 3
 P6 8192 8192 255\n|raster of 0 bytes, wanted 201326592
+P6 1 1 256\nabc|raster of 3 bytes, wanted 6
+P6 8192 8192 256\n|raster of 0 bytes, wanted 402653184
 P6 1 1 100\n\001\145\0|sample over maximum at byte 12
+P6 1 1 256\n\001\001\0\200\0\001|sample over maximum at byte 11
+P6 1 1 256\n\001\0\0\200\001\001|sample over maximum at byte 15
 ROWS
 for blanks in 100 70000; do
   { printf P6; head -c "$blanks" /dev/zero | tr '\0' ' '; } > row.ppm
@@ -177,31 +188,73 @@ ffmpeg -v quiet -y -f lavfi -i testsrc=size=64x48 -frames:v 1 -pix_fmt rgb24 oth
 $reference make 21 13 77 raw.ppm
 { printf 'P6\n# Created by GIMP version 2.10.34 PNM plug-in\n21 13\n255\n'; tail -c 819 raw.ppm; } > other.ppm; picture_of "GIMP's writer (its form)"
 
+# A large texture of two bytes a sample, by another program where one is installed: tiled, told, read back and drawn.
+{ ppmpat -gingham2 -randomseed=1 2048 2048 | pamdepth 65535; } > large.ppm 2> /dev/null
+[ -s large.ppm ] || "${magick:-none}" -seed 3 -size 2048x2048 plasma:red-blue -depth 16 ppm:large.ppm 2> /dev/null
+[ -s large.ppm ] || $reference make 2048 2048 11 large.ppm 65535
+[ "$(head -c 18 large.ppm | tr '\n' ' ')" = "P6 2048 2048 65535" ] && [ "$(stat -c %s large.ppm)" -eq 25165843 ]; say $? "a large texture of two bytes a sample"
+$reference tile large.ppm want.vts 64 > want.line
+"$program" tile large.ppm got.vts --tile 64 > got.line && cmp -s want.vts got.vts && cmp -s want.line got.line; say $? "its store"
+"$program" info got.vts > got.line && cmp -s want.line got.line; say $? "info of its store"
+$reference texels large.ppm got.vts; say $? "its store read back"
+printf 'size 640 400\nfocal 300\nat -1000 77 204800 11585 -11585\n' > large.path
+$reference large.ppm large.path want.large 64
+"$program" plain large.ppm large.path got.large --tile 64 > /dev/null && cmp -s want.large0000.ppm got.large0000.ppm; say $? "its picture"
+rm -f large.ppm want.vts got.vts
+
 # Stores: tiled, told and read back.
 number=0
-while read -r width height tile; do
+while read -r width height tile most; do
   number=$((number + 1))
-  $reference make "$width" "$height" "$number" "s$number.ppm"
+  $reference make "$width" "$height" "$number" "s$number.ppm" "$most"
   $reference tile "s$number.ppm" "want$number.vts" "$tile" > want.line
   "$program" tile "s$number.ppm" "got$number.vts" --tile "$tile" > got.line
-  cmp -s "want$number.vts" "got$number.vts" && cmp -s want.line got.line; say $? "store $number: $width $height $tile"
+  cmp -s "want$number.vts" "got$number.vts" && cmp -s want.line got.line; say $? "store $number: $width $height $tile $most"
   "$program" info "got$number.vts" > got.line && cmp -s want.line got.line; say $? "info of store $number"
   $reference texels "s$number.ppm" "got$number.vts"; say $? "store $number read back"
 done <<'ROWS'
-1 1 2
-5 3 2
-4 4 2
-129 3 128
-64 64 64
-65 63 8
-2 300 16
+1 1 2 255
+5 3 2 255
+4 4 2 255
+129 3 128 255
+64 64 64 255
+65 63 8 255
+2 300 16 255
+1 1 2 65535
+5 3 2 256
+129 3 128 65535
+65 63 8 65534
 ROWS
+
+# Stores of one byte a sample, upgraded: those of textures, and one whose texels are no chain and whose tiles have other texels past
+# the edges.
+upgraded() {
+  $reference upgrade "$1" want.vts > want.line
+  "$program" upgrade "$1" got.vts > got.line 2> err && [ ! -s err ] && cmp -s want.vts got.vts && cmp -s want.line got.line; say $? "upgrade of $2"
+  "$program" info got.vts > got.line && cmp -s want.line got.line; say $? "info of the upgraded $2"
+  "$program" upgrade got.vts again.vts > out 2> err; status=$?
+  [ "$status" -eq 4 ] && [ ! -s out ] && [ ! -e again.vts ] && [ "$(cat err)" = "vtex: bad input: got.vts: already wide" ]; say $? "upgrade of the upgraded $2"
+}
+for number in 1 2 3 4 5 6 7; do upgraded "got$number.vts" "store $number"; done
+$reference make 65 63 3 noise.ppm
+{ head -c 16 got6.vts; for _ in 1 2 3; do tail -c +14 noise.ppm; done; } | head -c "$(stat -c %s got6.vts)" > noise.vts
+upgraded noise.vts "a store that is no chain"
+$reference gen 9 2048 1024 large.ppm
+"$program" tile large.ppm large.vts > /dev/null; upgraded large.vts "a large store"
+rm -f large.ppm large.vts want.vts
+"$program" upgrade got6.vts got6.vts > out 2> err; status=$?
+[ "$status" -eq 2 ] && [ ! -s out ] && cmp -s want6.vts got6.vts; say $? "upgrade of a store into itself"
+"$program" upgrade none.vts got.vts > out 2> err; status=$?
+[ "$status" -eq 3 ] && [ ! -s out ] && [ "$(cat err)" = "vtex: fault on files or output" ]; say $? "upgrade of a missing store"
 for bytes in 3 4 15 16 75; do
   "$program" tile g4.ppm g4.vts --tile 2 > /dev/null; head -c "$bytes" g4.vts > cut.vts
   "$program" info cut.vts > out 2> err; status=$?
   case "$bytes" in 3) place="bad magic";; 4 | 15) place="length $bytes, wanted 16";; *) place="length $bytes, wanted 76";; esac
   [ "$status" -eq 4 ] && [ ! -s out ] && [ "$(cat err)" = "vtex: bad input: cut.vts: $place" ]; say $? "a store cut to $bytes bytes"
 done
+{ printf VTS2; tail -c +5 g4.vts; } > long.vts
+"$program" info long.vts 2> err; status=$?
+[ "$status" -eq 4 ] && [ "$(cat err)" = "vtex: bad input: long.vts: length 76, wanted 136" ]; say $? "a store of one byte a sample taken for one of two"
 { cat g4.vts; printf x; } > long.vts
 "$program" info long.vts 2> err; status=$?
 [ "$status" -eq 4 ] && [ "$(cat err)" = "vtex: bad input: long.vts: length 77, wanted 76" ]; say $? "a store with a byte more"

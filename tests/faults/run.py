@@ -1,6 +1,6 @@
 #!/usr/bin/env python3
 """Makes each allocation, open, read and write of a run fail in turn, and each read and write come short: of the first picture, and
-of the commands that write and tell its texture's store and make a texture.
+of the commands that write, tell and upgrade its texture's store and make a texture.
 
 usage: run.py [PROGRAM]     (crates/vtex/out/vtex where none is given; it wants gcc)
 
@@ -19,6 +19,7 @@ PICTURE = b"P6\n2 1\n255\n\x0d\x0d\x0d\x01\x01\x01"
 TEXELS = [0, 1, 4, 5, 2, 3, 6, 7, 8, 9, 12, 13, 10, 11, 14, 15, 3, 5, 11, 13]
 STORE = b"VTS1" + b"".join(n.to_bytes(4, "big") for n in (4, 4, 2)) + b"".join(bytes([n, n, n]) for n in TEXELS)
 TOLD = b"store 4 4 tile 2 levels 2 pages 5 bytes 76\n"
+WIDE = b"VTS2" + STORE[4:16] + b"".join(bytes([n] * 6) for n in TEXELS)
 MADE = b"P6\n2 2\n255\n\x01\x03\x07\x02\x03\x07\x01\x04\x07\x02\x04\x08"
 # The words of each job, the name that it writes with its bytes, and its line.
 JOBS = [
@@ -26,6 +27,7 @@ JOBS = [
     (["tile", "g4.ppm", "g4.vts", "--tile", "2"], "g4.vts", STORE, TOLD),
     (["info", "s.vts"], None, None, TOLD),
     (["gen", "1", "2", "2", "g.ppm"], "g.ppm", MADE, b""),
+    (["upgrade", "s.vts", "w.vts"], "w.vts", WIDE, TOLD.replace(b"76", b"136")),
 ]
 LINES = {0: b"", 1: b"vtex: out of memory\n", 3: b"vtex: fault on files or output\n"}
 STATUSES = {"alloc": {0, 1}, "open": {0, 3}, "read": {0, 3}, "write": {0, 3}, "short_read": {0}, "short_write": {0}}

@@ -1,5 +1,5 @@
 -- Bytes that are an input with some content have no flaw as that input.
-use Rattle.std.proofs.Common.{◌≡◌, ℕ, List, None, sym, subst, ◌∙◌, inl, inr}
+use Rattle.std.proofs.Common.{◌≡◌, ℕ, List, None, sym, subst, ◌∙◌, inl, inr, arith}
 use Rattle.vt_ppm.specs.Image.{ImageView}
 use Rattle.vt_ppm.proofs.ImageLaws.{no_image_flaw, one_image}
 use Rattle.vt_camera.proofs.PathFlawLemmas.{no_path_flaw}
@@ -12,10 +12,12 @@ use Rattle.vtex.specs.declared.flaws.Flaw.{Flaw}
 pub content_no_flaw : (input : Input) (bytes : List ℕ) (content : Content) (flaw : Flaw) → IsContent input bytes content → IsFlawOf input bytes flaw → ⊥
 content_no_flaw (Inputs.PathInput name) bytes (Inputs.PathContent path) flaw is h = no_path_flaw bytes path h.0 is h.1
 content_no_flaw (Inputs.PathInput name) bytes (Inputs.TextureContent texture) flaw is h = is
-content_no_flaw (Inputs.PathInput name) bytes (Inputs.StoreContent shape) flaw is h = is
+content_no_flaw (Inputs.PathInput name) bytes (Inputs.StoreContent shape depth) flaw is h = is
+content_no_flaw (Inputs.PathInput name) bytes (Inputs.NarrowContent shape held) flaw is h = is
 content_no_flaw (Inputs.TextureInput name) bytes (Inputs.PathContent path) flaw is h = is
 content_no_flaw (Inputs.TextureInput name) bytes (Inputs.TextureContent texture) flaw is h = no_image_flaw bytes texture h.0 is h.1
-content_no_flaw (Inputs.TextureInput name) bytes (Inputs.StoreContent shape) flaw is h = is
+content_no_flaw (Inputs.TextureInput name) bytes (Inputs.StoreContent shape depth) flaw is h = is
+content_no_flaw (Inputs.TextureInput name) bytes (Inputs.NarrowContent shape held) flaw is h = is
 content_no_flaw (Inputs.TiledTexture name tile) bytes (Inputs.PathContent path) flaw is h = is
 content_no_flaw (Inputs.TiledTexture name tile) bytes (Inputs.TextureContent texture) flaw is (inl h) = no_image_flaw bytes texture h.0 is.0 h.1
 content_no_flaw (Inputs.TiledTexture name tile) bytes (Inputs.TextureContent texture) flaw is (inr h) =
@@ -23,7 +25,17 @@ content_no_flaw (Inputs.TiledTexture name tile) bytes (Inputs.TextureContent tex
     subst (λ (p : ImageView). refusal_of (texture_shape p tile) ≡ None) (one_image bytes texture h.texture is.0 h.is) is.1 in
     let wrong = sym same ∙ h.many in
     cc
-content_no_flaw (Inputs.TiledTexture name tile) bytes (Inputs.StoreContent shape) flaw is h = is
+content_no_flaw (Inputs.TiledTexture name tile) bytes (Inputs.StoreContent shape depth) flaw is h = is
+content_no_flaw (Inputs.TiledTexture name tile) bytes (Inputs.NarrowContent shape held) flaw is h = is
 content_no_flaw (Inputs.StoreInput name) bytes (Inputs.PathContent path) flaw is h = is
 content_no_flaw (Inputs.StoreInput name) bytes (Inputs.TextureContent texture) flaw is h = is
-content_no_flaw (Inputs.StoreInput name) bytes (Inputs.StoreContent shape) flaw is h = let wrong = sym is.no_flaw ∙ h.1 in cc
+content_no_flaw (Inputs.StoreInput name) bytes (Inputs.StoreContent shape depth) flaw is h = let wrong = sym is.no_flaw ∙ h.1 in cc
+content_no_flaw (Inputs.StoreInput name) bytes (Inputs.NarrowContent shape held) flaw is h = is
+content_no_flaw (Inputs.NarrowStore name) bytes (Inputs.PathContent path) flaw is h = is
+content_no_flaw (Inputs.NarrowStore name) bytes (Inputs.TextureContent texture) flaw is h = is
+content_no_flaw (Inputs.NarrowStore name) bytes (Inputs.StoreContent shape depth) flaw is h = is
+content_no_flaw (Inputs.NarrowStore name) bytes (Inputs.NarrowContent shape held) flaw is (inl h) = let wrong = sym is.0.no_flaw ∙ h.1 in cc
+content_no_flaw (Inputs.NarrowStore name) bytes (Inputs.NarrowContent shape held) flaw is (inr h) =
+    let narrow = is.0.depth_is in
+    let wide = h.is.depth_is in
+    omega (arith, narrow, wide)

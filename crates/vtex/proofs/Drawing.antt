@@ -17,14 +17,16 @@ use Rattle.vtex.proofs.Writing.{fails_as}
 use Rattle.vtex.specs.Pictures.{plain_file}
 
 -- the bytes that were encoded of a picture's samples are its file
-pub file_is : (texture : ImageView) (tile : ℕ) (path : PathView) (picture w h : ℕ) (given bytes shown samples : List ℕ)
-    → given ≡ bytes → bytes ≡ picture_bytes w h shown → shown ≡ samples → samples ≡ plain_samples texture tile path picture → w ≡ path.width → h ≡ path.height
+pub file_is : (texture : ImageView) (tile : ℕ) (path : PathView) (picture d w h : ℕ) (given bytes shown samples : List ℕ)
+    → given ≡ bytes → bytes ≡ picture_bytes d w h shown → shown ≡ samples → samples ≡ plain_samples texture tile path picture
+    → d ≡ texture.depth → w ≡ path.width → h ≡ path.height
     → given ≡ plain_file texture tile path picture
 unfolding plain_file
-file_is texture tile path picture w h given bytes shown samples a b c d e f =
-    a ∙ b ∙ ap (picture_bytes w h) (c ∙ d)
-    ∙ ap (λ (n : ℕ). picture_bytes n h (plain_samples texture tile path picture)) e
-    ∙ ap (λ (n : ℕ). picture_bytes path.width n (plain_samples texture tile path picture)) f
+file_is texture tile path picture d w h given bytes shown samples same encoded deref drawn depth columns rows =
+    same ∙ encoded ∙ ap (picture_bytes d w h) (deref ∙ drawn)
+    ∙ ap (λ (n : ℕ). picture_bytes n w h (plain_samples texture tile path picture)) depth
+    ∙ ap (λ (n : ℕ). picture_bytes texture.depth n h (plain_samples texture tile path picture)) columns
+    ∙ ap (λ (n : ℕ). picture_bytes texture.depth path.width n (plain_samples texture tile path picture)) rows
 
 -- the text of three pieces, of which each is known
 pub three_pieces : (a b c x y z : List ℕ) → a ≡ x → b ≡ y → c ≡ z → a ++ (b ++ (c ++ [])) ≡ x ++ (y ++ z)

@@ -9,3 +9,4 @@ pub mod Leaving
 pub mod Drawing
 pub mod Tiling
 pub mod Making
+pub mod Upgrading

@@ -33,19 +33,19 @@ texel_put number y x before after so_far put =
     ∙ put ∙ ap (λ (t : List ℕ). t ++ made_texel number x y) so_far ∙ row_more number y x
 
 -- a picture's header and samples, and more samples
-samples_then : (w h : ℕ) (s t : List ℕ) → picture_bytes w h s ++ t ≡ picture_bytes w h (s ++ t)
-samples_then w h s t = append_assoc (codes "P6\n" ++ decimal w ++ codes " " ++ decimal h ++ codes "\n255\n") s t
+samples_then : (w h : ℕ) (s t : List ℕ) → picture_bytes 1 w h s ++ t ≡ picture_bytes 1 w h (s ++ t)
+samples_then w h s t = append_assoc (codes "P6\n" ++ decimal w ++ codes " " ++ decimal h ++ codes "\n" ++ decimal 255 ++ codes "\n") s t
 
 -- a picture's bytes before its samples
-pub header_is : (w h : ℕ) (header : List ℕ) → header ≡ codes "P6\n" ++ decimal w ++ codes " " ++ decimal h ++ codes "\n255\n"
-    → header ≡ picture_bytes w h []
-header_is w h header is = is ∙ sym (append-nil (codes "P6\n" ++ decimal w ++ codes " " ++ decimal h ++ codes "\n255\n"))
+pub header_is : (w h : ℕ) (header : List ℕ) → header ≡ codes "P6\n" ++ decimal w ++ codes " " ++ decimal h ++ codes "\n" ++ decimal 255 ++ codes "\n"
+    → header ≡ picture_bytes 1 w h []
+header_is w h header is = is ∙ sym (append-nil (codes "P6\n" ++ decimal w ++ codes " " ++ decimal h ++ codes "\n" ++ decimal 255 ++ codes "\n"))
 
 -- the texture's file as far as so many rows
 abbrev pub made_front : ℕ → ℕ → ℕ → ℕ → List ℕ
-made_front number w h rows = picture_bytes w h (made_rows number w rows)
+made_front number w h rows = picture_bytes 1 w h (made_rows number w rows)
 
-front_none : (number w h : ℕ) → picture_bytes w h [] ≡ made_front number w h 0
+front_none : (number w h : ℕ) → picture_bytes 1 w h [] ≡ made_front number w h 0
 unfolding made_rows
 front_none number w h = refl
 
@@ -53,7 +53,7 @@ front_more : (number w h y : ℕ) → made_front number w h y ++ made_row number
 unfolding made_rows
 front_more number w h y =
     samples_then w h (made_rows number w y) (made_row number y w)
-    ∙ ap (picture_bytes w h) (sym (over_more (λ (i : ℕ). made_row number i w) y))
+    ∙ ap (picture_bytes 1 w h) (sym (over_more (λ (i : ℕ). made_row number i w) y))
 
 -- the rows behind so many
 rows_from : ℕ → ℕ → ℕ → ℕ → List ℕ
@@ -66,10 +66,10 @@ file_split number w h y less =
     let all : y + 1 + (h - (y + 1)) ≡ h = omega arith in
     sym (ap (λ (l : List ℕ). l ++ rows_from number w h y) (front_more number w h y)
     ∙ samples_then w h (made_rows number w (y + 1)) (rows_from number w h y)
-    ∙ ap (picture_bytes w h) (sym (span_add rows 0 (y + 1) (h - (y + 1))) ∙ ap (λ (n : ℕ). flat_map rows (range_with_len 0 n)) all))
+    ∙ ap (picture_bytes 1 w h) (sym (span_add rows 0 (y + 1) (h - (y + 1))) ∙ ap (λ (n : ℕ). flat_map rows (range_with_len 0 n)) all))
 
 -- the header was appended to a name that was created
-pub header_whole : (f0 f1 f2 : Option Files) (name header : List ℕ) (number w h : ℕ) → header ≡ picture_bytes w h []
+pub header_whole : (f0 f1 f2 : Option Files) (name header : List ℕ) (number w h : ℕ) → header ≡ picture_bytes 1 w h []
     → f1 ≡ option_map (with_bytes name []) f0 → f2 ≡ option_map (with_appended name header) f1
     → f2 ≡ option_map (with_bytes name (made_front number w h 0)) f0
 header_whole f0 f1 f2 name header number w h is held added =
@@ -77,7 +77,7 @@ header_whole f0 f1 f2 name header number w h is held added =
     ∙ ap (λ (l : List ℕ). option_map (with_bytes name l) f0) (is ∙ front_none number w h)
 
 -- a front part of it was
-pub header_part : (f0 f1 f2 : Option Files) (name header : List ℕ) (number w h : ℕ) → header ≡ picture_bytes w h []
+pub header_part : (f0 f1 f2 : Option Files) (name header : List ℕ) (number w h : ℕ) → header ≡ picture_bytes 1 w h []
     → f1 ≡ option_map (with_bytes name []) f0 → (k : ℕ) × (f2 ≡ option_map (with_appended name (take k header)) f1)
     → (j : ℕ) × (f2 ≡ option_map (with_bytes name (take j (made_file number w h))) f0)
 header_part f0 f1 f2 name header number w h is held added =

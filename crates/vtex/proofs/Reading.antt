@@ -48,7 +48,8 @@ pub record Closed (opened after : FolderState) (file : FileState) : Type 0 where
   pub kept : opened.faults ≤ after.faults
   pub faults : after.faults ≡ added opened.faults file.faults
 
-placed : (name of : List ℕ) (places : List Place) (asked : Option Asked) (told : Option (List Place))
+-- the places of a file that was asked, at its name
+pub placed : (name of : List ℕ) (places : List Place) (asked : Option Asked) (told : Option (List Place))
     → told ≡ option_map (λ (old : List Place). old ++ places) (option_map (λ (_ : Asked). []) asked) → OnSome asked (of ≡ name)
     → option_map (with_places of told) asked ≡ option_map (with_places name (Some places)) asked
 placed name of places None told same is = refl
@@ -192,18 +193,18 @@ asked_nothing before after same bytes name faults = record {
   faults = faults;
 }
 
-full_header : (told : Option (List ℕ)) (shape : Shape) → ((bytes : List ℕ) → told ≡ Some bytes → IsStore bytes shape)
+full_header : (told : Option (List ℕ)) (shape : Shape) (depth : ℕ) → ((bytes : List ℕ) → told ≡ Some bytes → IsStore bytes shape depth)
     → IfSome told (λ bytes. header_length ≡ min (length bytes) header_length)
-full_header None shape each = tt
-full_header (Some bytes) shape each = let whole = whole_length bytes (length bytes) (each bytes refl).no_flaw in omega (arith, whole)
+full_header None shape depth each = tt
+full_header (Some bytes) shape depth each = let whole = whole_length bytes (length bytes) (each bytes refl).no_flaw in omega (arith, whole)
 
 -- an opener that found a store
-pub store_visited : (before after : FileState) (shape : Shape) → IsStoreIfTold before.bytes shape
+pub store_visited : (before after : FileState) (shape : Shape) (depth : ℕ) → IsStoreIfTold before.bytes shape depth
     → OpenerAsks before.bytes None before.asked after.asked
     → after.bytes ≡ before.bytes → after.name ≡ before.name → before.faults ≤ after.faults
     → Visits AsksHeader (record { before = before; after = after })
-store_visited before after shape is asks bytes name faults =
-    asked_header before after header_length false (omega arith) (full_header before.bytes shape is.each) asks bytes name faults
+store_visited before after shape depth is asks bytes name faults =
+    asked_header before after header_length false (omega arith) (full_header before.bytes shape depth is.each) asks bytes name faults
 
 -- an opener that refused
 pub refusal_visited : (before after : FileState) (e : StoreError)

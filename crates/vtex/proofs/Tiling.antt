@@ -99,11 +99,11 @@ many_cause name tile texture (Flawed named flaws.BadMagic) p took h = absurd h
 many_cause name tile texture (Flawed named (flaws.BadHeader n)) p took h = absurd h
 many_cause name tile texture (Flawed named flaws.BadSize) p took h = absurd h
 many_cause name tile texture (Flawed named flaws.BadMaximum) p took h = absurd h
-many_cause name tile texture (Flawed named flaws.WideSamples) p took h = absurd h
 many_cause name tile texture (Flawed named (flaws.Truncated n m)) p took h = absurd h
 many_cause name tile texture (Flawed named (flaws.SampleOver n)) p took h = absurd h
 many_cause name tile texture (Flawed named flaws.BadGeometry) p took h = absurd h
 many_cause name tile texture (Flawed named (flaws.WrongLength n m)) p took h = absurd h
+many_cause name tile texture (Flawed named flaws.AlreadyWide) p took h = absurd h
 
 -- a texture that was read and has too many pages
 pub many_refused : (name : List ℕ) (tile : ℕ) (texture : ImageView) (refusal : Refusal) (p : Passage) → Took (TextureInput name) (TextureContent texture) p

@@ -1,5 +1,5 @@
 -- What a command reads: the kinds of inputs, each with a row in every definition here.
-use Rattle.std.specs.Prelude.{◌≡◌, ◌⊎◌, ℕ, ◌≤◌, Bool, List, [], length, min, Option, Some, None, Ok, IfSome}
+use Rattle.std.specs.Prelude.{◌≡◌, ◌⊎◌, ℕ, ◌≤◌, ◌<◌, Bool, true, false, List, [], ◌∷◌, ◌++◌, length, min, Option, Some, None, Ok, IfSome}
 use Rattle.vt_outside.specs.Files.{noted}
 use Rattle.vt_outside.specs.declared.place.Place.{Place}
 use Rattle.vt_ppm.specs.Image.{ImageView}
@@ -16,23 +16,27 @@ use Rattle.vt_pages.specs.Pages.{refusal_of}
 use Rattle.vt_pages.specs.declared.PagesError.TheVariants as pages_error
 use Rattle.vt_store.specs.Format.{store_flaw, header_length}
 use Rattle.vt_store.specs.StoreViews.{IsStore}
+use Rattle.vt_store.specs.Places.{pieces_of, piece_place, piece_places}
 use Rattle.vt_store.specs.declared.error.StoreError.{StoreError}
 use Rattle.vtex.specs.Flaws.{flaw_of_path, flaw_of_texture, flaw_of_store}
 use Rattle.vtex.specs.declared.flaws.Flaw.{Flaw}
-use Rattle.vtex.specs.declared.flaws.Flaw.TheVariants.{TooManyPages}
+use Rattle.vtex.specs.declared.flaws.Flaw.TheVariants.{TooManyPages, AlreadyWide}
 
--- a file that a command reads, by its name: a path, a texture, a texture that is to have few enough pages of a tile side, or a store
+-- a file that a command reads, by its name: a path, a texture, a texture that is to have few enough pages of a tile side, a store, or
+-- a store that is to have samples of one byte
 pub data Input : Type 0 where
   PathInput : List ℕ → Input
   TextureInput : List ℕ → Input
   TiledTexture : List ℕ → ℕ → Input
   StoreInput : List ℕ → Input
+  NarrowStore : List ℕ → Input
 
--- what an input holds
+-- what an input holds; a store's header tells the shape of its pages and its depth, and of a store of one-byte samples all bytes count
 pub data Content : Type 0 where
   PathContent : PathView → Content
   TextureContent : ImageView → Content
-  StoreContent : Shape → Content
+  StoreContent : Shape → ℕ → Content
+  NarrowContent : Shape → List ℕ → Content
 
 -- the name of an input
 abbrev pub name_of : Input → List ℕ
@@ -40,6 +44,7 @@ name_of (PathInput name) = name
 name_of (TextureInput name) = name
 name_of (TiledTexture name tile) = name
 name_of (StoreInput name) = name
+name_of (NarrowStore name) = name
 
 -- the shape of a texture's pages
 abbrev pub texture_shape : ImageView → ℕ → Shape
@@ -50,7 +55,8 @@ abbrev pub IsContent : Input → List ℕ → Content → Type 0
 IsContent (PathInput name) bytes (PathContent path) = IsPathText bytes path
 IsContent (TextureInput name) bytes (TextureContent texture) = IsImage bytes texture
 IsContent (TiledTexture name tile) bytes (TextureContent texture) = IsImage bytes texture × (refusal_of (texture_shape texture tile) ≡ None)
-IsContent (StoreInput name) bytes (StoreContent shape) = IsStore bytes shape
+IsContent (StoreInput name) bytes (StoreContent shape depth) = IsStore bytes shape depth
+IsContent (NarrowStore name) bytes (NarrowContent shape held) = IsStore bytes shape 1 × (held ≡ bytes)
 IsContent _ bytes _ = ⊥
 
 -- a path has this flaw
@@ -73,12 +79,19 @@ pub record HasManyPages (bytes : List ℕ) (tile : ℕ) (flaw : Flaw) : Type 0 w
 abbrev pub IsFlawOfStore : List ℕ → Flaw → Type 0
 IsFlawOfStore bytes flaw = (e : StoreError) × (store_flaw bytes ≡ Some e) × (flaw_of_store e ≡ Ok flaw)
 
+-- a store has samples of two bytes already
+pub record IsAlreadyWide (bytes : List ℕ) (flaw : Flaw) : Type 0 where
+  pub shape : Shape
+  pub is : IsStore bytes shape 2
+  pub flaw_is : flaw ≡ AlreadyWide
+
 -- the bytes have this flaw as those of an input
 abbrev pub IsFlawOf : Input → List ℕ → Flaw → Type 0
 IsFlawOf (PathInput name) bytes flaw = IsFlawOfPath bytes flaw
 IsFlawOf (TextureInput name) bytes flaw = IsFlawOfTexture bytes flaw
 IsFlawOf (TiledTexture name tile) bytes flaw = IsFlawOfTexture bytes flaw ⊎ HasManyPages bytes tile flaw
 IsFlawOf (StoreInput name) bytes flaw = IsFlawOfStore bytes flaw
+IsFlawOf (NarrowStore name) bytes flaw = IsFlawOfStore bytes flaw ⊎ IsAlreadyWide bytes flaw
 
 -- the flaw is of a kind that an input may have, whatever its bytes
 abbrev pub Fits : Input → Flaw → Type 0
@@ -86,6 +99,7 @@ Fits (PathInput name) flaw = (e : PathError) × (flaw_of_path e ≡ Ok flaw)
 Fits (TextureInput name) flaw = (e : PpmError) × (flaw_of_texture e ≡ Ok flaw)
 Fits (TiledTexture name tile) flaw = ((e : PpmError) × (flaw_of_texture e ≡ Ok flaw)) ⊎ ((n : ℕ) × (flaw ≡ TooManyPages n))
 Fits (StoreInput name) flaw = (e : StoreError) × (flaw_of_store e ≡ Ok flaw)
+Fits (NarrowStore name) flaw = ((e : StoreError) × (flaw_of_store e ≡ Ok flaw)) ⊎ (flaw ≡ AlreadyWide)
 
 -- no place was asked, or one from the beginning on, of a length
 abbrev pub AsksFront : (ℕ → Type 0) → List Place → Type 0
@@ -99,9 +113,24 @@ AsksWhole told places = AsksFront (λ n. IfSome told (λ bytes. n ≡ length byt
 abbrev pub AsksHeader : Option (List ℕ) → List Place → Type 0
 AsksHeader told places = AsksFront (λ n. (n ≤ header_length) × IfSome told (λ bytes. n ≡ min (length bytes) header_length)) places
 
+-- the first so many pieces of a store of one-byte samples, each once and in order, of which the last read may have failed
+abbrev pub ArePieces : Shape → List Place → Type 0
+ArePieces shape places = (n : ℕ) × (n ≤ pieces_of shape) × ((places ≡ piece_places shape 1 n)
+    ⊎ ((n < pieces_of shape) × (places ≡ piece_places shape 1 n ++ piece_place shape 1 true n ∷ [])))
+
+-- the place of a whole header that was read
+abbrev pub header_places : List Place
+header_places = noted 0 header_length false []
+
+-- the header of a store may be asked, or, of a store of one-byte samples, the whole header and then its pieces
+abbrev pub AsksPieces : Option (List ℕ) → List Place → Type 0
+AsksPieces told places = AsksHeader told places
+    ⊎ ((shape : Shape) × (pieces : List Place) × IfSome told (λ bytes. IsStore bytes shape 1) × ArePieces shape pieces × (places ≡ header_places ++ pieces))
+
 -- the places that may be asked of an input whose bytes may be told: of a texture a front part that holds its header, and then its raster
 abbrev pub MayAsk : Input → Option (List ℕ) → List Place → Type 0
 MayAsk (PathInput name) = AsksWhole
 MayAsk (TextureInput name) = AreImagePlaces
 MayAsk (TiledTexture name tile) = AreImagePlaces
 MayAsk (StoreInput name) = AsksHeader
+MayAsk (NarrowStore name) = AsksPieces

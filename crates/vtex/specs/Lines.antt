@@ -9,19 +9,19 @@ use Rattle.vt_store.specs.Format.{store_length}
 abbrev pub end_line : ℕ → List ℕ
 end_line pictures = codes "end pictures " ++ (number_spelling pictures ++ codes "\n")
 
--- the line of `tile` and `info`: the sides of the texture, its tile side, and its numbers of levels, pages and bytes
-unfoldable pub store_line : Shape → List ℕ
-store_line s =
+-- the line of `tile`, `info` and `upgrade`: the sides of the texture, its tile side, and its numbers of levels, pages and bytes at its depth
+unfoldable pub store_line : Shape → ℕ → List ℕ
+store_line s d =
     codes "store " ++ number_spelling s.width ++ codes " " ++ number_spelling s.height ++ codes " tile " ++ number_spelling s.tile
     ++ codes " levels " ++ number_spelling (levels_of s) ++ codes " pages " ++ number_spelling (pages_of s)
-    ++ codes " bytes " ++ number_spelling (store_length s) ++ codes "\n"
+    ++ codes " bytes " ++ number_spelling (store_length s d) ++ codes "\n"
 
 -- the lines on the error output
 abbrev pub memory_line : List ℕ
 memory_line = codes "vtex: out of memory\n"
 
 abbrev pub usage_line : List ℕ
-usage_line = codes "vtex: usage: vtex COMMAND ARGUMENTS (plain, tile, info, walk, replay, gen, trial)\n"
+usage_line = codes "vtex: usage: vtex COMMAND ARGUMENTS (plain, tile, info, walk, replay, gen, trial, upgrade)\n"
 
 abbrev pub fault_line : List ℕ
 fault_line = codes "vtex: fault on files or output\n"

@@ -3,14 +3,16 @@ pub mod Plain
 pub mod Tile
 pub mod Info
 pub mod Gen
+pub mod Upgrade
 use Rattle.std.specs.Prelude.{◌≡◌, ◌⊎◌, ℕ, List, Option, Some, IsNone, Result, Ok, Err}
-use Rattle.vt_words.specs.Commands.{CommandText, PlainCommand, TileCommand, InfoCommand, GenCommand, command_text}
+use Rattle.vt_words.specs.Commands.{CommandText, PlainCommand, TileCommand, InfoCommand, GenCommand, UpgradeCommand, command_text}
 use Rattle.vtex.specs.Courses.{Course, IsIdle}
 use Rattle.vtex.specs.Tasks.{Task, Ends}
 use Rattle.vtex.specs.commands.Plain.{plain_task}
 use Rattle.vtex.specs.commands.Tile.{tile_task}
 use Rattle.vtex.specs.commands.Info.{info_task}
 use Rattle.vtex.specs.commands.Gen.{gen_task}
+use Rattle.vtex.specs.commands.Upgrade.{upgrade_task}
 use Rattle.vtex.specs.declared.refusal.Refusal.{Refusal}
 use Rattle.vtex.specs.declared.refusal.Refusal.TheVariants.{NoMemory, Usage, Fault, Flawed}
 
@@ -20,6 +22,7 @@ task_of (PlainCommand words) = plain_task words
 task_of (TileCommand words) = tile_task words
 task_of (InfoCommand words) = info_task words
 task_of (GenCommand words) = gen_task words
+task_of (UpgradeCommand words) = upgrade_task words
 
 -- a refusal of words: they ask for nothing, or memory was wanting
 abbrev pub IsUnread : Option CommandText → Refusal → Type 0

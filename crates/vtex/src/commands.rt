@@ -11,6 +11,7 @@ mod generate;
 mod info;
 mod plain;
 mod tile;
+mod upgrade;
 
 use crate::refusal::Refusal;
 use generate::generate;
@@ -18,6 +19,7 @@ use info::info;
 use plain::plain;
 use std::alloc::Global;
 use tile::tile;
+use upgrade::upgrade;
 use vt_outside::{Folder, Sink};
 use vt_words::{Command, read_command};
 
@@ -49,5 +51,6 @@ fn perform<'a, D: Folder, O: Sink>(
         Command::Tile(words) => tile(alloc, words, folder, out),
         Command::Info(words) => info(words, folder, out),
         Command::Gen(words) => generate(alloc, words, folder),
+        Command::Upgrade(words) => upgrade(alloc, words, folder, out),
     }
 }

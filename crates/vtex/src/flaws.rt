@@ -27,11 +27,9 @@ pub enum Flaw {
     BadSize,
     /// A texture's maximum is outside its limits.
     BadMaximum,
-    /// A texture's samples have two bytes.
-    WideSamples,
     /// A texture's raster has so many bytes, and should have others.
     Truncated { want: u64, have: u64 },
-    /// A texture's sample at a byte is above the maximum.
+    /// A texture's sample that begins at a byte is above the maximum.
     SampleOver(u64),
     /// A texture has so many pages, which is too many.
     TooManyPages(u64),
@@ -39,6 +37,8 @@ pub enum Flaw {
     BadGeometry,
     /// A store has so many bytes, and should have others.
     WrongLength { want: u64, have: u64 },
+    /// A store has samples of two bytes, and should have those of one.
+    AlreadyWide,
 }
 
 impl Flaw {
@@ -54,7 +54,6 @@ impl Flaw {
             Flaw::BadHeader(at) => Place::number(b"bad header at byte ", *at),
             Flaw::BadSize => Place::words(b"bad size"),
             Flaw::BadMaximum => Place::words(b"bad maximum"),
-            Flaw::WideSamples => Place::words(b"wide samples"),
             Flaw::Truncated { want, have } => {
                 Place::two_numbers(b"raster of ", *have, b" bytes, wanted ", *want)
             }
@@ -64,6 +63,7 @@ impl Flaw {
             Flaw::WrongLength { want, have } => {
                 Place::two_numbers(b"length ", *have, b", wanted ", *want)
             }
+            Flaw::AlreadyWide => Place::words(b"already wide"),
         }
     }
 }
@@ -89,7 +89,6 @@ pub fn flaw_of_texture(error: PpmError) -> Result<Flaw, OutsideError>
         PpmError::BadHeader { at } => Ok(Flaw::BadHeader(at)),
         PpmError::BadSize => Ok(Flaw::BadSize),
         PpmError::BadMaximum => Ok(Flaw::BadMaximum),
-        PpmError::WideSamples => Ok(Flaw::WideSamples),
         PpmError::Truncated { want, have } => Ok(Flaw::Truncated { want, have }),
         PpmError::SampleOver { at } => Ok(Flaw::SampleOver(at)),
         PpmError::Failed => Err(OutsideError::Failed),

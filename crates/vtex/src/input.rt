@@ -1,6 +1,7 @@
 //! Reading what the commands work on. Each reader opens a name, reads its file and closes it.
 
 ghost use Rattle.std.specs.Prelude.{◌≡◌, IfOk, IfSome, IsErrOf};
+ghost use Rattle.vt_definitions.specs.Depths.{IsDepth};
 ghost use Rattle.vt_outside.specs.Counts.{Rose};
 ghost use Rattle.vt_ppm.specs.Reads.{AreImagePlaces};
 ghost use Rattle.vtex.specs.Courses.{passage};
@@ -89,25 +90,41 @@ fn texture_in<'a, F: File>(alloc: Global, name: &'a str, file: &mut F) -> Result
     }
 }
 
+/// What the header of a store tells: how its texture is cut into pages, and how many bytes a sample has.
+#[derive(Clone, Copy)]
+pub struct StoreHeader {
+    pub geometry: Geometry,
+    pub depth: u32,
+}
+
 /// Opens the store of a name for its header alone.
-pub fn read_geometry<'a, D: Folder>(folder: &mut D, name: &'a str) -> Result<Geometry, Refusal<'a>>
-    ensures { Reads (StoreInput name.now) StoreContent (passage D.Folder folder.old folder.new) result }
+pub fn read_store_header<'a, D: Folder>(
+    folder: &mut D,
+    name: &'a str,
+) -> Result<StoreHeader, Refusal<'a>>
+    ensures header { Reads (StoreInput name.now) (λ header. StoreContent header.geometry header.depth)
+        (passage D.Folder folder.old folder.new) result }
+    ensures depth { IfOk result (λ header. IsDepth header.depth) }
 {
     let file = folder.open(name)?;
-    let visit = geometry_in(name, file);
+    let visit = store_header_in(name, file);
     folder.close(visit.0);
     visit.1
 }
 
-// The geometry in an open file, and the file.
-fn geometry_in<F: File>(name: &str, file: F) -> (F, Result<Geometry, Refusal<'_>>)
-    ensures finds { Finds (StoreInput name.now) StoreContent (visit F.File file result.0) result.1 }
+// The header of a store in an open file, and the file.
+fn store_header_in<F: File>(name: &str, file: F) -> (F, Result<StoreHeader, Refusal<'_>>)
+    ensures finds { Finds (StoreInput name.now) (λ header. StoreContent header.geometry header.depth) (visit F.File file result.0) result.1 }
     ensures visits { Visits AsksHeader (visit F.File file result.0) }
+    ensures depth { IfOk result.1 (λ header. IsDepth header.depth) }
 {
     match Store::open(file) {
         Ok(store) => {
-            let geometry = store.geometry();
-            (store.into_file(), Ok(geometry))
+            let header = StoreHeader {
+                geometry: store.geometry(),
+                depth: store.depth(),
+            };
+            (store.into_file(), Ok(header))
         }
         Err((file, error)) => (file, Err(refusal_of(name, flaw_of_store(error)))),
     }

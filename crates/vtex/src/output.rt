@@ -1,6 +1,7 @@
 //! Writing what the commands make.
 
 ghost use Rattle.std.specs.Prelude.{◌≡◌, ◌+◌, ◌≤◌, ◌++◌, [], ◌∷◌, length};
+ghost use Rattle.vt_definitions.specs.Depths.{IsDepth};
 ghost use Rattle.vt_text.specs.Numbers.{number_spelling};
 ghost use Rattle.vtex.specs.Courses.{passage, gain};
 ghost use Rattle.vtex.specs.Dues.{Writes, Puts};
@@ -9,7 +10,7 @@ ghost use Rattle.vtex.specs.Lines.{end_line, store_line};
 use vt_outside::{Folder, OutsideError, Sink};
 use vt_pages::Geometry;
 use vt_print::{LINE_ROOM, Line, put_pieces};
-use vt_store::store_length;
+use vt_store::{StoreError, store_length};
 
 /// Makes the name hold these bytes, by one creation and one append.
 pub fn write_file<D: Folder>(folder: &mut D, name: &str, bytes: &[u8]) -> Result<(), OutsideError>
@@ -17,6 +18,16 @@ pub fn write_file<D: Folder>(folder: &mut D, name: &str, bytes: &[u8]) -> Result
 {
     folder.create(name)?;
     folder.append(name, bytes)
+}
+
+/// What the outside refused, of a refusal of a call that writes a store.
+pub fn outside_error(error: StoreError) -> OutsideError
+    ensures { result ≡ OutsideError.Failed → error ≡ StoreError.Failed }
+{
+    match error {
+        StoreError::Failed => OutsideError::Failed,
+        _ => OutsideError::NoMemory,
+    }
 }
 
 /// Puts the line that ends a command which wrote pictures, in pieces: how many it wrote.
@@ -35,18 +46,24 @@ pub fn put_end<O: Sink>(out: &mut O, pictures: u32) -> Result<(), OutsideError>
     )
 }
 
-/// Puts the line of a store.
-pub fn put_store_line<O: Sink>(out: &mut O, geometry: &Geometry) -> Result<(), OutsideError>
-    ensures { Puts (store_line geometry.now) (gain O.Sink out.old out.new) result }
+/// Puts the line of a store of samples of `depth` bytes, 1 or 2.
+pub fn put_store_line<O: Sink>(
+    out: &mut O,
+    geometry: &Geometry,
+    depth: u32,
+) -> Result<(), OutsideError>
+    requires { IsDepth depth }
+    ensures { Puts (store_line geometry.now depth) (gain O.Sink out.old out.new) result }
 {
-    let line = line_of_store(geometry);
+    let line = line_of_store(geometry, depth);
     out.put(line.bytes())
 }
 
-// The line of a store.
+// The line of a store of samples of `depth` bytes.
 #[tactic(auto, unfolding(crate::specs::Lines::store_line))]
-fn line_of_store(geometry: &Geometry) -> Line
-    ensures { result ≡ store_line geometry.now }
+fn line_of_store(geometry: &Geometry, depth: u32) -> Line
+    requires { IsDepth depth }
+    ensures { result ≡ store_line geometry.now depth }
 {
     let mut line = Line::new();
     add(&mut line, b"store ", geometry.width() as u64);
@@ -54,7 +71,7 @@ fn line_of_store(geometry: &Geometry) -> Line
     add(&mut line, b" tile ", geometry.tile() as u64);
     add(&mut line, b" levels ", geometry.levels() as u64);
     add(&mut line, b" pages ", geometry.page_count() as u64);
-    add(&mut line, b" bytes ", store_length(geometry));
+    add(&mut line, b" bytes ", store_length(geometry, depth));
     line.words(b"\n");
     line
 }

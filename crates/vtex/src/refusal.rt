@@ -75,7 +75,7 @@ impl Refusal<'_> {
             Refusal::NoMemory => tell_words(err, b"vtex: out of memory\n"),
             Refusal::Usage => tell_words(
                 err,
-                b"vtex: usage: vtex COMMAND ARGUMENTS (plain, tile, info, walk, replay, gen, trial)\n",
+                b"vtex: usage: vtex COMMAND ARGUMENTS (plain, tile, info, walk, replay, gen, trial, upgrade)\n",
             ),
             Refusal::Fault => tell_words(err, b"vtex: fault on files or output\n"),
             Refusal::Flawed(name, flaw) => tell_bad_input(err, name, &flaw.place()),

@@ -18,7 +18,8 @@ use vt_outside::{Folder, Gate, Sink};
 /// of memory, 2 for words that are those of no command, 3 for a fault or a missing name, 4 for an input outside its format.
 ///
 /// `plain` reads the path and then the texture, and writes the plain picture of each camera; `tile` reads a texture and writes
-/// its tile store; `info` tells what a tile store's header says; `gen` writes the texture of a number.
+/// its tile store; `info` tells what a tile store's header says; `gen` writes the texture of a number; `upgrade` reads a tile
+/// store of one-byte samples and writes the one of two-byte samples that it makes.
 pub fn run<Rt: Threads + Wait + Sync, D: Folder, O: Sink, E: Sink, G: Gate + Sync>(
     _rt: &Rt,
     alloc: Global,

@@ -1,6 +1,7 @@
 // Runs over a folder in memory: those of `plain`, and what all tests share.
 mod generate;
 mod stores;
+mod textures;
 
 use crate::run::run;
 use std::alloc::{AllocError, Global};
@@ -26,7 +27,7 @@ const WORDS: [&str; 6] = ["plain", "g4.ppm", "a.path", "f", "--tile", "2"];
 const END: &[u8] = b"end pictures 1\n";
 
 const USAGE: &[u8] =
-    b"vtex: usage: vtex COMMAND ARGUMENTS (plain, tile, info, walk, replay, gen, trial)\n";
+    b"vtex: usage: vtex COMMAND ARGUMENTS (plain, tile, info, walk, replay, gen, trial, upgrade)\n";
 
 const FAULT: &[u8] = b"vtex: fault on files or output\n";
 
@@ -198,61 +199,6 @@ fn a_row_is_drawn_at_its_own_level(rt: HostRuntime) {
     );
     let just_lower = b"size 2 1\nfocal 1\nat 0 0 511 16384 0\n";
     assert!(rt; draws(&rt, rt.alloc(), just_lower, PICTURE));
-}
-
-#[test]
-fn a_flawed_texture_is_told_with_its_place(rt: HostRuntime) {
-    let alloc = rt.alloc();
-    // Each fault of a texture, with its place.
-    for (texture, line) in [
-        (
-            b"".as_slice(),
-            b"vtex: bad input: g4.ppm: bad magic\n".as_slice(),
-        ),
-        (
-            b"P6 1 1 255#",
-            b"vtex: bad input: g4.ppm: bad header at byte 10\n",
-        ),
-        (b"P6 0 1 255\n", b"vtex: bad input: g4.ppm: bad size\n"),
-        (b"P6 1 1 0\n", b"vtex: bad input: g4.ppm: bad maximum\n"),
-        (b"P6 1 1 256\n", b"vtex: bad input: g4.ppm: wide samples\n"),
-        (
-            &G4[..G4.len() - 1],
-            b"vtex: bad input: g4.ppm: raster of 47 bytes, wanted 48\n",
-        ),
-        (
-            b"P6 1 1 100\n\x01\x65\x00",
-            b"vtex: bad input: g4.ppm: sample over maximum at byte 12\n",
-        ),
-    ] {
-        assert!(rt; refuses(&rt, alloc, texture, PATH, line));
-    }
-    // The path is read first.
-    assert!(rt;
-        refuses(
-            &rt,
-            alloc,
-            b"",
-            b"",
-            b"vtex: bad input: a.path: bad line 1\n"
-        )
-    );
-}
-
-#[test]
-fn a_texture_is_scaled_by_its_maximum(rt: HostRuntime) {
-    // The first picture's texture with 100 as its maximum: 13 becomes 33, and 1 becomes 3.
-    let texture =
-        *b"P6\n4 4\n100\n\x00\x00\x00\x01\x01\x01\x02\x02\x02\x03\x03\x03\x04\x04\x04\x05\x05\x05\x06\x06\
-            \x06\x07\x07\x07\x08\x08\x08\x09\x09\x09\x0a\x0a\x0a\x0b\x0b\x0b\x0c\x0c\x0c\x0d\x0d\x0d\x0e\x0e\
-            \x0e\x0f\x0f\x0f";
-    match play(&rt, rt.alloc(), &WORDS, &texture, PATH, None, None) {
-        Ok(left) => {
-            assert_eq!(rt; left.status, 0);
-            assert!(rt; left.holds("f0000.ppm", b"P6\n2 1\n255\n\x21\x21\x21\x03\x03\x03"));
-        }
-        Err(_) => assert!(rt; false, "there is memory"),
-    }
 }
 
 #[test]

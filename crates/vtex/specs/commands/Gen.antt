@@ -22,7 +22,7 @@ made_rows number width rows = flat_map (λ y. made_row number y width) (range_wi
 
 -- the texture's file (the Netpbm manual's P6 page)
 abbrev pub made_file : ℕ → ℕ → ℕ → List ℕ
-made_file number width height = picture_bytes width height (made_rows number width height)
+made_file number width height = picture_bytes 1 width height (made_rows number width height)
 
 -- the one file that `gen` writes
 abbrev pub file_due : GenText → FileDue

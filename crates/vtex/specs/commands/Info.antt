@@ -8,7 +8,7 @@ use Rattle.vtex.specs.Tasks.{Task}
 
 -- the store's line alone
 abbrev pub info_due : List Content → Due
-info_due (StoreContent shape ∷ []) = record { files = []; text = store_line shape }
+info_due (StoreContent shape depth ∷ []) = record { files = []; text = store_line shape depth }
 info_due other = record { files = []; text = [] }
 
 -- `info` reads a store

@@ -24,7 +24,7 @@ store_file = texture_store
 abbrev pub store_due : List ℕ → ImageView → ℕ → Due
 store_due name texture tile = record {
   files = (record { name = name; bytes = store_file texture tile }) ∷ [];
-  text = store_line (texture_shape texture tile);
+  text = store_line (texture_shape texture tile) texture.depth;
 }
 
 abbrev pub tile_due : TileText → List Content → Due

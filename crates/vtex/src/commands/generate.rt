@@ -13,6 +13,9 @@ use std::alloc::{AllocError, Global};
 use vt_outside::{Folder, OutsideError};
 use vt_words::GenWords;
 
+// The greatest sample of a texture that is made.
+const GREATEST: u32 = 255;
+
 /// Writes the texture of a number under its name. It has no output.
 pub fn generate<'a, D: Folder>(
     alloc: Global,
@@ -49,9 +52,9 @@ fn write_texture<D: Folder>(
 
 // The bytes of a picture before its samples.
 fn header_of(alloc: Global, width: u32, height: u32) -> Result<Vec<u8>, AllocError>
-    ensures { IfOk result (λ header. header.items ≡ codes "P6\n" ++ decimal width ++ codes " " ++ decimal height ++ codes "\n255\n") }
+    ensures { IfOk result (λ header. header.items ≡ codes "P6\n" ++ decimal width ++ codes " " ++ decimal height ++ codes "\n" ++ decimal 255 ++ codes "\n") }
 {
-    Ok(format!(in alloc; "P6\n{width} {height}\n255\n")?.into_bytes())
+    Ok(format!(in alloc; "P6\n{width} {height}\n{GREATEST}\n")?.into_bytes())
 }
 
 // Writes the samples of a row of so many texels.

@@ -6,7 +6,7 @@ ghost use Rattle.vt_words.specs.Info.{shown_info};
 ghost use Rattle.vtex.specs.Tasks.{Ends};
 ghost use Rattle.vtex.specs.commands.Info.{info_task};
 
-use crate::input::read_geometry;
+use crate::input::read_store_header;
 use crate::output::put_store_line;
 use crate::refusal::Refusal;
 use vt_outside::{Folder, Sink};
@@ -20,7 +20,7 @@ pub fn info<'a, D: Folder, O: Sink>(
 ) -> Result<(), Refusal<'a>>
     ensures { Ends (info_task (shown_info words.now)) (course D.Folder O.Sink folder.old folder.new out.old out.new) result }
 {
-    let geometry = read_geometry(folder, words.store)?;
-    put_store_line(out, &geometry)?;
+    let header = read_store_header(folder, words.store)?;
+    put_store_line(out, &header.geometry, header.depth)?;
     Ok(())
 }

@@ -1,8 +1,10 @@
 //! The command `plain`: the plain picture of each camera of a path over a texture.
 
-ghost use Rattle.std.specs.Prelude.{◌≡◌, ◌<◌, [], ◌∷◌, length, IfOk};
+ghost use Rattle.std.specs.Prelude.{◌≡◌, ◌*◌, ◌<◌, [], ◌∷◌, length, IfOk};
+ghost use Rattle.vt_definitions.specs.Depths.{IsDepth, texel_length};
 ghost use Rattle.vt_definitions.specs.Tiles.{IsTileSide};
 ghost use Rattle.vtex.specs.Courses.{course, passage};
+ghost use Rattle.vt_ppm.specs.Picture.{picture_bytes};
 ghost use Rattle.vt_words.specs.Plain.{shown_plain};
 ghost use Rattle.vtex.specs.Pictures.{plain_file};
 ghost use Rattle.vtex.specs.Dues.{Leaves, Writes};
@@ -16,8 +18,8 @@ use std::alloc::Global;
 use vt_camera::Path;
 use vt_draw::draw_plain;
 use vt_mip::Chain;
-use vt_outside::{Folder, OutsideError, Sink};
-use vt_ppm::{Image, encode};
+use vt_outside::{Folder, NoMemory, OutsideError, Sink};
+use vt_ppm::{Image, encode, encode_wide};
 use vt_words::{PlainWords, picture_name};
 
 /// Reads the path and then the texture, writes the plain picture of each camera under its name, and puts the end line.
@@ -85,7 +87,26 @@ fn write_picture<D: Folder>(
         (passage D.Folder folder.old folder.new) result }
 {
     let samples = draw_plain(alloc, chain, path, picture)?;
-    let bytes = encode(alloc, path.width(), path.height(), &samples)?;
+    let bytes = encoded(alloc, chain.depth(), path.width(), path.height(), &samples)?;
     let name = picture_name(alloc, prefix, picture)?;
     write_file(folder, name.as_str(), &bytes)
+}
+
+// The bytes of a picture whose samples have `depth` bytes.
+fn encoded(
+    alloc: Global,
+    depth: u32,
+    width: u32,
+    height: u32,
+    samples: &[u8],
+) -> Result<Vec<u8>, NoMemory>
+    requires depth { IsDepth depth }
+    requires full { length samples.now ≡ texel_length depth * (width * height) }
+    ensures { IfOk result (λ bytes. bytes.items ≡ picture_bytes depth width height samples.now) }
+{
+    if depth == 1 {
+        encode(alloc, width, height, samples)
+    } else {
+        encode_wide(alloc, width, height, samples)
+    }
 }

@@ -12,14 +12,14 @@ ghost use Rattle.vtex.specs.commands.Tile.{tile_task, store_due, flaw_of_pages, 
 
 use crate::flaws::Flaw;
 use crate::input::read_texture;
-use crate::output::put_store_line;
+use crate::output::{outside_error, put_store_line};
 use crate::refusal::Refusal;
 use std::alloc::Global;
 use vt_mip::Chain;
 use vt_outside::{Folder, OutsideError, Sink};
 use vt_pages::{Geometry, PagesError};
 use vt_ppm::Image;
-use vt_store::{StoreError, write_store};
+use vt_store::write_store;
 use vt_words::TileWords;
 
 /// Reads the texture, writes the store of its mip chain, and puts the store's line.
@@ -74,8 +74,9 @@ fn leave_store<D: Folder, O: Sink>(
     requires side { IsTileSide geometry.now.tile }
     ensures { Leaves (store_due name.now texture geometry.now.tile) (course D.Folder O.Sink folder.old folder.new out.old out.new) result }
 {
+    let depth = texture.depth();
     write_tiles(alloc, texture, geometry, name, folder)?;
-    put_store_line(out, geometry)
+    put_store_line(out, geometry, depth)
 }
 
 // Makes the name hold the store of the texture's mip chain.
@@ -94,15 +95,5 @@ fn write_tiles<D: Folder>(
     match write_store(alloc, &chain, geometry, folder, name) {
         Ok(()) => Ok(()),
         Err(error) => Err(outside_error(error)),
-    }
-}
-
-// What the outside refused.
-fn outside_error(error: StoreError) -> OutsideError
-    ensures { result ≡ OutsideError.Failed → error ≡ StoreError.Failed }
-{
-    match error {
-        StoreError::Failed => OutsideError::Failed,
-        _ => OutsideError::NoMemory,
     }
 }

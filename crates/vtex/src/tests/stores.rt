@@ -1,4 +1,6 @@
-// Runs of `tile` and `info`.
+// Runs of `tile` and `info`, and what runs of other commands on stores share.
+mod upgrade;
+
 use super::{FAULT, G4, Left, PATH, USAGE, one_fail, play_over};
 use std::alloc::Global;
 use std::sync::Wait;
@@ -114,6 +116,20 @@ fn a_single_texel_fills_its_tile(rt: HostRuntime) {
 }
 
 #[test]
+fn a_store_has_the_depth_of_its_texture(rt: HostRuntime) {
+    assert!(rt;
+        tiles(
+            &rt,
+            rt.alloc(),
+            b"P6 1 1 65535\n\x00\x01\x80\x00\xff\xff",
+            b"VTS2\x00\x00\x00\x01\x00\x00\x00\x01\x00\x00\x00\x02\x00\x01\x80\x00\xff\xff\x00\x01\
+                \x80\x00\xff\xff\x00\x01\x80\x00\xff\xff\x00\x01\x80\x00\xff\xff",
+            b"store 1 1 tile 2 levels 1 pages 1 bytes 40\n"
+        )
+    );
+}
+
+#[test]
 fn a_texture_of_four_by_four_is_tiled(rt: HostRuntime) {
     assert!(rt; tiles(&rt, rt.alloc(), G4, G4_STORE, G4_LINE));
 }
@@ -164,6 +180,8 @@ fn a_flawed_store_is_told_with_its_numbers(rt: HostRuntime) {
     let too_many: &[u8] = b"VTS1\x00\x00\x20\x00\x00\x00\x20\x00\x00\x00\x00\x02\x00\x00\x00";
     let longer: &[u8] =
         b"VTS1\x00\x00\x00\x01\x00\x00\x00\x01\x00\x00\x00\x02\x0a\x14\x1e\x0a\x14\x1e\x0a\x14\x1e\x0a\x14\x1e\x00";
+    let taken_for_wide: &[u8] =
+        b"VTS2\x00\x00\x00\x01\x00\x00\x00\x01\x00\x00\x00\x02\x0a\x14\x1e\x0a\x14\x1e\x0a\x14\x1e\x0a\x14\x1e";
     for (bytes, line) in [
         (
             longer,
@@ -172,6 +190,10 @@ fn a_flawed_store_is_told_with_its_numbers(rt: HostRuntime) {
         (
             &G4_STORE[..75],
             b"vtex: bad input: t.ppm: length 75, wanted 76\n",
+        ),
+        (
+            taken_for_wide,
+            b"vtex: bad input: t.ppm: length 28, wanted 40\n",
         ),
         (tile_of_three, b"vtex: bad input: t.ppm: bad geometry\n"),
         (too_many, b"vtex: bad input: t.ppm: bad geometry\n"),

@@ -12,3 +12,6 @@ returns-in-Info g c = rw c.in-Info.is c.info.ensures
 
 pub returns-in-Gen : goal.returns-in-Gen
 returns-in-Gen g c = rw c.in-Gen.is (c.generate.ensures (sink_state g.O.Sink c.args.out.now))
+
+pub returns-in-Upgrade : goal.returns-in-Upgrade
+returns-in-Upgrade g c = rw c.in-Upgrade.is c.upgrade.ensures

@@ -1,7 +1,8 @@
-use Rattle.std.proofs.Common.{subst}
+use Rattle.std.proofs.Common.{ℕ, subst}
 use Rattle.std.proofs.lemmas.Result.{err_from_is_err_and}
 use Rattle.vt_pages.specs.Shape.{Shape}
 use Rattle.vtex.specs.Courses.{folder_state, sink_state, gain}
+use Rattle.vtex.specs.Inputs.{texture_shape}
 use Rattle.vtex.specs.Lines.{store_line}
 use Rattle.vtex.specs.Dues.{Puts}
 use Rattle.vtex.specs.commands.Tile.{store_due}
@@ -19,5 +20,7 @@ returns g c =
     left_putting (store_due c.args.name.now c.args.texture c.args.geometry.now.tile) (folder_state g.D.Folder c.args.folder.now)
     (folder_state g.D.Folder c.write_tiles.new.folder) (sink_state g.O.Sink c.args.out.now) (sink_state g.O.Sink c.put_store_line.new.out)
     c.put_store_line.result c.in_ok-write_tiles.ensures
-    (subst (λ (shape : Shape). Puts (store_line shape)
-    (gain g.O.Sink c.args.out.now c.put_store_line.new.out) c.put_store_line.result) c.requires.shape c.put_store_line.ensures)
+    (subst (λ (d : ℕ). Puts (store_line (texture_shape c.args.texture c.args.geometry.now.tile) d)
+    (gain g.O.Sink c.args.out.now c.put_store_line.new.out) c.put_store_line.result) c.depth-depth.ensures.value
+    (subst (λ (shape : Shape). Puts (store_line shape c.depth-depth.result)
+    (gain g.O.Sink c.args.out.now c.put_store_line.new.out) c.put_store_line.result) c.requires.shape c.put_store_line.ensures))

@@ -1,12 +1,12 @@
 use Rattle.vtex.specs.Reads.{file_state}
 use Rattle.vtex.proofs.Reading.{store_visited, refusal_visited}
-use Rattle.vtex.proofs.input.geometry_in.Goals as goal
+use Rattle.vtex.proofs.input.store_header_in.Goals as goal
 
 pub returns-in-Ok-clause-visits : goal.returns-in-Ok-clause-visits
 returns-in-Ok-clause-visits g c =
     let e = c.in-Ok.ensures in
     rw c.into_file.ensures (store_visited (file_state g.F.File c.args.file)
-    (file_state g.F.File c.in-Ok.store.file) c.in-Ok.store.shape e.store e.asked e.bytes e.name e.faults)
+    (file_state g.F.File c.in-Ok.store.file) c.in-Ok.store.shape c.in-Ok.store.depth e.store e.asked e.bytes e.name e.faults)
 
 pub returns-in-Err-clause-visits : goal.returns-in-Err-clause-visits
 returns-in-Err-clause-visits g c =

@@ -4,20 +4,20 @@ use Rattle.vtex.specs.Courses.{folder_state}
 use Rattle.vtex.specs.Inputs.{StoreInput, StoreContent}
 use Rattle.vtex.specs.Reads.{visit}
 use Rattle.vtex.proofs.Reading.{closed, not_opened}
-use Rattle.vtex.proofs.input.read_geometry.Goals as goal
+use Rattle.vtex.proofs.input.read_store_header.Goals as goal
 
-pub returns-in_err-file : goal.returns-in_err-file
-returns-in_err-file g c =
+pub returns-in_err-file-clause-header : goal.returns-in_err-file-clause-header
+returns-in_err-file-clause-header g c =
     let p = err_from_is_err_and c.from_residual.result c.from_residual.ensures.1 in
     let opened = c.in_err-file.ensures in
     rw (p.1, p.2) (not_opened (StoreInput c.args.name.now) (folder_state g.D.Folder c.args.folder.now) (folder_state g.D.Folder c.open.new.self)
     c.in_err-file.field-0.0 opened.files opened.asked opened.faults (λ is. opened.failed (ap Err is)))
 
-pub returns : goal.returns
-returns g c =
+pub returns-clause-header : goal.returns-clause-header
+returns-clause-header g c =
     let opened = c.in_ok-file.ensures in
-    closed (StoreInput c.args.name.now) StoreContent (folder_state g.D.Folder c.args.folder.now) (folder_state g.D.Folder c.open.new.self)
-    (folder_state g.D.Folder c.close.new.self) (visit g.D.File.File c.in_ok-file.file c.geometry_in-visit.result.0) c.geometry_in-visit.result.1
+    closed (StoreInput c.args.name.now) (λ header. StoreContent header.geometry header.depth) (folder_state g.D.Folder c.args.folder.now) (folder_state g.D.Folder c.open.new.self)
+    (folder_state g.D.Folder c.close.new.self) (visit g.D.File.File c.in_ok-file.file c.store_header_in-visit.result.0) c.store_header_in-visit.result.1
     (record {
       files = opened.files;
       asked = opened.asked;
@@ -28,6 +28,6 @@ returns g c =
       name = opened.name;
       no_faults = opened.no_faults;
     })
-    c.geometry_in-visit.ensures.visits
-    c.geometry_in-visit.ensures.finds
+    c.store_header_in-visit.ensures.visits
+    c.store_header_in-visit.ensures.finds
     (record { files = c.close.ensures.files; asked = c.close.ensures.asked; kept = c.close.ensures.kept; faults = c.close.ensures.faults })
