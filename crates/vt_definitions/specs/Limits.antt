@@ -29,6 +29,14 @@ most_frame_texels = 8388608
 abbrev pub most_samplers : ℕ
 most_samplers = 64
 
+-- the largest number of loaders
+abbrev pub most_loaders : ℕ
+most_loaders = 16
+
+-- the largest number of entries of a batch
+abbrev pub most_entries : ℕ
+most_entries = 4096
+
 -- the greatest version of a page table
 abbrev pub most_versions : ℕ
 most_versions = 4611686018427387904

@@ -1,4 +1,3 @@
-pub mod Limits
 pub mod PassViews
 pub mod Orders
 pub mod Steps

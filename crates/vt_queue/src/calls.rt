@@ -1,5 +1,5 @@
 ghost use Rattle.std.specs.Prelude.{◌≡◌, ◌+◌, ◌-◌, ◌/◌, ◌≤◌, [], List, IfOk, IfErr, OnErr, IfSome, IfNone, OnOk};
-ghost use Rattle.vt_queue.specs.Limits.{most_items};
+ghost use Rattle.vt_definitions.specs.Limits.{most_entries};
 ghost use Rattle.vt_queue.specs.PassViews.{first_view, joined, Splits, all_shares, split_part};
 ghost use Rattle.vt_queue.specs.Steps.{Puts, Takes, IsAtStep};
 ghost use Rattle.vt_queue.specs.Queues.{view_of, splits_of, IsOf, capacity_of, WasFull};
@@ -27,7 +27,7 @@ pub struct Full<I> {
 impl<I> Queue<I> {
     /// An empty queue with room for `capacity` items, from 1 to 4,096, and its one pass.
     pub fn new(alloc: Global, capacity: u32) -> Result<(Queue<I>, QueuePass<I>), NoMemory>
-        requires { (1 ≤ capacity) × (capacity ≤ most_items) }
+        requires { (1 ≤ capacity) × (capacity ≤ most_entries) }
         ensures of { IfOk result (λ made. IsOf made.0 made.1) }
         ensures capacity { IfOk result (λ made. capacity_of made.0 ≡ capacity) }
         ensures view { IfOk result (λ made. view_of made.1 ≡ first_view) }
@@ -89,7 +89,7 @@ impl<I> Queue<I> {
 
     /// Puts an item at the end. It is refused only if there was a step of the call at which every place was taken; the item
     /// then comes back in `Full`.
-    pub fn put<Rt: Threads + Wait + Sync>(
+    pub fn put<Rt: Threads + Wait>(
         &self,
         rt: &Rt,
         pass: &mut QueuePass<I>,
@@ -109,7 +109,7 @@ impl<I> Queue<I> {
     }
 
     /// Takes the first item. It answers `None` only if there was a step of the call at which the queue had no item.
-    pub fn take<Rt: Threads + Wait + Sync>(&self, rt: &Rt, pass: &mut QueuePass<I>) -> Option<I>
+    pub fn take<Rt: Threads + Wait>(&self, rt: &Rt, pass: &mut QueuePass<I>) -> Option<I>
         requires { IsOf self.now pass.old }
         ensures of { IsOf self.now pass.new × (splits_of pass.new ≡ splits_of pass.old) }
         ensures takes { IfSome result (λ item. Takes (view_of pass.old) item (view_of pass.new)) }

@@ -1,6 +1,6 @@
 ghost use Rattle.std.specs.Prelude.{◌≤◌};
 ghost use Rattle.crossbeam_queue.specs.Passes.{ruled_capacity};
-ghost use Rattle.vt_queue.specs.Limits.{most_items};
+ghost use Rattle.vt_definitions.specs.Limits.{most_entries};
 
 use crate::views::PassView;
 use crossbeam_queue::protocol::{Join, Lesson, Outcome, Protocol, Split};
@@ -10,7 +10,7 @@ use crossbeam_queue::{Pass, RuledArrayQueue};
 #[derive(Drop)]
 pub struct Queue<I> {
     pub(crate) ring: RuledArrayQueue<I, PassView<I>, OneOrder>,
-    ghost sized: { ruled_capacity ring ≤ most_items },
+    ghost sized: { ruled_capacity ring ≤ most_entries },
 }
 
 /// What one thread knows of a queue, and its leave to put and take.
