@@ -1,18 +1,19 @@
 -- The rows of samplers, and how many of their pixels want a page.
-use Rattle.std.proofs.Common.{◌≡◌, ◌≢◌, ℕ, zero, suc, ◌+◌, ◌-◌, ◌*◌, ◌/◌, ◌%◌, ◌≤◌, ◌<◌, inl, inr, Bool, true, false, cond, List, [], ◌∷◌, ◌++◌, length, refl, sym, ap, ◌∙◌, arith, add-zero, eq-eqb}
-use Rattle.std.specs.Prelude.{◌==◌, sum_by, filter}
+use Rattle.std.proofs.Common.{◌≡◌, ◌≢◌, ℕ, zero, suc, ◌+◌, ◌-◌, ◌*◌, ◌/◌, ◌%◌, ◌≤◌, ◌<◌, inl, inr, Bool, true, false, cond, List, [], ◌∷◌, ◌++◌, length, drop, refl, sym, ap, ◌∙◌, arith, add-zero, eq-eqb}
+use Rattle.std.specs.Prelude.{◌==◌, ◌^◌, sum_by, filter}
 use Rattle.std.specs.List.{range_with_len}
 use Rattle.std.proofs.lemmas.Bool.{cases_lt}
 use Rattle.std.proofs.lemmas.Bool.Decides.{nat_tests}
 use Rattle.std.proofs.lemmas.Nat.{div-add-mod', mod_below, mul-le}
-use Rattle.std.proofs.lemmas.List.{append-nil, length-append}
+use Rattle.std.proofs.lemmas.List.{append-nil, length-append, length-drop, length-take-le}
+use Rattle.std.proofs.lemmas.List.FromFn.{length-range_with_len}
 use Rattle.std.proofs.lemmas.List.Elements.{filter-append}
 use Rattle.std.proofs.lemmas.List.Sums.{sum_by-cons, sum_by_push}
 use Rattle.vt_pages.specs.Shape.{Shape}
-use Rattle.vt_camera.specs.Paths.{PathView}
+use Rattle.vt_camera.specs.Paths.{PathView, ArePictureSides}
 use Rattle.vt_draw.specs.Shots.{shot_row, pixels_wanting}
 use Rattle.vt_draw.proofs.Counts.{pixels-most}
-use Rattle.vt_sampler.specs.Samplers.{own_rows, own_count, pixels_in_rows}
+use Rattle.vt_sampler.specs.Samplers.{own_rows, own_count, pixels_in_rows, row_in}
 use Rattle.vt_sampler.proofs.Quotients.{apart, quotient_from, rest_small}
 
 range_more : (a n : ℕ) → range_with_len a (suc n) ≡ range_with_len a n ++ (a + n) ∷ []
@@ -74,6 +75,15 @@ pub own_room : (k n h line y at room : ℕ) → k < n → y < h → y % n ≡ k 
     → at + line ≤ room
 own_room k n h line y at room one inside own place all =
     omega (arith, mul-le (y / n + 1) line (own_count k n h) line (own_fits k n h y one inside own) (omega arith))
+
+-- so each of its rows is there in full
+pub own_full : (k n h line y : ℕ) (bytes : List ℕ) → k < n → y < h → y % n ≡ k → length bytes ≡ own_count k n h * line
+    → length (row_in n line bytes y) ≡ line
+own_full k n h line y bytes one inside own all =
+    let at : ℕ = y / n * line in
+    let room = own_room k n h line y at (length bytes) one inside own refl all in
+    let rest = length-drop at bytes in
+    length-take-le (at + line - at) (drop at bytes) (omega (arith, room, rest)) ∙ omega arith
 
 length-own_rows : (k n h : ℕ) → length (own_rows k n h) ≤ h
 length-own_rows k n zero = let e : length (own_rows k n 0) ≡ 0 = ap length (own_rows-none k n) in omega arith
@@ -207,3 +217,17 @@ rows_shared s path picture n (suc h) p some =
       sum-picked (h % n) (pixels_wanting s (shot_row s path picture h) path.width p) 0 n (omega arith) (omega (arith, mod_below h n some)),
       all_more s path picture p h,
     )
+
+-- a picture has fewer pixels than a count can hold
+pub pixels_few : (s : Shape) (path : PathView) (picture p : ℕ) → ArePictureSides path.width path.height
+    → pixels_in_rows s path picture (range_with_len 0 path.height) p < 2 ^ 32
+pixels_few s path picture p sides =
+    let most = rows_most s path picture p (range_with_len 0 path.height) in
+    let all = ap (λ n. n * path.width) (length-range_with_len 0 path.height) in
+    omega (arith, most, all, mul-le path.height path.width 2048 2048 sides.height_high sides.width_high)
+
+-- and so its samplers count no page more often together
+pub few_together : (s : Shape) (path : PathView) (picture n p : ℕ) → 1 ≤ n → ArePictureSides path.width path.height
+    → sum_by (λ k. pixels_in_rows s path picture (own_rows k n path.height) p) (range_with_len 0 n) < 2 ^ 32
+few_together s path picture n p some sides =
+    omega (arith, rows_shared s path picture n path.height p some, pixels_few s path picture p sides)

@@ -6,7 +6,7 @@ mod lookup;
 mod rows;
 mod sampler;
 
-pub use laws::samplers_share_the_rows;
+pub use laws::{samplers_count_few, samplers_share_the_rows};
 pub use lookup::StillLookup;
 pub use sampler::Sampler;
 

@@ -1,8 +1,9 @@
 //! The look-up over a page table that changes only between draws.
 
-ghost use Rattle.std.specs.Prelude.{◌≡◌, ℕ, ◌+◌, ◌-◌, ◌*◌, ◌%◌, ◌<◌, ◌≤◌, ◌^◌, bit_and, length};
+ghost use Rattle.std.specs.Prelude.{◌≡◌, ℕ, ◌+◌, ◌-◌, ◌*◌, ◌%◌, ◌<◌, ◌≤◌, ◌^◌, Some, None, bit_and, length, IfSome, IfNone};
 ghost use Rattle.vt_pages.specs.Shape.{Shape, tile_exponent};
-ghost use Rattle.vt_pages.specs.Pages.{pages_of, IsWithinLimits};
+ghost use Rattle.vt_pages.specs.Pages.{pages_of, index_of, IsPage, IsWithinLimits};
+ghost use Rattle.vt_journal.specs.Changes.{newest};
 ghost use Rattle.vt_draw.specs.Lookups.{IsFinest, place_in_tile};
 ghost use Rattle.vt_table.specs.Views.{TableView};
 ghost use Rattle.vt_sampler.specs.Notes.{IsTrueOf, MapsRoot};
@@ -55,6 +56,25 @@ fn place_of(geometry: &Geometry, x: u32, y: u32) -> u32
     (y & mask) * side + (x & mask)
 }
 
+// The page with a name and its frame, if a table maps it.
+#[inline]
+fn found_at(table: &StillTable, geometry: &Geometry, name: &PageName) -> Option<Found>
+    requires shape { table.now.shape ≡ geometry.now }
+    requires name { IsPage geometry.now name.now }
+    ensures none { IfNone result (newest table.now.changes (index_of geometry.now name.now) ≡ None) }
+    ensures page { IfSome result (λ found. found.page ≡ index_of geometry.now name.now) }
+    ensures level { IfSome result (λ found. found.level ≡ name.now.level) }
+    ensures mapped { IfSome result (λ found. newest table.now.changes found.page ≡ Some found.slot) }
+{
+    let page = geometry.index_of(name);
+    let slot = table.frame_of(page)?;
+    Some(Found {
+        page,
+        level: name.level,
+        slot,
+    })
+}
+
 // The finest page that a table maps of a page and its ancestors.
 fn finest_mapped(table: &StillTable, geometry: &Geometry, page: u32) -> Found
     requires shape { table.now.shape ≡ geometry.now }
@@ -66,9 +86,9 @@ fn finest_mapped(table: &StillTable, geometry: &Geometry, page: u32) -> Found
     let mut col = name.col;
     let mut row = name.row;
     for level in name.level..geometry.levels() {
-        let page = geometry.index_of(&PageName { level, col, row });
-        if let Some(slot) = table.frame_of(page) {
-            return Found { page, level, slot };
+        let ancestor = PageName { level, col, row };
+        if let Some(found) = found_at(table, geometry, &ancestor) {
+            return found;
         }
         col /= 2;
         row /= 2;

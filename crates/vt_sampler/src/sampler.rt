@@ -107,6 +107,8 @@ impl Sampler {
             → let row = shot_row shot.now.geometry.now shot.now.path.now shot.now.picture y in
             AreDrawn shot.now.geometry.now shot.now.depth (version_at self.new y) (IsTrueOf table.now) row
             shot.now.path.now.width (row_at self.new y) }
+        ensures full { (y : ℕ) → IsOwn self.new y
+            → length (row_at self.new y) ≡ row_length shot.now.depth shot.now.path.now.width }
         ensures version { (y : ℕ) → IsOwn self.new y → version_at self.new y ≡ length table.now.changes }
         ensures counted { (p : ℕ) → p < length self.new.counts
             → let rows = own_rows self.new.sampler self.new.samplers self.new.height in

@@ -2,14 +2,14 @@ use Rattle.std.proofs.Common.{◌≡◌, ◌/◌, ◌≤◌, ◌<◌, inl, inr, 
 use Rattle.std.specs.Prelude.{IsSome}
 use Rattle.std.proofs.lemmas.Bool.{cases_lt}
 use Rattle.vt_pages.specs.Shape.{Shape}
-use Rattle.vt_pages.specs.Pages.{levels_of, level_of, ancestor_of, root_of}
+use Rattle.vt_pages.specs.Pages.{levels_of, index_of, level_of, ancestor_of, root_of}
 use Rattle.vt_journal.specs.Changes.{newest}
 use Rattle.vt_sampler.specs.Notes.{entry_number}
 use Rattle.vt_sampler.proofs.Climbing.{half_more, ancestor_named, ancestor_index, ancestor_level, some_mapped}
 use Rattle.vt_sampler.proofs.lookup.finest_mapped.Goals as goal
 
-pub index_of-page-requires : goal.index_of-page-requires
-index_of-page-requires c =
+pub found_at-requires-clause-name : goal.found_at-requires-clause-name
+found_at-requires-clause-name c =
     let named = c.page_at-name.ensures in
     ancestor_named c.args.geometry.now c.args.page c.loop-level.level c.loop-level.col c.loop-level.row named.limits c.requires.page
     (omega (arith, named.level)) (omega arith) c.loop-level.invariant.col c.loop-level.invariant.row
@@ -17,20 +17,22 @@ index_of-page-requires c =
 pub returns-in-Some : goal.returns-in-Some
 returns-in-Some c =
     let named = c.page_at-name.ensures in
+    let found = c.in-Some.ensures in
     let from : level_of c.args.geometry.now c.args.page ≤ c.loop-level.level = omega (arith, named.level) in
     let within : c.loop-level.level < levels_of c.args.geometry.now = omega arith in
-    let page : c.index_of-page.result ≡ ancestor_of c.args.geometry.now c.args.page c.loop-level.level =
-    c.index_of-page.ensures.index
-    ∙ ancestor_index c.args.geometry.now c.args.page c.loop-level.level c.loop-level.col c.loop-level.row from within
+    let page : index_of c.args.geometry.now (record { level = c.loop-level.level; col = c.loop-level.col; row = c.loop-level.row })
+    ≡ ancestor_of c.args.geometry.now c.args.page c.loop-level.level =
+    ancestor_index c.args.geometry.now c.args.page c.loop-level.level c.loop-level.col c.loop-level.row from within
     c.loop-level.invariant.col c.loop-level.invariant.row in
     record {
-      no_finer = from;
-      level_inside = within;
-      page = page;
-      level = sym (ap (level_of c.args.geometry.now) page
+      no_finer = omega (arith, from, found.level);
+      level_inside = omega (arith, within, found.level);
+      page = found.page ∙ page ∙ ap (ancestor_of c.args.geometry.now c.args.page) (sym found.level);
+      level = found.level
+          ∙ sym (ap (level_of c.args.geometry.now) (found.page ∙ page)
           ∙ ancestor_level c.args.geometry.now c.args.page c.loop-level.level named.limits c.requires.page from within);
-      unmapped = λ k low high. (refl, sym (ap entry_number (c.loop-level.invariant.unmapped k low high)));
-      mapped = (refl, ap entry_number c.in-Some.ensures.frame);
+      unmapped = λ k low high. (refl, sym (ap entry_number (c.loop-level.invariant.unmapped k low (omega (arith, high, found.level)))));
+      mapped = (refl, sym (ap entry_number found.mapped));
     }
 
 pub loop-level-preserved : goal.loop-level-preserved
@@ -38,9 +40,9 @@ loop-level-preserved c =
     let named = c.page_at-name.ensures in
     let from : level_of c.args.geometry.now c.args.page ≤ c.loop-level.level = omega (arith, named.level) in
     let within : c.loop-level.level < levels_of c.args.geometry.now = omega arith in
-    let page : c.index_of-page.result ≡ ancestor_of c.args.geometry.now c.args.page c.loop-level.level =
-    c.index_of-page.ensures.index
-    ∙ ancestor_index c.args.geometry.now c.args.page c.loop-level.level c.loop-level.col c.loop-level.row from within
+    let page : index_of c.args.geometry.now (record { level = c.loop-level.level; col = c.loop-level.col; row = c.loop-level.row })
+    ≡ ancestor_of c.args.geometry.now c.args.page c.loop-level.level =
+    ancestor_index c.args.geometry.now c.args.page c.loop-level.level c.loop-level.col c.loop-level.row from within
     c.loop-level.invariant.col c.loop-level.invariant.row in
     record {
       col = ap (λ n. n / 2) c.loop-level.invariant.col ∙ half_more _ _ c.loop-level.level from;
@@ -51,7 +53,7 @@ loop-level-preserved c =
             | inr last ↦
                 let same : k ≡ c.loop-level.level = omega arith in
                 ap (λ i. newest c.args.table.now.changes (ancestor_of c.args.geometry.now c.args.page i)) same
-                ∙ ap (newest c.args.table.now.changes) (sym page) ∙ sym c.in_default.ensures.frame
+                ∙ ap (newest c.args.table.now.changes) (sym page) ∙ c.in_default.ensures.none
           ];
     }
 
