@@ -1,0 +1,4 @@
+pub mod Loading
+pub mod Answering
+pub mod Dealing
+pub mod Gathering
