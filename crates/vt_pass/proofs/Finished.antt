@@ -1,33 +1,26 @@
 -- What a pass over a still table leaves, once its batch was streamed: its outcome, its reads, its stores and its rows' lines.
-use Rattle.std.proofs.Common.{◌≡◌, ℕ, zero, suc, ◌+◌, ◌%◌, ◌≤◌, Bool, true, List, [], ◌∷◌, ◌++◌, length, take, get_or, map, Option, Some, refl, sym, ap, ◌∙◌, subst, arith}
+use Rattle.std.proofs.Common.{◌≡◌, ℕ, zero, suc, ◌+◌, ◌%◌, ◌≤◌, true, List, [], ◌∷◌, ◌++◌, length, map, Option, Some, refl, sym, ap, ◌∙◌, subst, arith}
 use Rattle.std.specs.Prelude.{slice_get, slice_index, sum_by}
 use Rattle.std.specs.List.{range_with_len}
-use Rattle.std.proofs.lemmas.List.{take_all}
 use Rattle.std.proofs.lemmas.List.FromFn.{length-map-range_with_len}
-use Rattle.std.proofs.lemmas.List.Sorted.{IsPermutation-refl}
 use Rattle.std.proofs.lemmas.Nat.{mod_below}
 use Rattle.std.proofs.lemmas.Option.{none-some, same_Some}
 use Rattle.vt_outside.specs.declared.outside.File.{Ghosts as FileMeanings}
 use Rattle.vt_definitions.specs.Limits.{most_samplers}
 use Rattle.vt_pages.specs.Shape.{Shape}
-use Rattle.vt_journal.specs.declared.changes.Event.{Event}
 use Rattle.vt_journal.specs.declared.changes.RowLine.{RowLine}
-use Rattle.vt_store.specs.StoreViews.{StoreView, IsStore}
+use Rattle.vt_store.specs.StoreViews.{IsStore}
 use Rattle.vt_table.specs.Views.{TableView}
-use Rattle.vt_evict.specs.declared.batches.Planned.{Planned}
-use Rattle.vt_pass.specs.Outcomes.{IsOutcome}
 use Rattle.vt_pass.specs.RowOrders.{AreRowsInOrder}
-use Rattle.vt_pass.specs.Requests.{AreReadFor}
-use Rattle.vt_pass.specs.Machines.{files_of, told_by, AreStoresFor}
-use Rattle.vt_pass.specs.Streams.{depth_by, AreStreamed}
+use Rattle.vt_pass.specs.Machines.{told_by}
 use Rattle.vt_pass.specs.Kits.{KitView, kit_setup, IsIdleKit, lines_at, counted_together}
 use Rattle.vt_pass.specs.StillMachines.{WasDrawn, still_shows}
 use Rattle.vt_pass.specs.StillTasks.{HasDrawn}
 use Rattle.vt_pass.specs.Scenes.{Job}
 use Rattle.vt_pass.specs.Passes.{IsJobFor}
-use Rattle.vt_pass.specs.Replays.{HasPixels}
-use Rattle.vt_pass.specs.Frames.{HoldsTiles}
-use Rattle.vt_pass.proofs.Served.{drawn_as_replayed}
+use Rattle.vt_shown.specs.Replays.{HasPixels}
+use Rattle.vt_shown.specs.Frames.{HoldsTiles}
+use Rattle.vt_shown.proofs.Served.{drawn_as_replayed}
 use Rattle.vt_definitions.specs.Depths.{texel_bytes}
 use Rattle.vt_draw.specs.Shots.{shot_row, IsDrawn, AreDrawn}
 use Rattle.vt_sampler.specs.Notes.{IsTrueOf}
@@ -94,37 +87,6 @@ counted_is_wanted s path i samplers p tasks some number each =
     (λ n task at. let m : n ≡ 0 + n = omega arith in each n task at ∙ ap (λ k. pixels_in_rows s path i (own_rows k samplers path.height) p) m)
     ∙ ap (λ n. sum_by (λ k. pixels_in_rows s path i (own_rows k samplers path.height) p) (range_with_len 0 n)) number
     ∙ rows_shared s path i samplers path.height p some
-
-module _ {F : Type 0} (g : FileMeanings F) (batch : List Planned) (first : List (StoreView F)) (start : TableView) (v : TableView) (stores : List (StoreView F))
-    (events : List Event) (losses : List Bool) (s : AreStreamed g batch first start (length batch) v stores events losses) where
-  -- the events are those of the whole batch, in its order
-  pub streamed_outcome : IsOutcome batch losses events
-  streamed_outcome = record { told = s.told_of_each; order = range_with_len 0 (length batch); each_once = IsPermutation-refl _; groups = s.events_are }
-
-  -- the whole batch was read
-  pub streamed_read : (shape : Shape) (d : ℕ) → start.shape ≡ shape → depth_by first ≡ d → AreReadFor shape d batch losses (files_of g first) (files_of g stores)
-  streamed_read shape d same depth =
-      subst (λ (b : List Planned). AreReadFor shape d b losses (files_of g first) (files_of g stores)) (take_all (length batch) batch (omega arith))
-      (subst (λ (x : Shape × ℕ). AreReadFor x.0 x.1 (take (length batch) batch) losses (files_of g first) (files_of g stores)) (λ i. (same i, depth i)) s.read)
-
-  -- the stores tell the same bytes
-  pub streamed_told : told_by g stores ≡ told_by g first
-  streamed_told = by_number stores first refl refl s.number where
-    by_number : (now was : List (StoreView F)) → now ≡ stores → was ≡ first → length stores ≡ length first → told_by g now ≡ told_by g was
-    by_number [] [] now_is was_is n = refl
-    by_number [] (y ∷ ys) now_is was_is n = absurd (let e = ap length now_is in let f = ap length was_is in omega (arith, e, f, n))
-    by_number (x ∷ xs) was now_is was_is n =
-        let fed = s.feed 0 x (let e = ap length now_is in omega (arith, e)) in
-        ap (λ (l : List (StoreView F)). g.bytes (get_or l 0 x).file) now_is ∙ fed.told_is ∙ ap (told_by g) (sym was_is)
-
-  -- they are stores for what they were for
-  pub streamed_for : (shape : Shape) (d loaders : ℕ) → start.shape ≡ shape → depth_by first ≡ d → AreStoresFor g shape d loaders first → AreStoresFor g shape d loaders stores
-  streamed_for shape d loaders same depth are = record {
-    count = s.number ∙ are.count;
-    shapes = λ k x inside. (s.feed k x inside).shape ∙ same;
-    depths = λ k x inside. (s.feed k x inside).depth ∙ depth;
-    told = λ k x inside. (s.feed k x inside).told_is ∙ sym streamed_told;
-  }
 
 -- a row that a sampler has drawn over a table was drawn, whatever changes came later
 pub row_was_drawn : {F : Type 0} (g : FileMeanings F) (v : TableView) (k : KitView F) (job : Job) (a b : SamplerView) (y : ℕ) (later : List Change)

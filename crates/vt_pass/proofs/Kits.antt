@@ -17,6 +17,7 @@ use Rattle.vt_journal.specs.Changes.{newest, at}
 use Rattle.vt_pass.specs.Machines.{told_by, AreStoresFor}
 use Rattle.vt_sampler.specs.Notes.{MapsRoot as TableMapsRoot}
 use Rattle.vt_camera.specs.Paths.{PathView}
+use Rattle.vt_load.specs.declared.queued.Queues.{Queues}
 use Rattle.vt_pass.specs.declared.still.tasks.StillSampler.{StillSampler}
 use Rattle.vt_pass.specs.Scenes.{Job}
 use Rattle.vt_pass.specs.All.{AllReady}
@@ -52,10 +53,10 @@ module _ (s : Shape) (d width height samplers : ℕ) where
   pub all_first : (tasks : List StillSampler) → AreFirst samplers tasks → AreSamplersOf s d width height samplers tasks
   all_first tasks h = record { count = h.count; each = h.each }
 
-pub may_draw : {F : Type 0} (g : FileMeanings F) (job : Job) (v : TableView) (k : KitView F) (tasks : List StillSampler) → IsReadyKit g v k job.batch
+pub may_draw : {F : Type 0} (g : FileMeanings F) (job : Job) (v : TableView) (q : Queues) (k : KitView F) (tasks : List StillSampler) → IsReadyKit g v q k job.batch
     → MapsRoot (kit_state g v k) → IsJobFor (kit_setup g v k) job → tasks ≡ k.samplers
     → AllReady (λ task. MayDraw v job task.sampler) tasks
-may_draw g job v k tasks ready root job_is same = subst (AllReady (λ task. MayDraw v job task.sampler)) (sym same)
+may_draw g job v q k tasks ready root job_is same = subst (AllReady (λ task. MayDraw v job task.sampler)) (sym same)
     (λ n d inside. let its = ready.idle.kit.samplers.each n (get_or k.samplers n d) (slice_get-get_or k.samplers n d inside) in record {
       for_it = record {
         width = its.width_is ∙ sym job_is.width;

@@ -5,7 +5,8 @@ use Rattle.std.proofs.Math.Seq.{take-append_seam}
 use Rattle.vt_pass.specs.Scenes.{Job}
 use Rattle.vt_pass.specs.All.{AllDid}
 
-refilled : {W : Type 0} (xs ws : List W) → length ws ≡ length xs → refill (length xs) xs ws ≡ ws
+-- a list whose lent elements are all back
+pub refilled : {W : Type 0} (xs ws : List W) → length ws ≡ length xs → refill (length xs) xs ws ≡ ws
 refilled xs ws e = ap (λ (n : ℕ). take n (ws ++ drop (length ws) xs)) (sym e) ∙ take-append_seam ws (drop (length ws) xs)
 
 pub same_number : {W : Type 0} (xs lent ws : List W) → lent ≡ xs → length ws ≡ length lent → length (refill (length xs) xs ws) ≡ length xs

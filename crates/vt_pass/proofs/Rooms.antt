@@ -10,11 +10,14 @@ use Rattle.vt_pages.specs.Pages.{pages_of}
 use Rattle.vt_camera.specs.Paths.{ArePictureSides}
 use Rattle.vt_journal.specs.Changes.{newest}
 use Rattle.vt_table.specs.Views.{TableView, IsTable}
+use Rattle.vt_store.specs.Format.{tile_length}
 use Rattle.vt_evict.specs.declared.batches.Planned.{Planned}
+use Rattle.vt_load.specs.declared.queued.Queues.{Queues}
+use Rattle.vt_pass.specs.RoundKits.{IsAsked}
 use Rattle.vt_pass.specs.declared.crew.Crew.{Crew}
 use Rattle.vt_pass.specs.Crews.{IsCrew}
 use Rattle.vt_pass.specs.Outcomes.{IsBatchFor}
-use Rattle.vt_pass.specs.Frames.{HoldsTiles}
+use Rattle.vt_shown.specs.Frames.{HoldsTiles}
 use Rattle.vt_pass.specs.Passes.{IsUntouched, IsSpent}
 use Rattle.vt_store.specs.StoreViews.{StoreView, IsStoreIfTold}
 use Rattle.vt_pass.specs.Machines.{file_state, files_of, told_by, AreStoresFor}
@@ -93,8 +96,9 @@ module _ {F : Type 0} (g : FileMeanings F) where
     below k inside = let n = h.number in omega (arith, n, inside)
 
   -- what is idle stays so with more room
-  pub idle_still : (v w : TableView) (k l : KitView F) → w ≡ record v { spare = w.spare } → IsSameKit g k l → IsIdleKit g v k → IsIdleKit g w l
-  idle_still v w k l same h idle =
+  pub idle_still : (v w : TableView) (k l : KitView F) → w ≡ record v { spare = w.spare } → IsSameKit g k l → IsIdleKit g v k
+      → All (λ b. length b.elements ≡ tile_length l.shape l.depth) l.round.buffers.elements → IsIdleKit g w l
+  idle_still v w k l same h idle buffers =
       let t = idle.table in
       let table : IsTable (record v { spare = w.spare }) = record {
         limits = t.limits;
@@ -120,14 +124,41 @@ module _ {F : Type 0} (g : FileMeanings F) where
               (λ i. record k { shape = sym h.shape i; depth = sym h.depth i; width = sym h.width i; height = sym h.height i; crew = sym h.crew i; samplers = sym h.samplers i }) idle.kit.samplers;
           sides = subst (λ (x : ℕ × ℕ). ArePictureSides x.0 x.1) (λ i. (sym h.width i, sym h.height i)) idle.kit.sides;
           counts = ap length h.counts ∙ idle.kit.counts ∙ ap pages_of (sym h.shape);
+          buffers = buffers;
         };
         holds = subst (λ (x : TableView × ℕ × Option (List ℕ)). HoldsTiles x.0 x.1 x.2) (λ i. (sym same i, sym h.depth i, sym (told_same k.stores l.stores h.stores) i)) holds;
       }
 
-  pub ready_with : (v w : TableView) (k l : KitView F) (batch : List Planned) → w ≡ record v { spare = w.spare } → IsSameKit g k l → IsIdleKit g v k
-      → IsBatchFor v.shape v.frames (newest v.changes) batch → 2 * length batch ≤ w.spare → HasRoom g l (length batch) → IsReadyKit g w l batch
-  ready_with v w k l batch same h idle lawful journal room = record {
-    idle = idle_still v w k l same h idle;
+  -- what is the same but for its room stays so with other requests
+  pub same_asked : (k l m : KitView F) → IsSameKit g k l → m ≡ record l { round = m.round } → IsSameKit g k m
+  same_asked k l m h rest = subst (IsSameKit g k) (sym rest) (record {
+    shape = h.shape;
+    depth = h.depth;
+    width = h.width;
+    height = h.height;
+    crew = h.crew;
+    samplers = h.samplers;
+    counts = h.counts;
+    stores = h.stores;
+  })
+
+  -- room stays so
+  pub room_asked : (l m : KitView F) (entries : ℕ) → m ≡ record l { round = m.round } → HasRoom l entries → HasRoom m entries
+  room_asked l m entries rest room = subst (λ (x : KitView F). HasRoom x entries) (sym rest) (record {
+    no_rows = room.no_rows;
+    rows = room.rows;
+    no_events = room.no_events;
+    events = room.events;
+  })
+
+  pub ready_with : (v w : TableView) (q : Queues) (k l : KitView F) (batch : List Planned) → w ≡ record v { spare = w.spare } → IsSameKit g k l → IsIdleKit g v k
+      → IsBatchFor v.shape v.frames (newest v.changes) batch → length batch ≤ k.crew.batch → 2 * length batch ≤ w.spare → HasRoom l (length batch)
+      → All (λ store. l.crew.batch ≤ g.spare store.file) l.stores → IsAsked q l.round l.shape l.depth l.crew batch → IsReadyKit g w q l batch
+  ready_with v w q k l batch same h idle lawful few journal room reads asked = record {
+    idle = idle_still v w k l same h idle asked.places.sizes;
+    few = subst (λ (crew : Crew). length batch ≤ crew.batch) (sym h.crew) few;
+    reads = reads;
+    asked = asked;
     lawful = subst (λ (u : TableView). IsBatchFor u.shape u.frames (newest u.changes) batch) (sym same) lawful;
     journal = journal;
     room = room;

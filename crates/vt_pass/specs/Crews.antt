@@ -1,16 +1,8 @@
 -- How many workers a pass may have, and the limits of what a machine is made for.
 use Rattle.std.specs.Prelude.{ℕ, ◌*◌, ◌≤◌, ◌^◌}
-use Rattle.vt_definitions.specs.Limits.{most_frames, most_frame_texels, most_samplers}
+use Rattle.vt_definitions.specs.Limits.{most_frames, most_frame_texels, most_samplers, most_loaders, most_entries}
 use Rattle.vt_pages.specs.Shape.{Shape}
 use Rattle.vt_pass.specs.declared.crew.Crew.{Crew}
-
--- the largest number of loaders
-abbrev pub most_loaders : ℕ
-most_loaders = 16
-
--- the largest number of entries of a batch
-abbrev pub most_entries : ℕ
-most_entries = 4096
 
 -- the greatest version at which a page is placed or a pass prepared
 abbrev pub last_start : ℕ

@@ -1,5 +1,5 @@
 -- What a pass over a still table is done with, and what holds of it.
-use Rattle.std.specs.Prelude.{◌≡◌, ℕ, ◌*◌, ◌%◌, ◌≤◌, Bool, Option, None, Some, List, [], length, map, slice_get, slice_index, slice_index_or, sum_by, ◌<◌, All}
+use Rattle.std.specs.Prelude.{◌≡◌, ℕ, ◌*◌, ◌%◌, ◌≤◌, Option, None, Some, List, [], length, map, slice_get, slice_index, slice_index_or, sum_by, ◌<◌, All}
 use Rattle.std.specs.List.{range_with_len}
 use Rattle.vt_definitions.specs.Depths.{IsDepth}
 use Rattle.vt_outside.specs.Lists.{ListView}
@@ -19,11 +19,13 @@ use Rattle.vt_pass.specs.declared.crew.Crew.{Crew}
 use Rattle.vt_pass.specs.declared.still.tasks.StillSampler.{StillSampler}
 use Rattle.vt_pass.specs.Crews.{IsCrew}
 use Rattle.vt_pass.specs.Outcomes.{IsBatchFor}
-use Rattle.vt_pass.specs.Frames.{HoldsTiles}
+use Rattle.vt_load.specs.declared.queued.Queues.{Queues}
+use Rattle.vt_shown.specs.Frames.{HoldsTiles}
+use Rattle.vt_pass.specs.RoundKits.{RoundKitView, IsAsked}
 use Rattle.vt_pass.specs.Machines.{Setup, MachineState, file_state, files_of, told_by, AreStoresFor}
 
 -- a kit: how the texture is cut into pages, how many bytes its samples have, the sides of the pictures, the crew; the samplers and the
--- loaders' stores; how many pixels of the last picture need each page; and the lists and the buffer that the next pass fills
+-- loaders' stores; how many pixels of the last picture need each page; the lists that the next pass fills; and what its loaders are done with
 pub record KitView (F : Type 0) : Type 0 where
   pub shape : Shape
   pub depth : ℕ
@@ -35,8 +37,7 @@ pub record KitView (F : Type 0) : Type 0 where
   pub counts : List ℕ
   pub rows : ListView RowLine
   pub events : ListView Event
-  pub losses : ListView Bool
-  pub tile : List ℕ
+  pub round : RoundKitView F
 
 -- the bytes of a row of a sampler, if it is there
 abbrev pub row_by : Option StillSampler → ℕ → List ℕ
@@ -82,6 +83,7 @@ pub record IsKit {F : Type 0} (g : FileMeanings F) (k : KitView F) : Type 0 wher
   pub samplers : AreSamplersOf k.shape k.depth k.width k.height k.crew.samplers k.samplers
   pub sides : ArePictureSides k.width k.height
   pub counts : length k.counts ≡ pages_of k.shape
+  pub buffers : All (λ b. length b.elements ≡ tile_length k.shape k.depth) k.round.buffers.elements
 
 -- a whole kit and a table of its texture, whose frames hold the tiles of the stores
 pub record IsIdleKit {F : Type 0} (g : FileMeanings F) (v : TableView) (k : KitView F) : Type 0 where
@@ -90,23 +92,22 @@ pub record IsIdleKit {F : Type 0} (g : FileMeanings F) (v : TableView) (k : KitV
   pub kit : IsKit g k
   pub holds : HoldsTiles v k.depth (told_by g k.stores)
 
--- a kit has room for a pass of so many entries
-pub record HasRoom {F : Type 0} (g : FileMeanings F) (k : KitView F) (entries : ℕ) : Type 0 where
+-- a kit has room for what a pass of so many entries tells
+pub record HasRoom {F : Type 0} (k : KitView F) (entries : ℕ) : Type 0 where
   pub no_rows : k.rows.elements ≡ []
   pub rows : k.height ≤ k.rows.spare
   pub no_events : k.events.elements ≡ []
   pub events : 2 * entries ≤ k.events.spare
-  pub no_losses : k.losses.elements ≡ []
-  pub losses : entries ≤ k.losses.spare
-  pub tile : length k.tile ≡ tile_length k.shape k.depth
-  pub reads : All (λ store. entries ≤ g.spare store.file) k.stores
 
--- there is room for a pass of a batch, which is lawful for the table
-pub record IsReadyKit {F : Type 0} (g : FileMeanings F) (v : TableView) (k : KitView F) (batch : List Planned) : Type 0 where
+-- there is room for a pass of a batch, which is lawful for the table and no longer than the crew's, and its requests were put
+pub record IsReadyKit {F : Type 0} (g : FileMeanings F) (v : TableView) (q : Queues) (k : KitView F) (batch : List Planned) : Type 0 where
   pub idle : IsIdleKit g v k
   pub lawful : IsBatchFor v.shape v.frames (newest v.changes) batch
+  pub few : length batch ≤ k.crew.batch
   pub journal : 2 * length batch ≤ v.spare
-  pub room : HasRoom g k (length batch)
+  pub room : HasRoom k (length batch)
+  pub reads : All (λ store. k.crew.batch ≤ g.spare store.file) k.stores
+  pub asked : IsAsked q k.round k.shape k.depth k.crew batch
 
 -- the lines of the rows of a picture that was drawn at one version, each by the sampler whose turn it is
 abbrev pub lines_at : ℕ → ℕ → ℕ → List RowLine
@@ -128,7 +129,7 @@ pub record AreSameStores {F : Type 0} (g : FileMeanings F) (before after : List 
   pub number : length after ≡ length before
   pub each : (k : ℕ) (d : StoreView F) → k < length before → IsSameStore g (slice_index_or before k d) (slice_index_or after k d)
 
--- a kit is the same but for the room of its lists, its buffer and its stores
+-- a kit is the same but for the room of its lists and its stores, and for what its loaders are done with
 pub record IsSameKit {F : Type 0} (g : FileMeanings F) (before after : KitView F) : Type 0 where
   pub shape : after.shape ≡ before.shape
   pub depth : after.depth ≡ before.depth

@@ -3,14 +3,14 @@ pub mod Crews
 pub mod Outcomes
 pub mod RowOrders
 pub mod Requests
-pub mod Replays
 pub mod PictureWants
 pub mod Machines
-pub mod Frames
 pub mod Passes
 pub mod StillTasks
 pub mod Streams
 pub mod All
+pub mod BatchRounds
+pub mod RoundKits
 pub mod Kits
 pub mod StillMachines
 pub mod Plainly

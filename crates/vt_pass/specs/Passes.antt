@@ -11,13 +11,14 @@ use Rattle.vt_journal.specs.Changes.{Table, newest, IsNext}
 use Rattle.vt_journal.specs.JournalText.{changes_of}
 use Rattle.vt_evict.specs.declared.batches.Planned.{Planned}
 use Rattle.vt_pass.specs.declared.crew.PassReport.{PassReport}
-use Rattle.vt_pass.specs.Scenes.{Scene, Job}
+use Rattle.vt_shown.specs.Scenes.{Scene}
+use Rattle.vt_pass.specs.Scenes.{Job}
 use Rattle.vt_pass.specs.Crews.{last_start}
 use Rattle.vt_store.specs.Format.{tile_length, tile_start}
 use Rattle.vt_pass.specs.Outcomes.{IsBatchFor, IsOutcome}
 use Rattle.vt_pass.specs.RowOrders.{AreRowsInOrder}
 use Rattle.vt_pass.specs.Requests.{FileState, AreReadFor, ArePartlyReadFor}
-use Rattle.vt_pass.specs.Replays.{IsFull, AreReplayed}
+use Rattle.vt_shown.specs.Replays.{IsFull, AreReplayed}
 use Rattle.vt_pass.specs.Machines.{Setup, MachineState}
 
 -- the newest version of the journal maps the root

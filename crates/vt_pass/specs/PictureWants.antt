@@ -2,7 +2,7 @@
 use Rattle.std.specs.Prelude.{ℕ}
 use Rattle.std.specs.List.{range_with_len}
 use Rattle.vt_sampler.specs.Samplers.{pixels_in_rows}
-use Rattle.vt_pass.specs.Scenes.{Scene}
+use Rattle.vt_shown.specs.Scenes.{Scene}
 
 -- how many pixels of a scene's picture want a page (Mayer 2010)
 abbrev pub picture_wants : Scene → ℕ → ℕ → ℕ

@@ -21,8 +21,8 @@ use Rattle.vt_journal.specs.Changes.{Table}
 use Rattle.vt_journal.specs.Lookups.{is_mapped, IsFirstMapped}
 use Rattle.vt_journal.proofs.Finding.{finest-lookup}
 use Rattle.vt_sampler.specs.Samplers.{pixels_in_rows}
-use Rattle.vt_pass.specs.Scenes.{Scene}
-use Rattle.vt_pass.specs.Replays.{scene_row, shown_at, pixel_under, plain_pixel}
+use Rattle.vt_shown.specs.Scenes.{Scene}
+use Rattle.vt_shown.specs.Replays.{scene_row, shown_at, pixel_under, plain_pixel}
 use Rattle.vt_pass.specs.PictureWants.{picture_wants}
 use Rattle.vt_pass.specs.Passes.{MapsNeeded}
 

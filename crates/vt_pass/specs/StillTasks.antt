@@ -3,7 +3,7 @@ use Rattle.std.specs.Prelude.{◌≡◌, ℕ, ◌<◌, length, slice_index}
 use Rattle.vt_draw.specs.Shots.{shot_row, AreDrawn}
 use Rattle.vt_table.specs.Views.{TableView}
 use Rattle.vt_sampler.specs.Notes.{IsTrueOf, MapsRoot}
-use Rattle.vt_sampler.specs.Samplers.{SamplerView, IsOwn, IsFor, own_rows, pixels_in_rows, row_at, version_at}
+use Rattle.vt_sampler.specs.Samplers.{SamplerView, IsOwn, IsFor, own_rows, pixels_in_rows, row_at, row_length, version_at}
 use Rattle.vt_pass.specs.Scenes.{Job}
 
 -- a sampler may draw a job over a table: it is made for it, and the table maps the root
@@ -20,6 +20,7 @@ pub record HasDrawn (v : TableView) (job : Job) (a b : SamplerView) : Type 0 whe
   pub for_it : IsFor b job.scene.shape job.scene.path job.scene.depth
   pub drawn : (y : ℕ) → IsOwn b y → AreDrawn job.scene.shape job.scene.depth (version_at b y) (IsTrueOf v)
       (shot_row job.scene.shape job.scene.path job.picture y) job.scene.path.width (row_at b y)
+  pub full : (y : ℕ) → IsOwn b y → length (row_at b y) ≡ row_length job.scene.depth job.scene.path.width
   pub version : (y : ℕ) → IsOwn b y → version_at b y ≡ length v.changes
   pub counted : (p : ℕ) → p < length b.counts
       → slice_index b.counts p ≡ pixels_in_rows job.scene.shape job.scene.path job.picture (own_rows b.sampler b.samplers b.height) p

@@ -16,7 +16,9 @@ pub use laws::{
     order_leaves_one_table, reads_add_up, settled_pass_is_plain,
 };
 pub use machine::PassMachine;
-pub use still::{NoTask, PassKit, StillSampler};
+pub use still::{
+    NoTask, PassKit, StillMachine, StillSampler, StillShared, rounds_are_passes, run_pass,
+};
 pub use task::Task;
 
 #[cfg(test)]

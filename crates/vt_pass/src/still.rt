@@ -1,10 +1,22 @@
 //! The machine over a page table that changes only between draws.
 
 mod kit;
+mod loads;
+mod loads_apply;
+mod loads_ask;
+mod loads_end;
+mod loads_task;
+mod machine;
+mod pass;
 mod room;
+mod round;
 mod stream;
 mod tasks;
 mod told;
 
 pub use kit::PassKit;
+pub use loads::rounds_are_passes;
+pub use loads_task::StillShared;
+pub use machine::StillMachine;
+pub use pass::run_pass;
 pub use tasks::{NoTask, StillSampler};

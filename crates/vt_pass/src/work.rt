@@ -91,14 +91,12 @@ fn draw_beside<
 }
 
 // All tasks of a list, by halves.
-fn work_all<Rt: Threads + Wait + Sync, S: Sync, L: Task<Shared = S> + Send, G: Gate + Sync>(
-    rt: &Rt,
-    tasks: &mut [L],
-    shared: &S,
-    shot: &Shot<'_>,
-    batch: &[Planned],
-    gate: &G,
-)
+pub(crate) fn work_all<
+    Rt: Threads + Wait + Sync,
+    S: Sync,
+    L: Task<Shared = S> + Send,
+    G: Gate + Sync,
+>(rt: &Rt, tasks: &mut [L], shared: &S, shot: &Shot<'_>, batch: &[Planned], gate: &G)
     requires { AllReady (L.ready shared.now (job_of shot.now batch.now)) tasks.old }
     ensures { AllDid (L.did shared.now (job_of shot.now batch.now)) tasks.old tasks.new }
 {

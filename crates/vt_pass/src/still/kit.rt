@@ -1,26 +1,45 @@
 //! What a pass over a still table is done with.
 
-ghost use Rattle.std.specs.Prelude.{◌≡◌, ℕ, ◌+◌, ◌*◌, ◌<◌, ◌≤◌, OnOk, List, [], length, slice_get, Some, IfOk, IfErr};
+ghost use Rattle.std.specs.Prelude.{◌≡◌, ℕ, ◌+◌, ◌*◌, ◌^◌, ◌<◌, ◌≤◌, OnOk, List, [], length, slice_get, slice_index, slice_index_or, Some, IfOk, IfErr, true, All};
 ghost use Rattle.std.specs.List.{concat};
-ghost use Rattle.vt_definitions.specs.Limits.{most_samplers};
+ghost use Rattle.vt_definitions.specs.Limits.{most_samplers, most_entries};
 ghost use Rattle.vt_definitions.specs.Depths.{IsDepth};
-ghost use Rattle.vt_pass.specs.Crews.{IsCrew, most_entries, last_start};
+ghost use Rattle.vt_pass.specs.Crews.{IsCrew, last_start};
 ghost use Rattle.vt_pass.specs.Outcomes.{IsBatchFor};
 ghost use Rattle.vt_journal.specs.Changes.{newest};
 ghost use Rattle.vt_sampler.specs.Notes.{MapsRoot};
 ghost use Rattle.vt_pass.specs.Machines.{AreStoresFor};
-ghost use Rattle.vt_pass.specs.Kits.{KitView, AreSamplersOf, IsKit, IsIdleKit, IsReadyKit, HasRoom, IsSameKit, kit_row, kit_rows};
+ghost use Rattle.vt_pass.specs.Scenes.{job_of};
+ghost use Rattle.vt_pass.specs.PictureWants.{picture_wants};
+ghost use Rattle.vt_pass.specs.Passes.{Ran};
+ghost use Rattle.vt_pass.specs.StillMachines.{still_shows, kit_drawn, kit_before, AreOut, MayFinish};
+ghost use Rattle.vt_pass.specs.Kits.{KitView, AreSamplersOf, IsKit, IsIdleKit, IsReadyKit, HasRoom, IsSameKit, kit_row, kit_rows, kit_state, lines_at, counted_together};
+ghost use Rattle.vt_pass.specs.declared.still.tasks.StillSampler.{StillSampler as Task};
+ghost use Rattle.vt_pass.specs.RoundKits.{IsAsked};
+ghost use Rattle.vt_pass.specs.BatchRounds.{Begun as Start};
+ghost use Rattle.vt_pages.specs.Pages.{pages_of};
+ghost use Rattle.vt_store.specs.Format.{tile_length};
+ghost use Rattle.vt_evict.specs.declared.batches.Planned.{Planned as Entry};
+ghost use Rattle.vt_load.specs.QueuedLoaders.{MayLoad};
 
-use crate::crew::Crew;
+use crate::crew::{Crew, PassReport};
+use crate::still::loads_task::StillShared;
 use crate::still::room::{reserve_reads, with_room};
+use crate::still::round::{RoundKit, new_queues};
 use crate::still::tasks::StillSampler;
+use crate::still::told::{count_together, note_lines};
 use std::alloc::Global;
 use std::marker::Model;
 use std::mem;
+use std::sync::Wait;
+use std::thread::Threads;
 use vt_camera::Path;
-use vt_evict::{Batch, Losses};
+use vt_definitions::texel_length;
+use vt_draw::Shot;
+use vt_evict::{Batch, Planned};
 use vt_feedback::Counts;
 use vt_journal::{Events, RowLines};
+use vt_load::{QueuedLoader, Queues};
 use vt_outside::{File, Items, NoMemory};
 use vt_pages::Geometry;
 use vt_sampler::Sampler;
@@ -41,8 +60,7 @@ pub struct PassKit<F: File> {
     counts: Counts,
     rows: RowLines,
     events: Events,
-    losses: Losses,
-    tile: Vec<u8>,
+    round: RoundKit<F>,
 }
 
 impl<F: File> Model for PassKit<F> {
@@ -61,8 +79,7 @@ impl<F: File> Model for PassKit<F> {
       counts = k.counts;
       rows = k.rows;
       events = k.events;
-      losses = k.losses;
-      tile = k.tile.items;
+      round = k.round;
     } };
 }
 
@@ -122,6 +139,12 @@ impl<F: File> PassKit<F> {
             Ok(counts) => counts,
             Err(refusal) => return Err((stores, refusal)),
         };
+        // No pass is made with these queues: each is prepared with new ones.
+        let (_, asks, answers) = match new_queues(alloc, 1) {
+            Ok(made) => made,
+            Err(refusal) => return Err((stores, refusal)),
+        };
+        let round = RoundKit::new(alloc, asks, answers);
         Ok(PassKit {
             alloc,
             geometry: *geometry,
@@ -134,8 +157,7 @@ impl<F: File> PassKit<F> {
             counts,
             rows: Items::new(alloc),
             events: Items::new(alloc),
-            losses: Items::new(alloc),
-            tile: Vec::new(alloc),
+            round,
         })
     }
 
@@ -162,41 +184,68 @@ impl<F: File> PassKit<F> {
             counts: _,
             rows: _,
             events: _,
-            losses: _,
-            tile: _,
+            round,
         } = self;
+        round.end();
         stores
     }
 
-    /// Makes room for a pass that streams a batch into a table. The table maps the root and has at most 2^61 changes, and the
-    /// batch is lawful for it and no longer than the crew's batches. After a refusal the kit can only be ended.
-    pub fn prepare(&mut self, table: &mut StillTable, batch: &Batch) -> Result<(), NoMemory>
-        requires idle { IsIdleKit F.File table.old self.old }
-        requires root { MapsRoot table.old }
-        requires lawful { IsBatchFor table.old.shape table.old.frames (newest table.old.changes) batch.now.elements }
+    /// Makes room for a pass that streams a batch into a table, and puts a request for each entry into new queues. The table maps
+    /// the root and has at most 2^61 changes, and the batch is lawful for it and no longer than the crew's batches. After a
+    /// refusal the kit can only be ended.
+    pub fn prepare<Rt: Threads + Wait>(
+        &mut self,
+        rt: &Rt,
+        shared: &mut StillShared,
+        batch: &Batch,
+    ) -> Result<(), NoMemory>
+        requires idle { IsIdleKit F.File shared.old.table self.old }
+        requires root { MapsRoot shared.old.table }
+        requires lawful { IsBatchFor shared.old.table.shape shared.old.table.frames (newest shared.old.table.changes) batch.now.elements }
         requires few { length batch.now.elements ≤ self.old.crew.batch }
-        requires early { length table.old.changes ≤ last_start }
-        ensures ready { OnOk result (IsReadyKit F.File table.new self.new batch.now.elements) }
-        ensures table { table.new ≡ record table.old { spare = table.new.spare } }
+        requires early { length shared.old.table.changes ≤ last_start }
+        ensures ready { OnOk result (IsReadyKit F.File shared.new.table shared.new.queues self.new batch.now.elements) }
+        ensures table { shared.new.table ≡ record shared.old.table { spare = shared.new.table.spare } }
         ensures same { IsSameKit F.File self.old self.new }
     {
         let entries = batch.len() as u64;
-        table.reserve(2 * entries)?;
-        self.make_room(entries)
+        shared.table.reserve(2 * entries)?;
+        self.make_room(entries)?;
+        self.ask(rt, &mut shared.queues, batch.slice())
     }
 
-    // Makes room for a pass of so many entries.
+    // Makes room for what a pass of so many entries tells, and for the reads of a round.
     fn make_room(&mut self, entries: u64) -> Result<(), NoMemory>
-        requires depth { IsDepth self.old.depth }
         requires few { entries ≤ most_entries }
-        ensures room { OnOk result (HasRoom F.File self.new entries) }
+        ensures room { OnOk result (HasRoom self.new entries) }
+        ensures reads { OnOk result (All (λ store. self.new.crew.batch ≤ F.spare store.file) self.new.stores) }
+        ensures round { self.new.round ≡ self.old.round }
         ensures same { IsSameKit F.File self.old self.new }
     {
         self.rows = with_room(self.alloc, u64::from(self.height))?;
         self.events = with_room(self.alloc, 2 * entries)?;
-        self.losses = with_room(self.alloc, entries)?;
-        self.tile = Vec::from_elem(self.alloc, 0, tile_length(&self.geometry, self.depth))?;
-        reserve_reads(self.stores.slice_mut(), entries)
+        let reads = u64::from(self.crew.batch);
+        reserve_reads(self.stores.slice_mut(), reads)
+    }
+
+    // Puts a request for each entry of a batch into new queues.
+    fn ask<Rt: Threads + Wait>(
+        &mut self,
+        rt: &Rt,
+        queues: &mut Queues,
+        batch: &[Planned],
+    ) -> Result<(), NoMemory>
+        requires crew { IsCrew self.old.crew }
+        requires depth { IsDepth self.old.depth }
+        requires few { length batch.now ≤ self.old.crew.batch }
+        requires sizes { All (λ b. length b.elements ≡ tile_length self.old.shape self.old.depth) self.old.round.buffers.elements }
+        requires pages { All (λ e. e.page < pages_of self.old.shape) batch.now }
+        ensures asked { OnOk result (IsAsked queues.new self.new.round self.new.shape self.new.depth self.new.crew batch.now) }
+        ensures rest { self.new ≡ record self.old { round = self.new.round } }
+    {
+        let blank = Vec::from_elem(self.alloc, 0, tile_length(&self.geometry, self.depth))?;
+        self.round
+            .prepare(rt, queues, &self.crew, blank.as_slice(), batch)
     }
 
     // The bytes of a row of the last picture.
@@ -209,31 +258,88 @@ impl<F: File> PassKit<F> {
         self.samplers.at(turn as usize).sampler.row(y)
     }
 
-    /// The samples of the last pass's picture: its rows from the top.
+    /// The samples of the last pass's picture: its rows from the top. It asks for their memory once.
     #[tactic(auto, using(crate::proofs::Kits::joined_more))]
     pub fn picture(&self, alloc: Global) -> Result<Vec<u8>, NoMemory>
         requires kit { IsKit F.File self.now }
         ensures { IfOk result (λ picture. picture.items ≡ concat (kit_rows self.now)) }
     {
-        let mut picture = Vec::new(alloc);
+        let line = texel_length(self.depth) * self.width as usize;
+        let mut picture = Vec::with_capacity(alloc, line * self.height as usize)?;
         for y in 0..self.height {
             picture.extend_from_slice(self.row(y))?;
         }
         Ok(picture)
     }
 
-    // Moves the samplers out.
-    pub(crate) fn take_samplers(&mut self) -> Items<StillSampler>
-        ensures moved { result.elements ≡ self.old.samplers }
-        ensures rest { self.new ≡ record self.old { samplers = [] } }
+    // Moves the workers out: a loader for each store, and the samplers.
+    pub(crate) fn muster(
+        &mut self,
+        queues: &Queues,
+    ) -> (Items<QueuedLoader<F>>, Items<StillSampler>)
+        requires asked { (batch : List Entry) × IsAsked queues.now self.old.round self.old.shape self.old.depth self.old.crew batch }
+        requires crew { IsCrew self.old.crew }
+        requires stores { length self.old.stores ≡ self.old.crew.loaders }
+        requires reads { All (λ store. self.old.crew.batch ≤ F.spare store.file) self.old.stores }
+        ensures out { AreOut F.File queues.now self.old self.new result.0.elements result.1.elements }
+        ensures may { All (MayLoad F.File queues.now) result.0.elements }
     {
-        mem::replace(&mut self.samplers, Items::new(self.alloc))
+        let samplers = mem::replace(&mut self.samplers, Items::new(self.alloc));
+        let stores = mem::replace(&mut self.stores, Items::new(self.alloc));
+        let loaders = self.round.deal(queues, stores);
+        (loaders, samplers)
     }
 
-    // Moves samplers back.
-    pub(crate) fn give_samplers(&mut self, samplers: Items<StillSampler>)
-        ensures { self.new ≡ record self.old { samplers = samplers.elements } }
+    // Moves samplers and stores back, and notes what the samplers did.
+    fn tell(&mut self, samplers: Items<StillSampler>, stores: Stores<F>, start: u64) -> RowLines
+        requires none { self.old.stores ≡ [] }
+        requires some { 1 ≤ self.old.crew.samplers }
+        requires no_rows { self.old.rows.elements ≡ [] }
+        requires room { self.old.height ≤ self.old.rows.spare }
+        requires lengths { (k : ℕ) (d : Task) → k < length samplers.elements
+            → length (slice_index_or samplers.elements k d).sampler.counts ≡ length self.old.counts }
+        requires few { (p : ℕ) → p < length self.old.counts → counted_together samplers.elements p < 2 ^ 32 }
+        ensures rest { self.new ≡ record self.old { samplers = samplers.elements; stores = stores.elements; counts = self.new.counts; rows = self.new.rows } }
+        ensures number { length self.new.counts ≡ length self.old.counts }
+        ensures sums { (p : ℕ) → p < length self.old.counts → slice_index self.new.counts p ≡ counted_together samplers.elements p }
+        ensures lines { result.elements ≡ lines_at self.old.crew.samplers self.old.height start }
     {
         self.samplers = samplers;
+        mem::replace(&mut self.stores, stores).destroy_empty();
+        count_together(&mut self.counts, self.samplers.slice());
+        note_lines(&mut self.rows, self.crew.samplers, self.height, start);
+        mem::replace(&mut self.rows, Items::new(self.alloc))
+    }
+
+    // Ends the round of the loaders, applies their results to the table, moves the workers back, and tells what the pass did. It
+    // may wait.
+    pub(crate) fn finish<Rt: Threads + Wait>(
+        &mut self,
+        rt: &Rt,
+        queues: &Queues,
+        table: &mut StillTable,
+        loaders: Items<QueuedLoader<F>>,
+        samplers: Items<StillSampler>,
+        _shot: &Shot<'_>,
+        batch: &Batch,
+    ) -> PassReport
+        requires { (b : Start F) × MayFinish F.File table.old queues.now self.old (job_of _shot.now batch.now.elements) loaders.elements samplers.elements b }
+        ensures ran { (b : Start F) → MayFinish F.File table.old queues.now self.old (job_of _shot.now batch.now.elements) loaders.elements samplers.elements b
+            → Ran true picture_wants still_shows (kit_drawn F.File table.new self.new) (job_of _shot.now batch.now.elements) result
+            (kit_state F.File table.old (kit_before self.old samplers.elements b)) (kit_state F.File table.new self.new) }
+        ensures idle { IsIdleKit F.File table.new self.new }
+        ensures lines { result.rows.elements ≡ lines_at self.old.crew.samplers self.old.height (length table.old.changes) }
+    {
+        let start = table.journal().version();
+        let mut events = mem::replace(&mut self.events, Items::new(self.alloc));
+        let (stores, losses) = self
+            .round
+            .finish(rt, queues, loaders, table, batch.slice(), &mut events);
+        let rows = self.tell(samplers, stores, start);
+        PassReport {
+            rows,
+            events,
+            losses,
+        }
     }
 }

@@ -2,6 +2,7 @@
 
 ghost use Rattle.vt_pass.specs.StillTasks.{MayDraw, HasDrawn};
 
+use crate::still::loads_task::StillShared;
 use crate::task::Task;
 use std::sync::Wait;
 use std::thread::Threads;
@@ -9,7 +10,6 @@ use vt_draw::Shot;
 use vt_evict::Planned;
 use vt_outside::Gate;
 use vt_sampler::Sampler;
-use vt_table::StillTable;
 
 /// A sampler that draws its rows of the pass's picture over a page table.
 #[derive(Drop)]
@@ -18,21 +18,21 @@ pub struct StillSampler {
 }
 
 impl Task for StillSampler {
-    type Shared = StillTable;
+    type Shared = StillShared;
 
-    ghost ready = { λ table job task. MayDraw table job task.sampler };
+    ghost ready = { λ shared job task. MayDraw shared.table job task.sampler };
 
-    ghost did = { λ table job before after. HasDrawn table job before.sampler after.sampler };
+    ghost did = { λ shared job before after. HasDrawn shared.table job before.sampler after.sampler };
 
     fn work<Rt: Threads + Wait, G: Gate>(
         &mut self,
         _rt: &Rt,
-        shared: &StillTable,
+        shared: &StillShared,
         shot: &Shot<'_>,
         _batch: &[Planned],
         _gate: &G,
     ) {
-        self.sampler.draw_still(shot, shared);
+        self.sampler.draw_still(shot, &shared.table);
     }
 }
 
@@ -41,7 +41,7 @@ impl Task for StillSampler {
 pub struct NoTask;
 
 impl Task for NoTask {
-    type Shared = StillTable;
+    type Shared = StillShared;
 
     ghost ready = { λ _ _ _. Unit {0} };
 
@@ -50,7 +50,7 @@ impl Task for NoTask {
     fn work<Rt: Threads + Wait, G: Gate>(
         &mut self,
         _rt: &Rt,
-        _shared: &StillTable,
+        _shared: &StillShared,
         _shot: &Shot<'_>,
         _batch: &[Planned],
         _gate: &G,

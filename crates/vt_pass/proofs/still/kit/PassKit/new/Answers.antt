@@ -1,4 +1,8 @@
-use Rattle.std.proofs.Common.{ℕ, length, sym, ap, ◌∙◌, subst, rules}
+use Rattle.std.proofs.Common.{◌≡◌, ℕ, List, length, sym, ap, ◌∙◌, subst, rules}
+use Rattle.std.specs.Prelude.{All}
+use Rattle.std.proofs.lemmas.List.Elements.{All-nil}
+use Rattle.vt_outside.specs.Lists.{ListView}
+use Rattle.vt_store.specs.Format.{tile_length}
 use Rattle.std.proofs.lemmas.List.{length-replicate}
 use Rattle.vt_pass.specs.Kits.{AreSamplersOf}
 use Rattle.vt_pass.proofs.Kits.{told_first}
@@ -19,4 +23,5 @@ returns-clause-kit g c = record {
     height_high = search rules;
   };
   counts = ap length c.in-Ok-new.ensures ∙ length-replicate _ _;
+  buffers = subst (λ (l : List (ListView ℕ)). All (λ b. length b.elements ≡ tile_length c.args.geometry.now c.args.depth) l) (sym c.new-round.ensures) (All-nil _);
 }

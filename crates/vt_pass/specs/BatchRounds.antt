@@ -1,0 +1,115 @@
+-- A batch whose tiles are read by a round of requests.
+use Rattle.std.specs.Prelude.{◌≡◌, ℕ, ◌<◌, ◌≤◌, Bool, true, Option, Some, None, List, [], ◌++◌, length, map, take, reverse, slice_get, slice_index_or, flat_map, All}
+use Rattle.std.specs.List.{range_with_len}
+use Rattle.vt_definitions.specs.Depths.{IsDepth}
+use Rattle.vt_outside.specs.declared.outside.File.{Ghosts as FileMeanings}
+use Rattle.vt_pages.specs.Shape.{Shape}
+use Rattle.vt_journal.specs.declared.changes.Event.{Event}
+use Rattle.vt_journal.specs.Changes.{newest}
+use Rattle.vt_journal.specs.JournalText.{changes_of}
+use Rattle.vt_table.specs.Views.{TableView, IsTable}
+use Rattle.vt_evict.specs.declared.batches.Planned.{Planned}
+use Rattle.vt_queue.specs.declared.items.Request.{Request}
+use Rattle.vt_queue.specs.declared.items.Loaded.{Loaded}
+use Rattle.vt_queue.specs.declared.views.PassView.{PassView}
+use Rattle.vt_queue.specs.PassViews.{all_shares}
+use Rattle.vt_queue.specs.Orders.{items_of}
+use Rattle.vt_load.specs.declared.queued.Queues.{Queues}
+use Rattle.vt_load.specs.Readings.{is_lost, is_readable}
+use Rattle.vt_load.specs.Results.{wanted_by, IsGood}
+use Rattle.vt_load.specs.QueuedLoaders.{QueuedView, stores_of, HasLoaded, IsLoaderOf, AreSplitOff}
+use Rattle.vt_pass.specs.Outcomes.{group_if, IsEntryFor, IsOutcome}
+use Rattle.vt_pass.specs.Requests.{AreReadFor}
+use Rattle.vt_pass.specs.Machines.{files_of}
+use Rattle.vt_shown.specs.Frames.{HoldsTiles}
+
+-- the page of an entry, if there is one
+abbrev pub page_if : Option Planned → ℕ
+page_if None = 0
+page_if (Some e) = e.page
+
+-- what the request of an entry asks for, by its place: the place is the ticket, with the entry's page
+abbrev pub entry_asks : List Planned → ℕ → ℕ × ℕ
+entry_asks batch ticket = (ticket, page_if (slice_get batch ticket))
+
+-- the requests of a batch: one for each entry, in their order
+abbrev pub AreRequestsOf : List Planned → List Request → Type 0
+AreRequestsOf batch requests = map wanted_by requests ≡ map (entry_asks batch) (range_with_len 0 (length batch))
+
+-- the tickets of results, in the order in which they came
+abbrev pub tickets_of : List Loaded → List ℕ
+tickets_of results = map (λ result. result.request.ticket) results
+
+-- the events of a result: the group of its entry, lost or read
+abbrev pub result_group : List Planned → Loaded → List Event
+result_group batch result = group_if (slice_get batch result.request.ticket) (is_lost result.outcome)
+
+-- the events of results, in the order in which they came
+abbrev pub result_events : List Planned → List Loaded → List Event
+result_events batch results = flat_map (result_group batch) results
+
+-- it is told of each entry whether its result is lost
+pub record AreLossesOf (batch : List Planned) (results : List Loaded) (losses : List Bool) : Type 0 where
+  pub told : length losses ≡ length batch
+  pub each : All (λ result. slice_index_or losses result.request.ticket true ≡ is_lost result.outcome) results
+
+-- a result is that of an entry
+pub record IsResultOf (batch : List Planned) (result : Loaded) : Type 0 where
+  pub inside : result.request.ticket < length batch
+  pub page : result.request.page ≡ page_if (slice_get batch result.request.ticket)
+
+-- The first results were applied to a table, each to the entry of its ticket, and it was noted of each whether it is lost.
+pub record AreApplied (batch : List Planned) (results : List Loaded) (start : TableView) (n : ℕ) (v : TableView) (events : List Event)
+    (losses : List Bool) : Type 0 where
+  pub table : IsTable v
+  pub shape : v.shape ≡ start.shape
+  pub frames : v.frames ≡ start.frames
+  pub events_are : events ≡ result_events batch (take n results)
+  pub changes : v.changes ≡ start.changes ++ changes_of events
+  pub told : length losses ≡ length batch
+  pub each : (k : ℕ) (x : Loaded) → k < n → slice_get results k ≡ Some x → slice_index_or losses x.request.ticket true ≡ is_lost x.outcome
+  pub ahead : (k : ℕ) (x : Loaded) (e : Planned) → n ≤ k → slice_get results k ≡ Some x → slice_get batch x.request.ticket ≡ Some e
+      → IsEntryFor start.shape start.frames (newest v.changes) e
+  pub holds : (d : ℕ) (bytes : Option (List ℕ)) → All (IsGood bytes start.shape d) results → HoldsTiles start d bytes → HoldsTiles v d bytes
+
+-- The requests for the first entries of a batch were put through a whole pass, and nothing was taken.
+pub record ArePut (s : Shape) (d : ℕ) (batch : List Planned) (n : ℕ) (v : PassView Request) : Type 0 where
+  pub whole : v.shares ≡ all_shares
+  pub no_takes : v.took ≡ []
+  pub count : length v.put ≡ n
+  pub requests : map wanted_by (items_of v.put) ≡ map (entry_asks batch) (range_with_len 0 n)
+  pub readable : All (λ request. is_readable s d request ≡ true) (items_of v.put)
+
+-- how a round of requests for a batch began: what the pass of each queue knew before passes for the loaders were split off, and the loaders;
+-- how many bytes a sample has, and the bytes of the store, where they are told
+pub record Begun (F : Type 0) : Type 0 where
+  pub asks : PassView Request
+  pub answers : PassView Loaded
+  pub first : List (QueuedView F)
+  pub depth : ℕ
+  pub told : Option (List ℕ)
+
+-- The loaders of a round for a batch have ended: passes of the two queues were split off for them, and these have what was left.
+pub record IsEndedRound {F : Type 0} (g : FileMeanings F) (q : Queues) (s : Shape) (batch : List Planned) (asks : PassView Request)
+    (answers : PassView Loaded) (last : List (QueuedView F)) (b : Begun F) : Type 0 where
+  pub asked : ArePut s b.depth batch (length batch) b.asks
+  pub answers_all : b.answers.shares ≡ all_shares
+  pub no_results : b.answers.put ≡ []
+  pub no_answers : b.answers.took ≡ []
+  pub split : AreSplitOff b.asks asks b.answers answers b.first
+  pub depth_is : IsDepth b.depth
+  pub loaders : All (IsLoaderOf g s b.depth b.told) b.first
+  pub number : length last ≡ length b.first
+  pub loaded : (k : ℕ) (e : QueuedView F) → k < length b.first → HasLoaded g q (slice_index_or b.first k e) (slice_index_or last k e)
+
+-- The round was streamed into a table: its events are an outcome of the batch, of which the changes were made, the files were read for it,
+-- and the frames hold the store's tiles if they did before.
+pub record IsStreamed {F : Type 0} (g : FileMeanings F) (batch : List Planned) (start : TableView) (b : Begun F) (last : List (QueuedView F))
+    (v : TableView) (events : List Event) (losses : List Bool) : Type 0 where
+  pub table : IsTable v
+  pub shape : v.shape ≡ start.shape
+  pub frames : v.frames ≡ start.frames
+  pub changes : v.changes ≡ start.changes ++ changes_of events
+  pub outcome : IsOutcome batch losses events
+  pub read : AreReadFor start.shape b.depth batch losses (files_of g (reverse (stores_of b.first))) (files_of g (reverse (stores_of last)))
+  pub holds : HoldsTiles start b.depth b.told → HoldsTiles v b.depth b.told

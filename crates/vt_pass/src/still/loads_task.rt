@@ -1,0 +1,54 @@
+//! Loaders as workers of a pass.
+
+use crate::task::Task;
+use std::sync::Wait;
+use std::thread::Threads;
+use vt_draw::Shot;
+use vt_evict::Planned;
+use vt_load::{QueuedLoader, Queues};
+use vt_outside::{File, Gate};
+use vt_table::StillTable;
+
+/// What the workers of a pass over a still table share where its tiles are read through queues.
+#[derive(Drop)]
+pub struct StillShared {
+    /// The page table, which changes only between draws.
+    pub table: StillTable,
+    /// The queues of the requests and of the results.
+    pub queues: Queues,
+}
+
+impl<F: File> Task for QueuedLoader<F> {
+    ghost use Rattle.vt_load.specs.QueuedLoaders.{MayLoad, HasLoaded};
+
+    type Shared = StillShared;
+
+    ghost ready = { λ shared job loader. MayLoad F.File shared.queues loader };
+
+    ghost did = { λ shared job before after. HasLoaded F.File shared.queues before after };
+
+    fn work<Rt: Threads + Wait, G: Gate>(
+        &mut self,
+        rt: &Rt,
+        shared: &StillShared,
+        _shot: &Shot<'_>,
+        _batch: &[Planned],
+        gate: &G,
+    ) {
+        self.run(rt, &shared.queues, gate);
+    }
+}
+
+#[cfg(test)]
+mod tests {
+    use super::*;
+    use vt_outside::MemoryFile;
+
+    // Whether a worker may be lent to a thread is known where this is called.
+    fn may_be_sent<T: Task + Send>() {}
+
+    #[test]
+    fn a_loader_may_work_in_a_thread_of_its_own() {
+        may_be_sent::<QueuedLoader<MemoryFile>>();
+    }
+}
