@@ -1,8 +1,8 @@
 -- What the passes of a run ask for, and what of it was lost, adds up.
-use Rattle.std.proofs.Common.{◌≡◌, ℕ, suc, ◌+◌, Bool, true, false, List, [], ◌∷◌, ◌++◌, length, refl, ap, ◌∙◌, length-append, arith}
-use Rattle.std.specs.List.{filter}
+use Rattle.std.proofs.Common.{◌≡◌, ℕ, suc, ◌+◌, Bool, true, false, cond, List, [], ◌∷◌, ◌++◌, length, refl, ap, ◌∙◌, length-append, arith}
+use Rattle.std.specs.List.{filter, count_by}
 use Rattle.std.proofs.lemmas.List.Elements.{filter-append}
-use Rattle.std.proofs.lemmas.List.Sums.{length-filter}
+use Rattle.std.proofs.lemmas.List.Sums.{length-filter, sum_by-append}
 use Rattle.vt_pages.specs.Shape.{Shape}
 use Rattle.vt_evict.specs.declared.batches.Planned.{Planned}
 use Rattle.vt_pass.specs.Outcomes.{lost_count}
@@ -11,17 +11,11 @@ use Rattle.vt_walk.specs.Fits.{WalkSetup}
 use Rattle.vt_walk.specs.Runs.{WalkPass, IsRun, planned_in, lost_in}
 use Rattle.vt_walk.specs.Logs.{reads_of}
 
+pub count_both : {X : Type 0} (t : X → Bool) (xs ys : List X) → count_by t (xs ++ ys) ≡ count_by t xs + count_by t ys
+count_both t xs ys = sum_by-append (λ x. cond (t x) 1 0) xs ys
+
 planned_both : (s : Shape) (d at len : ℕ) (xs ys : List Planned) → times_planned s d (xs ++ ys) at len ≡ times_planned s d xs at len + times_planned s d ys at len
-planned_both s d at len xs ys =
-    let t : Planned → Bool = λ e. is_tile_at s d at len e.page in
-    omega (
-      arith,
-      length-filter t (xs ++ ys),
-      ap (λ (l : List Planned). length l) (filter-append t xs ys),
-      length-append (filter t xs) (filter t ys),
-      length-filter t xs,
-      length-filter t ys,
-    )
+planned_both s d at len xs ys = count_both (λ (e : Planned). is_tile_at s d at len e.page) xs ys
 
 pub planned_more : (s : Shape) (d at len : ℕ) (p : WalkPass) (passes : List WalkPass)
     → times_planned s d (planned_in (p ∷ passes)) at len ≡ times_planned s d p.batch at len + times_planned s d (planned_in passes) at len

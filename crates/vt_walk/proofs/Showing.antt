@@ -8,10 +8,11 @@ use Rattle.vt_journal.specs.declared.changes.RowLine.{RowLine}
 use Rattle.vt_journal.specs.Changes.{Table, at}
 use Rattle.vt_journal.specs.JournalText.{changes_of}
 use Rattle.vt_journal.proofs.Versions.{at-front}
-use Rattle.vt_pass.specs.Scenes.{Scene, Job}
+use Rattle.vt_shown.specs.Scenes.{Scene}
+use Rattle.vt_pass.specs.Scenes.{Job}
 use Rattle.vt_pass.specs.Machines.{MachineState}
 use Rattle.vt_pass.specs.Passes.{IsPictured}
-use Rattle.vt_pass.specs.Replays.{HasPixels}
+use Rattle.vt_shown.specs.Replays.{HasPixels}
 use Rattle.vt_walk.specs.Fits.{WalkSetup}
 use Rattle.vt_walk.specs.Runs.{WalkPass, journal_after, IsRun}
 use Rattle.vt_walk.specs.Shown.{last_rows, IsRunPicture}
@@ -26,13 +27,13 @@ other_number p q other = pick (p == q) refl where
   pick true same = absurd (other (same_number p q same))
   pick false is = is
 
-self_number : (p : ℕ) → (p == p) ≡ true
+pub self_number : (p : ℕ) → (p == p) ≡ true
 self_number p = pick (p == p) refl where
   pick : (b : Bool) → (p == p) ≡ b → b ≡ true
   pick true is = refl
   pick false is = grind arith
 
-rows_after : (b : Bool) (p : WalkPass) (passes : List WalkPass) (picture : ℕ) → (p.picture == picture) ≡ b → last_rows (p ∷ passes) picture ≡ (if b then p.rows else last_rows passes picture)
+pub rows_after : (b : Bool) (p : WalkPass) (passes : List WalkPass) (picture : ℕ) → (p.picture == picture) ≡ b → last_rows (p ∷ passes) picture ≡ (if b then p.rows else last_rows passes picture)
 rows_after b p passes picture is = ap (λ (t : Bool). if t then p.rows else last_rows passes picture) is
 
 -- a row names a version that the journal has

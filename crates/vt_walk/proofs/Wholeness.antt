@@ -25,7 +25,7 @@ use Rattle.vt_walk.proofs.Agreeing.{root_last}
 use Rattle.vt_walk.proofs.Running.{run_kept}
 use Rattle.vt_walk.proofs.Finishing.{wants_one, mapped_if_none}
 
-mapped_some : (o : Option ℕ) → nat_lt 0 (entry_of o) ≡ true → IsSome o
+pub mapped_some : (o : Option ℕ) → nat_lt 0 (entry_of o) ≡ true → IsSome o
 mapped_some None e = absurd (false≢true e)
 mapped_some (Some f) e = refl
 
@@ -66,7 +66,7 @@ needs_of w v picture wants shape pinned wanted = record {
   count = needed_same v (first_view w.shape w.frames w.pinned) wants shape pinned;
 }
 
-pin_true : (m n : ℕ) → m ≤ n → nat_le m n ≡ true
+pub pin_true : (m n : ℕ) → m ≤ n → nat_le m n ≡ true
 pin_true m n h = grind (arith, nat_tests)
 
 pub finished_maps_needed : (w : WalkSetup) (p : WalkPass) (passes : List WalkPass) → IsWalkSetup w → IsRun w (p ∷ passes) → w.mode ≡ Settled

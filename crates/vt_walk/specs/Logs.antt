@@ -42,15 +42,20 @@ events_in kind passes = sum_by (λ p. count_by kind p.events) passes
 abbrev pub counted : List ℕ → ℕ → List ℕ
 counted word number = codes " " ++ word ++ codes " " ++ number_spelling number
 
--- the numbers of a picture with these passes
-unfoldable pub pass_numbers : List WalkPass → List ℕ
-pass_numbers passes =
-    counted (codes "passes") (length passes) ++ counted (codes "wanted") (wanted_in passes) ++ counted (codes "loaded") (events_in is_load passes)
-    ++ counted (codes "lost") (events_in is_loss passes) ++ counted (codes "evicted") (events_in is_eviction passes)
+-- the line of a picture, by its number and those of its passes, of the pages that it wants, and of the pages mapped, lost and unmapped
+unfoldable pub line_of_numbers : ℕ → ℕ → ℕ → ℕ → ℕ → ℕ → List ℕ
+line_of_numbers picture passes wanted loaded lost evicted =
+    codes "picture " ++ number_spelling picture ++ counted (codes "passes") passes ++ counted (codes "wanted") wanted
+    ++ counted (codes "loaded") loaded ++ counted (codes "lost") lost ++ counted (codes "evicted") evicted ++ codes "\n"
 
--- the line of a picture
+-- the line of a picture with these passes
+abbrev pub line_with : List WalkPass → ℕ → List ℕ
+line_with passes picture =
+    line_of_numbers picture (length passes) (wanted_in passes) (events_in is_load passes) (events_in is_loss passes) (events_in is_eviction passes)
+
+-- the line of a picture of a run
 unfoldable pub picture_line : List WalkPass → ℕ → List ℕ
-picture_line passes picture = codes "picture " ++ number_spelling picture ++ pass_numbers (passes_of picture passes) ++ codes "\n"
+picture_line passes picture = line_with (passes_of picture passes) picture
 
 -- the lines of the first so many pictures
 abbrev pub picture_lines : List WalkPass → ℕ → List ℕ
@@ -60,9 +65,13 @@ picture_lines passes pictures = flat_map (picture_line passes) (range_with_len 0
 abbrev pub reads_of : WalkSetup → List WalkPass → ℕ
 reads_of w passes = w.pinned + length (planned_in passes)
 
--- the last line
-unfoldable pub walk_end_line : WalkSetup → List WalkPass → List ℕ
-walk_end_line w passes = codes "end pictures " ++ number_spelling w.pictures ++ codes " reads " ++ number_spelling (reads_of w passes) ++ codes "\n"
+-- the last line, by the numbers of pictures and of tiles that were asked for
+unfoldable pub end_line : ℕ → ℕ → List ℕ
+end_line pictures reads = codes "end pictures " ++ number_spelling pictures ++ codes " reads " ++ number_spelling reads ++ codes "\n"
+
+-- the last line of a run
+abbrev pub walk_end_line : WalkSetup → List WalkPass → List ℕ
+walk_end_line w passes = end_line w.pictures (reads_of w passes)
 
 -- what a whole run prints
 abbrev pub log_text : WalkSetup → List WalkPass → List ℕ

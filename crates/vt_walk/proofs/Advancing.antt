@@ -1,0 +1,309 @@
+-- A pass that a machine has run is the next of its walk's run.
+use Rattle.std.proofs.Common.{◌≡◌, ℕ, ◌+◌, ◌<◌, ◌≤◌, ◌^◌, inl, inr, Bool, true, false, nat_lt, List, [], ◌∷◌, length, Option, refl, sym, ap, ◌∙◌, subst, arith}
+use Rattle.std.specs.Prelude.{All, IsSome, slice_index, count_by, if◌then◌else◌, ◌==◌}
+use Rattle.std.proofs.lemmas.List.Sums.{sum_by-cons}
+use Rattle.vt_definitions.specs.Limits.{most_versions, most_entries}
+use Rattle.vt_pages.specs.Shape.{Shape}
+use Rattle.vt_pages.specs.Pages.{pages_of, root_of}
+use Rattle.vt_camera.specs.Paths.{PathView}
+use Rattle.vt_journal.specs.declared.changes.Change.{Change}
+use Rattle.vt_journal.specs.declared.changes.Event.{Event}
+use Rattle.vt_journal.specs.Changes.{Table, newest}
+use Rattle.vt_journal.specs.JournalText.{Pass, IsEventInChain}
+use Rattle.vt_feedback.specs.declared.Wanted.{Wanted}
+use Rattle.vt_feedback.specs.Wants.{IsWants}
+use Rattle.vt_evict.specs.declared.batches.Planned.{Planned}
+use Rattle.vt_evict.specs.Views.{RecencyView, pages_needed}
+use Rattle.vt_evict.specs.Batches.{IsLawful, IsSettled, read_entries}
+use Rattle.vt_evict.specs.Plans.{plan_of}
+use Rattle.vt_pass.specs.declared.crew.PassReport.{PassReport}
+use Rattle.vt_pass.specs.Crews.{last_start}
+use Rattle.vt_shown.specs.Scenes.{Scene}
+use Rattle.vt_pass.specs.Scenes.{Job}
+use Rattle.vt_pass.specs.Outcomes.{IsBatchFor, IsOutcome}
+use Rattle.vt_pass.specs.Requests.{FileState, AreReadFor, ArePartlyReadFor, counts_of}
+use Rattle.vt_outside.specs.Counts.{RoseTogetherBy}
+use Rattle.vt_pass.specs.Machines.{Setup, MachineState}
+use Rattle.vt_pass.specs.Passes.{MayPrepare, Ran}
+use Rattle.vt_walk.specs.declared.passes.Outlook.{Outlook}
+use Rattle.vt_walk.specs.declared.tallies.Tally.{Tally}
+use Rattle.vt_walk.specs.declared.tour.Tour.{Tour}
+use Rattle.vt_walk.specs.declared.turns.Turn.{Turn}
+use Rattle.vt_walk.specs.declared.turns.Drawn.{Drawn}
+use Rattle.vt_walk.specs.Fits.{WalkSetup}
+use Rattle.vt_walk.specs.Runs.{WalkPass, IsWalkSetup, IsRun, pass_of, journal_after, recency_after}
+use Rattle.vt_walk.specs.Logs.{is_load, is_loss, is_eviction, events_in, passes_of}
+use Rattle.vt_walk.specs.Outlooks.{IsOutlook}
+use Rattle.vt_walk.specs.Reported.{IsReported}
+use Rattle.vt_walk.specs.Tallies.{tally_of, with_pass}
+use Rattle.vt_walk.specs.Tours.{given_of, tour_scene, IsTour}
+use Rattle.vt_walk.specs.Turns.{MayDraw, HasDrawn}
+use Rattle.vt_walk.specs.Written.{IsDrawnBySome}
+use Rattle.vt_walk.proofs.Agreeing.{root_last}
+use Rattle.vt_walk.proofs.Asking.{reads_more}
+use Rattle.vt_walk.proofs.Bounds.{outcome_short, events_short, journal_short, kind_short, reads_short, events_in_chain}
+use Rattle.vt_walk.proofs.Nexts.{journal_grown, comes_next}
+use Rattle.vt_walk.proofs.Running.{run_kept, batch_is_lawful, batch_may_be_run, plan_most}
+use Rattle.vt_walk.proofs.Showing.{self_number}
+use Rattle.vt_walk.proofs.Wholeness.{mapped_some, pin_true}
+
+root_mapped : (w : WalkSetup) (passes : List WalkPass) → IsWalkSetup w → IsRun w passes → IsSome (newest (journal_after w passes) (root_of w.shape))
+root_mapped w passes h run =
+    let kept = run_kept w passes h run in
+    let pages : pages_of (recency_after w passes).shape ≡ pages_of w.shape = ap pages_of kept.shape in
+    let last = root_last w.shape h.limits in
+    mapped_some (newest (journal_after w passes) (root_of w.shape)) (ap (nat_lt 0) (sym (kept.agrees (root_of w.shape)))
+    ∙ kept.table.pinned_mapped (root_of w.shape) (omega (arith, last, pages))
+    (pin_true (pages_of (recency_after w passes).shape) (root_of w.shape + (recency_after w passes).pinned)
+    (omega (arith, last, pages, kept.pinned, h.some_pinned))))
+
+prepare_of : (s : MachineState) (given : Setup) (js : List Change) (batch : List Planned) → s.setup ≡ given → s.journal ≡ js
+    → IsSome (newest js (root_of given.shape))
+    → IsBatchFor given.shape given.frames (newest js) batch → length batch ≤ given.crew.batch → length js ≤ last_start → MayPrepare s batch
+prepare_of s given js batch setup journal root lawful few early = record {
+  root = subst (λ (x : Setup × List Change). IsSome (newest x.1 (root_of x.0.shape))) (λ i. (sym setup i, sym journal i)) root;
+  lawful = subst (λ (x : Setup × List Change). IsBatchFor x.0.shape x.0.frames (newest x.1) batch) (λ i. (sym setup i, sym journal i)) lawful;
+  few = subst (λ (x : Setup). length batch ≤ x.crew.batch) (sym setup) few;
+  early = subst (λ (x : List Change). length x ≤ last_start) (sym journal) early;
+}
+
+passes_short : (picture : ℕ) (run : List WalkPass) → length (passes_of picture run) ≤ length run
+passes_short picture [] = omega arith
+passes_short picture (p ∷ run) = keep (p.picture == picture) (passes_short picture run) where
+  keep : (b : Bool) → length (passes_of picture run) ≤ length run → length (if b then p ∷ passes_of picture run else passes_of picture run) ≤ length (p ∷ run)
+  keep true most = omega (arith, most)
+  keep false most = omega (arith, most)
+
+kinds_short : (kind : Event → Bool) (picture : ℕ) (run : List WalkPass) → events_in kind (passes_of picture run) ≤ events_in kind run
+kinds_short kind picture [] = omega arith
+kinds_short kind picture (p ∷ run) = keep (p.picture == picture) (kinds_short kind picture run) where
+  keep : (b : Bool) → events_in kind (passes_of picture run) ≤ events_in kind run
+      → events_in kind (if b then p ∷ passes_of picture run else passes_of picture run) ≤ events_in kind (p ∷ run)
+  keep true most = omega (
+    arith,
+    most,
+    sum_by-cons (λ (q : WalkPass). count_by kind q.events) p (passes_of picture run),
+    sum_by-cons
+        (λ (q : WalkPass). count_by kind q.events) p run,
+  )
+  keep false most = omega (arith, most, sum_by-cons (λ (q : WalkPass). count_by kind q.events) p run)
+
+tally_grown : (p : WalkPass) (passes : List WalkPass) → with_pass p.events (tally_of passes) ≡ tally_of (p ∷ passes)
+tally_grown p passes =
+    let count : length passes + 1 ≡ length (p ∷ passes) = omega arith in
+    let loaded : events_in is_load passes + count_by is_load p.events ≡ events_in is_load (p ∷ passes) = omega
+    (arith, sum_by-cons (λ (q : WalkPass). count_by is_load q.events) p passes) in
+    let lost : events_in is_loss passes + count_by is_loss p.events ≡ events_in is_loss (p ∷ passes) = omega
+    (arith, sum_by-cons (λ (q : WalkPass). count_by is_loss q.events) p passes) in
+    let evicted : events_in is_eviction passes + count_by is_eviction p.events ≡ events_in is_eviction (p ∷ passes) = omega
+    (arith, sum_by-cons (λ (q : WalkPass). count_by is_eviction q.events) p passes) in
+    λ i. record { passes = count i; loaded = loaded i; lost = lost i; evicted = evicted i }
+
+-- the tally of a picture with one more pass
+tally_more : (p : WalkPass) (run : List WalkPass) → with_pass p.events (tally_of (passes_of p.picture run)) ≡ tally_of (passes_of p.picture (p ∷ run))
+tally_more p run =
+    let newer : p ∷ passes_of p.picture run ≡ passes_of p.picture (p ∷ run) =
+    ap (λ (b : Bool). if b then p ∷ passes_of p.picture run else passes_of p.picture run) (sym (self_number p.picture)) in
+    tally_grown p (passes_of p.picture run) ∙ ap tally_of newer
+
+wants_for : (s : Shape) (f g : ℕ → ℕ) (wants : List Wanted) → ((p : ℕ) → p < pages_of s → f p ≡ g p) → IsWants s f wants → IsWants s g wants
+wants_for s f g wants same h = record {
+  ordered = h.ordered;
+  once = h.once;
+  exact = λ w. (
+    λ there. let x = (h.exact w).0 there in record { inside = x.inside; some = x.some; all = x.all ∙ same w.page x.inside },
+    λ is. (h.exact w).1 (record { inside = is.inside; some = is.some; all = is.all ∙ sym (same w.page is.inside) }),
+  );
+}
+
+ran_by_some : {M : Type 0} (dealt : Bool) (needs : Scene → ℕ → ℕ → ℕ) (shows : Scene → List ℕ → Table → ℕ → ℕ → ℕ → List ℕ)
+    (drawn : M → PathView → ℕ → ℕ → ℕ → List ℕ → Type 0)
+    (machine : M) (job : Job) (report : PassReport) (s t : MachineState) → Ran dealt needs shows (drawn machine) job report s t
+    → Ran dealt needs shows (IsDrawnBySome drawn) job report s t
+ran_by_some dealt needs shows drawn machine job report s t ran = record {
+  setup = ran.setup;
+  outcome = ran.outcome;
+  journal = ran.journal;
+  rows = ran.rows;
+  read = ran.read;
+  picture = record {
+    count = ran.picture.count;
+    full = ran.picture.full;
+    replayed = ran.picture.replayed;
+    from_draws = λ y line at. (machine, ran.picture.from_draws y line at);
+    all_counts = ran.picture.all_counts;
+    counts_are = ran.picture.counts_are;
+  };
+}
+
+read_partly : (s : Shape) (d : ℕ) (batch : List Planned) (losses : List Bool) (old new : List FileState) → AreReadFor s d batch losses old new
+    → ArePartlyReadFor s d batch old new
+read_partly s d batch losses old new read = record {
+  same = read.same;
+  at_most_once = λ tell at len. let once = (read.once tell).asked at len in omega (arith, once);
+  faults = fewer _ read.faults;
+} where
+  fewer : (n : ℕ) → RoseTogetherBy n (counts_of old) (counts_of new) → RoseTogetherBy 0 (counts_of old) (counts_of new)
+  fewer n (inl more) = inl (omega (arith, more))
+  fewer n (inr end) = inr end
+
+-- the counts of a turn have room for a pass with these events
+pub record HasRoom (turn : Turn) (events : List Event) : Type 0 where
+  pub passes : turn.tally.passes + 1 < 2 ^ 32
+  pub loaded : turn.tally.loaded + length events < 2 ^ 64
+  pub lost : turn.tally.lost + length events < 2 ^ 64
+  pub evicted : turn.tally.evicted + length events < 2 ^ 64
+  pub reads : turn.reads + length turn.batch.elements < 2 ^ 64
+
+module _ (dealt : Bool) (needs : Scene → ℕ → ℕ → ℕ) (shows : Scene → List ℕ → Table → ℕ → ℕ → ℕ → List ℕ) (whole : Scene → List ℕ → ℕ → ℕ → ℕ → List ℕ)
+    (t : Tour) (told : Option (List ℕ)) where
+  pub may_prepare : (run : List WalkPass) (number : ℕ) (turn : Turn) (m : MachineState) (v : RecencyView) → IsTour t → number < 4294967296
+      → MayDraw (given_of dealt needs shows whole t told) run number turn m v → MayPrepare m turn.batch.elements
+  may_prepare run number turn m v tour below may =
+      let g = given_of dealt needs shows whole t told in
+      let h = may.given.setup in
+      let kept = run_kept g.setup run h may.at_run.is_run in
+      let short = journal_short g.setup run tour.settings.crew.few_entries may.at_run.is_run in
+      let planned : length turn.batch.elements ≤ t.settings.crew.batch = omega (arith, ap length may.turn.batch, plan_most g.setup run) in
+      let early : length (journal_after g.setup run) ≤ last_start = omega (arith, short, may.turn.number_is, below, h.enough_frames, h.most_frames) in
+      prepare_of m g.machine (journal_after g.setup run) turn.batch.elements may.at_run.setup may.at_run.journal (root_mapped g.setup run h may.at_run.is_run)
+      (batch_may_be_run g.setup run turn.batch.elements may.at_run.is_run kept may.turn.batch) planned early
+
+  pub recency_shape : (run : List WalkPass) (number : ℕ) (turn : Turn) (m : MachineState) (v : RecencyView)
+      → MayDraw (given_of dealt needs shows whole t told) run number turn m v → v.shape ≡ t.geometry.now
+  recency_shape run number turn m v may =
+      ap (λ (x : RecencyView). x.shape) may.at_run.recency
+      ∙ (run_kept (given_of dealt needs shows whole t told).setup run may.given.setup may.at_run.is_run).shape
+
+  pub turn_lawful : (run : List WalkPass) (number : ℕ) (turn : Turn) (m : MachineState) (v : RecencyView)
+      → MayDraw (given_of dealt needs shows whole t told) run number turn m v → IsLawful v turn.batch.elements
+  turn_lawful run number turn m v may =
+      let w = (given_of dealt needs shows whole t told).setup in
+      subst (λ (x : RecencyView). IsLawful x turn.batch.elements) (sym may.at_run.recency)
+      (batch_is_lawful w run turn.batch.elements may.at_run.is_run (run_kept w run may.given.setup may.at_run.is_run) may.turn.batch)
+
+  pub has_room : (run : List WalkPass) (number : ℕ) (turn : Turn) (m : MachineState) (v : RecencyView) (losses : List Bool) (events : List Event)
+      → IsTour t → number < 4294967296
+      → MayDraw (given_of dealt needs shows whole t told) run number turn m v → IsOutcome turn.batch.elements losses events → HasRoom turn events
+  has_room run number turn m v losses events tour below may outcome =
+      let w = (given_of dealt needs shows whole t told).setup in
+      let h = may.given.setup in
+      let few = tour.settings.crew.few_entries in
+      let is_run = may.at_run.is_run in
+      let planned : length turn.batch.elements ≤ most_entries = omega (arith, ap length may.turn.batch, plan_most w run, few) in
+      let short : length events ≤ 8192 = omega (arith, planned, outcome_short turn.batch.elements losses events outcome) in
+      let count : turn.tally.passes ≡ length (passes_of turn.picture run) = ap (λ (x : Tally). x.passes) may.turn.tally in
+      let loaded : turn.tally.loaded ≡ events_in is_load (passes_of turn.picture run) = ap (λ (x : Tally). x.loaded) may.turn.tally in
+      let lost : turn.tally.lost ≡ events_in is_loss (passes_of turn.picture run) = ap (λ (x : Tally). x.lost) may.turn.tally in
+      let evicted : turn.tally.evicted ≡ events_in is_eviction (passes_of turn.picture run) = ap (λ (x : Tally). x.evicted) may.turn.tally in
+      record {
+        passes = omega (arith, count, passes_short turn.picture run, may.turn.number_is, below);
+        loaded = omega (arith, loaded, short, kinds_short is_load turn.picture run, kind_short w is_load run few is_run, may.turn.number_is, below);
+        lost = omega (arith, lost, short, kinds_short is_loss turn.picture run, kind_short w is_loss run few is_run, may.turn.number_is, below);
+        evicted = omega (arith, evicted, short, kinds_short is_eviction turn.picture run, kind_short w is_eviction run few is_run, may.turn.number_is, below);
+        reads = omega (arith, may.turn.reads, planned, reads_short w run few is_run, may.turn.number_is, below, h.enough_frames, h.most_frames);
+      }
+
+  -- a pass whose outlook was refused was read for
+  pub read_at_most : {M : Type 0} (drawn : M → PathView → ℕ → ℕ → ℕ → List ℕ → Type 0) (machine : M) (run : List WalkPass) (number : ℕ) (turn : Turn)
+      (m after : MachineState) (v : RecencyView) (report : PassReport)
+      → MayDraw (given_of dealt needs shows whole t told) run number turn m v
+      → Ran dealt needs shows (drawn machine) (record { scene = tour_scene t; picture = turn.picture; batch = turn.batch.elements }) report m after
+      → ArePartlyReadFor t.geometry.now t.depth turn.batch.elements m.files after.files
+  read_at_most drawn machine run number turn m after v report may ran =
+      read_partly t.geometry.now t.depth turn.batch.elements report.losses.elements m.files after.files
+      (subst (λ (x : Setup). AreReadFor x.shape x.depth turn.batch.elements report.losses.elements m.files after.files) may.at_run.setup ran.read)
+
+  pub has_drawn : {M : Type 0} (drawn : M → PathView → ℕ → ℕ → ℕ → List ℕ → Type 0) (machine : M) (run : List WalkPass) (number start : ℕ) (turn : Turn)
+      (m after : MachineState)
+      (v v' : RecencyView) (counts : List ℕ) (report : PassReport) (o : Outlook) (d : Drawn)
+      → MayDraw (given_of dealt needs shows whole t told) run number turn m v
+      → Ran dealt needs shows (drawn machine) (record { scene = tour_scene t; picture = turn.picture; batch = turn.batch.elements }) report m after
+      → counts ≡ after.counts
+      → IsOutlook t.geometry.now (slice_index counts) t.settings.crew.batch v turn.batch.elements report.losses.elements v' o → start ≡ length m.journal
+      → IsReported number turn start report o d → HasDrawn dealt needs shows (IsDrawnBySome drawn)
+      (given_of dealt needs shows whole t told) run turn m after v' d
+  has_drawn drawn machine run number start turn m after v v' counts report o d may by_one counts_are_its outlook start_is reported =
+      let g = given_of dealt needs shows whole t told in
+      let job : Job = record { scene = tour_scene t; picture = turn.picture; batch = turn.batch.elements } in
+      let ran = ran_by_some dealt needs shows drawn machine job report m after by_one in
+      let setup : after.setup ≡ g.machine = ran.setup ∙ may.at_run.setup in
+      let pages : pages_of t.geometry.now ≡ pages_of after.setup.shape = ap (λ (x : Setup). pages_of x.shape) (sym setup) in
+      let same : (p : ℕ) → p < pages_of t.geometry.now → slice_index counts p ≡ needs (tour_scene t) turn.picture p =
+      λ p inside. ap (λ (x : List ℕ). slice_index x p) counts_are_its ∙ ran.picture.counts_are p (omega (arith, inside, pages)) in
+      let wanted = wants_for t.geometry.now (slice_index counts) (needs (tour_scene t) turn.picture) outlook.wants same outlook.wanted in
+      let settles = subst (λ (x : RecencyView). IsSettled x (read_entries turn.batch.elements report.losses.elements) outlook.settled) may.at_run.recency
+      outlook.settles in
+      let pass : WalkPass = pass_of job report outlook.wants outlook.settled in
+      let next = comes_next needs shows (IsDrawnBySome drawn) dealt g.setup run job report outlook.wants outlook.settled m after ran refl
+      (ap (λ (x : Setup). x.crew.samplers) (sym may.at_run.setup))
+      (ap (λ (x : Setup). x.height) (sym may.at_run.setup)) may.at_run.journal may.turn.turn may.more may.turn.batch wanted settles in
+      record {
+        pass = pass_of job report outlook.wants outlook.settled;
+        next = next;
+        picture = refl;
+        batch = refl;
+        at_run = record {
+          is_run = (may.at_run.is_run, next);
+          setup = setup;
+          journal = journal_grown needs shows (IsDrawnBySome drawn) dealt g.setup run job report outlook.wants outlook.settled m after ran may.at_run.journal;
+          recency = outlook.after_is;
+        };
+        read = subst (λ (x : Setup). AreReadFor x.shape x.depth turn.batch.elements report.losses.elements m.files after.files) may.at_run.setup ran.read;
+        has_run = record { before = m; report = report; setup = may.at_run.setup; journal = may.at_run.journal; ran = ran; rows_are = refl };
+        text = reported.text ∙ (λ i. record {
+          pass = may.turn.number_is i;
+          picture = turn.picture;
+          start = (start_is ∙ ap length may.at_run.journal) i;
+          events = report.events.elements;
+          rows = report.rows.elements;
+        });
+        passed = record {
+          picture = reported.picture;
+          inside = may.more;
+          loads_nothing = reported.loads_nothing;
+          lost = reported.lost;
+          wanted = ap (λ (x : Outlook). x.wanted) reported.outlook ∙ outlook.count;
+          needed = ap (λ (x : Outlook). x.needed) reported.outlook ∙ outlook.needed_are
+              ∙ ap (λ (x : RecencyView). pages_needed x outlook.wants) outlook.after_is;
+          plan = ap (λ (x : Outlook). x.plan.elements) reported.outlook ∙ outlook.plan_is
+              ∙ ap (λ (x : RecencyView). plan_of x outlook.wants t.settings.crew.batch) outlook.after_is;
+          tally = reported.tally ∙ ap (with_pass report.events.elements) may.turn.tally ∙ tally_more (pass_of job report outlook.wants outlook.settled) run;
+          reads = reported.reads ∙ ap (λ n. n + length turn.batch.elements) may.turn.reads
+              ∙ sym (reads_more g.setup (pass_of job report outlook.wants outlook.settled) run);
+        };
+      }
+
+  -- the events that its text tells are in the chain
+  pub told_in_chain : (drawn : PathView → ℕ → ℕ → ℕ → List ℕ → Type 0) (run : List WalkPass) (number : ℕ) (turn : Turn) (m after : MachineState)
+      (v v' : RecencyView) (d : Drawn)
+      → MayDraw (given_of dealt needs shows whole t told) run number turn m v
+      → HasDrawn dealt needs shows drawn (given_of dealt needs shows whole t told) run turn m after v' d
+      → All (IsEventInChain t.geometry.now) d.text.events.elements
+  told_in_chain drawn run number turn m after v v' d may has =
+      subst (All (IsEventInChain t.geometry.now)) (sym (ap (λ (x : Pass). x.events) has.text))
+      (events_in_chain (given_of dealt needs shows whole t told).setup run has.pass may.given.setup may.at_run.is_run has.next)
+
+  -- there is room for the versions that its text tells
+  pub told_have_room : (drawn : PathView → ℕ → ℕ → ℕ → List ℕ → Type 0) (run : List WalkPass) (number : ℕ) (turn : Turn) (m after : MachineState)
+      (v v' : RecencyView) (d : Drawn)
+      → IsTour t → number < 4294967296 → MayDraw (given_of dealt needs shows whole t told) run number turn m v
+      → HasDrawn dealt needs shows drawn (given_of dealt needs shows whole t told) run turn m after v' d
+      → d.text.start + length d.text.events.elements ≤ most_versions
+  told_have_room drawn run number turn m after v v' d tour below may has =
+      let w = (given_of dealt needs shows whole t told).setup in
+      let h = may.given.setup in
+      let few = tour.settings.crew.few_entries in
+      let start : d.text.start ≡ length (journal_after w run) = ap (λ (x : Pass). x.start) has.text in
+      let count : length d.text.events.elements ≡ length has.pass.events = ap (λ (x : Pass). length x.events) has.text in
+      omega (
+        arith,
+        start,
+        count,
+        events_short w run has.pass few has.next,
+        journal_short w run few may.at_run.is_run,
+        may.turn.number_is,
+        below,
+        h.enough_frames,
+        h.most_frames,
+      )

@@ -1,0 +1,249 @@
+-- A finished walk and what a refused one leaves stay so where files are closed.
+use Rattle.std.proofs.Common.{◌≡◌, ℕ, ◌-◌, inl, inr, List, [], ◌∷◌, length, Option, Some, None, Result, Ok, Err, refl, sym, ap, ◌∙◌, subst, arith}
+use Rattle.std.specs.Prelude.{MatchResult}
+use Rattle.vt_outside.specs.Files.{IsThere}
+use Rattle.vt_outside.specs.Places.{times_failed}
+use Rattle.vt_outside.specs.declared.place.Place.{Place}
+use Rattle.vt_camera.specs.Paths.{PathView}
+use Rattle.vt_pages.specs.Shape.{Shape}
+use Rattle.vt_pages.specs.Pages.{pages_of}
+use Rattle.vt_store.specs.Format.{tile_start, tile_length}
+use Rattle.vt_evict.specs.declared.batches.Planned.{Planned}
+use Rattle.vt_walk.specs.declared.error.WalkError.{WalkError}
+use Rattle.vt_walk.specs.declared.error.WalkError.TheVariants.{TooFewFrames, DoesNotFit, Failed, NoMemory}
+use Rattle.vt_walk.specs.declared.mode.Mode.{Mode}
+use Rattle.vt_walk.specs.declared.mode.Mode.TheVariants.{Live, Settled}
+use Rattle.vt_walk.specs.Runs.{WalkPass, plan_after, planned_in, lost_in}
+use Rattle.vt_walk.specs.Walks.{WalkGiven}
+use Rattle.vt_walk.specs.States.{WalkState}
+use Rattle.vt_walk.specs.Reads.{AreAskedFor, AreAskedAtMostFor, OnTold, lost_reads}
+use Rattle.vt_walk.specs.Standing.{Stands, Finished}
+use Rattle.vt_walk.specs.Leaving.{AsksNothing, LeftAtHead, IsFront, LeftInRun, Left}
+use Rattle.vt_walk.specs.Causes.{reads_lost, faults_borne, HasFailed, IsCausedBy}
+use Rattle.vt_walk.specs.Turns.{LeftBy}
+use Rattle.vt_walk.proofs.Asks.{told_twice}
+use Rattle.vt_walk.proofs.Placed.{same_sum}
+use Rattle.vt_walk.proofs.Closings.{AreSamePlaces, IsAlike}
+
+-- as much was asked
+still_asked : (s : Shape) (d pinned : ℕ) (planned lost : List Planned) (a b c : Option (List Place)) → OnTold (AreAskedFor s d pinned planned lost) a b
+    → OnTold AreSamePlaces b c → OnTold (AreAskedFor s d pinned planned lost) a c
+still_asked s d pinned planned lost a b c asked same =
+    told_twice (AreAskedFor s d pinned planned lost) AreSamePlaces (AreAskedFor s d pinned planned lost) a b c
+    (λ x y z first then. record {
+      asked = λ at len. then.asked at len ∙ first.asked at len;
+      failed = λ at len. then.failed at len ∙ first.failed at len;
+    }) asked same
+
+still_at_most : (s : Shape) (d pinned : ℕ) (planned : List Planned) (a b c : Option (List Place)) → OnTold (AreAskedAtMostFor s d pinned planned) a b
+    → OnTold AreSamePlaces b c → OnTold (AreAskedAtMostFor s d pinned planned) a c
+still_at_most s d pinned planned a b c asked same =
+    told_twice (AreAskedAtMostFor s d pinned planned) AreSamePlaces (AreAskedAtMostFor s d pinned planned) a b c
+    (λ x y z first then at len. omega (arith, then.asked at len, first at len)) asked same
+
+module _ (drawn : PathView → ℕ → ℕ → ℕ → List ℕ → Type 0) (g : WalkGiven) (first mid last : WalkState) (alike : IsAlike mid last) where
+  pub finished_alike : Finished drawn g first mid → Finished drawn g first last
+  finished_alike f = record {
+    run = f.run;
+    is_run = f.is_run;
+    whole = f.whole;
+    judged = f.judged;
+    fits = f.fits;
+    legal = f.legal;
+    pinned = f.pinned;
+    pictures = f.pictures;
+    all = f.all;
+    written = f.written;
+    files = λ apart. alike.files ∙ f.files apart;
+    held = alike.held ∙ f.held;
+    asked = still_asked _ _ _ _ _ first.asked mid.asked last.asked f.asked alike.asked;
+    faults = let most = f.faults in let more = alike.faults in omega (arith, most, more);
+  }
+
+  stands_alike : (run : List WalkPass) (pictures : List (List ℕ)) → Stands drawn g run pictures first mid → Stands drawn g run pictures first last
+  stands_alike run pictures s = record {
+    is_run = s.is_run;
+    reached = s.reached;
+    written = s.written;
+    files = λ apart. alike.files ∙ s.files apart;
+    there = subst (λ told. IsThere told g.names.journal) (sym alike.files) s.there;
+    held = alike.held ∙ s.held;
+    asked = still_asked _ _ _ _ _ first.asked mid.asked last.asked s.asked alike.asked;
+    faults = let most = s.faults in let more = alike.faults in omega (arith, most, more);
+    out_faults = let most = s.out_faults in let same = alike.out_faults in omega (arith, most, same);
+  }
+
+  head_alike : LeftAtHead g first mid → LeftAtHead g first last
+  head_alike l = record {
+    files = elim l.files [ inl none ↦ inl (alike.files ∙ none) | inr (k, part) ↦ inr (k, alike.files ∙ part) ];
+    held = alike.held ∙ l.held;
+    asked = still_at_most g.scene.shape g.scene.depth g.setup.pinned [] first.asked mid.asked last.asked l.asked alike.asked;
+    faults = let most = l.faults in let more = alike.faults in omega (arith, most, more);
+    out_faults = let most = l.out_faults in let same = alike.out_faults in omega (arith, most, same);
+  }
+
+  -- what stood in the middle, with the places that were asked at the end
+  abbrev middle : WalkState → WalkState
+  middle before = record before { asked = last.asked }
+
+  none_alike : (before : WalkState) → AsksNothing before mid → AsksNothing (middle before) last
+  none_alike before n = record {
+    asked = refl;
+    faults = let most = n.faults in let more = alike.faults in omega (arith, most, more);
+    out_faults = let most = n.out_faults in let same = alike.out_faults in omega (arith, most, same);
+  }
+
+  middle_alike : (run : List WalkPass) (pictures : List (List ℕ)) (before : WalkState) → AsksNothing before mid → Stands drawn g run pictures first before
+      → Stands drawn g run pictures first (middle before)
+  middle_alike run pictures before n s = record {
+    is_run = s.is_run;
+    reached = s.reached;
+    written = s.written;
+    files = s.files;
+    there = s.there;
+    held = s.held;
+    asked = still_asked _ _ _ _ _ first.asked mid.asked last.asked (subst (λ (o : Option (List Place)). OnTold
+        (AreAskedFor g.scene.shape g.scene.depth g.setup.pinned (planned_in run) (lost_in run)) first.asked o) (sym n.asked) s.asked) alike.asked;
+    faults = s.faults;
+    out_faults = s.out_faults;
+  }
+
+  front_alike : (run : List WalkPass) (pictures : List (List ℕ)) (before : WalkState) → Stands drawn g run pictures first before
+      → IsFront drawn g run (length pictures) before mid → LeftInRun drawn g first last
+  front_alike run pictures before s (inl (written, none)) = record {
+    run = run;
+    pictures = pictures;
+    mid = middle before;
+    stands = middle_alike run pictures before none s;
+    front = inl (record { files = alike.files ∙ written.files; held = alike.held ∙ written.held }, none_alike before none);
+  }
+  front_alike run pictures before s (inr (inl l)) = record {
+    run = run;
+    pictures = pictures;
+    mid = before;
+    stands = s;
+    front = inr (inl (record {
+      turn = l.turn;
+      of_path = l.of_path;
+      files = alike.files ∙ l.files;
+      held = alike.held ∙ l.held;
+      asked = still_at_most g.scene.shape g.scene.depth 0 (plan_after g.setup run) before.asked mid.asked last.asked l.asked alike.asked;
+      faults = let most = l.faults in let more = alike.faults in omega (arith, most, more);
+      out_faults = let most = l.out_faults in let same = alike.out_faults in omega (arith, most, same);
+    }));
+  }
+  front_alike run pictures before s (inr (inr (inl l))) = record {
+    run = run;
+    pictures = pictures;
+    mid = before;
+    stands = s;
+    front = inr (inr (inl (record {
+      next = l.next;
+      comes_next = l.comes_next;
+      picture_is = l.picture_is;
+      files = elim l.files [ inl none ↦ inl (alike.files ∙ none) | inr (k, part) ↦ inr (k, alike.files ∙ part) ];
+      held = alike.held ∙ l.held;
+      asked = still_asked _ _ _ _ _ before.asked mid.asked last.asked l.asked alike.asked;
+      faults = let most = l.faults in let more = alike.faults in omega (arith, most, more);
+      out_faults = let most = l.out_faults in let same = alike.out_faults in omega (arith, most, same);
+    })));
+  }
+  front_alike run pictures before s (inr (inr (inr (inl l)))) = record {
+    run = run;
+    pictures = pictures;
+    mid = middle before;
+    stands = middle_alike run pictures before l.none s;
+    front = inr (inr (inr (inl (record {
+      finished = l.finished;
+      bytes = l.bytes;
+      written = l.written;
+      files = elim l.files [ inl none ↦ inl (alike.files ∙ none) | inr (k, part) ↦ inr (k, alike.files ∙ part) ];
+      held = alike.held ∙ l.held;
+      none = none_alike before l.none;
+    }))));
+  }
+  front_alike run pictures before s (inr (inr (inr (inr (inl l))))) = record {
+    run = run;
+    pictures = pictures;
+    mid = middle before;
+    stands = middle_alike run pictures before l.none s;
+    front = inr (inr (inr (inr (inl (record {
+      finished = l.finished;
+      bytes = l.bytes;
+      written = l.written;
+      files = alike.files ∙ l.files;
+      count = l.count;
+      held = alike.held ∙ l.held;
+      none = none_alike before l.none;
+    })))));
+  }
+  front_alike run pictures before s (inr (inr (inr (inr (inr l))))) = record {
+    run = run;
+    pictures = pictures;
+    mid = middle before;
+    stands = middle_alike run pictures before l.none s;
+    front = inr (inr (inr (inr (inr (record {
+      whole = l.whole;
+      all = l.all;
+      files = alike.files ∙ l.files;
+      count = l.count;
+      held = alike.held ∙ l.held;
+      none = none_alike before l.none;
+    })))));
+  }
+
+  left_alike : Left drawn g first mid → Left drawn g first last
+  left_alike (inl l) = inl (head_alike l)
+  left_alike (inr l) = inr (front_alike l.run l.pictures l.mid l.stands l.front)
+
+  lost_alike : (s : Shape) (d pinned : ℕ) (before after : List Place) → AreSamePlaces before after → lost_reads s d pinned after ≡ lost_reads s d pinned before
+  lost_alike s d pinned before after same =
+      same_sum (λ p. times_failed (tile_start s d p) (tile_length s d) after) (λ p. times_failed (tile_start s d p) (tile_length s d) before)
+      (pages_of s - pinned)
+      (λ p below. same.failed (tile_start s d p) (tile_length s d))
+
+  reads_alike : (a b c : Option (List Place)) → OnTold AreSamePlaces b c → reads_lost g a c ≡ reads_lost g a b
+  reads_alike None None None same = refl
+  reads_alike (Some a) None None same = refl
+  reads_alike None (Some b) (Some c) same = refl
+  reads_alike (Some a) (Some b) (Some c) same =
+      ap (λ n. n - lost_reads g.scene.shape g.scene.depth g.setup.pinned a) (lost_alike g.scene.shape g.scene.depth g.setup.pinned b c same)
+  reads_alike a None (Some c) same = absurd same
+  reads_alike a (Some b) None same = absurd same
+
+  borne_alike : (mode : Mode) → faults_borne mode g first last ≡ faults_borne mode g first mid
+  borne_alike Live = reads_alike first.asked mid.asked last.asked alike.asked
+  borne_alike Settled = refl
+
+  failed_alike : HasFailed g first mid → HasFailed g first last
+  failed_alike (inl rose) = let same = alike.out_faults in inl (omega (arith, rose, same))
+  failed_alike (inr rose) = let same = borne_alike g.setup.mode in let more = alike.faults in inr (omega (arith, rose, same, more))
+
+  caused_alike : (error : WalkError) → IsCausedBy drawn g first mid error → IsCausedBy drawn g first last error
+  caused_alike (TooFewFrames frames needed) c = record {
+    frames_are = c.frames_are;
+    needed_are = c.needed_are;
+    few = c.few;
+    none = record { files = alike.files ∙ c.none.files; held = alike.held ∙ c.none.held };
+  }
+  caused_alike (DoesNotFit picture needed room) c = record {
+    settled = c.settled;
+    room_is = c.room_is;
+    unfit = c.unfit;
+    earlier = c.earlier;
+    pass = c.pass;
+    before = c.before;
+    of_picture = c.of_picture;
+    first_pass = c.first_pass;
+    pictures = c.pictures;
+    all = c.all;
+    stands = stands_alike (c.pass ∷ c.before) c.pictures c.stands;
+  }
+  caused_alike Failed c = failed_alike c
+  caused_alike NoMemory c = tt
+
+  -- a walk ends as it did before the files were closed
+  pub ends_alike : {T : Type 0} (r : Result T WalkError) → MatchResult r (λ _. Finished drawn g first mid) (LeftBy drawn g first mid)
+      → MatchResult r (λ _. Finished drawn g first last) (LeftBy drawn g first last)
+  ends_alike (Ok x) f = finished_alike f
+  ends_alike (Err error) l = (left_alike l.0, caused_alike error l.1)

@@ -1,0 +1,332 @@
+-- The turn after a pass.
+use Rattle.std.proofs.Common.{◌≡◌, ℕ, suc, ◌+◌, ◌-◌, ◌<◌, ◌≤◌, ◌≢◌, ◌⊎◌, inl, inr, Bool, true, false, ◌==◌, List, [], ◌∷◌, ◌++◌, length, sum, Option, Some, None, refl, sym, ap, ◌∙◌, subst, min, take, arith}
+use Rattle.std.specs.Prelude.{option_map, IsSome, IsTrue, ◌↔◌, All, slice_index_or, if◌then◌else◌}
+use Rattle.std.specs.List.{concat}
+use Rattle.vt_outside.specs.Counts.{added, Rose, RoseBy}
+use Rattle.vt_outside.specs.Files.{Files, Asked, with_bytes, gained}
+use Rattle.vt_outside.specs.declared.answers.OutsideError.{OutsideError}
+use Rattle.vt_outside.specs.declared.answers.OutsideError.TheVariants.{Failed, NoMemory}
+use Rattle.vt_pages.specs.Pages.{IsWithinLimits}
+use Rattle.vt_ppm.specs.Picture.{picture_bytes}
+use Rattle.vt_words.specs.Names.{picture_name}
+use Rattle.vt_camera.specs.Paths.{PathView}
+use Rattle.vt_journal.specs.Changes.{Table}
+use Rattle.vt_store.specs.StoreViews.{IsStore}
+use Rattle.vt_evict.specs.declared.batches.Planned.{Planned}
+use Rattle.vt_evict.specs.Views.{RecencyView, pages_needed}
+use Rattle.vt_shown.specs.Scenes.{Scene}
+use Rattle.vt_pass.specs.Outcomes.{lost_count}
+use Rattle.vt_pass.specs.Requests.{FileState, AllTell}
+use Rattle.vt_pass.specs.Machines.{Setup, MachineState}
+use Rattle.vt_shown.specs.Replays.{IsFull}
+use Rattle.vt_pass.specs.Passes.{MapsNeeded}
+use Rattle.vt_walk.specs.declared.error.WalkError.{WalkError}
+use Rattle.vt_walk.specs.declared.error.WalkError.TheVariants as walk_error
+use Rattle.vt_walk.specs.declared.mode.Mode.{Mode}
+use Rattle.vt_walk.specs.declared.mode.Mode.TheVariants.{Live, Settled}
+use Rattle.vt_walk.specs.declared.settings.Settings.{Settings}
+use Rattle.vt_walk.specs.declared.tallies.Tally.{Tally}
+use Rattle.vt_walk.specs.declared.turns.Turn.{Turn}
+use Rattle.vt_walk.specs.declared.turns.Passed.{Passed}
+use Rattle.vt_walk.specs.Refusals.{refusal_by}
+use Rattle.vt_walk.specs.Fits.{WalkSetup, Fits, room_of, DoesNotFit, NeedsFrames}
+use Rattle.vt_walk.specs.Runs.{WalkPass, IsWalkSetup, IsRun, IsTurnOf, IsPictureAfter, IsFinished, Finishes, GoesOn, plan_after, recency_after, planned_in, lost_in}
+use Rattle.vt_walk.specs.Logs.{passes_of, picture_line, line_with, wanted_in}
+use Rattle.vt_walk.specs.Walks.{WalkGiven, WalkNames, given_by, names_of}
+use Rattle.vt_walk.specs.States.{WalkState}
+use Rattle.vt_walk.specs.Reads.{AreAskedFor, OnTold}
+use Rattle.vt_walk.specs.Written.{IsWritten}
+use Rattle.vt_walk.specs.Standing.{Stands}
+use Rattle.vt_walk.specs.Leaving.{Left, AsksNothing}
+use Rattle.vt_walk.specs.Causes.{HasFailed, IsCausedBy, HasUnfit}
+use Rattle.vt_walk.specs.Tallies.{tally_of, no_passes, numbers_line}
+use Rattle.vt_walk.specs.Judging.{IsEnd, IsStoppedBy}
+use Rattle.vt_walk.specs.Tours.{IsTour, given_of, tour_scene}
+use Rattle.vt_walk.specs.declared.tour.Tour.{Tour}
+use Rattle.vt_walk.specs.Turns.{IsGiven, IsAtRun, IsPassed, StandsAt, StandsAfter, LeftBy}
+use Rattle.vt_walk.proofs.Asking.{losses_more}
+use Rattle.vt_walk.proofs.Asks.{with_open}
+use Rattle.vt_walk.proofs.Drawing.{picture_written}
+use Rattle.vt_walk.proofs.Failing.{has_failed, settled_failed}
+use Rattle.vt_walk.proofs.Passing.{state_of}
+use Rattle.vt_walk.proofs.Running.{run_kept}
+use Rattle.vt_walk.proofs.Showing.{other_number, self_number}
+use Rattle.vt_walk.proofs.Steps.{picture_told}
+use Rattle.vt_walk.proofs.Turning.{earlier_fit, unfit_first}
+use Rattle.vt_walk.proofs.Wholeness.{needs_of}
+
+-- a run has no pass of a picture after its newest one's
+before_it : (w : WalkSetup) (p q : WalkPass) (run : List WalkPass) → IsRun w (p ∷ q ∷ run) → q.picture ≤ p.picture
+before_it w p q run is_run = either is_run.1.turn.1 where
+  either : {F : Type 0} → (F × (p.picture ≡ q.picture + 1)) ⊎ ((F → ⊥) × (p.picture ≡ q.picture)) → q.picture ≤ p.picture
+  either (inl next) = omega (arith, next.1)
+  either (inr same) = omega (arith, same.1)
+
+none_after : (w : WalkSetup) (p : WalkPass) (run : List WalkPass) (k : ℕ) → IsRun w (p ∷ run) → p.picture < k → passes_of k (p ∷ run) ≡ []
+none_after w p [] k is_run before =
+    let other : p.picture ≢ k = λ same. absurd (omega (arith, same, before)) in
+    ap (λ (b : Bool). if b then p ∷ passes_of k [] else passes_of k []) (other_number p.picture k other)
+none_after w p (q ∷ run) k is_run before =
+    let other : p.picture ≢ k = λ same. absurd (omega (arith, same, before)) in
+    ap (λ (b : Bool). if b then p ∷ passes_of k (q ∷ run) else passes_of k (q ∷ run)) (other_number p.picture k other)
+    ∙ none_after w q run k is_run.0 (let e = before_it w p q run is_run in omega (arith, e, before))
+
+-- the pages that a run's newest picture needs
+needs_frames : (w : WalkSetup) (p : WalkPass) (run : List WalkPass) (h : IsWalkSetup w) → IsRun w (p ∷ run) → NeedsFrames w p.picture (pages_needed (recency_after w (p ∷ run)) p.wants)
+needs_frames w p run h is_run =
+    let kept = run_kept w (p ∷ run) h is_run in
+    needs_of w (recency_after w (p ∷ run)) p.picture p.wants kept.shape kept.pinned is_run.1.wanted
+
+-- a walk may go on
+may_go : (mode : Mode) (w : WalkSetup) (p : WalkPass) (needed : ℕ) → (mode ≡ Settled → lost_count p.losses ≡ 0) → (mode ≡ Settled → needed ≤ room_of w)
+    → NeedsFrames w p.picture needed → GoesOn mode w p
+may_go Live w p needed none fits pages = tt
+may_go Settled w p needed none fits pages = (none refl, record { needed = needed; pages = pages; room = fits refl })
+
+-- by what is known of a pass it has finished its picture, or not
+end_of : (mode : Mode) (p : WalkPass) (loads_nothing : Bool) (plan next : List Planned) → IsTrue loads_nothing ↔ (p.batch ≡ []) → plan ≡ next
+    → IsEnd mode loads_nothing plan ↔ Finishes mode p.batch next
+end_of Live p loads_nothing plan next batch is = (λ e. tt, λ e. tt)
+end_of Settled p loads_nothing plan next batch is = (λ e. (batch.0 e.0, sym is ∙ e.1), λ e. (batch.1 e.0, is ∙ e.1))
+
+line_of : (p : WalkPass) (run : List WalkPass) → passes_of p.picture (p ∷ run) ≡ p ∷ passes_of p.picture run
+line_of p run = ap (λ (b : Bool). if b then p ∷ passes_of p.picture run else passes_of p.picture run) (self_number p.picture)
+
+-- the line of a picture by what was counted
+line_is : (p : WalkPass) (run : List WalkPass) (picture wanted : ℕ) (t : Tally) → picture ≡ p.picture → wanted ≡ length p.wants → t ≡ tally_of (passes_of p.picture (p ∷ run))
+    → numbers_line picture wanted t ≡ picture_line (p ∷ run) p.picture
+unfolding picture_line
+line_is p run picture wanted t same wants tally =
+    ap (λ k. numbers_line k wanted t) same ∙ ap (λ k. numbers_line p.picture k t) wants ∙ ap (numbers_line p.picture (length p.wants)) tally
+    ∙ ap (λ k. numbers_line p.picture k (tally_of (passes_of p.picture (p ∷ run)))) (ap wanted_in (sym (line_of p run)))
+
+module _ (dealt : Bool) (needs : Scene → ℕ → ℕ → ℕ) (shows : Scene → List ℕ → Table → ℕ → ℕ → ℕ → List ℕ) (whole : Scene → List ℕ → ℕ → ℕ → ℕ → List ℕ)
+    (drawn : PathView → ℕ → ℕ → ℕ → List ℕ → Type 0)
+    (law : (scene : Scene) (b : List ℕ) (m : Table) (i x y : ℕ) → IsWithinLimits scene.shape → IsStore b scene.shape scene.depth
+    → i < length scene.path.cameras → x < scene.path.width → y < scene.path.height → MapsNeeded scene.shape m (needs scene i)
+    → shows scene b m i x y ≡ whole scene b i x y)
+    (scene : Scene) (settings : Settings) (mode : Mode) (told : Option (List ℕ)) (names : WalkNames) (number : ℕ) (p : Passed) (first : WalkState) (m : MachineState) (v : RecencyView) where
+  abbrev given : WalkGiven
+  given = given_by dealt needs shows whole scene settings mode told names
+
+  -- rows of a picture are full
+  pub rows_count : (was : WalkState) → StandsAfter dealt needs shows drawn given number p first was m v → length m.rows ≡ scene.path.height
+  rows_count was s = s.has_run.ran.picture.count ∙ ap (λ (x : Setup). x.height) s.at_run.setup
+
+  pub rows_full : (was : WalkState) → StandsAfter dealt needs shows drawn given number p first was m v → All (IsFull scene.depth scene.path.width) m.rows
+  rows_full was s = subst (λ (x : Setup). (k : ℕ) (d : List ℕ) → k < length m.rows → IsFull x.depth x.width (slice_index_or m.rows k d)) s.at_run.setup s.has_run.ran.picture.full
+
+  goes : (was : WalkState) (s : StandsAfter dealt needs shows drawn given number p first was m v) → (mode ≡ Settled → p.lost ≡ 0) → (mode ≡ Settled → p.outlook.needed ≤ room_of given.setup)
+      → GoesOn mode given.setup s.pass
+  goes was s none fits =
+      may_go mode given.setup s.pass p.outlook.needed (λ is. sym s.passed.lost ∙ none is) fits
+      (subst (NeedsFrames given.setup s.pass.picture) (sym s.passed.needed) (needs_frames given.setup s.pass s.run s.given.setup s.at_run.is_run))
+
+  -- the same picture has another pass
+  pub same_picture : (was : WalkState) (s : StandsAfter dealt needs shows drawn given number p first was m v) → (mode ≡ Settled → p.lost ≡ 0)
+      → (mode ≡ Settled → p.outlook.needed ≤ room_of given.setup) → (IsEnd mode p.loads_nothing p.outlook.plan.elements → ⊥)
+      → StandsAt drawn given (number + 1) (record { picture = p.picture; batch = p.outlook.plan; tally = p.tally; reads = p.reads }) first was m v
+  same_picture was s none fits unfinished =
+      let same : p.picture ≡ s.pass.picture = s.passed.picture in
+      let finish = end_of mode s.pass p.loads_nothing p.outlook.plan.elements (plan_after given.setup (s.pass ∷ s.run)) s.passed.loads_nothing s.passed.plan in
+      record {
+        run = s.pass ∷ s.run;
+        pictures = s.pictures;
+        count = same ∙ s.count;
+        given = s.given;
+        stands = s.stands;
+        at_run = s.at_run;
+        turn = record {
+          inside = let i = s.passed.inside in omega (arith, i, same);
+          turn = (goes was s none fits, inr (λ finished. unfinished (finish.1 finished), same));
+          batch = s.passed.plan;
+          tally = s.passed.tally ∙ ap (λ k. tally_of (passes_of k (s.pass ∷ s.run))) (sym same);
+          reads = s.passed.reads;
+          number_is = let n = s.number_is in omega (arith, n);
+        };
+        tell = s.tell;
+      }
+
+  -- the walk stops after the pass, of which all stands
+  stops : (was : WalkState) → StandsAfter dealt needs shows drawn given number p first was m v → Left drawn given first was
+  stops was s = inr (record {
+    run = s.pass ∷ s.run;
+    pictures = s.pictures;
+    mid = was;
+    stands = s.stands;
+    front = inl (record { files = refl; held = refl }, record { asked = refl; faults = omega arith; out_faults = omega arith });
+  })
+
+  -- a tile of a settled walk was lost
+  pub tile_lost : (was : WalkState) → StandsAfter dealt needs shows drawn given number p first was m v → mode ≡ Settled → 1 ≤ p.lost
+      → LeftBy drawn given first was walk_error.Failed
+  tile_lost was s settled lost =
+      let n = losses_more given.setup s.pass s.run s.at_run.is_run in
+      let e = s.passed.lost in
+      let f = s.stands.faults in
+      (stops was s, settled_failed given first was settled (omega (arith, n, e, f, lost)))
+
+  -- the picture does not fit
+  pub no_room : (was : WalkState) → StandsAfter dealt needs shows drawn given number p first was m v → mode ≡ Settled → (picture wanted room : ℕ)
+      → picture ≡ p.picture → wanted ≡ p.outlook.needed → room ≡ room_of given.setup → room < wanted
+      → LeftBy drawn given first was (walk_error.DoesNotFit picture wanted room)
+  no_room was s settled picture wanted room of_picture are is over =
+      let same : picture ≡ s.pass.picture = of_picture ∙ s.passed.picture in
+      let pages : NeedsFrames given.setup s.pass.picture wanted =
+      subst (NeedsFrames given.setup s.pass.picture) (sym (are ∙ s.passed.needed)) (needs_frames given.setup s.pass s.run s.given.setup s.at_run.is_run) in
+      let unfit : DoesNotFit given.setup s.pass.picture wanted = record { pages = pages; no_room = omega (arith, is, over) } in (
+        stops was s,
+        record {
+          settled = settled;
+          room_is = is;
+          unfit = subst (λ k. DoesNotFit given.setup k wanted) (sym same) unfit;
+          earlier = λ i before. earlier_fit given.setup s.pass s.run i settled s.at_run.is_run (omega (arith, before, same));
+          pass = s.pass;
+          before = s.run;
+          of_picture = sym same;
+          first_pass = ap (λ k. passes_of k s.run) same ∙ unfit_first given.setup s.pass s.run wanted settled s.at_run.is_run unfit;
+          pictures = s.pictures;
+          all = sym (same ∙ s.count);
+          stands = s.stands;
+        },
+      )
+
+  -- the bytes of the picture
+  abbrev bytes : List ℕ
+  bytes = picture_bytes scene.depth scene.path.width scene.path.height (concat m.rows)
+
+  is_written : (was : WalkState) (s : StandsAfter dealt needs shows drawn given number p first was m v) → (mode ≡ Settled → p.lost ≡ 0)
+      → (mode ≡ Settled → p.outlook.needed ≤ room_of given.setup) → IsEnd mode p.loads_nothing p.outlook.plan.elements
+      → IsWritten drawn given (s.pass ∷ s.run) s.pass.picture bytes
+  is_written was s none fits end =
+      picture_written dealt needs shows whole drawn law scene settings mode told names s.run s.pass m s.given s.at_run.is_run s.has_run s.at_run.journal (goes was s none fits)
+      ((end_of mode s.pass p.loads_nothing p.outlook.plan.elements (plan_after given.setup (s.pass ∷ s.run)) s.passed.loads_nothing s.passed.plan).0 end)
+
+  module _ (store : List ℕ) (kept : FileState) (files files' : Option Files) (asked asked' : Option Asked) (faults faults' : ℕ) (held held' : Option (List ℕ))
+      (out_faults out_faults' : ℕ) where
+    abbrev was : WalkState
+    was = state_of files asked faults store (kept ∷ m.files) held out_faults
+
+    abbrev now : WalkState
+    now = state_of files' asked' faults' store (kept ∷ m.files) held' out_faults'
+
+    -- the picture and its line are whole
+    pub next_picture : (s : StandsAfter dealt needs shows drawn given number p first was m v) → (mode ≡ Settled → p.lost ≡ 0)
+        → (mode ≡ Settled → p.outlook.needed ≤ room_of given.setup) → IsEnd mode p.loads_nothing p.outlook.plan.elements
+        → files' ≡ option_map (with_bytes (picture_name names.prefix p.picture) bytes) files
+        → held' ≡ option_map (gained (numbers_line p.picture p.outlook.wanted p.tally)) held
+        → asked' ≡ asked → faults ≤ faults' → out_faults ≤ out_faults' → (t : Tally) → t ≡ no_passes
+        → StandsAt drawn given (number + 1) (record { picture = p.picture + 1; batch = p.outlook.plan; tally = t; reads = p.reads }) first now m v
+    next_picture s none fits end written line same risen out_risen t empty =
+        let picture : p.picture ≡ length s.pictures = s.passed.picture ∙ s.count in
+        let finish = (end_of mode s.pass p.loads_nothing p.outlook.plan.elements (plan_after given.setup (s.pass ∷ s.run)) s.passed.loads_nothing s.passed.plan).0 end in
+        record {
+          run = s.pass ∷ s.run;
+          pictures = bytes ∷ s.pictures;
+          count = omega (arith, picture);
+          given = s.given;
+          stands = picture_told drawn given s.pass s.run s.pictures bytes first was now s.stands finish s.count
+              (subst (λ k. IsWritten drawn given (s.pass ∷ s.run) k bytes) s.count (is_written was s none fits end))
+              (written ∙ ap (λ k. option_map (with_bytes (picture_name names.prefix k) bytes) files) picture)
+              (line ∙ ap (λ (l : List ℕ). option_map (gained l) held)
+              (line_is s.pass s.run p.picture p.outlook.wanted p.tally s.passed.picture s.passed.wanted s.passed.tally ∙ ap (picture_line (s.pass ∷ s.run)) s.count))
+              (ap (with_open store (kept ∷ m.files)) same) (omega (arith, risen)) out_risen;
+          at_run = s.at_run;
+          turn = record {
+            inside = let i = s.passed.inside in let e = s.passed.picture in omega (arith, i, e);
+            turn = (goes was s none fits, inl (finish, ap (λ k. k + 1) s.passed.picture));
+            batch = s.passed.plan;
+            tally = empty ∙ ap tally_of (sym (none_after given.setup s.pass s.run (p.picture + 1) s.at_run.is_run (let e = s.passed.picture in omega (arith, e))));
+            reads = s.passed.reads;
+            number_is = let n = s.number_is in omega (arith, n);
+          };
+          tell = subst (λ (a : Option Asked). IsSome (with_open store (kept ∷ m.files) a) → AllTell m.files) (sym same) s.tell;
+        }
+
+    -- the folder failed after a pass
+    fails : (s : StandsAfter dealt needs shows drawn given number p first was m v) → asked' ≡ asked → Rose faults faults' → HasFailed given first now
+    fails s same rose =
+        has_failed given (planned_in (s.pass ∷ s.run)) (lost_in (s.pass ∷ s.run)) first now s.given
+        (subst (λ (a : Option Asked). OnTold (AreAskedFor scene.shape scene.depth given.setup.pinned (planned_in (s.pass ∷ s.run)) (lost_in (s.pass ∷ s.run))) first.asked (with_open store (kept ∷ m.files) a))
+        (sym same) s.stands.asked) (let f = s.stands.faults in omega (arith, f, rose))
+
+    asks_nothing : asked' ≡ asked → faults ≤ faults' → out_faults ≤ out_faults' → AsksNothing was now
+    asks_nothing same risen out_risen = record { asked = ap (with_open store (kept ∷ m.files)) same; faults = omega (arith, risen); out_faults = out_risen }
+
+    -- of the picture a front part stands
+    pub picture_broke : (error : OutsideError) (e : WalkError) (s : StandsAfter dealt needs shows drawn given number p first was m v) → (mode ≡ Settled → p.lost ≡ 0)
+        → (mode ≡ Settled → p.outlook.needed ≤ room_of given.setup) → IsEnd mode p.loads_nothing p.outlook.plan.elements
+        → (files' ≡ files) ⊎ ((k : ℕ) × (files' ≡ option_map (with_bytes (picture_name names.prefix p.picture) (take k bytes)) files))
+        → held' ≡ held → asked' ≡ asked → faults ≤ faults' → out_faults ≤ out_faults' → (error ≡ Failed → Rose faults faults') → e ≡ refusal_by error
+        → LeftBy drawn given first now e
+    picture_broke error e s none fits end part line same risen out_risen failed is =
+        let picture : p.picture ≡ length s.pictures = s.passed.picture ∙ s.count in
+        let finish = (end_of mode s.pass p.loads_nothing p.outlook.plan.elements (plan_after given.setup (s.pass ∷ s.run)) s.passed.loads_nothing s.passed.plan).0 end in (
+          inr (record {
+            run = s.pass ∷ s.run;
+            pictures = s.pictures;
+            mid = was;
+            stands = s.stands;
+            front = inr (inr (inr (inl (record {
+              finished = (finish, s.count);
+              bytes = bytes;
+              written = subst (λ k. IsWritten drawn given (s.pass ∷ s.run) k bytes) s.count (is_written was s none fits end);
+              files = subst (λ n. (files' ≡ files) ⊎ ((k : ℕ) × (files' ≡ option_map (with_bytes (picture_name names.prefix n) (take k bytes)) files))) picture part;
+              held = line;
+              none = asks_nothing same risen out_risen;
+            }))));
+          }),
+          subst (IsCausedBy drawn given first now) (sym is) (cause error failed),
+        ) where
+          cause : (error : OutsideError) → (error ≡ Failed → Rose faults faults') → IsCausedBy drawn given first now (refusal_by error)
+          cause NoMemory failed = tt
+          cause Failed failed = fails s same (failed refl)
+
+    -- of the line a front part stands
+    pub line_broke : (error : OutsideError) (e : WalkError) (s : StandsAfter dealt needs shows drawn given number p first was m v) → (mode ≡ Settled → p.lost ≡ 0)
+        → (mode ≡ Settled → p.outlook.needed ≤ room_of given.setup) → IsEnd mode p.loads_nothing p.outlook.plan.elements
+        → files' ≡ option_map (with_bytes (picture_name names.prefix p.picture) bytes) files
+        → (k : ℕ) × (held' ≡ option_map (gained (take k (numbers_line p.picture p.outlook.wanted p.tally))) held)
+        → asked' ≡ asked → faults ≤ faults' → out_faults ≤ out_faults' → (error ≡ Failed → Rose out_faults out_faults') → e ≡ refusal_by error
+        → LeftBy drawn given first now e
+    line_broke error e s none fits end written part same risen out_risen failed is =
+        let picture : p.picture ≡ length s.pictures = s.passed.picture ∙ s.count in
+        let finish = (end_of mode s.pass p.loads_nothing p.outlook.plan.elements (plan_after given.setup (s.pass ∷ s.run)) s.passed.loads_nothing s.passed.plan).0 end in (
+          inr (record {
+            run = s.pass ∷ s.run;
+            pictures = s.pictures;
+            mid = was;
+            stands = s.stands;
+            front = inr (inr (inr (inr (inl (record {
+              finished = (finish, s.count);
+              bytes = bytes;
+              written = subst (λ k. IsWritten drawn given (s.pass ∷ s.run) k bytes) s.count (is_written was s none fits end);
+              files = written ∙ ap (λ k. option_map (with_bytes (picture_name names.prefix k) bytes) files) picture;
+              count = part.0;
+              held = part.1 ∙ ap (λ (l : List ℕ). option_map (gained (take part.0 l)) held)
+                  (line_is s.pass s.run p.picture p.outlook.wanted p.tally s.passed.picture s.passed.wanted s.passed.tally ∙ ap (picture_line (s.pass ∷ s.run)) s.count);
+              none = asks_nothing same risen out_risen;
+            })))));
+          }),
+          subst (IsCausedBy drawn given first now) (sym is) (cause error failed),
+        ) where
+          cause : (error : OutsideError) → (error ≡ Failed → Rose out_faults out_faults') → IsCausedBy drawn given first now (refusal_by error)
+          cause NoMemory failed = tt
+          cause Failed failed = inl (let r = failed refl in let o = s.stands.out_faults in omega (arith, r, o))
+
+-- the walk stops after a pass, for its cause
+pub stopped : (dealt : Bool) (needs : Scene → ℕ → ℕ → ℕ) (shows : Scene → List ℕ → Table → ℕ → ℕ → ℕ → List ℕ) (whole : Scene → List ℕ → ℕ → ℕ → ℕ → List ℕ)
+    (drawn : PathView → ℕ → ℕ → ℕ → List ℕ → Type 0)
+    (law : (scene : Scene) (b : List ℕ) (m : Table) (i x y : ℕ) → IsWithinLimits scene.shape → IsStore b scene.shape scene.depth
+    → i < length scene.path.cameras → x < scene.path.width → y < scene.path.height → MapsNeeded scene.shape m (needs scene i)
+    → shows scene b m i x y ≡ whole scene b i x y)
+    (t : Tour) (told : Option (List ℕ)) (number : ℕ) (p : Passed) (first was : WalkState) (m : MachineState) (v : RecencyView) → IsTour t
+    → StandsAfter dealt needs shows drawn (given_of dealt needs shows whole t told) number p first was m v → (e : WalkError) → IsStoppedBy t p e
+    → LeftBy drawn (given_of dealt needs shows whole t told) first was e
+stopped dealt needs shows whole drawn law t told number p first was m v tour s (walk_error.TooFewFrames frames needed) is = absurd is
+stopped dealt needs shows whole drawn law t told number p first was m v tour s (walk_error.DoesNotFit picture wanted room) is =
+    no_room dealt needs shows whole drawn law (tour_scene t) t.settings t.mode told (names_of t.names) number p first m v was s is.settled picture wanted room
+    is.picture_is is.wanted_are (let r = is.room_is in let pages = tour.pages in omega (arith, r, pages)) is.unfit
+stopped dealt needs shows whole drawn law t told number p first was m v tour s walk_error.Failed is =
+    tile_lost dealt needs shows whole drawn law (tour_scene t) t.settings t.mode told (names_of t.names) number p first m v was s is.0 is.1
+stopped dealt needs shows whole drawn law t told number p first was m v tour s walk_error.NoMemory is = absurd is

@@ -1,0 +1,194 @@
+-- A pass that was made, or was under way.
+use Rattle.std.proofs.Common.{◌≡◌, ℕ, zero, suc, ◌+◌, ◌<◌, ◌≤◌, ◌⊎◌, inl, inr, Bool, true, false, List, [], ◌∷◌, ◌++◌, length, map, sum, Option, Some, None, refl, sym, ap, ◌∙◌, subst, min, take, arith}
+use Rattle.std.specs.Prelude.{option_map, IsSome, is_some, All}
+use Rattle.vt_outside.specs.Counts.{added, Rose, RoseBy}
+use Rattle.vt_outside.specs.Files.{Files, Asked, with_appended, IsThere}
+use Rattle.vt_outside.specs.declared.answers.OutsideError.{OutsideError}
+use Rattle.vt_outside.specs.declared.answers.OutsideError.TheVariants.{Failed, NoMemory}
+use Rattle.vt_camera.specs.Paths.{PathView}
+use Rattle.vt_journal.specs.Changes.{Table}
+use Rattle.vt_journal.specs.JournalText.{Pass, pass_text}
+use Rattle.vt_journal.specs.Passes.{pass_of as text_of}
+use Rattle.vt_evict.specs.declared.batches.Planned.{Planned}
+use Rattle.vt_evict.specs.Views.{RecencyView}
+use Rattle.vt_shown.specs.Scenes.{Scene}
+use Rattle.vt_pass.specs.Outcomes.{lost_count}
+use Rattle.vt_pass.specs.Requests.{FileState, AllTell, AreSameFiles, AreReadFor, ArePartlyReadFor, counts_of, lost_entries}
+use Rattle.vt_pass.specs.Machines.{MachineState}
+use Rattle.vt_walk.specs.declared.error.WalkError.{WalkError}
+use Rattle.vt_walk.specs.declared.error.WalkError.TheVariants as walk_error
+use Rattle.vt_walk.specs.declared.turns.Turn.{Turn}
+use Rattle.vt_walk.specs.declared.turns.Drawn.{Drawn}
+use Rattle.vt_walk.specs.Refusals.{refusal_by}
+use Rattle.vt_walk.specs.Runs.{WalkPass, IsTurnOf, plan_after, planned_in, lost_in, told_of}
+use Rattle.vt_walk.specs.Walks.{WalkGiven}
+use Rattle.vt_walk.specs.States.{WalkState, places_of}
+use Rattle.vt_walk.specs.Reads.{AreAskedAtMostFor, OnTold}
+use Rattle.vt_walk.specs.Standing.{Stands}
+use Rattle.vt_walk.specs.Leaving.{LeftInRun, LeftInPass, LeftInText, Left}
+use Rattle.vt_walk.specs.Causes.{HasFailed, IsCausedBy}
+use Rattle.vt_walk.specs.Turns.{IsGiven, StandsAt, StandsAfter, HasDrawn, MayDraw, LeftBy}
+use Rattle.vt_walk.proofs.Asking.{losses_more}
+use Rattle.vt_walk.proofs.Asks.{with_open, pass_asks, pass_asks_most, faults_rise}
+use Rattle.vt_walk.proofs.Steps.{pass_told, asked_more}
+use Rattle.vt_walk.proofs.Failing.{has_failed, faults_rise_more}
+
+-- the state of a walk by what its folder is
+abbrev pub state_of : Option Files → Option Asked → ℕ → List ℕ → List FileState → Option (List ℕ) → ℕ → WalkState
+state_of files asked faults store opened held out_faults = record {
+  files = files;
+  held = held;
+  faults = added faults (sum (counts_of opened));
+  out_faults = out_faults;
+  asked = with_open store opened asked;
+}
+
+is_told : {X : Type 0} (a b : Option X) → is_some b ≡ is_some a → IsSome a → IsSome b
+is_told a b same told = same ∙ told
+
+all_told : (xs ys : List FileState) → map (λ (f : FileState). is_some f.asked) ys ≡ map (λ (f : FileState). is_some f.asked) xs → AllTell xs → AllTell ys
+all_told xs [] same tell = λ k d inside. absurd (omega (arith, inside))
+all_told [] (y ∷ ys) same tell = let no : ⊥ = cc in absurd no
+all_told (x ∷ xs) (y ∷ ys) same tell =
+    let head : is_some y.asked ≡ is_some x.asked = cc in
+    let tail : map (λ (f : FileState). is_some f.asked) ys ≡ map (λ (f : FileState). is_some f.asked) xs = cc in
+    pick head (all_told xs ys tail (λ k d inside. tell (suc k) d (omega (arith, inside)))) where
+      pick : is_some y.asked ≡ is_some x.asked → AllTell ys → AllTell (y ∷ ys)
+      pick head more zero d inside = is_told x.asked y.asked head (tell 0 d (omega arith))
+      pick head more (suc k) d inside = more k d (omega (arith, inside))
+
+-- a machine may take the turn
+pub may_draw : (drawn : PathView → ℕ → ℕ → ℕ → List ℕ → Type 0) (g : WalkGiven) (number : ℕ) (t : Turn) (first now : WalkState) (m : MachineState) (v : RecencyView)
+    → (s : StandsAt drawn g number t first now m v) → t.picture < g.setup.pictures → MayDraw g s.run number t m v
+may_draw drawn g number t first now m v s more = record { given = s.given; at_run = s.at_run; turn = s.turn; more = more }
+
+-- files that tell their places still do
+pub still_tell : (old new : List FileState) → AreSameFiles old new → AllTell old → AllTell new
+still_tell old new same tell = all_told old new same.tell tell
+
+module _ (dealt : Bool) (needs : Scene → ℕ → ℕ → ℕ) (shows : Scene → List ℕ → Table → ℕ → ℕ → ℕ → List ℕ) (drawn : PathView → ℕ → ℕ → ℕ → List ℕ → Type 0)
+    (g : WalkGiven) (number : ℕ) (t : Turn) (first : WalkState) (store : List ℕ) (kept : FileState) (held : Option (List ℕ)) (out_faults : ℕ)
+    (files : Option Files) (asked : Option Asked) (faults : ℕ) (m n : MachineState) (v u : RecencyView) where
+  abbrev was : WalkState
+  was = state_of files asked faults store (kept ∷ m.files) held out_faults
+
+  abbrev now : Option Files → ℕ → WalkState
+  now new rose = state_of new asked rose store (kept ∷ n.files) held out_faults
+
+  -- the text of the pass stands whole
+  stands_whole : (new : Option Files) (rose : ℕ) (d : Drawn) (s : StandsAt drawn g number t first was m v)
+      → HasDrawn dealt needs shows drawn g s.run t m n u d
+      → new ≡ option_map (with_appended g.names.journal (pass_text g.setup.shape (text_of d.text))) files
+      → (IsThere files g.names.journal → IsThere new g.names.journal) → faults ≤ rose
+      → StandsAfter dealt needs shows drawn g number d.passed first (now new rose) n u
+  stands_whole new rose d s h written there risen =
+      let count = h.picture ∙ s.count in
+      let fault = faults_rise (lost_count h.pass.losses) faults kept.faults (counts_of m.files) (counts_of n.files) h.read.faults in
+      record {
+        run = s.run;
+        pass = h.pass;
+        pictures = s.pictures;
+        count = count;
+        given = s.given;
+        stands = pass_told drawn g h.pass s.run s.pictures first was (now new rose) s.stands h.next count
+            (written ∙ ap (λ (p : Pass). option_map (with_appended g.names.journal (pass_text g.setup.shape p)) files) h.text)
+            (there s.stands.there) refl
+            (pass_asks g.scene.shape g.scene.depth h.pass.batch h.pass.losses store kept m.files n.files asked s.tell h.read)
+            (omega (arith, fault, risen)) (omega arith);
+        at_run = h.at_run;
+        passed = h.passed;
+        has_run = h.has_run;
+        number_is = s.turn.number_is;
+        tell = λ told. still_tell m.files n.files h.read.same (s.tell (still_told asked told));
+      } where
+        still_told : (asked : Option Asked) → IsSome (with_open store (kept ∷ n.files) asked) → IsSome (with_open store (kept ∷ m.files) asked)
+        still_told None told = told
+        still_told (Some places) told = refl
+
+  pub pass_made : (new : Option Files) (later : Option Asked) (rose : ℕ) (d : Drawn) (s : StandsAt drawn g number t first was m v)
+      → HasDrawn dealt needs shows drawn g s.run t m n u d
+      → new ≡ option_map (with_appended g.names.journal (pass_text g.setup.shape (text_of d.text))) files
+      → (IsThere files g.names.journal → IsThere new g.names.journal) → later ≡ asked → faults ≤ rose
+      → StandsAfter dealt needs shows drawn g number d.passed first (state_of new later rose store (kept ∷ n.files) held out_faults) n u
+  pass_made new later rose d s h written there same risen =
+      subst (λ (a : Option Asked). StandsAfter dealt needs shows drawn g number d.passed first (state_of new a rose store (kept ∷ n.files) held out_faults) n u)
+      (sym same) (stands_whole new rose d s h written there risen)
+
+  -- the pass could not be drawn, or not be planned after
+  pub pass_broke : (s : StandsAt drawn g number t first was m v) → t.picture < g.setup.pictures
+      → ArePartlyReadFor g.scene.shape g.scene.depth t.batch.elements m.files n.files
+      → (e : WalkError) → e ≡ walk_error.NoMemory → LeftBy drawn g first (now files faults) e
+  pass_broke s more read e is =
+      let fault = faults_rise 0 faults kept.faults (counts_of m.files) (counts_of n.files) read.faults in
+      let asks : OnTold (AreAskedAtMostFor g.scene.shape g.scene.depth 0 (plan_after g.setup s.run)) (with_open store (kept ∷ m.files) asked) (with_open store (kept ∷ n.files) asked) =
+      subst (λ (batch : List Planned). OnTold (AreAskedAtMostFor g.scene.shape g.scene.depth 0 batch) (with_open store (kept ∷ m.files) asked) (with_open store (kept ∷ n.files) asked))
+      s.turn.batch (pass_asks_most g.scene.shape g.scene.depth t.batch.elements store kept m.files n.files asked s.tell read) in (
+        inr (record {
+          run = s.run;
+          pictures = s.pictures;
+          mid = was;
+          stands = s.stands;
+          front = inr (inl (record {
+            turn = subst (IsTurnOf g.setup s.run) s.count s.turn.turn;
+            of_path = let c = s.count in omega (arith, c, more);
+            files = refl;
+            held = refl;
+            asked = asks;
+            faults = omega (arith, fault);
+            out_faults = omega arith;
+          }));
+        }),
+        subst (IsCausedBy drawn g first (now files faults)) (sym is) tt,
+      )
+
+  -- of the pass's text a front part stands
+  text_left : (new : Option Files) (rose : ℕ) (d : Drawn) (error : OutsideError) (s : StandsAt drawn g number t first was m v)
+      → HasDrawn dealt needs shows drawn g s.run t m n u d
+      → (new ≡ files) ⊎ ((k : ℕ) × (new ≡ option_map (with_appended g.names.journal (take k (pass_text g.setup.shape (text_of d.text)))) files))
+      → faults ≤ rose → (error ≡ Failed → IsThere files g.names.journal → Rose faults rose)
+      → LeftBy drawn g first (now new rose) (refusal_by error)
+  text_left new rose d error s h part risen failed =
+      let count = h.picture ∙ s.count in
+      let fault = faults_rise (lost_count h.pass.losses) faults kept.faults (counts_of m.files) (counts_of n.files) h.read.faults in
+      let asks = pass_asks g.scene.shape g.scene.depth h.pass.batch h.pass.losses store kept m.files n.files asked s.tell h.read in (
+        inr (record {
+          run = s.run;
+          pictures = s.pictures;
+          mid = was;
+          stands = s.stands;
+          front = inr (inr (inl (record {
+            next = h.pass;
+            comes_next = h.next;
+            picture_is = count;
+            files = subst (λ (p : Pass). (new ≡ files) ⊎ ((k : ℕ) × (new ≡ option_map (with_appended g.names.journal (take k (pass_text g.setup.shape p))) files))) h.text part;
+            held = refl;
+            asked = asks;
+            faults = omega (arith, fault, risen);
+            out_faults = omega arith;
+          })));
+        }),
+        cause error failed,
+      ) where
+        lost : RoseBy (lost_count h.pass.losses + 1) (added faults (sum (kept.faults ∷ counts_of m.files))) (added rose (sum (kept.faults ∷ counts_of n.files)))
+            → HasFailed g first (now new rose)
+        lost more =
+            let add = losses_more g.setup h.pass s.run (s.stands.is_run, h.next) in
+            let before = s.stands.faults in
+            has_failed g (planned_in (h.pass ∷ s.run)) (lost_in (h.pass ∷ s.run)) first (now new rose) s.given
+            (asked_more g.scene.shape g.scene.depth g.setup.pinned h.pass s.run first.asked was.asked (with_open store (kept ∷ n.files) asked) s.stands.asked
+            (pass_asks g.scene.shape g.scene.depth h.pass.batch h.pass.losses store kept m.files n.files asked s.tell h.read))
+            (omega (arith, add, before, more))
+
+        cause : (error : OutsideError) → (error ≡ Failed → IsThere files g.names.journal → Rose faults rose) → IsCausedBy drawn g first (now new rose) (refusal_by error)
+        cause NoMemory failed = tt
+        cause Failed failed = lost (faults_rise_more (lost_count h.pass.losses) faults rose kept.faults (counts_of m.files) (counts_of n.files) h.read.faults (failed refl s.stands.there))
+
+  pub text_broke : (new : Option Files) (later : Option Asked) (rose : ℕ) (d : Drawn) (error : OutsideError) (e : WalkError)
+      (s : StandsAt drawn g number t first was m v) → HasDrawn dealt needs shows drawn g s.run t m n u d
+      → (new ≡ files) ⊎ ((k : ℕ) × (new ≡ option_map (with_appended g.names.journal (take k (pass_text g.setup.shape (text_of d.text)))) files))
+      → later ≡ asked → faults ≤ rose → (error ≡ Failed → IsThere files g.names.journal → Rose faults rose) → e ≡ refusal_by error
+      → LeftBy drawn g first (state_of new later rose store (kept ∷ n.files) held out_faults) e
+  text_broke new later rose d error e s h part same risen failed is =
+      subst (λ (x : WalkError). LeftBy drawn g first (state_of new later rose store (kept ∷ n.files) held out_faults) x) (sym is)
+      (subst (λ (a : Option Asked). LeftBy drawn g first (state_of new a rose store (kept ∷ n.files) held out_faults) (refusal_by error)) (sym same)
+      (text_left new rose d error s h part risen failed))

@@ -1,0 +1,151 @@
+-- The first turn, the last one, and the end of a walk.
+use Rattle.std.proofs.Common.{◌≡◌, ℕ, ◌+◌, ◌<◌, ◌≤◌, ◌⊎◌, inl, inr, List, [], ◌∷◌, ◌++◌, length, sum, Option, refl, sym, ap, ◌∙◌, subst, take, arith}
+use Rattle.std.specs.Prelude.{option_map}
+use Rattle.std.proofs.lemmas.Bool.{cases_lt}
+use Rattle.vt_outside.specs.Counts.{Rose}
+use Rattle.vt_outside.specs.Files.{gained}
+use Rattle.vt_outside.specs.declared.answers.OutsideError.{OutsideError}
+use Rattle.vt_outside.specs.declared.answers.OutsideError.TheVariants.{Failed, NoMemory}
+use Rattle.vt_camera.specs.Paths.{PathView}
+use Rattle.vt_evict.specs.Views.{RecencyView}
+use Rattle.vt_pass.specs.Machines.{MachineState}
+use Rattle.vt_walk.specs.declared.error.WalkError.{WalkError}
+use Rattle.vt_walk.specs.declared.error.WalkError.TheVariants as walk_error
+use Rattle.vt_walk.specs.declared.turns.Turn.{Turn}
+use Rattle.vt_walk.specs.Refusals.{refusal_by}
+use Rattle.vt_walk.specs.declared.mode.Mode.{Mode}
+use Rattle.vt_walk.specs.declared.mode.Mode.TheVariants.{Settled}
+use Rattle.vt_walk.specs.Fits.{WalkSetup, Fits}
+use Rattle.vt_walk.specs.Runs.{WalkPass, IsRun, IsTurnOf, IsWhole, GoesOn}
+use Rattle.vt_walk.specs.Logs.{end_line, reads_of, picture_lines, log_text}
+use Rattle.vt_walk.specs.Walks.{WalkGiven}
+use Rattle.vt_walk.specs.States.{WalkState}
+use Rattle.vt_walk.specs.Standing.{Finished}
+use Rattle.vt_walk.specs.Causes.{IsCausedBy}
+use Rattle.vt_walk.specs.Leaving.{Left}
+use Rattle.vt_walk.specs.Tallies.{no_passes}
+use Rattle.vt_walk.specs.Turns.{StandsFirst, StandsAt, StandsLast, LeftBy}
+use Rattle.vt_walk.proofs.Steps.{told_gained}
+use Rattle.vt_walk.proofs.Turning.{earlier_fit}
+use Rattle.vt_walk.proofs.Telling.{run_is_legal, run_is_pinned}
+
+-- nothing more is to follow
+is_whole : (w : WalkSetup) (run : List WalkPass) (picture : ℕ) → IsRun w run → IsTurnOf w run picture → picture ≡ w.pictures → IsWhole w run
+is_whole w [] picture is_run turn all = sym all ∙ turn
+is_whole w (p ∷ run) picture is_run turn all = (turn.0, (either turn.1).0, (either turn.1).1) where
+  either : {F : Type 0} → (F × (picture ≡ p.picture + 1)) ⊎ ((F → ⊥) × (picture ≡ p.picture)) → F × (p.picture + 1 ≡ w.pictures)
+  either (inl next) = (next.0, sym next.1 ∙ all)
+  either (inr same) = absurd (let inside = is_run.1.of_path in let e = same.1 in omega (arith, inside, e, all))
+
+-- each picture of a whole settled run fits
+each_fits : (w : WalkSetup) (run : List WalkPass) → w.mode ≡ Settled → IsRun w run → IsWhole w run → (picture : ℕ) → picture < w.pictures → Fits w picture
+each_fits w [] settled is_run none picture below = absurd (omega (arith, none, below))
+each_fits w (p ∷ run) settled is_run whole picture below = pick (cases_lt picture p.picture) where
+  pick : (picture < p.picture) ⊎ (p.picture ≤ picture) → Fits w picture
+  pick (inl before) = earlier_fit w p run picture settled is_run before
+  pick (inr not_before) =
+      let same : p.picture ≡ picture = let last = whole.2 in omega (arith, last, below, not_before) in
+      subst (Fits w) same (subst (λ (m : Mode). GoesOn m w p) settled whole.0).1
+
+module _ (drawn : PathView → ℕ → ℕ → ℕ → List ℕ → Type 0) (g : WalkGiven) (first now : WalkState) where
+  -- the first turn
+  pub first_at : (m : MachineState) (v : RecencyView) (t : Turn) → StandsFirst drawn g first now m v → t.picture ≡ 0 → t.batch.elements ≡ [] → t.tally ≡ no_passes
+      → t.reads ≡ g.setup.pinned → StandsAt drawn g 1 t first now m v
+  first_at m v t s picture batch tally reads = record {
+    run = [];
+    pictures = [];
+    count = picture;
+    given = s.given;
+    stands = s.stands;
+    at_run = s.at_run;
+    turn = record {
+      inside = omega (arith, picture);
+      turn = picture;
+      batch = batch;
+      tally = tally;
+      reads = omega (arith, reads);
+      number_is = refl;
+    };
+    tell = s.tell;
+  }
+
+  -- all pictures are finished
+  pub at_last : (number : ℕ) (m : MachineState) (v : RecencyView) (t : Turn) → StandsAt drawn g number t first now m v → t.picture ≡ g.setup.pictures
+      → StandsLast drawn g t.reads first now
+  at_last number m v t s all = record {
+    run = s.run;
+    pictures = s.pictures;
+    given = s.given;
+    stands = s.stands;
+    whole = is_whole g.setup s.run t.picture s.stands.is_run s.turn.turn all;
+    all = sym s.count ∙ all;
+    reads_are = s.turn.reads;
+  }
+
+  -- the walk ends before a pass
+  pub at_left : (number : ℕ) (m : MachineState) (v : RecencyView) (t : Turn) → StandsAt drawn g number t first now m v → LeftBy drawn g first now walk_error.NoMemory
+  at_left number m v t s = (
+    inr (record {
+      run = s.run;
+      pictures = s.pictures;
+      mid = now;
+      stands = s.stands;
+      front = inl (record { files = refl; held = refl }, record { asked = refl; faults = omega arith; out_faults = omega arith });
+    }),
+    tt,
+  )
+
+  abbrev with_text : Option (List ℕ) → ℕ → WalkState
+  with_text held out_faults = record { files = now.files; held = held; faults = now.faults; out_faults = out_faults; asked = now.asked }
+
+  end_is : (run : List WalkPass) (pictures reads : ℕ) → pictures ≡ g.setup.pictures → reads ≡ reads_of g.setup run
+      → end_line pictures reads ≡ end_line g.setup.pictures (reads_of g.setup run)
+  end_is run pictures reads all are = ap (λ k. end_line k reads) all ∙ ap (end_line g.setup.pictures) are
+
+  -- the last line is whole
+  pub last_done : (reads pictures : ℕ) (held : Option (List ℕ)) (out_faults : ℕ) → StandsLast drawn g reads first now → pictures ≡ g.setup.pictures
+      → held ≡ option_map (gained (end_line pictures reads)) now.held → Finished drawn g first (with_text held out_faults)
+  last_done reads pictures held out_faults s count text = record {
+    run = s.run;
+    is_run = s.stands.is_run;
+    whole = s.whole;
+    judged = s.given.setup.enough_frames;
+    fits = λ settled. each_fits g.setup s.run settled s.stands.is_run s.whole;
+    legal = run_is_legal g.setup s.run s.given.setup s.stands.is_run;
+    pinned = run_is_pinned g.setup s.run s.given.setup s.stands.is_run;
+    pictures = s.pictures;
+    all = s.all;
+    written = s.stands.written;
+    files = s.stands.files;
+    held = text ∙ ap (λ (l : List ℕ). option_map (gained l) now.held) (end_is s.run pictures reads count s.reads_are)
+        ∙ ap (option_map (gained (end_line g.setup.pictures (reads_of g.setup s.run)))) s.stands.held
+        ∙ told_gained (picture_lines s.run (length s.pictures)) (end_line g.setup.pictures (reads_of g.setup s.run)) first.held
+        ∙ ap (λ k. option_map (gained (picture_lines s.run k ++ end_line g.setup.pictures (reads_of g.setup s.run))) first.held) s.all;
+    asked = s.stands.asked;
+    faults = s.stands.faults;
+  }
+
+  -- of the last line a front part stands
+  pub last_broke : (reads pictures : ℕ) (held : Option (List ℕ)) (out_faults : ℕ) (error : OutsideError) (e : WalkError) → StandsLast drawn g reads first now
+      → pictures ≡ g.setup.pictures → (k : ℕ) × (held ≡ option_map (gained (take k (end_line pictures reads))) now.held) → now.out_faults ≤ out_faults
+      → (error ≡ Failed → Rose now.out_faults out_faults) → e ≡ refusal_by error → LeftBy drawn g first (with_text held out_faults) e
+  last_broke reads pictures held out_faults error e s count part risen failed is = (
+    inr (record {
+      run = s.run;
+      pictures = s.pictures;
+      mid = now;
+      stands = s.stands;
+      front = inr (inr (inr (inr (inr (record {
+        whole = s.whole;
+        all = s.all;
+        files = refl;
+        count = part.0;
+        held = part.1 ∙ ap (λ (l : List ℕ). option_map (gained (take part.0 l)) now.held) (end_is s.run pictures reads count s.reads_are);
+        none = record { asked = refl; faults = omega arith; out_faults = risen };
+      })))));
+    }),
+    subst (IsCausedBy drawn g first (with_text held out_faults)) (sym is) (cause error failed),
+  ) where
+    cause : (error : OutsideError) → (error ≡ Failed → Rose now.out_faults out_faults) → IsCausedBy drawn g first (with_text held out_faults) (refusal_by error)
+    cause NoMemory failed = tt
+    cause Failed failed = inl (let r = failed refl in let o = s.stands.out_faults in omega (arith, r, o))

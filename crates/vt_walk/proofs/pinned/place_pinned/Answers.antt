@@ -1,0 +1,83 @@
+use Rattle.std.proofs.Common.{◌≡◌, ◌+◌, ◌-◌, ap, ◌∙◌, arith, rules}
+use Rattle.vt_outside.proofs.Untold.{OnErr-all}
+use Rattle.vt_pages.specs.Pages.{pages_of}
+use Rattle.vt_walk.specs.Placing.{with_tiles}
+use Rattle.vt_walk.proofs.Placed.{next_pinned, early_pinned, next_placed, asked_at, all_asked, last_asked, more_tiles, none_lost, last_lost}
+use Rattle.vt_walk.proofs.pinned.place_pinned.Goals as goal
+
+pub place_page-requires-clause-next : goal.place_page-requires-clause-next
+place_page-requires-clause-next g c κs within =
+    next_pinned c.args.geometry.now c.args.pinned c.loop-frame.frame (c.page_count.result - c.args.pinned + c.loop-frame.frame)
+    (g.M.PassMachine.state c.args.machine.now) (g.M.PassMachine.state c.loop-frame.machine) c.loop-frame.invariant.state
+    (ap (λ n. n - c.args.pinned + c.loop-frame.frame) c.page_count.ensures.pages)
+
+pub place_page-requires-clause-early : goal.place_page-requires-clause-early
+place_page-requires-clause-early g c κs within =
+    omega (
+      arith,
+      early_pinned c.args.geometry.now c.args.pinned c.loop-frame.frame (g.M.PassMachine.state c.args.machine.now)
+          (g.M.PassMachine.state c.loop-frame.machine) c.loop-frame.invariant.state,
+      c.loop-frame-test.true,
+      c.ranges.pinned.fits,
+    )
+
+pub returns-in_err-place_page-clause-part : goal.returns-in_err-place_page-clause-part
+returns-in_err-place_page-clause-part g c =
+    let page = c.page_count.result - c.args.pinned + c.loop-frame.frame in
+    let part = c.in_err-place_page.ensures.part in
+    OnErr-all c.from_residual-in_err-place_page.result _
+    (last_asked c.args.geometry.now c.args.store.now.depth c.args.pinned c.loop-frame.frame part.0 (g.F.File.asked c.args.store.now.file)
+    (g.F.File.asked c.loop-frame.store.file) (g.F.File.asked c.place_page.new.store.file) c.loop-frame-test.true c.loop-frame.invariant.asked
+    (asked_at c.args.geometry.now c.loop-frame.store.shape c.args.store.now.depth c.loop-frame.store.depth
+    (pages_of c.args.geometry.now - c.args.pinned + c.loop-frame.frame) page part.0
+    (g.F.File.asked c.loop-frame.store.file) (g.F.File.asked c.place_page.new.store.file)
+    (c.loop-frame.invariant.shape ∙ c.requires.shape) c.loop-frame.invariant.depth
+    (ap (λ n. n - c.args.pinned + c.loop-frame.frame) c.page_count.ensures.pages) part.1))
+
+pub returns-in_err-place_page-clause-lost : goal.returns-in_err-place_page-clause-lost
+returns-in_err-place_page-clause-lost g c =
+    let page = c.page_count.result - c.args.pinned + c.loop-frame.frame in
+    let part = c.in_err-place_page.ensures.part in
+    last_lost c.args.geometry.now c.args.store.now.depth c.args.pinned c.loop-frame.frame part.0 (g.F.File.asked c.args.store.now.file)
+    (g.F.File.asked c.loop-frame.store.file) (g.F.File.asked c.place_page.new.store.file) c.page_count.ensures.limits c.depth-depth.ensures.lawful
+    c.loop-frame.invariant.asked
+    (asked_at c.args.geometry.now c.loop-frame.store.shape c.args.store.now.depth c.loop-frame.store.depth
+    (pages_of c.args.geometry.now - c.args.pinned + c.loop-frame.frame) page part.0
+    (g.F.File.asked c.loop-frame.store.file) (g.F.File.asked c.place_page.new.store.file)
+    (c.loop-frame.invariant.shape ∙ c.requires.shape) c.loop-frame.invariant.depth
+    (ap (λ n. n - c.args.pinned + c.loop-frame.frame) c.page_count.ensures.pages) part.1)
+
+pub loop-frame-preserved : goal.loop-frame-preserved
+loop-frame-preserved g c =
+    let page = c.page_count.result - c.args.pinned + c.loop-frame.frame in
+    let at = ap (λ n. n - c.args.pinned + c.loop-frame.frame) c.page_count.ensures.pages in
+    record {
+      idle = c.place_page.ensures.idle;
+      state = next_placed c.args.geometry.now c.args.pinned c.loop-frame.frame page (g.M.PassMachine.state c.args.machine.now)
+          (g.M.PassMachine.state c.loop-frame.machine)
+          (g.M.PassMachine.state c.place_page.new.machine) c.loop-frame.invariant.state at c.in_ok-place_page.ensures.placed;
+      asked = more_tiles c.args.geometry.now c.args.store.now.depth c.args.pinned c.loop-frame.frame (g.F.File.asked c.args.store.now.file)
+          (g.F.File.asked c.loop-frame.store.file) (g.F.File.asked c.place_page.new.store.file) c.loop-frame.invariant.asked
+          (asked_at c.args.geometry.now c.loop-frame.store.shape c.args.store.now.depth c.loop-frame.store.depth
+          (pages_of c.args.geometry.now - c.args.pinned + c.loop-frame.frame) page _
+          (g.F.File.asked c.loop-frame.store.file) (g.F.File.asked c.place_page.new.store.file)
+          (c.loop-frame.invariant.shape ∙ c.requires.shape) c.loop-frame.invariant.depth at c.in_ok-place_page.ensures.asked);
+      room = omega (arith, c.loop-frame.invariant.room, c.place_page.ensures.spare);
+      faults = omega (arith, c.loop-frame.invariant.faults, c.place_page.ensures.faults);
+      bytes = c.place_page.ensures.bytes ∙ c.loop-frame.invariant.bytes;
+      name = c.place_page.ensures.name ∙ c.loop-frame.invariant.name;
+      shape = c.place_page.ensures.shape ∙ c.loop-frame.invariant.shape;
+      depth = c.place_page.ensures.depth ∙ c.loop-frame.invariant.depth;
+    }
+
+pub returns-clause-asked : goal.returns-clause-asked
+returns-clause-asked g c =
+    let whole : c.loop-frame.frame ≡ c.args.pinned = omega (arith, c.loop-frame-test.false, c.loop-frame.auto.frame-end) in
+    all_asked c.args.geometry.now c.args.store.now.depth c.args.pinned (g.F.File.asked c.args.store.now.file) (g.F.File.asked c.loop-frame.store.file)
+    (c.loop-frame.invariant.asked ∙ ap (λ n. with_tiles c.args.geometry.now c.args.store.now.depth c.args.pinned n
+    (g.F.File.asked c.args.store.now.file)) whole)
+
+pub returns-clause-lost : goal.returns-clause-lost
+returns-clause-lost g c =
+    none_lost c.args.geometry.now c.args.store.now.depth c.args.pinned c.loop-frame.frame (g.F.File.asked c.args.store.now.file)
+    (g.F.File.asked c.loop-frame.store.file) c.loop-frame.invariant.asked

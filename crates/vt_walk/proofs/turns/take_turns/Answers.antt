@@ -1,0 +1,28 @@
+use Rattle.std.proofs.Common.{◌∷◌, refl, arith}
+use Rattle.vt_walk.specs.States.{walk_state}
+use Rattle.vt_walk.specs.Tours.{given_of}
+use Rattle.vt_walk.specs.Written.{IsDrawnBySome}
+use Rattle.vt_walk.proofs.Rounds.{first_at, at_left}
+use Rattle.vt_walk.proofs.turns.take_turns.Goals as goal
+
+pub loop-number-init : goal.loop-number-init
+loop-number-init g c =
+    let s = c.requires.stands in
+    record {
+      some = (
+        s.0,
+        first_at (IsDrawnBySome g.M.PassMachine.drawn) (given_of g.M.PassMachine.DEALT g.M.PassMachine.needs g.M.PassMachine.shows g.M.PassMachine.whole c.args.tour.now s.0.told) s.0.first (walk_state g.D.Folder c.args.tour.now.names.store.now c.args.folder.now (s.0.kept ∷ (g.M.PassMachine.state c.args.machine.now).files) (g.O.Sink.held c.args.out.now) (g.O.Sink.faults c.args.out.now)) (g.M.PassMachine.state c.args.machine.now) c.args.recency.now
+            (record { picture = 0; batch = c.new.result; tally = c.new-2.result; reads = c.args.tour.now.pinned }) s.1 refl c.new.ensures c.new-2.ensures c.requires.tour.pages,
+      );
+      each = λ b at. first_at (IsDrawnBySome g.M.PassMachine.drawn) (given_of g.M.PassMachine.DEALT g.M.PassMachine.needs g.M.PassMachine.shows g.M.PassMachine.whole c.args.tour.now b.told) b.first (walk_state g.D.Folder c.args.tour.now.names.store.now c.args.folder.now (b.kept ∷ (g.M.PassMachine.state c.args.machine.now).files) (g.O.Sink.held c.args.out.now) (g.O.Sink.faults c.args.out.now)) (g.M.PassMachine.state c.args.machine.now) c.args.recency.now
+          (record { picture = 0; batch = c.new.result; tally = c.new-2.result; reads = c.args.tour.now.pinned }) at refl c.new.ensures c.new-2.ensures c.requires.tour.pages;
+      idle = c.requires.idle;
+      same = record { names = refl; tell = refl };
+      asked = refl;
+      faults = omega arith;
+      out_faults = omega arith;
+    }
+
+pub returns-clause-walked : goal.returns-clause-walked
+returns-clause-walked g c = λ b at. at_left (IsDrawnBySome g.M.PassMachine.drawn) (given_of g.M.PassMachine.DEALT g.M.PassMachine.needs g.M.PassMachine.shows g.M.PassMachine.whole c.args.tour.now b.told) b.first (walk_state g.D.Folder c.args.tour.now.names.store.now c.loop-number.folder (b.kept ∷ (g.M.PassMachine.state c.loop-number.machine).files) (g.O.Sink.held c.loop-number.out) (g.O.Sink.faults c.loop-number.out))
+    c.loop-number.number (g.M.PassMachine.state c.loop-number.machine) c.loop-number.recency c.loop-number.turn (c.loop-number.invariant.each b at)

@@ -1,0 +1,59 @@
+use Rattle.std.proofs.Common.{◌≡◌, List, sum, Option, ap, sym, ◌∙◌, subst}
+use Rattle.std.specs.Prelude.{is_some}
+use Rattle.vt_outside.specs.Counts.{RoseBy}
+use Rattle.vt_pass.specs.Requests.{FileState, counts_of}
+use Rattle.vt_outside.specs.Files.{Asked}
+use Rattle.vt_pass.specs.Machines.{file_state, files_of}
+use Rattle.vt_walk.specs.States.{AreOpen}
+use Rattle.vt_walk.specs.Closing.{with_closed, AreOtherNamesAsBefore}
+use Rattle.vt_walk.specs.Tours.{given_of}
+use Rattle.vt_walk.specs.Written.{IsDrawnBySome}
+use Rattle.vt_walk.proofs.Closings.{closed_tells, others_closed, same_open}
+use Rattle.vt_walk.proofs.Concluding.{open_told, one_open, machine_closed}
+use Rattle.vt_walk.proofs.walk.walk_machine.Goals as goal
+
+pub walk_all-walked-requires-clause-tell : goal.walk_all-walked-requires-clause-tell
+walk_all-walked-requires-clause-tell g c κs within =
+    open_told 1 c.args.tour.now.settings.crew.loaders c.args.tour.now.names.store.now (g.D.Folder.asked c.args.folder.now)
+    (file_state g.D.File.File c.args.store.now.file) (g.M.PassMachine.state c.args.machine).files c.requires.opened c.requires.loaders
+
+pub returns-clause-walked : goal.returns-clause-walked
+returns-clause-walked g c =
+    let left = (g.M.PassMachine.state c.walk_all-walked.new.machine).files in
+    let mid = c.walk_all-walked.new.folder in
+    let last = c.close_stores.new.folder in
+    machine_closed g.D.Folder c.args.tour.now.names.store.now (IsDrawnBySome g.M.PassMachine.drawn)
+    (given_of g.M.PassMachine.DEALT g.M.PassMachine.needs g.M.PassMachine.shows g.M.PassMachine.whole c.args.tour.now
+    (g.D.File.File.bytes c.args.store.now.file))
+    c.walk_all-walked.result (file_state g.D.File.File c.args.store.now.file) (file_state g.D.File.File c.walk_all-walked.new.store.file)
+    (g.M.PassMachine.state c.args.machine).files left c.args.folder.now mid last _ _ _ _ c.args.tour.now.settings.crew.loaders
+    c.requires.loaders c.requires.no_places c.requires.no_faults c.walk_all-walked.ensures.same c.walk_all-walked.ensures.asked
+    (c.close_stores.ensures.asked ∙ ap (λ (fs : List FileState). with_closed fs (g.D.Folder.asked mid)) c.end.ensures)
+    (subst (λ (fs : List FileState). RoseBy (sum (counts_of fs)) (g.D.Folder.faults mid) (g.D.Folder.faults last)) c.end.ensures c.close_stores.ensures.rose)
+    c.close_stores.ensures.files c.walk_all-walked.ensures.walked
+
+pub returns-clause-others : goal.returns-clause-others
+returns-clause-others g c =
+    let left = (g.M.PassMachine.state c.walk_all-walked.new.machine).files in
+    let name = c.args.tour.now.names.store.now in
+    let loaders = c.args.tour.now.settings.crew.loaders in
+    let old = g.D.Folder.asked c.args.folder.now in
+    let mid = g.D.Folder.asked c.walk_all-walked.new.folder in
+    let last = g.D.Folder.asked c.close_stores.new.folder in
+    let same = c.walk_all-walked.ensures.asked in
+    subst (λ (a : Option Asked). AreOtherNamesAsBefore name a last) same
+    (others_closed name loaders left mid last
+    (same_open loaders name (g.M.PassMachine.state c.args.machine).files left mid
+    (subst (λ (a : Option Asked). AreOpen loaders name a (g.M.PassMachine.state c.args.machine).files) (sym same) c.requires.loaders)
+    c.walk_all-walked.ensures.same)
+    (c.close_stores.ensures.asked ∙ ap (λ (fs : List FileState). with_closed fs mid) c.end.ensures))
+
+pub returns-clause-opened : goal.returns-clause-opened
+returns-clause-opened g c =
+    let tell : is_some (g.D.Folder.asked c.close_stores.new.folder) ≡ is_some (g.D.Folder.asked c.args.folder.now) =
+    ap (λ (a : Option Asked). is_some a) c.close_stores.ensures.asked
+    ∙ closed_tells (files_of g.D.File.File c.end.result.elements) (g.D.Folder.asked c.walk_all-walked.new.folder)
+    ∙ ap (λ (a : Option Asked). is_some a) c.walk_all-walked.ensures.asked in
+    one_open 1 c.args.tour.now.names.store.now (g.D.Folder.asked c.args.folder.now) (g.D.Folder.asked c.close_stores.new.folder)
+    (file_state g.D.File.File c.args.store.now.file) (file_state g.D.File.File c.walk_all-walked.new.store.file) c.requires.opened
+    c.walk_all-walked.ensures.store tell

@@ -1,0 +1,42 @@
+use Rattle.std.proofs.Common.{[], ◌∷◌, Err, ap, sym, subst}
+use Rattle.vt_pass.specs.Machines.{file_state}
+use Rattle.vt_walk.specs.declared.error.WalkError.{WalkError}
+use Rattle.vt_walk.specs.States.{walk_state}
+use Rattle.vt_walk.specs.Tours.{given_of}
+use Rattle.vt_walk.specs.Turns.{LeftBy}
+use Rattle.vt_walk.specs.Written.{IsDrawnBySome}
+use Rattle.vt_walk.proofs.Concluding.{told_there, opened_first, refused_first}
+use Rattle.vt_walk.proofs.walk.walk_store.Goals as goal
+
+pub open_loaders-requires-clause-there : goal.open_loaders-requires-clause-there
+open_loaders-requires-clause-there g c κs within =
+    told_there (g.D.Folder.files c.args.folder.now) c.args.tour.now.names.store.now
+    (g.D.File.File.bytes c.args.store.now.file) c.requires.bytes c.requires.tells
+
+pub returns-in-Ok-clause-walked : goal.returns-in-Ok-clause-walked
+returns-in-Ok-clause-walked g c =
+    let name = c.args.tour.now.names.store.now in
+    opened_first g.D.Folder name (IsDrawnBySome g.M.PassMachine.drawn)
+    (given_of g.M.PassMachine.DEALT g.M.PassMachine.needs g.M.PassMachine.shows g.M.PassMachine.whole c.args.tour.now
+    (g.D.File.File.bytes c.args.store.now.file))
+    c.walk_stores.result (file_state g.D.File.File c.args.store.now.file) c.args.folder.now c.open_loaders.new.folder (g.O.Sink.held c.args.out.now)
+    (g.O.Sink.faults c.args.out.now)
+    (walk_state g.D.Folder name c.walk_stores.new.folder (file_state g.D.File.File c.walk_stores.new.store.file ∷ []) (g.O.Sink.held c.walk_stores.new.out)
+    (g.O.Sink.faults c.walk_stores.new.out))
+    c.open_loaders.ensures.files c.open_loaders.ensures.asked c.open_loaders.ensures.faults c.walk_stores.ensures.walked
+
+pub returns-in-Err-clause-walked : goal.returns-in-Err-clause-walked
+returns-in-Err-clause-walked g c =
+    let drawn = IsDrawnBySome g.M.PassMachine.drawn in
+    let given = given_of g.M.PassMachine.DEALT g.M.PassMachine.needs g.M.PassMachine.shows g.M.PassMachine.whole c.args.tour.now
+    (g.D.File.File.bytes c.args.store.now.file) in
+    let name = c.args.tour.now.names.store.now in
+    let kept = file_state g.D.File.File c.args.store.now.file in
+    let held = g.O.Sink.held c.args.out.now in
+    let faults = g.O.Sink.faults c.args.out.now in
+    subst
+    (λ (e : WalkError). LeftBy drawn given (walk_state g.D.Folder name c.args.folder.now (kept ∷ []) held faults)
+    (walk_state g.D.Folder name c.open_loaders.new.folder (kept ∷ []) held faults) e)
+    (sym c.into.ensures)
+    (refused_first g.D.Folder name drawn given kept c.args.folder.now c.open_loaders.new.folder held faults c.in-Err.refusal
+    c.open_loaders.ensures.files c.open_loaders.ensures.asked c.open_loaders.ensures.faults (λ is. c.in-Err.ensures.failed (ap Err is)))

@@ -1,0 +1,20 @@
+-- A machine before a walk has placed its pinned pages.
+use Rattle.std.specs.Prelude.{◌≡◌, ℕ, List, [], Option, IsSome, is_some, All}
+use Rattle.vt_outside.specs.Files.{Asked}
+use Rattle.vt_pass.specs.Requests.{FileState, AllTell}
+use Rattle.vt_pass.specs.Machines.{MachineState}
+use Rattle.vt_walk.specs.Walks.{WalkGiven}
+
+-- a machine was made for a walk, and its journal is empty
+pub record IsBegun (g : WalkGiven) (m : MachineState) : Type 0 where
+  pub setup : m.setup ≡ g.machine
+  pub journal : m.journal ≡ []
+
+-- where a folder tells the places that were asked, open files do so
+abbrev pub AreTold : Option Asked → List FileState → Type 0
+AreTold asked opened = IsSome asked → AllTell opened
+
+-- it is the same file, and tells its places where it did
+pub record IsSameFile (before after : FileState) : Type 0 where
+  pub name : after.name ≡ before.name
+  pub tell : is_some after.asked ≡ is_some before.asked

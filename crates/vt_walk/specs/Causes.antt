@@ -1,0 +1,61 @@
+-- Why a walk was refused.
+use Rattle.std.specs.Prelude.{◌≡◌, ◌⊎◌, ℕ, ◌+◌, ◌-◌, ◌<◌, List, [], ◌∷◌, length, Option, Some, None}
+use Rattle.vt_outside.specs.Counts.{Rose, RoseBy}
+use Rattle.vt_outside.specs.declared.place.Place.{Place}
+use Rattle.vt_camera.specs.Paths.{PathView}
+use Rattle.vt_walk.specs.declared.error.WalkError.{WalkError}
+use Rattle.vt_walk.specs.declared.error.WalkError.TheVariants.{TooFewFrames, DoesNotFit, Failed, NoMemory}
+use Rattle.vt_walk.specs.declared.mode.Mode.{Mode}
+use Rattle.vt_walk.specs.declared.mode.Mode.TheVariants.{Live, Settled}
+use Rattle.vt_walk.specs.Fits.{Fits, DoesNotFit as IsTooLarge, room_of}
+use Rattle.vt_walk.specs.Runs.{WalkPass}
+use Rattle.vt_walk.specs.Logs.{passes_of}
+use Rattle.vt_walk.specs.Walks.{WalkGiven}
+use Rattle.vt_walk.specs.States.{WalkState}
+use Rattle.vt_walk.specs.Reads.{lost_reads}
+use Rattle.vt_walk.specs.Standing.{Stands}
+use Rattle.vt_walk.specs.Leaving.{WritesNothing}
+
+-- how many reads of unpinned pages' tiles failed in between, where the places are told; a live walk goes on after each
+abbrev pub reads_lost : WalkGiven → Option (List Place) → Option (List Place) → ℕ
+reads_lost g (Some old) (Some new) =
+    lost_reads g.scene.shape g.scene.depth g.setup.pinned new - lost_reads g.scene.shape g.scene.depth g.setup.pinned old
+reads_lost g _ _ = 0
+
+-- how many faults a walk of this mode goes on after
+abbrev pub faults_borne : Mode → WalkGiven → WalkState → WalkState → ℕ
+faults_borne Live g first now = reads_lost g first.asked now.asked
+faults_borne Settled g first now = 0
+
+-- a call failed: the sink's count rose, or the folder's did, in a live walk by more than the tiles that were lost
+abbrev pub HasFailed : WalkGiven → WalkState → WalkState → Type 0
+HasFailed g first now = Rose first.out_faults now.out_faults ⊎ RoseBy (faults_borne g.setup.mode g first now + 1) first.faults now.faults
+
+-- there are fewer frames than pinned pages, and nothing was written
+pub record HasTooFewFrames (g : WalkGiven) (frames needed : ℕ) (first now : WalkState) : Type 0 where
+  pub frames_are : frames ≡ g.setup.frames
+  pub needed_are : needed ≡ g.setup.pinned
+  pub few : frames < needed
+  pub none : WritesNothing first now
+
+-- a picture of a settled walk does not fit, and each before it does: what stands is the beginning of a run that ends with the picture's
+-- first pass, the pictures before it and their lines, and nothing else
+pub record HasUnfit (drawn : PathView → ℕ → ℕ → ℕ → List ℕ → Type 0) (g : WalkGiven) (picture needed room : ℕ) (first now : WalkState) : Type 0 where
+  pub settled : g.setup.mode ≡ Settled
+  pub room_is : room ≡ room_of g.setup
+  pub unfit : IsTooLarge g.setup picture needed
+  pub earlier : (i : ℕ) → i < picture → Fits g.setup i
+  pub pass : WalkPass
+  pub before : List WalkPass
+  pub of_picture : pass.picture ≡ picture
+  pub first_pass : passes_of picture before ≡ []
+  pub pictures : List (List ℕ)
+  pub all : length pictures ≡ picture
+  pub stands : Stands drawn g (pass ∷ before) pictures first now
+
+-- the cause of each refusal; want of memory is free
+abbrev pub IsCausedBy : (PathView → ℕ → ℕ → ℕ → List ℕ → Type 0) → WalkGiven → WalkState → WalkState → WalkError → Type 0
+IsCausedBy drawn g first now (TooFewFrames frames needed) = HasTooFewFrames g frames needed first now
+IsCausedBy drawn g first now (DoesNotFit picture needed room) = HasUnfit drawn g picture needed room first now
+IsCausedBy drawn g first now Failed = HasFailed g first now
+IsCausedBy drawn g first now NoMemory = Unit {0}

@@ -1,0 +1,119 @@
+-- What a refused walk leaves: the beginning of a run whole, and of the step that was under way a front part.
+use Rattle.std.specs.Prelude.{◌≡◌, ◌⊎◌, ℕ, ◌+◌, ◌<◌, ◌≤◌, List, [], ◌∷◌, ◌++◌, length, take, option_map}
+use Rattle.vt_outside.specs.Counts.{RoseBy}
+use Rattle.vt_outside.specs.Files.{with_bytes, with_appended, gained}
+use Rattle.vt_outside.specs.declared.place.Place.{Place}
+use Rattle.vt_camera.specs.Paths.{PathView}
+use Rattle.vt_journal.specs.JournalText.{head_text, pass_text}
+use Rattle.vt_pages.specs.Shape.{Shape}
+use Rattle.vt_evict.specs.declared.batches.Planned.{Planned}
+use Rattle.vt_pass.specs.Outcomes.{lost_count}
+use Rattle.vt_pass.specs.Requests.{lost_entries}
+use Rattle.vt_words.specs.Names.{picture_name}
+use Rattle.vt_walk.specs.Runs.{WalkPass, IsTurnOf, IsNextPass, IsFinished, IsWhole, plan_after, told_of, planned_in, lost_in}
+use Rattle.vt_walk.specs.Logs.{picture_line, walk_end_line}
+use Rattle.vt_walk.specs.Walks.{WalkGiven}
+use Rattle.vt_walk.specs.States.{WalkState}
+use Rattle.vt_walk.specs.Reads.{AreAskedFor, AreAskedAtMostFor, OnTold}
+use Rattle.vt_walk.specs.Standing.{Stands}
+use Rattle.vt_walk.specs.Written.{IsWritten}
+
+-- nothing was asked, and the counts did not fall
+pub record AsksNothing (before after : WalkState) : Type 0 where
+  pub asked : after.asked ≡ before.asked
+  pub faults : before.faults ≤ after.faults
+  pub out_faults : before.out_faults ≤ after.out_faults
+
+-- nothing was written
+pub record WritesNothing (before after : WalkState) : Type 0 where
+  pub files : after.files ≡ before.files
+  pub held : after.held ≡ before.held
+
+-- of the journal's head a front part stands, or the journal's name is as before; and some pinned pages were asked for at most
+pub record LeftAtHead (g : WalkGiven) (first now : WalkState) : Type 0 where
+  pub files : (now.files ≡ first.files)
+      ⊎ ((k : ℕ) × (now.files ≡ option_map (with_bytes g.names.journal (take k (head_text g.setup.shape g.setup.pinned))) first.files))
+  pub held : now.held ≡ first.held
+  pub asked : OnTold (AreAskedAtMostFor g.scene.shape g.scene.depth g.setup.pinned []) first.asked now.asked
+  pub faults : first.faults ≤ now.faults
+  pub out_faults : first.out_faults ≤ now.out_faults
+
+-- a pass by which the run goes on was under way: its tiles were asked for, each at most once, and nothing was written
+pub record LeftInPass (g : WalkGiven) (run : List WalkPass) (picture : ℕ) (before after : WalkState) : Type 0 where
+  pub turn : IsTurnOf g.setup run picture
+  pub of_path : picture < g.setup.pictures
+  pub files : after.files ≡ before.files
+  pub held : after.held ≡ before.held
+  pub asked : OnTold (AreAskedAtMostFor g.scene.shape g.scene.depth 0 (plan_after g.setup run)) before.asked after.asked
+  pub faults : before.faults ≤ after.faults
+  pub out_faults : before.out_faults ≤ after.out_faults
+
+-- a pass by which the run goes on was run, and a front part of its text stands
+pub record LeftInText (g : WalkGiven) (run : List WalkPass) (picture : ℕ) (before after : WalkState) : Type 0 where
+  pub next : WalkPass
+  pub comes_next : IsNextPass g.setup run next
+  pub picture_is : next.picture ≡ picture
+  pub files : (after.files ≡ before.files)
+      ⊎ ((k : ℕ) × (after.files ≡ option_map (with_appended g.names.journal (take k (pass_text g.setup.shape (told_of g.setup run next)))) before.files))
+  pub held : after.held ≡ before.held
+  pub asked : OnTold (AreAskedFor g.scene.shape g.scene.depth 0 next.batch (lost_entries next.batch next.losses)) before.asked after.asked
+  pub faults : RoseBy (lost_count next.losses) before.faults after.faults
+  pub out_faults : before.out_faults ≤ after.out_faults
+
+-- the run has finished this picture by its newest pass
+abbrev pub HasFinished : WalkGiven → List WalkPass → ℕ → Type 0
+HasFinished g [] picture = ⊥
+HasFinished g (p ∷ passes) picture = IsFinished g.setup p passes × (p.picture ≡ picture)
+
+-- of a finished picture a front part stands, or its name is as before
+pub record LeftInPicture (drawn : PathView → ℕ → ℕ → ℕ → List ℕ → Type 0) (g : WalkGiven) (run : List WalkPass) (picture : ℕ)
+    (before after : WalkState) : Type 0 where
+  pub finished : HasFinished g run picture
+  pub bytes : List ℕ
+  pub written : IsWritten drawn g run picture bytes
+  pub files : (after.files ≡ before.files)
+      ⊎ ((k : ℕ) × (after.files ≡ option_map (with_bytes (picture_name g.names.prefix picture) (take k bytes)) before.files))
+  pub held : after.held ≡ before.held
+  pub none : AsksNothing before after
+
+-- a finished picture is whole, and of its line a front part stands
+pub record LeftInLine (drawn : PathView → ℕ → ℕ → ℕ → List ℕ → Type 0) (g : WalkGiven) (run : List WalkPass) (picture : ℕ)
+    (before after : WalkState) : Type 0 where
+  pub finished : HasFinished g run picture
+  pub bytes : List ℕ
+  pub written : IsWritten drawn g run picture bytes
+  pub files : after.files ≡ option_map (with_bytes (picture_name g.names.prefix picture) bytes) before.files
+  pub count : ℕ
+  pub held : after.held ≡ option_map (gained (take count (picture_line run picture))) before.held
+  pub none : AsksNothing before after
+
+-- the run is whole, and of the last line a front part stands
+pub record LeftAtEnd (g : WalkGiven) (run : List WalkPass) (pictures : ℕ) (before after : WalkState) : Type 0 where
+  pub whole : IsWhole g.setup run
+  pub all : pictures ≡ g.setup.pictures
+  pub files : after.files ≡ before.files
+  pub count : ℕ
+  pub held : after.held ≡ option_map (gained (take count (walk_end_line g.setup run))) before.held
+  pub none : AsksNothing before after
+
+-- what stands of the step that was under way after a run's beginning with so many whole pictures: nothing, or a front part of one
+abbrev pub IsFront : (PathView → ℕ → ℕ → ℕ → List ℕ → Type 0) → WalkGiven → List WalkPass → ℕ → WalkState → WalkState → Type 0
+IsFront drawn g run pictures before after =
+    (WritesNothing before after × AsksNothing before after)
+    ⊎ (LeftInPass g run pictures before after
+    ⊎ (LeftInText g run pictures before after
+    ⊎ (LeftInPicture drawn g run pictures before after
+    ⊎ (LeftInLine drawn g run pictures before after
+    ⊎ LeftAtEnd g run pictures before after))))
+
+-- the beginning of a run stands whole, and of the step that was under way a front part
+pub record LeftInRun (drawn : PathView → ℕ → ℕ → ℕ → List ℕ → Type 0) (g : WalkGiven) (first now : WalkState) : Type 0 where
+  pub run : List WalkPass
+  pub pictures : List (List ℕ)
+  pub mid : WalkState
+  pub stands : Stands drawn g run pictures first mid
+  pub front : IsFront drawn g run (length pictures) mid now
+
+-- what a refused walk leaves
+abbrev pub Left : (PathView → ℕ → ℕ → ℕ → List ℕ → Type 0) → WalkGiven → WalkState → WalkState → Type 0
+Left drawn g first now = LeftAtHead g first now ⊎ LeftInRun drawn g first now

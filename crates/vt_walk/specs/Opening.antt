@@ -1,0 +1,16 @@
+-- A store that was opened for a loader.
+use Rattle.std.specs.Prelude.{◌≡◌, ℕ, List, [], Option, OnSome, option_map}
+use Rattle.vt_outside.specs.Files.{Asked}
+use Rattle.vt_outside.specs.declared.outside.File.{Ghosts as FileMeanings}
+use Rattle.vt_pages.specs.Shape.{Shape}
+use Rattle.vt_store.specs.StoreViews.{StoreView}
+
+-- a store of a name was just opened: it tells these bytes, or tells none, was asked nothing and has met no fault
+pub record IsFresh {F : Type 0} (g : FileMeanings F) (s : Shape) (d : ℕ) (name : List ℕ) (asked : Option Asked) (told : Option (List ℕ))
+    (store : StoreView F) : Type 0 where
+  pub shape : store.shape ≡ s
+  pub depth : store.depth ≡ d
+  pub bytes : g.bytes store.file ≡ told
+  pub no_places : g.asked store.file ≡ option_map (λ _. []) asked
+  pub named : OnSome asked (g.name store.file ≡ name)
+  pub no_faults : g.faults store.file ≡ 0

@@ -1,0 +1,24 @@
+-- What a walk knows of a pass by its report.
+use Rattle.std.specs.Prelude.{◌≡◌, ℕ, ◌+◌, IsTrue, ◌↔◌, [], length}
+use Rattle.vt_journal.specs.JournalText.{Pass}
+use Rattle.vt_journal.specs.Passes.{pass_of as text_of}
+use Rattle.vt_pass.specs.declared.crew.PassReport.{PassReport}
+use Rattle.vt_pass.specs.Outcomes.{lost_count}
+use Rattle.vt_walk.specs.declared.passes.Outlook.{Outlook}
+use Rattle.vt_walk.specs.declared.turns.Turn.{Turn}
+use Rattle.vt_walk.specs.declared.turns.Drawn.{Drawn}
+use Rattle.vt_walk.specs.Tallies.{with_pass}
+
+-- the text of a pass, by its turn, its number, the version at its beginning and its report
+abbrev pub reported_text : ℕ → Turn → ℕ → PassReport → Pass
+reported_text number t start r = record { pass = number; picture = t.picture; start = start; events = r.events.elements; rows = r.rows.elements }
+
+-- a pass as its turn, its report and what it leaves tell it
+pub record IsReported (number : ℕ) (t : Turn) (start : ℕ) (r : PassReport) (o : Outlook) (d : Drawn) : Type 0 where
+  pub picture : d.passed.picture ≡ t.picture
+  pub loads_nothing : IsTrue d.passed.loads_nothing ↔ (t.batch.elements ≡ [])
+  pub lost : d.passed.lost ≡ lost_count r.losses.elements
+  pub outlook : d.passed.outlook ≡ o
+  pub tally : d.passed.tally ≡ with_pass r.events.elements t.tally
+  pub reads : d.passed.reads ≡ t.reads + length t.batch.elements
+  pub text : text_of d.text ≡ reported_text number t start r

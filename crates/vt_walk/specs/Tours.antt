@@ -1,0 +1,28 @@
+-- A walk as the parts of its code are given it.
+use Rattle.std.specs.Prelude.{◌≡◌, ℕ, ◌≤◌, Bool, Option, List, length}
+use Rattle.vt_definitions.specs.Limits.{most_pictures}
+use Rattle.vt_definitions.specs.Depths.{IsDepth}
+use Rattle.vt_pages.specs.Pages.{IsWithinLimits, pages_of, pinned_of}
+use Rattle.vt_journal.specs.Changes.{Table}
+use Rattle.vt_shown.specs.Scenes.{Scene, scene_of}
+use Rattle.vt_walk.specs.declared.tour.Tour.{Tour}
+use Rattle.vt_walk.specs.Walks.{WalkGiven, given_by, names_of, AreSettings}
+
+-- what its pictures are of
+abbrev pub tour_scene : Tour → Scene
+tour_scene t = scene_of t.geometry.now t.depth t.path.now
+
+-- the walk of a tour, by a machine's functions and the store's bytes, where they are told
+abbrev pub given_of : Bool → (Scene → ℕ → ℕ → ℕ) → (Scene → List ℕ → Table → ℕ → ℕ → ℕ → List ℕ) → (Scene → List ℕ → ℕ → ℕ → ℕ → List ℕ)
+    → Tour → Option (List ℕ) → WalkGiven
+given_of dealt needs shows whole t told = given_by dealt needs shows whole (tour_scene t) t.settings t.mode told (names_of t.names)
+
+-- its numbers are within their limits
+pub record IsTour (t : Tour) : Type 0 where
+  pub limits : IsWithinLimits t.geometry.now
+  pub depth : IsDepth t.depth
+  pub settings : AreSettings t.geometry.now t.settings
+  pub pages : t.pinned ≡ pinned_of t.geometry.now t.settings.pinned
+  pub some : 1 ≤ t.pinned
+  pub enough : t.pinned ≤ pages_of t.geometry.now
+  pub pictures : length t.path.now.cameras ≤ most_pictures

@@ -1,0 +1,107 @@
+//! The steps of one pass.
+
+ghost use Rattle.std.specs.Prelude.{◌≡◌, ◌⊎◌, ℕ, ◌+◌, ◌≤◌, ◌<◌, take, length, slice_index, All, IfOk, OnOk, OnErr, IsErrOf, option_map};
+ghost use Rattle.vt_definitions.specs.Limits.{most_versions};
+ghost use Rattle.vt_outside.specs.Counts.{Rose};
+ghost use Rattle.vt_outside.specs.Files.{with_appended, IsThere};
+ghost use Rattle.vt_pages.specs.Pages.{pages_of};
+ghost use Rattle.vt_journal.specs.JournalText.{IsEventInChain, pass_text};
+ghost use Rattle.vt_journal.specs.Passes.{pass_of};
+ghost use Rattle.vt_evict.specs.Batches.{IsLawful};
+ghost use Rattle.vt_pass.specs.Scenes.{job_of};
+ghost use Rattle.vt_pass.specs.Passes.{MayPrepare, IsJobFor, Ends};
+ghost use Rattle.vt_walk.specs.Outlooks.{IsOutlook};
+
+use std::alloc::Global;
+use std::sync::Wait;
+use std::thread::Threads;
+use vt_draw::Shot;
+use vt_evict::{Batch, Losses, Recency};
+use vt_feedback::Counts;
+use vt_journal::{PassText, write_pass};
+use vt_outside::{Folder, Gate, NoMemory, OutsideError};
+use vt_pages::Geometry;
+use vt_pass::{PassMachine, PassReport};
+
+/// Prepares a pass for a batch and runs it.
+pub fn run_pass<Rt: Threads + Wait + Sync, M: PassMachine, G: Gate + Sync>(
+    rt: &Rt,
+    machine: &mut M,
+    shot: &Shot<'_>,
+    batch: &Batch,
+    gate: &G,
+) -> Result<PassReport, NoMemory>
+    requires idle { M.is_idle machine.old }
+    requires may { MayPrepare (M.state machine.old) batch.now.elements }
+    requires job { IsJobFor (M.state machine.old).setup (job_of shot.now batch.now.elements) }
+    ensures { Ends M.DEALT M.needs M.shows (M.drawn machine.new) (M.is_idle machine.new)
+        (job_of shot.now batch.now.elements) result (M.state machine.old) (M.state machine.new) }
+{
+    machine.prepare(rt, batch)?;
+    machine.run(rt, shot, batch, gate)
+}
+
+/// What a pass leaves for the next one.
+#[derive(Drop)]
+pub struct Outlook {
+    /// How many pages its picture wants.
+    pub wanted: u64,
+    /// How many unpinned pages stand in the lines of these.
+    pub needed: u32,
+    /// What is planned next.
+    pub plan: Batch,
+}
+
+/// Settles a batch of which some entries were lost, makes the pages that the counts want the most recent ones, and plans for
+/// them with at most `most` entries.
+pub fn look_out(
+    alloc: Global,
+    geometry: &Geometry,
+    counts: &Counts,
+    recency: &mut Recency,
+    batch: &Batch,
+    losses: &Losses,
+    most: u32,
+) -> Result<Outlook, NoMemory>
+    requires counts { length counts.now ≡ pages_of geometry.now }
+    requires shape { recency.old.shape ≡ geometry.now }
+    requires lawful { IsLawful recency.old batch.now.elements }
+    requires lost_for_all { length losses.now.elements ≡ length batch.now.elements }
+    ensures { IfOk result (IsOutlook geometry.now (slice_index counts.now)
+        most recency.old batch.now.elements losses.now.elements recency.new) }
+{
+    let wants = counts.wanted(alloc, geometry)?;
+    recency.settle(batch, losses)?;
+    recency.touch(&wants);
+    let needed = recency.needed(alloc, &wants)?;
+    let plan = recency.plan(alloc, &wants, most)?;
+    Ok(Outlook {
+        wanted: wants.len() as u64,
+        needed,
+        plan,
+    })
+}
+
+/// Adds the text of a pass to the journal, in one call. After a refusal a front part of it was added.
+pub fn tell_pass<D: Folder>(
+    alloc: Global,
+    folder: &mut D,
+    journal: &str,
+    geometry: &Geometry,
+    pass: &PassText,
+) -> Result<(), OutsideError>
+    requires pages { All (IsEventInChain geometry.now) pass.now.events.elements }
+    requires room { pass.now.start + length pass.now.events.elements ≤ most_versions }
+    ensures whole { OnOk result (D.files folder.new ≡ option_map (with_appended journal.now (pass_text geometry.now
+        (pass_of pass.now))) (D.files folder.old)) }
+    ensures part { OnErr result ((D.files folder.new ≡ D.files folder.old) ⊎ ((k : ℕ) × (D.files folder.new
+        ≡ option_map (with_appended journal.now (take k (pass_text geometry.now (pass_of pass.now)))) (D.files folder.old)))) }
+    ensures there { IsThere (D.files folder.old) journal.now → IsThere (D.files folder.new) journal.now }
+    ensures failed { IsErrOf result OutsideError.Failed → IsThere (D.files folder.old) journal.now → Rose
+        (D.faults folder.old) (D.faults folder.new) }
+    ensures asked { D.asked folder.new ≡ D.asked folder.old }
+    ensures faults { D.faults folder.old ≤ D.faults folder.new }
+{
+    let text = write_pass(alloc, geometry, pass)?;
+    folder.append(journal, &text)
+}

@@ -1,0 +1,142 @@
+//! What is written of a finished picture, and the last line.
+
+ghost use Rattle.std.specs.Prelude.{◌≡◌, ◌⊎◌, ℕ, ◌+◌, ◌*◌, ◌<◌, ◌≤◌, ◌++◌, take, length, All, IfOk, OnOk, OnErr, IsErrOf, option_map};
+ghost use Rattle.std.specs.List.{concat};
+ghost use Rattle.vt_definitions.specs.Depths.{IsDepth, texel_length};
+ghost use Rattle.vt_outside.specs.Counts.{Rose};
+ghost use Rattle.vt_outside.specs.Files.{with_bytes, gained};
+ghost use Rattle.vt_text.specs.Numbers.{number_spelling};
+ghost use Rattle.vt_ppm.specs.Picture.{picture_bytes};
+ghost use Rattle.vt_words.specs.Names.{picture_name};
+ghost use Rattle.vt_shown.specs.Replays.{IsFull};
+ghost use Rattle.vt_walk.specs.Logs.{end_line};
+ghost use Rattle.vt_walk.specs.Tallies.{numbers_line};
+
+use crate::files::write_file;
+use crate::tallies::Tally;
+use std::alloc::Global;
+use vt_camera::Path;
+use vt_outside::{Folder, NoMemory, OutsideError, Sink};
+use vt_pass::PassMachine;
+use vt_ppm::{encode, encode_wide};
+use vt_print::{LINE_ROOM, Line};
+use vt_words::picture_name;
+
+/// Writes the picture of a machine's last pass under its name, by one creation and one append. After a refusal the name is as
+/// before, or holds a front part of its bytes.
+pub fn write_picture<D: Folder, M: PassMachine>(
+    alloc: Global,
+    folder: &mut D,
+    machine: &M,
+    depth: u32,
+    path: &Path,
+    prefix: &str,
+    picture: u32,
+) -> Result<(), OutsideError>
+    requires idle { M.is_idle machine.now }
+    requires depth { IsDepth depth }
+    requires count { length (M.state machine.now).rows ≡ path.now.height }
+    requires full { All (IsFull depth path.now.width) (M.state machine.now).rows }
+    requires few { picture < 10000 }
+    ensures whole { OnOk result (D.files folder.new ≡ option_map (with_bytes (picture_name prefix.now picture)
+        (picture_bytes depth path.now.width path.now.height (concat (M.state machine.now).rows))) (D.files folder.old)) }
+    ensures part { OnErr result ((D.files folder.new ≡ D.files folder.old)
+        ⊎ ((k : ℕ) × (D.files folder.new ≡ option_map (with_bytes (picture_name prefix.now picture)
+        (take k (picture_bytes depth path.now.width path.now.height (concat (M.state machine.now).rows))))
+        (D.files folder.old)))) }
+    ensures failed { IsErrOf result OutsideError.Failed → Rose (D.faults folder.old) (D.faults folder.new) }
+    ensures asked { D.asked folder.new ≡ D.asked folder.old }
+    ensures faults { D.faults folder.old ≤ D.faults folder.new }
+{
+    let samples = machine.picture(alloc)?;
+    let bytes = encoded(alloc, depth, path.width(), path.height(), &samples)?;
+    let name = picture_name(alloc, prefix, picture)?;
+    write_file(folder, name.as_str(), &bytes)
+}
+
+// The bytes of a picture whose samples have `depth` bytes.
+fn encoded(
+    alloc: Global,
+    depth: u32,
+    width: u32,
+    height: u32,
+    samples: &[u8],
+) -> Result<Vec<u8>, NoMemory>
+    requires depth { IsDepth depth }
+    requires full { length samples.now ≡ texel_length depth * (width * height) }
+    ensures { IfOk result (λ bytes. bytes.items ≡ picture_bytes depth width height samples.now) }
+{
+    if depth == 1 {
+        encode(alloc, width, height, samples)
+    } else {
+        encode_wide(alloc, width, height, samples)
+    }
+}
+
+/// Puts the line of a picture with this tally, of whose pages so many are wanted, in one call. After a refusal a front part of it
+/// was put.
+pub fn put_picture_line<O: Sink>(
+    out: &mut O,
+    picture: u32,
+    wanted: u64,
+    tally: &Tally,
+) -> Result<(), OutsideError>
+    ensures whole { OnOk result (O.held out.new ≡ option_map (gained (numbers_line picture wanted tally.now)) (O.held out.old)) }
+    ensures part { OnErr result ((k : ℕ) × (O.held out.new ≡ option_map (gained (take k
+        (numbers_line picture wanted tally.now))) (O.held out.old))) }
+    ensures failed { IsErrOf result OutsideError.Failed → Rose (O.faults out.old) (O.faults out.new) }
+    ensures faults { O.faults out.old ≤ O.faults out.new }
+{
+    let line = line_of_picture(picture, wanted, tally);
+    out.put(line.bytes())
+}
+
+// The line of a picture.
+#[tactic(auto, unfolding(crate::specs::Logs::line_of_numbers))]
+fn line_of_picture(picture: u32, wanted: u64, tally: &Tally) -> Line
+    ensures { result ≡ numbers_line picture wanted tally.now }
+{
+    let mut line = Line::new();
+    add(&mut line, b"picture ", picture as u64);
+    add(&mut line, b" passes ", tally.passes as u64);
+    add(&mut line, b" wanted ", wanted);
+    add(&mut line, b" loaded ", tally.loaded);
+    add(&mut line, b" lost ", tally.lost);
+    add(&mut line, b" evicted ", tally.evicted);
+    line.words(b"\n");
+    line
+}
+
+// Adds words and a number to a line that has room for them.
+fn add(line: &mut Line, words: &[u8], number: u64)
+    requires { length line.old + (length words.now + 20) ≤ LINE_ROOM }
+    ensures gained { line.new ≡ line.old ++ words.now ++ number_spelling number }
+    ensures length { length line.new ≤ length line.old + (length words.now + 20) }
+{
+    line.words(words);
+    line.number(number);
+}
+
+/// Puts the last line, of so many pictures and reads, in one call. After a refusal a front part of it was put.
+pub fn put_end_line<O: Sink>(out: &mut O, pictures: u32, reads: u64) -> Result<(), OutsideError>
+    ensures whole { OnOk result (O.held out.new ≡ option_map (gained (end_line pictures reads)) (O.held out.old)) }
+    ensures part { OnErr result ((k : ℕ) × (O.held out.new ≡ option_map (gained (take k (end_line pictures reads)))
+        (O.held out.old))) }
+    ensures failed { IsErrOf result OutsideError.Failed → Rose (O.faults out.old) (O.faults out.new) }
+    ensures faults { O.faults out.old ≤ O.faults out.new }
+{
+    let line = line_of_end(pictures, reads);
+    out.put(line.bytes())
+}
+
+// The last line.
+#[tactic(auto, unfolding(crate::specs::Logs::end_line))]
+fn line_of_end(pictures: u32, reads: u64) -> Line
+    ensures { result ≡ end_line pictures reads }
+{
+    let mut line = Line::new();
+    add(&mut line, b"end pictures ", pictures as u64);
+    add(&mut line, b" reads ", reads);
+    line.words(b"\n");
+    line
+}

@@ -1,0 +1,440 @@
+//! Pass after pass.
+
+ghost use Rattle.std.specs.Prelude.{◌≡◌, ℕ, ◌+◌, ◌<◌, ◌≤◌, ◌^◌, ◌∷◌, List, Option, length, All, MatchBool, MatchResult, OnOk, OnErr, IfOk};
+ghost use Rattle.vt_definitions.specs.Limits.{most_versions};
+ghost use Rattle.vt_journal.specs.JournalText.{IsEventInChain};
+ghost use Rattle.vt_pass.specs.Requests.{AreSameFiles, ArePartlyReadFor};
+ghost use Rattle.vt_pass.specs.Outcomes.{lost_count};
+ghost use Rattle.vt_walk.specs.States.{walk_state};
+ghost use Rattle.vt_walk.specs.Tours.{given_of, IsTour};
+ghost use Rattle.vt_walk.specs.Runs.{WalkPass};
+ghost use Rattle.vt_walk.specs.Standing.{Finished};
+ghost use Rattle.vt_walk.specs.Written.{IsDrawnBySome};
+ghost use Rattle.vt_walk.specs.Turns.{WalkStart, PassStart, MayDraw, HasDrawn, StandsFirst, StandsAt, StandsAfter, StandsLast, LeftBy};
+ghost use Rattle.vt_walk.specs.Reported.{IsReported};
+ghost use Rattle.vt_walk.specs.Judging.{MayGoOn, Judges, IsEnd};
+
+use crate::error::WalkError;
+use crate::mode::Mode;
+use crate::passes::{Outlook, look_out, run_pass, tell_pass};
+use crate::pictures::{put_end_line, put_picture_line, write_picture};
+use crate::tallies::Tally;
+use crate::tour::Tour;
+use std::alloc::Global;
+use std::sync::Wait;
+use std::thread::Threads;
+use vt_draw::Shot;
+use vt_evict::{Batch, Losses, Recency};
+use vt_journal::PassText;
+use vt_outside::{Folder, Gate, NoMemory, Sink};
+use vt_pass::{PassMachine, PassReport};
+
+/// What comes next in a walk.
+#[derive(Drop)]
+pub struct Turn {
+    /// The picture of the next pass, or the number of pictures where all are finished.
+    pub picture: u32,
+    /// The batch of the next pass.
+    pub batch: Batch,
+    /// What was counted of the picture's passes so far.
+    pub tally: Tally,
+    /// How many tiles were asked for so far.
+    pub reads: u64,
+}
+
+/// What is known of a pass that was made.
+#[derive(Drop)]
+pub struct Passed {
+    /// The picture that was drawn.
+    pub picture: u32,
+    /// Its batch was empty.
+    pub loads_nothing: bool,
+    /// How many tiles were lost in it.
+    pub lost: u64,
+    /// What it leaves for the next pass.
+    pub outlook: Outlook,
+    /// What was counted of its picture's passes so far.
+    pub tally: Tally,
+    /// How many tiles were asked for so far.
+    pub reads: u64,
+}
+
+/// A pass that was drawn, and is to be told.
+#[derive(Drop)]
+pub struct Drawn {
+    pub text: PassText,
+    pub passed: Passed,
+}
+
+/// Takes turns until all pictures are finished, and puts the last line.
+pub fn walk_on<Rt: Threads + Wait + Sync, M: PassMachine, D: Folder, O: Sink, G: Gate + Sync>(
+    rt: &Rt,
+    alloc: Global,
+    folder: &mut D,
+    machine: &mut M,
+    recency: &mut Recency,
+    tour: &Tour<'_>,
+    out: &mut O,
+    gate: &G,
+) -> Result<(), WalkError>
+    requires tour { IsTour tour.now }
+    requires enough_frames { tour.now.pinned ≤ tour.now.settings.frames }
+    requires idle { M.is_idle machine.old }
+    requires stands { (b : WalkStart) × StandsFirst (IsDrawnBySome M.drawn)
+        (given_of M.DEALT M.needs M.shows M.whole tour.now b.told) b.first
+        (walk_state D.Folder tour.now.names.store.now folder.old (b.kept ∷ (M.state machine.old).files) (O.held out.old)
+        (O.faults out.old)) (M.state machine.old) recency.old }
+    ensures walked { (b : WalkStart) → StandsFirst (IsDrawnBySome M.drawn)
+        (given_of M.DEALT M.needs M.shows M.whole tour.now b.told) b.first
+        (walk_state D.Folder tour.now.names.store.now folder.old (b.kept ∷ (M.state machine.old).files) (O.held out.old)
+        (O.faults out.old)) (M.state machine.old) recency.old
+        → MatchResult result (λ _. Finished (IsDrawnBySome M.drawn) (given_of M.DEALT M.needs M.shows M.whole tour.now b.told)
+        b.first (walk_state D.Folder tour.now.names.store.now folder.new (b.kept ∷ (M.state machine.new).files)
+        (O.held out.new) (O.faults out.new)))
+        (LeftBy (IsDrawnBySome M.drawn) (given_of M.DEALT M.needs M.shows M.whole tour.now b.told) b.first
+        (walk_state D.Folder tour.now.names.store.now folder.new (b.kept ∷ (M.state machine.new).files) (O.held out.new)
+        (O.faults out.new))) }
+    ensures same { AreSameFiles (M.state machine.old).files (M.state machine.new).files }
+    ensures asked { D.asked folder.new ≡ D.asked folder.old }
+    ensures faults { D.faults folder.old ≤ D.faults folder.new }
+    ensures out_faults { O.faults out.old ≤ O.faults out.new }
+{
+    let reads = take_turns(rt, alloc, folder, machine, recency, tour, out, gate)?;
+    put_end_line(out, tour.path.pictures(), reads)?;
+    Ok(())
+}
+
+// Takes turns until all pictures are finished, and answers how many tiles were asked for.
+fn take_turns<Rt: Threads + Wait + Sync, M: PassMachine, D: Folder, O: Sink, G: Gate + Sync>(
+    rt: &Rt,
+    alloc: Global,
+    folder: &mut D,
+    machine: &mut M,
+    recency: &mut Recency,
+    tour: &Tour<'_>,
+    out: &mut O,
+    gate: &G,
+) -> Result<u64, WalkError>
+    requires tour { IsTour tour.now }
+    requires enough_frames { tour.now.pinned ≤ tour.now.settings.frames }
+    requires idle { M.is_idle machine.old }
+    requires stands { (b : WalkStart) × StandsFirst (IsDrawnBySome M.drawn)
+        (given_of M.DEALT M.needs M.shows M.whole tour.now b.told) b.first
+        (walk_state D.Folder tour.now.names.store.now folder.old (b.kept ∷ (M.state machine.old).files) (O.held out.old)
+        (O.faults out.old)) (M.state machine.old) recency.old }
+    ensures walked { (b : WalkStart) → StandsFirst (IsDrawnBySome M.drawn)
+        (given_of M.DEALT M.needs M.shows M.whole tour.now b.told) b.first
+        (walk_state D.Folder tour.now.names.store.now folder.old (b.kept ∷ (M.state machine.old).files) (O.held out.old)
+        (O.faults out.old)) (M.state machine.old) recency.old
+        → MatchResult result (λ reads. StandsLast (IsDrawnBySome M.drawn)
+        (given_of M.DEALT M.needs M.shows M.whole tour.now b.told) reads b.first
+        (walk_state D.Folder tour.now.names.store.now folder.new (b.kept ∷ (M.state machine.new).files) (O.held out.new)
+        (O.faults out.new)))
+        (LeftBy (IsDrawnBySome M.drawn) (given_of M.DEALT M.needs M.shows M.whole tour.now b.told) b.first
+        (walk_state D.Folder tour.now.names.store.now folder.new (b.kept ∷ (M.state machine.new).files) (O.held out.new)
+        (O.faults out.new))) }
+    ensures same { AreSameFiles (M.state machine.old).files (M.state machine.new).files }
+    ensures asked { D.asked folder.new ≡ D.asked folder.old }
+    ensures faults { D.faults folder.old ≤ D.faults folder.new }
+    ensures out_faults { O.faults out.old ≤ O.faults out.new }
+{
+    let pictures = tour.path.pictures();
+    let mut turn = Turn {
+        picture: 0,
+        batch: Batch::new(alloc),
+        tally: Tally::new(),
+        reads: tour.pinned as u64,
+    };
+    for number in 1..u32::MAX {
+        if turn.picture == pictures {
+            return Ok(turn.reads);
+        }
+        turn = take_turn(
+            rt, alloc, folder, machine, recency, tour, number, turn, out, gate,
+        )?;
+    }
+    Err(WalkError::NoMemory)
+}
+
+// Makes the next pass of a walk, and writes the picture that it finishes.
+fn take_turn<Rt: Threads + Wait + Sync, M: PassMachine, D: Folder, O: Sink, G: Gate + Sync>(
+    rt: &Rt,
+    alloc: Global,
+    folder: &mut D,
+    machine: &mut M,
+    recency: &mut Recency,
+    tour: &Tour<'_>,
+    number: u32,
+    turn: Turn,
+    out: &mut O,
+    gate: &G,
+) -> Result<Turn, WalkError>
+    requires tour { IsTour tour.now }
+    requires enough_frames { tour.now.pinned ≤ tour.now.settings.frames }
+    requires idle { M.is_idle machine.old }
+    requires more { turn.picture < length tour.now.path.now.cameras }
+    requires stands { (b : WalkStart) × StandsAt (IsDrawnBySome M.drawn)
+        (given_of M.DEALT M.needs M.shows M.whole tour.now b.told) number turn b.first
+        (walk_state D.Folder tour.now.names.store.now folder.old (b.kept ∷ (M.state machine.old).files) (O.held out.old)
+        (O.faults out.old)) (M.state machine.old) recency.old }
+    ensures taken { (b : WalkStart) → StandsAt (IsDrawnBySome M.drawn)
+        (given_of M.DEALT M.needs M.shows M.whole tour.now b.told) number turn b.first
+        (walk_state D.Folder tour.now.names.store.now folder.old (b.kept ∷ (M.state machine.old).files) (O.held out.old)
+        (O.faults out.old)) (M.state machine.old) recency.old
+        → MatchResult result (λ next. StandsAt (IsDrawnBySome M.drawn)
+        (given_of M.DEALT M.needs M.shows M.whole tour.now b.told) (number + 1) next b.first
+        (walk_state D.Folder tour.now.names.store.now folder.new (b.kept ∷ (M.state machine.new).files) (O.held out.new)
+        (O.faults out.new)) (M.state machine.new) recency.new)
+        (LeftBy (IsDrawnBySome M.drawn) (given_of M.DEALT M.needs M.shows M.whole tour.now b.told) b.first
+        (walk_state D.Folder tour.now.names.store.now folder.new (b.kept ∷ (M.state machine.new).files) (O.held out.new)
+        (O.faults out.new))) }
+    ensures idle { OnOk result (M.is_idle machine.new) }
+    ensures same { AreSameFiles (M.state machine.old).files (M.state machine.new).files }
+    ensures asked { D.asked folder.new ≡ D.asked folder.old }
+    ensures faults { D.faults folder.old ≤ D.faults folder.new }
+    ensures out_faults { O.faults out.old ≤ O.faults out.new }
+{
+    let passed = make_pass(
+        rt, alloc, folder, machine, recency, tour, number, turn, gate,
+    )?;
+    judge(tour, &passed)?;
+    end_turn(alloc, folder, machine, recency, tour, number, passed, out)
+}
+
+// Makes the next pass of a walk, and tells it to the journal.
+fn make_pass<Rt: Threads + Wait + Sync, M: PassMachine, D: Folder, G: Gate + Sync>(
+    rt: &Rt,
+    alloc: Global,
+    folder: &mut D,
+    machine: &mut M,
+    recency: &mut Recency,
+    tour: &Tour<'_>,
+    number: u32,
+    turn: Turn,
+    gate: &G,
+) -> Result<Passed, WalkError>
+    requires tour { IsTour tour.now }
+    requires enough_frames { tour.now.pinned ≤ tour.now.settings.frames }
+    requires idle { M.is_idle machine.old }
+    requires more { turn.picture < length tour.now.path.now.cameras }
+    requires stands { (b : PassStart) × StandsAt (IsDrawnBySome M.drawn)
+        (given_of M.DEALT M.needs M.shows M.whole tour.now b.start.told) number turn b.start.first
+        (walk_state D.Folder tour.now.names.store.now folder.old (b.start.kept ∷ (M.state machine.old).files)
+        b.held b.out_faults) (M.state machine.old) recency.old }
+    ensures made { (b : PassStart) → StandsAt (IsDrawnBySome M.drawn)
+        (given_of M.DEALT M.needs M.shows M.whole tour.now b.start.told) number turn b.start.first
+        (walk_state D.Folder tour.now.names.store.now folder.old (b.start.kept ∷ (M.state machine.old).files)
+        b.held b.out_faults) (M.state machine.old) recency.old
+        → MatchResult result (λ passed. StandsAfter M.DEALT M.needs M.shows (IsDrawnBySome M.drawn)
+        (given_of M.DEALT M.needs M.shows M.whole tour.now b.start.told) number passed b.start.first
+        (walk_state D.Folder tour.now.names.store.now folder.new (b.start.kept ∷ (M.state machine.new).files)
+        b.held b.out_faults) (M.state machine.new) recency.new)
+        (LeftBy (IsDrawnBySome M.drawn) (given_of M.DEALT M.needs M.shows M.whole tour.now b.start.told) b.start.first
+        (walk_state D.Folder tour.now.names.store.now folder.new (b.start.kept ∷ (M.state machine.new).files)
+        b.held b.out_faults)) }
+    ensures idle { OnOk result (M.is_idle machine.new) }
+    ensures same { AreSameFiles (M.state machine.old).files (M.state machine.new).files }
+    ensures asked { D.asked folder.new ≡ D.asked folder.old }
+    ensures faults { D.faults folder.old ≤ D.faults folder.new }
+{
+    let drawn = draw_pass(rt, alloc, machine, recency, tour, number, turn, gate)?;
+    tell_pass(
+        alloc,
+        folder,
+        tour.names.journal,
+        tour.geometry,
+        &drawn.text,
+    )?;
+    Ok(drawn.passed)
+}
+
+// Draws the next pass of a walk, streams its batch, and plans what comes after it.
+fn draw_pass<Rt: Threads + Wait + Sync, M: PassMachine, G: Gate + Sync>(
+    rt: &Rt,
+    alloc: Global,
+    machine: &mut M,
+    recency: &mut Recency,
+    tour: &Tour<'_>,
+    number: u32,
+    turn: Turn,
+    gate: &G,
+) -> Result<Drawn, NoMemory>
+    requires tour { IsTour tour.now }
+    requires enough_frames { tour.now.pinned ≤ tour.now.settings.frames }
+    requires idle { M.is_idle machine.old }
+    requires may { (told : Option (List ℕ)) × (run : List WalkPass) × MayDraw
+        (given_of M.DEALT M.needs M.shows M.whole tour.now told) run number turn (M.state machine.old) recency.old }
+    ensures drawn { (told : Option (List ℕ)) (run : List WalkPass) → MayDraw
+        (given_of M.DEALT M.needs M.shows M.whole tour.now told) run number turn (M.state machine.old) recency.old
+        → IfOk result (HasDrawn M.DEALT M.needs M.shows (IsDrawnBySome M.drawn)
+        (given_of M.DEALT M.needs M.shows M.whole tour.now told) run turn (M.state machine.old) (M.state machine.new)
+        recency.new) }
+    ensures pages { IfOk result (λ d. All (IsEventInChain tour.now.geometry.now) d.text.events.elements) }
+    ensures room { IfOk result (λ d. d.text.start + length d.text.events.elements ≤ most_versions) }
+    ensures refused { OnErr result (ArePartlyReadFor tour.now.geometry.now tour.now.depth turn.batch.elements
+        (M.state machine.old).files (M.state machine.new).files) }
+    ensures idle { OnOk result (M.is_idle machine.new) }
+    ensures same { AreSameFiles (M.state machine.old).files (M.state machine.new).files }
+{
+    let shot = Shot {
+        geometry: tour.geometry,
+        path: tour.path,
+        picture: turn.picture,
+        depth: tour.depth,
+    };
+    let start = machine.journal().version();
+    let report = run_pass(rt, machine, &shot, &turn.batch, gate)?;
+    let most = tour.settings.crew.batch;
+    let outlook = look_out(
+        alloc,
+        tour.geometry,
+        machine.counts(),
+        recency,
+        &turn.batch,
+        &report.losses,
+        most,
+    )?;
+    Ok(drawn_of(number, turn, start, report, outlook))
+}
+
+// What was drawn, by the report of a pass and what it leaves for the next one.
+fn drawn_of(number: u32, turn: Turn, start: u64, report: PassReport, outlook: Outlook) -> Drawn
+    requires passes { turn.tally.passes + 1 < 2 ^ 32 }
+    requires loaded { turn.tally.loaded + length report.events.elements < 2 ^ 64 }
+    requires lost { turn.tally.lost + length report.events.elements < 2 ^ 64 }
+    requires evicted { turn.tally.evicted + length report.events.elements < 2 ^ 64 }
+    requires reads { turn.reads + length turn.batch.elements < 2 ^ 64 }
+    ensures { IsReported number turn start report outlook result }
+{
+    let PassReport {
+        rows,
+        events,
+        losses,
+    } = report;
+    let batch = turn.batch.len();
+    let passed = Passed {
+        picture: turn.picture,
+        loads_nothing: batch == 0,
+        lost: count_lost(&losses),
+        outlook,
+        tally: turn.tally.with_pass(events.slice()),
+        reads: turn.reads + batch as u64,
+    };
+    let text = PassText {
+        pass: number,
+        picture: turn.picture,
+        start,
+        events,
+        rows,
+    };
+    Drawn { text, passed }
+}
+
+// How many tiles were lost.
+fn count_lost(losses: &Losses) -> u64
+    ensures { result ≡ lost_count losses.now.elements }
+{
+    losses.slice().iter().filter(|lost| **lost).count() as u64
+}
+
+// Whether a walk may go on after a pass: in a settled walk no tile was lost in it, and its picture fits.
+fn judge(tour: &Tour<'_>, passed: &Passed) -> Result<(), WalkError>
+    requires enough_frames { tour.now.pinned ≤ tour.now.settings.frames }
+    ensures { Judges tour.now passed.now result }
+{
+    if tour.mode == Mode::Live {
+        return Ok(());
+    }
+    if passed.lost > 0 {
+        return Err(WalkError::Failed);
+    }
+    let room = tour.settings.frames - tour.pinned;
+    if passed.outlook.needed > room {
+        return Err(WalkError::DoesNotFit {
+            picture: passed.picture,
+            wanted: passed.outlook.needed,
+            room,
+        });
+    }
+    Ok(())
+}
+
+// Whether a pass has finished its picture: in a settled walk one that loads nothing, and after which nothing is planned.
+fn is_finished(mode: Mode, loads_nothing: bool, plan: &Batch) -> bool
+    ensures { MatchBool result (IsEnd mode loads_nothing plan.now.elements) (IsEnd mode loads_nothing plan.now.elements → ⊥) }
+{
+    mode == Mode::Live || (loads_nothing && plan.len() == 0)
+}
+
+// Writes the picture that a pass has finished, and its line, or leaves it to the next pass.
+fn end_turn<M: PassMachine, D: Folder, O: Sink>(
+    alloc: Global,
+    folder: &mut D,
+    machine: &M,
+    recency: &Recency,
+    tour: &Tour<'_>,
+    number: u32,
+    passed: Passed,
+    out: &mut O,
+) -> Result<Turn, WalkError>
+    requires tour { IsTour tour.now }
+    requires idle { M.is_idle machine.now }
+    requires goes_on { MayGoOn tour.now passed }
+    requires stands { (b : WalkStart) × StandsAfter M.DEALT M.needs M.shows (IsDrawnBySome M.drawn)
+        (given_of M.DEALT M.needs M.shows M.whole tour.now b.told) number passed b.first
+        (walk_state D.Folder tour.now.names.store.now folder.old (b.kept ∷ (M.state machine.now).files) (O.held out.old)
+        (O.faults out.old)) (M.state machine.now) recency.now }
+    ensures ended { (b : WalkStart) → StandsAfter M.DEALT M.needs M.shows (IsDrawnBySome M.drawn)
+        (given_of M.DEALT M.needs M.shows M.whole tour.now b.told) number passed b.first
+        (walk_state D.Folder tour.now.names.store.now folder.old (b.kept ∷ (M.state machine.now).files) (O.held out.old)
+        (O.faults out.old)) (M.state machine.now) recency.now
+        → MatchResult result (λ next. StandsAt (IsDrawnBySome M.drawn)
+        (given_of M.DEALT M.needs M.shows M.whole tour.now b.told) (number + 1) next b.first
+        (walk_state D.Folder tour.now.names.store.now folder.new (b.kept ∷ (M.state machine.now).files) (O.held out.new)
+        (O.faults out.new)) (M.state machine.now) recency.now)
+        (LeftBy (IsDrawnBySome M.drawn) (given_of M.DEALT M.needs M.shows M.whole tour.now b.told) b.first
+        (walk_state D.Folder tour.now.names.store.now folder.new (b.kept ∷ (M.state machine.now).files) (O.held out.new)
+        (O.faults out.new))) }
+    ensures asked { D.asked folder.new ≡ D.asked folder.old }
+    ensures faults { D.faults folder.old ≤ D.faults folder.new }
+    ensures out_faults { O.faults out.old ≤ O.faults out.new }
+{
+    let _ = recency;
+    let Passed {
+        picture,
+        loads_nothing,
+        lost: _,
+        outlook,
+        tally,
+        reads,
+    } = passed;
+    let Outlook {
+        wanted,
+        needed: _,
+        plan,
+    } = outlook;
+    if !is_finished(tour.mode, loads_nothing, &plan) {
+        return Ok(Turn {
+            picture,
+            batch: plan,
+            tally,
+            reads,
+        });
+    }
+    write_picture(
+        alloc,
+        folder,
+        machine,
+        tour.depth,
+        tour.path,
+        tour.names.prefix,
+        picture,
+    )?;
+    put_picture_line(out, picture, wanted, &tally)?;
+    Ok(Turn {
+        picture: picture + 1,
+        batch: plan,
+        tally: Tally::new(),
+        reads,
+    })
+}
