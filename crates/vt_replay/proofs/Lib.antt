@@ -1,0 +1,11 @@
+pub mod Passes
+pub mod Holding
+pub mod Reading
+pub mod Following
+pub mod Scanning
+pub mod Judging
+pub mod Rows
+pub mod Places
+pub mod Written
+pub mod Staging
+pub mod Walked

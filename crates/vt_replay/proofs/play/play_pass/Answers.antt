@@ -1,0 +1,31 @@
+use Rattle.std.proofs.Common.{◌≡◌, ℕ, List, [], ◌∷◌, sym, ap, ◌∙◌, subst}
+use Rattle.std.proofs.lemmas.Result.{err_from_is_err_and}
+use Rattle.vt_ppm.specs.Picture.{picture_bytes}
+use Rattle.vt_store.specs.Format.{stored}
+use Rattle.vt_files.specs.Courses.{passage}
+use Rattle.vt_files.specs.Dues.{Writes}
+use Rattle.vt_files.specs.Pictures.{picture_due}
+use Rattle.vt_shown.specs.Scenes.{scene_of}
+use Rattle.vt_replay.specs.Replayed.{replayed_rows}
+use Rattle.vt_replay.proofs.Written.{nothing_written, samples_written}
+use Rattle.vt_replay.proofs.play.play_pass.Goals as goal
+
+pub returns-in_err-show_pass-clause-wrote : goal.returns-in_err-show_pass-clause-wrote
+returns-in_err-show_pass-clause-wrote g c = λ b told.
+    let p = err_from_is_err_and c.from_residual.result c.from_residual.ensures.1 in
+    rw p.1 (nothing_written _ (g.D.Folder.files c.args.folder.now) p.0)
+
+pub returns-clause-wrote : goal.returns-clause-wrote
+returns-clause-wrote g c = λ b told.
+    let shot = c.args.shot.now in
+    let shown : ℕ → List ℕ = λ (picture : ℕ). replayed_rows (stored b) (scene_of shot.geometry.now shot.depth shot.path.now)
+    c.args.journal.now.changes c.args.pass.now.rows.elements picture shot.path.now.height in
+    let p = passage g.D.Folder c.args.folder.now c.write_picture.new.folder in
+    let moved = subst (λ (w : ℕ). Writes (picture_due c.args.prefix.now
+    (λ _. picture_bytes shot.depth w c.height.result c.as_slice.result.now) shot.picture ∷ []) p c.write_picture.result)
+    c.width.ensures.value c.write_picture.ensures in
+    let again = subst (λ (h : ℕ). Writes (picture_due c.args.prefix.now
+    (λ _. picture_bytes shot.depth shot.path.now.width h c.as_slice.result.now) shot.picture ∷ []) p c.write_picture.result)
+    c.height.ensures.value moved in
+    samples_written c.args.prefix.now shot.depth shot.path.now.width shot.path.now.height shot.picture c.as_slice.result.now shown p c.write_picture.result
+    (c.as_slice.ensures.value ∙ c.in_ok-show_pass.ensures.shown b told) again

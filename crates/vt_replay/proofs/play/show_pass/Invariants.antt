@@ -1,0 +1,26 @@
+use Rattle.std.proofs.Common.{◌≡◌, ◌⊎◌, ℕ, ◌+◌, ◌*◌, ◌<◌, ◌≤◌, List, Some, length}
+use Rattle.std.specs.Prelude.{slice_get}
+use Rattle.vt_definitions.specs.Depths.{texel_length}
+use Rattle.vt_journal.specs.declared.changes.RowLine.{RowLine}
+use Rattle.vt_journal.specs.Changes.{at}
+use Rattle.vt_store.specs.Format.{stored}
+use Rattle.vt_shown.specs.Scenes.{scene_of}
+use Rattle.vt_shown.specs.Replays.{HasPixels, pixel_under}
+use Rattle.vt_replay.specs.Playing.{IsReadOn, IsStaged, row_of}
+use Rattle.vt_replay.proofs.play.show_pass.Given as goal
+
+-- the rows of the versions so far are drawn
+abbrev pub invariant-loop-version : goal.invariant-loop-version
+invariant-loop-version g l = record {
+  staged : IsStaged g.F.File l.shot.geometry.now l.shot.depth l.shot.path.now.width l.shot.path.now.height l.fn.stage.table.frames l.journal.changes
+      l.stage.table l.stage.tile.items l.stage.samples.items l.stage.counts.items l.store;
+  same_frames : l.stage.table.frames ≡ l.fn.stage.table.frames;
+  behind : length l.stage.table.changes ≤ l.version;
+  there : (l.version ≡ l.pass.start) ⊎ (length l.stage.table.changes + 1 ≡ l.version);
+  shown : (b : List ℕ) → g.F.File.bytes l.fn.store.file ≡ Some b
+      → (y : ℕ) (row : RowLine) → slice_get l.pass.rows.elements y ≡ Some row → row.version < l.version
+      → HasPixels l.shot.depth l.shot.path.now.width
+      (λ x. pixel_under (stored b) (scene_of l.shot.geometry.now l.shot.depth l.shot.path.now) (at l.journal.changes row.version) l.shot.picture x y)
+      (row_of (texel_length l.shot.depth * l.shot.path.now.width) l.stage.samples.items y);
+  read : IsReadOn g.F.File l.fn.store l.store;
+}

@@ -1,0 +1,5 @@
+pub mod Flaws
+pub mod Replayed
+pub mod Playing
+pub mod Outcomes
+pub mod Walked

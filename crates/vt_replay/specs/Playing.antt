@@ -1,0 +1,98 @@
+-- A page table that follows a journal, and the store from which its tiles are read.
+use Rattle.std.specs.Prelude.{◌≡◌, ◌⊎◌, ℕ, ◌+◌, ◌*◌, ◌<◌, ◌≤◌, ◌++◌, List, Some, Option, All, length, take, slice_get, slice_range, option_map, Result, Ok, Err}
+use Rattle.vt_definitions.specs.Depths.{texel_length}
+use Rattle.vt_outside.specs.declared.place.Place.{Place}
+use Rattle.vt_outside.specs.declared.outside.File.{Ghosts as FileMeanings}
+use Rattle.vt_pages.specs.Shape.{Shape}
+use Rattle.vt_pages.specs.Pages.{pages_of}
+use Rattle.vt_journal.specs.declared.changes.Change.{Change}
+use Rattle.vt_journal.specs.declared.changes.RowLine.{RowLine}
+use Rattle.vt_journal.specs.Changes.{AreLegal}
+use Rattle.vt_journal.specs.Lookups.{change_page}
+use Rattle.vt_journal.specs.Kept.{change_frame}
+use Rattle.vt_journal.specs.JournalText.{Pass}
+use Rattle.vt_store.specs.Format.{tile_start, tile_length}
+use Rattle.vt_store.specs.StoreViews.{StoreView, IsStoreIfTold}
+use Rattle.vt_table.specs.Views.{TableView, IsTable}
+use Rattle.vt_files.specs.Dues.{FileDue, with_files, IsPart}
+use Rattle.vt_shown.specs.Frames.{HoldsTiles}
+use Rattle.vt_outside.specs.Files.{Files}
+use Rattle.vt_outside.specs.declared.answers.OutsideError.{OutsideError}
+
+-- the place of the tile of some page
+pub record IsTilePlace (s : Shape) (d : ℕ) (place : Place) : Type 0 where
+  pub page : ℕ
+  pub inside : page < pages_of s
+  pub at : place.at ≡ tile_start s d page
+  pub len : place.len ≡ tile_length s d
+
+-- tiles were asked, and nothing else
+pub record AreTilesAsked (s : Shape) (d : ℕ) (before after : Option (List Place)) : Type 0 where
+  pub places : List Place
+  pub are : All (IsTilePlace s d) places
+  pub asked : after ≡ option_map (λ old. old ++ places) before
+
+-- a store was read on: its tiles were asked, and all else is as before but for the faults that it met
+pub record IsReadOn {F : Type 0} (g : FileMeanings F) (before after : StoreView F) : Type 0 where
+  pub shape : after.shape ≡ before.shape
+  pub depth : after.depth ≡ before.depth
+  pub bytes : g.bytes after.file ≡ g.bytes before.file
+  pub name : g.name after.file ≡ g.name before.file
+  pub faults : g.faults before.file ≤ g.faults after.file
+  pub tiles : AreTilesAsked before.shape before.depth (g.asked before.file) (g.asked after.file)
+
+-- each change is legal after those before it, and its page and its frame are within their bounds
+pub record MayBePlayed (s : Shape) (frames : ℕ) (changes : List Change) : Type 0 where
+  pub legal : AreLegal s changes
+  pub in_pages : (v : ℕ) (change : Change) → slice_get changes v ≡ Some change → change_page change < pages_of s
+  pub in_frames : (v : ℕ) (change : Change) → slice_get changes v ≡ Some change → change_frame change < frames
+
+-- a table has come to a version of a journal, and has room for the rest of it
+pub record Follows (s : Shape) (frames : ℕ) (changes : List Change) (t : TableView) : Type 0 where
+  pub table : IsTable t
+  pub shape : t.shape ≡ s
+  pub frames_are : t.frames ≡ frames
+  pub changes_are : t.changes ≡ take (length t.changes) changes
+  pub inside : length t.changes ≤ length changes
+  pub room : length changes ≤ length t.changes + t.spare
+
+-- row y of the samples of a picture, of which each row has so many bytes
+abbrev pub row_of : ℕ → List ℕ → ℕ → List ℕ
+row_of line samples y = slice_range samples (y * line) (y * line + line)
+
+-- a table, the room to draw in and a store are ready for pictures of a width and a height: the table follows the journal and holds the
+-- store's tiles, and the store's file can note a read for each change to come
+pub record IsStaged {F : Type 0} (g : FileMeanings F) (s : Shape) (d width height frames : ℕ) (changes : List Change)
+    (t : TableView) (tile samples counts : List ℕ) (store : StoreView F) : Type 0 where
+  pub follows : Follows s frames changes t
+  pub shape : store.shape ≡ s
+  pub depth : store.depth ≡ d
+  pub tile_size : length tile ≡ tile_length s d
+  pub samples_size : length samples ≡ height * (texel_length d * width)
+  pub counts_size : length counts ≡ pages_of s
+  pub reads : length changes ≤ length t.changes + g.spare store.file
+  pub holds : HoldsTiles t d (g.bytes store.file)
+  pub store_is : IsStoreIfTold (g.bytes store.file) s d
+
+-- the files came to be, or where the call was refused a part of them: some whole, and of the next at most a front part
+abbrev pub HasWritten : {T : Type 0} → List FileDue → Option Files → Option Files → Result T OutsideError → Type 0
+HasWritten due before after (Ok _) = after ≡ option_map (with_files due) before
+HasWritten due before after (Err _) = IsPart due before after
+
+-- the rows of a pass may be drawn: there is one for each row of a picture, and each has a version from the first to the last
+pub record AreRowsWithin (height first last : ℕ) (rows : List RowLine) : Type 0 where
+  pub ordered : first ≤ last
+  pub count : length rows ≡ height
+  pub from : (y : ℕ) (row : RowLine) → slice_get rows y ≡ Some row → first ≤ row.version
+  pub to : (y : ℕ) (row : RowLine) → slice_get rows y ≡ Some row → row.version ≤ last
+
+-- what the passes of a journal keep to: the first has picture 0, each later one the picture before or the next; each begins with a
+-- version of the journal in which the pinned pages are mapped, and its rows have versions from there to the beginning of the next
+pub record ArePlayed (height pinned last : ℕ) (passes : List Pass) : Type 0 where
+  pub first : (p : Pass) → slice_get passes 0 ≡ Some p → p.picture ≡ 0
+  pub starts : (i : ℕ) (p : Pass) → slice_get passes i ≡ Some p → pinned ≤ p.start
+  pub rows : (i : ℕ) (p : Pass) → slice_get passes i ≡ Some p → AreRowsWithin height p.start last p.rows
+  pub pictures : (i : ℕ) (p q : Pass) → slice_get passes i ≡ Some p → slice_get passes (i + 1) ≡ Some q
+      → (q.picture ≡ p.picture) ⊎ (q.picture ≡ p.picture + 1)
+  pub rise : (i : ℕ) (p q : Pass) → slice_get passes i ≡ Some p → slice_get passes (i + 1) ≡ Some q
+      → AreRowsWithin height p.start q.start p.rows

@@ -1,0 +1,61 @@
+-- What the replay of a journal draws.
+use Rattle.std.specs.Prelude.{ℕ, ◌+◌, ◌==◌, if◌then◌else◌, List, [], ◌∷◌, slice_get, option_map, unwrap_or}
+use Rattle.std.specs.List.{flat_map, range_with_len}
+use Rattle.vt_definitions.specs.Texels.{Source}
+use Rattle.vt_pages.specs.Shape.{Shape}
+use Rattle.vt_camera.specs.Paths.{PathView}
+use Rattle.vt_ppm.specs.Picture.{picture_bytes}
+use Rattle.vt_journal.specs.declared.changes.Change.{Change}
+use Rattle.vt_journal.specs.declared.changes.RowLine.{RowLine}
+use Rattle.vt_journal.specs.Changes.{Table, at}
+use Rattle.vt_journal.specs.JournalText.{Pass, Content, content_changes}
+use Rattle.vt_store.specs.Format.{stored}
+use Rattle.vt_files.specs.Dues.{FileDue}
+use Rattle.vt_files.specs.Pictures.{pictures_due}
+use Rattle.vt_shown.specs.Scenes.{Scene, scene_of}
+use Rattle.vt_shown.specs.Replays.{pixel_under}
+
+-- the version that the line of a row names
+abbrev pub version_of : List RowLine → ℕ → ℕ
+version_of lines y = unwrap_or (option_map (λ line. line.version) (slice_get lines y)) 0
+
+-- the bytes of the first pixels of a row of a picture under a page table (van Waveren 2012)
+unfoldable pub replayed_row : Source → Scene → Table → ℕ → ℕ → ℕ → List ℕ
+replayed_row src scene m i y columns = flat_map (λ x. pixel_under src scene m i x y) (range_with_len 0 columns)
+
+-- the bytes of the first rows of the replay of a pass of a picture: each row under the page table of the version that its line names
+unfoldable pub replayed_rows : Source → Scene → List Change → List RowLine → ℕ → ℕ → List ℕ
+replayed_rows src scene changes lines i rows =
+    flat_map (λ y. replayed_row src scene (at changes (version_of lines y)) i y scene.path.width) (range_with_len 0 rows)
+
+-- the rows of the last pass of a picture, where these were so far
+abbrev pub lines_after : List RowLine → List Pass → ℕ → List RowLine
+lines_after lines [] picture = lines
+lines_after lines (pass ∷ passes) picture = lines_after (if pass.picture == picture then pass.rows else lines) passes picture
+
+-- the rows of the last pass of a picture
+abbrev pub last_lines : List Pass → ℕ → List RowLine
+last_lines passes picture = lines_after [] passes picture
+
+-- how many pictures passes have, where so many came before: their numbers go on by one
+abbrev pub pictures_after : ℕ → List Pass → ℕ
+pictures_after count [] = count
+pictures_after count (pass ∷ passes) = pictures_after (pass.picture + 1) passes
+
+-- how many pictures a journal's passes have
+abbrev pub pictures_of : List Pass → ℕ
+pictures_of passes = pictures_after 0 passes
+
+-- the samples of the replay of a picture: those of its last pass
+abbrev pub replay_samples : Source → Scene → List Change → List Pass → ℕ → List ℕ
+replay_samples src scene changes passes i = replayed_rows src scene changes (last_lines passes i) i scene.path.height
+
+-- the file of the replay of a picture, at the depth of the scene (the Netpbm manual's P6 page)
+unfoldable pub replay_file : Source → Scene → List Change → List Pass → ℕ → List ℕ
+replay_file src scene changes passes i =
+    picture_bytes scene.depth scene.path.width scene.path.height (replay_samples src scene changes passes i)
+
+-- the files that the replay of a journal is to leave: each picture of its passes under its name, drawn from a store's bytes
+abbrev pub replay_due : Shape → ℕ → List ℕ → PathView → List ℕ → Content → List FileDue
+replay_due s d b path prefix content =
+    pictures_due prefix (replay_file (stored b) (scene_of s d path) (content_changes s content) content.passes) (pictures_of content.passes)

@@ -1,0 +1,22 @@
+-- A walk whose journal is replayed.
+use Rattle.std.specs.Prelude.{◌≡◌, ℕ, List, [], ◌∷◌, ◌++◌, Some, length}
+use Rattle.vt_words.specs.Names.{picture_name}
+use Rattle.vt_store.specs.Format.{stored}
+use Rattle.vt_files.specs.Dues.{FileDue}
+use Rattle.vt_shown.specs.Replays.{pixel_under}
+use Rattle.vt_walk.specs.Walks.{WalkGiven}
+
+-- a walk is of a store that tells these bytes: its numbers are those of its scene, and each pixel is what a page table shows of the
+-- store (van Waveren 2012)
+pub record IsOfStore (g : WalkGiven) (b : List ℕ) : Type 0 where
+  pub shape : g.setup.shape ≡ g.scene.shape
+  pub height : g.setup.height ≡ g.scene.path.height
+  pub pictures : g.setup.pictures ≡ length g.scene.path.cameras
+  pub told : g.machine.bytes ≡ Some b
+  pub shows : g.shows b ≡ pixel_under (stored b) g.scene
+
+-- pictures, the newest first in the list, as files in the order of their numbers, each under its name
+abbrev pub named_pictures : List ℕ → List (List ℕ) → List FileDue
+named_pictures prefix [] = []
+named_pictures prefix (bytes ∷ pictures) =
+    named_pictures prefix pictures ++ record { name = picture_name prefix (length pictures); bytes = bytes } ∷ []

@@ -1,0 +1,75 @@
+//! The pictures of a journal.
+
+ghost use Rattle.std.specs.Prelude.{◌≡◌, ◌⊎◌, ◌≤◌, ℕ, length};
+ghost use Rattle.vt_outside.specs.Counts.{Rose, added};
+ghost use Rattle.vt_files.specs.Courses.{passage};
+ghost use Rattle.vt_files.specs.Dues.{AsksNone};
+ghost use Rattle.vt_replay.specs.Playing.{IsReadOn};
+ghost use Rattle.vt_replay.specs.Flaws.{IsFirstRefused};
+ghost use Rattle.vt_replay.specs.Outcomes.{Leaves, IsClosed};
+
+use crate::error::ReplayError;
+use crate::judge::judged;
+use crate::play::play;
+use std::alloc::Global;
+use vt_camera::Path;
+use vt_outside::{Folder, OutsideError};
+use vt_store::Store;
+
+/// Writes the picture of the last pass of each picture of a journal, drawn from a store along the journal's path, and answers
+/// their number. A picture's name is the prefix, its number in four digits and `.ppm`. The store's file is closed.
+///
+/// `BadJournal` comes exactly for the first line that the journal's reader refuses or that names a picture that the path has
+/// not, before anything is written; `Failed` only where the folder's count of faults rose above what it was with that of the
+/// store's file; `NoMemory` where memory was refused, and for a journal that names more frames than a walk may have: 8,388,608
+/// texels together. After the latter two some pictures are whole, and of the next a front part may be there.
+pub fn replay<D: Folder>(
+    alloc: Global,
+    folder: &mut D,
+    store: Store<D::File>,
+    path: &Path,
+    journal: &[u8],
+    prefix: &str,
+) -> Result<u32, ReplayError>
+    ensures leaves { Leaves store.shape store.depth (D.File.bytes store.file) path.now journal.now prefix.now
+        (D.files folder.old) (D.files folder.new) result }
+    ensures refused { (line : ℕ) → IsFirstRefused store.shape path.now.height (length path.now.cameras) journal.now line
+        → (result ≡ Err (ReplayError.BadJournal line)) ⊎ (result ≡ Err ReplayError.NoMemory) }
+    ensures failed { result ≡ Err ReplayError.Failed
+        → Rose (added (D.faults folder.old) (D.File.faults store.file)) (D.faults folder.new) }
+    ensures closed { IsClosed store.shape store.depth (D.File.name store.file) (D.File.asked store.file)
+        (D.asked folder.old) (D.asked folder.new) }
+    ensures faults { added (D.faults folder.old) (D.File.faults store.file) ≤ D.faults folder.new }
+{
+    let mut store = store;
+    let result = replay_open(alloc, folder, &mut store, path, journal, prefix);
+    folder.close(store.into_file());
+    result
+}
+
+// Judges a journal and plays it, over a store that stays open.
+fn replay_open<D: Folder>(
+    alloc: Global,
+    folder: &mut D,
+    store: &mut Store<D::File>,
+    path: &Path,
+    journal: &[u8],
+    prefix: &str,
+) -> Result<u32, ReplayError>
+    ensures leaves { Leaves store.old.shape store.old.depth (D.File.bytes store.old.file) path.now journal.now prefix.now
+        (D.files folder.old) (D.files folder.new) result }
+    ensures refused { (line : ℕ) → IsFirstRefused store.old.shape path.now.height (length path.now.cameras) journal.now line
+        → (result ≡ Err (ReplayError.BadJournal line)) ⊎ (result ≡ Err ReplayError.NoMemory) }
+    ensures failed { result ≡ Err ReplayError.Failed → Rose (D.faults folder.old) (D.faults folder.new)
+        ⊎ Rose (D.File.faults store.old.file) (D.File.faults store.new.file) }
+    ensures asks { AsksNone (passage D.Folder folder.old folder.new) }
+    ensures read { IsReadOn D.File.File store.old store.new }
+{
+    let geometry = store.geometry();
+    let text = judged(alloc, &geometry, path, journal)?;
+    match play(alloc, folder, store, path, &text, prefix) {
+        Ok(count) => Ok(count),
+        Err(OutsideError::Failed) => Err(ReplayError::Failed),
+        Err(OutsideError::NoMemory) => Err(ReplayError::NoMemory),
+    }
+}

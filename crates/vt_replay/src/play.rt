@@ -1,0 +1,325 @@
+//! The passes of a journal in their order: the last of each picture is drawn and written.
+
+ghost use Rattle.std.specs.Prelude.{◌≡◌, ◌≢◌, true, false, ◌⊎◌, ℕ, ◌+◌, ◌*◌, ◌<◌, ◌≤◌, [], ◌∷◌, List, Some, None, length, slice_get, IfOk, OnOk, IsErr, IsSome};
+ghost use Rattle.vt_definitions.specs.Depths.{IsDepth, texel_length};
+ghost use Rattle.vt_outside.specs.Counts.{Rose};
+ghost use Rattle.vt_pages.specs.Pages.{pages_of, root_of};
+ghost use Rattle.vt_ppm.specs.Picture.{picture_bytes};
+ghost use Rattle.vt_journal.specs.declared.changes.RowLine.{RowLine};
+ghost use Rattle.vt_journal.specs.Changes.{at};
+ghost use Rattle.vt_journal.specs.JournalText.{Pass, content_changes};
+ghost use Rattle.vt_journal.specs.JournalFlaws.{IsLawful};
+ghost use Rattle.vt_store.specs.Format.{stored, tile_length};
+ghost use Rattle.vt_files.specs.Courses.{passage};
+ghost use Rattle.vt_files.specs.Dues.{AsksNone};
+ghost use Rattle.vt_files.specs.Pictures.{picture_due, pictures_due};
+ghost use Rattle.vt_shown.specs.Scenes.{scene_of};
+ghost use Rattle.vt_shown.specs.Replays.{HasPixels, pixel_under};
+ghost use Rattle.vt_replay.specs.Playing.{IsReadOn, MayBePlayed, IsStaged, AreRowsWithin, ArePlayed, HasWritten, row_of};
+ghost use Rattle.vt_replay.specs.Replayed.{replayed_rows, pictures_of, replay_file, replay_due};
+
+use crate::draw::draw_version;
+use crate::stream::{advance, first_table};
+use std::alloc::Global;
+use vt_camera::Path;
+use vt_definitions::texel_length;
+use vt_draw::Shot;
+use vt_files::{Picture, write_picture};
+use vt_journal::{Journal, JournalText, PassText};
+use vt_outside::{Failed, File, Folder, NoMemory, OutsideError};
+use vt_pages::Geometry;
+use vt_store::{Store, tile_length};
+use vt_table::StillTable;
+
+/// The table that follows the journal, and the room to draw in: a tile, the samples of a picture and a count for each page.
+#[derive(Drop)]
+pub(crate) struct Stage {
+    pub table: StillTable,
+    pub tile: Vec<u8>,
+    pub samples: Vec<u8>,
+    pub counts: Vec<u32>,
+}
+
+// The room to draw in, with a table.
+fn stage_of(
+    alloc: Global,
+    table: StillTable,
+    geometry: &Geometry,
+    depth: u32,
+    path: &Path,
+) -> Result<Stage, NoMemory>
+    requires { IsDepth depth }
+    ensures table { IfOk result (λ stage. stage.table ≡ table) }
+    ensures tile { IfOk result (λ stage. length stage.tile.items ≡ tile_length geometry.now depth) }
+    ensures samples { IfOk result (λ stage. length stage.samples.items
+        ≡ path.now.height * (texel_length depth * path.now.width)) }
+    ensures counts { IfOk result (λ stage. length stage.counts.items ≡ pages_of geometry.now) }
+{
+    let line = texel_length(depth) * path.width() as usize;
+    let tile = vec![in alloc; 0; tile_length(geometry, depth)]?;
+    let samples = vec![in alloc; 0; path.height() as usize * line]?;
+    let counts = vec![in alloc; 0; geometry.page_count() as usize]?;
+    Ok(Stage {
+        table,
+        tile,
+        samples,
+        counts,
+    })
+}
+
+// Brings a table to a version, and draws the rows of a pass that name it.
+fn show_version<F: File>(
+    stage: &mut Stage,
+    store: &mut Store<F>,
+    journal: &Journal,
+    shot: &Shot,
+    pass: &PassText,
+    version: u64,
+) -> Result<(), Failed>
+    requires depth { IsDepth shot.now.depth }
+    requires picture { shot.now.picture < length shot.now.path.now.cameras }
+    requires played { MayBePlayed shot.now.geometry.now stage.old.table.frames journal.now.changes }
+    requires staged { IsStaged F.File shot.now.geometry.now shot.now.depth shot.now.path.now.width shot.now.path.now.height
+        stage.old.table.frames journal.now.changes
+        stage.old.table stage.old.tile.items stage.old.samples.items stage.old.counts.items store.old }
+    requires rows { length pass.now.rows.elements ≡ shot.now.path.now.height }
+    requires forward { length stage.old.table.changes ≤ version }
+    requires inside { version ≤ length journal.now.changes }
+    requires root { IsSome (at journal.now.changes version (root_of shot.now.geometry.now)) }
+    ensures frames { stage.new.table.frames ≡ stage.old.table.frames }
+    ensures staged { OnOk result (IsStaged F.File shot.now.geometry.now shot.now.depth shot.now.path.now.width
+        shot.now.path.now.height stage.old.table.frames journal.now.changes
+        stage.new.table stage.new.tile.items stage.new.samples.items stage.new.counts.items store.new) }
+    ensures there { OnOk result (length stage.new.table.changes ≡ version) }
+    ensures shown { OnOk result ((b : List ℕ) → F.bytes store.old.file ≡ Some b
+        → (y : ℕ) (row : RowLine) → slice_get pass.now.rows.elements y ≡ Some row → row.version ≡ version
+        → let scene = scene_of shot.now.geometry.now shot.now.depth shot.now.path.now in
+        HasPixels shot.now.depth shot.now.path.now.width
+        (λ x. pixel_under (stored b) scene (at journal.now.changes version) shot.now.picture x y)
+        (row_of (texel_length shot.now.depth * shot.now.path.now.width) stage.new.samples.items y)) }
+    ensures kept { OnOk result ((y : ℕ) (row : RowLine) → slice_get pass.now.rows.elements y ≡ Some row → row.version ≢ version
+        → let line = texel_length shot.now.depth * shot.now.path.now.width in
+        row_of line stage.new.samples.items y ≡ row_of line stage.old.samples.items y) }
+    ensures failed { IsErr result → Rose (F.faults store.old.file) (F.faults store.new.file) }
+    ensures read { IsReadOn F.File store.old store.new }
+{
+    let tile = stage.tile.as_mut_slice();
+    advance(&mut stage.table, store, tile, journal, version)?;
+    let samples = stage.samples.as_mut_slice();
+    let counts = stage.counts.as_mut_slice();
+    draw_version(
+        &stage.table,
+        shot,
+        pass.rows.slice(),
+        version,
+        samples,
+        counts,
+    );
+    Ok(())
+}
+
+// Draws a pass of a picture: the table goes from version to version up to the last, and at each the rows that name it are drawn.
+fn show_pass<F: File>(
+    stage: &mut Stage,
+    store: &mut Store<F>,
+    journal: &Journal,
+    shot: &Shot,
+    pass: &PassText,
+    last: u64,
+) -> Result<(), Failed>
+    requires depth { IsDepth shot.now.depth }
+    requires picture { shot.now.picture < length shot.now.path.now.cameras }
+    requires played { MayBePlayed shot.now.geometry.now stage.old.table.frames journal.now.changes }
+    requires staged { IsStaged F.File shot.now.geometry.now shot.now.depth shot.now.path.now.width shot.now.path.now.height
+        stage.old.table.frames journal.now.changes
+        stage.old.table stage.old.tile.items stage.old.samples.items stage.old.counts.items store.old }
+    requires rows { AreRowsWithin shot.now.path.now.height pass.now.start last pass.now.rows.elements }
+    requires forward { length stage.old.table.changes ≤ pass.now.start }
+    requires inside { last ≤ length journal.now.changes }
+    requires root { (v : ℕ) → pass.now.start ≤ v → v ≤ length journal.now.changes
+        → IsSome (at journal.now.changes v (root_of shot.now.geometry.now)) }
+    ensures frames { stage.new.table.frames ≡ stage.old.table.frames }
+    ensures staged { OnOk result (IsStaged F.File shot.now.geometry.now shot.now.depth shot.now.path.now.width
+        shot.now.path.now.height stage.old.table.frames journal.now.changes
+        stage.new.table stage.new.tile.items stage.new.samples.items stage.new.counts.items store.new) }
+    ensures there { OnOk result (length stage.new.table.changes ≡ last) }
+    ensures shown { OnOk result ((b : List ℕ) → F.bytes store.old.file ≡ Some b
+        → stage.new.samples.items ≡ replayed_rows (stored b) (scene_of shot.now.geometry.now shot.now.depth shot.now.path.now)
+        journal.now.changes pass.now.rows.elements shot.now.picture shot.now.path.now.height) }
+    ensures failed { IsErr result → Rose (F.faults store.old.file) (F.faults store.new.file) }
+    ensures read { IsReadOn F.File store.old store.new }
+{
+    let _newest = journal.version();
+    for version in pass.start..last + 1 {
+        show_version(stage, store, journal, shot, pass, version)?;
+    }
+    Ok(())
+}
+
+// Draws a pass of a picture and writes the picture.
+fn play_pass<D: Folder>(
+    alloc: Global,
+    folder: &mut D,
+    prefix: &str,
+    stage: &mut Stage,
+    store: &mut Store<D::File>,
+    journal: &Journal,
+    shot: &Shot,
+    pass: &PassText,
+    last: u64,
+) -> Result<(), OutsideError>
+    requires depth { IsDepth shot.now.depth }
+    requires picture { shot.now.picture < length shot.now.path.now.cameras }
+    requires played { MayBePlayed shot.now.geometry.now stage.old.table.frames journal.now.changes }
+    requires staged { IsStaged D.File.File shot.now.geometry.now shot.now.depth shot.now.path.now.width shot.now.path.now.height
+        stage.old.table.frames journal.now.changes
+        stage.old.table stage.old.tile.items stage.old.samples.items stage.old.counts.items store.old }
+    requires rows { AreRowsWithin shot.now.path.now.height pass.now.start last pass.now.rows.elements }
+    requires forward { length stage.old.table.changes ≤ pass.now.start }
+    requires inside { last ≤ length journal.now.changes }
+    requires root { (v : ℕ) → pass.now.start ≤ v → v ≤ length journal.now.changes
+        → IsSome (at journal.now.changes v (root_of shot.now.geometry.now)) }
+    ensures frames { stage.new.table.frames ≡ stage.old.table.frames }
+    ensures staged { OnOk result (IsStaged D.File.File shot.now.geometry.now shot.now.depth shot.now.path.now.width
+        shot.now.path.now.height stage.old.table.frames journal.now.changes
+        stage.new.table stage.new.tile.items stage.new.samples.items stage.new.counts.items store.new) }
+    ensures there { OnOk result (length stage.new.table.changes ≡ last) }
+    ensures asks { AsksNone (passage D.Folder folder.old folder.new) }
+    ensures wrote { (b : List ℕ) → D.File.bytes store.old.file ≡ Some b
+        → HasWritten (picture_due prefix.now (λ picture. picture_bytes shot.now.depth shot.now.path.now.width
+        shot.now.path.now.height (replayed_rows (stored b) (scene_of shot.now.geometry.now shot.now.depth shot.now.path.now)
+        journal.now.changes pass.now.rows.elements picture shot.now.path.now.height)) shot.now.picture ∷ [])
+        (D.files folder.old) (D.files folder.new) result }
+    ensures failed { result ≡ Err OutsideError.Failed → Rose (D.faults folder.old) (D.faults folder.new)
+        ⊎ Rose (D.File.faults store.old.file) (D.File.faults store.new.file) }
+    ensures read { IsReadOn D.File.File store.old store.new }
+{
+    show_pass(stage, store, journal, shot, pass, last)?;
+    let pictures = shot.path.pictures();
+    prove!(shot.picture < pictures);
+    let picture = Picture {
+        depth: shot.depth,
+        width: shot.path.width(),
+        height: shot.path.height(),
+        samples: stage.samples.as_slice(),
+    };
+    write_picture(alloc, folder, prefix, shot.picture, &picture)
+}
+
+// Whether a pass is the last of its picture.
+fn is_last(text: &JournalText, i: u32) -> bool
+    requires { i < length text.now.content.passes }
+    ensures last { result ≡ true → (p q : Pass) → slice_get text.now.content.passes i ≡ Some p
+        → slice_get text.now.content.passes (i + 1) ≡ Some q → q.picture ≢ p.picture }
+    ensures before { result ≡ false → (p : Pass) → slice_get text.now.content.passes i ≡ Some p
+        → (q : Pass) × (slice_get text.now.content.passes (i + 1) ≡ Some q) × (q.picture ≡ p.picture) }
+{
+    if i < text.passes() - 1 {
+        text.pass(i + 1).picture != text.pass(i).picture
+    } else {
+        true
+    }
+}
+
+// The last version of a pass: that at the beginning of the next one, or the newest.
+fn last_of(text: &JournalText, i: u32) -> u64
+    requires { i < length text.now.content.passes }
+    ensures next { (q : Pass) → slice_get text.now.content.passes (i + 1) ≡ Some q → result ≡ q.start }
+    ensures newest { slice_get text.now.content.passes (i + 1) ≡ None → result ≡ length text.now.changes }
+{
+    if i < text.passes() - 1 {
+        text.pass(i + 1).start
+    } else {
+        text.journal().version()
+    }
+}
+
+// Draws and writes the last pass of each picture, in the order of the pictures. Answers their number.
+fn play_passes<D: Folder>(
+    alloc: Global,
+    folder: &mut D,
+    prefix: &str,
+    stage: &mut Stage,
+    store: &mut Store<D::File>,
+    path: &Path,
+    text: &JournalText,
+) -> Result<u32, OutsideError>
+    requires depth { IsDepth store.old.depth }
+    requires played { MayBePlayed store.old.shape stage.old.table.frames text.now.changes }
+    requires staged { IsStaged D.File.File store.old.shape store.old.depth path.now.width path.now.height
+        stage.old.table.frames text.now.changes
+        stage.old.table stage.old.tile.items stage.old.samples.items stage.old.counts.items store.old }
+    requires passes { ArePlayed path.now.height text.now.content.pinned (length text.now.changes) text.now.content.passes }
+    requires root { (v : ℕ) → text.now.content.pinned ≤ v → v ≤ length text.now.changes
+        → IsSome (at text.now.changes v (root_of store.old.shape)) }
+    requires in_path { (i : ℕ) (pass : Pass) → slice_get text.now.content.passes i ≡ Some pass
+        → pass.picture < length path.now.cameras }
+    requires first { stage.old.table.changes ≡ [] }
+    ensures count { IfOk result (λ n. n ≡ pictures_of text.now.content.passes) }
+    ensures asks { AsksNone (passage D.Folder folder.old folder.new) }
+    ensures wrote { (b : List ℕ) → D.File.bytes store.old.file ≡ Some b
+        → HasWritten (pictures_due prefix.now (replay_file (stored b) (scene_of store.old.shape store.old.depth path.now)
+        text.now.changes text.now.content.passes) (pictures_of text.now.content.passes))
+        (D.files folder.old) (D.files folder.new) result }
+    ensures failed { result ≡ Err OutsideError.Failed → Rose (D.faults folder.old) (D.faults folder.new)
+        ⊎ Rose (D.File.faults store.old.file) (D.File.faults store.new.file) }
+    ensures read { IsReadOn D.File.File store.old store.new }
+{
+    let geometry = store.geometry();
+    let depth = store.depth();
+    let pictures = path.pictures();
+    let mut done = 0;
+    for i in 0..text.passes() {
+        if !is_last(text, i) {
+            continue;
+        }
+        let pass = text.pass(i);
+        prove!(pass.picture < pictures);
+        let shot = Shot {
+            geometry: &geometry,
+            path,
+            picture: pass.picture,
+            depth,
+        };
+        let last = last_of(text, i);
+        let journal = text.journal();
+        play_pass(
+            alloc, folder, prefix, stage, store, journal, &shot, pass, last,
+        )?;
+        done += 1;
+    }
+    Ok(done)
+}
+
+/// Draws and writes the last pass of each picture of a journal whose pictures are all in the path. Answers their number.
+pub(crate) fn play<D: Folder>(
+    alloc: Global,
+    folder: &mut D,
+    store: &mut Store<D::File>,
+    path: &Path,
+    text: &JournalText,
+    prefix: &str,
+) -> Result<u32, OutsideError>
+    requires lawful { IsLawful store.old.shape path.now.height text.now.content }
+    requires changes { text.now.changes ≡ content_changes store.old.shape text.now.content }
+    requires in_path { (i : ℕ) (pass : Pass) → slice_get text.now.content.passes i ≡ Some pass
+        → pass.picture < length path.now.cameras }
+    ensures count { IfOk result (λ n. n ≡ pictures_of text.now.content.passes) }
+    ensures asks { AsksNone (passage D.Folder folder.old folder.new) }
+    ensures wrote { (b : List ℕ) → D.File.bytes store.old.file ≡ Some b
+        → HasWritten (replay_due store.old.shape store.old.depth b path.now prefix.now text.now.content)
+        (D.files folder.old) (D.files folder.new) result }
+    ensures failed { result ≡ Err OutsideError.Failed → Rose (D.faults folder.old) (D.faults folder.new)
+        ⊎ Rose (D.File.faults store.old.file) (D.File.faults store.new.file) }
+    ensures read { IsReadOn D.File.File store.old store.new }
+{
+    let geometry = store.geometry();
+    let depth = store.depth();
+    // From here on it is known that the geometry keeps its limits.
+    let _side = geometry.tile();
+    let journal = text.journal();
+    let table = first_table(alloc, &geometry, journal)?;
+    store.reserve(journal.version())?;
+    let mut stage = stage_of(alloc, table, &geometry, depth, path)?;
+    play_passes(alloc, folder, prefix, &mut stage, store, path, text)
+}
