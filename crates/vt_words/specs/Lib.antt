@@ -1,9 +1,13 @@
 pub mod Arguments
 pub mod Numbers
 pub mod Names
+pub mod Journals
 pub mod Plain
 pub mod Tile
 pub mod Info
 pub mod Gen
 pub mod Upgrade
+pub mod Walk
+pub mod Replay
+pub mod Trial
 pub mod Commands

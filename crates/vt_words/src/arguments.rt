@@ -2,10 +2,10 @@
 
 ghost use Rattle.std.specs.Prelude.{◌≡◌, [], true, false, IfOk, IsErrOf, IsNone, Some, map, option_map};
 ghost use Rattle.clap.specs.Words.{app_of, rule_of, rows_of, found_of, is_simple_and_free, first_of};
-ghost use Rattle.vt_words.specs.Arguments.{app, found, rule_for, texts};
+ghost use Rattle.vt_words.specs.Arguments.{app, found, rule_for, is_set, texts};
 
 use clap::error::ErrorKind;
-use clap::{Arg, ArgMatches, Command};
+use clap::{Arg, ArgAction, ArgMatches, Command};
 use std::alloc::{AllocError, Global};
 
 /// Why words were not read.
@@ -24,6 +24,8 @@ pub enum Argument<'a> {
     Word(&'a str),
     /// An option, by its long name, and its default.
     Option(&'a str, &'a str),
+    /// A flag, by its long name.
+    Flag(&'a str),
 }
 
 /// What `clap` finds in the words, of which the first is the command's name.
@@ -82,6 +84,7 @@ fn argument_of<'a>(alloc: Global, row: Argument<'a>) -> Arg<'a>
     match row {
         Argument::Word(id) => Arg::new(alloc, id).required(true),
         Argument::Option(id, default) => Arg::new(alloc, id).long(id).default_value(default),
+        Argument::Flag(id) => Arg::new(alloc, id).long(id).action(ArgAction::SetTrue),
     }
 }
 
@@ -90,4 +93,14 @@ pub fn text<'a>(matches: &ArgMatches<'a>, id: &str) -> Option<&'a str>
     ensures { option_map (λ s. s.now) result ≡ first_of id.now (rows_of (found_of matches.now)) }
 {
     matches.get_str(id)
+}
+
+/// Whether a flag is given.
+pub fn is_set(matches: &ArgMatches<'_>, id: &str) -> bool
+    ensures { result ≡ is_set id.now (rows_of (found_of matches.now)) }
+{
+    match text(matches, id) {
+        Some(value) => value == "true",
+        None => false,
+    }
 }

@@ -8,8 +8,10 @@ use crate::arguments::WordsError;
 use crate::generate::{GenWords, read_gen};
 use crate::info::{InfoWords, read_info};
 use crate::plain::{PlainWords, read_plain};
+use crate::replay::{ReplayWords, read_replay};
 use crate::tile::{TileWords, read_tile};
 use crate::upgrade::{UpgradeWords, read_upgrade};
+use crate::walk::{WalkWords, read_walk};
 use std::alloc::Global;
 
 /// A command and its words.
@@ -25,6 +27,10 @@ pub enum Command<'a> {
     Gen(GenWords<'a>),
     /// Writes the tile store of two-byte samples that one of one-byte samples makes.
     Upgrade(UpgradeWords<'a>),
+    /// Draws the pictures of a journal again.
+    Replay(ReplayWords<'a>),
+    /// Draws the pictures of a path while pages are streamed.
+    Walk(WalkWords<'a>),
 }
 
 /// Reads the words after the program's name: the first names the command, whose `clap` command is handed all of them.
@@ -53,6 +59,12 @@ pub fn read_command<'a>(alloc: Global, words: &'a [String]) -> Result<Command<'a
     }
     if name.as_str() == "upgrade" {
         return read_upgrade(alloc, words).map(Command::Upgrade);
+    }
+    if name.as_str() == "replay" {
+        return read_replay(alloc, words).map(Command::Replay);
+    }
+    if name.as_str() == "walk" {
+        return read_walk(alloc, words).map(Command::Walk);
     }
     Err(WordsError::Usage)
 }

@@ -6,12 +6,9 @@ ghost use Rattle.vt_words.specs.Arguments.{rule_for, texts};
 ghost use Rattle.vt_words.specs.Gen.{gen_rules, gen_app, gen_values, gen_text, shown_gen, IsLawfulGen};
 
 use crate::arguments::{Argument, WordsError, find, text};
-use crate::numbers::number_of;
+use crate::numbers::{MOST_NUMBER, number_of};
 use clap::ArgMatches;
 use std::alloc::Global;
-
-// The greatest number of a texture that is made from one.
-const MOST_NUMBER: u32 = 65535;
 
 // The largest side of such a texture.
 const MOST_SIDE: u32 = 8192;

@@ -9,8 +9,11 @@ mod laws;
 mod names;
 mod numbers;
 mod plain;
+mod replay;
 mod tile;
+mod trial;
 mod upgrade;
+mod walk;
 
 pub use arguments::WordsError;
 pub use command::{Command, read_command};
@@ -19,8 +22,11 @@ pub use info::InfoWords;
 pub use laws::{known_names_are_pictures, picture_names_are_known};
 pub use names::{is_picture_name, picture_name};
 pub use plain::PlainWords;
+pub use replay::ReplayWords;
 pub use tile::TileWords;
+pub use trial::{TrialWords, read_trial};
 pub use upgrade::UpgradeWords;
+pub use walk::WalkWords;
 
 #[cfg(test)]
 mod tests;

@@ -1,6 +1,7 @@
 //! The names of the pictures.
 
 ghost use Rattle.std.specs.Prelude.{◌≡◌, ◌<◌, ◌+◌, ◌++◌, ◌∷◌, [], OnOk, IfOk, string_bytes};
+ghost use Rattle.vt_words.specs.Journals.{names_clash};
 ghost use Rattle.vt_words.specs.Names.{four_digits, picture_name, is_picture_name, is_picture_ending, is_digit};
 
 use std::alloc::{AllocError, Global};
@@ -12,6 +13,17 @@ pub fn is_picture_name(prefix: &str, name: &str) -> bool
     let prefix = prefix.as_bytes();
     let name = name.as_bytes();
     name.starts_with(prefix) && is_picture_ending(&name[prefix.len()..])
+}
+
+/// Whether a name of a command that has a journal is that of some picture, or the journal's is another's.
+pub fn names_clash(store: &str, path: &str, journal: &str, prefix: &str) -> bool
+    ensures { result ≡ names_clash store.now path.now journal.now prefix.now }
+{
+    is_picture_name(prefix, store)
+        || is_picture_name(prefix, path)
+        || is_picture_name(prefix, journal)
+        || journal == store
+        || journal == path
 }
 
 fn is_picture_ending(ending: &[u8]) -> bool

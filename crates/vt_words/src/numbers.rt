@@ -9,6 +9,9 @@ use crate::arguments::text;
 use clap::ArgMatches;
 use vt_text::decimal;
 
+/// The greatest number of a texture that is made from one.
+pub const MOST_NUMBER: u32 = 65535;
+
 /// The number of an argument, if it is within the bounds, which are included.
 pub fn number_of(matches: &ArgMatches<'_>, id: &str, least: u32, most: u32) -> Option<u32>
     ensures read { result ≡ number_of id.now least most (rows_of (found_of matches.now)) }

@@ -1,5 +1,7 @@
 //! Words as they are typed, and what they ask for.
 
+mod journals;
+
 use crate::arguments::WordsError;
 use crate::command::{Command, read_command};
 use crate::names::{is_picture_name, picture_name};
@@ -33,6 +35,15 @@ fn answer(alloc: Global, words: &[&str]) -> Result<String, AllocError> {
         Ok(Command::Upgrade(read)) => {
             let (store, new_store) = (read.store, read.new_store);
             format!(in alloc; "upgrade {store} {new_store}")
+        }
+        Ok(Command::Replay(read)) => {
+            let (store, path) = (read.store, read.path);
+            let (journal, prefix) = (read.journal, read.prefix);
+            format!(in alloc; "replay {store} {path} {journal} {prefix}")
+        }
+        Ok(Command::Walk(read)) => {
+            let (store, path, prefix) = (read.store, read.path, read.prefix);
+            format!(in alloc; "walk {store} {path} {prefix}")
         }
         Err(WordsError::Usage) => String::from_str(alloc, "usage"),
         Err(WordsError::NoMemory) => String::from_str(alloc, "memory"),
@@ -89,10 +100,14 @@ fn words_after_two_dashes_are_names(rt: HostRuntime) {
 
 #[test]
 fn each_command_has_its_words_and_no_more(rt: HostRuntime) {
-    let cases: [(&[&str], &str); 24] = [
+    let cases: [(&[&str], &str); 28] = [
         (&[], "usage"),
         (&[""], "usage"),
-        (&["walk", "s", "p", "x"], "usage"),
+        (&["walk", "s", "p", "x"], "walk s p x"),
+        (&["walk", "s", "p"], "usage"),
+        (&["trial", "1"], "usage"),
+        (&["replay", "s", "p", "j", "x"], "replay s p j x"),
+        (&["replay", "s", "p", "j"], "usage"),
         (&["Plain", "t", "p", "x"], "usage"),
         (&["plain", "t", "p"], "usage"),
         (&["plain", "t", "p", "x", "y"], "usage"),

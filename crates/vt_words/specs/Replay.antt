@@ -1,0 +1,42 @@
+-- The words of `replay`.
+use Rattle.std.specs.Prelude.{◌≡◌, List, [], ◌∷◌, Option, Some, None, false, codes, if◌then◌else◌}
+use Rattle.clap.specs.Words.{App, Row, Rule, Text, first_of}
+use Rattle.vt_words.specs.Arguments.{app, word, found, given}
+use Rattle.vt_words.specs.Journals.{names_clash}
+use Rattle.vt_words.specs.declared.replay.ReplayWords.{ReplayWords}
+
+-- the words as names
+pub record ReplayText : Type 0 where
+  pub store : Text
+  pub path : Text
+  pub journal : Text
+  pub prefix : Text
+
+-- its arguments
+unfoldable pub replay_rules : List Rule
+replay_rules = word (codes "store") ∷ word (codes "path") ∷ word (codes "journal") ∷ word (codes "prefix") ∷ []
+
+abbrev pub replay_app : App
+replay_app = app (codes "replay") replay_rules
+
+-- what the rows say; nothing where names clash
+abbrev pub replay_values : List Row → Option ReplayText
+replay_values rows =
+    given (first_of (codes "store") rows) (λ store.
+    given (first_of (codes "path") rows) (λ path.
+    given (first_of (codes "journal") rows) (λ journal.
+    given (first_of (codes "prefix") rows) (λ prefix.
+    if names_clash store path journal prefix then None
+    else Some (record { store = store; path = path; journal = journal; prefix = prefix })))))
+
+-- what the words of `replay`, its name the first, ask for
+abbrev pub replay_text : List Text → Option ReplayText
+replay_text words = given (found replay_app words) replay_values
+
+-- the words without where they lie in memory
+abbrev pub shown_replay : ReplayWords → ReplayText
+shown_replay words = record { store = words.store.now; path = words.path.now; journal = words.journal.now; prefix = words.prefix.now }
+
+-- no names clash
+abbrev pub IsLawfulReplay : ReplayWords → Type 0
+IsLawfulReplay words = names_clash words.store.now words.path.now words.journal.now words.prefix.now ≡ false

@@ -1,0 +1,114 @@
+//! The words of `walk`.
+
+ghost use Rattle.std.specs.Prelude.{◌≡◌, true, IfOk, IfSome, IsErrOf, IsNone, Some, map, option_map};
+ghost use Rattle.clap.specs.Words.{rows_of, found_of, is_simple_and_free};
+ghost use Rattle.vt_words.specs.Arguments.{rule_for, texts};
+ghost use Rattle.vt_words.specs.Walk.{walk_rules, walk_app, walk_values, walk_text, shown_walk, IsLawfulWalk};
+
+use crate::arguments::{Argument, WordsError, find, is_set, text};
+use crate::names::names_clash;
+use crate::numbers::number_of;
+use clap::ArgMatches;
+use std::alloc::Global;
+
+// The largest number of frames.
+const MOST_FRAMES: u32 = 65535;
+
+// The largest number of samplers.
+const MOST_SAMPLERS: u32 = 64;
+
+// The largest number of loaders.
+const MOST_LOADERS: u32 = 16;
+
+// The largest number of entries of a batch.
+const MOST_ENTRIES: u32 = 4096;
+
+// How many levels may be asked to be pinned at most.
+const MOST_PINNED_LEVELS: u32 = 16;
+
+/// The words of `walk`. Neither the store's name nor the path's nor the journal's is that of a picture, and the journal's is
+/// neither the store's nor the path's.
+#[derive(Clone, Copy)]
+pub struct WalkWords<'a> {
+    /// The store's name.
+    pub store: &'a str,
+    /// The path's name.
+    pub path: &'a str,
+    /// What the pictures' names begin with.
+    pub prefix: &'a str,
+    /// The number of frames, from 1 to 65,535.
+    pub frames: u32,
+    /// The number of samplers, from 1 to 64.
+    pub samplers: u32,
+    /// The number of loaders, from 1 to 16.
+    pub loaders: u32,
+    /// How many tiles a pass loads at most, from 1 to 4,096.
+    pub batch: u32,
+    /// How many levels, from the coarsest on, are always mapped, from 1 to 16; more than there are are all.
+    pub pinned: u32,
+    /// The journal's name.
+    pub journal: &'a str,
+    /// Whether a picture is drawn until nothing is missing.
+    pub settled: bool,
+}
+
+/// Reads the words of `walk`, its name the first of them.
+///
+/// `Usage` comes only where they are not those of `walk`. Where they are, the answer may still be `NoMemory`.
+pub fn read_walk<'a>(alloc: Global, words: &'a [String]) -> Result<WalkWords<'a>, WordsError>
+    ensures read { IfOk result (λ read. walk_text (texts words.entry.now) ≡ Some (shown_walk read)) }
+    ensures usage { IsErrOf result WordsError.Usage → IsNone (walk_text (texts words.entry.now)) }
+    ensures lawful { IfOk result IsLawfulWalk }
+{
+    let matches = find(alloc, "walk", walk_rows(), words)?;
+    walk_values(&matches).ok_or(WordsError::Usage)
+}
+
+#[tactic(auto, unfolding(crate::specs::Walk::walk_rules))]
+fn walk_rows<'a>() -> &'a [Argument<'a>]
+    ensures rules { map rule_for result.now ≡ walk_rules }
+    ensures simple { is_simple_and_free walk_app ≡ true }
+{
+    &[
+        Argument::Word("store"),
+        Argument::Word("path"),
+        Argument::Word("prefix"),
+        Argument::Option("frames", "64"),
+        Argument::Option("samplers", "4"),
+        Argument::Option("loaders", "3"),
+        Argument::Option("batch", "64"),
+        Argument::Option("pinned", "1"),
+        Argument::Option("journal", "journal.txt"),
+        Argument::Flag("settled"),
+    ]
+}
+
+fn walk_values<'a>(matches: &ArgMatches<'a>) -> Option<WalkWords<'a>>
+    ensures read { option_map shown_walk result ≡ walk_values (rows_of (found_of matches.now)) }
+    ensures lawful { IfSome result IsLawfulWalk }
+{
+    let store = text(matches, "store")?;
+    let path = text(matches, "path")?;
+    let prefix = text(matches, "prefix")?;
+    let frames = number_of(matches, "frames", 1, MOST_FRAMES)?;
+    let samplers = number_of(matches, "samplers", 1, MOST_SAMPLERS)?;
+    let loaders = number_of(matches, "loaders", 1, MOST_LOADERS)?;
+    let batch = number_of(matches, "batch", 1, MOST_ENTRIES)?;
+    let pinned = number_of(matches, "pinned", 1, MOST_PINNED_LEVELS)?;
+    let journal = text(matches, "journal")?;
+    if names_clash(store, path, journal, prefix) {
+        return None;
+    }
+    Some(WalkWords {
+        store,
+        path,
+        prefix,
+        frames,
+        samplers,
+        loaders,
+        batch,
+        pinned,
+        journal,
+        settled: is_set(matches, "settled"),
+    })
+}
