@@ -11,31 +11,24 @@ use Rattle.vtex.specs.declared.flaws.Flaw.{Flaw}
 -- bytes with a content and a flaw are none
 pub content_no_flaw : (input : Input) (bytes : List ℕ) (content : Content) (flaw : Flaw) → IsContent input bytes content → IsFlawOf input bytes flaw → ⊥
 content_no_flaw (Inputs.PathInput name) bytes (Inputs.PathContent path) flaw is h = no_path_flaw bytes path h.0 is h.1
-content_no_flaw (Inputs.PathInput name) bytes (Inputs.TextureContent texture) flaw is h = is
-content_no_flaw (Inputs.PathInput name) bytes (Inputs.StoreContent shape depth) flaw is h = is
-content_no_flaw (Inputs.PathInput name) bytes (Inputs.NarrowContent shape held) flaw is h = is
-content_no_flaw (Inputs.TextureInput name) bytes (Inputs.PathContent path) flaw is h = is
+content_no_flaw (Inputs.PathInput name) bytes _ flaw is h = is
 content_no_flaw (Inputs.TextureInput name) bytes (Inputs.TextureContent texture) flaw is h = no_image_flaw bytes texture h.0 is h.1
-content_no_flaw (Inputs.TextureInput name) bytes (Inputs.StoreContent shape depth) flaw is h = is
-content_no_flaw (Inputs.TextureInput name) bytes (Inputs.NarrowContent shape held) flaw is h = is
-content_no_flaw (Inputs.TiledTexture name tile) bytes (Inputs.PathContent path) flaw is h = is
+content_no_flaw (Inputs.TextureInput name) bytes _ flaw is h = is
 content_no_flaw (Inputs.TiledTexture name tile) bytes (Inputs.TextureContent texture) flaw is (inl h) = no_image_flaw bytes texture h.0 is.0 h.1
 content_no_flaw (Inputs.TiledTexture name tile) bytes (Inputs.TextureContent texture) flaw is (inr h) =
     let same : refusal_of (texture_shape h.texture tile) ≡ None =
     subst (λ (p : ImageView). refusal_of (texture_shape p tile) ≡ None) (one_image bytes texture h.texture is.0 h.is) is.1 in
     let wrong = sym same ∙ h.many in
     cc
-content_no_flaw (Inputs.TiledTexture name tile) bytes (Inputs.StoreContent shape depth) flaw is h = is
-content_no_flaw (Inputs.TiledTexture name tile) bytes (Inputs.NarrowContent shape held) flaw is h = is
-content_no_flaw (Inputs.StoreInput name) bytes (Inputs.PathContent path) flaw is h = is
-content_no_flaw (Inputs.StoreInput name) bytes (Inputs.TextureContent texture) flaw is h = is
+content_no_flaw (Inputs.TiledTexture name tile) bytes _ flaw is h = is
 content_no_flaw (Inputs.StoreInput name) bytes (Inputs.StoreContent shape depth) flaw is h = let wrong = sym is.no_flaw ∙ h.1 in cc
-content_no_flaw (Inputs.StoreInput name) bytes (Inputs.NarrowContent shape held) flaw is h = is
-content_no_flaw (Inputs.NarrowStore name) bytes (Inputs.PathContent path) flaw is h = is
-content_no_flaw (Inputs.NarrowStore name) bytes (Inputs.TextureContent texture) flaw is h = is
-content_no_flaw (Inputs.NarrowStore name) bytes (Inputs.StoreContent shape depth) flaw is h = is
+content_no_flaw (Inputs.StoreInput name) bytes _ flaw is h = is
 content_no_flaw (Inputs.NarrowStore name) bytes (Inputs.NarrowContent shape held) flaw is (inl h) = let wrong = sym is.0.no_flaw ∙ h.1 in cc
 content_no_flaw (Inputs.NarrowStore name) bytes (Inputs.NarrowContent shape held) flaw is (inr h) =
     let narrow = is.0.depth_is in
     let wide = h.is.depth_is in
     omega (arith, narrow, wide)
+content_no_flaw (Inputs.NarrowStore name) bytes _ flaw is h = is
+content_no_flaw (Inputs.PagedStore name) bytes (Inputs.PagedContent shape depth held) flaw is h = let wrong = sym is.0.no_flaw ∙ h.1 in cc
+content_no_flaw (Inputs.PagedStore name) bytes _ flaw is h = is
+content_no_flaw (Inputs.JournalInput name) bytes content flaw is h = h

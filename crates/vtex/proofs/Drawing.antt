@@ -7,13 +7,13 @@ use Rattle.vt_outside.specs.Counts.{Rose}
 use Rattle.vt_outside.specs.Files.{gained}
 use Rattle.vt_outside.specs.declared.answers.OutsideError.{OutsideError}
 use Rattle.vt_outside.specs.declared.answers.OutsideError.TheVariants.{Failed}
-use Rattle.vtex.specs.Courses.{Gain}
-use Rattle.vtex.specs.Dues.{Puts}
+use Rattle.vt_files.specs.Courses.{Gain}
+use Rattle.vt_files.specs.Dues.{Puts}
 use Rattle.vt_ppm.specs.Image.{ImageView}
 use Rattle.vt_ppm.specs.Picture.{picture_bytes}
 use Rattle.vt_camera.specs.Paths.{PathView}
 use Rattle.vt_draw.specs.Plain.{plain_samples}
-use Rattle.vtex.proofs.Writing.{fails_as}
+use Rattle.vt_files.proofs.Writing.{fails_as}
 use Rattle.vtex.specs.Pictures.{plain_file}
 
 -- the bytes that were encoded of a picture's samples are its file

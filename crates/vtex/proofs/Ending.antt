@@ -1,33 +1,34 @@
 -- How a command ends, from what its readers answered and what it left.
-use Rattle.std.proofs.Common.{◌≡◌, ◌⊎◌, ◌≤◌, List, [], ◌∷◌, ◌++◌, Option, Some, Ok, Err, refl, sym, ap, subst, ◌∙◌, inl, inr, append_assoc, arith}
+use Rattle.std.proofs.Common.{◌≡◌, ◌⊎◌, ◌≤◌, ◌+◌, List, [], ◌∷◌, ◌++◌, length, Option, Some, Ok, Err, refl, sym, ap, subst, ◌∙◌, inl, inr, append_assoc, length-append, arith}
 use Rattle.std.specs.Option.{option_map, IsSome}
 use Rattle.std.proofs.lemmas.List.{append-nil}
 use Rattle.vt_outside.specs.Counts.{Rose}
-use Rattle.vtex.proofs.Counting.{rose_later}
+use Rattle.vt_files.proofs.Counting.{rose_later}
 use Rattle.vt_outside.specs.Files.{Files, Asked, bytes_at, with_places}
 use Rattle.vt_outside.specs.declared.place.Place.{Place}
 use Rattle.vt_outside.specs.declared.answers.OutsideError.{OutsideError}
 use Rattle.vt_outside.specs.declared.answers.OutsideError.TheVariants as outside
-use Rattle.vtex.specs.Courses.{FolderState, SinkState}
+use Rattle.vt_files.specs.Courses.{FolderState, SinkState}
 use Rattle.vtex.specs.Inputs.{Input, Content, name_of, MayAsk}
 use Rattle.vtex.specs.HeldInputs.{Holds, HasFlaw, IsMissing}
 use Rattle.vtex.specs.Causes.{Cause, MissingName, FlawedInput, HasCause, AreHeld, IsFirstCause, AreAsked, AsksInOrder}
 use Rattle.vtex.specs.Reads.{Took, Refused, IsAsked, IsCausedBy}
-use Rattle.vtex.specs.Dues.{Due, IsPart, Stopped, FailsOnly, Leaves, with_files}
+use Rattle.vt_files.specs.Dues.{Due, IsPart, Stopped, FailsOnly, Leaves, with_files}
 use Rattle.vtex.specs.Tasks.{Task, IsRefusal, Ends}
 use Rattle.vtex.specs.Refusals.{cause_of}
 use Rattle.vtex.specs.declared.refusal.Refusal.{Refusal}
-use Rattle.vtex.specs.declared.refusal.Refusal.TheVariants.{NoMemory, Usage, Fault, Flawed}
+use Rattle.vtex.specs.declared.refusal.Refusal.TheVariants.{NoMemory, Usage, Fault, Flawed, TooFewFrames, DoesNotFit}
 
 -- these inputs were read and hold these contents
 pub record HasRead (inputs : List Input) (contents : List Content) (before after : FolderState) : Type 0 where
+  pub count : length contents ≡ length inputs
   pub held : IsSome before.files → AreHeld before.files inputs contents
   pub files : after.files ≡ before.files
   pub asked : AreAsked before.files inputs before.asked after.asked
   pub faults : before.faults ≤ after.faults
 
 pub read_none : (s : FolderState) → HasRead [] [] s s
-read_none s = record { held = λ told. tt; files = refl; asked = refl; faults = omega arith }
+read_none s = record { count = refl; held = λ told. tt; files = refl; asked = refl; faults = omega arith }
 
 held_more : (files : Option Files) (inputs : List Input) (contents : List Content) (input : Input) (content : Content)
     → AreHeld files inputs contents → Holds files input content → AreHeld files (inputs ++ (input ∷ [])) (contents ++ (content ∷ []))
@@ -58,6 +59,9 @@ pub read_more : (inputs : List Input) (contents : List Content) (input : Input) 
     → HasRead inputs contents before mid → Took input content (record { before = mid; after = after })
     → HasRead (inputs ++ (input ∷ [])) (contents ++ (content ∷ [])) before after
 read_more inputs contents input content before mid after h more = record {
+  count = let so_far : length contents ≡ length inputs = h.count in
+      let all : length (contents ++ (content ∷ [])) ≡ length contents + 1 = length-append contents (content ∷ []) in
+      let inputs_all : length (inputs ++ (input ∷ [])) ≡ length inputs + 1 = length-append inputs (input ∷ []) in omega (arith, so_far, all, inputs_all);
   held = λ told. held_more before.files inputs contents input content (h.held told)
       (subst (λ (files : Option Files). Holds files input content) h.files (more.held (subst IsSome (sym h.files) told)));
   files = more.files ∙ h.files;
@@ -91,23 +95,26 @@ asks_refused task inputs input rest refusal before mid after split h same refuse
   }
 ]
 
-refusal_at : (task : Task) (inputs : List Input) (contents : List Content) (input : Input) (rest : List Input) (refusal : Refusal)
+-- an input is refused after others that are accepted
+pub refusal_at : (all inputs : List Input) (contents : List Content) (input : Input) (rest : List Input) (refusal : Refusal)
     (before mid after : FolderState) (out : SinkState)
-    → task.inputs ≡ inputs ++ (input ∷ rest) → HasRead inputs contents before mid → after.files ≡ mid.files
-    → IsCausedBy input (record { before = mid; after = after }) refusal
-    → IsRefusal task (record { folder = record { before = before; after = after }; out = record { before = out; after = out } }) refusal
-refusal_at task inputs contents input rest NoMemory before mid after out split h same why = tt
-refusal_at task inputs contents input rest Usage before mid after out split h same why = why
-refusal_at task inputs contents input rest Fault before mid after out split h same why = elim why [
-  | inl rose ↦ inl (rose_later before.faults mid.faults after.faults h.faults rose)
-  | inr missing ↦ inr (inr (
+    → all ≡ inputs ++ (input ∷ rest) → (IsSome before.files → AreHeld before.files inputs contents) → mid.files ≡ before.files
+    → before.faults ≤ mid.faults → after.files ≡ mid.files → IsCausedBy input (record { before = mid; after = after }) refusal
+    → IsRefusal all (record { folder = record { before = before; after = after }; out = record { before = out; after = out } }) refusal
+refusal_at all inputs contents input rest NoMemory before mid after out split held kept le same why = tt
+refusal_at all inputs contents input rest Usage before mid after out split held kept le same why = why
+refusal_at all inputs contents input rest (TooFewFrames frames needed) before mid after out split held kept le same why = why
+refusal_at all inputs contents input rest (DoesNotFit picture wanted room) before mid after out split held kept le same why = why
+refusal_at all inputs contents input rest Fault before mid after out split held kept le same why = elim why [
+  | inl rose ↦ inl (inl (rose_later before.faults mid.faults after.faults le rose))
+  | inr missing ↦ inr (
     name_of input,
-    let there : IsMissing before.files input = subst (λ (files : Option Files). IsMissing files input) h.files missing in
-        subst (λ (all : List Input). IsFirstCause before.files all (MissingName (name_of input))) (sym split)
-        (first_at before.files inputs contents input rest (MissingName (name_of input)) (h.held there.told) (refl, there)),
-  ))
+    let there : IsMissing before.files input = subst (λ (files : Option Files). IsMissing files input) kept missing in
+        subst (λ (inputs : List Input). IsFirstCause before.files inputs (MissingName (name_of input))) (sym split)
+        (first_at before.files inputs contents input rest (MissingName (name_of input)) (held there.told) (refl, there)),
+  )
 ]
-refusal_at task inputs contents input rest (Flawed name flaw) before mid after out split h same why = record {
+refusal_at all inputs contents input rest (Flawed name flaw) before mid after out split held kept le same why = record {
   input = input;
   before = inputs;
   after = rest;
@@ -115,10 +122,10 @@ refusal_at task inputs contents input rest (Flawed name flaw) before mid after o
   name_is = why.0;
   fits = why.1;
   first = λ told.
-      subst (λ (all : List Input). IsFirstCause before.files all (FlawedInput name.now flaw)) (sym split)
-      (first_at before.files inputs contents input rest (FlawedInput name.now flaw) (h.held told)
-      (why.0, subst (λ (files : Option Files). HasFlaw files input flaw) h.files (why.2 (subst IsSome (sym h.files) told))));
-  untouched = record { files = same ∙ h.files; held = refl };
+      subst (λ (inputs : List Input). IsFirstCause before.files inputs (FlawedInput name.now flaw)) (sym split)
+      (first_at before.files inputs contents input rest (FlawedInput name.now flaw) (held told)
+      (why.0, subst (λ (files : Option Files). HasFlaw files input flaw) kept (why.2 (subst IsSome (sym kept) told))));
+  untouched = record { files = same ∙ kept; held = refl };
 }
 
 -- an input was refused
@@ -130,8 +137,8 @@ pub ends_refused : (task : Task) (inputs : List Input) (contents : List Content)
 ends_refused task inputs contents input rest refusal before mid after out split h refused = (
   asks_refused task inputs input rest refusal before mid after split h.asked h.files refused,
   (
-    λ told. inl (record { files = refused.files ∙ h.files; held = refl }),
-    refusal_at task inputs contents input rest refusal before mid after out split h refused.files refused.cause,
+    inl (record { files = refused.files ∙ h.files; held = refl }),
+    refusal_at task.inputs inputs contents input rest refusal before mid after out split h.held h.files h.faults refused.files refused.cause,
   ),
 )
 
@@ -152,9 +159,10 @@ pub ends_done : (task : Task) (contents : List Content) (before mid after : Fold
     → Ends {T = Unit {0}} task (record { folder = record { before = before; after = after }; out = record { before = out; after = shown } }) (Ok tt)
 ends_done task contents before mid after out shown h left = (
   asks_all task contents before mid after h left.0.asked,
-  λ told. record {
+  record {
     contents = contents;
-    held = h.held told;
+    count = h.count;
+    held = h.held;
     done = record { files = left.1.files ∙ ap (option_map (with_files (task.due contents).files)) h.files; out = left.1.out };
   },
 )
@@ -172,9 +180,9 @@ stopped_from due before mid after out shown same h = record {
 
 cause_left : (task : Task) (before mid after : FolderState) (out shown : SinkState) (error : OutsideError) → before.faults ≤ mid.faults
     → FailsOnly (Rose mid.faults after.faults ⊎ Rose out.faults shown.faults) error
-    → IsRefusal task (record { folder = record { before = before; after = after }; out = record { before = out; after = shown } }) (cause_of error)
-cause_left task before mid after out shown outside.Failed le (inl rose) = inl (rose_later before.faults mid.faults after.faults le rose)
-cause_left task before mid after out shown outside.Failed le (inr rose) = inr (inl rose)
+    → IsRefusal task.inputs (record { folder = record { before = before; after = after }; out = record { before = out; after = shown } }) (cause_of error)
+cause_left task before mid after out shown outside.Failed le (inl rose) = inl (inl (rose_later before.faults mid.faults after.faults le rose))
+cause_left task before mid after out shown outside.Failed le (inr rose) = inl (inr rose)
 cause_left task before mid after out shown outside.NoMemory le why = tt
 
 -- the inputs were read, and a part of what is due was left
@@ -187,7 +195,12 @@ pub ends_stopped : (task : Task) (contents : List Content) (before mid after : F
 ends_stopped task contents before mid after out shown error h left = (
   asks_all task contents before mid after h left.0.asked,
   (
-    λ told. inr (record { contents = contents; held = h.held told; stopped = stopped_from (task.due contents) before mid after out shown h.files left.1 }),
+    inr (record {
+      contents = contents;
+      count = h.count;
+      held = h.held;
+      stopped = stopped_from (task.due contents) before mid after out shown h.files left.1;
+    }),
     cause_left task before mid after out shown error h.faults left.2,
   ),
 )

@@ -8,7 +8,7 @@ use Rattle.vtex.specs.HeldInputs.{IsMissing}
 use Rattle.vtex.proofs.Contents.{content_no_flaw}
 use Rattle.vtex.specs.Causes.{Cause, MissingName, FlawedInput, cause_status, HasCause, IsAccepted, AreHeld, AreAccepted, IsFirstCause}
 
-same_bytes : (files : Option Files) (name s t : List ℕ) → bytes_at files name ≡ Some s → bytes_at files name ≡ Some t → s ≡ t
+pub same_bytes : (files : Option Files) (name s t : List ℕ) → bytes_at files name ≡ Some s → bytes_at files name ≡ Some t → s ≡ t
 same_bytes files name s t a b = cc
 
 there_not_missing : (files : Option Files) (input : Input) (bytes : List ℕ) → bytes_at files (name_of input) ≡ Some bytes → IsMissing files input → ⊥
@@ -47,7 +47,7 @@ held_accepted files [] (content ∷ contents) h = absurd h
 held_accepted files (input ∷ inputs) [] h = absurd h
 held_accepted files (input ∷ inputs) (content ∷ contents) h = ((content, h.0), held_accepted files inputs contents h.1)
 
-there_told : (files : Option Files) (name bytes : List ℕ) → bytes_at files name ≡ Some bytes → IsSome files
+pub there_told : (files : Option Files) (name bytes : List ℕ) → bytes_at files name ≡ Some bytes → IsSome files
 there_told None name bytes there = let wrong = there in absurd (cc)
 there_told (Some f) name bytes there = refl
 

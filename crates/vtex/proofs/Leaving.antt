@@ -4,9 +4,9 @@ use Rattle.std.specs.Prelude.{Result}
 use Rattle.vt_outside.specs.Counts.{Rose}
 use Rattle.vt_outside.specs.declared.answers.OutsideError.{OutsideError}
 use Rattle.vt_outside.specs.declared.answers.OutsideError.TheVariants.{Failed, NoMemory}
-use Rattle.vtex.specs.Courses.{FolderState, SinkState}
-use Rattle.vtex.specs.Dues.{Due, FailsOnly, Writes, Puts, Leaves}
-use Rattle.vtex.proofs.Writing.{no_files, part_none, part_whole}
+use Rattle.vt_files.specs.Courses.{FolderState, SinkState}
+use Rattle.vt_files.specs.Dues.{Due, FailsOnly, Writes, Puts, Leaves}
+use Rattle.vt_files.proofs.Writing.{no_files, part_none, part_whole}
 
 -- nothing of a due was left for want of memory
 pub unleft : (due : Due) (s : FolderState) (out : SinkState)

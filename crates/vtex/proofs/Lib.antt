@@ -1,12 +1,15 @@
-pub mod Counting
 pub mod Reading
+pub mod Opening
 pub mod Contents
 pub mod Excluded
+pub mod Sound
 pub mod Ending
+pub mod Terming
 pub mod Clauses
-pub mod Writing
 pub mod Leaving
 pub mod Drawing
 pub mod Tiling
 pub mod Making
 pub mod Upgrading
+pub mod Replaying
+pub mod Walking

@@ -16,37 +16,19 @@ use Rattle.vt_store.proofs.Flaws.{whole_length}
 use Rattle.vt_store.specs.declared.error.StoreError.{StoreError}
 use Rattle.vt_store.specs.declared.error.StoreError.TheVariants as store
 use Rattle.vt_pages.specs.Shape.{Shape}
-use Rattle.vtex.specs.Courses.{FolderState}
+use Rattle.vt_files.specs.Courses.{FolderState}
 use Rattle.vtex.specs.Inputs.{Input, Content, name_of, IsContent, IsFlawOf, MayAsk, AsksWhole, AsksHeader}
 use Rattle.vtex.specs.HeldInputs.{IsMissing}
-use Rattle.vtex.specs.Reads.{IsAsked, Refused, IsCausedBy, Reads, Visit, FileState, Visits, IsCausedIn, FindsIn, Finds}
+use Rattle.vtex.specs.Reads.{Opened, Closed, IsAsked, Refused, IsCausedBy, Reads, Visit, FileState, Visits, IsCausedIn, FindsIn, Finds}
 use Rattle.vtex.specs.Refusals.{cause_of}
 use Rattle.vtex.specs.declared.refusal.Refusal.{Refusal}
-use Rattle.vtex.specs.declared.refusal.Refusal.TheVariants.{NoMemory, Usage, Fault, Flawed}
+use Rattle.vtex.specs.declared.refusal.Refusal.TheVariants.{NoMemory, Usage, Fault, Flawed, TooFewFrames, DoesNotFit}
 
 -- what holds of a file's bytes, where they are told, holds of those that the folder tells of its name
 fact_there : (P : List ℕ → Type 0) (files : Option Files) (name : List ℕ) (bytes : Option (List ℕ))
     → bytes ≡ bytes_at files name → is_some bytes ≡ is_some files → IfSome bytes P → IsSome files → (text : List ℕ) × (bytes_at files name ≡ Some text) × P text
 fact_there P files name None same tells fact told = absurd (false≢true (tells ∙ told))
 fact_there P files name (Some b) same tells fact told = (b, sym same, fact)
-
--- what a file that was opened is
-pub record Opened (input : Input) (before : FolderState) (opened : FolderState) (file : FileState) : Type 0 where
-  pub files : opened.files ≡ before.files
-  pub asked : opened.asked ≡ before.asked
-  pub faults : before.faults ≤ opened.faults
-  pub bytes : file.bytes ≡ bytes_at before.files (name_of input)
-  pub tells : is_some file.bytes ≡ is_some before.files
-  pub no_places : file.asked ≡ option_map (λ _. []) before.asked
-  pub name : OnSome before.asked (file.name ≡ name_of input)
-  pub no_faults : file.faults ≡ 0
-
--- what a folder is that closed a file
-pub record Closed (opened after : FolderState) (file : FileState) : Type 0 where
-  pub files : after.files ≡ opened.files
-  pub asked : after.asked ≡ option_map (with_places file.name file.asked) opened.asked
-  pub kept : opened.faults ≤ after.faults
-  pub faults : after.faults ≡ added opened.faults file.faults
 
 -- the places of a file that was asked, at its name
 pub placed : (name of : List ℕ) (places : List Place) (asked : Option Asked) (told : Option (List Place))
@@ -57,7 +39,7 @@ placed name of places (Some a) told same is =
     ap (λ (p : Option (List Place)). Some (with_places of p a)) same ∙ ap (λ (n : List ℕ). Some (with_places n (Some places) a)) is
 
 asked_of : (input : Input) (before opened after : FolderState) (v : Visit)
-    → Opened input before opened v.before → Visits (MayAsk input) v → Closed opened after v.after
+    → Opened (name_of input) (record { before = before; after = opened }) v.before → Visits (MayAsk input) v → Closed v.after (record { before = opened; after = after })
     → IsAsked input (record { before = before; after = after })
 asked_of input before opened after v o h c = (
   h.places,
@@ -66,7 +48,7 @@ asked_of input before opened after v o h c = (
       ∙ ap (option_map (with_places v.after.name v.after.asked)) o.asked
       ∙ ap (λ (n : List ℕ). option_map (with_places n v.after.asked) before.asked) h.name
       ∙ placed (name_of input) v.before.name h.places before.asked v.after.asked
-      (h.asked ∙ ap (option_map (λ (old : List Place). old ++ h.places)) o.no_places) o.name,
+      (h.asked ∙ ap (option_map (λ (old : List Place). old ++ h.places)) o.no_places) o.name_is,
 )
 
 later : (before opened after : FolderState) → before.faults ≤ opened.faults → opened.faults ≤ after.faults → before.faults ≤ after.faults
@@ -76,10 +58,12 @@ rise : (b o a n z : ℕ) → b ≤ o → z ≡ 0 → a ≡ added o n → Rose z 
 rise b o a n z le zero_is sum rose = omega (arith, le, zero_is, sum, rose)
 
 cause_there : (input : Input) (before opened after : FolderState) (v : Visit) (refusal : Refusal)
-    → Opened input before opened v.before → Closed opened after v.after → IsCausedIn input v refusal
+    → Opened (name_of input) (record { before = before; after = opened }) v.before → Closed v.after (record { before = opened; after = after }) → IsCausedIn input v refusal
     → IsCausedBy input (record { before = before; after = after }) refusal
 cause_there input before opened after v NoMemory o c h = tt
 cause_there input before opened after v Usage o c h = h
+cause_there input before opened after v (TooFewFrames frames needed) o c h = h
+cause_there input before opened after v (DoesNotFit picture wanted room) o c h = h
 cause_there input before opened after v Fault o c h = inl
     (rise before.faults opened.faults after.faults v.after.faults v.before.faults o.faults o.no_faults c.faults h)
 cause_there input before opened after v (Flawed name flaw) o c h = (
@@ -92,7 +76,7 @@ cause_there input before opened after v (Flawed name flaw) o c h = (
 
 -- a file that was opened, read and closed
 pub closed : {T : Type 0} → (input : Input) (content : T → Content) (before opened after : FolderState) (v : Visit) (r : Result T Refusal)
-    → Opened input before opened v.before → Visits (MayAsk input) v → Finds input content v r → Closed opened after v.after
+    → Opened (name_of input) (record { before = before; after = opened }) v.before → Visits (MayAsk input) v → Finds input content v r → Closed v.after (record { before = opened; after = after })
     → Reads input content (record { before = before; after = after }) r
 closed input content before opened after v (Ok value) o h finds c = record {
   held = λ told.
@@ -142,6 +126,8 @@ found input content v bytes (Ok value) read h = told v.before.bytes read
     told (Some b) same = subst (λ (t : List ℕ). IsContent input t (content value)) same h
 found input content v bytes (Err NoMemory) read h = tt
 found input content v bytes (Err Usage) read h = h
+found input content v bytes (Err (TooFewFrames frames needed)) read h = h
+found input content v bytes (Err (DoesNotFit picture wanted room)) read h = h
 found input content v bytes (Err Fault) read h = absurd h
 found input content v bytes (Err (Flawed name flaw)) read h = (h.0, h.1, told v.before.bytes read)
   where
@@ -193,7 +179,7 @@ asked_nothing before after same bytes name faults = record {
   faults = faults;
 }
 
-full_header : (told : Option (List ℕ)) (shape : Shape) (depth : ℕ) → ((bytes : List ℕ) → told ≡ Some bytes → IsStore bytes shape depth)
+pub full_header : (told : Option (List ℕ)) (shape : Shape) (depth : ℕ) → ((bytes : List ℕ) → told ≡ Some bytes → IsStore bytes shape depth)
     → IfSome told (λ bytes. header_length ≡ min (length bytes) header_length)
 full_header None shape depth each = tt
 full_header (Some bytes) shape depth each = let whole = whole_length bytes (length bytes) (each bytes refl).no_flaw in omega (arith, whole)

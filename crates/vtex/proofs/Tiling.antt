@@ -12,14 +12,14 @@ use Rattle.vt_pages.specs.Pages.{refusal_of, pages_of}
 use Rattle.vt_pages.specs.declared.PagesError.{PagesError}
 use Rattle.vt_pages.specs.declared.PagesError.TheVariants as pages_error
 use Rattle.vt_store.specs.ChainStores.{chain_store}
-use Rattle.vtex.specs.Courses.{Passage}
+use Rattle.vt_files.specs.Courses.{Passage}
 use Rattle.vtex.specs.Inputs.{TextureInput, TiledTexture, TextureContent, texture_shape}
 use Rattle.vtex.specs.Reads.{Took, Refused, IsCausedBy}
 use Rattle.vtex.specs.commands.Tile.{flaw_of_pages, IsTooMany, store_file}
 use Rattle.vtex.specs.declared.flaws.Flaw.{Flaw}
 use Rattle.vtex.specs.declared.flaws.Flaw.TheVariants as flaws
 use Rattle.vtex.specs.declared.refusal.Refusal.{Refusal}
-use Rattle.vtex.specs.declared.refusal.Refusal.TheVariants.{NoMemory, Usage, Fault, Flawed}
+use Rattle.vtex.specs.declared.refusal.Refusal.TheVariants.{NoMemory, Usage, Fault, Flawed, TooFewFrames, DoesNotFit}
 
 -- a geometry is refused for too many pages
 IsMany : PagesError → Type 0
@@ -66,6 +66,8 @@ tiled_cause : (name : List ℕ) (tile : ℕ) (refusal : Refusal) (p : Passage) �
     → IsCausedBy (TiledTexture name tile) p refusal
 tiled_cause name tile NoMemory p h = tt
 tiled_cause name tile Usage p h = h
+tiled_cause name tile (TooFewFrames frames needed) p h = h
+tiled_cause name tile (DoesNotFit picture wanted room) p h = h
 tiled_cause name tile Fault p (inl rose) = inl rose
 tiled_cause name tile Fault p (inr missing) = inr (record { told = missing.told; none = missing.none })
 tiled_cause name tile (Flawed named flaw) p h = (h.0, inl h.1, λ told. let f = h.2 told in record { bytes = f.bytes; there = f.there; is = inl f.is })
@@ -84,6 +86,8 @@ many_cause : (name : List ℕ) (tile : ℕ) (texture : ImageView) (refusal : Ref
     → IsTooMany name (texture_shape texture tile) refusal → IsCausedBy (TiledTexture name tile) p refusal
 many_cause name tile texture NoMemory p took h = tt
 many_cause name tile texture Usage p took h = h
+many_cause name tile texture (TooFewFrames frames needed) p took h = h
+many_cause name tile texture (DoesNotFit picture wanted room) p took h = h
 many_cause name tile texture Fault p took h = absurd h
 many_cause name tile texture (Flawed named (flaws.TooManyPages n)) p took h = (
   h.0,

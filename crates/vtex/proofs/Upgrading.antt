@@ -12,15 +12,15 @@ use Rattle.vt_pages.specs.Shape.{Shape}
 use Rattle.vt_store.specs.Places.{FrontAsked, PiecesAsked, pieces_of, piece_place, piece_places}
 use Rattle.vt_store.specs.StoreViews.{IsStore}
 use Rattle.vt_store.specs.Widening.{HoldsWidened, HoldsFront}
-use Rattle.vtex.specs.Courses.{FolderState}
+use Rattle.vt_files.specs.Courses.{FolderState}
 use Rattle.vtex.specs.Inputs.{NarrowStore, NarrowContent, AsksPieces, ArePieces, header_places}
 use Rattle.vtex.specs.HeldInputs.{Holds}
-use Rattle.vtex.specs.Reads.{FileState, Took}
-use Rattle.vtex.specs.Dues.{Writes}
-use Rattle.vtex.specs.commands.Upgrade.{upgraded_file, wide_due, OpensStore, WritesWide}
-use Rattle.vtex.proofs.Counting.{rose_later}
-use Rattle.vtex.proofs.Reading.{Closed, placed}
-use Rattle.vtex.proofs.Writing.{file_written, file_stopped}
+use Rattle.vtex.specs.Reads.{FileState, Took, OpensStore, Closed}
+use Rattle.vt_files.specs.Dues.{Writes}
+use Rattle.vtex.specs.commands.Upgrade.{upgraded_file, wide_due, WritesWide}
+use Rattle.vt_files.proofs.Counting.{rose_later}
+use Rattle.vtex.proofs.Reading.{placed}
+use Rattle.vt_files.proofs.Writing.{file_written, file_stopped}
 
 -- the pieces that were asked
 front_of : (shape : Shape) (before after : Option (List Place)) → FrontAsked shape 1 before after
@@ -31,7 +31,7 @@ front_of shape before after f = elim f.asked [
 ]
 
 closed_places : (before mid after : FolderState) (old new : FileState) (pieces : List Place)
-    → new.asked ≡ option_map (λ places. places ++ pieces) old.asked → new.name ≡ old.name → mid.asked ≡ before.asked → Closed mid after new
+    → new.asked ≡ option_map (λ places. places ++ pieces) old.asked → new.name ≡ old.name → mid.asked ≡ before.asked → Closed new (record { before = mid; after = after })
     → after.asked ≡ option_map (with_places old.name (option_map (λ places. places ++ pieces) old.asked)) before.asked
 closed_places before mid after old new pieces gained same none c =
     c.asked
@@ -42,7 +42,7 @@ closed_places before mid after old new pieces gained same none c =
 -- the widened store was written, and the file closed
 pub wide_written : (shape : Shape) (name : List ℕ) (before mid after : FolderState) (old new : FileState)
     → HoldsWidened old.bytes shape name before.files mid.files → PiecesAsked shape 1 (pieces_of shape) old.asked new.asked
-    → new.name ≡ old.name → mid.asked ≡ before.asked → before.faults ≤ mid.faults → Closed mid after new
+    → new.name ≡ old.name → mid.asked ≡ before.asked → before.faults ≤ mid.faults → Closed new (record { before = mid; after = after })
     → WritesWide old shape name (record { before = before; after = after }) (Ok tt)
 wide_written shape name before mid after old new h asked same none faults c = record {
   whole = subst (λ (files : Option Files). HoldsWidened old.bytes shape name before.files files) (sym c.files) h;
@@ -62,7 +62,7 @@ rise b m a z n le more sum (inr rose) = omega (arith, le, more, sum, rose)
 pub wide_stopped : (shape : Shape) (name : List ℕ) (before mid after : FolderState) (old new : FileState) (error : OutsideError)
     → (mid.files ≡ before.files) ⊎ HoldsFront old.bytes shape name before.files mid.files → FrontAsked shape 1 old.asked new.asked
     → (error ≡ Failed → Rose before.faults mid.faults ⊎ Rose old.faults new.faults)
-    → new.name ≡ old.name → mid.asked ≡ before.asked → before.faults ≤ mid.faults → Closed mid after new
+    → new.name ≡ old.name → mid.asked ≡ before.asked → before.faults ≤ mid.faults → Closed new (record { before = mid; after = after })
     → WritesWide old shape name (record { before = before; after = after }) (Err error)
 wide_stopped shape name before mid after old new error h asked failed same none faults c =
     let front = front_of shape old.asked new.asked asked in
@@ -98,9 +98,10 @@ more_places (Some a) header pieces = refl
 
 -- the store was read
 pub store_took : (name new : List ℕ) (shape : Shape) (depth : ℕ) (file : FileState) (before opened after : FolderState) (r : Result (Unit {0}) OutsideError)
-    → OpensStore name shape depth file (record { before = before; after = opened }) → WritesWide file shape new (record { before = opened; after = after }) r
+    → depth ≡ 1 → OpensStore name shape depth file (record { before = before; after = opened })
+    → WritesWide file shape new (record { before = opened; after = after }) r
     → Took (NarrowStore name) (NarrowContent shape (unwrap_or file.bytes [])) (record { before = before; after = read_first before after })
-store_took name new shape depth file before opened after r o w = record {
+store_took name new shape depth file before opened after r is_narrow o w = record {
   held = held_of name shape file.bytes before.files o.bytes o.tells narrow;
   files = refl;
   asked = (
@@ -116,7 +117,7 @@ store_took name new shape depth file before opened after r o w = record {
 }
   where
     narrow : (b : List ℕ) → file.bytes ≡ Some b → IsStore b shape 1
-    narrow b is = subst (λ (d : ℕ). IsStore b shape d) o.narrow (o.is.each b is)
+    narrow b is = subst (λ (d : ℕ). IsStore b shape d) is_narrow (o.is.each b is)
 
 written_told : (shape : Shape) (name : List ℕ) (o : Option (List ℕ)) (files after : Option Files) → is_some o ≡ is_some files
     → HoldsWidened o shape name files after → after ≡ option_map (with_bytes name (upgraded_file shape (unwrap_or o []))) files

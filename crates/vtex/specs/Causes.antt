@@ -2,7 +2,7 @@
 use Rattle.std.specs.Prelude.{◌≡◌, ◌⊎◌, ℕ, List, [], ◌∷◌, ◌++◌, Option, Some, option_map}
 use Rattle.vt_outside.specs.Files.{Files, Asked, bytes_at, with_places}
 use Rattle.vt_outside.specs.declared.place.Place.{Place}
-use Rattle.vtex.specs.Courses.{Passage}
+use Rattle.vt_files.specs.Courses.{Passage}
 use Rattle.vtex.specs.Inputs.{Input, Content, name_of, MayAsk}
 use Rattle.vtex.specs.HeldInputs.{Holds, HasFlaw, IsMissing}
 use Rattle.vtex.specs.declared.flaws.Flaw.{Flaw}
@@ -50,6 +50,22 @@ pub record AsksInOrder (inputs : List Input) (p : Passage) : Type 0 where
   pub rest : List Input
   pub split : inputs ≡ some ++ rest
   pub asked : AreAsked p.before.files some p.before.asked p.after.asked
+
+-- no place was asked, or an input was asked for places that it may be asked for
+abbrev pub IsAskedOrNot : Option Files → Input → Option Asked → Option Asked → Type 0
+IsAskedOrNot files input before after = (after ≡ before)
+    ⊎ ((places : List Place) × MayAsk input (bytes_at files (name_of input)) places
+    × (after ≡ option_map (with_places (name_of input) (Some places)) before))
+
+-- some of these inputs were asked, each at most once and in this order
+abbrev pub AreAskedOrNot : Option Files → List Input → Option Asked → Option Asked → Type 0
+AreAskedOrNot files [] before after = after ≡ before
+AreAskedOrNot files (input ∷ inputs) before after =
+    (mid : Option Asked) × IsAskedOrNot files input before mid × AreAskedOrNot files inputs mid after
+
+-- some of these inputs were asked, and no other name was
+abbrev pub AsksSome : List Input → Passage → Type 0
+AsksSome inputs p = AreAskedOrNot p.before.files inputs p.before.asked p.after.asked
 
 -- all inputs are there and accepted, so that there is no first cause
 abbrev pub AreAccepted : Option Files → List Input → Type 0

@@ -9,6 +9,8 @@ use Rattle.vt_camera.specs.declared.parse.PathError.{PathError}
 use Rattle.vt_camera.specs.declared.parse.PathError.TheVariants as path
 use Rattle.vt_store.specs.declared.error.StoreError.{StoreError}
 use Rattle.vt_store.specs.declared.error.StoreError.TheVariants as store
+use Rattle.vt_replay.specs.declared.error.ReplayError.{ReplayError}
+use Rattle.vt_replay.specs.declared.error.ReplayError.TheVariants as replay
 use Rattle.vtex.specs.declared.flaws.Flaw.{Flaw}
 use Rattle.vtex.specs.declared.flaws.Flaw.TheVariants as flaws
 
@@ -37,6 +39,12 @@ flaw_of_store store.BadGeometry = Ok flaws.BadGeometry
 flaw_of_store (store.WrongLength want have) = Ok (flaws.WrongLength want have)
 flaw_of_store store.Failed = Err outside.Failed
 flaw_of_store store.NoMemory = Err outside.NoMemory
+
+-- the flaw of a journal that is refused, or what the outside refused
+abbrev pub flaw_of_replay : ReplayError → Result Flaw OutsideError
+flaw_of_replay (replay.BadJournal line) = Ok (flaws.BadLine line)
+flaw_of_replay replay.Failed = Err outside.Failed
+flaw_of_replay replay.NoMemory = Err outside.NoMemory
 
 -- the place of a flaw as it is printed
 abbrev pub flaw_place : Flaw → List ℕ

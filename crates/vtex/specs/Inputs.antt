@@ -1,5 +1,5 @@
 -- What a command reads: the kinds of inputs, each with a row in every definition here.
-use Rattle.std.specs.Prelude.{◌≡◌, ◌⊎◌, ℕ, ◌≤◌, ◌<◌, Bool, true, false, List, [], ◌∷◌, ◌++◌, length, min, Option, Some, None, Ok, IfSome}
+use Rattle.std.specs.Prelude.{◌≡◌, ◌⊎◌, ℕ, ◌≤◌, ◌<◌, Bool, true, false, List, [], ◌∷◌, ◌++◌, length, min, All, Option, Some, None, Ok, IfSome}
 use Rattle.vt_outside.specs.Files.{noted}
 use Rattle.vt_outside.specs.declared.place.Place.{Place}
 use Rattle.vt_ppm.specs.Image.{ImageView}
@@ -15,28 +15,34 @@ use Rattle.vt_pages.specs.Shape.{Shape, shape_of}
 use Rattle.vt_pages.specs.Pages.{refusal_of}
 use Rattle.vt_pages.specs.declared.PagesError.TheVariants as pages_error
 use Rattle.vt_store.specs.Format.{store_flaw, header_length}
-use Rattle.vt_store.specs.StoreViews.{IsStore}
+use Rattle.vt_store.specs.StoreViews.{IsStore, IsStoreIfTold}
 use Rattle.vt_store.specs.Places.{pieces_of, piece_place, piece_places}
 use Rattle.vt_store.specs.declared.error.StoreError.{StoreError}
+use Rattle.vt_replay.specs.Playing.{IsTilePlace}
 use Rattle.vtex.specs.Flaws.{flaw_of_path, flaw_of_texture, flaw_of_store}
 use Rattle.vtex.specs.declared.flaws.Flaw.{Flaw}
 use Rattle.vtex.specs.declared.flaws.Flaw.TheVariants.{TooManyPages, AlreadyWide}
 
--- a file that a command reads, by its name: a path, a texture, a texture that is to have few enough pages of a tile side, a store, or
--- a store that is to have samples of one byte
+-- a file that a command reads, by its name: a path, a texture, a texture that is to have few enough pages of a tile side, a store,
+-- a store that is to have samples of one byte, a store whose tiles are read, or a journal
 pub data Input : Type 0 where
   PathInput : List ℕ → Input
   TextureInput : List ℕ → Input
   TiledTexture : List ℕ → ℕ → Input
   StoreInput : List ℕ → Input
   NarrowStore : List ℕ → Input
+  PagedStore : List ℕ → Input
+  JournalInput : List ℕ → Input
 
--- what an input holds; a store's header tells the shape of its pages and its depth, and of a store of one-byte samples all bytes count
+-- what an input holds; a store's header tells the shape of its pages and its depth, and of a store whose tiles are read all bytes count;
+-- any bytes are a journal's text, which is judged beside the path and the store
 pub data Content : Type 0 where
   PathContent : PathView → Content
   TextureContent : ImageView → Content
   StoreContent : Shape → ℕ → Content
   NarrowContent : Shape → List ℕ → Content
+  PagedContent : Shape → ℕ → List ℕ → Content
+  TextContent : List ℕ → Content
 
 -- the name of an input
 abbrev pub name_of : Input → List ℕ
@@ -45,6 +51,8 @@ name_of (TextureInput name) = name
 name_of (TiledTexture name tile) = name
 name_of (StoreInput name) = name
 name_of (NarrowStore name) = name
+name_of (PagedStore name) = name
+name_of (JournalInput name) = name
 
 -- the shape of a texture's pages
 abbrev pub texture_shape : ImageView → ℕ → Shape
@@ -57,6 +65,8 @@ IsContent (TextureInput name) bytes (TextureContent texture) = IsImage bytes tex
 IsContent (TiledTexture name tile) bytes (TextureContent texture) = IsImage bytes texture × (refusal_of (texture_shape texture tile) ≡ None)
 IsContent (StoreInput name) bytes (StoreContent shape depth) = IsStore bytes shape depth
 IsContent (NarrowStore name) bytes (NarrowContent shape held) = IsStore bytes shape 1 × (held ≡ bytes)
+IsContent (PagedStore name) bytes (PagedContent shape depth held) = IsStore bytes shape depth × (held ≡ bytes)
+IsContent (JournalInput name) bytes (TextContent held) = held ≡ bytes
 IsContent _ bytes _ = ⊥
 
 -- a path has this flaw
@@ -92,6 +102,8 @@ IsFlawOf (TextureInput name) bytes flaw = IsFlawOfTexture bytes flaw
 IsFlawOf (TiledTexture name tile) bytes flaw = IsFlawOfTexture bytes flaw ⊎ HasManyPages bytes tile flaw
 IsFlawOf (StoreInput name) bytes flaw = IsFlawOfStore bytes flaw
 IsFlawOf (NarrowStore name) bytes flaw = IsFlawOfStore bytes flaw ⊎ IsAlreadyWide bytes flaw
+IsFlawOf (PagedStore name) bytes flaw = IsFlawOfStore bytes flaw
+IsFlawOf (JournalInput name) bytes flaw = ⊥
 
 -- the flaw is of a kind that an input may have, whatever its bytes
 abbrev pub Fits : Input → Flaw → Type 0
@@ -100,6 +112,8 @@ Fits (TextureInput name) flaw = (e : PpmError) × (flaw_of_texture e ≡ Ok flaw
 Fits (TiledTexture name tile) flaw = ((e : PpmError) × (flaw_of_texture e ≡ Ok flaw)) ⊎ ((n : ℕ) × (flaw ≡ TooManyPages n))
 Fits (StoreInput name) flaw = (e : StoreError) × (flaw_of_store e ≡ Ok flaw)
 Fits (NarrowStore name) flaw = ((e : StoreError) × (flaw_of_store e ≡ Ok flaw)) ⊎ (flaw ≡ AlreadyWide)
+Fits (PagedStore name) flaw = (e : StoreError) × (flaw_of_store e ≡ Ok flaw)
+Fits (JournalInput name) flaw = ⊥
 
 -- no place was asked, or one from the beginning on, of a length
 abbrev pub AsksFront : (ℕ → Type 0) → List Place → Type 0
@@ -127,6 +141,12 @@ abbrev pub AsksPieces : Option (List ℕ) → List Place → Type 0
 AsksPieces told places = AsksHeader told places
     ⊎ ((shape : Shape) × (pieces : List Place) × IfSome told (λ bytes. IsStore bytes shape 1) × ArePieces shape pieces × (places ≡ header_places ++ pieces))
 
+-- the header of a store may be asked, or the whole header and then tiles of its pages
+abbrev pub AsksTiles : Option (List ℕ) → List Place → Type 0
+AsksTiles told places = AsksHeader told places
+    ⊎ ((shape : Shape) × (depth : ℕ) × (tiles : List Place) × IsStoreIfTold told shape depth × All (IsTilePlace shape depth) tiles
+    × (places ≡ header_places ++ tiles))
+
 -- the places that may be asked of an input whose bytes may be told: of a texture a front part that holds its header, and then its raster
 abbrev pub MayAsk : Input → Option (List ℕ) → List Place → Type 0
 MayAsk (PathInput name) = AsksWhole
@@ -134,3 +154,5 @@ MayAsk (TextureInput name) = AreImagePlaces
 MayAsk (TiledTexture name tile) = AreImagePlaces
 MayAsk (StoreInput name) = AsksHeader
 MayAsk (NarrowStore name) = AsksPieces
+MayAsk (PagedStore name) = AsksTiles
+MayAsk (JournalInput name) = AsksWhole

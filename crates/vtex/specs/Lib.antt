@@ -1,4 +1,3 @@
-pub mod Courses
 pub mod Lines
 pub mod Pictures
 pub mod Flaws
@@ -7,7 +6,8 @@ pub mod Inputs
 pub mod HeldInputs
 pub mod Causes
 pub mod Reads
-pub mod Dues
 pub mod Tasks
+pub mod Terms
+pub mod Machines
 pub mod commands
 pub mod Runs

@@ -1,6 +1,7 @@
 -- What the program prints.
 use Rattle.std.specs.Prelude.{ℕ, List, ◌++◌, codes}
 use Rattle.vt_text.specs.Numbers.{number_spelling}
+use Rattle.vt_print.specs.Places.{place_line}
 use Rattle.vt_pages.specs.Shape.{Shape}
 use Rattle.vt_pages.specs.Pages.{levels_of, pages_of}
 use Rattle.vt_store.specs.Format.{store_length}
@@ -25,3 +26,12 @@ usage_line = codes "vtex: usage: vtex COMMAND ARGUMENTS (plain, tile, info, walk
 
 abbrev pub fault_line : List ℕ
 fault_line = codes "vtex: fault on files or output\n"
+
+-- so many frames are fewer than the pinned pages
+abbrev pub frames_line : ℕ → ℕ → List ℕ
+frames_line frames needed = place_line (number_spelling frames ++ (codes " frames, pinned pages need " ++ number_spelling needed))
+
+-- a picture wants more pages than there is room for
+abbrev pub unfit_line : ℕ → ℕ → ℕ → List ℕ
+unfit_line picture wanted room =
+    place_line (codes "picture " ++ (number_spelling picture ++ (codes " wants " ++ (number_spelling wanted ++ (codes " pages, room for " ++ number_spelling room)))))

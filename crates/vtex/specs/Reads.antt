@@ -1,14 +1,16 @@
 -- What reading one input comes to.
-use Rattle.std.specs.Prelude.{◌≡◌, ◌⊎◌, ℕ, ◌≤◌, List, ◌++◌, Option, Some, option_map, Result, Ok, Err, IsSome, IfSome}
-use Rattle.vt_outside.specs.Counts.{Rose}
+use Rattle.std.specs.Prelude.{◌≡◌, ◌⊎◌, ℕ, ◌≤◌, List, [], ◌++◌, Option, Some, option_map, Result, Ok, Err, IsSome, is_some, IfSome, OnSome}
+use Rattle.vt_outside.specs.Counts.{Rose, added}
 use Rattle.vt_outside.specs.Files.{bytes_at, with_places}
 use Rattle.vt_outside.specs.declared.place.Place.{Place}
 use Rattle.vt_outside.specs.declared.outside.File.{Ghosts as FileMeanings}
-use Rattle.vtex.specs.Courses.{Passage}
-use Rattle.vtex.specs.Inputs.{Input, Content, name_of, IsContent, IsFlawOf, Fits, MayAsk}
+use Rattle.vt_pages.specs.Shape.{Shape}
+use Rattle.vt_store.specs.StoreViews.{IsStoreIfTold}
+use Rattle.vt_files.specs.Courses.{Passage}
+use Rattle.vtex.specs.Inputs.{Input, Content, name_of, IsContent, IsFlawOf, Fits, MayAsk, header_places}
 use Rattle.vtex.specs.HeldInputs.{Holds, HasFlaw, IsMissing}
 use Rattle.vtex.specs.declared.refusal.Refusal.{Refusal}
-use Rattle.vtex.specs.declared.refusal.Refusal.TheVariants.{NoMemory, Usage, Fault, Flawed}
+use Rattle.vtex.specs.declared.refusal.Refusal.TheVariants.{NoMemory, Usage, Fault, Flawed, TooFewFrames, DoesNotFit}
 
 -- the input's name was asked for places that it may be asked for, and no other name was
 abbrev pub IsAsked : Input → Passage → Type 0
@@ -27,6 +29,8 @@ pub record Took (input : Input) (content : Content) (p : Passage) : Type 0 where
 abbrev pub IsCausedBy : Input → Passage → Refusal → Type 0
 IsCausedBy input p NoMemory = Unit {0}
 IsCausedBy input p Usage = ⊥
+IsCausedBy input p (TooFewFrames frames needed) = ⊥
+IsCausedBy input p (DoesNotFit picture wanted room) = ⊥
 IsCausedBy input p Fault = Rose p.before.faults p.after.faults ⊎ IsMissing p.before.files input
 IsCausedBy input p (Flawed name flaw) = (name.now ≡ name_of input) × Fits input flaw × (IsSome p.before.files → HasFlaw p.before.files input flaw)
 
@@ -73,6 +77,8 @@ pub record Visits (May : Option (List ℕ) → List Place → Type 0) (v : Visit
 abbrev pub IsCausedByBytes : Input → List ℕ → Refusal → Type 0
 IsCausedByBytes input bytes NoMemory = Unit {0}
 IsCausedByBytes input bytes Usage = ⊥
+IsCausedByBytes input bytes (TooFewFrames frames needed) = ⊥
+IsCausedByBytes input bytes (DoesNotFit picture wanted room) = ⊥
 IsCausedByBytes input bytes Fault = ⊥
 IsCausedByBytes input bytes (Flawed name flaw) = (name.now ≡ name_of input) × Fits input flaw × IsFlawOf input bytes flaw
 
@@ -85,6 +91,8 @@ FindsIn input content bytes (Err refusal) = IsCausedByBytes input bytes refusal
 abbrev pub IsCausedIn : Input → Visit → Refusal → Type 0
 IsCausedIn input v NoMemory = Unit {0}
 IsCausedIn input v Usage = ⊥
+IsCausedIn input v (TooFewFrames frames needed) = ⊥
+IsCausedIn input v (DoesNotFit picture wanted room) = ⊥
 IsCausedIn input v Fault = Rose v.before.faults v.after.faults
 IsCausedIn input v (Flawed name flaw) = (name.now ≡ name_of input) × Fits input flaw × IfSome v.before.bytes (λ bytes. IsFlawOf input bytes flaw)
 
@@ -92,3 +100,32 @@ IsCausedIn input v (Flawed name flaw) = (name.now ≡ name_of input) × Fits inp
 abbrev pub Finds : {T : Type 0} → Input → (T → Content) → Visit → Result T Refusal → Type 0
 Finds input content v (Ok value) = IfSome v.before.bytes (λ bytes. IsContent input bytes (content value))
 Finds input content v (Err refusal) = IsCausedIn input v refusal
+
+-- a name was opened: the file tells what the folder tells of the name, and has no places and no faults yet
+pub record Opened (name : List ℕ) (p : Passage) (file : FileState) : Type 0 where
+  pub files : p.after.files ≡ p.before.files
+  pub asked : p.after.asked ≡ p.before.asked
+  pub faults : p.before.faults ≤ p.after.faults
+  pub bytes : file.bytes ≡ bytes_at p.before.files name
+  pub tells : is_some file.bytes ≡ is_some p.before.files
+  pub no_places : file.asked ≡ option_map (λ _. []) p.before.asked
+  pub name_is : OnSome p.before.asked (file.name ≡ name)
+  pub no_faults : file.faults ≡ 0
+
+-- the store of a name was opened: its header was read of its file, and the folder is as before
+pub record OpensStore (name : List ℕ) (shape : Shape) (depth : ℕ) (file : FileState) (p : Passage) : Type 0 where
+  pub is : IsStoreIfTold file.bytes shape depth
+  pub bytes : file.bytes ≡ bytes_at p.before.files name
+  pub tells : is_some file.bytes ≡ is_some p.before.files
+  pub asked : file.asked ≡ option_map (λ _. header_places) p.before.asked
+  pub name_is : OnSome p.before.asked (file.name ≡ name)
+  pub files : p.after.files ≡ p.before.files
+  pub no_places : p.after.asked ≡ p.before.asked
+  pub faults : p.before.faults ≤ p.after.faults
+
+-- an open file was closed: its places and its count of faults became the folder's
+pub record Closed (file : FileState) (p : Passage) : Type 0 where
+  pub files : p.after.files ≡ p.before.files
+  pub asked : p.after.asked ≡ option_map (with_places file.name file.asked) p.before.asked
+  pub kept : p.before.faults ≤ p.after.faults
+  pub faults : p.after.faults ≡ added p.before.faults file.faults

@@ -8,12 +8,12 @@ use Rattle.vt_print.specs.Places.{bad_input_line}
 use Rattle.vt_print.specs.Telling.{Tells}
 use Rattle.vt_words.specs.declared.arguments.WordsError.{WordsError}
 use Rattle.vt_words.specs.declared.arguments.WordsError.TheVariants as words
-use Rattle.vtex.specs.Courses.{Gain}
-use Rattle.vtex.specs.Lines.{memory_line, usage_line, fault_line}
+use Rattle.vt_files.specs.Courses.{Gain}
+use Rattle.vtex.specs.Lines.{memory_line, usage_line, fault_line, frames_line, unfit_line}
 use Rattle.vtex.specs.Flaws.{flaw_place}
 use Rattle.vtex.specs.declared.flaws.Flaw.{Flaw}
 use Rattle.vtex.specs.declared.refusal.Refusal.{Refusal}
-use Rattle.vtex.specs.declared.refusal.Refusal.TheVariants.{NoMemory, Usage, Fault, Flawed}
+use Rattle.vtex.specs.declared.refusal.Refusal.TheVariants.{NoMemory, Usage, Fault, Flawed, TooFewFrames, DoesNotFit}
 
 -- a failed call is a fault, and want of memory is itself
 abbrev pub cause_of : OutsideError → Refusal
@@ -37,6 +37,8 @@ refusal_status NoMemory = 1
 refusal_status Usage = 2
 refusal_status Fault = 3
 refusal_status (Flawed name flaw) = 4
+refusal_status (TooFewFrames frames needed) = 5
+refusal_status (DoesNotFit picture wanted room) = 5
 
 -- the status of the program
 abbrev pub status_of : {T : Type 0} → Result T Refusal → ℕ
@@ -49,6 +51,8 @@ refusal_line NoMemory = memory_line
 refusal_line Usage = usage_line
 refusal_line Fault = fault_line
 refusal_line (Flawed name flaw) = bad_input_line name.now (flaw_place flaw)
+refusal_line (TooFewFrames frames needed) = frames_line frames needed
+refusal_line (DoesNotFit picture wanted room) = unfit_line picture wanted room
 
 -- the text was put on the error output, or a front part of it where a put was refused
 abbrev pub Told : List ℕ → Gain → Type 0

@@ -4,25 +4,32 @@ pub mod Tile
 pub mod Info
 pub mod Gen
 pub mod Upgrade
+pub mod Replay
+pub mod Walk
 use Rattle.std.specs.Prelude.{◌≡◌, ◌⊎◌, ℕ, List, Option, Some, IsNone, Result, Ok, Err}
-use Rattle.vt_words.specs.Commands.{CommandText, PlainCommand, TileCommand, InfoCommand, GenCommand, UpgradeCommand, command_text}
-use Rattle.vtex.specs.Courses.{Course, IsIdle}
-use Rattle.vtex.specs.Tasks.{Task, Ends}
+use Rattle.vt_words.specs.Commands.{CommandText, PlainCommand, TileCommand, InfoCommand, GenCommand, UpgradeCommand, ReplayCommand, WalkCommand, command_text}
+use Rattle.vt_files.specs.Courses.{Course, IsIdle}
+use Rattle.vtex.specs.Machines.{Drawing}
+use Rattle.vtex.specs.Terms.{Terms, task_terms, EndsBy}
 use Rattle.vtex.specs.commands.Plain.{plain_task}
 use Rattle.vtex.specs.commands.Tile.{tile_task}
 use Rattle.vtex.specs.commands.Info.{info_task}
 use Rattle.vtex.specs.commands.Gen.{gen_task}
 use Rattle.vtex.specs.commands.Upgrade.{upgrade_task}
+use Rattle.vtex.specs.commands.Replay.{replay_terms}
+use Rattle.vtex.specs.commands.Walk.{walk_terms}
 use Rattle.vtex.specs.declared.refusal.Refusal.{Refusal}
-use Rattle.vtex.specs.declared.refusal.Refusal.TheVariants.{NoMemory, Usage, Fault, Flawed}
+use Rattle.vtex.specs.declared.refusal.Refusal.TheVariants.{NoMemory, Usage, Fault, Flawed, TooFewFrames, DoesNotFit}
 
--- what a command has to do
-abbrev pub task_of : CommandText → Task
-task_of (PlainCommand words) = plain_task words
-task_of (TileCommand words) = tile_task words
-task_of (InfoCommand words) = info_task words
-task_of (GenCommand words) = gen_task words
-task_of (UpgradeCommand words) = upgrade_task words
+-- the terms of a command by a machine
+abbrev pub terms_of : Drawing → CommandText → Terms
+terms_of m (PlainCommand words) = task_terms (plain_task words)
+terms_of m (TileCommand words) = task_terms (tile_task words)
+terms_of m (InfoCommand words) = task_terms (info_task words)
+terms_of m (GenCommand words) = task_terms (gen_task words)
+terms_of m (UpgradeCommand words) = task_terms (upgrade_task words)
+terms_of m (ReplayCommand words) = replay_terms words
+terms_of m (WalkCommand words) = walk_terms m words
 
 -- a refusal of words: they ask for nothing, or memory was wanting
 abbrev pub IsUnread : Option CommandText → Refusal → Type 0
@@ -30,6 +37,8 @@ IsUnread asked NoMemory = Unit {0}
 IsUnread asked Usage = IsNone asked
 IsUnread asked Fault = ⊥
 IsUnread asked (Flawed name flaw) = ⊥
+IsUnread asked (TooFewFrames frames needed) = ⊥
+IsUnread asked (DoesNotFit picture wanted room) = ⊥
 
 -- the words were refused, and nothing was asked
 pub record IsRefused (words : List (List ℕ)) (c : Course) (refusal : Refusal) : Type 0 where
@@ -37,12 +46,12 @@ pub record IsRefused (words : List (List ℕ)) (c : Course) (refusal : Refusal) 
   pub idle : IsIdle c
 
 -- the words are those of a command, which ended so
-pub record EndsCommand {T : Type 0} (words : List (List ℕ)) (c : Course) (result : Result T Refusal) : Type 0 where
+pub record EndsCommand {T : Type 0} (m : Drawing) (words : List (List ℕ)) (c : Course) (result : Result T Refusal) : Type 0 where
   pub command : CommandText
   pub is : command_text words ≡ Some command
-  pub ends : Ends (task_of command) c result
+  pub ends : EndsBy (terms_of m command) c result
 
 -- how a run ends
-abbrev pub EndsRun : {T : Type 0} → List (List ℕ) → Course → Result T Refusal → Type 0
-EndsRun {T} words c (Ok value) = EndsCommand {T = T} words c (Ok value)
-EndsRun {T} words c (Err refusal) = IsRefused words c refusal ⊎ EndsCommand {T = T} words c (Err refusal)
+abbrev pub EndsRun : {T : Type 0} → Drawing → List (List ℕ) → Course → Result T Refusal → Type 0
+EndsRun {T} m words c (Ok value) = EndsCommand {T = T} m words c (Ok value)
+EndsRun {T} m words c (Err refusal) = IsRefused words c refusal ⊎ EndsCommand {T = T} m words c (Err refusal)

@@ -3,48 +3,76 @@
 ghost use Rattle.std.specs.Prelude.{◌≡◌};
 ghost use Rattle.vt_words.specs.Arguments.{texts};
 ghost use Rattle.vt_words.specs.Commands.{shown, IsLawful};
-ghost use Rattle.vtex.specs.Courses.{course};
-ghost use Rattle.vtex.specs.Tasks.{Ends};
-ghost use Rattle.vtex.specs.commands.{task_of, EndsRun};
+ghost use Rattle.vt_files.specs.Courses.{course};
+ghost use Rattle.vtex.specs.Machines.{drawing_of};
+ghost use Rattle.vtex.specs.Terms.{EndsBy};
+ghost use Rattle.vtex.specs.commands.{terms_of, EndsRun};
 
 mod generate;
 mod info;
 mod plain;
+mod replay;
 mod tile;
 mod upgrade;
+mod walk;
 
 use crate::refusal::Refusal;
 use generate::generate;
 use info::info;
 use plain::plain;
+use replay::replay;
 use std::alloc::Global;
+use std::sync::Wait;
+use std::thread::Threads;
 use tile::tile;
 use upgrade::upgrade;
-use vt_outside::{Folder, Sink};
+use vt_outside::{Folder, Gate, Sink};
+use vt_pass::PassMachine;
 use vt_words::{Command, read_command};
+use walk::walk;
 
 /// Reads the words after the program's name and does the command that they ask for.
-pub fn do_command<'a, D: Folder, O: Sink>(
+pub fn do_command<
+    'a,
+    M: PassMachine<File = D::File>,
+    Rt: Threads + Wait + Sync,
+    D: Folder,
+    O: Sink,
+    G: Gate + Sync,
+>(
+    rt: &Rt,
     alloc: Global,
     words: &'a [String],
     folder: &mut D,
     out: &mut O,
+    gate: &G,
 ) -> Result<(), Refusal<'a>>
-    ensures { EndsRun (texts words.now) (course D.Folder O.Sink folder.old folder.new out.old out.new) result }
+    ensures { EndsRun (drawing_of M.DEALT M.needs M.shows M.whole M.drawn) (texts words.now)
+        (course D.Folder O.Sink folder.old folder.new out.old out.new) result }
 {
     let command = read_command(alloc, words)?;
-    perform(alloc, &command, folder, out)
+    perform::<M, Rt, D, O, G>(rt, alloc, &command, folder, out, gate)
 }
 
 // Does a command.
-fn perform<'a, D: Folder, O: Sink>(
+fn perform<
+    'a,
+    M: PassMachine<File = D::File>,
+    Rt: Threads + Wait + Sync,
+    D: Folder,
+    O: Sink,
+    G: Gate + Sync,
+>(
+    rt: &Rt,
     alloc: Global,
     command: &Command<'a>,
     folder: &mut D,
     out: &mut O,
+    gate: &G,
 ) -> Result<(), Refusal<'a>>
     requires { IsLawful command.now }
-    ensures { Ends (task_of (shown command.now)) (course D.Folder O.Sink folder.old folder.new out.old out.new) result }
+    ensures { EndsBy (terms_of (drawing_of M.DEALT M.needs M.shows M.whole M.drawn) (shown command.now))
+        (course D.Folder O.Sink folder.old folder.new out.old out.new) result }
 {
     match command {
         Command::Plain(words) => plain(alloc, words, folder, out),
@@ -52,5 +80,7 @@ fn perform<'a, D: Folder, O: Sink>(
         Command::Info(words) => info(words, folder, out),
         Command::Gen(words) => generate(alloc, words, folder),
         Command::Upgrade(words) => upgrade(alloc, words, folder, out),
+        Command::Replay(words) => replay(alloc, words, folder, out),
+        Command::Walk(words) => walk::<M, Rt, D, O, G>(rt, alloc, words, folder, out, gate),
     }
 }

@@ -2,18 +2,19 @@
 
 ghost use Rattle.std.specs.Prelude.{◌≡◌};
 ghost use Rattle.vt_print.specs.Places.{place_text};
-ghost use Rattle.vtex.specs.Flaws.{flaw_place, flaw_of_path, flaw_of_texture, flaw_of_store};
+ghost use Rattle.vtex.specs.Flaws.{flaw_place, flaw_of_path, flaw_of_texture, flaw_of_store, flaw_of_replay};
 
 use vt_camera::PathError;
 use vt_outside::OutsideError;
 use vt_ppm::PpmError;
 use vt_print::Place;
+use vt_replay::ReplayError;
 use vt_store::StoreError;
 
 /// What is wrong with an input: the first flaw of its bytes. Lines count from 1, bytes from 0.
 #[derive(Clone, Copy, Debug, PartialEq, Eq)]
 pub enum Flaw {
-    /// A line of a path has none of its forms.
+    /// A line of a path or a journal has none of its forms.
     BadLine(u32),
     /// A line of a path goes on from a key, and there is none.
     NoKey(u32),
@@ -106,5 +107,16 @@ pub fn flaw_of_store(error: StoreError) -> Result<Flaw, OutsideError>
         StoreError::WrongLength { want, have } => Ok(Flaw::WrongLength { want, have }),
         StoreError::Failed => Err(OutsideError::Failed),
         StoreError::NoMemory => Err(OutsideError::NoMemory),
+    }
+}
+
+/// The flaw of a journal that is refused, or what the outside refused.
+pub fn flaw_of_replay(error: ReplayError) -> Result<Flaw, OutsideError>
+    ensures { result ≡ flaw_of_replay error }
+{
+    match error {
+        ReplayError::BadJournal { line } => Ok(Flaw::BadLine(line)),
+        ReplayError::Failed => Err(OutsideError::Failed),
+        ReplayError::NoMemory => Err(OutsideError::NoMemory),
     }
 }

@@ -1,12 +1,14 @@
 //! Reading what the commands work on. Each reader opens a name, reads its file and closes it.
 
-ghost use Rattle.std.specs.Prelude.{◌≡◌, IfOk, IfSome, IsErrOf};
+ghost use Rattle.std.specs.Prelude.{◌≡◌, ◌++◌, IfOk, IfErr, IfSome, IsErrOf, option_map};
 ghost use Rattle.vt_definitions.specs.Depths.{IsDepth};
 ghost use Rattle.vt_outside.specs.Counts.{Rose};
 ghost use Rattle.vt_ppm.specs.Reads.{AreImagePlaces};
-ghost use Rattle.vtex.specs.Courses.{passage};
-ghost use Rattle.vtex.specs.Inputs.{PathInput, TextureInput, StoreInput, PathContent, TextureContent, StoreContent, AsksWhole, AsksHeader};
-ghost use Rattle.vtex.specs.Reads.{visit, Visits, FindsIn, Finds, Reads};
+ghost use Rattle.vt_store.specs.StoreViews.{IsStoreIfTold};
+ghost use Rattle.vt_files.specs.Courses.{passage};
+ghost use Rattle.vtex.specs.Inputs.{Input, PathInput, TextureInput, StoreInput, JournalInput, PathContent, TextureContent, StoreContent, TextContent};
+ghost use Rattle.vtex.specs.Inputs.{name_of, AsksWhole, AsksHeader, header_places};
+ghost use Rattle.vtex.specs.Reads.{file_state, visit, Opened, Refused, Visits, IsCausedIn, FindsIn, Finds, Reads, OpensStore};
 
 use crate::flaws::{flaw_of_path, flaw_of_store, flaw_of_texture};
 use crate::refusal::{Refusal, refusal_of};
@@ -17,6 +19,15 @@ use vt_pages::Geometry;
 use vt_ppm::{Image, read_image};
 use vt_store::Store;
 
+/// Opens a name. Whatever is to be read of it, a refusal is that of the input.
+pub fn open_input<'a, D: Folder>(folder: &mut D, name: &'a str) -> Result<D::File, Refusal<'a>>
+    ensures opened { IfOk result (λ file. Opened name.now (passage D.Folder folder.old folder.new) (file_state D.File.File file)) }
+    ensures refused { (input : Input) → name_of input ≡ name.now
+        → IfErr result (λ refusal. Refused input refusal (passage D.Folder folder.old folder.new)) }
+{
+    Ok(folder.open(name)?)
+}
+
 /// Reads the path of a name.
 pub fn read_path<'a, D: Folder>(
     alloc: Global,
@@ -25,7 +36,7 @@ pub fn read_path<'a, D: Folder>(
 ) -> Result<Path, Refusal<'a>>
     ensures { Reads (PathInput name.now) PathContent (passage D.Folder folder.old folder.new) result }
 {
-    let mut file = folder.open(name)?;
+    let mut file = open_input(folder, name)?;
     let path = path_in(alloc, name, &mut file);
     folder.close(file);
     path
@@ -73,7 +84,7 @@ pub fn read_texture<'a, D: Folder>(
 ) -> Result<Image, Refusal<'a>>
     ensures { Reads (TextureInput name.now) TextureContent (passage D.Folder folder.old folder.new) result }
 {
-    let mut file = folder.open(name)?;
+    let mut file = open_input(folder, name)?;
     let texture = texture_in(alloc, name, &mut file);
     folder.close(file);
     texture
@@ -106,26 +117,60 @@ pub fn read_store_header<'a, D: Folder>(
         (passage D.Folder folder.old folder.new) result }
     ensures depth { IfOk result (λ header. IsDepth header.depth) }
 {
-    let file = folder.open(name)?;
-    let visit = store_header_in(name, file);
-    folder.close(visit.0);
-    visit.1
+    let store = open_store(folder, name)?;
+    let header = StoreHeader {
+        geometry: store.geometry(),
+        depth: store.depth(),
+    };
+    folder.close(store.into_file());
+    Ok(header)
 }
 
-// The header of a store in an open file, and the file.
-fn store_header_in<F: File>(name: &str, file: F) -> (F, Result<StoreHeader, Refusal<'_>>)
-    ensures finds { Finds (StoreInput name.now) (λ header. StoreContent header.geometry header.depth) (visit F.File file result.0) result.1 }
-    ensures visits { Visits AsksHeader (visit F.File file result.0) }
-    ensures depth { IfOk result.1 (λ header. IsDepth header.depth) }
+/// Opens the store of a name, and leaves its file open.
+pub fn open_store<'a, D: Folder>(
+    folder: &mut D,
+    name: &'a str,
+) -> Result<Store<D::File>, Refusal<'a>>
+    ensures opens { IfOk result (λ store. OpensStore name.now store.shape store.depth (file_state D.File.File store.file)
+        (passage D.Folder folder.old folder.new)) }
+    ensures depth { IfOk result (λ store. IsDepth store.depth) }
+    ensures refused { IfErr result (λ refusal. Refused (StoreInput name.now) refusal (passage D.Folder folder.old folder.new)) }
+{
+    let file = open_input(folder, name)?;
+    match store_in(name, file) {
+        Ok(store) => Ok(store),
+        Err((file, refusal)) => {
+            folder.close(file);
+            Err(refusal)
+        }
+    }
+}
+
+// The store in an open file. A refusal hands the file back.
+fn store_in<F: File>(name: &str, file: F) -> Result<Store<F>, (F, Refusal<'_>)>
+    ensures is { IfOk result (λ store. IsStoreIfTold (F.bytes file) store.shape store.depth) }
+    ensures depth { IfOk result (λ store. IsDepth store.depth) }
+    ensures caused { IfErr result (λ e. IsCausedIn (StoreInput name.now) (visit F.File file e.0) e.1) }
+    ensures visits { IfOk result (λ store. Visits AsksHeader (visit F.File file store.file)) }
+    ensures read { IfOk result (λ store. F.asked store.file ≡ option_map (λ old. old ++ header_places) (F.asked file)) }
+    ensures tried { IfErr result (λ e. Visits AsksHeader (visit F.File file e.0)) }
 {
     match Store::open(file) {
-        Ok(store) => {
-            let header = StoreHeader {
-                geometry: store.geometry(),
-                depth: store.depth(),
-            };
-            (store.into_file(), Ok(header))
-        }
-        Err((file, error)) => (file, Err(refusal_of(name, flaw_of_store(error)))),
+        Ok(store) => Ok(store),
+        Err((file, error)) => Err((file, refusal_of(name, flaw_of_store(error)))),
     }
+}
+
+/// Reads the text of a journal, which may be any bytes.
+pub fn read_journal<'a, D: Folder>(
+    alloc: Global,
+    folder: &mut D,
+    name: &'a str,
+) -> Result<Vec<u8>, Refusal<'a>>
+    ensures { Reads (JournalInput name.now) (λ text. TextContent text.items) (passage D.Folder folder.old folder.new) result }
+{
+    let mut file = open_input(folder, name)?;
+    let text = read_whole(alloc, &mut file);
+    folder.close(file);
+    Ok(text?)
 }

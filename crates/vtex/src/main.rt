@@ -17,10 +17,12 @@ mod tests;
 use refusal::Refusal;
 use run::run;
 use std::alloc::Global;
+use std::fs::File;
 use std::io::ErrorKind;
 use std::process::ExitCode;
 use std::{env, io};
-use vt_outside::{OpenGate, RealFolder, RealSink};
+use vt_outside::{OpenGate, RealFile, RealFolder, RealSink};
+use vt_pass::StillMachine;
 
 // The words after the program's name.
 fn words_of(rt: &HostRuntime, alloc: Global) -> io::Result<Vec<String>> {
@@ -54,7 +56,7 @@ fn main(rt: HostRuntime) -> ExitCode {
     };
     let mut folder = RealFolder::new(&rt);
     let mut out = RealSink::new(rt.stdout());
-    let status = run(
+    let status = run::<StillMachine<RealFile<File>>, _, _, _, _, _>(
         &rt,
         alloc,
         words.as_slice(),

@@ -1,24 +1,16 @@
 //! Writing what the commands make.
 
-ghost use Rattle.std.specs.Prelude.{◌≡◌, ◌+◌, ◌≤◌, ◌++◌, [], ◌∷◌, length};
+ghost use Rattle.std.specs.Prelude.{◌≡◌, ◌+◌, ◌≤◌, ◌++◌, length};
 ghost use Rattle.vt_definitions.specs.Depths.{IsDepth};
 ghost use Rattle.vt_text.specs.Numbers.{number_spelling};
-ghost use Rattle.vtex.specs.Courses.{passage, gain};
-ghost use Rattle.vtex.specs.Dues.{Writes, Puts};
+ghost use Rattle.vt_files.specs.Courses.{gain};
+ghost use Rattle.vt_files.specs.Dues.{Puts};
 ghost use Rattle.vtex.specs.Lines.{end_line, store_line};
 
-use vt_outside::{Folder, OutsideError, Sink};
+use vt_outside::{OutsideError, Sink};
 use vt_pages::Geometry;
 use vt_print::{LINE_ROOM, Line, put_pieces};
 use vt_store::{StoreError, store_length};
-
-/// Makes the name hold these bytes, by one creation and one append.
-pub fn write_file<D: Folder>(folder: &mut D, name: &str, bytes: &[u8]) -> Result<(), OutsideError>
-    ensures { Writes ((record { name = name.now; bytes = bytes.now }) ∷ []) (passage D.Folder folder.old folder.new) result }
-{
-    folder.create(name)?;
-    folder.append(name, bytes)
-}
 
 /// What the outside refused, of a refusal of a call that writes a store.
 pub fn outside_error(error: StoreError) -> OutsideError

@@ -1,12 +1,13 @@
 //! How a command ends: its status, and its line on the error output.
 
 ghost use Rattle.std.specs.Prelude.{◌≡◌};
-ghost use Rattle.vtex.specs.Courses.{gain};
+ghost use Rattle.vt_files.specs.Courses.{gain};
+ghost use Rattle.vtex.specs.Lines.{frames_line, unfit_line};
 ghost use Rattle.vtex.specs.Refusals.{IsRefusalOf, cause_of, refusal_status, refusal_of_words, status_of, refusal_line, Told, EndTold};
 
 use crate::flaws::Flaw;
 use vt_outside::{OutsideError, Sink};
-use vt_print::tell_bad_input;
+use vt_print::{Place, tell_bad_input, tell_place};
 use vt_words::WordsError;
 
 /// Why a command was refused.
@@ -20,6 +21,17 @@ pub enum Refusal<'a> {
     Fault,
     /// The input of this name has this flaw.
     Flawed(&'a str, Flaw),
+    /// There are fewer frames than pinned pages.
+    TooFewFrames {
+        frames: u32,
+        needed: u32,
+    },
+    /// The picture wants more pages than there is room for.
+    DoesNotFit {
+        picture: u32,
+        wanted: u32,
+        room: u32,
+    },
 }
 
 impl From<OutsideError> for Refusal<'_> {
@@ -64,6 +76,8 @@ impl Refusal<'_> {
             Refusal::Usage => 2,
             Refusal::Fault => 3,
             Refusal::Flawed(_, _) => 4,
+            Refusal::TooFewFrames { .. } => 5,
+            Refusal::DoesNotFit { .. } => 5,
         }
     }
 
@@ -79,8 +93,42 @@ impl Refusal<'_> {
             ),
             Refusal::Fault => tell_words(err, b"vtex: fault on files or output\n"),
             Refusal::Flawed(name, flaw) => tell_bad_input(err, name, &flaw.place()),
+            Refusal::TooFewFrames { frames, needed } => tell_frames(err, *frames, *needed),
+            Refusal::DoesNotFit {
+                picture,
+                wanted,
+                room,
+            } => tell_unfit(err, *picture, *wanted, *room),
         }
     }
+}
+
+// Puts the line of too few frames.
+fn tell_frames<E: Sink>(err: &mut E, frames: u32, needed: u32)
+    ensures { Told (frames_line frames needed) (gain E.Sink err.old err.new) }
+{
+    let place = Place::two_numbers(
+        b"",
+        frames as u64,
+        b" frames, pinned pages need ",
+        needed as u64,
+    );
+    tell_place(err, &place);
+}
+
+// Puts the line of a picture that does not fit.
+fn tell_unfit<E: Sink>(err: &mut E, picture: u32, wanted: u32, room: u32)
+    ensures { Told (unfit_line picture wanted room) (gain E.Sink err.old err.new) }
+{
+    let place = Place::three_numbers(
+        b"picture ",
+        picture as u64,
+        b" wants ",
+        wanted as u64,
+        b" pages, room for ",
+        room as u64,
+    );
+    tell_place(err, &place);
 }
 
 // Puts a line that has no name and no number.

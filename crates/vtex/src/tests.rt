@@ -1,14 +1,17 @@
 // Runs over a folder in memory: those of `plain`, and what all tests share.
 mod generate;
+mod replays;
 mod stores;
 mod textures;
+mod walks;
 
 use crate::run::run;
 use std::alloc::{AllocError, Global};
 use std::sync::Wait;
 use std::test::*;
 use std::thread::Threads;
-use vt_outside::{Fail, Fails, MemoryFolder, MemorySink, NoMemory, OpenGate};
+use vt_outside::{Fail, Fails, MemoryFile, MemoryFolder, MemorySink, NoMemory, OpenGate};
+use vt_pass::StillMachine;
 
 // A texture of 4x4 texels; red, green and blue of texel (x, y) are all 4y+x.
 const G4: &[u8] =
@@ -102,7 +105,7 @@ fn play_over(
     let mut out = MemorySink::new(alloc, one_fail(alloc, fail)?);
     let mut err = MemorySink::new(alloc, one_fail(alloc, err_fail)?);
     let words = texts(alloc, words)?;
-    let status = run(
+    let status = run::<StillMachine<MemoryFile>, _, _, _, _, _>(
         rt,
         alloc,
         words.as_slice(),

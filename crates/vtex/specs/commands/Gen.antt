@@ -3,9 +3,9 @@ use Rattle.std.specs.Prelude.{ℕ, ◌+◌, ◌*◌, ◌%◌, List, [], ◌∷�
 use Rattle.std.specs.List.{flat_map, range_with_len}
 use Rattle.vt_ppm.specs.Picture.{picture_bytes}
 use Rattle.vt_words.specs.Gen.{GenText}
-use Rattle.vtex.specs.Courses.{Passage, Course, SinkState}
+use Rattle.vt_files.specs.Courses.{Passage, Course, SinkState}
 use Rattle.vtex.specs.Inputs.{Content}
-use Rattle.vtex.specs.Dues.{FileDue, Due}
+use Rattle.vt_files.specs.Dues.{FileDue, Due}
 use Rattle.vtex.specs.Tasks.{Task}
 
 -- the samples of the texel in a column and a row, each a remainder of 256

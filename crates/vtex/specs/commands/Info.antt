@@ -3,7 +3,7 @@ use Rattle.std.specs.Prelude.{List, [], ◌∷◌}
 use Rattle.vt_words.specs.Info.{InfoText}
 use Rattle.vtex.specs.Lines.{store_line}
 use Rattle.vtex.specs.Inputs.{Content, StoreInput, StoreContent}
-use Rattle.vtex.specs.Dues.{Due}
+use Rattle.vt_files.specs.Dues.{Due}
 use Rattle.vtex.specs.Tasks.{Task}
 
 -- the store's line alone

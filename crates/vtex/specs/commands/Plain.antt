@@ -1,23 +1,14 @@
 -- The command `plain`: the plain picture of each camera of a path over a texture.
-use Rattle.std.specs.Prelude.{ℕ, List, [], ◌∷◌, length, map}
-use Rattle.std.specs.List.{range_with_len}
+use Rattle.std.specs.Prelude.{ℕ, List, [], ◌∷◌, length}
 use Rattle.vt_ppm.specs.Image.{ImageView}
 use Rattle.vt_camera.specs.Paths.{PathView}
 use Rattle.vt_words.specs.Plain.{PlainText}
-use Rattle.vt_words.specs.Names.{picture_name}
 use Rattle.vtex.specs.Lines.{end_line}
 use Rattle.vtex.specs.Pictures.{plain_file}
 use Rattle.vtex.specs.Inputs.{Content, PathInput, TextureInput, PathContent, TextureContent}
-use Rattle.vtex.specs.Dues.{FileDue, Due}
+use Rattle.vt_files.specs.Dues.{Due}
+use Rattle.vt_files.specs.Pictures.{pictures_due}
 use Rattle.vtex.specs.Tasks.{Task}
-
--- a picture of a number, under its name
-abbrev pub picture_due : List ℕ → (ℕ → List ℕ) → ℕ → FileDue
-picture_due prefix file picture = record { name = picture_name prefix picture; bytes = file picture }
-
--- so many pictures from the first on
-abbrev pub pictures_due : List ℕ → (ℕ → List ℕ) → ℕ → List FileDue
-pictures_due prefix file count = map (picture_due prefix file) (range_with_len 0 count)
 
 -- the pictures of a path over a texture, and the end line
 abbrev pub path_due : List ℕ → ImageView → ℕ → PathView → Due

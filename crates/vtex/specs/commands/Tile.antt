@@ -9,7 +9,7 @@ use Rattle.vt_store.specs.ChainStores.{texture_store}
 use Rattle.vt_words.specs.Tile.{TileText}
 use Rattle.vtex.specs.Lines.{store_line}
 use Rattle.vtex.specs.Inputs.{Content, TiledTexture, TextureContent, texture_shape}
-use Rattle.vtex.specs.Dues.{Due}
+use Rattle.vt_files.specs.Dues.{Due}
 use Rattle.vtex.specs.Tasks.{Task}
 use Rattle.vtex.specs.declared.flaws.Flaw.{Flaw}
 use Rattle.vtex.specs.declared.flaws.Flaw.TheVariants.{TooManyPages, BadSize}

@@ -1,20 +1,19 @@
 -- The command `upgrade`: the store of two-byte samples that is made of one of one-byte samples.
-use Rattle.std.specs.Prelude.{◌≡◌, ◌⊎◌, ℕ, ◌≤◌, List, [], ◌∷◌, ◌++◌, option_map, is_some, Result, Err, OnOk, OnErr, OnSome}
+use Rattle.std.specs.Prelude.{◌≡◌, ◌⊎◌, ℕ, ◌≤◌, List, [], ◌∷◌, ◌++◌, option_map, Result, Err, OnOk, OnErr}
 use Rattle.vt_outside.specs.Counts.{Rose}
-use Rattle.vt_outside.specs.Files.{bytes_at, with_places}
+use Rattle.vt_outside.specs.Files.{with_places}
 use Rattle.vt_outside.specs.declared.place.Place.{Place}
 use Rattle.vt_outside.specs.declared.answers.OutsideError.{OutsideError}
 use Rattle.vt_outside.specs.declared.answers.OutsideError.TheVariants.{Failed}
 use Rattle.vt_pages.specs.Shape.{Shape}
 use Rattle.vt_store.specs.Format.{store_bytes, stored}
-use Rattle.vt_store.specs.StoreViews.{IsStoreIfTold}
 use Rattle.vt_store.specs.Widening.{widened, HoldsWidened, HoldsFront}
 use Rattle.vt_words.specs.Upgrade.{UpgradeText}
-use Rattle.vtex.specs.Courses.{Passage}
+use Rattle.vt_files.specs.Courses.{Passage}
 use Rattle.vtex.specs.Lines.{store_line}
-use Rattle.vtex.specs.Inputs.{Content, NarrowStore, NarrowContent, ArePieces, header_places}
+use Rattle.vtex.specs.Inputs.{Content, NarrowStore, NarrowContent, ArePieces}
 use Rattle.vtex.specs.Reads.{FileState}
-use Rattle.vtex.specs.Dues.{Due}
+use Rattle.vt_files.specs.Dues.{Due}
 use Rattle.vtex.specs.Tasks.{Task}
 
 -- the store of the same pages whose samples are 257 times those of the bytes of a store of one-byte samples
@@ -35,18 +34,6 @@ upgrade_due words other = record { files = []; text = [] }
 -- `upgrade` reads a store that is to have samples of one byte
 abbrev pub upgrade_task : UpgradeText → Task
 upgrade_task words = record { inputs = NarrowStore words.store ∷ []; due = upgrade_due words }
-
--- the store of a name was opened: its header was read of its file, and the folder is as before
-pub record OpensStore (name : List ℕ) (shape : Shape) (depth : ℕ) (file : FileState) (p : Passage) : Type 0 where
-  pub narrow : depth ≡ 1
-  pub is : IsStoreIfTold file.bytes shape depth
-  pub bytes : file.bytes ≡ bytes_at p.before.files name
-  pub tells : is_some file.bytes ≡ is_some p.before.files
-  pub asked : file.asked ≡ option_map (λ _. header_places) p.before.asked
-  pub name_is : OnSome p.before.asked (file.name ≡ name)
-  pub files : p.after.files ≡ p.before.files
-  pub no_places : p.after.asked ≡ p.before.asked
-  pub faults : p.before.faults ≤ p.after.faults
 
 -- the name came to hold the widened store of an open file, or a front part of it; the file was asked for its pieces, and closed
 pub record WritesWide (file : FileState) (shape : Shape) (name : List ℕ) (p : Passage) (result : Result (Unit {0}) OutsideError) : Type 0 where

@@ -3,8 +3,8 @@
 ghost use Rattle.std.specs.Prelude.{◌≡◌, ◌+◌, ◌*◌, ◌%◌, ◌<◌, ◌≤◌, ◌++◌, ◌∷◌, [], length, take, IfOk, codes, decimal};
 ghost use Rattle.vt_definitions.specs.Limits.{most_read_side};
 ghost use Rattle.vt_words.specs.Gen.{IsLawfulGen, most_number, shown_gen};
-ghost use Rattle.vtex.specs.Courses.{SinkState, passage};
-ghost use Rattle.vtex.specs.Dues.{Writes};
+ghost use Rattle.vt_files.specs.Courses.{SinkState, passage};
+ghost use Rattle.vt_files.specs.Dues.{Writes};
 ghost use Rattle.vtex.specs.Tasks.{Ends};
 ghost use Rattle.vtex.specs.commands.Gen.{made_texel, made_row, file_due, gen_task, quiet};
 

@@ -1,7 +1,7 @@
 //! The command `info`: what the header of a tile store tells.
 
 ghost use Rattle.std.specs.Prelude.{◌≡◌};
-ghost use Rattle.vtex.specs.Courses.{course};
+ghost use Rattle.vt_files.specs.Courses.{course};
 ghost use Rattle.vt_words.specs.Info.{shown_info};
 ghost use Rattle.vtex.specs.Tasks.{Ends};
 ghost use Rattle.vtex.specs.commands.Info.{info_task};

@@ -3,20 +3,22 @@
 ghost use Rattle.std.specs.Prelude.{◌≡◌, ◌*◌, ◌<◌, [], ◌∷◌, length, IfOk};
 ghost use Rattle.vt_definitions.specs.Depths.{IsDepth, texel_length};
 ghost use Rattle.vt_definitions.specs.Tiles.{IsTileSide};
-ghost use Rattle.vtex.specs.Courses.{course, passage};
+ghost use Rattle.vt_files.specs.Courses.{course, passage};
 ghost use Rattle.vt_ppm.specs.Picture.{picture_bytes};
 ghost use Rattle.vt_words.specs.Plain.{shown_plain};
 ghost use Rattle.vtex.specs.Pictures.{plain_file};
-ghost use Rattle.vtex.specs.Dues.{Leaves, Writes};
+ghost use Rattle.vt_files.specs.Dues.{Leaves, Writes};
 ghost use Rattle.vtex.specs.Tasks.{Ends};
-ghost use Rattle.vtex.specs.commands.Plain.{plain_task, picture_due, pictures_due, path_due};
+ghost use Rattle.vt_files.specs.Pictures.{picture_due, pictures_due};
+ghost use Rattle.vtex.specs.commands.Plain.{plain_task, path_due};
 
 use crate::input::{read_path, read_texture};
-use crate::output::{put_end, write_file};
+use crate::output::put_end;
 use crate::refusal::Refusal;
 use std::alloc::Global;
 use vt_camera::Path;
 use vt_draw::draw_plain;
+use vt_files::write_file;
 use vt_mip::Chain;
 use vt_outside::{Folder, NoMemory, OutsideError, Sink};
 use vt_ppm::{Image, encode, encode_wide};

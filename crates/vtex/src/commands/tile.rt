@@ -3,10 +3,10 @@
 ghost use Rattle.std.specs.Prelude.{◌≡◌, [], ◌∷◌, None, IfOk, IfErr};
 ghost use Rattle.vt_definitions.specs.Tiles.{IsTileSide};
 ghost use Rattle.vt_pages.specs.Pages.{refusal_of};
-ghost use Rattle.vtex.specs.Courses.{course, passage};
+ghost use Rattle.vt_files.specs.Courses.{course, passage};
 ghost use Rattle.vt_words.specs.Tile.{shown_tile};
 ghost use Rattle.vtex.specs.Inputs.{texture_shape};
-ghost use Rattle.vtex.specs.Dues.{Leaves, Writes};
+ghost use Rattle.vt_files.specs.Dues.{Leaves, Writes};
 ghost use Rattle.vtex.specs.Tasks.{Ends};
 ghost use Rattle.vtex.specs.commands.Tile.{tile_task, store_due, flaw_of_pages, IsTooMany};
 

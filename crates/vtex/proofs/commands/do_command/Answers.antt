@@ -3,11 +3,12 @@ use Rattle.std.specs.Prelude.{IsNone}
 use Rattle.std.proofs.lemmas.Result.{err_from_is_err_and}
 use Rattle.vt_words.specs.Arguments.{texts}
 use Rattle.vt_words.specs.Commands.{CommandText, shown, command_text}
-use Rattle.vtex.specs.Courses.{course}
+use Rattle.vt_files.specs.Courses.{course}
 use Rattle.vt_words.specs.declared.arguments.WordsError.{WordsError}
 use Rattle.vt_words.specs.declared.arguments.WordsError.TheVariants as words
 use Rattle.vtex.specs.commands.{IsUnread}
 use Rattle.vtex.specs.Refusals.{refusal_of_words}
+use Rattle.vtex.specs.Machines.{drawing_of}
 use Rattle.vtex.proofs.Clauses.{runs_command}
 use Rattle.vtex.proofs.commands.do_command.Goals as goal
 
@@ -25,5 +26,5 @@ returns-in_err-command g c =
 
 pub returns : goal.returns
 returns g c =
-    runs_command _ (texts c.args.words.now) (course g.D.Folder g.O.Sink c.args.folder.now c.perform.new.folder c.args.out.now c.perform.new.out)
+    runs_command (drawing_of g.M.PassMachine.DEALT g.M.PassMachine.needs g.M.PassMachine.shows g.M.PassMachine.whole g.M.PassMachine.drawn) _ (texts c.args.words.now) (course g.D.Folder g.O.Sink c.args.folder.now c.perform.new.folder c.args.out.now c.perform.new.out)
     c.perform.result (shown c.in_ok-command.command) c.in_ok-command.ensures.read c.perform.ensures

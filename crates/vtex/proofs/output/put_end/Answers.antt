@@ -1,7 +1,7 @@
 use Rattle.std.proofs.Common.{◌≡◌, ℕ, List, [], ◌++◌, ap, ◌∙◌}
 use Rattle.std.specs.Prelude.{codes}
 use Rattle.vt_text.specs.Numbers.{number_spelling}
-use Rattle.vtex.specs.Courses.{gain}
+use Rattle.vt_files.specs.Courses.{gain}
 use Rattle.vtex.specs.Lines.{end_line}
 use Rattle.vtex.proofs.Drawing.{three_pieces, pieces_put}
 use Rattle.vtex.proofs.output.put_end.Goals as goal

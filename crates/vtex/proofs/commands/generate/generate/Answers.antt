@@ -4,7 +4,7 @@ use Rattle.std.proofs.lemmas.List.{append-nil}
 use Rattle.std.proofs.lemmas.Result.{err_from_is_err_and}
 use Rattle.vt_outside.specs.Files.{gained}
 use Rattle.vt_words.specs.Gen.{shown_gen}
-use Rattle.vtex.specs.Courses.{folder_state}
+use Rattle.vt_files.specs.Courses.{folder_state}
 use Rattle.vtex.specs.commands.Gen.{gen_due, gen_task}
 use Rattle.vtex.proofs.Ending.{read_none, ends_done, ends_stopped}
 use Rattle.vtex.proofs.Leaving.{left_writing, left_putting}

@@ -1,9 +1,9 @@
 use Rattle.std.proofs.Common.{◌<◌, [], Err, ap, ◌∙◌, inr, arith}
 use Rattle.std.proofs.lemmas.Result.{err_from_is_err_and}
-use Rattle.vtex.specs.Courses.{folder_state}
+use Rattle.vt_files.specs.Courses.{folder_state}
 use Rattle.vtex.specs.commands.Gen.{made_file}
-use Rattle.vtex.proofs.Counting.{rose_later}
-use Rattle.vtex.proofs.Writing.{unwritten, file_stopped, is_there}
+use Rattle.vt_files.proofs.Counting.{rose_later}
+use Rattle.vt_files.proofs.Writing.{unwritten, file_stopped, is_there}
 use Rattle.vtex.proofs.Making.{made_front, header_is, header_whole, header_part, row_whole, row_part}
 use Rattle.vtex.proofs.commands.generate.write_texture.Goals as goal
 

@@ -1,6 +1,6 @@
 use Rattle.std.proofs.Common.{[], ◌∷◌, Ok, Err, refl}
 use Rattle.std.proofs.lemmas.Result.{err_from_is_err_and}
-use Rattle.vtex.specs.Courses.{folder_state, sink_state}
+use Rattle.vt_files.specs.Courses.{folder_state, sink_state}
 use Rattle.vtex.specs.Lines.{store_line}
 use Rattle.vtex.specs.Inputs.{StoreInput, StoreContent}
 use Rattle.vt_words.specs.Info.{shown_info}

@@ -1,11 +1,12 @@
 use Rattle.std.proofs.Common.{ℕ, Ok, Err, subst, length}
 use Rattle.std.proofs.lemmas.Result.{err_from_is_err_and}
 use Rattle.vt_mip.specs.Chains.{ChainView}
-use Rattle.vtex.specs.Courses.{folder_state, sink_state, passage, gain}
+use Rattle.vt_files.specs.Courses.{folder_state, sink_state, passage, gain}
 use Rattle.vtex.specs.Lines.{end_line}
 use Rattle.vtex.specs.Pictures.{plain_file}
-use Rattle.vtex.specs.Dues.{Writes, Puts}
-use Rattle.vtex.specs.commands.Plain.{pictures_due, path_due}
+use Rattle.vt_files.specs.Dues.{Writes, Puts}
+use Rattle.vt_files.specs.Pictures.{pictures_due}
+use Rattle.vtex.specs.commands.Plain.{path_due}
 use Rattle.vtex.proofs.Leaving.{unleft, left_writing, left_putting}
 use Rattle.vtex.proofs.commands.plain.leave_pictures.Goals as goal
 

@@ -1,6 +1,6 @@
 use Rattle.std.proofs.Common.{[], ◌∷◌, refl}
 use Rattle.std.proofs.lemmas.Result.{err_from_is_err_and}
-use Rattle.vtex.specs.Courses.{folder_state, sink_state}
+use Rattle.vt_files.specs.Courses.{folder_state, sink_state}
 use Rattle.vtex.specs.Inputs.{PathInput, TextureInput, PathContent, TextureContent}
 use Rattle.vt_words.specs.Plain.{shown_plain}
 use Rattle.vtex.specs.commands.Plain.{plain_task}

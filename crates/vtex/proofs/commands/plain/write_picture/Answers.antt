@@ -1,10 +1,10 @@
 use Rattle.std.proofs.Common.{◌≡◌, ◌∙◌}
 use Rattle.std.proofs.lemmas.Result.{err_from_is_err_and}
-use Rattle.vtex.specs.Courses.{folder_state, passage}
+use Rattle.vt_files.specs.Courses.{folder_state, passage}
 use Rattle.vt_words.specs.Names.{picture_name}
 use Rattle.vtex.specs.Pictures.{plain_file}
 use Rattle.vtex.proofs.Drawing.{file_is}
-use Rattle.vtex.proofs.Writing.{unwritten, written_as}
+use Rattle.vt_files.proofs.Writing.{unwritten, written_as}
 use Rattle.vtex.proofs.commands.plain.write_picture.Goals as goal
 
 pub returns-in_err-samples : goal.returns-in_err-samples

@@ -1,11 +1,11 @@
 use Rattle.std.proofs.Common.{◌≡◌, ◌<◌, ℕ, ap, ◌∙◌, length, arith}
 use Rattle.std.specs.Option.{option_map}
 use Rattle.std.proofs.lemmas.Result.{err_from_is_err_and}
-use Rattle.vtex.specs.Courses.{folder_state}
+use Rattle.vt_files.specs.Courses.{folder_state}
 use Rattle.vtex.specs.Pictures.{plain_file}
-use Rattle.vtex.specs.Dues.{with_files}
-use Rattle.vtex.specs.commands.Plain.{pictures_due}
-use Rattle.vtex.proofs.Writing.{no_pictures, more_pictures, stopped_pictures}
+use Rattle.vt_files.specs.Dues.{with_files}
+use Rattle.vt_files.specs.Pictures.{pictures_due}
+use Rattle.vt_files.proofs.Writing.{no_pictures, more_pictures, stopped_pictures}
 use Rattle.vtex.proofs.commands.plain.write_pictures.Goals as goal
 
 pub loop-picture-init : goal.loop-picture-init

@@ -1,6 +1,6 @@
-use Rattle.vtex.specs.Courses.{folder_state}
+use Rattle.vt_files.specs.Courses.{folder_state}
 use Rattle.vtex.specs.Pictures.{plain_file}
-use Rattle.vtex.proofs.Writing.{HasPictures}
+use Rattle.vt_files.proofs.Writing.{HasPictures}
 use Rattle.vtex.proofs.commands.plain.write_pictures.Given as goal
 
 -- the pictures so far are written

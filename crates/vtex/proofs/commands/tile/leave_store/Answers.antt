@@ -1,10 +1,10 @@
 use Rattle.std.proofs.Common.{ℕ, subst}
 use Rattle.std.proofs.lemmas.Result.{err_from_is_err_and}
 use Rattle.vt_pages.specs.Shape.{Shape}
-use Rattle.vtex.specs.Courses.{folder_state, sink_state, gain}
+use Rattle.vt_files.specs.Courses.{folder_state, sink_state, gain}
 use Rattle.vtex.specs.Inputs.{texture_shape}
 use Rattle.vtex.specs.Lines.{store_line}
-use Rattle.vtex.specs.Dues.{Puts}
+use Rattle.vt_files.specs.Dues.{Puts}
 use Rattle.vtex.specs.commands.Tile.{store_due}
 use Rattle.vtex.proofs.Leaving.{left_writing, left_putting}
 use Rattle.vtex.proofs.commands.tile.leave_store.Goals as goal

@@ -1,9 +1,9 @@
 use Rattle.std.proofs.Common.{[], ◌∷◌, ℕ, Ok, Err, refl, subst, ap}
 use Rattle.std.proofs.lemmas.Result.{err_from_is_err_and}
 use Rattle.vt_pages.specs.Shape.{Shape}
-use Rattle.vtex.specs.Courses.{folder_state, sink_state, passage, course}
+use Rattle.vt_files.specs.Courses.{folder_state, sink_state, passage, course}
 use Rattle.vtex.specs.Inputs.{TiledTexture, TextureContent}
-use Rattle.vtex.specs.Dues.{Leaves}
+use Rattle.vt_files.specs.Dues.{Leaves}
 use Rattle.vt_words.specs.Tile.{shown_tile}
 use Rattle.vtex.specs.commands.Tile.{tile_task, store_due}
 use Rattle.vtex.proofs.Ending.{read_none, read_more, ends_refused, ends_done, ends_stopped}

@@ -2,9 +2,9 @@ use Rattle.std.proofs.Common.{◌≡◌, ◌⊎◌, ℕ, List, take, Err, ap, su
 use Rattle.std.specs.Option.{option_map}
 use Rattle.std.proofs.lemmas.Result.{err_from_is_err_and}
 use Rattle.vt_outside.specs.Files.{with_bytes}
-use Rattle.vtex.specs.Courses.{folder_state}
+use Rattle.vt_files.specs.Courses.{folder_state}
 use Rattle.vtex.specs.commands.Tile.{store_file}
-use Rattle.vtex.proofs.Writing.{unwritten, file_written, file_stopped}
+use Rattle.vt_files.proofs.Writing.{unwritten, file_written, file_stopped}
 use Rattle.vtex.proofs.Tiling.{store_is}
 use Rattle.vtex.proofs.commands.tile.write_tiles.Goals as goal
 

@@ -3,11 +3,11 @@ use Rattle.std.specs.Option.{unwrap_or}
 use Rattle.std.proofs.lemmas.Result.{err_from_is_err_and}
 use Rattle.vt_pages.specs.Shape.{Shape}
 use Rattle.vt_words.specs.Upgrade.{shown_upgrade}
-use Rattle.vtex.specs.Courses.{folder_state, sink_state, gain}
+use Rattle.vt_files.specs.Courses.{folder_state, sink_state, gain}
 use Rattle.vtex.specs.Lines.{store_line}
 use Rattle.vtex.specs.Inputs.{NarrowStore, NarrowContent}
 use Rattle.vtex.specs.Reads.{file_state}
-use Rattle.vtex.specs.Dues.{Puts}
+use Rattle.vt_files.specs.Dues.{Puts}
 use Rattle.vtex.specs.commands.Upgrade.{upgrade_task, wide_due}
 use Rattle.vtex.proofs.Ending.{read_none, read_more, ends_refused, ends_done, ends_stopped}
 use Rattle.vtex.proofs.Leaving.{left_writing, left_putting}
@@ -35,10 +35,11 @@ returns-in_err-write_wide g c =
     let out = sink_state g.O.Sink c.args.out.now in
     let error = c.in_err-write_wide.field-0.0 in
     let o = c.in_ok-store.ensures.opens in
+    let narrow = c.in_ok-store.ensures.narrow in
     let w = c.in_err-write_wide.ensures in
     rw (p.1, p.2) (ends_stopped (upgrade_task words) (NarrowContent store.shape bytes ∷ []) before (read_first before after) after out out error
     (read_more [] [] (NarrowStore words.store) (NarrowContent store.shape bytes) before before (read_first before after) (read_none before)
-    (store_took words.store words.new_store store.shape store.depth file before opened after (Err error) o w))
+    (store_took words.store words.new_store store.shape store.depth file before opened after (Err error) narrow o w))
     (left_writing (wide_due words.new_store store.shape bytes) (read_first before after) after out error
     (new_stopped words.store words.new_store store.shape store.depth file before opened after error o w)))
 
@@ -56,12 +57,13 @@ returns-in_err-put_store_line g c =
     let shown = sink_state g.O.Sink c.put_store_line.new.out in
     let error = c.in_err-put_store_line.field-0.0 in
     let o = c.in_ok-store.ensures.opens in
+    let narrow = c.in_ok-store.ensures.narrow in
     let w = c.in_ok-write_wide.ensures in
     let puts = subst (λ (s : Shape). Puts {T = Unit {0}} (store_line s 2) (gain g.O.Sink c.args.out.now c.put_store_line.new.out) (Err error))
     c.geometry-geometry.ensures.shape c.in_err-put_store_line.ensures in
     rw (p.1, p.2) (ends_stopped (upgrade_task words) (NarrowContent store.shape bytes ∷ []) before (read_first before after) after out shown error
     (read_more [] [] (NarrowStore words.store) (NarrowContent store.shape bytes) before before (read_first before after) (read_none before)
-    (store_took words.store words.new_store store.shape store.depth file before opened after (Ok tt) o w))
+    (store_took words.store words.new_store store.shape store.depth file before opened after (Ok tt) narrow o w))
     (left_putting (wide_due words.new_store store.shape bytes) (read_first before after) after out shown (Err error)
     (new_written words.store words.new_store store.shape store.depth file before opened after o w) puts))
 
@@ -77,11 +79,12 @@ returns g c =
     let out = sink_state g.O.Sink c.args.out.now in
     let shown = sink_state g.O.Sink c.put_store_line.new.out in
     let o = c.in_ok-store.ensures.opens in
+    let narrow = c.in_ok-store.ensures.narrow in
     let w = c.in_ok-write_wide.ensures in
     let puts = subst (λ (s : Shape). Puts {T = Unit {0}} (store_line s 2) (gain g.O.Sink c.args.out.now c.put_store_line.new.out) (Ok tt))
     c.geometry-geometry.ensures.shape c.in_ok-put_store_line.ensures in
     ends_done (upgrade_task words) (NarrowContent store.shape bytes ∷ []) before (read_first before after) after out shown
     (read_more [] [] (NarrowStore words.store) (NarrowContent store.shape bytes) before before (read_first before after) (read_none before)
-    (store_took words.store words.new_store store.shape store.depth file before opened after (Ok tt) o w))
+    (store_took words.store words.new_store store.shape store.depth file before opened after (Ok tt) narrow o w))
     (left_putting (wide_due words.new_store store.shape bytes) (read_first before after) after out shown (Ok tt)
     (new_written words.store words.new_store store.shape store.depth file before opened after o w) puts)

@@ -1,7 +1,6 @@
 use Rattle.std.proofs.Common.{Err, ap}
-use Rattle.vtex.specs.Courses.{folder_state}
-use Rattle.vtex.specs.Reads.{file_state}
-use Rattle.vtex.proofs.Reading.{Closed}
+use Rattle.vt_files.specs.Courses.{folder_state}
+use Rattle.vtex.specs.Reads.{file_state, Closed}
 use Rattle.vtex.proofs.Upgrading.{wide_written, wide_stopped}
 use Rattle.vtex.proofs.commands.upgrade.write_wide.Goals as goal
 
@@ -12,9 +11,9 @@ returns-in-Ok g c =
     let after = folder_state g.D.Folder c.close.new.self in
     let old = file_state g.D.File.File c.args.store.file in
     let new = file_state g.D.File.File c.widen_store-written.new.store.file in
-    let shut : Closed mid after (file_state g.D.File.File c.into_file.result) =
+    let shut : Closed (file_state g.D.File.File c.into_file.result) (record { before = mid; after = after }) =
     record { files = c.close.ensures.files; asked = c.close.ensures.asked; kept = c.close.ensures.kept; faults = c.close.ensures.faults } in
-    let closed : Closed mid after new = rw c.into_file.ensures at shut in
+    let closed : Closed new (record { before = mid; after = after }) = rw c.into_file.ensures at shut in
     wide_written c.args.store.shape c.args.name.now (folder_state g.D.Folder c.args.folder.now) mid after old new
     e.whole e.all_read e.name e.asked e.faults closed
 
@@ -25,8 +24,8 @@ returns-in-Err g c =
     let after = folder_state g.D.Folder c.close.new.self in
     let old = file_state g.D.File.File c.args.store.file in
     let new = file_state g.D.File.File c.widen_store-written.new.store.file in
-    let shut : Closed mid after (file_state g.D.File.File c.into_file.result) =
+    let shut : Closed (file_state g.D.File.File c.into_file.result) (record { before = mid; after = after }) =
     record { files = c.close.ensures.files; asked = c.close.ensures.asked; kept = c.close.ensures.kept; faults = c.close.ensures.faults } in
-    let closed : Closed mid after new = rw c.into_file.ensures at shut in
+    let closed : Closed new (record { before = mid; after = after }) = rw c.into_file.ensures at shut in
     wide_stopped c.args.store.shape c.args.name.now (folder_state g.D.Folder c.args.folder.now) mid after old new c.outside_error.result
     e.part e.front_read (λ is. e.failed (ap Err (c.outside_error.ensures is))) e.name e.asked e.faults closed

@@ -11,3 +11,9 @@ returns-in-Fault g c = rw c.in-Fault.is c.tell_words-in-Fault.ensures
 
 pub returns-in-Flawed : goal.returns-in-Flawed
 returns-in-Flawed g c = rw (c.in-Flawed.is, ← c.place.ensures) c.tell_bad_input.ensures
+
+pub returns-in-TooFewFrames : goal.returns-in-TooFewFrames
+returns-in-TooFewFrames g c = rw c.in-TooFewFrames.is c.tell_frames.ensures
+
+pub returns-in-DoesNotFit : goal.returns-in-DoesNotFit
+returns-in-DoesNotFit g c = rw c.in-DoesNotFit.is c.tell_unfit.ensures
