@@ -306,5 +306,154 @@ done
 "$program" plain g4.ppm a.path h --tile 2 > /dev/full 2> err; status=$?
 [ "$status" -eq 3 ] && cmp -s f0000.ppm h0000.ppm; say $? "an output that takes nothing"
 
+# The rows that were worked by hand, by the independent program alone.
+$reference rows; say $? "worked rows"
+
+# A walk of the program over a store, by its words: it ends with status 0, and the reference finds nothing wrong with what it leaves.
+walk_of() {
+  local what=$1 store=$2 path=$3 prefix=$4; shift 4
+  "$program" walk "$store" "$path" "$prefix" --journal "$prefix.txt" "$@" > "$prefix.log" 2> "$prefix.err"; status=$?
+  [ "$status" -eq 0 ] && [ ! -s "$prefix.err" ]; say $? "$what: status and errors"
+  found=$($reference judge "$store" "$path" "$prefix" "$prefix.txt" "$prefix.log" --status "$status" --error "$prefix.err" "$@" 2>&1)
+  say $? "$what: ${found//$'\n'/; }"
+}
+
+# The pictures of two prefixes are the same, and as many.
+same_pictures() {
+  [ "$(ls "$1"[0-9][0-9][0-9][0-9].ppm | wc -l)" -eq "$(ls "$2"[0-9][0-9][0-9][0-9].ppm | wc -l)" ] || return 1
+  for picture in "$1"[0-9][0-9][0-9][0-9].ppm; do cmp -s "$picture" "$2${picture#"$1"}" || return 1; done
+}
+
+# The settled and the live walk over a texture that the program tiles: the settled pictures are the plain ones, and pictures and log those
+# of the reference, whatever the crew.
+walks_over() {
+  local what=$1 texture=$2 tile=$3 path=$4; shift 4
+  "$program" tile "$texture" walk.vts --tile "$tile" > /dev/null
+  walk_of "live walk of $what, $*" walk.vts "$path" live "$@"
+  walk_of "settled walk of $what, $*" walk.vts "$path" settled "$@" --settled
+  "$program" plain "$texture" "$path" plain --tile "$tile" > /dev/null && same_pictures plain settled; say $? "$what, $*: settled pictures are plain"
+  $reference walk walk.vts "$path" want want.txt "$@" --settled > want.log
+  cmp -s want.log settled.log && same_pictures want settled; say $? "$what, $*: settled pictures and log"
+  $reference walk walk.vts "$path" want still.txt "$@" > want.log
+  cmp -s want.log live.log; say $? "$what, $*: live log"
+  # A machine that draws before it loads, with one loader, leaves no choice.
+  case " $* " in *" --loaders 1 "*) cmp -s want.txt settled.txt && cmp -s still.txt live.txt; say $? "$what, $*: journals";; esac
+  if has replay; then
+    replay_of "live walk of $what, $*" walk.vts "$path" live
+    replay_of "settled walk of $what, $*" walk.vts "$path" settled
+  fi
+  rm -f {live,settled,plain,want}[0-9][0-9][0-9][0-9].ppm
+}
+
+# The replay of a walk's journal gives the walk's pictures.
+replay_of() {
+  printed=$("$program" replay "$2" "$3" "$4.txt" again 2> err); status=$?
+  [ "$status" -eq 0 ] && [ ! -s err ] && [ "$printed" = "end pictures $(ls "$4"[0-9][0-9][0-9][0-9].ppm | wc -l)" ] && same_pictures "$4" again
+  say $? "replay of the $1"
+  rm -f again[0-9][0-9][0-9][0-9].ppm
+}
+
+check_walk() {
+  printf 'size 40 30\nfocal 30\nat 300 -5000 20480 -3000 16000\nto 5 9000 9000 9000 16384 0\nat 5 5 4096 0 16384\nto 3 99 9 40000 11585 -11585\n' > walk.path
+  $reference make 200 119 4 walk.ppm; $reference make 130 257 5 wide.ppm 65535; $reference make 5 3 6 small.ppm
+  walks_over "an odd texture" walk.ppm 16 walk.path --frames 200
+  walks_over "an odd texture" walk.ppm 8 walk.path --frames 400 --samplers 7 --loaders 3 --batch 5
+  walks_over "an odd texture" walk.ppm 16 walk.path --frames 130 --samplers 1 --loaders 1 --batch 64 --pinned 2
+  walks_over "an odd texture" walk.ppm 16 walk.path --frames 150 --samplers 64 --loaders 16 --batch 1 --pinned 16
+  walks_over "a wide texture" wide.ppm 32 walk.path --frames 70 --samplers 2 --loaders 5 --batch 3
+  walks_over "a small texture" small.ppm 2 walk.path --frames 9 --batch 2
+  "$program" gen 7 2048 2048 large.ppm
+  printf 'size 320 200\nfocal 100\nat 1792 0 204800 16384 0\nto 11 263936 0 204800 16384 0\n' > large.path
+  walks_over "a large texture" large.ppm 64 large.path
+  "$program" tile large.ppm large.vts > /dev/null && "$program" upgrade large.vts wide.vts > /dev/null
+  walk_of "walk of an upgraded store" wide.vts large.path wide --settled
+  rm -f wide[0-9][0-9][0-9][0-9].ppm
+  "$program" walk large.vts large.path short --settled > got.log && [ -s journal.txt ] && "$program" walk large.vts large.path long --settled \
+    --frames 64 --samplers 4 --loaders 3 --batch 64 --pinned 1 --journal long.txt > want.log && cmp -s want.log got.log && same_pictures short long
+  say $? "walk with no option"
+  rm -f {short,long}[0-9][0-9][0-9][0-9].ppm
+  while IFS='|' read -r words answer line; do
+    # shellcheck disable=SC2086
+    "$program" walk $words > out 2> err; status=$?
+    [ "$status" -eq "$answer" ] && [ ! -s out ] && [ "$(cat err)" = "vtex: $line" ] && [ ! -e no.txt ] && [ ! -e no0000.ppm ]; say $? "walk $words"
+  done <<ROWS
+g4.vts a.path no --journal no.txt --samplers 65|2|$usage
+g4.vts a.path no --journal no.txt --samplers 0|2|$usage
+g4.vts a.path no --journal no.txt --loaders 17|2|$usage
+g4.vts a.path no --journal no.txt --batch 4097|2|$usage
+g4.vts a.path no --journal no.txt --pinned 17|2|$usage
+g4.vts a.path no --journal no.txt --frames 65536|2|$usage
+g4.vts a.path no --journal no.txt --frames 04|2|$usage
+g4.vts a.path no --journal no.txt --settled --settled|2|$usage
+g4.vts a.path no --journal no.txt --tile 2|2|$usage
+g4.vts a.path|2|$usage
+g4.vts a.path no --journal g4.vts|2|$usage
+g4.vts a.path no --journal a.path|2|$usage
+g4.vts a.path no --journal no0123.ppm|2|$usage
+no9999.ppm a.path no --journal no.txt|2|$usage
+g4.vts no0000.ppm no --journal no.txt|2|$usage
+large.vts large.path no --journal no.txt --frames 2049|2|$usage
+g4.vts none no --journal no.txt|3|fault on files or output
+none a.path no --journal no.txt|3|fault on files or output
+none g4.vts no --journal no.txt|4|bad input: g4.vts: bad line 1
+a.path a.path no --journal no.txt|4|bad input: a.path: bad magic
+g4.vts a.path no --journal no.txt --frames 4 --pinned 2|5|4 frames, pinned pages need 5
+ROWS
+  "$program" walk g4.vts a.path no --journal no.txt --settled --frames 2 --samplers 1 > out 2> err; status=$?
+  [ "$status" -eq 5 ] && [ ! -s out ] && [ "$(cat err)" = "vtex: picture 0 wants 2 pages, room for 1" ] && [ ! -e no0000.ppm ] \
+    && printf 'map 1 1 0 0 0\npass 1 picture 0 start 1\nrow 0 0 1\n' | cmp -s - no.txt; say $? "walk of a picture that does not fit"
+  rm -f no.txt
+}
+
+check_replay() {
+  head='map 1 1 0 0 0\npass 1 picture 0 start 1\nrow 0 0 1\n'
+  while IFS='|' read -r text answer; do
+    printf "$text" > row.txt
+    printed=$("$program" replay g4.vts a.path row.txt row 2> err); status=$?
+    if [ "$answer" -eq "$answer" ] 2> /dev/null; then
+      [ "$status" -eq 0 ] && [ "$printed" = "end pictures $answer" ] && [ "$(ls | grep -c '^row[0-9]*.ppm')" -eq "$answer" ]
+    else
+      [ "$status" -eq 4 ] && [ -z "$printed" ] && [ "$(cat err)" = "vtex: bad input: row.txt: $answer" ] && [ ! -e row0000.ppm ]
+    fi
+    say $? "replay of $text: $answer"
+    rm -f row0000.ppm
+  done <<ROWS
+map 1 1 0 0 0\n|0
+$head|1
+|bad line 1
+map 1 1 0 0 1\n|bad line 1
+map 1 1 0 0 0|bad line 1
+map 1 0 0 0 0\n|bad line 2
+${head}pass 2 picture 1 start 1\nrow 0 0 1\n|bad line 4
+${head}pass 2 picture 0 start 1\nlost 0 0 0\nrow 0 0 2\n|bad line 6
+${head}pass 2 picture 0 start 1\nmap 2 0 0 0 1\nrow 0 63 2\n|1
+${head}pass 2 picture 0 start 1\nmap 2 0 0 0 1\nrow 0 64 2\n|bad line 6
+ROWS
+  "$program" replay g4.vts a.path row0000.ppm row > out 2> err; status=$?
+  [ "$status" -eq 2 ] && [ ! -s out ] && [ "$(cat err)" = "vtex: $usage" ]; say $? "replay of a journal with a picture's name"
+  "$program" replay g4.vts a.path none row > out 2> err; status=$?
+  [ "$status" -eq 3 ] && [ ! -s out ] && [ "$(cat err)" = "vtex: fault on files or output" ]; say $? "replay of a missing journal"
+}
+
+check_trial() {
+  $reference trial 7 > want.log
+  "$program" trial 7 > got.log 2> err && [ ! -s err ] && cmp -s want.log got.log; say $? "trial 7"
+  "$program" trial 7 > again.log && cmp -s got.log again.log; say $? "trial 7 again"
+  for words in 65536 -1 07 "7 7" ""; do
+    # shellcheck disable=SC2086
+    "$program" trial $words > out 2> err; status=$?
+    [ "$status" -eq 2 ] && [ ! -s out ] && [ "$(cat err)" = "vtex: $usage" ]; say $? "trial $words"
+  done
+}
+
+# Of these commands those that the program has; each has its checks.
+built="walk replay"
+usage="usage: vtex COMMAND ARGUMENTS (plain, tile, info, walk, replay, gen, trial, upgrade)"
+has() { case " $built " in *" $1 "*) true;; *) false;; esac; }
+"$program" tile g4.ppm g4.vts --tile 2 > /dev/null
+for command in walk replay trial; do
+  if has "$command"; then "check_$command"; else echo "skipped: $command, which the program has not yet"; fi
+done
+
 echo "$passed passed, $failed failed"
 [ "$failed" -eq 0 ]

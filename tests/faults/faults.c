@@ -1,5 +1,6 @@
 // Loaded before the C library: lets one call of a kind fail, or come short, by its number.
-// FAULT_KIND is alloc, read, write, open or short_read, short_write; FAULT_AT counts from 1; FAULT_SEEN names a file for the number of calls.
+// FAULT_KIND is alloc, read, write, open or short_read, short_write; FAULT_AT counts from 1. FAULT_SEEN names a file for the number of
+// calls of that kind, and FAULT_READS one for a line of each read: its place, its length, whether it failed, and the name of its file.
 #define _GNU_SOURCE
 #include <dlfcn.h>
 #include <errno.h>
@@ -14,13 +15,13 @@ static int ready, seen, at;
 static const char *kind;
 
 static int hit(const char *name) {
-    if (!ready) {
-        ready = 1;
+    if (!__atomic_load_n(&ready, __ATOMIC_ACQUIRE)) {
         kind = getenv("FAULT_KIND");
         const char *number = getenv("FAULT_AT");
         at = number ? atoi(number) : 0;
+        __atomic_store_n(&ready, 1, __ATOMIC_RELEASE);
     }
-    return kind && strcmp(kind, name) == 0 && ++seen == at;
+    return kind && strcmp(kind, name) == 0 && __atomic_add_fetch(&seen, 1, __ATOMIC_SEQ_CST) == at;
 }
 
 __attribute__((destructor)) static void tell(void) {
@@ -29,9 +30,9 @@ __attribute__((destructor)) static void tell(void) {
     int (*real_open)(const char *, int, ...) = dlsym(RTLD_NEXT, "open");
     int file = real_open(name, O_WRONLY | O_CREAT | O_TRUNC, 0644);
     char text[16];
-    int length = snprintf(text, sizeof text, "%d\n", seen);
+    int size = snprintf(text, sizeof text, "%d\n", seen);
     ssize_t (*real_write)(int, const void *, size_t) = dlsym(RTLD_NEXT, "write");
-    if (real_write(file, text, length) < 0) return;
+    if (real_write(file, text, size) < 0) return;
     close(file);
 }
 
@@ -51,9 +52,29 @@ int posix_memalign(void **out, size_t a, size_t n) {
     return *out ? 0 : ENOMEM;
 }
 
+static void note(int file, size_t length, int failed) {
+    const char *name = getenv("FAULT_READS");
+    if (!name) return;
+    char link[64], target[4096], text[4200];
+    snprintf(link, sizeof link, "/proc/self/fd/%d", file);
+    ssize_t size = readlink(link, target, sizeof target - 1);
+    target[size < 0 ? 0 : size] = 0;
+    size = snprintf(text, sizeof text, "%ld %zu %d %s\n", (long)lseek(file, 0, SEEK_CUR), length, failed, target);
+    int (*real_open)(const char *, int, ...) = dlsym(RTLD_NEXT, "open");
+    ssize_t (*real_write)(int, const void *, size_t) = dlsym(RTLD_NEXT, "write");
+    int notes = real_open(name, O_WRONLY | O_CREAT | O_APPEND, 0644);
+    if (real_write(notes, text, size) < 0) abort();
+    close(notes);
+}
+
 ssize_t read(int file, void *buffer, size_t n) {
     ssize_t (*real)(int, void *, size_t) = dlsym(RTLD_NEXT, "read");
-    if (hit("read")) { errno = EIO; return -1; }
+    int fails = hit("read");
+    note(file, n, fails);
+    if (fails) {
+        errno = EIO;
+        return -1;
+    }
     return real(file, buffer, hit("short_read") && n > 1 ? n / 2 : n);
 }
 

@@ -1,88 +1,134 @@
 #!/usr/bin/env python3
-"""Makes each allocation, open, read and write of a run fail in turn, and each read and write come short: of the first picture, and
-of the commands that write, tell and upgrade its texture's store and make a texture.
+"""Makes each allocation, open, read and write of a run fail in turn, and each read and write come short: of each command but `trial`, over small
+textures, stores, paths and journals.
 
-usage: run.py [PROGRAM]     (crates/vtex/out/vtex where none is given; it wants gcc)
+usage: run.py [PROGRAM [COMMAND..]]     (crates/vtex/out/vtex and all commands where none is given; it wants gcc)
 
-Outside the gate. A run ends with a defined status and leaves what that status says: 0 the whole file and the line; 1 or 3 the file's
-name missing or with a front part of the file, or whole, and a front part of the line only where it is whole.
+Outside the gate. Each run is judged by ../judge.py: its status and error line have their cause, and what stands is what docs/FORMATS.md says of that
+status. A read that fails is told by its file and place, so that a page that a live walk loses gives status 0, and any other read that fails does not.
+A walk asks its store for nothing but what it is due to read, and for nothing twice.
 """
 import os
-import subprocess
+import re
 import sys
 import tempfile
 
 here = os.path.dirname(os.path.abspath(__file__))
 top = os.path.dirname(os.path.dirname(here))
-program = os.path.abspath(sys.argv[1]) if len(sys.argv) > 1 else os.path.join(top, "crates/vtex/out/vtex")
-PICTURE = b"P6\n2 1\n255\n\x0d\x0d\x0d\x01\x01\x01"
-TEXELS = [0, 1, 4, 5, 2, 3, 6, 7, 8, 9, 12, 13, 10, 11, 14, 15, 3, 5, 11, 13]
-STORE = b"VTS1" + b"".join(n.to_bytes(4, "big") for n in (4, 4, 2)) + b"".join(bytes([n, n, n]) for n in TEXELS)
+sys.path.insert(0, os.path.join(top, "tests"))
+
+from failing import KINDS, Failing, doubt_of, doubt_of_walk, flaws_of_reads
+from judge import flaws_of_due, flaws_of_walk
+from rows import EIGHT_STORE, FIRST, FOUR, FOUR_STORE, LOST, filled, grey
+from stores import contents
+from walks import Settings
+
+TEXELS = FOUR_STORE[16::3]
+WIDE = b"VTS2" + FOUR_STORE[4:16] + b"".join(bytes([n] * 6) for n in TEXELS)
 TOLD = b"store 4 4 tile 2 levels 2 pages 5 bytes 76\n"
-WIDE = b"VTS2" + STORE[4:16] + b"".join(bytes([n] * 6) for n in TEXELS)
 MADE = b"P6\n2 2\n255\n\x01\x03\x07\x02\x03\x07\x01\x04\x07\x02\x04\x08"
-# The words of each job, the name that it writes with its bytes, and its line.
+INPUTS = {
+    "g4.ppm": b"P6\n4 4\n255\n" + b"".join(bytes([n] * 3) for n in range(16)),
+    "a.path": FIRST,
+    "four.path": FOUR,
+    "s.vts": FOUR_STORE,
+    "e.vts": EIGHT_STORE,
+    "wide.vts": WIDE,
+    "j.txt": filled(LOST, 2, 4),
+}
+
+
+class Job:
+    """A command that writes these names with their bytes, in their order, and prints a line."""
+
+    def __init__(self, words, due, line):
+        self.words, self.due, self.line = words, due, line
+
+    def writes(self, name):
+        return name in dict(self.due)
+
+    def flaws(self, left, kind, reads):
+        held = {name: contents(name) for name, _ in self.due}
+        return flaws_of_due(self.due, self.line, (0, b""), left, held, doubt_of(kind))
+
+
+class WalkJob:
+    """A walk over a store along a path. A page that it loads may be lost, by a failed read of its tile in the store."""
+
+    def __init__(self, store, path, options, settings):
+        self.words, self.settings = ["walk", store, path, "f", "--journal", "w.txt"] + options.split(), settings
+        self.store, self.path = store, path
+
+    def writes(self, name):
+        return name == "w.txt" or re.fullmatch("f[0-9]{4}.ppm", name)
+
+    def flaws(self, left, kind, reads):
+        doubt, left = doubt_of_walk(kind, reads, self.store, self.settings), left.with_walk(contents("w.txt"), "f")
+        found = flaws_of_walk(self.store, self.path, self.settings, left, doubt)
+        if found or kind == "short_read":
+            return found
+        return flaws_of_reads(reads, self.store, self.path, self.settings, left)
+
+
+PICTURES = [("f%04d.ppm" % k, grey(samples)) for k, samples in enumerate([(0x0B, 0x03), (0x0B, 0x01), (0x0D, 0x05), (0x0D, 0x05)])]
 JOBS = [
-    (["plain", "g4.ppm", "a.path", "f", "--tile", "2"], "f0000.ppm", PICTURE, b"end pictures 1\n"),
-    (["tile", "g4.ppm", "g4.vts", "--tile", "2"], "g4.vts", STORE, TOLD),
-    (["info", "s.vts"], None, None, TOLD),
-    (["gen", "1", "2", "2", "g.ppm"], "g.ppm", MADE, b""),
-    (["upgrade", "s.vts", "w.vts"], "w.vts", WIDE, TOLD.replace(b"76", b"136")),
+    Job(["plain", "g4.ppm", "a.path", "f", "--tile", "2"], [("f0000.ppm", grey((0x0D, 0x01)))], b"end pictures 1\n"),
+    Job(["tile", "g4.ppm", "g4.vts", "--tile", "2"], [("g4.vts", FOUR_STORE)], TOLD),
+    Job(["info", "s.vts"], [], TOLD),
+    Job(["gen", "1", "2", "2", "g.ppm"], [("g.ppm", MADE)], b""),
+    Job(["upgrade", "s.vts", "w.vts"], [("w.vts", WIDE)], TOLD.replace(b"76", b"136")),
+    WalkJob("s.vts", "four.path", "--frames 3 --samplers 1 --loaders 1", Settings(frames=3, samplers=1)),
+    WalkJob("s.vts", "a.path", "--frames 3 --samplers 1 --loaders 1 --batch 1 --settled", Settings(3, 1, 1, 1, True)),
+    WalkJob("s.vts", "a.path", "--frames 2 --samplers 1 --loaders 1 --batch 1 --settled", Settings(2, 1, 1, 1, True)),
+    WalkJob("s.vts", "four.path", "--frames 4 --samplers 2 --loaders 3 --batch 2", Settings(4, 2, 2)),
+    WalkJob("e.vts", "a.path", "--frames 5 --samplers 7 --loaders 2 --settled", Settings(5, 7, 64, 1, True)),
+    WalkJob("wide.vts", "a.path", "--frames 3 --samplers 2 --loaders 1 --settled", Settings(3, 2, 64, 1, True)),
+    Job(["replay", "s.vts", "four.path", "j.txt", "f"], PICTURES, b"end pictures 4\n"),
 ]
-LINES = {0: b"", 1: b"vtex: out of memory\n", 3: b"vtex: fault on files or output\n"}
-STATUSES = {"alloc": {0, 1}, "open": {0, 3}, "read": {0, 3}, "write": {0, 3}, "short_read": {0}, "short_write": {0}}
 
 
-def run(job, folder, library, kind, at):
-    for name in os.listdir(folder):
-        os.remove(os.path.join(folder, name))
-    for name in ["g4.ppm", "a.path"]:
-        data = open(os.path.join(top, "crates/vtex/data", name), "rb").read()
-        open(os.path.join(folder, name), "wb").write(data)
-    open(os.path.join(folder, "s.vts"), "wb").write(STORE)
-    env = dict(os.environ, LD_PRELOAD=library, FAULT_KIND=kind, FAULT_AT=str(at), FAULT_SEEN=os.path.join(folder, "seen"))
-    words, written, _, _ = job
-    done = subprocess.run([program, *words], cwd=folder, env=env, capture_output=True)
-    path = os.path.join(folder, written) if written else ""
-    held = open(path, "rb").read() if os.path.exists(path) else None
-    return done, held, int(open(os.path.join(folder, "seen")).read())
+def run(failing, job, kind, at):
+    """The job in a folder that holds the inputs and nothing else."""
+    for name in os.listdir("."):
+        os.remove(name)
+    for name, data in INPUTS.items():
+        with open(name, "wb") as file:
+            file.write(data)
+    return failing.run(job.words, kind, at)
 
 
-def is_lawful(job, kind, done, held):
-    _, written, whole, line = job
-    status, out, err = done.returncode, done.stdout, done.stderr
-    if status not in STATUSES[kind]:
-        return False
-    if status == 0:
-        return held == whole and out == line and err == b""
-    if not (LINES[status] == err or (kind == "write" and LINES[status].startswith(err))):
-        return False
-    if held is not None and not whole.startswith(held):
-        return False
-    return line.startswith(out) and (out == b"" or held == whole)
+def flaws_of(job, kind, left, reads):
+    changed = [name for name, data in INPUTS.items() if contents(name) != data]
+    changed += [name for name in os.listdir(".") if name not in INPUTS and not job.writes(name)]
+    return ["%s is not as before" % name for name in changed] + job.flaws(left, kind, reads)
+
+
+def try_all(failing, job, kind):
+    """How many runs were judged lawful, and what was wrong with the others."""
+    calls, statuses, wrong = run(failing, job, kind, 0)[1], {}, []
+    for at in range(1, calls + 1):
+        left, _, reads = run(failing, job, kind, at)
+        statuses[left.status] = statuses.get(left.status, 0) + 1
+        wrong += ["%s, %s %d: %s" % (" ".join(job.words), kind, at, flaw) for flaw in flaws_of(job, kind, left, reads)[:1]]
+    print("%s, %s: %d calls, runs by status %s" % (" ".join(job.words), kind, calls, dict(sorted(statuses.items()))))
+    return calls - len(wrong), wrong
 
 
 def main():
-    passed = failed = 0
+    program = os.path.abspath(sys.argv[1]) if len(sys.argv) > 1 else os.path.join(top, "crates/vtex/out/vtex")
+    passed, wrong = 0, []
     with tempfile.TemporaryDirectory() as scratch:
-        library, folder = os.path.join(scratch, "faults.so"), os.path.join(scratch, "folder")
+        failing, folder = Failing(program, scratch), os.path.join(scratch, "folder")
         os.mkdir(folder)
-        subprocess.run(["gcc", "-shared", "-fPIC", "-O1", os.path.join(here, "faults.c"), "-o", library, "-ldl"], check=True)
+        os.chdir(folder)
         for job in JOBS:
-            for kind in STATUSES:
-                _, _, calls = run(job, folder, library, kind, 0)
-                statuses = {}
-                for at in range(1, calls + 1):
-                    done, held, _ = run(job, folder, library, kind, at)
-                    statuses[done.returncode] = statuses.get(done.returncode, 0) + 1
-                    if is_lawful(job, kind, done, held):
-                        passed += 1
-                    else:
-                        failed += 1
-                        print(f"{job[0][0]}, {kind} {at}: status {done.returncode}, file {held!r}, out {done.stdout!r}, err {done.stderr!r}")
-                print(f"{job[0][0]}, {kind}: {calls} calls, runs by status {statuses}")
-    print(f"{passed} passed, {failed} failed")
-    return 1 if failed else 0
+            for kind in KINDS if len(sys.argv) < 3 or job.words[0] in sys.argv[2:] else ():
+                lawful, unlawful = try_all(failing, job, kind)
+                passed, wrong = passed + lawful, wrong + unlawful
+        os.chdir(top)
+    print("\n".join(wrong + ["%d passed, %d failed" % (passed, len(wrong))]))
+    return 1 if wrong else 0
 
 
-sys.exit(main())
+if __name__ == "__main__":
+    sys.exit(main())
