@@ -411,7 +411,7 @@ check_replay() {
     printf "$text" > row.txt
     printed=$("$program" replay g4.vts a.path row.txt row 2> err); status=$?
     if [ "$answer" -eq "$answer" ] 2> /dev/null; then
-      [ "$status" -eq 0 ] && [ "$printed" = "end pictures $answer" ] && [ "$(ls | grep -c '^row[0-9]*.ppm')" -eq "$answer" ]
+      [ "$status" -eq 0 ] && [ "$printed" = "end pictures $answer" ] && [ "$(ls | grep -c '^row[0-9][0-9][0-9][0-9]\.ppm')" -eq "$answer" ]
     else
       [ "$status" -eq 4 ] && [ -z "$printed" ] && [ "$(cat err)" = "vtex: bad input: row.txt: $answer" ] && [ ! -e row0000.ppm ]
     fi
