@@ -1,5 +1,7 @@
-use crate::{Image, PpmError, encode, encode_wide, image_flaw, read_header, read_image};
-use std::alloc::{AllocError, Global};
+mod foreign;
+
+use crate::{Image, PpmError, encode, encode_wide, read_header, read_image};
+use std::alloc::Global;
 use std::test::Fail as TestFail;
 use vt_outside::{Fail, Fails, Folder, MemoryFolder, NoMemory, Place};
 
@@ -49,112 +51,6 @@ fn header_refusal(
 ) -> Result<Option<PpmError>, NoMemory> {
     let mut folder = folder_of(alloc, bytes, calls)?;
     Ok(raster_in(alloc, &mut folder).err())
-}
-
-// An image of one texel behind `P6` and so many blanks.
-fn behind_blanks(alloc: Global, count: usize) -> Result<Vec<u8>, AllocError> {
-    let mut bytes = Vec::from_slice(alloc, b"P6")?;
-    let blanks = vec![in alloc; b' '; count]?;
-    bytes.extend_from_slice(&blanks)?;
-    bytes.extend_from_slice(b"1 1 255\nabc")?;
-    Ok(bytes)
-}
-
-#[test]
-fn every_spelling_of_a_header_is_read(rt: HostRuntime) -> Result<(), TestFail> {
-    let spellings: [(&[u8], &[u8]); 8] = [
-        (
-            b"P6\r\n# made by hand\r\n2 1\n100\n\x00\x32\x64\x64\x32\x00",
-            b"\x00\x80\xff\xff\x80\x00",
-        ),
-        (
-            b"P6 2 1 255\r\n\x01\x02\x03\x04\x05\x06",
-            b"\x0a\x01\x02\x03\x04\x05",
-        ),
-        (b"P6 01 1 255\n\x07\x08\x09", b"\x07\x08\x09"),
-        (b"P6 #a\n#b\n1 1 255\n\x07\x08\x09", b"\x07\x08\x09"),
-        (b"P6\t1\r1 #\r255 \x07\x08\x09\x0a", b"\x07\x08\x09"),
-        (b"P6 1 1 1\n\x00\x01\x00", b"\x00\xff\x00"),
-        (
-            b"P6 1 1 65535\n\x00\x01\x80\x00\xff\xff",
-            b"\x00\x01\x80\x00\xff\xff",
-        ),
-        (
-            b"P6 1 1 256\n\x01\x00\x00\x80\x00\x01",
-            b"\xff\xff\x80\x00\x01\x00",
-        ),
-    ];
-    for (bytes, samples) in spellings {
-        let mut folder = folder_of(rt.alloc(), bytes, &[])?;
-        let image = image_in(rt.alloc(), &mut folder)?;
-        assert_eq!(rt; image.samples(), samples);
-        assert_eq!(rt; image_flaw(bytes), None);
-    }
-    Ok(())
-}
-
-#[test]
-fn the_first_flaw_is_named(rt: HostRuntime) -> Result<(), TestFail> {
-    let flaws: [(&[u8], PpmError); 22] = [
-        (b"", PpmError::BadMagic),
-        (b"P5 1 1 255\nabc", PpmError::BadMagic),
-        (b"P6", PpmError::BadHeader { at: 2 }),
-        (b"P6#a\n1 1 255\n", PpmError::BadHeader { at: 2 }),
-        (b"P6\x0b1 1 255\n", PpmError::BadHeader { at: 2 }),
-        (b"P6 1 1 255", PpmError::BadHeader { at: 10 }),
-        (b"P6 1 1 255#", PpmError::BadHeader { at: 10 }),
-        (b"P6 #1 1 255 abc", PpmError::BadHeader { at: 15 }),
-        (b"P6 1 1x255\nabc", PpmError::BadHeader { at: 6 }),
-        (b"P6 00000000001 1 255\n", PpmError::BadHeader { at: 13 }),
-        (b"P6 0 1 255\n", PpmError::BadSize),
-        (b"P6 9999999999 1 255\n", PpmError::BadSize),
-        (b"P6 1 8193 0\n", PpmError::BadSize),
-        (b"P6 1 1 0\nabc", PpmError::BadMaximum),
-        (b"P6 1 1 65536\nabc", PpmError::BadMaximum),
-        (
-            b"P6 8192 8192 255\n",
-            PpmError::Truncated {
-                want: 201326592,
-                have: 0,
-            },
-        ),
-        (
-            b"P6 8192 8192 256\n",
-            PpmError::Truncated {
-                want: 402653184,
-                have: 0,
-            },
-        ),
-        (b"P6 1 1 255\nab", PpmError::Truncated { want: 3, have: 2 }),
-        (b"P6 1 1 256\nabc", PpmError::Truncated { want: 6, have: 3 }),
-        (b"P6 1 1 100\n\x01\x65\x00", PpmError::SampleOver { at: 12 }),
-        (
-            b"P6 1 1 256\n\x01\x01\x00\x80\x00\x01",
-            PpmError::SampleOver { at: 11 },
-        ),
-        (
-            b"P6 1 1 256\n\x01\x00\x00\x80\x01\x01",
-            PpmError::SampleOver { at: 15 },
-        ),
-    ];
-    for (bytes, flaw) in flaws {
-        assert_eq!(rt; refusal(rt.alloc(), bytes, &[])?, Some(flaw));
-        assert_eq!(rt; image_flaw(bytes), Some(flaw));
-    }
-    Ok(())
-}
-
-#[test]
-fn a_header_ends_within_its_limit(rt: HostRuntime) -> Result<(), TestFail> {
-    let late = Some(PpmError::BadHeader { at: 65536 });
-    let cases = [(100, None), (65526, None), (65527, late), (70000, late)];
-    for (count, want) in cases {
-        let bytes = behind_blanks(rt.alloc(), count)?;
-        assert_eq!(rt; refusal(rt.alloc(), &bytes, &[])?, want);
-        assert_eq!(rt; header_refusal(rt.alloc(), &bytes, &[])?, want);
-        assert_eq!(rt; image_flaw(&bytes), want);
-    }
-    Ok(())
 }
 
 #[test]

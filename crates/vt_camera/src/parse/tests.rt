@@ -1,19 +1,10 @@
-//! Paths and their pictures, and the refusals of texts that are none.
+//! Paths and their pictures.
 
-use crate::parse::{PathError, parse_path, path_flaw_is_unique, path_has_no_flaw, path_is_unique};
+mod foreign;
+
+use crate::parse::{parse_path, path_flaw_is_unique, path_has_no_flaw, path_is_unique};
 use crate::paths::Camera;
-use std::alloc::Global;
-use std::process::Abort;
 use std::test::Fail;
-
-// The text is refused in this way.
-fn refuses(rt: &impl Abort, alloc: Global, text: &str, error: PathError) {
-    assert_eq!(rt;
-        parse_path(alloc, text.as_bytes()).err(),
-        Some(error),
-        "{text}"
-    );
-}
 
 #[test]
 fn one_key_gives_one_picture(rt: HostRuntime) -> Result<(), Fail> {
@@ -74,13 +65,6 @@ fn each_way_begins_at_the_key_before_it(rt: HostRuntime) -> Result<(), Fail> {
 }
 
 #[test]
-fn a_path_may_have_no_picture(rt: HostRuntime) -> Result<(), Fail> {
-    let path = parse_path(rt.alloc(), b"size 2 1\nfocal 1\n")?;
-    assert_eq!(rt; path.pictures(), 0);
-    Ok(())
-}
-
-#[test]
 fn numbers_at_their_limits_are_accepted(rt: HostRuntime) -> Result<(), Fail> {
     let most = parse_path(
         rt.alloc(),
@@ -98,67 +82,4 @@ fn numbers_at_their_limits_are_accepted(rt: HostRuntime) -> Result<(), Fail> {
     assert_eq!(rt; least.pictures(), 1);
     assert_eq!(rt; least.camera(0).s, -16384);
     Ok(())
-}
-
-#[test]
-fn numbers_past_their_limits_are_refused(rt: HostRuntime) {
-    let rows = [
-        ("size 0 1\nfocal 1\n", 1),
-        ("size 2 2049\nfocal 1\n", 1),
-        ("size 2 1\nfocal 0\n", 2),
-        ("size 2 1\nfocal 4097\n", 2),
-        ("size 2 1\nfocal 1\nat 0 0 0 1 0\n", 3),
-        ("size 2 1\nfocal 1\nat 0 0 16777217 1 0\n", 3),
-        ("size 2 1\nfocal 1\nat 0 0 1 16385 0\n", 3),
-        ("size 2 1\nfocal 1\nat 0 0 1 0 -16385\n", 3),
-        ("size 2 1\nfocal 1\nat 2147483649 0 1 0 0\n", 3),
-        ("size 2 1\nfocal 1\nat 0 -2147483649 1 0 0\n", 3),
-        ("size 2 1\nfocal 1\nat 0 0 1 0 0\nto 0 0 0 1 0 0\n", 4),
-        ("size 2 1\nfocal 1\nat 0 0 1 0 0\nto 10000 0 0 1 0 0\n", 4),
-    ];
-    for (text, line) in rows {
-        refuses(&rt, rt.alloc(), text, PathError::BadLine { line });
-    }
-}
-
-#[test]
-fn lines_of_other_forms_are_refused(rt: HostRuntime) {
-    let rows = [
-        ("", 1),
-        ("size 2 1", 1),
-        ("size 2 1\n", 2),
-        ("size 2 1\nfocal 1", 2),
-        ("size 2 1\nsize 2 1\n", 2),
-        ("size 2  1\nfocal 1\n", 1),
-        ("size 2 1 \nfocal 1\n", 1),
-        ("size 2 1\r\nfocal 1\n", 1),
-        ("size 2 01\nfocal 1\n", 1),
-        ("focal 1\nsize 2 1\n", 1),
-        ("size 2 1\nfocal 1\nat 0 0 1 0 0", 3),
-        ("size 2 1\nfocal 1\nat 0 0 1 0 0\n\n", 4),
-        ("size 2 1\nfocal 1\nat 0 0 1 0 0 0\n", 3),
-        ("size 2 1\nfocal 1\nat 0 0 1 0 -0\n", 3),
-        ("size 2 1\nfocal 1\nto 1 0 0 1 0\n", 3),
-    ];
-    for (text, line) in rows {
-        refuses(&rt, rt.alloc(), text, PathError::BadLine { line });
-    }
-}
-
-#[test]
-fn keys_without_a_key_or_without_room_are_refused(rt: HostRuntime) {
-    let no_key = PathError::NoKey { line: 3 };
-    let many = PathError::TooManyPictures;
-    let rows = [
-        ("size 2 1\nfocal 1\nto 1 0 0 1 0 0\n", no_key),
-        ("size 2 1\nfocal 1\nto 9999 0 0 1 0 0\nat\n", no_key),
-        ("size 2 1\nfocal 1\nat 0 0 1 0 0\nto 9999 0 0 1 0 0\n", many),
-        (
-            "size 2 1\nfocal 1\nat 0 0 1 0 0\nto 9998 0 0 1 0 0\nat 0 0 1 0 0\nat\n",
-            many,
-        ),
-    ];
-    for (text, error) in rows {
-        refuses(&rt, rt.alloc(), text, error);
-    }
 }
