@@ -345,12 +345,15 @@ walks_over() {
   rm -f {live,settled,plain,want}[0-9][0-9][0-9][0-9].ppm
 }
 
-# The replay of a walk's journal gives the walk's pictures.
+# The replay of a walk's journal gives the walk's pictures, and so does a client that was written from the formats' page alone.
 replay_of() {
   printed=$("$program" replay "$2" "$3" "$4.txt" again 2> err); status=$?
   [ "$status" -eq 0 ] && [ ! -s err ] && [ "$printed" = "end pictures $(ls "$4"[0-9][0-9][0-9][0-9].ppm | wc -l)" ] && same_pictures "$4" again
   say $? "replay of the $1"
-  rm -f again[0-9][0-9][0-9][0-9].ppm
+  printed=$(python3 "$top/tests/client.py" "$2" "$3" "$4.txt" client) && [ "$printed" = "end pictures $(ls again[0-9][0-9][0-9][0-9].ppm | wc -l)" ] \
+    && same_pictures again client && same_pictures "$4" client
+  say $? "pictures of a client for the $1"
+  rm -f {again,client}[0-9][0-9][0-9][0-9].ppm
 }
 
 check_walk() {
@@ -367,6 +370,7 @@ check_walk() {
   walks_over "a large texture" large.ppm 64 large.path
   "$program" tile large.ppm large.vts > /dev/null && "$program" upgrade large.vts wide.vts > /dev/null
   walk_of "walk of an upgraded store" wide.vts large.path wide --settled
+  if has replay; then replay_of "walk of an upgraded store" wide.vts large.path wide; fi
   rm -f wide[0-9][0-9][0-9][0-9].ppm
   "$program" walk large.vts large.path short --settled > got.log && [ -s journal.txt ] && "$program" walk large.vts large.path long --settled \
     --frames 64 --samplers 4 --loaders 3 --batch 64 --pinned 1 --journal long.txt > want.log && cmp -s want.log got.log && same_pictures short long

@@ -2,11 +2,12 @@
 """Makes the picture strip of README.md, by hand: pictures of a live walk that go from coarse to fine beside the settled one, and below them
 the same with the level of what each pixel shows in a colour.
 
-usage: strip.py strip NAME.png [PROGRAM [PICTURES]]   (crates/vtex/out/vtex and 0,1,2 where they are not given)
-       strip.py terrain NAME.ppm                      writes the texture that it flies over, of 2,048x2,048 texels, which no edge can be seen in
-       strip.py path NAME                             writes the path: six pictures from one camera
+usage: strip.py strip NAME.png [PROGRAM [PICTURES]]   (crates/vtex/out/vtex and 0,3,6 where they are not given)
+       strip.py terrain NAME.ppm                      writes the texture that it looks at, a map of 2,048x2,048 texels that wraps around
+       strip.py path NAME                             writes the path: twelve pictures from one camera
 
-The colours are found from journal and path alone; the finest level is the lightest.
+The walks load 12 pages a pass, so that a picture shows pages of several levels. The colours are found from store, path and journal alone; the
+finest level is the lightest. It takes about a minute.
 """
 import os
 import random
@@ -16,12 +17,13 @@ import sys
 import tempfile
 import zlib
 
-from journals import Journal, pass_rows, replay
+from journals import Journal, pass_rows
 from stores import Path, Store, contents, row_shown
 
 TOP = os.path.dirname(os.path.dirname(os.path.abspath(__file__)))
 SIDE, REACH, GAP = 2048, 192, 4
-PATH = b"size 320 200\nfocal 100\n" + b"at 131072 131072 51200 11585 11585\n" * 6
+PATH = b"size 320 200\nfocal 100\n" + b"at 131072 131072 51200 11585 11585\n" * 12
+OPTIONS = ["--frames", "256", "--samplers", "1", "--loaders", "1", "--batch", "12"]
 COLOURS = [(255, 255, 204), (255, 217, 118), (254, 178, 76), (252, 78, 42), (177, 0, 38), (84, 39, 136)]
 GROUNDS = [(70, 30, 60, 110), (84, 44, 92, 150), (90, 214, 200, 150), (140, 80, 140, 60), (175, 60, 100, 50), (205, 130, 115, 100), (256, 240, 240, 245)]
 
@@ -82,12 +84,18 @@ def level_row(store, path, picture, y, table):
     return b"".join(bytes(COLOURS[level]) for _, level, _, _ in row_shown(store.geometry, path, picture, y, table))
 
 
-def of_journal(store, path, name):
-    """For each picture of a journal the rows of its samples, and those of its levels."""
-    journal = Journal(store.geometry, path.height, contents(name), len(path.cameras))
-    begin = len(b"P6\n%d %d\n255\n" % (path.width, path.height))
-    drawn = [[picture[at : at + 3 * path.width] for at in range(begin, len(picture), 3 * path.width)] for picture in replay(store, path, journal)]
-    return list(zip(drawn, [pass_rows(store, path, journal, *last, level_row) for last in journal.last_passes()]))
+def walked(program, prefix, numbers, *options):
+    """Of the program's walk the rows of these pictures, and of each the rows of the levels that its journal tells."""
+    journal_name = prefix + ".txt"
+    subprocess.run([program, "walk", "t.vts", "flight.path", prefix, "--journal", journal_name, *OPTIONS, *options], check=True)
+    store, path = Store(contents("t.vts")), Path(PATH)
+    journal = Journal(store.geometry, path.height, contents(journal_name), len(path.cameras))
+    begin, step, pictures = len(b"P6\n%d %d\n255\n" % (path.width, path.height)), 3 * path.width, []
+    for number in numbers:
+        drawn = contents("%s%04d.ppm" % (prefix, number))
+        rows = [drawn[at : at + step] for at in range(begin, len(drawn), step)]
+        pictures.append((rows, pass_rows(store, path, journal, *journal.last_passes()[number], level_row)))
+    return pictures
 
 
 def beside(pictures):
@@ -95,20 +103,15 @@ def beside(pictures):
     return [white.join(rows) for rows in zip(*pictures)]
 
 
-def strip(name, program=os.path.join(TOP, "crates/vtex/out/vtex"), numbers="0,1,2"):
+def strip(name, program=os.path.join(TOP, "crates/vtex/out/vtex"), numbers="0,3,6"):
     name, program = os.path.abspath(name), os.path.abspath(program)
     with tempfile.TemporaryDirectory() as folder:
         os.chdir(folder)
         terrain("terrain.ppm")
         write_path("flight.path")
-        options = ["--frames", "256", "--samplers", "1", "--loaders", "1"]
-        for words in (["tile", "terrain.ppm", "t.vts"], ["walk", "t.vts", "flight.path", "f", *options, "--journal", "live.txt"],
-                      ["walk", "t.vts", "flight.path", "s", *options, "--journal", "settled.txt", "--settled"]):
-            subprocess.run([program, *words], check=True)
-        store, path = Store(contents("t.vts")), Path(PATH)
-        live, settled = of_journal(store, path, "live.txt"), of_journal(store, path, "settled.txt")
+        subprocess.run([program, "tile", "terrain.ppm", "t.vts"], check=True)
+        pictures = walked(program, "f", [int(number) for number in numbers.split(",")]) + walked(program, "s", [0], "--settled")
         os.chdir(TOP)
-    pictures = [live[int(number)] for number in numbers.split(",")] + [settled[0]]
     rows = beside([drawn for drawn, _ in pictures])
     width = len(rows[0]) // 3
     rows += [b"\xff" * len(rows[0])] * GAP + beside([levels for _, levels in pictures])

@@ -16,7 +16,7 @@ class Inputs:
     """Makes the bytes of textures, paths, stores and journals, lawful ones and some that are not."""
 
     def __init__(self, seed):
-        self.random = random.Random(seed)
+        self.random, self.damages = random.Random(seed), []
 
     def is_one_in(self, n):
         return self.random.randrange(n) == 0
@@ -35,10 +35,15 @@ class Inputs:
         return header + sample_bytes(1 if most < 256 else 2, samples)
 
     def damaged(self, data):
-        """The bytes with one of them changed, left out or added, or cut short, mostly near their beginning."""
+        """The bytes cut short, with a bit flipped, or with a byte changed, left out or added, mostly near their beginning."""
         at = self.random.randrange(min(len(data), self.random.choice([8, 30, 10**9])) + 1)
         byte = bytes([self.random.choice(list(b"0123456789 \n-#P6") + [self.random.randrange(256)])])
-        return self.random.choice([data[:at] + byte + data[at + 1 :], data[:at] + data[at + 1 :], data[:at] + byte + data[at:], data[:at]])
+        flipped = bytes(old ^ 1 << self.random.randrange(8) for old in data[at : at + 1])
+        damages = {"cut short": data[:at], "a bit flipped": data[:at] + flipped + data[at + 1 :], "a byte changed": data[:at] + byte + data[at + 1 :]}
+        damages.update({"a byte left out": data[:at] + data[at + 1 :], "a byte more": data[:at] + byte + data[at:]})
+        damage = self.random.choice(list(damages))
+        self.damages.append(damage)
+        return damages[damage]
 
     def maybe_damaged(self, data):
         return self.damaged(data) if self.is_one_in(6) else data
@@ -258,4 +263,6 @@ def case_of(seed, commands):
     for name in list(case.inputs):
         if make.is_one_in(40):
             del case.inputs[name]
+            make.damages.append("missing")
+    case.damages = make.damages
     return case

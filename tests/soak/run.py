@@ -4,8 +4,8 @@
 usage: run.py [SECONDS [PROGRAM [SEED [COMMAND..]]]]     (3600, crates/vtex/out/vtex, a new seed and all commands where they are not given)
 
 Outside the gate. A case is a command with random textures, paths, stores and journals, of which some are damaged or missing, and random options. One in
-three has a call that fails or comes short. At the end it says how many cases of each kind it ran, and how many were wrong; each of these is kept in a
-folder with its words, its inputs and what the program left. The same seed gives the same cases.
+three has a call that fails or comes short. At the end it says how many cases of each kind it ran, how many inputs were damaged in which way, and how many
+cases were wrong; each of these is kept in a folder with its words, its inputs and what the program left. The same seed gives the same cases.
 """
 import os
 import random
@@ -14,6 +14,7 @@ import subprocess
 import sys
 import tempfile
 import time
+from collections import Counter
 
 here = os.path.dirname(os.path.abspath(__file__))
 top = os.path.dirname(os.path.dirname(here))
@@ -28,7 +29,7 @@ from stores import contents
 class Soak:
     def __init__(self, program, scratch, commands):
         self.failing, self.folder = Failing(program, scratch), os.path.join(scratch, "folder")
-        self.commands, self.counts, self.wrong, self.kept = commands, {}, 0, None
+        self.commands, self.counts, self.damages, self.wrong, self.kept = commands, Counter(), Counter(), 0, None
         os.mkdir(self.folder)
         os.chdir(self.folder)
 
@@ -74,8 +75,8 @@ class Soak:
             calls = self.failing.run(case.words, kind, 0)[1]
             at = chance.randint(1, calls) if calls else 0
         flaws = self.flaws(case, kind, at)
-        title = case.kind + (", a call fails" if at else "")
-        self.counts[title] = self.counts.get(title, 0) + 1
+        self.counts[case.kind + (", a call fails" if at else "")] += 1
+        self.damages.update(case.damages)
         if flaws:
             self.wrong += 1
             self.keep(case, seed, (kind, at), flaws)
@@ -93,7 +94,7 @@ def main():
             soak.try_case(seed)
             seed += 1
         os.chdir(top)
-    for title, count in sorted(soak.counts.items()):
+    for title, count in sorted(soak.counts.items()) + [("damaged input, " + title, count) for title, count in sorted(soak.damages.items())]:
         print("%s: %d" % (title, count))
     print("%d cases, %d wrong" % (sum(soak.counts.values()), soak.wrong))
     return 1 if soak.wrong else 0

@@ -1,0 +1,109 @@
+#!/usr/bin/env python3
+"""Draws the pictures of a walk from its store, its path and its journal alone: a client that was written from docs/FORMATS.md, and shares no code
+with the other programs here. It trusts its files.
+
+usage: client.py STORE PATH JOURNAL PREFIX     writes PREFIX0000.ppm and so on
+"""
+import sys
+
+
+def fields_of(name):
+    with open(name) as file:
+        return [line.split(" ") for line in file.read().splitlines()]
+
+
+class Store:
+    """The levels of a texture, each with its columns of pages and the index of its first page, and the samples of its texels."""
+
+    def __init__(self, name):
+        with open(name, "rb") as file:
+            self.data = file.read()
+        self.depth = int(self.data[3:4])
+        self.width, self.height, self.tile = (int.from_bytes(self.data[at : at + 4], "big") for at in (4, 8, 12))
+        self.levels, width, height, first = [], self.width, self.height, 0
+        while True:
+            columns, rows = -(-width // self.tile), -(-height // self.tile)
+            self.levels.append((columns, first))
+            if width <= self.tile and height <= self.tile:
+                break
+            width, height, first = (width + 1) // 2, (height + 1) // 2, first + columns * rows
+
+    def index(self, level, column, row):
+        columns, first = self.levels[level]
+        return first + row * columns + column
+
+    def texel(self, level, x, y):
+        size, page = 3 * self.depth, self.index(level, x // self.tile, y // self.tile)
+        at = 16 + size * (self.tile * self.tile * page + y % self.tile * self.tile + x % self.tile)
+        return self.data[at : at + size]
+
+    def shown(self, table, level, x, y):
+        """The texel of level 0 at (x, y) as the finest mapped page serves it that is no finer than the level."""
+        for k in range(level, len(self.levels)):
+            if self.index(k, (x >> k) // self.tile, (y >> k) // self.tile) in table:
+                return self.texel(k, x >> k, y >> k)
+        raise ValueError("the root is not mapped")
+
+
+class Path:
+    """The sides of the pictures, the focal number, and a camera for each picture."""
+
+    def __init__(self, name):
+        size, focal, *keys = fields_of(name)
+        self.width, self.height, self.focal, self.cameras = int(size[1]), int(size[2]), int(focal[1]), []
+        for word, *numbers in keys:
+            steps, camera = (1, numbers) if word == "at" else (int(numbers[0]), numbers[1:])
+            camera = [int(number) for number in camera]
+            last = camera if word == "at" else self.cameras[-1]
+            self.cameras += [[a + (b - a) * i // steps for a, b in zip(last, camera)] for i in range(1, steps + 1)]
+
+    def row(self, store, table, picture, y):
+        """The samples of a picture's row under a page table."""
+        u, v, h, c, s = self.cameras[picture]
+        z, p, level = h * self.focal // (y + 1), h // (y + 1), 0
+        while level + 1 < len(store.levels) and 256 << (level + 1) <= p:
+            level += 1
+        samples = b""
+        for x in range(self.width):
+            across = (2 * x + 1 - self.width) * p
+            column = (u + z * c // 16384 - across * s // 32768) // 256 % store.width
+            row = (v + z * s // 16384 + across * c // 32768) // 256 % store.height
+            samples += store.shown(table, level, column, row)
+        return samples
+
+
+def read_journal(store, name):
+    """The changes, each a page and whether it was mapped, and the rows of the last pass of each picture, each with its version."""
+    changes, passes, picture = [], {}, None
+    for word, *numbers in fields_of(name):
+        if word in ("map", "unmap"):
+            changes.append((store.index(*map(int, numbers[1:4])), word == "map"))
+        elif word == "pass":
+            picture = int(numbers[2])
+            passes[picture] = []
+        elif word == "row":
+            passes[picture].append(int(numbers[2]))
+    return changes, passes
+
+
+def table_at(changes, version):
+    """The pages that are mapped after so many changes."""
+    table = set()
+    for page, is_mapped in changes[:version]:
+        (table.add if is_mapped else table.remove)(page)
+    return table
+
+
+def main(store_name, path_name, journal_name, prefix):
+    store, path = Store(store_name), Path(path_name)
+    changes, passes = read_journal(store, journal_name)
+    for picture, versions in passes.items():
+        tables = {version: table_at(changes, version) for version in set(versions)}
+        rows = [path.row(store, tables[version], picture, y) for y, version in enumerate(versions)]
+        with open("%s%04d.ppm" % (prefix, picture), "wb") as file:
+            file.write(b"P6\n%d %d\n%d\n" % (path.width, path.height, 256**store.depth - 1) + b"".join(rows))
+    print("end pictures %d" % len(passes))
+
+
+if __name__ == "__main__":
+    main(*sys.argv[1:])
