@@ -1,3 +1,5 @@
+mod foreign;
+
 use crate::{
     Store, StoreError, Stores, store_length, tile_columns, tile_length, widen_store, write_store,
 };
@@ -137,11 +139,6 @@ fn wide_g4() -> [u8; 136] {
     wide
 }
 
-// The name `a` was asked for one place, the header of its bytes.
-fn header_was_read(folder: &MemoryFolder, bytes: &[u8]) -> bool {
-    folder.asked("a", 0) == read_of(0, bytes.len().min(16) as u64) && folder.asked("a", 1).is_none()
-}
-
 // A read that did not fail.
 fn read_of(at: u64, len: u64) -> Option<Place> {
     Some(Place {
@@ -223,41 +220,6 @@ fn past_the_edge_the_last_texel_stands_again(rt: HostRuntime) -> Result<(), Test
     assert_eq!(rt; tile_of(&mut folder, "b", 5), Some(corner));
     let last = [15, 15, 15, 17, 17, 17, 15, 15, 15, 17, 17, 17];
     assert_eq!(rt; tile_of(&mut folder, "b", 8), Some(last));
-    Ok(())
-}
-
-#[test]
-fn each_flaw_is_named_after_one_read_of_the_header(rt: HostRuntime) -> Result<(), TestFail> {
-    let longer = [0; 77];
-    let mut bytes = longer;
-    bytes[..76].copy_from_slice(&STORE_G4);
-    let mut other_tile = STORE_G4;
-    other_tile[15] = 3;
-    let mut wide = STORE_G4;
-    wide[6..12].copy_from_slice(&[32, 0, 0, 0, 32, 0]);
-    let mut two_bytes = STORE_G4;
-    two_bytes[3] = 0x32;
-    let wrong = |want, have| Err(StoreError::WrongLength { want, have });
-    let rows = [
-        (&STORE_G4[..3], Err(StoreError::BadMagic)),
-        (b"VTS3".as_slice(), Err(StoreError::BadMagic)),
-        (b"VTS2".as_slice(), wrong(16, 4)),
-        (&two_bytes[..], wrong(136, 76)),
-        (&STORE_G4[..4], wrong(16, 4)),
-        (b"VTS1\0".as_slice(), wrong(16, 5)),
-        (&STORE_G4[..15], wrong(16, 15)),
-        (&STORE_G4[..16], wrong(76, 16)),
-        (&STORE_G4[..75], wrong(76, 75)),
-        (&other_tile[..], Err(StoreError::BadGeometry)),
-        (&wide[..], Err(StoreError::BadGeometry)),
-        (&bytes[..], wrong(76, 77)),
-        (&STORE_G4[..], Ok((4, 4, 2, 1))),
-    ];
-    for (bytes, want) in rows {
-        let mut folder = folder_of(rt.alloc(), &[], bytes)?;
-        assert_eq!(rt; opened(&mut folder, "a"), want);
-        assert!(rt; header_was_read(&folder, bytes));
-    }
     Ok(())
 }
 
