@@ -188,18 +188,25 @@ ffmpeg -v quiet -y -f lavfi -i testsrc=size=64x48 -frames:v 1 -pix_fmt rgb24 oth
 $reference make 21 13 77 raw.ppm
 { printf 'P6\n# Created by GIMP version 2.10.34 PNM plug-in\n21 13\n255\n'; tail -c 819 raw.ppm; } > other.ppm; picture_of "GIMP's writer (its form)"
 
-# A large texture of two bytes a sample, by another program where one is installed: tiled, told, read back and drawn.
-{ ppmpat -gingham2 -randomseed=1 2048 2048 | pamdepth 65535; } > large.ppm 2> /dev/null
-[ -s large.ppm ] || "${magick:-none}" -seed 3 -size 2048x2048 plasma:red-blue -depth 16 ppm:large.ppm 2> /dev/null
-[ -s large.ppm ] || $reference make 2048 2048 11 large.ppm 65535
-[ "$(head -c 18 large.ppm | tr '\n' ' ')" = "P6 2048 2048 65535" ] && [ "$(stat -c %s large.ppm)" -eq 25165843 ]; say $? "a large texture of two bytes a sample"
-$reference tile large.ppm want.vts 64 > want.line
-"$program" tile large.ppm got.vts --tile 64 > got.line && cmp -s want.vts got.vts && cmp -s want.line got.line; say $? "its store"
-"$program" info got.vts > got.line && cmp -s want.line got.line; say $? "info of its store"
-$reference texels large.ppm got.vts; say $? "its store read back"
+# Large textures of two bytes a sample, by other programs where these are installed: tiled, told, read back and drawn.
 printf 'size 640 400\nfocal 300\nat -1000 77 204800 11585 -11585\n' > large.path
-$reference large.ppm large.path want.large 64
-"$program" plain large.ppm large.path got.large --tile 64 > /dev/null && cmp -s want.large0000.ppm got.large0000.ppm; say $? "its picture"
+large=""
+large_by() {
+  if [ ! -s large.ppm ]; then echo "skipped: a large texture by $1, which is not here"; return; fi
+  [ "$(head -c 18 large.ppm | tr '\n' ' ')" = "P6 2048 2048 65535" ] && [ "$(stat -c %s large.ppm)" -eq 25165843 ]; say $? "a large texture by $1"
+  $reference tile large.ppm want.vts 64 > want.line
+  "$program" tile large.ppm got.vts --tile 64 > got.line && cmp -s want.vts got.vts && cmp -s want.line got.line; say $? "its store, by $1"
+  "$program" info got.vts > got.line && cmp -s want.line got.line; say $? "info of its store, by $1"
+  [ -n "$large" ] || { $reference texels large.ppm got.vts; say $? "its store read back, by $1"; }
+  large=$1
+  $reference large.ppm large.path want.large 64
+  "$program" plain large.ppm large.path got.large --tile 64 > /dev/null && cmp -s want.large0000.ppm got.large0000.ppm; say $? "its picture, by $1"
+}
+noise() { pgmnoise -maxval=65535 -randomseed="$1" 2048 2048 2> /dev/null; }
+rgb3toppm <(noise 1) <(noise 2) <(noise 3) > large.ppm 2> /dev/null; large_by "netpbm's pgmnoise"
+rm -f large.ppm
+"${magick:-none}" -seed 3 -size 2048x2048 plasma:red-blue -depth 16 ppm:large.ppm 2> /dev/null; large_by ImageMagick
+[ -n "$large" ] || { $reference make 2048 2048 11 large.ppm 65535; large_by "the independent program"; }
 rm -f large.ppm want.vts got.vts
 
 # Stores: tiled, told and read back.
