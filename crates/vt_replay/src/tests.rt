@@ -238,49 +238,40 @@ fn refuses(alloc: Global, store: &[u8], journal: &[u8], line: u32) -> bool {
 }
 
 #[test]
-fn a_journal_is_refused_at_its_first_bad_line_before_anything_is_written(rt: HostRuntime) {
-    let alloc = rt.alloc();
-    // The third pass's row at the version before, without the map that made the version after.
-    assert!(rt;
-        refuses(
-            alloc,
+fn each_foreign_journal_is_refused_at_its_first_bad_line_before_anything_is_written(
+    rt: HostRuntime,
+) {
+    let rows: [(&[u8], &[u8], u32); 6] = [
+        // The third pass's row at the version before, without the map that made the version after.
+        (
             G4,
-            b"map 1 1 0 0 0\npass 1 picture 0 start 1\nrow 0 0 1\n\
-        pass 2 picture 0 start 1\nmap 2 0 0 0 1\nrow 0 0 1\npass 3 picture 0 start 2\nrow 0 0 2\n\
-        pass 4 picture 0 start 3\nrow 0 0 3\n",
-            9
-        )
-    );
-    // A picture that the path has not, also before a line that the reader refuses, and after one.
-    assert!(rt;
-        refuses(
-            alloc,
+            b"map 1 1 0 0 0\npass 1 picture 0 start 1\nrow 0 0 1\npass 2 picture 0 start 1\nmap 2 0 0 0 1\n\
+        row 0 0 1\npass 3 picture 0 start 2\nrow 0 0 2\npass 4 picture 0 start 3\nrow 0 0 3\n",
+            9,
+        ),
+        // A picture that the path has not, also before a line that the reader refuses, and after one.
+        (
             G4,
-            b"map 1 1 0 0 0\npass 1 picture 0 start 1\nrow 0 0 1\n\
-        pass 2 picture 1 start 1\nrow 0 0 1\n",
-            4
-        )
-    );
-    assert!(rt;
-        refuses(
-            alloc,
+            b"map 1 1 0 0 0\npass 1 picture 0 start 1\nrow 0 0 1\npass 2 picture 1 start 1\nrow 0 0 1\n",
+            4,
+        ),
+        (
             G4,
-            b"map 1 1 0 0 0\npass 1 picture 0 start 1\nrow 0 0 1\n\
-        pass 2 picture 1 start 1\nrow 0 0 2\n",
-            4
-        )
-    );
-    assert!(rt;
-        refuses(
-            alloc,
+            b"map 1 1 0 0 0\npass 1 picture 0 start 1\nrow 0 0 1\npass 2 picture 1 start 1\nrow 0 0 2\n",
+            4,
+        ),
+        (
             G4,
-            b"map 1 1 0 0 0\npass 1 picture 0 start 1\nrow 0 0 2\n\
-        pass 2 picture 1 start 1\nrow 0 0 1\n",
-            3
-        )
-    );
-    // A store of another geometry, whose pages have other names.
-    assert!(rt; refuses(alloc, SINGLE, SETTLED, 1));
+            b"map 1 1 0 0 0\npass 1 picture 0 start 1\nrow 0 0 2\npass 2 picture 1 start 1\nrow 0 0 1\n",
+            3,
+        ),
+        // No bytes, and a store of another geometry, whose pages have other names.
+        (G4, b"", 1),
+        (SINGLE, SETTLED, 1),
+    ];
+    for (store, journal, line) in rows {
+        assert!(rt; refuses(rt.alloc(), store, journal, line), "at line {line}");
+    }
 }
 
 // The lines of the settled walk's journal end at these places, and a text that ends there is accepted, or else is refused at
