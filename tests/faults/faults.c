@@ -9,6 +9,7 @@
 #include <stdio.h>
 #include <stdlib.h>
 #include <string.h>
+#include <sys/syscall.h>
 #include <unistd.h>
 
 static int ready, seen, at;
@@ -34,6 +35,13 @@ __attribute__((destructor)) static void tell(void) {
     ssize_t (*real_write)(int, const void *, size_t) = dlsym(RTLD_NEXT, "write");
     if (real_write(file, text, size) < 0) return;
     close(file);
+}
+
+// The program may end in this way, by which no destructor runs.
+void _exit(int status) {
+    tell();
+    syscall(SYS_exit_group, status);
+    __builtin_unreachable();
 }
 
 extern void *__libc_malloc(size_t);

@@ -1,11 +1,11 @@
 #!/usr/bin/env python3
 """Measures the program's commands over growing inputs and prints the tables of docs/PERFORMANCE.md; by hand, on a machine that does nothing else.
 
-usage: measure.py [PROGRAM] [--sweeps tile,walk-batch,..] [--rounds 5] [--most 8192] [--beside OTHER] [--words 'tile: --threads 1']..
+usage: run.py [PROGRAM] [--sweeps tile,walk-batch,..] [--rounds 5] [--most 8192] [--beside OTHER] [--words 'tile: --threads 1']..
 
 Each row is a run of a command: the medians of its seconds and of the processors' seconds, and the most memory that it held. With --beside
 another program is run in turn with it on the same words, and with those that --words gives it for a command; its seconds and how many times
-as long the first one takes stand behind. A program that answers another status than 0 has a dash. Textures have sides of up to --most.
+as long the first one takes stand behind. A program that answers another status than 0 has a dash. Textures have sides of up to --most. It wants gcc.
 """
 import argparse
 import glob
@@ -14,9 +14,9 @@ import shlex
 import statistics
 import subprocess
 import tempfile
-import time
 
-TOP = os.path.dirname(os.path.dirname(os.path.abspath(__file__)))
+HERE = os.path.dirname(os.path.abspath(__file__))
+TOP = os.path.dirname(os.path.dirname(HERE))
 WRITTEN = ["w.vts", "w.ppm", "w.txt", "f????.ppm"]
 
 
@@ -115,11 +115,11 @@ def run(program, words):
     """The seconds, the processors' seconds and the mebibytes of a run, or None where it does not end with status 0."""
     for name in [name for pattern in WRITTEN for name in glob.glob(pattern)]:
         os.remove(name)
-    begin = time.monotonic()
-    child = subprocess.Popen([program, *words], stdout=subprocess.DEVNULL, stderr=subprocess.DEVNULL)
-    _, status, used = os.wait4(child.pid, 0)
-    seconds, child.returncode = time.monotonic() - begin, status
-    return (seconds, used.ru_utime + used.ru_stime, used.ru_maxrss / 1024) if status == 0 else None
+    subprocess.run(["./timed", "figures", program, *words], check=True, stdout=subprocess.DEVNULL, stderr=subprocess.DEVNULL)
+    with open("figures") as file:
+        *figures, status = file.read().split()
+    seconds, busy, kibibytes = map(float, figures)
+    return (seconds, busy, kibibytes / 1024) if status == "0" else None
 
 
 def row(title, programs, rounds):
@@ -149,6 +149,7 @@ def main():
     more = {command.strip(): shlex.split(words) for command, words in (text.split(":", 1) for text in asked.words)}
     with tempfile.TemporaryDirectory() as folder:
         os.chdir(folder)
+        subprocess.run(["gcc", "-O1", os.path.join(HERE, "timed.c"), "-o", "timed"], check=True)
         sweeps = sweeps_of(Inputs(program), [side for side in (1024, 2048, 4096, 8192) if side <= asked.most])
         for sweep in asked.sweeps.split(",") if asked.sweeps else sweeps:
             head = ["seconds", "processor seconds", "MiB"] + (["the other's seconds", "times"] if beside else [])
