@@ -49,10 +49,17 @@ extern void *__libc_calloc(size_t, size_t);
 extern void *__libc_realloc(void *, size_t);
 extern void *__libc_memalign(size_t, size_t);
 
-void *malloc(size_t n) { return hit("alloc") ? NULL : __libc_malloc(n); }
-void *calloc(size_t n, size_t m) { return hit("alloc") ? NULL : __libc_calloc(n, m); }
-void *realloc(void *p, size_t n) { return hit("alloc") ? NULL : __libc_realloc(p, n); }
-void *aligned_alloc(size_t a, size_t n) { return hit("alloc") ? NULL : __libc_memalign(a, n); }
+// What the C library itself asks for, as the place of a thread, it wants refused with this errno.
+static int refused(void) {
+    if (!hit("alloc")) return 0;
+    errno = ENOMEM;
+    return 1;
+}
+
+void *malloc(size_t n) { return refused() ? NULL : __libc_malloc(n); }
+void *calloc(size_t n, size_t m) { return refused() ? NULL : __libc_calloc(n, m); }
+void *realloc(void *p, size_t n) { return refused() ? NULL : __libc_realloc(p, n); }
+void *aligned_alloc(size_t a, size_t n) { return refused() ? NULL : __libc_memalign(a, n); }
 
 int posix_memalign(void **out, size_t a, size_t n) {
     if (hit("alloc")) return ENOMEM;

@@ -68,7 +68,7 @@ class Soak:
         print(text + "kept in " + folder, flush=True)
 
     def try_case(self, seed):
-        case, chance = case_of(seed, self.commands), random.Random(seed)
+        case, chance = case_of(seed, self.commands), random.Random("call %d" % seed)
         kind, at = chance.choice(list(KINDS)), 0
         if chance.randrange(3) == 0:
             self.fill(case)
