@@ -5,10 +5,12 @@ usage: run.py [PROGRAM] [--sweeps tile,walk-batch,..] [--rounds 5] [--most 8192]
 
 Each row is a run of a command: the medians of its seconds and of the processors' seconds, and the most memory that it held. With --beside
 another program is run in turn with it on the same words, and with those that --words gives it for a command; its seconds and how many times
-as long the first one takes stand behind. A program that answers another status than 0 has a dash. Textures have sides of up to --most. It wants gcc.
+as long the first one takes stand behind, and OTHER BYTES where both do not leave the same pictures or store. A program that answers another
+status than 0 has a dash. Textures have sides of up to --most. It wants gcc.
 """
 import argparse
 import glob
+import hashlib
 import os
 import shlex
 import statistics
@@ -112,14 +114,23 @@ def replay_words(inputs, side, pictures):
 
 
 def run(program, words):
-    """The seconds, the processors' seconds and the mebibytes of a run, or None where it does not end with status 0."""
+    """The seconds, the processors' seconds, the mebibytes and a digest of the pictures or the store of a run, or None where its status is not 0."""
     for name in [name for pattern in WRITTEN for name in glob.glob(pattern)]:
         os.remove(name)
     subprocess.run(["./timed", "figures", program, *words], check=True, stdout=subprocess.DEVNULL, stderr=subprocess.DEVNULL)
     with open("figures") as file:
         *figures, status = file.read().split()
     seconds, busy, kibibytes = map(float, figures)
-    return (seconds, busy, kibibytes / 1024) if status == "0" else None
+    return (seconds, busy, kibibytes / 1024, digest()) if status == "0" else None
+
+
+def digest():
+    """What stands in the names that were written, but the journal's."""
+    found = hashlib.sha256()
+    for name in sorted(name for pattern in WRITTEN if pattern != "w.txt" for name in glob.glob(pattern)):
+        with open(name, "rb") as file:
+            found.update(name.encode() + hashlib.sha256(file.read()).digest())
+    return found.hexdigest()
 
 
 def row(title, programs, rounds):
@@ -128,12 +139,13 @@ def row(title, programs, rounds):
     for _ in range(rounds):
         for found, (program, words) in zip(runs, programs):
             found.append(run(program, words))
-    middles = [None if None in found else [statistics.median(column) for column in zip(*found)] for found in runs]
+    middles = [None if None in found else [statistics.median(column) for column in list(zip(*found))[:3]] for found in runs]
     cells = ["%.3f | %.3f | %.0f" % tuple(middle) if middle else "- | - | -" for middle in middles[:1]]
     cells += ["%.3f" % middle[0] if middle else "-" for middle in middles[1:]]
     if len(middles) == 2:
         cells.append("%.2f" % (middles[0][0] / middles[1][0]) if None not in middles else "-")
-    print("| %s | %s |" % (title, " | ".join(cells)), flush=True)
+    digests = {figures[3] for found in runs for figures in found if figures}
+    print("| %s%s | %s |" % (title, "" if len(digests) < 2 else ", OTHER BYTES", " | ".join(cells)), flush=True)
 
 
 def main():
