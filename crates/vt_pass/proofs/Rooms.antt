@@ -13,7 +13,7 @@ use Rattle.vt_table.specs.Views.{TableView, IsTable}
 use Rattle.vt_store.specs.Format.{tile_length}
 use Rattle.vt_evict.specs.declared.batches.Planned.{Planned}
 use Rattle.vt_load.specs.declared.queued.Queues.{Queues}
-use Rattle.vt_pass.specs.RoundKits.{IsAsked}
+use Rattle.vt_pass.specs.RoundKits.{IsSetUp, IsAsked}
 use Rattle.vt_pass.specs.declared.crew.Crew.{Crew}
 use Rattle.vt_pass.specs.Crews.{IsCrew}
 use Rattle.vt_pass.specs.Outcomes.{IsBatchFor}
@@ -21,7 +21,7 @@ use Rattle.vt_shown.specs.Frames.{HoldsTiles}
 use Rattle.vt_pass.specs.Passes.{IsUntouched, IsSpent}
 use Rattle.vt_store.specs.StoreViews.{StoreView, IsStoreIfTold}
 use Rattle.vt_pass.specs.Machines.{file_state, files_of, told_by, AreStoresFor}
-use Rattle.vt_pass.specs.Kits.{KitView, kit_state, IsIdleKit, IsReadyKit, HasRoom, IsSameKit, IsSameStore, AreSameStores, AreSamplersOf}
+use Rattle.vt_pass.specs.Kits.{KitView, kit_state, IsIdleKit, IsPreparedKit, IsReadyKit, HasRoom, IsSameKit, IsSameStore, AreSameStores, AreSamplersOf}
 
 module _ {F : Type 0} (g : FileMeanings F) where
   -- the first of some stores have room to note so many reads
@@ -151,18 +151,55 @@ module _ {F : Type 0} (g : FileMeanings F) where
     events = room.events;
   })
 
-  pub ready_with : (v w : TableView) (q : Queues) (k l : KitView F) (batch : List Planned) → w ≡ record v { spare = w.spare } → IsSameKit g k l → IsIdleKit g v k
+  pub prepared_with : (v w : TableView) (q : Queues) (k l : KitView F) (batch : List Planned) → w ≡ record v { spare = w.spare } → IsSameKit g k l → IsIdleKit g v k
       → IsBatchFor v.shape v.frames (newest v.changes) batch → length batch ≤ k.crew.batch → 2 * length batch ≤ w.spare → HasRoom l (length batch)
-      → All (λ store. l.crew.batch ≤ g.spare store.file) l.stores → IsAsked q l.round l.shape l.depth l.crew batch → IsReadyKit g w q l batch
-  ready_with v w q k l batch same h idle lawful few journal room reads asked = record {
-    idle = idle_still v w k l same h idle asked.places.sizes;
+      → All (λ store. l.crew.batch ≤ g.spare store.file) l.stores → IsSetUp q l.round (tile_length l.shape l.depth) l.crew (length batch)
+      → IsPreparedKit g w q l batch
+  prepared_with v w q k l batch same h idle lawful few journal room reads set_up = record {
+    idle = idle_still v w k l same h idle set_up.sizes;
     few = subst (λ (crew : Crew). length batch ≤ crew.batch) (sym h.crew) few;
     reads = reads;
-    asked = asked;
+    queued = set_up;
     lawful = subst (λ (u : TableView). IsBatchFor u.shape u.frames (newest u.changes) batch) (sym same) lawful;
     journal = journal;
     room = room;
   }
+
+  -- the pages of the batch for which a kit is prepared are the texture's
+  pub pages_inside : (v : TableView) (q : Queues) (k : KitView F) (batch : List Planned) → IsPreparedKit g v q k batch → All (λ e. e.page < pages_of k.shape) batch
+  pages_inside v q k batch h j e inside = subst (λ (s : Shape). (get_or batch j e).page < pages_of s) h.idle.shape (h.lawful.each j e inside).page_inside
+
+  -- a kit that was prepared is ready once the requests were put
+  pub ready_once_asked : (v : TableView) (q : Queues) (k l : KitView F) (batch : List Planned) → l ≡ record k { round = l.round } → IsPreparedKit g v q k batch
+      → IsAsked q l.round k.shape k.depth k.crew batch → IsReadyKit g v q l batch
+  ready_once_asked v q k l batch rest h asked = subst (λ (x : KitView F). IsReadyKit g v q x batch) (sym rest) (record {
+    idle = record {
+      table = h.idle.table;
+      shape = h.idle.shape;
+      kit = record {
+        crew = h.idle.kit.crew;
+        depth = h.idle.kit.depth;
+        stores = h.idle.kit.stores;
+        told = h.idle.kit.told;
+        samplers = h.idle.kit.samplers;
+        sides = h.idle.kit.sides;
+        counts = h.idle.kit.counts;
+        buffers = asked.places.sizes;
+      };
+      holds = h.idle.holds;
+    };
+    lawful = h.lawful;
+    few = h.few;
+    journal = h.journal;
+    room = record {
+      no_rows = h.room.no_rows;
+      rows = h.room.rows;
+      no_events = h.room.no_events;
+      events = h.room.events;
+    };
+    reads = h.reads;
+    queued = asked;
+  })
 
   pub untouched : (v w : TableView) (k l : KitView F) → w ≡ record v { spare = w.spare } → IsSameKit g k l → IsUntouched (kit_state g v k) (kit_state g w l)
   untouched v w k l same h = record {
@@ -185,10 +222,6 @@ module _ {F : Type 0} (g : FileMeanings F) where
 pub on_ok : {T E A B : Type 0} (r : Result T E) → OnOk r A → (A → B) → OnOk r B
 on_ok (Ok x) a f = f a
 on_ok (Err e) n f = n
-
-pub always_ok : {T E B : Type 0} (r : Result T E) → B → OnOk r B
-always_ok (Ok x) b = b
-always_ok (Err e) b = tt
 
 pub always_err : {T E B : Type 0} (r : Result T E) → B → OnErr r B
 always_err (Ok x) b = tt

@@ -12,6 +12,8 @@ use Rattle.vt_evict.specs.declared.batches.Planned.{Planned}
 use Rattle.vt_queue.specs.declared.items.Request.{Request}
 use Rattle.vt_queue.specs.declared.items.Loaded.{Loaded}
 use Rattle.vt_queue.specs.declared.views.PassView.{PassView}
+use Rattle.vt_queue.specs.declared.queue.QueuePass.{QueuePass}
+use Rattle.vt_queue.specs.Queues.{view_of}
 use Rattle.vt_queue.specs.PassViews.{all_shares}
 use Rattle.vt_queue.specs.Orders.{items_of}
 use Rattle.vt_load.specs.declared.queued.Queues.{Queues}
@@ -101,6 +103,10 @@ pub record IsEndedRound {F : Type 0} (g : FileMeanings F) (q : Queues) (s : Shap
   pub loaders : All (IsLoaderOf g s b.depth b.told) b.first
   pub number : length last ≡ length b.first
   pub loaded : (k : ℕ) (e : QueuedView F) → k < length b.first → HasLoaded g q (slice_index_or b.first k e) (slice_index_or last k e)
+
+-- and the passes that are left are these, where the tiles are for this table
+abbrev pub HaveEnded : {F : Type 0} → FileMeanings F → Queues → TableView → List Planned → QueuePass Request → QueuePass Loaded → List (QueuedView F) → Begun F → Type 0
+HaveEnded g q v batch asks answers last b = IsEndedRound g q v.shape batch (view_of asks) (view_of answers) last b
 
 -- The round was streamed into a table: its events are an outcome of the batch, of which the changes were made, the files were read for it,
 -- and the frames hold the store's tiles if they did before.

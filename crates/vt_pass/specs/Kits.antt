@@ -21,7 +21,7 @@ use Rattle.vt_pass.specs.Crews.{IsCrew}
 use Rattle.vt_pass.specs.Outcomes.{IsBatchFor}
 use Rattle.vt_load.specs.declared.queued.Queues.{Queues}
 use Rattle.vt_shown.specs.Frames.{HoldsTiles}
-use Rattle.vt_pass.specs.RoundKits.{RoundKitView, IsAsked}
+use Rattle.vt_pass.specs.RoundKits.{RoundKitView, AreSized, IsSetUp, IsAsked}
 use Rattle.vt_pass.specs.Machines.{Setup, MachineState, file_state, files_of, told_by, AreStoresFor}
 
 -- a kit: how the texture is cut into pages, how many bytes its samples have, the sides of the pictures, the crew; the samplers and the
@@ -38,6 +38,11 @@ pub record KitView (F : Type 0) : Type 0 where
   pub rows : ListView RowLine
   pub events : ListView Event
   pub round : RoundKitView F
+
+-- a kit for a table that it is lent for each pass: its queues, and what else it is done with
+pub record PassKitView (F : Type 0) : Type 0 where
+  pub queues : Queues
+  pub kit : KitView F
 
 -- the bytes of a row of a sampler, if it is there
 abbrev pub row_by : Option StillSampler → ℕ → List ℕ
@@ -83,7 +88,7 @@ pub record IsKit {F : Type 0} (g : FileMeanings F) (k : KitView F) : Type 0 wher
   pub samplers : AreSamplersOf k.shape k.depth k.width k.height k.crew.samplers k.samplers
   pub sides : ArePictureSides k.width k.height
   pub counts : length k.counts ≡ pages_of k.shape
-  pub buffers : All (λ b. length b.elements ≡ tile_length k.shape k.depth) k.round.buffers.elements
+  pub buffers : AreSized (tile_length k.shape k.depth) k.round.buffers.elements
 
 -- a whole kit and a table of its texture, whose frames hold the tiles of the stores
 pub record IsIdleKit {F : Type 0} (g : FileMeanings F) (v : TableView) (k : KitView F) : Type 0 where
@@ -99,15 +104,23 @@ pub record HasRoom {F : Type 0} (k : KitView F) (entries : ℕ) : Type 0 where
   pub no_events : k.events.elements ≡ []
   pub events : 2 * entries ≤ k.events.spare
 
--- there is room for a pass of a batch, which is lawful for the table and no longer than the crew's, and its requests were put
-pub record IsReadyKit {F : Type 0} (g : FileMeanings F) (v : TableView) (q : Queues) (k : KitView F) (batch : List Planned) : Type 0 where
+-- there is room for a pass of a batch, which is lawful for the table and no longer than the crew's, and this holds of its queues
+pub record IsKitFor {F : Type 0} (g : FileMeanings F) (v : TableView) (k : KitView F) (batch : List Planned) (Queued : Type 0) : Type 0 where
   pub idle : IsIdleKit g v k
   pub lawful : IsBatchFor v.shape v.frames (newest v.changes) batch
   pub few : length batch ≤ k.crew.batch
   pub journal : 2 * length batch ≤ v.spare
   pub room : HasRoom k (length batch)
   pub reads : All (λ store. k.crew.batch ≤ g.spare store.file) k.stores
-  pub asked : IsAsked q k.round k.shape k.depth k.crew batch
+  pub queued : Queued
+
+-- a pass is prepared for a batch: its queues are new, and the requests are still to be put
+abbrev pub IsPreparedKit : {F : Type 0} → FileMeanings F → TableView → Queues → KitView F → List Planned → Type 0
+IsPreparedKit g v q k batch = IsKitFor g v k batch (IsSetUp q k.round (tile_length k.shape k.depth) k.crew (length batch))
+
+-- and the requests for the batch were put
+abbrev pub IsReadyKit : {F : Type 0} → FileMeanings F → TableView → Queues → KitView F → List Planned → Type 0
+IsReadyKit g v q k batch = IsKitFor g v k batch (IsAsked q k.round k.shape k.depth k.crew batch)
 
 -- the lines of the rows of a picture that was drawn at one version, each by the sampler whose turn it is
 abbrev pub lines_at : ℕ → ℕ → ℕ → List RowLine

@@ -27,6 +27,10 @@ pub record RoundKitView (F : Type 0) : Type 0 where
   pub buffers : ListView (ListView ℕ)
   pub losses : ListView Bool
 
+-- all of these buffers have one size
+abbrev pub AreSized : ℕ → List (ListView ℕ) → Type 0
+AreSized size buffers = All (λ b. length b.elements ≡ size) buffers
+
 -- two queues are new, with room for so many items, and these are their passes
 pub record AreNew (capacity : ℕ) (q : Queues) (asks : QueuePass Request) (answers : QueuePass Loaded) : Type 0 where
   pub passes : AreOf q asks answers
@@ -42,7 +46,19 @@ pub record HasPlaces {F : Type 0} (r : RoundKitView F) (entries size : ℕ) : Ty
   pub results : entries ≤ r.results.spare
   pub losses : length r.losses.elements ≡ entries
   pub buffers : entries ≤ r.buffers.spare
-  pub sizes : All (λ b. length b.elements ≡ size) r.buffers.elements
+  pub sizes : AreSized size r.buffers.elements
+
+-- two queues are new and have room for a crew's batches; there is room for its loaders, and for the results of so many entries, with a
+-- buffer of this size and a note for each
+pub record IsSetUp {F : Type 0} (q : Queues) (r : RoundKitView F) (size : ℕ) (crew : Crew) (entries : ℕ) : Type 0 where
+  pub new : AreNew crew.batch q r.asks r.answers
+  pub no_loaders : r.loaders.elements ≡ []
+  pub loaders : crew.loaders ≤ r.loaders.spare
+  pub no_results : r.results.elements ≡ []
+  pub results : entries ≤ r.results.spare
+  pub losses : length r.losses.elements ≡ entries
+  pub buffers : entries ≤ length r.buffers.elements
+  pub sizes : AreSized size r.buffers.elements
 
 -- requests for a batch were put into new queues, and there is room for the loaders of a crew
 pub record IsAsked {F : Type 0} (q : Queues) (r : RoundKitView F) (s : Shape) (d : ℕ) (crew : Crew) (batch : List Planned) : Type 0 where

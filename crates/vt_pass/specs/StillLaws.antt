@@ -123,10 +123,10 @@ module _ {F : Type 0} (g : FileMeanings F) (v : TableView) (q : Queues) (k l : K
           sizes = subst (λ (x : ListView (ListView ℕ)). All (λ b. length b.elements ≡ tile_length k.shape k.depth) x.elements) (sym dealt.buffers) places.sizes;
         };
         ended = record {
-          asked = subst (λ s. ArePut s k.depth job.batch (length job.batch) (view_of k.round.asks)) (sym ready.idle.shape) ready.asked.put;
-          answers_all = ap (λ (w : PassView Loaded). w.shares) ready.asked.no_answers;
-          no_results = ap (λ (w : PassView Loaded). w.put) ready.asked.no_answers;
-          no_answers = ap (λ (w : PassView Loaded). w.took) ready.asked.no_answers;
+          asked = subst (λ s. ArePut s k.depth job.batch (length job.batch) (view_of k.round.asks)) (sym ready.idle.shape) ready.queued.put;
+          answers_all = ap (λ (w : PassView Loaded). w.shares) ready.queued.no_answers;
+          no_results = ap (λ (w : PassView Loaded). w.put) ready.queued.no_answers;
+          no_answers = ap (λ (w : PassView Loaded). w.took) ready.queued.no_answers;
           split = dealt.split;
           depth_is = ready.idle.kit.depth;
           loaders = dealt.of v.shape k.depth (told_by g k.stores) (λ j x inside. let are = ready.idle.kit.stores in
@@ -141,7 +141,7 @@ module _ {F : Type 0} (g : FileMeanings F) (v : TableView) (q : Queues) (k l : K
         dealt = out.dealt
 
         places : HasPlaces k.round (length job.batch) (tile_length k.shape k.depth)
-        places = ready.asked.places
+        places = ready.queued.places
 
         number_is : length a ≡ length k.stores
         number_is = sym (length-reverse (stores_of a) ∙ length-map a (λ (x : QueuedView F). x.loader.store)) ∙ ap length dealt.stores_are

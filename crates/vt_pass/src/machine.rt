@@ -34,10 +34,11 @@ use vt_store::Stores;
 
 /// A value that streams tiles of a store into frames, and draws the pictures of a path from them.
 ///
-/// It is made for a texture that is cut into pages, for pictures of the path's sides, a number of frames and a crew. First
-/// pages are placed in frames. Then each pass is prepared for a batch and run; after it the picture, its counts and the
-/// journal of the page table can be asked for. A machine that was refused memory by `prepare` or `run` can only be ended.
-/// Where the files of the loaders do not tell their bytes or the places that they were asked, clauses on these say nothing.
+/// It is made for a texture that is cut into pages, for pictures of the path's sides, a number of frames and a crew.
+/// First pages are placed in frames. Then each pass is prepared for a batch and run; after it the picture, its counts
+/// and the journal of the page table can be asked for. A machine that was refused memory by `prepare` or `run` can only
+/// be ended. Where the files of the loaders do not tell their bytes or the places that they were asked, clauses on
+/// these say nothing.
 pub trait PassMachine: Sized {
     /// What the loaders read.
     type File: File + Send;
@@ -90,9 +91,11 @@ pub trait PassMachine: Sized {
     ghost may_dismiss: { Self → Job → List Self.Loader → List Self.Sampler → Self.Streamer → Type 0 };
 
     /// What it was without its workers, and what it is and answers once they were moved back.
-    ghost dismissed: { Self → Job → List Self.Loader → List Self.Sampler → Self.Streamer → Self → Result Report Refusal → Type 0 };
+    ghost dismissed: { Self → Job → List Self.Loader → List Self.Sampler → Self.Streamer → Self
+        → Result Report Refusal → Type 0 };
 
-    /// Makes a machine as `make` does, with the stores of a list, which it leaves empty. After a refusal the list has them all.
+    /// Makes a machine as `make` does, with the stores of a list, which it leaves empty. After a refusal the list has
+    /// them all.
     fn make_from<Rt: Threads + Wait + Sync>(
         rt: &Rt,
         alloc: Global,
@@ -107,17 +110,18 @@ pub trait PassMachine: Sized {
         requires crew { IsCrew crew.now }
         requires depth { IsDepth depth }
         requires stores { AreStoresFor Self.File.File geometry.now depth crew.now.loaders stores.old.elements }
-        ensures begins { IfOk result (λ m. Begins (setup_of geometry.now depth path.now frames crew.now (told_by Self.File.File stores.old.elements))
-            (files_of Self.File.File stores.old.elements) (state m)) }
+        ensures begins { IfOk result (λ m. Begins (setup_of geometry.now depth path.now frames crew.now
+            (told_by Self.File.File stores.old.elements)) (files_of Self.File.File stores.old.elements) (state m)) }
         ensures idle { IfOk result is_idle }
         ensures taken { OnOk result (stores.new.elements ≡ []) }
-        ensures refused { OnErr result (files_of Self.File.File stores.new.elements ≡ files_of Self.File.File stores.old.elements) };
+        ensures refused { OnErr result (files_of Self.File.File stores.new.elements
+            ≡ files_of Self.File.File stores.old.elements) };
 
     /// Makes a machine with one store for each loader, whose journal is empty. A refusal hands the stores back.
     ///
-    /// The stores are cut as the geometry says, their samples have `depth` bytes, and all of them tell the same bytes or none
-    /// does. The frames are from 1 to 65,535, and have at most 8,388,608 texels together. Of the path only the sides of its
-    /// pictures count here.
+    /// The stores are cut as the geometry says, their samples have `depth` bytes, and all of them tell the same bytes
+    /// or none does. The frames are from 1 to 65,535, and have at most 8,388,608 texels together. Of the path only the
+    /// sides of its pictures count here.
     final fn make<Rt: Threads + Wait + Sync>(
         rt: &Rt,
         alloc: Global,
@@ -132,10 +136,11 @@ pub trait PassMachine: Sized {
         requires crew { IsCrew crew.now }
         requires depth { IsDepth depth }
         requires stores { AreStoresFor Self.File.File geometry.now depth crew.now.loaders stores.elements }
-        ensures begins { IfOk result (λ m. Begins (setup_of geometry.now depth path.now frames crew.now (told_by Self.File.File stores.elements))
-            (files_of Self.File.File stores.elements) (state m)) }
+        ensures begins { IfOk result (λ m. Begins (setup_of geometry.now depth path.now frames crew.now
+            (told_by Self.File.File stores.elements)) (files_of Self.File.File stores.elements) (state m)) }
         ensures idle { IfOk result is_idle }
-        ensures refused { IfErr result (λ e. files_of Self.File.File e.0.elements ≡ files_of Self.File.File stores.elements) }
+        ensures refused { IfErr result (λ e. files_of Self.File.File e.0.elements
+            ≡ files_of Self.File.File stores.elements) }
     {
         match Self::make_from(rt, alloc, geometry, path, frames, crew, depth, &mut stores) {
             Ok(machine) => {
@@ -146,8 +151,8 @@ pub trait PassMachine: Sized {
         }
     }
 
-    /// Maps a page to a frame that it fills with the page's tile, while no pass is prepared. Both are free, and the tile is
-    /// the store's, where that is told. After a refusal nothing changed.
+    /// Maps a page to a frame that it fills with the page's tile, while no pass is prepared. Both are free, and the
+    /// tile is the store's, where that is told. After a refusal nothing changed.
     fn place<Rt: Threads + Wait + Sync>(
         &mut self,
         rt: &Rt,
@@ -181,8 +186,10 @@ pub trait PassMachine: Sized {
         requires job { IsJobFor (state self.old).setup (job_of shot.now batch.now.elements) }
         ensures mustered { mustered self.old (job_of shot.now batch.now.elements)
             self.new result.0.elements result.1.elements result.2 }
-        ensures loaders { AllReady (Self.Loader.ready (lent self.new) (job_of shot.now batch.now.elements)) result.0.elements }
-        ensures samplers { AllReady (Self.Sampler.ready (lent self.new) (job_of shot.now batch.now.elements)) result.1.elements }
+        ensures loaders { AllReady (Self.Loader.ready (lent self.new) (job_of shot.now batch.now.elements))
+            result.0.elements }
+        ensures samplers { AllReady (Self.Sampler.ready (lent self.new) (job_of shot.now batch.now.elements))
+            result.1.elements }
         ensures streamer { Self.Streamer.ready (lent self.new) (job_of shot.now batch.now.elements) result.2 };
 
     /// What the workers share.
@@ -254,22 +261,28 @@ pub trait PassMachine: Sized {
         ensures { files_of Self.File.File result.elements ≡ (state self).files };
 
     /// Where the root is mapped and every page that a picture needs, a pixel under the page table is that without one.
-    ghost shows_whole: { (scene : Scene) (b : List ℕ) (m : Table) (i x y : ℕ) → IsWithinLimits scene.shape → IsStore b scene.shape scene.depth
-        → i < length scene.path.cameras → x < scene.path.width → y < scene.path.height → MapsNeeded scene.shape m (needs scene i)
+    ghost shows_whole: { (scene : Scene) (b : List ℕ) (m : Table) (i x y : ℕ) → IsWithinLimits scene.shape
+        → IsStore b scene.shape scene.depth
+        → i < length scene.path.cameras → x < scene.path.width → y < scene.path.height
+        → MapsNeeded scene.shape m (needs scene i)
         → shows scene b m i x y ≡ whole scene b i x y };
 
     /// What the workers did leaves what can be moved back.
-    ghost may_come_back: { (job : Job) (m n : Self) (a c : List Self.Loader) (e f : List Self.Sampler) (b d : Self.Streamer)
+    ghost may_come_back: { (job : Job) (m n : Self) (a c : List Self.Loader) (e f : List Self.Sampler)
+        (b d : Self.Streamer)
         → is_ready m job.batch → MapsRoot (state m) → IsJobFor (state m).setup job → mustered m job n a e b
         → length c ≡ length a → length f ≡ length e
-        → AllDid (Self.Loader.did (lent n) job) a c → AllDid (Self.Sampler.did (lent n) job) e f → Self.Streamer.did (lent n) job b d
+        → AllDid (Self.Loader.did (lent n) job) a c → AllDid (Self.Sampler.did (lent n) job) e f
+        → Self.Streamer.did (lent n) job b d
         → may_dismiss n job c f d };
 
     /// What the workers did is a pass, once they are moved back.
-    ghost has_run: { (job : Job) (m n p : Self) (a c : List Self.Loader) (e f : List Self.Sampler) (b d : Self.Streamer) (r : Result Report Refusal)
+    ghost has_run: { (job : Job) (m n p : Self) (a c : List Self.Loader) (e f : List Self.Sampler)
+        (b d : Self.Streamer) (r : Result Report Refusal)
         → is_ready m job.batch → MapsRoot (state m) → IsJobFor (state m).setup job → mustered m job n a e b
         → length c ≡ length a → length f ≡ length e
-        → AllDid (Self.Loader.did (lent n) job) a c → AllDid (Self.Sampler.did (lent n) job) e f → Self.Streamer.did (lent n) job b d
+        → AllDid (Self.Loader.did (lent n) job) a c → AllDid (Self.Sampler.did (lent n) job) e f
+        → Self.Streamer.did (lent n) job b d
         → dismissed n job c f d p r
         → Ends DEALT needs shows (drawn p) (is_idle p) job r (state m) (state p) };
 }

@@ -8,15 +8,15 @@ mod loads_end;
 mod loads_task;
 mod machine;
 mod pass;
+mod pass_kit;
 mod room;
 mod round;
 mod stream;
 mod tasks;
 mod told;
 
-pub use kit::PassKit;
 pub use loads::rounds_are_passes;
 pub use loads_task::StillShared;
 pub use machine::StillMachine;
-pub use pass::run_pass;
+pub use pass_kit::{PassKit, run_pass};
 pub use tasks::{NoTask, StillSampler};

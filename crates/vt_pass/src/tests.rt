@@ -26,8 +26,8 @@ use vt_journal::{Change, Event, RowLine};
 use vt_outside::{Fail, Fails, Folder, MemoryFolder, NoMemory, OpenGate, Place};
 use vt_pages::Geometry;
 
-// The store, with tiles of side 2, of a texture of 4x4 texels whose texel (x, y) is 4y+x in each channel: its header, and the
-// tiles of four pages and of the root.
+// The store, with tiles of side 2, of a texture of 4x4 texels whose texel (x, y) is 4y+x in each channel: its header,
+// and the tiles of four pages and of the root.
 const STORE: [u8; 76] = [
     0x56, 0x54, 0x53, 0x31, 0, 0, 0, 4, 0, 0, 0, 4, 0, 0, 0, 2, 0, 0, 0, 1, 1, 1, 4, 4, 4, 5, 5, 5,
     2, 2, 2, 3, 3, 3, 6, 6, 6, 7, 7, 7, 8, 8, 8, 9, 9, 9, 12, 12, 12, 13, 13, 13, 10, 10, 10, 11,
@@ -153,8 +153,8 @@ fn first_reads() -> [Fail; 6] {
     fails
 }
 
-// Whether the header, the root's tile and then these two places were asked: of which loaders' files is open, and the places stand
-// in the order in which these were closed.
+// Whether the header, the root's tile and then these two places were asked: of which loaders' files is open, and the
+// places stand in the order in which these were closed.
 fn was_asked_both(folder: &MemoryFolder, first: Place, second: Place) -> bool {
     folder.was_asked("a", &[HEADER, tile_read(4, false), first, second])
         || folder.was_asked("a", &[HEADER, tile_read(4, false), second, first])
@@ -213,7 +213,8 @@ fn drive_placed<Rt: Abort + Threads + Wait + Sync, M: PassMachine>(
     requires batch { 2 ≤ (M.state machine.old).setup.crew.batch }
     requires journal { (M.state machine.old).journal ≡ [] }
     requires size { length tile.now ≡ tile_length geometry.now 1 }
-    requires tile { IfSome (M.state machine.old).setup.bytes (λ b. IsPiece b (tile_start geometry.now 1 (root_of geometry.now)) tile.now) }
+    requires tile { IfSome (M.state machine.old).setup.bytes (λ b. IsPiece b
+        (tile_start geometry.now 1 (root_of geometry.now)) tile.now) }
 {
     machine.place(rt, root_page(geometry), 0, tile)?;
     drive(rt, alloc, machine, 3, geometry, path, steps, &OpenGate)

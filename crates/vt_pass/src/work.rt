@@ -42,13 +42,15 @@ pub(crate) fn work_together<
         &mut || -> ()
             requires { IsSync Rt.row × IsSync G.row × IsSync S.row × IsSend L.row
                 × AllReady (L.ready shared.now (job_of shot.now batch.now)) loaders.now }
-            ensures { AllDid (L.did shared.entry.now (job_of shot.entry.now batch.entry.now)) loaders.entry.now loaders.exit.now }
+            ensures { AllDid (L.did shared.entry.now (job_of shot.entry.now batch.entry.now)) loaders.entry.now
+                loaders.exit.now }
         { work_all(rt, loaders, shared, shot, batch, gate) },
         &mut || -> ()
             requires { IsSync Rt.row × IsSync G.row × IsSync S.row × IsSend M.row × IsSend R.row
                 × AllReady (M.ready shared.now (job_of shot.now batch.now)) samplers.now
                 × R.ready shared.now (job_of shot.now batch.now) streamer.now }
-            ensures { AllDid (M.did shared.entry.now (job_of shot.entry.now batch.entry.now)) samplers.entry.now samplers.exit.now
+            ensures { AllDid (M.did shared.entry.now (job_of shot.entry.now batch.entry.now)) samplers.entry.now
+                samplers.exit.now
                 × R.did shared.entry.now (job_of shot.entry.now batch.entry.now) streamer.entry.now streamer.exit.now }
         { draw_beside(rt, samplers, streamer, shared, shot, batch, gate) },
     );
@@ -80,12 +82,14 @@ fn draw_beside<
         &mut || -> ()
             requires { IsSync Rt.row × IsSync G.row × IsSync S.row × IsSend M.row
                 × AllReady (M.ready shared.now (job_of shot.now batch.now)) samplers.now }
-            ensures { AllDid (M.did shared.entry.now (job_of shot.entry.now batch.entry.now)) samplers.entry.now samplers.exit.now }
+            ensures { AllDid (M.did shared.entry.now (job_of shot.entry.now batch.entry.now)) samplers.entry.now
+                samplers.exit.now }
         { work_all(rt, samplers, shared, shot, batch, gate) },
         &mut || -> ()
             requires { IsSync Rt.row × IsSync G.row × IsSync S.row × IsSend R.row
                 × R.ready shared.now (job_of shot.now batch.now) streamer.now }
-            ensures { R.did shared.entry.now (job_of shot.entry.now batch.entry.now) streamer.entry.now streamer.exit.now }
+            ensures { R.did shared.entry.now (job_of shot.entry.now batch.entry.now) streamer.entry.now
+                streamer.exit.now }
         { streamer.work(rt, shared, shot, batch, gate) },
     );
 }
@@ -113,12 +117,14 @@ pub(crate) fn work_all<
         &mut || -> ()
             requires { IsSync Rt.row × IsSync G.row × IsSync S.row × IsSend L.row
                 × AllReady (L.ready shared.now (job_of shot.now batch.now)) low.now }
-            ensures { AllDid (L.did shared.entry.now (job_of shot.entry.now batch.entry.now)) low.entry.now low.exit.now }
+            ensures { AllDid (L.did shared.entry.now (job_of shot.entry.now batch.entry.now)) low.entry.now
+                low.exit.now }
         { work_all(rt, low, shared, shot, batch, gate) },
         &mut || -> ()
             requires { IsSync Rt.row × IsSync G.row × IsSync S.row × IsSend L.row
                 × AllReady (L.ready shared.now (job_of shot.now batch.now)) high.now }
-            ensures { AllDid (L.did shared.entry.now (job_of shot.entry.now batch.entry.now)) high.entry.now high.exit.now }
+            ensures { AllDid (L.did shared.entry.now (job_of shot.entry.now batch.entry.now)) high.entry.now
+                high.exit.now }
         { work_all(rt, high, shared, shot, batch, gate) },
     );
 }

@@ -7,23 +7,21 @@ ghost use Rattle.vt_definitions.specs.Depths.{IsDepth};
 ghost use Rattle.vt_pass.specs.Crews.{IsCrew, last_start};
 ghost use Rattle.vt_pass.specs.Outcomes.{IsBatchFor};
 ghost use Rattle.vt_journal.specs.Changes.{newest};
-ghost use Rattle.vt_sampler.specs.Notes.{MapsRoot};
+ghost use Rattle.vt_table.specs.Views.{TableView as Table};
 ghost use Rattle.vt_pass.specs.Machines.{AreStoresFor};
 ghost use Rattle.vt_pass.specs.Scenes.{job_of};
 ghost use Rattle.vt_pass.specs.PictureWants.{picture_wants};
 ghost use Rattle.vt_pass.specs.Passes.{Ran};
 ghost use Rattle.vt_pass.specs.StillMachines.{still_shows, kit_drawn, kit_before, AreOut, MayFinish};
-ghost use Rattle.vt_pass.specs.Kits.{KitView, AreSamplersOf, IsKit, IsIdleKit, IsReadyKit, HasRoom, IsSameKit, kit_row, kit_rows, kit_state, lines_at, counted_together};
+ghost use Rattle.vt_pass.specs.Kits.{KitView, AreSamplersOf, IsKit, IsIdleKit, IsPreparedKit, IsReadyKit, HasRoom, IsSameKit, kit_row, kit_rows, kit_state, lines_at, counted_together};
 ghost use Rattle.vt_pass.specs.declared.still.tasks.StillSampler.{StillSampler as Task};
-ghost use Rattle.vt_pass.specs.RoundKits.{IsAsked};
+ghost use Rattle.vt_pass.specs.RoundKits.{AreSized, IsSetUp, IsAsked};
 ghost use Rattle.vt_pass.specs.BatchRounds.{Begun as Start};
-ghost use Rattle.vt_pages.specs.Pages.{pages_of};
 ghost use Rattle.vt_store.specs.Format.{tile_length};
 ghost use Rattle.vt_evict.specs.declared.batches.Planned.{Planned as Entry};
 ghost use Rattle.vt_load.specs.QueuedLoaders.{MayLoad};
 
 use crate::crew::{Crew, PassReport};
-use crate::still::loads_task::StillShared;
 use crate::still::room::{reserve_reads, with_room};
 use crate::still::round::{RoundKit, new_queues};
 use crate::still::tasks::StillSampler;
@@ -36,7 +34,7 @@ use std::thread::Threads;
 use vt_camera::Path;
 use vt_definitions::texel_length;
 use vt_draw::Shot;
-use vt_evict::{Batch, Planned};
+use vt_evict::Batch;
 use vt_feedback::Counts;
 use vt_journal::{Events, RowLines};
 use vt_load::{QueuedLoader, Queues};
@@ -46,9 +44,9 @@ use vt_sampler::Sampler;
 use vt_store::{Stores, tile_length};
 use vt_table::StillTable;
 
-/// What a pass over a page table that changes only between draws is done with: the samplers, the loaders' stores, and room
-/// for what the pass tells. Contracts see all of these.
-pub struct PassKit<F: File> {
+// What a pass over a page table that changes only between draws is done with but for the queues: the samplers, the
+// loaders' stores, and room for what the pass tells. Contracts see all of these.
+pub struct StillKit<F: File> {
     alloc: Global,
     geometry: Geometry,
     depth: u32,
@@ -63,7 +61,7 @@ pub struct PassKit<F: File> {
     round: RoundKit<F>,
 }
 
-impl<F: File> Model for PassKit<F> {
+impl<F: File> Model for StillKit<F> {
     ghost use Rattle.vt_pass.specs.Kits.{KitView};
 
     ghost Value = { KitView F };
@@ -105,19 +103,17 @@ fn samplers_for(
     Ok(samplers)
 }
 
-impl<F: File> PassKit<F> {
-    /// The kit of a crew with one store for each loader, for pictures of the path's sides. A refusal hands the stores back.
-    ///
-    /// The stores are cut as the geometry says, their samples have `depth` bytes, and all of them tell the same bytes or none
-    /// does.
-    pub fn new(
+impl<F: File> StillKit<F> {
+    // The kit of a crew with one store for each loader, for pictures of the path's sides. A refusal hands the stores
+    // back.
+    pub(crate) fn new(
         alloc: Global,
         geometry: &Geometry,
         path: &Path,
         crew: &Crew,
         depth: u32,
         stores: Stores<F>,
-    ) -> Result<PassKit<F>, (Stores<F>, NoMemory)>
+    ) -> Result<StillKit<F>, (Stores<F>, NoMemory)>
         requires crew { IsCrew crew.now }
         requires depth { IsDepth depth }
         requires stores { AreStoresFor F.File geometry.now depth crew.now.loaders stores.elements }
@@ -145,7 +141,7 @@ impl<F: File> PassKit<F> {
             Err(refusal) => return Err((stores, refusal)),
         };
         let round = RoundKit::new(alloc, asks, answers);
-        Ok(PassKit {
+        Ok(StillKit {
             alloc,
             geometry: *geometry,
             depth,
@@ -161,18 +157,18 @@ impl<F: File> PassKit<F> {
         })
     }
 
-    /// How many pixels of the last pass's picture need each page.
-    pub fn counts(&self) -> &Counts
+    // How many pixels of the last pass's picture need each page.
+    pub(crate) fn counts(&self) -> &Counts
         ensures { result.now ≡ self.now.counts }
     {
         &self.counts
     }
 
-    /// The loaders' stores, in place of the kit.
-    pub fn end(self) -> Stores<F>
+    // The loaders' stores, in place of the kit.
+    pub(crate) fn end(self) -> Stores<F>
         ensures { result.elements ≡ self.stores }
     {
-        let PassKit {
+        let StillKit {
             alloc: _,
             geometry: _,
             depth: _,
@@ -190,28 +186,25 @@ impl<F: File> PassKit<F> {
         stores
     }
 
-    /// Makes room for a pass that streams a batch into a table, and puts a request for each entry into new queues. The table maps
-    /// the root and has at most 2^61 changes, and the batch is lawful for it and no longer than the crew's batches. After a
-    /// refusal the kit can only be ended.
-    pub fn prepare<Rt: Threads + Wait>(
+    // Makes room for a pass that streams a batch into a table, with new queues.
+    pub(crate) fn prepare(
         &mut self,
-        rt: &Rt,
-        shared: &mut StillShared,
+        table: &mut StillTable,
+        queues: &mut Queues,
         batch: &Batch,
     ) -> Result<(), NoMemory>
-        requires idle { IsIdleKit F.File shared.old.table self.old }
-        requires root { MapsRoot shared.old.table }
-        requires lawful { IsBatchFor shared.old.table.shape shared.old.table.frames (newest shared.old.table.changes) batch.now.elements }
+        requires idle { IsIdleKit F.File table.old self.old }
+        requires lawful { IsBatchFor table.old.shape table.old.frames (newest table.old.changes) batch.now.elements }
         requires few { length batch.now.elements ≤ self.old.crew.batch }
-        requires early { length shared.old.table.changes ≤ last_start }
-        ensures ready { OnOk result (IsReadyKit F.File shared.new.table shared.new.queues self.new batch.now.elements) }
-        ensures table { shared.new.table ≡ record shared.old.table { spare = shared.new.table.spare } }
+        requires early { length table.old.changes ≤ last_start }
+        ensures prepared { OnOk result (IsPreparedKit F.File table.new queues.new self.new batch.now.elements) }
+        ensures table { table.new ≡ record table.old { spare = table.new.spare } }
         ensures same { IsSameKit F.File self.old self.new }
     {
         let entries = batch.len() as u64;
-        shared.table.reserve(2 * entries)?;
+        table.reserve(2 * entries)?;
         self.make_room(entries)?;
-        self.ask(rt, &mut shared.queues, batch.slice())
+        self.set_up(queues, entries)
     }
 
     // Makes room for what a pass of so many entries tells, and for the reads of a round.
@@ -228,24 +221,28 @@ impl<F: File> PassKit<F> {
         reserve_reads(self.stores.slice_mut(), reads)
     }
 
-    // Puts a request for each entry of a batch into new queues.
-    fn ask<Rt: Threads + Wait>(
-        &mut self,
-        rt: &Rt,
-        queues: &mut Queues,
-        batch: &[Planned],
-    ) -> Result<(), NoMemory>
+    // Makes new queues, and room for what the loaders of so many entries need.
+    fn set_up(&mut self, queues: &mut Queues, entries: u64) -> Result<(), NoMemory>
         requires crew { IsCrew self.old.crew }
         requires depth { IsDepth self.old.depth }
-        requires few { length batch.now ≤ self.old.crew.batch }
-        requires sizes { All (λ b. length b.elements ≡ tile_length self.old.shape self.old.depth) self.old.round.buffers.elements }
-        requires pages { All (λ e. e.page < pages_of self.old.shape) batch.now }
-        ensures asked { OnOk result (IsAsked queues.new self.new.round self.new.shape self.new.depth self.new.crew batch.now) }
+        requires sizes { AreSized (tile_length self.old.shape self.old.depth) self.old.round.buffers.elements }
+        ensures set_up { OnOk result (IsSetUp queues.new self.new.round (tile_length self.new.shape self.new.depth)
+            self.new.crew entries) }
         ensures rest { self.new ≡ record self.old { round = self.new.round } }
     {
         let blank = Vec::from_elem(self.alloc, 0, tile_length(&self.geometry, self.depth))?;
         self.round
-            .prepare(rt, queues, &self.crew, blank.as_slice(), batch)
+            .prepare(queues, &self.crew, blank.as_slice(), entries)
+    }
+
+    // Puts a request for each entry of the batch for which the pass is prepared into its queues. It takes no memory.
+    pub(crate) fn ask<Rt: Threads + Wait>(&mut self, rt: &Rt, queues: &Queues, batch: &Batch)
+        requires prepared { (v : Table) × IsPreparedKit F.File v queues.now self.old batch.now.elements }
+        ensures ready { (v : Table) → IsPreparedKit F.File v queues.now self.old batch.now.elements
+            → IsReadyKit F.File v queues.now self.new batch.now.elements }
+        ensures rest { self.new ≡ record self.old { round = self.new.round } }
+    {
+        self.round.ask(rt, queues, batch.slice());
     }
 
     // The bytes of a row of the last picture.
@@ -258,9 +255,9 @@ impl<F: File> PassKit<F> {
         self.samplers.at(turn as usize).sampler.row(y)
     }
 
-    /// The samples of the last pass's picture: its rows from the top. It asks for their memory once.
+    // The samples of the last pass's picture: its rows from the top. It asks for their memory once.
     #[tactic(auto, using(crate::proofs::Kits::joined_more))]
-    pub fn picture(&self, alloc: Global) -> Result<Vec<u8>, NoMemory>
+    pub(crate) fn picture(&self, alloc: Global) -> Result<Vec<u8>, NoMemory>
         requires kit { IsKit F.File self.now }
         ensures { IfOk result (λ picture. picture.items ≡ concat (kit_rows self.now)) }
     {
@@ -277,7 +274,8 @@ impl<F: File> PassKit<F> {
         &mut self,
         queues: &Queues,
     ) -> (Items<QueuedLoader<F>>, Items<StillSampler>)
-        requires asked { (batch : List Entry) × IsAsked queues.now self.old.round self.old.shape self.old.depth self.old.crew batch }
+        requires asked { (batch : List Entry)
+            × IsAsked queues.now self.old.round self.old.shape self.old.depth self.old.crew batch }
         requires crew { IsCrew self.old.crew }
         requires stores { length self.old.stores ≡ self.old.crew.loaders }
         requires reads { All (λ store. self.old.crew.batch ≤ F.spare store.file) self.old.stores }
@@ -299,9 +297,15 @@ impl<F: File> PassKit<F> {
         requires lengths { (k : ℕ) (d : Task) → k < length samplers.elements
             → length (slice_index_or samplers.elements k d).sampler.counts ≡ length self.old.counts }
         requires few { (p : ℕ) → p < length self.old.counts → counted_together samplers.elements p < 2 ^ 32 }
-        ensures rest { self.new ≡ record self.old { samplers = samplers.elements; stores = stores.elements; counts = self.new.counts; rows = self.new.rows } }
+        ensures rest { self.new ≡ record self.old {
+          samplers = samplers.elements;
+          stores = stores.elements;
+          counts = self.new.counts;
+          rows = self.new.rows;
+        } }
         ensures number { length self.new.counts ≡ length self.old.counts }
-        ensures sums { (p : ℕ) → p < length self.old.counts → slice_index self.new.counts p ≡ counted_together samplers.elements p }
+        ensures sums { (p : ℕ) → p < length self.old.counts
+            → slice_index self.new.counts p ≡ counted_together samplers.elements p }
         ensures lines { result.elements ≡ lines_at self.old.crew.samplers self.old.height start }
     {
         self.samplers = samplers;
@@ -311,8 +315,8 @@ impl<F: File> PassKit<F> {
         mem::replace(&mut self.rows, Items::new(self.alloc))
     }
 
-    // Ends the round of the loaders, applies their results to the table, moves the workers back, and tells what the pass did. It
-    // may wait.
+    // Ends the round of the loaders, applies their results to the table, moves the workers back, and tells what the
+    // pass did. It may wait.
     pub(crate) fn finish<Rt: Threads + Wait>(
         &mut self,
         rt: &Rt,
@@ -323,12 +327,18 @@ impl<F: File> PassKit<F> {
         _shot: &Shot<'_>,
         batch: &Batch,
     ) -> PassReport
-        requires { (b : Start F) × MayFinish F.File table.old queues.now self.old (job_of _shot.now batch.now.elements) loaders.elements samplers.elements b }
-        ensures ran { (b : Start F) → MayFinish F.File table.old queues.now self.old (job_of _shot.now batch.now.elements) loaders.elements samplers.elements b
-            → Ran true picture_wants still_shows (kit_drawn F.File table.new self.new) (job_of _shot.now batch.now.elements) result
-            (kit_state F.File table.old (kit_before self.old samplers.elements b)) (kit_state F.File table.new self.new) }
+        requires { (b : Start F) × MayFinish F.File table.old queues.now self.old (job_of _shot.now batch.now.elements)
+            loaders.elements samplers.elements b }
+        ensures ran { (b : Start F)
+            → MayFinish F.File table.old queues.now self.old (job_of _shot.now batch.now.elements) loaders.elements
+            samplers.elements b
+            → Ran true picture_wants still_shows (kit_drawn F.File table.new self.new)
+            (job_of _shot.now batch.now.elements) result
+            (kit_state F.File table.old (kit_before self.old samplers.elements b))
+            (kit_state F.File table.new self.new) }
         ensures idle { IsIdleKit F.File table.new self.new }
-        ensures lines { result.rows.elements ≡ lines_at self.old.crew.samplers self.old.height (length table.old.changes) }
+        ensures lines { result.rows.elements
+            ≡ lines_at self.old.crew.samplers self.old.height (length table.old.changes) }
     {
         let start = table.journal().version();
         let mut events = mem::replace(&mut self.events, Items::new(self.alloc));

@@ -69,7 +69,8 @@ pub(crate) fn apply_results(
     requires no_events { events.old.elements ≡ [] }
     requires room { 2 * length results.now ≤ events.old.spare }
     requires losses { length losses.old.elements ≡ length batch.now }
-    ensures { AreApplied batch.now results.now table.old (length results.now) table.new events.new.elements losses.new.elements }
+    ensures { AreApplied batch.now results.now table.old (length results.now) table.new events.new.elements
+        losses.new.elements }
 {
     for i in 0..results.len() {
         let loaded = &results[i];

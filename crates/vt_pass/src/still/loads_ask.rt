@@ -7,6 +7,7 @@ ghost use Rattle.vt_store.specs.Format.{tile_length};
 ghost use Rattle.vt_queue.specs.PassViews.{first_view};
 ghost use Rattle.vt_queue.specs.Queues.{view_of, splits_of, IsOf, capacity_of};
 ghost use Rattle.vt_pass.specs.BatchRounds.{ArePut};
+ghost use Rattle.vt_pass.specs.RoundKits.{AreSized};
 
 use std::sync::Wait;
 use std::thread::Threads;
@@ -29,9 +30,9 @@ pub(crate) fn ask_batch<Rt: Threads + Wait>(
     requires buffers { length batch.now ≤ length buffers.old.elements }
     ensures of { IsOf requests.now asks.new × (splits_of asks.new ≡ splits_of asks.old) }
     ensures asked { (s : Shape) (d : ℕ) → All (λ e. e.page < pages_of s) batch.now
-        → All (λ b. length b.elements ≡ tile_length s d) buffers.old.elements
+        → AreSized (tile_length s d) buffers.old.elements
         → ArePut s d batch.now (length batch.now) (view_of asks.new) }
-    ensures left { (n : ℕ) → All (λ b. length b.elements ≡ n) buffers.old.elements → All (λ b. length b.elements ≡ n) buffers.new.elements }
+    ensures left { (n : ℕ) → AreSized n buffers.old.elements → AreSized n buffers.new.elements }
     ensures count { length buffers.new.elements + length batch.now ≡ length buffers.old.elements }
     ensures room { buffers.new.spare ≡ buffers.old.spare + length batch.now }
 {
@@ -58,7 +59,7 @@ pub(crate) fn give_back(results: &mut Items<Loaded>, buffers: &mut Items<Bytes>)
     ensures room { results.new.spare ≡ results.old.spare + length results.old.elements }
     ensures count { length buffers.new.elements ≡ length buffers.old.elements + length results.old.elements }
     ensures sizes { (n : ℕ) → All (λ x. length x.request.buffer.elements ≡ n) results.old.elements
-        → All (λ b. length b.elements ≡ n) buffers.old.elements → All (λ b. length b.elements ≡ n) buffers.new.elements }
+        → AreSized n buffers.old.elements → AreSized n buffers.new.elements }
 {
     while let Some(loaded) = results.pop() {
         let Loaded {

@@ -4,10 +4,9 @@ ghost use Rattle.std.specs.Prelude.{◌≡◌, ℕ, ◌*◌, ◌^◌, ◌<◌, �
 ghost use Rattle.vt_journal.specs.Changes.{newest};
 ghost use Rattle.vt_store.specs.Format.{tile_length};
 ghost use Rattle.vt_table.specs.Views.{IsTable};
-ghost use Rattle.vt_queue.specs.Queues.{view_of};
 ghost use Rattle.vt_load.specs.QueuedLoaders.{AreOf, stores_of};
 ghost use Rattle.vt_pass.specs.Outcomes.{IsBatchFor};
-ghost use Rattle.vt_pass.specs.BatchRounds.{Begun as Start, IsEndedRound, IsStreamed};
+ghost use Rattle.vt_pass.specs.BatchRounds.{Begun as Start, HaveEnded, IsStreamed};
 
 use crate::still::loads_apply::apply_results;
 use std::sync::Wait;
@@ -20,8 +19,8 @@ use vt_queue::{Loaded, QueuePass, Request};
 use vt_store::Stores;
 use vt_table::StillTable;
 
-// Makes the passes of loaders that have ended one again, takes their results, and applies these in the order in which they
-// came. It may wait.
+// Makes the passes of loaders that have ended one again, takes their results, and applies these in the order in which
+// they came. It may wait.
 pub(crate) fn end_round<Rt: Threads + Wait, F: File>(
     rt: &Rt,
     queues: &Queues,
@@ -40,7 +39,8 @@ pub(crate) fn end_round<Rt: Threads + Wait, F: File>(
     requires some { 1 ≤ length loaders.elements }
     requires no_stores { stores.old.elements ≡ [] }
     requires stores { length loaders.elements ≤ stores.old.spare }
-    requires ended { (b : Start F) × IsEndedRound F.File queues.now table.old.shape batch.now (view_of asks.old) (view_of answers.old) loaders.elements b }
+    requires ended { (b : Start F) × HaveEnded F.File queues.now table.old batch.now asks.old answers.old
+        loaders.elements b }
     requires no_results { results.old.elements ≡ [] }
     requires results { length batch.now ≤ results.old.spare }
     requires table { IsTable table.old }
@@ -53,9 +53,11 @@ pub(crate) fn end_round<Rt: Threads + Wait, F: File>(
     ensures passes { AreOf queues.now asks.new answers.new }
     ensures stores { stores.new.elements ≡ reverse (stores_of loaders.elements) }
     ensures results { length results.new.elements ≡ length batch.now }
-    ensures sizes { (b : Start F) → IsEndedRound F.File queues.now table.old.shape batch.now (view_of asks.old) (view_of answers.old) loaders.elements b
+    ensures sizes { (b : Start F) → HaveEnded F.File queues.now table.old batch.now asks.old answers.old
+        loaders.elements b
         → All (λ x. length x.request.buffer.elements ≡ tile_length table.old.shape b.depth) results.new.elements }
-    ensures streamed { (b : Start F) → IsEndedRound F.File queues.now table.old.shape batch.now (view_of asks.old) (view_of answers.old) loaders.elements b
+    ensures streamed { (b : Start F) → HaveEnded F.File queues.now table.old batch.now asks.old answers.old
+        loaders.elements b
         → IsStreamed F.File batch.now table.old b loaders.elements table.new events.new.elements losses.new.elements }
 {
     take_back(queues, asks, answers, loaders, stores);

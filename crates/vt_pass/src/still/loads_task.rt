@@ -1,12 +1,19 @@
 //! Loaders as workers of a pass.
 
+ghost use Rattle.std.specs.Prelude.{◌≡◌, [], IfOk};
+ghost use Rattle.vt_pass.specs.Crews.{AreFrames};
+ghost use Rattle.vt_table.specs.Views.{IsTable};
+
+use crate::still::round::new_queues;
 use crate::task::Task;
+use std::alloc::Global;
 use std::sync::Wait;
 use std::thread::Threads;
 use vt_draw::Shot;
 use vt_evict::Planned;
 use vt_load::{QueuedLoader, Queues};
-use vt_outside::{File, Gate};
+use vt_outside::{File, Gate, NoMemory};
+use vt_pages::Geometry;
 use vt_table::StillTable;
 
 /// What the workers of a pass over a still table share where its tiles are read through queues.
@@ -16,6 +23,25 @@ pub struct StillShared {
     pub table: StillTable,
     /// The queues of the requests and of the results.
     pub queues: Queues,
+}
+
+impl StillShared {
+    // A table that maps nothing, and queues with which no pass is made: each is prepared with new ones.
+    pub(crate) fn new(
+        alloc: Global,
+        geometry: &Geometry,
+        frames: u32,
+    ) -> Result<StillShared, NoMemory>
+        requires { AreFrames geometry.now frames }
+        ensures shape { IfOk result (λ s. s.table.shape ≡ geometry.now) }
+        ensures frames { IfOk result (λ s. s.table.frames ≡ frames) }
+        ensures changes { IfOk result (λ s. s.table.changes ≡ []) }
+        ensures table { IfOk result (λ s. IsTable s.table) }
+    {
+        let table = StillTable::new(alloc, geometry, frames)?;
+        let (queues, _, _) = new_queues(alloc, 1)?;
+        Ok(StillShared { table, queues })
+    }
 }
 
 impl<F: File> Task for QueuedLoader<F> {

@@ -9,9 +9,8 @@ ghost use Rattle.vt_pass.specs.BatchRounds.{Begun as Start};
 
 use crate::crew::{Crew, PassReport};
 use crate::machine::PassMachine;
-use crate::still::kit::PassKit;
+use crate::still::kit::StillKit;
 use crate::still::loads_task::StillShared;
-use crate::still::round::new_queues;
 use crate::still::stream::put_page;
 use crate::still::tasks::{NoTask, StillSampler};
 use std::alloc::Global;
@@ -28,12 +27,11 @@ use vt_load::QueuedLoader;
 use vt_outside::{File, Gate, Items, NoMemory};
 use vt_pages::Geometry;
 use vt_store::Stores;
-use vt_table::StillTable;
 
 /// A machine that draws all rows of a picture over its page table, and then streams the batch into it.
 pub struct StillMachine<F: File> {
     shared: StillShared,
-    kit: PassKit<F>,
+    kit: StillKit<F>,
 }
 
 impl<F: File> Model for StillMachine<F> {
@@ -81,7 +79,8 @@ impl<F: File + Send> PassMachine for StillMachine<F> {
 
     ghost mustered = { λ m job n loaders samplers streamer. IsMustered F.File m n loaders samplers };
 
-    ghost may_dismiss = { λ n job loaders samplers streamer. (b : Start F) × MayFinish F.File n.table n.queues n.kit job loaders samplers b };
+    ghost may_dismiss = { λ n job loaders samplers streamer. (b : Start F)
+        × MayFinish F.File n.table n.queues n.kit job loaders samplers b };
 
     ghost dismissed = { λ n job loaders samplers streamer p result. IsOk result
         × KitFinishes F.File job result n loaders samplers p };
@@ -96,12 +95,9 @@ impl<F: File + Send> PassMachine for StillMachine<F> {
         depth: u32,
         stores: &mut Stores<Self::File>,
     ) -> Result<Self, NoMemory> {
-        let table = StillTable::new(alloc, geometry, frames)?;
-        // Each pass is prepared with new queues.
-        let (queues, _, _) = new_queues(alloc, 1)?;
-        let shared = StillShared { table, queues };
+        let shared = StillShared::new(alloc, geometry, frames)?;
         let held = mem::replace(stores, Items::new(alloc));
-        match PassKit::new(alloc, geometry, path, crew, depth, held) {
+        match StillKit::new(alloc, geometry, path, crew, depth, held) {
             Ok(kit) => Ok(StillMachine { shared, kit }),
             Err((held, refusal)) => {
                 mem::replace(stores, held).destroy_empty();
@@ -127,7 +123,10 @@ impl<F: File + Send> PassMachine for StillMachine<F> {
         rt: &Rt,
         batch: &Batch,
     ) -> Result<(), NoMemory> {
-        self.kit.prepare(rt, &mut self.shared, batch)
+        self.kit
+            .prepare(&mut self.shared.table, &mut self.shared.queues, batch)?;
+        self.kit.ask(rt, &self.shared.queues, batch);
+        Ok(())
     }
 
     #[tactic(auto, using(crate::proofs::Kits::may_draw))]
@@ -154,10 +153,11 @@ impl<F: File + Send> PassMachine for StillMachine<F> {
         batch: &Batch,
         _gate: &G,
     ) -> Result<PassReport, NoMemory>
-        requires { (b : Start F) × MayFinish F.File self.old.table self.old.queues self.old.kit (job_of shot.now batch.now.elements)
-            loaders.elements samplers.elements b }
+        requires { (b : Start F) × MayFinish F.File self.old.table self.old.queues self.old.kit
+            (job_of shot.now batch.now.elements) loaders.elements samplers.elements b }
         ensures { IsOk result
-            × KitFinishes F.File (job_of shot.now batch.now.elements) result self.old loaders.elements samplers.elements self.new }
+            × KitFinishes F.File (job_of shot.now batch.now.elements) result
+            self.old loaders.elements samplers.elements self.new }
     {
         let report = self.kit.finish(
             rt,

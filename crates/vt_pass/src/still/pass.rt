@@ -8,7 +8,7 @@ ghost use Rattle.vt_pass.specs.Kits.{kit_setup, kit_state, lines_at, IsIdleKit, 
 ghost use Rattle.vt_pass.specs.StillMachines.{still_shows, kit_drawn};
 
 use crate::crew::PassReport;
-use crate::still::kit::PassKit;
+use crate::still::kit::StillKit;
 use crate::still::loads_task::StillShared;
 use crate::still::tasks::NoTask;
 use crate::work::work_together;
@@ -18,15 +18,11 @@ use vt_draw::Shot;
 use vt_evict::Batch;
 use vt_outside::{File, Gate};
 
-/// Draws the picture of a shot over the table, and then streams the batch into it: samplers draw and loaders read at once, and
-/// the results are applied once all have ended. It takes no memory and refuses nothing. It may wait.
-///
-/// Each row is drawn at the version at which the pass begins, by the sampler whose turn it is.
-///
-/// The kit is prepared for this batch with this table and these queues, and since then no pass was run and neither was changed.
-pub fn run_pass<Rt: Threads + Wait + Sync, F: File + Send, G: Gate + Sync>(
+// Draws the picture of a shot over the table, and then streams the batch into it, whose requests were put: samplers
+// draw and loaders read at once, and the results are applied once all have ended. It may wait.
+pub(crate) fn draw_and_stream<Rt: Threads + Wait + Sync, F: File + Send, G: Gate + Sync>(
     rt: &Rt,
-    kit: &mut PassKit<F>,
+    kit: &mut StillKit<F>,
     shared: &mut StillShared,
     shot: &Shot<'_>,
     batch: &Batch,
@@ -35,10 +31,12 @@ pub fn run_pass<Rt: Threads + Wait + Sync, F: File + Send, G: Gate + Sync>(
     requires ready { IsReadyKit F.File shared.old.table shared.old.queues kit.old batch.now.elements }
     requires root { MapsRoot (kit_state F.File shared.old.table kit.old) }
     requires job { IsJobFor (kit_setup F.File shared.old.table kit.old) (job_of shot.now batch.now.elements) }
-    ensures ran { Ran true picture_wants still_shows (kit_drawn F.File shared.new.table kit.new) (job_of shot.now batch.now.elements) result
-        (kit_state F.File shared.old.table kit.old) (kit_state F.File shared.new.table kit.new) }
+    ensures ran { Ran true picture_wants still_shows (kit_drawn F.File shared.new.table kit.new)
+        (job_of shot.now batch.now.elements) result (kit_state F.File shared.old.table kit.old)
+        (kit_state F.File shared.new.table kit.new) }
     ensures idle { IsIdleKit F.File shared.new.table kit.new }
-    ensures lines { result.rows.elements ≡ lines_at kit.old.crew.samplers kit.old.height (length shared.old.table.changes) }
+    ensures lines { result.rows.elements
+        ≡ lines_at kit.old.crew.samplers kit.old.height (length shared.old.table.changes) }
 {
     let (mut loaders, mut samplers) = kit.muster(&shared.queues);
     let mut nobody = NoTask;

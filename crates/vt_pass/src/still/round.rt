@@ -7,12 +7,13 @@ ghost use Rattle.vt_pages.specs.Pages.{pages_of};
 ghost use Rattle.vt_journal.specs.Changes.{newest};
 ghost use Rattle.vt_store.specs.Format.{tile_length};
 ghost use Rattle.vt_table.specs.Views.{IsTable};
-ghost use Rattle.vt_queue.specs.PassViews.{all_shares};
+ghost use Rattle.vt_queue.specs.PassViews.{all_shares, first_view};
 ghost use Rattle.vt_queue.specs.Queues.{view_of, splits_of, capacity_of};
 ghost use Rattle.vt_load.specs.QueuedLoaders.{AreOf, MayLoad, stores_of};
 ghost use Rattle.vt_pass.specs.Outcomes.{IsBatchFor};
-ghost use Rattle.vt_pass.specs.BatchRounds.{Begun as Start, IsEndedRound, IsStreamed};
-ghost use Rattle.vt_pass.specs.RoundKits.{AreNew, HasPlaces, IsAsked, IsDealt};
+ghost use Rattle.vt_pass.specs.BatchRounds.{Begun as Start, HaveEnded, IsStreamed};
+ghost use Rattle.vt_pass.specs.declared.crew.Crew.{Crew as Hands};
+ghost use Rattle.vt_pass.specs.RoundKits.{AreSized, AreNew, HasPlaces, IsSetUp, IsAsked, IsDealt};
 
 use crate::crew::Crew;
 use crate::still::loads_ask::{ask_batch, give_back};
@@ -31,8 +32,8 @@ use vt_queue::{Loaded, QueuePass, Request, RequestQueue, ResultQueue};
 use vt_store::Stores;
 use vt_table::StillTable;
 
-/// What the loaders of a pass are done with: passes of the queues, and room for the loaders, their stores, the results and the
-/// buffers. Contracts see all of these.
+/// What the loaders of a pass are done with: passes of the queues, and room for the loaders, their stores, the results
+/// and the buffers. Contracts see all of these.
 pub struct RoundKit<F: File> {
     alloc: Global,
     asks: QueuePass<Request>,
@@ -95,9 +96,9 @@ fn make_buffers(
     count: u64,
     tile: &[u8],
 ) -> Result<(), NoMemory>
-    requires { All (λ b. length b.elements ≡ length tile.now) buffers.old.elements }
+    requires { AreSized (length tile.now) buffers.old.elements }
     ensures count { OnOk result (count ≤ length buffers.new.elements) }
-    ensures sizes { All (λ b. length b.elements ≡ length tile.now) buffers.new.elements }
+    ensures sizes { AreSized (length tile.now) buffers.new.elements }
 {
     for made in 0..count {
         if buffers.len() as u64 <= made {
@@ -146,23 +147,18 @@ impl<F: File> RoundKit<F> {
         stores.destroy_empty();
     }
 
-    // Makes new queues, puts a request for each entry of a batch, and makes room for all that comes later. The buffers have a
-    // tile's length.
-    pub(crate) fn prepare<Rt: Threads + Wait>(
+    // Makes new queues, and room for all that a batch of so many entries needs later. The buffers have a tile's length.
+    pub(crate) fn prepare(
         &mut self,
-        rt: &Rt,
         queues: &mut Queues,
         crew: &Crew,
         tile: &[u8],
-        batch: &[Planned],
+        entries: u64,
     ) -> Result<(), NoMemory>
         requires capacity { (1 ≤ crew.now.batch) × (crew.now.batch ≤ most_entries) }
-        requires few { length batch.now ≤ crew.now.batch }
-        requires sizes { All (λ b. length b.elements ≡ length tile.now) self.old.buffers.elements }
-        ensures { (s : Shape) (d : ℕ) → length tile.now ≡ tile_length s d → All (λ e. e.page < pages_of s) batch.now
-            → OnOk result (IsAsked queues.new self.new s d crew.now batch.now) }
+        requires sizes { AreSized (length tile.now) self.old.buffers.elements }
+        ensures { OnOk result (IsSetUp queues.new self.new (length tile.now) crew.now entries) }
     {
-        let entries = batch.len() as u64;
         let (made, asks, answers) = new_queues(self.alloc, crew.batch)?;
         *queues = made;
         self.asks = asks;
@@ -171,6 +167,20 @@ impl<F: File> RoundKit<F> {
         self.results.reserve(entries)?;
         self.losses = none_lost(self.alloc, entries)?;
         make_buffers(self.alloc, &mut self.buffers, entries, tile)?;
+        Ok(())
+    }
+
+    // Puts a request for each entry of a batch into the queues, which are new.
+    pub(crate) fn ask<Rt: Threads + Wait>(&mut self, rt: &Rt, queues: &Queues, batch: &[Planned])
+        requires passes { AreOf queues.now self.old.asks self.old.answers }
+        requires new { view_of self.old.asks ≡ first_view }
+        requires room { length batch.now ≤ capacity_of queues.now.requests }
+        requires few { length batch.now < 2 ^ 32 }
+        requires buffers { length batch.now ≤ length self.old.buffers.elements }
+        ensures { (s : Shape) (d : ℕ) (crew : Hands) → All (λ e. e.page < pages_of s) batch.now
+            → IsSetUp queues.now self.old (tile_length s d) crew (length batch.now)
+            → IsAsked queues.now self.new s d crew batch.now }
+    {
         ask_batch(
             rt,
             &queues.requests,
@@ -178,7 +188,6 @@ impl<F: File> RoundKit<F> {
             batch,
             &mut self.buffers,
         );
-        Ok(())
     }
 
     // Makes a loader of each store, with its passes of the queues.
@@ -205,8 +214,8 @@ impl<F: File> RoundKit<F> {
         loaders
     }
 
-    // Ends the round of loaders that have ended, and applies their results to the table. Hands the stores back, and what is
-    // noted of each entry. It may wait.
+    // Ends the round of loaders that have ended, and applies their results to the table. Hands the stores back, and
+    // what is noted of each entry. It may wait.
     pub(crate) fn finish<Rt: Threads + Wait>(
         &mut self,
         rt: &Rt,
@@ -220,7 +229,8 @@ impl<F: File> RoundKit<F> {
         requires loaders { All (λ l. AreOf queues.now l.asks l.answers) loaders.elements }
         requires some { 1 ≤ length loaders.elements }
         requires stores { length loaders.elements ≤ self.old.stores.spare }
-        requires ended { (b : Start F) × IsEndedRound F.File queues.now table.old.shape batch.now (view_of self.old.asks) (view_of self.old.answers) loaders.elements b }
+        requires ended { (b : Start F) × HaveEnded F.File queues.now table.old batch.now self.old.asks
+            self.old.answers loaders.elements b }
         requires places { (size : ℕ) × HasPlaces self.old (length batch.now) size }
         requires table { IsTable table.old }
         requires lawful { IsBatchFor table.old.shape table.old.frames (newest table.old.changes) batch.now }
@@ -229,10 +239,12 @@ impl<F: File> RoundKit<F> {
         requires no_events { events.old.elements ≡ [] }
         requires room { 2 * length batch.now ≤ events.old.spare }
         ensures stores { result.0.elements ≡ reverse (stores_of loaders.elements) }
-        ensures sizes { (b : Start F) → IsEndedRound F.File queues.now table.old.shape batch.now (view_of self.old.asks) (view_of self.old.answers) loaders.elements b
-            → All (λ x. length x.elements ≡ tile_length table.old.shape b.depth) self.old.buffers.elements
-            → All (λ x. length x.elements ≡ tile_length table.old.shape b.depth) self.new.buffers.elements }
-        ensures streamed { (b : Start F) → IsEndedRound F.File queues.now table.old.shape batch.now (view_of self.old.asks) (view_of self.old.answers) loaders.elements b
+        ensures sizes { (b : Start F) → HaveEnded F.File queues.now table.old batch.now self.old.asks self.old.answers
+            loaders.elements b
+            → AreSized (tile_length table.old.shape b.depth) self.old.buffers.elements
+            → AreSized (tile_length table.old.shape b.depth) self.new.buffers.elements }
+        ensures streamed { (b : Start F) → HaveEnded F.File queues.now table.old batch.now self.old.asks
+            self.old.answers loaders.elements b
             → IsStreamed F.File batch.now table.old b loaders.elements table.new events.new.elements result.1.elements }
     {
         let mut stores = mem::replace(&mut self.stores, Items::new(self.alloc));

@@ -95,7 +95,8 @@ pub(crate) fn apply(table: &mut StillTable, tile: &[u8], planned: &Planned, even
     requires spare { 2 ≤ table.old.spare }
     requires room { 2 ≤ events.old.spare }
     ensures table { IsTable table.new }
-    ensures publishes { Publishes (group_of planned.now false) table.old table.new events.old.elements events.new.elements }
+    ensures publishes { Publishes (group_of planned.now false) table.old table.new events.old.elements
+        events.new.elements }
     ensures holds { (d : ℕ) (told : Option (List ℕ)) → HoldsTiles table.old d told
         → IsTileOf table.old.shape d told planned.now.page tile.now → HoldsTiles table.new d told }
     ensures spare { table.old.spare ≤ table.new.spare + 2 }

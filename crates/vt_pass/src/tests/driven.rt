@@ -72,7 +72,8 @@ fn pass<Rt: Threads + Wait + Sync, M: PassMachine, G: Gate + Sync>(
 // Whether a pass may be prepared for a batch, by a journal.
 fn may_prepare(journal: &Journal, geometry: &Geometry, frames: u32, batch: &[Planned]) -> bool
     ensures root { MatchBool result (IsSome (newest journal.now.changes (root_of geometry.now))) (Unit {0}) }
-    ensures lawful { MatchBool result (IsBatchFor geometry.now frames (newest journal.now.changes) batch.now) (Unit {0}) }
+    ensures lawful { MatchBool result (IsBatchFor geometry.now frames (newest journal.now.changes) batch.now)
+        (Unit {0}) }
     ensures early { MatchBool result (length journal.now.changes ≤ last_start) (Unit {0}) }
     ensures few { MatchBool result (length batch.now ≤ 2) (Unit {0}) }
 {

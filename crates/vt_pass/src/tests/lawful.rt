@@ -93,7 +93,8 @@ fn is_entry(journal: &Journal, geometry: &Geometry, frames: u32, planned: &Plann
 
 // Whether each entry is lawful.
 fn are_entries(journal: &Journal, geometry: &Geometry, frames: u32, batch: &[Planned]) -> bool
-    ensures { MatchBool result (All (IsEntryFor geometry.now frames (newest journal.now.changes)) batch.now) (Unit {0}) }
+    ensures { MatchBool result (All (IsEntryFor geometry.now frames (newest journal.now.changes)) batch.now)
+        (Unit {0}) }
 {
     for i in 0..batch.len() {
         if !is_entry(journal, geometry, frames, &batch[i]) {
@@ -105,7 +106,8 @@ fn are_entries(journal: &Journal, geometry: &Geometry, frames: u32, batch: &[Pla
 
 // Whether there is at most one entry, or there are two of other pages and other frames.
 fn are_apart(batch: &[Planned]) -> bool
-    ensures { MatchBool result (AllPairs (λ (a : Entry) (b : Entry). (a.page ≢ b.page) × (a.frame ≢ b.frame)) batch.now) (Unit {0}) }
+    ensures { MatchBool result (AllPairs (λ (a : Entry) (b : Entry). (a.page ≢ b.page)
+        × (a.frame ≢ b.frame)) batch.now) (Unit {0}) }
 {
     batch.len() <= 1
         || batch.len() == 2 && batch[0].page != batch[1].page && batch[0].frame != batch[1].frame

@@ -14,7 +14,8 @@ use vt_outside::Folder;
 use vt_pages::Geometry;
 use vt_store::{Store, Stores};
 
-/// Opens a store whose tiles have the side 2 and whose samples have one byte, reads the tile of its root, and closes it.
+/// Opens a store whose tiles have the side 2 and whose samples have one byte, reads the tile of its root, and closes
+/// it.
 pub fn read_root<D: Folder>(
     rt: &impl Abort,
     folder: &mut D,
@@ -23,7 +24,8 @@ pub fn read_root<D: Folder>(
 ) -> Geometry
     ensures store { IsStoreIfTold (bytes_at (D.files folder.old) name.now) result 1 }
     ensures side { result.tile ≡ 2 }
-    ensures tile { IfSome (bytes_at (D.files folder.old) name.now) (λ b. IsPiece b (tile_start result 1 (root_of result)) tile.new) }
+    ensures tile { IfSome (bytes_at (D.files folder.old) name.now) (λ b. IsPiece b
+        (tile_start result 1 (root_of result)) tile.new) }
     ensures files { D.files folder.new ≡ D.files folder.old }
 {
     let Ok(file) = folder.open(name) else {

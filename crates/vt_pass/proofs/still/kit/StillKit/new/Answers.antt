@@ -6,7 +6,7 @@ use Rattle.vt_store.specs.Format.{tile_length}
 use Rattle.std.proofs.lemmas.List.{length-replicate}
 use Rattle.vt_pass.specs.Kits.{AreSamplersOf}
 use Rattle.vt_pass.proofs.Kits.{told_first}
-use Rattle.vt_pass.proofs.still.kit.PassKit.new.Goals as goal
+use Rattle.vt_pass.proofs.still.kit.StillKit.new.Goals as goal
 
 pub returns-clause-kit : goal.returns-clause-kit
 returns-clause-kit g c = record {

@@ -8,7 +8,7 @@ use Rattle.vt_pass.specs.Kits.{KitView, kit_state, lines_at}
 use Rattle.vt_pass.specs.StillMachines.{still_shows, kit_drawn, kit_before, MayFinish}
 use Rattle.vt_pass.proofs.Ended.{counts_low}
 use Rattle.vt_pass.proofs.RoundKits.{tile_is, ended_of, idle_finished, ran_finished}
-use Rattle.vt_pass.proofs.still.kit.PassKit.finish.Goals as goal
+use Rattle.vt_pass.proofs.still.kit.StillKit.finish.Goals as goal
 
 pub tell-rows-requires-clause-few : goal.tell-rows-requires-clause-few
 tell-rows-requires-clause-few g c =

@@ -14,7 +14,7 @@ use Rattle.vt_pass.specs.StillMachines.{still_shows}
 use Rattle.vt_pass.specs.StillLaws.{ran_after, begun, kit_back, same_kit}
 use Rattle.vt_pass.proofs.Kits.{may_draw}
 use Rattle.vt_pass.proofs.Lent.{same_number, all_did}
-use Rattle.vt_pass.proofs.still.pass.run_pass.Goals as goal
+use Rattle.vt_pass.proofs.still.pass.draw_and_stream.Goals as goal
 
 pub work_together-requires-clause-loaders : goal.work_together-requires-clause-loaders
 work_together-requires-clause-loaders g c κs within =

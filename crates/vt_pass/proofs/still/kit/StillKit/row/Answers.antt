@@ -2,7 +2,7 @@ use Rattle.std.proofs.Common.{◌%◌, sym, ap, ◌∙◌}
 use Rattle.std.specs.Prelude.{slice_get}
 use Rattle.vt_pass.specs.Kits.{KitView}
 use Rattle.vt_pass.proofs.Kits.{own_turn}
-use Rattle.vt_pass.proofs.still.kit.PassKit.row.Goals as goal
+use Rattle.vt_pass.proofs.still.kit.StillKit.row.Goals as goal
 
 pub row-requires : goal.row-requires
 row-requires g c = own_turn g.F.File c.args.self.now c.args.y c.at.result.now c.requires.kit c.requires.inside
