@@ -16,3 +16,4 @@ pub mod Following
 pub mod Heads
 pub mod Reversing
 pub mod ByParts
+pub mod Fronts

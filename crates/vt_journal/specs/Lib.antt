@@ -8,3 +8,4 @@ pub mod JournalFlaws
 pub mod JournalReading
 pub mod Texts
 pub mod Following
+pub mod Fronts

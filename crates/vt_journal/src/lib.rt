@@ -32,7 +32,7 @@ pub use laws::{
 pub use parse::JournalError;
 pub use passes::PassText;
 pub use text::{JournalText, parse_journal};
-pub use write::{write_head, write_pass};
+pub use write::{add_pass, write_head, write_pass};
 
 #[cfg(test)]
 mod tests;

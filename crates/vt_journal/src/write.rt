@@ -7,6 +7,7 @@ ghost use Rattle.vt_text.specs.Numbers.{number_spelling};
 ghost use Rattle.vt_pages.specs.Pages.{pages_of};
 ghost use Rattle.vt_journal.specs.declared.lines.Line.{Line};
 ghost use Rattle.vt_journal.specs.Changes.{Pinned};
+ghost use Rattle.vt_journal.specs.Fronts.{IsFrontOf};
 ghost use Rattle.vt_journal.specs.JournalText.{changes_of, event_lines, page_fields, change_fields, begin_fields, loss_fields, row_fields, behind_blanks, line_text, lines_text, IsLineInChain, IsEventInChain, head_text, pass_text};
 ghost use Rattle.vt_journal.specs.Passes.{pass_of};
 
@@ -21,7 +22,8 @@ use vt_text::put_number;
 
 // Appends bytes.
 fn add(text: &mut Vec<u8>, bytes: &[u8]) -> Result<(), NoMemory>
-    ensures { OnOk result (text.new.items ≡ text.old.items ++ bytes.now) }
+    ensures whole { OnOk result (text.new.items ≡ text.old.items ++ bytes.now) }
+    ensures front { IsFrontOf text.old.items text.new.items }
 {
     text.extend_from_slice(bytes)?;
     Ok(())
@@ -29,17 +31,28 @@ fn add(text: &mut Vec<u8>, bytes: &[u8]) -> Result<(), NoMemory>
 
 // Appends a blank and a number.
 fn add_number(text: &mut Vec<u8>, n: u64) -> Result<(), NoMemory>
-    ensures { OnOk result (text.new.items ≡ text.old.items ++ (blank ∷ number_spelling n)) }
+    ensures whole { OnOk result (text.new.items ≡ text.old.items ++ (blank ∷ number_spelling n)) }
+    ensures front { IsFrontOf text.old.items text.new.items }
 {
     let mut field = [b' '; 21];
     let end = put_number(&mut field, 1, n);
     add(text, &field[..end])
 }
 
+// Appends a word, a blank and a number.
+fn add_named(text: &mut Vec<u8>, word: &[u8], n: u64) -> Result<(), NoMemory>
+    ensures whole { OnOk result (text.new.items ≡ text.old.items ++ (word.now ++ blank ∷ number_spelling n)) }
+    ensures front { IsFrontOf text.old.items text.new.items }
+{
+    add(text, word)?;
+    add_number(text, n)
+}
+
 // Appends the level, the column and the row of a page, each behind a blank.
 fn add_page(text: &mut Vec<u8>, geometry: &Geometry, page: u32) -> Result<(), NoMemory>
     requires { page < pages_of geometry.now }
-    ensures { OnOk result (text.new.items ≡ text.old.items ++ behind_blanks (page_fields geometry.now page)) }
+    ensures whole { OnOk result (text.new.items ≡ text.old.items ++ behind_blanks (page_fields geometry.now page)) }
+    ensures front { IsFrontOf text.old.items text.new.items }
 {
     let name = geometry.page_at(page);
     add_number(text, u64::from(name.level))?;
@@ -56,8 +69,9 @@ fn add_pair(
     frame: u32,
 ) -> Result<(), NoMemory>
     requires { page < pages_of geometry.now }
-    ensures { OnOk result (text.new.items ≡ text.old.items
+    ensures whole { OnOk result (text.new.items ≡ text.old.items
         ++ behind_blanks (number_spelling version ∷ page_fields geometry.now page ++ number_spelling frame ∷ [])) }
+    ensures front { IsFrontOf text.old.items text.new.items }
 {
     add_number(text, version)?;
     add_page(text, geometry, page)?;
@@ -72,7 +86,8 @@ fn add_change(
     change: Change,
 ) -> Result<(), NoMemory>
     requires { IsLineInChain geometry.now (Line.Makes version change) }
-    ensures { OnOk result (text.new.items ≡ text.old.items ++ join_with_byte blank (change_fields geometry.now version change)) }
+    ensures whole { OnOk result (text.new.items ≡ text.old.items ++ join_with_byte blank (change_fields geometry.now version change)) }
+    ensures front { IsFrontOf text.old.items text.new.items }
 {
     match change {
         Change::Map { page, frame } => {
@@ -88,22 +103,20 @@ fn add_change(
 
 // Appends the first line of a pass without its line feed.
 fn add_begin(text: &mut Vec<u8>, pass: u32, picture: u32, start: u64) -> Result<(), NoMemory>
-    ensures { OnOk result (text.new.items ≡ text.old.items ++ join_with_byte blank (begin_fields pass picture start)) }
+    ensures whole { OnOk result (text.new.items ≡ text.old.items ++ join_with_byte blank (begin_fields pass picture start)) }
+    ensures front { IsFrontOf text.old.items text.new.items }
 {
-    add(text, b"pass")?;
-    add_number(text, u64::from(pass))?;
-    add(text, b" picture")?;
-    add_number(text, u64::from(picture))?;
-    add(text, b" start")?;
-    add_number(text, start)
+    add_named(text, b"pass", u64::from(pass))?;
+    add_named(text, b" picture", u64::from(picture))?;
+    add_named(text, b" start", start)
 }
 
 // Appends the line of a row without its line feed.
 fn add_row(text: &mut Vec<u8>, row: RowLine) -> Result<(), NoMemory>
-    ensures { OnOk result (text.new.items ≡ text.old.items ++ join_with_byte blank (row_fields row)) }
+    ensures whole { OnOk result (text.new.items ≡ text.old.items ++ join_with_byte blank (row_fields row)) }
+    ensures front { IsFrontOf text.old.items text.new.items }
 {
-    add(text, b"row")?;
-    add_number(text, u64::from(row.row))?;
+    add_named(text, b"row", u64::from(row.row))?;
     add_number(text, u64::from(row.sampler))?;
     add_number(text, row.version)
 }
@@ -111,7 +124,8 @@ fn add_row(text: &mut Vec<u8>, row: RowLine) -> Result<(), NoMemory>
 // Appends the line of a lost page without its line feed.
 fn add_loss(text: &mut Vec<u8>, geometry: &Geometry, page: u32) -> Result<(), NoMemory>
     requires { page < pages_of geometry.now }
-    ensures { OnOk result (text.new.items ≡ text.old.items ++ join_with_byte blank (loss_fields geometry.now page)) }
+    ensures whole { OnOk result (text.new.items ≡ text.old.items ++ join_with_byte blank (loss_fields geometry.now page)) }
+    ensures front { IsFrontOf text.old.items text.new.items }
 {
     add(text, b"lost")?;
     add_page(text, geometry, page)
@@ -120,7 +134,8 @@ fn add_loss(text: &mut Vec<u8>, geometry: &Geometry, page: u32) -> Result<(), No
 // Appends a line.
 fn add_line(text: &mut Vec<u8>, geometry: &Geometry, line: Line) -> Result<(), NoMemory>
     requires { IsLineInChain geometry.now line }
-    ensures { OnOk result (text.new.items ≡ text.old.items ++ line_text geometry.now line) }
+    ensures whole { OnOk result (text.new.items ≡ text.old.items ++ line_text geometry.now line) }
+    ensures front { IsFrontOf text.old.items text.new.items }
 {
     match line {
         Line::Begins {
@@ -144,8 +159,9 @@ fn add_event(
 ) -> Result<u64, NoMemory>
     requires page { IsEventInChain geometry.now event }
     requires room { version < most_versions }
-    ensures { IfOk result (λ v. (v ≡ version + length (changes_of (event ∷ [])))
+    ensures whole { IfOk result (λ v. (v ≡ version + length (changes_of (event ∷ [])))
         × (text.new.items ≡ text.old.items ++ lines_text geometry.now (event_lines version (event ∷ [])))) }
+    ensures front { IsFrontOf text.old.items text.new.items }
 {
     match event {
         Event::Changed(change) => {
@@ -169,7 +185,8 @@ fn add_events(
 ) -> Result<(), NoMemory>
     requires pages { All (IsEventInChain geometry.now) events.now }
     requires room { start + length events.now ≤ most_versions }
-    ensures { OnOk result (text.new.items ≡ text.old.items ++ lines_text geometry.now (event_lines start events.now)) }
+    ensures whole { OnOk result (text.new.items ≡ text.old.items ++ lines_text geometry.now (event_lines start events.now)) }
+    ensures front { IsFrontOf text.old.items text.new.items }
 {
     let mut version = start;
     for event in events {
@@ -180,7 +197,8 @@ fn add_events(
 
 // Appends the lines of rows.
 fn add_rows(text: &mut Vec<u8>, geometry: &Geometry, rows: &[RowLine]) -> Result<(), NoMemory>
-    ensures { OnOk result (text.new.items ≡ text.old.items ++ lines_text geometry.now (map Line.Draws rows.now)) }
+    ensures whole { OnOk result (text.new.items ≡ text.old.items ++ lines_text geometry.now (map Line.Draws rows.now)) }
+    ensures front { IsFrontOf text.old.items text.new.items }
 {
     for row in rows {
         add_line(text, geometry, Line::Draws(*row))?;
@@ -188,22 +206,32 @@ fn add_rows(text: &mut Vec<u8>, geometry: &Geometry, rows: &[RowLine]) -> Result
     Ok(())
 }
 
-/// The text of a pass: the line that begins it, a line for each event, and a line for each row. `start` and the number
-/// of events together are at most 2^62.
+/// Appends the text of a pass: the line that begins it, a line for each event, and a line for each row. `start` and the number
+/// of events together are at most 2^62. The old text is a front part of what stands, also after want of memory.
+pub fn add_pass(text: &mut Vec<u8>, geometry: &Geometry, pass: &PassText) -> Result<(), NoMemory>
+    requires pages { All (IsEventInChain geometry.now) pass.now.events.elements }
+    requires room { pass.now.start + length pass.now.events.elements ≤ most_versions }
+    ensures whole { OnOk result (text.new.items ≡ text.old.items ++ pass_text geometry.now (pass_of pass.now)) }
+    ensures front { IsFrontOf text.old.items text.new.items }
+{
+    let begins = Line::Begins {
+        pass: pass.pass,
+        picture: pass.picture,
+        start: pass.start,
+    };
+    add_line(text, geometry, begins)?;
+    add_events(text, geometry, pass.start, pass.events.slice())?;
+    add_rows(text, geometry, pass.rows.slice())
+}
+
+/// The text of a pass, as `add_pass` appends it.
 pub fn write_pass(alloc: Global, geometry: &Geometry, pass: &PassText) -> Result<Vec<u8>, NoMemory>
     requires pages { All (IsEventInChain geometry.now) pass.now.events.elements }
     requires room { pass.now.start + length pass.now.events.elements ≤ most_versions }
     ensures { IfOk result (λ v. v.items ≡ pass_text geometry.now (pass_of pass.now)) }
 {
     let mut text = Vec::new(alloc);
-    let begins = Line::Begins {
-        pass: pass.pass,
-        picture: pass.picture,
-        start: pass.start,
-    };
-    add_line(&mut text, geometry, begins)?;
-    add_events(&mut text, geometry, pass.start, pass.events.slice())?;
-    add_rows(&mut text, geometry, pass.rows.slice())?;
+    add_pass(&mut text, geometry, pass)?;
     Ok(text)
 }
 

@@ -18,7 +18,7 @@ use std::thread::Threads;
 use vt_draw::Shot;
 use vt_evict::{Batch, Losses, Recency};
 use vt_feedback::Counts;
-use vt_journal::{PassText, write_pass};
+use vt_journal::{PassText, add_pass};
 use vt_outside::{Folder, Gate, NoMemory, OutsideError};
 use vt_pages::Geometry;
 use vt_pass::{PassMachine, PassReport};
@@ -82,9 +82,19 @@ pub fn look_out(
     })
 }
 
-/// Adds the text of a pass to the journal, in one call. After a refusal a front part of it was added.
+// Makes a buffer hold the text of a pass. What it held is dropped, and its room is kept.
+fn make_text(buffer: &mut Vec<u8>, geometry: &Geometry, pass: &PassText) -> Result<(), NoMemory>
+    requires pages { All (IsEventInChain geometry.now) pass.now.events.elements }
+    requires room { pass.now.start + length pass.now.events.elements ≤ most_versions }
+    ensures { OnOk result (buffer.new.items ≡ pass_text geometry.now (pass_of pass.now)) }
+{
+    buffer.clear();
+    add_pass(buffer, geometry, pass)
+}
+
+/// Adds the text of a pass, which is made in a buffer, to the journal, in one call. After a refusal a front part of it was added.
 pub fn tell_pass<D: Folder>(
-    alloc: Global,
+    buffer: &mut Vec<u8>,
     folder: &mut D,
     journal: &str,
     geometry: &Geometry,
@@ -102,6 +112,6 @@ pub fn tell_pass<D: Folder>(
     ensures asked { D.asked folder.new ≡ D.asked folder.old }
     ensures faults { D.faults folder.old ≤ D.faults folder.new }
 {
-    let text = write_pass(alloc, geometry, pass)?;
-    folder.append(journal, &text)
+    make_text(buffer, geometry, pass)?;
+    folder.append(journal, buffer)
 }

@@ -66,7 +66,7 @@ pub struct Drawn {
     pub passed: Passed,
 }
 
-/// Takes turns until all pictures are finished, and puts the last line.
+/// Takes turns until all pictures are finished, and puts the last line. The text of each pass is made in the buffer.
 pub fn walk_on<Rt: Threads + Wait + Sync, M: PassMachine, D: Folder, O: Sink, G: Gate + Sync>(
     rt: &Rt,
     alloc: Global,
@@ -74,6 +74,7 @@ pub fn walk_on<Rt: Threads + Wait + Sync, M: PassMachine, D: Folder, O: Sink, G:
     machine: &mut M,
     recency: &mut Recency,
     tour: &Tour<'_>,
+    buffer: &mut Vec<u8>,
     out: &mut O,
     gate: &G,
 ) -> Result<(), WalkError>
@@ -99,7 +100,7 @@ pub fn walk_on<Rt: Threads + Wait + Sync, M: PassMachine, D: Folder, O: Sink, G:
     ensures faults { D.faults folder.old ≤ D.faults folder.new }
     ensures out_faults { O.faults out.old ≤ O.faults out.new }
 {
-    let reads = take_turns(rt, alloc, folder, machine, recency, tour, out, gate)?;
+    let reads = take_turns(rt, alloc, folder, machine, recency, tour, buffer, out, gate)?;
     put_end_line(out, tour.path.pictures(), reads)?;
     Ok(())
 }
@@ -112,6 +113,7 @@ fn take_turns<Rt: Threads + Wait + Sync, M: PassMachine, D: Folder, O: Sink, G: 
     machine: &mut M,
     recency: &mut Recency,
     tour: &Tour<'_>,
+    buffer: &mut Vec<u8>,
     out: &mut O,
     gate: &G,
 ) -> Result<u64, WalkError>
@@ -150,13 +152,13 @@ fn take_turns<Rt: Threads + Wait + Sync, M: PassMachine, D: Folder, O: Sink, G: 
             return Ok(turn.reads);
         }
         turn = take_turn(
-            rt, alloc, folder, machine, recency, tour, number, turn, out, gate,
+            rt, alloc, folder, machine, recency, tour, number, turn, buffer, out, gate,
         )?;
     }
     Err(WalkError::NoMemory)
 }
 
-// Makes the next pass of a walk, and writes the picture that it finishes.
+// Makes the next pass of a walk, and writes the picture that it finishes. The pass's text is made in the buffer.
 fn take_turn<Rt: Threads + Wait + Sync, M: PassMachine, D: Folder, O: Sink, G: Gate + Sync>(
     rt: &Rt,
     alloc: Global,
@@ -166,6 +168,7 @@ fn take_turn<Rt: Threads + Wait + Sync, M: PassMachine, D: Folder, O: Sink, G: G
     tour: &Tour<'_>,
     number: u32,
     turn: Turn,
+    buffer: &mut Vec<u8>,
     out: &mut O,
     gate: &G,
 ) -> Result<Turn, WalkError>
@@ -195,13 +198,13 @@ fn take_turn<Rt: Threads + Wait + Sync, M: PassMachine, D: Folder, O: Sink, G: G
     ensures out_faults { O.faults out.old ≤ O.faults out.new }
 {
     let passed = make_pass(
-        rt, alloc, folder, machine, recency, tour, number, turn, gate,
+        rt, alloc, folder, machine, recency, tour, number, turn, buffer, gate,
     )?;
     judge(tour, &passed)?;
     end_turn(alloc, folder, machine, recency, tour, number, passed, out)
 }
 
-// Makes the next pass of a walk, and tells it to the journal.
+// Makes the next pass of a walk, and tells it to the journal by a text that is made in the buffer.
 fn make_pass<Rt: Threads + Wait + Sync, M: PassMachine, D: Folder, G: Gate + Sync>(
     rt: &Rt,
     alloc: Global,
@@ -211,6 +214,7 @@ fn make_pass<Rt: Threads + Wait + Sync, M: PassMachine, D: Folder, G: Gate + Syn
     tour: &Tour<'_>,
     number: u32,
     turn: Turn,
+    buffer: &mut Vec<u8>,
     gate: &G,
 ) -> Result<Passed, WalkError>
     requires tour { IsTour tour.now }
@@ -239,7 +243,7 @@ fn make_pass<Rt: Threads + Wait + Sync, M: PassMachine, D: Folder, G: Gate + Syn
 {
     let drawn = draw_pass(rt, alloc, machine, recency, tour, number, turn, gate)?;
     tell_pass(
-        alloc,
+        buffer,
         folder,
         tour.names.journal,
         tour.geometry,

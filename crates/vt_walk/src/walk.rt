@@ -315,7 +315,18 @@ fn walk_all<
     ensures out_faults { O.faults out.old ≤ O.faults out.new }
 {
     let mut recency = begin(rt, alloc, folder, store, machine, tour)?;
-    walk_on(rt, alloc, folder, machine, &mut recency, tour, out, gate)
+    let mut buffer = Vec::new(alloc);
+    walk_on(
+        rt,
+        alloc,
+        folder,
+        machine,
+        &mut recency,
+        tour,
+        &mut buffer,
+        out,
+        gate,
+    )
 }
 
 // Places the pinned pages, and begins the journal.

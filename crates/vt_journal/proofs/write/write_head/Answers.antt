@@ -34,4 +34,4 @@ head_after s js before after pinned place version change pin within same is was 
 pub loop-place-preserved : goal.loop-place-preserved
 loop-place-preserved c =
     head_after c.args.geometry.now c.args.journal.now.changes c.loop-place.text.items c.add_line.new.text.items c.args.pinned c.loop-place.place c.from-version.result c.change-change.result
-    c.requires c.loop-place-test.true c.from-version.ensures c.change-change.ensures c.loop-place.invariant c.in_ok-add_line.ensures
+    c.requires c.loop-place-test.true c.from-version.ensures c.change-change.ensures c.loop-place.invariant c.in_ok-add_line.ensures.whole

@@ -1,6 +1,8 @@
-use Rattle.std.proofs.Common.{◌∷◌, refl, arith}
+use Rattle.std.proofs.Common.{◌∷◌, refl, sym, subst, arith, ◌∙◌}
+use Rattle.std.proofs.lemmas.Result.{err_from_is_err_and}
 use Rattle.vt_walk.specs.States.{walk_state}
 use Rattle.vt_walk.specs.Tours.{given_of}
+use Rattle.vt_walk.specs.Turns.{LeftBy}
 use Rattle.vt_walk.specs.Written.{IsDrawnBySome}
 use Rattle.vt_walk.proofs.Rounds.{first_at, at_left}
 use Rattle.vt_walk.proofs.turns.take_turns.Goals as goal
@@ -26,3 +28,22 @@ loop-number-init g c =
 pub returns-clause-walked : goal.returns-clause-walked
 returns-clause-walked g c = λ b at. at_left (IsDrawnBySome g.M.PassMachine.drawn) (given_of g.M.PassMachine.DEALT g.M.PassMachine.needs g.M.PassMachine.shows g.M.PassMachine.whole c.args.tour.now b.told) b.first (walk_state g.D.Folder c.args.tour.now.names.store.now c.loop-number.folder (b.kept ∷ (g.M.PassMachine.state c.loop-number.machine).files) (g.O.Sink.held c.loop-number.out) (g.O.Sink.faults c.loop-number.out))
     c.loop-number.number (g.M.PassMachine.state c.loop-number.machine) c.loop-number.recency c.loop-number.turn (c.loop-number.invariant.each b at)
+
+pub loop-number-preserved : goal.loop-number-preserved
+loop-number-preserved g c =
+    let i = c.loop-number.invariant in
+    let t = c.in_ok-turn.ensures in
+    record {
+      some = (i.some.0, t.taken i.some.0 i.some.1);
+      each = λ b at. t.taken b (i.each b at);
+      idle = t.idle;
+      same = record { names = t.same.names ∙ i.same.names; tell = t.same.tell ∙ i.same.tell };
+      asked = t.asked ∙ i.asked;
+      faults = omega (arith, t.faults, i.faults);
+      out_faults = omega (arith, t.out_faults, i.out_faults);
+    }
+
+pub returns-in_err-turn-clause-walked : goal.returns-in_err-turn-clause-walked
+returns-in_err-turn-clause-walked g c =
+    let p = err_from_is_err_and c.from_residual.result c.from_residual.ensures.1 in
+    λ b at. rw p.1 (subst (LeftBy (IsDrawnBySome g.M.PassMachine.drawn) (given_of g.M.PassMachine.DEALT g.M.PassMachine.needs g.M.PassMachine.shows g.M.PassMachine.whole c.args.tour.now b.told) b.first (walk_state g.D.Folder c.args.tour.now.names.store.now c.take_turn.new.folder (b.kept ∷ (g.M.PassMachine.state c.take_turn.new.machine).files) (g.O.Sink.held c.take_turn.new.out) (g.O.Sink.faults c.take_turn.new.out))) (sym p.2) (c.in_err-turn.ensures.taken b (c.loop-number.invariant.each b at)))
