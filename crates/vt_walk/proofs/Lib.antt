@@ -37,3 +37,4 @@ pub mod Loading
 pub mod Counted
 pub mod PassBounds
 pub mod PictureParts
+pub mod WholeRuns

@@ -1,5 +1,5 @@
 -- The first turn, the last one, and the end of a walk.
-use Rattle.std.proofs.Common.{◌≡◌, ℕ, ◌+◌, ◌<◌, ◌≤◌, ◌⊎◌, inl, inr, List, [], ◌∷◌, ◌++◌, length, sum, Option, refl, sym, ap, ◌∙◌, subst, take, arith}
+use Rattle.std.proofs.Common.{◌≡◌, ℕ, ◌+◌, ◌-◌, ◌<◌, ◌≤◌, ◌⊎◌, inl, inr, List, [], ◌∷◌, ◌++◌, length, Option, refl, sym, ap, ◌∙◌, subst, take, arith}
 use Rattle.std.specs.Prelude.{option_map}
 use Rattle.std.proofs.lemmas.Bool.{cases_lt}
 use Rattle.vt_outside.specs.Counts.{Rose}
@@ -12,17 +12,18 @@ use Rattle.vt_pass.specs.Machines.{MachineState}
 use Rattle.vt_walk.specs.declared.error.WalkError.{WalkError}
 use Rattle.vt_walk.specs.declared.error.WalkError.TheVariants as walk_error
 use Rattle.vt_walk.specs.declared.turns.Turn.{Turn}
+use Rattle.vt_walk.specs.declared.turns.Walked.{Walked}
+use Rattle.vt_walk.specs.Counts.{HasCounts}
 use Rattle.vt_walk.specs.Refusals.{refusal_by}
 use Rattle.vt_walk.specs.declared.mode.Mode.{Mode}
 use Rattle.vt_walk.specs.declared.mode.Mode.TheVariants.{Settled}
 use Rattle.vt_walk.specs.Fits.{WalkSetup, Fits}
 use Rattle.vt_walk.specs.Runs.{WalkPass, IsRun, IsTurnOf, IsWhole, GoesOn}
-use Rattle.vt_walk.specs.Logs.{end_line, reads_of, picture_lines, log_text}
+use Rattle.vt_walk.specs.Logs.{end_line, reads_of, picture_lines}
 use Rattle.vt_walk.specs.Walks.{WalkGiven}
 use Rattle.vt_walk.specs.States.{WalkState}
 use Rattle.vt_walk.specs.Standing.{Finished}
 use Rattle.vt_walk.specs.Causes.{IsCausedBy}
-use Rattle.vt_walk.specs.Leaving.{Left}
 use Rattle.vt_walk.specs.Tallies.{no_passes}
 use Rattle.vt_walk.specs.Turns.{StandsFirst, StandsAt, StandsLast, LeftBy}
 use Rattle.vt_walk.proofs.Steps.{told_gained}
@@ -38,7 +39,7 @@ is_whole w (p ∷ run) picture is_run turn all = (turn.0, (either turn.1).0, (ei
   either (inr same) = absurd (let inside = is_run.1.of_path in let e = same.1 in omega (arith, inside, e, all))
 
 -- each picture of a whole settled run fits
-each_fits : (w : WalkSetup) (run : List WalkPass) → w.mode ≡ Settled → IsRun w run → IsWhole w run → (picture : ℕ) → picture < w.pictures → Fits w picture
+pub each_fits : (w : WalkSetup) (run : List WalkPass) → w.mode ≡ Settled → IsRun w run → IsWhole w run → (picture : ℕ) → picture < w.pictures → Fits w picture
 each_fits w [] settled is_run none picture below = absurd (omega (arith, none, below))
 each_fits w (p ∷ run) settled is_run whole picture below = pick (cases_lt picture p.picture) where
   pick : (picture < p.picture) ⊎ (p.picture ≤ picture) → Fits w picture
@@ -80,6 +81,17 @@ module _ (drawn : PathView → ℕ → ℕ → ℕ → List ℕ → Type 0) (g :
     whole = is_whole g.setup s.run t.picture s.stands.is_run s.turn.turn all;
     all = sym s.count ∙ all;
     reads_are = s.turn.reads;
+  }
+
+  -- and the counts of the run are known
+  pub counts_at : (number : ℕ) (m : MachineState) (v : RecencyView) (t : Turn) (walked : Walked) → StandsAt drawn g number t first now m v
+      → t.picture ≡ g.setup.pictures → walked.passes ≡ number - 1 → walked.reads ≡ t.reads → HasCounts g.setup walked
+  counts_at number m v t walked s all passes reads = record {
+    run = s.run;
+    is_run = s.stands.is_run;
+    whole = is_whole g.setup s.run t.picture s.stands.is_run s.turn.turn all;
+    passes = let n = s.turn.number_is in omega (arith, n, passes);
+    reads = reads ∙ s.turn.reads;
   }
 
   -- the walk ends before a pass

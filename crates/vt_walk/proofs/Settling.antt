@@ -155,7 +155,7 @@ same_entries : (a b : List ℕ) → length a ≡ length b → ((p : ℕ) → sli
 same_entries a b count each = same_lists a b
     (λ k inside. slice_get-get_or a k 0 (omega (arith, inside, count)) ∙ ap Some (each k) ∙ sym (slice_get-get_or b k 0 inside)) (past a (length b) (omega (arith, count)))
 
-settled_one : (old a b : RecencyView) (reads : List Planned) → IsSettled old reads a → IsSettled old reads b → a ≡ b
+pub settled_one : (old a b : RecencyView) (reads : List Planned) → IsSettled old reads a → IsSettled old reads b → a ≡ b
 settled_one old a b reads one two =
     let entries : a.entries ≡ b.entries = same_entries a.entries b.entries (one.table.same_length ∙ sym two.table.same_length) (settled_entries old.entries reads a.entries b.entries one.table two.table) in
     λ i. record {

@@ -25,3 +25,4 @@ pub mod Beginnings
 pub mod Opening
 pub mod StillDrawn
 pub mod PassCounts
+pub mod Counts

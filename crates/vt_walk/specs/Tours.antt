@@ -6,7 +6,8 @@ use Rattle.vt_pages.specs.Pages.{IsWithinLimits, pages_of, pinned_of}
 use Rattle.vt_journal.specs.Changes.{Table}
 use Rattle.vt_shown.specs.Scenes.{Scene, scene_of}
 use Rattle.vt_walk.specs.declared.tour.Tour.{Tour}
-use Rattle.vt_walk.specs.Walks.{WalkGiven, given_by, names_of, AreSettings}
+use Rattle.vt_walk.specs.Fits.{WalkSetup}
+use Rattle.vt_walk.specs.Walks.{WalkGiven, given_by, walk_setup, names_of, AreSettings}
 
 -- what its pictures are of
 abbrev pub tour_scene : Tour → Scene
@@ -16,6 +17,10 @@ tour_scene t = scene_of t.geometry.now t.depth t.path.now
 abbrev pub given_of : Bool → (Scene → ℕ → ℕ → ℕ) → (Scene → List ℕ → Table → ℕ → ℕ → ℕ → List ℕ) → (Scene → List ℕ → ℕ → ℕ → ℕ → List ℕ)
     → Tour → Option (List ℕ) → WalkGiven
 given_of dealt needs shows whole t told = given_by dealt needs shows whole (tour_scene t) t.settings t.mode told (names_of t.names)
+
+-- the numbers of the walk of a tour
+abbrev pub setup_of_tour : Bool → (Scene → ℕ → ℕ → ℕ) → Tour → WalkSetup
+setup_of_tour dealt needs t = walk_setup dealt needs (tour_scene t) t.settings t.mode
 
 -- its numbers are within their limits
 pub record IsTour (t : Tour) : Type 0 where

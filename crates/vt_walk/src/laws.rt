@@ -23,7 +23,7 @@ ghost use Rattle.vt_pages.specs.Shape.{Shape};
 ghost use Rattle.vt_pass.specs.Passes.{MapsNeeded, IsPictured, Ran};
 ghost use Rattle.vt_walk.specs.declared.mode.Mode.TheVariants.{Live, Settled};
 ghost use Rattle.vt_walk.specs.Fits.{WalkSetup, NeedsFrames, Fits, DoesNotFit};
-ghost use Rattle.vt_walk.specs.Runs.{WalkPass, IsWalkSetup, IsRun, GoesOn, IsFinished, journal_after, recency_after, plan_after, planned_in, lost_in};
+ghost use Rattle.vt_walk.specs.Runs.{WalkPass, IsWalkSetup, IsRun, IsWhole, GoesOn, IsFinished, journal_after, recency_after, plan_after, planned_in, lost_in};
 ghost use Rattle.vt_walk.specs.Runs.{told_of, run_content, run_text, pass_of, IsTurnOf, IsNextPass};
 ghost use Rattle.vt_walk.specs.Agreements.{Agrees};
 ghost use Rattle.vt_walk.specs.Stamped.{AreStampsOf};
@@ -154,6 +154,15 @@ pub fn unfit_picture_ends_the_run()
         → picture < p.picture → Fits w picture }
     ensures first { (w : WalkSetup) (p : WalkPass) (passes : List WalkPass) (n : ℕ) → w.mode ≡ Settled → IsRun w (p ∷ passes)
         → DoesNotFit w p.picture n → passes_of p.picture passes ≡ [] }
+{}
+
+/// All whole settled runs of a walk have the same number of passes and ask for the same number of tiles, in whatever order pages came and
+/// rows were drawn.
+pub fn whole_runs_count_alike()
+    ensures passes { (w : WalkSetup) (a b : List WalkPass) → w.mode ≡ Settled → IsRun w a → IsRun w b → IsWhole w a → IsWhole w b
+        → length a ≡ length b }
+    ensures reads { (w : WalkSetup) (a b : List WalkPass) → w.mode ≡ Settled → IsRun w a → IsRun w b → IsWhole w a → IsWhole w b
+        → reads_of w a ≡ reads_of w b }
 {}
 
 /// What the passes of a run ask for, and what was lost of it, adds up pass by pass.

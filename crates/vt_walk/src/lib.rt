@@ -15,6 +15,7 @@ mod settings;
 mod tallies;
 mod tour;
 mod turns;
+mod uncounted;
 mod walk;
 
 pub use error::WalkError;
@@ -24,6 +25,7 @@ pub use laws::{
     ran_pass_comes_next, run_content_is_lawful, run_journal_is_legal, run_keeps_its_tables,
     run_order_is_by_stamps, run_pictures_stay, run_places_add_up, run_text_grows,
     run_text_tells_its_content, settled_table_is_newest, unfit_picture_ends_the_run,
+    whole_runs_count_alike,
 };
 pub use live::{walk_live, walk_settled};
 pub use mode::Mode;
@@ -33,7 +35,9 @@ pub use pass_counts::{
     run_has_its_pictures,
 };
 pub use settings::{Names, Settings};
-pub use walk::walk_with;
+pub use turns::Walked;
+pub use uncounted::walk_with;
+pub use walk::walk_counted;
 
 #[cfg(test)]
 mod tests;

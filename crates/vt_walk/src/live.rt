@@ -18,7 +18,7 @@ ghost use Rattle.vt_walk.specs.StillDrawn.{drawn_by};
 
 use crate::error::WalkError;
 use crate::settings::{Names, Settings};
-use crate::walk::walk_with;
+use crate::uncounted::walk_with;
 use std::alloc::Global;
 use std::sync::Wait;
 use std::thread::Threads;

@@ -6,12 +6,13 @@ ghost use Rattle.vt_journal.specs.JournalText.{IsEventInChain};
 ghost use Rattle.vt_pass.specs.Requests.{AreSameFiles, ArePartlyReadFor};
 ghost use Rattle.vt_pass.specs.Outcomes.{lost_count};
 ghost use Rattle.vt_walk.specs.States.{walk_state};
-ghost use Rattle.vt_walk.specs.Tours.{given_of, IsTour};
+ghost use Rattle.vt_walk.specs.Tours.{given_of, setup_of_tour, IsTour};
 ghost use Rattle.vt_walk.specs.Runs.{WalkPass};
 ghost use Rattle.vt_walk.specs.Standing.{Finished};
 ghost use Rattle.vt_walk.specs.Written.{IsDrawnBySome};
 ghost use Rattle.vt_walk.specs.Turns.{WalkStart, PassStart, MayDraw, HasDrawn, StandsFirst, StandsAt, StandsAfter, StandsLast, LeftBy};
 ghost use Rattle.vt_walk.specs.Reported.{IsReported};
+ghost use Rattle.vt_walk.specs.Counts.{HasCounts};
 ghost use Rattle.vt_walk.specs.Judging.{MayGoOn, Judges, IsEnd};
 
 use crate::error::WalkError;
@@ -66,6 +67,15 @@ pub struct Drawn {
     pub passed: Passed,
 }
 
+/// How much a walk took.
+#[derive(Clone, Copy, Debug, PartialEq, Eq)]
+pub struct Walked {
+    /// The number of passes of all pictures.
+    pub passes: u32,
+    /// How many tiles were asked for.
+    pub reads: u64,
+}
+
 /// Takes turns until all pictures are finished, and puts the last line. The text of each pass is made in the buffer.
 pub fn walk_on<Rt: Threads + Wait + Sync, M: PassMachine, D: Folder, O: Sink, G: Gate + Sync>(
     rt: &Rt,
@@ -77,7 +87,7 @@ pub fn walk_on<Rt: Threads + Wait + Sync, M: PassMachine, D: Folder, O: Sink, G:
     buffer: &mut Vec<u8>,
     out: &mut O,
     gate: &G,
-) -> Result<(), WalkError>
+) -> Result<Walked, WalkError>
     requires tour { IsTour tour.now }
     requires enough_frames { tour.now.pinned ≤ tour.now.settings.frames }
     requires idle { M.is_idle machine.old }
@@ -95,17 +105,18 @@ pub fn walk_on<Rt: Threads + Wait + Sync, M: PassMachine, D: Folder, O: Sink, G:
         (LeftBy (IsDrawnBySome M.drawn) (given_of M.DEALT M.needs M.shows M.whole tour.now b.told) b.first
         (walk_state D.Folder tour.now.names.store.now folder.new (b.kept ∷ (M.state machine.new).files) (O.held out.new)
         (O.faults out.new))) }
+    ensures counted { IfOk result (HasCounts (setup_of_tour M.DEALT M.needs tour.now)) }
     ensures same { AreSameFiles (M.state machine.old).files (M.state machine.new).files }
     ensures asked { D.asked folder.new ≡ D.asked folder.old }
     ensures faults { D.faults folder.old ≤ D.faults folder.new }
     ensures out_faults { O.faults out.old ≤ O.faults out.new }
 {
-    let reads = take_turns(rt, alloc, folder, machine, recency, tour, buffer, out, gate)?;
-    put_end_line(out, tour.path.pictures(), reads)?;
-    Ok(())
+    let took = take_turns(rt, alloc, folder, machine, recency, tour, buffer, out, gate)?;
+    put_end_line(out, tour.path.pictures(), took.reads)?;
+    Ok(took)
 }
 
-// Takes turns until all pictures are finished, and answers how many tiles were asked for.
+// Takes turns until all pictures are finished, and answers how much they took.
 fn take_turns<Rt: Threads + Wait + Sync, M: PassMachine, D: Folder, O: Sink, G: Gate + Sync>(
     rt: &Rt,
     alloc: Global,
@@ -116,7 +127,7 @@ fn take_turns<Rt: Threads + Wait + Sync, M: PassMachine, D: Folder, O: Sink, G: 
     buffer: &mut Vec<u8>,
     out: &mut O,
     gate: &G,
-) -> Result<u64, WalkError>
+) -> Result<Walked, WalkError>
     requires tour { IsTour tour.now }
     requires enough_frames { tour.now.pinned ≤ tour.now.settings.frames }
     requires idle { M.is_idle machine.old }
@@ -128,13 +139,14 @@ fn take_turns<Rt: Threads + Wait + Sync, M: PassMachine, D: Folder, O: Sink, G: 
         (given_of M.DEALT M.needs M.shows M.whole tour.now b.told) b.first
         (walk_state D.Folder tour.now.names.store.now folder.old (b.kept ∷ (M.state machine.old).files) (O.held out.old)
         (O.faults out.old)) (M.state machine.old) recency.old
-        → MatchResult result (λ reads. StandsLast (IsDrawnBySome M.drawn)
-        (given_of M.DEALT M.needs M.shows M.whole tour.now b.told) reads b.first
+        → MatchResult result (λ walked. StandsLast (IsDrawnBySome M.drawn)
+        (given_of M.DEALT M.needs M.shows M.whole tour.now b.told) walked.reads b.first
         (walk_state D.Folder tour.now.names.store.now folder.new (b.kept ∷ (M.state machine.new).files) (O.held out.new)
         (O.faults out.new)))
         (LeftBy (IsDrawnBySome M.drawn) (given_of M.DEALT M.needs M.shows M.whole tour.now b.told) b.first
         (walk_state D.Folder tour.now.names.store.now folder.new (b.kept ∷ (M.state machine.new).files) (O.held out.new)
         (O.faults out.new))) }
+    ensures counted { IfOk result (HasCounts (setup_of_tour M.DEALT M.needs tour.now)) }
     ensures same { AreSameFiles (M.state machine.old).files (M.state machine.new).files }
     ensures asked { D.asked folder.new ≡ D.asked folder.old }
     ensures faults { D.faults folder.old ≤ D.faults folder.new }
@@ -149,7 +161,10 @@ fn take_turns<Rt: Threads + Wait + Sync, M: PassMachine, D: Folder, O: Sink, G: 
     };
     for number in 1..u32::MAX {
         if turn.picture == pictures {
-            return Ok(turn.reads);
+            return Ok(Walked {
+                passes: number - 1,
+                reads: turn.reads,
+            });
         }
         turn = take_turn(
             rt, alloc, folder, machine, recency, tour, number, turn, buffer, out, gate,

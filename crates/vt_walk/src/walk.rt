@@ -1,17 +1,18 @@
 //! Walks.
 
-ghost use Rattle.std.specs.Prelude.{◌≡◌, ℕ, ◌<◌, ◌≤◌, List, [], ◌∷◌, sum, Option, is_some, MatchResult, OnOk};
+ghost use Rattle.std.specs.Prelude.{◌≡◌, ℕ, ◌<◌, ◌≤◌, List, [], ◌∷◌, sum, Option, is_some, IfOk, MatchResult, OnOk};
 ghost use Rattle.vt_outside.specs.Files.{bytes_at};
 ghost use Rattle.vt_pages.specs.Pages.{pinned_of};
 ghost use Rattle.vt_store.specs.StoreViews.{IsStoreIfTold};
 ghost use Rattle.vt_shown.specs.Scenes.{scene_of};
 ghost use Rattle.vt_pass.specs.Machines.{file_state};
-ghost use Rattle.vt_walk.specs.Walks.{given_by, mode_of, names_of, AreSettings};
+ghost use Rattle.vt_walk.specs.Walks.{given_by, walk_setup, mode_of, names_of, AreSettings};
+ghost use Rattle.vt_walk.specs.Counts.{HasCounts};
 ghost use Rattle.vt_walk.specs.States.{walk_state, places_of, AreOpen};
 ghost use Rattle.vt_walk.specs.Standing.{Finished};
 ghost use Rattle.vt_walk.specs.Written.{IsDrawnBySome};
 ghost use Rattle.vt_walk.specs.Turns.{StandsFirst, LeftBy};
-ghost use Rattle.vt_walk.specs.Tours.{given_of, IsTour};
+ghost use Rattle.vt_walk.specs.Tours.{given_of, setup_of_tour, IsTour};
 ghost use Rattle.vt_walk.specs.Beginnings.{IsBegun, AreTold, IsSameFile};
 ghost use Rattle.vt_pass.specs.Requests.{AreSameFiles, counts_of};
 ghost use Rattle.vt_walk.specs.Closing.{AreFresh, AreOtherNamesAsBefore};
@@ -23,7 +24,7 @@ use crate::mode::Mode;
 use crate::pinned::place_pinned;
 use crate::settings::{Names, Settings};
 use crate::tour::Tour;
-use crate::turns::walk_on;
+use crate::turns::{Walked, walk_on};
 use std::alloc::Global;
 use std::sync::Wait;
 use std::thread::Threads;
@@ -33,19 +34,9 @@ use vt_outside::{Folder, Gate, Sink};
 use vt_pass::PassMachine;
 use vt_store::{Store, Stores};
 
-/// Walks over all pictures of a path by a machine, live or settled.
-///
-/// The store was opened from `names.store`, which still holds its bytes where the folder tells them. First the store is
-/// opened once more for each loader, and the tiles of the pinned pages are read from the given one in the order of their
-/// indexes. Then the journal is created with its head. Each pass is run, and its text is added to the journal in one call.
-/// After a picture's last pass the picture is created and written in one call, and its line is put. The last line ends the
-/// walk, and all files are closed, also after a refusal.
-///
-/// `TooFewFrames` comes exactly where there are fewer frames than pinned pages, `DoesNotFit` in a settled walk at the first
-/// picture that needs more unpinned pages at once than there is room for, after its first pass. `Failed` comes only where the
-/// count of faults of the folder, taken at the beginning with that of the store's file, or that of the output rose; in a live
-/// walk the folder's rose by more than the tiles that were lost. It may wait.
-pub fn walk_with<
+/// Walks over all pictures of a path by a machine, as `walk_with` does, and answers how many passes it had and how many tiles it
+/// asked for: those of a whole run. Conditions, refusals and causes are those of `walk_with`.
+pub fn walk_counted<
     Rt: Threads + Wait + Sync,
     M: PassMachine<File = D::File>,
     D: Folder,
@@ -62,7 +53,7 @@ pub fn walk_with<
     settled: bool,
     out: &mut O,
     gate: &G,
-) -> Result<(), WalkError>
+) -> Result<Walked, WalkError>
     requires settings { AreSettings store.shape settings.now }
     requires bytes { D.File.bytes store.file ≡ bytes_at (D.files folder.old) names.now.store.now }
     requires tells { is_some (D.File.bytes store.file) ≡ is_some (D.files folder.old) }
@@ -75,6 +66,8 @@ pub fn walk_with<
         (O.held out.old) (O.faults out.old) in
         let last = walk_state D.Folder names.now.store.now folder.new [] (O.held out.new) (O.faults out.new) in
         MatchResult result (λ _. Finished drawn given first last) (LeftBy drawn given first last) }
+    ensures counted { IfOk result (HasCounts (walk_setup M.DEALT M.needs (scene_of store.shape store.depth path.now) settings.now
+        (mode_of settled))) }
     ensures few { settings.now.frames < pinned_of store.shape settings.now.pinned
         → result ≡ Err (WalkError.TooFewFrames settings.now.frames (pinned_of store.shape settings.now.pinned)) }
     ensures others { AreOtherNamesAsBefore names.now.store.now (D.asked folder.old) (D.asked folder.new) }
@@ -122,7 +115,7 @@ fn walk_store<
     tour: &Tour<'_>,
     out: &mut O,
     gate: &G,
-) -> Result<(), WalkError>
+) -> Result<Walked, WalkError>
     requires tour { IsTour tour.now }
     requires shape { store.old.shape ≡ tour.now.geometry.now }
     requires depth { store.old.depth ≡ tour.now.depth }
@@ -138,6 +131,7 @@ fn walk_store<
         let last = walk_state D.Folder name folder.new (file_state D.File.File store.new.file ∷ []) (O.held out.new)
         (O.faults out.new) in
         MatchResult result (λ _. Finished drawn given first last) (LeftBy drawn given first last) }
+    ensures counted { IfOk result (HasCounts (setup_of_tour M.DEALT M.needs tour.now)) }
     ensures few { tour.now.settings.frames < tour.now.pinned
         → result ≡ Err (WalkError.TooFewFrames tour.now.settings.frames tour.now.pinned) }
     ensures opened { AreOpen 1 tour.now.names.store.now (D.asked folder.new) (file_state D.File.File store.new.file ∷ []) }
@@ -183,7 +177,7 @@ fn walk_stores<
     tour: &Tour<'_>,
     out: &mut O,
     gate: &G,
-) -> Result<(), WalkError>
+) -> Result<Walked, WalkError>
     requires tour { IsTour tour.now }
     requires enough_frames { tour.now.pinned ≤ tour.now.settings.frames }
     requires shape { store.old.shape ≡ tour.now.geometry.now }
@@ -201,6 +195,7 @@ fn walk_stores<
         let last = walk_state D.Folder name folder.new (file_state D.File.File store.new.file ∷ []) (O.held out.new)
         (O.faults out.new) in
         MatchResult result (λ _. Finished drawn given first last) (LeftBy drawn given first last) }
+    ensures counted { IfOk result (HasCounts (setup_of_tour M.DEALT M.needs tour.now)) }
     ensures opened { AreOpen 1 tour.now.names.store.now (D.asked folder.new) (file_state D.File.File store.new.file ∷ []) }
     ensures others { AreOtherNamesAsBefore tour.now.names.store.now (D.asked folder.old) (D.asked folder.new) }
     ensures faults { D.faults folder.old ≤ D.faults folder.new }
@@ -242,7 +237,7 @@ fn walk_machine<
     tour: &Tour<'_>,
     out: &mut O,
     gate: &G,
-) -> Result<(), WalkError>
+) -> Result<Walked, WalkError>
     requires tour { IsTour tour.now }
     requires enough_frames { tour.now.pinned ≤ tour.now.settings.frames }
     requires shape { store.old.shape ≡ tour.now.geometry.now }
@@ -264,6 +259,7 @@ fn walk_machine<
         let last = walk_state D.Folder name folder.new (file_state D.File.File store.new.file ∷ []) (O.held out.new)
         (O.faults out.new) in
         MatchResult result (λ _. Finished drawn given first last) (LeftBy drawn given first last) }
+    ensures counted { IfOk result (HasCounts (setup_of_tour M.DEALT M.needs tour.now)) }
     ensures opened { AreOpen 1 tour.now.names.store.now (D.asked folder.new) (file_state D.File.File store.new.file ∷ []) }
     ensures others { AreOtherNamesAsBefore tour.now.names.store.now (D.asked folder.old) (D.asked folder.new) }
     ensures faults { D.faults folder.old ≤ D.faults folder.new }
@@ -290,7 +286,7 @@ fn walk_all<
     tour: &Tour<'_>,
     out: &mut O,
     gate: &G,
-) -> Result<(), WalkError>
+) -> Result<Walked, WalkError>
     requires tour { IsTour tour.now }
     requires enough_frames { tour.now.pinned ≤ tour.now.settings.frames }
     requires shape { store.old.shape ≡ tour.now.geometry.now }
@@ -308,6 +304,7 @@ fn walk_all<
         let last = walk_state D.Folder name folder.new (file_state D.File.File store.new.file ∷ (M.state machine.new).files)
         (O.held out.new) (O.faults out.new) in
         MatchResult result (λ _. Finished drawn given first last) (LeftBy drawn given first last) }
+    ensures counted { IfOk result (HasCounts (setup_of_tour M.DEALT M.needs tour.now)) }
     ensures same { AreSameFiles (M.state machine.old).files (M.state machine.new).files }
     ensures store { IsSameFile (file_state D.File.File store.old.file) (file_state D.File.File store.new.file) }
     ensures asked { D.asked folder.new ≡ D.asked folder.old }

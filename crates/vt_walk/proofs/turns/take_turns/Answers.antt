@@ -1,10 +1,10 @@
-use Rattle.std.proofs.Common.{◌∷◌, refl, sym, subst, arith, ◌∙◌}
+use Rattle.std.proofs.Common.{◌-◌, ◌∷◌, refl, sym, subst, arith, ◌∙◌}
 use Rattle.std.proofs.lemmas.Result.{err_from_is_err_and}
 use Rattle.vt_walk.specs.States.{walk_state}
 use Rattle.vt_walk.specs.Tours.{given_of}
 use Rattle.vt_walk.specs.Turns.{LeftBy}
 use Rattle.vt_walk.specs.Written.{IsDrawnBySome}
-use Rattle.vt_walk.proofs.Rounds.{first_at, at_left}
+use Rattle.vt_walk.proofs.Rounds.{first_at, at_left, counts_at}
 use Rattle.vt_walk.proofs.turns.take_turns.Goals as goal
 
 pub loop-number-init : goal.loop-number-init
@@ -47,3 +47,12 @@ pub returns-in_err-turn-clause-walked : goal.returns-in_err-turn-clause-walked
 returns-in_err-turn-clause-walked g c =
     let p = err_from_is_err_and c.from_residual.result c.from_residual.ensures.1 in
     λ b at. rw p.1 (subst (LeftBy (IsDrawnBySome g.M.PassMachine.drawn) (given_of g.M.PassMachine.DEALT g.M.PassMachine.needs g.M.PassMachine.shows g.M.PassMachine.whole c.args.tour.now b.told) b.first (walk_state g.D.Folder c.args.tour.now.names.store.now c.take_turn.new.folder (b.kept ∷ (g.M.PassMachine.state c.take_turn.new.machine).files) (g.O.Sink.held c.take_turn.new.out) (g.O.Sink.faults c.take_turn.new.out))) (sym p.2) (c.in_err-turn.ensures.taken b (c.loop-number.invariant.each b at)))
+
+pub returns-then-turn-pictures-clause-counted : goal.returns-then-turn-pictures-clause-counted
+returns-then-turn-pictures-clause-counted g c =
+    let s = c.loop-number.invariant.some in
+    let all = c.if-turn-pictures.true in
+    let pictures = c.pictures-pictures.ensures.value in
+    counts_at (IsDrawnBySome g.M.PassMachine.drawn) (given_of g.M.PassMachine.DEALT g.M.PassMachine.needs g.M.PassMachine.shows g.M.PassMachine.whole c.args.tour.now s.0.told) s.0.first (walk_state g.D.Folder c.args.tour.now.names.store.now c.loop-number.folder (s.0.kept ∷ (g.M.PassMachine.state c.loop-number.machine).files) (g.O.Sink.held c.loop-number.out) (g.O.Sink.faults c.loop-number.out))
+    c.loop-number.number (g.M.PassMachine.state c.loop-number.machine) c.loop-number.recency c.loop-number.turn
+    (record { passes = c.loop-number.number - 1; reads = c.loop-number.turn.reads }) s.1 (omega (arith, all, pictures)) refl refl

@@ -18,7 +18,7 @@ use Rattle.vt_walk.specs.Written.{IsDrawnBySome}
 use Rattle.vt_walk.proofs.Closings.{others_closed}
 use Rattle.vt_walk.proofs.Concluding.{others_chain, store_closed}
 use Rattle.vt_walk.proofs.Touring.{some_pinned}
-use Rattle.vt_walk.proofs.walk.walk_with.Goals as goal
+use Rattle.vt_walk.proofs.walk.walk_counted.Goals as goal
 
 pub walk_store-walked-requires-clause-tour : goal.walk_store-walked-requires-clause-tour
 walk_store-walked-requires-clause-tour g c κs within =

@@ -1,0 +1,81 @@
+//! Walks that answer nothing but that they are done.
+
+ghost use Rattle.std.specs.Prelude.{◌≡◌, ◌<◌, ◌≤◌, [], ◌∷◌, is_some, MatchResult};
+ghost use Rattle.vt_outside.specs.Files.{bytes_at};
+ghost use Rattle.vt_pages.specs.Pages.{pinned_of};
+ghost use Rattle.vt_shown.specs.Scenes.{scene_of};
+ghost use Rattle.vt_pass.specs.Machines.{file_state};
+ghost use Rattle.vt_walk.specs.Walks.{given_by, mode_of, names_of, AreSettings};
+ghost use Rattle.vt_walk.specs.States.{walk_state, AreOpen};
+ghost use Rattle.vt_walk.specs.Standing.{Finished};
+ghost use Rattle.vt_walk.specs.Written.{IsDrawnBySome};
+ghost use Rattle.vt_walk.specs.Turns.{LeftBy};
+ghost use Rattle.vt_walk.specs.Closing.{AreOtherNamesAsBefore};
+
+use crate::error::WalkError;
+use crate::settings::{Names, Settings};
+use crate::walk::walk_counted;
+use std::alloc::Global;
+use std::sync::Wait;
+use std::thread::Threads;
+use vt_camera::Path;
+use vt_outside::{Folder, Gate, Sink};
+use vt_pass::PassMachine;
+use vt_store::Store;
+
+/// Walks over all pictures of a path by a machine, live or settled.
+///
+/// The store was opened from `names.store`, which still holds its bytes where the folder tells them. First the store is
+/// opened once more for each loader, and the tiles of the pinned pages are read from the given one in the order of their
+/// indexes. Then the journal is created with its head. Each pass is run, and its text is added to the journal in one call.
+/// After a picture's last pass the picture is created and written in one call, and its line is put. The last line ends the
+/// walk, and all files are closed, also after a refusal.
+///
+/// `TooFewFrames` comes exactly where there are fewer frames than pinned pages, `DoesNotFit` in a settled walk at the first
+/// picture that needs more unpinned pages at once than there is room for, after its first pass. `Failed` comes only where the
+/// count of faults of the folder, taken at the beginning with that of the store's file, or that of the output rose; in a live
+/// walk the folder's rose by more than the tiles that were lost. It may wait.
+pub fn walk_with<
+    Rt: Threads + Wait + Sync,
+    M: PassMachine<File = D::File>,
+    D: Folder,
+    O: Sink,
+    G: Gate + Sync,
+>(
+    rt: &Rt,
+    alloc: Global,
+    folder: &mut D,
+    store: Store<D::File>,
+    path: &Path,
+    names: &Names<'_>,
+    settings: &Settings,
+    settled: bool,
+    out: &mut O,
+    gate: &G,
+) -> Result<(), WalkError>
+    requires settings { AreSettings store.shape settings.now }
+    requires bytes { D.File.bytes store.file ≡ bytes_at (D.files folder.old) names.now.store.now }
+    requires tells { is_some (D.File.bytes store.file) ≡ is_some (D.files folder.old) }
+    requires opened { AreOpen 1 names.now.store.now (D.asked folder.old) (file_state D.File.File store.file ∷ []) }
+    ensures walked { let drawn = IsDrawnBySome M.drawn in
+        let given = given_by M.DEALT M.needs M.shows M.whole (scene_of store.shape store.depth path.now) settings.now
+        (mode_of settled)
+        (D.File.bytes store.file) (names_of names.now) in
+        let first = walk_state D.Folder names.now.store.now folder.old (file_state D.File.File store.file ∷ [])
+        (O.held out.old) (O.faults out.old) in
+        let last = walk_state D.Folder names.now.store.now folder.new [] (O.held out.new) (O.faults out.new) in
+        MatchResult result (λ _. Finished drawn given first last) (LeftBy drawn given first last) }
+    ensures few { settings.now.frames < pinned_of store.shape settings.now.pinned
+        → result ≡ Err (WalkError.TooFewFrames settings.now.frames (pinned_of store.shape settings.now.pinned)) }
+    ensures others { AreOtherNamesAsBefore names.now.store.now (D.asked folder.old) (D.asked folder.new) }
+    ensures faults { D.faults folder.old ≤ D.faults folder.new }
+    ensures out_faults { O.faults out.old ≤ O.faults out.new }
+{
+    let walked = walk_counted::<Rt, M, D, O, G>(
+        rt, alloc, folder, store, path, names, settings, settled, out, gate,
+    );
+    match walked {
+        Ok(_) => Ok(()),
+        Err(error) => Err(error),
+    }
+}
