@@ -1,4 +1,5 @@
 // Runs over a folder in memory: those of `plain`, and what all tests share.
+mod crews;
 mod generate;
 mod replays;
 mod stores;
