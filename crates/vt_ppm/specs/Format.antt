@@ -3,8 +3,8 @@ use Rattle.std.specs.Prelude.{◌≡◌, ◌⊎◌, ℕ, ◌+◌, ◌*◌, ◌/�
 use Rattle.std.specs.List.{list_all, flat_map}
 use Rattle.std.specs.Str.Parse.{digits_value, IsNumeral}
 use Rattle.vt_definitions.specs.Depths.{greatest_sample, texel_length, sample_at, AreBytes}
-use Rattle.vt_definitions.specs.Limits.{header_limit, line_feed, blank}
-use Rattle.vt_ppm.specs.Image.{ImageView, IsLawfulImage}
+use Rattle.vt_definitions.specs.Limits.{header_limit, most_read_side, most_tiled_side, line_feed, blank}
+use Rattle.vt_ppm.specs.Image.{ImageView, IsImageWithin}
 
 -- the tab, which is white space
 abbrev pub tab : ℕ
@@ -119,8 +119,9 @@ abbrev pub AreScaled : ℕ → ℕ → ℕ → List ℕ → List ℕ → Type 0
 AreScaled depth maximum count raster samples =
     (i : ℕ) → i < count → sample_at depth samples i ≡ scaled depth maximum (sample_at depth raster i)
 
--- the bytes spell an image: a header, its raster, row by row from the top, and any rest (the Netpbm manual's P6 page)
-pub record IsImage (b : List ℕ) (p : ImageView) : Type 0 where
+-- the bytes spell an image whose sides are at most a number: a header, its raster, row by row from the top, and any rest (the Netpbm
+-- manual's P6 page)
+pub record IsImageUpTo (most : ℕ) (b : List ℕ) (p : ImageView) : Type 0 where
   pub text : List ℕ
   pub raster : List ℕ
   pub rest : List ℕ
@@ -130,8 +131,16 @@ pub record IsImage (b : List ℕ) (p : ImageView) : Type 0 where
   pub early : length text ≤ header_limit
   pub lawful : IsMaximum maximum
   pub depth_is : p.depth ≡ depth_of maximum
-  pub image : IsLawfulImage p
+  pub image : IsImageWithin most p
   pub full : length raster ≡ texel_length p.depth * (p.width * p.height)
   pub few : AreUpTo p.depth maximum (3 * (p.width * p.height)) raster
   pub kept : AreScaled p.depth maximum (3 * (p.width * p.height)) raster p.samples
   pub bytes : AreBytes p.samples
+
+-- the bytes spell an image that may be read whole
+abbrev pub IsImage : List ℕ → ImageView → Type 0
+IsImage = IsImageUpTo most_read_side
+
+-- the bytes spell a texture: an image that may be cut into tiles
+abbrev pub IsTexture : List ℕ → ImageView → Type 0
+IsTexture = IsImageUpTo most_tiled_side

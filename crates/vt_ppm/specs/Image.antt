@@ -10,14 +10,18 @@ pub record ImageView : Type 0 where
   pub height : ℕ
   pub samples : List ℕ
 
--- an image that is read whole has some texels, no more than its limit allows, and the bytes of three samples for each
-pub record IsLawfulImage (p : ImageView) : Type 0 where
+-- an image has some texels, its sides are at most a number, and it has the bytes of three samples for each texel
+pub record IsImageWithin (most : ℕ) (p : ImageView) : Type 0 where
   pub depth : IsDepth p.depth
   pub some_columns : 1 ≤ p.width
-  pub few_columns : p.width ≤ most_read_side
+  pub few_columns : p.width ≤ most
   pub some_rows : 1 ≤ p.height
-  pub few_rows : p.height ≤ most_read_side
+  pub few_rows : p.height ≤ most
   pub full : length p.samples ≡ texel_length p.depth * (p.width * p.height)
+
+-- an image that is read whole is within its limit
+abbrev pub IsLawfulImage : ImageView → Type 0
+IsLawfulImage = IsImageWithin most_read_side
 
 -- the word of the texel in a column and a row
 abbrev pub texel_of : ImageView → ℕ → ℕ → ℕ

@@ -6,3 +6,4 @@ pub mod Picture
 pub mod Reads
 pub mod Refusals
 pub mod Samples
+pub mod Strips

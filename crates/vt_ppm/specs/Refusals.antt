@@ -13,3 +13,14 @@ abbrev pub IsRasterRefusal : PpmError → Type 0
 IsRasterRefusal (Truncated want have) = Unit {0}
 IsRasterRefusal (SampleOver at) = Unit {0}
 IsRasterRefusal _ = ⊥
+
+-- a refusal that speaks of samples, and so none that an opening has, which reads the header alone
+abbrev pub IsSampleRefusal : PpmError → Type 0
+IsSampleRefusal (SampleOver at) = Unit {0}
+IsSampleRefusal _ = ⊥
+
+-- a refusal of looking a raster over: a sample above the maximum, or a fault
+abbrev pub IsCheckRefusal : PpmError → Type 0
+IsCheckRefusal (SampleOver at) = Unit {0}
+IsCheckRefusal Failed = Unit {0}
+IsCheckRefusal _ = ⊥

@@ -9,6 +9,7 @@ mod laws;
 mod picture;
 mod raster;
 mod read;
+mod strips;
 mod whole;
 
 pub use error::PpmError;
@@ -20,6 +21,7 @@ pub use laws::{
 };
 pub use picture::{encode, encode_wide};
 pub use read::{read_header, read_image};
+pub use strips::StripReader;
 pub use whole::image_flaw;
 
 #[cfg(test)]

@@ -1,0 +1,175 @@
+//! A texture that is read by strips of whole rows, so that it is never in memory as a whole.
+ghost use Rattle.std.specs.Prelude.{◌≡◌, ◌+◌, ◌*◌, ◌<◌, ◌≤◌, true, false, length, is_err, IsErr, IsErrOf, IfOk, IfErr, IfSome, OnOk, OnErr};
+ghost use Rattle.vt_definitions.specs.Depths.{IsDepth, AreBytes};
+ghost use Rattle.vt_outside.specs.Counts.{Rose};
+ghost use Rattle.vt_ppm.specs.Flaws.{IsHeaderFlaw};
+ghost use Rattle.vt_ppm.specs.Format.{depth_of};
+ghost use Rattle.vt_ppm.specs.Reads.{AsksHeader, AnswersOfHeader};
+ghost use Rattle.vt_ppm.specs.Refusals.{IsOutsideRefusal, IsSampleRefusal, IsCheckRefusal};
+ghost use Rattle.vt_ppm.specs.Strips.{HasRasterIfTold, IsTextureIfTold, IsTextureHeader, ChecksPieces, RowsAsked, row_length, rows_of, file_after, answer_in};
+
+use crate::{Header, PpmError};
+use std::alloc::Global;
+use std::marker::Model;
+use vt_outside::{Failed, File, NoMemory};
+
+// Has no value, until the bodies below are written.
+enum Never {}
+
+/// A file that holds a texture, of which rows are read. Contracts see the file, the header, and whether the samples were
+/// looked over.
+pub struct StripReader<F: File> {
+    file: F,
+    header: Header,
+    checked: bool,
+    never: Never,
+}
+
+impl<F: File> Model for StripReader<F> {
+    ghost use Rattle.vt_ppm.specs.Strips.{StripView, IsStripReader};
+
+    ghost Value = { StripView F };
+
+    ghost view = { λ s. record { file = s.file; header = s.header; checked = s.checked } };
+
+    ghost invariant = { λ s. IsStripReader (F.bytes s.file) s.header s.checked };
+}
+
+impl<F: File> StripReader<F> {
+    /// Opens the texture of a file, whose sides may be up to 16,384: asks its length, and reads the front of the file, as far
+    /// as a header may reach. A refusal hands the file back.
+    ///
+    /// Where the file tells its bytes, `BadMagic` to `Truncated` come exactly as the first flaw of those bytes, after that one
+    /// read. `Failed` comes only where the file's count of faults rose, and `NoMemory` where memory was refused. No other
+    /// refusal comes: samples are looked over by `check`.
+    pub fn open(alloc: Global, file: F) -> Result<StripReader<F>, (F, PpmError)>
+        ensures limits { IfOk result (λ s. IsTextureHeader s.header) }
+        ensures raster { IfOk result (λ s. HasRasterIfTold (F.bytes file) s.header) }
+        ensures unchecked { IfOk result (λ s. s.checked ≡ false) }
+        ensures flaw { IfErr result (λ e. (IsOutsideRefusal e.1 → ⊥) → IfSome (F.bytes file) (λ b. IsHeaderFlaw b e.1)) }
+        ensures no_sample { IfErr result (λ e. IsSampleRefusal e.1 → ⊥) }
+        ensures failed { IfErr result (λ e. e.1 ≡ PpmError.Failed → Rose (F.faults file) (F.faults e.0)) }
+        ensures asked { AsksHeader (F.bytes file) (F.asked file) (F.asked (file_after result)) }
+        ensures read { AnswersOfHeader (answer_in result) (F.bytes file) (F.asked file) (F.asked (file_after result)) }
+        ensures bytes { F.bytes (file_after result) ≡ F.bytes file }
+        ensures name { F.name (file_after result) ≡ F.name file }
+        ensures faults { F.faults file ≤ F.faults (file_after result) }
+    {
+        Err((file, PpmError::NoMemory))
+    }
+
+    /// The header of the texture.
+    pub fn header(&self) -> &Header
+        ensures value { result.now ≡ self.now.header }
+        ensures limits { IsTextureHeader self.now.header }
+        ensures raster { HasRasterIfTold (F.bytes self.now.file) self.now.header }
+        ensures texture { self.now.checked ≡ true → IsTextureIfTold (F.bytes self.now.file) self.now.header }
+    {
+        match self.never {}
+    }
+
+    /// How many bytes a sample has: 1 or 2.
+    pub fn depth(&self) -> u32
+        ensures value { result ≡ depth_of self.now.header.maximum }
+        ensures depth { IsDepth result }
+    {
+        match self.never {}
+    }
+
+    /// How many bytes a row has: three samples a texel.
+    pub fn row_length(&self) -> usize
+        ensures value { result ≡ row_length self.now.header }
+        ensures some { 1 ≤ result }
+        ensures few { result ≤ 98304 }
+    {
+        match self.never {}
+    }
+
+    /// Makes room to note so many more reads. After a refusal nothing changed.
+    pub fn reserve(&mut self, reads: u64) -> Result<(), NoMemory>
+        ensures room { OnOk result (reads ≤ F.spare self.new.file) }
+        ensures refused { OnErr result (F.spare self.new.file ≡ F.spare self.old.file) }
+        ensures bytes { F.bytes self.new.file ≡ F.bytes self.old.file }
+        ensures asked { F.asked self.new.file ≡ F.asked self.old.file }
+        ensures name { F.name self.new.file ≡ F.name self.old.file }
+        ensures faults { F.faults self.new.file ≡ F.faults self.old.file }
+        ensures header { self.new.header ≡ self.old.header }
+        ensures checked { self.new.checked ≡ self.old.checked }
+    {
+        match self.never {}
+    }
+
+    /// Looks all samples over, so that rows may be read. It reads the raster in pieces of whole rows, about a mebibyte each, in
+    /// order, and makes no read where no sample can be above the maximum. It takes no memory.
+    ///
+    /// Where the file tells its bytes, `SampleOver` comes exactly at the first sample above the maximum, once the piece that
+    /// holds it was read. `Failed` comes only where the file's count of faults rose. No other refusal comes. After a refusal no
+    /// row is read: `into_file` hands the file back.
+    pub fn check(&mut self) -> Result<(), PpmError>
+        requires spare { self.old.header.height ≤ F.spare self.old.file }
+        ensures texture { OnOk result (IsTextureIfTold (F.bytes self.old.file) self.old.header) }
+        ensures checked { OnOk result (self.new.checked ≡ true) }
+        ensures refused { OnErr result (self.new.checked ≡ false) }
+        ensures flaw { IfErr result (λ e. IsSampleRefusal e → IfSome (F.bytes self.old.file) (λ b. IsHeaderFlaw b e)) }
+        ensures refusals { IfErr result IsCheckRefusal }
+        ensures failed { IsErrOf result PpmError.Failed → Rose (F.faults self.old.file) (F.faults self.new.file) }
+        ensures asked { ChecksPieces self.old.header result (F.asked self.old.file) (F.asked self.new.file) }
+        ensures spare { F.spare self.old.file ≤ F.spare self.new.file + self.old.header.height }
+        ensures bytes { F.bytes self.new.file ≡ F.bytes self.old.file }
+        ensures name { F.name self.new.file ≡ F.name self.old.file }
+        ensures faults { F.faults self.old.file ≤ F.faults self.new.file }
+        ensures header { self.new.header ≡ self.old.header }
+    {
+        match self.never {}
+    }
+
+    /// Fills the buffer, which has the length of so many rows, with those from row `y` on, each sample scaled so that the greatest
+    /// is 255, or 65,535 where the maximum is above 255. It makes one read, whose place is noted whatever the answer, and takes
+    /// no memory. `Failed` comes only where the file's count of faults rose.
+    pub fn rows(&mut self, y: u32, count: u32, out: &mut [u8]) -> Result<(), Failed>
+        requires checked { self.old.checked ≡ true }
+        requires spare { 1 ≤ F.spare self.old.file }
+        requires inside { y + count ≤ self.old.header.height }
+        requires size { length out.old ≡ count * row_length self.old.header }
+        ensures rows { OnOk result (IfSome (F.bytes self.old.file) (λ b. out.new ≡ rows_of self.old.header b y count)) }
+        ensures values { OnOk result (AreBytes out.new) }
+        ensures failed { IsErr result → Rose (F.faults self.old.file) (F.faults self.new.file) }
+        ensures asked { RowsAsked self.old.header y count (is_err result) (F.asked self.old.file) (F.asked self.new.file) }
+        ensures spare { F.spare self.old.file ≤ F.spare self.new.file + 1 }
+        ensures bytes { F.bytes self.new.file ≡ F.bytes self.old.file }
+        ensures name { F.name self.new.file ≡ F.name self.old.file }
+        ensures faults { F.faults self.old.file ≤ F.faults self.new.file }
+        ensures header { self.new.header ≡ self.old.header }
+        ensures kept { self.new.checked ≡ true }
+    {
+        match self.never {}
+    }
+
+    /// Fills the buffer, which has the length of a row, with row `y`, each sample scaled as in `rows`. It makes one read, whose
+    /// place is noted whatever the answer, and takes no memory. `Failed` comes only where the file's count of faults rose.
+    pub fn row(&mut self, y: u32, out: &mut [u8]) -> Result<(), Failed>
+        requires checked { self.old.checked ≡ true }
+        requires spare { 1 ≤ F.spare self.old.file }
+        requires inside { y < self.old.header.height }
+        requires size { length out.old ≡ row_length self.old.header }
+        ensures row { OnOk result (IfSome (F.bytes self.old.file) (λ b. out.new ≡ rows_of self.old.header b y 1)) }
+        ensures values { OnOk result (AreBytes out.new) }
+        ensures failed { IsErr result → Rose (F.faults self.old.file) (F.faults self.new.file) }
+        ensures asked { RowsAsked self.old.header y 1 (is_err result) (F.asked self.old.file) (F.asked self.new.file) }
+        ensures spare { F.spare self.old.file ≤ F.spare self.new.file + 1 }
+        ensures bytes { F.bytes self.new.file ≡ F.bytes self.old.file }
+        ensures name { F.name self.new.file ≡ F.name self.old.file }
+        ensures faults { F.faults self.old.file ≤ F.faults self.new.file }
+        ensures header { self.new.header ≡ self.old.header }
+        ensures kept { self.new.checked ≡ true }
+    {
+        self.rows(y, 1, out)
+    }
+
+    /// The file, in place of the reader.
+    pub fn into_file(self) -> F
+        ensures { result ≡ self.file }
+    {
+        match self.never {}
+    }
+}
