@@ -3,7 +3,7 @@ use Rattle.std.specs.Prelude.{ℕ}
 
 -- the largest side of a texture that is cut into tiles
 abbrev pub most_tiled_side : ℕ
-most_tiled_side = 8192
+most_tiled_side = 16384
 
 -- the largest side of a texture that is read whole
 abbrev pub most_read_side : ℕ

@@ -36,8 +36,8 @@ name_is_short s page limits inside =
     let tile : 1 ≤ s.tile = omega (arith, limits.least_tile) in
     record {
       level = omega (arith, is.level_inside, limits.most_levels);
-      col = omega (arith, is.col_inside, columns_most s (name_at s page).level 8192 tile (omega arith) limits.most_width);
-      row = omega (arith, is.row_inside, rows_most s (name_at s page).level 8192 tile (omega arith) limits.most_height);
+      col = omega (arith, is.col_inside, columns_most s (name_at s page).level 16384 tile (omega arith) limits.most_width);
+      row = omega (arith, is.row_inside, rows_most s (name_at s page).level 16384 tile (omega arith) limits.most_height);
     }
 
 -- a page that stands in a line has the name that was read

@@ -19,7 +19,7 @@ mod tables;
 use tables::{Tables, last_level, make_tables, tile_shift};
 
 /// The largest side of a texture, in texels.
-pub const MOST_SIDE: u32 = 8_192;
+pub const MOST_SIDE: u32 = 16_384;
 
 /// The largest number of pages of a chain.
 pub const MOST_PAGES: u32 = 262_144;

@@ -14,14 +14,17 @@ fn the_first_limit_that_a_shape_breaks_is_named(rt: HostRuntime) {
         (2076, 378, 2, too_many(262145)),
         (8192, 8192, 2, too_many(22369621)),
         (8192, 8192, 16, too_many(349525)),
+        (16384, 16384, 32, too_many(349525)),
+        (16384, 16384, 64, Ok((9, 87381))),
+        (16384, 2, 2, Ok((14, 16383))),
         (0, 4, 2, Err(PagesError::BadSide)),
         (4, 0, 2, Err(PagesError::BadSide)),
-        (8193, 4, 2, Err(PagesError::BadSide)),
-        (4, 8193, 128, Err(PagesError::BadSide)),
+        (16385, 4, 2, Err(PagesError::BadSide)),
+        (4, 16385, 128, Err(PagesError::BadSide)),
         (4, 4, 1, Err(PagesError::BadTile)),
         (4, 4, 3, Err(PagesError::BadTile)),
         (4, 4, 256, Err(PagesError::BadTile)),
-        (0, 8193, 0, Err(PagesError::BadTile)),
+        (0, 16385, 0, Err(PagesError::BadTile)),
     ];
     for (width, height, tile, want) in rows {
         let found = Geometry::new(width, height, tile).map(|g| (g.levels(), g.page_count()));

@@ -17,7 +17,7 @@ pub const HEADER_LIMIT: u64 = 65536;
 pub const MOST_READ_SIDE: u32 = 8192;
 
 /// The largest side of an image of which the header is read.
-pub const MOST_TILED_SIDE: u32 = 8192;
+pub const MOST_TILED_SIDE: u32 = 16384;
 
 // The largest maximum of a raster.
 const MOST_MAXIMUM: u64 = 65535;
@@ -28,9 +28,9 @@ const MOST_BYTE: u32 = 255;
 /// A header's numbers, and the place of the first raster byte.
 #[derive(Clone, Copy, Debug, PartialEq, Eq)]
 pub struct Header {
-    /// The number of columns, from 1 to 8,192.
+    /// The number of columns, from 1 to 16,384.
     pub width: u32,
-    /// The number of rows, from 1 to 8,192.
+    /// The number of rows, from 1 to 16,384.
     pub height: u32,
     /// The greatest sample, from 1 to 65,535. Where it is above 255, a sample has two bytes.
     pub maximum: u32,
@@ -125,7 +125,7 @@ pub fn depth_of(maximum: u32) -> u32
 pub fn sample_count(header: &Header) -> usize
     requires { AreImageSides most_tiled_side header.now.width header.now.height }
     ensures value { result ≡ 3 * (header.now.width * header.now.height) }
-    ensures few { result ≤ 201326592 }
+    ensures few { result ≤ 805306368 }
 {
     3 * (header.width as usize * header.height as usize)
 }

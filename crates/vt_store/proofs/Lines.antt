@@ -151,11 +151,11 @@ pub has_room : (z x n : ℕ) → 1 ≤ z → z * x + z ≤ n → x < n / z
 has_room z x n some room = omega (arith, le-div (x + 1) n z some (omega arith))
 
 -- the place of a line of a tile, in texels, and the line's end
-pub line_small : (t column count side line : ℕ) → t < count → (column + count) * side ≤ 16384 → side ≤ 128 → line < side
-    → t * (side * side) + line * side + side ≤ 2113536
+pub line_small : (t column count side line : ℕ) → t < count → (column + count) * side ≤ 32768 → side ≤ 128 → line < side
+    → t * (side * side) + line * side + side ≤ 4210688
 line_small t column count side line p few small q =
-    let along : t * side ≤ 16384 = omega (arith, mul-le t side (column + count) side (omega arith) (omega arith)) in
-    let down : t * side * side ≤ 16384 * 128 = mul-le (t * side) side 16384 128 along small in
+    let along : t * side ≤ 32768 = omega (arith, mul-le t side (column + count) side (omega arith) (omega arith)) in
+    let down : t * side * side ≤ 32768 * 128 = mul-le (t * side) side 32768 128 along small in
     let line : (line + 1) * side ≤ 128 * 128 = mul-le (line + 1) side 128 128 (omega arith) small in
     omega arith
 
@@ -173,8 +173,8 @@ line_inside t count side line size n p q full =
     omega arith
 
 -- the columns of tiles, in texels
-pub columns_few : (t column count side : ℕ) → t < count → (column + count) * side ≤ 16384 → 1 ≤ side
-    → (column + t ≤ 16384) × ((column + t) * side ≤ 16384)
+pub columns_few : (t column count side : ℕ) → t < count → (column + count) * side ≤ 32768 → 1 ≤ side
+    → (column + t ≤ 32768) × ((column + t) * side ≤ 32768)
 columns_few t column count side p few some = (
   omega (arith, mul-le (column + t) 1 (column + count) side (omega arith) some),
   omega (arith, mul-le (column + t) side (column + count) side (omega arith) (omega arith)),

@@ -33,7 +33,7 @@ abbrev spelled : ℕ → ℕ
 spelled n = number_from (number_bytes 4 n) 0 4
 
 -- it is that number, where it is small
-number_back : (n : ℕ) → n ≤ 8192 → spelled n ≡ n
+number_back : (n : ℕ) → n ≤ 16384 → spelled n ≡ n
 number_back n small = omega arith
 
 store_width : (s : Shape) (d : ℕ) (src : Source) → IsDepth d → number_from (store_bytes s d src) 4 4 ≡ spelled s.width

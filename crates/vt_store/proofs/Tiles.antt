@@ -165,15 +165,15 @@ unfolding levels_of
 level_inside c s k is h = let P : Shape → Type 0 = λ z. k < levels_of z in subst P (sym is.same) h
 
 -- where a column of pages begins
-pub column_small : (s : Shape) (k c t : ℕ) → IsWithinLimits s → c < columns_at s k → t ≡ s.tile → c * t < 8192
+pub column_small : (s : Shape) (k c t : ℕ) → IsWithinLimits s → c < columns_at s k → t ≡ s.tile → c * t < 16384
 unfolding columns_at
 column_small s k c t limits h e =
     let here : c * s.tile < side s.width k = lt_up (side s.width k) s.tile c (omega (arith, limits.least_tile)) h in
-    let most : side s.width k ≤ 8192 = side_most s.width 8192 k (omega arith) limits.most_width in
+    let most : side s.width k ≤ 16384 = side_most s.width 16384 k (omega arith) limits.most_width in
     rw e (omega arith)
 
 -- and where so many end
-pub columns_small : (s : Shape) (k n t : ℕ) → IsWithinLimits s → n ≤ columns_at s k → t ≡ s.tile → n * t ≤ 16384
+pub columns_small : (s : Shape) (k n t : ℕ) → IsWithinLimits s → n ≤ columns_at s k → t ≡ s.tile → n * t ≤ 32768
 columns_small s k zero t limits h e = omega arith
 columns_small s k (suc n) t limits h e = omega (arith, column_small s k n t limits h e, limits.most_tile)
 
@@ -186,9 +186,9 @@ column_begins s k c t n w z limits h e wide full =
     rw (e, full, wide) (piece_end z (c * s.tile) (side s.width k) here)
 
 -- and a row of pages
-pub row_small : (s : Shape) (k r t : ℕ) → IsWithinLimits s → r < rows_at s k → t ≡ s.tile → r * t < 8192
+pub row_small : (s : Shape) (k r t : ℕ) → IsWithinLimits s → r < rows_at s k → t ≡ s.tile → r * t < 16384
 unfolding rows_at
 row_small s k r t limits h e =
     let here : r * s.tile < side s.height k = lt_up (side s.height k) s.tile r (omega (arith, limits.least_tile)) h in
-    let most : side s.height k ≤ 8192 = side_most s.height 8192 k (omega arith) limits.most_height in
+    let most : side s.height k ≤ 16384 = side_most s.height 16384 k (omega arith) limits.most_height in
     rw e (omega arith)

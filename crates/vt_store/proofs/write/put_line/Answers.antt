@@ -14,7 +14,7 @@ overflow_mul-at-in-loop-tile-3 c =
     let small = line_small c.loop-tile.tile c.args.column c.args.count c.args.side c.args.line c.loop-tile-test.true
     c.requires.few c.requires.side c.requires.line in
     let place : ℕ = c.loop-tile.tile * (c.args.side * c.args.side) + c.args.line * c.args.side in
-    let few : c.args.size * place ≤ 6 * 2113536 = bytes_small c.args.size place 2113536 c.requires.small (omega (arith, small)) in
+    let few : c.args.size * place ≤ 6 * 4210688 = bytes_small c.args.size place 4210688 c.requires.small (omega (arith, small)) in
     omega (arith, few)
 
 pub overflow_add-at-in-loop-tile : goal.overflow_add-at-in-loop-tile
@@ -22,7 +22,7 @@ overflow_add-at-in-loop-tile c =
     let small = line_small c.loop-tile.tile c.args.column c.args.count c.args.side c.args.line c.loop-tile-test.true
     c.requires.few c.requires.side c.requires.line in
     let end : ℕ = c.loop-tile.tile * (c.args.side * c.args.side) + c.args.line * c.args.side + c.args.side in
-    let few : c.args.size * end ≤ 6 * 2113536 = bytes_small c.args.size end 2113536 c.requires.small small in
+    let few : c.args.size * end ≤ 6 * 4210688 = bytes_small c.args.size end 4210688 c.requires.small small in
     omega (arith, few)
 
 pub slice_bounds-put_span-end : goal.slice_bounds-put_span-end
@@ -37,7 +37,7 @@ overflow_add-column c =
 pub overflow_mul-size-in-loop-tile : goal.overflow_mul-size-in-loop-tile
 overflow_mul-size-in-loop-tile c =
     let few = columns_few c.loop-tile.tile c.args.column c.args.count c.args.side c.loop-tile-test.true c.requires.few (omega arith) in
-    omega (arith, bytes_small c.args.size ((c.args.column + c.loop-tile.tile) * c.args.side) 16384 c.requires.small few.1)
+    omega (arith, bytes_small c.args.size ((c.args.column + c.loop-tile.tile) * c.args.side) 32768 c.requires.small few.1)
 
 pub put_span-requires-clause-inside : goal.put_span-requires-clause-inside
 put_span-requires-clause-inside c = line_begins c.loop-tile.tile c.args.column c.args.count c.args.side c.args.size (length c.args.row.now)
