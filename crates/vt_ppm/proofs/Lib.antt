@@ -11,3 +11,5 @@ pub mod ImageLaws
 pub mod FlawLaws
 pub mod WrittenPictures
 pub mod AskedPlaces
+pub mod StripLaws
+pub mod CheckedPieces

@@ -2,30 +2,30 @@
 use Rattle.std.proofs.Common.{◌≡◌, inl, inr, ℕ, ◌+◌, ◌*◌, ◌<◌, ◌≤◌, List, ◌++◌, length, take, drop, min, refl, sym, ap, ◌∙◌, subst, arith, length-drop, length-take}
 use Rattle.std.proofs.lemmas.List.{take-append-drop, take-take, take_min, take_at, length-take-le}
 use Rattle.vt_definitions.specs.Depths.{AreBytes, sample_at, texel_length}
-use Rattle.vt_definitions.specs.Limits.{most_read_side}
 use Rattle.vt_outside.specs.Files.{IsPiece}
 use Rattle.vt_ppm.specs.declared.error.PpmError.{PpmError}
 use Rattle.vt_ppm.specs.declared.error.PpmError.TheVariants.{BadMagic, BadHeader, BadSize, BadMaximum, Truncated, SampleOver, Failed, NoMemory}
-use Rattle.vt_ppm.specs.Format.{IsHeader, HasHeader, IsImage, AreUpTo, AreScaled, depth_of, scaled}
+use Rattle.vt_ppm.specs.Format.{IsHeader, HasHeader, IsImageUpTo, AreUpTo, AreScaled, depth_of, scaled}
 use Rattle.vt_ppm.specs.Flaws.{IsHeaderFront, IsBrokenAt, IsSized, IsLawfulHeader, IsTruncated, IsSampleOver, IsFlawUpTo}
 use Rattle.vt_ppm.specs.Refusals.{IsRasterRefusal}
 use Rattle.vt_ppm.specs.Image.{ImageView}
-use Rattle.vt_ppm.specs.Samples.{IsOverAt, IsRasterImage}
-use Rattle.vt_ppm.proofs.SampleValues.{depth_is, front_sample, sample_room, kept_few, samples_of_texels, made, made_length, made_bytes, made_sample}
+use Rattle.vt_ppm.specs.Strips.{sample_bytes}
+use Rattle.vt_ppm.specs.Samples.{IsOverAt, IsRasterImage, AreScaledUpTo}
+use Rattle.vt_ppm.proofs.SampleValues.{depth_is, front_sample, sample_room, kept_few, samples_of_texels, samples_length, samples_bytes, samples_sample}
 
 abbrev view : ℕ → ℕ → ℕ → List ℕ → ImageView
 view d w h xs = record { depth = d; width = w; height = h; samples = xs }
 
 -- an image of a buffer that was scaled to its end
 pub raster_image : (w h m : ℕ) (items all new : List ℕ) (len count d : ℕ) (p : ImageView) → all ≡ items → length all ≡ len → length new ≡ length all
-    → count ≡ 3 * (w * h) → d ≡ depth_of m → AreScaled (depth_of m) m count all new → AreBytes new
+    → count ≡ 3 * (w * h) → d ≡ depth_of m → AreUpTo (depth_of m) m (3 * (w * h)) items → AreScaledUpTo (depth_of m) m count all new → AreBytes new
     → p ≡ record { depth = d; width = w; height = h; samples = take len (new ++ drop (length new) items) } → IsRasterImage w h m items p
-raster_image w h m items all new len count d p same size kept_size counted depth each bytes shape = record {
+raster_image w h m items all new len count d p same size kept_size counted depth few each bytes shape = record {
   samples = new;
   shape = shape ∙ ap (λ k. view k w h (take len (new ++ drop (length new) items))) depth
       ∙ ap (view (depth_of m) w h) (take_at new (drop (length new) items) len (kept_size ∙ size));
   full = kept_size ∙ ap length same;
-  kept = λ i inside. each i (omega (arith, inside, counted)) ∙ ap (λ xs. scaled (depth_of m) m (sample_at (depth_of m) xs i)) same;
+  kept = λ i inside. each i (omega (arith, inside, counted)) (subst (λ xs. sample_at (depth_of m) xs i ≤ m) (sym same) (few i inside)) ∙ ap (λ xs. scaled (depth_of m) m (sample_at (depth_of m) xs i)) same;
   bytes = bytes;
 }
 
@@ -104,13 +104,13 @@ head_is b head n told e =
     e ∙ ap (λ k. take k b) swap ∙ take_min 65536 b
 
 -- a header and the raster behind it
-module _ (b raster : List ℕ) (r w h m : ℕ) (header : IsLawfulHeader most_read_side b r w h m) (piece : IsPiece b r raster)
+module _ (most : ℕ) (b raster : List ℕ) (r w h m : ℕ) (header : IsLawfulHeader most b r w h m) (piece : IsPiece b r raster)
     (full : length raster ≡ texel_length (depth_of m) * (w * h)) where
   parts : raster ++ drop (length raster) (drop r b) ≡ drop r b
   parts = ap (λ xs. xs ++ drop (length raster) (drop r b)) piece.same ∙ take-append-drop (length raster) (drop r b)
 
-  image_made : (samples : List ℕ) → AreUpTo (depth_of m) m (3 * (w * h)) raster → AreScaled (depth_of m) m (3 * (w * h)) raster samples
-      → length samples ≡ length raster → AreBytes samples → IsImage b (record { depth = depth_of m; width = w; height = h; samples = samples })
+  pub image_made : (samples : List ℕ) → AreUpTo (depth_of m) m (3 * (w * h)) raster → AreScaled (depth_of m) m (3 * (w * h)) raster samples
+      → length samples ≡ length raster → AreBytes samples → IsImageUpTo most b (record { depth = depth_of m; width = w; height = h; samples = samples })
   image_made samples few kept len bytes = record {
     text = take r b;
     raster = raster;
@@ -135,21 +135,21 @@ module _ (b raster : List ℕ) (r w h m : ℕ) (header : IsLawfulHeader most_rea
     bytes = bytes;
   }
 
-  pub image_is : (p : ImageView) → AreUpTo (depth_of m) m (3 * (w * h)) raster → IsRasterImage w h m raster p → IsImage b p
-  image_is p few i = subst (IsImage b) (sym i.shape) (image_made i.samples few i.kept i.full i.bytes)
+  pub image_is : (p : ImageView) → AreUpTo (depth_of m) m (3 * (w * h)) raster → IsRasterImage w h m raster p → IsImageUpTo most b p
+  image_is p few i = subst (IsImageUpTo most b) (sym i.shape) (image_made i.samples few i.kept i.full i.bytes)
 
   -- the samples of the raster up to the maximum make an image
-  pub image_there : AreUpTo (depth_of m) m (3 * (w * h)) raster → (p : ImageView) × IsImage b p
+  pub image_there : AreUpTo (depth_of m) m (3 * (w * h)) raster → (p : ImageView) × IsImageUpTo most b p
   image_there few =
       let d : ℕ = depth_of m in
       let kept : ℕ → ℕ = λ i. scaled d m (sample_at d raster i) in
-      let len : length (made d kept (3 * (w * h))) ≡ length raster =
-      made_length d kept (3 * (w * h)) (depth_is m) ∙ sym (samples_of_texels d (w * h)) ∙ sym full in (
-        record { depth = d; width = w; height = h; samples = made d kept (3 * (w * h)) },
-        image_made (made d kept (3 * (w * h))) few
-            (λ i inside. made_sample d kept (3 * (w * h)) i (depth_is m)
+      let len : length (sample_bytes d kept (3 * (w * h))) ≡ length raster =
+      samples_length d kept (3 * (w * h)) (depth_is m) ∙ sym (samples_of_texels d (w * h)) ∙ sym full in (
+        record { depth = d; width = w; height = h; samples = sample_bytes d kept (3 * (w * h)) },
+        image_made (sample_bytes d kept (3 * (w * h))) few
+            (λ i inside. samples_sample d kept (3 * (w * h)) i (depth_is m)
             (λ k within. kept_few d m (sample_at d raster k) (depth_is m) header.lawful.some (few k within)) inside)
-            len (made_bytes d kept (3 * (w * h)) (depth_is m)),
+            len (samples_bytes d kept (3 * (w * h)) (depth_is m)),
       )
 
   -- a sample of the raster is one behind the header
@@ -158,7 +158,7 @@ module _ (b raster : List ℕ) (r w h m : ℕ) (header : IsLawfulHeader most_rea
       ∙ front_sample (depth_of m) raster (drop (length raster) (drop r b)) i (depth_is m)
       (omega (arith, full, sample_room (depth_of m) i (w * h) (depth_is m) inside))
 
-  pub sample_over : (at : ℕ) → IsOverAt r m (3 * (w * h)) raster at → IsSampleOver most_read_side b at
+  pub sample_over : (at : ℕ) → IsOverAt r m (3 * (w * h)) raster at → IsSampleOver most b at
   sample_over at place = let over = place.over in record {
     raster = r;
     width = w;
@@ -173,9 +173,9 @@ module _ (b raster : List ℕ) (r w h m : ℕ) (header : IsLawfulHeader most_rea
     at_is = place.at_is;
   }
 
-pub truncated : (b : List ℕ) (r w h m want have : ℕ) → IsLawfulHeader most_read_side b r w h m → want ≡ texel_length (depth_of m) * (w * h)
-    → r + have ≡ length b → have < want → IsTruncated most_read_side b want have
-truncated b r w h m want have header want_is have_is short = record {
+pub truncated : (most : ℕ) (b : List ℕ) (r w h m want have : ℕ) → IsLawfulHeader most b r w h m → want ≡ texel_length (depth_of m) * (w * h)
+    → r + have ≡ length b → have < want → IsTruncated most b want have
+truncated most b r w h m want have header want_is have_is short = record {
   raster = r;
   width = w;
   height = h;

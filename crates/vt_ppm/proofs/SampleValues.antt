@@ -10,6 +10,7 @@ use Rattle.vt_definitions.specs.Numbers.{number_bytes}
 use Rattle.vt_definitions.proofs.TexelWords.{sample_small}
 use Rattle.vt_definitions.proofs.Words.{byte_at}
 use Rattle.vt_ppm.specs.Format.{depth_of, scaled, IsMaximum}
+use Rattle.vt_ppm.specs.Strips.{sample_bytes}
 
 -- what is so at either depth
 pub by_depth : (P : ℕ → Type 0) → P 1 → P 2 → (d : ℕ) → IsDepth d → P d
@@ -116,22 +117,17 @@ same_bytes d n xs ys depth e f are be =
               | inr second ↦ ap (λ j. get_or xs j 0) second ∙ omega (arith, s, a, b, u, v) ∙ sym (ap (λ j. get_or ys j 0) second)
             ]
 
--- bytes of given samples
-pub made : ℕ → (ℕ → ℕ) → ℕ → List ℕ
-made d v zero = []
-made d v (suc n) = made d v n ++ number_bytes d (v n)
-
 number_length : (d v : ℕ) → IsDepth d → length (number_bytes d v) ≡ d
 number_length d v = by_depth (λ d. length (number_bytes d v) ≡ d) refl refl d
 
-pub made_length : (d : ℕ) (v : ℕ → ℕ) (n : ℕ) → IsDepth d → length (made d v n) ≡ d * n
-unfolding made
-made_length d v zero depth = by_depth (λ d. 0 ≡ d * 0) refl refl d depth
-made_length d v (suc n) depth =
-    by_depth (λ d. length (made d v n) ≡ d * n → length (number_bytes d (v n)) ≡ d
-    → length (made d v n ++ number_bytes d (v n)) ≡ d * suc n)
-    (λ e f. omega (arith, e, f, length-append (made 1 v n) (number_bytes 1 (v n))))
-    (λ e f. omega (arith, e, f, length-append (made 2 v n) (number_bytes 2 (v n)))) d depth (made_length d v n depth) (number_length d (v n) depth)
+pub samples_length : (d : ℕ) (v : ℕ → ℕ) (n : ℕ) → IsDepth d → length (sample_bytes d v n) ≡ d * n
+unfolding sample_bytes
+samples_length d v zero depth = by_depth (λ d. 0 ≡ d * 0) refl refl d depth
+samples_length d v (suc n) depth =
+    by_depth (λ d. length (sample_bytes d v n) ≡ d * n → length (number_bytes d (v n)) ≡ d
+    → length (sample_bytes d v n ++ number_bytes d (v n)) ≡ d * suc n)
+    (λ e f. omega (arith, e, f, length-append (sample_bytes 1 v n) (number_bytes 1 (v n))))
+    (λ e f. omega (arith, e, f, length-append (sample_bytes 2 v n) (number_bytes 2 (v n)))) d depth (samples_length d v n depth) (number_length d (v n) depth)
 
 number_is_bytes : (d v : ℕ) → IsDepth d → AreBytes (number_bytes d v)
 number_is_bytes d v = by_depth (λ d. AreBytes (number_bytes d v))
@@ -139,10 +135,10 @@ number_is_bytes d v = by_depth (λ d. AreBytes (number_bytes d v))
     (All-cons (λ s. s < 256) (v / 256 % 256) ((v / 1 % 256) ∷ []) (omega arith)
     (All-cons (λ s. s < 256) (v / 1 % 256) [] (omega arith) (All-nil (λ s. s < 256)))) d
 
-pub made_bytes : (d : ℕ) (v : ℕ → ℕ) (n : ℕ) → IsDepth d → AreBytes (made d v n)
-unfolding made
-made_bytes d v zero depth = All-nil (λ s. s < 256)
-made_bytes d v (suc n) depth = All-append (λ s. s < 256) (made d v n) (number_bytes d (v n)) (made_bytes d v n depth) (number_is_bytes d (v n) depth)
+pub samples_bytes : (d : ℕ) (v : ℕ → ℕ) (n : ℕ) → IsDepth d → AreBytes (sample_bytes d v n)
+unfolding sample_bytes
+samples_bytes d v zero depth = All-nil (λ s. s < 256)
+samples_bytes d v (suc n) depth = All-append (λ s. s < 256) (sample_bytes d v n) (number_bytes d (v n)) (samples_bytes d v n depth) (number_is_bytes d (v n) depth)
 
 -- a number behind so many samples is the next sample
 last_sample : (d : ℕ) (xs : List ℕ) (v n : ℕ) → IsDepth d → length xs ≡ d * n → v < sample_base d → sample_at d (xs ++ number_bytes d v) n ≡ v
@@ -166,16 +162,16 @@ last_sample d xs v n depth = by_depth
         get_or-append_right xs (number_bytes 2 v) (2 * n) (2 * n + 1) 0 len (omega arith) ∙ ap (λ k. get_or (number_bytes 2 v) k 0) f in
         omega (arith, a, b, few)
 
-pub made_sample : (d : ℕ) (v : ℕ → ℕ) (n i : ℕ) → IsDepth d → ((k : ℕ) → k < n → v k < sample_base d) → i < n → sample_at d (made d v n) i ≡ v i
-unfolding made
-made_sample d v zero i depth few inside = let no : ⊥ = omega (arith, inside) in absurd no
-made_sample d v (suc n) i depth few inside = elim (cases_lt i n) [
-  | inl before ↦ front_sample d (made d v n) (number_bytes d (v n)) i depth (room before) ∙ made_sample d v n i depth (λ k h. few k (omega (arith, h))) before
+pub samples_sample : (d : ℕ) (v : ℕ → ℕ) (n i : ℕ) → IsDepth d → ((k : ℕ) → k < n → v k < sample_base d) → i < n → sample_at d (sample_bytes d v n) i ≡ v i
+unfolding sample_bytes
+samples_sample d v zero i depth few inside = let no : ⊥ = omega (arith, inside) in absurd no
+samples_sample d v (suc n) i depth few inside = elim (cases_lt i n) [
+  | inl before ↦ front_sample d (sample_bytes d v n) (number_bytes d (v n)) i depth (room before) ∙ samples_sample d v n i depth (λ k h. few k (omega (arith, h))) before
   | inr last ↦ let e : i ≡ n = omega (arith, inside, last) in
-      ap (λ k. sample_at d (made d v n ++ number_bytes d (v n)) k) e
-      ∙ last_sample d (made d v n) (v n) n depth (made_length d v n depth) (few n (omega arith)) ∙ ap v (sym e)
+      ap (λ k. sample_at d (sample_bytes d v n ++ number_bytes d (v n)) k) e
+      ∙ last_sample d (sample_bytes d v n) (v n) n depth (samples_length d v n depth) (few n (omega arith)) ∙ ap v (sym e)
 ]
   where
-    room : i < n → d * i + d ≤ length (made d v n)
-    room less = by_depth (λ d. length (made d v n) ≡ d * n → d * i + d ≤ length (made d v n))
-        (λ e. omega (arith, e, less)) (λ e. omega (arith, e, less)) d depth (made_length d v n depth)
+    room : i < n → d * i + d ≤ length (sample_bytes d v n)
+    room less = by_depth (λ d. length (sample_bytes d v n) ≡ d * n → d * i + d ≤ length (sample_bytes d v n))
+        (λ e. omega (arith, e, less)) (λ e. omega (arith, e, less)) d depth (samples_length d v n depth)

@@ -1,14 +1,14 @@
 -- What is found in the bytes that a file gives is so of its bytes, where it tells them.
 use Rattle.std.proofs.Common.{◌≡◌, ℕ, ◌-◌, ◌*◌, ◌<◌, List, length, take, min, Option, Some, None, IfSome, Result, Ok, Err, IfOk, IfErr, ap, ◌∙◌, subst, arith}
 use Rattle.vt_definitions.specs.Depths.{texel_length}
-use Rattle.vt_definitions.specs.Limits.{header_limit, most_read_side}
+use Rattle.vt_definitions.specs.Limits.{header_limit}
 use Rattle.vt_outside.specs.Files.{IsPiece}
 use Rattle.vt_ppm.specs.declared.error.PpmError.{PpmError}
 use Rattle.vt_ppm.specs.declared.error.PpmError.TheVariants.{Truncated, SampleOver}
 use Rattle.vt_ppm.specs.declared.header.Header.{Header}
-use Rattle.vt_ppm.specs.Format.{IsImage, AreUpTo, depth_of}
+use Rattle.vt_ppm.specs.Format.{IsImageUpTo, AreUpTo, depth_of}
 use Rattle.vt_ppm.specs.Image.{ImageView}
-use Rattle.vt_ppm.specs.Flaws.{IsLawfulHeader, IsFlawUpTo, IsImageFlaw}
+use Rattle.vt_ppm.specs.Flaws.{IsLawfulHeader, IsFlawUpTo}
 use Rattle.vt_ppm.specs.Reads.{IsFront}
 use Rattle.vt_ppm.specs.Refusals.{IsOutsideRefusal, IsRasterRefusal}
 use Rattle.vt_ppm.specs.Samples.{IsOverAt, IsRasterImage}
@@ -49,37 +49,37 @@ module _ (most : ℕ) (o : Option (List ℕ)) (n : ℕ) (front : List ℕ) (is :
   header_answer_told (Err e) l = tt
 
 -- what is found with the header of the front is so of the file
-module _ (o : Option (List ℕ)) (n r w h m : ℕ) (front : List ℕ) (is : IfSome o (λ b. IsFront b n front)) (header : IsLawfulHeader most_read_side front r w h m) where
-  told : IfSome o (λ b. IsLawfulHeader most_read_side b r w h m)
-  told = header_told most_read_side o n front is r w h m header
+module _ (most : ℕ) (o : Option (List ℕ)) (n r w h m : ℕ) (front : List ℕ) (is : IfSome o (λ b. IsFront b n front)) (header : IsLawfulHeader most front r w h m) where
+  told : IfSome o (λ b. IsLawfulHeader most b r w h m)
+  told = header_told most o n front is r w h m header
 
   -- the file has too few bytes for the raster
   pub truncated_told : (want have : ℕ) → length front ≡ min n header_limit → want ≡ texel_length (depth_of m) * (w * h) → have ≡ n - r → have < want
-      → IfSome o (λ b. IsImageFlaw b (Truncated want have))
+      → IfSome o (λ b. IsFlawUpTo most b (Truncated want have))
   truncated_told want have few ew eh short = found o is told
     where
-      found : (o : Option (List ℕ)) → IfSome o (λ b. IsFront b n front) → IfSome o (λ b. IsLawfulHeader most_read_side b r w h m)
-          → IfSome o (λ b. IsImageFlaw b (Truncated want have))
+      found : (o : Option (List ℕ)) → IfSome o (λ b. IsFront b n front) → IfSome o (λ b. IsLawfulHeader most b r w h m)
+          → IfSome o (λ b. IsFlawUpTo most b (Truncated want have))
       found None f l = tt
-      found (Some b) f l = truncated b r w h m want have l ew (omega (arith, f.len_is, few, header.sized.header.within, eh)) short
+      found (Some b) f l = truncated most b r w h m want have l ew (omega (arith, f.len_is, few, header.sized.header.within, eh)) short
 
   -- the first sample above the maximum is that of the file
   pub over_told : (o1 : Option (List ℕ)) (raster : List ℕ) (at : ℕ) → o1 ≡ o → IfSome o1 (λ b. IsPiece b r raster)
-      → length raster ≡ texel_length (depth_of m) * (w * h) → IsOverAt r m (3 * (w * h)) raster at → IfSome o (λ b. IsImageFlaw b (SampleOver at))
+      → length raster ≡ texel_length (depth_of m) * (w * h) → IsOverAt r m (3 * (w * h)) raster at → IfSome o (λ b. IsFlawUpTo most b (SampleOver at))
   over_told o1 raster at e piece full over = found o told (subst (λ o. IfSome o (λ b. IsPiece b r raster)) e piece)
     where
-      found : (o : Option (List ℕ)) → IfSome o (λ b. IsLawfulHeader most_read_side b r w h m) → IfSome o (λ b. IsPiece b r raster)
-          → IfSome o (λ b. IsImageFlaw b (SampleOver at))
+      found : (o : Option (List ℕ)) → IfSome o (λ b. IsLawfulHeader most b r w h m) → IfSome o (λ b. IsPiece b r raster)
+          → IfSome o (λ b. IsFlawUpTo most b (SampleOver at))
       found None l p = tt
-      found (Some b) l p = sample_over b raster r w h m l p full at over
+      found (Some b) l p = sample_over most b raster r w h m l p full at over
 
   -- the image that was made of the raster is the file's
   pub image_told : (o1 : Option (List ℕ)) (raster : List ℕ) (p : ImageView) → o1 ≡ o → IfSome o1 (λ b. IsPiece b r raster)
       → length raster ≡ texel_length (depth_of m) * (w * h) → AreUpTo (depth_of m) m (3 * (w * h)) raster → IsRasterImage w h m raster p
-      → IfSome o (λ b. IsImage b p)
+      → IfSome o (λ b. IsImageUpTo most b p)
   image_told o1 raster p e piece full few image = found o told (subst (λ o. IfSome o (λ b. IsPiece b r raster)) e piece)
     where
-      found : (o : Option (List ℕ)) → IfSome o (λ b. IsLawfulHeader most_read_side b r w h m) → IfSome o (λ b. IsPiece b r raster)
-          → IfSome o (λ b. IsImage b p)
+      found : (o : Option (List ℕ)) → IfSome o (λ b. IsLawfulHeader most b r w h m) → IfSome o (λ b. IsPiece b r raster)
+          → IfSome o (λ b. IsImageUpTo most b p)
       found None l piece = tt
-      found (Some b) l piece = image_is b raster r w h m l piece full p few image
+      found (Some b) l piece = image_is most b raster r w h m l piece full p few image

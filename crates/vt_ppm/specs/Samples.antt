@@ -4,6 +4,12 @@ use Rattle.vt_definitions.specs.Depths.{AreBytes, sample_at}
 use Rattle.vt_ppm.specs.Format.{AreUpTo, AreScaled, depth_of, most_byte, scaled}
 use Rattle.vt_ppm.specs.Image.{ImageView}
 
+-- the first samples, so many, that are not above the maximum are those of a raster as they are kept
+abbrev pub AreScaledUpTo : ℕ → ℕ → ℕ → List ℕ → List ℕ → Type 0
+AreScaledUpTo depth maximum count raster samples =
+    (i : ℕ) → i < count → sample_at depth raster i ≤ maximum
+    → sample_at depth samples i ≡ scaled depth maximum (sample_at depth raster i)
+
 -- of so many samples, the first above the maximum has a number
 pub record IsFirstOver (depth maximum count : ℕ) (samples : List ℕ) (number : ℕ) : Type 0 where
   pub within : number < count

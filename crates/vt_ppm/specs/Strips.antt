@@ -1,7 +1,7 @@
 -- A texture that is read by strips, which are whole rows.
-use Rattle.std.specs.Prelude.{◌≡◌, ◌⊎◌, ℕ, zero, suc, ◌+◌, ◌-◌, ◌*◌, ◌/◌, ◌<◌, ◌≤◌, ◌==◌, if◌then◌else◌, Bool, true, false, List, [], ◌∷◌, ◌++◌, length, map, take, drop, min, Option, Some, option_map, Result, Ok, Err}
+use Rattle.std.specs.Prelude.{◌≡◌, ℕ, zero, suc, ◌+◌, ◌-◌, ◌*◌, ◌/◌, ◌<◌, ◌≤◌, Bool, true, false, List, [], ◌∷◌, ◌++◌, length, map, take, drop, min, Option, Some, option_map, Result, Ok, Err}
 use Rattle.std.specs.List.{range_with_len}
-use Rattle.vt_definitions.specs.Depths.{texel_length, sample_at, greatest_sample}
+use Rattle.vt_definitions.specs.Depths.{texel_length, sample_at}
 use Rattle.vt_definitions.specs.Limits.{header_limit, most_tiled_side}
 use Rattle.vt_definitions.specs.Numbers.{number_bytes}
 use Rattle.vt_outside.specs.Files.{noted}
@@ -10,7 +10,7 @@ use Rattle.vt_ppm.specs.declared.error.PpmError.{PpmError}
 use Rattle.vt_ppm.specs.declared.error.PpmError.TheVariants.{SampleOver, Failed}
 use Rattle.vt_ppm.specs.declared.header.Header.{Header}
 use Rattle.vt_ppm.specs.Image.{ImageView}
-use Rattle.vt_ppm.specs.Format.{IsMaximum, IsTexture, depth_of, scaled}
+use Rattle.vt_ppm.specs.Format.{IsMaximum, IsTexture, AreUpTo, depth_of, scaled}
 use Rattle.vt_ppm.specs.Flaws.{AreImageSides, IsLawfulHeader}
 
 -- a reader of strips: its file, the header of the texture, and whether no sample was found above the maximum
@@ -69,11 +69,13 @@ pub record HasRasterIfTold (told : Option (List ℕ)) (h : Header) : Type 0 wher
 pub record IsTextureIfTold (told : Option (List ℕ)) (h : Header) : Type 0 where
   pub each : (b : List ℕ) → told ≡ Some b → IsTexture b (texture_of h b)
 
--- what a reader knows of its file: the header, that the raster is there, and, once it was looked over, what it spells
-pub record IsStripReader (told : Option (List ℕ)) (h : Header) (checked : Bool) : Type 0 where
-  pub header : IsTextureHeader h
-  pub raster : HasRasterIfTold told h
-  pub texture : checked ≡ true → IsTextureIfTold told h
+-- no sample of the first rows, so many, is above the maximum
+abbrev pub AreRowsUpTo : Header → List ℕ → ℕ → Type 0
+AreRowsUpTo h b rows = AreUpTo (depth_of h.maximum) h.maximum (3 * (h.width * rows)) (drop h.raster b)
+
+-- no sample of the bytes, where they are told, is above the maximum
+pub record HasSamplesIfTold (told : Option (List ℕ)) (h : Header) : Type 0 where
+  pub each : (b : List ℕ) → told ≡ Some b → AreRowsUpTo h b h.height
 
 -- one place more was asked: that of so many rows from one on
 abbrev pub RowsAsked : Header → ℕ → ℕ → Bool → Option (List Place) → Option (List Place) → Type 0
@@ -83,14 +85,21 @@ RowsAsked h y count failed before after = after ≡ option_map (noted (row_start
 abbrev pub piece_rows : Header → ℕ
 piece_rows h = min h.height ((1048575 + row_length h) / row_length h)
 
--- in how many such pieces the raster is looked over: in none where no sample can be above the maximum
+-- in how many such pieces the raster is looked over
 abbrev pub pieces_of : Header → ℕ
-pieces_of h =
-    if h.maximum == greatest_sample (depth_of h.maximum) then 0 else (h.height + piece_rows h - 1) / piece_rows h
+pieces_of h = (h.height + piece_rows h - 1) / piece_rows h
 
 -- how many rows a piece has: the last one those that are left
 abbrev pub piece_count : Header → ℕ → ℕ
 piece_count h i = min (piece_rows h) (h.height - i * piece_rows h)
+
+-- what a reader knows of its file: the header, that the raster is there, and, once they were looked over, the samples; and it has
+-- room for a piece
+pub record IsStripReader (told : Option (List ℕ)) (h : Header) (checked : Bool) (space : ℕ) : Type 0 where
+  pub header : IsTextureHeader h
+  pub raster : HasRasterIfTold told h
+  pub samples : checked ≡ true → HasSamplesIfTold told h
+  pub room : space ≡ piece_rows h * row_length h
 
 -- the place of a piece
 abbrev pub piece_place : Header → Bool → ℕ → Place
@@ -108,6 +117,14 @@ PiecesAsked h n before after = after ≡ option_map (λ places. places ++ piece_
 abbrev pub PiecesFailed : Header → ℕ → Option (List Place) → Option (List Place) → Type 0
 PiecesFailed h n before after =
     after ≡ option_map (λ places. places ++ (piece_places h n ++ piece_place h true n ∷ [])) before
+
+-- what is asked to look so many rows over from one on, by the answer: their place, whose read failed or did not; and a sample above the
+-- maximum stands in it
+abbrev pub ChecksRows : Header → ℕ → ℕ → {T : Type 0} → Result T PpmError → Option (List Place) → Option (List Place) → Type 0
+ChecksRows h y count (Ok _) before after = RowsAsked h y count false before after
+ChecksRows h y count (Err (SampleOver at)) before after = (at < row_start h (y + count)) × RowsAsked h y count false before after
+ChecksRows h y count (Err Failed) before after = RowsAsked h y count true before after
+ChecksRows h y count (Err _) before after = ⊥
 
 -- the pieces that are asked to look a raster over, by the answer: all of them; those up to that of a sample above the maximum; or those
 -- up to the one whose read failed

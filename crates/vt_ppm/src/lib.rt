@@ -9,6 +9,7 @@ mod laws;
 mod picture;
 mod raster;
 mod read;
+mod rows;
 mod strips;
 mod whole;
 

@@ -3,8 +3,8 @@ ghost use Rattle.std.specs.Prelude.{◌≡◌, ◌*◌, ◌<◌, ◌≤◌, leng
 ghost use Rattle.vt_definitions.specs.Depths.{IsDepth, AreBytes, greatest_sample, sample_base, texel_length};
 ghost use Rattle.vt_definitions.specs.Limits.{header_limit, most_read_side};
 ghost use Rattle.vt_ppm.specs.Flaws.{AreImageSides};
-ghost use Rattle.vt_ppm.specs.Format.{IsMaximum, AreUpTo, AreScaled, depth_of, scaled};
-ghost use Rattle.vt_ppm.specs.Samples.{IsFirstOver, IsOverAt, IsRasterImage, IsScale};
+ghost use Rattle.vt_ppm.specs.Format.{IsMaximum, AreUpTo, depth_of, scaled};
+ghost use Rattle.vt_ppm.specs.Samples.{AreScaledUpTo, IsFirstOver, IsOverAt, IsRasterImage, IsScale};
 
 use crate::header::{depth_of, sample_count};
 use crate::{Header, Image};
@@ -39,8 +39,8 @@ pub fn image_of(header: &Header, mut raster: Vec<u8>) -> Image
     )
 }
 
-// The number of the first of so many samples that is above the maximum.
-fn first_over(raster: &[u8], count: usize, maximum: u32) -> Option<usize>
+/// The number of the first of so many samples that is above the maximum.
+pub fn first_over(raster: &[u8], count: usize, maximum: u32) -> Option<usize>
     requires full { length raster.now ≡ depth_of maximum * count }
     ensures { MatchOption result (AreUpTo (depth_of maximum) maximum count raster.now) (IsFirstOver (depth_of maximum) maximum count raster.now) }
 {
@@ -68,12 +68,12 @@ fn first_above<const DEPTH: u32>(raster: &[u8], count: usize, maximum: u32) -> O
     None
 }
 
-// Scales so many samples, none above the maximum, so that the greatest is that of their depth.
-fn scale(raster: &mut [u8], count: usize, maximum: u32)
+/// Scales so many samples so that the greatest is that of their depth. One above the maximum, as a file that changed may
+/// give, becomes any sample.
+pub fn scale(raster: &mut [u8], count: usize, maximum: u32)
     requires full { length raster.old ≡ depth_of maximum * count }
     requires maximum { IsMaximum maximum }
-    requires few { AreUpTo (depth_of maximum) maximum count raster.old }
-    ensures scaled { AreScaled (depth_of maximum) maximum count raster.old raster.new }
+    ensures scaled { AreScaledUpTo (depth_of maximum) maximum count raster.old raster.new }
     ensures bytes { AreBytes raster.new }
 {
     if depth_of(maximum) == 1 {
@@ -89,8 +89,7 @@ fn scale_samples<const DEPTH: u32>(raster: &mut [u8], count: usize, maximum: u32
     requires full { length raster.old ≡ DEPTH * count }
     requires some { 1 ≤ maximum }
     requires lawful { maximum ≤ greatest_sample DEPTH }
-    requires few { AreUpTo DEPTH maximum count raster.old }
-    ensures { AreScaled DEPTH maximum count raster.old raster.new }
+    ensures { AreScaledUpTo DEPTH maximum count raster.old raster.new }
 {
     if maximum == greatest_sample(DEPTH) {
         return;
@@ -119,21 +118,22 @@ fn table_of<const DEPTH: u32>(maximum: u32) -> [u8; 256]
     table
 }
 
-// A sample as it is kept: looked up where it has one byte, since a division takes longer.
+// A sample as it is kept: looked up where it has one byte, since a division takes longer. One above the maximum becomes
+// any sample.
 #[inline]
 fn kept_by<const DEPTH: u32>(table: &[u8; 256], sample: u32, maximum: u32) -> u16
     requires depth { IsDepth DEPTH }
     requires table { DEPTH ≡ 1 → IsScale table.now maximum }
     requires some { 1 ≤ maximum }
     requires lawful { maximum ≤ greatest_sample DEPTH }
-    requires few { sample ≤ maximum }
-    ensures value { result ≡ scaled DEPTH maximum sample }
+    requires few { sample < sample_base DEPTH }
+    ensures value { sample ≤ maximum → result ≡ scaled DEPTH maximum sample }
     ensures few { result < sample_base DEPTH }
 {
     if DEPTH == 1 {
         u16::from(table[sample as usize])
     } else {
-        kept::<DEPTH>(sample, maximum)
+        kept::<DEPTH>(sample.min(maximum), maximum)
     }
 }
 

@@ -6,7 +6,8 @@ ghost use Rattle.vt_outside.specs.Files.{IsPiece};
 ghost use Rattle.vt_ppm.specs.Format.{IsImage};
 ghost use Rattle.vt_ppm.specs.Flaws.{IsHeaderFlaw, IsImageFlaw, IsLawfulHeader};
 ghost use Rattle.vt_ppm.specs.Reads.{AsksHeader, AsksImage, AnswersOfHeader, AnswersOfImage, ReadsFront, NotesRead, IsFront};
-ghost use Rattle.vt_ppm.specs.Refusals.{IsOutsideRefusal, IsRasterRefusal};
+ghost use Rattle.vt_ppm.specs.Refusals.{IsOutsideRefusal, IsRasterRefusal, IsSampleRefusal};
+ghost use Rattle.vt_ppm.specs.Strips.{IsTextureHeader, HasRasterIfTold};
 
 use crate::header::{HEADER_LIMIT, MOST_READ_SIDE, MOST_TILED_SIDE, lawful_header, raster_length};
 use crate::raster::{image_of, over_at};
@@ -83,6 +84,30 @@ pub fn read_header<F: File>(alloc: Global, file: &mut F) -> Result<Header, PpmEr
 {
     let front = front_of(alloc, file, 1)?;
     lawful_header(&front.bytes, MOST_TILED_SIDE)
+}
+
+/// Reads the header of a texture that may be cut into tiles, and looks whether its raster is there. The refusals are those of
+/// `StripReader::open`.
+pub fn read_texture_header<F: File>(alloc: Global, file: &mut F) -> Result<Header, PpmError>
+    ensures limits { IfOk result IsTextureHeader }
+    ensures raster { IfOk result (HasRasterIfTold (F.bytes file.old)) }
+    ensures flaw { IfErr result (λ e. (IsOutsideRefusal e → ⊥) → IfSome (F.bytes file.old) (λ b. IsHeaderFlaw b e)) }
+    ensures no_sample { IfErr result (λ e. IsSampleRefusal e → ⊥) }
+    ensures failed { IsErrOf result PpmError.Failed → Rose (F.faults file.old) (F.faults file.new) }
+    ensures asked { AsksHeader (F.bytes file.old) (F.asked file.old) (F.asked file.new) }
+    ensures read { AnswersOfHeader result (F.bytes file.old) (F.asked file.old) (F.asked file.new) }
+    ensures bytes { F.bytes file.new ≡ F.bytes file.old }
+    ensures name { F.name file.new ≡ F.name file.old }
+    ensures faults { F.faults file.old ≤ F.faults file.new }
+{
+    let Front { bytes, length } = front_of(alloc, file, 1)?;
+    let header = lawful_header(&bytes, MOST_TILED_SIDE)?;
+    let want = raster_length(&header);
+    let have = length - header.raster;
+    if have < want {
+        return Err(PpmError::Truncated { want, have });
+    }
+    Ok(header)
 }
 
 /// Reads the image of a file (the Netpbm manual's P6 page, with this project's comments and bounds), each sample scaled so that

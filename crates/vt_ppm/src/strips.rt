@@ -6,15 +6,16 @@ ghost use Rattle.vt_ppm.specs.Flaws.{IsHeaderFlaw};
 ghost use Rattle.vt_ppm.specs.Format.{depth_of};
 ghost use Rattle.vt_ppm.specs.Reads.{AsksHeader, AnswersOfHeader};
 ghost use Rattle.vt_ppm.specs.Refusals.{IsOutsideRefusal, IsSampleRefusal, IsCheckRefusal};
-ghost use Rattle.vt_ppm.specs.Strips.{HasRasterIfTold, IsTextureIfTold, IsTextureHeader, ChecksPieces, RowsAsked, row_length, rows_of, file_after, answer_in};
+ghost use Rattle.vt_ppm.specs.Strips.{AreRowsUpTo, HasRasterIfTold, HasSamplesIfTold, IsTextureIfTold, IsTextureHeader, ChecksPieces, ChecksRows, RowsAsked, piece_rows, row_length, rows_of, file_after, answer_in};
 
+use crate::header::depth_of;
+use crate::raster::{first_over, scale};
+use crate::read::read_texture_header;
+use crate::rows::{piece_rows, pieces_of, row_length, row_start, sample_count};
 use crate::{Header, PpmError};
 use std::alloc::Global;
 use std::marker::Model;
 use vt_outside::{Failed, File, NoMemory};
-
-// Has no value, until the bodies below are written.
-enum Never {}
 
 /// A file that holds a texture, of which rows are read. Contracts see the file, the header, and whether the samples were
 /// looked over.
@@ -22,17 +23,97 @@ pub struct StripReader<F: File> {
     file: F,
     header: Header,
     checked: bool,
-    never: Never,
+    buffer: Vec<u8>,
 }
 
 impl<F: File> Model for StripReader<F> {
+    ghost use Rattle.std.specs.Prelude.{length};
     ghost use Rattle.vt_ppm.specs.Strips.{StripView, IsStripReader};
 
     ghost Value = { StripView F };
 
     ghost view = { λ s. record { file = s.file; header = s.header; checked = s.checked } };
 
-    ghost invariant = { λ s. IsStripReader (F.bytes s.file) s.header s.checked };
+    ghost invariant = { λ s. IsStripReader (F.bytes s.file) s.header s.checked (length s.buffer.items) };
+}
+
+// The header of a texture, and room for as many rows as are looked over at once.
+fn opened<F: File>(alloc: Global, file: &mut F) -> Result<(Header, Vec<u8>), PpmError>
+    ensures limits { IfOk result (λ o. IsTextureHeader o.0) }
+    ensures raster { IfOk result (λ o. HasRasterIfTold (F.bytes file.old) o.0) }
+    ensures room { IfOk result (λ o. length o.1.items ≡ piece_rows o.0 * row_length o.0) }
+    ensures flaw { IfErr result (λ e. (IsOutsideRefusal e → ⊥) → IfSome (F.bytes file.old) (λ b. IsHeaderFlaw b e)) }
+    ensures no_sample { IfErr result (λ e. IsSampleRefusal e → ⊥) }
+    ensures failed { IsErrOf result PpmError.Failed → Rose (F.faults file.old) (F.faults file.new) }
+    ensures asked { AsksHeader (F.bytes file.old) (F.asked file.old) (F.asked file.new) }
+    ensures read { AnswersOfHeader result (F.bytes file.old) (F.asked file.old) (F.asked file.new) }
+    ensures bytes { F.bytes file.new ≡ F.bytes file.old }
+    ensures name { F.name file.new ≡ F.name file.old }
+    ensures faults { F.faults file.old ≤ F.faults file.new }
+{
+    let header = read_texture_header(alloc, file)?;
+    let length = piece_rows(&header) as usize * row_length(&header);
+    let buffer = vec![in alloc; 0u8; length].map_err(|_| PpmError::NoMemory)?;
+    Ok((header, buffer))
+}
+
+// Looks over so many rows from one on, which have the length of the buffer, by one read.
+fn look_over_rows<F: File>(
+    file: &mut F,
+    header: &Header,
+    y: u32,
+    count: u32,
+    buffer: &mut [u8],
+) -> Result<(), PpmError>
+    requires header { IsTextureHeader header.now }
+    requires raster { HasRasterIfTold (F.bytes file.old) header.now }
+    requires inside { y + count ≤ header.now.height }
+    requires size { length buffer.old ≡ count * row_length header.now }
+    requires spare { 1 ≤ F.spare file.old }
+    ensures few { OnOk result (IfSome (F.bytes file.old) (λ b. AreRowsUpTo header.now b y → AreRowsUpTo header.now b (y + count))) }
+    ensures flaw { IfErr result (λ e. IsSampleRefusal e → IfSome (F.bytes file.old) (λ b. AreRowsUpTo header.now b y → IsHeaderFlaw b e)) }
+    ensures refusals { IfErr result IsCheckRefusal }
+    ensures failed { IsErrOf result PpmError.Failed → Rose (F.faults file.old) (F.faults file.new) }
+    ensures asked { ChecksRows header.now y count result (F.asked file.old) (F.asked file.new) }
+    ensures spare { F.spare file.old ≤ F.spare file.new + 1 }
+    ensures bytes { F.bytes file.new ≡ F.bytes file.old }
+    ensures name { F.name file.new ≡ F.name file.old }
+    ensures faults { F.faults file.old ≤ F.faults file.new }
+{
+    let start = row_start(header, y);
+    file.read_at(start, buffer)?;
+    match first_over(buffer, sample_count(header, count), header.maximum) {
+        Some(number) => Err(PpmError::SampleOver {
+            at: start + depth_of(header.maximum) as u64 * number as u64,
+        }),
+        None => Ok(()),
+    }
+}
+
+// Looks all rows over, in pieces that the buffer holds.
+fn look_over<F: File>(file: &mut F, header: &Header, buffer: &mut [u8]) -> Result<(), PpmError>
+    requires header { IsTextureHeader header.now }
+    requires raster { HasRasterIfTold (F.bytes file.old) header.now }
+    requires size { length buffer.old ≡ piece_rows header.now * row_length header.now }
+    requires spare { header.now.height ≤ F.spare file.old }
+    ensures few { OnOk result (HasSamplesIfTold (F.bytes file.old) header.now) }
+    ensures flaw { IfErr result (λ e. IsSampleRefusal e → IfSome (F.bytes file.old) (λ b. IsHeaderFlaw b e)) }
+    ensures refusals { IfErr result IsCheckRefusal }
+    ensures failed { IsErrOf result PpmError.Failed → Rose (F.faults file.old) (F.faults file.new) }
+    ensures asked { ChecksPieces header.now result (F.asked file.old) (F.asked file.new) }
+    ensures spare { F.spare file.old ≤ F.spare file.new + header.now.height }
+    ensures bytes { F.bytes file.new ≡ F.bytes file.old }
+    ensures name { F.name file.new ≡ F.name file.old }
+    ensures faults { F.faults file.old ≤ F.faults file.new }
+{
+    let step = piece_rows(header);
+    let row = row_length(header);
+    for piece in 0..pieces_of(header) {
+        let y = piece * step;
+        let count = step.min(header.height - y);
+        look_over_rows(file, header, y, count, &mut buffer[..count as usize * row])?;
+    }
+    Ok(())
 }
 
 impl<F: File> StripReader<F> {
@@ -42,7 +123,7 @@ impl<F: File> StripReader<F> {
     /// Where the file tells its bytes, `BadMagic` to `Truncated` come exactly as the first flaw of those bytes, after that one
     /// read. `Failed` comes only where the file's count of faults rose, and `NoMemory` where memory was refused. No other
     /// refusal comes: samples are looked over by `check`.
-    pub fn open(alloc: Global, file: F) -> Result<StripReader<F>, (F, PpmError)>
+    pub fn open(alloc: Global, mut file: F) -> Result<StripReader<F>, (F, PpmError)>
         ensures limits { IfOk result (λ s. IsTextureHeader s.header) }
         ensures raster { IfOk result (λ s. HasRasterIfTold (F.bytes file) s.header) }
         ensures unchecked { IfOk result (λ s. s.checked ≡ false) }
@@ -55,7 +136,15 @@ impl<F: File> StripReader<F> {
         ensures name { F.name (file_after result) ≡ F.name file }
         ensures faults { F.faults file ≤ F.faults (file_after result) }
     {
-        Err((file, PpmError::NoMemory))
+        match opened(alloc, &mut file) {
+            Ok((header, buffer)) => Ok(StripReader {
+                file,
+                header,
+                checked: false,
+                buffer,
+            }),
+            Err(refusal) => Err((file, refusal)),
+        }
     }
 
     /// The header of the texture.
@@ -65,7 +154,8 @@ impl<F: File> StripReader<F> {
         ensures raster { HasRasterIfTold (F.bytes self.now.file) self.now.header }
         ensures texture { self.now.checked ≡ true → IsTextureIfTold (F.bytes self.now.file) self.now.header }
     {
-        match self.never {}
+        let _ = &self.buffer;
+        &self.header
     }
 
     /// How many bytes a sample has: 1 or 2.
@@ -73,7 +163,7 @@ impl<F: File> StripReader<F> {
         ensures value { result ≡ depth_of self.now.header.maximum }
         ensures depth { IsDepth result }
     {
-        match self.never {}
+        depth_of(self.header.maximum)
     }
 
     /// How many bytes a row has: three samples a texel.
@@ -82,7 +172,7 @@ impl<F: File> StripReader<F> {
         ensures some { 1 ≤ result }
         ensures few { result ≤ 98304 }
     {
-        match self.never {}
+        row_length(&self.header)
     }
 
     /// Makes room to note so many more reads. After a refusal nothing changed.
@@ -96,11 +186,11 @@ impl<F: File> StripReader<F> {
         ensures header { self.new.header ≡ self.old.header }
         ensures checked { self.new.checked ≡ self.old.checked }
     {
-        match self.never {}
+        self.file.reserve(reads)
     }
 
     /// Looks all samples over, so that rows may be read. It reads the raster in pieces of whole rows, about a mebibyte each, in
-    /// order, and makes no read where no sample can be above the maximum. It takes no memory.
+    /// order. It takes no memory.
     ///
     /// Where the file tells its bytes, `SampleOver` comes exactly at the first sample above the maximum, once the piece that
     /// holds it was read. `Failed` comes only where the file's count of faults rose. No other refusal comes. After a refusal no
@@ -120,7 +210,10 @@ impl<F: File> StripReader<F> {
         ensures faults { F.faults self.old.file ≤ F.faults self.new.file }
         ensures header { self.new.header ≡ self.old.header }
     {
-        match self.never {}
+        self.checked = false;
+        look_over(&mut self.file, &self.header, self.buffer.as_mut_slice())?;
+        self.checked = true;
+        Ok(())
     }
 
     /// Fills the buffer, which has the length of so many rows, with those from row `y` on, each sample scaled so that the greatest
@@ -142,7 +235,10 @@ impl<F: File> StripReader<F> {
         ensures header { self.new.header ≡ self.old.header }
         ensures kept { self.new.checked ≡ true }
     {
-        match self.never {}
+        self.file.read_at(row_start(&self.header, y), out)?;
+        let count = sample_count(&self.header, count);
+        scale(out, count, self.header.maximum);
+        Ok(())
     }
 
     /// Fills the buffer, which has the length of a row, with row `y`, each sample scaled as in `rows`. It makes one read, whose
@@ -170,6 +266,12 @@ impl<F: File> StripReader<F> {
     pub fn into_file(self) -> F
         ensures { result ≡ self.file }
     {
-        match self.never {}
+        let StripReader {
+            file,
+            header: _,
+            checked: _,
+            buffer: _,
+        } = self;
+        file
     }
 }

@@ -15,4 +15,4 @@ returns c =
     let h = c.args.header.now in
     raster_image h.width h.height h.maximum c.args.raster.items c.as_mut_slice.result.now c.scale.new.raster _ c.sample_count.result c.depth_of.result
     c.new.result c.as_mut_slice.ensures.value c.as_mut_slice.ensures.len c.scale.auto.raster c.sample_count.ensures.value c.depth_of.ensures.value
-    c.scale.ensures.scaled c.scale.ensures.bytes c.new.ensures
+    c.requires.few c.scale.ensures.scaled c.scale.ensures.bytes c.new.ensures

@@ -1,0 +1,234 @@
+-- Rows of a texture: which of its samples they are, and what they are kept as.
+use Rattle.std.proofs.Common.{◌≡◌, inl, inr, ℕ, ◌+◌, ◌-◌, ◌*◌, ◌<◌, ◌≤◌, List, length, take, drop, get_or, min, Option, Some, None, IfSome, refl, sym, ap, ◌∙◌, subst, arith, length-drop}
+use Rattle.std.proofs.lemmas.Bool.{cases_lt}
+use Rattle.std.proofs.lemmas.List.{get_or-take, get_or-drop, drop-drop, length-take-le}
+use Rattle.std.proofs.lemmas.List.Elements.{All-take, All-drop}
+use Rattle.std.proofs.lemmas.Nat.{mul-le}
+use Rattle.vt_definitions.specs.Depths.{IsDepth, AreBytes, sample_at, texel_length}
+use Rattle.vt_definitions.specs.Limits.{header_limit, most_tiled_side}
+use Rattle.vt_outside.specs.Files.{IsPiece, HasPlace}
+use Rattle.vt_ppm.specs.declared.header.Header.{Header}
+use Rattle.vt_ppm.specs.Format.{IsTexture, AreUpTo, depth_of, scaled}
+use Rattle.vt_ppm.specs.Flaws.{IsLawfulHeader, IsSampleOver}
+use Rattle.vt_ppm.specs.Reads.{IsFront}
+use Rattle.vt_ppm.specs.Samples.{AreScaledUpTo, IsFirstOver}
+use Rattle.vt_ppm.specs.Strips.{HasRaster, HasRasterIfTold, HasSamplesIfTold, IsTextureIfTold, AreRowsUpTo, texture_of, sample_bytes, kept_samples, row_length, row_start, rows_of}
+use Rattle.vt_ppm.proofs.Rasters.{image_made}
+use Rattle.vt_ppm.proofs.SampleValues.{by_depth, depth_is, kept_few, same_bytes, samples_of_texels, samples_length, samples_bytes, samples_sample}
+use Rattle.vt_ppm.proofs.TellingFiles.{header_told}
+
+-- a sample of the first ones is one of all
+front_of_samples : (d : ℕ) (xs : List ℕ) (n i : ℕ) → IsDepth d → i < n → sample_at d (take (d * n) xs) i ≡ sample_at d xs i
+front_of_samples d xs n i depth inside = by_depth (λ d. sample_at d (take (d * n) xs) i ≡ sample_at d xs i) narrow wide d depth
+  where
+    narrow : sample_at 1 (take (1 * n) xs) i ≡ sample_at 1 xs i
+    narrow = ap (λ k. 0 * 256 + k) (get_or-take (1 * n) xs (1 * i + 0) 0 (omega (arith, inside)))
+
+    wide : sample_at 2 (take (2 * n) xs) i ≡ sample_at 2 xs i
+    wide = ap (λ k. (0 * 256 + k) * 256 + get_or (take (2 * n) xs) (2 * i + 1) 0) (get_or-take (2 * n) xs (2 * i + 0) 0 (omega (arith, inside)))
+        ∙ ap (λ k. (0 * 256 + get_or xs (2 * i + 0) 0) * 256 + k) (get_or-take (2 * n) xs (2 * i + 1) 0 (omega (arith, inside)))
+
+-- a sample behind so many is a later one of all
+later_sample : (d : ℕ) (xs : List ℕ) (k i : ℕ) → IsDepth d → sample_at d (drop (d * k) xs) i ≡ sample_at d xs (k + i)
+later_sample d xs k i depth = by_depth (λ d. sample_at d (drop (d * k) xs) i ≡ sample_at d xs (k + i)) narrow wide d depth
+  where
+    narrow : sample_at 1 (drop (1 * k) xs) i ≡ sample_at 1 xs (k + i)
+    narrow = let place : 1 * k + (1 * i + 0) ≡ 1 * (k + i) + 0 = omega arith in
+        ap (λ k. 0 * 256 + k) (get_or-drop (1 * k) xs (1 * i + 0) 0 ∙ ap (λ j. get_or xs j 0) place)
+
+    wide : sample_at 2 (drop (2 * k) xs) i ≡ sample_at 2 xs (k + i)
+    wide = let high : 2 * k + (2 * i + 0) ≡ 2 * (k + i) + 0 = omega arith in
+        let low : 2 * k + (2 * i + 1) ≡ 2 * (k + i) + 1 = omega arith in
+        ap (λ n. (0 * 256 + n) * 256 + get_or (drop (2 * k) xs) (2 * i + 1) 0) (get_or-drop (2 * k) xs (2 * i + 0) 0 ∙ ap (λ j. get_or xs j 0) high)
+        ∙ ap (λ n. (0 * 256 + get_or xs (2 * (k + i) + 0) 0) * 256 + n) (get_or-drop (2 * k) xs (2 * i + 1) 0 ∙ ap (λ j. get_or xs j 0) low)
+
+-- so many rows, in bytes, are so many samples
+pub rows_in_samples : (d w n : ℕ) → n * (texel_length d * w) ≡ d * (3 * (w * n))
+rows_in_samples d w n = grind arith
+
+-- rows lie in the raster
+pub rows_end : (h : Header) (y count : ℕ) → y + count ≤ h.height → row_start h y + count * row_length h ≤ row_start h h.height
+rows_end h y count inside = omega (arith, mul-le (y + count) (row_length h) h.height (row_length h) inside (omega arith))
+
+-- the place of rows in bytes that have the raster
+pub rows_inside : (told : Option (List ℕ)) (h : Header) (y count len : ℕ) → HasRasterIfTold told h → y + count ≤ h.height
+    → len ≡ count * row_length h → HasPlace told (row_start h y) len
+rows_inside None h y count len has inside e = tt
+rows_inside (Some b) h y count len has inside e = omega (arith, (has.each b refl).full, rows_end h y count inside, e)
+
+-- a sample of rows that were read is one behind the header
+pub sample_of_rows : (h : Header) (b xs : List ℕ) (y count i : ℕ) → IsPiece b (row_start h y) xs → length xs ≡ count * row_length h
+    → i < 3 * (h.width * count)
+    → sample_at (depth_of h.maximum) xs i ≡ sample_at (depth_of h.maximum) (drop h.raster b) (3 * (h.width * y) + i)
+sample_of_rows h b xs y count i piece full inside =
+    let d : ℕ = depth_of h.maximum in
+    let size : length xs ≡ d * (3 * (h.width * count)) = full ∙ rows_in_samples d h.width count in
+    let from : y * row_length h ≡ d * (3 * (h.width * y)) = rows_in_samples d h.width y in
+    ap (λ zs. sample_at d zs i) (piece.same ∙ ap (λ n. take n (drop (row_start h y) b)) size)
+    ∙ front_of_samples d (drop (row_start h y) b) (3 * (h.width * count)) i (depth_is h.maximum) inside
+    ∙ ap (λ zs. sample_at d zs i) (sym (drop-drop (y * row_length h) h.raster b) ∙ ap (λ n. drop n (drop h.raster b)) from)
+    ∙ later_sample d (drop h.raster b) (3 * (h.width * y)) i (depth_is h.maximum)
+
+-- the rows up to these and these have no sample above the maximum
+pub rows_more : (h : Header) (b xs : List ℕ) (y count : ℕ) → IsPiece b (row_start h y) xs → length xs ≡ count * row_length h
+    → AreUpTo (depth_of h.maximum) h.maximum (3 * (h.width * count)) xs → AreRowsUpTo h b y → AreRowsUpTo h b (y + count)
+rows_more h b xs y count piece full few before i inside =
+    elim (cases_lt i (3 * (h.width * y))) [
+      | inl early ↦ before i early
+      | inr late ↦
+          let k : ℕ = i - 3 * (h.width * y) in
+          let there : k < 3 * (h.width * count) = omega (arith, inside, late) in
+          let place : 3 * (h.width * y) + k ≡ i = omega (arith, late) in
+          subst (λ s. s ≤ h.maximum)
+          (sample_of_rows h b xs y count k piece full there ∙ ap (λ n. sample_at (depth_of h.maximum) (drop h.raster b) n) place) (few k there)
+    ]
+
+-- the first sample of these rows that is above the maximum is the first of all, where none is above it before them
+pub rows_over : (h : Header) (b xs : List ℕ) (y count number at : ℕ) → HasRaster b h → IsPiece b (row_start h y) xs
+    → length xs ≡ count * row_length h → y + count ≤ h.height
+    → IsFirstOver (depth_of h.maximum) h.maximum (3 * (h.width * count)) xs number → at ≡ row_start h y + depth_of h.maximum * number
+    → AreRowsUpTo h b y → IsSampleOver most_tiled_side b at
+rows_over h b xs y count number at has piece full inside over at_is before =
+    let all : h.width * (y + count) ≤ h.width * h.height = mul-le h.width (y + count) h.width h.height (omega arith) inside in
+    let from : y * row_length h ≡ depth_of h.maximum * (3 * (h.width * y)) = rows_in_samples (depth_of h.maximum) h.width y in
+    let whole : h.height * row_length h ≡ texel_length (depth_of h.maximum) * (h.width * h.height) = grind arith in
+    let together : depth_of h.maximum * (3 * (h.width * y) + number) ≡ depth_of h.maximum * (3 * (h.width * y)) + depth_of h.maximum * number =
+    grind arith in
+    record {
+      raster = h.raster;
+      width = h.width;
+      height = h.height;
+      maximum = h.maximum;
+      number = 3 * (h.width * y) + number;
+      header = has.header;
+      full = omega (arith, has.full, whole);
+      within = omega (arith, over.within, all);
+      over = subst (λ s. h.maximum < s) (sample_of_rows h b xs y count number piece full over.within) over.over;
+      first = λ i early. elim (cases_lt i (3 * (h.width * y))) [
+        | inl sooner ↦ before i sooner
+        | inr late ↦
+            let k : ℕ = i - 3 * (h.width * y) in
+            let there : k < number = omega (arith, early, late) in
+            let place : 3 * (h.width * y) + k ≡ i = omega (arith, late) in
+            subst (λ s. s ≤ h.maximum)
+            (sample_of_rows h b xs y count k piece full (omega (arith, there, over.within))
+            ∙ ap (λ n. sample_at (depth_of h.maximum) (drop h.raster b) n) place) (over.first k there)
+      ];
+      at_is = omega (arith, at_is, from, together);
+    }
+
+-- bytes with the raster, none of whose samples is above the maximum, spell the texture
+pub texture_is : (b : List ℕ) (h : Header) → HasRaster b h → AreRowsUpTo h b h.height → IsTexture b (texture_of h b)
+unfolding kept_samples
+texture_is b h has few =
+    let d : ℕ = depth_of h.maximum in
+    let n : ℕ = 3 * (h.width * h.height) in
+    let value : ℕ → ℕ = λ i. scaled d h.maximum (sample_at d (drop h.raster b) i) in
+    let whole : h.height * row_length h ≡ d * n = rows_in_samples d h.width h.height in
+    let fits : d * n ≤ length (drop h.raster b) = omega (arith, has.full, whole, length-drop h.raster b) in
+    let size : length (take (d * n) (drop h.raster b)) ≡ d * n = length-take-le (d * n) (drop h.raster b) fits in
+    let same : (i : ℕ) → i < n → sample_at d (take (d * n) (drop h.raster b)) i ≡ sample_at d (drop h.raster b) i =
+    λ i inside. front_of_samples d (drop h.raster b) n i (depth_is h.maximum) inside in
+    image_made most_tiled_side b (take (d * n) (drop h.raster b)) h.raster h.width h.height h.maximum has.header
+    (record {
+      within = omega (arith, has.full, whole, size);
+      same = ap (λ k. take k (drop h.raster b)) (sym size);
+    })
+    (size ∙ sym (samples_of_texels d (h.width * h.height)))
+    (sample_bytes d value n)
+    (λ i inside. subst (λ s. s ≤ h.maximum) (sym (same i inside)) (few i inside))
+    (λ i inside. samples_sample d value n i (depth_is h.maximum)
+    (λ k within. kept_few d h.maximum (sample_at d (drop h.raster b) k) (depth_is h.maximum) has.header.lawful.some (few k within)) inside
+    ∙ ap (scaled d h.maximum) (sym (same i inside)))
+    (samples_length d value n (depth_is h.maximum) ∙ sym size)
+    (samples_bytes d value n (depth_is h.maximum))
+
+pub texture_told : (told : Option (List ℕ)) (h : Header) → HasRasterIfTold told h → HasSamplesIfTold told h → IsTextureIfTold told h
+texture_told told h raster samples = record { each = λ b e. texture_is b h (raster.each b e) (samples.each b e) }
+
+-- rows that were read and scaled are those of the texture
+pub rows_are : (h : Header) (b xs out : List ℕ) (y count : ℕ) → HasRaster b h → AreRowsUpTo h b h.height → y + count ≤ h.height
+    → IsPiece b (row_start h y) xs → length xs ≡ count * row_length h → length out ≡ length xs
+    → AreScaledUpTo (depth_of h.maximum) h.maximum (3 * (h.width * count)) xs out → AreBytes out → out ≡ rows_of h b y count
+unfolding kept_samples
+rows_are h b xs out y count has few inside piece full kept scaling bytes =
+    let d : ℕ = depth_of h.maximum in
+    let depth : IsDepth d = depth_is h.maximum in
+    let n : ℕ = 3 * (h.width * h.height) in
+    let k : ℕ = 3 * (h.width * count) in
+    let value : ℕ → ℕ = λ i. scaled d h.maximum (sample_at d (drop h.raster b) i) in
+    let from : y * row_length h ≡ d * (3 * (h.width * y)) = rows_in_samples d h.width y in
+    let size : count * row_length h ≡ d * k = rows_in_samples d h.width count in
+    let whole : h.height * row_length h ≡ d * n = rows_in_samples d h.width h.height in
+    let end : (y + count) * row_length h ≤ h.height * row_length h = mul-le (y + count) (row_length h) h.height (row_length h) inside (omega arith) in
+    let all : h.width * (y + count) ≤ h.width * h.height = mul-le h.width (y + count) h.width h.height (omega arith) inside in
+    let long : length (sample_bytes d value n) ≡ d * n = samples_length d value n depth in
+    let room : d * k ≤ length (drop (d * (3 * (h.width * y))) (sample_bytes d value n)) =
+    omega (arith, end, from, size, whole, long, length-drop (d * (3 * (h.width * y))) (sample_bytes d value n)) in
+    same_bytes d k out (take (d * k) (drop (d * (3 * (h.width * y))) (sample_bytes d value n))) depth (kept ∙ full ∙ size)
+    (length-take-le (d * k) (drop (d * (3 * (h.width * y))) (sample_bytes d value n)) room) bytes
+    (All-take (λ s. s < 256) (d * k) (drop (d * (3 * (h.width * y))) (sample_bytes d value n))
+    (All-drop (λ s. s < 256) (d * (3 * (h.width * y))) (sample_bytes d value n) (samples_bytes d value n depth)))
+    (λ i there.
+    let read : sample_at d xs i ≡ sample_at d (drop h.raster b) (3 * (h.width * y) + i) = sample_of_rows h b xs y count i piece full there in
+    let here : 3 * (h.width * y) + i < n = omega (arith, there, all) in
+    scaling i there (subst (λ s. s ≤ h.maximum) (sym read) (few (3 * (h.width * y) + i) here))
+    ∙ ap (scaled d h.maximum) read
+    ∙ sym (samples_sample d value n (3 * (h.width * y) + i) depth
+    (λ j within. kept_few d h.maximum (sample_at d (drop h.raster b) j) depth has.header.lawful.some (few j within)) here)
+    ∙ sym (later_sample d (sample_bytes d value n) (3 * (h.width * y)) i depth)
+    ∙ sym (front_of_samples d (drop (d * (3 * (h.width * y))) (sample_bytes d value n)) k i depth there))
+    ∙ ap (λ m. take m (drop (d * (3 * (h.width * y))) (sample_bytes d value n))) (sym size)
+    ∙ ap (λ m. take (count * row_length h) (drop m (sample_bytes d value n))) (sym from)
+
+-- the raster is there where the file has as many bytes behind the header
+pub raster_told : (told : Option (List ℕ)) (n : ℕ) (front : List ℕ) (h : Header) (want have : ℕ) → IfSome told (λ b. IsFront b n front)
+    → length front ≡ min n header_limit → IsLawfulHeader most_tiled_side front h.raster h.width h.height h.maximum
+    → want ≡ texel_length (depth_of h.maximum) * (h.width * h.height) → have ≡ n - h.raster → want ≤ have → HasRasterIfTold told h
+raster_told told n front h want have is few header want_is have_is enough = record { each = λ b e. there b (subst (λ t. IfSome t (λ b. IsFront b n front)) e is) }
+  where
+    there : (b : List ℕ) → IsFront b n front → HasRaster b h
+    there b f =
+        let whole : h.height * row_length h ≡ texel_length (depth_of h.maximum) * (h.width * h.height) = grind arith in
+        record {
+          header = header_told most_tiled_side (Some b) n front f h.raster h.width h.height h.maximum header;
+          full = omega (arith, f.len_is, few, header.sized.header.within, want_is, have_is, enough, whole);
+        }
+
+-- what rows that were read say of the file, where it tells its bytes
+module _ (told : Option (List ℕ)) (h : Header) (xs : List ℕ) (y count start samples : ℕ) (e : start ≡ row_start h y)
+    (piece : IfSome told (λ b. IsPiece b start xs)) (full : length xs ≡ count * row_length h) (counted : samples ≡ 3 * (h.width * count)) where
+  pub more_told : AreUpTo (depth_of h.maximum) h.maximum samples xs → IfSome told (λ b. AreRowsUpTo h b y → AreRowsUpTo h b (y + count))
+  more_told few = found told piece
+    where
+      found : (t : Option (List ℕ)) → IfSome t (λ b. IsPiece b start xs) → IfSome t (λ b. AreRowsUpTo h b y → AreRowsUpTo h b (y + count))
+      found None p = tt
+      found (Some b) p = rows_more h b xs y count (subst (λ k. IsPiece b k xs) e p) full (λ i inside. few i (omega (arith, inside, counted)))
+
+  pub over_told : (number depth at : ℕ) → HasRasterIfTold told h → y + count ≤ h.height → depth ≡ depth_of h.maximum
+      → IsFirstOver (depth_of h.maximum) h.maximum samples xs number → at ≡ start + depth * number
+      → IfSome told (λ b. AreRowsUpTo h b y → IsSampleOver most_tiled_side b at)
+  over_told number depth at has inside ed over place = found told has piece
+    where
+      at_is : at ≡ row_start h y + depth_of h.maximum * number
+      at_is = place ∙ ap (λ k. k + depth * number) e ∙ ap (λ k. row_start h y + k * number) ed
+
+      found : (t : Option (List ℕ)) → HasRasterIfTold t h → IfSome t (λ b. IsPiece b start xs)
+          → IfSome t (λ b. AreRowsUpTo h b y → IsSampleOver most_tiled_side b at)
+      found None has p = tt
+      found (Some b) has p = rows_over h b xs y count number at (has.each b refl) (subst (λ k. IsPiece b k xs) e p) full inside
+          (record { within = omega (arith, over.within, counted); over = over.over; first = over.first }) at_is
+
+  pub scaled_told : (out : List ℕ) → HasRasterIfTold told h → HasSamplesIfTold told h → y + count ≤ h.height → length out ≡ length xs
+      → AreScaledUpTo (depth_of h.maximum) h.maximum samples xs out → AreBytes out → IfSome told (λ b. out ≡ rows_of h b y count)
+  scaled_told out has few inside kept scaling bytes = found told has few piece
+    where
+      found : (t : Option (List ℕ)) → HasRasterIfTold t h → HasSamplesIfTold t h → IfSome t (λ b. IsPiece b start xs)
+          → IfSome t (λ b. out ≡ rows_of h b y count)
+      found None has few p = tt
+      found (Some b) has few p = rows_are h b xs out y count (has.each b refl) (few.each b refl) inside (subst (λ k. IsPiece b k xs) e p) full kept
+          (λ i there. scaling i (omega (arith, there, counted))) bytes
+
+-- the samples of rows, in bytes
+pub rows_full : (h : Header) (len count samples : ℕ) → len ≡ count * row_length h → samples ≡ 3 * (h.width * count) → len ≡ depth_of h.maximum * samples
+rows_full h len count samples e f = e ∙ rows_in_samples (depth_of h.maximum) h.width count ∙ ap (λ k. depth_of h.maximum * k) (sym f)
