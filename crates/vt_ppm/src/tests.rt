@@ -1,4 +1,5 @@
 mod foreign;
+mod strips;
 
 use crate::{Image, PpmError, encode, encode_wide, read_header, read_image};
 use std::alloc::Global;
