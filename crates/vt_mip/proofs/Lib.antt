@@ -4,3 +4,5 @@ pub mod Words
 pub mod Fronts
 pub mod BlockRows
 pub mod Small
+pub mod Following
+pub mod TakenRows

@@ -81,7 +81,7 @@ halved_same s s' w h x y wide high same =
       at i j = same (clamped w i) (clamped h j) (clamped_below w i wide) (clamped_below h j high)
 
 -- halves of equal words
-halved_word_same : (d : ℕ) (t t' : ℕ → ℕ → ℕ) (w h x y : ℕ) → 1 ≤ w → 1 ≤ h → ((i j : ℕ) → i < w → j < h → t i j ≡ t' i j)
+pub halved_word_same : (d : ℕ) (t t' : ℕ → ℕ → ℕ) (w h x y : ℕ) → 1 ≤ w → 1 ≤ h → ((i j : ℕ) → i < w → j < h → t i j ≡ t' i j)
     → halved_word d t w h x y ≡ halved_word d t' w h x y
 unfolding halved_word
 halved_word_same d t t' w h x y wide high same = word_same d _ _ _ _ _ _
@@ -90,24 +90,24 @@ halved_word_same d t t' w h x y wide high same = word_same d _ _ _ _ _ _
     (halved_same (λ i j. blue_of d (t i j)) (λ i j. blue_of d (t' i j)) w h x y wide high (λ i j p q. ap (blue_of d) (same i j p q)))
 
 -- the words of an image that is the half of another one
-texel-half : (p q : ImageView) (x y : ℕ) → AreBytes p.samples → IsLawfulImage p → IsHalf p q → x < q.width → y < q.height
-    → texel_of q x y ≡ halved_word p.depth (texel_of p) p.width p.height x y
+texel-half : (p q : ImageView) (x y : ℕ) → AreBytes p.samples → IsDepth p.depth → 1 ≤ p.width → 1 ≤ p.height → IsHalf p q
+    → x < q.width → y < q.height → texel_of q x y ≡ halved_word p.depth (texel_of p) p.width p.height x y
 unfolding halved_word
-texel-half p q x y bytes lawful half wide high =
+texel-half p q x y bytes depth columns rows half wide high =
     ap (λ (d : ℕ). word_of d (sample_at d q.samples (3 * (y * q.width + x))) (sample_at d q.samples (3 * (y * q.width + x) + 1))
     (sample_at d q.samples (3 * (y * q.width + x) + 2))) half.depth
     ∙ word_same p.depth _ _ _ _ _ _
     (ap (sample_at p.depth q.samples) (let s : 3 * (y * q.width + x) ≡ 3 * (y * q.width + x) + 0 = omega arith in s)
-    ∙ sample 0 (omega arith) ∙ same 0 (λ i j. red_of p.depth (texel_of p i j)) (λ i j. red-texel p lawful.depth bytes i j))
-    (sample 1 (omega arith) ∙ same 1 (λ i j. green_of p.depth (texel_of p i j)) (λ i j. green-texel p lawful.depth bytes i j))
-    (sample 2 (omega arith) ∙ same 2 (λ i j. blue_of p.depth (texel_of p i j)) (λ i j. blue-texel p lawful.depth bytes i j)) where
+    ∙ sample 0 (omega arith) ∙ same 0 (λ i j. red_of p.depth (texel_of p i j)) (λ i j. red-texel p depth bytes i j))
+    (sample 1 (omega arith) ∙ same 1 (λ i j. green_of p.depth (texel_of p i j)) (λ i j. green-texel p depth bytes i j))
+    (sample 2 (omega arith) ∙ same 2 (λ i j. blue_of p.depth (texel_of p i j)) (λ i j. blue-texel p depth bytes i j)) where
       sample : (c : ℕ) → c < 3 → raster_sample p.depth q.samples q.width x y c ≡ halved (λ i j. raster_sample p.depth p.samples p.width i j c) p.width p.height x y
       sample c few = rw half.columns (half.raster.each x y c (let s : x < (p.width + 1) / 2 = omega (arith, half.columns) in s) high few)
 
       same : (c : ℕ) (t : ℕ → ℕ → ℕ) → ((i j : ℕ) → raster_sample p.depth p.samples p.width i j c ≡ t i j)
           → halved (λ i j. raster_sample p.depth p.samples p.width i j c) p.width p.height x y ≡ halved t p.width p.height x y
       same c t is = halved_same (λ i j. raster_sample p.depth p.samples p.width i j c) t p.width p.height x y
-          lawful.some_columns lawful.some_rows (λ i j u v. is i j)
+          columns rows (λ i j u v. is i j)
 
 -- level 0 of a picture's chain is the picture
 pub first_level : (base : ImageView) → IsLawfulImage base → IsLevel base 0 base
@@ -119,21 +119,38 @@ first_level base lawful = record {
   lawful = lawful;
 }
 
+-- an image that has the words of a level, halved, is the next level
+half_level : (base : ImageView) (k : ℕ) (p q : ImageView) → IsDepth p.depth → 1 ≤ p.width → 1 ≤ p.height → p.depth ≡ base.depth
+    → p.width ≡ side base.width k → p.height ≡ side base.height k
+    → ((x y : ℕ) → x < p.width → y < p.height → texel_of p x y ≡ chain base.depth (texel_of base) base.width base.height k x y)
+    → AreBytes p.samples → IsHalf p q → IsLawfulImage q → IsLevel base (suc k) q
+half_level base k p q depth some_columns some_rows deep columns rows same bytes half lawful =
+    let before : ℕ → ℕ → ℕ = chain base.depth (texel_of base) base.width base.height k in record {
+      depth = half.depth ∙ deep;
+      columns = half.columns ∙ ap (λ (n : ℕ). (n + 1) / 2) columns;
+      rows = half.rows ∙ ap (λ (n : ℕ). (n + 1) / 2) rows;
+      texels = λ x y wide high. texel-half p q x y bytes depth some_columns some_rows half wide high
+          ∙ halved_word_same p.depth (texel_of p) before p.width p.height x y some_columns some_rows same
+          ∙ ap (λ (n : ℕ). halved_word n before p.width p.height x y) deep
+          ∙ ap (λ (n : ℕ). halved_word base.depth before n p.height x y) columns
+          ∙ ap (λ (n : ℕ). halved_word base.depth before (side base.width k) n x y) rows
+          ∙ sym (chain-suc base.depth (texel_of base) base.width base.height k x y);
+      lawful = lawful;
+    }
+
 -- a level halved is the next level
 pub next_level : (base : ImageView) (k : ℕ) (p q : ImageView) → IsLevel base k p → AreBytes p.samples → IsHalf p q
     → IsLawfulImage q → IsLevel base (suc k) q
-next_level base k p q level bytes half lawful = let before : ℕ → ℕ → ℕ = chain base.depth (texel_of base) base.width base.height k in record {
-  depth = half.depth ∙ level.depth;
-  columns = half.columns ∙ ap (λ (n : ℕ). (n + 1) / 2) level.columns;
-  rows = half.rows ∙ ap (λ (n : ℕ). (n + 1) / 2) level.rows;
-  texels = λ x y wide high. texel-half p q x y bytes level.lawful half wide high
-      ∙ halved_word_same p.depth (texel_of p) before p.width p.height x y level.lawful.some_columns level.lawful.some_rows level.texels
-      ∙ ap (λ (n : ℕ). halved_word n before p.width p.height x y) level.depth
-      ∙ ap (λ (n : ℕ). halved_word base.depth before n p.height x y) level.columns
-      ∙ ap (λ (n : ℕ). halved_word base.depth before (side base.width k) n x y) level.rows
-      ∙ sym (chain-suc base.depth (texel_of base) base.width base.height k x y);
-  lawful = lawful;
-}
+next_level base k p q level bytes half lawful =
+    half_level base k p q level.lawful.depth level.lawful.some_columns level.lawful.some_rows level.depth level.columns level.rows level.texels
+    bytes half lawful
+
+-- a texture halved is level 1
+pub half_is_next : (base q : ImageView) → IsDepth base.depth → 1 ≤ base.width → 1 ≤ base.height → AreBytes base.samples → IsHalf base q
+    → IsLawfulImage q → IsLevel base 1 q
+half_is_next base q depth columns rows bytes half lawful =
+    half_level base 0 base q depth columns rows refl refl refl
+    (λ x y p r. sym (chain-zero base.depth (texel_of base) base.width base.height x y)) bytes half lawful
 
 -- the bytes of a level's row hold the chain's words
 pub texel_row : (base : ImageView) (k : ℕ) (p : ImageView) (y n m : ℕ) → IsLevel base k p → AreBytes p.samples → y < p.height

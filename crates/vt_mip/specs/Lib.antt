@@ -2,3 +2,4 @@ pub mod Chains
 pub mod Halves
 pub mod Levels
 pub mod Laws
+pub mod TakenRows

@@ -2,7 +2,7 @@
 
 ghost use Rattle.std.specs.Prelude.{◌≡◌, ℕ, ◌+◌, ◌-◌, ◌*◌, ◌/◌, ◌<◌, ◌≤◌, length, IfOk, OnOk};
 ghost use Rattle.vt_definitions.specs.Depths.{IsDepth, AreBytes, texel_length};
-ghost use Rattle.vt_definitions.specs.Limits.{most_read_side};
+ghost use Rattle.vt_definitions.specs.Limits.{most_tiled_side};
 ghost use Rattle.vt_ppm.specs.Image.{IsLawfulImage};
 ghost use Rattle.vt_mip.specs.Halves.{IsHalvedRow, IsHalvedRaster, IsHalf};
 
@@ -68,9 +68,9 @@ fn halve_row<const DEPTH: u32>(width: usize, top: &[u8], bottom: &[u8], out: &mu
 fn halve_raster<const DEPTH: u32>(width: usize, height: usize, source: &[u8], out: &mut [u8])
     requires depth { IsDepth DEPTH }
     requires some_columns { 1 ≤ width }
-    requires few_columns { width ≤ most_read_side }
+    requires few_columns { width ≤ most_tiled_side }
     requires some_rows { 1 ≤ height }
-    requires few_rows { height ≤ most_read_side }
+    requires few_rows { height ≤ most_tiled_side }
     requires source { length source.now ≡ texel_length DEPTH * (width * height) }
     requires out { length out.old ≡ texel_length DEPTH * ((width + 1) / 2 * ((height + 1) / 2)) }
     ensures { IsHalvedRaster DEPTH source.now width height ((height + 1) / 2) out.new }
@@ -91,12 +91,12 @@ fn halve_raster<const DEPTH: u32>(width: usize, height: usize, source: &[u8], ou
 }
 
 // Halves a raster whose samples have so many bytes.
-fn halve_at(depth: u32, width: usize, height: usize, source: &[u8], out: &mut [u8])
+pub(crate) fn halve_at(depth: u32, width: usize, height: usize, source: &[u8], out: &mut [u8])
     requires depth { IsDepth depth }
     requires some_columns { 1 ≤ width }
-    requires few_columns { width ≤ most_read_side }
+    requires few_columns { width ≤ most_tiled_side }
     requires some_rows { 1 ≤ height }
-    requires few_rows { height ≤ most_read_side }
+    requires few_rows { height ≤ most_tiled_side }
     requires source { length source.now ≡ texel_length depth * (width * height) }
     requires out { length out.old ≡ texel_length depth * ((width + 1) / 2 * ((height + 1) / 2)) }
     ensures { IsHalvedRaster depth source.now width height ((height + 1) / 2) out.new }

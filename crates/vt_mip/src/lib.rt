@@ -6,9 +6,11 @@ mod boxes;
 mod chain;
 mod halving;
 mod laws;
+mod taken_rows;
 
 pub use chain::{Chain, texture_samples_are_bytes};
-pub use laws::chain_words_are_small;
+pub use laws::{chain_words_are_small, chains_go_on};
+pub use taken_rows::Halving;
 
 #[cfg(test)]
 mod tests;

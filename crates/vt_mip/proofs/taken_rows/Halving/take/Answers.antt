@@ -1,0 +1,22 @@
+use Rattle.std.proofs.Common.{◌≡◌, ℕ, ◌+◌, ◌*◌, ◌/◌, List, ◌∙◌, subst, sym, refl}
+use Rattle.std.proofs.lemmas.List.{with_items_is}
+use Rattle.vt_definitions.specs.Depths.{texel_length}
+use Rattle.vt_outside.specs.Files.{IsPiece}
+use Rattle.vt_mip.specs.Halves.{IsHalvedRaster}
+use Rattle.vt_mip.specs.TakenRows.{HalvingView, HalvesFront}
+use Rattle.vt_mip.proofs.TakenRows.{front_grows}
+use Rattle.vt_mip.proofs.taken_rows.Halving.take.Goals as goal
+
+pub returns-clause-halves : goal.returns-clause-halves
+returns-clause-halves c = λ p before piece.
+    let h = c.self.inside in
+    let view_of : List ℕ → ℕ → HalvingView = λ l n. record { depth = h.depth; width = h.width; height = h.height; taken = n; samples = l } in
+    let Piece : HalvingView → Type 0 = λ a. IsPiece p.samples (texel_length p.depth * (p.width * a.taken)) c.args.rows.now in
+    let made = with_items_is h.samples c.halve_behind.new.samples (c.halve_behind.auto.samples ∙ c.as_mut_slice.ensures.len) in
+    let Half : ℕ → List ℕ → List ℕ → Type 0 = λ n source l. IsHalvedRaster h.depth source h.width h.height n l in
+    subst (λ (l : List ℕ). HalvesFront p (view_of l (h.taken + c.args.count))) (sym made)
+    (front_grows p (view_of h.samples.items h.taken) (view_of c.halve_behind.new.samples (h.taken + c.args.count)) c.args.count c.args.rows.now
+    refl refl refl refl
+    (λ source there half. c.halve_behind.ensures source there
+    (subst (Half ((h.taken + 1) / 2) source) (sym c.as_mut_slice.ensures.value) half))
+    (subst (HalvesFront p) (sym c.self.view_is) before) (subst Piece (sym c.self.view_is) piece))

@@ -1,0 +1,138 @@
+//! Level 1 of a texture that is not in memory, made while its rows come.
+
+ghost use Rattle.std.specs.Prelude.{◌≡◌, ℕ, ◌+◌, ◌*◌, ◌/◌, ◌%◌, ◌≤◌, ◌⊎◌, List, length, IfOk};
+ghost use Rattle.vt_definitions.specs.Depths.{IsDepth, texel_length};
+ghost use Rattle.vt_definitions.specs.Limits.{most_tiled_side};
+ghost use Rattle.vt_outside.specs.Files.{IsPiece};
+ghost use Rattle.vt_ppm.specs.Image.{ImageView, IsLawfulImage};
+ghost use Rattle.vt_mip.specs.Halves.{IsHalf, IsHalvedRaster};
+ghost use Rattle.vt_mip.specs.TakenRows.{HalvesFront};
+
+use crate::halving::halve_at;
+use std::alloc::Global;
+use std::marker::Model;
+use vt_definitions::texel_length;
+use vt_outside::NoMemory;
+use vt_ppm::Image;
+
+/// Level 1 of a texture as far as the texture's rows were taken, in order from the top.
+#[derive(Drop)]
+pub struct Halving {
+    depth: u32,
+    width: u32,
+    height: u32,
+    taken: u32,
+    samples: Vec<u8>,
+}
+
+impl Model for Halving {
+    ghost use Rattle.vt_mip.specs.TakenRows.{HalvingView, IsHalving};
+
+    ghost Value = { HalvingView };
+
+    ghost view = { λ h. record { depth = h.depth; width = h.width; height = h.height; taken = h.taken; samples = h.samples.items } };
+
+    ghost invariant = { λ h. IsHalving (record { depth = h.depth; width = h.width; height = h.height; taken = h.taken; samples = h.samples.items }) };
+}
+
+// Halves so many rows that follow those that were taken, and writes what they make behind the rows of level 1 that are made.
+fn halve_behind(
+    depth: u32,
+    width: usize,
+    height: usize,
+    taken: usize,
+    rows: &[u8],
+    count: usize,
+    samples: &mut [u8],
+)
+    requires depth { IsDepth depth }
+    requires some_columns { 1 ≤ width }
+    requires few_columns { width ≤ most_tiled_side }
+    requires few_rows { height ≤ most_tiled_side }
+    requires some { 1 ≤ count }
+    requires inside { taken + count ≤ height }
+    requires even { taken % 2 ≡ 0 }
+    requires pairs { (count % 2 ≡ 0) ⊎ (taken + count ≡ height) }
+    requires whole { length rows.now ≡ texel_length depth * (width * count) }
+    requires room { length samples.old ≡ texel_length depth * ((width + 1) / 2 * ((height + 1) / 2)) }
+    ensures { (source : List ℕ) → IsPiece source (texel_length depth * (width * taken)) rows.now
+        → IsHalvedRaster depth source width height ((taken + 1) / 2) samples.old
+        → IsHalvedRaster depth source width height ((taken + count + 1) / 2) samples.new }
+{
+    let half_row = texel_length(depth) * ((width + 1) / 2);
+    let from = half_row * (taken / 2);
+    let made = half_row * ((count + 1) / 2);
+    halve_at(depth, width, count, rows, &mut samples[from..from + made]);
+}
+
+impl Halving {
+    /// Makes room for level 1 of a texture of a depth, 1 or 2, and of sides from 1 to the largest of one that is cut into tiles.
+    /// No row is taken yet. Refused only where memory is.
+    pub fn new(alloc: Global, depth: u32, width: u32, height: u32) -> Result<Halving, NoMemory>
+        requires depth { IsDepth depth }
+        requires some_columns { 1 ≤ width }
+        requires few_columns { width ≤ most_tiled_side }
+        requires some_rows { 1 ≤ height }
+        requires few_rows { height ≤ most_tiled_side }
+        ensures none { IfOk result (λ h. h.taken ≡ 0) }
+        ensures depth { IfOk result (λ h. h.depth ≡ depth) }
+        ensures width { IfOk result (λ h. h.width ≡ width) }
+        ensures height { IfOk result (λ h. h.height ≡ height) }
+        ensures begun { IfOk result (λ h. (p : ImageView) → p.depth ≡ depth → p.width ≡ width → p.height ≡ height → HalvesFront p h) }
+    {
+        let half_width = (width as usize + 1) / 2;
+        let half_height = (height as usize + 1) / 2;
+        let size = texel_length(depth) * (half_width * half_height);
+        let samples = vec![in alloc; 0u8; size]?;
+        Ok(Halving {
+            depth,
+            width,
+            height,
+            taken: 0,
+            samples,
+        })
+    }
+
+    /// Takes so many rows of the texture's samples, those behind the rows that were taken. Two rows make one of level 1, and an odd
+    /// last row counts twice: so an even number is taken at a time, but at the end.
+    pub fn take(&mut self, rows: &[u8], count: u32)
+        requires some { 1 ≤ count }
+        requires inside { self.old.taken + count ≤ self.old.height }
+        requires even { self.old.taken % 2 ≡ 0 }
+        requires pairs { (count % 2 ≡ 0) ⊎ (self.old.taken + count ≡ self.old.height) }
+        requires whole { length rows.now ≡ texel_length self.old.depth * (self.old.width * count) }
+        ensures taken { self.new.taken ≡ self.old.taken + count }
+        ensures depth { self.new.depth ≡ self.old.depth }
+        ensures width { self.new.width ≡ self.old.width }
+        ensures height { self.new.height ≡ self.old.height }
+        ensures halves { (p : ImageView) → HalvesFront p self.old
+            → IsPiece p.samples (texel_length p.depth * (p.width * self.old.taken)) rows.now → HalvesFront p self.new }
+    {
+        halve_behind(
+            self.depth,
+            self.width as usize,
+            self.height as usize,
+            self.taken as usize,
+            rows,
+            count as usize,
+            self.samples.as_mut_slice(),
+        );
+        self.taken += count;
+    }
+
+    /// Level 1, where all rows of the texture were taken.
+    pub fn finish(self) -> Image
+        requires { self.taken ≡ self.height }
+        ensures half { (p : ImageView) → HalvesFront p self → IsHalf p result }
+        ensures lawful { IsLawfulImage result }
+    {
+        let Halving {
+            depth,
+            width,
+            height,
+            taken: _,
+            samples,
+        } = self;
+        Image::new(depth, (width + 1) / 2, (height + 1) / 2, samples)
+    }
+}
