@@ -90,7 +90,7 @@ front_count levels t some front fits =
     omega (arith, front.some, count.some)
 
 -- a side of at most 2 ^ k * b is at most b after k halvings
-side_scaled : (w k b : ℕ) → w ≤ 2 ^ k * b → side w k ≤ b
+pub side_scaled : (w k b : ℕ) → w ≤ 2 ^ k * b → side w k ≤ b
 side_scaled w zero b small = omega arith
 side_scaled w (suc k) b small = omega (
   arith,

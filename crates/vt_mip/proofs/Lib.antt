@@ -6,3 +6,6 @@ pub mod BlockRows
 pub mod Small
 pub mod Following
 pub mod TakenRows
+pub mod StripRows
+pub mod StripReads
+pub mod StripRoom

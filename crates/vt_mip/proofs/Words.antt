@@ -23,7 +23,7 @@ unfolding chain
 chain-suc d t w h k x y = refl
 
 -- the samples of a word are those that it was made of
-red-word : (d r g b : ℕ) → IsDepth d → r < sample_base d → g < sample_base d → b < sample_base d → red_of d (word_of d r g b) ≡ r
+pub red-word : (d r g b : ℕ) → IsDepth d → r < sample_base d → g < sample_base d → b < sample_base d → red_of d (word_of d r g b) ≡ r
 red-word d r g b (inl one) = rw one (narrow r g b) where
   narrow : (r g b : ℕ) → r < 256 → g < 256 → b < 256 → red_of 1 (word_of 1 r g b) ≡ r
   narrow r g b p q s = omega (arith, p, q, s)
@@ -31,7 +31,7 @@ red-word d r g b (inr two) = rw two (wide r g b) where
   wide : (r g b : ℕ) → r < 65536 → g < 65536 → b < 65536 → red_of 2 (word_of 2 r g b) ≡ r
   wide r g b p q s = omega (arith, p, q, s)
 
-green-word : (d r g b : ℕ) → IsDepth d → r < sample_base d → g < sample_base d → b < sample_base d → green_of d (word_of d r g b) ≡ g
+pub green-word : (d r g b : ℕ) → IsDepth d → r < sample_base d → g < sample_base d → b < sample_base d → green_of d (word_of d r g b) ≡ g
 green-word d r g b (inl one) = rw one (narrow r g b) where
   narrow : (r g b : ℕ) → r < 256 → g < 256 → b < 256 → green_of 1 (word_of 1 r g b) ≡ g
   narrow r g b p q s = omega (arith, p, q, s)
@@ -39,7 +39,7 @@ green-word d r g b (inr two) = rw two (wide r g b) where
   wide : (r g b : ℕ) → r < 65536 → g < 65536 → b < 65536 → green_of 2 (word_of 2 r g b) ≡ g
   wide r g b p q s = omega (arith, p, q, s)
 
-blue-word : (d r g b : ℕ) → IsDepth d → r < sample_base d → g < sample_base d → b < sample_base d → blue_of d (word_of d r g b) ≡ b
+pub blue-word : (d r g b : ℕ) → IsDepth d → r < sample_base d → g < sample_base d → b < sample_base d → blue_of d (word_of d r g b) ≡ b
 blue-word d r g b (inl one) = rw one (narrow r g b) where
   narrow : (r g b : ℕ) → r < 256 → g < 256 → b < 256 → blue_of 1 (word_of 1 r g b) ≡ b
   narrow r g b p q s = omega (arith, p, q, s)
@@ -47,7 +47,7 @@ blue-word d r g b (inr two) = rw two (wide r g b) where
   wide : (r g b : ℕ) → r < 65536 → g < 65536 → b < 65536 → blue_of 2 (word_of 2 r g b) ≡ b
   wide r g b p q s = omega (arith, p, q, s)
 
-word_same : (d r g b r' g' b' : ℕ) → r ≡ r' → g ≡ g' → b ≡ b' → word_of d r g b ≡ word_of d r' g' b'
+pub word_same : (d r g b r' g' b' : ℕ) → r ≡ r' → g ≡ g' → b ≡ b' → word_of d r g b ≡ word_of d r' g' b'
 word_same d r g b r' g' b' p q s = ap (λ (n : ℕ). word_of d n g b) p ∙ ap (λ (n : ℕ). word_of d r' n b) q ∙ ap (λ (n : ℕ). word_of d r' g' n) s
 
 -- the samples of a picture are those of its words

@@ -3,3 +3,4 @@ pub mod Halves
 pub mod Levels
 pub mod Laws
 pub mod TakenRows
+pub mod StripChains

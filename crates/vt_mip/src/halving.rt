@@ -125,3 +125,21 @@ pub(crate) fn halved_image(alloc: Global, image: &Image) -> Result<Image, NoMemo
     halve_at(depth, width, height, image.samples(), &mut samples);
     Ok(Image::new(depth, half_width as u32, half_height as u32, samples))
 }
+
+/// Halves two rows whose samples have so many bytes: an odd last column counts twice.
+pub(crate) fn halve_rows(depth: u32, width: usize, top: &[u8], bottom: &[u8], out: &mut [u8])
+    requires depth { IsDepth depth }
+    requires top { length top.now ≡ texel_length depth * width }
+    requires bottom { length bottom.now ≡ texel_length depth * width }
+    requires out { length out.old ≡ texel_length depth * ((width + 1) / 2) }
+    ensures row { IsHalvedRow depth top.now bottom.now width ((width + 1) / 2) out.new }
+    ensures values { AreBytes out.new }
+    ensures above { AreBytes top.now }
+    ensures below { AreBytes bottom.now }
+{
+    if depth == 1 {
+        halve_row::<1>(width, top, bottom, out);
+    } else {
+        halve_row::<2>(width, top, bottom, out);
+    }
+}

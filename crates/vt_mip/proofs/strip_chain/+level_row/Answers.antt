@@ -1,0 +1,229 @@
+use Rattle.std.proofs.Common.{◌≡◌, ℕ, suc, ◌+◌, ◌-◌, ◌*◌, ◌/◌, ◌<◌, ◌≤◌, length, refl, sym, ap, ◌∙◌, subst, arith, rules}
+use Rattle.std.proofs.lemmas.Result.{on_ok_weaker}
+use Rattle.vt_outside.proofs.Untold.{OnErr-all}
+use Rattle.vt_definitions.specs.Depths.{texel_length}
+use Rattle.vt_definitions.specs.Sides.{side}
+use Rattle.vt_ppm.specs.declared.header.Header.{Header}
+use Rattle.vt_mip.proofs.StripRows.{first_words, one_row, two_rows}
+use Rattle.vt_mip.proofs.StripReads.{upper_failed, alone_read, both_read, second_failed, second_spare, both_spare}
+use Rattle.vt_mip.specs.StripChains.{room_length, level_row_length}
+use Rattle.vt_mip.proofs.StripRoom.{is_below, half_length}
+use Rattle.vt_mip.proofs.strip_chain.+level_row.Goals as goal
+
+pub returns-then-level-eq0-clause-words : goal.returns-then-level-eq0-clause-words
+returns-then-level-eq0-clause-words g t c = on_ok_weaker c.row.result
+    (first_words (g.F.File.bytes c.args.reader.now.file) c.args.reader.now.header c.args.level c.args.y c.row.new.out (omega arith))
+    c.row.ensures.row
+
+pub split_at_mut-rows-requires : goal.split_at_mut-rows-requires
+split_at_mut-rows-requires g t c =
+    let b = is_below c.args.reader.now.header c.header-texture.result.now c.args.level c.args.y c.depth-depth.result c.side_at-width.result
+    c.side_at-height.result c.texel_length.result (length c.args.room.now) c.header-texture.ensures.value (omega arith)
+    c.depth-depth.ensures.value c.texel_length.ensures.value c.side_at-width.ensures.value c.side_at-height.ensures.value
+    c.side_at-height.ensures.few c.header-texture.ensures.limits c.requires.room c.requires.row in
+    omega (arith, b.room)
+
+pub overflow_mul-y : goal.overflow_mul-y
+overflow_mul-y g t c =
+    let b = is_below c.args.reader.now.header c.header-texture.result.now c.args.level c.args.y c.depth-depth.result c.side_at-width.result
+    c.side_at-height.result c.texel_length.result (length c.args.room.now) c.header-texture.ensures.value (omega arith)
+    c.depth-depth.ensures.value c.texel_length.ensures.value c.side_at-width.ensures.value c.side_at-height.ensures.value
+    c.side_at-height.ensures.few c.header-texture.ensures.limits c.requires.room c.requires.row in
+    omega (arith, b.inside, b.short)
+
+pub overflow_mul-y-2 : goal.overflow_mul-y-2
+overflow_mul-y-2 g t c =
+    let b = is_below c.args.reader.now.header c.header-texture.result.now c.args.level c.args.y c.depth-depth.result c.side_at-width.result
+    c.side_at-height.result c.texel_length.result (length c.args.room.now) c.header-texture.ensures.value (omega arith)
+    c.depth-depth.ensures.value c.texel_length.ensures.value c.side_at-width.ensures.value c.side_at-height.ensures.value
+    c.side_at-height.ensures.few c.header-texture.ensures.limits c.requires.room c.requires.row in
+    omega (arith, b.inside, b.short)
+
+pub overflow_add-y : goal.overflow_add-y
+overflow_add-y g t c =
+    let b = is_below c.args.reader.now.header c.header-texture.result.now c.args.level c.args.y c.depth-depth.result c.side_at-width.result
+    c.side_at-height.result c.texel_length.result (length c.args.room.now) c.header-texture.ensures.value (omega arith)
+    c.depth-depth.ensures.value c.texel_length.ensures.value c.side_at-width.ensures.value c.side_at-height.ensures.value
+    c.side_at-height.ensures.few c.header-texture.ensures.limits c.requires.room c.requires.row in
+    omega (arith, b.inside, b.short)
+
+pub overflow_mul-y-3 : goal.overflow_mul-y-3
+overflow_mul-y-3 g t c =
+    let b = is_below c.args.reader.now.header c.header-texture.result.now c.args.level c.args.y c.depth-depth.result c.side_at-width.result
+    c.side_at-height.result c.texel_length.result (length c.args.room.now) c.header-texture.ensures.value (omega arith)
+    c.depth-depth.ensures.value c.texel_length.ensures.value c.side_at-width.ensures.value c.side_at-height.ensures.value
+    c.side_at-height.ensures.few c.header-texture.ensures.limits c.requires.room c.requires.row in
+    omega (arith, b.inside, b.short)
+
+pub overflow_add-y-2 : goal.overflow_add-y-2
+overflow_add-y-2 g t c =
+    let b = is_below c.args.reader.now.header c.header-texture.result.now c.args.level c.args.y c.depth-depth.result c.side_at-width.result
+    c.side_at-height.result c.texel_length.result (length c.args.room.now) c.header-texture.ensures.value (omega arith)
+    c.depth-depth.ensures.value c.texel_length.ensures.value c.side_at-width.ensures.value c.side_at-height.ensures.value
+    c.side_at-height.ensures.few c.header-texture.ensures.limits c.requires.room c.requires.row in
+    omega (arith, b.inside, b.short)
+
+pub level_row-requires : goal.level_row-requires
+level_row-requires g t c =
+    let b = is_below c.args.reader.now.header c.header-texture.result.now c.args.level c.args.y c.depth-depth.result c.side_at-width.result
+    c.side_at-height.result c.texel_length.result (length c.args.room.now) c.header-texture.ensures.value (omega arith)
+    c.depth-depth.ensures.value c.texel_length.ensures.value c.side_at-width.ensures.value c.side_at-height.ensures.value
+    c.side_at-height.ensures.few c.header-texture.ensures.limits c.requires.room c.requires.row in
+    λ κs lives. (omega arith, (search rules, (c.requires.checked, (b.upper.inside, (omega (arith, b.upper.fewer), (omega (arith, b.room), omega (arith, b.size)))))))
+
+pub returns-in_err-level_row-clause-tried : goal.returns-in_err-level_row-clause-tried
+returns-in_err-level_row-clause-tried g t c =
+    let b = is_below c.args.reader.now.header c.header-texture.result.now c.args.level c.args.y c.depth-depth.result c.side_at-width.result
+    c.side_at-height.result c.texel_length.result (length c.args.room.now) c.header-texture.ensures.value (omega arith)
+    c.depth-depth.ensures.value c.texel_length.ensures.value c.side_at-width.ensures.value c.side_at-height.ensures.value
+    c.side_at-height.ensures.few c.header-texture.ensures.limits c.requires.room c.requires.row in
+    OnErr-all _ _ (upper_failed c.args.reader.now.header (c.args.level - 1) c.args.level c.args.y (g.F.File.asked c.args.reader.now.file)
+    (g.F.File.asked c.level_row.new.reader.file) b.level_is c.requires.row c.in_err-level_row.ensures.tried)
+
+pub returns-in_err-level_row-clause-spare : goal.returns-in_err-level_row-clause-spare
+returns-in_err-level_row-clause-spare g t c =
+    let b = is_below c.args.reader.now.header c.header-texture.result.now c.args.level c.args.y c.depth-depth.result c.side_at-width.result
+    c.side_at-height.result c.texel_length.result (length c.args.room.now) c.header-texture.ensures.value (omega arith)
+    c.depth-depth.ensures.value c.texel_length.ensures.value c.side_at-width.ensures.value c.side_at-height.ensures.value
+    c.side_at-height.ensures.few c.header-texture.ensures.limits c.requires.room c.requires.row in
+    omega (arith, c.level_row.ensures.spare, b.upper.fewer)
+
+pub halve_rows-requires-clause-out : goal.halve_rows-requires-clause-out
+halve_rows-requires-clause-out g t c =
+    let b = is_below c.args.reader.now.header c.header-texture.result.now c.args.level c.args.y c.depth-depth.result c.side_at-width.result
+    c.side_at-height.result c.texel_length.result (length c.args.room.now) c.header-texture.ensures.value (omega arith)
+    c.depth-depth.ensures.value c.texel_length.ensures.value c.side_at-width.ensures.value c.side_at-height.ensures.value
+    c.side_at-height.ensures.few c.header-texture.ensures.limits c.requires.room c.requires.row in
+    half_length c.args.reader.now.header c.args.level (c.args.level - 1) c.depth-depth.result c.side_at-width.result (length c.args.out.now)
+    b.level_is c.depth-depth.ensures.value b.columns c.requires.size
+
+pub halve_rows-requires-2-clause-out : goal.halve_rows-requires-2-clause-out
+halve_rows-requires-2-clause-out g t c =
+    let b = is_below c.args.reader.now.header c.header-texture.result.now c.args.level c.args.y c.depth-depth.result c.side_at-width.result
+    c.side_at-height.result c.texel_length.result (length c.args.room.now) c.header-texture.ensures.value (omega arith)
+    c.depth-depth.ensures.value c.texel_length.ensures.value c.side_at-width.ensures.value c.side_at-height.ensures.value
+    c.side_at-height.ensures.few c.header-texture.ensures.limits c.requires.room c.requires.row in
+    half_length c.args.reader.now.header c.args.level (c.args.level - 1) c.depth-depth.result c.side_at-width.result (length c.args.out.now)
+    b.level_is c.depth-depth.ensures.value b.columns c.requires.size
+
+pub returns-then-y-height-clause-words : goal.returns-then-y-height-clause-words
+returns-then-y-height-clause-words g t c =
+    let b = is_below c.args.reader.now.header c.header-texture.result.now c.args.level c.args.y c.depth-depth.result c.side_at-width.result
+    c.side_at-height.result c.texel_length.result (length c.args.room.now) c.header-texture.ensures.value (omega arith)
+    c.depth-depth.ensures.value c.texel_length.ensures.value c.side_at-width.ensures.value c.side_at-height.ensures.value
+    c.side_at-height.ensures.few c.header-texture.ensures.limits c.requires.room c.requires.row in
+    one_row (g.F.File.bytes c.args.reader.now.file) c.args.reader.now.header c.depth-depth.result c.side_at-width.result (c.args.level - 1) c.args.level
+    c.args.y c.level_row.new.out c.halve_rows.new.out b.level_is c.depth-depth.ensures.value b.columns c.depth-depth.ensures.depth
+    c.header-texture.ensures.limits.sides.some_columns (omega (arith, b.rows)) c.halve_rows.ensures.above
+    c.in_ok-level_row.ensures.words c.halve_rows.ensures.row
+
+pub returns-then-y-height-clause-read : goal.returns-then-y-height-clause-read
+returns-then-y-height-clause-read g t c =
+    let b = is_below c.args.reader.now.header c.header-texture.result.now c.args.level c.args.y c.depth-depth.result c.side_at-width.result
+    c.side_at-height.result c.texel_length.result (length c.args.room.now) c.header-texture.ensures.value (omega arith)
+    c.depth-depth.ensures.value c.texel_length.ensures.value c.side_at-width.ensures.value c.side_at-height.ensures.value
+    c.side_at-height.ensures.few c.header-texture.ensures.limits c.requires.room c.requires.row in
+    alone_read c.args.reader.now.header (c.args.level - 1) c.args.level c.args.y (g.F.File.asked c.args.reader.now.file)
+    (g.F.File.asked c.level_row.new.reader.file) b.level_is c.requires.row (omega (arith, b.rows)) c.in_ok-level_row.ensures.read
+
+pub returns-then-y-height-clause-spare : goal.returns-then-y-height-clause-spare
+returns-then-y-height-clause-spare g t c =
+    let b = is_below c.args.reader.now.header c.header-texture.result.now c.args.level c.args.y c.depth-depth.result c.side_at-width.result
+    c.side_at-height.result c.texel_length.result (length c.args.room.now) c.header-texture.ensures.value (omega arith)
+    c.depth-depth.ensures.value c.texel_length.ensures.value c.side_at-width.ensures.value c.side_at-height.ensures.value
+    c.side_at-height.ensures.few c.header-texture.ensures.limits c.requires.room c.requires.row in
+    omega (arith, c.level_row.ensures.spare, b.upper.fewer)
+
+pub level_row-requires-2 : goal.level_row-requires-2
+level_row-requires-2 g t c =
+    let b = is_below c.args.reader.now.header c.header-texture.result.now c.args.level c.args.y c.depth-depth.result c.side_at-width.result
+    c.side_at-height.result c.texel_length.result (length c.args.room.now) c.header-texture.ensures.value (omega arith)
+    c.depth-depth.ensures.value c.texel_length.ensures.value c.side_at-width.ensures.value c.side_at-height.ensures.value
+    c.side_at-height.ensures.few c.header-texture.ensures.limits c.requires.room c.requires.row in
+    let k : ℕ = c.args.level - 1 in
+    let same = sym c.level_row.ensures.header in
+    let Row : Header → Type 0 = λ z. 2 * c.args.y + 1 < side z.height k in
+    let Room : Header → Type 0 = λ z. room_length z k ≤ length c.level_row.new.room in
+    let Size : Header → Type 0 = λ z. length c.split_at_mut-top.result.1.now ≡ level_row_length z k in
+    λ κs lives. (
+      omega arith,
+      (
+        search rules,
+        (
+          c.level_row.ensures.kept,
+          (
+            subst Row same (omega (arith, b.rows, b.inside)),
+            (
+              second_spare c.args.reader.now.header c.level_row.new.reader.header (c.args.level - 1) c.args.level c.args.y (g.F.File.asked c.args.reader.now.file)
+                  (g.F.File.asked c.level_row.new.reader.file) (g.F.File.asked c.level_row.new.reader.file) b.level_is c.requires.row (omega (arith, b.rows, b.inside)) c.level_row.ensures.header
+                  c.in_ok-level_row.ensures.read
+                  (g.F.File.spare c.args.reader.now.file) (g.F.File.spare c.level_row.new.reader.file) c.requires.spare c.level_row.ensures.spare,
+              (subst Room same (omega (arith, b.room)), subst Size same (omega (arith, b.size))),
+            ),
+          ),
+        ),
+      ),
+    )
+
+pub returns-in_err-level_row-2-clause-tried : goal.returns-in_err-level_row-2-clause-tried
+returns-in_err-level_row-2-clause-tried g t c =
+    let b = is_below c.args.reader.now.header c.header-texture.result.now c.args.level c.args.y c.depth-depth.result c.side_at-width.result
+    c.side_at-height.result c.texel_length.result (length c.args.room.now) c.header-texture.ensures.value (omega arith)
+    c.depth-depth.ensures.value c.texel_length.ensures.value c.side_at-width.ensures.value c.side_at-height.ensures.value
+    c.side_at-height.ensures.few c.header-texture.ensures.limits c.requires.room c.requires.row in
+    OnErr-all _ _ (second_failed c.args.reader.now.header c.level_row.new.reader.header (c.args.level - 1) c.args.level c.args.y (g.F.File.asked c.args.reader.now.file)
+    (g.F.File.asked c.level_row.new.reader.file)
+    (g.F.File.asked c.level_row-2.new.reader.file) b.level_is c.requires.row (omega (arith, b.rows, b.inside)) c.level_row.ensures.header
+    c.in_ok-level_row.ensures.read
+    c.in_err-level_row-2.ensures.tried)
+
+pub returns-in_err-level_row-2-clause-spare : goal.returns-in_err-level_row-2-clause-spare
+returns-in_err-level_row-2-clause-spare g t c =
+    let b = is_below c.args.reader.now.header c.header-texture.result.now c.args.level c.args.y c.depth-depth.result c.side_at-width.result
+    c.side_at-height.result c.texel_length.result (length c.args.room.now) c.header-texture.ensures.value (omega arith)
+    c.depth-depth.ensures.value c.texel_length.ensures.value c.side_at-width.ensures.value c.side_at-height.ensures.value
+    c.side_at-height.ensures.few c.header-texture.ensures.limits c.requires.room c.requires.row in
+    both_spare c.args.reader.now.header c.level_row.new.reader.header (c.args.level - 1) c.args.level c.args.y (g.F.File.asked c.args.reader.now.file)
+    (g.F.File.asked c.level_row.new.reader.file)
+    (g.F.File.asked c.level_row-2.new.reader.file) b.level_is c.requires.row (omega (arith, b.rows, b.inside)) c.level_row.ensures.header
+    c.in_ok-level_row.ensures.read
+    (g.F.File.spare c.args.reader.now.file) (g.F.File.spare c.level_row.new.reader.file) (g.F.File.spare c.level_row-2.new.reader.file)
+    c.level_row.ensures.spare c.level_row-2.ensures.spare
+
+pub returns-clause-spare : goal.returns-clause-spare
+returns-clause-spare g t c =
+    let b = is_below c.args.reader.now.header c.header-texture.result.now c.args.level c.args.y c.depth-depth.result c.side_at-width.result
+    c.side_at-height.result c.texel_length.result (length c.args.room.now) c.header-texture.ensures.value (omega arith)
+    c.depth-depth.ensures.value c.texel_length.ensures.value c.side_at-width.ensures.value c.side_at-height.ensures.value
+    c.side_at-height.ensures.few c.header-texture.ensures.limits c.requires.room c.requires.row in
+    both_spare c.args.reader.now.header c.level_row.new.reader.header (c.args.level - 1) c.args.level c.args.y (g.F.File.asked c.args.reader.now.file)
+    (g.F.File.asked c.level_row.new.reader.file)
+    (g.F.File.asked c.level_row-2.new.reader.file) b.level_is c.requires.row (omega (arith, b.rows, b.inside)) c.level_row.ensures.header
+    c.in_ok-level_row.ensures.read
+    (g.F.File.spare c.args.reader.now.file) (g.F.File.spare c.level_row.new.reader.file) (g.F.File.spare c.level_row-2.new.reader.file)
+    c.level_row.ensures.spare c.level_row-2.ensures.spare
+
+pub returns-clause-read : goal.returns-clause-read
+returns-clause-read g t c =
+    let b = is_below c.args.reader.now.header c.header-texture.result.now c.args.level c.args.y c.depth-depth.result c.side_at-width.result
+    c.side_at-height.result c.texel_length.result (length c.args.room.now) c.header-texture.ensures.value (omega arith)
+    c.depth-depth.ensures.value c.texel_length.ensures.value c.side_at-width.ensures.value c.side_at-height.ensures.value
+    c.side_at-height.ensures.few c.header-texture.ensures.limits c.requires.room c.requires.row in
+    both_read c.args.reader.now.header c.level_row.new.reader.header (c.args.level - 1) c.args.level c.args.y (g.F.File.asked c.args.reader.now.file)
+    (g.F.File.asked c.level_row.new.reader.file)
+    (g.F.File.asked c.level_row-2.new.reader.file) b.level_is c.requires.row (omega (arith, b.rows, b.inside)) c.level_row.ensures.header
+    c.in_ok-level_row.ensures.read
+    c.in_ok-level_row-2.ensures.read
+
+pub returns-clause-words : goal.returns-clause-words
+returns-clause-words g t c =
+    let b = is_below c.args.reader.now.header c.header-texture.result.now c.args.level c.args.y c.depth-depth.result c.side_at-width.result
+    c.side_at-height.result c.texel_length.result (length c.args.room.now) c.header-texture.ensures.value (omega arith)
+    c.depth-depth.ensures.value c.texel_length.ensures.value c.side_at-width.ensures.value c.side_at-height.ensures.value
+    c.side_at-height.ensures.few c.header-texture.ensures.limits c.requires.room c.requires.row in
+    two_rows (g.F.File.bytes c.args.reader.now.file) (g.F.File.bytes c.level_row.new.reader.file) c.args.reader.now.header
+    c.level_row.new.reader.header c.depth-depth.result c.side_at-width.result (c.args.level - 1) c.args.level c.args.y c.level_row.new.out
+    c.level_row-2.new.out c.halve_rows-2.new.out c.level_row.ensures.bytes c.level_row.ensures.header b.level_is
+    c.depth-depth.ensures.value b.columns c.depth-depth.ensures.depth c.header-texture.ensures.limits.sides.some_columns
+    (omega (arith, b.rows, b.inside)) c.halve_rows-2.ensures.above c.halve_rows-2.ensures.below c.in_ok-level_row.ensures.words
+    c.in_ok-level_row-2.ensures.words c.halve_rows-2.ensures.row
