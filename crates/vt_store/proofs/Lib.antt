@@ -10,3 +10,5 @@ pub mod Tiles
 pub mod WideStores
 pub mod Widening
 pub mod Writing
+pub mod TileRows
+pub mod AddedPages

@@ -138,7 +138,7 @@ header_front told s g n f0 f1 eg (inr part) = inr (record {
   part = λ b t. front_of_first (header_bytes s 2) (tiles_bytes s 2 (widened (stored b)) 0 (pages_of s)) part.0;
 })
 
-named : (n : List ℕ) → bytes_eq n n ≡ true
+pub named : (n : List ℕ) → bytes_eq n n ≡ true
 named n = (bytes_eq-Decides n n).1 refl
 
 -- a name that holds bytes is there

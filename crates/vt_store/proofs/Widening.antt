@@ -16,8 +16,8 @@ use Rattle.vt_pages.proofs.Counts.{lt_up}
 use Rattle.vt_pages.proofs.Names.{are_inverse}
 use Rattle.vt_store.specs.Format.{header_length, tile_area, tile_length, tile_start, texel_number, stored}
 use Rattle.vt_store.specs.StoreViews.{IsStore}
-use Rattle.vt_store.specs.TileLines.{IsSpan, HasLines, piece_at, tile_piece, tile_word}
-use Rattle.vt_store.specs.Widening.{IsWideLine, HasWideLines, doubled, widened_word, widened, columns_inside, rows_inside}
+use Rattle.vt_store.specs.TileLines.{IsSpan, HasLines, piece_at, tile_piece, tile_word, columns_inside, rows_inside}
+use Rattle.vt_store.specs.Widening.{IsWideLine, HasWideLines, doubled, widened_word, widened}
 use Rattle.vt_store.proofs.Lines.{up_to, tile_room}
 use Rattle.vt_store.proofs.Pieces.{bytes_moved, bytes_of_take, bytes_of_drop, piece_end, piece_kept, piece_written, word_same}
 use Rattle.vt_store.proofs.Stored.{texel_of_piece}
@@ -48,7 +48,7 @@ wide_line texels line out columns count full span first second = record {
 }
 
 -- a texel of a slice of texels
-piece_of_slice : (z : ℕ) (xs : List ℕ) (first m a i : ℕ) → a ≡ z * first → z * i + z ≤ m
+pub piece_of_slice : (z : ℕ) (xs : List ℕ) (first m a i : ℕ) → a ≡ z * first → z * i + z ≤ m
     → piece_at z (take m (drop a xs)) i ≡ piece_at z xs (first + i)
 piece_of_slice z xs first m a i at room =
     bytes_of_take (drop a xs) m (z * i) z room ∙ bytes_of_drop xs a (z * i) z
@@ -121,7 +121,7 @@ stored_word s b narrow first count t x y n store piece full tile e across down =
     (texel_of_piece b narrow (tile_area s) (texel_length 1) first count j piece full inside)))
 
 -- a place of a level that is clamped is that of a tile's clamped place
-clamped_place : (c t w x : ℕ) → c * t < w → x < t → min (c * t + x) (w - 1) ≡ c * t + min x (min t (w - c * t) - 1)
+pub clamped_place : (c t w x : ℕ) → c * t < w → x < t → min (c * t + x) (w - 1) ≡ c * t + min x (min t (w - c * t) - 1)
 clamped_place c t w x begins inside = omega arith
 
 -- a texel of a page's tile, by the texels of some tiles that were read

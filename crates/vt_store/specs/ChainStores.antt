@@ -1,9 +1,13 @@
 -- The store of a mip chain.
-use Rattle.std.specs.Prelude.{◌≡◌, ℕ, List}
+use Rattle.std.specs.Prelude.{◌≡◌, ℕ, ◌+◌, ◌-◌, ◌≤◌, List, ◌++◌, take, Option, option_map}
+use Rattle.vt_definitions.specs.Sides.{side}
+use Rattle.vt_definitions.specs.Texels.{Source}
+use Rattle.vt_outside.specs.Files.{Files, with_bytes}
 use Rattle.vt_ppm.specs.Image.{ImageView, texel_of}
-use Rattle.vt_mip.specs.Chains.{ChainView, chain, chain_texel}
+use Rattle.vt_mip.specs.Chains.{ChainView, chain, chain_texel, chain_levels, chain_width, chain_height}
 use Rattle.vt_pages.specs.Shape.{Shape, shape_of}
-use Rattle.vt_store.specs.Format.{store_bytes}
+use Rattle.vt_pages.specs.Pages.{levels_of, pages_of}
+use Rattle.vt_store.specs.Format.{store_bytes, tiles_bytes}
 
 -- the chain has the sides and the tile side of the pages
 pub record HasShape (chain : ChainView) (shape : Shape) : Type 0 where
@@ -18,3 +22,24 @@ abbrev pub texture_store : ImageView → ℕ → List ℕ
 texture_store texture tile =
     store_bytes (shape_of texture.width texture.height tile) texture.depth
     (chain texture.depth (texel_of texture) texture.width texture.height)
+
+-- the chain's levels are those of the pages but the first ones, so many
+pub record HasLevels (chain : ChainView) (shape : Shape) (skipped : ℕ) : Type 0 where
+  pub count : levels_of shape ≡ chain_levels chain + skipped
+  pub columns : (k : ℕ) → side shape.width (k + skipped) ≡ chain_width chain k
+  pub rows : (k : ℕ) → side shape.height (k + skipped) ≡ chain_height chain k
+
+-- the words of a chain that begins at a level
+abbrev pub level_source : ChainView → ℕ → Source
+level_source chain skipped k = chain_texel chain (k - skipped)
+
+-- behind whatever bytes the name held, it came to hold the tiles of the pages from one on to another
+pub record AddsPages (s : Shape) (d : ℕ) (src : Source) (first end : ℕ) (name : List ℕ) (old new : Option Files) : Type 0 where
+  pub held : (before : Option Files) (done : List ℕ) → old ≡ option_map (with_bytes name done) before
+      → new ≡ option_map (with_bytes name (done ++ tiles_bytes s d src first (end - first))) before
+
+-- or a front part of the tiles of all pages from one on
+pub record AddsPart (s : Shape) (d : ℕ) (src : Source) (first : ℕ) (name : List ℕ) (old new : Option Files) : Type 0 where
+  pub part : ℕ
+  pub held : (before : Option Files) (done : List ℕ) → old ≡ option_map (with_bytes name done) before
+      → new ≡ option_map (with_bytes name (done ++ take part (tiles_bytes s d src first (pages_of s - first)))) before

@@ -1,6 +1,7 @@
 -- The lines of tiles that lie side by side in memory, in texels of so many bytes.
 use Rattle.std.specs.Prelude.{◌≡◌, ℕ, ◌+◌, ◌-◌, ◌*◌, ◌/◌, ◌%◌, ◌<◌, ◌≤◌, List, length, min, slice_index}
 use Rattle.vt_definitions.specs.Depths.{texel_length, word_bytes, bytes_from}
+use Rattle.vt_definitions.specs.Sides.{side}
 use Rattle.vt_definitions.specs.Texels.{Source}
 use Rattle.vt_pages.specs.Shape.{Shape}
 use Rattle.vt_pages.specs.Pages.{name_at, clamped_word}
@@ -38,3 +39,21 @@ tile_word s src p i =
 pub record HasLines (s : Shape) (d : ℕ) (src : Source) (first count lines : ℕ) (tiles : List ℕ) : Type 0 where
   pub each : (t i : ℕ) → t < count → i < lines * s.tile
       → tile_piece (texel_length d) s.tile tiles t i ≡ word_bytes d (tile_word s src (first + t) i)
+
+-- how many of a tile's columns lie inside its level
+abbrev pub columns_inside : Shape → ℕ → ℕ
+columns_inside s p = min s.tile (side s.width (name_at s p).level - (name_at s p).col * s.tile)
+
+-- how many of a tile's rows lie inside its level
+abbrev pub rows_inside : Shape → ℕ → ℕ
+rows_inside s p = min s.tile (side s.height (name_at s p).level - (name_at s p).row * s.tile)
+
+-- how many bytes those rows of a page's level have that its row of tiles lies on
+abbrev pub tile_rows_length : Shape → ℕ → ℕ → ℕ
+tile_rows_length s d p = texel_length d * (side s.width (name_at s p).level * rows_inside s p)
+
+-- the bytes of those rows hold a source's words
+pub record HasTileRows (s : Shape) (d : ℕ) (src : Source) (p : ℕ) (rows : List ℕ) : Type 0 where
+  pub each : (x y : ℕ) → x < side s.width (name_at s p).level → y < rows_inside s p
+      → piece_at (texel_length d) rows (y * side s.width (name_at s p).level + x)
+      ≡ word_bytes d (src (name_at s p).level x ((name_at s p).row * s.tile + y))

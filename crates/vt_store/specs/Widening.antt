@@ -63,11 +63,3 @@ pub record IsWideLine (texels : List ℕ) (columns count : ℕ) (out : List ℕ)
 pub record HasWideLines (tile : List ℕ) (side columns rows lines : ℕ) (out : List ℕ) : Type 0 where
   pub each : (line x : ℕ) → line < lines → x < side
       → piece_at 6 out (line * side + x) ≡ doubled (piece_at 3 tile (min line (rows - 1) * side + min x (columns - 1)))
-
--- how many of a tile's columns lie inside its level
-abbrev pub columns_inside : Shape → ℕ → ℕ
-columns_inside s p = min s.tile (side s.width (name_at s p).level - (name_at s p).col * s.tile)
-
--- how many of a tile's rows lie inside its level
-abbrev pub rows_inside : Shape → ℕ → ℕ
-rows_inside s p = min s.tile (side s.height (name_at s p).level - (name_at s p).row * s.tile)

@@ -8,10 +8,10 @@ ghost use Rattle.vt_store.specs.Format.{stored, tile_length, tile_start, tiles_b
 ghost use Rattle.vt_store.specs.Places.{TilesAsked, PiecesAsked, FrontAsked, pieces_of};
 ghost use Rattle.vt_store.specs.Refusals.{IsOutsideRefusal};
 ghost use Rattle.vt_store.specs.StoreViews.{IsStore};
-ghost use Rattle.vt_store.specs.Widening.{HoldsWidened, HoldsFront, GainsTiles, GainsFront, IsWideLine, HasWideLines, columns_inside, rows_inside, widened};
+ghost use Rattle.vt_store.specs.Widening.{HoldsWidened, HoldsFront, GainsTiles, GainsFront, IsWideLine, HasWideLines, widened};
 
 use crate::header::tile_length;
-use crate::write::{begin_store, longest_row, put_span, tile_columns};
+use crate::write::{begin_store, longest_row, put_span, size_inside, tile_columns};
 use crate::{Store, StoreError};
 use std::alloc::Global;
 use vt_outside::{Folder, NoMemory};
@@ -65,22 +65,6 @@ fn widen_tile(out: &mut [u8], tile: &[u8], side: usize, columns: usize, rows: us
             side,
         );
     }
-}
-
-// How many columns and rows of a page's tile lie inside its level.
-fn size_inside(geometry: &Geometry, page: u32) -> (usize, usize)
-    requires { page < pages_of geometry.now }
-    ensures columns { result.0 ≡ columns_inside geometry.now page }
-    ensures rows { result.1 ≡ rows_inside geometry.now page }
-    ensures some { (1 ≤ result.0) × (1 ≤ result.1) }
-    ensures few { (result.0 ≤ geometry.now.tile) × (result.1 ≤ geometry.now.tile) }
-{
-    let name = geometry.page_at(page);
-    let (width, height) = geometry.level_size(name.level);
-    let side = geometry.tile();
-    let columns = side.min(width - name.col * side);
-    let rows = side.min(height - name.row * side);
-    (columns as usize, rows as usize)
 }
 
 // Writes the tiles of so many pages from one on with two bytes a sample from those with one byte.

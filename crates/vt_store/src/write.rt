@@ -1,14 +1,14 @@
 //! Writing the store of a mip chain.
-ghost use Rattle.std.specs.Prelude.{◌≡◌, ℕ, ◌+◌, ◌-◌, ◌*◌, ◌<◌, ◌≤◌, ◌⊎◌, length, take, option_map, IfErr, OnOk, OnErr, IsErrOf};
+ghost use Rattle.std.specs.Prelude.{◌≡◌, ℕ, ◌+◌, ◌-◌, ◌*◌, ◌<◌, ◌≤◌, ◌⊎◌, List, Option, length, take, option_map, IfErr, OnOk, OnErr, IsErrOf};
 ghost use Rattle.vt_outside.specs.Counts.{Rose};
-ghost use Rattle.vt_outside.specs.Files.{with_bytes};
-ghost use Rattle.vt_mip.specs.Chains.{chain_texel};
+ghost use Rattle.vt_outside.specs.Files.{Files, with_bytes};
+ghost use Rattle.vt_definitions.specs.Texels.{Source};
 ghost use Rattle.vt_definitions.specs.Depths.{IsDepth};
 ghost use Rattle.vt_definitions.specs.Limits.{most_tiled_side};
-ghost use Rattle.vt_pages.specs.Pages.{pages_of, levels_of, columns_at, name_at};
+ghost use Rattle.vt_pages.specs.Pages.{pages_of, pages_below, levels_of, columns_at, name_at};
 ghost use Rattle.vt_store.specs.Format.{header_bytes, tile_length, tiles_bytes};
-ghost use Rattle.vt_store.specs.ChainStores.{HasShape, chain_store};
-ghost use Rattle.vt_store.specs.TileLines.{IsFilled, IsSpan, GainsLine};
+ghost use Rattle.vt_store.specs.ChainStores.{HasShape, HasLevels, AddsPages, AddsPart, chain_store, level_source};
+ghost use Rattle.vt_store.specs.TileLines.{IsFilled, IsSpan, GainsLine, HasTileRows, columns_inside, rows_inside, tile_rows_length};
 ghost use Rattle.vt_store.specs.Refusals.{IsOutsideRefusal};
 
 use crate::StoreError;
@@ -73,28 +73,54 @@ fn put_line(
     }
 }
 
-// Writes the tiles of so many pages of a row of tiles, side by side, at the chain's depth.
-fn put_tiles(tiles: &mut [u8], chain: &Chain, geometry: &Geometry, first: u32, count: u32)
-    requires shape { HasShape chain.now geometry.now }
+/// How many columns and rows of a page's tile lie inside its level.
+pub(crate) fn size_inside(geometry: &Geometry, page: u32) -> (usize, usize)
+    requires { page < pages_of geometry.now }
+    ensures columns { result.0 ≡ columns_inside geometry.now page }
+    ensures rows { result.1 ≡ rows_inside geometry.now page }
+    ensures some { (1 ≤ result.0) × (1 ≤ result.1) }
+    ensures few { (result.0 ≤ geometry.now.tile) × (result.1 ≤ geometry.now.tile) }
+{
+    let name = geometry.page_at(page);
+    let (width, height) = geometry.level_size(name.level);
+    let side = geometry.tile();
+    let columns = side.min(width - name.col * side);
+    let rows = side.min(height - name.row * side);
+    (columns as usize, rows as usize)
+}
+
+/// Writes the tiles of so many pages of a row of tiles, side by side, from the rows of texels of their level on which the row of
+/// tiles lies, of samples of `depth` bytes, 1 or 2. Past the level's edge its last column and its last row stand again.
+pub(crate) fn put_tiles(
+    tiles: &mut [u8],
+    rows: &[u8],
+    depth: u32,
+    geometry: &Geometry,
+    first: u32,
+    count: u32,
+)
+    requires depth { IsDepth depth }
     requires page { first < pages_of geometry.now }
     requires row { (name_at geometry.now first).col + count ≤ columns_at geometry.now (name_at geometry.now first).level }
-    requires room { length tiles.old ≡ count * tile_length geometry.now chain.now.base.depth }
-    ensures { tiles.new ≡ tiles_bytes geometry.now chain.now.base.depth (chain_texel chain.now) first count }
+    requires room { length tiles.old ≡ count * tile_length geometry.now depth }
+    requires rows { length rows.now ≡ tile_rows_length geometry.now depth first }
+    ensures { (src : Source) → HasTileRows geometry.now depth src first rows.now → tiles.new ≡ tiles_bytes geometry.now depth src first count }
 {
-    let size = texel_length(chain.depth());
-    let side = geometry.tile();
+    let size = texel_length(depth);
+    let side = geometry.tile() as usize;
     let name = geometry.page_at(first);
-    let (_, height) = chain.size(name.level);
+    let (width, _) = geometry.level_size(name.level);
+    let (_, inside) = size_inside(geometry, first);
+    let row_size = size * width as usize;
     for line in 0..side {
-        let y = (name.row * side + line).min(height - 1);
-        let row = chain.row(name.level, y);
+        let from = row_size * line.min(inside - 1);
         put_line(
             tiles,
-            row,
+            &rows[from..from + row_size],
             size,
-            side as usize,
+            side,
             name.col as usize,
-            line as usize,
+            line,
             count as usize,
         );
     }
@@ -152,6 +178,61 @@ pub fn begin_store<D: Folder>(
     folder.append(name, &header_of(geometry, depth))
 }
 
+// The rows of texels of a page's level on which its row of tiles lies. The chain's level 0 is level `skipped` of the pages.
+fn tile_rows<'a>(chain: &'a Chain, geometry: &Geometry, skipped: u32, page: u32) -> &'a [u8]
+    requires levels { HasLevels chain.now geometry.now skipped }
+    requires page { page < pages_of geometry.now }
+    requires level { skipped ≤ (name_at geometry.now page).level }
+    ensures full { length result.now ≡ tile_rows_length geometry.now chain.now.base.depth page }
+    ensures rows { HasTileRows geometry.now chain.now.base.depth (level_source chain.now skipped) page result.now }
+{
+    let name = geometry.page_at(page);
+    let side = geometry.tile() as usize;
+    let level = name.level - skipped;
+    let (width, _) = chain.size(level);
+    let (_, inside) = size_inside(geometry, page);
+    let row_size = texel_length(chain.depth()) * width as usize;
+    let from = row_size * (name.row as usize * side);
+    &chain.samples(level)[from..from + row_size * inside]
+}
+
+/// Adds the tiles of the pages from `first` on to the name, one row of tiles an append. The page is the first of level `skipped`,
+/// which is the chain's level 0. The buffer has the length of the longest row of tiles.
+pub(crate) fn write_pages<D: Folder>(
+    chain: &Chain,
+    geometry: &Geometry,
+    skipped: u32,
+    first: u32,
+    tiles: &mut [u8],
+    folder: &mut D,
+    name: &str,
+) -> Result<(), OutsideError>
+    requires levels { HasLevels chain.now geometry.now skipped }
+    requires first { first ≡ pages_below geometry.now skipped }
+    requires inside { first ≤ pages_of geometry.now }
+    requires room { length tiles.old ≡ columns_at geometry.now 0 * tile_length geometry.now chain.now.base.depth }
+    ensures whole { OnOk result (AddsPages geometry.now chain.now.base.depth (level_source chain.now skipped) first (pages_of geometry.now)
+        name.now (D.files folder.old) (D.files folder.new)) }
+    ensures part { OnErr result (AddsPart geometry.now chain.now.base.depth (level_source chain.now skipped) first name.now
+        (D.files folder.old) (D.files folder.new)) }
+    ensures failed { IsErrOf result OutsideError.Failed → (before : Option Files) (done : List ℕ)
+        → D.files folder.old ≡ option_map (with_bytes name.now done) before → Rose (D.faults folder.old) (D.faults folder.new) }
+    ensures asked { D.asked folder.new ≡ D.asked folder.old }
+    ensures faults { D.faults folder.old ≤ D.faults folder.new }
+{
+    let depth = chain.depth();
+    let mut page = first;
+    while page < geometry.page_count() {
+        let end = row_end(geometry, page);
+        let row = &mut tiles[..(end - page) as usize * tile_length(geometry, depth)];
+        let rows = tile_rows(chain, geometry, skipped, page);
+        put_tiles(row, rows, depth, geometry, page, end - page);
+        folder.append(name, row)?;
+        page = end;
+    }
+    Ok(())
+}
+
 // Makes the name hold the store of a mip chain; each append is one row of tiles.
 fn write_rows<D: Folder>(
     alloc: Global,
@@ -171,16 +252,7 @@ fn write_rows<D: Folder>(
     let depth = chain.depth();
     begin_store(geometry, depth, folder, name)?;
     let mut room = vec![in alloc; 0; longest_row(geometry, depth)]?;
-    let tiles = room.as_mut_slice();
-    let mut page = 0;
-    while page < geometry.page_count() {
-        let end = row_end(geometry, page);
-        let row = &mut tiles[..(end - page) as usize * tile_length(geometry, depth)];
-        put_tiles(row, chain, geometry, page, end - page);
-        folder.append(name, row)?;
-        page = end;
-    }
-    Ok(())
+    write_pages(chain, geometry, 0, 0, room.as_mut_slice(), folder, name)
 }
 
 /// Makes the name hold the store of a mip chain, whose sides and tile side the geometry has. It creates the name, and

@@ -1,7 +1,7 @@
 use Rattle.std.proofs.Common.{◌≡◌, ◌*◌, ap, arith}
 use Rattle.vt_store.proofs.Tiles.{column_small, row_small}
 use Rattle.vt_store.proofs.Widening.{tile_begins}
-use Rattle.vt_store.proofs.widen.size_inside.Goals as goal
+use Rattle.vt_store.proofs.write.size_inside.Goals as goal
 
 pub overflow_mul-name : goal.overflow_mul-name
 overflow_mul-name c = omega (
