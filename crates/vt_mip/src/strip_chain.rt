@@ -198,7 +198,9 @@ impl<F: File> StripChain<F> {
     pub fn depth(&self) -> u32
         ensures value { result ≡ depth_of self.now.header.maximum }
         ensures depth { IsDepth result }
+        ensures texture { IsTextureIfTold (F.bytes self.now.file) self.now.header }
     {
+        let _ = self.reader.header();
         self.reader.depth()
     }
 

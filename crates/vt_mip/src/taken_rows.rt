@@ -123,6 +123,9 @@ impl Halving {
     /// Level 1, where all rows of the texture were taken.
     pub fn finish(self) -> Image
         requires { self.taken ≡ self.height }
+        ensures depth { result.depth ≡ self.depth }
+        ensures width { result.width ≡ (self.width + 1) / 2 }
+        ensures height { result.height ≡ (self.height + 1) / 2 }
         ensures half { (p : ImageView) → HalvesFront p self → IsHalf p result }
         ensures lawful { IsLawfulImage result }
     {

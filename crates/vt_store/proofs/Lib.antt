@@ -12,3 +12,6 @@ pub mod Widening
 pub mod Writing
 pub mod TileRows
 pub mod AddedPages
+pub mod StripTiles
+pub mod StripStores
+pub mod StripLevels

@@ -6,3 +6,4 @@ pub mod Places
 pub mod Refusals
 pub mod TileLines
 pub mod Widening
+pub mod StripStores

@@ -5,6 +5,7 @@ mod error;
 mod header;
 mod laws;
 mod store;
+mod strips;
 mod widen;
 mod write;
 
@@ -15,6 +16,7 @@ pub use laws::{
     stores_open,
 };
 pub use store::{Store, Stores};
+pub use strips::write_strips;
 pub use widen::widen_store;
 pub use write::{tile_columns, write_store};
 

@@ -129,8 +129,8 @@ fn widen_piece<D: Folder>(
     Ok(())
 }
 
-// Room for so many bytes.
-fn room_for(alloc: Global, length: usize) -> Result<Vec<u8>, NoMemory>
+/// Room for so many bytes.
+pub(crate) fn room_for(alloc: Global, length: usize) -> Result<Vec<u8>, NoMemory>
     ensures { IfOk result (λ room. vec_len room ≡ length) }
 {
     let room = vec![in alloc; 0; length]?;

@@ -1,0 +1,227 @@
+-- What a name holds, and which strips were asked, while the store of a texture is written strip by strip.
+use Rattle.std.proofs.Common.{◌≡◌, ℕ, suc, ◌+◌, ◌-◌, ◌*◌, ◌/◌, ◌<◌, ◌≤◌, ◌⊎◌, inl, inr, Bool, true, false, Option, Some, None, List, [], ◌∷◌, ◌++◌, length, take, min, refl, sym, ap, ◌∙◌, subst, arith, append_assoc}
+use Rattle.std.proofs.lemmas.List.{append-nil}
+use Rattle.std.proofs.Math.Seq.{take-length}
+use Rattle.std.proofs.lemmas.List.FromFn.{map-range_with_len_more}
+use Rattle.std.specs.Prelude.{option_map}
+use Rattle.vt_outside.specs.Files.{Files, IsThere, noted, with_bytes, with_appended}
+use Rattle.vt_outside.specs.declared.place.Place.{Place}
+use Rattle.vt_outside.proofs.Changes.{told-bytes-appended, front_of_two, front_of_first}
+use Rattle.vt_ppm.specs.declared.header.Header.{Header}
+use Rattle.vt_ppm.specs.Format.{depth_of}
+use Rattle.vt_ppm.specs.Strips.{RowsAsked, row_length, row_start}
+use Rattle.vt_definitions.specs.Texels.{Source}
+use Rattle.vt_mip.specs.StripChains.{StripChainView, texture_texel}
+use Rattle.vt_pages.specs.Shape.{Shape}
+use Rattle.vt_pages.specs.Pages.{pages_of, columns_at}
+use Rattle.vt_store.specs.Format.{header_bytes, tiles_bytes, store_bytes}
+use Rattle.vt_store.specs.StripStores.{HoldsMade, HoldsMadeFront, GainsMade, GainsMadeFront, StripsAsked, StripsTried, strip_shape, strip_store, strip_tiles, strip_rows, strip_place, strip_places, strips_of}
+use Rattle.vt_store.specs.ChainStores.{AddsPages, AddsPart}
+use Rattle.vt_store.proofs.Writing.{front_bytes, front_grown, front_none, front_all, store_split}
+use Rattle.vt_store.proofs.AddedPages.{there_bytes}
+
+-- the store as far as the tiles of so many pages
+abbrev pub strip_front : Shape → Header → ℕ → List ℕ → List ℕ
+strip_front s h p b = front_bytes s (depth_of h.maximum) (texture_texel h b) p
+
+-- and the whole of it
+abbrev pub store_made : Shape → Header → List ℕ → List ℕ
+store_made s h b = store_bytes s (depth_of h.maximum) (texture_texel h b)
+
+pub made_begun : (told : Option (List ℕ)) (s : Shape) (h : Header) (d : ℕ) (n : List ℕ) (f0 f1 : Option Files) → d ≡ depth_of h.maximum
+    → f1 ≡ option_map (with_bytes n (header_bytes s d)) f0 → HoldsMade told (strip_front s h 0) n f0 f1
+made_begun told s h d n f0 f1 ed held = record {
+  written = header_bytes s d;
+  held = held;
+  same = λ b e. ap (header_bytes s) ed ∙ front_none s (depth_of h.maximum) (texture_texel h b);
+}
+
+pub made_moved : (told : Option (List ℕ)) (s : Shape) (h : Header) (n : List ℕ) (f0 f1 : Option Files) (p q : ℕ) → p ≡ q
+    → HoldsMade told (strip_front s h p) n f0 f1 → HoldsMade told (strip_front s h q) n f0 f1
+made_moved told s h n f0 f1 p q e holds = subst (λ (m : ℕ). HoldsMade told (strip_front s h m) n f0 f1) e holds
+
+made_next : (told : Option (List ℕ)) (s : Shape) (h : Header) (i : ℕ) (n : List ℕ) (f0 f1 f2 : Option Files)
+    → HoldsMade told (strip_front s h (i * columns_at s 0)) n f0 f1 → GainsMade told (strip_tiles s h i) n f1 f2
+    → HoldsMade told (strip_front s h ((i + 1) * columns_at s 0)) n f0 f2
+made_next told s h i n f0 f1 f2 holds gains =
+    let p : ℕ = i * columns_at s 0 in
+    let q : ℕ = (i + 1) * columns_at s 0 in
+    let more : columns_at s 0 ≡ q - p = omega arith in
+    record {
+      written = holds.written ++ gains.more;
+      held = gains.held ∙ ap (option_map (with_appended n gains.more)) holds.held ∙ told-bytes-appended n holds.written gains.more f0;
+      same = λ b e.
+          let d = depth_of h.maximum in
+          let src = texture_texel h b in
+          ap (λ l. l ++ gains.more) (holds.same b e) ∙ ap (λ l. front_bytes s d src p ++ l) (gains.same b e)
+          ∙ ap (λ m. front_bytes s d src p ++ tiles_bytes s d src p m) more ∙ front_grown s d src p q (omega arith);
+    }
+
+-- a strip more
+pub made_more : (told told' : Option (List ℕ)) (s : Shape) (h h' : Header) (i : ℕ) (n : List ℕ) (f0 f1 f2 : Option Files) → told' ≡ told → h' ≡ h
+    → HoldsMade told (strip_front s h (i * columns_at s 0)) n f0 f1 → GainsMade told' (strip_tiles s h' i) n f1 f2
+    → HoldsMade told (strip_front s h ((i + 1) * columns_at s 0)) n f0 f2
+made_more told told' s h h' i n f0 f1 f2 et eh holds gains =
+    made_next told s h i n f0 f1 f2 holds (subst (λ (z : Header). GainsMade told (strip_tiles s z i) n f1 f2) eh
+    (subst (λ (t : Option (List ℕ)). GainsMade t (strip_tiles s h' i) n f1 f2) et gains))
+
+pub made_kept : (told : Option (List ℕ)) (s : Shape) (h : Header) (p : ℕ) (n : List ℕ) (f0 f1 f2 : Option Files) → p ≤ pages_of s
+    → HoldsMade told (strip_front s h p) n f0 f1 → f2 ≡ f1 → HoldsMadeFront told (store_made s h) n f0 f2
+made_kept told s h p n f0 f1 f2 inside holds same = record {
+  written = holds.written;
+  held = same ∙ holds.held;
+  part = λ b e.
+      let d = depth_of h.maximum in
+      let src = texture_texel h b in
+      let front = front_of_first (front_bytes s d src p) (tiles_bytes s d src p (pages_of s - p)) (length (front_bytes s d src p)) in (
+        front.0,
+        holds.same b e ∙ sym (take_all (front_bytes s d src p)) ∙ front.1 ∙ ap (take front.0) (sym (store_split s d src p inside)),
+      );
+} where
+  take_all : (l : List ℕ) → take (length l) l ≡ l
+  take_all l = take-length l
+
+made_front : (told : Option (List ℕ)) (s : Shape) (h : Header) (i : ℕ) (n : List ℕ) (f0 f1 f2 : Option Files) → (i + 1) * columns_at s 0 ≤ pages_of s
+    → HoldsMade told (strip_front s h (i * columns_at s 0)) n f0 f1 → GainsMadeFront told (strip_tiles s h i) n f1 f2
+    → HoldsMadeFront told (store_made s h) n f0 f2
+made_front told s h i n f0 f1 f2 inside holds gains = record {
+  written = holds.written ++ take gains.part gains.more;
+  held = gains.held ∙ ap (option_map (with_appended n (take gains.part gains.more))) holds.held
+      ∙ told-bytes-appended n holds.written (take gains.part gains.more) f0;
+  part = λ b e.
+      let d = depth_of h.maximum in
+      let src = texture_texel h b in
+      let p : ℕ = i * columns_at s 0 in
+      let q : ℕ = (i + 1) * columns_at s 0 in
+      let more : columns_at s 0 ≡ q - p = omega arith in
+      let front = front_bytes s d src p in
+      let tiles = tiles_bytes s d src p (q - p) in
+      let first = front_of_first (front ++ tiles) (tiles_bytes s d src q (pages_of s - q)) (length front + gains.part) in (
+        first.0,
+        ap (λ l. l ++ take gains.part gains.more) (holds.same b e)
+            ∙ ap (λ l. front ++ take gains.part l) (gains.same b e ∙ ap (λ m. tiles_bytes s d src p m) more)
+            ∙ front_of_two front tiles gains.part ∙ first.1
+            ∙ ap (take first.0) (ap (λ l. l ++ tiles_bytes s d src q (pages_of s - q)) (front_grown s d src p q (omega arith))
+            ∙ sym (store_split s d src q inside)),
+      );
+}
+
+-- a strip that was not added, or a part of it that was
+pub made_part : (told told' : Option (List ℕ)) (s : Shape) (h h' : Header) (i : ℕ) (n : List ℕ) (f0 f1 f2 : Option Files) → told' ≡ told → h' ≡ h
+    → (i + 1) * columns_at s 0 ≤ pages_of s
+    → HoldsMade told (strip_front s h (i * columns_at s 0)) n f0 f1 → (f2 ≡ f1) ⊎ GainsMadeFront told' (strip_tiles s h' i) n f1 f2
+    → HoldsMadeFront told (store_made s h) n f0 f2
+made_part told told' s h h' i n f0 f1 f2 et eh inside holds (inl same) = made_kept told s h (i * columns_at s 0) n f0 f1 f2 (omega arith) holds same
+made_part told told' s h h' i n f0 f1 f2 et eh inside holds (inr gains) =
+    made_front told s h i n f0 f1 f2 inside holds (subst (λ (z : Header). GainsMadeFront told (strip_tiles s z i) n f1 f2) eh
+    (subst (λ (t : Option (List ℕ)). GainsMadeFront t (strip_tiles s h' i) n f1 f2) et gains))
+
+-- a front part of the header
+pub made_header : (told : Option (List ℕ)) (s : Shape) (h : Header) (d : ℕ) (n : List ℕ) (f0 f1 : Option Files) → d ≡ depth_of h.maximum
+    → (f1 ≡ f0) ⊎ ((k : ℕ) × (f1 ≡ option_map (with_bytes n (take k (header_bytes s d))) f0))
+    → (f1 ≡ f0) ⊎ HoldsMadeFront told (store_made s h) n f0 f1
+unfolding store_bytes
+made_header told s h d n f0 f1 ed (inl same) = inl same
+made_header told s h d n f0 f1 ed (inr part) = inr (record {
+  written = take part.0 (header_bytes s (depth_of h.maximum));
+  held = part.1 ∙ ap (λ (m : ℕ). option_map (with_bytes n (take part.0 (header_bytes s m))) f0) ed;
+  part = λ b e. front_of_first (header_bytes s (depth_of h.maximum))
+      (tiles_bytes s (depth_of h.maximum) (texture_texel h b) 0 (pages_of s)) part.0;
+})
+
+-- the tiles of the other levels behind those of the first
+pub made_whole : (told : Option (List ℕ)) (s : Shape) (h : Header) (d p : ℕ) (src : Source) (n : List ℕ) (f0 f1 f2 : Option Files) → p ≤ pages_of s
+    → HoldsMade told (strip_front s h p) n f0 f1 → AddsPages s d src p (pages_of s) n f1 f2
+    → ((b : List ℕ) → told ≡ Some b → tiles_bytes s d src p (pages_of s - p) ≡ tiles_bytes s (depth_of h.maximum) (texture_texel h b) p (pages_of s - p))
+    → HoldsMade told (store_made s h) n f0 f2
+made_whole told s h d p src n f0 f1 f2 inside holds adds same = record {
+  written = holds.written ++ tiles_bytes s d src p (pages_of s - p);
+  held = adds.held f0 holds.written holds.held;
+  same = λ b e.
+      let e' = depth_of h.maximum in
+      let t = texture_texel h b in
+      ap (λ l. l ++ tiles_bytes s d src p (pages_of s - p)) (holds.same b e) ∙ ap (λ l. front_bytes s e' t p ++ l) (same b e)
+      ∙ front_grown s e' t p (pages_of s) inside ∙ front_all s e' t;
+}
+
+made_rest : (told : Option (List ℕ)) (s : Shape) (h : Header) (d p : ℕ) (src : Source) (n : List ℕ) (f0 f1 f2 : Option Files) → p ≤ pages_of s
+    → HoldsMade told (strip_front s h p) n f0 f1 → AddsPart s d src p n f1 f2
+    → ((b : List ℕ) → told ≡ Some b → tiles_bytes s d src p (pages_of s - p) ≡ tiles_bytes s (depth_of h.maximum) (texture_texel h b) p (pages_of s - p))
+    → HoldsMadeFront told (store_made s h) n f0 f2
+made_rest told s h d p src n f0 f1 f2 inside holds adds same = record {
+  written = holds.written ++ take adds.part (tiles_bytes s d src p (pages_of s - p));
+  held = adds.held f0 holds.written holds.held;
+  part = λ b e.
+      let e' = depth_of h.maximum in
+      let t = texture_texel h b in
+      let front = front_bytes s e' t p in (
+        length front + adds.part,
+        ap (λ l. l ++ take adds.part (tiles_bytes s d src p (pages_of s - p))) (holds.same b e)
+            ∙ ap (λ l. front ++ take adds.part l) (same b e)
+            ∙ front_of_two front (tiles_bytes s e' t p (pages_of s - p)) adds.part
+            ∙ ap (take (length front + adds.part)) (sym (store_split s e' t p inside)),
+      );
+}
+
+pub made_rest_part : (told : Option (List ℕ)) (s : Shape) (h : Header) (d p : ℕ) (src : Source) (n : List ℕ) (f0 f1 f2 : Option Files) → p ≤ pages_of s
+    → HoldsMade told (strip_front s h p) n f0 f1
+    → ((b : List ℕ) → told ≡ Some b → tiles_bytes s d src p (pages_of s - p) ≡ tiles_bytes s (depth_of h.maximum) (texture_texel h b) p (pages_of s - p))
+    → (f2 ≡ f1) ⊎ AddsPart s d src p n f1 f2 → HoldsMadeFront told (store_made s h) n f0 f2
+made_rest_part told s h d p src n f0 f1 f2 inside holds same (inl kept) = made_kept told s h p n f0 f1 f2 inside holds kept
+made_rest_part told s h d p src n f0 f1 f2 inside holds same (inr adds) = made_rest told s h d p src n f0 f1 f2 inside holds adds same
+
+-- what callers see
+pub store_seen : {F : Type 0} (told : Option (List ℕ)) (v : StripChainView F) (s : Shape) (n : List ℕ) (f0 f1 : Option Files) → strip_shape v ≡ s
+    → HoldsMade told (store_made s v.header) n f0 f1 → HoldsMade told (strip_store v) n f0 f1
+store_seen told v s n f0 f1 shape holds = subst (λ (z : Shape). HoldsMade told (store_made z v.header) n f0 f1) (sym shape) holds
+
+pub front_seen : {F : Type 0} (told : Option (List ℕ)) (v : StripChainView F) (s : Shape) (n : List ℕ) (f0 f1 : Option Files) → strip_shape v ≡ s
+    → HoldsMadeFront told (store_made s v.header) n f0 f1 → HoldsMadeFront told (strip_store v) n f0 f1
+front_seen told v s n f0 f1 shape holds = subst (λ (z : Shape). HoldsMadeFront told (store_made z v.header) n f0 f1) (sym shape) holds
+
+pub there_made : (told : Option (List ℕ)) (made : List ℕ → List ℕ) (n : List ℕ) (f0 f1 : Option Files) → HoldsMade told made n f0 f1 → IsThere f1 n
+there_made told made n f0 f1 holds = there_bytes n holds.written f0 f1 holds.held
+
+-- one strip more was asked
+next_strip : (h h' : Header) (t i y count : ℕ) (failed : Bool) (a0 a1 a2 : Option (List Place)) → StripsAsked h t i a0 a1 → h' ≡ h
+    → y ≡ i * t → count ≡ strip_rows h t i → RowsAsked h' y count failed a1 a2
+    → a2 ≡ option_map (λ places. places ++ (strip_places h t i ++ strip_place h t failed i ∷ [])) a0
+next_strip h h' t i y count failed a0 a1 a2 before eh ey ec one =
+    one ∙ ap (λ (z : Header). option_map (noted (row_start z y) (count * row_length z) failed) a1) eh
+    ∙ ap (λ n. option_map (noted (row_start h n) (count * row_length h) failed) a1) ey
+    ∙ ap (λ n. option_map (noted (row_start h (i * t)) (n * row_length h) failed) a1) ec
+    ∙ ap (option_map (noted (row_start h (i * t)) (strip_rows h t i * row_length h) failed)) before
+    ∙ joined a0 where
+      joined : (a : Option (List Place)) → option_map (noted (row_start h (i * t)) (strip_rows h t i * row_length h) failed)
+          (option_map (λ places. places ++ strip_places h t i) a)
+          ≡ option_map (λ places. places ++ (strip_places h t i ++ strip_place h t failed i ∷ [])) a
+      joined None = refl
+      joined (Some places) = ap Some (append_assoc places (strip_places h t i) (strip_place h t failed i ∷ []))
+
+pub more_strips : (h h' : Header) (t i y count : ℕ) (a0 a1 a2 : Option (List Place)) → StripsAsked h t i a0 a1 → h' ≡ h
+    → y ≡ i * t → count ≡ strip_rows h t i → RowsAsked h' y count false a1 a2 → StripsAsked h t (i + 1) a0 a2
+more_strips h h' t i y count a0 a1 a2 before eh ey ec one =
+    next_strip h h' t i y count false a0 a1 a2 before eh ey ec one
+    ∙ ap (λ l. option_map (λ places. places ++ l) a0) (sym (map-range_with_len_more (strip_place h t false) 0 i i (omega arith)))
+
+pub no_strips : (h : Header) (t : ℕ) (a0 a1 : Option (List Place)) → a1 ≡ a0 → StripsAsked h t 0 a0 a1
+no_strips h t None a1 same = same
+no_strips h t (Some places) a1 same = same ∙ ap Some (sym (append-nil places))
+
+pub strips_front : (h : Header) (t i : ℕ) (a0 a1 : Option (List Place)) → i ≤ strips_of h t → StripsAsked h t i a0 a1 → StripsTried h t a0 a1
+strips_front h t i a0 a1 few before = record { count = i; few = few; asked = inl before }
+
+pub strip_tried : (h h' : Header) (t i y count : ℕ) (a0 a1 a2 : Option (List Place)) → i < strips_of h t → StripsAsked h t i a0 a1 → h' ≡ h
+    → y ≡ i * t → count ≡ strip_rows h t i → RowsAsked h' y count false a1 a2 ⊎ RowsAsked h' y count true a1 a2 → StripsTried h t a0 a2
+strip_tried h h' t i y count a0 a1 a2 few before eh ey ec (inl one) =
+    strips_front h t (i + 1) a0 a2 (omega arith) (more_strips h h' t i y count a0 a1 a2 before eh ey ec one)
+strip_tried h h' t i y count a0 a1 a2 few before eh ey ec (inr one) = record {
+  count = i;
+  few = omega arith;
+  asked = inr (few, next_strip h h' t i y count true a0 a1 a2 before eh ey ec one);
+}
+
+pub header_seen : {F : Type 0} (told : Option (List ℕ)) (v : StripChainView F) (s : Shape) (n : List ℕ) (f0 f1 : Option Files) → strip_shape v ≡ s
+    → (f1 ≡ f0) ⊎ HoldsMadeFront told (store_made s v.header) n f0 f1 → (f1 ≡ f0) ⊎ HoldsMadeFront told (strip_store v) n f0 f1
+header_seen told v s n f0 f1 shape (inl same) = inl same
+header_seen told v s n f0 f1 shape (inr part) = inr (front_seen told v s n f0 f1 shape part)

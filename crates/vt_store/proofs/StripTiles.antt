@@ -1,0 +1,199 @@
+-- A strip of a texture: its numbers, the tiles that are made of it, and the rows that are halved.
+use Rattle.std.proofs.Common.{◌≡◌, ℕ, suc, ◌+◌, ◌-◌, ◌*◌, ◌/◌, ◌<◌, ◌≤◌, Option, Some, List, length, take, drop, min, refl, sym, ap, ◌∙◌, subst, arith}
+use Rattle.std.specs.Prelude.{IfSome}
+use Rattle.std.proofs.lemmas.List.{length-take-le, length-drop}
+use Rattle.std.proofs.lemmas.Nat.{mul-le}
+use Rattle.vt_definitions.specs.Depths.{IsDepth, AreBytes, texel_length, word_at, word_bytes}
+use Rattle.vt_definitions.specs.Sides.{side}
+use Rattle.vt_definitions.specs.Texels.{Source}
+use Rattle.vt_definitions.proofs.TexelWords.{texel_words}
+use Rattle.vt_outside.specs.Files.{Files, IsPiece, with_bytes}
+use Rattle.vt_ppm.specs.declared.header.Header.{Header}
+use Rattle.vt_ppm.specs.Format.{IsTexture, depth_of}
+use Rattle.vt_ppm.specs.Image.{ImageView, texel_of}
+use Rattle.vt_ppm.specs.Strips.{IsTextureIfTold, texture_of, row_length, rows_of}
+use Rattle.vt_mip.specs.Chains.{ChainView}
+use Rattle.vt_mip.specs.StripChains.{texture_texel}
+use Rattle.vt_mip.proofs.Following.{side_after, levels_go_on}
+use Rattle.vt_mip.proofs.Words.{chain-zero}
+use Rattle.vt_pages.specs.declared.PageName.{PageName}
+use Rattle.vt_pages.specs.Shape.{Shape, shape_of}
+use Rattle.vt_pages.specs.Pages.{IsPage, IsWithinLimits, index_at, levels_of, pages_of, pages_below, rows_at, columns_at, name_at}
+use Rattle.vt_pages.proofs.Counts.{lt_up, columns_some, rows_some, pages_below-zero, pages_of-is}
+use Rattle.vt_pages.proofs.Names.{name_at-index, index_at_below}
+use Rattle.vt_store.specs.ChainStores.{HasLevels, AddsPages, AddsPart, level_source}
+use Rattle.vt_store.specs.Format.{tiles_bytes}
+use Rattle.vt_store.specs.TileLines.{HasTileRows, piece_at, rows_inside, tile_rows_length}
+use Rattle.vt_store.specs.StripStores.{strip_rows, strip_tiles}
+use Rattle.vt_store.proofs.Pieces.{piece_end}
+use Rattle.vt_store.proofs.Widening.{piece_of_slice}
+use Rattle.vt_store.proofs.AddedPages.{adds_none}
+
+-- the numbers of a strip
+pub record IsStrip (s : Shape) (h : Header) (i y count columns : ℕ) : Type 0 where
+  pub begins : i * s.tile < s.height
+  pub place : y ≡ i * s.tile
+  pub some : 1 ≤ count
+  pub ends : y + count ≤ s.height
+  pub width : h.width ≡ s.width
+  pub height : h.height ≡ s.height
+  pub name : name_at s (i * columns) ≡ record { level = 0; col = 0; row = i }
+  pub page : i * columns < pages_of s
+  pub counts : count ≡ strip_rows h s.tile i
+  pub across : columns ≡ columns_at s 0
+  pub along : (name_at s (i * columns)).col + columns ≤ columns_at s (name_at s (i * columns)).level
+
+first_page : (s : Shape) (i : ℕ) → index_at s 0 0 i ≡ i * columns_at s 0
+unfolding index_at
+first_page s i = omega (arith, pages_below-zero s)
+
+strip_begins : (s : Shape) (i : ℕ) → 1 ≤ s.tile → i < rows_at s 0 → i * s.tile < s.height
+unfolding rows_at
+strip_begins s i some inside = lt_up s.height s.tile i some inside
+
+pub is_strip : (s : Shape) (h : Header) (tile i t y height count columns : ℕ) → shape_of h.width h.height tile ≡ s → IsWithinLimits s
+    → i < rows_at s 0 → t ≡ s.tile → height ≡ s.height → y ≡ i * t → count ≡ min t (height - y) → columns ≡ columns_at s 0
+    → IsStrip s h i y count columns
+is_strip s h tile i t y height count columns shape limits inside et eh ey ec ew =
+    let some : 1 ≤ s.tile = omega (arith, limits.least_tile) in
+    let begins : i * s.tile < s.height = strip_begins s i some inside in
+    let place : y ≡ i * s.tile = ey ∙ ap (λ (n : ℕ). i * n) et in
+    let across : 0 < columns_at s 0 = columns_some s 0 some limits.least_width in
+    let level : 0 < levels_of s = omega (arith, limits.some_level) in
+    let page : index_at s 0 0 i ≡ i * columns = first_page s i ∙ ap (λ (n : ℕ). i * n) (sym ew) in
+    let name : name_at s (i * columns) ≡ record { level = 0; col = 0; row = i } =
+    ap (name_at s) (sym page) ∙ name_at-index s 0 0 i level across inside in
+    let high : h.height ≡ s.height = ap (λ (z : Shape). z.height) shape in
+    record {
+      begins = begins;
+      place = place;
+      some = omega (arith, ec, et, eh, place, begins, limits.least_tile);
+      ends = omega (arith, ec, et, eh, place, begins);
+      width = ap (λ (z : Shape). z.width) shape;
+      height = high;
+      name = name;
+      page = (let below = index_at_below s 0 0 i level across inside in omega (arith, below, page));
+      counts = ec ∙ ap (λ (n : ℕ). min n (height - y)) et ∙ ap (λ (n : ℕ). min s.tile (n - y)) (eh ∙ sym high)
+          ∙ ap (λ (n : ℕ). min s.tile (h.height - n)) place;
+      across = ew;
+      along = subst (λ (n : PageName). n.col + columns ≤ columns_at s n.level) (sym name) (let all : 0 + columns ≤ columns_at s 0 = omega (arith, ew) in all);
+    }
+
+-- its rows are those that its row of tiles lies on
+pub strip_length : (s : Shape) (h : Header) (i y count columns d n : ℕ) → IsStrip s h i y count columns → d ≡ depth_of h.maximum
+    → n ≡ strip_rows h s.tile i * row_length h → n ≡ tile_rows_length s d (i * columns)
+strip_length s h i y count columns d n is ed full =
+    subst (λ (z : PageName). n ≡ texel_length d * (side s.width z.level * min s.tile (side s.height z.level - z.row * s.tile))) (sym is.name)
+    (let here : n ≡ texel_length d * (s.width * min s.tile (s.height - i * s.tile)) =
+    full ∙ ap (λ (m : ℕ). strip_rows h s.tile i * (texel_length m * h.width)) (sym ed)
+    ∙ ap (λ (m : ℕ). strip_rows h s.tile i * (texel_length d * m)) is.width
+    ∙ ap (λ (m : ℕ). min s.tile (m - i * s.tile) * (texel_length d * s.width)) is.height ∙ omega arith in here)
+
+-- and have the texture's words
+strip_rows_are : (s : Shape) (h : Header) (i y count columns : ℕ) (b rows : List ℕ) → IsStrip s h i y count columns → IsTexture b (texture_of h b)
+    → rows ≡ rows_of h b y count → HasTileRows s (depth_of h.maximum) (texture_texel h b) (i * columns) rows
+strip_rows_are s h i y count columns b rows is texture read = record {
+  each = subst (λ (z : PageName). (x v : ℕ) → x < side s.width z.level → v < min s.tile (side s.height z.level - z.row * s.tile)
+      → piece_at (texel_length (depth_of h.maximum)) rows (v * side s.width z.level + x)
+      ≡ word_bytes (depth_of h.maximum) (texture_texel h b z.level x (z.row * s.tile + v))) (sym is.name) each;
+} where
+  each : (x v : ℕ) → x < s.width → v < min s.tile (s.height - i * s.tile)
+      → piece_at (texel_length (depth_of h.maximum)) rows (v * s.width + x)
+      ≡ word_bytes (depth_of h.maximum) (texture_texel h b 0 x (i * s.tile + v))
+  each x v across down =
+      let d : ℕ = depth_of h.maximum in
+      let w : ℕ = h.width in
+      let samples : List ℕ = (texture_of h b).samples in
+      let wide : x < w = omega (arith, is.width) in
+      let low : v < count = omega (arith, is.counts, is.height) in
+      let up : (v + 1) * w ≤ count * w = mul-le (v + 1) w count w (omega arith) (omega arith) in
+      let here : v * w + x < count * w = omega (arith, up, wide) in
+      let room : texel_length d * (v * w + x) + texel_length d ≤ count * row_length h =
+      omega (arith, piece_end (texel_length d) (v * w + x) (count * w) here) in
+      let place : y * w + (v * w + x) ≡ (i * s.tile + v) * w + x =
+      (let e : y * w ≡ i * s.tile * w = ap (λ (n : ℕ). n * w) is.place in omega (arith, e)) in
+      ap (λ (n : ℕ). piece_at (texel_length d) rows (v * n + x)) (sym is.width)
+      ∙ ap (λ l. piece_at (texel_length d) l (v * w + x)) read
+      ∙ piece_of_slice (texel_length d) samples (y * w) (count * row_length h) (y * row_length h) (v * w + x) (omega arith) room
+      ∙ ap (piece_at (texel_length d) samples) place
+      ∙ sym (texel_words d samples ((i * s.tile + v) * w + x) texture.image.depth texture.bytes)
+      ∙ ap (word_bytes d) (sym (chain-zero d (texel_of (texture_of h b)) h.width h.height x (i * s.tile + v)))
+
+if_told : (told : Option (List ℕ)) (P : List ℕ → Type 0) (b : List ℕ) → told ≡ Some b → IfSome told P → P b
+if_told told P b e all = subst (λ (t : Option (List ℕ)). IfSome t P) e all
+
+-- so the tiles that are made of them are the strip's
+pub strip_made : (told : Option (List ℕ)) (s : Shape) (h : Header) (i y count columns d : ℕ) (rows tiles : List ℕ) → IsStrip s h i y count columns
+    → d ≡ depth_of h.maximum → IsTextureIfTold told h → IfSome told (λ b. rows ≡ rows_of h b y count)
+    → ((src : Source) → HasTileRows s d src (i * columns) rows → tiles ≡ tiles_bytes s d src (i * columns) columns)
+    → (b : List ℕ) → told ≡ Some b → tiles ≡ strip_tiles s h i b
+strip_made told s h i y count columns d rows tiles is ed texture read made b e =
+    let has = strip_rows_are s h i y count columns b rows is (texture.each b e) (if_told told (λ b. rows ≡ rows_of h b y count) b e read) in
+    made (texture_texel h b) (subst (λ (n : ℕ). HasTileRows s n (texture_texel h b) (i * columns) rows) (sym ed) has)
+    ∙ ap (λ (n : ℕ). tiles_bytes s n (texture_texel h b) (i * columns) columns) ed
+    ∙ ap (λ (n : ℕ). tiles_bytes s (depth_of h.maximum) (texture_texel h b) (i * n) n) is.across
+
+-- and the rows are the next ones that are halved
+pub strip_piece : (told : Option (List ℕ)) (s : Shape) (h : Header) (i y count columns taken : ℕ) (rows : List ℕ) → IsStrip s h i y count columns
+    → taken ≡ i * s.tile → IsTextureIfTold told h → IfSome told (λ b. rows ≡ rows_of h b y count)
+    → (b : List ℕ) → told ≡ Some b
+    → IsPiece (texture_of h b).samples (texel_length (depth_of h.maximum) * (h.width * taken)) rows
+strip_piece told s h i y count columns taken rows is et texture read b e =
+    let row = if_told told (λ b. rows ≡ rows_of h b y count) b e read in
+    let samples : List ℕ = (texture_of h b).samples in
+    let z : ℕ = row_length h in
+    let at : y * z ≡ texel_length (depth_of h.maximum) * (h.width * taken) =
+    ap (λ (n : ℕ). n * z) (is.place ∙ sym et) ∙ omega arith in
+    let full : length samples ≡ texel_length (depth_of h.maximum) * (h.width * h.height) = (texture.each b e).image.full in
+    let more : (y + count) * z ≤ h.height * z = mul-le (y + count) z h.height z (omega (arith, is.ends, is.height)) (omega arith) in
+    let room : y * z + count * z ≤ length samples = omega (arith, more, full) in
+    let long : length rows ≡ count * z = ap length row ∙ length-take-le (count * z) (drop (y * z) samples) (omega (arith, length-drop (y * z) samples, room)) in
+    record {
+      within = omega (arith, at, long, room);
+      same = row ∙ ap (λ (n : ℕ). take n (drop (y * z) samples)) (sym long) ∙ ap (λ (n : ℕ). take (length rows) (drop n samples)) at;
+    }
+
+-- the levels behind the first
+pub levels_rest : (s : Shape) (p : ImageView) (c : ChainView) (t : ℕ) → c ≡ record { base = p; tile = t } → t ≡ s.tile → 1 ≤ s.tile
+    → p.width ≡ side s.width 1 → p.height ≡ side s.height 1 → 2 ≤ levels_of s → HasLevels c s 1
+unfolding levels_of
+levels_rest s p c t made et some ew eh more = rw made (record {
+  count = (let less = levels_go_on s.width s.height s.tile some more in rw (ew, eh, et) (sym less));
+  columns = λ k. (let e : k + 1 ≡ suc k = omega arith in ap (side s.width) e ∙ sym (side_after s.width k) ∙ ap (λ (n : ℕ). side n k) (sym ew));
+  rows = λ k. (let e : k + 1 ≡ suc k = omega arith in ap (side s.height) e ∙ sym (side_after s.height k) ∙ ap (λ (n : ℕ). side n k) (sym eh));
+})
+
+pub first_of_rest : (s : Shape) → index_at s 1 0 0 ≡ pages_below s 1
+unfolding index_at
+first_of_rest s = omega arith
+
+pub page_of_rest : (s : Shape) → IsWithinLimits s → 2 ≤ levels_of s → IsPage s (record { level = 1; col = 0; row = 0 })
+page_of_rest s limits more = record {
+  level_inside = omega (arith, more);
+  col_inside = columns_some s 1 (omega (arith, limits.least_tile)) limits.least_width;
+  row_inside = rows_some s 1 (omega (arith, limits.least_tile)) limits.least_height;
+}
+
+-- there are none where there is one level
+pub adds_nothing : (s : Shape) (d : ℕ) (src : Source) (name : List ℕ) (f : Option Files) → levels_of s ≡ 1
+    → AddsPages s d src (pages_below s 1) (pages_of s) name f f
+adds_nothing s d src name f one =
+    let all : pages_below s 1 ≡ pages_of s = ap (pages_below s) (sym one) ∙ sym (pages_of-is s) in
+    subst (λ (n : ℕ). AddsPages s d src (pages_below s 1) n name f f) all (adds_none s d src (pages_below s 1) name f)
+
+-- what was added of a chain is what was added of its image
+pub adds_rest : (s : Shape) (p : ImageView) (c : ChainView) (t first : ℕ) (name : List ℕ) (f0 f1 : Option Files) → c ≡ record { base = p; tile = t }
+    → t ≡ s.tile → first ≡ pages_below s 1 → AddsPages s c.base.depth (level_source c 1) first (pages_of s) name f0 f1
+    → AddsPages s p.depth (level_source (record { base = p; tile = s.tile }) 1) (pages_below s 1) (pages_of s) name f0 f1
+adds_rest s p c t first name f0 f1 made et begins adds =
+    let same : c ≡ record { base = p; tile = s.tile } = made ∙ ap (λ (n : ℕ). record { base = p; tile = n }) et in
+    subst (λ (v : ChainView). AddsPages s v.base.depth (level_source v 1) (pages_below s 1) (pages_of s) name f0 f1) same
+    (subst (λ (n : ℕ). AddsPages s c.base.depth (level_source c 1) n (pages_of s) name f0 f1) begins adds)
+
+pub adds_part_of_rest : (s : Shape) (p : ImageView) (c : ChainView) (t first : ℕ) (name : List ℕ) (f0 f1 : Option Files)
+    → c ≡ record { base = p; tile = t } → t ≡ s.tile → first ≡ pages_below s 1 → AddsPart s c.base.depth (level_source c 1) first name f0 f1
+    → AddsPart s p.depth (level_source (record { base = p; tile = s.tile }) 1) (pages_below s 1) name f0 f1
+adds_part_of_rest s p c t first name f0 f1 made et begins adds =
+    let same : c ≡ record { base = p; tile = s.tile } = made ∙ ap (λ (n : ℕ). record { base = p; tile = n }) et in
+    subst (λ (v : ChainView). AddsPart s v.base.depth (level_source v 1) (pages_below s 1) name f0 f1) same
+    (subst (λ (n : ℕ). AddsPart s c.base.depth (level_source c 1) n name f0 f1) begins adds)
