@@ -458,7 +458,7 @@ check_trial() {
 }
 
 # Of these commands those that the program has; each has its checks.
-built="walk replay"
+built="walk replay trial"
 usage="usage: vtex COMMAND ARGUMENTS (plain, tile, info, walk, replay, gen, trial, upgrade)"
 has() { case " $built " in *" $1 "*) true;; *) false;; esac; }
 "$program" tile g4.ppm g4.vts --tile 2 > /dev/null

@@ -2,7 +2,7 @@
 
 ghost use Rattle.std.specs.Prelude.{◌≡◌, IfOk, IsErr, IsErrOf, IsNone, Some};
 ghost use Rattle.vt_words.specs.Arguments.{texts};
-ghost use Rattle.vt_words.specs.Commands.{command_text, shown, IsLawful};
+ghost use Rattle.vt_words.specs.Commands.{command_text, walking_text, shown, IsLawful};
 
 use crate::arguments::WordsError;
 use crate::generate::{GenWords, read_gen};
@@ -10,6 +10,7 @@ use crate::info::{InfoWords, read_info};
 use crate::plain::{PlainWords, read_plain};
 use crate::replay::{ReplayWords, read_replay};
 use crate::tile::{TileWords, read_tile};
+use crate::trial::{TrialWords, read_trial};
 use crate::upgrade::{UpgradeWords, read_upgrade};
 use crate::walk::{WalkWords, read_walk};
 use std::alloc::Global;
@@ -25,6 +26,8 @@ pub enum Command<'a> {
     Info(InfoWords<'a>),
     /// Writes a texture that is made from a number.
     Gen(GenWords<'a>),
+    /// Walks over a texture that is made from a number, in memory.
+    Trial(TrialWords),
     /// Writes the tile store of two-byte samples that one of one-byte samples makes.
     Upgrade(UpgradeWords<'a>),
     /// Draws the pictures of a journal again.
@@ -60,11 +63,28 @@ pub fn read_command<'a>(alloc: Global, words: &'a [String]) -> Result<Command<'a
     if name.as_str() == "upgrade" {
         return read_upgrade(alloc, words).map(Command::Upgrade);
     }
-    if name.as_str() == "replay" {
+    read_walking(alloc, name.as_str(), words)
+}
+
+// Reads the words of a command of this name that walks, or draws what a walk has left.
+fn read_walking<'a>(
+    alloc: Global,
+    name: &str,
+    words: &'a [String],
+) -> Result<Command<'a>, WordsError>
+    ensures read { IfOk result (λ command. walking_text name.now (texts words.now) ≡ Some (shown command)) }
+    ensures usage { IsErrOf result WordsError.Usage → IsNone (walking_text name.now (texts words.now)) }
+    ensures lawful { IfOk result IsLawful }
+    ensures refused { IsNone (walking_text name.now (texts words.now)) → IsErr result }
+{
+    if name == "replay" {
         return read_replay(alloc, words).map(Command::Replay);
     }
-    if name.as_str() == "walk" {
+    if name == "walk" {
         return read_walk(alloc, words).map(Command::Walk);
+    }
+    if name == "trial" {
+        return Ok(Command::Trial(read_trial(alloc, words)?));
     }
     Err(WordsError::Usage)
 }

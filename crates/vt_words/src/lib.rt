@@ -24,7 +24,7 @@ pub use names::{is_picture_name, picture_name};
 pub use plain::PlainWords;
 pub use replay::ReplayWords;
 pub use tile::TileWords;
-pub use trial::{TrialWords, read_trial};
+pub use trial::TrialWords;
 pub use upgrade::UpgradeWords;
 pub use walk::WalkWords;
 

@@ -32,6 +32,10 @@ fn answer(alloc: Global, words: &[&str]) -> Result<String, AllocError> {
             let name = read.name;
             format!(in alloc; "gen {number} {width} {height} {name}")
         }
+        Ok(Command::Trial(read)) => {
+            let number = read.number;
+            format!(in alloc; "trial {number}")
+        }
         Ok(Command::Upgrade(read)) => {
             let (store, new_store) = (read.store, read.new_store);
             format!(in alloc; "upgrade {store} {new_store}")
@@ -105,7 +109,7 @@ fn each_command_has_its_words_and_no_more(rt: HostRuntime) {
         (&[""], "usage"),
         (&["walk", "s", "p", "x"], "walk s p x"),
         (&["walk", "s", "p"], "usage"),
-        (&["trial", "1"], "usage"),
+        (&["trial", "1"], "trial 1"),
         (&["replay", "s", "p", "j", "x"], "replay s p j x"),
         (&["replay", "s", "p", "j"], "usage"),
         (&["Plain", "t", "p", "x"], "usage"),

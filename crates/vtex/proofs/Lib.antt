@@ -13,3 +13,4 @@ pub mod Making
 pub mod Upgrading
 pub mod Replaying
 pub mod Walking
+pub mod Trying

@@ -1,5 +1,5 @@
 -- The file of a texture that is made from a number, row by row.
-use Rattle.std.proofs.Common.{◌≡◌, ℕ, ◌+◌, ◌-◌, ◌*◌, ◌<◌, List, [], ◌++◌, take, Option, refl, sym, ap, ◌∙◌, append_assoc, arith}
+use Rattle.std.proofs.Common.{◌≡◌, ℕ, ◌+◌, ◌-◌, ◌*◌, ◌<◌, List, [], ◌++◌, length, take, Option, refl, sym, ap, ◌∙◌, append_assoc, arith}
 use Rattle.std.specs.Prelude.{codes, decimal}
 use Rattle.std.specs.Option.{option_map}
 use Rattle.std.specs.List.{flat_map, range_with_len}
@@ -7,7 +7,7 @@ use Rattle.std.proofs.lemmas.List.{append-nil}
 use Rattle.vt_outside.specs.Files.{Files, with_bytes, with_appended}
 use Rattle.vt_outside.proofs.Changes.{told-bytes-appended}
 use Rattle.vt_ppm.specs.Picture.{picture_bytes}
-use Rattle.vt_store.proofs.Spans.{span_add}
+use Rattle.vt_store.proofs.Spans.{span_add, span_length}
 use Rattle.vt_store.proofs.Writing.{longer_part}
 use Rattle.vtex.specs.commands.Gen.{made_texel, made_row, made_rows, made_file}
 
@@ -54,6 +54,20 @@ unfolding made_rows
 front_more number w h y =
     samples_then w h (made_rows number w y) (made_row number y w)
     ∙ ap (picture_bytes 1 w h) (sym (over_more (λ (i : ℕ). made_row number i w) y))
+
+pub rows_none : (number w : ℕ) → ◌≡◌ {A = List ℕ} [] (made_rows number w 0)
+unfolding made_rows
+rows_none number w = refl
+
+-- a row has three samples a texel
+pub row_length : (number y w : ℕ) → length (made_row number y w) ≡ w * 3
+unfolding made_row
+row_length number y w = span_length (λ (x : ℕ). made_texel number x y) 0 w 3 (λ i. refl)
+
+-- one row more
+pub rows_more : (number w y : ℕ) → made_rows number w y ++ made_row number y w ≡ made_rows number w (y + 1)
+unfolding made_rows
+rows_more number w y = sym (over_more (λ (i : ℕ). made_row number i w) y)
 
 -- the rows behind so many
 rows_from : ℕ → ℕ → ℕ → ℕ → List ℕ

@@ -23,9 +23,11 @@ use Rattle.vtex.specs.commands.Upgrade.{upgrade_task}
 use Rattle.vtex.specs.Machines.{Drawing}
 use Rattle.vtex.specs.commands.Walk.{WalkOf, HindersWalk, StandsInWay, contents_of, walk_inputs, walk_terms}
 use Rattle.vtex.specs.commands.Replay.{HasBadLine, replay_closes, replay_terms}
-use Rattle.vt_words.specs.Commands.{CommandText, PlainCommand, TileCommand, InfoCommand, GenCommand, UpgradeCommand, ReplayCommand, WalkCommand}
+use Rattle.vt_words.specs.Commands.{CommandText, PlainCommand, TileCommand, InfoCommand, GenCommand, UpgradeCommand, ReplayCommand, WalkCommand, TrialCommand}
 use Rattle.vt_words.specs.Replay.{ReplayText}
 use Rattle.vt_words.specs.Walk.{WalkText}
+use Rattle.vt_words.specs.Trial.{TrialText}
+use Rattle.vtex.specs.commands.Trial.{HindersTrial, trial_terms}
 use Rattle.vtex.proofs.Excluded.{same_bytes, there_told}
 
 -- whatever stands in the way of some contents has one status, and nothing is asked where all is as before
@@ -93,6 +95,20 @@ walk_sound m words = record {
       (sym (ap (λ (s : FolderState). s.asked) idle.folder)) (some_idle c.folder.before.files (walk_inputs words) c.folder.before.asked));
 }
 
+-- only a picture that does not fit may stand in the way of a trial
+trial_one : (words : TrialText) (contents : List Content) (a b : Hindrance) → HindersTrial words contents a → HindersTrial words contents b
+    → hindrance_status a ≡ hindrance_status b
+trial_one words contents (LargePicture picture wanted room) (LargePicture other more less) x y = refl
+trial_one words contents (FlawedBeside name flaw) b x y = absurd x
+trial_one words contents ManyTexels b x y = absurd x
+trial_one words contents (FewFrames frames needed) b x y = absurd x
+trial_one words contents (LargePicture picture wanted room) (FlawedBeside name flaw) x y = absurd y
+trial_one words contents (LargePicture picture wanted room) ManyTexels x y = absurd y
+trial_one words contents (LargePicture picture wanted room) (FewFrames frames needed) x y = absurd y
+
+trial_sound : (words : TrialText) → AreSound (trial_terms words)
+trial_sound words = record { one = trial_one words; idle = λ c idle. idle.folder }
+
 pub sound : (m : Drawing) (command : CommandText) → AreSound (terms_of m command)
 sound m (PlainCommand words) = task_sound (plain_task words)
 sound m (TileCommand words) = task_sound (tile_task words)
@@ -101,6 +117,7 @@ sound m (GenCommand words) = task_sound (gen_task words)
 sound m (UpgradeCommand words) = task_sound (upgrade_task words)
 sound m (ReplayCommand words) = replay_sound words
 sound m (WalkCommand words) = walk_sound m words
+sound m (TrialCommand words) = trial_sound words
 
 is_path : (name bytes : List ℕ) (p : PathView) (b : Content) → IsContent (Inputs.PathInput name) bytes (Inputs.PathContent p)
     → IsContent (Inputs.PathInput name) bytes b → Inputs.PathContent p ≡ b

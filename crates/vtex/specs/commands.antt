@@ -6,8 +6,9 @@ pub mod Gen
 pub mod Upgrade
 pub mod Replay
 pub mod Walk
+pub mod Trial
 use Rattle.std.specs.Prelude.{◌≡◌, ◌⊎◌, ℕ, List, Option, Some, IsNone, Result, Ok, Err}
-use Rattle.vt_words.specs.Commands.{CommandText, PlainCommand, TileCommand, InfoCommand, GenCommand, UpgradeCommand, ReplayCommand, WalkCommand, command_text}
+use Rattle.vt_words.specs.Commands.{CommandText, PlainCommand, TileCommand, InfoCommand, GenCommand, UpgradeCommand, ReplayCommand, WalkCommand, TrialCommand, command_text}
 use Rattle.vt_files.specs.Courses.{Course, IsIdle}
 use Rattle.vtex.specs.Machines.{Drawing}
 use Rattle.vtex.specs.Terms.{Terms, task_terms, EndsBy}
@@ -18,6 +19,7 @@ use Rattle.vtex.specs.commands.Gen.{gen_task}
 use Rattle.vtex.specs.commands.Upgrade.{upgrade_task}
 use Rattle.vtex.specs.commands.Replay.{replay_terms}
 use Rattle.vtex.specs.commands.Walk.{walk_terms}
+use Rattle.vtex.specs.commands.Trial.{trial_terms}
 use Rattle.vtex.specs.declared.refusal.Refusal.{Refusal}
 use Rattle.vtex.specs.declared.refusal.Refusal.TheVariants.{NoMemory, Usage, Fault, Flawed, TooFewFrames, DoesNotFit}
 
@@ -30,6 +32,7 @@ terms_of m (GenCommand words) = task_terms (gen_task words)
 terms_of m (UpgradeCommand words) = task_terms (upgrade_task words)
 terms_of m (ReplayCommand words) = replay_terms words
 terms_of m (WalkCommand words) = walk_terms m words
+terms_of m (TrialCommand words) = trial_terms words
 
 -- a refusal of words: they ask for nothing, or memory was wanting
 abbrev pub IsUnread : Option CommandText → Refusal → Type 0

@@ -13,6 +13,7 @@ mod info;
 mod plain;
 mod replay;
 mod tile;
+mod trial;
 mod upgrade;
 mod walk;
 
@@ -25,6 +26,7 @@ use std::alloc::Global;
 use std::sync::Wait;
 use std::thread::Threads;
 use tile::tile;
+use trial::trial;
 use upgrade::upgrade;
 use vt_outside::{Folder, Gate, Sink};
 use vt_pass::PassMachine;
@@ -82,5 +84,6 @@ fn perform<
         Command::Upgrade(words) => upgrade(alloc, words, folder, out),
         Command::Replay(words) => replay(alloc, words, folder, out),
         Command::Walk(words) => walk::<M, Rt, D, O, G>(rt, alloc, words, folder, out, gate),
+        Command::Trial(words) => trial(rt, alloc, words, out, gate),
     }
 }

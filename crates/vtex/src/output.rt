@@ -68,8 +68,8 @@ fn line_of_store(geometry: &Geometry, depth: u32) -> Line
     line
 }
 
-// Adds words and a number to a line that has room for them.
-fn add(line: &mut Line, words: &[u8], number: u64)
+/// Adds words and a number to a line that has room for them.
+pub fn add(line: &mut Line, words: &[u8], number: u64)
     requires { length line.old + (length words.now + 20) ≤ LINE_ROOM }
     ensures gained { line.new ≡ line.old ++ words.now ++ number_spelling number }
     ensures length { length line.new ≤ length line.old + (length words.now + 20) }

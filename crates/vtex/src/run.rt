@@ -24,8 +24,9 @@ use vt_pass::PassMachine;
 /// its tile store; `info` tells what a tile store's header says; `gen` writes the texture of a number; `upgrade` reads a tile
 /// store of one-byte samples and writes the one of two-byte samples that it makes; `replay` reads a path, a store and a journal,
 /// and writes the replay of each picture of the journal; `walk` reads a path and opens a store, and writes a journal and each
-/// picture of the path as a machine of type `M` draws it while it streams the tiles of the store, whichever machine that is.
-/// `walk` may wait.
+/// picture of the path as a machine of type `M` draws it while it streams the tiles of the store, whichever machine that is; `trial`
+/// walks settled in memory over a texture and a path that are made from a number, and tells how many passes and reads it took.
+/// `walk` and `trial` may wait.
 pub fn run<
     M: PassMachine<File = D::File>,
     Rt: Threads + Wait + Sync,

@@ -4,6 +4,7 @@ mod generate;
 mod replays;
 mod stores;
 mod textures;
+mod trials;
 mod walks;
 
 use crate::run::run;

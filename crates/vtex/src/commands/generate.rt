@@ -57,8 +57,8 @@ fn header_of(alloc: Global, width: u32, height: u32) -> Result<Vec<u8>, AllocErr
     Ok(format!(in alloc; "P6\n{width} {height}\n{GREATEST}\n")?.into_bytes())
 }
 
-// Writes the samples of a row of so many texels.
-fn make_row(number: u32, y: u32, columns: u32, row: &mut [u8])
+/// Writes the samples of a row of so many texels.
+pub fn make_row(number: u32, y: u32, columns: u32, row: &mut [u8])
     requires room { length row.old ≡ 3 * columns }
     requires number { number ≤ most_number }
     requires inside { y < most_read_side }

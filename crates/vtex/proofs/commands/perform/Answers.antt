@@ -3,7 +3,7 @@ use Rattle.vt_words.specs.Tile.{shown_tile}
 use Rattle.vt_words.specs.Info.{shown_info}
 use Rattle.vt_words.specs.Gen.{shown_gen}
 use Rattle.vt_words.specs.Upgrade.{shown_upgrade}
-use Rattle.vt_files.specs.Courses.{course, sink_state}
+use Rattle.vt_files.specs.Courses.{course, folder_state, sink_state}
 use Rattle.vtex.specs.commands.Plain.{plain_task}
 use Rattle.vtex.specs.commands.Tile.{tile_task}
 use Rattle.vtex.specs.commands.Info.{info_task}
@@ -42,3 +42,6 @@ returns-in-Replay g c = rw c.in-Replay.is c.replay.ensures
 
 pub returns-in-Walk : goal.returns-in-Walk
 returns-in-Walk g c = rw c.in-Walk.is c.walk.ensures
+
+pub returns-in-Trial : goal.returns-in-Trial
+returns-in-Trial g c = rw c.in-Trial.is (c.trial.ensures (folder_state g.D.Folder c.args.folder.now))
