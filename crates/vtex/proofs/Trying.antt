@@ -1,6 +1,6 @@
 -- What a trial comes to.
-use Rattle.std.proofs.Common.{◌≡◌, ℕ, ◌<◌, ◌≤◌, ◌⊎◌, List, [], ◌∷◌, ◌++◌, length, take, Option, Some, None, true, Result, Ok, Err, refl, sym, ap, subst, ◌∙◌, inl, inr, length-append, arith}
-use Rattle.std.specs.Prelude.{MatchResult, IfOk, IsSome, OnSome, is_some, option_map, option_and_then}
+use Rattle.std.proofs.Common.{◌≡◌, ℕ, ◌⊎◌, List, [], ◌∷◌, take, Option, Some, None, true, Result, Ok, Err, refl, sym, ap, subst, ◌∙◌, inl, inr, arith}
+use Rattle.std.specs.Prelude.{MatchResult, IfOk, OnSome, is_some, option_map}
 use Rattle.std.specs.Str.{bytes_eq}
 use Rattle.std.proofs.lemmas.Bool.{false≢true}
 use Rattle.std.proofs.lemmas.Slice.Eq.{bytes_eq-Decides}
@@ -31,11 +31,11 @@ use Rattle.vt_walk.specs.Turns.{LeftBy}
 use Rattle.vt_walk.proofs.Rounds.{each_fits}
 use Rattle.vt_walk.proofs.Wholeness.{fits_or_not}
 use Rattle.vt_words.specs.Trial.{TrialText}
-use Rattle.vt_files.specs.Courses.{FolderState, SinkState, Gain, Course, IsUntouched}
+use Rattle.vt_files.specs.Courses.{FolderState, SinkState, Gain, IsUntouched}
 use Rattle.vt_files.specs.Dues.{FailsOnly, Puts}
 use Rattle.vtex.specs.Terms.{Hindrance, FlawedBeside, ManyTexels, FewFrames, LargePicture, IsRefusalBy, EndsBy}
 use Rattle.vtex.specs.Refusals.{cause_of}
-use Rattle.vtex.specs.commands.Trial.{trial_shape, trial_path, trial_settings, trial_setup, trial_line, trial_terms, IsTrial, IsFirstUnfit, IsUnfit, HindersTrial, answer_of_trial, IsWalkRefusal, IsTrialRefusal, WalksOver, Compares, TriesOut, beside}
+use Rattle.vtex.specs.commands.Trial.{trial_shape, trial_path, trial_settings, trial_setup, trial_line, trial_terms, IsTrial, IsFirstUnfit, HindersTrial, answer_of_trial, IsWalkRefusal, IsTrialRefusal, WalksOver, Compares, TriesOut, beside}
 use Rattle.vtex.specs.declared.commands.trial.Tried.{Tried}
 use Rattle.vtex.specs.declared.refusal.Refusal.{Refusal}
 use Rattle.vtex.specs.declared.refusal.Refusal.TheVariants.{NoMemory, Usage, Fault, Flawed, TooFewFrames, DoesNotFit}
