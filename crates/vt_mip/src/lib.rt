@@ -15,4 +15,6 @@ pub use strip_chain::StripChain;
 pub use taken_rows::Halving;
 
 #[cfg(test)]
+mod strip_tests;
+#[cfg(test)]
 mod tests;

@@ -21,4 +21,6 @@ pub use widen::widen_store;
 pub use write::{tile_columns, write_store};
 
 #[cfg(test)]
+mod strip_tests;
+#[cfg(test)]
 mod tests;

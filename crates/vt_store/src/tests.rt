@@ -25,13 +25,17 @@ fn list_of(alloc: Global, calls: &[Fail]) -> Result<Fails, NoMemory> {
     Ok(fails)
 }
 
-fn folder_of(alloc: Global, calls: &[Fail], bytes: &[u8]) -> Result<MemoryFolder, NoMemory> {
+pub(crate) fn folder_of(
+    alloc: Global,
+    calls: &[Fail],
+    bytes: &[u8],
+) -> Result<MemoryFolder, NoMemory> {
     let mut folder = MemoryFolder::new(alloc, list_of(alloc, calls)?);
     folder.add("a", bytes)?;
     Ok(folder)
 }
 
-fn holds(folder: &MemoryFolder, name: &str, bytes: &[u8]) -> bool {
+pub(crate) fn holds(folder: &MemoryFolder, name: &str, bytes: &[u8]) -> bool {
     match folder.bytes_of(name) {
         Some(held) => held == bytes,
         None => false,
