@@ -1,14 +1,18 @@
 -- The pieces in which a raster is looked over.
-use Rattle.std.proofs.Common.{◌≡◌, ℕ, ◌+◌, ◌-◌, ◌*◌, ◌/◌, ◌<◌, ◌≤◌, Bool, true, false, List, [], ◌∷◌, ◌++◌, min, Option, Some, None, option_map, IfSome, Err, refl, sym, ap, ◌∙◌, subst, arith, append_assoc}
+use Rattle.std.proofs.Common.{◌≡◌, ℕ, zero, suc, ◌+◌, ◌-◌, ◌*◌, ◌/◌, ◌<◌, ◌≤◌, Bool, true, false, List, [], ◌∷◌, ◌++◌, min, All, Option, Some, None, option_map, IfSome, Result, Ok, Err, refl, sym, ap, ◌∙◌, subst, arith, append_assoc}
 use Rattle.std.proofs.Math.Nat.{div-mul-le_self}
 use Rattle.std.proofs.lemmas.List.FromFn.{map-range_with_len_more}
-use Rattle.std.proofs.lemmas.Nat.{mul-le}
+use Rattle.std.proofs.lemmas.List.Elements.{All-nil, All-cons, All-append}
+use Rattle.std.proofs.lemmas.Nat.{mul-le, le-div}
+use Rattle.vt_definitions.specs.Depths.{texel_length}
 use Rattle.vt_outside.specs.declared.place.Place.{Place}
 use Rattle.vt_outside.specs.Files.{noted}
 use Rattle.vt_ppm.specs.declared.error.PpmError.{PpmError}
 use Rattle.vt_ppm.specs.declared.error.PpmError.TheVariants.{BadMagic, BadHeader, BadSize, BadMaximum, Truncated, SampleOver, Failed, NoMemory}
 use Rattle.vt_ppm.specs.declared.header.Header.{Header}
-use Rattle.vt_ppm.specs.Strips.{HasSamplesIfTold, AreRowsUpTo, RowsAsked, ChecksRows, ChecksPieces, PiecesAsked, row_length, row_start, piece_rows, pieces_of, piece_count, piece_place, piece_places}
+use Rattle.vt_ppm.specs.Format.{depth_of}
+use Rattle.vt_ppm.proofs.SampleValues.{by_depth, depth_is}
+use Rattle.vt_ppm.specs.Strips.{IsTextureHeader, IsRowsPlace, GainsRows, HasSamplesIfTold, AreRowsUpTo, RowsAsked, ChecksRows, ChecksPieces, PiecesAsked, row_length, row_start, piece_rows, pieces_of, piece_count, piece_place, piece_places}
 
 -- so many rows from one on are a piece, of so many rows in pieces of so many
 pub record IsPieceOf (step rows i y count : ℕ) : Type 0 where
@@ -94,3 +98,47 @@ found_next P Q o n e before next = found o before (subst (λ t. IfSome t (λ b. 
 
 pub samples_told : (told : Option (List ℕ)) (h : Header) (k : ℕ) → k ≡ h.height → IfSome told (λ b. AreRowsUpTo h b k) → HasSamplesIfTold told h
 samples_told told h k e few = record { each = λ b same. subst (λ n. AreRowsUpTo h b n) e (subst (λ t. IfSome t (λ b. AreRowsUpTo h b k)) same few) }
+
+-- a piece is rows of the raster
+piece_of_rows : (h : Header) (failed : Bool) (i : ℕ) → i < pieces_of h → 1 ≤ piece_rows h → IsRowsPlace h (piece_place h failed i)
+piece_of_rows h failed i below some =
+    let p = piece_numbers (piece_rows h) h.height i (i * piece_rows h) (piece_count h i) some below refl refl in
+    record { y = i * piece_rows h; count = piece_count h i; inside = p.inside; begins = refl; whole = refl }
+
+pieces_of_rows : (h : Header) (n : ℕ) → n ≤ pieces_of h → 1 ≤ piece_rows h → All (IsRowsPlace h) (piece_places h n)
+pieces_of_rows h zero few some = All-nil (IsRowsPlace h)
+pieces_of_rows h (suc n) few some =
+    let next : n + 1 ≡ suc n = omega arith in
+    subst (λ k. All (IsRowsPlace h) (piece_places h k)) next (subst (All (IsRowsPlace h)) (sym (map-range_with_len_more (piece_place h false) 0 n n (omega arith)))
+    (All-append (IsRowsPlace h) (piece_places h n) (piece_place h false n ∷ []) (pieces_of_rows h n (omega arith) some)
+    (All-cons (IsRowsPlace h) (piece_place h false n) [] (piece_of_rows h false n (omega arith) some) (All-nil (IsRowsPlace h)))))
+
+front_gains : (h : Header) (n : ℕ) (a0 a1 : Option (List Place)) → n ≤ pieces_of h → 1 ≤ piece_rows h → PiecesAsked h n a0 a1 → GainsRows h a0 a1
+front_gains h n a0 a1 few some asked = record { places = piece_places h n; gained = asked; each = pieces_of_rows h n few some }
+
+-- looking a raster over asks for places of its rows
+pub check_gains : (h : Header) {T : Type 0} (r : Result T PpmError) (a0 a1 : Option (List Place)) → 1 ≤ piece_rows h → ChecksPieces h r a0 a1
+    → GainsRows h a0 a1
+check_gains h (Ok v) a0 a1 some asked = front_gains h (pieces_of h) a0 a1 (omega arith) some asked
+check_gains h (Err (SampleOver at)) a0 a1 some asked = front_gains h (asked.0 + 1) a0 a1 (omega (arith, asked.1)) some asked.3
+check_gains h (Err Failed) a0 a1 some asked = record {
+  places = piece_places h asked.0 ++ piece_place h true asked.0 ∷ [];
+  gained = asked.2;
+  each = All-append (IsRowsPlace h) (piece_places h asked.0) (piece_place h true asked.0 ∷ [])
+      (pieces_of_rows h asked.0 (omega (arith, asked.1)) some)
+      (All-cons (IsRowsPlace h) (piece_place h true asked.0) [] (piece_of_rows h true asked.0 asked.1 some) (All-nil (IsRowsPlace h)));
+}
+check_gains h (Err BadMagic) a0 a1 some none = absurd none
+check_gains h (Err (BadHeader at)) a0 a1 some none = absurd none
+check_gains h (Err BadSize) a0 a1 some none = absurd none
+check_gains h (Err BadMaximum) a0 a1 some none = absurd none
+check_gains h (Err (Truncated want have)) a0 a1 some none = absurd none
+check_gains h (Err NoMemory) a0 a1 some none = absurd none
+
+-- there are rows in a piece
+pub some_rows : (h : Header) → IsTextureHeader h → 1 ≤ piece_rows h
+some_rows h is = by_depth (λ d. 1 ≤ min h.height ((1048575 + texel_length d * h.width) / (texel_length d * h.width)))
+    (rows_of 3 (omega (arith, is.sides.some_columns))) (rows_of 6 (omega (arith, is.sides.some_columns))) (depth_of h.maximum) (depth_is h.maximum)
+  where
+    rows_of : (z : ℕ) → 1 ≤ z * h.width → 1 ≤ min h.height ((1048575 + z * h.width) / (z * h.width))
+    rows_of z some = omega (arith, is.sides.some_rows, le-div 1 (1048575 + z * h.width) (z * h.width) some (omega arith))

@@ -1,5 +1,5 @@
 -- A texture that is read by strips, which are whole rows.
-use Rattle.std.specs.Prelude.{◌≡◌, ℕ, zero, suc, ◌+◌, ◌-◌, ◌*◌, ◌/◌, ◌<◌, ◌≤◌, Bool, true, false, List, [], ◌∷◌, ◌++◌, length, map, take, drop, min, Option, Some, option_map, Result, Ok, Err}
+use Rattle.std.specs.Prelude.{◌≡◌, ℕ, zero, suc, ◌+◌, ◌-◌, ◌*◌, ◌/◌, ◌<◌, ◌≤◌, Bool, true, false, List, [], ◌∷◌, ◌++◌, length, map, All, take, drop, min, Option, Some, option_map, Result, Ok, Err}
 use Rattle.std.specs.List.{range_with_len}
 use Rattle.vt_definitions.specs.Depths.{texel_length, sample_at}
 use Rattle.vt_definitions.specs.Limits.{header_limit, most_tiled_side}
@@ -12,6 +12,7 @@ use Rattle.vt_ppm.specs.declared.header.Header.{Header}
 use Rattle.vt_ppm.specs.Image.{ImageView}
 use Rattle.vt_ppm.specs.Format.{IsMaximum, IsTexture, AreUpTo, depth_of, scaled}
 use Rattle.vt_ppm.specs.Flaws.{AreImageSides, IsLawfulHeader}
+use Rattle.vt_ppm.specs.Reads.{Gains}
 
 -- a reader of strips: its file, the header of the texture, and whether no sample was found above the maximum
 pub record StripView (F : Type 0) : Type 0 where
@@ -144,3 +145,17 @@ file_after (Err refusal) = refusal.0
 abbrev pub answer_in : {F : Type 0} → Result (StripView F) (F × PpmError) → Result Header PpmError
 answer_in (Ok reader) = Ok reader.header
 answer_in (Err refusal) = Err refusal.1
+
+-- the place of rows of the raster: so many from one on
+pub record IsRowsPlace (h : Header) (place : Place) : Type 0 where
+  pub y : ℕ
+  pub count : ℕ
+  pub inside : y + count ≤ h.height
+  pub begins : place.at ≡ row_start h y
+  pub whole : place.len ≡ count * row_length h
+
+-- places of rows were asked more, and no other
+pub record GainsRows (h : Header) (before after : Option (List Place)) : Type 0 where
+  pub places : List Place
+  pub gained : Gains before after places
+  pub each : All (IsRowsPlace h) places

@@ -14,7 +14,8 @@ pub enum PpmError {
     /// wrong so, `at` is how many bytes there are, or how many a header may have.
     #[error("bad header at byte {at}")]
     BadHeader { at: u64 },
-    /// A side is 0, or above 8,192.
+    /// A side is 0, or above the limit: 8,192 for an image that is read whole, and 16,384 for a texture that is read by rows
+    /// and for a header alone.
     #[error("bad size")]
     BadSize,
     /// The maximum is 0 or above 65,535.
