@@ -4,12 +4,12 @@ use Rattle.std.proofs.Math.Seq.{take-append_seam, drop-append_seam}
 use Rattle.std.proofs.lemmas.List.{take-append-drop, length-take-le}
 use Rattle.vt_ppm.specs.declared.error.PpmError.{PpmError}
 use Rattle.vt_ppm.specs.declared.error.PpmError.TheVariants.{BadMagic, BadHeader, BadSize, BadMaximum, Truncated, SampleOver, Failed, NoMemory}
-use Rattle.vt_definitions.specs.Limits.{most_read_side}
+use Rattle.vt_definitions.specs.Limits.{most_read_side, most_tiled_side}
 use Rattle.vt_definitions.specs.Depths.{IsDepth, AreBytes, sample_at, texel_length}
 use Rattle.vt_definitions.proofs.TexelWords.{words_small}
 use Rattle.vt_ppm.specs.Image.{ImageView, texel_of}
-use Rattle.vt_ppm.specs.Format.{IsHeader, HasHeader, AreSameHeaders, IsImage, AreScaled, depth_of, scaled}
-use Rattle.vt_ppm.specs.Flaws.{AreImageSides, HasBadSize, IsSized, HasBadMaximum, IsLawfulHeader, IsTruncated, IsSampleOver, IsImageFlaw}
+use Rattle.vt_ppm.specs.Format.{IsHeader, HasHeader, AreSameHeaders, IsImageUpTo, AreScaled, depth_of, scaled}
+use Rattle.vt_ppm.specs.Flaws.{AreImageSides, HasBadSize, IsSized, HasBadMaximum, IsLawfulHeader, IsTruncated, IsSampleOver, IsFlawUpTo}
 use Rattle.vt_ppm.proofs.SampleValues.{front_sample, sample_room, samples_of_texels, same_bytes}
 use Rattle.vt_ppm.proofs.Headers.{AreSameTexts, header_is_one}
 
@@ -34,8 +34,8 @@ magic_of_start b r w h m i =
     ap (take 2) e
 
 -- the header of an image
-pub start_of_image : (b : List ℕ) (p : ImageView) (i : IsImage b p) → HasHeader b (length i.text) p.width p.height i.maximum
-start_of_image b p i =
+pub start_of_image : (most : ℕ) (b : List ℕ) (p : ImageView) (i : IsImageUpTo most b p) → HasHeader b (length i.text) p.width p.height i.maximum
+start_of_image most b p i =
     let e : take (length i.text) b ≡ i.text = ap (take (length i.text)) i.spelt ∙ take-append_seam i.text (i.raster ++ i.rest) in
     record {
       within = omega (arith, ap length i.spelt, length-append i.text (i.raster ++ i.rest));
@@ -70,10 +70,10 @@ module _ (most : ℕ) (b : List ℕ) (r w h m : ℕ) (known : IsSized most b r w
       elim bad.bad [ inl none ↦ omega (arith, e.maximum, none, some) | inr many ↦ omega (arith, e.maximum, many, few) ]
 
 -- the header of an image is lawful
-pub lawful_of_image : (b : List ℕ) (p : ImageView) (i : IsImage b p) → IsLawfulHeader most_read_side b (length i.text) p.width p.height i.maximum
-lawful_of_image b p i = record {
+pub lawful_of_image : (most : ℕ) (b : List ℕ) (p : ImageView) (i : IsImageUpTo most b p) → IsLawfulHeader most b (length i.text) p.width p.height i.maximum
+lawful_of_image most b p i = record {
   sized = record {
-    header = start_of_image b p i;
+    header = start_of_image most b p i;
     sides = record {
       some_columns = i.image.some_columns;
       few_columns = i.image.few_columns;
@@ -85,47 +85,47 @@ lawful_of_image b p i = record {
 }
 
 -- the raster of an image, and the bytes of an image as those of its parts
-length_of_raster : (b : List ℕ) (p : ImageView) (i : IsImage b p) → length i.raster ≡ texel_length (depth_of i.maximum) * (p.width * p.height)
-length_of_raster b p i = i.full ∙ ap (λ d. texel_length d * (p.width * p.height)) i.depth_is
+length_of_raster : (most : ℕ) (b : List ℕ) (p : ImageView) (i : IsImageUpTo most b p) → length i.raster ≡ texel_length (depth_of i.maximum) * (p.width * p.height)
+length_of_raster most b p i = i.full ∙ ap (λ d. texel_length d * (p.width * p.height)) i.depth_is
 
-length_of_image : (b : List ℕ) (p : ImageView) (i : IsImage b p)
+length_of_image : (most : ℕ) (b : List ℕ) (p : ImageView) (i : IsImageUpTo most b p)
     → length b ≡ length i.text + (texel_length (depth_of i.maximum) * (p.width * p.height) + length i.rest)
-length_of_image b p i =
+length_of_image most b p i =
     ap length i.spelt ∙ length-append i.text (i.raster ++ i.rest) ∙ ap (λ k. length i.text + k)
-    (length-append i.raster i.rest ∙ ap (λ k. k + length i.rest) (length_of_raster b p i))
+    (length-append i.raster i.rest ∙ ap (λ k. k + length i.rest) (length_of_raster most b p i))
 
-image_is_whole : (b : List ℕ) (p : ImageView) (want have : ℕ) → IsImage b p → IsTruncated most_read_side b want have → ⊥
-image_is_whole b p want have i bad =
-    let start : HasHeader b (length i.text) p.width p.height i.maximum = start_of_image b p i in
+image_is_whole : (most : ℕ) (b : List ℕ) (p : ImageView) (want have : ℕ) → IsImageUpTo most b p → IsTruncated most b want have → ⊥
+image_is_whole most b p want have i bad =
+    let start : HasHeader b (length i.text) p.width p.height i.maximum = start_of_image most b p i in
     let e : AreSameHeaders (length i.text) p.width p.height i.maximum bad.raster bad.width bad.height bad.maximum =
     start_is_one b (length i.text) p.width p.height i.maximum bad.raster bad.width bad.height bad.maximum start bad.header.sized.header in
     few (length i.text) bad.raster (texel_length (depth_of i.maximum) * (p.width * p.height))
     (texel_length (depth_of bad.maximum) * (bad.width * bad.height)) (length i.rest) (length b) want have e.raster
     (same_rasters i.maximum p.width p.height bad.maximum bad.width bad.height e.maximum e.width e.height)
-    (length_of_image b p i) bad.want_is bad.have_is bad.short
+    (length_of_image most b p i) bad.want_is bad.have_is bad.short
   where
     few : (t r n k rest l want have : ℕ) → t ≡ r → n ≡ k → l ≡ t + (n + rest) → want ≡ k → r + have ≡ l → have < want → ⊥
     few t r n k rest l want have e f total want_is have_is short = omega arith
 
 -- a sample behind the header is that of the raster
-sample_of_image : (b : List ℕ) (p : ImageView) (i : IsImage b p) (d r n : ℕ) → d ≡ p.depth → length i.text ≡ r → n < 3 * (p.width * p.height)
+sample_of_image : (most : ℕ) (b : List ℕ) (p : ImageView) (i : IsImageUpTo most b p) (d r n : ℕ) → d ≡ p.depth → length i.text ≡ r → n < 3 * (p.width * p.height)
     → sample_at d (drop r b) n ≡ sample_at p.depth i.raster n
-sample_of_image b p i d r n same from inside =
+sample_of_image most b p i d r n same from inside =
     let behind : drop r b ≡ i.raster ++ i.rest = ap (λ k. drop k b) (sym from) ∙ ap (drop (length i.text)) i.spelt
     ∙ drop-append_seam i.text (i.raster ++ i.rest) in
     ap (λ k. sample_at k (drop r b) n) same ∙ ap (λ xs. sample_at p.depth xs n) behind
     ∙ front_sample p.depth i.raster i.rest n i.image.depth (omega (arith, i.full, sample_room p.depth n (p.width * p.height) i.image.depth inside))
 
-image_is_under : (b : List ℕ) (p : ImageView) (at : ℕ) → IsImage b p → IsSampleOver most_read_side b at → ⊥
-image_is_under b p at i bad =
-    let start : HasHeader b (length i.text) p.width p.height i.maximum = start_of_image b p i in
+image_is_under : (most : ℕ) (b : List ℕ) (p : ImageView) (at : ℕ) → IsImageUpTo most b p → IsSampleOver most b at → ⊥
+image_is_under most b p at i bad =
+    let start : HasHeader b (length i.text) p.width p.height i.maximum = start_of_image most b p i in
     let e : AreSameHeaders (length i.text) p.width p.height i.maximum bad.raster bad.width bad.height bad.maximum =
     start_is_one b (length i.text) p.width p.height i.maximum bad.raster bad.width bad.height bad.maximum start bad.header.sized.header in
     let same : depth_of bad.maximum ≡ p.depth = ap depth_of (sym e.maximum) ∙ sym i.depth_is in
     let inside : bad.number < 3 * (p.width * p.height) =
     subst (λ k. bad.number < k) (sym (same_counts p.width p.height bad.width bad.height e.width e.height)) bad.within in
     let here : sample_at (depth_of bad.maximum) (drop bad.raster b) bad.number ≡ sample_at p.depth i.raster bad.number =
-    sample_of_image b p i (depth_of bad.maximum) bad.raster bad.number same e.raster inside in
+    sample_of_image most b p i (depth_of bad.maximum) bad.raster bad.number same e.raster inside in
     over (sample_at (depth_of bad.maximum) (drop bad.raster b) bad.number) (sample_at p.depth i.raster bad.number) i.maximum bad.maximum here
     (i.few bad.number inside) bad.over e.maximum
   where
@@ -133,16 +133,16 @@ image_is_under b p at i bad =
     over s t m n e few more f = omega arith
 
 -- an image has no flaw
-pub no_image_flaw : (b : List ℕ) (p : ImageView) (e : PpmError) → IsImage b p → IsImageFlaw b e → ⊥
-no_image_flaw b p BadMagic i bad = bad (magic_of_start b (length i.text) p.width p.height i.maximum (start_of_image b p i))
-no_image_flaw b p (BadHeader at) i bad = bad.1.none (length i.text) p.width p.height i.maximum (start_of_image b p i)
-no_image_flaw b p BadSize i bad = size_is_good most_read_side b (length i.text) p.width p.height i.maximum (lawful_of_image b p i).sized bad
-no_image_flaw b p BadMaximum i bad = maximum_is_good most_read_side b (length i.text) p.width p.height i.maximum
-    (lawful_of_image b p i).sized i.lawful.some i.lawful.few bad
-no_image_flaw b p (Truncated want have) i bad = image_is_whole b p want have i bad
-no_image_flaw b p (SampleOver at) i bad = image_is_under b p at i bad
-no_image_flaw b p Failed i bad = bad
-no_image_flaw b p NoMemory i bad = bad
+pub no_image_flaw : (most : ℕ) (b : List ℕ) (p : ImageView) (e : PpmError) → IsImageUpTo most b p → IsFlawUpTo most b e → ⊥
+no_image_flaw most b p BadMagic i bad = bad (magic_of_start b (length i.text) p.width p.height i.maximum (start_of_image most b p i))
+no_image_flaw most b p (BadHeader at) i bad = bad.1.none (length i.text) p.width p.height i.maximum (start_of_image most b p i)
+no_image_flaw most b p BadSize i bad = size_is_good most b (length i.text) p.width p.height i.maximum (lawful_of_image most b p i).sized bad
+no_image_flaw most b p BadMaximum i bad = maximum_is_good most b (length i.text) p.width p.height i.maximum
+    (lawful_of_image most b p i).sized i.lawful.some i.lawful.few bad
+no_image_flaw most b p (Truncated want have) i bad = image_is_whole most b p want have i bad
+no_image_flaw most b p (SampleOver at) i bad = image_is_under most b p at i bad
+no_image_flaw most b p Failed i bad = bad
+no_image_flaw most b p NoMemory i bad = bad
 
 abbrev made : ℕ → ℕ → ℕ → List ℕ → ImageView
 made d w h xs = record { depth = d; width = w; height = h; samples = xs }
@@ -155,8 +155,8 @@ view_same p q d e f g = ap (λ n. made n p.width p.height p.samples) d ∙ ap (�
 same_front : (xs ys r s : List ℕ) → length xs ≡ length ys → xs ++ r ≡ ys ++ s → xs ≡ ys
 same_front xs ys r s len e = sym (take-append_seam xs r) ∙ ap (λ k. take k (xs ++ r)) len ∙ ap (take (length ys)) e ∙ take-append_seam ys s
 
-pub image_of_bytes : (b : List ℕ) (p : ImageView) → IsImage b p → AreBytes p.samples
-image_of_bytes b p i = i.bytes
+pub image_of_bytes : (most : ℕ) (b : List ℕ) (p : ImageView) → IsImageUpTo most b p → AreBytes p.samples
+image_of_bytes most b p i = i.bytes
 
 pub word_is_small : (p : ImageView) (x y : ℕ) → IsDepth p.depth → AreBytes p.samples → texel_of p x y < 2 ^ (24 * p.depth)
 word_is_small p x y depth all = words_small p.depth p.samples (y * p.width + x) depth all
@@ -169,8 +169,8 @@ same_kept d e m n c k r s xs ys same ms cs rs first second i inside =
     first i inside ∙ sym other
 
 -- bytes spell one image at most
-pub one_image : (b : List ℕ) (p q : ImageView) → IsImage b p → IsImage b q → p ≡ q
-one_image b p q i j =
+pub one_image : (most : ℕ) (b : List ℕ) (p q : ImageView) → IsImageUpTo most b p → IsImageUpTo most b q → p ≡ q
+one_image most b p q i j =
     let both : i.text ++ (i.raster ++ i.rest) ≡ j.text ++ (j.raster ++ j.rest) = sym i.spelt ∙ j.spelt in
     let e : AreSameTexts i.text j.text (i.raster ++ i.rest) (j.raster ++ j.rest) p.width p.height i.maximum q.width q.height j.maximum =
     header_is_one i.text j.text (i.raster ++ i.rest) (j.raster ++ j.rest) p.width p.height i.maximum q.width q.height j.maximum i.header j.header both in
@@ -187,3 +187,29 @@ one_image b p q i j =
   where
     texels : (d n k : ℕ) → 3 * n ≡ 3 * k → texel_length d * n ≡ texel_length d * k
     texels d n k e = let same : n ≡ k = omega (arith, e) in ap (λ j. texel_length d * j) same
+
+-- an image that may be read whole is a texture
+pub image_is_texture : (b : List ℕ) (p : ImageView) → IsImageUpTo most_read_side b p → IsImageUpTo most_tiled_side b p
+image_is_texture b p i = record {
+  text = i.text;
+  raster = i.raster;
+  rest = i.rest;
+  maximum = i.maximum;
+  spelt = i.spelt;
+  header = i.header;
+  early = i.early;
+  lawful = i.lawful;
+  depth_is = i.depth_is;
+  image = record {
+    depth = i.image.depth;
+    some_columns = i.image.some_columns;
+    few_columns = omega (arith, i.image.few_columns);
+    some_rows = i.image.some_rows;
+    few_rows = omega (arith, i.image.few_rows);
+    full = i.image.full;
+  };
+  full = i.full;
+  few = i.few;
+  kept = i.kept;
+  bytes = i.bytes;
+}

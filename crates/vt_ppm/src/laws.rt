@@ -2,8 +2,8 @@
 ghost use Rattle.std.specs.Prelude.{◌≡◌, ℕ, ◌*◌, ◌<◌, ◌^◌, List};
 ghost use Rattle.vt_definitions.specs.Depths.{IsDepth, AreBytes};
 ghost use Rattle.vt_ppm.specs.declared.error.PpmError.{PpmError};
-ghost use Rattle.vt_ppm.specs.Flaws.{IsFlawUpTo, IsImageFlaw, IsLawfulHeader};
-ghost use Rattle.vt_ppm.specs.Format.{AreSameHeaders, HasHeader, IsImage};
+ghost use Rattle.vt_ppm.specs.Flaws.{IsFlawUpTo, IsLawfulHeader};
+ghost use Rattle.vt_ppm.specs.Format.{AreSameHeaders, HasHeader, IsImage, IsImageUpTo, IsTexture};
 ghost use Rattle.vt_ppm.specs.Image.{ImageView, IsLawfulImage, texel_of};
 ghost use Rattle.vt_ppm.specs.Picture.{picture_bytes};
 ghost use Rattle.vt_ppm.specs.Refusals.{IsRasterRefusal};
@@ -15,9 +15,14 @@ pub fn header_is_one()
     ensures { (b : List ℕ) (r w h m s u v n : ℕ) → HasHeader b r w h m → HasHeader b s u v n → AreSameHeaders r w h m s u v n }
 {}
 
-/// Bytes spell one image at most, so that a reader of told bytes can answer no other.
+/// Bytes spell one image at most, whatever the largest side that is taken, so that a reader of told bytes can answer no other.
 pub fn image_is_one()
-    ensures { (b : List ℕ) (p q : ImageView) → IsImage b p → IsImage b q → p ≡ q }
+    ensures { (most : ℕ) (b : List ℕ) (p q : ImageView) → IsImageUpTo most b p → IsImageUpTo most b q → p ≡ q }
+{}
+
+/// Bytes that spell an image that may be read whole spell it as a texture too, so that both readers answer the same samples.
+pub fn image_is_texture()
+    ensures { (b : List ℕ) (p : ImageView) → IsImage b p → IsTexture b p }
 {}
 
 /// The bytes that are written of an image spell that image.
@@ -27,7 +32,7 @@ pub fn written_is_read()
 
 /// The samples of an image that bytes spell are kept in bytes.
 pub fn spelt_samples_are_bytes()
-    ensures { (b : List ℕ) (p : ImageView) → IsImage b p → AreBytes p.samples }
+    ensures { (most : ℕ) (b : List ℕ) (p : ImageView) → IsImageUpTo most b p → AreBytes p.samples }
 {}
 
 /// The samples of an image in memory are kept in bytes.
@@ -51,7 +56,7 @@ pub fn texel_words_are_small()
 
 /// The bytes of an image have no flaw, so that a reader that refuses only for a flaw of the bytes refuses no image.
 pub fn image_has_no_flaw()
-    ensures { (b : List ℕ) (p : ImageView) (e : PpmError) → IsImage b p → IsImageFlaw b e → ⊥ }
+    ensures { (most : ℕ) (b : List ℕ) (p : ImageView) (e : PpmError) → IsImageUpTo most b p → IsFlawUpTo most b e → ⊥ }
 {}
 
 /// Bytes have one flaw at most, whatever the largest side that is taken, so that a reader of told bytes can name no other.

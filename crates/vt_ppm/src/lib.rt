@@ -18,7 +18,8 @@ pub use header::Header;
 pub use image::Image;
 pub use laws::{
     flaw_is_one, header_has_no_flaw, header_is_one, image_has_no_flaw, image_is_one,
-    samples_are_bytes, spelt_samples_are_bytes, texel_words_are_small, written_is_read,
+    image_is_texture, samples_are_bytes, spelt_samples_are_bytes, texel_words_are_small,
+    written_is_read,
 };
 pub use picture::{encode, encode_wide};
 pub use read::{read_header, read_image};

@@ -11,6 +11,7 @@ use Rattle.vt_definitions.proofs.Words.{bytes_make_word}
 use Rattle.vt_definitions.proofs.TexelWords.{words_small}
 use Rattle.vt_outside.specs.Files.{IsPiece}
 use Rattle.vt_ppm.specs.Image.{texel_of}
+use Rattle.vt_definitions.specs.Limits.{most_read_side}
 use Rattle.vt_ppm.proofs.ImageLaws.{image_of_bytes}
 use Rattle.vt_mip.specs.Chains.{chain}
 use Rattle.vt_mip.proofs.Small.{chain_words_are_small}
@@ -129,7 +130,7 @@ pub stores_hold_chains : StoresHoldChains
 stores_hold_chains b texture tile k x y image accepted inside =
     stores_hold_sources (shape_of texture.width texture.height tile) texture.depth
     (chain texture.depth (texel_of texture) texture.width texture.height) k x y
-    image.image.depth accepted inside (chain_words_are_small texture k x y image.image.depth (image_of_bytes b texture image))
+    image.image.depth accepted inside (chain_words_are_small texture k x y image.image.depth (image_of_bytes most_read_side b texture image))
 
 dropped_bytes : (b : List ℕ) (k : ℕ) → AreBytes b → AreBytes (drop k b)
 dropped_bytes b k are = λ i d h. rw (get_or-drop k b i d) (are (k + i) d (omega (arith, length-drop k b)))

@@ -6,6 +6,7 @@ use Rattle.vt_camera.specs.Paths.{PathView}
 use Rattle.vt_camera.proofs.PathFields.{path_unique}
 use Rattle.vt_pages.specs.Shape.{Shape}
 use Rattle.vt_ppm.specs.Image.{ImageView}
+use Rattle.vt_definitions.specs.Limits.{most_read_side}
 use Rattle.vt_ppm.proofs.ImageLaws.{one_image}
 use Rattle.vt_files.specs.Courses.{Course, FolderState, IsIdle}
 use Rattle.vtex.specs.Inputs
@@ -126,13 +127,13 @@ is_path name bytes p _ x y = absurd y
 
 is_texture : (name bytes : List ℕ) (p : ImageView) (b : Content) → IsContent (Inputs.TextureInput name) bytes (Inputs.TextureContent p)
     → IsContent (Inputs.TextureInput name) bytes b → Inputs.TextureContent p ≡ b
-is_texture name bytes p (Inputs.TextureContent q) x y = ap Inputs.TextureContent (one_image bytes p q x y)
+is_texture name bytes p (Inputs.TextureContent q) x y = ap Inputs.TextureContent (one_image most_read_side bytes p q x y)
 is_texture name bytes p _ x y = absurd y
 
 is_tiled : (name : List ℕ) (tile : ℕ) (bytes : List ℕ) (p : ImageView) (b : Content)
     → IsContent (Inputs.TiledTexture name tile) bytes (Inputs.TextureContent p)
     → IsContent (Inputs.TiledTexture name tile) bytes b → Inputs.TextureContent p ≡ b
-is_tiled name tile bytes p (Inputs.TextureContent q) x y = ap Inputs.TextureContent (one_image bytes p q x.0 y.0)
+is_tiled name tile bytes p (Inputs.TextureContent q) x y = ap Inputs.TextureContent (one_image most_read_side bytes p q x.0 y.0)
 is_tiled name tile bytes p _ x y = absurd y
 
 is_store : (name bytes : List ℕ) (s : Shape) (d : ℕ) (b : Content) → IsContent (Inputs.StoreInput name) bytes (Inputs.StoreContent s d)
