@@ -113,7 +113,7 @@ pieces_of_rows h (suc n) few some =
     (All-append (IsRowsPlace h) (piece_places h n) (piece_place h false n ∷ []) (pieces_of_rows h n (omega arith) some)
     (All-cons (IsRowsPlace h) (piece_place h false n) [] (piece_of_rows h false n (omega arith) some) (All-nil (IsRowsPlace h)))))
 
-front_gains : (h : Header) (n : ℕ) (a0 a1 : Option (List Place)) → n ≤ pieces_of h → 1 ≤ piece_rows h → PiecesAsked h n a0 a1 → GainsRows h a0 a1
+pub front_gains : (h : Header) (n : ℕ) (a0 a1 : Option (List Place)) → n ≤ pieces_of h → 1 ≤ piece_rows h → PiecesAsked h n a0 a1 → GainsRows h a0 a1
 front_gains h n a0 a1 few some asked = record { places = piece_places h n; gained = asked; each = pieces_of_rows h n few some }
 
 -- looking a raster over asks for places of its rows

@@ -6,7 +6,7 @@ ghost use Rattle.vt_ppm.specs.Flaws.{IsHeaderFlaw};
 ghost use Rattle.vt_ppm.specs.Format.{depth_of};
 ghost use Rattle.vt_ppm.specs.Reads.{AsksHeader, AnswersOfHeader};
 ghost use Rattle.vt_ppm.specs.Refusals.{IsOutsideRefusal, IsSampleRefusal, IsCheckRefusal};
-ghost use Rattle.vt_ppm.specs.Strips.{AreRowsUpTo, HasRasterIfTold, HasSamplesIfTold, IsTextureIfTold, IsTextureHeader, ChecksPieces, ChecksRows, RowsAsked, piece_rows, row_length, rows_of, file_after, answer_in};
+ghost use Rattle.vt_ppm.specs.Strips.{AreRowsUpTo, HasRasterIfTold, HasSamplesIfTold, IsTextureIfTold, IsTextureHeader, ChecksPieces, ChecksRows, GainsRows, RowsAsked, piece_rows, row_length, rows_of, file_after, answer_in};
 
 use crate::header::depth_of;
 use crate::raster::{first_over, scale};
@@ -101,6 +101,7 @@ fn look_over<F: File>(file: &mut F, header: &Header, buffer: &mut [u8]) -> Resul
     ensures refusals { IfErr result IsCheckRefusal }
     ensures failed { IsErrOf result PpmError.Failed → Rose (F.faults file.old) (F.faults file.new) }
     ensures asked { ChecksPieces header.now result (F.asked file.old) (F.asked file.new) }
+    ensures rows { GainsRows header.now (F.asked file.old) (F.asked file.new) }
     ensures spare { F.spare file.old ≤ F.spare file.new + header.now.height }
     ensures bytes { F.bytes file.new ≡ F.bytes file.old }
     ensures name { F.name file.new ≡ F.name file.old }
@@ -204,6 +205,7 @@ impl<F: File> StripReader<F> {
         ensures refusals { IfErr result IsCheckRefusal }
         ensures failed { IsErrOf result PpmError.Failed → Rose (F.faults self.old.file) (F.faults self.new.file) }
         ensures asked { ChecksPieces self.old.header result (F.asked self.old.file) (F.asked self.new.file) }
+        ensures rows { GainsRows self.old.header (F.asked self.old.file) (F.asked self.new.file) }
         ensures spare { F.spare self.old.file ≤ F.spare self.new.file + self.old.header.height }
         ensures bytes { F.bytes self.new.file ≡ F.bytes self.old.file }
         ensures name { F.name self.new.file ≡ F.name self.old.file }
