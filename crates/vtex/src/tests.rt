@@ -2,9 +2,11 @@
 mod crews;
 mod generate;
 mod replays;
+mod rows;
 mod stores;
 mod textures;
 mod trials;
+mod walk_stops;
 mod walks;
 
 use crate::run::run;

@@ -1,5 +1,5 @@
 // Runs of `tile` and `info`, and what runs of other commands on stores share.
-mod upgrade;
+pub(super) mod upgrade;
 
 use super::{FAULT, G4, Left, PATH, USAGE, one_fail, play_over};
 use std::alloc::Global;
