@@ -7,8 +7,8 @@ ghost use Rattle.vt_journal.specs.JournalText.{IsEventInChain};
 use super::versions::one_map;
 use super::{LOST_TILE, SETTLED};
 use crate::{
-    Change, Event, Events, Journal, PassText, RowLine, RowLines, parse_journal, write_head,
-    write_pass,
+    Change, Event, Events, Journal, PassText, RowLine, RowLines, add_pass, parse_journal,
+    write_head, write_pass,
 };
 use std::alloc::Global;
 use std::process::Abort;
@@ -75,13 +75,14 @@ fn head_text(rt: &impl Abort, alloc: Global, geometry: &Geometry) -> Result<Vec<
     Ok(write_head(alloc, geometry, &journal, 1)?)
 }
 
-// The text of a pass.
-fn pass_text(
+// Appends the text of a pass, which is the same as what is written of it alone.
+fn add_text(
     rt: &impl Abort,
     alloc: Global,
+    text: &mut Vec<u8>,
     geometry: &Geometry,
     told: &Told,
-) -> Result<Vec<u8>, Fail> {
+) -> Result<(), Fail> {
     let pass = PassText {
         pass: told.pass,
         picture: told.picture,
@@ -92,7 +93,10 @@ fn pass_text(
     assert!(rt; are_in_chain(geometry, pass.events.slice()));
     assert!(rt; pass.events.len() < 100);
     assert!(rt; pass.start < 100);
-    Ok(write_pass(alloc, geometry, &pass)?)
+    add_pass(text, geometry, &pass)?;
+    let alone = write_pass(alloc, geometry, &pass)?;
+    assert!(rt; text.as_slice().ends_with(alone.as_slice()));
+    Ok(())
 }
 
 // Looks that a pass that was read tells what it is to tell.
@@ -115,7 +119,7 @@ fn are_told(
     let geometry = Geometry::new(4, 4, 2)?;
     let mut written = head_text(rt, alloc, &geometry)?;
     for told in passes {
-        written.extend_from_slice(pass_text(rt, alloc, &geometry, told)?.as_slice())?;
+        add_text(rt, alloc, &mut written, &geometry, told)?;
     }
     assert_eq!(rt; written.as_slice(), text.as_bytes());
     let read = parse_journal(alloc, &geometry, 1, written.as_slice())?;
