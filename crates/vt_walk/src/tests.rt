@@ -1,6 +1,5 @@
 //! Walks by the machine over a still table, in a folder in memory.
 
-mod failing;
 mod live;
 mod settled;
 mod worked;
