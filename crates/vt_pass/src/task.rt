@@ -13,6 +13,9 @@ pub trait Task {
     /// What all workers share.
     type Shared: Sync;
 
+    /// Whether it is to be at work while others are, in a thread of its own.
+    const BESIDE: bool = true;
+
     /// It may begin, on what is shared and for the pass's job.
     ghost ready: { Self.Shared → Job → Self → Type 0 };
 

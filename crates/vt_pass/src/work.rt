@@ -12,7 +12,8 @@ use vt_draw::Shot;
 use vt_evict::Planned;
 use vt_outside::Gate;
 
-// The loaders, and beside them the samplers and the streamer.
+// The loaders, and beside them the samplers and the streamer. Threads cost more than what they do where nothing is to be read, and
+// one request is taken by one loader.
 pub(crate) fn work_together<
     Rt: Threads + Wait + Sync,
     S: Sync,
@@ -37,6 +38,11 @@ pub(crate) fn work_together<
     ensures samplers { AllDid (M.did shared.now (job_of shot.now batch.now)) samplers.old samplers.new }
     ensures streamer { R.did shared.now (job_of shot.now batch.now) streamer.old streamer.new }
 {
+    if batch.is_empty() {
+        work_in_turn(rt, loaders, shared, shot, batch, gate);
+        draw_beside(rt, samplers, streamer, shared, shot, batch, gate);
+        return;
+    }
     join_mut(
         rt,
         &mut || -> ()
@@ -44,7 +50,7 @@ pub(crate) fn work_together<
                 × AllReady (L.ready shared.now (job_of shot.now batch.now)) loaders.now }
             ensures { AllDid (L.did shared.entry.now (job_of shot.entry.now batch.entry.now)) loaders.entry.now
                 loaders.exit.now }
-        { work_all(rt, loaders, shared, shot, batch, gate) },
+        { load_all(rt, loaders, shared, shot, batch, gate) },
         &mut || -> ()
             requires { IsSync Rt.row × IsSync G.row × IsSync S.row × IsSend M.row × IsSend R.row
                 × AllReady (M.ready shared.now (job_of shot.now batch.now)) samplers.now
@@ -56,7 +62,26 @@ pub(crate) fn work_together<
     );
 }
 
-// The samplers, and beside them the streamer.
+// All loaders, at once where there are several requests.
+fn load_all<Rt: Threads + Wait + Sync, S: Sync, L: Task<Shared = S> + Send, G: Gate + Sync>(
+    rt: &Rt,
+    loaders: &mut [L],
+    shared: &S,
+    shot: &Shot<'_>,
+    batch: &[Planned],
+    gate: &G,
+)
+    requires { AllReady (L.ready shared.now (job_of shot.now batch.now)) loaders.old }
+    ensures { AllDid (L.did shared.now (job_of shot.now batch.now)) loaders.old loaders.new }
+{
+    if batch.len() == 1 {
+        work_in_turn(rt, loaders, shared, shot, batch, gate);
+    } else {
+        work_all(rt, loaders, shared, shot, batch, gate);
+    }
+}
+
+// The samplers, and beside them the streamer, which has a thread of its own if it is to be at work meanwhile.
 fn draw_beside<
     Rt: Threads + Wait + Sync,
     S: Sync,
@@ -77,6 +102,11 @@ fn draw_beside<
     ensures samplers { AllDid (M.did shared.now (job_of shot.now batch.now)) samplers.old samplers.new }
     ensures streamer { R.did shared.now (job_of shot.now batch.now) streamer.old streamer.new }
 {
+    if !R::BESIDE {
+        work_all(rt, samplers, shared, shot, batch, gate);
+        streamer.work(rt, shared, shot, batch, gate);
+        return;
+    }
     join_mut(
         rt,
         &mut || -> ()
@@ -127,4 +157,28 @@ pub(crate) fn work_all<
                 high.exit.now }
         { work_all(rt, high, shared, shot, batch, gate) },
     );
+}
+
+// All tasks of a list, one after the other.
+fn work_in_turn<Rt: Threads + Wait, S: Sync, L: Task<Shared = S>, G: Gate>(
+    rt: &Rt,
+    tasks: &mut [L],
+    shared: &S,
+    shot: &Shot<'_>,
+    batch: &[Planned],
+    gate: &G,
+)
+    requires { AllReady (L.ready shared.now (job_of shot.now batch.now)) tasks.old }
+    ensures { AllDid (L.did shared.now (job_of shot.now batch.now)) tasks.old tasks.new }
+{
+    if tasks.is_empty() {
+        return;
+    }
+    if tasks.len() == 1 {
+        tasks[0].work(rt, shared, shot, batch, gate);
+        return;
+    }
+    let (low, high) = tasks.split_at_mut(tasks.len() / 2);
+    work_in_turn(rt, low, shared, shot, batch, gate);
+    work_in_turn(rt, high, shared, shot, batch, gate);
 }

@@ -1,7 +1,7 @@
 //! Pictures are written in the raw PPM form.
-ghost use Rattle.std.specs.Prelude.{◌≡◌, ◌*◌, length, IfOk};
-ghost use Rattle.vt_definitions.specs.Depths.{IsDepth};
-ghost use Rattle.vt_ppm.specs.Picture.{picture_bytes};
+ghost use Rattle.std.specs.Prelude.{◌≡◌, ◌*◌, length, IfOk, OnOk};
+ghost use Rattle.vt_definitions.specs.Depths.{IsDepth, texel_length};
+ghost use Rattle.vt_ppm.specs.Picture.{picture_header, picture_bytes};
 
 use std::alloc::Global;
 use vt_definitions::greatest_sample;
@@ -41,8 +41,37 @@ fn picture(
     requires { IsDepth depth }
     ensures { IfOk result (λ bytes. bytes.items ≡ picture_bytes depth width height samples.now) }
 {
-    let maximum = greatest_sample(depth);
-    let mut bytes = format!(in alloc; "P6\n{width} {height}\n{maximum}\n")?.into_bytes();
+    let mut bytes = header(alloc, depth, width, height)?;
     bytes.extend_from_slice(samples)?;
     Ok(bytes)
+}
+
+// What stands before the samples of a picture.
+fn header(alloc: Global, depth: u32, width: u32, height: u32) -> Result<Vec<u8>, NoMemory>
+    requires { IsDepth depth }
+    ensures { IfOk result (λ bytes. bytes.items ≡ picture_header depth width height) }
+{
+    let maximum = greatest_sample(depth);
+    Ok(format!(in alloc; "P6\n{width} {height}\n{maximum}\n")?.into_bytes())
+}
+
+/// Makes the bytes of a picture of the samples, each of `depth` bytes, 1 or 2, in a buffer, which can so serve one picture after the
+/// other. After want of memory the buffer may hold anything.
+pub fn encode_into(
+    bytes: &mut Vec<u8>,
+    alloc: Global,
+    depth: u32,
+    width: u32,
+    height: u32,
+    samples: &[u8],
+) -> Result<(), NoMemory>
+    requires depth { IsDepth depth }
+    requires full { length samples.now ≡ texel_length depth * (width * height) }
+    ensures { OnOk result (bytes.new.items ≡ picture_bytes depth width height samples.now) }
+{
+    let header = header(alloc, depth, width, height)?;
+    bytes.clear();
+    bytes.extend_from_slice(&header)?;
+    bytes.extend_from_slice(samples)?;
+    Ok(())
 }

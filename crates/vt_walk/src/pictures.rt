@@ -18,13 +18,14 @@ use std::alloc::Global;
 use vt_camera::Path;
 use vt_outside::{Folder, NoMemory, OutsideError, Sink};
 use vt_pass::PassMachine;
-use vt_ppm::{encode, encode_wide};
+use vt_ppm::encode_into;
 use vt_print::{LINE_ROOM, Line};
 use vt_words::picture_name;
 
 /// Writes the picture of a machine's last pass under its name, by one creation and one append. After a refusal the name is as
-/// before, or holds a front part of its bytes.
+/// before, or holds a front part of its bytes. These are made in the buffer.
 pub fn write_picture<D: Folder, M: PassMachine>(
+    buffer: &mut Vec<u8>,
     alloc: Global,
     folder: &mut D,
     machine: &M,
@@ -49,28 +50,9 @@ pub fn write_picture<D: Folder, M: PassMachine>(
     ensures faults { D.faults folder.old ≤ D.faults folder.new }
 {
     let samples = machine.picture(alloc)?;
-    let bytes = encoded(alloc, depth, path.width(), path.height(), &samples)?;
+    encode_into(buffer, alloc, depth, path.width(), path.height(), &samples)?;
     let name = picture_name(alloc, prefix, picture)?;
-    write_file(folder, name.as_str(), &bytes)
-}
-
-// The bytes of a picture whose samples have `depth` bytes.
-fn encoded(
-    alloc: Global,
-    depth: u32,
-    width: u32,
-    height: u32,
-    samples: &[u8],
-) -> Result<Vec<u8>, NoMemory>
-    requires depth { IsDepth depth }
-    requires full { length samples.now ≡ texel_length depth * (width * height) }
-    ensures { IfOk result (λ bytes. bytes.items ≡ picture_bytes depth width height samples.now) }
-{
-    if depth == 1 {
-        encode(alloc, width, height, samples)
-    } else {
-        encode_wide(alloc, width, height, samples)
-    }
+    write_file(folder, name.as_str(), buffer)
 }
 
 /// Puts the line of a picture with this tally, of whose pages so many are wanted, in one call. After a refusal a front part of it

@@ -216,7 +216,9 @@ fn take_turn<Rt: Threads + Wait + Sync, M: PassMachine, D: Folder, O: Sink, G: G
         rt, alloc, folder, machine, recency, tour, number, turn, buffer, gate,
     )?;
     judge(tour, &passed)?;
-    end_turn(alloc, folder, machine, recency, tour, number, passed, out)
+    end_turn(
+        buffer, alloc, folder, machine, recency, tour, number, passed, out,
+    )
 }
 
 // Makes the next pass of a walk, and tells it to the journal by a text that is made in the buffer.
@@ -387,6 +389,7 @@ fn is_finished(mode: Mode, loads_nothing: bool, plan: &Batch) -> bool
 
 // Writes the picture that a pass has finished, and its line, or leaves it to the next pass.
 fn end_turn<M: PassMachine, D: Folder, O: Sink>(
+    buffer: &mut Vec<u8>,
     alloc: Global,
     folder: &mut D,
     machine: &M,
@@ -441,6 +444,7 @@ fn end_turn<M: PassMachine, D: Folder, O: Sink>(
         });
     }
     write_picture(
+        buffer,
         alloc,
         folder,
         machine,

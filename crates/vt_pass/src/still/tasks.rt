@@ -41,6 +41,8 @@ impl Task for StillSampler {
 pub struct NoTask;
 
 impl Task for NoTask {
+    const BESIDE: bool = false;
+
     type Shared = StillShared;
 
     ghost ready = { λ _ _ _. Unit {0} };
