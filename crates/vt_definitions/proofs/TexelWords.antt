@@ -24,7 +24,8 @@ sample_small d bytes k (inl one) are = rw one narrow where
   narrow = (let b = byte_at bytes k are in let e = one_byte bytes k in omega (arith, b, e))
 sample_small d bytes k (inr two) are = rw two wide where
   wide : sample_at 2 bytes k < 65536
-  wide = (let a = byte_at bytes (2 * k) are in let b = byte_at bytes (2 * k + 1) are in let e = two_bytes bytes k (2 * k) (2 * k + 1) (omega arith) (omega arith) in omega (arith, a, b, e))
+  wide = (let a = byte_at bytes (2 * k) are in let b = byte_at bytes (2 * k + 1) are in let e = two_bytes bytes k (2 * k) (2 * k + 1) (omega arith)
+      (omega arith) in omega (arith, a, b, e))
 
 narrow_words : (bytes : List ℕ) (i : ℕ) → AreBytes bytes → word_bytes 1 (word_at 1 bytes i) ≡ texel_bytes 1 bytes i
 narrow_words bytes i are =

@@ -42,13 +42,15 @@ module _ (low pinned : ℕ) where
     | inl below ↦ inl (low_at p below, λ h. omega arith)
     | inr above ↦ elim (cases_lt p (low + pinned)) [
       | inl inside ↦ let e : low + (p - low) ≡ p = omega arith in let v = high_at (p - low) (omega arith) in
-          let w : slice_index (replicate low 0 ++ range_with_len 1 pinned) p ≡ p - low + 1 = ap (slice_index (replicate low 0 ++ range_with_len 1 pinned)) (sym e) ∙ v in
+          let w : slice_index (replicate low 0 ++ range_with_len 1 pinned) p ≡ p - low + 1 = ap (slice_index (replicate low 0
+              ++ range_with_len 1 pinned)) (sym e) ∙ v in
           inr (omega arith, above, inside)
       | inr past ↦ inl (past_at p past, λ h. past)
     ]
   ]
 
-pub first_table : (s : Shape) (frames pinned : ℕ) → IsWithinLimits s → frames ≤ most_frames → 1 ≤ pinned → pinned ≤ frames → pinned ≤ pages_of s → IsTable (first_view s frames pinned)
+pub first_table : (s : Shape) (frames pinned : ℕ) → IsWithinLimits s → frames ≤ most_frames → 1 ≤ pinned → pinned ≤ frames → pinned ≤ pages_of s
+    → IsTable (first_view s frames pinned)
 unfolding first_view IsDistinct
 first_table s frames pinned limits most some enough pages = record {
   limits = limits;
@@ -66,7 +68,8 @@ first_table s frames pinned limits most some enough pages = record {
   inside : (p : ℕ) → slice_index (replicate (pages_of s - pinned) 0 ++ range_with_len 1 pinned) p ≤ frames
   inside p = elim (at (pages_of s - pinned) pinned p) [ inl h ↦ omega (arith, h.0) | inr h ↦ omega (arith, h.0, h.2) ]
 
-  mapped : (p : ℕ) → p < pages_of s → nat_le (pages_of s) (p + pinned) ≡ true → nat_lt 0 (slice_index (replicate (pages_of s - pinned) 0 ++ range_with_len 1 pinned) p) ≡ true
+  mapped : (p : ℕ) → p < pages_of s → nat_le (pages_of s) (p + pinned) ≡ true
+      → nat_lt 0 (slice_index (replicate (pages_of s - pinned) 0 ++ range_with_len 1 pinned) p) ≡ true
   mapped p below pin = elim (at (pages_of s - pinned) pinned p) [
     | inl h ↦ absurd (let from : pages_of s ≤ p + pinned = le_is (pages_of s) (p + pinned) pin in let past = h.1 (omega arith) in omega arith)
     | inr h ↦ lt_true 0 (slice_index (replicate (pages_of s - pinned) 0 ++ range_with_len 1 pinned) p) (omega (arith, h.0, h.1))
@@ -78,7 +81,8 @@ first_table s frames pinned limits most some enough pages = record {
     lt_true a b h = grind (arith, nat_tests)
 
   apart : (p q : ℕ) → nat_lt 0 (slice_index (replicate (pages_of s - pinned) 0 ++ range_with_len 1 pinned) p) ≡ true
-      → slice_index (replicate (pages_of s - pinned) 0 ++ range_with_len 1 pinned) p ≡ slice_index (replicate (pages_of s - pinned) 0 ++ range_with_len 1 pinned) q → p ≡ q
+      → slice_index (replicate (pages_of s - pinned) 0 ++ range_with_len 1 pinned) p ≡ slice_index (replicate (pages_of s - pinned) 0
+      ++ range_with_len 1 pinned) q → p ≡ q
   apart p q m e = let some' : 0 < slice_index (replicate (pages_of s - pinned) 0 ++ range_with_len 1 pinned) p = lt_is 0 _ m in
       elim (at (pages_of s - pinned) pinned p) [
         | inl h ↦ absurd (omega (arith, h.0))
@@ -90,7 +94,8 @@ first_table s frames pinned limits most some enough pages = record {
   order : (p : ℕ) → false ≡ (nat_lt 0 (slice_index (replicate (pages_of s - pinned) 0 ++ range_with_len 1 pinned) p) && not (nat_le (pages_of s) (p + pinned)))
   order p = elim (at (pages_of s - pinned) pinned p) [
     | inl h ↦ zero_not (slice_index (replicate (pages_of s - pinned) 0 ++ range_with_len 1 pinned) p) (not (nat_le (pages_of s) (p + pinned))) h.0
-    | inr h ↦ pinned_not (nat_lt 0 (slice_index (replicate (pages_of s - pinned) 0 ++ range_with_len 1 pinned) p)) (pages_of s) (p + pinned) (omega (arith, h.1))
+    | inr h ↦ pinned_not (nat_lt 0 (slice_index (replicate (pages_of s - pinned) 0
+        ++ range_with_len 1 pinned) p)) (pages_of s) (p + pinned) (omega (arith, h.1))
   ] where
     zero_not : (n : ℕ) (b : Bool) → n ≡ 0 → false ≡ (nat_lt 0 n && b)
     zero_not n b e = grind (arith, nat_tests)
@@ -101,7 +106,8 @@ first_table s frames pinned limits most some enough pages = record {
 
 pub first_free : (s : Shape) (frames pinned : ℕ) → pinned ≤ pages_of s → (f : ℕ)
     → (nat_le pinned f && nat_lt f frames) ≡ (nat_lt f frames && not (is_held (replicate (pages_of s - pinned) 0 ++ range_with_len 1 pinned) f))
-first_free s frames pinned pages f = swap (nat_le pinned f) (nat_lt f frames) (is_held (replicate (pages_of s - pinned) 0 ++ range_with_len 1 pinned) f) held where
+first_free s frames pinned pages f = swap (nat_le pinned f) (nat_lt f frames) (is_held (replicate (pages_of s - pinned) 0
+    ++ range_with_len 1 pinned) f) held where
   swap : (a b c : Bool) → c ≡ not a → (a && b) ≡ (b && not c)
   swap true true c e = rw e refl
   swap true false c e = refl
@@ -117,7 +123,8 @@ first_free s frames pinned pages f = swap (nat_le pinned f) (nat_lt f frames) (i
     lt_true a b h = grind (arith, nat_tests)
 
   given : nat_lt f pinned ≡ true → is_held (replicate (pages_of s - pinned) 0 ++ range_with_len 1 pinned) f ≡ true
-  given e = held_from (replicate (pages_of s - pinned) 0 ++ range_with_len 1 pinned) f (pages_of s - pinned + f) (high_at (pages_of s - pinned) pinned f (lt_is f pinned e)) where
+  given e = held_from (replicate (pages_of s - pinned) 0 ++ range_with_len 1 pinned) f (pages_of s - pinned + f)
+      (high_at (pages_of s - pinned) pinned f (lt_is f pinned e)) where
     lt_is : (a b : ℕ) → nat_lt a b ≡ true → a < b
     lt_is a b h = grind (arith, nat_tests)
 

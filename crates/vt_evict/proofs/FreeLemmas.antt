@@ -31,7 +31,8 @@ range_sorted : (t : ℕ → Bool) (a n : ℕ) → IsStrictlySortedBy nat_cmp (fi
 unfolding IsStrictlySortedBy
 range_sorted t a zero = tt
 range_sorted t a (suc n) = step (t a) (range_sorted t (a + 1) n) where
-  step : (b : Bool) → IsStrictlySortedBy nat_cmp (filter t (range_with_len (a + 1) n)) → IsStrictlySortedBy nat_cmp (cond b (a ∷ filter t (range_with_len (a + 1) n)) (filter t (range_with_len (a + 1) n)))
+  step : (b : Bool) → IsStrictlySortedBy nat_cmp (filter t (range_with_len (a + 1) n))
+      → IsStrictlySortedBy nat_cmp (cond b (a ∷ filter t (range_with_len (a + 1) n)) (filter t (range_with_len (a + 1) n)))
   step true rest = (by_recursion-filter (λ y. nat_cmp a y ≡ Less) t (range_with_len (a + 1) n) (range_above a (a + 1) n (omega arith)), rest)
   step false rest = rest
 
@@ -43,10 +44,12 @@ is_in-range a (suc n) p = ap (λ (b : Bool). nat_eq p a || b) (is_in-range (a + 
   more : (a n p : ℕ) → (nat_eq p a || (nat_le (a + 1) p && nat_lt p (a + 1 + n))) ≡ (nat_le a p && nat_lt p (a + suc n))
   more a n p = grind (arith, nat_tests)
 
-pub free_is : (v : RecencyView) (free : List ℕ) → IsStrictlySortedBy nat_cmp free → ((f : ℕ) → is_in free f ≡ (nat_lt f v.frames && not (is_held v.entries f))) → free ≡ free_frames v
+pub free_is : (v : RecencyView) (free : List ℕ) → IsStrictlySortedBy nat_cmp free
+    → ((f : ℕ) → is_in free f ≡ (nat_lt f v.frames && not (is_held v.entries f))) → free ≡ free_frames v
 unfolding free_frames
 free_is v free sorted h =
-    btree_set_from_contains nat_cmp_total (record { keys = free }) (record { keys = filter (λ f. not (is_held v.entries f)) (range_with_len 0 v.frames) }) sorted
+    btree_set_from_contains nat_cmp_total (record { keys = free })
+        (record { keys = filter (λ f. not (is_held v.entries f)) (range_with_len 0 v.frames) }) sorted
     (range_sorted (λ f. not (is_held v.entries f)) 0 v.frames)
     (λ q. sym (is_in_as free q) ∙ h q ∙ sym (in_filter q) ∙ is_in_as (filter (λ f. not (is_held v.entries f)) (range_with_len 0 v.frames)) q)
     equal_same where

@@ -23,7 +23,8 @@ pub not_above : (s : Shape) (p q : ℕ) → IsWithinLimits s → q < pages_of s 
 not_above s p q limits inside above =
     let line = reaches_root s q (omega (arith, limits.least_tile)) limits.least_width limits.least_height inside in
     list_any_none (nat_eq p) (line_of s q) (All-from_get_or (λ x. nat_eq p x ≡ false) (line_of s q) 0
-    (λ i h. ne_eqb p (get_or (line_of s q) i 0) (λ e. let level = (line.levels i h).1 in let l : level_of s p ≡ level_of s (get_or (line_of s q) i 0) = ap (level_of s) e in omega (arith, level, l))))
+    (λ i h. ne_eqb p (get_or (line_of s q) i 0) (λ e. let level = (line.levels i h).1 in let l : level_of s p ≡ level_of s
+        (get_or (line_of s q) i 0) = ap (level_of s) e in omega (arith, level, l))))
 
 -- a page of a line is one of the chain's
 pub line_below : (s : Shape) (q p : ℕ) → IsWithinLimits s → q < pages_of s → is_in (line_of s q) p ≡ true → p < pages_of s
@@ -40,14 +41,16 @@ pub with_new : (xs : List ℕ) (p : ℕ) → is_in xs p ≡ false → with_page 
 with_new xs p e = ap (λ (b : Bool). cond b xs (xs ++ p ∷ [])) e
 
 -- a closed list that has a page has its line
-pub line_within : (s : Shape) (w : List ℕ) (up p : ℕ) → IsWithinLimits s → IsClosed s w → level_of s p + up + 1 ≡ levels_of s → p < pages_of s → is_in w p ≡ true
+pub line_within : (s : Shape) (w : List ℕ) (up p : ℕ) → IsWithinLimits s → IsClosed s w → level_of s p + up + 1 ≡ levels_of s → p < pages_of s
+    → is_in w p ≡ true
     → AllByRecursion (λ r. is_in w r ≡ true) (line_of s p)
 line_within s w zero p limits closed up inside there = rw (line-root s p limits inside (omega arith)) (there, tt)
 line_within s w (suc up) p limits closed e inside there =
     let more : level_of s p + 1 < levels_of s = omega arith in
     let at = parent_page s p (omega (arith, limits.least_tile)) limits.least_width inside more in
     rw (line-parent s p limits inside more)
-    (there, line_within s w up (index_of s (parent_name (name_at s p))) limits closed (omega (arith, at.level)) at.inside (closed.parents p _ there (parent_is s p more)))
+    (there, line_within s w up (index_of s (parent_name (name_at s p))) limits closed (omega (arith, at.level)) at.inside
+        (closed.parents p _ there (parent_is s p more)))
 
 -- the pages that a walk over the line of a page adds to a list
 abbrev pub walked_over : Shape → List ℕ → ℕ → List ℕ
@@ -64,13 +67,15 @@ pub over_none : (s : Shape) (w : List ℕ) (p : ℕ) → IsWithinLimits s → Is
 over_none s w p limits closed inside there =
     let below = level_below s p limits inside in
     let all = line_within s w (levels_of s - 1 - level_of s p) p limits closed (omega arith) inside there in
-    sym (ap (λ (l : List ℕ). w ++ l) (filter_none (λ r. not (is_in w r)) (reverse (line_of s p)) (by_recursion-reverse _ (line_of s p) (nots w (line_of s p) all)))
+    sym (ap (λ (l : List ℕ). w ++ l) (filter_none (λ r. not (is_in w r)) (reverse (line_of s p))
+        (by_recursion-reverse _ (line_of s p) (nots w (line_of s p) all)))
     ∙ append-nil w)
 
 one : (w : List ℕ) (p : ℕ) → is_in w p ≡ false → filter (λ r. not (is_in w r)) (p ∷ []) ≡ p ∷ []
 one w p new = rw new refl
 
-pub over_root : (s : Shape) (w : List ℕ) (p : ℕ) → IsWithinLimits s → p < pages_of s → parent_of s p ≡ None → is_in w p ≡ false → w ++ p ∷ [] ≡ walked_over s w p
+pub over_root : (s : Shape) (w : List ℕ) (p : ℕ) → IsWithinLimits s → p < pages_of s → parent_of s p ≡ None → is_in w p ≡ false
+    → w ++ p ∷ [] ≡ walked_over s w p
 over_root s w p limits inside e new = rw (root_facts s p limits inside e) (ap (λ (l : List ℕ). w ++ l) (sym (one w p new)))
 
 pub over_more : (s : Shape) (w v : List ℕ) (p q : ℕ) → IsWithinLimits s → p < pages_of s → parent_of s p ≡ Some q → is_in w p ≡ false
@@ -84,7 +89,8 @@ over_more s w v p q limits inside e new is =
     ∙ sym (filter-append t (reverse (line_of s q)) (p ∷ []))
     ∙ ap (filter t) (sym (reverse-cons p (line_of s q)) ∙ ap reverse (sym h.line)))
 
-pub still_new : (s : Shape) (w : List ℕ) (p q : ℕ) → IsWithinLimits s → p < pages_of s → parent_of s p ≡ Some q → is_in w p ≡ false → is_in (walked_over s w q) p ≡ false
+pub still_new : (s : Shape) (w : List ℕ) (p q : ℕ) → IsWithinLimits s → p < pages_of s → parent_of s p ≡ Some q → is_in w p ≡ false
+    → is_in (walked_over s w q) p ≡ false
 still_new s w p q limits inside e new =
     let h = parent_facts s p q limits inside e in
     let line : is_in (reverse (line_of s q)) p ≡ false = is_in-reverse (line_of s q) p ∙ not_above s p q limits h.inside (omega (arith, h.level)) in
@@ -101,7 +107,8 @@ first_in s q limits inside = first (parent_of s q) refl where
 
 pub parent_in : (s : Shape) (w : List ℕ) (q : ℕ) → IsWithinLimits s → q < pages_of s → is_in (walked_over s w q) q ≡ true
 parent_in s w q limits inside =
-    is_in-more w (reverse (line_of s q)) q ∙ ap (λ (b : Bool). is_in w q || b) (is_in-reverse (line_of s q) q ∙ first_in s q limits inside) ∙ or_true (is_in w q)
+    is_in-more w (reverse (line_of s q)) q ∙ ap (λ (b : Bool). is_in w q || b) (is_in-reverse (line_of s q) q ∙ first_in s q limits inside)
+        ∙ or_true (is_in w q)
 
 pub closed_push : (s : Shape) (w : List ℕ) (p : ℕ) → IsClosed s w → ((q : ℕ) → parent_of s p ≡ Some q → is_in w q ≡ true) → IsClosed s (w ++ p ∷ [])
 closed_push s w p closed parent = record { parents = λ r q there e. is_in-push w p q ∙ found r q there e (nat_eq r p) refl } where

@@ -13,11 +13,13 @@ use Rattle.vt_evict.specs.Orders.{is_in, put_first, promoted_if}
 use Rattle.vt_evict.proofs.ListLemmas.{nat_eq_true, nat_eq_swap, present, filter_absent, is_in-append, is_in-filter, put_first-more}
 
 -- without the entry of a page the keys are without it
-pub keys-remove : {X : Type 0} (page : ℕ) (es : List (ℕ × X)) → IsDistinct nat_eq (keys_of es) → keys_of (remove_entry (nat_eq page) es) ≡ filter (λ y. not (nat_eq page y)) (keys_of es)
+pub keys-remove : {X : Type 0} (page : ℕ) (es : List (ℕ × X)) → IsDistinct nat_eq (keys_of es)
+    → keys_of (remove_entry (nat_eq page) es) ≡ filter (λ y. not (nat_eq page y)) (keys_of es)
 keys-remove {X = X} page [] h = refl
 keys-remove {X = X} page (e ∷ es) h = step (keys-remove page es (IsDistinct-tail nat_eq e.0 (keys_of es) h)) (nat_eq page e.0) refl where
   step : keys_of (remove_entry (nat_eq page) es) ≡ filter (λ y. not (nat_eq page y)) (keys_of es) → (b : Bool) → nat_eq page e.0 ≡ b
-      → keys_of (cond b es (e ∷ remove_entry (nat_eq page) es)) ≡ cond (not b) (e.0 ∷ filter (λ y. not (nat_eq page y)) (keys_of es)) (filter (λ y. not (nat_eq page y)) (keys_of es))
+      → keys_of (cond b es (e ∷ remove_entry (nat_eq page) es)) ≡ cond (not b) (e.0 ∷ filter (λ y. not (nat_eq page y)) (keys_of es))
+      (filter (λ y. not (nat_eq page y)) (keys_of es))
   step rest true same =
       let is : page ≡ e.0 = nat_eq_true page e.0 same in
       let gone : is_in (keys_of es) page ≡ false = ap (is_in (keys_of es)) is ∙ present e.0 (keys_of es) (IsDistinct-head nat_eq e.0 (keys_of es) h) in
@@ -27,7 +29,8 @@ keys-remove {X = X} page (e ∷ es) h = step (keys-remove page es (IsDistinct-ta
 entry_of : {X : Type 0} (page : ℕ) (es : List (ℕ × X)) → is_in (keys_of es) page ≡ true → (e : ℕ × X) × (lookup_entry (nat_eq page) es ≡ Some e)
 entry_of {X = X} page [] h = absurd (false≢true h)
 entry_of {X = X} page (e ∷ es) h = step (entry_of page es) (nat_eq page e.0) refl h where
-  step : (is_in (keys_of es) page ≡ true → (e : ℕ × X) × (lookup_entry (nat_eq page) es ≡ Some e)) → (b : Bool) → nat_eq page e.0 ≡ b → (b || is_in (keys_of es) page) ≡ true
+  step : (is_in (keys_of es) page ≡ true → (e : ℕ × X) × (lookup_entry (nat_eq page) es ≡ Some e)) → (b : Bool) → nat_eq page e.0 ≡ b
+      → (b || is_in (keys_of es) page) ≡ true
       → (f : ℕ × X) × (cond b (Some e) (lookup_entry (nat_eq page) es) ≡ Some f)
   step rest true same k = (e, refl)
   step rest false other k = rest k
@@ -48,13 +51,15 @@ pub record IsBack (all before : List ℕ) (page : ℕ) (rest : List ℕ) : Type 
   pub next : drop (length before) all ≡ page ∷ rest
   pub new : is_in rest page ≡ false
 
-pub step_back : (all w before : List ℕ) (page : ℕ) → IsDistinct nat_eq all → w ++ drop (length w) all ≡ all → w ≡ before ++ page ∷ [] → IsBack all before page (drop (length w) all)
+pub step_back : (all w before : List ℕ) (page : ℕ) → IsDistinct nat_eq all → w ++ drop (length w) all ≡ all → w ≡ before ++ page ∷ []
+    → IsBack all before page (drop (length w) all)
 step_back all w before page once e f =
     let rest : List ℕ = drop (length w) all in
     let whole : before ++ page ∷ rest ≡ all = sym (append_assoc before (page ∷ []) rest) ∙ ap (λ (l : List ℕ). l ++ rest) (sym f) ∙ e in
     let next : drop (length before) all ≡ page ∷ rest = ap (drop (length before)) (sym whole) ∙ drop-append_seam before (page ∷ rest) in
     let moved : IsDistinct nat_eq (page ∷ (before ++ rest)) =
-    IsDistinct-IsPermutation nat_eq nat_eq_swap (before ++ page ∷ rest) (page ∷ (before ++ rest)) (IsPermutation-middle before page rest) (subst (IsDistinct nat_eq) (sym whole) once) in
+    IsDistinct-IsPermutation nat_eq nat_eq_swap (before ++ page ∷ rest) (page ∷ (before
+        ++ rest)) (IsPermutation-middle before page rest) (subst (IsDistinct nat_eq) (sym whole) once) in
     let gone : is_in (before ++ rest) page ≡ false = present page (before ++ rest) (IsDistinct-head nat_eq page (before ++ rest) moved) in
     record {
       now = ap (λ (l : List ℕ). before ++ l) next ∙ whole;
@@ -97,5 +102,6 @@ no_entry {X = X} page (e ∷ es) h = step (no_entry page es) (nat_eq page e.0) r
 pub keys-put : {X : Type 0} (page : ℕ) (x : X) (c : LruCache ℕ X) → is_in (keys_of c.entries) page ≡ false → length c.entries ≤ c.cap - 1
     → keys_of (put_entries nat_eq c page x) ≡ page ∷ keys_of c.entries
 keys-put {X = X} page x c new room =
-    ap (λ o. keys_of (option_map_or (λ e. (e.0, x) ∷ remove_entry (nat_eq page) c.entries) o ((page, x) ∷ take (c.cap - 1) c.entries))) (no_entry page c.entries new)
+    ap (λ o. keys_of (option_map_or (λ e. (e.0, x) ∷ remove_entry (nat_eq page) c.entries) o ((page, x) ∷ take (c.cap - 1) c.entries)))
+        (no_entry page c.entries new)
     ∙ ap (λ (l : List (ℕ × X)). page ∷ keys_of l) (take_all (c.cap - 1) c.entries room)

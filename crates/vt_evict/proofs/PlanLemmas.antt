@@ -34,7 +34,8 @@ unfolding missing_from
 missing-more s entries ps p =
     let f : ℕ → ℕ = step_of s (is_mapped entries) in
     let kept : List ℕ = filter (λ q. not (is_mapped entries q)) ps in
-    ap (λ (l : List ℕ). each_once (map (step_of s (is_mapped entries)) l)) (filter-append (λ q. not (is_mapped entries q)) ps (p ∷ [])) ∙ test (is_mapped entries p) where
+    ap (λ (l : List ℕ). each_once (map (step_of s (is_mapped entries)) l)) (filter-append (λ q. not (is_mapped entries q)) ps (p ∷ []))
+        ∙ test (is_mapped entries p) where
       test : (b : Bool) → each_once (map (step_of s (is_mapped entries)) (filter (λ q. not (is_mapped entries q)) ps ++ cond (not b) (p ∷ []) []))
           ≡ cond b (each_once (map (step_of s (is_mapped entries)) (filter (λ q. not (is_mapped entries q)) ps)))
           (with_page (each_once (map (step_of s (is_mapped entries)) (filter (λ q. not (is_mapped entries q)) ps))) (step_of s (is_mapped entries) p))
@@ -44,7 +45,8 @@ missing-more s entries ps p =
 
 -- what stands at a place of a list whose rest is known
 pub rest_at : (all : List ℕ) (k x : ℕ) (rest : List ℕ) → drop k all ≡ x ∷ rest → (k < length all) × (slice_index all k ≡ x) × (drop (k + 1) all ≡ rest)
-rest_at all k x rest e = (inside, sym (ap (λ (n : ℕ). get_or all n 0) (zero_more k)) ∙ sym (get_or-drop k all 0 0) ∙ ap (λ (l : List ℕ). get_or l 0 0) e, after) where
+rest_at all k x rest e = (inside, sym (ap (λ (n : ℕ). get_or all n 0) (zero_more k)) ∙ sym (get_or-drop k all 0 0)
+    ∙ ap (λ (l : List ℕ). get_or l 0 0) e, after) where
   zero_more : (n : ℕ) → n + 0 ≡ n
   zero_more n = omega arith
 
@@ -58,7 +60,8 @@ pub none_left : (all : List ℕ) (k : ℕ) → drop k all ≡ [] → length all 
 none_left all k e = let l : length (drop k all) ≡ 0 = ap length e in omega (arith, length-drop k all)
 
 pub freed_more : (missing free : List ℕ) (k page frame : ℕ) (rest : List ℕ) → drop k free ≡ frame ∷ rest → page ≡ slice_index missing k
-    → map (freed_at missing free) (range_with_len 0 k) ++ (record { page = page; frame = frame; victim = None }) ∷ [] ≡ map (freed_at missing free) (range_with_len 0 (k + 1))
+    → map (freed_at missing free) (range_with_len 0 k) ++ (record { page = page; frame = frame; victim = None }) ∷ [] ≡ map (freed_at missing free)
+    (range_with_len 0 (k + 1))
 freed_more missing free k page frame rest e same =
     let at = rest_at free k frame rest e in
     let entry : freed_at missing free k ≡ record { page = page; frame = frame; victim = None } =
@@ -110,7 +113,8 @@ offer entries missing victims before start now next k x false rest begun inside 
 pub last_at : (xs : List ℕ) (x : ℕ) → slice_index (xs ++ x ∷ []) (length xs) ≡ x
 last_at xs x = (rest_at (xs ++ x ∷ []) (length xs) x [] (drop-append_seam xs (x ∷ []))).1
 
-pub kept_last : (ok : ℕ → Bool) (all xs : List ℕ) (x : ℕ) → all ≡ xs ++ x ∷ [] → filter ok (reverse all) ≡ cond (ok x) (x ∷ filter ok (reverse xs)) (filter ok (reverse xs))
+pub kept_last : (ok : ℕ → Bool) (all xs : List ℕ) (x : ℕ) → all ≡ xs ++ x ∷ []
+    → filter ok (reverse all) ≡ cond (ok x) (x ∷ filter ok (reverse xs)) (filter ok (reverse xs))
 kept_last ok all xs x e = ap (λ (l : List ℕ). filter ok (reverse l)) e ∙ ap (filter ok) (reverse-append xs (x ∷ []))
 
 map_range_same : {X : Type 0} (f g : ℕ → X) (n : ℕ) → ((j : ℕ) → j < n → f j ≡ g j) → map f (range_with_len 0 n) ≡ map g (range_with_len 0 n)
@@ -137,9 +141,11 @@ map_range_two f a (suc m) =
 module _ (entries missing free victims : List ℕ) where
   pub at_free : (j : ℕ) → j < length free → freed_at missing free j ≡ planned_at entries missing free victims j
   at_free j below =
-      let frame : slice_index (free ++ map (frame_of entries) victims) j ≡ slice_index free j = get_or_append_left free (map (frame_of entries) victims) 0 j below in
+      let frame : slice_index (free ++ map (frame_of entries) victims) j ≡ slice_index free j = get_or_append_left free
+          (map (frame_of entries) victims) 0 j below in
       let test : nat_lt j (length free) ≡ true = grind (arith, nat_tests) in
-      let none : cond (nat_lt j (length free)) None (slice_get victims (j - length free)) ≡ None = ap (λ (b : Bool). cond b None (slice_get victims (j - length free))) test in
+      let none : cond (nat_lt j (length free)) None (slice_get victims (j - length free)) ≡ None = ap
+          (λ (b : Bool). cond b None (slice_get victims (j - length free))) test in
       λ i. record { page = slice_index missing j; frame = sym frame i; victim = sym none i }
 
   pub at_victim : (j : ℕ) → j < length victims → taken_at entries missing victims (length free) j ≡ planned_at entries missing free victims (length free + j)
@@ -153,14 +159,16 @@ module _ (entries missing free victims : List ℕ) where
       ∙ ap (slice_get victims) back ∙ slice_get-get_or victims j 0 below in
       λ i. record { page = slice_index missing (length free + j); frame = sym frame i; victim = sym some i }
 
-  pub all_free : (q most : ℕ) (batch : List Planned) → most ≡ min (length missing) q → batch ≡ map (freed_at missing free) (range_with_len 0 (min most (length free)))
+  pub all_free : (q most : ℕ) (batch : List Planned) → most ≡ min (length missing) q
+      → batch ≡ map (freed_at missing free) (range_with_len 0 (min most (length free)))
       → most ≤ min most (length free) → batch ≡ map (planned_at entries missing free victims) (range_with_len 0 (planned_count q missing free victims))
   all_free q most batch is put full =
       let n : min most (length free) ≡ planned_count q missing free victims = omega arith in
       put ∙ map_range_same _ _ (min most (length free)) (λ j below. at_free j (omega arith))
       ∙ ap (λ (n : ℕ). map (planned_at entries missing free victims) (range_with_len 0 n)) n
 
-  pub some_taken : (q most : ℕ) (front batch : List Planned) → most ≡ min (length missing) q → front ≡ map (freed_at missing free) (range_with_len 0 (min most (length free)))
+  pub some_taken : (q most : ℕ) (front batch : List Planned) → most ≡ min (length missing) q
+      → front ≡ map (freed_at missing free) (range_with_len 0 (min most (length free)))
       → length front ≡ min most (length free) → min most (length free) < most
       → batch ≡ front ++ map (taken_at entries missing victims (length front)) (range_with_len 0 (min (most - length front) (length victims)))
       → batch ≡ map (planned_at entries missing free victims) (range_with_len 0 (planned_count q missing free victims))

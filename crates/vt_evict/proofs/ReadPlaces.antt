@@ -69,7 +69,8 @@ reads_ordered (e ∷ batch) (false ∷ lost) h =
 abbrev pub HasPlace : List Planned → List Bool → ℕ → Type 0
 HasPlace batch lost p = (j : ℕ) × IsReadAt batch lost j p
 
-places_moved : (e : Planned) (b : Bool) (batch : List Planned) (lost : List Bool) (ps : List ℕ) → All (HasPlace batch lost) ps → All (HasPlace (e ∷ batch) (b ∷ lost)) ps
+places_moved : (e : Planned) (b : Bool) (batch : List Planned) (lost : List Bool) (ps : List ℕ) → All (HasPlace batch lost) ps
+    → All (HasPlace (e ∷ batch) (b ∷ lost)) ps
 places_moved e b batch lost ps h = All-weaker (HasPlace batch lost) (HasPlace (e ∷ batch) (b ∷ lost)) (λ p r. (suc r.0, more_at e b batch lost r.0 p r.1)) ps h
 
 pub reads_at : (batch : List Planned) (lost : List Bool) → All (HasPlace batch lost) (pages_read batch lost)

@@ -149,7 +149,8 @@ after_table v o page frame new h place loose inside unmapped a = record {
   old_at : (p : ℕ) → is_mapped new p ≡ true → nat_eq p page ≡ false → slice_index new p ≡ slice_index v.entries p
   old_at p m e = a.other p (apart_from p e) (not_victim p m)
 
-  separate : (p q : ℕ) → is_mapped new p ≡ true → slice_index new p ≡ slice_index new q → (b : Bool) → nat_eq p page ≡ b → (c : Bool) → nat_eq q page ≡ c → p ≡ q
+  separate : (p q : ℕ) → is_mapped new p ≡ true → slice_index new p ≡ slice_index new q → (b : Bool) → nat_eq p page ≡ b → (c : Bool)
+      → nat_eq q page ≡ c → p ≡ q
   separate p q m same true e true f = nat_eq_true p page e ∙ sym (nat_eq_true q page f)
   separate p q m same true e false f =
       let mq : is_mapped new q ≡ true = ap (λ (n : ℕ). nat_lt 0 n) (sym same) ∙ m in
@@ -162,7 +163,8 @@ after_table v o page frame new h place loose inside unmapped a = record {
       let mq : is_mapped new q ≡ true = ap (λ (n : ℕ). nat_lt 0 n) (sym same) ∙ m in
       h.apart p q (ap (λ (n : ℕ). nat_lt 0 n) (sym (old_at p m e)) ∙ m) (sym (old_at p m e) ∙ same ∙ old_at q mq f)
 
-  ordered : (p : ℕ) (b : Bool) → nat_eq p page ≡ b → (c : Bool) → is_page p o ≡ c → (nat_eq p page || is_in (order_without v.order o) p) ≡ (is_mapped new p && not (is_pinned v p))
+  ordered : (p : ℕ) (b : Bool) → nat_eq p page ≡ b → (c : Bool) → is_page p o ≡ c
+      → (nat_eq p page || is_in (order_without v.order o) p) ≡ (is_mapped new p && not (is_pinned v p))
   ordered p true e c f =
       let is : p ≡ page = nat_eq_true p page e in
       ap (λ (b : Bool). b || is_in (order_without v.order o) p) e
@@ -170,15 +172,18 @@ after_table v o page frame new h place loose inside unmapped a = record {
       ∙ ap (λ (b : Bool). b && not (is_pinned v page)) (mapped_from (slice_index new page) frame a.mapped)
       ∙ ap not (pinned_false page v.pinned (pages_of v.shape) loose))
   ordered p false e true f =
-      ap (λ (b : Bool). b || is_in (order_without v.order o) p) e ∙ without_in v.order o p ∙ ap (λ (b : Bool). is_in v.order p && not b) f ∙ and_false (is_in v.order p)
+      ap (λ (b : Bool). b || is_in (order_without v.order o) p) e ∙ without_in v.order o p ∙ ap (λ (b : Bool). is_in v.order p && not b) f
+          ∙ and_false (is_in v.order p)
       ∙ sym (ap (λ (b : Bool). b && not (is_pinned v p)) (mapped_not (slice_index new p) (a.unmapped p f)))
   ordered p false e false f =
-      ap (λ (b : Bool). b || is_in (order_without v.order o) p) e ∙ without_in v.order o p ∙ ap (λ (b : Bool). is_in v.order p && not b) f ∙ and_true (is_in v.order p) ∙ h.in_order p
+      ap (λ (b : Bool). b || is_in (order_without v.order o) p) e ∙ without_in v.order o p ∙ ap (λ (b : Bool). is_in v.order p && not b) f
+          ∙ and_true (is_in v.order p) ∙ h.in_order p
       ∙ sym (ap (λ (n : ℕ). nat_lt 0 n && not (is_pinned v p)) (a.other p (apart_from p e) f))
 
   absent_page : is_in (order_without v.order o) page ≡ false
   absent_page = without_in v.order o page
-      ∙ ap (λ (b : Bool). b && not (is_page page o)) (h.in_order page ∙ ap (λ (b : Bool). b && not (is_pinned v page)) (mapped_not (slice_index v.entries page) unmapped))
+      ∙ ap (λ (b : Bool). b && not (is_page page o)) (h.in_order page
+      ∙ ap (λ (b : Bool). b && not (is_pinned v page)) (mapped_not (slice_index v.entries page) unmapped))
 
   without_once : (x : Option ℕ) → IsDistinct nat_eq (order_without v.order x)
   without_once None = h.once
@@ -216,7 +221,8 @@ held_same v page q frame new place unmapped a f = same_bool (is_held new f) (is_
   behind e = let found = held_by v.entries f e in is found.0 found.1 (is_page found.0 (Some q)) refl where
     is : (p : ℕ) → slice_index v.entries p ≡ f + 1 → (c : Bool) → is_page p (Some q) ≡ c → is_held new f ≡ true
     is p at true same = held_from new f page (omega (arith, (place.victim p same).held, a.mapped))
-    is p at false other = held_from new f p (a.other p (λ e. let n : slice_index v.entries p ≡ 0 = ap (slice_index v.entries) e ∙ unmapped in omega arith) other ∙ at)
+    is p at false other = held_from new f p (a.other p (λ e. let n : slice_index v.entries p ≡ 0 = ap (slice_index v.entries) e
+        ∙ unmapped in omega arith) other ∙ at)
 
 -- a free frame that a page gets is held, and another as before
 pub held_more : (v : RecencyView) (page frame : ℕ) (new : List ℕ) → slice_index v.entries page ≡ 0
@@ -230,14 +236,16 @@ held_more v page frame new unmapped a f = same_bool (is_held new f) (is_held v.e
         let is : frame ≡ f = omega (arith, a.mapped) in
         ap (λ (b : Bool). is_held v.entries f || b) (ap (nat_eq frame) (sym is) ∙ self_eq frame) ∙ or_true (is_held v.entries f)
     was p at false other =
-        let held : is_held v.entries f ≡ true = held_from v.entries f p (sym (a.other p (λ e. false≢true (sym other ∙ ap (nat_eq p) (sym e) ∙ self_eq p)) refl) ∙ at) in
+        let held : is_held v.entries f ≡ true = held_from v.entries f p
+            (sym (a.other p (λ e. false≢true (sym other ∙ ap (nat_eq p) (sym e) ∙ self_eq p)) refl) ∙ at) in
         ap (λ (b : Bool). b || nat_eq frame f) held
 
   behind : (is_held v.entries f || nat_eq frame f) ≡ true → is_held new f ≡ true
   behind e = split (is_held v.entries f) refl (nat_eq frame f) refl e where
     split : (b : Bool) → is_held v.entries f ≡ b → (c : Bool) → nat_eq frame f ≡ c → (b || c) ≡ true → is_held new f ≡ true
     split true was c is k = let found = held_by v.entries f was in
-        held_from new f found.0 (a.other found.0 (λ e. let n : slice_index v.entries found.0 ≡ 0 = ap (slice_index v.entries) e ∙ unmapped in omega (arith, found.1)) refl ∙ found.1)
+        held_from new f found.0 (a.other found.0 (λ e. let n : slice_index v.entries found.0 ≡ 0 = ap (slice_index v.entries) e
+            ∙ unmapped in omega (arith, found.1)) refl ∙ found.1)
     split false was true is k = held_from new f page (a.mapped ∙ ap (λ (n : ℕ). n + 1) (nat_eq_true frame f is))
     split false was false is k = absurd (false≢true k)
 
@@ -312,7 +320,8 @@ free_none v e free left h l is was now f =
     ∙ ap (λ (b : Bool). nat_lt f v.frames && not b) (sym (held_more v e.page e.frame _ l.unmapped (lawful_after v e None h l is) f))
 
 -- an entry that was lawful still is after another, whose page and frame are not its own
-lawful_still : (v : RecencyView) (e d : Planned) (new : List ℕ) → IsAfter v.entries e.victim e.page e.frame new → IsTable v → IsLawfulEntry v e → IsLawfulEntry v d
+lawful_still : (v : RecencyView) (e d : Planned) (new : List ℕ) → IsAfter v.entries e.victim e.page e.frame new → IsTable v → IsLawfulEntry v e
+    → IsLawfulEntry v d
     → d.page ≢ e.page → d.frame ≢ e.frame → IsLawfulEntry (after v e.victim e.page new) d
 lawful_still v e d new is_after h l m pages frames = record {
   unpinned = m.unpinned;
@@ -325,7 +334,8 @@ lawful_still v e d new is_after h l m pages frames = record {
   not_given false same = same
 
   forth : (p : ℕ) → slice_index v.entries p ≡ d.frame + 1 → slice_index new p ≡ d.frame + 1
-  forth p at = is_after.other p (λ same. let n : slice_index v.entries p ≡ 0 = ap (slice_index v.entries) same ∙ l.unmapped in omega arith) (test (is_page p e.victim) refl) ∙ at where
+  forth p at = is_after.other p (λ same. let n : slice_index v.entries p ≡ 0 = ap (slice_index v.entries) same
+      ∙ l.unmapped in omega arith) (test (is_page p e.victim) refl) ∙ at where
     test : (b : Bool) → is_page p e.victim ≡ b → b ≡ false
     test true same = absurd (frames (let held = ((lawful_place v e e.victim h l refl).victim p same).held in omega arith))
     test false same = refl
@@ -333,15 +343,18 @@ lawful_still v e d new is_after h l m pages frames = record {
   back : (p : ℕ) → slice_index new p ≡ d.frame + 1 → slice_index v.entries p ≡ d.frame + 1
   back p at = test (nat_eq p e.page) refl (is_page p e.victim) refl where
     test : (b : Bool) → nat_eq p e.page ≡ b → (c : Bool) → is_page p e.victim ≡ c → slice_index v.entries p ≡ d.frame + 1
-    test true same c is = absurd (frames (let n : slice_index new e.page ≡ d.frame + 1 = ap (slice_index new) (sym (nat_eq_true p e.page same)) ∙ at in let m' = is_after.mapped in omega arith))
+    test true same c is = absurd (frames (let n : slice_index new e.page ≡ d.frame + 1 = ap (slice_index new) (sym (nat_eq_true p e.page same))
+        ∙ at in let m' = is_after.mapped in omega arith))
     test false other true is = absurd (let n = is_after.unmapped p is in omega arith)
     test false other false is = sym (is_after.other p (λ same. false≢true (sym other ∙ ap (nat_eq p) (sym same) ∙ self_eq p)) is) ∙ at
 
-  places : (o : Option ℕ) → MatchOption o (IsFree v.entries d.frame) (IsVictim v d.frame) → MatchOption o (IsFree new d.frame) (IsVictim (after v e.victim e.page new) d.frame)
+  places : (o : Option ℕ) → MatchOption o (IsFree v.entries d.frame) (IsVictim v d.frame)
+      → MatchOption o (IsFree new d.frame) (IsVictim (after v e.victim e.page new) d.frame)
   places None free = λ p at. free p (back p at)
   places (Some q) held = record { unpinned = held.unpinned; held = forth q held.held }
 
-pub still_lawful : (v : RecencyView) (e d : Planned) → IsTable v → IsLawfulEntry v e → IsLawfulEntry v d → d.page ≢ e.page → d.frame ≢ e.frame → IsLawfulEntry (applied v e) d
+pub still_lawful : (v : RecencyView) (e d : Planned) → IsTable v → IsLawfulEntry v e → IsLawfulEntry v d → d.page ≢ e.page → d.frame ≢ e.frame
+    → IsLawfulEntry (applied v e) d
 unfolding applied
 still_lawful v e d h l m pages frames = lawful_still v e d _ (lawful_after v e e.victim h l refl) h l m pages frames
 
@@ -389,7 +402,8 @@ settled_after old now reads e new a h s first l laws begun frames = record {
 
   -- what a page that was read has
   read_page : (r : Planned) → Contains reads r → slice_index new r.page ≡ r.frame + 1
-  read_page r there = a.other r.page (λ same. let n : slice_index now.entries r.page ≡ 0 = ap (slice_index now.entries) same ∙ l.unmapped in omega (arith, s.table.mapped r there))
+  read_page r there = a.other r.page (λ same. let n : slice_index now.entries r.page ≡ 0 = ap (slice_index now.entries) same
+      ∙ l.unmapped in omega (arith, s.table.mapped r there))
       (test (is_page r.page e.victim) refl) ∙ s.table.mapped r there where
         test : (b : Bool) → is_page r.page e.victim ≡ b → b ≡ false
         test true same = absurd (frames r there (let held = (place.victim r.page same).held in omega (arith, s.table.mapped r there)))
@@ -404,7 +418,8 @@ settled_after old now reads e new a h s first l laws begun frames = record {
   not_victim : is_victim reads e.page ≡ false
   not_victim = victim_not reads e.page (λ r there. test r there (is_page e.page r.victim) refl) where
     test : (r : Planned) → Contains reads r → (b : Bool) → is_page e.page r.victim ≡ b → b ≡ false
-    test r there true same = absurd (let held = ((lawful_place old r r.victim begun (laws r there) refl).victim e.page same).held in omega (arith, first.unmapped))
+    test r there true same = absurd (let held = ((lawful_place old r r.victim begun (laws r there) refl).victim e.page same).held in omega
+        (arith, first.unmapped))
     test r there false same = refl
 
   unmapped : (p : ℕ) → (is_page p e.victim || is_victim reads p) ≡ true → slice_index new p ≡ 0
@@ -413,9 +428,11 @@ settled_after old now reads e new a h s first l laws begun frames = record {
     test true same k = a.unmapped p same
     test false same k = a.other p (λ is. false≢true (sym not_victim ∙ ap (is_victim reads) (sym is) ∙ k)) same ∙ s.table.unmapped p k
 
-  kept : (p : ℕ) → (nat_eq e.page p || is_read reads p) ≡ false → (is_page p e.victim || is_victim reads p) ≡ false → slice_index new p ≡ slice_index old.entries p
+  kept : (p : ℕ) → (nat_eq e.page p || is_read reads p) ≡ false → (is_page p e.victim || is_victim reads p) ≡ false
+      → slice_index new p ≡ slice_index old.entries p
   kept p r k = test (nat_eq e.page p) refl r (is_page p e.victim) refl k where
-    test : (b : Bool) → nat_eq e.page p ≡ b → (b || is_read reads p) ≡ false → (c : Bool) → is_page p e.victim ≡ c → (c || is_victim reads p) ≡ false → slice_index new p ≡ slice_index old.entries p
+    test : (b : Bool) → nat_eq e.page p ≡ b → (b || is_read reads p) ≡ false → (c : Bool) → is_page p e.victim ≡ c → (c || is_victim reads p) ≡ false
+        → slice_index new p ≡ slice_index old.entries p
     test true same x c is y = absurd (false≢true (sym x))
     test false same x true is y = absurd (false≢true (sym y))
     test false same x false is y = a.other p (λ e'. false≢true (sym same ∙ ap (nat_eq e.page) e' ∙ self_eq e.page)) is ∙ s.table.kept p x y
@@ -425,21 +442,25 @@ settled_after old now reads e new a h s first l laws begun frames = record {
       (λ k d inside. eq_false q (get_or reads k d).page (λ same.
       let there : Contains reads (get_or reads k d) = (k, inside, get_or_same reads k d inside) in
       let given : is_page (get_or reads k d).page e.victim ≡ true = ap (is_page (get_or reads k d).page) is ∙ ap (nat_eq q) (sym same) ∙ self_eq q in
-      frames (get_or reads k d) there (let held = (place.victim (get_or reads k d).page given).held in omega (arith, s.table.mapped (get_or reads k d) there)))))
+      frames (get_or reads k d) there (let held = (place.victim (get_or reads k d).page given).held in omega
+          (arith, s.table.mapped (get_or reads k d) there)))))
 
   pages_kept : (o : Option ℕ) → e.victim ≡ o → order_without (map (λ r. r.page) reads) o ≡ map (λ r. r.page) reads
   pages_kept None is = refl
   pages_kept (Some q) is = filter_absent q (map (λ r. r.page) reads) (page_not_read q is)
 
-  rest_kept : (o : Option ℕ) → e.victim ≡ o → order_without (filter (λ p. not (is_victim reads p)) old.order) o ≡ filter (λ p. not (is_page p o || is_victim reads p)) old.order
+  rest_kept : (o : Option ℕ) → e.victim ≡ o → order_without (filter (λ p. not (is_victim reads p)) old.order) o ≡ filter
+      (λ p. not (is_page p o || is_victim reads p)) old.order
   rest_kept None is = refl
-  rest_kept (Some q) is = filter_twice (λ y. not (nat_eq q y)) (λ p. not (is_victim reads p)) old.order ∙ filter_same _ _ old.order (λ y. nor (nat_eq q y) (is_victim reads y))
+  rest_kept (Some q) is = filter_twice (λ y. not (nat_eq q y)) (λ p. not (is_victim reads p)) old.order
+      ∙ filter_same _ _ old.order (λ y. nor (nat_eq q y) (is_victim reads y))
 
   both_kept : (o : Option ℕ) (xs ys : List ℕ) → order_without (xs ++ ys) o ≡ order_without xs o ++ order_without ys o
   both_kept None xs ys = refl
   both_kept (Some q) xs ys = filter-append (λ y. not (nat_eq q y)) xs ys
 
-  ordered : (e.page ∷ order_without now.order e.victim) ≡ (e.page ∷ map (λ r. r.page) reads) ++ filter (λ p. not (is_page p e.victim || is_victim reads p)) old.order
+  ordered : (e.page ∷ order_without now.order e.victim) ≡ (e.page ∷ map (λ r. r.page) reads)
+      ++ filter (λ p. not (is_page p e.victim || is_victim reads p)) old.order
   ordered = ap (λ (l : List ℕ). e.page ∷ l) (
       ap (λ (l : List ℕ). order_without l e.victim) s.order
       ∙ both_kept e.victim (map (λ r. r.page) reads) (filter (λ p. not (is_victim reads p)) old.order)
@@ -447,11 +468,13 @@ settled_after old now reads e new a h s first l laws begun frames = record {
       ∙ ap (λ (l : List ℕ). map (λ r. r.page) reads ++ l) (rest_kept e.victim refl))
 
 -- the table so far, and one entry more, which was lawful at first and is now
-pub settled_more : (old now : RecencyView) (reads : List Planned) (e : Planned) → IsTable now → IsSettled old reads now → IsLawfulEntry old e → IsLawfulEntry now e
+pub settled_more : (old now : RecencyView) (reads : List Planned) (e : Planned) → IsTable now → IsSettled old reads now → IsLawfulEntry old e
+    → IsLawfulEntry now e
     → ((r : Planned) → Contains reads r → IsLawfulEntry old r) → IsTable old → ((r : Planned) → Contains reads r → r.frame ≢ e.frame)
     → IsSettled old (e ∷ reads) (applied now e)
 unfolding applied
-settled_more old now reads e h s first l laws begun frames = settled_after old now reads e _ (lawful_after now e e.victim h l refl) h s first l laws begun frames
+settled_more old now reads e h s first l laws begun frames = settled_after old now reads e _ (lawful_after now e e.victim h l refl) h s first l laws
+    begun frames
 
 -- nothing was applied yet
 pub settled_none : (old : RecencyView) → IsSettled old [] old
@@ -475,7 +498,8 @@ after_place batch lost j r there =
     let inside : c.0 < length (drop (suc j) batch) = c.1 in
     (suc j + c.0, omega arith, omega (arith, length-drop (suc j) batch), sym (get_or-drop (suc j) batch c.0 r) ∙ c.2)
 
-pub settle_step : (old now new : RecencyView) (batch : List Planned) (lost : List Bool) (j : ℕ) (d e : Planned) (b : Bool) → j < length batch → length lost ≡ length batch
+pub settle_step : (old now new : RecencyView) (batch : List Planned) (lost : List Bool) (j : ℕ) (d e : Planned) (b : Bool) → j < length batch
+    → length lost ≡ length batch
     → b ≡ get_or lost j b → e ≡ get_or batch j e → IsLawful old batch → IsTable old → IsTable now
     → IsSettled old (read_entries (drop (suc j) batch) (drop (suc j) lost)) now → ((i : ℕ) (d : Planned) → i < suc j → IsLawfulEntry now (get_or batch i d))
     → new ≡ cond b now (applied now e) → IsStep old new batch lost j
@@ -494,7 +518,8 @@ settle_step old now new batch lost j d e false inside lengths is at laws begun h
       rw (step, bs, ls) (settled_more old now (read_entries (drop (suc j) batch) (drop (suc j) lost)) e h s first mine
       (λ r there. let p = after_place batch lost j r there in subst (IsLawfulEntry old) p.3 (laws.each p.0 r p.2)) begun
       (λ r there same. let p = after_place batch lost j r there in
-      (laws.apart j p.0 e p.1 p.2).1 (ap (λ (x : Planned). x.frame) (sym at) ∙ sym same ∙ ap (λ (x : Planned). x.frame) (sym p.3) ∙ ap (λ (x : Planned). x.frame) (get_or_default batch p.0 r e p.2))));
+      (laws.apart j p.0 e p.1 p.2).1 (ap (λ (x : Planned). x.frame) (sym at) ∙ sym same ∙ ap (λ (x : Planned). x.frame) (sym p.3)
+          ∙ ap (λ (x : Planned). x.frame) (get_or_default batch p.0 r e p.2))));
   lawful = λ i d below. rw step (still_lawful now e (get_or batch i d) h mine (l i d (omega arith))
       (λ same. (laws.apart i j d below inside).0 (same ∙ ap (λ (x : Planned). x.page) (at ∙ get_or_default batch j e d inside)))
       (λ same. (laws.apart i j d below inside).1 (same ∙ ap (λ (x : Planned). x.frame) (at ∙ get_or_default batch j e d inside))));
@@ -506,7 +531,8 @@ settle_step old now new batch lost j d e false inside lengths is at laws begun h
 pub read_at : {X : Type 0} (xs : List X) (i : ℕ) (x : X) → slice_get xs i ≡ Some x → x ≡ get_or xs i x
 read_at xs i x e = sym (get_or_from_slice_get xs i x x e)
 
-pub nothing_read : (old : RecencyView) (batch : List Planned) (lost : List Bool) → IsSettled old (read_entries (drop (length batch) batch) (drop (length batch) lost)) old
+pub nothing_read : (old : RecencyView) (batch : List Planned) (lost : List Bool)
+    → IsSettled old (read_entries (drop (length batch) batch) (drop (length batch) lost)) old
 nothing_read old batch lost = rw (drop-length batch) (settled_none old)
 
 -- what a page of the order is
@@ -531,7 +557,8 @@ order_facts v k d h below =
     record {
       inside = elim (cases_lt (get_or v.order k d) (pages_of v.shape)) [
         | inl below ↦ below
-        | inr past ↦ absurd (let zero : slice_index v.entries (get_or v.order k d) ≡ 0 = get_or_past v.entries (get_or v.order k d) 0 (omega (arith, h.entries_for_all)) in omega arith)
+        | inr past ↦ absurd (let zero : slice_index v.entries (get_or v.order k d) ≡ 0 = get_or_past v.entries (get_or v.order k d) 0
+            (omega (arith, h.entries_for_all)) in omega arith)
       ];
       mapped = mapped;
     }

@@ -21,7 +21,8 @@ marked_below n marks walked h p e = elim (cases_lt p n) [
   | inr past ↦ absurd (false≢true (sym (get_or_past marks p false (omega (arith, h.marks_for_all))) ∙ h.marked p ∙ e))
 ]
 
-pub room_at : (n : ℕ) (marks : List Bool) (walked : ListView ℕ) (page : ℕ) → IsWalk n marks walked → page < n → is_in walked.elements page ≡ false → 1 ≤ walked.spare
+pub room_at : (n : ℕ) (marks : List Bool) (walked : ListView ℕ) (page : ℕ) → IsWalk n marks walked → page < n → is_in walked.elements page ≡ false
+    → 1 ≤ walked.spare
 room_at n marks walked page h inside new =
     let l : length walked.elements < n = room_for n page walked.elements inside new h.once (marked_below n marks walked h) in
     omega (arith, h.room)
@@ -87,7 +88,8 @@ popped_walk n marks old new page h e room =
           get_or-set_at marks page p false false is (omega (arith, h.marks_for_all)) ∙ sym gone ∙ ap (is_in new.elements) (sym is)
       marked p false other =
           let is : p ≢ page = λ e. false≢true (sym other ∙ grind (arith, nat_tests)) in
-          get_or-set_other marks page p false false is ∙ h.marked p ∙ old_is p ∙ ap (λ (b : Bool). is_in new.elements p || b) other ∙ or_false (is_in new.elements p)
+          get_or-set_other marks page p false false is ∙ h.marked p ∙ old_is p ∙ ap (λ (b : Bool). is_in new.elements p || b) other
+              ∙ or_false (is_in new.elements p)
 
 -- no page was walked over yet
 pub no_walk : (n : ℕ) (marks : List Bool) (walked : ListView ℕ) → marks ≡ replicate n false → walked.elements ≡ [] → n ≤ walked.spare → IsWalk n marks walked

@@ -35,7 +35,8 @@ module _ {X : Type 0} (R : X → X → Type 0) (one_way : (x y : X) → R x y �
     ]
   ]
 
-  pub ordered_are_one : (xs ys : List X) → AllPairs R xs → AllPairs R ys → ((z : X) → Contains xs z → Contains ys z) → ((z : X) → Contains ys z → Contains xs z) → xs ≡ ys
+  pub ordered_are_one : (xs ys : List X) → AllPairs R xs → AllPairs R ys → ((z : X) → Contains xs z → Contains ys z)
+      → ((z : X) → Contains ys z → Contains xs z) → xs ≡ ys
   ordered_are_one [] [] hx hy there back = refl
   ordered_are_one [] (y ∷ ys) hx hy there back = absurd (let h = back y (has_head y ys) in omega (arith, h.1))
   ordered_are_one (x ∷ xs) [] hx hy there back = absurd (let h = there x (has_head x xs) in omega (arith, h.1))

@@ -60,16 +60,19 @@ ranks_are s counts (suc n) = rw ranks-suc (step (nat_lt 0 (slice_index counts n)
     (All-weaker (IsRank s counts n) (IsRank s counts (suc n)) (λ r h. wider h) (ranks_below s counts n) (ranks_are s counts n))) where
       step : (b : Bool) → nat_lt 0 (slice_index counts n) ≡ b → All (IsRank s counts (suc n)) (ranks_below s counts n)
           → All (IsRank s counts (suc n)) (ranks_below s counts n ++ cond b (rank_of s counts n ∷ []) [])
-      step true e h = All-push (IsRank s counts (suc n)) (ranks_below s counts n) (rank_of s counts n) h (record { same = refl; below = omega arith; some = grind (arith, nat_tests) })
+      step true e h = All-push (IsRank s counts (suc n)) (ranks_below s counts n) (rank_of s counts n) h
+          (record { same = refl; below = omega arith; some = grind (arith, nat_tests) })
       step false e h = rw append-nil h
 
 rank_is_there : (s : Shape) (counts : List ℕ) (n p : ℕ) → p < n → 0 < slice_index counts p → Contains (ranks_below s counts n) (rank_of s counts p)
 rank_is_there s counts zero p below some = absurd (omega arith)
 rank_is_there s counts (suc n) p below some = rw ranks-suc (elim (cases_lt p n) [
-  | inl under ↦ Contains-append_left (ranks_below s counts n) (cond (nat_lt 0 (slice_index counts n)) (rank_of s counts n ∷ []) []) (rank_of s counts p) (rank_is_there s counts n p under some)
+  | inl under ↦ Contains-append_left (ranks_below s counts n) (cond (nat_lt 0 (slice_index counts n)) (rank_of s counts n ∷ []) [])
+      (rank_of s counts p) (rank_is_there s counts n p under some)
   | inr over ↦ let e : n ≡ p = omega arith in
       let b : nat_lt 0 (slice_index counts n) ≡ true = rw e (grind (arith, nat_tests)) in
-      rw b (subst (λ q. Contains (ranks_below s counts n ++ rank_of s counts q ∷ []) (rank_of s counts p)) (sym e) (Contains-push (ranks_below s counts n) (rank_of s counts p)))
+      rw b (subst (λ q. Contains (ranks_below s counts n ++ rank_of s counts q ∷ []) (rank_of s counts p)) (sym e)
+          (Contains-push (ranks_below s counts n) (rank_of s counts p)))
 ])
 
 pages_rise : (s : Shape) (counts : List ℕ) (n : ℕ) → AllPairs (λ a b. a.page < b.page) (ranks_below s counts n)
@@ -82,7 +85,8 @@ pages_rise s counts (suc n) = rw ranks-suc (step (nat_lt 0 (slice_index counts n
 
 pages_apart : (s : Shape) (counts : List ℕ) (n : ℕ) → IsDistinct (λ a b. a.page == b.page) (ranks_below s counts n)
 pages_apart s counts n = IsDistinct-from_apart (λ a b. a.page == b.page) (ranks_below s counts n)
-    (λ i j d below inside. let h : (get_or (ranks_below s counts n) i d).page < (get_or (ranks_below s counts n) j d).page = pages_rise s counts n i j d below inside in grind (arith, nat_tests))
+    (λ i j d below inside. let h : (get_or (ranks_below s counts n) i d).page < (get_or (ranks_below s counts n) j d).page = pages_rise s counts n i j
+        d below inside in grind (arith, nat_tests))
 
 abbrev rank_cmp : Rank → Rank → Ordering
 rank_cmp a b = ordering_then (nat_cmp a.fineness b.fineness) (ordering_then (nat_cmp a.rarity b.rarity) (nat_cmp a.page b.page))
@@ -102,7 +106,8 @@ wanted_by-rank_of s counts p most =
     let e : most_pixels - (most_pixels - slice_index counts p) ≡ slice_index counts p = omega arith in
     ap (λ (n : ℕ). let w : Wanted = record { page = p; pixels = n } in w) e
 
-wanted_by_rank : (s : Shape) (counts : List ℕ) (n : ℕ) (r : Rank) → ((p : ℕ) → slice_index counts p ≤ most_pixels) → IsRank s counts n r → wanted_by r ≡ shown counts r.page
+wanted_by_rank : (s : Shape) (counts : List ℕ) (n : ℕ) (r : Rank) → ((p : ℕ) → slice_index counts p ≤ most_pixels) → IsRank s counts n r
+    → wanted_by r ≡ shown counts r.page
 wanted_by_rank s counts n r most h = ap wanted_by (sym h.same) ∙ wanted_by-rank_of s counts r.page (most r.page)
 
 earlier_pages : (s : Shape) (counts : List ℕ) (p q : ℕ) → ((p : ℕ) → slice_index counts p ≤ most_pixels)
@@ -130,7 +135,8 @@ module _ (s : Shape) (counts : List ℕ) (rs : List Rank) (pages : length counts
   all_ranks = All-permutation (IsRank s counts (length counts)) (ranks_below s counts (length counts)) rs moved (ranks_are s counts (length counts))
 
   all_apart : IsDistinct (λ a b. a.page == b.page) rs
-  all_apart = IsDistinct-IsPermutation (λ a b. a.page == b.page) (λ a b. grind (arith, nat_tests)) (ranks_below s counts (length counts)) rs moved (pages_apart s counts (length counts))
+  all_apart = IsDistinct-IsPermutation (λ a b. a.page == b.page) (λ a b. grind (arith, nat_tests)) (ranks_below s counts (length counts)) rs moved
+      (pages_apart s counts (length counts))
 
   in_order : IsSortedBy (λ a b. is_lt (rank_cmp a b)) rs → IsTotalOrder rank_cmp → AllPairs (λ a b. is_before s a b ≡ true) (map wanted_by rs)
   in_order sorted total i j d below inside =
@@ -140,7 +146,8 @@ module _ (s : Shape) (counts : List ℕ) (rs : List Rank) (pages : length counts
       rw (get_or-map wanted_by rs i r d under, get_or-map wanted_by rs j r d within)
       (earlier s counts (length counts) (get_or rs i r) (get_or rs j r) most (all_ranks i r under) (all_ranks j r within)
       (sorted_far (λ a b. is_lt (rank_cmp a b)) (ranks_by total (λ x. x)) rs sorted i j r (omega arith) within)
-      (λ e. let h : ((get_or rs i r).page == (get_or rs j r).page) ≡ false = apart_from_distinct (λ a b. a.page == b.page) rs i j r all_apart below within in grind (arith, nat_tests)))
+      (λ e. let h : ((get_or rs i r).page == (get_or rs j r).page) ≡ false = apart_from_distinct (λ a b. a.page == b.page) rs i j r all_apart below
+          within in grind (arith, nat_tests)))
 
   each_once : IsDistinct nat_eq (map (λ w. w.page) (map wanted_by rs))
   each_once = IsDistinct-from_apart nat_eq (map (λ w. w.page) (map wanted_by rs)) (λ i j d below inside.
@@ -158,14 +165,16 @@ module _ (s : Shape) (counts : List ℕ) (rs : List Rank) (pages : length counts
 
   these_only : (w : Wanted) → Contains (map wanted_by rs) w → IsWanted s (slice_index counts) w
   these_only w there = All-contains (IsWanted s (slice_index counts)) (map wanted_by rs) w
-      (All-map (IsWanted s (slice_index counts)) wanted_by rs (All-weaker (IsRank s counts (length counts)) (λ r. IsWanted s (slice_index counts) (wanted_by r)) each_wanted rs all_ranks)) there
+      (All-map (IsWanted s (slice_index counts)) wanted_by rs
+          (All-weaker (IsRank s counts (length counts)) (λ r. IsWanted s (slice_index counts) (wanted_by r)) each_wanted rs all_ranks)) there
 
   these_all : (w : Wanted) → IsWanted s (slice_index counts) w → Contains (map wanted_by rs) w
   these_all w h =
       let r : Rank = rank_of s counts w.page in
       let there : Contains rs r = Contains-permutation (ranks_below s counts (length counts)) rs r moved
       (rank_is_there s counts (length counts) w.page (omega (arith, h.inside)) (omega (arith, h.some, h.all))) in
-      let same : wanted_by r ≡ w = wanted_by-rank_of s counts w.page (most w.page) ∙ ap (λ (n : ℕ). let v : Wanted = record { page = w.page; pixels = n } in v) (sym h.all) in
+      let same : wanted_by r ≡ w = wanted_by-rank_of s counts w.page (most w.page)
+          ∙ ap (λ (n : ℕ). let v : Wanted = record { page = w.page; pixels = n } in v) (sym h.all) in
       Contains-map wanted_by rs r w there same
 
 pub wants_from_ranks : (s : Shape) (counts : List ℕ) (rs : List Rank) → length counts ≡ pages_of s → ((p : ℕ) → slice_index counts p ≤ most_pixels)

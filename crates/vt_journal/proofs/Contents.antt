@@ -67,7 +67,8 @@ split_head : (s : Shape) (pinned : ℕ) (places : List ℕ) (ls : List Line) (ps
     → split (map (λ i. Makes (i + 1) (pinned_change s pinned i)) places ++ ls) ≡ parts (map (λ i. Changed (pinned_change s pinned i)) places) [] ps
 unfolding split
 split_head s pinned [] ls ps e = e
-split_head s pinned (i ∷ places) ls ps e = ap (λ (x : Split). parts (Changed (pinned_change s pinned i) ∷ x.events) x.rows x.passes) (split_head s pinned places ls ps e)
+split_head s pinned (i ∷ places) ls ps e = ap (λ (x : Split). parts (Changed (pinned_change s pinned i) ∷ x.events) x.rows x.passes)
+    (split_head s pinned places ls ps e)
 
 split_content : (s : Shape) (c : Content)
     → split (content_lines s c) ≡ parts (map (λ i. Changed (pinned_change s c.pinned i)) (range_with_len 0 c.pinned)) [] c.passes
@@ -110,7 +111,8 @@ lines_by_bytes s (l ∷ ls) (m ∷ ms) tile a b e =
 lines_by_text : (s : Shape) (ls ms : List Line) → 1 ≤ s.tile → AreInChain s ls → AreInChain s ms
     → lines_text s ls ≡ lines_text s ms → ls ≡ ms
 lines_by_text s ls ms tile a b e =
-    lines_by_bytes s ls ms tile a b (append_cancel_right (map (line_bytes s) ls) (map (line_bytes s) ms) ([] ∷ []) (sym (lines_of-text s ls) ∙ ap lines_of e ∙ lines_of-text s ms))
+    lines_by_bytes s ls ms tile a b (append_cancel_right (map (line_bytes s) ls) (map (line_bytes s) ms) ([] ∷ []) (sym (lines_of-text s ls)
+        ∙ ap lines_of e ∙ lines_of-text s ms))
 
 -- the text of a content is that of its lines
 passes_text : (s : Shape) (ps : List Pass) → flat_map (pass_text s) ps ≡ lines_text s (flat_map pass_lines ps)
@@ -139,7 +141,8 @@ lines_of_content s text c e = ap lines_of (e ∙ text_of_content s c) ∙ lines_
 pub lawful_has_no_flaw : (s : Shape) (height : ℕ) (text : List ℕ) (c : Content) (e : JournalError) → 1 ≤ s.tile
     → IsLawful s height c → text ≡ journal_text s c → IsJournalFlaw s height text e → ⊥
 lawful_has_no_flaw s height text c e tile lawful same flaw =
-    no_flaw s height 1 nothing_read (content_lines s c) e tile lawful.admitted lawful.complete (subst (λ ls. IsFlawFrom s height 1 nothing_read ls e) (lines_of_content s text c same) flaw)
+    no_flaw s height 1 nothing_read (content_lines s c) e tile lawful.admitted lawful.complete
+        (subst (λ ls. IsFlawFrom s height 1 nothing_read ls e) (lines_of_content s text c same) flaw)
 
 pub journal_flaw_unique : (s : Shape) (height : ℕ) (text : List ℕ) (e f : JournalError) → 1 ≤ s.tile
     → IsJournalFlaw s height text e → IsJournalFlaw s height text f → e ≡ f

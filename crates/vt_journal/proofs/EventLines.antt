@@ -49,7 +49,8 @@ text_more s start v w es e is =
 
 -- one pinned page more
 pub head_more : (s : Shape) (pinned place : ℕ)
-    → lines_text s (map (λ i. Makes (i + 1) (pinned_change s pinned i)) (range_with_len 0 place)) ++ line_text s (Makes (place + 1) (pinned_change s pinned place))
+    → lines_text s (map (λ i. Makes (i + 1) (pinned_change s pinned i)) (range_with_len 0 place))
+    ++ line_text s (Makes (place + 1) (pinned_change s pinned place))
     ≡ lines_text s (map (λ i. Makes (i + 1) (pinned_change s pinned i)) (range_with_len 0 (place + 1)))
 head_more s pinned place =
     let f : ℕ → Line = λ i. Makes (i + 1) (pinned_change s pinned i) in

@@ -96,12 +96,15 @@ with_pass c p = record { pinned = c.pinned; passes = c.passes ++ p ∷ [] }
 lines_more : (s : Shape) (c : Content) (p : Pass) → content_lines s c ++ pass_lines p ≡ content_lines s (with_pass c p)
 lines_more s c p =
     append_assoc (head_lines s c.pinned) (flat_map pass_lines c.passes) (pass_lines p)
-    ∙ ap (λ ls. head_lines s c.pinned ++ ls) (ap (λ ls. flat_map pass_lines c.passes ++ ls) (sym (append-nil (pass_lines p))) ∙ sym (flat_map-append pass_lines c.passes (p ∷ [])))
+    ∙ ap (λ ls. head_lines s c.pinned ++ ls) (ap (λ ls. flat_map pass_lines c.passes ++ ls) (sym (append-nil (pass_lines p)))
+    ∙ sym (flat_map-append pass_lines c.passes (p ∷ [])))
 
 pub lawful_more : (s : Shape) (height : ℕ) (c : Content) (p : Pass) → IsLawful s height c
     → AreAdmitted s height (after_all nothing_read (content_lines s c)) (pass_lines p)
     → IsComplete s height (after_all (after_all nothing_read (content_lines s c)) (pass_lines p)) → IsLawful s height (with_pass c p)
 lawful_more s height c p lawful admitted complete = record {
-  admitted = subst (AreAdmitted s height nothing_read) (lines_more s c p) (admitted-append s height nothing_read (content_lines s c) (pass_lines p) lawful.admitted admitted);
-  complete = subst (λ ls. IsComplete s height (after_all nothing_read ls)) (lines_more s c p) (subst (IsComplete s height) (sym (after_all-append nothing_read (content_lines s c) (pass_lines p))) complete);
+  admitted = subst (AreAdmitted s height nothing_read) (lines_more s c p)
+      (admitted-append s height nothing_read (content_lines s c) (pass_lines p) lawful.admitted admitted);
+  complete = subst (λ ls. IsComplete s height (after_all nothing_read ls)) (lines_more s c p)
+      (subst (IsComplete s height) (sym (after_all-append nothing_read (content_lines s c) (pass_lines p))) complete);
 }

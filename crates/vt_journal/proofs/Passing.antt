@@ -26,16 +26,19 @@ abbrev made : List Change → ℕ → ℕ → ℕ → List RowLine → Reading
 made changes passes picture start rows = record { changes = changes; passes = passes; picture = picture; start = start; rows = rows }
 
 -- the numbers of the next pass are a line that may come next
-pub begin_admitted : (s : Shape) (height : ℕ) (changes : List Change) (version passes before pass picture start : ℕ) (r : Reading) → IsBetween s height changes passes before r → version ≡ length changes
+pub begin_admitted : (s : Shape) (height : ℕ) (changes : List Change) (version passes before pass picture start : ℕ) (r : Reading)
+    → IsBetween s height changes passes before r → version ≡ length changes
     → IsNextPass version passes before pass picture start → Admits s height r (Begins pass picture start)
 begin_admitted s height changes version passes before pass picture start r between newest next = (
   between.complete,
   next.pass_is ∙ ap (λ n. n + 1) (sym between.passes_are),
-  subst (λ n. IsNextPicture n r.picture picture) (sym between.passes_are) (subst (λ b. IsNextPicture passes b picture) (sym between.picture_is) next.picture_is),
+  subst (λ n. IsNextPicture n r.picture picture) (sym between.passes_are)
+      (subst (λ b. IsNextPicture passes b picture) (sym between.picture_is) next.picture_is),
   next.start_is ∙ newest ∙ ap length (sym between.changes_are),
 )
 
-pub admitted_begin : (s : Shape) (height : ℕ) (changes : List Change) (version passes before pass picture start : ℕ) (r : Reading) → IsBetween s height changes passes before r → version ≡ length changes
+pub admitted_begin : (s : Shape) (height : ℕ) (changes : List Change) (version passes before pass picture start : ℕ) (r : Reading)
+    → IsBetween s height changes passes before r → version ≡ length changes
     → Admits s height r (Begins pass picture start) → IsNextPass version passes before pass picture start
 admitted_begin s height changes version passes before pass picture start r between newest a = record {
   pass_is = a.1 ∙ ap (λ n. n + 1) between.passes_are;
@@ -61,7 +64,8 @@ only_begin s height r (Makes v (Unmap p f)) whole quiet other a = let before = a
 only_begin s height r (Loses p) whole quiet other a = let before = a.0 in quiet (omega (arith, whole.rows before.0, ap length before.1)) before.0
 only_begin s height r (Draws row) whole quiet other a = omega (arith, a.next, a.inside, whole.rows a.in_pass)
 
-module _ (s : Shape) (height : ℕ) (text : List ℕ) (changes : List Change) (passes before : ℕ) (at number : ℕ) (r : Reading) (between : IsBetween s height changes passes before r) where
+module _ (s : Shape) (height : ℕ) (text : List ℕ) (changes : List Change) (passes before : ℕ) (at number : ℕ) (r : Reading)
+    (between : IsBetween s height changes passes before r) where
   -- no line where the text goes on
   pub no_begin : at < length text → IsNoLine s text at → IsFlawFrom s height number r (lines_of (drop at text)) (BadLine number)
   no_begin more none = refused_unread s height text r at number between.small none (λ e. absurd (omega (arith, length-drop at text, ap length e)))
@@ -72,26 +76,31 @@ module _ (s : Shape) (height : ℕ) (text : List ℕ) (changes : List Change) (p
   other_than_begin line next_at next_number read other none =
       refused_read s height text r at number line next_at next_number between.small.tile read
       (only_begin s height r line between.complete
-      (λ flat some. none flat (omega (arith, some, between.passes_are)) line read.bytes (lines_of (drop next_at text)) read.cut (some_lines (drop next_at text)) read.says) other)
+      (λ flat some. none flat (omega (arith, some, between.passes_are)) line read.bytes (lines_of (drop next_at text)) read.cut
+          (some_lines (drop next_at text)) read.says) other)
 
   -- the beginning of another pass than the next
-  pub other_begin : (version pass picture start next_at next_number : ℕ) → version ≡ length changes → IsLineRead s text at number (Begins pass picture start) next_at next_number
+  pub other_begin : (version pass picture start next_at next_number : ℕ) → version ≡ length changes
+      → IsLineRead s text at number (Begins pass picture start) next_at next_number
       → ¬ IsNextPass version passes before pass picture start → IsFlawFrom s height number r (lines_of (drop at text)) (BadLine number)
   other_begin version pass picture start next_at next_number newest read never =
       refused_read s height text r at number (Begins pass picture start) next_at next_number between.small.tile read
       (λ a. never (admitted_begin s height changes version passes before pass picture start r between newest a))
 
-  pub begin_read : (version pass picture start next_at next_number : ℕ) → version ≡ length changes → IsLineRead s text at number (Begins pass picture start) next_at next_number
+  pub begin_read : (version pass picture start next_at next_number : ℕ) → version ≡ length changes
+      → IsLineRead s text at number (Begins pass picture start) next_at next_number
       → IsNextPass version passes before pass picture start → Advances s height text r at number (Begins pass picture start ∷ []) next_at next_number
   begin_read version pass picture start next_at next_number newest read next =
-      advance_line s height text r at number (Begins pass picture start) next_at next_number read (begin_admitted s height changes version passes before pass picture start r between newest next)
+      advance_line s height text r at number (Begins pass picture start) next_at next_number read
+          (begin_admitted s height changes version passes before pass picture start r between newest next)
 
 -- a pass that has just begun
 pub pass_begun : (s : Shape) (height : ℕ) (changes : List Change) (pages pinned passes before : ℕ) (pass : PassText)
     → IsAwaited s height changes pages pinned passes before
     → pass.pass ≡ passes + 1 → pass.picture ≤ passes + 1 → pass.rows.elements ≡ [] → IsInPass s height changes pages pinned pass
 pass_begun s height changes pages pinned passes before pass awaited pass_is picture_is none = record {
-  small = record { tile = awaited.tile; short = awaited.short; passes = omega (arith, awaited.few_passes, pass_is); picture = omega (arith, pass_is, picture_is); changes = awaited.few_changes };
+  small = record { tile = awaited.tile; short = awaited.short; passes = omega (arith, awaited.few_passes, pass_is); picture = omega
+      (arith, pass_is, picture_is); changes = awaited.few_changes };
   some = awaited.some;
   pinned_is = awaited.pinned_is;
   pages_is = awaited.pages_is;
@@ -106,7 +115,8 @@ picture_after passes before picture low next = elim (none_or_more passes) [
 ]
 
 -- a pass: its beginning, its events and its rows
-module _ (s : Shape) (height : ℕ) (text : List ℕ) (r : Reading) (old mid : List Change) (passes before : ℕ) (fresh pass : PassText) (between : IsBetween s height old passes before r)
+module _ (s : Shape) (height : ℕ) (text : List ℕ) (r : Reading) (old mid : List Change) (passes before : ℕ) (fresh pass : PassText)
+    (between : IsBetween s height old passes before r)
     (no_events : fresh.events.elements ≡ []) (no_rows : fresh.rows.elements ≡ []) where
   -- what was told when the pass has begun
   begun_is : after r (Begins fresh.pass fresh.picture fresh.start) ≡ reading_of old fresh
@@ -114,16 +124,21 @@ module _ (s : Shape) (height : ℕ) (text : List ℕ) (r : Reading) (old mid : L
       ∙ ap (λ rs. made old fresh.pass fresh.picture fresh.start rs) (sym no_rows)
 
   -- a refusal among its events
-  pub events_refused : (at number at1 number1 : ℕ) (e : JournalError) → Advances s height text r at number (Begins fresh.pass fresh.picture fresh.start ∷ []) at1 number1
+  pub events_refused : (at number at1 number1 : ℕ) (e : JournalError)
+      → Advances s height text r at number (Begins fresh.pass fresh.picture fresh.start ∷ []) at1 number1
       → IsRefusal s height text (reading_of old fresh) at1 number1 e → IsRefusal s height text r at number e
   events_refused at number at1 number1 e begin refusal =
-      refused_later s height text r at number (Begins fresh.pass fresh.picture fresh.start ∷ []) at1 number1 e begin (subst (λ (r : Reading). IsRefusal s height text r at1 number1 e) (sym begun_is) refusal)
+      refused_later s height text r at number (Begins fresh.pass fresh.picture fresh.start ∷ []) at1 number1 e begin
+          (subst (λ (r : Reading). IsRefusal s height text r at1 number1 e) (sym begun_is) refusal)
 
   -- the beginning and the events
-  pub begin_and_events : (at number at1 number1 at2 number2 : ℕ) → Advances s height text r at number (Begins fresh.pass fresh.picture fresh.start ∷ []) at1 number1
-      → (a : AreEventsRead s height text old mid fresh pass at1 number1 at2 number2) → Advances s height text r at number (Begins fresh.pass fresh.picture fresh.start ∷ event_lines (length old) a.events) at2 number2
+  pub begin_and_events : (at number at1 number1 at2 number2 : ℕ)
+      → Advances s height text r at number (Begins fresh.pass fresh.picture fresh.start ∷ []) at1 number1
+      → (a : AreEventsRead s height text old mid fresh pass at1 number1 at2 number2)
+      → Advances s height text r at number (Begins fresh.pass fresh.picture fresh.start ∷ event_lines (length old) a.events) at2 number2
   begin_and_events at number at1 number1 at2 number2 begin a =
-      advance_more s height text r at number (Begins fresh.pass fresh.picture fresh.start ∷ []) (event_lines (length old) a.events) at1 number1 at2 number2 begin
+      advance_more s height text r at number (Begins fresh.pass fresh.picture fresh.start ∷ []) (event_lines (length old) a.events) at1 number1 at2
+          number2 begin
       (subst (λ (r : Reading). Advances s height text r at1 number1 (event_lines (length old) a.events) at2 number2) (sym begun_is) a.advances)
 
   -- what was told then
@@ -135,17 +150,23 @@ module _ (s : Shape) (height : ℕ) (text : List ℕ) (r : Reading) (old mid : L
       ∙ ap (λ rs. made mid pass.pass pass.picture pass.start rs) (a.same.rows ∙ no_rows)
 
   -- a refusal among its rows
-  pub rows_refused : (at number at1 number1 at2 number2 : ℕ) (e : JournalError) → Advances s height text r at number (Begins fresh.pass fresh.picture fresh.start ∷ []) at1 number1
-      → AreEventsRead s height text old mid fresh pass at1 number1 at2 number2 → IsRefusal s height text (with_rows mid pass []) at2 number2 e → IsRefusal s height text r at number e
+  pub rows_refused : (at number at1 number1 at2 number2 : ℕ) (e : JournalError)
+      → Advances s height text r at number (Begins fresh.pass fresh.picture fresh.start ∷ []) at1 number1
+      → AreEventsRead s height text old mid fresh pass at1 number1 at2 number2 → IsRefusal s height text (with_rows mid pass []) at2 number2 e
+      → IsRefusal s height text r at number e
   rows_refused at number at1 number1 at2 number2 e begin a refusal =
-      refused_later s height text r at number (Begins fresh.pass fresh.picture fresh.start ∷ event_lines (length old) a.events) at2 number2 e (begin_and_events at number at1 number1 at2 number2 begin a)
+      refused_later s height text r at number (Begins fresh.pass fresh.picture fresh.start ∷ event_lines (length old) a.events) at2 number2 e
+          (begin_and_events at number at1 number1 at2 number2 begin a)
       (subst (λ (r : Reading). IsRefusal s height text r at2 number2 e) (sym (told_is at1 number1 at2 number2 a)) refusal)
 
   -- all of it
-  pub pass_read : (at number at1 number1 at2 number2 at3 number3 : ℕ) (rows : List RowLine) (whole : PassText) → Advances s height text r at number (Begins fresh.pass fresh.picture fresh.start ∷ []) at1 number1
-      → AreEventsRead s height text old mid fresh pass at1 number1 at2 number2 → Advances s height text (with_rows mid pass []) at2 number2 (map Draws rows) at3 number3
+  pub pass_read : (at number at1 number1 at2 number2 at3 number3 : ℕ) (rows : List RowLine) (whole : PassText)
+      → Advances s height text r at number (Begins fresh.pass fresh.picture fresh.start ∷ []) at1 number1
+      → AreEventsRead s height text old mid fresh pass at1 number1 at2 number2
+      → Advances s height text (with_rows mid pass []) at2 number2 (map Draws rows) at3 number3
       → length rows ≡ height → (height ≡ 0 → IsNoEventAt s text at3) → length mid ≤ most_versions → fresh.picture ≤ fresh.pass
-      → whole.pass ≡ pass.pass → whole.picture ≡ pass.picture → whole.start ≡ pass.start → whole.events.elements ≡ pass.events.elements → whole.rows.elements ≡ rows
+      → whole.pass ≡ pass.pass → whole.picture ≡ pass.picture → whole.start ≡ pass.start → whole.events.elements ≡ pass.events.elements
+      → whole.rows.elements ≡ rows
       → IsPassRead s height text r old mid passes whole at number at3 number3
   pass_read at number at1 number1 at2 number2 at3 number3 rows whole begin a drawn count quiet few low wp wk wv we wr =
       let events : whole.events.elements ≡ a.events = we ∙ a.added ∙ ap (λ es. es ++ a.events) no_events in
@@ -157,8 +178,10 @@ module _ (s : Shape) (height : ℕ) (text : List ℕ) (r : Reading) (old mid : L
       ∙ ap (λ n. Begins n fresh.picture fresh.start ∷ event_lines fresh.start whole.events.elements ++ map Draws whole.rows.elements) (sym (wp ∙ a.same.pass))
       ∙ ap (λ k. Begins whole.pass k fresh.start ∷ event_lines fresh.start whole.events.elements ++ map Draws whole.rows.elements) (sym (wk ∙ a.same.picture))
       ∙ ap (λ v. Begins whole.pass whole.picture v ∷ event_lines v whole.events.elements ++ map Draws whole.rows.elements) (sym (wv ∙ a.same.start)) in
-      let all : Advances s height text r at number ((Begins fresh.pass fresh.picture fresh.start ∷ event_lines (length old) a.events) ++ map Draws rows) at3 number3 =
-      advance_more s height text r at number (Begins fresh.pass fresh.picture fresh.start ∷ event_lines (length old) a.events) (map Draws rows) at2 number2 at3 number3 (begin_and_events at number at1 number1 at2 number2 begin a)
+      let all : Advances s height text r at number ((Begins fresh.pass fresh.picture fresh.start ∷ event_lines (length old) a.events)
+          ++ map Draws rows) at3 number3 =
+      advance_more s height text r at number (Begins fresh.pass fresh.picture fresh.start ∷ event_lines (length old) a.events) (map Draws rows) at2
+          number2 at3 number3 (begin_and_events at number at1 number1 at2 number2 begin a)
       (subst (λ (r : Reading). Advances s height text r at2 number2 (map Draws rows) at3 number3) (sym (told_is at1 number1 at2 number2 a)) drawn) in
       let moved = subst (λ (ls : List Line). Advances s height text r at number ls at3 number3) lines all in
       record {
@@ -197,9 +220,11 @@ changes_more ps p =
     ∙ sym (flat_map-append f (map pass_of ps) (pass_of p ∷ []))
     ∙ ap (flat_map f) (sym (map-append pass_of ps (p ∷ [])))
 
-pub passes_more : (s : Shape) (height : ℕ) (text : List ℕ) (first before last : List Change) (passes : List PassText) (pass : PassText) (picture at number at1 number1 at2 number2 : ℕ)
+pub passes_more : (s : Shape) (height : ℕ) (text : List ℕ) (first before last : List Change) (passes : List PassText) (pass : PassText)
+    (picture at number at1 number1 at2 number2 : ℕ)
     → ArePassesRead s height text first before passes picture at number at1 number1
-    → ((r : Reading) → IsBetween s height before (length passes) picture r → IsPassRead s height text r before last (length passes) pass at1 number1 at2 number2)
+    → ((r : Reading) → IsBetween s height before (length passes) picture r
+    → IsPassRead s height text r before last (length passes) pass at1 number1 at2 number2)
     → length passes + 2 < 2 ^ 32
     → ArePassesRead s height text first last (passes ++ pass ∷ []) pass.picture at number at2 number2
 passes_more s height text first before last passes pass picture at number at1 number1 at2 number2 so_far next few =
@@ -208,7 +233,8 @@ passes_more s height text first before last passes pass picture at number at1 nu
     let read : IsPassRead s height text r before last (length passes) pass at1 number1 at2 number2 = next r so_far.between in
     let all = lines_more passes pass in
     let count = length-append passes (pass ∷ []) in
-    let told : after_all (head_reading first) (flat_map pass_lines (map pass_of (passes ++ pass ∷ []))) ≡ made last pass.pass pass.picture pass.start pass.rows.elements =
+    let told : after_all (head_reading first) (flat_map pass_lines (map pass_of (passes
+        ++ pass ∷ []))) ≡ made last pass.pass pass.picture pass.start pass.rows.elements =
     ap (after_all (head_reading first)) (sym all) ∙ after_all-append (head_reading first) ls (pass_lines (pass_of pass))
     ∙ after_pass r pass
     ∙ ap (λ cs. made (cs ++ changes_of pass.events.elements) pass.pass pass.picture pass.start pass.rows.elements) so_far.between.changes_are
@@ -220,7 +246,8 @@ passes_more s height text first before last passes pass picture at number at1 nu
       advances = subst (λ (ls : List Line). Advances s height text (head_reading first) at number ls at2 number2) all
           (advance_more s height text (head_reading first) at number ls (pass_lines (pass_of pass)) at1 number1 at2 number2 so_far.advances read.advances);
       between = subst (λ (r : Reading). IsBetween s height last (length (passes ++ pass ∷ [])) pass.picture r) (sym told) (record {
-        small = record { tile = so_far.between.small.tile; short = so_far.between.small.short; passes = omega (arith, read.pass_is, few); picture = read.picture_is; changes = read.few };
+        small = record { tile = so_far.between.small.tile; short = so_far.between.small.short; passes = omega (arith, read.pass_is, few);
+            picture = read.picture_is; changes = read.few };
         changes_are = refl;
         passes_are = read.pass_is ∙ sym count;
         picture_is = refl;

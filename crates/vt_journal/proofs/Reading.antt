@@ -42,11 +42,13 @@ name_is_short s page limits inside =
 
 -- a page that stands in a line has the name that was read
 pub name_read : (s : Shape) (line : List ℕ) (i page level col row : ℕ) → StandsAt s line i page
-    → slice_get (fields_of line) i ≡ Some (number_spelling level) → slice_get (fields_of line) (i + 1) ≡ Some (number_spelling col) → slice_get (fields_of line) (i + 2) ≡ Some (number_spelling row)
+    → slice_get (fields_of line) i ≡ Some (number_spelling level) → slice_get (fields_of line) (i + 1) ≡ Some (number_spelling col)
+    → slice_get (fields_of line) (i + 2) ≡ Some (number_spelling row)
     → name_at s page ≡ record { level = level; col = col; row = row }
 name_read s line i page level col row at l c r =
     same_name (name_at s page).level (name_at s page).col (name_at s page).row level col row
-    (same_number (slice_get (fields_of line) i) (name_at s page).level level at.level l) (same_number (slice_get (fields_of line) (i + 1)) (name_at s page).col col at.col c)
+    (same_number (slice_get (fields_of line) i) (name_at s page).level level at.level l)
+        (same_number (slice_get (fields_of line) (i + 1)) (name_at s page).col col at.col c)
     (same_number (slice_get (fields_of line) (i + 2)) (name_at s page).row row at.row r)
 
 -- a list by what stands at its places

@@ -28,8 +28,10 @@ seen_none start rows seen none count all = record {
 }
 
 -- a row in turn is a line that may come next
-pub row_admitted : (s : Shape) (height : ℕ) (changes : List Change) (pass : PassText) (rows : List RowLine) (seen : List ℕ) (version : ℕ) (row : RowLine) → AreRowsBegun s height changes pass rows seen
-    → length rows < height → version ≡ length changes → row.sampler < most_samplers → IsRowInTurn (length rows) seen version row → Admits s height (with_rows changes pass rows) (Draws row)
+pub row_admitted : (s : Shape) (height : ℕ) (changes : List Change) (pass : PassText) (rows : List RowLine) (seen : List ℕ) (version : ℕ)
+    (row : RowLine) → AreRowsBegun s height changes pass rows seen
+    → length rows < height → version ≡ length changes → row.sampler < most_samplers → IsRowInTurn (length rows) seen version row
+    → Admits s height (with_rows changes pass rows) (Draws row)
 row_admitted s height changes pass rows seen version row begun below newest sampler turn = record {
   in_pass = begun.in_pass;
   next = turn.next;
@@ -40,7 +42,8 @@ row_admitted s height changes pass rows seen version row begun below newest samp
   rises = λ k before at same. omega (arith, begun.seen_are.most k before at, ap (λ j. get_or seen j 0) same, turn.rises);
 }
 
-pub admitted_row : (s : Shape) (height : ℕ) (changes : List Change) (pass : PassText) (rows : List RowLine) (seen : List ℕ) (version : ℕ) (row : RowLine) → AreRowsBegun s height changes pass rows seen
+pub admitted_row : (s : Shape) (height : ℕ) (changes : List Change) (pass : PassText) (rows : List RowLine) (seen : List ℕ) (version : ℕ)
+    (row : RowLine) → AreRowsBegun s height changes pass rows seen
     → version ≡ length changes → Admits s height (with_rows changes pass rows) (Draws row) → IsRowInTurn (length rows) seen version row
 admitted_row s height changes pass rows seen version row begun newest a = record {
   next = a.next;
@@ -53,11 +56,13 @@ admitted_row s height changes pass rows seen version row begun newest a = record
 
 module _ (s : Shape) (height : ℕ) (text : List ℕ) (changes : List Change) (pass : PassText) where
   -- a row that was read and may not come next
-  pub row_not_read : (rows : List RowLine) (seen : List ℕ) (version : ℕ) (row : RowLine) (at number next_at next_number : ℕ) → AreRowsBegun s height changes pass rows seen
+  pub row_not_read : (rows : List RowLine) (seen : List ℕ) (version : ℕ) (row : RowLine) (at number next_at next_number : ℕ)
+      → AreRowsBegun s height changes pass rows seen
       → version ≡ length changes → IsLineRead s text at number (Draws row) next_at next_number → ¬ IsRowInTurn (length rows) seen version row
       → IsFlawFrom s height number (with_rows changes pass rows) (lines_of (drop at text)) (BadLine number)
   row_not_read rows seen version row at number next_at next_number begun newest read never =
-      refused_read s height text (with_rows changes pass rows) at number (Draws row) next_at next_number begun.small.tile read (λ a. never (admitted_row s height changes pass rows seen version row begun newest a))
+      refused_read s height text (with_rows changes pass rows) at number (Draws row) next_at next_number begun.small.tile read
+          (λ a. never (admitted_row s height changes pass rows seen version row begun newest a))
 
   -- the rows are not whole
   incomplete : (rows : List RowLine) → 1 ≤ pass.pass → length rows < height → ¬ IsComplete s height (with_rows changes pass rows)
@@ -70,7 +75,8 @@ module _ (s : Shape) (height : ℕ) (text : List ℕ) (changes : List Change) (p
       refused_unread s height text (with_rows changes pass rows) at number begun.small none (λ _. incomplete rows begun.in_pass below)
 
   -- another line where a row is missing
-  pub other_line : (rows : List RowLine) (seen : List ℕ) (line : Line) (at number next_at next_number : ℕ) → AreRowsBegun s height changes pass rows seen → length rows < height
+  pub other_line : (rows : List RowLine) (seen : List ℕ) (line : Line) (at number next_at next_number : ℕ)
+      → AreRowsBegun s height changes pass rows seen → length rows < height
       → IsLineRead s text at number line next_at next_number → ((row : RowLine) → line ≢ Draws row) → (rows ≡ [] → IsNoEventAt s text at)
       → IsFlawFrom s height number (with_rows changes pass rows) (lines_of (drop at text)) (BadLine number)
   other_line rows seen line at number next_at next_number begun below read other none =
@@ -110,14 +116,17 @@ after_rows r (row ∷ rows) =
 
 module _ (s : Shape) (height : ℕ) (text : List ℕ) (changes : List Change) (pass : PassText) (at number : ℕ) where
   -- the rows so far, and one more
-  pub rows_more : (rows : List RowLine) (row : RowLine) (at1 number1 at2 number2 : ℕ) → Advances s height text (with_rows changes pass []) at number (map Draws rows) at1 number1
-      → Advances s height text (with_rows changes pass rows) at1 number1 (Draws row ∷ []) at2 number2 → Advances s height text (with_rows changes pass []) at number (map Draws (rows ++ row ∷ [])) at2 number2
+  pub rows_more : (rows : List RowLine) (row : RowLine) (at1 number1 at2 number2 : ℕ)
+      → Advances s height text (with_rows changes pass []) at number (map Draws rows) at1 number1
+      → Advances s height text (with_rows changes pass rows) at1 number1 (Draws row ∷ []) at2 number2
+      → Advances s height text (with_rows changes pass []) at number (map Draws (rows ++ row ∷ [])) at2 number2
   rows_more rows row at1 number1 at2 number2 a b =
       subst (λ (ls : List Line). Advances s height text (with_rows changes pass []) at number ls at2 number2) (sym (map-append Draws rows (row ∷ [])))
       (advance_more s height text (with_rows changes pass []) at number (map Draws rows) (Draws row ∷ []) at1 number1 at2 number2 a
       (subst (λ (r : Reading). Advances s height text r at1 number1 (Draws row ∷ []) at2 number2) (sym (after_rows (with_rows changes pass []) rows)) b))
 
-  pub row_refused_later : (rows : List RowLine) (at1 number1 : ℕ) (e : JournalError) → Advances s height text (with_rows changes pass []) at number (map Draws rows) at1 number1
+  pub row_refused_later : (rows : List RowLine) (at1 number1 : ℕ) (e : JournalError)
+      → Advances s height text (with_rows changes pass []) at number (map Draws rows) at1 number1
       → IsRefusal s height text (with_rows changes pass rows) at1 number1 e → IsRefusal s height text (with_rows changes pass []) at number e
   row_refused_later rows at1 number1 e a refusal =
       refused_later s height text (with_rows changes pass []) at number (map Draws rows) at1 number1 e a
@@ -134,22 +143,29 @@ begun_first s height changes pass rows seen none small in_pass seen_are =
     subst (λ (rs : List RowLine). AreRowsBegun s height changes pass rs seen) (sym none) (record { small = small; in_pass = in_pass; seen_are = seen_are })
 
 -- and go on
-pub begun_more : (s : Shape) (height : ℕ) (changes : List Change) (pass : PassText) (rows rows_after : List RowLine) (seen seen_after : List ℕ) → AreRowsBegun s height changes pass rows seen
+pub begun_more : (s : Shape) (height : ℕ) (changes : List Change) (pass : PassText) (rows rows_after : List RowLine) (seen seen_after : List ℕ)
+    → AreRowsBegun s height changes pass rows seen
     → AreSeen pass.start rows_after seen_after → AreRowsBegun s height changes pass rows_after seen_after
 begun_more s height changes pass rows rows_after seen seen_after begun seen_are = record {
-  small = record { tile = begun.small.tile; short = begun.small.short; passes = begun.small.passes; picture = begun.small.picture; changes = begun.small.changes };
+  small = record { tile = begun.small.tile; short = begun.small.short; passes = begun.small.passes; picture = begun.small.picture;
+      changes = begun.small.changes };
   in_pass = begun.in_pass;
   seen_are = seen_are;
 }
 
-pub moved_rows : (s : Shape) (height : ℕ) (text : List ℕ) (changes : List Change) (pass : PassText) (at number : ℕ) (rows rows_after : List RowLine) (row : RowLine) (at1 number1 at2 number2 : ℕ) → rows_after ≡ rows ++ row ∷ []
-    → Advances s height text (with_rows changes pass []) at number (map Draws rows) at1 number1 → Advances s height text (with_rows changes pass rows) at1 number1 (Draws row ∷ []) at2 number2
+pub moved_rows : (s : Shape) (height : ℕ) (text : List ℕ) (changes : List Change) (pass : PassText) (at number : ℕ) (rows rows_after : List RowLine)
+    (row : RowLine) (at1 number1 at2 number2 : ℕ) → rows_after ≡ rows ++ row ∷ []
+    → Advances s height text (with_rows changes pass []) at number (map Draws rows) at1 number1
+    → Advances s height text (with_rows changes pass rows) at1 number1 (Draws row ∷ []) at2 number2
     → Advances s height text (with_rows changes pass []) at number (map Draws rows_after) at2 number2
 moved_rows s height text changes pass at number rows rows_after row at1 number1 at2 number2 added a b =
-    subst (λ (rs : List RowLine). Advances s height text (with_rows changes pass []) at number (map Draws rs) at2 number2) (sym added) (rows_more s height text changes pass at number rows row at1 number1 at2 number2 a b)
+    subst (λ (rs : List RowLine). Advances s height text (with_rows changes pass []) at number (map Draws rs) at2 number2) (sym added)
+        (rows_more s height text changes pass at number rows row at1 number1 at2 number2 a b)
 
 -- no rows were read
-pub rows_none : (s : Shape) (height : ℕ) (text : List ℕ) (changes : List Change) (pass : PassText) (at number : ℕ) (rows : List RowLine) → rows ≡ [] → IsCursor text at number
+pub rows_none : (s : Shape) (height : ℕ) (text : List ℕ) (changes : List Change) (pass : PassText) (at number : ℕ) (rows : List RowLine) → rows ≡ []
+    → IsCursor text at number
     → Advances s height text (with_rows changes pass []) at number (map Draws rows) at number
 rows_none s height text changes pass at number rows none cursor =
-    subst (λ (rs : List RowLine). Advances s height text (with_rows changes pass []) at number (map Draws rs) at number) (sym none) (advance_none s height text (with_rows changes pass []) at number cursor)
+    subst (λ (rs : List RowLine). Advances s height text (with_rows changes pass []) at number (map Draws rs) at number) (sym none)
+        (advance_none s height text (with_rows changes pass []) at number cursor)

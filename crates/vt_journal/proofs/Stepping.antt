@@ -27,12 +27,14 @@ page_injective s p q tile pin qin e =
     let level : (name_at s p).level ≡ (name_at s q).level = number_spelling_injective (name_at s p).level (name_at s q).level (cc) in
     let col : (name_at s p).col ≡ (name_at s q).col = number_spelling_injective (name_at s p).col (name_at s q).col (cc) in
     let row : (name_at s p).row ≡ (name_at s q).row = number_spelling_injective (name_at s p).row (name_at s q).row (cc) in
-    let name : name_at s p ≡ name_at s q = same_name (name_at s p).level (name_at s p).col (name_at s p).row (name_at s q).level (name_at s q).col (name_at s q).row level col row in
+    let name : name_at s p ≡ name_at s q = same_name (name_at s p).level (name_at s p).col (name_at s p).row (name_at s q).level (name_at s q).col
+        (name_at s q).row level col row in
     sym (index_of-name_at s p tile pin) ∙ ap (index_of s) name ∙ index_of-name_at s q tile qin
 
 -- the fields of a change tell the change and its version
 pair_injective : (s : Shape) (v w p q f g : ℕ) (word : List ℕ) → 1 ≤ s.tile → p < pages_of s → q < pages_of s
-    → word ∷ number_spelling v ∷ page_fields s p ++ number_spelling f ∷ [] ≡ word ∷ number_spelling w ∷ page_fields s q ++ number_spelling g ∷ [] → (v ≡ w) × (p ≡ q) × (f ≡ g)
+    → word ∷ number_spelling v ∷ page_fields s p ++ number_spelling f ∷ [] ≡ word ∷ number_spelling w ∷ page_fields s q ++ number_spelling g ∷ []
+    → (v ≡ w) × (p ≡ q) × (f ≡ g)
 pair_injective s v w p q f g word tile pin qin e =
     let fields : page_fields s p ≡ page_fields s q = cc in
     (number_spelling_injective v w (cc), page_injective s p q tile pin qin fields, number_spelling_injective f g (cc))
@@ -108,10 +110,13 @@ admitted_readable s height r (Begins n k v) small a =
     none_or_more : (n : ℕ) → (n ≡ 0) ⊎ (1 ≤ n)
     none_or_more zero = inl refl
     none_or_more (suc n) = inr (omega arith)
-admitted_readable s height r (Makes v (Map p f)) small a = record { version_inside = omega (arith, a.0, small.changes); page_inside = a.1.0; frame_inside = a.1.1 }
-admitted_readable s height r (Makes v (Unmap p f)) small a = record { version_inside = omega (arith, a.0, small.changes); page_inside = a.1.0; frame_inside = a.1.1 }
+admitted_readable s height r (Makes v (Map p f)) small a = record { version_inside = omega (arith, a.0, small.changes); page_inside = a.1.0;
+    frame_inside = a.1.1 }
+admitted_readable s height r (Makes v (Unmap p f)) small a = record { version_inside = omega (arith, a.0, small.changes); page_inside = a.1.0;
+    frame_inside = a.1.1 }
 admitted_readable s height r (Loses p) small a = a.1
-admitted_readable s height r (Draws row) small a = record { row_inside = omega (arith, a.inside, small.short); sampler_inside = a.sampler; version_inside = omega (arith, a.to, small.changes) }
+admitted_readable s height r (Draws row) small a = record { row_inside = omega (arith, a.inside, small.short); sampler_inside = a.sampler;
+    version_inside = omega (arith, a.to, small.changes) }
 
 -- a text has a line
 pub some_lines : (bs : List ℕ) → lines_of bs ≢ []
@@ -130,7 +135,8 @@ one_line s height r bytes l m tile says chain fields =
 -- where no line is read
 pub flaw_unread : (s : Shape) (height number : ℕ) (r : Reading) (lines : List (List ℕ)) → lines ≢ []
     → (lines ≡ [] ∷ [] → ¬ IsComplete s height r)
-    → ((l : Line) (bytes next : List ℕ) (rest : List (List ℕ)) → lines ≡ bytes ∷ next ∷ rest → ¬ SaysNext s height r bytes l) → IsFlawFrom s height number r lines (BadLine number)
+    → ((l : Line) (bytes next : List ℕ) (rest : List (List ℕ)) → lines ≡ bytes ∷ next ∷ rest → ¬ SaysNext s height r bytes l)
+    → IsFlawFrom s height number r lines (BadLine number)
 flaw_unread s height number r [] some ends none = absurd (some refl)
 flaw_unread s height number r (rest ∷ []) some ends none = (λ e. ends (ap (λ x. x ∷ []) e), refl)
 flaw_unread s height number r (bytes ∷ next ∷ rest) some ends none = inl (λ l says. none l bytes next rest refl says, refl)
@@ -144,7 +150,8 @@ flaw_refused s height number r bytes (next ∷ rest) l tile some chain fields re
     inl (λ m says. refused (subst (Admits s height r) (one_line s height r bytes m l tile says chain fields) says.0), refl)
 
 -- a flaw after a line that may come next
-pub flaw_later : (s : Shape) (height number : ℕ) (r : Reading) (bytes : List ℕ) (rest : List (List ℕ)) (l : Line) (e : JournalError) → rest ≢ [] → SaysNext s height r bytes l
+pub flaw_later : (s : Shape) (height number : ℕ) (r : Reading) (bytes : List ℕ) (rest : List (List ℕ)) (l : Line) (e : JournalError) → rest ≢ []
+    → SaysNext s height r bytes l
     → IsFlawFrom s height (number + 1) (after r l) rest e → IsFlawFrom s height number r (bytes ∷ rest) e
 flaw_later s height number r bytes [] l e some says flaw = absurd (some refl)
 flaw_later s height number r bytes (next ∷ rest) l e some says flaw = inr (l, says, flaw)
@@ -188,7 +195,8 @@ flaw_unique s height number r (bytes ∷ next ∷ rest) e f tile (inl a) (inr (m
 flaw_unique s height number r (bytes ∷ next ∷ rest) e f tile (inr (l, says, later)) (inl b) = absurd (b.0 l says)
 flaw_unique s height number r (bytes ∷ next ∷ rest) e f tile (inr (l, says, later)) (inr (m, says', later')) =
     let same : l ≡ m = one_line s height r bytes l m tile says (admitted_in_chain s height r m says'.0) says'.1 in
-    flaw_unique s height (number + 1) (after r l) (next ∷ rest) e f tile later (subst (λ z. IsFlawFrom s height (number + 1) (after r z) (next ∷ rest) f) (sym same) later')
+    flaw_unique s height (number + 1) (after r l) (next ∷ rest) e f tile later
+        (subst (λ z. IsFlawFrom s height (number + 1) (after r z) (next ∷ rest) f) (sym same) later')
 
 -- a flaw of a line that may come next and of those after it is one of those after it
 flaw_rest : (s : Shape) (height number : ℕ) (r : Reading) (l : Line) (next : List ℕ) (rest : List (List ℕ)) (e : JournalError)
@@ -207,28 +215,34 @@ no_flaw s height number r [] e tile all whole flaw = flaw.0 refl whole
 no_flaw s height number r (l ∷ []) e tile all whole flaw =
     no_flaw s height (number + 1) (after r l) [] e tile all.1 whole (flaw_rest s height number r l [] [] e tile all.0 flaw)
 no_flaw s height number r (l ∷ m ∷ ms) e tile all whole flaw =
-    no_flaw s height (number + 1) (after r l) (m ∷ ms) e tile all.1 whole (flaw_rest s height number r l (line_bytes s m) (map (line_bytes s) ms ++ ([] ∷ [])) e tile all.0 flaw)
+    no_flaw s height (number + 1) (after r l) (m ∷ ms) e tile all.1 whole (flaw_rest s height number r l (line_bytes s m) (map (line_bytes s) ms
+        ++ ([] ∷ [])) e tile all.0 flaw)
 
 module _ (s : Shape) (height : ℕ) (text : List ℕ) (r : Reading) (at number : ℕ) where
   -- a refusal where no line is read, and the text may not end
-  pub refused_unread : IsSmall s height r → IsNoLine s text at → (drop at text ≡ [] → ¬ IsComplete s height r) → IsFlawFrom s height number r (lines_of (drop at text)) (BadLine number)
+  pub refused_unread : IsSmall s height r → IsNoLine s text at → (drop at text ≡ [] → ¬ IsComplete s height r)
+      → IsFlawFrom s height number r (lines_of (drop at text)) (BadLine number)
   refused_unread small none ends =
       flaw_unread s height number r (lines_of (drop at text)) (some_lines (drop at text)) (λ e. ends (one_empty (drop at text) e))
       (λ l bytes next rest cut says. none l bytes next rest cut (record { readable = admitted_readable s height r l small says.0; fields = says.1 }))
 
   -- a refusal by a number
-  pub refusal_by : (e : JournalError) → (e ≡ NoMemory) ⊎ (e ≡ BadLine number) → IsFlawFrom s height number r (lines_of (drop at text)) (BadLine number) → IsRefusal s height text r at number e
+  pub refusal_by : (e : JournalError) → (e ≡ NoMemory) ⊎ (e ≡ BadLine number)
+      → IsFlawFrom s height number r (lines_of (drop at text)) (BadLine number) → IsRefusal s height text r at number e
   refusal_by e (inl memory) flaw = inl memory
   refusal_by e (inr line) flaw = inr (subst (λ e. IsFlawFrom s height number r (lines_of (drop at text)) e) (sym line) flaw)
 
   -- a refusal where a line is read that may not come next
-  pub refused_read : (l : Line) (next_at next_number : ℕ) → 1 ≤ s.tile → IsLineRead s text at number l next_at next_number → ¬ Admits s height r l → IsFlawFrom s height number r (lines_of (drop at text)) (BadLine number)
+  pub refused_read : (l : Line) (next_at next_number : ℕ) → 1 ≤ s.tile → IsLineRead s text at number l next_at next_number → ¬ Admits s height r l
+      → IsFlawFrom s height number r (lines_of (drop at text)) (BadLine number)
   refused_read l next_at next_number tile read refused =
       subst (λ ls. IsFlawFrom s height number r ls (BadLine number)) (sym read.cut)
-      (flaw_refused s height number r read.bytes (lines_of (drop next_at text)) l tile (some_lines (drop next_at text)) (readable_in_chain s l read.says.readable) read.says.fields refused)
+      (flaw_refused s height number r read.bytes (lines_of (drop next_at text)) l tile (some_lines (drop next_at text))
+          (readable_in_chain s l read.says.readable) read.says.fields refused)
 
   -- a line that may come next
-  pub advance_line : (l : Line) (next_at next_number : ℕ) → IsLineRead s text at number l next_at next_number → Admits s height r l → Advances s height text r at number (l ∷ []) next_at next_number
+  pub advance_line : (l : Line) (next_at next_number : ℕ) → IsLineRead s text at number l next_at next_number → Admits s height r l
+      → Advances s height text r at number (l ∷ []) next_at next_number
   advance_line l next_at next_number read admits = record {
     spelled = read.cut ∙ ap (λ bs. bs ∷ lines_of (drop next_at text)) (line_of-fields s read.bytes l read.says.fields);
     admitted = (admits, tt);
@@ -241,7 +255,8 @@ module _ (s : Shape) (height : ℕ) (text : List ℕ) (r : Reading) (at number :
   advance_none cursor = record { spelled = refl; admitted = tt; number_is = omega arith; forward = omega arith; cursor = cursor }
 
   -- lines after lines
-  pub advance_more : (ls ms : List Line) (at1 number1 at2 number2 : ℕ) → Advances s height text r at number ls at1 number1 → Advances s height text (after_all r ls) at1 number1 ms at2 number2
+  pub advance_more : (ls ms : List Line) (at1 number1 at2 number2 : ℕ) → Advances s height text r at number ls at1 number1
+      → Advances s height text (after_all r ls) at1 number1 ms at2 number2
       → Advances s height text r at number (ls ++ ms) at2 number2
   advance_more ls ms at1 number1 at2 number2 a b =
       let count = length-append ls ms in
@@ -256,8 +271,10 @@ module _ (s : Shape) (height : ℕ) (text : List ℕ) (r : Reading) (at number :
       }
 
   -- a refusal after lines is one of the whole
-  pub refused_later : (ls : List Line) (at1 number1 : ℕ) (e : JournalError) → Advances s height text r at number ls at1 number1 → IsRefusal s height text (after_all r ls) at1 number1 e → IsRefusal s height text r at number e
+  pub refused_later : (ls : List Line) (at1 number1 : ℕ) (e : JournalError) → Advances s height text r at number ls at1 number1
+      → IsRefusal s height text (after_all r ls) at1 number1 e → IsRefusal s height text r at number e
   refused_later ls at1 number1 e a (inl memory) = inl memory
   refused_later ls at1 number1 e a (inr flaw) =
       inr (subst (λ x. IsFlawFrom s height number r x e) (sym a.spelled)
-      (flaw_after_all s height number r ls (lines_of (drop at1 text)) e (some_lines (drop at1 text)) a.admitted (subst (λ n. IsFlawFrom s height n (after_all r ls) (lines_of (drop at1 text)) e) a.number_is flaw)))
+      (flaw_after_all s height number r ls (lines_of (drop at1 text)) e (some_lines (drop at1 text)) a.admitted
+          (subst (λ n. IsFlawFrom s height n (after_all r ls) (lines_of (drop at1 text)) e) a.number_is flaw)))

@@ -18,8 +18,10 @@ use Rattle.vt_journal.proofs.Stepping.{admitted-append, after_all-append}
 use Rattle.vt_journal.proofs.Heading.{lines_to, told}
 use Rattle.vt_journal.proofs.Contents.{text_of_content, content_unique, lawful_has_no_flaw, journal_flaw_unique}
 
-pub whole_read : (s : Shape) (height : ℕ) (text : List ℕ) (first last : List Change) (pinned at number : ℕ) (passes : List PassText) → IsHeadBegun s height text first pinned pinned at number
-    → AreAllPassesRead s height text first last passes at → IsJournalText s height text (record { content = record { pinned = pinned; passes = map pass_of passes }; changes = last })
+pub whole_read : (s : Shape) (height : ℕ) (text : List ℕ) (first last : List Change) (pinned at number : ℕ) (passes : List PassText)
+    → IsHeadBegun s height text first pinned pinned at number
+    → AreAllPassesRead s height text first last passes at → IsJournalText s height text
+    (record { content = record { pinned = pinned; passes = map pass_of passes }; changes = last })
 whole_read s height text first last pinned at number passes head read =
     let content : Content = record { pinned = pinned; passes = map pass_of passes } in
     let heads = lines_to s pinned pinned in
@@ -32,7 +34,8 @@ whole_read s height text first last pinned at number passes head read =
     record {
       spelled = text_of-lines s text (content_lines s content) lines ∙ sym (text_of_content s content);
       lawful = record {
-        admitted = admitted-append s height nothing_read heads rest head.advances.admitted (subst (λ (r : Reading). AreAdmitted s height r rest) (sym said) read.admitted);
+        admitted = admitted-append s height nothing_read heads rest head.advances.admitted
+            (subst (λ (r : Reading). AreAdmitted s height r rest) (sym said) read.admitted);
         complete = subst (IsComplete s height) (sym (after_all-append nothing_read heads rest ∙ ap (λ (r : Reading). after_all r rest) said)) read.complete;
       };
       changes_are = read.changes_are ∙ ap (λ cs. cs ++ passes_changes (map pass_of passes)) head.changes_are;

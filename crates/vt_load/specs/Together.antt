@@ -50,7 +50,8 @@ pub record IsExchange {F : Type 0} (g : FileMeanings F) (s : Shape) (d : ℕ) (t
 
 -- each request was answered once: the results that were taken are those of the requests, each as often, and good; nothing is left in
 -- either queue; and each loader's file was read for the results of its portion, which together are those that were taken
-pub record IsAnsweredOnce {F : Type 0} (g : FileMeanings F) (s : Shape) (d : ℕ) (told : Option (List ℕ)) (portions : List (Portion F)) (e : Exchange) : Type 0 where
+pub record IsAnsweredOnce {F : Type 0} (g : FileMeanings F) (s : Shape) (d : ℕ) (told : Option (List ℕ)) (portions : List (Portion F))
+    (e : Exchange) : Type 0 where
   pub none_unread : e.unread ≡ []
   pub none_over : e.over ≡ []
   pub each : IsPermutation (map wanted_by (items_of e.asked)) (map given_by (items_of e.got))

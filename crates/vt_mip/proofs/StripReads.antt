@@ -57,10 +57,6 @@ first_same k y =
     let twice : 2 ^ suc k ≡ 2 * 2 ^ k = pow-succ' 2 k in
     let e : y * 2 ^ suc k ≡ y * (2 * 2 ^ k) = ap (λ (n : ℕ). y * n) twice in omega (arith, e)
 
--- under a row of level 0 lies that row
-pub rows_at_texture : (h y : ℕ) → y < h → (first_under 0 y ≡ y) × (rows_under h 0 y ≡ 1)
-rows_at_texture h y inside = (omega arith, omega arith)
-
 -- places that follow others
 places_add : (h : Header) (a n m : ℕ) → row_places h a (n + m) ≡ row_places h a n ++ row_places h (a + n) m
 places_add h a zero m =
@@ -106,19 +102,6 @@ fail_on h first n m a0 a1 a2 before after =
 
 pub fail_sooner : (h : Header) (first n m : ℕ) (a0 a1 : Option (List Place)) → n ≤ m → RowsFailed h first n a0 a1 → RowsFailed h first m a0 a1
 fail_sooner h first n m a0 a1 short failed = record { count = failed.count; few = omega (arith, failed.few); asked = failed.asked }
-
--- one row of the texture
-pub one_read : (h : Header) (y : ℕ) (a0 a1 : Option (List Place)) → RowsAsked h y 1 false a0 a1 → RowsRead h y 1 a0 a1
-one_read h y a0 a1 asked = asked
-
-pub one_failed : (h : Header) (y : ℕ) (a0 a1 : Option (List Place)) → RowsAsked h y 1 true a0 a1 → RowsFailed h y 1 a0 a1
-one_failed h y a0 a1 asked =
-    let z : y ≡ y + 0 = omega arith in
-    record {
-      count = 0;
-      few = omega arith;
-      asked = asked ∙ ap (λ (i : ℕ). option_map (λ places. places ++ ([] ++ row_place h true i ∷ [])) a0) z;
-    }
 
 -- the first of the two rows below
 pub record IsUpper (h k level y : ℕ) : Type 0 where

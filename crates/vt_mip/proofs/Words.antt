@@ -101,7 +101,8 @@ texel-half p q x y bytes depth columns rows half wide high =
     ∙ sample 0 (omega arith) ∙ same 0 (λ i j. red_of p.depth (texel_of p i j)) (λ i j. red-texel p depth bytes i j))
     (sample 1 (omega arith) ∙ same 1 (λ i j. green_of p.depth (texel_of p i j)) (λ i j. green-texel p depth bytes i j))
     (sample 2 (omega arith) ∙ same 2 (λ i j. blue_of p.depth (texel_of p i j)) (λ i j. blue-texel p depth bytes i j)) where
-      sample : (c : ℕ) → c < 3 → raster_sample p.depth q.samples q.width x y c ≡ halved (λ i j. raster_sample p.depth p.samples p.width i j c) p.width p.height x y
+      sample : (c : ℕ) → c < 3 → raster_sample p.depth q.samples q.width x y c ≡ halved (λ i j. raster_sample p.depth p.samples p.width i j c) p.width
+          p.height x y
       sample c few = rw half.columns (half.raster.each x y c (let s : x < (p.width + 1) / 2 = omega (arith, half.columns) in s) high few)
 
       same : (c : ℕ) (t : ℕ → ℕ → ℕ) → ((i j : ℕ) → raster_sample p.depth p.samples p.width i j c ≡ t i j)

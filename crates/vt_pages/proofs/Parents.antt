@@ -10,11 +10,13 @@ use Rattle.vt_pages.specs.Pages.{levels_of, pages_of, index_of, IsPage, IsPageAt
 use Rattle.vt_pages.proofs.Names.{name_at_is_page, index_of-name_at, name_at-index, parent_is_page, index_at_is_page, level_of_from}
 use Rattle.vt_pages.proofs.Lines.{parent_is, parent_none, name_at-level, reaches_root}
 
-line_over : (s : Shape) (up : ℕ) (p : ℕ) → level_of s p + suc up + 1 ≡ levels_of s → line_of s p ≡ index_of s (name_at s p) ∷ line_from s up (parent_name (name_at s p))
+line_over : (s : Shape) (up : ℕ) (p : ℕ) → level_of s p + suc up + 1 ≡ levels_of s
+    → line_of s p ≡ index_of s (name_at s p) ∷ line_from s up (parent_name (name_at s p))
 unfolding line_of line_from
 line_over s up p e = let n : levels_of s - 1 - level_of s p ≡ suc up = omega arith in ap (λ k. line_from s k (name_at s p)) n
 
-line_at_name : (s : Shape) (n : PageName) (up : ℕ) → IsPage s n → n.level + up + 1 ≡ levels_of s → level_of s (index_of s n) ≡ n.level → line_of s (index_of s n) ≡ line_from s up n
+line_at_name : (s : Shape) (n : PageName) (up : ℕ) → IsPage s n → n.level + up + 1 ≡ levels_of s → level_of s (index_of s n) ≡ n.level
+    → line_of s (index_of s n) ≡ line_from s up n
 unfolding line_of
 line_at_name s n up h e level =
     let k : levels_of s - 1 - level_of s (index_of s n) ≡ up = omega arith in

@@ -34,14 +34,16 @@ pub step_root : (s : Shape) (m : ℕ → Bool) (p : ℕ) → IsWithinLimits s �
 unfolding step_of line_step
 step_root s m p limits inside e = sym (ap (line_step m) (root_facts s p limits inside e) ∙ step_one m p)
 
-pub step_below : (s : Shape) (m : ℕ → Bool) (p q : ℕ) → IsWithinLimits s → p < pages_of s → parent_of s p ≡ Some q → m p ≡ false → m q ≡ true → p ≡ step_of s m p
+pub step_below : (s : Shape) (m : ℕ → Bool) (p q : ℕ) → IsWithinLimits s → p < pages_of s → parent_of s p ≡ Some q → m p ≡ false → m q ≡ true
+    → p ≡ step_of s m p
 unfolding step_of line_step
 step_below s m p q limits inside e low high =
     let h = parent_facts s p q limits inside e in
     let b = line_begins s q limits h.inside in
     sym (ap (line_step m) (h.line ∙ ap (λ (l : List ℕ). p ∷ l) b.1) ∙ step_here m p q b.0 low high)
 
-pub step_up : (s : Shape) (m : ℕ → Bool) (p q : ℕ) → IsWithinLimits s → p < pages_of s → parent_of s p ≡ Some q → m p ≡ false → m q ≡ false → step_of s m q ≡ step_of s m p
+pub step_up : (s : Shape) (m : ℕ → Bool) (p q : ℕ) → IsWithinLimits s → p < pages_of s → parent_of s p ≡ Some q → m p ≡ false → m q ≡ false
+    → step_of s m q ≡ step_of s m p
 unfolding step_of line_step
 step_up s m p q limits inside e low high =
     let h = parent_facts s p q limits inside e in

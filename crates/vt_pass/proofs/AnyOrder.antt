@@ -147,7 +147,8 @@ module _ (s : Shape) (frames : ℕ) (m : Table) (batch : List Planned) (losses :
   entry_of p j (Some entry) false e t = record {
     entry = entry;
     is = e;
-    stands_so = stands s frames m entry p (subst (IsEntryFor s frames m) (get_or_from_slice_get batch j entry entry e) (lawful.each j entry (slice_get_within batch j entry e))) t;
+    stands_so = stands s frames m entry p (subst (IsEntryFor s frames m) (get_or_from_slice_get batch j entry entry e)
+        (lawful.each j entry (slice_get_within batch j entry e))) t;
   }
 
   entry_at : (p j : ℕ) → at_ticket p j ≡ true → IsEntryAt p j
@@ -161,7 +162,8 @@ module _ (s : Shape) (frames : ℕ) (m : Table) (batch : List Planned) (losses :
       let at_k = get_or_from_slice_get batch k b.entry a.entry b.is in
       apart m a.entry b.entry p
       (subst (λ (e : Planned). (e.page ≢ b.entry.page) × (e.frame ≢ b.entry.frame)) at_j
-      (subst (λ (f : Planned). ((slice_index_or batch j a.entry).page ≢ f.page) × ((slice_index_or batch j a.entry).frame ≢ f.frame)) at_k (lawful.apart j k a.entry before inside)))
+      (subst (λ (f : Planned). ((slice_index_or batch j a.entry).page ≢ f.page)
+          × ((slice_index_or batch j a.entry).frame ≢ f.frame)) at_k (lawful.apart j k a.entry before inside)))
       a.stands_so b.stands_so
 
   -- only one ticket changes a page
@@ -199,7 +201,8 @@ module _ (s : Shape) (frames : ℕ) (m : Table) (batch : List Planned) (losses :
   stays (j ∷ order) n p none =
       pick (at_ticket p j) refl (stays order (applied n (changes_of (group_at batch losses j))) p) none where
         pick : (b : Bool) → at_ticket p j ≡ b
-            → (list_any (at_ticket p) order ≡ false → after_tickets (applied n (changes_of (group_at batch losses j))) order p ≡ applied n (changes_of (group_at batch losses j)) p)
+            → (list_any (at_ticket p) order ≡ false → after_tickets (applied n (changes_of (group_at batch losses j))) order p ≡ applied n
+            (changes_of (group_at batch losses j)) p)
             → (b || list_any (at_ticket p) order) ≡ false
             → after_tickets (applied n (changes_of (group_at batch losses j))) order p ≡ n p
         pick true is more rest = absurd (false≢true (sym rest))
@@ -215,7 +218,8 @@ module _ (s : Shape) (frames : ℕ) (m : Table) (batch : List Planned) (losses :
       (stays order (applied n (changes_of (group_at batch losses j))) p) some where
         pick : (a b : Bool) → list_any (at_ticket p) order ≡ a → at_ticket p j ≡ b
             → (list_any (at_ticket p) order ≡ true → after_tickets (applied n (changes_of (group_at batch losses j))) order p ≡ v)
-            → (list_any (at_ticket p) order ≡ false → after_tickets (applied n (changes_of (group_at batch losses j))) order p ≡ applied n (changes_of (group_at batch losses j)) p)
+            → (list_any (at_ticket p) order ≡ false → after_tickets (applied n (changes_of (group_at batch losses j))) order p ≡ applied n
+            (changes_of (group_at batch losses j)) p)
             → (b || list_any (at_ticket p) order) ≡ true
             → after_tickets (applied n (changes_of (group_at batch losses j))) order p ≡ v
         pick true b more is later none rest = later more
@@ -246,4 +250,5 @@ any_order s frames js batch losses events others lawful one two =
     ∙ list_any-IsPermutation (at_ticket s frames m batch losses lawful p) (range_with_len 0 (length batch)) two.order two.each_once) in
     newest-applied js (changes_of events) ∙ ap (λ (es : List Event). applied m (changes_of es)) one.groups ∙ tickets s frames m batch losses lawful m one.order
     ∙ (λ i p. alike p i)
-    ∙ sym (newest-applied js (changes_of others) ∙ ap (λ (es : List Event). applied m (changes_of es)) two.groups ∙ tickets s frames m batch losses lawful m two.order)
+    ∙ sym (newest-applied js (changes_of others) ∙ ap (λ (es : List Event). applied m (changes_of es)) two.groups
+    ∙ tickets s frames m batch losses lawful m two.order)

@@ -127,7 +127,8 @@ module _ (s : Shape) (d at len : ℕ) where
       ∙ ap (λ n. times_asked at len places + n) (sum_map (λ (y : Place). cond (is_read_of at len y) 1 0) (read_place s d) results)
 
   failed_by : (o p : Option (List Place)) (results : List Loaded) → p ≡ option_map (λ places. places ++ map (read_place s d) results) o → IsSome o
-      → times_failed at len (unwrap_or p []) ≡ times_failed at len (unwrap_or o []) + sum_by (λ x. cond (is_tile_at s d at len x.request.page && is_lost x.outcome) 1 0) results
+      → times_failed at len (unwrap_or p []) ≡ times_failed at len (unwrap_or o []) + sum_by
+      (λ x. cond (is_tile_at s d at len x.request.page && is_lost x.outcome) 1 0) results
   failed_by None p results e some = absurd (false≢true some)
   failed_by (Some places) p results e some = ap (λ q. times_failed at len (unwrap_or q [])) e
       ∙ sum_by-append (λ (y : Place). cond (is_read_of at len y && y.failed) 1 0) places (map (read_place s d) results)
@@ -170,9 +171,11 @@ module _ {F : Type 0} (g : FileMeanings F) (s : Shape) (d : ℕ) where
       → All (λ p. times_asked at len (unwrap_or (g.asked p.after) []) ≡ times_asked at len (unwrap_or (g.asked p.before) [])
       + sum_by (λ x. cond (is_tile_at s d at len x.request.page) 1 0) (items_of p.put)) ps
   unfolding befores
-  each_asked at len [] tell all = All-nil (λ (p : Portion F). times_asked at len (unwrap_or (g.asked p.after) []) ≡ times_asked at len (unwrap_or (g.asked p.before) [])
+  each_asked at len [] tell all = All-nil (λ (p : Portion F). times_asked at len (unwrap_or (g.asked p.after) []) ≡ times_asked at len
+      (unwrap_or (g.asked p.before) [])
       + sum_by (λ x. cond (is_tile_at s d at len x.request.page) 1 0) (items_of p.put))
-  each_asked at len (p ∷ ps) tell all = All-cons (λ (p : Portion F). times_asked at len (unwrap_or (g.asked p.after) []) ≡ times_asked at len (unwrap_or (g.asked p.before) [])
+  each_asked at len (p ∷ ps) tell all = All-cons (λ (p : Portion F). times_asked at len (unwrap_or (g.asked p.after) []) ≡ times_asked at len
+      (unwrap_or (g.asked p.before) [])
       + sum_by (λ x. cond (is_tile_at s d at len x.request.page) 1 0) (items_of p.put)) p ps
       (asked_by s d at len (g.asked p.before) (g.asked p.after) (items_of p.put)
       (All-head (λ (p : Portion F). IsReadFor g s d (items_of p.put) p.before p.after) p ps all).asked
@@ -184,9 +187,11 @@ module _ {F : Type 0} (g : FileMeanings F) (s : Shape) (d : ℕ) where
       → All (λ p. times_failed at len (unwrap_or (g.asked p.after) []) ≡ times_failed at len (unwrap_or (g.asked p.before) [])
       + sum_by (λ x. cond (is_tile_at s d at len x.request.page && is_lost x.outcome) 1 0) (items_of p.put)) ps
   unfolding befores
-  each_failed at len [] tell all = All-nil (λ (p : Portion F). times_failed at len (unwrap_or (g.asked p.after) []) ≡ times_failed at len (unwrap_or (g.asked p.before) [])
+  each_failed at len [] tell all = All-nil (λ (p : Portion F). times_failed at len (unwrap_or (g.asked p.after) []) ≡ times_failed at len
+      (unwrap_or (g.asked p.before) [])
       + sum_by (λ x. cond (is_tile_at s d at len x.request.page && is_lost x.outcome) 1 0) (items_of p.put))
-  each_failed at len (p ∷ ps) tell all = All-cons (λ (p : Portion F). times_failed at len (unwrap_or (g.asked p.after) []) ≡ times_failed at len (unwrap_or (g.asked p.before) [])
+  each_failed at len (p ∷ ps) tell all = All-cons (λ (p : Portion F). times_failed at len (unwrap_or (g.asked p.after) []) ≡ times_failed at len
+      (unwrap_or (g.asked p.before) [])
       + sum_by (λ x. cond (is_tile_at s d at len x.request.page && is_lost x.outcome) 1 0) (items_of p.put)) p ps
       (failed_by s d at len (g.asked p.before) (g.asked p.after) (items_of p.put)
       (All-head (λ (p : Portion F). IsReadFor g s d (items_of p.put) p.before p.after) p ps all).asked
@@ -215,7 +220,8 @@ module _ {F : Type 0} (g : FileMeanings F) (s : Shape) (d : ℕ) where
       → RoseTogetherBy (lost_among (items_of (all_put ps))) (counts_of (befores ps)) (counts_of (afters ps))
   unfolding befores afters
   rose_all [] all = inl (omega arith)
-  rose_all (p ∷ ps) all = pick (cases_lt (g.faults p.after) count_end) (rose_all ps (All-tail (λ (q : Portion F). IsReadFor g s d (items_of q.put) q.before q.after) p ps all)) where
+  rose_all (p ∷ ps) all = pick (cases_lt (g.faults p.after) count_end)
+      (rose_all ps (All-tail (λ (q : Portion F). IsReadFor g s d (items_of q.put) q.before q.after) p ps all)) where
     rose : RoseBy (lost_among (items_of p.put)) (g.faults p.before) (g.faults p.after)
     rose = (All-head (λ (q : Portion F). IsReadFor g s d (items_of q.put) q.before q.after) p ps all).faults
 
@@ -248,7 +254,8 @@ module _ {F : Type 0} (g : FileMeanings F) (s : Shape) (d : ℕ) where
   after_files [] = refl
   after_files (p ∷ ps) = ap (λ k. file_state g p.after ∷ k) (after_files ps)
 
-  module _ (told : Option (List ℕ)) (r : Round F) (served : AreServed g s d told r) (batch : List Planned) (requests : AreRequestsOf batch (items_of r.asks.put)) where
+  module _ (told : Option (List ℕ)) (r : Round F) (served : AreServed g s d told r) (batch : List Planned)
+      (requests : AreRequestsOf batch (items_of r.asks.put)) where
     all_given : IsPermutation (map (entry_asks batch) (range_with_len 0 (length batch))) (map given_by r.results)
     all_given = subst (λ l. IsPermutation l (map given_by r.results)) requests served.each
 
@@ -277,14 +284,17 @@ module _ {F : Type 0} (g : FileMeanings F) (s : Shape) (d : ℕ) where
         ∙ sum_range k batch losses same
 
     module _ (losses : List Bool) (told_of : AreLossesOf batch r.results losses) where
-      planned : (at len : ℕ) → sum_by (λ x. cond (is_tile_at s d at len x.request.page) 1 0) (items_of (all_put served.portions)) ≡ times_planned s d batch at len
-      planned at len = sum_batch (λ x. cond (is_tile_at s d at len x.request.page) 1 0) (λ o l. cond (is_tile_at s d at len (page_if o)) 1 0) losses told_of.told
+      planned : (at len : ℕ) → sum_by (λ x. cond (is_tile_at s d at len x.request.page) 1 0) (items_of (all_put served.portions)) ≡ times_planned s d
+          batch at len
+      planned at len = sum_batch (λ x. cond (is_tile_at s d at len x.request.page) 1 0) (λ o l. cond (is_tile_at s d at len (page_if o)) 1 0) losses
+          told_of.told
           (λ k e inside. ap (λ (p : ℕ). cond (is_tile_at s d at len p) 1 0) (so k e inside).1)
           ∙ sum_planned s d at len batch losses told_of.told
 
       lost_planned : (at len : ℕ) → sum_by (λ x. cond (is_tile_at s d at len x.request.page && is_lost x.outcome) 1 0) (items_of (all_put served.portions))
           ≡ times_planned s d (lost_entries batch losses) at len
-      lost_planned at len = sum_batch (λ x. cond (is_tile_at s d at len x.request.page && is_lost x.outcome) 1 0) (λ o l. cond (is_tile_at s d at len (page_if o) && l) 1 0)
+      lost_planned at len = sum_batch (λ x. cond (is_tile_at s d at len x.request.page && is_lost x.outcome) 1 0)
+          (λ o l. cond (is_tile_at s d at len (page_if o) && l) 1 0)
           losses told_of.told
           (λ k e inside i. cond (is_tile_at s d at len ((so k e inside).1 i) && sym (told_of.each k e inside) i) 1 0)
           ∙ sum_lost_planned s d at len batch losses
@@ -298,14 +308,17 @@ module _ {F : Type 0} (g : FileMeanings F) (s : Shape) (d : ℕ) where
       portions_read = record {
         same = record { names = same_names served.portions served.files; tell = same_tells served.portions served.files };
         once = λ tell. record {
-          asked = λ at len. sum_files (λ (f : FileState). times_asked at len (unwrap_or f.asked [])) (λ x. cond (is_tile_at s d at len x.request.page) 1 0) served.portions
+          asked = λ at len. sum_files (λ (f : FileState). times_asked at len (unwrap_or f.asked []))
+              (λ x. cond (is_tile_at s d at len x.request.page) 1 0) served.portions
               (each_asked at len served.portions tell served.files)
               ∙ ap (λ n. times_asked_by (befores served.portions) at len + n) (planned at len);
-          failed = λ at len. sum_files (λ (f : FileState). times_failed at len (unwrap_or f.asked [])) (λ x. cond (is_tile_at s d at len x.request.page && is_lost x.outcome) 1 0) served.portions
+          failed = λ at len. sum_files (λ (f : FileState). times_failed at len (unwrap_or f.asked []))
+              (λ x. cond (is_tile_at s d at len x.request.page && is_lost x.outcome) 1 0) served.portions
               (each_failed at len served.portions tell served.files)
               ∙ ap (λ n. times_failed_by (befores served.portions) at len + n) (lost_planned at len);
         };
-        faults = subst (λ n. RoseTogetherBy n (counts_of (befores served.portions)) (counts_of (afters served.portions))) lost_together (rose_all served.portions served.files);
+        faults = subst (λ n. RoseTogetherBy n (counts_of (befores served.portions)) (counts_of (afters served.portions))) lost_together
+            (rose_all served.portions served.files);
       }
 
       pub round_read : AreReadFor s d batch losses (files_of g (stores_of r.first)) (files_of g (stores_of r.last))

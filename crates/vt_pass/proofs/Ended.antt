@@ -52,7 +52,8 @@ module _ {F : Type 0} (g : FileMeanings F) (v : TableView) (k : KitView F) (job 
       record {
         before = (get_or h.was m task).sampler;
         was = h.idle.kit.samplers.each m (get_or h.was m task) (slice_get-get_or h.was m task low);
-        drawn = subst (λ (t : StillSampler). HasDrawn v job (get_or h.was m task).sampler t.sampler) (get_or_from_slice_get k.samplers m task task is) (h.drawn m task low);
+        drawn = subst (λ (t : StillSampler). HasDrawn v job (get_or h.was m task).sampler t.sampler) (get_or_from_slice_get k.samplers m task task is)
+            (h.drawn m task low);
       }
 
   samplers_stay : AreSamplersOf k.shape k.depth k.width k.height k.crew.samplers k.samplers
@@ -130,7 +131,8 @@ module _ {F : Type 0} (g : FileMeanings F) (v : TableView) (k : KitView F) (job 
           own = own_turn g k y f.0 idle_drawn.kit inside f.2;
           is = ap (λ o. row_by o y) f.2;
         }
-        | inr past ↦ absurd (let low = mod_below y k.crew.samplers h.idle.kit.crew.some_sampler in let e = samplers_stay.count in let a = past.0 in omega (arith, low, e, a))
+        | inr past ↦ absurd (let low = mod_below y k.crew.samplers h.idle.kit.crew.some_sampler in let e = samplers_stay.count in let a = past.0 in
+            omega (arith, low, e, a))
       ]
 
   pub row_there : (y : ℕ) (d : List ℕ) → y < k.height → get_or (kit_rows k) y d ≡ kit_row k y
@@ -154,7 +156,8 @@ module _ {F : Type 0} (g : FileMeanings F) (v : TableView) (k : KitView F) (job 
       → HasPixels k.depth k.width (λ x. still_shows job.scene bytes (newest v.changes) job.picture x y) (kit_row k y)
   row_replayed y bytes inside told =
       let r = has_row y inside in
-      subst (λ (z : ℕ × List ℕ). HasPixels k.depth z.0 (λ x. still_shows job.scene bytes (newest v.changes) job.picture x y) z.1) (λ i. (h.job_is.width i, sym r.is i))
+      subst (λ (z : ℕ × List ℕ). HasPixels k.depth z.0 (λ x. still_shows job.scene bytes (newest v.changes) job.picture x y) z.1)
+          (λ i. (h.job_is.width i, sym r.is i))
       (row_is_replayed g v k job r.by.before r.task.sampler y bytes idle_drawn h.job_is r.by.drawn r.own told)
 
 -- A batch was streamed into a table from the stores of a kit.
@@ -226,7 +229,8 @@ module _ {F : Type 0} (g : FileMeanings F) (v : TableView) (k : KitView F) (job 
           (λ i. (sym same_told i, sym grown i, sym l.1 i, sym (row_there g v k job h y [] l.0) i))
           (row_drawn g v k job h y (changes_of noted) l.0);
       all_counts = number ∙ h.idle.kit.counts;
-      counts_are = λ p inside. let low : p < length k.counts = (let e = h.idle.kit.counts in omega (arith, e, inside)) in sums p low ∙ counted g v k job h p low;
+      counts_are = λ p inside. let low : p < length k.counts = (let e = h.idle.kit.counts in omega (arith, e, inside)) in sums p low
+          ∙ counted g v k job h p low;
     } where
       by_told : (o : Option (List ℕ)) → told_by g k.stores ≡ o
           → IfSome o (λ b. AreReplayed k.depth k.width (λ m x y. still_shows job.scene b m job.picture x y) w.changes report.rows.elements (kit_rows k))
@@ -237,7 +241,8 @@ module _ {F : Type 0} (g : FileMeanings F) (v : TableView) (k : KitView F) (job 
           (λ i. (table i, sym (row_there g v k job h y [] l.0) i))
           (row_replayed g v k job h y bytes l.0 is)
 
-    pub pass_ran : Ran true picture_wants still_shows (kit_drawn g w (record k { stores = stores; counts = counts; rows = rows; events = events; round = round }))
+    pub pass_ran : Ran true picture_wants still_shows (kit_drawn g w
+        (record k { stores = stores; counts = counts; rows = rows; events = events; round = round }))
         job report (kit_state g v k) (kit_state g w (record k { stores = stores; counts = counts; rows = rows; events = events; round = round }))
     pass_ran =
         let i = idle_drawn g v k job h in

@@ -38,7 +38,8 @@ pub published_none : (v : TableView) (o : Option ℕ) (frame : ℕ) (es : List E
 published_none v o frame es is = subst (λ (made : Option ℕ). Publishes (victim_events made frame) v v es es) (sym is)
     (record { changes = sym (append-nil v.changes); events = sym (append-nil es); shape = refl; frames = refl })
 
-pub published_unmap : (v w : TableView) (o : Option ℕ) (victim frame : ℕ) (es fs : List Event) → o ≡ Some victim → w.changes ≡ v.changes ++ Unmap victim frame ∷ []
+pub published_unmap : (v w : TableView) (o : Option ℕ) (victim frame : ℕ) (es fs : List Event) → o ≡ Some victim
+    → w.changes ≡ v.changes ++ Unmap victim frame ∷ []
     → fs ≡ es ++ Changed (Unmap victim frame) ∷ [] → w.shape ≡ v.shape → w.frames ≡ v.frames → Publishes (victim_events o frame) v w es fs
 published_unmap v w o victim frame es fs is changes events shape frames = subst (λ (made : Option ℕ). Publishes (victim_events made frame) v w es fs) (sym is)
     (record { changes = changes; events = events; shape = shape; frames = frames })
@@ -60,16 +61,20 @@ published_both u v w e es fs gs a b = record {
 }
 
 -- the tile of a frame, in a table that has the same for it
-same_tile : (v w : TableView) (d page frame : ℕ) (told : Option (List ℕ)) → w.shape ≡ v.shape → tile_of w frame ≡ tile_of v frame → HasTile v d told page frame → HasTile w d told page frame
+same_tile : (v w : TableView) (d page frame : ℕ) (told : Option (List ℕ)) → w.shape ≡ v.shape → tile_of w frame ≡ tile_of v frame
+    → HasTile v d told page frame → HasTile w d told page frame
 same_tile v w d page frame told shape tile h =
-    let moved = subst (λ (x : Shape × List ℕ). IsTileOf x.0 d told page x.1) (λ i. (sym shape i, sym tile i)) (let t : IsTileOf v.shape d told page (tile_of v frame) = record { size = h.size; of_store = h.of_store } in t) in
+    let moved = subst (λ (x : Shape × List ℕ). IsTileOf x.0 d told page x.1) (λ i. (sym shape i, sym tile i))
+        (let t : IsTileOf v.shape d told page (tile_of v frame) = record { size = h.size; of_store = h.of_store } in t) in
     record { size = moved.size; of_store = moved.of_store }
 
 pub holds_unmapped : (v w : TableView) (victim frame : ℕ) → w.changes ≡ v.changes ++ Unmap victim frame ∷ [] → w.tiles ≡ v.tiles → w.shape ≡ v.shape
     → (d : ℕ) (told : Option (List ℕ)) → HoldsTiles v d told → HoldsTiles w d told
 holds_unmapped v w victim frame changes tiles shape d told h page f is =
-    let now : changed (newest v.changes) (Unmap victim frame) page ≡ Some f = sym (ap (λ (m : Table). m page) (ap newest changes ∙ newest-more v.changes (Unmap victim frame))) ∙ is in
-    same_tile v w d page f told shape (ap (λ (ts : List (List ℕ)). tile_of (record v { tiles = ts }) f) tiles) (h page f (mapped_after_unmap (newest v.changes) victim frame page f now).1)
+    let now : changed (newest v.changes) (Unmap victim frame) page ≡ Some f = sym (ap (λ (m : Table). m page) (ap newest changes
+        ∙ newest-more v.changes (Unmap victim frame))) ∙ is in
+    same_tile v w d page f told shape (ap (λ (ts : List (List ℕ)). tile_of (record v { tiles = ts }) f) tiles)
+        (h page f (mapped_after_unmap (newest v.changes) victim frame page f now).1)
 
 pub holds_mapped : (u v w : TableView) (page frame : ℕ) (tile : List ℕ) → IsFree (newest u.changes) frame
     → tile_of v frame ≡ tile → ((f : ℕ) → f ≢ frame → tile_of v f ≡ tile_of u f) → v.shape ≡ u.shape → v.changes ≡ u.changes
@@ -77,7 +82,8 @@ pub holds_mapped : (u v w : TableView) (page frame : ℕ) (tile : List ℕ) → 
     → (d : ℕ) (told : Option (List ℕ)) → HoldsTiles u d told → IsTileOf u.shape d told page tile → HoldsTiles w d told
 holds_mapped u v w page frame tile free filled others shape same changes tiles shape_after d told h is_tile p f is =
     let all : w.changes ≡ u.changes ++ Map page frame ∷ [] = changes ∙ ap (λ (js : List Change). js ++ Map page frame ∷ []) same in
-    let now : changed (newest u.changes) (Map page frame) p ≡ Some f = sym (ap (λ (m : Table). m p) (ap newest all ∙ newest-more u.changes (Map page frame))) ∙ is in
+    let now : changed (newest u.changes) (Map page frame) p ≡ Some f = sym (ap (λ (m : Table). m p) (ap newest all
+        ∙ newest-more u.changes (Map page frame))) ∙ is in
     let kept : (g : ℕ) → tile_of w g ≡ tile_of v g = λ g. ap (λ (ts : List (List ℕ)). tile_of (record v { tiles = ts }) g) tiles in
     ⊎_elim
     (λ a. let t : IsTileOf u.shape d told page tile = is_tile in
@@ -89,17 +95,20 @@ holds_mapped u v w page frame tile free filled others shape same changes tiles s
     (mapped_after_map (newest u.changes) page frame p f now)
 
 -- what is so after the victim was unmapped
-pub still_unmapped : (u v : TableView) (e : Planned) (es fs : List Event) → IsEntryFor u.shape u.frames (newest u.changes) e → Publishes (victim_events e.victim e.frame) u v es fs
+pub still_unmapped : (u v : TableView) (e : Planned) (es fs : List Event) → IsEntryFor u.shape u.frames (newest u.changes) e
+    → Publishes (victim_events e.victim e.frame) u v es fs
     → newest v.changes e.page ≡ None
 still_unmapped u v e es fs h p = by_victim e.victim p.changes where
   by_victim : (o : Option ℕ) → v.changes ≡ u.changes ++ changes_of (victim_events o e.frame) → newest v.changes e.page ≡ None
   by_victim None same = ap (λ (js : List Change). newest js e.page) (same ∙ append-nil u.changes) ∙ h.unmapped
-  by_victim (Some victim) same = stays (newest v.changes e.page) (ap (λ (js : List Change). newest js e.page) same ∙ ap (λ (m : Table). m e.page) (newest-more u.changes (Unmap victim e.frame))) victim where
+  by_victim (Some victim) same = stays (newest v.changes e.page) (ap (λ (js : List Change). newest js e.page) same
+      ∙ ap (λ (m : Table). m e.page) (newest-more u.changes (Unmap victim e.frame))) victim where
     stays : (o : Option ℕ) → o ≡ changed (newest u.changes) (Unmap victim e.frame) e.page → ℕ → o ≡ None
     stays None is n = refl
     stays (Some f) is n = absurd (none-some f (sym h.unmapped ∙ (mapped_after_unmap (newest u.changes) victim e.frame e.page f (sym is)).1))
 
-pub then_free : (u v : TableView) (e : Planned) (es fs : List Event) → IsTable u → IsEntryFor u.shape u.frames (newest u.changes) e → Publishes (victim_events e.victim e.frame) u v es fs
+pub then_free : (u v : TableView) (e : Planned) (es fs : List Event) → IsTable u → IsEntryFor u.shape u.frames (newest u.changes) e
+    → Publishes (victim_events e.victim e.frame) u v es fs
     → IsFree (newest v.changes) e.frame
 then_free u v e es fs table h p = by_victim e.victim h.place p.changes where
   by_victim : (o : Option ℕ) → MatchOption o (IsFree (newest u.changes) e.frame) (IsVictimOf u.shape (newest u.changes) e.frame)

@@ -53,7 +53,8 @@ module _ (s : Shape) (d width height samplers : ℕ) where
   pub all_first : (tasks : List StillSampler) → AreFirst samplers tasks → AreSamplersOf s d width height samplers tasks
   all_first tasks h = record { count = h.count; each = h.each }
 
-pub may_draw : {F : Type 0} (g : FileMeanings F) (job : Job) (v : TableView) (q : Queues) (k : KitView F) (tasks : List StillSampler) → IsReadyKit g v q k job.batch
+pub may_draw : {F : Type 0} (g : FileMeanings F) (job : Job) (v : TableView) (q : Queues) (k : KitView F) (tasks : List StillSampler)
+    → IsReadyKit g v q k job.batch
     → MapsRoot (kit_state g v k) → IsJobFor (kit_setup g v k) job → tasks ≡ k.samplers
     → AllReady (λ task. MayDraw v job task.sampler) tasks
 may_draw g job v q k tasks ready root job_is same = subst (AllReady (λ task. MayDraw v job task.sampler)) (sym same)
@@ -81,8 +82,10 @@ new_sampler s path d samplers number v is for_it = record {
 }
 
 -- the line of one row more
-pub lines_more : (samplers row version : ℕ) → lines_at samplers (row + 1) version ≡ lines_at samplers row version ++ record { row = row; sampler = row % samplers; version = version } ∷ []
-lines_more samplers row version = let z : 0 + row ≡ row = omega arith in map-range_with_len_more (λ y. let l : RowLine = record { row = y; sampler = y % samplers; version = version } in l) 0 row row z
+pub lines_more : (samplers row version : ℕ) → lines_at samplers (row + 1) version ≡ lines_at samplers row version
+    ++ record { row = row; sampler = row % samplers; version = version } ∷ []
+lines_more samplers row version = let z : 0 + row ≡ row = omega arith in map-range_with_len_more
+    (λ y. let l : RowLine = record { row = y; sampler = y % samplers; version = version } in l) 0 row row z
 
 concat_push : (xs : List (List ℕ)) (x : List ℕ) → concat (xs ++ x ∷ []) ≡ concat xs ++ x
 concat_push [] x = append-nil x
@@ -95,13 +98,15 @@ joined_more f y = let z : 0 + y ≡ y = omega arith in ap concat (map-range_with
 -- the counts of one sampler more
 pub counted_more : (tasks : List StillSampler) (i p : ℕ) (d : StillSampler) → i < length tasks
     → counted_together (take (i + 1) tasks) p ≡ counted_together (take i tasks) p + slice_index (get_or tasks i d).sampler.counts p
-counted_more tasks i p d inside = ap (λ l. counted_together l p) (take_more tasks i d inside) ∙ sum_by_push (λ (task : StillSampler). slice_index task.sampler.counts p) (take i tasks) (get_or tasks i d)
+counted_more tasks i p d inside = ap (λ l. counted_together l p) (take_more tasks i d inside)
+    ∙ sum_by_push (λ (task : StillSampler). slice_index task.sampler.counts p) (take i tasks) (get_or tasks i d)
 
 pub counted_below : (tasks : List StillSampler) (i p : ℕ) → counted_together (take i tasks) p ≤ counted_together tasks p
 counted_below tasks i p = sum_by-take-le (λ (task : StillSampler). slice_index task.sampler.counts p) tasks i
 
 -- what the first of some stores knows of its bytes
-pub told_first : {F : Type 0} (g : FileMeanings F) (s : Shape) (d loaders : ℕ) (stores : List (StoreView F)) (store : StoreView F) → AreStoresFor g s d loaders stores
+pub told_first : {F : Type 0} (g : FileMeanings F) (s : Shape) (d loaders : ℕ) (stores : List (StoreView F)) (store : StoreView F)
+    → AreStoresFor g s d loaders stores
     → slice_get stores 0 ≡ Some store → IsStoreIfTold (g.bytes store.file) store.shape store.depth → IsStoreIfTold (told_by g stores) s d
 told_first g s d loaders [] store are is known = absurd (none-some store is)
 told_first g s d loaders (x ∷ xs) store are is known =
@@ -118,7 +123,8 @@ own_turn g k y task kit inside at = let its = kit.samplers.each (y % k.crew.samp
 }
 
 -- a table that maps nothing holds its tiles
-pub idle_made : {F : Type 0} (g : FileMeanings F) (s : Shape) (v : TableView) (k : KitView F) → IsTable v → v.shape ≡ s → v.changes ≡ [] → IsKit g k → k.shape ≡ s
+pub idle_made : {F : Type 0} (g : FileMeanings F) (s : Shape) (v : TableView) (k : KitView F) → IsTable v → v.shape ≡ s → v.changes ≡ [] → IsKit g k
+    → k.shape ≡ s
     → IsIdleKit g v k
 unfolding at
 idle_made g s v k table shape changes kit same = record {

@@ -40,7 +40,8 @@ chosen_more (x ∷ batch) (false ∷ chosen) e c same = ap (λ l. x ∷ l) (chos
 told_at : (before files : List FileState) → AllTell before → map (λ f. is_some f.asked) files ≡ map (λ f. is_some f.asked) before
     → (k : ℕ) (d : FileState) → k < length files → IsSome (get_or files k d).asked
 told_at before files all same k d inside =
-    let long : length files ≡ length before = sym (length-map files (λ (f : FileState). is_some f.asked)) ∙ ap length same ∙ length-map before (λ (f : FileState). is_some f.asked) in
+    let long : length files ≡ length before = sym (length-map files (λ (f : FileState). is_some f.asked)) ∙ ap length same
+        ∙ length-map before (λ (f : FileState). is_some f.asked) in
     sym (get_or-map (λ (f : FileState). is_some f.asked) files k d true inside) ∙ ap (λ l. get_or l k true) same
     ∙ get_or-map (λ (f : FileState). is_some f.asked) before k d true (omega (arith, long, inside)) ∙ all k d (omega (arith, long, inside))
 
@@ -49,7 +50,8 @@ asked_more : (at len start size : ℕ) (lost : Bool) (o : Option (List Place)) �
     → times_asked at len (unwrap_or (option_map (noted start size lost) o) [])
     ≡ times_asked at len (unwrap_or o []) + cond (start == at && size == len) 1 0
 asked_more at len start size lost None some = absurd (false≢true some)
-asked_more at len start size lost (Some places) some = sum_by_push (λ (p : Place). cond (is_read_of at len p) 1 0) places (record { at = start; len = size; failed = lost })
+asked_more at len start size lost (Some places) some = sum_by_push (λ (p : Place). cond (is_read_of at len p) 1 0) places
+    (record { at = start; len = size; failed = lost })
 
 failed_more : (at len start size : ℕ) (lost : Bool) (o : Option (List Place)) → IsSome o
     → times_failed at len (unwrap_or (option_map (noted start size lost) o) [])
@@ -87,7 +89,8 @@ any_kept : (counts : List ℕ) (k now d : ℕ) → get_or counts k d ≤ now →
     → list_any (nat_le count_end) (slice_set counts k now) ≡ true
 any_kept [] k now d grows any = any
 any_kept (x ∷ counts) zero now d grows any = pick (nat_le count_end x) refl any where
-  pick : (b : Bool) → nat_le count_end x ≡ b → (b || list_any (nat_le count_end) counts) ≡ true → (nat_le count_end now || list_any (nat_le count_end) counts) ≡ true
+  pick : (b : Bool) → nat_le count_end x ≡ b → (b || list_any (nat_le count_end) counts) ≡ true
+      → (nat_le count_end now || list_any (nat_le count_end) counts) ≡ true
   pick true is any = let e : nat_le count_end now ≡ true = grind (arith, nat_tests, is, grows) in ap (λ (b : Bool). b || list_any (nat_le count_end) counts) e
   pick false is any = either (nat_le count_end now) any where
     either : (b : Bool) → list_any (nat_le count_end) counts ≡ true → (b || list_any (nat_le count_end) counts) ≡ true
@@ -120,7 +123,8 @@ rose_more n lost before counts k now inside grows rose (inl h) = by_loss lost ro
       inl (omega (arith, sums, h, up)))
       (cases_lt count_end (get_or counts k now + 1))
 
-pub read_more : (s : Shape) (d n : ℕ) (batch : List Planned) (losses : List Bool) (lost : Bool) (before files : List FileState) (k : ℕ) (now : FileState) (e : Planned)
+pub read_more : (s : Shape) (d n : ℕ) (batch : List Planned) (losses : List Bool) (lost : Bool) (before files : List FileState) (k : ℕ)
+    (now : FileState) (e : Planned)
     → AreReadFor s d (take n batch) losses before files → k < length files → n < length batch → get_or batch n e ≡ e → length losses ≡ n
     → now.name ≡ (get_or files k now).name
     → now.asked ≡ option_map (noted (tile_start s d e.page) (tile_length s d) lost) (get_or files k now).asked
@@ -128,7 +132,8 @@ pub read_more : (s : Shape) (d n : ℕ) (batch : List Planned) (losses : List Bo
     → AreReadFor s d (take (n + 1) batch) (losses ++ lost ∷ []) before (slice_set files k now)
 read_more s d n batch losses lost before files k now e read inside below at same name asked grows rose =
     let more : take (n + 1) batch ≡ take n batch ++ e ∷ [] = take_more batch n e below ∙ ap (λ (x : Planned). take n batch ++ x ∷ []) at in
-    let tells = map-kept (λ (f : FileState). is_some f.asked) files k now now (ap is_some asked ∙ tells_too (get_or files k now).asked (noted (tile_start s d e.page) (tile_length s d) lost)) in
+    let tells = map-kept (λ (f : FileState). is_some f.asked) files k now now (ap is_some asked
+        ∙ tells_too (get_or files k now).asked (noted (tile_start s d e.page) (tile_length s d) lost)) in
     let long : length losses ≡ length (take n batch) = same ∙ sym (length-take-le n batch (omega (arith, below))) in
     subst (λ (b : List Planned). AreReadFor s d b (losses ++ lost ∷ []) before (slice_set files k now)) (sym more) (record {
       same = record {
@@ -138,16 +143,22 @@ read_more s d n batch losses lost before files k now e read inside below at same
       once = λ all. let some : IsSome (get_or files k now).asked = told_at before files all read.same.tell k now inside in
           let once = read.once all in
           record {
-            asked = λ at len. sum_more (λ (f : FileState). times_asked at len (unwrap_or f.asked [])) files k (cond (is_tile_at s d at len e.page) 1 0) now now inside
-                (ap (λ (o : Option (List Place)). times_asked at len (unwrap_or o [])) asked ∙ asked_more at len (tile_start s d e.page) (tile_length s d) lost (get_or files k now).asked some)
+            asked = λ at len. sum_more (λ (f : FileState). times_asked at len (unwrap_or f.asked [])) files k
+                (cond (is_tile_at s d at len e.page) 1 0) now now inside
+                (ap (λ (o : Option (List Place)). times_asked at len (unwrap_or o [])) asked
+                    ∙ asked_more at len (tile_start s d e.page) (tile_length s d) lost (get_or files k now).asked some)
                 ∙ (let a = once.asked at len in let b = planned_more s d (take n batch) e at len in omega (arith, a, b));
-            failed = λ at len. sum_more (λ (f : FileState). times_failed at len (unwrap_or f.asked [])) files k (cond (is_tile_at s d at len e.page && lost) 1 0) now now inside
-                (ap (λ (o : Option (List Place)). times_failed at len (unwrap_or o [])) asked ∙ failed_more at len (tile_start s d e.page) (tile_length s d) lost (get_or files k now).asked some)
+            failed = λ at len. sum_more (λ (f : FileState). times_failed at len (unwrap_or f.asked [])) files k
+                (cond (is_tile_at s d at len e.page && lost) 1 0) now now inside
+                (ap (λ (o : Option (List Place)). times_failed at len (unwrap_or o [])) asked
+                    ∙ failed_more at len (tile_start s d e.page) (tile_length s d) lost (get_or files k now).asked some)
                 ∙ (let a = once.failed at len in let b = lost_more s d (take n batch) losses e lost at len long in omega (arith, a, b));
           };
-      faults = subst (λ (m : ℕ). RoseTogetherBy m (counts_of before) (counts_of (slice_set files k now))) (sym (sum_by_push (λ (l : Bool). cond l 1 0) losses lost))
+      faults = subst (λ (m : ℕ). RoseTogetherBy m (counts_of before) (counts_of (slice_set files k now)))
+          (sym (sum_by_push (λ (l : Bool). cond l 1 0) losses lost))
           (subst (RoseTogetherBy (lost_count losses + cond lost 1 0) (counts_of before)) (sym (map-set (λ (f : FileState). f.faults) files k now))
-          (rose_more (lost_count losses) lost (counts_of before) (counts_of files) k now.faults (let e = length-map files (λ (f : FileState). f.faults) in omega (arith, e, inside))
+          (rose_more (lost_count losses) lost (counts_of before) (counts_of files) k now.faults
+              (let e = length-map files (λ (f : FileState). f.faults) in omega (arith, e, inside))
           (let c = count_at in omega (arith, c, grows)) (λ l. subst (λ (m : ℕ). Rose m now.faults) (sym count_at) (rose l)) read.faults));
     }) where
       count_at : get_or (counts_of files) k now.faults ≡ (get_or files k now).faults

@@ -31,7 +31,8 @@ module _ {F : Type 0} (g : FileMeanings F) where
   pub same_none : (stores : List (StoreView F)) → AreSameStores g stores stores
   same_none stores = record { number = refl; each = λ k d inside. record { shape = refl; depth = refl; bytes = refl; file = refl } }
 
-  pub same_more : (first stores : List (StoreView F)) (k : ℕ) (now : StoreView F) → AreSameStores g first stores → k < length stores → IsSameStore g (get_or stores k now) now
+  pub same_more : (first stores : List (StoreView F)) (k : ℕ) (now : StoreView F) → AreSameStores g first stores → k < length stores
+      → IsSameStore g (get_or stores k now) now
       → AreSameStores g first (slice_set stores k now)
   same_more first stores k now h inside one = record {
     number = length-set stores k now ∙ h.number;
@@ -58,7 +59,8 @@ module _ {F : Type 0} (g : FileMeanings F) where
       → HaveRoom reads (n + 1) (slice_set stores n now)
   room_more reads n stores now h inside room = record {
     each = λ k d low below. ⊎_elim
-        (λ (same : k ≡ n). subst (λ (s : StoreView F). reads ≤ g.spare s.file) (sym (ap (λ i. get_or (slice_set stores n now) i d) same ∙ get_or-set_same stores n now d inside)) room)
+        (λ (same : k ≡ n). subst (λ (s : StoreView F). reads ≤ g.spare s.file) (sym (ap (λ i. get_or (slice_set stores n now) i d) same
+            ∙ get_or-set_same stores n now d inside)) room)
         (λ (other : k ≢ n). subst (λ (s : StoreView F). reads ≤ g.spare s.file) (sym (get_or-set_other stores n k now d other))
         (h.each k d (omega (arith, low, other)) (let l = length-set stores n now in omega (arith, l, below))))
         (cases_eq k n);
@@ -85,7 +87,8 @@ module _ {F : Type 0} (g : FileMeanings F) where
         let first = h 0 x (omega arith) in
         λ i. first i ∷ rest i
 
-  stores_for : (s : Shape) (d loaders : ℕ) (before after : List (StoreView F)) → AreSameStores g before after → AreStoresFor g s d loaders before → AreStoresFor g s d loaders after
+  stores_for : (s : Shape) (d loaders : ℕ) (before after : List (StoreView F)) → AreSameStores g before after → AreStoresFor g s d loaders before
+      → AreStoresFor g s d loaders after
   stores_for s d loaders before after h are = record {
     count = h.number ∙ are.count;
     shapes = λ k x inside. let low = below k inside in (h.each k x low).shape ∙ are.shapes k x low;
@@ -110,7 +113,8 @@ module _ {F : Type 0} (g : FileMeanings F) where
         frames_inside = t.frames_inside;
         filled = t.filled;
       } in
-      let holds : HoldsTiles (record v { spare = w.spare }) k.depth (told_by g k.stores) = λ page frame is. let has = idle.holds page frame is in record { size = has.size; of_store = has.of_store } in
+      let holds : HoldsTiles (record v { spare = w.spare }) k.depth (told_by g k.stores) = λ page frame is. let has = idle.holds page frame is in
+          record { size = has.size; of_store = has.of_store } in
       record {
         table = subst IsTable (sym same) table;
         shape = ap (λ (u : TableView). u.shape) same ∙ idle.shape ∙ sym h.shape;
@@ -118,15 +122,19 @@ module _ {F : Type 0} (g : FileMeanings F) where
           crew = subst IsCrew (sym h.crew) idle.kit.crew;
           depth = subst IsDepth (sym h.depth) idle.kit.depth;
           stores = stores_for l.shape l.depth l.crew.loaders k.stores l.stores h.stores
-              (subst (λ (x : Shape × ℕ × Crew). AreStoresFor g x.0 x.1 x.2.loaders k.stores) (λ i. (sym h.shape i, sym h.depth i, sym h.crew i)) idle.kit.stores);
-          told = subst (λ (x : Option (List ℕ) × Shape × ℕ). IsStoreIfTold x.0 x.1 x.2) (λ i. (sym (told_same k.stores l.stores h.stores) i, sym h.shape i, sym h.depth i)) idle.kit.told;
+              (subst (λ (x : Shape × ℕ × Crew). AreStoresFor g x.0 x.1 x.2.loaders k.stores) (λ i. (sym h.shape i, sym h.depth i, sym h.crew i))
+                  idle.kit.stores);
+          told = subst (λ (x : Option (List ℕ) × Shape × ℕ). IsStoreIfTold x.0 x.1 x.2)
+              (λ i. (sym (told_same k.stores l.stores h.stores) i, sym h.shape i, sym h.depth i)) idle.kit.told;
           samplers = subst (λ (x : KitView F). AreSamplersOf x.shape x.depth x.width x.height x.crew.samplers x.samplers)
-              (λ i. record k { shape = sym h.shape i; depth = sym h.depth i; width = sym h.width i; height = sym h.height i; crew = sym h.crew i; samplers = sym h.samplers i }) idle.kit.samplers;
+              (λ i. record k { shape = sym h.shape i; depth = sym h.depth i; width = sym h.width i; height = sym h.height i; crew = sym h.crew i;
+                  samplers = sym h.samplers i }) idle.kit.samplers;
           sides = subst (λ (x : ℕ × ℕ). ArePictureSides x.0 x.1) (λ i. (sym h.width i, sym h.height i)) idle.kit.sides;
           counts = ap length h.counts ∙ idle.kit.counts ∙ ap pages_of (sym h.shape);
           buffers = buffers;
         };
-        holds = subst (λ (x : TableView × ℕ × Option (List ℕ)). HoldsTiles x.0 x.1 x.2) (λ i. (sym same i, sym h.depth i, sym (told_same k.stores l.stores h.stores) i)) holds;
+        holds = subst (λ (x : TableView × ℕ × Option (List ℕ)). HoldsTiles x.0 x.1 x.2)
+            (λ i. (sym same i, sym h.depth i, sym (told_same k.stores l.stores h.stores) i)) holds;
       }
 
   -- what is the same but for its room stays so with other requests
@@ -151,7 +159,8 @@ module _ {F : Type 0} (g : FileMeanings F) where
     events = room.events;
   })
 
-  pub prepared_with : (v w : TableView) (q : Queues) (k l : KitView F) (batch : List Planned) → w ≡ record v { spare = w.spare } → IsSameKit g k l → IsIdleKit g v k
+  pub prepared_with : (v w : TableView) (q : Queues) (k l : KitView F) (batch : List Planned) → w ≡ record v { spare = w.spare } → IsSameKit g k l
+      → IsIdleKit g v k
       → IsBatchFor v.shape v.frames (newest v.changes) batch → length batch ≤ k.crew.batch → 2 * length batch ≤ w.spare → HasRoom l (length batch)
       → All (λ store. l.crew.batch ≤ g.spare store.file) l.stores → IsSetUp q l.round (tile_length l.shape l.depth) l.crew (length batch)
       → IsPreparedKit g w q l batch
@@ -166,7 +175,8 @@ module _ {F : Type 0} (g : FileMeanings F) where
   }
 
   -- the pages of the batch for which a kit is prepared are the texture's
-  pub pages_inside : (v : TableView) (q : Queues) (k : KitView F) (batch : List Planned) → IsPreparedKit g v q k batch → All (λ e. e.page < pages_of k.shape) batch
+  pub pages_inside : (v : TableView) (q : Queues) (k : KitView F) (batch : List Planned) → IsPreparedKit g v q k batch
+      → All (λ e. e.page < pages_of k.shape) batch
   pages_inside v q k batch h j e inside = subst (λ (s : Shape). (get_or batch j e).page < pages_of s) h.idle.shape (h.lawful.each j e inside).page_inside
 
   -- a kit that was prepared is ready once the requests were put

@@ -38,7 +38,8 @@ told_all : {F : Type 0} (g : FileMeanings F) (told : Option (List ℕ)) (stores 
 told_all g told [] some all = absurd (omega (arith, some))
 told_all g told (x ∷ xs) some all = all 0 x (omega arith)
 
-module _ {F : Type 0} (g : FileMeanings F) (v : TableView) (q : Queues) (k : KitView F) (job : Job) (c : List (QueuedView F)) (f : List StillSampler) (b : Begun F)
+module _ {F : Type 0} (g : FileMeanings F) (v : TableView) (q : Queues) (k : KitView F) (job : Job) (c : List (QueuedView F)) (f : List StillSampler)
+    (b : Begun F)
     (may : MayFinish g v q k job c f b) where
   -- the length of a tile is that of a buffer
   pub tile_is : tile_length k.shape k.depth ≡ tile_length v.shape b.depth
@@ -71,7 +72,8 @@ module _ {F : Type 0} (g : FileMeanings F) (v : TableView) (q : Queues) (k : Kit
 
   told_is : told_by g (reverse (stores_of c)) ≡ b.told
   unfolding IsAlike
-  told_is = told_all g b.told (reverse (stores_of c)) (let n = number_of c in let some = may.some in omega (arith, n, some)) (λ j x inside. (turned j x inside).2)
+  told_is = told_all g b.told (reverse (stores_of c)) (let n = number_of c in let some = may.some in omega (arith, n, some))
+      (λ j x inside. (turned j x inside).2)
 
   pub fed : (w : TableView) (noted : List Event) (told : List Bool) (batch : List Planned) → batch ≡ job.batch → IsStreamed g batch v b c w noted told
       → HasFed g v (kit_before k f b) job.batch w (reverse (stores_of c)) noted told
@@ -98,7 +100,8 @@ module _ {F : Type 0} (g : FileMeanings F) (v : TableView) (q : Queues) (k : Kit
             (s.holds (subst (λ (z : ℕ × Option (List ℕ)). HoldsTiles v z.0 z.1) (λ i. (sym may.depth_is i, sym may.told_is i)) idle.holds));
       }
 
-module _ {F : Type 0} (g : FileMeanings F) (v : TableView) (q : Queues) (k : KitView F) (job : Job) (c : List (QueuedView F)) (f : List StillSampler) (b : Begun F)
+module _ {F : Type 0} (g : FileMeanings F) (v : TableView) (q : Queues) (k : KitView F) (job : Job) (c : List (QueuedView F)) (f : List StillSampler)
+    (b : Begun F)
     (may : MayFinish g v q k job c f b) (w : TableView) (noted : List Event) (told : List Bool) (batch : List Planned) (same : batch ≡ job.batch)
     (streamed : IsStreamed g batch v b c w noted told) (stores : List (StoreView F)) (stores_are : stores ≡ reverse (stores_of c))
     (l : KitView F) (counts : List ℕ) (rows : ListView RowLine) (events : ListView Event) (round : RoundKitView F)

@@ -55,14 +55,16 @@ module _ (dealt : Bool) (needs : Scene → ℕ → ℕ → ℕ) (shows : Scene �
       record {
         rows = after.rows;
         count = ran.picture.count ∙ ap (λ (s : Setup). s.height) setup;
-        full = subst (λ (s : Setup). (k : ℕ) (d : List ℕ) → k < length after.rows → IsFull s.depth s.width (slice_index_or after.rows k d)) setup ran.picture.full;
+        full = subst (λ (s : Setup). (k : ℕ) (d : List ℕ) → k < length after.rows
+            → IsFull s.depth s.width (slice_index_or after.rows k d)) setup ran.picture.full;
         each = λ y below x inside.
             let l = there lines y (let e = ran.rows.of_picture.count in omega (arith, e, below)) in
             let row = ran.rows.of_picture.each y l.0 l.1 in
             let v : l.0.version ≡ length before.journal =
             (let low = row.from in let high = row.to in let e : length after.journal ≡ length before.journal = ap length same in omega (arith, low, high, e)) in
             let replayed = if_some after.setup.bytes b _ (ap (λ (s : Setup). s.bytes) setup ∙ told) ran.picture.replayed y l.0 l.1 in
-            let pixels = subst (λ (s : Setup). HasPixels s.depth s.width (λ x. shows job.scene b (at after.journal l.0.version) job.picture x y) (slice_index_or after.rows y [])) setup replayed in
+            let pixels = subst (λ (s : Setup). HasPixels s.depth s.width (λ x. shows job.scene b (at after.journal l.0.version) job.picture x y)
+                (slice_index_or after.rows y [])) setup replayed in
             let table : at after.journal l.0.version ≡ newest before.journal = ap (λ (js : List Change). at js l.0.version) same ∙ ap (at before.journal) v in
             pixels x inside
             ∙ ap (λ (m : Table). shows job.scene b m job.picture x y) table

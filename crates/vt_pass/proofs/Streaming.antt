@@ -26,7 +26,8 @@ after_map s frames m f page frame h none other apart = record {
   frame_inside = h.frame_inside;
   place = by_victim f.victim h.place;
 } where
-  by_victim : (o : Option ℕ) → MatchOption o (IsFree m f.frame) (IsVictimOf s m f.frame) → MatchOption o (IsFree (changed m (Map page frame)) f.frame) (IsVictimOf s (changed m (Map page frame)) f.frame)
+  by_victim : (o : Option ℕ) → MatchOption o (IsFree m f.frame) (IsVictimOf s m f.frame)
+      → MatchOption o (IsFree (changed m (Map page frame)) f.frame) (IsVictimOf s (changed m (Map page frame)) f.frame)
   by_victim None free = λ q held. ⊎_elim (λ a. apart a.1) (λ a. free q a.1) (mapped_after_map m page frame q f.frame held)
   by_victim (Some w) is = record {
     mapped = entry-other m page w (Some frame) (λ e. none-some f.frame (sym none ∙ ap m (sym e) ∙ is.mapped)) ∙ is.mapped;
@@ -45,7 +46,8 @@ after_unmap s frames m f v frame h mapped apart = record {
   gone (inl same) = ap (changed m (Unmap v frame)) same ∙ entry-same m v None
   gone (inr other) = entry-other m v f.page None other ∙ h.unmapped
 
-  by_victim : (o : Option ℕ) → MatchOption o (IsFree m f.frame) (IsVictimOf s m f.frame) → MatchOption o (IsFree (changed m (Unmap v frame)) f.frame) (IsVictimOf s (changed m (Unmap v frame)) f.frame)
+  by_victim : (o : Option ℕ) → MatchOption o (IsFree m f.frame) (IsVictimOf s m f.frame)
+      → MatchOption o (IsFree (changed m (Unmap v frame)) f.frame) (IsVictimOf s (changed m (Unmap v frame)) f.frame)
   by_victim None free = λ q held. free q (mapped_after_unmap m v frame q f.frame held).1
   by_victim (Some w) is = record {
     mapped = entry-other m v w None (λ e. apart (same_Some frame f.frame (sym mapped ∙ ap m (sym e) ∙ is.mapped))) ∙ is.mapped;
@@ -59,7 +61,8 @@ unmapped_still m page v frame none = gone (same_page page v) where
   gone (inr other) = entry-other m v page None other ∙ none
 
 -- an entry stays lawful after the group of another one
-pub entry_stays : (s : Shape) (frames : ℕ) (js : List Change) (e f : Planned) (lost : Bool) → IsEntryFor s frames (newest js) e → IsEntryFor s frames (newest js) f
+pub entry_stays : (s : Shape) (frames : ℕ) (js : List Change) (e f : Planned) (lost : Bool) → IsEntryFor s frames (newest js) e
+    → IsEntryFor s frames (newest js) f
     → (e.page ≢ f.page) × (e.frame ≢ f.frame) → IsEntryFor s frames (newest (js ++ changes_of (group_of e lost))) f
 entry_stays s frames js e f true h k apart = subst (λ (l : List Change). IsEntryFor s frames (newest l) f) (sym (append-nil js)) k
 entry_stays s frames js e f false h k apart = by_victim e.victim h.place where
@@ -77,7 +80,8 @@ entry_stays s frames js e f false h k apart = by_victim e.victim h.place where
       (unmapped_still (newest js) e.page v e.frame h.unmapped) apart.0 apart.1)
 
 range_more : (n : ℕ) → range_with_len 0 (n + 1) ≡ range_with_len 0 n ++ n ∷ []
-range_more n = ap (λ l. l) (sym (map-same (range_with_len 0 (n + 1)))) ∙ map-range_with_len_more (λ k. k) 0 n n (zero-add n) ∙ ap (λ l. l ++ n ∷ []) (map-same (range_with_len 0 n)) where
+range_more n = ap (λ l. l) (sym (map-same (range_with_len 0 (n + 1)))) ∙ map-range_with_len_more (λ k. k) 0 n n (zero-add n)
+    ∙ ap (λ l. l ++ n ∷ []) (map-same (range_with_len 0 n)) where
   map-same : (xs : List ℕ) → map (λ k. k) xs ≡ xs
   map-same [] = refl
   map-same (x ∷ xs) = ap (λ l. x ∷ l) (map-same xs)
@@ -91,7 +95,8 @@ same_groups batch losses more (suc n) few =
     ap (pass_events batch (losses ++ more)) step
     ∙ flat_map-append (group_at batch (losses ++ more)) (range_with_len 0 n) (n ∷ [])
     ∙ ap (λ (es : List Event). es ++ (group_at batch (losses ++ more) n ++ [])) (same_groups batch losses more n (omega (arith, few)))
-    ∙ ap (λ (l : Bool). pass_events batch losses (range_with_len 0 n) ++ (group_if (slice_get batch n) l ++ [])) (get_or_append_left losses more true n (omega (arith, few)))
+    ∙ ap (λ (l : Bool). pass_events batch losses (range_with_len 0 n)
+    ++ (group_if (slice_get batch n) l ++ [])) (get_or_append_left losses more true n (omega (arith, few)))
     ∙ sym (flat_map-append (group_at batch losses) (range_with_len 0 n) (n ∷ []))
     ∙ ap (pass_events batch losses) (sym step)
 

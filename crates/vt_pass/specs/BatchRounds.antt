@@ -105,7 +105,8 @@ pub record IsEndedRound {F : Type 0} (g : FileMeanings F) (q : Queues) (s : Shap
   pub loaded : (k : ℕ) (e : QueuedView F) → k < length b.first → HasLoaded g q (slice_index_or b.first k e) (slice_index_or last k e)
 
 -- and the passes that are left are these, where the tiles are for this table
-abbrev pub HaveEnded : {F : Type 0} → FileMeanings F → Queues → TableView → List Planned → QueuePass Request → QueuePass Loaded → List (QueuedView F) → Begun F → Type 0
+abbrev pub HaveEnded : {F : Type 0} → FileMeanings F → Queues → TableView → List Planned → QueuePass Request → QueuePass Loaded → List (QueuedView F)
+    → Begun F → Type 0
 HaveEnded g q v batch asks answers last b = IsEndedRound g q v.shape batch (view_of asks) (view_of answers) last b
 
 -- The round was streamed into a table: its events are an outcome of the batch, of which the changes were made, the files were read for it,

@@ -35,10 +35,12 @@ one_wants s row n x inside =
     let p : ℕ = wanted_page s row x in
     let f : ℕ → ℕ = λ z. cond (wanted_page s row z == p) 1 0 in
     let most = get_or-le-sum_by f (range_with_len 0 n) x 0 (let e = length-range_with_len 0 n in omega (arith, e, inside)) in
-    let here : f (get_or (range_with_len 0 n) x 0) ≡ 1 = ap f (get_or-range_with_len 0 n x 0 inside ∙ zero-add x) ∙ ap (λ (b : Bool). cond b 1 0) (same_number p) in
+    let here : f (get_or (range_with_len 0 n) x 0) ≡ 1 = ap f (get_or-range_with_len 0 n x 0 inside ∙ zero-add x)
+        ∙ ap (λ (b : Bool). cond b 1 0) (same_number p) in
     omega (arith, most, here)
 
-wanted_once : (scene : Scene) (i x y : ℕ) → x < scene.path.width → y < scene.path.height → 1 ≤ picture_wants scene i (wanted_page scene.shape (scene_row scene i y) x)
+wanted_once : (scene : Scene) (i x y : ℕ) → x < scene.path.width → y < scene.path.height
+    → 1 ≤ picture_wants scene i (wanted_page scene.shape (scene_row scene i y) x)
 unfolding pixels_in_rows
 wanted_once scene i x y inside below =
     let p : ℕ = wanted_page scene.shape (scene_row scene i y) x in
@@ -59,7 +61,8 @@ serves_itself s m p limits inside some = by_frame (m p) refl some where
   by_frame (Some frame) is one =
       let first : IsFirstMapped m (line_of s p) p = record {
         place = 0;
-        stands = slice_get-get_or (line_of s p) 0 0 (let e = line.one_a_level in let low = level_below s p limits inside in omega (arith, e, low)) ∙ ap Some line.begins;
+        stands = slice_get-get_or (line_of s p) 0 0 (let e = line.one_a_level in let low = level_below s p limits inside in omega (arith, e, low))
+            ∙ ap Some line.begins;
         frame = frame;
         mapped = is;
         before = λ k q below. absurd (omega (arith, below));

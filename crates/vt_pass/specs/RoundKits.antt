@@ -73,7 +73,8 @@ pub record IsAsked {F : Type 0} (q : Queues) (r : RoundKitView F) (s : Shape) (d
   pub places : HasPlaces r (length batch) (tile_length s d)
 
 -- a loader was made of each store, with passes that were split off for it
-pub record IsDealt {F : Type 0} (g : FileMeanings F) (q : Queues) (r r' : RoundKitView F) (stores : List (StoreView F)) (loaders : List (QueuedView F)) : Type 0 where
+pub record IsDealt {F : Type 0} (g : FileMeanings F) (q : Queues) (r r' : RoundKitView F) (stores : List (StoreView F))
+    (loaders : List (QueuedView F)) : Type 0 where
   pub passes : AreOf q r'.asks r'.answers
   pub no_stores : r'.stores.elements ≡ []
   pub room : length loaders ≤ r'.stores.spare

@@ -52,9 +52,11 @@ module _ (dealt : Bool) (needs : Scene → ℕ → ℕ → ℕ) (shows : Scene �
       let moved = subst (λ s. Broke job s c) (same_but_picture a b h) broke in
       record { setup = moved.setup; read = moved.read }
 
-  pub ends_after : (idle : Type 0) (result : Result PassReport NoMemory) → Ends dealt needs shows drawn idle job result b c → Ends dealt needs shows drawn idle job result a c
+  pub ends_after : (idle : Type 0) (result : Result PassReport NoMemory) → Ends dealt needs shows drawn idle job result b c
+      → Ends dealt needs shows drawn idle job result a c
   ends_after idle result e = record { ran = ran_if result e.ran; goes_on = e.goes_on; broke = broke_if result e.broke } where
-    ran_if : (r : Result PassReport NoMemory) → IfOk r (λ report. Ran dealt needs shows drawn job report b c) → IfOk r (λ report. Ran dealt needs shows drawn job report a c)
+    ran_if : (r : Result PassReport NoMemory) → IfOk r (λ report. Ran dealt needs shows drawn job report b c)
+        → IfOk r (λ report. Ran dealt needs shows drawn job report a c)
     ran_if (Ok report) ran = ran_after report ran
     ran_if (Err refusal) none = none
 
@@ -93,7 +95,8 @@ module _ {F : Type 0} (g : FileMeanings F) (v : TableView) (q : Queues) (k l : K
               samplers = ready.idle.kit.samplers;
               sides = ready.idle.kit.sides;
               counts = ready.idle.kit.counts;
-              buffers = subst (λ (x : ListView (ListView ℕ)). All (λ b. length b.elements ≡ tile_length k.shape k.depth) x.elements) (sym dealt.buffers) ready.idle.kit.buffers;
+              buffers = subst (λ (x : ListView (ListView ℕ)). All (λ b. length b.elements ≡ tile_length k.shape k.depth) x.elements)
+                  (sym dealt.buffers) ready.idle.kit.buffers;
             };
             holds = ready.idle.holds;
           });
@@ -155,9 +158,11 @@ module _ {F : Type 0} (g : FileMeanings F) (v : TableView) (q : Queues) (k l : K
     journal = refl;
   })
 
-module _ {F : Type 0} (g : FileMeanings F) (job : Job) (m n : StillView F) (a c : List (QueuedView F)) (e f : List StillSampler) (mustered : IsMustered g m n a e)
+module _ {F : Type 0} (g : FileMeanings F) (job : Job) (m n : StillView F) (a c : List (QueuedView F)) (e f : List StillSampler)
+    (mustered : IsMustered g m n a e)
     (ready : IsReadyKit g m.table m.queues m.kit job.batch) (job_is : IsJobFor (kit_setup g m.table m.kit) job) (number : length c ≡ length a)
-    (number_f : length f ≡ length e) (did_load : AllDid (HasLoaded g n.queues) a c) (did_draw : AllDid (λ a b. HasDrawn n.table job a.sampler b.sampler) e f) where
+    (number_f : length f ≡ length e) (did_load : AllDid (HasLoaded g n.queues) a c)
+        (did_draw : AllDid (λ a b. HasDrawn n.table job a.sampler b.sampler) e f) where
   may_finish : MayFinish g n.table n.queues n.kit job c f (begun g m.table m.queues m.kit n.kit job a c e f mustered.out)
   may_finish = subst (λ (x : TableView × Queues). MayFinish g x.0 x.1 n.kit job c f (begun g m.table m.queues m.kit n.kit job a c e f mustered.out))
       (λ i. (sym mustered.table i, sym mustered.queues i))

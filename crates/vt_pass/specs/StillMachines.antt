@@ -106,6 +106,7 @@ pub record MayFinish {F : Type 0} (g : FileMeanings F) (v : TableView) (q : Queu
   pub told_is : b.told ≡ told_by g (reverse (stores_of b.first))
 
 -- however the round began, what was done is a pass
-abbrev pub KitFinishes : {F : Type 0} → FileMeanings F → Job → Result PassReport NoMemory → StillView F → List (QueuedView F) → List StillSampler → StillView F → Type 0
+abbrev pub KitFinishes : {F : Type 0} → FileMeanings F → Job → Result PassReport NoMemory → StillView F → List (QueuedView F) → List StillSampler
+    → StillView F → Type 0
 KitFinishes g job result n loaders samplers p = (b : Begun _) → MayFinish g n.table n.queues n.kit job loaders samplers b
     → KitEnds g job result n.table (kit_before n.kit samplers b) p.table p.kit (IsIdleKit g p.table p.kit)

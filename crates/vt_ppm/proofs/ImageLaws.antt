@@ -85,7 +85,8 @@ lawful_of_image most b p i = record {
 }
 
 -- the raster of an image, and the bytes of an image as those of its parts
-length_of_raster : (most : ℕ) (b : List ℕ) (p : ImageView) (i : IsImageUpTo most b p) → length i.raster ≡ texel_length (depth_of i.maximum) * (p.width * p.height)
+length_of_raster : (most : ℕ) (b : List ℕ) (p : ImageView) (i : IsImageUpTo most b p)
+    → length i.raster ≡ texel_length (depth_of i.maximum) * (p.width * p.height)
 length_of_raster most b p i = i.full ∙ ap (λ d. texel_length d * (p.width * p.height)) i.depth_is
 
 length_of_image : (most : ℕ) (b : List ℕ) (p : ImageView) (i : IsImageUpTo most b p)
@@ -108,7 +109,8 @@ image_is_whole most b p want have i bad =
     few t r n k rest l want have e f total want_is have_is short = omega arith
 
 -- a sample behind the header is that of the raster
-sample_of_image : (most : ℕ) (b : List ℕ) (p : ImageView) (i : IsImageUpTo most b p) (d r n : ℕ) → d ≡ p.depth → length i.text ≡ r → n < 3 * (p.width * p.height)
+sample_of_image : (most : ℕ) (b : List ℕ) (p : ImageView) (i : IsImageUpTo most b p) (d r n : ℕ) → d ≡ p.depth → length i.text ≡ r
+    → n < 3 * (p.width * p.height)
     → sample_at d (drop r b) n ≡ sample_at p.depth i.raster n
 sample_of_image most b p i d r n same from inside =
     let behind : drop r b ≡ i.raster ++ i.rest = ap (λ k. drop k b) (sym from) ∙ ap (drop (length i.text)) i.spelt

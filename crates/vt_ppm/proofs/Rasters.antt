@@ -25,7 +25,8 @@ raster_image w h m items all new len count d p same size kept_size counted depth
   shape = shape ∙ ap (λ k. view k w h (take len (new ++ drop (length new) items))) depth
       ∙ ap (view (depth_of m) w h) (take_at new (drop (length new) items) len (kept_size ∙ size));
   full = kept_size ∙ ap length same;
-  kept = λ i inside. each i (omega (arith, inside, counted)) (subst (λ xs. sample_at (depth_of m) xs i ≤ m) (sym same) (few i inside)) ∙ ap (λ xs. scaled (depth_of m) m (sample_at (depth_of m) xs i)) same;
+  kept = λ i inside. each i (omega (arith, inside, counted)) (subst (λ xs. sample_at (depth_of m) xs i ≤ m) (sym same) (few i inside))
+      ∙ ap (λ xs. scaled (depth_of m) m (sample_at (depth_of m) xs i)) same;
   bytes = bytes;
 }
 

@@ -37,7 +37,8 @@ maximum_few m few = elim (cases_lt 255 m) [
 
 -- the greatest sample is a maximum of its depth
 pub greatest_is : (d : ℕ) → IsDepth d → IsMaximum (greatest_sample d)
-greatest_is = by_depth (λ d. IsMaximum (greatest_sample d)) (record { some = omega arith; few = omega arith }) (record { some = omega arith; few = omega arith })
+greatest_is = by_depth (λ d. IsMaximum (greatest_sample d)) (record { some = omega arith; few = omega arith })
+    (record { some = omega arith; few = omega arith })
 
 pub depth_of_greatest : (d : ℕ) → IsDepth d → depth_of (greatest_sample d) ≡ d
 depth_of_greatest = by_depth (λ d. depth_of (greatest_sample d) ≡ d) (narrow_depth 255 (omega arith)) (wide_depth 65535 (omega arith))
@@ -138,7 +139,8 @@ number_is_bytes d v = by_depth (λ d. AreBytes (number_bytes d v))
 pub samples_bytes : (d : ℕ) (v : ℕ → ℕ) (n : ℕ) → IsDepth d → AreBytes (sample_bytes d v n)
 unfolding sample_bytes
 samples_bytes d v zero depth = All-nil (λ s. s < 256)
-samples_bytes d v (suc n) depth = All-append (λ s. s < 256) (sample_bytes d v n) (number_bytes d (v n)) (samples_bytes d v n depth) (number_is_bytes d (v n) depth)
+samples_bytes d v (suc n) depth = All-append (λ s. s < 256) (sample_bytes d v n) (number_bytes d (v n)) (samples_bytes d v n depth)
+    (number_is_bytes d (v n) depth)
 
 -- a number behind so many samples is the next sample
 last_sample : (d : ℕ) (xs : List ℕ) (v n : ℕ) → IsDepth d → length xs ≡ d * n → v < sample_base d → sample_at d (xs ++ number_bytes d v) n ≡ v
@@ -166,7 +168,8 @@ pub samples_sample : (d : ℕ) (v : ℕ → ℕ) (n i : ℕ) → IsDepth d → (
 unfolding sample_bytes
 samples_sample d v zero i depth few inside = let no : ⊥ = omega (arith, inside) in absurd no
 samples_sample d v (suc n) i depth few inside = elim (cases_lt i n) [
-  | inl before ↦ front_sample d (sample_bytes d v n) (number_bytes d (v n)) i depth (room before) ∙ samples_sample d v n i depth (λ k h. few k (omega (arith, h))) before
+  | inl before ↦ front_sample d (sample_bytes d v n) (number_bytes d (v n)) i depth (room before)
+      ∙ samples_sample d v n i depth (λ k h. few k (omega (arith, h))) before
   | inr last ↦ let e : i ≡ n = omega (arith, inside, last) in
       ap (λ k. sample_at d (sample_bytes d v n ++ number_bytes d (v n)) k) e
       ∙ last_sample d (sample_bytes d v n) (v n) n depth (samples_length d v n depth) (few n (omega arith)) ∙ ap v (sym e)

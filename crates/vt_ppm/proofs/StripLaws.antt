@@ -185,7 +185,8 @@ rows_are h b xs out y count has few inside piece full kept scaling bytes =
 pub raster_told : (told : Option (List ℕ)) (n : ℕ) (front : List ℕ) (h : Header) (want have : ℕ) → IfSome told (λ b. IsFront b n front)
     → length front ≡ min n header_limit → IsLawfulHeader most_tiled_side front h.raster h.width h.height h.maximum
     → want ≡ texel_length (depth_of h.maximum) * (h.width * h.height) → have ≡ n - h.raster → want ≤ have → HasRasterIfTold told h
-raster_told told n front h want have is few header want_is have_is enough = record { each = λ b e. there b (subst (λ t. IfSome t (λ b. IsFront b n front)) e is) }
+raster_told told n front h want have is few header want_is have_is
+    enough = record { each = λ b e. there b (subst (λ t. IfSome t (λ b. IsFront b n front)) e is) }
   where
     there : (b : List ℕ) → IsFront b n front → HasRaster b h
     there b f =

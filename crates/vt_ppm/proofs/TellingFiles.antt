@@ -49,7 +49,8 @@ module _ (most : ℕ) (o : Option (List ℕ)) (n : ℕ) (front : List ℕ) (is :
   header_answer_told (Err e) l = tt
 
 -- what is found with the header of the front is so of the file
-module _ (most : ℕ) (o : Option (List ℕ)) (n r w h m : ℕ) (front : List ℕ) (is : IfSome o (λ b. IsFront b n front)) (header : IsLawfulHeader most front r w h m) where
+module _ (most : ℕ) (o : Option (List ℕ)) (n r w h m : ℕ) (front : List ℕ) (is : IfSome o (λ b. IsFront b n front))
+    (header : IsLawfulHeader most front r w h m) where
   told : IfSome o (λ b. IsLawfulHeader most b r w h m)
   told = header_told most o n front is r w h m header
 

@@ -190,7 +190,8 @@ next_wide_tile s b narrow tile old new first count t t' columns rows at k m from
           ∙ ap doubled (piece_of_slice 3 narrow (t * (t' * t')) m from (y * t' + x) begin (omega (arith, piece_end 3 (y * t' + x) (t' * t') here, long)))
           ∙ ap (λ u. doubled (piece_at 3 narrow (t * (u * u) + (y * u + x)))) et
           ∙ ap (λ u. doubled (piece_at 3 narrow (t * tile_area s + (y * s.tile + min (i % s.tile) (u - 1))))) ec
-          ∙ ap (λ u. doubled (piece_at 3 narrow (t * tile_area s + (min (i / s.tile) (u - 1) * s.tile + min (i % s.tile) (columns_inside s (first + t) - 1))))) er
+          ∙ ap (λ u. doubled (piece_at 3 narrow (t * tile_area s +
+          (min (i / s.tile) (u - 1) * s.tile + min (i % s.tile) (columns_inside s (first + t) - 1))))) er
           ∙ wide_texel s b narrow first count t i limits store bytes piece full below pages q
           ∙ ap (λ u. word_bytes 2 (tile_word s (widened (stored b)) (first + u) i)) (sym h)
 

@@ -77,26 +77,8 @@ header_of_store f0 f1 n s e d src deep (inr part) =
           ∙ ap (λ l. option_map (with_bytes n l) f0) front.1,
     )
 
-pub tiles_part : (f0 f1 f2 : Option Files) (n tiles : List ℕ) (s : Shape) (d : ℕ) (src : Source) (p q : ℕ) → p ≤ q → q ≤ pages_of s
-    → tiles ≡ tiles_bytes s d src p (q - p) → f1 ≡ option_map (with_bytes n (front_bytes s d src p)) f0
-    → (k : ℕ) × (f2 ≡ option_map (with_appended n (take k tiles)) f1) → (j : ℕ) × (f2 ≡ option_map (with_bytes n (take j (store_bytes s d src))) f0)
-tiles_part f0 f1 f2 n tiles s d src p q h inside are held added =
-    longer_part f0 f1 f2 n (store_bytes s d src) (front_bytes s d src p) (tiles_bytes s d src p (q - p))
-    (tiles_bytes s d src q (pages_of s - q)) added.0
-    (store_split s d src q inside ∙ ap (λ l. l ++ tiles_bytes s d src q (pages_of s - q)) (sym (front_grown s d src p q h)))
-    held (added.1 ∙ ap (λ l. option_map (with_appended n (take added.0 l)) f1) are)
-
 -- so the name holds the front of a store without tiles
 pub begun : (f0 f1 : Option Files) (n : List ℕ) (s : Shape) (e d : ℕ) (src : Source) → e ≡ d
     → f1 ≡ option_map (with_bytes n (header_bytes s e)) f0 → f1 ≡ option_map (with_bytes n (front_bytes s d src 0)) f0
 begun f0 f1 n s e d src same held = held ∙ ap (λ m. option_map (with_bytes n (header_bytes s m)) f0) same
     ∙ ap (λ l. option_map (with_bytes n l) f0) (front_none s d src)
-
--- a row of tiles was appended
-pub tiles_whole : (f0 f1 f2 : Option Files) (n tiles : List ℕ) (s : Shape) (d : ℕ) (src : Source) (p q : ℕ) → p ≤ q
-    → tiles ≡ tiles_bytes s d src p (q - p) → f1 ≡ option_map (with_bytes n (front_bytes s d src p)) f0
-    → f2 ≡ option_map (with_appended n tiles) f1
-    → f2 ≡ option_map (with_bytes n (front_bytes s d src q)) f0
-tiles_whole f0 f1 f2 n tiles s d src p q h are held added =
-    added ∙ ap (option_map (with_appended n tiles)) held ∙ told-bytes-appended n (front_bytes s d src p) tiles f0
-    ∙ ap (λ l. option_map (with_bytes n l) f0) (ap (λ l. front_bytes s d src p ++ l) are ∙ front_grown s d src p q h)

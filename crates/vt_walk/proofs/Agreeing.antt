@@ -35,7 +35,8 @@ entry_may_be_run v m e table agrees l = record {
   frame_inside = l.frame_inside;
   place = by_victim e.victim l.place;
 } where
-  by_victim : (o : Option ℕ) → MatchOption o (HasNoPage v.entries e.frame) (IsVictim v e.frame) → MatchOption o (IsFree m e.frame) (IsVictimOf v.shape m e.frame)
+  by_victim : (o : Option ℕ) → MatchOption o (HasNoPage v.entries e.frame) (IsVictim v e.frame)
+      → MatchOption o (IsFree m e.frame) (IsVictimOf v.shape m e.frame)
   by_victim None free = λ p held. free p (agrees p ∙ ap entry_of held)
   by_victim (Some q) is = record {
     mapped = mapped_in v m q e.frame agrees is.held;

@@ -19,7 +19,8 @@ other_name names picture apart same =
 pub either_first : (n m s t : List ℕ) (files : Files) → m ≢ n → with_bytes n s (with_bytes m t files) ≡ with_bytes m t (with_bytes n s files)
 either_first n m s t files other = fun_ext (λ q. pick q (bytes_eq q n) (bytes_eq q m) refl refl) where
   pick : (q : List ℕ) (a b : Bool) → bytes_eq q n ≡ a → bytes_eq q m ≡ b
-      → (if bytes_eq q n then Some s else (if bytes_eq q m then Some t else files q)) ≡ (if bytes_eq q m then Some t else (if bytes_eq q n then Some s else files q))
+      → (if bytes_eq q n then Some s else (if bytes_eq q m then Some t else files q)) ≡
+      (if bytes_eq q m then Some t else (if bytes_eq q n then Some s else files q))
   pick q true true is_n is_m = absurd (other (sym ((bytes_eq-Decides q m).0 is_m) ∙ (bytes_eq-Decides q n).0 is_n))
   pick q true false is_n is_m = rw (is_n, is_m) refl
   pick q false b is_n is_m = rw is_n refl

@@ -14,7 +14,8 @@ use Rattle.vt_walk.specs.Logs.{reads_of}
 pub count_both : {X : Type 0} (t : X → Bool) (xs ys : List X) → count_by t (xs ++ ys) ≡ count_by t xs + count_by t ys
 count_both t xs ys = sum_by-append (λ x. cond (t x) 1 0) xs ys
 
-planned_both : (s : Shape) (d at len : ℕ) (xs ys : List Planned) → times_planned s d (xs ++ ys) at len ≡ times_planned s d xs at len + times_planned s d ys at len
+planned_both : (s : Shape) (d at len : ℕ) (xs ys : List Planned)
+    → times_planned s d (xs ++ ys) at len ≡ times_planned s d xs at len + times_planned s d ys at len
 planned_both s d at len xs ys = count_both (λ (e : Planned). is_tile_at s d at len e.page) xs ys
 
 pub planned_more : (s : Shape) (d at len : ℕ) (p : WalkPass) (passes : List WalkPass)
@@ -35,7 +36,8 @@ kept_lost (e ∷ batch) (false ∷ losses) same = kept_lost batch losses (omega 
 count_lost : (batch : List Planned) (losses : List Bool) → length losses ≡ length batch → length (lost_entries batch losses) ≡ lost_count losses
 count_lost batch losses same = kept_lost batch losses same ∙ length-filter (λ l. l) losses
 
-pub losses_more : (w : WalkSetup) (p : WalkPass) (passes : List WalkPass) → IsRun w (p ∷ passes) → length (lost_in (p ∷ passes)) ≡ lost_count p.losses + length (lost_in passes)
+pub losses_more : (w : WalkSetup) (p : WalkPass) (passes : List WalkPass) → IsRun w (p ∷ passes)
+    → length (lost_in (p ∷ passes)) ≡ lost_count p.losses + length (lost_in passes)
 losses_more w p passes run = omega (arith, length-append (lost_entries p.batch p.losses) (lost_in passes), count_lost p.batch p.losses run.1.outcome.told)
 
 pub reads_more : (w : WalkSetup) (p : WalkPass) (passes : List WalkPass) → reads_of w (p ∷ passes) ≡ reads_of w passes + length p.batch

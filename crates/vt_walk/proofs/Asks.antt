@@ -46,17 +46,21 @@ times_in t (f ∷ files) =
     ∙ sym (sum_by-cons (λ (x : FileState). count_by t (unwrap_or x.asked [])) f files)
 
 -- how often a place was asked of files that were closed before and of those that are open
-pub times_with : (at len : ℕ) (before : List Place) (files : List FileState) → times_asked at len (before ++ places_of files) ≡ times_asked at len before + times_asked_by files at len
+pub times_with : (at len : ℕ) (before : List Place) (files : List FileState)
+    → times_asked at len (before ++ places_of files) ≡ times_asked at len before + times_asked_by files at len
 times_with at len before files =
     count_both (is_read_of at len) before (places_of files) ∙ ap (λ n. times_asked at len before + n) (times_in (is_read_of at len) files)
 
-pub asked_of : (at len : ℕ) (f : FileState) (files : List FileState) → times_asked_by (f ∷ files) at len ≡ times_asked at len (unwrap_or f.asked []) + times_asked_by files at len
+pub asked_of : (at len : ℕ) (f : FileState) (files : List FileState)
+    → times_asked_by (f ∷ files) at len ≡ times_asked at len (unwrap_or f.asked []) + times_asked_by files at len
 asked_of at len f files = sum_by-cons (λ (x : FileState). times_asked at len (unwrap_or x.asked [])) f files
 
-pub failed_of : (at len : ℕ) (f : FileState) (files : List FileState) → times_failed_by (f ∷ files) at len ≡ times_failed at len (unwrap_or f.asked []) + times_failed_by files at len
+pub failed_of : (at len : ℕ) (f : FileState) (files : List FileState)
+    → times_failed_by (f ∷ files) at len ≡ times_failed at len (unwrap_or f.asked []) + times_failed_by files at len
 failed_of at len f files = sum_by-cons (λ (x : FileState). times_failed at len (unwrap_or x.asked [])) f files
 
-pub failed_with : (at len : ℕ) (before : List Place) (files : List FileState) → times_failed at len (before ++ places_of files) ≡ times_failed at len before + times_failed_by files at len
+pub failed_with : (at len : ℕ) (before : List Place) (files : List FileState)
+    → times_failed at len (before ++ places_of files) ≡ times_failed at len before + times_failed_by files at len
 failed_with at len before files =
     count_both (λ (place : Place). is_read_of at len place && place.failed) before (places_of files)
     ∙ ap (λ n. times_failed at len before + n) (times_in (λ (place : Place). is_read_of at len place && place.failed) files)
@@ -66,15 +70,18 @@ abbrev pub with_open : List ℕ → List FileState → Option Asked → Option (
 with_open store files asked = option_map (λ (places : Asked). places store ++ places_of files) asked
 
 -- a pass has asked for its batch
-pub pass_asks : (s : Shape) (d : ℕ) (batch : List Planned) (losses : List Bool) (store : List ℕ) (kept : FileState) (old new : List FileState) (asked : Option Asked)
+pub pass_asks : (s : Shape) (d : ℕ) (batch : List Planned) (losses : List Bool) (store : List ℕ) (kept : FileState) (old new : List FileState)
+    (asked : Option Asked)
     → (IsSome (with_open store (kept ∷ old) asked) → AllTell old) → AreReadFor s d batch losses old new
     → OnTold (AreAskedFor s d 0 batch (lost_entries batch losses)) (with_open store (kept ∷ old) asked) (with_open store (kept ∷ new) asked)
 pass_asks s d batch losses store kept old new None tell read = tt
 pass_asks s d batch losses store kept old new (Some places) tell read =
     let once = read.once (tell refl) in
     record {
-      asked = λ at len. omega (arith, times_with at len (places store) (kept ∷ old), times_with at len (places store) (kept ∷ new), asked_of at len kept old, asked_of at len kept new, once.asked at len);
-      failed = λ at len. omega (arith, failed_with at len (places store) (kept ∷ old), failed_with at len (places store) (kept ∷ new), failed_of at len kept old, failed_of at len kept new, once.failed at len);
+      asked = λ at len. omega (arith, times_with at len (places store) (kept ∷ old), times_with at len (places store) (kept ∷ new), asked_of at len
+          kept old, asked_of at len kept new, once.asked at len);
+      failed = λ at len. omega (arith, failed_with at len (places store) (kept ∷ old), failed_with at len (places store) (kept ∷ new), failed_of at
+          len kept old, failed_of at len kept new, once.failed at len);
     }
 
 -- a pass has asked for its batch at most
@@ -84,7 +91,8 @@ pub pass_asks_most : (s : Shape) (d : ℕ) (batch : List Planned) (store : List 
 pass_asks_most s d batch store kept old new None tell read = tt
 pass_asks_most s d batch store kept old new (Some places) tell read =
     let most = read.at_most_once (tell refl) in
-    λ at len. omega (arith, times_with at len (places store) (kept ∷ old), times_with at len (places store) (kept ∷ new), asked_of at len kept old, asked_of at len kept new, most at len)
+    λ at len. omega (arith, times_with at len (places store) (kept ∷ old), times_with at len (places store) (kept ∷ new), asked_of at len kept old,
+        asked_of at len kept new, most at len)
 
 pub sum-one : (x : ℕ) (xs : List ℕ) → sum (x ∷ xs) ≡ x + sum xs
 sum-one x xs = sum_by-cons (λ (y : ℕ). y) x xs
@@ -92,7 +100,8 @@ sum-one x xs = sum_by-cons (λ (y : ℕ). y) x xs
 any_end : (counts : List ℕ) → list_any (nat_le count_end) counts ≡ true → count_end ≤ sum counts
 any_end [] any = absurd (false≢true any)
 any_end (x ∷ counts) any = pick (nat_le count_end x) refl any (any_end counts) where
-  pick : (b : Bool) → nat_le count_end x ≡ b → (b || list_any (nat_le count_end) counts) ≡ true → (list_any (nat_le count_end) counts ≡ true → count_end ≤ sum counts) → count_end ≤ sum (x ∷ counts)
+  pick : (b : Bool) → nat_le count_end x ≡ b → (b || list_any (nat_le count_end) counts) ≡ true
+      → (list_any (nat_le count_end) counts ≡ true → count_end ≤ sum counts) → count_end ≤ sum (x ∷ counts)
   pick true is any more = let above : count_end ≤ x = grind (arith, nat_tests, is) in omega (arith, above, sum-one x counts)
   pick false is any more = omega (arith, more any, sum-one x counts)
 

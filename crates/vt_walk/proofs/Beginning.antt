@@ -79,7 +79,8 @@ lost_both s d pinned xs ys =
     let in_each : ℕ → ℕ = λ p. times_failed (tile_start s d p) (tile_length s d) xs + times_failed (tile_start s d p) (tile_length s d) ys in
     let each : in_both ≡ in_each = fun_ext (λ p. count_both _ xs ys) in
     ap (λ (f : ℕ → ℕ). sum_by f (range_with_len 0 (pages_of s - pinned))) each
-    ∙ sum_both (λ p. times_failed (tile_start s d p) (tile_length s d) xs) (λ p. times_failed (tile_start s d p) (tile_length s d) ys) (range_with_len 0 (pages_of s - pinned))
+    ∙ sum_both (λ p. times_failed (tile_start s d p) (tile_length s d) xs) (λ p. times_failed (tile_start s d p) (tile_length s d) ys)
+    (range_with_len 0 (pages_of s - pinned))
 
 places_one : (f : FileState) (files : List FileState) → places_of (f ∷ files) ≡ unwrap_or f.asked [] ++ places_of files
 places_one f files =
@@ -88,7 +89,8 @@ places_one f files =
 lost_with : (s : Shape) (d pinned : ℕ) (before : List Place) (f : FileState) (files : List FileState) → lost_reads s d pinned (before ++ places_of (f ∷ files))
     ≡ lost_reads s d pinned before + (lost_reads s d pinned (unwrap_or f.asked []) + lost_reads s d pinned (places_of files))
 lost_with s d pinned before f files =
-    omega (arith, lost_both s d pinned before (places_of (f ∷ files)), ap (lost_reads s d pinned) (places_one f files), lost_both s d pinned (unwrap_or f.asked []) (places_of files))
+    omega (arith, lost_both s d pinned before (places_of (f ∷ files)), ap (lost_reads s d pinned) (places_one f files), lost_both s d pinned
+        (unwrap_or f.asked []) (places_of files))
 
 asked_is : (f : FileState) (places : List Place) → f.asked ≡ Some places → unwrap_or f.asked [] ≡ places
 asked_is f places is = ap (λ (o : Option (List Place)). unwrap_or o []) is
@@ -96,7 +98,8 @@ asked_is f places is = ap (λ (o : Option (List Place)). unwrap_or o []) is
 -- what one of the open files was asked
 module _ (s : Shape) (d pinned : ℕ) (store : List ℕ) (kept now : FileState) (files : List FileState) where
   one_asks : (planned lost : List Planned) (asked : Option Asked) (a b : Option (List Place)) → kept.asked ≡ a → now.asked ≡ b → (IsSome asked → IsSome a)
-      → OnTold (AreAskedFor s d pinned planned lost) a b → OnTold (AreAskedFor s d pinned planned lost) (with_open store (kept ∷ files) asked) (with_open store (now ∷ files) asked)
+      → OnTold (AreAskedFor s d pinned planned lost) a b → OnTold (AreAskedFor s d pinned planned lost) (with_open store (kept ∷ files) asked)
+      (with_open store (now ∷ files) asked)
   one_asks planned lost None a b is are tell asks = tt
   one_asks planned lost (Some places) None b is are tell asks = absurd (false≢true (tell refl))
   one_asks planned lost (Some places) (Some x) None is are tell asks = absurd asks
@@ -124,7 +127,8 @@ module _ (s : Shape) (d pinned : ℕ) (store : List ℕ) (kept now : FileState) 
   }
 
   one_asks_most : (planned : List Planned) (asked : Option Asked) (a b : Option (List Place)) → kept.asked ≡ a → now.asked ≡ b → (IsSome asked → IsSome a)
-      → OnTold (AreAskedAtMostFor s d pinned planned) a b → OnTold (AreAskedAtMostFor s d pinned planned) (with_open store (kept ∷ files) asked) (with_open store (now ∷ files) asked)
+      → OnTold (AreAskedAtMostFor s d pinned planned) a b → OnTold (AreAskedAtMostFor s d pinned planned) (with_open store (kept ∷ files) asked)
+      (with_open store (now ∷ files) asked)
   one_asks_most planned None a b is are tell asks = tt
   one_asks_most planned (Some places) None b is are tell asks = absurd (false≢true (tell refl))
   one_asks_most planned (Some places) (Some x) None is are tell asks = absurd asks
@@ -156,7 +160,8 @@ module _ (s : Shape) (d pinned : ℕ) (store : List ℕ) (kept now : FileState) 
     same,
   )
 
-none_lost : (g : WalkGiven) (a b : Option (List Place)) → OnTold (λ old new. lost_reads g.scene.shape g.scene.depth g.setup.pinned new ≡ lost_reads g.scene.shape g.scene.depth g.setup.pinned old) a b
+none_lost : (g : WalkGiven) (a b : Option (List Place)) → OnTold
+    (λ old new. lost_reads g.scene.shape g.scene.depth g.setup.pinned new ≡ lost_reads g.scene.shape g.scene.depth g.setup.pinned old) a b
     → reads_lost g a b ≡ 0
 none_lost g None None same = refl
 none_lost g None (Some b) same = absurd same
@@ -196,7 +201,8 @@ module _ (dealt : Bool) (needs : Scene → ℕ → ℕ → ℕ) (shows : Scene �
       subst (λ k. Pinned t.geometry.now changes k) (sym tour.pages)
       (subst (λ (js : List Change). Pinned t.geometry.now js given.setup.pinned) is (run_is_pinned given.setup [] walk_given.setup tt))
 
-  more_faults : (rose : ℕ) → n.files ≡ m.files → kept.faults ≤ now.faults → faults ≤ rose → added faults (sum (counts_of (kept ∷ m.files))) ≤ added rose (sum (counts_of (now ∷ n.files)))
+  more_faults : (rose : ℕ) → n.files ≡ m.files → kept.faults ≤ now.faults → faults ≤ rose
+      → added faults (sum (counts_of (kept ∷ m.files))) ≤ added rose (sum (counts_of (now ∷ n.files)))
   more_faults rose same grown risen =
       let e : sum (counts_of n.files) ≡ sum (counts_of m.files) = ap (λ (fs : List FileState). sum (counts_of fs)) same in
       omega (arith, sum-one kept.faults (counts_of m.files), sum-one now.faults (counts_of n.files), e, grown, risen)
@@ -204,8 +210,10 @@ module _ (dealt : Bool) (needs : Scene → ℕ → ℕ → ℕ) (shows : Scene �
   asks_for : n.files ≡ m.files → OnTold (AreAskedFor t.geometry.now d t.pinned [] []) kept.asked now.asked
       → OnTold (AreAskedFor t.geometry.now t.depth given.setup.pinned [] []) (with_open store (kept ∷ m.files) asked) (with_open store (now ∷ n.files) asked)
   asks_for same asks =
-      subst (λ (fs : List FileState). OnTold (AreAskedFor t.geometry.now t.depth given.setup.pinned [] []) (with_open store (kept ∷ m.files) asked) (with_open store (now ∷ fs) asked)) (sym same)
-      (one_asks t.geometry.now t.depth given.setup.pinned store kept now m.files [] [] asked kept.asked now.asked refl refl (first_tells asked kept m.files tells)
+      subst (λ (fs : List FileState). OnTold (AreAskedFor t.geometry.now t.depth given.setup.pinned [] []) (with_open store (kept ∷ m.files) asked)
+          (with_open store (now ∷ fs) asked)) (sym same)
+      (one_asks t.geometry.now t.depth given.setup.pinned store kept now m.files [] [] asked kept.asked now.asked refl refl
+          (first_tells asked kept m.files tells)
       (subst (λ k. OnTold (AreAskedFor t.geometry.now t.depth k [] []) kept.asked now.asked) tour.pages
       (subst (λ k. OnTold (AreAskedFor t.geometry.now k t.pinned [] []) kept.asked now.asked) depth asks)))
 
@@ -216,8 +224,10 @@ module _ (dealt : Bool) (needs : Scene → ℕ → ℕ → ℕ) (shows : Scene �
       → LeftBy drawn given was (later files asked faults) e
   pinned_broke same asks lost grown error e failed is =
       let tell = first_tells asked kept m.files tells in
-      let most : OnTold (AreAskedAtMostFor t.geometry.now t.depth given.setup.pinned []) (with_open store (kept ∷ m.files) asked) (with_open store (now ∷ n.files) asked) =
-      subst (λ (fs : List FileState). OnTold (AreAskedAtMostFor t.geometry.now t.depth given.setup.pinned []) (with_open store (kept ∷ m.files) asked) (with_open store (now ∷ fs) asked)) (sym same)
+      let most : OnTold (AreAskedAtMostFor t.geometry.now t.depth given.setup.pinned []) (with_open store (kept ∷ m.files) asked)
+          (with_open store (now ∷ n.files) asked) =
+      subst (λ (fs : List FileState). OnTold (AreAskedAtMostFor t.geometry.now t.depth given.setup.pinned []) (with_open store (kept ∷ m.files) asked)
+          (with_open store (now ∷ fs) asked)) (sym same)
       (one_asks_most t.geometry.now t.depth given.setup.pinned store kept now m.files [] asked kept.asked now.asked refl refl tell
       (subst (λ k. OnTold (AreAskedAtMostFor t.geometry.now t.depth k []) kept.asked now.asked) tour.pages
       (subst (λ k. OnTold (AreAskedAtMostFor t.geometry.now k t.pinned []) kept.asked now.asked) depth asks))) in (
@@ -226,12 +236,16 @@ module _ (dealt : Bool) (needs : Scene → ℕ → ℕ → ℕ) (shows : Scene �
       ) where
         none : reads_lost given (with_open store (kept ∷ m.files) asked) (with_open store (now ∷ n.files) asked) ≡ 0
         none = none_lost given (with_open store (kept ∷ m.files) asked) (with_open store (now ∷ n.files) asked)
-            (subst (λ (fs : List FileState). OnTold (IsLostAlike t.geometry.now t.depth given.setup.pinned store kept now m.files) (with_open store (kept ∷ m.files) asked) (with_open store (now ∷ fs) asked)) (sym same)
-            (one_loses t.geometry.now t.depth given.setup.pinned store kept now m.files asked kept.asked now.asked refl refl (first_tells asked kept m.files tells)
+            (subst (λ (fs : List FileState). OnTold (IsLostAlike t.geometry.now t.depth given.setup.pinned store kept now m.files)
+                (with_open store (kept ∷ m.files) asked) (with_open store (now ∷ fs) asked)) (sym same)
+            (one_loses t.geometry.now t.depth given.setup.pinned store kept now m.files asked kept.asked now.asked refl refl
+                (first_tells asked kept m.files tells)
             (subst (λ k. OnTold (λ old new. lost_reads t.geometry.now t.depth k new ≡ lost_reads t.geometry.now t.depth k old) kept.asked now.asked) tour.pages
-            (subst (λ k. OnTold (λ old new. lost_reads t.geometry.now k t.pinned new ≡ lost_reads t.geometry.now k t.pinned old) kept.asked now.asked) depth lost))))
+            (subst (λ k. OnTold (λ old new. lost_reads t.geometry.now k t.pinned new ≡ lost_reads t.geometry.now k t.pinned old) kept.asked now.asked)
+                depth lost))))
 
-        cause : (error : OutsideError) → (error ≡ Failed → Rose kept.faults now.faults) → IsCausedBy drawn given was (later files asked faults) (refusal_by error)
+        cause : (error : OutsideError) → (error ≡ Failed → Rose kept.faults now.faults)
+            → IsCausedBy drawn given was (later files asked faults) (refusal_by error)
         cause NoMemory failed = tt
         cause Failed failed =
             let rose = failed refl in
@@ -240,16 +254,21 @@ module _ (dealt : Bool) (needs : Scene → ℕ → ℕ → ℕ) (shows : Scene �
             inr (omega (arith, sum-one kept.faults (counts_of m.files), sum-one now.faults (counts_of n.files), same_sum, rose, borne))
 
   -- the journal was not begun
-  pub head_broke : (new : Option Files) (opened : Option Asked) (rose : ℕ) → n.files ≡ m.files → OnTold (AreAskedFor t.geometry.now d t.pinned [] []) kept.asked now.asked
-      → kept.faults ≤ now.faults → (new ≡ files) ⊎ ((k : ℕ) × (new ≡ option_map (with_bytes t.names.journal.now (take k (head_text t.geometry.now t.pinned))) files))
+  pub head_broke : (new : Option Files) (opened : Option Asked) (rose : ℕ) → n.files ≡ m.files
+      → OnTold (AreAskedFor t.geometry.now d t.pinned [] []) kept.asked now.asked
+      → kept.faults ≤ now.faults → (new ≡ files) ⊎ ((k : ℕ) ×
+      (new ≡ option_map (with_bytes t.names.journal.now (take k (head_text t.geometry.now t.pinned))) files))
       → opened ≡ asked → faults ≤ rose → (error : OutsideError) (e : WalkError) → (error ≡ Failed → Rose faults rose) → e ≡ refusal_by error
       → LeftBy drawn given was (later new opened rose) e
   head_broke new opened rose same asks grown part kept_asked risen error e failed is =
       let exact = asks_for same asks in
-      let exactly : OnTold (AreAskedFor t.geometry.now t.depth given.setup.pinned [] []) (with_open store (kept ∷ m.files) asked) (with_open store (now ∷ n.files) opened) =
-      subst (λ (a : Option Asked). OnTold (AreAskedFor t.geometry.now t.depth given.setup.pinned [] []) (with_open store (kept ∷ m.files) asked) (with_open store (now ∷ n.files) a)) (sym kept_asked) exact in (
+      let exactly : OnTold (AreAskedFor t.geometry.now t.depth given.setup.pinned [] []) (with_open store (kept ∷ m.files) asked)
+          (with_open store (now ∷ n.files) opened) =
+      subst (λ (a : Option Asked). OnTold (AreAskedFor t.geometry.now t.depth given.setup.pinned [] []) (with_open store (kept ∷ m.files) asked)
+          (with_open store (now ∷ n.files) a)) (sym kept_asked) exact in (
         inl (record {
-          files = subst (λ k. (new ≡ files) ⊎ ((j : ℕ) × (new ≡ option_map (with_bytes t.names.journal.now (take j (head_text t.geometry.now k))) files))) tour.pages part;
+          files = subst (λ k. (new ≡ files) ⊎ ((j : ℕ) × (new ≡ option_map (with_bytes t.names.journal.now (take j (head_text t.geometry.now k)))
+              files))) tour.pages part;
           held = refl;
           asked = told_more (AreAskedFor t.geometry.now t.depth given.setup.pinned [] []) (AreAskedAtMostFor t.geometry.now t.depth given.setup.pinned [])
               (with_open store (kept ∷ m.files) asked) (with_open store (now ∷ n.files) opened) (λ x y a at len. omega (arith, a.asked at len)) exactly;
@@ -259,7 +278,8 @@ module _ (dealt : Bool) (needs : Scene → ℕ → ℕ → ℕ) (shows : Scene �
         subst (IsCausedBy drawn given was (later new opened rose)) (sym is) (cause error failed exactly),
       ) where
         cause : (error : OutsideError) → (error ≡ Failed → Rose faults rose)
-            → OnTold (AreAskedFor t.geometry.now t.depth given.setup.pinned [] []) (with_open store (kept ∷ m.files) asked) (with_open store (now ∷ n.files) opened)
+            → OnTold (AreAskedFor t.geometry.now t.depth given.setup.pinned [] []) (with_open store (kept ∷ m.files) asked)
+            (with_open store (now ∷ n.files) opened)
             → IsCausedBy drawn given was (later new opened rose) (refusal_by error)
         cause NoMemory failed exactly = tt
         cause Failed failed exactly =
@@ -286,7 +306,8 @@ module _ (dealt : Bool) (needs : Scene → ℕ → ℕ → ℕ) (shows : Scene �
               (ap (head_text t.geometry.now) tour.pages ∙ sym (append-nil (head_text t.geometry.now given.setup.pinned)));
           there = there;
           held = gained_none held;
-          asked = subst (λ (a : Option Asked). OnTold (AreAskedFor t.geometry.now t.depth given.setup.pinned [] []) (with_open store (kept ∷ m.files) asked) (with_open store (now ∷ n.files) a)) (sym kept_asked) exact;
+          asked = subst (λ (a : Option Asked). OnTold (AreAskedFor t.geometry.now t.depth given.setup.pinned [] [])
+              (with_open store (kept ∷ m.files) asked) (with_open store (now ∷ n.files) a)) (sym kept_asked) exact;
           faults = let f = more_faults rose same grown risen in omega (arith, f);
           out_faults = omega arith;
         };
@@ -296,7 +317,8 @@ module _ (dealt : Bool) (needs : Scene → ℕ → ℕ → ℕ) (shows : Scene �
           journal = ap (λ (x : MachineState). x.journal) placed ∙ ap (pinned_changes t.geometry.now) tour.pages;
           recency = view ∙ ap (first_view t.geometry.now t.settings.frames) tour.pages;
         };
-        tell = λ some. subst AllTell (sym same) (others_tell asked kept m.files tells (folder_tells asked (subst (λ (a : Option Asked). IsSome (with_open store (now ∷ n.files) a)) kept_asked some)));
+        tell = λ some. subst AllTell (sym same) (others_tell asked kept m.files tells
+            (folder_tells asked (subst (λ (a : Option Asked). IsSome (with_open store (now ∷ n.files) a)) kept_asked some)));
       } where
         folder_tells : (asked : Option Asked) → IsSome (with_open store (now ∷ n.files) asked) → IsSome asked
         folder_tells None some = some

@@ -61,10 +61,12 @@ more_left : (w : WalkSetup) (p q : WalkPass) (rest later : List WalkPass) (first
     → to_load_after w (q ∷ rest) first.wants ≡ filter (λ x. not (is_in (batch_pages (planned_in later)) x)) (picture_pages w first before)
     → to_load_after w (p ∷ q ∷ rest) first.wants ≡ filter (λ x. not (is_in (batch_pages (planned_in (p ∷ later))) x)) (picture_pages w first before)
 more_left w p q rest later first before l same left =
-    subst (λ (ws : List Wanted). to_load_after w (p ∷ q ∷ rest) ws ≡ filter (λ x. not (is_in (batch_pages p.batch) x)) (to_load_after w (q ∷ rest) ws)) same l.left
+    subst (λ (ws : List Wanted). to_load_after w (p ∷ q ∷ rest) ws ≡ filter (λ x. not (is_in (batch_pages p.batch) x))
+        (to_load_after w (q ∷ rest) ws)) same l.left
     ∙ ap (filter (λ x. not (is_in (batch_pages p.batch) x))) left
     ∙ filter_twice (λ x. not (is_in (batch_pages p.batch) x)) (λ x. not (is_in (batch_pages (planned_in later)) x)) (picture_pages w first before)
-    ∙ filter_same _ _ (picture_pages w first before) (λ x. nor (is_in (batch_pages p.batch) x) (is_in (batch_pages (planned_in later)) x) ∙ ap not (sym (in_batches p.batch (planned_in later) x)))
+    ∙ filter_same _ _ (picture_pages w first before) (λ x. nor (is_in (batch_pages p.batch) x) (is_in (batch_pages (planned_in later)) x)
+    ∙ ap not (sym (in_batches p.batch (planned_in later) x)))
 
 -- the pages of its batch were left to load
 more_parts : (w : WalkSetup) (p q : WalkPass) (rest later : List WalkPass) (first : WalkPass) (before : List WalkPass) (x : ℕ) → IsLoading w p q rest
@@ -81,9 +83,11 @@ more_asked : (w : WalkSetup) (p q : WalkPass) (rest later : List WalkPass) (firs
     → to_load_after w (q ∷ rest) first.wants ≡ filter (λ x. not (is_in (batch_pages (planned_in later)) x)) (picture_pages w first before)
     → ((x : ℕ) → is_in (batch_pages (planned_in later)) x ≡ true → is_in (picture_pages w first before) x ≡ true)
     → (x : ℕ) → is_in (batch_pages (planned_in (p ∷ later))) x ≡ true → is_in (picture_pages w first before) x ≡ true
-more_asked w p q rest later first before l same left asked x there = pick (is_in (batch_pages p.batch) x) refl (sym (in_batches p.batch (planned_in later) x) ∙ there) where
+more_asked w p q rest later first before l same left asked x there = pick (is_in (batch_pages p.batch) x) refl
+    (sym (in_batches p.batch (planned_in later) x) ∙ there) where
   pick : (b : Bool) → is_in (batch_pages p.batch) x ≡ b → (b || is_in (batch_pages (planned_in later)) x) ≡ true → is_in (picture_pages w first before) x ≡ true
-  pick true e h = first_true (is_in (picture_pages w first before) x) (not (is_in (batch_pages (planned_in later)) x)) (more_parts w p q rest later first before x l same left e)
+  pick true e h = first_true (is_in (picture_pages w first before) x) (not (is_in (batch_pages (planned_in later)) x))
+      (more_parts w p q rest later first before x l same left e)
   pick false e h = asked x h
 
 more_once : (w : WalkSetup) (p q : WalkPass) (rest later : List WalkPass) (first : WalkPass) (before : List WalkPass) → IsLoading w p q rest
@@ -129,7 +133,8 @@ pub record IsEnd (w : WalkSetup) (later : List WalkPass) (first : WalkPass) (bef
 
 finish_of : (w : WalkSetup) (p : WalkPass) (passes : List WalkPass) → w.mode ≡ Settled → IsFinished w p passes
     → (p.batch ≡ []) × (plan_after w (p ∷ passes) ≡ [])
-finish_of w p passes mode is = let done : Finishes Settled p.batch (plan_after w (p ∷ passes)) = subst (λ (m : Mode). Finishes m p.batch (plan_after w (p ∷ passes))) mode is in done
+finish_of w p passes mode is = let done : Finishes Settled p.batch (plan_after w (p ∷ passes)) = subst
+    (λ (m : Mode). Finishes m p.batch (plan_after w (p ∷ passes))) mode is in done
 
 pub end_of : (w : WalkSetup) (later : List WalkPass) (first : WalkPass) (before : List WalkPass) → w.mode ≡ Settled
     → IsAtPictureEnd w (later ++ first ∷ before) → IsEnd w later first before
@@ -158,9 +163,11 @@ pub picture_passes : (later : List WalkPass) (first : WalkPass) (before : List W
     → passes_of first.picture before ≡ []
     → passes_of first.picture (later ++ first ∷ before) ≡ later ++ first ∷ []
 picture_passes [] first before same none =
-    ap (λ (b : Bool). cond b (first ∷ passes_of first.picture before) (passes_of first.picture before)) (self_number first.picture) ∙ ap (λ (l : List WalkPass). first ∷ l) none
+    ap (λ (b : Bool). cond b (first ∷ passes_of first.picture before) (passes_of first.picture before)) (self_number first.picture)
+        ∙ ap (λ (l : List WalkPass). first ∷ l) none
 picture_passes (p ∷ later) first before same none =
-    ap (λ (b : Bool). cond b (p ∷ passes_of first.picture (later ++ first ∷ before)) (passes_of first.picture (later ++ first ∷ before))) (same_true p.picture first.picture same.0)
+    ap (λ (b : Bool). cond b (p ∷ passes_of first.picture (later ++ first ∷ before)) (passes_of first.picture (later
+        ++ first ∷ before))) (same_true p.picture first.picture same.0)
     ∙ ap (λ (l : List WalkPass). p ∷ l) (picture_passes later first before same.1 none)
 
 run_from : (w : WalkSetup) (later : List WalkPass) (first : WalkPass) (before : List WalkPass) → IsRun w (later ++ first ∷ before) → IsRun w (first ∷ before)
@@ -172,7 +179,8 @@ begins_empty : (w : WalkSetup) (first : WalkPass) (before : List WalkPass) → w
 begins_empty w first [] mode run none = (first_turn w first run).1
 begins_empty w first (q ∷ before) mode run none = settled_turn w first q before mode run (λ same.
     let there : q ∷ passes_of first.picture before ≡ [] =
-    sym (ap (λ (b : Bool). cond b (q ∷ passes_of first.picture before) (passes_of first.picture before)) (same_true q.picture first.picture (sym same))) ∙ none in
+    sym (ap (λ (b : Bool). cond b (q ∷ passes_of first.picture before) (passes_of first.picture before))
+        (same_true q.picture first.picture (sym same))) ∙ none in
     let n : length (q ∷ passes_of first.picture before) ≡ 0 = ap (λ (l : List WalkPass). length l) there in
     absurd (omega (arith, n)))
 
@@ -191,7 +199,8 @@ planned_later w later first before f =
 
 pub loaded_of : (w : WalkSetup) (later : List WalkPass) (first : WalkPass) (before : List WalkPass) → IsFinishedPicture w later first before
     → HaveLoaded w later first before
-loaded_of w later first before f = have_loaded w later first before f.setup f.settled f.run f.later_passes (end_of w later first before f.settled f.end).none_lost
+loaded_of w later first before f = have_loaded w later first before f.setup f.settled f.run f.later_passes
+    (end_of w later first before f.settled f.end).none_lost
 
 -- each of its pages was planned
 pub all_asked : (w : WalkSetup) (later : List WalkPass) (first : WalkPass) (before : List WalkPass) (x : ℕ) → IsFinishedPicture w later first before

@@ -72,7 +72,8 @@ none_after w p (q ∷ run) k is_run before =
     ∙ none_after w q run k is_run.0 (let e = before_it w p q run is_run in omega (arith, e, before))
 
 -- the pages that a run's newest picture needs
-needs_frames : (w : WalkSetup) (p : WalkPass) (run : List WalkPass) (h : IsWalkSetup w) → IsRun w (p ∷ run) → NeedsFrames w p.picture (pages_needed (recency_after w (p ∷ run)) p.wants)
+needs_frames : (w : WalkSetup) (p : WalkPass) (run : List WalkPass) (h : IsWalkSetup w) → IsRun w (p ∷ run)
+    → NeedsFrames w p.picture (pages_needed (recency_after w (p ∷ run)) p.wants)
 needs_frames w p run h is_run =
     let kept = run_kept w (p ∷ run) h is_run in
     needs_of w (recency_after w (p ∷ run)) p.picture p.wants kept.shape kept.pinned is_run.1.wanted
@@ -93,7 +94,8 @@ line_of : (p : WalkPass) (run : List WalkPass) → passes_of p.picture (p ∷ ru
 line_of p run = ap (λ (b : Bool). if b then p ∷ passes_of p.picture run else passes_of p.picture run) (self_number p.picture)
 
 -- the line of a picture by what was counted
-line_is : (p : WalkPass) (run : List WalkPass) (picture wanted : ℕ) (t : Tally) → picture ≡ p.picture → wanted ≡ length p.wants → t ≡ tally_of (passes_of p.picture (p ∷ run))
+line_is : (p : WalkPass) (run : List WalkPass) (picture wanted : ℕ) (t : Tally) → picture ≡ p.picture → wanted ≡ length p.wants
+    → t ≡ tally_of (passes_of p.picture (p ∷ run))
     → numbers_line picture wanted t ≡ picture_line (p ∷ run) p.picture
 unfolding picture_line
 line_is p run picture wanted t same wants tally =
@@ -105,7 +107,8 @@ module _ (dealt : Bool) (needs : Scene → ℕ → ℕ → ℕ) (shows : Scene �
     (law : (scene : Scene) (b : List ℕ) (m : Table) (i x y : ℕ) → IsWithinLimits scene.shape → IsStore b scene.shape scene.depth
     → i < length scene.path.cameras → x < scene.path.width → y < scene.path.height → MapsNeeded scene.shape m (needs scene i)
     → shows scene b m i x y ≡ whole scene b i x y)
-    (scene : Scene) (settings : Settings) (mode : Mode) (told : Option (List ℕ)) (names : WalkNames) (number : ℕ) (p : Passed) (first : WalkState) (m : MachineState) (v : RecencyView) where
+    (scene : Scene) (settings : Settings) (mode : Mode) (told : Option (List ℕ)) (names : WalkNames) (number : ℕ) (p : Passed) (first : WalkState)
+        (m : MachineState) (v : RecencyView) where
   abbrev given : WalkGiven
   given = given_by dealt needs shows whole scene settings mode told names
 
@@ -114,9 +117,11 @@ module _ (dealt : Bool) (needs : Scene → ℕ → ℕ → ℕ) (shows : Scene �
   rows_count was s = s.has_run.ran.picture.count ∙ ap (λ (x : Setup). x.height) s.at_run.setup
 
   pub rows_full : (was : WalkState) → StandsAfter dealt needs shows drawn given number p first was m v → All (IsFull scene.depth scene.path.width) m.rows
-  rows_full was s = subst (λ (x : Setup). (k : ℕ) (d : List ℕ) → k < length m.rows → IsFull x.depth x.width (slice_index_or m.rows k d)) s.at_run.setup s.has_run.ran.picture.full
+  rows_full was s = subst (λ (x : Setup). (k : ℕ) (d : List ℕ) → k < length m.rows
+      → IsFull x.depth x.width (slice_index_or m.rows k d)) s.at_run.setup s.has_run.ran.picture.full
 
-  goes : (was : WalkState) (s : StandsAfter dealt needs shows drawn given number p first was m v) → (mode ≡ Settled → p.lost ≡ 0) → (mode ≡ Settled → p.outlook.needed ≤ room_of given.setup)
+  goes : (was : WalkState) (s : StandsAfter dealt needs shows drawn given number p first was m v) → (mode ≡ Settled → p.lost ≡ 0)
+      → (mode ≡ Settled → p.outlook.needed ≤ room_of given.setup)
       → GoesOn mode given.setup s.pass
   goes was s none fits =
       may_go mode given.setup s.pass p.outlook.needed (λ is. sym s.passed.lost ∙ none is) fits
@@ -199,7 +204,8 @@ module _ (dealt : Bool) (needs : Scene → ℕ → ℕ → ℕ) (shows : Scene �
       → (mode ≡ Settled → p.outlook.needed ≤ room_of given.setup) → IsEnd mode p.loads_nothing p.outlook.plan.elements
       → IsWritten drawn given (s.pass ∷ s.run) s.pass.picture bytes
   is_written was s none fits end =
-      picture_written dealt needs shows whole drawn law scene settings mode told names s.run s.pass m s.given s.at_run.is_run s.has_run s.at_run.journal (goes was s none fits)
+      picture_written dealt needs shows whole drawn law scene settings mode told names s.run s.pass m s.given s.at_run.is_run s.has_run
+          s.at_run.journal (goes was s none fits)
       ((end_of mode s.pass p.loads_nothing p.outlook.plan.elements (plan_after given.setup (s.pass ∷ s.run)) s.passed.loads_nothing s.passed.plan).0 end)
 
   module _ (store : List ℕ) (kept : FileState) (files files' : Option Files) (asked asked' : Option Asked) (faults faults' : ℕ) (held held' : Option (List ℕ))
@@ -219,7 +225,8 @@ module _ (dealt : Bool) (needs : Scene → ℕ → ℕ → ℕ) (shows : Scene �
         → StandsAt drawn given (number + 1) (record { picture = p.picture + 1; batch = p.outlook.plan; tally = t; reads = p.reads }) first now m v
     next_picture s none fits end written line same risen out_risen t empty =
         let picture : p.picture ≡ length s.pictures = s.passed.picture ∙ s.count in
-        let finish = (end_of mode s.pass p.loads_nothing p.outlook.plan.elements (plan_after given.setup (s.pass ∷ s.run)) s.passed.loads_nothing s.passed.plan).0 end in
+        let finish = (end_of mode s.pass p.loads_nothing p.outlook.plan.elements (plan_after given.setup (s.pass ∷ s.run)) s.passed.loads_nothing
+            s.passed.plan).0 end in
         record {
           run = s.pass ∷ s.run;
           pictures = bytes ∷ s.pictures;
@@ -229,14 +236,16 @@ module _ (dealt : Bool) (needs : Scene → ℕ → ℕ → ℕ) (shows : Scene �
               (subst (λ k. IsWritten drawn given (s.pass ∷ s.run) k bytes) s.count (is_written was s none fits end))
               (written ∙ ap (λ k. option_map (with_bytes (picture_name names.prefix k) bytes) files) picture)
               (line ∙ ap (λ (l : List ℕ). option_map (gained l) held)
-              (line_is s.pass s.run p.picture p.outlook.wanted p.tally s.passed.picture s.passed.wanted s.passed.tally ∙ ap (picture_line (s.pass ∷ s.run)) s.count))
+              (line_is s.pass s.run p.picture p.outlook.wanted p.tally s.passed.picture s.passed.wanted s.passed.tally
+                  ∙ ap (picture_line (s.pass ∷ s.run)) s.count))
               (ap (with_open store (kept ∷ m.files)) same) (omega (arith, risen)) out_risen;
           at_run = s.at_run;
           turn = record {
             inside = let i = s.passed.inside in let e = s.passed.picture in omega (arith, i, e);
             turn = (goes was s none fits, inl (finish, ap (λ k. k + 1) s.passed.picture));
             batch = s.passed.plan;
-            tally = empty ∙ ap tally_of (sym (none_after given.setup s.pass s.run (p.picture + 1) s.at_run.is_run (let e = s.passed.picture in omega (arith, e))));
+            tally = empty ∙ ap tally_of (sym (none_after given.setup s.pass s.run (p.picture + 1) s.at_run.is_run
+                (let e = s.passed.picture in omega (arith, e))));
             reads = s.passed.reads;
             number_is = let n = s.number_is in omega (arith, n);
           };
@@ -247,21 +256,24 @@ module _ (dealt : Bool) (needs : Scene → ℕ → ℕ → ℕ) (shows : Scene �
     fails : (s : StandsAfter dealt needs shows drawn given number p first was m v) → asked' ≡ asked → Rose faults faults' → HasFailed given first now
     fails s same rose =
         has_failed given (planned_in (s.pass ∷ s.run)) (lost_in (s.pass ∷ s.run)) first now s.given
-        (subst (λ (a : Option Asked). OnTold (AreAskedFor scene.shape scene.depth given.setup.pinned (planned_in (s.pass ∷ s.run)) (lost_in (s.pass ∷ s.run))) first.asked (with_open store (kept ∷ m.files) a))
+        (subst (λ (a : Option Asked). OnTold (AreAskedFor scene.shape scene.depth given.setup.pinned (planned_in (s.pass ∷ s.run))
+            (lost_in (s.pass ∷ s.run))) first.asked (with_open store (kept ∷ m.files) a))
         (sym same) s.stands.asked) (let f = s.stands.faults in omega (arith, f, rose))
 
     asks_nothing : asked' ≡ asked → faults ≤ faults' → out_faults ≤ out_faults' → AsksNothing was now
     asks_nothing same risen out_risen = record { asked = ap (with_open store (kept ∷ m.files)) same; faults = omega (arith, risen); out_faults = out_risen }
 
     -- of the picture a front part stands
-    pub picture_broke : (error : OutsideError) (e : WalkError) (s : StandsAfter dealt needs shows drawn given number p first was m v) → (mode ≡ Settled → p.lost ≡ 0)
+    pub picture_broke : (error : OutsideError) (e : WalkError) (s : StandsAfter dealt needs shows drawn given number p first was m v)
+        → (mode ≡ Settled → p.lost ≡ 0)
         → (mode ≡ Settled → p.outlook.needed ≤ room_of given.setup) → IsEnd mode p.loads_nothing p.outlook.plan.elements
         → (files' ≡ files) ⊎ ((k : ℕ) × (files' ≡ option_map (with_bytes (picture_name names.prefix p.picture) (take k bytes)) files))
         → held' ≡ held → asked' ≡ asked → faults ≤ faults' → out_faults ≤ out_faults' → (error ≡ Failed → Rose faults faults') → e ≡ refusal_by error
         → LeftBy drawn given first now e
     picture_broke error e s none fits end part line same risen out_risen failed is =
         let picture : p.picture ≡ length s.pictures = s.passed.picture ∙ s.count in
-        let finish = (end_of mode s.pass p.loads_nothing p.outlook.plan.elements (plan_after given.setup (s.pass ∷ s.run)) s.passed.loads_nothing s.passed.plan).0 end in (
+        let finish = (end_of mode s.pass p.loads_nothing p.outlook.plan.elements (plan_after given.setup (s.pass ∷ s.run)) s.passed.loads_nothing
+            s.passed.plan).0 end in (
           inr (record {
             run = s.pass ∷ s.run;
             pictures = s.pictures;
@@ -271,7 +283,8 @@ module _ (dealt : Bool) (needs : Scene → ℕ → ℕ → ℕ) (shows : Scene �
               finished = (finish, s.count);
               bytes = bytes;
               written = subst (λ k. IsWritten drawn given (s.pass ∷ s.run) k bytes) s.count (is_written was s none fits end);
-              files = subst (λ n. (files' ≡ files) ⊎ ((k : ℕ) × (files' ≡ option_map (with_bytes (picture_name names.prefix n) (take k bytes)) files))) picture part;
+              files = subst (λ n. (files' ≡ files) ⊎ ((k : ℕ)
+                  × (files' ≡ option_map (with_bytes (picture_name names.prefix n) (take k bytes)) files))) picture part;
               held = line;
               none = asks_nothing same risen out_risen;
             }))));
@@ -283,7 +296,8 @@ module _ (dealt : Bool) (needs : Scene → ℕ → ℕ → ℕ) (shows : Scene �
           cause Failed failed = fails s same (failed refl)
 
     -- of the line a front part stands
-    pub line_broke : (error : OutsideError) (e : WalkError) (s : StandsAfter dealt needs shows drawn given number p first was m v) → (mode ≡ Settled → p.lost ≡ 0)
+    pub line_broke : (error : OutsideError) (e : WalkError) (s : StandsAfter dealt needs shows drawn given number p first was m v)
+        → (mode ≡ Settled → p.lost ≡ 0)
         → (mode ≡ Settled → p.outlook.needed ≤ room_of given.setup) → IsEnd mode p.loads_nothing p.outlook.plan.elements
         → files' ≡ option_map (with_bytes (picture_name names.prefix p.picture) bytes) files
         → (k : ℕ) × (held' ≡ option_map (gained (take k (numbers_line p.picture p.outlook.wanted p.tally))) held)
@@ -291,7 +305,8 @@ module _ (dealt : Bool) (needs : Scene → ℕ → ℕ → ℕ) (shows : Scene �
         → LeftBy drawn given first now e
     line_broke error e s none fits end written part same risen out_risen failed is =
         let picture : p.picture ≡ length s.pictures = s.passed.picture ∙ s.count in
-        let finish = (end_of mode s.pass p.loads_nothing p.outlook.plan.elements (plan_after given.setup (s.pass ∷ s.run)) s.passed.loads_nothing s.passed.plan).0 end in (
+        let finish = (end_of mode s.pass p.loads_nothing p.outlook.plan.elements (plan_after given.setup (s.pass ∷ s.run)) s.passed.loads_nothing
+            s.passed.plan).0 end in (
           inr (record {
             run = s.pass ∷ s.run;
             pictures = s.pictures;
@@ -304,7 +319,8 @@ module _ (dealt : Bool) (needs : Scene → ℕ → ℕ → ℕ) (shows : Scene �
               files = written ∙ ap (λ k. option_map (with_bytes (picture_name names.prefix k) bytes) files) picture;
               count = part.0;
               held = part.1 ∙ ap (λ (l : List ℕ). option_map (gained (take part.0 l)) held)
-                  (line_is s.pass s.run p.picture p.outlook.wanted p.tally s.passed.picture s.passed.wanted s.passed.tally ∙ ap (picture_line (s.pass ∷ s.run)) s.count);
+                  (line_is s.pass s.run p.picture p.outlook.wanted p.tally s.passed.picture s.passed.wanted s.passed.tally
+                      ∙ ap (picture_line (s.pass ∷ s.run)) s.count);
               none = asks_nothing same risen out_risen;
             })))));
           }),

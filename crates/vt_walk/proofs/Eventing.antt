@@ -28,14 +28,17 @@ use Rattle.vt_pass.proofs.Streaming.{entry_stays}
 abbrev pub HasUnpinnedVictim : Shape → ℕ → Planned → Type 0
 HasUnpinnedVictim s pinned e = MatchOption e.victim (Unit {0}) (λ v. v + pinned < pages_of s)
 
-events_append : (s : Shape) (pinned : ℕ) (js : List Change) (es fs : List Event) → AreEventsAfter s pinned js es → AreEventsAfter s pinned (js ++ changes_of es) fs
+events_append : (s : Shape) (pinned : ℕ) (js : List Change) (es fs : List Event) → AreEventsAfter s pinned js es
+    → AreEventsAfter s pinned (js ++ changes_of es) fs
     → AreEventsAfter s pinned js (es ++ fs)
 events_append s pinned js [] fs one more = subst (λ (ks : List Change). AreEventsAfter s pinned ks fs) (append-nil js) more
 events_append s pinned js (Changed c ∷ es) fs one more =
-    (one.0, one.1, events_append s pinned (js ++ c ∷ []) es fs one.2 (subst (λ (ks : List Change). AreEventsAfter s pinned ks fs) (sym (append_assoc js (c ∷ []) (changes_of es))) more))
+    (one.0, one.1, events_append s pinned (js ++ c ∷ []) es fs one.2
+        (subst (λ (ks : List Change). AreEventsAfter s pinned ks fs) (sym (append_assoc js (c ∷ []) (changes_of es))) more))
 events_append s pinned js (Lost p ∷ es) fs one more = (one.0, one.1, events_append s pinned js es fs one.2 more)
 
-pub events_in_turn : (s : Shape) (pinned : ℕ) (js : List Change) (es : List Event) → AreInTurn js → AreEventsAfter s pinned js es → AreInTurn (js ++ changes_of es)
+pub events_in_turn : (s : Shape) (pinned : ℕ) (js : List Change) (es : List Event) → AreInTurn js → AreEventsAfter s pinned js es
+    → AreInTurn (js ++ changes_of es)
 events_in_turn s pinned js [] turn all = subst AreInTurn (sym (append-nil js)) turn
 events_in_turn s pinned js (Changed c ∷ es) turn all =
     subst AreInTurn (append_assoc js (c ∷ []) (changes_of es)) (events_in_turn s pinned (js ++ c ∷ []) es (in_turn-more js c turn all.1) all.2)
@@ -53,11 +56,13 @@ then_free : (m : Table) (v frame : ℕ) → IsOneToOne m → m v ≡ Some frame 
 then_free m v frame one held q is = let was = mapped_after_unmap m v frame q frame is in was.0 (one q v frame was.1 held)
 
 -- the group of an entry may come next
-group_follows : (s : Shape) (frames pinned : ℕ) (js : List Change) (e : Planned) (lost : Bool) → frames ≤ 65535 → AreInTurn js → IsEntryFor s frames (newest js) e
+group_follows : (s : Shape) (frames pinned : ℕ) (js : List Change) (e : Planned) (lost : Bool) → frames ≤ 65535 → AreInTurn js
+    → IsEntryFor s frames (newest js) e
     → HasUnpinnedVictim s pinned e → AreEventsAfter s pinned js (group_of e lost)
 group_follows s frames pinned js e true few turn h unpinned = (h.page_inside, h.unmapped, tt)
 group_follows s frames pinned js e false few turn h unpinned = by_victim e.victim h.place unpinned where
-  by_victim : (o : Option ℕ) → MatchOption o (IsFree (newest js) e.frame) (IsVictimOf s (newest js) e.frame) → MatchOption o (Unit {0}) (λ v. v + pinned < pages_of s)
+  by_victim : (o : Option ℕ) → MatchOption o (IsFree (newest js) e.frame) (IsVictimOf s (newest js) e.frame)
+      → MatchOption o (Unit {0}) (λ v. v + pinned < pages_of s)
       → AreEventsAfter s pinned js (victim_events o e.frame ++ Changed (Map e.page e.frame) ∷ [])
   by_victim None free u = ((h.page_inside, omega (arith, few, h.frame_inside)), (h.unmapped, free), tt)
   by_victim (Some v) is u =
@@ -79,12 +84,15 @@ record IsTicket (s : Shape) (frames pinned : ℕ) (m : Table) (batch : List Plan
 abbrev AreApart : Planned → Planned → Type 0
 AreApart e f = (e.page ≢ f.page) × (e.frame ≢ f.frame)
 
-later_apart : (batch : List Planned) (j k : ℕ) (e f : Planned) → AllPairs AreApart batch → slice_get batch j ≡ Some e → slice_get batch k ≡ Some f → j < k → AreApart e f
+later_apart : (batch : List Planned) (j k : ℕ) (e f : Planned) → AllPairs AreApart batch → slice_get batch j ≡ Some e → slice_get batch k ≡ Some f
+    → j < k → AreApart e f
 later_apart batch j k e f apart at_j at_k before =
     subst (λ (x : Planned). AreApart x f) (get_or_from_slice_get batch j e e at_j)
-    (subst (λ (y : Planned). AreApart (slice_index_or batch j e) y) (get_or_from_slice_get batch k f e at_k) (apart j k e before (slice_get_within batch k f at_k)))
+    (subst (λ (y : Planned). AreApart (slice_index_or batch j e) y) (get_or_from_slice_get batch k f e at_k)
+        (apart j k e before (slice_get_within batch k f at_k)))
 
-tickets_apart : (batch : List Planned) (j k : ℕ) (e f : Planned) → AllPairs AreApart batch → slice_get batch j ≡ Some e → slice_get batch k ≡ Some f → nat_eq j k ≡ false → AreApart e f
+tickets_apart : (batch : List Planned) (j k : ℕ) (e f : Planned) → AllPairs AreApart batch → slice_get batch j ≡ Some e → slice_get batch k ≡ Some f
+    → nat_eq j k ≡ false → AreApart e f
 tickets_apart batch j k e f apart at_j at_k other = pick (cases_lt j k) (cases_lt k j) where
   pick : (j < k) ⊎ (k ≤ j) → (k < j) ⊎ (j ≤ k) → AreApart e f
   pick (inl before) o = later_apart batch j k e f apart at_j at_k before
@@ -92,8 +100,10 @@ tickets_apart batch j k e f apart at_j at_k other = pick (cases_lt j k) (cases_l
   pick (inr least) (inr most) = absurd (let same : j ≡ k = omega arith in false≢true (sym other ∙ ap (nat_eq j) (sym same) ∙ self_eq j))
 
 -- the tickets that are left stay lawful
-tickets_stay : (s : Shape) (frames pinned : ℕ) (js : List Change) (batch : List Planned) (j : ℕ) (e : Planned) (lost : Bool) (rest : List ℕ) → AllPairs AreApart batch
-    → slice_get batch j ≡ Some e → IsEntryFor s frames (newest js) e → AllByRecursion (λ k. nat_eq j k ≡ false) rest → AllByRecursion (IsTicket s frames pinned (newest js) batch) rest
+tickets_stay : (s : Shape) (frames pinned : ℕ) (js : List Change) (batch : List Planned) (j : ℕ) (e : Planned) (lost : Bool) (rest : List ℕ)
+    → AllPairs AreApart batch
+    → slice_get batch j ≡ Some e → IsEntryFor s frames (newest js) e → AllByRecursion (λ k. nat_eq j k ≡ false) rest
+    → AllByRecursion (IsTicket s frames pinned (newest js) batch) rest
     → AllByRecursion (IsTicket s frames pinned (newest (js ++ changes_of (group_of e lost))) batch) rest
 tickets_stay s frames pinned js batch j e lost [] apart at h others all = tt
 tickets_stay s frames pinned js batch j e lost (k ∷ rest) apart at h others all = (
@@ -114,9 +124,11 @@ tickets_follow s frames pinned js batch losses [] few turn apart once all = tt
 tickets_follow s frames pinned js batch losses (j ∷ order) few turn apart once all =
     let e = all.0.entry in
     let lost = slice_index_or losses j true in
-    let group : group_at batch losses j ≡ group_of all.0.entry (slice_index_or losses j true) = ap (λ (o : Option Planned). group_if o (slice_index_or losses j true)) all.0.there in
+    let group : group_at batch losses j ≡ group_of all.0.entry (slice_index_or losses j true) = ap
+        (λ (o : Option Planned). group_if o (slice_index_or losses j true)) all.0.there in
     let here = group_follows s frames pinned js e lost few turn all.0.lawful all.0.unpinned in
-    let rest = tickets_follow s frames pinned (js ++ changes_of (group_of e lost)) batch losses order few (events_in_turn s pinned js (group_of e lost) turn here) apart once.1
+    let rest = tickets_follow s frames pinned (js ++ changes_of (group_of e lost)) batch losses order few
+        (events_in_turn s pinned js (group_of e lost) turn here) apart once.1
     (tickets_stay s frames pinned js batch j e lost order apart all.0.there all.0.lawful once.0 all.1) in
     subst (λ (es : List Event). AreEventsAfter s pinned js (es ++ pass_events batch losses order)) (sym group)
     (events_append s pinned js (group_of e lost) (pass_events batch losses order) here rest)
@@ -125,7 +137,8 @@ all_below : (a n m : ℕ) → a + n ≤ m → AllByRecursion (λ k. k < m) (rang
 all_below a zero m h = tt
 all_below a (suc n) m h = (omega (arith, h), all_below (a + 1) n m (omega (arith, h)))
 
-each_ticket : (s : Shape) (frames pinned : ℕ) (m : Table) (batch : List Planned) (order : List ℕ) → IsBatchFor s frames m batch → All (HasUnpinnedVictim s pinned) batch
+each_ticket : (s : Shape) (frames pinned : ℕ) (m : Table) (batch : List Planned) (order : List ℕ) → IsBatchFor s frames m batch
+    → All (HasUnpinnedVictim s pinned) batch
     → AllByRecursion (λ k. k < length batch) order → AllByRecursion (IsTicket s frames pinned m batch) order
 each_ticket s frames pinned m batch [] lawful unpinned all = tt
 each_ticket s frames pinned m batch (k ∷ order) lawful unpinned all = (
@@ -139,11 +152,14 @@ each_ticket s frames pinned m batch (k ∷ order) lawful unpinned all = (
 )
 
 -- the events of an outcome may come after the journal
-pub outcome_follows : (s : Shape) (frames pinned : ℕ) (js : List Change) (batch : List Planned) (losses : List Bool) (events : List Event) → frames ≤ 65535 → AreInTurn js
+pub outcome_follows : (s : Shape) (frames pinned : ℕ) (js : List Change) (batch : List Planned) (losses : List Bool) (events : List Event)
+    → frames ≤ 65535 → AreInTurn js
     → IsBatchFor s frames (newest js) batch → All (HasUnpinnedVictim s pinned) batch → IsOutcome batch losses events → AreEventsAfter s pinned js events
 outcome_follows s frames pinned js batch losses events few turn lawful unpinned outcome =
     let once = IsDistinct-IsPermutation nat_eq nat_eq_swap (range_with_len 0 (length batch)) outcome.order outcome.each_once (range_once 0 (length batch)) in
-    let below = recursion_from_All (λ k. k < length batch) outcome.order (All-permutation (λ k. k < length batch) (range_with_len 0 (length batch)) outcome.order outcome.each_once
+    let below = recursion_from_All (λ k. k < length batch) outcome.order
+        (All-permutation (λ k. k < length batch) (range_with_len 0 (length batch)) outcome.order outcome.each_once
     (All-from_recursion (λ k. k < length batch) (range_with_len 0 (length batch)) (all_below 0 (length batch) (length batch) (omega arith)))) in
     subst (AreEventsAfter s pinned js) (sym outcome.groups)
-    (tickets_follow s frames pinned js batch losses outcome.order few turn lawful.apart once (each_ticket s frames pinned (newest js) batch outcome.order lawful unpinned below))
+    (tickets_follow s frames pinned js batch losses outcome.order few turn lawful.apart once
+        (each_ticket s frames pinned (newest js) batch outcome.order lawful unpinned below))

@@ -32,7 +32,8 @@ one_way lx ly px py ix iy h k = grind (arith, nat_tests)
 -- there is one wanted list
 pub wants_one : (s : Shape) (pixels : ℕ → ℕ) (a b : List Wanted) → IsWants s pixels a → IsWants s pixels b → a ≡ b
 wants_one s pixels a b ha hb =
-    ordered_are_one (λ x y. is_before s x y ≡ true) (λ x y. one_way (level_of s x.page) (level_of s y.page) x.pixels y.pixels x.page y.page) a b ha.ordered hb.ordered
+    ordered_are_one (λ x y. is_before s x y ≡ true) (λ x y. one_way (level_of s x.page) (level_of s y.page) x.pixels y.pixels x.page y.page) a b
+        ha.ordered hb.ordered
     (λ w there. (hb.exact w).1 ((ha.exact w).0 there)) (λ w there. (ha.exact w).1 ((hb.exact w).0 there))
 
 in_none : {P : Type 0} (xs : List ℕ) (x : ℕ) → xs ≡ [] → is_in xs x ≡ true → P
@@ -53,7 +54,8 @@ both false c e f = e
 in_map : (g : ℕ → ℕ) (zs : List ℕ) (p : ℕ) → is_in zs p ≡ true → is_in (map g zs) (g p) ≡ true
 in_map g [] p there = there
 in_map g (z ∷ zs) p there = pick (nat_eq p z) refl there (in_map g zs p) where
-  pick : (b : Bool) → nat_eq p z ≡ b → (b || is_in zs p) ≡ true → (is_in zs p ≡ true → is_in (map g zs) (g p) ≡ true) → (nat_eq (g p) (g z) || is_in (map g zs) (g p)) ≡ true
+  pick : (b : Bool) → nat_eq p z ≡ b → (b || is_in zs p) ≡ true → (is_in zs p ≡ true → is_in (map g zs) (g p) ≡ true)
+      → (nat_eq (g p) (g z) || is_in (map g zs) (g p)) ≡ true
   pick true same rest more = or_false (nat_eq (g p) (g z)) (is_in (map g zs) (g p)) (ap (nat_eq (g p)) (ap g (sym (nat_eq_true p z same))) ∙ self_eq (g p))
   pick false other rest more = or_true (nat_eq (g p) (g z)) (is_in (map g zs) (g p)) (more rest)
 
@@ -77,7 +79,8 @@ unfolding free_frames
 all_held v table none =
     let pins : List ℕ = range_with_len (pages_of v.shape - v.pinned) v.pinned in
     let few = length-le_from_is_member nat_eq_equiv (range_with_len 0 v.frames) (map (frame_of v.entries) (pins ++ v.order)) (range_once 0 v.frames) held in
-    omega (arith, few, length-range_with_len 0 v.frames, length-map (pins ++ v.order) (frame_of v.entries), length-append pins v.order, length-range_with_len (pages_of v.shape - v.pinned) v.pinned) where
+    omega (arith, few, length-range_with_len 0 v.frames, length-map (pins
+        ++ v.order) (frame_of v.entries), length-append pins v.order, length-range_with_len (pages_of v.shape - v.pinned) v.pinned) where
       page_in : (p f : ℕ) → slice_index v.entries p ≡ f + 1 → is_in (range_with_len (pages_of v.shape - v.pinned) v.pinned ++ v.order) p ≡ true
       page_in p f at = is_in-append (range_with_len (pages_of v.shape - v.pinned) v.pinned) v.order p ∙ pick (is_pinned v p) refl where
         inside : p < pages_of v.shape
@@ -92,10 +95,13 @@ all_held v table none =
         pick false loose = or_true (is_in (range_with_len (pages_of v.shape - v.pinned) v.pinned) p) (is_in v.order p)
             (table.in_order p ∙ both (is_mapped v.entries p) (not (is_pinned v p)) (lt_true (slice_index v.entries p) (omega (arith, at))) (ap not loose))
 
-      held : (f : ℕ) → is_in (range_with_len 0 v.frames) f ≡ true → is_in (map (frame_of v.entries) (range_with_len (pages_of v.shape - v.pinned) v.pinned ++ v.order)) f ≡ true
+      held : (f : ℕ) → is_in (range_with_len 0 v.frames) f ≡ true
+          → is_in (map (frame_of v.entries) (range_with_len (pages_of v.shape - v.pinned) v.pinned ++ v.order)) f ≡ true
       held f there = pick (is_held v.entries f) refl where
-        pick : (b : Bool) → is_held v.entries f ≡ b → is_in (map (frame_of v.entries) (range_with_len (pages_of v.shape - v.pinned) v.pinned ++ v.order)) f ≡ true
-        pick false free = in_none _ f none (is_in-filter (λ g. not (is_held v.entries g)) (range_with_len 0 v.frames) f ∙ both (is_in (range_with_len 0 v.frames) f) (not (is_held v.entries f)) there (ap not free))
+        pick : (b : Bool) → is_held v.entries f ≡ b → is_in (map (frame_of v.entries) (range_with_len (pages_of v.shape - v.pinned) v.pinned
+            ++ v.order)) f ≡ true
+        pick false free = in_none _ f none (is_in-filter (λ g. not (is_held v.entries g)) (range_with_len 0 v.frames) f
+            ∙ both (is_in (range_with_len 0 v.frames) f) (not (is_held v.entries f)) there (ap not free))
         pick true taken =
             let p = held_by v.entries f taken in
             let same : frame_of v.entries p.0 ≡ f = omega (arith, p.1) in
@@ -115,7 +121,8 @@ one_more v wants q table none inside wanted missing =
       unpinned true pinned = absurd (false≢true (sym missing ∙ table.pinned_mapped q inside pinned))
       unpinned false loose = loose
 
-      needed : (x : ℕ) → is_in (line_pages v.shape (pages_wanted wants)) x ≡ true → is_pinned v x ≡ false → is_in (filter (λ p. not (is_pinned v p)) (line_pages v.shape (pages_wanted wants))) x ≡ true
+      needed : (x : ℕ) → is_in (line_pages v.shape (pages_wanted wants)) x ≡ true → is_pinned v x ≡ false
+          → is_in (filter (λ p. not (is_pinned v p)) (line_pages v.shape (pages_wanted wants))) x ≡ true
       needed x there loose = is_in-filter (λ p. not (is_pinned v p)) (line_pages v.shape (pages_wanted wants)) x ∙ both _ _ there (ap not loose)
 
       not_pinned : (a b : Bool) → (a && not b) ≡ true → b ≡ false
@@ -123,23 +130,28 @@ one_more v wants q table none inside wanted missing =
       not_pinned true false e = refl
       not_pinned false b e = absurd (false≢true e)
 
-      in_line : (x : ℕ) → is_in v.order x ≡ true → (b : Bool) → is_in (line_pages v.shape (pages_wanted wants)) x ≡ b → is_in (line_pages v.shape (pages_wanted wants)) x ≡ true
+      in_line : (x : ℕ) → is_in v.order x ≡ true → (b : Bool) → is_in (line_pages v.shape (pages_wanted wants)) x ≡ b
+          → is_in (line_pages v.shape (pages_wanted wants)) x ≡ true
       in_line x there true is = is
       in_line x there false is = in_none _ x none (is_in-filter (λ p. not (is_in (line_pages v.shape (pages_wanted wants)) p)) (reverse v.order) x
           ∙ both _ _ (is_in-reverse v.order x ∙ there) (ap not is))
 
       covered : (x : ℕ) → is_in (q ∷ v.order) x ≡ true → is_in (filter (λ p. not (is_pinned v p)) (line_pages v.shape (pages_wanted wants))) x ≡ true
       covered x there = pick (nat_eq x q) refl there where
-        pick : (b : Bool) → nat_eq x q ≡ b → (b || is_in v.order x) ≡ true → is_in (filter (λ p. not (is_pinned v p)) (line_pages v.shape (pages_wanted wants))) x ≡ true
-        pick true same rest = subst (λ y. is_in (filter (λ p. not (is_pinned v p)) (line_pages v.shape (pages_wanted wants))) y ≡ true) (sym (nat_eq_true x q same)) (needed q wanted (unpinned (is_pinned v q) refl))
+        pick : (b : Bool) → nat_eq x q ≡ b → (b || is_in v.order x) ≡ true
+            → is_in (filter (λ p. not (is_pinned v p)) (line_pages v.shape (pages_wanted wants))) x ≡ true
+        pick true same rest = subst (λ y. is_in (filter (λ p. not (is_pinned v p)) (line_pages v.shape (pages_wanted wants))) y ≡ true)
+            (sym (nat_eq_true x q same)) (needed q wanted (unpinned (is_pinned v q) refl))
         pick false other rest = needed x (in_line x rest _ refl) (not_pinned (is_mapped v.entries x) (is_pinned v x) (sym (table.in_order x) ∙ rest))
 
 -- nothing is planned where nothing is missing, or where no frame is free and no page may be given up
-planned_none : (v : RecencyView) (wants : List Wanted) (q : ℕ) → 1 ≤ q → plan_of v wants q ≡ [] → (missing_pages v wants ≡ []) ⊎ ((free_frames v ≡ []) × (candidates v wants ≡ []))
+planned_none : (v : RecencyView) (wants : List Wanted) (q : ℕ) → 1 ≤ q → plan_of v wants q ≡ []
+    → (missing_pages v wants ≡ []) ⊎ ((free_frames v ≡ []) × (candidates v wants ≡ []))
 unfolding plan_of
 planned_none v wants q some none = pick (missing_pages v wants) (free_frames v) (candidates v wants) count where
   count : planned_count q (missing_pages v wants) (free_frames v) (candidates v wants) ≡ 0
-  count = sym (length-map-range_with_len (planned_at v.entries (missing_pages v wants) (free_frames v) (candidates v wants)) 0 (planned_count q (missing_pages v wants) (free_frames v) (candidates v wants)))
+  count = sym (length-map-range_with_len (planned_at v.entries (missing_pages v wants) (free_frames v) (candidates v wants)) 0
+      (planned_count q (missing_pages v wants) (free_frames v) (candidates v wants)))
       ∙ ap (λ (l : List Planned). length l) none
 
   pick : (a b c : List ℕ) → planned_count q a b c ≡ 0 → (a ≡ []) ⊎ ((b ≡ []) × (c ≡ []))
@@ -168,7 +180,8 @@ mapped_if_none v wants q p table some none fits inside wanted = pick (is_mapped 
     test true same rest more = or_false _ _ (ap (λ k. is_in (line_of v.shape k) p) (sym (nat_eq_true p r same)) ∙ own)
     test false other rest more = or_true _ _ (more rest)
 
-  pick : (b : Bool) → is_mapped v.entries p ≡ b → (each_once (map (step_of v.shape (is_mapped v.entries)) (filter (λ p. not (is_mapped v.entries p)) (pages_wanted wants))) ≡ [])
+  pick : (b : Bool) → is_mapped v.entries p ≡ b → (each_once (map (step_of v.shape (is_mapped v.entries))
+      (filter (λ p. not (is_mapped v.entries p)) (pages_wanted wants))) ≡ [])
       ⊎ ((free_frames v ≡ []) × (candidates v wants ≡ [])) → is_mapped v.entries p ≡ true
   pick true is why = is
   pick false is (inl nothing) = in_none _ p (none_before (step_of v.shape (is_mapped v.entries)) _ nothing)

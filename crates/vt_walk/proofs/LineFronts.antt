@@ -66,7 +66,8 @@ front_in m (y ∷ l) x there = pick (m y) refl (front_in m l x) where
 
   pick : (b : Bool) → m y ≡ b → (is_in (front m l) x ≡ true → IsInFront m l x) → IsInFront m (y ∷ l) x
   pick true e rest = absurd (false≢true (sym (ap (λ (k : List ℕ). is_in k x) (front_mapped m y l e)) ∙ there))
-  pick false e rest = at rest e (nat_eq x y) refl (head_or x y (front m l) (ap (λ (k : List ℕ). is_in k x) (sym (front_more m y l e)) ∙ there) (nat_eq x y) refl)
+  pick false e rest = at rest e (nat_eq x y) refl (head_or x y (front m l) (ap (λ (k : List ℕ). is_in k x) (sym (front_more m y l e))
+      ∙ there) (nat_eq x y) refl)
 
 -- the page after this one in a list is mapped
 abbrev IsNextMapped : (ℕ → Bool) → List ℕ → Type 0
@@ -183,15 +184,18 @@ each_once-filter t (x ∷ xs) = pick (t x) refl (each_once-filter t xs) where
     at false other = refl
 
   pick : (b : Bool) → t x ≡ b → each_once (filter t xs) ≡ filter t (each_once xs)
-      → each_once (cond (t x) (x ∷ filter t xs) (filter t xs)) ≡ cond (t x) (x ∷ filter t (filter (λ y. not (nat_eq x y)) (each_once xs))) (filter t (filter (λ y. not (nat_eq x y)) (each_once xs)))
+      → each_once (cond (t x) (x ∷ filter t xs) (filter t xs)) ≡ cond (t x) (x ∷ filter t (filter (λ y. not (nat_eq x y)) (each_once xs)))
+      (filter t (filter (λ y. not (nat_eq x y)) (each_once xs)))
   pick true e rest = ap (λ (b : Bool). each_once (cond b (x ∷ filter t xs) (filter t xs))) e
       ∙ ap (λ (k : List ℕ). x ∷ k) (ap (filter (λ y. not (nat_eq x y))) rest ∙ swap)
-      ∙ sym (ap (λ (b : Bool). cond b (x ∷ filter t (filter (λ y. not (nat_eq x y)) (each_once xs))) (filter t (filter (λ y. not (nat_eq x y)) (each_once xs)))) e)
+      ∙ sym (ap (λ (b : Bool). cond b (x ∷ filter t (filter (λ y. not (nat_eq x y)) (each_once xs)))
+      (filter t (filter (λ y. not (nat_eq x y)) (each_once xs)))) e)
   pick false e rest = ap (λ (b : Bool). each_once (cond b (x ∷ filter t xs) (filter t xs))) e
       ∙ rest
       ∙ filter_same t (λ y. not (nat_eq x y) && t y) (each_once xs) (skip e)
       ∙ sym (filter_twice t (λ y. not (nat_eq x y)) (each_once xs))
-      ∙ sym (ap (λ (b : Bool). cond b (x ∷ filter t (filter (λ y. not (nat_eq x y)) (each_once xs))) (filter t (filter (λ y. not (nat_eq x y)) (each_once xs)))) e)
+      ∙ sym (ap (λ (b : Bool). cond b (x ∷ filter t (filter (λ y. not (nat_eq x y)) (each_once xs)))
+      (filter t (filter (λ y. not (nat_eq x y)) (each_once xs)))) e)
 
 pub flat_map-filter : (t : ℕ → Bool) (f g : ℕ → List ℕ) (ps : List ℕ) → ((p : ℕ) → is_in ps p ≡ true → g p ≡ filter t (f p))
     → flat_map g ps ≡ filter t (flat_map f ps)

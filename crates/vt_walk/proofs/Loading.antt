@@ -32,9 +32,11 @@ pub record IsFitting (w : WalkSetup) (p : WalkPass) (passes : List WalkPass) : T
 pub fitting : (w : WalkSetup) (p : WalkPass) (passes : List WalkPass) → IsWalkSetup w → IsRun w (p ∷ passes) → Fits w p.picture → IsFitting w p passes
 fitting w p passes h run fit =
     let kept = run_kept w (p ∷ passes) h run in
-    let inside : ArePages (recency_after w (p ∷ passes)) p.wants = are_pages (recency_after w (p ∷ passes)) p.wants (wants_inside (recency_after w (p ∷ passes)).shape w.shape (w.needs p.picture) p.wants kept.shape run.1.wanted) in
+    let inside : ArePages (recency_after w (p ∷ passes)) p.wants = are_pages (recency_after w (p ∷ passes)) p.wants
+        (wants_inside (recency_after w (p ∷ passes)).shape w.shape (w.needs p.picture) p.wants kept.shape run.1.wanted) in
     let count : pages_needed (recency_after w (p ∷ passes)) p.wants ≡ fit.needed =
-    needs_one w p.picture (pages_needed (recency_after w (p ∷ passes)) p.wants) fit.needed (needs_of w (recency_after w (p ∷ passes)) p.picture p.wants kept.shape kept.pinned run.1.wanted) fit.pages in
+    needs_one w p.picture (pages_needed (recency_after w (p ∷ passes)) p.wants) fit.needed
+        (needs_of w (recency_after w (p ∷ passes)) p.picture p.wants kept.shape kept.pinned run.1.wanted) fit.pages in
     let fits : pages_needed (recency_after w (p ∷ passes)) p.wants ≤ (recency_after w (p ∷ passes)).frames - (recency_after w (p ∷ passes)).pinned =
     omega (arith, count, fit.room, kept.frames, kept.pinned) in
     record {
@@ -68,12 +70,14 @@ pub record IsLoading (w : WalkSetup) (p q : WalkPass) (rest : List WalkPass) : T
 pub read_all : (batch : List Planned) (losses : List Bool) → length losses ≡ length batch → lost_count losses ≡ 0 → read_entries batch losses ≡ batch
 read_all [] losses told none = refl
 read_all (e ∷ batch) [] told none = absurd (omega (arith, told))
-read_all (e ∷ batch) (true ∷ losses) told none = absurd (let some : suc (length (filter (λ (lost : Bool). lost) losses)) ≡ 0 = length-filter (λ (lost : Bool). lost) (true ∷ losses) ∙ none in omega (arith, some))
+read_all (e ∷ batch) (true ∷ losses) told none = absurd (let some : suc (length (filter (λ (lost : Bool). lost) losses)) ≡ 0 = length-filter
+    (λ (lost : Bool). lost) (true ∷ losses) ∙ none in omega (arith, some))
 read_all (e ∷ batch) (false ∷ losses) told none = ap (λ (l : List Planned). e ∷ l) (read_all batch losses (omega (arith, told)) none)
 
 -- what the loading of a plan does to a shape's pages
 record IsLoaded (s : Shape) (v u : RecencyView) (wants : List Wanted) (most : ℕ) (batch : List Planned) : Type 0 where
-  pub left : pages_to_load s (is_mapped u.entries) (pages_wanted wants) ≡ filter (λ x. not (is_in (batch_pages batch) x)) (pages_to_load s (is_mapped v.entries) (pages_wanted wants))
+  pub left : pages_to_load s (is_mapped u.entries) (pages_wanted wants) ≡ filter (λ x. not (is_in (batch_pages batch) x))
+      (pages_to_load s (is_mapped v.entries) (pages_wanted wants))
   pub asked : (x : ℕ) → is_in (batch_pages batch) x ≡ true → is_in (pages_to_load s (is_mapped v.entries) (pages_wanted wants)) x ≡ true
   pub once : IsDistinct nat_eq (batch_pages batch)
   pub falls : most_before s (is_mapped u.entries) (pages_wanted wants) ≤ most_before s (is_mapped v.entries) (pages_wanted wants)
@@ -102,13 +106,16 @@ loading w p q rest h mode run same none =
     let kept = run_kept w (q ∷ rest) h run.0 in
     let goes = fits_of w q mode run.1.turn.0 in
     let f = fitting w q rest h run.0 goes.1 in
-    let reads : read_entries p.batch p.losses ≡ plan_of (recency_after w (q ∷ rest)) q.wants w.most = read_all p.batch p.losses run.1.outcome.told none ∙ run.1.planned in
-    let settled : IsSettledTable (recency_after w (q ∷ rest)).entries (plan_of (recency_after w (q ∷ rest)) q.wants w.most) (recency_after w (p ∷ q ∷ rest)).entries =
+    let reads : read_entries p.batch p.losses ≡ plan_of (recency_after w (q ∷ rest)) q.wants w.most = read_all p.batch p.losses run.1.outcome.told
+        none ∙ run.1.planned in
+    let settled : IsSettledTable (recency_after w (q ∷ rest)).entries (plan_of (recency_after w (q ∷ rest)) q.wants w.most)
+        (recency_after w (p ∷ q ∷ rest)).entries =
     subst (λ (b : List Planned). IsSettledTable (recency_after w (q ∷ rest)).entries b p.settled.entries) reads run.1.settles.table in
     let l = loaded_plan (recency_after w (q ∷ rest)) (recency_after w (p ∷ q ∷ rest)) q.wants w.most f.table f.inside settled f.full in
     let r : IsLoaded w.shape (recency_after w (q ∷ rest)) (recency_after w (p ∷ q ∷ rest)) q.wants w.most p.batch =
     subst (λ (b : List Planned). IsLoaded w.shape (recency_after w (q ∷ rest)) (recency_after w (p ∷ q ∷ rest)) q.wants w.most b) (sym run.1.planned)
-    (subst (λ (s : Shape). IsLoaded s (recency_after w (q ∷ rest)) (recency_after w (p ∷ q ∷ rest)) q.wants w.most (plan_of (recency_after w (q ∷ rest)) q.wants w.most)) kept.shape l) in
+    (subst (λ (s : Shape). IsLoaded s (recency_after w (q ∷ rest)) (recency_after w (p ∷ q ∷ rest)) q.wants w.most
+        (plan_of (recency_after w (q ∷ rest)) q.wants w.most)) kept.shape l) in
     record {
       wants = wants_one w.shape (w.needs p.picture) p.wants q.wants run.1.wanted (subst (λ k. IsWants w.shape (w.needs k) q.wants) (sym same) run.0.1.wanted);
       left = r.left;

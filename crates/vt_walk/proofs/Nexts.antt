@@ -18,17 +18,23 @@ use Rattle.vt_walk.specs.Fits.{WalkSetup}
 use Rattle.vt_walk.specs.Runs.{WalkPass, pass_of, journal_after, recency_after, plan_after, IsTurnOf, IsNextPass}
 
 module _ (needs : Scene → ℕ → ℕ → ℕ) (shows : Scene → List ℕ → Table → ℕ → ℕ → ℕ → List ℕ) (drawn : PathView → ℕ → ℕ → ℕ → List ℕ → Type 0) where
-  pub journal_grown : (dealt : Bool) (w : WalkSetup) (before : List WalkPass) (job : Job) (report : PassReport) (wants : List Wanted) (settled : RecencyView) (s t : MachineState)
-      → Ran dealt needs shows drawn job report s t → s.journal ≡ journal_after w before → t.journal ≡ journal_after w (pass_of job report wants settled ∷ before)
-  journal_grown dealt w before job report wants settled s t ran journal = ran.journal ∙ ap (λ (js : List Change). js ++ changes_of report.events.elements) journal
+  pub journal_grown : (dealt : Bool) (w : WalkSetup) (before : List WalkPass) (job : Job) (report : PassReport) (wants : List Wanted)
+      (settled : RecencyView) (s t : MachineState)
+      → Ran dealt needs shows drawn job report s t → s.journal ≡ journal_after w before
+      → t.journal ≡ journal_after w (pass_of job report wants settled ∷ before)
+  journal_grown dealt w before job report wants settled s t ran journal = ran.journal
+      ∙ ap (λ (js : List Change). js ++ changes_of report.events.elements) journal
 
-  pub comes_next : (dealt : Bool) (w : WalkSetup) (before : List WalkPass) (job : Job) (report : PassReport) (wants : List Wanted) (settled : RecencyView) (s t : MachineState)
-      → Ran dealt needs shows drawn job report s t → w.dealt ≡ dealt → w.samplers ≡ s.setup.crew.samplers → w.height ≡ s.setup.height → s.journal ≡ journal_after w before
+  pub comes_next : (dealt : Bool) (w : WalkSetup) (before : List WalkPass) (job : Job) (report : PassReport) (wants : List Wanted)
+      (settled : RecencyView) (s t : MachineState)
+      → Ran dealt needs shows drawn job report s t → w.dealt ≡ dealt → w.samplers ≡ s.setup.crew.samplers → w.height ≡ s.setup.height
+      → s.journal ≡ journal_after w before
       → IsTurnOf w before job.picture → job.picture < w.pictures → job.batch ≡ plan_after w before → IsWants w.shape (w.needs job.picture) wants
       → IsSettled (recency_after w before) (read_entries job.batch report.losses.elements) settled → IsNextPass w before (pass_of job report wants settled)
   comes_next dealt w before job report wants settled s t ran is_dealt samplers height journal turn inside planned wanted settles =
       let grown = journal_grown dealt w before job report wants settled s t ran journal in
-      let a = subst (λ (d : Bool). AreRowsInOrder d s.setup.crew.samplers s.setup.height (length s.journal) (length t.journal) report.rows.elements) (sym is_dealt) ran.rows in
+      let a = subst (λ (d : Bool). AreRowsInOrder d s.setup.crew.samplers s.setup.height (length s.journal) (length t.journal) report.rows.elements)
+          (sym is_dealt) ran.rows in
       let b = subst (λ n. AreRowsInOrder w.dealt n s.setup.height (length s.journal) (length t.journal) report.rows.elements) (sym samplers) a in
       let c = subst (λ n. AreRowsInOrder w.dealt w.samplers n (length s.journal) (length t.journal) report.rows.elements) (sym height) b in
       let d = subst (λ (js : List Change). AreRowsInOrder w.dealt w.samplers w.height (length js) (length t.journal) report.rows.elements) journal c in
@@ -38,6 +44,7 @@ module _ (needs : Scene → ℕ → ℕ → ℕ) (shows : Scene → List ℕ →
         planned = planned;
         wanted = wanted;
         outcome = ran.outcome;
-        in_order = subst (λ (js : List Change). AreRowsInOrder w.dealt w.samplers w.height (length (journal_after w before)) (length js) report.rows.elements) grown d;
+        in_order = subst (λ (js : List Change). AreRowsInOrder w.dealt w.samplers w.height (length (journal_after w before)) (length js)
+            report.rows.elements) grown d;
         settles = settles;
       }

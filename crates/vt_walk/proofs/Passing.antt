@@ -58,7 +58,8 @@ all_told (x ∷ xs) (y ∷ ys) same tell =
       pick head more (suc k) d inside = more k d (omega (arith, inside))
 
 -- a machine may take the turn
-pub may_draw : (drawn : PathView → ℕ → ℕ → ℕ → List ℕ → Type 0) (g : WalkGiven) (number : ℕ) (t : Turn) (first now : WalkState) (m : MachineState) (v : RecencyView)
+pub may_draw : (drawn : PathView → ℕ → ℕ → ℕ → List ℕ → Type 0) (g : WalkGiven) (number : ℕ) (t : Turn) (first now : WalkState) (m : MachineState)
+    (v : RecencyView)
     → (s : StandsAt drawn g number t first now m v) → t.picture < g.setup.pictures → MayDraw g s.run number t m v
 may_draw drawn g number t first now m v s more = record { given = s.given; at_run = s.at_run; turn = s.turn; more = more }
 
@@ -120,8 +121,10 @@ module _ (dealt : Bool) (needs : Scene → ℕ → ℕ → ℕ) (shows : Scene �
       → (e : WalkError) → e ≡ walk_error.NoMemory → LeftBy drawn g first (now files faults) e
   pass_broke s more read e is =
       let fault = faults_rise 0 faults kept.faults (counts_of m.files) (counts_of n.files) read.faults in
-      let asks : OnTold (AreAskedAtMostFor g.scene.shape g.scene.depth 0 (plan_after g.setup s.run)) (with_open store (kept ∷ m.files) asked) (with_open store (kept ∷ n.files) asked) =
-      subst (λ (batch : List Planned). OnTold (AreAskedAtMostFor g.scene.shape g.scene.depth 0 batch) (with_open store (kept ∷ m.files) asked) (with_open store (kept ∷ n.files) asked))
+      let asks : OnTold (AreAskedAtMostFor g.scene.shape g.scene.depth 0 (plan_after g.setup s.run)) (with_open store (kept ∷ m.files) asked)
+          (with_open store (kept ∷ n.files) asked) =
+      subst (λ (batch : List Planned). OnTold (AreAskedAtMostFor g.scene.shape g.scene.depth 0 batch) (with_open store (kept ∷ m.files) asked)
+          (with_open store (kept ∷ n.files) asked))
       s.turn.batch (pass_asks_most g.scene.shape g.scene.depth t.batch.elements store kept m.files n.files asked s.tell read) in (
         inr (record {
           run = s.run;
@@ -160,7 +163,8 @@ module _ (dealt : Bool) (needs : Scene → ℕ → ℕ → ℕ) (shows : Scene �
             next = h.pass;
             comes_next = h.next;
             picture_is = count;
-            files = subst (λ (p : Pass). (new ≡ files) ⊎ ((k : ℕ) × (new ≡ option_map (with_appended g.names.journal (take k (pass_text g.setup.shape p))) files))) h.text part;
+            files = subst (λ (p : Pass). (new ≡ files) ⊎ ((k : ℕ)
+                × (new ≡ option_map (with_appended g.names.journal (take k (pass_text g.setup.shape p))) files))) h.text part;
             held = refl;
             asked = asks;
             faults = omega (arith, fault, risen);
@@ -179,9 +183,11 @@ module _ (dealt : Bool) (needs : Scene → ℕ → ℕ → ℕ) (shows : Scene �
             (pass_asks g.scene.shape g.scene.depth h.pass.batch h.pass.losses store kept m.files n.files asked s.tell h.read))
             (omega (arith, add, before, more))
 
-        cause : (error : OutsideError) → (error ≡ Failed → IsThere files g.names.journal → Rose faults rose) → IsCausedBy drawn g first (now new rose) (refusal_by error)
+        cause : (error : OutsideError) → (error ≡ Failed → IsThere files g.names.journal → Rose faults rose)
+            → IsCausedBy drawn g first (now new rose) (refusal_by error)
         cause NoMemory failed = tt
-        cause Failed failed = lost (faults_rise_more (lost_count h.pass.losses) faults rose kept.faults (counts_of m.files) (counts_of n.files) h.read.faults (failed refl s.stands.there))
+        cause Failed failed = lost (faults_rise_more (lost_count h.pass.losses) faults rose kept.faults (counts_of m.files) (counts_of n.files)
+            h.read.faults (failed refl s.stands.there))
 
   pub text_broke : (new : Option Files) (later : Option Asked) (rose : ℕ) (d : Drawn) (error : OutsideError) (e : WalkError)
       (s : StandsAt drawn g number t first was m v) → HasDrawn dealt needs shows drawn g s.run t m n u d

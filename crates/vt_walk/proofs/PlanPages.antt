@@ -73,7 +73,8 @@ take_all (suc n) (x ∷ xs) few = ap (λ (l : List ℕ). x ∷ l) (take_all n xs
 
 pub plan_missing : (v : RecencyView) (wants : List Wanted) (q x : ℕ) → is_in (batch_pages (plan_of v wants q)) x ≡ true → is_in (missing_pages v wants) x ≡ true
 plan_missing v wants q x there =
-    take_in (planned_count q (missing_pages v wants) (free_frames v) (candidates v wants)) (missing_pages v wants) x (ap (λ (l : List ℕ). is_in l x) (sym (plan_pages v wants q)) ∙ there)
+    take_in (planned_count q (missing_pages v wants) (free_frames v) (candidates v wants)) (missing_pages v wants) x
+        (ap (λ (l : List ℕ). is_in l x) (sym (plan_pages v wants q)) ∙ there)
 
 pub plan_distinct : (v : RecencyView) (wants : List Wanted) (q : ℕ) → IsDistinct nat_eq (batch_pages (plan_of v wants q))
 plan_distinct v wants q = subst (IsDistinct nat_eq) (sym (plan_pages v wants q))
@@ -89,7 +90,8 @@ pub plan_all : (v : RecencyView) (wants : List Wanted) (q : ℕ) → length (mis
 plan_all v wants q enough =
     let n : ℕ = planned_count q (missing_pages v wants) (free_frames v) (candidates v wants) in
     plan_pages v wants q ∙ take_all (planned_count q (missing_pages v wants) (free_frames v) (candidates v wants)) (missing_pages v wants)
-    (at_least (planned_count q (missing_pages v wants) (free_frames v) (candidates v wants)) (missing_pages v wants) (ap (λ (l : List ℕ). length l) (plan_pages v wants q))) where
+    (at_least (planned_count q (missing_pages v wants) (free_frames v) (candidates v wants)) (missing_pages v wants)
+        (ap (λ (l : List ℕ). length l) (plan_pages v wants q))) where
       few : (n : ℕ) (xs : List ℕ) → length (take n xs) ≤ n
       few zero xs = omega arith
       few (suc n) [] = omega arith
@@ -103,7 +105,8 @@ off_lines : (v : RecencyView) (wants : List Wanted) (x : ℕ) → is_in (line_pa
 unfolding candidates
 off_lines v wants x line = pick (is_in (candidates v wants) x) refl where
   pick : (b : Bool) → is_in (candidates v wants) x ≡ b → is_in (candidates v wants) x ≡ false
-  pick true e = absurd (false≢true (sym (not_true (is_in (line_pages v.shape (pages_wanted wants)) x) (second_true _ (not (is_in (line_pages v.shape (pages_wanted wants)) x))
+  pick true e = absurd (false≢true (sym (not_true (is_in (line_pages v.shape (pages_wanted wants)) x)
+      (second_true _ (not (is_in (line_pages v.shape (pages_wanted wants)) x))
       (sym (is_in-filter (λ p. not (is_in (line_pages v.shape (pages_wanted wants)) p)) _ x) ∙ e))) ∙ line))
   pick false e = e
 
@@ -124,7 +127,8 @@ pub plan_spares : (v : RecencyView) (wants : List Wanted) (q x : ℕ) → is_in 
     → is_victim (plan_of v wants q) x ≡ false
 unfolding plan_of
 plan_spares v wants q x line =
-    no_victim (planned_at v.entries (missing_pages v wants) (free_frames v) (candidates v wants)) x (range_with_len 0 (planned_count q (missing_pages v wants) (free_frames v) (candidates v wants)))
+    no_victim (planned_at v.entries (missing_pages v wants) (free_frames v) (candidates v wants)) x
+        (range_with_len 0 (planned_count q (missing_pages v wants) (free_frames v) (candidates v wants)))
     (λ j. at (nat_lt j (length (free_frames v))) (j - length (free_frames v))) where
       at : (b : Bool) (k : ℕ) → is_page x (cond b None (slice_get (candidates v wants) k)) ≡ false
       at true k = refl
@@ -167,12 +171,14 @@ mapped_by v u wants q x settled line = pick (is_read (plan_of v wants q) x) refl
 -- the front of a wanted page's line, once a plan is loaded
 pub front_after : (v u : RecencyView) (wants : List Wanted) (q p : ℕ) → IsTable v → ArePages v wants → IsSettledTable v.entries (plan_of v wants q) u.entries
     → is_in (pages_wanted wants) p ≡ true
-    → before_lookup v.shape (is_mapped u.entries) p ≡ filter (λ x. not (is_in (batch_pages (plan_of v wants q)) x)) (before_lookup v.shape (is_mapped v.entries) p)
+    → before_lookup v.shape (is_mapped u.entries) p ≡ filter (λ x. not (is_in (batch_pages (plan_of v wants q)) x))
+    (before_lookup v.shape (is_mapped v.entries) p)
 front_after v u wants q p table inside settled wanted =
     let below = level_below v.shape p table.limits (inside p wanted) in
     front_loaded (is_mapped v.entries) (is_mapped u.entries) (is_in (batch_pages (plan_of v wants q))) (line_of v.shape p)
     (λ x there. mapped_by v u wants q x settled (in_wanted_lines v.shape (pages_wanted wants) p x wanted there))
-    (line_steps v.shape (is_mapped v.entries) (is_in (batch_pages (plan_of v wants q))) (levels_of v.shape - 1 - level_of v.shape p) p table.limits (omega (arith, below)) (inside p wanted)
+    (line_steps v.shape (is_mapped v.entries) (is_in (batch_pages (plan_of v wants q))) (levels_of v.shape - 1 - level_of v.shape p) p table.limits
+        (omega (arith, below)) (inside p wanted)
     (λ x r is. (missing_is v wants x table inside (plan_missing v wants q x is)).step.parent r))
 
 pub left_after : (v u : RecencyView) (wants : List Wanted) (q : ℕ) → IsTable v → ArePages v wants → IsSettledTable v.entries (plan_of v wants q) u.entries
@@ -180,7 +186,8 @@ pub left_after : (v u : RecencyView) (wants : List Wanted) (q : ℕ) → IsTable
     ≡ filter (λ x. not (is_in (batch_pages (plan_of v wants q)) x)) (pages_to_load v.shape (is_mapped v.entries) (pages_wanted wants))
 unfolding pages_to_load
 left_after v u wants q table inside settled =
-    ap each_once (flat_map-filter (λ x. not (is_in (batch_pages (plan_of v wants q)) x)) (before_lookup v.shape (is_mapped v.entries)) (before_lookup v.shape (is_mapped u.entries)) (pages_wanted wants)
+    ap each_once (flat_map-filter (λ x. not (is_in (batch_pages (plan_of v wants q)) x)) (before_lookup v.shape (is_mapped v.entries))
+        (before_lookup v.shape (is_mapped u.entries)) (pages_wanted wants)
     (λ p wanted. front_after v u wants q p table inside settled wanted))
     ∙ each_once-filter (λ x. not (is_in (batch_pages (plan_of v wants q)) x)) (flat_map (before_lookup v.shape (is_mapped v.entries)) (pages_wanted wants))
 
@@ -206,9 +213,11 @@ pub step_missing : (v : RecencyView) (wants : List Wanted) (p : ℕ) → is_in (
     → is_in (missing_pages v wants) (step_of v.shape (is_mapped v.entries) p) ≡ true
 unfolding missing_pages missing_from
 step_missing v wants p wanted low =
-    is_in-each_once (map (step_of v.shape (is_mapped v.entries)) (filter (λ p. not (is_mapped v.entries p)) (pages_wanted wants))) (step_of v.shape (is_mapped v.entries) p)
+    is_in-each_once (map (step_of v.shape (is_mapped v.entries)) (filter (λ p. not (is_mapped v.entries p)) (pages_wanted wants)))
+        (step_of v.shape (is_mapped v.entries) p)
     ∙ in_map (step_of v.shape (is_mapped v.entries)) (filter (λ p. not (is_mapped v.entries p)) (pages_wanted wants)) p
-    (is_in-filter (λ p. not (is_mapped v.entries p)) (pages_wanted wants) p ∙ both (is_in (pages_wanted wants) p) (not (is_mapped v.entries p)) wanted (ap not low))
+    (is_in-filter (λ p. not (is_mapped v.entries p)) (pages_wanted wants) p
+        ∙ both (is_in (pages_wanted wants) p) (not (is_mapped v.entries p)) wanted (ap not low))
 
 -- a mapped page has nothing before its look-up
 pub front_none : (s : Shape) (m : ℕ → Bool) (p : ℕ) → IsWithinLimits s → p < pages_of s → m p ≡ true → before_lookup s m p ≡ []
@@ -254,7 +263,8 @@ filter_less t (y ∷ xs) x there out = pick (t y) refl (nat_eq x y) refl there (
   pick true e false other h rest = ap_le e (let r = rest h in omega (arith, r)) where
     ap_le : t y ≡ true → suc (length (filter t xs)) + 1 ≤ suc (length xs) → length (cond (t y) (y ∷ filter t xs) (filter t xs)) + 1 ≤ suc (length xs)
     ap_le e h = subst (λ b. length (cond b (y ∷ filter t xs) (filter t xs)) + 1 ≤ suc (length xs)) (sym e) h
-  pick false e c same h rest = subst (λ b. length (cond b (y ∷ filter t xs) (filter t xs)) + 1 ≤ suc (length xs)) (sym e) (let r = filter_fewer t xs in omega (arith, r))
+  pick false e c same h rest = subst (λ b. length (cond b (y ∷ filter t xs) (filter t xs)) + 1 ≤ suc (length xs)) (sym e)
+      (let r = filter_fewer t xs in omega (arith, r))
 
 -- the greatest number before a look-up
 pub most_each : (s : Shape) (m : ℕ → Bool) (ps : List ℕ) (p : ℕ) → is_in ps p ≡ true → pages_before s m p ≤ most_before s m ps
@@ -262,17 +272,20 @@ most_each s m [] p there = absurd (false≢true there)
 most_each s m (r ∷ ps) p there = pick (nat_eq p r) refl there (most_each s m ps p) where
   pick : (b : Bool) → nat_eq p r ≡ b → (b || is_in ps p) ≡ true → (is_in ps p ≡ true → pages_before s m p ≤ most_before s m ps)
       → pages_before s m p ≤ max (pages_before s m r) (most_before s m ps)
-  pick true same rest more = subst (λ k. pages_before s m k ≤ max (pages_before s m r) (most_before s m ps)) (sym (nat_eq_true p r same)) (le-max_left (pages_before s m r) (most_before s m ps))
+  pick true same rest more = subst (λ k. pages_before s m k ≤ max (pages_before s m r) (most_before s m ps)) (sym (nat_eq_true p r same))
+      (le-max_left (pages_before s m r) (most_before s m ps))
   pick false other rest more = let a = more rest in let b = le-max_right (pages_before s m r) (most_before s m ps) in omega (arith, a, b)
 
 pub most_least : (s : Shape) (m : ℕ → Bool) (ps : List ℕ) (n : ℕ) → ((p : ℕ) → is_in ps p ≡ true → pages_before s m p ≤ n) → most_before s m ps ≤ n
 most_least s m [] n each = omega arith
-most_least s m (r ∷ ps) n each = max-le (each r (or_left (nat_eq r r) (is_in ps r) (self_eq r))) (most_least s m ps n (λ p there. each p (or_right (nat_eq p r) (is_in ps p) there)))
+most_least s m (r ∷ ps) n each = max-le (each r (or_left (nat_eq r r) (is_in ps r) (self_eq r)))
+    (most_least s m ps n (λ p there. each p (or_right (nat_eq p r) (is_in ps p) there)))
 
 -- no line's front grows
 pub most_falls : (v u : RecencyView) (wants : List Wanted) (q : ℕ) → IsTable v → ArePages v wants → IsSettledTable v.entries (plan_of v wants q) u.entries
     → most_before v.shape (is_mapped u.entries) (pages_wanted wants) ≤ most_before v.shape (is_mapped v.entries) (pages_wanted wants)
-most_falls v u wants q table inside settled = most_least v.shape (is_mapped u.entries) (pages_wanted wants) (most_before v.shape (is_mapped v.entries) (pages_wanted wants)) (λ p wanted.
+most_falls v u wants q table inside settled = most_least v.shape (is_mapped u.entries) (pages_wanted wants)
+    (most_before v.shape (is_mapped v.entries) (pages_wanted wants)) (λ p wanted.
     let a = ap (λ (l : List ℕ). length l) (front_after v u wants q p table inside settled wanted) in
     let b = filter_fewer (λ x. not (is_in (batch_pages (plan_of v wants q)) x)) (before_lookup v.shape (is_mapped v.entries) p) in
     let c = most_each v.shape (is_mapped v.entries) (pages_wanted wants) p wanted in
@@ -303,17 +316,21 @@ most_less v u wants q table inside settled all some =
           omega (arith, a, c, length-front (is_mapped v.entries) (line_of v.shape h.page))
 
       loaded : (p : ℕ) → is_in (pages_wanted wants) p ≡ true → is_mapped v.entries p ≡ false
-          → length (filter (λ x. not (is_in (batch_pages (plan_of v wants q)) x)) (before_lookup v.shape (is_mapped v.entries) p)) + 1 ≤ length (before_lookup v.shape (is_mapped v.entries) p)
+          → length (filter (λ x. not (is_in (batch_pages (plan_of v wants q)) x)) (before_lookup v.shape (is_mapped v.entries) p)) + 1 ≤ length
+          (before_lookup v.shape (is_mapped v.entries) p)
       loaded p wanted low =
           let below = level_below v.shape p table.limits (inside p wanted) in
-          let h = step_is v.shape (is_mapped v.entries) (levels_of v.shape - 1 - level_of v.shape p) p table.limits (omega (arith, below)) (inside p wanted) low in
-          filter_less (λ x. not (is_in (batch_pages (plan_of v wants q)) x)) (before_lookup v.shape (is_mapped v.entries) p) (step_of v.shape (is_mapped v.entries) p) h.before
+          let h = step_is v.shape (is_mapped v.entries) (levels_of v.shape - 1 - level_of v.shape p) p table.limits (omega (arith, below))
+              (inside p wanted) low in
+          filter_less (λ x. not (is_in (batch_pages (plan_of v wants q)) x)) (before_lookup v.shape (is_mapped v.entries) p)
+              (step_of v.shape (is_mapped v.entries) p) h.before
           (ap not (ap (λ (l : List ℕ). is_in l (step_of v.shape (is_mapped v.entries) p)) (plan_all v wants q all) ∙ step_missing v wants p wanted low))
 
       each : (p : ℕ) → is_in (pages_wanted wants) p ≡ true
           → pages_before v.shape (is_mapped u.entries) p ≤ most_before v.shape (is_mapped v.entries) (pages_wanted wants) - 1
       each p wanted = pick (is_mapped v.entries p) refl where
-        a : length (before_lookup v.shape (is_mapped u.entries) p) ≡ length (filter (λ x. not (is_in (batch_pages (plan_of v wants q)) x)) (before_lookup v.shape (is_mapped v.entries) p))
+        a : length (before_lookup v.shape (is_mapped u.entries) p) ≡ length
+            (filter (λ x. not (is_in (batch_pages (plan_of v wants q)) x)) (before_lookup v.shape (is_mapped v.entries) p))
         a = ap (λ (l : List ℕ). length l) (front_after v u wants q p table inside settled wanted)
 
         pick : (b : Bool) → is_mapped v.entries p ≡ b

@@ -50,7 +50,8 @@ each_fits w (p ∷ run) settled is_run whole picture below = pick (cases_lt pict
 
 module _ (drawn : PathView → ℕ → ℕ → ℕ → List ℕ → Type 0) (g : WalkGiven) (first now : WalkState) where
   -- the first turn
-  pub first_at : (m : MachineState) (v : RecencyView) (t : Turn) → StandsFirst drawn g first now m v → t.picture ≡ 0 → t.batch.elements ≡ [] → t.tally ≡ no_passes
+  pub first_at : (m : MachineState) (v : RecencyView) (t : Turn) → StandsFirst drawn g first now m v → t.picture ≡ 0 → t.batch.elements ≡ []
+      → t.tally ≡ no_passes
       → t.reads ≡ g.setup.pinned → StandsAt drawn g 1 t first now m v
   first_at m v t s picture batch tally reads = record {
     run = [];
@@ -95,7 +96,8 @@ module _ (drawn : PathView → ℕ → ℕ → ℕ → List ℕ → Type 0) (g :
   }
 
   -- the walk ends before a pass
-  pub at_left : (number : ℕ) (m : MachineState) (v : RecencyView) (t : Turn) → StandsAt drawn g number t first now m v → LeftBy drawn g first now walk_error.NoMemory
+  pub at_left : (number : ℕ) (m : MachineState) (v : RecencyView) (t : Turn) → StandsAt drawn g number t first now m v
+      → LeftBy drawn g first now walk_error.NoMemory
   at_left number m v t s = (
     inr (record {
       run = s.run;

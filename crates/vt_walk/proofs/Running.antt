@@ -39,7 +39,8 @@ past [] k few = refl
 past (x ∷ xs) zero few = absurd (omega (arith, few))
 past (x ∷ xs) (suc k) few = past xs k (omega (arith, few))
 
-push_agrees : (xs : List ℕ) (m : Table) (o : Option ℕ) (x page : ℕ) → x ≡ entry_of o → page ≡ length xs → AgreesOn xs m → AgreesOn (xs ++ x ∷ []) (with_entry m page o)
+push_agrees : (xs : List ℕ) (m : Table) (o : Option ℕ) (x page : ℕ) → x ≡ entry_of o → page ≡ length xs → AgreesOn xs m
+    → AgreesOn (xs ++ x ∷ []) (with_entry m page o)
 push_agrees xs m o x page is at agrees p = pick (same_page p page) where
   beside : (p < length xs) ⊎ (length xs ≤ p) → p ≢ page → get_or (xs ++ x ∷ []) p 0 ≡ get_or xs p 0
   beside (inl below) other = get_or_append_left xs (x ∷ []) 0 p below
@@ -49,7 +50,8 @@ push_agrees xs m o x page is at agrees p = pick (same_page p page) where
     beyond (inr most) = absurd (other (omega (arith, most, above, at)))
 
   pick : (p ≡ page) ⊎ (p ≢ page) → get_or (xs ++ x ∷ []) p 0 ≡ entry_of (with_entry m page o p)
-  pick (inl same) = ap (λ k. get_or (xs ++ x ∷ []) k 0) (same ∙ at) ∙ at_seam xs x ∙ is ∙ ap entry_of (sym (ap (with_entry m page o) same ∙ entry-same m page o))
+  pick (inl same) = ap (λ k. get_or (xs ++ x ∷ []) k 0) (same ∙ at) ∙ at_seam xs x ∙ is
+      ∙ ap entry_of (sym (ap (with_entry m page o) same ∙ entry-same m page o))
   pick (inr other) = beside (cases_lt p (length xs)) other ∙ agrees p ∙ ap entry_of (sym (entry-other m page p o other))
 
 abbrev no_entries : ℕ → List ℕ
@@ -69,20 +71,28 @@ length-range a zero = refl
 length-range a (suc n) = ap suc (length-range (a + 1) n)
 
 -- the pinned pages, so many of them
-pinned_agree : (s : Shape) (pinned n : ℕ) → AgreesOn (replicate (pages_of s - pinned) 0 ++ range_with_len 1 n) (newest (map (pinned_change s pinned) (range_with_len 0 n)))
-pinned_agree s pinned zero = λ p. ap (λ (xs : List ℕ). get_or xs p 0) (append-nil (replicate (pages_of s - pinned) 0)) ∙ zeros (pages_of s - pinned) p ∙ ap entry_of (sym (newest-none p))
+pinned_agree : (s : Shape) (pinned n : ℕ) → AgreesOn (replicate (pages_of s - pinned) 0
+    ++ range_with_len 1 n) (newest (map (pinned_change s pinned) (range_with_len 0 n)))
+pinned_agree s pinned zero = λ p. ap (λ (xs : List ℕ). get_or xs p 0) (append-nil (replicate (pages_of s - pinned) 0)) ∙ zeros (pages_of s - pinned) p
+    ∙ ap entry_of (sym (newest-none p))
 pinned_agree s pinned (suc n) =
     let next : suc n ≡ n + 1 = omega arith in
     let front = replicate (pages_of s - pinned) 0 in
     let entries : front ++ range_with_len 1 (suc n) ≡ (front ++ range_with_len 1 n) ++ (1 + n) ∷ [] =
-    ap (λ k. front ++ range_with_len 1 k) next ∙ ap (λ (xs : List ℕ). front ++ xs) (range-more 1 n) ∙ sym (append_assoc front (range_with_len 1 n) ((1 + n) ∷ [])) in
+    ap (λ k. front ++ range_with_len 1 k) next ∙ ap (λ (xs : List ℕ). front ++ xs) (range-more 1 n)
+        ∙ sym (append_assoc front (range_with_len 1 n) ((1 + n) ∷ [])) in
     let changes : map (pinned_change s pinned) (range_with_len 0 (suc n)) ≡ map (pinned_change s pinned) (range_with_len 0 n) ++ pinned_change s pinned n ∷ [] =
     ap (λ k. map (pinned_change s pinned) (range_with_len 0 k)) next ∙ map-range_with_len_more (pinned_change s pinned) 0 n n (zero-add n) in
-    let count : length (front ++ range_with_len 1 n) ≡ pages_of s - pinned + n = length-append front (range_with_len 1 n) ∙ omega (arith, length-zeros (pages_of s - pinned), length-range 1 n) in
-    let pushed = push_agrees (front ++ range_with_len 1 n) (newest (map (pinned_change s pinned) (range_with_len 0 n))) (Some n) (1 + n) (pages_of s - pinned + n) (omega arith) (sym count) (pinned_agree s pinned n) in
-    let tables : newest (map (pinned_change s pinned) (range_with_len 0 (suc n))) ≡ changed (newest (map (pinned_change s pinned) (range_with_len 0 n))) (Map (pages_of s - pinned + n) n) =
+    let count : length (front ++ range_with_len 1 n) ≡ pages_of s - pinned + n = length-append front (range_with_len 1 n)
+        ∙ omega (arith, length-zeros (pages_of s - pinned), length-range 1 n) in
+    let pushed = push_agrees (front ++ range_with_len 1 n) (newest (map (pinned_change s pinned) (range_with_len 0 n))) (Some n) (1 + n)
+        (pages_of s - pinned + n) (omega arith) (sym count) (pinned_agree s pinned n) in
+    let tables : newest (map (pinned_change s pinned) (range_with_len 0 (suc n))) ≡ changed
+        (newest (map (pinned_change s pinned) (range_with_len 0 n))) (Map (pages_of s - pinned + n) n) =
     ap newest changes ∙ newest-more (map (pinned_change s pinned) (range_with_len 0 n)) (pinned_change s pinned n) in
-    subst (AgreesOn (front ++ range_with_len 1 (suc n))) (sym tables) (subst (λ (xs : List ℕ). AgreesOn xs (changed (newest (map (pinned_change s pinned) (range_with_len 0 n))) (Map (pages_of s - pinned + n) n))) (sym entries) pushed)
+    subst (AgreesOn (front ++ range_with_len 1 (suc n))) (sym tables)
+        (subst (λ (xs : List ℕ). AgreesOn xs (changed (newest (map (pinned_change s pinned) (range_with_len 0 n))) (Map (pages_of s - pinned + n) n)))
+        (sym entries) pushed)
 
 first_agrees : (s : Shape) (frames pinned : ℕ) → Agrees (first_view s frames pinned) (newest (pinned_changes s pinned))
 unfolding first_view
@@ -96,7 +106,8 @@ may_pin w h = record { some = h.some_pinned; few = h.enough_pages; framed = omeg
 
 head_in_turn : (w : WalkSetup) → IsWalkSetup w → AreInTurn (pinned_changes w.shape w.pinned)
 unfolding head_content
-head_in_turn w h = subst AreInTurn (append-nil (pinned_changes w.shape w.pinned)) (lawful_in_turn w.shape 0 (head_content w.pinned) (lawful_by_parts w.shape 0 (head_content w.pinned) (record { head = may_pin w h; passes = tt })))
+head_in_turn w h = subst AreInTurn (append-nil (pinned_changes w.shape w.pinned))
+    (lawful_in_turn w.shape 0 (head_content w.pinned) (lawful_by_parts w.shape 0 (head_content w.pinned) (record { head = may_pin w h; passes = tt })))
 
 -- what is kept along a run
 pub record IsKept (w : WalkSetup) (passes : List WalkPass) : Type 0 where
@@ -124,7 +135,8 @@ plan_is_lawful w [] run kept = lawful_none (first_view w.shape w.frames w.pinned
 plan_is_lawful w (p ∷ passes) run kept =
     plan_lawful (touched p.settled p.wants) p.wants w.most kept.table (wants_inside p.settled.shape w.shape (w.needs p.picture) p.wants kept.shape run.1.wanted)
 
-pub unpinned_victims : (w : WalkSetup) (v : RecencyView) (batch : List Planned) → v.shape ≡ w.shape → v.pinned ≡ w.pinned → IsLawful v batch → All (HasUnpinnedVictim w.shape w.pinned) batch
+pub unpinned_victims : (w : WalkSetup) (v : RecencyView) (batch : List Planned) → v.shape ≡ w.shape → v.pinned ≡ w.pinned → IsLawful v batch
+    → All (HasUnpinnedVictim w.shape w.pinned) batch
 unpinned_victims w v batch shape pinned laws k d inside = by_victim (slice_index_or batch k d).victim (laws.each k d inside).place where
   by_victim : (o : Option ℕ) → MatchOption o (IsFree v.entries (slice_index_or batch k d).frame) (IsVictim v (slice_index_or batch k d).frame)
       → MatchOption o (Unit {0}) (λ q. q + w.pinned < pages_of w.shape)
@@ -132,7 +144,8 @@ unpinned_victims w v batch shape pinned laws k d inside = by_victim (slice_index
   by_victim (Some q) is = let at : pages_of v.shape ≡ pages_of w.shape = ap pages_of shape in omega (arith, is.unpinned, at, pinned)
 
 -- a pass that may come next is lawful for its tables
-pub batch_is_lawful : (w : WalkSetup) (passes : List WalkPass) (batch : List Planned) → IsRun w passes → IsKept w passes → batch ≡ plan_after w passes → IsLawful (recency_after w passes) batch
+pub batch_is_lawful : (w : WalkSetup) (passes : List WalkPass) (batch : List Planned) → IsRun w passes → IsKept w passes → batch ≡ plan_after w passes
+    → IsLawful (recency_after w passes) batch
 batch_is_lawful w passes batch run kept is = subst (IsLawful (recency_after w passes)) (sym is) (plan_is_lawful w passes run kept)
 
 pub batch_may_be_run : (w : WalkSetup) (passes : List WalkPass) (batch : List Planned) → IsRun w passes → IsKept w passes → batch ≡ plan_after w passes
@@ -142,10 +155,12 @@ batch_may_be_run w passes batch run kept is =
     subst (λ (x : Shape × ℕ). IsBatchFor x.0 x.1 (newest (journal_after w passes)) batch) (λ i. (kept.shape i, kept.frames i)) b
 
 -- what is kept as a pass is done
-kept_more : (w : WalkSetup) (p : WalkPass) (passes : List WalkPass) → IsWalkSetup w → IsRun w passes → IsNextPass w passes p → IsKept w passes → IsKept w (p ∷ passes)
+kept_more : (w : WalkSetup) (p : WalkPass) (passes : List WalkPass) → IsWalkSetup w → IsRun w passes → IsNextPass w passes p → IsKept w passes
+    → IsKept w (p ∷ passes)
 kept_more w p passes h run next kept =
     let laws = batch_is_lawful w passes p.batch run kept next.planned in
-    let k = settled_agrees (recency_after w passes) p.settled (journal_after w passes) p.batch p.losses p.events kept.table kept.agrees laws next.outcome next.settles in
+    let k = settled_agrees (recency_after w passes) p.settled (journal_after w passes) p.batch p.losses p.events kept.table kept.agrees laws
+        next.outcome next.settles in
     let follow = outcome_follows w.shape w.frames w.pinned (journal_after w passes) p.batch p.losses p.events h.most_frames kept.turn
     (batch_may_be_run w passes p.batch run kept next.planned) (unpinned_victims w (recency_after w passes) p.batch kept.shape kept.pinned laws) next.outcome in
     record {

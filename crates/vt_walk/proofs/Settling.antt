@@ -31,25 +31,29 @@ use Rattle.vt_walk.proofs.Agreeing.{may_be_run}
 abbrev pub AgreesOn : List ℕ → Table → Type 0
 AgreesOn entries m = (p : ℕ) → slice_index entries p ≡ entry_of (m p)
 
-set_agrees : (entries : List ℕ) (m : Table) (page : ℕ) (o : Option ℕ) → page < length entries → AgreesOn entries m → AgreesOn (slice_set entries page (entry_of o)) (with_entry m page o)
+set_agrees : (entries : List ℕ) (m : Table) (page : ℕ) (o : Option ℕ) → page < length entries → AgreesOn entries m
+    → AgreesOn (slice_set entries page (entry_of o)) (with_entry m page o)
 set_agrees entries m page o inside agrees p = pick (same_page p page) where
   pick : (p ≡ page) ⊎ (p ≢ page) → slice_index (slice_set entries page (entry_of o)) p ≡ entry_of (with_entry m page o p)
   pick (inl same) = get_or-set_at entries page p (entry_of o) 0 same inside ∙ ap entry_of (sym (ap (with_entry m page o) same ∙ entry-same m page o))
   pick (inr other) = get_or-set_other entries page p (entry_of o) 0 other ∙ agrees p ∙ ap entry_of (sym (entry-other m page p o other))
 
 -- an entry that was read
-applied_agrees : (v : RecencyView) (ks : List Change) (e : Planned) → IsTable v → IsLawfulEntry v e → Agrees v (newest ks) → Agrees (applied v e) (newest (ks ++ changes_of (group_of e false)))
+applied_agrees : (v : RecencyView) (ks : List Change) (e : Planned) → IsTable v → IsLawfulEntry v e → Agrees v (newest ks)
+    → Agrees (applied v e) (newest (ks ++ changes_of (group_of e false)))
 unfolding applied
 applied_agrees v ks e table l agrees = by_victim e.victim l.place where
   by_victim : (o : Option ℕ) → MatchOption o (IsFree v.entries e.frame) (IsVictim v e.frame)
-      → AgreesOn (slice_set (without_victim v.entries o) e.page (e.frame + 1)) (newest (ks ++ changes_of (victim_events o e.frame ++ Changed (Map e.page e.frame) ∷ [])))
+      → AgreesOn (slice_set (without_victim v.entries o) e.page (e.frame + 1)) (newest (ks
+      ++ changes_of (victim_events o e.frame ++ Changed (Map e.page e.frame) ∷ [])))
   by_victim None free =
       subst (AgreesOn (slice_set v.entries e.page (e.frame + 1))) (sym (newest-more ks (Map e.page e.frame)))
       (set_agrees v.entries (newest ks) e.page (Some e.frame) (omega (arith, l.unpinned, table.entries_for_all)) agrees)
   by_victim (Some q) is =
       let count : length (slice_set v.entries q 0) ≡ length v.entries = length-set v.entries q 0 in
       let one = set_agrees v.entries (newest ks) q None (omega (arith, is.unpinned, table.entries_for_all)) agrees in
-      let two = set_agrees (slice_set v.entries q 0) (changed (newest ks) (Unmap q e.frame)) e.page (Some e.frame) (omega (arith, l.unpinned, table.entries_for_all, count)) one in
+      let two = set_agrees (slice_set v.entries q 0) (changed (newest ks) (Unmap q e.frame)) e.page (Some e.frame)
+          (omega (arith, l.unpinned, table.entries_for_all, count)) one in
       let first : newest (ks ++ Unmap q e.frame ∷ []) ≡ changed (newest ks) (Unmap q e.frame) = newest-more ks (Unmap q e.frame) in
       let both : newest (ks ++ Unmap q e.frame ∷ Map e.page e.frame ∷ []) ≡ changed (newest (ks ++ Unmap q e.frame ∷ [])) (Map e.page e.frame) =
       ap newest (sym (append_assoc ks (Unmap q e.frame ∷ []) (Map e.page e.frame ∷ []))) ∙ newest-more (ks ++ Unmap q e.frame ∷ []) (Map e.page e.frame) in
@@ -91,14 +95,17 @@ record IsSettledFrom (old : RecencyView) (js : List Change) (batch : List Planne
   pub agrees : Agrees now (newest (js ++ changes_of (pass_events batch losses (down_to j m))))
 
 more_changes : (js : List Change) (batch : List Planned) (losses : List Bool) (xs : List ℕ) (j : ℕ) (e : Planned) → slice_get batch j ≡ Some e
-    → js ++ changes_of (pass_events batch losses (xs ++ j ∷ [])) ≡ (js ++ changes_of (pass_events batch losses xs)) ++ changes_of (group_of e (slice_index_or losses j true))
+    → js ++ changes_of (pass_events batch losses (xs ++ j ∷ [])) ≡ (js ++ changes_of (pass_events batch losses xs))
+    ++ changes_of (group_of e (slice_index_or losses j true))
 more_changes js batch losses xs j e at =
     ap (λ (es : List Event). js ++ changes_of es) (flat_map-append (group_at batch losses) xs (j ∷ [])
-    ∙ ap (λ (es : List Event). pass_events batch losses xs ++ es) (append-nil (group_at batch losses j) ∙ ap (λ (o : Option Planned). group_if o (slice_index_or losses j true)) at))
+    ∙ ap (λ (es : List Event). pass_events batch losses xs ++ es) (append-nil (group_at batch losses j)
+    ∙ ap (λ (o : Option Planned). group_if o (slice_index_or losses j true)) at))
     ∙ ap (λ (cs : List Change). js ++ cs) (changes_of-append (pass_events batch losses xs) (group_of e (slice_index_or losses j true)))
     ∙ sym (append_assoc js (changes_of (pass_events batch losses xs)) (changes_of (group_of e (slice_index_or losses j true))))
 
-settled_from : (old : RecencyView) (js : List Change) (batch : List Planned) (losses : List Bool) (m j : ℕ) → IsTable old → IsLawful old batch → length losses ≡ length batch
+settled_from : (old : RecencyView) (js : List Change) (batch : List Planned) (losses : List Bool) (m j : ℕ) → IsTable old → IsLawful old batch
+    → length losses ≡ length batch
     → Agrees old (newest js) → j + m ≡ length batch → IsSettledFrom old js batch losses j m
 unfolding down_to
 settled_from old js batch losses zero j table laws lengths agrees all =
@@ -117,14 +124,16 @@ settled_from old js batch losses (suc m) j table laws lengths agrees all =
     let b : Bool = get_or losses j true in
     let inside : j < length batch = omega (arith, all) in
     let mine : IsLawfulEntry r.now (get_or batch j d) = r.lawful j d (omega arith) in
-    let step = settle_step old r.now (cond b r.now (applied r.now e)) batch losses j d e b inside lengths (get_or_default losses j true b (omega (arith, inside, lengths)))
+    let step = settle_step old r.now (cond b r.now (applied r.now e)) batch losses j d e b inside lengths
+        (get_or_default losses j true b (omega (arith, inside, lengths)))
     (get_or_default batch j d e inside) laws table r.table r.settled r.lawful refl in
     record {
       now = cond b r.now (applied r.now e);
       settled = step.settled;
       table = step_table b r.now e r.table mine;
       lawful = step.lawful;
-      agrees = subst (λ (ks : List Change). Agrees (cond b r.now (applied r.now e)) (newest ks)) (sym (more_changes js batch losses (down_to (suc j) m) j e (slice_get-get_or batch j d inside)))
+      agrees = subst (λ (ks : List Change). Agrees (cond b r.now (applied r.now e)) (newest ks))
+          (sym (more_changes js batch losses (down_to (suc j) m) j e (slice_get-get_or batch j d inside)))
           (step_agrees b r.now (js ++ changes_of (pass_events batch losses (down_to (suc j) m))) e r.table mine r.agrees);
     }
 
@@ -138,7 +147,8 @@ reads_page (e ∷ reads) p is = pick (nat_eq e.page p) refl is (reads_page reads
   pick false other rest more = let f = more rest in (f.0, contains_tail e reads f.0 f.1, f.2)
 
 -- a table that is settled is one
-settled_entries : (old : List ℕ) (reads : List Planned) (a b : List ℕ) → IsSettledTable old reads a → IsSettledTable old reads b → (p : ℕ) → slice_index a p ≡ slice_index b p
+settled_entries : (old : List ℕ) (reads : List Planned) (a b : List ℕ) → IsSettledTable old reads a → IsSettledTable old reads b → (p : ℕ)
+    → slice_index a p ≡ slice_index b p
 settled_entries old reads a b one two p = test (is_read reads p) refl (is_victim reads p) refl where
   test : (r : Bool) → is_read reads p ≡ r → (k : Bool) → is_victim reads p ≡ k → slice_index a p ≡ slice_index b p
   test true read k is = let e = reads_page reads p read in
@@ -153,11 +163,13 @@ past (x ∷ xs) (suc k) few = past xs k (omega (arith, few))
 
 same_entries : (a b : List ℕ) → length a ≡ length b → ((p : ℕ) → slice_index a p ≡ slice_index b p) → a ≡ b
 same_entries a b count each = same_lists a b
-    (λ k inside. slice_get-get_or a k 0 (omega (arith, inside, count)) ∙ ap Some (each k) ∙ sym (slice_get-get_or b k 0 inside)) (past a (length b) (omega (arith, count)))
+    (λ k inside. slice_get-get_or a k 0 (omega (arith, inside, count)) ∙ ap Some (each k)
+        ∙ sym (slice_get-get_or b k 0 inside)) (past a (length b) (omega (arith, count)))
 
 pub settled_one : (old a b : RecencyView) (reads : List Planned) → IsSettled old reads a → IsSettled old reads b → a ≡ b
 settled_one old a b reads one two =
-    let entries : a.entries ≡ b.entries = same_entries a.entries b.entries (one.table.same_length ∙ sym two.table.same_length) (settled_entries old.entries reads a.entries b.entries one.table two.table) in
+    let entries : a.entries ≡ b.entries = same_entries a.entries b.entries (one.table.same_length
+        ∙ sym two.table.same_length) (settled_entries old.entries reads a.entries b.entries one.table two.table) in
     λ i. record {
       shape = (one.shape ∙ sym two.shape) i;
       frames = (one.frames ∙ sym two.frames) i;
@@ -171,7 +183,8 @@ pub record IsKeptUp (new : RecencyView) (js : List Change) : Type 0 where
   pub table : IsTable new
   pub agrees : Agrees new (newest js)
 
-pub settled_agrees : (old new : RecencyView) (js : List Change) (batch : List Planned) (losses : List Bool) (events : List Event) → IsTable old → Agrees old (newest js) → IsLawful old batch
+pub settled_agrees : (old new : RecencyView) (js : List Change) (batch : List Planned) (losses : List Bool) (events : List Event) → IsTable old
+    → Agrees old (newest js) → IsLawful old batch
     → IsOutcome batch losses events → IsSettled old (read_entries batch losses) new → IsKeptUp new (js ++ changes_of events)
 settled_agrees old new js batch losses events table agrees laws outcome settled =
     let r = settled_from old js batch losses (length batch) 0 table laws outcome.told agrees (omega arith) in
@@ -182,8 +195,10 @@ settled_agrees old new js batch losses events table agrees laws outcome settled 
       each_once = subst (IsPermutation (range_with_len 0 (length batch))) (down_is 0 (length batch)) (IsPermutation-reverse (range_with_len 0 (length batch)));
       groups = refl;
     } in
-    let tables = any_order old.shape old.frames js batch losses events (pass_events batch losses (down_to 0 (length batch))) (may_be_run old (newest js) batch table agrees laws) outcome other in
+    let tables = any_order old.shape old.frames js batch losses events (pass_events batch losses (down_to 0 (length batch)))
+        (may_be_run old (newest js) batch table agrees laws) outcome other in
     record {
       table = subst IsTable same r.table;
-      agrees = subst (Agrees new) (sym tables) (subst (λ (v : RecencyView). Agrees v (newest (js ++ changes_of (pass_events batch losses (down_to 0 (length batch)))))) same r.agrees);
+      agrees = subst (Agrees new) (sym tables) (subst (λ (v : RecencyView). Agrees v
+          (newest (js ++ changes_of (pass_events batch losses (down_to 0 (length batch)))))) same r.agrees);
     }

@@ -33,17 +33,21 @@ self_number p = pick (p == p) refl where
   pick true is = refl
   pick false is = grind arith
 
-pub rows_after : (b : Bool) (p : WalkPass) (passes : List WalkPass) (picture : ℕ) → (p.picture == picture) ≡ b → last_rows (p ∷ passes) picture ≡ (if b then p.rows else last_rows passes picture)
+pub rows_after : (b : Bool) (p : WalkPass) (passes : List WalkPass) (picture : ℕ) → (p.picture == picture) ≡ b
+    → last_rows (p ∷ passes) picture ≡ (if b then p.rows else last_rows passes picture)
 rows_after b p passes picture is = ap (λ (t : Bool). if t then p.rows else last_rows passes picture) is
 
 -- a row names a version that the journal has
-rows_known : (w : WalkSetup) (passes : List WalkPass) (picture y : ℕ) (row : RowLine) → IsRun w passes → slice_get (last_rows passes picture) y ≡ Some row → row.version ≤ length (journal_after w passes)
+rows_known : (w : WalkSetup) (passes : List WalkPass) (picture y : ℕ) (row : RowLine) → IsRun w passes
+    → slice_get (last_rows passes picture) y ≡ Some row → row.version ≤ length (journal_after w passes)
 rows_known w [] picture y row run is = absurd (none_some row is) where
   none_some : (row : RowLine) → None ≡ Some row → ⊥
   none_some row e = cc
 rows_known w (p ∷ passes) picture y row run is = pick (p.picture == picture) refl (rows_known w passes picture y row run.0) where
-  pick : (b : Bool) → (p.picture == picture) ≡ b → (slice_get (last_rows passes picture) y ≡ Some row → row.version ≤ length (journal_after w passes)) → row.version ≤ length (journal_after w (p ∷ passes))
-  pick true same before = (run.1.in_order.of_picture.each y row (ap (λ (rows : List RowLine). slice_get rows y) (sym (rows_after true p passes picture same)) ∙ is)).to
+  pick : (b : Bool) → (p.picture == picture) ≡ b → (slice_get (last_rows passes picture) y ≡ Some row → row.version ≤ length (journal_after w passes))
+      → row.version ≤ length (journal_after w (p ∷ passes))
+  pick true same before = (run.1.in_order.of_picture.each y row
+      (ap (λ (rows : List RowLine). slice_get rows y) (sym (rows_after true p passes picture same)) ∙ is)).to
   pick false other before =
       let few = before (ap (λ (rows : List RowLine). slice_get rows y) (sym (rows_after false p passes picture other)) ∙ is) in
       omega (arith, few, length-append (journal_after w passes) (changes_of p.events))
@@ -68,7 +72,8 @@ if_some : {X : Type 0} (o : Option X) (x : X) (P : X → Type 0) → o ≡ Some 
 if_some o x P e h = subst (λ p. IfSome p P) e h
 
 pub picture_drawn : (w : WalkSetup) (p : WalkPass) (passes : List WalkPass) (needs : Scene → ℕ → ℕ → ℕ) (shows : Scene → List ℕ → Table → ℕ → ℕ → ℕ → List ℕ)
-    (drawn : PathView → ℕ → ℕ → ℕ → List ℕ → Type 0) (job : Job) (s : MachineState) (b : List ℕ) → IsPictured needs shows drawn job p.rows s → s.setup.bytes ≡ Some b
+    (drawn : PathView → ℕ → ℕ → ℕ → List ℕ → Type 0) (job : Job) (s : MachineState) (b : List ℕ) → IsPictured needs shows drawn job p.rows s
+        → s.setup.bytes ≡ Some b
     → s.setup.height ≡ w.height → s.journal ≡ journal_after w (p ∷ passes) → job.picture ≡ p.picture
     → IsRunPicture w (p ∷ passes) s.setup.depth s.setup.width (shows job.scene b) p.picture (concat s.rows)
 picture_drawn w p passes needs shows drawn job s b pictured told height journal picture =
@@ -80,8 +85,10 @@ picture_drawn w p passes needs shows drawn job s b pictured told height journal 
       full = pictured.full;
       replayed = λ y line is.
           let pixels = replayed y line (ap (λ (rows : List RowLine). slice_get rows y) (sym own) ∙ is) in
-          subst (λ k. HasPixels s.setup.depth s.setup.width (λ x. shows job.scene b (at (journal_after w (p ∷ passes)) line.version) k x y) (slice_index_or s.rows y [])) picture
-          (subst (λ (js : List Change). HasPixels s.setup.depth s.setup.width (λ x. shows job.scene b (at js line.version) job.picture x y) (slice_index_or s.rows y [])) journal pixels);
+          subst (λ k. HasPixels s.setup.depth s.setup.width (λ x. shows job.scene b (at (journal_after w (p ∷ passes)) line.version) k x y)
+              (slice_index_or s.rows y [])) picture
+          (subst (λ (js : List Change). HasPixels s.setup.depth s.setup.width (λ x. shows job.scene b (at js line.version) job.picture x y)
+              (slice_index_or s.rows y [])) journal pixels);
       joined = refl;
     }
 
@@ -92,12 +99,14 @@ line_stays p passes picture other =
     ap (λ (b : Bool). if b then p ∷ passes_of picture passes else passes_of picture passes) (other_number p.picture picture other) in
     rw same refl
 
-range_stays : (p : WalkPass) (passes : List WalkPass) (a n : ℕ) → a + n ≤ p.picture → flat_map (picture_line (p ∷ passes)) (range_with_len a n) ≡ flat_map (picture_line passes) (range_with_len a n)
+range_stays : (p : WalkPass) (passes : List WalkPass) (a n : ℕ) → a + n ≤ p.picture
+    → flat_map (picture_line (p ∷ passes)) (range_with_len a n) ≡ flat_map (picture_line passes) (range_with_len a n)
 range_stays p passes a zero few = refl
 range_stays p passes a (suc n) few =
     let other : p.picture ≢ a = λ same. absurd (omega (arith, same, few)) in
     ap (λ (bs : List ℕ). bs ++ flat_map (picture_line (p ∷ passes)) (range_with_len (a + 1) n)) (line_stays p passes a other)
     ∙ ap (λ (bs : List ℕ). picture_line passes a ++ bs) (range_stays p passes (a + 1) n (omega (arith, few)))
 
-pub lines_stay : (p : WalkPass) (passes : List WalkPass) (pictures : ℕ) → pictures ≤ p.picture → picture_lines (p ∷ passes) pictures ≡ picture_lines passes pictures
+pub lines_stay : (p : WalkPass) (passes : List WalkPass) (pictures : ℕ) → pictures ≤ p.picture
+    → picture_lines (p ∷ passes) pictures ≡ picture_lines passes pictures
 lines_stay p passes pictures few = range_stays p passes 0 pictures (omega (arith, few))

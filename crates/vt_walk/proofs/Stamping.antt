@@ -23,7 +23,8 @@ record AreInOrder (w : WalkSetup) (passes : List WalkPass) (stamps : Stamps) : T
   pub before : AreBefore stamps (length passes + 1)
   pub order : IsByStamps stamps (recency_after w passes).order
 
-stamps_order : (w : WalkSetup) (passes : List WalkPass) (stamps : Stamps) → IsWalkSetup w → IsRun w passes → AreStampsOf passes stamps → AreInOrder w passes stamps
+stamps_order : (w : WalkSetup) (passes : List WalkPass) (stamps : Stamps) → IsWalkSetup w → IsRun w passes → AreStampsOf passes stamps
+    → AreInOrder w passes stamps
 stamps_order w [] stamps h run are = record {
   before = subst (λ (s : Stamps). AreBefore s 1) (sym are) (none_before 1);
   order = first_by_stamps w.shape w.frames w.pinned stamps;
@@ -45,5 +46,6 @@ stamps_order w (p ∷ passes) stamps h run are =
       });
     }
 
-pub order_is_stamped : (w : WalkSetup) (passes : List WalkPass) (stamps : Stamps) → IsWalkSetup w → IsRun w passes → AreStampsOf passes stamps → IsByStamps stamps (recency_after w passes).order
+pub order_is_stamped : (w : WalkSetup) (passes : List WalkPass) (stamps : Stamps) → IsWalkSetup w → IsRun w passes → AreStampsOf passes stamps
+    → IsByStamps stamps (recency_after w passes).order
 order_is_stamped w passes stamps h run are = (stamps_order w passes stamps h run are).order

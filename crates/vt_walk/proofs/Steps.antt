@@ -49,7 +49,8 @@ gained_none (Some text) = ap Some (sym (append-nil text))
 
 -- the journal with more text
 pub journal_more : (names : WalkNames) (text more : List ℕ) (pictures : List (List ℕ)) (told : Option Files)
-    → option_map (with_appended names.journal more) (option_map (with_walk names text pictures) told) ≡ option_map (with_walk names (text ++ more) pictures) told
+    → option_map (with_appended names.journal more) (option_map (with_walk names text pictures) told) ≡ option_map (with_walk names (text
+    ++ more) pictures) told
 journal_more names text more pictures told =
     ap (option_map (with_appended names.journal more)) (sym (changed_twice (with_bytes names.journal text) (with_pictures names.prefix pictures) told))
     ∙ told-bytes-appended names.journal text more (option_map (with_pictures names.prefix pictures) told)
@@ -128,7 +129,8 @@ picture_first : (names : WalkNames) (text bytes : List ℕ) (pictures : List (Li
     ≡ option_map (with_walk names text (bytes ∷ pictures)) told
 picture_first names text bytes pictures None apart = refl
 picture_first names text bytes pictures (Some files) apart =
-    ap Some (either_first (picture_name names.prefix (length pictures)) names.journal bytes text (with_pictures names.prefix pictures files) (other_name names (length pictures) apart))
+    ap Some (either_first (picture_name names.prefix (length pictures)) names.journal bytes text (with_pictures names.prefix pictures files)
+        (other_name names (length pictures) apart))
 
 -- a picture that is written, and its line
 pub picture_told : (drawn : PathView → ℕ → ℕ → ℕ → List ℕ → Type 0) (g : WalkGiven) (p : WalkPass) (run : List WalkPass) (pictures : List (List ℕ))
@@ -145,11 +147,13 @@ picture_told drawn g p run pictures bytes first was now s finished count written
   files = λ apart.
       files ∙ ap (option_map (with_bytes (picture_name g.names.prefix (length pictures)) bytes)) (s.files apart)
       ∙ picture_first g.names (run_text g.setup (p ∷ run)) bytes pictures first.files apart;
-  there = subst (λ told. IsThere told g.names.journal) (sym files) (there_stays g.names.journal (picture_name g.names.prefix (length pictures)) bytes was.files s.there);
+  there = subst (λ told. IsThere told g.names.journal) (sym files)
+      (there_stays g.names.journal (picture_name g.names.prefix (length pictures)) bytes was.files s.there);
   held = held ∙ ap (option_map (gained (picture_line (p ∷ run) (length pictures)))) s.held
       ∙ told_gained (picture_lines (p ∷ run) (length pictures)) (picture_line (p ∷ run) (length pictures)) first.held
       ∙ ap (λ (text : List ℕ). option_map (gained text) first.held) (sym (lines_more (p ∷ run) (length pictures)));
-  asked = subst (λ told. OnTold (AreAskedFor g.scene.shape g.scene.depth g.setup.pinned (planned_in (p ∷ run)) (lost_in (p ∷ run))) first.asked told) (sym asked) s.asked;
+  asked = subst (λ told. OnTold (AreAskedFor g.scene.shape g.scene.depth g.setup.pinned (planned_in (p ∷ run)) (lost_in (p ∷ run))) first.asked told)
+      (sym asked) s.asked;
   faults = let f = s.faults in omega (arith, f, faults);
   out_faults = let o = s.out_faults in omega (arith, o, out_faults);
 }

@@ -36,7 +36,8 @@ follow_more s height pinned js n before [] p ks m last changes count picture all
     let all_changes : ks ≡ js = changes ∙ append-nil js in
     let all_passes : m ≡ n = omega (arith, count) in (
       subst (λ x. IsPassAfter s height pinned js n x p) picture
-          (subst (λ x. IsPassAfter s height pinned js x last p) all_passes (subst (λ (x : List Change). IsPassAfter s height pinned x m last p) all_changes one)),
+          (subst (λ x. IsPassAfter s height pinned js x last p) all_passes
+              (subst (λ (x : List Change). IsPassAfter s height pinned x m last p) all_changes one)),
       tt,
     )
 follow_more s height pinned js n before (q ∷ passes) p ks m last changes count picture all one = (
@@ -52,7 +53,8 @@ told_count w (p ∷ passes) = omega (arith, length-append (passes_told w passes)
 pub told_changes : (w : WalkSetup) (passes : List WalkPass) → pinned_changes w.shape w.pinned ++ passes_changes (passes_told w passes) ≡ journal_after w passes
 told_changes w [] = append-nil (pinned_changes w.shape w.pinned)
 told_changes w (p ∷ passes) =
-    ap (λ (cs : List Change). pinned_changes w.shape w.pinned ++ cs) (flat_map-append (λ (q : Pass). changes_of q.events) (passes_told w passes) (told_of w passes p ∷ [])
+    ap (λ (cs : List Change). pinned_changes w.shape w.pinned
+        ++ cs) (flat_map-append (λ (q : Pass). changes_of q.events) (passes_told w passes) (told_of w passes p ∷ [])
     ∙ ap (λ (cs : List Change). passes_changes (passes_told w passes) ++ cs) (append-nil (changes_of p.events)))
     ∙ sym (append_assoc (pinned_changes w.shape w.pinned) (passes_changes (passes_told w passes)) (changes_of p.events))
     ∙ ap (λ (cs : List Change). cs ++ changes_of p.events) (told_changes w passes)
@@ -86,16 +88,20 @@ next_told w passes p h run next =
       picture_is = next_picture w passes p.picture next.turn;
       start_is = refl;
       events = outcome_follows w.shape w.frames w.pinned (journal_after w passes) p.batch p.losses p.events h.most_frames kept.turn
-          (batch_may_be_run w passes p.batch run kept next.planned) (unpinned_victims w (recency_after w passes) p.batch kept.shape kept.pinned laws) next.outcome;
-      rows = subst (λ n. AreRowsOf w.height (length (journal_after w passes)) n p.rows) (length-append (journal_after w passes) (changes_of p.events)) next.in_order.of_picture;
+          (batch_may_be_run w passes p.batch run kept next.planned) (unpinned_victims w (recency_after w passes) p.batch kept.shape kept.pinned laws)
+              next.outcome;
+      rows = subst (λ n. AreRowsOf w.height (length (journal_after w passes)) n p.rows) (length-append (journal_after w passes) (changes_of p.events))
+          next.in_order.of_picture;
     }
 
 passes_follow : (w : WalkSetup) (passes : List WalkPass) → IsWalkSetup w → IsRun w passes
     → ArePassesAfter w.shape w.height w.pinned (pinned_changes w.shape w.pinned) 0 0 (passes_told w passes)
 passes_follow w [] h run = tt
 passes_follow w (p ∷ passes) h run =
-    follow_more w.shape w.height w.pinned (pinned_changes w.shape w.pinned) 0 0 (passes_told w passes) (told_of w passes p) (journal_after w passes) (length passes) (before_of passes)
-    (sym (told_changes w passes)) (omega (arith, told_count w passes)) (told_picture w passes) (passes_follow w passes h run.0) (next_told w passes p h run.0 run.1)
+    follow_more w.shape w.height w.pinned (pinned_changes w.shape w.pinned) 0 0 (passes_told w passes) (told_of w passes p) (journal_after w passes)
+        (length passes) (before_of passes)
+    (sym (told_changes w passes)) (omega (arith, told_count w passes)) (told_picture w passes) (passes_follow w passes h run.0)
+        (next_told w passes p h run.0 run.1)
 
 pub run_is_lawful : (w : WalkSetup) (passes : List WalkPass) → IsWalkSetup w → IsRun w passes → IsLawful w.shape w.height (run_content w passes)
 run_is_lawful w passes h run = lawful_by_parts w.shape w.height (run_content w passes) (record { head = may_pin w h; passes = passes_follow w passes h run })
@@ -105,7 +111,8 @@ run_is_pinned w passes h run = subst (λ (js : List Change). Pinned w.shape js w
     (content_pinned w.shape w.height (run_content w passes) (record { head = may_pin w h; passes = passes_follow w passes h run }))
 
 pub run_is_legal : (w : WalkSetup) (passes : List WalkPass) → IsWalkSetup w → IsRun w passes → AreLegal w.shape (journal_after w passes)
-run_is_legal w passes h run = legal-pinned w.shape (journal_after w passes) w.pinned (root_last w.shape h.limits) h.some_pinned (run_kept w passes h run).turn (run_is_pinned w passes h run)
+run_is_legal w passes h run = legal-pinned w.shape (journal_after w passes) w.pinned (root_last w.shape h.limits) h.some_pinned
+    (run_kept w passes h run).turn (run_is_pinned w passes h run)
 
 pub text_grows : (w : WalkSetup) (p : WalkPass) (passes : List WalkPass) → run_text w (p ∷ passes) ≡ run_text w passes ++ pass_text w.shape (told_of w passes p)
 text_grows w p passes =
@@ -115,4 +122,5 @@ text_grows w p passes =
 
 pub text_tells : (w : WalkSetup) (a b : List WalkPass) → IsWalkSetup w → IsRun w a → IsRun w b → run_text w a ≡ run_text w b → run_content w a ≡ run_content w b
 text_tells w a b h run other same =
-    content_unique w.shape w.height (run_content w a) (run_content w b) (omega (arith, h.limits.least_tile)) (run_is_lawful w a h run) (run_is_lawful w b h other) same
+    content_unique w.shape w.height (run_content w a) (run_content w b) (omega (arith, h.limits.least_tile)) (run_is_lawful w a h run)
+        (run_is_lawful w b h other) same

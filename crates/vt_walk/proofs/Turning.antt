@@ -21,10 +21,12 @@ live_turn w p (q ∷ passes) mode run = pick run.1.turn.1 (live_turn w q passes 
   pick (inl next) before = omega (arith, next.1, before)
   pick (inr same) before = absurd (same.0 finished)
 
-pub settled_turn : (w : WalkSetup) (p q : WalkPass) (passes : List WalkPass) → w.mode ≡ Settled → IsRun w (p ∷ q ∷ passes) → p.picture ≢ q.picture → p.batch ≡ []
+pub settled_turn : (w : WalkSetup) (p q : WalkPass) (passes : List WalkPass) → w.mode ≡ Settled → IsRun w (p ∷ q ∷ passes) → p.picture ≢ q.picture
+    → p.batch ≡ []
 settled_turn w p q passes mode run other = pick run.1.turn.1 where
   pick : IsPictureAfter (IsFinished w q passes) q.picture p.picture → p.batch ≡ []
-  pick (inl next) = let done : Finishes Settled q.batch (plan_after w (q ∷ passes)) = subst (λ (m : Mode). Finishes m q.batch (plan_after w (q ∷ passes))) mode next.0 in
+  pick (inl next) = let done : Finishes Settled q.batch (plan_after w (q ∷ passes)) = subst
+      (λ (m : Mode). Finishes m q.batch (plan_after w (q ∷ passes))) mode next.0 in
       run.1.planned ∙ done.1
   pick (inr same) = absurd (other same.1)
 
@@ -60,5 +62,6 @@ no_passes w k n (q ∷ passes) d all =
     ap (λ (b : Bool). if b then q ∷ passes_of k passes else passes_of k passes) (other_number q.picture k other) ∙ no_passes w k n passes d all.1
 
 -- a picture that does not fit has no second pass
-pub unfit_first : (w : WalkSetup) (p : WalkPass) (passes : List WalkPass) (n : ℕ) → w.mode ≡ Settled → IsRun w (p ∷ passes) → DoesNotFit w p.picture n → passes_of p.picture passes ≡ []
+pub unfit_first : (w : WalkSetup) (p : WalkPass) (passes : List WalkPass) (n : ℕ) → w.mode ≡ Settled → IsRun w (p ∷ passes) → DoesNotFit w p.picture n
+    → passes_of p.picture passes ≡ []
 unfit_first w p passes n mode run d = no_passes w p.picture n passes d (each_fits w p passes mode run)

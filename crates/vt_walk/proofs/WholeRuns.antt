@@ -73,7 +73,8 @@ alike_more w p q a b h x y none none_too = record {
   to f = subst (λ (l : List Planned). Finishes w.mode l (plan_after w (q ∷ b))) batch (subst (λ (l : List Planned). Finishes w.mode p.batch l) plan f)
 
   from : IsFinished w q b → IsFinished w p a
-  from f = subst (λ (l : List Planned). Finishes w.mode l (plan_after w (p ∷ a))) (sym batch) (subst (λ (l : List Planned). Finishes w.mode q.batch l) (sym plan) f)
+  from f = subst (λ (l : List Planned). Finishes w.mode l (plan_after w (p ∷ a))) (sym batch)
+      (subst (λ (l : List Planned). Finishes w.mode q.batch l) (sym plan) f)
 
 -- as many passes of two runs are alike
 alike : (w : WalkSetup) (a b : List WalkPass) → w.mode ≡ Settled → IsRun w a → IsRun w b → LostNone a → LostNone b → length a ≡ length b → AreAlike w a b

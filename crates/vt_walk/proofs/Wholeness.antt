@@ -40,7 +40,8 @@ in_pages (x ∷ wants) w there = pick (contains_head x wants w there) (in_pages 
   or_false true c e = refl
   or_false false c e = absurd (false≢true e)
 
-  pick : (x ≡ w) ⊎ Contains wants w → (Contains wants w → is_in (pages_wanted wants) w.page ≡ true) → (nat_eq w.page x.page || is_in (pages_wanted wants) w.page) ≡ true
+  pick : (x ≡ w) ⊎ Contains wants w → (Contains wants w → is_in (pages_wanted wants) w.page ≡ true)
+      → (nat_eq w.page x.page || is_in (pages_wanted wants) w.page) ≡ true
   pick (inl same) rest = or_false (nat_eq w.page x.page) (is_in (pages_wanted wants) w.page) (ap (λ (y : Wanted). nat_eq w.page y.page) same ∙ self_eq w.page)
   pick (inr later) rest = or_true (nat_eq w.page x.page) (is_in (pages_wanted wants) w.page) (rest later)
 
@@ -57,7 +58,8 @@ pub fits_or_not : (w : WalkSetup) (picture n : ℕ) → Fits w picture → DoesN
 fits_or_not w picture n f d = absurd (omega (arith, f.room, d.no_room, needs_one w picture f.needed n f.pages d.pages))
 
 -- how many pages a pass's wanted list needs
-pub needs_of : (w : WalkSetup) (v : RecencyView) (picture : ℕ) (wants : List Wanted) → v.shape ≡ w.shape → v.pinned ≡ w.pinned → IsWants w.shape (w.needs picture) wants
+pub needs_of : (w : WalkSetup) (v : RecencyView) (picture : ℕ) (wants : List Wanted) → v.shape ≡ w.shape → v.pinned ≡ w.pinned
+    → IsWants w.shape (w.needs picture) wants
     → NeedsFrames w picture (pages_needed v wants)
 unfolding first_view
 needs_of w v picture wants shape pinned wanted = record {
@@ -77,21 +79,26 @@ finished_maps_needed w p passes h run mode go finished =
     let goes : GoesOn Settled w p = subst (λ (m : Mode). GoesOn m w p) mode go in
     let done : Finishes Settled p.batch (plan_after w (p ∷ passes)) = subst (λ (m : Mode). Finishes m p.batch (plan_after w (p ∷ passes))) mode finished in
     let same : journal_after w (p ∷ passes) ≡ journal_after w passes =
-    ap (λ (es : List Event). journal_after w passes ++ changes_of es) (no_events p.batch p.losses p.events done.0 run.1.outcome) ∙ append-nil (journal_after w passes) in
+    ap (λ (es : List Event). journal_after w passes ++ changes_of es) (no_events p.batch p.losses p.events done.0 run.1.outcome)
+        ∙ append-nil (journal_after w passes) in
     let fit = goes.1 in
     let count : pages_needed (recency_after w (p ∷ passes)) p.wants ≡ fit.needed =
-    needs_one w p.picture (pages_needed (recency_after w (p ∷ passes)) p.wants) fit.needed (needs_of w (recency_after w (p ∷ passes)) p.picture p.wants kept.shape kept.pinned run.1.wanted) fit.pages in
+    needs_one w p.picture (pages_needed (recency_after w (p ∷ passes)) p.wants) fit.needed
+        (needs_of w (recency_after w (p ∷ passes)) p.picture p.wants kept.shape kept.pinned run.1.wanted) fit.pages in
     let fits : pages_needed (recency_after w (p ∷ passes)) p.wants ≤ (recency_after w (p ∷ passes)).frames - (recency_after w (p ∷ passes)).pinned =
     omega (arith, count, fit.room, kept.frames, kept.pinned) in
     let pages : pages_of (recency_after w (p ∷ passes)).shape ≡ pages_of w.shape = ap pages_of kept.shape in
     let held : (q : ℕ) → is_mapped (recency_after w (p ∷ passes)).entries q ≡ true → IsSome (newest (journal_after w passes) q) =
-    λ q is. subst (λ (js : List Change). IsSome (newest js q)) same (mapped_some (newest (journal_after w (p ∷ passes)) q) (ap (nat_lt 0) (sym (kept.agrees q)) ∙ is)) in
+    λ q is. subst (λ (js : List Change). IsSome (newest js q)) same
+        (mapped_some (newest (journal_after w (p ∷ passes)) q) (ap (nat_lt 0) (sym (kept.agrees q)) ∙ is)) in
     let last = root_last w.shape h.limits in
     record {
       root = held (root_of w.shape) (kept.table.pinned_mapped (root_of w.shape) (omega (arith, last, pages))
-          (pin_true (pages_of (recency_after w (p ∷ passes)).shape) (root_of w.shape + (recency_after w (p ∷ passes)).pinned) (omega (arith, last, pages, kept.pinned, h.some_pinned))));
+          (pin_true (pages_of (recency_after w (p ∷ passes)).shape) (root_of w.shape + (recency_after w (p ∷ passes)).pinned)
+              (omega (arith, last, pages, kept.pinned, h.some_pinned))));
       needed_mapped = λ q inside needed.
           let wanted : Wanted = record { page = q; pixels = w.needs p.picture q } in
           let there = (run.1.wanted.exact wanted).1 (record { inside = inside; some = omega (arith, needed); all = refl }) in
-          held q (mapped_if_none (recency_after w (p ∷ passes)) p.wants w.most q kept.table h.some_entry done.1 fits (omega (arith, inside, pages)) (in_pages p.wants wanted there));
+          held q (mapped_if_none (recency_after w (p ∷ passes)) p.wants w.most q kept.table h.some_entry done.1 fits (omega (arith, inside, pages))
+              (in_pages p.wants wanted there));
     }

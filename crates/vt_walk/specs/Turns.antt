@@ -98,7 +98,8 @@ pub record HasRun (dealt : Bool) (needs : Scene → ℕ → ℕ → ℕ) (shows 
 
 -- a machine has drawn the next pass of a run, and streamed its batch
 pub record HasDrawn (dealt : Bool) (needs : Scene → ℕ → ℕ → ℕ) (shows : Scene → List ℕ → Table → ℕ → ℕ → ℕ → List ℕ)
-    (drawn : PathView → ℕ → ℕ → ℕ → List ℕ → Type 0) (g : WalkGiven) (run : List WalkPass) (t : Turn) (before after : MachineState) (v : RecencyView) (d : Drawn) : Type 0 where
+    (drawn : PathView → ℕ → ℕ → ℕ → List ℕ → Type 0) (g : WalkGiven) (run : List WalkPass) (t : Turn) (before after : MachineState) (v : RecencyView)
+        (d : Drawn) : Type 0 where
   pub pass : WalkPass
   pub next : IsNextPass g.setup run pass
   pub picture : pass.picture ≡ t.picture
@@ -123,7 +124,8 @@ pub record StandsAt (drawn : PathView → ℕ → ℕ → ℕ → List ℕ → T
 
 -- the beginning of a run stands whole, and its newest pass has just been made
 pub record StandsAfter (dealt : Bool) (needs : Scene → ℕ → ℕ → ℕ) (shows : Scene → List ℕ → Table → ℕ → ℕ → ℕ → List ℕ)
-    (drawn : PathView → ℕ → ℕ → ℕ → List ℕ → Type 0) (g : WalkGiven) (number : ℕ) (p : Passed) (first now : WalkState) (m : MachineState) (v : RecencyView) : Type 0 where
+    (drawn : PathView → ℕ → ℕ → ℕ → List ℕ → Type 0) (g : WalkGiven) (number : ℕ) (p : Passed) (first now : WalkState) (m : MachineState)
+        (v : RecencyView) : Type 0 where
   pub run : List WalkPass
   pub pass : WalkPass
   pub pictures : List (List ℕ)
@@ -137,7 +139,8 @@ pub record StandsAfter (dealt : Bool) (needs : Scene → ℕ → ℕ → ℕ) (s
   pub tell : IsSome now.asked → AllTell m.files
 
 -- a run has begun: nothing but the journal's head stands
-pub record StandsFirst (drawn : PathView → ℕ → ℕ → ℕ → List ℕ → Type 0) (g : WalkGiven) (first now : WalkState) (m : MachineState) (v : RecencyView) : Type 0 where
+pub record StandsFirst (drawn : PathView → ℕ → ℕ → ℕ → List ℕ
+    → Type 0) (g : WalkGiven) (first now : WalkState) (m : MachineState) (v : RecencyView) : Type 0 where
   pub given : IsGiven g
   pub stands : Stands drawn g [] [] first now
   pub at_run : IsAtRun g [] m v

@@ -100,7 +100,8 @@ no_command_of m T words c (Err (Flawed name flaw)) (inl h) none = absurd h.unrea
 no_command_of m T words c (Err (TooFewFrames frames needed)) (inl h) none = absurd h.unread
 no_command_of m T words c (Err (DoesNotFit picture wanted room)) (inl h) none = absurd h.unread
 
-pub fault_of : (m : Drawing) (T : Type 0) (words : List (List ℕ)) (c : Course) (r : Result T Refusal) → EndsRun m words c r → status_of r ≡ 3 → RunFault m words c
+pub fault_of : (m : Drawing) (T : Type 0) (words : List (List ℕ)) (c : Course) (r : Result T Refusal) → EndsRun m words c r → status_of r ≡ 3
+    → RunFault m words c
 fault_of m T words c (Ok t) h s = absurd (omega (arith, s))
 fault_of m T words c (Err NoMemory) h s = absurd (omega (arith, s))
 fault_of m T words c (Err Usage) h s = absurd (omega (arith, s))
@@ -204,7 +205,8 @@ stopped_as T c (Err (TooFewFrames frames needed)) terms contents a laws h none h
 stopped_as T c (Err (DoesNotFit picture wanted room)) terms contents a laws h none held hinders =
     inl (hindered_status terms c contents a (LargePicture picture wanted room) laws held hinders h.1.1)
 
-pub stopped_of : (m : Drawing) (T : Type 0) (words : List (List ℕ)) (c : Course) (r : Result T Refusal) → EndsRun m words c r → RunStopped m words c (status_of r)
+pub stopped_of : (m : Drawing) (T : Type 0) (words : List (List ℕ)) (c : Course) (r : Result T Refusal) → EndsRun m words c r
+    → RunStopped m words c (status_of r)
 stopped_of m T words c r h = λ p contents hindrance asks none held hinders. elim (came_to m T words c r h p asks) [
   | inl wanting ↦ inr wanting
   | inr ends ↦ stopped_as T c r (terms_of m p) contents hindrance (sound m p) ends none held hinders
@@ -233,7 +235,8 @@ complete_as T c (Err (TooFewFrames frames needed)) terms contents h none held fr
 complete_as T c (Err (DoesNotFit picture wanted room)) terms contents h none held free =
     absurd (none_met terms c contents (LargePicture picture wanted room) held free h.1.1)
 
-pub complete_of : (m : Drawing) (T : Type 0) (words : List (List ℕ)) (c : Course) (r : Result T Refusal) → EndsRun m words c r → RunComplete m words c (status_of r)
+pub complete_of : (m : Drawing) (T : Type 0) (words : List (List ℕ)) (c : Course) (r : Result T Refusal) → EndsRun m words c r
+    → RunComplete m words c (status_of r)
 complete_of m T words c r h = λ p contents asks none held free. elim (came_to m T words c r h p asks) [
   | inl wanting ↦ inr wanting
   | inr ends ↦ complete_as T c r (terms_of m p) contents ends none held free
@@ -254,7 +257,8 @@ small_of T (Err (Flawed name flaw)) = omega arith
 small_of T (Err (TooFewFrames frames needed)) = omega arith
 small_of T (Err (DoesNotFit picture wanted room)) = omega arith
 
-pub bad_input_of : (m : Drawing) (T : Type 0) (words : List (List ℕ)) (c : Course) (r : Result T Refusal) (err : Gain) → EndsRun m words c r → EndTold r err → status_of r ≡ 4
+pub bad_input_of : (m : Drawing) (T : Type 0) (words : List (List ℕ)) (c : Course) (r : Result T Refusal) (err : Gain) → EndsRun m words c r
+    → EndTold r err → status_of r ≡ 4
     → RunBadInput m words c err
 bad_input_of m T words c (Ok t) err h told s = absurd (omega (arith, s))
 bad_input_of m T words c (Err NoMemory) err h told s = absurd (omega (arith, s))

@@ -39,7 +39,8 @@ placed name of places (Some a) told same is =
     ap (λ (p : Option (List Place)). Some (with_places of p a)) same ∙ ap (λ (n : List ℕ). Some (with_places n (Some places) a)) is
 
 asked_of : (input : Input) (before opened after : FolderState) (v : Visit)
-    → Opened (name_of input) (record { before = before; after = opened }) v.before → Visits (MayAsk input) v → Closed v.after (record { before = opened; after = after })
+    → Opened (name_of input) (record { before = before; after = opened }) v.before → Visits (MayAsk input) v
+    → Closed v.after (record { before = opened; after = after })
     → IsAsked input (record { before = before; after = after })
 asked_of input before opened after v o h c = (
   h.places,
@@ -58,7 +59,8 @@ rise : (b o a n z : ℕ) → b ≤ o → z ≡ 0 → a ≡ added o n → Rose z 
 rise b o a n z le zero_is sum rose = omega (arith, le, zero_is, sum, rose)
 
 cause_there : (input : Input) (before opened after : FolderState) (v : Visit) (refusal : Refusal)
-    → Opened (name_of input) (record { before = before; after = opened }) v.before → Closed v.after (record { before = opened; after = after }) → IsCausedIn input v refusal
+    → Opened (name_of input) (record { before = before; after = opened }) v.before → Closed v.after (record { before = opened; after = after })
+    → IsCausedIn input v refusal
     → IsCausedBy input (record { before = before; after = after }) refusal
 cause_there input before opened after v NoMemory o c h = tt
 cause_there input before opened after v Usage o c h = h
@@ -76,7 +78,8 @@ cause_there input before opened after v (Flawed name flaw) o c h = (
 
 -- a file that was opened, read and closed
 pub closed : {T : Type 0} → (input : Input) (content : T → Content) (before opened after : FolderState) (v : Visit) (r : Result T Refusal)
-    → Opened (name_of input) (record { before = before; after = opened }) v.before → Visits (MayAsk input) v → Finds input content v r → Closed v.after (record { before = opened; after = after })
+    → Opened (name_of input) (record { before = before; after = opened }) v.before → Visits (MayAsk input) v → Finds input content v r
+    → Closed v.after (record { before = opened; after = after })
     → Reads input content (record { before = before; after = after }) r
 closed input content before opened after v (Ok value) o h finds c = record {
   held = λ told.

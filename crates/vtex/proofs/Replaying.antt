@@ -42,7 +42,8 @@ use Rattle.vtex.proofs.Ending.{refusal_at}
 use Rattle.vtex.proofs.Opening.{closed_places}
 use Rattle.vtex.proofs.Terming.{refused_by}
 
-paged_cause : (name : List ℕ) (refusal : Refusal) (before after : FolderState) → IsCausedBy (StoreInput name) (record { before = before; after = after }) refusal
+paged_cause : (name : List ℕ) (refusal : Refusal) (before after : FolderState)
+    → IsCausedBy (StoreInput name) (record { before = before; after = after }) refusal
     → IsCausedBy (PagedStore name) (record { before = before; after = after }) refusal
 paged_cause name NoMemory before after h = tt
 paged_cause name Usage before after h = h
@@ -113,7 +114,8 @@ all_held words path shape depth file text f0 f1 f2 f3 h told =
 pub asked_in : (input : Input) (files mid : Option Files) (before after : FolderState) → before.files ≡ files
     → IsAsked input (record { before = before; after = after }) → IsAskedOrNot files input before.asked after.asked
 asked_in input files mid before after same h =
-    inr (subst (λ (f : Option Files). IsAsked input (record { before = record { files = f; asked = before.asked; faults = before.faults }; after = after })) same h)
+    inr (subst (λ (f : Option Files). IsAsked input (record { before = record { files = f; asked = before.asked; faults = before.faults };
+        after = after })) same h)
 
 pub asked_or_not : (input : Input) (files : Option Files) (before after : FolderState) → before.files ≡ files
     → (after.asked ≡ before.asked) ⊎ IsAsked input (record { before = before; after = after }) → IsAskedOrNot files input before.asked after.asked
@@ -162,7 +164,8 @@ store_asked words shape depth file files f1 f2 mid after tiles o same some are c
     refl,
   ),
   closed ∙ closed_places words.store file.name (header_places ++ tiles) mid (option_map (λ (old : List Place). old ++ tiles) file.asked)
-      (ap (option_map (λ (old : List Place). old ++ tiles)) o.asked ∙ more header_places tiles f1.asked ∙ constant (header_places ++ tiles) f1.asked mid (sym some))
+      (ap (option_map (λ (old : List Place). old ++ tiles)) o.asked ∙ more header_places tiles f1.asked
+          ∙ constant (header_places ++ tiles) f1.asked mid (sym some))
       (name_known (file.name ≡ words.store) f1.asked mid (sym some) o.name_is),
 )
 
@@ -246,7 +249,8 @@ journal_refused words path shape depth file refusal f0 f1 f2 f4 out p o h =
               (
                 f4.asked,
                 store_asked words shape depth file f0.files f1 f2 f3.asked f4.asked [] o p.files
-                    (some_after f0.files (JournalInput words.journal) f2.asked f3.asked journal ∙ ap is_some o.no_places) (λ k d less. absurd (omega (arith, less)))
+                    (some_after f0.files (JournalInput words.journal) f2.asked f3.asked journal
+                        ∙ ap is_some o.no_places) (λ k d less. absurd (omega (arith, less)))
                     (c.asked ∙ ap (λ (told : Option (List Place)). option_map (with_places file.name told) f3.asked) (no_tiles file.asked)),
                 refl,
               ),

@@ -31,7 +31,8 @@ front_of shape before after f = elim f.asked [
 ]
 
 closed_places : (before mid after : FolderState) (old new : FileState) (pieces : List Place)
-    → new.asked ≡ option_map (λ places. places ++ pieces) old.asked → new.name ≡ old.name → mid.asked ≡ before.asked → Closed new (record { before = mid; after = after })
+    → new.asked ≡ option_map (λ places. places ++ pieces) old.asked → new.name ≡ old.name → mid.asked ≡ before.asked
+    → Closed new (record { before = mid; after = after })
     → after.asked ≡ option_map (with_places old.name (option_map (λ places. places ++ pieces) old.asked)) before.asked
 closed_places before mid after old new pieces gained same none c =
     c.asked

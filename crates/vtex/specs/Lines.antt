@@ -34,4 +34,5 @@ frames_line frames needed = place_line (number_spelling frames ++ (codes " frame
 -- a picture wants more pages than there is room for
 abbrev pub unfit_line : ℕ → ℕ → ℕ → List ℕ
 unfit_line picture wanted room =
-    place_line (codes "picture " ++ (number_spelling picture ++ (codes " wants " ++ (number_spelling wanted ++ (codes " pages, room for " ++ number_spelling room)))))
+    place_line (codes "picture " ++ (number_spelling picture ++ (codes " wants "
+        ++ (number_spelling wanted ++ (codes " pages, room for " ++ number_spelling room)))))

@@ -11,6 +11,7 @@ invariant-loop-x g l = record {
   version : g.K.Lookup.version l.lookup ≡ g.K.Lookup.version l.fn.lookup;
   said : (note : Note) → g.K.Lookup.says l.fn.lookup note → g.K.Lookup.says l.lookup note;
   finest : IsFinest (g.K.Lookup.shape l.lookup) (g.K.Lookup.version l.lookup) (g.K.Lookup.says l.lookup) l.wanted l.found;
-  drawn : (i : ℕ) → i < l.x → IsDrawn l.geometry g.row.DEPTH (g.K.Lookup.version l.fn.lookup) (g.K.Lookup.says l.lookup) l.row i (texel_bytes g.row.DEPTH l.out i);
+  drawn : (i : ℕ) → i < l.x → IsDrawn l.geometry g.row.DEPTH (g.K.Lookup.version l.fn.lookup) (g.K.Lookup.says l.lookup) l.row i
+      (texel_bytes g.row.DEPTH l.out i);
   counted : (p : ℕ) → p < length l.fn.counts → slice_index l.counts p ≡ slice_index l.fn.counts p + pixels_wanting l.geometry l.row l.x p;
 }

@@ -12,7 +12,8 @@ read_passes-requires-clause-head c =
     let s = c.args.geometry.now in
     let h = c.in_ok-head.head in
     let limits : IsSource s c.args.height = record { limits = c.page_count-pages.ensures.limits; short = c.ranges.height.fits } in
-    head_whole s c.args.height c.args.text.now limits c.read_head.new.kept.changes h.pinned h.pinned h.next.at h.next.number c.in_ok-head.ensures.1 c.read_head.new.kept.pages
+    head_whole s c.args.height c.args.text.now limits c.read_head.new.kept.changes h.pinned h.pinned h.next.at h.next.number c.in_ok-head.ensures.1
+        c.read_head.new.kept.pages
     (c.in_ok-head.ensures.0 ∙ c.in_ok-kept.ensures.1 ∙ c.page_count-pages.ensures.pages) refl
 
 pub returns-in_err-passes-clause-read : goal.returns-in_err-passes-clause-read
@@ -20,7 +21,8 @@ returns-in_err-passes-clause-read c =
     let s = c.args.geometry.now in
     let h = c.in_ok-head.head in
     let limits : IsSource s c.args.height = record { limits = c.page_count-pages.ensures.limits; short = c.ranges.height.fits } in
-    search (rules, head_refused s c.args.height c.args.text.now limits c.read_head.new.kept.changes h.pinned h.pinned h.next.at h.next.number c.in_ok-head.ensures.1 c.in_err-passes.field-0.0 c.in_err-passes.ensures)
+    search (rules, head_refused s c.args.height c.args.text.now limits c.read_head.new.kept.changes h.pinned h.pinned h.next.at h.next.number
+        c.in_ok-head.ensures.1 c.in_err-passes.field-0.0 c.in_err-passes.ensures)
 
 pub returns-clause-read : goal.returns-clause-read
 returns-clause-read c =
@@ -30,4 +32,5 @@ returns-clause-read c =
     let made : List Change → TextView = λ js. record { content = record { pinned = h.pinned; passes = map pass_of passes }; changes = js } in
     let is : c.from_parts.result ≡ made c.read_passes.new.kept.changes = c.from_parts.ensures ∙ ap made c.into_journal.ensures in
     subst (IsJournalText s c.args.height c.args.text.now) (sym is)
-    (whole_read s c.args.height c.args.text.now c.read_head.new.kept.changes c.read_passes.new.kept.changes h.pinned h.next.at h.next.number passes c.in_ok-head.ensures.1 c.in_ok-passes.ensures)
+    (whole_read s c.args.height c.args.text.now c.read_head.new.kept.changes c.read_passes.new.kept.changes h.pinned h.next.at h.next.number passes
+        c.in_ok-head.ensures.1 c.in_ok-passes.ensures)

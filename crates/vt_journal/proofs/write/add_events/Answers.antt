@@ -31,8 +31,10 @@ text_after s old before after events i start v d within is was next =
 
 pub loop-event-preserved : goal.loop-event-preserved
 loop-event-preserved c = record {
-  version = version_after c.args.events.now c.loop-event.event-index c.args.start c.loop-event.version c.in_ok-version.version _ c.loop-event-test.true c.loop-event.invariant.version c.in_ok-version.ensures.whole.0;
-  text = text_after c.args.geometry.now c.args.text.now.items c.loop-event.text.items c.add_event.new.text.items c.args.events.now c.loop-event.event-index c.args.start c.loop-event.version _
+  version = version_after c.args.events.now c.loop-event.event-index c.args.start c.loop-event.version c.in_ok-version.version _
+      c.loop-event-test.true c.loop-event.invariant.version c.in_ok-version.ensures.whole.0;
+  text = text_after c.args.geometry.now c.args.text.now.items c.loop-event.text.items c.add_event.new.text.items c.args.events.now
+      c.loop-event.event-index c.args.start c.loop-event.version _
       c.loop-event-test.true c.loop-event.invariant.version c.loop-event.invariant.text c.in_ok-version.ensures.whole.1;
   front = front_of_front c.args.text.now.items c.loop-event.text.items c.add_event.new.text.items c.loop-event.invariant.front c.in_ok-version.ensures.front;
 }

@@ -11,7 +11,8 @@ use Rattle.vt_journal.proofs.write.write_head.Goals as goal
 
 pub change-change-requires-clause-inside : goal.change-change-requires-clause-inside
 change-change-requires-clause-inside c =
-    let within : c.loop-place.place < length c.args.journal.now.changes = slice_get_within c.args.journal.now.changes c.loop-place.place _ (c.requires.first c.loop-place.place c.loop-place-test.true) in
+    let within : c.loop-place.place < length c.args.journal.now.changes = slice_get_within c.args.journal.now.changes c.loop-place.place _
+        (c.requires.first c.loop-place.place c.loop-place-test.true) in
     omega (arith, within, c.from-version.ensures)
 
 -- the change of a pinned page
@@ -24,14 +25,17 @@ given s js pinned place version change pin within same is =
 
 head_after : (s : Shape) (js : List Change) (before after : List ℕ) (pinned place version : ℕ) (change : Change)
     → Pinned s js pinned → place < pinned → version ≡ place → slice_get js (version + 1 - 1) ≡ Some change
-    → before ≡ lines_text s (map (λ i. Makes (i + 1) (pinned_change s pinned i)) (range_with_len 0 place)) → after ≡ before ++ line_text s (Makes (version + 1) change)
+    → before ≡ lines_text s (map (λ i. Makes (i + 1) (pinned_change s pinned i)) (range_with_len 0 place))
+    → after ≡ before ++ line_text s (Makes (version + 1) change)
     → after ≡ lines_text s (map (λ i. Makes (i + 1) (pinned_change s pinned i)) (range_with_len 0 (place + 1)))
 head_after s js before after pinned place version change pin within same is was next =
     next ∙ ap (λ t. t ++ line_text s (Makes (version + 1) change)) was
-    ∙ ap (λ (l : _). lines_text s (map (λ i. Makes (i + 1) (pinned_change s pinned i)) (range_with_len 0 place)) ++ line_text s l) (ap (λ v. Makes (v + 1) change) same ∙ ap (Makes (place + 1)) (given s js pinned place version change pin within same is))
+    ∙ ap (λ (l : _). lines_text s (map (λ i. Makes (i + 1) (pinned_change s pinned i)) (range_with_len 0 place))
+    ++ line_text s l) (ap (λ v. Makes (v + 1) change) same ∙ ap (Makes (place + 1)) (given s js pinned place version change pin within same is))
     ∙ head_more s pinned place
 
 pub loop-place-preserved : goal.loop-place-preserved
 loop-place-preserved c =
-    head_after c.args.geometry.now c.args.journal.now.changes c.loop-place.text.items c.add_line.new.text.items c.args.pinned c.loop-place.place c.from-version.result c.change-change.result
+    head_after c.args.geometry.now c.args.journal.now.changes c.loop-place.text.items c.add_line.new.text.items c.args.pinned c.loop-place.place
+        c.from-version.result c.change-change.result
     c.requires c.loop-place-test.true c.from-version.ensures c.change-change.ensures c.loop-place.invariant c.in_ok-add_line.ensures.whole

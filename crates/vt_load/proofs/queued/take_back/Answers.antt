@@ -18,9 +18,12 @@ loop-loader-preserved g c =
       passes = record { requests = c.join.ensures.of; results = c.join-in-Some.ensures.of };
       crew = (popped_all (λ m. AreOf c.args.queues.now m.asks m.answers) c.loop-loader.loaders.elements rest c.in-Some.loader was i.crew).0;
       room = (let a = i.room in let b = c.push.ensures.spare in omega (arith, a, b, long));
-      asks = popped_joined (λ m. view_of m.asks) (view_of c.loop-loader.asks) (view_of c.join.new.into) _ c.loop-loader.loaders.elements rest c.in-Some.loader was left i.asks;
-      answers = popped_joined (λ m. view_of m.answers) (view_of c.loop-loader.answers) (view_of c.join-in-Some.new.into) _ c.loop-loader.loaders.elements rest c.in-Some.loader was given i.answers;
-      order = back_more c.loop-loader.stores.elements c.push.new.self.elements _ c.loop-loader.loaders.elements rest _ c.in-Some.loader was (ap (λ p. p.0) parts) c.push.ensures.elements i.order;
+      asks = popped_joined (λ m. view_of m.asks) (view_of c.loop-loader.asks) (view_of c.join.new.into) _ c.loop-loader.loaders.elements rest
+          c.in-Some.loader was left i.asks;
+      answers = popped_joined (λ m. view_of m.answers) (view_of c.loop-loader.answers) (view_of c.join-in-Some.new.into) _
+          c.loop-loader.loaders.elements rest c.in-Some.loader was given i.answers;
+      order = back_more c.loop-loader.stores.elements c.push.new.self.elements _ c.loop-loader.loaders.elements rest _ c.in-Some.loader was
+          (ap (λ p. p.0) parts) c.push.ensures.elements i.order;
       shrinks = (let a = i.shrinks in omega (arith, a, long));
       asks_at_step = λ _. c.join.ensures.at_step;
       answers_at_step = λ _. c.join-in-Some.ensures.at_step;

@@ -17,7 +17,8 @@ use Rattle.vt_walk.proofs.walk.walk_stores.Goals as goal
 pub walk_machine-requires-clause-begins : goal.walk_machine-requires-clause-begins
 walk_machine-requires-clause-begins g c κs within = record {
   setup = c.in-Ok.ensures.begins.setup
-      ∙ ap (λ (told : Option (List ℕ)). setup_of c.args.tour.now.geometry.now c.args.tour.now.depth c.args.tour.now.path.now c.args.tour.now.settings.frames c.args.tour.now.settings.crew told)
+      ∙ ap (λ (told : Option (List ℕ)). setup_of c.args.tour.now.geometry.now c.args.tour.now.depth c.args.tour.now.path.now
+      c.args.tour.now.settings.frames c.args.tour.now.settings.crew told)
       c.requires.stores.told_is;
   journal = c.in-Ok.ensures.begins.journal;
 }

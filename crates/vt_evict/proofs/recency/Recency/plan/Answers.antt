@@ -18,13 +18,15 @@ use Rattle.vt_evict.proofs.recency.Recency.plan.Goals as goal
 use Rattle.vt_evict.proofs.recency.Recency.plan.Goals.{then-len-most+in_ok-kept, else-len-most}
 
 -- a plan by its parts
-by_parts : (v : RecencyView) (wants : List Wanted) (q : ℕ) (missing free victims : List ℕ) → missing ≡ missing_pages v wants → free ≡ free_frames v → victims ≡ candidates v wants
+by_parts : (v : RecencyView) (wants : List Wanted) (q : ℕ) (missing free victims : List ℕ) → missing ≡ missing_pages v wants → free ≡ free_frames v
+    → victims ≡ candidates v wants
     → map (planned_at v.entries missing free victims) (range_with_len 0 (planned_count q missing free victims)) ≡ plan_of v wants q
 unfolding plan_of
 by_parts v wants q missing free victims m f c =
     ap (λ (l : List ℕ). map (planned_at v.entries l free victims) (range_with_len 0 (planned_count q l free victims))) m
     ∙ ap (λ (l : List ℕ). map (planned_at v.entries (missing_pages v wants) l victims) (range_with_len 0 (planned_count q (missing_pages v wants) l victims))) f
-    ∙ ap (λ (l : List ℕ). map (planned_at v.entries (missing_pages v wants) (free_frames v) l) (range_with_len 0 (planned_count q (missing_pages v wants) (free_frames v) l))) c
+    ∙ ap (λ (l : List ℕ). map (planned_at v.entries (missing_pages v wants) (free_frames v) l)
+    (range_with_len 0 (planned_count q (missing_pages v wants) (free_frames v) l))) c
 
 pub put_victims-requires-clause-inside : goal.put_victims-requires-clause-inside
 put_victims-requires-clause-inside c k d below =
@@ -69,10 +71,12 @@ returns-clause-plan c =
           let front : List Planned = c.put_free.new.batch.elements in
           let put : w.put_victims.new.batch.elements
           ≡ front ++ map (taken_at c.self.inside.entries.items missing victims (length front)) (range_with_len 0 (min (most - length front) (length victims))) =
-          w.put_victims.ensures.put ∙ ap (λ (l : List ℕ). front ++ map (taken_at l missing victims (length front)) (range_with_len 0 (min (most - length front) (length victims))))
+          w.put_victims.ensures.put ∙ ap (λ (l : List ℕ). front
+              ++ map (taken_at l missing victims (length front)) (range_with_len 0 (min (most - length front) (length victims))))
           w.as_slice-then-len-most.ensures.value in
           ap (λ b. b.elements) w.batch-is
-          ∙ some_taken c.self.inside.entries.items missing free victims c.args.q most front w.put_victims.new.batch.elements n c.put_free.ensures.put c.put_free.ensures.count
+          ∙ some_taken c.self.inside.entries.items missing free victims c.args.q most front w.put_victims.new.batch.elements n c.put_free.ensures.put
+          c.put_free.ensures.count
           (omega (arith, c.put_free.ensures.count, c.len.ensures, w.if-len-most.true)) put
           ∙ by_parts v wants c.args.q missing free victims m f
           (victims_are v wants w.in_ok-kept.kept.keys w.in_ok-kept.ensures)

@@ -10,9 +10,11 @@ rows-init c =
     record {
       most = omega (arith, ap (λ rows. length {A = RowLine} rows) none);
       room = omega (arith, c.in_ok-reserve.ensures.room, c.from.ensures);
-      begun = begun_first src.geometry.now src.height c.args.kept.now.changes c.args.pass.now c.reserve.new.self.elements c.unseen-seen.result none c.requires.small c.requires.in_pass c.unseen-seen.ensures;
+      begun = begun_first src.geometry.now src.height c.args.kept.now.changes c.args.pass.now c.reserve.new.self.elements c.unseen-seen.result none
+          c.requires.small c.requires.in_pass c.unseen-seen.ensures;
       first = λ _. c.requires.no_event;
-      advances = rows_none src.geometry.now src.height src.text.now c.args.kept.now.changes c.args.pass.now c.args.cursor.at c.args.cursor.number c.reserve.new.self.elements none c.requires.cursor;
+      advances = rows_none src.geometry.now src.height src.text.now c.args.kept.now.changes c.args.pass.now c.args.cursor.at c.args.cursor.number
+          c.reserve.new.self.elements none c.requires.cursor;
     }
 
 pub returns-in_err-place : goal.returns-in_err-place
@@ -20,7 +22,8 @@ returns-in_err-place c =
     let src = c.args.source.now in
     search (
       rules,
-      row_refused_later src.geometry.now src.height src.text.now c.args.kept.now.changes c.args.pass.now c.args.cursor.at c.args.cursor.number c.rows.rows.elements c.rows.place.at c.rows.place.number c.in_err-place.field-0.0
+      row_refused_later src.geometry.now src.height src.text.now c.args.kept.now.changes c.args.pass.now c.args.cursor.at c.args.cursor.number
+          c.rows.rows.elements c.rows.place.at c.rows.place.number c.in_err-place.field-0.0
           c.rows.invariant.advances c.in_err-place.ensures,
     )
 
@@ -32,8 +35,10 @@ rows-preserved c =
     record {
       most = omega (arith, count, c.rows-test.true, c.len.ensures);
       room = omega (arith, count, c.rows.invariant.room, read.spare);
-      begun = begun_more src.geometry.now src.height c.args.kept.now.changes c.args.pass.now c.rows.rows.elements c.read_row.new.rows.elements c.rows.seen c.read_row.new.seen c.rows.invariant.begun read.seen_are;
+      begun = begun_more src.geometry.now src.height c.args.kept.now.changes c.args.pass.now c.rows.rows.elements c.read_row.new.rows.elements
+          c.rows.seen c.read_row.new.seen c.rows.invariant.begun read.seen_are;
       first = λ none. absurd (omega (arith, count, ap (λ rows. length {A = RowLine} rows) none));
-      advances = moved_rows src.geometry.now src.height src.text.now c.args.kept.now.changes c.args.pass.now c.args.cursor.at c.args.cursor.number c.rows.rows.elements c.read_row.new.rows.elements read.row c.rows.place.at c.rows.place.number c.in_ok-place.place.at c.in_ok-place.place.number
+      advances = moved_rows src.geometry.now src.height src.text.now c.args.kept.now.changes c.args.pass.now c.args.cursor.at c.args.cursor.number
+          c.rows.rows.elements c.read_row.new.rows.elements read.row c.rows.place.at c.rows.place.number c.in_ok-place.place.at c.in_ok-place.place.number
           read.added c.rows.invariant.advances read.advances;
     }

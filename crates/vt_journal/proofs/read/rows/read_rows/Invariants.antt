@@ -9,7 +9,8 @@ invariant-rows l = record {
   room : l.source.height ≤ length l.rows.elements + l.rows.spare;
   begun : AreRowsBegun l.source.geometry.now l.source.height l.kept.changes l.pass l.rows.elements l.seen;
   first : l.rows.elements ≡ [] → IsNoEventAt l.source.geometry.now l.source.text.now l.place.at;
-  advances : Advances l.source.geometry.now l.source.height l.source.text.now (with_rows l.kept.changes l.pass []) l.fn.cursor.at l.fn.cursor.number (map Draws l.rows.elements) l.place.at l.place.number;
+  advances : Advances l.source.geometry.now l.source.height l.source.text.now (with_rows l.kept.changes l.pass []) l.fn.cursor.at l.fn.cursor.number
+      (map Draws l.rows.elements) l.place.at l.place.number;
 }
 
 abbrev pub decreases-rows : goal.decreases-rows

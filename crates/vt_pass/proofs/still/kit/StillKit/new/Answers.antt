@@ -23,5 +23,6 @@ returns-clause-kit g c = record {
     height_high = search rules;
   };
   counts = ap length c.in-Ok-new.ensures ∙ length-replicate _ _;
-  buffers = subst (λ (l : List (ListView ℕ)). All (λ b. length b.elements ≡ tile_length c.args.geometry.now c.args.depth) l) (sym c.new-round.ensures) (All-nil _);
+  buffers = subst (λ (l : List (ListView ℕ)). All (λ b. length b.elements ≡ tile_length c.args.geometry.now c.args.depth) l) (sym c.new-round.ensures)
+      (All-nil _);
 }
