@@ -43,7 +43,7 @@ module _ (low pinned : ℕ) where
     | inr above ↦ elim (cases_lt p (low + pinned)) [
       | inl inside ↦ let e : low + (p - low) ≡ p = omega arith in let v = high_at (p - low) (omega arith) in
           let w : slice_index (replicate low 0 ++ range_with_len 1 pinned) p ≡ p - low + 1 = ap (slice_index (replicate low 0
-              ++ range_with_len 1 pinned)) (sym e) ∙ v in
+          ++ range_with_len 1 pinned)) (sym e) ∙ v in
           inr (omega arith, above, inside)
       | inr past ↦ inl (past_at p past, λ h. past)
     ]
@@ -108,28 +108,28 @@ pub first_free : (s : Shape) (frames pinned : ℕ) → pinned ≤ pages_of s →
     → (nat_le pinned f && nat_lt f frames) ≡ (nat_lt f frames && not (is_held (replicate (pages_of s - pinned) 0 ++ range_with_len 1 pinned) f))
 first_free s frames pinned pages f = swap (nat_le pinned f) (nat_lt f frames) (is_held (replicate (pages_of s - pinned) 0
     ++ range_with_len 1 pinned) f) held where
-  swap : (a b c : Bool) → c ≡ not a → (a && b) ≡ (b && not c)
-  swap true true c e = rw e refl
-  swap true false c e = refl
-  swap false true c e = rw e refl
-  swap false false c e = refl
+      swap : (a b c : Bool) → c ≡ not a → (a && b) ≡ (b && not c)
+      swap true true c e = rw e refl
+      swap true false c e = refl
+      swap false true c e = rw e refl
+      swap false false c e = refl
 
-  taken : is_held (replicate (pages_of s - pinned) 0 ++ range_with_len 1 pinned) f ≡ true → nat_lt f pinned ≡ true
-  taken e = let found = held_by _ f e in elim (at (pages_of s - pinned) pinned found.0) [
-    | inl h ↦ absurd (omega (arith, h.0, found.1))
-    | inr h ↦ lt_true f pinned (omega (arith, h.0, h.2, found.1))
-  ] where
-    lt_true : (a b : ℕ) → a < b → nat_lt a b ≡ true
-    lt_true a b h = grind (arith, nat_tests)
+      taken : is_held (replicate (pages_of s - pinned) 0 ++ range_with_len 1 pinned) f ≡ true → nat_lt f pinned ≡ true
+      taken e = let found = held_by _ f e in elim (at (pages_of s - pinned) pinned found.0) [
+        | inl h ↦ absurd (omega (arith, h.0, found.1))
+        | inr h ↦ lt_true f pinned (omega (arith, h.0, h.2, found.1))
+      ] where
+        lt_true : (a b : ℕ) → a < b → nat_lt a b ≡ true
+        lt_true a b h = grind (arith, nat_tests)
 
-  given : nat_lt f pinned ≡ true → is_held (replicate (pages_of s - pinned) 0 ++ range_with_len 1 pinned) f ≡ true
-  given e = held_from (replicate (pages_of s - pinned) 0 ++ range_with_len 1 pinned) f (pages_of s - pinned + f)
-      (high_at (pages_of s - pinned) pinned f (lt_is f pinned e)) where
-    lt_is : (a b : ℕ) → nat_lt a b ≡ true → a < b
-    lt_is a b h = grind (arith, nat_tests)
+      given : nat_lt f pinned ≡ true → is_held (replicate (pages_of s - pinned) 0 ++ range_with_len 1 pinned) f ≡ true
+      given e = held_from (replicate (pages_of s - pinned) 0 ++ range_with_len 1 pinned) f (pages_of s - pinned + f)
+          (high_at (pages_of s - pinned) pinned f (lt_is f pinned e)) where
+            lt_is : (a b : ℕ) → nat_lt a b ≡ true → a < b
+            lt_is a b h = grind (arith, nat_tests)
 
-  flip : nat_lt f pinned ≡ not (nat_le pinned f)
-  flip = grind (arith, nat_tests)
+      flip : nat_lt f pinned ≡ not (nat_le pinned f)
+      flip = grind (arith, nat_tests)
 
-  held : is_held (replicate (pages_of s - pinned) 0 ++ range_with_len 1 pinned) f ≡ not (nat_le pinned f)
-  held = same_bool _ (nat_lt f pinned) taken given ∙ flip
+      held : is_held (replicate (pages_of s - pinned) 0 ++ range_with_len 1 pinned) f ≡ not (nat_le pinned f)
+      held = same_bool _ (nat_lt f pinned) taken given ∙ flip

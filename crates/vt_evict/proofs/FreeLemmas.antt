@@ -49,7 +49,7 @@ pub free_is : (v : RecencyView) (free : List ℕ) → IsStrictlySortedBy nat_cmp
 unfolding free_frames
 free_is v free sorted h =
     btree_set_from_contains nat_cmp_total (record { keys = free })
-        (record { keys = filter (λ f. not (is_held v.entries f)) (range_with_len 0 v.frames) }) sorted
+    (record { keys = filter (λ f. not (is_held v.entries f)) (range_with_len 0 v.frames) }) sorted
     (range_sorted (λ f. not (is_held v.entries f)) 0 v.frames)
     (λ q. sym (is_in_as free q) ∙ h q ∙ sym (in_filter q) ∙ is_in_as (filter (λ f. not (is_held v.entries f)) (range_with_len 0 v.frames)) q)
     equal_same where

@@ -24,7 +24,7 @@ not_above s p q limits inside above =
     let line = reaches_root s q (omega (arith, limits.least_tile)) limits.least_width limits.least_height inside in
     list_any_none (nat_eq p) (line_of s q) (All-from_get_or (λ x. nat_eq p x ≡ false) (line_of s q) 0
     (λ i h. ne_eqb p (get_or (line_of s q) i 0) (λ e. let level = (line.levels i h).1 in let l : level_of s p ≡ level_of s
-        (get_or (line_of s q) i 0) = ap (level_of s) e in omega (arith, level, l))))
+    (get_or (line_of s q) i 0) = ap (level_of s) e in omega (arith, level, l))))
 
 -- a page of a line is one of the chain's
 pub line_below : (s : Shape) (q p : ℕ) → IsWithinLimits s → q < pages_of s → is_in (line_of s q) p ≡ true → p < pages_of s
@@ -48,9 +48,11 @@ line_within s w zero p limits closed up inside there = rw (line-root s p limits 
 line_within s w (suc up) p limits closed e inside there =
     let more : level_of s p + 1 < levels_of s = omega arith in
     let at = parent_page s p (omega (arith, limits.least_tile)) limits.least_width inside more in
-    rw (line-parent s p limits inside more)
-    (there, line_within s w up (index_of s (parent_name (name_at s p))) limits closed (omega (arith, at.level)) at.inside
-        (closed.parents p _ there (parent_is s p more)))
+    rw (line-parent s p limits inside more) (
+      there,
+      line_within s w up (index_of s (parent_name (name_at s p))) limits closed (omega (arith, at.level)) at.inside
+          (closed.parents p _ there (parent_is s p more)),
+    )
 
 -- the pages that a walk over the line of a page adds to a list
 abbrev pub walked_over : Shape → List ℕ → ℕ → List ℕ
@@ -68,7 +70,7 @@ over_none s w p limits closed inside there =
     let below = level_below s p limits inside in
     let all = line_within s w (levels_of s - 1 - level_of s p) p limits closed (omega arith) inside there in
     sym (ap (λ (l : List ℕ). w ++ l) (filter_none (λ r. not (is_in w r)) (reverse (line_of s p))
-        (by_recursion-reverse _ (line_of s p) (nots w (line_of s p) all)))
+    (by_recursion-reverse _ (line_of s p) (nots w (line_of s p) all)))
     ∙ append-nil w)
 
 one : (w : List ℕ) (p : ℕ) → is_in w p ≡ false → filter (λ r. not (is_in w r)) (p ∷ []) ≡ p ∷ []
@@ -108,7 +110,7 @@ first_in s q limits inside = first (parent_of s q) refl where
 pub parent_in : (s : Shape) (w : List ℕ) (q : ℕ) → IsWithinLimits s → q < pages_of s → is_in (walked_over s w q) q ≡ true
 parent_in s w q limits inside =
     is_in-more w (reverse (line_of s q)) q ∙ ap (λ (b : Bool). is_in w q || b) (is_in-reverse (line_of s q) q ∙ first_in s q limits inside)
-        ∙ or_true (is_in w q)
+    ∙ or_true (is_in w q)
 
 pub closed_push : (s : Shape) (w : List ℕ) (p : ℕ) → IsClosed s w → ((q : ℕ) → parent_of s p ≡ Some q → is_in w q ≡ true) → IsClosed s (w ++ p ∷ [])
 closed_push s w p closed parent = record { parents = λ r q there e. is_in-push w p q ∙ found r q there e (nat_eq r p) refl } where

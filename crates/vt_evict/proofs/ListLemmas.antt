@@ -126,8 +126,11 @@ gone x xs = rw (is_in-filter (λ y. not (nat_eq x y)) xs x) (same (is_in xs x)) 
 pub each_once_distinct : (xs : List ℕ) → IsDistinct nat_eq (each_once xs)
 unfolding IsDistinct
 each_once_distinct [] = tt
-each_once_distinct (x ∷ xs) = (absent x (filter (λ y. not (nat_eq x y)) (each_once xs)) (gone x (each_once xs)), distinct-filter
-    (λ y. not (nat_eq x y)) (each_once xs) (each_once_distinct xs))
+each_once_distinct (x ∷ xs) = (
+  absent x (filter (λ y. not (nat_eq x y)) (each_once xs)) (gone x (each_once xs)),
+  distinct-filter
+      (λ y. not (nat_eq x y)) (each_once xs) (each_once_distinct xs),
+)
 
 pub below_in : (n p : ℕ) → p < n → is_in (range_with_len 0 n) p ≡ true
 below_in n p h = list_any_at (nat_eq p) (range_with_len 0 n) p 0 (rw length-range_with_len h) (rw (get_or-range_with_len 0 n p 0 h) (grind (arith, nat_tests)))
@@ -138,7 +141,7 @@ unfolding IsDistinct
 room_for n x xs inside new distinct below =
     let covered : (q : ℕ) → is_in (x ∷ xs) q ≡ true → is_in (range_with_len 0 n) q ≡ true = λ q e. below_in n q (under q (nat_eq q x) refl e) in
     let h : length (x ∷ xs) ≤ length (range_with_len 0 n) = length-le_from_is_member nat_eq_equiv (x ∷ xs) (range_with_len 0 n)
-        (absent x xs new, distinct) covered in
+    (absent x xs new, distinct) covered in
     omega (arith, length-range_with_len 0 n) where
       under : (q : ℕ) (b : Bool) → nat_eq q x ≡ b → (b || is_in xs q) ≡ true → q < n
       under q true e h = rw (nat_eq_true q x e) inside

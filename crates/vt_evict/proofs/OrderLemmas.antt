@@ -59,7 +59,7 @@ step_back all w before page once e f =
     let next : drop (length before) all ≡ page ∷ rest = ap (drop (length before)) (sym whole) ∙ drop-append_seam before (page ∷ rest) in
     let moved : IsDistinct nat_eq (page ∷ (before ++ rest)) =
     IsDistinct-IsPermutation nat_eq nat_eq_swap (before ++ page ∷ rest) (page ∷ (before
-        ++ rest)) (IsPermutation-middle before page rest) (subst (IsDistinct nat_eq) (sym whole) once) in
+    ++ rest)) (IsPermutation-middle before page rest) (subst (IsDistinct nat_eq) (sym whole) once) in
     let gone : is_in (before ++ rest) page ≡ false = present page (before ++ rest) (IsDistinct-head nat_eq page (before ++ rest) moved) in
     record {
       now = ap (λ (l : List ℕ). before ++ l) next ∙ whole;
@@ -103,5 +103,5 @@ pub keys-put : {X : Type 0} (page : ℕ) (x : X) (c : LruCache ℕ X) → is_in 
     → keys_of (put_entries nat_eq c page x) ≡ page ∷ keys_of c.entries
 keys-put {X = X} page x c new room =
     ap (λ o. keys_of (option_map_or (λ e. (e.0, x) ∷ remove_entry (nat_eq page) c.entries) o ((page, x) ∷ take (c.cap - 1) c.entries)))
-        (no_entry page c.entries new)
+    (no_entry page c.entries new)
     ∙ ap (λ (l : List (ℕ × X)). page ∷ keys_of l) (take_all (c.cap - 1) c.entries room)

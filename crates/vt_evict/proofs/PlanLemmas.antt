@@ -35,7 +35,7 @@ missing-more s entries ps p =
     let f : ℕ → ℕ = step_of s (is_mapped entries) in
     let kept : List ℕ = filter (λ q. not (is_mapped entries q)) ps in
     ap (λ (l : List ℕ). each_once (map (step_of s (is_mapped entries)) l)) (filter-append (λ q. not (is_mapped entries q)) ps (p ∷ []))
-        ∙ test (is_mapped entries p) where
+    ∙ test (is_mapped entries p) where
       test : (b : Bool) → each_once (map (step_of s (is_mapped entries)) (filter (λ q. not (is_mapped entries q)) ps ++ cond (not b) (p ∷ []) []))
           ≡ cond b (each_once (map (step_of s (is_mapped entries)) (filter (λ q. not (is_mapped entries q)) ps)))
           (with_page (each_once (map (step_of s (is_mapped entries)) (filter (λ q. not (is_mapped entries q)) ps))) (step_of s (is_mapped entries) p))
@@ -45,8 +45,12 @@ missing-more s entries ps p =
 
 -- what stands at a place of a list whose rest is known
 pub rest_at : (all : List ℕ) (k x : ℕ) (rest : List ℕ) → drop k all ≡ x ∷ rest → (k < length all) × (slice_index all k ≡ x) × (drop (k + 1) all ≡ rest)
-rest_at all k x rest e = (inside, sym (ap (λ (n : ℕ). get_or all n 0) (zero_more k)) ∙ sym (get_or-drop k all 0 0)
-    ∙ ap (λ (l : List ℕ). get_or l 0 0) e, after) where
+rest_at all k x rest e = (
+  inside,
+  sym (ap (λ (n : ℕ). get_or all n 0) (zero_more k)) ∙ sym (get_or-drop k all 0 0)
+      ∙ ap (λ (l : List ℕ). get_or l 0 0) e,
+  after,
+) where
   zero_more : (n : ℕ) → n + 0 ≡ n
   zero_more n = omega arith
 
@@ -142,10 +146,10 @@ module _ (entries missing free victims : List ℕ) where
   pub at_free : (j : ℕ) → j < length free → freed_at missing free j ≡ planned_at entries missing free victims j
   at_free j below =
       let frame : slice_index (free ++ map (frame_of entries) victims) j ≡ slice_index free j = get_or_append_left free
-          (map (frame_of entries) victims) 0 j below in
+      (map (frame_of entries) victims) 0 j below in
       let test : nat_lt j (length free) ≡ true = grind (arith, nat_tests) in
       let none : cond (nat_lt j (length free)) None (slice_get victims (j - length free)) ≡ None = ap
-          (λ (b : Bool). cond b None (slice_get victims (j - length free))) test in
+      (λ (b : Bool). cond b None (slice_get victims (j - length free))) test in
       λ i. record { page = slice_index missing j; frame = sym frame i; victim = sym none i }
 
   pub at_victim : (j : ℕ) → j < length victims → taken_at entries missing victims (length free) j ≡ planned_at entries missing free victims (length free + j)

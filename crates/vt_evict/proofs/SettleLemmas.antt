@@ -173,11 +173,11 @@ after_table v o page frame new h place loose inside unmapped a = record {
       ∙ ap not (pinned_false page v.pinned (pages_of v.shape) loose))
   ordered p false e true f =
       ap (λ (b : Bool). b || is_in (order_without v.order o) p) e ∙ without_in v.order o p ∙ ap (λ (b : Bool). is_in v.order p && not b) f
-          ∙ and_false (is_in v.order p)
+      ∙ and_false (is_in v.order p)
       ∙ sym (ap (λ (b : Bool). b && not (is_pinned v p)) (mapped_not (slice_index new p) (a.unmapped p f)))
   ordered p false e false f =
       ap (λ (b : Bool). b || is_in (order_without v.order o) p) e ∙ without_in v.order o p ∙ ap (λ (b : Bool). is_in v.order p && not b) f
-          ∙ and_true (is_in v.order p) ∙ h.in_order p
+      ∙ and_true (is_in v.order p) ∙ h.in_order p
       ∙ sym (ap (λ (n : ℕ). nat_lt 0 n && not (is_pinned v p)) (a.other p (apart_from p e) f))
 
   absent_page : is_in (order_without v.order o) page ≡ false
@@ -237,7 +237,7 @@ held_more v page frame new unmapped a f = same_bool (is_held new f) (is_held v.e
         ap (λ (b : Bool). is_held v.entries f || b) (ap (nat_eq frame) (sym is) ∙ self_eq frame) ∙ or_true (is_held v.entries f)
     was p at false other =
         let held : is_held v.entries f ≡ true = held_from v.entries f p
-            (sym (a.other p (λ e. false≢true (sym other ∙ ap (nat_eq p) (sym e) ∙ self_eq p)) refl) ∙ at) in
+        (sym (a.other p (λ e. false≢true (sym other ∙ ap (nat_eq p) (sym e) ∙ self_eq p)) refl) ∙ at) in
         ap (λ (b : Bool). b || nat_eq frame f) held
 
   behind : (is_held v.entries f || nat_eq frame f) ≡ true → is_held new f ≡ true
@@ -245,7 +245,7 @@ held_more v page frame new unmapped a f = same_bool (is_held new f) (is_held v.e
     split : (b : Bool) → is_held v.entries f ≡ b → (c : Bool) → nat_eq frame f ≡ c → (b || c) ≡ true → is_held new f ≡ true
     split true was c is k = let found = held_by v.entries f was in
         held_from new f found.0 (a.other found.0 (λ e. let n : slice_index v.entries found.0 ≡ 0 = ap (slice_index v.entries) e
-            ∙ unmapped in omega (arith, found.1)) refl ∙ found.1)
+        ∙ unmapped in omega (arith, found.1)) refl ∙ found.1)
     split false was true is k = held_from new f page (a.mapped ∙ ap (λ (n : ℕ). n + 1) (nat_eq_true frame f is))
     split false was false is k = absurd (false≢true k)
 
@@ -336,9 +336,9 @@ lawful_still v e d new is_after h l m pages frames = record {
   forth : (p : ℕ) → slice_index v.entries p ≡ d.frame + 1 → slice_index new p ≡ d.frame + 1
   forth p at = is_after.other p (λ same. let n : slice_index v.entries p ≡ 0 = ap (slice_index v.entries) same
       ∙ l.unmapped in omega arith) (test (is_page p e.victim) refl) ∙ at where
-    test : (b : Bool) → is_page p e.victim ≡ b → b ≡ false
-    test true same = absurd (frames (let held = ((lawful_place v e e.victim h l refl).victim p same).held in omega arith))
-    test false same = refl
+        test : (b : Bool) → is_page p e.victim ≡ b → b ≡ false
+        test true same = absurd (frames (let held = ((lawful_place v e e.victim h l refl).victim p same).held in omega arith))
+        test false same = refl
 
   back : (p : ℕ) → slice_index new p ≡ d.frame + 1 → slice_index v.entries p ≡ d.frame + 1
   back p at = test (nat_eq p e.page) refl (is_page p e.victim) refl where
@@ -443,7 +443,7 @@ settled_after old now reads e new a h s first l laws begun frames = record {
       let there : Contains reads (get_or reads k d) = (k, inside, get_or_same reads k d inside) in
       let given : is_page (get_or reads k d).page e.victim ≡ true = ap (is_page (get_or reads k d).page) is ∙ ap (nat_eq q) (sym same) ∙ self_eq q in
       frames (get_or reads k d) there (let held = (place.victim (get_or reads k d).page given).held in omega
-          (arith, s.table.mapped (get_or reads k d) there)))))
+      (arith, s.table.mapped (get_or reads k d) there)))))
 
   pages_kept : (o : Option ℕ) → e.victim ≡ o → order_without (map (λ r. r.page) reads) o ≡ map (λ r. r.page) reads
   pages_kept None is = refl
@@ -519,7 +519,7 @@ settle_step old now new batch lost j d e false inside lengths is at laws begun h
       (λ r there. let p = after_place batch lost j r there in subst (IsLawfulEntry old) p.3 (laws.each p.0 r p.2)) begun
       (λ r there same. let p = after_place batch lost j r there in
       (laws.apart j p.0 e p.1 p.2).1 (ap (λ (x : Planned). x.frame) (sym at) ∙ sym same ∙ ap (λ (x : Planned). x.frame) (sym p.3)
-          ∙ ap (λ (x : Planned). x.frame) (get_or_default batch p.0 r e p.2))));
+      ∙ ap (λ (x : Planned). x.frame) (get_or_default batch p.0 r e p.2))));
   lawful = λ i d below. rw step (still_lawful now e (get_or batch i d) h mine (l i d (omega arith))
       (λ same. (laws.apart i j d below inside).0 (same ∙ ap (λ (x : Planned). x.page) (at ∙ get_or_default batch j e d inside)))
       (λ same. (laws.apart i j d below inside).1 (same ∙ ap (λ (x : Planned). x.frame) (at ∙ get_or_default batch j e d inside))));

@@ -89,7 +89,7 @@ popped_walk n marks old new page h e room =
       marked p false other =
           let is : p ≢ page = λ e. false≢true (sym other ∙ grind (arith, nat_tests)) in
           get_or-set_other marks page p false false is ∙ h.marked p ∙ old_is p ∙ ap (λ (b : Bool). is_in new.elements p || b) other
-              ∙ or_false (is_in new.elements p)
+          ∙ or_false (is_in new.elements p)
 
 -- no page was walked over yet
 pub no_walk : (n : ℕ) (marks : List Bool) (walked : ListView ℕ) → marks ≡ replicate n false → walked.elements ≡ [] → n ≤ walked.spare → IsWalk n marks walked

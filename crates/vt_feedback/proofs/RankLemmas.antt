@@ -72,7 +72,7 @@ rank_is_there s counts (suc n) p below some = rw ranks-suc (elim (cases_lt p n) 
   | inr over ↦ let e : n ≡ p = omega arith in
       let b : nat_lt 0 (slice_index counts n) ≡ true = rw e (grind (arith, nat_tests)) in
       rw b (subst (λ q. Contains (ranks_below s counts n ++ rank_of s counts q ∷ []) (rank_of s counts p)) (sym e)
-          (Contains-push (ranks_below s counts n) (rank_of s counts p)))
+      (Contains-push (ranks_below s counts n) (rank_of s counts p)))
 ])
 
 pages_rise : (s : Shape) (counts : List ℕ) (n : ℕ) → AllPairs (λ a b. a.page < b.page) (ranks_below s counts n)
@@ -86,7 +86,7 @@ pages_rise s counts (suc n) = rw ranks-suc (step (nat_lt 0 (slice_index counts n
 pages_apart : (s : Shape) (counts : List ℕ) (n : ℕ) → IsDistinct (λ a b. a.page == b.page) (ranks_below s counts n)
 pages_apart s counts n = IsDistinct-from_apart (λ a b. a.page == b.page) (ranks_below s counts n)
     (λ i j d below inside. let h : (get_or (ranks_below s counts n) i d).page < (get_or (ranks_below s counts n) j d).page = pages_rise s counts n i j
-        d below inside in grind (arith, nat_tests))
+    d below inside in grind (arith, nat_tests))
 
 abbrev rank_cmp : Rank → Rank → Ordering
 rank_cmp a b = ordering_then (nat_cmp a.fineness b.fineness) (ordering_then (nat_cmp a.rarity b.rarity) (nat_cmp a.page b.page))
@@ -147,7 +147,7 @@ module _ (s : Shape) (counts : List ℕ) (rs : List Rank) (pages : length counts
       (earlier s counts (length counts) (get_or rs i r) (get_or rs j r) most (all_ranks i r under) (all_ranks j r within)
       (sorted_far (λ a b. is_lt (rank_cmp a b)) (ranks_by total (λ x. x)) rs sorted i j r (omega arith) within)
       (λ e. let h : ((get_or rs i r).page == (get_or rs j r).page) ≡ false = apart_from_distinct (λ a b. a.page == b.page) rs i j r all_apart below
-          within in grind (arith, nat_tests)))
+      within in grind (arith, nat_tests)))
 
   each_once : IsDistinct nat_eq (map (λ w. w.page) (map wanted_by rs))
   each_once = IsDistinct-from_apart nat_eq (map (λ w. w.page) (map wanted_by rs)) (λ i j d below inside.
@@ -166,7 +166,7 @@ module _ (s : Shape) (counts : List ℕ) (rs : List Rank) (pages : length counts
   these_only : (w : Wanted) → Contains (map wanted_by rs) w → IsWanted s (slice_index counts) w
   these_only w there = All-contains (IsWanted s (slice_index counts)) (map wanted_by rs) w
       (All-map (IsWanted s (slice_index counts)) wanted_by rs
-          (All-weaker (IsRank s counts (length counts)) (λ r. IsWanted s (slice_index counts) (wanted_by r)) each_wanted rs all_ranks)) there
+      (All-weaker (IsRank s counts (length counts)) (λ r. IsWanted s (slice_index counts) (wanted_by r)) each_wanted rs all_ranks)) there
 
   these_all : (w : Wanted) → IsWanted s (slice_index counts) w → Contains (map wanted_by rs) w
   these_all w h =
@@ -174,7 +174,7 @@ module _ (s : Shape) (counts : List ℕ) (rs : List Rank) (pages : length counts
       let there : Contains rs r = Contains-permutation (ranks_below s counts (length counts)) rs r moved
       (rank_is_there s counts (length counts) w.page (omega (arith, h.inside)) (omega (arith, h.some, h.all))) in
       let same : wanted_by r ≡ w = wanted_by-rank_of s counts w.page (most w.page)
-          ∙ ap (λ (n : ℕ). let v : Wanted = record { page = w.page; pixels = n } in v) (sym h.all) in
+      ∙ ap (λ (n : ℕ). let v : Wanted = record { page = w.page; pixels = n } in v) (sym h.all) in
       Contains-map wanted_by rs r w there same
 
 pub wants_from_ranks : (s : Shape) (counts : List ℕ) (rs : List Rank) → length counts ≡ pages_of s → ((p : ℕ) → slice_index counts p ≤ most_pixels)

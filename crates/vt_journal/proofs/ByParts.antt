@@ -41,9 +41,9 @@ passes_admitted s height pinned r (p ∷ ps) whole by some all =
     let here = pass_admitted s height pinned r p whole by some all.0 in
     let done : IsComplete s height next = subst (IsComplete s height) (told_by_pass r p) (pass_complete s height pinned r p all.0) in
     let follow : ArePassesAfter s height pinned (r.changes ++ changes_of p.events) p.pass p.picture ps = subst
-        (λ n. ArePassesAfter s height pinned (r.changes ++ changes_of p.events) n p.picture ps) (sym all.0.pass_is) all.1 in
+    (λ n. ArePassesAfter s height pinned (r.changes ++ changes_of p.events) n p.picture ps) (sym all.0.pass_is) all.1 in
     let rest = passes_admitted s height pinned next ps done (pinned_stays s r.changes (changes_of p.events) some
-        ∙ by) (more_changes r.changes (changes_of p.events) some) follow in (
+    ∙ by) (more_changes r.changes (changes_of p.events) some) follow in (
       admitted-append s height r (pass_lines p) (flat_map pass_lines ps) here
           (subst (λ (x : Reading). AreAdmitted s height x (flat_map pass_lines ps)) (sym (told_by_pass r p)) rest.0),
       subst (IsComplete s height) (sym (after_all-append r (pass_lines p) (flat_map pass_lines ps)
@@ -64,13 +64,13 @@ passes_follow s height pinned r (p ∷ ps) by some all whole =
     let next = made (r.changes ++ changes_of p.events) p.pass p.picture p.start p.rows in
     let parts = admitted-parts s height r (pass_lines p) (flat_map pass_lines ps) all in
     let end : IsComplete s height (after_all (after_all r (pass_lines p)) (flat_map pass_lines ps)) = subst (IsComplete s height)
-        (after_all-append r (pass_lines p) (flat_map pass_lines ps)) whole in
+    (after_all-append r (pass_lines p) (flat_map pass_lines ps)) whole in
     let done = complete_before s height (after_all r (pass_lines p)) ps parts.1 end in
     let one = pass_next s height pinned r p parts.0 done by some in
     let rest = passes_follow s height pinned next ps (pinned_stays s r.changes (changes_of p.events) some
-        ∙ by) (more_changes r.changes (changes_of p.events) some)
+    ∙ by) (more_changes r.changes (changes_of p.events) some)
     (subst (λ (x : Reading). AreAdmitted s height x (flat_map pass_lines ps)) (told_by_pass r p) parts.1)
-        (subst (λ (x : Reading). IsComplete s height (after_all x (flat_map pass_lines ps))) (told_by_pass r p) end) in
+    (subst (λ (x : Reading). IsComplete s height (after_all x (flat_map pass_lines ps))) (told_by_pass r p) end) in
     (one, subst (λ n. ArePassesAfter s height pinned (r.changes ++ changes_of p.events) n p.picture ps) one.pass_is rest)
 
 -- a content that is lawful by its parts
@@ -94,9 +94,9 @@ framed s height pinned zero all = omega arith
 framed s height pinned (suc n) all =
     let next : suc n ≡ n + 1 = omega arith in
     let grown : lines_to s pinned (suc n) ≡ lines_to s pinned n ++ Makes (n + 1) (pinned_change s pinned n) ∷ [] = ap (lines_to s pinned) next
-        ∙ map-range_with_len_more (λ i. Makes (i + 1) (pinned_change s pinned i)) 0 n n (omega arith) in
+    ∙ map-range_with_len_more (λ i. Makes (i + 1) (pinned_change s pinned i)) 0 n n (omega arith) in
     let parts = admitted-parts s height nothing_read (lines_to s pinned n) (Makes (n + 1) (pinned_change s pinned n) ∷ [])
-        (subst (AreAdmitted s height nothing_read) grown all) in
+    (subst (AreAdmitted s height nothing_read) grown all) in
     let below : n < 65535 = parts.1.0.1.1 in
     omega (arith, below)
 
@@ -110,10 +110,10 @@ parts_of_lawful s height c lawful =
     let r = head_reading js in
     let parts = admitted-parts s height nothing_read (head_lines s c.pinned) (flat_map pass_lines c.passes) lawful.admitted in
     let all : AreAdmitted s height r (flat_map pass_lines c.passes) = subst (λ (x : Reading). AreAdmitted s height x (flat_map pass_lines c.passes))
-        (told_by_head s c.pinned) parts.1 in
+    (told_by_head s c.pinned) parts.1 in
     let end : IsComplete s height (after_all r (flat_map pass_lines c.passes)) =
     subst (IsComplete s height) (after_all-append nothing_read (head_lines s c.pinned) (flat_map pass_lines c.passes)
-        ∙ ap (λ (x : Reading). after_all x (flat_map pass_lines c.passes)) (told_by_head s c.pinned)) lawful.complete in
+    ∙ ap (λ (x : Reading). after_all x (flat_map pass_lines c.passes)) (told_by_head s c.pinned)) lawful.complete in
     let whole = complete_before s height r c.passes all end in
     let count = count_to s c.pinned c.pinned in
     let some : 1 ≤ length js = (whole.head refl).0 in
@@ -146,7 +146,7 @@ passes_pinned s height pinned passes before changes (p ∷ ps) pin some all =
     let grown = events_pinned s pinned changes p.events pin some all.0.events in
     subst (λ (js : List Change). Pinned s js pinned) (append_assoc changes (changes_of p.events) (passes_changes ps))
     (passes_pinned s height pinned (passes + 1) p.picture (changes
-        ++ changes_of p.events) ps grown (omega (arith, some, length-append changes (changes_of p.events))) all.1)
+    ++ changes_of p.events) ps grown (omega (arith, some, length-append changes (changes_of p.events))) all.1)
 
 pub content_pinned : (s : Shape) (height : ℕ) (c : Content) → IsLawfulByParts s height c → Pinned s (content_changes s c) c.pinned
 content_pinned s height c by =

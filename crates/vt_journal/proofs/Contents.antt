@@ -112,7 +112,7 @@ lines_by_text : (s : Shape) (ls ms : List Line) → 1 ≤ s.tile → AreInChain 
     → lines_text s ls ≡ lines_text s ms → ls ≡ ms
 lines_by_text s ls ms tile a b e =
     lines_by_bytes s ls ms tile a b (append_cancel_right (map (line_bytes s) ls) (map (line_bytes s) ms) ([] ∷ []) (sym (lines_of-text s ls)
-        ∙ ap lines_of e ∙ lines_of-text s ms))
+    ∙ ap lines_of e ∙ lines_of-text s ms))
 
 -- the text of a content is that of its lines
 passes_text : (s : Shape) (ps : List Pass) → flat_map (pass_text s) ps ≡ lines_text s (flat_map pass_lines ps)
@@ -142,7 +142,7 @@ pub lawful_has_no_flaw : (s : Shape) (height : ℕ) (text : List ℕ) (c : Conte
     → IsLawful s height c → text ≡ journal_text s c → IsJournalFlaw s height text e → ⊥
 lawful_has_no_flaw s height text c e tile lawful same flaw =
     no_flaw s height 1 nothing_read (content_lines s c) e tile lawful.admitted lawful.complete
-        (subst (λ ls. IsFlawFrom s height 1 nothing_read ls e) (lines_of_content s text c same) flaw)
+    (subst (λ ls. IsFlawFrom s height 1 nothing_read ls e) (lines_of_content s text c same) flaw)
 
 pub journal_flaw_unique : (s : Shape) (height : ℕ) (text : List ℕ) (e f : JournalError) → 1 ≤ s.tile
     → IsJournalFlaw s height text e → IsJournalFlaw s height text f → e ≡ f

@@ -75,7 +75,7 @@ module _ (s : Shape) (height : ℕ) (text : List ℕ) where
     same = added.same;
     advances = subst (λ v. Advances s height text (reading_of before.changes pass) at number (Makes v c ∷ []) next_at next_number) may.version_is
         (advance_line s height text (reading_of before.changes pass) at number (Makes v c) next_at next_number read
-            (change_admitted s height before.changes pages pinned pass v c is read.says.readable may));
+        (change_admitted s height before.changes pages pinned pass v c is read.says.readable may));
   }
 
   -- a change that was read and may not come there
@@ -84,7 +84,7 @@ module _ (s : Shape) (height : ℕ) (text : List ℕ) where
       → IsFlawFrom s height number (reading_of changes pass) (lines_of (drop at text)) (BadLine number)
   change_not_read changes pages pinned pass at number v c next_at next_number is read never =
       refused_read s height text (reading_of changes pass) at number (Makes v c) next_at next_number is.small.tile read
-          (λ a. never (admitted_change s height changes pages pinned pass v c is a))
+      (λ a. never (admitted_change s height changes pages pinned pass v c is a))
 
   -- a lost page that was read and is mapped
   pub loss_not_read : (changes : List Change) (pages pinned : ℕ) (pass : PassText) (at number p : ℕ) (next_at next_number : ℕ)
@@ -136,20 +136,25 @@ module _ (s : Shape) (height : ℕ) (text : List ℕ) where
       let lines : event_lines (length before) a.events ++ event_lines (length mid) b.events ≡ event_lines (length before) (a.events ++ b.events) =
       ap (λ v. event_lines (length before) a.events ++ event_lines v b.events) count ∙ sym (event_lines-append (length before) a.events b.events) in
       let rest : Advances s height text (after_all (reading_of before pass) (event_lines (length before) a.events)) at1 number1
-          (event_lines (length mid) b.events) at2 number2 =
+      (event_lines (length mid) b.events) at2 number2 =
       subst (λ (r : Reading). Advances s height text r at1 number1 (event_lines (length mid) b.events) at2 number2)
-          (reading_after before mid pass pass_mid at number at1 number1 a) b.advances in
+      (reading_after before mid pass pass_mid at number at1 number1 a) b.advances in
       record {
         events = a.events ++ b.events;
         added = b.added ∙ ap (λ x. x ++ b.events) a.added ∙ append_assoc pass.events.elements a.events b.events;
         changes_are = b.changes_are ∙ ap (λ x. x ++ changes_of b.events) a.changes_are
             ∙ append_assoc before (changes_of a.events) (changes_of b.events)
             ∙ ap (λ x. before ++ x) (sym (changes_of-append a.events b.events));
-        same = record { pass = b.same.pass ∙ a.same.pass; picture = b.same.picture ∙ a.same.picture; start = b.same.start
-            ∙ a.same.start; rows = b.same.rows ∙ a.same.rows };
+        same = record {
+          pass = b.same.pass ∙ a.same.pass;
+          picture = b.same.picture ∙ a.same.picture;
+          start = b.same.start
+              ∙ a.same.start;
+          rows = b.same.rows ∙ a.same.rows;
+        };
         advances = subst (λ (ls : List Line). Advances s height text (reading_of before pass) at number ls at2 number2) lines
             (advance_more s height text (reading_of before pass) at number (event_lines (length before) a.events) (event_lines (length mid) b.events)
-                at1 number1 at2 number2 a.advances rest);
+            at1 number1 at2 number2 a.advances rest);
       }
 
   -- a refusal after events
@@ -165,8 +170,14 @@ module _ (s : Shape) (height : ℕ) (text : List ℕ) where
       → AreEventsRead s height text before mid pass pass_mid at number at1 number1
       → pages_mid ≡ pages → length mid ≤ most_versions → IsInPass s height before pages pinned pass → IsInPass s height mid pages_mid pinned pass_mid
   in_pass_still before mid pages pages_mid pinned pass pass_mid at number at1 number1 a same few is = record {
-    small = record { tile = is.small.tile; short = is.small.short; passes = omega (arith, is.small.passes, a.same.pass); picture = omega
-        (arith, is.small.picture, a.same.pass, a.same.picture); changes = few };
+    small = record {
+      tile = is.small.tile;
+      short = is.small.short;
+      passes = omega (arith, is.small.passes, a.same.pass);
+      picture = omega
+          (arith, is.small.picture, a.same.pass, a.same.picture);
+      changes = few;
+    };
     some = omega (arith, is.some, ap length a.changes_are, length-append before (changes_of a.events));
     pinned_is = is.pinned_is ∙ sym (pinned_stays s before (changes_of a.events) is.some) ∙ ap (pinned_by s) (sym a.changes_are);
     pages_is = same ∙ is.pages_is;

@@ -28,14 +28,16 @@ events_admitted s height pinned passes picture start changes (Changed (Map p f) 
     let count : length (changes ++ Map p f ∷ []) ≡ length changes + 1 = length-append changes (Map p f ∷ []) in
     let more : 1 ≤ length (changes ++ Map p f ∷ []) = omega (arith, count) in
     let rest = events_admitted s height pinned passes picture start (changes ++ Map p f ∷ []) es some_pass (pinned_stays s changes (Map p f ∷ []) some
-        ∙ by) more all.2 in
-    ((refl, (all.0.0, all.0.1, inr (some_pass, refl)), all.1), subst
-        (λ v. AreAdmitted s height (made (changes ++ Map p f ∷ []) passes picture start []) (event_lines v es)) count rest)
+    ∙ by) more all.2 in (
+      (refl, (all.0.0, all.0.1, inr (some_pass, refl)), all.1),
+      subst
+          (λ v. AreAdmitted s height (made (changes ++ Map p f ∷ []) passes picture start []) (event_lines v es)) count rest,
+    )
 events_admitted s height pinned passes picture start changes (Changed (Unmap p f) ∷ es) some_pass by some all =
     let count : length (changes ++ Unmap p f ∷ []) ≡ length changes + 1 = length-append changes (Unmap p f ∷ []) in
     let more : 1 ≤ length (changes ++ Unmap p f ∷ []) = omega (arith, count) in
     let rest = events_admitted s height pinned passes picture start (changes
-        ++ Unmap p f ∷ []) es some_pass (pinned_stays s changes (Unmap p f ∷ []) some ∙ by) more all.2 in (
+    ++ Unmap p f ∷ []) es some_pass (pinned_stays s changes (Unmap p f ∷ []) some ∙ by) more all.2 in (
       (refl, (omega (arith, all.0.0), all.0.1, omega (arith, all.0.0, by), (some_pass, refl)), all.1),
       subst (λ v. AreAdmitted s height (made (changes ++ Unmap p f ∷ []) passes picture start []) (event_lines v es)) count rest,
     )
@@ -85,10 +87,10 @@ pass_admitted s height pinned r p whole by some next =
     let some_pass : 1 ≤ p.pass = omega (arith, next.pass_is) in
     let events : AreAdmitted s height b (event_lines p.start p.events) =
     subst (λ v. AreAdmitted s height b (event_lines v p.events)) (sym next.start_is)
-        (events_admitted s height pinned p.pass p.picture p.start r.changes p.events some_pass by some next.events) in
+    (events_admitted s height pinned p.pass p.picture p.start r.changes p.events some_pass by some next.events) in
     let last : length (r.changes ++ changes_of p.events) ≡ length r.changes + length (changes_of p.events) = length-append r.changes (changes_of p.events) in
     let all : AreRowsOf height p.start (length (r.changes ++ changes_of p.events)) p.rows = subst (λ n. AreRowsOf height p.start n p.rows) (sym last)
-        next.rows in
+    next.rows in
     let rows : AreAdmitted s height (after_all b (event_lines p.start p.events)) (map Draws p.rows) =
     subst (λ (x : Reading). AreAdmitted s height x (map Draws p.rows)) (sym (after_events b p.start p.events))
     (rows_admitted s height p.pass p.picture p.start (r.changes ++ changes_of p.events) [] p.rows p.rows some_pass refl all) in

@@ -86,9 +86,11 @@ module _ (s : Shape) (height : ℕ) (text : List ℕ) (limits : IsSource s heigh
       → IsHeadBegun s height text changes pinned 1 next_at next_number
   first_read p pinned next_at next_number changes read inside pinned_is made_is =
       let page : p ≡ pages_of s - pinned + 0 = omega (arith, pinned_is, inside) in
-      let admits : Admits s height nothing_read (Makes 1 (Map p 0)) =
-      (refl, (inside, omega arith, inl (record { no_pass = refl; next_frame = refl; next_page = λ some. absurd (omega (arith, some)) })),
-          (newest-none p, λ q e. let both : None ≡ Some 0 = sym (newest-none q) ∙ e in cc)) in
+      let admits : Admits s height nothing_read (Makes 1 (Map p 0)) = (
+        refl,
+        (inside, omega arith, inl (record { no_pass = refl; next_frame = refl; next_page = λ some. absurd (omega (arith, some)) })),
+        (newest-none p, λ q e. let both : None ≡ Some 0 = sym (newest-none q) ∙ e in cc),
+      ) in
       record {
         some = omega arith;
         most = omega (arith, pinned_is, inside);
@@ -106,8 +108,14 @@ module _ (s : Shape) (height : ℕ) (text : List ℕ) (limits : IsSource s heigh
     by_first = ap (pinned_by s) begun.changes_are ∙ pinned_by_first s pinned place begun.some begun.few
 
     small : IsSmall s height (head_reading changes)
-    small = record { tile = tile; short = limits.short; passes = omega arith; picture = omega arith; changes = omega
-        (arith, count, begun.most, begun.few, limits.limits.most_pages) }
+    small = record {
+      tile = tile;
+      short = limits.short;
+      passes = omega arith;
+      picture = omega arith;
+      changes = omega
+          (arith, count, begun.most, begun.few, limits.limits.most_pages);
+    }
 
     incomplete : place < pinned → ¬ IsComplete s height (head_reading changes)
     incomplete below whole = omega (arith, (whole.head refl).1, count, by_first)
@@ -146,7 +154,7 @@ module _ (s : Shape) (height : ℕ) (text : List ℕ) (limits : IsSource s heigh
         → IsFlawFrom s height number (head_reading changes) (lines_of (drop at text)) (BadLine number)
     other_further line next_at next_number below read other =
         refused_read s height text (head_reading changes) at number line next_at next_number tile read
-            (λ a. let next = further_line line below a in other next.0 next.1)
+        (λ a. let next = further_line line below a in other next.0 next.1)
 
     pub further_read : (next_at next_number : ℕ) (changes_after : List Change) → place < pinned
         → IsLineRead s text at number (Makes (place + 1) (Map (pages_of s - pinned + place) place)) next_at next_number
@@ -154,14 +162,21 @@ module _ (s : Shape) (height : ℕ) (text : List ℕ) (limits : IsSource s heigh
         → IsHeadBegun s height text changes_after pinned (place + 1) next_at next_number
     further_read next_at next_number changes_after below read next made_is =
         let page : ℕ = pages_of s - pinned + place in
-        let admits : Admits s height (head_reading changes) (Makes (place + 1) (Map page place)) =
-        (omega (arith, count), (omega (arith, below, begun.few), frame_inside read.says.readable, inl
-            (record { no_pass = refl; next_frame = sym count; next_page = λ some. omega (arith, count, by_first, begun.few, below) })), next) in
+        let admits : Admits s height (head_reading changes) (Makes (place + 1) (Map page place)) = (
+          omega (arith, count),
+          (
+            omega (arith, below, begun.few),
+            frame_inside read.says.readable,
+            inl
+                (record { no_pass = refl; next_frame = sym count; next_page = λ some. omega (arith, count, by_first, begun.few, below) }),
+          ),
+          next,
+        ) in
         let one = advance_line s height text (head_reading changes) at number (Makes (place + 1) (Map page place)) next_at next_number read admits in
         let rest : Advances s height text (after_all nothing_read (lines_to s pinned place)) at number (Makes (place + 1) (Map page place) ∷ [])
-            next_at next_number =
+        next_at next_number =
         subst (λ (r : Reading). Advances s height text r at number (Makes (place + 1) (Map page place) ∷ []) next_at next_number)
-            (sym (told s pinned place changes begun.changes_are)) one in
+        (sym (told s pinned place changes begun.changes_are)) one in
         record {
           some = omega (arith, begun.some);
           most = omega (arith, below);
@@ -171,7 +186,7 @@ module _ (s : Shape) (height : ℕ) (text : List ℕ) (limits : IsSource s heigh
           advances = subst (λ (ls : List Line). Advances s height text nothing_read 0 1 ls next_at next_number)
               (sym (map-range_with_len_more (λ i. Makes (i + 1) (pinned_change s pinned i)) 0 place place (omega arith)))
               (advance_more s height text nothing_read 0 1 (lines_to s pinned place) (Makes (place + 1) (Map page place) ∷ []) at number next_at
-                  next_number begun.advances rest);
+              next_number begun.advances rest);
         }
       where
         frame_inside : IsReadable s (Makes (place + 1) (Map (pages_of s - pinned + place) place)) → place < 65535

@@ -25,10 +25,10 @@ newest_of_pinned s pinned (suc n) q f e =
     let js = map (pinned_change s pinned) (range_with_len 0 n) in
     let next : suc n ≡ n + 1 = omega arith in
     let grown : map (pinned_change s pinned) (range_with_len 0 (suc n)) ≡ js
-        ++ pinned_change s pinned n ∷ [] = ap (λ k. map (pinned_change s pinned) (range_with_len 0 k)) next
-        ∙ map-range_with_len_more (pinned_change s pinned) 0 n n (omega arith) in
+    ++ pinned_change s pinned n ∷ [] = ap (λ k. map (pinned_change s pinned) (range_with_len 0 k)) next
+    ∙ map-range_with_len_more (pinned_change s pinned) 0 n n (omega arith) in
     let was : changed (newest js) (Map (pages_of s - pinned + n) n) q ≡ Some f = sym (ap (λ (t : Table). t q) (ap newest grown
-        ∙ newest-more js (pinned_change s pinned n))) ∙ e in
+    ∙ newest-more js (pinned_change s pinned n))) ∙ e in
     elim (mapped_after_map (newest js) (pages_of s - pinned + n) n q f was) [
       | inl (page, frame) ↦ (omega (arith, frame), page ∙ ap (λ k. pages_of s - pinned + k) frame)
       | inr (other, before) ↦ let rest = newest_of_pinned s pinned n q f before in (omega (arith, rest.0), rest.1)
@@ -57,13 +57,20 @@ heads_admitted s height pinned (suc n) may low =
     let js = changes_to s pinned n in
     let before = heads_admitted s height pinned n may (omega arith) in
     let grown : lines_to s pinned (suc n) ≡ lines_to s pinned n ++ Makes (n + 1) (pinned_change s pinned n) ∷ [] = ap (lines_to s pinned) next
-        ∙ map-range_with_len_more (λ i. Makes (i + 1) (pinned_change s pinned i)) 0 n n (omega arith) in
+    ∙ map-range_with_len_more (λ i. Makes (i + 1) (pinned_change s pinned i)) 0 n n (omega arith) in
     let count = count_to s pinned n in
     let page_is : 1 ≤ length js → pages_of s - pinned + n + pinned_by s js ≡ pages_of s + length js = λ some. omega
-        (arith, count, pinned_by_first s pinned n (omega (arith, some, count)) may.few, may.few) in
-    let one : Admits s height (head_reading js) (Makes (n + 1) (pinned_change s pinned n)) =
-    (omega (arith, count), (omega (arith, may.few, low), omega (arith, may.framed, low), inl
-        (record { no_pass = refl; next_frame = sym count; next_page = page_is })), pinned_is_next s pinned n) in
+    (arith, count, pinned_by_first s pinned n (omega (arith, some, count)) may.few, may.few) in
+    let one : Admits s height (head_reading js) (Makes (n + 1) (pinned_change s pinned n)) = (
+      omega (arith, count),
+      (
+        omega (arith, may.few, low),
+        omega (arith, may.framed, low),
+        inl
+            (record { no_pass = refl; next_frame = sym count; next_page = page_is }),
+      ),
+      pinned_is_next s pinned n,
+    ) in
     subst (AreAdmitted s height nothing_read) (sym grown)
     (admitted-append s height nothing_read (lines_to s pinned n) (Makes (n + 1) (pinned_change s pinned n) ∷ []) before
     (subst (λ (r : Reading). AreAdmitted s height r (Makes (n + 1) (pinned_change s pinned n) ∷ [])) (sym (told s pinned n js refl)) (one, tt)))

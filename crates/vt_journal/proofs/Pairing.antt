@@ -92,7 +92,7 @@ paired-map frames pages page frame pair inside below none free = record {
               let was : get_or pages f 0 ≡ suc p = sym (set_elsewhere pages frame (page + 1) f other) ∙ e in
               let back = pair.by_frame f p was in
               let away : p ≢ page = λ same. let zero_there : get_or frames p 0 ≡ 0 = ap (λ q. get_or frames q 0) same
-                  ∙ number_none (get_or frames page 0) none in absurd (omega (arith, zero_there, back)) in
+              ∙ number_none (get_or frames page 0) none in absurd (omega (arith, zero_there, back)) in
               set_elsewhere frames page (frame + 1) p away ∙ back
         ]
 
@@ -121,7 +121,7 @@ paired-unmap frames pages page frame pair inside below mapped = record {
               let was : get_or frames p 0 ≡ suc f = sym (set_elsewhere frames page 0 p other) ∙ e in
               let back = pair.by_page p f was in
               let away : f ≢ frame = λ same. let q : get_or pages f 0 ≡ suc page = ap (λ g. get_or pages g 0) same
-                  ∙ (pair.by_page page frame there).1 in other (omega (arith, q, back.1)) in
+              ∙ (pair.by_page page frame there).1 in other (omega (arith, q, back.1)) in
               (back.0, set_elsewhere pages frame 0 f away ∙ back.1)
         ]
 
@@ -133,6 +133,6 @@ paired-unmap frames pages page frame pair inside below mapped = record {
               let was : get_or pages f 0 ≡ suc p = sym (set_elsewhere pages frame 0 f other) ∙ e in
               let back = pair.by_frame f p was in
               let away : p ≢ page = λ same. let q : get_or frames p 0 ≡ suc frame = ap (λ q. get_or frames q 0) same
-                  ∙ there in other (omega (arith, q, back)) in
+              ∙ there in other (omega (arith, q, back)) in
               set_elsewhere frames page 0 p away ∙ back
         ]

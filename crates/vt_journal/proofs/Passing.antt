@@ -77,7 +77,7 @@ module _ (s : Shape) (height : ℕ) (text : List ℕ) (changes : List Change) (p
       refused_read s height text r at number line next_at next_number between.small.tile read
       (only_begin s height r line between.complete
       (λ flat some. none flat (omega (arith, some, between.passes_are)) line read.bytes (lines_of (drop next_at text)) read.cut
-          (some_lines (drop next_at text)) read.says) other)
+      (some_lines (drop next_at text)) read.says) other)
 
   -- the beginning of another pass than the next
   pub other_begin : (version pass picture start next_at next_number : ℕ) → version ≡ length changes
@@ -92,15 +92,21 @@ module _ (s : Shape) (height : ℕ) (text : List ℕ) (changes : List Change) (p
       → IsNextPass version passes before pass picture start → Advances s height text r at number (Begins pass picture start ∷ []) next_at next_number
   begin_read version pass picture start next_at next_number newest read next =
       advance_line s height text r at number (Begins pass picture start) next_at next_number read
-          (begin_admitted s height changes version passes before pass picture start r between newest next)
+      (begin_admitted s height changes version passes before pass picture start r between newest next)
 
 -- a pass that has just begun
 pub pass_begun : (s : Shape) (height : ℕ) (changes : List Change) (pages pinned passes before : ℕ) (pass : PassText)
     → IsAwaited s height changes pages pinned passes before
     → pass.pass ≡ passes + 1 → pass.picture ≤ passes + 1 → pass.rows.elements ≡ [] → IsInPass s height changes pages pinned pass
 pass_begun s height changes pages pinned passes before pass awaited pass_is picture_is none = record {
-  small = record { tile = awaited.tile; short = awaited.short; passes = omega (arith, awaited.few_passes, pass_is); picture = omega
-      (arith, pass_is, picture_is); changes = awaited.few_changes };
+  small = record {
+    tile = awaited.tile;
+    short = awaited.short;
+    passes = omega (arith, awaited.few_passes, pass_is);
+    picture = omega
+        (arith, pass_is, picture_is);
+    changes = awaited.few_changes;
+  };
   some = awaited.some;
   pinned_is = awaited.pinned_is;
   pages_is = awaited.pages_is;
@@ -129,7 +135,7 @@ module _ (s : Shape) (height : ℕ) (text : List ℕ) (r : Reading) (old mid : L
       → IsRefusal s height text (reading_of old fresh) at1 number1 e → IsRefusal s height text r at number e
   events_refused at number at1 number1 e begin refusal =
       refused_later s height text r at number (Begins fresh.pass fresh.picture fresh.start ∷ []) at1 number1 e begin
-          (subst (λ (r : Reading). IsRefusal s height text r at1 number1 e) (sym begun_is) refusal)
+      (subst (λ (r : Reading). IsRefusal s height text r at1 number1 e) (sym begun_is) refusal)
 
   -- the beginning and the events
   pub begin_and_events : (at number at1 number1 at2 number2 : ℕ)
@@ -138,7 +144,7 @@ module _ (s : Shape) (height : ℕ) (text : List ℕ) (r : Reading) (old mid : L
       → Advances s height text r at number (Begins fresh.pass fresh.picture fresh.start ∷ event_lines (length old) a.events) at2 number2
   begin_and_events at number at1 number1 at2 number2 begin a =
       advance_more s height text r at number (Begins fresh.pass fresh.picture fresh.start ∷ []) (event_lines (length old) a.events) at1 number1 at2
-          number2 begin
+      number2 begin
       (subst (λ (r : Reading). Advances s height text r at1 number1 (event_lines (length old) a.events) at2 number2) (sym begun_is) a.advances)
 
   -- what was told then
@@ -156,7 +162,7 @@ module _ (s : Shape) (height : ℕ) (text : List ℕ) (r : Reading) (old mid : L
       → IsRefusal s height text r at number e
   rows_refused at number at1 number1 at2 number2 e begin a refusal =
       refused_later s height text r at number (Begins fresh.pass fresh.picture fresh.start ∷ event_lines (length old) a.events) at2 number2 e
-          (begin_and_events at number at1 number1 at2 number2 begin a)
+      (begin_and_events at number at1 number1 at2 number2 begin a)
       (subst (λ (r : Reading). IsRefusal s height text r at2 number2 e) (sym (told_is at1 number1 at2 number2 a)) refusal)
 
   -- all of it
@@ -179,9 +185,9 @@ module _ (s : Shape) (height : ℕ) (text : List ℕ) (r : Reading) (old mid : L
       ∙ ap (λ k. Begins whole.pass k fresh.start ∷ event_lines fresh.start whole.events.elements ++ map Draws whole.rows.elements) (sym (wk ∙ a.same.picture))
       ∙ ap (λ v. Begins whole.pass whole.picture v ∷ event_lines v whole.events.elements ++ map Draws whole.rows.elements) (sym (wv ∙ a.same.start)) in
       let all : Advances s height text r at number ((Begins fresh.pass fresh.picture fresh.start ∷ event_lines (length old) a.events)
-          ++ map Draws rows) at3 number3 =
+      ++ map Draws rows) at3 number3 =
       advance_more s height text r at number (Begins fresh.pass fresh.picture fresh.start ∷ event_lines (length old) a.events) (map Draws rows) at2
-          number2 at3 number3 (begin_and_events at number at1 number1 at2 number2 begin a)
+      number2 at3 number3 (begin_and_events at number at1 number1 at2 number2 begin a)
       (subst (λ (r : Reading). Advances s height text r at2 number2 (map Draws rows) at3 number3) (sym (told_is at1 number1 at2 number2 a)) drawn) in
       let moved = subst (λ (ls : List Line). Advances s height text r at number ls at3 number3) lines all in
       record {
@@ -234,7 +240,7 @@ passes_more s height text first before last passes pass picture at number at1 nu
     let all = lines_more passes pass in
     let count = length-append passes (pass ∷ []) in
     let told : after_all (head_reading first) (flat_map pass_lines (map pass_of (passes
-        ++ pass ∷ []))) ≡ made last pass.pass pass.picture pass.start pass.rows.elements =
+    ++ pass ∷ []))) ≡ made last pass.pass pass.picture pass.start pass.rows.elements =
     ap (after_all (head_reading first)) (sym all) ∙ after_all-append (head_reading first) ls (pass_lines (pass_of pass))
     ∙ after_pass r pass
     ∙ ap (λ cs. made (cs ++ changes_of pass.events.elements) pass.pass pass.picture pass.start pass.rows.elements) so_far.between.changes_are
@@ -246,8 +252,13 @@ passes_more s height text first before last passes pass picture at number at1 nu
       advances = subst (λ (ls : List Line). Advances s height text (head_reading first) at number ls at2 number2) all
           (advance_more s height text (head_reading first) at number ls (pass_lines (pass_of pass)) at1 number1 at2 number2 so_far.advances read.advances);
       between = subst (λ (r : Reading). IsBetween s height last (length (passes ++ pass ∷ [])) pass.picture r) (sym told) (record {
-        small = record { tile = so_far.between.small.tile; short = so_far.between.small.short; passes = omega (arith, read.pass_is, few);
-            picture = read.picture_is; changes = read.few };
+        small = record {
+          tile = so_far.between.small.tile;
+          short = so_far.between.small.short;
+          passes = omega (arith, read.pass_is, few);
+          picture = read.picture_is;
+          changes = read.few;
+        };
         changes_are = refl;
         passes_are = read.pass_is ∙ sym count;
         picture_is = refl;

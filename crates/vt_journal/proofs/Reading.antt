@@ -48,7 +48,7 @@ pub name_read : (s : Shape) (line : List ℕ) (i page level col row : ℕ) → S
 name_read s line i page level col row at l c r =
     same_name (name_at s page).level (name_at s page).col (name_at s page).row level col row
     (same_number (slice_get (fields_of line) i) (name_at s page).level level at.level l)
-        (same_number (slice_get (fields_of line) (i + 1)) (name_at s page).col col at.col c)
+    (same_number (slice_get (fields_of line) (i + 1)) (name_at s page).col col at.col c)
     (same_number (slice_get (fields_of line) (i + 2)) (name_at s page).row row at.row r)
 
 -- a list by what stands at its places

@@ -26,14 +26,20 @@ events_after : (s : Shape) (height pinned passes picture start v : ℕ) (changes
     → AreAdmitted s height (made changes passes picture start []) (event_lines v es) → AreEventsAfter s pinned changes es
 events_after s height pinned passes picture start v changes [] by some all = tt
 events_after s height pinned passes picture start v changes (Changed (Map p f) ∷ es) by some all =
-    let more : 1 ≤ length (changes ++ Map p f ∷ []) = omega (arith, length-append changes (Map p f ∷ [])) in
-    ((all.0.1.0, all.0.1.1), all.0.2, events_after s height pinned passes picture start (v + 1) (changes
-        ++ Map p f ∷ []) es (pinned_stays s changes (Map p f ∷ []) some ∙ by) more all.1)
+    let more : 1 ≤ length (changes ++ Map p f ∷ []) = omega (arith, length-append changes (Map p f ∷ [])) in (
+      (all.0.1.0, all.0.1.1),
+      all.0.2,
+      events_after s height pinned passes picture start (v + 1) (changes
+          ++ Map p f ∷ []) es (pinned_stays s changes (Map p f ∷ []) some ∙ by) more all.1,
+    )
 events_after s height pinned passes picture start v changes (Changed (Unmap p f) ∷ es) by some all =
     let more : 1 ≤ length (changes ++ Unmap p f ∷ []) = omega (arith, length-append changes (Unmap p f ∷ [])) in
-    let kept : p + pinned < pages_of s = omega (arith, all.0.1.2, by) in
-    ((kept, all.0.1.1), all.0.2, events_after s height pinned passes picture start (v + 1) (changes
-        ++ Unmap p f ∷ []) es (pinned_stays s changes (Unmap p f ∷ []) some ∙ by) more all.1)
+    let kept : p + pinned < pages_of s = omega (arith, all.0.1.2, by) in (
+      (kept, all.0.1.1),
+      all.0.2,
+      events_after s height pinned passes picture start (v + 1) (changes
+          ++ Unmap p f ∷ []) es (pinned_stays s changes (Unmap p f ∷ []) some ∙ by) more all.1,
+    )
 events_after s height pinned passes picture start v changes (Lost p ∷ es) by some all =
     (all.0.1, all.0.2, events_after s height pinned passes picture start v changes es by some all.1)
 
@@ -48,8 +54,13 @@ begun_more : (s : Shape) (height passes picture start : ℕ) (changes : List Cha
 begun_more s height passes picture start changes before row begun a = record {
   each = λ y r at. elim (slice_get-push before row y r at) [
     | inl (low, was) ↦ begun.each y r was
-    | inr (last, same) ↦ subst (λ (x : RowLine). IsRowOf start (length changes) y x) same (record { place = a.next
-        ∙ sym last; sampler = a.sampler; from = a.from; to = a.to })
+    | inr (last, same) ↦ subst (λ (x : RowLine). IsRowOf start (length changes) y x) same (record {
+      place = a.next
+          ∙ sym last;
+      sampler = a.sampler;
+      from = a.from;
+      to = a.to;
+    })
   ];
   rise = λ i j q r low at_i at_j same. elim (slice_get-push before row j r at_j) [
     | inl (low_j, was_j) ↦ begun.rise i j q r low (sym (slice_get-front before (row ∷ []) i (omega (arith, low, low_j))) ∙ at_i) was_j same
@@ -81,9 +92,9 @@ pass_next s height pinned r p all whole by some =
     let drawn : AreAdmitted s height (made (r.changes ++ changes_of p.events) p.pass p.picture p.start []) (map Draws p.rows) =
     subst (λ (x : Reading). AreAdmitted s height x (map Draws p.rows)) (after_events b p.start p.events) parts.1 in
     let rows = rows_of s height p.pass p.picture p.start (r.changes
-        ++ changes_of p.events) [] p.rows (none_begun p.start (length (r.changes ++ changes_of p.events))) drawn in
+    ++ changes_of p.events) [] p.rows (none_begun p.start (length (r.changes ++ changes_of p.events))) drawn in
     let told : IsComplete s height (made (r.changes ++ changes_of p.events) p.pass p.picture p.start p.rows) = subst (IsComplete s height)
-        (told_by_pass r p) whole in
+    (told_by_pass r p) whole in
     record {
       pass_is = all.0.1;
       picture_is = all.0.2;

@@ -62,7 +62,7 @@ module _ (s : Shape) (height : ℕ) (text : List ℕ) (changes : List Change) (p
       → IsFlawFrom s height number (with_rows changes pass rows) (lines_of (drop at text)) (BadLine number)
   row_not_read rows seen version row at number next_at next_number begun newest read never =
       refused_read s height text (with_rows changes pass rows) at number (Draws row) next_at next_number begun.small.tile read
-          (λ a. never (admitted_row s height changes pass rows seen version row begun newest a))
+      (λ a. never (admitted_row s height changes pass rows seen version row begun newest a))
 
   -- the rows are not whole
   incomplete : (rows : List RowLine) → 1 ≤ pass.pass → length rows < height → ¬ IsComplete s height (with_rows changes pass rows)
@@ -147,8 +147,13 @@ pub begun_more : (s : Shape) (height : ℕ) (changes : List Change) (pass : Pass
     → AreRowsBegun s height changes pass rows seen
     → AreSeen pass.start rows_after seen_after → AreRowsBegun s height changes pass rows_after seen_after
 begun_more s height changes pass rows rows_after seen seen_after begun seen_are = record {
-  small = record { tile = begun.small.tile; short = begun.small.short; passes = begun.small.passes; picture = begun.small.picture;
-      changes = begun.small.changes };
+  small = record {
+    tile = begun.small.tile;
+    short = begun.small.short;
+    passes = begun.small.passes;
+    picture = begun.small.picture;
+    changes = begun.small.changes;
+  };
   in_pass = begun.in_pass;
   seen_are = seen_are;
 }
@@ -160,7 +165,7 @@ pub moved_rows : (s : Shape) (height : ℕ) (text : List ℕ) (changes : List Ch
     → Advances s height text (with_rows changes pass []) at number (map Draws rows_after) at2 number2
 moved_rows s height text changes pass at number rows rows_after row at1 number1 at2 number2 added a b =
     subst (λ (rs : List RowLine). Advances s height text (with_rows changes pass []) at number (map Draws rs) at2 number2) (sym added)
-        (rows_more s height text changes pass at number rows row at1 number1 at2 number2 a b)
+    (rows_more s height text changes pass at number rows row at1 number1 at2 number2 a b)
 
 -- no rows were read
 pub rows_none : (s : Shape) (height : ℕ) (text : List ℕ) (changes : List Change) (pass : PassText) (at number : ℕ) (rows : List RowLine) → rows ≡ []
@@ -168,4 +173,4 @@ pub rows_none : (s : Shape) (height : ℕ) (text : List ℕ) (changes : List Cha
     → Advances s height text (with_rows changes pass []) at number (map Draws rows) at number
 rows_none s height text changes pass at number rows none cursor =
     subst (λ (rs : List RowLine). Advances s height text (with_rows changes pass []) at number (map Draws rs) at number) (sym none)
-        (advance_none s height text (with_rows changes pass []) at number cursor)
+    (advance_none s height text (with_rows changes pass []) at number cursor)

@@ -28,7 +28,7 @@ page_injective s p q tile pin qin e =
     let col : (name_at s p).col ≡ (name_at s q).col = number_spelling_injective (name_at s p).col (name_at s q).col (cc) in
     let row : (name_at s p).row ≡ (name_at s q).row = number_spelling_injective (name_at s p).row (name_at s q).row (cc) in
     let name : name_at s p ≡ name_at s q = same_name (name_at s p).level (name_at s p).col (name_at s p).row (name_at s q).level (name_at s q).col
-        (name_at s q).row level col row in
+    (name_at s q).row level col row in
     sym (index_of-name_at s p tile pin) ∙ ap (index_of s) name ∙ index_of-name_at s q tile qin
 
 -- the fields of a change tell the change and its version
@@ -110,13 +110,22 @@ admitted_readable s height r (Begins n k v) small a =
     none_or_more : (n : ℕ) → (n ≡ 0) ⊎ (1 ≤ n)
     none_or_more zero = inl refl
     none_or_more (suc n) = inr (omega arith)
-admitted_readable s height r (Makes v (Map p f)) small a = record { version_inside = omega (arith, a.0, small.changes); page_inside = a.1.0;
-    frame_inside = a.1.1 }
-admitted_readable s height r (Makes v (Unmap p f)) small a = record { version_inside = omega (arith, a.0, small.changes); page_inside = a.1.0;
-    frame_inside = a.1.1 }
+admitted_readable s height r (Makes v (Map p f)) small a = record {
+  version_inside = omega (arith, a.0, small.changes);
+  page_inside = a.1.0;
+  frame_inside = a.1.1;
+}
+admitted_readable s height r (Makes v (Unmap p f)) small a = record {
+  version_inside = omega (arith, a.0, small.changes);
+  page_inside = a.1.0;
+  frame_inside = a.1.1;
+}
 admitted_readable s height r (Loses p) small a = a.1
-admitted_readable s height r (Draws row) small a = record { row_inside = omega (arith, a.inside, small.short); sampler_inside = a.sampler;
-    version_inside = omega (arith, a.to, small.changes) }
+admitted_readable s height r (Draws row) small a = record {
+  row_inside = omega (arith, a.inside, small.short);
+  sampler_inside = a.sampler;
+  version_inside = omega (arith, a.to, small.changes);
+}
 
 -- a text has a line
 pub some_lines : (bs : List ℕ) → lines_of bs ≢ []
@@ -196,7 +205,7 @@ flaw_unique s height number r (bytes ∷ next ∷ rest) e f tile (inr (l, says, 
 flaw_unique s height number r (bytes ∷ next ∷ rest) e f tile (inr (l, says, later)) (inr (m, says', later')) =
     let same : l ≡ m = one_line s height r bytes l m tile says (admitted_in_chain s height r m says'.0) says'.1 in
     flaw_unique s height (number + 1) (after r l) (next ∷ rest) e f tile later
-        (subst (λ z. IsFlawFrom s height (number + 1) (after r z) (next ∷ rest) f) (sym same) later')
+    (subst (λ z. IsFlawFrom s height (number + 1) (after r z) (next ∷ rest) f) (sym same) later')
 
 -- a flaw of a line that may come next and of those after it is one of those after it
 flaw_rest : (s : Shape) (height number : ℕ) (r : Reading) (l : Line) (next : List ℕ) (rest : List (List ℕ)) (e : JournalError)
@@ -216,7 +225,7 @@ no_flaw s height number r (l ∷ []) e tile all whole flaw =
     no_flaw s height (number + 1) (after r l) [] e tile all.1 whole (flaw_rest s height number r l [] [] e tile all.0 flaw)
 no_flaw s height number r (l ∷ m ∷ ms) e tile all whole flaw =
     no_flaw s height (number + 1) (after r l) (m ∷ ms) e tile all.1 whole (flaw_rest s height number r l (line_bytes s m) (map (line_bytes s) ms
-        ++ ([] ∷ [])) e tile all.0 flaw)
+    ++ ([] ∷ [])) e tile all.0 flaw)
 
 module _ (s : Shape) (height : ℕ) (text : List ℕ) (r : Reading) (at number : ℕ) where
   -- a refusal where no line is read, and the text may not end
@@ -238,7 +247,7 @@ module _ (s : Shape) (height : ℕ) (text : List ℕ) (r : Reading) (at number :
   refused_read l next_at next_number tile read refused =
       subst (λ ls. IsFlawFrom s height number r ls (BadLine number)) (sym read.cut)
       (flaw_refused s height number r read.bytes (lines_of (drop next_at text)) l tile (some_lines (drop next_at text))
-          (readable_in_chain s l read.says.readable) read.says.fields refused)
+      (readable_in_chain s l read.says.readable) read.says.fields refused)
 
   -- a line that may come next
   pub advance_line : (l : Line) (next_at next_number : ℕ) → IsLineRead s text at number l next_at next_number → Admits s height r l
@@ -277,4 +286,4 @@ module _ (s : Shape) (height : ℕ) (text : List ℕ) (r : Reading) (at number :
   refused_later ls at1 number1 e a (inr flaw) =
       inr (subst (λ x. IsFlawFrom s height number r x e) (sym a.spelled)
       (flaw_after_all s height number r ls (lines_of (drop at1 text)) e (some_lines (drop at1 text)) a.admitted
-          (subst (λ n. IsFlawFrom s height n (after_all r ls) (lines_of (drop at1 text)) e) a.number_is flaw)))
+      (subst (λ n. IsFlawFrom s height n (after_all r ls) (lines_of (drop at1 text)) e) a.number_is flaw)))

@@ -98,7 +98,7 @@ entry-other = entry_other
 pub same_page : (q page : ℕ) → (q ≡ page) ⊎ (q ≢ page)
 same_page q page =
     let by : (b : Bool) → eqb q page ≡ b → (q ≡ page) ⊎ (q ≢ page) = λ b. elim b as (λ b. eqb q page ≡ b
-        → (q ≡ page) ⊎ (q ≢ page)) [ true ↦ λ e. inl (eqb-true q page e) | false ↦ λ e. inr (eqb-false q page e) ] in
+    → (q ≡ page) ⊎ (q ≢ page)) [ true ↦ λ e. inl (eqb-true q page e) | false ↦ λ e. inr (eqb-false q page e) ] in
     by (eqb q page) refl
 
 -- the frame of an entry after a map
@@ -147,7 +147,7 @@ one_to_one js zero all h = λ p q f a b. cc
 one_to_one js (suc v) all h =
     let c = some_at js v (omega arith) in
     subst (λ (o : Option Change). IsOneToOne (changed_by (at js v) o)) (sym c.1)
-        (one_to_one-changed (at js v) c.0 (one_to_one js v all (omega arith)) (all v c.0 c.1))
+    (one_to_one-changed (at js v) c.0 (one_to_one js v all (omega arith)) (all v c.0 c.1))
 
 -- the free frames after a map
 pub free_after_map : (m : Table) (page frame g : ℕ) → IsNext m (Map page frame)

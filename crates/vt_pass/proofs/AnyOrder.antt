@@ -163,7 +163,7 @@ module _ (s : Shape) (frames : ℕ) (m : Table) (batch : List Planned) (losses :
       apart m a.entry b.entry p
       (subst (λ (e : Planned). (e.page ≢ b.entry.page) × (e.frame ≢ b.entry.frame)) at_j
       (subst (λ (f : Planned). ((slice_index_or batch j a.entry).page ≢ f.page)
-          × ((slice_index_or batch j a.entry).frame ≢ f.frame)) at_k (lawful.apart j k a.entry before inside)))
+      × ((slice_index_or batch j a.entry).frame ≢ f.frame)) at_k (lawful.apart j k a.entry before inside)))
       a.stands_so b.stands_so
 
   -- only one ticket changes a page

@@ -115,7 +115,7 @@ module _ (batch : List Planned) (results : List Loaded) (start : TableView)
             (λ (before : k < n). get_or-set_other losses t y.request.ticket lost true (tickets_apart k n y x before is_y at) ∙ s.each k y before is_y)
             (λ (last : n ≤ k).
             let same : y ≡ x = sym (get_or_from_slice_get results k y x is_y)
-                ∙ ap (λ i. get_or results i x) (let q : k ≡ n = omega (arith, last, low) in q) ∙ get_or_from_slice_get results n x x at in
+            ∙ ap (λ i. get_or results i x) (let q : k ≡ n = omega (arith, last, low) in q) ∙ get_or_from_slice_get results n x x at in
             subst (λ (z : Loaded). get_or (slice_set losses t lost) z.request.ticket true ≡ is_lost z.outcome) (sym same)
             (get_or-set_same losses t lost true (let l = s.told in let b = slice_get_within batch t e there in omega (arith, l, b)) ∙ is))
             (cases_lt k n);
@@ -125,7 +125,7 @@ module _ (batch : List Planned) (results : List Loaded) (start : TableView)
             (entries_apart t y.request.ticket e f (tickets_apart n k x y (omega (arith, from)) at is_y) there is_f));
         holds = λ d bytes good h. holds d bytes (s.holds d bytes good h)
             (subst (λ z. IsGood bytes z d x) (sym s.shape) (subst (λ (y : Loaded). IsGood bytes start.shape d y)
-                (get_or_from_slice_get results n x x at) (good n x inside)));
+            (get_or_from_slice_get results n x x at) (good n x inside)));
       }
 
   -- What the next result asks of the table.

@@ -222,23 +222,23 @@ module _ {F : Type 0} (g : FileMeanings F) (s : Shape) (d : ℕ) where
   rose_all [] all = inl (omega arith)
   rose_all (p ∷ ps) all = pick (cases_lt (g.faults p.after) count_end)
       (rose_all ps (All-tail (λ (q : Portion F). IsReadFor g s d (items_of q.put) q.before q.after) p ps all)) where
-    rose : RoseBy (lost_among (items_of p.put)) (g.faults p.before) (g.faults p.after)
-    rose = (All-head (λ (q : Portion F). IsReadFor g s d (items_of q.put) q.before q.after) p ps all).faults
+        rose : RoseBy (lost_among (items_of p.put)) (g.faults p.before) (g.faults p.after)
+        rose = (All-head (λ (q : Portion F). IsReadFor g s d (items_of q.put) q.before q.after) p ps all).faults
 
-    lost : lost_among (items_of (p.put ++ all_put ps)) ≡ lost_among (items_of p.put) + lost_among (items_of (all_put ps))
-    lost = ap lost_among (map-append (λ (e : ℕ × Loaded). e.1) p.put (all_put ps))
-        ∙ sum_by-append (λ (x : Loaded). cond (is_lost x.outcome) 1 0) (items_of p.put) (items_of (all_put ps))
+        lost : lost_among (items_of (p.put ++ all_put ps)) ≡ lost_among (items_of p.put) + lost_among (items_of (all_put ps))
+        lost = ap lost_among (map-append (λ (e : ℕ × Loaded). e.1) p.put (all_put ps))
+            ∙ sum_by-append (λ (x : Loaded). cond (is_lost x.outcome) 1 0) (items_of p.put) (items_of (all_put ps))
 
-    pick : (g.faults p.after < count_end) ⊎ (count_end ≤ g.faults p.after)
-        → RoseTogetherBy (lost_among (items_of (all_put ps))) (counts_of (befores ps)) (counts_of (afters ps))
-        → RoseTogetherBy (lost_among (items_of (p.put ++ all_put ps))) (g.faults p.before ∷ counts_of (befores ps)) (g.faults p.after ∷ counts_of (afters ps))
-    pick (inr high) more = let e : nat_le count_end (g.faults p.after) ≡ true = grind (arith, nat_tests, high) in
-        inr (ap (λ (b : Bool). b || list_any (nat_le count_end) (counts_of (afters ps))) e)
-    pick (inl low) (inr any) = inr (or_right (nat_le count_end (g.faults p.after)) (list_any (nat_le count_end) (counts_of (afters ps))) any)
-    pick (inl low) (inl sums) =
-        let a = sum_by-cons (λ (n : ℕ). n) (g.faults p.before) (counts_of (befores ps)) in
-        let b = sum_by-cons (λ (n : ℕ). n) (g.faults p.after) (counts_of (afters ps)) in
-        inl (omega (arith, a, b, lost, rose, low, sums))
+        pick : (g.faults p.after < count_end) ⊎ (count_end ≤ g.faults p.after)
+            → RoseTogetherBy (lost_among (items_of (all_put ps))) (counts_of (befores ps)) (counts_of (afters ps))
+            → RoseTogetherBy (lost_among (items_of (p.put ++ all_put ps))) (g.faults p.before ∷ counts_of (befores ps)) (g.faults p.after ∷ counts_of (afters ps))
+        pick (inr high) more = let e : nat_le count_end (g.faults p.after) ≡ true = grind (arith, nat_tests, high) in
+            inr (ap (λ (b : Bool). b || list_any (nat_le count_end) (counts_of (afters ps))) e)
+        pick (inl low) (inr any) = inr (or_right (nat_le count_end (g.faults p.after)) (list_any (nat_le count_end) (counts_of (afters ps))) any)
+        pick (inl low) (inl sums) =
+            let a = sum_by-cons (λ (n : ℕ). n) (g.faults p.before) (counts_of (befores ps)) in
+            let b = sum_by-cons (λ (n : ℕ). n) (g.faults p.after) (counts_of (afters ps)) in
+            inl (omega (arith, a, b, lost, rose, low, sums))
 
   store_files : (ls : List (QueuedView F)) → files_of g (stores_of ls) ≡ map (file_state g) (map (λ (l : QueuedView F). l.loader.store.file) ls)
   store_files [] = refl

@@ -157,7 +157,7 @@ module _ {F : Type 0} (g : FileMeanings F) (v : TableView) (k : KitView F) (job 
   row_replayed y bytes inside told =
       let r = has_row y inside in
       subst (λ (z : ℕ × List ℕ). HasPixels k.depth z.0 (λ x. still_shows job.scene bytes (newest v.changes) job.picture x y) z.1)
-          (λ i. (h.job_is.width i, sym r.is i))
+      (λ i. (h.job_is.width i, sym r.is i))
       (row_is_replayed g v k job r.by.before r.task.sampler y bytes idle_drawn h.job_is r.by.drawn r.own told)
 
 -- A batch was streamed into a table from the stores of a kit.

@@ -65,16 +65,16 @@ same_tile : (v w : TableView) (d page frame : ℕ) (told : Option (List ℕ)) �
     → HasTile v d told page frame → HasTile w d told page frame
 same_tile v w d page frame told shape tile h =
     let moved = subst (λ (x : Shape × List ℕ). IsTileOf x.0 d told page x.1) (λ i. (sym shape i, sym tile i))
-        (let t : IsTileOf v.shape d told page (tile_of v frame) = record { size = h.size; of_store = h.of_store } in t) in
+    (let t : IsTileOf v.shape d told page (tile_of v frame) = record { size = h.size; of_store = h.of_store } in t) in
     record { size = moved.size; of_store = moved.of_store }
 
 pub holds_unmapped : (v w : TableView) (victim frame : ℕ) → w.changes ≡ v.changes ++ Unmap victim frame ∷ [] → w.tiles ≡ v.tiles → w.shape ≡ v.shape
     → (d : ℕ) (told : Option (List ℕ)) → HoldsTiles v d told → HoldsTiles w d told
 holds_unmapped v w victim frame changes tiles shape d told h page f is =
     let now : changed (newest v.changes) (Unmap victim frame) page ≡ Some f = sym (ap (λ (m : Table). m page) (ap newest changes
-        ∙ newest-more v.changes (Unmap victim frame))) ∙ is in
+    ∙ newest-more v.changes (Unmap victim frame))) ∙ is in
     same_tile v w d page f told shape (ap (λ (ts : List (List ℕ)). tile_of (record v { tiles = ts }) f) tiles)
-        (h page f (mapped_after_unmap (newest v.changes) victim frame page f now).1)
+    (h page f (mapped_after_unmap (newest v.changes) victim frame page f now).1)
 
 pub holds_mapped : (u v w : TableView) (page frame : ℕ) (tile : List ℕ) → IsFree (newest u.changes) frame
     → tile_of v frame ≡ tile → ((f : ℕ) → f ≢ frame → tile_of v f ≡ tile_of u f) → v.shape ≡ u.shape → v.changes ≡ u.changes
@@ -83,7 +83,7 @@ pub holds_mapped : (u v w : TableView) (page frame : ℕ) (tile : List ℕ) → 
 holds_mapped u v w page frame tile free filled others shape same changes tiles shape_after d told h is_tile p f is =
     let all : w.changes ≡ u.changes ++ Map page frame ∷ [] = changes ∙ ap (λ (js : List Change). js ++ Map page frame ∷ []) same in
     let now : changed (newest u.changes) (Map page frame) p ≡ Some f = sym (ap (λ (m : Table). m p) (ap newest all
-        ∙ newest-more u.changes (Map page frame))) ∙ is in
+    ∙ newest-more u.changes (Map page frame))) ∙ is in
     let kept : (g : ℕ) → tile_of w g ≡ tile_of v g = λ g. ap (λ (ts : List (List ℕ)). tile_of (record v { tiles = ts }) g) tiles in
     ⊎_elim
     (λ a. let t : IsTileOf u.shape d told page tile = is_tile in
@@ -103,9 +103,9 @@ still_unmapped u v e es fs h p = by_victim e.victim p.changes where
   by_victim None same = ap (λ (js : List Change). newest js e.page) (same ∙ append-nil u.changes) ∙ h.unmapped
   by_victim (Some victim) same = stays (newest v.changes e.page) (ap (λ (js : List Change). newest js e.page) same
       ∙ ap (λ (m : Table). m e.page) (newest-more u.changes (Unmap victim e.frame))) victim where
-    stays : (o : Option ℕ) → o ≡ changed (newest u.changes) (Unmap victim e.frame) e.page → ℕ → o ≡ None
-    stays None is n = refl
-    stays (Some f) is n = absurd (none-some f (sym h.unmapped ∙ (mapped_after_unmap (newest u.changes) victim e.frame e.page f (sym is)).1))
+        stays : (o : Option ℕ) → o ≡ changed (newest u.changes) (Unmap victim e.frame) e.page → ℕ → o ≡ None
+        stays None is n = refl
+        stays (Some f) is n = absurd (none-some f (sym h.unmapped ∙ (mapped_after_unmap (newest u.changes) victim e.frame e.page f (sym is)).1))
 
 pub then_free : (u v : TableView) (e : Planned) (es fs : List Event) → IsTable u → IsEntryFor u.shape u.frames (newest u.changes) e
     → Publishes (victim_events e.victim e.frame) u v es fs

@@ -112,9 +112,9 @@ row_is_replayed g v k job a b y bytes idle job_is h own told = λ x inside.
     let is = subst (λ (z : Shape × ℕ × ℕ). IsDrawn z.0 z.1 z.2 (IsTrueOf v) (shot_row z.0 job.scene.path job.picture y) x (texel_bytes z.1 (row_at b y) x))
     (λ i. ((job_is.shape ∙ sym idle.shape) i, job_is.depth i, h.version y own i)) (h.drawn y own x inside) in
     let store : IsStore bytes v.shape job.scene.depth = subst (λ (z : Shape
-        × ℕ). IsStore bytes z.0 z.1) (λ i. (sym idle.shape i, sym job_is.depth i)) (idle.kit.told.each bytes told) in
+    × ℕ). IsStore bytes z.0 z.1) (λ i. (sym idle.shape i, sym job_is.depth i)) (idle.kit.told.each bytes told) in
     let holds : HoldsTiles v job.scene.depth (Some bytes) = subst (λ (z : ℕ
-        × Option (List ℕ)). HoldsTiles v z.0 z.1) (λ i. (sym job_is.depth i, told i)) idle.holds in
+    × Option (List ℕ)). HoldsTiles v z.0 z.1) (λ i. (sym job_is.depth i, told i)) idle.holds in
     drawn_as_replayed v job.scene bytes job.picture x y (texel_bytes k.depth (row_at b y) x) idle.table (job_is.shape ∙ sym idle.shape) store holds
     (subst (λ (d : ℕ). IsDrawn v.shape d (length v.changes) (IsTrueOf v) (shot_row v.shape job.scene.path job.picture y) x
-        (texel_bytes k.depth (row_at b y) x)) (sym job_is.depth) is)
+    (texel_bytes k.depth (row_at b y) x)) (sym job_is.depth) is)

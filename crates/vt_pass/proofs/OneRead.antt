@@ -41,7 +41,7 @@ told_at : (before files : List FileState) → AllTell before → map (λ f. is_s
     → (k : ℕ) (d : FileState) → k < length files → IsSome (get_or files k d).asked
 told_at before files all same k d inside =
     let long : length files ≡ length before = sym (length-map files (λ (f : FileState). is_some f.asked)) ∙ ap length same
-        ∙ length-map before (λ (f : FileState). is_some f.asked) in
+    ∙ length-map before (λ (f : FileState). is_some f.asked) in
     sym (get_or-map (λ (f : FileState). is_some f.asked) files k d true inside) ∙ ap (λ l. get_or l k true) same
     ∙ get_or-map (λ (f : FileState). is_some f.asked) before k d true (omega (arith, long, inside)) ∙ all k d (omega (arith, long, inside))
 
@@ -133,7 +133,7 @@ pub read_more : (s : Shape) (d n : ℕ) (batch : List Planned) (losses : List Bo
 read_more s d n batch losses lost before files k now e read inside below at same name asked grows rose =
     let more : take (n + 1) batch ≡ take n batch ++ e ∷ [] = take_more batch n e below ∙ ap (λ (x : Planned). take n batch ++ x ∷ []) at in
     let tells = map-kept (λ (f : FileState). is_some f.asked) files k now now (ap is_some asked
-        ∙ tells_too (get_or files k now).asked (noted (tile_start s d e.page) (tile_length s d) lost)) in
+    ∙ tells_too (get_or files k now).asked (noted (tile_start s d e.page) (tile_length s d) lost)) in
     let long : length losses ≡ length (take n batch) = same ∙ sym (length-take-le n batch (omega (arith, below))) in
     subst (λ (b : List Planned). AreReadFor s d b (losses ++ lost ∷ []) before (slice_set files k now)) (sym more) (record {
       same = record {
@@ -146,19 +146,19 @@ read_more s d n batch losses lost before files k now e read inside below at same
             asked = λ at len. sum_more (λ (f : FileState). times_asked at len (unwrap_or f.asked [])) files k
                 (cond (is_tile_at s d at len e.page) 1 0) now now inside
                 (ap (λ (o : Option (List Place)). times_asked at len (unwrap_or o [])) asked
-                    ∙ asked_more at len (tile_start s d e.page) (tile_length s d) lost (get_or files k now).asked some)
+                ∙ asked_more at len (tile_start s d e.page) (tile_length s d) lost (get_or files k now).asked some)
                 ∙ (let a = once.asked at len in let b = planned_more s d (take n batch) e at len in omega (arith, a, b));
             failed = λ at len. sum_more (λ (f : FileState). times_failed at len (unwrap_or f.asked [])) files k
                 (cond (is_tile_at s d at len e.page && lost) 1 0) now now inside
                 (ap (λ (o : Option (List Place)). times_failed at len (unwrap_or o [])) asked
-                    ∙ failed_more at len (tile_start s d e.page) (tile_length s d) lost (get_or files k now).asked some)
+                ∙ failed_more at len (tile_start s d e.page) (tile_length s d) lost (get_or files k now).asked some)
                 ∙ (let a = once.failed at len in let b = lost_more s d (take n batch) losses e lost at len long in omega (arith, a, b));
           };
       faults = subst (λ (m : ℕ). RoseTogetherBy m (counts_of before) (counts_of (slice_set files k now)))
           (sym (sum_by_push (λ (l : Bool). cond l 1 0) losses lost))
           (subst (RoseTogetherBy (lost_count losses + cond lost 1 0) (counts_of before)) (sym (map-set (λ (f : FileState). f.faults) files k now))
           (rose_more (lost_count losses) lost (counts_of before) (counts_of files) k now.faults
-              (let e = length-map files (λ (f : FileState). f.faults) in omega (arith, e, inside))
+          (let e = length-map files (λ (f : FileState). f.faults) in omega (arith, e, inside))
           (let c = count_at in omega (arith, c, grows)) (λ l. subst (λ (m : ℕ). Rose m now.faults) (sym count_at) (rose l)) read.faults));
     }) where
       count_at : get_or (counts_of files) k now.faults ≡ (get_or files k now).faults

@@ -60,7 +60,7 @@ module _ {F : Type 0} (g : FileMeanings F) where
   room_more reads n stores now h inside room = record {
     each = λ k d low below. ⊎_elim
         (λ (same : k ≡ n). subst (λ (s : StoreView F). reads ≤ g.spare s.file) (sym (ap (λ i. get_or (slice_set stores n now) i d) same
-            ∙ get_or-set_same stores n now d inside)) room)
+        ∙ get_or-set_same stores n now d inside)) room)
         (λ (other : k ≢ n). subst (λ (s : StoreView F). reads ≤ g.spare s.file) (sym (get_or-set_other stores n k now d other))
         (h.each k d (omega (arith, low, other)) (let l = length-set stores n now in omega (arith, l, below))))
         (cases_eq k n);
@@ -114,7 +114,7 @@ module _ {F : Type 0} (g : FileMeanings F) where
         filled = t.filled;
       } in
       let holds : HoldsTiles (record v { spare = w.spare }) k.depth (told_by g k.stores) = λ page frame is. let has = idle.holds page frame is in
-          record { size = has.size; of_store = has.of_store } in
+      record { size = has.size; of_store = has.of_store } in
       record {
         table = subst IsTable (sym same) table;
         shape = ap (λ (u : TableView). u.shape) same ∙ idle.shape ∙ sym h.shape;
@@ -123,12 +123,18 @@ module _ {F : Type 0} (g : FileMeanings F) where
           depth = subst IsDepth (sym h.depth) idle.kit.depth;
           stores = stores_for l.shape l.depth l.crew.loaders k.stores l.stores h.stores
               (subst (λ (x : Shape × ℕ × Crew). AreStoresFor g x.0 x.1 x.2.loaders k.stores) (λ i. (sym h.shape i, sym h.depth i, sym h.crew i))
-                  idle.kit.stores);
+              idle.kit.stores);
           told = subst (λ (x : Option (List ℕ) × Shape × ℕ). IsStoreIfTold x.0 x.1 x.2)
               (λ i. (sym (told_same k.stores l.stores h.stores) i, sym h.shape i, sym h.depth i)) idle.kit.told;
           samplers = subst (λ (x : KitView F). AreSamplersOf x.shape x.depth x.width x.height x.crew.samplers x.samplers)
-              (λ i. record k { shape = sym h.shape i; depth = sym h.depth i; width = sym h.width i; height = sym h.height i; crew = sym h.crew i;
-                  samplers = sym h.samplers i }) idle.kit.samplers;
+              (λ i. record k {
+                shape = sym h.shape i;
+                depth = sym h.depth i;
+                width = sym h.width i;
+                height = sym h.height i;
+                crew = sym h.crew i;
+                samplers = sym h.samplers i;
+              }) idle.kit.samplers;
           sides = subst (λ (x : ℕ × ℕ). ArePictureSides x.0 x.1) (λ i. (sym h.width i, sym h.height i)) idle.kit.sides;
           counts = ap length h.counts ∙ idle.kit.counts ∙ ap pages_of (sym h.shape);
           buffers = buffers;

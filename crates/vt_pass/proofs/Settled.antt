@@ -64,7 +64,7 @@ module _ (dealt : Bool) (needs : Scene → ℕ → ℕ → ℕ) (shows : Scene �
             (let low = row.from in let high = row.to in let e : length after.journal ≡ length before.journal = ap length same in omega (arith, low, high, e)) in
             let replayed = if_some after.setup.bytes b _ (ap (λ (s : Setup). s.bytes) setup ∙ told) ran.picture.replayed y l.0 l.1 in
             let pixels = subst (λ (s : Setup). HasPixels s.depth s.width (λ x. shows job.scene b (at after.journal l.0.version) job.picture x y)
-                (slice_index_or after.rows y [])) setup replayed in
+            (slice_index_or after.rows y [])) setup replayed in
             let table : at after.journal l.0.version ≡ newest before.journal = ap (λ (js : List Change). at js l.0.version) same ∙ ap (at before.journal) v in
             pixels x inside
             ∙ ap (λ (m : Table). shows job.scene b m job.picture x y) table

@@ -82,9 +82,9 @@ entry_stays s frames js e f false h k apart = by_victim e.victim h.place where
 range_more : (n : ℕ) → range_with_len 0 (n + 1) ≡ range_with_len 0 n ++ n ∷ []
 range_more n = ap (λ l. l) (sym (map-same (range_with_len 0 (n + 1)))) ∙ map-range_with_len_more (λ k. k) 0 n n (zero-add n)
     ∙ ap (λ l. l ++ n ∷ []) (map-same (range_with_len 0 n)) where
-  map-same : (xs : List ℕ) → map (λ k. k) xs ≡ xs
-  map-same [] = refl
-  map-same (x ∷ xs) = ap (λ l. x ∷ l) (map-same xs)
+      map-same : (xs : List ℕ) → map (λ k. k) xs ≡ xs
+      map-same [] = refl
+      map-same (x ∷ xs) = ap (λ l. x ∷ l) (map-same xs)
 
 -- the groups of the first tickets do not depend on what is told of later ones
 same_groups : (batch : List Planned) (losses more : List Bool) (n : ℕ) → n ≤ length losses

@@ -99,7 +99,7 @@ pub record Broke (job : Job) (before after : MachineState) : Type 0 where
 -- how the run of a pass ends: it was run, and the machine can go on; or memory was refused, and it can only be ended
 pub record Ends (dealt : Bool) (needs : Scene → ℕ → ℕ → ℕ) (shows : Scene → List ℕ → Table → ℕ → ℕ → ℕ → List ℕ)
     (drawn : PathView → ℕ → ℕ → ℕ → List ℕ → Type 0) (idle : Type 0) (job : Job) (result : Result PassReport NoMemory)
-        (before after : MachineState) : Type 0 where
+    (before after : MachineState) : Type 0 where
   pub ran : IfOk result (λ report. Ran dealt needs shows drawn job report before after)
   pub goes_on : OnOk result idle
   pub broke : OnErr result (Broke job before after)

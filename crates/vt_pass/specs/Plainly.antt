@@ -36,7 +36,7 @@ one_wants s row n x inside =
     let f : ℕ → ℕ = λ z. cond (wanted_page s row z == p) 1 0 in
     let most = get_or-le-sum_by f (range_with_len 0 n) x 0 (let e = length-range_with_len 0 n in omega (arith, e, inside)) in
     let here : f (get_or (range_with_len 0 n) x 0) ≡ 1 = ap f (get_or-range_with_len 0 n x 0 inside ∙ zero-add x)
-        ∙ ap (λ (b : Bool). cond b 1 0) (same_number p) in
+    ∙ ap (λ (b : Bool). cond b 1 0) (same_number p) in
     omega (arith, most, here)
 
 wanted_once : (scene : Scene) (i x y : ℕ) → x < scene.path.width → y < scene.path.height

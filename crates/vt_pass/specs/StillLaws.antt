@@ -162,7 +162,7 @@ module _ {F : Type 0} (g : FileMeanings F) (job : Job) (m n : StillView F) (a c 
     (mustered : IsMustered g m n a e)
     (ready : IsReadyKit g m.table m.queues m.kit job.batch) (job_is : IsJobFor (kit_setup g m.table m.kit) job) (number : length c ≡ length a)
     (number_f : length f ≡ length e) (did_load : AllDid (HasLoaded g n.queues) a c)
-        (did_draw : AllDid (λ a b. HasDrawn n.table job a.sampler b.sampler) e f) where
+    (did_draw : AllDid (λ a b. HasDrawn n.table job a.sampler b.sampler) e f) where
   may_finish : MayFinish g n.table n.queues n.kit job c f (begun g m.table m.queues m.kit n.kit job a c e f mustered.out)
   may_finish = subst (λ (x : TableView × Queues). MayFinish g x.0 x.1 n.kit job c f (begun g m.table m.queues m.kit n.kit job a c e f mustered.out))
       (λ i. (sym mustered.table i, sym mustered.queues i))

@@ -110,7 +110,7 @@ pieces_of_rows h zero few some = All-nil (IsRowsPlace h)
 pieces_of_rows h (suc n) few some =
     let next : n + 1 ≡ suc n = omega arith in
     subst (λ k. All (IsRowsPlace h) (piece_places h k)) next (subst (All (IsRowsPlace h))
-        (sym (map-range_with_len_more (piece_place h false) 0 n n (omega arith)))
+    (sym (map-range_with_len_more (piece_place h false) 0 n n (omega arith)))
     (All-append (IsRowsPlace h) (piece_places h n) (piece_place h false n ∷ []) (pieces_of_rows h n (omega arith) some)
     (All-cons (IsRowsPlace h) (piece_place h false n) [] (piece_of_rows h false n (omega arith) some) (All-nil (IsRowsPlace h)))))
 

@@ -88,7 +88,7 @@ drawn_as_replayed v scene b i x y bytes table same store holds drawn =
     let no_finer = drawn.finest.no_finer in
     let low : row_level row ≤ j = (let e = chain.level in omega (arith, e, no_finer)) in
     let covers : found.page ≡ texel_page s j (X / 2 ^ j) (Y / 2 ^ j) = drawn.finest.page
-        ∙ wanted_line_covers s scene.path i y x j limits low drawn.finest.level_inside in
+    ∙ wanted_line_covers s scene.path i y x j limits low drawn.finest.level_inside in
     let inside : IsInside s j (X / 2 ^ j) (Y / 2 ^ j) = place_inside s j X Y drawn.finest.level_inside pixel.column pixel.line in
     let piece = subst (λ (q : ℕ). IsPiece b (tile_start s d q) (tile_of v found.slot)) covers tile.of_store in
     let word : drawn.word ≡ stored b j (X / 2 ^ j) (Y / 2 ^ j) =
@@ -99,5 +99,5 @@ drawn_as_replayed v scene b i x y bytes table same store holds drawn =
     let level : level_of s (serving_page s (newest v.changes) row x) ≡ j =
     ap (λ (o : Option ℕ). level_of s (unwrap_or o (root_of s))) served ∙ sym drawn.finest.level in
     let shape = ap (λ (t : Shape). shown_at d (stored b) (shot_row t scene.path i y) x
-        (level_of t (serving_page t (newest v.changes) (shot_row t scene.path i y) x))) same in
+    (level_of t (serving_page t (newest v.changes) (shot_row t scene.path i y) x))) same in
     drawn.shown ∙ ap (word_bytes d) word ∙ ap (shown_at d (stored b) row x) (sym level) ∙ sym shape

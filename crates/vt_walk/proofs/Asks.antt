@@ -78,10 +78,24 @@ pass_asks s d batch losses store kept old new None tell read = tt
 pass_asks s d batch losses store kept old new (Some places) tell read =
     let once = read.once (tell refl) in
     record {
-      asked = λ at len. omega (arith, times_with at len (places store) (kept ∷ old), times_with at len (places store) (kept ∷ new), asked_of at len
-          kept old, asked_of at len kept new, once.asked at len);
-      failed = λ at len. omega (arith, failed_with at len (places store) (kept ∷ old), failed_with at len (places store) (kept ∷ new), failed_of at
-          len kept old, failed_of at len kept new, once.failed at len);
+      asked = λ at len. omega (
+        arith,
+        times_with at len (places store) (kept ∷ old),
+        times_with at len (places store) (kept ∷ new),
+        asked_of at len
+            kept old,
+        asked_of at len kept new,
+        once.asked at len,
+      );
+      failed = λ at len. omega (
+        arith,
+        failed_with at len (places store) (kept ∷ old),
+        failed_with at len (places store) (kept ∷ new),
+        failed_of at
+            len kept old,
+        failed_of at len kept new,
+        once.failed at len,
+      );
     }
 
 -- a pass has asked for its batch at most
@@ -91,8 +105,14 @@ pub pass_asks_most : (s : Shape) (d : ℕ) (batch : List Planned) (store : List 
 pass_asks_most s d batch store kept old new None tell read = tt
 pass_asks_most s d batch store kept old new (Some places) tell read =
     let most = read.at_most_once (tell refl) in
-    λ at len. omega (arith, times_with at len (places store) (kept ∷ old), times_with at len (places store) (kept ∷ new), asked_of at len kept old,
-        asked_of at len kept new, most at len)
+    λ at len. omega (
+      arith,
+      times_with at len (places store) (kept ∷ old),
+      times_with at len (places store) (kept ∷ new),
+      asked_of at len kept old,
+      asked_of at len kept new,
+      most at len,
+    )
 
 pub sum-one : (x : ℕ) (xs : List ℕ) → sum (x ∷ xs) ≡ x + sum xs
 sum-one x xs = sum_by-cons (λ (y : ℕ). y) x xs

@@ -89,8 +89,13 @@ places_one f files =
 lost_with : (s : Shape) (d pinned : ℕ) (before : List Place) (f : FileState) (files : List FileState) → lost_reads s d pinned (before ++ places_of (f ∷ files))
     ≡ lost_reads s d pinned before + (lost_reads s d pinned (unwrap_or f.asked []) + lost_reads s d pinned (places_of files))
 lost_with s d pinned before f files =
-    omega (arith, lost_both s d pinned before (places_of (f ∷ files)), ap (lost_reads s d pinned) (places_one f files), lost_both s d pinned
-        (unwrap_or f.asked []) (places_of files))
+    omega (
+      arith,
+      lost_both s d pinned before (places_of (f ∷ files)),
+      ap (lost_reads s d pinned) (places_one f files),
+      lost_both s d pinned
+          (unwrap_or f.asked []) (places_of files),
+    )
 
 asked_is : (f : FileState) (places : List Place) → f.asked ≡ Some places → unwrap_or f.asked [] ≡ places
 asked_is f places is = ap (λ (o : Option (List Place)). unwrap_or o []) is
@@ -211,9 +216,9 @@ module _ (dealt : Bool) (needs : Scene → ℕ → ℕ → ℕ) (shows : Scene �
       → OnTold (AreAskedFor t.geometry.now t.depth given.setup.pinned [] []) (with_open store (kept ∷ m.files) asked) (with_open store (now ∷ n.files) asked)
   asks_for same asks =
       subst (λ (fs : List FileState). OnTold (AreAskedFor t.geometry.now t.depth given.setup.pinned [] []) (with_open store (kept ∷ m.files) asked)
-          (with_open store (now ∷ fs) asked)) (sym same)
+      (with_open store (now ∷ fs) asked)) (sym same)
       (one_asks t.geometry.now t.depth given.setup.pinned store kept now m.files [] [] asked kept.asked now.asked refl refl
-          (first_tells asked kept m.files tells)
+      (first_tells asked kept m.files tells)
       (subst (λ k. OnTold (AreAskedFor t.geometry.now t.depth k [] []) kept.asked now.asked) tour.pages
       (subst (λ k. OnTold (AreAskedFor t.geometry.now k t.pinned [] []) kept.asked now.asked) depth asks)))
 
@@ -225,9 +230,9 @@ module _ (dealt : Bool) (needs : Scene → ℕ → ℕ → ℕ) (shows : Scene �
   pinned_broke same asks lost grown error e failed is =
       let tell = first_tells asked kept m.files tells in
       let most : OnTold (AreAskedAtMostFor t.geometry.now t.depth given.setup.pinned []) (with_open store (kept ∷ m.files) asked)
-          (with_open store (now ∷ n.files) asked) =
+      (with_open store (now ∷ n.files) asked) =
       subst (λ (fs : List FileState). OnTold (AreAskedAtMostFor t.geometry.now t.depth given.setup.pinned []) (with_open store (kept ∷ m.files) asked)
-          (with_open store (now ∷ fs) asked)) (sym same)
+      (with_open store (now ∷ fs) asked)) (sym same)
       (one_asks_most t.geometry.now t.depth given.setup.pinned store kept now m.files [] asked kept.asked now.asked refl refl tell
       (subst (λ k. OnTold (AreAskedAtMostFor t.geometry.now t.depth k []) kept.asked now.asked) tour.pages
       (subst (λ k. OnTold (AreAskedAtMostFor t.geometry.now k t.pinned []) kept.asked now.asked) depth asks))) in (
@@ -237,12 +242,12 @@ module _ (dealt : Bool) (needs : Scene → ℕ → ℕ → ℕ) (shows : Scene �
         none : reads_lost given (with_open store (kept ∷ m.files) asked) (with_open store (now ∷ n.files) asked) ≡ 0
         none = none_lost given (with_open store (kept ∷ m.files) asked) (with_open store (now ∷ n.files) asked)
             (subst (λ (fs : List FileState). OnTold (IsLostAlike t.geometry.now t.depth given.setup.pinned store kept now m.files)
-                (with_open store (kept ∷ m.files) asked) (with_open store (now ∷ fs) asked)) (sym same)
+            (with_open store (kept ∷ m.files) asked) (with_open store (now ∷ fs) asked)) (sym same)
             (one_loses t.geometry.now t.depth given.setup.pinned store kept now m.files asked kept.asked now.asked refl refl
-                (first_tells asked kept m.files tells)
+            (first_tells asked kept m.files tells)
             (subst (λ k. OnTold (λ old new. lost_reads t.geometry.now t.depth k new ≡ lost_reads t.geometry.now t.depth k old) kept.asked now.asked) tour.pages
             (subst (λ k. OnTold (λ old new. lost_reads t.geometry.now k t.pinned new ≡ lost_reads t.geometry.now k t.pinned old) kept.asked now.asked)
-                depth lost))))
+            depth lost))))
 
         cause : (error : OutsideError) → (error ≡ Failed → Rose kept.faults now.faults)
             → IsCausedBy drawn given was (later files asked faults) (refusal_by error)
@@ -263,9 +268,9 @@ module _ (dealt : Bool) (needs : Scene → ℕ → ℕ → ℕ) (shows : Scene �
   head_broke new opened rose same asks grown part kept_asked risen error e failed is =
       let exact = asks_for same asks in
       let exactly : OnTold (AreAskedFor t.geometry.now t.depth given.setup.pinned [] []) (with_open store (kept ∷ m.files) asked)
-          (with_open store (now ∷ n.files) opened) =
+      (with_open store (now ∷ n.files) opened) =
       subst (λ (a : Option Asked). OnTold (AreAskedFor t.geometry.now t.depth given.setup.pinned [] []) (with_open store (kept ∷ m.files) asked)
-          (with_open store (now ∷ n.files) a)) (sym kept_asked) exact in (
+      (with_open store (now ∷ n.files) a)) (sym kept_asked) exact in (
         inl (record {
           files = subst (λ k. (new ≡ files) ⊎ ((j : ℕ) × (new ≡ option_map (with_bytes t.names.journal.now (take j (head_text t.geometry.now k)))
               files))) tour.pages part;

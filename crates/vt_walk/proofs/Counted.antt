@@ -62,7 +62,7 @@ more_left : (w : WalkSetup) (p q : WalkPass) (rest later : List WalkPass) (first
     → to_load_after w (p ∷ q ∷ rest) first.wants ≡ filter (λ x. not (is_in (batch_pages (planned_in (p ∷ later))) x)) (picture_pages w first before)
 more_left w p q rest later first before l same left =
     subst (λ (ws : List Wanted). to_load_after w (p ∷ q ∷ rest) ws ≡ filter (λ x. not (is_in (batch_pages p.batch) x))
-        (to_load_after w (q ∷ rest) ws)) same l.left
+    (to_load_after w (q ∷ rest) ws)) same l.left
     ∙ ap (filter (λ x. not (is_in (batch_pages p.batch) x))) left
     ∙ filter_twice (λ x. not (is_in (batch_pages p.batch) x)) (λ x. not (is_in (batch_pages (planned_in later)) x)) (picture_pages w first before)
     ∙ filter_same _ _ (picture_pages w first before) (λ x. nor (is_in (batch_pages p.batch) x) (is_in (batch_pages (planned_in later)) x)
@@ -85,10 +85,10 @@ more_asked : (w : WalkSetup) (p q : WalkPass) (rest later : List WalkPass) (firs
     → (x : ℕ) → is_in (batch_pages (planned_in (p ∷ later))) x ≡ true → is_in (picture_pages w first before) x ≡ true
 more_asked w p q rest later first before l same left asked x there = pick (is_in (batch_pages p.batch) x) refl
     (sym (in_batches p.batch (planned_in later) x) ∙ there) where
-  pick : (b : Bool) → is_in (batch_pages p.batch) x ≡ b → (b || is_in (batch_pages (planned_in later)) x) ≡ true → is_in (picture_pages w first before) x ≡ true
-  pick true e h = first_true (is_in (picture_pages w first before) x) (not (is_in (batch_pages (planned_in later)) x))
-      (more_parts w p q rest later first before x l same left e)
-  pick false e h = asked x h
+      pick : (b : Bool) → is_in (batch_pages p.batch) x ≡ b → (b || is_in (batch_pages (planned_in later)) x) ≡ true → is_in (picture_pages w first before) x ≡ true
+      pick true e h = first_true (is_in (picture_pages w first before) x) (not (is_in (batch_pages (planned_in later)) x))
+          (more_parts w p q rest later first before x l same left e)
+      pick false e h = asked x h
 
 more_once : (w : WalkSetup) (p q : WalkPass) (rest later : List WalkPass) (first : WalkPass) (before : List WalkPass) → IsLoading w p q rest
     → q.wants ≡ first.wants
@@ -164,10 +164,10 @@ pub picture_passes : (later : List WalkPass) (first : WalkPass) (before : List W
     → passes_of first.picture (later ++ first ∷ before) ≡ later ++ first ∷ []
 picture_passes [] first before same none =
     ap (λ (b : Bool). cond b (first ∷ passes_of first.picture before) (passes_of first.picture before)) (self_number first.picture)
-        ∙ ap (λ (l : List WalkPass). first ∷ l) none
+    ∙ ap (λ (l : List WalkPass). first ∷ l) none
 picture_passes (p ∷ later) first before same none =
     ap (λ (b : Bool). cond b (p ∷ passes_of first.picture (later ++ first ∷ before)) (passes_of first.picture (later
-        ++ first ∷ before))) (same_true p.picture first.picture same.0)
+    ++ first ∷ before))) (same_true p.picture first.picture same.0)
     ∙ ap (λ (l : List WalkPass). p ∷ l) (picture_passes later first before same.1 none)
 
 run_from : (w : WalkSetup) (later : List WalkPass) (first : WalkPass) (before : List WalkPass) → IsRun w (later ++ first ∷ before) → IsRun w (first ∷ before)
@@ -180,7 +180,7 @@ begins_empty w first [] mode run none = (first_turn w first run).1
 begins_empty w first (q ∷ before) mode run none = settled_turn w first q before mode run (λ same.
     let there : q ∷ passes_of first.picture before ≡ [] =
     sym (ap (λ (b : Bool). cond b (q ∷ passes_of first.picture before) (passes_of first.picture before))
-        (same_true q.picture first.picture (sym same))) ∙ none in
+    (same_true q.picture first.picture (sym same))) ∙ none in
     let n : length (q ∷ passes_of first.picture before) ≡ 0 = ap (λ (l : List WalkPass). length l) there in
     absurd (omega (arith, n)))
 

@@ -108,7 +108,7 @@ module _ (dealt : Bool) (needs : Scene → ℕ → ℕ → ℕ) (shows : Scene �
     → i < length scene.path.cameras → x < scene.path.width → y < scene.path.height → MapsNeeded scene.shape m (needs scene i)
     → shows scene b m i x y ≡ whole scene b i x y)
     (scene : Scene) (settings : Settings) (mode : Mode) (told : Option (List ℕ)) (names : WalkNames) (number : ℕ) (p : Passed) (first : WalkState)
-        (m : MachineState) (v : RecencyView) where
+    (m : MachineState) (v : RecencyView) where
   abbrev given : WalkGiven
   given = given_by dealt needs shows whole scene settings mode told names
 
@@ -205,7 +205,7 @@ module _ (dealt : Bool) (needs : Scene → ℕ → ℕ → ℕ) (shows : Scene �
       → IsWritten drawn given (s.pass ∷ s.run) s.pass.picture bytes
   is_written was s none fits end =
       picture_written dealt needs shows whole drawn law scene settings mode told names s.run s.pass m s.given s.at_run.is_run s.has_run
-          s.at_run.journal (goes was s none fits)
+      s.at_run.journal (goes was s none fits)
       ((end_of mode s.pass p.loads_nothing p.outlook.plan.elements (plan_after given.setup (s.pass ∷ s.run)) s.passed.loads_nothing s.passed.plan).0 end)
 
   module _ (store : List ℕ) (kept : FileState) (files files' : Option Files) (asked asked' : Option Asked) (faults faults' : ℕ) (held held' : Option (List ℕ))
@@ -226,7 +226,7 @@ module _ (dealt : Bool) (needs : Scene → ℕ → ℕ → ℕ) (shows : Scene �
     next_picture s none fits end written line same risen out_risen t empty =
         let picture : p.picture ≡ length s.pictures = s.passed.picture ∙ s.count in
         let finish = (end_of mode s.pass p.loads_nothing p.outlook.plan.elements (plan_after given.setup (s.pass ∷ s.run)) s.passed.loads_nothing
-            s.passed.plan).0 end in
+        s.passed.plan).0 end in
         record {
           run = s.pass ∷ s.run;
           pictures = bytes ∷ s.pictures;
@@ -237,7 +237,7 @@ module _ (dealt : Bool) (needs : Scene → ℕ → ℕ → ℕ) (shows : Scene �
               (written ∙ ap (λ k. option_map (with_bytes (picture_name names.prefix k) bytes) files) picture)
               (line ∙ ap (λ (l : List ℕ). option_map (gained l) held)
               (line_is s.pass s.run p.picture p.outlook.wanted p.tally s.passed.picture s.passed.wanted s.passed.tally
-                  ∙ ap (picture_line (s.pass ∷ s.run)) s.count))
+              ∙ ap (picture_line (s.pass ∷ s.run)) s.count))
               (ap (with_open store (kept ∷ m.files)) same) (omega (arith, risen)) out_risen;
           at_run = s.at_run;
           turn = record {
@@ -257,7 +257,7 @@ module _ (dealt : Bool) (needs : Scene → ℕ → ℕ → ℕ) (shows : Scene �
     fails s same rose =
         has_failed given (planned_in (s.pass ∷ s.run)) (lost_in (s.pass ∷ s.run)) first now s.given
         (subst (λ (a : Option Asked). OnTold (AreAskedFor scene.shape scene.depth given.setup.pinned (planned_in (s.pass ∷ s.run))
-            (lost_in (s.pass ∷ s.run))) first.asked (with_open store (kept ∷ m.files) a))
+        (lost_in (s.pass ∷ s.run))) first.asked (with_open store (kept ∷ m.files) a))
         (sym same) s.stands.asked) (let f = s.stands.faults in omega (arith, f, rose))
 
     asks_nothing : asked' ≡ asked → faults ≤ faults' → out_faults ≤ out_faults' → AsksNothing was now
@@ -273,7 +273,7 @@ module _ (dealt : Bool) (needs : Scene → ℕ → ℕ → ℕ) (shows : Scene �
     picture_broke error e s none fits end part line same risen out_risen failed is =
         let picture : p.picture ≡ length s.pictures = s.passed.picture ∙ s.count in
         let finish = (end_of mode s.pass p.loads_nothing p.outlook.plan.elements (plan_after given.setup (s.pass ∷ s.run)) s.passed.loads_nothing
-            s.passed.plan).0 end in (
+        s.passed.plan).0 end in (
           inr (record {
             run = s.pass ∷ s.run;
             pictures = s.pictures;
@@ -306,7 +306,7 @@ module _ (dealt : Bool) (needs : Scene → ℕ → ℕ → ℕ) (shows : Scene �
     line_broke error e s none fits end written part same risen out_risen failed is =
         let picture : p.picture ≡ length s.pictures = s.passed.picture ∙ s.count in
         let finish = (end_of mode s.pass p.loads_nothing p.outlook.plan.elements (plan_after given.setup (s.pass ∷ s.run)) s.passed.loads_nothing
-            s.passed.plan).0 end in (
+        s.passed.plan).0 end in (
           inr (record {
             run = s.pass ∷ s.run;
             pictures = s.pictures;
@@ -320,7 +320,7 @@ module _ (dealt : Bool) (needs : Scene → ℕ → ℕ → ℕ) (shows : Scene �
               count = part.0;
               held = part.1 ∙ ap (λ (l : List ℕ). option_map (gained (take part.0 l)) held)
                   (line_is s.pass s.run p.picture p.outlook.wanted p.tally s.passed.picture s.passed.wanted s.passed.tally
-                      ∙ ap (picture_line (s.pass ∷ s.run)) s.count);
+                  ∙ ap (picture_line (s.pass ∷ s.run)) s.count);
               none = asks_nothing same risen out_risen;
             })))));
           }),

@@ -32,9 +32,12 @@ events_append : (s : Shape) (pinned : ℕ) (js : List Change) (es fs : List Even
     → AreEventsAfter s pinned (js ++ changes_of es) fs
     → AreEventsAfter s pinned js (es ++ fs)
 events_append s pinned js [] fs one more = subst (λ (ks : List Change). AreEventsAfter s pinned ks fs) (append-nil js) more
-events_append s pinned js (Changed c ∷ es) fs one more =
-    (one.0, one.1, events_append s pinned (js ++ c ∷ []) es fs one.2
-        (subst (λ (ks : List Change). AreEventsAfter s pinned ks fs) (sym (append_assoc js (c ∷ []) (changes_of es))) more))
+events_append s pinned js (Changed c ∷ es) fs one more = (
+  one.0,
+  one.1,
+  events_append s pinned (js ++ c ∷ []) es fs one.2
+      (subst (λ (ks : List Change). AreEventsAfter s pinned ks fs) (sym (append_assoc js (c ∷ []) (changes_of es))) more),
+)
 events_append s pinned js (Lost p ∷ es) fs one more = (one.0, one.1, events_append s pinned js es fs one.2 more)
 
 pub events_in_turn : (s : Shape) (pinned : ℕ) (js : List Change) (es : List Event) → AreInTurn js → AreEventsAfter s pinned js es
@@ -89,7 +92,7 @@ later_apart : (batch : List Planned) (j k : ℕ) (e f : Planned) → AllPairs Ar
 later_apart batch j k e f apart at_j at_k before =
     subst (λ (x : Planned). AreApart x f) (get_or_from_slice_get batch j e e at_j)
     (subst (λ (y : Planned). AreApart (slice_index_or batch j e) y) (get_or_from_slice_get batch k f e at_k)
-        (apart j k e before (slice_get_within batch k f at_k)))
+    (apart j k e before (slice_get_within batch k f at_k)))
 
 tickets_apart : (batch : List Planned) (j k : ℕ) (e f : Planned) → AllPairs AreApart batch → slice_get batch j ≡ Some e → slice_get batch k ≡ Some f
     → nat_eq j k ≡ false → AreApart e f
@@ -125,10 +128,10 @@ tickets_follow s frames pinned js batch losses (j ∷ order) few turn apart once
     let e = all.0.entry in
     let lost = slice_index_or losses j true in
     let group : group_at batch losses j ≡ group_of all.0.entry (slice_index_or losses j true) = ap
-        (λ (o : Option Planned). group_if o (slice_index_or losses j true)) all.0.there in
+    (λ (o : Option Planned). group_if o (slice_index_or losses j true)) all.0.there in
     let here = group_follows s frames pinned js e lost few turn all.0.lawful all.0.unpinned in
     let rest = tickets_follow s frames pinned (js ++ changes_of (group_of e lost)) batch losses order few
-        (events_in_turn s pinned js (group_of e lost) turn here) apart once.1
+    (events_in_turn s pinned js (group_of e lost) turn here) apart once.1
     (tickets_stay s frames pinned js batch j e lost order apart all.0.there all.0.lawful once.0 all.1) in
     subst (λ (es : List Event). AreEventsAfter s pinned js (es ++ pass_events batch losses order)) (sym group)
     (events_append s pinned js (group_of e lost) (pass_events batch losses order) here rest)
@@ -158,8 +161,8 @@ pub outcome_follows : (s : Shape) (frames pinned : ℕ) (js : List Change) (batc
 outcome_follows s frames pinned js batch losses events few turn lawful unpinned outcome =
     let once = IsDistinct-IsPermutation nat_eq nat_eq_swap (range_with_len 0 (length batch)) outcome.order outcome.each_once (range_once 0 (length batch)) in
     let below = recursion_from_All (λ k. k < length batch) outcome.order
-        (All-permutation (λ k. k < length batch) (range_with_len 0 (length batch)) outcome.order outcome.each_once
+    (All-permutation (λ k. k < length batch) (range_with_len 0 (length batch)) outcome.order outcome.each_once
     (All-from_recursion (λ k. k < length batch) (range_with_len 0 (length batch)) (all_below 0 (length batch) (length batch) (omega arith)))) in
     subst (AreEventsAfter s pinned js) (sym outcome.groups)
     (tickets_follow s frames pinned js batch losses outcome.order few turn lawful.apart once
-        (each_ticket s frames pinned (newest js) batch outcome.order lawful unpinned below))
+    (each_ticket s frames pinned (newest js) batch outcome.order lawful unpinned below))

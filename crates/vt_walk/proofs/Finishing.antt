@@ -33,7 +33,7 @@ one_way lx ly px py ix iy h k = grind (arith, nat_tests)
 pub wants_one : (s : Shape) (pixels : ℕ → ℕ) (a b : List Wanted) → IsWants s pixels a → IsWants s pixels b → a ≡ b
 wants_one s pixels a b ha hb =
     ordered_are_one (λ x y. is_before s x y ≡ true) (λ x y. one_way (level_of s x.page) (level_of s y.page) x.pixels y.pixels x.page y.page) a b
-        ha.ordered hb.ordered
+    ha.ordered hb.ordered
     (λ w there. (hb.exact w).1 ((ha.exact w).0 there)) (λ w there. (ha.exact w).1 ((hb.exact w).0 there))
 
 in_none : {P : Type 0} (xs : List ℕ) (x : ℕ) → xs ≡ [] → is_in xs x ≡ true → P
@@ -79,8 +79,15 @@ unfolding free_frames
 all_held v table none =
     let pins : List ℕ = range_with_len (pages_of v.shape - v.pinned) v.pinned in
     let few = length-le_from_is_member nat_eq_equiv (range_with_len 0 v.frames) (map (frame_of v.entries) (pins ++ v.order)) (range_once 0 v.frames) held in
-    omega (arith, few, length-range_with_len 0 v.frames, length-map (pins
-        ++ v.order) (frame_of v.entries), length-append pins v.order, length-range_with_len (pages_of v.shape - v.pinned) v.pinned) where
+    omega (
+      arith,
+      few,
+      length-range_with_len 0 v.frames,
+      length-map (pins
+          ++ v.order) (frame_of v.entries),
+      length-append pins v.order,
+      length-range_with_len (pages_of v.shape - v.pinned) v.pinned,
+    ) where
       page_in : (p f : ℕ) → slice_index v.entries p ≡ f + 1 → is_in (range_with_len (pages_of v.shape - v.pinned) v.pinned ++ v.order) p ≡ true
       page_in p f at = is_in-append (range_with_len (pages_of v.shape - v.pinned) v.pinned) v.order p ∙ pick (is_pinned v p) refl where
         inside : p < pages_of v.shape

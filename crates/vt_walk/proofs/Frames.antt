@@ -89,7 +89,7 @@ in_all (q ∷ ps) n p h there = pick (nat_eq p q) refl there (in_all ps n p h.1)
 pub are_pages : (v : RecencyView) (wants : List Wanted) → All (λ w. w.page < pages_of v.shape) wants → ArePages v wants
 are_pages v wants inside p there =
     in_all (pages_wanted wants) (pages_of v.shape) p (recursion_from_All (λ q. q < pages_of v.shape) (pages_wanted wants)
-        (All-map (λ q. q < pages_of v.shape) (λ w. w.page) wants inside)) there
+    (All-map (λ q. q < pages_of v.shape) (λ w. w.page) wants inside)) there
 
 pub missing_is : (v : RecencyView) (wants : List Wanted) (x : ℕ) → IsTable v → ArePages v wants → is_in (missing_pages v wants) x ≡ true → IsMissing v wants x
 unfolding missing_pages missing_from
@@ -100,7 +100,7 @@ missing_is v wants x table inside there =
     let parts = sym (is_in-filter (λ p. not (is_mapped v.entries p)) (pages_wanted wants) found.0) ∙ found.1 in
     let wanted : is_in (pages_wanted wants) found.0 ≡ true = first_true (is_in (pages_wanted wants) found.0) (not (is_mapped v.entries found.0)) parts in
     let low : is_mapped v.entries found.0 ≡ false = not_true (is_mapped v.entries found.0)
-        (second_true (is_in (pages_wanted wants) found.0) (not (is_mapped v.entries found.0)) parts) in
+    (second_true (is_in (pages_wanted wants) found.0) (not (is_mapped v.entries found.0)) parts) in
     let page : found.0 < pages_of v.shape = inside found.0 wanted in
     let below = level_below v.shape found.0 table.limits page in
     record {
@@ -155,7 +155,7 @@ frames_held : (v : RecencyView) → IsTable v → v.frames ≤ v.pinned + length
 unfolding free_frames
 frames_held v table =
     let few = length-le_from_is_member nat_eq_equiv (range_with_len 0 v.frames) (free_frames v
-        ++ map (frame_of v.entries) (pins_of v ++ v.order)) (range_once 0 v.frames) held in
+    ++ map (frame_of v.entries) (pins_of v ++ v.order)) (range_once 0 v.frames) held in
     omega (
       arith,
       few,
@@ -170,13 +170,13 @@ frames_held v table =
         pick : (b : Bool) → is_held v.entries f ≡ b → (is_in (free_frames v) f || is_in (map (frame_of v.entries) (pins_of v ++ v.order)) f) ≡ true
         pick false free = or_left (is_in (free_frames v) f) (is_in (map (frame_of v.entries) (pins_of v ++ v.order)) f)
             (is_in-filter (λ g. not (is_held v.entries g)) (range_with_len 0 v.frames) f
-                ∙ both (is_in (range_with_len 0 v.frames) f) (not (is_held v.entries f)) there (ap not free))
+            ∙ both (is_in (range_with_len 0 v.frames) f) (not (is_held v.entries f)) there (ap not free))
         pick true taken =
             let p = held_by v.entries f taken in
             let same : frame_of v.entries p.0 ≡ f = omega (arith, p.1) in
             or_right (is_in (free_frames v) f) (is_in (map (frame_of v.entries) (pins_of v ++ v.order)) f)
             (subst (λ g. is_in (map (frame_of v.entries) (pins_of v ++ v.order)) g ≡ true) same (in_map (frame_of v.entries) (pins_of v
-                ++ v.order) p.0 (holder_in v p.0 f table p.1)))
+            ++ v.order) p.0 (holder_in v p.0 f table p.1)))
 
 -- the pages of a list that stand in the lines of wanted pages
 abbrev in_lines_of : RecencyView → List Wanted → ℕ → Bool
@@ -210,7 +210,7 @@ unfolding candidates pages_needed
 pages_fit v wants table inside =
     let kept : List ℕ = filter (in_lines_of v wants) (reverse v.order) in
     let once : IsDistinct nat_eq (reverse v.order) = IsDistinct-IsPermutation nat_eq nat_eq_swap v.order (reverse v.order)
-        (IsPermutation-reverse v.order) table.once in
+    (IsPermutation-reverse v.order) table.once in
     let few = length-le_from_is_member nat_eq_equiv (missing_pages v wants ++ kept) (needed_pages v wants)
     (distinct-append (missing_pages v wants) kept (missing_distinct v wants) (distinct-filter (in_lines_of v wants) (reverse v.order) once) apart) covered in
     let parts = length-filter_both (λ p. not (in_lines_of v wants p)) (in_lines_of v wants) (λ p. twice (in_lines_of v wants p)) (reverse v.order) in
@@ -239,13 +239,13 @@ pages_fit v wants table inside =
       covered : (x : ℕ) → is_in (missing_pages v wants ++ filter (in_lines_of v wants) (reverse v.order)) x ≡ true → is_in (needed_pages v wants) x ≡ true
       covered x there = pick (is_in (missing_pages v wants) x) refl
           (sym (is_in-append (missing_pages v wants) (filter (in_lines_of v wants) (reverse v.order)) x) ∙ there) where
-        pick : (b : Bool) → is_in (missing_pages v wants) x ≡ b → (b || is_in (filter (in_lines_of v wants) (reverse v.order)) x) ≡ true
-            → is_in (needed_pages v wants) x ≡ true
-        pick true e rest = missing_needed v wants x table (missing_is v wants x table inside e)
-        pick false e rest =
-            is_in-filter (λ p. not (is_pinned v p)) (line_pages v.shape (pages_wanted wants)) x
-            ∙ both (in_lines_of v wants x) (not (is_pinned v x)) (second_true (is_in v.order x) (in_lines_of v wants x) (ordered x rest))
-            (second_true (is_mapped v.entries x) (not (is_pinned v x)) (loose x (first_true (is_in v.order x) (in_lines_of v wants x) (ordered x rest))))
+            pick : (b : Bool) → is_in (missing_pages v wants) x ≡ b → (b || is_in (filter (in_lines_of v wants) (reverse v.order)) x) ≡ true
+                → is_in (needed_pages v wants) x ≡ true
+            pick true e rest = missing_needed v wants x table (missing_is v wants x table inside e)
+            pick false e rest =
+                is_in-filter (λ p. not (is_pinned v p)) (line_pages v.shape (pages_wanted wants)) x
+                ∙ both (in_lines_of v wants x) (not (is_pinned v x)) (second_true (is_in v.order x) (in_lines_of v wants x) (ordered x rest))
+                (second_true (is_mapped v.entries x) (not (is_pinned v x)) (loose x (first_true (is_in v.order x) (in_lines_of v wants x) (ordered x rest))))
 
 -- a plan for pages that fit has all that are missing, or as many as a batch may have
 pub plan_full : (v : RecencyView) (wants : List Wanted) (q : ℕ) → IsTable v → ArePages v wants → pages_needed v wants ≤ v.frames - v.pinned
@@ -255,5 +255,5 @@ plan_full v wants q table inside fits =
     let enough : length (missing_pages v wants) ≤ length (free_frames v) + length (candidates v wants) =
     omega (arith, fits, frames_held v table, pages_fit v wants table inside) in
     length-map-range_with_len (planned_at v.entries (missing_pages v wants) (free_frames v) (candidates v wants)) 0
-        (planned_count q (missing_pages v wants) (free_frames v) (candidates v wants))
+    (planned_count q (missing_pages v wants) (free_frames v) (candidates v wants))
     ∙ omega (arith, enough)

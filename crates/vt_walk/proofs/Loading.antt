@@ -33,10 +33,10 @@ pub fitting : (w : WalkSetup) (p : WalkPass) (passes : List WalkPass) → IsWalk
 fitting w p passes h run fit =
     let kept = run_kept w (p ∷ passes) h run in
     let inside : ArePages (recency_after w (p ∷ passes)) p.wants = are_pages (recency_after w (p ∷ passes)) p.wants
-        (wants_inside (recency_after w (p ∷ passes)).shape w.shape (w.needs p.picture) p.wants kept.shape run.1.wanted) in
+    (wants_inside (recency_after w (p ∷ passes)).shape w.shape (w.needs p.picture) p.wants kept.shape run.1.wanted) in
     let count : pages_needed (recency_after w (p ∷ passes)) p.wants ≡ fit.needed =
     needs_one w p.picture (pages_needed (recency_after w (p ∷ passes)) p.wants) fit.needed
-        (needs_of w (recency_after w (p ∷ passes)) p.picture p.wants kept.shape kept.pinned run.1.wanted) fit.pages in
+    (needs_of w (recency_after w (p ∷ passes)) p.picture p.wants kept.shape kept.pinned run.1.wanted) fit.pages in
     let fits : pages_needed (recency_after w (p ∷ passes)) p.wants ≤ (recency_after w (p ∷ passes)).frames - (recency_after w (p ∷ passes)).pinned =
     omega (arith, count, fit.room, kept.frames, kept.pinned) in
     record {
@@ -107,15 +107,15 @@ loading w p q rest h mode run same none =
     let goes = fits_of w q mode run.1.turn.0 in
     let f = fitting w q rest h run.0 goes.1 in
     let reads : read_entries p.batch p.losses ≡ plan_of (recency_after w (q ∷ rest)) q.wants w.most = read_all p.batch p.losses run.1.outcome.told
-        none ∙ run.1.planned in
+    none ∙ run.1.planned in
     let settled : IsSettledTable (recency_after w (q ∷ rest)).entries (plan_of (recency_after w (q ∷ rest)) q.wants w.most)
-        (recency_after w (p ∷ q ∷ rest)).entries =
+    (recency_after w (p ∷ q ∷ rest)).entries =
     subst (λ (b : List Planned). IsSettledTable (recency_after w (q ∷ rest)).entries b p.settled.entries) reads run.1.settles.table in
     let l = loaded_plan (recency_after w (q ∷ rest)) (recency_after w (p ∷ q ∷ rest)) q.wants w.most f.table f.inside settled f.full in
     let r : IsLoaded w.shape (recency_after w (q ∷ rest)) (recency_after w (p ∷ q ∷ rest)) q.wants w.most p.batch =
     subst (λ (b : List Planned). IsLoaded w.shape (recency_after w (q ∷ rest)) (recency_after w (p ∷ q ∷ rest)) q.wants w.most b) (sym run.1.planned)
     (subst (λ (s : Shape). IsLoaded s (recency_after w (q ∷ rest)) (recency_after w (p ∷ q ∷ rest)) q.wants w.most
-        (plan_of (recency_after w (q ∷ rest)) q.wants w.most)) kept.shape l) in
+    (plan_of (recency_after w (q ∷ rest)) q.wants w.most)) kept.shape l) in
     record {
       wants = wants_one w.shape (w.needs p.picture) p.wants q.wants run.1.wanted (subst (λ k. IsWants w.shape (w.needs k) q.wants) (sym same) run.0.1.wanted);
       left = r.left;

@@ -21,9 +21,9 @@ use Rattle.vt_walk.specs.Reads.{AreAskedFor, lost_reads}
 pub some_byte : (s : Shape) (d : ℕ) → IsWithinLimits s → IsDepth d → 1 ≤ tile_length s d
 some_byte s d limits depth = mul-le 1 1 (tile_area s) (texel_length d)
     (mul-le 1 1 s.tile s.tile (omega (arith, limits.least_tile)) (omega (arith, limits.least_tile))) (by depth) where
-  by : (d ≡ 1) ⊎ (d ≡ 2) → 1 ≤ texel_length d
-  by (inl one) = omega (arith, one)
-  by (inr two) = omega (arith, two)
+      by : (d ≡ 1) ⊎ (d ≡ 2) → 1 ≤ texel_length d
+      by (inl one) = omega (arith, one)
+      by (inr two) = omega (arith, two)
 
 pub same_factor : (p q t : ℕ) → 1 ≤ t → p * t ≡ q * t → p ≡ q
 same_factor p q t some e =
@@ -41,7 +41,7 @@ same_number x y e = grind (arith, nat_tests)
 same_page : (s : Shape) (d p page : ℕ) → 1 ≤ tile_length s d → is_tile_at s d (tile_start s d p) (tile_length s d) page ≡ true → p ≡ page
 same_page s d p page some is =
     let starts : tile_start s d page ≡ tile_start s d p = same_number (tile_start s d page) (tile_start s d p)
-        (both_true (nat_eq (tile_start s d page) (tile_start s d p)) (nat_eq (tile_length s d) (tile_length s d)) is) in
+    (both_true (nat_eq (tile_start s d page) (tile_start s d p)) (nat_eq (tile_length s d) (tile_length s d)) is) in
     same_factor p page (tile_length s d) some (omega (arith, starts))
 
 none_later : (t : ℕ → Bool) (page a n : ℕ) → ((p : ℕ) → t p ≡ true → p ≡ page) → page < a → count_by t (range_with_len a n) ≡ 0
@@ -56,8 +56,13 @@ once_most t page a zero one = omega arith
 once_most t page a (suc n) one = pick (t a) (λ i. t a) (once_most t page (a + 1) n one) where
   pick : (b : Bool) → t a ≡ b → count_by t (range_with_len (a + 1) n) ≤ 1 → count_by t (range_with_len a (suc n)) ≤ 1
   pick true is rest = let same = one a is in
-      omega (arith, sum_by-cons (λ p. cond (t p) 1 0) a (range_with_len (a + 1) n), ap {B = ℕ} (λ b. cond b 1 0) is, none_later t page (a + 1) n one
-          (omega (arith, same)))
+      omega (
+        arith,
+        sum_by-cons (λ p. cond (t p) 1 0) a (range_with_len (a + 1) n),
+        ap {B = ℕ} (λ b. cond b 1 0) is,
+        none_later t page (a + 1) n one
+            (omega (arith, same)),
+      )
   pick false is rest = omega (arith, sum_by-cons (λ p. cond (t p) 1 0) a (range_with_len (a + 1) n), ap {B = ℕ} (λ b. cond b 1 0) is, rest)
 
 sums : (f g h : ℕ → ℕ) (xs : List ℕ) → ((x : ℕ) → f x ≤ g x + h x) → sum_by f xs ≤ sum_by g xs + sum_by h xs

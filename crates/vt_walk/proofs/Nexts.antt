@@ -34,7 +34,7 @@ module _ (needs : Scene → ℕ → ℕ → ℕ) (shows : Scene → List ℕ →
   comes_next dealt w before job report wants settled s t ran is_dealt samplers height journal turn inside planned wanted settles =
       let grown = journal_grown dealt w before job report wants settled s t ran journal in
       let a = subst (λ (d : Bool). AreRowsInOrder d s.setup.crew.samplers s.setup.height (length s.journal) (length t.journal) report.rows.elements)
-          (sym is_dealt) ran.rows in
+      (sym is_dealt) ran.rows in
       let b = subst (λ n. AreRowsInOrder w.dealt n s.setup.height (length s.journal) (length t.journal) report.rows.elements) (sym samplers) a in
       let c = subst (λ n. AreRowsInOrder w.dealt w.samplers n (length s.journal) (length t.journal) report.rows.elements) (sym height) b in
       let d = subst (λ (js : List Change). AreRowsInOrder w.dealt w.samplers w.height (length js) (length t.journal) report.rows.elements) journal c in

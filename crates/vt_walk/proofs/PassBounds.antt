@@ -47,7 +47,7 @@ all_mapped w q rest h run fit mapped =
     let kept = run_kept w (q ∷ rest) h run in
     subst (λ (s : Shape). pages_to_load s (mapped_after w (q ∷ rest)) (pages_wanted q.wants) ≡ []) kept.shape
     (mapped_done (recency_after w (q ∷ rest)).shape (mapped_after w (q ∷ rest)) (pages_wanted q.wants) f.table.limits
-        (λ p there. (f.inside p there, mapped p there)))
+    (λ p there. (f.inside p there, mapped p there)))
 
 -- how many passes the picture has
 passes_count : (w : WalkSetup) (later : List WalkPass) (first : WalkPass) (before : List WalkPass) → IsFinishedPicture w later first before
@@ -143,7 +143,7 @@ pub enough_passes : (w : WalkSetup) (later : List WalkPass) (first : WalkPass) (
 enough_passes w [] first before page f wanted low =
     let e = end_of w [] first before f.settled f.end in
     absurd (false≢true (sym low ∙ none_missing (recency_after w (first ∷ before)) first.wants page
-        (none_planned w first before f.setup f.run e.fits e.no_plan) wanted))
+    (none_planned w first before f.setup f.run e.fits e.no_plan) wanted))
 enough_passes w (p ∷ later) first before page f wanted low =
     let e = end_of w (p ∷ later) first before f.settled f.end in
     let asked = pages_asked w (p ∷ later) first before f in
@@ -194,7 +194,7 @@ have_full w (p ∷ q ∷ later) first before h mode run same load none =
     let n = have_full w (q ∷ later) first before h mode run.0 same.1 load.1 goes.0 in
     let l = loading w p q (later ++ first ∷ before) h mode run (same.0 ∙ sym same.1.0) none in
     let m = more_full w p q (later ++ first ∷ before) (length (q ∷ later)) (length (planned_in (q ∷ later))) n.full (most_in_line w first before)
-        first.wants l n.wants load.0 n.entries n.shorter in
+    first.wants l n.wants load.0 n.entries n.shorter in
     record { full = m.0; entries = omega (arith, m.1, length-append p.batch (planned_in (q ∷ later))); wants = l.wants ∙ n.wants; shorter = m.2 }
 
 some_entry : (batch : List Planned) → (batch ≡ [] → ⊥) → 1 ≤ length batch
@@ -227,7 +227,7 @@ pub few_passes : (w : WalkSetup) (later : List WalkPass) (first : WalkPass) (bef
 few_passes w [] first before f = omega (arith, passes_count w [] first before f)
 few_passes w (last ∷ later) first before f =
     let n = have_full w later first before f.setup f.settled f.run.0 f.later_passes.1
-        (all_load w last later first before f.setup f.settled f.run f.later_passes)
+    (all_load w last later first before f.setup f.settled f.run f.later_passes)
     (newest_kept w last later first before f.settled f.run) in
     let few = asked_few w (last ∷ later) first before f in
     let whole : n.full ≤ length (picture_pages w first before) / w.most =

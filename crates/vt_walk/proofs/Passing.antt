@@ -122,9 +122,9 @@ module _ (dealt : Bool) (needs : Scene → ℕ → ℕ → ℕ) (shows : Scene �
   pass_broke s more read e is =
       let fault = faults_rise 0 faults kept.faults (counts_of m.files) (counts_of n.files) read.faults in
       let asks : OnTold (AreAskedAtMostFor g.scene.shape g.scene.depth 0 (plan_after g.setup s.run)) (with_open store (kept ∷ m.files) asked)
-          (with_open store (kept ∷ n.files) asked) =
+      (with_open store (kept ∷ n.files) asked) =
       subst (λ (batch : List Planned). OnTold (AreAskedAtMostFor g.scene.shape g.scene.depth 0 batch) (with_open store (kept ∷ m.files) asked)
-          (with_open store (kept ∷ n.files) asked))
+      (with_open store (kept ∷ n.files) asked))
       s.turn.batch (pass_asks_most g.scene.shape g.scene.depth t.batch.elements store kept m.files n.files asked s.tell read) in (
         inr (record {
           run = s.run;

@@ -74,7 +74,7 @@ take_all (suc n) (x ∷ xs) few = ap (λ (l : List ℕ). x ∷ l) (take_all n xs
 pub plan_missing : (v : RecencyView) (wants : List Wanted) (q x : ℕ) → is_in (batch_pages (plan_of v wants q)) x ≡ true → is_in (missing_pages v wants) x ≡ true
 plan_missing v wants q x there =
     take_in (planned_count q (missing_pages v wants) (free_frames v) (candidates v wants)) (missing_pages v wants) x
-        (ap (λ (l : List ℕ). is_in l x) (sym (plan_pages v wants q)) ∙ there)
+    (ap (λ (l : List ℕ). is_in l x) (sym (plan_pages v wants q)) ∙ there)
 
 pub plan_distinct : (v : RecencyView) (wants : List Wanted) (q : ℕ) → IsDistinct nat_eq (batch_pages (plan_of v wants q))
 plan_distinct v wants q = subst (IsDistinct nat_eq) (sym (plan_pages v wants q))
@@ -91,7 +91,7 @@ plan_all v wants q enough =
     let n : ℕ = planned_count q (missing_pages v wants) (free_frames v) (candidates v wants) in
     plan_pages v wants q ∙ take_all (planned_count q (missing_pages v wants) (free_frames v) (candidates v wants)) (missing_pages v wants)
     (at_least (planned_count q (missing_pages v wants) (free_frames v) (candidates v wants)) (missing_pages v wants)
-        (ap (λ (l : List ℕ). length l) (plan_pages v wants q))) where
+    (ap (λ (l : List ℕ). length l) (plan_pages v wants q))) where
       few : (n : ℕ) (xs : List ℕ) → length (take n xs) ≤ n
       few zero xs = omega arith
       few (suc n) [] = omega arith
@@ -128,7 +128,7 @@ pub plan_spares : (v : RecencyView) (wants : List Wanted) (q x : ℕ) → is_in 
 unfolding plan_of
 plan_spares v wants q x line =
     no_victim (planned_at v.entries (missing_pages v wants) (free_frames v) (candidates v wants)) x
-        (range_with_len 0 (planned_count q (missing_pages v wants) (free_frames v) (candidates v wants)))
+    (range_with_len 0 (planned_count q (missing_pages v wants) (free_frames v) (candidates v wants)))
     (λ j. at (nat_lt j (length (free_frames v))) (j - length (free_frames v))) where
       at : (b : Bool) (k : ℕ) → is_page x (cond b None (slice_get (candidates v wants) k)) ≡ false
       at true k = refl
@@ -178,7 +178,7 @@ front_after v u wants q p table inside settled wanted =
     front_loaded (is_mapped v.entries) (is_mapped u.entries) (is_in (batch_pages (plan_of v wants q))) (line_of v.shape p)
     (λ x there. mapped_by v u wants q x settled (in_wanted_lines v.shape (pages_wanted wants) p x wanted there))
     (line_steps v.shape (is_mapped v.entries) (is_in (batch_pages (plan_of v wants q))) (levels_of v.shape - 1 - level_of v.shape p) p table.limits
-        (omega (arith, below)) (inside p wanted)
+    (omega (arith, below)) (inside p wanted)
     (λ x r is. (missing_is v wants x table inside (plan_missing v wants q x is)).step.parent r))
 
 pub left_after : (v u : RecencyView) (wants : List Wanted) (q : ℕ) → IsTable v → ArePages v wants → IsSettledTable v.entries (plan_of v wants q) u.entries
@@ -187,7 +187,7 @@ pub left_after : (v u : RecencyView) (wants : List Wanted) (q : ℕ) → IsTable
 unfolding pages_to_load
 left_after v u wants q table inside settled =
     ap each_once (flat_map-filter (λ x. not (is_in (batch_pages (plan_of v wants q)) x)) (before_lookup v.shape (is_mapped v.entries))
-        (before_lookup v.shape (is_mapped u.entries)) (pages_wanted wants)
+    (before_lookup v.shape (is_mapped u.entries)) (pages_wanted wants)
     (λ p wanted. front_after v u wants q p table inside settled wanted))
     ∙ each_once-filter (λ x. not (is_in (batch_pages (plan_of v wants q)) x)) (flat_map (before_lookup v.shape (is_mapped v.entries)) (pages_wanted wants))
 
@@ -214,10 +214,10 @@ pub step_missing : (v : RecencyView) (wants : List Wanted) (p : ℕ) → is_in (
 unfolding missing_pages missing_from
 step_missing v wants p wanted low =
     is_in-each_once (map (step_of v.shape (is_mapped v.entries)) (filter (λ p. not (is_mapped v.entries p)) (pages_wanted wants)))
-        (step_of v.shape (is_mapped v.entries) p)
+    (step_of v.shape (is_mapped v.entries) p)
     ∙ in_map (step_of v.shape (is_mapped v.entries)) (filter (λ p. not (is_mapped v.entries p)) (pages_wanted wants)) p
     (is_in-filter (λ p. not (is_mapped v.entries p)) (pages_wanted wants) p
-        ∙ both (is_in (pages_wanted wants) p) (not (is_mapped v.entries p)) wanted (ap not low))
+    ∙ both (is_in (pages_wanted wants) p) (not (is_mapped v.entries p)) wanted (ap not low))
 
 -- a mapped page has nothing before its look-up
 pub front_none : (s : Shape) (m : ℕ → Bool) (p : ℕ) → IsWithinLimits s → p < pages_of s → m p ≡ true → before_lookup s m p ≡ []
@@ -321,9 +321,9 @@ most_less v u wants q table inside settled all some =
       loaded p wanted low =
           let below = level_below v.shape p table.limits (inside p wanted) in
           let h = step_is v.shape (is_mapped v.entries) (levels_of v.shape - 1 - level_of v.shape p) p table.limits (omega (arith, below))
-              (inside p wanted) low in
+          (inside p wanted) low in
           filter_less (λ x. not (is_in (batch_pages (plan_of v wants q)) x)) (before_lookup v.shape (is_mapped v.entries) p)
-              (step_of v.shape (is_mapped v.entries) p) h.before
+          (step_of v.shape (is_mapped v.entries) p) h.before
           (ap not (ap (λ (l : List ℕ). is_in l (step_of v.shape (is_mapped v.entries) p)) (plan_all v wants q all) ∙ step_missing v wants p wanted low))
 
       each : (p : ℕ) → is_in (pages_wanted wants) p ≡ true

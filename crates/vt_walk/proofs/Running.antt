@@ -80,19 +80,19 @@ pinned_agree s pinned (suc n) =
     let front = replicate (pages_of s - pinned) 0 in
     let entries : front ++ range_with_len 1 (suc n) ≡ (front ++ range_with_len 1 n) ++ (1 + n) ∷ [] =
     ap (λ k. front ++ range_with_len 1 k) next ∙ ap (λ (xs : List ℕ). front ++ xs) (range-more 1 n)
-        ∙ sym (append_assoc front (range_with_len 1 n) ((1 + n) ∷ [])) in
+    ∙ sym (append_assoc front (range_with_len 1 n) ((1 + n) ∷ [])) in
     let changes : map (pinned_change s pinned) (range_with_len 0 (suc n)) ≡ map (pinned_change s pinned) (range_with_len 0 n) ++ pinned_change s pinned n ∷ [] =
     ap (λ k. map (pinned_change s pinned) (range_with_len 0 k)) next ∙ map-range_with_len_more (pinned_change s pinned) 0 n n (zero-add n) in
     let count : length (front ++ range_with_len 1 n) ≡ pages_of s - pinned + n = length-append front (range_with_len 1 n)
-        ∙ omega (arith, length-zeros (pages_of s - pinned), length-range 1 n) in
+    ∙ omega (arith, length-zeros (pages_of s - pinned), length-range 1 n) in
     let pushed = push_agrees (front ++ range_with_len 1 n) (newest (map (pinned_change s pinned) (range_with_len 0 n))) (Some n) (1 + n)
-        (pages_of s - pinned + n) (omega arith) (sym count) (pinned_agree s pinned n) in
+    (pages_of s - pinned + n) (omega arith) (sym count) (pinned_agree s pinned n) in
     let tables : newest (map (pinned_change s pinned) (range_with_len 0 (suc n))) ≡ changed
-        (newest (map (pinned_change s pinned) (range_with_len 0 n))) (Map (pages_of s - pinned + n) n) =
+    (newest (map (pinned_change s pinned) (range_with_len 0 n))) (Map (pages_of s - pinned + n) n) =
     ap newest changes ∙ newest-more (map (pinned_change s pinned) (range_with_len 0 n)) (pinned_change s pinned n) in
     subst (AgreesOn (front ++ range_with_len 1 (suc n))) (sym tables)
-        (subst (λ (xs : List ℕ). AgreesOn xs (changed (newest (map (pinned_change s pinned) (range_with_len 0 n))) (Map (pages_of s - pinned + n) n)))
-        (sym entries) pushed)
+    (subst (λ (xs : List ℕ). AgreesOn xs (changed (newest (map (pinned_change s pinned) (range_with_len 0 n))) (Map (pages_of s - pinned + n) n)))
+    (sym entries) pushed)
 
 first_agrees : (s : Shape) (frames pinned : ℕ) → Agrees (first_view s frames pinned) (newest (pinned_changes s pinned))
 unfolding first_view
@@ -160,7 +160,7 @@ kept_more : (w : WalkSetup) (p : WalkPass) (passes : List WalkPass) → IsWalkSe
 kept_more w p passes h run next kept =
     let laws = batch_is_lawful w passes p.batch run kept next.planned in
     let k = settled_agrees (recency_after w passes) p.settled (journal_after w passes) p.batch p.losses p.events kept.table kept.agrees laws
-        next.outcome next.settles in
+    next.outcome next.settles in
     let follow = outcome_follows w.shape w.frames w.pinned (journal_after w passes) p.batch p.losses p.events h.most_frames kept.turn
     (batch_may_be_run w passes p.batch run kept next.planned) (unpinned_victims w (recency_after w passes) p.batch kept.shape kept.pinned laws) next.outcome in
     record {

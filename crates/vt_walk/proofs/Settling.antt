@@ -53,7 +53,7 @@ applied_agrees v ks e table l agrees = by_victim e.victim l.place where
       let count : length (slice_set v.entries q 0) ≡ length v.entries = length-set v.entries q 0 in
       let one = set_agrees v.entries (newest ks) q None (omega (arith, is.unpinned, table.entries_for_all)) agrees in
       let two = set_agrees (slice_set v.entries q 0) (changed (newest ks) (Unmap q e.frame)) e.page (Some e.frame)
-          (omega (arith, l.unpinned, table.entries_for_all, count)) one in
+      (omega (arith, l.unpinned, table.entries_for_all, count)) one in
       let first : newest (ks ++ Unmap q e.frame ∷ []) ≡ changed (newest ks) (Unmap q e.frame) = newest-more ks (Unmap q e.frame) in
       let both : newest (ks ++ Unmap q e.frame ∷ Map e.page e.frame ∷ []) ≡ changed (newest (ks ++ Unmap q e.frame ∷ [])) (Map e.page e.frame) =
       ap newest (sym (append_assoc ks (Unmap q e.frame ∷ []) (Map e.page e.frame ∷ []))) ∙ newest-more (ks ++ Unmap q e.frame ∷ []) (Map e.page e.frame) in
@@ -125,7 +125,7 @@ settled_from old js batch losses (suc m) j table laws lengths agrees all =
     let inside : j < length batch = omega (arith, all) in
     let mine : IsLawfulEntry r.now (get_or batch j d) = r.lawful j d (omega arith) in
     let step = settle_step old r.now (cond b r.now (applied r.now e)) batch losses j d e b inside lengths
-        (get_or_default losses j true b (omega (arith, inside, lengths)))
+    (get_or_default losses j true b (omega (arith, inside, lengths)))
     (get_or_default batch j d e inside) laws table r.table r.settled r.lawful refl in
     record {
       now = cond b r.now (applied r.now e);
@@ -164,12 +164,12 @@ past (x ∷ xs) (suc k) few = past xs k (omega (arith, few))
 same_entries : (a b : List ℕ) → length a ≡ length b → ((p : ℕ) → slice_index a p ≡ slice_index b p) → a ≡ b
 same_entries a b count each = same_lists a b
     (λ k inside. slice_get-get_or a k 0 (omega (arith, inside, count)) ∙ ap Some (each k)
-        ∙ sym (slice_get-get_or b k 0 inside)) (past a (length b) (omega (arith, count)))
+    ∙ sym (slice_get-get_or b k 0 inside)) (past a (length b) (omega (arith, count)))
 
 pub settled_one : (old a b : RecencyView) (reads : List Planned) → IsSettled old reads a → IsSettled old reads b → a ≡ b
 settled_one old a b reads one two =
     let entries : a.entries ≡ b.entries = same_entries a.entries b.entries (one.table.same_length
-        ∙ sym two.table.same_length) (settled_entries old.entries reads a.entries b.entries one.table two.table) in
+    ∙ sym two.table.same_length) (settled_entries old.entries reads a.entries b.entries one.table two.table) in
     λ i. record {
       shape = (one.shape ∙ sym two.shape) i;
       frames = (one.frames ∙ sym two.frames) i;
@@ -196,7 +196,7 @@ settled_agrees old new js batch losses events table agrees laws outcome settled 
       groups = refl;
     } in
     let tables = any_order old.shape old.frames js batch losses events (pass_events batch losses (down_to 0 (length batch)))
-        (may_be_run old (newest js) batch table agrees laws) outcome other in
+    (may_be_run old (newest js) batch table agrees laws) outcome other in
     record {
       table = subst IsTable same r.table;
       agrees = subst (Agrees new) (sym tables) (subst (λ (v : RecencyView). Agrees v

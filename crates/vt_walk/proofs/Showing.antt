@@ -73,7 +73,7 @@ if_some o x P e h = subst (λ p. IfSome p P) e h
 
 pub picture_drawn : (w : WalkSetup) (p : WalkPass) (passes : List WalkPass) (needs : Scene → ℕ → ℕ → ℕ) (shows : Scene → List ℕ → Table → ℕ → ℕ → ℕ → List ℕ)
     (drawn : PathView → ℕ → ℕ → ℕ → List ℕ → Type 0) (job : Job) (s : MachineState) (b : List ℕ) → IsPictured needs shows drawn job p.rows s
-        → s.setup.bytes ≡ Some b
+    → s.setup.bytes ≡ Some b
     → s.setup.height ≡ w.height → s.journal ≡ journal_after w (p ∷ passes) → job.picture ≡ p.picture
     → IsRunPicture w (p ∷ passes) s.setup.depth s.setup.width (shows job.scene b) p.picture (concat s.rows)
 picture_drawn w p passes needs shows drawn job s b pictured told height journal picture =
@@ -86,9 +86,9 @@ picture_drawn w p passes needs shows drawn job s b pictured told height journal 
       replayed = λ y line is.
           let pixels = replayed y line (ap (λ (rows : List RowLine). slice_get rows y) (sym own) ∙ is) in
           subst (λ k. HasPixels s.setup.depth s.setup.width (λ x. shows job.scene b (at (journal_after w (p ∷ passes)) line.version) k x y)
-              (slice_index_or s.rows y [])) picture
+          (slice_index_or s.rows y [])) picture
           (subst (λ (js : List Change). HasPixels s.setup.depth s.setup.width (λ x. shows job.scene b (at js line.version) job.picture x y)
-              (slice_index_or s.rows y [])) journal pixels);
+          (slice_index_or s.rows y [])) journal pixels);
       joined = refl;
     }
 

@@ -130,7 +130,7 @@ picture_first : (names : WalkNames) (text bytes : List ℕ) (pictures : List (Li
 picture_first names text bytes pictures None apart = refl
 picture_first names text bytes pictures (Some files) apart =
     ap Some (either_first (picture_name names.prefix (length pictures)) names.journal bytes text (with_pictures names.prefix pictures files)
-        (other_name names (length pictures) apart))
+    (other_name names (length pictures) apart))
 
 -- a picture that is written, and its line
 pub picture_told : (drawn : PathView → ℕ → ℕ → ℕ → List ℕ → Type 0) (g : WalkGiven) (p : WalkPass) (run : List WalkPass) (pictures : List (List ℕ))

@@ -37,7 +37,7 @@ follow_more s height pinned js n before [] p ks m last changes count picture all
     let all_passes : m ≡ n = omega (arith, count) in (
       subst (λ x. IsPassAfter s height pinned js n x p) picture
           (subst (λ x. IsPassAfter s height pinned js x last p) all_passes
-              (subst (λ (x : List Change). IsPassAfter s height pinned x m last p) all_changes one)),
+          (subst (λ (x : List Change). IsPassAfter s height pinned x m last p) all_changes one)),
       tt,
     )
 follow_more s height pinned js n before (q ∷ passes) p ks m last changes count picture all one = (
@@ -54,7 +54,7 @@ pub told_changes : (w : WalkSetup) (passes : List WalkPass) → pinned_changes w
 told_changes w [] = append-nil (pinned_changes w.shape w.pinned)
 told_changes w (p ∷ passes) =
     ap (λ (cs : List Change). pinned_changes w.shape w.pinned
-        ++ cs) (flat_map-append (λ (q : Pass). changes_of q.events) (passes_told w passes) (told_of w passes p ∷ [])
+    ++ cs) (flat_map-append (λ (q : Pass). changes_of q.events) (passes_told w passes) (told_of w passes p ∷ [])
     ∙ ap (λ (cs : List Change). passes_changes (passes_told w passes) ++ cs) (append-nil (changes_of p.events)))
     ∙ sym (append_assoc (pinned_changes w.shape w.pinned) (passes_changes (passes_told w passes)) (changes_of p.events))
     ∙ ap (λ (cs : List Change). cs ++ changes_of p.events) (told_changes w passes)
@@ -89,7 +89,7 @@ next_told w passes p h run next =
       start_is = refl;
       events = outcome_follows w.shape w.frames w.pinned (journal_after w passes) p.batch p.losses p.events h.most_frames kept.turn
           (batch_may_be_run w passes p.batch run kept next.planned) (unpinned_victims w (recency_after w passes) p.batch kept.shape kept.pinned laws)
-              next.outcome;
+          next.outcome;
       rows = subst (λ n. AreRowsOf w.height (length (journal_after w passes)) n p.rows) (length-append (journal_after w passes) (changes_of p.events))
           next.in_order.of_picture;
     }
@@ -99,9 +99,9 @@ passes_follow : (w : WalkSetup) (passes : List WalkPass) → IsWalkSetup w → I
 passes_follow w [] h run = tt
 passes_follow w (p ∷ passes) h run =
     follow_more w.shape w.height w.pinned (pinned_changes w.shape w.pinned) 0 0 (passes_told w passes) (told_of w passes p) (journal_after w passes)
-        (length passes) (before_of passes)
+    (length passes) (before_of passes)
     (sym (told_changes w passes)) (omega (arith, told_count w passes)) (told_picture w passes) (passes_follow w passes h run.0)
-        (next_told w passes p h run.0 run.1)
+    (next_told w passes p h run.0 run.1)
 
 pub run_is_lawful : (w : WalkSetup) (passes : List WalkPass) → IsWalkSetup w → IsRun w passes → IsLawful w.shape w.height (run_content w passes)
 run_is_lawful w passes h run = lawful_by_parts w.shape w.height (run_content w passes) (record { head = may_pin w h; passes = passes_follow w passes h run })
@@ -123,4 +123,4 @@ text_grows w p passes =
 pub text_tells : (w : WalkSetup) (a b : List WalkPass) → IsWalkSetup w → IsRun w a → IsRun w b → run_text w a ≡ run_text w b → run_content w a ≡ run_content w b
 text_tells w a b h run other same =
     content_unique w.shape w.height (run_content w a) (run_content w b) (omega (arith, h.limits.least_tile)) (run_is_lawful w a h run)
-        (run_is_lawful w b h other) same
+    (run_is_lawful w b h other) same

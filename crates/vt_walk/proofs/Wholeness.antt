@@ -80,25 +80,25 @@ finished_maps_needed w p passes h run mode go finished =
     let done : Finishes Settled p.batch (plan_after w (p ∷ passes)) = subst (λ (m : Mode). Finishes m p.batch (plan_after w (p ∷ passes))) mode finished in
     let same : journal_after w (p ∷ passes) ≡ journal_after w passes =
     ap (λ (es : List Event). journal_after w passes ++ changes_of es) (no_events p.batch p.losses p.events done.0 run.1.outcome)
-        ∙ append-nil (journal_after w passes) in
+    ∙ append-nil (journal_after w passes) in
     let fit = goes.1 in
     let count : pages_needed (recency_after w (p ∷ passes)) p.wants ≡ fit.needed =
     needs_one w p.picture (pages_needed (recency_after w (p ∷ passes)) p.wants) fit.needed
-        (needs_of w (recency_after w (p ∷ passes)) p.picture p.wants kept.shape kept.pinned run.1.wanted) fit.pages in
+    (needs_of w (recency_after w (p ∷ passes)) p.picture p.wants kept.shape kept.pinned run.1.wanted) fit.pages in
     let fits : pages_needed (recency_after w (p ∷ passes)) p.wants ≤ (recency_after w (p ∷ passes)).frames - (recency_after w (p ∷ passes)).pinned =
     omega (arith, count, fit.room, kept.frames, kept.pinned) in
     let pages : pages_of (recency_after w (p ∷ passes)).shape ≡ pages_of w.shape = ap pages_of kept.shape in
     let held : (q : ℕ) → is_mapped (recency_after w (p ∷ passes)).entries q ≡ true → IsSome (newest (journal_after w passes) q) =
     λ q is. subst (λ (js : List Change). IsSome (newest js q)) same
-        (mapped_some (newest (journal_after w (p ∷ passes)) q) (ap (nat_lt 0) (sym (kept.agrees q)) ∙ is)) in
+    (mapped_some (newest (journal_after w (p ∷ passes)) q) (ap (nat_lt 0) (sym (kept.agrees q)) ∙ is)) in
     let last = root_last w.shape h.limits in
     record {
       root = held (root_of w.shape) (kept.table.pinned_mapped (root_of w.shape) (omega (arith, last, pages))
           (pin_true (pages_of (recency_after w (p ∷ passes)).shape) (root_of w.shape + (recency_after w (p ∷ passes)).pinned)
-              (omega (arith, last, pages, kept.pinned, h.some_pinned))));
+          (omega (arith, last, pages, kept.pinned, h.some_pinned))));
       needed_mapped = λ q inside needed.
           let wanted : Wanted = record { page = q; pixels = w.needs p.picture q } in
           let there = (run.1.wanted.exact wanted).1 (record { inside = inside; some = omega (arith, needed); all = refl }) in
           held q (mapped_if_none (recency_after w (p ∷ passes)) p.wants w.most q kept.table h.some_entry done.1 fits (omega (arith, inside, pages))
-              (in_pages p.wants wanted there));
+          (in_pages p.wants wanted there));
     }

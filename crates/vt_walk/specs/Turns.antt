@@ -99,7 +99,7 @@ pub record HasRun (dealt : Bool) (needs : Scene → ℕ → ℕ → ℕ) (shows 
 -- a machine has drawn the next pass of a run, and streamed its batch
 pub record HasDrawn (dealt : Bool) (needs : Scene → ℕ → ℕ → ℕ) (shows : Scene → List ℕ → Table → ℕ → ℕ → ℕ → List ℕ)
     (drawn : PathView → ℕ → ℕ → ℕ → List ℕ → Type 0) (g : WalkGiven) (run : List WalkPass) (t : Turn) (before after : MachineState) (v : RecencyView)
-        (d : Drawn) : Type 0 where
+    (d : Drawn) : Type 0 where
   pub pass : WalkPass
   pub next : IsNextPass g.setup run pass
   pub picture : pass.picture ≡ t.picture
@@ -125,7 +125,7 @@ pub record StandsAt (drawn : PathView → ℕ → ℕ → ℕ → List ℕ → T
 -- the beginning of a run stands whole, and its newest pass has just been made
 pub record StandsAfter (dealt : Bool) (needs : Scene → ℕ → ℕ → ℕ) (shows : Scene → List ℕ → Table → ℕ → ℕ → ℕ → List ℕ)
     (drawn : PathView → ℕ → ℕ → ℕ → List ℕ → Type 0) (g : WalkGiven) (number : ℕ) (p : Passed) (first now : WalkState) (m : MachineState)
-        (v : RecencyView) : Type 0 where
+    (v : RecencyView) : Type 0 where
   pub run : List WalkPass
   pub pass : WalkPass
   pub pictures : List (List ℕ)

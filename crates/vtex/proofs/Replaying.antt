@@ -114,8 +114,10 @@ all_held words path shape depth file text f0 f1 f2 f3 h told =
 pub asked_in : (input : Input) (files mid : Option Files) (before after : FolderState) → before.files ≡ files
     → IsAsked input (record { before = before; after = after }) → IsAskedOrNot files input before.asked after.asked
 asked_in input files mid before after same h =
-    inr (subst (λ (f : Option Files). IsAsked input (record { before = record { files = f; asked = before.asked; faults = before.faults };
-        after = after })) same h)
+    inr (subst (λ (f : Option Files). IsAsked input (record {
+      before = record { files = f; asked = before.asked; faults = before.faults };
+      after = after;
+    })) same h)
 
 pub asked_or_not : (input : Input) (files : Option Files) (before after : FolderState) → before.files ≡ files
     → (after.asked ≡ before.asked) ⊎ IsAsked input (record { before = before; after = after }) → IsAskedOrNot files input before.asked after.asked
@@ -165,7 +167,7 @@ store_asked words shape depth file files f1 f2 mid after tiles o same some are c
   ),
   closed ∙ closed_places words.store file.name (header_places ++ tiles) mid (option_map (λ (old : List Place). old ++ tiles) file.asked)
       (ap (option_map (λ (old : List Place). old ++ tiles)) o.asked ∙ more header_places tiles f1.asked
-          ∙ constant (header_places ++ tiles) f1.asked mid (sym some))
+      ∙ constant (header_places ++ tiles) f1.asked mid (sym some))
       (name_known (file.name ≡ words.store) f1.asked mid (sym some) o.name_is),
 )
 
@@ -250,7 +252,7 @@ journal_refused words path shape depth file refusal f0 f1 f2 f4 out p o h =
                 f4.asked,
                 store_asked words shape depth file f0.files f1 f2 f3.asked f4.asked [] o p.files
                     (some_after f0.files (JournalInput words.journal) f2.asked f3.asked journal
-                        ∙ ap is_some o.no_places) (λ k d less. absurd (omega (arith, less)))
+                    ∙ ap is_some o.no_places) (λ k d less. absurd (omega (arith, less)))
                     (c.asked ∙ ap (λ (told : Option (List Place)). option_map (with_places file.name told) f3.asked) (no_tiles file.asked)),
                 refl,
               ),

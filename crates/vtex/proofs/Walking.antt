@@ -170,7 +170,7 @@ header_asked : (store : List ℕ) (asked : Option Asked) (file : FileState) → 
 header_asked store None file is = refl
 header_asked store (Some a) file is =
     ap (λ (o : Option (List Place)). Some (a store ++ (unwrap_or o [] ++ []))) is
-        ∙ ap (λ (places : List Place). Some (a store ++ places)) (append-nil header_places)
+    ∙ ap (λ (places : List Place). Some (a store ++ places)) (append-nil header_places)
 
 none_open : (store : List ℕ) (asked : Option Asked)
     → OnTold AreSamePlaces (option_map (λ (a : Asked). a store ++ places_of []) asked) (option_map (λ (a : Asked). a store) asked)

@@ -35,4 +35,4 @@ frames_line frames needed = place_line (number_spelling frames ++ (codes " frame
 abbrev pub unfit_line : ℕ → ℕ → ℕ → List ℕ
 unfit_line picture wanted room =
     place_line (codes "picture " ++ (number_spelling picture ++ (codes " wants "
-        ++ (number_spelling wanted ++ (codes " pages, room for " ++ number_spelling room)))))
+    ++ (number_spelling wanted ++ (codes " pages, room for " ++ number_spelling room)))))

@@ -24,21 +24,21 @@ pub promote_loose-requires-clause-in_order : goal.promote_loose-requires-clause-
 promote_loose-requires-clause-in_order c below mapped =
     let all : List ℕ = c.args.walk.now.walked.elements in
     let h = step_back all c.loop-page.walk.walked.elements c.pop.new.self.walked.elements c.in-Some.page c.requires.walk.once
-        c.loop-page.invariant.front c.in-Some.ensures.some in
+    c.loop-page.invariant.front c.in-Some.ensures.some in
     let rest : List ℕ = drop (length c.loop-page.walk.walked.elements) all in
     let new : is_in (filter (is_loose_below c.args.entries.now c.args.unpinned) rest) c.in-Some.page ≡ false =
     is_in-filter (is_loose_below c.args.entries.now c.args.unpinned) rest c.in-Some.page
-        ∙ ap (λ b. b && is_loose_below c.args.entries.now c.args.unpinned c.in-Some.page) h.new in
+    ∙ ap (λ b. b && is_loose_below c.args.entries.now c.args.unpinned c.in-Some.page) h.new in
     rw c.loop-page.invariant.order
     (still_in (filter (is_loose_below c.args.entries.now c.args.unpinned) rest) (keys_of c.args.order.now.entries) c.in-Some.page new
-        (c.requires.in_order c.in-Some.page below mapped))
+    (c.requires.in_order c.in-Some.page below mapped))
 
 pub loop-page-preserved : goal.loop-page-preserved
 loop-page-preserved c =
     let all : List ℕ = c.args.walk.now.walked.elements in
     let rest : List ℕ = drop (length c.loop-page.walk.walked.elements) all in
     let h = step_back all c.loop-page.walk.walked.elements c.pop.new.self.walked.elements c.in-Some.page c.requires.walk.once
-        c.loop-page.invariant.front c.in-Some.ensures.some in
+    c.loop-page.invariant.front c.in-Some.ensures.some in
     record {
       walk = c.pop.ensures.walk;
       front = h.now;

@@ -23,7 +23,7 @@ pub returns-else-entries-parent-gt0-clause-step : goal.returns-else-entries-pare
 returns-else-entries-parent-gt0-clause-step t c =
     let parent : parent_of c.args.geometry.now c.args.page ≡ Some c.in-Some.parent = sym c.parent.ensures.parent ∙ c.in-Some.is in
     c.step_of.ensures.step ∙ step_up c.args.geometry.now (is_mapped c.args.entries.now) c.args.page c.in-Some.parent c.requires.limits
-        c.requires.inside parent c.requires.unmapped
+    c.requires.inside parent c.requires.unmapped
     (grind (arith, nat_tests))
 
 pub returns-in-None-clause-step : goal.returns-in-None-clause-step

@@ -14,7 +14,7 @@ loop-frame-preserved c =
     let batch : List Planned = c.loop-frame.batch.elements in
     let k : ℕ = length batch in
     let first = c.loop-frame.invariant.rest ∙ rest_more deref c.loop-frame.frame-iterator c.next.new.self c.next.result c.in-Some.frame c.in-Some.is
-        c.next.ensures.steps in
+    c.next.ensures.steps in
     let at = rest_at keys k c.in-Some.frame.now c.next.new.self first in
     let entry : Planned = record { page = slice_index missing c.len-place.result; frame = c.in-Some.frame.now; victim = None } in
     let grown : length c.push.new.self.elements ≡ length batch + 1 = ap length c.push.ensures.elements ∙ length-append batch (entry ∷ []) in
@@ -40,5 +40,5 @@ returns-in-None-clause-put c =
     let e = c.loop-frame.invariant.rest ∙ rest_all deref c.loop-frame.frame-iterator c.next.new.self c.next.result c.in-None.is c.next.ensures.steps in
     let all = none_left c.args.free.now.keys (length c.loop-frame.batch.elements) e in
     let count : length c.loop-frame.batch.elements ≡ min c.args.most (length c.args.free.now.keys) = omega
-        (arith, c.loop-frame.invariant.most, c.loop-frame.invariant.inside) in
+    (arith, c.loop-frame.invariant.most, c.loop-frame.invariant.inside) in
     c.loop-frame.invariant.put ∙ ap (λ (n : ℕ). map (freed_at c.args.missing.now c.args.free.now.keys) (range_with_len 0 n)) count

@@ -14,7 +14,7 @@ put_victim-requires-clause-inside c =
     let last : keys_of c.loop.rest ≡ before ++ c.in-Some.victim ∷ [] = c.in-Some.ensures.some in
     let n : length (keys_of c.loop.rest) ≡ length before + 1 = ap length last ∙ length-append before (c.in-Some.victim ∷ []) in
     let at : slice_index (keys_of c.loop.rest) (length before) ≡ c.in-Some.victim = ap (λ (l : List ℕ). slice_index l (length before)) last
-        ∙ last_at before c.in-Some.victim in
+    ∙ last_at before c.in-Some.victim in
     omega (arith, c.loop.invariant.inside (length before) (omega arith))
 
 pub put_victim-requires-clause-mapped : goal.put_victim-requires-clause-mapped
@@ -23,7 +23,7 @@ put_victim-requires-clause-mapped c =
     let last : keys_of c.loop.rest ≡ before ++ c.in-Some.victim ∷ [] = c.in-Some.ensures.some in
     let n : length (keys_of c.loop.rest) ≡ length before + 1 = ap length last ∙ length-append before (c.in-Some.victim ∷ []) in
     let at : slice_index (keys_of c.loop.rest) (length before) ≡ c.in-Some.victim = ap (λ (l : List ℕ). slice_index l (length before)) last
-        ∙ last_at before c.in-Some.victim in
+    ∙ last_at before c.in-Some.victim in
     subst (λ (p : ℕ). 0 < slice_index c.args.entries.now p) at (c.loop.invariant.mapped (length before) (omega arith))
 
 pub loop-preserved : goal.loop-preserved
@@ -37,7 +37,7 @@ loop-preserved c =
     let n : length (keys_of c.loop.rest) ≡ length before + 1 = ap length last ∙ length-append before (c.in-Some.victim ∷ []) in
     let k : ℕ = length now - length start in
     let step = offer c.args.entries.now c.args.missing.now victims (length start) start now next k c.in-Some.victim
-        (is_in c.args.kept.now.keys c.in-Some.victim)
+    (is_in c.args.kept.now.keys c.in-Some.victim)
     (filter (λ p. not (is_in c.args.kept.now.keys p)) (reverse before)) refl c.loop.invariant.least c.loop.invariant.put (omega (arith, c.loop.invariant.grown))
     (c.loop.invariant.rest ∙ kept_last (λ p. not (is_in c.args.kept.now.keys p)) (keys_of c.loop.rest) before c.in-Some.victim last) c.put_victim.ensures.put in
     let g : length next - length start ≡ step.grown = omega (arith, step.count) in
@@ -71,8 +71,10 @@ returns-after-loop c =
     let zero : length c.loop.rest ≡ 0 = omega (arith, c.loop.invariant.count, c.loop-test.false, c.len-end.ensures.len) in
     let all = none_left victims k (c.loop.invariant.rest ∙ nothing_left (λ p. not (is_in c.args.kept.now.keys p)) c.loop.rest zero) in
     let n : k ≡ min (c.args.most - length start) (length victims) = omega (arith, c.loop.invariant.most, c.loop.invariant.least) in
-    record { put = c.loop.invariant.put ∙ ap (λ (n : ℕ). start
-        ++ map (taken_at c.args.entries.now c.args.missing.now victims (length start)) (range_with_len 0 n)) n }
+    record {
+      put = c.loop.invariant.put ∙ ap (λ (n : ℕ). start
+          ++ map (taken_at c.args.entries.now c.args.missing.now victims (length start)) (range_with_len 0 n)) n;
+    }
 
 pub returns-then-len-most : goal.returns-then-len-most
 returns-then-len-most c =
@@ -80,6 +82,8 @@ returns-then-len-most c =
     let start : List Planned = c.args.batch.now.elements in
     let k : ℕ = length c.loop.batch.elements - length start in
     let n : k ≡ min (c.args.most - length start) (length victims) = omega
-        (arith, c.loop.invariant.most, c.loop.invariant.least, c.if-len-most.true, c.len.ensures) in
-    record { put = c.loop.invariant.put ∙ ap (λ (n : ℕ). start
-        ++ map (taken_at c.args.entries.now c.args.missing.now victims (length start)) (range_with_len 0 n)) n }
+    (arith, c.loop.invariant.most, c.loop.invariant.least, c.if-len-most.true, c.len.ensures) in
+    record {
+      put = c.loop.invariant.put ∙ ap (λ (n : ℕ). start
+          ++ map (taken_at c.args.entries.now c.args.missing.now victims (length start)) (range_with_len 0 n)) n;
+    }

@@ -12,5 +12,5 @@ one_way lx ly px py ix iy h k = grind (arith, nat_tests)
 pub returns : goal.returns
 returns c s pixels a b ha hb =
     ordered_are_one (λ x y. is_before s x y ≡ true) (λ x y. one_way (level_of s x.page) (level_of s y.page) x.pixels y.pixels x.page y.page) a b
-        ha.ordered hb.ordered
+    ha.ordered hb.ordered
     (λ w there. (hb.exact w).1 ((ha.exact w).0 there)) (λ w there. (ha.exact w).1 ((hb.exact w).0 there))

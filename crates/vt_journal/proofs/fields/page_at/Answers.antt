@@ -24,5 +24,5 @@ pub returns-then-not-is_page : goal.returns-then-not-is_page
 returns-then-not-is_page c = λ page at.
     let s = c.args.geometry.now in
     let e = name_read s c.args.line.now c.args.i page c.in_ok-level.level c.in_ok-col.col c.in_ok-row.row at c.in_ok-level.ensures.1
-        c.in_ok-col.ensures.1 c.in_ok-row.ensures.1 in
+    c.in_ok-col.ensures.1 c.in_ok-row.ensures.1 in
     c.if-not-is_page.ensures (subst (IsPage s) e (name_is_page s page c.levels.ensures.limits at.inside))

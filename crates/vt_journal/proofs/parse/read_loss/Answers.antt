@@ -13,8 +13,13 @@ loss_read : (s : Shape) (line : List ℕ) (found : Option ℕ) → slice_get (fi
     → MatchOption found ((page : ℕ) → ¬ StandsAt s line 1 page) (StandsAt s line 1)
     → MatchOption found ((page : ℕ) → page < pages_of s → fields_of line ≢ loss_fields s page) (λ page. (page < pages_of s)
     × (fields_of line ≡ loss_fields s page))
-loss_read s line None word end h = λ page inside e. h page (record { inside = inside; level = ap (λ xs. slice_get xs 1) e; col = ap
-    (λ xs. slice_get xs 2) e; row = ap (λ xs. slice_get xs 3) e })
+loss_read s line None word end h = λ page inside e. h page (record {
+  inside = inside;
+  level = ap (λ xs. slice_get xs 1) e;
+  col = ap
+      (λ xs. slice_get xs 2) e;
+  row = ap (λ xs. slice_get xs 3) e;
+})
 loss_read s line (Some page) word end h = (
   h.inside,
   list_of_four (fields_of line) (codes "lost") (number_spelling (name_at s page).level) (number_spelling (name_at s page).col)

@@ -17,8 +17,11 @@ returns-in_err-read c =
     let r : Reading = after_all (head_reading c.args.kept.now.changes) lines in
     let count : c.len-in-passes.result ≡ length c.passes.passes.items = omega (arith, c.len-in-passes.ensures, c.passes.passes.ok.0) in
     let between = subst (λ n. IsBetween src.geometry.now src.height c.passes.kept.changes n c.passes.picture r) (sym count) so_far.between in
-    search (rules, refused_later src.geometry.now src.height src.text.now (head_reading c.args.kept.now.changes) c.args.cursor.at c.args.cursor.number
-        lines c.passes.place.at c.passes.place.number c.in_err-read.field-0.0 so_far.advances (c.in_err-read.ensures.read r between))
+    search (
+      rules,
+      refused_later src.geometry.now src.height src.text.now (head_reading c.args.kept.now.changes) c.args.cursor.at c.args.cursor.number
+          lines c.passes.place.at c.passes.place.number c.in_err-read.field-0.0 so_far.advances (c.in_err-read.ensures.read r between),
+    )
 
 pub passes-preserved : goal.passes-preserved
 passes-preserved c =
@@ -31,7 +34,7 @@ passes-preserved c =
     let added : c.add_pass.new.passes.items ≡ before ++ pass ∷ [] = c.in_ok-add_pass.ensures in
     let read = λ (r : Reading) (between : IsBetween s src.height c.passes.kept.changes (length before) c.passes.picture r).
     subst (λ n. IsPassRead s src.height src.text.now r c.passes.kept.changes c.read_pass.new.kept.changes n pass c.passes.place.at
-        c.passes.place.number c.in_ok-read.read.next.at c.in_ok-read.read.next.number) count
+    c.passes.place.number c.in_ok-read.read.next.at c.in_ok-read.read.next.number) count
     (c.in_ok-read.ensures.read r (subst (λ n. IsBetween s src.height c.passes.kept.changes n c.passes.picture r) (sym count) between)) in
     let one = read (after_all (head_reading c.args.kept.now.changes) (flat_map pass_lines (map pass_of before))) so_far.between in
     let longer = ap (λ ps. length {A = PassText} ps) added ∙ length-append before (pass ∷ []) in
@@ -41,8 +44,8 @@ passes-preserved c =
       read = subst (λ (ps : List PassText). ArePassesRead s src.height src.text.now c.args.kept.now.changes c.read_pass.new.kept.changes ps
           pass.picture c.args.cursor.at c.args.cursor.number c.in_ok-read.read.next.at c.in_ok-read.read.next.number) (sym added)
           (passes_more s src.height src.text.now c.args.kept.now.changes c.passes.kept.changes c.read_pass.new.kept.changes before pass
-              c.passes.picture c.args.cursor.at c.args.cursor.number c.passes.place.at c.passes.place.number
+          c.passes.picture c.args.cursor.at c.args.cursor.number c.passes.place.at c.passes.place.number
           c.in_ok-read.read.next.at c.in_ok-read.read.next.number so_far read
-              (omega (arith, c.if-len-ge-MOST_PASSES.false, c.len.ensures, c.passes.passes.ok.0)));
+          (omega (arith, c.if-len-ge-MOST_PASSES.false, c.len.ensures, c.passes.passes.ok.0)));
       quiet = λ flat some. one.no_event flat;
     }

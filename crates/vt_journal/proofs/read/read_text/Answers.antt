@@ -13,7 +13,7 @@ read_passes-requires-clause-head c =
     let h = c.in_ok-head.head in
     let limits : IsSource s c.args.height = record { limits = c.page_count-pages.ensures.limits; short = c.ranges.height.fits } in
     head_whole s c.args.height c.args.text.now limits c.read_head.new.kept.changes h.pinned h.pinned h.next.at h.next.number c.in_ok-head.ensures.1
-        c.read_head.new.kept.pages
+    c.read_head.new.kept.pages
     (c.in_ok-head.ensures.0 ∙ c.in_ok-kept.ensures.1 ∙ c.page_count-pages.ensures.pages) refl
 
 pub returns-in_err-passes-clause-read : goal.returns-in_err-passes-clause-read
@@ -21,8 +21,11 @@ returns-in_err-passes-clause-read c =
     let s = c.args.geometry.now in
     let h = c.in_ok-head.head in
     let limits : IsSource s c.args.height = record { limits = c.page_count-pages.ensures.limits; short = c.ranges.height.fits } in
-    search (rules, head_refused s c.args.height c.args.text.now limits c.read_head.new.kept.changes h.pinned h.pinned h.next.at h.next.number
-        c.in_ok-head.ensures.1 c.in_err-passes.field-0.0 c.in_err-passes.ensures)
+    search (
+      rules,
+      head_refused s c.args.height c.args.text.now limits c.read_head.new.kept.changes h.pinned h.pinned h.next.at h.next.number
+          c.in_ok-head.ensures.1 c.in_err-passes.field-0.0 c.in_err-passes.ensures,
+    )
 
 pub returns-clause-read : goal.returns-clause-read
 returns-clause-read c =
@@ -33,4 +36,4 @@ returns-clause-read c =
     let is : c.from_parts.result ≡ made c.read_passes.new.kept.changes = c.from_parts.ensures ∙ ap made c.into_journal.ensures in
     subst (IsJournalText s c.args.height c.args.text.now) (sym is)
     (whole_read s c.args.height c.args.text.now c.read_head.new.kept.changes c.read_passes.new.kept.changes h.pinned h.next.at h.next.number passes
-        c.in_ok-head.ensures.1 c.in_ok-passes.ensures)
+    c.in_ok-head.ensures.1 c.in_ok-passes.ensures)

@@ -12,7 +12,7 @@ use Rattle.vt_journal.proofs.write.write_head.Goals as goal
 pub change-change-requires-clause-inside : goal.change-change-requires-clause-inside
 change-change-requires-clause-inside c =
     let within : c.loop-place.place < length c.args.journal.now.changes = slice_get_within c.args.journal.now.changes c.loop-place.place _
-        (c.requires.first c.loop-place.place c.loop-place-test.true) in
+    (c.requires.first c.loop-place.place c.loop-place-test.true) in
     omega (arith, within, c.from-version.ensures)
 
 -- the change of a pinned page
@@ -37,5 +37,5 @@ head_after s js before after pinned place version change pin within same is was 
 pub loop-place-preserved : goal.loop-place-preserved
 loop-place-preserved c =
     head_after c.args.geometry.now c.args.journal.now.changes c.loop-place.text.items c.add_line.new.text.items c.args.pinned c.loop-place.place
-        c.from-version.result c.change-change.result
+    c.from-version.result c.change-change.result
     c.requires c.loop-place-test.true c.from-version.ensures c.change-change.ensures c.loop-place.invariant c.in_ok-add_line.ensures.whole

@@ -69,8 +69,16 @@ level_row-requires g t c =
     c.side_at-height.result c.texel_length.result (length c.args.room.now) c.header-texture.ensures.value (omega arith)
     c.depth-depth.ensures.value c.texel_length.ensures.value c.side_at-width.ensures.value c.side_at-height.ensures.value
     c.side_at-height.ensures.few c.header-texture.ensures.limits c.requires.room c.requires.row in
-    λ κs lives. (omega arith, (search rules, (c.requires.checked,
-        (b.upper.inside, (omega (arith, b.upper.fewer), (omega (arith, b.room), omega (arith, b.size)))))))
+    λ κs lives. (
+      omega arith,
+      (
+        search rules,
+        (
+          c.requires.checked,
+          (b.upper.inside, (omega (arith, b.upper.fewer), (omega (arith, b.room), omega (arith, b.size)))),
+        ),
+      ),
+    )
 
 pub returns-in_err-level_row-clause-tried : goal.returns-in_err-level_row-clause-tried
 returns-in_err-level_row-clause-tried g t c =
@@ -158,7 +166,7 @@ level_row-requires-2 g t c =
               second_spare c.args.reader.now.header c.level_row.new.reader.header (c.args.level - 1) c.args.level c.args.y
                   (g.F.File.asked c.args.reader.now.file)
                   (g.F.File.asked c.level_row.new.reader.file) (g.F.File.asked c.level_row.new.reader.file) b.level_is c.requires.row
-                      (omega (arith, b.rows, b.inside)) c.level_row.ensures.header
+                  (omega (arith, b.rows, b.inside)) c.level_row.ensures.header
                   c.in_ok-level_row.ensures.read
                   (g.F.File.spare c.args.reader.now.file) (g.F.File.spare c.level_row.new.reader.file) c.requires.spare c.level_row.ensures.spare,
               (subst Room same (omega (arith, b.room)), subst Size same (omega (arith, b.size))),
@@ -175,7 +183,7 @@ returns-in_err-level_row-2-clause-tried g t c =
     c.depth-depth.ensures.value c.texel_length.ensures.value c.side_at-width.ensures.value c.side_at-height.ensures.value
     c.side_at-height.ensures.few c.header-texture.ensures.limits c.requires.room c.requires.row in
     OnErr-all _ _ (second_failed c.args.reader.now.header c.level_row.new.reader.header (c.args.level - 1) c.args.level c.args.y
-        (g.F.File.asked c.args.reader.now.file)
+    (g.F.File.asked c.args.reader.now.file)
     (g.F.File.asked c.level_row.new.reader.file)
     (g.F.File.asked c.level_row-2.new.reader.file) b.level_is c.requires.row (omega (arith, b.rows, b.inside)) c.level_row.ensures.header
     c.in_ok-level_row.ensures.read

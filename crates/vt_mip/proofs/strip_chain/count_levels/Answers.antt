@@ -6,16 +6,25 @@ use Rattle.vt_mip.proofs.StripRoom.{needs_more, needs_few, levels_are}
 use Rattle.vt_mip.proofs.strip_chain.count_levels.Goals as goal
 
 pub overflow_add-level : goal.overflow_add-level
-overflow_add-level c = omega (arith, needs_few c.args.width c.args.height c.args.tile c.loop-columns.level (grind arith) (omega arith) (omega arith)
-    c.loop-columns.invariant.needed)
+overflow_add-level c = omega (
+  arith,
+  needs_few c.args.width c.args.height c.args.tile c.loop-columns.level (grind arith) (omega arith) (omega arith)
+      c.loop-columns.invariant.needed,
+)
 
 pub overflow_add-result : goal.overflow_add-result
-overflow_add-result c = omega (arith, needs_few c.args.width c.args.height c.args.tile c.loop-columns.level (grind arith) (omega arith) (omega arith)
-    c.loop-columns.invariant.needed)
+overflow_add-result c = omega (
+  arith,
+  needs_few c.args.width c.args.height c.args.tile c.loop-columns.level (grind arith) (omega arith) (omega arith)
+      c.loop-columns.invariant.needed,
+)
 
 pub returns-clause-few : goal.returns-clause-few
-returns-clause-few c = omega (arith, needs_few c.args.width c.args.height c.args.tile c.loop-columns.level (grind arith) (omega arith) (omega arith)
-    c.loop-columns.invariant.needed)
+returns-clause-few c = omega (
+  arith,
+  needs_few c.args.width c.args.height c.args.tile c.loop-columns.level (grind arith) (omega arith) (omega arith)
+      c.loop-columns.invariant.needed,
+)
 
 pub loop-columns-init : goal.loop-columns-init
 loop-columns-init c = record {

@@ -16,6 +16,6 @@ loop-finer-preserved g c = record {
       (c.side_at.ensures.value ∙ ap (λ (h : Header). side h.width c.loop-finer.finer) c.header.ensures.value);
   few = room_few c.loop-finer.room c.texel_length-size.result c.side_at.result c.loop-finer.finer c.loop-finer.invariant.few
       (omega (arith, c.texel_length-size.ensures.few)) (let wide : c.header.result.now.width ≡ c.args.reader.now.header.width = ap
-          (λ (h : Header). h.width) c.header.ensures.value in
+      (λ (h : Header). h.width) c.header.ensures.value in
       omega (arith, c.side_at.ensures.few, c.header.ensures.limits.sides.few_columns, wide));
 }

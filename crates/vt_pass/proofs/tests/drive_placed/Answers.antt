@@ -34,4 +34,4 @@ place-requires-clause-may g c =
     may_first s c.args.geometry.now c.root_page.result c.args.tile.now c.requires.shape c.requires.depth (omega (arith, c.requires.frames)) c.requires.journal
     c.root_page.ensures.inside c.requires.size
     (subst (λ (p : ℕ). IfSome s.setup.bytes (λ b. IsPiece b (tile_start c.args.geometry.now 1 p) c.args.tile.now)) (sym c.root_page.ensures.root)
-        c.requires.tile)
+    c.requires.tile)

@@ -66,4 +66,4 @@ returns-clause-rows g c =
     let h = c.args.header.now in
     front_gains h c.loop-piece.piece (g.F.File.asked c.args.file.now) (g.F.File.asked c.loop-piece.file)
     (omega (arith, c.loop-piece-test.false, c.loop-piece.auto.piece-end, c.pieces_of-piece-end.ensures.value)) (some_rows h c.requires.header)
-        c.loop-piece.invariant.asked
+    c.loop-piece.invariant.asked

@@ -25,7 +25,7 @@ returns-in_err-at-clause-none c =
     c.raster_length-want.result header.sized.header.within c.split_at-2.ensures.back c.if-have-want.false c.split_at-3.ensures.front in
     rw c.from_residual.ensures
     (image_there most_read_side b raster h.raster h.width h.height h.maximum header piece (c.split_at-3.ensures.front_len
-        ∙ c.raster_length-want.ensures) c.in_err-at.ensures.none)
+    ∙ c.raster_length-want.ensures) c.in_err-at.ensures.none)
 
 pub returns-clause-some : goal.returns-clause-some
 returns-clause-some c =

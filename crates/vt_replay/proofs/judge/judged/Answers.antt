@@ -8,7 +8,7 @@ returns-in-Ok-clause-read c =
     let least = limits.least_tile in
     (judged_read c.args.geometry.now c.args.path.now c.args.text.now c.height.result c.pictures.result c.in-Ok.journal c.first_outside-outside.result
     c.accepted.result (omega (arith, least)) c.height.ensures.value c.pictures.ensures.value c.in-Ok.ensures.ok c.first_outside-outside.ensures
-        c.accepted.ensures).read
+    c.accepted.ensures).read
 
 pub returns-in-Ok-clause-line : goal.returns-in-Ok-clause-line
 returns-in-Ok-clause-line c =
@@ -16,7 +16,7 @@ returns-in-Ok-clause-line c =
     let least = limits.least_tile in
     (judged_read c.args.geometry.now c.args.path.now c.args.text.now c.height.result c.pictures.result c.in-Ok.journal c.first_outside-outside.result
     c.accepted.result (omega (arith, least)) c.height.ensures.value c.pictures.ensures.value c.in-Ok.ensures.ok c.first_outside-outside.ensures
-        c.accepted.ensures).line
+    c.accepted.ensures).line
 
 pub returns-in-Ok-clause-refused : goal.returns-in-Ok-clause-refused
 returns-in-Ok-clause-refused c =
@@ -24,7 +24,7 @@ returns-in-Ok-clause-refused c =
     let least = limits.least_tile in
     (judged_read c.args.geometry.now c.args.path.now c.args.text.now c.height.result c.pictures.result c.in-Ok.journal c.first_outside-outside.result
     c.accepted.result (omega (arith, least)) c.height.ensures.value c.pictures.ensures.value c.in-Ok.ensures.ok c.first_outside-outside.ensures
-        c.accepted.ensures).refused
+    c.accepted.ensures).refused
 
 pub returns-in-Err-BadLine-clause-line : goal.returns-in-Err-BadLine-clause-line
 returns-in-Err-BadLine-clause-line c =

@@ -20,57 +20,57 @@ use Rattle.vt_store.proofs.strips.write_strips.Goals as goal
 pub returns-in_err-reserve-clause-front_read : goal.returns-in_err-reserve-clause-front_read
 returns-in_err-reserve-clause-front_read g c =
     OnErr-all _ _ (strips_front c.args.chain.now.header c.args.geometry.now.tile 0 (g.F.File.asked c.args.chain.now.file)
-        (g.F.File.asked c.reserve.new.self.file)
+    (g.F.File.asked c.reserve.new.self.file)
     (omega arith) (no_strips c.args.chain.now.header c.args.geometry.now.tile (g.F.File.asked c.args.chain.now.file)
-        (g.F.File.asked c.reserve.new.self.file) c.reserve.ensures.asked))
+    (g.F.File.asked c.reserve.new.self.file) c.reserve.ensures.asked))
 
 pub returns-in_err-rows_room-clause-front_read : goal.returns-in_err-rows_room-clause-front_read
 returns-in_err-rows_room-clause-front_read g c =
     OnErr-all _ _ (strips_front c.args.chain.now.header c.args.geometry.now.tile 0 (g.F.File.asked c.args.chain.now.file)
-        (g.F.File.asked c.reserve.new.self.file)
+    (g.F.File.asked c.reserve.new.self.file)
     (omega arith) (no_strips c.args.chain.now.header c.args.geometry.now.tile (g.F.File.asked c.args.chain.now.file)
-        (g.F.File.asked c.reserve.new.self.file) c.reserve.ensures.asked))
+    (g.F.File.asked c.reserve.new.self.file) c.reserve.ensures.asked))
 
 pub returns-in_err-tiles_room-clause-front_read : goal.returns-in_err-tiles_room-clause-front_read
 returns-in_err-tiles_room-clause-front_read g c =
     OnErr-all _ _ (strips_front c.args.chain.now.header c.args.geometry.now.tile 0 (g.F.File.asked c.args.chain.now.file)
-        (g.F.File.asked c.reserve.new.self.file)
+    (g.F.File.asked c.reserve.new.self.file)
     (omega arith) (no_strips c.args.chain.now.header c.args.geometry.now.tile (g.F.File.asked c.args.chain.now.file)
-        (g.F.File.asked c.reserve.new.self.file) c.reserve.ensures.asked))
+    (g.F.File.asked c.reserve.new.self.file) c.reserve.ensures.asked))
 
 pub returns-in_err-half-clause-front_read : goal.returns-in_err-half-clause-front_read
 returns-in_err-half-clause-front_read g c =
     OnErr-all _ _ (strips_front c.args.chain.now.header c.args.geometry.now.tile 0 (g.F.File.asked c.args.chain.now.file)
-        (g.F.File.asked c.reserve.new.self.file)
+    (g.F.File.asked c.reserve.new.self.file)
     (omega arith) (no_strips c.args.chain.now.header c.args.geometry.now.tile (g.F.File.asked c.args.chain.now.file)
-        (g.F.File.asked c.reserve.new.self.file) c.reserve.ensures.asked))
+    (g.F.File.asked c.reserve.new.self.file) c.reserve.ensures.asked))
 
 pub returns-in_err-begin_store-clause-front_read : goal.returns-in_err-begin_store-clause-front_read
 returns-in_err-begin_store-clause-front_read g c =
     OnErr-all _ _ (strips_front c.args.chain.now.header c.args.geometry.now.tile 0 (g.F.File.asked c.args.chain.now.file)
-        (g.F.File.asked c.reserve.new.self.file)
+    (g.F.File.asked c.reserve.new.self.file)
     (omega arith) (no_strips c.args.chain.now.header c.args.geometry.now.tile (g.F.File.asked c.args.chain.now.file)
-        (g.F.File.asked c.reserve.new.self.file) c.reserve.ensures.asked))
+    (g.F.File.asked c.reserve.new.self.file) c.reserve.ensures.asked))
 
 pub returns-in_err-begin_store-clause-part : goal.returns-in_err-begin_store-clause-part
 returns-in_err-begin_store-clause-part g c =
     OnErr-all _ _ (header_seen (g.F.File.bytes c.args.chain.now.file) c.args.chain.now c.args.geometry.now c.args.name.now
     (g.D.Folder.files c.args.folder.now) (g.D.Folder.files c.begin_store.new.folder) c.requires
     (made_header (g.F.File.bytes c.args.chain.now.file) c.args.geometry.now c.args.chain.now.header c.depth-depth.result c.args.name.now
-        (g.D.Folder.files c.args.folder.now)
+    (g.D.Folder.files c.args.folder.now)
     (g.D.Folder.files c.begin_store.new.folder) c.depth-depth.ensures.value c.in_err-begin_store.ensures.part))
 
 pub loop-strip-init : goal.loop-strip-init
 loop-strip-init g c =
     let are = are_strips c.args.geometry.now c.args.chain.now ((c.height-height.result + c.tile-side.result - 1) / c.tile-side.result)
-        c.height-height.result c.tile-side.result
+    c.height-height.result c.tile-side.result
     c.requires c.height-height.ensures.height c.tile-side.ensures.tile refl in
     record {
       held = made_moved (g.F.File.bytes c.args.chain.now.file) c.args.geometry.now c.args.chain.now.header c.args.name.now
           (g.D.Folder.files c.args.folder.now) (g.D.Folder.files c.begin_store.new.folder) 0
           (0 * columns_at c.args.geometry.now 0) (omega arith)
           (made_begun (g.F.File.bytes c.args.chain.now.file) c.args.geometry.now c.args.chain.now.header c.depth-depth.result c.args.name.now
-              (g.D.Folder.files c.args.folder.now)
+          (g.D.Folder.files c.args.folder.now)
           (g.D.Folder.files c.begin_store.new.folder) c.depth-depth.ensures.value c.in_ok-begin_store.ensures.whole);
       read = no_strips c.args.chain.now.header c.args.geometry.now.tile (g.F.File.asked c.args.chain.now.file)
           (g.F.File.asked c.reserve.new.self.file) c.reserve.ensures.asked;
@@ -114,14 +114,14 @@ slice_bounds-some_rows-end-in-loop-strip g c =
 pub write_strip-requires-clause-strip : goal.write_strip-requires-clause-strip
 write_strip-requires-clause-strip g c κs within =
     let are = are_strips c.args.geometry.now c.args.chain.now ((c.height-height.result + c.tile-side.result - 1) / c.tile-side.result)
-        c.height-height.result c.tile-side.result
+    c.height-height.result c.tile-side.result
     c.requires c.height-height.ensures.height c.tile-side.ensures.tile refl in
     omega (arith, are.rows)
 
 pub write_strip-requires-clause-rows : goal.write_strip-requires-clause-rows
 write_strip-requires-clause-rows g c κs within =
     let are = are_strips c.args.geometry.now c.args.chain.now ((c.height-height.result + c.tile-side.result - 1) / c.tile-side.result)
-        c.height-height.result c.tile-side.result
+    c.height-height.result c.tile-side.result
     c.requires c.height-height.ensures.height c.tile-side.ensures.tile refl in
     let room = strip_room c.min-count.result c.tile-side.result c.texel_length.result c.width-width.result (length c.loop-strip.rows)
     (omega (arith, c.min-count.ensures)) (c.loop-strip.auto.rows ∙ c.as_mut_slice-rows.ensures.len ∙ c.in_ok-rows_room.ensures) in
@@ -133,16 +133,16 @@ write_strip-requires-clause-rows g c κs within =
 pub returns-in_err-write_strip-clause-part : goal.returns-in_err-write_strip-clause-part
 returns-in_err-write_strip-clause-part g c =
     let are = are_strips c.args.geometry.now c.args.chain.now ((c.height-height.result + c.tile-side.result - 1) / c.tile-side.result)
-        c.height-height.result c.tile-side.result
+    c.height-height.result c.tile-side.result
     c.requires c.height-height.ensures.height c.tile-side.ensures.tile refl in
     OnErr-all _ _ (inr (front_seen (g.F.File.bytes c.args.chain.now.file) c.args.chain.now c.args.geometry.now c.args.name.now
-        (g.D.Folder.files c.args.folder.now)
+    (g.D.Folder.files c.args.folder.now)
     (g.D.Folder.files c.write_strip.new.folder) c.requires
     (made_part (g.F.File.bytes c.args.chain.now.file) (g.F.File.bytes c.loop-strip.chain.file) c.args.geometry.now c.args.chain.now.header
     c.loop-strip.chain.header c.loop-strip.strip c.args.name.now (g.D.Folder.files c.args.folder.now) (g.D.Folder.files c.loop-strip.folder)
     (g.D.Folder.files c.write_strip.new.folder) c.loop-strip.invariant.bytes c.loop-strip.invariant.header
     (strip_inside c.args.geometry.now c.loop-strip.strip c.tile-side.ensures.limits.some_level (omega (arith, are.rows))) c.loop-strip.invariant.held
-        c.in_err-write_strip.ensures.part)))
+    c.in_err-write_strip.ensures.part)))
 
 pub returns-in_err-write_strip-clause-failed : goal.returns-in_err-write_strip-clause-failed
 returns-in_err-write_strip-clause-failed g c =
@@ -152,24 +152,24 @@ returns-in_err-write_strip-clause-failed g c =
     (c.write_strip.ensures.failed (carried c.write_strip.result c.from_residual-in_err-write_strip.result _ Failed c.in_err-write_strip.was
     c.from_residual-in_err-write_strip.ensures.1 failed)
     (there_made (g.F.File.bytes c.args.chain.now.file) _ c.args.name.now (g.D.Folder.files c.args.folder.now) (g.D.Folder.files c.loop-strip.folder)
-        c.loop-strip.invariant.held))
+    c.loop-strip.invariant.held))
 
 pub returns-in_err-write_strip-clause-front_read : goal.returns-in_err-write_strip-clause-front_read
 returns-in_err-write_strip-clause-front_read g c =
     let are = are_strips c.args.geometry.now c.args.chain.now ((c.height-height.result + c.tile-side.result - 1) / c.tile-side.result)
-        c.height-height.result c.tile-side.result
+    c.height-height.result c.tile-side.result
     c.requires c.height-height.ensures.height c.tile-side.ensures.tile refl in
     OnErr-all _ _ (strip_tried c.args.chain.now.header c.loop-strip.chain.header c.args.geometry.now.tile c.loop-strip.strip
-        (c.loop-strip.strip * c.args.geometry.now.tile)
+    (c.loop-strip.strip * c.args.geometry.now.tile)
     (strip_rows c.loop-strip.chain.header c.args.geometry.now.tile c.loop-strip.strip) (g.F.File.asked c.args.chain.now.file)
     (g.F.File.asked c.loop-strip.chain.file) (g.F.File.asked c.write_strip.new.chain.file)
     (omega (arith, are.all)) c.loop-strip.invariant.read c.loop-strip.invariant.header refl
-        (ap (λ (z : Header). strip_rows z c.args.geometry.now.tile c.loop-strip.strip) c.loop-strip.invariant.header) c.in_err-write_strip.ensures.tried)
+    (ap (λ (z : Header). strip_rows z c.args.geometry.now.tile c.loop-strip.strip) c.loop-strip.invariant.header) c.in_err-write_strip.ensures.tried)
 
 pub loop-strip-preserved : goal.loop-strip-preserved
 loop-strip-preserved g c =
     let are = are_strips c.args.geometry.now c.args.chain.now ((c.height-height.result + c.tile-side.result - 1) / c.tile-side.result)
-        c.height-height.result c.tile-side.result
+    c.height-height.result c.tile-side.result
     c.requires c.height-height.ensures.height c.tile-side.ensures.tile refl in
     let i = c.loop-strip.invariant in
     record {
@@ -182,7 +182,7 @@ loop-strip-preserved g c =
           (strip_rows c.loop-strip.chain.header c.args.geometry.now.tile c.loop-strip.strip) (g.F.File.asked c.args.chain.now.file)
           (g.F.File.asked c.loop-strip.chain.file) (g.F.File.asked c.write_strip.new.chain.file)
           i.read i.header refl (ap (λ (z : Header). strip_rows z c.args.geometry.now.tile c.loop-strip.strip) c.loop-strip.invariant.header)
-              c.in_ok-write_strip.ensures.read;
+          c.in_ok-write_strip.ensures.read;
       spare = omega (arith, c.write_strip.ensures.spare, i.spare);
       bytes = c.write_strip.ensures.bytes ∙ i.bytes;
       called = c.write_strip.ensures.name ∙ i.called;
@@ -208,14 +208,14 @@ loop-strip-preserved g c =
 pub write_coarse-requires-clause-width : goal.write_coarse-requires-clause-width
 write_coarse-requires-clause-width g c κs within =
     let are = are_strips c.args.geometry.now c.args.chain.now ((c.height-height.result + c.tile-side.result - 1) / c.tile-side.result)
-        c.height-height.result c.tile-side.result
+    c.height-height.result c.tile-side.result
     c.requires c.height-height.ensures.height c.tile-side.ensures.tile refl in
     c.finish.ensures.width ∙ ap (λ (n : ℕ). (n + 1) / 2) (c.loop-strip.invariant.width ∙ are.width)
 
 pub write_coarse-requires-clause-height : goal.write_coarse-requires-clause-height
 write_coarse-requires-clause-height g c κs within =
     let are = are_strips c.args.geometry.now c.args.chain.now ((c.height-height.result + c.tile-side.result - 1) / c.tile-side.result)
-        c.height-height.result c.tile-side.result
+    c.height-height.result c.tile-side.result
     c.requires c.height-height.ensures.height c.tile-side.ensures.tile refl in
     c.finish.ensures.height ∙ ap (λ (n : ℕ). (n + 1) / 2) (c.loop-strip.invariant.height ∙ are.height)
 
@@ -228,24 +228,24 @@ write_coarse-requires-clause-room g c κs within =
 pub returns-clause-whole : goal.returns-clause-whole
 returns-clause-whole g c =
     let are = are_strips c.args.geometry.now c.args.chain.now ((c.height-height.result + c.tile-side.result - 1) / c.tile-side.result)
-        c.height-height.result c.tile-side.result
+    c.height-height.result c.tile-side.result
     c.requires c.height-height.ensures.height c.tile-side.ensures.tile refl in
     let p = c.finish.result in
     let first : c.loop-strip.strip * columns_at c.args.geometry.now 0 ≡ pages_below c.args.geometry.now 1 =
     ap (λ (n : ℕ). n * columns_at c.args.geometry.now 0) (let e : c.loop-strip.strip ≡ rows_at c.args.geometry.now 0 = omega (arith, are.rows) in e)
-        ∙ sym (first_pages c.args.geometry.now) in
+    ∙ sym (first_pages c.args.geometry.now) in
     let held = made_moved (g.F.File.bytes c.args.chain.now.file) c.args.geometry.now c.args.chain.now.header c.args.name.now
-        (g.D.Folder.files c.args.folder.now) (g.D.Folder.files c.loop-strip.folder)
+    (g.D.Folder.files c.args.folder.now) (g.D.Folder.files c.loop-strip.folder)
     (c.loop-strip.strip * columns_at c.args.geometry.now 0) (pages_below c.args.geometry.now 1) first c.loop-strip.invariant.held in
     let level = level_made (g.F.File.bytes c.args.chain.now.file) c.args.chain.now.header c.loop-strip.half p c.depth-depth.ensures.texture
-        c.loop-strip.invariant.halves
+    c.loop-strip.invariant.halves
     c.finish.ensures.half c.finish.ensures.lawful in
     let same = λ (b : List ℕ) (e : (g.F.File.bytes c.args.chain.now.file) ≡ Some b). rest_tiles c.args.geometry.now c.args.chain.now.header b p
-        c.tile-side.ensures.limits are.width are.height (level b e) in
+    c.tile-side.ensures.limits are.width are.height (level b e) in
     let inside = first_inside c.args.geometry.now c.tile-side.ensures.limits.some_level in
     on_ok_weaker c.write_coarse.result
     (λ adds. store_seen (g.F.File.bytes c.args.chain.now.file) c.args.chain.now c.args.geometry.now c.args.name.now
-        (g.D.Folder.files c.args.folder.now) (g.D.Folder.files c.write_coarse.new.folder) c.requires
+    (g.D.Folder.files c.args.folder.now) (g.D.Folder.files c.write_coarse.new.folder) c.requires
     (made_whole (g.F.File.bytes c.args.chain.now.file) c.args.geometry.now c.args.chain.now.header p.depth (pages_below c.args.geometry.now 1)
     (level_source (record { base = p; tile = c.args.geometry.now.tile }) 1) c.args.name.now (g.D.Folder.files c.args.folder.now)
     (g.D.Folder.files c.loop-strip.folder) (g.D.Folder.files c.write_coarse.new.folder) inside held adds same)) c.write_coarse.ensures.whole
@@ -253,24 +253,24 @@ returns-clause-whole g c =
 pub returns-clause-part : goal.returns-clause-part
 returns-clause-part g c =
     let are = are_strips c.args.geometry.now c.args.chain.now ((c.height-height.result + c.tile-side.result - 1) / c.tile-side.result)
-        c.height-height.result c.tile-side.result
+    c.height-height.result c.tile-side.result
     c.requires c.height-height.ensures.height c.tile-side.ensures.tile refl in
     let p = c.finish.result in
     let first : c.loop-strip.strip * columns_at c.args.geometry.now 0 ≡ pages_below c.args.geometry.now 1 =
     ap (λ (n : ℕ). n * columns_at c.args.geometry.now 0) (let e : c.loop-strip.strip ≡ rows_at c.args.geometry.now 0 = omega (arith, are.rows) in e)
-        ∙ sym (first_pages c.args.geometry.now) in
+    ∙ sym (first_pages c.args.geometry.now) in
     let held = made_moved (g.F.File.bytes c.args.chain.now.file) c.args.geometry.now c.args.chain.now.header c.args.name.now
-        (g.D.Folder.files c.args.folder.now) (g.D.Folder.files c.loop-strip.folder)
+    (g.D.Folder.files c.args.folder.now) (g.D.Folder.files c.loop-strip.folder)
     (c.loop-strip.strip * columns_at c.args.geometry.now 0) (pages_below c.args.geometry.now 1) first c.loop-strip.invariant.held in
     let level = level_made (g.F.File.bytes c.args.chain.now.file) c.args.chain.now.header c.loop-strip.half p c.depth-depth.ensures.texture
-        c.loop-strip.invariant.halves
+    c.loop-strip.invariant.halves
     c.finish.ensures.half c.finish.ensures.lawful in
     let same = λ (b : List ℕ) (e : (g.F.File.bytes c.args.chain.now.file) ≡ Some b). rest_tiles c.args.geometry.now c.args.chain.now.header b p
-        c.tile-side.ensures.limits are.width are.height (level b e) in
+    c.tile-side.ensures.limits are.width are.height (level b e) in
     let inside = first_inside c.args.geometry.now c.tile-side.ensures.limits.some_level in
     on_err_weaker c.write_coarse.result
     (λ adds. inr (front_seen (g.F.File.bytes c.args.chain.now.file) c.args.chain.now c.args.geometry.now c.args.name.now
-        (g.D.Folder.files c.args.folder.now) (g.D.Folder.files c.write_coarse.new.folder) c.requires
+    (g.D.Folder.files c.args.folder.now) (g.D.Folder.files c.write_coarse.new.folder) c.requires
     (made_rest_part (g.F.File.bytes c.args.chain.now.file) c.args.geometry.now c.args.chain.now.header p.depth (pages_below c.args.geometry.now 1)
     (level_source (record { base = p; tile = c.args.geometry.now.tile }) 1) c.args.name.now (g.D.Folder.files c.args.folder.now)
     (g.D.Folder.files c.loop-strip.folder) (g.D.Folder.files c.write_coarse.new.folder) inside held same adds))) c.write_coarse.ensures.part

@@ -45,7 +45,7 @@ slice_bounds-result-end c =
       arith,
       rows_cut v s c.args.skipped (name.level - c.args.skipped) c.args.page z w c.tile-side.result c.size_inside-inside.result.1
           (z * w * (name.row * c.tile-side.result)) (z * w * c.size_inside-inside.result.1) name c.samples.result.now at c.page_at-name.ensures.name
-              c.page_at-name.ensures.in_chain
+          c.page_at-name.ensures.in_chain
           c.tile-side.ensures.limits c.samples.ensures (c.texel_length.ensures.value ∙ ap texel_length c.depth.ensures.value)
           c.size-width.ensures.width c.tile-side.ensures.tile c.size_inside-inside.ensures.rows refl refl,
     )
@@ -61,6 +61,6 @@ returns-clause-rows c =
     c.page_at-name.ensures.in_chain c.requires.level refl in
     rows_are v s c.args.skipped (name.level - c.args.skipped) c.args.page z w c.tile-side.result c.size_inside-inside.result.1
     (z * w * (name.row * c.tile-side.result)) (z * w * (name.row * c.tile-side.result) + z * w * c.size_inside-inside.result.1 - z * w *
-        (name.row * c.tile-side.result)) name c.samples.result.now at c.page_at-name.ensures.name c.page_at-name.ensures.in_chain
+    (name.row * c.tile-side.result)) name c.samples.result.now at c.page_at-name.ensures.name c.page_at-name.ensures.in_chain
     c.tile-side.ensures.limits c.samples.ensures (c.texel_length.ensures.value ∙ ap texel_length c.depth.ensures.value)
     c.size-width.ensures.width c.tile-side.ensures.tile c.size_inside-inside.ensures.rows refl (omega arith)

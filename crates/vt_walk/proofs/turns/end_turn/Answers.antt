@@ -21,11 +21,11 @@ returns-then-not-is_finished-clause-ended g c = λ b at. same_picture g.M.PassMa
     g.M.PassMachine.whole (IsDrawnBySome g.M.PassMachine.drawn) g.met.M.PassMachine.shows_whole (tour_scene c.args.tour.now) c.args.tour.now.settings
     c.args.tour.now.mode b.told (names_of c.args.tour.now.names)
     c.args.number c.args.passed b.first (g.M.PassMachine.state c.args.machine.now) c.args.recency.now
-        (walk_state g.D.Folder c.args.tour.now.names.store.now c.args.folder.now (b.kept ∷ (g.M.PassMachine.state c.args.machine.now).files)
-        (g.O.Sink.held c.args.out.now) (g.O.Sink.faults c.args.out.now))
+    (walk_state g.D.Folder c.args.tour.now.names.store.now c.args.folder.now (b.kept ∷ (g.M.PassMachine.state c.args.machine.now).files)
+    (g.O.Sink.held c.args.out.now) (g.O.Sink.faults c.args.out.now))
     at c.requires.goes_on.none_lost (room c.args.tour.now c.args.passed c.requires.tour c.requires.goes_on)
-        (subst (λ (b : Bool). MatchBool b (IsEnd c.args.tour.now.mode c.args.passed.loads_nothing c.args.passed.outlook.plan.elements)
-        (IsEnd c.args.tour.now.mode c.args.passed.loads_nothing c.args.passed.outlook.plan.elements → ⊥)) c.if-not-is_finished.true c.is_finished.ensures)
+    (subst (λ (b : Bool). MatchBool b (IsEnd c.args.tour.now.mode c.args.passed.loads_nothing c.args.passed.outlook.plan.elements)
+    (IsEnd c.args.tour.now.mode c.args.passed.loads_nothing c.args.passed.outlook.plan.elements → ⊥)) c.if-not-is_finished.true c.is_finished.ensures)
 
 pub write_picture-requires-clause-few : goal.write_picture-requires-clause-few
 write_picture-requires-clause-few g c κs within =
@@ -36,53 +36,53 @@ write_picture-requires-clause-count g c κs within = rows_count g.M.PassMachine.
     (IsDrawnBySome g.M.PassMachine.drawn) g.met.M.PassMachine.shows_whole (tour_scene c.args.tour.now) c.args.tour.now.settings c.args.tour.now.mode
     c.requires.stands.0.told (names_of c.args.tour.now.names)
     c.args.number c.args.passed c.requires.stands.0.first (g.M.PassMachine.state c.args.machine.now) c.args.recency.now
-        (walk_state g.D.Folder c.args.tour.now.names.store.now c.args.folder.now
-        (c.requires.stands.0.kept ∷ (g.M.PassMachine.state c.args.machine.now).files) (g.O.Sink.held c.args.out.now) (g.O.Sink.faults c.args.out.now))
-        c.requires.stands.1
+    (walk_state g.D.Folder c.args.tour.now.names.store.now c.args.folder.now
+    (c.requires.stands.0.kept ∷ (g.M.PassMachine.state c.args.machine.now).files) (g.O.Sink.held c.args.out.now) (g.O.Sink.faults c.args.out.now))
+    c.requires.stands.1
 
 pub write_picture-requires-clause-full : goal.write_picture-requires-clause-full
 write_picture-requires-clause-full g c κs within = rows_full g.M.PassMachine.DEALT g.M.PassMachine.needs g.M.PassMachine.shows g.M.PassMachine.whole
     (IsDrawnBySome g.M.PassMachine.drawn) g.met.M.PassMachine.shows_whole (tour_scene c.args.tour.now) c.args.tour.now.settings c.args.tour.now.mode
     c.requires.stands.0.told (names_of c.args.tour.now.names)
     c.args.number c.args.passed c.requires.stands.0.first (g.M.PassMachine.state c.args.machine.now) c.args.recency.now
-        (walk_state g.D.Folder c.args.tour.now.names.store.now c.args.folder.now
-        (c.requires.stands.0.kept ∷ (g.M.PassMachine.state c.args.machine.now).files) (g.O.Sink.held c.args.out.now) (g.O.Sink.faults c.args.out.now))
-        c.requires.stands.1
+    (walk_state g.D.Folder c.args.tour.now.names.store.now c.args.folder.now
+    (c.requires.stands.0.kept ∷ (g.M.PassMachine.state c.args.machine.now).files) (g.O.Sink.held c.args.out.now) (g.O.Sink.faults c.args.out.now))
+    c.requires.stands.1
 
 pub returns-in_err-write_picture-clause-ended : goal.returns-in_err-write_picture-clause-ended
 returns-in_err-write_picture-clause-ended g c =
     let p = err_from_is_err_and c.from_residual.result c.from_residual.ensures.1 in
     λ b at. rw p.1 (picture_broke g.M.PassMachine.DEALT g.M.PassMachine.needs g.M.PassMachine.shows g.M.PassMachine.whole
-        (IsDrawnBySome g.M.PassMachine.drawn) g.met.M.PassMachine.shows_whole (tour_scene c.args.tour.now) c.args.tour.now.settings
-        c.args.tour.now.mode b.told (names_of c.args.tour.now.names)
+    (IsDrawnBySome g.M.PassMachine.drawn) g.met.M.PassMachine.shows_whole (tour_scene c.args.tour.now) c.args.tour.now.settings
+    c.args.tour.now.mode b.told (names_of c.args.tour.now.names)
     c.args.number c.args.passed b.first (g.M.PassMachine.state c.args.machine.now) c.args.recency.now c.args.tour.now.names.store.now b.kept
-        (g.D.Folder.files c.args.folder.now) (g.D.Folder.files c.write_picture.new.folder)
+    (g.D.Folder.files c.args.folder.now) (g.D.Folder.files c.write_picture.new.folder)
     (g.D.Folder.asked c.args.folder.now) (g.D.Folder.asked c.write_picture.new.folder) (g.D.Folder.faults c.args.folder.now)
-        (g.D.Folder.faults c.write_picture.new.folder)
+    (g.D.Folder.faults c.write_picture.new.folder)
     (g.O.Sink.held c.args.out.now) (g.O.Sink.held c.args.out.now) (g.O.Sink.faults c.args.out.now) (g.O.Sink.faults c.args.out.now)
     _ p.0 at c.requires.goes_on.none_lost (room c.args.tour.now c.args.passed c.requires.tour c.requires.goes_on)
-        (subst (λ (b : Bool). MatchBool b (IsEnd c.args.tour.now.mode c.args.passed.loads_nothing c.args.passed.outlook.plan.elements)
-        (IsEnd c.args.tour.now.mode c.args.passed.loads_nothing c.args.passed.outlook.plan.elements
-        → ⊥)) c.if-not-is_finished.false c.is_finished.ensures) c.in_err-write_picture.ensures.part refl c.in_err-write_picture.ensures.asked
-        c.in_err-write_picture.ensures.faults (omega arith)
+    (subst (λ (b : Bool). MatchBool b (IsEnd c.args.tour.now.mode c.args.passed.loads_nothing c.args.passed.outlook.plan.elements)
+    (IsEnd c.args.tour.now.mode c.args.passed.loads_nothing c.args.passed.outlook.plan.elements
+    → ⊥)) c.if-not-is_finished.false c.is_finished.ensures) c.in_err-write_picture.ensures.part refl c.in_err-write_picture.ensures.asked
+    c.in_err-write_picture.ensures.faults (omega arith)
     (λ is. c.in_err-write_picture.ensures.failed (ap Err is)) p.2)
 
 pub returns-in_err-put_picture_line-clause-ended : goal.returns-in_err-put_picture_line-clause-ended
 returns-in_err-put_picture_line-clause-ended g c =
     let p = err_from_is_err_and c.from_residual-in_err-put_picture_line.result c.from_residual-in_err-put_picture_line.ensures.1 in
     λ b at. rw p.1 (line_broke g.M.PassMachine.DEALT g.M.PassMachine.needs g.M.PassMachine.shows g.M.PassMachine.whole
-        (IsDrawnBySome g.M.PassMachine.drawn) g.met.M.PassMachine.shows_whole (tour_scene c.args.tour.now) c.args.tour.now.settings
-        c.args.tour.now.mode b.told (names_of c.args.tour.now.names)
+    (IsDrawnBySome g.M.PassMachine.drawn) g.met.M.PassMachine.shows_whole (tour_scene c.args.tour.now) c.args.tour.now.settings
+    c.args.tour.now.mode b.told (names_of c.args.tour.now.names)
     c.args.number c.args.passed b.first (g.M.PassMachine.state c.args.machine.now) c.args.recency.now c.args.tour.now.names.store.now b.kept
-        (g.D.Folder.files c.args.folder.now) (g.D.Folder.files c.write_picture.new.folder)
+    (g.D.Folder.files c.args.folder.now) (g.D.Folder.files c.write_picture.new.folder)
     (g.D.Folder.asked c.args.folder.now) (g.D.Folder.asked c.write_picture.new.folder) (g.D.Folder.faults c.args.folder.now)
-        (g.D.Folder.faults c.write_picture.new.folder)
+    (g.D.Folder.faults c.write_picture.new.folder)
     (g.O.Sink.held c.args.out.now) (g.O.Sink.held c.put_picture_line.new.out) (g.O.Sink.faults c.args.out.now) (g.O.Sink.faults c.put_picture_line.new.out)
     _ p.0 at c.requires.goes_on.none_lost (room c.args.tour.now c.args.passed c.requires.tour c.requires.goes_on)
-        (subst (λ (b : Bool). MatchBool b (IsEnd c.args.tour.now.mode c.args.passed.loads_nothing c.args.passed.outlook.plan.elements)
-        (IsEnd c.args.tour.now.mode c.args.passed.loads_nothing c.args.passed.outlook.plan.elements
-        → ⊥)) c.if-not-is_finished.false c.is_finished.ensures) c.in_ok-write_picture.ensures.whole c.in_err-put_picture_line.ensures.part
-        c.in_ok-write_picture.ensures.asked c.in_ok-write_picture.ensures.faults
+    (subst (λ (b : Bool). MatchBool b (IsEnd c.args.tour.now.mode c.args.passed.loads_nothing c.args.passed.outlook.plan.elements)
+    (IsEnd c.args.tour.now.mode c.args.passed.loads_nothing c.args.passed.outlook.plan.elements
+    → ⊥)) c.if-not-is_finished.false c.is_finished.ensures) c.in_ok-write_picture.ensures.whole c.in_err-put_picture_line.ensures.part
+    c.in_ok-write_picture.ensures.asked c.in_ok-write_picture.ensures.faults
     c.in_err-put_picture_line.ensures.faults (λ is. c.in_err-put_picture_line.ensures.failed (ap Err is)) p.2)
 
 pub overflow_add-result : goal.overflow_add-result
@@ -94,13 +94,13 @@ returns-clause-ended g c = λ b at. next_picture g.M.PassMachine.DEALT g.M.PassM
     (IsDrawnBySome g.M.PassMachine.drawn) g.met.M.PassMachine.shows_whole (tour_scene c.args.tour.now) c.args.tour.now.settings c.args.tour.now.mode
     b.told (names_of c.args.tour.now.names)
     c.args.number c.args.passed b.first (g.M.PassMachine.state c.args.machine.now) c.args.recency.now c.args.tour.now.names.store.now b.kept
-        (g.D.Folder.files c.args.folder.now) (g.D.Folder.files c.write_picture.new.folder)
+    (g.D.Folder.files c.args.folder.now) (g.D.Folder.files c.write_picture.new.folder)
     (g.D.Folder.asked c.args.folder.now) (g.D.Folder.asked c.write_picture.new.folder) (g.D.Folder.faults c.args.folder.now)
-        (g.D.Folder.faults c.write_picture.new.folder)
+    (g.D.Folder.faults c.write_picture.new.folder)
     (g.O.Sink.held c.args.out.now) (g.O.Sink.held c.put_picture_line.new.out) (g.O.Sink.faults c.args.out.now) (g.O.Sink.faults c.put_picture_line.new.out)
     at c.requires.goes_on.none_lost (room c.args.tour.now c.args.passed c.requires.tour c.requires.goes_on)
-        (subst (λ (b : Bool). MatchBool b (IsEnd c.args.tour.now.mode c.args.passed.loads_nothing c.args.passed.outlook.plan.elements)
-        (IsEnd c.args.tour.now.mode c.args.passed.loads_nothing c.args.passed.outlook.plan.elements
-        → ⊥)) c.if-not-is_finished.false c.is_finished.ensures) c.in_ok-write_picture.ensures.whole c.in_ok-put_picture_line.ensures.whole
-        c.in_ok-write_picture.ensures.asked c.in_ok-write_picture.ensures.faults
+    (subst (λ (b : Bool). MatchBool b (IsEnd c.args.tour.now.mode c.args.passed.loads_nothing c.args.passed.outlook.plan.elements)
+    (IsEnd c.args.tour.now.mode c.args.passed.loads_nothing c.args.passed.outlook.plan.elements
+    → ⊥)) c.if-not-is_finished.false c.is_finished.ensures) c.in_ok-write_picture.ensures.whole c.in_ok-put_picture_line.ensures.whole
+    c.in_ok-write_picture.ensures.asked c.in_ok-write_picture.ensures.faults
     c.in_ok-put_picture_line.ensures.faults c.new.result c.new.ensures

@@ -8,37 +8,48 @@ use Rattle.vt_walk.proofs.Ending.{stopped}
 use Rattle.vt_walk.proofs.turns.take_turn.Goals as goal
 
 pub make_pass-requires-clause-stands : goal.make_pass-requires-clause-stands
-make_pass-requires-clause-stands g c κs within = ((record { start = c.requires.stands.0; held = g.O.Sink.held c.args.out.now;
-    out_faults = g.O.Sink.faults c.args.out.now }), c.requires.stands.1)
+make_pass-requires-clause-stands g c κs within = (
+  (record {
+    start = c.requires.stands.0;
+    held = g.O.Sink.held c.args.out.now;
+    out_faults = g.O.Sink.faults c.args.out.now;
+  }),
+  c.requires.stands.1,
+)
 
 pub returns-in_err-passed-clause-taken : goal.returns-in_err-passed-clause-taken
 returns-in_err-passed-clause-taken g c =
     let p = err_from_is_err_and c.from_residual.result c.from_residual.ensures.1 in
     λ b at. rw p.1 (subst (LeftBy (IsDrawnBySome g.M.PassMachine.drawn)
-        (given_of g.M.PassMachine.DEALT g.M.PassMachine.needs g.M.PassMachine.shows g.M.PassMachine.whole c.args.tour.now b.told) b.first
-        (walk_state g.D.Folder c.args.tour.now.names.store.now c.make_pass.new.folder (b.kept ∷ (g.M.PassMachine.state c.make_pass.new.machine).files)
-        (g.O.Sink.held c.args.out.now) (g.O.Sink.faults c.args.out.now))) (sym p.2)
-        (c.in_err-passed.ensures.made (record { start = b; held = g.O.Sink.held c.args.out.now; out_faults = g.O.Sink.faults c.args.out.now }) at))
+    (given_of g.M.PassMachine.DEALT g.M.PassMachine.needs g.M.PassMachine.shows g.M.PassMachine.whole c.args.tour.now b.told) b.first
+    (walk_state g.D.Folder c.args.tour.now.names.store.now c.make_pass.new.folder (b.kept ∷ (g.M.PassMachine.state c.make_pass.new.machine).files)
+    (g.O.Sink.held c.args.out.now) (g.O.Sink.faults c.args.out.now))) (sym p.2)
+    (c.in_err-passed.ensures.made (record { start = b; held = g.O.Sink.held c.args.out.now; out_faults = g.O.Sink.faults c.args.out.now }) at))
 
 pub returns-in_err-judge-clause-taken : goal.returns-in_err-judge-clause-taken
 returns-in_err-judge-clause-taken g c =
     let p = err_from_is_err_and c.from_residual-in_err-judge.result c.from_residual-in_err-judge.ensures.1 in
     λ b at. rw p.1 (subst (LeftBy (IsDrawnBySome g.M.PassMachine.drawn)
-        (given_of g.M.PassMachine.DEALT g.M.PassMachine.needs g.M.PassMachine.shows g.M.PassMachine.whole c.args.tour.now b.told) b.first
-        (walk_state g.D.Folder c.args.tour.now.names.store.now c.make_pass.new.folder (b.kept ∷ (g.M.PassMachine.state c.make_pass.new.machine).files)
-        (g.O.Sink.held c.args.out.now) (g.O.Sink.faults c.args.out.now))) (sym p.2)
+    (given_of g.M.PassMachine.DEALT g.M.PassMachine.needs g.M.PassMachine.shows g.M.PassMachine.whole c.args.tour.now b.told) b.first
+    (walk_state g.D.Folder c.args.tour.now.names.store.now c.make_pass.new.folder (b.kept ∷ (g.M.PassMachine.state c.make_pass.new.machine).files)
+    (g.O.Sink.held c.args.out.now) (g.O.Sink.faults c.args.out.now))) (sym p.2)
     (stopped g.M.PassMachine.DEALT g.M.PassMachine.needs g.M.PassMachine.shows g.M.PassMachine.whole (IsDrawnBySome g.M.PassMachine.drawn)
-        g.met.M.PassMachine.shows_whole c.args.tour.now b.told c.args.number
+    g.met.M.PassMachine.shows_whole c.args.tour.now b.told c.args.number
     c.in_ok-passed.passed b.first (walk_state g.D.Folder c.args.tour.now.names.store.now c.make_pass.new.folder
-        (b.kept ∷ (g.M.PassMachine.state c.make_pass.new.machine).files) (g.O.Sink.held c.args.out.now) (g.O.Sink.faults c.args.out.now))
-        (g.M.PassMachine.state c.make_pass.new.machine) c.make_pass.new.recency c.requires.tour
+    (b.kept ∷ (g.M.PassMachine.state c.make_pass.new.machine).files) (g.O.Sink.held c.args.out.now) (g.O.Sink.faults c.args.out.now))
+    (g.M.PassMachine.state c.make_pass.new.machine) c.make_pass.new.recency c.requires.tour
     (c.in_ok-passed.ensures.made (record { start = b; held = g.O.Sink.held c.args.out.now; out_faults = g.O.Sink.faults c.args.out.now }) at) _
-        c.in_err-judge.ensures))
+    c.in_err-judge.ensures))
 
 pub end_turn-requires-clause-stands : goal.end_turn-requires-clause-stands
-end_turn-requires-clause-stands g c κs within =
-    (c.requires.stands.0, c.in_ok-passed.ensures.made (record { start = c.requires.stands.0; held = g.O.Sink.held c.args.out.now;
-        out_faults = g.O.Sink.faults c.args.out.now }) c.requires.stands.1)
+end_turn-requires-clause-stands g c κs within = (
+  c.requires.stands.0,
+  c.in_ok-passed.ensures.made (record {
+    start = c.requires.stands.0;
+    held = g.O.Sink.held c.args.out.now;
+    out_faults = g.O.Sink.faults c.args.out.now;
+  }) c.requires.stands.1,
+)
 
 pub returns-clause-taken : goal.returns-clause-taken
 returns-clause-taken g c = λ b at. c.end_turn.ensures.ended b

@@ -18,14 +18,14 @@ loop-number-init g c =
             (walk_state g.D.Folder c.args.tour.now.names.store.now c.args.folder.now (s.0.kept ∷ (g.M.PassMachine.state c.args.machine.now).files)
             (g.O.Sink.held c.args.out.now) (g.O.Sink.faults c.args.out.now)) (g.M.PassMachine.state c.args.machine.now) c.args.recency.now
             (record { picture = 0; batch = c.new.result; tally = c.new-2.result; reads = c.args.tour.now.pinned }) s.1 refl c.new.ensures
-                c.new-2.ensures c.requires.tour.pages,
+            c.new-2.ensures c.requires.tour.pages,
       );
       each = λ b at. first_at (IsDrawnBySome g.M.PassMachine.drawn)
           (given_of g.M.PassMachine.DEALT g.M.PassMachine.needs g.M.PassMachine.shows g.M.PassMachine.whole c.args.tour.now b.told) b.first
           (walk_state g.D.Folder c.args.tour.now.names.store.now c.args.folder.now (b.kept ∷ (g.M.PassMachine.state c.args.machine.now).files)
           (g.O.Sink.held c.args.out.now) (g.O.Sink.faults c.args.out.now)) (g.M.PassMachine.state c.args.machine.now) c.args.recency.now
           (record { picture = 0; batch = c.new.result; tally = c.new-2.result; reads = c.args.tour.now.pinned }) at refl c.new.ensures c.new-2.ensures
-              c.requires.tour.pages;
+          c.requires.tour.pages;
       idle = c.requires.idle;
       same = record { names = refl; tell = refl };
       asked = refl;
@@ -58,10 +58,10 @@ pub returns-in_err-turn-clause-walked : goal.returns-in_err-turn-clause-walked
 returns-in_err-turn-clause-walked g c =
     let p = err_from_is_err_and c.from_residual.result c.from_residual.ensures.1 in
     λ b at. rw p.1 (subst (LeftBy (IsDrawnBySome g.M.PassMachine.drawn)
-        (given_of g.M.PassMachine.DEALT g.M.PassMachine.needs g.M.PassMachine.shows g.M.PassMachine.whole c.args.tour.now b.told) b.first
-        (walk_state g.D.Folder c.args.tour.now.names.store.now c.take_turn.new.folder (b.kept ∷ (g.M.PassMachine.state c.take_turn.new.machine).files)
-        (g.O.Sink.held c.take_turn.new.out) (g.O.Sink.faults c.take_turn.new.out))) (sym p.2)
-        (c.in_err-turn.ensures.taken b (c.loop-number.invariant.each b at)))
+    (given_of g.M.PassMachine.DEALT g.M.PassMachine.needs g.M.PassMachine.shows g.M.PassMachine.whole c.args.tour.now b.told) b.first
+    (walk_state g.D.Folder c.args.tour.now.names.store.now c.take_turn.new.folder (b.kept ∷ (g.M.PassMachine.state c.take_turn.new.machine).files)
+    (g.O.Sink.held c.take_turn.new.out) (g.O.Sink.faults c.take_turn.new.out))) (sym p.2)
+    (c.in_err-turn.ensures.taken b (c.loop-number.invariant.each b at)))
 
 pub returns-then-turn-pictures-clause-counted : goal.returns-then-turn-pictures-clause-counted
 returns-then-turn-pictures-clause-counted g c =
@@ -69,7 +69,7 @@ returns-then-turn-pictures-clause-counted g c =
     let all = c.if-turn-pictures.true in
     let pictures = c.pictures-pictures.ensures.value in
     counts_at (IsDrawnBySome g.M.PassMachine.drawn) (given_of g.M.PassMachine.DEALT g.M.PassMachine.needs g.M.PassMachine.shows g.M.PassMachine.whole
-        c.args.tour.now s.0.told) s.0.first (walk_state g.D.Folder c.args.tour.now.names.store.now c.loop-number.folder
-        (s.0.kept ∷ (g.M.PassMachine.state c.loop-number.machine).files) (g.O.Sink.held c.loop-number.out) (g.O.Sink.faults c.loop-number.out))
+    c.args.tour.now s.0.told) s.0.first (walk_state g.D.Folder c.args.tour.now.names.store.now c.loop-number.folder
+    (s.0.kept ∷ (g.M.PassMachine.state c.loop-number.machine).files) (g.O.Sink.held c.loop-number.out) (g.O.Sink.faults c.loop-number.out))
     c.loop-number.number (g.M.PassMachine.state c.loop-number.machine) c.loop-number.recency c.loop-number.turn
     (record { passes = c.loop-number.number - 1; reads = c.loop-number.turn.reads }) s.1 (omega (arith, all, pictures)) refl refl

@@ -11,14 +11,14 @@ pub returns-in_err-place_pinned-clause-begun : goal.returns-in_err-place_pinned-
 returns-in_err-place_pinned-clause-begun g c =
     let p = err_from_is_err_and c.from_residual.result c.from_residual.ensures.1 in
     λ held out_faults. rw p.1 (pinned_broke g.M.PassMachine.DEALT g.M.PassMachine.needs g.M.PassMachine.shows g.M.PassMachine.whole
-        (IsDrawnBySome g.M.PassMachine.drawn) c.args.tour.now
+    (IsDrawnBySome g.M.PassMachine.drawn) c.args.tour.now
     (g.D.File.File.bytes c.args.store.now.file) c.args.store.now.depth c.args.tour.now.names.store.now
-        (file_state g.D.File.File c.args.store.now.file) (file_state g.D.File.File c.place_pinned.new.store.file)
+    (file_state g.D.File.File c.args.store.now.file) (file_state g.D.File.File c.place_pinned.new.store.file)
     (g.D.Folder.files c.args.folder.now) (g.D.Folder.asked c.args.folder.now) (g.D.Folder.faults c.args.folder.now)
-        (g.M.PassMachine.state c.args.machine.now) (g.M.PassMachine.state c.place_pinned.new.machine)
+    (g.M.PassMachine.state c.args.machine.now) (g.M.PassMachine.state c.place_pinned.new.machine)
     held out_faults c.requires.tour c.requires.enough_frames (subst
-        (λ s. IsStoreIfTold (g.D.File.File.bytes c.args.store.now.file) s c.args.store.now.depth) c.requires.shape c.requires.store) c.requires.depth
-        c.requires.begins c.requires.tell
+    (λ s. IsStoreIfTold (g.D.File.File.bytes c.args.store.now.file) s c.args.store.now.depth) c.requires.shape c.requires.store) c.requires.depth
+    c.requires.begins c.requires.tell
     c.in_err-place_pinned.ensures.files c.in_err-place_pinned.ensures.part c.in_err-place_pinned.ensures.lost c.in_err-place_pinned.ensures.faults
     _ p.0 (λ is. c.in_err-place_pinned.ensures.failed (ap Err is)) p.2)
 
@@ -26,14 +26,14 @@ pub returns-in_err-recency-clause-begun : goal.returns-in_err-recency-clause-beg
 returns-in_err-recency-clause-begun g c =
     let p = err_from_is_err_and c.from_residual-in_err-recency.result c.from_residual-in_err-recency.ensures.1 in
     λ held out_faults. rw p.1 (head_broke g.M.PassMachine.DEALT g.M.PassMachine.needs g.M.PassMachine.shows g.M.PassMachine.whole
-        (IsDrawnBySome g.M.PassMachine.drawn) c.args.tour.now
+    (IsDrawnBySome g.M.PassMachine.drawn) c.args.tour.now
     (g.D.File.File.bytes c.args.store.now.file) c.args.store.now.depth c.args.tour.now.names.store.now
-        (file_state g.D.File.File c.args.store.now.file) (file_state g.D.File.File c.place_pinned.new.store.file)
+    (file_state g.D.File.File c.args.store.now.file) (file_state g.D.File.File c.place_pinned.new.store.file)
     (g.D.Folder.files c.args.folder.now) (g.D.Folder.asked c.args.folder.now) (g.D.Folder.faults c.args.folder.now)
-        (g.M.PassMachine.state c.args.machine.now) (g.M.PassMachine.state c.place_pinned.new.machine)
+    (g.M.PassMachine.state c.args.machine.now) (g.M.PassMachine.state c.place_pinned.new.machine)
     held out_faults c.requires.tour c.requires.enough_frames (subst
-        (λ s. IsStoreIfTold (g.D.File.File.bytes c.args.store.now.file) s c.args.store.now.depth) c.requires.shape c.requires.store) c.requires.depth
-        c.requires.begins c.requires.tell
+    (λ s. IsStoreIfTold (g.D.File.File.bytes c.args.store.now.file) s c.args.store.now.depth) c.requires.shape c.requires.store) c.requires.depth
+    c.requires.begins c.requires.tell
     (g.D.Folder.files c.args.folder.now) (g.D.Folder.asked c.args.folder.now) (g.D.Folder.faults c.args.folder.now)
     c.in_ok-place_pinned.ensures.files c.in_ok-place_pinned.ensures.asked c.in_ok-place_pinned.ensures.faults (inl refl) refl (omega arith)
     NoMemory p.0 (λ is. absurd (cc is)) p.2)
@@ -42,25 +42,25 @@ pub begin_journal-requires-after_bounds : goal.begin_journal-requires-after_boun
 begin_journal-requires-after_bounds g c κs within =
     pages_pinned g.M.PassMachine.DEALT g.M.PassMachine.needs g.M.PassMachine.shows g.M.PassMachine.whole (IsDrawnBySome g.M.PassMachine.drawn) c.args.tour.now
     (g.D.File.File.bytes c.args.store.now.file) c.args.store.now.depth c.args.tour.now.names.store.now
-        (file_state g.D.File.File c.args.store.now.file) (file_state g.D.File.File c.place_pinned.new.store.file)
+    (file_state g.D.File.File c.args.store.now.file) (file_state g.D.File.File c.place_pinned.new.store.file)
     (g.D.Folder.files c.args.folder.now) (g.D.Folder.asked c.args.folder.now) (g.D.Folder.faults c.args.folder.now)
-        (g.M.PassMachine.state c.args.machine.now) (g.M.PassMachine.state c.place_pinned.new.machine)
+    (g.M.PassMachine.state c.args.machine.now) (g.M.PassMachine.state c.place_pinned.new.machine)
     None 0 c.requires.tour c.requires.enough_frames (subst (λ s. IsStoreIfTold (g.D.File.File.bytes c.args.store.now.file) s c.args.store.now.depth)
-        c.requires.shape c.requires.store) c.requires.depth c.requires.begins c.requires.tell c.journal.result.now.changes
-        c.in_ok-place_pinned.ensures.placed c.journal.ensures
+    c.requires.shape c.requires.store) c.requires.depth c.requires.begins c.requires.tell c.journal.result.now.changes
+    c.in_ok-place_pinned.ensures.placed c.journal.ensures
 
 pub returns-in_err-begin_journal-clause-begun : goal.returns-in_err-begin_journal-clause-begun
 returns-in_err-begin_journal-clause-begun g c =
     let p = err_from_is_err_and c.from_residual-in_err-begin_journal.result c.from_residual-in_err-begin_journal.ensures.1 in
     λ held out_faults. rw p.1 (head_broke g.M.PassMachine.DEALT g.M.PassMachine.needs g.M.PassMachine.shows g.M.PassMachine.whole
-        (IsDrawnBySome g.M.PassMachine.drawn) c.args.tour.now
+    (IsDrawnBySome g.M.PassMachine.drawn) c.args.tour.now
     (g.D.File.File.bytes c.args.store.now.file) c.args.store.now.depth c.args.tour.now.names.store.now
-        (file_state g.D.File.File c.args.store.now.file) (file_state g.D.File.File c.place_pinned.new.store.file)
+    (file_state g.D.File.File c.args.store.now.file) (file_state g.D.File.File c.place_pinned.new.store.file)
     (g.D.Folder.files c.args.folder.now) (g.D.Folder.asked c.args.folder.now) (g.D.Folder.faults c.args.folder.now)
-        (g.M.PassMachine.state c.args.machine.now) (g.M.PassMachine.state c.place_pinned.new.machine)
+    (g.M.PassMachine.state c.args.machine.now) (g.M.PassMachine.state c.place_pinned.new.machine)
     held out_faults c.requires.tour c.requires.enough_frames (subst
-        (λ s. IsStoreIfTold (g.D.File.File.bytes c.args.store.now.file) s c.args.store.now.depth) c.requires.shape c.requires.store) c.requires.depth
-        c.requires.begins c.requires.tell
+    (λ s. IsStoreIfTold (g.D.File.File.bytes c.args.store.now.file) s c.args.store.now.depth) c.requires.shape c.requires.store) c.requires.depth
+    c.requires.begins c.requires.tell
     (g.D.Folder.files c.begin_journal.new.folder) (g.D.Folder.asked c.begin_journal.new.folder) (g.D.Folder.faults c.begin_journal.new.folder)
     c.in_ok-place_pinned.ensures.files c.in_ok-place_pinned.ensures.asked c.in_ok-place_pinned.ensures.faults c.in_err-begin_journal.ensures.part
     c.in_err-begin_journal.ensures.asked c.in_err-begin_journal.ensures.faults _ p.0 (λ is. c.in_err-begin_journal.ensures.failed (ap Err is)) p.2)
@@ -69,13 +69,13 @@ pub returns-clause-begun : goal.returns-clause-begun
 returns-clause-begun g c = λ held out_faults. head_stands g.M.PassMachine.DEALT g.M.PassMachine.needs g.M.PassMachine.shows g.M.PassMachine.whole
     (IsDrawnBySome g.M.PassMachine.drawn) c.args.tour.now
     (g.D.File.File.bytes c.args.store.now.file) c.args.store.now.depth c.args.tour.now.names.store.now
-        (file_state g.D.File.File c.args.store.now.file) (file_state g.D.File.File c.place_pinned.new.store.file)
+    (file_state g.D.File.File c.args.store.now.file) (file_state g.D.File.File c.place_pinned.new.store.file)
     (g.D.Folder.files c.args.folder.now) (g.D.Folder.asked c.args.folder.now) (g.D.Folder.faults c.args.folder.now)
-        (g.M.PassMachine.state c.args.machine.now) (g.M.PassMachine.state c.place_pinned.new.machine)
+    (g.M.PassMachine.state c.args.machine.now) (g.M.PassMachine.state c.place_pinned.new.machine)
     held out_faults c.requires.tour c.requires.enough_frames (subst
-        (λ s. IsStoreIfTold (g.D.File.File.bytes c.args.store.now.file) s c.args.store.now.depth) c.requires.shape c.requires.store) c.requires.depth
-        c.requires.begins c.requires.tell
+    (λ s. IsStoreIfTold (g.D.File.File.bytes c.args.store.now.file) s c.args.store.now.depth) c.requires.shape c.requires.store) c.requires.depth
+    c.requires.begins c.requires.tell
     (g.D.Folder.files c.begin_journal.new.folder) (g.D.Folder.asked c.begin_journal.new.folder) (g.D.Folder.faults c.begin_journal.new.folder)
-        c.in_ok-recency.recency
+    c.in_ok-recency.recency
     c.in_ok-place_pinned.ensures.placed c.in_ok-place_pinned.ensures.asked c.in_ok-place_pinned.ensures.faults c.in_ok-begin_journal.ensures.whole
     c.in_ok-begin_journal.ensures.there c.in_ok-begin_journal.ensures.asked c.in_ok-begin_journal.ensures.faults c.in_ok-recency.ensures.first

@@ -27,5 +27,5 @@ returns-in_err-command g c =
 pub returns : goal.returns
 returns g c =
     runs_command (drawing_of g.M.PassMachine.DEALT g.M.PassMachine.needs g.M.PassMachine.shows g.M.PassMachine.whole g.M.PassMachine.drawn) _
-        (texts c.args.words.now) (course g.D.Folder g.O.Sink c.args.folder.now c.perform.new.folder c.args.out.now c.perform.new.out)
+    (texts c.args.words.now) (course g.D.Folder g.O.Sink c.args.folder.now c.perform.new.folder c.args.out.now c.perform.new.out)
     c.perform.result (shown c.in_ok-command.command) c.in_ok-command.ensures.read c.perform.ensures

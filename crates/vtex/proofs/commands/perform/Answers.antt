@@ -15,31 +15,31 @@ use Rattle.vtex.proofs.commands.perform.Goals as goal
 pub returns-in-Plain : goal.returns-in-Plain
 returns-in-Plain g c =
     rw c.in-Plain.is (by_task _ (plain_task (shown_plain c.in-Plain.words))
-        (course g.D.Folder g.O.Sink c.args.folder.now c.plain.new.folder c.args.out.now c.plain.new.out)
+    (course g.D.Folder g.O.Sink c.args.folder.now c.plain.new.folder c.args.out.now c.plain.new.out)
     c.plain.result c.plain.ensures)
 
 pub returns-in-Tile : goal.returns-in-Tile
 returns-in-Tile g c =
     rw c.in-Tile.is (by_task _ (tile_task (shown_tile c.in-Tile.words))
-        (course g.D.Folder g.O.Sink c.args.folder.now c.tile.new.folder c.args.out.now c.tile.new.out)
+    (course g.D.Folder g.O.Sink c.args.folder.now c.tile.new.folder c.args.out.now c.tile.new.out)
     c.tile.result c.tile.ensures)
 
 pub returns-in-Info : goal.returns-in-Info
 returns-in-Info g c =
     rw c.in-Info.is (by_task _ (info_task (shown_info c.in-Info.words))
-        (course g.D.Folder g.O.Sink c.args.folder.now c.info.new.folder c.args.out.now c.info.new.out)
+    (course g.D.Folder g.O.Sink c.args.folder.now c.info.new.folder c.args.out.now c.info.new.out)
     c.info.result c.info.ensures)
 
 pub returns-in-Gen : goal.returns-in-Gen
 returns-in-Gen g c =
     rw c.in-Gen.is (by_task _ (gen_task (shown_gen c.in-Gen.words))
-        (course g.D.Folder g.O.Sink c.args.folder.now c.generate.new.folder c.args.out.now c.args.out.now)
+    (course g.D.Folder g.O.Sink c.args.folder.now c.generate.new.folder c.args.out.now c.args.out.now)
     c.generate.result (c.generate.ensures (sink_state g.O.Sink c.args.out.now)))
 
 pub returns-in-Upgrade : goal.returns-in-Upgrade
 returns-in-Upgrade g c =
     rw c.in-Upgrade.is (by_task _ (upgrade_task (shown_upgrade c.in-Upgrade.words))
-        (course g.D.Folder g.O.Sink c.args.folder.now c.upgrade.new.folder c.args.out.now c.upgrade.new.out)
+    (course g.D.Folder g.O.Sink c.args.folder.now c.upgrade.new.folder c.args.out.now c.upgrade.new.out)
     c.upgrade.result c.upgrade.ensures)
 
 pub returns-in-Replay : goal.returns-in-Replay

@@ -18,7 +18,7 @@ victim_lawful c = subst (λ (u : RecencyView). IsLawfulEntry u c.args.planned.no
 -- what the call did to the table before it, where a page loses its frame
 victim_done : (c : goal.After-self-in-Some-1) → IsApplied (with_victim c) c.args.planned.now
     (slice_set (slice_set c.self.inside.entries.items c.in-Some.victim 0) c.args.planned.now.page (c.args.planned.now.frame + 1))
-        (keys_of c.remove.new.order.entries)
+    (keys_of c.remove.new.order.entries)
 victim_done c =
     applied_some (with_victim c) c.args.planned.now c.in-Some.victim (keys_of c.remove.new.order.entries) c.self.invariant.table (victim_lawful c) c.in-Some.is
     (c.remove.ensures.order ∙ ap (filter (λ y. not (nat_eq c.in-Some.victim y))) c.in_ok-insert.ensures.ok)
@@ -51,7 +51,7 @@ free_done : (c : goal.After-self-in-None-1) → IsApplied (without c) c.args.pla
     (slice_set c.self.inside.entries.items c.args.planned.now.page (c.args.planned.now.frame + 1)) (keys_of c.insert.new.order.entries)
 free_done c =
     applied_none (without c) c.args.planned.now (keys_of c.insert.new.order.entries) c.self.invariant.table (free_lawful c) c.in-None.is
-        c.in_ok-insert.ensures.ok
+    c.in_ok-insert.ensures.ok
 
 pub invariant_of-self-in-None : goal.invariant_of-self-in-None
 invariant_of-self-in-None c = record {

@@ -26,7 +26,7 @@ pub invariant_of-result : goal.invariant_of-result
 invariant_of-result c =
     let keys : keys_of c.in_ok-order.order.entries ≡ [] = ap (λ o. keys_of o.entries) c.in_ok-order.ensures in
     let view = first_is c.args.geometry.now c.args.frames c.args.pinned c.loop-i.entries.items (keys_of c.in_ok-order.order.entries)
-        c.loop-frame.invariant.entries keys in
+    c.loop-frame.invariant.entries keys in
     let last : c.loop-frame.frame ≡ c.args.frames = omega (arith, c.loop-frame-test.false, c.requires.enough_frames) in
     record {
       table = subst IsTable (sym view) (first_table c.args.geometry.now c.args.frames c.args.pinned c.page_count.ensures.limits c.requires.most_frames
@@ -51,7 +51,7 @@ pub returns-clause-table : goal.returns-clause-table
 returns-clause-table c =
     let keys : keys_of c.in_ok-order.order.entries ≡ [] = ap (λ o. keys_of o.entries) c.in_ok-order.ensures in
     let view = first_is c.args.geometry.now c.args.frames c.args.pinned c.loop-i.entries.items (keys_of c.in_ok-order.order.entries)
-        c.loop-frame.invariant.entries keys in
+    c.loop-frame.invariant.entries keys in
     subst IsTable (sym view) (first_table c.args.geometry.now c.args.frames c.args.pinned c.page_count.ensures.limits c.requires.most_frames
-        c.requires.some_pinned
+    c.requires.some_pinned
     c.requires.enough_frames c.requires.enough_pages)

@@ -72,7 +72,7 @@ returns-clause-plan c =
           let put : w.put_victims.new.batch.elements
           ≡ front ++ map (taken_at c.self.inside.entries.items missing victims (length front)) (range_with_len 0 (min (most - length front) (length victims))) =
           w.put_victims.ensures.put ∙ ap (λ (l : List ℕ). front
-              ++ map (taken_at l missing victims (length front)) (range_with_len 0 (min (most - length front) (length victims))))
+          ++ map (taken_at l missing victims (length front)) (range_with_len 0 (min (most - length front) (length victims))))
           w.as_slice-then-len-most.ensures.value in
           ap (λ b. b.elements) w.batch-is
           ∙ some_taken c.self.inside.entries.items missing free victims c.args.q most front w.put_victims.new.batch.elements n c.put_free.ensures.put

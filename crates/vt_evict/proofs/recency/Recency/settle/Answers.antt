@@ -15,7 +15,7 @@ loop-left-init c = record {
 pub apply_unless-requires : goal.apply_unless-requires
 apply_unless-requires c =
     let at : c.at.result.now ≡ get_or c.args.batch.now.elements (c.loop-left.left - 1) c.at.result.now = read_at c.args.batch.now.elements
-        (c.loop-left.left - 1) c.at.result.now c.at.ensures in
+    (c.loop-left.left - 1) c.at.result.now c.at.ensures in
     subst (IsLawfulEntry c.loop-left.self) (sym at) (c.loop-left.invariant.lawful (c.loop-left.left - 1) c.at.result.now (omega (arith, c.loop-left-test.true)))
 
 pub loop-left-preserved : goal.loop-left-preserved

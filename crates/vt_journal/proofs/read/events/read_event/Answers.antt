@@ -10,29 +10,29 @@ pub returns-then-not-branch : goal.returns-then-not-branch
 returns-then-not-branch c =
     let src = c.args.source.now in
     let read = subst (λ (l : Line). IsLineRead src.geometry.now src.text.now c.args.cursor.at c.args.cursor.number l c.in-Some.read.next.at
-        c.in-Some.read.next.number) c.in-Makes.is c.in-Some.ensures in
+    c.in-Some.read.next.number) c.in-Makes.is c.in-Some.ensures in
     let no = rw c.if-not-branch.true at c.in_ok-add_change-in-Makes.ensures in
     refusal_by src.geometry.now src.height src.text.now (reading_of c.args.kept.now.changes c.args.pass.now) c.args.cursor.at c.args.cursor.number
-        c.bad.result c.bad.ensures
+    c.bad.result c.bad.ensures
     (change_not_read src.geometry.now src.height src.text.now c.args.kept.now.changes c.args.kept.now.pages c.args.pinned c.args.pass.now
-        c.args.cursor.at c.args.cursor.number c.in-Makes.version c.in-Makes.change _ _ c.requires.in_pass read no)
+    c.args.cursor.at c.args.cursor.number c.in-Makes.version c.in-Makes.change _ _ c.requires.in_pass read no)
 
 pub returns-then-not-branch-2 : goal.returns-then-not-branch-2
 returns-then-not-branch-2 c =
     let src = c.args.source.now in
     let read = subst (λ (l : Line). IsLineRead src.geometry.now src.text.now c.args.cursor.at c.args.cursor.number l c.in-Some.read.next.at
-        c.in-Some.read.next.number) c.in-Loses.is c.in-Some.ensures in
+    c.in-Some.read.next.number) c.in-Loses.is c.in-Some.ensures in
     let no = rw c.if-not-branch-2.true at c.in_ok-add_loss-in-Loses.ensures in
     refusal_by src.geometry.now src.height src.text.now (reading_of c.args.kept.now.changes c.args.pass.now) c.args.cursor.at c.args.cursor.number
-        c.bad-then-not-branch-2.result c.bad-then-not-branch-2.ensures
+    c.bad-then-not-branch-2.result c.bad-then-not-branch-2.ensures
     (loss_not_read src.geometry.now src.height src.text.now c.args.kept.now.changes c.args.kept.now.pages c.args.pinned c.args.pass.now
-        c.args.cursor.at c.args.cursor.number c.in-Loses.page _ _ c.requires.in_pass read no)
+    c.args.cursor.at c.args.cursor.number c.in-Loses.page _ _ c.requires.in_pass read no)
 
 pub returns-else-not-branch : goal.returns-else-not-branch
 returns-else-not-branch c =
     let src = c.args.source.now in
     let read = subst (λ (l : Line). IsLineRead src.geometry.now src.text.now c.args.cursor.at c.args.cursor.number l c.in-Some.read.next.at
-        c.in-Some.read.next.number) c.in-Makes.is c.in-Some.ensures in
+    c.in-Some.read.next.number) c.in-Makes.is c.in-Some.ensures in
     let yes = rw c.if-not-branch.false at c.in_ok-add_change-in-Makes.ensures in (
       read.forward,
       yes.2.pages_are,
@@ -46,7 +46,7 @@ pub returns-else-not-branch-2 : goal.returns-else-not-branch-2
 returns-else-not-branch-2 c =
     let src = c.args.source.now in
     let read = subst (λ (l : Line). IsLineRead src.geometry.now src.text.now c.args.cursor.at c.args.cursor.number l c.in-Some.read.next.at
-        c.in-Some.read.next.number) c.in-Loses.is c.in-Some.ensures in
+    c.in-Some.read.next.number) c.in-Loses.is c.in-Some.ensures in
     let yes = rw c.if-not-branch-2.false at c.in_ok-add_loss-in-Loses.ensures in (
       read.forward,
       yes.1.pages_are,
@@ -61,13 +61,19 @@ returns-in_default c = (no_event_unread c.args.source.now.geometry.now c.args.so
 pub returns-in-Begins : goal.returns-in-Begins
 returns-in-Begins c =
     let src = c.args.source.now in
-    let quiet = subst IsNoEvent (sym c.in-Begins.is) tt in
-    (no_event_read src.geometry.now src.text.now c.args.cursor.at c.args.cursor.number c.in-Some.read.line c.in-Some.read.next.at
-        c.in-Some.read.next.number c.requires.in_pass.small.tile c.in-Some.ensures quiet, refl, refl)
+    let quiet = subst IsNoEvent (sym c.in-Begins.is) tt in (
+      no_event_read src.geometry.now src.text.now c.args.cursor.at c.args.cursor.number c.in-Some.read.line c.in-Some.read.next.at
+          c.in-Some.read.next.number c.requires.in_pass.small.tile c.in-Some.ensures quiet,
+      refl,
+      refl,
+    )
 
 pub returns-in-Draws : goal.returns-in-Draws
 returns-in-Draws c =
     let src = c.args.source.now in
-    let quiet = subst IsNoEvent (sym c.in-Draws.is) tt in
-    (no_event_read src.geometry.now src.text.now c.args.cursor.at c.args.cursor.number c.in-Some.read.line c.in-Some.read.next.at
-        c.in-Some.read.next.number c.requires.in_pass.small.tile c.in-Some.ensures quiet, refl, refl)
+    let quiet = subst IsNoEvent (sym c.in-Draws.is) tt in (
+      no_event_read src.geometry.now src.text.now c.args.cursor.at c.args.cursor.number c.in-Some.read.line c.in-Some.read.next.at
+          c.in-Some.read.next.number c.requires.in_pass.small.tile c.in-Some.ensures quiet,
+      refl,
+      refl,
+    )

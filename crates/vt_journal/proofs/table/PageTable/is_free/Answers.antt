@@ -12,5 +12,5 @@ returns c =
     let within : c.args.frame < length pages = omega (arith, c.self.invariant.all_frames, c.requires) in
     let number : get_or pages c.args.frame 0 ≡ c.index.result.now = sym (get_or_read pages c.args.frame c.index.result.now within c.index.ensures 0) in
     subst (λ (numbers : List ℕ). MatchBool (eqb c.index.result.now 0) (IsFree (entries_of numbers) c.args.frame)
-        (IsFree (entries_of numbers) c.args.frame → ⊥)) c.self.view_is
+    (IsFree (entries_of numbers) c.args.frame → ⊥)) c.self.view_is
     (free_by_number frames pages c.args.frame c.index.result.now (eqb c.index.result.now 0) c.self.invariant number refl)

@@ -10,4 +10,4 @@ invariant_of-self c =
     paired-map c.self.inside.frames.items c.self.inside.pages.items c.args.page c.args.frame c.self.invariant
     (subst (λ (numbers : List ℕ). c.args.page < length numbers) back c.requires.within.page_inside) c.requires.within.frame_inside
     (subst (λ (numbers : List ℕ). entries_of numbers c.args.page ≡ None) back c.requires.no_frame)
-        (subst (λ (numbers : List ℕ). IsFree (entries_of numbers) c.args.frame) back c.requires.free)
+    (subst (λ (numbers : List ℕ). IsFree (entries_of numbers) c.args.frame) back c.requires.free)

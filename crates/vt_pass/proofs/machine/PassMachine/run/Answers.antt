@@ -17,7 +17,7 @@ returns g c =
     (same_number out.0.elements _ done.new.loaders c.slice_mut.ensures.value (search rules))
     (same_number out.1.elements _ done.new.samplers c.slice_mut-2.ensures.value (search rules))
     (all_did g.Self.Loader.Task.did _ _ _ _ c.shared.ensures same out.0.elements _ done.new.loaders c.slice_mut.ensures.value (search rules)
-        done.ensures.loaders)
+    done.ensures.loaders)
     (all_did g.Self.Sampler.Task.did _ _ _ _ c.shared.ensures same out.1.elements _ done.new.samplers c.slice_mut-2.ensures.value (search rules)
-        done.ensures.samplers)
+    done.ensures.samplers)
     (one_did g.Self.Streamer.Task.did _ _ _ _ c.shared.ensures same out.2 done.new.streamer done.ensures.streamer) c.dismiss.ensures

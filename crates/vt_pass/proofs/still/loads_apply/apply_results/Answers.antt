@@ -16,7 +16,7 @@ apply_one-lost-requires-clause-entry c =
     let x = c.index-results-i.result in
     let is = of_entry c.args.batch.now c.args.results.now c.loop-i.i x c.loop-i-test.true c.index-results-i.is c.requires.entries in
     next_entry c.args.batch.now c.args.results.now c.args.table.now c.requires.lawful c.requires.apart c.loop-i.i c.loop-i.table _ _ x _
-        c.loop-i.invariant.applied
+    c.loop-i.invariant.applied
     (result_at c.args.results.now c.loop-i.i x c.loop-i-test.true c.index-results-i.is) (entry_at c.args.batch.now x _ is)
 
 pub apply_one-lost-requires-clause-page : goal.apply_one-lost-requires-clause-page
@@ -34,9 +34,9 @@ loop-i-preserved c =
           c.apply_one-lost.new.events.elements l)
           (sym c.set.ensures.elements)
           (applied_more c.args.batch.now c.args.results.now c.args.table.now c.requires.lawful c.requires.apart c.loop-i.i c.loop-i.table
-              c.apply_one-lost.new.table _ _ _ x _
+          c.apply_one-lost.new.table _ _ _ x _
           c.apply_one-lost.result c.loop-i.invariant.applied (result_at c.args.results.now c.loop-i.i x c.loop-i-test.true c.index-results-i.is)
-              (entry_at c.args.batch.now x _ is)
+          (entry_at c.args.batch.now x _ is)
           did.table did.publishes did.holds did.lost);
       spare = (let a = c.loop-i.invariant.spare in let b = did.spare in omega (arith, a, b));
       room = (let a = c.loop-i.invariant.room in let b = did.room in omega (arith, a, b));

@@ -25,7 +25,7 @@ loop-ticket-preserved g c =
       room = (let a = i.room in let b = c.in-Some.ensures.spare in omega (arith, a, b));
       asked = λ s d pages sizes.
           let p = popped_all (λ b. length b.elements ≡ tile_length s d) c.loop-ticket.buffers.elements rest c.in-Some.buffer was
-              (i.sizes (tile_length s d) sizes) in
+          (i.sizes (tile_length s d) sizes) in
           asked_more s d c.args.batch.now c.loop-ticket.ticket (view_of c.loop-ticket.asks) (view_of c.put.new.pass) _ blank (i.asked s d pages sizes)
           c.in-Ok.ensures.puts c.loop-ticket-test.true refl refl (pages c.loop-ticket.ticket blank c.loop-ticket-test.true) p.1;
       sizes = λ n sizes. (popped_all (λ b. length b.elements ≡ n) c.loop-ticket.buffers.elements rest c.in-Some.buffer was (i.sizes n sizes)).0;

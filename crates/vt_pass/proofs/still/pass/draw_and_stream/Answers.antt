@@ -47,10 +47,10 @@ finish-requires g c =
           (same_number a _ ws c.slice_mut.ensures.value (search rules))
           (same_number e _ us c.slice_mut-2.ensures.value (search rules))
           (all_did (λ (x : Queues) (j : Job) (v w : QueuedView _). HasLoaded g.F.File x v w) _ _ _ _ refl (ap with c.slice.ensures) a _ ws
-              c.slice_mut.ensures.value
+          c.slice_mut.ensures.value
           (search rules) c.work_together.ensures.loaders)
           (all_did (λ (x : TableView) j (v w : StillSampler). HasDrawn x j v.sampler w.sampler) _ _ _ _ refl (ap with c.slice.ensures) e _ us
-              c.slice_mut-2.ensures.value
+          c.slice_mut-2.ensures.value
           (search rules) c.work_together.ensures.samplers),
     )
 
@@ -74,7 +74,7 @@ returns-clause-ran g c =
     (all_did (λ (x : Queues) (j : Job) (v w : QueuedView _). HasLoaded g.F.File x v w) _ _ _ _ refl (ap with c.slice.ensures) a _ ws c.slice_mut.ensures.value
     (search rules) c.work_together.ensures.loaders)
     (all_did (λ (x : TableView) j (v w : StillSampler). HasDrawn x j v.sampler w.sampler) _ _ _ _ refl (ap with c.slice.ensures) e _ us
-        c.slice_mut-2.ensures.value
+    c.slice_mut-2.ensures.value
     (search rules) c.work_together.ensures.samplers) in
     ran_after true picture_wants still_shows _ job _ _ _
     (same_kit g.F.File table q k l job a (refill (length a) a ws) e (refill (length e) e us) out) c.finish.result (c.finish.ensures.ran b may)

@@ -11,4 +11,4 @@ publish-requires-clause-legal c = unmap_legal c.args.table.now c.args.planned.no
 pub returns-clause-holds : goal.returns-clause-holds
 returns-clause-holds c =
     holds_unmapped c.args.table.now c.publish.new.self c.in-Some.victim c.args.planned.now.frame c.publish.ensures.changes c.publish.ensures.tiles
-        c.publish.ensures.shape
+    c.publish.ensures.shape

@@ -9,7 +9,7 @@ returns-clause-full c y own =
     let s = c.self.inside in
     let line : ℕ = row_length s.depth s.width in
     let for_it = subst (λ (v : SamplerView). IsFor v c.args.shot.now.geometry.now c.args.shot.now.path.now c.args.shot.now.depth) (sym c.self.view_is)
-        c.requires.for_it in
+    c.requires.for_it in
     let drawn = with_items_is s.bytes c.draw_rows.new.bytes (c.draw_rows.auto.bytes ∙ c.as_mut_slice-2.ensures.len) in
     let all : length c.draw_rows.new.bytes ≡ own_count s.sampler s.samplers s.height * line =
     c.draw_rows.auto.bytes ∙ ap length c.as_mut_slice-2.ensures.value ∙ c.self.invariant.room in

@@ -16,7 +16,7 @@ returns-in_err-header g c =
     let before = folder_state g.D.Folder c.args.folder.now in
     rw (p.1, p.2) (ends_refused (info_task words) [] [] (StoreInput words.store) [] c.in_err-header.field-0.0
     before before (folder_state g.D.Folder c.read_store_header.new.folder) (sink_state g.O.Sink c.args.out.now) refl (read_none before)
-        c.in_err-header.ensures.header)
+    c.in_err-header.ensures.header)
 
 pub returns-in_err-put_store_line : goal.returns-in_err-put_store_line
 returns-in_err-put_store_line g c =

@@ -32,6 +32,6 @@ returns g c =
     file_is base tile path c.args.picture c.depth.result c.width.result c.height.result c.deref-2.result.now c.in_ok-bytes.bytes.items
     c.deref.result.now c.in_ok-samples.samples.items
     c.deref-2.ensures.value c.in_ok-bytes.ensures c.deref.ensures.value c.in_ok-samples.ensures.samples c.depth.ensures.value c.width.ensures.value
-        c.height.ensures.value in
+    c.height.ensures.value in
     written_as c.as_str.result.now c.deref-2.result.now (picture_name c.args.prefix.now c.args.picture) (plain_file base tile path c.args.picture)
     (passage g.D.Folder c.args.folder.now c.write_file.new.folder) c.write_file.result name file c.write_file.ensures

@@ -21,7 +21,7 @@ returns-in_err-store g c =
     let before = folder_state g.D.Folder c.args.folder.now in
     rw (p.1, p.2) (ends_refused (upgrade_task words) [] [] (NarrowStore words.store) [] c.in_err-store.field-0.0
     before before (folder_state g.D.Folder c.open_narrow.new.folder) (sink_state g.O.Sink c.args.out.now) refl (read_none before)
-        c.in_err-store.ensures.refused)
+    c.in_err-store.ensures.refused)
 
 pub returns-in_err-write_wide : goal.returns-in_err-write_wide
 returns-in_err-write_wide g c =

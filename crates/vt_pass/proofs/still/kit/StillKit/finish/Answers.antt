@@ -14,7 +14,7 @@ pub tell-rows-requires-clause-few : goal.tell-rows-requires-clause-few
 tell-rows-requires-clause-few g c =
     let job = job_of c.args._shot.now c.args.batch.now.elements in
     let may = subst (λ (x : KitView _). MayFinish g.F.File c.args.table.now c.args.queues.now x job c.args.loaders.elements c.args.samplers.elements
-        c.requires.0)
+    c.requires.0)
     (sym c.self.view_is) c.requires.1 in
     counts_low g.F.File c.args.table.now _ job may.drawn
 

@@ -10,7 +10,7 @@ use Rattle.vt_pass.proofs.still.round.RoundKit.finish.Goals as goal
 pub returns-clause-sizes : goal.returns-clause-sizes
 returns-clause-sizes g c = λ b ended sizes.
     let its = subst (λ (r : RoundKitView _). IsEndedRound g.F.File c.args.queues.now c.args.table.now.shape c.args.batch.now (view_of r.asks)
-        (view_of r.answers)
+    (view_of r.answers)
     c.args.loaders.elements b) (sym c.self.view_is) ended in
     let size = tile_length c.args.table.now.shape b.depth in
     c.give_back.ensures.sizes size (c.end_round.ensures.sizes b its)
@@ -19,7 +19,7 @@ returns-clause-sizes g c = λ b ended sizes.
 pub returns-clause-streamed : goal.returns-clause-streamed
 returns-clause-streamed g c = λ b ended.
     let its = subst (λ (r : RoundKitView _). IsEndedRound g.F.File c.args.queues.now c.args.table.now.shape c.args.batch.now (view_of r.asks)
-        (view_of r.answers)
+    (view_of r.answers)
     c.args.loaders.elements b) (sym c.self.view_is) ended in
     subst (λ (l : ListView Bool). IsStreamed g.F.File c.args.batch.now c.args.table.now b c.args.loaders.elements c.end_round.new.table
     c.end_round.new.events.elements l.elements) (sym c.replace-losses.ensures.value) (c.end_round.ensures.streamed b its)
