@@ -124,7 +124,7 @@ fn answer<Rt: Threads + Wait, F: File, G: Gate>(
     put_waiting(rt, results, answers, loaded);
 }
 
-// Takes requests until there are none, or as many as the queue has room for, and answers each.
+/// Takes requests until there are none, or as many as the queue has room for, and answers each.
 pub(crate) fn load<Rt: Threads + Wait, F: File, G: Gate>(
     rt: &Rt,
     store: &mut Store<F>,

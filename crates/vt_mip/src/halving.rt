@@ -90,7 +90,7 @@ fn halve_raster<const DEPTH: u32>(width: usize, height: usize, source: &[u8], ou
     }
 }
 
-// Halves a raster whose samples have so many bytes.
+/// Halves a raster whose samples have so many bytes.
 pub(crate) fn halve_at(depth: u32, width: usize, height: usize, source: &[u8], out: &mut [u8])
     requires depth { IsDepth depth }
     requires some_columns { 1 ≤ width }

@@ -12,8 +12,8 @@ use vt_draw::Shot;
 use vt_evict::Planned;
 use vt_outside::Gate;
 
-// The loaders, and beside them the samplers and the streamer. Threads cost more than what they do where nothing is to be read, and
-// one request is taken by one loader.
+/// The loaders, and beside them the samplers and the streamer. Threads cost more than what they do where nothing is to be read, and
+/// one request is taken by one loader.
 pub(crate) fn work_together<
     Rt: Threads + Wait + Sync,
     S: Sync,
@@ -124,7 +124,7 @@ fn draw_beside<
     );
 }
 
-// All tasks of a list, by halves.
+/// All tasks of a list, by halves.
 pub(crate) fn work_all<
     Rt: Threads + Wait + Sync,
     S: Sync,

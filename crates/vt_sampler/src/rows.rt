@@ -33,14 +33,14 @@ fn draw_one_row(table: &StillTable, shot: &Shot, y: u32, out: &mut [u8], counts:
     draw_row(&mut lookup, shot, y, out, counts);
 }
 
-// Sets the count of each page to 0.
+/// Sets the count of each page to 0.
 pub(crate) fn clear(counts: &mut [u32])
     ensures { (p : ℕ) → p < length counts.new → slice_index counts.new p ≡ 0 }
 {
     counts.fill(0);
 }
 
-// Draws the rows of a sampler of a picture over a table, one after the other, and counts their pixels.
+/// Draws the rows of a sampler of a picture over a table, one after the other, and counts their pixels.
 pub(crate) fn draw_rows(
     table: &StillTable,
     shot: &Shot,

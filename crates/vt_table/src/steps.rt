@@ -11,7 +11,7 @@ ghost use Rattle.vt_table.specs.Views.{filled_after};
 use vt_definitions::word_at;
 use vt_journal::Change;
 
-// Writes a tile at a place of the frames' bytes.
+/// Writes a tile at a place of the frames' bytes.
 pub(crate) fn put_tile(bytes: &mut [u8], at: usize, tile: &[u8])
     requires { at + length tile.now ≤ length bytes.old }
     ensures written { slice_range bytes.new at (at + length tile.now) ≡ tile.now }
@@ -21,7 +21,7 @@ pub(crate) fn put_tile(bytes: &mut [u8], at: usize, tile: &[u8])
     bytes[at..at + tile.len()].copy_from_slice(tile);
 }
 
-// The depth of a tile of so many bytes, of which the room of a frame has two for each sample.
+/// The depth of a tile of so many bytes, of which the room of a frame has two for each sample.
 pub(crate) fn depth_in(length: usize, room: usize) -> u8
     ensures wide { length ≡ room → result ≡ 2 }
     ensures narrow { length ≢ room → result ≡ 1 }
@@ -29,7 +29,7 @@ pub(crate) fn depth_in(length: usize, room: usize) -> u8
     if length == room { 2 } else { 1 }
 }
 
-// Gives the page of a change the number of its new entry.
+/// Gives the page of a change the number of its new entry.
 pub(crate) fn put_entry(entries: &mut [u32], change: Change)
     requires page { change_page change < length entries.old }
     requires frame { change_frame change ≤ most_frames }
@@ -41,7 +41,7 @@ pub(crate) fn put_entry(entries: &mut [u32], change: Change)
     }
 }
 
-// Takes its page from a frame that a change unmaps.
+/// Takes its page from a frame that a change unmaps.
 pub(crate) fn free_owner(owners: &mut [u32], change: Change)
     requires { change_frame change < length owners.old }
     ensures { entries_of owners.new ≡ filled_after (entries_of owners.old) change }

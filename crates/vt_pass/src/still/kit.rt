@@ -104,8 +104,8 @@ fn samplers_for(
 }
 
 impl<F: File> StillKit<F> {
-    // The kit of a crew with one store for each loader, for pictures of the path's sides. A refusal hands the stores
-    // back.
+    /// The kit of a crew with one store for each loader, for pictures of the path's sides. A refusal hands the stores
+    /// back.
     pub(crate) fn new(
         alloc: Global,
         geometry: &Geometry,
@@ -157,14 +157,14 @@ impl<F: File> StillKit<F> {
         })
     }
 
-    // How many pixels of the last pass's picture need each page.
+    /// How many pixels of the last pass's picture need each page.
     pub(crate) fn counts(&self) -> &Counts
         ensures { result.now ≡ self.now.counts }
     {
         &self.counts
     }
 
-    // The loaders' stores, in place of the kit.
+    /// The loaders' stores, in place of the kit.
     pub(crate) fn end(self) -> Stores<F>
         ensures { result.elements ≡ self.stores }
     {
@@ -186,7 +186,7 @@ impl<F: File> StillKit<F> {
         stores
     }
 
-    // Makes room for a pass that streams a batch into a table, with new queues.
+    /// Makes room for a pass that streams a batch into a table, with new queues.
     pub(crate) fn prepare(
         &mut self,
         table: &mut StillTable,
@@ -235,7 +235,7 @@ impl<F: File> StillKit<F> {
             .prepare(queues, &self.crew, blank.as_slice(), entries)
     }
 
-    // Puts a request for each entry of the batch for which the pass is prepared into its queues. It takes no memory.
+    /// Puts a request for each entry of the batch for which the pass is prepared into its queues. It takes no memory.
     pub(crate) fn ask<Rt: Threads + Wait>(&mut self, rt: &Rt, queues: &Queues, batch: &Batch)
         requires prepared { (v : Table) × IsPreparedKit F.File v queues.now self.old batch.now.elements }
         ensures ready { (v : Table) → IsPreparedKit F.File v queues.now self.old batch.now.elements
@@ -269,7 +269,7 @@ impl<F: File> StillKit<F> {
         Ok(picture)
     }
 
-    // Moves the workers out: a loader for each store, and the samplers.
+    /// Moves the workers out: a loader for each store, and the samplers.
     pub(crate) fn muster(
         &mut self,
         queues: &Queues,
@@ -315,8 +315,8 @@ impl<F: File> StillKit<F> {
         mem::replace(&mut self.rows, Items::new(self.alloc))
     }
 
-    // Ends the round of the loaders, applies their results to the table, moves the workers back, and tells what the
-    // pass did. It may wait.
+    /// Ends the round of the loaders, applies their results to the table, moves the workers back, and tells what the
+    /// pass did. It may wait.
     pub(crate) fn finish<Rt: Threads + Wait>(
         &mut self,
         rt: &Rt,

@@ -52,7 +52,7 @@ fn apply_one(
     }
 }
 
-// Applies the results of a batch in their order, and notes of each entry whether it was lost.
+/// Applies the results of a batch in their order, and notes of each entry whether it was lost.
 pub(crate) fn apply_results(
     table: &mut StillTable,
     batch: &[Planned],

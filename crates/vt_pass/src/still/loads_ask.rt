@@ -15,7 +15,7 @@ use vt_evict::Planned;
 use vt_outside::{Bytes, Items};
 use vt_queue::{Loaded, QueuePass, Request, RequestQueue};
 
-// Puts a request for each entry of a batch into a new queue, with a buffer from the end of a list for each.
+/// Puts a request for each entry of a batch into a new queue, with a buffer from the end of a list for each.
 pub(crate) fn ask_batch<Rt: Threads + Wait>(
     rt: &Rt,
     requests: &RequestQueue,
@@ -52,7 +52,7 @@ pub(crate) fn ask_batch<Rt: Threads + Wait>(
     }
 }
 
-// Puts the buffers of results behind those of a list, the last result's first, and leaves no results.
+/// Puts the buffers of results behind those of a list, the last result's first, and leaves no results.
 pub(crate) fn give_back(results: &mut Items<Loaded>, buffers: &mut Items<Bytes>)
     requires { length results.old.elements ≤ buffers.old.spare }
     ensures none { results.new.elements ≡ [] }

@@ -19,8 +19,8 @@ use vt_queue::{Loaded, QueuePass, Request};
 use vt_store::Stores;
 use vt_table::StillTable;
 
-// Makes the passes of loaders that have ended one again, takes their results, and applies these in the order in which
-// they came. It may wait.
+/// Makes the passes of loaders that have ended one again, takes their results, and applies these in the order in which
+/// they came. It may wait.
 pub(crate) fn end_round<Rt: Threads + Wait, F: File>(
     rt: &Rt,
     queues: &Queues,

@@ -26,7 +26,7 @@ pub struct StillShared {
 }
 
 impl StillShared {
-    // A table that maps nothing, and queues with which no pass is made: each is prepared with new ones.
+    /// A table that maps nothing, and queues with which no pass is made: each is prepared with new ones.
     pub(crate) fn new(
         alloc: Global,
         geometry: &Geometry,

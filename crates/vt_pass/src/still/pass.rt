@@ -18,8 +18,8 @@ use vt_draw::Shot;
 use vt_evict::Batch;
 use vt_outside::{File, Gate};
 
-// Draws the picture of a shot over the table, and then streams the batch into it, whose requests were put: samplers
-// draw and loaders read at once, and the results are applied once all have ended. It may wait.
+/// Draws the picture of a shot over the table, and then streams the batch into it, whose requests were put: samplers
+/// draw and loaders read at once, and the results are applied once all have ended. It may wait.
 pub(crate) fn draw_and_stream<Rt: Threads + Wait + Sync, F: File + Send, G: Gate + Sync>(
     rt: &Rt,
     kit: &mut StillKit<F>,

@@ -7,7 +7,7 @@ use std::alloc::Global;
 use vt_outside::{File, Items, NoMemory};
 use vt_store::Store;
 
-// An empty list with room for so many elements.
+/// An empty list with room for so many elements.
 pub(crate) fn with_room<I>(alloc: Global, n: u64) -> Result<Items<I>, NoMemory>
 where
     I: Drop,

@@ -64,7 +64,7 @@ impl<F: File> Model for RoundKit<F> {
     } };
 }
 
-// New queues with room for so many items, and their passes.
+/// New queues with room for so many items, and their passes.
 pub(crate) fn new_queues(
     alloc: Global,
     capacity: u32,
@@ -111,7 +111,7 @@ fn make_buffers(
 }
 
 impl<F: File> RoundKit<F> {
-    // The kit with these passes, which has no buffers.
+    /// The kit with these passes, which has no buffers.
     pub(crate) fn new(
         alloc: Global,
         asks: QueuePass<Request>,
@@ -131,7 +131,7 @@ impl<F: File> RoundKit<F> {
         }
     }
 
-    // Ends the kit.
+    /// Ends the kit.
     pub(crate) fn end(self) {
         let RoundKit {
             alloc: _,
@@ -147,7 +147,7 @@ impl<F: File> RoundKit<F> {
         stores.destroy_empty();
     }
 
-    // Makes new queues, and room for all that a batch of so many entries needs later. The buffers have a tile's length.
+    /// Makes new queues, and room for all that a batch of so many entries needs later. The buffers have a tile's length.
     pub(crate) fn prepare(
         &mut self,
         queues: &mut Queues,
@@ -170,7 +170,7 @@ impl<F: File> RoundKit<F> {
         Ok(())
     }
 
-    // Puts a request for each entry of a batch into the queues, which are new.
+    /// Puts a request for each entry of a batch into the queues, which are new.
     pub(crate) fn ask<Rt: Threads + Wait>(&mut self, rt: &Rt, queues: &Queues, batch: &[Planned])
         requires passes { AreOf queues.now self.old.asks self.old.answers }
         requires new { view_of self.old.asks ≡ first_view }
@@ -190,7 +190,7 @@ impl<F: File> RoundKit<F> {
         );
     }
 
-    // Makes a loader of each store, with its passes of the queues.
+    /// Makes a loader of each store, with its passes of the queues.
     pub(crate) fn deal(&mut self, queues: &Queues, stores: Stores<F>) -> Items<QueuedLoader<F>>
         requires passes { AreOf queues.now self.old.asks self.old.answers }
         requires splits { (splits_of self.old.asks + 1 ≡ all_shares) × (splits_of self.old.answers + 1 ≡ all_shares) }
@@ -214,8 +214,8 @@ impl<F: File> RoundKit<F> {
         loaders
     }
 
-    // Ends the round of loaders that have ended, and applies their results to the table. Hands the stores back, and
-    // what is noted of each entry. It may wait.
+    /// Ends the round of loaders that have ended, and applies their results to the table. Hands the stores back, and
+    /// what is noted of each entry. It may wait.
     pub(crate) fn finish<Rt: Threads + Wait>(
         &mut self,
         rt: &Rt,

@@ -39,7 +39,7 @@ fn unmap_victim(table: &mut StillTable, planned: &Planned, events: &mut Events)
     events.push(Event::Changed(change));
 }
 
-// Fills a free frame with the tile of an unmapped page, and maps the page to it.
+/// Fills a free frame with the tile of an unmapped page, and maps the page to it.
 pub(crate) fn put_page(table: &mut StillTable, tile: &[u8], page: u32, frame: u32)
     requires table { IsTable table.old }
     requires page { page < pages_of table.old.shape }

@@ -25,7 +25,7 @@ pub(crate) fn note_lines(rows: &mut RowLines, samplers: u32, height: u32, versio
     }
 }
 
-// Puts what samplers have counted together in the place of counts.
+/// Puts what samplers have counted together in the place of counts.
 pub(crate) fn count_together(counts: &mut Counts, samplers: &[StillSampler])
     requires lengths { (k : ℕ) (d : Task) → k < length samplers.now
         → length (slice_index_or samplers.now k d).sampler.counts ≡ length counts.old }
