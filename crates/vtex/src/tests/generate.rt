@@ -18,7 +18,8 @@ fn kept(left: &Left) -> bool {
 
 // Making a texture writes these bytes alone and puts nothing.
 fn makes(rt: &(impl Threads + Wait + Sync), alloc: Global, words: &[&str], texture: &[u8]) -> bool {
-    match play(rt, alloc, words, G4, PATH, None, None) {
+    // A second creation would fail.
+    match play(rt, alloc, words, G4, PATH, Some(Fail::Create(1)), None) {
         Ok(left) => {
             left.status == 0
                 && left.holds("g.ppm", texture)

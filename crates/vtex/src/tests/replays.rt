@@ -184,6 +184,16 @@ const STOPS: [Stop; 14] = [
 ];
 
 #[test]
+fn a_replay_creates_each_picture_once(rt: HostRuntime) {
+    // A second creation would fail.
+    let row = Row {
+        fail: Some(Fail::Create(1)),
+        ..replayed(G4_STORE, PATH, SETTLED, &[PICTURE])
+    };
+    assert!(rt; holds(&rt, rt.alloc(), &row));
+}
+
+#[test]
 fn what_stands_after_a_failed_call_of_a_replay(rt: HostRuntime) {
     let whole = replayed(G4_STORE, PATH, SETTLED, &[PICTURE]);
     for (fail, pictures, out) in STOPS {

@@ -1,6 +1,6 @@
 // What stands after each call of a walk that fails.
 use super::PICTURE;
-use super::rows::{failing, holds};
+use super::rows::{Row, failing, holds};
 use super::walks::{SETTLED, SETTLED_LOG, SETTLED_PASSES};
 use std::alloc::Global;
 use std::sync::Wait;
@@ -82,6 +82,16 @@ fn each_call_of_a_walk_that_fails_leaves_what_was_written_before_it(rt: HostRunt
     for stop in STOPS {
         assert!(rt; stops(&rt, rt.alloc(), stop));
     }
+}
+
+#[test]
+fn a_walk_creates_its_journal_and_its_picture_once_each(rt: HostRuntime) {
+    // A third creation would fail.
+    let row = Row {
+        fail: Some(Fail::Create(2)),
+        ..SETTLED
+    };
+    assert!(rt; holds(&rt, rt.alloc(), &row));
 }
 
 #[test]
