@@ -1,5 +1,5 @@
 -- What files, folders and sinks hold, and what calls do to it.
-use Rattle.std.specs.Prelude.{◌≡◌, ℕ, ◌+◌, ◌≤◌, Bool, List, [], ◌∷◌, ◌++◌, length, take, drop, Option, Some, IsSome, IfSome, OnSome, option_map, option_and_then, unwrap_or, if◌then◌else◌}
+use Rattle.std.specs.Prelude.{◌≡◌, ℕ, ◌+◌, ◌≤◌, ◌<◌, Bool, List, [], ◌∷◌, ◌++◌, length, take, drop, All, Option, Some, IsSome, IfSome, OnSome, option_map, option_and_then, unwrap_or, if◌then◌else◌}
 use Rattle.std.specs.Str.{bytes_eq}
 use Rattle.vt_outside.specs.declared.place.Place.{Place}
 
@@ -18,6 +18,10 @@ bytes_at told name = option_and_then (λ files. files name) told
 -- the name is there, where the folder tells its files
 abbrev pub IsThere : Option Files → List ℕ → Type 0
 IsThere told name = OnSome told (IsSome (bytes_at told name))
+
+-- what the file tells, where it tells its bytes, are bytes: each is below 256
+abbrev pub TellsBytes : Option (List ℕ) → Type 0
+TellsBytes told = IfSome told (λ bytes. All (λ byte. byte < 256) bytes)
 
 -- the file has so many bytes from a place on, where it tells its bytes
 abbrev pub HasPlace : Option (List ℕ) → ℕ → ℕ → Type 0

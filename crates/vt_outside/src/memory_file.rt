@@ -1,4 +1,4 @@
-ghost use Rattle.std.specs.Prelude.{◌≡◌, ◌+◌, ◌≤◌, ◌||◌, [], Some, length, not, nat_le, is_err, string_bytes, IfOk, OnOk, OnErr};
+ghost use Rattle.std.specs.Prelude.{◌≡◌, ◌+◌, ◌<◌, ◌≤◌, ◌||◌, [], Some, All, length, not, nat_le, is_err, string_bytes, IfOk, OnOk, OnErr};
 ghost use Rattle.std.specs.Bool.{OnTrue, OnFalse};
 ghost use Rattle.vt_outside.specs.Counts.{added};
 ghost use Rattle.vt_outside.specs.Fails.{is_listed};
@@ -95,6 +95,7 @@ impl File for MemoryFile {
     /// Answers the number of bytes. It fails exactly where `Length` of this opening is in the list.
     fn length(&mut self) -> Result<u64, Failed>
         ensures told { IfOk result (λ n. n ≡ length (file_bytes self.old)) }
+        ensures values { OnOk result (All (λ byte. byte < 256) (file_bytes self.old)) }
         ensures failed { is_err result ≡ is_length_listed self.old }
         ensures faults { file_faults self.new ≡ raised_if (is_err result) (file_faults self.old) }
         ensures rises { file_faults self.old ≤ file_faults self.new }
@@ -115,7 +116,7 @@ impl File for MemoryFile {
         ) {
             return Err(Failed);
         }
-        Ok(self.bytes.len() as u64)
+        Ok(length_of(&self.bytes))
     }
 
     /// Makes room to note so many more reads. After a refusal nothing changed.
@@ -165,6 +166,14 @@ impl File for MemoryFile {
         });
         if failed { Err(Failed) } else { Ok(()) }
     }
+}
+
+// The number of the bytes, each of which is below 256.
+fn length_of(bytes: &[u8]) -> u64
+    ensures length { result ≡ length bytes.now }
+    ensures values { All (λ byte. byte < 256) bytes.now }
+{
+    bytes.len() as u64
 }
 
 // Fills the buffer with the bytes from a place on; no, and nothing changes, where that passes their end.

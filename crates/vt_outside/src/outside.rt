@@ -1,6 +1,6 @@
 ghost use Rattle.std.specs.Prelude.{◌≡◌, ℕ, ◌+◌, ◌≤◌, List, [], length, take, Option, Some, IsSome, is_some, is_err, option_map, if◌then◌else◌, IsErr, IsErrOf, IfOk, IfSome, OnOk, OnErr, OnSome};
 ghost use Rattle.vt_outside.specs.Counts.{Rose, added};
-ghost use Rattle.vt_outside.specs.Files.{Files, Asked, IsPiece, HasPlace, IsThere, noted, with_bytes, with_appended, with_places, bytes_at, gained};
+ghost use Rattle.vt_outside.specs.Files.{Files, Asked, IsPiece, TellsBytes, HasPlace, IsThere, noted, with_bytes, with_appended, with_places, bytes_at, gained};
 ghost use Rattle.vt_outside.specs.declared.place.Place.{Place};
 
 use crate::{Failed, NoMemory, OutsideError, Point};
@@ -25,9 +25,10 @@ pub trait File {
     /// How many faults it has met.
     ghost faults: { Self → ℕ };
 
-    /// Answers the number of bytes.
+    /// Answers the number of bytes. Once it did, what is told are bytes, each below 256.
     fn length(&mut self) -> Result<u64, Failed>
         ensures told { IfOk result (λ n. IfSome (bytes self.old) (λ b. n ≡ length b)) }
+        ensures values { OnOk result (TellsBytes (bytes self.old)) }
         ensures failed { IsErr result → Rose (faults self.old) (faults self.new) }
         ensures bytes { bytes self.new ≡ bytes self.old }
         ensures asked { asked self.new ≡ asked self.old }

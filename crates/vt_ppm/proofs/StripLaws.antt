@@ -4,17 +4,17 @@ use Rattle.std.proofs.lemmas.Bool.{cases_lt}
 use Rattle.std.proofs.lemmas.List.{get_or-take, get_or-drop, drop-drop, length-take-le}
 use Rattle.std.proofs.lemmas.List.Elements.{All-take, All-drop}
 use Rattle.std.proofs.lemmas.Nat.{mul-le}
-use Rattle.vt_definitions.specs.Depths.{IsDepth, AreBytes, sample_at, texel_length}
+use Rattle.vt_definitions.specs.Depths.{IsDepth, AreBytes, greatest_sample, sample_at, texel_length}
 use Rattle.vt_definitions.specs.Limits.{header_limit, most_tiled_side}
-use Rattle.vt_outside.specs.Files.{IsPiece, HasPlace}
+use Rattle.vt_outside.specs.Files.{IsPiece, TellsBytes, HasPlace}
 use Rattle.vt_ppm.specs.declared.header.Header.{Header}
 use Rattle.vt_ppm.specs.Format.{IsTexture, AreUpTo, depth_of, scaled}
 use Rattle.vt_ppm.specs.Flaws.{IsLawfulHeader, IsSampleOver}
 use Rattle.vt_ppm.specs.Reads.{IsFront}
 use Rattle.vt_ppm.specs.Samples.{AreScaledUpTo, IsFirstOver}
-use Rattle.vt_ppm.specs.Strips.{HasRaster, HasRasterIfTold, HasSamplesIfTold, IsTextureIfTold, AreRowsUpTo, texture_of, sample_bytes, kept_samples, row_length, row_start, rows_of}
+use Rattle.vt_ppm.specs.Strips.{HasRaster, HasRasterIfTold, MayBeOver, HasSamplesIfTold, IsTextureIfTold, AreRowsUpTo, texture_of, sample_bytes, kept_samples, row_length, row_start, rows_of}
 use Rattle.vt_ppm.proofs.Rasters.{image_made}
-use Rattle.vt_ppm.proofs.SampleValues.{by_depth, depth_is, kept_few, same_bytes, samples_of_texels, samples_length, samples_bytes, samples_sample}
+use Rattle.vt_ppm.proofs.SampleValues.{by_depth, depth_is, sample_few, kept_few, same_bytes, samples_of_texels, samples_length, samples_bytes, samples_sample}
 use Rattle.vt_ppm.proofs.TellingFiles.{header_told}
 
 -- a sample of the first ones is one of all
@@ -146,6 +146,19 @@ texture_is b h has few =
 pub texture_told : (told : Option (List ℕ)) (h : Header) → HasRasterIfTold told h → HasSamplesIfTold told h → IsTextureIfTold told h
 texture_told told h raster samples = record { each = λ b e. texture_is b h (raster.each b e) (samples.each b e) }
 
+-- where no sample may be above the maximum, none is
+pub none_over : (told : Option (List ℕ)) (h : Header) → HasRasterIfTold told h → (MayBeOver h → ⊥) → HasSamplesIfTold told h
+none_over told h raster never = record { each = λ b e i inside. below b (raster.each b e) i }
+  where
+    below : (b : List ℕ) → HasRaster b h → (i : ℕ) → sample_at (depth_of h.maximum) (drop h.raster b) i ≤ h.maximum
+    below b has i =
+        let few : sample_at (depth_of h.maximum) (drop h.raster b) i ≤ greatest_sample (depth_of h.maximum) =
+        sample_few (depth_of h.maximum) (drop h.raster b) i (depth_is h.maximum) (All-drop (λ s. s < 256) h.raster b has.values) in
+        elim (cases_lt h.maximum (greatest_sample (depth_of h.maximum))) [
+          | inl may ↦ absurd (never may)
+          | inr greatest ↦ omega (arith, few, greatest)
+        ]
+
 -- rows that were read and scaled are those of the texture
 pub rows_are : (h : Header) (b xs out : List ℕ) (y count : ℕ) → HasRaster b h → AreRowsUpTo h b h.height → y + count ≤ h.height
     → IsPiece b (row_start h y) xs → length xs ≡ count * row_length h → length out ≡ length xs
@@ -184,14 +197,15 @@ rows_are h b xs out y count has few inside piece full kept scaling bytes =
 -- the raster is there where the file has as many bytes behind the header
 pub raster_told : (told : Option (List ℕ)) (n : ℕ) (front : List ℕ) (h : Header) (want have : ℕ) → IfSome told (λ b. IsFront b n front)
     → length front ≡ min n header_limit → IsLawfulHeader most_tiled_side front h.raster h.width h.height h.maximum
-    → want ≡ texel_length (depth_of h.maximum) * (h.width * h.height) → have ≡ n - h.raster → want ≤ have → HasRasterIfTold told h
-raster_told told n front h want have is few header want_is have_is
-    enough = record { each = λ b e. there b (subst (λ t. IfSome t (λ b. IsFront b n front)) e is) }
+    → want ≡ texel_length (depth_of h.maximum) * (h.width * h.height) → have ≡ n - h.raster → want ≤ have → TellsBytes told → HasRasterIfTold told h
+raster_told told n front h want have is few header want_is have_is enough values =
+    record { each = λ b e. there b (subst TellsBytes e values) (subst (λ t. IfSome t (λ b. IsFront b n front)) e is) }
   where
-    there : (b : List ℕ) → IsFront b n front → HasRaster b h
-    there b f =
+    there : (b : List ℕ) → AreBytes b → IsFront b n front → HasRaster b h
+    there b are f =
         let whole : h.height * row_length h ≡ texel_length (depth_of h.maximum) * (h.width * h.height) = grind arith in
         record {
+          values = are;
           header = header_told most_tiled_side (Some b) n front f h.raster h.width h.height h.maximum header;
           full = omega (arith, f.len_is, few, header.sized.header.within, want_is, have_is, enough, whole);
         }

@@ -1,7 +1,7 @@
 -- A texture that is read by strips, which are whole rows.
-use Rattle.std.specs.Prelude.{◌≡◌, ℕ, zero, suc, ◌+◌, ◌-◌, ◌*◌, ◌/◌, ◌<◌, ◌≤◌, Bool, true, false, List, [], ◌∷◌, ◌++◌, length, map, All, take, drop, min, Option, Some, option_map, Result, Ok, Err}
+use Rattle.std.specs.Prelude.{◌≡◌, ℕ, zero, suc, ◌+◌, ◌-◌, ◌*◌, ◌/◌, ◌<◌, ◌≤◌, Bool, true, false, List, [], ◌∷◌, ◌++◌, length, map, All, take, drop, min, Option, Some, option_map, Result, Ok, Err, IsOk}
 use Rattle.std.specs.List.{range_with_len}
-use Rattle.vt_definitions.specs.Depths.{texel_length, sample_at}
+use Rattle.vt_definitions.specs.Depths.{AreBytes, greatest_sample, texel_length, sample_at}
 use Rattle.vt_definitions.specs.Limits.{header_limit, most_tiled_side}
 use Rattle.vt_definitions.specs.Numbers.{number_bytes}
 use Rattle.vt_outside.specs.Files.{noted}
@@ -57,8 +57,9 @@ pub record IsTextureHeader (h : Header) : Type 0 where
   pub maximum : IsMaximum h.maximum
   pub early : h.raster ≤ header_limit
 
--- the bytes begin with this header, and have its whole raster
+-- the bytes, which are bytes, begin with this header, and have its whole raster
 pub record HasRaster (b : List ℕ) (h : Header) : Type 0 where
+  pub values : AreBytes b
   pub header : IsLawfulHeader most_tiled_side b h.raster h.width h.height h.maximum
   pub full : row_start h h.height ≤ length b
 
@@ -69,6 +70,10 @@ pub record HasRasterIfTold (told : Option (List ℕ)) (h : Header) : Type 0 wher
 -- the bytes, where they are told, spell the texture behind this header
 pub record IsTextureIfTold (told : Option (List ℕ)) (h : Header) : Type 0 where
   pub each : (b : List ℕ) → told ≡ Some b → IsTexture b (texture_of h b)
+
+-- a sample may be above the maximum: the maximum is not the greatest of its depth
+abbrev pub MayBeOver : Header → Type 0
+MayBeOver h = h.maximum < greatest_sample (depth_of h.maximum)
 
 -- no sample of the first rows, so many, is above the maximum
 abbrev pub AreRowsUpTo : Header → List ℕ → ℕ → Type 0
@@ -135,6 +140,12 @@ ChecksPieces h (Err (SampleOver at)) before after =
     (n : ℕ) × (n < pieces_of h) × (at < row_start h (n * piece_rows h + piece_count h n)) × PiecesAsked h (n + 1) before after
 ChecksPieces h (Err Failed) before after = (n : ℕ) × (n < pieces_of h) × PiecesFailed h n before after
 ChecksPieces h (Err _) before after = ⊥
+
+-- nothing was asked of the file, and nothing was refused
+pub record ReadsNothing {T : Type 0} (r : Result T PpmError) (before after : Option (List Place)) (faults risen : ℕ) : Type 0 where
+  pub done : IsOk r
+  pub places : after ≡ before
+  pub count : risen ≡ faults
 
 -- the file that an opening hands back, in the reader or beside the refusal
 abbrev pub file_after : {F : Type 0} → Result (StripView F) (F × PpmError) → F

@@ -2,7 +2,7 @@
 ghost use Rattle.std.specs.Prelude.{◌≡◌, ◌+◌, ◌≤◌, length, min, IfOk, IfErr, IfSome, IsErrOf, OnOk};
 ghost use Rattle.vt_definitions.specs.Limits.{header_limit, most_tiled_side};
 ghost use Rattle.vt_outside.specs.Counts.{Rose};
-ghost use Rattle.vt_outside.specs.Files.{IsPiece};
+ghost use Rattle.vt_outside.specs.Files.{IsPiece, TellsBytes};
 ghost use Rattle.vt_ppm.specs.Format.{IsImage};
 ghost use Rattle.vt_ppm.specs.Flaws.{IsHeaderFlaw, IsImageFlaw, IsLawfulHeader};
 ghost use Rattle.vt_ppm.specs.Reads.{AsksHeader, AsksImage, AnswersOfHeader, AnswersOfImage, ReadsFront, NotesRead, IsFront};
@@ -49,6 +49,7 @@ fn bytes_at<F: File>(
 fn front_of<F: File>(alloc: Global, file: &mut F, reads: u64) -> Result<Front, PpmError>
     requires { 1 ≤ reads }
     ensures front { IfOk result (λ f. IfSome (F.bytes file.old) (λ b. IsFront b f.length f.bytes.items)) }
+    ensures values { OnOk result (TellsBytes (F.bytes file.old)) }
     ensures few { IfOk result (λ f. length f.bytes.items ≡ min f.length header_limit) }
     ensures refusals { IfErr result IsOutsideRefusal }
     ensures failed { IsErrOf result PpmError.Failed → Rose (F.faults file.old) (F.faults file.new) }

@@ -1,10 +1,10 @@
 //! Where the rows of a texture stand in its file.
-ghost use Rattle.std.specs.Prelude.{◌≡◌, ◌+◌, ◌*◌, ◌≤◌};
-ghost use Rattle.vt_ppm.specs.Strips.{IsTextureHeader, row_length, row_start, piece_rows, pieces_of};
+ghost use Rattle.std.specs.Prelude.{◌≡◌, ◌+◌, ◌*◌, ◌≤◌, MatchBool};
+ghost use Rattle.vt_ppm.specs.Strips.{IsTextureHeader, MayBeOver, row_length, row_start, piece_rows, pieces_of};
 
 use crate::Header;
 use crate::header::depth_of;
-use vt_definitions::texel_length;
+use vt_definitions::{greatest_sample, texel_length};
 
 // How many bytes are looked over at once, but for the rest of a row.
 const PIECE_LENGTH: usize = 1048576;
@@ -36,6 +36,13 @@ pub fn row_start(header: &Header, y: u32) -> u64
     ensures few { result ≤ 1610678272 }
 {
     header.raster + y as u64 * row_length(header) as u64
+}
+
+/// Whether a sample may be above the maximum, which then is not the greatest of its depth.
+pub fn may_be_over(header: &Header) -> bool
+    ensures { MatchBool result (MayBeOver header.now) (MayBeOver header.now → ⊥) }
+{
+    header.maximum < greatest_sample(depth_of(header.maximum))
 }
 
 /// How many rows are looked over at once.

@@ -6,12 +6,12 @@ ghost use Rattle.vt_ppm.specs.Flaws.{IsHeaderFlaw};
 ghost use Rattle.vt_ppm.specs.Format.{depth_of};
 ghost use Rattle.vt_ppm.specs.Reads.{AsksHeader, AnswersOfHeader};
 ghost use Rattle.vt_ppm.specs.Refusals.{IsOutsideRefusal, IsSampleRefusal, IsCheckRefusal};
-ghost use Rattle.vt_ppm.specs.Strips.{AreRowsUpTo, HasRasterIfTold, HasSamplesIfTold, IsTextureIfTold, IsTextureHeader, ChecksPieces, ChecksRows, GainsRows, RowsAsked, piece_rows, row_length, rows_of, file_after, answer_in};
+ghost use Rattle.vt_ppm.specs.Strips.{AreRowsUpTo, HasRasterIfTold, HasSamplesIfTold, IsTextureIfTold, IsTextureHeader, MayBeOver, ChecksPieces, ChecksRows, ReadsNothing, GainsRows, RowsAsked, piece_rows, row_length, rows_of, file_after, answer_in};
 
 use crate::header::depth_of;
 use crate::raster::{first_over, scale};
 use crate::read::read_texture_header;
-use crate::rows::{piece_rows, pieces_of, row_length, row_start, sample_count};
+use crate::rows::{may_be_over, piece_rows, pieces_of, row_length, row_start, sample_count};
 use crate::{Header, PpmError};
 use std::alloc::Global;
 use std::marker::Model;
@@ -91,7 +91,11 @@ fn look_over_rows<F: File>(
 }
 
 // Looks all rows over, in pieces that the buffer holds.
-fn look_over<F: File>(file: &mut F, header: &Header, buffer: &mut [u8]) -> Result<(), PpmError>
+fn look_over_pieces<F: File>(
+    file: &mut F,
+    header: &Header,
+    buffer: &mut [u8],
+) -> Result<(), PpmError>
     requires header { IsTextureHeader header.now }
     requires raster { HasRasterIfTold (F.bytes file.old) header.now }
     requires size { length buffer.old ≡ piece_rows header.now * row_length header.now }
@@ -115,6 +119,30 @@ fn look_over<F: File>(file: &mut F, header: &Header, buffer: &mut [u8]) -> Resul
         look_over_rows(file, header, y, count, &mut buffer[..count as usize * row])?;
     }
     Ok(())
+}
+
+// Looks all rows over, where a sample may be above the maximum. Else no sample of bytes is, and nothing is read.
+fn look_over<F: File>(file: &mut F, header: &Header, buffer: &mut [u8]) -> Result<(), PpmError>
+    requires header { IsTextureHeader header.now }
+    requires raster { HasRasterIfTold (F.bytes file.old) header.now }
+    requires size { length buffer.old ≡ piece_rows header.now * row_length header.now }
+    requires spare { header.now.height ≤ F.spare file.old }
+    ensures few { OnOk result (HasSamplesIfTold (F.bytes file.old) header.now) }
+    ensures flaw { IfErr result (λ e. IsSampleRefusal e → IfSome (F.bytes file.old) (λ b. IsHeaderFlaw b e)) }
+    ensures refusals { IfErr result IsCheckRefusal }
+    ensures failed { IsErrOf result PpmError.Failed → Rose (F.faults file.old) (F.faults file.new) }
+    ensures asked { MayBeOver header.now → ChecksPieces header.now result (F.asked file.old) (F.asked file.new) }
+    ensures rows { GainsRows header.now (F.asked file.old) (F.asked file.new) }
+    ensures unread { (MayBeOver header.now → ⊥) → ReadsNothing result (F.asked file.old) (F.asked file.new) (F.faults file.old) (F.faults file.new) }
+    ensures spare { F.spare file.old ≤ F.spare file.new + header.now.height }
+    ensures bytes { F.bytes file.new ≡ F.bytes file.old }
+    ensures name { F.name file.new ≡ F.name file.old }
+    ensures faults { F.faults file.old ≤ F.faults file.new }
+{
+    if !may_be_over(header) {
+        return Ok(());
+    }
+    look_over_pieces(file, header, buffer)
 }
 
 impl<F: File> StripReader<F> {
@@ -191,7 +219,8 @@ impl<F: File> StripReader<F> {
     }
 
     /// Looks all samples over, so that rows may be read. It reads the raster in pieces of whole rows, about a mebibyte each, in
-    /// order. It takes no memory.
+    /// order; where the maximum is the greatest sample of its depth, so that none can be above it, it reads nothing and answers Ok.
+    /// It takes no memory.
     ///
     /// Where the file tells its bytes, `SampleOver` comes exactly at the first sample above the maximum, once the piece that
     /// holds it was read. `Failed` comes only where the file's count of faults rose. No other refusal comes. After a refusal no
@@ -204,7 +233,9 @@ impl<F: File> StripReader<F> {
         ensures flaw { IfErr result (λ e. IsSampleRefusal e → IfSome (F.bytes self.old.file) (λ b. IsHeaderFlaw b e)) }
         ensures refusals { IfErr result IsCheckRefusal }
         ensures failed { IsErrOf result PpmError.Failed → Rose (F.faults self.old.file) (F.faults self.new.file) }
-        ensures asked { ChecksPieces self.old.header result (F.asked self.old.file) (F.asked self.new.file) }
+        ensures asked { MayBeOver self.old.header → ChecksPieces self.old.header result (F.asked self.old.file) (F.asked self.new.file) }
+        ensures unread { (MayBeOver self.old.header → ⊥)
+            → ReadsNothing result (F.asked self.old.file) (F.asked self.new.file) (F.faults self.old.file) (F.faults self.new.file) }
         ensures rows { GainsRows self.old.header (F.asked self.old.file) (F.asked self.new.file) }
         ensures spare { F.spare self.old.file ≤ F.spare self.new.file + self.old.header.height }
         ensures bytes { F.bytes self.new.file ≡ F.bytes self.old.file }

@@ -160,7 +160,7 @@ fn several_rows_are_one_read(rt: HostRuntime) -> Result<(), TestFail> {
     let (lower, all) = strips_in(rt.alloc(), &mut folder, (1, 2), (0, 3))?;
     assert_eq!(rt; lower?.as_slice(), b"defghi".as_slice());
     assert_eq!(rt; all?.as_slice(), b"abcdefghi".as_slice());
-    let places = [(0, 29), (11, 9), (14, 6), (11, 9)].map(|(at, len)| Place {
+    let places = [(0, 29), (14, 6), (11, 9)].map(|(at, len)| Place {
         at,
         len,
         failed: false,
@@ -245,6 +245,30 @@ fn a_raster_is_looked_over_in_pieces(rt: HostRuntime) -> Result<(), TestFail> {
         failed: false,
     });
     assert!(rt; folder.was_asked("t", &places));
+    Ok(())
+}
+
+#[test]
+fn a_raster_is_read_only_where_a_sample_may_be_over(rt: HostRuntime) -> Result<(), TestFail> {
+    let textures: [(&[u8], u64, Option<(u64, u64)>); 4] = [
+        (b"P6 1 2 255\nabcdef", 17, None),
+        (b"P6 1 2 254\nabcdef", 17, Some((11, 6))),
+        (b"P6 1 2 65535\nabcdefghijkl", 25, None),
+        (b"P6 1 2 65534\nabcdefghijkl", 25, Some((13, 12))),
+    ];
+    for (bytes, front, raster) in textures {
+        let mut folder = folder_of(rt.alloc(), bytes, &[])?;
+        let answer = checked_in(rt.alloc(), &mut folder);
+        assert_eq!(rt; refusal_of(&mut folder, answer), None);
+        let read = |(at, len)| Place {
+            at,
+            len,
+            failed: false,
+        };
+        assert_eq!(rt; folder.asked("t", 0), Some(read((0, front))));
+        assert_eq!(rt; folder.asked("t", 1), raster.map(read));
+        assert_eq!(rt; folder.asked("t", 2), None);
+    }
     Ok(())
 }
 

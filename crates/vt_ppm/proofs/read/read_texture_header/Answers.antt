@@ -22,4 +22,4 @@ pub returns-clause-raster : goal.returns-clause-raster
 returns-clause-raster g c =
     raster_told _ c.in_ok-bytes.field-0.length c.deref.result.now c.in_ok-header.header _ _
     (rw c.deref.ensures.value c.in_ok-bytes.ensures.front) (rw c.deref.ensures.value c.in_ok-bytes.ensures.few) c.in_ok-header.ensures.header
-    c.raster_length-want.ensures refl c.if-have-want.false
+    c.raster_length-want.ensures refl c.if-have-want.false c.in_ok-bytes.ensures.values

@@ -1,6 +1,6 @@
 use Rattle.std.proofs.Common.{◌≡◌, ◌+◌, ◌*◌, ◌≤◌, min, IfSome}
 use Rattle.vt_ppm.specs.Strips.{AreRowsUpTo, PiecesAsked, piece_rows}
-use Rattle.vt_ppm.proofs.strips.look_over.Given as goal
+use Rattle.vt_ppm.proofs.strips.look_over_pieces.Given as goal
 
 abbrev pub invariant-loop-piece : goal.invariant-loop-piece
 invariant-loop-piece g l = record {

@@ -1,0 +1,69 @@
+use Rattle.std.proofs.Common.{◌*◌, ◌+◌, ◌∙◌, min, Err, refl, arith}
+use Rattle.std.proofs.lemmas.Result.{err_from_is_err_and}
+use Rattle.vt_ppm.specs.Flaws.{IsHeaderFlaw}
+use Rattle.vt_ppm.specs.Strips.{AreRowsUpTo, piece_rows}
+use Rattle.vt_ppm.proofs.CheckedPieces.{piece_is, all_done, more_asked, last_asked, check_gains, front_gains, some_rows, found_next, samples_told}
+use Rattle.vt_ppm.proofs.strips.look_over_pieces.Goals as goal
+
+pub returns-in_err-look_over_rows-clause-flaw : goal.returns-in_err-look_over_rows-clause-flaw
+returns-in_err-look_over_rows-clause-flaw g c =
+    let p = err_from_is_err_and c.from_residual.result c.from_residual.ensures.1 in
+    let h = c.args.header.now in
+    let piece = piece_is h c.piece_rows-step.result c.pieces_of-piece-end.result c.loop-piece.piece _ c.min-count.result
+    c.piece_rows-step.ensures.value c.piece_rows-step.ensures.some c.pieces_of-piece-end.ensures.value c.loop-piece-test.true refl c.min-count.ensures in
+    rw (p.1, p.2) (λ sample. found_next (λ b. AreRowsUpTo h b _) (λ b. IsHeaderFlaw b c.in_err-look_over_rows.field-0.0)
+    (g.F.File.bytes c.args.file.now) (g.F.File.bytes c.loop-piece.file) c.loop-piece.invariant.bytes
+    (rw (← piece.here) c.loop-piece.invariant.few) (c.in_err-look_over_rows.ensures.flaw sample))
+
+pub returns-in_err-look_over_rows-clause-asked : goal.returns-in_err-look_over_rows-clause-asked
+returns-in_err-look_over_rows-clause-asked g c =
+    let p = err_from_is_err_and c.from_residual.result c.from_residual.ensures.1 in
+    let h = c.args.header.now in
+    let piece = piece_is h c.piece_rows-step.result c.pieces_of-piece-end.result c.loop-piece.piece _ c.min-count.result
+    c.piece_rows-step.ensures.value c.piece_rows-step.ensures.some c.pieces_of-piece-end.ensures.value c.loop-piece-test.true refl c.min-count.ensures in
+    rw (p.1, p.2) (last_asked h c.loop-piece.piece _ c.min-count.result (g.F.File.asked c.args.file.now) (g.F.File.asked c.loop-piece.file)
+    (g.F.File.asked c.look_over_rows.new.file) c.loop-piece.invariant.asked piece c.in_err-look_over_rows.field-0.0
+    c.in_err-look_over_rows.ensures.asked)
+
+pub loop-piece-preserved : goal.loop-piece-preserved
+loop-piece-preserved g c =
+    let h = c.args.header.now in
+    let piece = piece_is h c.piece_rows-step.result c.pieces_of-piece-end.result c.loop-piece.piece _ c.min-count.result
+    c.piece_rows-step.ensures.value c.piece_rows-step.ensures.some c.pieces_of-piece-end.ensures.value c.loop-piece-test.true refl c.min-count.ensures in
+    record {
+      few = rw piece.next (found_next (λ b. AreRowsUpTo h b (c.loop-piece.piece * c.piece_rows-step.result))
+          (λ b. AreRowsUpTo h b (c.loop-piece.piece * c.piece_rows-step.result + c.min-count.result))
+          (g.F.File.bytes c.args.file.now) (g.F.File.bytes c.loop-piece.file) c.loop-piece.invariant.bytes
+          (rw (← piece.here) c.loop-piece.invariant.few) c.in_ok-look_over_rows.ensures.few);
+      asked = more_asked h c.loop-piece.piece _ c.min-count.result (g.F.File.asked c.args.file.now) (g.F.File.asked c.loop-piece.file)
+          (g.F.File.asked c.look_over_rows.new.file) c.loop-piece.invariant.asked piece c.in_ok-look_over_rows.ensures.asked;
+      spare = omega (arith, c.look_over_rows.ensures.spare, c.loop-piece.invariant.spare);
+      bytes = c.look_over_rows.ensures.bytes ∙ c.loop-piece.invariant.bytes;
+      called = c.look_over_rows.ensures.name ∙ c.loop-piece.invariant.called;
+      faults = omega (arith, c.look_over_rows.ensures.faults, c.loop-piece.invariant.faults);
+    }
+
+pub returns-clause-few : goal.returns-clause-few
+returns-clause-few g c =
+    let h = c.args.header.now in
+    samples_told (g.F.File.bytes c.args.file.now) h (min (c.loop-piece.piece * piece_rows h) h.height)
+    (all_done h c.piece_rows-step.result c.pieces_of-piece-end.result c.loop-piece.piece c.piece_rows-step.ensures.value c.piece_rows-step.ensures.some
+    c.pieces_of-piece-end.ensures.value (omega (arith, c.loop-piece-test.false, c.loop-piece.auto.piece-end))) c.loop-piece.invariant.few
+
+pub returns-in_err-look_over_rows-clause-rows : goal.returns-in_err-look_over_rows-clause-rows
+returns-in_err-look_over_rows-clause-rows g c =
+    let h = c.args.header.now in
+    let piece = piece_is h c.piece_rows-step.result c.pieces_of-piece-end.result c.loop-piece.piece _ c.min-count.result
+    c.piece_rows-step.ensures.value c.piece_rows-step.ensures.some c.pieces_of-piece-end.ensures.value c.loop-piece-test.true refl c.min-count.ensures in
+    check_gains h {T = Unit {0}} (Err c.in_err-look_over_rows.field-0.0) (g.F.File.asked c.args.file.now) (g.F.File.asked c.look_over_rows.new.file)
+    (some_rows h c.requires.header)
+    (last_asked h c.loop-piece.piece _ c.min-count.result (g.F.File.asked c.args.file.now) (g.F.File.asked c.loop-piece.file)
+    (g.F.File.asked c.look_over_rows.new.file) c.loop-piece.invariant.asked piece c.in_err-look_over_rows.field-0.0
+    c.in_err-look_over_rows.ensures.asked)
+
+pub returns-clause-rows : goal.returns-clause-rows
+returns-clause-rows g c =
+    let h = c.args.header.now in
+    front_gains h c.loop-piece.piece (g.F.File.asked c.args.file.now) (g.F.File.asked c.loop-piece.file)
+    (omega (arith, c.loop-piece-test.false, c.loop-piece.auto.piece-end, c.pieces_of-piece-end.ensures.value)) (some_rows h c.requires.header)
+    c.loop-piece.invariant.asked
