@@ -1,7 +1,8 @@
 -- How `walk` ends, from what its readers answered and what the walk left.
 use Rattle.std.proofs.Common.{◌≡◌, ◌⊎◌, ℕ, Bool, false, ◌+◌, ◌*◌, ◌<◌, ◌≤◌, List, [], ◌∷◌, ◌++◌, length, Option, Some, None, Ok, Err, refl, sym, ap, ap₂, subst, ◌∙◌, inl, inr, arith}
-use Rattle.std.specs.Prelude.{Result, MatchResult, IsTrue, sum, unwrap_or}
+use Rattle.std.specs.Prelude.{Result, MatchResult, IsTrue, true, ◌||◌, sum, unwrap_or}
 use Rattle.std.specs.Option.{option_map, IsSome}
+use Rattle.std.specs.Str.{bytes_eq}
 use Rattle.std.proofs.lemmas.List.{append-nil}
 use Rattle.std.proofs.lemmas.Bool.{cases_lt, false≢true}
 use Rattle.vt_definitions.specs.Limits.{most_frame_texels}
@@ -17,6 +18,7 @@ use Rattle.vt_shown.specs.Scenes.{scene_of}
 use Rattle.vt_walk.specs.declared.error.WalkError.{WalkError}
 use Rattle.vt_walk.specs.declared.error.WalkError.TheVariants as walks
 use Rattle.vt_walk.specs.Walks.{WalkGiven, given_by, mode_of}
+use Rattle.vt_walk.specs.Folders.{IsApart}
 use Rattle.vt_walk.specs.States.{WalkState, places_of}
 use Rattle.vt_walk.specs.Reads.{OnTold}
 use Rattle.vt_walk.specs.Standing.{Finished}
@@ -28,6 +30,8 @@ use Rattle.vt_walk.proofs.Closings.{AreSamePlaces, same_places, IsAlike}
 use Rattle.vt_walk.proofs.Alike.{ends_alike}
 use Rattle.vt_walk.proofs.Earlier.{ends_from}
 use Rattle.vt_walk.proofs.Wholeness.{fits_or_not}
+use Rattle.vt_words.specs.Names.{is_picture_name}
+use Rattle.vt_words.specs.Journals.{names_clash}
 use Rattle.vt_words.specs.Walk.{WalkText}
 use Rattle.vtex.specs.Machines.{Drawing}
 use Rattle.vtex.specs.Inputs.{Input, Content, PathInput, StoreInput, PathContent, StoreContent, header_places}
@@ -36,7 +40,7 @@ use Rattle.vtex.specs.Causes.{AreHeld, IsAskedOrNot, AsksSome}
 use Rattle.vtex.specs.Reads.{FileState, OpensStore, Closed, Took, Refused}
 use Rattle.vtex.specs.Tasks.{HasRisen}
 use Rattle.vtex.specs.Terms.{Hindrance, FlawedBeside, ManyTexels, FewFrames, LargePicture, LeftBy, IsHindered, IsRefusalBy, EndsBy}
-use Rattle.vtex.specs.commands.Walk.{WalkOf, contents_of, settings_of, walk_given, walk_first, walk_last, HasWalked, HasLeft, frame_texels, walk_pinned, StandsInWay, HindersWalk, walk_inputs, WalkFailed, WalkAsks, IsAnswer, walk_terms, refusal_of_walk}
+use Rattle.vtex.specs.commands.Walk.{WalkOf, contents_of, settings_of, walk_names, walk_given, walk_first, walk_last, HasWalked, HasLeft, frame_texels, walk_pinned, StandsInWay, HindersWalk, walk_inputs, WalkFailed, WalkAsks, IsAnswer, walk_terms, refusal_of_walk}
 use Rattle.vtex.specs.declared.refusal.Refusal.{Refusal}
 use Rattle.vtex.specs.declared.refusal.Refusal.TheVariants.{NoMemory, Usage, Fault, Flawed, TooFewFrames, DoesNotFit}
 use Rattle.vtex.proofs.Ending.{refusal_at}
@@ -139,7 +143,7 @@ file_of file = record { name = file.name; asked = file.asked; faults = file.faul
 abbrev pub given_told : Drawing → WalkText → WalkOf → Option (List ℕ) → WalkGiven
 given_told m words of told =
     given_by m.dealt m.needs m.shows m.whole (scene_of of.shape of.depth of.path) (settings_of words) (mode_of words.settled)
-    told (record { store = words.store; prefix = words.prefix; journal = words.journal })
+    told (walk_names words)
 
 -- what stood before a walk, with the store's file that is open
 abbrev pub began : WalkText → FileState → FolderState → SinkState → WalkState
@@ -218,6 +222,7 @@ pub record WasMade (m : Drawing) (words : WalkText) (of : WalkOf) (file : FileSt
     (r : Result (Unit {0}) WalkError) : Type 0 where
   pub inputs : HasInputs words of file f0 f1 f2
   pub few_texels : frame_texels words of ≤ most_frame_texels
+  pub apart : IsApart (walk_names words)
   pub came : CameTo m (given_told m words of file.bytes) (began words file f2 out) (ended words f3 shown) r
   pub few_frames : words.frames < walk_pinned words of → r ≡ Err (walks.TooFewFrames words.frames (walk_pinned words of))
   pub others : AreOtherNamesAsBefore words.store f2.asked f3.asked
@@ -259,6 +264,7 @@ walk_done m words of file f0 f1 f2 f3 out shown made =
       are = refl;
       read = f1.asked;
       path = asked_in (PathInput words.path) f0.files f0.files f0 f1 refl h.path_read.asked;
+      apart = made.apart;
       finished = finished;
     } in (
       asks_walk m words of file f0 f1 f2 f3 out shown h made.others (inl walked),
@@ -312,6 +318,7 @@ why_left m words of file f0 f1 f2 f3 out shown (walks.DoesNotFit picture wanted 
     are = refl;
     read = f1.asked;
     path = asked_in (PathInput words.path) f0.files f0.files f0 f1 refl made.inputs.path_read.asked;
+    apart = made.apart;
     needed = wanted;
     room = room;
     unfit = cause;
@@ -345,6 +352,7 @@ walk_left m words of file f0 f1 f2 f3 out shown error made =
       are = refl;
       read = f1.asked;
       path = asked_in (PathInput words.path) f0.files f0.files f0 f1 refl h.path_read.asked;
+      apart = made.apart;
       left = left.0;
     } in (
       asks_walk m words of file f0 f1 f2 f3 out shown h made.others (inr stopped),
@@ -365,6 +373,19 @@ not_many words of shape many same told none =
         → words.frames * (shape.tile * shape.tile) ≤ most_frame_texels
     few (inr is) = is
     few (inl over) = absurd (false≢true (sym none ∙ told over))
+
+-- where none of four is, the third is not
+third_is_no : (a b c rest : Bool) → (a || (b || (c || rest))) ≡ false → c ≡ false
+third_is_no false false false rest none = refl
+third_is_no false false true rest none = absurd (false≢true (sym none))
+third_is_no false true c rest none = absurd (false≢true (sym none))
+third_is_no true b c rest none = absurd (false≢true (sym none))
+
+-- where the words' names do not clash, the journal's name is no picture's
+pub names_apart : (words : WalkText) → names_clash words.store words.path words.journal words.prefix ≡ false → IsApart (walk_names words)
+names_apart words none =
+    third_is_no (is_picture_name words.prefix words.store) (is_picture_name words.prefix words.path) (is_picture_name words.prefix words.journal)
+    (bytes_eq words.journal words.store || bytes_eq words.journal words.path) none
 
 -- how a walk ends, by its answer
 pub walk_ends : (m : Drawing) (words : WalkText) (of : WalkOf) (file : FileState) (f0 f1 f2 f3 : FolderState) (out shown : SinkState)

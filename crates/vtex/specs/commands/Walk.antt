@@ -13,7 +13,8 @@ use Rattle.vt_walk.specs.declared.mode.Mode.TheVariants.{Settled}
 use Rattle.vt_walk.specs.declared.error.WalkError.{WalkError}
 use Rattle.vt_walk.specs.declared.error.WalkError.TheVariants as walks
 use Rattle.vt_walk.specs.Fits.{WalkSetup, Fits, DoesNotFit as IsTooLarge, room_of}
-use Rattle.vt_walk.specs.Walks.{WalkGiven, walk_setup, given_by, mode_of}
+use Rattle.vt_walk.specs.Walks.{WalkGiven, WalkNames, walk_setup, given_by, mode_of}
+use Rattle.vt_walk.specs.Folders.{IsApart}
 use Rattle.vt_walk.specs.States.{WalkState}
 use Rattle.vt_walk.specs.Standing.{Finished}
 use Rattle.vt_walk.specs.Leaving.{Left}
@@ -45,11 +46,15 @@ settings_of words = record {
   crew = record { samplers = words.samplers; loaders = words.loaders; batch = words.batch };
 }
 
+-- the names that the words give
+abbrev pub walk_names : WalkText → WalkNames
+walk_names words = record { store = words.store; prefix = words.prefix; journal = words.journal }
+
 -- the walk that the words ask for, over the bytes that the folder tells of the store
 abbrev pub walk_given : Drawing → WalkText → WalkOf → Option Files → WalkGiven
 walk_given m words of files =
     given_by m.dealt m.needs m.shows m.whole (scene_of of.shape of.depth of.path) (settings_of words) (mode_of words.settled)
-    (bytes_at files words.store) (record { store = words.store; prefix = words.prefix; journal = words.journal })
+    (bytes_at files words.store) (walk_names words)
 
 -- what stood before a walk once its store was opened: of the store its header was asked, after these places; the count of faults has
 -- come at most to the end of its type
@@ -72,28 +77,31 @@ walk_last words c = record {
   asked = option_map (λ (asked : Asked). asked words.store) c.folder.after.asked;
 }
 
--- the path was asked, and then the walk was made whole: what it leaves stands between the opening of its store and the end
+-- the journal's name is no picture's; the path was asked, and then the walk was made whole: what it leaves stands between the opening of its store and the end
 pub record HasWalked (m : Drawing) (words : WalkText) (contents : List Content) (c : Course) : Type 0 where
   pub of : WalkOf
   pub are : contents ≡ contents_of of
   pub read : Option Asked
   pub path : IsAskedOrNot c.folder.before.files (PathInput words.path) c.folder.before.asked read
+  pub apart : IsApart (walk_names words)
   pub finished : Finished m.drawn (walk_given m words of c.folder.before.files) (walk_first words read c) (walk_last words c)
 
--- the path was asked, and then the walk was left
+-- the journal's name is no picture's; the path was asked, and then the walk was left
 pub record HasLeft (m : Drawing) (words : WalkText) (contents : List Content) (c : Course) : Type 0 where
   pub of : WalkOf
   pub are : contents ≡ contents_of of
   pub read : Option Asked
   pub path : IsAskedOrNot c.folder.before.files (PathInput words.path) c.folder.before.asked read
+  pub apart : IsApart (walk_names words)
   pub left : Left m.drawn (walk_given m words of c.folder.before.files) (walk_first words read c) (walk_last words c)
 
--- a settled walk was left exactly after the first pass of a picture that does not fit, the first such
+-- the journal's name is no picture's; a settled walk was left exactly after the first pass of a picture that does not fit, the first such
 pub record HasLeftAtUnfit (m : Drawing) (words : WalkText) (contents : List Content) (picture : ℕ) (c : Course) : Type 0 where
   pub of : WalkOf
   pub are : contents ≡ contents_of of
   pub read : Option Asked
   pub path : IsAskedOrNot c.folder.before.files (PathInput words.path) c.folder.before.asked read
+  pub apart : IsApart (walk_names words)
   pub needed : ℕ
   pub room : ℕ
   pub unfit : HasUnfit m.drawn (walk_given m words of c.folder.before.files) picture needed room (walk_first words read c) (walk_last words c)

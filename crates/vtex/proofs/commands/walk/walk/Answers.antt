@@ -6,7 +6,7 @@ use Rattle.vt_words.specs.Walk.{shown_walk}
 use Rattle.vtex.specs.Machines.{drawing_of}
 use Rattle.vtex.specs.Reads.{file_state, Closed}
 use Rattle.vtex.specs.commands.Walk.{WalkOf, frame_texels}
-use Rattle.vtex.proofs.Walking.{HasInputs, path_refused, store_refused, many_refused, not_many, walk_ends}
+use Rattle.vtex.proofs.Walking.{HasInputs, path_refused, store_refused, many_refused, not_many, names_apart, walk_ends}
 use Rattle.vtex.proofs.commands.walk.walk.Goals as goal
 
 pub returns-in_err-path : goal.returns-in_err-path
@@ -59,6 +59,7 @@ returns g c =
     c.walk_with-walked.result c.answer_of.result (record {
       inputs = inputs;
       few_texels = not_many words of c.geometry.result c.has_many_texels.result c.geometry.ensures.shape c.has_many_texels.ensures.1 c.if-has_many_texels.false;
+      apart = names_apart words c.requires.apart;
       came = e.walked;
       few_frames = e.few;
       others = e.others;
