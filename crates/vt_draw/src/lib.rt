@@ -9,7 +9,7 @@ mod shots;
 
 pub use laws::{line_covers_pixel, wanted_page_in_chain};
 pub use lookups::{Found, Lookup};
-pub use plain::draw_plain;
+pub use plain::{draw_plain, draw_plain_behind};
 pub use shots::{Shot, draw_row};
 
 #[cfg(test)]

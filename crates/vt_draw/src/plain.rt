@@ -30,34 +30,49 @@ pub fn draw_plain(
     ensures size { IfOk result (λ samples.
         length samples.items ≡ texel_length chain.now.base.depth * (path.now.width * path.now.height)) }
 {
-    if chain.depth() == 1 {
-        draw_picture::<1>(alloc, chain, path, picture)
-    } else {
-        draw_picture::<2>(alloc, chain, path, picture)
-    }
+    let mut samples = Vec::new(alloc);
+    draw_plain_behind(chain, path, picture, &mut samples)?;
+    Ok(samples)
 }
 
-// Draws the plain picture of a chain whose samples have DEPTH bytes.
-fn draw_picture<const DEPTH: u32>(
-    alloc: Global,
+/// Draws the plain picture as `draw_plain` does, behind what a buffer holds, as the header of the picture's file. So one buffer can
+/// serve one picture after the other. After want of memory the buffer may hold anything.
+pub fn draw_plain_behind(
     chain: &Chain,
     path: &Path,
     picture: u32,
-) -> Result<Vec<u8>, NoMemory>
+    bytes: &mut Vec<u8>,
+) -> Result<(), NoMemory>
+    requires { picture < length path.now.cameras }
+    ensures { OnOk result (bytes.new.items ≡ bytes.old.items ++ plain_samples chain.now.base chain.now.tile path.now picture) }
+{
+    if chain.depth() == 1 {
+        draw_picture::<1>(chain, path, picture, bytes)
+    } else {
+        draw_picture::<2>(chain, path, picture, bytes)
+    }
+}
+
+// Draws the plain picture of a chain whose samples have DEPTH bytes behind what a buffer holds.
+fn draw_picture<const DEPTH: u32>(
+    chain: &Chain,
+    path: &Path,
+    picture: u32,
+    bytes: &mut Vec<u8>,
+) -> Result<(), NoMemory>
     requires depth { IsDepth DEPTH }
     requires own { chain.now.base.depth ≡ DEPTH }
     requires picture { picture < length path.now.cameras }
-    ensures samples { IfOk result (λ samples. samples.items ≡ plain_samples chain.now.base chain.now.tile path.now picture) }
-    ensures size { IfOk result (λ samples. length samples.items ≡ texel_length DEPTH * (path.now.width * path.now.height)) }
+    ensures { OnOk result (bytes.new.items ≡ bytes.old.items ++ plain_samples chain.now.base chain.now.tile path.now picture) }
 {
     let surface = surface_of(chain);
     let camera = path.camera(picture);
     let row_size = texel_length(DEPTH) * path.width() as usize;
-    let mut samples = Vec::with_capacity(alloc, row_size * path.height() as usize)?;
+    bytes.reserve(row_size * path.height() as usize)?;
     let mut row_samples = [0; MOST_ROW_SIZE];
     let row_samples = &mut row_samples[..row_size];
-    draw_rows::<DEPTH>(chain, path, &camera, &surface, row_samples, &mut samples)?;
-    Ok(samples)
+    draw_rows::<DEPTH>(chain, path, &camera, &surface, row_samples, bytes)?;
+    Ok(())
 }
 
 // The surface that a chain is to a camera.

@@ -21,7 +21,7 @@ pub use laws::{
     image_is_texture, samples_are_bytes, spelt_samples_are_bytes, texel_words_are_small,
     written_is_read,
 };
-pub use picture::{encode, encode_into, encode_wide};
+pub use picture::{begin_picture, encode, encode_into, encode_wide};
 pub use read::{read_header, read_image};
 pub use strips::StripReader;
 pub use whole::image_flaw;

@@ -55,6 +55,24 @@ fn header(alloc: Global, depth: u32, width: u32, height: u32) -> Result<Vec<u8>,
     Ok(format!(in alloc; "P6\n{width} {height}\n{maximum}\n")?.into_bytes())
 }
 
+/// Makes a buffer hold what stands before the samples of a picture, each of `depth` bytes, 1 or 2, so that the samples can be added
+/// behind it. After want of memory it may hold anything.
+pub fn begin_picture(
+    bytes: &mut Vec<u8>,
+    alloc: Global,
+    depth: u32,
+    width: u32,
+    height: u32,
+) -> Result<(), NoMemory>
+    requires { IsDepth depth }
+    ensures { OnOk result (bytes.new.items ≡ picture_header depth width height) }
+{
+    let header = header(alloc, depth, width, height)?;
+    bytes.clear();
+    bytes.extend_from_slice(&header)?;
+    Ok(())
+}
+
 /// Makes the bytes of a picture of the samples, each of `depth` bytes, 1 or 2, in a buffer, which can so serve one picture after the
 /// other. After want of memory the buffer may hold anything.
 pub fn encode_into(
@@ -69,9 +87,7 @@ pub fn encode_into(
     requires full { length samples.now ≡ texel_length depth * (width * height) }
     ensures { OnOk result (bytes.new.items ≡ picture_bytes depth width height samples.now) }
 {
-    let header = header(alloc, depth, width, height)?;
-    bytes.clear();
-    bytes.extend_from_slice(&header)?;
+    begin_picture(bytes, alloc, depth, width, height)?;
     bytes.extend_from_slice(samples)?;
     Ok(())
 }

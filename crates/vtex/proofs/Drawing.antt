@@ -1,5 +1,5 @@
 -- The file of a picture, from what it was encoded of, and a text, from the pieces in which it was put.
-use Rattle.std.proofs.Common.{◌≡◌, ℕ, List, [], ◌++◌, take, Ok, Err, refl, ap, ◌∙◌}
+use Rattle.std.proofs.Common.{◌≡◌, ℕ, List, [], ◌++◌, take, Ok, Err, refl, ap, ◌∙◌, append_assoc, codes, decimal}
 use Rattle.std.specs.Prelude.{Result, OnOk, OnErr}
 use Rattle.std.specs.Option.{option_map}
 use Rattle.std.proofs.lemmas.List.{append-nil}
@@ -9,24 +9,32 @@ use Rattle.vt_outside.specs.declared.answers.OutsideError.{OutsideError}
 use Rattle.vt_outside.specs.declared.answers.OutsideError.TheVariants.{Failed}
 use Rattle.vt_files.specs.Courses.{Gain}
 use Rattle.vt_files.specs.Dues.{Puts}
+use Rattle.vt_definitions.specs.Depths.{greatest_sample}
 use Rattle.vt_ppm.specs.Image.{ImageView}
-use Rattle.vt_ppm.specs.Picture.{picture_bytes}
+use Rattle.vt_ppm.specs.Picture.{picture_header, picture_bytes}
 use Rattle.vt_camera.specs.Paths.{PathView}
 use Rattle.vt_draw.specs.Plain.{plain_samples}
 use Rattle.vt_files.proofs.Writing.{fails_as}
 use Rattle.vtex.specs.Pictures.{plain_file}
 
--- the bytes that were encoded of a picture's samples are its file
-pub file_is : (texture : ImageView) (tile : ℕ) (path : PathView) (picture d w h : ℕ) (given bytes shown samples : List ℕ)
-    → given ≡ bytes → bytes ≡ picture_bytes d w h shown → shown ≡ samples → samples ≡ plain_samples texture tile path picture
+-- the parts of a header stand before samples
+header_before : (xs ys zs samples : List ℕ) → (codes "P6\n" ++ xs ++ codes " " ++ ys ++ codes "\n" ++ zs ++ codes "\n") ++ samples
+    ≡ codes "P6\n" ++ xs ++ codes " " ++ ys ++ codes "\n" ++ zs ++ codes "\n" ++ samples
+header_before xs ys zs samples = simp append_assoc
+
+-- a header, and a picture that was drawn behind it, are the picture's file
+pub file_is : (texture : ImageView) (tile : ℕ) (path : PathView) (picture d w h : ℕ) (given bytes begun : List ℕ)
+    → given ≡ bytes → bytes ≡ begun ++ plain_samples texture tile path picture → begun ≡ picture_header d w h
     → d ≡ texture.depth → w ≡ path.width → h ≡ path.height
     → given ≡ plain_file texture tile path picture
 unfolding plain_file
-file_is texture tile path picture d w h given bytes shown samples same encoded deref drawn depth columns rows =
-    same ∙ encoded ∙ ap (picture_bytes d w h) (deref ∙ drawn)
-    ∙ ap (λ (n : ℕ). picture_bytes n w h (plain_samples texture tile path picture)) depth
-    ∙ ap (λ (n : ℕ). picture_bytes texture.depth n h (plain_samples texture tile path picture)) columns
-    ∙ ap (λ (n : ℕ). picture_bytes texture.depth path.width n (plain_samples texture tile path picture)) rows
+file_is texture tile path picture d w h given bytes begun same drawn header depth columns rows =
+    let samples = plain_samples texture tile path picture in
+    same ∙ drawn ∙ ap (λ (l : List ℕ). l ++ samples) header
+    ∙ header_before (decimal w) (decimal h) (decimal (greatest_sample d)) samples
+    ∙ ap (λ (n : ℕ). picture_bytes n w h samples) depth
+    ∙ ap (λ (n : ℕ). picture_bytes texture.depth n h samples) columns
+    ∙ ap (λ (n : ℕ). picture_bytes texture.depth path.width n samples) rows
 
 -- the text of three pieces, of which each is known
 pub three_pieces : (a b c x y z : List ℕ) → a ≡ x → b ≡ y → c ≡ z → a ++ (b ++ (c ++ [])) ≡ x ++ (y ++ z)

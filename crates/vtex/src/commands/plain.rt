@@ -1,10 +1,8 @@
 //! The command `plain`: the plain picture of each camera of a path over a texture.
 
-ghost use Rattle.std.specs.Prelude.{◌≡◌, ◌*◌, ◌<◌, [], ◌∷◌, length, IfOk};
-ghost use Rattle.vt_definitions.specs.Depths.{IsDepth, texel_length};
+ghost use Rattle.std.specs.Prelude.{◌<◌, [], ◌∷◌, length};
 ghost use Rattle.vt_definitions.specs.Tiles.{IsTileSide};
 ghost use Rattle.vt_files.specs.Courses.{course, passage};
-ghost use Rattle.vt_ppm.specs.Picture.{picture_bytes};
 ghost use Rattle.vt_words.specs.Plain.{shown_plain};
 ghost use Rattle.vtex.specs.Pictures.{plain_file};
 ghost use Rattle.vt_files.specs.Dues.{Leaves, Writes};
@@ -17,11 +15,11 @@ use crate::output::put_end;
 use crate::refusal::Refusal;
 use std::alloc::Global;
 use vt_camera::Path;
-use vt_draw::draw_plain;
+use vt_draw::draw_plain_behind;
 use vt_files::write_file;
 use vt_mip::Chain;
-use vt_outside::{Folder, NoMemory, OutsideError, Sink};
-use vt_ppm::{Image, encode, encode_wide};
+use vt_outside::{Folder, OutsideError, Sink};
+use vt_ppm::{Image, begin_picture};
 use vt_words::{PlainWords, picture_name};
 
 /// Reads the path and then the texture, writes the plain picture of each camera under its name, and puts the end line.
@@ -57,7 +55,7 @@ fn leave_pictures<D: Folder, O: Sink>(
     put_end(out, path.pictures())
 }
 
-// Writes all pictures of the path, in the order of their numbers.
+// Writes all pictures of the path, in the order of their numbers, each made in the same buffer.
 fn write_pictures<D: Folder>(
     alloc: Global,
     chain: &Chain,
@@ -68,14 +66,16 @@ fn write_pictures<D: Folder>(
     ensures { Writes (pictures_due prefix.now (plain_file chain.now.base chain.now.tile path.now) (length path.now.cameras))
         (passage D.Folder folder.old folder.new) result }
 {
+    let mut buffer = Vec::new(alloc);
     for picture in 0..path.pictures() {
-        write_picture(alloc, chain, path, picture, prefix, folder)?;
+        write_picture(&mut buffer, alloc, chain, path, picture, prefix, folder)?;
     }
     Ok(())
 }
 
-// Draws a picture and writes it under its name.
+// Draws a picture behind its header in the buffer, and writes it under its name.
 fn write_picture<D: Folder>(
+    buffer: &mut Vec<u8>,
     alloc: Global,
     chain: &Chain,
     path: &Path,
@@ -88,27 +88,8 @@ fn write_picture<D: Folder>(
     ensures { Writes (picture_due prefix.now (plain_file chain.now.base chain.now.tile path.now) picture ∷ [])
         (passage D.Folder folder.old folder.new) result }
 {
-    let samples = draw_plain(alloc, chain, path, picture)?;
-    let bytes = encoded(alloc, chain.depth(), path.width(), path.height(), &samples)?;
+    begin_picture(buffer, alloc, chain.depth(), path.width(), path.height())?;
+    draw_plain_behind(chain, path, picture, buffer)?;
     let name = picture_name(alloc, prefix, picture)?;
-    write_file(folder, name.as_str(), &bytes)
-}
-
-// The bytes of a picture whose samples have `depth` bytes.
-fn encoded(
-    alloc: Global,
-    depth: u32,
-    width: u32,
-    height: u32,
-    samples: &[u8],
-) -> Result<Vec<u8>, NoMemory>
-    requires depth { IsDepth depth }
-    requires full { length samples.now ≡ texel_length depth * (width * height) }
-    ensures { IfOk result (λ bytes. bytes.items ≡ picture_bytes depth width height samples.now) }
-{
-    if depth == 1 {
-        encode(alloc, width, height, samples)
-    } else {
-        encode_wide(alloc, width, height, samples)
-    }
+    write_file(folder, name.as_str(), buffer)
 }

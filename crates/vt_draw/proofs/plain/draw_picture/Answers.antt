@@ -1,10 +1,9 @@
-use Rattle.std.proofs.Common.{ℕ, List, ◌++◌, length, ap, sym, ◌∙◌}
+use Rattle.std.proofs.Common.{ℕ, List, ◌++◌, ap, sym, ◌∙◌}
 use Rattle.std.specs.Prelude.{pos}
 use Rattle.std.proofs.lemmas.Option.{get_or_from_slice_get}
 use Rattle.vt_camera.specs.declared.paths.Camera.{Camera}
 use Rattle.vt_camera.specs.declared.surfaces.Surface.{Surface}
 use Rattle.vt_draw.specs.Plain.{chain_of, surface_of, camera_at, first_rows, plain_samples}
-use Rattle.vt_draw.proofs.Drawn.{length-first_rows}
 use Rattle.vt_draw.proofs.plain.draw_picture.Goals as goal
 
 pub returns : goal.returns
@@ -13,24 +12,17 @@ returns g c =
     let d = g.row.DEPTH in
     let base = c.args.chain.now.base in
     let path = c.args.path.now in
-    let drawn =
+    let held = c.args.bytes.now.items in
     c.in_ok-draw_rows.ensures
-    ∙ ap (λ (t : List ℕ). t ++ first_rows d (chain_of base) c.surface_of-surface.result path c.camera-camera.result path.height) c.in_ok-samples.ensures.items
-    ∙ ap (λ (s : Surface). first_rows d (chain_of base) s path c.camera-camera.result path.height) c.surface_of-surface.ensures.value
-    ∙ ap (λ (m : Camera). first_rows d (chain_of base) (surface_of base c.args.chain.now.tile) path m path.height)
+    ∙ ap (λ (t : List ℕ). t ++ first_rows d (chain_of base) c.surface_of-surface.result path c.camera-camera.result path.height) c.reserve.ensures.items
+    ∙ ap (λ (s : Surface). held ++ first_rows d (chain_of base) s path c.camera-camera.result path.height) c.surface_of-surface.ensures.value
+    ∙ ap (λ (m : Camera). held ++ first_rows d (chain_of base) (surface_of base c.args.chain.now.tile) path m path.height)
     (sym (get_or_from_slice_get path.cameras c.args.picture c.camera-camera.result (record {
       u = pos 0;
       v = pos 0;
       h = pos 1;
       c = pos 0;
       s = pos 0;
-    }) c.camera-camera.ensures.value)) in
-    record {
-      samples =
-          drawn
-          ∙ ap (λ (n : ℕ). first_rows n (chain_of base) (surface_of base c.args.chain.now.tile) path (camera_at path c.args.picture) path.height)
-          (sym c.requires.own);
-      size =
-          ap length drawn
-          ∙ length-first_rows d (chain_of base) (surface_of base c.args.chain.now.tile) path (camera_at path c.args.picture) path.height;
-    }
+    }) c.camera-camera.ensures.value))
+    ∙ ap (λ (n : ℕ). held ++ first_rows n (chain_of base) (surface_of base c.args.chain.now.tile) path (camera_at path c.args.picture) path.height)
+    (sym c.requires.own)

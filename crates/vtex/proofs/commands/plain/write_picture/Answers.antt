@@ -7,14 +7,14 @@ use Rattle.vtex.proofs.Drawing.{file_is}
 use Rattle.vt_files.proofs.Writing.{unwritten, written_as}
 use Rattle.vtex.proofs.commands.plain.write_picture.Goals as goal
 
-pub returns-in_err-samples : goal.returns-in_err-samples
-returns-in_err-samples g c =
+pub returns-in_err-begin_picture : goal.returns-in_err-begin_picture
+returns-in_err-begin_picture g c =
     let p = err_from_is_err_and c.from_residual.result c.from_residual.ensures.1 in
     rw (p.1, p.2) (unwritten _ (folder_state g.D.Folder c.args.folder.now))
 
-pub returns-in_err-bytes : goal.returns-in_err-bytes
-returns-in_err-bytes g c =
-    let p = err_from_is_err_and c.from_residual-in_err-bytes.result c.from_residual-in_err-bytes.ensures.1 in
+pub returns-in_err-draw_plain_behind : goal.returns-in_err-draw_plain_behind
+returns-in_err-draw_plain_behind g c =
+    let p = err_from_is_err_and c.from_residual-in_err-draw_plain_behind.result c.from_residual-in_err-draw_plain_behind.ensures.1 in
     rw (p.1, p.2) (unwritten _ (folder_state g.D.Folder c.args.folder.now))
 
 pub returns-in_err-name : goal.returns-in_err-name
@@ -28,10 +28,9 @@ returns g c =
     let tile = c.args.chain.now.tile in
     let path = c.args.path.now in
     let name : c.as_str.result.now ≡ picture_name c.args.prefix.now c.args.picture = c.as_str.ensures.value ∙ c.in_ok-name.ensures in
-    let file : c.deref-2.result.now ≡ plain_file base tile path c.args.picture =
-    file_is base tile path c.args.picture c.depth.result c.width.result c.height.result c.deref-2.result.now c.in_ok-bytes.bytes.items
-    c.deref.result.now c.in_ok-samples.samples.items
-    c.deref-2.ensures.value c.in_ok-bytes.ensures c.deref.ensures.value c.in_ok-samples.ensures.samples c.depth.ensures.value c.width.ensures.value
-    c.height.ensures.value in
-    written_as c.as_str.result.now c.deref-2.result.now (picture_name c.args.prefix.now c.args.picture) (plain_file base tile path c.args.picture)
+    let file : c.deref.result.now ≡ plain_file base tile path c.args.picture =
+    file_is base tile path c.args.picture c.depth.result c.width.result c.height.result c.deref.result.now c.draw_plain_behind.new.bytes.items
+    c.begin_picture.new.bytes.items c.deref.ensures.value c.in_ok-draw_plain_behind.ensures c.in_ok-begin_picture.ensures c.depth.ensures.value
+    c.width.ensures.value c.height.ensures.value in
+    written_as c.as_str.result.now c.deref.result.now (picture_name c.args.prefix.now c.args.picture) (plain_file base tile path c.args.picture)
     (passage g.D.Folder c.args.folder.now c.write_file.new.folder) c.write_file.result name file c.write_file.ensures
