@@ -1,7 +1,7 @@
 -- Bytes that are an input with some content have no flaw as that input.
 use Rattle.std.proofs.Common.{◌≡◌, ℕ, List, None, sym, subst, ◌∙◌, inl, inr, arith}
 use Rattle.vt_ppm.specs.Image.{ImageView}
-use Rattle.vt_definitions.specs.Limits.{most_read_side}
+use Rattle.vt_definitions.specs.Limits.{most_read_side, most_tiled_side}
 use Rattle.vt_ppm.proofs.ImageLaws.{no_image_flaw, one_image}
 use Rattle.vt_camera.proofs.PathFlawLemmas.{no_path_flaw}
 use Rattle.vt_pages.specs.Pages.{refusal_of}
@@ -15,10 +15,10 @@ content_no_flaw (Inputs.PathInput name) bytes (Inputs.PathContent path) flaw is 
 content_no_flaw (Inputs.PathInput name) bytes _ flaw is h = is
 content_no_flaw (Inputs.TextureInput name) bytes (Inputs.TextureContent texture) flaw is h = no_image_flaw most_read_side bytes texture h.0 is h.1
 content_no_flaw (Inputs.TextureInput name) bytes _ flaw is h = is
-content_no_flaw (Inputs.TiledTexture name tile) bytes (Inputs.TextureContent texture) flaw is (inl h) = no_image_flaw most_read_side bytes texture h.0 is.0 h.1
+content_no_flaw (Inputs.TiledTexture name tile) bytes (Inputs.TextureContent texture) flaw is (inl h) = no_image_flaw most_tiled_side bytes texture h.0 is.0 h.1
 content_no_flaw (Inputs.TiledTexture name tile) bytes (Inputs.TextureContent texture) flaw is (inr h) =
     let same : refusal_of (texture_shape h.texture tile) ≡ None =
-    subst (λ (p : ImageView). refusal_of (texture_shape p tile) ≡ None) (one_image most_read_side bytes texture h.texture is.0 h.is) is.1 in
+    subst (λ (p : ImageView). refusal_of (texture_shape p tile) ≡ None) (one_image most_tiled_side bytes texture h.texture is.0 h.is) is.1 in
     let wrong = sym same ∙ h.many in
     cc
 content_no_flaw (Inputs.TiledTexture name tile) bytes _ flaw is h = is

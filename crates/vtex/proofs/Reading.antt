@@ -152,7 +152,7 @@ asked_whole before after n len failed told is asked bytes name faults = record {
   faults = faults;
 }
 
-gains_none : (asked : Option (List Place)) → asked ≡ option_map (λ (old : List Place). old ++ []) asked
+pub gains_none : (asked : Option (List Place)) → asked ≡ option_map (λ (old : List Place). old ++ []) asked
 gains_none None = refl
 gains_none (Some places) = ap Some (sym (append-nil places))
 

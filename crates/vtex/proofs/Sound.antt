@@ -1,12 +1,12 @@
 -- What is known of the terms of every command.
-use Rattle.std.proofs.Common.{◌≡◌, ℕ, List, [], ◌∷◌, length, Option, Some, refl, sym, ap, ap₂, subst, ◌∙◌, inl, arith}
+use Rattle.std.proofs.Common.{◌≡◌, ℕ, List, [], ◌∷◌, length, Option, refl, sym, ap, ap₂, subst, ◌∙◌, inl, arith}
 use Rattle.std.specs.Option.{IsSome}
-use Rattle.vt_outside.specs.Files.{Files, Asked, bytes_at}
+use Rattle.vt_outside.specs.Files.{Files, Asked}
 use Rattle.vt_camera.specs.Paths.{PathView}
 use Rattle.vt_camera.proofs.PathFields.{path_unique}
 use Rattle.vt_pages.specs.Shape.{Shape}
 use Rattle.vt_ppm.specs.Image.{ImageView}
-use Rattle.vt_definitions.specs.Limits.{most_read_side}
+use Rattle.vt_definitions.specs.Limits.{most_read_side, most_tiled_side}
 use Rattle.vt_ppm.proofs.ImageLaws.{one_image}
 use Rattle.vt_files.specs.Courses.{Course, FolderState, IsIdle}
 use Rattle.vtex.specs.Inputs
@@ -133,7 +133,7 @@ is_texture name bytes p _ x y = absurd y
 is_tiled : (name : List ℕ) (tile : ℕ) (bytes : List ℕ) (p : ImageView) (b : Content)
     → IsContent (Inputs.TiledTexture name tile) bytes (Inputs.TextureContent p)
     → IsContent (Inputs.TiledTexture name tile) bytes b → Inputs.TextureContent p ≡ b
-is_tiled name tile bytes p (Inputs.TextureContent q) x y = ap Inputs.TextureContent (one_image most_read_side bytes p q x.0 y.0)
+is_tiled name tile bytes p (Inputs.TextureContent q) x y = ap Inputs.TextureContent (one_image most_tiled_side bytes p q x.0 y.0)
 is_tiled name tile bytes p _ x y = absurd y
 
 is_store : (name bytes : List ℕ) (s : Shape) (d : ℕ) (b : Content) → IsContent (Inputs.StoreInput name) bytes (Inputs.StoreContent s d)

@@ -1,11 +1,13 @@
 -- What a command reads: the kinds of inputs, each with a row in every definition here.
-use Rattle.std.specs.Prelude.{◌≡◌, ◌⊎◌, ℕ, ◌≤◌, ◌<◌, Bool, true, false, List, [], ◌∷◌, ◌++◌, length, min, All, Option, Some, None, Ok, IfSome}
+use Rattle.std.specs.Prelude.{◌≡◌, ◌⊎◌, ℕ, ◌≤◌, ◌<◌, Bool, true, false, List, [], ◌∷◌, ◌++◌, length, min, All, Option, Some, None, Result, Ok, IfSome}
 use Rattle.vt_outside.specs.Files.{noted}
 use Rattle.vt_outside.specs.declared.place.Place.{Place}
 use Rattle.vt_ppm.specs.Image.{ImageView}
-use Rattle.vt_ppm.specs.Format.{IsImage}
-use Rattle.vt_ppm.specs.Flaws.{IsImageFlaw}
-use Rattle.vt_ppm.specs.Reads.{AreImagePlaces}
+use Rattle.vt_ppm.specs.Format.{IsImage, IsTexture}
+use Rattle.vt_ppm.specs.Flaws.{IsImageFlaw, IsHeaderFlaw}
+use Rattle.vt_ppm.specs.Reads.{IsFrontPlace, AreHeaderPlaces, AreImagePlaces}
+use Rattle.vt_ppm.specs.Strips.{HasRasterIfTold, ChecksPieces, IsRowsPlace}
+use Rattle.vt_ppm.specs.declared.header.Header.{Header}
 use Rattle.vt_ppm.specs.declared.error.PpmError.{PpmError}
 use Rattle.vt_camera.specs.Paths.{PathView}
 use Rattle.vt_camera.specs.PathText.{IsPathText}
@@ -17,6 +19,7 @@ use Rattle.vt_pages.specs.declared.PagesError.TheVariants as pages_error
 use Rattle.vt_store.specs.Format.{store_flaw, header_length}
 use Rattle.vt_store.specs.StoreViews.{IsStore, IsStoreIfTold}
 use Rattle.vt_store.specs.Places.{pieces_of, piece_place, piece_places}
+use Rattle.vt_store.specs.StripStores.{strips_of, strip_place, strip_places}
 use Rattle.vt_store.specs.declared.error.StoreError.{StoreError}
 use Rattle.vt_replay.specs.Playing.{IsTilePlace}
 use Rattle.vtex.specs.Flaws.{flaw_of_path, flaw_of_texture, flaw_of_store}
@@ -62,7 +65,7 @@ texture_shape texture tile = shape_of texture.width texture.height tile
 abbrev pub IsContent : Input → List ℕ → Content → Type 0
 IsContent (PathInput name) bytes (PathContent path) = IsPathText bytes path
 IsContent (TextureInput name) bytes (TextureContent texture) = IsImage bytes texture
-IsContent (TiledTexture name tile) bytes (TextureContent texture) = IsImage bytes texture × (refusal_of (texture_shape texture tile) ≡ None)
+IsContent (TiledTexture name tile) bytes (TextureContent texture) = IsTexture bytes texture × (refusal_of (texture_shape texture tile) ≡ None)
 IsContent (StoreInput name) bytes (StoreContent shape depth) = IsStore bytes shape depth
 IsContent (NarrowStore name) bytes (NarrowContent shape held) = IsStore bytes shape 1 × (held ≡ bytes)
 IsContent (PagedStore name) bytes (PagedContent shape depth held) = IsStore bytes shape depth × (held ≡ bytes)
@@ -73,14 +76,18 @@ IsContent _ bytes _ = ⊥
 abbrev pub IsFlawOfPath : List ℕ → Flaw → Type 0
 IsFlawOfPath bytes flaw = (e : PathError) × IsPathFlaw bytes e × (flaw_of_path e ≡ Ok flaw)
 
--- a texture has this flaw
+-- a texture that is read whole has this flaw
 abbrev pub IsFlawOfTexture : List ℕ → Flaw → Type 0
 IsFlawOfTexture bytes flaw = (e : PpmError) × IsImageFlaw bytes e × (flaw_of_texture e ≡ Ok flaw)
+
+-- a texture that is cut into tiles, whose sides may be larger, has this flaw
+abbrev pub IsFlawOfTiled : List ℕ → Flaw → Type 0
+IsFlawOfTiled bytes flaw = (e : PpmError) × IsHeaderFlaw bytes e × (flaw_of_texture e ≡ Ok flaw)
 
 -- a texture has too many pages of a tile side
 pub record HasManyPages (bytes : List ℕ) (tile : ℕ) (flaw : Flaw) : Type 0 where
   pub texture : ImageView
-  pub is : IsImage bytes texture
+  pub is : IsTexture bytes texture
   pub pages : ℕ
   pub many : refusal_of (texture_shape texture tile) ≡ Some (pages_error.TooManyPages pages)
   pub flaw_is : flaw ≡ TooManyPages pages
@@ -99,7 +106,7 @@ pub record IsAlreadyWide (bytes : List ℕ) (flaw : Flaw) : Type 0 where
 abbrev pub IsFlawOf : Input → List ℕ → Flaw → Type 0
 IsFlawOf (PathInput name) bytes flaw = IsFlawOfPath bytes flaw
 IsFlawOf (TextureInput name) bytes flaw = IsFlawOfTexture bytes flaw
-IsFlawOf (TiledTexture name tile) bytes flaw = IsFlawOfTexture bytes flaw ⊎ HasManyPages bytes tile flaw
+IsFlawOf (TiledTexture name tile) bytes flaw = IsFlawOfTiled bytes flaw ⊎ HasManyPages bytes tile flaw
 IsFlawOf (StoreInput name) bytes flaw = IsFlawOfStore bytes flaw
 IsFlawOf (NarrowStore name) bytes flaw = IsFlawOfStore bytes flaw ⊎ IsAlreadyWide bytes flaw
 IsFlawOf (PagedStore name) bytes flaw = IsFlawOfStore bytes flaw
@@ -147,11 +154,37 @@ AsksTiles told places = AsksHeader told places
     ⊎ ((shape : Shape) × (depth : ℕ) × (tiles : List Place) × IsStoreIfTold told shape depth × All (IsTilePlace shape depth) tiles
     × (places ≡ header_places ++ tiles))
 
--- the places that may be asked of an input whose bytes may be told: of a texture a front part that holds its header, and then its raster
+-- the places of a texture that was looked over, with what came of it: a front part that holds its header, and then, behind whatever places
+-- were asked before, those of the rows that were looked over
+pub record AreSeenPlaces (told : Option (List ℕ)) (header : Header) (answer : Result (Unit {0}) PpmError) (places : List Place) : Type 0 where
+  pub front : Place
+  pub earlier : List Place
+  pub seen : List Place
+  pub is_front : IsFrontPlace told front
+  pub front_read : front.failed ≡ false
+  pub behind : HasRasterIfTold told header
+  pub pieces : ChecksPieces header answer (Some earlier) (Some (earlier ++ seen))
+  pub rows : All (IsRowsPlace header) seen
+  pub are : places ≡ front ∷ seen
+
+-- the first strips of a texture, so many, each once and in order, of which the last read may have failed
+abbrev pub AreStrips : Header → ℕ → List Place → Type 0
+AreStrips header tile places = (n : ℕ) × (n ≤ strips_of header tile) × ((places ≡ strip_places header tile n)
+    ⊎ ((n < strips_of header tile) × (places ≡ strip_places header tile n ++ strip_place header tile true n ∷ [])))
+
+-- the header of a texture may be asked; or then its rows, to look them over; or then, where no sample is above the maximum, its strips
+abbrev pub AsksStrips : ℕ → Option (List ℕ) → List Place → Type 0
+AsksStrips tile told places = AreHeaderPlaces told places
+    ⊎ (((header : Header) × (answer : Result (Unit {0}) PpmError) × AreSeenPlaces told header answer places)
+    ⊎ ((header : Header) × (seen : List Place) × (strips : List Place) × AreSeenPlaces told header (Ok tt) seen × AreStrips header tile strips
+    × (places ≡ seen ++ strips)))
+
+-- the places that may be asked of an input whose bytes may be told: of a texture a front part that holds its header, and then its raster,
+-- at once, or by rows if it is cut into tiles
 abbrev pub MayAsk : Input → Option (List ℕ) → List Place → Type 0
 MayAsk (PathInput name) = AsksWhole
 MayAsk (TextureInput name) = AreImagePlaces
-MayAsk (TiledTexture name tile) = AreImagePlaces
+MayAsk (TiledTexture name tile) = AsksStrips tile
 MayAsk (StoreInput name) = AsksHeader
 MayAsk (NarrowStore name) = AsksPieces
 MayAsk (PagedStore name) = AsksTiles

@@ -6,6 +6,7 @@ pub mod Inputs
 pub mod HeldInputs
 pub mod Causes
 pub mod Reads
+pub mod OpenWrites
 pub mod Tasks
 pub mod Terms
 pub mod Machines

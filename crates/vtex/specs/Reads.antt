@@ -4,10 +4,13 @@ use Rattle.vt_outside.specs.Counts.{Rose, added}
 use Rattle.vt_outside.specs.Files.{bytes_at, with_places}
 use Rattle.vt_outside.specs.declared.place.Place.{Place}
 use Rattle.vt_outside.specs.declared.outside.File.{Ghosts as FileMeanings}
+use Rattle.vt_ppm.specs.Strips.{ChecksPieces, GainsRows, IsTextureHeader, IsTextureIfTold}
+use Rattle.vt_ppm.specs.declared.error.PpmError.{PpmError}
+use Rattle.vt_ppm.specs.declared.header.Header.{Header}
 use Rattle.vt_pages.specs.Shape.{Shape}
 use Rattle.vt_store.specs.StoreViews.{IsStoreIfTold}
 use Rattle.vt_files.specs.Courses.{Passage}
-use Rattle.vtex.specs.Inputs.{Input, Content, name_of, IsContent, IsFlawOf, Fits, MayAsk, header_places}
+use Rattle.vtex.specs.Inputs.{Input, Content, name_of, IsContent, IsFlawOf, Fits, MayAsk, AreSeenPlaces, header_places}
 use Rattle.vtex.specs.HeldInputs.{Holds, HasFlaw, IsMissing}
 use Rattle.vtex.specs.declared.refusal.Refusal.{Refusal}
 use Rattle.vtex.specs.declared.refusal.Refusal.TheVariants.{NoMemory, Usage, Fault, Flawed, TooFewFrames, DoesNotFit}
@@ -118,6 +121,32 @@ pub record OpensStore (name : List ℕ) (shape : Shape) (depth : ℕ) (file : Fi
   pub bytes : file.bytes ≡ bytes_at p.before.files name
   pub tells : is_some file.bytes ≡ is_some p.before.files
   pub asked : file.asked ≡ option_map (λ _. header_places) p.before.asked
+  pub name_is : OnSome p.before.asked (file.name ≡ name)
+  pub files : p.after.files ≡ p.before.files
+  pub no_places : p.after.asked ≡ p.before.asked
+  pub faults : p.before.faults ≤ p.after.faults
+
+-- places of rows were asked to look samples over, and this came of it
+pub record LooksOver (header : Header) (answer : Result (Unit {0}) PpmError) (before after : Option (List Place)) : Type 0 where
+  pub pieces : ChecksPieces header answer before after
+  pub rows : GainsRows header before after
+
+-- no place was asked, or places of rows were, to look samples over
+abbrev pub MayLookOver : Header → Option (List Place) → Option (List Place) → Type 0
+MayLookOver header before after = (after ≡ before) ⊎ ((answer : Result (Unit {0}) PpmError) × LooksOver header answer before after)
+
+-- a file that tells its places was asked for those of a texture that is to be looked over, with what came of it
+pub record SeesTexture (told : Option (List ℕ)) (header : Header) (answer : Result (Unit {0}) PpmError) (before after : Option (List Place)) : Type 0 where
+  pub each : (old : List Place) → before ≡ Some old
+      → (places : List Place) × AreSeenPlaces told header answer places × (after ≡ Some (old ++ places))
+
+-- the texture of a name was opened and looked over: its header and its samples were read of its file, and the folder is as before
+pub record OpensTexture (name : List ℕ) (header : Header) (file : FileState) (p : Passage) : Type 0 where
+  pub is : IsTextureIfTold file.bytes header
+  pub limits : IsTextureHeader header
+  pub bytes : file.bytes ≡ bytes_at p.before.files name
+  pub tells : is_some file.bytes ≡ is_some p.before.files
+  pub asked : SeesTexture file.bytes header (Ok tt) (option_map (λ _. []) p.before.asked) file.asked
   pub name_is : OnSome p.before.asked (file.name ≡ name)
   pub files : p.after.files ≡ p.before.files
   pub no_places : p.after.asked ≡ p.before.asked

@@ -1,14 +1,16 @@
 //! Reading what the commands work on. Each reader opens a name, reads its file and closes it.
 
-ghost use Rattle.std.specs.Prelude.{◌≡◌, ◌++◌, IfOk, IfErr, IfSome, IsErrOf, option_map};
+ghost use Rattle.std.specs.Prelude.{◌≡◌, ℕ, ◌≤◌, ◌++◌, true, Ok, OnOk, IfOk, IfErr, IfSome, IsErrOf, option_map};
 ghost use Rattle.vt_definitions.specs.Depths.{IsDepth};
 ghost use Rattle.vt_outside.specs.Counts.{Rose};
 ghost use Rattle.vt_ppm.specs.Reads.{AreImagePlaces};
+ghost use Rattle.vt_ppm.specs.Strips.{HasRasterIfTold, IsTextureHeader, IsTextureIfTold};
 ghost use Rattle.vt_store.specs.StoreViews.{IsStoreIfTold};
 ghost use Rattle.vt_files.specs.Courses.{passage};
-ghost use Rattle.vtex.specs.Inputs.{Input, PathInput, TextureInput, StoreInput, JournalInput, PathContent, TextureContent, StoreContent, TextContent};
-ghost use Rattle.vtex.specs.Inputs.{name_of, AsksWhole, AsksHeader, header_places};
-ghost use Rattle.vtex.specs.Reads.{file_state, visit, Opened, Refused, Visits, IsCausedIn, FindsIn, Finds, Reads, OpensStore};
+ghost use Rattle.vtex.specs.Inputs.{Input, PathInput, TextureInput, TiledTexture, StoreInput, JournalInput, PathContent, TextureContent, StoreContent, TextContent};
+ghost use Rattle.vtex.specs.Inputs.{name_of, AsksWhole, AsksHeader, AsksStrips, header_places};
+ghost use Rattle.vtex.specs.Reads.{file_state, visit, Opened, Refused, Visits, IsCausedIn, FindsIn, Finds, Reads, OpensStore, OpensTexture};
+ghost use Rattle.vtex.specs.Reads.{LooksOver, MayLookOver, SeesTexture};
 
 use crate::flaws::{flaw_of_path, flaw_of_store, flaw_of_texture};
 use crate::refusal::{Refusal, refusal_of};
@@ -16,7 +18,7 @@ use std::alloc::Global;
 use vt_camera::{Path, parse_path};
 use vt_outside::{File, Folder, OutsideError};
 use vt_pages::Geometry;
-use vt_ppm::{Image, read_image};
+use vt_ppm::{Image, StripReader, read_image};
 use vt_store::Store;
 
 /// Opens a name. Whatever is to be read of it, a refusal is that of the input.
@@ -97,6 +99,71 @@ fn texture_in<'a, F: File>(alloc: Global, name: &'a str, file: &mut F) -> Result
 {
     match read_image(alloc, file) {
         Ok(texture) => Ok(texture),
+        Err(error) => Err(refusal_of(name, flaw_of_texture(error))),
+    }
+}
+
+/// Opens the texture of a name that is to be cut into tiles, and looks its samples over. Its file is left open.
+pub fn open_texture<'a, D: Folder>(
+    alloc: Global,
+    folder: &mut D,
+    name: &'a str,
+) -> Result<StripReader<D::File>, Refusal<'a>>
+    ensures opens { IfOk result (λ reader. OpensTexture name.now reader.header (file_state D.File.File reader.file)
+        (passage D.Folder folder.old folder.new)) }
+    ensures checked { IfOk result (λ reader. reader.checked ≡ true) }
+    ensures refused { (tile : ℕ) → IfErr result (λ refusal. Refused (TiledTexture name.now tile) refusal (passage D.Folder folder.old folder.new)) }
+{
+    let file = open_input(folder, name)?;
+    match reader_in(alloc, name, file) {
+        Ok(reader) => Ok(reader),
+        Err((file, refusal)) => {
+            folder.close(file);
+            Err(refusal)
+        }
+    }
+}
+
+// The texture in an open file, whose samples were looked over. A refusal hands the file back.
+fn reader_in<F: File>(
+    alloc: Global,
+    name: &str,
+    file: F,
+) -> Result<StripReader<F>, (F, Refusal<'_>)>
+    ensures is { IfOk result (λ reader. IsTextureIfTold (F.bytes file) reader.header) }
+    ensures limits { IfOk result (λ reader. IsTextureHeader reader.header) }
+    ensures checked { IfOk result (λ reader. reader.checked ≡ true) }
+    ensures seen { IfOk result (λ reader. SeesTexture (F.bytes file) reader.header (Ok tt) (F.asked file) (F.asked reader.file)) }
+    ensures bytes { IfOk result (λ reader. F.bytes reader.file ≡ F.bytes file) }
+    ensures name { IfOk result (λ reader. F.name reader.file ≡ F.name file) }
+    ensures caused { (tile : ℕ) → IfErr result (λ e. IsCausedIn (TiledTexture name.now tile) (visit F.File file e.0) e.1) }
+    ensures tried { (tile : ℕ) → IfErr result (λ e. Visits (AsksStrips tile) (visit F.File file e.0)) }
+{
+    match StripReader::open(alloc, file) {
+        Ok(mut reader) => match look_over(name, &mut reader) {
+            Ok(()) => Ok(reader),
+            Err(refusal) => Err((reader.into_file(), refusal)),
+        },
+        Err((file, error)) => Err((file, refusal_of(name, flaw_of_texture(error)))),
+    }
+}
+
+// Looks the samples of a texture over.
+fn look_over<'a, F: File>(name: &'a str, reader: &mut StripReader<F>) -> Result<(), Refusal<'a>>
+    ensures is { OnOk result (IsTextureIfTold (F.bytes reader.old.file) reader.old.header) }
+    ensures checked { OnOk result (reader.new.checked ≡ true) }
+    ensures seen { OnOk result (LooksOver reader.old.header (Ok tt) (F.asked reader.old.file) (F.asked reader.new.file)) }
+    ensures tried { MayLookOver reader.old.header (F.asked reader.old.file) (F.asked reader.new.file) }
+    ensures caused { (tile : ℕ) → IfErr result (IsCausedIn (TiledTexture name.now tile) (visit F.File reader.old.file reader.new.file)) }
+    ensures bytes { F.bytes reader.new.file ≡ F.bytes reader.old.file }
+    ensures name { F.name reader.new.file ≡ F.name reader.old.file }
+    ensures faults { F.faults reader.old.file ≤ F.faults reader.new.file }
+    ensures header { reader.new.header ≡ reader.old.header }
+{
+    let rows = reader.header().height as u64;
+    reader.reserve(rows)?;
+    match reader.check() {
+        Ok(()) => Ok(()),
         Err(error) => Err(refusal_of(name, flaw_of_texture(error))),
     }
 }

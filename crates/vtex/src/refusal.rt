@@ -1,12 +1,13 @@
 //! How a command ends: its status, and its line on the error output.
 
 ghost use Rattle.std.specs.Prelude.{◌≡◌};
+ghost use Rattle.vt_outside.specs.declared.answers.OutsideError.TheVariants as outside_error;
 ghost use Rattle.vt_files.specs.Courses.{gain};
 ghost use Rattle.vtex.specs.Lines.{frames_line, unfit_line};
 ghost use Rattle.vtex.specs.Refusals.{IsRefusalOf, cause_of, refusal_status, refusal_of_words, status_of, refusal_line, Told, EndTold};
 
 use crate::flaws::Flaw;
-use vt_outside::{OutsideError, Sink};
+use vt_outside::{NoMemory, OutsideError, Sink};
 use vt_print::{Place, tell_bad_input, tell_place};
 use vt_words::WordsError;
 
@@ -42,6 +43,14 @@ impl From<OutsideError> for Refusal<'_> {
             OutsideError::Failed => Refusal::Fault,
             OutsideError::NoMemory => Refusal::NoMemory,
         }
+    }
+}
+
+impl From<NoMemory> for Refusal<'_> {
+    ghost from_gives = { λ _ r. r ≡ cause_of outside_error.NoMemory };
+
+    fn from(_: NoMemory) -> Self {
+        Refusal::NoMemory
     }
 }
 

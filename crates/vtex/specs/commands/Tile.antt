@@ -1,6 +1,8 @@
 -- The command `tile`: the tile store of a texture's mip chain.
 use Rattle.std.specs.Prelude.{◌≡◌, ℕ, List, [], ◌∷◌, Some}
 use Rattle.vt_ppm.specs.Image.{ImageView}
+use Rattle.vt_ppm.specs.Strips.{texture_of}
+use Rattle.vt_ppm.specs.declared.header.Header.{Header}
 use Rattle.vt_pages.specs.Shape.{Shape}
 use Rattle.vt_pages.specs.Pages.{refusal_of}
 use Rattle.vt_pages.specs.declared.PagesError.{PagesError}
@@ -19,6 +21,10 @@ use Rattle.vtex.specs.declared.refusal.Refusal.TheVariants.{Flawed}
 -- the tile store of a texture's mip chain
 unfoldable pub store_file : ImageView → ℕ → List ℕ
 store_file = texture_store
+
+-- the store of the texture that bytes spell behind a header
+abbrev pub made_store : Header → ℕ → List ℕ → List ℕ
+made_store header tile bytes = texture_store (texture_of header bytes) tile
 
 -- the texture's store, and its line
 abbrev pub store_due : List ℕ → ImageView → ℕ → Due

@@ -1,4 +1,5 @@
 // Runs of `tile` and `info`, and what runs of other commands on stores share.
+mod large;
 pub(super) mod upgrade;
 
 use super::{FAULT, G4, Left, PATH, USAGE, one_fail, play_over};
@@ -16,10 +17,10 @@ pub(super) const G4_STORE: &[u8] =
 
 const G4_LINE: &[u8] = b"store 4 4 tile 2 levels 2 pages 5 bytes 76\n";
 
-const TILE: [&str; 5] = ["tile", "t.ppm", "s.vts", "--tile", "2"];
+pub(super) const TILE: [&str; 5] = ["tile", "t.ppm", "s.vts", "--tile", "2"];
 
 // Runs the words over a folder with one file more than the path, and one call that fails.
-fn play_on(
+pub(super) fn play_on(
     rt: &(impl Threads + Wait + Sync),
     alloc: Global,
     words: &[&str],
@@ -63,7 +64,7 @@ fn informs(rt: &(impl Threads + Wait + Sync), alloc: Global, store: &[u8], line:
 }
 
 // A run that is refused with this status and this line, and leaves all as it was.
-fn refuses(
+pub(super) fn refuses(
     rt: &(impl Threads + Wait + Sync),
     alloc: Global,
     words: &[&str],
@@ -82,21 +83,22 @@ fn refuses(
     }
 }
 
-// A run of `tile` with one call that fails, what the store's name holds after it, and what was put out.
+// A run of `tile` over a texture with one call that fails, what the store's name holds after it, and what was put out.
 fn stops(
     rt: &(impl Threads + Wait + Sync),
     alloc: Global,
+    texture: &[u8],
     fail: Fail,
     store: Option<&[u8]>,
     out: &[u8],
 ) -> bool {
-    match play_on(rt, alloc, &TILE, "t.ppm", G4, Some(fail)) {
+    match play_on(rt, alloc, &TILE, "t.ppm", texture, Some(fail)) {
         Ok(left) => {
             let held = match store {
                 Some(bytes) => left.holds("s.vts", bytes),
                 None => !left.has("s.vts"),
             };
-            left.status == 3 && held && left.printed(out, FAULT)
+            left.status == 3 && held && left.holds("t.ppm", texture) && left.printed(out, FAULT)
         }
         Err(_) => false,
     }
@@ -235,31 +237,46 @@ fn a_texture_that_is_flawed_or_missing_is_refused(rt: HostRuntime) {
     assert!(rt; refuses(&rt, alloc, &["info", "none"], G4, 3, FAULT));
 }
 
+// The texture of 4x4 texels with 15 as its maximum, so that its samples are looked over: a read of all its rows. Kept, they are 17 times
+// as large.
+const G15: &[u8] =
+    b"P6\n4 4\n15\n\x00\x00\x00\x01\x01\x01\x02\x02\x02\x03\x03\x03\x04\x04\x04\x05\x05\x05\x06\x06\x06\x07\
+        \x07\x07\x08\x08\x08\x09\x09\x09\x0a\x0a\x0a\x0b\x0b\x0b\x0c\x0c\x0c\x0d\x0d\x0d\x0e\x0e\x0e\x0f\x0f\
+        \x0f";
+
+const G15_STORE: &[u8] =
+    b"VTS1\x00\x00\x00\x04\x00\x00\x00\x04\x00\x00\x00\x02\x00\x00\x00\x11\x11\x11\x44\x44\x44\x55\x55\x55\
+        \x22\x22\x22\x33\x33\x33\x66\x66\x66\x77\x77\x77\x88\x88\x88\x99\x99\x99\xcc\xcc\xcc\xdd\xdd\xdd\xaa\
+        \xaa\xaa\xbb\xbb\xbb\xee\xee\xee\xff\xff\xff\x2b\x2b\x2b\x4d\x4d\x4d\xb3\xb3\xb3\xd5\xd5\xd5";
+
+// The read of this number of the texture, which is the first file that is opened.
+fn read_of(read: u64) -> Fail {
+    Fail::Read { opening: 0, read }
+}
+
 #[test]
 fn a_call_that_fails_stops_tile(rt: HostRuntime) {
     let alloc = rt.alloc();
-    for fail in [
-        Fail::Open(0),
-        Fail::Length { opening: 0 },
-        Fail::Read {
-            opening: 0,
-            read: 0,
-        },
-        Fail::Read {
-            opening: 0,
-            read: 1,
-        },
-        Fail::Create(0),
+    assert!(rt; tiles(&rt, alloc, G15, G15_STORE, G4_LINE));
+    // The texture is opened, its header is read, and its samples are looked over before the store is created. A failed append leaves the
+    // first half of its piece: the header, the two rows of tiles of level 0, each of which is read before it is appended, and that of
+    // level 1. A failed put leaves the first half of the line's 43 bytes.
+    for (fail, store, out) in [
+        (Fail::Open(0), None, b"".as_slice()),
+        (Fail::Length { opening: 0 }, None, b""),
+        (read_of(0), None, b""),
+        (read_of(1), None, b""),
+        (Fail::Create(0), None, b""),
+        (Fail::Append(0), Some(&G15_STORE[..8]), b""),
+        (read_of(2), Some(&G15_STORE[..16]), b""),
+        (Fail::Append(1), Some(&G15_STORE[..28]), b""),
+        (read_of(3), Some(&G15_STORE[..40]), b""),
+        (Fail::Append(2), Some(&G15_STORE[..52]), b""),
+        (Fail::Append(3), Some(&G15_STORE[..70]), b""),
+        (Fail::Put(0), Some(G15_STORE), &G4_LINE[..21]),
     ] {
-        assert!(rt; stops(&rt, alloc, fail, None, b""));
+        assert!(rt; stops(&rt, alloc, G15, fail, store, out));
     }
-    // A failed append leaves the first half of its piece: the header, the two rows of tiles of level 0, and that of level 1.
-    assert!(rt; stops(&rt, alloc, Fail::Append(0), Some(&G4_STORE[..8]), b""));
-    assert!(rt; stops(&rt, alloc, Fail::Append(1), Some(&G4_STORE[..28]), b""));
-    assert!(rt; stops(&rt, alloc, Fail::Append(2), Some(&G4_STORE[..52]), b""));
-    assert!(rt; stops(&rt, alloc, Fail::Append(3), Some(&G4_STORE[..70]), b""));
-    // A failed put leaves the first half of the line's 43 bytes.
-    assert!(rt; stops(&rt, alloc, Fail::Put(0), Some(G4_STORE), &G4_LINE[..21]));
 }
 
 #[test]
