@@ -3,10 +3,11 @@
 ghost use Rattle.std.specs.Prelude.{◌≡◌, IfOk, IfErr};
 ghost use Rattle.vt_words.specs.Upgrade.{shown_upgrade};
 ghost use Rattle.vt_files.specs.Courses.{course, passage};
-ghost use Rattle.vtex.specs.Inputs.{NarrowStore};
+ghost use Rattle.vtex.specs.Inputs.{NarrowStore, ArePieces};
+ghost use Rattle.vtex.specs.OpenWrites.{WritesMade};
 ghost use Rattle.vtex.specs.Reads.{file_state, Refused, OpensStore};
 ghost use Rattle.vtex.specs.Tasks.{Ends};
-ghost use Rattle.vtex.specs.commands.Upgrade.{upgrade_task, WritesWide};
+ghost use Rattle.vtex.specs.commands.Upgrade.{upgrade_task, upgraded_file};
 
 use crate::flaws::Flaw;
 use crate::input::open_store;
@@ -56,7 +57,8 @@ fn write_wide<D: Folder>(
     folder: &mut D,
 ) -> Result<(), OutsideError>
     requires { store.depth ≡ 1 }
-    ensures { WritesWide (file_state D.File.File store.file) store.shape name.now (passage D.Folder folder.old folder.new) result }
+    ensures { WritesMade (file_state D.File.File store.file) (upgraded_file store.shape) (ArePieces store.shape) name.now
+        (passage D.Folder folder.old folder.new) result }
 {
     let written = widen_store(alloc, &mut store, folder, name);
     folder.close(store.into_file());

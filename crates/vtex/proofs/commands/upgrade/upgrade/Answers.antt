@@ -11,7 +11,8 @@ use Rattle.vt_files.specs.Dues.{Puts}
 use Rattle.vtex.specs.commands.Upgrade.{upgrade_task, wide_due}
 use Rattle.vtex.proofs.Ending.{read_none, read_more, ends_refused, ends_done, ends_stopped}
 use Rattle.vtex.proofs.Leaving.{left_writing, left_putting}
-use Rattle.vtex.proofs.Upgrading.{read_first, store_took, new_written, new_stopped}
+use Rattle.vtex.proofs.OpenWriting.{read_first}
+use Rattle.vtex.proofs.Upgrading.{store_took, new_written, new_stopped}
 use Rattle.vtex.proofs.commands.upgrade.upgrade.Goals as goal
 
 pub returns-in_err-store : goal.returns-in_err-store
