@@ -2,7 +2,7 @@
 """Makes the picture strip of README.md, by hand: pictures of a live walk that go from coarse to fine beside the settled one, and below them
 the same with the level of what each pixel shows in a colour.
 
-usage: strip.py strip NAME.png [PROGRAM [PICTURES]]   (crates/vtex/out/vtex and 0,3,6 where they are not given)
+usage: strip.py strip NAME.png [PROGRAM [PICTURES]]   (crates/vtex/out/vtex and 0,1,2,6 where they are not given)
        strip.py terrain NAME.ppm                      writes the texture that it looks at, a map of 2,048x2,048 texels that wraps around
        strip.py path NAME                             writes the path: twelve pictures from one camera
 
@@ -103,7 +103,7 @@ def beside(pictures):
     return [white.join(rows) for rows in zip(*pictures)]
 
 
-def strip(name, program=os.path.join(TOP, "crates/vtex/out/vtex"), numbers="0,3,6"):
+def strip(name, program=os.path.join(TOP, "crates/vtex/out/vtex"), numbers="0,1,2,6"):
     name, program = os.path.abspath(name), os.path.abspath(program)
     with tempfile.TemporaryDirectory() as folder:
         os.chdir(folder)
