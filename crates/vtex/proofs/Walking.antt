@@ -374,18 +374,18 @@ not_many words of shape many same told none =
     few (inr is) = is
     few (inl over) = absurd (false≢true (sym none ∙ told over))
 
--- where none of four is, the third is not
-third_is_no : (a b c rest : Bool) → (a || (b || (c || rest))) ≡ false → c ≡ false
-third_is_no false false false rest none = refl
-third_is_no false false true rest none = absurd (false≢true (sym none))
-third_is_no false true c rest none = absurd (false≢true (sym none))
-third_is_no true b c rest none = absurd (false≢true (sym none))
+-- where none of five is, the third is not
+third_is_no : (a b c d e : Bool) → ((((a || b) || c) || d) || e) ≡ false → c ≡ false
+third_is_no false false false d e none = refl
+third_is_no false false true d e none = absurd (false≢true (sym none))
+third_is_no false true c d e none = absurd (false≢true (sym none))
+third_is_no true b c d e none = absurd (false≢true (sym none))
 
 -- where the words' names do not clash, the journal's name is no picture's
 pub names_apart : (words : WalkText) → names_clash words.store words.path words.journal words.prefix ≡ false → IsApart (walk_names words)
 names_apart words none =
     third_is_no (is_picture_name words.prefix words.store) (is_picture_name words.prefix words.path) (is_picture_name words.prefix words.journal)
-    (bytes_eq words.journal words.store || bytes_eq words.journal words.path) none
+    (bytes_eq words.journal words.store) (bytes_eq words.journal words.path) none
 
 -- how a walk ends, by its answer
 pub walk_ends : (m : Drawing) (words : WalkText) (of : WalkOf) (file : FileState) (f0 f1 f2 f3 : FolderState) (out shown : SinkState)
