@@ -149,7 +149,8 @@ P6 00000000001 1 255\n|bad header at byte 13
 P6#a\n1 1 255\n|bad header at byte 2
 P6\v1 1 255\n|bad header at byte 2
 P6 0 1 255\n|bad size
-P6 1 8193 255\nabc|bad size
+P6 1 16385 255\nabc|bad size
+P6 16385 1 255\nabc|bad size
 P6 9999999999 1 255\n|bad size
 P6 1 1 0\nabc|bad maximum
 P6 1 1 65536\nabc|bad maximum
@@ -162,6 +163,19 @@ P6 8192 8192 256\n|raster of 0 bytes, wanted 402653184
 P6 1 1 100\n\001\145\0|sample over maximum at byte 12
 P6 1 1 256\n\001\001\0\200\0\001|sample over maximum at byte 11
 P6 1 1 256\n\001\0\0\200\001\001|sample over maximum at byte 15
+ROWS
+# Sides that `tile` takes and `plain`, which reads the texture whole, does not.
+while IFS='|' read -r texture answer; do
+  printf "$texture" > row.ppm
+  "$program" plain row.ppm pixel.path row. --tile 2 2> err; status=$?
+  [ "$status" -eq 4 ] && [ "$(cat err)" = "vtex: bad input: row.ppm: bad size" ] && [ ! -e row.0000.ppm ]; say $? "plain of $texture: bad size"
+  "$program" tile row.ppm row.vts --tile 2 2> err; status=$?
+  [ "$status" -eq 4 ] && [ "$(cat err)" = "vtex: bad input: row.ppm: $answer" ] && [ ! -e row.vts ]; say $? "tile of $texture: $answer"
+done <<'ROWS'
+P6 1 8193 255\nabc|raster of 3 bytes, wanted 24579
+P6 8193 1 65535\n|raster of 0 bytes, wanted 49158
+P6 16384 16384 255\n|raster of 0 bytes, wanted 805306368
+P6 16384 16384 256\n|raster of 0 bytes, wanted 1610612736
 ROWS
 for blanks in 100 70000; do
   { printf P6; head -c "$blanks" /dev/zero | tr '\0' ' '; } > row.ppm
@@ -232,6 +246,33 @@ done <<'ROWS'
 129 3 128 65535
 65 63 8 65534
 ROWS
+
+# The widest texture: all samples are 7, and so is every byte behind the store's header.
+{ printf 'P6\n16384 2\n255\n'; head -c 98304 /dev/zero | tr '\0' '\007'; } > large.ppm
+printed=$("$program" tile large.ppm got.vts --tile 2) && [ "$printed" = "store 16384 2 tile 2 levels 14 pages 16383 bytes 196612" ]
+say $? "16384x2: the line"
+[ "$(stat -c %s got.vts)" -eq 196612 ] && [ "$(tail -c +17 got.vts | tr -d '\007' | wc -c)" -eq 0 ]; say $? "16384x2: bytes"
+
+# Large textures, the largest in less memory than it has bytes, against a program in C, which is held against the other independent one
+# before.
+same_store() {
+  (ulimit -v "$3"; "$program" tile "$1" got.vts --tile "$2" > /dev/null) && ./tiles "$1" want.vts "$2" && cmp -s want.vts got.vts
+}
+if gcc -O2 -o tiles "$top/tests/tiles.c" 2> /dev/null; then
+  for number in 2 4 6 9 11; do
+    ./tiles "s$number.ppm" got.vts "$(od -An -tu1 -j15 -N1 "want$number.vts" | tr -d ' ')" && cmp -s "want$number.vts" got.vts
+    say $? "store $number by the program in C"
+  done
+  $reference noise 16384 5000 1 large.ppm
+  same_store large.ppm 64 200000; say $? "16384x5000"
+  $reference noise 16383 701 2 large.ppm 2
+  same_store large.ppm 32 unlimited; say $? "16383x701 at two bytes a sample"
+  $reference noise 301 16384 3 large.ppm
+  same_store large.ppm 128 unlimited; say $? "301x16384"
+else
+  echo "skipped: large textures, since gcc is not here"
+fi
+rm -f large.ppm want.vts got.vts
 
 # Stores of one byte a sample, upgraded: those of textures, and one whose texels are no chain and whose tiles have other texels past
 # the edges.

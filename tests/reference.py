@@ -13,6 +13,7 @@ usage: reference.py TEXTURE PATH PREFIX TILE          writes PREFIX0000.ppm and 
        reference.py trial NUMBER                      prints the line of a trial, by its pages alone
        reference.py rows                              works the rows of rows.py, and says which come out otherwise
        reference.py make WIDTH HEIGHT SEED NAME MOST  writes a P6 texture of pseudo-random samples up to MOST, which is 255 where it is left out
+       reference.py noise WIDTH HEIGHT SEED NAME DEPTH  writes a P6 texture of random samples of one byte or two, for large ones; one where it is left out
 
 OPTIONS are those of `vtex walk` but --journal, of which --loaders changes nothing here, and --lost N. For `walk` the read of that number fails, among
 the reads of batches, counted from 0; for `judge` as many pages may have been lost. `judge` has besides --status N, with which the walk ended, and
@@ -25,7 +26,7 @@ from journals import Journal, replay
 from judge import Doubt, Left, ending_of, flaws_of_walk, refusal_of
 from rows import wrong_rows
 from stores import Flaw, Path, Store, contents
-from textures import chain_of, generated, made, picture_of, read_image, sample_bytes, store_of, texel_of, upgraded
+from textures import MOST_TILED_SIDE, chain_of, generated, made, noise, picture_of, read_image, sample_bytes, store_of, texel_of, upgraded
 from walks import Settings, Still, Walk, trial, walked
 
 DEFAULTS = {"frames": 64, "samplers": 4, "loaders": 3, "batch": 64, "pinned": 1, "status": 0, "lost": None}
@@ -57,7 +58,7 @@ def draw(texture, path_name, prefix, tile):
 
 
 def tile_texture(texture, store, tile):
-    depth, rows = read_image(contents(texture))
+    depth, rows = read_image(contents(texture), MOST_TILED_SIDE)
     write_store(store, store_of(depth, chain_of(rows, int(tile)), int(tile)))
 
 
@@ -67,7 +68,7 @@ def write_store(name, data):
 
 
 def read_back(texture, store_name):
-    store, (depth, rows) = Store(contents(store_name)), read_image(contents(texture))
+    store, (depth, rows) = Store(contents(store_name)), read_image(contents(texture), MOST_TILED_SIDE)
     assert store.depth == depth
     for k, level in enumerate(chain_of(rows, store.geometry.tile)):
         for y, line in enumerate(level):
@@ -85,6 +86,10 @@ def generate(number, width, height, name):
 
 def make(width, height, seed, name, most=255):
     write(name, made(int(width), int(height), int(seed), int(most)))
+
+
+def make_noise(width, height, seed, name, depth=1):
+    write(name, noise(int(width), int(height), int(seed), int(depth)))
 
 
 def walk_words(words):
@@ -147,6 +152,7 @@ JOBS = {
     "trial": say_trial,
     "rows": work_rows,
     "make": make,
+    "noise": make_noise,
 }
 
 

@@ -69,7 +69,7 @@ class Geometry:
 
 
 def is_geometry(width, height, tile):
-    if not (1 <= width <= 8192 and 1 <= height <= 8192 and tile in (2, 4, 8, 16, 32, 64, 128)):
+    if not (1 <= width <= 16384 and 1 <= height <= 16384 and tile in (2, 4, 8, 16, 32, 64, 128)):
         return False
     return Geometry(width, height, tile).pages <= 262144
 

@@ -2,9 +2,11 @@
 
 A texture is its depth and its levels: how many bytes a sample has, and for each level its rows of samples, three a texel.
 """
+import random
+
 from stores import Flaw, Geometry
 
-MOST_HEADER, MOST_SIDE, MOST_PAGES = 65536, 8192, 262144
+MOST_HEADER, MOST_READ_SIDE, MOST_TILED_SIDE, MOST_PAGES = 65536, 8192, 16384, 262144
 WHITE = b" \t\n\r"
 
 
@@ -44,14 +46,14 @@ class Header:
         return int(self.head[begin : self.at])
 
 
-def read_image(data):
-    """The depth and the rows of samples of a texture's bytes."""
+def read_image(data, most_side=MOST_READ_SIDE):
+    """The depth and the rows of samples of a texture's bytes; one that is cut into tiles may have larger sides than one that is read whole."""
     if data[:2] != b"P6":
         raise Flaw("bad magic")
     header = Header(data)
     width, height, most = header.number(), header.number(), header.number()
     header.white()
-    if not (1 <= width <= MOST_SIDE and 1 <= height <= MOST_SIDE):
+    if not (1 <= width <= most_side and 1 <= height <= most_side):
         raise Flaw("bad size")
     if not 1 <= most <= 65535:
         raise Flaw("bad maximum")
@@ -154,6 +156,11 @@ def generated(number, width, height):
         for x in range(width):
             out += bytes(((x + number) % 256, (y + 3 * number) % 256, (x * y + 7 * number) % 256))
     return bytes(out)
+
+
+def noise(width, height, seed, depth):
+    """A texture of random bytes, for sizes at which `made` takes too long."""
+    return b"P6\n%d %d\n%d\n" % (width, height, 256**depth - 1) + random.Random(seed).randbytes(3 * depth * width * height)
 
 
 def made(width, height, seed, most):

@@ -24,11 +24,14 @@ from stores import contents
 from walks import Settings
 
 TEXELS = FOUR_STORE[16::3]
+SCALED = (0, 17, 68, 85, 34, 51, 102, 119, 136, 153, 204, 221, 170, 187, 238, 255, 43, 77, 179, 213)
+SCALED_STORE = FOUR_STORE[:16] + b"".join(bytes([n] * 3) for n in SCALED)
 WIDE = b"VTS2" + FOUR_STORE[4:16] + b"".join(bytes([n] * 6) for n in TEXELS)
 TOLD = b"store 4 4 tile 2 levels 2 pages 5 bytes 76\n"
 MADE = b"P6\n2 2\n255\n\x01\x03\x07\x02\x03\x07\x01\x04\x07\x02\x04\x08"
 INPUTS = {
     "g4.ppm": b"P6\n4 4\n255\n" + b"".join(bytes([n] * 3) for n in range(16)),
+    "g15.ppm": b"P6\n4 4\n15\n" + b"".join(bytes([n] * 3) for n in range(16)),
     "a.path": FIRST,
     "four.path": FOUR,
     "s.vts": FOUR_STORE,
@@ -74,6 +77,7 @@ PICTURES = [("f%04d.ppm" % k, grey(samples)) for k, samples in enumerate([(0x0B,
 JOBS = [
     Job(["plain", "g4.ppm", "a.path", "f", "--tile", "2"], [("f0000.ppm", grey((0x0D, 0x01)))], b"end pictures 1\n"),
     Job(["tile", "g4.ppm", "g4.vts", "--tile", "2"], [("g4.vts", FOUR_STORE)], TOLD),
+    Job(["tile", "g15.ppm", "g15.vts", "--tile", "2"], [("g15.vts", SCALED_STORE)], TOLD),
     Job(["info", "s.vts"], [], TOLD),
     Job(["gen", "1", "2", "2", "g.ppm"], [("g.ppm", MADE)], b""),
     Job(["upgrade", "s.vts", "w.vts"], [("w.vts", WIDE)], TOLD.replace(b"76", b"136")),

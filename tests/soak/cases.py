@@ -5,7 +5,7 @@ import re
 from judge import FAULT, LINES, flaws_of_due, flaws_of_walk
 from journals import Journal, replay
 from stores import Flaw, Geometry, Path, Store, contents
-from textures import chain_of, generated, picture_of, read_image, sample_bytes, store_of, upgraded
+from textures import MOST_TILED_SIDE, chain_of, generated, picture_of, read_image, sample_bytes, store_of, upgraded
 from walks import Settings, Shuffled, Walk, trial, walked
 
 TILES = [2, 4, 8, 16, 32, 64, 128]
@@ -145,7 +145,7 @@ def first_cause(*reads):
 
 
 def texture_to_tile(data, tile):
-    image = read_image(data)
+    image = read_image(data, MOST_TILED_SIDE)
     store = Geometry(len(image[1][0]) // 3, len(image[1]), tile)
     if store.pages > 262144:
         raise Flaw("too many pages %d" % store.pages)
