@@ -3,13 +3,15 @@ use Rattle.std.proofs.Common.{◌≡◌, ℕ, ◌≤◌, List, [], ◌∷◌, �
 use Rattle.std.specs.Prelude.{Result, OnSome}
 use Rattle.std.specs.Option.{option_map, IsSome, IfSome, is_some}
 use Rattle.std.proofs.lemmas.Bool.{false≢true}
+use Rattle.std.proofs.lemmas.List.{append-nil, append_cancel_left}
+use Rattle.std.proofs.Math.Option.{some-injective}
 use Rattle.vt_outside.specs.Files.{Files, Asked, bytes_at, with_places}
 use Rattle.vt_outside.specs.declared.place.Place.{Place}
 use Rattle.vt_ppm.specs.declared.error.PpmError.{PpmError}
 use Rattle.vt_ppm.specs.declared.header.Header.{Header}
 use Rattle.vt_ppm.specs.Format.{IsTexture}
 use Rattle.vt_ppm.specs.Reads.{AsksHeader, ReadsFront}
-use Rattle.vt_ppm.specs.Strips.{HasRasterIfTold, ChecksPieces, texture_of}
+use Rattle.vt_ppm.specs.Strips.{HasRasterIfTold, MayBeOver, ChecksPieces, texture_of}
 use Rattle.vt_files.specs.Courses.{Passage}
 use Rattle.vt_files.proofs.Counting.{rose_later}
 use Rattle.vtex.specs.Inputs.{Input, AreStrips, AsksStrips, IsFlawOf}
@@ -33,8 +35,10 @@ seen told header answer before mid after front behind rows = record {
           is_front = front.is_front;
           front_read = front.read;
           behind = behind;
-          pieces = subst (λ (a : Option (List Place)). ChecksPieces header answer (Some (old ++ (front.front ∷ []))) a) there
-              (subst (λ (b : Option (List Place)). ChecksPieces header answer b after) here rows.pieces);
+          pieces = λ may. subst (λ (a : Option (List Place)). ChecksPieces header answer (Some (old ++ (front.front ∷ []))) a) there
+              (subst (λ (b : Option (List Place)). ChecksPieces header answer b after) here (rows.pieces may));
+          unread = λ never. append_cancel_left (old ++ (front.front ∷ [])) rows.rows.places []
+              (some-injective _ _ (sym there ∙ rows.unread never ∙ here) ∙ sym (append-nil (old ++ (front.front ∷ []))));
           rows = rows.rows.each;
           are = refl;
         },

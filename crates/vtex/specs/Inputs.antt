@@ -6,7 +6,7 @@ use Rattle.vt_ppm.specs.Image.{ImageView}
 use Rattle.vt_ppm.specs.Format.{IsImage, IsTexture}
 use Rattle.vt_ppm.specs.Flaws.{IsImageFlaw, IsHeaderFlaw}
 use Rattle.vt_ppm.specs.Reads.{IsFrontPlace, AreHeaderPlaces, AreImagePlaces}
-use Rattle.vt_ppm.specs.Strips.{HasRasterIfTold, ChecksPieces, IsRowsPlace}
+use Rattle.vt_ppm.specs.Strips.{HasRasterIfTold, MayBeOver, ChecksPieces, IsRowsPlace}
 use Rattle.vt_ppm.specs.declared.header.Header.{Header}
 use Rattle.vt_ppm.specs.declared.error.PpmError.{PpmError}
 use Rattle.vt_camera.specs.Paths.{PathView}
@@ -155,7 +155,7 @@ AsksTiles told places = AsksHeader told places
     × (places ≡ header_places ++ tiles))
 
 -- the places of a texture that was looked over, with what came of it: a front part that holds its header, and then, behind whatever places
--- were asked before, those of the rows that were looked over
+-- were asked before, those of the rows that were looked over, which are none where no sample may be above the maximum
 pub record AreSeenPlaces (told : Option (List ℕ)) (header : Header) (answer : Result (Unit {0}) PpmError) (places : List Place) : Type 0 where
   pub front : Place
   pub earlier : List Place
@@ -163,7 +163,8 @@ pub record AreSeenPlaces (told : Option (List ℕ)) (header : Header) (answer : 
   pub is_front : IsFrontPlace told front
   pub front_read : front.failed ≡ false
   pub behind : HasRasterIfTold told header
-  pub pieces : ChecksPieces header answer (Some earlier) (Some (earlier ++ seen))
+  pub pieces : MayBeOver header → ChecksPieces header answer (Some earlier) (Some (earlier ++ seen))
+  pub unread : (MayBeOver header → ⊥) → seen ≡ []
   pub rows : All (IsRowsPlace header) seen
   pub are : places ≡ front ∷ seen
 

@@ -4,7 +4,7 @@ use Rattle.vt_outside.specs.Counts.{Rose, added}
 use Rattle.vt_outside.specs.Files.{bytes_at, with_places}
 use Rattle.vt_outside.specs.declared.place.Place.{Place}
 use Rattle.vt_outside.specs.declared.outside.File.{Ghosts as FileMeanings}
-use Rattle.vt_ppm.specs.Strips.{ChecksPieces, GainsRows, IsTextureHeader, IsTextureIfTold}
+use Rattle.vt_ppm.specs.Strips.{MayBeOver, ChecksPieces, GainsRows, IsTextureHeader, IsTextureIfTold}
 use Rattle.vt_ppm.specs.declared.error.PpmError.{PpmError}
 use Rattle.vt_ppm.specs.declared.header.Header.{Header}
 use Rattle.vt_pages.specs.Shape.{Shape}
@@ -126,9 +126,10 @@ pub record OpensStore (name : List ℕ) (shape : Shape) (depth : ℕ) (file : Fi
   pub no_places : p.after.asked ≡ p.before.asked
   pub faults : p.before.faults ≤ p.after.faults
 
--- places of rows were asked to look samples over, and this came of it
+-- places of rows were asked to look samples over, none where no sample may be above the maximum, and this came of it
 pub record LooksOver (header : Header) (answer : Result (Unit {0}) PpmError) (before after : Option (List Place)) : Type 0 where
-  pub pieces : ChecksPieces header answer before after
+  pub pieces : MayBeOver header → ChecksPieces header answer before after
+  pub unread : (MayBeOver header → ⊥) → after ≡ before
   pub rows : GainsRows header before after
 
 -- no place was asked, or places of rows were, to look samples over
