@@ -89,7 +89,8 @@ def make(width, height, seed, name, most=255):
 
 
 def make_noise(width, height, seed, name, depth=1):
-    write(name, noise(int(width), int(height), int(seed), int(depth)))
+    with open(name, "wb") as file:
+        file.writelines(noise(int(width), int(height), int(seed), int(depth)))
 
 
 def walk_words(words):

@@ -159,8 +159,11 @@ def generated(number, width, height):
 
 
 def noise(width, height, seed, depth):
-    """A texture of random bytes, for sizes at which `made` takes too long."""
-    return b"P6\n%d %d\n%d\n" % (width, height, 256**depth - 1) + random.Random(seed).randbytes(3 * depth * width * height)
+    """A texture of random bytes, in pieces: its header, and row after row. It is for sizes at which `made` takes too long."""
+    yield b"P6\n%d %d\n%d\n" % (width, height, 256**depth - 1)
+    chance = random.Random(seed)
+    for _ in range(height):
+        yield chance.randbytes(3 * depth * width)
 
 
 def made(width, height, seed, most):
