@@ -1,5 +1,5 @@
 -- The store of a mip chain.
-use Rattle.std.specs.Prelude.{◌≡◌, ℕ, ◌+◌, ◌-◌, ◌≤◌, List, ◌++◌, take, Option, option_map}
+use Rattle.std.specs.Prelude.{◌≡◌, ℕ, ◌+◌, ◌-◌, ◌<◌, ◌≤◌, List, ◌++◌, take, Option, option_map}
 use Rattle.vt_definitions.specs.Sides.{side}
 use Rattle.vt_definitions.specs.Texels.{Source}
 use Rattle.vt_outside.specs.Files.{Files, with_bytes}
@@ -32,6 +32,10 @@ pub record HasLevels (chain : ChainView) (shape : Shape) (skipped : ℕ) : Type 
 -- the words of a chain that begins at a level
 abbrev pub level_source : ChainView → ℕ → Source
 level_source chain skipped k = chain_texel chain (k - skipped)
+
+-- the words of a source at a level are those of an image
+pub record HasLevelTexels (src : Source) (k : ℕ) (p : ImageView) : Type 0 where
+  pub each : (x y : ℕ) → x < p.width → y < p.height → src k x y ≡ texel_of p x y
 
 -- behind whatever bytes the name held, it came to hold the tiles of the pages from one on to another
 pub record AddsPages (s : Shape) (d : ℕ) (src : Source) (first end : ℕ) (name : List ℕ) (old new : Option Files) : Type 0 where
