@@ -15,7 +15,7 @@ use Rattle.vt_mip.specs.Chains.{ChainView, chain_texel, chain_width, chain_heigh
 use Rattle.vt_mip.proofs.Words.{chain-zero, first_level, texel_raster}
 use Rattle.vt_pages.specs.declared.PageName.{PageName}
 use Rattle.vt_pages.specs.Shape.{Shape}
-use Rattle.vt_pages.specs.Pages.{IsPage, IsWithinLimits, levels_of, pages_of, pages_below, columns_at, rows_at, index_at, name_at}
+use Rattle.vt_pages.specs.Pages.{IsPage, IsWithinLimits, levels_of, pages_below, columns_at, rows_at, index_at, name_at}
 use Rattle.vt_pages.proofs.Counts.{columns_some, lt_up, pages_below-suc, pages_below_le, pages_of-is}
 use Rattle.vt_store.specs.ChainStores.{AddsPages, AddsPart, HasLevelTexels, level_source}
 use Rattle.vt_store.specs.Format.{tiles_bytes}

@@ -1,4 +1,4 @@
-use Rattle.std.proofs.Common.{◌≡◌, ℕ, ◌+◌, ◌-◌, ◌*◌, ◌/◌, ◌<◌, inl, inr, length, refl, sym, ap, ◌∙◌, arith}
+use Rattle.std.proofs.Common.{◌≡◌, ℕ, ◌+◌, ◌*◌, ◌<◌, inl, inr, length, refl, sym, ap, ◌∙◌, arith}
 use Rattle.std.proofs.lemmas.List.{length-take-le}
 use Rattle.vt_outside.proofs.Untold.{OnErr-all}
 use Rattle.vt_outside.specs.declared.answers.OutsideError.TheVariants.{Failed}
@@ -34,7 +34,7 @@ loop-strip-preserved g c =
     let i = c.loop-strip.invariant in
     record {
       adds = λ src has. level_more c.args.geometry.now c.args.image.depth src c.args.level c.loop-strip.strip c.args.name.now (g.D.Folder.files c.args.folder.now)
-    (g.D.Folder.files c.loop-strip.folder)
+          (g.D.Folder.files c.loop-strip.folder)
           (g.D.Folder.files c.write_row.new.folder) (i.adds src has) (c.in_ok-write_row.ensures.whole src has);
       depth = c.write_row.ensures.half_depth ∙ i.depth;
       width = c.write_row.ensures.half_width ∙ i.width;

@@ -1,4 +1,4 @@
-use Rattle.std.proofs.Common.{◌≡◌, ℕ, List, take, ap, ◌∙◌}
+use Rattle.std.proofs.Common.{ℕ, List, take, ap, ◌∙◌}
 use Rattle.std.proofs.lemmas.Result.{on_ok_weaker, on_err_weaker}
 use Rattle.std.specs.Prelude.{option_map}
 use Rattle.vt_outside.specs.Files.{with_appended}
@@ -23,6 +23,9 @@ returns-clause-part g c =
     c.depth.result c.image_rows-rows.result.now c.put_tiles.new.tiles c.index_of-page.ensures.index c.tile_columns-columns.ensures.value
     c.depth.ensures.value c.index_of-page.ensures.undone c.image_rows-rows.ensures.rows c.put_tiles.ensures in
     on_err_weaker c.append.result
-    (λ held src has. (held.0, held.1
-    ∙ ap (λ (l : List ℕ). option_map (with_appended c.args.name.now (take held.0 l)) (g.D.Folder.files c.args.folder.now)) (tiles src has)))
+    (λ held src has. (
+      held.0,
+      held.1
+          ∙ ap (λ (l : List ℕ). option_map (with_appended c.args.name.now (take held.0 l)) (g.D.Folder.files c.args.folder.now)) (tiles src has),
+    ))
     c.append.ensures.part

@@ -1,20 +1,17 @@
-use Rattle.std.proofs.Common.{◌≡◌, ℕ, ◌+◌, ◌-◌, ◌*◌, ◌/◌, ◌<◌, ◌≤◌, inl, inr, List, Some, length, min, refl, sym, ap, ◌∙◌, subst, arith, rules}
+use Rattle.std.proofs.Common.{◌≡◌, ℕ, ◌+◌, ◌-◌, ◌*◌, ◌/◌, inl, inr, List, Some, length, refl, sym, ap, ◌∙◌, subst, arith}
 use Rattle.std.proofs.lemmas.List.{length-take-le}
-use Rattle.std.proofs.lemmas.Result.{on_ok_weaker, on_err_weaker}
 use Rattle.vt_outside.proofs.Untold.{OnErr-all}
-use Rattle.vt_definitions.specs.Depths.{texel_length}
 use Rattle.vt_ppm.specs.declared.header.Header.{Header}
-use Rattle.vt_ppm.specs.Format.{depth_of}
 use Rattle.vt_ppm.specs.Strips.{texture_of}
 use Rattle.vt_mip.specs.TakenRows.{HalvingView, HalvesFront}
-use Rattle.vt_pages.specs.Pages.{pages_of, pages_below, rows_at, columns_at}
+use Rattle.vt_pages.specs.Pages.{pages_below, rows_at, columns_at}
 use Rattle.vt_store.specs.Format.{tile_length}
 use Rattle.vt_store.specs.ChainStores.{level_source}
 use Rattle.vt_store.specs.StripStores.{strip_rows}
 use Rattle.vt_store.specs.declared.error.StoreError.TheVariants.{Failed}
 use Rattle.vt_store.proofs.WideStores.{rose_along, carried}
 use Rattle.vt_store.proofs.StripStores.{made_begun, made_moved, made_more, made_part, made_header, made_whole, made_rest_part, store_seen, front_seen, header_seen, there_made, more_strips, no_strips, strips_front, strip_tried}
-use Rattle.vt_store.proofs.StripLevels.{first_pages, first_inside, strip_inside, are_strips, strip_low, all_taken, rest_tiles, level_made, strip_room, strip_small, strip_bytes, next_taken, last_taken}
+use Rattle.vt_store.proofs.StripLevels.{first_pages, first_inside, strip_inside, are_strips, rest_tiles, level_made, strip_room, strip_small, strip_bytes, next_taken}
 use Rattle.vt_store.proofs.LevelChain.{refused_by}
 use Rattle.vt_store.proofs.strips.write_strips.Goals as goal
 
