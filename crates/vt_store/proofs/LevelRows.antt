@@ -2,7 +2,6 @@
 use Rattle.std.proofs.Common.{◌≡◌, ℕ, suc, ◌+◌, ◌-◌, ◌*◌, ◌/◌, ◌<◌, ◌≤◌, Option, List, ◌++◌, length, take, drop, min, refl, sym, ap, ◌∙◌, subst, arith}
 use Rattle.std.specs.Prelude.{option_map, Result, Ok, Err, IsErrOf}
 use Rattle.std.specs.Result.{IsErrAnd}
-use Rattle.std.proofs.lemmas.List.{length-take-le, length-drop}
 use Rattle.std.proofs.lemmas.Nat.{mul-le}
 use Rattle.vt_definitions.specs.Depths.{AreBytes, texel_length, word_bytes}
 use Rattle.vt_definitions.specs.Sides.{side}
@@ -12,27 +11,29 @@ use Rattle.vt_outside.specs.Files.{Files, IsPiece, IsThere, with_appended, with_
 use Rattle.vt_outside.specs.declared.answers.OutsideError.{OutsideError}
 use Rattle.vt_ppm.specs.Image.{ImageView, IsLawfulImage, texel_of}
 use Rattle.vt_mip.specs.Chains.{ChainView, chain_texel, chain_width, chain_height, IsTexelRaster}
+use Rattle.vt_mip.specs.InPlace.{ShrinksFront}
+use Rattle.vt_mip.specs.TakenRows.{HalvingView}
 use Rattle.vt_mip.proofs.Words.{chain-zero, first_level, texel_raster}
 use Rattle.vt_pages.specs.declared.PageName.{PageName}
 use Rattle.vt_pages.specs.Shape.{Shape}
 use Rattle.vt_pages.specs.Pages.{IsPage, IsWithinLimits, levels_of, pages_below, columns_at, rows_at, index_at, name_at}
 use Rattle.vt_pages.proofs.Counts.{columns_some, lt_up, pages_below-suc, pages_below_le, pages_of-is}
-use Rattle.vt_store.specs.ChainStores.{AddsPages, AddsPart, HasLevelTexels, level_source}
+use Rattle.vt_store.specs.ChainStores.{AddsPages, AddsPart, HasLevelTexels, IsLevelOf, level_source}
 use Rattle.vt_store.specs.Format.{tiles_bytes}
-use Rattle.vt_store.specs.TileLines.{HasTileRows, rows_inside}
+use Rattle.vt_store.specs.TileLines.{HasTileRows, rows_inside, tile_rows_length}
 use Rattle.vt_store.proofs.AddedPages.{adds_none, adds_more, adds_part, there_bytes}
 use Rattle.vt_store.proofs.Tiles.{columns_fall}
-use Rattle.vt_store.proofs.TileRows.{IsAt, rows_cut, rows_are, tiles_at}
+use Rattle.vt_store.proofs.TileRows.{IsAt, rows_are, tiles_at}
 
--- what is cut out of bytes is a piece of them
-cut_piece : (samples : List ℕ) (from m at : ℕ) → from ≡ at → from + m ≤ length samples → IsPiece samples at (take m (drop from samples))
-cut_piece samples from m at same inside =
-    let long : length (take m (drop from samples)) ≡ m = length-take-le m (drop from samples) (omega (arith, length-drop from samples, inside)) in
-    record {
-      within = omega (arith, same, long, inside);
-      same = ap (λ (n : ℕ). take n (drop from samples)) (sym long) ∙ ap (λ (n : ℕ). take (length (take m (drop from samples))) (drop n samples)) same;
-    }
+-- the first page of a row of tiles is one
+pub row_page : (s : Shape) (k r : ℕ) → IsWithinLimits s → k < levels_of s → r < rows_at s k → IsPage s (record { level = k; col = 0; row = r })
+row_page s k r limits level row = record {
+  level_inside = level;
+  col_inside = columns_some s k (omega (arith, limits.least_tile)) limits.least_width;
+  row_inside = row;
+}
 
+-- the rows of an image on which a row of tiles lies
 module _ (s : Shape) (p : ImageView) (n z w t inside from m : ℕ) (name : PageName) (samples : List ℕ)
     (named : name ≡ name_at s n) (is : IsPage s name) (limits : IsWithinLimits s) (lawful : IsLawfulImage p) (bytes : AreBytes p.samples)
     (columns : p.width ≡ side s.width (name_at s n).level) (high : p.height ≡ side s.height (name_at s n).level) (same : samples ≡ p.samples)
@@ -55,11 +56,7 @@ module _ (s : Shape) (p : ImageView) (n z w t inside from m : ℕ) (name : PageN
   raster = subst (λ l. IsTexelRaster alone.base.depth (chain_texel alone 0) (chain_width alone 0) (chain_height alone 0) l) (sym same)
       (texel_raster p 0 p (first_level p lawful) bytes)
 
-  pub image_cut : from + m ≤ length samples
-  unfolding alone
-  image_cut = rows_cut alone s (name_at s n).level 0 n z w t inside from m name samples at named is limits raster ez ew et ei begins long
-
-  pub image_rows_are : (src : Source) → HasLevelTexels src (name_at s n).level p → HasTileRows s p.depth src n (take m (drop from samples))
+  image_rows_are : (src : Source) → HasLevelTexels src (name_at s n).level p → HasTileRows s p.depth src n (take m (drop from samples))
   unfolding alone
   image_rows_are src has = record { each = λ x y a b. rows.each x y a b ∙ ap (word_bytes p.depth) (there x y a b) } where
     rows : HasTileRows s p.depth (level_source alone (name_at s n).level) n (take m (drop from samples))
@@ -75,33 +72,44 @@ module _ (s : Shape) (p : ImageView) (n z w t inside from m : ℕ) (name : PageN
         ∙ chain-zero p.depth (texel_of p) p.width p.height x row
         ∙ sym (has.each x row (omega (arith, a, columns)) (omega (arith, b, high)))
 
-  pub image_piece : IsPiece p.samples (texel_length p.depth * (p.width * ((name_at s n).row * s.tile))) (take m (drop from samples))
-  image_piece =
-      let row : name.row * t ≡ (name_at s n).row * s.tile =
-      ap (λ (q : PageName). q.row * t) named ∙ ap (λ (q : ℕ). (name_at s n).row * q) et in
-      let place : from ≡ texel_length p.depth * (p.width * ((name_at s n).row * s.tile)) =
-      begins ∙ ap (λ (q : ℕ). z * w * q) row ∙ ap (λ (q : ℕ). q * w * ((name_at s n).row * s.tile)) ez
-      ∙ ap (λ (q : ℕ). texel_length p.depth * q * ((name_at s n).row * s.tile)) ew ∙ omega arith in
-      subst (λ l. IsPiece l (texel_length p.depth * (p.width * ((name_at s n).row * s.tile))) (take m (drop from samples))) same
-      (cut_piece samples from m (texel_length p.depth * (p.width * ((name_at s n).row * s.tile))) place image_cut)
+-- the rows that were read have the level's words
+pub read_rows : (s : Shape) (p : ImageView) (v : HalvingView) (src : Source) (n k r : ℕ) (rows : List ℕ) → IsWithinLimits s → k < levels_of s
+    → r < rows_at s k → name_at s n ≡ record { level = k; col = 0; row = r } → v.width ≡ side s.width k → v.height ≡ side s.height k
+    → v.taken ≡ r * s.tile → length rows ≡ texel_length v.depth * (v.width * rows_inside s n)
+    → ((q : ImageView) → ShrinksFront q v → IsPiece q.samples (texel_length q.depth * (q.width * v.taken)) rows)
+    → IsLevelOf src k p v → HasTileRows s p.depth src n rows
+read_rows s p v src n k r rows limits level row named wide high taken full read has =
+    let piece = read p has.front in
+    let z : ℕ = texel_length p.depth in
+    let at : ℕ = z * (p.width * v.taken) in
+    let down : (name_at s n).row ≡ r = ap (λ (q : PageName). q.row) named in
+    let begins : at ≡ z * p.width * ((name_at s n).row * s.tile) =
+    ap (λ (m : ℕ). z * (p.width * m)) (taken ∙ ap (λ (m : ℕ). m * s.tile) (sym down)) ∙ omega arith in
+    let long : length rows ≡ z * p.width * rows_inside s n =
+    full ∙ ap (λ (m : ℕ). texel_length m * (v.width * rows_inside s n)) has.front.depth ∙ ap (λ (m : ℕ). z * (m * rows_inside s n)) has.front.columns
+    ∙ omega arith in
+    let page = subst (IsPage s) (sym named) (row_page s k r limits level row) in
+    let across = sym has.front.columns ∙ wide ∙ ap (λ (q : PageName). side s.width q.level) (sym named) in
+    let over = sym has.front.rows ∙ high ∙ ap (λ (q : PageName). side s.height q.level) (sym named) in
+    let texels = subst (λ (q : PageName). HasLevelTexels src q.level p) (sym named) has.texels in
+    subst (λ l. HasTileRows s p.depth src n l) (sym piece.same)
+    (image_rows_are s p n z p.width s.tile (rows_inside s n) at (length rows) (name_at s n) p.samples refl page limits has.lawful has.bytes
+    across over refl refl refl refl refl begins long src texels)
 
--- the first page of a row of tiles is one
-pub row_page : (s : Shape) (k r : ℕ) → IsWithinLimits s → k < levels_of s → r < rows_at s k → IsPage s (record { level = k; col = 0; row = r })
-row_page s k r limits level row = record {
-  level_inside = level;
-  col_inside = columns_some s k (omega (arith, limits.least_tile)) limits.least_width;
-  row_inside = row;
-}
+-- and they are as long as a row of tiles needs
+pub rows_full : (s : Shape) (n k r d w count m : ℕ) → name_at s n ≡ record { level = k; col = 0; row = r } → w ≡ side s.width k
+    → count ≡ rows_inside s n → m ≡ texel_length d * (w * count) → m ≡ tile_rows_length s d n
+rows_full s n k r d w count m named wide inside full =
+    full ∙ ap (λ (q : ℕ). texel_length d * (w * q)) inside
+    ∙ ap (λ (q : ℕ). texel_length d * (q * rows_inside s n)) (wide ∙ ap (λ (q : PageName). side s.width q.level) (sym named))
 
 -- the tiles that are made of the rows
-pub row_tiles : (s : Shape) (p : ImageView) (k r page columns d : ℕ) (rows tiles : List ℕ) → page ≡ index_at s k 0 r → columns ≡ columns_at s k
-    → d ≡ p.depth → name_at s page ≡ record { level = k; col = 0; row = r }
-    → ((src : Source) → HasLevelTexels src (name_at s page).level p → HasTileRows s p.depth src page rows)
+pub row_tiles : (s : Shape) (p : ImageView) (src : Source) (k r page columns d : ℕ) (rows tiles : List ℕ) → page ≡ index_at s k 0 r
+    → columns ≡ columns_at s k → d ≡ p.depth → HasTileRows s p.depth src page rows
     → ((src : Source) → HasTileRows s d src page rows → tiles ≡ tiles_bytes s d src page columns)
-    → (src : Source) → HasLevelTexels src k p → tiles ≡ tiles_bytes s p.depth src (index_at s k 0 r) (columns_at s k)
-row_tiles s p k r page columns d rows tiles there across deep named has made src level =
-    tiles_at s d p.depth src page columns rows tiles deep
-    (has src (subst (λ (q : PageName). HasLevelTexels src q.level p) (sym named) level)) made
+    → tiles ≡ tiles_bytes s p.depth src (index_at s k 0 r) (columns_at s k)
+row_tiles s p src k r page columns d rows tiles there across deep has made =
+    tiles_at s d p.depth src page columns rows tiles deep has made
     ∙ ap (λ (n : ℕ). tiles_bytes s p.depth src n columns) there
     ∙ ap (λ (n : ℕ). tiles_bytes s p.depth src (index_at s k 0 r) n) across
 

@@ -1,4 +1,4 @@
-use Rattle.std.proofs.Common.{◌≡◌, ℕ, ◌+◌, ◌*◌, ◌<◌, inl, inr, length, refl, sym, ap, ◌∙◌, arith}
+use Rattle.std.proofs.Common.{◌≡◌, ℕ, ◌+◌, ◌*◌, ◌<◌, inl, inr, length, min, refl, sym, ap, ◌∙◌, arith}
 use Rattle.std.proofs.lemmas.List.{length-take-le}
 use Rattle.vt_outside.proofs.Untold.{OnErr-all}
 use Rattle.vt_outside.specs.declared.answers.OutsideError.TheVariants.{Failed}
@@ -20,11 +20,11 @@ slice_bounds-row-end-2 g c = sym (length-take-le _ c.args.tiles.now (shorter_row
 pub loop-strip-init : goal.loop-strip-init
 loop-strip-init g c = record {
   adds = λ src has. level_begun c.args.geometry.now c.args.image.depth src c.args.level c.args.name.now (g.D.Folder.files c.args.folder.now);
-  depth = c.in_ok-half.ensures.depth ∙ c.depth-depth.ensures.value;
-  width = c.in_ok-half.ensures.width ∙ c.width-width.ensures.value;
-  height = c.in_ok-half.ensures.height ∙ c.height-height.ensures.value;
-  taken = omega (arith, c.in_ok-half.ensures.none);
-  halves = c.in_ok-half.ensures.begun c.args.image (sym c.depth-depth.ensures.value) (sym c.width-width.ensures.value) (sym c.height-height.ensures.value);
+  depth = c.in_ok-texels.ensures.depth;
+  width = c.in_ok-texels.ensures.width;
+  height = c.in_ok-texels.ensures.height;
+  taken = omega (arith, c.in_ok-texels.ensures.none);
+  front = c.in_ok-texels.ensures.begun;
   asked = refl;
   faults = omega arith;
 }
@@ -35,12 +35,13 @@ loop-strip-preserved g c =
     record {
       adds = λ src has. level_more c.args.geometry.now c.args.image.depth src c.args.level c.loop-strip.strip c.args.name.now (g.D.Folder.files c.args.folder.now)
           (g.D.Folder.files c.loop-strip.folder)
-          (g.D.Folder.files c.write_row.new.folder) (i.adds src has) (c.in_ok-write_row.ensures.whole src has);
-      depth = c.write_row.ensures.half_depth ∙ i.depth;
-      width = c.write_row.ensures.half_width ∙ i.width;
-      height = c.write_row.ensures.half_height ∙ i.height;
-      taken = c.write_row.ensures.taken;
-      halves = c.write_row.ensures.halves i.halves;
+          (g.D.Folder.files c.write_row.new.folder) (i.adds src has) (c.in_ok-write_row.ensures.whole c.args.image src
+          (record { texels = has; front = c.loop-strip.invariant.front; lawful = c.depth-depth.ensures.limits; bytes = c.samples_are_bytes.ensures }));
+      depth = c.write_row.ensures.depth ∙ i.depth;
+      width = c.write_row.ensures.width ∙ i.width;
+      height = c.write_row.ensures.height ∙ i.height;
+      taken = c.write_row.ensures.taken ∙ ap (λ (n : ℕ). min ((c.loop-strip.strip + 1) * c.args.geometry.now.tile) n) i.height;
+      front = c.write_row.ensures.halves c.args.image i.front;
       asked = c.write_row.ensures.asked ∙ i.asked;
       faults = omega (arith, c.write_row.ensures.faults, i.faults);
     }
@@ -58,7 +59,13 @@ write_row-requires-clause-room g c κs within =
     (ap (tile_length c.args.geometry.now) (sym c.depth-depth.ensures.value) ∙ sym c.tile_length.ensures.value)))
     ∙ ap (λ (n : ℕ). n * c.tile_length.result) c.tile_columns-columns.ensures.value
     ∙ ap (λ (n : ℕ). columns_at c.args.geometry.now c.args.level * n)
-    (c.tile_length.ensures.value ∙ ap (tile_length c.args.geometry.now) c.depth-depth.ensures.value)
+    (c.tile_length.ensures.value ∙ ap (tile_length c.args.geometry.now) (c.depth-depth.ensures.value ∙ sym c.loop-strip.invariant.depth))
+
+pub write_row-requires-clause-width : goal.write_row-requires-clause-width
+write_row-requires-clause-width g c κs within = c.loop-strip.invariant.width ∙ c.requires.width
+
+pub write_row-requires-clause-height : goal.write_row-requires-clause-height
+write_row-requires-clause-height g c κs within = c.loop-strip.invariant.height ∙ c.requires.height
 
 pub write_row-requires-clause-taken : goal.write_row-requires-clause-taken
 write_row-requires-clause-taken g c κs within =
@@ -67,8 +74,8 @@ write_row-requires-clause-taken g c κs within =
     let low = row_low c.args.geometry.now c.args.level c.loop-strip.strip (omega (arith, c.tile-side.ensures.limits.least_tile)) (omega (arith, rows)) in
     omega (arith, low, c.loop-strip.invariant.taken, c.requires.height)
 
-pub returns-in_err-half-clause-part : goal.returns-in_err-half-clause-part
-returns-in_err-half-clause-part g c = OnErr-all _ _ (inl refl)
+pub returns-in_err-texels-clause-part : goal.returns-in_err-texels-clause-part
+returns-in_err-texels-clause-part g c = OnErr-all _ _ (inl refl)
 
 pub returns-in_err-write_row-clause-part : goal.returns-in_err-write_row-clause-part
 returns-in_err-write_row-clause-part g c =
@@ -77,7 +84,8 @@ returns-in_err-write_row-clause-part g c =
     OnErr-all _ _ (inr (λ src has. level_part c.args.geometry.now c.args.image.depth src c.args.level c.loop-strip.strip c.args.name.now (g.D.Folder.files c.args.folder.now)
     (g.D.Folder.files c.loop-strip.folder)
     (g.D.Folder.files c.write_row.new.folder) c.requires.level (let low : c.loop-strip.strip < rows_at c.args.geometry.now c.args.level = omega (arith, rows) in low)
-    (c.loop-strip.invariant.adds src has) (c.in_err-write_row.ensures.part src has)))
+    (c.loop-strip.invariant.adds src has) (c.in_err-write_row.ensures.part c.args.image src
+    (record { texels = has; front = c.loop-strip.invariant.front; lawful = c.depth-depth.ensures.limits; bytes = c.samples_are_bytes.ensures }))))
 
 pub returns-in_err-write_row-clause-failed : goal.returns-in_err-write_row-clause-failed
 returns-in_err-write_row-clause-failed g c = λ failed before done e.
@@ -92,7 +100,7 @@ pub finish-requires : goal.finish-requires
 finish-requires g c =
     let rows = rows_are_at c.args.geometry.now c.args.level c.height-height.result c.tile-side.result
     (c.height-height.ensures.value ∙ c.requires.height) c.tile-side.ensures.tile in
-    rows_taken c.args.geometry.now c.args.level c.loop-strip.strip c.args.image.height c.loop-strip.half.taken
+    rows_taken c.args.geometry.now c.args.level c.loop-strip.strip c.args.image.height c.loop-strip.texels.taken
     (omega (arith, c.tile-side.ensures.limits.least_tile)) c.requires.height (let all : c.loop-strip.strip ≡ rows_at c.args.geometry.now c.args.level = omega (arith, rows) in all)
     c.loop-strip.invariant.taken ∙ sym c.loop-strip.invariant.height
 
@@ -105,4 +113,4 @@ returns-clause-whole g c = λ src has.
     (let all : c.loop-strip.strip ≡ rows_at c.args.geometry.now c.args.level = omega (arith, rows) in all) (c.loop-strip.invariant.adds src has)
 
 pub returns-clause-half : goal.returns-clause-half
-returns-clause-half g c = c.finish.ensures.half c.args.image c.loop-strip.invariant.halves
+returns-clause-half g c = c.finish.ensures.half c.args.image c.loop-strip.invariant.front
