@@ -9,3 +9,4 @@ pub mod TakenRows
 pub mod StripRows
 pub mod StripReads
 pub mod StripRoom
+pub mod InPlace

@@ -29,9 +29,9 @@ pub record AreWords (bytes : List ℕ) (n : ℕ) (words : List ℕ) : Type 0 whe
   pub low : (i : ℕ) → i < n → slice_index words i % 256 ≡ slice_index bytes (2 * i)
   pub high : (i : ℕ) → i < n → slice_index words i / 256 ≡ slice_index bytes (2 * i + 1)
 
--- the samples of a block were read if they have two bytes
-pub record AreRead (d : ℕ) (bytes samples : List ℕ) : Type 0 where
-  pub each : d ≡ 2 → (i : ℕ) → i < 96 → slice_index samples i ≡ sample_at 2 bytes i
+-- the samples of a block of two-byte samples
+pub record AreWideSamples (bytes samples : List ℕ) : Type 0 where
+  pub each : (i : ℕ) → i < 96 → slice_index samples i ≡ sample_at 2 bytes i
 
 -- the first n numbers are boxes of a sample and the one a texel behind it, in two rows
 pub record AreBoxes (d : ℕ) (top bottom : List ℕ) (n : ℕ) (boxes : List ℕ) : Type 0 where

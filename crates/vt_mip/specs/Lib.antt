@@ -4,3 +4,4 @@ pub mod Levels
 pub mod Laws
 pub mod TakenRows
 pub mod StripChains
+pub mod InPlace

@@ -21,6 +21,14 @@ pub(crate) fn box_of<const DEPTH: u32>(a: u16, b: u16, c: u16, d: u16) -> u16
     ((a as u32 + b as u32 + c as u32 + d as u32 + 2) / 4) as u16
 }
 
+/// The box filter of four samples of one byte.
+#[inline(always)]
+pub(crate) fn narrow_box(a: u8, b: u8, c: u8, d: u8) -> u8
+    ensures { result ≡ box a b c d }
+{
+    box_of::<1>(u16::from(a), u16::from(b), u16::from(c), u16::from(d)) as u8
+}
+
 // The box filter of samples i and j of two rows.
 #[inline(always)]
 fn box_at<const DEPTH: u32>(top: &[u8], bottom: &[u8], i: usize, j: usize) -> u16

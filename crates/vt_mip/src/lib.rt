@@ -6,11 +6,13 @@ mod boxes;
 mod chain;
 mod halving;
 mod laws;
+mod shrinking;
 mod strip_chain;
 mod taken_rows;
 
 pub use chain::{Chain, texture_samples_are_bytes};
 pub use laws::{chain_words_are_small, chains_go_on};
+pub use shrinking::Shrinking;
 pub use strip_chain::StripChain;
 pub use taken_rows::Halving;
 

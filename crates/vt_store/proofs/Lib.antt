@@ -15,3 +15,5 @@ pub mod AddedPages
 pub mod StripTiles
 pub mod StripStores
 pub mod StripLevels
+mod LevelRows
+mod LevelChain

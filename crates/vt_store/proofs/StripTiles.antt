@@ -1,33 +1,29 @@
 -- A strip of a texture: its numbers, the tiles that are made of it, and the rows that are halved.
-use Rattle.std.proofs.Common.{◌≡◌, ℕ, suc, ◌+◌, ◌-◌, ◌*◌, ◌/◌, ◌<◌, ◌≤◌, Option, Some, List, length, take, drop, min, refl, sym, ap, ◌∙◌, subst, arith}
+use Rattle.std.proofs.Common.{◌≡◌, ℕ, ◌+◌, ◌-◌, ◌*◌, ◌<◌, ◌≤◌, Option, Some, List, length, take, drop, min, sym, ap, ◌∙◌, subst, arith}
 use Rattle.std.specs.Prelude.{IfSome}
 use Rattle.std.proofs.lemmas.List.{length-take-le, length-drop}
 use Rattle.std.proofs.lemmas.Nat.{mul-le}
-use Rattle.vt_definitions.specs.Depths.{IsDepth, AreBytes, texel_length, word_at, word_bytes}
+use Rattle.vt_definitions.specs.Depths.{texel_length, word_bytes}
 use Rattle.vt_definitions.specs.Sides.{side}
 use Rattle.vt_definitions.specs.Texels.{Source}
 use Rattle.vt_definitions.proofs.TexelWords.{texel_words}
-use Rattle.vt_outside.specs.Files.{Files, IsPiece, with_bytes}
+use Rattle.vt_outside.specs.Files.{IsPiece}
 use Rattle.vt_ppm.specs.declared.header.Header.{Header}
 use Rattle.vt_ppm.specs.Format.{IsTexture, depth_of}
-use Rattle.vt_ppm.specs.Image.{ImageView, texel_of}
+use Rattle.vt_ppm.specs.Image.{texel_of}
 use Rattle.vt_ppm.specs.Strips.{IsTextureIfTold, texture_of, row_length, rows_of}
-use Rattle.vt_mip.specs.Chains.{ChainView}
 use Rattle.vt_mip.specs.StripChains.{texture_texel}
-use Rattle.vt_mip.proofs.Following.{side_after, levels_go_on}
 use Rattle.vt_mip.proofs.Words.{chain-zero}
 use Rattle.vt_pages.specs.declared.PageName.{PageName}
 use Rattle.vt_pages.specs.Shape.{Shape, shape_of}
-use Rattle.vt_pages.specs.Pages.{IsPage, IsWithinLimits, index_at, levels_of, pages_of, pages_below, rows_at, columns_at, name_at}
-use Rattle.vt_pages.proofs.Counts.{lt_up, columns_some, rows_some, pages_below-zero, pages_of-is}
+use Rattle.vt_pages.specs.Pages.{IsWithinLimits, index_at, levels_of, pages_of, rows_at, columns_at, name_at}
+use Rattle.vt_pages.proofs.Counts.{lt_up, columns_some, pages_below-zero}
 use Rattle.vt_pages.proofs.Names.{name_at-index, index_at_below}
-use Rattle.vt_store.specs.ChainStores.{HasLevels, AddsPages, AddsPart, level_source}
 use Rattle.vt_store.specs.Format.{tiles_bytes}
-use Rattle.vt_store.specs.TileLines.{HasTileRows, piece_at, rows_inside, tile_rows_length}
+use Rattle.vt_store.specs.TileLines.{HasTileRows, piece_at, tile_rows_length}
 use Rattle.vt_store.specs.StripStores.{strip_rows, strip_tiles}
 use Rattle.vt_store.proofs.Pieces.{piece_end}
 use Rattle.vt_store.proofs.Widening.{piece_of_slice}
-use Rattle.vt_store.proofs.AddedPages.{adds_none}
 
 -- the numbers of a strip
 pub record IsStrip (s : Shape) (h : Header) (i y count columns : ℕ) : Type 0 where
@@ -152,48 +148,3 @@ strip_piece told s h i y count columns taken rows is et texture read b e =
       within = omega (arith, at, long, room);
       same = row ∙ ap (λ (n : ℕ). take n (drop (y * z) samples)) (sym long) ∙ ap (λ (n : ℕ). take (length rows) (drop n samples)) at;
     }
-
--- the levels behind the first
-pub levels_rest : (s : Shape) (p : ImageView) (c : ChainView) (t : ℕ) → c ≡ record { base = p; tile = t } → t ≡ s.tile → 1 ≤ s.tile
-    → p.width ≡ side s.width 1 → p.height ≡ side s.height 1 → 2 ≤ levels_of s → HasLevels c s 1
-unfolding levels_of
-levels_rest s p c t made et some ew eh more = rw made (record {
-  count = (let less = levels_go_on s.width s.height s.tile some more in rw (ew, eh, et) (sym less));
-  columns = λ k. (let e : k + 1 ≡ suc k = omega arith in ap (side s.width) e ∙ sym (side_after s.width k) ∙ ap (λ (n : ℕ). side n k) (sym ew));
-  rows = λ k. (let e : k + 1 ≡ suc k = omega arith in ap (side s.height) e ∙ sym (side_after s.height k) ∙ ap (λ (n : ℕ). side n k) (sym eh));
-})
-
-pub first_of_rest : (s : Shape) → index_at s 1 0 0 ≡ pages_below s 1
-unfolding index_at
-first_of_rest s = omega arith
-
-pub page_of_rest : (s : Shape) → IsWithinLimits s → 2 ≤ levels_of s → IsPage s (record { level = 1; col = 0; row = 0 })
-page_of_rest s limits more = record {
-  level_inside = omega (arith, more);
-  col_inside = columns_some s 1 (omega (arith, limits.least_tile)) limits.least_width;
-  row_inside = rows_some s 1 (omega (arith, limits.least_tile)) limits.least_height;
-}
-
--- there are none where there is one level
-pub adds_nothing : (s : Shape) (d : ℕ) (src : Source) (name : List ℕ) (f : Option Files) → levels_of s ≡ 1
-    → AddsPages s d src (pages_below s 1) (pages_of s) name f f
-adds_nothing s d src name f one =
-    let all : pages_below s 1 ≡ pages_of s = ap (pages_below s) (sym one) ∙ sym (pages_of-is s) in
-    subst (λ (n : ℕ). AddsPages s d src (pages_below s 1) n name f f) all (adds_none s d src (pages_below s 1) name f)
-
--- what was added of a chain is what was added of its image
-pub adds_rest : (s : Shape) (p : ImageView) (c : ChainView) (t first : ℕ) (name : List ℕ) (f0 f1 : Option Files) → c ≡ record { base = p; tile = t }
-    → t ≡ s.tile → first ≡ pages_below s 1 → AddsPages s c.base.depth (level_source c 1) first (pages_of s) name f0 f1
-    → AddsPages s p.depth (level_source (record { base = p; tile = s.tile }) 1) (pages_below s 1) (pages_of s) name f0 f1
-adds_rest s p c t first name f0 f1 made et begins adds =
-    let same : c ≡ record { base = p; tile = s.tile } = made ∙ ap (λ (n : ℕ). record { base = p; tile = n }) et in
-    subst (λ (v : ChainView). AddsPages s v.base.depth (level_source v 1) (pages_below s 1) (pages_of s) name f0 f1) same
-    (subst (λ (n : ℕ). AddsPages s c.base.depth (level_source c 1) n (pages_of s) name f0 f1) begins adds)
-
-pub adds_part_of_rest : (s : Shape) (p : ImageView) (c : ChainView) (t first : ℕ) (name : List ℕ) (f0 f1 : Option Files)
-    → c ≡ record { base = p; tile = t } → t ≡ s.tile → first ≡ pages_below s 1 → AddsPart s c.base.depth (level_source c 1) first name f0 f1
-    → AddsPart s p.depth (level_source (record { base = p; tile = s.tile }) 1) (pages_below s 1) name f0 f1
-adds_part_of_rest s p c t first name f0 f1 made et begins adds =
-    let same : c ≡ record { base = p; tile = s.tile } = made ∙ ap (λ (n : ℕ). record { base = p; tile = n }) et in
-    subst (λ (v : ChainView). AddsPart s v.base.depth (level_source v 1) (pages_below s 1) name f0 f1) same
-    (subst (λ (n : ℕ). AddsPart s c.base.depth (level_source c 1) n name f0 f1) begins adds)

@@ -1,10 +1,13 @@
 -- The store of a mip chain.
-use Rattle.std.specs.Prelude.{◌≡◌, ℕ, ◌+◌, ◌-◌, ◌≤◌, List, ◌++◌, take, Option, option_map}
+use Rattle.std.specs.Prelude.{◌≡◌, ℕ, ◌+◌, ◌-◌, ◌<◌, List, ◌++◌, take, Option, option_map}
+use Rattle.vt_definitions.specs.Depths.{AreBytes}
 use Rattle.vt_definitions.specs.Sides.{side}
 use Rattle.vt_definitions.specs.Texels.{Source}
 use Rattle.vt_outside.specs.Files.{Files, with_bytes}
-use Rattle.vt_ppm.specs.Image.{ImageView, texel_of}
+use Rattle.vt_ppm.specs.Image.{ImageView, IsLawfulImage, texel_of}
 use Rattle.vt_mip.specs.Chains.{ChainView, chain, chain_texel, chain_levels, chain_width, chain_height}
+use Rattle.vt_mip.specs.InPlace.{ShrinksFront}
+use Rattle.vt_mip.specs.TakenRows.{HalvingView}
 use Rattle.vt_pages.specs.Shape.{Shape, shape_of}
 use Rattle.vt_pages.specs.Pages.{levels_of, pages_of}
 use Rattle.vt_store.specs.Format.{store_bytes, tiles_bytes}
@@ -32,6 +35,17 @@ pub record HasLevels (chain : ChainView) (shape : Shape) (skipped : ℕ) : Type 
 -- the words of a chain that begins at a level
 abbrev pub level_source : ChainView → ℕ → Source
 level_source chain skipped k = chain_texel chain (k - skipped)
+
+-- the words of a source at a level are those of an image
+pub record HasLevelTexels (src : Source) (k : ℕ) (p : ImageView) : Type 0 where
+  pub each : (x y : ℕ) → x < p.width → y < p.height → src k x y ≡ texel_of p x y
+
+-- they are those of an image of which some rows were taken
+pub record IsLevelOf (src : Source) (k : ℕ) (p : ImageView) (v : HalvingView) : Type 0 where
+  pub texels : HasLevelTexels src k p
+  pub front : ShrinksFront p v
+  pub lawful : IsLawfulImage p
+  pub bytes : AreBytes p.samples
 
 -- behind whatever bytes the name held, it came to hold the tiles of the pages from one on to another
 pub record AddsPages (s : Shape) (d : ℕ) (src : Source) (first end : ℕ) (name : List ℕ) (old new : Option Files) : Type 0 where

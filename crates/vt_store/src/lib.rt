@@ -4,6 +4,7 @@
 mod error;
 mod header;
 mod laws;
+mod levels;
 mod store;
 mod strips;
 mod widen;

@@ -15,14 +15,14 @@ ghost use Rattle.vt_store.specs.Refusals.{IsOutsideRefusal};
 ghost use Rattle.vt_store.specs.StripStores.{HoldsMade, HoldsMadeFront, GainsMade, GainsMadeFront, StripsAsked, StripsTried, strip_shape, strip_store, strip_tiles, strips_of, strip_rows};
 
 use crate::StoreError;
+use crate::levels::write_levels;
 use crate::widen::room_for;
-use crate::write::{begin_store, longest_row, put_tiles, tile_columns, write_pages};
+use crate::write::{begin_store, longest_row, put_tiles, tile_columns};
 use std::alloc::Global;
 use vt_definitions::texel_length;
-use vt_mip::{Chain, Halving, StripChain};
+use vt_mip::{Halving, StripChain};
 use vt_outside::{File, Folder};
-use vt_pages::{Geometry, PageName};
-use vt_ppm::Image;
+use vt_pages::Geometry;
 
 // Reads a strip, halves its rows into level 1, and adds its row of tiles to the name.
 fn write_strip<F: File, D: Folder>(
@@ -83,43 +83,6 @@ fn write_strip<F: File, D: Folder>(
     Ok(())
 }
 
-// Adds the tiles of all levels but the first to the name, where the image is level 1. The buffer has the length of the longest row
-// of tiles.
-fn write_coarse<D: Folder>(
-    alloc: Global,
-    image: Image,
-    geometry: &Geometry,
-    tiles: &mut [u8],
-    folder: &mut D,
-    name: &str,
-) -> Result<(), StoreError>
-    requires width { image.width ≡ side geometry.now.width 1 }
-    requires height { image.height ≡ side geometry.now.height 1 }
-    requires room { length tiles.old ≡ columns_at geometry.now 0 * tile_length geometry.now image.depth }
-    ensures whole { OnOk result (AddsPages geometry.now image.depth (level_source (record { base = image; tile = geometry.now.tile }) 1)
-        (pages_below geometry.now 1) (pages_of geometry.now) name.now (D.files folder.old) (D.files folder.new)) }
-    ensures part { OnErr result ((D.files folder.new ≡ D.files folder.old)
-        ⊎ AddsPart geometry.now image.depth (level_source (record { base = image; tile = geometry.now.tile }) 1)
-        (pages_below geometry.now 1) name.now (D.files folder.old) (D.files folder.new)) }
-    ensures refusals { IfErr result IsOutsideRefusal }
-    ensures failed { IsErrOf result StoreError.Failed → (before : Option Files) (done : List ℕ)
-        → D.files folder.old ≡ option_map (with_bytes name.now done) before → Rose (D.faults folder.old) (D.faults folder.new) }
-    ensures asked { D.asked folder.new ≡ D.asked folder.old }
-    ensures faults { D.faults folder.old ≤ D.faults folder.new }
-{
-    if geometry.levels() == 1 {
-        return Ok(());
-    }
-    let first = geometry.index_of(&PageName {
-        level: 1,
-        col: 0,
-        row: 0,
-    });
-    let chain = Chain::build(alloc, image, geometry.tile())?;
-    write_pages(&chain, geometry, 1, first, tiles, folder, name)?;
-    Ok(())
-}
-
 /// Makes the name hold the store of the texture of a chain that is read by rows, whose sides and tile side the geometry has: the same
 /// bytes that `write_store` writes of the whole texture. It creates the name, and appends the header and then one row of tiles after
 /// the other.
@@ -170,5 +133,6 @@ pub fn write_strips<F: File, D: Folder>(
             chain, geometry, strip, some_rows, tiles, &mut half, folder, name,
         )?;
     }
-    write_coarse(alloc, half.finish(), geometry, tiles, folder, name)
+    write_levels(alloc, half.finish(), geometry, tiles, folder, name)?;
+    Ok(())
 }

@@ -1,8 +1,5 @@
-use Rattle.std.proofs.Common.{◌≡◌, ℕ, ◌+◌, ◌-◌, ◌*◌, ◌≤◌, inr, min, length, refl, sym, ap, ◌∙◌, subst, arith}
+use Rattle.std.proofs.Common.{◌≡◌, ℕ, ◌-◌, ◌*◌, inr, min, length, refl, ap, ◌∙◌, arith}
 use Rattle.vt_outside.proofs.Untold.{OnErr-all}
-use Rattle.vt_outside.specs.Files.{IsPiece}
-use Rattle.vt_definitions.specs.Depths.{texel_length}
-use Rattle.vt_ppm.specs.Format.{depth_of}
 use Rattle.vt_ppm.specs.Strips.{texture_of}
 use Rattle.vt_pages.specs.Pages.{columns_at}
 use Rattle.vt_store.proofs.StripTiles.{is_strip, strip_length, strip_made, strip_piece}

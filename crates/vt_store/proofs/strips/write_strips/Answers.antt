@@ -1,20 +1,18 @@
-use Rattle.std.proofs.Common.{◌≡◌, ℕ, ◌+◌, ◌-◌, ◌*◌, ◌/◌, ◌<◌, ◌≤◌, inl, inr, List, Some, length, min, refl, sym, ap, ◌∙◌, subst, arith, rules}
+use Rattle.std.proofs.Common.{◌≡◌, ℕ, ◌+◌, ◌-◌, ◌*◌, ◌/◌, inl, inr, List, Some, length, refl, sym, ap, ◌∙◌, subst, arith}
 use Rattle.std.proofs.lemmas.List.{length-take-le}
-use Rattle.std.proofs.lemmas.Result.{on_ok_weaker, on_err_weaker}
 use Rattle.vt_outside.proofs.Untold.{OnErr-all}
-use Rattle.vt_definitions.specs.Depths.{texel_length}
 use Rattle.vt_ppm.specs.declared.header.Header.{Header}
-use Rattle.vt_ppm.specs.Format.{depth_of}
 use Rattle.vt_ppm.specs.Strips.{texture_of}
 use Rattle.vt_mip.specs.TakenRows.{HalvingView, HalvesFront}
-use Rattle.vt_pages.specs.Pages.{pages_of, pages_below, rows_at, columns_at}
+use Rattle.vt_pages.specs.Pages.{pages_below, rows_at, columns_at}
 use Rattle.vt_store.specs.Format.{tile_length}
 use Rattle.vt_store.specs.ChainStores.{level_source}
 use Rattle.vt_store.specs.StripStores.{strip_rows}
 use Rattle.vt_store.specs.declared.error.StoreError.TheVariants.{Failed}
 use Rattle.vt_store.proofs.WideStores.{rose_along, carried}
 use Rattle.vt_store.proofs.StripStores.{made_begun, made_moved, made_more, made_part, made_header, made_whole, made_rest_part, store_seen, front_seen, header_seen, there_made, more_strips, no_strips, strips_front, strip_tried}
-use Rattle.vt_store.proofs.StripLevels.{first_pages, first_inside, strip_inside, are_strips, strip_low, all_taken, rest_tiles, level_made, strip_room, strip_small, strip_bytes, next_taken, last_taken}
+use Rattle.vt_store.proofs.StripLevels.{first_pages, first_inside, strip_inside, are_strips, rest_tiles, level_made, strip_room, strip_small, strip_bytes, next_taken}
+use Rattle.vt_store.proofs.LevelChain.{refused_by}
 use Rattle.vt_store.proofs.strips.write_strips.Goals as goal
 
 pub returns-in_err-reserve-clause-front_read : goal.returns-in_err-reserve-clause-front_read
@@ -205,22 +203,22 @@ loop-strip-preserved g c =
       faults = omega (arith, c.write_strip.ensures.faults, i.faults);
     }
 
-pub write_coarse-requires-clause-width : goal.write_coarse-requires-clause-width
-write_coarse-requires-clause-width g c κs within =
+pub write_levels-requires-clause-width : goal.write_levels-requires-clause-width
+write_levels-requires-clause-width g c κs within =
     let are = are_strips c.args.geometry.now c.args.chain.now ((c.height-height.result + c.tile-side.result - 1) / c.tile-side.result)
     c.height-height.result c.tile-side.result
     c.requires c.height-height.ensures.height c.tile-side.ensures.tile refl in
     c.finish.ensures.width ∙ ap (λ (n : ℕ). (n + 1) / 2) (c.loop-strip.invariant.width ∙ are.width)
 
-pub write_coarse-requires-clause-height : goal.write_coarse-requires-clause-height
-write_coarse-requires-clause-height g c κs within =
+pub write_levels-requires-clause-height : goal.write_levels-requires-clause-height
+write_levels-requires-clause-height g c κs within =
     let are = are_strips c.args.geometry.now c.args.chain.now ((c.height-height.result + c.tile-side.result - 1) / c.tile-side.result)
     c.height-height.result c.tile-side.result
     c.requires c.height-height.ensures.height c.tile-side.ensures.tile refl in
     c.finish.ensures.height ∙ ap (λ (n : ℕ). (n + 1) / 2) (c.loop-strip.invariant.height ∙ are.height)
 
-pub write_coarse-requires-clause-room : goal.write_coarse-requires-clause-room
-write_coarse-requires-clause-room g c κs within =
+pub write_levels-requires-clause-room : goal.write_levels-requires-clause-room
+write_levels-requires-clause-room g c κs within =
     c.loop-strip.auto.tiles ∙ c.as_mut_slice-tiles.ensures.len ∙ c.in_ok-tiles_room.ensures ∙ c.longest_row.ensures
     ∙ ap (λ (n : ℕ). columns_at c.args.geometry.now 0 * tile_length c.args.geometry.now n)
     (c.depth-depth.ensures.value ∙ sym c.loop-strip.invariant.depth ∙ sym c.finish.ensures.depth)
@@ -243,15 +241,14 @@ returns-clause-whole g c =
     let same = λ (b : List ℕ) (e : (g.F.File.bytes c.args.chain.now.file) ≡ Some b). rest_tiles c.args.geometry.now c.args.chain.now.header b p
     c.tile-side.ensures.limits are.width are.height (level b e) in
     let inside = first_inside c.args.geometry.now c.tile-side.ensures.limits.some_level in
-    on_ok_weaker c.write_coarse.result
-    (λ adds. store_seen (g.F.File.bytes c.args.chain.now.file) c.args.chain.now c.args.geometry.now c.args.name.now
-    (g.D.Folder.files c.args.folder.now) (g.D.Folder.files c.write_coarse.new.folder) c.requires
+    (let adds = c.in_ok-write_levels.ensures.whole in store_seen (g.F.File.bytes c.args.chain.now.file) c.args.chain.now c.args.geometry.now c.args.name.now
+    (g.D.Folder.files c.args.folder.now) (g.D.Folder.files c.write_levels.new.folder) c.requires
     (made_whole (g.F.File.bytes c.args.chain.now.file) c.args.geometry.now c.args.chain.now.header p.depth (pages_below c.args.geometry.now 1)
     (level_source (record { base = p; tile = c.args.geometry.now.tile }) 1) c.args.name.now (g.D.Folder.files c.args.folder.now)
-    (g.D.Folder.files c.loop-strip.folder) (g.D.Folder.files c.write_coarse.new.folder) inside held adds same)) c.write_coarse.ensures.whole
+    (g.D.Folder.files c.loop-strip.folder) (g.D.Folder.files c.write_levels.new.folder) inside held adds same))
 
-pub returns-clause-part : goal.returns-clause-part
-returns-clause-part g c =
+pub returns-in_err-write_levels-clause-part : goal.returns-in_err-write_levels-clause-part
+returns-in_err-write_levels-clause-part g c =
     let are = are_strips c.args.geometry.now c.args.chain.now ((c.height-height.result + c.tile-side.result - 1) / c.tile-side.result)
     c.height-height.result c.tile-side.result
     c.requires c.height-height.ensures.height c.tile-side.ensures.tile refl in
@@ -268,15 +265,16 @@ returns-clause-part g c =
     let same = λ (b : List ℕ) (e : (g.F.File.bytes c.args.chain.now.file) ≡ Some b). rest_tiles c.args.geometry.now c.args.chain.now.header b p
     c.tile-side.ensures.limits are.width are.height (level b e) in
     let inside = first_inside c.args.geometry.now c.tile-side.ensures.limits.some_level in
-    on_err_weaker c.write_coarse.result
-    (λ adds. inr (front_seen (g.F.File.bytes c.args.chain.now.file) c.args.chain.now c.args.geometry.now c.args.name.now
-    (g.D.Folder.files c.args.folder.now) (g.D.Folder.files c.write_coarse.new.folder) c.requires
+    OnErr-all _ _ (let adds = c.in_err-write_levels.ensures.part in inr (front_seen (g.F.File.bytes c.args.chain.now.file) c.args.chain.now c.args.geometry.now c.args.name.now
+    (g.D.Folder.files c.args.folder.now) (g.D.Folder.files c.write_levels.new.folder) c.requires
     (made_rest_part (g.F.File.bytes c.args.chain.now.file) c.args.geometry.now c.args.chain.now.header p.depth (pages_below c.args.geometry.now 1)
     (level_source (record { base = p; tile = c.args.geometry.now.tile }) 1) c.args.name.now (g.D.Folder.files c.args.folder.now)
-    (g.D.Folder.files c.loop-strip.folder) (g.D.Folder.files c.write_coarse.new.folder) inside held same adds))) c.write_coarse.ensures.part
+    (g.D.Folder.files c.loop-strip.folder) (g.D.Folder.files c.write_levels.new.folder) inside held same adds)))
 
-pub returns-clause-failed : goal.returns-clause-failed
-returns-clause-failed g c =
-    λ failed. inl (let rose = c.write_coarse.ensures.failed failed (g.D.Folder.files c.args.folder.now) c.loop-strip.invariant.held.written
-    c.loop-strip.invariant.held.held in
-    omega (arith, rose, c.loop-strip.invariant.faults))
+pub returns-in_err-write_levels-clause-failed : goal.returns-in_err-write_levels-clause-failed
+returns-in_err-write_levels-clause-failed g c = λ failed.
+    let rose = c.write_levels.ensures.failed
+    (refused_by c.write_levels.result c.from_residual-in_err-write_levels.result _ c.in_err-write_levels.was
+    c.from_residual-in_err-write_levels.ensures.1 failed)
+    (g.D.Folder.files c.args.folder.now) c.loop-strip.invariant.held.written c.loop-strip.invariant.held.held in
+    inl (omega (arith, rose, c.loop-strip.invariant.faults))

@@ -1,0 +1,43 @@
+use Rattle.std.proofs.Common.{◌≡◌, ℕ, ◌*◌, List, take, ap, ◌∙◌}
+use Rattle.std.proofs.lemmas.Result.{on_ok_weaker, on_err_weaker}
+use Rattle.std.specs.Prelude.{option_map}
+use Rattle.vt_definitions.specs.Depths.{texel_length}
+use Rattle.vt_outside.specs.Files.{with_appended}
+use Rattle.vt_store.proofs.LevelRows.{row_page, read_rows, rows_full, row_tiles}
+use Rattle.vt_store.proofs.levels.write_row.Goals as goal
+
+pub index_of-page-requires : goal.index_of-page-requires
+index_of-page-requires g c = row_page c.args.geometry.now c.args.level c.args.strip c.tile.ensures.limits c.requires.level c.requires.strip
+
+pub put_tiles-requires-clause-rows : goal.put_tiles-requires-clause-rows
+put_tiles-requires-clause-rows g c = rows_full c.args.geometry.now c.index_of-page.result c.args.level c.args.strip c.depth-depth.result
+    c.args.texels.now.width c.size_inside-inside.result.1 _ c.index_of-page.ensures.undone c.requires.width c.size_inside-inside.ensures.rows
+    (c.rows.ensures.full ∙ ap (λ (n : ℕ). texel_length n * (c.args.texels.now.width * c.size_inside-inside.result.1)) (let e : c.args.texels.now.depth ≡ c.depth-depth.result = cc in e))
+
+pub returns-clause-whole : goal.returns-clause-whole
+returns-clause-whole g c =
+    on_ok_weaker c.append.result
+    (λ held p src has. held ∙ ap (λ (l : List ℕ). option_map (with_appended c.args.name.now l) (g.D.Folder.files c.args.folder.now))
+    (row_tiles c.args.geometry.now p src c.args.level c.args.strip c.index_of-page.result c.tile_columns-columns.result c.depth-depth.result
+    c.rows.result.now c.put_tiles.new.tiles c.index_of-page.ensures.index c.tile_columns-columns.ensures.value
+    (c.depth-depth.ensures.value ∙ has.front.depth)
+    (read_rows c.args.geometry.now p c.args.texels.now src c.index_of-page.result c.args.level c.args.strip c.rows.result.now c.tile.ensures.limits
+    c.requires.level c.requires.strip c.index_of-page.ensures.undone c.requires.width c.requires.height c.requires.taken
+    (c.rows.ensures.full ∙ ap (λ (n : ℕ). texel_length c.args.texels.now.depth * (c.args.texels.now.width * n)) c.size_inside-inside.ensures.rows)
+    c.rows.ensures.piece has) c.put_tiles.ensures)) c.append.ensures.files
+
+pub returns-clause-part : goal.returns-clause-part
+returns-clause-part g c =
+    on_err_weaker c.append.result
+    (λ held p src has. (
+      held.0,
+      held.1
+          ∙ ap (λ (l : List ℕ). option_map (with_appended c.args.name.now (take held.0 l)) (g.D.Folder.files c.args.folder.now))
+          (row_tiles c.args.geometry.now p src c.args.level c.args.strip c.index_of-page.result c.tile_columns-columns.result c.depth-depth.result
+          c.rows.result.now c.put_tiles.new.tiles c.index_of-page.ensures.index c.tile_columns-columns.ensures.value
+          (c.depth-depth.ensures.value ∙ has.front.depth)
+          (read_rows c.args.geometry.now p c.args.texels.now src c.index_of-page.result c.args.level c.args.strip c.rows.result.now c.tile.ensures.limits
+          c.requires.level c.requires.strip c.index_of-page.ensures.undone c.requires.width c.requires.height c.requires.taken
+          (c.rows.ensures.full ∙ ap (λ (n : ℕ). texel_length c.args.texels.now.depth * (c.args.texels.now.width * n)) c.size_inside-inside.ensures.rows)
+          c.rows.ensures.piece has) c.put_tiles.ensures),
+    )) c.append.ensures.part
