@@ -12,7 +12,7 @@ use Rattle.vt_journal.specs.declared.changes.RowLine.{RowLine}
 use Rattle.vt_journal.specs.Changes.{Table, at}
 use Rattle.vt_shown.specs.Scenes.{Scene}
 use Rattle.vt_shown.specs.Replays.{HasPixels, pixel_under, IsReplayOf}
-use Rattle.vt_replay.specs.Playing.{row_of}
+use Rattle.vt_replay.specs.Sights.{row_of}
 use Rattle.vt_replay.specs.Replayed.{version_of, replayed_row, replayed_rows}
 
 -- bytes are their pieces of so many bytes each, one after another

@@ -7,7 +7,10 @@ mod judge;
 mod laws;
 mod pictures;
 mod play;
+mod sight;
 mod stream;
+mod table;
+mod tiles;
 mod walks;
 
 pub use error::ReplayError;
