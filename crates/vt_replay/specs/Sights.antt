@@ -24,6 +24,13 @@ pub record IsIn (slots owners : List ℕ) (page slot : ℕ) : Type 0 where
 abbrev pub IsHeld : List ℕ → List ℕ → ℕ → Type 0
 IsHeld slots owners page = (slot : ℕ) × IsIn slots owners page slot
 
+-- the tile of a page, from a slot where it is
+pub record IsTileOf (size : ℕ) (slots owners bytes : List ℕ) (page : ℕ) (tile : List ℕ) : Type 0 where
+  pub slot : ℕ
+  pub in_slot : IsIn slots owners page slot
+  pub full : length tile ≡ size
+  pub is : tile ≡ row_of size bytes slot
+
 -- a set of tiles: for each page the slot where it may be, for each slot the page whose tile it has, which is the store's where that is told
 pub record AreTiles (s : Shape) (d size : ℕ) (slots owners bytes : List ℕ) (told : Option (List ℕ)) : Type 0 where
   pub size_is : size ≡ tile_length s d

@@ -13,7 +13,8 @@ ghost use Rattle.vt_shown.specs.Replays.{HasPixels, pixel_under};
 ghost use Rattle.vt_replay.specs.Playing.{IsReadOn, IsReady};
 ghost use Rattle.vt_replay.specs.Sights.{row_of, AreTiles};
 
-use crate::sight::{Noted, Sight};
+use crate::noted::Noted;
+use crate::sight::Sight;
 use crate::table::PageTable;
 use crate::tiles::Tiles;
 use vt_definitions::texel_length;
@@ -67,18 +68,6 @@ fn try_line(
         missed: sight.missed(),
         used: sight.used(),
         missing: sight.missing(),
-    }
-}
-
-// Makes the tiles of pages the most recently used ones.
-fn touch_all(tiles: &mut Tiles, pages: &Noted)
-    ensures size { tiles.new.size ≡ tiles.old.size }
-    ensures slots { tiles.new.slots.items ≡ tiles.old.slots.items }
-    ensures owners { tiles.new.owners.items ≡ tiles.old.owners.items }
-    ensures bytes { tiles.new.bytes.items ≡ tiles.old.bytes.items }
-{
-    for page in pages.pages() {
-        tiles.touch(*page);
     }
 }
 
@@ -160,7 +149,7 @@ fn draw_line<F: File>(
 {
     for _round in 0..shot.path.width() + 1 {
         let tried = try_line(table, tiles, shot, y, out, counts);
-        touch_all(tiles, &tried.used);
+        tiles.touch(&tried.used);
         if !tried.missed {
             return Ok(());
         }

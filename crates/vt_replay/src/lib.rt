@@ -5,6 +5,7 @@ mod draw;
 mod error;
 mod judge;
 mod laws;
+mod noted;
 mod pictures;
 mod play;
 mod sight;

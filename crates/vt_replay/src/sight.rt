@@ -1,55 +1,19 @@
 //! The look-up over a page table and a set of tiles.
 
 ghost use Rattle.std.specs.Prelude.{◌≡◌, ℕ, ◌+◌, ◌-◌, ◌*◌, ◌%◌, ◌<◌, ◌≤◌, false, List, length, IsSome};
-ghost use Rattle.vt_definitions.specs.Depths.{IsDepth};
+ghost use Rattle.vt_definitions.specs.Depths.{IsDepth, word_at};
 ghost use Rattle.vt_pages.specs.Pages.{pages_of, root_of};
 ghost use Rattle.vt_draw.specs.Lookups.{place_in_tile};
 ghost use Rattle.vt_journal.specs.Kept.{entries_of};
 ghost use Rattle.vt_store.specs.Format.{tile_length};
-ghost use Rattle.vt_replay.specs.Sights.{SightView, IsSight, IsTrueOf, Serves};
+ghost use Rattle.vt_replay.specs.Sights.{SightView, IsSight, IsTrueOf, IsIn, Serves, row_of};
 
+use crate::noted::Noted;
 use crate::table::PageTable;
-use crate::tiles::Tiles;
+use crate::tiles::{Tiles, word_in};
 use std::marker::Model;
 use vt_draw::{Found, Lookup};
 use vt_pages::Geometry;
-
-// How many pages of a row are noted at a time.
-const MOST_NOTED: usize = 64;
-
-/// Pages that were found for a row, as far as there is room for them.
-#[derive(Clone, Copy)]
-pub(crate) struct Noted {
-    pages: [u32; MOST_NOTED],
-    count: usize,
-}
-
-impl Noted {
-    // No pages.
-    fn new() -> Noted {
-        Noted {
-            pages: [0; MOST_NOTED],
-            count: 0,
-        }
-    }
-
-    // Adds a page while there is room.
-    #[inline]
-    fn add(&mut self, page: u32) {
-        if self.count < MOST_NOTED {
-            self.pages[self.count] = page;
-            self.count += 1;
-        }
-    }
-
-    /// The pages.
-    pub(crate) fn pages(&self) -> &[u32] {
-        match self.pages.get(..self.count) {
-            Some(pages) => pages,
-            None => &[],
-        }
-    }
-}
 
 /// A look-up of pages in a page table, which maps the root, over the tiles that are at hand. A page whose tile is not there is
 /// noted, and what is told of its texels means nothing (van Waveren 2012). A page is its own frame. Contracts see what is looked at, and
@@ -60,13 +24,17 @@ pub(crate) struct Sight<'a> {
     table: &'a PageTable,
     tiles: &'a Tiles,
     depth: u32,
+    // The page that was found last, and its tile, if it was at hand.
+    page: u32,
+    tile: Option<&'a [u8]>,
     missed: bool,
     used: Noted,
     missing: Noted,
 }
 
 impl<'a> Model for Sight<'a> {
-    ghost use Rattle.vt_replay.specs.Sights.{SightView, IsSight};
+    ghost use Rattle.std.specs.Prelude.{IfSome};
+    ghost use Rattle.vt_replay.specs.Sights.{SightView, IsSight, IsTileOf};
 
     ghost Value = { SightView };
 
@@ -92,7 +60,8 @@ impl<'a> Model for Sight<'a> {
       owners = l.tiles.now.owners.items;
       bytes = l.tiles.now.bytes.items;
       missed = l.missed;
-    }) };
+    }) × IfSome l.tile (λ tile. IsTileOf l.tiles.now.size l.tiles.now.slots.items l.tiles.now.owners.items
+        l.tiles.now.bytes.items l.page tile.now) };
 }
 
 impl<'a> Sight<'a> {
@@ -126,6 +95,8 @@ impl<'a> Sight<'a> {
             table,
             tiles,
             depth,
+            page: 0,
+            tile: None,
             missed: false,
             used: Noted::new(),
             missing: Noted::new(),
@@ -147,6 +118,20 @@ impl<'a> Sight<'a> {
     /// The pages whose tiles were not.
     pub(crate) fn missing(&self) -> Noted {
         self.missing
+    }
+}
+
+impl Sight<'_> {
+    // The word at a place of the tile of a page that was not found last, or 0 where that is not at hand.
+    fn far_word(&self, page: u32, place: u32) -> u64
+        requires { place < self.now.shape.tile * self.now.shape.tile }
+        ensures { (slot : ℕ) → IsIn self.now.slots self.now.owners page slot
+            → result ≡ word_at self.now.depth (row_of self.now.size self.now.bytes slot) place }
+    {
+        match self.tiles.tile_of(page) {
+            Some(tile) => word_in(tile, self.depth, place as usize),
+            None => 0,
+        }
     }
 }
 
@@ -192,7 +177,9 @@ impl Lookup for Sight<'_> {
     #[inline]
     fn find(&mut self, page: u32) -> Found {
         let found = finest_mapped(self.table, self.geometry, page);
-        if self.tiles.slot_of(found.page).is_some() {
+        self.page = found.page;
+        self.tile = self.tiles.tile_of(found.page);
+        if self.tile.is_some() {
             self.used.add(found.page);
         } else {
             self.missing.add(found.page);
@@ -203,7 +190,10 @@ impl Lookup for Sight<'_> {
 
     #[inline]
     fn texel(&mut self, found: &Found, x: u32, y: u32) -> u64 {
-        self.tiles
-            .word(self.depth, found.page, place_of(self.geometry, x, y))
+        let place = place_of(self.geometry, x, y);
+        match self.tile {
+            Some(tile) if found.page == self.page => word_in(tile, self.depth, place as usize),
+            _ => self.far_word(found.page, place),
+        }
     }
 }

@@ -10,8 +10,9 @@ ghost use Rattle.vt_journal.specs.Changes.{with_entry};
 ghost use Rattle.vt_journal.specs.Kept.{entries_of};
 ghost use Rattle.vt_store.specs.Format.{tile_start, tile_length};
 ghost use Rattle.vt_replay.specs.Playing.{IsReadOn};
-ghost use Rattle.vt_replay.specs.Sights.{row_of, IsIn, IsHeld, AreTiles};
+ghost use Rattle.vt_replay.specs.Sights.{row_of, IsIn, IsHeld, IsTileOf, AreTiles};
 
+use crate::noted::Noted;
 use lru::LruCache;
 use std::alloc::Global;
 use vt_definitions::word_at;
@@ -32,6 +33,8 @@ pub(crate) struct Tiles {
     pub bytes: Vec<u8>,
     // The slots that were filled, the most recently used first.
     order: LruCache<u32, ()>,
+    // The pages whose tiles were used last, if no tile was brought since.
+    last: Noted,
 }
 
 impl Tiles {
@@ -59,6 +62,7 @@ impl Tiles {
             owners,
             bytes,
             order,
+            last: Noted::new(),
         })
     }
 
@@ -76,22 +80,16 @@ impl Tiles {
         }
     }
 
-    /// The word at a place of a page's tile, if it is at hand, or else 0.
+    /// A page's tile, if it is at hand.
     #[inline]
-    pub(crate) fn word(&self, depth: u32, page: u32, place: u32) -> u64
-        requires depth { IsDepth depth }
-        requires bytes { length self.now.bytes.items ≡ length self.now.owners.items * self.now.size }
-        requires inside { texel_length depth * place + texel_length depth ≤ self.now.size }
-        ensures { (slot : ℕ) → IsIn self.now.slots.items self.now.owners.items page slot
-            → result ≡ word_at depth (row_of self.now.size self.now.bytes.items slot) place }
+    pub(crate) fn tile_of(&self, page: u32) -> Option<&[u8]>
+        requires { length self.now.bytes.items ≡ length self.now.owners.items * self.now.size }
+        ensures tile { MatchOption result (IsHeld self.now.slots.items self.now.owners.items page → ⊥)
+            (λ tile. IsTileOf self.now.size self.now.slots.items self.now.owners.items self.now.bytes.items page tile.now) }
     {
-        match self.slot_of(page) {
-            Some(slot) => {
-                let at = slot as usize * self.size;
-                word_in(&self.bytes[at..at + self.size], depth, place as usize)
-            }
-            None => 0,
-        }
+        let slot = self.slot_of(page)?;
+        let at = slot as usize * self.size;
+        Some(&self.bytes[at..at + self.size])
     }
 }
 
@@ -116,9 +114,9 @@ fn put_entry(numbers: &mut [u32], at: u32, entry: u32)
     numbers[at as usize] = entry + 1;
 }
 
-// The word of a texel of a tile.
+/// The word of a texel of a tile.
 #[inline]
-fn word_in(tile: &[u8], depth: u32, place: usize) -> u64
+pub(crate) fn word_in(tile: &[u8], depth: u32, place: usize) -> u64
     requires depth { IsDepth depth }
     requires inside { texel_length depth * place + texel_length depth ≤ length tile.now }
     ensures { result ≡ word_at depth tile.now place }
@@ -238,6 +236,7 @@ impl Tiles {
         ensures failed { result ≡ Err OutsideError.Failed → Rose (F.faults store.old.file) (F.faults store.new.file) }
         ensures read { IsReadOn F.File store.old store.new }
     {
+        self.last = Noted::new();
         if let Some(slot) = self.slot_of(page) {
             promote(&mut self.order, slot);
             return Ok(());
@@ -251,8 +250,24 @@ impl Tiles {
         Ok(())
     }
 
-    /// Makes the slot of a page's tile the most recently used one, if the tile is at hand.
-    pub(crate) fn touch(&mut self, page: u32)
+    /// Makes the tiles of pages the most recently used ones. They still are where the same were used last.
+    pub(crate) fn touch(&mut self, used: &Noted)
+        ensures size { self.new.size ≡ self.old.size }
+        ensures slots { self.new.slots.items ≡ self.old.slots.items }
+        ensures owners { self.new.owners.items ≡ self.old.owners.items }
+        ensures bytes { self.new.bytes.items ≡ self.old.bytes.items }
+    {
+        if used.pages() == self.last.pages() {
+            return;
+        }
+        for page in used.pages() {
+            self.touch_page(*page);
+        }
+        self.last = *used;
+    }
+
+    // Makes the slot of a page's tile the most recently used one, if the tile is at hand.
+    fn touch_page(&mut self, page: u32)
         ensures size { self.new.size ≡ self.old.size }
         ensures slots { self.new.slots.items ≡ self.old.slots.items }
         ensures owners { self.new.owners.items ≡ self.old.owners.items }
