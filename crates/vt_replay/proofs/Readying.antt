@@ -5,7 +5,6 @@ use Rattle.vt_pages.specs.Shape.{Shape}
 use Rattle.vt_store.specs.StoreViews.{StoreView}
 use Rattle.vt_replay.specs.Playing.{IsReadOn, IsReady}
 use Rattle.vt_replay.specs.Sights.{AreTiles}
-use Rattle.vt_replay.proofs.Tiling.{tiles_under}
 
 -- tiles of the same bytes
 pub tiles_same : (s : Shape) (d size n : ℕ) (slots owners bytes more_slots more_owners more_bytes : List ℕ) (told : Option (List ℕ))

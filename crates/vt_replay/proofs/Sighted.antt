@@ -1,27 +1,26 @@
 -- What is drawn by a look-up that missed no tile is the store's texel of the page that serves it.
-use Rattle.std.proofs.Common.{◌≡◌, ℕ, ◌+◌, ◌-◌, ◌*◌, ◌/◌, ◌^◌, ◌<◌, ◌≤◌, inl, inr, Bool, true, false, List, length, Option, Some, None, refl, sym, ap, ◌∙◌, subst, arith}
-use Rattle.std.specs.Prelude.{slice_get, slice_range, unwrap_or, IsSome, IfSome}
+use Rattle.std.proofs.Common.{◌≡◌, ℕ, ◌+◌, ◌-◌, ◌*◌, ◌/◌, ◌^◌, ◌<◌, ◌≤◌, inl, inr, true, false, List, length, Option, Some, None, refl, sym, ap, ◌∙◌, subst, arith}
+use Rattle.std.specs.Prelude.{slice_get, unwrap_or, IsSome}
 use Rattle.std.proofs.lemmas.Bool.{cases_lt, false≢true}
 use Rattle.std.proofs.lemmas.List.{get_or_past}
 use Rattle.std.proofs.lemmas.List.Edits.{length-between}
 use Rattle.std.proofs.lemmas.Option.{slice_get-get_or, same_Some}
-use Rattle.vt_definitions.specs.Depths.{texel_length, texel_bytes, word_bytes, word_at}
+use Rattle.vt_definitions.specs.Depths.{word_bytes, word_at}
 use Rattle.vt_outside.specs.Files.{IsPiece}
 use Rattle.vt_pages.specs.Shape.{Shape}
 use Rattle.vt_pages.specs.Pages.{pages_of, levels_of, level_of, line_of, ancestor_of, root_of, texel_page, IsWithinLimits}
 use Rattle.vt_pages.specs.Lookups.{lookup}
 use Rattle.vt_pages.specs.Laws.{ReachesRoot, IsInside}
 use Rattle.vt_pages.proofs.Lines.{reaches_root}
-use Rattle.vt_camera.specs.Rows.{RowView, row_level, row_place}
+use Rattle.vt_camera.specs.Rows.{row_level, row_place}
 use Rattle.vt_draw.specs.declared.lookups.Found.{Found}
 use Rattle.vt_draw.specs.Lookups.{Note, EntryNote, WordNote, IsFinest}
 use Rattle.vt_draw.specs.Shots.{shot_row, wanted_page, drawn_place, IsDrawn}
 use Rattle.vt_draw.proofs.Places.{pixel_inside, place_inside, wanted_in_chain, wanted_line_covers}
-use Rattle.vt_journal.specs.Changes.{Table}
 use Rattle.vt_journal.specs.Kept.{entry_of, entries_of}
 use Rattle.vt_journal.specs.Lookups.{is_mapped, IsFirstMapped}
 use Rattle.vt_journal.proofs.Finding.{finest-lookup}
-use Rattle.vt_store.specs.Format.{stored, tile_start, tile_length}
+use Rattle.vt_store.specs.Format.{stored, tile_start}
 use Rattle.vt_store.specs.StoreViews.{IsStore}
 use Rattle.vt_store.proofs.Stored.{pieces_hold_texels}
 use Rattle.vt_shown.specs.Scenes.{Scene}

@@ -1,5 +1,5 @@
 -- A set of tiles: the empty one, under equal names, and with one tile more.
-use Rattle.std.proofs.Common.{◌≡◌, ◌≢◌, ◌⊎◌, ℕ, ◌+◌, ◌*◌, ◌<◌, ◌≤◌, inl, inr, List, length, get_or, replicate, Option, Some, None, sym, ap, ◌∙◌, subst, arith}
+use Rattle.std.proofs.Common.{◌≡◌, ◌≢◌, ◌⊎◌, ℕ, ◌*◌, ◌<◌, ◌≤◌, inl, inr, List, length, get_or, replicate, Option, Some, None, sym, ap, ◌∙◌, subst, arith}
 use Rattle.std.specs.Prelude.{IfSome}
 use Rattle.std.proofs.lemmas.Bool.{cases_lt}
 use Rattle.std.proofs.lemmas.List.{get_or-replicate, get_or_past, length-replicate}
@@ -8,7 +8,7 @@ use Rattle.vt_definitions.specs.Limits.{most_frame_texels}
 use Rattle.vt_outside.specs.Files.{IsPiece}
 use Rattle.vt_pages.specs.Shape.{Shape}
 use Rattle.vt_pages.specs.Pages.{pages_of}
-use Rattle.vt_journal.specs.Changes.{Table, with_entry, nothing_mapped}
+use Rattle.vt_journal.specs.Changes.{Table, with_entry}
 use Rattle.vt_journal.specs.Kept.{entry_of, entries_of}
 use Rattle.vt_journal.proofs.Versions.{same_page, entry-same, entry-other}
 use Rattle.vt_store.specs.Format.{tile_start, tile_length}

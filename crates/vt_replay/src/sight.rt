@@ -79,15 +79,15 @@ impl<'a> Sight<'a> {
         requires slots { length tiles.now.slots.items ≡ pages_of geometry.now }
         requires bytes { length tiles.now.bytes.items ≡ length tiles.now.owners.items * tiles.now.size }
         ensures { result ≡ record {
-            shape = geometry.now;
-            depth = depth;
-            size = tiles.now.size;
-            version = table.now.version;
-            entries = table.now.entries.items;
-            slots = tiles.now.slots.items;
-            owners = tiles.now.owners.items;
-            bytes = tiles.now.bytes.items;
-            missed = false;
+          shape = geometry.now;
+          depth = depth;
+          size = tiles.now.size;
+          version = table.now.version;
+          entries = table.now.entries.items;
+          slots = tiles.now.slots.items;
+          owners = tiles.now.owners.items;
+          bytes = tiles.now.bytes.items;
+          missed = false;
         } }
     {
         Sight {

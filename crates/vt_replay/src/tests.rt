@@ -91,12 +91,7 @@ fn played(alloc: Global, path: &[u8], journal: &[u8]) -> Result<Left, NoMemory> 
 }
 
 // The replay of a journal over a store and a path.
-fn played_over(
-    alloc: Global,
-    store: &[u8],
-    path: &[u8],
-    journal: &[u8],
-) -> Result<Left, NoMemory> {
+fn played_over(alloc: Global, store: &[u8], path: &[u8], journal: &[u8]) -> Result<Left, NoMemory> {
     let mut folder = MemoryFolder::new(alloc, Fails::new(alloc));
     folder.add("s.vts", store)?;
     let path = path_of(alloc, path)?;
@@ -189,7 +184,8 @@ fn a_tile_is_read_when_a_row_first_needs_it(rt: HostRuntime) -> Result<(), TestF
 }
 
 // Three pictures from one place.
-const STILL_PATH: &[u8] = b"size 2 1\nfocal 1\nat 0 0 256 16384 0\nat 0 0 256 16384 0\nat 0 0 256 16384 0\n";
+const STILL_PATH: &[u8] =
+    b"size 2 1\nfocal 1\nat 0 0 256 16384 0\nat 0 0 256 16384 0\nat 0 0 256 16384 0\n";
 
 // Two frames: the root stays in one, and a page comes back to the other after another page was there.
 const TAKING_TURNS: &[u8] = b"map 1 1 0 0 0\npass 1 picture 0 start 1\nmap 2 0 0 0 1\nrow 0 0 2\n\
@@ -217,9 +213,7 @@ fn a_tile_that_was_put_out_is_read_again(rt: HostRuntime) -> Result<(), TestFail
 // The store of a texture of 32x16 texels for tiles of 16x16, of which each tile has one colour.
 fn wide_store(alloc: Global) -> Result<Vec<u8>, NoMemory> {
     let mut store = Vec::new(alloc);
-    store.extend_from_slice(
-        b"VTS1\x00\x00\x00\x20\x00\x00\x00\x10\x00\x00\x00\x10".as_slice(),
-    )?;
+    store.extend_from_slice(b"VTS1\x00\x00\x00\x20\x00\x00\x00\x10\x00\x00\x00\x10".as_slice())?;
     for colour in [0x11, 0x22, 0x33] {
         store.extend_from_slice(&[colour; 768])?;
     }
@@ -227,8 +221,7 @@ fn wide_store(alloc: Global) -> Result<Vec<u8>, NoMemory> {
 }
 
 // A journal that names the last frame that there may be: as many tiles of that side have twice the texels that a walk's frames may have.
-const FAR_FRAME: &[u8] =
-    b"map 1 1 0 0 0\npass 1 picture 0 start 1\nmap 2 0 0 0 65534\nrow 0 0 2\n";
+const FAR_FRAME: &[u8] = b"map 1 1 0 0 0\npass 1 picture 0 start 1\nmap 2 0 0 0 65534\nrow 0 0 2\n";
 
 #[test]
 fn a_frame_has_no_room_of_its_own(rt: HostRuntime) -> Result<(), TestFail> {

@@ -1,4 +1,4 @@
-use Rattle.std.proofs.Common.{◌≡◌, ℕ, ◌*◌, ◌-◌, ◌+◌, List, length, sym, ap, ◌∙◌, arith}
+use Rattle.std.proofs.Common.{◌≡◌, ℕ, ◌*◌, ◌-◌, ◌+◌, List, length, ap, ◌∙◌, arith}
 use Rattle.vt_definitions.specs.Depths.{texel_length, texel_bytes}
 use Rattle.vt_replay.proofs.Places.{row_room, row_written, row_other}
 use Rattle.vt_replay.proofs.draw.draw_into.Goals as goal

@@ -1,5 +1,4 @@
-use Rattle.std.proofs.Common.{◌≤◌, refl, arith}
-use Rattle.std.specs.Prelude.{slice_index}
+use Rattle.std.proofs.Common.{refl, arith}
 use Rattle.vt_replay.proofs.Reading.{read_then}
 use Rattle.vt_replay.proofs.Readying.{ready_after}
 use Rattle.vt_replay.proofs.Tiling.{tiles_under}

@@ -1,14 +1,10 @@
-use Rattle.std.proofs.Common.{◌≡◌, ℕ, ◌+◌, ◌<◌, ◌≤◌, List, Option, Some, length, rules, refl, sym, ap, ◌∙◌, subst, arith}
-use Rattle.std.specs.Prelude.{slice_get, IsSome}
-use Rattle.vt_pages.specs.Shape.{Shape}
+use Rattle.std.proofs.Common.{ℕ, ◌≤◌, List, length, rules, refl, sym, ap, subst, arith}
+use Rattle.std.specs.Prelude.{IsSome}
 use Rattle.vt_pages.specs.Pages.{root_of, IsWithinLimits}
 use Rattle.vt_journal.specs.declared.changes.Change.{Change}
 use Rattle.vt_journal.specs.Changes.{at}
-use Rattle.vt_journal.specs.Kept.{change_frame}
 use Rattle.vt_store.specs.Format.{stored}
-use Rattle.vt_store.specs.StoreViews.{IsStoreIfTold}
 use Rattle.vt_files.specs.Pictures.{pictures_due}
-use Rattle.vt_shown.specs.Frames.{HoldsTiles}
 use Rattle.vt_shown.specs.Scenes.{scene_of}
 use Rattle.vt_replay.specs.Playing.{MayBePlayed, ArePlayed, HasWritten}
 use Rattle.vt_replay.specs.Replayed.{replay_file, pictures_of}

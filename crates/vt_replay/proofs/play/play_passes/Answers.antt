@@ -1,5 +1,5 @@
-use Rattle.std.proofs.Common.{◌≡◌, ◌≢◌, ℕ, ◌+◌, ◌-◌, ◌<◌, ◌≤◌, List, [], get_or, rules, Option, Some, None, Ok, Err, length, refl, sym, ap, ◌∙◌, subst, arith}
-use Rattle.std.specs.Prelude.{slice_get, MatchOption, option_map}
+use Rattle.std.proofs.Common.{◌≡◌, ℕ, ◌+◌, ◌-◌, ◌<◌, ◌≤◌, List, [], get_or, rules, Option, length, refl, sym, ap, ◌∙◌, subst, arith}
+use Rattle.std.specs.Prelude.{MatchOption, option_map}
 use Rattle.std.proofs.lemmas.Option.{slice_get_past, slice_get_within, slice_get-get_or}
 use Rattle.std.proofs.lemmas.Result.{err_from_is_err_and}
 use Rattle.vt_ppm.specs.Picture.{picture_bytes}
@@ -16,7 +16,7 @@ use Rattle.vt_replay.specs.Playing.{AreRowsWithin}
 use Rattle.vt_replay.specs.Replayed.{replayed_rows, pictures_of, replay_file}
 use Rattle.vt_replay.proofs.Reading.{read_none, read_then}
 use Rattle.vt_replay.proofs.Staging.{restaged}
-use Rattle.vt_replay.proofs.Written.{HasTurn, turn_first, turn_at, turn_same, turn_next, rows_within, shown_is, picture_counted, one_more, one_stopped}
+use Rattle.vt_replay.proofs.Written.{turn_first, turn_at, turn_same, turn_next, rows_within, shown_is, picture_counted, one_more, one_stopped}
 use Rattle.vt_replay.proofs.play.play_passes.Goals as goal
 
 pub loop-i-init : goal.loop-i-init

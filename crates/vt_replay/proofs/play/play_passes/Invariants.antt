@@ -1,4 +1,4 @@
-use Rattle.std.proofs.Common.{◌≡◌, ℕ, ◌≤◌, List, Some, length}
+use Rattle.std.proofs.Common.{◌≡◌, ℕ, ◌≤◌, List, Some}
 use Rattle.std.specs.Prelude.{slice_get, MatchOption}
 use Rattle.vt_store.specs.Format.{stored}
 use Rattle.vt_files.specs.Courses.{folder_state, passage}

@@ -1,7 +1,4 @@
-use Rattle.std.proofs.Common.{◌≡◌, ◌≤◌, ◌<◌, inl, inr, sym, ap, ◌∙◌, arith}
-use Rattle.std.specs.Prelude.{IsSome}
-use Rattle.std.proofs.lemmas.Bool.{cases_lt}
-use Rattle.vt_pages.specs.Pages.{levels_of, level_of, ancestor_of, root_of}
+use Rattle.std.proofs.Common.{arith}
 use Rattle.vt_journal.specs.Kept.{entries_of}
 use Rattle.vt_sampler.proofs.Climbing.{some_mapped}
 use Rattle.vt_replay.proofs.sight.finest_mapped.Goals as goal

@@ -1,4 +1,4 @@
-use Rattle.std.proofs.Common.{ℕ, ◌≤◌}
+use Rattle.std.proofs.Common.{◌≤◌}
 use Rattle.vt_replay.proofs.stream.frames_named.Given as goal
 
 -- the number is within its bounds

@@ -1,5 +1,4 @@
-use Rattle.std.proofs.Common.{◌≡◌, ◌+◌, ◌-◌, ap, sym, ◌∙◌, arith}
-use Rattle.std.specs.Prelude.{slice_get}
+use Rattle.std.proofs.Common.{◌+◌, ◌-◌, arith}
 use Rattle.vt_replay.proofs.Following.{follows_more}
 use Rattle.vt_replay.proofs.table.make_changes.Goals as goal
 

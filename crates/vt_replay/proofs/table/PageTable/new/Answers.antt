@@ -1,4 +1,4 @@
-use Rattle.std.proofs.Common.{◌≡◌, ℕ, ◌∙◌, sym}
+use Rattle.std.proofs.Common.{◌∙◌, sym}
 use Rattle.vt_replay.proofs.Following.{follows_first}
 use Rattle.vt_replay.proofs.table.PageTable.new.Goals as goal
 
