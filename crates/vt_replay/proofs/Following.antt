@@ -1,54 +1,39 @@
 -- A table that follows a journal, one change further.
-use Rattle.std.proofs.Common.{◌≡◌, ℕ, suc, ◌+◌, ◌<◌, ◌≤◌, List, [], ◌∷◌, ◌++◌, length, take, drop, Some, sym, ap, ◌∙◌, subst, length-append, length-take, arith}
+use Rattle.std.proofs.Common.{◌≡◌, ◌⊎◌, ℕ, ◌+◌, ◌-◌, ◌<◌, ◌≤◌, inl, inr, List, length, get_or, replicate, Some, sym, ap, ◌∙◌, arith}
 use Rattle.std.specs.Prelude.{slice_get}
-use Rattle.std.proofs.lemmas.List.{take-append-drop}
-use Rattle.std.proofs.lemmas.Option.{slice_get_within, get_or_from_slice_get}
-use Rattle.std.proofs.Math.Seq.{take-suc}
+use Rattle.std.proofs.lemmas.Bool.{cases_lt}
+use Rattle.std.proofs.lemmas.List.{get_or-replicate, get_or_past, length-replicate}
+use Rattle.std.proofs.lemmas.Option.{slice_get_within}
 use Rattle.vt_pages.specs.Shape.{Shape}
+use Rattle.vt_pages.specs.Pages.{pages_of}
 use Rattle.vt_journal.specs.declared.changes.Change.{Change}
-use Rattle.vt_journal.specs.Changes.{Table, at, newest, IsLegalNext}
-use Rattle.vt_journal.proofs.Versions.{at-front}
-use Rattle.vt_table.specs.Views.{TableView, IsTable, IsWithin}
-use Rattle.vt_replay.specs.Playing.{MayBePlayed, Follows}
+use Rattle.vt_journal.specs.Changes.{Table, at, changed}
+use Rattle.vt_journal.specs.Kept.{entries_of}
+use Rattle.vt_journal.proofs.Versions.{at-next}
+use Rattle.vt_table.proofs.Keeping.{entries_none}
+use Rattle.vt_replay.specs.Playing.{Follows}
 
--- the table of its newest version is that of the journal
-pub newest_is : (s : Shape) (frames : ℕ) (js : List Change) (t : TableView) → Follows s frames js t → newest t.changes ≡ at js (length t.changes)
-newest_is s frames js t h =
-    let n = length t.changes in
-    let inside : n ≤ length js = h.inside in
-    let room : n ≤ length (take n js) = omega (arith, length-take n js) in
-    ap (λ (ks : List Change). at ks n) h.changes_are ∙ sym (at-front (take n js) (drop n js) n room)
-    ∙ ap (λ (ks : List Change). at ks n) (take-append-drop n js)
-
-pub next_legal : (s : Shape) (frames : ℕ) (js : List Change) (t : TableView) (change : Change) → Follows s frames js t → MayBePlayed s frames js
-    → slice_get js (length t.changes) ≡ Some change → IsLegalNext t.shape (newest t.changes) change
-next_legal s frames js t change h may is =
-    subst (λ (r : Shape). IsLegalNext r (newest t.changes) change) (sym h.shape)
-    (subst (λ (m : Table). IsLegalNext s m change) (sym (newest_is s frames js t h)) (may.legal (length t.changes) change is))
-
-pub next_within : (s : Shape) (frames : ℕ) (js : List Change) (t : TableView) (change : Change) → Follows s frames js t → MayBePlayed s frames js
-    → slice_get js (length t.changes) ≡ Some change → IsWithin t change
-next_within s frames js t change h may is = record {
-  page_inside = rw h.shape (may.in_pages (length t.changes) change is);
-  frame_inside = rw h.frames_are (may.in_frames (length t.changes) change is);
-}
-
-pub follows_more : (s : Shape) (frames : ℕ) (js : List Change) (t u : TableView) (change : Change) → Follows s frames js t → IsTable u → u.shape ≡ t.shape
-    → u.frames ≡ t.frames → u.changes ≡ t.changes ++ change ∷ [] → t.spare ≤ u.spare + 1 → slice_get js (length t.changes) ≡ Some change
-    → Follows s frames js u
-follows_more s frames js t u change h table shape frames_are changes spare is =
-    let n = length t.changes in
-    let within : n < length js = slice_get_within js n change is in
-    let count : length u.changes ≡ n + 1 = ap length changes ∙ length-append t.changes (change ∷ []) in
-    let next : suc n ≡ length u.changes = omega (arith, count) in
-    let room = h.room in
+pub follows_more : (s : Shape) (js : List Change) (entries new : List ℕ) (made : ℕ) (change : Change) → Follows s js entries made
+    → slice_get js (made + 1 - 1) ≡ Some change → length new ≡ length entries → entries_of new ≡ changed (entries_of entries) change
+    → Follows s js new (made + 1)
+follows_more s js entries new made change h is size now =
+    let here : slice_get js made ≡ Some change = ap (slice_get js) (let e : made ≡ made + 1 - 1 = omega arith in e) ∙ is in
+    let within : made < length js = slice_get_within js made change here in
     record {
-      table = table;
-      shape = shape ∙ h.shape;
-      frames_are = frames_are ∙ h.frames_are;
-      changes_are = changes ∙ ap (λ (ks : List Change). ks ++ change ∷ []) h.changes_are
-          ∙ ap (λ (c : Change). take n js ++ c ∷ []) (sym (get_or_from_slice_get js n change change is))
-          ∙ sym (take-suc js n change within) ∙ ap (λ (k : ℕ). take k js) next;
-      inside = omega (arith, count, within);
-      room = omega (arith, count, room, spare);
+      all_entries = size ∙ h.all_entries;
+      inside = omega (arith, within);
+      agrees = now ∙ ap (λ (m : Table). changed m change) h.agrees ∙ sym (at-next js made change here);
     }
+
+pub follows_first : (s : Shape) (js : List Change) (entries : List ℕ) (n : ℕ) → length entries ≡ pages_of s → entries ≡ replicate n 0
+    → Follows s js entries 0
+unfolding at
+follows_first s js entries n size all = record {
+  all_entries = size;
+  inside = omega arith;
+  agrees = entries_none entries (λ k. zero_at k (cases_lt k n));
+}
+  where
+    zero_at : (k : ℕ) → ((k < n) ⊎ (n ≤ k)) → get_or entries k 0 ≡ 0
+    zero_at k (inl below) = ap (λ (l : List ℕ). get_or l k 0) all ∙ get_or-replicate n k 0 0 below
+    zero_at k (inr past) = ap (λ (l : List ℕ). get_or l k 0) all ∙ get_or_past (replicate n 0) k 0 (omega (arith, length-replicate {A = ℕ} n 0))

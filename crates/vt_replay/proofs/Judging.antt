@@ -1,15 +1,13 @@
 -- The first line that is refused, from what the reader answers and the first line that names a picture outside the path.
 use Rattle.std.proofs.Common.{◌≡◌, ◌≢◌, ◌⊎◌, ℕ, zero, suc, ◌+◌, ◌<◌, ◌≤◌, inl, inr, List, [], ◌∷◌, ◌++◌, length, map, Option, Some, None, refl, sym, ap, ◌∙◌, subst, arith, min}
-use Rattle.std.specs.Prelude.{slice_get, codes, option_map, MatchOption, IfOk, Result, Ok, Err}
+use Rattle.std.specs.Prelude.{slice_get, option_map, MatchOption, IfOk, Result, Ok, Err}
 use Rattle.std.proofs.lemmas.Bool.{cases_lt}
 use Rattle.std.proofs.lemmas.Option.{slice_get-map, slice_get_within}
 use Rattle.vt_text.specs.Numbers.{number_spelling}
-use Rattle.vt_text.specs.Lines.{fields_of, lines_of}
 use Rattle.vt_text.proofs.Spelling.{number_spelling_injective}
 use Rattle.vt_pages.specs.Shape.{Shape}
 use Rattle.vt_journal.specs.declared.lines.Line.{Line}
 use Rattle.vt_journal.specs.declared.lines.Line.TheVariants.{Begins}
-use Rattle.vt_journal.specs.declared.parse.JournalError.{JournalError}
 use Rattle.vt_journal.specs.declared.parse.JournalError.TheVariants.{BadLine}
 use Rattle.vt_journal.specs.JournalText.{Pass, Content, pass_lines, head_lines, content_lines, journal_text}
 use Rattle.vt_journal.specs.JournalFlaws.{IsLawful, IsJournalFlaw}
@@ -24,7 +22,7 @@ use Rattle.vt_journal.specs.declared.parse.JournalError.TheVariants as journal_e
 use Rattle.vt_replay.specs.Outcomes.{IsReplayable}
 use Rattle.vt_replay.specs.declared.error.ReplayError.{ReplayError}
 use Rattle.vt_replay.specs.declared.error.ReplayError.TheVariants.{BadJournal, NoMemory}
-use Rattle.vt_replay.specs.Flaws.{BeginsOutside, NamesOutside, IsRefusedLine, IsFirstRefused}
+use Rattle.vt_replay.specs.Flaws.{NamesOutside, IsRefusedLine, IsFirstRefused}
 
 -- an element behind a list
 behind : {X : Type 0} → (xs ys : List X) (k : ℕ) → slice_get (xs ++ ys) (length xs + k) ≡ slice_get ys k

@@ -1,6 +1,8 @@
 pub mod Passes
-pub mod Holding
 pub mod Reading
+pub mod Sighted
+pub mod Tiling
+pub mod Readying
 pub mod Following
 pub mod Scanning
 pub mod Judging

@@ -1,8 +1,7 @@
 -- What the passes of a lawful journal keep to.
-use Rattle.std.proofs.Common.{◌≡◌, ◌⊎◌, ℕ, zero, suc, ◌+◌, ◌-◌, ◌<◌, ◌≤◌, List, [], ◌∷◌, ◌++◌, length, map, Option, Some, None, refl, sym, ap, ◌∙◌, subst, inl, inr, append_assoc, length-append, arith}
+use Rattle.std.proofs.Common.{◌≡◌, ◌⊎◌, ℕ, zero, suc, ◌+◌, ◌-◌, ◌<◌, ◌≤◌, List, [], ◌∷◌, ◌++◌, length, map, Option, Some, refl, sym, ap, ◌∙◌, subst, append_assoc, length-append, arith}
 use Rattle.std.specs.Prelude.{slice_get, IsSome, All}
 use Rattle.std.specs.List.{range_with_len}
-use Rattle.std.proofs.lemmas.List.{append-nil}
 use Rattle.std.proofs.lemmas.List.Elements.{All-nil, All-cons, All-append, All-get_or}
 use Rattle.std.proofs.lemmas.Option.{slice_get_within, get_or_from_slice_get}
 use Rattle.vt_definitions.specs.Limits.{most_frames}
@@ -13,8 +12,7 @@ use Rattle.vt_journal.specs.declared.changes.Change.{Change}
 use Rattle.vt_journal.specs.declared.changes.Change.TheVariants.{Map, Unmap}
 use Rattle.vt_journal.specs.declared.changes.Event.{Event}
 use Rattle.vt_journal.specs.declared.changes.Event.TheVariants.{Changed, Lost}
-use Rattle.vt_journal.specs.declared.changes.RowLine.{RowLine}
-use Rattle.vt_journal.specs.Changes.{at, AreInTurn, Pinned}
+use Rattle.vt_journal.specs.Changes.{at}
 use Rattle.vt_journal.specs.Lookups.{change_page}
 use Rattle.vt_journal.specs.Kept.{change_frame}
 use Rattle.vt_journal.specs.JournalText.{Pass, Content, changes_of, passes_changes, content_changes, pinned_change, pinned_changes}
@@ -22,7 +20,7 @@ use Rattle.vt_journal.specs.JournalFlaws.{IsLawful}
 use Rattle.vt_journal.specs.Following.{IsWithin, AreEventsAfter, IsPassAfter, ArePassesAfter, IsLawfulByParts}
 use Rattle.vt_journal.proofs.ByParts.{parts_of_lawful, content_pinned}
 use Rattle.vt_journal.proofs.Growing.{lawful_in_turn}
-use Rattle.vt_journal.proofs.Versions.{legal-pinned, pinned_stay}
+use Rattle.vt_journal.proofs.Versions.{pinned_stay}
 use Rattle.vt_journal.proofs.Heads.{count_to}
 use Rattle.vt_replay.specs.Playing.{MayBePlayed, AreRowsWithin, ArePlayed}
 
@@ -74,18 +72,12 @@ root_behind s limits =
     let some : 2 ≤ s.tile = limits.least_tile in
     (reaches_root s 0 (omega arith) limits.least_width limits.least_height limits.some_page).root_is_last
 
--- a lawful journal may be played, with more frames than it names
-pub may_be_played : (s : Shape) (height : ℕ) (c : Content) → IsWithinLimits s → IsLawful s height c → (frames : ℕ)
-    → ((v : ℕ) (change : Change) → slice_get (content_changes s c) v ≡ Some change → change_frame change < frames)
-    → MayBePlayed s frames (content_changes s c)
-may_be_played s height c limits lawful frames all =
-    let by = parts_of_lawful s height c lawful in
-    record {
-      legal = legal-pinned s (content_changes s c) c.pinned (root_behind s limits) by.head.some (lawful_in_turn s height c lawful)
-          (content_pinned s height c by);
-      in_pages = λ v change is. (change_bounded s height c lawful v change is).0;
-      in_frames = all;
-    }
+-- a lawful journal may be played
+pub may_be_played : (s : Shape) (height : ℕ) (c : Content) → IsLawful s height c → MayBePlayed s (content_changes s c)
+may_be_played s height c lawful = record {
+  in_pages = λ v change is. (change_bounded s height c lawful v change is).0;
+  in_frames = λ v change is. (change_bounded s height c lawful v change is).1;
+}
 
 -- each version from that of the pinned pages on maps the root
 pub root_mapped : (s : Shape) (height : ℕ) (c : Content) → IsWithinLimits s → IsLawful s height c → (v : ℕ) → c.pinned ≤ v → v ≤ length (content_changes s c)

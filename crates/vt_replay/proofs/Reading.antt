@@ -1,6 +1,6 @@
 -- What reads of tiles leave of a store.
 use Rattle.std.proofs.Common.{◌≡◌, ℕ, ◌<◌, ◌≤◌, Bool, List, [], ◌∷◌, ◌++◌, Option, Some, None, refl, sym, ap, ◌∙◌, subst, append_assoc, arith}
-use Rattle.std.specs.Prelude.{option_map, All}
+use Rattle.std.specs.Prelude.{option_map}
 use Rattle.std.proofs.lemmas.List.{append-nil}
 use Rattle.std.proofs.lemmas.List.Elements.{All-nil, All-cons, All-append}
 use Rattle.vt_outside.specs.declared.place.Place.{Place}
@@ -79,3 +79,24 @@ read_then g before mid after a b = record {
       (subst (λ (s : Shape). AreTilesAsked s before.depth (g.asked mid.file) (g.asked after.file)) a.shape
       (subst (λ (d : ℕ). AreTilesAsked mid.shape d (g.asked mid.file) (g.asked after.file)) a.depth b.tiles));
 }
+
+-- room was made for reads, and then a tile was read, or a read of it failed
+pub read_after : {F : Type 0} (g : FileMeanings F) (before mid after : StoreView F) (page : ℕ) (failed : Bool) → mid.shape ≡ before.shape
+    → mid.depth ≡ before.depth → g.bytes mid.file ≡ g.bytes before.file → g.asked mid.file ≡ g.asked before.file
+    → g.name mid.file ≡ g.name before.file → g.faults mid.file ≡ g.faults before.file → page < pages_of before.shape
+    → TileAsked mid.shape mid.depth page failed (g.asked mid.file) (g.asked after.file)
+    → after.shape ≡ mid.shape → after.depth ≡ mid.depth → g.bytes after.file ≡ g.bytes mid.file → g.name after.file ≡ g.name mid.file
+    → g.faults mid.file ≤ g.faults after.file → IsReadOn g before after
+read_after g before mid after page failed shape depth bytes asked name faults inside read shape_after depth_after bytes_after name_after faults_after =
+    let kept : IsReadOn g before mid = record {
+      shape = shape;
+      depth = depth;
+      bytes = bytes;
+      name = name;
+      faults = omega (arith, faults);
+      tiles = subst (AreTilesAsked before.shape before.depth (g.asked before.file)) (sym asked)
+          (asked_none before.shape before.depth (g.asked before.file));
+    } in
+    read_then g before mid after kept
+    (read_one g mid after page failed (subst (λ (s : Shape). page < pages_of s) (sym shape) inside) read shape_after depth_after bytes_after name_after
+    faults_after)

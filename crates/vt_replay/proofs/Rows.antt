@@ -1,18 +1,18 @@
 -- The samples of a picture, from its rows.
-use Rattle.std.proofs.Common.{◌≡◌, ℕ, zero, suc, ◌+◌, ◌-◌, ◌*◌, ◌<◌, ◌≤◌, List, [], ◌∷◌, ◌++◌, length, take, drop, Some, get_or, refl, sym, ap, ◌∙◌, subst, length-drop, length-take, drop-cons, arith}
-use Rattle.std.specs.Prelude.{slice_get, slice_index, slice_index_or, slice_range, option_map, unwrap_or}
+use Rattle.std.proofs.Common.{◌≡◌, ℕ, zero, suc, ◌+◌, ◌-◌, ◌*◌, ◌<◌, ◌≤◌, List, [], ◌∷◌, ◌++◌, length, take, drop, Some, get_or, refl, sym, ap, ◌∙◌, length-drop, length-take, drop-cons, arith}
+use Rattle.std.specs.Prelude.{slice_get, slice_index, slice_index_or, option_map, unwrap_or}
 use Rattle.std.specs.List.{concat, flat_map, range_with_len}
 use Rattle.std.proofs.lemmas.List.{take-append-drop, drop-drop}
 use Rattle.std.proofs.lemmas.Nat.{mul-le}
 use Rattle.std.proofs.lemmas.Option.{slice_get-get_or}
-use Rattle.vt_definitions.specs.Depths.{texel_length, texel_bytes, bytes_from}
+use Rattle.vt_definitions.specs.Depths.{texel_length, bytes_from}
 use Rattle.vt_definitions.specs.Texels.{Source}
 use Rattle.vt_journal.specs.declared.changes.Change.{Change}
 use Rattle.vt_journal.specs.declared.changes.RowLine.{RowLine}
-use Rattle.vt_journal.specs.Changes.{Table, at}
+use Rattle.vt_journal.specs.Changes.{at}
 use Rattle.vt_shown.specs.Scenes.{Scene}
 use Rattle.vt_shown.specs.Replays.{HasPixels, pixel_under, IsReplayOf}
-use Rattle.vt_replay.specs.Playing.{row_of}
+use Rattle.vt_replay.specs.Sights.{row_of}
 use Rattle.vt_replay.specs.Replayed.{version_of, replayed_row, replayed_rows}
 
 -- bytes are their pieces of so many bytes each, one after another

@@ -1,43 +1,42 @@
--- A table, the room to draw in and a store, under equal names.
-use Rattle.std.proofs.Common.{◌≡◌, ℕ, ◌+◌, ◌*◌, ◌≤◌, List, length, refl, sym, ap, ◌∙◌, subst, arith}
+-- A table, a set of tiles, the room to draw in and a store, under equal names.
+use Rattle.std.proofs.Common.{◌≡◌, ℕ, ◌*◌, List, length, sym, ◌∙◌, subst}
 use Rattle.vt_definitions.specs.Depths.{texel_length}
 use Rattle.vt_outside.specs.declared.outside.File.{Ghosts as FileMeanings}
 use Rattle.vt_pages.specs.Shape.{Shape}
 use Rattle.vt_pages.specs.Pages.{pages_of}
 use Rattle.vt_journal.specs.declared.changes.Change.{Change}
-use Rattle.vt_store.specs.Format.{tile_length}
 use Rattle.vt_store.specs.StoreViews.{StoreView, IsStoreIfTold}
-use Rattle.vt_table.specs.Views.{TableView}
-use Rattle.vt_shown.specs.Frames.{HoldsTiles}
 use Rattle.vt_replay.specs.Playing.{Follows, IsStaged}
+use Rattle.vt_replay.specs.Sights.{AreTiles}
+use Rattle.vt_replay.proofs.Readying.{tiles_same}
 
-pub restaged : {F : Type 0} (g : FileMeanings F) (s t : Shape) (d e width height m n : ℕ) (js ks : List Change) (table : TableView)
-    (tile samples counts : List ℕ) (store : StoreView F) → t ≡ s → e ≡ d → n ≡ m → ks ≡ js
-    → IsStaged g t e width height n ks table tile samples counts store → IsStaged g s d width height m js table tile samples counts store
-restaged g s t d e width height m n js ks table tile samples counts store shape depth frames changes h =
-    subst (λ (r : Shape). IsStaged g r d width height m js table tile samples counts store) shape
-    (subst (λ (k : ℕ). IsStaged g t k width height m js table tile samples counts store) depth
-    (subst (λ (k : ℕ). IsStaged g t e width height k js table tile samples counts store) frames
-    (subst (λ (l : List Change). IsStaged g t e width height n l table tile samples counts store) changes h)))
+pub restaged : {F : Type 0} (g : FileMeanings F) (s t : Shape) (d e width height : ℕ) (js ks : List Change) (entries : List ℕ)
+    (version size : ℕ) (slots owners bytes samples counts : List ℕ) (store : StoreView F) → t ≡ s → e ≡ d → ks ≡ js
+    → IsStaged g t e width height ks entries version size slots owners bytes samples counts store
+    → IsStaged g s d width height js entries version size slots owners bytes samples counts store
+restaged g s t d e width height js ks entries version size slots owners bytes samples counts store shape depth changes h =
+    subst (λ (r : Shape). IsStaged g r d width height js entries version size slots owners bytes samples counts store) shape
+    (subst (λ (k : ℕ). IsStaged g t k width height js entries version size slots owners bytes samples counts store) depth
+    (subst (λ (l : List Change). IsStaged g t e width height l entries version size slots owners bytes samples counts store) changes h))
 
--- the first table, with room to draw in
-pub staged_first : {F : Type 0} (g : FileMeanings F) (s : Shape) (d width height : ℕ) (js ks : List Change) (first table : TableView)
-    (tile samples counts : List ℕ) (store : StoreView F) → store.shape ≡ s → store.depth ≡ d → ks ≡ js → table ≡ first
-    → Follows s first.frames ks first → HoldsTiles first d (g.bytes store.file)
-    → length tile ≡ tile_length s d → length samples ≡ height * (texel_length d * width) → length counts ≡ pages_of s
-    → length ks ≤ g.spare store.file → IsStoreIfTold (g.bytes store.file) s d
-    → IsStaged g store.shape store.depth width height table.frames js table tile samples counts store
-staged_first g s d width height js ks first table tile samples counts store shape depth changes same follows holds tiles rows pages reads is =
-    subst (λ (t : TableView). IsStaged g store.shape store.depth width height t.frames js t tile samples counts store) (sym same)
-    (restaged g store.shape s store.depth d width height first.frames first.frames js ks first tile samples counts store (sym shape) (sym depth) refl changes
+-- the first table and the empty set, with room to draw in
+pub staged_first : {F : Type 0} (g : FileMeanings F) (s r : Shape) (d e width height : ℕ) (js ks : List Change)
+    (entries also_entries : List ℕ) (version also_version size also_size : ℕ) (slots also_slots owners also_owners bytes also_bytes samples counts : List ℕ)
+    (store : StoreView F) → r ≡ s → e ≡ d → ks ≡ js → store.shape ≡ s → store.depth ≡ d
+    → also_entries ≡ entries → also_version ≡ version → also_size ≡ size → also_slots ≡ slots → also_owners ≡ owners → also_bytes ≡ bytes
+    → Follows r ks entries version → AreTiles r e size slots owners bytes (g.bytes store.file)
+    → length samples ≡ height * (texel_length e * width) → length counts ≡ pages_of r → IsStoreIfTold (g.bytes store.file) s d
+    → IsStaged g s d width height js also_entries also_version also_size also_slots also_owners also_bytes samples counts store
+staged_first g s r d e width height js ks entries also_entries version also_version size also_size slots also_slots owners also_owners bytes also_bytes
+    samples counts store shape depth changes own own_depth a b c f h k follows tiles rows pages is =
+    restaged g s r d e width height js ks also_entries also_version also_size also_slots also_owners also_bytes samples counts store shape depth changes
     (record {
-      follows = follows;
-      shape = shape;
-      depth = depth;
-      tile_size = tiles;
+      follows = subst (λ (l : List ℕ). Follows r ks l also_version) (sym a) (subst (λ (n : ℕ). Follows r ks entries n) (sym b) follows);
+      shape = own ∙ sym shape;
+      depth = own_depth ∙ sym depth;
+      tiles = tiles_same r e size also_size slots owners bytes also_slots also_owners also_bytes (g.bytes store.file) c f h k tiles;
       samples_size = rows;
       counts_size = pages;
-      reads = omega (arith, reads);
-      holds = holds;
-      store_is = is;
-    }))
+      store_is = subst (λ (q : Shape). IsStoreIfTold (g.bytes store.file) q e) (sym shape)
+          (subst (λ (n : ℕ). IsStoreIfTold (g.bytes store.file) s n) (sym depth) is);
+    })

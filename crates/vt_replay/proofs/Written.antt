@@ -1,23 +1,22 @@
 -- What is written of a journal's pictures, from what was written of each.
 use Rattle.std.proofs.Common.{◌≡◌, ◌≢◌, ◌⊎◌, ℕ, zero, suc, ◌+◌, ◌-◌, ◌<◌, ◌≤◌, ◌==◌, inl, inr, Bool, true, false, T, eqb→eq, List, [], ◌∷◌, ◌++◌, length, take, drop, Option, Some, None, Ok, Err, refl, sym, ap, ◌∙◌, subst, arith}
-use Rattle.std.specs.Prelude.{slice_get, option_map, if◌then◌else◌, MatchOption, Result}
+use Rattle.std.specs.Prelude.{slice_get, if◌then◌else◌, MatchOption, Result}
 use Rattle.std.proofs.lemmas.List.{append-nil}
-use Rattle.std.proofs.lemmas.Bool.{cases_lt}
 use Rattle.std.proofs.lemmas.Option.{slice_get_within, slice_get-get_or}
 use Rattle.std.proofs.Math.Seq.{take-length}
 use Rattle.std.proofs.Math.ListN.{drop_of_length-le}
 use Rattle.vt_outside.specs.Files.{Files}
 use Rattle.vt_outside.specs.declared.answers.OutsideError.{OutsideError}
-use Rattle.vt_outside.specs.declared.answers.OutsideError.TheVariants.{Failed, NoMemory}
+use Rattle.vt_outside.specs.declared.answers.OutsideError.TheVariants.{NoMemory}
 use Rattle.vt_definitions.specs.Texels.{Source}
 use Rattle.vt_ppm.specs.Picture.{picture_bytes}
 use Rattle.vt_journal.specs.declared.changes.Change.{Change}
 use Rattle.vt_journal.specs.declared.changes.RowLine.{RowLine}
 use Rattle.vt_journal.specs.JournalText.{Pass}
 use Rattle.vt_files.specs.Courses.{FolderState, Passage}
-use Rattle.vt_files.specs.Dues.{FileDue, with_files, IsPart, AsksNone, Writes}
+use Rattle.vt_files.specs.Dues.{FileDue, IsPart, AsksNone, Writes}
 use Rattle.vt_files.specs.Pictures.{picture_due, pictures_due}
-use Rattle.vt_files.proofs.Writing.{HasPictures, no_pictures, more_pictures, stopped_pictures, part_none}
+use Rattle.vt_files.proofs.Writing.{HasPictures, more_pictures, stopped_pictures, part_none}
 use Rattle.vt_pages.specs.Shape.{Shape}
 use Rattle.vt_camera.specs.Paths.{PathView}
 use Rattle.vt_shown.specs.Scenes.{Scene, scene_of}

@@ -1,21 +1,21 @@
--- A page table that follows a journal, and the store from which its tiles are read.
-use Rattle.std.specs.Prelude.{◌≡◌, ◌⊎◌, ℕ, ◌+◌, ◌*◌, ◌<◌, ◌≤◌, ◌++◌, List, Some, Option, All, length, take, slice_get, slice_range, option_map, Result, Ok, Err}
+-- A page table that follows a journal, and the store from which tiles are read.
+use Rattle.std.specs.Prelude.{◌≡◌, ◌⊎◌, ℕ, ◌+◌, ◌*◌, ◌<◌, ◌≤◌, ◌++◌, List, Some, Option, All, length, slice_get, option_map, IsSome, Result, Ok, Err}
+use Rattle.vt_definitions.specs.Limits.{most_frames}
 use Rattle.vt_definitions.specs.Depths.{texel_length}
 use Rattle.vt_outside.specs.declared.place.Place.{Place}
 use Rattle.vt_outside.specs.declared.outside.File.{Ghosts as FileMeanings}
 use Rattle.vt_pages.specs.Shape.{Shape}
-use Rattle.vt_pages.specs.Pages.{pages_of}
+use Rattle.vt_pages.specs.Pages.{pages_of, root_of}
 use Rattle.vt_journal.specs.declared.changes.Change.{Change}
 use Rattle.vt_journal.specs.declared.changes.RowLine.{RowLine}
-use Rattle.vt_journal.specs.Changes.{AreLegal}
+use Rattle.vt_journal.specs.Changes.{at}
 use Rattle.vt_journal.specs.Lookups.{change_page}
-use Rattle.vt_journal.specs.Kept.{change_frame}
+use Rattle.vt_journal.specs.Kept.{entries_of, change_frame}
 use Rattle.vt_journal.specs.JournalText.{Pass}
 use Rattle.vt_store.specs.Format.{tile_start, tile_length}
 use Rattle.vt_store.specs.StoreViews.{StoreView, IsStoreIfTold}
-use Rattle.vt_table.specs.Views.{TableView, IsTable}
 use Rattle.vt_files.specs.Dues.{FileDue, with_files, IsPart}
-use Rattle.vt_shown.specs.Frames.{HoldsTiles}
+use Rattle.vt_replay.specs.Sights.{AreTiles}
 use Rattle.vt_outside.specs.Files.{Files}
 use Rattle.vt_outside.specs.declared.answers.OutsideError.{OutsideError}
 
@@ -41,37 +41,36 @@ pub record IsReadOn {F : Type 0} (g : FileMeanings F) (before after : StoreView 
   pub faults : g.faults before.file ≤ g.faults after.file
   pub tiles : AreTilesAsked before.shape before.depth (g.asked before.file) (g.asked after.file)
 
--- each change is legal after those before it, and its page and its frame are within their bounds
-pub record MayBePlayed (s : Shape) (frames : ℕ) (changes : List Change) : Type 0 where
-  pub legal : AreLegal s changes
+-- the page and the frame of each change are within their bounds
+pub record MayBePlayed (s : Shape) (changes : List Change) : Type 0 where
   pub in_pages : (v : ℕ) (change : Change) → slice_get changes v ≡ Some change → change_page change < pages_of s
-  pub in_frames : (v : ℕ) (change : Change) → slice_get changes v ≡ Some change → change_frame change < frames
+  pub in_frames : (v : ℕ) (change : Change) → slice_get changes v ≡ Some change → change_frame change < most_frames
 
--- a table has come to a version of a journal, and has room for the rest of it
-pub record Follows (s : Shape) (frames : ℕ) (changes : List Change) (t : TableView) : Type 0 where
-  pub table : IsTable t
-  pub shape : t.shape ≡ s
-  pub frames_are : t.frames ≡ frames
-  pub changes_are : t.changes ≡ take (length t.changes) changes
-  pub inside : length t.changes ≤ length changes
-  pub room : length changes ≤ length t.changes + t.spare
+-- the numbers of a page table are those of a version of a journal
+pub record Follows (s : Shape) (changes : List Change) (entries : List ℕ) (version : ℕ) : Type 0 where
+  pub all_entries : length entries ≡ pages_of s
+  pub inside : version ≤ length changes
+  pub agrees : entries_of entries ≡ at changes version
 
--- row y of the samples of a picture, of which each row has so many bytes
-abbrev pub row_of : ℕ → List ℕ → ℕ → List ℕ
-row_of line samples y = slice_range samples (y * line) (y * line + line)
-
--- a table, the room to draw in and a store are ready for pictures of a width and a height: the table follows the journal and holds the
--- store's tiles, and the store's file can note a read for each change to come
-pub record IsStaged {F : Type 0} (g : FileMeanings F) (s : Shape) (d width height frames : ℕ) (changes : List Change)
-    (t : TableView) (tile samples counts : List ℕ) (store : StoreView F) : Type 0 where
-  pub follows : Follows s frames changes t
+-- a table that maps the root, a set of tiles and a store are ready for the rows of a picture: the set holds tiles of the store
+pub record IsReady {F : Type 0} (g : FileMeanings F) (s : Shape) (d : ℕ) (entries : List ℕ) (size : ℕ) (slots owners bytes : List ℕ)
+    (store : StoreView F) : Type 0 where
+  pub all_entries : length entries ≡ pages_of s
+  pub root : IsSome (entries_of entries (root_of s))
   pub shape : store.shape ≡ s
   pub depth : store.depth ≡ d
-  pub tile_size : length tile ≡ tile_length s d
+  pub tiles : AreTiles s d size slots owners bytes (g.bytes store.file)
+
+-- a table, a set of tiles, the room to draw in and a store are ready for pictures of a width and a height: the table follows the journal,
+-- and the set holds tiles of the store
+pub record IsStaged {F : Type 0} (g : FileMeanings F) (s : Shape) (d width height : ℕ) (changes : List Change) (entries : List ℕ)
+    (version size : ℕ) (slots owners bytes samples counts : List ℕ) (store : StoreView F) : Type 0 where
+  pub follows : Follows s changes entries version
+  pub shape : store.shape ≡ s
+  pub depth : store.depth ≡ d
+  pub tiles : AreTiles s d size slots owners bytes (g.bytes store.file)
   pub samples_size : length samples ≡ height * (texel_length d * width)
   pub counts_size : length counts ≡ pages_of s
-  pub reads : length changes ≤ length t.changes + g.spare store.file
-  pub holds : HoldsTiles t d (g.bytes store.file)
   pub store_is : IsStoreIfTold (g.bytes store.file) s d
 
 -- the files came to be, or where the call was refused a part of them: some whole, and of the next at most a front part

@@ -5,9 +5,13 @@ mod draw;
 mod error;
 mod judge;
 mod laws;
+mod noted;
 mod pictures;
 mod play;
+mod sight;
 mod stream;
+mod table;
+mod tiles;
 mod walks;
 
 pub use error::ReplayError;

@@ -21,8 +21,8 @@ use vt_store::Store;
 ///
 /// `BadJournal` comes exactly for the first line that the journal's reader refuses or that names a picture that the path has
 /// not, before anything is written; `Failed` only where the folder's count of faults rose above what it was with that of the
-/// store's file; `NoMemory` where memory was refused, and for a journal that names more frames than a walk may have: 8,388,608
-/// texels together. After the latter two some pictures are whole, and of the next a front part may be there.
+/// store's file; `NoMemory` where memory was refused, and where one row needs more tiles than 8,388,608 texels make, which no
+/// journal of a walk does. After the latter two some pictures are whole, and of the next a front part may be there.
 pub fn replay<D: Folder>(
     alloc: Global,
     folder: &mut D,

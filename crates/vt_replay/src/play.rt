@@ -1,6 +1,6 @@
 //! The passes of a journal in their order: the last of each picture is drawn and written.
 
-ghost use Rattle.std.specs.Prelude.{◌≡◌, ◌≢◌, true, false, ◌⊎◌, ℕ, ◌+◌, ◌*◌, ◌<◌, ◌≤◌, [], ◌∷◌, List, Some, None, length, slice_get, IfOk, OnOk, IsErr, IsSome};
+ghost use Rattle.std.specs.Prelude.{◌≡◌, ◌≢◌, true, false, ◌⊎◌, ℕ, ◌+◌, ◌*◌, ◌<◌, ◌≤◌, [], ◌∷◌, List, Some, None, length, slice_get, IfOk, OnOk, IsSome};
 ghost use Rattle.vt_definitions.specs.Depths.{IsDepth, texel_length};
 ghost use Rattle.vt_outside.specs.Counts.{Rose};
 ghost use Rattle.vt_pages.specs.Pages.{pages_of, root_of};
@@ -9,59 +9,66 @@ ghost use Rattle.vt_journal.specs.declared.changes.RowLine.{RowLine};
 ghost use Rattle.vt_journal.specs.Changes.{at};
 ghost use Rattle.vt_journal.specs.JournalText.{Pass, content_changes};
 ghost use Rattle.vt_journal.specs.JournalFlaws.{IsLawful};
-ghost use Rattle.vt_store.specs.Format.{stored, tile_length};
+ghost use Rattle.vt_store.specs.Format.{stored};
 ghost use Rattle.vt_files.specs.Courses.{passage};
 ghost use Rattle.vt_files.specs.Dues.{AsksNone};
 ghost use Rattle.vt_files.specs.Pictures.{picture_due, pictures_due};
 ghost use Rattle.vt_shown.specs.Scenes.{scene_of};
 ghost use Rattle.vt_shown.specs.Replays.{HasPixels, pixel_under};
-ghost use Rattle.vt_replay.specs.Playing.{IsReadOn, MayBePlayed, IsStaged, AreRowsWithin, ArePlayed, HasWritten, row_of};
+ghost use Rattle.vt_replay.specs.Playing.{IsReadOn, MayBePlayed, IsStaged, AreRowsWithin, ArePlayed, HasWritten};
+ghost use Rattle.vt_replay.specs.Sights.{row_of};
 ghost use Rattle.vt_replay.specs.Replayed.{replayed_rows, pictures_of, replay_file, replay_due};
 
 use crate::draw::draw_version;
-use crate::stream::{advance, first_table};
+use crate::stream::slots_for;
+use crate::table::PageTable;
+use crate::tiles::Tiles;
 use std::alloc::Global;
 use vt_camera::Path;
 use vt_definitions::texel_length;
 use vt_draw::Shot;
 use vt_files::{Picture, write_picture};
 use vt_journal::{Journal, JournalText, PassText};
-use vt_outside::{Failed, File, Folder, NoMemory, OutsideError};
+use vt_outside::{File, Folder, NoMemory, OutsideError};
 use vt_pages::Geometry;
-use vt_store::{Store, tile_length};
-use vt_table::StillTable;
+use vt_store::Store;
 
-/// The table that follows the journal, and the room to draw in: a tile, the samples of a picture and a count for each page.
+/// The table that follows the journal, the tiles that are at hand, and the room to draw in: the samples of a picture and a count
+/// for each page.
 #[derive(Drop)]
 pub(crate) struct Stage {
-    pub table: StillTable,
-    pub tile: Vec<u8>,
+    pub table: PageTable,
+    pub tiles: Tiles,
     pub samples: Vec<u8>,
     pub counts: Vec<u32>,
 }
 
-// The room to draw in, with a table.
+// The room to draw in, with a table and a set of tiles.
 fn stage_of(
     alloc: Global,
-    table: StillTable,
+    table: PageTable,
+    tiles: Tiles,
     geometry: &Geometry,
     depth: u32,
     path: &Path,
 ) -> Result<Stage, NoMemory>
     requires { IsDepth depth }
-    ensures table { IfOk result (λ stage. stage.table ≡ table) }
-    ensures tile { IfOk result (λ stage. length stage.tile.items ≡ tile_length geometry.now depth) }
+    ensures entries { IfOk result (λ stage. stage.table.entries.items ≡ table.entries.items) }
+    ensures version { IfOk result (λ stage. stage.table.version ≡ table.version) }
+    ensures size { IfOk result (λ stage. stage.tiles.size ≡ tiles.size) }
+    ensures slots { IfOk result (λ stage. stage.tiles.slots.items ≡ tiles.slots.items) }
+    ensures owners { IfOk result (λ stage. stage.tiles.owners.items ≡ tiles.owners.items) }
+    ensures bytes { IfOk result (λ stage. stage.tiles.bytes.items ≡ tiles.bytes.items) }
     ensures samples { IfOk result (λ stage. length stage.samples.items
         ≡ path.now.height * (texel_length depth * path.now.width)) }
     ensures counts { IfOk result (λ stage. length stage.counts.items ≡ pages_of geometry.now) }
 {
     let line = texel_length(depth) * path.width() as usize;
-    let tile = vec![in alloc; 0; tile_length(geometry, depth)]?;
     let samples = vec![in alloc; 0; path.height() as usize * line]?;
     let counts = vec![in alloc; 0; geometry.page_count() as usize]?;
     Ok(Stage {
         table,
-        tile,
+        tiles,
         samples,
         counts,
     })
@@ -75,22 +82,21 @@ fn show_version<F: File>(
     shot: &Shot,
     pass: &PassText,
     version: u64,
-) -> Result<(), Failed>
+) -> Result<(), OutsideError>
     requires depth { IsDepth shot.now.depth }
     requires picture { shot.now.picture < length shot.now.path.now.cameras }
-    requires played { MayBePlayed shot.now.geometry.now stage.old.table.frames journal.now.changes }
+    requires played { MayBePlayed shot.now.geometry.now journal.now.changes }
     requires staged { IsStaged F.File shot.now.geometry.now shot.now.depth shot.now.path.now.width shot.now.path.now.height
-        stage.old.table.frames journal.now.changes
-        stage.old.table stage.old.tile.items stage.old.samples.items stage.old.counts.items store.old }
+        journal.now.changes stage.old.table.entries.items stage.old.table.version stage.old.tiles.size stage.old.tiles.slots.items
+        stage.old.tiles.owners.items stage.old.tiles.bytes.items stage.old.samples.items stage.old.counts.items store.old }
     requires rows { length pass.now.rows.elements ≡ shot.now.path.now.height }
-    requires forward { length stage.old.table.changes ≤ version }
+    requires forward { stage.old.table.version ≤ version }
     requires inside { version ≤ length journal.now.changes }
     requires root { IsSome (at journal.now.changes version (root_of shot.now.geometry.now)) }
-    ensures frames { stage.new.table.frames ≡ stage.old.table.frames }
-    ensures staged { OnOk result (IsStaged F.File shot.now.geometry.now shot.now.depth shot.now.path.now.width
-        shot.now.path.now.height stage.old.table.frames journal.now.changes
-        stage.new.table stage.new.tile.items stage.new.samples.items stage.new.counts.items store.new) }
-    ensures there { OnOk result (length stage.new.table.changes ≡ version) }
+    ensures staged { OnOk result (IsStaged F.File shot.now.geometry.now shot.now.depth shot.now.path.now.width shot.now.path.now.height
+        journal.now.changes stage.new.table.entries.items stage.new.table.version stage.new.tiles.size stage.new.tiles.slots.items
+        stage.new.tiles.owners.items stage.new.tiles.bytes.items stage.new.samples.items stage.new.counts.items store.new) }
+    ensures there { OnOk result (stage.new.table.version ≡ version) }
     ensures shown { OnOk result ((b : List ℕ) → F.bytes store.old.file ≡ Some b
         → (y : ℕ) (row : RowLine) → slice_get pass.now.rows.elements y ≡ Some row → row.version ≡ version
         → let scene = scene_of shot.now.geometry.now shot.now.depth shot.now.path.now in
@@ -100,21 +106,22 @@ fn show_version<F: File>(
     ensures kept { OnOk result ((y : ℕ) (row : RowLine) → slice_get pass.now.rows.elements y ≡ Some row → row.version ≢ version
         → let line = texel_length shot.now.depth * shot.now.path.now.width in
         row_of line stage.new.samples.items y ≡ row_of line stage.old.samples.items y) }
-    ensures failed { IsErr result → Rose (F.faults store.old.file) (F.faults store.new.file) }
+    ensures failed { result ≡ Err OutsideError.Failed → Rose (F.faults store.old.file) (F.faults store.new.file) }
     ensures read { IsReadOn F.File store.old store.new }
 {
-    let tile = stage.tile.as_mut_slice();
-    advance(&mut stage.table, store, tile, journal, version)?;
+    stage.table.advance(shot.geometry, journal, version);
     let samples = stage.samples.as_mut_slice();
     let counts = stage.counts.as_mut_slice();
     draw_version(
         &stage.table,
+        &mut stage.tiles,
+        store,
         shot,
         pass.rows.slice(),
         version,
         samples,
         counts,
-    );
+    )?;
     Ok(())
 }
 
@@ -126,27 +133,26 @@ fn show_pass<F: File>(
     shot: &Shot,
     pass: &PassText,
     last: u64,
-) -> Result<(), Failed>
+) -> Result<(), OutsideError>
     requires depth { IsDepth shot.now.depth }
     requires picture { shot.now.picture < length shot.now.path.now.cameras }
-    requires played { MayBePlayed shot.now.geometry.now stage.old.table.frames journal.now.changes }
+    requires played { MayBePlayed shot.now.geometry.now journal.now.changes }
     requires staged { IsStaged F.File shot.now.geometry.now shot.now.depth shot.now.path.now.width shot.now.path.now.height
-        stage.old.table.frames journal.now.changes
-        stage.old.table stage.old.tile.items stage.old.samples.items stage.old.counts.items store.old }
+        journal.now.changes stage.old.table.entries.items stage.old.table.version stage.old.tiles.size stage.old.tiles.slots.items
+        stage.old.tiles.owners.items stage.old.tiles.bytes.items stage.old.samples.items stage.old.counts.items store.old }
     requires rows { AreRowsWithin shot.now.path.now.height pass.now.start last pass.now.rows.elements }
-    requires forward { length stage.old.table.changes ≤ pass.now.start }
+    requires forward { stage.old.table.version ≤ pass.now.start }
     requires inside { last ≤ length journal.now.changes }
     requires root { (v : ℕ) → pass.now.start ≤ v → v ≤ length journal.now.changes
         → IsSome (at journal.now.changes v (root_of shot.now.geometry.now)) }
-    ensures frames { stage.new.table.frames ≡ stage.old.table.frames }
-    ensures staged { OnOk result (IsStaged F.File shot.now.geometry.now shot.now.depth shot.now.path.now.width
-        shot.now.path.now.height stage.old.table.frames journal.now.changes
-        stage.new.table stage.new.tile.items stage.new.samples.items stage.new.counts.items store.new) }
-    ensures there { OnOk result (length stage.new.table.changes ≡ last) }
+    ensures staged { OnOk result (IsStaged F.File shot.now.geometry.now shot.now.depth shot.now.path.now.width shot.now.path.now.height
+        journal.now.changes stage.new.table.entries.items stage.new.table.version stage.new.tiles.size stage.new.tiles.slots.items
+        stage.new.tiles.owners.items stage.new.tiles.bytes.items stage.new.samples.items stage.new.counts.items store.new) }
+    ensures there { OnOk result (stage.new.table.version ≡ last) }
     ensures shown { OnOk result ((b : List ℕ) → F.bytes store.old.file ≡ Some b
         → stage.new.samples.items ≡ replayed_rows (stored b) (scene_of shot.now.geometry.now shot.now.depth shot.now.path.now)
         journal.now.changes pass.now.rows.elements shot.now.picture shot.now.path.now.height) }
-    ensures failed { IsErr result → Rose (F.faults store.old.file) (F.faults store.new.file) }
+    ensures failed { result ≡ Err OutsideError.Failed → Rose (F.faults store.old.file) (F.faults store.new.file) }
     ensures read { IsReadOn F.File store.old store.new }
 {
     let _newest = journal.version();
@@ -170,20 +176,19 @@ fn play_pass<D: Folder>(
 ) -> Result<(), OutsideError>
     requires depth { IsDepth shot.now.depth }
     requires picture { shot.now.picture < length shot.now.path.now.cameras }
-    requires played { MayBePlayed shot.now.geometry.now stage.old.table.frames journal.now.changes }
+    requires played { MayBePlayed shot.now.geometry.now journal.now.changes }
     requires staged { IsStaged D.File.File shot.now.geometry.now shot.now.depth shot.now.path.now.width shot.now.path.now.height
-        stage.old.table.frames journal.now.changes
-        stage.old.table stage.old.tile.items stage.old.samples.items stage.old.counts.items store.old }
+        journal.now.changes stage.old.table.entries.items stage.old.table.version stage.old.tiles.size stage.old.tiles.slots.items
+        stage.old.tiles.owners.items stage.old.tiles.bytes.items stage.old.samples.items stage.old.counts.items store.old }
     requires rows { AreRowsWithin shot.now.path.now.height pass.now.start last pass.now.rows.elements }
-    requires forward { length stage.old.table.changes ≤ pass.now.start }
+    requires forward { stage.old.table.version ≤ pass.now.start }
     requires inside { last ≤ length journal.now.changes }
     requires root { (v : ℕ) → pass.now.start ≤ v → v ≤ length journal.now.changes
         → IsSome (at journal.now.changes v (root_of shot.now.geometry.now)) }
-    ensures frames { stage.new.table.frames ≡ stage.old.table.frames }
-    ensures staged { OnOk result (IsStaged D.File.File shot.now.geometry.now shot.now.depth shot.now.path.now.width
-        shot.now.path.now.height stage.old.table.frames journal.now.changes
-        stage.new.table stage.new.tile.items stage.new.samples.items stage.new.counts.items store.new) }
-    ensures there { OnOk result (length stage.new.table.changes ≡ last) }
+    ensures staged { OnOk result (IsStaged D.File.File shot.now.geometry.now shot.now.depth shot.now.path.now.width shot.now.path.now.height
+        journal.now.changes stage.new.table.entries.items stage.new.table.version stage.new.tiles.size stage.new.tiles.slots.items
+        stage.new.tiles.owners.items stage.new.tiles.bytes.items stage.new.samples.items stage.new.counts.items store.new) }
+    ensures there { OnOk result (stage.new.table.version ≡ last) }
     ensures asks { AsksNone (passage D.Folder folder.old folder.new) }
     ensures wrote { (b : List ℕ) → D.File.bytes store.old.file ≡ Some b
         → HasWritten (picture_due prefix.now (λ picture. picture_bytes shot.now.depth shot.now.path.now.width
@@ -245,16 +250,16 @@ fn play_passes<D: Folder>(
     text: &JournalText,
 ) -> Result<u32, OutsideError>
     requires depth { IsDepth store.old.depth }
-    requires played { MayBePlayed store.old.shape stage.old.table.frames text.now.changes }
+    requires played { MayBePlayed store.old.shape text.now.changes }
     requires staged { IsStaged D.File.File store.old.shape store.old.depth path.now.width path.now.height
-        stage.old.table.frames text.now.changes
-        stage.old.table stage.old.tile.items stage.old.samples.items stage.old.counts.items store.old }
+        text.now.changes stage.old.table.entries.items stage.old.table.version stage.old.tiles.size stage.old.tiles.slots.items
+        stage.old.tiles.owners.items stage.old.tiles.bytes.items stage.old.samples.items stage.old.counts.items store.old }
     requires passes { ArePlayed path.now.height text.now.content.pinned (length text.now.changes) text.now.content.passes }
     requires root { (v : ℕ) → text.now.content.pinned ≤ v → v ≤ length text.now.changes
         → IsSome (at text.now.changes v (root_of store.old.shape)) }
     requires in_path { (i : ℕ) (pass : Pass) → slice_get text.now.content.passes i ≡ Some pass
         → pass.picture < length path.now.cameras }
-    requires first { stage.old.table.changes ≡ [] }
+    requires first { stage.old.table.version ≡ 0 }
     ensures count { IfOk result (λ n. n ≡ pictures_of text.now.content.passes) }
     ensures asks { AsksNone (passage D.Folder folder.old folder.new) }
     ensures wrote { (b : List ℕ) → D.File.bytes store.old.file ≡ Some b
@@ -318,8 +323,9 @@ pub(crate) fn play<D: Folder>(
     // From here on it is known that the geometry keeps its limits.
     let _side = geometry.tile();
     let journal = text.journal();
-    let table = first_table(alloc, &geometry, journal)?;
-    store.reserve(journal.version())?;
-    let mut stage = stage_of(alloc, table, &geometry, depth, path)?;
+    let slots = slots_for(&geometry, journal);
+    let table = PageTable::new(alloc, &geometry, journal)?;
+    let tiles = Tiles::new(alloc, &geometry, depth, slots)?;
+    let mut stage = stage_of(alloc, table, tiles, &geometry, depth, path)?;
     play_passes(alloc, folder, prefix, &mut stage, store, path, text)
 }

@@ -2,7 +2,7 @@ use crate::{ReplayError, replay};
 use std::alloc::Global;
 use std::test::Fail as TestFail;
 use vt_camera::{Path, parse_path};
-use vt_outside::{Fails, Folder, MemoryFolder, NoMemory};
+use vt_outside::{Fails, Folder, MemoryFolder, NoMemory, Place};
 use vt_store::Store;
 
 // The store of the texture of 4x4 texels, for tiles of 2x2.
@@ -85,11 +85,16 @@ fn path_of(alloc: Global, text: &[u8]) -> Result<Path, NoMemory> {
     }
 }
 
-// The replay of a journal over the store and the path.
-fn played(alloc: Global, journal: &[u8]) -> Result<Left, NoMemory> {
+// The replay of a journal over the store of 4x4 texels and a path.
+fn played(alloc: Global, path: &[u8], journal: &[u8]) -> Result<Left, NoMemory> {
+    played_over(alloc, G4, path, journal)
+}
+
+// The replay of a journal over a store and a path.
+fn played_over(alloc: Global, store: &[u8], path: &[u8], journal: &[u8]) -> Result<Left, NoMemory> {
     let mut folder = MemoryFolder::new(alloc, Fails::new(alloc));
-    folder.add("s.vts", G4)?;
-    let path = path_of(alloc, LONG_PATH)?;
+    folder.add("s.vts", store)?;
+    let path = path_of(alloc, path)?;
     let answer = answered(alloc, &mut folder, &path, journal);
     Ok(Left { answer, folder })
 }
@@ -135,12 +140,95 @@ fn the_walk_that_lost_a_tile_is_replayed_at_the_versions_of_its_rows(
     rt: HostRuntime,
 ) -> Result<(), TestFail> {
     for (journal, second_row, fourth_row) in LOST {
-        let left = played(rt.alloc(), journal)?;
+        let left = played(rt.alloc(), LONG_PATH, journal)?;
         assert!(rt; left.wrote(4));
         assert!(rt; left.holds("f0000.ppm", b"P6\n2 1\n255\n\x0b\x0b\x0b\x03\x03\x03"));
         assert!(rt; left.holds("f0001.ppm", second(second_row)));
         assert!(rt; left.holds("f0002.ppm", b"P6\n2 1\n255\n\x0d\x0d\x0d\x05\x05\x05"));
         assert!(rt; left.holds("f0003.ppm", fourth(fourth_row)));
     }
+    Ok(())
+}
+
+// A read of the tile of a page of that store.
+fn tile_read(page: u8) -> Place {
+    Place {
+        at: 16 + 12 * u64::from(page),
+        len: 12,
+        failed: false,
+    }
+}
+
+const HEADER: Place = Place {
+    at: 0,
+    len: 16,
+    failed: false,
+};
+
+#[test]
+fn a_tile_is_read_when_a_row_first_needs_it(rt: HostRuntime) -> Result<(), TestFail> {
+    let left = played(rt.alloc(), LONG_PATH, LOST[0].0)?;
+    assert!(rt; left.wrote(4));
+    assert!(rt; left.folder.was_asked("s.vts", &[HEADER, tile_read(4)]));
+    let left = played(rt.alloc(), LONG_PATH, LOST[2].0)?;
+    assert!(rt; left.wrote(4));
+    let reads = [
+        HEADER,
+        tile_read(4),
+        tile_read(2),
+        tile_read(0),
+        tile_read(3),
+    ];
+    assert!(rt; left.folder.was_asked("s.vts", &reads));
+    Ok(())
+}
+
+// Three pictures from one place.
+const STILL_PATH: &[u8] =
+    b"size 2 1\nfocal 1\nat 0 0 256 16384 0\nat 0 0 256 16384 0\nat 0 0 256 16384 0\n";
+
+// Two frames: the root stays in one, and a page comes back to the other after another page was there.
+const TAKING_TURNS: &[u8] = b"map 1 1 0 0 0\npass 1 picture 0 start 1\nmap 2 0 0 0 1\nrow 0 0 2\n\
+        pass 2 picture 1 start 2\nunmap 3 0 0 0 1\nmap 4 0 0 1 1\nrow 0 0 4\n\
+        pass 3 picture 2 start 4\nunmap 5 0 0 1 1\nmap 6 0 0 0 1\nrow 0 0 6\n";
+
+#[test]
+fn a_tile_that_was_put_out_is_read_again(rt: HostRuntime) -> Result<(), TestFail> {
+    let left = played(rt.alloc(), STILL_PATH, TAKING_TURNS)?;
+    assert!(rt; left.wrote(3));
+    assert!(rt; left.holds("f0000.ppm", b"P6\n2 1\n255\n\x0b\x0b\x0b\x01\x01\x01"));
+    assert!(rt; left.holds("f0001.ppm", b"P6\n2 1\n255\n\x0d\x0d\x0d\x03\x03\x03"));
+    assert!(rt; left.holds("f0002.ppm", b"P6\n2 1\n255\n\x0b\x0b\x0b\x01\x01\x01"));
+    let reads = [
+        HEADER,
+        tile_read(4),
+        tile_read(0),
+        tile_read(2),
+        tile_read(0),
+    ];
+    assert!(rt; left.folder.was_asked("s.vts", &reads));
+    Ok(())
+}
+
+// The store of a texture of 32x16 texels for tiles of 16x16, of which each tile has one colour.
+fn wide_store(alloc: Global) -> Result<Vec<u8>, NoMemory> {
+    let mut store = Vec::new(alloc);
+    store.extend_from_slice(b"VTS1\x00\x00\x00\x20\x00\x00\x00\x10\x00\x00\x00\x10".as_slice())?;
+    for colour in [0x11, 0x22, 0x33] {
+        store.extend_from_slice(&[colour; 768])?;
+    }
+    Ok(store)
+}
+
+// A journal that names the last frame that there may be: as many tiles of that side have twice the texels that a walk's frames may have.
+const FAR_FRAME: &[u8] = b"map 1 1 0 0 0\npass 1 picture 0 start 1\nmap 2 0 0 0 65534\nrow 0 0 2\n";
+
+#[test]
+fn a_frame_has_no_room_of_its_own(rt: HostRuntime) -> Result<(), TestFail> {
+    let store = wide_store(rt.alloc())?;
+    let path = b"size 2 1\nfocal 1\nat 0 0 256 16384 0\n".as_slice();
+    let left = played_over(rt.alloc(), store.as_slice(), path, FAR_FRAME)?;
+    assert!(rt; left.wrote(1));
+    assert!(rt; left.holds("f0000.ppm", b"P6\n2 1\n255\n\x11\x11\x11\x11\x11\x11"));
     Ok(())
 }

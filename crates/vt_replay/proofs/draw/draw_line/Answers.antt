@@ -1,41 +1,43 @@
-use Rattle.std.proofs.Common.{◌≡◌, ◌∙◌, ℕ, List, ap, subst, sym, length, arith}
-use Rattle.vt_definitions.specs.Depths.{texel_bytes}
-use Rattle.vt_pages.specs.Shape.{Shape}
-use Rattle.vt_draw.specs.Lookups.{Note}
-use Rattle.vt_draw.specs.Shots.{shot_row, AreDrawn, IsDrawn}
-use Rattle.vt_draw.proofs.Counts.{pixels-most}
-use Rattle.vt_store.specs.StoreViews.{IsStore}
-use Rattle.vt_table.specs.Views.{TableView}
-use Rattle.vt_sampler.specs.Notes.{IsTrueOf}
-use Rattle.vt_sampler.proofs.Truths.{true_back, drawn_by_more}
-use Rattle.vt_shown.specs.Scenes.{scene_of}
-use Rattle.vt_shown.proofs.Served.{drawn_as_replayed}
+use Rattle.std.proofs.Common.{refl, arith}
+use Rattle.vt_replay.proofs.Reading.{read_then}
+use Rattle.vt_replay.proofs.Readying.{ready_after}
+use Rattle.vt_replay.proofs.Tiling.{tiles_under}
 use Rattle.vt_replay.proofs.draw.draw_line.Goals as goal
 
-pub returns-clause-shown : goal.returns-clause-shown
-returns-clause-shown c = λ b store holds x inside.
+pub try_line-tried-requires-clause-room : goal.try_line-tried-requires-clause-room
+try_line-tried-requires-clause-room g c = λ p inside.
+    let counted = c.loop-round.invariant.counted p inside in
+    let room = c.requires.room p (omega arith) in
+    omega (arith, counted, room)
+
+pub try_line-tried-requires-clause-size : goal.try_line-tried-requires-clause-size
+try_line-tried-requires-clause-size g c = c.loop-round.invariant.ready.tiles.size_is
+
+pub try_line-tried-requires-clause-slots : goal.try_line-tried-requires-clause-slots
+try_line-tried-requires-clause-slots g c = c.loop-round.invariant.ready.tiles.all_slots
+
+pub try_line-tried-requires-clause-rooms : goal.try_line-tried-requires-clause-rooms
+try_line-tried-requires-clause-rooms g c = c.loop-round.invariant.ready.tiles.all_bytes
+
+pub returns-in_err-bring_all-clause-read : goal.returns-in_err-bring_all-clause-read
+returns-in_err-bring_all-clause-read g c =
+    read_then g.F.File c.args.store.now c.loop-round.store c.bring_all.new.store c.loop-round.invariant.read c.bring_all.ensures.read
+
+pub loop-round-preserved : goal.loop-round-preserved
+loop-round-preserved g c =
     let shot = c.args.shot.now in
     let s = shot.geometry.now in
     let d = shot.depth in
-    let path = shot.path.now in
-    let t = c.args.table.now in
-    let row = shot_row s path shot.picture c.args.y in
-    let v : TableView = c.draw_row.new.lookup in
-    let version : length v.changes ≡ length t.changes =
-    c.draw_row.ensures.version ∙ ap (λ (u : TableView). length u.changes) c.new-lookup.ensures in
-    let on : (note : Note) → IsTrueOf t note → IsTrueOf v note =
-    λ note h. c.draw_row.ensures.said note (subst (λ (u : TableView). IsTrueOf u note) (sym c.new-lookup.ensures) h) in
-    let drawn : AreDrawn s d (length t.changes) (IsTrueOf t) row path.width c.draw_row.new.out =
-    drawn_by_more s d (length t.changes) path.width (IsTrueOf v) (IsTrueOf t) row c.draw_row.new.out (true_back t v on)
-    (subst (λ n. AreDrawn s d n (IsTrueOf v) row path.width c.draw_row.new.out) version c.draw_row.ensures.drawn) in
-    let scene = scene_of s d path in
-    drawn_as_replayed t scene b shot.picture x c.args.y (texel_bytes d c.draw_row.new.out x) c.requires.table (sym c.requires.shape)
-    (subst (λ (r : Shape). IsStore b r d) (sym c.requires.shape) store) holds
-    (subst (λ (r : Shape). IsDrawn r d (length t.changes) (IsTrueOf t) (shot_row r path shot.picture c.args.y) x (texel_bytes d c.draw_row.new.out x))
-    (sym c.requires.shape) (drawn x inside))
-
-pub returns-clause-counted : goal.returns-clause-counted
-returns-clause-counted c = λ p inside.
-    let shot = c.args.shot.now in
-    let row = shot_row shot.geometry.now shot.path.now shot.picture c.args.y in
-    omega (arith, c.draw_row.ensures.counted p inside, pixels-most shot.geometry.now row shot.path.now.width p)
+    let loop = c.loop-round in
+    let ready = loop.invariant.ready in
+    let new = c.bring_all.new.tiles in
+    let told = g.F.File.bytes loop.store.file in
+    let read = c.bring_all.ensures.read in
+    let tiles = tiles_under s loop.store.shape d loop.store.depth new.size new.slots.items new.owners.items new.bytes.items told told
+    ready.shape ready.depth refl c.in_ok-bring_all.ensures.tiles in
+    record {
+      ready = ready_after g.F.File s d c.args.table.now.entries.items loop.tiles.size new.size loop.tiles.slots.items loop.tiles.owners.items
+          loop.tiles.bytes.items new.slots.items new.owners.items new.bytes.items loop.store c.bring_all.new.store ready read tiles;
+      counted = λ p inside. (let none = c.clear.ensures p inside in omega (arith, none));
+      read = read_then g.F.File c.args.store.now loop.store c.bring_all.new.store loop.invariant.read read;
+    }

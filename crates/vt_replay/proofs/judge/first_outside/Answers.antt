@@ -1,7 +1,7 @@
 use Rattle.std.proofs.Common.{◌≡◌, ◌-◌, [], length, take, drop, sym, ap, ◌∙◌, subst, length-drop}
 use Rattle.std.proofs.Math.Seq.{take-length}
 use Rattle.vt_replay.specs.Flaws.{BeginsOutside}
-use Rattle.vt_replay.proofs.Scanning.{scan_first, scan_more, scan_hit, scan_end}
+use Rattle.vt_replay.proofs.Scanning.{scan_more, scan_hit, scan_end}
 use Rattle.vt_replay.proofs.judge.first_outside.Goals as goal
 
 pub lines-preserved : goal.lines-preserved

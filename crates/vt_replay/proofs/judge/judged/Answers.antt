@@ -1,4 +1,4 @@
-use Rattle.std.proofs.Common.{◌≤◌, arith}
+use Rattle.std.proofs.Common.{arith}
 use Rattle.vt_replay.proofs.Judging.{judged_read, judged_refused}
 use Rattle.vt_replay.proofs.judge.judged.Goals as goal
 

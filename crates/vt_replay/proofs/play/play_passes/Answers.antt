@@ -1,5 +1,5 @@
-use Rattle.std.proofs.Common.{◌≡◌, ◌≢◌, ℕ, ◌+◌, ◌-◌, ◌<◌, ◌≤◌, List, [], get_or, rules, Option, Some, None, Ok, Err, length, refl, sym, ap, ◌∙◌, subst, arith}
-use Rattle.std.specs.Prelude.{slice_get, MatchOption, option_map}
+use Rattle.std.proofs.Common.{◌≡◌, ℕ, ◌+◌, ◌-◌, ◌<◌, ◌≤◌, List, [], get_or, rules, Option, length, refl, sym, ap, ◌∙◌, subst, arith}
+use Rattle.std.specs.Prelude.{MatchOption, option_map}
 use Rattle.std.proofs.lemmas.Option.{slice_get_past, slice_get_within, slice_get-get_or}
 use Rattle.std.proofs.lemmas.Result.{err_from_is_err_and}
 use Rattle.vt_ppm.specs.Picture.{picture_bytes}
@@ -16,15 +16,14 @@ use Rattle.vt_replay.specs.Playing.{AreRowsWithin}
 use Rattle.vt_replay.specs.Replayed.{replayed_rows, pictures_of, replay_file}
 use Rattle.vt_replay.proofs.Reading.{read_none, read_then}
 use Rattle.vt_replay.proofs.Staging.{restaged}
-use Rattle.vt_replay.proofs.Written.{HasTurn, turn_first, turn_at, turn_same, turn_next, rows_within, shown_is, picture_counted, one_more, one_stopped}
+use Rattle.vt_replay.proofs.Written.{turn_first, turn_at, turn_same, turn_next, rows_within, shown_is, picture_counted, one_more, one_stopped}
 use Rattle.vt_replay.proofs.play.play_passes.Goals as goal
 
 pub loop-i-init : goal.loop-i-init
 loop-i-init g c = record {
   staged = c.requires.staged;
-  same_frames = refl;
-  turn = turn_first c.args.path.now.height c.args.text.now.content.pinned (length c.args.text.now.changes) (length c.args.stage.now.table.changes)
-      c.args.text.now.content.passes c.requires.passes (ap (λ (js : List Change). length js) c.requires.first);
+  turn = turn_first c.args.path.now.height c.args.text.now.content.pinned (length c.args.text.now.changes) c.args.stage.now.table.version
+      c.args.text.now.content.passes c.requires.passes c.requires.first;
   asks = record { asked = refl; faults = omega arith };
   files = λ b told. no_pictures c.args.prefix.now (replay_file (stored b) (scene_of c.args.store.now.shape c.args.store.now.depth c.args.path.now)
       c.args.text.now.changes c.args.text.now.content.passes) (folder_state g.D.Folder c.args.folder.now);
@@ -61,7 +60,7 @@ returns-in_err-play_pass-clause-wrote g c = λ b told.
     let file : ℕ → List ℕ = replay_file (stored b) (scene_of s d path) c.args.text.now.changes passes in
     let shown : ℕ → List ℕ = λ (picture : ℕ). picture_bytes c.depth-depth.result path.width path.height (replayed_rows (stored b)
     (scene_of c.geometry-geometry.result c.depth-depth.result path) c.journal-journal.result.now.changes p.rows picture path.height) in
-    let turn = turn_at passes c.loop-i.i c.loop-i.done (length c.loop-i.stage.table.changes) p c.loop-i.invariant.turn c.pass-pass.ensures in
+    let turn = turn_at passes c.loop-i.i c.loop-i.done c.loop-i.stage.table.version p c.loop-i.invariant.turn c.pass-pass.ensures in
     let same : shown p.picture ≡ file p.picture = shown_is (stored b) s c.geometry-geometry.result d c.depth-depth.result path c.args.text.now.changes
     c.journal-journal.result.now.changes c.args.text.now.content.pinned (length c.args.text.now.changes) passes c.loop-i.i p
     c.geometry-geometry.ensures.shape c.depth-depth.ensures.value c.journal-journal.ensures c.requires.passes c.pass-pass.ensures
@@ -81,7 +80,7 @@ pub overflow_add-done : goal.overflow_add-done
 overflow_add-done g c =
     let p = pass_of c.pass-pass.result.now in
     let turn = turn_at c.args.text.now.content.passes c.loop-i.i c.loop-i.done
-    (length c.loop-i.stage.table.changes) p c.loop-i.invariant.turn c.pass-pass.ensures in
+    c.loop-i.stage.table.version p c.loop-i.invariant.turn c.pass-pass.ensures in
     let same = turn.0 in
     let inside = c.requires.in_path c.loop-i.i p c.pass-pass.ensures in
     omega (arith, same, inside, c.pictures-pictures.ensures.value, c.pictures-pictures.ensures.high)
@@ -95,9 +94,8 @@ loop-i-preserved-then-not-is_last g c =
     let is = slice_get-get_or passes loop.i first inside in
     record {
       staged = loop.invariant.staged;
-      same_frames = loop.invariant.same_frames;
       turn = turn_same c.args.path.now.height c.args.text.now.content.pinned (length c.args.text.now.changes) passes loop.i loop.done
-          (length loop.stage.table.changes)
+          loop.stage.table.version
           (get_or passes loop.i first) c.requires.passes is loop.invariant.turn (c.if-not-is_last.ensures.before refl (get_or passes loop.i first) is);
       asks = loop.invariant.asks;
       files = loop.invariant.files;
@@ -118,16 +116,16 @@ loop-i-preserved g c =
     let later = did.asks in
     let low = first.faults in
     let high = later.faults in
-    let turn = turn_at passes loop.i loop.done (length loop.stage.table.changes) p loop.invariant.turn c.pass-pass.ensures in
+    let turn = turn_at passes loop.i loop.done loop.stage.table.version p loop.invariant.turn c.pass-pass.ensures in
     let before = folder_state g.D.Folder c.args.folder.now in
     let mid = folder_state g.D.Folder loop.folder in
     let after = folder_state g.D.Folder c.play_pass.new.folder in
     record {
-      staged = restaged g.D.File.File s c.geometry-geometry.result d c.depth-depth.result path.width path.height c.args.stage.now.table.frames
-          loop.stage.table.frames c.args.text.now.changes c.journal-journal.result.now.changes new.table new.tile.items new.samples.items new.counts.items
-          c.play_pass.new.store c.geometry-geometry.ensures.shape c.depth-depth.ensures.value loop.invariant.same_frames c.journal-journal.ensures did.staged;
-      same_frames = did.frames ∙ loop.invariant.same_frames;
-      turn = turn_next path.height c.args.text.now.content.pinned (length c.args.text.now.changes) passes loop.i loop.done (length new.table.changes) p
+      staged = restaged g.D.File.File s c.geometry-geometry.result d c.depth-depth.result path.width path.height c.args.text.now.changes
+          c.journal-journal.result.now.changes new.table.entries.items new.table.version new.tiles.size new.tiles.slots.items new.tiles.owners.items
+          new.tiles.bytes.items new.samples.items new.counts.items c.play_pass.new.store c.geometry-geometry.ensures.shape
+          c.depth-depth.ensures.value c.journal-journal.ensures did.staged;
+      turn = turn_next path.height c.args.text.now.content.pinned (length c.args.text.now.changes) passes loop.i loop.done new.table.version p
           c.requires.passes c.pass-pass.ensures turn.0 (λ q at. c.if-not-is_last.ensures.last refl p q c.pass-pass.ensures at)
           (λ q at. did.there ∙ c.last_of-last.ensures.next q at);
       asks = record { asked = later.asked ∙ first.asked; faults = omega (arith, low, high) };
@@ -150,7 +148,7 @@ returns-clause-count g c =
     let passes = c.args.text.now.content.passes in
     let past : length passes ≤ c.loop-i.i = omega (arith, c.loop-i-test.false, c.passes-i-end.ensures) in
     subst (λ (o : Option Pass). MatchOption o (c.loop-i.done ≡ pictures_of passes) (λ (q : Pass). (c.loop-i.done ≡ q.picture) ×
-    (length c.loop-i.stage.table.changes ≤ q.start)))
+    (c.loop-i.stage.table.version ≤ q.start)))
     (slice_get_past passes c.loop-i.i past) c.loop-i.invariant.turn
 
 pub returns-clause-wrote : goal.returns-clause-wrote
@@ -159,7 +157,7 @@ returns-clause-wrote g c = λ b told.
     let past : length passes ≤ c.loop-i.i = omega (arith, c.loop-i-test.false, c.passes-i-end.ensures) in
     let count : c.loop-i.done ≡ pictures_of passes =
     subst (λ (o : Option Pass). MatchOption o (c.loop-i.done ≡ pictures_of passes) (λ (q : Pass). (c.loop-i.done ≡ q.picture) ×
-    (length c.loop-i.stage.table.changes ≤ q.start)))
+    (c.loop-i.stage.table.version ≤ q.start)))
     (slice_get_past passes c.loop-i.i past) c.loop-i.invariant.turn in
     let file : ℕ → List ℕ = replay_file (stored b) (scene_of c.args.store.now.shape c.args.store.now.depth c.args.path.now) c.args.text.now.changes passes in
     (c.loop-i.invariant.files b told).files

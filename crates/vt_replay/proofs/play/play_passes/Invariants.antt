@@ -1,22 +1,22 @@
-use Rattle.std.proofs.Common.{◌≡◌, ℕ, ◌≤◌, List, Some, length}
+use Rattle.std.proofs.Common.{◌≡◌, ℕ, ◌≤◌, List, Some}
 use Rattle.std.specs.Prelude.{slice_get, MatchOption}
 use Rattle.vt_store.specs.Format.{stored}
 use Rattle.vt_files.specs.Courses.{folder_state, passage}
 use Rattle.vt_files.specs.Dues.{AsksNone}
 use Rattle.vt_files.proofs.Writing.{HasPictures}
 use Rattle.vt_shown.specs.Scenes.{scene_of}
-use Rattle.vt_replay.specs.Playing.{IsReadOn, MayBePlayed, IsStaged}
+use Rattle.vt_replay.specs.Playing.{IsReadOn, IsStaged}
 use Rattle.vt_replay.specs.Replayed.{pictures_of, replay_file}
 use Rattle.vt_replay.proofs.play.play_passes.Given as goal
 
 -- the pictures before that of the next pass are written
 abbrev pub invariant-loop-i : goal.invariant-loop-i
 invariant-loop-i g l = record {
-  staged : IsStaged g.D.File.File l.fn.store.shape l.fn.store.depth l.path.width l.path.height l.fn.stage.table.frames l.text.changes
-      l.stage.table l.stage.tile.items l.stage.samples.items l.stage.counts.items l.store;
-  same_frames : l.stage.table.frames ≡ l.fn.stage.table.frames;
+  staged : IsStaged g.D.File.File l.fn.store.shape l.fn.store.depth l.path.width l.path.height l.text.changes
+      l.stage.table.entries.items l.stage.table.version l.stage.tiles.size l.stage.tiles.slots.items l.stage.tiles.owners.items
+      l.stage.tiles.bytes.items l.stage.samples.items l.stage.counts.items l.store;
   turn : MatchOption (slice_get l.text.content.passes l.i) (l.done ≡ pictures_of l.text.content.passes)
-      (λ p. (l.done ≡ p.picture) × (length l.stage.table.changes ≤ p.start));
+      (λ p. (l.done ≡ p.picture) × (l.stage.table.version ≤ p.start));
   asks : AsksNone (passage g.D.Folder l.fn.folder l.folder);
   files : (b : List ℕ) → g.D.File.File.bytes l.fn.store.file ≡ Some b
       → HasPictures l.prefix (replay_file (stored b) (scene_of l.fn.store.shape l.fn.store.depth l.path) l.text.changes l.text.content.passes) l.done

@@ -1,5 +1,4 @@
-use Rattle.std.proofs.Common.{◌≡◌, ◌≢◌, ℕ, ◌+◌, ◌*◌, ◌<◌, ◌≤◌, inl, inr, List, Some, length, get_or, refl, sym, ap, ◌∙◌, subst, arith}
-use Rattle.std.specs.Prelude.{slice_get}
+use Rattle.std.proofs.Common.{◌≡◌, ◌≢◌, ℕ, ◌+◌, ◌*◌, inl, inr, List, get_or, refl, sym, ap, ◌∙◌, subst, arith}
 use Rattle.std.proofs.lemmas.Bool.{cases_lt}
 use Rattle.std.proofs.lemmas.Option.{slice_get-get_or}
 use Rattle.vt_definitions.specs.Depths.{texel_length}
@@ -8,7 +7,7 @@ use Rattle.vt_journal.specs.Changes.{at}
 use Rattle.vt_store.specs.Format.{stored}
 use Rattle.vt_shown.specs.Scenes.{scene_of}
 use Rattle.vt_shown.specs.Replays.{HasPixels, pixel_under}
-use Rattle.vt_replay.specs.Playing.{IsStaged, row_of}
+use Rattle.vt_replay.specs.Sights.{row_of}
 use Rattle.vt_replay.proofs.Reading.{read_none, read_then}
 use Rattle.vt_replay.proofs.Rows.{rows_are_replayed}
 use Rattle.vt_replay.proofs.play.show_pass.Goals as goal
@@ -16,7 +15,6 @@ use Rattle.vt_replay.proofs.play.show_pass.Goals as goal
 pub loop-version-init : goal.loop-version-init
 loop-version-init g c = record {
   staged = c.requires.staged;
-  same_frames = refl;
   behind = c.requires.forward;
   there = inl refl;
   shown = λ b told y row is low. (let from = c.requires.rows.from y row is in absurd (omega (arith, from, low)));
@@ -37,9 +35,7 @@ loop-version-preserved g c =
     let new = c.show_version.new.stage in
     let there = did.there in
     record {
-      staged = subst (λ (n : ℕ). IsStaged g.F.File shot.geometry.now shot.depth shot.path.now.width shot.path.now.height n js
-          new.table new.tile.items new.samples.items new.counts.items c.show_version.new.store) loop.invariant.same_frames did.staged;
-      same_frames = did.frames ∙ loop.invariant.same_frames;
+      staged = did.staged;
       behind = omega (arith, there);
       there = inr (ap (λ (n : ℕ). n + 1) there);
       shown = λ b told y row is low.

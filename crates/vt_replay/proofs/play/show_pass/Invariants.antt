@@ -1,4 +1,4 @@
-use Rattle.std.proofs.Common.{◌≡◌, ◌⊎◌, ℕ, ◌+◌, ◌*◌, ◌<◌, ◌≤◌, List, Some, length}
+use Rattle.std.proofs.Common.{◌≡◌, ◌⊎◌, ℕ, ◌+◌, ◌*◌, ◌<◌, ◌≤◌, List, Some}
 use Rattle.std.specs.Prelude.{slice_get}
 use Rattle.vt_definitions.specs.Depths.{texel_length}
 use Rattle.vt_journal.specs.declared.changes.RowLine.{RowLine}
@@ -6,17 +6,18 @@ use Rattle.vt_journal.specs.Changes.{at}
 use Rattle.vt_store.specs.Format.{stored}
 use Rattle.vt_shown.specs.Scenes.{scene_of}
 use Rattle.vt_shown.specs.Replays.{HasPixels, pixel_under}
-use Rattle.vt_replay.specs.Playing.{IsReadOn, IsStaged, row_of}
+use Rattle.vt_replay.specs.Playing.{IsReadOn, IsStaged}
+use Rattle.vt_replay.specs.Sights.{row_of}
 use Rattle.vt_replay.proofs.play.show_pass.Given as goal
 
 -- the rows of the versions so far are drawn
 abbrev pub invariant-loop-version : goal.invariant-loop-version
 invariant-loop-version g l = record {
-  staged : IsStaged g.F.File l.shot.geometry.now l.shot.depth l.shot.path.now.width l.shot.path.now.height l.fn.stage.table.frames l.journal.changes
-      l.stage.table l.stage.tile.items l.stage.samples.items l.stage.counts.items l.store;
-  same_frames : l.stage.table.frames ≡ l.fn.stage.table.frames;
-  behind : length l.stage.table.changes ≤ l.version;
-  there : (l.version ≡ l.pass.start) ⊎ (length l.stage.table.changes + 1 ≡ l.version);
+  staged : IsStaged g.F.File l.shot.geometry.now l.shot.depth l.shot.path.now.width l.shot.path.now.height l.journal.changes
+      l.stage.table.entries.items l.stage.table.version l.stage.tiles.size l.stage.tiles.slots.items l.stage.tiles.owners.items
+      l.stage.tiles.bytes.items l.stage.samples.items l.stage.counts.items l.store;
+  behind : l.stage.table.version ≤ l.version;
+  there : (l.version ≡ l.pass.start) ⊎ (l.stage.table.version + 1 ≡ l.version);
   shown : (b : List ℕ) → g.F.File.bytes l.fn.store.file ≡ Some b
       → (y : ℕ) (row : RowLine) → slice_get l.pass.rows.elements y ≡ Some row → row.version < l.version
       → HasPixels l.shot.depth l.shot.path.now.width

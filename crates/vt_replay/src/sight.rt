@@ -1,0 +1,199 @@
+//! The look-up over a page table and a set of tiles.
+
+ghost use Rattle.std.specs.Prelude.{◌≡◌, ℕ, ◌+◌, ◌-◌, ◌*◌, ◌%◌, ◌<◌, ◌≤◌, false, List, length, IsSome};
+ghost use Rattle.vt_definitions.specs.Depths.{IsDepth, word_at};
+ghost use Rattle.vt_pages.specs.Pages.{pages_of, root_of};
+ghost use Rattle.vt_draw.specs.Lookups.{place_in_tile};
+ghost use Rattle.vt_journal.specs.Kept.{entries_of};
+ghost use Rattle.vt_store.specs.Format.{tile_length};
+ghost use Rattle.vt_replay.specs.Sights.{SightView, IsSight, IsTrueOf, IsIn, Serves, row_of};
+
+use crate::noted::Noted;
+use crate::table::PageTable;
+use crate::tiles::{Tiles, word_in};
+use std::marker::Model;
+use vt_draw::{Found, Lookup};
+use vt_pages::Geometry;
+
+/// A look-up of pages in a page table, which maps the root, over the tiles that are at hand. A page whose tile is not there is
+/// noted, and what is told of its texels means nothing (van Waveren 2012). A page is its own frame. Contracts see what is looked at, and
+/// whether a tile was missed.
+#[derive(Drop)]
+pub(crate) struct Sight<'a> {
+    geometry: &'a Geometry,
+    table: &'a PageTable,
+    tiles: &'a Tiles,
+    depth: u32,
+    // The page that was found last, and its tile, if it was at hand.
+    page: u32,
+    tile: Option<&'a [u8]>,
+    missed: bool,
+    used: Noted,
+    missing: Noted,
+}
+
+impl<'a> Model for Sight<'a> {
+    ghost use Rattle.std.specs.Prelude.{IfSome};
+    ghost use Rattle.vt_replay.specs.Sights.{SightView, IsSight, IsTileOf};
+
+    ghost Value = { SightView };
+
+    ghost view = { λ l. record {
+      shape = l.geometry.now;
+      depth = l.depth;
+      size = l.tiles.now.size;
+      version = l.table.now.version;
+      entries = l.table.now.entries.items;
+      slots = l.tiles.now.slots.items;
+      owners = l.tiles.now.owners.items;
+      bytes = l.tiles.now.bytes.items;
+      missed = l.missed;
+    } };
+
+    ghost invariant = { λ l. IsSight (record {
+      shape = l.geometry.now;
+      depth = l.depth;
+      size = l.tiles.now.size;
+      version = l.table.now.version;
+      entries = l.table.now.entries.items;
+      slots = l.tiles.now.slots.items;
+      owners = l.tiles.now.owners.items;
+      bytes = l.tiles.now.bytes.items;
+      missed = l.missed;
+    }) × IfSome l.tile (λ tile. IsTileOf l.tiles.now.size l.tiles.now.slots.items l.tiles.now.owners.items
+        l.tiles.now.bytes.items l.page tile.now) };
+}
+
+impl<'a> Sight<'a> {
+    /// The look-up over a table and a set of tiles of a depth. It takes no memory.
+    pub(crate) fn new(
+        geometry: &'a Geometry,
+        table: &'a PageTable,
+        tiles: &'a Tiles,
+        depth: u32,
+    ) -> Sight<'a>
+        requires depth { IsDepth depth }
+        requires entries { length table.now.entries.items ≡ pages_of geometry.now }
+        requires root { IsSome (entries_of table.now.entries.items (root_of geometry.now)) }
+        requires size { tiles.now.size ≡ tile_length geometry.now depth }
+        requires slots { length tiles.now.slots.items ≡ pages_of geometry.now }
+        requires bytes { length tiles.now.bytes.items ≡ length tiles.now.owners.items * tiles.now.size }
+        ensures { result ≡ record {
+          shape = geometry.now;
+          depth = depth;
+          size = tiles.now.size;
+          version = table.now.version;
+          entries = table.now.entries.items;
+          slots = tiles.now.slots.items;
+          owners = tiles.now.owners.items;
+          bytes = tiles.now.bytes.items;
+          missed = false;
+        } }
+    {
+        Sight {
+            geometry,
+            table,
+            tiles,
+            depth,
+            page: 0,
+            tile: None,
+            missed: false,
+            used: Noted::new(),
+            missing: Noted::new(),
+        }
+    }
+
+    /// Whether a tile was missed.
+    pub(crate) fn missed(&self) -> bool
+        ensures { result ≡ self.now.missed }
+    {
+        self.missed
+    }
+
+    /// The pages whose tiles were at hand.
+    pub(crate) fn used(&self) -> Noted {
+        self.used
+    }
+
+    /// The pages whose tiles were not.
+    pub(crate) fn missing(&self) -> Noted {
+        self.missing
+    }
+}
+
+impl Sight<'_> {
+    // The word at a place of the tile of a page that was not found last, or 0 where that is not at hand.
+    fn far_word(&self, page: u32, place: u32) -> u64
+        requires { place < self.now.shape.tile * self.now.shape.tile }
+        ensures { (slot : ℕ) → IsIn self.now.slots self.now.owners page slot
+            → result ≡ word_at self.now.depth (row_of self.now.size self.now.bytes slot) place }
+    {
+        match self.tiles.tile_of(page) {
+            Some(tile) => word_in(tile, self.depth, place as usize),
+            None => 0,
+        }
+    }
+}
+
+// The place of a texel of a level in the tile of its page.
+#[inline]
+fn place_of(geometry: &Geometry, x: u32, y: u32) -> u32
+    ensures place { result ≡ place_in_tile geometry.now x y }
+    ensures inside { result < geometry.now.tile * geometry.now.tile }
+{
+    let side = geometry.tile();
+    let mask = side - 1;
+    (y & mask) * side + (x & mask)
+}
+
+// The finest page that a table maps of a page and its ancestors.
+fn finest_mapped(table: &PageTable, geometry: &Geometry, page: u32) -> Found
+    requires entries { length table.now.entries.items ≡ pages_of geometry.now }
+    requires root { IsSome (entries_of table.now.entries.items (root_of geometry.now)) }
+    requires page { page < pages_of geometry.now }
+    ensures { Serves geometry.now (entries_of table.now.entries.items) page result }
+{
+    let name = geometry.page_at(page);
+    for level in name.level..geometry.levels() {
+        let ancestor = geometry.ancestor_at(page, level);
+        if table.entries[ancestor as usize] > 0 {
+            return Found {
+                page: ancestor,
+                level,
+                slot: ancestor,
+            };
+        }
+    }
+    unreachable!()
+}
+
+impl Lookup for Sight<'_> {
+    ghost shape = { λ v. v.shape };
+
+    ghost version = { λ v. v.version };
+
+    ghost says = { IsTrueOf };
+
+    #[inline]
+    fn find(&mut self, page: u32) -> Found {
+        let found = finest_mapped(self.table, self.geometry, page);
+        self.page = found.page;
+        self.tile = self.tiles.tile_of(found.page);
+        if self.tile.is_some() {
+            self.used.add(found.page);
+        } else {
+            self.missing.add(found.page);
+            self.missed = true;
+        }
+        found
+    }
+
+    #[inline]
+    fn texel(&mut self, found: &Found, x: u32, y: u32) -> u64 {
+        let place = place_of(self.geometry, x, y);
+        match self.tile {
+            Some(tile) if found.page == self.page => word_in(tile, self.depth, place as usize),
+            _ => self.far_word(found.page, place),
+        }
+    }
+}
