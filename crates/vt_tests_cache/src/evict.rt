@@ -4,10 +4,10 @@ ghost use Rattle.std.specs.Prelude.{◌≡◌, ◌<◌, ◌≤◌, IfOk, OnOk};
 ghost use Rattle.std.specs.List.{All};
 ghost use Rattle.vt_pages.specs.Pages.{pages_of};
 
-use super::*;
 use std::alloc::Global;
 use std::process::Abort;
 use std::test::Fail;
+use vt_evict::*;
 use vt_feedback::{Wanted, Wants};
 use vt_outside::NoMemory;
 use vt_pages::Geometry;

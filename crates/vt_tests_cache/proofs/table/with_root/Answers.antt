@@ -2,7 +2,7 @@ use Rattle.std.proofs.Common.{◌≡◌, ◌+◌, [], ◌∙◌, ap, arith}
 use Rattle.vt_pages.specs.Pages.{pages_of, root_of}
 use Rattle.vt_table.specs.Views.{TableView}
 use Rattle.vt_table.proofs.FewChanges.{none_at_first, no_frame_at_first, last_page}
-use Rattle.vt_table.proofs.tests.with_root.Goals as goal
+use Rattle.vt_tests_cache.proofs.table.with_root.Goals as goal
 
 pub fill-requires-clause-free : goal.fill-requires-clause-free
 fill-requires-clause-free c p e =

@@ -3,8 +3,9 @@
 
 ghost use Rattle.std.specs.Prelude.{ℕ, ◌<◌, slice_index};
 
-use super::*;
 use std::test::Fail;
+use vt_feedback::*;
+use vt_pages::Geometry;
 
 // The geometry of the 8 by 8 texture.
 fn eight_by_eight() -> Result<Geometry, Fail> {

@@ -2,11 +2,11 @@
 
 ghost use Rattle.vt_queue.specs.Queues.{IsOf};
 
-use super::*;
 use std::alloc::Global;
 use std::sync::Wait;
 use std::test::Fail as TestFail;
 use std::thread::Threads;
+use vt_load::*;
 use vt_outside::{Bytes, Fail, Fails, Folder, MemoryFolder, NoMemory, OpenGate, Place};
 use vt_queue::{Loaded, Outcome, QueuePass, Request, RequestQueue, ResultQueue};
 use vt_store::Store;

@@ -9,7 +9,7 @@ use Rattle.vt_journal.specs.declared.changes.Change.TheVariants.{Map}
 use Rattle.vt_journal.specs.Changes.{Table, newest, changed}
 use Rattle.vt_journal.proofs.Versions.{newest-none, newest-more, mapped_after_map, entry-same, entry-other}
 use Rattle.vt_table.specs.Views.{TableView}
-use Rattle.vt_sampler.proofs.tests.tables.table_from.Goals as goal
+use Rattle.vt_tests_cache.proofs.sampler.tables.table_from.Goals as goal
 
 nowhere : (o : Option ℕ) → ((f : ℕ) → o ≡ Some f → ⊥) → o ≡ None
 nowhere None none = refl

@@ -3,7 +3,7 @@ use Rattle.vt_pages.specs.Pages.{root_of}
 use Rattle.vt_journal.specs.declared.changes.Change.{Change}
 use Rattle.vt_journal.specs.declared.changes.Change.TheVariants.{Map, Unmap}
 use Rattle.vt_table.proofs.FewChanges.{after_one, none_after_root, root_after_two, page_after_two, root_after_three}
-use Rattle.vt_table.proofs.tests.a_page_is_mapped_filled_anew_and_unmapped.Goals as goal
+use Rattle.vt_tests_cache.proofs.table.a_page_is_mapped_filled_anew_and_unmapped.Goals as goal
 
 apart : ◌≡◌ {A = ℕ} 0 1 → ⊥
 apart e = absurd (omega (arith, e))

@@ -1,6 +1,6 @@
 use Rattle.std.proofs.Common.{◌≡◌, ℕ, ◌+◌, ◌-◌, ◌<◌, ◌≤◌, Some}
 use Rattle.vt_journal.specs.Changes.{newest}
-use Rattle.vt_sampler.proofs.tests.tables.table_from.Given as goal
+use Rattle.vt_tests_cache.proofs.sampler.tables.table_from.Given as goal
 
 -- the pages so far are mapped, to the frames in order, and no other is
 abbrev pub invariant-loop-page : goal.invariant-loop-page

@@ -4,12 +4,12 @@ ghost use Rattle.std.specs.Prelude.{◌≡◌, IfOk};
 ghost use Rattle.std.specs.Thread.{IsSync};
 ghost use Rattle.vt_queue.specs.Queues.{IsOf};
 
-use super::*;
 use std::alloc::Global;
 use std::sync::Wait;
 use std::test::*;
 use std::thread::{Threads, join_mut};
 use vt_outside::{Bytes, NoMemory};
+use vt_queue::*;
 
 // An item with a ticket.
 trait Ticketed {

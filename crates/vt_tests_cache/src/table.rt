@@ -3,11 +3,11 @@
 ghost use Rattle.std.specs.Prelude.{◌≡◌, ◌≤◌, [], ◌∷◌, IfOk};
 ghost use Rattle.vt_pages.specs.Pages.{pages_of, root_of};
 
-use crate::StillTable;
 use std::alloc::Global;
 use std::test::Fail;
 use vt_journal::Change;
 use vt_pages::Geometry;
+use vt_table::StillTable;
 
 // A tile of one-byte samples and one of two-byte samples, each of four texels.
 const NARROW: [u8; 12] = [1, 2, 3, 4, 5, 6, 7, 8, 9, 10, 11, 12];

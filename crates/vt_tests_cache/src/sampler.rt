@@ -8,8 +8,7 @@ ghost use Rattle.vt_definitions.specs.Depths.{IsDepth};
 ghost use Rattle.vt_pages.specs.Pages.{pages_of};
 ghost use Rattle.vt_sampler.specs.Notes.{MapsRoot};
 
-use crate::Sampler;
-use crate::tests::tables::table_from;
+use crate::sampler::tables::table_from;
 use std::alloc::Global;
 use std::process::Abort;
 use std::test::Fail;
@@ -17,6 +16,7 @@ use vt_camera::parse_path;
 use vt_draw::Shot;
 use vt_outside::NoMemory;
 use vt_pages::Geometry;
+use vt_sampler::Sampler;
 use vt_table::StillTable;
 
 // Draws a sampler's rows of a picture into their places, and adds its counts.
