@@ -11,6 +11,3 @@ pub use laws::{line_covers_pixel, wanted_page_in_chain};
 pub use lookups::{Found, Lookup};
 pub use plain::draw_plain;
 pub use shots::{Shot, draw_row};
-
-#[cfg(test)]
-mod tests;

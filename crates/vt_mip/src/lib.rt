@@ -13,8 +13,3 @@ pub use chain::{Chain, texture_samples_are_bytes};
 pub use laws::{chain_words_are_small, chains_go_on};
 pub use strip_chain::StripChain;
 pub use taken_rows::Halving;
-
-#[cfg(test)]
-mod strip_tests;
-#[cfg(test)]
-mod tests;

@@ -3,7 +3,7 @@
 ghost use Rattle.std.specs.Prelude.{◌≡◌, ℕ, ◌+◌, ◌<◌, ◌≤◌, max};
 ghost use Rattle.vt_pages.specs.Pages.{level_of, levels_of};
 
-use crate::{Found, Lookup};
+use vt_draw::{Found, Lookup};
 use vt_pages::Geometry;
 
 // The coarser of two levels.

@@ -1,6 +1,10 @@
-use crate::Chain;
+//! Mip chains of whole textures.
+
+mod strips;
+
 use std::alloc::{AllocError, Global};
 use std::test::Fail;
+use vt_mip::Chain;
 use vt_ppm::Image;
 
 #[test]

@@ -1,38 +1,16 @@
 //! Chains of textures that are read by rows.
-ghost use Rattle.std.specs.Prelude.{◌≡◌, true, IfOk, OnOk};
+ghost use Rattle.std.specs.Prelude.{◌≡◌, true, IfOk};
 
-use crate::StripChain;
+use crate::fixtures::{TEXTURE, check, with_grays};
 use std::alloc::Global;
 use std::test::Fail as TestFail;
+use vt_mip::StripChain;
 use vt_outside::{Fail, Fails, Folder, MemoryFile, MemoryFolder, NoMemory, Place};
 use vt_ppm::{PpmError, StripReader};
 
-// The grays of a texture of five columns and three rows: 10 times the row and the column.
-const TEXTURE: [u8; 15] = [0, 1, 2, 3, 4, 10, 11, 12, 13, 14, 20, 21, 22, 23, 24];
-
-// Bytes, and behind them each gray three times, in samples of so many bytes, 1 or 2.
-fn with_grays(alloc: Global, front: &[u8], grays: &[u8], depth: u32) -> Result<Vec<u8>, NoMemory> {
-    let mut bytes = Vec::new(alloc);
-    bytes.extend_from_slice(front)?;
-    for gray in grays {
-        for _channel in 0..3 {
-            if depth == 2 {
-                bytes.push(0)?;
-            }
-            bytes.push(*gray)?;
-        }
-    }
-    Ok(bytes)
-}
-
 // A folder in which `t` holds the texture, and calls that are to fail.
 fn folder_of(alloc: Global, calls: &[Fail], depth: u32) -> Result<MemoryFolder, NoMemory> {
-    let mut fails = Fails::new(alloc);
-    for call in calls {
-        fails.reserve(1)?;
-        fails.push(*call);
-    }
-    let mut folder = MemoryFolder::new(alloc, fails);
+    let mut folder = MemoryFolder::new(alloc, Fails::from_slice(alloc, calls)?);
     let front: &[u8] = if depth == 2 {
         b"P6 5 3 65535\n"
     } else {
@@ -40,15 +18,6 @@ fn folder_of(alloc: Global, calls: &[Fail], depth: u32) -> Result<MemoryFolder, 
     };
     folder.add("t", &with_grays(alloc, front, &TEXTURE, depth)?)?;
     Ok(folder)
-}
-
-// Looks the samples of a texture over.
-fn check(reader: &mut StripReader<MemoryFile>) -> Result<(), PpmError>
-    ensures { OnOk result (reader.new.checked ≡ true) }
-{
-    let rows = reader.header().height;
-    reader.reserve(rows as u64)?;
-    reader.check()
 }
 
 // A reader of the texture, whose samples were looked over.

@@ -1,14 +1,15 @@
 //! Stores of textures that are read by strips.
-ghost use Rattle.std.specs.Prelude.{◌≡◌, true, IfOk, OnOk};
+ghost use Rattle.std.specs.Prelude.{◌≡◌, true, IfOk};
 
-use crate::tests::{folder_of, holds};
-use crate::{StoreError, write_strips};
+use super::{folder_of, holds};
+use crate::fixtures::{TEXTURE, check, with_grays};
 use std::alloc::Global;
 use std::test::Fail as TestFail;
 use vt_mip::StripChain;
 use vt_outside::{Fail, Folder, MemoryFile, MemoryFolder, NoMemory, Place};
 use vt_pages::Geometry;
 use vt_ppm::{PpmError, StripReader};
+use vt_store::{StoreError, write_strips};
 
 // The grays of the store of the texture of five columns and three rows whose samples are 10 times the row and the column, in tiles
 // of side 2: six tiles of level 0, two of level 1, whose rows are 6, 8, 9 and 21, 23, 24, and one of level 2, whose row is 15, 17.
@@ -16,15 +17,6 @@ const GRAYS: [u8; 36] = [
     0, 1, 10, 11, 2, 3, 12, 13, 4, 4, 14, 14, 20, 21, 20, 21, 22, 23, 22, 23, 24, 24, 24, 24, 6, 8,
     21, 23, 9, 9, 24, 24, 15, 17, 15, 17,
 ];
-
-// Looks the samples of a texture over.
-fn check(reader: &mut StripReader<MemoryFile>) -> Result<(), PpmError>
-    ensures { OnOk result (reader.new.checked ≡ true) }
-{
-    let rows = reader.header().height;
-    reader.reserve(rows as u64)?;
-    reader.check()
-}
 
 // A reader of the texture that `a` holds, whose samples were looked over.
 fn reader_in(
@@ -75,24 +67,6 @@ fn tiled(alloc: Global, folder: &mut MemoryFolder) -> Result<(), StoreError> {
     folder.close(chain.into_file());
     result
 }
-
-// Bytes, and behind them each gray three times, in samples of so many bytes, 1 or 2.
-fn with_grays(alloc: Global, front: &[u8], grays: &[u8], depth: u32) -> Result<Vec<u8>, NoMemory> {
-    let mut bytes = Vec::new(alloc);
-    bytes.extend_from_slice(front)?;
-    for gray in grays {
-        for _channel in 0..3 {
-            if depth == 2 {
-                bytes.push(0)?;
-            }
-            bytes.push(*gray)?;
-        }
-    }
-    Ok(bytes)
-}
-
-// The grays of the texture.
-const TEXTURE: [u8; 15] = [0, 1, 2, 3, 4, 10, 11, 12, 13, 14, 20, 21, 22, 23, 24];
 
 #[test]
 fn a_texture_is_tiled_by_strips_as_whole(rt: HostRuntime) -> Result<(), TestFail> {

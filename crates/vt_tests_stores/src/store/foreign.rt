@@ -2,10 +2,10 @@
 //! nothing else.
 
 use super::{STORE_G4, folder_of, opened, read_of};
-use crate::StoreError;
 use std::alloc::Global;
 use std::test::Fail as TestFail;
 use vt_outside::NoMemory;
+use vt_store::StoreError;
 
 // The sides, the tile side and the depth of a store, or why it is none.
 type Answer = Result<(u32, u32, u32, u32), StoreError>;

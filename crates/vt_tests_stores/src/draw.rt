@@ -5,12 +5,12 @@ mod tables;
 ghost use Rattle.std.specs.Prelude.{◌≡◌, ◌*◌, length};
 ghost use Rattle.vt_definitions.specs.Depths.{IsDepth};
 
-use crate::tests::tables::Table;
-use crate::{Shot, draw_plain, draw_row};
+use crate::draw::tables::Table;
 use std::alloc::{AllocError, Global};
 use std::process::Abort;
 use std::test::Fail;
 use vt_camera::parse_path;
+use vt_draw::{Shot, draw_plain, draw_row};
 use vt_mip::Chain;
 use vt_pages::Geometry;
 use vt_ppm::Image;

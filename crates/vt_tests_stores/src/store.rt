@@ -1,14 +1,17 @@
-mod foreign;
+//! Stores of whole textures, read and widened.
 
-use crate::{
-    Store, StoreError, Stores, store_length, tile_columns, tile_length, widen_store, write_store,
-};
+mod foreign;
+mod strips;
+
 use std::alloc::Global;
 use std::test::Fail as TestFail;
 use vt_mip::Chain;
 use vt_outside::{Fail, Fails, Folder, MemoryFolder, NoMemory, Place};
 use vt_pages::Geometry;
 use vt_ppm::Image;
+use vt_store::{
+    Store, StoreError, Stores, store_length, tile_columns, tile_length, widen_store, write_store,
+};
 
 const STORE_G4: [u8; 76] = [
     0x56, 0x54, 0x53, 0x31, 0, 0, 0, 4, 0, 0, 0, 4, 0, 0, 0, 2, 0, 0, 0, 1, 1, 1, 4, 4, 4, 5, 5, 5,
@@ -16,21 +19,12 @@ const STORE_G4: [u8; 76] = [
     11, 11, 14, 14, 14, 15, 15, 15, 3, 3, 3, 5, 5, 5, 11, 11, 11, 13, 13, 13,
 ];
 
-fn list_of(alloc: Global, calls: &[Fail]) -> Result<Fails, NoMemory> {
-    let mut fails = Fails::new(alloc);
-    for call in calls {
-        fails.reserve(1)?;
-        fails.push(*call);
-    }
-    Ok(fails)
-}
-
 pub(crate) fn folder_of(
     alloc: Global,
     calls: &[Fail],
     bytes: &[u8],
 ) -> Result<MemoryFolder, NoMemory> {
-    let mut folder = MemoryFolder::new(alloc, list_of(alloc, calls)?);
+    let mut folder = MemoryFolder::new(alloc, Fails::from_slice(alloc, calls)?);
     folder.add("a", bytes)?;
     Ok(folder)
 }

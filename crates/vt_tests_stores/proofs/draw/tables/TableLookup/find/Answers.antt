@@ -1,7 +1,7 @@
 use Rattle.std.proofs.Common.{◌≡◌, ◌<◌, ◌≤◌, max, refl, sym, arith}
 use Rattle.vt_pages.specs.Pages.{level_of, levels_of, ancestor_of}
 use Rattle.vt_pages.proofs.Lines.{ancestor_is_page}
-use Rattle.vt_draw.proofs.tests.tables.TableLookup.find.Goals as goal
+use Rattle.vt_tests_stores.proofs.draw.tables.TableLookup.find.Goals as goal
 
 pub returns-clause-finest : goal.returns-clause-finest
 returns-clause-finest c =
