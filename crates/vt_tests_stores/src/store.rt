@@ -95,6 +95,18 @@ fn image_g4(alloc: Global) -> Result<Image, NoMemory> {
     Ok(Image::new(1, 4, 4, Vec::from_array(alloc, samples)?))
 }
 
+// Makes the name `b` hold the store of two-byte samples that is made of a store of one-byte samples.
+fn widened_of<D: Folder>(
+    alloc: Global,
+    store: &mut Store<D::File>,
+    folder: &mut D,
+) -> Result<(), StoreError> {
+    if store.depth() != 1 {
+        return Err(StoreError::BadMagic);
+    }
+    widen_store(alloc, store, folder, "b")
+}
+
 // Makes the name `b` hold the store of two-byte samples that is made of the store of one-byte samples that `a` holds.
 fn widened<D: Folder>(alloc: Global, folder: &mut D) -> Result<(), StoreError> {
     let file = match folder.open("a") {
@@ -108,11 +120,7 @@ fn widened<D: Folder>(alloc: Global, folder: &mut D) -> Result<(), StoreError> {
             return Err(refusal);
         }
     };
-    let result = if store.depth() == 1 {
-        widen_store(alloc, &mut store, folder, "b")
-    } else {
-        Err(StoreError::BadMagic)
-    };
+    let result = widened_of(alloc, &mut store, folder);
     folder.close(store.into_file());
     result
 }
