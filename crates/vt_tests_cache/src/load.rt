@@ -34,12 +34,7 @@ fn wide_store() -> [u8; 136] {
 
 // A folder whose name `a` holds these bytes, and in which these calls fail.
 fn folder_of(alloc: Global, calls: &[Fail], bytes: &[u8]) -> Result<MemoryFolder, NoMemory> {
-    let mut fails = Fails::new(alloc);
-    for call in calls {
-        fails.reserve(1)?;
-        fails.push(*call);
-    }
-    let mut folder = MemoryFolder::new(alloc, fails);
+    let mut folder = MemoryFolder::new(alloc, Fails::from_slice(alloc, calls)?);
     folder.add("a", bytes)?;
     Ok(folder)
 }
