@@ -6,8 +6,6 @@ mod parse;
 mod paths;
 mod rows;
 mod surfaces;
-#[cfg(test)]
-mod tests;
 mod ways;
 
 pub use laws::{level_is_greatest, level_within_chain, place_within_level, place_within_surface};

@@ -331,6 +331,3 @@ pub fn path_flaw_is_unique()
 pub fn path_has_no_flaw()
     ensures { (text : List ℕ) (path : PathView) (e : PathError) → IsPathText text path → ¬ IsPathFlaw text e }
 {}
-
-#[cfg(test)]
-mod tests;

@@ -10,6 +10,3 @@ pub use depths::{
     words_of_bytes_are_small,
 };
 pub use sides::{level_count_is_least, level_count_is_one, side_is_positive};
-
-#[cfg(test)]
-mod tests;

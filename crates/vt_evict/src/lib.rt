@@ -21,6 +21,3 @@ pub use laws::{
     stamps_give_one_order,
 };
 pub use recency::Recency;
-
-#[cfg(test)]
-mod tests;

@@ -91,6 +91,3 @@ fn add_counts(sums: &mut [u32], counts: &[u32])
         sums[i] += counts[i];
     }
 }
-
-#[cfg(test)]
-mod tests;

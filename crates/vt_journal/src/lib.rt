@@ -33,6 +33,3 @@ pub use parse::JournalError;
 pub use passes::PassText;
 pub use text::{JournalText, parse_journal};
 pub use write::{add_pass, write_head, write_pass};
-
-#[cfg(test)]
-mod tests;

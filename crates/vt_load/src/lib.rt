@@ -9,6 +9,3 @@ mod queued;
 pub use laws::each_request_is_answered_once;
 pub use loader::Loader;
 pub use queued::{QueuedLoader, Queues, collect, deal, take_back};
-
-#[cfg(test)]
-mod tests;

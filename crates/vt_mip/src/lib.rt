@@ -15,8 +15,3 @@ pub use laws::{chain_words_are_small, chains_go_on};
 pub use shrinking::Shrinking;
 pub use strip_chain::StripChain;
 pub use taken_rows::Halving;
-
-#[cfg(test)]
-mod strip_tests;
-#[cfg(test)]
-mod tests;

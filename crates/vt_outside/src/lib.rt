@@ -28,6 +28,3 @@ pub use place::{Place, Point};
 pub use real_file::RealFile;
 pub use real_folder::RealFolder;
 pub use real_sink::RealSink;
-
-#[cfg(test)]
-mod tests;

@@ -318,6 +318,3 @@ impl Geometry {
         self.pages - self.tables.first[unpinned as usize]
     }
 }
-
-#[cfg(test)]
-mod tests;

@@ -20,6 +20,3 @@ pub use still::{
     NoTask, PassKit, StillMachine, StillSampler, StillShared, rounds_are_passes, run_pass,
 };
 pub use task::Task;
-
-#[cfg(test)]
-mod tests;

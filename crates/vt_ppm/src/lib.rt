@@ -25,6 +25,3 @@ pub use picture::{begin_picture, encode, encode_into, encode_wide};
 pub use read::{read_header, read_image};
 pub use strips::StripReader;
 pub use whole::image_flaw;
-
-#[cfg(test)]
-mod tests;

@@ -8,6 +8,3 @@ mod place;
 pub use line::{LINE_ROOM, Line};
 pub use pieces::{put_pieces, tell_pieces};
 pub use place::{Place, tell_bad_input, tell_place};
-
-#[cfg(test)]
-mod tests;

@@ -19,6 +19,3 @@ pub use laws::{
 };
 pub use queue::{Queue, QueuePass};
 pub use views::PassView;
-
-#[cfg(test)]
-mod tests;

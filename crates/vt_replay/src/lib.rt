@@ -21,6 +21,3 @@ pub use walks::{
     journal_tells_its_run, replay_gives_the_walk, replay_gives_the_written_picture,
     replay_gives_what_stands, still_walk_is_of_its_store,
 };
-
-#[cfg(test)]
-mod tests;

@@ -20,8 +20,3 @@ pub use store::{Store, Stores};
 pub use strips::write_strips;
 pub use widen::widen_store;
 pub use write::{tile_columns, write_store};
-
-#[cfg(test)]
-mod strip_tests;
-#[cfg(test)]
-mod tests;

@@ -7,6 +7,3 @@ mod table;
 
 pub use laws::{held_tiles_stay, tile_word_has_its_depth};
 pub use table::StillTable;
-
-#[cfg(test)]
-mod tests;

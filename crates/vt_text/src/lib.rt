@@ -19,6 +19,3 @@ pub enum TextError {
     #[error("number out of range")]
     OutOfRange,
 }
-
-#[cfg(test)]
-mod tests;

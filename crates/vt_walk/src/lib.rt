@@ -38,6 +38,3 @@ pub use settings::{Names, Settings};
 pub use turns::Walked;
 pub use uncounted::walk_with;
 pub use walk::walk_counted;
-
-#[cfg(test)]
-mod tests;

@@ -27,6 +27,3 @@ pub use tile::TileWords;
 pub use trial::TrialWords;
 pub use upgrade::UpgradeWords;
 pub use walk::WalkWords;
-
-#[cfg(test)]
-mod tests;

@@ -64,17 +64,3 @@ impl<F: File> Task for QueuedLoader<F> {
         self.run(rt, &shared.queues, gate);
     }
 }
-
-#[cfg(test)]
-mod tests {
-    use super::*;
-    use vt_outside::MemoryFile;
-
-    // Whether a worker may be lent to a thread is known where this is called.
-    fn may_be_sent<T: Task + Send>() {}
-
-    #[test]
-    fn a_loader_may_work_in_a_thread_of_its_own() {
-        may_be_sent::<QueuedLoader<MemoryFile>>();
-    }
-}

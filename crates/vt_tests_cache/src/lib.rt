@@ -1,0 +1,16 @@
+//! The tests of the crates that make the cache, from the counts of wanted pages to the loaders of tiles. It holds nothing
+//! else, and nothing stands on it: a crate with tests is proved twice, and this one costs nothing beside them.
+#![tactic(auto)]
+
+#[cfg(test)]
+mod evict;
+#[cfg(test)]
+mod feedback;
+#[cfg(test)]
+mod load;
+#[cfg(test)]
+mod queue;
+#[cfg(test)]
+mod sampler;
+#[cfg(test)]
+mod table;

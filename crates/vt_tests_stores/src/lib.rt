@@ -1,0 +1,12 @@
+//! The tests of the crates that make mip chains and tile stores, and of drawing over them. It holds nothing else, and
+//! nothing stands on it: a crate with tests is proved twice, and this one costs nothing beside them.
+#![tactic(auto)]
+
+#[cfg(test)]
+mod draw;
+#[cfg(test)]
+mod fixtures;
+#[cfg(test)]
+mod mip;
+#[cfg(test)]
+mod store;

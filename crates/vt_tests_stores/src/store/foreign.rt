@@ -1,0 +1,86 @@
+//! Bytes that are taken for a store, each with what opening answers: worked out by hand. Each is asked for its header once, and for
+//! nothing else.
+
+use super::{STORE_G4, folder_of, opened, read_of};
+use std::alloc::Global;
+use std::test::Fail as TestFail;
+use vt_outside::NoMemory;
+use vt_store::StoreError;
+
+// The sides, the tile side and the depth of a store, or why it is none.
+type Answer = Result<(u32, u32, u32, u32), StoreError>;
+
+const BAD_MAGIC: Answer = Err(StoreError::BadMagic);
+
+const BAD_GEOMETRY: Answer = Err(StoreError::BadGeometry);
+
+// The answer is that there are so many bytes, and not as many as there are to be.
+fn wrong(want: u64, have: u64) -> Answer {
+    Err(StoreError::WrongLength { want, have })
+}
+
+// Bytes are answered so, by one read of their header.
+fn is_answered(alloc: Global, bytes: &[u8], want: Answer) -> Result<bool, NoMemory> {
+    let mut folder = folder_of(alloc, &[], bytes)?;
+    let is_right = opened(&mut folder, "a") == want;
+    let header = read_of(0, bytes.len().min(16) as u64);
+    Ok(is_right && folder.asked("a", 0) == header && folder.asked("a", 1).is_none())
+}
+
+// The store of G4 with the digit of another magic and with other numbers in its header.
+fn with_header(digit: u8, width: u32, height: u32, tile: u32) -> [u8; 76] {
+    let mut bytes = STORE_G4;
+    bytes[3] = digit;
+    bytes[4..8].copy_from_slice(&width.to_be_bytes());
+    bytes[8..12].copy_from_slice(&height.to_be_bytes());
+    bytes[12..16].copy_from_slice(&tile.to_be_bytes());
+    bytes
+}
+
+#[test]
+fn a_store_that_is_cut_is_refused_by_what_is_left(rt: HostRuntime) -> Result<(), TestFail> {
+    for have in 0..76 {
+        let want = match have {
+            0..4 => BAD_MAGIC,
+            4..16 => wrong(16, have as u64),
+            _ => wrong(76, have as u64),
+        };
+        assert!(rt;
+            is_answered(rt.alloc(), &STORE_G4[..have], want)?,
+            "the first {have} bytes"
+        );
+    }
+    Ok(())
+}
+
+#[test]
+fn each_foreign_header_of_a_store_is_accepted_or_refused(rt: HostRuntime) -> Result<(), TestFail> {
+    let rows = [
+        (b'1', 4, 4, 2, Ok((4, 4, 2, 1))),
+        (b'1', 0, 4, 2, BAD_GEOMETRY),
+        (b'1', 4294967295, 4, 2, BAD_GEOMETRY),
+        (b'1', 16385, 4, 2, BAD_GEOMETRY),
+        (b'1', 4, 4, 256, BAD_GEOMETRY),
+        (b'1', 4, 4, 3, BAD_GEOMETRY),
+        (b'1', 8192, 8192, 2, BAD_GEOMETRY),
+        (b'2', 4, 4, 2, wrong(136, 76)),
+        (b'2', 4, 16385, 2, BAD_GEOMETRY),
+        (b'3', 4, 4, 2, BAD_MAGIC),
+    ];
+    for (digit, width, height, tile, want) in rows {
+        let bytes = with_header(digit, width, height, tile);
+        assert!(rt;
+            is_answered(rt.alloc(), &bytes, want)?,
+            "{digit} {width} {height} {tile}"
+        );
+    }
+    Ok(())
+}
+
+#[test]
+fn a_store_with_a_byte_more_is_refused(rt: HostRuntime) -> Result<(), TestFail> {
+    let mut longer = [0; 77];
+    longer[..76].copy_from_slice(&STORE_G4);
+    assert!(rt; is_answered(rt.alloc(), &longer, wrong(76, 77))?);
+    Ok(())
+}
