@@ -36,8 +36,9 @@ fn write_row<D: Folder>(
     requires height { texels.old.height ≡ side geometry.now.height level }
     requires room { length tiles.old ≡ columns_at geometry.now level * tile_length geometry.now texels.old.depth }
     requires taken { texels.old.taken ≡ strip * geometry.now.tile }
-    ensures whole { OnOk result ((p : ImageView) (src : Source) → IsLevelOf src level p texels.old → D.files folder.new ≡ option_map (with_appended name.now
-        (tiles_bytes geometry.now p.depth src (index_at geometry.now level 0 strip) (columns_at geometry.now level))) (D.files folder.old)) }
+    ensures whole { OnOk result ((p : ImageView) (src : Source) → IsLevelOf src level p texels.old → D.files folder.new
+        ≡ option_map (with_appended name.now (tiles_bytes geometry.now p.depth src (index_at geometry.now level 0 strip)
+        (columns_at geometry.now level))) (D.files folder.old)) }
     ensures part { OnErr result ((p : ImageView) (src : Source) → IsLevelOf src level p texels.old → (k : ℕ) × (D.files folder.new
         ≡ option_map (with_appended name.now (take k (tiles_bytes geometry.now p.depth src (index_at geometry.now level 0 strip)
         (columns_at geometry.now level)))) (D.files folder.old))) }
