@@ -1,5 +1,4 @@
 pub mod Changes
-pub mod Risen
 pub mod Untold
 pub mod Fronts
 pub mod SameLists

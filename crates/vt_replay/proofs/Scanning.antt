@@ -15,16 +15,6 @@ pub record IsScanned (pictures : ℕ) (text : List ℕ) (at number : ℕ) : Type
   pub few : number ≤ at + 1
   pub none : (k : ℕ) (line : List ℕ) → slice_get done k ≡ Some line → BeginsOutside pictures line → ⊥
 
-pub scan_first : (pictures : ℕ) (text : List ℕ) → IsScanned pictures text 0 1
-scan_first pictures text = record {
-  done = [];
-  cut = refl;
-  count = refl;
-  within = omega arith;
-  few = omega arith;
-  none = λ k line is _. cc;
-}
-
 pub scan_more : (pictures : ℕ) (text : List ℕ) (at number end : ℕ) → IsScanned pictures text at number
     → lines_of (drop at text) ≡ take (end - at) (drop at text) ∷ lines_of (drop (end + 1) text) → at ≤ end → end < length text
     → (BeginsOutside pictures (take (end - at) (drop at text)) → ⊥) → IsScanned pictures text (end + 1) (number + 1)

@@ -49,22 +49,6 @@ numbers_kept : (t v : SightView) (page : ℕ) → ((note : Note) → IsTrueOf t 
 numbers_kept t v page on =
     (on (EntryNote (t.version + 1) page (page_number page (entries_of t.entries page))) (refl, λ same _ _. absurd (omega (arith, same)))).0
 
--- a look-up that finds the page that serves another, whose tile is at hand if none was missed
-pub finest_by : (v : SightView) (page : ℕ) (found : Found) → Serves v.shape (entries_of v.entries) page found
-    → (v.missed ≡ false → IsHeld v.slots v.owners found.page) → IsFinest v.shape v.version (IsTrueOf v) page found
-finest_by v page found h held = record {
-  no_finer = h.no_finer;
-  level_inside = h.level_inside;
-  page = h.page;
-  level = h.level;
-  unmapped = λ k low high. (sym (ap (page_number (ancestor_of v.shape page k)) (h.unmapped k low high)), λ same none some. absurd (omega (arith, some)));
-  mapped = (number (entries_of v.entries found.page) h.mapped, λ same none some. held none);
-}
-  where
-    number : (o : Option ℕ) → IsSome o → found.slot + 1 ≡ page_number found.page o
-    number None is = absurd (let e : false ≡ false = refl in cc)
-    number (Some frame) is = ap (λ n. n + 1) h.slot
-
 -- what was said is said once a tile was missed
 pub says_on : (v : SightView) (note : Note) → IsTrueOf v note → IsTrueOf (record v { missed = true }) note
 says_on v (EntryNote version page entry) h = (h.0, λ same none some. absurd (false≢true (sym none)))

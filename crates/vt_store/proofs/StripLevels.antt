@@ -143,9 +143,3 @@ pub next_taken : (s : Shape) (h : Header) (i : ℕ) → h.height ≡ s.height �
 next_taken s h i eh some inside =
     let low = strip_low s i some inside in
     let more : (i + 1) * s.tile ≡ i * s.tile + s.tile = omega arith in omega (arith, low, eh, more)
-
--- and after all of them
-pub last_taken : (s : Shape) (h : Header) (i : ℕ) → h.height ≡ s.height → 1 ≤ s.tile → i ≡ rows_at s 0 → min (i * s.tile) h.height ≡ h.height
-last_taken s h i eh some all =
-    let most = all_taken s some in
-    let e : i * s.tile ≡ rows_at s 0 * s.tile = ap (λ (n : ℕ). n * s.tile) all in omega (arith, most, eh, e)
