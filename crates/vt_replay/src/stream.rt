@@ -34,13 +34,13 @@ fn frames_named(journal: &Journal, most: u32) -> u32
     frames
 }
 
-/// The slots for a journal's tiles: as many as the frames that it names, since no more pages are mapped at a time, and as have
-/// no more texels than the frames of a walk.
+/// The slots for a journal's tiles: as many as the frames that it names, since no more pages are mapped at a time, but not more
+/// than there are pages, and not more than have the texels of a walk's frames.
 pub(crate) fn slots_for(geometry: &Geometry, journal: &Journal) -> u32
     ensures some { 1 ≤ result }
     ensures few { result * (geometry.now.tile * geometry.now.tile) ≤ most_frame_texels }
 {
     let side = geometry.tile();
     let most = MOST_TEXELS / (side * side);
-    frames_named(journal, most)
+    frames_named(journal, most.min(geometry.page_count()))
 }
