@@ -1,10 +1,9 @@
 -- Textures that are opened and looked over, and what is asked of their files.
 use Rattle.std.proofs.Common.{◌≡◌, ℕ, ◌≤◌, List, [], ◌∷◌, ◌++◌, Option, Some, None, Ok, refl, sym, ap, subst, ◌∙◌, inl, inr, append_assoc}
-use Rattle.std.specs.Prelude.{Result, OnSome}
+use Rattle.std.specs.Prelude.{Result, OnSome, unwrap_or}
 use Rattle.std.specs.Option.{option_map, IsSome, IfSome, is_some}
 use Rattle.std.proofs.lemmas.Bool.{false≢true}
 use Rattle.std.proofs.lemmas.List.{append-nil, append_cancel_left}
-use Rattle.std.proofs.Math.Option.{some-injective}
 use Rattle.vt_outside.specs.Files.{Files, Asked, bytes_at, with_places}
 use Rattle.vt_outside.specs.declared.place.Place.{Place}
 use Rattle.vt_ppm.specs.declared.error.PpmError.{PpmError}
@@ -38,7 +37,7 @@ seen told header answer before mid after front behind rows = record {
           pieces = λ may. subst (λ (a : Option (List Place)). ChecksPieces header answer (Some (old ++ (front.front ∷ []))) a) there
               (subst (λ (b : Option (List Place)). ChecksPieces header answer b after) here (rows.pieces may));
           unread = λ never. append_cancel_left (old ++ (front.front ∷ [])) rows.rows.places []
-              (some-injective _ _ (sym there ∙ rows.unread never ∙ here) ∙ sym (append-nil (old ++ (front.front ∷ []))));
+              (ap (λ (told : Option (List Place)). unwrap_or told []) (sym there ∙ rows.unread never ∙ here) ∙ sym (append-nil (old ++ (front.front ∷ []))));
           rows = rows.rows.each;
           are = refl;
         },
