@@ -8,7 +8,20 @@ use Rattle.vtex.specs.Inputs.{Input, Content}
 use Rattle.vtex.specs.Causes.{Cause, MissingName, FlawedInput, cause_status, IsFirstCause, AreHeld, AreAccepted}
 use Rattle.vtex.specs.Tasks.{HasBadInput}
 use Rattle.vtex.specs.Machines.{Drawing}
-use Rattle.vtex.specs.Terms.{Terms, Hindrance, FlawedBeside, ManyTexels, FewFrames, LargePicture, hindrance_status, DoneBy, IsHindered, HasFaultBy, HasBadInputBy, EndsBy}
+use Rattle.vtex.specs.Terms.{
+  Terms,
+  Hindrance,
+  FlawedBeside,
+  ManyTexels,
+  FewFrames,
+  LargePicture,
+  hindrance_status,
+  DoneBy,
+  IsHindered,
+  HasFaultBy,
+  HasBadInputBy,
+  EndsBy,
+}
 use Rattle.vtex.specs.Lines.{memory_line, usage_line, fault_line}
 use Rattle.vtex.specs.Refusals.{status_of, Told, EndTold}
 use Rattle.vtex.specs.Runs.{Asks, AsksNothing, RunDone, RunLeft, RunAsked, RunFault, RunBadInput, RunHindered, RunCaused, RunStopped, RunComplete}

@@ -1,5 +1,29 @@
 -- How a command ends, from what its readers answered and what it left.
-use Rattle.std.proofs.Common.{◌≡◌, ◌⊎◌, ◌≤◌, ◌+◌, List, [], ◌∷◌, ◌++◌, length, Option, Some, Ok, Err, refl, sym, ap, subst, ◌∙◌, inl, inr, append_assoc, length-append, arith}
+use Rattle.std.proofs.Common.{
+  ◌≡◌,
+  ◌⊎◌,
+  ◌≤◌,
+  ◌+◌,
+  List,
+  [],
+  ◌∷◌,
+  ◌++◌,
+  length,
+  Option,
+  Some,
+  Ok,
+  Err,
+  refl,
+  sym,
+  ap,
+  subst,
+  ◌∙◌,
+  inl,
+  inr,
+  append_assoc,
+  length-append,
+  arith,
+}
 use Rattle.std.specs.Option.{option_map, IsSome}
 use Rattle.std.proofs.lemmas.List.{append-nil}
 use Rattle.vt_outside.specs.Counts.{Rose}

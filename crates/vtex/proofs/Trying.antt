@@ -35,7 +35,24 @@ use Rattle.vt_files.specs.Courses.{FolderState, SinkState, Gain, IsUntouched}
 use Rattle.vt_files.specs.Dues.{FailsOnly, Puts}
 use Rattle.vtex.specs.Terms.{Hindrance, FlawedBeside, ManyTexels, FewFrames, LargePicture, IsRefusalBy, EndsBy}
 use Rattle.vtex.specs.Refusals.{cause_of}
-use Rattle.vtex.specs.commands.Trial.{trial_shape, trial_path, trial_settings, trial_setup, trial_line, trial_terms, IsTrial, IsFirstUnfit, HindersTrial, answer_of_trial, IsWalkRefusal, IsTrialRefusal, WalksOver, Compares, TriesOut, beside}
+use Rattle.vtex.specs.commands.Trial.{
+  trial_shape,
+  trial_path,
+  trial_settings,
+  trial_setup,
+  trial_line,
+  trial_terms,
+  IsTrial,
+  IsFirstUnfit,
+  HindersTrial,
+  answer_of_trial,
+  IsWalkRefusal,
+  IsTrialRefusal,
+  WalksOver,
+  Compares,
+  TriesOut,
+  beside,
+}
 use Rattle.vtex.specs.declared.commands.trial.Tried.{Tried}
 use Rattle.vtex.specs.declared.refusal.Refusal.{Refusal}
 use Rattle.vtex.specs.declared.refusal.Refusal.TheVariants.{NoMemory, Usage, Fault, Flawed, TooFewFrames, DoesNotFit}

@@ -1,5 +1,34 @@
 -- How `walk` ends, from what its readers answered and what the walk left.
-use Rattle.std.proofs.Common.{◌≡◌, ◌⊎◌, ℕ, Bool, false, ◌+◌, ◌*◌, ◌<◌, ◌≤◌, List, [], ◌∷◌, ◌++◌, length, Option, Some, None, Ok, Err, refl, sym, ap, ap₂, subst, ◌∙◌, inl, inr, arith}
+use Rattle.std.proofs.Common.{
+  ◌≡◌,
+  ◌⊎◌,
+  ℕ,
+  Bool,
+  false,
+  ◌+◌,
+  ◌*◌,
+  ◌<◌,
+  ◌≤◌,
+  List,
+  [],
+  ◌∷◌,
+  ◌++◌,
+  length,
+  Option,
+  Some,
+  None,
+  Ok,
+  Err,
+  refl,
+  sym,
+  ap,
+  ap₂,
+  subst,
+  ◌∙◌,
+  inl,
+  inr,
+  arith,
+}
 use Rattle.std.specs.Prelude.{Result, MatchResult, IsTrue, true, ◌||◌, sum, unwrap_or}
 use Rattle.std.specs.Option.{option_map, IsSome}
 use Rattle.std.specs.Str.{bytes_eq}
@@ -40,7 +69,27 @@ use Rattle.vtex.specs.Causes.{AreHeld, IsAskedOrNot, AsksSome}
 use Rattle.vtex.specs.Reads.{FileState, OpensStore, Closed, Took, Refused}
 use Rattle.vtex.specs.Tasks.{HasRisen}
 use Rattle.vtex.specs.Terms.{Hindrance, FlawedBeside, ManyTexels, FewFrames, LargePicture, LeftBy, IsHindered, IsRefusalBy, EndsBy}
-use Rattle.vtex.specs.commands.Walk.{WalkOf, contents_of, settings_of, walk_names, walk_given, walk_first, walk_last, HasWalked, HasLeft, frame_texels, walk_pinned, StandsInWay, HindersWalk, walk_inputs, WalkFailed, WalkAsks, IsAnswer, walk_terms, refusal_of_walk}
+use Rattle.vtex.specs.commands.Walk.{
+  WalkOf,
+  contents_of,
+  settings_of,
+  walk_names,
+  walk_given,
+  walk_first,
+  walk_last,
+  HasWalked,
+  HasLeft,
+  frame_texels,
+  walk_pinned,
+  StandsInWay,
+  HindersWalk,
+  walk_inputs,
+  WalkFailed,
+  WalkAsks,
+  IsAnswer,
+  walk_terms,
+  refusal_of_walk,
+}
 use Rattle.vtex.specs.declared.refusal.Refusal.{Refusal}
 use Rattle.vtex.specs.declared.refusal.Refusal.TheVariants.{NoMemory, Usage, Fault, Flawed, TooFewFrames, DoesNotFit}
 use Rattle.vtex.proofs.Ending.{refusal_at}

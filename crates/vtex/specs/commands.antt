@@ -8,7 +8,18 @@ pub mod Replay
 pub mod Walk
 pub mod Trial
 use Rattle.std.specs.Prelude.{◌≡◌, ◌⊎◌, ℕ, List, Option, Some, IsNone, Result, Ok, Err}
-use Rattle.vt_words.specs.Commands.{CommandText, PlainCommand, TileCommand, InfoCommand, GenCommand, UpgradeCommand, ReplayCommand, WalkCommand, TrialCommand, command_text}
+use Rattle.vt_words.specs.Commands.{
+  CommandText,
+  PlainCommand,
+  TileCommand,
+  InfoCommand,
+  GenCommand,
+  UpgradeCommand,
+  ReplayCommand,
+  WalkCommand,
+  TrialCommand,
+  command_text,
+}
 use Rattle.vt_files.specs.Courses.{Course, IsIdle}
 use Rattle.vtex.specs.Machines.{Drawing}
 use Rattle.vtex.specs.Terms.{Terms, task_terms, EndsBy}

@@ -7,7 +7,18 @@ ghost use Rattle.vt_ppm.specs.Reads.{AreImagePlaces};
 ghost use Rattle.vt_ppm.specs.Strips.{HasRasterIfTold, IsTextureHeader, IsTextureIfTold};
 ghost use Rattle.vt_store.specs.StoreViews.{IsStoreIfTold};
 ghost use Rattle.vt_files.specs.Courses.{passage};
-ghost use Rattle.vtex.specs.Inputs.{Input, PathInput, TextureInput, TiledTexture, StoreInput, JournalInput, PathContent, TextureContent, StoreContent, TextContent};
+ghost use Rattle.vtex.specs.Inputs.{
+  Input,
+  PathInput,
+  TextureInput,
+  TiledTexture,
+  StoreInput,
+  JournalInput,
+  PathContent,
+  TextureContent,
+  StoreContent,
+  TextContent,
+};
 ghost use Rattle.vtex.specs.Inputs.{name_of, AsksWhole, AsksHeader, AsksStrips, header_places};
 ghost use Rattle.vtex.specs.Reads.{file_state, visit, Opened, Refused, Visits, IsCausedIn, FindsIn, Finds, Reads, OpensStore, OpensTexture};
 ghost use Rattle.vtex.specs.Reads.{LooksOver, MayLookOver, SeesTexture};

@@ -9,7 +9,19 @@ ghost use Rattle.vt_pages.specs.Shape.{shape_of};
 ghost use Rattle.vt_files.specs.Courses.{FolderState, gain};
 ghost use Rattle.vt_files.specs.Dues.{Puts};
 ghost use Rattle.vtex.specs.Terms.{EndsBy};
-ghost use Rattle.vtex.specs.commands.Trial.{trial_shape, trial_texture, trial_path, trial_line, trial_terms, answer_of_trial, beside, TriesOut, WalksOver, Compares, IsOfTrial};
+ghost use Rattle.vtex.specs.commands.Trial.{
+  trial_shape,
+  trial_texture,
+  trial_path,
+  trial_line,
+  trial_terms,
+  answer_of_trial,
+  beside,
+  TriesOut,
+  WalksOver,
+  Compares,
+  IsOfTrial,
+};
 
 use super::generate::make_row;
 use crate::output::add;
