@@ -36,6 +36,20 @@ pub fn word_at<const DEPTH: u32>(bytes: &[u8], i: usize) -> u64
     }
 }
 
+/// The word of texel `i` of bytes whose samples have `depth` bytes, 1 or 2: as `word_at` at a depth that is not known beforehand.
+#[inline]
+pub fn word_in(bytes: &[u8], depth: u32, i: usize) -> u64
+    requires depth { IsDepth depth }
+    requires inside { texel_length depth * i + texel_length depth ≤ length bytes.now }
+    ensures { result ≡ word_at depth bytes.now i }
+{
+    if depth == 1 {
+        narrow_word(bytes, i)
+    } else {
+        wide_word(bytes, i)
+    }
+}
+
 // The word of texel i of one-byte samples.
 #[inline]
 fn narrow_word(bytes: &[u8], i: usize) -> u64

@@ -6,7 +6,7 @@ mod sides;
 
 pub use depths::{
     bytes_make_their_word, greatest_sample, put_sample, put_word, sample_at, texel_length,
-    texels_are_their_words, texels_with_bytes_have_words, word_at, words_have_their_samples,
-    words_of_bytes_are_small,
+    texels_are_their_words, texels_with_bytes_have_words, word_at, word_in,
+    words_have_their_samples, words_of_bytes_are_small,
 };
 pub use sides::{level_count_is_least, level_count_is_one, side_is_positive};

@@ -1,5 +1,5 @@
 -- A row of a picture that is drawn over a look-up of pages.
-use Rattle.std.specs.Prelude.{◌≡◌, ℕ, ◌+◌, ◌<◌, ◌==◌, List, length, slice_index}
+use Rattle.std.specs.Prelude.{◌≡◌, ℕ, ◌+◌, ◌<◌, ◌==◌, if◌then◌else◌, List, length, slice_index}
 use Rattle.std.specs.List.{range_with_len, count_by}
 use Rattle.vt_definitions.specs.Depths.{texel_bytes, word_bytes}
 use Rattle.vt_pages.specs.Shape.{Shape}
@@ -26,6 +26,10 @@ wanted_page s row x = covering_page s (row_level row) (row_place row x).0 (row_p
 -- how many of the first n pixels of a row want page p (Mayer 2010)
 unfoldable pub pixels_wanting : Shape → RowView → ℕ → ℕ → ℕ
 pixels_wanting s row n p = count_by (λ x. wanted_page s row x == p) (range_with_len 0 n)
+
+-- how many pixels of a run that want one page want page p
+unfoldable pub run_of : ℕ → ℕ → ℕ → ℕ
+run_of page run p = if page == p then run else 0
 
 -- the place in its page's tile of the texel of a level that pixel x of a row shows (van Waveren 2012)
 abbrev pub drawn_place : Shape → RowView → ℕ → ℕ → ℕ

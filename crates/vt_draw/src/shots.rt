@@ -4,7 +4,7 @@ ghost use Rattle.std.specs.Prelude.{◌≡◌, ℕ, ◌+◌, ◌*◌, ◌<◌, �
 ghost use Rattle.vt_definitions.specs.Depths.{IsDepth, texel_length};
 ghost use Rattle.vt_pages.specs.Pages.{pages_of, IsWithinLimits};
 ghost use Rattle.vt_draw.specs.Lookups.{Note};
-ghost use Rattle.vt_draw.specs.Shots.{paged_surface, shot_row, AreDrawn, AreCounted};
+ghost use Rattle.vt_draw.specs.Shots.{paged_surface, shot_row, run_of, AreDrawn, AreCounted};
 
 use crate::lookups::Lookup;
 use crate::pixels::{found_for, page_at_place, word_at_place};
@@ -73,6 +73,32 @@ pub fn draw_row<K: Lookup>(lookup: &mut K, shot: &Shot, y: u32, out: &mut [u8], 
     }
 }
 
+// Adds a run of pixels that want a page to the page's count.
+fn add_run(counts: &mut [u32], page: u32, run: u32)
+    requires page { page < length counts.old }
+    requires room { slice_index counts.old page + run < 2 ^ 32 }
+    ensures added { (p : ℕ) → slice_index counts.new p ≡ slice_index counts.old p + run_of page run p }
+{
+    counts[page as usize] += run;
+}
+
+// Counts a pixel: one that wants the page of the pixel before it makes that page's run longer, and any other begins a run.
+#[inline]
+fn count_pixel(counts: &mut [u32], before: u32, run: u32, page: u32) -> u32
+    requires before { before < length counts.old }
+    requires room { slice_index counts.old before + run < 2 ^ 32 }
+    requires short { run + 1 < 2 ^ 32 }
+    ensures counted { (p : ℕ) → slice_index counts.new p + run_of page result p
+        ≡ slice_index counts.old p + run_of before run p + run_of page 1 p }
+    ensures short { result ≤ run + 1 }
+{
+    if page == before {
+        return run + 1;
+    }
+    add_run(counts, before, run);
+    1
+}
+
 // Draws row `y` of a picture whose samples have DEPTH bytes.
 fn draw_pixels<K: Lookup, const DEPTH: u32>(
     lookup: &mut K,
@@ -103,13 +129,15 @@ fn draw_pixels<K: Lookup, const DEPTH: u32>(
     let (column, line) = row.texel(0);
     let mut wanted = page_at_place(geometry, level, column, line);
     let mut found = lookup.find(wanted);
+    let mut run = 0;
     for x in 0..shot.path.width() {
         let (column, line) = row.texel(x);
         let page = page_at_place(geometry, level, column, line);
         found = found_for(lookup, wanted, found, page);
+        run = count_pixel(counts, wanted, run, page);
         wanted = page;
         let word = word_at_place(lookup, &found, level, column, line);
         put_word::<DEPTH>(out, x as usize, word);
-        counts[page as usize] += 1;
     }
+    add_run(counts, wanted, run);
 }

@@ -10,8 +10,9 @@ ghost use Rattle.vt_replay.specs.Sights.{SightView, IsSight, IsTrueOf, IsIn, Ser
 
 use crate::noted::Noted;
 use crate::table::PageTable;
-use crate::tiles::{Tiles, word_in};
+use crate::tiles::Tiles;
 use std::marker::Model;
+use vt_definitions::word_in;
 use vt_draw::{Found, Lookup};
 use vt_pages::Geometry;
 

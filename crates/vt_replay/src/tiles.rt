@@ -2,7 +2,7 @@
 
 ghost use Rattle.std.specs.Prelude.{◌≡◌, ◌≢◌, ℕ, ◌+◌, ◌*◌, ◌<◌, ◌≤◌, ◌^◌, List, Option, Some, length, IfSome, IfOk, OnOk, IsErr, MatchOption};
 ghost use Rattle.vt_definitions.specs.Limits.{most_frame_texels};
-ghost use Rattle.vt_definitions.specs.Depths.{IsDepth, texel_length, word_at};
+ghost use Rattle.vt_definitions.specs.Depths.{IsDepth};
 ghost use Rattle.vt_outside.specs.Counts.{Rose};
 ghost use Rattle.vt_outside.specs.Files.{IsPiece};
 ghost use Rattle.vt_pages.specs.Pages.{pages_of};
@@ -15,7 +15,6 @@ ghost use Rattle.vt_replay.specs.Sights.{row_of, IsIn, IsHeld, IsTileOf, AreTile
 use crate::noted::Noted;
 use lru::LruCache;
 use std::alloc::Global;
-use vt_definitions::word_at;
 use vt_outside::{File, NoMemory, OutsideError};
 use vt_pages::Geometry;
 use vt_store::{Store, tile_length};
@@ -112,38 +111,6 @@ fn put_entry(numbers: &mut [u32], at: u32, entry: u32)
     ensures { entries_of numbers.new ≡ with_entry (entries_of numbers.old) at (Some entry) }
 {
     numbers[at as usize] = entry + 1;
-}
-
-/// The word of a texel of a tile.
-#[inline]
-pub(crate) fn word_in(tile: &[u8], depth: u32, place: usize) -> u64
-    requires depth { IsDepth depth }
-    requires inside { texel_length depth * place + texel_length depth ≤ length tile.now }
-    ensures { result ≡ word_at depth tile.now place }
-{
-    if depth == 1 {
-        narrow_word(tile, place)
-    } else {
-        wide_word(tile, place)
-    }
-}
-
-// The word of a texel of one-byte samples.
-#[inline]
-fn narrow_word(tile: &[u8], place: usize) -> u64
-    requires { 3 * place + 3 ≤ length tile.now }
-    ensures { result ≡ word_at 1 tile.now place }
-{
-    word_at::<1>(tile, place)
-}
-
-// The word of a texel of two-byte samples.
-#[inline]
-fn wide_word(tile: &[u8], place: usize) -> u64
-    requires { 6 * place + 6 ≤ length tile.now }
-    ensures { result ≡ word_at 2 tile.now place }
-{
-    word_at::<2>(tile, place)
 }
 
 // Makes a slot the most recently used one.

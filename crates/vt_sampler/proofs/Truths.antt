@@ -5,8 +5,10 @@ use Rattle.vt_draw.specs.Lookups.{Note, EntryNote, WordNote}
 use Rattle.vt_draw.specs.Shots.{AreDrawn}
 use Rattle.vt_camera.specs.Rows.{RowView}
 use Rattle.vt_journal.specs.Changes.{newest}
-use Rattle.vt_table.specs.Views.{TableView, word_in}
-use Rattle.vt_sampler.specs.Notes.{entry_number, IsTrueOf}
+use Rattle.vt_definitions.specs.Depths.{word_at}
+use Rattle.vt_table.specs.Views.{TableView, word_in, tile_word}
+use Rattle.vt_table.proofs.TileWords.{word_is}
+use Rattle.vt_sampler.specs.Notes.{entry_number, IsTrueOf, IsFound}
 
 pub entry_some : (o : Option ℕ) (frame : ℕ) → frame + 1 ≡ entry_number o → o ≡ Some frame
 entry_some None frame e = absurd (omega arith)
@@ -47,3 +49,8 @@ drawn_by_more s d version n says more row bytes on drawn x inside =
       read = on _ h.read;
       shown = h.shown;
     }
+
+-- a word of the tile that was found is the table's
+pub found_word : (v : TableView) (frame depth place : ℕ) (tile : List ℕ) → IsFound v frame depth tile → word_at depth tile place ≡ word_in v frame place
+found_word v frame depth place tile h =
+    sym (word_is v.shape depth tile place h.side h.full) ∙ ap (λ (t : List ℕ). tile_word v.shape t place) h.is

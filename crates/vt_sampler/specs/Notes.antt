@@ -1,9 +1,10 @@
 -- What is true of a still page table.
-use Rattle.std.specs.Prelude.{◌≡◌, ℕ, ◌+◌, Option, Some, None, IsSome, length}
+use Rattle.std.specs.Prelude.{◌≡◌, ℕ, ◌+◌, ◌*◌, ◌≤◌, List, Option, Some, None, IsSome, length}
+use Rattle.vt_definitions.specs.Depths.{IsDepth, texel_length}
 use Rattle.vt_pages.specs.Pages.{root_of}
 use Rattle.vt_draw.specs.Lookups.{Note, EntryNote, WordNote}
 use Rattle.vt_journal.specs.Changes.{newest}
-use Rattle.vt_table.specs.Views.{TableView, IsMapped, word_in}
+use Rattle.vt_table.specs.Views.{TableView, IsMapped, tile_of, word_in}
 
 -- the entry of a page: 0 where it is unmapped, and else its frame and 1
 abbrev pub entry_number : Option ℕ → ℕ
@@ -19,3 +20,11 @@ IsTrueOf v (WordNote version frame place word) =
 -- the newest version maps the root
 abbrev pub MapsRoot : TableView → Type 0
 MapsRoot v = IsSome (newest v.changes (root_of v.shape))
+
+-- the frame of a mapped page, the bytes of its tile, and how many bytes a sample of it has
+pub record IsFound (v : TableView) (frame depth : ℕ) (tile : List ℕ) : Type 0 where
+  pub mapped : IsMapped (newest v.changes) frame
+  pub is : tile ≡ tile_of v frame
+  pub depth_is : IsDepth depth
+  pub full : length tile ≡ texel_length depth * (v.shape.tile * v.shape.tile)
+  pub side : 1 ≤ v.shape.tile

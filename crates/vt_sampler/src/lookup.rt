@@ -5,10 +5,11 @@ ghost use Rattle.vt_pages.specs.Shape.{Shape, tile_exponent};
 ghost use Rattle.vt_pages.specs.Pages.{pages_of, index_of, IsPage, IsWithinLimits};
 ghost use Rattle.vt_journal.specs.Changes.{newest};
 ghost use Rattle.vt_draw.specs.Lookups.{IsFinest, place_in_tile};
-ghost use Rattle.vt_table.specs.Views.{TableView};
+ghost use Rattle.vt_table.specs.Views.{TableView, IsMapped, word_in};
 ghost use Rattle.vt_sampler.specs.Notes.{IsTrueOf, MapsRoot};
 
 use std::marker::Model;
+use vt_definitions::word_in;
 use vt_draw::{Found, Lookup};
 use vt_pages::{Geometry, PageName};
 use vt_table::StillTable;
@@ -19,21 +20,43 @@ use vt_table::StillTable;
 pub struct StillLookup<'a> {
     table: &'a StillTable,
     geometry: &'a Geometry,
+    // The frame that was found last, its tile, and how many bytes a sample of it has.
+    slot: u32,
+    tile: Option<&'a [u8]>,
+    depth: u32,
 }
 
 impl<'a> Model for StillLookup<'a> {
-    ghost use Rattle.std.specs.Prelude.{◌≡◌};
+    ghost use Rattle.std.specs.Prelude.{◌≡◌, IfSome};
     ghost use Rattle.vt_table.specs.Views.{TableView};
-    ghost use Rattle.vt_sampler.specs.Notes.{MapsRoot};
+    ghost use Rattle.vt_sampler.specs.Notes.{MapsRoot, IsFound};
 
     ghost Value = { TableView };
 
     ghost view = { λ l. l.table.now };
 
-    ghost invariant = { λ l. (l.table.now.shape ≡ l.geometry.now) × MapsRoot l.table.now };
+    ghost invariant = { λ l. (l.table.now.shape ≡ l.geometry.now) × MapsRoot l.table.now
+        × IfSome l.tile (λ tile. IsFound l.table.now l.slot l.depth tile.now) };
 }
 
 impl<'a> StillLookup<'a> {
+    // The word at a place of the tile of a frame that a page is mapped to, which is mostly the frame that was found last.
+    #[inline]
+    #[tactic(auto, using(crate::proofs::Truths::found_word))]
+    fn word(&self, frame: u32, place: u32) -> u64
+        requires mapped { IsMapped (newest self.now.changes) frame }
+        requires inside { place < self.now.shape.tile * self.now.shape.tile }
+        ensures { result ≡ word_in self.now frame place }
+    {
+        if frame != self.slot {
+            return self.table.word(frame, place);
+        }
+        match self.tile {
+            Some(tile) => word_in(tile, self.depth, place as usize),
+            None => self.table.word(frame, place),
+        }
+    }
+
     /// The look-up over a table, which maps the root, and the geometry of its pages. It takes no memory.
     #[inline]
     pub fn new(table: &'a StillTable, geometry: &'a Geometry) -> StillLookup<'a>
@@ -41,7 +64,13 @@ impl<'a> StillLookup<'a> {
         requires root { MapsRoot table.now }
         ensures { result ≡ table.now }
     {
-        StillLookup { table, geometry }
+        StillLookup {
+            table,
+            geometry,
+            slot: 0,
+            tile: None,
+            depth: 1,
+        }
     }
 }
 
@@ -105,11 +134,16 @@ impl Lookup for StillLookup<'_> {
 
     #[inline]
     fn find(&mut self, page: u32) -> Found {
-        finest_mapped(self.table, self.geometry, page)
+        let found = finest_mapped(self.table, self.geometry, page);
+        let (tile, depth) = self.table.tile(found.slot);
+        self.slot = found.slot;
+        self.tile = Some(tile);
+        self.depth = depth;
+        found
     }
 
     #[inline]
     fn texel(&mut self, found: &Found, x: u32, y: u32) -> u64 {
-        self.table.word(found.slot, place_of(self.geometry, x, y))
+        self.word(found.slot, place_of(self.geometry, x, y))
     }
 }

@@ -2,7 +2,8 @@
 use Rattle.std.proofs.Common.{◌≡◌, ◌≢◌, ℕ, ◌+◌, ◌*◌, ◌≤◌, ◌<◌, inl, inr, Some, None, List, [], ◌∷◌, ◌++◌, length, get_or, set, drop, refl, sym, ap, ◌∙◌, subst, arith, length-set, get_or-set_other, get_or-set_same}
 use Rattle.std.proofs.lemmas.Nat.{mul-le}
 use Rattle.vt_definitions.specs.Limits.{most_frames}
-use Rattle.vt_definitions.specs.Depths.{word_at}
+use Rattle.vt_definitions.specs.Depths.{texel_length}
+use Rattle.std.specs.Prelude.{slice_range}
 use Rattle.vt_pages.specs.Shape.{Shape}
 use Rattle.vt_pages.specs.Pages.{pages_of, IsWithinLimits}
 use Rattle.vt_journal.specs.declared.changes.Change.{Change}
@@ -10,10 +11,9 @@ use Rattle.vt_journal.specs.declared.changes.Change.TheVariants.{Map, Unmap}
 use Rattle.vt_journal.specs.Changes.{Table, newest, changed, nothing_mapped, IsFree, IsLegalNext, AreLegal}
 use Rattle.vt_journal.specs.Kept.{entry_of, entries_of}
 use Rattle.vt_journal.proofs.Versions.{newest-none, newest-more, legal-none, legal-more, in_turn-legal, one_to_one, same_page, entry-other, mapped_after_map, mapped_after_unmap}
-use Rattle.vt_table.specs.Views.{TableView, IsTable, IsTile, IsWithin, IsReady, filled_for, filled_after, word_in, tile_word}
-use Rattle.vt_table.specs.Kept.{room_of, tile_in, view_of, IsKept}
-use Rattle.vt_table.proofs.Rooms.{tiles_at, tile_length, word_in_room}
-use Rattle.vt_table.proofs.TileWords.{word_is}
+use Rattle.vt_table.specs.Views.{TableView, IsTable, IsTile, IsWithin, IsReady, filled_for, filled_after, tile_of}
+use Rattle.vt_table.specs.Kept.{tile_in, view_of, room_of, IsKept}
+use Rattle.vt_table.proofs.Rooms.{tiles_at}
 
 -- the depth of a tile, from its length
 pub depth_of_length : (s : Shape) (tile : List ℕ) (room d : ℕ) (h : IsTile s tile) → 1 ≤ s.tile → room ≡ room_of s.tile
@@ -221,17 +221,13 @@ kept_new s js n room frames entries bytes depths owners limits empty some few is
     nowhere : (p f : ℕ) → newest js p ≡ Some f → ⊥
     nowhere p f e = let none : newest js p ≡ None = ap (λ (l : List Change). newest l p) empty ∙ newest-none p in let s : None ≡ Some f = sym none ∙ e in cc
 
--- a word of a frame's tile, read from what is kept
-pub word_kept : (s : Shape) (js : List Change) (n room frame place d : ℕ) (entries bytes depths owners : List ℕ)
-    → IsKept (view_of s js n bytes depths owners) room entries bytes depths → frame < length owners → place < s.tile * s.tile
-    → d ≡ get_or depths frame 0 → d ≤ 2
-    → word_at d (drop (frame * room) bytes) place ≡ word_in (view_of s js n bytes depths owners) frame place
-word_kept s js n room frame place d entries bytes depths owners k inside low is most =
-    let least : 2 ≤ s.tile = k.table.limits.least_tile in
-    let all : length bytes ≡ length owners * room_of s.tile = k.all_bytes ∙ ap (λ r. length owners * r) k.room_is in
-    let whole = mul-le d (3 * (place + 1)) d (3 * (s.tile * s.tile)) (omega arith) (omega arith) in
-    ap (λ r. word_at d (drop (frame * r) bytes) place) k.room_is
-    ∙ sym (word_in_room s.tile bytes d frame place (omega (arith, whole)) (omega (arith, whole)) (omega (arith, whole)))
-    ∙ sym (word_is s d (tile_in s.tile bytes d frame) place (omega arith) (tile_length s.tile bytes d (length owners) frame inside all most))
-    ∙ ap (λ (t : List ℕ). tile_word s t place)
-    (ap (λ e. tile_in s.tile bytes e frame) is ∙ sym (tiles_at s.tile bytes depths (length owners) frame inside))
+-- the bytes of a frame's tile, as they are read from the frames' rooms
+pub tile_read : (s : Shape) (js : List Change) (n room frame d size : ℕ) (entries bytes depths owners : List ℕ)
+    → IsKept (view_of s js n bytes depths owners) room entries bytes depths → frame < length owners
+    → d ≡ get_or depths frame 0 → size ≡ texel_length d * (s.tile * s.tile)
+    → slice_range bytes (frame * room) (frame * room + size) ≡ tile_of (view_of s js n bytes depths owners) frame
+unfolding tile_in
+tile_read s js n room frame d size entries bytes depths owners k inside is full =
+    ap (λ z. slice_range bytes (frame * room) (frame * room + z)) full
+    ∙ ap (λ r. slice_range bytes (frame * r) (frame * r + texel_length d * (s.tile * s.tile))) k.room_is
+    ∙ ap (λ e. tile_in s.tile bytes e frame) is ∙ sym (tiles_at s.tile bytes depths (length owners) frame inside)

@@ -7,9 +7,8 @@ use Rattle.std.proofs.lemmas.Nat.{mul-le}
 use Rattle.std.proofs.lemmas.Bool.{cases_lt}
 use Rattle.std.proofs.lemmas.Slice.{take-put_mid_below, drop-put_mid}
 use borrow.Rule.Slice.PartMut.{put_mid}
-use Rattle.vt_definitions.specs.Depths.{texel_length, word_at}
+use Rattle.vt_definitions.specs.Depths.{texel_length}
 use Rattle.vt_table.specs.Kept.{room_of, tile_in, tiles_in}
-use Rattle.vt_table.proofs.TileWords.{word_at-take}
 
 -- what stands before a piece that is written
 pub before_mid : (at k : ℕ) (xs ys : List ℕ) (i j : ℕ) → at ≤ length xs → i ≤ j → j ≤ at → slice_range (put_mid at k xs ys) i j ≡ slice_range xs i j
@@ -73,17 +72,6 @@ tile_length side bytes d frames f inside all most =
     ap (λ n. length (take n (drop (f * room_of side) bytes))) cut
     ∙ length-take-le (texel_length d * (side * side)) (drop (f * room_of side) bytes)
     (omega (arith, length-drop (f * room_of side) bytes, tile_fits d side most))
-
--- a word of a frame's tile, read from its room
-pub word_in_room : (side : ℕ) (bytes : List ℕ) (d f i : ℕ)
-    → d * (3 * i) + d ≤ texel_length d * (side * side) → d * (3 * i + 1) + d ≤ texel_length d * (side * side)
-    → d * (3 * i + 2) + d ≤ texel_length d * (side * side)
-    → word_at d (tile_in side bytes d f) i ≡ word_at d (drop (f * room_of side) bytes) i
-unfolding tile_in
-word_in_room side bytes d f i a b c =
-    let cut : f * room_of side + texel_length d * (side * side) - f * room_of side ≡ texel_length d * (side * side) = omega arith in
-    ap (λ n. word_at d (take n (drop (f * room_of side) bytes)) i) cut
-    ∙ word_at-take d (texel_length d * (side * side)) i (drop (f * room_of side) bytes) a b c
 
 -- a tile was written into the room of a frame
 pub record IsWritten (side frame d : ℕ) (old new tile : List ℕ) : Type 0 where

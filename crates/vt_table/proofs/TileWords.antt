@@ -20,19 +20,3 @@ pub word_is : (s : Shape) (d : ℕ) (tile : List ℕ) (place : ℕ) → 1 ≤ s.
     → tile_word s tile place ≡ word_at d tile place
 unfolding tile_word
 word_is s d tile place some full = ap (λ n. word_at n tile place) (depth_is s d tile some full)
-
--- a number in a front part
-number_from-take : (l : List ℕ) (m at n : ℕ) → at + n ≤ m → number_from (take m l) at n ≡ number_from l at n
-number_from-take l m at zero h = refl
-number_from-take l m at (suc n) h =
-    let here : get_or (take m l) (at + n) 0 ≡ get_or l (at + n) 0 = get_or-take m l (at + n) 0 (omega arith) in
-    let rest : number_from (take m l) at n ≡ number_from l at n = number_from-take l m at n (omega arith) in
-    rw (rest, here) refl
-
-pub word_at-take : (d m i : ℕ) (l : List ℕ) → d * (3 * i) + d ≤ m → d * (3 * i + 1) + d ≤ m → d * (3 * i + 2) + d ≤ m
-    → word_at d (take m l) i ≡ word_at d l i
-word_at-take d m i l a b c =
-    let red = number_from-take l m (d * (3 * i)) d a in
-    let green = number_from-take l m (d * (3 * i + 1)) d b in
-    let blue = number_from-take l m (d * (3 * i + 2)) d c in
-    rw (red, green, blue) refl

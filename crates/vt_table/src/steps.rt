@@ -2,13 +2,11 @@
 
 ghost use Rattle.std.specs.Prelude.{◌≡◌, ◌≢◌, ℕ, ◌+◌, ◌*◌, ◌<◌, ◌≤◌, ◌^◌, length, slice_index, slice_range};
 ghost use Rattle.vt_definitions.specs.Limits.{most_frames};
-ghost use Rattle.vt_definitions.specs.Depths.{IsDepth, texel_length, word_at};
 ghost use Rattle.vt_journal.specs.Changes.{changed};
 ghost use Rattle.vt_journal.specs.Lookups.{change_page};
 ghost use Rattle.vt_journal.specs.Kept.{entries_of, change_frame};
 ghost use Rattle.vt_table.specs.Views.{filled_after};
 
-use vt_definitions::word_at;
 use vt_journal::Change;
 
 /// Writes a tile at a place of the frames' bytes.
@@ -49,22 +47,4 @@ pub(crate) fn free_owner(owners: &mut [u32], change: Change)
     if let Change::Unmap { page: _, frame } = change {
         owners[frame as usize] = 0;
     }
-}
-
-// The word of a texel of bytes whose samples have one byte.
-#[inline]
-pub(crate) fn narrow_word(bytes: &[u8], i: usize) -> u64
-    requires { 3 * i + 3 ≤ length bytes.now }
-    ensures { result ≡ word_at 1 bytes.now i }
-{
-    word_at::<1>(bytes, i)
-}
-
-// The word of a texel of bytes whose samples have two bytes.
-#[inline]
-pub(crate) fn wide_word(bytes: &[u8], i: usize) -> u64
-    requires { 6 * i + 6 ≤ length bytes.now }
-    ensures { result ≡ word_at 2 bytes.now i }
-{
-    word_at::<2>(bytes, i)
 }

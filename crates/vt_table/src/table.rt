@@ -2,13 +2,15 @@
 
 ghost use Rattle.std.specs.Prelude.{◌≡◌, ◌≢◌, ℕ, ◌+◌, ◌*◌, ◌<◌, ◌≤◌, Some, List, [], ◌∷◌, ◌++◌, length, IfOk, OnOk, OnErr};
 ghost use Rattle.vt_definitions.specs.Limits.{most_frames, most_frame_texels, most_versions};
+ghost use Rattle.vt_definitions.specs.Depths.{IsDepth, texel_length};
 ghost use Rattle.vt_pages.specs.Pages.{pages_of};
 ghost use Rattle.vt_journal.specs.Changes.{newest, nothing_mapped, IsFree, IsLegalNext};
 ghost use Rattle.vt_table.specs.Views.{TableView, tile_of, filled_for, filled_after, IsReady, IsWithin, IsMapped, IsTile, word_in, IsTable};
 
-use crate::steps::{depth_in, free_owner, narrow_word, put_entry, put_tile, wide_word};
+use crate::steps::{depth_in, free_owner, put_entry, put_tile};
 use std::alloc::Global;
 use std::marker::Model;
+use vt_definitions::{texel_length, word_in};
 use vt_journal::{Change, Journal};
 use vt_outside::NoMemory;
 use vt_pages::Geometry;
@@ -156,6 +158,22 @@ impl StillTable {
         }
     }
 
+    /// The bytes of the tile of a frame that a page is mapped to, with which it was last filled, and how many bytes a sample of it
+    /// has, 1 or 2. Texels go row by row.
+    #[inline]
+    pub fn tile(&self, frame: u32) -> (&[u8], u32)
+        requires mapped { IsMapped (newest self.now.changes) frame }
+        ensures tile { result.0.now ≡ tile_of self.now frame }
+        ensures depth { IsDepth result.1 }
+        ensures full { length result.0.now ≡ texel_length result.1 * (self.now.shape.tile * self.now.shape.tile) }
+        ensures side { 1 ≤ self.now.shape.tile }
+    {
+        let side = self.geometry.tile() as usize;
+        let depth = u32::from(self.depths[frame as usize]);
+        let at = frame as usize * self.room;
+        (&self.bytes[at..at + texel_length(depth) * (side * side)], depth)
+    }
+
     /// The texel word at a place of the tile of a frame that a page is mapped to, with which it was last filled. Places go
     /// row by row.
     #[inline]
@@ -164,11 +182,7 @@ impl StillTable {
         requires inside { place < self.now.shape.tile * self.now.shape.tile }
         ensures word { result ≡ word_in self.now frame place }
     {
-        let room = &self.bytes[frame as usize * self.room..];
-        if self.depths[frame as usize] == 1 {
-            narrow_word(room, place as usize)
-        } else {
-            wide_word(room, place as usize)
-        }
+        let (tile, depth) = self.tile(frame);
+        word_in(tile, depth, place as usize)
     }
 }

@@ -2,7 +2,7 @@ use Rattle.std.proofs.Common.{◌≡◌, ℕ, ◌<◌, length, subst, sym, ◌�
 use Rattle.vt_draw.specs.Lookups.{IsFinest}
 use Rattle.vt_definitions.specs.Depths.{texel_bytes}
 use Rattle.vt_draw.specs.Shots.{wanted_page, IsDrawn}
-use Rattle.vt_draw.proofs.Counts.{pixels-none, pixels-most, counted-more}
+use Rattle.vt_draw.proofs.Counts.{run-none, run-own, pixels-none, pixels-most, pixels-next}
 use Rattle.vt_draw.proofs.DrawnPixels.{finest_moved, drawn-more, wanted_is, read_is}
 use Rattle.vt_draw.proofs.shots.draw_pixels.Goals as goal
 
@@ -13,17 +13,30 @@ loop-x-init g c = record {
   said = c.find-found.ensures.said;
   finest = c.find-found.ensures.finest;
   drawn = λ i none. absurd (omega arith);
-  counted = λ p below. omega (arith, pixels-none c.args.shot.now.geometry.now c.row_of-row.result p);
+  inside = omega arith;
+  short = omega arith;
+  counted = λ p. omega (arith, run-none c.page_at_place-wanted.result p, pixels-none c.args.shot.now.geometry.now c.row_of-row.result p);
 }
 
-pub overflow_add-counts : goal.overflow_add-counts
-overflow_add-counts g c =
-    let page = c.page_at_place-page.result in
-    let below : page < length c.args.counts.now = omega arith in
+pub count_pixel-run-requires-clause-room : goal.count_pixel-run-requires-clause-room
+count_pixel-run-requires-clause-room g c =
+    let page = c.loop-x.wanted in
     omega (
       arith,
-      c.loop-x.invariant.counted page below,
-      c.requires.room page below,
+      c.loop-x.invariant.counted page,
+      run-own page c.loop-x.run,
+      c.requires.room page c.loop-x.invariant.inside,
+      pixels-most c.args.shot.now.geometry.now c.row_of-row.result c.loop-x.x page,
+    )
+
+pub add_run-requires-clause-room : goal.add_run-requires-clause-room
+add_run-requires-clause-room g c =
+    let page = c.loop-x.wanted in
+    omega (
+      arith,
+      c.loop-x.invariant.counted page,
+      run-own page c.loop-x.run,
+      c.requires.room page c.loop-x.invariant.inside,
       pixels-most c.args.shot.now.geometry.now c.row_of-row.result c.loop-x.x page,
     )
 
@@ -61,7 +74,6 @@ loop-x-preserved g c =
           shape number here.ensures.column here.ensures.row c.word_at_place-word.ensures.read;
       shown = c.put_word.ensures.written;
     } in
-    let below : page < length c.loop-x.counts = omega arith in
     record {
       shape = shape;
       version = number;
@@ -69,5 +81,7 @@ loop-x-preserved g c =
       finest = finest;
       drawn = drawn-more s g.row.DEPTH version (g.K.Lookup.says c.loop-x.lookup) (g.K.Lookup.says last) row x c.loop-x.out c.put_word.new.bytes
           (λ note h. c.word_at_place-word.ensures.said note (c.found_for-found.ensures.said note h)) c.put_word.ensures.kept drawn c.loop-x.invariant.drawn;
-      counted = counted-more s row x page c.args.counts.now c.loop-x.counts wants below c.loop-x.invariant.counted;
+      inside = omega arith;
+      short = omega (arith, c.count_pixel-run.ensures.short);
+      counted = λ p. omega (arith, c.count_pixel-run.ensures.counted p, c.loop-x.invariant.counted p, pixels-next s row x page p wants);
     }

@@ -1,10 +1,10 @@
-use Rattle.std.proofs.Common.{◌≡◌, ℕ, ◌+◌, ◌<◌, length, slice_index}
+use Rattle.std.proofs.Common.{◌≡◌, ℕ, ◌+◌, ◌<◌, ◌≤◌, length, slice_index}
 use Rattle.vt_draw.specs.Lookups.{Note, IsFinest}
 use Rattle.vt_definitions.specs.Depths.{texel_bytes}
-use Rattle.vt_draw.specs.Shots.{pixels_wanting, IsDrawn}
+use Rattle.vt_draw.specs.Shots.{pixels_wanting, run_of, IsDrawn}
 use Rattle.vt_draw.proofs.shots.draw_pixels.Given as goal
 
--- the pixels so far are drawn and counted, and the look-up stands for what was found for the last of them
+-- the pixels so far are drawn, and counted but for the last run, and the look-up stands for what was found for the last of them
 abbrev pub invariant-loop-x : goal.invariant-loop-x
 invariant-loop-x g l = record {
   shape : g.K.Lookup.shape l.lookup ≡ l.geometry;
@@ -13,5 +13,7 @@ invariant-loop-x g l = record {
   finest : IsFinest (g.K.Lookup.shape l.lookup) (g.K.Lookup.version l.lookup) (g.K.Lookup.says l.lookup) l.wanted l.found;
   drawn : (i : ℕ) → i < l.x → IsDrawn l.geometry g.row.DEPTH (g.K.Lookup.version l.fn.lookup) (g.K.Lookup.says l.lookup) l.row i
       (texel_bytes g.row.DEPTH l.out i);
-  counted : (p : ℕ) → p < length l.fn.counts → slice_index l.counts p ≡ slice_index l.fn.counts p + pixels_wanting l.geometry l.row l.x p;
+  inside : l.wanted < length l.fn.counts;
+  short : l.run ≤ l.x;
+  counted : (p : ℕ) → slice_index l.counts p + run_of l.wanted l.run p ≡ slice_index l.fn.counts p + pixels_wanting l.geometry l.row l.x p;
 }
