@@ -1,6 +1,7 @@
 //! The ranks by which std's sort puts wanted pages into their order.
 
-ghost use Rattle.std.specs.Prelude.{◌≡◌, ℕ, ◌-◌, ◌<◌, ◌≤◌, length, IfOk, map, slice_index};
+ghost use Rattle.std.specs.Prelude.{◌≡◌, ℕ, ◌-◌, ◌<◌, ◌≤◌, length, IfOk, OnOk, map, slice_index};
+ghost use Rattle.std.specs.Bool.{MatchBool};
 ghost use Rattle.vt_pages.specs.Pages.{pages_of};
 ghost use Rattle.vt_feedback.specs.Ranks.{most_pixels, ranks_below, wanted_by};
 
@@ -20,14 +21,36 @@ pub struct Rank {
     pub page: u32,
 }
 
-/// The ranks of the pages that a pixel wants, by rising index.
-pub fn ranks_of(alloc: Global, geometry: &Geometry, counts: &[u32]) -> Result<Vec<Rank>, NoMemory>
-    requires { length counts.now ≡ pages_of geometry.now }
-    ensures ranks { IfOk result (λ r. r.items ≡ ranks_below geometry.now counts.now (length counts.now)) }
-    ensures most { (p : ℕ) → slice_index counts.now p ≤ most_pixels }
+// How many pages are passed over together where no pixel wants one of them.
+const BLOCK: u32 = 32;
+
+// Whether no pixel wants one of some pages.
+fn are_unwanted(counts: &[u32]) -> bool
+    requires { length counts.now ≤ 32 }
+    ensures { MatchBool result ((p : ℕ) → p < length counts.now → slice_index counts.now p ≡ 0) (Unit {0}) }
 {
-    let mut ranks = Vec::new(alloc);
-    for page in 0..geometry.page_count() {
+    let mut pixels = 0;
+    for i in 0..counts.len() {
+        pixels += u64::from(counts[i]);
+    }
+    pixels == 0
+}
+
+// Adds the ranks of the pages from one on up to another that a pixel wants to those of the pages before them.
+fn add_ranks(
+    ranks: &mut Vec<Rank>,
+    geometry: &Geometry,
+    counts: &[u32],
+    first: u32,
+    end: u32,
+) -> Result<(), NoMemory>
+    requires pages { length counts.now ≡ pages_of geometry.now }
+    requires order { first ≤ end }
+    requires inside { end ≤ pages_of geometry.now }
+    requires before { ranks.old.items ≡ ranks_below geometry.now counts.now first }
+    ensures { OnOk result (ranks.new.items ≡ ranks_below geometry.now counts.now end) }
+{
+    for page in first..end {
         let pixels = counts[page as usize];
         if pixels > 0 {
             ranks.push(Rank {
@@ -36,6 +59,26 @@ pub fn ranks_of(alloc: Global, geometry: &Geometry, counts: &[u32]) -> Result<Ve
                 page,
             })?;
         }
+    }
+    Ok(())
+}
+
+/// The ranks of the pages that a pixel wants, by rising index. Most pages of a large texture are wanted by none, and are passed over
+/// in blocks.
+pub fn ranks_of(alloc: Global, geometry: &Geometry, counts: &[u32]) -> Result<Vec<Rank>, NoMemory>
+    requires { length counts.now ≡ pages_of geometry.now }
+    ensures ranks { IfOk result (λ r. r.items ≡ ranks_below geometry.now counts.now (length counts.now)) }
+    ensures most { (p : ℕ) → slice_index counts.now p ≤ most_pixels }
+{
+    let mut ranks = Vec::new(alloc);
+    let pages = geometry.page_count();
+    let mut first = 0;
+    while first < pages {
+        let end = first + BLOCK.min(pages - first);
+        if !are_unwanted(&counts[first as usize..end as usize]) {
+            add_ranks(&mut ranks, geometry, counts, first, end)?;
+        }
+        first = end;
     }
     Ok(ranks)
 }

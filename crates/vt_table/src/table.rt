@@ -171,7 +171,10 @@ impl StillTable {
         let side = self.geometry.tile() as usize;
         let depth = u32::from(self.depths[frame as usize]);
         let at = frame as usize * self.room;
-        (&self.bytes[at..at + texel_length(depth) * (side * side)], depth)
+        (
+            &self.bytes[at..at + texel_length(depth) * (side * side)],
+            depth,
+        )
     }
 
     /// The texel word at a place of the tile of a frame that a page is mapped to, with which it was last filled. Places go
