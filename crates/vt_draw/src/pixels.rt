@@ -17,7 +17,7 @@ pub(crate) fn page_at_place(geometry: &Geometry, level: u32, column: u32, line: 
     ensures inside { result < pages_of geometry.now }
 {
     let _levels = geometry.levels();
-    geometry.page_of_texel(level, column >> level, line >> level)
+    geometry.page_of_place(level, column, line)
 }
 
 // What a look-up finds for a page, given what it found for the page of the pixel before.

@@ -66,10 +66,12 @@ pub fn draw_row<K: Lookup>(lookup: &mut K, shot: &Shot, y: u32, out: &mut [u8], 
     ensures version { K.version lookup.new ≡ K.version lookup.old }
     ensures shape { K.shape lookup.new ≡ K.shape lookup.old }
 {
+    let row = row_of(shot, y);
+    let columns = shot.path.width();
     if shot.depth == 1 {
-        draw_pixels::<K, 1>(lookup, shot, y, out, counts);
+        draw_pixels::<K, 1>(lookup, shot.geometry, row, columns, out, counts);
     } else {
-        draw_pixels::<K, 2>(lookup, shot, y, out, counts);
+        draw_pixels::<K, 2>(lookup, shot.geometry, row, columns, out, counts);
     }
 }
 
@@ -99,38 +101,38 @@ fn count_pixel(counts: &mut [u32], before: u32, run: u32, page: u32) -> u32
     1
 }
 
-// Draws row `y` of a picture whose samples have DEPTH bytes.
+// Draws so many pixels of a row of a picture whose samples have DEPTH bytes. It takes the row by value, for then no write can be one
+// to the row's numbers.
+#[inline(never)]
 fn draw_pixels<K: Lookup, const DEPTH: u32>(
     lookup: &mut K,
-    shot: &Shot,
-    y: u32,
+    geometry: &Geometry,
+    row: Row,
+    columns: u32,
     out: &mut [u8],
     counts: &mut [u32],
 )
     requires depth { IsDepth DEPTH }
-    requires picture { shot.now.picture < length shot.now.path.now.cameras }
-    requires within { y < shot.now.path.now.height }
-    requires bytes { length out.old ≡ texel_length DEPTH * shot.now.path.now.width }
-    requires pages { length counts.old ≡ pages_of shot.now.geometry.now }
-    requires room { (p : ℕ) → p < length counts.old → slice_index counts.old p + shot.now.path.now.width < 2 ^ 32 }
-    requires shape { K.shape lookup.old ≡ shot.now.geometry.now }
-    ensures drawn { let row = shot_row shot.now.geometry.now shot.now.path.now shot.now.picture y in
-        AreDrawn shot.now.geometry.now DEPTH (K.version lookup.new) (K.says lookup.new) row
-        shot.now.path.now.width out.new }
-    ensures counted { let row = shot_row shot.now.geometry.now shot.now.path.now shot.now.picture y in
-        AreCounted shot.now.geometry.now row shot.now.path.now.width counts.old counts.new }
+    requires limits { IsWithinLimits geometry.now }
+    requires surface { row.surface ≡ paged_surface geometry.now }
+    requires some { 1 ≤ columns }
+    requires width { columns ≤ row.width }
+    requires bytes { length out.old ≡ texel_length DEPTH * columns }
+    requires pages { length counts.old ≡ pages_of geometry.now }
+    requires room { (p : ℕ) → p < length counts.old → slice_index counts.old p + columns < 2 ^ 32 }
+    requires shape { K.shape lookup.old ≡ geometry.now }
+    ensures drawn { AreDrawn geometry.now DEPTH (K.version lookup.new) (K.says lookup.new) row columns out.new }
+    ensures counted { AreCounted geometry.now row columns counts.old counts.new }
     ensures said { (note : Note) → K.says lookup.old note → K.says lookup.new note }
     ensures version { K.version lookup.new ≡ K.version lookup.old }
     ensures shape { K.shape lookup.new ≡ K.shape lookup.old }
 {
-    let geometry = shot.geometry;
-    let row = row_of(shot, y);
     let level = row.level();
     let (column, line) = row.texel(0);
     let mut wanted = page_at_place(geometry, level, column, line);
     let mut found = lookup.find(wanted);
     let mut run = 0;
-    for x in 0..shot.path.width() {
+    for x in 0..columns {
         let (column, line) = row.texel(x);
         let page = page_at_place(geometry, level, column, line);
         found = found_for(lookup, wanted, found, page);

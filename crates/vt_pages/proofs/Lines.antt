@@ -1,6 +1,7 @@
 -- The line of a page reaches the root, and follows a place from level to level.
 use Rattle.std.proofs.Common.{◌≡◌, ℕ, zero, suc, ◌+◌, ◌-◌, ◌/◌, ◌^◌, ◌<◌, ◌≤◌, true, false, Some, None, length, get_or, refl, sym, ap, ◌∙◌, subst, add-zero, arith}
 use Rattle.std.proofs.Math.Nat.{div-div-eq-div-mul, div-one, mul_comm, pow-suc}
+use Rattle.std.proofs.lemmas.Nat.{pow-add}
 use Rattle.std.proofs.lemmas.Bool.Decides.{nat_tests}
 use Rattle.std.specs.Prelude.{◌==◌}
 use Rattle.vt_definitions.specs.Sides.{side}
@@ -220,6 +221,18 @@ ancestor_code s p k n e from within = rw (e, name_at-level) (sym (ancestor_at_le
 pub texel_shift : (s : Shape) (k x y shift : ℕ) → s.tile ≡ 2 ^ shift → index_at s k (x / 2 ^ shift) (y / 2 ^ shift) ≡ texel_page s k x y
 unfolding texel_page
 texel_shift s k x y shift e = rw e refl
+
+-- what is halved so many times and then cut into tiles
+pub cut_at : (x k shift t : ℕ) → t ≡ 2 ^ shift → x / 2 ^ (k + shift) ≡ x / 2 ^ k / t
+cut_at x k shift t e = ap (λ n. x / n) (pow-add 2 k shift) ∙ sym (div-div-eq-div-mul x (2 ^ k) (2 ^ shift)) ∙ ap (λ n. x / 2 ^ k / n) (sym e)
+
+-- the page of the texel over a place
+pub texel_is : (s : Shape) (k x y shift : ℕ) → s.tile ≡ 2 ^ shift
+    → index_at s k (x / 2 ^ (k + shift)) (y / 2 ^ (k + shift)) ≡ texel_page s k (x / 2 ^ k) (y / 2 ^ k)
+unfolding texel_page
+texel_is s k x y shift e =
+    ap (λ n. index_at s k n (y / 2 ^ (k + shift))) (cut_at x k shift s.tile e)
+    ∙ ap (λ n. index_at s k (x / 2 ^ k / s.tile) n) (cut_at y k shift s.tile e)
 
 -- the parent by its name
 pub parent_code : (s : Shape) (p : ℕ) (n : PageName) → n ≡ name_at s p → n.level + 1 < levels_of s

@@ -5,7 +5,7 @@
 //! page is the place of one tile. Pages are numbered from level 0 on, and within a level row by row.
 #![tactic(auto)]
 
-ghost use Rattle.std.specs.Prelude.{◌≡◌, ℕ, ◌+◌, ◌-◌, ◌*◌, ◌/◌, ◌%◌, ◌<◌, ◌≤◌, ◌↔◌, ◌&&◌, IfOk, IfErr, IfSome, IsNone, OnOk};
+ghost use Rattle.std.specs.Prelude.{◌^◌, ◌≡◌, ℕ, ◌+◌, ◌-◌, ◌*◌, ◌/◌, ◌%◌, ◌<◌, ◌≤◌, ◌↔◌, ◌&&◌, IfOk, IfErr, IfSome, IsNone, OnOk};
 ghost use Rattle.vt_definitions.specs.Sides.{side};
 ghost use Rattle.vt_pages.specs.Shape.{shape_of, is_texture_side};
 ghost use Rattle.vt_pages.specs.Pages.{IsPage, IsPageAt, IsWithinLimits, columns_at, rows_at, pages_below, index_at, index_of, name_at, level_of, levels_of, pages_of, parent_of, ancestor_of, texel_page, pinned_of, refusal_of};
@@ -301,6 +301,17 @@ impl Geometry {
         ensures tiles { TilesHoldPlaces self.now }
     {
         self.index_at(level, x >> self.shift, y >> self.shift)
+    }
+
+    /// The page of the texel of a level that covers the place in column `x` and row `y` of level 0.
+    #[inline]
+    pub fn page_of_place(&self, level: u32, x: u32, y: u32) -> u32
+        requires { IsInside self.now level (x / 2 ^ level) (y / 2 ^ level) }
+        ensures page { result ≡ texel_page self.now level (x / 2 ^ level) (y / 2 ^ level) }
+        ensures inside { result < pages_of self.now }
+    {
+        let up = level + self.shift;
+        self.index_at(level, x >> up, y >> up)
     }
 
     /// How many pages the last `n` levels have, or all levels where there are fewer. They are the last so

@@ -104,7 +104,8 @@ fn found_at(table: &StillTable, geometry: &Geometry, name: &PageName) -> Option<
     })
 }
 
-// The finest page that a table maps of a page and its ancestors.
+// The finest page that a table maps of a page and its ancestors. It is called once for a run of pixels, and keeps out of their loop.
+#[inline(never)]
 fn finest_mapped(table: &StillTable, geometry: &Geometry, page: u32) -> Found
     requires shape { table.now.shape ≡ geometry.now }
     requires root { MapsRoot table.now }

@@ -1,5 +1,5 @@
 use Rattle.vt_draw.proofs.Places.{place_inside}
 use Rattle.vt_draw.proofs.pixels.page_at_place.Goals as goal
 
-pub page_of_texel-requires : goal.page_of_texel-requires
-page_of_texel-requires c = place_inside c.args.geometry.now c.args.level c.args.column c.args.line c.requires.level c.requires.column c.requires.line
+pub page_of_place-requires : goal.page_of_place-requires
+page_of_place-requires c = place_inside c.args.geometry.now c.args.level c.args.column c.args.line c.requires.level c.requires.column c.requires.line

@@ -15,7 +15,7 @@ loop-x-init g c = record {
   drawn = λ i none. absurd (omega arith);
   inside = omega arith;
   short = omega arith;
-  counted = λ p. omega (arith, run-none c.page_at_place-wanted.result p, pixels-none c.args.shot.now.geometry.now c.row_of-row.result p);
+  counted = λ p. omega (arith, run-none c.page_at_place-wanted.result p, pixels-none c.args.geometry.now c.args.row p);
 }
 
 pub count_pixel-run-requires-clause-room : goal.count_pixel-run-requires-clause-room
@@ -26,7 +26,7 @@ count_pixel-run-requires-clause-room g c =
       c.loop-x.invariant.counted page,
       run-own page c.loop-x.run,
       c.requires.room page c.loop-x.invariant.inside,
-      pixels-most c.args.shot.now.geometry.now c.row_of-row.result c.loop-x.x page,
+      pixels-most c.args.geometry.now c.args.row c.loop-x.x page,
     )
 
 pub add_run-requires-clause-room : goal.add_run-requires-clause-room
@@ -37,13 +37,13 @@ add_run-requires-clause-room g c =
       c.loop-x.invariant.counted page,
       run-own page c.loop-x.run,
       c.requires.room page c.loop-x.invariant.inside,
-      pixels-most c.args.shot.now.geometry.now c.row_of-row.result c.loop-x.x page,
+      pixels-most c.args.geometry.now c.args.row c.loop-x.x page,
     )
 
 pub loop-x-preserved : goal.loop-x-preserved
 loop-x-preserved g c =
-    let s = c.args.shot.now.geometry.now in
-    let row = c.row_of-row.result in
+    let s = c.args.geometry.now in
+    let row = c.args.row in
     let x = c.loop-x.x in
     let page = c.page_at_place-page.result in
     let found = c.found_for-found.result in
