@@ -2,11 +2,10 @@
 
 ghost use Rattle.std.specs.Prelude.{◌≡◌, ℕ, ◌+◌, ◌*◌, ◌/◌, ◌%◌, ◌<◌, ◌≤◌, ◌⊎◌, List, length, IfOk};
 ghost use Rattle.vt_definitions.specs.Depths.{IsDepth, texel_length};
-ghost use Rattle.vt_definitions.specs.Limits.{most_tiled_side};
 ghost use Rattle.vt_outside.specs.Files.{IsPiece};
 ghost use Rattle.vt_ppm.specs.Image.{ImageView, IsLawfulImage};
 ghost use Rattle.vt_mip.specs.Halves.{IsHalf};
-ghost use Rattle.vt_mip.specs.InPlace.{ShrinksFront, IsShrunk};
+ghost use Rattle.vt_mip.specs.InPlace.{IsRoomFor, IsShrunk, ShrinksFront};
 
 use crate::halving::halve_rows;
 use std::alloc::Global;
@@ -39,25 +38,26 @@ impl Model for Shrinking {
         (length h.row.items) };
 }
 
-// Halves a pair of rows, or an odd last row, where the pairs before it are halved.
-fn halve_pair(
+// How many bytes a sample of an image has, and how many texels its sides have.
+#[derive(Clone, Copy)]
+struct Sizes {
     depth: u32,
     width: usize,
     height: usize,
-    pair: usize,
-    samples: &mut [u8],
-    row: &mut [u8],
-)
-    requires depth { IsDepth depth }
-    requires some_columns { 1 ≤ width }
-    requires few_columns { width ≤ most_tiled_side }
-    requires some_rows { 1 ≤ height }
-    requires few_rows { height ≤ most_tiled_side }
-    requires inside { pair < (height + 1) / 2 }
-    requires whole { length samples.old ≡ texel_length depth * (width * height) }
-    requires room { length row.old ≡ texel_length depth * ((width + 1) / 2) }
-    ensures { (source : List ℕ) → IsShrunk depth source width height pair samples.old → IsShrunk depth source width height (pair + 1) samples.new }
+}
+
+// Halves a pair of rows, or an odd last row, where the pairs before it are halved.
+fn halve_pair(sizes: Sizes, pair: usize, samples: &mut [u8], row: &mut [u8])
+    requires room { IsRoomFor sizes.depth sizes.width sizes.height (length samples.old) (length row.old) }
+    requires inside { pair < (sizes.height + 1) / 2 }
+    ensures { (source : List ℕ) → IsShrunk sizes.depth source sizes.width sizes.height pair samples.old
+        → IsShrunk sizes.depth source sizes.width sizes.height (pair + 1) samples.new }
 {
+    let Sizes {
+        depth,
+        width,
+        height,
+    } = sizes;
     let size = texel_length(depth) * width;
     let half_size = texel_length(depth) * ((width + 1) / 2);
     let top = size * (2 * pair);
@@ -74,28 +74,15 @@ fn halve_pair(
 }
 
 // Halves so many pairs of rows behind those that are halved.
-fn halve_pairs(
-    depth: u32,
-    width: usize,
-    height: usize,
-    first: usize,
-    end: usize,
-    samples: &mut [u8],
-    row: &mut [u8],
-)
-    requires depth { IsDepth depth }
-    requires some_columns { 1 ≤ width }
-    requires few_columns { width ≤ most_tiled_side }
-    requires some_rows { 1 ≤ height }
-    requires few_rows { height ≤ most_tiled_side }
+fn halve_pairs(sizes: Sizes, first: usize, end: usize, samples: &mut [u8], row: &mut [u8])
+    requires room { IsRoomFor sizes.depth sizes.width sizes.height (length samples.old) (length row.old) }
     requires order { first ≤ end }
-    requires inside { end ≤ (height + 1) / 2 }
-    requires whole { length samples.old ≡ texel_length depth * (width * height) }
-    requires room { length row.old ≡ texel_length depth * ((width + 1) / 2) }
-    ensures { (source : List ℕ) → IsShrunk depth source width height first samples.old → IsShrunk depth source width height end samples.new }
+    requires inside { end ≤ (sizes.height + 1) / 2 }
+    ensures { (source : List ℕ) → IsShrunk sizes.depth source sizes.width sizes.height first samples.old
+        → IsShrunk sizes.depth source sizes.width sizes.height end samples.new }
 {
     for pair in first..end {
-        halve_pair(depth, width, height, pair, samples, row);
+        halve_pair(sizes, pair, samples, row);
     }
 }
 
@@ -156,10 +143,13 @@ impl Shrinking {
     {
         let first = self.taken as usize / 2;
         self.taken += count;
+        let sizes = Sizes {
+            depth: self.depth,
+            width: self.width as usize,
+            height: self.height as usize,
+        };
         halve_pairs(
-            self.depth,
-            self.width as usize,
-            self.height as usize,
+            sizes,
             first,
             (self.taken as usize + 1) / 2,
             self.samples.as_mut_slice(),

@@ -1,5 +1,5 @@
 -- The words for what a count of faults, or of refused puts, did in a call. A count has 64 bits; at the end of its type it stands still.
-use Rattle.std.specs.Prelude.{◌≡◌, ℕ, ◌+◌, ◌-◌, ◌^◌, ◌<◌, ◌≤◌, ◌⊎◌, IsTrue, nat_le, List, min, sum}
+use Rattle.std.specs.Prelude.{ℕ, ◌+◌, ◌-◌, ◌^◌, ◌≤◌, ◌⊎◌, IsTrue, nat_le, List, min, sum}
 use Rattle.std.specs.List.{list_any}
 
 -- where a count stands still
@@ -21,8 +21,3 @@ Rose = RoseBy 1
 -- several counts rose together by at least so many: their sum is so much greater, or one of them has come to the end of its type
 abbrev pub RoseTogetherBy : ℕ → List ℕ → List ℕ → Type 0
 RoseTogetherBy n before after = (sum before + n ≤ sum after) ⊎ IsTrue (list_any (nat_le count_end) after)
-
--- the count is the same, and not at the end of its type
-pub record NoFault (before after : ℕ) : Type 0 where
-  pub same : after ≡ before
-  pub below_end : after < count_end

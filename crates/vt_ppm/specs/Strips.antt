@@ -100,12 +100,12 @@ abbrev pub piece_count : Header → ℕ → ℕ
 piece_count h i = min (piece_rows h) (h.height - i * piece_rows h)
 
 -- what a reader knows of its file: the header, that the raster is there, and, once they were looked over, the samples; and it has
--- room for a piece
+-- room for a piece, where pieces will be read
 pub record IsStripReader (told : Option (List ℕ)) (h : Header) (checked : Bool) (space : ℕ) : Type 0 where
   pub header : IsTextureHeader h
   pub raster : HasRasterIfTold told h
   pub samples : checked ≡ true → HasSamplesIfTold told h
-  pub room : space ≡ piece_rows h * row_length h
+  pub room : MayBeOver h → space ≡ piece_rows h * row_length h
 
 -- the place of a piece
 abbrev pub piece_place : Header → Bool → ℕ → Place

@@ -37,11 +37,24 @@ impl<F: File> Model for StripReader<F> {
     ghost invariant = { λ s. IsStripReader (F.bytes s.file) s.header s.checked (length s.buffer.items) };
 }
 
-// The header of a texture, and room for as many rows as are looked over at once.
+// How long the room is in which the rows of a texture are looked over: as many as are at once, or none where nothing will be read.
+fn room_length(header: &Header) -> usize
+    requires { IsTextureHeader header.now }
+    ensures some { MayBeOver header.now → result ≡ piece_rows header.now * row_length header.now }
+    ensures none { (MayBeOver header.now → ⊥) → result ≡ 0 }
+{
+    if !may_be_over(header) {
+        return 0;
+    }
+    piece_rows(header) as usize * row_length(header)
+}
+
+// The header of a texture, and room to look its rows over.
 fn opened<F: File>(alloc: Global, file: &mut F) -> Result<(Header, Vec<u8>), PpmError>
     ensures limits { IfOk result (λ o. IsTextureHeader o.0) }
     ensures raster { IfOk result (λ o. HasRasterIfTold (F.bytes file.old) o.0) }
-    ensures room { IfOk result (λ o. length o.1.items ≡ piece_rows o.0 * row_length o.0) }
+    ensures room { IfOk result (λ o. MayBeOver o.0 → length o.1.items ≡ piece_rows o.0 * row_length o.0) }
+    ensures none { IfOk result (λ o. (MayBeOver o.0 → ⊥) → length o.1.items ≡ 0) }
     ensures flaw { IfErr result (λ e. (IsOutsideRefusal e → ⊥) → IfSome (F.bytes file.old) (λ b. IsHeaderFlaw b e)) }
     ensures no_sample { IfErr result (λ e. IsSampleRefusal e → ⊥) }
     ensures failed { IsErrOf result PpmError.Failed → Rose (F.faults file.old) (F.faults file.new) }
@@ -52,8 +65,7 @@ fn opened<F: File>(alloc: Global, file: &mut F) -> Result<(Header, Vec<u8>), Ppm
     ensures faults { F.faults file.old ≤ F.faults file.new }
 {
     let header = read_texture_header(alloc, file)?;
-    let length = piece_rows(&header) as usize * row_length(&header);
-    let buffer = vec![in alloc; 0u8; length].map_err(|_| PpmError::NoMemory)?;
+    let buffer = vec![in alloc; 0u8; room_length(&header)].map_err(|_| PpmError::NoMemory)?;
     Ok((header, buffer))
 }
 
@@ -125,7 +137,7 @@ fn look_over_pieces<F: File>(
 fn look_over<F: File>(file: &mut F, header: &Header, buffer: &mut [u8]) -> Result<(), PpmError>
     requires header { IsTextureHeader header.now }
     requires raster { HasRasterIfTold (F.bytes file.old) header.now }
-    requires size { length buffer.old ≡ piece_rows header.now * row_length header.now }
+    requires size { MayBeOver header.now → length buffer.old ≡ piece_rows header.now * row_length header.now }
     requires spare { header.now.height ≤ F.spare file.old }
     ensures few { OnOk result (HasSamplesIfTold (F.bytes file.old) header.now) }
     ensures flaw { IfErr result (λ e. IsSampleRefusal e → IfSome (F.bytes file.old) (λ b. IsHeaderFlaw b e)) }

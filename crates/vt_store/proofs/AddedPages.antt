@@ -1,5 +1,5 @@
 -- What a name holds while the tiles of pages are added to it.
-use Rattle.std.proofs.Common.{◌≡◌, ℕ, ◌+◌, ◌-◌, ◌≤◌, ◌⊎◌, inr, true, Option, Some, None, List, ◌++◌, length, take, refl, sym, ap, ◌∙◌, subst, arith, append_assoc}
+use Rattle.std.proofs.Common.{◌≡◌, ℕ, ◌+◌, ◌-◌, ◌≤◌, Option, Some, None, List, ◌++◌, length, take, refl, sym, ap, ◌∙◌, subst, arith, append_assoc}
 use Rattle.std.proofs.lemmas.List.{append-nil}
 use Rattle.std.specs.Prelude.{option_map, flat_map}
 use Rattle.std.specs.List.{range_with_len}
@@ -10,7 +10,7 @@ use Rattle.vt_mip.specs.Chains.{ChainView, chain_texel}
 use Rattle.vt_pages.specs.Shape.{Shape}
 use Rattle.vt_pages.specs.Pages.{pages_of}
 use Rattle.vt_store.specs.Format.{header_bytes, tile_bytes, tiles_bytes, store_bytes}
-use Rattle.vt_store.specs.ChainStores.{AddsPages, AddsPart, chain_store, level_source}
+use Rattle.vt_store.specs.ChainStores.{AddsPages, AddsPart, chain_store}
 use Rattle.vt_store.proofs.Spans.{span_add}
 use Rattle.vt_store.proofs.WideStores.{named}
 
@@ -79,26 +79,19 @@ there_bytes name done before after e = subst (λ (f : Option Files). IsThere f n
   held None = tt
   held (Some f) = rw (named name) refl
 
-all_levels : (c : ChainView) → level_source c 0 ≡ chain_texel c
-all_levels c = λ i k. chain_texel c (same k i) where
-  same : (k : ℕ) → k - 0 ≡ k
-  same k = omega arith
-
 -- the tiles of all pages behind the header
 pub whole_store : (c : ChainView) (s : Shape) (d : ℕ) (name : List ℕ) (f0 f1 f2 : Option Files) → d ≡ c.base.depth
-    → f1 ≡ option_map (with_bytes name (header_bytes s d)) f0 → AddsPages s c.base.depth (level_source c 0) 0 (pages_of s) name f1 f2
+    → f1 ≡ option_map (with_bytes name (header_bytes s d)) f0 → AddsPages s c.base.depth (chain_texel c) 0 (pages_of s) name f1 f2
     → f2 ≡ option_map (with_bytes name (chain_store c s)) f0
 unfolding store_bytes
 whole_store c s d name f0 f1 f2 deep begun adds =
     let e : pages_of s - 0 ≡ pages_of s = omega arith in
     adds.held f0 (header_bytes s d) begun
-    ∙ ap (λ (n : ℕ). option_map (with_bytes name (header_bytes s n ++ tiles_bytes s c.base.depth (level_source c 0) 0 (pages_of s - 0))) f0) deep
-    ∙ ap (λ (n : ℕ). option_map (with_bytes name (header_bytes s c.base.depth ++ tiles_bytes s c.base.depth (level_source c 0) 0 n)) f0) e
-    ∙ ap (λ (src : Source). option_map (with_bytes name (header_bytes s c.base.depth ++ tiles_bytes s c.base.depth src 0 (pages_of s))) f0)
-    (all_levels c)
+    ∙ ap (λ (n : ℕ). option_map (with_bytes name (header_bytes s n ++ tiles_bytes s c.base.depth (chain_texel c) 0 (pages_of s - 0))) f0) deep
+    ∙ ap (λ (n : ℕ). option_map (with_bytes name (header_bytes s c.base.depth ++ tiles_bytes s c.base.depth (chain_texel c) 0 n)) f0) e
 
 pub part_store : (c : ChainView) (s : Shape) (d : ℕ) (name : List ℕ) (f0 f1 f2 : Option Files) → d ≡ c.base.depth
-    → f1 ≡ option_map (with_bytes name (header_bytes s d)) f0 → AddsPart s c.base.depth (level_source c 0) 0 name f1 f2
+    → f1 ≡ option_map (with_bytes name (header_bytes s d)) f0 → AddsPart s c.base.depth (chain_texel c) 0 name f1 f2
     → (k : ℕ) × (f2 ≡ option_map (with_bytes name (take k (chain_store c s))) f0)
 unfolding store_bytes
 part_store c s d name f0 f1 f2 deep begun adds =
@@ -106,10 +99,8 @@ part_store c s d name f0 f1 f2 deep begun adds =
     let head : List ℕ = header_bytes s c.base.depth in (
       length head + adds.part,
       adds.held f0 (header_bytes s d) begun
-          ∙ ap (λ (n : ℕ). option_map (with_bytes name (header_bytes s n ++ take adds.part (tiles_bytes s c.base.depth (level_source c 0) 0
+          ∙ ap (λ (n : ℕ). option_map (with_bytes name (header_bytes s n ++ take adds.part (tiles_bytes s c.base.depth (chain_texel c) 0
           (pages_of s - 0)))) f0) deep
-          ∙ ap (λ (n : ℕ). option_map (with_bytes name (head ++ take adds.part (tiles_bytes s c.base.depth (level_source c 0) 0 n))) f0) e
-          ∙ ap (λ (src : Source). option_map (with_bytes name (head ++ take adds.part (tiles_bytes s c.base.depth src 0 (pages_of s)))) f0)
-          (all_levels c)
+          ∙ ap (λ (n : ℕ). option_map (with_bytes name (head ++ take adds.part (tiles_bytes s c.base.depth (chain_texel c) 0 n))) f0) e
           ∙ ap (λ l. option_map (with_bytes name l) f0) (front_of_two head (tiles_bytes s c.base.depth (chain_texel c) 0 (pages_of s)) adds.part),
     )

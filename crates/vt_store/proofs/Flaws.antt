@@ -25,9 +25,6 @@ other_test n m h = grind (arith, nat_tests)
 test_same : (n m : ℕ) → (n == m) ≡ true → n ≡ m
 test_same n m h = grind (arith, nat_tests)
 
-test_long : (n m : ℕ) → nat_lt n m ≡ false → m ≤ n
-test_long n m h = grind (arith, nat_tests)
-
 pub magic_flaw : (head : List ℕ) (n : ℕ) → has_magic head ≡ false → flaw_of head n ≡ Some BadMagic
 unfolding flaw_of
 magic_flaw head n other = rw other refl

@@ -3,10 +3,9 @@ use Rattle.std.proofs.Common.{◌≡◌, ℕ, suc, ◌+◌, ◌-◌, ◌*◌, �
 use Rattle.std.specs.Prelude.{option_map, Result, Ok, Err, IsErrOf}
 use Rattle.std.specs.Result.{IsErrAnd}
 use Rattle.std.proofs.lemmas.Nat.{mul-le}
-use Rattle.vt_definitions.specs.Depths.{AreBytes, texel_length, word_bytes}
+use Rattle.vt_definitions.specs.Depths.{AreBytes, texel_length}
 use Rattle.vt_definitions.specs.Sides.{side}
 use Rattle.vt_definitions.specs.Texels.{Source}
-use Rattle.vt_definitions.proofs.Levels.{level_count_least}
 use Rattle.vt_outside.specs.Files.{Files, IsPiece, IsThere, with_appended, with_bytes}
 use Rattle.vt_outside.specs.declared.answers.OutsideError.{OutsideError}
 use Rattle.vt_ppm.specs.Image.{ImageView, IsLawfulImage, texel_of}
@@ -18,7 +17,7 @@ use Rattle.vt_pages.specs.declared.PageName.{PageName}
 use Rattle.vt_pages.specs.Shape.{Shape}
 use Rattle.vt_pages.specs.Pages.{IsPage, IsWithinLimits, levels_of, pages_below, columns_at, rows_at, index_at, name_at}
 use Rattle.vt_pages.proofs.Counts.{columns_some, lt_up, pages_below-suc, pages_below_le, pages_of-is}
-use Rattle.vt_store.specs.ChainStores.{AddsPages, AddsPart, HasLevelTexels, IsLevelOf, level_source}
+use Rattle.vt_store.specs.ChainStores.{AddsPages, AddsPart, HasLevelTexels, IsLevelOf}
 use Rattle.vt_store.specs.Format.{tiles_bytes}
 use Rattle.vt_store.specs.TileLines.{HasTileRows, rows_inside, tile_rows_length}
 use Rattle.vt_store.proofs.AddedPages.{adds_none, adds_more, adds_part, there_bytes}
@@ -42,14 +41,9 @@ module _ (s : Shape) (p : ImageView) (n z w t inside from m : ℕ) (name : PageN
   alone : ChainView
   alone = record { base = p; tile = s.tile }
 
-  at : IsAt alone s (name_at s n).level 0 n
+  at : IsAt alone s 0 n
   unfolding alone
-  at = record {
-    level = omega arith;
-    inside = (let count = level_count_least p.width p.height s.tile (omega (arith, limits.least_tile)) in omega (arith, count.some));
-    columns = sym columns;
-    rows = sym high;
-  }
+  at = record { columns = sym columns; rows = sym high }
 
   raster : IsTexelRaster alone.base.depth (chain_texel alone 0) (chain_width alone 0) (chain_height alone 0) samples
   unfolding alone
@@ -58,19 +52,9 @@ module _ (s : Shape) (p : ImageView) (n z w t inside from m : ℕ) (name : PageN
 
   image_rows_are : (src : Source) → HasLevelTexels src (name_at s n).level p → HasTileRows s p.depth src n (take m (drop from samples))
   unfolding alone
-  image_rows_are src has = record { each = λ x y a b. rows.each x y a b ∙ ap (word_bytes p.depth) (there x y a b) } where
-    rows : HasTileRows s p.depth (level_source alone (name_at s n).level) n (take m (drop from samples))
-    rows = rows_are alone s (name_at s n).level 0 n z w t inside from m name samples at named is limits raster ez ew et ei begins long
-
-    there : (x y : ℕ) → x < side s.width (name_at s n).level → y < rows_inside s n
-        → level_source alone (name_at s n).level (name_at s n).level x ((name_at s n).row * s.tile + y)
-        ≡ src (name_at s n).level x ((name_at s n).row * s.tile + y)
-    there x y a b =
-        let row : ℕ = (name_at s n).row * s.tile + y in
-        let first : (name_at s n).level - (name_at s n).level ≡ 0 = omega arith in
-        ap (λ (k : ℕ). chain_texel alone k x row) first
-        ∙ chain-zero p.depth (texel_of p) p.width p.height x row
-        ∙ sym (has.each x row (omega (arith, a, columns)) (omega (arith, b, high)))
+  image_rows_are src has =
+      rows_are alone s 0 n z w t inside from m name samples at named is limits raster ez ew et ei begins long src
+      (λ x y a b. has.each x y a b ∙ sym (chain-zero p.depth (texel_of p) p.width p.height x y))
 
 -- the rows that were read have the level's words
 pub read_rows : (s : Shape) (p : ImageView) (v : HalvingView) (src : Source) (n k r : ℕ) (rows : List ℕ) → IsWithinLimits s → k < levels_of s

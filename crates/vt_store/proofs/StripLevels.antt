@@ -1,17 +1,15 @@
 -- The numbers of the strips of a texture, and the tiles of the levels behind the first.
-use Rattle.std.proofs.Common.{◌≡◌, ℕ, suc, ◌+◌, ◌-◌, ◌*◌, ◌/◌, ◌%◌, ◌<◌, ◌≤◌, ◌⊎◌, inl, inr, Option, Some, List, length, min, refl, sym, ap, ◌∙◌, subst, arith}
+use Rattle.std.proofs.Common.{◌≡◌, ℕ, suc, ◌+◌, ◌-◌, ◌*◌, ◌/◌, ◌%◌, ◌<◌, ◌≤◌, ◌⊎◌, inl, inr, Option, Some, List, min, sym, ap, ◌∙◌, subst, arith}
 use Rattle.std.proofs.lemmas.Nat.{mul-le}
-use Rattle.vt_definitions.specs.Depths.{IsDepth, texel_length, word_bytes}
+use Rattle.vt_definitions.specs.Depths.{texel_length, word_bytes}
 use Rattle.vt_definitions.specs.Sides.{side}
 use Rattle.vt_definitions.specs.Texels.{Source}
 use Rattle.vt_definitions.proofs.Levels.{side_at_least}
-use Rattle.vt_outside.specs.Files.{Files}
 use Rattle.vt_ppm.specs.declared.header.Header.{Header}
-use Rattle.vt_ppm.specs.Format.{IsTexture, depth_of}
-use Rattle.vt_ppm.specs.Image.{ImageView, IsLawfulImage, texel_of}
+use Rattle.vt_ppm.specs.Format.{depth_of}
+use Rattle.vt_ppm.specs.Image.{ImageView, IsLawfulImage}
 use Rattle.vt_ppm.specs.Strips.{IsTextureIfTold, texture_of, row_length}
 use Rattle.vt_ppm.proofs.SampleValues.{depth_is}
-use Rattle.vt_mip.specs.Chains.{chain, chain_texel}
 use Rattle.vt_mip.specs.Halves.{IsHalf}
 use Rattle.vt_mip.specs.Levels.{IsLevel}
 use Rattle.vt_mip.specs.StripChains.{StripChainView, texture_texel}
@@ -20,14 +18,14 @@ use Rattle.vt_mip.proofs.Following.{side_after, chains_go_on}
 use Rattle.vt_mip.proofs.Words.{half_is_next}
 use Rattle.vt_pages.specs.declared.PageName.{PageName}
 use Rattle.vt_pages.specs.Shape.{Shape}
-use Rattle.vt_pages.specs.Pages.{IsWithinLimits, levels_of, pages_of, pages_below, rows_at, columns_at, name_at}
+use Rattle.vt_pages.specs.Pages.{IsWithinLimits, levels_of, pages_of, pages_below, rows_at, columns_at, name_at, level_of}
 use Rattle.vt_pages.proofs.Counts.{lt_up, pages_below-suc, pages_below-zero, pages_below_le, pages_of-is}
+use Rattle.vt_pages.proofs.Names.{IsLevelIn, level_of_has}
 use Rattle.vt_store.specs.ChainStores.{level_source}
-use Rattle.vt_store.specs.Format.{tile_area, tile_length, tiles_bytes}
+use Rattle.vt_store.specs.Format.{tiles_bytes}
 use Rattle.vt_store.specs.TileLines.{tile_word}
 use Rattle.vt_store.specs.StripStores.{strip_shape, strip_rows, strips_of}
 use Rattle.vt_store.proofs.Tiles.{tiles_are, tiles_piece, tiles_bytes_length}
-use Rattle.vt_store.proofs.TileRows.{level_from}
 
 -- the pages of the first level
 pub first_pages : (s : Shape) → pages_below s 1 ≡ rows_at s 0 * columns_at s 0
@@ -90,6 +88,20 @@ rest_word s h b p n i ew eh wide high level later =
     chains_go_on (texture_of h b) p k x y (omega (arith, ew)) (omega (arith, eh)) level (omega (arith, columns, some_columns))
     (omega (arith, rows, some_rows))
     ∙ ap (λ (m : ℕ). texture_texel h b m x y) e
+
+-- the level of a page that is not before some levels
+level_from : (s : Shape) (k p : ℕ) → 1 ≤ levels_of s → pages_below s k ≤ p → p < pages_of s → k ≤ (name_at s p).level
+unfolding name_at
+level_from s k p some from inside = below (either k (level_of s p)) where
+  has : IsLevelIn s p (levels_of s - 1) (level_of s p)
+  has = level_of_has s p some inside
+
+  either : (a b : ℕ) → (a ≤ b) ⊎ (suc b ≤ a)
+  either a b = grind arith
+
+  below : (k ≤ level_of s p) ⊎ (suc (level_of s p) ≤ k) → k ≤ level_of s p
+  below (inl h) = h
+  below (inr h) = absurd (let no : ⊥ = omega (arith, has.to, pages_below_le s (suc (level_of s p)) k h) in no)
 
 -- the tiles behind the first level are those of the chain of level 1
 pub rest_tiles : (s : Shape) (h : Header) (b : List ℕ) (p : ImageView) → IsWithinLimits s → h.width ≡ s.width → h.height ≡ s.height

@@ -1,16 +1,14 @@
 -- Rows of tiles, from the rows of texels of a level on which they lie.
-use Rattle.std.proofs.Common.{◌≡◌, ℕ, suc, ◌+◌, ◌-◌, ◌*◌, ◌<◌, ◌≤◌, ◌⊎◌, inl, inr, List, length, take, drop, min, refl, sym, ap, ◌∙◌, subst, arith}
+use Rattle.std.proofs.Common.{◌≡◌, ℕ, ◌+◌, ◌-◌, ◌*◌, ◌<◌, ◌≤◌, List, length, take, drop, min, refl, sym, ap, ◌∙◌, subst, arith}
 use Rattle.std.proofs.lemmas.Nat.{mul-le}
-use Rattle.vt_definitions.specs.Depths.{IsDepth, texel_length, word_bytes}
+use Rattle.vt_definitions.specs.Depths.{texel_length, word_bytes}
 use Rattle.vt_definitions.specs.Sides.{side}
 use Rattle.vt_definitions.specs.Texels.{Source}
-use Rattle.vt_mip.specs.Chains.{ChainView, chain_levels, chain_width, chain_height, chain_texel, IsTexelRaster}
+use Rattle.vt_mip.specs.Chains.{ChainView, chain_width, chain_height, chain_texel, IsTexelRaster}
 use Rattle.vt_pages.specs.declared.PageName.{PageName}
 use Rattle.vt_pages.specs.Shape.{Shape}
-use Rattle.vt_pages.specs.Pages.{IsPage, IsWithinLimits, levels_of, pages_of, pages_below, columns_at, index_of, name_at, level_of}
-use Rattle.vt_pages.proofs.Counts.{pages_below_le}
-use Rattle.vt_pages.proofs.Names.{IsLevelIn, level_of_has}
-use Rattle.vt_store.specs.ChainStores.{HasShape, HasLevels, level_source}
+use Rattle.vt_pages.specs.Pages.{IsPage, IsWithinLimits, columns_at, index_of, name_at}
+use Rattle.vt_store.specs.ChainStores.{HasShape}
 use Rattle.vt_store.specs.TileLines.{HasTileRows, HasLines, GainsLine, piece_at, rows_inside, tile_rows_length}
 use Rattle.vt_store.proofs.Pieces.{piece_end}
 use Rattle.vt_store.specs.Format.{tiles_bytes}
@@ -69,51 +67,22 @@ row_inside_rows s d p i z w m name named inside ez ew full =
     ∙ ap (λ (n : ℕ). z * (n * rows_inside s p)) (sym wide) in
     omega (arith, more, whole)
 
--- the level of a page that is not before some levels
-pub level_from : (s : Shape) (skipped p : ℕ) → 1 ≤ levels_of s → pages_below s skipped ≤ p → p < pages_of s → skipped ≤ (name_at s p).level
-unfolding name_at
-level_from s skipped p some from inside = below (either skipped (level_of s p)) where
-  has : IsLevelIn s p (levels_of s - 1) (level_of s p)
-  has = level_of_has s p some inside
-
-  either : (a b : ℕ) → (a ≤ b) ⊎ (suc b ≤ a)
-  either a b = grind arith
-
-  below : (skipped ≤ level_of s p) ⊎ (suc (level_of s p) ≤ skipped) → skipped ≤ level_of s p
-  below (inl h) = h
-  below (inr h) = absurd (let no : ⊥ = omega (arith, has.to, pages_below_le s (suc (level_of s p)) skipped h) in no)
-
--- all levels of a chain
-pub levels_all : (c : ChainView) (s : Shape) → HasShape c s → HasLevels c s 0
-unfolding levels_of
-levels_all c s is = record {
-  count = (let same : levels_of s ≡ chain_levels c = ap levels_of (sym is.same) in omega (arith, same));
-  columns = λ k. (let e : k + 0 ≡ k = omega arith in ap (side s.width) e ∙ ap (λ (z : Shape). side z.width k) (sym is.same));
-  rows = λ k. (let e : k + 0 ≡ k = omega arith in ap (side s.height) e ∙ ap (λ (z : Shape). side z.height k) (sym is.same));
-}
-
--- the numbers of a level of a chain that begins at a level
-pub record IsAt (c : ChainView) (s : Shape) (skipped k p : ℕ) : Type 0 where
-  pub level : (name_at s p).level ≡ k + skipped
-  pub inside : k < chain_levels c
+-- a level of a chain has the sides of a page's level
+pub record IsAt (c : ChainView) (s : Shape) (k p : ℕ) : Type 0 where
   pub columns : side s.width (name_at s p).level ≡ chain_width c k
   pub rows : side s.height (name_at s p).level ≡ chain_height c k
 
-pub is_at : (c : ChainView) (s : Shape) (skipped k p : ℕ) (name : PageName) → HasLevels c s skipped → name ≡ name_at s p → IsPage s name
-    → skipped ≤ (name_at s p).level → k ≡ name.level - skipped → IsAt c s skipped k p
-is_at c s skipped k p name has named is from e =
-    let same : name.level ≡ (name_at s p).level = ap (λ (n : PageName). n.level) named in
-    let level : (name_at s p).level ≡ k + skipped = omega (arith, same) in
+pub is_at : (c : ChainView) (s : Shape) (p : ℕ) (name : PageName) → HasShape c s → name ≡ name_at s p → IsAt c s name.level p
+is_at c s p name is named =
+    let same : (name_at s p).level ≡ name.level = ap (λ (n : PageName). n.level) (sym named) in
     record {
-      level = level;
-      inside = omega (arith, is.level_inside, has.count, same);
-      columns = ap (side s.width) level ∙ has.columns k;
-      rows = ap (side s.height) level ∙ has.rows k;
+      columns = ap (side s.width) same ∙ ap (λ (z : Shape). side z.width name.level) (sym is.same);
+      rows = ap (side s.height) same ∙ ap (λ (z : Shape). side z.height name.level) (sym is.same);
     }
 
 -- the rows of texels that are cut out of a level's samples
-module _ (c : ChainView) (s : Shape) (skipped k p z w t inside from m : ℕ) (name : PageName) (samples : List ℕ)
-    (at : IsAt c s skipped k p) (named : name ≡ name_at s p) (is : IsPage s name) (limits : IsWithinLimits s)
+module _ (c : ChainView) (s : Shape) (k p z w t inside from m : ℕ) (name : PageName) (samples : List ℕ)
+    (at : IsAt c s k p) (named : name ≡ name_at s p) (is : IsPage s name) (limits : IsWithinLimits s)
     (raster : IsTexelRaster c.base.depth (chain_texel c k) (chain_width c k) (chain_height c k) samples)
     (ez : z ≡ texel_length c.base.depth) (ew : w ≡ chain_width c k) (et : t ≡ s.tile) (ei : inside ≡ rows_inside s p)
     (begins : from ≡ z * w * (name.row * t)) (long : m ≡ z * w * inside) where
@@ -141,21 +110,13 @@ module _ (c : ChainView) (s : Shape) (skipped k p z w t inside from m : ℕ) (na
       ∙ ap (λ (n : ℕ). z * (n * chain_height c k)) (sym ew) in
       omega (arith, more, first, long, whole)
 
-  pub rows_full : m ≡ tile_rows_length s c.base.depth p
-  rows_full = long ∙ ap (λ (n : ℕ). n * w * inside) ez ∙ ap (λ (n : ℕ). texel_length c.base.depth * n * inside) (ew ∙ sym at.columns)
-      ∙ ap (λ (n : ℕ). texel_length c.base.depth * side s.width (name_at s p).level * n) ei ∙ omega arith
-
-  pub rows_are : HasTileRows s c.base.depth (level_source c skipped) p (take m (drop from samples))
-  rows_are = record { each = each } where
-    d : ℕ
-    d = c.base.depth
-
-    q : PageName
-    q = name_at s p
-
+  pub rows_are : (src : Source)
+      → ((x y : ℕ) → x < chain_width c k → y < chain_height c k → src (name_at s p).level x y ≡ chain_texel c k x y)
+      → HasTileRows s c.base.depth src p (take m (drop from samples))
+  rows_are src same = record { each = each } where
     each : (x y : ℕ) → x < side s.width (name_at s p).level → y < rows_inside s p
         → piece_at (texel_length c.base.depth) (take m (drop from samples)) (y * side s.width (name_at s p).level + x)
-        ≡ word_bytes c.base.depth (level_source c skipped (name_at s p).level x ((name_at s p).row * s.tile + y))
+        ≡ word_bytes c.base.depth (src (name_at s p).level x ((name_at s p).row * s.tile + y))
     each x y across below =
         let wide : x < chain_width c k = omega (arith, at.columns) in
         let i : ℕ = y * chain_width c k + x in
@@ -169,13 +130,13 @@ module _ (c : ChainView) (s : Shape) (skipped k p z w t inside from m : ℕ) (na
         ∙ ap (λ (n : ℕ). n * w * ((name_at s p).row * s.tile)) ez
         ∙ ap (λ (n : ℕ). texel_length c.base.depth * n * ((name_at s p).row * s.tile)) ew ∙ omega arith in
         let there : (name_at s p).row * s.tile * chain_width c k + i ≡ ((name_at s p).row * s.tile + y) * chain_width c k + x = omega arith in
-        let level : (name_at s p).level - skipped ≡ k = omega (arith, at.level) in
+        let low : (name_at s p).row * s.tile + y < chain_height c k = omega (arith, at.rows, down, below) in
         ap (λ (n : ℕ). piece_at (texel_length c.base.depth) (take m (drop from samples)) (y * n + x)) at.columns
         ∙ piece_of_slice (texel_length c.base.depth) samples ((name_at s p).row * s.tile * chain_width c k) m from i place
         (omega (arith, piece_end (texel_length c.base.depth) i (inside * chain_width c k) here, size))
         ∙ ap (piece_at (texel_length c.base.depth) samples) there
-        ∙ raster.each x ((name_at s p).row * s.tile + y) wide (omega (arith, at.rows, down, below))
-        ∙ ap (λ (n : ℕ). word_bytes c.base.depth (chain_texel c n x ((name_at s p).row * s.tile + y))) (sym level)
+        ∙ raster.each x ((name_at s p).row * s.tile + y) wide low
+        ∙ ap (word_bytes c.base.depth) (sym (same x ((name_at s p).row * s.tile + y) wide low))
 
 -- the numbers of a level's rows are small
 pub rows_small : (z w r i : ℕ) → z ≤ 6 → w ≤ 16384 → r ≤ 16384 → i ≤ 128 → z * w * r + z * w * i ≤ 1623195648

@@ -122,9 +122,6 @@ name_along s first t name is e below =
     let along : first + t ≡ index_at s name.level (name.col + t) name.row = omega (arith, e) in
     ap (name_at s) along ∙ name_at-index s name.level (name.col + t) name.row is.level_inside below is.row_inside
 
-pub no_lines : (s : Shape) (d : ℕ) (src : Source) (first count : ℕ) (tiles : List ℕ) → HasLines s d src first count 0 tiles
-no_lines s d src first count tiles = record { each = λ t i p q. absurd (let no : ⊥ = omega arith in no) }
-
 -- one line more
 pub next_line : (s : Shape) (d : ℕ) (src : Source) (first count line y w h t' z : ℕ) (name : PageName) (row before after : List ℕ)
     → t' ≡ s.tile → z ≡ texel_length d → w ≡ side s.width name.level → h ≡ side s.height name.level → 1 ≤ w → y ≡ min (name.row * t' + line) (h - 1)

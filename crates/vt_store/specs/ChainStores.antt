@@ -1,15 +1,14 @@
 -- The store of a mip chain.
-use Rattle.std.specs.Prelude.{◌≡◌, ℕ, ◌+◌, ◌-◌, ◌<◌, List, ◌++◌, take, Option, option_map}
+use Rattle.std.specs.Prelude.{◌≡◌, ℕ, ◌-◌, ◌<◌, List, ◌++◌, take, Option, option_map}
 use Rattle.vt_definitions.specs.Depths.{AreBytes}
-use Rattle.vt_definitions.specs.Sides.{side}
 use Rattle.vt_definitions.specs.Texels.{Source}
 use Rattle.vt_outside.specs.Files.{Files, with_bytes}
 use Rattle.vt_ppm.specs.Image.{ImageView, IsLawfulImage, texel_of}
-use Rattle.vt_mip.specs.Chains.{ChainView, chain, chain_texel, chain_levels, chain_width, chain_height}
+use Rattle.vt_mip.specs.Chains.{ChainView, chain, chain_texel}
 use Rattle.vt_mip.specs.InPlace.{ShrinksFront}
 use Rattle.vt_mip.specs.TakenRows.{HalvingView}
 use Rattle.vt_pages.specs.Shape.{Shape, shape_of}
-use Rattle.vt_pages.specs.Pages.{levels_of, pages_of}
+use Rattle.vt_pages.specs.Pages.{pages_of}
 use Rattle.vt_store.specs.Format.{store_bytes, tiles_bytes}
 
 -- the chain has the sides and the tile side of the pages
@@ -25,12 +24,6 @@ abbrev pub texture_store : ImageView → ℕ → List ℕ
 texture_store texture tile =
     store_bytes (shape_of texture.width texture.height tile) texture.depth
     (chain texture.depth (texel_of texture) texture.width texture.height)
-
--- the chain's levels are those of the pages but the first ones, so many
-pub record HasLevels (chain : ChainView) (shape : Shape) (skipped : ℕ) : Type 0 where
-  pub count : levels_of shape ≡ chain_levels chain + skipped
-  pub columns : (k : ℕ) → side shape.width (k + skipped) ≡ chain_width chain k
-  pub rows : (k : ℕ) → side shape.height (k + skipped) ≡ chain_height chain k
 
 -- the words of a chain that begins at a level
 abbrev pub level_source : ChainView → ℕ → Source

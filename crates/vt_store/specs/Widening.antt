@@ -1,11 +1,9 @@
 -- The store of two-byte samples that is made of one of one-byte samples.
 use Rattle.std.specs.Prelude.{◌≡◌, ℕ, ◌+◌, ◌-◌, ◌*◌, ◌<◌, List, [], ◌∷◌, take, min, Option, Some, option_map}
 use Rattle.vt_definitions.specs.Depths.{word_of, red_of, green_of, blue_of}
-use Rattle.vt_definitions.specs.Sides.{side}
 use Rattle.vt_definitions.specs.Texels.{Source}
 use Rattle.vt_outside.specs.Files.{Files, with_bytes, with_appended}
 use Rattle.vt_pages.specs.Shape.{Shape}
-use Rattle.vt_pages.specs.Pages.{name_at}
 use Rattle.vt_store.specs.Format.{store_bytes, stored, tiles_bytes}
 use Rattle.vt_store.specs.TileLines.{piece_at}
 

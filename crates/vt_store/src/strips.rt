@@ -1,15 +1,13 @@
 //! Writing the store of a texture that is read by strips, so that it is never in memory as a whole.
-ghost use Rattle.std.specs.Prelude.{◌≡◌, ℕ, ◌+◌, ◌-◌, ◌*◌, ◌/◌, ◌<◌, ◌≤◌, ◌⊎◌, true, false, List, Option, Some, length, vec_len, option_map, IfErr, IfOk, OnOk, OnErr, IsErrOf};
-ghost use Rattle.vt_definitions.specs.Depths.{IsDepth, texel_length};
+ghost use Rattle.std.specs.Prelude.{◌≡◌, ℕ, ◌+◌, ◌-◌, ◌*◌, ◌/◌, ◌<◌, ◌≤◌, ◌⊎◌, true, false, List, Some, length, IfErr, OnOk, OnErr, IsErrOf};
+ghost use Rattle.vt_definitions.specs.Depths.{texel_length};
 ghost use Rattle.vt_definitions.specs.Sides.{side};
 ghost use Rattle.vt_outside.specs.Counts.{Rose};
-ghost use Rattle.vt_outside.specs.Files.{Files, IsThere, with_bytes};
+ghost use Rattle.vt_outside.specs.Files.{IsThere};
 ghost use Rattle.vt_ppm.specs.Format.{depth_of};
-ghost use Rattle.vt_ppm.specs.Image.{IsLawfulImage};
 ghost use Rattle.vt_ppm.specs.Strips.{RowsAsked, row_length, texture_of};
 ghost use Rattle.vt_mip.specs.TakenRows.{HalvesFront};
-ghost use Rattle.vt_pages.specs.Pages.{pages_of, pages_below, columns_at, rows_at};
-ghost use Rattle.vt_store.specs.ChainStores.{AddsPages, AddsPart, level_source};
+ghost use Rattle.vt_pages.specs.Pages.{columns_at, rows_at};
 ghost use Rattle.vt_store.specs.Format.{tile_length};
 ghost use Rattle.vt_store.specs.Refusals.{IsOutsideRefusal};
 ghost use Rattle.vt_store.specs.StripStores.{HoldsMade, HoldsMadeFront, GainsMade, GainsMadeFront, StripsAsked, StripsTried, strip_shape, strip_store, strip_tiles, strips_of, strip_rows};
@@ -44,7 +42,8 @@ fn write_strip<F: File, D: Folder>(
     requires width { half.old.width ≡ chain.old.header.width }
     requires height { half.old.height ≡ chain.old.header.height }
     requires taken { half.old.taken ≡ strip * geometry.now.tile }
-    ensures gained { OnOk result (GainsMade (F.bytes chain.old.file) (strip_tiles geometry.now chain.old.header strip) name.now (D.files folder.old) (D.files folder.new)) }
+    ensures gained { OnOk result (GainsMade (F.bytes chain.old.file) (strip_tiles geometry.now chain.old.header strip) name.now
+        (D.files folder.old) (D.files folder.new)) }
     ensures part { OnErr result ((D.files folder.new ≡ D.files folder.old)
         ⊎ GainsMadeFront (F.bytes chain.old.file) (strip_tiles geometry.now chain.old.header strip) name.now (D.files folder.old) (D.files folder.new)) }
     ensures halves { OnOk result ((b : List ℕ) → F.bytes chain.old.file ≡ Some b → HalvesFront (texture_of chain.old.header b) half.old

@@ -1,9 +1,8 @@
 //! Making a store of two-byte samples of one of one-byte samples.
 ghost use Rattle.std.specs.Prelude.{◌≡◌, ℕ, ◌+◌, ◌-◌, ◌*◌, ◌<◌, ◌≤◌, ◌⊎◌, true, false, List, length, min, slice_index, vec_len, IfOk, IfErr, OnOk, OnErr, IsErrOf};
-ghost use Rattle.vt_definitions.specs.Depths.{AreBytes};
 ghost use Rattle.vt_outside.specs.Counts.{Rose};
 ghost use Rattle.vt_outside.specs.Files.{IsPiece, IsThere};
-ghost use Rattle.vt_pages.specs.Pages.{IsPage, pages_of, columns_at};
+ghost use Rattle.vt_pages.specs.Pages.{pages_of};
 ghost use Rattle.vt_store.specs.Format.{stored, tile_length, tile_start, tiles_bytes};
 ghost use Rattle.vt_store.specs.Places.{TilesAsked, PiecesAsked, FrontAsked, pieces_of};
 ghost use Rattle.vt_store.specs.Refusals.{IsOutsideRefusal};

@@ -5,9 +5,10 @@ ghost use Rattle.vt_outside.specs.Files.{Files, with_bytes};
 ghost use Rattle.vt_definitions.specs.Texels.{Source};
 ghost use Rattle.vt_definitions.specs.Depths.{IsDepth};
 ghost use Rattle.vt_definitions.specs.Limits.{most_tiled_side};
-ghost use Rattle.vt_pages.specs.Pages.{pages_of, pages_below, levels_of, columns_at, name_at};
+ghost use Rattle.vt_mip.specs.Chains.{chain_texel};
+ghost use Rattle.vt_pages.specs.Pages.{pages_of, levels_of, columns_at, name_at};
 ghost use Rattle.vt_store.specs.Format.{header_bytes, tile_length, tiles_bytes};
-ghost use Rattle.vt_store.specs.ChainStores.{HasShape, HasLevels, AddsPages, AddsPart, chain_store, level_source};
+ghost use Rattle.vt_store.specs.ChainStores.{HasShape, AddsPages, AddsPart, chain_store};
 ghost use Rattle.vt_store.specs.TileLines.{IsFilled, IsSpan, GainsLine, HasTileRows, columns_inside, rows_inside, tile_rows_length};
 ghost use Rattle.vt_store.specs.Refusals.{IsOutsideRefusal};
 
@@ -178,54 +179,47 @@ pub fn begin_store<D: Folder>(
     folder.append(name, &header_of(geometry, depth))
 }
 
-// The rows of texels of a page's level on which its row of tiles lies. The chain's level 0 is level `skipped` of the pages.
-fn tile_rows<'a>(chain: &'a Chain, geometry: &Geometry, skipped: u32, page: u32) -> &'a [u8]
-    requires levels { HasLevels chain.now geometry.now skipped }
+// The rows of texels of a page's level on which its row of tiles lies.
+fn tile_rows<'a>(chain: &'a Chain, geometry: &Geometry, page: u32) -> &'a [u8]
+    requires shape { HasShape chain.now geometry.now }
     requires page { page < pages_of geometry.now }
-    requires level { skipped ≤ (name_at geometry.now page).level }
     ensures full { length result.now ≡ tile_rows_length geometry.now chain.now.base.depth page }
-    ensures rows { HasTileRows geometry.now chain.now.base.depth (level_source chain.now skipped) page result.now }
+    ensures rows { HasTileRows geometry.now chain.now.base.depth (chain_texel chain.now) page result.now }
 {
     let name = geometry.page_at(page);
     let side = geometry.tile() as usize;
-    let level = name.level - skipped;
-    let (width, _) = chain.size(level);
+    let (width, _) = chain.size(name.level);
     let (_, inside) = size_inside(geometry, page);
     let row_size = texel_length(chain.depth()) * width as usize;
     let from = row_size * (name.row as usize * side);
-    &chain.samples(level)[from..from + row_size * inside]
+    &chain.samples(name.level)[from..from + row_size * inside]
 }
 
-/// Adds the tiles of the pages from `first` on to the name, one row of tiles an append. The page is the first of level `skipped`,
-/// which is the chain's level 0. The buffer has the length of the longest row of tiles.
-pub(crate) fn write_pages<D: Folder>(
+// Adds the tiles of all pages to the name, one row of tiles an append. The buffer has the length of the longest row of tiles.
+fn write_pages<D: Folder>(
     chain: &Chain,
     geometry: &Geometry,
-    skipped: u32,
-    first: u32,
     tiles: &mut [u8],
     folder: &mut D,
     name: &str,
 ) -> Result<(), OutsideError>
-    requires levels { HasLevels chain.now geometry.now skipped }
-    requires first { first ≡ pages_below geometry.now skipped }
-    requires inside { first ≤ pages_of geometry.now }
+    requires shape { HasShape chain.now geometry.now }
     requires room { length tiles.old ≡ columns_at geometry.now 0 * tile_length geometry.now chain.now.base.depth }
-    ensures whole { OnOk result (AddsPages geometry.now chain.now.base.depth (level_source chain.now skipped) first (pages_of geometry.now)
-        name.now (D.files folder.old) (D.files folder.new)) }
-    ensures part { OnErr result (AddsPart geometry.now chain.now.base.depth (level_source chain.now skipped) first name.now
+    ensures whole { OnOk result (AddsPages geometry.now chain.now.base.depth (chain_texel chain.now) 0 (pages_of geometry.now) name.now
         (D.files folder.old) (D.files folder.new)) }
+    ensures part { OnErr result (AddsPart geometry.now chain.now.base.depth (chain_texel chain.now) 0 name.now (D.files folder.old)
+        (D.files folder.new)) }
     ensures failed { IsErrOf result OutsideError.Failed → (before : Option Files) (done : List ℕ)
         → D.files folder.old ≡ option_map (with_bytes name.now done) before → Rose (D.faults folder.old) (D.faults folder.new) }
     ensures asked { D.asked folder.new ≡ D.asked folder.old }
     ensures faults { D.faults folder.old ≤ D.faults folder.new }
 {
     let depth = chain.depth();
-    let mut page = first;
+    let mut page = 0;
     while page < geometry.page_count() {
         let end = row_end(geometry, page);
         let row = &mut tiles[..(end - page) as usize * tile_length(geometry, depth)];
-        let rows = tile_rows(chain, geometry, skipped, page);
+        let rows = tile_rows(chain, geometry, page);
         put_tiles(row, rows, depth, geometry, page, end - page);
         folder.append(name, row)?;
         page = end;
@@ -252,7 +246,7 @@ fn write_rows<D: Folder>(
     let depth = chain.depth();
     begin_store(geometry, depth, folder, name)?;
     let mut room = vec![in alloc; 0; longest_row(geometry, depth)]?;
-    write_pages(chain, geometry, 0, 0, room.as_mut_slice(), folder, name)
+    write_pages(chain, geometry, room.as_mut_slice(), folder, name)
 }
 
 /// Makes the name hold the store of a mip chain, whose sides and tile side the geometry has. It creates the name, and

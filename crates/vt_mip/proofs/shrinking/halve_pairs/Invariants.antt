@@ -3,5 +3,5 @@ use Rattle.vt_mip.specs.InPlace.{IsShrunk}
 use Rattle.vt_mip.proofs.shrinking.halve_pairs.Given as goal
 
 abbrev pub invariant-loop-pair : goal.invariant-loop-pair
-invariant-loop-pair l = (source : List ℕ) → IsShrunk l.depth source l.width l.height l.first l.fn.samples
-    → IsShrunk l.depth source l.width l.height l.pair l.samples
+invariant-loop-pair l = (source : List ℕ) → IsShrunk l.sizes.depth source l.sizes.width l.sizes.height l.first l.fn.samples
+    → IsShrunk l.sizes.depth source l.sizes.width l.sizes.height l.pair l.samples

@@ -1,10 +1,9 @@
-use Rattle.std.proofs.Common.{◌≡◌, ◌+◌, ◌-◌, ◌*◌, ◌<◌, ◌≤◌, ℕ, length, refl, subst, sym, ap, ◌∙◌, arith}
-use Rattle.vt_definitions.specs.Sides.{side}
+use Rattle.std.proofs.Common.{◌≡◌, ◌+◌, ◌-◌, ◌*◌, ◌≤◌, ℕ, length, refl, subst, sym, ap, ◌∙◌, arith}
 use Rattle.vt_pages.specs.declared.PageName.{PageName}
 use Rattle.vt_pages.specs.Shape.{Shape}
 use Rattle.vt_pages.specs.Pages.{name_at, columns_at}
 use Rattle.vt_store.specs.TileLines.{HasLines}
-use Rattle.vt_store.proofs.Tiles.{columns_small, column_begins, no_lines, tiles_are}
+use Rattle.vt_store.proofs.Tiles.{columns_small, column_begins, tiles_are}
 use Rattle.vt_store.proofs.TileRows.{more_lines, row_inside_rows}
 use Rattle.vt_store.proofs.Widening.{cut_length}
 use Rattle.vt_store.proofs.write.put_tiles.Goals as goal

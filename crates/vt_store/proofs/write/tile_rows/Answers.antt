@@ -1,8 +1,18 @@
-use Rattle.std.proofs.Common.{◌≡◌, ℕ, ◌+◌, ◌-◌, ◌*◌, refl, ap, ◌∙◌, arith}
+use Rattle.std.proofs.Common.{ℕ, ◌+◌, ◌-◌, ◌*◌, refl, sym, ap, ◌∙◌, arith}
 use Rattle.vt_definitions.specs.Depths.{texel_length}
-use Rattle.vt_store.proofs.Tiles.{row_small}
-use Rattle.vt_store.proofs.TileRows.{is_at, rows_small, rows_cut, rows_full, rows_are}
+use Rattle.vt_mip.specs.Chains.{chain_texel}
+use Rattle.vt_pages.specs.declared.PageName.{PageName}
+use Rattle.vt_store.proofs.Tiles.{level_inside, row_small}
+use Rattle.vt_store.proofs.TileRows.{is_at, rows_small, rows_cut, rows_are}
 use Rattle.vt_store.proofs.write.tile_rows.Goals as goal
+
+pub size-width-requires : goal.size-width-requires
+size-width-requires c = level_inside c.args.chain.now c.args.geometry.now c.page_at-name.result.level c.requires.shape
+    c.page_at-name.ensures.in_chain.level_inside
+
+pub samples-requires : goal.samples-requires
+samples-requires c = level_inside c.args.chain.now c.args.geometry.now c.page_at-name.result.level c.requires.shape
+    c.page_at-name.ensures.in_chain.level_inside
 
 pub overflow_mul-from-2 : goal.overflow_mul-from-2
 overflow_mul-from-2 c =
@@ -39,11 +49,10 @@ slice_bounds-result-end c =
     let name = c.page_at-name.result in
     let z : ℕ = c.texel_length.result in
     let w : ℕ = c.size-width.result.0 in
-    let at = is_at v s c.args.skipped (name.level - c.args.skipped) c.args.page name c.requires.levels c.page_at-name.ensures.name
-    c.page_at-name.ensures.in_chain c.requires.level refl in
+    let at = is_at v s c.args.page name c.requires.shape c.page_at-name.ensures.name in
     omega (
       arith,
-      rows_cut v s c.args.skipped (name.level - c.args.skipped) c.args.page z w c.tile-side.result c.size_inside-inside.result.1
+      rows_cut v s name.level c.args.page z w c.tile-side.result c.size_inside-inside.result.1
           (z * w * (name.row * c.tile-side.result)) (z * w * c.size_inside-inside.result.1) name c.samples.result.now at c.page_at-name.ensures.name
           c.page_at-name.ensures.in_chain
           c.tile-side.ensures.limits c.samples.ensures (c.texel_length.ensures.value ∙ ap texel_length c.depth.ensures.value)
@@ -57,10 +66,10 @@ returns-clause-rows c =
     let name = c.page_at-name.result in
     let z : ℕ = c.texel_length.result in
     let w : ℕ = c.size-width.result.0 in
-    let at = is_at v s c.args.skipped (name.level - c.args.skipped) c.args.page name c.requires.levels c.page_at-name.ensures.name
-    c.page_at-name.ensures.in_chain c.requires.level refl in
-    rows_are v s c.args.skipped (name.level - c.args.skipped) c.args.page z w c.tile-side.result c.size_inside-inside.result.1
+    let at = is_at v s c.args.page name c.requires.shape c.page_at-name.ensures.name in
+    rows_are v s name.level c.args.page z w c.tile-side.result c.size_inside-inside.result.1
     (z * w * (name.row * c.tile-side.result)) (z * w * (name.row * c.tile-side.result) + z * w * c.size_inside-inside.result.1 - z * w *
     (name.row * c.tile-side.result)) name c.samples.result.now at c.page_at-name.ensures.name c.page_at-name.ensures.in_chain
     c.tile-side.ensures.limits c.samples.ensures (c.texel_length.ensures.value ∙ ap texel_length c.depth.ensures.value)
-    c.size-width.ensures.width c.tile-side.ensures.tile c.size_inside-inside.ensures.rows refl (omega arith)
+    c.size-width.ensures.width c.tile-side.ensures.tile c.size_inside-inside.ensures.rows refl (omega arith) (chain_texel v)
+    (λ x y _ _. ap (λ (n : PageName). chain_texel v n.level x y) (sym c.page_at-name.ensures.name))

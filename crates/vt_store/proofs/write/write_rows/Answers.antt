@@ -1,10 +1,8 @@
-use Rattle.std.proofs.Common.{◌≡◌, ℕ, inr, sym, ◌∙◌, arith}
+use Rattle.std.proofs.Common.{inr, arith}
 use Rattle.std.proofs.lemmas.Result.{on_ok_weaker, on_err_weaker}
 use Rattle.vt_outside.proofs.Untold.{OnErr-all}
 use Rattle.vt_mip.specs.Chains.{chain_texel}
-use Rattle.vt_pages.proofs.Counts.{pages_below-zero}
 use Rattle.vt_store.proofs.AddedPages.{whole_store, part_store}
-use Rattle.vt_store.proofs.TileRows.{levels_all}
 use Rattle.vt_store.proofs.Writing.{header_of_store, begun, kept_part}
 use Rattle.vt_store.proofs.write.write_rows.Goals as goal
 
@@ -20,12 +18,6 @@ returns-in_err-room-clause-part g c = OnErr-all _ _
     c.args.chain.now.base.depth (chain_texel c.args.chain.now) 0 (omega arith)
     (begun (g.D.Folder.files c.args.folder.now) (g.D.Folder.files c.begin_store.new.folder) c.args.name.now c.args.geometry.now
     c.depth-depth.result c.args.chain.now.base.depth (chain_texel c.args.chain.now) c.depth-depth.ensures.value c.in_ok-begin_store.ensures.whole)))
-
-pub write_pages-requires-clause-levels : goal.write_pages-requires-clause-levels
-write_pages-requires-clause-levels g c = λ κs lives. levels_all c.args.chain.now c.args.geometry.now c.requires
-
-pub write_pages-requires-clause-first : goal.write_pages-requires-clause-first
-write_pages-requires-clause-first g c = λ κs lives. sym (pages_below-zero c.args.geometry.now)
 
 pub returns-clause-whole : goal.returns-clause-whole
 returns-clause-whole g c = on_ok_weaker c.write_pages.result
