@@ -1,6 +1,7 @@
 //! Machines over stores in memory, driven through the passes of worked walks.
 
 mod driven;
+mod kits;
 mod lawful;
 mod stores;
 

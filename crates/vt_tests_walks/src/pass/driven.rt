@@ -3,7 +3,7 @@
 ghost use Rattle.std.specs.Prelude.{◌≡◌, ◌≤◌, ◌<◌, length, IsSome, IfOk, OnOk};
 ghost use Rattle.std.specs.List.{concat};
 ghost use Rattle.std.specs.Bool.{MatchBool};
-ghost use Rattle.vt_pages.specs.Pages.{root_of};
+ghost use Rattle.vt_pages.specs.Pages.{pages_of, root_of};
 ghost use Rattle.vt_journal.specs.Changes.{newest};
 ghost use Rattle.vt_pass.specs.Scenes.{job_of};
 ghost use Rattle.vt_pass.specs.Crews.{last_start};
@@ -19,7 +19,7 @@ use std::thread::Threads;
 use vt_camera::Path;
 use vt_draw::Shot;
 use vt_evict::{Batch, Planned};
-use vt_feedback::Wanted;
+use vt_feedback::{Counts, Wanted};
 use vt_journal::{Event, Journal, RowLine};
 use vt_outside::{Gate, Items, NoMemory};
 use vt_pages::Geometry;
@@ -38,11 +38,11 @@ pub struct Step<'a> {
     pub wanted: &'a [Wanted],
 }
 
-// A pass that was run, and its picture.
+/// A pass that was run, and its picture.
 #[derive(Drop)]
-struct Pictured {
-    report: PassReport,
-    picture: Vec<u8>,
+pub struct Pictured {
+    pub report: PassReport,
+    pub picture: Vec<u8>,
 }
 
 // Prepares a pass and runs it, and takes its picture.
@@ -69,8 +69,8 @@ fn pass<Rt: Threads + Wait + Sync, M: PassMachine, G: Gate + Sync>(
     Ok(Pictured { report, picture })
 }
 
-// Whether a pass may be prepared for a batch, by a journal.
-fn may_prepare(journal: &Journal, geometry: &Geometry, frames: u32, batch: &[Planned]) -> bool
+/// Whether a pass may be prepared for a batch, by a journal: true says that it may.
+pub fn may_prepare(journal: &Journal, geometry: &Geometry, frames: u32, batch: &[Planned]) -> bool
     ensures root { MatchBool result (IsSome (newest journal.now.changes (root_of geometry.now))) (Unit {0}) }
     ensures lawful { MatchBool result (IsBatchFor geometry.now frames (newest journal.now.changes) batch.now)
         (Unit {0}) }
@@ -97,6 +97,26 @@ fn shows(picture: &[u8], grays: &[u8]) -> bool {
     true
 }
 
+/// Compares a pass that was run, its picture and its counts with what is to come of a step.
+pub fn compare<Rt: Abort>(
+    rt: &Rt,
+    alloc: Global,
+    done: &Pictured,
+    counts: &Counts,
+    geometry: &Geometry,
+    step: &Step<'_>,
+) -> Result<(), Fail>
+    requires { length counts.now ≡ pages_of geometry.now }
+{
+    assert_eq!(rt; done.report.events.slice(), step.events);
+    assert_eq!(rt; done.report.losses.slice(), step.losses);
+    assert_eq!(rt; done.report.rows.slice(), step.rows);
+    assert!(rt; shows(done.picture.as_slice(), step.grays));
+    let wanted = counts.wanted(alloc, geometry)?;
+    assert_eq!(rt; wanted.slice(), step.wanted);
+    Ok(())
+}
+
 // Runs a pass and compares what it leaves.
 fn run_step<Rt: Abort + Threads + Wait + Sync, M: PassMachine, G: Gate + Sync>(
     rt: &Rt,
@@ -121,13 +141,7 @@ fn run_step<Rt: Abort + Threads + Wait + Sync, M: PassMachine, G: Gate + Sync>(
     let batch = Items::from_slice(alloc, step.batch)?;
     assert!(rt; may_prepare(machine.journal(), shot.geometry, frames, batch.slice()));
     let done = pass(rt, alloc, machine, shot, &batch, gate)?;
-    assert_eq!(rt; done.report.events.slice(), step.events);
-    assert_eq!(rt; done.report.losses.slice(), step.losses);
-    assert_eq!(rt; done.report.rows.slice(), step.rows);
-    assert!(rt; shows(done.picture.as_slice(), step.grays));
-    let wanted = machine.counts().wanted(alloc, shot.geometry)?;
-    assert_eq!(rt; wanted.slice(), step.wanted);
-    Ok(())
+    compare(rt, alloc, &done, machine.counts(), shot.geometry, step)
 }
 
 /// Runs passes one after the other, and compares what each leaves.
