@@ -16,3 +16,4 @@ pub mod Upgrading
 pub mod Replaying
 pub mod Walking
 pub mod Trying
+pub mod Differing

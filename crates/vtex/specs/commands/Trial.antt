@@ -1,5 +1,6 @@
 -- The command `trial`: a settled walk in memory, over a texture and a path that are made from a number.
-use Rattle.std.specs.Prelude.{◌≡◌, ◌⊎◌, ℕ, ◌+◌, ◌*◌, ◌<◌, List, [], ◌++◌, take, codes, option_map, true, Result, Ok, Err}
+use Rattle.std.specs.Prelude.{◌≡◌, ◌⊎◌, ℕ, ◌+◌, ◌-◌, ◌*◌, ◌<◌, ◌==◌, not, min, List, [], ◌++◌, take, length, slice_index, codes, option_map, true, Result, Ok, Err}
+use Rattle.std.specs.List.{range_with_len, count_by}
 use Rattle.vt_outside.specs.Counts.{Rose}
 use Rattle.vt_outside.specs.Files.{gained}
 use Rattle.vt_text.specs.Numbers.{number_spelling}
@@ -159,3 +160,11 @@ trial_terms words = record {
 -- an output before and after, with a folder of which nothing was asked
 abbrev pub beside : FolderState → Gain → Course
 beside folder out = record { folder = record { before = folder; after = folder }; out = out }
+
+-- at how many of the first n places two texts have other bytes
+unfoldable pub other_bytes : List ℕ → List ℕ → ℕ → ℕ
+other_bytes a b n = count_by (λ i. not (slice_index a i == slice_index b i)) (range_with_len 0 n)
+
+-- how many bytes of two texts are other, place by place; what one has more counts too
+abbrev pub differing : List ℕ → List ℕ → ℕ
+differing a b = length a - length b + (length b - length a) + other_bytes a b (min (length a) (length b))

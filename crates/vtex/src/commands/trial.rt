@@ -21,6 +21,7 @@ ghost use Rattle.vtex.specs.commands.Trial.{
   WalksOver,
   Compares,
   IsOfTrial,
+  differing,
 };
 
 use super::generate::make_row;
@@ -327,18 +328,14 @@ fn picture_differing(
 
 // How many bytes of two texts are other, place by place; what one has more counts too.
 fn count_other(a: &[u8], b: &[u8]) -> u64
-    ensures { a.now ≡ b.now → result ≡ 0 }
+    ensures { result ≡ differing a.now b.now }
 {
-    if a == b {
-        return 0;
-    }
     let shared = a.len().min(b.len());
-    let mut count = (a.len() - shared) as u64;
-    count = count.saturating_add((b.len() - shared) as u64);
+    let mut count = 0;
     for i in 0..shared {
         if a[i] != b[i] {
-            count = count.saturating_add(1);
+            count += 1;
         }
     }
-    count
+    (a.len() - shared) as u64 + (b.len() - shared) as u64 + count
 }
