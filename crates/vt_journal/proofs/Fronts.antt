@@ -1,5 +1,5 @@
 -- Lists that begin with one another.
-use Rattle.std.proofs.Common.{◌≡◌, ◌++◌, ℕ, List, ap, ◌∙◌, append_assoc}
+use Rattle.std.proofs.Common.{◌++◌, ℕ, List, ap, ◌∙◌, append_assoc}
 use Rattle.vt_journal.specs.Fronts.{IsFrontOf}
 
 -- a front of a front

@@ -1,14 +1,10 @@
 -- The rows of the texture that are read for a row of a level.
-use Rattle.std.proofs.Common.{◌≡◌, ℕ, zero, suc, ◌+◌, ◌-◌, ◌*◌, ◌/◌, ◌^◌, ◌<◌, ◌≤◌, Option, Some, None, true, false, List, [], ◌∷◌, ◌++◌, map, min, refl, sym, ap, ◌∙◌, subst, arith, append_assoc}
-use Rattle.std.proofs.lemmas.List.{append-nil}
-use Rattle.std.proofs.Math.Nat.{pow-succ', mul-le-mul_left}
+use Rattle.std.proofs.Common.{◌≡◌, ℕ, zero, suc, ◌+◌, ◌*◌, ◌^◌, ◌<◌, ◌≤◌, Option, Some, None, true, false, List, [], ◌∷◌, ◌++◌, refl, sym, ap, ◌∙◌, subst, arith, append_assoc}
+use Rattle.std.proofs.Math.Nat.{pow-succ'}
 use Rattle.std.specs.Prelude.{option_map}
-use Rattle.std.specs.List.{range_with_len}
 use Rattle.vt_definitions.specs.Sides.{side}
-use Rattle.vt_outside.specs.Files.{noted}
 use Rattle.vt_outside.specs.declared.place.Place.{Place}
 use Rattle.vt_ppm.specs.declared.header.Header.{Header}
-use Rattle.vt_ppm.specs.Strips.{RowsAsked, row_length, row_start}
 use Rattle.vt_mip.specs.StripChains.{RowsRead, RowsFailed, row_place, row_places, first_under, rows_under}
 
 -- a row is one of a level exactly where a row of the texture lies under it

@@ -1,16 +1,14 @@
 -- The numbers of levels, and the room for their rows.
-use Rattle.std.proofs.Common.{◌≡◌, ℕ, zero, suc, ◌+◌, ◌-◌, ◌*◌, ◌/◌, ◌^◌, ◌<◌, ◌≤◌, ◌⊎◌, inl, inr, refl, sym, ap, ◌∙◌, subst, arith}
+use Rattle.std.proofs.Common.{◌≡◌, ℕ, zero, suc, ◌+◌, ◌-◌, ◌*◌, ◌/◌, ◌<◌, ◌≤◌, ◌⊎◌, inl, inr, refl, sym, ap, ◌∙◌, subst, arith}
 use Rattle.std.proofs.Math.Nat.{mul-le-mul_left}
-use Rattle.vt_definitions.specs.Depths.{IsDepth, texel_length}
+use Rattle.vt_definitions.specs.Depths.{texel_length}
 use Rattle.vt_definitions.specs.Sides.{side, level_count}
-use Rattle.vt_definitions.specs.Tiles.{IsTileSide}
 use Rattle.vt_definitions.proofs.Levels.{level_count_least}
 use Rattle.vt_ppm.specs.declared.header.Header.{Header}
 use Rattle.vt_ppm.specs.Format.{depth_of}
 use Rattle.vt_mip.specs.StripChains.{StripChainView, room_length, level_row_length}
 use Rattle.vt_mip.proofs.Fronts.{side_scaled}
 use Rattle.vt_ppm.specs.Strips.{IsTextureHeader}
-use Rattle.vt_mip.proofs.StripRows.{side_next}
 use Rattle.vt_mip.proofs.StripReads.{IsUpper, upper}
 
 -- no level before this one has both sides at most the tile side

@@ -1,5 +1,5 @@
 -- The rows of a level that are made of rows of the texture: their words.
-use Rattle.std.proofs.Common.{◌≡◌, ℕ, zero, suc, ◌+◌, ◌-◌, ◌*◌, ◌/◌, ◌<◌, ◌≤◌, List, Option, Some, None, Ok, Err, length, take, drop, refl, sym, ap, ◌∙◌, subst, arith}
+use Rattle.std.proofs.Common.{◌≡◌, ℕ, suc, ◌+◌, ◌*◌, ◌/◌, ◌<◌, ◌≤◌, List, Option, Some, None, Ok, Err, length, take, drop, refl, sym, ap, ◌∙◌, subst, arith}
 use Rattle.std.specs.Prelude.{IfSome, OnOk, Result}
 use Rattle.vt_definitions.specs.Depths.{IsDepth, AreBytes, sample_at, sample_base, texel_length, word_at, word_bytes, red_of, green_of, blue_of}
 use Rattle.vt_definitions.specs.Sides.{side}
@@ -10,7 +10,7 @@ use Rattle.vt_ppm.specs.Format.{depth_of}
 use Rattle.vt_ppm.specs.Image.{texel_of}
 use Rattle.vt_ppm.specs.Strips.{texture_of, rows_of}
 use Rattle.vt_ppm.proofs.SampleValues.{depth_is}
-use Rattle.vt_mip.specs.Chains.{box, clamped, halved, halved_word, chain, IsTexelRow}
+use Rattle.vt_mip.specs.Chains.{clamped, halved, halved_word, IsTexelRow}
 use Rattle.vt_mip.specs.Halves.{IsHalvedRow}
 use Rattle.vt_mip.specs.StripChains.{StripChainView, HasWords, texture_texel, level_row_length}
 use Rattle.vt_mip.proofs.PartSamples.{box_same, cut_sample}

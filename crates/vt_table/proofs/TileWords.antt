@@ -1,9 +1,7 @@
 -- The words of a tile.
-use Rattle.std.proofs.Common.{◌≡◌, ℕ, zero, suc, ◌+◌, ◌*◌, ◌/◌, ◌≤◌, List, length, get_or, take, refl, ap, ◌∙◌, arith}
-use Rattle.std.proofs.lemmas.List.{get_or-take}
+use Rattle.std.proofs.Common.{◌≡◌, ℕ, ◌+◌, ◌*◌, ◌/◌, ◌≤◌, List, length, ap, ◌∙◌, arith}
 use Rattle.std.proofs.lemmas.Nat.{div-mul-add, mul-le}
 use Rattle.vt_definitions.specs.Depths.{texel_length, word_at}
-use Rattle.vt_definitions.specs.Numbers.{number_from}
 use Rattle.vt_pages.specs.Shape.{Shape}
 use Rattle.vt_table.specs.Views.{tile_depth, tile_word}
 

@@ -1,5 +1,4 @@
-use Rattle.std.proofs.Common.{◌≡◌, ℕ, ◌+◌, sym, ap, arith}
-use Rattle.std.specs.Prelude.{slice_index}
+use Rattle.std.proofs.Common.{ℕ, ap, arith}
 use Rattle.vt_draw.specs.Shots.{run_of}
 use Rattle.vt_draw.proofs.Counts.{run-more}
 use Rattle.vt_draw.proofs.shots.count_pixel.Goals as goal

@@ -1,4 +1,4 @@
-use Rattle.std.proofs.Common.{◌≡◌, ℕ, ◌<◌, length, subst, sym, ◌∙◌, arith}
+use Rattle.std.proofs.Common.{◌≡◌, ℕ, subst, sym, ◌∙◌, arith}
 use Rattle.vt_draw.specs.Lookups.{IsFinest}
 use Rattle.vt_definitions.specs.Depths.{texel_bytes}
 use Rattle.vt_draw.specs.Shots.{wanted_page, IsDrawn}

@@ -1,7 +1,6 @@
-use Rattle.std.proofs.Common.{◌≡◌, ℕ, suc, ◌+◌, ◌-◌, ◌*◌, ◌/◌, ◌<◌, ◌≤◌, length, refl, sym, ap, ◌∙◌, subst, arith, rules}
+use Rattle.std.proofs.Common.{◌≡◌, ℕ, ◌+◌, ◌-◌, ◌*◌, ◌<◌, ◌≤◌, length, sym, subst, arith, rules}
 use Rattle.std.proofs.lemmas.Result.{on_ok_weaker}
 use Rattle.vt_outside.proofs.Untold.{OnErr-all}
-use Rattle.vt_definitions.specs.Depths.{texel_length}
 use Rattle.vt_definitions.specs.Sides.{side}
 use Rattle.vt_ppm.specs.declared.header.Header.{Header}
 use Rattle.vt_mip.proofs.StripRows.{first_words, one_row, two_rows}

@@ -1,4 +1,4 @@
-use Rattle.std.proofs.Common.{◌≡◌, ℕ, ◌+◌, ◌*◌, ◌/◌, ◌≤◌, length, ap, ◌∙◌, sym, refl, arith, rules}
+use Rattle.std.proofs.Common.{ℕ, ◌+◌, ◌*◌, ◌/◌, ◌≤◌, length, ap, ◌∙◌, sym, refl, arith}
 use Rattle.vt_mip.proofs.TakenRows.{half_room, rows_taken}
 use Rattle.vt_mip.proofs.taken_rows.halve_behind.Goals as goal
 

@@ -1,5 +1,5 @@
-use Rattle.std.proofs.Common.{◌/◌, ◌^◌, ◌<◌, ◌≤◌, subst, sym, ap, ◌∙◌, arith}
-use Rattle.vt_pages.specs.Pages.{columns_at, rows_at, index_at}
+use Rattle.std.proofs.Common.{◌/◌, ◌^◌, ◌<◌, ◌≤◌, subst, sym, ◌∙◌, arith}
+use Rattle.vt_pages.specs.Pages.{columns_at, rows_at}
 use Rattle.vt_pages.proofs.Counts.{columns_cover, rows_cover}
 use Rattle.vt_pages.proofs.Lines.{cut_at, texel_is}
 use Rattle.vt_pages.proofs.Seen.{seen}

@@ -1,5 +1,4 @@
-use Rattle.std.proofs.Common.{◌≡◌, ℕ, ◌+◌, ◌*◌, ◌/◌, List, take, refl, sym, ap, ◌∙◌, subst}
-use Rattle.vt_definitions.specs.Depths.{texel_length}
+use Rattle.std.proofs.Common.{ℕ, ◌+◌, ◌*◌, ◌/◌, List, sym, ap, ◌∙◌, subst}
 use Rattle.vt_ppm.specs.Image.{ImageView}
 use Rattle.vt_mip.specs.Halves.{IsHalf}
 use Rattle.vt_mip.specs.InPlace.{ShrinksFront}

@@ -1,4 +1,4 @@
-use Rattle.std.proofs.Common.{◌≡◌, ◌-◌, arith}
+use Rattle.std.proofs.Common.{◌-◌, arith}
 use Rattle.vt_mip.proofs.StripRoom.{room_grows, level_seen}
 use Rattle.vt_mip.proofs.StripRows.{row_seen}
 use Rattle.vt_mip.proofs.strip_chain.StripChain.row.Goals as goal

@@ -1,4 +1,4 @@
-use Rattle.std.proofs.Common.{◌≡◌, ℕ, ◌+◌, ◌*◌, ◌/◌, List, ◌∙◌, subst, sym, refl}
+use Rattle.std.proofs.Common.{ℕ, ◌+◌, ◌*◌, ◌/◌, List, ◌∙◌, subst, sym, refl}
 use Rattle.std.proofs.lemmas.List.{with_items_is}
 use Rattle.vt_definitions.specs.Depths.{texel_length}
 use Rattle.vt_outside.specs.Files.{IsPiece}

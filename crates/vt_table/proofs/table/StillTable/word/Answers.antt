@@ -1,4 +1,4 @@
-use Rattle.std.proofs.Common.{◌≡◌, ◌∙◌, sym, ap, ℕ, List}
+use Rattle.std.proofs.Common.{◌∙◌, sym, ap, ℕ, List}
 use Rattle.vt_table.specs.Views.{tile_word}
 use Rattle.vt_table.proofs.TileWords.{word_is}
 use Rattle.vt_table.proofs.table.StillTable.word.Goals as goal
