@@ -8,7 +8,7 @@ use crate::lookups::{Found, Lookup};
 use vt_pages::Geometry;
 
 // The page of the texel of a level that covers a place of level 0.
-#[inline]
+#[inline(always)]
 pub(crate) fn page_at_place(geometry: &Geometry, level: u32, column: u32, line: u32) -> u32
     requires level { level < levels_of geometry.now }
     requires column { column < geometry.now.width }
@@ -21,7 +21,7 @@ pub(crate) fn page_at_place(geometry: &Geometry, level: u32, column: u32, line: 
 }
 
 // What a look-up finds for a page, given what it found for the page of the pixel before.
-#[inline]
+#[inline(always)]
 pub(crate) fn found_for<K: Lookup>(lookup: &mut K, before: u32, found: Found, page: u32) -> Found
     requires before { IsFinest (K.shape lookup.old) (K.version lookup.old) (K.says lookup.old) before found }
     requires inside { page < pages_of (K.shape lookup.old) }
@@ -38,7 +38,7 @@ pub(crate) fn found_for<K: Lookup>(lookup: &mut K, before: u32, found: Found, pa
 }
 
 // The word at a place of level 0, in the page that was found for the page of that place at a level.
-#[inline]
+#[inline(always)]
 pub(crate) fn word_at_place<K: Lookup>(
     lookup: &mut K,
     found: &Found,

@@ -85,7 +85,7 @@ fn add_run(counts: &mut [u32], page: u32, run: u32)
 }
 
 // Counts a pixel: one that wants the page of the pixel before it makes that page's run longer, and any other begins a run.
-#[inline]
+#[inline(always)]
 fn count_pixel(counts: &mut [u32], before: u32, run: u32, page: u32) -> u32
     requires before { before < length counts.old }
     requires room { slice_index counts.old before + run < 2 ^ 32 }

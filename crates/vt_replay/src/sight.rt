@@ -189,7 +189,7 @@ impl Lookup for Sight<'_> {
         found
     }
 
-    #[inline]
+    #[inline(always)]
     fn texel(&mut self, found: &Found, x: u32, y: u32) -> u64 {
         let place = place_of(self.geometry, x, y);
         match self.tile {

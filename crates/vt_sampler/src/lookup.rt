@@ -41,7 +41,7 @@ impl<'a> Model for StillLookup<'a> {
 
 impl<'a> StillLookup<'a> {
     // The word at a place of the tile of a frame that a page is mapped to, which is mostly the frame that was found last.
-    #[inline]
+    #[inline(always)]
     #[tactic(auto, using(crate::proofs::Truths::found_word))]
     fn word(&self, frame: u32, place: u32) -> u64
         requires mapped { IsMapped (newest self.now.changes) frame }
@@ -143,7 +143,7 @@ impl Lookup for StillLookup<'_> {
         found
     }
 
-    #[inline]
+    #[inline(always)]
     fn texel(&mut self, found: &Found, x: u32, y: u32) -> u64 {
         self.word(found.slot, place_of(self.geometry, x, y))
     }
