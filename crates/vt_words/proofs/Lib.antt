@@ -1,3 +1,4 @@
 pub mod Truths
 pub mod Spelled
 pub mod Named
+pub mod Asked

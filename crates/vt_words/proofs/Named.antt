@@ -61,3 +61,10 @@ name_found prefix name h =
     let begins = (starts_is Decides-eqb name prefix _ refl).0 t.0 in
     let ends = ending_found (drop (length prefix) name) t.1 in
     (ends.0, ends.1, begins ∙ ap (λ (e : List ℕ). prefix ++ e) ends.2 ∙ sym (append_assoc prefix (four_digits ends.0) (codes ".ppm")))
+
+-- a prefix to which four digits were pushed, one after another, and an ending
+pub pushed : (prefix s1 s2 s3 s4 s5 s6 ending : List ℕ) (a b c d : ℕ) → s1 ≡ prefix → s2 ≡ s1 ++ a ∷ [] → s3 ≡ s2 ++ b ∷ []
+    → s4 ≡ s3 ++ c ∷ [] → s5 ≡ s4 ++ d ∷ [] → s6 ≡ s5 ++ ending → s6 ≡ prefix ++ (a ∷ b ∷ c ∷ d ∷ []) ++ ending
+pushed prefix s1 s2 s3 s4 s5 s6 ending a b c d e1 e2 e3 e4 e5 e6 =
+    let whole : s5 ≡ (((prefix ++ a ∷ []) ++ b ∷ []) ++ c ∷ []) ++ d ∷ [] = rw (e5, e4, e3, e2, e1) in
+    e6 ∙ ap (λ (s : List ℕ). s ++ ending) (whole ∙ simp append_assoc)

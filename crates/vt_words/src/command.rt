@@ -2,7 +2,7 @@
 
 ghost use Rattle.std.specs.Prelude.{◌≡◌, IfOk, IsErr, IsErrOf, IsNone, Some};
 ghost use Rattle.vt_words.specs.Arguments.{texts};
-ghost use Rattle.vt_words.specs.Commands.{command_text, walking_text, shown, IsLawful};
+ghost use Rattle.vt_words.specs.Commands.{command_text, named_text, other_text, walking_text, shown, IsLawful, IsAnswer};
 
 use crate::arguments::WordsError;
 use crate::generate::{GenWords, read_gen};
@@ -45,25 +45,54 @@ pub fn read_command<'a>(alloc: Global, words: &'a [String]) -> Result<Command<'a
     ensures lawful { IfOk result IsLawful }
     ensures refused { IsNone (command_text (texts words.entry.now)) → IsErr result }
 {
-    let Some(name) = words.first() else {
-        return Err(WordsError::Usage);
-    };
-    if name.as_str() == "plain" {
-        return read_plain(alloc, words).map(Command::Plain);
+    match words {
+        [name, ..] => read_named(alloc, name.as_str(), words),
+        [] => Err(WordsError::Usage),
     }
-    if name.as_str() == "tile" {
-        return read_tile(alloc, words).map(Command::Tile);
+}
+
+// Reads the words of a command of this name.
+fn read_named<'a>(alloc: Global, name: &str, words: &'a [String]) -> Result<Command<'a>, WordsError>
+    ensures { IsAnswer (named_text name.now (texts words.now)) result }
+{
+    if name == "plain" {
+        return match read_plain(alloc, words) {
+            Ok(read) => Ok(Command::Plain(read)),
+            Err(error) => Err(error),
+        };
     }
-    if name.as_str() == "info" {
-        return read_info(alloc, words).map(Command::Info);
+    if name == "tile" {
+        return match read_tile(alloc, words) {
+            Ok(read) => Ok(Command::Tile(read)),
+            Err(error) => Err(error),
+        };
     }
-    if name.as_str() == "gen" {
-        return read_gen(alloc, words).map(Command::Gen);
+    if name == "info" {
+        return match read_info(alloc, words) {
+            Ok(read) => Ok(Command::Info(read)),
+            Err(error) => Err(error),
+        };
     }
-    if name.as_str() == "upgrade" {
-        return read_upgrade(alloc, words).map(Command::Upgrade);
+    read_other(alloc, name, words)
+}
+
+// Reads the words of a command of this name that writes another file than `tile`, or that walks.
+fn read_other<'a>(alloc: Global, name: &str, words: &'a [String]) -> Result<Command<'a>, WordsError>
+    ensures { IsAnswer (other_text name.now (texts words.now)) result }
+{
+    if name == "gen" {
+        return match read_gen(alloc, words) {
+            Ok(read) => Ok(Command::Gen(read)),
+            Err(error) => Err(error),
+        };
     }
-    read_walking(alloc, name.as_str(), words)
+    if name == "upgrade" {
+        return match read_upgrade(alloc, words) {
+            Ok(read) => Ok(Command::Upgrade(read)),
+            Err(error) => Err(error),
+        };
+    }
+    read_walking(alloc, name, words)
 }
 
 // Reads the words of a command of this name that walks, or draws what a walk has left.
@@ -72,19 +101,25 @@ fn read_walking<'a>(
     name: &str,
     words: &'a [String],
 ) -> Result<Command<'a>, WordsError>
-    ensures read { IfOk result (λ command. walking_text name.now (texts words.now) ≡ Some (shown command)) }
-    ensures usage { IsErrOf result WordsError.Usage → IsNone (walking_text name.now (texts words.now)) }
-    ensures lawful { IfOk result IsLawful }
-    ensures refused { IsNone (walking_text name.now (texts words.now)) → IsErr result }
+    ensures { IsAnswer (walking_text name.now (texts words.now)) result }
 {
     if name == "replay" {
-        return read_replay(alloc, words).map(Command::Replay);
+        return match read_replay(alloc, words) {
+            Ok(read) => Ok(Command::Replay(read)),
+            Err(error) => Err(error),
+        };
     }
     if name == "walk" {
-        return read_walk(alloc, words).map(Command::Walk);
+        return match read_walk(alloc, words) {
+            Ok(read) => Ok(Command::Walk(read)),
+            Err(error) => Err(error),
+        };
     }
     if name == "trial" {
-        return Ok(Command::Trial(read_trial(alloc, words)?));
+        return match read_trial(alloc, words) {
+            Ok(read) => Ok(Command::Trial(read)),
+            Err(error) => Err(error),
+        };
     }
     Err(WordsError::Usage)
 }

@@ -36,7 +36,6 @@ pub fn read_gen<'a>(alloc: Global, words: &'a [String]) -> Result<GenWords<'a>, 
     gen_values(&matches).ok_or(WordsError::Usage)
 }
 
-#[tactic(auto, unfolding(crate::specs::Gen::gen_rules))]
 fn gen_rows<'a>() -> &'a [Argument<'a>]
     ensures rules { map rule_for result.now ≡ gen_rules }
     ensures simple { is_simple_and_free gen_app ≡ true }

@@ -25,7 +25,6 @@ pub fn read_info<'a>(alloc: Global, words: &'a [String]) -> Result<InfoWords<'a>
     info_values(&matches).ok_or(WordsError::Usage)
 }
 
-#[tactic(auto, unfolding(crate::specs::Info::info_rules))]
 fn info_rows<'a>() -> &'a [Argument<'a>]
     ensures rules { map rule_for result.now ≡ info_rules }
     ensures simple { is_simple_and_free info_app ≡ true }

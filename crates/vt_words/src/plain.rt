@@ -35,7 +35,6 @@ pub fn read_plain<'a>(alloc: Global, words: &'a [String]) -> Result<PlainWords<'
     plain_values(&matches).ok_or(WordsError::Usage)
 }
 
-#[tactic(auto, unfolding(crate::specs::Plain::plain_rules))]
 fn plain_rows<'a>() -> &'a [Argument<'a>]
     ensures rules { map rule_for result.now ≡ plain_rules }
     ensures simple { is_simple_and_free plain_app ≡ true }

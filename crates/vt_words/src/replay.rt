@@ -36,7 +36,6 @@ pub fn read_replay<'a>(alloc: Global, words: &'a [String]) -> Result<ReplayWords
     replay_values(&matches).ok_or(WordsError::Usage)
 }
 
-#[tactic(auto, unfolding(crate::specs::Replay::replay_rules))]
 fn replay_rows<'a>() -> &'a [Argument<'a>]
     ensures rules { map rule_for result.now ≡ replay_rules }
     ensures simple { is_simple_and_free replay_app ≡ true }

@@ -32,7 +32,6 @@ pub fn read_tile<'a>(alloc: Global, words: &'a [String]) -> Result<TileWords<'a>
     tile_values(&matches).ok_or(WordsError::Usage)
 }
 
-#[tactic(auto, unfolding(crate::specs::Tile::tile_rules))]
 fn tile_rows<'a>() -> &'a [Argument<'a>]
     ensures rules { map rule_for result.now ≡ tile_rules }
     ensures simple { is_simple_and_free tile_app ≡ true }

@@ -29,7 +29,6 @@ pub fn read_trial(alloc: Global, words: &[String]) -> Result<TrialWords, WordsEr
     trial_values(&matches).ok_or(WordsError::Usage)
 }
 
-#[tactic(auto, unfolding(crate::specs::Trial::trial_rules))]
 fn trial_rows<'a>() -> &'a [Argument<'a>]
     ensures rules { map rule_for result.now ≡ trial_rules }
     ensures simple { is_simple_and_free trial_app ≡ true }

@@ -27,7 +27,6 @@ pub fn read_upgrade<'a>(alloc: Global, words: &'a [String]) -> Result<UpgradeWor
     upgrade_values(&matches).ok_or(WordsError::Usage)
 }
 
-#[tactic(auto, unfolding(crate::specs::Upgrade::upgrade_rules))]
 fn upgrade_rows<'a>() -> &'a [Argument<'a>]
     ensures rules { map rule_for result.now ≡ upgrade_rules }
     ensures simple { is_simple_and_free upgrade_app ≡ true }

@@ -64,7 +64,6 @@ pub fn read_walk<'a>(alloc: Global, words: &'a [String]) -> Result<WalkWords<'a>
     walk_values(&matches).ok_or(WordsError::Usage)
 }
 
-#[tactic(auto, unfolding(crate::specs::Walk::walk_rules))]
 fn walk_rows<'a>() -> &'a [Argument<'a>]
     ensures rules { map rule_for result.now ≡ walk_rules }
     ensures simple { is_simple_and_free walk_app ≡ true }
