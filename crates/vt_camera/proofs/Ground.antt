@@ -2,7 +2,7 @@
 use Rattle.std.proofs.Common.{◌≡◌, ℕ, ◌+◌, ◌*◌, ◌/◌, ◌%◌, ◌<◌, ◌≤◌, ℤ, pos, negsuc, ◌+ℤ◌, ◌-ℤ◌, ◌*ℤ◌, refl, sym, ap, ◌∙◌, arith}
 use Rattle.std.proofs.Common.{to_z, of_z, to_z-of_z, FitsSigned}
 use Rattle.std.specs.Prelude.{◌≤ℤ◌, unsigned_abs}
-use Rattle.std.specs.Int.{Width}
+use Rattle.std.specs.Int.{Width, w64}
 use Rattle.std.proofs.lemmas.Int.{ints, int_rem_euclid_is, unsigned_abs-mul}
 use Rattle.std.proofs.lemmas.Nat.{mul-le}
 use Rattle.vt_camera.specs.declared.rows.Axis.{Axis}
@@ -124,3 +124,32 @@ row_shown width focal camera x y columns rows middle away place v some e f g pos
 pub same_axis : (side level : ℕ) (middle middle' across across' : ℤ) (axis : Axis) → middle ≡ middle'
     → across ≡ across' → IsAxis side level middle across axis → IsAxis side level middle' across' axis
 same_axis side level middle middle' across across' axis e f is = rw (← e, ← f) is
+
+-- the code's middle is the definition's, where its numbers are
+pub same_middle : (place place' direction direction' result : ℤ) (off side : ℕ) → result ≡ middle_of place off direction side
+    → place ≡ place' → direction ≡ direction' → result ≡ middle_of place' off direction' side
+same_middle place place' direction direction' result off side e f g =
+    e ∙ ap (λ (p : ℤ). middle_of p off direction side) f ∙ ap (λ (d : ℤ). middle_of place' off d side) g
+
+-- the bounds of an axis, and that its numbers fit
+pub axis_middle_low : {side level : ℕ} {middle across : ℤ} {axis : Axis} → IsAxis side level middle across axis
+    → pos 4503599627370496 ≤ℤ to_z w64 (of_z w64 axis.middle)
+axis_middle_low is = omega (arith, ints, is.middle_is, is.middle_low, is.middle_high)
+
+pub axis_middle_high : {side level : ℕ} {middle across : ℤ} {axis : Axis} → IsAxis side level middle across axis
+    → to_z w64 (of_z w64 axis.middle) ≤ℤ pos 13510798882144255
+axis_middle_high is = omega (arith, ints, is.middle_is, is.middle_low, is.middle_high)
+
+pub axis_across_low : {side level : ℕ} {middle across : ℤ} {axis : Axis} → IsAxis side level middle across axis
+    → negsuc 274877906943 ≤ℤ to_z w64 (of_z w64 axis.across)
+axis_across_low is = omega (arith, ints, is.across_is, is.across_low, is.across_high)
+
+pub axis_across_high : {side level : ℕ} {middle across : ℤ} {axis : Axis} → IsAxis side level middle across axis
+    → to_z w64 (of_z w64 axis.across) ≤ℤ pos 274877906944
+axis_across_high is = omega (arith, ints, is.across_is, is.across_low, is.across_high)
+
+pub axis_middle : {side level : ℕ} {middle across : ℤ} {axis : Axis} → IsAxis side level middle across axis → to_z w64 (of_z w64 axis.middle) ≡ axis.middle
+axis_middle is = omega (arith, ints, is.middle_is, is.middle_low, is.middle_high)
+
+pub axis_across : {side level : ℕ} {middle across : ℤ} {axis : Axis} → IsAxis side level middle across axis → to_z w64 (of_z w64 axis.across) ≡ across
+axis_across is = omega (arith, ints, is.across_is, is.across_low, is.across_high)

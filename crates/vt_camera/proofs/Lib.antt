@@ -6,3 +6,4 @@ pub mod PathReadingLemmas
 pub mod WayLemmas
 pub mod PathFlawLemmas
 pub mod PathSteps
+pub mod Bits

@@ -1,10 +1,10 @@
 //! A row of a picture: its mip level, and the texel that each of its pixels shows.
 
 ghost use Rattle.std.specs.Prelude.{◌≡◌, ℕ, ◌+◌, ◌-◌, ◌*◌, ◌/◌, ◌%◌, ◌^◌, ◌<◌, ◌≤◌, ℤ, pos, negsuc, ◌+ℤ◌, ◌-ℤ◌, ◌*ℤ◌, ◌≤ℤ◌, ◌<ℤ◌, unsigned_abs};
-ghost use Rattle.vt_definitions.specs.Limits.{most_picture_side};
+ghost use Rattle.vt_definitions.specs.Limits.{most_picture_side, most_focal};
 ghost use Rattle.vt_definitions.specs.Sides.{side};
 ghost use Rattle.vt_camera.specs.Paths.{IsCamera};
-ghost use Rattle.vt_camera.specs.Rows.{longest_side, IsSurface, floor_div, ring_place, level_within, off_middle, row_of, row_level, row_place};
+ghost use Rattle.vt_camera.specs.Rows.{longest_side, IsSurface, floor_div, ring_place, distance, span, level_within, off_middle, row_of, row_level, row_place};
 ghost use Rattle.vt_camera.specs.RowParts.{whole_turns, middle_of, part_of, turn_at, on_ring, IsAxis};
 
 use crate::paths::{Camera, Path};
@@ -85,9 +85,8 @@ impl Row {
     {
         let width = path.width();
         let focal = path.focal();
-        let height = camera.h.unsigned_abs();
-        let distance = height * u64::from(focal) / (u64::from(y) + 1);
-        let span = height / (u64::from(y) + 1);
+        let distance = distance_of(camera, focal, y);
+        let span = span_of(camera, y);
         let level = greatest_level(span, surface.levels - 1);
         Row {
             width,
@@ -96,19 +95,8 @@ impl Row {
             y,
             surface: *surface,
             level,
-            // What is taken away from this middle is to be rounded down, so the difference is rounded up.
-            columns: Axis::of(
-                finer(middle(camera.u, distance, camera.c, surface.width)) + 32767,
-                scaled(span, camera.s),
-                surface.width,
-                level,
-            ),
-            rows: Axis::of(
-                finer(middle(camera.v, distance, camera.s, surface.height)),
-                scaled(span, camera.c),
-                surface.height,
-                level,
-            ),
+            columns: columns_of(camera, distance, span, surface.width, level),
+            rows: rows_of(camera, distance, span, surface.height, level),
         }
     }
 
@@ -165,10 +153,58 @@ impl Row {
     {
         let off = half_pixels(x, self.width);
         (
-            whole_places(self.columns.middle - away(off, self.columns.across)),
-            whole_places(self.rows.middle + away(off, self.rows.across)),
+            place_before(self.columns.middle, self.columns.across, off),
+            place_beyond(self.rows.middle, self.rows.across, off),
         )
     }
+}
+
+// How far off the ground of row y lies.
+fn distance_of(camera: &Camera, focal: u32, y: u32) -> u64
+    requires limits { IsCamera camera.now }
+    requires focal { focal ≤ most_focal }
+    ensures value { result ≡ distance focal camera.now y }
+    ensures high { result ≤ 68719476736 }
+{
+    camera.h.unsigned_abs() * u64::from(focal) / (u64::from(y) + 1)
+}
+
+// How much ground a pixel of row y spans.
+fn span_of(camera: &Camera, y: u32) -> u64
+    requires { IsCamera camera.now }
+    ensures value { result ≡ span camera.now y }
+    ensures high { result ≤ 16777216 }
+{
+    camera.h.unsigned_abs() / (u64::from(y) + 1)
+}
+
+// The columns of a row of this distance, span and level, on a texture of this width.
+fn columns_of(camera: &Camera, distance: u64, span: u64, side: u32, level: u32) -> Axis
+    requires limits { IsCamera camera.now }
+    requires distance { distance ≤ 68719476736 }
+    requires span { span ≤ 16777216 }
+    requires side_low { 1 ≤ side }
+    requires side_high { side ≤ longest_side }
+    requires level { level ≤ 16 }
+    ensures { IsAxis side level (middle_of camera.now.u distance camera.now.c side *ℤ pos 32768 +ℤ pos 32767) (pos span *ℤ camera.now.s) result }
+{
+    // What is taken away from this middle is to be rounded down, so the difference is rounded up.
+    let middle = finer(middle(camera.u, distance, camera.c, side)) + 32767;
+    Axis::of(middle, scaled(span, camera.s), side, level)
+}
+
+// The rows of a row of this distance, span and level, on a texture of this height.
+fn rows_of(camera: &Camera, distance: u64, span: u64, side: u32, level: u32) -> Axis
+    requires limits { IsCamera camera.now }
+    requires distance { distance ≤ 68719476736 }
+    requires span { span ≤ 16777216 }
+    requires side_low { 1 ≤ side }
+    requires side_high { side ≤ longest_side }
+    requires level { level ≤ 16 }
+    ensures { IsAxis side level (middle_of camera.now.v distance camera.now.s side *ℤ pos 32768) (pos span *ℤ camera.now.c) result }
+{
+    let middle = finer(middle(camera.v, distance, camera.s, side));
+    Axis::of(middle, scaled(span, camera.c), side, level)
 }
 
 // The greatest level up to the last whose texels are no wider than the span, or 0.
@@ -259,6 +295,38 @@ fn away(off: i64, across: i64) -> i64
     ensures high { result ≤ℤ pos 562675075514368 }
 {
     off * across
+}
+
+// The 1/256 texel of a pixel that lies before its row's middle by as much as it lies off it.
+#[inline(always)]
+fn place_before(middle: i64, across: i64, off: i64) -> u64
+    requires middle_low { pos 4503599627370496 ≤ℤ middle }
+    requires middle_high { middle ≤ℤ pos 13510798882144255 }
+    requires across_low { negsuc 274877906943 ≤ℤ across }
+    requires across_high { across ≤ℤ pos 274877906944 }
+    requires off_low { negsuc 2046 ≤ℤ off }
+    requires off_high { off ≤ℤ pos 2047 }
+    ensures value { pos result ≡ floor_div (middle -ℤ off *ℤ across) 32768 }
+    ensures positive { pos 0 ≤ℤ (middle -ℤ off *ℤ across) }
+    ensures high { result < 549755813888 }
+{
+    whole_places(middle - away(off, across))
+}
+
+// And of one that lies beyond it.
+#[inline(always)]
+fn place_beyond(middle: i64, across: i64, off: i64) -> u64
+    requires middle_low { pos 4503599627370496 ≤ℤ middle }
+    requires middle_high { middle ≤ℤ pos 13510798882144255 }
+    requires across_low { negsuc 274877906943 ≤ℤ across }
+    requires across_high { across ≤ℤ pos 274877906944 }
+    requires off_low { negsuc 2046 ≤ℤ off }
+    requires off_high { off ≤ℤ pos 2047 }
+    ensures value { pos result ≡ floor_div (middle +ℤ off *ℤ across) 32768 }
+    ensures positive { pos 0 ≤ℤ (middle +ℤ off *ℤ across) }
+    ensures high { result < 549755813888 }
+{
+    whole_places(middle + away(off, across))
 }
 
 // The 1/256 texel that a place in 1/2^23 texel falls on.
