@@ -36,7 +36,7 @@ same_texel_further z w k side some e positive =
     let none : w +ℤ pos (0 * (256 * side)) ≡ pos (unsigned_abs w) = omega (arith, ints) in
     same_texel w 0 side (unsigned_abs w) some none ∙ sym (same_texel z k side (unsigned_abs w) some (e ∙ m))
 
-product_at_most : (a b : ℤ) (m n : ℕ) → unsigned_abs a ≤ m → unsigned_abs b ≤ n → unsigned_abs (a *ℤ b) ≤ m * n
+pub product_at_most : (a b : ℤ) (m n : ℕ) → unsigned_abs a ≤ m → unsigned_abs b ≤ n → unsigned_abs (a *ℤ b) ≤ m * n
 product_at_most a b m n f g = omega (arith, unsigned_abs-mul a b, mul-le (unsigned_abs a) (unsigned_abs b) m n f g)
 
 -- how far a pixel can lie from the row's middle

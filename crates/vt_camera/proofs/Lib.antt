@@ -7,3 +7,4 @@ pub mod WayLemmas
 pub mod PathFlawLemmas
 pub mod PathSteps
 pub mod Bits
+pub mod Products
