@@ -29,11 +29,7 @@ pub fn word_at<const DEPTH: u32>(bytes: &[u8], i: usize) -> u64
     requires inside { texel_length DEPTH * i + texel_length DEPTH ≤ length bytes.now }
     ensures { result ≡ word_at DEPTH bytes.now i }
 {
-    if DEPTH == 1 {
-        narrow_word(bytes, i)
-    } else {
-        wide_word(bytes, i)
-    }
+    word_in(bytes, DEPTH, i)
 }
 
 /// The word of texel `i` of bytes whose samples have `depth` bytes, 1 or 2: as `word_at` at a depth that is not known beforehand.
