@@ -2,3 +2,4 @@ pub mod Truths
 pub mod Spelled
 pub mod Named
 pub mod Asked
+pub mod Refusals
