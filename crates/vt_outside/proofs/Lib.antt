@@ -2,3 +2,4 @@ pub mod Changes
 pub mod Untold
 pub mod Fronts
 pub mod SameLists
+pub mod Named

@@ -12,7 +12,7 @@ pub struct Failed;
 pub struct NoMemory;
 
 /// Why a call on the outside was refused.
-#[derive(Clone, Copy, Debug, PartialEq, Eq)]
+#[derive(Clone, Copy, Debug)]
 pub enum OutsideError {
     /// The call failed.
     Failed,

@@ -6,7 +6,7 @@ ghost use Rattle.vt_outside.specs.Fails.{is_listed};
 use crate::Items;
 
 /// A call on an object in memory that is to fail. Each kind of call is counted from 0 over the folder or the sink.
-#[derive(Clone, Copy, Debug, PartialEq, Eq)]
+#[derive(Clone, Copy, PartialEq, Eq)]
 pub enum Fail {
     /// The call of `open` of that number.
     Open(u64),

@@ -1,7 +1,7 @@
 use crate::{Gate, Point};
 
 /// A gate that makes nothing wait.
-#[derive(Clone, Copy, Debug)]
+#[derive(Clone, Copy)]
 pub struct OpenGate;
 
 impl Gate for OpenGate {

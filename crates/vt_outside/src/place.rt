@@ -7,7 +7,7 @@ pub struct Place {
 }
 
 /// A point of a pass that a gate is told of.
-#[derive(Clone, Copy, Debug, PartialEq, Eq)]
+#[derive(Clone, Copy)]
 pub enum Point {
     /// After the pin and before the row's first look-up.
     Row { sampler: u32, row: u32 },
