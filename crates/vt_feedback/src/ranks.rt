@@ -1,9 +1,9 @@
 //! The ranks by which std's sort puts wanted pages into their order.
 
-ghost use Rattle.std.specs.Prelude.{◌≡◌, ℕ, ◌-◌, ◌<◌, ◌≤◌, length, IfOk, OnOk, map, slice_index};
+ghost use Rattle.std.specs.Prelude.{◌≡◌, ℕ, ◌-◌, ◌<◌, ◌≤◌, length, IfOk, OnOk, map, nat_lt, slice_index};
 ghost use Rattle.std.specs.Bool.{MatchBool};
 ghost use Rattle.vt_pages.specs.Pages.{pages_of};
-ghost use Rattle.vt_feedback.specs.Ranks.{most_pixels, ranks_below, wanted_by};
+ghost use Rattle.vt_feedback.specs.Ranks.{most_pixels, rank_of, ranks_below, wanted_by};
 
 use crate::{Wanted, Wants};
 use std::alloc::Global;
@@ -36,6 +36,26 @@ fn are_unwanted(counts: &[u32]) -> bool
     pixels == 0
 }
 
+// Whether a pixel wants a page that so many pixels want.
+fn is_wanted(pixels: u32) -> bool
+    ensures { result ≡ nat_lt 0 pixels }
+{
+    pixels > 0
+}
+
+// The rank of a page.
+fn rank_at(geometry: &Geometry, counts: &[u32], page: u32) -> Rank
+    requires pages { length counts.now ≡ pages_of geometry.now }
+    requires inside { page < pages_of geometry.now }
+    ensures { result ≡ rank_of geometry.now counts.now page }
+{
+    Rank {
+        fineness: geometry.levels() - 1 - geometry.page_at(page).level,
+        rarity: u32::MAX - counts[page as usize],
+        page,
+    }
+}
+
 // Adds the ranks of the pages from one on up to another that a pixel wants to those of the pages before them.
 fn add_ranks(
     ranks: &mut Vec<Rank>,
@@ -51,13 +71,8 @@ fn add_ranks(
     ensures { OnOk result (ranks.new.items ≡ ranks_below geometry.now counts.now end) }
 {
     for page in first..end {
-        let pixels = counts[page as usize];
-        if pixels > 0 {
-            ranks.push(Rank {
-                fineness: geometry.levels() - 1 - geometry.page_at(page).level,
-                rarity: u32::MAX - pixels,
-                page,
-            })?;
+        if is_wanted(counts[page as usize]) {
+            ranks.push(rank_at(geometry, counts, page))?;
         }
     }
     Ok(())

@@ -1,8 +1,11 @@
 -- What a loader does, one request after another.
-use Rattle.std.proofs.Common.{◌≡◌, ℕ, Bool, cond, true, false, List, [], ◌∷◌, ◌++◌, refl, sym, ap, ◌∙◌, subst, append_assoc}
-use Rattle.std.specs.Prelude.{filter}
+use Rattle.std.proofs.Common.{◌≡◌, ℕ, Bool, cond, true, false, List, [], ◌∷◌, ◌++◌, length, take, drop, Option, refl, sym, ap, ◌∙◌, subst, append_assoc}
+use Rattle.std.specs.Prelude.{filter, IfSome}
+use Rattle.std.specs.List.{refill}
+use Rattle.std.proofs.Math.Seq.{take-append_seam}
 use Rattle.std.proofs.lemmas.List.{map-append}
 use Rattle.std.proofs.lemmas.List.Elements.{filter-append}
+use Rattle.vt_outside.specs.Files.{IsPiece}
 use Rattle.vt_outside.specs.declared.outside.File.{Ghosts as FileMeanings}
 use Rattle.vt_pages.specs.Shape.{Shape}
 use Rattle.vt_queue.specs.declared.items.Request.{Request}
@@ -14,6 +17,13 @@ use Rattle.vt_queue.specs.Steps.{Takes, Puts}
 use Rattle.vt_queue.proofs.Gathered.{append_nil}
 use Rattle.vt_load.specs.Readings.{is_readable, IsReading, AreReadings}
 use Rattle.vt_load.specs.Loads.{Answers, Loads}
+
+-- A tile that was read into a buffer's lent bytes stands in the buffer.
+pub lent_tile : (told : Option (List ℕ)) (start : ℕ) (xs ws : List ℕ) → length ws ≡ length xs → IfSome told (λ b. IsPiece b start ws)
+    → IfSome told (λ b. IsPiece b start (refill (length xs) xs ws))
+lent_tile told start xs ws e h = subst (λ l. IfSome told (λ b. IsPiece b start l)) (sym back) h where
+  back : refill (length xs) xs ws ≡ ws
+  back = ap (λ (n : ℕ). take n (ws ++ drop (length ws) xs)) (sym e) ∙ take-append_seam ws (drop (length ws) xs)
 
 module _ {F : Type 0} (g : FileMeanings F) where
   -- Readings after others are readings.

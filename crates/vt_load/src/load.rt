@@ -1,6 +1,6 @@
 //! Requests, read one after another.
 
-ghost use Rattle.std.specs.Prelude.{◌≡◌, ◌+◌, ◌<◌, ◌≤◌, true, [], ◌∷◌, length, IfSome};
+ghost use Rattle.std.specs.Prelude.{◌≡◌, ◌+◌, ◌<◌, ◌≤◌, true, nat_lt, [], ◌∷◌, length, IfSome};
 ghost use Rattle.vt_outside.specs.Counts.{Rose};
 ghost use Rattle.vt_outside.specs.Files.{IsPiece};
 ghost use Rattle.vt_pages.specs.Pages.{pages_of};
@@ -15,6 +15,7 @@ use std::sync::Wait;
 use std::thread;
 use std::thread::Threads;
 use vt_outside::{Bytes, File, Gate, Point};
+use vt_pages::Geometry;
 use vt_queue::{Full, Loaded, Outcome, QueuePass, Request, RequestQueue, ResultQueue};
 use vt_store::{Store, tile_length};
 
@@ -65,12 +66,19 @@ fn read_tile<F: File>(store: &mut Store<F>, page: u32, buffer: &mut Bytes) -> Ou
     }
 }
 
+// Whether a geometry has the page.
+fn has_page(geometry: &Geometry, page: u32) -> bool
+    ensures { result ≡ nat_lt page (pages_of geometry.now) }
+{
+    page < geometry.page_count()
+}
+
 // Whether the store has the page, and the buffer the length of a tile.
 fn is_readable<F: File>(store: &Store<F>, request: &Request) -> bool
     ensures { result ≡ is_readable store.now.shape store.now.depth request.now }
 {
     let geometry = store.geometry();
-    request.page < geometry.page_count()
+    has_page(&geometry, request.page)
         && request.buffer.len() == tile_length(&geometry, store.depth())
 }
 

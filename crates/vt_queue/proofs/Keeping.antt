@@ -1,11 +1,11 @@
 -- Each step keeps the rule of a queue.
 use Rattle.std.proofs.Common.{subst, ◌≡◌, ℕ, zero, suc, ◌<◌, List, [], ◌∷◌, ◌++◌, length, set, sym, refl, ap, ◌∙◌, append_assoc, arith}
-use Rattle.std.specs.Prelude.{All, Contains, IsPermutation}
+use Rattle.std.specs.Prelude.{All, Contains, IsPermutation, Option, None, Some, MatchOption, IfNone}
 use Rattle.std.proofs.lemmas.List.Sorted.{IsPermutation-append_left, IsPermutation-trans, All-permutation}
 use Rattle.std.proofs.lemmas.List.Elements.{All-nil, All-head, All-tail, All-set, All-push, All-append, All-weaker, All-contains, All-contains_itself, Contains-append_left}
 use mathlib.Core.Option.{some, some-injective, some-ne-none}
 use lib.ListN.{get_elem?}
-use Rattle.crossbeam_queue.specs.Fifo.{Pushes, Pops, Forks, Merges, Learns}
+use Rattle.crossbeam_queue.specs.Fifo.{Pushes, Pops, Forks, Merges, Learns, Held}
 use Rattle.vt_queue.specs.declared.views.PassView.{PassView}
 use Rattle.vt_queue.specs.PassViews.{pass_view, shares_of, kept_view, given_view, joined, spent_view}
 use Rattle.vt_queue.specs.Orders.{placed, gathered}
@@ -153,6 +153,15 @@ module _ {I : Type 0} where
           counts = refl;
         },
       )
+
+  -- Where nothing was taken, no item was left at a step.
+  pub empty_at : (r : Option I) (v w : PassView I) (Taken : I → Type 0) → MatchOption r ((w ≡ v) × Held 0 (IsAtStep v)) Taken
+      → IfNone r ((w ≡ v) × IsAtStep w [])
+  empty_at None v w Taken h = (h.0, subst (λ (u : PassView I). IsAtStep u []) (sym h.0) (at_none h.1.0 h.1.1 h.1.2)) where
+    at_none : (items : List I) → length items ≡ 0 → IsAtStep v items → IsAtStep v []
+    at_none [] none at = at
+    at_none (x ∷ xs) none at = absurd (omega (arith, none))
+  empty_at (Some x) v w Taken h = tt
 
   -- What is gathered stays where a pass is split,
   split_same : (f : PassView I → List (ℕ × I)) (views : List (PassView I)) (port : ℕ) (v l r : PassView I)

@@ -1,4 +1,4 @@
-ghost use Rattle.std.specs.Prelude.{◌≡◌, ◌+◌, ◌-◌, ◌/◌, ◌≤◌, [], List, IfOk, IfErr, OnErr, IfSome, IfNone, OnOk};
+ghost use Rattle.std.specs.Prelude.{◌≡◌, ◌+◌, ◌-◌, ◌/◌, ◌<◌, ◌≤◌, [], List, MatchBool, IfOk, IfErr, OnErr, IfSome, IfNone, OnOk};
 ghost use Rattle.vt_definitions.specs.Limits.{most_entries};
 ghost use Rattle.vt_queue.specs.PassViews.{first_view, joined, Splits, all_shares, split_part};
 ghost use Rattle.vt_queue.specs.Steps.{Puts, Takes, IsAtStep};
@@ -16,6 +16,21 @@ const SPLITS: u64 = (1 << 60) - 1;
 
 // One of so many splits goes to the pass that is split off.
 const PART: u64 = 1024;
+
+// Whether a pass has no splits left.
+fn are_spent(splits: u64) -> bool
+    ensures { MatchBool result (splits ≡ 0) (0 < splits) }
+{
+    splits == 0
+}
+
+// How many splits go to the pass that is split off.
+fn given_of(splits: u64) -> u64
+    requires { 0 < splits }
+    ensures { result ≡ (splits - 1) / split_part }
+{
+    (splits - 1) / PART
+}
 
 /// The item that a full queue hands back.
 #[derive(Drop)]
@@ -61,10 +76,10 @@ impl<I> Queue<I> {
         ensures part { IfOk result (λ other. splits_of other ≡ (splits_of pass.old - 1) / split_part) }
         ensures refused { OnErr result ((pass.new ≡ pass.old) × (splits_of pass.old ≡ 0)) }
     {
-        if pass.splits == 0 {
+        if are_spent(pass.splits) {
             return Err(NoMemory);
         }
-        let given = (pass.splits - 1) / PART;
+        let given = given_of(pass.splits);
         let other = self.ring.another::<Sharing>(&mut pass.pass);
         pass.splits = pass.splits - 1 - given;
         Ok(QueuePass {

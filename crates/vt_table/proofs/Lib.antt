@@ -1,4 +1,5 @@
 pub mod Rooms
+pub mod Entries
 pub mod TileWords
 pub mod Keeping
 pub mod Holding

@@ -1,4 +1,4 @@
-use Rattle.std.proofs.Common.{rules, arith}
+use Rattle.std.proofs.Common.{inr, rules, arith}
 use Rattle.std.proofs.lemmas.Grind.{common_steps}
 use Rattle.vt_queue.specs.Queues.{view_of}
 use Rattle.vt_load.proofs.Loading.{begins, more_as}
@@ -25,3 +25,6 @@ loop-left-preserved g c = let i = c.loop-left.invariant in let took = c.in-Some.
   room = search rules;
   count = grind (arith, common_steps);
 }
+
+pub returns-clause-ended : goal.returns-clause-ended
+returns-clause-ended g c = let e = c.loop-left.invariant.count in let none = c.loop-left-test.false in inr (omega (arith, e, none))

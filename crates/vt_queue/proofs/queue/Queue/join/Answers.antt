@@ -7,3 +7,6 @@ absorb-requires-clause-rule g c = merges _ _ _ _ (let e = c.requires.0.splits in
 
 pub learn_as-requires-clause-rule : goal.learn_as-requires-clause-rule
 learn_as-requires-clause-rule g c = learns _ _
+
+pub returns-clause-splits : goal.returns-clause-splits
+returns-clause-splits g c = omega arith

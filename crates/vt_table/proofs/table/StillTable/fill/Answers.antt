@@ -1,8 +1,10 @@
 use Rattle.std.proofs.Common.{◌≡◌, ◌+◌, ◌*◌, ◌∙◌, ◌<◌, ◌≤◌, inl, inr, ap, sym, subst, ℕ, length, length-set, arith}
-use Rattle.std.proofs.lemmas.List.{with_items_is}
+use Rattle.std.proofs.lemmas.List.{with_items_is, get_or-set_same, get_or-set_other}
 use Rattle.vt_definitions.specs.Depths.{IsDepth, texel_length}
 use Rattle.vt_journal.specs.Changes.{newest, IsFree}
-use Rattle.vt_table.specs.Views.{TableView, IsTile, tile_of}
+use Rattle.vt_journal.specs.Kept.{entry_of}
+use Rattle.vt_table.specs.Views.{TableView, IsTile, tile_of, filled_for}
+use Rattle.vt_table.proofs.Entries.{number_of}
 use Rattle.vt_table.proofs.Rooms.{is_written, tile_there, tile_elsewhere}
 use Rattle.vt_table.proofs.Keeping.{kept_filled, depth_of_length}
 use Rattle.vt_table.proofs.table.StillTable.fill.Goals as goal
@@ -72,3 +74,17 @@ returns-clause-other_tiles c f other =
     tile_elsewhere t.geometry.tile c.args.frame c.depth_in.result (length t.owners.items) _ f t.bytes.items _ c.args.tile.now t.depths.items written
     (length-set t.owners.items c.args.frame (c.args.page + 1)) other c.self.invariant.high_depth
     ∙ ap (λ (u : TableView). tile_of u f) c.self.view_is
+
+pub returns-clause-table : goal.returns-clause-table
+returns-clause-table c = (invariant_of-self c).table
+
+pub returns-clause-filled : goal.returns-clause-filled
+returns-clause-filled c =
+    let xs = c.self.inside.owners.items in
+    let inside : c.args.frame < length xs = subst (λ (u : TableView). c.args.frame < u.frames) (sym c.self.view_is) c.requires.frame_inside in
+    ap entry_of (get_or-set_same xs c.args.frame (c.args.page + 1) 0 inside) ∙ number_of c.args.page
+
+pub returns-clause-other_pages : goal.returns-clause-other_pages
+returns-clause-other_pages c f other =
+    ap entry_of (get_or-set_other c.self.inside.owners.items c.args.frame f (c.args.page + 1) 0 other)
+    ∙ ap (λ (u : TableView). filled_for u f) c.self.view_is

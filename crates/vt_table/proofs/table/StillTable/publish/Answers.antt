@@ -2,7 +2,7 @@ use Rattle.std.proofs.Common.{◌∙◌, ap, sym, subst, List, ℕ, length}
 use Rattle.std.proofs.lemmas.List.{with_items_is}
 use Rattle.vt_journal.specs.Changes.{newest, IsLegalNext, changed}
 use Rattle.vt_journal.specs.Kept.{entries_of}
-use Rattle.vt_table.specs.Views.{TableView, IsWithin, IsReady, filled_after}
+use Rattle.vt_table.specs.Views.{TableView, IsWithin, IsReady, filled_for, filled_after}
 use Rattle.vt_table.proofs.Keeping.{kept_published}
 use Rattle.vt_table.proofs.table.StillTable.publish.Goals as goal
 
@@ -25,3 +25,14 @@ invariant_of-self c =
 
 pub returns-clause-table : goal.returns-clause-table
 returns-clause-table c = (invariant_of-self c).table
+
+pub returns-clause-version : goal.returns-clause-version
+returns-clause-version c = c.version.ensures.version
+
+pub returns-clause-filled : goal.returns-clause-filled
+returns-clause-filled c =
+    let t = c.self.inside in
+    let owners = with_items_is t.owners c.free_owner.new.owners (c.free_owner.auto.owners ∙ c.as_mut_slice-2.ensures.len) in
+    ap entries_of owners ∙ c.free_owner.ensures
+    ∙ ap (λ (xs : List ℕ). filled_after (entries_of xs) c.args.change) c.as_mut_slice-2.ensures.value
+    ∙ ap (λ (u : TableView). filled_after (filled_for u) c.args.change) c.self.view_is
