@@ -10,4 +10,3 @@ pub mod Rows
 pub mod Places
 pub mod Written
 pub mod Staging
-pub mod Walked

@@ -12,12 +12,7 @@ mod sight;
 mod stream;
 mod table;
 mod tiles;
-mod walks;
 
 pub use error::ReplayError;
 pub use laws::replay_is_one;
 pub use pictures::replay;
-pub use walks::{
-    journal_tells_its_run, replay_gives_the_walk, replay_gives_the_written_picture,
-    replay_gives_what_stands, still_walk_is_of_its_store,
-};

@@ -104,8 +104,8 @@ fn entry_at(numbers: &[u32], at: u32) -> Option<u32>
     }
 }
 
-// Writes an entry at a place of numbers.
-fn put_entry(numbers: &mut [u32], at: u32, entry: u32)
+/// Writes an entry at a place of numbers.
+pub(crate) fn put_entry(numbers: &mut [u32], at: u32, entry: u32)
     requires inside { at < length numbers.old }
     requires low { entry + 1 < 2 ^ 32 }
     ensures { entries_of numbers.new ≡ with_entry (entries_of numbers.old) at (Some entry) }

@@ -4,7 +4,6 @@ pub mod Settling
 pub mod Running
 pub mod Telling
 pub mod Finishing
-pub mod Stamping
 pub mod Wholeness
 pub mod Showing
 pub mod Turning
@@ -30,11 +29,3 @@ pub mod Alike
 pub mod Concluding
 pub mod Earlier
 pub mod Touring
-pub mod LineFronts
-pub mod Frames
-pub mod PlanPages
-pub mod Loading
-pub mod Counted
-pub mod PassBounds
-pub mod PictureParts
-pub mod WholeRuns

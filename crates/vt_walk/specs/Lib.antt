@@ -3,7 +3,6 @@ pub mod Fits
 pub mod Shown
 pub mod Logs
 pub mod Agreements
-pub mod Stamped
 pub mod Walks
 pub mod Folders
 pub mod States
@@ -24,5 +23,4 @@ pub mod Judging
 pub mod Beginnings
 pub mod Opening
 pub mod StillDrawn
-pub mod PassCounts
 pub mod Counts

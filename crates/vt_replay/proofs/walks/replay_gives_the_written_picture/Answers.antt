@@ -1,6 +1,0 @@
-use Rattle.vt_walk.specs.Written.{IsDrawnBySome}
-use Rattle.vt_replay.proofs.Walked.{written_again}
-use Rattle.vt_replay.proofs.walks.replay_gives_the_written_picture.Goals as goal
-
-pub returns : goal.returns
-returns g c = written_again (IsDrawnBySome g.M.PassMachine.drawn)

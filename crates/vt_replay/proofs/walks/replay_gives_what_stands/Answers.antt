@@ -1,6 +1,0 @@
-use Rattle.vt_walk.specs.Written.{IsDrawnBySome}
-use Rattle.vt_replay.proofs.Walked.{standing_again}
-use Rattle.vt_replay.proofs.walks.replay_gives_what_stands.Goals as goal
-
-pub returns : goal.returns
-returns g c = standing_again (IsDrawnBySome g.M.PassMachine.drawn)

@@ -1,7 +1,0 @@
-use Rattle.std.specs.Prelude.{true}
-use Rattle.vt_pass.specs.PictureWants.{picture_wants}
-use Rattle.vt_replay.proofs.Walked.{settings_fit}
-use Rattle.vt_replay.proofs.walks.still_walk_is_of_its_store.Goals as goal
-
-pub returns-clause-setup : goal.returns-clause-setup
-returns-clause-setup c = λ scene settings mode told names. settings_fit true picture_wants scene settings mode

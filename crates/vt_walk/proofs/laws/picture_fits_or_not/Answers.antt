@@ -1,5 +1,0 @@
-use Rattle.vt_walk.proofs.Wholeness.{needs_one, needs_of, fits_or_not}
-use Rattle.vt_walk.proofs.laws.picture_fits_or_not.Goals as goal
-
-pub returns : goal.returns
-returns c = record { one = needs_one; told = needs_of; not_both = fits_or_not }

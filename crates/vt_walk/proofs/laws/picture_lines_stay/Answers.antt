@@ -1,5 +1,0 @@
-use Rattle.vt_walk.proofs.Showing.{lines_stay}
-use Rattle.vt_walk.proofs.laws.picture_lines_stay.Goals as goal
-
-pub returns : goal.returns
-returns c = lines_stay

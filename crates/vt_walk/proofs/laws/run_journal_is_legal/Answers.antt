@@ -1,5 +1,0 @@
-use Rattle.vt_walk.proofs.Telling.{run_is_legal, run_is_pinned}
-use Rattle.vt_walk.proofs.laws.run_journal_is_legal.Goals as goal
-
-pub returns : goal.returns
-returns c = record { legal = run_is_legal; pinned = run_is_pinned }

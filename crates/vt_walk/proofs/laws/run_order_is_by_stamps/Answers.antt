@@ -1,5 +1,0 @@
-use Rattle.vt_walk.proofs.Stamping.{stamps_some, stamps_one, order_is_stamped}
-use Rattle.vt_walk.proofs.laws.run_order_is_by_stamps.Goals as goal
-
-pub returns : goal.returns
-returns c = record { some = stamps_some; one = stamps_one; order = order_is_stamped }

@@ -1,5 +1,0 @@
-use Rattle.vt_walk.proofs.Telling.{text_grows}
-use Rattle.vt_walk.proofs.laws.run_text_grows.Goals as goal
-
-pub returns : goal.returns
-returns c = text_grows

@@ -1,5 +1,0 @@
-use Rattle.vt_walk.proofs.Turning.{earlier_fit, unfit_first}
-use Rattle.vt_walk.proofs.laws.unfit_picture_ends_the_run.Goals as goal
-
-pub returns : goal.returns
-returns c = record { earlier = earlier_fit; first = unfit_first }

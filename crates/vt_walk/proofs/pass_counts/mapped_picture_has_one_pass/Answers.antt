@@ -1,5 +1,0 @@
-use Rattle.vt_walk.proofs.PassBounds.{one_pass}
-use Rattle.vt_walk.proofs.pass_counts.mapped_picture_has_one_pass.Goals as goal
-
-pub returns : goal.returns
-returns c = one_pass

@@ -1,5 +1,0 @@
-use Rattle.vt_walk.proofs.PassBounds.{few_passes}
-use Rattle.vt_walk.proofs.pass_counts.picture_has_few_passes.Goals as goal
-
-pub returns : goal.returns
-returns c = few_passes

@@ -1,0 +1,10 @@
+pub mod Stamping
+pub mod Loading
+pub mod Frames
+pub mod LineFronts
+pub mod PlanPages
+pub mod Counted
+pub mod PassBounds
+pub mod PictureParts
+pub mod WholeRuns
+pub mod Walked

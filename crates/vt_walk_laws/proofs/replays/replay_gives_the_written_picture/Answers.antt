@@ -1,0 +1,6 @@
+use Rattle.vt_walk.specs.Written.{IsDrawnBySome}
+use Rattle.vt_walk_laws.proofs.Walked.{written_again}
+use Rattle.vt_walk_laws.proofs.replays.replay_gives_the_written_picture.Goals as goal
+
+pub returns : goal.returns
+returns g c = written_again (IsDrawnBySome g.M.PassMachine.drawn)

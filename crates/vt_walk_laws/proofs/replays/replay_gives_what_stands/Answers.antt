@@ -1,0 +1,6 @@
+use Rattle.vt_walk.specs.Written.{IsDrawnBySome}
+use Rattle.vt_walk_laws.proofs.Walked.{standing_again}
+use Rattle.vt_walk_laws.proofs.replays.replay_gives_what_stands.Goals as goal
+
+pub returns : goal.returns
+returns g c = standing_again (IsDrawnBySome g.M.PassMachine.drawn)

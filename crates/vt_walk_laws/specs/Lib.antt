@@ -1,0 +1,3 @@
+pub mod PassCounts
+pub mod Stamped
+pub mod Walked
