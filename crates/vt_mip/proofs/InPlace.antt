@@ -8,7 +8,7 @@ use Rattle.vt_definitions.specs.Depths.{texel_length}
 use Rattle.vt_outside.specs.Files.{IsPiece}
 use Rattle.vt_ppm.specs.Image.{ImageView}
 use Rattle.vt_mip.specs.Chains.{halved}
-use Rattle.vt_mip.specs.Halves.{IsHalf, IsHalvedRow, raster_sample}
+use Rattle.vt_mip.specs.Halves.{IsHalf, IsHalvedRow, IsHalvedRaster, raster_sample}
 use Rattle.vt_mip.specs.InPlace.{IsShrunk, ShrinksFront}
 use Rattle.vt_mip.specs.TakenRows.{HalvingView}
 use Rattle.vt_mip.proofs.PartSamples.{cut_sample}
@@ -95,3 +95,27 @@ shrunk_half p q v n all size made front = rw made (record {
       cut_sample v.depth v.samples 0 (3 * half * high) 0 n (3 * (y * half + x) + c) (3 * (y * half + x) + c) (omega arith)
       (size ∙ omega arith) (omega (arith, low)) (omega arith)
       ∙ front.shrunk.halved.each x y c a (omega (arith, all, b)) r
+
+-- the image of a raster that is halved is the half
+pub half_made : (p q : ImageView) (d w h : ℕ) (source out made : List ℕ) → q ≡ record { depth = d; width = (w + 1) / 2; height = (h + 1) / 2; samples = made }
+    → made ≡ out → d ≡ p.depth → w ≡ p.width → h ≡ p.height → source ≡ p.samples → IsHalvedRaster d source w h ((h + 1) / 2) out → IsHalf p q
+half_made p q d w h source out made e em ed ew eh es raster = rw e (record {
+  depth = ed;
+  columns = ap (λ (n : ℕ). (n + 1) / 2) ew;
+  rows = ap (λ (n : ℕ). (n + 1) / 2) eh;
+  raster = rw (← ed, ← ew, ← eh, ← es, em) raster;
+})
+
+-- what callers see of it, where more pairs of rows are halved
+pub shrinks_on : (p : ImageView) (v u : HalvingView) (a b : ℕ) → u.depth ≡ v.depth → u.width ≡ v.width → u.height ≡ v.height
+    → length u.samples ≡ length v.samples → (v.taken + 1) / 2 ≡ a → (u.taken + 1) / 2 ≡ b
+    → ((source : List ℕ) → IsShrunk v.depth source v.width v.height a v.samples → IsShrunk v.depth source v.width v.height b u.samples)
+    → ShrinksFront p v → ShrinksFront p u
+shrinks_on p v u a b ed ew eh full ea eb more before = record {
+  depth = ed ∙ before.depth;
+  columns = ew ∙ before.columns;
+  rows = eh ∙ before.rows;
+  full = full ∙ before.full;
+  shrunk = rw (ed, ew, eh) (subst (λ (n : ℕ). IsShrunk v.depth p.samples v.width v.height n u.samples) (sym eb)
+      (more p.samples (subst (λ (n : ℕ). IsShrunk v.depth p.samples v.width v.height n v.samples) ea before.shrunk)));
+}

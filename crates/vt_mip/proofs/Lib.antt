@@ -10,3 +10,5 @@ pub mod StripRows
 pub mod StripReads
 pub mod StripRoom
 pub mod InPlace
+pub mod Bytes
+pub mod PutBoxes

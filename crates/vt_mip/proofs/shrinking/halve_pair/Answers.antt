@@ -46,3 +46,18 @@ returns c = λ source before.
     (omega (arith, size)) (omega (arith, size)) place (omega (arith, half)) room (omega (arith, half))
     (subst (λ l. IsHalvedRow d (take (r * w * (2 * n) + r * w - r * w * (2 * n)) (drop (r * w * (2 * n)) c.args.samples.now))
     (take (r * w * b + r * w - r * w * b) (drop (r * w * b) c.args.samples.now)) w v l) (sym c.copy_from_slice.ensures.after) c.halve_rows.ensures.row) before
+
+pub slice_bounds-copy_from_slice-end : goal.slice_bounds-copy_from_slice-end
+slice_bounds-copy_from_slice-end c =
+    let d = c.args.sizes.depth in
+    let w = c.args.sizes.width in
+    let h = c.args.sizes.height in
+    let n = c.args.pair in
+    let v : ℕ = (w + 1) / 2 in
+    let s = c.texel_length-2.result in
+    let f : s ≡ 3 * d = c.texel_length-2.ensures.value in
+    let place : s * v * n ≡ d * (3 * v * n) = ap (λ (q : ℕ). q * v * n) f ∙ omega arith in
+    let half : s * v ≡ d * (3 * v) = ap (λ (q : ℕ). q * v) f ∙ omega arith in
+    let more : v * (n + 1) ≤ w * h = mul-le v (n + 1) w h (omega (arith, c.requires.room.some_columns)) (omega (arith, c.requires.inside)) in
+    let all : 3 * d * (v * (n + 1)) ≤ 3 * d * (w * h) = mul-le-mul_left (3 * d) more in
+    omega (arith, all, place, half, c.requires.room.whole)

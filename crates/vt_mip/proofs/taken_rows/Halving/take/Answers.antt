@@ -1,4 +1,4 @@
-use Rattle.std.proofs.Common.{ℕ, ◌+◌, ◌*◌, ◌/◌, List, ◌∙◌, subst, sym, refl}
+use Rattle.std.proofs.Common.{ℕ, ◌+◌, ◌*◌, ◌/◌, ◌≤◌, List, length, ap, ◌∙◌, subst, sym, refl}
 use Rattle.std.proofs.lemmas.List.{with_items_is}
 use Rattle.vt_definitions.specs.Depths.{texel_length}
 use Rattle.vt_outside.specs.Files.{IsPiece}
@@ -20,3 +20,18 @@ returns-clause-halves c = λ p before piece.
     (λ source there half. c.halve_behind.ensures source there
     (subst (Half ((h.taken + 1) / 2) source) (sym c.as_mut_slice.ensures.value) half))
     (subst (HalvesFront p) (sym c.self.view_is) before) (subst Piece (sym c.self.view_is) piece))
+
+pub invariant_of-self : goal.invariant_of-self
+invariant_of-self c =
+    let h = c.self.inside in
+    let i = c.self.invariant in
+    let made = with_items_is h.samples c.halve_behind.new.samples (c.halve_behind.auto.samples ∙ c.as_mut_slice.ensures.len) in
+    record {
+      depth = i.depth;
+      some_columns = i.some_columns;
+      few_columns = i.few_columns;
+      some_rows = i.some_rows;
+      few_rows = i.few_rows;
+      few = subst (λ (v : HalvingView). v.taken + c.args.count ≤ v.height) (sym c.self.view_is) c.requires.inside;
+      full = ap length made ∙ c.halve_behind.auto.samples ∙ ap length c.as_mut_slice.ensures.value ∙ i.full;
+    }
