@@ -1,8 +1,9 @@
 -- The pieces in which a raster is looked over.
-use Rattle.std.proofs.Common.{◌≡◌, ℕ, zero, suc, ◌+◌, ◌-◌, ◌*◌, ◌/◌, ◌<◌, ◌≤◌, Bool, true, false, List, [], ◌∷◌, ◌++◌, min, All, Option, Some, None, option_map, IfSome, Result, Ok, Err, refl, sym, ap, ◌∙◌, subst, arith, append_assoc}
+use Rattle.std.proofs.Common.{◌≡◌, ℕ, zero, suc, ◌+◌, ◌-◌, ◌*◌, ◌/◌, ◌<◌, ◌≤◌, Bool, true, false, List, [], ◌∷◌, ◌++◌, min, length, take, All, Option, Some, None, option_map, IfSome, Result, Ok, Err, refl, sym, ap, ◌∙◌, subst, arith, append_assoc, append-nil}
 use Rattle.std.proofs.Math.Nat.{div-mul-le_self}
 use Rattle.std.proofs.lemmas.List.FromFn.{map-range_with_len_more}
 use Rattle.std.proofs.lemmas.List.Elements.{All-nil, All-cons, All-append}
+use Rattle.std.proofs.lemmas.List.{length-take-le}
 use Rattle.std.proofs.lemmas.Nat.{mul-le, le-div}
 use Rattle.vt_definitions.specs.Depths.{texel_length}
 use Rattle.vt_outside.specs.declared.place.Place.{Place}
@@ -52,6 +53,30 @@ pub all_done : (h : Header) (step end i : ℕ) → step ≡ piece_rows h → 1 �
     → min (i * piece_rows h) h.height ≡ h.height
 all_done h step end i es some ee ei =
     ap (λ n. min (n * piece_rows h) h.height) (ei ∙ ee) ∙ all_rows (piece_rows h) h.height (subst (λ n. 1 ≤ n) es some)
+
+-- before the first piece no rows are done, and none were asked
+pub none_done : (told : Option (List ℕ)) (h : Header) → IfSome told (λ b. AreRowsUpTo h b (min (0 * piece_rows h) h.height))
+none_done None h = tt
+none_done (Some b) h =
+    let none : min (0 * piece_rows h) h.height ≡ 0 = omega arith in
+    let few : 3 * (h.width * min (0 * piece_rows h) h.height) ≡ 0 = ap (λ n. 3 * (h.width * n)) none ∙ omega arith in
+    λ i below. absurd (omega (arith, few, below))
+
+pub none_asked : (h : Header) (a : Option (List Place)) → PiecesAsked h 0 a a
+none_asked h None = refl
+none_asked h (Some places) = ap Some (sym (append-nil places))
+
+-- the room holds the rows of a piece
+pub piece_room : (h : Header) (step row count rest room : ℕ) → step ≡ piece_rows h → row ≡ row_length h → count ≡ min step rest
+    → room ≡ piece_rows h * row_length h → count * row ≤ room
+piece_room h step row count rest room es er ec e =
+    subst (λ n. count * row ≤ n) (ap (λ s. s * row) es ∙ ap (λ r. piece_rows h * r) er ∙ sym e)
+    (mul-le count row step row (omega arith) (omega arith))
+
+pub piece_cut : (h : Header) (step row count rest : ℕ) (buffer : List ℕ) (room : ℕ) → length buffer ≡ room → step ≡ piece_rows h → row ≡ row_length h
+    → count ≡ min step rest → room ≡ piece_rows h * row_length h → length (take (count * row) buffer) ≡ count * row
+piece_cut h step row count rest buffer room eb es er ec e =
+    length-take-le (count * row) buffer (subst (λ n. count * row ≤ n) (sym eb) (piece_room h step row count rest room es er ec e))
 
 -- one piece more was asked
 module _ (h : Header) (i y count : ℕ) (a0 a1 a2 : Option (List Place)) (before : PiecesAsked h i a0 a1) (p : IsPieceOf (piece_rows h) h.height i y count) where

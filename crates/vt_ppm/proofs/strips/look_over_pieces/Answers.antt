@@ -1,8 +1,8 @@
-use Rattle.std.proofs.Common.{◌*◌, ◌+◌, ◌∙◌, min, Err, refl, arith}
+use Rattle.std.proofs.Common.{◌*◌, ◌+◌, ◌≤◌, ◌∙◌, min, Err, refl, sym, ap, subst, arith}
 use Rattle.std.proofs.lemmas.Result.{err_from_is_err_and}
 use Rattle.vt_ppm.specs.Flaws.{IsHeaderFlaw}
 use Rattle.vt_ppm.specs.Strips.{AreRowsUpTo, piece_rows}
-use Rattle.vt_ppm.proofs.CheckedPieces.{piece_is, all_done, more_asked, last_asked, check_gains, front_gains, some_rows, found_next, samples_told}
+use Rattle.vt_ppm.proofs.CheckedPieces.{piece_is, all_done, more_asked, last_asked, check_gains, front_gains, some_rows, found_next, none_done, none_asked, piece_room, piece_cut, samples_told}
 use Rattle.vt_ppm.proofs.strips.look_over_pieces.Goals as goal
 
 pub returns-in_err-look_over_rows-clause-flaw : goal.returns-in_err-look_over_rows-clause-flaw
@@ -67,3 +67,43 @@ returns-clause-rows g c =
     front_gains h c.loop-piece.piece (g.F.File.asked c.args.file.now) (g.F.File.asked c.loop-piece.file)
     (omega (arith, c.loop-piece-test.false, c.loop-piece.auto.piece-end, c.pieces_of-piece-end.ensures.value)) (some_rows h c.requires.header)
     c.loop-piece.invariant.asked
+
+pub loop-piece-init : goal.loop-piece-init
+loop-piece-init g c = record {
+  few = none_done (g.F.File.bytes c.args.file.now) c.args.header.now;
+  asked = none_asked c.args.header.now (g.F.File.asked c.args.file.now);
+  spare = omega arith;
+  bytes = refl;
+  called = refl;
+  faults = omega arith;
+}
+
+pub overflow_sub-header : goal.overflow_sub-header
+overflow_sub-header g c =
+    let h = c.args.header.now in
+    let piece = piece_is h c.piece_rows-step.result c.pieces_of-piece-end.result c.loop-piece.piece _ _
+    c.piece_rows-step.ensures.value c.piece_rows-step.ensures.some c.pieces_of-piece-end.ensures.value c.loop-piece-test.true refl refl in
+    omega (arith, piece.inside)
+
+pub slice_bounds-look_over_rows-end : goal.slice_bounds-look_over_rows-end
+slice_bounds-look_over_rows-end g c =
+    let few = piece_room c.args.header.now c.piece_rows-step.result c.row_length-row.result c.min-count.result _ _ c.piece_rows-step.ensures.value c.row_length-row.ensures.value c.min-count.ensures c.requires.size in
+    subst (λ n. c.min-count.result * c.row_length-row.result ≤ n) (sym c.loop-piece.auto.buffer) few
+
+pub slice_bounds-look_over_rows-end-in-loop-piece : goal.slice_bounds-look_over_rows-end-in-loop-piece
+slice_bounds-look_over_rows-end-in-loop-piece g c =
+    sym (piece_cut c.args.header.now c.piece_rows-step.result c.row_length-row.result c.min-count.result _ c.loop-piece.buffer _ c.loop-piece.auto.buffer
+    c.piece_rows-step.ensures.value c.row_length-row.ensures.value c.min-count.ensures c.requires.size)
+
+pub look_over_rows-requires-clause-inside : goal.look_over_rows-requires-clause-inside
+look_over_rows-requires-clause-inside g c =
+    let h = c.args.header.now in
+    let piece = piece_is h c.piece_rows-step.result c.pieces_of-piece-end.result c.loop-piece.piece _ c.min-count.result
+    c.piece_rows-step.ensures.value c.piece_rows-step.ensures.some c.pieces_of-piece-end.ensures.value c.loop-piece-test.true refl c.min-count.ensures in
+    piece.inside
+
+pub look_over_rows-requires-clause-size : goal.look_over_rows-requires-clause-size
+look_over_rows-requires-clause-size g c =
+    piece_cut c.args.header.now c.piece_rows-step.result c.row_length-row.result c.min-count.result _ c.loop-piece.buffer _ c.loop-piece.auto.buffer
+    c.piece_rows-step.ensures.value c.row_length-row.ensures.value c.min-count.ensures c.requires.size
+    ∙ ap (λ n. c.min-count.result * n) c.row_length-row.ensures.value
