@@ -1,5 +1,5 @@
 -- How many pixels of a row want a page.
-use Rattle.std.proofs.Common.{◌≡◌, ◌≢◌, ℕ, ◌+◌, ◌<◌, ◌≤◌, Bool, true, false, cond, List, [], ◌∷◌, ◌++◌, length, slice_index, slice_set, refl, sym, ap, ◌∙◌, add-one, arith}
+use Rattle.std.proofs.Common.{◌≡◌, ◌≢◌, ℕ, ◌+◌, ◌^◌, ◌<◌, ◌≤◌, Bool, true, false, cond, List, [], ◌∷◌, ◌++◌, length, slice_index, slice_set, refl, sym, ap, ◌∙◌, add-one, arith}
 use Rattle.std.specs.Prelude.{◌==◌, if◌then◌else◌}
 use Rattle.std.specs.List.{range_with_len, count_by}
 use Rattle.std.proofs.lemmas.Bool.{eqb-true, eqb-false}
@@ -73,3 +73,10 @@ pub pixels-next : (s : Shape) (row : RowView) (x page p : ℕ) → page ≡ want
 unfolding run_of
 pixels-next s row x page p wants =
     pixels-more s row x p ∙ ap (λ (w : ℕ). pixels_wanting s row x p + (0 + cond (w == p) 1 0)) (sym wants) ∙ omega arith
+
+-- a page's count has room for the run that wants the page
+pub run_fits : (s : Shape) (row : RowView) (x columns page run : ℕ) (old counts : List ℕ) → x ≤ columns → page < length old
+    → ((p : ℕ) → slice_index counts p + run_of page run p ≡ slice_index old p + pixels_wanting s row x p)
+    → ((p : ℕ) → p < length old → slice_index old p + columns < 2 ^ 32) → slice_index counts page + run < 2 ^ 32
+run_fits s row x columns page run old counts few inside counted room =
+    omega (arith, counted page, run-own page run, room page inside, pixels-most s row x page)

@@ -2,7 +2,7 @@ use Rattle.std.proofs.Common.{◌≡◌, ℕ, subst, sym, ◌∙◌, arith}
 use Rattle.vt_draw.specs.Lookups.{IsFinest}
 use Rattle.vt_definitions.specs.Depths.{texel_bytes}
 use Rattle.vt_draw.specs.Shots.{wanted_page, IsDrawn}
-use Rattle.vt_draw.proofs.Counts.{run-none, run-own, pixels-none, pixels-most, pixels-next}
+use Rattle.vt_draw.proofs.Counts.{run-none, run_fits, pixels-none, pixels-next}
 use Rattle.vt_draw.proofs.DrawnPixels.{finest_moved, drawn-more, wanted_is, read_is}
 use Rattle.vt_draw.proofs.shots.draw_pixels.Goals as goal
 
@@ -20,25 +20,13 @@ loop-x-init g c = record {
 
 pub count_pixel-run-requires-clause-room : goal.count_pixel-run-requires-clause-room
 count_pixel-run-requires-clause-room g c =
-    let page = c.loop-x.wanted in
-    omega (
-      arith,
-      c.loop-x.invariant.counted page,
-      run-own page c.loop-x.run,
-      c.requires.room page c.loop-x.invariant.inside,
-      pixels-most c.args.geometry.now c.args.row c.loop-x.x page,
-    )
+    run_fits c.args.geometry.now c.args.row c.loop-x.x c.args.columns c.loop-x.wanted c.loop-x.run c.args.counts.now c.loop-x.counts
+    (omega arith) c.loop-x.invariant.inside c.loop-x.invariant.counted c.requires.room
 
 pub add_run-requires-clause-room : goal.add_run-requires-clause-room
 add_run-requires-clause-room g c =
-    let page = c.loop-x.wanted in
-    omega (
-      arith,
-      c.loop-x.invariant.counted page,
-      run-own page c.loop-x.run,
-      c.requires.room page c.loop-x.invariant.inside,
-      pixels-most c.args.geometry.now c.args.row c.loop-x.x page,
-    )
+    run_fits c.args.geometry.now c.args.row c.loop-x.x c.args.columns c.loop-x.wanted c.loop-x.run c.args.counts.now c.loop-x.counts
+    (omega arith) c.loop-x.invariant.inside c.loop-x.invariant.counted c.requires.room
 
 pub loop-x-preserved : goal.loop-x-preserved
 loop-x-preserved g c =
