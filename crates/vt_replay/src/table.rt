@@ -1,13 +1,14 @@
 //! A page table that follows a journal, change by change.
 
-ghost use Rattle.std.specs.Prelude.{◌≡◌, ℕ, ◌<◌, ◌≤◌, length, IfOk};
+ghost use Rattle.std.specs.Prelude.{◌≡◌, ℕ, ◌<◌, ◌≤◌, length, None, IfOk};
 ghost use Rattle.vt_definitions.specs.Limits.{most_frames};
 ghost use Rattle.vt_pages.specs.Pages.{pages_of};
-ghost use Rattle.vt_journal.specs.Changes.{changed};
+ghost use Rattle.vt_journal.specs.Changes.{with_entry, changed};
 ghost use Rattle.vt_journal.specs.Lookups.{change_page};
 ghost use Rattle.vt_journal.specs.Kept.{entries_of, change_frame};
 ghost use Rattle.vt_replay.specs.Playing.{MayBePlayed, Follows};
 
+use crate::tiles::put_entry;
 use std::alloc::Global;
 use vt_journal::{Change, Journal};
 use vt_outside::NoMemory;
@@ -56,15 +57,23 @@ impl PageTable {
 }
 
 // Gives the page of a change the number of its new entry.
-fn put_entry(entries: &mut [u32], change: Change)
+fn make_change(entries: &mut [u32], change: Change)
     requires page { change_page change < length entries.old }
     requires frame { change_frame change < most_frames }
     ensures { entries_of entries.new ≡ changed (entries_of entries.old) change }
 {
     match change {
-        Change::Map { page, frame } => entries[page as usize] = frame + 1,
-        Change::Unmap { page, frame: _ } => entries[page as usize] = 0,
+        Change::Map { page, frame } => put_entry(entries, page, frame),
+        Change::Unmap { page, frame: _ } => clear_entry(entries, page),
     }
+}
+
+// Takes its entry from a page.
+fn clear_entry(entries: &mut [u32], page: u32)
+    requires { page < length entries.old }
+    ensures { entries_of entries.new ≡ with_entry (entries_of entries.old) page None }
+{
+    entries[page as usize] = 0;
 }
 
 // Makes the changes from one version to another.
@@ -83,6 +92,6 @@ fn make_changes(
 {
     let _newest = journal.version();
     for made in from..version {
-        put_entry(entries, journal.change(made + 1));
+        make_change(entries, journal.change(made + 1));
     }
 }

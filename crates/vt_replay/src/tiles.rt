@@ -104,8 +104,8 @@ fn entry_at(numbers: &[u32], at: u32) -> Option<u32>
     }
 }
 
-// Writes an entry at a place of numbers.
-fn put_entry(numbers: &mut [u32], at: u32, entry: u32)
+/// Writes an entry at a place of numbers.
+pub(crate) fn put_entry(numbers: &mut [u32], at: u32, entry: u32)
     requires inside { at < length numbers.old }
     requires low { entry + 1 < 2 ^ 32 }
     ensures { entries_of numbers.new ≡ with_entry (entries_of numbers.old) at (Some entry) }
@@ -158,8 +158,7 @@ fn read_page<F: File>(store: &mut Store<F>, page: u32, tile: &mut [u8]) -> Resul
     ensures read { IsReadOn F.File store.old store.new }
 {
     store.reserve(1)?;
-    store.read_tile(page, tile)?;
-    Ok(())
+    Ok(store.read_tile(page, tile)?)
 }
 
 // Reads the tile of a page into a slot.
