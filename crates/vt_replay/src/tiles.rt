@@ -158,8 +158,7 @@ fn read_page<F: File>(store: &mut Store<F>, page: u32, tile: &mut [u8]) -> Resul
     ensures read { IsReadOn F.File store.old store.new }
 {
     store.reserve(1)?;
-    store.read_tile(page, tile)?;
-    Ok(())
+    Ok(store.read_tile(page, tile)?)
 }
 
 // Reads the tile of a page into a slot.
