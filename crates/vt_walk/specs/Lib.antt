@@ -23,6 +23,5 @@ pub mod Turns
 pub mod Judging
 pub mod Beginnings
 pub mod Opening
-pub mod StillDrawn
 pub mod PassCounts
 pub mod Counts

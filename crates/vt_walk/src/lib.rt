@@ -4,7 +4,6 @@
 mod error;
 mod files;
 mod laws;
-mod live;
 mod loaders;
 mod mode;
 mod pass_counts;
@@ -27,7 +26,6 @@ pub use laws::{
     run_text_tells_its_content, settled_table_is_newest, unfit_picture_ends_the_run,
     whole_runs_count_alike,
 };
-pub use live::{walk_live, walk_settled};
 pub use mode::Mode;
 pub use pass_counts::{
     fitting_plan_is_full, mapped_pages_are_the_journals, mapped_picture_has_one_pass,
