@@ -9,3 +9,4 @@ pub mod Applying
 pub mod Asking
 pub mod Ending
 pub mod RoundKits
+pub mod Reserving
