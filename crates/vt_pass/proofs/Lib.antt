@@ -4,3 +4,4 @@ pub mod Streaming
 pub mod OneRead
 pub mod Following
 pub mod AnyOrder
+pub mod Halves

@@ -133,8 +133,8 @@ fn work_all<Rt: Threads + Wait + Sync, S: Sync, L: Task<S> + Send, G: Gate + Syn
     batch: &[Planned],
     gate: &G,
 )
-    requires { AllReady (L.ready shared.now (job_of shot.now batch.now)) tasks.old }
-    ensures { AllDid (L.did shared.now (job_of shot.now batch.now)) tasks.old tasks.new }
+    requires ready { AllReady (L.ready shared.now (job_of shot.now batch.now)) tasks.old }
+    ensures did { AllDid (L.did shared.now (job_of shot.now batch.now)) tasks.old tasks.new }
 {
     if tasks.len() == 1 {
         tasks[0].work(rt, shared, shot, batch, gate);
@@ -170,8 +170,8 @@ fn work_in_turn<Rt: Threads + Wait, S: Sync, L: Task<S>, G: Gate>(
     batch: &[Planned],
     gate: &G,
 )
-    requires { AllReady (L.ready shared.now (job_of shot.now batch.now)) tasks.old }
-    ensures { AllDid (L.did shared.now (job_of shot.now batch.now)) tasks.old tasks.new }
+    requires ready { AllReady (L.ready shared.now (job_of shot.now batch.now)) tasks.old }
+    ensures did { AllDid (L.did shared.now (job_of shot.now batch.now)) tasks.old tasks.new }
 {
     if tasks.is_empty() {
         return;
