@@ -2,16 +2,6 @@ pub mod Lent
 pub mod Settled
 pub mod Streaming
 pub mod OneRead
-pub mod Entries
 pub mod Following
 pub mod AnyOrder
-pub mod Kits
-pub mod Rooms
-pub mod Finished
-pub mod Ended
-pub mod Placed
-pub mod BatchRounds
-pub mod Applying
-pub mod Asking
-pub mod Ending
-pub mod RoundKits
+pub mod Halves

@@ -4,14 +4,8 @@ pub mod Outcomes
 pub mod RowOrders
 pub mod Requests
 pub mod PictureWants
+pub mod StillShows
 pub mod Machines
 pub mod Passes
-pub mod StillTasks
-pub mod Streams
 pub mod All
-pub mod BatchRounds
-pub mod RoundKits
-pub mod Kits
-pub mod StillMachines
 pub mod Plainly
-pub mod StillLaws

@@ -6,7 +6,6 @@
 mod crew;
 mod laws;
 mod machine;
-mod still;
 mod task;
 mod work;
 
@@ -16,7 +15,5 @@ pub use laws::{
     order_leaves_one_table, reads_add_up, settled_pass_is_plain,
 };
 pub use machine::PassMachine;
-pub use still::{
-    NoTask, PassKit, StillMachine, StillSampler, StillShared, rounds_are_passes, run_pass,
-};
 pub use task::Task;
+pub use work::work_together;

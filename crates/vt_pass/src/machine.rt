@@ -47,13 +47,13 @@ pub trait PassMachine: Sized {
     type Shared: Sync;
 
     /// A worker that reads tiles.
-    type Loader: Task<Shared = Self::Shared> + Send;
+    type Loader: Task<Self::Shared> + Send;
 
     /// A worker that draws rows.
-    type Sampler: Task<Shared = Self::Shared> + Send;
+    type Sampler: Task<Self::Shared> + Send;
 
     /// The worker that changes the page table while the samplers draw, if it is changed then.
-    type Streamer: Task<Shared = Self::Shared> + Send;
+    type Streamer: Task<Self::Shared> + Send;
 
     /// Whether row y is always drawn by sampler y modulo their number.
     const DEALT: bool;

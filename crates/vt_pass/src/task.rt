@@ -8,25 +8,22 @@ use vt_draw::Shot;
 use vt_evict::Planned;
 use vt_outside::Gate;
 
-/// A part of a pass that one worker does: it changes itself alone, and reads what it shares with the other workers.
-pub trait Task {
-    /// What all workers share.
-    type Shared: Sync;
-
+/// A part of a pass that one worker does: it changes itself alone, and reads what it shares with the other workers, an `S`.
+pub trait Task<S: Sync> {
     /// Whether it is to be at work while others are, in a thread of its own.
     const BESIDE: bool = true;
 
     /// It may begin, on what is shared and for the pass's job.
-    ghost ready: { Self.Shared → Job → Self → Type 0 };
+    ghost ready: { S → Job → Self → Type 0 };
 
     /// What it was and what it is, once it has worked.
-    ghost did: { Self.Shared → Job → Self → Self → Type 0 };
+    ghost did: { S → Job → Self → Self → Type 0 };
 
     /// Does the part.
     fn work<Rt: Threads + Wait, G: Gate>(
         &mut self,
         rt: &Rt,
-        shared: &Self::Shared,
+        shared: &S,
         shot: &Shot<'_>,
         batch: &[Planned],
         gate: &G,

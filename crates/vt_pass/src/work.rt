@@ -14,12 +14,12 @@ use vt_outside::Gate;
 
 /// The loaders, and beside them the samplers and the streamer. Threads cost more than what they do where nothing is to be read, and
 /// one request is taken by one loader.
-pub(crate) fn work_together<
+pub fn work_together<
     Rt: Threads + Wait + Sync,
     S: Sync,
-    L: Task<Shared = S> + Send,
-    M: Task<Shared = S> + Send,
-    R: Task<Shared = S> + Send,
+    L: Task<S> + Send,
+    M: Task<S> + Send,
+    R: Task<S> + Send,
     G: Gate + Sync,
 >(
     rt: &Rt,
@@ -63,7 +63,7 @@ pub(crate) fn work_together<
 }
 
 // All loaders, at once where there are several requests.
-fn load_all<Rt: Threads + Wait + Sync, S: Sync, L: Task<Shared = S> + Send, G: Gate + Sync>(
+fn load_all<Rt: Threads + Wait + Sync, S: Sync, L: Task<S> + Send, G: Gate + Sync>(
     rt: &Rt,
     loaders: &mut [L],
     shared: &S,
@@ -85,8 +85,8 @@ fn load_all<Rt: Threads + Wait + Sync, S: Sync, L: Task<Shared = S> + Send, G: G
 fn draw_beside<
     Rt: Threads + Wait + Sync,
     S: Sync,
-    M: Task<Shared = S> + Send,
-    R: Task<Shared = S> + Send,
+    M: Task<S> + Send,
+    R: Task<S> + Send,
     G: Gate + Sync,
 >(
     rt: &Rt,
@@ -124,15 +124,17 @@ fn draw_beside<
     );
 }
 
-/// All tasks of a list, by halves.
-pub(crate) fn work_all<
-    Rt: Threads + Wait + Sync,
-    S: Sync,
-    L: Task<Shared = S> + Send,
-    G: Gate + Sync,
->(rt: &Rt, tasks: &mut [L], shared: &S, shot: &Shot<'_>, batch: &[Planned], gate: &G)
-    requires { AllReady (L.ready shared.now (job_of shot.now batch.now)) tasks.old }
-    ensures { AllDid (L.did shared.now (job_of shot.now batch.now)) tasks.old tasks.new }
+// All tasks of a list, by halves.
+fn work_all<Rt: Threads + Wait + Sync, S: Sync, L: Task<S> + Send, G: Gate + Sync>(
+    rt: &Rt,
+    tasks: &mut [L],
+    shared: &S,
+    shot: &Shot<'_>,
+    batch: &[Planned],
+    gate: &G,
+)
+    requires ready { AllReady (L.ready shared.now (job_of shot.now batch.now)) tasks.old }
+    ensures did { AllDid (L.did shared.now (job_of shot.now batch.now)) tasks.old tasks.new }
 {
     if tasks.len() == 1 {
         tasks[0].work(rt, shared, shot, batch, gate);
@@ -160,7 +162,7 @@ pub(crate) fn work_all<
 }
 
 // All tasks of a list, one after the other.
-fn work_in_turn<Rt: Threads + Wait, S: Sync, L: Task<Shared = S>, G: Gate>(
+fn work_in_turn<Rt: Threads + Wait, S: Sync, L: Task<S>, G: Gate>(
     rt: &Rt,
     tasks: &mut [L],
     shared: &S,
@@ -168,8 +170,8 @@ fn work_in_turn<Rt: Threads + Wait, S: Sync, L: Task<Shared = S>, G: Gate>(
     batch: &[Planned],
     gate: &G,
 )
-    requires { AllReady (L.ready shared.now (job_of shot.now batch.now)) tasks.old }
-    ensures { AllDid (L.did shared.now (job_of shot.now batch.now)) tasks.old tasks.new }
+    requires ready { AllReady (L.ready shared.now (job_of shot.now batch.now)) tasks.old }
+    ensures did { AllDid (L.did shared.now (job_of shot.now batch.now)) tasks.old tasks.new }
 {
     if tasks.is_empty() {
         return;

@@ -27,7 +27,8 @@ use vt_journal::{Change, Event, RowLine};
 use vt_load::QueuedLoader;
 use vt_outside::{Fail, Fails, Folder, MemoryFile, MemoryFolder, NoMemory, OpenGate, Place};
 use vt_pages::Geometry;
-use vt_pass::{Crew, PassMachine, StillMachine, Task};
+use vt_pass::{Crew, PassMachine, Task};
+use vt_still::{StillMachine, StillShared};
 
 // One picture of eight rows, askew.
 const TALL: &[u8] = b"size 3 8\nfocal 2\nat 300 200 700 11585 11585\n";
@@ -396,7 +397,7 @@ fn each_row_is_drawn_by_the_sampler_whose_turn_it_is(rt: HostRuntime) -> Result<
 }
 
 // Whether a worker may be lent to a thread is known where this is called.
-fn may_be_sent<T: Task + Send>() {}
+fn may_be_sent<T: Task<StillShared> + Send>() {}
 
 #[test]
 fn a_loader_may_work_in_a_thread_of_its_own() {

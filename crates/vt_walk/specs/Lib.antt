@@ -22,5 +22,4 @@ pub mod Turns
 pub mod Judging
 pub mod Beginnings
 pub mod Opening
-pub mod StillDrawn
 pub mod Counts

@@ -3,7 +3,6 @@
 
 mod error;
 mod files;
-mod live;
 mod loaders;
 mod mode;
 mod passes;
@@ -17,7 +16,6 @@ mod uncounted;
 mod walk;
 
 pub use error::WalkError;
-pub use live::{walk_live, walk_settled};
 pub use mode::Mode;
 pub use settings::{Names, Settings};
 pub use turns::Walked;

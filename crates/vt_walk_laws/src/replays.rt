@@ -9,7 +9,7 @@ ghost use Rattle.vt_files.specs.Dues.{with_files};
 ghost use Rattle.vt_files.specs.Pictures.{pictures_due};
 ghost use Rattle.vt_shown.specs.Scenes.{Scene};
 ghost use Rattle.vt_pass.specs.PictureWants.{picture_wants};
-ghost use Rattle.vt_pass.specs.StillMachines.{still_shows, still_whole};
+ghost use Rattle.vt_pass.specs.StillShows.{still_shows, still_whole};
 ghost use Rattle.vt_walk.specs.declared.mode.Mode.{Mode};
 ghost use Rattle.vt_walk.specs.declared.settings.Settings.{Settings};
 ghost use Rattle.vt_walk.specs.Fits.{WalkSetup};

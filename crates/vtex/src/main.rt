@@ -22,7 +22,7 @@ use std::io::ErrorKind;
 use std::process::ExitCode;
 use std::{env, io};
 use vt_outside::{OpenGate, RealFile, RealFolder, RealSink};
-use vt_pass::StillMachine;
+use vt_still::StillMachine;
 
 // The words after the program's name.
 fn words_of(rt: &HostRuntime, alloc: Global) -> io::Result<Vec<String>> {

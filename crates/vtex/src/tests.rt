@@ -15,7 +15,7 @@ use std::sync::Wait;
 use std::test::*;
 use std::thread::Threads;
 use vt_outside::{Fail, Fails, MemoryFile, MemoryFolder, MemorySink, NoMemory, OpenGate};
-use vt_pass::StillMachine;
+use vt_still::StillMachine;
 
 // A texture of 4x4 texels; red, green and blue of texel (x, y) are all 4y+x.
 const G4: &[u8] =

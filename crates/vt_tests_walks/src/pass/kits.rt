@@ -6,10 +6,10 @@ ghost use Rattle.vt_store.specs.Format.{tile_length};
 ghost use Rattle.vt_table.specs.Views.{IsTable};
 ghost use Rattle.vt_shown.specs.Frames.{HoldsTiles};
 ghost use Rattle.vt_pass.specs.Crews.{IsCrew};
-ghost use Rattle.vt_pass.specs.Kits.{kit_setup, kit_state, IsIdleKit};
+ghost use Rattle.vt_still.specs.Kits.{kit_setup, kit_state, IsIdleKit};
 ghost use Rattle.vt_pass.specs.Passes.{MayPrepare, IsJobFor};
 ghost use Rattle.vt_pass.specs.Scenes.{job_of};
-ghost use Rattle.vt_pass.specs.Streams.{IsTileOf};
+ghost use Rattle.vt_still.specs.Streams.{IsTileOf};
 
 use crate::fixtures::ONE_PICTURE;
 use crate::pass::driven::{Pictured, Step, compare, may_prepare};
@@ -27,7 +27,8 @@ use vt_evict::Batch;
 use vt_journal::{Change, Event};
 use vt_outside::{Fail, File, Folder, Items, NoMemory, OpenGate};
 use vt_pages::Geometry;
-use vt_pass::{Crew, PassKit, run_pass};
+use vt_pass::Crew;
+use vt_still::{PassKit, run_pass};
 use vt_table::StillTable;
 
 // A table of three frames, the first of which holds the root.

@@ -15,8 +15,9 @@ use std::thread::Threads;
 use vt_camera::{Path, parse_path};
 use vt_outside::{Fail, Fails, Folder, MemoryFolder, MemorySink, OpenGate, Sink};
 use vt_pages::Geometry;
+use vt_still_walks::{walk_live, walk_settled};
 use vt_store::Store;
-use vt_walk::{Mode, Names, Settings, WalkError, walk_live, walk_settled};
+use vt_walk::{Mode, Names, Settings, WalkError};
 
 /// A walk, and what is to stand after it.
 #[derive(Clone, Copy)]

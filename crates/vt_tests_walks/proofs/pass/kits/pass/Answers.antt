@@ -1,5 +1,5 @@
 use Rattle.std.proofs.Common.{◌∙◌}
-use Rattle.vt_pass.proofs.Rooms.{untouched}
+use Rattle.vt_still.proofs.Rooms.{untouched}
 use Rattle.vt_tests_walks.proofs.pass.kits.pass.Goals as goal
 
 pub returns-clause-setup : goal.returns-clause-setup

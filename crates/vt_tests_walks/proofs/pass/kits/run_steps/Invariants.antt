@@ -1,5 +1,5 @@
 use Rattle.std.proofs.Common.{◌≡◌}
-use Rattle.vt_pass.specs.Kits.{kit_setup, IsIdleKit}
+use Rattle.vt_still.specs.Kits.{kit_setup, IsIdleKit}
 use Rattle.vt_tests_walks.proofs.pass.kits.run_steps.Given as goal
 
 -- the kit can go on with the table, and both were made for what they were

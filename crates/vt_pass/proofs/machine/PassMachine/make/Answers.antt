@@ -1,0 +1,4 @@
+use Rattle.vt_pass.proofs.machine.PassMachine.make.Goals as goal
+
+pub returns-in-Ok-clause-begins : goal.returns-in-Ok-clause-begins
+returns-in-Ok-clause-begins g c = c.in-Ok.ensures.begins

@@ -1,0 +1,244 @@
+-- Stores that get room to note reads, one after another.
+use Rattle.std.proofs.Common.{◌≡◌, ◌≢◌, ℕ, suc, ◌+◌, ◌<◌, ◌≤◌, ⊎_elim, List, [], ◌∷◌, length, get_or, ◌*◌, Option, refl, sym, ap, ◌∙◌, subst, arith}
+use Rattle.std.specs.Prelude.{slice_set, All, Result, Ok, Err, OnOk, OnErr}
+use Rattle.std.proofs.lemmas.List.{length-set, get_or-set_same, get_or-set_other, get_or_default}
+use Rattle.std.proofs.lemmas.Bool.{cases_eq}
+use Rattle.vt_outside.specs.declared.outside.File.{Ghosts as FileMeanings}
+use Rattle.vt_definitions.specs.Depths.{IsDepth}
+use Rattle.vt_pages.specs.Shape.{Shape}
+use Rattle.vt_pages.specs.Pages.{pages_of}
+use Rattle.vt_camera.specs.Paths.{ArePictureSides}
+use Rattle.vt_journal.specs.Changes.{newest}
+use Rattle.vt_table.specs.Views.{TableView, IsTable}
+use Rattle.vt_store.specs.Format.{tile_length}
+use Rattle.vt_evict.specs.declared.batches.Planned.{Planned}
+use Rattle.vt_load.specs.declared.queued.Queues.{Queues}
+use Rattle.vt_still.specs.RoundKits.{IsSetUp, IsAsked}
+use Rattle.vt_pass.specs.declared.crew.Crew.{Crew}
+use Rattle.vt_pass.specs.Crews.{IsCrew}
+use Rattle.vt_pass.specs.Outcomes.{IsBatchFor}
+use Rattle.vt_shown.specs.Frames.{HoldsTiles}
+use Rattle.vt_pass.specs.Passes.{IsUntouched, IsSpent}
+use Rattle.vt_store.specs.StoreViews.{StoreView, IsStoreIfTold}
+use Rattle.vt_pass.specs.Machines.{file_state, files_of, told_by, AreStoresFor}
+use Rattle.vt_still.specs.Kits.{KitView, kit_state, IsIdleKit, IsPreparedKit, IsReadyKit, HasRoom, IsSameKit, IsSameStore, AreSameStores, AreSamplersOf}
+
+module _ {F : Type 0} (g : FileMeanings F) where
+  -- the first of some stores have room to note so many reads
+  pub record HaveRoom (reads n : ℕ) (stores : List (StoreView F)) : Type 0 where
+    pub each : (k : ℕ) (d : StoreView F) → k < n → k < length stores → reads ≤ g.spare (get_or stores k d).file
+
+  pub same_none : (stores : List (StoreView F)) → AreSameStores g stores stores
+  same_none stores = record { number = refl; each = λ k d inside. record { shape = refl; depth = refl; bytes = refl; file = refl } }
+
+  pub same_more : (first stores : List (StoreView F)) (k : ℕ) (now : StoreView F) → AreSameStores g first stores → k < length stores
+      → IsSameStore g (get_or stores k now) now
+      → AreSameStores g first (slice_set stores k now)
+  same_more first stores k now h inside one = record {
+    number = length-set stores k now ∙ h.number;
+    each = λ j d below. ⊎_elim
+        (λ (same : j ≡ k).
+        let was = subst (λ i. IsSameStore g (get_or first i d) (get_or stores i d)) same (h.each j d below) in
+        let here : get_or stores k d ≡ get_or stores k now = get_or_default stores k d now inside in
+        let joined : IsSameStore g (get_or first k d) now = record {
+          shape = one.shape ∙ sym (ap (λ (s : StoreView F). s.shape) here) ∙ was.shape;
+          depth = one.depth ∙ sym (ap (λ (s : StoreView F). s.depth) here) ∙ was.depth;
+          bytes = one.bytes ∙ sym (ap (λ (s : StoreView F). g.bytes s.file) here) ∙ was.bytes;
+          file = one.file ∙ sym (ap (λ (s : StoreView F). file_state g s.file) here) ∙ was.file;
+        } in
+        subst (λ i. IsSameStore g (get_or first i d) (get_or (slice_set stores k now) i d)) (sym same)
+        (subst (IsSameStore g (get_or first k d)) (sym (get_or-set_same stores k now d inside)) joined))
+        (λ (other : j ≢ k). subst (IsSameStore g (get_or first j d)) (sym (get_or-set_other stores k j now d other)) (h.each j d below))
+        (cases_eq j k);
+  }
+
+  pub room_none : (reads : ℕ) (stores : List (StoreView F)) → HaveRoom reads 0 stores
+  room_none reads stores = record { each = λ k d low inside. absurd (omega (arith, low)) }
+
+  pub room_more : (reads n : ℕ) (stores : List (StoreView F)) (now : StoreView F) → HaveRoom reads n stores → n < length stores → reads ≤ g.spare now.file
+      → HaveRoom reads (n + 1) (slice_set stores n now)
+  room_more reads n stores now h inside room = record {
+    each = λ k d low below. ⊎_elim
+        (λ (same : k ≡ n). subst (λ (s : StoreView F). reads ≤ g.spare s.file) (sym (ap (λ i. get_or (slice_set stores n now) i d) same
+        ∙ get_or-set_same stores n now d inside)) room)
+        (λ (other : k ≢ n). subst (λ (s : StoreView F). reads ≤ g.spare s.file) (sym (get_or-set_other stores n k now d other))
+        (h.each k d (omega (arith, low, other)) (let l = length-set stores n now in omega (arith, l, below))))
+        (cases_eq k n);
+  }
+
+  pub room_all : (reads n : ℕ) (stores : List (StoreView F)) → HaveRoom reads n stores → length stores ≤ n → All (λ store. reads ≤ g.spare store.file) stores
+  room_all reads n stores h all k d inside = h.each k d (omega (arith, all, inside)) inside
+
+  told_same : (before after : List (StoreView F)) → AreSameStores g before after → told_by g after ≡ told_by g before
+  told_same [] [] h = refl
+  told_same [] (y ∷ ys) h = absurd (let n = h.number in omega (arith, n))
+  told_same (x ∷ xs) [] h = absurd (let n = h.number in omega (arith, n))
+  told_same (x ∷ xs) (y ∷ ys) h = (h.each 0 x (omega arith)).bytes
+
+  pub files_same : (before after : List (StoreView F)) → AreSameStores g before after → files_of g after ≡ files_of g before
+  files_same before after h = same_by before after h.number (λ k d inside. (h.each k d inside).file) where
+    same_by : (xs ys : List (StoreView F)) → length ys ≡ length xs
+        → ((k : ℕ) (d : StoreView F) → k < length xs → file_state g (get_or ys k d).file ≡ file_state g (get_or xs k d).file) → files_of g ys ≡ files_of g xs
+    same_by [] [] n h = refl
+    same_by [] (y ∷ ys) n h = absurd (omega (arith, n))
+    same_by (x ∷ xs) [] n h = absurd (omega (arith, n))
+    same_by (x ∷ xs) (y ∷ ys) n h =
+        let rest = same_by xs ys (omega (arith, n)) (λ k d inside. h (suc k) d (omega (arith, inside))) in
+        let first = h 0 x (omega arith) in
+        λ i. first i ∷ rest i
+
+  stores_for : (s : Shape) (d loaders : ℕ) (before after : List (StoreView F)) → AreSameStores g before after → AreStoresFor g s d loaders before
+      → AreStoresFor g s d loaders after
+  stores_for s d loaders before after h are = record {
+    count = h.number ∙ are.count;
+    shapes = λ k x inside. let low = below k inside in (h.each k x low).shape ∙ are.shapes k x low;
+    depths = λ k x inside. let low = below k inside in (h.each k x low).depth ∙ are.depths k x low;
+    told = λ k x inside. let low = below k inside in (h.each k x low).bytes ∙ are.told k x low ∙ sym (told_same before after h);
+  } where
+    below : (k : ℕ) → k < length after → k < length before
+    below k inside = let n = h.number in omega (arith, n, inside)
+
+  -- what is idle stays so with more room
+  pub idle_still : (v w : TableView) (k l : KitView F) → w ≡ record v { spare = w.spare } → IsSameKit g k l → IsIdleKit g v k
+      → All (λ b. length b.elements ≡ tile_length l.shape l.depth) l.round.buffers.elements → IsIdleKit g w l
+  idle_still v w k l same h idle buffers =
+      let t = idle.table in
+      let table : IsTable (record v { spare = w.spare }) = record {
+        limits = t.limits;
+        some_frame = t.some_frame;
+        few_frames = t.few_frames;
+        legal = t.legal;
+        one_to_one = t.one_to_one;
+        pages_inside = t.pages_inside;
+        frames_inside = t.frames_inside;
+        filled = t.filled;
+      } in
+      let holds : HoldsTiles (record v { spare = w.spare }) k.depth (told_by g k.stores) = λ page frame is. let has = idle.holds page frame is in
+      record { size = has.size; of_store = has.of_store } in
+      record {
+        table = subst IsTable (sym same) table;
+        shape = ap (λ (u : TableView). u.shape) same ∙ idle.shape ∙ sym h.shape;
+        kit = record {
+          crew = subst IsCrew (sym h.crew) idle.kit.crew;
+          depth = subst IsDepth (sym h.depth) idle.kit.depth;
+          stores = stores_for l.shape l.depth l.crew.loaders k.stores l.stores h.stores
+              (subst (λ (x : Shape × ℕ × Crew). AreStoresFor g x.0 x.1 x.2.loaders k.stores) (λ i. (sym h.shape i, sym h.depth i, sym h.crew i))
+              idle.kit.stores);
+          told = subst (λ (x : Option (List ℕ) × Shape × ℕ). IsStoreIfTold x.0 x.1 x.2)
+              (λ i. (sym (told_same k.stores l.stores h.stores) i, sym h.shape i, sym h.depth i)) idle.kit.told;
+          samplers = subst (λ (x : KitView F). AreSamplersOf x.shape x.depth x.width x.height x.crew.samplers x.samplers)
+              (λ i. record k {
+                shape = sym h.shape i;
+                depth = sym h.depth i;
+                width = sym h.width i;
+                height = sym h.height i;
+                crew = sym h.crew i;
+                samplers = sym h.samplers i;
+              }) idle.kit.samplers;
+          sides = subst (λ (x : ℕ × ℕ). ArePictureSides x.0 x.1) (λ i. (sym h.width i, sym h.height i)) idle.kit.sides;
+          counts = ap length h.counts ∙ idle.kit.counts ∙ ap pages_of (sym h.shape);
+          buffers = buffers;
+        };
+        holds = subst (λ (x : TableView × ℕ × Option (List ℕ)). HoldsTiles x.0 x.1 x.2)
+            (λ i. (sym same i, sym h.depth i, sym (told_same k.stores l.stores h.stores) i)) holds;
+      }
+
+  -- what is the same but for its room stays so with other requests
+  pub same_asked : (k l m : KitView F) → IsSameKit g k l → m ≡ record l { round = m.round } → IsSameKit g k m
+  same_asked k l m h rest = subst (IsSameKit g k) (sym rest) (record {
+    shape = h.shape;
+    depth = h.depth;
+    width = h.width;
+    height = h.height;
+    crew = h.crew;
+    samplers = h.samplers;
+    counts = h.counts;
+    stores = h.stores;
+  })
+
+  -- room stays so
+  pub room_asked : (l m : KitView F) (entries : ℕ) → m ≡ record l { round = m.round } → HasRoom l entries → HasRoom m entries
+  room_asked l m entries rest room = subst (λ (x : KitView F). HasRoom x entries) (sym rest) (record {
+    no_rows = room.no_rows;
+    rows = room.rows;
+    no_events = room.no_events;
+    events = room.events;
+  })
+
+  pub prepared_with : (v w : TableView) (q : Queues) (k l : KitView F) (batch : List Planned) → w ≡ record v { spare = w.spare } → IsSameKit g k l
+      → IsIdleKit g v k
+      → IsBatchFor v.shape v.frames (newest v.changes) batch → length batch ≤ k.crew.batch → 2 * length batch ≤ w.spare → HasRoom l (length batch)
+      → All (λ store. l.crew.batch ≤ g.spare store.file) l.stores → IsSetUp q l.round (tile_length l.shape l.depth) l.crew (length batch)
+      → IsPreparedKit g w q l batch
+  prepared_with v w q k l batch same h idle lawful few journal room reads set_up = record {
+    idle = idle_still v w k l same h idle set_up.sizes;
+    few = subst (λ (crew : Crew). length batch ≤ crew.batch) (sym h.crew) few;
+    reads = reads;
+    queued = set_up;
+    lawful = subst (λ (u : TableView). IsBatchFor u.shape u.frames (newest u.changes) batch) (sym same) lawful;
+    journal = journal;
+    room = room;
+  }
+
+  -- the pages of the batch for which a kit is prepared are the texture's
+  pub pages_inside : (v : TableView) (q : Queues) (k : KitView F) (batch : List Planned) → IsPreparedKit g v q k batch
+      → All (λ e. e.page < pages_of k.shape) batch
+  pages_inside v q k batch h j e inside = subst (λ (s : Shape). (get_or batch j e).page < pages_of s) h.idle.shape (h.lawful.each j e inside).page_inside
+
+  -- a kit that was prepared is ready once the requests were put
+  pub ready_once_asked : (v : TableView) (q : Queues) (k l : KitView F) (batch : List Planned) → l ≡ record k { round = l.round } → IsPreparedKit g v q k batch
+      → IsAsked q l.round k.shape k.depth k.crew batch → IsReadyKit g v q l batch
+  ready_once_asked v q k l batch rest h asked = subst (λ (x : KitView F). IsReadyKit g v q x batch) (sym rest) (record {
+    idle = record {
+      table = h.idle.table;
+      shape = h.idle.shape;
+      kit = record {
+        crew = h.idle.kit.crew;
+        depth = h.idle.kit.depth;
+        stores = h.idle.kit.stores;
+        told = h.idle.kit.told;
+        samplers = h.idle.kit.samplers;
+        sides = h.idle.kit.sides;
+        counts = h.idle.kit.counts;
+        buffers = asked.places.sizes;
+      };
+      holds = h.idle.holds;
+    };
+    lawful = h.lawful;
+    few = h.few;
+    journal = h.journal;
+    room = record {
+      no_rows = h.room.no_rows;
+      rows = h.room.rows;
+      no_events = h.room.no_events;
+      events = h.room.events;
+    };
+    reads = h.reads;
+    queued = asked;
+  })
+
+  pub untouched : (v w : TableView) (k l : KitView F) → w ≡ record v { spare = w.spare } → IsSameKit g k l → IsUntouched (kit_state g v k) (kit_state g w l)
+  untouched v w k l same h = record {
+    setup = λ i. record {
+      shape = h.shape i;
+      depth = h.depth i;
+      width = h.width i;
+      height = h.height i;
+      frames = (same i).frames;
+      crew = h.crew i;
+      bytes = told_same k.stores l.stores h.stores i;
+    };
+    files = files_same k.stores l.stores h.stores;
+    journal = ap (λ (u : TableView). u.changes) same;
+  }
+
+  pub spent : (v w : TableView) (k l : KitView F) → w ≡ record v { spare = w.spare } → IsSameKit g k l → IsSpent (kit_state g v k) (kit_state g w l)
+  spent v w k l same h = let u = untouched v w k l same h in record { setup = u.setup; files = u.files }
+
+pub on_ok : {T E A B : Type 0} (r : Result T E) → OnOk r A → (A → B) → OnOk r B
+on_ok (Ok x) a f = f a
+on_ok (Err e) n f = n
+
+pub always_err : {T E B : Type 0} (r : Result T E) → B → OnErr r B
+always_err (Ok x) b = tt
+always_err (Err e) b = b

@@ -1,0 +1,22 @@
+use Rattle.std.proofs.Common.{◌<◌, List, length, refl, sym, subst}
+use Rattle.std.specs.Prelude.{All}
+use Rattle.vt_pages.specs.Pages.{pages_of}
+use Rattle.vt_store.specs.Format.{tile_length}
+use Rattle.vt_evict.specs.declared.batches.Planned.{Planned}
+use Rattle.vt_still.specs.RoundKits.{IsSetUp, IsAsked}
+use Rattle.vt_still.specs.Kits.{KitView, IsPreparedKit}
+use Rattle.vt_still.proofs.Rooms.{pages_inside, ready_once_asked}
+use Rattle.vt_still.proofs.kit.StillKit.ask.Goals as goal
+
+pub returns-clause-ready : goal.returns-clause-ready
+returns-clause-ready g c = λ v given.
+    let q = c.args.queues.now in
+    let k = c.self.inside in
+    let size = tile_length k.geometry k.depth in
+    let its = subst (λ (x : KitView _). IsPreparedKit g.F.File v q x c.args.batch.now.elements) (sym c.self.view_is) given in
+    let same = sym c.slice.ensures in
+    let asked = c.ask.ensures k.geometry k.depth k.crew
+    (subst (λ (l : List Planned). All (λ e. e.page < pages_of k.geometry) l) same (pages_inside g.F.File v q _ c.args.batch.now.elements its))
+    (subst (λ (l : List Planned). IsSetUp q k.round size k.crew (length l)) same its.queued) in
+    ready_once_asked g.F.File v q _ _ c.args.batch.now.elements refl its
+    (subst (IsAsked q c.ask.new.self k.geometry k.depth k.crew) c.slice.ensures asked)

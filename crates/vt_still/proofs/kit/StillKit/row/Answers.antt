@@ -1,0 +1,9 @@
+use Rattle.std.proofs.Common.{◌%◌, sym, ap, ◌∙◌}
+use Rattle.std.specs.Prelude.{slice_get}
+use Rattle.vt_still.specs.Kits.{KitView}
+use Rattle.vt_still.proofs.Kits.{own_turn}
+use Rattle.vt_still.proofs.kit.StillKit.row.Goals as goal
+
+pub row-requires : goal.row-requires
+row-requires g c = own_turn g.F.File c.args.self.now c.args.y c.at.result.now c.requires.kit c.requires.inside
+    (ap (λ (k : KitView _). slice_get k.samplers (c.args.y % k.crew.samplers)) (sym c.self.view_is) ∙ c.at.ensures)

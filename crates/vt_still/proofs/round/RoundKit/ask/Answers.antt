@@ -1,0 +1,26 @@
+use Rattle.std.proofs.Common.{◌+◌, ap, ◌∙◌, arith, subst, sym, length}
+use Rattle.vt_store.specs.Format.{tile_length}
+use Rattle.vt_still.specs.RoundKits.{RoundKitView, IsSetUp}
+use Rattle.vt_still.proofs.round.RoundKit.ask.Goals as goal
+
+pub returns : goal.returns
+returns g c = λ s d crew pages given.
+    let set_up = subst (λ (r : RoundKitView _). IsSetUp c.args.queues.now r (tile_length s d) crew (length c.args.batch.now)) (sym c.self.view_is) given in
+    let asked = c.ask_batch.ensures in
+    record {
+      passes = record { requests = asked.of.0; results = set_up.new.passes.results };
+      capacity = set_up.new.room;
+      put = asked.asked s d pages set_up.sizes;
+      no_answers = set_up.new.no_answers;
+      asks_splits = ap (λ n. n + 1) asked.of.1 ∙ set_up.new.asks_splits;
+      answers_splits = set_up.new.answers_splits;
+      no_loaders = set_up.no_loaders;
+      loaders = set_up.loaders;
+      places = record {
+        no_results = set_up.no_results;
+        results = set_up.results;
+        losses = set_up.losses;
+        buffers = (let r = asked.room in omega (arith, r));
+        sizes = asked.left (tile_length s d) set_up.sizes;
+      };
+    }

@@ -1,0 +1,87 @@
+-- What the loaders of a pass are done with.
+use Rattle.std.specs.Prelude.{◌≡◌, ℕ, ◌+◌, ◌≤◌, Bool, Option, List, [], length, reverse, All}
+use Rattle.vt_outside.specs.Lists.{ListView}
+use Rattle.vt_outside.specs.declared.outside.File.{Ghosts as FileMeanings}
+use Rattle.vt_pages.specs.Shape.{Shape}
+use Rattle.vt_store.specs.Format.{tile_length}
+use Rattle.vt_store.specs.StoreViews.{StoreView}
+use Rattle.vt_evict.specs.declared.batches.Planned.{Planned}
+use Rattle.vt_queue.specs.declared.items.Request.{Request}
+use Rattle.vt_queue.specs.declared.items.Loaded.{Loaded}
+use Rattle.vt_queue.specs.declared.queue.QueuePass.{QueuePass}
+use Rattle.vt_queue.specs.PassViews.{all_shares, first_view}
+use Rattle.vt_queue.specs.Queues.{view_of, splits_of, capacity_of}
+use Rattle.vt_load.specs.declared.queued.Queues.{Queues}
+use Rattle.vt_load.specs.QueuedLoaders.{QueuedView, AreOf, IsLoaderOf, AreSplitOff, stores_of}
+use Rattle.vt_pass.specs.declared.crew.Crew.{Crew}
+use Rattle.vt_still.specs.BatchRounds.{ArePut}
+
+-- what the loaders of a pass are done with: the passes of the queues, room for the loaders, for their stores and for the results, the buffers,
+-- and what is noted of each entry
+pub record RoundKitView (F : Type 0) : Type 0 where
+  pub asks : QueuePass Request
+  pub answers : QueuePass Loaded
+  pub loaders : ListView (QueuedView F)
+  pub stores : ListView (StoreView F)
+  pub results : ListView Loaded
+  pub buffers : ListView (ListView ℕ)
+  pub losses : ListView Bool
+
+-- all of these buffers have one size
+abbrev pub AreSized : ℕ → List (ListView ℕ) → Type 0
+AreSized size buffers = All (λ b. length b.elements ≡ size) buffers
+
+-- two queues are new, with room for so many items, and these are their passes
+pub record AreNew (capacity : ℕ) (q : Queues) (asks : QueuePass Request) (answers : QueuePass Loaded) : Type 0 where
+  pub passes : AreOf q asks answers
+  pub room : capacity_of q.requests ≡ capacity
+  pub no_asks : view_of asks ≡ first_view
+  pub no_answers : view_of answers ≡ first_view
+  pub asks_splits : splits_of asks + 1 ≡ all_shares
+  pub answers_splits : splits_of answers + 1 ≡ all_shares
+
+-- there is room for the results of so many entries and for their buffers, each of this size, and something is noted of each entry
+pub record HasPlaces {F : Type 0} (r : RoundKitView F) (entries size : ℕ) : Type 0 where
+  pub no_results : r.results.elements ≡ []
+  pub results : entries ≤ r.results.spare
+  pub losses : length r.losses.elements ≡ entries
+  pub buffers : entries ≤ r.buffers.spare
+  pub sizes : AreSized size r.buffers.elements
+
+-- two queues are new and have room for a crew's batches; there is room for its loaders, and for the results of so many entries, with a
+-- buffer of this size and a note for each
+pub record IsSetUp {F : Type 0} (q : Queues) (r : RoundKitView F) (size : ℕ) (crew : Crew) (entries : ℕ) : Type 0 where
+  pub new : AreNew crew.batch q r.asks r.answers
+  pub no_loaders : r.loaders.elements ≡ []
+  pub loaders : crew.loaders ≤ r.loaders.spare
+  pub no_results : r.results.elements ≡ []
+  pub results : entries ≤ r.results.spare
+  pub losses : length r.losses.elements ≡ entries
+  pub buffers : entries ≤ length r.buffers.elements
+  pub sizes : AreSized size r.buffers.elements
+
+-- requests for a batch were put into new queues, and there is room for the loaders of a crew
+pub record IsAsked {F : Type 0} (q : Queues) (r : RoundKitView F) (s : Shape) (d : ℕ) (crew : Crew) (batch : List Planned) : Type 0 where
+  pub passes : AreOf q r.asks r.answers
+  pub capacity : capacity_of q.requests ≡ crew.batch
+  pub put : ArePut s d batch (length batch) (view_of r.asks)
+  pub no_answers : view_of r.answers ≡ first_view
+  pub asks_splits : splits_of r.asks + 1 ≡ all_shares
+  pub answers_splits : splits_of r.answers + 1 ≡ all_shares
+  pub no_loaders : r.loaders.elements ≡ []
+  pub loaders : crew.loaders ≤ r.loaders.spare
+  pub places : HasPlaces r (length batch) (tile_length s d)
+
+-- a loader was made of each store, with passes that were split off for it
+pub record IsDealt {F : Type 0} (g : FileMeanings F) (q : Queues) (r r' : RoundKitView F) (stores : List (StoreView F))
+    (loaders : List (QueuedView F)) : Type 0 where
+  pub passes : AreOf q r'.asks r'.answers
+  pub no_stores : r'.stores.elements ≡ []
+  pub room : length loaders ≤ r'.stores.spare
+  pub stores_are : reverse (stores_of loaders) ≡ stores
+  pub of : (s : Shape) (d : ℕ) (told : Option (List ℕ)) → All (λ store. (store.shape ≡ s) × (store.depth ≡ d) × (g.bytes store.file ≡ told)) stores
+      → All (IsLoaderOf g s d told) loaders
+  pub split : AreSplitOff (view_of r.asks) (view_of r'.asks) (view_of r.answers) (view_of r'.answers) loaders
+  pub results : r'.results ≡ r.results
+  pub buffers : r'.buffers ≡ r.buffers
+  pub losses : r'.losses ≡ r.losses
