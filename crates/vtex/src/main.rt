@@ -3,24 +3,15 @@
 
 ghost use Rattle.std.specs.Prelude.{◌≡◌};
 ghost use Rattle.std.specs.IoError.{error_kind};
-ghost use Rattle.vtex.specs.Refusals.{unread_refusal};
+ghost use Rattle.vt_inputs.specs.Refusals.{unread_refusal};
 
-mod commands;
-mod flaws;
-mod input;
-mod output;
-mod refusal;
-mod run;
-#[cfg(test)]
-mod tests;
-
-use refusal::Refusal;
-use run::run;
 use std::alloc::Global;
 use std::fs::File;
 use std::io::ErrorKind;
 use std::process::ExitCode;
 use std::{env, io};
+pub use vt_commands::run;
+use vt_inputs::Refusal;
 use vt_outside::{OpenGate, RealFile, RealFolder, RealSink};
 use vt_still::StillMachine;
 

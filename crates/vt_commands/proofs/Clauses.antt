@@ -1,0 +1,322 @@
+-- The clauses of the top call, from how a run ends.
+use Rattle.std.proofs.Common.{◌≡◌, ◌≢◌, ◌⊎◌, ℕ, ◌≤◌, List, Ok, Err, refl, sym, ap, subst, ◌∙◌, inl, inr, arith}
+use Rattle.std.specs.Prelude.{Result}
+use Rattle.std.specs.Option.{is_some}
+use Rattle.std.proofs.lemmas.Bool.{false≢true}
+use Rattle.vt_files.specs.Courses.{Course, SinkState, FolderState, Gain, IsUntouched, IsIdle}
+use Rattle.vt_inputs.specs.Inputs.{Input, Content}
+use Rattle.vt_inputs.specs.Causes.{Cause, MissingName, FlawedInput, cause_status, IsFirstCause, AreHeld, AreAccepted}
+use Rattle.vt_inputs.specs.Tasks.{HasBadInput}
+use Rattle.vt_commands.specs.Machines.{Drawing}
+use Rattle.vt_inputs.specs.Terms.{Terms, Hindrance, FlawedBeside, ManyTexels, FewFrames, LargePicture, hindrance_status, IsHindered, HasFaultBy, HasBadInputBy, EndsBy}
+use Rattle.vt_inputs.specs.Lines.{memory_line, usage_line, fault_line}
+use Rattle.vt_inputs.specs.Refusals.{status_of, Told, EndTold}
+use Rattle.vt_commands.specs.Runs.{Asks, AsksNothing, RunDone, RunLeft, RunAsked, RunFault, RunBadInput, RunHindered, RunCaused, RunStopped, RunComplete}
+use Rattle.vt_words.specs.Commands.{CommandText}
+use Rattle.vt_commands.specs.commands.{terms_of, EndsCommand, EndsRun}
+use Rattle.vt_inputs.specs.declared.flaws.Flaw.{Flaw}
+use Rattle.vt_inputs.specs.declared.refusal.Refusal.{Refusal}
+use Rattle.vt_inputs.specs.declared.refusal.Refusal.TheVariants.{NoMemory, Usage, Fault, Flawed, TooFewFrames, DoesNotFit}
+use Rattle.vt_inputs.proofs.Excluded.{first_status, none_first, held_accepted, first_told, accepted_told}
+use Rattle.vt_inputs.proofs.OneContent.{same_held}
+use Rattle.vt_commands.proofs.Sound.{AreSound, sound}
+
+asks_none : (words : List (List ℕ)) (p : CommandText) → Asks words p → AsksNothing words → ⊥
+asks_none words p asks none = false≢true (sym none ∙ ap is_some asks)
+
+same_command : (words : List (List ℕ)) (p q : CommandText) → Asks words p → Asks words q → p ≡ q
+same_command words p q a b = cc
+
+-- how the words' command ended, whichever name it is given
+ends_as : (m : Drawing) (T : Type 0) (words : List (List ℕ)) (c : Course) (r : Result T Refusal) (p : CommandText) → Asks words p
+    → EndsCommand m words c r → EndsBy (terms_of m p) c r
+ends_as m T words c r p asks h = subst (λ (q : CommandText). EndsBy (terms_of m q) c r) (same_command words h.command p h.is asks) h.ends
+
+pub done_of : (m : Drawing) (T : Type 0) (words : List (List ℕ)) (c : Course) (r : Result T Refusal) → EndsRun m words c r → status_of r ≡ 0 → RunDone m words c
+done_of m T words c (Ok t) h s = (h.command, h.is, h.ends.1)
+done_of m T words c (Err NoMemory) h s = absurd (omega (arith, s))
+done_of m T words c (Err Usage) h s = absurd (omega (arith, s))
+done_of m T words c (Err Fault) h s = absurd (omega (arith, s))
+done_of m T words c (Err (Flawed name flaw)) h s = absurd (omega (arith, s))
+done_of m T words c (Err (TooFewFrames frames needed)) h s = absurd (omega (arith, s))
+done_of m T words c (Err (DoesNotFit picture wanted room)) h s = absurd (omega (arith, s))
+
+idle_untouched : (c : Course) → IsIdle c → IsUntouched c
+idle_untouched c idle = record { files = ap (λ (s : FolderState). s.files) idle.folder; held = ap (λ (s : SinkState). s.held) idle.out }
+
+pub left_of : (m : Drawing) (T : Type 0) (words : List (List ℕ)) (c : Course) (r : Result T Refusal) → EndsRun m words c r → status_of r ≢ 0 → RunLeft m words c
+left_of m T words c (Ok t) h s = λ p asks. absurd (s refl)
+left_of m T words c (Err refusal) (inl h) s = λ p asks. inl (idle_untouched c h.idle)
+left_of m T words c (Err refusal) (inr h) s = λ p asks. (ends_as m T words c (Err refusal) p asks h).1.0
+
+bad_untouched : (terms : Terms) (c : Course) (name : List ℕ) (flaw : Flaw) → HasBadInputBy terms c name flaw → IsUntouched c
+bad_untouched terms c name flaw (inl h) = h.untouched
+bad_untouched terms c name flaw (inr h) = h.stands
+
+pub untouched_of : (m : Drawing) (T : Type 0) (words : List (List ℕ)) (c : Course) (r : Result T Refusal) → EndsRun m words c r
+    → (status_of r ≡ 2) ⊎ (status_of r ≡ 4) → IsUntouched c
+untouched_of m T words c (Ok t) h (inl s) = absurd (omega (arith, s))
+untouched_of m T words c (Ok t) h (inr s) = absurd (omega (arith, s))
+untouched_of m T words c (Err refusal) (inl h) s = idle_untouched c h.idle
+untouched_of m T words c (Err NoMemory) (inr h) (inl s) = absurd (omega (arith, s))
+untouched_of m T words c (Err NoMemory) (inr h) (inr s) = absurd (omega (arith, s))
+untouched_of m T words c (Err Usage) (inr h) s = h.ends.1.1.stands
+untouched_of m T words c (Err Fault) (inr h) (inl s) = absurd (omega (arith, s))
+untouched_of m T words c (Err Fault) (inr h) (inr s) = absurd (omega (arith, s))
+untouched_of m T words c (Err (Flawed name flaw)) (inr h) s = bad_untouched (terms_of m h.command) c name.now flaw h.ends.1.1
+untouched_of m T words c (Err (TooFewFrames frames needed)) (inr h) s = h.ends.1.1.stands
+untouched_of m T words c (Err (DoesNotFit picture wanted room)) (inr h) (inl s) = absurd (omega (arith, s))
+untouched_of m T words c (Err (DoesNotFit picture wanted room)) (inr h) (inr s) = absurd (omega (arith, s))
+
+pub asked_of : (m : Drawing) (T : Type 0) (words : List (List ℕ)) (c : Course) (r : Result T Refusal) → EndsRun m words c r → RunAsked m words c
+asked_of m T words c (Ok t) h = λ p asks. (ends_as m T words c (Ok t) p asks h).0
+asked_of m T words c (Err refusal) (inl h) = λ p asks. (sound m p).idle c h.idle
+asked_of m T words c (Err refusal) (inr h) = λ p asks. (ends_as m T words c (Err refusal) p asks h).0
+
+pub idle_of : (m : Drawing) (T : Type 0) (words : List (List ℕ)) (c : Course) (r : Result T Refusal) → EndsRun m words c r → AsksNothing words → IsIdle c
+idle_of m T words c (Ok t) h none = absurd (asks_none words h.command h.is none)
+idle_of m T words c (Err refusal) (inl h) none = h.idle
+idle_of m T words c (Err refusal) (inr h) none = absurd (asks_none words h.command h.is none)
+
+pub usage_of : (m : Drawing) (T : Type 0) (words : List (List ℕ)) (c : Course) (r : Result T Refusal) (err : Gain) → EndsRun m words c r → EndTold r err
+    → status_of r ≡ 2 → AsksNothing words ⊎ RunHindered m words c err 2
+usage_of m T words c (Ok t) err h told s = absurd (omega (arith, s))
+usage_of m T words c (Err NoMemory) err h told s = absurd (omega (arith, s))
+usage_of m T words c (Err Usage) err (inl h) told s = inl h.unread
+usage_of m T words c (Err Usage) err (inr h) told s =
+    inr (record { command = h.command; asks = h.is; hindrance = ManyTexels; comes = refl; met = h.ends.1.1; told = told })
+usage_of m T words c (Err Fault) err h told s = absurd (omega (arith, s))
+usage_of m T words c (Err (Flawed name flaw)) err h told s = absurd (omega (arith, s))
+usage_of m T words c (Err (TooFewFrames frames needed)) err h told s = absurd (omega (arith, s))
+usage_of m T words c (Err (DoesNotFit picture wanted room)) err h told s = absurd (omega (arith, s))
+
+pub no_command_of : (m : Drawing) (T : Type 0) (words : List (List ℕ)) (c : Course) (r : Result T Refusal) → EndsRun m words c r
+    → AsksNothing words → (status_of r ≡ 2) ⊎ (status_of r ≡ 1)
+no_command_of m T words c (Ok t) h none = absurd (asks_none words h.command h.is none)
+no_command_of m T words c (Err NoMemory) h none = inr refl
+no_command_of m T words c (Err Usage) h none = inl refl
+no_command_of m T words c (Err refusal) (inr h) none = absurd (asks_none words h.command h.is none)
+no_command_of m T words c (Err Fault) (inl h) none = absurd h.unread
+no_command_of m T words c (Err (Flawed name flaw)) (inl h) none = absurd h.unread
+no_command_of m T words c (Err (TooFewFrames frames needed)) (inl h) none = absurd h.unread
+no_command_of m T words c (Err (DoesNotFit picture wanted room)) (inl h) none = absurd h.unread
+
+pub fault_of : (m : Drawing) (T : Type 0) (words : List (List ℕ)) (c : Course) (r : Result T Refusal) → EndsRun m words c r → status_of r ≡ 3
+    → RunFault m words c
+fault_of m T words c (Ok t) h s = absurd (omega (arith, s))
+fault_of m T words c (Err NoMemory) h s = absurd (omega (arith, s))
+fault_of m T words c (Err Usage) h s = absurd (omega (arith, s))
+fault_of m T words c (Err Fault) (inl h) s = absurd h.unread
+fault_of m T words c (Err Fault) (inr h) s = (h.command, h.is, h.ends.1.1)
+fault_of m T words c (Err (Flawed name flaw)) h s = absurd (omega (arith, s))
+fault_of m T words c (Err (TooFewFrames frames needed)) h s = absurd (omega (arith, s))
+fault_of m T words c (Err (DoesNotFit picture wanted room)) h s = absurd (omega (arith, s))
+
+-- what holds of the inputs of a hindrance has no first cause
+hindered_first : (terms : Terms) (c : Course) (cause : Cause) (hindrance : Hindrance) → IsFirstCause c.folder.before.files terms.inputs cause
+    → IsHindered terms c hindrance → ⊥
+hindered_first terms c cause hindrance first h =
+    let files = c.folder.before.files in
+    none_first files terms.inputs cause (held_accepted files terms.inputs h.contents (h.held (first_told files terms.inputs cause first))) first
+
+bad_status : (terms : Terms) (c : Course) (name : List ℕ) (flaw : Flaw) (cause : Cause) → IsFirstCause c.folder.before.files terms.inputs cause
+    → HasBadInputBy terms c name flaw → 4 ≡ cause_status cause
+bad_status terms c name flaw cause first (inl h) =
+    first_status c.folder.before.files terms.inputs (FlawedInput name flaw) cause (h.first (first_told c.folder.before.files terms.inputs cause first)) first
+bad_status terms c name flaw cause first (inr h) = absurd (hindered_first terms c cause (FlawedBeside name flaw) first h)
+
+fault_status : (terms : Terms) (c : Course) (cause : Cause) → (terms.failed c → ⊥) → IsFirstCause c.folder.before.files terms.inputs cause
+    → HasFaultBy terms c → 3 ≡ cause_status cause
+fault_status terms c cause none first (inl failed) = absurd (none failed)
+fault_status terms c cause none first (inr missing) =
+    first_status c.folder.before.files terms.inputs (MissingName missing.0) cause missing.1 first
+
+caused_as : (T : Type 0) (c : Course) (r : Result T Refusal) (terms : Terms) (cause : Cause) → EndsBy terms c r → (terms.failed c → ⊥)
+    → IsFirstCause c.folder.before.files terms.inputs cause → (status_of r ≡ cause_status cause) ⊎ (status_of r ≡ 1)
+caused_as T c (Ok t) terms cause h none first =
+    let files = c.folder.before.files in
+    absurd (none_first files terms.inputs cause (held_accepted files terms.inputs h.1.contents (h.1.held (first_told files terms.inputs cause first))) first)
+caused_as T c (Err NoMemory) terms cause h none first = inr refl
+caused_as T c (Err Usage) terms cause h none first = absurd (hindered_first terms c cause ManyTexels first h.1.1)
+caused_as T c (Err Fault) terms cause h none first = inl (fault_status terms c cause none first h.1.1)
+caused_as T c (Err (Flawed name flaw)) terms cause h none first = inl (bad_status terms c name.now flaw cause first h.1.1)
+caused_as T c (Err (TooFewFrames frames needed)) terms cause h none first =
+    absurd (hindered_first terms c cause (FewFrames frames needed) first h.1.1)
+caused_as T c (Err (DoesNotFit picture wanted room)) terms cause h none first =
+    absurd (hindered_first terms c cause (LargePicture picture wanted room) first h.1.1)
+
+unread_caused : (m : Drawing) (T : Type 0) (words : List (List ℕ)) (c : Course) (refusal : Refusal) → EndsRun {T = T} m words c (Err refusal)
+    → (p : CommandText) → Asks words p → (status_of {T = T} (Err refusal) ≡ 1) ⊎ EndsBy {T = T} (terms_of m p) c (Err refusal)
+unread_caused m T words c refusal (inr h) = λ p asks. inr (ends_as m T words c (Err refusal) p asks h)
+unread_caused m T words c NoMemory (inl h) = λ p asks. inl refl
+unread_caused m T words c Usage (inl h) = λ p asks. absurd (asks_none words p asks h.unread)
+unread_caused m T words c Fault (inl h) = λ p asks. absurd h.unread
+unread_caused m T words c (Flawed name flaw) (inl h) = λ p asks. absurd h.unread
+unread_caused m T words c (TooFewFrames frames needed) (inl h) = λ p asks. absurd h.unread
+unread_caused m T words c (DoesNotFit picture wanted room) (inl h) = λ p asks. absurd h.unread
+
+-- an ending of the words' command, or want of memory
+came_to : (m : Drawing) (T : Type 0) (words : List (List ℕ)) (c : Course) (r : Result T Refusal) → EndsRun m words c r
+    → (p : CommandText) → Asks words p → (status_of r ≡ 1) ⊎ EndsBy (terms_of m p) c r
+came_to m T words c (Ok t) h = λ p asks. inr (ends_as m T words c (Ok t) p asks h)
+came_to m T words c (Err refusal) h = unread_caused m T words c refusal h
+
+pub caused_of : (m : Drawing) (T : Type 0) (words : List (List ℕ)) (c : Course) (r : Result T Refusal) → EndsRun m words c r → RunCaused m words c (status_of r)
+caused_of m T words c r h = λ p cause asks none first. elim (came_to m T words c r h p asks) [
+  | inl wanting ↦ inr wanting
+  | inr ends ↦ caused_as T c r (terms_of m p) cause ends none first
+]
+
+-- what stands in a command's way is what stands in the way of what the folder holds
+hindered_status : (terms : Terms) (c : Course) (contents : List Content) (a b : Hindrance) → AreSound terms
+    → AreHeld c.folder.before.files terms.inputs contents → terms.hinders contents a → IsHindered terms c b → hindrance_status b ≡ hindrance_status a
+hindered_status terms c contents a b laws held hinders h =
+    let same = same_held c.folder.before.files terms.inputs contents h.contents held h.count h.held in
+    laws.one h.contents b a h.hinders (subst (λ (cs : List Content). terms.hinders cs a) same hinders)
+
+fault_held : (terms : Terms) (c : Course) (contents : List Content) → (terms.failed c → ⊥) → AreHeld c.folder.before.files terms.inputs contents
+    → HasFaultBy terms c → ⊥
+fault_held terms c contents none held (inl failed) = none failed
+fault_held terms c contents none held (inr missing) =
+    none_first c.folder.before.files terms.inputs (MissingName missing.0) (held_accepted c.folder.before.files terms.inputs contents held) missing.1
+
+bad_held : (inputs : List Input) (c : Course) (contents : List Content) (name : List ℕ) (flaw : Flaw) → AreHeld c.folder.before.files inputs contents
+    → HasBadInput inputs c name flaw → ⊥
+bad_held inputs c contents name flaw held bad =
+    let files = c.folder.before.files in
+    let accepted = held_accepted files inputs contents held in
+    let told = accepted_told files bad.before bad.input bad.after (subst (λ (all : List Input). AreAccepted files all) bad.among accepted) in
+    none_first files inputs (FlawedInput name flaw) accepted (bad.first told)
+
+stopped_as : (T : Type 0) (c : Course) (r : Result T Refusal) (terms : Terms) (contents : List Content) (a : Hindrance) → AreSound terms → EndsBy terms c r
+    → (terms.failed c → ⊥) → AreHeld c.folder.before.files terms.inputs contents → terms.hinders contents a
+    → (status_of r ≡ hindrance_status a) ⊎ (status_of r ≡ 1)
+stopped_as T c (Ok t) terms contents a laws h none held hinders =
+    let same = same_held c.folder.before.files terms.inputs contents h.1.contents held h.1.count h.1.held in
+    absurd (h.1.free a (subst (λ (cs : List Content). terms.hinders cs a) same hinders))
+stopped_as T c (Err NoMemory) terms contents a laws h none held hinders = inr refl
+stopped_as T c (Err Usage) terms contents a laws h none held hinders = inl (hindered_status terms c contents a ManyTexels laws held hinders h.1.1)
+stopped_as T c (Err Fault) terms contents a laws h none held hinders = absurd (fault_held terms c contents none held h.1.1)
+stopped_as T c (Err (Flawed name flaw)) terms contents a laws h none held hinders = elim h.1.1 [
+  | inl bad ↦ absurd (bad_held terms.inputs c contents name.now flaw held bad)
+  | inr met ↦ inl (hindered_status terms c contents a (FlawedBeside name.now flaw) laws held hinders met)
+]
+stopped_as T c (Err (TooFewFrames frames needed)) terms contents a laws h none held hinders =
+    inl (hindered_status terms c contents a (FewFrames frames needed) laws held hinders h.1.1)
+stopped_as T c (Err (DoesNotFit picture wanted room)) terms contents a laws h none held hinders =
+    inl (hindered_status terms c contents a (LargePicture picture wanted room) laws held hinders h.1.1)
+
+pub stopped_of : (m : Drawing) (T : Type 0) (words : List (List ℕ)) (c : Course) (r : Result T Refusal) → EndsRun m words c r
+    → RunStopped m words c (status_of r)
+stopped_of m T words c r h = λ p contents hindrance asks none held hinders. elim (came_to m T words c r h p asks) [
+  | inl wanting ↦ inr wanting
+  | inr ends ↦ stopped_as T c r (terms_of m p) contents hindrance (sound m p) ends none held hinders
+]
+
+-- nothing stands in the way of what the folder holds, and so in the command's way
+none_met : (terms : Terms) (c : Course) (contents : List Content) (b : Hindrance) → AreHeld c.folder.before.files terms.inputs contents
+    → ((a : Hindrance) → terms.hinders contents a → ⊥) → IsHindered terms c b → ⊥
+none_met terms c contents b held free h =
+    let same = same_held c.folder.before.files terms.inputs contents h.contents held h.count h.held in
+    free b (subst (λ (cs : List Content). terms.hinders cs b) (sym same) h.hinders)
+
+complete_as : (T : Type 0) (c : Course) (r : Result T Refusal) (terms : Terms) (contents : List Content) → EndsBy terms c r
+    → (terms.failed c → ⊥) → AreHeld c.folder.before.files terms.inputs contents → ((a : Hindrance) → terms.hinders contents a → ⊥)
+    → (status_of r ≡ 0) ⊎ (status_of r ≡ 1)
+complete_as T c (Ok t) terms contents h none held free = inl refl
+complete_as T c (Err NoMemory) terms contents h none held free = inr refl
+complete_as T c (Err Usage) terms contents h none held free = absurd (none_met terms c contents ManyTexels held free h.1.1)
+complete_as T c (Err Fault) terms contents h none held free = absurd (fault_held terms c contents none held h.1.1)
+complete_as T c (Err (Flawed name flaw)) terms contents h none held free = elim h.1.1 [
+  | inl bad ↦ absurd (bad_held terms.inputs c contents name.now flaw held bad)
+  | inr met ↦ absurd (none_met terms c contents (FlawedBeside name.now flaw) held free met)
+]
+complete_as T c (Err (TooFewFrames frames needed)) terms contents h none held free =
+    absurd (none_met terms c contents (FewFrames frames needed) held free h.1.1)
+complete_as T c (Err (DoesNotFit picture wanted room)) terms contents h none held free =
+    absurd (none_met terms c contents (LargePicture picture wanted room) held free h.1.1)
+
+pub complete_of : (m : Drawing) (T : Type 0) (words : List (List ℕ)) (c : Course) (r : Result T Refusal) → EndsRun m words c r
+    → RunComplete m words c (status_of r)
+complete_of m T words c r h = λ p contents asks none held free. elim (came_to m T words c r h p asks) [
+  | inl wanting ↦ inr wanting
+  | inr ends ↦ complete_as T c r (terms_of m p) contents ends none held free
+]
+
+-- a run that did a command
+pub runs_command : (m : Drawing) (T : Type 0) (words : List (List ℕ)) (c : Course) (r : Result T Refusal) (command : CommandText)
+    → Asks words command → EndsBy (terms_of m command) c r → EndsRun m words c r
+runs_command m T words c (Ok t) command is ends = record { command = command; is = is; ends = ends }
+runs_command m T words c (Err refusal) command is ends = inr (record { command = command; is = is; ends = ends })
+
+pub small_of : (T : Type 0) (r : Result T Refusal) → status_of r ≤ 5
+small_of T (Ok t) = omega arith
+small_of T (Err NoMemory) = omega arith
+small_of T (Err Usage) = omega arith
+small_of T (Err Fault) = omega arith
+small_of T (Err (Flawed name flaw)) = omega arith
+small_of T (Err (TooFewFrames frames needed)) = omega arith
+small_of T (Err (DoesNotFit picture wanted room)) = omega arith
+
+pub bad_input_of : (m : Drawing) (T : Type 0) (words : List (List ℕ)) (c : Course) (r : Result T Refusal) (err : Gain) → EndsRun m words c r
+    → EndTold r err → status_of r ≡ 4
+    → RunBadInput m words c err
+bad_input_of m T words c (Ok t) err h told s = absurd (omega (arith, s))
+bad_input_of m T words c (Err NoMemory) err h told s = absurd (omega (arith, s))
+bad_input_of m T words c (Err Usage) err h told s = absurd (omega (arith, s))
+bad_input_of m T words c (Err Fault) err h told s = absurd (omega (arith, s))
+bad_input_of m T words c (Err (TooFewFrames frames needed)) err h told s = absurd (omega (arith, s))
+bad_input_of m T words c (Err (DoesNotFit picture wanted room)) err h told s = absurd (omega (arith, s))
+bad_input_of m T words c (Err (Flawed name flaw)) err (inl h) told s = absurd h.unread
+bad_input_of m T words c (Err (Flawed name flaw)) err
+    (inr h) told s = record { command = h.command; asks = h.is; name = name.now; flaw = flaw; bad = h.ends.1.1; told = told }
+
+pub silent_of : (T : Type 0) (r : Result T Refusal) (err : Gain) → EndTold r err → status_of r ≡ 0 → err.after.held ≡ err.before.held
+silent_of T (Ok t) err told s = ap (λ (s : SinkState). s.held) told
+silent_of T (Err NoMemory) err told s = absurd (omega (arith, s))
+silent_of T (Err Usage) err told s = absurd (omega (arith, s))
+silent_of T (Err Fault) err told s = absurd (omega (arith, s))
+silent_of T (Err (Flawed name flaw)) err told s = absurd (omega (arith, s))
+silent_of T (Err (TooFewFrames frames needed)) err told s = absurd (omega (arith, s))
+silent_of T (Err (DoesNotFit picture wanted room)) err told s = absurd (omega (arith, s))
+
+pub memory_told_of : (T : Type 0) (r : Result T Refusal) (err : Gain) → EndTold r err → status_of r ≡ 1 → Told memory_line err
+memory_told_of T (Ok t) err told s = absurd (omega (arith, s))
+memory_told_of T (Err NoMemory) err told s = told
+memory_told_of T (Err Usage) err told s = absurd (omega (arith, s))
+memory_told_of T (Err Fault) err told s = absurd (omega (arith, s))
+memory_told_of T (Err (Flawed name flaw)) err told s = absurd (omega (arith, s))
+memory_told_of T (Err (TooFewFrames frames needed)) err told s = absurd (omega (arith, s))
+memory_told_of T (Err (DoesNotFit picture wanted room)) err told s = absurd (omega (arith, s))
+
+pub usage_told_of : (T : Type 0) (r : Result T Refusal) (err : Gain) → EndTold r err → status_of r ≡ 2 → Told usage_line err
+usage_told_of T (Ok t) err told s = absurd (omega (arith, s))
+usage_told_of T (Err NoMemory) err told s = absurd (omega (arith, s))
+usage_told_of T (Err Usage) err told s = told
+usage_told_of T (Err Fault) err told s = absurd (omega (arith, s))
+usage_told_of T (Err (Flawed name flaw)) err told s = absurd (omega (arith, s))
+usage_told_of T (Err (TooFewFrames frames needed)) err told s = absurd (omega (arith, s))
+usage_told_of T (Err (DoesNotFit picture wanted room)) err told s = absurd (omega (arith, s))
+
+pub fault_told_of : (T : Type 0) (r : Result T Refusal) (err : Gain) → EndTold r err → status_of r ≡ 3 → Told fault_line err
+fault_told_of T (Ok t) err told s = absurd (omega (arith, s))
+fault_told_of T (Err NoMemory) err told s = absurd (omega (arith, s))
+fault_told_of T (Err Usage) err told s = absurd (omega (arith, s))
+fault_told_of T (Err Fault) err told s = told
+fault_told_of T (Err (Flawed name flaw)) err told s = absurd (omega (arith, s))
+fault_told_of T (Err (TooFewFrames frames needed)) err told s = absurd (omega (arith, s))
+fault_told_of T (Err (DoesNotFit picture wanted room)) err told s = absurd (omega (arith, s))
+
+pub hindered_of : (m : Drawing) (T : Type 0) (words : List (List ℕ)) (c : Course) (r : Result T Refusal) (err : Gain) → EndsRun m words c r → EndTold r err
+    → status_of r ≡ 5 → RunHindered m words c err 5
+hindered_of m T words c (Ok t) err h told s = absurd (omega (arith, s))
+hindered_of m T words c (Err NoMemory) err h told s = absurd (omega (arith, s))
+hindered_of m T words c (Err Usage) err h told s = absurd (omega (arith, s))
+hindered_of m T words c (Err Fault) err h told s = absurd (omega (arith, s))
+hindered_of m T words c (Err (Flawed name flaw)) err h told s = absurd (omega (arith, s))
+hindered_of m T words c (Err (TooFewFrames frames needed)) err (inl h) told s = absurd h.unread
+hindered_of m T words c (Err (DoesNotFit picture wanted room)) err (inl h) told s = absurd h.unread
+hindered_of m T words c (Err (TooFewFrames frames needed)) err (inr h) told s =
+    record { command = h.command; asks = h.is; hindrance = FewFrames frames needed; comes = refl; met = h.ends.1.1; told = told }
+hindered_of m T words c (Err (DoesNotFit picture wanted room)) err (inr h) told s =
+    record { command = h.command; asks = h.is; hindrance = LargePicture picture wanted room; comes = refl; met = h.ends.1.1; told = told }

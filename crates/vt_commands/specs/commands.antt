@@ -1,0 +1,66 @@
+-- The commands: what each has to do, and how a run ends.
+pub mod Replay
+pub mod Walk
+pub mod Trial
+use Rattle.std.specs.Prelude.{◌≡◌, ◌⊎◌, ℕ, List, Option, Some, IsNone, Result, Ok, Err}
+use Rattle.vt_words.specs.Commands.{
+  CommandText,
+  PlainCommand,
+  TileCommand,
+  InfoCommand,
+  GenCommand,
+  UpgradeCommand,
+  ReplayCommand,
+  WalkCommand,
+  TrialCommand,
+  command_text,
+}
+use Rattle.vt_files.specs.Courses.{Course, IsIdle}
+use Rattle.vt_commands.specs.Machines.{Drawing}
+use Rattle.vt_inputs.specs.Terms.{Terms, task_terms, EndsBy}
+use Rattle.vt_store_commands.specs.commands.Plain.{plain_task}
+use Rattle.vt_store_commands.specs.commands.Tile.{tile_task}
+use Rattle.vt_store_commands.specs.commands.Info.{info_task}
+use Rattle.vt_store_commands.specs.commands.Gen.{gen_task}
+use Rattle.vt_store_commands.specs.commands.Upgrade.{upgrade_task}
+use Rattle.vt_commands.specs.commands.Replay.{replay_terms}
+use Rattle.vt_commands.specs.commands.Walk.{walk_terms}
+use Rattle.vt_commands.specs.commands.Trial.{trial_terms}
+use Rattle.vt_inputs.specs.declared.refusal.Refusal.{Refusal}
+use Rattle.vt_inputs.specs.declared.refusal.Refusal.TheVariants.{NoMemory, Usage, Fault, Flawed, TooFewFrames, DoesNotFit}
+
+-- the terms of a command by a machine
+abbrev pub terms_of : Drawing → CommandText → Terms
+terms_of m (PlainCommand words) = task_terms (plain_task words)
+terms_of m (TileCommand words) = task_terms (tile_task words)
+terms_of m (InfoCommand words) = task_terms (info_task words)
+terms_of m (GenCommand words) = task_terms (gen_task words)
+terms_of m (UpgradeCommand words) = task_terms (upgrade_task words)
+terms_of m (ReplayCommand words) = replay_terms words
+terms_of m (WalkCommand words) = walk_terms m words
+terms_of m (TrialCommand words) = trial_terms words
+
+-- a refusal of words: they ask for nothing, or memory was wanting
+abbrev pub IsUnread : Option CommandText → Refusal → Type 0
+IsUnread asked NoMemory = Unit {0}
+IsUnread asked Usage = IsNone asked
+IsUnread asked Fault = ⊥
+IsUnread asked (Flawed name flaw) = ⊥
+IsUnread asked (TooFewFrames frames needed) = ⊥
+IsUnread asked (DoesNotFit picture wanted room) = ⊥
+
+-- the words were refused, and nothing was asked
+pub record IsRefused (words : List (List ℕ)) (c : Course) (refusal : Refusal) : Type 0 where
+  pub unread : IsUnread (command_text words) refusal
+  pub idle : IsIdle c
+
+-- the words are those of a command, which ended so
+pub record EndsCommand {T : Type 0} (m : Drawing) (words : List (List ℕ)) (c : Course) (result : Result T Refusal) : Type 0 where
+  pub command : CommandText
+  pub is : command_text words ≡ Some command
+  pub ends : EndsBy (terms_of m command) c result
+
+-- how a run ends
+abbrev pub EndsRun : {T : Type 0} → Drawing → List (List ℕ) → Course → Result T Refusal → Type 0
+EndsRun {T} m words c (Ok value) = EndsCommand {T = T} m words c (Ok value)
+EndsRun {T} m words c (Err refusal) = IsRefused words c refusal ⊎ EndsCommand {T = T} m words c (Err refusal)

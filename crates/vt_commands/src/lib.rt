@@ -1,0 +1,7 @@
+//! The commands that walk or replay, `walk`, `replay` and `trial`, and the top call, which does any command that words ask for.
+#![tactic(auto)]
+
+mod commands;
+mod top_call;
+
+pub use top_call::run;

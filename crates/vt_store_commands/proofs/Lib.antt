@@ -1,0 +1,4 @@
+pub mod Drawing
+pub mod Tiling
+pub mod Making
+pub mod Upgrading

@@ -1,0 +1,53 @@
+-- The command `tile`: the tile store of a texture's mip chain.
+use Rattle.std.specs.Prelude.{◌≡◌, ℕ, List, [], ◌∷◌, Some}
+use Rattle.vt_ppm.specs.Image.{ImageView}
+use Rattle.vt_ppm.specs.Strips.{texture_of}
+use Rattle.vt_ppm.specs.declared.header.Header.{Header}
+use Rattle.vt_pages.specs.Shape.{Shape}
+use Rattle.vt_pages.specs.Pages.{refusal_of}
+use Rattle.vt_pages.specs.declared.PagesError.{PagesError}
+use Rattle.vt_pages.specs.declared.PagesError.TheVariants as pages_error
+use Rattle.vt_store.specs.ChainStores.{texture_store}
+use Rattle.vt_words.specs.Tile.{TileText}
+use Rattle.vt_inputs.specs.Lines.{store_line}
+use Rattle.vt_inputs.specs.Inputs.{Content, TiledTexture, TextureContent, texture_shape}
+use Rattle.vt_files.specs.Dues.{Due}
+use Rattle.vt_inputs.specs.Tasks.{Task}
+use Rattle.vt_inputs.specs.declared.flaws.Flaw.{Flaw}
+use Rattle.vt_inputs.specs.declared.flaws.Flaw.TheVariants.{TooManyPages, BadSize}
+use Rattle.vt_inputs.specs.declared.refusal.Refusal.{Refusal}
+use Rattle.vt_inputs.specs.declared.refusal.Refusal.TheVariants.{Flawed}
+
+-- the tile store of a texture's mip chain
+unfoldable pub store_file : ImageView → ℕ → List ℕ
+store_file = texture_store
+
+-- the store of the texture that bytes spell behind a header
+abbrev pub made_store : Header → ℕ → List ℕ → List ℕ
+made_store header tile bytes = texture_store (texture_of header bytes) tile
+
+-- the texture's store, and its line
+abbrev pub store_due : List ℕ → ImageView → ℕ → Due
+store_due name texture tile = record {
+  files = (record { name = name; bytes = store_file texture tile }) ∷ [];
+  text = store_line (texture_shape texture tile) texture.depth;
+}
+
+abbrev pub tile_due : TileText → List Content → Due
+tile_due words (TextureContent texture ∷ []) = store_due words.store texture words.tile
+tile_due words other = record { files = []; text = [] }
+
+-- the flaw of a texture whose pages are refused
+abbrev pub flaw_of_pages : PagesError → Flaw
+flaw_of_pages (pages_error.TooManyPages n) = TooManyPages n
+flaw_of_pages pages_error.BadTile = BadSize
+flaw_of_pages pages_error.BadSide = BadSize
+
+-- the texture of a name is refused for so many pages
+abbrev pub IsTooMany : List ℕ → Shape → Refusal → Type 0
+IsTooMany name shape (Flawed named (TooManyPages n)) = (named.now ≡ name) × (refusal_of shape ≡ Some (pages_error.TooManyPages n))
+IsTooMany name shape _ = ⊥
+
+-- `tile` reads a texture that is to have few enough pages
+abbrev pub tile_task : TileText → Task
+tile_task words = record { inputs = TiledTexture words.texture words.tile ∷ []; due = tile_due words }

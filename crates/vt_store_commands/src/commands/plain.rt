@@ -1,0 +1,93 @@
+//! The command `plain`: the plain picture of each camera of a path over a texture.
+
+ghost use Rattle.std.specs.Prelude.{◌<◌, [], ◌∷◌, length};
+ghost use Rattle.vt_definitions.specs.Tiles.{IsTileSide};
+ghost use Rattle.vt_files.specs.Courses.{course, passage};
+ghost use Rattle.vt_words.specs.Plain.{shown_plain};
+ghost use Rattle.vt_store_commands.specs.Pictures.{plain_file};
+ghost use Rattle.vt_files.specs.Dues.{Leaves, Writes};
+ghost use Rattle.vt_inputs.specs.Tasks.{Ends};
+ghost use Rattle.vt_files.specs.Pictures.{picture_due, pictures_due};
+ghost use Rattle.vt_store_commands.specs.commands.Plain.{plain_task, path_due};
+
+use std::alloc::Global;
+use vt_camera::Path;
+use vt_draw::draw_plain_behind;
+use vt_files::write_file;
+use vt_inputs::{Refusal, put_end, read_path, read_texture};
+use vt_mip::Chain;
+use vt_outside::{Folder, OutsideError, Sink};
+use vt_ppm::{Image, begin_picture};
+use vt_words::{PlainWords, picture_name};
+
+/// Reads the path and then the texture, writes the plain picture of each camera under its name, and puts the end line.
+pub fn plain<'a, D: Folder, O: Sink>(
+    alloc: Global,
+    words: &PlainWords<'a>,
+    folder: &mut D,
+    out: &mut O,
+) -> Result<(), Refusal<'a>>
+    requires { IsTileSide words.now.tile }
+    ensures { Ends (plain_task (shown_plain words.now)) (course D.Folder O.Sink folder.old folder.new out.old out.new) result }
+{
+    let path = read_path(alloc, folder, words.path)?;
+    let texture = read_texture(alloc, folder, words.texture)?;
+    leave_pictures(alloc, texture, &path, words, folder, out)?;
+    Ok(())
+}
+
+// Writes all pictures of a path over a texture, and puts the end line.
+fn leave_pictures<D: Folder, O: Sink>(
+    alloc: Global,
+    texture: Image,
+    path: &Path,
+    words: &PlainWords<'_>,
+    folder: &mut D,
+    out: &mut O,
+) -> Result<(), OutsideError>
+    requires { IsTileSide words.now.tile }
+    ensures { Leaves (path_due words.now.prefix.now texture words.now.tile path.now) (course D.Folder O.Sink folder.old folder.new out.old out.new) result }
+{
+    let chain = Chain::build(alloc, texture, words.tile)?;
+    write_pictures(alloc, &chain, path, words.prefix, folder)?;
+    put_end(out, path.pictures())
+}
+
+// Writes all pictures of the path, in the order of their numbers, each made in the same buffer.
+fn write_pictures<D: Folder>(
+    alloc: Global,
+    chain: &Chain,
+    path: &Path,
+    prefix: &str,
+    folder: &mut D,
+) -> Result<(), OutsideError>
+    ensures { Writes (pictures_due prefix.now (plain_file chain.now.base chain.now.tile path.now) (length path.now.cameras))
+        (passage D.Folder folder.old folder.new) result }
+{
+    let mut buffer = Vec::new(alloc);
+    for picture in 0..path.pictures() {
+        write_picture(&mut buffer, alloc, chain, path, picture, prefix, folder)?;
+    }
+    Ok(())
+}
+
+// Draws a picture behind its header in the buffer, and writes it under its name.
+fn write_picture<D: Folder>(
+    buffer: &mut Vec<u8>,
+    alloc: Global,
+    chain: &Chain,
+    path: &Path,
+    picture: u32,
+    prefix: &str,
+    folder: &mut D,
+) -> Result<(), OutsideError>
+    requires picture { picture < length path.now.cameras }
+    requires few { picture < 10000 }
+    ensures { Writes (picture_due prefix.now (plain_file chain.now.base chain.now.tile path.now) picture ∷ [])
+        (passage D.Folder folder.old folder.new) result }
+{
+    begin_picture(buffer, alloc, chain.depth(), path.width(), path.height())?;
+    draw_plain_behind(chain, path, picture, buffer)?;
+    let name = picture_name(alloc, prefix, picture)?;
+    write_file(folder, name.as_str(), buffer)
+}

@@ -1,0 +1,16 @@
+//! The tests of `walk`, `replay` and `trial`, over a folder in memory. It holds nothing else, and nothing stands on it: a crate
+//! with tests is proved twice, and this one costs nothing beside them.
+#![tactic(auto)]
+
+#[cfg(test)]
+mod crews;
+#[cfg(test)]
+mod replays;
+#[cfg(test)]
+mod rows;
+#[cfg(test)]
+mod trials;
+#[cfg(test)]
+mod walk_stops;
+#[cfg(test)]
+mod walks;

@@ -1,7 +1,0 @@
-use Rattle.vtex.proofs.Tiling.{too_many}
-use Rattle.vtex.proofs.commands.tile.texture_geometry.Goals as goal
-
-pub returns-in-Err-clause-many : goal.returns-in-Err-clause-many
-returns-in-Err-clause-many c =
-    too_many c.args.header.now c.args.tile c.args.name c.flaw_of_pages.result c.in-Err.error c.requires.header c.requires.side
-    c.in-Err.ensures.err c.flaw_of_pages.ensures
