@@ -2,22 +2,30 @@
 
 mod parse;
 
-ghost use Rattle.std.specs.Prelude.{◌≡◌, IfOk};
 ghost use Rattle.vt_camera.specs.Rows.{IsSurface};
 
 use std::alloc::Global;
 use std::process::Abort;
 use std::test::Fail;
-use vt_camera::{Camera, Row, Surface, parse_path};
+use vt_camera::{Camera, Path, Row, Surface, parse_path};
+
+// The camera of a picture.
+fn camera_of(rt: &impl Abort, path: &Path, picture: u32) -> Camera {
+    assert!(rt; picture < path.pictures());
+    path.camera(picture)
+}
+
+// Looks at the numbers of a path.
+fn has_numbers(rt: &impl Abort, path: &Path, want: (u32, u32, u32, u32)) {
+    let numbers = (path.width(), path.height(), path.focal(), path.pictures());
+    assert_eq!(rt; numbers, want);
+}
 
 #[test]
 fn a_path_gives_its_parts(rt: HostRuntime) -> Result<(), Fail> {
     let text = b"size 2048 1\nfocal 4096\nat -2147483648 2147483648 16777216 16384 -16384\n";
     let path = parse_path(rt.alloc(), text)?;
-    assert_eq!(rt; path.width(), 2048);
-    assert_eq!(rt; path.height(), 1);
-    assert_eq!(rt; path.focal(), 4096);
-    assert_eq!(rt; path.pictures(), 1);
+    has_numbers(&rt, &path, (2048, 1, 4096, 1));
     let camera = Camera {
         u: -2147483648,
         v: 2147483648,
@@ -25,25 +33,44 @@ fn a_path_gives_its_parts(rt: HostRuntime) -> Result<(), Fail> {
         c: 16384,
         s: -16384,
     };
-    assert!(rt; path.camera(0) == camera);
+    assert!(rt; camera_of(&rt, &path, 0) == camera);
     Ok(())
 }
 
-// A row of the first picture of a path whose pictures have this width.
-fn row_of(
+// Looks at the level of a row, and at its first texels, as they are in the texture and in that level. The row is of the first
+// picture of a path whose pictures have this width, which is seen from this height.
+fn is_row(
     rt: &impl Abort,
     alloc: Global,
     text: &[u8],
     width: u32,
+    h: u32,
     y: u32,
     surface: &Surface,
-) -> Result<Row, Fail>
+    level: u32,
+    texels: &[(u32, u32)],
+    in_level: &[(u32, u32)],
+) -> Result<(), Fail>
     requires { IsSurface surface.now }
-    ensures { IfOk result (λ row. row.width ≡ width) }
 {
     let path = parse_path(alloc, text)?;
     assert!(rt; 1 <= path.pictures() && path.width() == width && y < path.height());
-    Ok(Row::of(&path, &path.camera(0), y, surface))
+    let row = Row::of(&path, &path.camera(0), y, surface);
+    assert_eq!(rt; row.level(), level, "row {y} from the height {h}");
+    assert!(rt; texels.len() == in_level.len() && texels.len() <= width as usize);
+    for x in 0..texels.len() {
+        assert_eq!(rt;
+            row.texel(x as u32),
+            texels[x],
+            "row {y} from the height {h}"
+        );
+        assert_eq!(rt;
+            row.texel_in_level(x as u32),
+            in_level[x],
+            "row {y} from the height {h}"
+        );
+    }
+    Ok(())
 }
 
 #[test]
@@ -53,18 +80,25 @@ fn a_coarser_level_comes_with_its_span(rt: HostRuntime) -> Result<(), Fail> {
         height: 4,
         levels: 2,
     };
-    for (h, level, first, second, in_level) in [
-        (256, 0, (1, 3), (1, 0), [(1, 3), (1, 0)]),
-        (511, 0, (1, 3), (1, 0), [(1, 3), (1, 0)]),
-        (512, 1, (2, 3), (2, 1), [(1, 1), (1, 0)]),
+    for (h, level, texels, in_level) in [
+        (256, 0, [(1, 3), (1, 0)], [(1, 3), (1, 0)]),
+        (511, 0, [(1, 3), (1, 0)], [(1, 3), (1, 0)]),
+        (512, 1, [(2, 3), (2, 1)], [(1, 1), (1, 0)]),
     ] {
         let text = format!(in rt.alloc(); "size 2 1\nfocal 1\nat 0 0 {h} 16384 0\n")?;
-        let row = row_of(&rt, rt.alloc(), text.as_bytes(), 2, 0, &surface)?;
-        assert_eq!(rt; row.level(), level, "from the height {h}");
-        assert_eq!(rt; row.texel(0), first, "from the height {h}");
-        assert_eq!(rt; row.texel(1), second, "from the height {h}");
-        assert_eq!(rt; row.texel_in_level(0), in_level[0], "from the height {h}");
-        assert_eq!(rt; row.texel_in_level(1), in_level[1], "from the height {h}");
+        let text = text.as_bytes();
+        is_row(
+            &rt,
+            rt.alloc(),
+            text,
+            2,
+            h,
+            0,
+            &surface,
+            level,
+            &texels,
+            &in_level,
+        )?;
     }
     Ok(())
 }
@@ -82,12 +116,18 @@ fn slanted_rows_round_down(rt: HostRuntime) -> Result<(), Fail> {
         (1, 0, [(3, 3), (2, 4), (0, 5)], [(3, 3), (2, 4), (0, 5)]),
         (0, 1, [(2, 5), (4, 0), (1, 2)], [(1, 2), (2, 0), (0, 1)]),
     ] {
-        let row = row_of(&rt, rt.alloc(), text, 3, y, &surface)?;
-        assert_eq!(rt; row.level(), level);
-        for x in 0..3u32 {
-            assert_eq!(rt; row.texel(x), texels[x as usize]);
-            assert_eq!(rt; row.texel_in_level(x), in_level[x as usize]);
-        }
+        is_row(
+            &rt,
+            rt.alloc(),
+            text,
+            3,
+            1000,
+            y,
+            &surface,
+            level,
+            &texels,
+            &in_level,
+        )?;
     }
     Ok(())
 }
@@ -102,9 +142,17 @@ fn the_largest_numbers_fit(rt: HostRuntime) -> Result<(), Fail> {
         height: 16383,
         levels: 20,
     };
-    let row = row_of(&rt, rt.alloc(), text, 2048, 0, &surface)?;
-    assert_eq!(rt; row.level(), 16);
-    assert_eq!(rt; row.texel(0), (11778, 12800));
-    assert_eq!(rt; row.texel_in_level(0), (0, 0));
-    Ok(())
+    let texels = [(11778, 12800)];
+    is_row(
+        &rt,
+        rt.alloc(),
+        text,
+        2048,
+        16777216,
+        0,
+        &surface,
+        16,
+        &texels,
+        &[(0, 0)],
+    )
 }

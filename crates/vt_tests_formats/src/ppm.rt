@@ -3,7 +3,9 @@
 mod foreign;
 mod strips;
 
+use crate::asserts::are_bytes;
 use std::alloc::Global;
+use std::process::Abort;
 use std::test::Fail as TestFail;
 use vt_outside::{Fail, Fails, Folder, MemoryFolder, NoMemory, Place};
 use vt_ppm::{Image, PpmError, encode, encode_wide, read_header, read_image};
@@ -51,18 +53,30 @@ fn header_refusal(
     Ok(raster_in(alloc, &mut folder).err())
 }
 
+// Looks at one of the places that `t` was asked for, a start and a length of a read that did not fail, or that it was not
+// asked for so many.
+fn is_asked(rt: &impl Abort, folder: &MemoryFolder, i: usize, place: Option<(u64, u64)>) {
+    let failed = false;
+    let want = match place {
+        Some((at, len)) => Some(Place { at, len, failed }),
+        None => None,
+    };
+    assert_eq!(rt; folder.asked("t", i), want);
+}
+
 #[test]
 fn a_header_is_looked_for_in_one_place(rt: HostRuntime) -> Result<(), TestFail> {
     let mut folder = folder_of(rt.alloc(), b"P6 3 2 255\n", &[])?;
-    assert_eq!(rt; raster_in(rt.alloc(), &mut folder)?, 11);
-    let front = Place {
-        at: 0,
-        len: 11,
-        failed: false,
-    };
-    assert_eq!(rt; folder.asked("t", 0), Some(front));
-    assert_eq!(rt; folder.asked("t", 1), None);
+    assert!(rt; raster_in(rt.alloc(), &mut folder) == Ok(11));
+    is_asked(&rt, &folder, 0, Some((0, 11)));
+    is_asked(&rt, &folder, 1, None);
     Ok(())
+}
+
+// The word of a texel.
+fn word_of(rt: &impl Abort, image: &Image, x: u32, y: u32) -> u64 {
+    assert!(rt; x < image.width() && y < image.height());
+    image.word(x, y)
 }
 
 #[test]
@@ -70,72 +84,110 @@ fn an_image_is_read_from_two_places(rt: HostRuntime) -> Result<(), TestFail> {
     let bytes = b"P6 2 1 255\nabcdef and more";
     let mut folder = folder_of(rt.alloc(), bytes, &[])?;
     let image = image_in(rt.alloc(), &mut folder)?;
-    assert_eq!(rt; image.width(), 2);
-    assert_eq!(rt; image.height(), 1);
-    assert_eq!(rt; image.word(0, 0), 0x616263);
-    assert_eq!(rt; image.word(1, 0), 0x646566);
-    assert_eq!(rt; image.into_samples().len(), 6);
-    let raster = Place {
-        at: 11,
-        len: 6,
-        failed: false,
-    };
-    assert_eq!(rt; folder.asked("t", 1), Some(raster));
-    assert_eq!(rt; folder.asked("t", 2), None);
+    assert!(rt; image.width() == 2);
+    assert!(rt; image.height() == 1);
+    assert!(rt; word_of(&rt, &image, 0, 0) == 0x616263);
+    assert!(rt; word_of(&rt, &image, 1, 0) == 0x646566);
+    assert!(rt; image.into_samples().len() == 6);
+    is_asked(&rt, &folder, 1, Some((11, 6)));
+    is_asked(&rt, &folder, 2, None);
     Ok(())
 }
 
 #[test]
 fn each_failing_call_is_told(rt: HostRuntime) -> Result<(), TestFail> {
-    let failed = Some(PpmError::Failed);
-    let length = Fail::Length { opening: 0 };
-    let reads = [0, 1, 2].map(|read| Fail::Read { opening: 0, read });
-    let cases = [
-        (length, failed, failed),
-        (reads[0], failed, failed),
-        (reads[1], failed, None),
-        (reads[2], None, None),
+    const FAILED: Option<PpmError> = Some(PpmError::Failed);
+    const CASES: [(Fail, Option<PpmError>, Option<PpmError>); 4] = [
+        (Fail::Length { opening: 0 }, FAILED, FAILED),
+        (
+            Fail::Read {
+                opening: 0,
+                read: 0,
+            },
+            FAILED,
+            FAILED,
+        ),
+        (
+            Fail::Read {
+                opening: 0,
+                read: 1,
+            },
+            FAILED,
+            None,
+        ),
+        (
+            Fail::Read {
+                opening: 0,
+                read: 2,
+            },
+            None,
+            None,
+        ),
     ];
-    for (call, image, header) in cases {
-        let bytes = b"P6 1 1 255\nabc";
-        assert_eq!(rt; refusal(rt.alloc(), bytes, &[call])?, image);
-        assert_eq!(rt; header_refusal(rt.alloc(), bytes, &[call])?, header);
+    let bytes = b"P6 1 1 255\nabc";
+    for (call, image, header) in &CASES {
+        assert_eq!(rt; refusal(rt.alloc(), bytes, &[*call])?, *image);
+        assert_eq!(rt; header_refusal(rt.alloc(), bytes, &[*call])?, *header);
     }
     Ok(())
+}
+
+// A picture of so many columns and rows, of one-byte samples.
+fn encoded(
+    rt: &impl Abort,
+    alloc: Global,
+    width: u32,
+    height: u32,
+    samples: &[u8],
+) -> Result<Vec<u8>, NoMemory> {
+    assert!(rt; width <= 9 && height <= 9 && samples.len() == 3 * (width * height) as usize);
+    encode(alloc, width, height, samples)
 }
 
 #[test]
 fn a_picture_is_written(rt: HostRuntime) -> Result<(), TestFail> {
     let samples = [0x0d, 0x0d, 0x0d, 1, 1, 1];
-    let bytes = encode(rt.alloc(), 2, 1, &samples)?;
-    assert_eq!(rt;
-        bytes.as_slice(),
-        b"P6\n2 1\n255\n\x0d\x0d\x0d\x01\x01\x01".as_slice()
-    );
+    let bytes = encoded(&rt, rt.alloc(), 2, 1, &samples)?;
+    are_bytes(&rt, &bytes, b"P6\n2 1\n255\n\x0d\x0d\x0d\x01\x01\x01");
     Ok(())
+}
+
+// A picture of so many columns and rows, of two-byte samples.
+fn encoded_wide(
+    rt: &impl Abort,
+    alloc: Global,
+    width: u32,
+    height: u32,
+    samples: &[u8],
+) -> Result<Vec<u8>, NoMemory> {
+    assert!(rt; width <= 9 && height <= 9 && samples.len() == 6 * (width * height) as usize);
+    encode_wide(alloc, width, height, samples)
 }
 
 #[test]
 fn a_wide_picture_is_written(rt: HostRuntime) -> Result<(), TestFail> {
-    let bytes = encode_wide(rt.alloc(), 1, 1, b"\x00\x01\x80\x00\xff\xff")?;
-    assert_eq!(rt;
-        bytes.as_slice(),
-        b"P6\n1 1\n65535\n\x00\x01\x80\x00\xff\xff".as_slice()
-    );
+    let bytes = encoded_wide(&rt, rt.alloc(), 1, 1, b"\x00\x01\x80\x00\xff\xff")?;
+    are_bytes(&rt, &bytes, b"P6\n1 1\n65535\n\x00\x01\x80\x00\xff\xff");
+    Ok(())
+}
+
+// Looks at the depth of an image of one texel, and at its word.
+fn has_texel(
+    rt: &impl Abort,
+    alloc: Global,
+    bytes: &[u8],
+    depth: u32,
+    word: u64,
+) -> Result<(), TestFail> {
+    let mut folder = folder_of(alloc, bytes, &[])?;
+    let image = image_in(alloc, &mut folder)?;
+    assert_eq!(rt; (image.depth(), word_of(rt, &image, 0, 0)), (depth, word));
     Ok(())
 }
 
 #[test]
 fn a_texel_of_either_depth_has_its_word(rt: HostRuntime) -> Result<(), TestFail> {
-    let texels: [(&[u8], u32, u64); 2] = [
-        (b"P6 1 1 255\n\x01\x80\xff", 1, 98559),
-        (b"P6 1 1 65535\n\x00\x01\x80\x00\xff\xff", 2, 6442516479),
-    ];
-    for (bytes, depth, word) in texels {
-        let mut folder = folder_of(rt.alloc(), bytes, &[])?;
-        let image = image_in(rt.alloc(), &mut folder)?;
-        assert_eq!(rt; image.depth(), depth);
-        assert_eq!(rt; image.word(0, 0), word);
-    }
-    Ok(())
+    has_texel(&rt, rt.alloc(), b"P6 1 1 255\n\x01\x80\xff", 1, 98559)?;
+    let wide = b"P6 1 1 65535\n\x00\x01\x80\x00\xff\xff";
+    has_texel(&rt, rt.alloc(), wide, 2, 6442516479)
 }

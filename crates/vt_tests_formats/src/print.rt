@@ -1,23 +1,41 @@
 //! Printed texts by hand.
 
 use std::alloc::Global;
+use std::process::Abort;
 use std::test::Fail as TestFail;
 use vt_outside::{Fail, Fails, MemorySink, NoMemory};
 use vt_print::{Line, Place, put_pieces, tell_bad_input, tell_pieces, tell_place};
 
+// Adds words to a line.
+fn add_words(rt: &impl Abort, line: &mut Line, words: &[u8]) {
+    assert!(rt; line.bytes().len() < 100 && words.len() < 50);
+    line.words(words);
+}
+
+// Adds a number to a line.
+fn add_number(rt: &impl Abort, line: &mut Line, number: u64) {
+    assert!(rt; line.bytes().len() < 100);
+    line.number(number);
+}
+
+// Looks what a line holds.
+fn holds(rt: &impl Abort, line: &Line, want: &[u8]) {
+    assert_eq!(rt; line.bytes(), want);
+}
+
 #[test]
 fn a_line_holds_words_and_numbers(rt: HostRuntime) {
     let mut line = Line::new();
-    assert_eq!(rt; line.bytes(), b"".as_slice());
-    line.words(b"store ");
-    line.number(512);
-    line.words(b" levels ");
-    line.number(0);
-    line.words(b"\n");
-    assert_eq!(rt; line.bytes(), b"store 512 levels 0\n".as_slice());
+    holds(&rt, &line, b"");
+    add_words(&rt, &mut line, b"store ");
+    add_number(&rt, &mut line, 512);
+    add_words(&rt, &mut line, b" levels ");
+    add_number(&rt, &mut line, 0);
+    add_words(&rt, &mut line, b"\n");
+    holds(&rt, &line, b"store 512 levels 0\n");
     let mut full = Line::new();
-    full.number(u64::MAX);
-    assert_eq!(rt; full.bytes(), b"18446744073709551615".as_slice());
+    add_number(&rt, &mut full, u64::MAX);
+    holds(&rt, &full, b"18446744073709551615");
 }
 
 // A sink in which the put of that number fails.

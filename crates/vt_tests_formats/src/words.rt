@@ -3,6 +3,7 @@
 mod journals;
 
 use std::alloc::{AllocError, Global};
+use std::process::Abort;
 use vt_words::{
     Command, ReplayWords, WalkWords, WordsError, is_picture_name, picture_name, read_command,
 };
@@ -82,8 +83,8 @@ fn answer(alloc: Global, words: &[&str]) -> Result<String, AllocError> {
     }
 }
 
-/// How many of the cases are answered otherwise than by their second text.
-pub fn misread(alloc: Global, cases: &[(&[&str], &str)]) -> Result<usize, AllocError> {
+// How many of the cases are answered otherwise than by their second text.
+fn misread(alloc: Global, cases: &[(&[&str], &str)]) -> Result<usize, AllocError> {
     let mut count: usize = 0;
     for (words, expected) in cases {
         if answer(alloc, words)?.as_str() != *expected {
@@ -93,9 +94,14 @@ pub fn misread(alloc: Global, cases: &[(&[&str], &str)]) -> Result<usize, AllocE
     Ok(count)
 }
 
+/// Looks that each of the cases is answered by its second text.
+pub fn are_read(rt: &impl Abort, alloc: Global, cases: &[(&[&str], &str)]) {
+    assert_eq!(rt; misread(alloc, cases), Ok(0));
+}
+
 #[test]
 fn the_tile_side_is_one_of_seven_and_else_64(rt: HostRuntime) {
-    let cases: [(&[&str], &str); 16] = [
+    const CASES: [(&[&str], &str); 16] = [
         (&["plain", "t", "p", "x"], "plain t p x 64"),
         (&["tile", "t", "s"], "tile t s 64"),
         (&["tile", "t", "s", "--tile", "2"], "tile t s 2"),
@@ -113,12 +119,12 @@ fn the_tile_side_is_one_of_seven_and_else_64(rt: HostRuntime) {
         (&["tile", "t", "s", "--tile"], "usage"),
         (&["tile", "t", "s", "--til", "8"], "usage"),
     ];
-    assert_eq!(rt; misread(rt.alloc(), cases.as_slice()), Ok(0));
+    are_read(&rt, rt.alloc(), &CASES);
 }
 
 #[test]
 fn words_after_two_dashes_are_names(rt: HostRuntime) {
-    let cases: [(&[&str], &str); 7] = [
+    const CASES: [(&[&str], &str); 7] = [
         (&["info", "--", "--tile"], "info --tile"),
         (&["tile", "t", "--", "--tile"], "tile t --tile 64"),
         (&["tile", "t", "s", "--", "--tile", "8"], "usage"),
@@ -127,12 +133,12 @@ fn words_after_two_dashes_are_names(rt: HostRuntime) {
         (&["gen", "1", "2", "3", "--", "-n"], "gen 1 2 3 -n"),
         (&["upgrade", "--", "-s", "--t"], "upgrade -s --t"),
     ];
-    assert_eq!(rt; misread(rt.alloc(), cases.as_slice()), Ok(0));
+    are_read(&rt, rt.alloc(), &CASES);
 }
 
 #[test]
 fn each_command_has_its_words_and_no_more(rt: HostRuntime) {
-    let cases: [(&[&str], &str); 28] = [
+    const CASES: [(&[&str], &str); 28] = [
         (&[], "usage"),
         (&[""], "usage"),
         (
@@ -165,12 +171,12 @@ fn each_command_has_its_words_and_no_more(rt: HostRuntime) {
         (&["upgrade", "s", "n", "m"], "usage"),
         (&["upgrade", "s", "n", "--tile", "8"], "usage"),
     ];
-    assert_eq!(rt; misread(rt.alloc(), cases.as_slice()), Ok(0));
+    are_read(&rt, rt.alloc(), &CASES);
 }
 
 #[test]
 fn the_numbers_of_gen_have_bounds(rt: HostRuntime) {
-    let cases: [(&[&str], &str); 14] = [
+    const CASES: [(&[&str], &str); 14] = [
         (&["gen", "0", "1", "1", "n"], "gen 0 1 1 n"),
         (
             &["gen", "65535", "8192", "8192", "n"],
@@ -189,12 +195,12 @@ fn the_numbers_of_gen_have_bounds(rt: HostRuntime) {
         (&["gen", "1", "1", "1", "n", "m"], "usage"),
         (&["gen", "1", "1", "1", "n", "--tile", "8"], "usage"),
     ];
-    assert_eq!(rt; misread(rt.alloc(), cases.as_slice()), Ok(0));
+    are_read(&rt, rt.alloc(), &CASES);
 }
 
 #[test]
 fn a_name_is_not_both_read_and_written(rt: HostRuntime) {
-    let cases: [(&[&str], &str); 11] = [
+    const CASES: [(&[&str], &str); 11] = [
         (&["tile", "a", "a"], "usage"),
         (&["tile", "a", "./a"], "tile a ./a 64"),
         (&["plain", "x0000.ppm", "p", "x"], "usage"),
@@ -210,7 +216,7 @@ fn a_name_is_not_both_read_and_written(rt: HostRuntime) {
         (&["upgrade", "a", "./a"], "upgrade a ./a"),
         (&["upgrade", "", ""], "usage"),
     ];
-    assert_eq!(rt; misread(rt.alloc(), cases.as_slice()), Ok(0));
+    are_read(&rt, rt.alloc(), &CASES);
 }
 
 #[test]

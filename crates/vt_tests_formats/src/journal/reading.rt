@@ -1,6 +1,8 @@
 //! Texts that are read as journals, for a texture of four by four texels in tiles of two by two and pictures of one row.
 
 use super::{LOST_TILE, SETTLED};
+use std::alloc::Global;
+use std::process::Abort;
 use std::test::Fail;
 use vt_journal::{JournalError, parse_journal};
 use vt_pages::Geometry;
@@ -12,11 +14,11 @@ const HEAD: &str = "map 1 1 0 0 0\n";
 const BEGUN: &str = "map 1 1 0 0 0\npass 1 picture 0 start 1\n";
 
 // How many passes a text tells.
-fn passes_of(rt: &HostRuntime, text: &[u8]) -> Result<u32, JournalError> {
+fn passes_of(alloc: Global, text: &[u8]) -> Result<u32, JournalError> {
     let Ok(geometry) = Geometry::new(4, 4, 2) else {
         return Err(JournalError::NoMemory);
     };
-    let read = parse_journal(rt.alloc(), &geometry, 1, text)?;
+    let read = parse_journal(alloc, &geometry, 1, text)?;
     Ok(read.passes())
 }
 
@@ -25,92 +27,115 @@ fn bad(line: u32) -> Result<u32, JournalError> {
     Err(JournalError::BadLine { line })
 }
 
+// The answers that the lines 1 to 4 are refused.
+const BAD1: Result<u32, JournalError> = Err(JournalError::BadLine { line: 1 });
+
+const BAD2: Result<u32, JournalError> = Err(JournalError::BadLine { line: 2 });
+
+const BAD3: Result<u32, JournalError> = Err(JournalError::BadLine { line: 3 });
+
+const BAD4: Result<u32, JournalError> = Err(JournalError::BadLine { line: 4 });
+
+// Looks what a text of a front and each of these lines is read as.
+fn are_read(
+    rt: &impl Abort,
+    alloc: Global,
+    front: &str,
+    rows: &[(&str, Result<u32, JournalError>)],
+) -> Result<(), Fail> {
+    for (lines, want) in rows {
+        let text = format!(in alloc; "{}{}", front, lines)?;
+        assert_eq!(rt; passes_of(alloc, text.as_bytes()), *want, "{lines}");
+    }
+    Ok(())
+}
+
 #[test]
-fn a_text_ends_after_a_whole_head_or_a_whole_pass(rt: HostRuntime) {
-    for (text, want) in [
-        ("", bad(1)),
+fn a_text_ends_after_a_whole_head_or_a_whole_pass(rt: HostRuntime) -> Result<(), Fail> {
+    const ROWS: [(&str, Result<u32, JournalError>); 16] = [
+        ("", BAD1),
         ("map 1 1 0 0 0\n", Ok(0)),
-        ("map 1 1 0 0 0", bad(1)),
-        ("map 1 1 0 0 1\n", bad(1)),
-        ("map 2 1 0 0 0\n", bad(1)),
-        ("map 1 0 0 0 65535\n", bad(1)),
-        ("map 01 1 0 0 0\n", bad(1)),
-        ("map 1  1 0 0 0\n", bad(1)),
-        ("map 1 1 0 0 0 \n", bad(1)),
-        ("map 1 1 0 0 0\r\n", bad(1)),
-        ("map 1 0 1 1 0\n", bad(2)),
-        ("map 1 0 1 1 0\npass 1 picture 0 start 1\n", bad(2)),
-        ("map 1 0 0 1 0\nmap 2 1 0 0 1\n", bad(2)),
+        ("map 1 1 0 0 0", BAD1),
+        ("map 1 1 0 0 1\n", BAD1),
+        ("map 2 1 0 0 0\n", BAD1),
+        ("map 1 0 0 0 65535\n", BAD1),
+        ("map 01 1 0 0 0\n", BAD1),
+        ("map 1  1 0 0 0\n", BAD1),
+        ("map 1 1 0 0 0 \n", BAD1),
+        ("map 1 1 0 0 0\r\n", BAD1),
+        ("map 1 0 1 1 0\n", BAD2),
+        ("map 1 0 1 1 0\npass 1 picture 0 start 1\n", BAD2),
+        ("map 1 0 0 1 0\nmap 2 1 0 0 1\n", BAD2),
         ("map 1 0 1 1 0\nmap 2 1 0 0 1\n", Ok(0)),
         (LOST_TILE, Ok(4)),
         (SETTLED, Ok(4)),
-    ] {
-        assert_eq!(rt; passes_of(&rt, text.as_bytes()), want, "{text}");
-    }
+    ];
+    are_read(&rt, rt.alloc(), "", &ROWS)
 }
 
 #[test]
 fn a_line_that_may_not_follow_the_head_is_refused(rt: HostRuntime) -> Result<(), Fail> {
-    for line in [
-        "pass 2 picture 0 start 1",
-        "pass 1 picture 1 start 1",
-        "pass 1 picture 0 start 0",
-        "map 2 0 0 0 1",
-        "row 0 0 1",
-        "lost 0 0 0",
-        "",
-    ] {
-        let text = format!(in rt.alloc(); "{}{}\n", HEAD, line)?;
-        assert_eq!(rt; passes_of(&rt, text.as_bytes()), bad(2), "{line}");
-    }
-    Ok(())
+    const ROWS: [(&str, Result<u32, JournalError>); 7] = [
+        ("pass 2 picture 0 start 1\n", BAD2),
+        ("pass 1 picture 1 start 1\n", BAD2),
+        ("pass 1 picture 0 start 0\n", BAD2),
+        ("map 2 0 0 0 1\n", BAD2),
+        ("row 0 0 1\n", BAD2),
+        ("lost 0 0 0\n", BAD2),
+        ("\n", BAD2),
+    ];
+    are_read(&rt, rt.alloc(), HEAD, &ROWS)
 }
 
 #[test]
 fn a_line_that_may_not_follow_the_begin_of_a_pass_is_refused(rt: HostRuntime) -> Result<(), Fail> {
-    for (lines, want) in [
-        ("", bad(3)),
+    const ROWS: [(&str, Result<u32, JournalError>); 21] = [
+        ("", BAD3),
         ("row 0 0 1\n", Ok(1)),
         ("row 0 63 1\n", Ok(1)),
-        ("row 0 0 2\n", bad(3)),
-        ("row 0 0 0\n", bad(3)),
-        ("row 0 64 1\n", bad(3)),
-        ("row 1 0 1\n", bad(3)),
-        ("row 0 0 1\nrow 1 0 1\n", bad(4)),
-        ("unmap 2 1 0 0 0\n", bad(3)),
-        ("unmap 2 0 0 0 1\n", bad(3)),
-        ("lost 1 0 0\n", bad(3)),
-        ("map 2 0 0 0 0\n", bad(3)),
-        ("map 2 0 2 0 1\n", bad(3)),
-        ("map 3 0 0 0 1\n", bad(3)),
-        ("map 2 1 0 0 1\n", bad(3)),
-        ("map 2 0 0 0 65535\n", bad(3)),
+        ("row 0 0 2\n", BAD3),
+        ("row 0 0 0\n", BAD3),
+        ("row 0 64 1\n", BAD3),
+        ("row 1 0 1\n", BAD3),
+        ("row 0 0 1\nrow 1 0 1\n", BAD4),
+        ("unmap 2 1 0 0 0\n", BAD3),
+        ("unmap 2 0 0 0 1\n", BAD3),
+        ("lost 1 0 0\n", BAD3),
+        ("map 2 0 0 0 0\n", BAD3),
+        ("map 2 0 2 0 1\n", BAD3),
+        ("map 3 0 0 0 1\n", BAD3),
+        ("map 2 1 0 0 1\n", BAD3),
+        ("map 2 0 0 0 65535\n", BAD3),
         ("map 2 0 0 0 65534\nrow 0 0 1\n", Ok(1)),
-        ("map 2 0 0 0 1\nlost 0 0 0\n", bad(4)),
-        ("row 0 0 1\nmap 2 0 0 0 1\n", bad(4)),
+        ("map 2 0 0 0 1\nlost 0 0 0\n", BAD4),
+        ("row 0 0 1\nmap 2 0 0 0 1\n", BAD4),
         ("row 0 0 1\npass 2 picture 1 start 1\nrow 0 0 1\n", Ok(2)),
-        ("row 0 0 1\npass 2 picture 2 start 1\n", bad(4)),
-    ] {
-        let text = format!(in rt.alloc(); "{}{}", BEGUN, lines)?;
-        assert_eq!(rt; passes_of(&rt, text.as_bytes()), want, "{lines}");
-    }
-    Ok(())
+        ("row 0 0 1\npass 2 picture 2 start 1\n", BAD4),
+    ];
+    are_read(&rt, rt.alloc(), BEGUN, &ROWS)
 }
 
 #[test]
 fn a_front_of_a_journal_is_one_where_it_ends_after_the_head_or_a_row(rt: HostRuntime) {
     let text = LOST_TILE.as_bytes();
-    let ends = [14, 49, 112, 147, 223];
     let mut line: u32 = 1;
     for end in 0..text.len() + 1 {
         if 0 < end && text[end - 1] == b'\n' {
             line = line.wrapping_add(1);
         }
-        let want = match ends.iter().position(|whole| *whole == end) {
-            Some(passes) => Ok(passes as u32),
-            None => bad(line),
+        let want = match end {
+            14 => Ok(0),
+            49 => Ok(1),
+            112 => Ok(2),
+            147 => Ok(3),
+            223 => Ok(4),
+            _ => bad(line),
         };
-        assert_eq!(rt; passes_of(&rt, &text[..end]), want, "the first {end} bytes");
+        assert_eq!(rt;
+            passes_of(rt.alloc(), &text[..end]),
+            want,
+            "the first {end} bytes"
+        );
     }
 }
 
@@ -127,5 +152,5 @@ row 0 0 2
 pass 4 picture 0 start 3
 row 0 0 3
 ";
-    assert_eq!(rt; passes_of(&rt, text.as_bytes()), bad(9));
+    assert_eq!(rt; passes_of(rt.alloc(), text.as_bytes()), bad(9));
 }

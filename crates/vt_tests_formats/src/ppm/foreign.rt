@@ -6,21 +6,6 @@ use std::test::Fail as TestFail;
 use vt_outside::NoMemory;
 use vt_ppm::{PpmError, image_flaw};
 
-// The answer is that the header breaks at this byte.
-fn bad_header(at: u64) -> Result<&'static [u8], PpmError> {
-    Err(PpmError::BadHeader { at })
-}
-
-// The answer is that the raster has fewer bytes than it is to have.
-fn truncated(want: u64, have: u64) -> Result<&'static [u8], PpmError> {
-    Err(PpmError::Truncated { want, have })
-}
-
-// The answer is that a sample above the maximum begins at this byte.
-fn sample_over(at: u64) -> Result<&'static [u8], PpmError> {
-    Err(PpmError::SampleOver { at })
-}
-
 // The bytes are read as these samples, or refused in this way.
 fn is_answered(
     alloc: Global,
@@ -45,7 +30,7 @@ fn is_answered(
 fn each_foreign_texture_is_read_or_refused_with_its_first_flaw(
     rt: HostRuntime,
 ) -> Result<(), TestFail> {
-    let rows: [(&[u8], Result<&[u8], PpmError>); 30] = [
+    const ROWS: [(&[u8], Result<&[u8], PpmError>); 30] = [
         // Every spelling of a header.
         (b"P6 01 1 255\n\x07\x08\x09", Ok(b"\x07\x08\x09")),
         (b"P6 #a\n#b\n1 1 255\n\x07\x08\x09", Ok(b"\x07\x08\x09")),
@@ -71,14 +56,17 @@ fn each_foreign_texture_is_read_or_refused_with_its_first_flaw(
         // Magics and headers that break.
         (b"", Err(PpmError::BadMagic)),
         (b"P5 1 1 255\nabc", Err(PpmError::BadMagic)),
-        (b"P6", bad_header(2)),
-        (b"P6#a\n1 1 255\n", bad_header(2)),
-        (b"P6\x0b1 1 255\n", bad_header(2)),
-        (b"P6 1 1x255\nabc", bad_header(6)),
-        (b"P6 1 1 255", bad_header(10)),
-        (b"P6 1 1 255#", bad_header(10)),
-        (b"P6 00000000001 1 255\n", bad_header(13)),
-        (b"P6 #1 1 255 abc", bad_header(15)),
+        (b"P6", Err(PpmError::BadHeader { at: 2 })),
+        (b"P6#a\n1 1 255\n", Err(PpmError::BadHeader { at: 2 })),
+        (b"P6\x0b1 1 255\n", Err(PpmError::BadHeader { at: 2 })),
+        (b"P6 1 1x255\nabc", Err(PpmError::BadHeader { at: 6 })),
+        (b"P6 1 1 255", Err(PpmError::BadHeader { at: 10 })),
+        (b"P6 1 1 255#", Err(PpmError::BadHeader { at: 10 })),
+        (
+            b"P6 00000000001 1 255\n",
+            Err(PpmError::BadHeader { at: 13 }),
+        ),
+        (b"P6 #1 1 255 abc", Err(PpmError::BadHeader { at: 15 })),
         // Sides and maxima out of bounds.
         (b"P6 0 1 255\n", Err(PpmError::BadSize)),
         (b"P6 9999999999 1 255\n", Err(PpmError::BadSize)),
@@ -86,16 +74,43 @@ fn each_foreign_texture_is_read_or_refused_with_its_first_flaw(
         (b"P6 1 1 0\nabc", Err(PpmError::BadMaximum)),
         (b"P6 1 1 65536\nabc", Err(PpmError::BadMaximum)),
         // Rasters.
-        (b"P6 8192 8192 255\n", truncated(201326592, 0)),
-        (b"P6 8192 8192 256\n", truncated(402653184, 0)),
-        (b"P6 1 1 255\nab", truncated(3, 2)),
-        (b"P6 1 1 256\nabc", truncated(6, 3)),
-        (b"P6 1 1 100\n\x01\x65\x00", sample_over(12)),
-        (b"P6 1 1 256\n\x01\x01\x00\x80\x00\x01", sample_over(11)),
-        (b"P6 1 1 256\n\x01\x00\x00\x80\x01\x01", sample_over(15)),
+        (
+            b"P6 8192 8192 255\n",
+            Err(PpmError::Truncated {
+                want: 201326592,
+                have: 0,
+            }),
+        ),
+        (
+            b"P6 8192 8192 256\n",
+            Err(PpmError::Truncated {
+                want: 402653184,
+                have: 0,
+            }),
+        ),
+        (
+            b"P6 1 1 255\nab",
+            Err(PpmError::Truncated { want: 3, have: 2 }),
+        ),
+        (
+            b"P6 1 1 256\nabc",
+            Err(PpmError::Truncated { want: 6, have: 3 }),
+        ),
+        (
+            b"P6 1 1 100\n\x01\x65\x00",
+            Err(PpmError::SampleOver { at: 12 }),
+        ),
+        (
+            b"P6 1 1 256\n\x01\x01\x00\x80\x00\x01",
+            Err(PpmError::SampleOver { at: 11 }),
+        ),
+        (
+            b"P6 1 1 256\n\x01\x00\x00\x80\x01\x01",
+            Err(PpmError::SampleOver { at: 15 }),
+        ),
     ];
-    for (bytes, want) in rows {
-        assert!(rt; is_answered(rt.alloc(), bytes, want)?);
+    for (bytes, want) in &ROWS {
+        assert!(rt; is_answered(rt.alloc(), bytes, *want)?);
     }
     Ok(())
 }
@@ -111,18 +126,20 @@ fn behind_blanks(alloc: Global, count: usize, rest: &[u8]) -> Result<Vec<u8>, Al
 
 #[test]
 fn a_header_of_many_blanks_breaks_at_its_end_or_its_limit(rt: HostRuntime) -> Result<(), TestFail> {
-    let texel = b"1 1 255\nabc".as_slice();
-    let rows = [
-        (100, b"".as_slice(), Some(102)),
-        (70000, b"".as_slice(), Some(65536)),
-        (100, texel, None),
-        (65526, texel, None),
-        (65527, texel, Some(65536)),
-        (70000, texel, Some(65536)),
+    const TEXEL: &[u8] = b"1 1 255\nabc";
+    const END: Option<PpmError> = Some(PpmError::BadHeader { at: 102 });
+    const LIMIT: Option<PpmError> = Some(PpmError::BadHeader { at: 65536 });
+    const ROWS: [(usize, &[u8], Option<PpmError>); 6] = [
+        (100, b"", END),
+        (70000, b"", LIMIT),
+        (100, TEXEL, None),
+        (65526, TEXEL, None),
+        (65527, TEXEL, LIMIT),
+        (70000, TEXEL, LIMIT),
     ];
-    for (count, rest, place) in rows {
+    for (count, rest, want) in &ROWS {
+        let (count, want) = (*count, *want);
         let bytes = behind_blanks(rt.alloc(), count, rest)?;
-        let want = place.map(|at| PpmError::BadHeader { at });
         assert_eq!(rt; refusal(rt.alloc(), &bytes, &[])?, want);
         assert_eq!(rt; header_refusal(rt.alloc(), &bytes, &[])?, want);
         assert_eq!(rt; image_flaw(&bytes), want);

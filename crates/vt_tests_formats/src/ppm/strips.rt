@@ -1,8 +1,9 @@
 //! Textures that are read by rows.
 ghost use Rattle.std.specs.Prelude.{◌≡◌, true, IfOk, OnOk};
 
-use crate::ppm::{folder_of, refusal};
-use std::alloc::Global;
+use crate::ppm::{folder_of, is_asked, refusal};
+use std::alloc::{AllocError, Global};
+use std::process::Abort;
 use std::test::Fail as TestFail;
 use vt_outside::{Fail, Folder, MemoryFile, MemoryFolder, Place};
 use vt_ppm::{PpmError, StripReader, read_header};
@@ -126,9 +127,17 @@ fn check_refusal(
     Ok(refusal_of(&mut folder, answer))
 }
 
+// Looks at strips of a texture, or at why they could not be read.
+fn is_strip(rt: &impl Abort, strip: Result<Vec<u8>, PpmError>, want: Result<&[u8], PpmError>) {
+    match strip {
+        Ok(rows) => assert_eq!(rt; Ok(rows.as_slice()), want),
+        Err(refusal) => assert_eq!(rt; Err(refusal), want),
+    }
+}
+
 #[test]
 fn rows_of_either_depth_are_scaled(rt: HostRuntime) -> Result<(), TestFail> {
-    let textures: [(&[u8], u32, &[u8], &[u8]); 4] = [
+    const TEXTURES: [(&[u8], u32, &[u8], &[u8]); 4] = [
         (
             b"P6 1 2 100\n\x00\x32\x64\x64\x32\x00",
             1,
@@ -144,76 +153,126 @@ fn rows_of_either_depth_are_scaled(rt: HostRuntime) -> Result<(), TestFail> {
         ),
         (b"P6 1 2 65535\nabcdefghijkl", 2, b"abcdef", b"ghijkl"),
     ];
-    for (bytes, depth, first, second) in textures {
+    for (bytes, depth, first, second) in &TEXTURES {
         let mut folder = folder_of(rt.alloc(), bytes, &[])?;
-        assert_eq!(rt; depth_in(rt.alloc(), &mut folder)?, depth);
+        assert!(rt; depth_in(rt.alloc(), &mut folder) == Ok(*depth));
         let (lower, upper) = strips_in(rt.alloc(), &mut folder, (1, 1), (0, 1))?;
-        assert_eq!(rt; upper?.as_slice(), first);
-        assert_eq!(rt; lower?.as_slice(), second);
+        is_strip(&rt, upper, Ok(first));
+        is_strip(&rt, lower, Ok(second));
     }
     Ok(())
+}
+
+// A place that was read.
+fn read_of(at: u64, len: u64) -> Place {
+    Place {
+        at,
+        len,
+        failed: false,
+    }
 }
 
 #[test]
 fn several_rows_are_one_read(rt: HostRuntime) -> Result<(), TestFail> {
     let mut folder = folder_of(rt.alloc(), b"P6 1 3 255\nabcdefghi and more", &[])?;
     let (lower, all) = strips_in(rt.alloc(), &mut folder, (1, 2), (0, 3))?;
-    assert_eq!(rt; lower?.as_slice(), b"defghi".as_slice());
-    assert_eq!(rt; all?.as_slice(), b"abcdefghi".as_slice());
-    let places = [(0, 29), (14, 6), (11, 9)].map(|(at, len)| Place {
-        at,
-        len,
-        failed: false,
-    });
+    is_strip(&rt, lower, Ok(b"defghi"));
+    is_strip(&rt, all, Ok(b"abcdefghi"));
+    let places = [read_of(0, 29), read_of(14, 6), read_of(11, 9)];
     assert!(rt; folder.was_asked("t", &places));
     Ok(())
 }
 
 #[test]
 fn a_texture_may_be_larger_than_an_image(rt: HostRuntime) -> Result<(), TestFail> {
-    let truncated = |want| Some(PpmError::Truncated { want, have: 0 });
-    let bad_size = Some(PpmError::BadSize);
-    let headers: [(&[u8], Option<PpmError>, Option<PpmError>); 5] = [
-        (b"P6 8192 1 255\n", truncated(24576), truncated(24576)),
-        (b"P6 8193 1 255\n", bad_size, truncated(24579)),
-        (b"P6 1 8193 256\n", bad_size, truncated(49158)),
-        (b"P6 16384 16384 256\n", bad_size, truncated(1610612736)),
-        (b"P6 16385 1 255\n", bad_size, bad_size),
+    const BAD_SIZE: Option<PpmError> = Some(PpmError::BadSize);
+    const HEADERS: [(&[u8], Option<PpmError>, Option<PpmError>); 5] = [
+        (
+            b"P6 8192 1 255\n",
+            Some(PpmError::Truncated {
+                want: 24576,
+                have: 0,
+            }),
+            Some(PpmError::Truncated {
+                want: 24576,
+                have: 0,
+            }),
+        ),
+        (
+            b"P6 8193 1 255\n",
+            BAD_SIZE,
+            Some(PpmError::Truncated {
+                want: 24579,
+                have: 0,
+            }),
+        ),
+        (
+            b"P6 1 8193 256\n",
+            BAD_SIZE,
+            Some(PpmError::Truncated {
+                want: 49158,
+                have: 0,
+            }),
+        ),
+        (
+            b"P6 16384 16384 256\n",
+            BAD_SIZE,
+            Some(PpmError::Truncated {
+                want: 1610612736,
+                have: 0,
+            }),
+        ),
+        (b"P6 16385 1 255\n", BAD_SIZE, BAD_SIZE),
     ];
-    for (bytes, whole, by_rows) in headers {
-        assert_eq!(rt; refusal(rt.alloc(), bytes, &[])?, whole);
-        assert_eq!(rt; open_refusal(rt.alloc(), bytes, &[])?, by_rows);
+    for (bytes, whole, by_rows) in &HEADERS {
+        assert_eq!(rt; refusal(rt.alloc(), bytes, &[])?, *whole);
+        assert_eq!(rt; open_refusal(rt.alloc(), bytes, &[])?, *by_rows);
     }
+    Ok(())
+}
+
+// The width that the header of `t` tells.
+fn width_in(alloc: Global, folder: &mut MemoryFolder) -> Result<u32, PpmError> {
+    let Ok(mut file) = folder.open("t") else {
+        return Err(PpmError::Failed);
+    };
+    let header = read_header(alloc, &mut file);
+    folder.close(file);
+    Ok(header?.width)
+}
+
+// Looks at the width that a header tells.
+fn has_width(
+    rt: &impl Abort,
+    alloc: Global,
+    bytes: &[u8],
+    width: Result<u32, PpmError>,
+) -> Result<(), TestFail> {
+    let mut folder = folder_of(alloc, bytes, &[])?;
+    assert_eq!(rt; width_in(alloc, &mut folder), width);
     Ok(())
 }
 
 #[test]
 fn a_header_may_have_larger_sides_than_an_image(rt: HostRuntime) -> Result<(), TestFail> {
-    let headers: [(&[u8], Result<u32, PpmError>); 2] = [
-        (b"P6 16384 1 255\n", Ok(16384)),
-        (b"P6 16385 1 255\n", Err(PpmError::BadSize)),
-    ];
-    for (bytes, width) in headers {
-        let mut folder = folder_of(rt.alloc(), bytes, &[])?;
-        let Ok(mut file) = folder.open("t") else {
-            return Err(TestFail::from(PpmError::Failed));
-        };
-        let header = read_header(rt.alloc(), &mut file);
-        assert_eq!(rt; header.map(|h| h.width), width);
-        folder.close(file);
-    }
-    Ok(())
+    has_width(&rt, rt.alloc(), b"P6 16384 1 255\n", Ok(16384))?;
+    has_width(&rt, rt.alloc(), b"P6 16385 1 255\n", Err(PpmError::BadSize))
 }
 
 #[test]
 fn the_first_sample_above_the_maximum_is_named(rt: HostRuntime) -> Result<(), TestFail> {
-    let over = |at| Some(PpmError::SampleOver { at });
-    let textures: [(&[u8], Option<PpmError>); 5] = [
-        (b"P6 1 2 100\n\x65\x00\x00\x00\x00\x65", over(11)),
-        (b"P6 1 2 100\n\x00\x00\x00\x00\x00\x65", over(16)),
+    const TEXTURES: [(&[u8], Option<PpmError>); 5] = [
+        (
+            b"P6 1 2 100\n\x65\x00\x00\x00\x00\x65",
+            Some(PpmError::SampleOver { at: 11 }),
+        ),
+        (
+            b"P6 1 2 100\n\x00\x00\x00\x00\x00\x65",
+            Some(PpmError::SampleOver { at: 16 }),
+        ),
         (
             b"P6 1 2 256\n\x00\x00\x00\x00\x00\x00\x00\x00\x00\x00\x01\x01",
-            over(21),
+            Some(PpmError::SampleOver { at: 21 }),
         ),
         (b"P6 1 2 100\n\x00\x00\x00\x00\x00\x64\x65", None),
         (
@@ -221,53 +280,51 @@ fn the_first_sample_above_the_maximum_is_named(rt: HostRuntime) -> Result<(), Te
             Some(PpmError::Truncated { want: 6, have: 2 }),
         ),
     ];
-    for (bytes, want) in textures {
-        assert_eq!(rt; check_refusal(rt.alloc(), bytes, &[])?, want);
+    for (bytes, want) in &TEXTURES {
+        assert_eq!(rt; check_refusal(rt.alloc(), bytes, &[])?, *want);
     }
     Ok(())
 }
 
-#[test]
-fn a_raster_is_looked_over_in_pieces(rt: HostRuntime) -> Result<(), TestFail> {
-    let mut bytes = Vec::from_slice(rt.alloc(), b"P6 16384 23 1\n")?;
-    let raster = vec![in rt.alloc(); 1u8; 1130495]?;
+// The bytes of a texture of 16384 columns and 23 rows, of which the last sample is above the maximum.
+fn wide_texture(alloc: Global) -> Result<Vec<u8>, AllocError> {
+    let mut bytes = Vec::from_slice(alloc, b"P6 16384 23 1\n")?;
+    let raster = vec![in alloc; 1u8; 1130495]?;
     bytes.extend_from_slice(&raster)?;
     bytes.push(2)?;
+    Ok(bytes)
+}
+
+#[test]
+fn a_raster_is_looked_over_in_pieces(rt: HostRuntime) -> Result<(), TestFail> {
+    let bytes = wide_texture(rt.alloc())?;
     let mut folder = folder_of(rt.alloc(), &bytes, &[])?;
     let answer = checked_in(rt.alloc(), &mut folder);
-    assert_eq!(rt;
-        refusal_of(&mut folder, answer),
-        Some(PpmError::SampleOver { at: 1130509 })
-    );
-    let places = [(0, 65536), (14, 1081344), (1081358, 49152)].map(|(at, len)| Place {
-        at,
-        len,
-        failed: false,
-    });
+    assert!(rt; refusal_of(&mut folder, answer) == Some(PpmError::SampleOver { at: 1130509 }));
+    let places = [
+        read_of(0, 65536),
+        read_of(14, 1081344),
+        read_of(1081358, 49152),
+    ];
     assert!(rt; folder.was_asked("t", &places));
     Ok(())
 }
 
 #[test]
 fn a_raster_is_read_only_where_a_sample_may_be_over(rt: HostRuntime) -> Result<(), TestFail> {
-    let textures: [(&[u8], u64, Option<(u64, u64)>); 4] = [
+    const TEXTURES: [(&[u8], u64, Option<(u64, u64)>); 4] = [
         (b"P6 1 2 255\nabcdef", 17, None),
         (b"P6 1 2 254\nabcdef", 17, Some((11, 6))),
         (b"P6 1 2 65535\nabcdefghijkl", 25, None),
         (b"P6 1 2 65534\nabcdefghijkl", 25, Some((13, 12))),
     ];
-    for (bytes, front, raster) in textures {
+    for (bytes, front, raster) in &TEXTURES {
         let mut folder = folder_of(rt.alloc(), bytes, &[])?;
         let answer = checked_in(rt.alloc(), &mut folder);
-        assert_eq!(rt; refusal_of(&mut folder, answer), None);
-        let read = |(at, len)| Place {
-            at,
-            len,
-            failed: false,
-        };
-        assert_eq!(rt; folder.asked("t", 0), Some(read((0, front))));
-        assert_eq!(rt; folder.asked("t", 1), raster.map(read));
-        assert_eq!(rt; folder.asked("t", 2), None);
+        assert!(rt; refusal_of(&mut folder, answer) == None);
+        is_asked(&rt, &folder, 0, Some((0, *front)));
+        is_asked(&rt, &folder, 1, *raster);
+        is_asked(&rt, &folder, 2, None);
     }
     Ok(())
 }
@@ -276,14 +333,27 @@ fn a_raster_is_read_only_where_a_sample_may_be_over(rt: HostRuntime) -> Result<(
 fn each_failing_read_is_told_and_a_row_is_read_after_it(rt: HostRuntime) -> Result<(), TestFail> {
     let bytes = b"P6 1 2 100\n\x00\x32\x64\x64\x32\x00";
     let failed = Some(PpmError::Failed);
-    let reads = [0, 1, 2].map(|read| Fail::Read { opening: 0, read });
+    let reads = [
+        Fail::Read {
+            opening: 0,
+            read: 0,
+        },
+        Fail::Read {
+            opening: 0,
+            read: 1,
+        },
+        Fail::Read {
+            opening: 0,
+            read: 2,
+        },
+    ];
     let length = Fail::Length { opening: 0 };
-    assert_eq!(rt; open_refusal(rt.alloc(), bytes, &[length])?, failed);
-    assert_eq!(rt; open_refusal(rt.alloc(), bytes, &[reads[0]])?, failed);
-    assert_eq!(rt; check_refusal(rt.alloc(), bytes, &[reads[1]])?, failed);
+    assert!(rt; open_refusal(rt.alloc(), bytes, &[length]) == Ok(failed));
+    assert!(rt; open_refusal(rt.alloc(), bytes, &[reads[0]]) == Ok(failed));
+    assert!(rt; check_refusal(rt.alloc(), bytes, &[reads[1]]) == Ok(failed));
     let mut folder = folder_of(rt.alloc(), bytes, &[reads[2]])?;
     let (first, second) = strips_in(rt.alloc(), &mut folder, (0, 1), (1, 1))?;
-    assert_eq!(rt; first.err(), failed);
-    assert_eq!(rt; second?.as_slice(), b"\xff\x80\x00".as_slice());
+    is_strip(&rt, first, Err(PpmError::Failed));
+    is_strip(&rt, second, Ok(b"\xff\x80\x00"));
     Ok(())
 }

@@ -1,10 +1,10 @@
 //! The words of the commands that have a journal, and of `trial`, as they are typed.
 
-use super::misread;
+use super::are_read;
 
 #[test]
 fn the_options_of_walk_have_defaults(rt: HostRuntime) {
-    let cases: [(&[&str], &str); 9] = [
+    const CASES: [(&[&str], &str); 9] = [
         (
             &["walk", "s", "p", "x"],
             "walk s,p,x,journal.txt, 64 4 3 64 1",
@@ -51,12 +51,12 @@ fn the_options_of_walk_have_defaults(rt: HostRuntime) {
             "walk s,p,x,, 64 4 3 64 1",
         ),
     ];
-    assert_eq!(rt; misread(rt.alloc(), cases.as_slice()), Ok(0));
+    are_read(&rt, rt.alloc(), &CASES);
 }
 
 #[test]
 fn the_numbers_of_walk_have_bounds(rt: HostRuntime) {
-    let cases: [(&[&str], &str); 18] = [
+    const CASES: [(&[&str], &str); 18] = [
         (
             &[
                 "walk",
@@ -105,12 +105,12 @@ fn the_numbers_of_walk_have_bounds(rt: HostRuntime) {
         ),
         (&["walk", "s", "p", "x", "--batch"], "usage"),
     ];
-    assert_eq!(rt; misread(rt.alloc(), cases.as_slice()), Ok(0));
+    are_read(&rt, rt.alloc(), &CASES);
 }
 
 #[test]
 fn walk_has_three_words_and_its_own_options(rt: HostRuntime) {
-    let cases: [(&[&str], &str); 10] = [
+    const CASES: [(&[&str], &str); 10] = [
         (&["walk"], "usage"),
         (&["walk", "s"], "usage"),
         (&["walk", "s", "p"], "usage"),
@@ -122,12 +122,12 @@ fn walk_has_three_words_and_its_own_options(rt: HostRuntime) {
         (&["walk", "s", "p", "x", "--help"], "usage"),
         (&["walk", "s", "p", "x", "-f", "64"], "usage"),
     ];
-    assert_eq!(rt; misread(rt.alloc(), cases.as_slice()), Ok(0));
+    are_read(&rt, rt.alloc(), &CASES);
 }
 
 #[test]
 fn a_walk_writes_no_name_that_it_reads(rt: HostRuntime) {
-    let cases: [(&[&str], &str); 10] = [
+    const CASES: [(&[&str], &str); 10] = [
         (&["walk", "x0000.ppm", "p", "x"], "usage"),
         (&["walk", "s", "x9999.ppm", "x"], "usage"),
         (&["walk", "s", "p", "x", "--journal", "x0001.ppm"], "usage"),
@@ -145,12 +145,12 @@ fn a_walk_writes_no_name_that_it_reads(rt: HostRuntime) {
             "walk s,p,x,./s, 64 4 3 64 1",
         ),
     ];
-    assert_eq!(rt; misread(rt.alloc(), cases.as_slice()), Ok(0));
+    are_read(&rt, rt.alloc(), &CASES);
 }
 
 #[test]
 fn replay_has_four_names_and_writes_none_that_it_reads(rt: HostRuntime) {
-    let cases: [(&[&str], &str); 13] = [
+    const CASES: [(&[&str], &str); 13] = [
         (&["replay", "s", "p", "j", "x"], "replay s,p,j,x,"),
         (&["replay", "s", "s", "j", "s"], "replay s,s,j,s,"),
         (
@@ -168,12 +168,12 @@ fn replay_has_four_names_and_writes_none_that_it_reads(rt: HostRuntime) {
         (&["replay", "s", "p", "x0000.ppm", "x"], "usage"),
         (&["replay", "s", "p", "./s", "x"], "replay s,p,./s,x,"),
     ];
-    assert_eq!(rt; misread(rt.alloc(), cases.as_slice()), Ok(0));
+    are_read(&rt, rt.alloc(), &CASES);
 }
 
 #[test]
 fn trial_has_a_number_of_sixteen_bits(rt: HostRuntime) {
-    let cases: [(&[&str], &str); 8] = [
+    const CASES: [(&[&str], &str); 8] = [
         (&["trial", "0"], "trial 0"),
         (&["trial", "7"], "trial 7"),
         (&["trial", "65535"], "trial 65535"),
@@ -183,5 +183,5 @@ fn trial_has_a_number_of_sixteen_bits(rt: HostRuntime) {
         (&["trial"], "usage"),
         (&["trial", "7", "7"], "usage"),
     ];
-    assert_eq!(rt; misread(rt.alloc(), cases.as_slice()), Ok(0));
+    are_read(&rt, rt.alloc(), &CASES);
 }
