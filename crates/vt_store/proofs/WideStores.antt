@@ -241,6 +241,10 @@ all_done s g step pages i eg limits es ep ei =
     let all : i ≡ pieces_of s = ei ∙ ap (λ n. (pages + n - 1) / n) steps ∙ ap (λ n. (n + piece_tiles s - 1) / piece_tiles s) whole in
     (all, ap (λ n. min (n * piece_tiles s) (pages_of s)) all ∙ all_pieces (piece_tiles s) (pages_of s) (omega (arith, some, steps)))
 
+-- a count that did not fall in two calls did not fall in both
+pub no_less : (a b c : ℕ) → a ≤ b → b ≤ c → a ≤ c
+no_less a b c p q = omega arith
+
 -- a count that rose in the last of some calls rose in all of them
 pub rose_along : (a b c x y z : ℕ) → a ≤ b → x ≤ y → Rose b c ⊎ Rose y z → Rose a c ⊎ Rose x z
 rose_along a b c x y z p q (inl h) = inl (omega arith)

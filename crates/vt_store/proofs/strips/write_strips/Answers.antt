@@ -7,9 +7,9 @@ use Rattle.vt_mip.specs.TakenRows.{HalvingView, HalvesFront}
 use Rattle.vt_pages.specs.Pages.{pages_below, rows_at, columns_at}
 use Rattle.vt_store.specs.Format.{tile_length}
 use Rattle.vt_store.specs.ChainStores.{level_source}
-use Rattle.vt_store.specs.StripStores.{strip_rows}
+use Rattle.vt_store.specs.StripStores.{StripsAsked, strip_rows, strips_of}
 use Rattle.vt_store.specs.declared.error.StoreError.TheVariants.{Failed}
-use Rattle.vt_store.proofs.WideStores.{rose_along, carried}
+use Rattle.vt_store.proofs.WideStores.{rose_along, no_less, carried}
 use Rattle.vt_store.proofs.StripStores.{made_begun, made_moved, made_more, made_part, made_header, made_whole, made_rest_part, store_seen, front_seen, header_seen, there_made, more_strips, no_strips, strips_front, strip_tried}
 use Rattle.vt_store.proofs.StripLevels.{first_pages, first_inside, strip_inside, are_strips, rest_tiles, level_made, strip_room, strip_small, strip_bytes, next_taken}
 use Rattle.vt_store.proofs.LevelChain.{refused_by}
@@ -278,3 +278,87 @@ returns-in_err-write_levels-clause-failed g c = λ failed.
     c.from_residual-in_err-write_levels.ensures.1 failed)
     (g.D.Folder.files c.args.folder.now) c.loop-strip.invariant.held.written c.loop-strip.invariant.held.held in
     inl (omega (arith, rose, c.loop-strip.invariant.faults))
+
+pub returns-in_err-write_strip-clause-bytes : goal.returns-in_err-write_strip-clause-bytes
+returns-in_err-write_strip-clause-bytes g c = c.write_strip.ensures.bytes ∙ c.loop-strip.invariant.bytes
+
+pub returns-in_err-write_strip-clause-name : goal.returns-in_err-write_strip-clause-name
+returns-in_err-write_strip-clause-name g c = c.write_strip.ensures.name ∙ c.loop-strip.invariant.called
+
+pub returns-in_err-write_strip-clause-header : goal.returns-in_err-write_strip-clause-header
+returns-in_err-write_strip-clause-header g c = c.write_strip.ensures.header ∙ c.loop-strip.invariant.header
+
+pub returns-in_err-write_strip-clause-tile : goal.returns-in_err-write_strip-clause-tile
+returns-in_err-write_strip-clause-tile g c = c.write_strip.ensures.tile ∙ c.loop-strip.invariant.tile
+
+pub returns-in_err-write_strip-clause-asked : goal.returns-in_err-write_strip-clause-asked
+returns-in_err-write_strip-clause-asked g c = c.write_strip.ensures.asked ∙ c.loop-strip.invariant.asked
+
+pub returns-in_err-write_strip-clause-file_faults : goal.returns-in_err-write_strip-clause-file_faults
+returns-in_err-write_strip-clause-file_faults g c = no_less (g.F.File.faults c.args.chain.now.file) (g.F.File.faults c.loop-strip.chain.file)
+    (g.F.File.faults c.write_strip.new.chain.file) c.loop-strip.invariant.file_faults c.write_strip.ensures.file_faults
+
+pub returns-in_err-write_strip-clause-faults : goal.returns-in_err-write_strip-clause-faults
+returns-in_err-write_strip-clause-faults g c = no_less (g.D.Folder.faults c.args.folder.now) (g.D.Folder.faults c.loop-strip.folder)
+    (g.D.Folder.faults c.write_strip.new.folder) c.loop-strip.invariant.faults c.write_strip.ensures.faults
+
+pub returns-in_err-write_levels-clause-asked : goal.returns-in_err-write_levels-clause-asked
+returns-in_err-write_levels-clause-asked g c = c.write_levels.ensures.asked ∙ c.loop-strip.invariant.asked
+
+pub returns-in_err-write_levels-clause-faults : goal.returns-in_err-write_levels-clause-faults
+returns-in_err-write_levels-clause-faults g c = no_less (g.D.Folder.faults c.args.folder.now) (g.D.Folder.faults c.loop-strip.folder)
+    (g.D.Folder.faults c.write_levels.new.folder) c.loop-strip.invariant.faults c.write_levels.ensures.faults
+
+pub returns-in_err-write_levels-clause-bytes : goal.returns-in_err-write_levels-clause-bytes
+returns-in_err-write_levels-clause-bytes g c = c.loop-strip.invariant.bytes
+
+pub returns-in_err-write_levels-clause-name : goal.returns-in_err-write_levels-clause-name
+returns-in_err-write_levels-clause-name g c = c.loop-strip.invariant.called
+
+pub returns-in_err-write_levels-clause-header : goal.returns-in_err-write_levels-clause-header
+returns-in_err-write_levels-clause-header g c = c.loop-strip.invariant.header
+
+pub returns-in_err-write_levels-clause-tile : goal.returns-in_err-write_levels-clause-tile
+returns-in_err-write_levels-clause-tile g c = c.loop-strip.invariant.tile
+
+pub returns-in_err-write_levels-clause-file_faults : goal.returns-in_err-write_levels-clause-file_faults
+returns-in_err-write_levels-clause-file_faults g c = c.loop-strip.invariant.file_faults
+
+pub returns-clause-asked : goal.returns-clause-asked
+returns-clause-asked g c = c.write_levels.ensures.asked ∙ c.loop-strip.invariant.asked
+
+pub returns-clause-faults : goal.returns-clause-faults
+returns-clause-faults g c = no_less (g.D.Folder.faults c.args.folder.now) (g.D.Folder.faults c.loop-strip.folder)
+    (g.D.Folder.faults c.write_levels.new.folder) c.loop-strip.invariant.faults c.write_levels.ensures.faults
+
+pub returns-clause-bytes : goal.returns-clause-bytes
+returns-clause-bytes g c = c.loop-strip.invariant.bytes
+
+pub returns-clause-name : goal.returns-clause-name
+returns-clause-name g c = c.loop-strip.invariant.called
+
+pub returns-clause-header : goal.returns-clause-header
+returns-clause-header g c = c.loop-strip.invariant.header
+
+pub returns-clause-tile : goal.returns-clause-tile
+returns-clause-tile g c = c.loop-strip.invariant.tile
+
+pub returns-clause-file_faults : goal.returns-clause-file_faults
+returns-clause-file_faults g c = c.loop-strip.invariant.file_faults
+
+pub returns-in_err-write_levels-clause-front_read : goal.returns-in_err-write_levels-clause-front_read
+returns-in_err-write_levels-clause-front_read g c =
+    let are = are_strips c.args.geometry.now c.args.chain.now ((c.height-height.result + c.tile-side.result - 1) / c.tile-side.result)
+    c.height-height.result c.tile-side.result
+    c.requires c.height-height.ensures.height c.tile-side.ensures.tile refl in
+    OnErr-all _ _ (strips_front c.args.chain.now.header c.args.geometry.now.tile c.loop-strip.strip (g.F.File.asked c.args.chain.now.file)
+    (g.F.File.asked c.loop-strip.chain.file) (omega (arith, are.all)) c.loop-strip.invariant.read)
+
+pub returns-clause-all_read : goal.returns-clause-all_read
+returns-clause-all_read g c =
+    let are = are_strips c.args.geometry.now c.args.chain.now ((c.height-height.result + c.tile-side.result - 1) / c.tile-side.result)
+    c.height-height.result c.tile-side.result
+    c.requires c.height-height.ensures.height c.tile-side.ensures.tile refl in
+    let all : c.loop-strip.strip ≡ strips_of c.args.chain.now.header c.args.geometry.now.tile = omega (arith, are.all) in
+    subst (λ (n : ℕ). StripsAsked c.args.chain.now.header c.args.geometry.now.tile n (g.F.File.asked c.args.chain.now.file)
+    (g.F.File.asked c.loop-strip.chain.file)) all c.loop-strip.invariant.read

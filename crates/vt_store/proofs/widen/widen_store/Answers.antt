@@ -1,7 +1,8 @@
-use Rattle.std.proofs.Common.{◌+◌, ◌-◌, ◌*◌, ◌/◌, inr, refl, sym, ◌∙◌, arith}
+use Rattle.std.proofs.Common.{ℕ, ◌+◌, ◌-◌, ◌*◌, ◌/◌, inr, refl, sym, ◌∙◌, subst, arith}
 use Rattle.vt_outside.proofs.Untold.{OnErr-all}
+use Rattle.vt_store.specs.Places.{PiecesAsked}
 use Rattle.vt_store.specs.declared.error.StoreError.TheVariants.{Failed}
-use Rattle.vt_store.proofs.WideStores.{some_columns, begun_pages, pages_moved, header_front, none_asked, front_asked, more_asked, piece_tried, piece_is, piece_part, piece_whole, all_done, all_pages, rose_along, carried, there}
+use Rattle.vt_store.proofs.WideStores.{some_columns, begun_pages, pages_moved, header_front, none_asked, front_asked, more_asked, piece_tried, piece_is, piece_part, piece_whole, all_done, all_pages, rose_along, no_less, carried, there}
 use Rattle.vt_store.proofs.widen.widen_store.Goals as goal
 
 pub nonzero_div-pieces : goal.nonzero_div-pieces
@@ -108,3 +109,54 @@ returns-clause-whole g c =
     c.geometry-geometry.ensures.shape c.levels.ensures.limits c.tile_columns-step.ensures.value c.page_count-pages.ensures.pages (omega arith) in
     all_pages (g.D.File.File.bytes c.args.store.now.file) c.args.store.now.shape c.args.name.now (g.D.Folder.files c.args.folder.now)
     (g.D.Folder.files c.loop-piece.folder) _ done.1 c.loop-piece.invariant.held
+
+pub returns-in_err-widen_piece-clause-bytes : goal.returns-in_err-widen_piece-clause-bytes
+returns-in_err-widen_piece-clause-bytes g c = c.widen_piece.ensures.bytes ∙ c.loop-piece.invariant.bytes
+
+pub returns-in_err-widen_piece-clause-name : goal.returns-in_err-widen_piece-clause-name
+returns-in_err-widen_piece-clause-name g c = c.widen_piece.ensures.name ∙ c.loop-piece.invariant.called
+
+pub returns-in_err-widen_piece-clause-shape : goal.returns-in_err-widen_piece-clause-shape
+returns-in_err-widen_piece-clause-shape g c = c.widen_piece.ensures.shape ∙ c.loop-piece.invariant.shape
+
+pub returns-in_err-widen_piece-clause-asked : goal.returns-in_err-widen_piece-clause-asked
+returns-in_err-widen_piece-clause-asked g c = c.widen_piece.ensures.asked ∙ c.loop-piece.invariant.asked
+
+pub returns-in_err-widen_piece-clause-depth : goal.returns-in_err-widen_piece-clause-depth
+returns-in_err-widen_piece-clause-depth g c = c.widen_piece.ensures.depth ∙ c.loop-piece.invariant.depth ∙ sym c.requires
+
+pub returns-in_err-widen_piece-clause-file_faults : goal.returns-in_err-widen_piece-clause-file_faults
+returns-in_err-widen_piece-clause-file_faults g c = no_less (g.D.File.File.faults c.args.store.now.file) (g.D.File.File.faults c.loop-piece.store.file)
+    (g.D.File.File.faults c.widen_piece.new.store.file) c.loop-piece.invariant.file_faults c.widen_piece.ensures.file_faults
+
+pub returns-in_err-widen_piece-clause-faults : goal.returns-in_err-widen_piece-clause-faults
+returns-in_err-widen_piece-clause-faults g c = no_less (g.D.Folder.faults c.args.folder.now) (g.D.Folder.faults c.loop-piece.folder)
+    (g.D.Folder.faults c.widen_piece.new.folder) c.loop-piece.invariant.faults c.widen_piece.ensures.faults
+
+pub returns-clause-bytes : goal.returns-clause-bytes
+returns-clause-bytes g c = c.loop-piece.invariant.bytes
+
+pub returns-clause-name : goal.returns-clause-name
+returns-clause-name g c = c.loop-piece.invariant.called
+
+pub returns-clause-shape : goal.returns-clause-shape
+returns-clause-shape g c = c.loop-piece.invariant.shape
+
+pub returns-clause-file_faults : goal.returns-clause-file_faults
+returns-clause-file_faults g c = c.loop-piece.invariant.file_faults
+
+pub returns-clause-asked : goal.returns-clause-asked
+returns-clause-asked g c = c.loop-piece.invariant.asked
+
+pub returns-clause-faults : goal.returns-clause-faults
+returns-clause-faults g c = c.loop-piece.invariant.faults
+
+pub returns-clause-depth : goal.returns-clause-depth
+returns-clause-depth g c = c.loop-piece.invariant.depth ∙ sym c.requires
+
+pub returns-clause-all_read : goal.returns-clause-all_read
+returns-clause-all_read g c =
+    let done = all_done c.args.store.now.shape c.geometry-geometry.result c.tile_columns-step.result c.page_count-pages.result c.loop-piece.piece
+    c.geometry-geometry.ensures.shape c.levels.ensures.limits c.tile_columns-step.ensures.value c.page_count-pages.ensures.pages (omega arith) in
+    subst (λ (n : ℕ). PiecesAsked c.args.store.now.shape 1 n (g.D.File.File.asked c.args.store.now.file)
+    (g.D.File.File.asked c.loop-piece.store.file)) done.0 c.loop-piece.invariant.read

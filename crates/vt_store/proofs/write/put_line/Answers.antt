@@ -1,6 +1,14 @@
-use Rattle.std.proofs.Common.{◌+◌, ◌*◌, ◌≤◌, ℕ, length, refl, arith}
+use Rattle.std.proofs.Common.{◌≡◌, ◌+◌, ◌*◌, ◌≤◌, ℕ, length, refl, subst, arith}
+use Rattle.vt_store.specs.TileLines.{GainsLine}
 use Rattle.vt_store.proofs.Lines.{next_tile, line_small, bytes_small, line_inside, columns_few, line_begins}
 use Rattle.vt_store.proofs.write.put_line.Goals as goal
+
+pub overflow_mul-at-in-loop-tile : goal.overflow_mul-at-in-loop-tile
+overflow_mul-at-in-loop-tile c = omega (
+  arith,
+  line_small c.loop-tile.tile c.args.column c.args.count c.args.side c.args.line c.loop-tile-test.true
+      c.requires.few c.requires.side c.requires.line,
+)
 
 pub overflow_add-at : goal.overflow_add-at
 overflow_add-at c = omega (
@@ -34,6 +42,11 @@ overflow_add-column c =
     let few = columns_few c.loop-tile.tile c.args.column c.args.count c.args.side c.loop-tile-test.true c.requires.few (omega arith) in
     omega (arith, few.0)
 
+pub overflow_mul-column : goal.overflow_mul-column
+overflow_mul-column c =
+    let few = columns_few c.loop-tile.tile c.args.column c.args.count c.args.side c.loop-tile-test.true c.requires.few (omega arith) in
+    omega (arith, few.1)
+
 pub overflow_mul-size-in-loop-tile : goal.overflow_mul-size-in-loop-tile
 overflow_mul-size-in-loop-tile c =
     let few = columns_few c.loop-tile.tile c.args.column c.args.count c.args.side c.loop-tile-test.true c.requires.few (omega arith) in
@@ -51,3 +64,9 @@ loop-tile-preserved c = λ columns full. next_tile c.args.size c.args.row.now c.
     refl (omega arith) (omega arith)
     (c.put_span.ensures columns ((c.args.column + c.loop-tile.tile) * c.args.side) c.args.side full refl (omega arith))
     (c.loop-tile.invariant columns full)
+
+pub returns : goal.returns
+returns c = λ columns full.
+    let all : c.loop-tile.tile ≡ c.args.count = omega arith in
+    subst (λ (n : ℕ). GainsLine c.args.size c.args.row.now columns c.args.side c.args.column c.args.line c.args.count n c.args.tiles.now
+    c.loop-tile.tiles) all (c.loop-tile.invariant columns full)
