@@ -2,11 +2,12 @@
 ghost use Rattle.std.specs.Prelude.{◌≡◌, true, IfOk};
 
 use super::{folder_of, holds};
-use crate::fixtures::{TEXTURE, check, with_grays};
+use crate::fixtures::{TEXTURE, check, is_asked, with_grays};
 use std::alloc::Global;
+use std::process::Abort;
 use std::test::Fail as TestFail;
 use vt_mip::StripChain;
-use vt_outside::{Fail, Folder, MemoryFile, MemoryFolder, NoMemory, Place};
+use vt_outside::{Fail, Folder, MemoryFile, MemoryFolder, NoMemory};
 use vt_pages::Geometry;
 use vt_ppm::{PpmError, StripReader};
 use vt_store::{StoreError, write_strips};
@@ -68,21 +69,28 @@ fn tiled(alloc: Global, folder: &mut MemoryFolder) -> Result<(), StoreError> {
     result
 }
 
+// Looks what the tiling of the texture that `a` holds answers.
+fn is_tiled(
+    rt: &impl Abort,
+    alloc: Global,
+    folder: &mut MemoryFolder,
+    want: Result<(), StoreError>,
+) {
+    assert_eq!(rt; tiled(alloc, folder), want);
+}
+
 #[test]
 fn a_texture_is_tiled_by_strips_as_whole(rt: HostRuntime) -> Result<(), TestFail> {
     let texture = with_grays(rt.alloc(), b"P6 5 3 255\n", &TEXTURE, 1)?;
     let store = with_grays(rt.alloc(), b"VTS1\0\0\0\x05\0\0\0\x03\0\0\0\x02", &GRAYS, 1)?;
     let mut folder = folder_of(rt.alloc(), &[], &texture)?;
-    assert_eq!(rt; tiled(rt.alloc(), &mut folder), Ok(()));
-    assert_eq!(rt; store.len(), 124);
+    is_tiled(&rt, rt.alloc(), &mut folder, Ok(()));
+    assert!(rt; store.len() == 124);
     assert!(rt; holds(&folder, "s", &store));
-    let places = [(0, 56), (11, 30), (41, 15)];
-    for i in 0..3 {
-        let (at, len) = places[i];
-        let failed = false;
-        assert_eq!(rt; folder.asked("a", i), Some(Place { at, len, failed }));
-    }
-    assert!(rt; folder.asked("a", 3).is_none());
+    is_asked(&rt, &folder, "a", 0, Some((0, 56)));
+    is_asked(&rt, &folder, "a", 1, Some((11, 30)));
+    is_asked(&rt, &folder, "a", 2, Some((41, 15)));
+    is_asked(&rt, &folder, "a", 3, None);
     Ok(())
 }
 
@@ -91,8 +99,8 @@ fn two_byte_samples_are_tiled_by_strips_alike(rt: HostRuntime) -> Result<(), Tes
     let texture = with_grays(rt.alloc(), b"P6 5 3 65535\n", &TEXTURE, 2)?;
     let store = with_grays(rt.alloc(), b"VTS2\0\0\0\x05\0\0\0\x03\0\0\0\x02", &GRAYS, 2)?;
     let mut folder = folder_of(rt.alloc(), &[], &texture)?;
-    assert_eq!(rt; tiled(rt.alloc(), &mut folder), Ok(()));
-    assert_eq!(rt; store.len(), 232);
+    is_tiled(&rt, rt.alloc(), &mut folder, Ok(()));
+    assert!(rt; store.len() == 232);
     assert!(rt; holds(&folder, "s", &store));
     Ok(())
 }
@@ -100,27 +108,29 @@ fn two_byte_samples_are_tiled_by_strips_alike(rt: HostRuntime) -> Result<(), Tes
 #[test]
 fn one_texel_is_tiled_by_strips(rt: HostRuntime) -> Result<(), TestFail> {
     let mut folder = folder_of(rt.alloc(), &[], b"P6 1 1 255\n\x09\x08\x07")?;
-    assert_eq!(rt; tiled(rt.alloc(), &mut folder), Ok(()));
+    is_tiled(&rt, rt.alloc(), &mut folder, Ok(()));
     let store =
         b"VTS1\0\0\0\x01\0\0\0\x01\0\0\0\x02\x09\x08\x07\x09\x08\x07\x09\x08\x07\x09\x08\x07";
     assert!(rt; holds(&folder, "s", store));
     Ok(())
 }
 
+// Bytes, and behind them so many of the value 7.
+fn with_sevens(alloc: Global, front: &[u8], count: usize) -> Result<Vec<u8>, NoMemory> {
+    let mut bytes = Vec::new(alloc);
+    bytes.extend_from_slice(front)?;
+    let sevens = vec![in alloc; 7u8; count]?;
+    bytes.extend_from_slice(&sevens)?;
+    Ok(bytes)
+}
+
 #[test]
 fn the_widest_texture_is_tiled_by_strips(rt: HostRuntime) -> Result<(), TestFail> {
-    let mut texture = Vec::new(rt.alloc());
-    texture.extend_from_slice(b"P6 16384 2 255\n")?;
-    for _sample in 0..98304 {
-        texture.push(7)?;
-    }
+    let texture = with_sevens(rt.alloc(), b"P6 16384 2 255\n", 98304)?;
     let mut folder = folder_of(rt.alloc(), &[], &texture)?;
-    assert_eq!(rt; tiled(rt.alloc(), &mut folder), Ok(()));
-    let mut store = Vec::new(rt.alloc());
-    store.extend_from_slice(b"VTS1\0\0\x40\0\0\0\0\x02\0\0\0\x02")?;
-    for _sample in 0..196596 {
-        store.push(7)?;
-    }
+    is_tiled(&rt, rt.alloc(), &mut folder, Ok(()));
+    let header = b"VTS1\0\0\x40\0\0\0\0\x02\0\0\0\x02";
+    let store = with_sevens(rt.alloc(), header, 196596)?;
     assert!(rt; holds(&folder, "s", &store));
     Ok(())
 }
@@ -139,8 +149,8 @@ fn a_strip_whose_read_fails_leaves_the_rows_before_it(rt: HostRuntime) -> Result
         read: 2,
     }];
     let mut folder = folder_of(rt.alloc(), &calls, &texture)?;
-    assert_eq!(rt; tiled(rt.alloc(), &mut folder), Err(StoreError::Failed));
+    is_tiled(&rt, rt.alloc(), &mut folder, Err(StoreError::Failed));
     assert!(rt; holds(&folder, "s", &store));
-    assert!(rt; folder.asked("a", 3).is_none());
+    is_asked(&rt, &folder, "a", 3, None);
     Ok(())
 }
