@@ -1,5 +1,8 @@
-use Rattle.std.proofs.Common.{◌≡◌, ℕ, subst, sym, ◌∙◌, arith}
-use Rattle.vt_draw.specs.Lookups.{IsFinest}
+use Rattle.std.proofs.Common.{◌≡◌, ℕ, ◌<◌, subst, sym, ap, ◌∙◌, arith}
+use Rattle.vt_pages.specs.Shape.{Shape}
+use Rattle.vt_pages.specs.Pages.{levels_of, pages_of, IsWithinLimits}
+use Rattle.vt_camera.specs.declared.surfaces.Surface.{Surface}
+use Rattle.vt_draw.specs.Lookups.{IsFinest, covering_page}
 use Rattle.vt_definitions.specs.Depths.{texel_bytes}
 use Rattle.vt_draw.specs.Shots.{wanted_page, IsDrawn}
 use Rattle.vt_draw.proofs.Counts.{run-none, run_fits, pixels-none, pixels-next}
@@ -73,3 +76,63 @@ loop-x-preserved g c =
       short = omega (arith, c.count_pixel-run.ensures.short);
       counted = λ p. omega (arith, c.count_pixel-run.ensures.counted p, c.loop-x.invariant.counted p, pixels-next s row x page p wants);
     }
+
+pub page_at_place-wanted-requires-clause-level : goal.page_at_place-wanted-requires-clause-level
+page_at_place-wanted-requires-clause-level g c = subst (λ (s : Surface). c.level-level.result < s.levels) c.requires.surface c.level-level.ensures.within
+
+pub page_at_place-wanted-requires-clause-column : goal.page_at_place-wanted-requires-clause-column
+page_at_place-wanted-requires-clause-column g c = subst (λ (s : Surface). c.texel-column.result.0 < s.width) c.requires.surface c.texel-column.ensures.column_within
+
+pub page_at_place-wanted-requires-clause-line : goal.page_at_place-wanted-requires-clause-line
+page_at_place-wanted-requires-clause-line g c = subst (λ (s : Surface). c.texel-column.result.1 < s.height) c.requires.surface c.texel-column.ensures.row_within
+
+pub page_at_place-page-requires-clause-level : goal.page_at_place-page-requires-clause-level
+page_at_place-page-requires-clause-level g c = subst (λ (s : Surface). c.level-level.result < s.levels) c.requires.surface c.level-level.ensures.within
+
+pub page_at_place-page-requires-clause-column : goal.page_at_place-page-requires-clause-column
+page_at_place-page-requires-clause-column g c = subst (λ (s : Surface). c.texel-column-in-loop-x.result.0 < s.width) c.requires.surface c.texel-column-in-loop-x.ensures.column_within
+
+pub page_at_place-page-requires-clause-line : goal.page_at_place-page-requires-clause-line
+page_at_place-page-requires-clause-line g c = subst (λ (s : Surface). c.texel-column-in-loop-x.result.1 < s.height) c.requires.surface c.texel-column-in-loop-x.ensures.row_within
+
+pub found_for-found-requires-clause-before : goal.found_for-found-requires-clause-before
+found_for-found-requires-clause-before g c = c.loop-x.invariant.finest
+
+pub found_for-found-requires-clause-inside : goal.found_for-found-requires-clause-inside
+found_for-found-requires-clause-inside g c =
+    subst (λ (s : Shape). c.page_at_place-page.result < pages_of s) (sym c.loop-x.invariant.shape) c.page_at_place-page.ensures.inside
+
+pub word_at_place-word-requires-clause-limits : goal.word_at_place-word-requires-clause-limits
+word_at_place-word-requires-clause-limits g c = subst IsWithinLimits (sym (c.found_for-found.ensures.shape ∙ c.loop-x.invariant.shape)) c.requires.limits
+
+pub word_at_place-word-requires-clause-level : goal.word_at_place-word-requires-clause-level
+word_at_place-word-requires-clause-level g c =
+    subst (λ (s : Shape). c.level-level.result < levels_of s) (sym (c.found_for-found.ensures.shape ∙ c.loop-x.invariant.shape))
+    (subst (λ (s : Surface). c.level-level.result < s.levels) c.requires.surface c.level-level.ensures.within)
+
+pub word_at_place-word-requires-clause-column : goal.word_at_place-word-requires-clause-column
+word_at_place-word-requires-clause-column g c =
+    subst (λ (s : Shape). c.texel-column-in-loop-x.result.0 < s.width) (sym (c.found_for-found.ensures.shape ∙ c.loop-x.invariant.shape))
+    (subst (λ (s : Surface). c.texel-column-in-loop-x.result.0 < s.width) c.requires.surface c.texel-column-in-loop-x.ensures.column_within)
+
+pub word_at_place-word-requires-clause-line : goal.word_at_place-word-requires-clause-line
+word_at_place-word-requires-clause-line g c =
+    subst (λ (s : Shape). c.texel-column-in-loop-x.result.1 < s.height) (sym (c.found_for-found.ensures.shape ∙ c.loop-x.invariant.shape))
+    (subst (λ (s : Surface). c.texel-column-in-loop-x.result.1 < s.height) c.requires.surface c.texel-column-in-loop-x.ensures.row_within)
+
+pub word_at_place-word-requires-clause-finest : goal.word_at_place-word-requires-clause-finest
+word_at_place-word-requires-clause-finest g c =
+    let middle = c.found_for-found.new.lookup in
+    subst (λ (p : ℕ). IsFinest (g.K.Lookup.shape middle) (g.K.Lookup.version middle) (g.K.Lookup.says middle) p c.found_for-found.result)
+    (c.page_at_place-page.ensures.page
+    ∙ ap (λ (s : Shape). covering_page s c.level-level.result c.texel-column-in-loop-x.result.0 c.texel-column-in-loop-x.result.1)
+    (sym (c.found_for-found.ensures.shape ∙ c.loop-x.invariant.shape))) c.found_for-found.ensures.finest
+
+pub returns-clause-shape : goal.returns-clause-shape
+returns-clause-shape g c = c.loop-x.invariant.shape ∙ sym c.requires.shape
+
+pub returns-clause-version : goal.returns-clause-version
+returns-clause-version g c = c.loop-x.invariant.version
+
+pub returns-clause-said : goal.returns-clause-said
+returns-clause-said g c = c.loop-x.invariant.said
