@@ -26,3 +26,24 @@ returns g c =
     }) c.camera-camera.ensures.value))
     ∙ ap (λ (n : ℕ). held ++ first_rows n (chain_of base) (surface_of base c.args.chain.now.tile) path (camera_at path c.args.picture) path.height)
     (sym c.requires.own)
+
+pub camera-camera-requires : goal.camera-camera-requires
+camera-camera-requires g c = c.requires.picture
+
+pub draw_rows-requires-clause-depth : goal.draw_rows-requires-clause-depth
+draw_rows-requires-clause-depth g c = c.requires.depth
+
+pub draw_rows-requires-clause-own : goal.draw_rows-requires-clause-own
+draw_rows-requires-clause-own g c = c.requires.own
+
+pub draw_rows-requires-clause-surface : goal.draw_rows-requires-clause-surface
+draw_rows-requires-clause-surface g c = c.surface_of-surface.ensures.value
+
+pub draw_rows-requires-clause-limits : goal.draw_rows-requires-clause-limits
+draw_rows-requires-clause-limits g c = c.surface_of-surface.ensures.limits
+
+pub draw_rows-requires-clause-camera : goal.draw_rows-requires-clause-camera
+draw_rows-requires-clause-camera g c = c.camera-camera.ensures.limits
+
+pub draw_rows-requires-clause-levels : goal.draw_rows-requires-clause-levels
+draw_rows-requires-clause-levels g c = c.surface_of-surface.ensures.levels

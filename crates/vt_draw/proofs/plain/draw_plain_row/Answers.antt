@@ -1,4 +1,5 @@
-use Rattle.std.proofs.Common.{◌≡◌, ℕ, ◌+◌, ◌*◌, take, refl, ap, ◌∙◌, subst, arith}
+use Rattle.std.proofs.Common.{◌≡◌, ℕ, ◌+◌, ◌*◌, ◌<◌, take, refl, ap, ◌∙◌, subst, arith}
+use Rattle.vt_camera.specs.declared.surfaces.Surface.{Surface}
 use Rattle.vt_mip.specs.Chains.{chain_width, chain_height, IsTexelRaster}
 use Rattle.vt_draw.specs.Plain.{chain_of}
 use Rattle.vt_draw.proofs.Drawn.{row_samples-none, pixel_drawn}
@@ -24,3 +25,12 @@ loop-x-preserved g c =
     (rw (← c.level-level.ensures.value, c.requires.surface) at place.ensures.column_within)
     (rw (← c.level-level.ensures.value, c.requires.surface) at place.ensures.row_within) c.size-width.ensures.width
     refl c.loop-x.invariant c.put_texel.ensures
+
+pub samples-texels-requires : goal.samples-texels-requires
+samples-texels-requires g c = subst (λ (s : Surface). c.level-level.result < s.levels) c.requires.surface c.level-level.ensures.within
+
+pub size-width-requires : goal.size-width-requires
+size-width-requires g c = subst (λ (s : Surface). c.level-level.result < s.levels) c.requires.surface c.level-level.ensures.within
+
+pub put_texel-requires-clause-depth : goal.put_texel-requires-clause-depth
+put_texel-requires-clause-depth g c = c.requires.depth
