@@ -62,7 +62,7 @@ fn expect(rt: &impl Abort, batch: &Batch, entries: &[(u32, u32, Option<u32>)]) {
 
 // A pass: the pages of its wanted list, how many unpinned pages these need, the entries of its plan, and which of them
 // are lost.
-#[derive(Drop)]
+#[derive(Clone, Copy)]
 struct Pass<'a> {
     pages: &'a [u32],
     needed: u32,
@@ -114,7 +114,7 @@ fn run(
 
 #[test]
 fn a_plan_asks_for_coarse_pages_before_fine_ones(rt: HostRuntime) -> Result<(), Fail> {
-    let passes = [
+    const PASSES: [Pass<'static>; 3] = [
         Pass {
             pages: &[0, 12],
             needed: 4,
@@ -134,12 +134,12 @@ fn a_plan_asks_for_coarse_pages_before_fine_ones(rt: HostRuntime) -> Result<(), 
             lost: &[],
         },
     ];
-    run(&rt, rt.alloc(), 8, 5, 64, &passes)
+    run(&rt, rt.alloc(), 8, 5, 64, &PASSES)
 }
 
 #[test]
 fn a_batch_of_one_goes_down_one_line_after_the_other(rt: HostRuntime) -> Result<(), Fail> {
-    let passes = [
+    const PASSES: [Pass<'static>; 5] = [
         Pass {
             pages: &[0, 12],
             needed: 4,
@@ -171,12 +171,12 @@ fn a_batch_of_one_goes_down_one_line_after_the_other(rt: HostRuntime) -> Result<
             lost: &[],
         },
     ];
-    run(&rt, rt.alloc(), 8, 5, 1, &passes)
+    run(&rt, rt.alloc(), 8, 5, 1, &PASSES)
 }
 
 #[test]
 fn a_page_above_a_wanted_one_keeps_its_frame(rt: HostRuntime) -> Result<(), Fail> {
-    let passes = [
+    const PASSES: [Pass<'static>; 3] = [
         Pass {
             pages: &[0],
             needed: 2,
@@ -196,12 +196,12 @@ fn a_page_above_a_wanted_one_keeps_its_frame(rt: HostRuntime) -> Result<(), Fail
             lost: &[false],
         },
     ];
-    run(&rt, rt.alloc(), 8, 2, 64, &passes)
+    run(&rt, rt.alloc(), 8, 2, 64, &PASSES)
 }
 
 #[test]
 fn a_lost_tile_leaves_its_victim(rt: HostRuntime) -> Result<(), Fail> {
-    let passes = [
+    const PASSES: [Pass<'static>; 4] = [
         Pass {
             pages: &[0, 2],
             needed: 2,
@@ -227,12 +227,12 @@ fn a_lost_tile_leaves_its_victim(rt: HostRuntime) -> Result<(), Fail> {
             lost: &[false],
         },
     ];
-    run(&rt, rt.alloc(), 4, 3, 64, &passes)
+    run(&rt, rt.alloc(), 4, 3, 64, &PASSES)
 }
 
 #[test]
 fn one_picture_settles_page_by_page(rt: HostRuntime) -> Result<(), Fail> {
-    let passes = [
+    const PASSES: [Pass<'static>; 3] = [
         Pass {
             pages: &[0, 2],
             needed: 2,
@@ -252,5 +252,5 @@ fn one_picture_settles_page_by_page(rt: HostRuntime) -> Result<(), Fail> {
             lost: &[],
         },
     ];
-    run(&rt, rt.alloc(), 4, 3, 1, &passes)
+    run(&rt, rt.alloc(), 4, 3, 1, &PASSES)
 }

@@ -3,6 +3,7 @@
 ghost use Rattle.vt_queue.specs.Queues.{IsOf};
 
 use std::alloc::Global;
+use std::process::Abort;
 use std::sync::Wait;
 use std::test::Fail as TestFail;
 use std::thread::Threads;
@@ -153,6 +154,11 @@ fn tile_place(page: u32, failed: bool) -> Option<Place> {
     })
 }
 
+// Looks at one of the places that the store was asked for, or that it was not asked for so many.
+fn is_asked(rt: &impl Abort, folder: &MemoryFolder, i: usize, want: Option<Place>) {
+    assert_eq!(rt; folder.asked("a", i), want);
+}
+
 #[test]
 fn requests_are_answered_in_the_order_of_the_queue(rt: HostRuntime) -> Result<(), TestFail> {
     let mut folder = folder_of(rt.alloc(), &[], &STORE)?;
@@ -160,9 +166,9 @@ fn requests_are_answered_in_the_order_of_the_queue(rt: HostRuntime) -> Result<()
     assert!(rt; is_read(&found[0], 0, &STORE[28..40]));
     assert!(rt; is_read(&found[1], 1, &STORE[64..76]));
     assert!(rt; found[2].is_none());
-    assert_eq!(rt; folder.asked("a", 1), tile_place(1, false));
-    assert_eq!(rt; folder.asked("a", 2), tile_place(4, false));
-    assert!(rt; folder.asked("a", 3).is_none());
+    is_asked(&rt, &folder, 1, tile_place(1, false));
+    is_asked(&rt, &folder, 2, tile_place(4, false));
+    is_asked(&rt, &folder, 3, None);
     Ok(())
 }
 
@@ -177,21 +183,21 @@ fn a_loader_goes_on_after_a_lost_read(rt: HostRuntime) -> Result<(), TestFail> {
     assert!(rt; is_lost(&found[0], 0, 12));
     assert!(rt; is_read(&found[1], 1, &STORE[16..28]));
     assert!(rt; found[2].is_none());
-    assert_eq!(rt; folder.asked("a", 1), tile_place(3, true));
-    assert_eq!(rt; folder.asked("a", 2), tile_place(0, false));
+    is_asked(&rt, &folder, 1, tile_place(3, true));
+    is_asked(&rt, &folder, 2, tile_place(0, false));
     Ok(())
 }
 
 #[test]
 fn a_request_of_no_page_or_with_another_buffer_is_dropped(rt: HostRuntime) -> Result<(), TestFail> {
-    let cases: [(u32, &[u8]); 4] = [(5, &[0; 12]), (u32::MAX, &[0; 12]), (1, &[0; 11]), (1, &[])];
-    for case in cases {
+    const CASES: [(u32, &[u8]); 4] = [(5, &[0; 12]), (u32::MAX, &[0; 12]), (1, &[0; 11]), (1, &[])];
+    for case in &CASES {
         let mut folder = folder_of(rt.alloc(), &[], &STORE)?;
-        let found = answered(&rt, rt.alloc(), &mut folder, case, (2, &[0; 12]))?;
+        let found = answered(&rt, rt.alloc(), &mut folder, *case, (2, &[0; 12]))?;
         assert!(rt; is_read(&found[0], 1, &STORE[40..52]));
         assert!(rt; found[1].is_none());
-        assert_eq!(rt; folder.asked("a", 1), tile_place(2, false));
-        assert!(rt; folder.asked("a", 2).is_none());
+        is_asked(&rt, &folder, 1, tile_place(2, false));
+        is_asked(&rt, &folder, 2, None);
     }
     Ok(())
 }

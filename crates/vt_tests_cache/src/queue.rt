@@ -5,6 +5,7 @@ ghost use Rattle.std.specs.Thread.{IsSync};
 ghost use Rattle.vt_queue.specs.Queues.{IsOf};
 
 use std::alloc::Global;
+use std::process::Abort;
 use std::sync::Wait;
 use std::test::*;
 use std::thread::{Threads, join_mut};
@@ -93,13 +94,18 @@ fn in_order<Rt: Threads + Wait + Sync, I: Ticketed + Drop>(
     Ok((puts, takes))
 }
 
+// Looks at three tickets.
+fn are_tickets(rt: &impl Abort, tickets: [Option<u32>; 3], want: [Option<u32>; 3]) {
+    assert_eq!(rt; tickets, want);
+}
+
 #[test]
 fn the_first_request_comes_out_first_and_a_full_queue_hands_back(
     rt: HostRuntime,
 ) -> Result<(), Fail> {
     let (puts, takes) = in_order::<HostRuntime, Request>(&rt, rt.alloc())?;
-    assert_eq!(rt; puts, [None, None, Some(2)]);
-    assert_eq!(rt; takes, [Some(0), Some(1), None]);
+    are_tickets(&rt, puts, [None, None, Some(2)]);
+    are_tickets(&rt, takes, [Some(0), Some(1), None]);
     Ok(())
 }
 
@@ -108,8 +114,8 @@ fn the_first_result_comes_out_first_and_a_full_queue_hands_back(
     rt: HostRuntime,
 ) -> Result<(), Fail> {
     let (puts, takes) = in_order::<HostRuntime, Loaded>(&rt, rt.alloc())?;
-    assert_eq!(rt; puts, [None, None, Some(2)]);
-    assert_eq!(rt; takes, [Some(0), Some(1), None]);
+    are_tickets(&rt, puts, [None, None, Some(2)]);
+    are_tickets(&rt, takes, [Some(0), Some(1), None]);
     Ok(())
 }
 
@@ -161,6 +167,6 @@ fn from_two<Rt: Threads + Wait + Sync>(
 fn what_two_threads_put_is_taken_once_each(rt: HostRuntime) -> Result<(), Fail> {
     let mut takes = from_two(&rt, rt.alloc())?;
     takes.sort_unstable();
-    assert_eq!(rt; takes, [None, Some(3), Some(4)]);
+    are_tickets(&rt, takes, [None, Some(3), Some(4)]);
     Ok(())
 }

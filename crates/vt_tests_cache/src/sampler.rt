@@ -108,31 +108,46 @@ const PATH: &[u8] = b"size 2 1\nfocal 1\nat 0 0 256 16384 0\n";
 // One picture of eight rows, askew.
 const TALL: &[u8] = b"size 3 8\nfocal 2\nat 300 200 700 11585 11585\n";
 
-#[test]
-fn an_unmapped_page_is_served_by_its_ancestor(rt: HostRuntime) -> Result<(), Fail> {
-    for (from, samples) in [
-        (0, [0x0d, 0x0d, 0x0d, 0x01, 0x01, 0x01]),
-        (4, [0x0b, 0x0b, 0x0b, 0x03, 0x03, 0x03]),
-    ] {
-        let mut picture = [0; 6];
-        let counts = draw(&rt, rt.alloc(), PATH, from, 1, 1, &mut picture)?;
-        assert_eq!(rt; picture, samples, "mapped from page {from}");
-        assert_eq!(rt; counts, [1, 0, 1, 0, 0], "mapped from page {from}");
-    }
+// Looks at a picture that one sampler draws from one on, and at its counts.
+fn is_drawn(
+    rt: &impl Abort,
+    alloc: Global,
+    from: u32,
+    depth: u32,
+    picture: &mut [u8],
+    want: &[u8],
+) -> Result<(), Fail>
+    requires from { from < 5 }
+    requires depth { IsDepth depth }
+{
+    let counts = draw(rt, alloc, PATH, from, 1, depth, picture)?;
+    assert_eq!(rt; &*picture, want, "mapped from page {from}");
+    assert_eq!(rt; counts, [1, 0, 1, 0, 0], "mapped from page {from}");
     Ok(())
 }
 
 #[test]
+fn an_unmapped_page_is_served_by_its_ancestor(rt: HostRuntime) -> Result<(), Fail> {
+    let mut picture = [0; 6];
+    let fine = [0x0d, 0x0d, 0x0d, 0x01, 0x01, 0x01];
+    is_drawn(&rt, rt.alloc(), 0, 1, &mut picture, &fine)?;
+    let mut picture = [0; 6];
+    let coarse = [0x0b, 0x0b, 0x0b, 0x03, 0x03, 0x03];
+    is_drawn(&rt, rt.alloc(), 4, 1, &mut picture, &coarse)
+}
+
+#[test]
 fn wide_samples_are_drawn_as_they_are(rt: HostRuntime) -> Result<(), Fail> {
-    for (from, first, second) in [(0, 0x0d, 0x01), (4, 0x0b, 0x03)] {
-        let mut picture = [0; 12];
-        let counts = draw(&rt, rt.alloc(), PATH, from, 1, 2, &mut picture)?;
-        let mut wanted = [first; 12];
-        wanted[6..].fill(second);
-        assert_eq!(rt; picture, wanted, "mapped from page {from}");
-        assert_eq!(rt; counts, [1, 0, 1, 0, 0], "mapped from page {from}");
-    }
-    Ok(())
+    let mut picture = [0; 12];
+    let fine = [
+        0x0d, 0x0d, 0x0d, 0x0d, 0x0d, 0x0d, 0x01, 0x01, 0x01, 0x01, 0x01, 0x01,
+    ];
+    is_drawn(&rt, rt.alloc(), 0, 2, &mut picture, &fine)?;
+    let mut picture = [0; 12];
+    let coarse = [
+        0x0b, 0x0b, 0x0b, 0x0b, 0x0b, 0x0b, 0x03, 0x03, 0x03, 0x03, 0x03, 0x03,
+    ];
+    is_drawn(&rt, rt.alloc(), 4, 2, &mut picture, &coarse)
 }
 
 #[test]
