@@ -46,16 +46,18 @@ loop-loader-init g c = let r = c.requires in record {
 pub join-requires : goal.join-requires
 join-requires g c =
     let crew = (popped_all (λ m. AreOf c.args.queues.now m.asks m.answers) c.loop-loader.loaders.elements c.pop.new.self.elements c.in-Some.loader
-    c.in-Some.ensures.some c.loop-loader.invariant.crew).1 in
-    (c.loop-loader.invariant.passes.requests,
-    subst (λ p. IsOf c.args.queues.now.requests p) (sym (ap (λ p. p.1) c.into_parts-store.ensures)) crew.requests)
+    c.in-Some.ensures.some c.loop-loader.invariant.crew).1 in (
+      c.loop-loader.invariant.passes.requests,
+      subst (λ p. IsOf c.args.queues.now.requests p) (sym (ap (λ p. p.1) c.into_parts-store.ensures)) crew.requests,
+    )
 
 pub join-requires-in-Some : goal.join-requires-in-Some
 join-requires-in-Some g c =
     let crew = (popped_all (λ m. AreOf c.args.queues.now m.asks m.answers) c.loop-loader.loaders.elements c.pop.new.self.elements c.in-Some.loader
-    c.in-Some.ensures.some c.loop-loader.invariant.crew).1 in
-    (c.loop-loader.invariant.passes.results,
-    subst (λ p. IsOf c.args.queues.now.results p) (sym (ap (λ p. p.2) c.into_parts-store.ensures)) crew.results)
+    c.in-Some.ensures.some c.loop-loader.invariant.crew).1 in (
+      c.loop-loader.invariant.passes.results,
+      subst (λ p. IsOf c.args.queues.now.results p) (sym (ap (λ p. p.2) c.into_parts-store.ensures)) crew.results,
+    )
 
 pub push-requires : goal.push-requires
 push-requires g c =
