@@ -11,7 +11,7 @@ use vt_print::Place;
 use vt_store::StoreError;
 
 /// What is wrong with an input: the first flaw of its bytes. Lines count from 1, bytes from 0.
-#[derive(Clone, Copy, Debug, PartialEq, Eq)]
+#[derive(Clone, Copy)]
 pub enum Flaw {
     /// A line of a path or a journal has none of its forms.
     BadLine(u32),

@@ -12,7 +12,7 @@ use vt_print::{Place, tell_bad_input, tell_place};
 use vt_words::WordsError;
 
 /// Why a command was refused.
-#[derive(Clone, Copy, Debug)]
+#[derive(Clone, Copy)]
 pub enum Refusal<'a> {
     /// Memory was refused.
     NoMemory,
