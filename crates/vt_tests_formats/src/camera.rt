@@ -2,6 +2,7 @@
 
 mod parse;
 
+ghost use Rattle.std.specs.Prelude.{◌≤◌};
 ghost use Rattle.vt_camera.specs.Rows.{IsSurface};
 
 use crate::fixtures::no_row_is_wrong;
@@ -48,6 +49,21 @@ type Seen = (
     &'static [(u32, u32)],
 );
 
+// Whether a row of this width has these first texels, as they are in the texture and in the row's level.
+fn has_texels(row: &Row, width: u32, texels: &[(u32, u32)], in_level: &[(u32, u32)]) -> bool
+    requires { width ≤ row.now.width }
+{
+    if texels.len() != in_level.len() || texels.len() > width as usize {
+        return false;
+    }
+    for x in 0..texels.len() {
+        if row.texel(x as u32) != texels[x] || row.texel_in_level(x as u32) != in_level[x] {
+            return false;
+        }
+    }
+    true
+}
+
 // Whether a row of the first picture of a path has this level and these first texels.
 fn is_row(path: &Path, surface: &Surface, seen: &Seen) -> bool
     requires { IsSurface surface.now }
@@ -57,15 +73,7 @@ fn is_row(path: &Path, surface: &Surface, seen: &Seen) -> bool
         return false;
     }
     let row = Row::of(path, &path.camera(0), y, surface);
-    if row.level() != level || texels.len() != in_level.len() || texels.len() > width as usize {
-        return false;
-    }
-    for x in 0..texels.len() {
-        if row.texel(x as u32) != texels[x] || row.texel_in_level(x as u32) != in_level[x] {
-            return false;
-        }
-    }
-    true
+    row.level() == level && has_texels(&row, width, texels, in_level)
 }
 
 // The first of these rows that is another over this surface.

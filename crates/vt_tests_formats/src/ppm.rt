@@ -4,13 +4,28 @@ mod foreign;
 mod strips;
 
 use crate::fixtures::{folder_of, no_row_is_wrong};
-use std::alloc::Global;
+use std::alloc::{AllocError, Global};
 use vt_outside::{Fail, Folder, MemoryFolder, NoMemory};
 use vt_ppm::{Header, Image, PpmError, encode, encode_wide, read_header, read_image};
 
 // A folder in which `t` holds these bytes, and of which these calls fail.
 fn holding(alloc: Global, bytes: &[u8], calls: &[Fail]) -> Result<MemoryFolder, NoMemory> {
     folder_of(alloc, "t", bytes, calls)
+}
+
+// A front, one byte so many times, and what follows it.
+fn around(
+    alloc: Global,
+    front: &[u8],
+    byte: u8,
+    count: usize,
+    rest: &[u8],
+) -> Result<Vec<u8>, AllocError> {
+    let mut bytes = Vec::from_slice(alloc, front)?;
+    let many = vec![in alloc; byte; count]?;
+    bytes.extend_from_slice(&many)?;
+    bytes.extend_from_slice(rest)?;
+    Ok(bytes)
 }
 
 // The image that `t` holds.

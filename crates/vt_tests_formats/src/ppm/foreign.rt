@@ -1,8 +1,8 @@
 //! Files of other programs, and bytes that are no texture, each with what its reader answers: worked out by hand from the bytes.
 
-use super::{header_refusal, image_of, refusal};
+use super::{around, header_refusal, image_of, refusal};
 use crate::fixtures::no_row_is_wrong;
-use std::alloc::{AllocError, Global};
+use std::alloc::Global;
 use vt_ppm::{PpmError, image_flaw};
 
 // Whether the bytes are read as these samples.
@@ -110,15 +110,6 @@ fn each_foreign_texture_is_read_or_refused_with_its_first_flaw(rt: HostRuntime) 
     no_row_is_wrong(&rt, misrefused(rt.alloc(), &REFUSED));
 }
 
-// `P6`, so many blanks, and what follows them.
-fn behind_blanks(alloc: Global, count: usize, rest: &[u8]) -> Result<Vec<u8>, AllocError> {
-    let mut bytes = Vec::from_slice(alloc, b"P6")?;
-    let blanks = vec![in alloc; b' '; count]?;
-    bytes.extend_from_slice(&blanks)?;
-    bytes.extend_from_slice(rest)?;
-    Ok(bytes)
-}
-
 // Whether bytes are refused so as an image and as a header.
 fn are_refused(alloc: Global, bytes: &[u8], want: Option<PpmError>) -> bool {
     refusal(alloc, bytes, &[]) == want
@@ -133,7 +124,7 @@ fn misread_behind_blanks(
 ) -> Option<usize> {
     for i in 0..rows.len() {
         let (count, rest, want) = rows[i];
-        match behind_blanks(alloc, count, rest) {
+        match around(alloc, b"P6", b' ', count, rest) {
             Ok(bytes) => {
                 if !are_refused(alloc, &bytes, want) {
                     return Some(i);

@@ -1,9 +1,9 @@
 //! Textures that are read by rows.
 ghost use Rattle.std.specs.Prelude.{◌≡◌, true, IfOk, OnOk};
 
-use super::{are_asked, header_of, header_refusal, holding, refusal};
+use super::{are_asked, around, header_of, header_refusal, holding, refusal};
 use crate::fixtures::no_row_is_wrong;
-use std::alloc::{AllocError, Global};
+use std::alloc::Global;
 use vt_outside::{Fail, Folder, MemoryFile, MemoryFolder};
 use vt_ppm::{PpmError, StripReader};
 
@@ -47,6 +47,29 @@ fn checked_in(alloc: Global, folder: &mut MemoryFolder) -> Result<StripReader<Me
     }
 }
 
+// Reads so many rows from one on, which there are, into as much room as they need.
+fn read_into(
+    reader: &mut StripReader<MemoryFile>,
+    y: u32,
+    count: u32,
+    rows: &mut [u8],
+) -> Result<(), PpmError>
+    requires { reader.old.checked ≡ true }
+    ensures { reader.new.checked ≡ true }
+{
+    let height = reader.header().height;
+    if y > height || count > height - y || rows.len() != count as usize * reader.row_length() {
+        return Err(PpmError::Failed);
+    }
+    reader.reserve(1)?;
+    if count == 1 {
+        reader.row(y, rows)?;
+    } else {
+        reader.rows(y, count, rows)?;
+    }
+    Ok(())
+}
+
 // So many rows from one on.
 fn rows_in(
     alloc: Global,
@@ -57,19 +80,14 @@ fn rows_in(
     requires { reader.old.checked ≡ true }
     ensures { reader.new.checked ≡ true }
 {
-    let height = reader.header().height;
-    if y > height || count > height - y {
-        return Err(PpmError::Failed);
-    }
     let length = count as usize * reader.row_length();
-    let mut rows = vec![in alloc; 0u8; length].map_err(|_| PpmError::NoMemory)?;
-    reader.reserve(1)?;
-    if count == 1 {
-        reader.row(y, &mut rows)?;
-    } else {
-        reader.rows(y, count, &mut rows)?;
+    let Ok(mut rows) = vec![in alloc; 0u8; length] else {
+        return Err(PpmError::NoMemory);
+    };
+    match read_into(reader, y, count, &mut rows) {
+        Ok(()) => Ok(rows),
+        Err(refusal) => Err(refusal),
     }
-    Ok(rows)
 }
 
 // Rows of a texture, as many as the second number tells from the first on, or why they cannot be read.
@@ -321,15 +339,6 @@ fn the_first_sample_above_the_maximum_is_named(rt: HostRuntime) {
     no_row_is_wrong(&rt, mischecked(rt.alloc(), &TEXTURES));
 }
 
-// The bytes of a texture of 16384 columns and 23 rows, of which the last sample is above the maximum.
-fn wide_texture(alloc: Global) -> Result<Vec<u8>, AllocError> {
-    let mut bytes = Vec::from_slice(alloc, b"P6 16384 23 1\n")?;
-    let raster = vec![in alloc; 1u8; 1130495]?;
-    bytes.extend_from_slice(&raster)?;
-    bytes.push(2)?;
-    Ok(bytes)
-}
-
 // Whether bytes that are looked over are refused so, and were asked for these starts and lengths and for no more.
 fn is_asked_for(
     alloc: Global,
@@ -347,7 +356,8 @@ fn is_asked_for(
 
 #[test]
 fn a_raster_is_looked_over_in_pieces(rt: HostRuntime) {
-    let bytes = wide_texture(rt.alloc()).expect(&rt, "memory");
+    // A texture of 16384 columns and 23 rows, of which the last sample is above the maximum.
+    let bytes = around(rt.alloc(), b"P6 16384 23 1\n", 1, 1130495, b"\x02").expect(&rt, "memory");
     let refusal = Some(PpmError::SampleOver { at: 1130509 });
     let places = [(0, 65536), (14, 1081344), (1081358, 49152)];
     assert!(rt; is_asked_for(rt.alloc(), &bytes, refusal, &places));
@@ -378,6 +388,25 @@ fn a_raster_is_read_only_where_a_sample_may_be_over(rt: HostRuntime) {
 // A texture of two rows.
 const TWO_ROWS: &[u8] = b"P6 1 2 100\n\x00\x32\x64\x64\x32\x00";
 
+// Whether a failing call is told where the texture is opened, and where it is looked over.
+fn is_fault_told(alloc: Global) -> bool {
+    const FAILED: Option<PpmError> = Some(PpmError::Failed);
+    const CALLS: [Fail; 3] = [
+        Fail::Length { opening: 0 },
+        Fail::Read {
+            opening: 0,
+            read: 0,
+        },
+        Fail::Read {
+            opening: 0,
+            read: 1,
+        },
+    ];
+    open_refusal(alloc, TWO_ROWS, &CALLS[..1]) == FAILED
+        && open_refusal(alloc, TWO_ROWS, &CALLS[1..2]) == FAILED
+        && check_refusal(alloc, TWO_ROWS, &CALLS[2..]) == FAILED
+}
+
 // Whether a first row whose read fails is told, and the second is read after it.
 fn are_read_after_a_fault(alloc: Global) -> bool {
     const CALL: Fail = Fail::Read {
@@ -397,20 +426,5 @@ fn are_read_after_a_fault(alloc: Global) -> bool {
 
 #[test]
 fn each_failing_read_is_told_and_a_row_is_read_after_it(rt: HostRuntime) {
-    const FAILED: Option<PpmError> = Some(PpmError::Failed);
-    const LENGTH: Fail = Fail::Length { opening: 0 };
-    const READS: [Fail; 2] = [
-        Fail::Read {
-            opening: 0,
-            read: 0,
-        },
-        Fail::Read {
-            opening: 0,
-            read: 1,
-        },
-    ];
-    assert!(rt; open_refusal(rt.alloc(), TWO_ROWS, &[LENGTH]) == FAILED);
-    assert!(rt; open_refusal(rt.alloc(), TWO_ROWS, &[READS[0]]) == FAILED);
-    assert!(rt; check_refusal(rt.alloc(), TWO_ROWS, &[READS[1]]) == FAILED);
-    assert!(rt; are_read_after_a_fault(rt.alloc()));
+    assert!(rt; is_fault_told(rt.alloc()) && are_read_after_a_fault(rt.alloc()));
 }
