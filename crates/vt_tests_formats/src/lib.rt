@@ -3,11 +3,11 @@
 #![tactic(auto)]
 
 #[cfg(test)]
-mod asserts;
-#[cfg(test)]
 mod camera;
 #[cfg(test)]
 mod definitions;
+#[cfg(test)]
+mod fixtures;
 #[cfg(test)]
 mod journal;
 #[cfg(test)]

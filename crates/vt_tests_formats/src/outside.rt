@@ -1,14 +1,13 @@
 //! Files, folders and sinks, in memory and of the system.
 
+use crate::fixtures::{folder_of, sink_failing_at};
 use std::alloc::Global;
-use std::test::Fail as TestFail;
-use std::{env, fs, process};
+use std::{env, fs, io, process};
 use vt_outside::*;
 
-fn folder_of(alloc: Global, calls: &[Fail], bytes: &[u8]) -> Result<MemoryFolder, NoMemory> {
-    let mut folder = MemoryFolder::new(alloc, Fails::from_slice(alloc, calls)?);
-    folder.add("a", bytes)?;
-    Ok(folder)
+// A folder in which `a` holds these bytes, and of which these calls fail.
+fn holding(alloc: Global, calls: &[Fail], bytes: &[u8]) -> Result<MemoryFolder, NoMemory> {
+    folder_of(alloc, "a", bytes, calls)
 }
 
 fn opens(folder: &mut impl Folder, name: &str) -> bool {
@@ -42,21 +41,44 @@ fn puts(sink: &mut impl Sink, bytes: &[u8]) -> bool {
     sink.put(bytes).is_ok()
 }
 
-#[test]
-fn a_list_gives_back_what_it_was_given(rt: HostRuntime) -> Result<(), TestFail> {
-    let mut list = Bytes::from_slice(rt.alloc(), b"ab")?;
+// A list of three bytes.
+fn list_of_three(alloc: Global) -> Result<Bytes, NoMemory> {
+    let mut list = Bytes::from_slice(alloc, b"ab")?;
     list.reserve(2)?;
     list.push(7);
-    assert_eq!(rt; list.len(), 3);
-    assert_eq!(rt; *list.at(2), 7);
+    Ok(list)
+}
+
+// Whether the list has this length, with 7 in its last place, and holds what is put there.
+fn is_set(list: &mut Bytes) -> bool {
+    if list.len() != 3 || *list.at(2) != 7 {
+        return false;
+    }
     list.set(2, 8);
-    assert!(rt; list.slice() == b"ab\x08".as_slice());
+    let is_set = list.slice() == b"ab\x08".as_slice();
     list.slice_mut()[2] = 9;
-    assert_eq!(rt; list.pop(), Some(9));
-    assert_eq!(rt; list.pop(), Some(b'b'));
-    assert_eq!(rt; list.pop(), Some(b'a'));
-    assert_eq!(rt; list.pop(), None);
-    Ok(())
+    is_set
+}
+
+// Whether the list gives back what it holds from its end on.
+fn is_emptied(list: &mut Bytes) -> bool {
+    list.pop() == Some(9)
+        && list.pop() == Some(b'b')
+        && list.pop() == Some(b'a')
+        && list.pop() == None
+}
+
+// Whether the list can be made, and gives back what it was given.
+fn gives_back(alloc: Global) -> bool {
+    match list_of_three(alloc) {
+        Ok(mut list) => is_set(&mut list) && is_emptied(&mut list),
+        Err(_) => false,
+    }
+}
+
+#[test]
+fn a_list_gives_back_what_it_was_given(rt: HostRuntime) {
+    assert!(rt; gives_back(rt.alloc()));
 }
 
 // A value that may not be dropped.
@@ -70,100 +92,179 @@ fn an_empty_list_of_what_may_not_be_dropped_ends(rt: HostRuntime) {
     assert!(rt; has_room);
 }
 
-#[test]
-fn a_name_is_made_and_added_to(rt: HostRuntime) -> Result<(), TestFail> {
-    let mut folder = folder_of(rt.alloc(), &[], b"old")?;
-    assert!(rt; creates(&mut folder, "a"));
-    assert!(rt; folder.holds("a", b""));
-    assert!(rt; appends(&mut folder, "a", b"one "));
-    assert!(rt; appends(&mut folder, "a", b"two"));
-    assert!(rt; folder.holds("a", b"one two"));
-    Ok(())
+// Whether a name that is made anew is empty, and keeps what is added to it.
+fn keeps_what_is_added(alloc: Global) -> bool {
+    let Ok(mut folder) = holding(alloc, &[], b"old") else {
+        return false;
+    };
+    creates(&mut folder, "a")
+        && folder.holds("a", b"")
+        && appends(&mut folder, "a", b"one ")
+        && appends(&mut folder, "a", b"two")
+        && folder.holds("a", b"one two")
 }
 
 #[test]
-fn a_missing_name_is_refused(rt: HostRuntime) -> Result<(), TestFail> {
-    let mut folder = folder_of(rt.alloc(), &[], b"old")?;
-    assert!(rt; !appends(&mut folder, "b", b"x"));
-    assert!(rt; !opens(&mut folder, "b"));
-    assert!(rt; folder.bytes_of("b").is_none());
-    assert!(rt; creates(&mut folder, "b"));
-    assert!(rt; folder.holds("a", b"old"));
-    Ok(())
+fn a_name_is_made_and_added_to(rt: HostRuntime) {
+    assert!(rt; keeps_what_is_added(rt.alloc()));
+}
+
+// Whether a missing name is refused until it is made, and the other one stays as it is.
+fn refuses_a_missing_name(alloc: Global) -> bool {
+    let Ok(mut folder) = holding(alloc, &[], b"old") else {
+        return false;
+    };
+    !appends(&mut folder, "b", b"x")
+        && !opens(&mut folder, "b")
+        && folder.bytes_of("b").is_none()
+        && creates(&mut folder, "b")
+        && folder.holds("a", b"old")
 }
 
 #[test]
-fn closed_files_leave_their_places(rt: HostRuntime) -> Result<(), TestFail> {
-    let mut folder = folder_of(rt.alloc(), &[], b"abcd")?;
-    let mut first = folder.open("a")?;
-    let mut second = folder.open("a")?;
-    assert!(rt; gives(&mut first, 1, *b"bc"));
-    assert!(rt; !gives(&mut first, 3, *b"d "));
-    assert!(rt; gives(&mut second, 2, *b"cd"));
+fn a_missing_name_is_refused(rt: HostRuntime) {
+    assert!(rt; refuses_a_missing_name(rt.alloc()));
+}
+
+// `a`, opened twice.
+fn opened_twice(folder: &mut MemoryFolder) -> Result<(MemoryFile, MemoryFile), OutsideError> {
+    let first = folder.open("a")?;
+    let second = folder.open("a")?;
+    Ok((first, second))
+}
+
+// Whether two openings of `a` give `abcd`; the second is closed first.
+fn are_read_and_closed(folder: &mut MemoryFolder) -> bool {
+    let Ok((mut first, mut second)) = opened_twice(folder) else {
+        return false;
+    };
+    let are_read = gives(&mut first, 1, *b"bc")
+        && !gives(&mut first, 3, *b"d ")
+        && gives(&mut second, 2, *b"cd");
     folder.close(second);
     folder.close(first);
-    let place = |at, failed| Place { at, len: 2, failed };
-    let places = [place(2, false), place(1, false), place(3, true)];
-    assert!(rt; folder.was_asked("a", &places));
-    assert!(rt; !folder.was_asked("a", &places[..2]));
-    assert!(rt; folder.was_asked("b", &[]));
-    assert_eq!(rt; folder.asked("a", 1), Some(place(1, false)));
-    assert!(rt; folder.asked("a", 3).is_none());
-    Ok(())
+    are_read
+}
+
+// Whether `a` was asked for these places, and nothing else was.
+fn was_asked_in_turn(folder: &MemoryFolder) -> bool {
+    const PLACES: [Place; 3] = [
+        Place {
+            at: 2,
+            len: 2,
+            failed: false,
+        },
+        Place {
+            at: 1,
+            len: 2,
+            failed: false,
+        },
+        Place {
+            at: 3,
+            len: 2,
+            failed: true,
+        },
+    ];
+    folder.was_asked("a", &PLACES)
+        && !folder.was_asked("a", &PLACES[..2])
+        && folder.was_asked("b", &[])
+        && folder.asked("a", 1) == Some(PLACES[1])
+        && folder.asked("a", 3).is_none()
+}
+
+// Whether closed files leave their places in the order in which they are closed.
+fn keeps_places(alloc: Global) -> bool {
+    match holding(alloc, &[], b"abcd") {
+        Ok(mut folder) => are_read_and_closed(&mut folder) && was_asked_in_turn(&folder),
+        Err(_) => false,
+    }
 }
 
 #[test]
-fn a_folder_fails_at_its_list(rt: HostRuntime) -> Result<(), TestFail> {
+fn closed_files_leave_their_places(rt: HostRuntime) {
+    assert!(rt; keeps_places(rt.alloc()));
+}
+
+// Whether a folder fails at the second opening, the first creation and the second addition.
+fn fails_at_its_list(alloc: Global) -> bool {
     let calls = [Fail::Open(1), Fail::Create(0), Fail::Append(1)];
-    let mut folder = folder_of(rt.alloc(), &calls, b"ab")?;
-    assert!(rt; opens(&mut folder, "a"));
-    assert!(rt; !opens(&mut folder, "a"));
-    assert!(rt; opens(&mut folder, "a"));
-    assert!(rt; !creates(&mut folder, "a"));
-    assert!(rt; appends(&mut folder, "a", b"c"));
-    // Three of seven bytes stay.
-    assert!(rt; !appends(&mut folder, "a", b"defghij"));
-    assert!(rt; folder.holds("a", b"abcdef"));
-    Ok(())
-}
-
-#[test]
-fn a_file_fails_at_its_list(rt: HostRuntime) -> Result<(), TestFail> {
-    let length = Fail::Length { opening: 1 };
-    let read = Fail::Read {
-        opening: 0,
-        read: 1,
+    let Ok(mut folder) = holding(alloc, &calls, b"ab") else {
+        return false;
     };
-    let mut folder = folder_of(rt.alloc(), &[length, read], b"abcd")?;
-    let mut first = folder.open("a")?;
-    let mut second = folder.open("a")?;
-    assert!(rt; has_length(&mut first, 4));
-    assert!(rt; !has_length(&mut second, 4));
-    assert!(rt; gives(&mut first, 0, *b"ab"));
-    assert!(rt; !gives(&mut first, 0, *b"ab"));
-    assert!(rt; gives(&mut second, 0, *b"ab"));
-    Ok(())
+    // Of the bytes of the refused addition three of seven stay.
+    opens(&mut folder, "a")
+        && !opens(&mut folder, "a")
+        && opens(&mut folder, "a")
+        && !creates(&mut folder, "a")
+        && appends(&mut folder, "a", b"c")
+        && !appends(&mut folder, "a", b"defghij")
+        && folder.holds("a", b"abcdef")
 }
 
 #[test]
-fn a_sink_keeps_what_is_put(rt: HostRuntime) -> Result<(), TestFail> {
-    let mut sink = MemorySink::new(rt.alloc(), Fails::from_slice(rt.alloc(), &[Fail::Put(1)])?);
-    assert!(rt; puts(&mut sink, b"ab"));
-    // One of three bytes stays.
-    assert!(rt; !puts(&mut sink, b"cde"));
-    assert!(rt; puts(&mut sink, b"f"));
-    assert!(rt; sink.bytes() == b"abcf".as_slice());
-    OpenGate.at(Point::Published { version: 0 });
-    Ok(())
+fn a_folder_fails_at_its_list(rt: HostRuntime) {
+    assert!(rt; fails_at_its_list(rt.alloc()));
 }
 
-fn real_path(rt: &HostRuntime) -> Result<String, TestFail> {
+// Whether the length of the second opening and the second read of the first fail, and nothing else.
+fn fail_at_their_list(folder: &mut MemoryFolder) -> bool {
+    let Ok((mut first, mut second)) = opened_twice(folder) else {
+        return false;
+    };
+    has_length(&mut first, 4)
+        && !has_length(&mut second, 4)
+        && gives(&mut first, 0, *b"ab")
+        && !gives(&mut first, 0, *b"ab")
+        && gives(&mut second, 0, *b"ab")
+}
+
+// Whether the files of a folder fail at its list.
+fn has_failing_files(alloc: Global) -> bool {
+    const CALLS: [Fail; 2] = [
+        Fail::Length { opening: 1 },
+        Fail::Read {
+            opening: 0,
+            read: 1,
+        },
+    ];
+    match holding(alloc, &CALLS, b"abcd") {
+        Ok(mut folder) => fail_at_their_list(&mut folder),
+        Err(_) => false,
+    }
+}
+
+#[test]
+fn a_file_fails_at_its_list(rt: HostRuntime) {
+    assert!(rt; has_failing_files(rt.alloc()));
+}
+
+// Whether a sink of which the second put fails keeps the others, and one of the three bytes of that one.
+fn keeps_what_is_put(alloc: Global) -> bool {
+    match sink_failing_at(alloc, 1) {
+        Ok(mut sink) => {
+            puts(&mut sink, b"ab")
+                && !puts(&mut sink, b"cde")
+                && puts(&mut sink, b"f")
+                && sink.bytes() == b"abcf".as_slice()
+        }
+        Err(_) => false,
+    }
+}
+
+#[test]
+fn a_sink_keeps_what_is_put(rt: HostRuntime) {
+    assert!(rt; keeps_what_is_put(rt.alloc()));
+    OpenGate.at(Point::Published { version: 0 });
+}
+
+fn real_path(rt: &HostRuntime) -> io::Result<String> {
     let folder = env::temp_dir(rt)?;
     let folder = folder.as_path().display();
     let id = process::id(rt.process());
     Ok(format!(in rt.alloc(); "{folder}/vt_outside_{id}")?)
 }
 
+// Whether the two additions are read from a file, and no more.
 fn is_read_back(folder: &mut impl Folder, path: &str) -> bool {
     let Ok(mut file) = folder.open(path) else {
         return false;
@@ -175,26 +276,37 @@ fn is_read_back(folder: &mut impl Folder, path: &str) -> bool {
     read
 }
 
-#[test]
-fn real_files_keep_what_is_added(rt: HostRuntime) -> Result<(), TestFail> {
-    let path = real_path(&rt)?;
-    let path = path.as_str();
-    let mut folder = RealFolder::new(&rt);
-    assert!(rt; creates(&mut folder, path));
-    assert!(rt; appends(&mut folder, path, b"one "));
-    assert!(rt; appends(&mut folder, path, b"two"));
-    assert!(rt; is_read_back(&mut folder, path));
-    assert_eq!(rt; folder.faults(), 1);
-    fs::remove_file(&rt, path)?;
-    assert!(rt; !opens(&mut folder, path));
-    assert_eq!(rt; folder.faults(), 2);
-    Ok(())
+// Whether a new file keeps what is added to it.
+fn keeps(folder: &mut impl Folder, path: &str) -> bool {
+    creates(folder, path)
+        && appends(folder, path, b"one ")
+        && appends(folder, path, b"two")
+        && is_read_back(folder, path)
+}
+
+// Whether a file of the system keeps what is added to it, and is not opened once it is removed.
+fn is_kept_and_removed(rt: &HostRuntime, path: &str) -> bool {
+    let mut folder = RealFolder::new(rt);
+    keeps(&mut folder, path)
+        && folder.faults() == 1
+        && fs::remove_file(rt, path).is_ok()
+        && !opens(&mut folder, path)
+        && folder.faults() == 2
 }
 
 #[test]
-fn a_stream_takes_what_is_put(rt: HostRuntime) -> Result<(), TestFail> {
-    let mut sink = RealSink::new(Vec::new(rt.alloc()));
-    assert!(rt; puts(&mut sink, b"ab"));
-    assert_eq!(rt; sink.faults(), 0);
-    Ok(())
+fn real_files_keep_what_is_added(rt: HostRuntime) {
+    let path = real_path(&rt).expect(&rt, "a path");
+    assert!(rt; is_kept_and_removed(&rt, path.as_str()));
+}
+
+// Whether a stream takes two bytes.
+fn takes_what_is_put(alloc: Global) -> bool {
+    let mut sink = RealSink::new(Vec::new(alloc));
+    puts(&mut sink, b"ab") && sink.faults() == 0
+}
+
+#[test]
+fn a_stream_takes_what_is_put(rt: HostRuntime) {
+    assert!(rt; takes_what_is_put(rt.alloc()));
 }

@@ -3,18 +3,29 @@
 mod foreign;
 mod strips;
 
-use crate::asserts::are_bytes;
-use std::alloc::Global;
-use std::process::Abort;
-use std::test::Fail as TestFail;
-use vt_outside::{Fail, Fails, Folder, MemoryFolder, NoMemory, Place};
-use vt_ppm::{Image, PpmError, encode, encode_wide, read_header, read_image};
+use crate::fixtures::{folder_of, no_row_is_wrong};
+use std::alloc::{AllocError, Global};
+use vt_outside::{Fail, Folder, MemoryFolder, NoMemory};
+use vt_ppm::{Header, Image, PpmError, encode, encode_wide, read_header, read_image};
 
 // A folder in which `t` holds these bytes, and of which these calls fail.
-fn folder_of(alloc: Global, bytes: &[u8], calls: &[Fail]) -> Result<MemoryFolder, NoMemory> {
-    let mut folder = MemoryFolder::new(alloc, Fails::from_slice(alloc, calls)?);
-    folder.add("t", bytes)?;
-    Ok(folder)
+fn holding(alloc: Global, bytes: &[u8], calls: &[Fail]) -> Result<MemoryFolder, NoMemory> {
+    folder_of(alloc, "t", bytes, calls)
+}
+
+// A front, one byte so many times, and what follows it.
+fn around(
+    alloc: Global,
+    front: &[u8],
+    byte: u8,
+    count: usize,
+    rest: &[u8],
+) -> Result<Vec<u8>, AllocError> {
+    let mut bytes = Vec::from_slice(alloc, front)?;
+    let many = vec![in alloc; byte; count]?;
+    bytes.extend_from_slice(&many)?;
+    bytes.extend_from_slice(rest)?;
+    Ok(bytes)
 }
 
 // The image that `t` holds.
@@ -27,75 +38,128 @@ fn image_in(alloc: Global, folder: &mut MemoryFolder) -> Result<Image, PpmError>
     image
 }
 
-// The place of the raster that the header of `t` answers.
-fn raster_in(alloc: Global, folder: &mut MemoryFolder) -> Result<u64, PpmError> {
+// The header of `t`.
+fn header_in(alloc: Global, folder: &mut MemoryFolder) -> Result<Header, PpmError> {
     let Ok(mut file) = folder.open("t") else {
         return Err(PpmError::Failed);
     };
     let header = read_header(alloc, &mut file);
     folder.close(file);
-    Ok(header?.raster)
+    header
+}
+
+// The image that these bytes are.
+fn image_of(alloc: Global, bytes: &[u8], calls: &[Fail]) -> Result<Image, PpmError> {
+    match holding(alloc, bytes, calls) {
+        Ok(mut folder) => image_in(alloc, &mut folder),
+        Err(_) => Err(PpmError::NoMemory),
+    }
 }
 
 // The refusal of these bytes as an image.
-fn refusal(alloc: Global, bytes: &[u8], calls: &[Fail]) -> Result<Option<PpmError>, NoMemory> {
-    let mut folder = folder_of(alloc, bytes, calls)?;
-    Ok(image_in(alloc, &mut folder).err())
+fn refusal(alloc: Global, bytes: &[u8], calls: &[Fail]) -> Option<PpmError> {
+    image_of(alloc, bytes, calls).err()
+}
+
+// The header of these bytes.
+fn header_of(alloc: Global, bytes: &[u8], calls: &[Fail]) -> Result<Header, PpmError> {
+    match holding(alloc, bytes, calls) {
+        Ok(mut folder) => header_in(alloc, &mut folder),
+        Err(_) => Err(PpmError::NoMemory),
+    }
 }
 
 // The refusal of these bytes as a header.
-fn header_refusal(
-    alloc: Global,
-    bytes: &[u8],
-    calls: &[Fail],
-) -> Result<Option<PpmError>, NoMemory> {
-    let mut folder = folder_of(alloc, bytes, calls)?;
-    Ok(raster_in(alloc, &mut folder).err())
+fn header_refusal(alloc: Global, bytes: &[u8], calls: &[Fail]) -> Option<PpmError> {
+    header_of(alloc, bytes, calls).err()
 }
 
-// Looks at one of the places that `t` was asked for, a start and a length of a read that did not fail, or that it was not
-// asked for so many.
-fn is_asked(rt: &impl Abort, folder: &MemoryFolder, i: usize, place: Option<(u64, u64)>) {
-    let failed = false;
-    let want = match place {
-        Some((at, len)) => Some(Place { at, len, failed }),
-        None => None,
+// Whether this is the place that `t` was asked for, a start and a length, in a read that did not fail.
+fn is_asked(folder: &MemoryFolder, i: usize, place: (u64, u64)) -> bool {
+    match folder.asked("t", i) {
+        Some(asked) => asked.at == place.0 && asked.len == place.1 && !asked.failed,
+        None => false,
+    }
+}
+
+// Whether these are the places that `t` was asked for.
+fn are_asked(folder: &MemoryFolder, places: &[(u64, u64)]) -> bool {
+    for i in 0..places.len() {
+        if !is_asked(folder, i, places[i]) {
+            return false;
+        }
+    }
+    folder.asked("t", places.len()).is_none()
+}
+
+// Whether a header of eleven bytes is looked for in one place.
+fn is_one_read(alloc: Global) -> bool {
+    let Ok(mut folder) = holding(alloc, b"P6 3 2 255\n", &[]) else {
+        return false;
     };
-    assert_eq!(rt; folder.asked("t", i), want);
+    match header_in(alloc, &mut folder) {
+        Ok(header) => header.raster == 11 && are_asked(&folder, &[(0, 11)]),
+        Err(_) => false,
+    }
 }
 
 #[test]
-fn a_header_is_looked_for_in_one_place(rt: HostRuntime) -> Result<(), TestFail> {
-    let mut folder = folder_of(rt.alloc(), b"P6 3 2 255\n", &[])?;
-    assert!(rt; raster_in(rt.alloc(), &mut folder) == Ok(11));
-    is_asked(&rt, &folder, 0, Some((0, 11)));
-    is_asked(&rt, &folder, 1, None);
-    Ok(())
+fn a_header_is_looked_for_in_one_place(rt: HostRuntime) {
+    assert!(rt; is_one_read(rt.alloc()));
 }
 
-// The word of a texel.
-fn word_of(rt: &impl Abort, image: &Image, x: u32, y: u32) -> u64 {
-    assert!(rt; x < image.width() && y < image.height());
-    image.word(x, y)
+// Whether a texel has this word.
+fn has_word(image: &Image, x: u32, y: u32, word: u64) -> bool {
+    x < image.width() && y < image.height() && image.word(x, y) == word
+}
+
+// Whether an image is the row of the two texels `abc` and `def`.
+fn is_row_of_two(image: Image) -> bool {
+    let is_row = image.width() == 2
+        && image.height() == 1
+        && has_word(&image, 0, 0, 0x616263)
+        && has_word(&image, 1, 0, 0x646566);
+    image.into_samples().len() == 6 && is_row
+}
+
+// Whether an image with more bytes behind it is read from two places.
+fn is_two_reads(alloc: Global) -> bool {
+    let Ok(mut folder) = holding(alloc, b"P6 2 1 255\nabcdef and more", &[]) else {
+        return false;
+    };
+    match image_in(alloc, &mut folder) {
+        Ok(image) => is_row_of_two(image)
+            && is_asked(&folder, 1, (11, 6))
+            && folder.asked("t", 2).is_none(),
+        Err(_) => false,
+    }
 }
 
 #[test]
-fn an_image_is_read_from_two_places(rt: HostRuntime) -> Result<(), TestFail> {
-    let bytes = b"P6 2 1 255\nabcdef and more";
-    let mut folder = folder_of(rt.alloc(), bytes, &[])?;
-    let image = image_in(rt.alloc(), &mut folder)?;
-    assert!(rt; image.width() == 2);
-    assert!(rt; image.height() == 1);
-    assert!(rt; word_of(&rt, &image, 0, 0) == 0x616263);
-    assert!(rt; word_of(&rt, &image, 1, 0) == 0x646566);
-    assert!(rt; image.into_samples().len() == 6);
-    is_asked(&rt, &folder, 1, Some((11, 6)));
-    is_asked(&rt, &folder, 2, None);
-    Ok(())
+fn an_image_is_read_from_two_places(rt: HostRuntime) {
+    assert!(rt; is_two_reads(rt.alloc()));
+}
+
+// Whether a failing call is told so by the reader of an image and by that of a header.
+fn is_told(alloc: Global, call: Fail, image: Option<PpmError>, header: Option<PpmError>) -> bool {
+    let bytes = b"P6 1 1 255\nabc";
+    let calls = [call];
+    refusal(alloc, bytes, &calls) == image && header_refusal(alloc, bytes, &calls) == header
+}
+
+// The first of these failing calls that is told otherwise.
+fn mistold(alloc: Global, rows: &[(Fail, Option<PpmError>, Option<PpmError>)]) -> Option<usize> {
+    for i in 0..rows.len() {
+        let (call, image, header) = rows[i];
+        if !is_told(alloc, call, image, header) {
+            return Some(i);
+        }
+    }
+    None
 }
 
 #[test]
-fn each_failing_call_is_told(rt: HostRuntime) -> Result<(), TestFail> {
+fn each_failing_call_is_told(rt: HostRuntime) {
     const FAILED: Option<PpmError> = Some(PpmError::Failed);
     const CASES: [(Fail, Option<PpmError>, Option<PpmError>); 4] = [
         (Fail::Length { opening: 0 }, FAILED, FAILED),
@@ -124,70 +188,62 @@ fn each_failing_call_is_told(rt: HostRuntime) -> Result<(), TestFail> {
             None,
         ),
     ];
-    let bytes = b"P6 1 1 255\nabc";
-    for (call, image, header) in &CASES {
-        assert_eq!(rt; refusal(rt.alloc(), bytes, &[*call])?, *image);
-        assert_eq!(rt; header_refusal(rt.alloc(), bytes, &[*call])?, *header);
+    no_row_is_wrong(&rt, mistold(rt.alloc(), &CASES));
+}
+
+// Whether a picture of so many columns and rows, of one-byte samples, is these bytes.
+fn is_encoded(alloc: Global, width: u32, height: u32, samples: &[u8], want: &[u8]) -> bool {
+    if width > 9 || height > 9 || samples.len() != 3 * (width * height) as usize {
+        return false;
     }
-    Ok(())
-}
-
-// A picture of so many columns and rows, of one-byte samples.
-fn encoded(
-    rt: &impl Abort,
-    alloc: Global,
-    width: u32,
-    height: u32,
-    samples: &[u8],
-) -> Result<Vec<u8>, NoMemory> {
-    assert!(rt; width <= 9 && height <= 9 && samples.len() == 3 * (width * height) as usize);
-    encode(alloc, width, height, samples)
+    match encode(alloc, width, height, samples) {
+        Ok(bytes) => bytes.as_slice() == want,
+        Err(_) => false,
+    }
 }
 
 #[test]
-fn a_picture_is_written(rt: HostRuntime) -> Result<(), TestFail> {
+fn a_picture_is_written(rt: HostRuntime) {
     let samples = [0x0d, 0x0d, 0x0d, 1, 1, 1];
-    let bytes = encoded(&rt, rt.alloc(), 2, 1, &samples)?;
-    are_bytes(&rt, &bytes, b"P6\n2 1\n255\n\x0d\x0d\x0d\x01\x01\x01");
-    Ok(())
+    let want = b"P6\n2 1\n255\n\x0d\x0d\x0d\x01\x01\x01";
+    assert!(rt; is_encoded(rt.alloc(), 2, 1, &samples, want));
 }
 
-// A picture of so many columns and rows, of two-byte samples.
-fn encoded_wide(
-    rt: &impl Abort,
-    alloc: Global,
-    width: u32,
-    height: u32,
-    samples: &[u8],
-) -> Result<Vec<u8>, NoMemory> {
-    assert!(rt; width <= 9 && height <= 9 && samples.len() == 6 * (width * height) as usize);
-    encode_wide(alloc, width, height, samples)
-}
-
-#[test]
-fn a_wide_picture_is_written(rt: HostRuntime) -> Result<(), TestFail> {
-    let bytes = encoded_wide(&rt, rt.alloc(), 1, 1, b"\x00\x01\x80\x00\xff\xff")?;
-    are_bytes(&rt, &bytes, b"P6\n1 1\n65535\n\x00\x01\x80\x00\xff\xff");
-    Ok(())
-}
-
-// Looks at the depth of an image of one texel, and at its word.
-fn has_texel(
-    rt: &impl Abort,
-    alloc: Global,
-    bytes: &[u8],
-    depth: u32,
-    word: u64,
-) -> Result<(), TestFail> {
-    let mut folder = folder_of(alloc, bytes, &[])?;
-    let image = image_in(alloc, &mut folder)?;
-    assert_eq!(rt; (image.depth(), word_of(rt, &image, 0, 0)), (depth, word));
-    Ok(())
+// Whether a picture of so many columns and rows, of two-byte samples, is these bytes.
+fn is_encoded_wide(alloc: Global, width: u32, height: u32, samples: &[u8], want: &[u8]) -> bool {
+    if width > 9 || height > 9 || samples.len() != 6 * (width * height) as usize {
+        return false;
+    }
+    match encode_wide(alloc, width, height, samples) {
+        Ok(bytes) => bytes.as_slice() == want,
+        Err(_) => false,
+    }
 }
 
 #[test]
-fn a_texel_of_either_depth_has_its_word(rt: HostRuntime) -> Result<(), TestFail> {
-    has_texel(&rt, rt.alloc(), b"P6 1 1 255\n\x01\x80\xff", 1, 98559)?;
-    let wide = b"P6 1 1 65535\n\x00\x01\x80\x00\xff\xff";
-    has_texel(&rt, rt.alloc(), wide, 2, 6442516479)
+fn a_wide_picture_is_written(rt: HostRuntime) {
+    let samples = b"\x00\x01\x80\x00\xff\xff";
+    let want = b"P6\n1 1\n65535\n\x00\x01\x80\x00\xff\xff";
+    assert!(rt; is_encoded_wide(rt.alloc(), 1, 1, samples, want));
+}
+
+// Whether the bytes are an image of this depth, whose first texel has this word.
+fn has_texel(alloc: Global, bytes: &[u8], depth: u32, word: u64) -> bool {
+    match image_of(alloc, bytes, &[]) {
+        Ok(image) => image.depth() == depth && has_word(&image, 0, 0, word),
+        Err(_) => false,
+    }
+}
+
+#[test]
+fn a_texel_of_either_depth_has_its_word(rt: HostRuntime) {
+    assert!(rt; has_texel(rt.alloc(), b"P6 1 1 255\n\x01\x80\xff", 1, 98559));
+    assert!(rt;
+        has_texel(
+            rt.alloc(),
+            b"P6 1 1 65535\n\x00\x01\x80\x00\xff\xff",
+            2,
+            6442516479
+        )
+    );
 }

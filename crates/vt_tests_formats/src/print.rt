@@ -1,48 +1,45 @@
 //! Printed texts by hand.
 
+use crate::fixtures::sink_failing_at;
 use std::alloc::Global;
-use std::process::Abort;
-use std::test::Fail as TestFail;
-use vt_outside::{Fail, Fails, MemorySink, NoMemory};
+use vt_outside::{Fails, MemorySink};
 use vt_print::{Line, Place, put_pieces, tell_bad_input, tell_pieces, tell_place};
 
-// Adds words to a line.
-fn add_words(rt: &impl Abort, line: &mut Line, words: &[u8]) {
-    assert!(rt; line.bytes().len() < 100 && words.len() < 50);
+// Adds words and a number to a line, where there is room for them.
+fn gains(line: &mut Line, words: &[u8], number: u64) -> bool {
+    if line.bytes().len() >= 100 || words.len() >= 50 {
+        return false;
+    }
     line.words(words);
-}
-
-// Adds a number to a line.
-fn add_number(rt: &impl Abort, line: &mut Line, number: u64) {
-    assert!(rt; line.bytes().len() < 100);
     line.number(number);
+    true
 }
 
-// Looks what a line holds.
-fn holds(rt: &impl Abort, line: &Line, want: &[u8]) {
-    assert_eq!(rt; line.bytes(), want);
+// Adds the last words to a line, and tells whether it then holds this.
+fn ends(line: &mut Line, words: &[u8], want: &[u8]) -> bool {
+    if line.bytes().len() >= 100 || words.len() >= 50 {
+        return false;
+    }
+    line.words(words);
+    line.bytes() == want
 }
 
 #[test]
 fn a_line_holds_words_and_numbers(rt: HostRuntime) {
     let mut line = Line::new();
-    holds(&rt, &line, b"");
-    add_words(&rt, &mut line, b"store ");
-    add_number(&rt, &mut line, 512);
-    add_words(&rt, &mut line, b" levels ");
-    add_number(&rt, &mut line, 0);
-    add_words(&rt, &mut line, b"\n");
-    holds(&rt, &line, b"store 512 levels 0\n");
+    assert!(rt;
+        line.bytes().is_empty()
+            && gains(&mut line, b"store ", 512)
+            && gains(&mut line, b" levels ", 0)
+            && ends(&mut line, b"\n", b"store 512 levels 0\n")
+    );
     let mut full = Line::new();
-    add_number(&rt, &mut full, u64::MAX);
-    holds(&rt, &full, b"18446744073709551615");
+    assert!(rt;
+        gains(&mut full, b"", u64::MAX) && full.bytes() == b"18446744073709551615".as_slice()
+    );
 }
 
-// A sink in which the put of that number fails.
-fn sink_failing_at(alloc: Global, put: u64) -> Result<MemorySink, NoMemory> {
-    Ok(MemorySink::new(alloc, Fails::from_slice(alloc, &[Fail::Put(put)])?))
-}
-
+// Whether the pieces are put.
 fn puts(sink: &mut MemorySink, pieces: &[&[u8]]) -> bool {
     put_pieces(sink, pieces).is_ok()
 }
@@ -59,9 +56,8 @@ fn tells(sink: &mut MemorySink, line: &[u8]) {
     tell_pieces(sink, &[line]);
 }
 
-#[test]
-fn a_bad_input_is_told_by_its_name_and_place(rt: HostRuntime) -> Result<(), TestFail> {
-    let alloc = rt.alloc();
+// Whether three bad inputs are told by their names and places.
+fn are_told(alloc: Global) -> bool {
     let mut sink = MemorySink::new(alloc, Fails::new(alloc));
     tells_bad_input(&mut sink, "a.ppm", &Place::words(b"bad size"));
     tells_bad_input(&mut sink, "", &Place::number(b"bad line ", 7));
@@ -69,41 +65,59 @@ fn a_bad_input_is_told_by_its_name_and_place(rt: HostRuntime) -> Result<(), Test
     tells_bad_input(&mut sink, "s: 1", &lengths);
     let expected =
         b"vtex: bad input: a.ppm: bad size\nvtex: bad input: : bad line 7\nvtex: bad input: s: 1: length 16, wanted 700\n";
-    assert_eq!(rt; sink.bytes(), expected.as_slice());
-    Ok(())
+    sink.bytes() == expected.as_slice()
 }
 
 #[test]
-fn a_place_is_told_without_a_name(rt: HostRuntime) -> Result<(), TestFail> {
-    let alloc = rt.alloc();
+fn a_bad_input_is_told_by_its_name_and_place(rt: HostRuntime) {
+    assert!(rt; are_told(rt.alloc()));
+}
+
+// Whether two places and a line are told without a name.
+fn are_told_without_a_name(alloc: Global) -> bool {
     let mut sink = MemorySink::new(alloc, Fails::new(alloc));
-    tells_place(
-        &mut sink,
-        &Place::two_numbers(b"", 3, b" frames, pinned pages need ", 5),
-    );
+    let frames = Place::two_numbers(b"", 3, b" frames, pinned pages need ", 5);
+    tells_place(&mut sink, &frames);
     let wants = Place::three_numbers(b"picture ", 0, b" wants ", 41, b" pages, room for ", 40);
     tells_place(&mut sink, &wants);
     tells(&mut sink, b"vtex: out of memory\n");
     let expected =
         b"vtex: 3 frames, pinned pages need 5\nvtex: picture 0 wants 41 pages, room for 40\nvtex: out of memory\n";
-    assert_eq!(rt; sink.bytes(), expected.as_slice());
-    Ok(())
+    sink.bytes() == expected.as_slice()
 }
 
 #[test]
-fn the_first_refused_put_ends_a_line(rt: HostRuntime) -> Result<(), TestFail> {
-    let mut sink = sink_failing_at(rt.alloc(), 1)?;
+fn a_place_is_told_without_a_name(rt: HostRuntime) {
+    assert!(rt; are_told_without_a_name(rt.alloc()));
+}
+
+// Whether a line of which the second put fails ends there.
+fn ends_at_a_refused_put(alloc: Global) -> bool {
+    let Ok(mut sink) = sink_failing_at(alloc, 1) else {
+        return false;
+    };
     tells_bad_input(&mut sink, "abcd", &Place::words(b"bad size"));
-    assert_eq!(rt; sink.bytes(), b"vtex: bad input: ab".as_slice());
-    Ok(())
+    sink.bytes() == b"vtex: bad input: ab".as_slice()
 }
 
 #[test]
-fn a_piece_of_no_bytes_is_no_put(rt: HostRuntime) -> Result<(), TestFail> {
-    let mut sink = sink_failing_at(rt.alloc(), 2)?;
-    let pieces = [b"a".as_slice(), b"".as_slice(), b"b".as_slice()];
-    assert!(rt; puts(&mut sink, &pieces));
-    assert!(rt; !puts(&mut sink, &[b"cd".as_slice()]));
-    assert_eq!(rt; sink.bytes(), b"abc".as_slice());
-    Ok(())
+fn the_first_refused_put_ends_a_line(rt: HostRuntime) {
+    assert!(rt; ends_at_a_refused_put(rt.alloc()));
+}
+
+// Whether pieces of which one is empty are two puts, so that the third put is that of the next piece.
+fn skips_an_empty_piece(alloc: Global) -> bool {
+    match sink_failing_at(alloc, 2) {
+        Ok(mut sink) => {
+            puts(&mut sink, &[b"a", b"", b"b"])
+                && !puts(&mut sink, &[b"cd"])
+                && sink.bytes() == b"abc".as_slice()
+        }
+        Err(_) => false,
+    }
+}
+
+#[test]
+fn a_piece_of_no_bytes_is_no_put(rt: HostRuntime) {
+    assert!(rt; skips_an_empty_piece(rt.alloc()));
 }

@@ -1,6 +1,6 @@
 //! The edges of lines, fields and numbers, by hand.
 
-use std::process::Abort;
+use crate::fixtures::no_row_is_wrong;
 use vt_text::TextError;
 use vt_text::lines::{field, fields_join, next_line};
 use vt_text::numbers::{decimal, put_number, spelling_is_unique, written_is_read};
@@ -11,48 +11,53 @@ const NOT_DECIMAL: Result<i64, TextError> = Err(TextError::NotDecimal);
 // The answer is that a number is out of its bounds.
 const PAST: Result<i64, TextError> = Err(TextError::OutOfRange);
 
-// Looks where the line ends that begins at a place of a text.
-fn line_ends(rt: &impl Abort, text: &[u8], at: usize, want: Option<usize>) {
-    assert!(rt; at <= text.len());
-    assert_eq!(rt; next_line(text, at), want);
+// Whether the line that begins at a place of a text ends there.
+fn ends_at(text: &[u8], at: usize, want: Option<usize>) -> bool {
+    at <= text.len() && next_line(text, at) == want
 }
 
 #[test]
 fn lines_end_at_line_feeds(rt: HostRuntime) {
     let text = b"ab\n\nc";
-    line_ends(&rt, text, 0, Some(2));
-    line_ends(&rt, text, 2, Some(2));
-    line_ends(&rt, text, 3, Some(3));
-    line_ends(&rt, text, 4, None);
-    line_ends(&rt, text, 5, None);
-    line_ends(&rt, b"", 0, None);
+    assert!(rt;
+        ends_at(text, 0, Some(2))
+            && ends_at(text, 2, Some(2))
+            && ends_at(text, 3, Some(3))
+            && ends_at(text, 4, None)
+            && ends_at(text, 5, None)
+            && ends_at(b"", 0, None)
+    );
 }
 
-// Looks what a field of a line is.
-fn has_field(rt: &impl Abort, line: &[u8], i: usize, want: Option<&[u8]>) {
-    assert_eq!(rt; field(line, i), want);
+// The first field of a line that is another than these are in turn.
+fn other_field(line: &[u8], fields: &[&[u8]]) -> Option<usize> {
+    for i in 0..fields.len() {
+        if field(line, i) != Some(fields[i]) {
+            return Some(i);
+        }
+    }
+    None
 }
 
 #[test]
 fn fields_stand_between_single_blanks(rt: HostRuntime) {
-    has_field(&rt, b"", 0, Some(b""));
-    has_field(&rt, b"", 1, None);
+    const FIELDS: [&[u8]; 5] = [b"", b"at", b"", b"5", b""];
     let line = b" at  5 ";
-    has_field(&rt, line, 0, Some(b""));
-    has_field(&rt, line, 1, Some(b"at"));
-    has_field(&rt, line, 2, Some(b""));
-    has_field(&rt, line, 3, Some(b"5"));
-    has_field(&rt, line, 4, Some(b""));
-    has_field(&rt, line, 5, None);
-    has_field(&rt, line, usize::MAX, None);
+    assert!(rt; field(b"", 0) == Some(b"") && field(b"", 1).is_none());
+    no_row_is_wrong(&rt, other_field(line, &FIELDS));
+    assert!(rt; field(line, 5).is_none() && field(line, usize::MAX).is_none());
     fields_join(line);
 }
 
-// Looks what each of these fields is read as between its bounds.
-fn are_read(rt: &impl Abort, rows: &[(&[u8], i64, i64, Result<i64, TextError>)]) {
-    for (field, least, most, want) in rows {
-        assert_eq!(rt; decimal(field, *least, *most), *want);
+// The first row of which the field is read otherwise between its bounds.
+fn misread(rows: &[(&[u8], i64, i64, Result<i64, TextError>)]) -> Option<usize> {
+    for i in 0..rows.len() {
+        let (field, least, most, want) = rows[i];
+        if decimal(field, least, most) != want {
+            return Some(i);
+        }
     }
+    None
 }
 
 #[test]
@@ -74,7 +79,7 @@ fn numbers_have_one_spelling(rt: HostRuntime) {
         (b"1/", i64::MIN, i64::MAX, NOT_DECIMAL),
         (b"1:", i64::MIN, i64::MAX, NOT_DECIMAL),
     ];
-    are_read(&rt, &ROWS);
+    no_row_is_wrong(&rt, misread(&ROWS));
     spelling_is_unique();
 }
 
@@ -102,7 +107,7 @@ fn long_numbers_never_wrap(rt: HostRuntime) {
             NOT_DECIMAL,
         ),
     ];
-    are_read(&rt, &ROWS);
+    no_row_is_wrong(&rt, misread(&ROWS));
 }
 
 #[test]
@@ -116,34 +121,30 @@ fn bounds_are_included(rt: HostRuntime) {
         (b"-16385", -16384, 16384, PAST),
         (b"5", 6, 4, PAST),
     ];
-    are_read(&rt, &ROWS);
+    no_row_is_wrong(&rt, misread(&ROWS));
 }
 
-// Writes a number into a line, and looks at the place behind it and at the line.
-fn is_put(rt: &impl Abort, line: &mut [u8], at: usize, number: u64, end: usize, want: &[u8]) {
-    assert!(rt; 20 <= line.len() && at <= line.len() - 20);
-    assert_eq!(rt; put_number(line, at, number), end);
-    assert_eq!(rt; &*line, want);
+// Writes a number into a line, and tells whether the place behind it and the line are these.
+fn is_put(line: &mut [u8], at: usize, number: u64, end: usize, want: &[u8]) -> bool {
+    20 <= line.len()
+        && at <= line.len() - 20
+        && put_number(line, at, number) == end
+        && &*line == want
 }
 
-// Writes a number into a line, and looks what is read of it up to a bound.
-fn is_read_back(
-    rt: &impl Abort,
-    line: &mut [u8],
-    number: u64,
-    most: i64,
-    want: Result<i64, TextError>,
-) {
-    assert!(rt; 21 <= line.len());
-    assert_eq!(rt; written_is_read(line, 1, number, most), want);
+// Writes a number into a line, and tells whether this is read of it up to a bound.
+fn is_read_back(line: &mut [u8], number: u64, most: i64, want: Result<i64, TextError>) -> bool {
+    21 <= line.len() && written_is_read(line, 1, number, most) == want
 }
 
 #[test]
 fn numbers_are_written_in_place(rt: HostRuntime) {
     let mut line = *b"........................";
-    is_put(&rt, &mut line, 2, 320, 5, b"..320...................");
-    is_put(&rt, &mut line, 0, 0, 1, b"0.320...................");
-    is_put(&rt, &mut line, 4, u64::MAX, 24, b"0.3218446744073709551615");
-    is_read_back(&rt, &mut line, 7, 9, Ok(7));
-    is_read_back(&rt, &mut line, 17, 9, PAST);
+    assert!(rt;
+        is_put(&mut line, 2, 320, 5, b"..320...................")
+            && is_put(&mut line, 0, 0, 1, b"0.320...................")
+            && is_put(&mut line, 4, u64::MAX, 24, b"0.3218446744073709551615")
+            && is_read_back(&mut line, 7, 9, Ok(7))
+            && is_read_back(&mut line, 17, 9, PAST)
+    );
 }

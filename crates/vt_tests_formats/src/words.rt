@@ -2,41 +2,100 @@
 
 mod journals;
 
+use crate::fixtures::no_row_is_wrong;
 use std::alloc::{AllocError, Global};
 use std::process::Abort;
 use vt_words::{
-    Command, ReplayWords, WalkWords, WordsError, is_picture_name, picture_name, read_command,
+    Command, GenWords, PlainWords, ReplayWords, TileWords, UpgradeWords, WalkWords, WordsError,
+    is_picture_name, picture_name, read_command,
 };
 
-// A word, then names with a comma after each.
-fn names_shown(alloc: Global, word: &str, names: &[&str]) -> Result<String, AllocError> {
-    let mut shown = String::from_str(alloc, word)?;
-    for name in names {
-        shown.push_str(name)?;
-        shown.push_str(",")?;
+// Adds words, with these marks before and behind each.
+fn add_words(
+    shown: &mut String,
+    before: &str,
+    words: &[&str],
+    behind: &str,
+) -> Result<(), AllocError> {
+    for word in words {
+        shown.push_str(before)?;
+        shown.push_str(word)?;
+        shown.push_str(behind)?;
     }
+    Ok(())
+}
+
+// Adds numbers, a blank before each.
+fn add_numbers(alloc: Global, shown: &mut String, numbers: &[u32]) -> Result<(), AllocError> {
+    for number in numbers {
+        shown.push_str(format!(in alloc; " {number}")?.as_str())?;
+    }
+    Ok(())
+}
+
+// The name of a command, then words with these marks before and behind each, and numbers with a blank before each.
+fn named(
+    alloc: Global,
+    name: &str,
+    before: &str,
+    words: &[&str],
+    behind: &str,
+    numbers: &[u32],
+) -> Result<String, AllocError> {
+    let mut shown = String::from_str(alloc, name)?;
+    add_words(&mut shown, before, words, behind)?;
+    add_numbers(alloc, &mut shown, numbers)?;
     Ok(shown)
+}
+
+fn plain_shown(alloc: Global, read: &PlainWords<'_>) -> Result<String, AllocError> {
+    let names = [read.texture, read.path, read.prefix];
+    named(alloc, "plain", " ", &names, "", &[read.tile])
+}
+
+fn tile_shown(alloc: Global, read: &TileWords<'_>) -> Result<String, AllocError> {
+    let names = [read.texture, read.store];
+    named(alloc, "tile", " ", &names, "", &[read.tile])
+}
+
+fn info_shown(alloc: Global, store: &str) -> Result<String, AllocError> {
+    named(alloc, "info", " ", &[store], "", &[])
+}
+
+fn gen_shown(alloc: Global, read: &GenWords<'_>) -> Result<String, AllocError> {
+    let numbers = [read.number, read.width, read.height];
+    let mut shown = named(alloc, "gen", "", &[], "", &numbers)?;
+    shown.push_str(" ")?;
+    shown.push_str(read.name)?;
+    Ok(shown)
+}
+
+fn trial_shown(alloc: Global, number: u32) -> Result<String, AllocError> {
+    named(alloc, "trial", "", &[], "", &[number])
+}
+
+fn upgrade_shown(alloc: Global, read: &UpgradeWords<'_>) -> Result<String, AllocError> {
+    let names = [read.store, read.new_store];
+    named(alloc, "upgrade", " ", &names, "", &[])
 }
 
 // The four names of a replay.
 fn replay_shown(alloc: Global, read: &ReplayWords<'_>) -> Result<String, AllocError> {
     let names = [read.store, read.path, read.journal, read.prefix];
-    names_shown(alloc, "replay ", names.as_slice())
+    named(alloc, "replay ", "", &names, ",", &[])
 }
 
-// The names of a walk, then its numbers in the order in which they are told, a blank before each.
+// The names of a walk, then its numbers in the order in which they are told.
 fn walk_shown(alloc: Global, read: &WalkWords<'_>) -> Result<String, AllocError> {
     let names = [read.store, read.path, read.prefix, read.journal];
-    let mut shown = names_shown(alloc, "walk ", names.as_slice())?;
-    for number in [
+    let numbers = [
         read.frames,
         read.samplers,
         read.loaders,
         read.batch,
         read.pinned,
-    ] {
-        shown.push_str(format!(in alloc; " {number}")?.as_str())?;
-    }
+    ];
+    let mut shown = named(alloc, "walk ", "", &names, ",", &numbers)?;
     if read.settled {
         shown.push_str(" settled")?;
     }
@@ -44,38 +103,14 @@ fn walk_shown(alloc: Global, read: &WalkWords<'_>) -> Result<String, AllocError>
 }
 
 // The answer as a text: the command and its values.
-fn answer(alloc: Global, words: &[&str]) -> Result<String, AllocError> {
-    let mut list = Vec::new(alloc);
-    for word in words {
-        list.push(String::from_str(alloc, word)?)?;
-    }
-    match read_command(alloc, list.as_slice()) {
-        Ok(Command::Plain(read)) => {
-            let (texture, path, prefix) = (read.texture, read.path, read.prefix);
-            let tile = read.tile;
-            format!(in alloc; "plain {texture} {path} {prefix} {tile}")
-        }
-        Ok(Command::Tile(read)) => {
-            let (texture, store, tile) = (read.texture, read.store, read.tile);
-            format!(in alloc; "tile {texture} {store} {tile}")
-        }
-        Ok(Command::Info(read)) => {
-            let store = read.store;
-            format!(in alloc; "info {store}")
-        }
-        Ok(Command::Gen(read)) => {
-            let (number, width, height) = (read.number, read.width, read.height);
-            let name = read.name;
-            format!(in alloc; "gen {number} {width} {height} {name}")
-        }
-        Ok(Command::Trial(read)) => {
-            let number = read.number;
-            format!(in alloc; "trial {number}")
-        }
-        Ok(Command::Upgrade(read)) => {
-            let (store, new_store) = (read.store, read.new_store);
-            format!(in alloc; "upgrade {store} {new_store}")
-        }
+fn answer(alloc: Global, words: &[String]) -> Result<String, AllocError> {
+    match read_command(alloc, words) {
+        Ok(Command::Plain(read)) => plain_shown(alloc, &read),
+        Ok(Command::Tile(read)) => tile_shown(alloc, &read),
+        Ok(Command::Info(read)) => info_shown(alloc, read.store),
+        Ok(Command::Gen(read)) => gen_shown(alloc, &read),
+        Ok(Command::Trial(read)) => trial_shown(alloc, read.number),
+        Ok(Command::Upgrade(read)) => upgrade_shown(alloc, &read),
         Ok(Command::Replay(read)) => replay_shown(alloc, &read),
         Ok(Command::Walk(read)) => walk_shown(alloc, &read),
         Err(WordsError::Usage) => String::from_str(alloc, "usage"),
@@ -83,20 +118,40 @@ fn answer(alloc: Global, words: &[&str]) -> Result<String, AllocError> {
     }
 }
 
-// How many of the cases are answered otherwise than by their second text.
-fn misread(alloc: Global, cases: &[(&[&str], &str)]) -> Result<usize, AllocError> {
-    let mut count: usize = 0;
-    for (words, expected) in cases {
-        if answer(alloc, words)?.as_str() != *expected {
-            count = count.saturating_add(1);
+// Words as they are typed.
+fn typed(alloc: Global, words: &[&str]) -> Result<Vec<String>, AllocError> {
+    let mut list = Vec::new(alloc);
+    for word in words {
+        list.push(String::from_str(alloc, word)?)?;
+    }
+    Ok(list)
+}
+
+// Whether words are answered by this text.
+fn is_read(alloc: Global, words: &[&str], want: &str) -> bool {
+    let Ok(list) = typed(alloc, words) else {
+        return false;
+    };
+    match answer(alloc, list.as_slice()) {
+        Ok(shown) => shown.as_str() == want,
+        Err(_) => false,
+    }
+}
+
+// The first of the cases that is answered otherwise than by its second text.
+fn misread(alloc: Global, cases: &[(&[&str], &str)]) -> Option<usize> {
+    for i in 0..cases.len() {
+        let (words, want) = cases[i];
+        if !is_read(alloc, words, want) {
+            return Some(i);
         }
     }
-    Ok(count)
+    None
 }
 
 /// Looks that each of the cases is answered by its second text.
 pub fn are_read(rt: &impl Abort, alloc: Global, cases: &[(&[&str], &str)]) {
-    assert_eq!(rt; misread(alloc, cases), Ok(0));
+    no_row_is_wrong(rt, misread(alloc, cases));
 }
 
 #[test]
@@ -219,11 +274,23 @@ fn a_name_is_not_both_read_and_written(rt: HostRuntime) {
     are_read(&rt, rt.alloc(), &CASES);
 }
 
+// Whether a picture of this prefix has this name.
+fn is_named(alloc: Global, prefix: &str, picture: u32, want: &str) -> bool {
+    if picture >= 10000 {
+        return false;
+    }
+    match picture_name(alloc, prefix, picture) {
+        Ok(name) => name.as_str() == want,
+        Err(_) => false,
+    }
+}
+
 #[test]
 fn a_picture_has_four_digits(rt: HostRuntime) {
-    assert!(rt; is_picture_name("a/", "a/0730.ppm"));
-    assert!(rt; !is_picture_name("a/", "a/0730.pp"));
-    assert!(rt; !is_picture_name("a/", "a/073:.ppm"));
-    let name = picture_name(rt.alloc(), "a/", 73).expect(&rt, "memory");
-    assert!(rt; name.as_str() == "a/0073.ppm");
+    assert!(rt;
+        is_picture_name("a/", "a/0730.ppm")
+            && !is_picture_name("a/", "a/0730.pp")
+            && !is_picture_name("a/", "a/073:.ppm")
+            && is_named(rt.alloc(), "a/", 73, "a/0073.ppm")
+    );
 }

@@ -2,16 +2,14 @@
 
 mod foreign;
 
-use super::{camera_of, has_numbers};
+use super::{begins_with, has_numbers};
+use crate::fixtures::no_row_is_wrong;
 use std::alloc::Global;
-use std::process::Abort;
-use std::test::Fail;
-use vt_camera::{Camera, parse_path, path_flaw_is_unique, path_has_no_flaw, path_is_unique};
+use vt_camera::{Camera, Path, parse_path, path_flaw_is_unique, path_has_no_flaw, path_is_unique};
 
 #[test]
-fn one_key_gives_one_picture(rt: HostRuntime) -> Result<(), Fail> {
-    let path = parse_path(rt.alloc(), b"size 2 1\nfocal 1\nat 0 0 256 16384 0\n")?;
-    has_numbers(&rt, &path, (2, 1, 1, 1));
+fn one_key_gives_one_picture(rt: HostRuntime) {
+    let text = b"size 2 1\nfocal 1\nat 0 0 256 16384 0\n";
     let camera = Camera {
         u: 0,
         v: 0,
@@ -19,62 +17,76 @@ fn one_key_gives_one_picture(rt: HostRuntime) -> Result<(), Fail> {
         c: 16384,
         s: 0,
     };
-    assert!(rt; camera_of(&rt, &path, 0) == camera);
+    assert!(rt; begins_with(rt.alloc(), text, (2, 1, 1, 1), camera));
     path_is_unique();
     path_flaw_is_unique();
     path_has_no_flaw();
-    Ok(())
 }
 
-// Looks at the place and the cosine of the camera of each picture of a path.
-fn are_at(
-    rt: &impl Abort,
-    alloc: Global,
-    text: &[u8],
-    cameras: &[(i64, i64, i64)],
-) -> Result<(), Fail> {
-    let path = parse_path(alloc, text)?;
-    assert_eq!(rt; path.pictures() as usize, cameras.len());
-    for (picture, (u, v, c)) in cameras.iter().enumerate() {
-        let camera = camera_of(rt, &path, picture as u32);
-        assert_eq!(rt; (camera.u, camera.v, camera.c), (*u, *v, *c));
+// Whether the camera of a picture has this place and this cosine.
+fn is_at(path: &Path, picture: usize, want: (i64, i64, i64)) -> bool {
+    if picture >= path.pictures() as usize {
+        return false;
     }
-    Ok(())
+    let camera = path.camera(picture as u32);
+    camera.u == want.0 && camera.v == want.1 && camera.c == want.2
+}
+
+// The first picture of a path whose camera has another place or another cosine, or their number where that is another.
+fn other_picture(alloc: Global, text: &[u8], cameras: &[(i64, i64, i64)]) -> Option<usize> {
+    let Ok(path) = parse_path(alloc, text) else {
+        return Some(0);
+    };
+    for i in 0..cameras.len() {
+        if !is_at(&path, i, cameras[i]) {
+            return Some(i);
+        }
+    }
+    if path.pictures() as usize == cameras.len() {
+        None
+    } else {
+        Some(cameras.len())
+    }
 }
 
 #[test]
-fn pictures_on_the_way_are_rounded_down(rt: HostRuntime) -> Result<(), Fail> {
-    let text = b"size 2 1\nfocal 1\nat 0 0 256 16384 0\nto 3 -10 0 256 16384 0\n";
-    let cameras = [
+fn pictures_on_the_way_are_rounded_down(rt: HostRuntime) {
+    const CAMERAS: [(i64, i64, i64); 4] = [
         (0, 0, 16384),
         (-4, 0, 16384),
         (-7, 0, 16384),
         (-10, 0, 16384),
     ];
-    are_at(&rt, rt.alloc(), text, &cameras)
+    let text = b"size 2 1\nfocal 1\nat 0 0 256 16384 0\nto 3 -10 0 256 16384 0\n";
+    no_row_is_wrong(&rt, other_picture(rt.alloc(), text, &CAMERAS));
 }
 
 #[test]
-fn each_way_begins_at_the_key_before_it(rt: HostRuntime) -> Result<(), Fail> {
+fn each_way_begins_at_the_key_before_it(rt: HostRuntime) {
+    const CAMERAS: [(i64, i64, i64); 5] = [(0, 8, 0), (1, 8, 0), (2, 4, 0), (4, 0, 0), (9, 9, 0)];
     let text = b"size 2 1\nfocal 1\nat 0 8 1 0 0\nat 1 8 1 0 0\nto 2 4 0 1 0 0\nto 1 9 9 1 0 0\n";
-    let cameras = [(0, 8, 0), (1, 8, 0), (2, 4, 0), (4, 0, 0), (9, 9, 0)];
-    are_at(&rt, rt.alloc(), text, &cameras)
+    no_row_is_wrong(&rt, other_picture(rt.alloc(), text, &CAMERAS));
+}
+
+// Whether a path of the greatest numbers goes from the greatest place to the least.
+fn has_the_most(path: &Path) -> bool {
+    has_numbers(path, (2048, 2048, 4096, 9999))
+        && 9998 < path.pictures()
+        && path.camera(0).u == 2147483648
+        && path.camera(9998).u == -2147483648
+}
+
+// Whether a path has the least numbers, and its first picture the least sine.
+fn has_the_least(path: &Path) -> bool {
+    has_numbers(path, (1, 1, 1, 1)) && 0 < path.pictures() && path.camera(0).s == -16384
 }
 
 #[test]
-fn numbers_at_their_limits_are_accepted(rt: HostRuntime) -> Result<(), Fail> {
-    let most = parse_path(
-        rt.alloc(),
-        b"size 2048 2048\nfocal 4096\nat 2147483648 2147483648 16777216 16384 16384\nto 9998 -2147483648 0 1 0 0\n",
-    )?;
-    has_numbers(&rt, &most, (2048, 2048, 4096, 9999));
-    assert!(rt; camera_of(&rt, &most, 0).u == 2147483648);
-    assert!(rt; camera_of(&rt, &most, 9998).u == -2147483648);
-    let least = parse_path(
-        rt.alloc(),
-        b"size 1 1\nfocal 1\nat -2147483648 -2147483648 1 -16384 -16384\n",
-    )?;
-    has_numbers(&rt, &least, (1, 1, 1, 1));
-    assert!(rt; camera_of(&rt, &least, 0).s == -16384);
-    Ok(())
+fn numbers_at_their_limits_are_accepted(rt: HostRuntime) {
+    let most =
+        b"size 2048 2048\nfocal 4096\nat 2147483648 2147483648 16777216 16384 16384\nto 9998 -2147483648 0 1 0 0\n";
+    let most = parse_path(rt.alloc(), most).expect(&rt, "a path");
+    let least = b"size 1 1\nfocal 1\nat -2147483648 -2147483648 1 -16384 -16384\n";
+    let least = parse_path(rt.alloc(), least).expect(&rt, "a path");
+    assert!(rt; has_the_most(&most) && has_the_least(&least));
 }

@@ -4,7 +4,6 @@ ghost use Rattle.std.specs.Prelude.{◌≡◌, [], ◌∷◌, IfOk};
 ghost use Rattle.vt_journal.specs.declared.changes.Change.{Change};
 
 use std::alloc::Global;
-use std::test::Fail;
 use vt_journal::{Change, Journal};
 use vt_outside::NoMemory;
 
@@ -18,12 +17,17 @@ pub fn one_map(alloc: Global) -> Result<Journal, NoMemory>
     Ok(journal)
 }
 
+// Whether the journal of one change has that change.
+fn has_one_version(alloc: Global) -> bool {
+    match one_map(alloc) {
+        Ok(journal) => journal.version() == 1
+            && journal.change(1) == Change::Map { page: 4, frame: 0 },
+        Err(_) => false,
+    }
+}
+
 #[test]
-fn changes_make_the_versions_of_a_journal(rt: HostRuntime) -> Result<(), Fail> {
+fn changes_make_the_versions_of_a_journal(rt: HostRuntime) {
     let empty = Journal::new(rt.alloc());
-    assert_eq!(rt; empty.version(), 0);
-    let journal = one_map(rt.alloc())?;
-    assert_eq!(rt; journal.version(), 1);
-    assert_eq!(rt; journal.change(1), Change::Map { page: 4, frame: 0 });
-    Ok(())
+    assert!(rt; empty.version() == 0 && has_one_version(rt.alloc()));
 }

@@ -7,33 +7,20 @@ ghost use Rattle.vt_journal.specs.JournalText.{IsEventInChain};
 use super::versions::one_map;
 use super::{LOST_TILE, SETTLED};
 use std::alloc::Global;
-use std::process::Abort;
-use std::test::Fail;
 use vt_journal::{
-    Change, Event, Events, Journal, PassText, RowLine, RowLines, add_pass, parse_journal,
-    write_head, write_pass,
+    Change, Event, Events, Journal, JournalText, PassText, RowLine, RowLines, add_pass,
+    parse_journal, write_head, write_pass,
 };
+use vt_outside::NoMemory;
 use vt_pages::Geometry;
 
 // What a pass of one row tells, which sampler 0 drew.
-#[derive(Clone, Copy)]
-struct Told<'a> {
+struct Told {
     pass: u32,
     picture: u32,
     start: u64,
-    events: &'a [Event],
+    events: &'static [Event],
     version: u64,
-}
-
-// What a pass of one row tells.
-fn tells(pass: u32, picture: u32, start: u64, events: &[Event], version: u64) -> Told {
-    Told {
-        pass,
-        picture,
-        start,
-        events,
-        version,
-    }
 }
 
 // Whether the page that an event names is in the chain.
@@ -69,121 +56,234 @@ fn row_of(told: &Told) -> RowLine {
 }
 
 // The text of the one pinned page.
-fn head_text(rt: &impl Abort, alloc: Global, geometry: &Geometry) -> Result<Vec<u8>, Fail> {
+fn head_text(alloc: Global, geometry: &Geometry) -> Result<Vec<u8>, NoMemory> {
     let journal = one_map(alloc)?;
-    assert_eq!(rt; geometry.page_count(), 5);
-    Ok(write_head(alloc, geometry, &journal, 1)?)
+    if geometry.page_count() != 5 {
+        return Err(NoMemory);
+    }
+    write_head(alloc, geometry, &journal, 1)
 }
 
-// Appends the text of a pass, which is the same as what is written of it alone.
-fn add_text(
-    rt: &impl Abort,
-    alloc: Global,
-    text: &mut Vec<u8>,
-    geometry: &Geometry,
-    told: &Told,
-) -> Result<(), Fail> {
-    let pass = PassText {
+// A pass that tells this.
+fn pass_of(alloc: Global, told: &Told) -> Result<PassText, NoMemory> {
+    let events = Events::from_slice(alloc, told.events)?;
+    let rows = RowLines::from_slice(alloc, &[row_of(told)])?;
+    Ok(PassText {
         pass: told.pass,
         picture: told.picture,
         start: told.start,
-        events: Events::from_slice(alloc, told.events)?,
-        rows: RowLines::from_slice(alloc, &[row_of(told)])?,
-    };
-    assert!(rt; are_in_chain(geometry, pass.events.slice()));
-    assert!(rt; pass.events.len() < 100);
-    assert!(rt; pass.start < 100);
-    add_pass(text, geometry, &pass)?;
-    let alone = write_pass(alloc, geometry, &pass)?;
-    assert!(rt; text.as_slice().ends_with(alone.as_slice()));
-    Ok(())
+        events,
+        rows,
+    })
 }
 
-// Looks that a pass that was read tells what it is to tell.
-fn is_told(rt: &impl Abort, read: &PassText, told: &Told) {
-    assert_eq!(rt; read.pass, told.pass);
-    assert_eq!(rt; read.picture, told.picture);
-    assert_eq!(rt; read.start, told.start);
-    assert_eq!(rt; read.events.slice(), told.events);
-    assert_eq!(rt; read.rows.slice(), [row_of(told)].as_slice());
+// Appends the text of a pass, and tells whether it is the same as what is written of it alone.
+fn is_added(alloc: Global, text: &mut Vec<u8>, geometry: &Geometry, pass: &PassText) -> bool {
+    if !are_in_chain(geometry, pass.events.slice())
+        || pass.events.len() >= 100
+        || pass.start >= 100
+    {
+        return false;
+    }
+    let is_added = add_pass(text, geometry, pass).is_ok();
+    match write_pass(alloc, geometry, pass) {
+        Ok(alone) => is_added && text.as_slice().ends_with(alone.as_slice()),
+        Err(_) => false,
+    }
 }
 
-// Looks that the passes are written as the text, which is read as they are, with these changes.
-fn are_told(
-    rt: &impl Abort,
+// Appends the texts of passes, and tells whether each is the same as what is written of it alone.
+fn are_added(alloc: Global, text: &mut Vec<u8>, geometry: &Geometry, passes: &[Told]) -> bool {
+    for told in passes {
+        match pass_of(alloc, told) {
+            Ok(pass) => {
+                if !is_added(alloc, text, geometry, &pass) {
+                    return false;
+                }
+            }
+            Err(_) => return false,
+        }
+    }
+    true
+}
+
+// Whether the passes are written as the text.
+fn are_written(alloc: Global, geometry: &Geometry, passes: &[Told], text: &str) -> bool {
+    match head_text(alloc, geometry) {
+        Ok(mut written) => {
+            are_added(alloc, &mut written, geometry, passes)
+                && written.as_slice() == text.as_bytes()
+        }
+        Err(_) => false,
+    }
+}
+
+// Whether a pass that was read tells what it is to tell.
+fn is_told(read: &PassText, told: &Told) -> bool {
+    read.pass == told.pass
+        && read.picture == told.picture
+        && read.start == told.start
+        && read.events.slice() == told.events
+        && read.rows.slice() == [row_of(told)].as_slice()
+}
+
+// Whether the passes that were read tell what they are to tell.
+fn are_told(read: &JournalText, passes: &[Told]) -> bool {
+    if read.passes() as usize != passes.len() {
+        return false;
+    }
+    for i in 0..read.passes() {
+        if !is_told(read.pass(i), &passes[i as usize]) {
+            return false;
+        }
+    }
+    true
+}
+
+// Whether the journal has these changes.
+fn has_changes(journal: &Journal, changes: &[Change]) -> bool {
+    if journal.version() as usize != changes.len() {
+        return false;
+    }
+    for i in 0..changes.len() {
+        if journal.change(i as u64 + 1) != changes[i] {
+            return false;
+        }
+    }
+    true
+}
+
+// Whether the text is read as the passes, with these changes.
+fn is_read(
     alloc: Global,
+    geometry: &Geometry,
+    text: &str,
     passes: &[Told],
     changes: &[Change],
-    text: &str,
-) -> Result<(), Fail> {
-    let geometry = Geometry::new(4, 4, 2)?;
-    let mut written = head_text(rt, alloc, &geometry)?;
-    for told in passes {
-        add_text(rt, alloc, &mut written, &geometry, told)?;
+) -> bool {
+    match parse_journal(alloc, geometry, 1, text.as_bytes()) {
+        Ok(read) => {
+            read.pinned() == 1 && are_told(&read, passes) && has_changes(read.journal(), changes)
+        }
+        Err(_) => false,
     }
-    assert_eq!(rt; written.as_slice(), text.as_bytes());
-    let read = parse_journal(alloc, &geometry, 1, written.as_slice())?;
-    assert_eq!(rt; read.pinned(), 1);
-    assert_eq!(rt; read.passes() as usize, passes.len());
-    for (i, told) in passes.iter().enumerate() {
-        is_told(rt, read.pass(i as u32), told);
-    }
-    let journal = read.journal();
-    assert_eq!(rt; journal.version() as usize, changes.len());
-    for (i, change) in changes.iter().enumerate() {
-        assert_eq!(rt; journal.change(i as u64 + 1), *change);
-    }
-    Ok(())
 }
 
+// Whether the passes are written as the text, which is read as they are, with these changes.
+fn is_written_and_read(alloc: Global, passes: &[Told], changes: &[Change], text: &str) -> bool {
+    match Geometry::new(4, 4, 2) {
+        Ok(geometry) => {
+            are_written(alloc, &geometry, passes, text)
+                && is_read(alloc, &geometry, text, passes, changes)
+        }
+        Err(_) => false,
+    }
+}
+
+// The changes of both journals.
+const ROOT: Change = Change::Map { page: 4, frame: 0 };
+
+const FIRST: Change = Change::Map { page: 0, frame: 1 };
+
+const SECOND: Change = Change::Map { page: 2, frame: 2 };
+
 #[test]
-fn the_journal_of_a_lost_tile_is_written_and_read(rt: HostRuntime) -> Result<(), Fail> {
-    let root = Change::Map { page: 4, frame: 0 };
-    let first = Change::Map { page: 0, frame: 1 };
-    let second = Change::Map { page: 2, frame: 2 };
-    let victim = Change::Unmap { page: 0, frame: 1 };
-    let third = Change::Map { page: 3, frame: 1 };
-    let loaded = [Event::Changed(first), Event::Changed(second)];
-    let lost = [
+fn the_journal_of_a_lost_tile_is_written_and_read(rt: HostRuntime) {
+    const VICTIM: Change = Change::Unmap { page: 0, frame: 1 };
+    const THIRD: Change = Change::Map { page: 3, frame: 1 };
+    const LOST: [Event; 3] = [
         Event::Lost { page: 1 },
-        Event::Changed(victim),
-        Event::Changed(third),
+        Event::Changed(VICTIM),
+        Event::Changed(THIRD),
     ];
-    let passes = [
-        tells(1, 0, 1, &[], 1),
-        tells(2, 1, 1, &loaded, 1),
-        tells(3, 2, 3, &[], 3),
-        tells(4, 3, 3, &lost, 3),
+    const PASSES: [Told; 4] = [
+        Told {
+            pass: 1,
+            picture: 0,
+            start: 1,
+            events: &[],
+            version: 1,
+        },
+        Told {
+            pass: 2,
+            picture: 1,
+            start: 1,
+            events: &[Event::Changed(FIRST), Event::Changed(SECOND)],
+            version: 1,
+        },
+        Told {
+            pass: 3,
+            picture: 2,
+            start: 3,
+            events: &[],
+            version: 3,
+        },
+        Told {
+            pass: 4,
+            picture: 3,
+            start: 3,
+            events: &LOST,
+            version: 3,
+        },
     ];
-    are_told(
-        &rt,
-        rt.alloc(),
-        &passes,
-        &[root, first, second, victim, third],
-        LOST_TILE,
-    )
+    let changes = [ROOT, FIRST, SECOND, VICTIM, THIRD];
+    assert!(rt; is_written_and_read(rt.alloc(), &PASSES, &changes, LOST_TILE));
 }
 
 #[test]
-fn the_journal_of_a_settled_picture_is_written_and_read(rt: HostRuntime) -> Result<(), Fail> {
-    let root = Change::Map { page: 4, frame: 0 };
-    let first = Change::Map { page: 0, frame: 1 };
-    let second = Change::Map { page: 2, frame: 2 };
-    let loaded = [Event::Changed(first), Event::Changed(second)];
-    let passes = [
-        tells(1, 0, 1, &[], 1),
-        tells(2, 0, 1, &loaded[..1], 2),
-        tells(3, 0, 2, &loaded[1..], 3),
-        tells(4, 0, 3, &[], 3),
+fn the_journal_of_a_settled_picture_is_written_and_read(rt: HostRuntime) {
+    const PASSES: [Told; 4] = [
+        Told {
+            pass: 1,
+            picture: 0,
+            start: 1,
+            events: &[],
+            version: 1,
+        },
+        Told {
+            pass: 2,
+            picture: 0,
+            start: 1,
+            events: &[Event::Changed(FIRST)],
+            version: 2,
+        },
+        Told {
+            pass: 3,
+            picture: 0,
+            start: 2,
+            events: &[Event::Changed(SECOND)],
+            version: 3,
+        },
+        Told {
+            pass: 4,
+            picture: 0,
+            start: 3,
+            events: &[],
+            version: 3,
+        },
     ];
-    are_told(&rt, rt.alloc(), &passes, &[root, first, second], SETTLED)
+    let changes = [ROOT, FIRST, SECOND];
+    assert!(rt; is_written_and_read(rt.alloc(), &PASSES, &changes, SETTLED));
+}
+
+// The text of no pinned page.
+fn empty_head(alloc: Global, geometry: &Geometry) -> Result<Vec<u8>, NoMemory> {
+    let journal = Journal::new(alloc);
+    write_head(alloc, geometry, &journal, 0)
+}
+
+// Whether the text of no pinned page is empty.
+fn is_head_empty(alloc: Global) -> bool {
+    let Ok(geometry) = Geometry::new(4, 4, 2) else {
+        return false;
+    };
+    match empty_head(alloc, &geometry) {
+        Ok(head) => head.is_empty(),
+        Err(_) => false,
+    }
 }
 
 #[test]
-fn the_head_of_no_pinned_page_is_empty(rt: HostRuntime) -> Result<(), Fail> {
-    let geometry = Geometry::new(4, 4, 2)?;
-    let journal = Journal::new(rt.alloc());
-    let head = write_head(rt.alloc(), &geometry, &journal, 0)?;
-    assert!(rt; head.is_empty());
-    Ok(())
+fn the_head_of_no_pinned_page_is_empty(rt: HostRuntime) {
+    assert!(rt; is_head_empty(rt.alloc()));
 }

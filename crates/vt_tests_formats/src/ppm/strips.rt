@@ -1,12 +1,11 @@
 //! Textures that are read by rows.
 ghost use Rattle.std.specs.Prelude.{◌≡◌, true, IfOk, OnOk};
 
-use crate::ppm::{folder_of, is_asked, refusal};
-use std::alloc::{AllocError, Global};
-use std::process::Abort;
-use std::test::Fail as TestFail;
-use vt_outside::{Fail, Folder, MemoryFile, MemoryFolder, Place};
-use vt_ppm::{PpmError, StripReader, read_header};
+use super::{are_asked, around, header_of, header_refusal, holding, refusal};
+use crate::fixtures::no_row_is_wrong;
+use std::alloc::Global;
+use vt_outside::{Fail, Folder, MemoryFile, MemoryFolder};
+use vt_ppm::{PpmError, StripReader};
 
 // A reader of the texture that `t` holds.
 fn opened_in(
@@ -48,6 +47,29 @@ fn checked_in(alloc: Global, folder: &mut MemoryFolder) -> Result<StripReader<Me
     }
 }
 
+// Reads so many rows from one on, which there are, into as much room as they need.
+fn read_into(
+    reader: &mut StripReader<MemoryFile>,
+    y: u32,
+    count: u32,
+    rows: &mut [u8],
+) -> Result<(), PpmError>
+    requires { reader.old.checked ≡ true }
+    ensures { reader.new.checked ≡ true }
+{
+    let height = reader.header().height;
+    if y > height || count > height - y || rows.len() != count as usize * reader.row_length() {
+        return Err(PpmError::Failed);
+    }
+    reader.reserve(1)?;
+    if count == 1 {
+        reader.row(y, rows)?;
+    } else {
+        reader.rows(y, count, rows)?;
+    }
+    Ok(())
+}
+
 // So many rows from one on.
 fn rows_in(
     alloc: Global,
@@ -58,41 +80,61 @@ fn rows_in(
     requires { reader.old.checked ≡ true }
     ensures { reader.new.checked ≡ true }
 {
-    let height = reader.header().height;
-    if y > height || count > height - y {
-        return Err(PpmError::Failed);
-    }
     let length = count as usize * reader.row_length();
-    let mut rows = vec![in alloc; 0u8; length].map_err(|_| PpmError::NoMemory)?;
-    reader.reserve(1)?;
-    if count == 1 {
-        reader.row(y, &mut rows)?;
-    } else {
-        reader.rows(y, count, &mut rows)?;
+    let Ok(mut rows) = vec![in alloc; 0u8; length] else {
+        return Err(PpmError::NoMemory);
+    };
+    match read_into(reader, y, count, &mut rows) {
+        Ok(()) => Ok(rows),
+        Err(refusal) => Err(refusal),
     }
-    Ok(rows)
 }
 
-// Strips of the texture that `t` holds: so many rows from one on, and then others.
-fn strips_in(
+// Rows of a texture, as many as the second number tells from the first on, or why they cannot be read.
+type Strip<'a> = (u32, u32, Result<&'a [u8], PpmError>);
+
+// Whether these rows are read, or refused so.
+fn is_strip(alloc: Global, reader: &mut StripReader<MemoryFile>, strip: Strip) -> bool
+    requires { reader.old.checked ≡ true }
+    ensures { reader.new.checked ≡ true }
+{
+    match rows_in(alloc, reader, strip.0, strip.1) {
+        Ok(rows) => strip.2 == Ok(rows.as_slice()),
+        Err(refusal) => strip.2 == Err(refusal),
+    }
+}
+
+// Whether the samples of the texture that `t` holds have so many bytes, and it gives a strip and then another.
+fn gives(
     alloc: Global,
     folder: &mut MemoryFolder,
-    first: (u32, u32),
-    second: (u32, u32),
-) -> Result<(Result<Vec<u8>, PpmError>, Result<Vec<u8>, PpmError>), PpmError> {
-    let mut reader = checked_in(alloc, folder)?;
-    let one = rows_in(alloc, &mut reader, first.0, first.1);
-    let other = rows_in(alloc, &mut reader, second.0, second.1);
+    depth: u32,
+    first: Strip,
+    second: Strip,
+) -> bool {
+    let Ok(mut reader) = checked_in(alloc, folder) else {
+        return false;
+    };
+    let gives = reader.depth() == depth
+        && is_strip(alloc, &mut reader, first)
+        && is_strip(alloc, &mut reader, second);
     folder.close(reader.into_file());
-    Ok((one, other))
+    gives
 }
 
-// How many bytes the samples of the texture that `t` holds have.
-fn depth_in(alloc: Global, folder: &mut MemoryFolder) -> Result<u32, PpmError> {
-    let reader = opened_in(alloc, folder)?;
-    let depth = reader.depth();
-    folder.close(reader.into_file());
-    Ok(depth)
+// Whether the bytes are a texture of this depth that gives a strip and then another while these calls fail.
+fn are_strips(
+    alloc: Global,
+    bytes: &[u8],
+    calls: &[Fail],
+    depth: u32,
+    first: Strip,
+    second: Strip,
+) -> bool {
+    match holding(alloc, bytes, calls) {
+        Ok(mut folder) => gives(alloc, &mut folder, depth, first, second),
+        Err(_) => false,
+    }
 }
 
 // The refusal of an answer; a reader is closed.
@@ -110,33 +152,48 @@ fn refusal_of(
 }
 
 // The refusal of an opening of these bytes.
-fn open_refusal(alloc: Global, bytes: &[u8], calls: &[Fail]) -> Result<Option<PpmError>, PpmError> {
-    let mut folder = folder_of(alloc, bytes, calls)?;
+fn open_refusal(alloc: Global, bytes: &[u8], calls: &[Fail]) -> Option<PpmError> {
+    let Ok(mut folder) = holding(alloc, bytes, calls) else {
+        return Some(PpmError::NoMemory);
+    };
     let answer = opened_in(alloc, &mut folder);
-    Ok(refusal_of(&mut folder, answer))
+    refusal_of(&mut folder, answer)
+}
+
+// The refusal of an opening of what `t` holds, or of looking it over.
+fn check_refusal_in(alloc: Global, folder: &mut MemoryFolder) -> Option<PpmError> {
+    let answer = checked_in(alloc, folder);
+    refusal_of(folder, answer)
 }
 
 // The refusal of an opening of these bytes, or of looking them over.
-fn check_refusal(
-    alloc: Global,
-    bytes: &[u8],
-    calls: &[Fail],
-) -> Result<Option<PpmError>, PpmError> {
-    let mut folder = folder_of(alloc, bytes, calls)?;
-    let answer = checked_in(alloc, &mut folder);
-    Ok(refusal_of(&mut folder, answer))
-}
-
-// Looks at strips of a texture, or at why they could not be read.
-fn is_strip(rt: &impl Abort, strip: Result<Vec<u8>, PpmError>, want: Result<&[u8], PpmError>) {
-    match strip {
-        Ok(rows) => assert_eq!(rt; Ok(rows.as_slice()), want),
-        Err(refusal) => assert_eq!(rt; Err(refusal), want),
+fn check_refusal(alloc: Global, bytes: &[u8], calls: &[Fail]) -> Option<PpmError> {
+    match holding(alloc, bytes, calls) {
+        Ok(mut folder) => check_refusal_in(alloc, &mut folder),
+        Err(_) => Some(PpmError::NoMemory),
     }
 }
 
+// The first of these textures of two rows that has another depth or other rows; the second row is read first.
+fn misscaled(alloc: Global, rows: &[(&[u8], u32, &[u8], &[u8])]) -> Option<usize> {
+    for i in 0..rows.len() {
+        let (bytes, depth, first, second) = rows[i];
+        if !are_strips(
+            alloc,
+            bytes,
+            &[],
+            depth,
+            (1, 1, Ok(second)),
+            (0, 1, Ok(first)),
+        ) {
+            return Some(i);
+        }
+    }
+    None
+}
+
 #[test]
-fn rows_of_either_depth_are_scaled(rt: HostRuntime) -> Result<(), TestFail> {
+fn rows_of_either_depth_are_scaled(rt: HostRuntime) {
     const TEXTURES: [(&[u8], u32, &[u8], &[u8]); 4] = [
         (
             b"P6 1 2 100\n\x00\x32\x64\x64\x32\x00",
@@ -153,38 +210,44 @@ fn rows_of_either_depth_are_scaled(rt: HostRuntime) -> Result<(), TestFail> {
         ),
         (b"P6 1 2 65535\nabcdefghijkl", 2, b"abcdef", b"ghijkl"),
     ];
-    for (bytes, depth, first, second) in &TEXTURES {
-        let mut folder = folder_of(rt.alloc(), bytes, &[])?;
-        assert!(rt; depth_in(rt.alloc(), &mut folder) == Ok(*depth));
-        let (lower, upper) = strips_in(rt.alloc(), &mut folder, (1, 1), (0, 1))?;
-        is_strip(&rt, upper, Ok(first));
-        is_strip(&rt, lower, Ok(second));
-    }
-    Ok(())
+    no_row_is_wrong(&rt, misscaled(rt.alloc(), &TEXTURES));
 }
 
-// A place that was read.
-fn read_of(at: u64, len: u64) -> Place {
-    Place {
-        at,
-        len,
-        failed: false,
-    }
-}
-
-#[test]
-fn several_rows_are_one_read(rt: HostRuntime) -> Result<(), TestFail> {
-    let mut folder = folder_of(rt.alloc(), b"P6 1 3 255\nabcdefghi and more", &[])?;
-    let (lower, all) = strips_in(rt.alloc(), &mut folder, (1, 2), (0, 3))?;
-    is_strip(&rt, lower, Ok(b"defghi"));
-    is_strip(&rt, all, Ok(b"abcdefghi"));
-    let places = [read_of(0, 29), read_of(14, 6), read_of(11, 9)];
-    assert!(rt; folder.was_asked("t", &places));
-    Ok(())
+// Whether two rows and then all three are read at once.
+fn are_one_read_each(alloc: Global) -> bool {
+    let Ok(mut folder) = holding(alloc, b"P6 1 3 255\nabcdefghi and more", &[]) else {
+        return false;
+    };
+    gives(
+        alloc,
+        &mut folder,
+        1,
+        (1, 2, Ok(b"defghi")),
+        (0, 3, Ok(b"abcdefghi")),
+    ) && are_asked(&folder, &[(0, 29), (14, 6), (11, 9)])
 }
 
 #[test]
-fn a_texture_may_be_larger_than_an_image(rt: HostRuntime) -> Result<(), TestFail> {
+fn several_rows_are_one_read(rt: HostRuntime) {
+    assert!(rt; are_one_read_each(rt.alloc()));
+}
+
+// The first of these bytes that are refused otherwise as an image, or as a texture that is read by rows.
+fn misrefused(
+    alloc: Global,
+    rows: &[(&[u8], Option<PpmError>, Option<PpmError>)],
+) -> Option<usize> {
+    for i in 0..rows.len() {
+        let (bytes, whole, by_rows) = rows[i];
+        if refusal(alloc, bytes, &[]) != whole || open_refusal(alloc, bytes, &[]) != by_rows {
+            return Some(i);
+        }
+    }
+    None
+}
+
+#[test]
+fn a_texture_may_be_larger_than_an_image(rt: HostRuntime) {
     const BAD_SIZE: Option<PpmError> = Some(PpmError::BadSize);
     const HEADERS: [(&[u8], Option<PpmError>, Option<PpmError>); 5] = [
         (
@@ -224,43 +287,36 @@ fn a_texture_may_be_larger_than_an_image(rt: HostRuntime) -> Result<(), TestFail
         ),
         (b"P6 16385 1 255\n", BAD_SIZE, BAD_SIZE),
     ];
-    for (bytes, whole, by_rows) in &HEADERS {
-        assert_eq!(rt; refusal(rt.alloc(), bytes, &[])?, *whole);
-        assert_eq!(rt; open_refusal(rt.alloc(), bytes, &[])?, *by_rows);
+    no_row_is_wrong(&rt, misrefused(rt.alloc(), &HEADERS));
+}
+
+// Whether the header of these bytes tells this width.
+fn has_width(alloc: Global, bytes: &[u8], width: u32) -> bool {
+    match header_of(alloc, bytes, &[]) {
+        Ok(header) => header.width == width,
+        Err(_) => false,
     }
-    Ok(())
-}
-
-// The width that the header of `t` tells.
-fn width_in(alloc: Global, folder: &mut MemoryFolder) -> Result<u32, PpmError> {
-    let Ok(mut file) = folder.open("t") else {
-        return Err(PpmError::Failed);
-    };
-    let header = read_header(alloc, &mut file);
-    folder.close(file);
-    Ok(header?.width)
-}
-
-// Looks at the width that a header tells.
-fn has_width(
-    rt: &impl Abort,
-    alloc: Global,
-    bytes: &[u8],
-    width: Result<u32, PpmError>,
-) -> Result<(), TestFail> {
-    let mut folder = folder_of(alloc, bytes, &[])?;
-    assert_eq!(rt; width_in(alloc, &mut folder), width);
-    Ok(())
 }
 
 #[test]
-fn a_header_may_have_larger_sides_than_an_image(rt: HostRuntime) -> Result<(), TestFail> {
-    has_width(&rt, rt.alloc(), b"P6 16384 1 255\n", Ok(16384))?;
-    has_width(&rt, rt.alloc(), b"P6 16385 1 255\n", Err(PpmError::BadSize))
+fn a_header_may_have_larger_sides_than_an_image(rt: HostRuntime) {
+    assert!(rt; has_width(rt.alloc(), b"P6 16384 1 255\n", 16384));
+    assert!(rt; header_refusal(rt.alloc(), b"P6 16385 1 255\n", &[]) == Some(PpmError::BadSize));
+}
+
+// The first of these bytes that are refused otherwise when they are looked over.
+fn mischecked(alloc: Global, rows: &[(&[u8], Option<PpmError>)]) -> Option<usize> {
+    for i in 0..rows.len() {
+        let (bytes, want) = rows[i];
+        if check_refusal(alloc, bytes, &[]) != want {
+            return Some(i);
+        }
+    }
+    None
 }
 
 #[test]
-fn the_first_sample_above_the_maximum_is_named(rt: HostRuntime) -> Result<(), TestFail> {
+fn the_first_sample_above_the_maximum_is_named(rt: HostRuntime) {
     const TEXTURES: [(&[u8], Option<PpmError>); 5] = [
         (
             b"P6 1 2 100\n\x65\x00\x00\x00\x00\x65",
@@ -280,60 +336,63 @@ fn the_first_sample_above_the_maximum_is_named(rt: HostRuntime) -> Result<(), Te
             Some(PpmError::Truncated { want: 6, have: 2 }),
         ),
     ];
-    for (bytes, want) in &TEXTURES {
-        assert_eq!(rt; check_refusal(rt.alloc(), bytes, &[])?, *want);
+    no_row_is_wrong(&rt, mischecked(rt.alloc(), &TEXTURES));
+}
+
+// Whether bytes that are looked over are refused so, and were asked for these starts and lengths and for no more.
+fn is_asked_for(
+    alloc: Global,
+    bytes: &[u8],
+    refusal: Option<PpmError>,
+    places: &[(u64, u64)],
+) -> bool {
+    match holding(alloc, bytes, &[]) {
+        Ok(mut folder) => {
+            check_refusal_in(alloc, &mut folder) == refusal && are_asked(&folder, places)
+        }
+        Err(_) => false,
     }
-    Ok(())
-}
-
-// The bytes of a texture of 16384 columns and 23 rows, of which the last sample is above the maximum.
-fn wide_texture(alloc: Global) -> Result<Vec<u8>, AllocError> {
-    let mut bytes = Vec::from_slice(alloc, b"P6 16384 23 1\n")?;
-    let raster = vec![in alloc; 1u8; 1130495]?;
-    bytes.extend_from_slice(&raster)?;
-    bytes.push(2)?;
-    Ok(bytes)
 }
 
 #[test]
-fn a_raster_is_looked_over_in_pieces(rt: HostRuntime) -> Result<(), TestFail> {
-    let bytes = wide_texture(rt.alloc())?;
-    let mut folder = folder_of(rt.alloc(), &bytes, &[])?;
-    let answer = checked_in(rt.alloc(), &mut folder);
-    assert!(rt; refusal_of(&mut folder, answer) == Some(PpmError::SampleOver { at: 1130509 }));
-    let places = [
-        read_of(0, 65536),
-        read_of(14, 1081344),
-        read_of(1081358, 49152),
-    ];
-    assert!(rt; folder.was_asked("t", &places));
-    Ok(())
+fn a_raster_is_looked_over_in_pieces(rt: HostRuntime) {
+    // A texture of 16384 columns and 23 rows, of which the last sample is above the maximum.
+    let bytes = around(rt.alloc(), b"P6 16384 23 1\n", 1, 1130495, b"\x02").expect(&rt, "memory");
+    let refusal = Some(PpmError::SampleOver { at: 1130509 });
+    let places = [(0, 65536), (14, 1081344), (1081358, 49152)];
+    assert!(rt; is_asked_for(rt.alloc(), &bytes, refusal, &places));
 }
 
-#[test]
-fn a_raster_is_read_only_where_a_sample_may_be_over(rt: HostRuntime) -> Result<(), TestFail> {
-    const TEXTURES: [(&[u8], u64, Option<(u64, u64)>); 4] = [
-        (b"P6 1 2 255\nabcdef", 17, None),
-        (b"P6 1 2 254\nabcdef", 17, Some((11, 6))),
-        (b"P6 1 2 65535\nabcdefghijkl", 25, None),
-        (b"P6 1 2 65534\nabcdefghijkl", 25, Some((13, 12))),
-    ];
-    for (bytes, front, raster) in &TEXTURES {
-        let mut folder = folder_of(rt.alloc(), bytes, &[])?;
-        let answer = checked_in(rt.alloc(), &mut folder);
-        assert!(rt; refusal_of(&mut folder, answer) == None);
-        is_asked(&rt, &folder, 0, Some((0, *front)));
-        is_asked(&rt, &folder, 1, *raster);
-        is_asked(&rt, &folder, 2, None);
+// The first of these textures that is refused, or asked for other starts and lengths.
+fn misasked(alloc: Global, rows: &[(&[u8], &[(u64, u64)])]) -> Option<usize> {
+    for i in 0..rows.len() {
+        let (bytes, places) = rows[i];
+        if !is_asked_for(alloc, bytes, None, places) {
+            return Some(i);
+        }
     }
-    Ok(())
+    None
 }
 
 #[test]
-fn each_failing_read_is_told_and_a_row_is_read_after_it(rt: HostRuntime) -> Result<(), TestFail> {
-    let bytes = b"P6 1 2 100\n\x00\x32\x64\x64\x32\x00";
-    let failed = Some(PpmError::Failed);
-    let reads = [
+fn a_raster_is_read_only_where_a_sample_may_be_over(rt: HostRuntime) {
+    const TEXTURES: [(&[u8], &[(u64, u64)]); 4] = [
+        (b"P6 1 2 255\nabcdef", &[(0, 17)]),
+        (b"P6 1 2 254\nabcdef", &[(0, 17), (11, 6)]),
+        (b"P6 1 2 65535\nabcdefghijkl", &[(0, 25)]),
+        (b"P6 1 2 65534\nabcdefghijkl", &[(0, 25), (13, 12)]),
+    ];
+    no_row_is_wrong(&rt, misasked(rt.alloc(), &TEXTURES));
+}
+
+// A texture of two rows.
+const TWO_ROWS: &[u8] = b"P6 1 2 100\n\x00\x32\x64\x64\x32\x00";
+
+// Whether a failing call is told where the texture is opened, and where it is looked over.
+fn is_fault_told(alloc: Global) -> bool {
+    const FAILED: Option<PpmError> = Some(PpmError::Failed);
+    const CALLS: [Fail; 3] = [
+        Fail::Length { opening: 0 },
         Fail::Read {
             opening: 0,
             read: 0,
@@ -342,18 +401,30 @@ fn each_failing_read_is_told_and_a_row_is_read_after_it(rt: HostRuntime) -> Resu
             opening: 0,
             read: 1,
         },
-        Fail::Read {
-            opening: 0,
-            read: 2,
-        },
     ];
-    let length = Fail::Length { opening: 0 };
-    assert!(rt; open_refusal(rt.alloc(), bytes, &[length]) == Ok(failed));
-    assert!(rt; open_refusal(rt.alloc(), bytes, &[reads[0]]) == Ok(failed));
-    assert!(rt; check_refusal(rt.alloc(), bytes, &[reads[1]]) == Ok(failed));
-    let mut folder = folder_of(rt.alloc(), bytes, &[reads[2]])?;
-    let (first, second) = strips_in(rt.alloc(), &mut folder, (0, 1), (1, 1))?;
-    is_strip(&rt, first, Err(PpmError::Failed));
-    is_strip(&rt, second, Ok(b"\xff\x80\x00"));
-    Ok(())
+    open_refusal(alloc, TWO_ROWS, &CALLS[..1]) == FAILED
+        && open_refusal(alloc, TWO_ROWS, &CALLS[1..2]) == FAILED
+        && check_refusal(alloc, TWO_ROWS, &CALLS[2..]) == FAILED
+}
+
+// Whether a first row whose read fails is told, and the second is read after it.
+fn are_read_after_a_fault(alloc: Global) -> bool {
+    const CALL: Fail = Fail::Read {
+        opening: 0,
+        read: 2,
+    };
+    let first = (0, 1, Err(PpmError::Failed));
+    are_strips(
+        alloc,
+        TWO_ROWS,
+        &[CALL],
+        1,
+        first,
+        (1, 1, Ok(b"\xff\x80\x00")),
+    )
+}
+
+#[test]
+fn each_failing_read_is_told_and_a_row_is_read_after_it(rt: HostRuntime) {
+    assert!(rt; is_fault_told(rt.alloc()) && are_read_after_a_fault(rt.alloc()));
 }
