@@ -2,37 +2,61 @@
 
 mod tables;
 
-ghost use Rattle.std.specs.Prelude.{◌≡◌, ◌*◌, length};
+ghost use Rattle.std.specs.Prelude.{◌≡◌, length, IfSome};
 ghost use Rattle.vt_definitions.specs.Depths.{IsDepth};
 
 use crate::draw::tables::Table;
-use std::alloc::{AllocError, Global};
-use std::process::Abort;
-use std::test::Fail;
-use vt_camera::parse_path;
+use crate::fixtures::{FOUR, holds, image_of};
+use std::alloc::Global;
+use vt_camera::{Path, parse_path};
 use vt_draw::{Shot, draw_plain, draw_row};
 use vt_mip::Chain;
 use vt_pages::Geometry;
-use vt_ppm::Image;
 
 // One picture of two pixels, from the height of one texel.
 const PATH: &[u8] = b"size 2 1\nfocal 1\nat 0 0 256 16384 0\n";
 
-// Draws the picture at a depth over a table that maps the pages from a level on: its bytes, and the counts, which were 7 each.
-fn draw(
-    rt: &impl Abort,
-    alloc: Global,
-    least: u32,
-    depth: u32,
-    out: &mut [u8],
-) -> Result<[u32; 5], Fail>
-    requires depth { IsDepth depth }
-    requires room { length out.old ≡ 6 * depth }
+// The texture of four columns and rows in samples of two bytes, each 32,768 more.
+const WIDE_FOUR: [u8; 96] = [
+    0x80, 0, 0x80, 0, 0x80, 0, 0x80, 1, 0x80, 1, 0x80, 1, 0x80, 2, 0x80, 2, 0x80, 2, 0x80, 3, 0x80,
+    3, 0x80, 3, 0x80, 4, 0x80, 4, 0x80, 4, 0x80, 5, 0x80, 5, 0x80, 5, 0x80, 6, 0x80, 6, 0x80, 6,
+    0x80, 7, 0x80, 7, 0x80, 7, 0x80, 8, 0x80, 8, 0x80, 8, 0x80, 9, 0x80, 9, 0x80, 9, 0x80, 10,
+    0x80, 10, 0x80, 10, 0x80, 11, 0x80, 11, 0x80, 11, 0x80, 12, 0x80, 12, 0x80, 12, 0x80, 13, 0x80,
+    13, 0x80, 13, 0x80, 14, 0x80, 14, 0x80, 14, 0x80, 15, 0x80, 15, 0x80, 15,
+];
+
+// What is drawn of each depth where all pages are mapped.
+const NARROW_PICTURE: [u8; 6] = [0x0d, 0x0d, 0x0d, 0x01, 0x01, 0x01];
+
+const WIDE_PICTURE: [u8; 12] = [
+    0x80, 0x0d, 0x80, 0x0d, 0x80, 0x0d, 0x80, 0x01, 0x80, 0x01, 0x80, 0x01,
+];
+
+// The path, if it has the one picture.
+fn path_of(alloc: Global) -> Option<Path>
+    ensures { IfSome result (λ path. (length path.cameras ≡ 1) × (path.width ≡ 2) × (path.height ≡ 1)) }
 {
-    let geometry = Geometry::new(4, 4, 2)?;
-    let path = parse_path(alloc, PATH)?;
-    assert!(rt; geometry.page_count() == 5 && least < geometry.levels());
-    assert!(rt; path.pictures() == 1 && path.width() == 2 && path.height() == 1);
+    let path = parse_path(alloc, PATH).ok()?;
+    if path.pictures() == 1 && path.width() == 2 && path.height() == 1 {
+        return Some(path);
+    }
+    None
+}
+
+// Whether the picture that is drawn over a table which maps the pages from a level on has these samples, and the counts, which
+// were 7 each, are those of its two pages.
+fn is_drawn(alloc: Global, least: u32, depth: u32, samples: &[u8]) -> bool
+    requires { IsDepth depth }
+{
+    let Ok(geometry) = Geometry::new(4, 4, 2) else {
+        return false;
+    };
+    let Some(path) = path_of(alloc) else {
+        return false;
+    };
+    if geometry.page_count() != 5 || least >= geometry.levels() {
+        return false;
+    }
     let shot = Shot {
         geometry: &geometry,
         path: &path,
@@ -41,76 +65,45 @@ fn draw(
     };
     let mut table = Table::new(geometry, least, depth == 2);
     let mut counts = [7; 5];
-    draw_row(&mut table, &shot, 0, out, &mut counts);
-    Ok(counts)
+    let mut room = [0; 12];
+    let picture = &mut room[..6 * depth as usize];
+    draw_row(&mut table, &shot, 0, picture, &mut counts);
+    &*picture == samples && counts == [8, 7, 8, 7, 7]
 }
 
 #[test]
-fn an_unmapped_page_is_served_by_its_ancestor(rt: HostRuntime) -> Result<(), Fail> {
-    for (least, samples) in [
-        (0, [0x0d, 0x0d, 0x0d, 0x01, 0x01, 0x01]),
-        (1, [0x0b, 0x0b, 0x0b, 0x03, 0x03, 0x03]),
-    ] {
-        let mut out = [0; 6];
-        let counts = draw(&rt, rt.alloc(), least, 1, &mut out)?;
-        assert_eq!(rt; out, samples, "mapped from level {least}");
-        assert_eq!(rt; counts, [8, 7, 8, 7, 7], "mapped from level {least}");
+fn an_unmapped_page_is_served_by_its_ancestor(rt: HostRuntime) {
+    const COARSE: [u8; 6] = [0x0b, 0x0b, 0x0b, 0x03, 0x03, 0x03];
+    holds(&rt, is_drawn(rt.alloc(), 0, 1, &NARROW_PICTURE));
+    holds(&rt, is_drawn(rt.alloc(), 1, 1, &COARSE));
+}
+
+#[test]
+fn wide_samples_have_their_high_byte_first(rt: HostRuntime) {
+    holds(&rt, is_drawn(rt.alloc(), 0, 2, &WIDE_PICTURE));
+}
+
+// The plain picture of a texture of four columns and rows.
+fn plain_of(alloc: Global, depth: u32, texture: &[u8]) -> Option<Vec<u8>> {
+    let path = path_of(alloc)?;
+    let image = image_of(alloc, depth, 4, 4, texture)?;
+    let chain = Chain::build(alloc, image, 2).ok()?;
+    draw_plain(alloc, &chain, &path, 0).ok()
+}
+
+// Whether the plain picture of such a texture has these samples.
+fn is_drawn_plain(alloc: Global, depth: u32, texture: &[u8], samples: &[u8]) -> bool {
+    match plain_of(alloc, depth, texture) {
+        Some(picture) => picture.as_slice() == samples,
+        None => false,
     }
-    Ok(())
 }
 
 #[test]
-fn wide_samples_have_their_high_byte_first(rt: HostRuntime) -> Result<(), Fail> {
-    let mut out = [0; 12];
-    let counts = draw(&rt, rt.alloc(), 0, 2, &mut out)?;
-    assert_eq!(rt;
-        out,
-        [
-            0x80, 0x0d, 0x80, 0x0d, 0x80, 0x0d, 0x80, 0x01, 0x80, 0x01, 0x80, 0x01
-        ]
+fn the_plain_picture_shows_the_chain_at_either_depth(rt: HostRuntime) {
+    holds(&rt, is_drawn_plain(rt.alloc(), 1, &FOUR, &NARROW_PICTURE));
+    holds(
+        &rt,
+        is_drawn_plain(rt.alloc(), 2, &WIDE_FOUR, &WIDE_PICTURE),
     );
-    assert_eq!(rt; counts, [8, 7, 8, 7, 7]);
-    Ok(())
-}
-
-// The texture of 4x4 texels whose texel (x, y) is 4y+x in each channel, or at two bytes a sample 32,768 more.
-fn texture(alloc: Global, depth: u32) -> Result<Vec<u8>, AllocError> {
-    let mut samples = Vec::new(alloc);
-    for i in 0..48u32 {
-        if depth == 2 {
-            samples.push(0x80)?;
-        }
-        samples.push((i / 3) as u8)?;
-    }
-    Ok(samples)
-}
-
-// Draws the plain picture of that texture.
-fn draw_texture(rt: &impl Abort, alloc: Global, depth: u32) -> Result<Vec<u8>, Fail>
-    requires { IsDepth depth }
-{
-    let samples = texture(alloc, depth)?;
-    assert!(rt; samples.len() == 48 * depth as usize);
-    let chain = Chain::build(alloc, Image::new(depth, 4, 4, samples), 2)?;
-    let path = parse_path(alloc, PATH)?;
-    assert!(rt; path.pictures() == 1);
-    Ok(draw_plain(alloc, &chain, &path, 0)?)
-}
-
-#[test]
-fn the_plain_picture_shows_the_chain_at_either_depth(rt: HostRuntime) -> Result<(), Fail> {
-    let narrow = draw_texture(&rt, rt.alloc(), 1)?;
-    assert_eq!(rt;
-        narrow.as_slice(),
-        [0x0d, 0x0d, 0x0d, 0x01, 0x01, 0x01].as_slice()
-    );
-    let wide = draw_texture(&rt, rt.alloc(), 2)?;
-    assert_eq!(rt;
-        wide.as_slice(),
-        [
-            0x80, 0x0d, 0x80, 0x0d, 0x80, 0x0d, 0x80, 0x01, 0x80, 0x01, 0x80, 0x01
-        ]
-        .as_slice()
-    );
-    Ok(())
 }

@@ -1,143 +1,134 @@
 //! Chains of textures that are read by rows.
-ghost use Rattle.std.specs.Prelude.{◌≡◌, true, IfOk};
 
-use crate::fixtures::{TEXTURE, check, with_grays};
+use crate::fixtures::{TEXTURE, WIDE_TEXTURE, folder_of, holds, place, reader_in};
 use std::alloc::Global;
-use std::test::Fail as TestFail;
 use vt_mip::StripChain;
-use vt_outside::{Fail, Fails, Folder, MemoryFile, MemoryFolder, NoMemory, Place};
-use vt_ppm::{PpmError, StripReader};
+use vt_outside::{Fail, Folder, MemoryFile, MemoryFolder, Place};
 
-// A folder in which `t` holds the texture, and calls that are to fail.
-fn folder_of(alloc: Global, calls: &[Fail], depth: u32) -> Result<MemoryFolder, NoMemory> {
-    let mut folder = MemoryFolder::new(alloc, Fails::from_slice(alloc, calls)?);
-    let front: &[u8] = if depth == 2 {
-        b"P6 5 3 65535\n"
-    } else {
-        b"P6 5 3 255\n"
-    };
-    folder.add("t", &with_grays(alloc, front, &TEXTURE, depth)?)?;
-    Ok(folder)
-}
-
-// A reader of the texture, whose samples were looked over.
-fn reader_in(alloc: Global, folder: &mut MemoryFolder) -> Result<StripReader<MemoryFile>, PpmError>
-    ensures { IfOk result (λ reader. reader.checked ≡ true) }
-{
-    let Ok(file) = folder.open("t") else {
-        return Err(PpmError::Failed);
-    };
-    let mut reader = match StripReader::open(alloc, file) {
-        Ok(reader) => reader,
-        Err((file, refusal)) => {
-            folder.close(file);
-            return Err(refusal);
-        }
-    };
-    match check(&mut reader) {
-        Ok(()) => Ok(reader),
-        Err(refusal) => {
-            folder.close(reader.into_file());
-            Err(refusal)
-        }
-    }
-}
-
-// The chain of the texture for tiles of side 2.
-fn chain_in(alloc: Global, folder: &mut MemoryFolder) -> Result<StripChain<MemoryFile>, PpmError> {
-    let reader = reader_in(alloc, folder)?;
-    match StripChain::new(alloc, reader, 2) {
-        Ok(chain) => Ok(chain),
-        Err((file, _)) => {
-            folder.close(file);
-            Err(PpmError::NoMemory)
-        }
-    }
-}
-
-// Row `y` of a level, or no bytes where there is none or its read fails.
-fn row_of(
-    alloc: Global,
-    chain: &mut StripChain<MemoryFile>,
-    level: u32,
-    y: u32,
-) -> Result<Vec<u8>, NoMemory> {
+// Whether row `y` of a level, of at most 30 bytes, is this one, or is none where there are no bytes.
+fn has_row(chain: &mut StripChain<MemoryFile>, level: u32, y: u32, want: &[u8]) -> bool {
     if level >= chain.levels() {
-        return Ok(Vec::new(alloc));
+        return want.is_empty();
     }
     let (width, height) = chain.size(level);
-    if y >= height {
-        return Ok(Vec::new(alloc));
-    }
-    let (_, all) = chain.size(0);
     let size = 3 * chain.depth() as usize * width as usize;
-    let mut out = vec![in alloc; 0u8; size]?;
-    chain.reserve(all as u64)?;
-    match chain.row(level, y, &mut out) {
-        Ok(()) => Ok(out),
-        Err(_) => Ok(Vec::new(alloc)),
+    if y >= height || size > 30 {
+        return want.is_empty();
+    }
+    let (_, rows) = chain.size(0);
+    let mut room = [0; 30];
+    let row = &mut room[..size];
+    if chain.reserve(rows as u64).is_err() {
+        return false;
+    }
+    match chain.row(level, y, row) {
+        Ok(()) => &*row == want,
+        Err(_) => want.is_empty(),
     }
 }
 
-// Whether rows of levels have these grays.
-fn have_grays(
-    alloc: Global,
-    chain: &mut StripChain<MemoryFile>,
-    rows: &[(u32, u32, &[u8])],
-) -> Result<bool, NoMemory> {
-    let depth = chain.depth();
-    for (level, y, grays) in rows {
-        let row = row_of(alloc, chain, *level, *y)?;
-        let wanted = with_grays(alloc, b"", grays, depth)?;
-        if row != wanted {
-            return Ok(false);
+// Whether rows of levels are these.
+fn has_rows(chain: &mut StripChain<MemoryFile>, rows: &[(u32, u32, &[u8])]) -> bool {
+    for (level, y, row) in rows {
+        if !has_row(chain, *level, *y, *row) {
+            return false;
         }
     }
-    Ok(true)
+    true
 }
 
-// Whether rows of levels of the texture have these grays.
-fn texture_has(
-    alloc: Global,
-    folder: &mut MemoryFolder,
-    rows: &[(u32, u32, &[u8])],
-) -> Result<bool, PpmError> {
-    let mut chain = chain_in(alloc, folder)?;
-    let same = have_grays(alloc, &mut chain, rows);
+// Whether the chain of the texture that `a` holds, for tiles of side 2, has these rows.
+fn texture_has(alloc: Global, folder: &mut MemoryFolder, rows: &[(u32, u32, &[u8])]) -> bool {
+    let Some(reader) = reader_in(alloc, folder) else {
+        return false;
+    };
+    let Ok(mut chain) = StripChain::new(alloc, reader, 2) else {
+        return false;
+    };
+    let is_so = has_rows(&mut chain, rows);
     folder.close(chain.into_file());
-    Ok(same?)
+    is_so
+}
+
+// Whether a texture has these rows.
+fn is_read(alloc: Global, texture: &[u8], rows: &[(u32, u32, &[u8])]) -> bool {
+    match folder_of(alloc, &[], texture) {
+        Some(mut folder) => texture_has(alloc, &mut folder, rows),
+        None => false,
+    }
 }
 
 #[test]
-fn rows_of_each_level_are_made_of_rows_of_the_texture(rt: HostRuntime) -> Result<(), TestFail> {
-    let rows: [(u32, u32, &[u8]); 6] = [
-        (0, 0, &[0, 1, 2, 3, 4]),
-        (0, 2, &[20, 21, 22, 23, 24]),
-        (1, 0, &[6, 8, 9]),
-        (1, 1, &[21, 23, 24]),
-        (2, 0, &[15, 17]),
+fn rows_of_each_level_are_made_of_rows_of_the_texture(rt: HostRuntime) {
+    const NARROW: [(u32, u32, &[u8]); 6] = [
+        (0, 0, &[0, 0, 0, 1, 1, 1, 2, 2, 2, 3, 3, 3, 4, 4, 4]),
+        (
+            0,
+            2,
+            &[20, 20, 20, 21, 21, 21, 22, 22, 22, 23, 23, 23, 24, 24, 24],
+        ),
+        (1, 0, &[6, 6, 6, 8, 8, 8, 9, 9, 9]),
+        (1, 1, &[21, 21, 21, 23, 23, 23, 24, 24, 24]),
+        (2, 0, &[15, 15, 15, 17, 17, 17]),
         (2, 1, &[]),
     ];
-    for depth in 1..3 {
-        let mut folder = folder_of(rt.alloc(), &[], depth)?;
-        assert_eq!(rt; texture_has(rt.alloc(), &mut folder, &rows), Ok(true));
-    }
-    Ok(())
+    const WIDE: [(u32, u32, &[u8]); 6] = [
+        (
+            0,
+            0,
+            &[
+                0, 0, 0, 0, 0, 0, 0, 1, 0, 1, 0, 1, 0, 2, 0, 2, 0, 2, 0, 3, 0, 3, 0, 3, 0, 4, 0, 4,
+                0, 4,
+            ],
+        ),
+        (
+            0,
+            2,
+            &[
+                0, 20, 0, 20, 0, 20, 0, 21, 0, 21, 0, 21, 0, 22, 0, 22, 0, 22, 0, 23, 0, 23, 0, 23,
+                0, 24, 0, 24, 0, 24,
+            ],
+        ),
+        (
+            1,
+            0,
+            &[0, 6, 0, 6, 0, 6, 0, 8, 0, 8, 0, 8, 0, 9, 0, 9, 0, 9],
+        ),
+        (
+            1,
+            1,
+            &[
+                0, 21, 0, 21, 0, 21, 0, 23, 0, 23, 0, 23, 0, 24, 0, 24, 0, 24,
+            ],
+        ),
+        (2, 0, &[0, 15, 0, 15, 0, 15, 0, 17, 0, 17, 0, 17]),
+        (2, 1, &[]),
+    ];
+    holds(&rt, is_read(rt.alloc(), &TEXTURE, &NARROW));
+    holds(&rt, is_read(rt.alloc(), &WIDE_TEXTURE, &WIDE));
 }
 
-#[test]
-fn no_row_is_read_behind_one_whose_read_failed(rt: HostRuntime) -> Result<(), TestFail> {
-    let calls = [Fail::Read {
+// Whether no row of the last level is read where the second row's read fails, and nothing is asked behind it.
+fn ends_at_a_failure(alloc: Global) -> bool {
+    const CALLS: [Fail; 1] = [Fail::Read {
         opening: 0,
         read: 2,
     }];
-    let mut folder = folder_of(rt.alloc(), &calls, 1)?;
-    assert_eq!(rt;
-        texture_has(rt.alloc(), &mut folder, &[(2, 0, &[])]),
-        Ok(true)
-    );
-    let (at, len, failed) = (26, 15, true);
-    assert_eq!(rt; folder.asked("t", 2), Some(Place { at, len, failed }));
-    assert!(rt; folder.asked("t", 3).is_none());
-    Ok(())
+    const LAST: Place = Place {
+        at: 26,
+        len: 15,
+        failed: true,
+    };
+    match folder_of(alloc, &CALLS, &TEXTURE) {
+        Some(mut folder) => {
+            texture_has(alloc, &mut folder, &[(2, 0, &[])])
+                && folder.was_asked("a", &[place(0, 56), place(11, 15), LAST])
+        }
+        None => false,
+    }
+}
+
+#[test]
+fn no_row_is_read_behind_one_whose_read_failed(rt: HostRuntime) {
+    holds(&rt, ends_at_a_failure(rt.alloc()));
 }

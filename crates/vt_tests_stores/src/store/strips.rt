@@ -1,156 +1,126 @@
 //! Stores of textures that are read by strips.
-ghost use Rattle.std.specs.Prelude.{◌≡◌, true, IfOk};
 
-use super::{folder_of, holds};
-use crate::fixtures::{TEXTURE, check, is_asked, with_grays};
+use super::has_failed;
+use super::making::FIVE_BY_THREE_STORE;
+use crate::fixtures::{TEXTURE, WIDE_TEXTURE, folder_of, holds, place, reader_in};
 use std::alloc::Global;
-use std::process::Abort;
-use std::test::Fail as TestFail;
 use vt_mip::StripChain;
-use vt_outside::{Fail, Folder, MemoryFile, MemoryFolder, NoMemory};
+use vt_outside::{Fail, Folder, MemoryFolder, Place};
 use vt_pages::Geometry;
-use vt_ppm::{PpmError, StripReader};
 use vt_store::{StoreError, write_strips};
 
-// The grays of the store of the texture of five columns and three rows whose samples are 10 times the row and the column, in tiles
-// of side 2: six tiles of level 0, two of level 1, whose rows are 6, 8, 9 and 21, 23, 24, and one of level 2, whose row is 15, 17.
-const GRAYS: [u8; 36] = [
-    0, 1, 10, 11, 2, 3, 12, 13, 4, 4, 14, 14, 20, 21, 20, 21, 22, 23, 22, 23, 24, 24, 24, 24, 6, 8,
-    21, 23, 9, 9, 24, 24, 15, 17, 15, 17,
+// The store of the texture of five columns and three rows in samples of two bytes.
+const WIDE_STORE: [u8; 232] = [
+    86, 84, 83, 50, 0, 0, 0, 5, 0, 0, 0, 3, 0, 0, 0, 2, 0, 0, 0, 0, 0, 0, 0, 1, 0, 1, 0, 1, 0, 10,
+    0, 10, 0, 10, 0, 11, 0, 11, 0, 11, 0, 2, 0, 2, 0, 2, 0, 3, 0, 3, 0, 3, 0, 12, 0, 12, 0, 12, 0,
+    13, 0, 13, 0, 13, 0, 4, 0, 4, 0, 4, 0, 4, 0, 4, 0, 4, 0, 14, 0, 14, 0, 14, 0, 14, 0, 14, 0, 14,
+    0, 20, 0, 20, 0, 20, 0, 21, 0, 21, 0, 21, 0, 20, 0, 20, 0, 20, 0, 21, 0, 21, 0, 21, 0, 22, 0,
+    22, 0, 22, 0, 23, 0, 23, 0, 23, 0, 22, 0, 22, 0, 22, 0, 23, 0, 23, 0, 23, 0, 24, 0, 24, 0, 24,
+    0, 24, 0, 24, 0, 24, 0, 24, 0, 24, 0, 24, 0, 24, 0, 24, 0, 24, 0, 6, 0, 6, 0, 6, 0, 8, 0, 8, 0,
+    8, 0, 21, 0, 21, 0, 21, 0, 23, 0, 23, 0, 23, 0, 9, 0, 9, 0, 9, 0, 9, 0, 9, 0, 9, 0, 24, 0, 24,
+    0, 24, 0, 24, 0, 24, 0, 24, 0, 15, 0, 15, 0, 15, 0, 17, 0, 17, 0, 17, 0, 15, 0, 15, 0, 15, 0,
+    17, 0, 17, 0, 17,
 ];
 
-// A reader of the texture that `a` holds, whose samples were looked over.
-fn reader_in(
-    alloc: Global,
-    folder: &mut MemoryFolder,
-) -> Result<StripReader<MemoryFile>, StoreError>
-    ensures { IfOk result (λ reader. reader.checked ≡ true) }
-{
-    let file = match folder.open("a") {
-        Ok(file) => file,
-        Err(refusal) => return Err(StoreError::from(refusal)),
+// Makes the name `b` hold the store of the texture that `a` holds, in tiles of side 2.
+fn tiled(alloc: Global, folder: &mut MemoryFolder) -> Result<(), StoreError> {
+    let Some(reader) = reader_in(alloc, folder) else {
+        return Err(StoreError::BadMagic);
     };
-    let mut reader = match StripReader::open(alloc, file) {
-        Ok(reader) => reader,
-        Err((file, _)) => {
-            folder.close(file);
-            return Err(StoreError::BadMagic);
-        }
+    let (width, height) = (reader.header().width, reader.header().height);
+    let Ok(mut chain) = StripChain::new(alloc, reader, 2) else {
+        return Err(StoreError::NoMemory);
     };
-    match check(&mut reader) {
-        Ok(()) => Ok(reader),
-        Err(_) => {
-            folder.close(reader.into_file());
-            Err(StoreError::BadGeometry)
+    let answer = match Geometry::new(width, height, 2) {
+        Ok(geometry) => write_strips(alloc, &mut chain, &geometry, folder, "b"),
+        Err(_) => Err(StoreError::BadGeometry),
+    };
+    folder.close(chain.into_file());
+    answer
+}
+
+// Whether a texture is tiled to this store, and was asked for these places and no others.
+fn is_tiled(alloc: Global, texture: &[u8], store: &[u8], places: &[Place]) -> bool {
+    match folder_of(alloc, &[], texture) {
+        Some(mut folder) => {
+            tiled(alloc, &mut folder).is_ok()
+                && folder.holds("b", store)
+                && folder.was_asked("a", places)
         }
+        None => false,
     }
 }
 
-// Makes the name `s` hold the store of the texture that `a` holds, in tiles of side 2.
-fn tiled(alloc: Global, folder: &mut MemoryFolder) -> Result<(), StoreError> {
-    let reader = reader_in(alloc, folder)?;
-    let (width, height) = (reader.header().width, reader.header().height);
-    let geometry = match Geometry::new(width, height, 2) {
-        Ok(geometry) => geometry,
-        Err(_) => {
-            folder.close(reader.into_file());
-            return Err(StoreError::BadGeometry);
-        }
-    };
-    let mut chain = match StripChain::new(alloc, reader, 2) {
-        Ok(chain) => chain,
-        Err((file, _)) => {
-            folder.close(file);
-            return Err(StoreError::NoMemory);
-        }
-    };
-    let result = write_strips(alloc, &mut chain, &geometry, folder, "s");
-    folder.close(chain.into_file());
-    result
-}
-
-// Looks what the tiling of the texture that `a` holds answers.
-fn is_tiled(
-    rt: &impl Abort,
-    alloc: Global,
-    folder: &mut MemoryFolder,
-    want: Result<(), StoreError>,
-) {
-    assert_eq!(rt; tiled(alloc, folder), want);
+#[test]
+fn a_texture_is_tiled_by_strips_as_whole(rt: HostRuntime) {
+    let places = [place(0, 56), place(11, 30), place(41, 15)];
+    holds(
+        &rt,
+        is_tiled(rt.alloc(), &TEXTURE, &FIVE_BY_THREE_STORE, &places),
+    );
 }
 
 #[test]
-fn a_texture_is_tiled_by_strips_as_whole(rt: HostRuntime) -> Result<(), TestFail> {
-    let texture = with_grays(rt.alloc(), b"P6 5 3 255\n", &TEXTURE, 1)?;
-    let store = with_grays(rt.alloc(), b"VTS1\0\0\0\x05\0\0\0\x03\0\0\0\x02", &GRAYS, 1)?;
-    let mut folder = folder_of(rt.alloc(), &[], &texture)?;
-    is_tiled(&rt, rt.alloc(), &mut folder, Ok(()));
-    assert!(rt; store.len() == 124);
-    assert!(rt; holds(&folder, "s", &store));
-    is_asked(&rt, &folder, "a", 0, Some((0, 56)));
-    is_asked(&rt, &folder, "a", 1, Some((11, 30)));
-    is_asked(&rt, &folder, "a", 2, Some((41, 15)));
-    is_asked(&rt, &folder, "a", 3, None);
-    Ok(())
+fn two_byte_samples_are_tiled_by_strips_alike(rt: HostRuntime) {
+    let places = [place(0, 103), place(13, 60), place(73, 30)];
+    holds(
+        &rt,
+        is_tiled(rt.alloc(), &WIDE_TEXTURE, &WIDE_STORE, &places),
+    );
 }
 
 #[test]
-fn two_byte_samples_are_tiled_by_strips_alike(rt: HostRuntime) -> Result<(), TestFail> {
-    let texture = with_grays(rt.alloc(), b"P6 5 3 65535\n", &TEXTURE, 2)?;
-    let store = with_grays(rt.alloc(), b"VTS2\0\0\0\x05\0\0\0\x03\0\0\0\x02", &GRAYS, 2)?;
-    let mut folder = folder_of(rt.alloc(), &[], &texture)?;
-    is_tiled(&rt, rt.alloc(), &mut folder, Ok(()));
-    assert!(rt; store.len() == 232);
-    assert!(rt; holds(&folder, "s", &store));
-    Ok(())
-}
-
-#[test]
-fn one_texel_is_tiled_by_strips(rt: HostRuntime) -> Result<(), TestFail> {
-    let mut folder = folder_of(rt.alloc(), &[], b"P6 1 1 255\n\x09\x08\x07")?;
-    is_tiled(&rt, rt.alloc(), &mut folder, Ok(()));
-    let store =
+fn one_texel_is_tiled_by_strips(rt: HostRuntime) {
+    const TEXEL: &[u8] = b"P6 1 1 255\n\x09\x08\x07";
+    const STORE: &[u8] =
         b"VTS1\0\0\0\x01\0\0\0\x01\0\0\0\x02\x09\x08\x07\x09\x08\x07\x09\x08\x07\x09\x08\x07";
-    assert!(rt; holds(&folder, "s", store));
-    Ok(())
+    let places = [place(0, 14), place(11, 3)];
+    holds(&rt, is_tiled(rt.alloc(), TEXEL, STORE, &places));
 }
 
 // Bytes, and behind them so many of the value 7.
-fn with_sevens(alloc: Global, front: &[u8], count: usize) -> Result<Vec<u8>, NoMemory> {
-    let mut bytes = Vec::new(alloc);
-    bytes.extend_from_slice(front)?;
-    let sevens = vec![in alloc; 7u8; count]?;
-    bytes.extend_from_slice(&sevens)?;
-    Ok(bytes)
+fn with_sevens(alloc: Global, front: &[u8], count: usize) -> Option<Vec<u8>> {
+    let mut bytes = front.to_vec(alloc).ok()?;
+    let sevens = vec![in alloc; 7u8; count].ok()?;
+    bytes.extend_from_slice(&sevens).ok()?;
+    Some(bytes)
+}
+
+// Whether two rows of 16,384 texels of sevens are tiled to a store of sevens.
+fn sevens_are_tiled(alloc: Global, places: &[Place]) -> bool {
+    const HEADER: &[u8] = b"VTS1\0\0\x40\0\0\0\0\x02\0\0\0\x02";
+    let Some(texture) = with_sevens(alloc, b"P6 16384 2 255\n", 98304) else {
+        return false;
+    };
+    match with_sevens(alloc, HEADER, 196596) {
+        Some(store) => is_tiled(alloc, &texture, &store, places),
+        None => false,
+    }
 }
 
 #[test]
-fn the_widest_texture_is_tiled_by_strips(rt: HostRuntime) -> Result<(), TestFail> {
-    let texture = with_sevens(rt.alloc(), b"P6 16384 2 255\n", 98304)?;
-    let mut folder = folder_of(rt.alloc(), &[], &texture)?;
-    is_tiled(&rt, rt.alloc(), &mut folder, Ok(()));
-    let header = b"VTS1\0\0\x40\0\0\0\0\x02\0\0\0\x02";
-    let store = with_sevens(rt.alloc(), header, 196596)?;
-    assert!(rt; holds(&folder, "s", &store));
-    Ok(())
+fn the_widest_texture_is_tiled_by_strips(rt: HostRuntime) {
+    let places = [place(0, 65536), place(15, 98304)];
+    holds(&rt, sevens_are_tiled(rt.alloc(), &places));
 }
 
-#[test]
-fn a_strip_whose_read_fails_leaves_the_rows_before_it(rt: HostRuntime) -> Result<(), TestFail> {
-    let texture = with_grays(rt.alloc(), b"P6 5 3 255\n", &TEXTURE, 1)?;
-    let store = with_grays(
-        rt.alloc(),
-        b"VTS1\0\0\0\x05\0\0\0\x03\0\0\0\x02",
-        &GRAYS[..12],
-        1,
-    )?;
-    let calls = [Fail::Read {
+// Whether the third read of a tiling fails, that of the last row, and the three tiles of the rows before it are left.
+fn fails_at_the_last_row(alloc: Global) -> bool {
+    const CALLS: [Fail; 1] = [Fail::Read {
         opening: 0,
         read: 2,
     }];
-    let mut folder = folder_of(rt.alloc(), &calls, &texture)?;
-    is_tiled(&rt, rt.alloc(), &mut folder, Err(StoreError::Failed));
-    assert!(rt; holds(&folder, "s", &store));
-    is_asked(&rt, &folder, "a", 3, None);
-    Ok(())
+    match folder_of(alloc, &CALLS, &TEXTURE) {
+        Some(mut folder) => {
+            has_failed(tiled(alloc, &mut folder))
+                && folder.holds("b", &FIVE_BY_THREE_STORE[..52])
+                && folder.asked("a", 3).is_none()
+        }
+        None => false,
+    }
+}
+
+#[test]
+fn a_strip_whose_read_fails_leaves_the_rows_before_it(rt: HostRuntime) {
+    holds(&rt, fails_at_the_last_row(rt.alloc()));
 }
