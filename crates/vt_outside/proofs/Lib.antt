@@ -3,3 +3,4 @@ pub mod Untold
 pub mod Fronts
 pub mod SameLists
 pub mod Named
+pub mod Halves

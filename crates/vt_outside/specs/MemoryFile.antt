@@ -1,5 +1,5 @@
 -- What a file in memory is, as callers speak of it.
-use Rattle.std.specs.Prelude.{ℕ, ◌+◌, ◌-◌, Bool, List, length, nat_lt, string_bytes, vec_len, vec_capacity}
+use Rattle.std.specs.Prelude.{◌≡◌, ℕ, ◌+◌, ◌-◌, Bool, List, [], length, nat_lt, string_bytes, vec_len, vec_capacity}
 use Rattle.vt_outside.specs.Fails.{is_listed}
 use Rattle.vt_outside.specs.declared.place.Place.{Place}
 use Rattle.vt_outside.specs.declared.fails.Fail.{Fail}
@@ -49,3 +49,13 @@ is_length_listed file = is_listed (file_fails file) (Length (file_opening file))
 -- the next read is in the list
 abbrev pub is_read_listed : MemoryFile → Bool
 is_read_listed file = is_listed (file_fails file) (Read (file_opening file) (file_reads file))
+
+-- a file of these bytes that was opened by that name and not read yet
+pub record IsUnread (file : MemoryFile) (name bytes : List ℕ) (fails : List Fail) (opening : ℕ) : Type 0 where
+  pub named : file_name file ≡ name
+  pub held : file_bytes file ≡ bytes
+  pub no_places : file_places file ≡ []
+  pub listed : file_fails file ≡ fails
+  pub opened : file_opening file ≡ opening
+  pub no_reads : file_reads file ≡ 0
+  pub no_faults : file_faults file ≡ 0

@@ -1,11 +1,13 @@
 -- What a folder in memory is, as callers speak of it.
-use Rattle.std.specs.Prelude.{ℕ, Bool, List, [], None, is_none}
+use Rattle.std.specs.Prelude.{◌≡◌, ℕ, Bool, List, [], None, Some, is_none}
 use Rattle.vt_outside.specs.ClosedFiles.{places_in}
 use Rattle.vt_outside.specs.FileMaps.{held_by}
 use Rattle.vt_outside.specs.Fails.{is_listed}
 use Rattle.vt_outside.specs.Files.{Files, Asked}
+use Rattle.vt_outside.specs.MemoryFile.{IsUnread, file_bytes}
 use Rattle.vt_outside.specs.declared.fails.Fail.{Fail}
 use Rattle.vt_outside.specs.declared.fails.Fail.TheVariants.{Open, Create, Append}
+use Rattle.vt_outside.specs.declared.memory_file.MemoryFile.{MemoryFile}
 use Rattle.vt_outside.specs.declared.memory_folder.MemoryFolder.{MemoryFolder}
 
 -- no name is there
@@ -63,3 +65,8 @@ is_create_listed folder = is_listed (fails_of folder) (Create (creates_of folder
 -- the next call of `append` is in the list
 abbrev pub is_append_listed : MemoryFolder → Bool
 is_append_listed folder = is_listed (fails_of folder) (Append (appends_of folder))
+
+-- a file of the name's bytes that was not read yet, with the folder's list and the number of openings so far
+pub record IsOpened (folder : MemoryFolder) (name : List ℕ) (file : MemoryFile) : Type 0 where
+  pub there : files_of folder name ≡ Some (file_bytes file)
+  pub unread : IsUnread file name (file_bytes file) (fails_of folder) (openings_of folder)

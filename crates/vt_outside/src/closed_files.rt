@@ -1,7 +1,9 @@
-ghost use Rattle.std.specs.Prelude.{◌≡◌, ◌+◌, ◌-◌, ◌≤◌, Some, length, slice_get, MatchResult};
+ghost use Rattle.std.specs.Prelude.{◌≡◌, ◌+◌, ◌-◌, ◌≤◌, Some, length, slice_get, string_bytes, MatchResult};
 ghost use Rattle.vt_outside.specs.ClosedFiles.{places_in};
+ghost use Rattle.vt_outside.specs.Files.{with_places};
 
 use crate::Place;
+use std::mem;
 
 /// The files that a folder in memory has closed, the last one first.
 #[derive(Drop)]
@@ -12,6 +14,23 @@ pub enum ClosedFiles {
         places: Vec<Place>,
         rest: Box<ClosedFiles>,
     },
+}
+
+/// Puts a file before the others, in the cell that it brings.
+pub fn keep_places(
+    closed: &mut ClosedFiles,
+    name: String,
+    places: Vec<Place>,
+    mut cell: Box<ClosedFiles>,
+)
+    ensures { places_in closed.new ≡ with_places (string_bytes name) (Some places.items) (places_in closed.old) }
+{
+    *cell = mem::replace(closed, ClosedFiles::Nothing);
+    *closed = ClosedFiles::File {
+        name,
+        places,
+        rest: cell,
+    };
 }
 
 /// The place of that number among those asked of the name, or where there is none, how many there are.

@@ -1,4 +1,4 @@
-ghost use Rattle.std.specs.Prelude.{◌≡◌, ◌≤◌};
+ghost use Rattle.std.specs.Prelude.{◌≡◌, ◌≤◌, ◌/◌, length, take, if◌then◌else◌};
 ghost use Rattle.vt_outside.specs.Counts.{added};
 ghost use Rattle.vt_outside.specs.Outcomes.{raised_if};
 ghost use Rattle.vt_outside.specs.Fails.{is_listed};
@@ -44,6 +44,17 @@ pub fn meets_fault(fails: &[Fail], call: Fail, faults: &mut u64) -> bool
         *faults = next(before);
     }
     met
+}
+
+/// What a call adds of the bytes: the first half (their number halved, rounded down) where it met a fault, and else all.
+pub fn part_of(bytes: &[u8], met: bool) -> &[u8]
+    ensures { result.now ≡ (if met then take (length bytes.now / 2) bytes.now else bytes.now) }
+{
+    if met {
+        &bytes[..bytes.len() / 2]
+    } else {
+        bytes
+    }
 }
 
 /// One more, up to the end of the type.

@@ -32,8 +32,22 @@ pub(crate) struct Remains {
     pub cell: Box<ClosedFiles>,
 }
 
+impl Remains {
+    // What is left of a file of that name that was not read.
+    fn new(alloc: Global, name: &str) -> Result<Remains, NoMemory>
+        ensures { IfOk result (λ remains. (string_bytes remains.name ≡ name.now) × (remains.places.items ≡ []) × (remains.faults ≡ 0)) }
+    {
+        Ok(Remains {
+            name: String::from_str(alloc, name)?,
+            places: Vec::new(alloc),
+            faults: 0,
+            cell: Box::new(alloc, ClosedFiles::Nothing)?,
+        })
+    }
+}
+
 impl MemoryFile {
-    ghost use Rattle.vt_outside.specs.MemoryFile.{file_name, file_bytes, file_places, file_fails, file_opening, file_reads, file_faults};
+    ghost use Rattle.vt_outside.specs.MemoryFile.{IsUnread, file_name, file_places, file_faults};
 
     /// A file of these bytes that was not read yet.
     pub(crate) fn new(
@@ -43,23 +57,25 @@ impl MemoryFile {
         fails: &[Fail],
         opening: u64,
     ) -> Result<MemoryFile, NoMemory>
-        ensures name { IfOk result (λ file. file_name file ≡ name.now) }
-        ensures bytes { IfOk result (λ file. file_bytes file ≡ bytes.now) }
-        ensures places { IfOk result (λ file. file_places file ≡ []) }
-        ensures fails { IfOk result (λ file. file_fails file ≡ fails.now) }
-        ensures opening { IfOk result (λ file. file_opening file ≡ opening) }
-        ensures reads { IfOk result (λ file. file_reads file ≡ 0) }
-        ensures faults { IfOk result (λ file. file_faults file ≡ 0) }
+        ensures { IfOk result (λ file. IsUnread file name.now bytes.now fails.now opening) }
     {
+        let bytes = Vec::from_slice(alloc, bytes)?;
+        let fails = Vec::from_slice(alloc, fails)?;
+        let Remains {
+            name,
+            places,
+            faults,
+            cell,
+        } = Remains::new(alloc, name)?;
         Ok(MemoryFile {
-            name: String::from_str(alloc, name)?,
-            bytes: Vec::from_slice(alloc, bytes)?,
-            places: Vec::new(alloc),
-            fails: Vec::from_slice(alloc, fails)?,
+            name,
+            bytes,
+            places,
+            fails,
             opening,
             reads: 0,
-            faults: 0,
-            cell: Box::new(alloc, ClosedFiles::Nothing)?,
+            faults,
+            cell,
         })
     }
 

@@ -1,17 +1,17 @@
-ghost use Rattle.std.specs.Prelude.{◌≡◌, ◌≤◌, ℕ, List, ◌++◌, ◌/◌, ◌||◌, [], Some, true, false, length, take, IsTrue, is_some, is_ok, if◌then◌else◌, slice_get, IfOk, IfSome, IsErrOf, OnOk, OnErr};
+ghost use Rattle.std.specs.Prelude.{◌≡◌, ◌≤◌, ℕ, List, ◌++◌, ◌/◌, ◌||◌, [], Some, true, false, length, take, IsTrue, is_some, is_ok, if◌then◌else◌, slice_get, is_none, IfOk, IfSome, IsErrOf, OnOk, OnErr};
 ghost use Rattle.std.specs.Option.{option_copied, option_map};
 ghost use Rattle.vt_outside.specs.Counts.{added};
 ghost use Rattle.vt_outside.specs.FileMaps.{held_by};
 ghost use Rattle.vt_outside.specs.Fails.{is_listed};
 ghost use Rattle.vt_outside.specs.Files.{with_appended, with_bytes, with_places};
+ghost use Rattle.vt_outside.specs.Outcomes.{is_failed};
 
-use crate::closed_files::{ClosedFiles, place_in};
-use crate::fails::{meets_fault, next};
+use crate::closed_files::{ClosedFiles, keep_places, place_in};
+use crate::fails::{meets_fault, next, part_of};
 use crate::memory_file::Remains;
 use crate::{Fail, Fails, Folder, MemoryFile, NoMemory, OutsideError, Place};
 use std::alloc::{AllocError, Global};
 use std::collections::BTreeMap;
-use std::mem;
 
 type Entries = BTreeMap<String, Vec<u8>>;
 
@@ -30,7 +30,7 @@ pub struct MemoryFolder {
 }
 
 impl MemoryFolder {
-    ghost use Rattle.vt_outside.specs.MemoryFolder.{no_files, no_places, files_of, asked_of, fails_of, opens_of, openings_of, creates_of, appends_of, faults_of};
+    ghost use Rattle.vt_outside.specs.MemoryFolder.{IsOpened, no_files, no_places, files_of, asked_of, fails_of, opens_of, openings_of, creates_of, appends_of, faults_of, is_missing};
 
     /// A folder of no names, with the calls that are to fail. It takes no memory.
     pub fn new(alloc: Global, fails: Fails) -> MemoryFolder
@@ -67,9 +67,7 @@ impl MemoryFolder {
         ensures appends { appends_of self.new ≡ appends_of self.old }
         ensures faults { faults_of self.new ≡ faults_of self.old }
     {
-        let held = Vec::from_slice(self.alloc, bytes)?;
-        put_bytes(&mut self.entries, self.alloc, name, held)?;
-        Ok(())
+        put_copy(&mut self.entries, self.alloc, name, bytes)
     }
 
     /// The bytes of a name; `None` exactly where the name is missing.
@@ -92,6 +90,21 @@ impl MemoryFolder {
             Err(_) => None,
         }
     }
+
+    // A file of the name's bytes; refused where the call met a fault, or the name is missing.
+    fn opened(&self, name: &str, met: bool) -> Result<MemoryFile, OutsideError>
+        ensures file { IfOk result (λ file. IsOpened self.now name.now file) }
+        ensures failed { is_failed result ≡ (met || is_missing self.now name.now) }
+    {
+        if met {
+            return Err(OutsideError::Failed);
+        }
+        let Some(bytes) = self.entries.get(name) else {
+            return Err(OutsideError::Failed);
+        };
+        let file = MemoryFile::new(self.alloc, name, bytes, self.fails.slice(), self.openings)?;
+        Ok(file)
+    }
 }
 
 // Makes the name hold these bytes.
@@ -100,12 +113,39 @@ fn put_bytes(
     alloc: Global,
     name: &str,
     held: Vec<u8>,
-) -> Result<(), AllocError>
+) -> Result<(), NoMemory>
     ensures { (q : List ℕ) → held_by entries.new q
         ≡ (if is_ok result then with_bytes name.now held.items (held_by entries.old) q else held_by entries.old q) }
 {
     let key = String::from_str(alloc, name)?;
     entries.insert(key, held)?;
+    Ok(())
+}
+
+// Makes the name hold a copy of these bytes.
+fn put_copy(entries: &mut Entries, alloc: Global, name: &str, bytes: &[u8]) -> Result<(), NoMemory>
+    ensures { held_by entries.new ≡ (if is_ok result then with_bytes name.now bytes.now (held_by entries.old) else held_by entries.old) }
+{
+    let held = Vec::from_slice(alloc, bytes)?;
+    put_bytes(entries, alloc, name, held)?;
+    Ok(())
+}
+
+// Makes the name hold no bytes; refused where the call met a fault.
+fn put_nothing(
+    entries: &mut Entries,
+    alloc: Global,
+    name: &str,
+    met: bool,
+) -> Result<(), OutsideError>
+    ensures files { held_by entries.new ≡ (if is_ok result then with_bytes name.now [] (held_by entries.old) else held_by entries.old) }
+    ensures failed { is_failed result ≡ met }
+{
+    if met {
+        return Err(OutsideError::Failed);
+    }
+    let held = Vec::new(alloc);
+    put_bytes(entries, alloc, name, held)?;
     Ok(())
 }
 
@@ -122,10 +162,31 @@ fn append_bytes(entries: &mut Entries, name: &str, bytes: &[u8]) -> Result<bool,
     Ok(true)
 }
 
+// Adds the bytes to what the name holds, or the first half of them where the call met a fault; refused also where the name is missing.
+fn append_part(
+    entries: &mut Entries,
+    name: &str,
+    bytes: &[u8],
+    met: bool,
+) -> Result<(), OutsideError>
+    ensures files { OnOk result (held_by entries.new ≡ with_appended name.now bytes.now (held_by entries.old)) }
+    ensures half { IsErrOf result OutsideError.Failed
+        → held_by entries.new ≡ with_appended name.now (take (length bytes.now / 2) bytes.now) (held_by entries.old) }
+    ensures none { IsErrOf result OutsideError.NoMemory → held_by entries.new ≡ held_by entries.old }
+    ensures failed { IsErrOf result OutsideError.Failed → IsTrue (met || is_none (held_by entries.old name.now)) }
+    ensures done { OnOk result ((met || is_none (held_by entries.old name.now)) ≡ false) }
+{
+    let found = append_bytes(entries, name, part_of(bytes, met))?;
+    if met || !found {
+        return Err(OutsideError::Failed);
+    }
+    Ok(())
+}
+
 impl Folder for MemoryFolder {
     ghost use Rattle.vt_outside.specs.MemoryFolder.{files_of, asked_of, fails_of, opens_of, openings_of, creates_of, appends_of, faults_of, is_missing, is_open_listed, is_create_listed, is_append_listed};
     ghost use Rattle.vt_outside.specs.MemoryFile.{file_name, file_bytes, file_places, file_fails, file_opening, file_reads, file_faults};
-    ghost use Rattle.vt_outside.specs.Outcomes.{is_failed, raised_if};
+    ghost use Rattle.vt_outside.specs.Outcomes.{raised_if};
 
     type File = MemoryFile;
 
@@ -158,15 +219,12 @@ impl Folder for MemoryFolder {
     {
         let call = Fail::Open(self.opens);
         self.opens = next(self.opens);
-        if meets_fault(self.fails.slice(), call, &mut self.faults) {
-            return Err(OutsideError::Failed);
+        let met = meets_fault(self.fails.slice(), call, &mut self.faults);
+        let opened = self.opened(name, met);
+        if opened.is_ok() {
+            self.openings = next(self.openings);
         }
-        let Some(bytes) = self.entries.get(name) else {
-            return Err(OutsideError::Failed);
-        };
-        let file = MemoryFile::new(self.alloc, name, bytes, self.fails.slice(), self.openings)?;
-        self.openings = next(self.openings);
-        Ok(file)
+        opened
     }
 
     /// Closes a file: its places and its faults become the folder's. It takes no memory.
@@ -185,15 +243,10 @@ impl Folder for MemoryFolder {
             name,
             places,
             faults,
-            mut cell,
+            cell,
         } = file.remains();
         self.faults = self.faults.saturating_add(faults);
-        *cell = mem::replace(&mut self.closed, ClosedFiles::Nothing);
-        self.closed = ClosedFiles::File {
-            name,
-            places,
-            rest: cell,
-        };
+        keep_places(&mut self.closed, name, places, cell);
     }
 
     /// Makes the name hold no bytes. It fails exactly where `Create` of the number of calls so far is in the list, and only then the count rises.
@@ -211,12 +264,8 @@ impl Folder for MemoryFolder {
     {
         let call = Fail::Create(self.creates);
         self.creates = next(self.creates);
-        if meets_fault(self.fails.slice(), call, &mut self.faults) {
-            return Err(OutsideError::Failed);
-        }
-        let held = Vec::new(self.alloc);
-        put_bytes(&mut self.entries, self.alloc, name, held)?;
-        Ok(())
+        let met = meets_fault(self.fails.slice(), call, &mut self.faults);
+        put_nothing(&mut self.entries, self.alloc, name, met)
     }
 
     /// Adds the bytes to the name's. Up to want of memory it fails exactly where `Append` of the number of calls so far is in the list,
@@ -243,15 +292,6 @@ impl Folder for MemoryFolder {
         let call = Fail::Append(self.appends);
         self.appends = next(self.appends);
         let met = meets_fault(self.fails.slice(), call, &mut self.faults);
-        let part = if met {
-            &bytes[..bytes.len() / 2]
-        } else {
-            bytes
-        };
-        let found = append_bytes(&mut self.entries, name, part)?;
-        if met || !found {
-            return Err(OutsideError::Failed);
-        }
-        Ok(())
+        append_part(&mut self.entries, name, bytes, met)
     }
 }

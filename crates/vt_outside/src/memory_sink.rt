@@ -3,7 +3,7 @@ ghost use Rattle.vt_outside.specs.Counts.{added};
 ghost use Rattle.vt_outside.specs.Fails.{is_listed};
 ghost use Rattle.vt_outside.specs.Files.{gained};
 
-use crate::fails::{meets_fault, next};
+use crate::fails::{meets_fault, next, part_of};
 use crate::{Fail, Fails, OutsideError, Sink};
 use std::alloc::Global;
 
@@ -73,12 +73,7 @@ impl Sink for MemorySink {
         let call = Fail::Put(self.puts);
         self.puts = next(self.puts);
         let met = meets_fault(self.fails.slice(), call, &mut self.faults);
-        let part = if met {
-            &bytes[..bytes.len() / 2]
-        } else {
-            bytes
-        };
-        if self.held.extend_from_slice(part).is_err() {
+        if self.held.extend_from_slice(part_of(bytes, met)).is_err() {
             self.refusals = next(self.refusals);
             return Err(OutsideError::NoMemory);
         }

@@ -13,13 +13,20 @@ use crate::header::{HEADER_LIMIT, MOST_READ_SIDE, MOST_TILED_SIDE, lawful_header
 use crate::raster::{image_of, over_at};
 use crate::{Header, Image, PpmError};
 use std::alloc::Global;
-use vt_outside::File;
+use vt_outside::{File, NoMemory};
 
 // The front of a file, as far as a header may reach, and the length of the whole.
 #[derive(Drop)]
 struct Front {
     bytes: Vec<u8>,
     length: u64,
+}
+
+/// So many zeros.
+pub fn zeros(alloc: Global, count: usize) -> Result<Vec<u8>, NoMemory>
+    ensures { IfOk result (λ v. length v.items ≡ count) }
+{
+    Ok(vec![in alloc; 0u8; count]?)
 }
 
 // The bytes of the file from `at` on, so many.
@@ -40,7 +47,7 @@ fn bytes_at<F: File>(
     ensures name { F.name file.new ≡ F.name file.old }
     ensures faults { F.faults file.old ≤ F.faults file.new }
 {
-    let mut bytes = vec![in alloc; 0u8; count].map_err(|_| PpmError::NoMemory)?;
+    let mut bytes = zeros(alloc, count)?;
     file.read_at(at, bytes.as_mut_slice())?;
     Ok(bytes)
 }

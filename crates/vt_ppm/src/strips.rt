@@ -10,7 +10,7 @@ ghost use Rattle.vt_ppm.specs.Strips.{AreRowsUpTo, HasRasterIfTold, HasSamplesIf
 
 use crate::header::depth_of;
 use crate::raster::{first_over, scale};
-use crate::read::read_texture_header;
+use crate::read::{read_texture_header, zeros};
 use crate::rows::{may_be_over, piece_rows, pieces_of, row_length, row_start, sample_count};
 use crate::{Header, PpmError};
 use std::alloc::Global;
@@ -65,7 +65,7 @@ fn opened<F: File>(alloc: Global, file: &mut F) -> Result<(Header, Vec<u8>), Ppm
     ensures faults { F.faults file.old ≤ F.faults file.new }
 {
     let header = read_texture_header(alloc, file)?;
-    let buffer = vec![in alloc; 0u8; room_length(&header)].map_err(|_| PpmError::NoMemory)?;
+    let buffer = zeros(alloc, room_length(&header))?;
     Ok((header, buffer))
 }
 
