@@ -4,6 +4,7 @@ pub mod Headers
 pub mod Lines
 pub mod Opening
 pub mod Pieces
+pub mod Refusing
 pub mod Spans
 pub mod Stored
 pub mod Tiles

@@ -1,4 +1,5 @@
-use Rattle.std.proofs.Common.{◌≡◌, ℕ, ◌+◌, ◌*◌, ◌<◌, take, refl, ap, ◌∙◌, subst, arith}
+use Rattle.std.proofs.Common.{◌≡◌, ℕ, ◌+◌, ◌*◌, ◌<◌, ◌≤◌, take, refl, ap, ◌∙◌, subst, arith}
+use Rattle.std.proofs.Math.Nat.{mul-le-mul_left}
 use Rattle.vt_camera.specs.declared.surfaces.Surface.{Surface}
 use Rattle.vt_mip.specs.Chains.{chain_width, chain_height, IsTexelRaster}
 use Rattle.vt_draw.specs.Plain.{chain_of}
@@ -34,3 +35,9 @@ size-width-requires g c = subst (λ (s : Surface). c.level-level.result < s.leve
 
 pub put_texel-requires-clause-depth : goal.put_texel-requires-clause-depth
 put_texel-requires-clause-depth g c = c.requires.depth
+
+pub put_texel-requires-clause-to : goal.put_texel-requires-clause-to
+put_texel-requires-clause-to g c =
+    let d = g.row.DEPTH in
+    let room : 3 * d * (c.loop-x.x + 1) ≤ 3 * d * c.args.columns = mul-le-mul_left (3 * d) (omega arith) in
+    omega (arith, room, c.loop-x.auto.out, c.requires.room)

@@ -1,10 +1,12 @@
-use Rattle.std.proofs.Common.{◌≡◌, ℕ, ◌<◌, subst, sym, ap, ◌∙◌, arith}
+use Rattle.std.proofs.Common.{◌≡◌, ℕ, ◌+◌, ◌*◌, ◌<◌, ◌≤◌, subst, sym, ap, ◌∙◌, arith}
+use Rattle.std.proofs.Math.Nat.{mul-le-mul_left}
+use Rattle.std.specs.Prelude.{slice_index}
 use Rattle.vt_pages.specs.Shape.{Shape}
 use Rattle.vt_pages.specs.Pages.{levels_of, pages_of, IsWithinLimits}
 use Rattle.vt_camera.specs.declared.surfaces.Surface.{Surface}
 use Rattle.vt_draw.specs.Lookups.{IsFinest, covering_page}
-use Rattle.vt_definitions.specs.Depths.{texel_bytes}
-use Rattle.vt_draw.specs.Shots.{wanted_page, IsDrawn}
+use Rattle.vt_definitions.specs.Depths.{texel_bytes, texel_length}
+use Rattle.vt_draw.specs.Shots.{wanted_page, pixels_wanting, IsDrawn}
 use Rattle.vt_draw.proofs.Counts.{run-none, run_fits, pixels-none, pixels-next}
 use Rattle.vt_draw.proofs.DrawnPixels.{finest_moved, drawn-more, wanted_is, read_is}
 use Rattle.vt_draw.proofs.shots.draw_pixels.Goals as goal
@@ -136,3 +138,32 @@ returns-clause-version g c = c.loop-x.invariant.version
 
 pub returns-clause-said : goal.returns-clause-said
 returns-clause-said g c = c.loop-x.invariant.said
+
+pub find-found-requires : goal.find-found-requires
+find-found-requires g c = subst (λ (s : Shape). c.page_at_place-wanted.result < pages_of s) (sym c.requires.shape) c.page_at_place-wanted.ensures.inside
+
+pub count_pixel-run-requires-clause-before : goal.count_pixel-run-requires-clause-before
+count_pixel-run-requires-clause-before g c = subst (λ (n : ℕ). c.loop-x.wanted < n) (sym c.loop-x.auto.counts) c.loop-x.invariant.inside
+
+pub count_pixel-run-requires-clause-short : goal.count_pixel-run-requires-clause-short
+count_pixel-run-requires-clause-short g c = omega (arith, c.loop-x.invariant.short)
+
+pub add_run-requires-clause-page : goal.add_run-requires-clause-page
+add_run-requires-clause-page g c = subst (λ (n : ℕ). c.loop-x.wanted < n) (sym c.loop-x.auto.counts) c.loop-x.invariant.inside
+
+pub put_word-requires-clause-room : goal.put_word-requires-clause-room
+put_word-requires-clause-room g c =
+    let z : ℕ = texel_length g.row.DEPTH in
+    let room : z * (c.loop-x.x + 1) ≤ z * c.args.columns = mul-le-mul_left z (omega arith) in
+    omega (arith, room, c.loop-x.auto.out, c.requires.bytes)
+
+pub returns-clause-drawn : goal.returns-clause-drawn
+returns-clause-drawn g c = λ i below.
+    subst (λ (v : ℕ). IsDrawn c.args.geometry.now g.row.DEPTH v (g.K.Lookup.says c.loop-x.lookup) c.args.row i (texel_bytes g.row.DEPTH c.loop-x.out i))
+    (sym c.loop-x.invariant.version) (c.loop-x.invariant.drawn i (omega (arith, below)))
+
+pub returns-clause-counted : goal.returns-clause-counted
+returns-clause-counted g c = λ p inside.
+    let all : c.loop-x.x ≡ c.args.columns = omega arith in
+    let wanting = ap (λ (n : ℕ). pixels_wanting c.args.geometry.now c.args.row n p) all in
+    c.add_run.ensures.added p ∙ c.loop-x.invariant.counted p ∙ ap (λ (n : ℕ). slice_index c.args.counts.now p + n) wanting

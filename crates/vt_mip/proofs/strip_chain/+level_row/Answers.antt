@@ -1,4 +1,5 @@
-use Rattle.std.proofs.Common.{◌≡◌, ℕ, ◌+◌, ◌-◌, ◌*◌, ◌<◌, ◌≤◌, length, sym, subst, arith, rules}
+use Rattle.std.proofs.Common.{◌≡◌, ℕ, ◌+◌, ◌-◌, ◌*◌, ◌<◌, ◌≤◌, length, sym, ◌∙◌, subst, arith, rules}
+use Rattle.std.proofs.Math.Nat.{le_trans}
 use Rattle.std.proofs.lemmas.Result.{on_ok_weaker}
 use Rattle.vt_outside.proofs.Untold.{OnErr-all}
 use Rattle.vt_definitions.specs.Sides.{side}
@@ -238,3 +239,63 @@ returns-clause-words g t c =
     c.depth-depth.ensures.value b.columns c.depth-depth.ensures.depth c.header-texture.ensures.limits.sides.some_columns
     (omega (arith, b.rows, b.inside)) c.halve_rows-2.ensures.above c.halve_rows-2.ensures.below c.in_ok-level_row.ensures.words
     c.in_ok-level_row-2.ensures.words c.halve_rows-2.ensures.row
+
+pub returns-in_err-level_row-clause-bytes : goal.returns-in_err-level_row-clause-bytes
+returns-in_err-level_row-clause-bytes g t c = c.level_row.ensures.bytes
+
+pub returns-in_err-level_row-clause-name : goal.returns-in_err-level_row-clause-name
+returns-in_err-level_row-clause-name g t c = c.level_row.ensures.name
+
+pub returns-in_err-level_row-clause-faults : goal.returns-in_err-level_row-clause-faults
+returns-in_err-level_row-clause-faults g t c = c.level_row.ensures.faults
+
+pub returns-in_err-level_row-clause-header : goal.returns-in_err-level_row-clause-header
+returns-in_err-level_row-clause-header g t c = c.level_row.ensures.header
+
+pub returns-in_err-level_row-clause-kept : goal.returns-in_err-level_row-clause-kept
+returns-in_err-level_row-clause-kept g t c = c.level_row.ensures.kept
+
+pub returns-then-y-height-clause-bytes : goal.returns-then-y-height-clause-bytes
+returns-then-y-height-clause-bytes g t c = c.level_row.ensures.bytes
+
+pub returns-then-y-height-clause-name : goal.returns-then-y-height-clause-name
+returns-then-y-height-clause-name g t c = c.level_row.ensures.name
+
+pub returns-then-y-height-clause-faults : goal.returns-then-y-height-clause-faults
+returns-then-y-height-clause-faults g t c = c.level_row.ensures.faults
+
+pub returns-then-y-height-clause-header : goal.returns-then-y-height-clause-header
+returns-then-y-height-clause-header g t c = c.level_row.ensures.header
+
+pub returns-then-y-height-clause-kept : goal.returns-then-y-height-clause-kept
+returns-then-y-height-clause-kept g t c = c.level_row.ensures.kept
+
+pub returns-in_err-level_row-2-clause-bytes : goal.returns-in_err-level_row-2-clause-bytes
+returns-in_err-level_row-2-clause-bytes g t c = c.level_row-2.ensures.bytes ∙ c.level_row.ensures.bytes
+
+pub returns-in_err-level_row-2-clause-name : goal.returns-in_err-level_row-2-clause-name
+returns-in_err-level_row-2-clause-name g t c = c.level_row-2.ensures.name ∙ c.level_row.ensures.name
+
+pub returns-in_err-level_row-2-clause-faults : goal.returns-in_err-level_row-2-clause-faults
+returns-in_err-level_row-2-clause-faults g t c = le_trans c.level_row.ensures.faults c.level_row-2.ensures.faults
+
+pub returns-in_err-level_row-2-clause-header : goal.returns-in_err-level_row-2-clause-header
+returns-in_err-level_row-2-clause-header g t c = c.level_row-2.ensures.header ∙ c.level_row.ensures.header
+
+pub returns-in_err-level_row-2-clause-kept : goal.returns-in_err-level_row-2-clause-kept
+returns-in_err-level_row-2-clause-kept g t c = c.level_row-2.ensures.kept
+
+pub returns-clause-bytes : goal.returns-clause-bytes
+returns-clause-bytes g t c = c.level_row-2.ensures.bytes ∙ c.level_row.ensures.bytes
+
+pub returns-clause-name : goal.returns-clause-name
+returns-clause-name g t c = c.level_row-2.ensures.name ∙ c.level_row.ensures.name
+
+pub returns-clause-faults : goal.returns-clause-faults
+returns-clause-faults g t c = le_trans c.level_row.ensures.faults c.level_row-2.ensures.faults
+
+pub returns-clause-header : goal.returns-clause-header
+returns-clause-header g t c = c.level_row-2.ensures.header ∙ c.level_row.ensures.header
+
+pub returns-clause-kept : goal.returns-clause-kept
+returns-clause-kept g t c = c.level_row-2.ensures.kept

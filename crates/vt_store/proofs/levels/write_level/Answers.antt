@@ -5,6 +5,8 @@ use Rattle.vt_outside.specs.declared.answers.OutsideError.TheVariants.{Failed}
 use Rattle.vt_pages.specs.Pages.{pages_below, columns_at, rows_at}
 use Rattle.vt_store.specs.Format.{tile_length}
 use Rattle.vt_store.proofs.LevelRows.{shorter_row, rows_are_at, row_low, rows_taken, level_begun, level_more, level_part, level_whole, there_added, passed_on}
+use Rattle.vt_store.proofs.Refusing.{none_made, no_value, no_fewer}
+use Rattle.vt_store.proofs.WideStores.{no_less}
 use Rattle.vt_store.proofs.levels.write_level.Goals as goal
 
 pub slice_bounds-row-end : goal.slice_bounds-row-end
@@ -114,3 +116,51 @@ returns-clause-whole g c = λ src has.
 
 pub returns-clause-half : goal.returns-clause-half
 returns-clause-half g c = c.finish.ensures.half c.args.image c.loop-strip.invariant.front
+
+pub returns-in_err-texels-clause-whole : goal.returns-in_err-texels-clause-whole
+returns-in_err-texels-clause-whole g c = none_made c.from_residual.result _ _ c.from_residual.ensures.1
+
+pub returns-in_err-texels-clause-half : goal.returns-in_err-texels-clause-half
+returns-in_err-texels-clause-half g c = no_value c.from_residual.result _ _ c.from_residual.ensures.1
+
+pub returns-in_err-texels-clause-lawful : goal.returns-in_err-texels-clause-lawful
+returns-in_err-texels-clause-lawful g c = no_value c.from_residual.result _ _ c.from_residual.ensures.1
+
+pub returns-in_err-texels-clause-asked : goal.returns-in_err-texels-clause-asked
+returns-in_err-texels-clause-asked g c = refl
+
+pub returns-in_err-texels-clause-faults : goal.returns-in_err-texels-clause-faults
+returns-in_err-texels-clause-faults g c = no_fewer _ _ refl
+
+pub returns-in_err-write_row-clause-whole : goal.returns-in_err-write_row-clause-whole
+returns-in_err-write_row-clause-whole g c = none_made c.from_residual-in_err-write_row.result _ _ c.from_residual-in_err-write_row.ensures.1
+
+pub returns-in_err-write_row-clause-half : goal.returns-in_err-write_row-clause-half
+returns-in_err-write_row-clause-half g c = no_value c.from_residual-in_err-write_row.result _ _ c.from_residual-in_err-write_row.ensures.1
+
+pub returns-in_err-write_row-clause-lawful : goal.returns-in_err-write_row-clause-lawful
+returns-in_err-write_row-clause-lawful g c = no_value c.from_residual-in_err-write_row.result _ _ c.from_residual-in_err-write_row.ensures.1
+
+pub returns-in_err-write_row-clause-asked : goal.returns-in_err-write_row-clause-asked
+returns-in_err-write_row-clause-asked g c = c.write_row.ensures.asked ∙ c.loop-strip.invariant.asked
+
+pub returns-in_err-write_row-clause-faults : goal.returns-in_err-write_row-clause-faults
+returns-in_err-write_row-clause-faults g c = no_less _ _ _ c.loop-strip.invariant.faults c.write_row.ensures.faults
+
+pub returns-in_err-texels-clause-bytes : goal.returns-in_err-texels-clause-bytes
+returns-in_err-texels-clause-bytes g c = c.samples_are_bytes.ensures
+
+pub returns-in_err-write_row-clause-bytes : goal.returns-in_err-write_row-clause-bytes
+returns-in_err-write_row-clause-bytes g c = c.samples_are_bytes.ensures
+
+pub returns-clause-bytes : goal.returns-clause-bytes
+returns-clause-bytes g c = c.samples_are_bytes.ensures
+
+pub returns-clause-asked : goal.returns-clause-asked
+returns-clause-asked g c = c.loop-strip.invariant.asked
+
+pub returns-clause-faults : goal.returns-clause-faults
+returns-clause-faults g c = c.loop-strip.invariant.faults
+
+pub returns-clause-lawful : goal.returns-clause-lawful
+returns-clause-lawful g c = c.finish.ensures.lawful

@@ -41,3 +41,24 @@ returns-clause-part g c =
           (c.rows.ensures.full ∙ ap (λ (n : ℕ). texel_length c.args.texels.now.depth * (c.args.texels.now.width * n)) c.size_inside-inside.ensures.rows)
           c.rows.ensures.piece has) c.put_tiles.ensures),
     )) c.append.ensures.part
+
+pub returns-clause-halves : goal.returns-clause-halves
+returns-clause-halves g c = c.take.ensures.halves
+
+pub returns-clause-depth : goal.returns-clause-depth
+returns-clause-depth g c = c.take.ensures.depth
+
+pub returns-clause-width : goal.returns-clause-width
+returns-clause-width g c = c.take.ensures.width
+
+pub returns-clause-height : goal.returns-clause-height
+returns-clause-height g c = c.take.ensures.height
+
+pub returns-clause-failed : goal.returns-clause-failed
+returns-clause-failed g c = c.append.ensures.failed
+
+pub returns-clause-asked : goal.returns-clause-asked
+returns-clause-asked g c = c.append.ensures.asked
+
+pub returns-clause-faults : goal.returns-clause-faults
+returns-clause-faults g c = c.append.ensures.faults

@@ -1,8 +1,10 @@
-use Rattle.std.proofs.Common.{◌≡◌, ℕ, ◌-◌, ◌*◌, inr, min, length, refl, ap, ◌∙◌, arith}
+use Rattle.std.proofs.Common.{◌≡◌, ℕ, ◌-◌, ◌*◌, inl, inr, min, length, refl, ap, ◌∙◌, arith}
 use Rattle.vt_outside.proofs.Untold.{OnErr-all}
 use Rattle.vt_ppm.specs.Strips.{texture_of}
 use Rattle.vt_pages.specs.Pages.{columns_at}
 use Rattle.vt_store.proofs.StripTiles.{is_strip, strip_length, strip_made, strip_piece}
+use Rattle.vt_store.proofs.Refusing.{none_made, by_file, by_outside, no_fewer}
+use Rattle.vt_store.proofs.LevelChain.{refused_by}
 use Rattle.vt_store.proofs.strips.write_strip.Goals as goal
 
 pub overflow_mul-y : goal.overflow_mul-y
@@ -118,3 +120,139 @@ returns-clause-halves g c =
     (strip_piece (g.F.File.bytes c.args.chain.now.file) c.args.geometry.now c.args.chain.now.header c.args.strip
     (c.args.strip * c.tile-side.result) c.min-count.result c.tile_columns-columns.result c.args.half.now.taken c.rows.new.out is c.requires.taken
     c.rows.ensures.texture c.in_ok-rows.ensures.rows b e)
+
+pub returns-in_err-rows-clause-gained : goal.returns-in_err-rows-clause-gained
+returns-in_err-rows-clause-gained g c = none_made c.from_residual.result _ _ c.from_residual.ensures.1
+
+pub returns-in_err-rows-clause-halves : goal.returns-in_err-rows-clause-halves
+returns-in_err-rows-clause-halves g c = none_made c.from_residual.result _ _ c.from_residual.ensures.1
+
+pub returns-in_err-rows-clause-taken : goal.returns-in_err-rows-clause-taken
+returns-in_err-rows-clause-taken g c = none_made c.from_residual.result _ _ c.from_residual.ensures.1
+
+pub returns-in_err-rows-clause-half_depth : goal.returns-in_err-rows-clause-half_depth
+returns-in_err-rows-clause-half_depth g c = none_made c.from_residual.result _ _ c.from_residual.ensures.1
+
+pub returns-in_err-rows-clause-half_width : goal.returns-in_err-rows-clause-half_width
+returns-in_err-rows-clause-half_width g c = none_made c.from_residual.result _ _ c.from_residual.ensures.1
+
+pub returns-in_err-rows-clause-half_height : goal.returns-in_err-rows-clause-half_height
+returns-in_err-rows-clause-half_height g c = none_made c.from_residual.result _ _ c.from_residual.ensures.1
+
+pub returns-in_err-rows-clause-read : goal.returns-in_err-rows-clause-read
+returns-in_err-rows-clause-read g c = none_made c.from_residual.result _ _ c.from_residual.ensures.1
+
+pub returns-in_err-rows-clause-part : goal.returns-in_err-rows-clause-part
+returns-in_err-rows-clause-part g c = OnErr-all _ _ (inl refl)
+
+pub returns-in_err-rows-clause-refusals : goal.returns-in_err-rows-clause-refusals
+returns-in_err-rows-clause-refusals g c = by_file c.from_residual.result c.from_residual.ensures.1
+
+pub returns-in_err-rows-clause-spare : goal.returns-in_err-rows-clause-spare
+returns-in_err-rows-clause-spare g c = c.rows.ensures.spare
+
+pub returns-in_err-rows-clause-bytes : goal.returns-in_err-rows-clause-bytes
+returns-in_err-rows-clause-bytes g c = c.rows.ensures.bytes
+
+pub returns-in_err-rows-clause-name : goal.returns-in_err-rows-clause-name
+returns-in_err-rows-clause-name g c = c.rows.ensures.name
+
+pub returns-in_err-rows-clause-header : goal.returns-in_err-rows-clause-header
+returns-in_err-rows-clause-header g c = c.rows.ensures.header
+
+pub returns-in_err-rows-clause-tile : goal.returns-in_err-rows-clause-tile
+returns-in_err-rows-clause-tile g c = c.rows.ensures.tile
+
+pub returns-in_err-rows-clause-file_faults : goal.returns-in_err-rows-clause-file_faults
+returns-in_err-rows-clause-file_faults g c = c.rows.ensures.faults
+
+pub returns-in_err-rows-clause-asked : goal.returns-in_err-rows-clause-asked
+returns-in_err-rows-clause-asked g c = refl
+
+pub returns-in_err-rows-clause-faults : goal.returns-in_err-rows-clause-faults
+returns-in_err-rows-clause-faults g c = no_fewer _ _ refl
+
+pub returns-in_err-append-clause-gained : goal.returns-in_err-append-clause-gained
+returns-in_err-append-clause-gained g c = none_made c.from_residual-in_err-append.result _ _ c.from_residual-in_err-append.ensures.1
+
+pub returns-in_err-append-clause-halves : goal.returns-in_err-append-clause-halves
+returns-in_err-append-clause-halves g c = none_made c.from_residual-in_err-append.result _ _ c.from_residual-in_err-append.ensures.1
+
+pub returns-in_err-append-clause-taken : goal.returns-in_err-append-clause-taken
+returns-in_err-append-clause-taken g c = none_made c.from_residual-in_err-append.result _ _ c.from_residual-in_err-append.ensures.1
+
+pub returns-in_err-append-clause-half_depth : goal.returns-in_err-append-clause-half_depth
+returns-in_err-append-clause-half_depth g c = none_made c.from_residual-in_err-append.result _ _ c.from_residual-in_err-append.ensures.1
+
+pub returns-in_err-append-clause-half_width : goal.returns-in_err-append-clause-half_width
+returns-in_err-append-clause-half_width g c = none_made c.from_residual-in_err-append.result _ _ c.from_residual-in_err-append.ensures.1
+
+pub returns-in_err-append-clause-half_height : goal.returns-in_err-append-clause-half_height
+returns-in_err-append-clause-half_height g c = none_made c.from_residual-in_err-append.result _ _ c.from_residual-in_err-append.ensures.1
+
+pub returns-in_err-append-clause-read : goal.returns-in_err-append-clause-read
+returns-in_err-append-clause-read g c = none_made c.from_residual-in_err-append.result _ _ c.from_residual-in_err-append.ensures.1
+
+pub returns-in_err-append-clause-refusals : goal.returns-in_err-append-clause-refusals
+returns-in_err-append-clause-refusals g c = by_outside c.from_residual-in_err-append.result _ c.from_residual-in_err-append.ensures.1
+
+pub returns-in_err-append-clause-failed : goal.returns-in_err-append-clause-failed
+returns-in_err-append-clause-failed g c = λ failed there. inl (c.append.ensures.failed (refused_by c.append.result c.from_residual-in_err-append.result _ c.in_err-append.was
+    c.from_residual-in_err-append.ensures.1 failed) there)
+
+pub returns-in_err-append-clause-spare : goal.returns-in_err-append-clause-spare
+returns-in_err-append-clause-spare g c = c.rows.ensures.spare
+
+pub returns-in_err-append-clause-bytes : goal.returns-in_err-append-clause-bytes
+returns-in_err-append-clause-bytes g c = c.rows.ensures.bytes
+
+pub returns-in_err-append-clause-name : goal.returns-in_err-append-clause-name
+returns-in_err-append-clause-name g c = c.rows.ensures.name
+
+pub returns-in_err-append-clause-header : goal.returns-in_err-append-clause-header
+returns-in_err-append-clause-header g c = c.rows.ensures.header
+
+pub returns-in_err-append-clause-tile : goal.returns-in_err-append-clause-tile
+returns-in_err-append-clause-tile g c = c.rows.ensures.tile
+
+pub returns-in_err-append-clause-file_faults : goal.returns-in_err-append-clause-file_faults
+returns-in_err-append-clause-file_faults g c = c.rows.ensures.faults
+
+pub returns-in_err-append-clause-asked : goal.returns-in_err-append-clause-asked
+returns-in_err-append-clause-asked g c = c.append.ensures.asked
+
+pub returns-in_err-append-clause-faults : goal.returns-in_err-append-clause-faults
+returns-in_err-append-clause-faults g c = c.append.ensures.faults
+
+pub returns-clause-spare : goal.returns-clause-spare
+returns-clause-spare g c = c.rows.ensures.spare
+
+pub returns-clause-bytes : goal.returns-clause-bytes
+returns-clause-bytes g c = c.rows.ensures.bytes
+
+pub returns-clause-name : goal.returns-clause-name
+returns-clause-name g c = c.rows.ensures.name
+
+pub returns-clause-header : goal.returns-clause-header
+returns-clause-header g c = c.rows.ensures.header
+
+pub returns-clause-tile : goal.returns-clause-tile
+returns-clause-tile g c = c.rows.ensures.tile
+
+pub returns-clause-file_faults : goal.returns-clause-file_faults
+returns-clause-file_faults g c = c.rows.ensures.faults
+
+pub returns-clause-asked : goal.returns-clause-asked
+returns-clause-asked g c = c.append.ensures.asked
+
+pub returns-clause-faults : goal.returns-clause-faults
+returns-clause-faults g c = c.append.ensures.faults
+
+pub returns-clause-half_depth : goal.returns-clause-half_depth
+returns-clause-half_depth g c = c.take.ensures.depth
+
+pub returns-clause-half_width : goal.returns-clause-half_width
+returns-clause-half_width g c = c.take.ensures.width
+
+pub returns-clause-half_height : goal.returns-clause-half_height
+returns-clause-half_height g c = c.take.ensures.height

@@ -13,6 +13,7 @@ use Rattle.vt_store.proofs.WideStores.{rose_along, no_less, carried}
 use Rattle.vt_store.proofs.StripStores.{made_begun, made_moved, made_more, made_part, made_header, made_whole, made_rest_part, store_seen, front_seen, header_seen, there_made, more_strips, no_strips, strips_front, strip_tried}
 use Rattle.vt_store.proofs.StripLevels.{first_pages, first_inside, strip_inside, are_strips, rest_tiles, level_made, strip_room, strip_small, strip_bytes, next_taken}
 use Rattle.vt_store.proofs.LevelChain.{refused_by}
+use Rattle.vt_store.proofs.Refusing.{none_made, by_memory, by_outside, by_call, no_fault, no_fewer}
 use Rattle.vt_store.proofs.strips.write_strips.Goals as goal
 
 pub returns-in_err-reserve-clause-front_read : goal.returns-in_err-reserve-clause-front_read
@@ -362,3 +363,199 @@ returns-clause-all_read g c =
     let all : c.loop-strip.strip ≡ strips_of c.args.chain.now.header c.args.geometry.now.tile = omega (arith, are.all) in
     subst (λ (n : ℕ). StripsAsked c.args.chain.now.header c.args.geometry.now.tile n (g.F.File.asked c.args.chain.now.file)
     (g.F.File.asked c.loop-strip.chain.file)) all c.loop-strip.invariant.read
+
+pub returns-in_err-reserve-clause-whole : goal.returns-in_err-reserve-clause-whole
+returns-in_err-reserve-clause-whole g c = none_made c.from_residual.result _ _ c.from_residual.ensures.1
+
+pub returns-in_err-reserve-clause-all_read : goal.returns-in_err-reserve-clause-all_read
+returns-in_err-reserve-clause-all_read g c = none_made c.from_residual.result _ _ c.from_residual.ensures.1
+
+pub returns-in_err-reserve-clause-part : goal.returns-in_err-reserve-clause-part
+returns-in_err-reserve-clause-part g c = OnErr-all _ _ (inl refl)
+
+pub returns-in_err-reserve-clause-refusals : goal.returns-in_err-reserve-clause-refusals
+returns-in_err-reserve-clause-refusals g c = by_memory c.from_residual.result c.from_residual.ensures.1
+
+pub returns-in_err-reserve-clause-failed : goal.returns-in_err-reserve-clause-failed
+returns-in_err-reserve-clause-failed g c = λ failed. no_fault c.from_residual.result _ c.from_residual.ensures.1 failed
+
+pub returns-in_err-reserve-clause-asked : goal.returns-in_err-reserve-clause-asked
+returns-in_err-reserve-clause-asked g c = refl
+
+pub returns-in_err-reserve-clause-faults : goal.returns-in_err-reserve-clause-faults
+returns-in_err-reserve-clause-faults g c = no_fewer _ _ refl
+
+pub returns-in_err-reserve-clause-bytes : goal.returns-in_err-reserve-clause-bytes
+returns-in_err-reserve-clause-bytes g c = c.reserve.ensures.bytes
+
+pub returns-in_err-reserve-clause-name : goal.returns-in_err-reserve-clause-name
+returns-in_err-reserve-clause-name g c = c.reserve.ensures.name
+
+pub returns-in_err-reserve-clause-header : goal.returns-in_err-reserve-clause-header
+returns-in_err-reserve-clause-header g c = c.reserve.ensures.header
+
+pub returns-in_err-reserve-clause-tile : goal.returns-in_err-reserve-clause-tile
+returns-in_err-reserve-clause-tile g c = c.reserve.ensures.tile
+
+pub returns-in_err-reserve-clause-file_faults : goal.returns-in_err-reserve-clause-file_faults
+returns-in_err-reserve-clause-file_faults g c = no_fewer _ _ c.reserve.ensures.faults
+
+pub returns-in_err-rows_room-clause-whole : goal.returns-in_err-rows_room-clause-whole
+returns-in_err-rows_room-clause-whole g c = none_made c.from_residual-in_err-rows_room.result _ _ c.from_residual-in_err-rows_room.ensures.1
+
+pub returns-in_err-rows_room-clause-all_read : goal.returns-in_err-rows_room-clause-all_read
+returns-in_err-rows_room-clause-all_read g c = none_made c.from_residual-in_err-rows_room.result _ _ c.from_residual-in_err-rows_room.ensures.1
+
+pub returns-in_err-rows_room-clause-part : goal.returns-in_err-rows_room-clause-part
+returns-in_err-rows_room-clause-part g c = OnErr-all _ _ (inl refl)
+
+pub returns-in_err-rows_room-clause-refusals : goal.returns-in_err-rows_room-clause-refusals
+returns-in_err-rows_room-clause-refusals g c = by_memory c.from_residual-in_err-rows_room.result c.from_residual-in_err-rows_room.ensures.1
+
+pub returns-in_err-rows_room-clause-failed : goal.returns-in_err-rows_room-clause-failed
+returns-in_err-rows_room-clause-failed g c = λ failed. no_fault c.from_residual-in_err-rows_room.result _ c.from_residual-in_err-rows_room.ensures.1 failed
+
+pub returns-in_err-rows_room-clause-asked : goal.returns-in_err-rows_room-clause-asked
+returns-in_err-rows_room-clause-asked g c = refl
+
+pub returns-in_err-rows_room-clause-faults : goal.returns-in_err-rows_room-clause-faults
+returns-in_err-rows_room-clause-faults g c = no_fewer _ _ refl
+
+pub returns-in_err-rows_room-clause-bytes : goal.returns-in_err-rows_room-clause-bytes
+returns-in_err-rows_room-clause-bytes g c = c.reserve.ensures.bytes
+
+pub returns-in_err-rows_room-clause-name : goal.returns-in_err-rows_room-clause-name
+returns-in_err-rows_room-clause-name g c = c.reserve.ensures.name
+
+pub returns-in_err-rows_room-clause-header : goal.returns-in_err-rows_room-clause-header
+returns-in_err-rows_room-clause-header g c = c.reserve.ensures.header
+
+pub returns-in_err-rows_room-clause-tile : goal.returns-in_err-rows_room-clause-tile
+returns-in_err-rows_room-clause-tile g c = c.reserve.ensures.tile
+
+pub returns-in_err-rows_room-clause-file_faults : goal.returns-in_err-rows_room-clause-file_faults
+returns-in_err-rows_room-clause-file_faults g c = no_fewer _ _ c.reserve.ensures.faults
+
+pub returns-in_err-tiles_room-clause-whole : goal.returns-in_err-tiles_room-clause-whole
+returns-in_err-tiles_room-clause-whole g c = none_made c.from_residual-in_err-tiles_room.result _ _ c.from_residual-in_err-tiles_room.ensures.1
+
+pub returns-in_err-tiles_room-clause-all_read : goal.returns-in_err-tiles_room-clause-all_read
+returns-in_err-tiles_room-clause-all_read g c = none_made c.from_residual-in_err-tiles_room.result _ _ c.from_residual-in_err-tiles_room.ensures.1
+
+pub returns-in_err-tiles_room-clause-part : goal.returns-in_err-tiles_room-clause-part
+returns-in_err-tiles_room-clause-part g c = OnErr-all _ _ (inl refl)
+
+pub returns-in_err-tiles_room-clause-refusals : goal.returns-in_err-tiles_room-clause-refusals
+returns-in_err-tiles_room-clause-refusals g c = by_memory c.from_residual-in_err-tiles_room.result c.from_residual-in_err-tiles_room.ensures.1
+
+pub returns-in_err-tiles_room-clause-failed : goal.returns-in_err-tiles_room-clause-failed
+returns-in_err-tiles_room-clause-failed g c = λ failed. no_fault c.from_residual-in_err-tiles_room.result _ c.from_residual-in_err-tiles_room.ensures.1 failed
+
+pub returns-in_err-tiles_room-clause-asked : goal.returns-in_err-tiles_room-clause-asked
+returns-in_err-tiles_room-clause-asked g c = refl
+
+pub returns-in_err-tiles_room-clause-faults : goal.returns-in_err-tiles_room-clause-faults
+returns-in_err-tiles_room-clause-faults g c = no_fewer _ _ refl
+
+pub returns-in_err-tiles_room-clause-bytes : goal.returns-in_err-tiles_room-clause-bytes
+returns-in_err-tiles_room-clause-bytes g c = c.reserve.ensures.bytes
+
+pub returns-in_err-tiles_room-clause-name : goal.returns-in_err-tiles_room-clause-name
+returns-in_err-tiles_room-clause-name g c = c.reserve.ensures.name
+
+pub returns-in_err-tiles_room-clause-header : goal.returns-in_err-tiles_room-clause-header
+returns-in_err-tiles_room-clause-header g c = c.reserve.ensures.header
+
+pub returns-in_err-tiles_room-clause-tile : goal.returns-in_err-tiles_room-clause-tile
+returns-in_err-tiles_room-clause-tile g c = c.reserve.ensures.tile
+
+pub returns-in_err-tiles_room-clause-file_faults : goal.returns-in_err-tiles_room-clause-file_faults
+returns-in_err-tiles_room-clause-file_faults g c = no_fewer _ _ c.reserve.ensures.faults
+
+pub returns-in_err-half-clause-whole : goal.returns-in_err-half-clause-whole
+returns-in_err-half-clause-whole g c = none_made c.from_residual-in_err-half.result _ _ c.from_residual-in_err-half.ensures.1
+
+pub returns-in_err-half-clause-all_read : goal.returns-in_err-half-clause-all_read
+returns-in_err-half-clause-all_read g c = none_made c.from_residual-in_err-half.result _ _ c.from_residual-in_err-half.ensures.1
+
+pub returns-in_err-half-clause-part : goal.returns-in_err-half-clause-part
+returns-in_err-half-clause-part g c = OnErr-all _ _ (inl refl)
+
+pub returns-in_err-half-clause-refusals : goal.returns-in_err-half-clause-refusals
+returns-in_err-half-clause-refusals g c = by_memory c.from_residual-in_err-half.result c.from_residual-in_err-half.ensures.1
+
+pub returns-in_err-half-clause-failed : goal.returns-in_err-half-clause-failed
+returns-in_err-half-clause-failed g c = λ failed. no_fault c.from_residual-in_err-half.result _ c.from_residual-in_err-half.ensures.1 failed
+
+pub returns-in_err-half-clause-asked : goal.returns-in_err-half-clause-asked
+returns-in_err-half-clause-asked g c = refl
+
+pub returns-in_err-half-clause-faults : goal.returns-in_err-half-clause-faults
+returns-in_err-half-clause-faults g c = no_fewer _ _ refl
+
+pub returns-in_err-half-clause-bytes : goal.returns-in_err-half-clause-bytes
+returns-in_err-half-clause-bytes g c = c.reserve.ensures.bytes
+
+pub returns-in_err-half-clause-name : goal.returns-in_err-half-clause-name
+returns-in_err-half-clause-name g c = c.reserve.ensures.name
+
+pub returns-in_err-half-clause-header : goal.returns-in_err-half-clause-header
+returns-in_err-half-clause-header g c = c.reserve.ensures.header
+
+pub returns-in_err-half-clause-tile : goal.returns-in_err-half-clause-tile
+returns-in_err-half-clause-tile g c = c.reserve.ensures.tile
+
+pub returns-in_err-half-clause-file_faults : goal.returns-in_err-half-clause-file_faults
+returns-in_err-half-clause-file_faults g c = no_fewer _ _ c.reserve.ensures.faults
+
+pub returns-in_err-begin_store-clause-whole : goal.returns-in_err-begin_store-clause-whole
+returns-in_err-begin_store-clause-whole g c = none_made c.from_residual-in_err-begin_store.result _ _ c.from_residual-in_err-begin_store.ensures.1
+
+pub returns-in_err-begin_store-clause-all_read : goal.returns-in_err-begin_store-clause-all_read
+returns-in_err-begin_store-clause-all_read g c = none_made c.from_residual-in_err-begin_store.result _ _ c.from_residual-in_err-begin_store.ensures.1
+
+pub returns-in_err-begin_store-clause-refusals : goal.returns-in_err-begin_store-clause-refusals
+returns-in_err-begin_store-clause-refusals g c = by_outside c.from_residual-in_err-begin_store.result _ c.from_residual-in_err-begin_store.ensures.1
+
+pub returns-in_err-begin_store-clause-failed : goal.returns-in_err-begin_store-clause-failed
+returns-in_err-begin_store-clause-failed g c = λ failed. inl (c.begin_store.ensures.failed (refused_by c.begin_store.result c.from_residual-in_err-begin_store.result _
+    c.in_err-begin_store.was c.from_residual-in_err-begin_store.ensures.1 failed))
+
+pub returns-in_err-begin_store-clause-asked : goal.returns-in_err-begin_store-clause-asked
+returns-in_err-begin_store-clause-asked g c = c.begin_store.ensures.asked
+
+pub returns-in_err-begin_store-clause-faults : goal.returns-in_err-begin_store-clause-faults
+returns-in_err-begin_store-clause-faults g c = c.begin_store.ensures.faults
+
+pub returns-in_err-begin_store-clause-bytes : goal.returns-in_err-begin_store-clause-bytes
+returns-in_err-begin_store-clause-bytes g c = c.reserve.ensures.bytes
+
+pub returns-in_err-begin_store-clause-name : goal.returns-in_err-begin_store-clause-name
+returns-in_err-begin_store-clause-name g c = c.reserve.ensures.name
+
+pub returns-in_err-begin_store-clause-header : goal.returns-in_err-begin_store-clause-header
+returns-in_err-begin_store-clause-header g c = c.reserve.ensures.header
+
+pub returns-in_err-begin_store-clause-tile : goal.returns-in_err-begin_store-clause-tile
+returns-in_err-begin_store-clause-tile g c = c.reserve.ensures.tile
+
+pub returns-in_err-begin_store-clause-file_faults : goal.returns-in_err-begin_store-clause-file_faults
+returns-in_err-begin_store-clause-file_faults g c = no_fewer _ _ c.reserve.ensures.faults
+
+pub returns-in_err-write_strip-clause-whole : goal.returns-in_err-write_strip-clause-whole
+returns-in_err-write_strip-clause-whole g c = none_made c.from_residual-in_err-write_strip.result _ _ c.from_residual-in_err-write_strip.ensures.1
+
+pub returns-in_err-write_strip-clause-all_read : goal.returns-in_err-write_strip-clause-all_read
+returns-in_err-write_strip-clause-all_read g c = none_made c.from_residual-in_err-write_strip.result _ _ c.from_residual-in_err-write_strip.ensures.1
+
+pub returns-in_err-write_levels-clause-whole : goal.returns-in_err-write_levels-clause-whole
+returns-in_err-write_levels-clause-whole g c = none_made c.from_residual-in_err-write_levels.result _ _ c.from_residual-in_err-write_levels.ensures.1
+
+pub returns-in_err-write_levels-clause-all_read : goal.returns-in_err-write_levels-clause-all_read
+returns-in_err-write_levels-clause-all_read g c = none_made c.from_residual-in_err-write_levels.result _ _ c.from_residual-in_err-write_levels.ensures.1
+
+pub returns-in_err-write_strip-clause-refusals : goal.returns-in_err-write_strip-clause-refusals
+returns-in_err-write_strip-clause-refusals g c = by_call c.from_residual-in_err-write_strip.result _ c.from_residual-in_err-write_strip.ensures.1 c.in_err-write_strip.ensures.refusals
+
+pub returns-in_err-write_levels-clause-refusals : goal.returns-in_err-write_levels-clause-refusals
+returns-in_err-write_levels-clause-refusals g c = by_outside c.from_residual-in_err-write_levels.result _ c.from_residual-in_err-write_levels.ensures.1

@@ -1,6 +1,8 @@
-use Rattle.std.proofs.Common.{inr}
+use Rattle.std.proofs.Common.{inl, inr, refl}
 use Rattle.vt_outside.proofs.Untold.{OnErr-all}
 use Rattle.vt_store.proofs.WideStores.{told_tiles}
+use Rattle.vt_store.proofs.Refusing.{none_made, by_file, by_outside, no_fewer}
+use Rattle.vt_store.proofs.LevelChain.{refused_by}
 use Rattle.vt_store.proofs.widen.widen_piece.Goals as goal
 
 pub returns-in_err-append-clause-part : goal.returns-in_err-append-clause-part
@@ -23,3 +25,100 @@ returns-clause-gained g c = record {
       c.read_tiles.new.buf c.widen_tiles.new.wide c.read_tiles.ensures.bytes c.read_tiles.ensures.shape c.geometry.ensures.shape
       c.read_tiles.ensures.depth c.requires.depth c.geometry.ensures.store c.in_ok-read_tiles.ensures.tiles c.widen_tiles.ensures;
 }
+
+pub returns-in_err-read_tiles-clause-gained : goal.returns-in_err-read_tiles-clause-gained
+returns-in_err-read_tiles-clause-gained g c = none_made c.from_residual.result _ _ c.from_residual.ensures.1
+
+pub returns-in_err-read_tiles-clause-read : goal.returns-in_err-read_tiles-clause-read
+returns-in_err-read_tiles-clause-read g c = none_made c.from_residual.result _ _ c.from_residual.ensures.1
+
+pub returns-in_err-read_tiles-clause-part : goal.returns-in_err-read_tiles-clause-part
+returns-in_err-read_tiles-clause-part g c = OnErr-all _ _ (inl refl)
+
+pub returns-in_err-read_tiles-clause-refusals : goal.returns-in_err-read_tiles-clause-refusals
+returns-in_err-read_tiles-clause-refusals g c = by_file c.from_residual.result c.from_residual.ensures.1
+
+pub returns-in_err-read_tiles-clause-asked : goal.returns-in_err-read_tiles-clause-asked
+returns-in_err-read_tiles-clause-asked g c = refl
+
+pub returns-in_err-read_tiles-clause-faults : goal.returns-in_err-read_tiles-clause-faults
+returns-in_err-read_tiles-clause-faults g c = no_fewer _ _ refl
+
+pub returns-in_err-append-clause-gained : goal.returns-in_err-append-clause-gained
+returns-in_err-append-clause-gained g c = none_made c.from_residual-in_err-append.result _ _ c.from_residual-in_err-append.ensures.1
+
+pub returns-in_err-append-clause-read : goal.returns-in_err-append-clause-read
+returns-in_err-append-clause-read g c = none_made c.from_residual-in_err-append.result _ _ c.from_residual-in_err-append.ensures.1
+
+pub returns-in_err-append-clause-refusals : goal.returns-in_err-append-clause-refusals
+returns-in_err-append-clause-refusals g c = by_outside c.from_residual-in_err-append.result _ c.from_residual-in_err-append.ensures.1
+
+pub returns-in_err-append-clause-failed : goal.returns-in_err-append-clause-failed
+returns-in_err-append-clause-failed g c = λ failed there. inl (c.append.ensures.failed (refused_by c.append.result c.from_residual-in_err-append.result _ c.in_err-append.was
+    c.from_residual-in_err-append.ensures.1 failed) there)
+
+pub returns-in_err-append-clause-asked : goal.returns-in_err-append-clause-asked
+returns-in_err-append-clause-asked g c = c.append.ensures.asked
+
+pub returns-in_err-append-clause-faults : goal.returns-in_err-append-clause-faults
+returns-in_err-append-clause-faults g c = c.append.ensures.faults
+
+pub returns-clause-asked : goal.returns-clause-asked
+returns-clause-asked g c = c.append.ensures.asked
+
+pub returns-clause-faults : goal.returns-clause-faults
+returns-clause-faults g c = c.append.ensures.faults
+
+pub returns-in_err-read_tiles-clause-spare : goal.returns-in_err-read_tiles-clause-spare
+returns-in_err-read_tiles-clause-spare g c = c.read_tiles.ensures.spare
+
+pub returns-in_err-read_tiles-clause-bytes : goal.returns-in_err-read_tiles-clause-bytes
+returns-in_err-read_tiles-clause-bytes g c = c.read_tiles.ensures.bytes
+
+pub returns-in_err-read_tiles-clause-name : goal.returns-in_err-read_tiles-clause-name
+returns-in_err-read_tiles-clause-name g c = c.read_tiles.ensures.name
+
+pub returns-in_err-read_tiles-clause-shape : goal.returns-in_err-read_tiles-clause-shape
+returns-in_err-read_tiles-clause-shape g c = c.read_tiles.ensures.shape
+
+pub returns-in_err-read_tiles-clause-depth : goal.returns-in_err-read_tiles-clause-depth
+returns-in_err-read_tiles-clause-depth g c = c.read_tiles.ensures.depth
+
+pub returns-in_err-read_tiles-clause-file_faults : goal.returns-in_err-read_tiles-clause-file_faults
+returns-in_err-read_tiles-clause-file_faults g c = c.read_tiles.ensures.faults
+
+pub returns-in_err-append-clause-spare : goal.returns-in_err-append-clause-spare
+returns-in_err-append-clause-spare g c = c.read_tiles.ensures.spare
+
+pub returns-in_err-append-clause-bytes : goal.returns-in_err-append-clause-bytes
+returns-in_err-append-clause-bytes g c = c.read_tiles.ensures.bytes
+
+pub returns-in_err-append-clause-name : goal.returns-in_err-append-clause-name
+returns-in_err-append-clause-name g c = c.read_tiles.ensures.name
+
+pub returns-in_err-append-clause-shape : goal.returns-in_err-append-clause-shape
+returns-in_err-append-clause-shape g c = c.read_tiles.ensures.shape
+
+pub returns-in_err-append-clause-depth : goal.returns-in_err-append-clause-depth
+returns-in_err-append-clause-depth g c = c.read_tiles.ensures.depth
+
+pub returns-in_err-append-clause-file_faults : goal.returns-in_err-append-clause-file_faults
+returns-in_err-append-clause-file_faults g c = c.read_tiles.ensures.faults
+
+pub returns-clause-spare : goal.returns-clause-spare
+returns-clause-spare g c = c.read_tiles.ensures.spare
+
+pub returns-clause-bytes : goal.returns-clause-bytes
+returns-clause-bytes g c = c.read_tiles.ensures.bytes
+
+pub returns-clause-name : goal.returns-clause-name
+returns-clause-name g c = c.read_tiles.ensures.name
+
+pub returns-clause-shape : goal.returns-clause-shape
+returns-clause-shape g c = c.read_tiles.ensures.shape
+
+pub returns-clause-depth : goal.returns-clause-depth
+returns-clause-depth g c = c.read_tiles.ensures.depth
+
+pub returns-clause-file_faults : goal.returns-clause-file_faults
+returns-clause-file_faults g c = c.read_tiles.ensures.faults
