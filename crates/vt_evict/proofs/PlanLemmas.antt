@@ -1,19 +1,21 @@
 -- The parts of a plan.
-use Rattle.std.proofs.Common.{◌≡◌, ℕ, zero, suc, ◌+◌, ◌-◌, ◌<◌, ◌≤◌, Bool, true, false, not, cond, nat_lt, min, None, Some, List, [], ◌∷◌, ◌++◌, map, length, length-append, drop, drop-cons, length-drop, slice_index, slice_get, get_or, reverse, refl, sym, ap, ◌∙◌, append-nil, append_assoc, add-one, arith}
+use Rattle.std.proofs.Common.{◌≡◌, ℕ, zero, suc, ◌+◌, ◌-◌, ◌<◌, ◌≤◌, Bool, true, false, not, cond, nat_lt, min, None, Some, inl, inr, List, [], ◌∷◌, ◌++◌, map, length, length-append, drop, drop-cons, length-drop, slice_index, slice_get, get_or, reverse, refl, sym, ap, ◌∙◌, append-nil, append_assoc, add-one, arith}
 use Rattle.std.specs.List.{filter, range_with_len}
 use Rattle.std.proofs.Math.Seq.{drop-append_seam}
+use Rattle.std.proofs.lemmas.Bool.{cases_lt}
 use Rattle.std.proofs.lemmas.Bool.Decides.{nat_tests}
 use Rattle.std.proofs.lemmas.List.{map-append, get_or-drop, reverse-append, get_or_append_left, get_or-append-add, get_or-map}
 use Rattle.std.proofs.lemmas.Option.{slice_get-get_or}
 use Rattle.std.proofs.lemmas.List.Elements.{filter-append}
 use Rattle.std.proofs.lemmas.List.FromFn.{map-range_with_len_more}
 use Rattle.vt_pages.specs.Shape.{Shape}
+use Rattle.vt_feedback.specs.declared.Wanted.{Wanted}
 use Rattle.vt_evict.specs.declared.batches.Planned.{Planned}
 use Rattle.vt_pages.specs.Lookups.{step_of}
 use Rattle.vt_evict.specs.Orders.{is_in, each_once}
-use Rattle.vt_evict.specs.Views.{is_mapped, frame_of}
-use Rattle.vt_evict.specs.Plans.{missing_from, planned_at, planned_count}
-use Rattle.vt_evict.specs.Kept.{with_page, freed_at, taken_at, taken_with}
+use Rattle.vt_evict.specs.Views.{RecencyView, is_mapped, frame_of}
+use Rattle.vt_evict.specs.Plans.{missing_from, candidates, planned_at, planned_count}
+use Rattle.vt_evict.specs.Kept.{with_page, freed_at, taken_at, taken_with, HasTaken}
 use Rattle.vt_evict.proofs.ListLemmas.{each_once-append, is_in-each_once}
 
 pub missing-none : (s : Shape) (entries : List ℕ) → missing_from s entries [] ≡ []
@@ -188,3 +190,23 @@ module _ (entries missing free victims : List ℕ) where
       (map_range_same _ _ (min (most - length free) (length victims)) (λ j below. at_victim j (omega arith)))
       ∙ sym (map_range_two (planned_at entries missing free victims) (length free) (min (most - length free) (length victims)))
       ∙ ap (λ (n : ℕ). map (planned_at entries missing free victims) (range_with_len 0 n)) n
+
+  pub any_taken : (q most : ℕ) (front batch : List Planned) → most ≡ min (length missing) q
+      → front ≡ map (freed_at missing free) (range_with_len 0 (min most (length free)))
+      → length front ≡ min most (length free)
+      → batch ≡ front ++ map (taken_at entries missing victims (length front)) (range_with_len 0 (min (most - length front) (length victims)))
+      → batch ≡ map (planned_at entries missing free victims) (range_with_len 0 (planned_count q missing free victims))
+  any_taken q most front batch is put count more = elim (cases_lt (min most (length free)) most) [
+    | inl few ↦ some_taken q most front batch is put count few more
+    | inr full ↦
+        let none : min (most - length front) (length victims) ≡ 0 = omega arith in
+        all_free q most batch is
+        (more ∙ ap (λ (n : ℕ). front ++ map (taken_at entries missing victims (length front)) (range_with_len 0 n)) none ∙ append-nil front ∙ put) full
+  ]
+
+-- a batch that has so many entries takes no more
+pub none_taken : (v : RecencyView) (wants : List Wanted) (missing : List ℕ) (most : ℕ) (batch : List Planned) → most ≤ length batch
+    → HasTaken v wants missing most batch batch
+none_taken v wants missing most batch full =
+    let none : min (most - length batch) (length (candidates v wants)) ≡ 0 = omega arith in
+    sym (ap (λ (n : ℕ). batch ++ map (taken_at v.entries missing (candidates v wants) (length batch)) (range_with_len 0 n)) none ∙ append-nil batch)

@@ -1,12 +1,14 @@
 -- What is kept beside the table: the marks of a walk over lines.
-use Rattle.std.specs.Prelude.{◌≡◌, ℕ, ◌+◌, ◌-◌, ◌^◌, ◌≤◌, ◌&&◌, not, nat_lt, [], Bool, true, false, nat_eq, slice_set, Option, None, Some, ◌∷◌, ◌++◌, if◌then◌else◌, slice_index, List, length, slice_index_or}
-use Rattle.std.specs.List.{IsDistinct, filter}
+use Rattle.std.specs.Prelude.{◌≡◌, ℕ, ◌+◌, ◌-◌, ◌^◌, ◌≤◌, min, map, ◌&&◌, not, nat_lt, [], Bool, true, false, nat_eq, slice_set, Option, None, Some, ◌∷◌, ◌++◌, if◌then◌else◌, slice_index, List, length, slice_index_or}
+use Rattle.std.specs.List.{IsDistinct, filter, range_with_len}
 use Rattle.vt_outside.specs.Lists.{ListView}
 use Rattle.vt_pages.specs.Shape.{Shape}
 use Rattle.vt_pages.specs.Pages.{pages_of, parent_of}
+use Rattle.vt_feedback.specs.declared.Wanted.{Wanted}
 use Rattle.vt_evict.specs.declared.batches.Planned.{Planned}
 use Rattle.vt_evict.specs.Orders.{is_in}
 use Rattle.vt_evict.specs.Views.{RecencyView, IsTable, is_held}
+use Rattle.vt_evict.specs.Plans.{candidates}
 
 -- of so many pages those that were walked over are marked, and there is room for the others
 pub record IsWalk (pages : ℕ) (marks : List Bool) (walked : ListView ℕ) : Type 0 where
@@ -59,3 +61,8 @@ taken_with entries missing place victim = record { page = slice_index missing pl
 -- an entry of a plan that has a victim, after so many that have none
 abbrev pub taken_at : List ℕ → List ℕ → List ℕ → ℕ → ℕ → Planned
 taken_at entries missing victims before j = taken_with entries missing (before + j) (slice_index victims j)
+
+-- behind the entries before, missing pages have the frames of the pages that may be given up, up to so many entries in all
+abbrev pub HasTaken : RecencyView → List Wanted → List ℕ → ℕ → List Planned → List Planned → Type 0
+HasTaken v wants missing most before after = after ≡ before ++ map (taken_at v.entries missing (candidates v wants) (length before))
+    (range_with_len 0 (min (most - length before) (length (candidates v wants))))

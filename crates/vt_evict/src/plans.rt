@@ -81,8 +81,8 @@ pub fn missing_of(
     Ok(missing)
 }
 
-/// Gives missing pages free frames, up to `most` entries.
-pub fn put_free(batch: &mut Batch, missing: &[u32], most: usize, free: &BTreeSet<u32>)
+// Gives missing pages free frames, up to `most` entries.
+fn put_free(batch: &mut Batch, missing: &[u32], most: usize, free: &BTreeSet<u32>)
     requires none { batch.old.elements ≡ [] }
     requires enough { most ≤ length missing.now }
     requires room { most ≤ batch.old.spare }
@@ -102,6 +102,25 @@ pub fn put_free(batch: &mut Batch, missing: &[u32], most: usize, free: &BTreeSet
             victim: None,
         });
     }
+}
+
+/// A batch with room for `most` entries, in which missing pages have the free frames.
+pub fn with_free(
+    alloc: Global,
+    missing: &[u32],
+    most: usize,
+    free: &BTreeSet<u32>,
+) -> Result<Batch, NoMemory>
+    requires { most ≤ length missing.now }
+    ensures put { IfOk result (λ b. b.elements
+        ≡ map (freed_at missing.now free.now.keys) (range_with_len 0 (min most (length free.now.keys)))) }
+    ensures count { IfOk result (λ b. length b.elements ≡ min most (length free.now.keys)) }
+    ensures room { IfOk result (λ b. most ≤ b.spare + length b.elements) }
+{
+    let mut batch = Batch::new(alloc);
+    batch.reserve(most as u64)?;
+    put_free(&mut batch, missing, most, free);
+    Ok(batch)
 }
 
 // Gives a missing page the frame of a page, unless that is one of the kept ones.

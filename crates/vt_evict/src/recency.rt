@@ -1,19 +1,19 @@
 //! The recency of mapped pages.
 
-ghost use Rattle.std.specs.Prelude.{◌≡◌, ℕ, ◌<◌, ◌≤◌, ◌&&◌, ◌||◌, if◌then◌else◌, not, nat_eq, nat_lt, count_by, length, IfOk, OnOk};
-ghost use Rattle.std.specs.List.{All};
+ghost use Rattle.std.specs.Prelude.{◌≡◌, ℕ, ◌+◌, ◌-◌, ◌<◌, ◌≤◌, ◌&&◌, ◌||◌, if◌then◌else◌, not, nat_eq, nat_le, nat_lt, count_by, replicate, ◌++◌, length, IfOk, OnOk};
+ghost use Rattle.std.specs.List.{All, range_with_len};
 ghost use Rattle.vt_definitions.specs.Limits.{most_frames};
 ghost use Rattle.vt_pages.specs.Pages.{pages_of};
 ghost use Rattle.vt_evict.specs.Orders.{is_in};
 ghost use Rattle.vt_evict.specs.Views.{IsTable, first_view, touched, pages_needed};
 ghost use Rattle.vt_evict.specs.Batches.{IsLawful, IsLawfulEntry, IsSettled, read_entries};
-ghost use Rattle.vt_evict.specs.Kept.{applied};
+ghost use Rattle.vt_evict.specs.Kept.{applied, HasTaken};
 ghost use Rattle.vt_evict.specs.Plans.{plan_of};
 
 use crate::batches::{Batch, Losses, Planned};
 use crate::lines::{Walk, lines_of, walk_lines};
 use crate::orders::{insert, put_first, remove};
-use crate::plans::{missing_of, put_free, put_victims};
+use crate::plans::{missing_of, put_victims, with_free};
 use lru::LruCache;
 use std::alloc::Global;
 use std::collections::BTreeSet;
@@ -72,15 +72,8 @@ impl Recency {
         ensures shape { IfOk result (λ r. r.shape ≡ geometry.now) }
         ensures table { IfOk result IsTable }
     {
-        let unpinned = geometry.page_count() - pinned;
-        let mut entries = Vec::from_elem(alloc, 0, unpinned as usize)?;
-        for i in 0..pinned {
-            entries.push(i + 1)?;
-        }
-        let mut free = BTreeSet::new(alloc);
-        for frame in pinned..frames {
-            put_frame(&mut free, frame)?;
-        }
+        let entries = first_entries(alloc, geometry.page_count(), pinned)?;
+        let free = frames_from(alloc, pinned, frames)?;
         let order = LruCache::unbounded(alloc)?;
         let walk = Walk::new(alloc, geometry)?;
         Ok(Recency {
@@ -187,22 +180,33 @@ impl Recency {
         let asked = missing_of(alloc, &self.geometry, self.entries.as_slice(), wants)?;
         let missing = asked.as_slice();
         let most = missing.len().min(q as usize);
-        let mut batch = Batch::new(alloc);
-        batch.reserve(most as u64)?;
         let _ordered = self.free.len();
-        put_free(&mut batch, missing, most, &self.free);
-        if batch.len() < most {
-            let kept = lines_of(alloc, &self.geometry, wants)?;
-            put_victims(
-                &mut batch,
-                missing,
-                most,
-                &kept,
-                self.entries.as_slice(),
-                &self.order,
-            );
-        }
+        let mut batch = with_free(alloc, missing, most, &self.free)?;
+        self.put_taken(alloc, wants, missing, most, &mut batch)?;
         Ok(batch)
+    }
+
+    // Gives missing pages the frames of the least recent pages that stand in no line of a wanted page, up to `most` entries.
+    fn put_taken(
+        &self,
+        alloc: Global,
+        wants: &Wants,
+        missing: &[u32],
+        most: usize,
+        batch: &mut Batch,
+    ) -> Result<(), NoMemory>
+        requires inside { All (λ w. w.page < pages_of self.now.shape) wants.now.elements }
+        requires enough { most ≤ length missing.now }
+        requires room { most ≤ batch.old.spare + length batch.old.elements }
+        ensures { OnOk result (HasTaken self.now wants.now.elements missing.now most batch.old.elements batch.new.elements) }
+    {
+        if batch.len() >= most {
+            return Ok(());
+        }
+        let kept = lines_of(alloc, &self.geometry, wants)?;
+        let entries = self.entries.as_slice();
+        put_victims(batch, missing, most, &kept, entries, &self.order);
+        Ok(())
     }
 
     /// How many unpinned pages stand in the lines of a wanted list.
@@ -215,6 +219,31 @@ impl Recency {
         let needed = count_below(pages.as_slice(), unpinned);
         Ok(needed as u32)
     }
+}
+
+// The entries of a table in which only the last so many pages are mapped, to the first frames.
+fn first_entries(alloc: Global, pages: u32, pinned: u32) -> Result<Vec<u32>, NoMemory>
+    requires { pinned ≤ pages }
+    ensures { IfOk result (λ v. v.items ≡ replicate (pages - pinned) 0 ++ range_with_len 1 pinned) }
+{
+    let unpinned = pages - pinned;
+    let mut entries = Vec::from_elem(alloc, 0, unpinned as usize)?;
+    for i in 0..pinned {
+        entries.push(i + 1)?;
+    }
+    Ok(entries)
+}
+
+// The frames from one on.
+fn frames_from(alloc: Global, first: u32, frames: u32) -> Result<BTreeSet<u32>, NoMemory>
+    requires { first ≤ frames }
+    ensures { IfOk result (λ s. (f : ℕ) → is_in s.keys f ≡ (nat_le first f && nat_lt f frames)) }
+{
+    let mut free = BTreeSet::new(alloc);
+    for frame in first..frames {
+        put_frame(&mut free, frame)?;
+    }
+    Ok(free)
 }
 
 // How many of some pages are below a bound.

@@ -1,14 +1,15 @@
 -- The lines of events, one event more.
-use Rattle.std.proofs.Common.{◌≡◌, ℕ, suc, ◌+◌, ◌≤◌, List, [], ◌∷◌, ◌++◌, length, map, refl, sym, ap, ◌∙◌, arith, append_assoc, length-append}
+use Rattle.std.proofs.Common.{◌≡◌, ℕ, suc, ◌+◌, ◌<◌, ◌≤◌, List, [], ◌∷◌, ◌++◌, length, map, take, get_or, refl, sym, ap, ◌∙◌, arith, append_assoc, length-append}
 use Rattle.std.specs.List.{range_with_len}
-use Rattle.std.proofs.lemmas.List.{append-nil}
+use Rattle.std.proofs.lemmas.List.{append-nil, flat_map_more, map_more}
 use Rattle.std.proofs.lemmas.List.Concat.{flat_map-append}
 use Rattle.std.proofs.lemmas.List.FromFn.{map-range_with_len_more}
 use Rattle.vt_pages.specs.Shape.{Shape}
 use Rattle.vt_journal.specs.declared.changes.Event.{Event}
 use Rattle.vt_journal.specs.declared.changes.Event.TheVariants.{Changed, Lost}
+use Rattle.vt_journal.specs.declared.changes.RowLine.{RowLine}
 use Rattle.vt_journal.specs.declared.lines.Line.{Line}
-use Rattle.vt_journal.specs.declared.lines.Line.TheVariants.{Makes, Loses}
+use Rattle.vt_journal.specs.declared.lines.Line.TheVariants.{Makes, Loses, Draws}
 use Rattle.vt_journal.specs.JournalText.{changes_of, event_lines, line_text, lines_text, pinned_change}
 
 pub changes_of-append : (es fs : List Event) → changes_of (es ++ fs) ≡ changes_of es ++ changes_of fs
@@ -57,3 +58,12 @@ head_more s pinned place =
     ap (λ t. lines_text s (map f (range_with_len 0 place)) ++ t) (sym (append-nil (line_text s (f place))))
     ∙ sym (lines_text-append s (map f (range_with_len 0 place)) (f place ∷ []))
     ∙ ap (lines_text s) (sym (map-range_with_len_more f 0 place place (omega arith)))
+
+-- one row more
+pub rows_more : (s : Shape) (old before after : List ℕ) (rows : List RowLine) (i : ℕ) (d : RowLine) → i < length rows
+    → before ≡ old ++ lines_text s (map Draws (take i rows)) → after ≡ before ++ line_text s (Draws (get_or rows i d))
+    → after ≡ old ++ lines_text s (map Draws (take (i + 1) rows))
+rows_more s old before after rows i d within was next =
+    next ∙ ap (λ t. t ++ line_text s (Draws (get_or rows i d))) was
+    ∙ flat_map_more (line_text s) old (map Draws (take i rows)) (Draws (get_or rows i d))
+    ∙ ap (λ (ls : List Line). old ++ lines_text s ls) (sym (map_more Draws rows i d within))

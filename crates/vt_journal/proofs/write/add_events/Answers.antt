@@ -1,5 +1,5 @@
-use Rattle.std.proofs.Common.{◌≡◌, ◌+◌, ◌<◌, ◌++◌, ◌∷◌, [], ℕ, List, arith, length, take, get_or, sym, ap, ◌∙◌, length-take}
-use Rattle.std.proofs.lemmas.List.{take_more}
+use Rattle.std.proofs.Common.{rules, ◌≡◌, ◌+◌, ◌<◌, ◌++◌, ◌∷◌, [], ℕ, List, arith, length, take, get_or, sym, ap, ◌∙◌, length-take}
+use Rattle.std.proofs.lemmas.List.{take_more, take_all}
 use Rattle.vt_pages.specs.Shape.{Shape}
 use Rattle.vt_journal.specs.declared.changes.Event.{Event}
 use Rattle.vt_journal.specs.JournalText.{changes_of, event_lines, lines_text}
@@ -37,4 +37,18 @@ loop-event-preserved c = record {
       c.loop-event.event-index c.args.start c.loop-event.version _
       c.loop-event-test.true c.loop-event.invariant.version c.loop-event.invariant.text c.in_ok-version.ensures.whole.1;
   front = front_of_front c.args.text.now.items c.loop-event.text.items c.add_event.new.text.items c.loop-event.invariant.front c.in_ok-version.ensures.front;
+}
+
+pub returns : goal.returns
+returns c = record {
+  whole = c.loop-event.invariant.text
+      ∙ ap (λ es. c.args.text.now.items ++ lines_text c.args.geometry.now (event_lines c.args.start es))
+      (take_all c.loop-event.event-index c.args.events.now c.loop-event-test.false);
+  front = c.loop-event.invariant.front;
+}
+
+pub returns-in_err-version : goal.returns-in_err-version
+returns-in_err-version c = record {
+  whole = search rules;
+  front = front_of_front c.args.text.now.items c.loop-event.text.items c.add_event.new.text.items c.loop-event.invariant.front c.in_err-version.ensures.front;
 }

@@ -1,9 +1,9 @@
-use Rattle.std.proofs.Common.{◌≡◌, ℕ, ◌+◌, ◌*◌, ◌≤◌, inl, inr, List, ◌∙◌, ap, sym, length, arith}
+use Rattle.std.proofs.Common.{◌≡◌, ℕ, ◌+◌, ◌*◌, ◌≤◌, inl, inr, List, ◌∙◌, ap, sym, subst, length, arith}
 use Rattle.std.proofs.lemmas.Nat.{mul-le}
 use Rattle.std.proofs.lemmas.Bool.{cases_lt}
 use Rattle.vt_draw.specs.Shots.{shot_row, AreDrawn, pixels_wanting}
 use Rattle.vt_sampler.specs.Notes.{IsTrueOf}
-use Rattle.vt_sampler.specs.Samplers.{own_rows, own_count, pixels_in_rows}
+use Rattle.vt_sampler.specs.Samplers.{own_rows, own_count, pixels_in_rows, row_in, row_length}
 use Rattle.vt_sampler.proofs.Quotients.{apart, quotient_after, rest_after, rest_small, quotient_small}
 use Rattle.vt_sampler.proofs.Sharing.{own_room, own_rows-first, own_rows-next, own_rows-same, own_pixels_most, pixels_in_rows-none, pixels_in_rows-push}
 use Rattle.vt_sampler.proofs.Drawing.{rows_after}
@@ -83,3 +83,12 @@ returns-clause-counted c p inside =
     ∙ ap (λ (rows : List ℕ). pixels_in_rows c.args.shot.now.geometry.now c.args.shot.now.path.now c.args.shot.now.picture rows p)
     (own_rows-same c.args.sampler c.args.samplers c.args.shot.now.path.now.height c.loop-y.y (omega (arith, c.height-height.ensures.value))
     (λ z below own. omega (arith, c.loop-y.invariant.last z below own, c.height-height.ensures.value)))
+
+pub returns-clause-drawn : goal.returns-clause-drawn
+returns-clause-drawn c y below own =
+    let line : c.texel_length.result * c.width.result ≡ row_length c.args.shot.now.depth c.args.shot.now.path.now.width =
+    λ i. c.texel_length.ensures.value i * c.width.ensures.value i in
+    subst (λ (n : ℕ). AreDrawn c.args.shot.now.geometry.now c.args.shot.now.depth (length c.args.table.now.changes) (IsTrueOf c.args.table.now)
+    (shot_row c.args.shot.now.geometry.now c.args.shot.now.path.now c.args.shot.now.picture y) c.args.shot.now.path.now.width
+    (row_in c.args.samplers n c.loop-y.bytes y)) line
+    (c.loop-y.invariant.drawn y (omega (arith, c.loop-y-test.false, c.height-height.ensures.value)) own)
