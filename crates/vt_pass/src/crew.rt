@@ -4,7 +4,7 @@ use vt_evict::Losses;
 use vt_journal::{Events, RowLines};
 
 /// How many workers draw and load, and how many pages a pass loads at most.
-#[derive(Clone, Copy, Debug, PartialEq, Eq)]
+#[derive(Clone, Copy)]
 pub struct Crew {
     /// The number of samplers, from 1 to 64.
     pub samplers: u32,

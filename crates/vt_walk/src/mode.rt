@@ -1,7 +1,7 @@
 //! The two ways to walk.
 
 /// How many passes a walk gives a picture.
-#[derive(Clone, Copy, Debug, PartialEq, Eq)]
+#[derive(Clone, Copy, PartialEq, Eq)]
 pub enum Mode {
     /// One pass, with what is loaded by then; a lost tile is left out.
     Live,

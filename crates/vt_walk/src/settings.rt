@@ -3,7 +3,7 @@
 use vt_pass::Crew;
 
 /// How many frames a walk has, how many levels are pinned, and its crew.
-#[derive(Clone, Copy, Debug, PartialEq, Eq)]
+#[derive(Clone, Copy)]
 pub struct Settings {
     /// The number of frames, from 1 to 65,535, with at most 8,388,608 texels together.
     pub frames: u32,
@@ -14,7 +14,7 @@ pub struct Settings {
 }
 
 /// The names of a walk's files.
-#[derive(Clone, Copy, Debug)]
+#[derive(Clone, Copy)]
 pub struct Names<'a> {
     /// The store.
     pub store: &'a str,

@@ -68,7 +68,7 @@ pub struct Drawn {
 }
 
 /// How much a walk took.
-#[derive(Clone, Copy, Debug, PartialEq, Eq)]
+#[derive(Clone, Copy)]
 pub struct Walked {
     /// The number of passes of all pictures.
     pub passes: u32,

@@ -1,4 +1,4 @@
-use Rattle.vt_still.proofs.Entries.{unmap_within, unmap_legal, holds_unmapped}
+use Rattle.vt_still.proofs.Entries.{unmap_within, unmap_legal, holds_unmapped, published_unmap}
 use Rattle.vt_still.proofs.stream.unmap_victim.Goals as goal
 
 pub publish-requires-clause-within : goal.publish-requires-clause-within
@@ -12,3 +12,8 @@ pub returns-clause-holds : goal.returns-clause-holds
 returns-clause-holds c =
     holds_unmapped c.args.table.now c.publish.new.self c.in-Some.victim c.args.planned.now.frame c.publish.ensures.changes c.publish.ensures.tiles
     c.publish.ensures.shape
+
+pub returns-clause-publishes : goal.returns-clause-publishes
+returns-clause-publishes c =
+    published_unmap c.args.table.now c.publish.new.self c.args.planned.now.victim c.in-Some.victim c.args.planned.now.frame _ _ c.in-Some.is
+    c.publish.ensures.changes c.push.ensures.elements c.publish.ensures.shape c.publish.ensures.frames
