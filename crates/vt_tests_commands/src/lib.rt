@@ -7,4 +7,6 @@ mod generate;
 #[cfg(test)]
 mod plain;
 #[cfg(test)]
+mod rows;
+#[cfg(test)]
 mod stores;

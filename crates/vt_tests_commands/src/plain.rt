@@ -1,294 +1,337 @@
 // Runs of `plain`.
 mod textures;
 
-use std::alloc::Global;
-use std::sync::Wait;
+use super::rows::hold;
 use std::test::*;
-use std::thread::Threads;
 use vt_outside::Fail;
-use vt_tests_runs::{FAULT, G4, PATH, PICTURE, USAGE, play};
-
-const WORDS: [&str; 6] = ["plain", "g4.ppm", "a.path", "f", "--tile", "2"];
+use vt_tests_runs::Held::All;
+use vt_tests_runs::{FAULT, G4, PATH, PICTURE, Row, USAGE};
 
 const END: &[u8] = b"end pictures 1\n";
 
-// A run that ends well, and its one picture.
-fn draws(rt: &(impl Threads + Wait + Sync), alloc: Global, path: &[u8], picture: &[u8]) -> bool {
-    match play(rt, alloc, &WORDS, G4, path, None, None) {
-        Ok(left) => {
-            left.status == 0
-                && left.holds("f0000.ppm", picture)
-                && left.holds("g4.ppm", G4)
-                && left.holds("a.path", path)
-                && left.printed(END, b"")
-        }
-        Err(_) => false,
-    }
-}
+// The run that draws the first picture.
+const DRAWS: Row<'static> = Row {
+    words: "plain g4.ppm a.path f --tile 2",
+    files: &[("g4.ppm", All(G4)), ("a.path", All(PATH))],
+    fail: None,
+    err_fail: None,
+    status: 0,
+    left: &[],
+    missing: &[],
+    pictures: &[PICTURE],
+    out: END,
+    err: b"",
+};
 
 // A run over bad input, which leaves all as it was.
-fn refuses(
-    rt: &(impl Threads + Wait + Sync),
-    alloc: Global,
-    texture: &[u8],
-    path: &[u8],
-    line: &[u8],
-) -> bool {
-    match play(rt, alloc, &WORDS, texture, path, None, None) {
-        Ok(left) => {
-            left.status == 4
-                && !left.has("f0000.ppm")
-                && left.holds("g4.ppm", texture)
-                && left.holds("a.path", path)
-                && left.printed(b"", line)
-        }
-        Err(_) => false,
-    }
-}
+const REFUSES: Row<'static> = Row {
+    status: 4,
+    pictures: &[],
+    out: b"",
+    ..DRAWS
+};
 
-// Words that are those of no command.
-fn misuses(rt: &(impl Threads + Wait + Sync), alloc: Global, words: &[&str]) -> bool {
-    match play(rt, alloc, words, G4, PATH, None, None) {
-        Ok(left) => left.status == 2 && !left.has("f0000.ppm") && left.printed(b"", USAGE),
-        Err(_) => false,
-    }
-}
+// A run over words that are those of no command.
+const MISUSES: Row<'static> = Row {
+    status: 2,
+    err: USAGE,
+    ..REFUSES
+};
 
-// A run with one call that fails, what the picture's name holds after it, and what was put out.
-fn stops(
-    rt: &(impl Threads + Wait + Sync),
-    alloc: Global,
-    fail: Fail,
-    picture: Option<&[u8]>,
-    out: &[u8],
-) -> bool {
-    match play(rt, alloc, &WORDS, G4, PATH, Some(fail), None) {
-        Ok(left) => {
-            let held = match picture {
-                Some(bytes) => left.holds("f0000.ppm", bytes),
-                None => !left.has("f0000.ppm"),
-            };
-            left.status == 3 && held && left.printed(out, FAULT)
-        }
-        Err(_) => false,
-    }
-}
+// A run that a call or a missing name stops before the picture.
+const STOPS: Row<'static> = Row {
+    status: 3,
+    err: FAULT,
+    ..REFUSES
+};
+
+static FIRST: [Row<'static>; 1] = [DRAWS];
 
 #[test]
 fn the_first_picture_is_drawn(rt: HostRuntime) {
-    assert!(rt; draws(&rt, rt.alloc(), PATH, PICTURE));
+    hold(&rt, rt.alloc(), &FIRST);
 }
+
+static HEIGHTS: [Row<'static>; 2] = [
+    // Higher.
+    Row {
+        files: &[
+            ("g4.ppm", All(G4)),
+            ("a.path", All(b"size 2 1\nfocal 1\nat 0 0 512 16384 0\n")),
+        ],
+        pictures: &[b"P6\n2 1\n255\n\x0d\x0d\x0d\x05\x05\x05"],
+        ..DRAWS
+    },
+    // Just lower.
+    Row {
+        files: &[
+            ("g4.ppm", All(G4)),
+            ("a.path", All(b"size 2 1\nfocal 1\nat 0 0 511 16384 0\n")),
+        ],
+        ..DRAWS
+    },
+];
 
 #[test]
 fn a_row_is_drawn_at_its_own_level(rt: HostRuntime) {
-    let higher = b"size 2 1\nfocal 1\nat 0 0 512 16384 0\n";
-    assert!(rt;
-        draws(
-            &rt,
-            rt.alloc(),
-            higher,
-            b"P6\n2 1\n255\n\x0d\x0d\x0d\x05\x05\x05"
-        )
-    );
-    let just_lower = b"size 2 1\nfocal 1\nat 0 0 511 16384 0\n";
-    assert!(rt; draws(&rt, rt.alloc(), just_lower, PICTURE));
+    hold(&rt, rt.alloc(), &HEIGHTS);
 }
+
+const BAD_LINE: &[u8] = b"vtex: bad input: a.path: bad line 2\n";
+
+static FLAWED_PATHS: [Row<'static>; 4] = [
+    Row {
+        files: &[
+            ("g4.ppm", All(G4)),
+            ("a.path", All(b"size 2 1\nsize 2 1\n")),
+        ],
+        err: BAD_LINE,
+        ..REFUSES
+    },
+    Row {
+        files: &[("g4.ppm", All(G4)), ("a.path", All(b"size 2 1\nfocal 1"))],
+        err: BAD_LINE,
+        ..REFUSES
+    },
+    Row {
+        files: &[
+            ("g4.ppm", All(G4)),
+            ("a.path", All(b"size 2 1\nfocal 1\nto 1 0 0 1 0 0\n")),
+        ],
+        err: b"vtex: bad input: a.path: no key at line 3\n",
+        ..REFUSES
+    },
+    Row {
+        files: &[
+            ("g4.ppm", All(G4)),
+            (
+                "a.path",
+                All(b"size 2 1\nfocal 1\nat 0 0 1 0 0\nto 9999 0 0 1 0 0\n"),
+            ),
+        ],
+        err: b"vtex: bad input: a.path: too many pictures\n",
+        ..REFUSES
+    },
+];
 
 #[test]
 fn a_flawed_path_is_told_with_its_line(rt: HostRuntime) {
-    let alloc = rt.alloc();
-    let bad_line: &[u8] = b"vtex: bad input: a.path: bad line 2\n";
-    assert!(rt; refuses(&rt, alloc, G4, b"size 2 1\nsize 2 1\n", bad_line));
-    assert!(rt; refuses(&rt, alloc, G4, b"size 2 1\nfocal 1", bad_line));
-    let no_key: &[u8] = b"vtex: bad input: a.path: no key at line 3\n";
-    assert!(rt;
-        refuses(
-            &rt,
-            alloc,
-            G4,
-            b"size 2 1\nfocal 1\nto 1 0 0 1 0 0\n",
-            no_key
-        )
-    );
-    let many: &[u8] = b"size 2 1\nfocal 1\nat 0 0 1 0 0\nto 9999 0 0 1 0 0\n";
-    assert!(rt;
-        refuses(
-            &rt,
-            alloc,
-            G4,
-            many,
-            b"vtex: bad input: a.path: too many pictures\n"
-        )
-    );
+    hold(&rt, rt.alloc(), &FLAWED_PATHS);
 }
+
+const MOVED: &[u8] = b"P6\n2 1\n255\n\x0c\x0c\x0c\x00\x00\x00";
+
+// The places 0, -4, -7 and -10: from the second on the pixels show the column before.
+static ON_THE_WAY: [Row<'static>; 1] = [Row {
+    files: &[
+        ("g4.ppm", All(G4)),
+        (
+            "a.path",
+            All(b"size 2 1\nfocal 1\nat 0 0 256 16384 0\nto 3 -10 0 256 16384 0\n"),
+        ),
+    ],
+    pictures: &[PICTURE, MOVED, MOVED, MOVED],
+    out: b"end pictures 4\n",
+    ..DRAWS
+}];
 
 #[test]
 fn pictures_on_the_way_are_drawn(rt: HostRuntime) {
-    // The places 0, -4, -7 and -10: from the second on the pixels show the column before.
-    let path = b"size 2 1\nfocal 1\nat 0 0 256 16384 0\nto 3 -10 0 256 16384 0\n";
-    let moved: &[u8] = b"P6\n2 1\n255\n\x0c\x0c\x0c\x00\x00\x00";
-    match play(&rt, rt.alloc(), &WORDS, G4, path, None, None) {
-        Ok(left) => {
-            assert_eq!(rt; left.status, 0);
-            assert!(rt; left.holds("f0000.ppm", PICTURE) && left.holds("f0001.ppm", moved));
-            assert!(rt; left.holds("f0002.ppm", moved) && left.holds("f0003.ppm", moved));
-            assert!(rt; !left.has("f0004.ppm") && left.printed(b"end pictures 4\n", b""));
-        }
-        Err(_) => assert!(rt; false, "there is memory"),
-    }
+    hold(&rt, rt.alloc(), &ON_THE_WAY);
 }
+
+static NO_PICTURES: [Row<'static>; 1] = [Row {
+    files: &[("g4.ppm", All(G4)), ("a.path", All(b"size 2 1\nfocal 1\n"))],
+    pictures: &[],
+    out: b"end pictures 0\n",
+    ..DRAWS
+}];
 
 #[test]
 fn a_path_may_have_no_pictures(rt: HostRuntime) {
-    match play(
-        &rt,
-        rt.alloc(),
-        &WORDS,
-        G4,
-        b"size 2 1\nfocal 1\n",
-        None,
-        None,
-    ) {
-        Ok(left) => {
-            assert_eq!(rt; left.status, 0);
-            assert!(rt; !left.has("f0000.ppm") && left.printed(b"end pictures 0\n", b""));
-        }
-        Err(_) => assert!(rt; false, "there is memory"),
-    }
+    hold(&rt, rt.alloc(), &NO_PICTURES);
 }
+
+static NO_COMMANDS: [Row<'static>; 8] = [
+    Row {
+        words: "",
+        ..MISUSES
+    },
+    Row {
+        words: "Plain g4.ppm a.path f --tile 2",
+        ..MISUSES
+    },
+    Row {
+        words: "plain g4.ppm a.path f --tile",
+        ..MISUSES
+    },
+    Row {
+        words: "plain g4.ppm a.path f --tile 2 2",
+        ..MISUSES
+    },
+    Row {
+        words: "plain g4.ppm a.path f --tile 3",
+        ..MISUSES
+    },
+    Row {
+        words: "plain g4.ppm a.path f --tile 02",
+        ..MISUSES
+    },
+    Row {
+        words: "plain f0000.ppm a.path f --tile 2",
+        ..MISUSES
+    },
+    Row {
+        words: "plain g4.ppm f1234.ppm f --tile 2",
+        ..MISUSES
+    },
+];
 
 #[test]
 fn words_of_no_command_are_refused(rt: HostRuntime) {
-    let words: [&[&str]; 8] = [
-        &[],
-        &["Plain", "g4.ppm", "a.path", "f", "--tile", "2"],
-        &["plain", "g4.ppm", "a.path", "f", "--tile"],
-        &["plain", "g4.ppm", "a.path", "f", "--tile", "2", "2"],
-        &["plain", "g4.ppm", "a.path", "f", "--tile", "3"],
-        &["plain", "g4.ppm", "a.path", "f", "--tile", "02"],
-        &["plain", "f0000.ppm", "a.path", "f", "--tile", "2"],
-        &["plain", "g4.ppm", "f1234.ppm", "f", "--tile", "2"],
-    ];
-    for words in words {
-        assert!(rt; misuses(&rt, rt.alloc(), words));
-    }
+    hold(&rt, rt.alloc(), &NO_COMMANDS);
 }
+
+// Texture and path may have one name, since both are only read; these bytes are no path.
+static ONE_NAME: [Row<'static>; 1] = [Row {
+    words: "plain g4.ppm g4.ppm f --tile 2",
+    err: b"vtex: bad input: g4.ppm: bad line 1\n",
+    ..REFUSES
+}];
 
 #[test]
 fn texture_and_path_may_have_one_name(rt: HostRuntime) {
-    // Texture and path may have one name, since both are only read; these bytes are no path.
-    let words = ["plain", "g4.ppm", "g4.ppm", "f", "--tile", "2"];
-    match play(&rt, rt.alloc(), &words, G4, PATH, None, None) {
-        Ok(left) => {
-            assert_eq!(rt; left.status, 4);
-            assert!(rt; left.printed(b"", b"vtex: bad input: g4.ppm: bad line 1\n"));
-        }
-        Err(_) => assert!(rt; false, "there is memory"),
-    }
+    hold(&rt, rt.alloc(), &ONE_NAME);
 }
+
+static MISSING_NAMES: [Row<'static>; 2] = [
+    Row {
+        words: "plain none a.path f --tile 2",
+        ..STOPS
+    },
+    Row {
+        words: "plain g4.ppm none f --tile 2",
+        ..STOPS
+    },
+];
 
 #[test]
 fn a_missing_name_is_a_fault(rt: HostRuntime) {
-    for words in [
-        ["plain", "none", "a.path", "f", "--tile", "2"],
-        ["plain", "g4.ppm", "none", "f", "--tile", "2"],
-    ] {
-        match play(&rt, rt.alloc(), &words, G4, PATH, None, None) {
-            Ok(left) => {
-                assert_eq!(rt; left.status, 3);
-                assert!(rt; !left.has("f0000.ppm") && left.printed(b"", FAULT));
-            }
-            Err(_) => assert!(rt; false, "there is memory"),
-        }
-    }
+    hold(&rt, rt.alloc(), &MISSING_NAMES);
 }
+
+static STOPPED: [Row<'static>; 12] = [
+    Row {
+        fail: Some(Fail::Open(0)),
+        ..STOPS
+    },
+    Row {
+        fail: Some(Fail::Open(1)),
+        ..STOPS
+    },
+    Row {
+        fail: Some(Fail::Length { opening: 0 }),
+        ..STOPS
+    },
+    Row {
+        fail: Some(Fail::Length { opening: 1 }),
+        ..STOPS
+    },
+    Row {
+        fail: Some(Fail::Read {
+            opening: 0,
+            read: 0,
+        }),
+        ..STOPS
+    },
+    Row {
+        fail: Some(Fail::Read {
+            opening: 1,
+            read: 0,
+        }),
+        ..STOPS
+    },
+    Row {
+        fail: Some(Fail::Read {
+            opening: 1,
+            read: 1,
+        }),
+        ..STOPS
+    },
+    Row {
+        fail: Some(Fail::Create(0)),
+        ..STOPS
+    },
+    // A failed append leaves the first half of the 17 bytes, a failed put that of its piece.
+    Row {
+        fail: Some(Fail::Append(0)),
+        pictures: &[b"P6\n2 1\n2"],
+        ..STOPS
+    },
+    Row {
+        fail: Some(Fail::Put(0)),
+        pictures: &[PICTURE],
+        out: b"end pi",
+        ..STOPS
+    },
+    Row {
+        fail: Some(Fail::Put(1)),
+        pictures: &[PICTURE],
+        out: b"end pictures ",
+        ..STOPS
+    },
+    Row {
+        fail: Some(Fail::Put(2)),
+        pictures: &[PICTURE],
+        out: b"end pictures 1",
+        ..STOPS
+    },
+];
 
 #[test]
 fn a_call_that_fails_stops_plain(rt: HostRuntime) {
-    let alloc = rt.alloc();
-    for fail in [
-        Fail::Open(0),
-        Fail::Open(1),
-        Fail::Length { opening: 0 },
-        Fail::Length { opening: 1 },
-        Fail::Read {
-            opening: 0,
-            read: 0,
-        },
-        Fail::Read {
-            opening: 1,
-            read: 0,
-        },
-        Fail::Read {
-            opening: 1,
-            read: 1,
-        },
-        Fail::Create(0),
-    ] {
-        assert!(rt; stops(&rt, alloc, fail, None, b""));
-    }
-    // A failed append leaves the first half of the 17 bytes, a failed put that of its piece.
-    assert!(rt; stops(&rt, alloc, Fail::Append(0), Some(&PICTURE[..8]), b""));
-    assert!(rt; stops(&rt, alloc, Fail::Put(0), Some(PICTURE), b"end pi"));
-    assert!(rt; stops(&rt, alloc, Fail::Put(1), Some(PICTURE), b"end pictures "));
-    assert!(rt; stops(&rt, alloc, Fail::Put(2), Some(PICTURE), b"end pictures 1"));
+    hold(&rt, rt.alloc(), &STOPPED);
 }
+
+// The line ends at the put that fails, and the status stays.
+static LINE_CUT: [Row<'static>; 1] = [Row {
+    words: "plain none a.path f --tile 2",
+    err_fail: Some(Fail::Put(0)),
+    err: b"vtex: fault on ",
+    ..STOPS
+}];
 
 #[test]
 fn a_line_ends_where_a_put_fails(rt: HostRuntime) {
-    // The line ends at the put that fails, and the status stays.
-    let words = ["plain", "none", "a.path", "f", "--tile", "2"];
-    match play(&rt, rt.alloc(), &words, G4, PATH, None, Some(Fail::Put(0))) {
-        Ok(left) => {
-            assert_eq!(rt; left.status, 3);
-            assert!(rt; left.printed(b"", &FAULT[..15]));
-        }
-        Err(_) => assert!(rt; false, "there is memory"),
-    }
+    hold(&rt, rt.alloc(), &LINE_CUT);
 }
 
-// Whether a run of `plain` over this texture and this path ends with this status and this line, and writes nothing.
-fn ends(
-    rt: &(impl Threads + Wait + Sync),
-    alloc: Global,
-    words: &[&str],
-    texture: &[u8],
-    path: &[u8],
-    status: u8,
-    line: &[u8],
-) -> bool {
-    match play(rt, alloc, words, texture, path, None, None) {
-        Ok(left) => left.status == status && !left.has("f0000.ppm") && left.printed(b"", line),
-        Err(_) => false,
-    }
-}
+static FIRST_CAUSES: [Row<'static>; 2] = [
+    Row {
+        words: "plain none a.path f --tile 2",
+        files: &[("g4.ppm", All(G4)), ("a.path", All(b""))],
+        err: b"vtex: bad input: a.path: bad line 1\n",
+        ..REFUSES
+    },
+    Row {
+        words: "plain g4.ppm none f --tile 2",
+        files: &[("g4.ppm", All(b"")), ("a.path", All(PATH))],
+        ..STOPS
+    },
+];
 
 #[test]
 fn the_first_cause_among_the_inputs_decides(rt: HostRuntime) {
-    let alloc = rt.alloc();
-    let flawed: &[u8] = b"vtex: bad input: a.path: bad line 1\n";
-    let no_texture = ["plain", "none", "a.path", "f", "--tile", "2"];
-    assert!(rt; ends(&rt, alloc, &no_texture, G4, b"", 4, flawed));
-    let no_path = ["plain", "g4.ppm", "none", "f", "--tile", "2"];
-    assert!(rt; ends(&rt, alloc, &no_path, b"", PATH, 3, FAULT));
+    hold(&rt, rt.alloc(), &FIRST_CAUSES);
 }
+
+// A second creation would fail.
+static CREATED_ONCE: [Row<'static>; 1] = [Row {
+    fail: Some(Fail::Create(1)),
+    ..DRAWS
+}];
 
 #[test]
 fn each_picture_is_created_once(rt: HostRuntime) {
-    // A second creation would fail.
-    match play(
-        &rt,
-        rt.alloc(),
-        &WORDS,
-        G4,
-        PATH,
-        Some(Fail::Create(1)),
-        None,
-    ) {
-        Ok(left) => {
-            assert_eq!(rt; left.status, 0);
-            assert!(rt; left.holds("f0000.ppm", PICTURE) && left.printed(END, b""));
-        }
-        Err(_) => assert!(rt; false, "there is memory"),
-    }
+    hold(&rt, rt.alloc(), &CREATED_ONCE);
 }

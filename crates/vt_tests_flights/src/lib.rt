@@ -5,11 +5,15 @@
 #[cfg(test)]
 mod crews;
 #[cfg(test)]
+mod replay_cuts;
+#[cfg(test)]
 mod replays;
 #[cfg(test)]
 mod rows;
 #[cfg(test)]
 mod trials;
+#[cfg(test)]
+mod walk_rows;
 #[cfg(test)]
 mod walk_stops;
 #[cfg(test)]

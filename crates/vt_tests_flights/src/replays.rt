@@ -1,12 +1,10 @@
 // Runs of `replay`.
-use super::rows::{Row, failing, holds, refused, replayed};
-use super::walks::{LOW, SETTLED_PASSES, SINGLE_STORE, WIDE_PICTURE};
-use std::alloc::Global;
-use std::sync::Wait;
+use super::rows::{REPLAY_REFUSES, REPLAYS, hold};
+use super::walk_rows::{SETTLED_PASSES, SINGLE_STORE, WIDE_PICTURE};
 use std::test::*;
-use std::thread::Threads;
 use vt_outside::Fail;
-use vt_tests_runs::{FAULT, G4_STORE, PATH, PICTURE, USAGE, WIDE_STORE};
+use vt_tests_runs::Held::All;
+use vt_tests_runs::{FAULT, G4_STORE, Held, PATH, PICTURE, Row, USAGE, WIDE_STORE};
 
 // The journal of the settled walk of one picture, where the row of its third pass shows the page that is mapped in it.
 const SETTLED: &[u8] =
@@ -20,207 +18,278 @@ const BROKEN: &[u8] =
         map 2 0 0 0 1\nrow 0 0 1\npass 3 picture 0 start 2\nrow 0 0 2\n\
         pass 4 picture 0 start 3\nrow 0 0 3\n";
 
-// The picture while page 0 is mapped, and page 2 is not.
-const HALF: &[u8] = b"P6\n2 1\n255\n\x0b\x0b\x0b\x01\x01\x01";
+// The store of 4x4 texels, its path and the settled walk's journal.
+const OVER_SETTLED: &[(&str, Held<'static>)] = &[
+    ("s.vts", All(G4_STORE)),
+    ("a.path", All(PATH)),
+    ("j.txt", All(SETTLED)),
+];
+
+static BOTH_DEPTHS: [Row<'static>; 2] = [
+    Row {
+        files: OVER_SETTLED,
+        ..REPLAYS
+    },
+    Row {
+        files: &[
+            ("s.vts", All(WIDE_STORE)),
+            ("a.path", All(PATH)),
+            ("j.txt", All(SETTLED)),
+        ],
+        pictures: &[WIDE_PICTURE],
+        ..REPLAYS
+    },
+];
 
 #[test]
 fn a_journal_is_replayed_at_both_depths(rt: HostRuntime) {
-    let wide = replayed(WIDE_STORE, PATH, SETTLED, &[WIDE_PICTURE]);
-    for row in [replayed(G4_STORE, PATH, SETTLED, &[PICTURE]), wide] {
-        assert!(rt; holds(&rt, rt.alloc(), &row));
-    }
-}
-
-// A place in the settled walk's journal at which a line ends; what the picture shows if the text ends there, where a pass does;
-// or the line that is missing then.
-type Cut = (usize, Option<&'static [u8]>, &'static [u8]);
-
-const CUTS: [Cut; 10] = [
-    (39, None, b"vtex: bad input: j.txt: bad line 3\n"),
-    (49, Some(LOW), b""),
-    (74, None, b"vtex: bad input: j.txt: bad line 5\n"),
-    (88, None, b"vtex: bad input: j.txt: bad line 6\n"),
-    (98, Some(LOW), b""),
-    (123, None, b"vtex: bad input: j.txt: bad line 8\n"),
-    (137, None, b"vtex: bad input: j.txt: bad line 9\n"),
-    (147, Some(HALF), b""),
-    (172, None, b"vtex: bad input: j.txt: bad line 11\n"),
-    (182, Some(PICTURE), b""),
-];
-
-// What a replay of the settled walk's journal leaves if it is cut there.
-fn cut_holds(rt: &(impl Threads + Wait + Sync), alloc: Global, (end, picture, line): Cut) -> bool {
-    if end > SETTLED_PASSES.len() {
-        return false;
-    }
-    let journal = &SETTLED_PASSES[..end];
-    match picture {
-        Some(picture) => holds(rt, alloc, &replayed(G4_STORE, PATH, journal, &[picture])),
-        None => holds(rt, alloc, &refused(G4_STORE, PATH, journal, line)),
-    }
-}
-
-#[test]
-fn a_journal_that_is_cut_at_a_line_is_replayed_after_the_head_and_after_a_pass(rt: HostRuntime) {
-    let head = b"map 1 1 0 0 0\n";
-    assert!(rt; holds(&rt, rt.alloc(), &replayed(G4_STORE, PATH, head, &[])));
-    for cut in CUTS {
-        assert!(rt; cut_holds(&rt, rt.alloc(), cut), "cut at {}", cut.0);
-    }
+    hold(&rt, rt.alloc(), &BOTH_DEPTHS);
 }
 
 // A journal over a store and a path, and the line by which it is refused.
-type Refused = (&'static [u8], &'static [u8], &'static [u8], &'static [u8]);
-
-const REFUSED: [Refused; 9] = [
-    (
-        G4_STORE,
-        PATH,
-        BROKEN,
-        b"vtex: bad input: j.txt: bad line 9\n",
-    ),
-    (
-        G4_STORE,
-        PATH,
-        b"map 1 0 0 0 0\n",
-        b"vtex: bad input: j.txt: bad line 2\n",
-    ),
+static REFUSED: [Row<'static>; 9] = [
+    Row {
+        files: &[
+            ("s.vts", All(G4_STORE)),
+            ("a.path", All(PATH)),
+            ("j.txt", All(BROKEN)),
+        ],
+        err: b"vtex: bad input: j.txt: bad line 9\n",
+        ..REPLAY_REFUSES
+    },
+    Row {
+        files: &[
+            ("s.vts", All(G4_STORE)),
+            ("a.path", All(PATH)),
+            ("j.txt", All(b"map 1 0 0 0 0\n")),
+        ],
+        err: b"vtex: bad input: j.txt: bad line 2\n",
+        ..REPLAY_REFUSES
+    },
     // A picture that the path has not, alone, before a line that is bad by itself, and after one.
-    (
-        G4_STORE,
-        PATH,
-        b"map 1 1 0 0 0\npass 1 picture 0 start 1\nrow 0 0 1\npass 2 picture 1 start 1\nrow 0 0 1\n",
-        b"vtex: bad input: j.txt: bad line 4\n",
-    ),
-    (
-        G4_STORE,
-        PATH,
-        b"map 1 1 0 0 0\npass 1 picture 0 start 1\nrow 0 0 1\npass 2 picture 1 start 1\nrow 0 0 2\n",
-        b"vtex: bad input: j.txt: bad line 4\n",
-    ),
-    (
-        G4_STORE,
-        PATH,
-        b"map 1 1 0 0 0\npass 1 picture 0 start 1\nrow 0 0 2\npass 2 picture 1 start 1\nrow 0 0 1\n",
-        b"vtex: bad input: j.txt: bad line 3\n",
-    ),
+    Row {
+        files: &[
+            ("s.vts", All(G4_STORE)),
+            ("a.path", All(PATH)),
+            (
+                "j.txt",
+                All(
+                    b"map 1 1 0 0 0\npass 1 picture 0 start 1\nrow 0 0 1\npass 2 picture 1 start 1\nrow 0 0 1\n",
+                ),
+            ),
+        ],
+        err: b"vtex: bad input: j.txt: bad line 4\n",
+        ..REPLAY_REFUSES
+    },
+    Row {
+        files: &[
+            ("s.vts", All(G4_STORE)),
+            ("a.path", All(PATH)),
+            (
+                "j.txt",
+                All(
+                    b"map 1 1 0 0 0\npass 1 picture 0 start 1\nrow 0 0 1\npass 2 picture 1 start 1\nrow 0 0 2\n",
+                ),
+            ),
+        ],
+        err: b"vtex: bad input: j.txt: bad line 4\n",
+        ..REPLAY_REFUSES
+    },
+    Row {
+        files: &[
+            ("s.vts", All(G4_STORE)),
+            ("a.path", All(PATH)),
+            (
+                "j.txt",
+                All(
+                    b"map 1 1 0 0 0\npass 1 picture 0 start 1\nrow 0 0 2\npass 2 picture 1 start 1\nrow 0 0 1\n",
+                ),
+            ),
+        ],
+        err: b"vtex: bad input: j.txt: bad line 3\n",
+        ..REPLAY_REFUSES
+    },
     // A store of another geometry, whose pages have other names.
-    (
-        SINGLE_STORE,
-        PATH,
-        SETTLED_PASSES,
-        b"vtex: bad input: j.txt: bad line 1\n",
-    ),
-    (
-        G4_STORE,
-        b"size 2 1\n",
-        BROKEN,
-        b"vtex: bad input: a.path: bad line 2\n",
-    ),
-    (
-        b"VTS",
-        b"size 2 1\n",
-        BROKEN,
-        b"vtex: bad input: a.path: bad line 2\n",
-    ),
-    (b"VTS", PATH, BROKEN, b"vtex: bad input: s.vts: bad magic\n"),
+    Row {
+        files: &[
+            ("s.vts", All(SINGLE_STORE)),
+            ("a.path", All(PATH)),
+            ("j.txt", All(SETTLED_PASSES)),
+        ],
+        err: b"vtex: bad input: j.txt: bad line 1\n",
+        ..REPLAY_REFUSES
+    },
+    Row {
+        files: &[
+            ("s.vts", All(G4_STORE)),
+            ("a.path", All(b"size 2 1\n")),
+            ("j.txt", All(BROKEN)),
+        ],
+        err: b"vtex: bad input: a.path: bad line 2\n",
+        ..REPLAY_REFUSES
+    },
+    Row {
+        files: &[
+            ("s.vts", All(b"VTS")),
+            ("a.path", All(b"size 2 1\n")),
+            ("j.txt", All(BROKEN)),
+        ],
+        err: b"vtex: bad input: a.path: bad line 2\n",
+        ..REPLAY_REFUSES
+    },
+    Row {
+        files: &[
+            ("s.vts", All(b"VTS")),
+            ("a.path", All(PATH)),
+            ("j.txt", All(BROKEN)),
+        ],
+        err: b"vtex: bad input: s.vts: bad magic\n",
+        ..REPLAY_REFUSES
+    },
 ];
 
 #[test]
 fn a_journal_is_refused_beside_its_path_and_its_store(rt: HostRuntime) {
-    for (store, path, journal, line) in REFUSED {
-        assert!(rt; holds(&rt, rt.alloc(), &refused(store, path, journal, line)));
-    }
+    hold(&rt, rt.alloc(), &REFUSED);
 }
 
-// A failed call of a replay, with the pictures and the output that it leaves.
-type Stop = (Fail, &'static [&'static [u8]], &'static [u8]);
-
-const STOPS: [Stop; 14] = [
-    (Fail::Open(0), &[], b""),
-    (Fail::Open(1), &[], b""),
-    (Fail::Open(2), &[], b""),
-    (Fail::Length { opening: 0 }, &[], b""),
-    (Fail::Length { opening: 1 }, &[], b""),
-    (Fail::Length { opening: 2 }, &[], b""),
-    (
-        Fail::Read {
-            opening: 0,
-            read: 0,
-        },
-        &[],
-        b"",
-    ),
-    (
-        Fail::Read {
-            opening: 1,
-            read: 0,
-        },
-        &[],
-        b"",
-    ),
-    (
-        Fail::Read {
-            opening: 1,
-            read: 1,
-        },
-        &[],
-        b"",
-    ),
-    (
-        Fail::Read {
-            opening: 2,
-            read: 0,
-        },
-        &[],
-        b"",
-    ),
-    (Fail::Create(0), &[], b""),
-    (Fail::Append(0), &[b"P6\n2 1\n2"], b""),
-    (Fail::Put(0), &[PICTURE], b"end pi"),
-    (Fail::Put(2), &[PICTURE], b"end pictures 1"),
-];
+// A second creation would fail.
+static CREATED_ONCE: [Row<'static>; 1] = [Row {
+    files: OVER_SETTLED,
+    fail: Some(Fail::Create(1)),
+    ..REPLAYS
+}];
 
 #[test]
 fn a_replay_creates_each_picture_once(rt: HostRuntime) {
-    // A second creation would fail.
-    let row = Row {
-        fail: Some(Fail::Create(1)),
-        ..replayed(G4_STORE, PATH, SETTLED, &[PICTURE])
-    };
-    assert!(rt; holds(&rt, rt.alloc(), &row));
+    hold(&rt, rt.alloc(), &CREATED_ONCE);
 }
+
+// A replay that a call or a missing name stops before its picture.
+const STOPS: Row<'static> = Row {
+    files: OVER_SETTLED,
+    status: 3,
+    err: FAULT,
+    ..REPLAY_REFUSES
+};
+
+// A failed call of a replay, with the pictures and the output that it leaves.
+static STOPPED: [Row<'static>; 14] = [
+    Row {
+        fail: Some(Fail::Open(0)),
+        ..STOPS
+    },
+    Row {
+        fail: Some(Fail::Open(1)),
+        ..STOPS
+    },
+    Row {
+        fail: Some(Fail::Open(2)),
+        ..STOPS
+    },
+    Row {
+        fail: Some(Fail::Length { opening: 0 }),
+        ..STOPS
+    },
+    Row {
+        fail: Some(Fail::Length { opening: 1 }),
+        ..STOPS
+    },
+    Row {
+        fail: Some(Fail::Length { opening: 2 }),
+        ..STOPS
+    },
+    Row {
+        fail: Some(Fail::Read {
+            opening: 0,
+            read: 0,
+        }),
+        ..STOPS
+    },
+    Row {
+        fail: Some(Fail::Read {
+            opening: 1,
+            read: 0,
+        }),
+        ..STOPS
+    },
+    Row {
+        fail: Some(Fail::Read {
+            opening: 1,
+            read: 1,
+        }),
+        ..STOPS
+    },
+    Row {
+        fail: Some(Fail::Read {
+            opening: 2,
+            read: 0,
+        }),
+        ..STOPS
+    },
+    Row {
+        fail: Some(Fail::Create(0)),
+        ..STOPS
+    },
+    Row {
+        fail: Some(Fail::Append(0)),
+        pictures: &[b"P6\n2 1\n2"],
+        ..STOPS
+    },
+    Row {
+        fail: Some(Fail::Put(0)),
+        pictures: &[PICTURE],
+        out: b"end pi",
+        ..STOPS
+    },
+    Row {
+        fail: Some(Fail::Put(2)),
+        pictures: &[PICTURE],
+        out: b"end pictures 1",
+        ..STOPS
+    },
+];
 
 #[test]
 fn what_stands_after_a_failed_call_of_a_replay(rt: HostRuntime) {
-    let whole = replayed(G4_STORE, PATH, SETTLED, &[PICTURE]);
-    for (fail, pictures, out) in STOPS {
-        assert!(rt;
-            holds(
-                &rt,
-                rt.alloc(),
-                &failing(&whole, fail, Some(SETTLED), pictures, out)
-            )
-        );
-    }
+    hold(&rt, rt.alloc(), &STOPPED);
 }
+
+// A replay by words that are those of no command.
+const MISUSES: Row<'static> = Row {
+    status: 2,
+    err: USAGE,
+    ..STOPS
+};
+
+static WORDS_AND_NAMES: [Row<'static>; 6] = [
+    Row {
+        words: "replay s.vts a.path j.txt",
+        ..MISUSES
+    },
+    Row {
+        words: "replay s.vts a.path s.vts f",
+        ..MISUSES
+    },
+    Row {
+        words: "replay f0000.ppm a.path j.txt f",
+        ..MISUSES
+    },
+    Row {
+        words: "replay t.vts a.path j.txt f",
+        ..STOPS
+    },
+    Row {
+        words: "replay s.vts b.path j.txt f",
+        ..STOPS
+    },
+    Row {
+        words: "replay s.vts a.path k.txt f",
+        ..STOPS
+    },
+];
 
 #[test]
 fn a_replay_is_refused_for_its_words_and_for_a_missing_name(rt: HostRuntime) {
-    let cases: [(&str, u8, &[u8]); 6] = [
-        ("replay s.vts a.path j.txt", 2, USAGE),
-        ("replay s.vts a.path s.vts f", 2, USAGE),
-        ("replay f0000.ppm a.path j.txt f", 2, USAGE),
-        ("replay t.vts a.path j.txt f", 3, FAULT),
-        ("replay s.vts b.path j.txt f", 3, FAULT),
-        ("replay s.vts a.path k.txt f", 3, FAULT),
-    ];
-    for (words, status, line) in cases {
-        let row = Row {
-            words,
-            status,
-            ..refused(G4_STORE, PATH, SETTLED, line)
-        };
-        assert!(rt; holds(&rt, rt.alloc(), &row), "{words}");
-    }
+    hold(&rt, rt.alloc(), &WORDS_AND_NAMES);
 }

@@ -1,380 +1,230 @@
 // Runs of `walk`.
-use super::rows::{Row, holds, walks};
+use super::rows::{hold, walk_all};
+use super::walk_rows::{
+    BATCH_OF_TWO, COARSE_TO_FINE, EIGHT_STORE, LOST, ONE_BY_ONE, ONE_PASS, REUSED, SETTLED,
+    SETTLED_FOUR, SINGLE, STARVED, WIDE_PICTURE,
+};
 use std::alloc::Global;
 use std::sync::Wait;
 use std::test::*;
 use std::thread::Threads;
-use vt_outside::{Fail, MemoryFolder, NoMemory};
-use vt_tests_runs::{
-    FAULT, G4, G4_STORE, Left, PATH, PICTURE, USAGE, WIDE_STORE, one_fail, play_over,
-};
+use vt_tests_runs::Held::All;
+use vt_tests_runs::{FAULT, G4, G4_STORE, PATH, Row, Scene, USAGE, WIDE_STORE, leaves_in, play};
 
-// The store of a texture of one texel, and a path of one picture of one pixel.
-pub(super) const SINGLE_STORE: &[u8] =
-    b"VTS1\x00\x00\x00\x01\x00\x00\x00\x01\x00\x00\x00\x02\x0a\x14\x1e\x0a\x14\x1e\x0a\x14\x1e\x0a\x14\x1e";
-
-const SINGLE_PATH: &[u8] = b"size 1 1\nfocal 1\nat 0 0 256 16384 0\n";
-
-// The store of the texture of 8x8 texels whose texel (x, y) is 8y+x in each channel, with tiles of 2x2. A texel of level 1 is
-// 16y+2x+5, and one of level 2 is 32y+4x+14.
-const EIGHT_STORE: &[u8] = b"VTS1\x00\x00\x00\x08\x00\x00\x00\x08\x00\x00\x00\x02\
-        \x00\x00\x00\x01\x01\x01\x08\x08\x08\x09\x09\x09\x02\x02\x02\x03\x03\x03\x0a\x0a\x0a\x0b\x0b\x0b\
-        \x04\x04\x04\x05\x05\x05\x0c\x0c\x0c\x0d\x0d\x0d\x06\x06\x06\x07\x07\x07\x0e\x0e\x0e\x0f\x0f\x0f\
-        \x10\x10\x10\x11\x11\x11\x18\x18\x18\x19\x19\x19\x12\x12\x12\x13\x13\x13\x1a\x1a\x1a\x1b\x1b\x1b\
-        \x14\x14\x14\x15\x15\x15\x1c\x1c\x1c\x1d\x1d\x1d\x16\x16\x16\x17\x17\x17\x1e\x1e\x1e\x1f\x1f\x1f\
-        \x20\x20\x20\x21\x21\x21\x28\x28\x28\x29\x29\x29\x22\x22\x22\x23\x23\x23\x2a\x2a\x2a\x2b\x2b\x2b\
-        \x24\x24\x24\x25\x25\x25\x2c\x2c\x2c\x2d\x2d\x2d\x26\x26\x26\x27\x27\x27\x2e\x2e\x2e\x2f\x2f\x2f\
-        \x30\x30\x30\x31\x31\x31\x38\x38\x38\x39\x39\x39\x32\x32\x32\x33\x33\x33\x3a\x3a\x3a\x3b\x3b\x3b\
-        \x34\x34\x34\x35\x35\x35\x3c\x3c\x3c\x3d\x3d\x3d\x36\x36\x36\x37\x37\x37\x3e\x3e\x3e\x3f\x3f\x3f\
-        \x05\x05\x05\x07\x07\x07\x15\x15\x15\x17\x17\x17\x09\x09\x09\x0b\x0b\x0b\x19\x19\x19\x1b\x1b\x1b\
-        \x25\x25\x25\x27\x27\x27\x35\x35\x35\x37\x37\x37\x29\x29\x29\x2b\x2b\x2b\x39\x39\x39\x3b\x3b\x3b\
-        \x0e\x0e\x0e\x12\x12\x12\x2e\x2e\x2e\x32\x32\x32";
-
-// Two pictures from the place of the first path, which want the pages 0 and 2, and two half a texture to the right of it, which
-// want the pages 1 and 3.
-const FOUR_PICTURES: &[u8] = b"size 2 1\nfocal 1\nat 0 0 256 16384 0\nat 0 0 256 16384 0\n\
-        at 512 0 256 16384 0\nat 512 0 256 16384 0\n";
-
-// The first picture where the root alone is mapped, and the third where the pages 0 and 2 are mapped.
-pub(super) const LOW: &[u8] = b"P6\n2 1\n255\n\x0b\x0b\x0b\x03\x03\x03";
-
-const FAR: &[u8] = b"P6\n2 1\n255\n\x0d\x0d\x0d\x05\x05\x05";
-
-// The third picture, settled.
-const OTHER: &[u8] = b"P6\n2 1\n255\n\x0f\x0f\x0f\x03\x03\x03";
-
-pub(super) const WIDE_PICTURE: &[u8] =
-    b"P6\n2 1\n65535\n\x0d\x0d\x0d\x0d\x0d\x0d\x01\x01\x01\x01\x01\x01";
-
-const ONE_PASS: &[u8] = b"map 1 1 0 0 0\npass 1 picture 0 start 1\nrow 0 0 1\n";
-
-// The journal of the settled walk of one picture: its head ends at byte 14, and its passes at the bytes 49, 98, 147 and 182.
-pub(super) const SETTLED_PASSES: &[u8] =
-    b"map 1 1 0 0 0\npass 1 picture 0 start 1\nrow 0 0 1\npass 2 picture 0 start 1\n\
-        map 2 0 0 0 1\nrow 0 0 1\npass 3 picture 0 start 2\nmap 3 0 0 1 2\nrow 0 0 2\n\
-        pass 4 picture 0 start 3\nrow 0 0 3\n";
-
-// Its log: the picture's line ends at byte 54, and the last one at byte 77.
-pub(super) const SETTLED_LOG: &[u8] =
-    b"picture 0 passes 4 wanted 2 loaded 2 lost 0 evicted 0\nend pictures 1 reads 3\n";
-
-const SINGLE: Row<'static> = Row {
-    words: "walk s.vts a.path f --journal j.txt",
-    store: SINGLE_STORE,
-    path: SINGLE_PATH,
-    told: None,
-    fail: None,
-    status: 0,
-    journal: Some(b"map 1 0 0 0 0\npass 1 picture 0 start 1\nrow 0 0 1\n"),
-    pictures: &[b"P6\n1 1\n255\n\x0a\x14\x1e"],
-    out: b"picture 0 passes 1 wanted 1 loaded 0 lost 0 evicted 0\nend pictures 1 reads 1\n",
-    err: b"",
-};
-
-const STARVED: Row<'static> = Row {
-    words: "walk s.vts a.path f --frames 1 --samplers 1 --loaders 1 --journal j.txt",
-    store: G4_STORE,
-    path: PATH,
-    told: None,
-    fail: None,
-    status: 0,
-    journal: Some(ONE_PASS),
-    pictures: &[LOW],
-    out: b"picture 0 passes 1 wanted 2 loaded 0 lost 0 evicted 0\nend pictures 1 reads 1\n",
-    err: b"",
-};
-
-// Both pages of the first place are replaced by those of the other. Page 2 is the less recent one.
-const REUSED: Row<'static> = Row {
-    words: "walk s.vts a.path f --frames 3 --samplers 1 --loaders 1 --batch 64 --journal j.txt",
-    store: G4_STORE,
-    path: FOUR_PICTURES,
-    told: None,
-    fail: None,
-    status: 0,
-    journal: Some(
-        b"map 1 1 0 0 0\npass 1 picture 0 start 1\nrow 0 0 1\npass 2 picture 1 start 1\nmap 2 0 0 0 1\n\
-            map 3 0 0 1 2\nrow 0 0 1\npass 3 picture 2 start 3\nrow 0 0 3\npass 4 picture 3 start 3\n\
-            unmap 4 0 0 1 2\nmap 5 0 1 0 2\nunmap 6 0 0 0 1\nmap 7 0 1 1 1\nrow 0 0 3\n",
-    ),
-    pictures: &[LOW, LOW, FAR, FAR],
-    out: b"picture 0 passes 1 wanted 2 loaded 0 lost 0 evicted 0\n\
-        picture 1 passes 1 wanted 2 loaded 2 lost 0 evicted 0\n\
-        picture 2 passes 1 wanted 2 loaded 0 lost 0 evicted 0\n\
-        picture 3 passes 1 wanted 2 loaded 2 lost 0 evicted 2\nend pictures 4 reads 5\n",
-    err: b"",
-};
-
-// The same where page 1 is lost, in whose place page 2 stays.
-const LOST: Row<'static> = Row {
-    words: "walk s.vts a.path f --frames 3 --samplers 1 --loaders 1 --batch 64 --journal j.txt",
-    store: G4_STORE,
-    path: FOUR_PICTURES,
-    told: None,
-    fail: Some(Fail::Read {
-        opening: 2,
-        read: 2,
-    }),
-    status: 0,
-    journal: Some(
-        b"map 1 1 0 0 0\npass 1 picture 0 start 1\nrow 0 0 1\npass 2 picture 1 start 1\nmap 2 0 0 0 1\n\
-            map 3 0 0 1 2\nrow 0 0 1\npass 3 picture 2 start 3\nrow 0 0 3\npass 4 picture 3 start 3\n\
-            lost 0 1 0\nunmap 4 0 0 0 1\nmap 5 0 1 1 1\nrow 0 0 3\n",
-    ),
-    pictures: &[LOW, LOW, FAR, FAR],
-    out: b"picture 0 passes 1 wanted 2 loaded 0 lost 0 evicted 0\n\
-        picture 1 passes 1 wanted 2 loaded 2 lost 0 evicted 0\n\
-        picture 2 passes 1 wanted 2 loaded 0 lost 0 evicted 0\n\
-        picture 3 passes 1 wanted 2 loaded 1 lost 1 evicted 1\nend pictures 4 reads 5\n",
-    err: b"",
-};
-
-pub(super) const SETTLED: Row<'static> = Row {
-    words: "walk s.vts a.path f --frames 3 --samplers 1 --loaders 1 --batch 1 --journal j.txt --settled",
-    store: G4_STORE,
-    path: PATH,
-    told: None,
-    fail: None,
-    status: 0,
-    journal: Some(SETTLED_PASSES),
-    pictures: &[PICTURE],
-    out: SETTLED_LOG,
-    err: b"",
-};
-
-const BATCH_OF_TWO: Row<'static> = Row {
-    words: "walk s.vts a.path f --frames 3 --samplers 1 --loaders 1 --batch 2 --journal j.txt --settled",
-    store: G4_STORE,
-    path: PATH,
-    told: None,
-    fail: None,
-    status: 0,
-    journal: Some(
-        b"map 1 1 0 0 0\npass 1 picture 0 start 1\nrow 0 0 1\npass 2 picture 0 start 1\nmap 2 0 0 0 1\n\
-            map 3 0 0 1 2\nrow 0 0 1\npass 3 picture 0 start 3\nrow 0 0 3\n",
-    ),
-    pictures: &[PICTURE],
-    out: b"picture 0 passes 3 wanted 2 loaded 2 lost 0 evicted 0\nend pictures 1 reads 3\n",
-    err: b"",
-};
-
-const SETTLED_FOUR: Row<'static> = Row {
-    words: "walk s.vts a.path f --frames 3 --samplers 1 --loaders 1 --journal j.txt --settled",
-    store: G4_STORE,
-    path: FOUR_PICTURES,
-    told: None,
-    fail: None,
-    status: 0,
-    journal: Some(
-        b"map 1 1 0 0 0\npass 1 picture 0 start 1\nrow 0 0 1\npass 2 picture 0 start 1\nmap 2 0 0 0 1\n\
-            map 3 0 0 1 2\nrow 0 0 1\npass 3 picture 0 start 3\nrow 0 0 3\npass 4 picture 1 start 3\n\
-            row 0 0 3\npass 5 picture 2 start 3\nrow 0 0 3\npass 6 picture 2 start 3\nunmap 4 0 0 1 2\n\
-            map 5 0 1 0 2\nunmap 6 0 0 0 1\nmap 7 0 1 1 1\nrow 0 0 3\npass 7 picture 2 start 7\n\
-            row 0 0 7\npass 8 picture 3 start 7\nrow 0 0 7\n",
-    ),
-    pictures: &[PICTURE, PICTURE, OTHER, OTHER],
-    out: b"picture 0 passes 3 wanted 2 loaded 2 lost 0 evicted 0\n\
-        picture 1 passes 1 wanted 2 loaded 0 lost 0 evicted 0\n\
-        picture 2 passes 3 wanted 2 loaded 2 lost 0 evicted 2\n\
-        picture 3 passes 1 wanted 2 loaded 0 lost 0 evicted 0\nend pictures 4 reads 5\n",
-    err: b"",
-};
-
-// The pages 16 and 18 stand above the wanted pages 0 and 12.
-const COARSE_TO_FINE: Row<'static> = Row {
-    words: "walk s.vts a.path f --frames 5 --samplers 1 --loaders 1 --batch 64 --journal j.txt --settled",
-    store: EIGHT_STORE,
-    path: PATH,
-    told: None,
-    fail: None,
-    status: 0,
-    journal: Some(
-        b"map 1 2 0 0 0\npass 1 picture 0 start 1\nrow 0 0 1\npass 2 picture 0 start 1\nmap 2 1 0 0 1\n\
-            map 3 1 0 1 2\nrow 0 0 1\npass 3 picture 0 start 3\nmap 4 0 0 0 3\nmap 5 0 0 3 4\nrow 0 0 3\n\
-            pass 4 picture 0 start 5\nrow 0 0 5\n",
-    ),
-    pictures: &[b"P6\n2 1\n255\n\x39\x39\x39\x01\x01\x01"],
-    out: b"picture 0 passes 4 wanted 2 loaded 4 lost 0 evicted 0\nend pictures 1 reads 5\n",
-    err: b"",
-};
-
-// One entry a batch: pages 16, 0, 18 and 12 in their turn.
-const ONE_BY_ONE: Row<'static> = Row {
-    words: "walk s.vts a.path f --frames 5 --samplers 1 --loaders 1 --batch 1 --journal j.txt --settled",
-    store: EIGHT_STORE,
-    path: PATH,
-    told: None,
-    fail: None,
-    status: 0,
-    journal: Some(
-        b"map 1 2 0 0 0\npass 1 picture 0 start 1\nrow 0 0 1\npass 2 picture 0 start 1\nmap 2 1 0 0 1\n\
-            row 0 0 1\npass 3 picture 0 start 2\nmap 3 0 0 0 2\nrow 0 0 2\npass 4 picture 0 start 3\n\
-            map 4 1 0 1 3\nrow 0 0 3\npass 5 picture 0 start 4\nmap 5 0 0 3 4\nrow 0 0 4\n\
-            pass 6 picture 0 start 5\nrow 0 0 5\n",
-    ),
-    pictures: &[b"P6\n2 1\n255\n\x39\x39\x39\x01\x01\x01"],
-    out: b"picture 0 passes 6 wanted 2 loaded 4 lost 0 evicted 0\nend pictures 1 reads 5\n",
-    err: b"",
-};
+static WALKS: [Row<'static>; 8] = [
+    SINGLE,
+    STARVED,
+    REUSED,
+    LOST,
+    BATCH_OF_TWO,
+    SETTLED_FOUR,
+    COARSE_TO_FINE,
+    ONE_BY_ONE,
+];
 
 #[test]
 fn each_walk_leaves_its_row_and_is_replayed(rt: HostRuntime) {
-    let rows = [
-        SINGLE,
-        STARVED,
-        REUSED,
-        LOST,
-        BATCH_OF_TWO,
-        SETTLED_FOUR,
-        COARSE_TO_FINE,
-        ONE_BY_ONE,
-    ];
-    for row in rows {
-        assert!(rt; walks(&rt, rt.alloc(), &row), "{}", row.words);
-    }
+    walk_all(&rt, rt.alloc(), &WALKS);
 }
 
+const SETTLED_WIDE: Row<'static> = Row {
+    files: &[("s.vts", All(WIDE_STORE)), ("a.path", All(PATH))],
+    pictures: &[WIDE_PICTURE],
+    ..SETTLED
+};
+
 // The settled walk by crews of several sizes.
-const CREWS: [&str; 6] = [
-    "walk s.vts a.path f --frames 3 --samplers 1 --loaders 1 --batch 1 --journal j.txt --settled",
-    "walk s.vts a.path f --frames 3 --samplers 2 --loaders 1 --batch 1 --journal j.txt --settled",
-    "walk s.vts a.path f --frames 3 --samplers 7 --loaders 1 --batch 1 --journal j.txt --settled",
-    "walk s.vts a.path f --frames 3 --samplers 1 --loaders 3 --batch 1 --journal j.txt --settled",
-    "walk s.vts a.path f --frames 3 --samplers 2 --loaders 3 --batch 1 --journal j.txt --settled",
-    "walk s.vts a.path f --frames 3 --samplers 7 --loaders 3 --batch 1 --journal j.txt --settled",
+static CREWS: [Row<'static>; 6] = [
+    Row {
+        words: "walk s.vts a.path f --frames 3 --samplers 1 --loaders 1 --batch 1 --journal j.txt --settled",
+        ..SETTLED
+    },
+    Row {
+        words: "walk s.vts a.path f --frames 3 --samplers 2 --loaders 1 --batch 1 --journal j.txt --settled",
+        ..SETTLED
+    },
+    Row {
+        words: "walk s.vts a.path f --frames 3 --samplers 7 --loaders 1 --batch 1 --journal j.txt --settled",
+        ..SETTLED
+    },
+    Row {
+        words: "walk s.vts a.path f --frames 3 --samplers 1 --loaders 3 --batch 1 --journal j.txt --settled",
+        ..SETTLED
+    },
+    Row {
+        words: "walk s.vts a.path f --frames 3 --samplers 2 --loaders 3 --batch 1 --journal j.txt --settled",
+        ..SETTLED
+    },
+    Row {
+        words: "walk s.vts a.path f --frames 3 --samplers 7 --loaders 3 --batch 1 --journal j.txt --settled",
+        ..SETTLED
+    },
+];
+
+static WIDE_CREWS: [Row<'static>; 6] = [
+    Row {
+        words: "walk s.vts a.path f --frames 3 --samplers 1 --loaders 1 --batch 1 --journal j.txt --settled",
+        ..SETTLED_WIDE
+    },
+    Row {
+        words: "walk s.vts a.path f --frames 3 --samplers 2 --loaders 1 --batch 1 --journal j.txt --settled",
+        ..SETTLED_WIDE
+    },
+    Row {
+        words: "walk s.vts a.path f --frames 3 --samplers 7 --loaders 1 --batch 1 --journal j.txt --settled",
+        ..SETTLED_WIDE
+    },
+    Row {
+        words: "walk s.vts a.path f --frames 3 --samplers 1 --loaders 3 --batch 1 --journal j.txt --settled",
+        ..SETTLED_WIDE
+    },
+    Row {
+        words: "walk s.vts a.path f --frames 3 --samplers 2 --loaders 3 --batch 1 --journal j.txt --settled",
+        ..SETTLED_WIDE
+    },
+    Row {
+        words: "walk s.vts a.path f --frames 3 --samplers 7 --loaders 3 --batch 1 --journal j.txt --settled",
+        ..SETTLED_WIDE
+    },
 ];
 
 #[test]
 fn a_settled_walk_is_the_same_by_any_crew_at_both_depths(rt: HostRuntime) {
-    for words in CREWS {
-        let row = Row { words, ..SETTLED };
-        assert!(rt; walks(&rt, rt.alloc(), &row), "{words}");
-        let wide = Row {
-            store: WIDE_STORE,
-            pictures: &[WIDE_PICTURE],
-            ..row
-        };
-        assert!(rt; walks(&rt, rt.alloc(), &wide), "{words}");
-    }
+    walk_all(&rt, rt.alloc(), &CREWS);
+    walk_all(&rt, rt.alloc(), &WIDE_CREWS);
 }
+
+const UNFIT: Row<'static> = Row {
+    words: "walk s.vts a.path f --frames 2 --samplers 1 --loaders 1 --batch 1 --journal j.txt --settled",
+    status: 5,
+    left: &[("j.txt", All(ONE_PASS))],
+    pictures: &[],
+    out: b"",
+    err: b"vtex: picture 0 wants 2 pages, room for 1\n",
+    ..SETTLED
+};
+
+static UNFITTING: [Row<'static>; 2] = [
+    UNFIT,
+    // The pages above the wanted ones need frames too.
+    Row {
+        words: "walk s.vts a.path f --frames 4 --samplers 1 --loaders 1 --journal j.txt --settled",
+        files: &[("s.vts", All(EIGHT_STORE)), ("a.path", All(PATH))],
+        left: &[(
+            "j.txt",
+            All(b"map 1 2 0 0 0\npass 1 picture 0 start 1\nrow 0 0 1\n"),
+        )],
+        err: b"vtex: picture 0 wants 4 pages, room for 3\n",
+        ..UNFIT
+    },
+];
 
 #[test]
 fn a_picture_that_does_not_fit_ends_a_settled_walk_after_its_first_pass(rt: HostRuntime) {
-    let unfit: Row<'static> = Row {
-        words: "walk s.vts a.path f --frames 2 --samplers 1 --loaders 1 --batch 1 --journal j.txt --settled",
-        status: 5,
-        journal: Some(ONE_PASS),
-        pictures: &[],
-        out: b"",
-        err: b"vtex: picture 0 wants 2 pages, room for 1\n",
-        ..SETTLED
-    };
-    assert!(rt; holds(&rt, rt.alloc(), &unfit));
-    // The pages above the wanted ones need frames too.
-    let unfit_above: Row<'static> = Row {
-        words: "walk s.vts a.path f --frames 4 --samplers 1 --loaders 1 --journal j.txt --settled",
-        store: EIGHT_STORE,
-        journal: Some(b"map 1 2 0 0 0\npass 1 picture 0 start 1\nrow 0 0 1\n"),
-        err: b"vtex: picture 0 wants 4 pages, room for 3\n",
-        ..unfit
-    };
-    assert!(rt; holds(&rt, rt.alloc(), &unfit_above));
+    hold(&rt, rt.alloc(), &UNFITTING);
 }
 
-// Words over a store and a path that are refused with this status and this line.
-type Refusal = (
-    &'static str,
-    &'static [u8],
-    &'static [u8],
-    u8,
-    &'static [u8],
-);
+// A walk that is refused before it writes.
+const REFUSES: Row<'static> = Row {
+    left: &[],
+    missing: &["j.txt", "journal.txt"],
+    pictures: &[],
+    out: b"",
+    ..SETTLED
+};
 
-const REFUSALS: [Refusal; 8] = [
-    (
-        "walk s.vts a.path f --frames 4 --pinned 2",
-        G4_STORE,
-        PATH,
-        5,
-        b"vtex: 4 frames, pinned pages need 5\n",
-    ),
-    ("walk s.vts b.path f", G4_STORE, PATH, 3, FAULT),
-    ("walk t.vts a.path f", G4_STORE, PATH, 3, FAULT),
-    (
-        "walk t.vts a.path f",
-        G4_STORE,
-        b"size 2 1\n",
-        4,
-        b"vtex: bad input: a.path: bad line 2\n",
-    ),
-    (
-        "walk s.vts a.path f --frames 1",
-        b"VTS",
-        PATH,
-        4,
-        b"vtex: bad input: s.vts: bad magic\n",
-    ),
-    (
-        "walk s.vts a.path f --samplers 65",
-        G4_STORE,
-        PATH,
-        2,
-        USAGE,
-    ),
-    ("walk s.vts a.path", G4_STORE, PATH, 2, USAGE),
-    (
-        "walk s.vts a.path f --journal s.vts",
-        G4_STORE,
-        PATH,
-        2,
-        USAGE,
-    ),
+static REFUSED: [Row<'static>; 8] = [
+    Row {
+        words: "walk s.vts a.path f --frames 4 --pinned 2",
+        status: 5,
+        err: b"vtex: 4 frames, pinned pages need 5\n",
+        ..REFUSES
+    },
+    Row {
+        words: "walk s.vts b.path f",
+        status: 3,
+        err: FAULT,
+        ..REFUSES
+    },
+    Row {
+        words: "walk t.vts a.path f",
+        status: 3,
+        err: FAULT,
+        ..REFUSES
+    },
+    Row {
+        words: "walk t.vts a.path f",
+        files: &[("s.vts", All(G4_STORE)), ("a.path", All(b"size 2 1\n"))],
+        status: 4,
+        err: b"vtex: bad input: a.path: bad line 2\n",
+        ..REFUSES
+    },
+    Row {
+        words: "walk s.vts a.path f --frames 1",
+        files: &[("s.vts", All(b"VTS")), ("a.path", All(PATH))],
+        status: 4,
+        err: b"vtex: bad input: s.vts: bad magic\n",
+        ..REFUSES
+    },
+    Row {
+        words: "walk s.vts a.path f --samplers 65",
+        status: 2,
+        err: USAGE,
+        ..REFUSES
+    },
+    Row {
+        words: "walk s.vts a.path",
+        status: 2,
+        err: USAGE,
+        ..REFUSES
+    },
+    Row {
+        words: "walk s.vts a.path f --journal s.vts",
+        status: 2,
+        err: USAGE,
+        ..REFUSES
+    },
 ];
 
 #[test]
 fn a_walk_is_refused_with_nothing_written(rt: HostRuntime) {
-    for (words, store, path, status, err) in REFUSALS {
-        let row: Row<'static> = Row {
-            words,
-            store,
-            path,
-            status,
-            journal: None,
-            pictures: &[],
-            out: b"",
-            err,
-            ..SETTLED
-        };
-        assert!(rt; holds(&rt, rt.alloc(), &row), "{words}");
-    }
+    hold(&rt, rt.alloc(), &REFUSED);
 }
 
-// What a walk with so many frames leaves over the store of the texture with tiles of 16 texels a side.
-fn walks_with(
-    rt: &(impl Threads + Wait + Sync),
-    alloc: Global,
-    frames: &str,
-) -> Result<Left, NoMemory> {
-    let mut folder = MemoryFolder::new(alloc, one_fail(alloc, None)?);
-    folder.add("g4.ppm", G4)?;
-    folder.add("a.path", PATH)?;
-    let tiling = ["tile", "g4.ppm", "s.vts", "--tile", "16"];
-    let tiled = play_over(rt, alloc, &tiling, folder, None, None)?;
-    let words = ["walk", "s.vts", "a.path", "f", "--frames", frames];
-    play_over(rt, alloc, &words, tiled.folder, None, None)
+const TILES: Row<'static> = Row {
+    words: "tile g4.ppm s.vts --tile 16",
+    files: &[("g4.ppm", All(G4)), ("a.path", All(PATH))],
+    fail: None,
+    err_fail: None,
+    status: 0,
+    left: &[],
+    missing: &["journal.txt"],
+    pictures: &[],
+    out: b"store 4 4 tile 16 levels 1 pages 1 bytes 784\n",
+    err: b"",
+};
+
+// The run that makes the store of the texture with tiles of 16 texels a side.
+static TILED: Row<'static> = TILES;
+
+// A walk after it that is refused, and puts nothing after its line.
+static TOO_MANY_FRAMES: Row<'static> = Row {
+    words: "walk s.vts a.path f --frames 32769",
+    status: 2,
+    err: USAGE,
+    ..TILES
+};
+
+// Walks of one store are refused with a frame too many, and done with as many as may be.
+fn frames_hold(rt: &(impl Threads + Wait + Sync), alloc: Global, scene: &mut Scene) -> bool {
+    leaves_in(rt, alloc, &TILED, scene)
+        && leaves_in(rt, alloc, &TOO_MANY_FRAMES, scene)
+        && play(rt, alloc, "walk s.vts a.path f --frames 32768", scene) == 0
 }
 
 #[test]
 fn all_frames_have_eight_mega_texels_at_most(rt: HostRuntime) {
-    match walks_with(&rt, rt.alloc(), "32769") {
-        Ok(left) => {
-            assert_eq!(rt; left.status, 2);
-            assert!(rt; !left.has("journal.txt") && left.printed(b"", USAGE));
-        }
-        Err(_) => assert!(rt; false),
-    }
-    match walks_with(&rt, rt.alloc(), "32768") {
-        Ok(left) => assert_eq!(rt; left.status, 0),
-        Err(_) => assert!(rt; false),
-    }
+    let alloc = rt.alloc();
+    let mut scene = Scene::new(alloc);
+    assert!(rt; frames_hold(&rt, alloc, &mut scene));
 }

@@ -1,4 +1,4 @@
-//! A run of the words of a command over a folder in memory, and what it left.
+//! A run of the words of a command over a folder in memory.
 
 use std::alloc::{AllocError, Global};
 use std::sync::Wait;
@@ -7,27 +7,38 @@ use vt_commands::run;
 use vt_outside::{Fail, Fails, MemoryFile, MemoryFolder, MemorySink, NoMemory, OpenGate};
 use vt_still::StillMachine;
 
-/// What a run left.
+/// What commands run over: a folder in memory, the output and the error output.
 #[derive(Drop)]
-pub struct Left {
-    pub status: u8,
+pub struct Scene {
     pub folder: MemoryFolder,
     pub out: MemorySink,
     pub err: MemorySink,
 }
 
-impl Left {
-    /// The name holds these bytes.
-    pub fn holds(&self, name: &str, bytes: &[u8]) -> bool {
-        match self.folder.bytes_of(name) {
-            Some(held) => held == bytes,
-            None => false,
+impl Scene {
+    /// An empty folder and empty outputs, on which no call fails.
+    pub fn new(alloc: Global) -> Scene {
+        Scene {
+            folder: MemoryFolder::new(alloc, Fails::new(alloc)),
+            out: MemorySink::new(alloc, Fails::new(alloc)),
+            err: MemorySink::new(alloc, Fails::new(alloc)),
         }
     }
 
-    /// The name is there.
-    pub fn has(&self, name: &str) -> bool {
-        self.folder.bytes_of(name).is_some()
+    /// The same with one call that fails, if there is one, on the folder or the output, and one on the error output.
+    pub fn failing(
+        alloc: Global,
+        fail: Option<Fail>,
+        err_fail: Option<Fail>,
+    ) -> Result<Scene, NoMemory> {
+        let on_folder = one_fail(alloc, fail)?;
+        let on_out = one_fail(alloc, fail)?;
+        let on_err = one_fail(alloc, err_fail)?;
+        Ok(Scene {
+            folder: MemoryFolder::new(alloc, on_folder),
+            out: MemorySink::new(alloc, on_out),
+            err: MemorySink::new(alloc, on_err),
+        })
     }
 
     /// The output and the error output hold these bytes.
@@ -36,66 +47,50 @@ impl Left {
     }
 }
 
-/// No failing call, or one.
-pub fn one_fail(alloc: Global, fail: Option<Fail>) -> Result<Fails, NoMemory> {
-    let mut fails = Fails::new(alloc);
-    if let Some(fail) = fail {
-        fails.reserve(1)?;
-        fails.push(fail);
+// No failing call, or one.
+fn one_fail(alloc: Global, fail: Option<Fail>) -> Result<Fails, NoMemory> {
+    match fail {
+        Some(fail) => Fails::from_slice(alloc, &[fail]),
+        None => Ok(Fails::new(alloc)),
     }
-    Ok(fails)
 }
 
-// The words as texts.
-fn texts(alloc: Global, words: &[&str]) -> Result<Vec<String>, AllocError> {
-    let mut texts = Vec::new(alloc);
-    for word in words {
-        texts.push(String::from_str(alloc, word)?)?;
+// The words of a text, with blanks between them.
+fn words_of(alloc: Global, text: &str) -> Result<Vec<String>, AllocError> {
+    let mut words = Vec::new(alloc);
+    for word in text.split_whitespace() {
+        words.push(String::from_str(alloc, word)?)?;
     }
-    Ok(texts)
+    Ok(words)
 }
 
-/// Runs the words over a folder with this texture and this path, and one call that fails, on the folder or on a sink.
+/// Runs the words, which have blanks between them, and answers the status. Want of memory for the words has the status of the program's.
 pub fn play(
     rt: &(impl Threads + Wait + Sync),
     alloc: Global,
-    words: &[&str],
-    texture: &[u8],
-    path: &[u8],
-    fail: Option<Fail>,
-    err_fail: Option<Fail>,
-) -> Result<Left, NoMemory> {
-    let mut folder = MemoryFolder::new(alloc, one_fail(alloc, fail)?);
-    folder.add("g4.ppm", texture)?;
-    folder.add("a.path", path)?;
-    play_over(rt, alloc, words, folder, fail, err_fail)
+    words: &str,
+    scene: &mut Scene,
+) -> u8 {
+    match words_of(alloc, words) {
+        Ok(words) => play_words(rt, alloc, &words, scene),
+        Err(_) => 1,
+    }
 }
 
-/// Runs the words over a folder, and one call that fails on a sink.
-pub fn play_over(
+// Runs the words.
+fn play_words(
     rt: &(impl Threads + Wait + Sync),
     alloc: Global,
-    words: &[&str],
-    mut folder: MemoryFolder,
-    fail: Option<Fail>,
-    err_fail: Option<Fail>,
-) -> Result<Left, NoMemory> {
-    let mut out = MemorySink::new(alloc, one_fail(alloc, fail)?);
-    let mut err = MemorySink::new(alloc, one_fail(alloc, err_fail)?);
-    let words = texts(alloc, words)?;
-    let status = run::<StillMachine<MemoryFile>, _, _, _, _, _>(
+    words: &[String],
+    scene: &mut Scene,
+) -> u8 {
+    run::<StillMachine<MemoryFile>, _, _, _, _, _>(
         rt,
         alloc,
-        words.as_slice(),
-        &mut folder,
-        &mut out,
-        &mut err,
+        words,
+        &mut scene.folder,
+        &mut scene.out,
+        &mut scene.err,
         &OpenGate,
-    );
-    Ok(Left {
-        status,
-        folder,
-        out,
-        err,
-    })
+    )
 }
