@@ -1,24 +1,17 @@
 //! Plans for wanted lists made by hand.
 
-ghost use Rattle.std.specs.Prelude.{◌≡◌, ◌<◌, ◌≤◌, IfOk, OnOk};
+ghost use Rattle.std.specs.Bool.{OnTrue};
+ghost use Rattle.std.specs.Prelude.{◌≡◌, ◌<◌, ◌≤◌, IfOk};
 ghost use Rattle.std.specs.List.{All};
+ghost use Rattle.vt_evict.specs.Batches.{IsLawful};
 ghost use Rattle.vt_pages.specs.Pages.{pages_of};
 
+use crate::checks::holds;
 use std::alloc::Global;
-use std::process::Abort;
-use std::test::Fail;
 use vt_evict::*;
 use vt_feedback::{Wanted, Wants};
 use vt_outside::NoMemory;
 use vt_pages::Geometry;
-
-// The geometry of a square texture in tiles of 2.
-fn square(side: u32) -> Result<Geometry, Fail> {
-    match Geometry::new(side, side, 2) {
-        Ok(geometry) => Ok(geometry),
-        Err(_) => Err("no geometry".into()),
-    }
-}
 
 // A table of so many frames, one of which the root has.
 fn rooted(alloc: Global, geometry: &Geometry, frames: u32) -> Result<Recency, NoMemory>
@@ -46,85 +39,123 @@ fn wanted(alloc: Global, geometry: &Geometry, pages: &[u32]) -> Result<Wants, No
     Ok(wants)
 }
 
-// Compares a plan with entries, each a page, a frame and a victim.
-fn expect(rt: &impl Abort, batch: &Batch, entries: &[(u32, u32, Option<u32>)]) {
-    assert_eq!(rt; batch.len(), entries.len());
-    for (i, (page, frame, victim)) in entries.iter().enumerate() {
-        assert!(rt; i < batch.len());
-        let planned = Planned {
-            page: *page,
-            frame: *frame,
-            victim: *victim,
-        };
-        assert_eq!(rt; *batch.at(i), planned);
+// A pass: the pages of its wanted list, how many unpinned pages these need, the entries of its plan, and which of them
+// are lost.
+struct Pass {
+    pages: &'static [u32],
+    needed: u32,
+    plan: &'static [Planned],
+    lost: &'static [bool],
+}
+
+// Settles a plan of which entries are lost, and answers whether there are so many, and memory.
+fn is_settled(alloc: Global, recency: &mut Recency, batch: &Batch, lost: &[bool]) -> bool
+    requires { IsLawful recency.old batch.now.elements }
+    ensures { OnTrue result (recency.new.shape ≡ recency.old.shape) }
+{
+    let Ok(losses) = Losses::from_slice(alloc, lost) else {
+        return false;
+    };
+    losses.len() == batch.len() && recency.settle(batch, &losses).is_ok()
+}
+
+// Stamps the pages of a wanted list, plans at most `q` entries, and settles them; answers whether these are those of the pass.
+fn is_followed(alloc: Global, recency: &mut Recency, wants: &Wants, q: u32, pass: &Pass) -> bool
+    requires { All (λ w. w.page < pages_of recency.old.shape) wants.now.elements }
+    ensures { OnTrue result (recency.new.shape ≡ recency.old.shape) }
+{
+    let Ok(needed) = recency.needed(alloc, wants) else {
+        return false;
+    };
+    recency.touch(wants);
+    match recency.plan(alloc, wants, q) {
+        Ok(batch) => {
+            needed == pass.needed
+                && batch.slice() == pass.plan
+                && is_settled(alloc, recency, &batch, pass.lost)
+        }
+        Err(_) => false,
     }
 }
 
-// A pass: the pages of its wanted list, how many unpinned pages these need, the entries of its plan, and which of them
-// are lost.
-#[derive(Clone, Copy)]
-struct Pass<'a> {
-    pages: &'a [u32],
-    needed: u32,
-    plan: &'a [(u32, u32, Option<u32>)],
-    lost: &'a [bool],
+// Makes a pass of at most `q` entries, and answers whether it is as it is to be.
+fn follow(alloc: Global, geometry: &Geometry, recency: &mut Recency, q: u32, pass: &Pass) -> bool
+    requires { recency.old.shape ≡ geometry.now }
+    ensures { OnTrue result (recency.new.shape ≡ geometry.now) }
+{
+    match wanted(alloc, geometry, pass.pages) {
+        Ok(wants) => is_followed(alloc, recency, &wants, q, pass),
+        Err(_) => false,
+    }
 }
 
-// Stamps the pages of a wanted list, plans at most `q` entries, and settles them.
-fn follow(
-    rt: &impl Abort,
+// Makes passes of at most `q` entries, one after the other, as long as each is as it is to be, and answers whether all are.
+fn follow_all(
     alloc: Global,
     geometry: &Geometry,
     recency: &mut Recency,
     q: u32,
-    pass: &Pass,
-) -> Result<(), NoMemory>
+    passes: &[Pass],
+) -> bool
     requires { recency.old.shape ≡ geometry.now }
-    ensures { OnOk result (recency.new.shape ≡ geometry.now) }
 {
-    let wants = wanted(alloc, geometry, pass.pages)?;
-    assert_eq!(rt; recency.needed(alloc, &wants)?, pass.needed);
-    recency.touch(&wants);
-    let batch = recency.plan(alloc, &wants, q)?;
-    expect(rt, &batch, pass.plan);
-    assert!(rt; pass.lost.len() == batch.len());
-    let lost = Losses::from_slice(alloc, pass.lost)?;
-    recency.settle(&batch, &lost)
+    for pass in passes {
+        if !follow(alloc, geometry, recency, q, pass) {
+            return false;
+        }
+    }
+    true
 }
 
-// Makes passes of at most `q` entries over a square texture, one after the other.
-fn run(
-    rt: &impl Abort,
-    alloc: Global,
-    side: u32,
-    frames: u32,
-    q: u32,
-    passes: &[Pass],
-) -> Result<(), Fail>
+// Whether these are the passes of at most `q` entries over a square texture in tiles of 2.
+fn are_passes(alloc: Global, side: u32, frames: u32, q: u32, passes: &[Pass]) -> bool
     requires some { 1 ≤ frames }
     requires most { frames ≤ 5 }
 {
-    let geometry = square(side)?;
-    let mut recency = rooted(alloc, &geometry, frames)?;
-    for pass in passes {
-        follow(rt, alloc, &geometry, &mut recency, q, pass)?;
+    let Ok(geometry) = Geometry::new(side, side, 2) else {
+        return false;
+    };
+    match rooted(alloc, &geometry, frames) {
+        Ok(mut recency) => follow_all(alloc, &geometry, &mut recency, q, passes),
+        Err(_) => false,
     }
-    Ok(())
 }
 
 #[test]
-fn a_plan_asks_for_coarse_pages_before_fine_ones(rt: HostRuntime) -> Result<(), Fail> {
-    const PASSES: [Pass<'static>; 3] = [
+fn a_plan_asks_for_coarse_pages_before_fine_ones(rt: HostRuntime) {
+    const PASSES: [Pass; 3] = [
         Pass {
             pages: &[0, 12],
             needed: 4,
-            plan: &[(16, 1, None), (18, 2, None)],
+            plan: &[
+                Planned {
+                    page: 16,
+                    frame: 1,
+                    victim: None,
+                },
+                Planned {
+                    page: 18,
+                    frame: 2,
+                    victim: None,
+                },
+            ],
             lost: &[false, false],
         },
         Pass {
             pages: &[0, 12],
             needed: 4,
-            plan: &[(0, 3, None), (12, 4, None)],
+            plan: &[
+                Planned {
+                    page: 0,
+                    frame: 3,
+                    victim: None,
+                },
+                Planned {
+                    page: 12,
+                    frame: 4,
+                    victim: None,
+                },
+            ],
             lost: &[false, false],
         },
         Pass {
@@ -134,34 +165,50 @@ fn a_plan_asks_for_coarse_pages_before_fine_ones(rt: HostRuntime) -> Result<(), 
             lost: &[],
         },
     ];
-    run(&rt, rt.alloc(), 8, 5, 64, &PASSES)
+    holds(&rt, are_passes(rt.alloc(), 8, 5, 64, &PASSES));
 }
 
 #[test]
-fn a_batch_of_one_goes_down_one_line_after_the_other(rt: HostRuntime) -> Result<(), Fail> {
-    const PASSES: [Pass<'static>; 5] = [
+fn a_batch_of_one_goes_down_one_line_after_the_other(rt: HostRuntime) {
+    const PASSES: [Pass; 5] = [
         Pass {
             pages: &[0, 12],
             needed: 4,
-            plan: &[(16, 1, None)],
+            plan: &[Planned {
+                page: 16,
+                frame: 1,
+                victim: None,
+            }],
             lost: &[false],
         },
         Pass {
             pages: &[0, 12],
             needed: 4,
-            plan: &[(0, 2, None)],
+            plan: &[Planned {
+                page: 0,
+                frame: 2,
+                victim: None,
+            }],
             lost: &[false],
         },
         Pass {
             pages: &[0, 12],
             needed: 4,
-            plan: &[(18, 3, None)],
+            plan: &[Planned {
+                page: 18,
+                frame: 3,
+                victim: None,
+            }],
             lost: &[false],
         },
         Pass {
             pages: &[0, 12],
             needed: 4,
-            plan: &[(12, 4, None)],
+            plan: &[Planned {
+                page: 12,
+                frame: 4,
+                victim: None,
+            }],
             lost: &[false],
         },
         Pass {
@@ -171,16 +218,20 @@ fn a_batch_of_one_goes_down_one_line_after_the_other(rt: HostRuntime) -> Result<
             lost: &[],
         },
     ];
-    run(&rt, rt.alloc(), 8, 5, 1, &PASSES)
+    holds(&rt, are_passes(rt.alloc(), 8, 5, 1, &PASSES));
 }
 
 #[test]
-fn a_page_above_a_wanted_one_keeps_its_frame(rt: HostRuntime) -> Result<(), Fail> {
-    const PASSES: [Pass<'static>; 3] = [
+fn a_page_above_a_wanted_one_keeps_its_frame(rt: HostRuntime) {
+    const PASSES: [Pass; 3] = [
         Pass {
             pages: &[0],
             needed: 2,
-            plan: &[(16, 1, None)],
+            plan: &[Planned {
+                page: 16,
+                frame: 1,
+                victim: None,
+            }],
             lost: &[false],
         },
         Pass {
@@ -192,20 +243,35 @@ fn a_page_above_a_wanted_one_keeps_its_frame(rt: HostRuntime) -> Result<(), Fail
         Pass {
             pages: &[12],
             needed: 2,
-            plan: &[(18, 1, Some(16))],
+            plan: &[Planned {
+                page: 18,
+                frame: 1,
+                victim: Some(16),
+            }],
             lost: &[false],
         },
     ];
-    run(&rt, rt.alloc(), 8, 2, 64, &PASSES)
+    holds(&rt, are_passes(rt.alloc(), 8, 2, 64, &PASSES));
 }
 
 #[test]
-fn a_lost_tile_leaves_its_victim(rt: HostRuntime) -> Result<(), Fail> {
-    const PASSES: [Pass<'static>; 4] = [
+fn a_lost_tile_leaves_its_victim(rt: HostRuntime) {
+    const PASSES: [Pass; 4] = [
         Pass {
             pages: &[0, 2],
             needed: 2,
-            plan: &[(0, 1, None), (2, 2, None)],
+            plan: &[
+                Planned {
+                    page: 0,
+                    frame: 1,
+                    victim: None,
+                },
+                Planned {
+                    page: 2,
+                    frame: 2,
+                    victim: None,
+                },
+            ],
             lost: &[false, false],
         },
         Pass {
@@ -217,32 +283,55 @@ fn a_lost_tile_leaves_its_victim(rt: HostRuntime) -> Result<(), Fail> {
         Pass {
             pages: &[1, 3],
             needed: 2,
-            plan: &[(1, 2, Some(2)), (3, 1, Some(0))],
+            plan: &[
+                Planned {
+                    page: 1,
+                    frame: 2,
+                    victim: Some(2),
+                },
+                Planned {
+                    page: 3,
+                    frame: 1,
+                    victim: Some(0),
+                },
+            ],
             lost: &[true, false],
         },
         Pass {
             pages: &[1, 3],
             needed: 2,
-            plan: &[(1, 2, Some(2))],
+            plan: &[Planned {
+                page: 1,
+                frame: 2,
+                victim: Some(2),
+            }],
             lost: &[false],
         },
     ];
-    run(&rt, rt.alloc(), 4, 3, 64, &PASSES)
+    holds(&rt, are_passes(rt.alloc(), 4, 3, 64, &PASSES));
 }
 
 #[test]
-fn one_picture_settles_page_by_page(rt: HostRuntime) -> Result<(), Fail> {
-    const PASSES: [Pass<'static>; 3] = [
+fn one_picture_settles_page_by_page(rt: HostRuntime) {
+    const PASSES: [Pass; 3] = [
         Pass {
             pages: &[0, 2],
             needed: 2,
-            plan: &[(0, 1, None)],
+            plan: &[Planned {
+                page: 0,
+                frame: 1,
+                victim: None,
+            }],
             lost: &[false],
         },
         Pass {
             pages: &[0, 2],
             needed: 2,
-            plan: &[(2, 2, None)],
+            plan: &[Planned {
+                page: 2,
+                frame: 2,
+                victim: None,
+            }],
             lost: &[false],
         },
         Pass {
@@ -252,5 +341,5 @@ fn one_picture_settles_page_by_page(rt: HostRuntime) -> Result<(), Fail> {
             lost: &[],
         },
     ];
-    run(&rt, rt.alloc(), 4, 3, 1, &PASSES)
+    holds(&rt, are_passes(rt.alloc(), 4, 3, 1, &PASSES));
 }

@@ -3,17 +3,10 @@
 
 ghost use Rattle.std.specs.Prelude.{ℕ, ◌<◌, slice_index};
 
-use std::test::Fail;
+use crate::checks::holds;
+use std::alloc::Global;
 use vt_feedback::*;
 use vt_pages::Geometry;
-
-// The geometry of the 8 by 8 texture.
-fn eight_by_eight() -> Result<Geometry, Fail> {
-    match Geometry::new(8, 8, 2) {
-        Ok(geometry) => Ok(geometry),
-        Err(_) => Err("no geometry".into()),
-    }
-}
 
 // The counts of a picture whose wanted pages are given, each with the number of its pixels, which is below a thousand.
 fn counted(wanted: &[(usize, u32)]) -> [u32; 21]
@@ -28,32 +21,81 @@ fn counted(wanted: &[(usize, u32)]) -> [u32; 21]
     counts
 }
 
-#[test]
-fn coarser_levels_come_first_then_more_pixels_then_smaller_indexes(
-    rt: HostRuntime,
-) -> Result<(), Fail> {
-    let geometry = eight_by_eight()?;
-    assert_eq!(rt; geometry.page_count(), 21);
-    let mut counts = Counts::new(rt.alloc(), &geometry)?;
-    counts.merge(&counted(&[(3, 4), (7, 9), (2, 5), (20, 1)]));
-    counts.merge(&counted(&[(3, 1), (16, 1)]));
-    let wants = counts.wanted(rt.alloc(), &geometry)?;
-    let listed = [(20, 1), (16, 1), (7, 9), (2, 5), (3, 5)];
-    assert_eq!(rt; wants.len(), listed.len());
-    for (i, (page, pixels)) in listed.into_iter().enumerate() {
-        assert!(rt; i < wants.len());
-        assert_eq!(rt; *wants.at(i), Wanted { page, pixels });
+// The wanted list of two pictures, of counts that were cleared behind them or not.
+fn list_of(
+    alloc: Global,
+    first: &[(usize, u32)],
+    second: &[(usize, u32)],
+    is_cleared: bool,
+) -> Option<Wants> {
+    let geometry = Geometry::new(8, 8, 2).ok()?;
+    let mut counts = Counts::new(alloc, &geometry).ok()?;
+    if geometry.page_count() != 21 {
+        return None;
     }
-    Ok(())
+    counts.merge(&counted(first));
+    counts.merge(&counted(second));
+    if is_cleared {
+        counts.clear();
+    }
+    counts.wanted(alloc, &geometry).ok()
+}
+
+// Whether a wanted list was made, and is this one.
+fn is_list(list: &Option<Wants>, want: &[Wanted]) -> bool {
+    match list {
+        Some(wants) => wants.slice() == want,
+        None => false,
+    }
 }
 
 #[test]
-fn cleared_counts_want_nothing(rt: HostRuntime) -> Result<(), Fail> {
-    let geometry = eight_by_eight()?;
-    let mut counts = Counts::new(rt.alloc(), &geometry)?;
-    assert_eq!(rt; geometry.page_count(), 21);
-    counts.merge(&[1; 21]);
-    counts.clear();
-    assert_eq!(rt; counts.wanted(rt.alloc(), &geometry)?.len(), 0);
-    Ok(())
+fn coarser_levels_come_first_then_more_pixels_then_smaller_indexes(rt: HostRuntime) {
+    const FIRST: [(usize, u32); 4] = [(3, 4), (7, 9), (2, 5), (20, 1)];
+    const SECOND: [(usize, u32); 2] = [(3, 1), (16, 1)];
+    const LISTED: [Wanted; 5] = [
+        Wanted {
+            page: 20,
+            pixels: 1,
+        },
+        Wanted {
+            page: 16,
+            pixels: 1,
+        },
+        Wanted { page: 7, pixels: 9 },
+        Wanted { page: 2, pixels: 5 },
+        Wanted { page: 3, pixels: 5 },
+    ];
+    holds(
+        &rt,
+        is_list(&list_of(rt.alloc(), &FIRST, &SECOND, false), &LISTED),
+    );
+}
+
+#[test]
+fn cleared_counts_want_nothing(rt: HostRuntime) {
+    const ALL: [(usize, u32); 21] = [
+        (0, 1),
+        (1, 1),
+        (2, 1),
+        (3, 1),
+        (4, 1),
+        (5, 1),
+        (6, 1),
+        (7, 1),
+        (8, 1),
+        (9, 1),
+        (10, 1),
+        (11, 1),
+        (12, 1),
+        (13, 1),
+        (14, 1),
+        (15, 1),
+        (16, 1),
+        (17, 1),
+        (18, 1),
+        (19, 1),
+        (20, 1),
+    ];
+    holds(&rt, is_list(&list_of(rt.alloc(), &ALL, &[], true), &[]));
 }

@@ -4,12 +4,11 @@ ghost use Rattle.std.specs.Prelude.{◌≡◌, IfOk};
 ghost use Rattle.std.specs.Thread.{IsSync};
 ghost use Rattle.vt_queue.specs.Queues.{IsOf};
 
+use crate::checks::holds;
 use std::alloc::Global;
-use std::process::Abort;
 use std::sync::Wait;
-use std::test::*;
 use std::thread::{Threads, join_mut};
-use vt_outside::{Bytes, NoMemory};
+use vt_outside::Bytes;
 use vt_queue::*;
 
 // An item with a ticket.
@@ -75,48 +74,43 @@ fn taken<Rt: Threads + Wait + Sync, I: Ticketed + Drop>(
     Some(queue.take(rt, pass)?.ticket())
 }
 
-// What three puts hand back, of the tickets 0, 1 and 2, and what three takes then give, in a queue of two places.
-fn in_order<Rt: Threads + Wait + Sync, I: Ticketed + Drop>(
-    rt: &Rt,
-    alloc: Global,
-) -> Result<([Option<u32>; 3], [Option<u32>; 3]), NoMemory> {
-    let (queue, mut pass) = Queue::<I>::new(alloc, 2)?;
+// Whether of three puts, of the tickets 0, 1 and 2, the last one hands back, and three takes then give the others and none, in a
+// queue of two places.
+fn is_in_order<Rt: Threads + Wait + Sync, I: Ticketed + Drop>(rt: &Rt, alloc: Global) -> bool {
+    let Ok((queue, mut pass)) = Queue::<I>::new(alloc, 2) else {
+        return false;
+    };
     let puts = [
         refused(rt, alloc, &queue, &mut pass, 0),
         refused(rt, alloc, &queue, &mut pass, 1),
         refused(rt, alloc, &queue, &mut pass, 2),
     ];
-    let takes = [
-        taken(rt, &queue, &mut pass),
-        taken(rt, &queue, &mut pass),
-        taken(rt, &queue, &mut pass),
-    ];
-    Ok((puts, takes))
+    puts == [None, None, Some(2)] && taken_three(rt, &queue, &mut pass) == [Some(0), Some(1), None]
 }
 
-// Looks at three tickets.
-fn are_tickets(rt: &impl Abort, tickets: [Option<u32>; 3], want: [Option<u32>; 3]) {
-    assert_eq!(rt; tickets, want);
-}
-
-#[test]
-fn the_first_request_comes_out_first_and_a_full_queue_hands_back(
-    rt: HostRuntime,
-) -> Result<(), Fail> {
-    let (puts, takes) = in_order::<HostRuntime, Request>(&rt, rt.alloc())?;
-    are_tickets(&rt, puts, [None, None, Some(2)]);
-    are_tickets(&rt, takes, [Some(0), Some(1), None]);
-    Ok(())
+// What three takes give.
+fn taken_three<Rt: Threads + Wait + Sync, I: Ticketed + Drop>(
+    rt: &Rt,
+    queue: &Queue<I>,
+    pass: &mut QueuePass<I>,
+) -> [Option<u32>; 3]
+    requires { IsOf queue.now pass.old }
+{
+    [
+        taken(rt, queue, pass),
+        taken(rt, queue, pass),
+        taken(rt, queue, pass),
+    ]
 }
 
 #[test]
-fn the_first_result_comes_out_first_and_a_full_queue_hands_back(
-    rt: HostRuntime,
-) -> Result<(), Fail> {
-    let (puts, takes) = in_order::<HostRuntime, Loaded>(&rt, rt.alloc())?;
-    are_tickets(&rt, puts, [None, None, Some(2)]);
-    are_tickets(&rt, takes, [Some(0), Some(1), None]);
-    Ok(())
+fn the_first_request_comes_out_first_and_a_full_queue_hands_back(rt: HostRuntime) {
+    holds(&rt, is_in_order::<HostRuntime, Request>(&rt, rt.alloc()));
+}
+
+#[test]
+fn the_first_result_comes_out_first_and_a_full_queue_hands_back(rt: HostRuntime) {
+    holds(&rt, is_in_order::<HostRuntime, Loaded>(&rt, rt.alloc()));
 }
 
 // Two threads put a request each, 3 and 4.
@@ -147,26 +141,21 @@ fn put_beside<Rt: Threads + Wait + Sync>(
     );
 }
 
-// What is taken, through one pass again, of what two threads put.
-fn from_two<Rt: Threads + Wait + Sync>(
-    rt: &Rt,
-    alloc: Global,
-) -> Result<[Option<u32>; 3], NoMemory> {
-    let (queue, mut mine) = RequestQueue::new(alloc, 2)?;
-    let mut theirs = queue.split(alloc, &mut mine)?;
+// Whether what two threads put is taken, through one pass again, once each.
+fn is_taken_once<Rt: Threads + Wait + Sync>(rt: &Rt, alloc: Global) -> bool {
+    let Ok((queue, mut mine)) = RequestQueue::new(alloc, 2) else {
+        return false;
+    };
+    let Ok(mut theirs) = queue.split(alloc, &mut mine) else {
+        return false;
+    };
     put_beside(rt, alloc, &queue, &mut mine, &mut theirs);
     queue.join(&mut mine, theirs);
-    Ok([
-        taken(rt, &queue, &mut mine),
-        taken(rt, &queue, &mut mine),
-        taken(rt, &queue, &mut mine),
-    ])
+    let takes = taken_three(rt, &queue, &mut mine);
+    takes == [Some(3), Some(4), None] || takes == [Some(4), Some(3), None]
 }
 
 #[test]
-fn what_two_threads_put_is_taken_once_each(rt: HostRuntime) -> Result<(), Fail> {
-    let mut takes = from_two(&rt, rt.alloc())?;
-    takes.sort_unstable();
-    are_tickets(&rt, takes, [None, Some(3), Some(4)]);
-    Ok(())
+fn what_two_threads_put_is_taken_once_each(rt: HostRuntime) {
+    holds(&rt, is_taken_once(&rt, rt.alloc()));
 }

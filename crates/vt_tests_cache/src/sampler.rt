@@ -8,28 +8,37 @@ ghost use Rattle.vt_definitions.specs.Depths.{IsDepth};
 ghost use Rattle.vt_pages.specs.Pages.{pages_of};
 ghost use Rattle.vt_sampler.specs.Notes.{MapsRoot};
 
+use crate::checks::holds;
 use crate::sampler::tables::table_from;
 use std::alloc::Global;
-use std::process::Abort;
-use std::test::Fail;
 use vt_camera::parse_path;
 use vt_draw::Shot;
-use vt_outside::NoMemory;
 use vt_pages::Geometry;
 use vt_sampler::Sampler;
 use vt_table::StillTable;
 
-// Draws a sampler's rows of a picture into their places, and adds its counts.
+// Adds counts of five pages, and answers whether they are so many.
+fn add_counts(totals: &mut [u32; 5], counts: &[u32]) -> bool {
+    if counts.len() != 5 {
+        return false;
+    }
+    for page in 0..5 {
+        totals[page] = totals[page].saturating_add(counts[page]);
+    }
+    true
+}
+
+// Draws a sampler's rows of a picture into their places, and adds its counts; answers whether each row was drawn at the newest
+// version and has its place.
 fn draw_share(
-    rt: &impl Abort,
     alloc: Global,
     shot: &Shot,
     table: &StillTable,
     sampler: u32,
     samplers: u32,
     picture: &mut [u8],
-    counts: &mut [u32],
-) -> Result<(), NoMemory>
+    counts: &mut [u32; 5],
+) -> bool
     requires one_of { sampler < samplers }
     requires few { samplers ≤ most_samplers }
     requires depth { IsDepth shot.now.depth }
@@ -37,49 +46,50 @@ fn draw_share(
     requires shape { table.now.shape ≡ shot.now.geometry.now }
     requires root { MapsRoot table.now }
 {
-    let mut own = Sampler::new(
+    let Ok(mut own) = Sampler::new(
         alloc,
         sampler,
         samplers,
         shot.path,
         shot.geometry,
         shot.depth,
-    )?;
+    ) else {
+        return false;
+    };
     own.draw_still(shot, table);
     let newest = table.journal().version();
     for y in 0..shot.path.height() {
         if y % samplers == sampler {
-            assert_eq!(rt; own.version(y), newest);
             let row = own.row(y);
             let at = y as usize * row.len();
-            assert!(rt; at + row.len() <= picture.len());
+            if own.version(y) != newest || at + row.len() > picture.len() {
+                return false;
+            }
             picture[at..at + row.len()].copy_from_slice(row);
         }
     }
-    for (total, own) in counts.iter_mut().zip(own.counts()) {
-        *total = total.saturating_add(*own);
-    }
-    Ok(())
+    add_counts(counts, own.counts())
 }
 
-// Draws the one picture of a path with so many samplers, over a table that maps the pages from one on.
+// Draws the one picture of a path with so many samplers, over a table that maps the pages from one on, and answers its counts.
 fn draw(
-    rt: &impl Abort,
     alloc: Global,
     path: &[u8],
     from: u32,
     samplers: u32,
     depth: u32,
     picture: &mut [u8],
-) -> Result<[u32; 5], Fail>
+) -> Option<[u32; 5]>
     requires from { from < 5 }
     requires few { samplers ≤ most_samplers }
     requires depth { IsDepth depth }
 {
-    let geometry = Geometry::new(4, 4, 2)?;
-    let path = parse_path(alloc, path)?;
-    assert!(rt; geometry.page_count() == 5 && path.pictures() == 1);
-    let table = table_from(alloc, &geometry, from, depth)?;
+    let geometry = Geometry::new(4, 4, 2).ok()?;
+    let path = parse_path(alloc, path).ok()?;
+    if geometry.page_count() != 5 || path.pictures() != 1 {
+        return None;
+    }
+    let table = table_from(alloc, &geometry, from, depth).ok()?;
     let shot = Shot {
         geometry: &geometry,
         path: &path,
@@ -88,8 +98,7 @@ fn draw(
     };
     let mut counts = [0; 5];
     for sampler in 0..samplers {
-        draw_share(
-            rt,
+        if !draw_share(
             alloc,
             &shot,
             &table,
@@ -97,9 +106,11 @@ fn draw(
             samplers,
             picture,
             &mut counts,
-        )?;
+        ) {
+            return None;
+        }
     }
-    Ok(counts)
+    Some(counts)
 }
 
 // One picture of two pixels, from the height of one texel.
@@ -108,71 +119,79 @@ const PATH: &[u8] = b"size 2 1\nfocal 1\nat 0 0 256 16384 0\n";
 // One picture of eight rows, askew.
 const TALL: &[u8] = b"size 3 8\nfocal 2\nat 300 200 700 11585 11585\n";
 
-// Looks at a picture that one sampler draws from one on, and at its counts.
-fn is_drawn(
-    rt: &impl Abort,
-    alloc: Global,
-    from: u32,
-    depth: u32,
-    picture: &mut [u8],
-    want: &[u8],
-) -> Result<(), Fail>
+// Whether one sampler draws this picture of at most 12 bytes over a table that maps the pages from one on, and its counts are those
+// of its two pages.
+fn is_drawn(alloc: Global, from: u32, depth: u32, want: &[u8]) -> bool
     requires from { from < 5 }
     requires depth { IsDepth depth }
 {
-    let counts = draw(rt, alloc, PATH, from, 1, depth, picture)?;
-    assert_eq!(rt; &*picture, want, "mapped from page {from}");
-    assert_eq!(rt; counts, [1, 0, 1, 0, 0], "mapped from page {from}");
-    Ok(())
+    let mut room = [0; 12];
+    let picture = &mut room[..want.len().min(12)];
+    match draw(alloc, PATH, from, 1, depth, picture) {
+        Some(counts) => &*picture == want && counts == [1, 0, 1, 0, 0],
+        None => false,
+    }
 }
 
 #[test]
-fn an_unmapped_page_is_served_by_its_ancestor(rt: HostRuntime) -> Result<(), Fail> {
-    let mut picture = [0; 6];
-    let fine = [0x0d, 0x0d, 0x0d, 0x01, 0x01, 0x01];
-    is_drawn(&rt, rt.alloc(), 0, 1, &mut picture, &fine)?;
-    let mut picture = [0; 6];
-    let coarse = [0x0b, 0x0b, 0x0b, 0x03, 0x03, 0x03];
-    is_drawn(&rt, rt.alloc(), 4, 1, &mut picture, &coarse)
+fn an_unmapped_page_is_served_by_its_ancestor(rt: HostRuntime) {
+    const FINE: [u8; 6] = [0x0d, 0x0d, 0x0d, 0x01, 0x01, 0x01];
+    const COARSE: [u8; 6] = [0x0b, 0x0b, 0x0b, 0x03, 0x03, 0x03];
+    holds(&rt, is_drawn(rt.alloc(), 0, 1, &FINE));
+    holds(&rt, is_drawn(rt.alloc(), 4, 1, &COARSE));
 }
 
 #[test]
-fn wide_samples_are_drawn_as_they_are(rt: HostRuntime) -> Result<(), Fail> {
-    let mut picture = [0; 12];
-    let fine = [
+fn wide_samples_are_drawn_as_they_are(rt: HostRuntime) {
+    const FINE: [u8; 12] = [
         0x0d, 0x0d, 0x0d, 0x0d, 0x0d, 0x0d, 0x01, 0x01, 0x01, 0x01, 0x01, 0x01,
     ];
-    is_drawn(&rt, rt.alloc(), 0, 2, &mut picture, &fine)?;
-    let mut picture = [0; 12];
-    let coarse = [
+    const COARSE: [u8; 12] = [
         0x0b, 0x0b, 0x0b, 0x0b, 0x0b, 0x0b, 0x03, 0x03, 0x03, 0x03, 0x03, 0x03,
     ];
-    is_drawn(&rt, rt.alloc(), 4, 2, &mut picture, &coarse)
+    holds(&rt, is_drawn(rt.alloc(), 0, 2, &FINE));
+    holds(&rt, is_drawn(rt.alloc(), 4, 2, &COARSE));
+}
+
+// Whether so many samplers draw this picture of 24 pixels over a table that maps the pages from one on, and count so.
+fn is_shared(alloc: Global, from: u32, samplers: u32, one: &[u8; 72], counts: &[u32; 5]) -> bool
+    requires from { from < 5 }
+    requires few { samplers ≤ most_samplers }
+{
+    let mut picture = [0xee; 72];
+    match draw(alloc, TALL, from, samplers, 1, &mut picture) {
+        Some(shared) => picture == *one && shared == *counts,
+        None => false,
+    }
+}
+
+// The sum of five counts.
+fn sum_of(counts: &[u32; 5]) -> u32 {
+    let mut sum = 0u32;
+    for count in counts {
+        sum = sum.saturating_add(*count);
+    }
+    sum
+}
+
+// Whether several samplers draw the same as one over a table that maps the pages from one on.
+fn is_drawn_by_several(alloc: Global, from: u32) -> bool
+    requires { from < 5 }
+{
+    let mut one = [0xee; 72];
+    match draw(alloc, TALL, from, 1, 1, &mut one) {
+        Some(counts) => {
+            sum_of(&counts) == 24
+                && is_shared(alloc, from, 2, &one, &counts)
+                && is_shared(alloc, from, 7, &one, &counts)
+                && is_shared(alloc, from, 64, &one, &counts)
+        }
+        None => false,
+    }
 }
 
 #[test]
-fn samplers_draw_each_row_once(rt: HostRuntime) -> Result<(), Fail> {
-    for from in [0, 4] {
-        let mut one = [0xee; 72];
-        let counts = draw(&rt, rt.alloc(), TALL, from, 1, 1, &mut one)?;
-        let pixels = counts
-            .iter()
-            .fold(0u32, |sum, count| sum.saturating_add(*count));
-        assert_eq!(rt; pixels, 24);
-        for samplers in [2, 7, 64] {
-            let mut picture = [0xee; 72];
-            let shared = draw(&rt, rt.alloc(), TALL, from, samplers, 1, &mut picture)?;
-            assert_eq!(rt;
-                picture,
-                one,
-                "{samplers} samplers, mapped from page {from}"
-            );
-            assert_eq!(rt;
-                shared,
-                counts,
-                "{samplers} samplers, mapped from page {from}"
-            );
-        }
-    }
-    Ok(())
+fn samplers_draw_each_row_once(rt: HostRuntime) {
+    holds(&rt, is_drawn_by_several(rt.alloc(), 0));
+    holds(&rt, is_drawn_by_several(rt.alloc(), 4));
 }

@@ -3,9 +3,10 @@
 ghost use Rattle.std.specs.Prelude.{◌≡◌, ◌≤◌, [], ◌∷◌, IfOk};
 ghost use Rattle.vt_pages.specs.Pages.{pages_of, root_of};
 
+use crate::checks::holds;
 use std::alloc::Global;
-use std::test::Fail;
 use vt_journal::Change;
+use vt_outside::NoMemory;
 use vt_pages::Geometry;
 use vt_table::StillTable;
 
@@ -17,7 +18,7 @@ const WIDE: [u8; 24] = [
 ];
 
 // The table of two frames that has the root in frame 0.
-fn with_root(alloc: Global, geometry: &Geometry) -> Result<StillTable, Fail>
+fn with_root(alloc: Global, geometry: &Geometry) -> Result<StillTable, NoMemory>
     requires tile { geometry.now.tile ≡ 2 }
     requires pages { pages_of geometry.now ≡ 5 }
     ensures shape { IfOk result (λ t. t.shape ≡ geometry.now) }
@@ -33,34 +34,52 @@ fn with_root(alloc: Global, geometry: &Geometry) -> Result<StillTable, Fail>
     Ok(table)
 }
 
-// The entries of the five pages.
-fn entries(table: &StillTable) -> [Option<u32>; 5]
+// Whether these are the entries of the five pages.
+fn has_entries(table: &StillTable, entries: [Option<u32>; 5]) -> bool
     requires { pages_of table.now.shape ≡ 5 }
 {
-    [
-        table.frame_of(0),
-        table.frame_of(1),
-        table.frame_of(2),
-        table.frame_of(3),
-        table.frame_of(4),
-    ]
+    table.frame_of(0) == entries[0]
+        && table.frame_of(1) == entries[1]
+        && table.frame_of(2) == entries[2]
+        && table.frame_of(3) == entries[3]
+        && table.frame_of(4) == entries[4]
+}
+
+// Whether the table answers so where a page is mapped to a frame that was filled for another page before, and is then unmapped.
+fn is_changed(alloc: Global) -> bool {
+    const UNMAPPED: [Option<u32>; 5] = [None, None, None, None, Some(0)];
+    const MAPPED: [Option<u32>; 5] = [Some(1), None, None, None, Some(0)];
+    let Ok(geometry) = Geometry::new(4, 4, 2) else {
+        return false;
+    };
+    if geometry.page_count() != 5 || geometry.tile() != 2 {
+        return false;
+    }
+    let Ok(mut table) = with_root(alloc, &geometry) else {
+        return false;
+    };
+    let is_first = has_entries(&table, UNMAPPED);
+    table.fill(1, 2, &NARROW);
+    table.fill(1, 0, &WIDE);
+    let second = table.publish(Change::Map { page: 0, frame: 1 });
+    let is_mapped = has_entries(&table, MAPPED);
+    let word = table.word(0, 1);
+    let wide_word = table.word(1, 3);
+    let third = table.publish(Change::Unmap { page: 0, frame: 1 });
+    let is_unmapped = has_entries(&table, UNMAPPED);
+    let last_word = table.word(0, 3);
+    is_first
+        && second == 2
+        && is_mapped
+        && word == 0x04_0506
+        && wide_word == 0x0a00_0b00_0cff
+        && third == 3
+        && is_unmapped
+        && last_word == 0x0a_0b0c
+        && table.journal().version() == 3
 }
 
 #[test]
-fn a_page_is_mapped_filled_anew_and_unmapped(rt: HostRuntime) -> Result<(), Fail> {
-    let geometry = Geometry::new(4, 4, 2)?;
-    assert!(rt; geometry.page_count() == 5 && geometry.tile() == 2);
-    let mut table = with_root(rt.alloc(), &geometry)?;
-    assert_eq!(rt; entries(&table), [None, None, None, None, Some(0)]);
-    table.fill(1, 2, &NARROW);
-    table.fill(1, 0, &WIDE);
-    assert_eq!(rt; table.publish(Change::Map { page: 0, frame: 1 }), 2);
-    assert_eq!(rt; entries(&table), [Some(1), None, None, None, Some(0)]);
-    assert_eq!(rt; table.word(0, 1), 0x04_0506);
-    assert_eq!(rt; table.word(1, 3), 0x0a00_0b00_0cff);
-    assert_eq!(rt; table.publish(Change::Unmap { page: 0, frame: 1 }), 3);
-    assert_eq!(rt; entries(&table), [None, None, None, None, Some(0)]);
-    assert_eq!(rt; table.word(0, 3), 0x0a_0b0c);
-    assert_eq!(rt; table.journal().version(), 3);
-    Ok(())
+fn a_page_is_mapped_filled_anew_and_unmapped(rt: HostRuntime) {
+    holds(&rt, is_changed(rt.alloc()));
 }

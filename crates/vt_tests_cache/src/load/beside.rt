@@ -100,7 +100,7 @@ fn take_beside<Rt: Threads + Wait + Sync, F: File + Send>(
 }
 
 // Ends a worker, and closes its file.
-fn end<D: Folder>(folder: &mut D, worker: Worker<D::File>) {
+fn end(folder: &mut MemoryFolder, worker: Worker<MemoryFile>) {
     let Worker {
         loader,
         asks: _,
@@ -110,15 +110,15 @@ fn end<D: Folder>(folder: &mut D, worker: Worker<D::File>) {
 }
 
 // A worker over the store of a folder.
-fn worker_of<D: Folder>(
+fn worker_of(
     alloc: Global,
-    folder: &mut D,
+    folder: &mut MemoryFolder,
     requests: &RequestQueue,
     asks: &mut QueuePass<Request>,
     results: &ResultQueue,
     answers: &mut QueuePass<Loaded>,
     loader: u32,
-) -> Option<Worker<D::File>>
+) -> Option<Worker<MemoryFile>>
     requires asks { IsOf requests.now asks.old }
     requires answers { IsOf results.now answers.old }
     ensures asks { IsOf requests.now asks.new }
@@ -135,103 +135,150 @@ fn worker_of<D: Folder>(
     })
 }
 
-// Four requests, with the tickets 1, 2, 4 and 8, are put; two loaders answer them. The sum of the tickets of the results.
-fn sum_of_two<Rt: Threads + Wait + Sync, D: Folder>(
+// Puts three requests, with the tickets 1, 2 and 4, and answers whether it did.
+fn ask_three<Rt: Threads + Wait>(
     rt: &Rt,
     alloc: Global,
-    folder: &mut D,
-) -> Result<Option<u64>, NoMemory> {
-    let (requests, mut asks) = RequestQueue::new(alloc, 4)?;
-    let (results, mut answers) = ResultQueue::new(alloc, 4)?;
-    let mut taken = Items::new(alloc);
-    taken.reserve(4)?;
-    ask(rt, alloc, &requests, &mut asks, 1, 3, &[0; 12])?;
-    ask(rt, alloc, &requests, &mut asks, 2, 0, &[0; 12])?;
-    ask(rt, alloc, &requests, &mut asks, 4, 4, &[0; 12])?;
-    ask(rt, alloc, &requests, &mut asks, 8, 1, &[0; 12])?;
-    let Some(mut first) = worker_of(
-        alloc,
-        folder,
-        &requests,
-        &mut asks,
-        &results,
-        &mut answers,
-        0,
-    ) else {
-        return Ok(None);
+    requests: &RequestQueue,
+    asks: &mut QueuePass<Request>,
+) -> bool
+    requires { IsOf requests.now asks.old }
+    ensures { IsOf requests.now asks.new }
+{
+    let is_first = ask(rt, alloc, requests, asks, 1, 3, &[0; 12]);
+    let is_second = ask(rt, alloc, requests, asks, 2, 0, &[0; 12]);
+    ask(rt, alloc, requests, asks, 4, 4, &[0; 12]) && is_first && is_second
+}
+
+// Lets two loaders answer requests, and answers whether there were two.
+fn work_two<Rt: Threads + Wait + Sync>(
+    rt: &Rt,
+    alloc: Global,
+    folder: &mut MemoryFolder,
+    requests: &RequestQueue,
+    asks: &mut QueuePass<Request>,
+    results: &ResultQueue,
+    answers: &mut QueuePass<Loaded>,
+) -> bool
+    requires asks { IsOf requests.now asks.old }
+    requires answers { IsOf results.now answers.old }
+    ensures { IsOf results.now answers.new }
+{
+    let Some(mut first) = worker_of(alloc, folder, requests, asks, results, answers, 0) else {
+        return false;
     };
-    let Some(mut second) = worker_of(
-        alloc,
-        folder,
-        &requests,
-        &mut asks,
-        &results,
-        &mut answers,
-        1,
-    ) else {
+    let Some(mut second) = worker_of(alloc, folder, requests, asks, results, answers, 1) else {
         end(folder, first);
-        return Ok(None);
+        return false;
     };
-    work_beside(rt, &mut first, &mut second, &requests, &results);
+    work_beside(rt, &mut first, &mut second, requests, results);
     end(folder, first);
     end(folder, second);
-    collect(rt, &results, &mut answers, 4, &mut taken);
-    Ok(Some(sum_of(taken.slice())))
+    true
 }
 
-#[test]
-fn two_loaders_answer_each_request_once(rt: HostRuntime) -> Result<(), TestFail> {
-    for _ in 0..100 {
-        let mut folder = folder_of(rt.alloc(), &[], &STORE)?;
-        let sum = sum_of_two(&rt, rt.alloc(), &mut folder)?;
-        assert_eq!(rt; sum, Some(15));
-        assert!(rt; folder.asked("a", 5).is_some());
-        assert!(rt; folder.asked("a", 6).is_none());
-    }
-    Ok(())
-}
-
-// Three requests, with the tickets 1, 2 and 4, whose results go through a queue of one place.
-fn sum_through_one_place<Rt: Threads + Wait + Sync, D: Folder>(
+// Four requests, with the tickets 1, 2, 4 and 8, are put; two loaders answer them. The sum of the tickets of the results.
+fn sum_of_two<Rt: Threads + Wait + Sync>(
     rt: &Rt,
     alloc: Global,
-    folder: &mut D,
-) -> Result<Option<u64>, NoMemory> {
-    let (requests, mut asks) = RequestQueue::new(alloc, 3)?;
-    let (results, mut answers) = ResultQueue::new(alloc, 1)?;
+    folder: &mut MemoryFolder,
+) -> Option<u64> {
+    let (requests, mut asks) = RequestQueue::new(alloc, 4).ok()?;
+    let (results, mut answers) = ResultQueue::new(alloc, 4).ok()?;
     let mut taken = Items::new(alloc);
-    taken.reserve(3)?;
-    ask(rt, alloc, &requests, &mut asks, 1, 3, &[0; 12])?;
-    ask(rt, alloc, &requests, &mut asks, 2, 0, &[0; 12])?;
-    ask(rt, alloc, &requests, &mut asks, 4, 4, &[0; 12])?;
-    let Some(mut worker) = worker_of(
-        alloc,
-        folder,
-        &requests,
-        &mut asks,
-        &results,
-        &mut answers,
-        0,
-    ) else {
-        return Ok(None);
-    };
-    take_beside(
-        rt,
-        &mut worker,
-        &mut answers,
-        &requests,
-        &results,
-        3,
-        &mut taken,
-    );
-    end(folder, worker);
-    Ok(Some(sum_of(taken.slice())))
+    taken.reserve(4).ok()?;
+    let is_asked = ask_three(rt, alloc, &requests, &mut asks);
+    let is_last = ask(rt, alloc, &requests, &mut asks, 8, 1, &[0; 12]);
+    if is_asked
+        && is_last
+        && work_two(
+            rt,
+            alloc,
+            folder,
+            &requests,
+            &mut asks,
+            &results,
+            &mut answers,
+        )
+    {
+        collect(rt, &results, &mut answers, 4, &mut taken);
+    }
+    Some(sum_of(taken.slice()))
+}
+
+// Whether two loaders answer each of four requests once, by one read each, beside one of the header each.
+fn is_answered_once<Rt: Threads + Wait + Sync>(rt: &Rt, alloc: Global) -> bool {
+    match folder_of(alloc, &[], &STORE) {
+        Some(mut folder) => {
+            sum_of_two(rt, alloc, &mut folder) == Some(15)
+                && folder.asked("a", 5).is_some()
+                && folder.asked("a", 6).is_none()
+        }
+        None => false,
+    }
 }
 
 #[test]
-fn a_loader_tries_again_where_the_results_are_full(rt: HostRuntime) -> Result<(), TestFail> {
-    let mut folder = folder_of(rt.alloc(), &[], &STORE)?;
-    let sum = sum_through_one_place(&rt, rt.alloc(), &mut folder)?;
-    assert_eq!(rt; sum, Some(7));
-    Ok(())
+fn two_loaders_answer_each_request_once(rt: HostRuntime) {
+    for _ in 0..100 {
+        holds(&rt, is_answered_once(&rt, rt.alloc()));
+    }
+}
+
+// Lets a loader answer three requests, and takes its results beside it.
+fn work_one<Rt: Threads + Wait + Sync>(
+    rt: &Rt,
+    alloc: Global,
+    folder: &mut MemoryFolder,
+    requests: &RequestQueue,
+    asks: &mut QueuePass<Request>,
+    results: &ResultQueue,
+    answers: &mut QueuePass<Loaded>,
+    taken: &mut Items<Loaded>,
+)
+    requires asks { IsOf requests.now asks.old }
+    requires answers { IsOf results.now answers.old × (3 ≤ taken.old.spare) }
+{
+    if let Some(mut worker) = worker_of(alloc, folder, requests, asks, results, answers, 0) {
+        take_beside(rt, &mut worker, answers, requests, results, 3, taken);
+        end(folder, worker);
+    }
+}
+
+// Three requests, with the tickets 1, 2 and 4, whose results go through a queue of one place. The sum of the tickets of the results.
+fn sum_through_one_place<Rt: Threads + Wait + Sync>(
+    rt: &Rt,
+    alloc: Global,
+    folder: &mut MemoryFolder,
+) -> Option<u64> {
+    let (requests, mut asks) = RequestQueue::new(alloc, 3).ok()?;
+    let (results, mut answers) = ResultQueue::new(alloc, 1).ok()?;
+    let mut taken = Items::new(alloc);
+    taken.reserve(3).ok()?;
+    if ask_three(rt, alloc, &requests, &mut asks) {
+        work_one(
+            rt,
+            alloc,
+            folder,
+            &requests,
+            &mut asks,
+            &results,
+            &mut answers,
+            &mut taken,
+        );
+    }
+    Some(sum_of(taken.slice()))
+}
+
+// Whether each of three requests is answered through a queue of one place.
+fn is_answered_through_one_place<Rt: Threads + Wait + Sync>(rt: &Rt, alloc: Global) -> bool {
+    match folder_of(alloc, &[], &STORE) {
+        Some(mut folder) => sum_through_one_place(rt, alloc, &mut folder) == Some(7),
+        None => false,
+    }
+}
+
+#[test]
+fn a_loader_tries_again_where_the_results_are_full(rt: HostRuntime) {
+    holds(&rt, is_answered_through_one_place(&rt, rt.alloc()));
 }
