@@ -1,206 +1,179 @@
 //! Replays of walks, over a store in memory.
 
-use crate::fixtures::{FOUR, FOUR_PICTURES};
+use crate::cases::{Case, Deed, check};
+use crate::fixtures::{
+    FAR, FINE, FOUR, FOUR_PICTURES, HEADER, LOW, ONE_PICTURE, ROOT_TILE, TILE_0, TILE_2, TILE_3,
+    open_store, pictures_stand,
+};
 use std::alloc::Global;
-use std::test::Fail as TestFail;
-use vt_camera::{Path, parse_path};
-use vt_outside::{Fails, Folder, MemoryFolder, NoMemory, Place};
-use vt_replay::{ReplayError, replay};
-use vt_store::Store;
+use std::process::Abort;
+use vt_camera::Path;
+use vt_outside::{MemoryFolder, NoMemory, Place};
+use vt_replay::replay;
 
-// The journals of the walk that lost a tile: the versions of the second and the fourth row are three each.
-const LOST: [(&[u8], u8, u8); 5] = [
-    (
-        b"map 1 1 0 0 0\npass 1 picture 0 start 1\nrow 0 0 1\npass 2 picture 1 start 1\nmap 2 0 0 0 1\n\
-        map 3 0 0 1 2\nrow 0 0 1\npass 3 picture 2 start 3\nrow 0 0 3\npass 4 picture 3 start 3\n\
-        lost 0 1 0\nunmap 4 0 0 0 1\nmap 5 0 1 1 1\nrow 0 0 3\n",
-        1,
-        3,
-    ),
-    (
-        b"map 1 1 0 0 0\npass 1 picture 0 start 1\nrow 0 0 1\npass 2 picture 1 start 1\nmap 2 0 0 0 1\n\
-        map 3 0 0 1 2\nrow 0 0 2\npass 3 picture 2 start 3\nrow 0 0 3\npass 4 picture 3 start 3\n\
-        lost 0 1 0\nunmap 4 0 0 0 1\nmap 5 0 1 1 1\nrow 0 0 4\n",
-        2,
-        4,
-    ),
-    (
-        b"map 1 1 0 0 0\npass 1 picture 0 start 1\nrow 0 0 1\npass 2 picture 1 start 1\nmap 2 0 0 0 1\n\
-        map 3 0 0 1 2\nrow 0 0 3\npass 3 picture 2 start 3\nrow 0 0 3\npass 4 picture 3 start 3\n\
-        lost 0 1 0\nunmap 4 0 0 0 1\nmap 5 0 1 1 1\nrow 0 0 5\n",
-        3,
-        5,
-    ),
-    (
-        b"map 1 1 0 0 0\npass 1 picture 0 start 1\nrow 0 0 1\npass 2 picture 1 start 1\nmap 2 0 0 0 1\n\
-        map 3 0 0 1 2\nrow 0 0 1\npass 3 picture 2 start 3\nrow 0 0 3\npass 4 picture 3 start 3\n\
-        lost 0 1 0\nunmap 4 0 0 0 1\nmap 5 0 1 1 1\nrow 0 0 5\n",
-        1,
-        5,
-    ),
-    (
-        b"map 1 1 0 0 0\npass 1 picture 0 start 1\nrow 0 0 1\npass 2 picture 1 start 1\nmap 2 0 0 0 1\n\
-        map 3 0 0 1 2\nrow 0 0 3\npass 3 picture 2 start 3\nrow 0 0 3\npass 4 picture 3 start 3\n\
-        lost 0 1 0\nunmap 4 0 0 0 1\nmap 5 0 1 1 1\nrow 0 0 3\n",
-        3,
-        3,
-    ),
-];
-
-// What a replay left: its answer and the folder.
-#[derive(Drop)]
-struct Left {
-    answer: Option<Result<u32, ReplayError>>,
-    folder: MemoryFolder,
+/// A replay of a journal, and what is to stand after it.
+#[derive(Clone, Copy)]
+pub struct Replay<'a> {
+    pub journal: &'a [u8],
+    /// All that are written.
+    pub pictures: &'a [&'a [u8]],
+    /// The places of the store that are asked, where they are looked at.
+    pub asked: Option<&'a [Place]>,
 }
 
-impl Left {
-    fn holds(&self, name: &str, bytes: &[u8]) -> bool {
-        match self.folder.bytes_of(name) {
-            Some(held) => held == bytes,
-            None => false,
-        }
-    }
-
-    // The replay answered a number of pictures.
-    fn wrote(&self, count: u32) -> bool {
-        match self.answer {
-            Some(Ok(pictures)) => pictures == count,
-            _ => false,
-        }
+// Whether the store of a folder was asked for these places, if there are any to look at.
+fn was_asked(folder: &MemoryFolder, asked: Option<&[Place]>) -> bool {
+    match asked {
+        Some(places) => folder.was_asked("s", places),
+        None => true,
     }
 }
 
-fn path_of(alloc: Global, text: &[u8]) -> Result<Path, NoMemory> {
-    match parse_path(alloc, text) {
-        Ok(path) => Ok(path),
-        Err(_) => Err(NoMemory),
-    }
-}
-
-// The replay of a journal over the store of 4x4 texels and a path.
-fn played(alloc: Global, path: &[u8], journal: &[u8]) -> Result<Left, NoMemory> {
-    played_over(alloc, &FOUR, path, journal)
-}
-
-// The replay of a journal over a store and a path.
-fn played_over(alloc: Global, store: &[u8], path: &[u8], journal: &[u8]) -> Result<Left, NoMemory> {
-    let mut folder = MemoryFolder::new(alloc, Fails::new(alloc));
-    folder.add("s.vts", store)?;
-    let path = path_of(alloc, path)?;
-    let answer = answered(alloc, &mut folder, &path, journal);
-    Ok(Left { answer, folder })
-}
-
-// What `replay` answers, over the store of the folder's name `s.vts`, if that is one.
-fn answered(
+/// Replays a journal over the store of a folder: whether all came of it that was to come.
+pub fn replay_comes(
+    rt: &impl Abort,
     alloc: Global,
     folder: &mut MemoryFolder,
     path: &Path,
-    journal: &[u8],
-) -> Option<Result<u32, ReplayError>> {
-    let Ok(file) = folder.open("s.vts") else {
-        return None;
-    };
-    match Store::open(file) {
-        Ok(store) => Some(replay(alloc, folder, store, path, journal, "f")),
-        Err((file, _)) => {
-            folder.close(file);
-            None
+    case: &Replay<'_>,
+) -> bool {
+    let store = open_store(rt, folder, "s");
+    match replay(alloc, folder, store, path, case.journal, "f") {
+        Ok(count) => {
+            count as usize == case.pictures.len()
+                && pictures_stand(folder, case.pictures)
+                && was_asked(folder, case.asked)
         }
+        Err(_) => false,
     }
 }
 
-// The samples of the second picture of the walk that lost a tile, at a version.
-fn second(version: u8) -> &'static [u8] {
-    match version {
-        1 => b"P6\n2 1\n255\n\x0b\x0b\x0b\x03\x03\x03",
-        2 => b"P6\n2 1\n255\n\x0b\x0b\x0b\x01\x01\x01",
-        _ => b"P6\n2 1\n255\n\x0d\x0d\x0d\x01\x01\x01",
-    }
-}
+// The second picture of the walk that lost a tile, at the version 2: only page 0 is mapped beside the root.
+const WITH_PAGE_0: &[u8] = b"P6\n2 1\n255\n\x0b\x0b\x0b\x01\x01\x01";
 
-// The samples of its fourth picture, at a version.
-fn fourth(version: u8) -> &'static [u8] {
-    match version {
-        5 => b"P6\n2 1\n255\n\x0f\x0f\x0f\x05\x05\x05",
-        _ => b"P6\n2 1\n255\n\x0d\x0d\x0d\x05\x05\x05",
-    }
-}
+// The fourth picture of the walk that lost a tile, at the version 5: page 3 is mapped.
+const FAR_WITH_PAGE_3: &[u8] = b"P6\n2 1\n255\n\x0f\x0f\x0f\x05\x05\x05";
 
-#[test]
-fn the_walk_that_lost_a_tile_is_replayed_at_the_versions_of_its_rows(
-    rt: HostRuntime,
-) -> Result<(), TestFail> {
-    for (journal, second_row, fourth_row) in LOST {
-        let left = played(rt.alloc(), FOUR_PICTURES, journal)?;
-        assert!(rt; left.wrote(4));
-        assert!(rt; left.holds("f0000.ppm", b"P6\n2 1\n255\n\x0b\x0b\x0b\x03\x03\x03"));
-        assert!(rt; left.holds("f0001.ppm", second(second_row)));
-        assert!(rt; left.holds("f0002.ppm", b"P6\n2 1\n255\n\x0d\x0d\x0d\x05\x05\x05"));
-        assert!(rt; left.holds("f0003.ppm", fourth(fourth_row)));
-    }
-    Ok(())
-}
-
-// A read of the tile of a page of that store.
-fn tile_read(page: u8) -> Place {
-    Place {
-        at: 16 + 12 * u64::from(page),
-        len: 12,
-        failed: false,
-    }
-}
-
-const HEADER: Place = Place {
-    at: 0,
-    len: 16,
-    failed: false,
+// The replays of the walk that lost a tile, by the versions of the second and of the fourth row, which are three each.
+const AT_1_AND_3: Replay<'_> = Replay {
+    journal: b"map 1 1 0 0 0\npass 1 picture 0 start 1\nrow 0 0 1\npass 2 picture 1 start 1\nmap 2 0 0 0 1\n\
+        map 3 0 0 1 2\nrow 0 0 1\npass 3 picture 2 start 3\nrow 0 0 3\npass 4 picture 3 start 3\n\
+        lost 0 1 0\nunmap 4 0 0 0 1\nmap 5 0 1 1 1\nrow 0 0 3\n",
+    pictures: &[LOW, LOW, FAR, FAR],
+    asked: None,
 };
 
+const AT_3_AND_5: Replay<'_> = Replay {
+    journal: b"map 1 1 0 0 0\npass 1 picture 0 start 1\nrow 0 0 1\npass 2 picture 1 start 1\nmap 2 0 0 0 1\n\
+        map 3 0 0 1 2\nrow 0 0 3\npass 3 picture 2 start 3\nrow 0 0 3\npass 4 picture 3 start 3\n\
+        lost 0 1 0\nunmap 4 0 0 0 1\nmap 5 0 1 1 1\nrow 0 0 5\n",
+    pictures: &[LOW, FINE, FAR, FAR_WITH_PAGE_3],
+    ..AT_1_AND_3
+};
+
+const AT_2_AND_4: Replay<'_> = Replay {
+    journal: b"map 1 1 0 0 0\npass 1 picture 0 start 1\nrow 0 0 1\npass 2 picture 1 start 1\nmap 2 0 0 0 1\n\
+        map 3 0 0 1 2\nrow 0 0 2\npass 3 picture 2 start 3\nrow 0 0 3\npass 4 picture 3 start 3\n\
+        lost 0 1 0\nunmap 4 0 0 0 1\nmap 5 0 1 1 1\nrow 0 0 4\n",
+    pictures: &[LOW, WITH_PAGE_0, FAR, FAR],
+    ..AT_1_AND_3
+};
+
+const AT_1_AND_5: Replay<'_> = Replay {
+    journal: b"map 1 1 0 0 0\npass 1 picture 0 start 1\nrow 0 0 1\npass 2 picture 1 start 1\nmap 2 0 0 0 1\n\
+        map 3 0 0 1 2\nrow 0 0 1\npass 3 picture 2 start 3\nrow 0 0 3\npass 4 picture 3 start 3\n\
+        lost 0 1 0\nunmap 4 0 0 0 1\nmap 5 0 1 1 1\nrow 0 0 5\n",
+    pictures: &[LOW, LOW, FAR, FAR_WITH_PAGE_3],
+    ..AT_1_AND_3
+};
+
+const AT_3_AND_3: Replay<'_> = Replay {
+    journal: b"map 1 1 0 0 0\npass 1 picture 0 start 1\nrow 0 0 1\npass 2 picture 1 start 1\nmap 2 0 0 0 1\n\
+        map 3 0 0 1 2\nrow 0 0 3\npass 3 picture 2 start 3\nrow 0 0 3\npass 4 picture 3 start 3\n\
+        lost 0 1 0\nunmap 4 0 0 0 1\nmap 5 0 1 1 1\nrow 0 0 3\n",
+    pictures: &[LOW, FINE, FAR, FAR],
+    ..AT_1_AND_3
+};
+
+// A replay along the path of that walk.
+const LOST_TILE: Case<'_> = Case {
+    store: &FOUR,
+    path: FOUR_PICTURES,
+    fails: &[],
+    deed: Deed::Replay(AT_1_AND_3),
+};
+
+static VERSIONS: [Case<'static>; 5] = [
+    LOST_TILE,
+    Case {
+        deed: Deed::Replay(AT_2_AND_4),
+        ..LOST_TILE
+    },
+    Case {
+        deed: Deed::Replay(AT_3_AND_5),
+        ..LOST_TILE
+    },
+    Case {
+        deed: Deed::Replay(AT_1_AND_5),
+        ..LOST_TILE
+    },
+    Case {
+        deed: Deed::Replay(AT_3_AND_3),
+        ..LOST_TILE
+    },
+];
+
 #[test]
-fn a_tile_is_read_when_a_row_first_needs_it(rt: HostRuntime) -> Result<(), TestFail> {
-    let left = played(rt.alloc(), FOUR_PICTURES, LOST[0].0)?;
-    assert!(rt; left.wrote(4));
-    assert!(rt; left.folder.was_asked("s.vts", &[HEADER, tile_read(4)]));
-    let left = played(rt.alloc(), FOUR_PICTURES, LOST[2].0)?;
-    assert!(rt; left.wrote(4));
-    let reads = [
-        HEADER,
-        tile_read(4),
-        tile_read(2),
-        tile_read(0),
-        tile_read(3),
-    ];
-    assert!(rt; left.folder.was_asked("s.vts", &reads));
-    Ok(())
+fn the_walk_that_lost_a_tile_is_replayed_at_the_versions_of_its_rows(rt: HostRuntime) {
+    check(&rt, rt.alloc(), &VERSIONS);
 }
 
-// Three pictures from one place.
-const STILL_PATH: &[u8] =
-    b"size 2 1\nfocal 1\nat 0 0 256 16384 0\nat 0 0 256 16384 0\nat 0 0 256 16384 0\n";
-
-// Two frames: the root stays in one, and a page comes back to the other after another page was there.
-const TAKING_TURNS: &[u8] = b"map 1 1 0 0 0\npass 1 picture 0 start 1\nmap 2 0 0 0 1\nrow 0 0 2\n\
-        pass 2 picture 1 start 2\nunmap 3 0 0 0 1\nmap 4 0 0 1 1\nrow 0 0 4\n\
-        pass 3 picture 2 start 4\nunmap 5 0 0 1 1\nmap 6 0 0 0 1\nrow 0 0 6\n";
+static FIRST_NEEDS: [Case<'static>; 2] = [
+    Case {
+        deed: Deed::Replay(Replay {
+            asked: Some(&[HEADER, ROOT_TILE]),
+            ..AT_1_AND_3
+        }),
+        ..LOST_TILE
+    },
+    Case {
+        deed: Deed::Replay(Replay {
+            asked: Some(&[HEADER, ROOT_TILE, TILE_2, TILE_0, TILE_3]),
+            ..AT_3_AND_5
+        }),
+        ..LOST_TILE
+    },
+];
 
 #[test]
-fn a_tile_that_was_put_out_is_read_again(rt: HostRuntime) -> Result<(), TestFail> {
-    let left = played(rt.alloc(), STILL_PATH, TAKING_TURNS)?;
-    assert!(rt; left.wrote(3));
-    assert!(rt; left.holds("f0000.ppm", b"P6\n2 1\n255\n\x0b\x0b\x0b\x01\x01\x01"));
-    assert!(rt; left.holds("f0001.ppm", b"P6\n2 1\n255\n\x0d\x0d\x0d\x03\x03\x03"));
-    assert!(rt; left.holds("f0002.ppm", b"P6\n2 1\n255\n\x0b\x0b\x0b\x01\x01\x01"));
-    let reads = [
-        HEADER,
-        tile_read(4),
-        tile_read(0),
-        tile_read(2),
-        tile_read(0),
-    ];
-    assert!(rt; left.folder.was_asked("s.vts", &reads));
-    Ok(())
+fn a_tile_is_read_when_a_row_first_needs_it(rt: HostRuntime) {
+    check(&rt, rt.alloc(), &FIRST_NEEDS);
+}
+
+// Three pictures from one place, over two frames: the root stays in one, and a page comes back to the other after
+// another page was there.
+const TAKING_TURNS: Replay<'_> = Replay {
+    journal: b"map 1 1 0 0 0\npass 1 picture 0 start 1\nmap 2 0 0 0 1\nrow 0 0 2\n\
+        pass 2 picture 1 start 2\nunmap 3 0 0 0 1\nmap 4 0 0 1 1\nrow 0 0 4\n\
+        pass 3 picture 2 start 4\nunmap 5 0 0 1 1\nmap 6 0 0 0 1\nrow 0 0 6\n",
+    pictures: &[
+        WITH_PAGE_0,
+        b"P6\n2 1\n255\n\x0d\x0d\x0d\x03\x03\x03",
+        WITH_PAGE_0,
+    ],
+    asked: Some(&[HEADER, ROOT_TILE, TILE_0, TILE_2, TILE_0]),
+};
+
+static THREE_FROM_ONE_PLACE: [Case<'static>; 1] = [Case {
+    store: &FOUR,
+    path: b"size 2 1\nfocal 1\nat 0 0 256 16384 0\nat 0 0 256 16384 0\nat 0 0 256 16384 0\n",
+    fails: &[],
+    deed: Deed::Replay(TAKING_TURNS),
+}];
+
+#[test]
+fn a_tile_that_was_put_out_is_read_again(rt: HostRuntime) {
+    check(&rt, rt.alloc(), &THREE_FROM_ONE_PLACE);
 }
 
 // The store of a texture of 32x16 texels for tiles of 16x16, of which each tile has one colour.
@@ -213,15 +186,29 @@ fn wide_store(alloc: Global) -> Result<Vec<u8>, NoMemory> {
     Ok(store)
 }
 
-// A journal that names the last frame that there may be: as many tiles of that side have twice the texels that a walk's frames may have.
-const FAR_FRAME: &[u8] = b"map 1 1 0 0 0\npass 1 picture 0 start 1\nmap 2 0 0 0 65534\nrow 0 0 2\n";
+// A replay of a journal that names the last frame that there may be: as many tiles of that side have twice the texels that a
+// walk's frames may have.
+const FAR_FRAME: Case<'_> = Case {
+    store: &[],
+    path: ONE_PICTURE,
+    fails: &[],
+    deed: Deed::Replay(Replay {
+        journal: b"map 1 1 0 0 0\npass 1 picture 0 start 1\nmap 2 0 0 0 65534\nrow 0 0 2\n",
+        pictures: &[b"P6\n2 1\n255\n\x11\x11\x11\x11\x11\x11"],
+        asked: None,
+    }),
+};
 
 #[test]
-fn a_frame_has_no_room_of_its_own(rt: HostRuntime) -> Result<(), TestFail> {
-    let store = wide_store(rt.alloc())?;
-    let path = b"size 2 1\nfocal 1\nat 0 0 256 16384 0\n".as_slice();
-    let left = played_over(rt.alloc(), store.as_slice(), path, FAR_FRAME)?;
-    assert!(rt; left.wrote(1));
-    assert!(rt; left.holds("f0000.ppm", b"P6\n2 1\n255\n\x11\x11\x11\x11\x11\x11"));
-    Ok(())
+fn a_frame_has_no_room_of_its_own(rt: HostRuntime) {
+    match wide_store(rt.alloc()) {
+        Ok(store) => {
+            let case = Case {
+                store: store.as_slice(),
+                ..FAR_FRAME
+            };
+            check(&rt, rt.alloc(), &[case]);
+        }
+        Err(_) => assert!(rt; false, "there is memory"),
+    }
 }

@@ -7,6 +7,7 @@ ghost use Rattle.vt_store.specs.Format.{tile_start};
 ghost use Rattle.vt_store.specs.StoreViews.{IsStoreIfTold};
 ghost use Rattle.vt_pass.specs.Machines.{told_by, AreStoresFor};
 
+use crate::fixtures::open_store;
 use crate::pass::lawful::root_page;
 use std::alloc::Global;
 use std::process::Abort;
@@ -28,20 +29,14 @@ pub fn read_root<D: Folder>(
         (tile_start result 1 (root_of result)) tile.new) }
     ensures files { D.files folder.new ≡ D.files folder.old }
 {
-    let Ok(file) = folder.open(name) else {
-        panic!(rt; "no file");
-    };
-    let mut store = match Store::open(file) {
-        Ok(store) => store,
-        Err((file, _)) => {
-            folder.close(file);
-            panic!(rt; "no store");
-        }
-    };
+    let mut store = open_store(rt, folder, name);
     let geometry = store.geometry();
-    assert!(rt; geometry.tile() == 2 && store.depth() == 1);
-    assert!(rt; store.reserve(1).is_ok());
-    assert!(rt; store.read_tile(root_page(&geometry), tile).is_ok());
+    assert!(rt;
+        geometry.tile() == 2
+            && store.depth() == 1
+            && store.reserve(1).is_ok()
+            && store.read_tile(root_page(&geometry), tile).is_ok()
+    );
     folder.close(store.into_file());
     geometry
 }

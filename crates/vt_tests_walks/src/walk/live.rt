@@ -1,42 +1,72 @@
 //! Live walks.
 
-use crate::fixtures::{FOUR, FOUR_PICTURES, ONE_PICTURE};
-use crate::walk::worked::{Case, check};
-use crate::walk::{LOW, settings_of};
-use std::test::Fail as TestFail;
+use crate::cases::{Case, Deed, check};
+use crate::fixtures::{FAR, FOUR, FOUR_PICTURES, LOW, ONE_PICTURE};
+use crate::walk::worked::Walk;
 use vt_outside::Fail;
+use vt_pass::Crew;
 use vt_walk::{Mode, Settings, WalkError};
 
-// What the third picture shows while the pages 0 and 2 are mapped.
-const FAR: &[u8] = b"P6\n2 1\n255\n\x0d\x0d\x0d\x05\x05\x05";
+const FEW: Walk<'_> = Walk {
+    settings: Settings {
+        frames: 4,
+        pinned: 2,
+        crew: Crew {
+            samplers: 4,
+            loaders: 3,
+            batch: 64,
+        },
+    },
+    mode: Mode::Live,
+    error: Some(WalkError::TooFewFrames {
+        frames: 4,
+        needed: 5,
+    }),
+    journal: None,
+    log: b"",
+    pictures: &[],
+};
+
+const FEW_SETTLED: Walk<'_> = Walk {
+    mode: Mode::Settled,
+    ..FEW
+};
+
+static FEW_FRAMES: [Case<'static>; 2] = [
+    Case {
+        store: &FOUR,
+        path: ONE_PICTURE,
+        fails: &[],
+        deed: Deed::Walk(FEW),
+    },
+    Case {
+        store: &FOUR,
+        path: ONE_PICTURE,
+        fails: &[],
+        deed: Deed::Walk(FEW_SETTLED),
+    },
+];
 
 #[test]
-fn fewer_frames_than_pinned_pages_are_refused(rt: HostRuntime) -> Result<(), TestFail> {
-    for mode in [Mode::Live, Mode::Settled] {
-        let few = Case {
-            store: &FOUR,
-            path: ONE_PICTURE,
-            settings: Settings {
-                pinned: 2,
-                ..settings_of(4, 4, 3, 64)
-            },
-            mode,
-            fails: &[],
-            error: Some(WalkError::TooFewFrames {
-                frames: 4,
-                needed: 5,
-            }),
-            journal: None,
-            log: b"",
-            pictures: &[],
-        };
-        check(&rt, rt.alloc(), &few)?;
-    }
-    Ok(())
+fn fewer_frames_than_pinned_pages_are_refused(rt: HostRuntime) {
+    check(&rt, rt.alloc(), &FEW_FRAMES);
 }
 
-// Page 1 is lost, in whose place page 2 stays.
-const LOST: &[u8] = b"map 1 1 0 0 0
+// The second read of the third file fails, so page 1 is lost, in whose place page 2 stays.
+const LOST: Walk<'_> = Walk {
+    settings: Settings {
+        frames: 3,
+        pinned: 1,
+        crew: Crew {
+            samplers: 1,
+            loaders: 1,
+            batch: 64,
+        },
+    },
+    mode: Mode::Live,
+    error: None,
+    journal: Some(
+        b"map 1 1 0 0 0
 pass 1 picture 0 start 1
 row 0 0 1
 pass 2 picture 1 start 1
@@ -50,28 +80,28 @@ lost 0 1 0
 unmap 4 0 0 0 1
 map 5 0 1 1 1
 row 0 0 3
-";
-
-#[test]
-fn a_live_walk_goes_on_after_a_lost_tile(rt: HostRuntime) -> Result<(), TestFail> {
-    let lost = Case {
-        store: &FOUR,
-        path: FOUR_PICTURES,
-        settings: settings_of(3, 1, 1, 64),
-        mode: Mode::Live,
-        fails: &[Fail::Read {
-            opening: 2,
-            read: 2,
-        }],
-        error: None,
-        journal: Some(LOST),
-        log: b"picture 0 passes 1 wanted 2 loaded 0 lost 0 evicted 0
+",
+    ),
+    log: b"picture 0 passes 1 wanted 2 loaded 0 lost 0 evicted 0
 picture 1 passes 1 wanted 2 loaded 2 lost 0 evicted 0
 picture 2 passes 1 wanted 2 loaded 0 lost 0 evicted 0
 picture 3 passes 1 wanted 2 loaded 1 lost 1 evicted 1
 end pictures 4 reads 5
 ",
-        pictures: &[LOW, LOW, FAR, FAR],
-    };
-    check(&rt, rt.alloc(), &lost)
+    pictures: &[LOW, LOW, FAR, FAR],
+};
+
+static LOST_TILE: [Case<'static>; 1] = [Case {
+    store: &FOUR,
+    path: FOUR_PICTURES,
+    fails: &[Fail::Read {
+        opening: 2,
+        read: 2,
+    }],
+    deed: Deed::Walk(LOST),
+}];
+
+#[test]
+fn a_live_walk_goes_on_after_a_lost_tile(rt: HostRuntime) {
+    check(&rt, rt.alloc(), &LOST_TILE);
 }

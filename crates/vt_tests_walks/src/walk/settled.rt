@@ -1,23 +1,28 @@
 //! Settled walks.
 
-use crate::fixtures::{FOUR, ONE_PICTURE};
-use crate::walk::worked::{Case, check};
-use crate::walk::{FINE, settings_of};
-use std::test::Fail as TestFail;
-use vt_walk::{Mode, WalkError};
+use crate::cases::{Case, Deed, check};
+use crate::fixtures::{FINE, FOUR, ONE_PICTURE};
+use crate::walk::worked::Walk;
+use vt_pass::Crew;
+use vt_walk::{Mode, Settings, WalkError};
 
-#[test]
-fn a_settled_picture_is_the_same_by_any_crew(rt: HostRuntime) -> Result<(), TestFail> {
-    for (samplers, loaders) in [(1, 1), (7, 3)] {
-        let settled = Case {
-            store: &FOUR,
-            path: ONE_PICTURE,
-            settings: settings_of(3, samplers, loaders, 1),
-            mode: Mode::Settled,
-            fails: &[],
-            error: None,
-            journal: Some(
-                b"map 1 1 0 0 0
+const SETTINGS: Settings = Settings {
+    frames: 3,
+    pinned: 1,
+    crew: Crew {
+        samplers: 1,
+        loaders: 1,
+        batch: 1,
+    },
+};
+
+// A picture is settled by one sampler and one loader, in three frames.
+const BY_ONE: Walk<'_> = Walk {
+    settings: SETTINGS,
+    mode: Mode::Settled,
+    error: None,
+    journal: Some(
+        b"map 1 1 0 0 0
 pass 1 picture 0 start 1
 row 0 0 1
 pass 2 picture 0 start 1
@@ -29,33 +34,66 @@ row 0 0 2
 pass 4 picture 0 start 3
 row 0 0 3
 ",
-            ),
-            log: b"picture 0 passes 4 wanted 2 loaded 2 lost 0 evicted 0\nend pictures 1 reads 3\n",
-            pictures: &[FINE],
-        };
-        check(&rt, rt.alloc(), &settled)?;
-    }
-    Ok(())
-}
+    ),
+    log: b"picture 0 passes 4 wanted 2 loaded 2 lost 0 evicted 0\nend pictures 1 reads 3\n",
+    pictures: &[FINE],
+};
+
+const BY_MANY: Walk<'_> = Walk {
+    settings: Settings {
+        crew: Crew {
+            samplers: 7,
+            loaders: 3,
+            batch: 1,
+        },
+        ..SETTINGS
+    },
+    ..BY_ONE
+};
+
+// A walk over the store of four pages for one picture.
+const ONE: Case<'_> = Case {
+    store: &FOUR,
+    path: ONE_PICTURE,
+    fails: &[],
+    deed: Deed::Walk(BY_ONE),
+};
+
+static CREWS: [Case<'static>; 2] = [
+    ONE,
+    Case {
+        deed: Deed::Walk(BY_MANY),
+        ..ONE
+    },
+];
 
 #[test]
-fn a_picture_that_does_not_fit_is_refused_after_its_first_pass(
-    rt: HostRuntime,
-) -> Result<(), TestFail> {
-    let unfit = Case {
-        store: &FOUR,
-        path: ONE_PICTURE,
-        settings: settings_of(2, 1, 1, 1),
-        mode: Mode::Settled,
-        fails: &[],
-        error: Some(WalkError::DoesNotFit {
-            picture: 0,
-            wanted: 2,
-            room: 1,
-        }),
-        journal: Some(b"map 1 1 0 0 0\npass 1 picture 0 start 1\nrow 0 0 1\n"),
-        log: b"",
-        pictures: &[],
-    };
-    check(&rt, rt.alloc(), &unfit)
+fn a_settled_picture_is_the_same_by_any_crew(rt: HostRuntime) {
+    check(&rt, rt.alloc(), &CREWS);
+}
+
+const UNFIT: Walk<'_> = Walk {
+    settings: Settings {
+        frames: 2,
+        ..SETTINGS
+    },
+    error: Some(WalkError::DoesNotFit {
+        picture: 0,
+        wanted: 2,
+        room: 1,
+    }),
+    journal: Some(b"map 1 1 0 0 0\npass 1 picture 0 start 1\nrow 0 0 1\n"),
+    log: b"",
+    pictures: &[],
+    ..BY_ONE
+};
+
+static UNFIT_PICTURE: [Case<'static>; 1] = [Case {
+    deed: Deed::Walk(UNFIT),
+    ..ONE
+}];
+
+#[test]
+fn a_picture_that_does_not_fit_is_refused_after_its_first_pass(rt: HostRuntime) {
+    check(&rt, rt.alloc(), &UNFIT_PICTURE);
 }

@@ -26,15 +26,15 @@ idle_over g s v k stores told table shape kit its depth same tells holds = recor
   holds = subst (λ (x : ℕ × Option (List ℕ)). HoldsTiles v x.0 x.1) (λ i. (sym depth i, sym (ap (told_by g) same ∙ tells) i)) holds;
 }
 
-pub run_steps-driven-requires-clause-idle : goal.run_steps-driven-requires-clause-idle
-run_steps-driven-requires-clause-idle g c κs within =
+pub run_two-right-requires-clause-idle : goal.run_two-right-requires-clause-idle
+run_two-right-requires-clause-idle g c κs within =
     let s = c.read_root-geometry.result in
-    let told = bytes_at (g.D.Folder.files c.args.folder.now) (97 ∷ []) in
+    let told = bytes_at (g.D.Folder.files c.args.folder.now) (115 ∷ []) in
     let tile : IsTileOf s 1 told (root_of s) c.read_root-geometry.new.tile = record {
       size = c.read_root-geometry.array_long ∙ sym (tile_size s c.read_root-geometry.ensures.side);
       of_store = c.read_root-geometry.ensures.tile;
     } in
-    idle_over g.D.File.File s c.in_ok-table.table c.in-Ok.kit.kit c.stores_of-stores.result.elements told c.in_ok-table.ensures.table
-    c.in_ok-table.ensures.shape c.in-Ok.ensures.kit c.in-Ok.ensures.shape c.in-Ok.ensures.depth c.in-Ok.ensures.stores
-    (c.stores_of-stores.ensures.told ∙ ap (λ (files : Option Files). bytes_at files (97 ∷ [])) c.read_root-geometry.ensures.files)
-    (c.in_ok-table.ensures.holds told tile)
+    idle_over g.D.File.File s c.in-Ok.table c.in-Ok-new.kit.kit c.stores_of-stores.result.elements told c.in-Ok.ensures.table
+    c.in-Ok.ensures.shape c.in-Ok-new.ensures.kit c.in-Ok-new.ensures.shape c.in-Ok-new.ensures.depth c.in-Ok-new.ensures.stores
+    (c.stores_of-stores.ensures.told ∙ ap (λ (files : Option Files). bytes_at files (115 ∷ [])) c.read_root-geometry.ensures.files)
+    (c.in-Ok.ensures.holds told tile)

@@ -11,7 +11,7 @@ use Rattle.vt_store.specs.Format.{tile_length, tile_start}
 use Rattle.vt_pass.specs.Crews.{last_start}
 use Rattle.vt_pass.specs.Machines.{MachineState}
 use Rattle.vt_pass.specs.Passes.{MayPlace}
-use Rattle.vt_tests_walks.proofs.pass.drive_placed.Goals as goal
+use Rattle.vt_tests_walks.proofs.pass.machines.drive_placed.Goals as goal
 
 -- in a machine that maps nothing a page may be placed in the first frame
 may_first : (s : MachineState) (shape : Shape) (page : ℕ) (tile : List ℕ) → s.setup.shape ≡ shape → s.setup.depth ≡ 1 → 1 ≤ s.setup.frames

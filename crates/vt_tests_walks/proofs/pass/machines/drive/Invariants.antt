@@ -1,5 +1,5 @@
 use Rattle.std.proofs.Common.{◌≡◌}
-use Rattle.vt_tests_walks.proofs.pass.driven.drive.Given as goal
+use Rattle.vt_tests_walks.proofs.pass.machines.drive.Given as goal
 
 -- the machine can go on, and was made for what it was
 abbrev pub invariant-loop-step : goal.invariant-loop-step
