@@ -1,4 +1,4 @@
-//! The tests of the crates that make the cache, from the counts of wanted pages to the loaders of tiles. It holds nothing
+//! The tests of the crates that make the cache, from the journal and the counts of wanted pages to the loaders of tiles. It holds nothing
 //! else, and nothing stands on it: a crate with tests is proved twice, and this one costs nothing beside them.
 #![tactic(auto)]
 
@@ -8,6 +8,8 @@ mod checks;
 mod evict;
 #[cfg(test)]
 mod feedback;
+#[cfg(test)]
+mod journal;
 #[cfg(test)]
 mod load;
 #[cfg(test)]

@@ -9,8 +9,6 @@ mod definitions;
 #[cfg(test)]
 mod fixtures;
 #[cfg(test)]
-mod journal;
-#[cfg(test)]
 mod outside;
 #[cfg(test)]
 mod pages;

@@ -1,7 +1,7 @@
 //! Texts that are read as journals, for a texture of four by four texels in tiles of two by two and pictures of one row.
 
 use super::{LOST_TILE, SETTLED};
-use crate::fixtures::{joined, no_row_is_wrong};
+use crate::checks::{joined, no_row_is_wrong};
 use std::alloc::Global;
 use vt_journal::{JournalError, parse_journal};
 use vt_pages::Geometry;

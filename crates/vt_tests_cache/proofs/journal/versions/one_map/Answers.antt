@@ -2,7 +2,7 @@ use Rattle.std.proofs.Common.{◌≡◌, ℕ, List, [], None, Some, ap, sym, ◌
 use Rattle.vt_journal.specs.declared.changes.Change.{Change}
 use Rattle.vt_journal.specs.Changes.{newest}
 use Rattle.vt_journal.proofs.Versions.{newest-none}
-use Rattle.vt_tests_formats.proofs.journal.versions.one_map.Goals as goal
+use Rattle.vt_tests_cache.proofs.journal.versions.one_map.Goals as goal
 
 nothing : (js : List Change) (p : ℕ) → js ≡ [] → newest js p ≡ None
 nothing js p none = ap (λ (js : List Change). newest js p) none ∙ newest-none p

@@ -1,7 +1,7 @@
 use Rattle.std.proofs.Common.{◌≡◌, List, None, Some, ap, sym, ◌∙◌, arith, slice_get}
 use Rattle.vt_journal.specs.declared.changes.Change.{Change}
 use Rattle.vt_journal.specs.declared.changes.Change.TheVariants.{Unmap}
-use Rattle.vt_tests_formats.proofs.journal.writing.empty_head.Goals as goal
+use Rattle.vt_tests_cache.proofs.journal.writing.empty_head.Goals as goal
 
 pub write_head-requires : goal.write_head-requires
 write_head-requires c = record {
