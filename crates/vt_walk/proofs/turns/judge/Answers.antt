@@ -10,3 +10,6 @@ returns-then-passed-room c = record {
   room_is = refl;
   unfit = c.if-passed-room.true;
 }
+
+pub returns : goal.returns
+returns c = record { none_lost = λ settled. omega arith; fits = λ settled. omega arith }

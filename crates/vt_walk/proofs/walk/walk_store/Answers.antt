@@ -1,4 +1,4 @@
-use Rattle.std.proofs.Common.{[], ◌∷◌, Err, ap, sym, subst}
+use Rattle.std.proofs.Common.{[], ◌∷◌, Err, refl, ap, sym, subst, rules}
 use Rattle.vt_pass.specs.Machines.{file_state}
 use Rattle.vt_walk.specs.declared.error.WalkError.{WalkError}
 use Rattle.vt_walk.specs.States.{walk_state}
@@ -40,3 +40,14 @@ returns-in-Err-clause-walked g c =
     (sym c.into.ensures)
     (refused_first g.D.Folder name drawn given kept c.args.folder.now c.open_loaders.new.folder held faults c.in-Err.refusal
     c.open_loaders.ensures.files c.open_loaders.ensures.asked c.open_loaders.ensures.faults (λ is. c.in-Err.ensures.failed (ap Err is)))
+
+pub returns-then-tour-clause-walked : goal.returns-then-tour-clause-walked
+returns-then-tour-clause-walked g c = (
+  search rules,
+  record {
+    frames_are = refl;
+    needed_are = c.requires.tour.pages;
+    few = c.if-tour.true;
+    none = record { files = refl; held = refl };
+  },
+)
