@@ -1,8 +1,10 @@
-use Rattle.std.proofs.Common.{ℕ, ◌+◌, ◌-◌, ◌*◌, ◌/◌, inr, refl, sym, ◌∙◌, subst, arith}
+use Rattle.std.proofs.Common.{ℕ, ◌+◌, ◌-◌, ◌*◌, ◌/◌, inl, inr, refl, sym, ◌∙◌, subst, arith}
 use Rattle.vt_outside.proofs.Untold.{OnErr-all}
 use Rattle.vt_store.specs.Places.{PiecesAsked}
 use Rattle.vt_store.specs.declared.error.StoreError.TheVariants.{Failed}
 use Rattle.vt_store.proofs.WideStores.{some_columns, begun_pages, pages_moved, header_front, none_asked, front_asked, more_asked, piece_tried, piece_is, piece_part, piece_whole, all_done, all_pages, rose_along, no_less, carried, there}
+use Rattle.vt_store.proofs.LevelChain.{refused_by}
+use Rattle.vt_store.proofs.Refusing.{none_made, by_memory, by_outside, by_call, no_fault, no_fewer}
 use Rattle.vt_store.proofs.widen.widen_store.Goals as goal
 
 pub nonzero_div-pieces : goal.nonzero_div-pieces
@@ -160,3 +162,166 @@ returns-clause-all_read g c =
     c.geometry-geometry.ensures.shape c.levels.ensures.limits c.tile_columns-step.ensures.value c.page_count-pages.ensures.pages (omega arith) in
     subst (λ (n : ℕ). PiecesAsked c.args.store.now.shape 1 n (g.D.File.File.asked c.args.store.now.file)
     (g.D.File.File.asked c.loop-piece.store.file)) done.0 c.loop-piece.invariant.read
+
+pub returns-in_err-reserve-clause-whole : goal.returns-in_err-reserve-clause-whole
+returns-in_err-reserve-clause-whole g c = none_made c.from_residual.result _ _ c.from_residual.ensures.1
+
+pub returns-in_err-reserve-clause-part : goal.returns-in_err-reserve-clause-part
+returns-in_err-reserve-clause-part g c = OnErr-all _ _ (inl refl)
+
+pub returns-in_err-reserve-clause-refusals : goal.returns-in_err-reserve-clause-refusals
+returns-in_err-reserve-clause-refusals g c = by_memory c.from_residual.result c.from_residual.ensures.1
+
+pub returns-in_err-reserve-clause-failed : goal.returns-in_err-reserve-clause-failed
+returns-in_err-reserve-clause-failed g c = λ failed. no_fault c.from_residual.result _ c.from_residual.ensures.1 failed
+
+pub returns-in_err-reserve-clause-all_read : goal.returns-in_err-reserve-clause-all_read
+returns-in_err-reserve-clause-all_read g c = none_made c.from_residual.result _ _ c.from_residual.ensures.1
+
+pub returns-in_err-reserve-clause-front_read : goal.returns-in_err-reserve-clause-front_read
+returns-in_err-reserve-clause-front_read g c = OnErr-all _ _
+    (front_asked c.args.store.now.shape 0 (g.D.File.File.asked c.args.store.now.file) (g.D.File.File.asked c.reserve.new.self.file)
+    (omega arith) (none_asked c.args.store.now.shape (g.D.File.File.asked c.args.store.now.file)
+    (g.D.File.File.asked c.reserve.new.self.file) c.reserve.ensures.asked))
+
+pub returns-in_err-reserve-clause-bytes : goal.returns-in_err-reserve-clause-bytes
+returns-in_err-reserve-clause-bytes g c = c.reserve.ensures.bytes
+
+pub returns-in_err-reserve-clause-name : goal.returns-in_err-reserve-clause-name
+returns-in_err-reserve-clause-name g c = c.reserve.ensures.name
+
+pub returns-in_err-reserve-clause-shape : goal.returns-in_err-reserve-clause-shape
+returns-in_err-reserve-clause-shape g c = c.reserve.ensures.shape
+
+pub returns-in_err-reserve-clause-depth : goal.returns-in_err-reserve-clause-depth
+returns-in_err-reserve-clause-depth g c = c.reserve.ensures.depth
+
+pub returns-in_err-reserve-clause-file_faults : goal.returns-in_err-reserve-clause-file_faults
+returns-in_err-reserve-clause-file_faults g c = no_fewer _ _ c.reserve.ensures.faults
+
+pub returns-in_err-reserve-clause-asked : goal.returns-in_err-reserve-clause-asked
+returns-in_err-reserve-clause-asked g c = refl
+
+pub returns-in_err-reserve-clause-faults : goal.returns-in_err-reserve-clause-faults
+returns-in_err-reserve-clause-faults g c = no_fewer _ _ refl
+
+pub returns-in_err-narrow_room-clause-whole : goal.returns-in_err-narrow_room-clause-whole
+returns-in_err-narrow_room-clause-whole g c = none_made c.from_residual-in_err-narrow_room.result _ _ c.from_residual-in_err-narrow_room.ensures.1
+
+pub returns-in_err-narrow_room-clause-part : goal.returns-in_err-narrow_room-clause-part
+returns-in_err-narrow_room-clause-part g c = OnErr-all _ _ (inl refl)
+
+pub returns-in_err-narrow_room-clause-refusals : goal.returns-in_err-narrow_room-clause-refusals
+returns-in_err-narrow_room-clause-refusals g c = by_memory c.from_residual-in_err-narrow_room.result c.from_residual-in_err-narrow_room.ensures.1
+
+pub returns-in_err-narrow_room-clause-failed : goal.returns-in_err-narrow_room-clause-failed
+returns-in_err-narrow_room-clause-failed g c = λ failed. no_fault c.from_residual-in_err-narrow_room.result _ c.from_residual-in_err-narrow_room.ensures.1 failed
+
+pub returns-in_err-narrow_room-clause-all_read : goal.returns-in_err-narrow_room-clause-all_read
+returns-in_err-narrow_room-clause-all_read g c = none_made c.from_residual-in_err-narrow_room.result _ _ c.from_residual-in_err-narrow_room.ensures.1
+
+pub returns-in_err-narrow_room-clause-bytes : goal.returns-in_err-narrow_room-clause-bytes
+returns-in_err-narrow_room-clause-bytes g c = c.reserve.ensures.bytes
+
+pub returns-in_err-narrow_room-clause-name : goal.returns-in_err-narrow_room-clause-name
+returns-in_err-narrow_room-clause-name g c = c.reserve.ensures.name
+
+pub returns-in_err-narrow_room-clause-shape : goal.returns-in_err-narrow_room-clause-shape
+returns-in_err-narrow_room-clause-shape g c = c.reserve.ensures.shape
+
+pub returns-in_err-narrow_room-clause-depth : goal.returns-in_err-narrow_room-clause-depth
+returns-in_err-narrow_room-clause-depth g c = c.reserve.ensures.depth
+
+pub returns-in_err-narrow_room-clause-file_faults : goal.returns-in_err-narrow_room-clause-file_faults
+returns-in_err-narrow_room-clause-file_faults g c = no_fewer _ _ c.reserve.ensures.faults
+
+pub returns-in_err-narrow_room-clause-asked : goal.returns-in_err-narrow_room-clause-asked
+returns-in_err-narrow_room-clause-asked g c = refl
+
+pub returns-in_err-narrow_room-clause-faults : goal.returns-in_err-narrow_room-clause-faults
+returns-in_err-narrow_room-clause-faults g c = no_fewer _ _ refl
+
+pub returns-in_err-wide_room-clause-whole : goal.returns-in_err-wide_room-clause-whole
+returns-in_err-wide_room-clause-whole g c = none_made c.from_residual-in_err-wide_room.result _ _ c.from_residual-in_err-wide_room.ensures.1
+
+pub returns-in_err-wide_room-clause-part : goal.returns-in_err-wide_room-clause-part
+returns-in_err-wide_room-clause-part g c = OnErr-all _ _ (inl refl)
+
+pub returns-in_err-wide_room-clause-refusals : goal.returns-in_err-wide_room-clause-refusals
+returns-in_err-wide_room-clause-refusals g c = by_memory c.from_residual-in_err-wide_room.result c.from_residual-in_err-wide_room.ensures.1
+
+pub returns-in_err-wide_room-clause-failed : goal.returns-in_err-wide_room-clause-failed
+returns-in_err-wide_room-clause-failed g c = λ failed. no_fault c.from_residual-in_err-wide_room.result _ c.from_residual-in_err-wide_room.ensures.1 failed
+
+pub returns-in_err-wide_room-clause-all_read : goal.returns-in_err-wide_room-clause-all_read
+returns-in_err-wide_room-clause-all_read g c = none_made c.from_residual-in_err-wide_room.result _ _ c.from_residual-in_err-wide_room.ensures.1
+
+pub returns-in_err-wide_room-clause-front_read : goal.returns-in_err-wide_room-clause-front_read
+returns-in_err-wide_room-clause-front_read g c = OnErr-all _ _
+    (front_asked c.args.store.now.shape 0 (g.D.File.File.asked c.args.store.now.file) (g.D.File.File.asked c.reserve.new.self.file)
+    (omega arith) (none_asked c.args.store.now.shape (g.D.File.File.asked c.args.store.now.file)
+    (g.D.File.File.asked c.reserve.new.self.file) c.reserve.ensures.asked))
+
+pub returns-in_err-wide_room-clause-bytes : goal.returns-in_err-wide_room-clause-bytes
+returns-in_err-wide_room-clause-bytes g c = c.reserve.ensures.bytes
+
+pub returns-in_err-wide_room-clause-name : goal.returns-in_err-wide_room-clause-name
+returns-in_err-wide_room-clause-name g c = c.reserve.ensures.name
+
+pub returns-in_err-wide_room-clause-shape : goal.returns-in_err-wide_room-clause-shape
+returns-in_err-wide_room-clause-shape g c = c.reserve.ensures.shape
+
+pub returns-in_err-wide_room-clause-depth : goal.returns-in_err-wide_room-clause-depth
+returns-in_err-wide_room-clause-depth g c = c.reserve.ensures.depth
+
+pub returns-in_err-wide_room-clause-file_faults : goal.returns-in_err-wide_room-clause-file_faults
+returns-in_err-wide_room-clause-file_faults g c = no_fewer _ _ c.reserve.ensures.faults
+
+pub returns-in_err-wide_room-clause-asked : goal.returns-in_err-wide_room-clause-asked
+returns-in_err-wide_room-clause-asked g c = refl
+
+pub returns-in_err-wide_room-clause-faults : goal.returns-in_err-wide_room-clause-faults
+returns-in_err-wide_room-clause-faults g c = no_fewer _ _ refl
+
+pub returns-in_err-begin_store-clause-whole : goal.returns-in_err-begin_store-clause-whole
+returns-in_err-begin_store-clause-whole g c = none_made c.from_residual-in_err-begin_store.result _ _ c.from_residual-in_err-begin_store.ensures.1
+
+pub returns-in_err-begin_store-clause-refusals : goal.returns-in_err-begin_store-clause-refusals
+returns-in_err-begin_store-clause-refusals g c = by_outside c.from_residual-in_err-begin_store.result _ c.from_residual-in_err-begin_store.ensures.1
+
+pub returns-in_err-begin_store-clause-failed : goal.returns-in_err-begin_store-clause-failed
+returns-in_err-begin_store-clause-failed g c = λ failed. inl (c.begin_store.ensures.failed (refused_by c.begin_store.result c.from_residual-in_err-begin_store.result _
+    c.in_err-begin_store.was c.from_residual-in_err-begin_store.ensures.1 failed))
+
+pub returns-in_err-begin_store-clause-all_read : goal.returns-in_err-begin_store-clause-all_read
+returns-in_err-begin_store-clause-all_read g c = none_made c.from_residual-in_err-begin_store.result _ _ c.from_residual-in_err-begin_store.ensures.1
+
+pub returns-in_err-begin_store-clause-bytes : goal.returns-in_err-begin_store-clause-bytes
+returns-in_err-begin_store-clause-bytes g c = c.reserve.ensures.bytes
+
+pub returns-in_err-begin_store-clause-name : goal.returns-in_err-begin_store-clause-name
+returns-in_err-begin_store-clause-name g c = c.reserve.ensures.name
+
+pub returns-in_err-begin_store-clause-shape : goal.returns-in_err-begin_store-clause-shape
+returns-in_err-begin_store-clause-shape g c = c.reserve.ensures.shape
+
+pub returns-in_err-begin_store-clause-depth : goal.returns-in_err-begin_store-clause-depth
+returns-in_err-begin_store-clause-depth g c = c.reserve.ensures.depth
+
+pub returns-in_err-begin_store-clause-file_faults : goal.returns-in_err-begin_store-clause-file_faults
+returns-in_err-begin_store-clause-file_faults g c = no_fewer _ _ c.reserve.ensures.faults
+
+pub returns-in_err-begin_store-clause-asked : goal.returns-in_err-begin_store-clause-asked
+returns-in_err-begin_store-clause-asked g c = c.begin_store.ensures.asked
+
+pub returns-in_err-begin_store-clause-faults : goal.returns-in_err-begin_store-clause-faults
+returns-in_err-begin_store-clause-faults g c = c.begin_store.ensures.faults
+
+pub returns-in_err-widen_piece-clause-whole : goal.returns-in_err-widen_piece-clause-whole
+returns-in_err-widen_piece-clause-whole g c = none_made c.from_residual-in_err-widen_piece.result _ _ c.from_residual-in_err-widen_piece.ensures.1
+
+pub returns-in_err-widen_piece-clause-all_read : goal.returns-in_err-widen_piece-clause-all_read
+returns-in_err-widen_piece-clause-all_read g c = none_made c.from_residual-in_err-widen_piece.result _ _ c.from_residual-in_err-widen_piece.ensures.1
+
+pub returns-in_err-widen_piece-clause-refusals : goal.returns-in_err-widen_piece-clause-refusals
+returns-in_err-widen_piece-clause-refusals g c = by_call c.from_residual-in_err-widen_piece.result _ c.from_residual-in_err-widen_piece.ensures.1 c.in_err-widen_piece.ensures.refusals
