@@ -1,9 +1,9 @@
 // Runs of `gen`, and of a command whose option is left out.
-use super::rows::hold;
+use super::files::{FAULT, G4, PATH, USAGE};
+use super::rows::Held::{All, Front};
+use super::rows::{Row, hold};
 use std::test::*;
 use vt_outside::Fail;
-use vt_tests_runs::Held::{All, Front};
-use vt_tests_runs::{FAULT, G4, PATH, Row, USAGE};
 
 // The texture of number 1 with sides of two texels.
 const MADE: &[u8] = b"P6\n2 2\n255\n\x01\x03\x07\x02\x03\x07\x01\x04\x07\x02\x04\x08";

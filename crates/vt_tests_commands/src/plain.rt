@@ -1,11 +1,11 @@
 // Runs of `plain`.
 mod textures;
 
-use super::rows::hold;
+use super::files::{FAULT, G4, PATH, PICTURE, USAGE};
+use super::rows::Held::All;
+use super::rows::{Row, hold};
 use std::test::*;
 use vt_outside::Fail;
-use vt_tests_runs::Held::All;
-use vt_tests_runs::{FAULT, G4, PATH, PICTURE, Row, USAGE};
 
 const END: &[u8] = b"end pictures 1\n";
 

@@ -3,10 +3,10 @@ mod large;
 mod stops;
 mod upgrade;
 
-use super::rows::hold;
+use super::files::{FAULT, G4, G4_STORE, PATH, USAGE};
+use super::rows::Held::{All, Front};
+use super::rows::{Row, hold};
 use std::test::*;
-use vt_tests_runs::Held::{All, Front};
-use vt_tests_runs::{FAULT, G4, G4_STORE, PATH, Row, USAGE};
 
 const G4_LINE: &[u8] = b"store 4 4 tile 2 levels 2 pages 5 bytes 76\n";
 

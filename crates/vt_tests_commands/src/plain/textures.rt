@@ -1,9 +1,9 @@
 // Runs of `plain` over textures of either depth.
-use super::super::rows::hold;
+use super::super::files::{G4, PATH};
+use super::super::rows::Held::{All, Front};
+use super::super::rows::{Row, hold};
 use super::{DRAWS, REFUSES};
 use std::test::*;
-use vt_tests_runs::Held::{All, Front};
-use vt_tests_runs::{G4, PATH, Row};
 
 // Each fault of a texture, with its place.
 static FLAWED: [Row<'static>; 9] = [

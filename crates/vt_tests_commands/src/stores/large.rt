@@ -1,12 +1,13 @@
 // Runs over textures that are large, or whose headers say so.
-use super::super::rows::hold;
+use super::super::files::PATH;
+use super::super::rows::Held::All;
+use super::super::rows::{Row, hold, leaves_in};
+use super::super::runs::Scene;
 use super::{REFUSES, TILES};
 use std::alloc::Global;
 use std::sync::Wait;
 use std::test::*;
 use std::thread::Threads;
-use vt_tests_runs::Held::All;
-use vt_tests_runs::{PATH, Row, Scene, leaves_in};
 
 // So many bytes that are all the same but for a header; none where memory is wanting, and then the rows below fail.
 fn even(alloc: Global, header: &[u8], length: usize, sample: u8) -> Vec<u8> {

@@ -1,10 +1,10 @@
 // Runs of `tile` and `info` that a call stops.
-use super::super::rows::hold;
+use super::super::files::{FAULT, PATH};
+use super::super::rows::Held::{All, Front};
+use super::super::rows::{Row, hold};
 use super::{INFORMS, TILES};
 use std::test::*;
 use vt_outside::Fail;
-use vt_tests_runs::Held::{All, Front};
-use vt_tests_runs::{FAULT, PATH, Row};
 
 // The texture of 4x4 texels with 15 as its maximum, so that its samples are looked over: a read of all its rows. Kept, they are 17 times
 // as large.

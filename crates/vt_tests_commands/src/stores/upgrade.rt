@@ -1,10 +1,10 @@
 // Runs of `upgrade`.
-use super::super::rows::hold;
+use super::super::files::{FAULT, G4, G4_STORE, PATH, USAGE, WIDE_STORE};
+use super::super::rows::Held::{All, Front};
+use super::super::rows::{Row, hold};
 use super::{G4_LINE, INFORMS};
 use std::test::*;
 use vt_outside::Fail;
-use vt_tests_runs::Held::{All, Front};
-use vt_tests_runs::{FAULT, G4, G4_STORE, PATH, Row, USAGE, WIDE_STORE};
 
 const WIDE_LINE: &[u8] = b"store 4 4 tile 2 levels 2 pages 5 bytes 136\n";
 

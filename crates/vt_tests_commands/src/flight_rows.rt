@@ -1,11 +1,13 @@
-// Rows of runs that hold. A test is a static table of rows and a call or two, since each step of a function is proved, and a table has none.
+// Rows of replays, and walks whose journals are replayed.
+use super::files::{G4_STORE, PATH, PICTURE};
+use super::rows::Held::All;
+use super::rows::{Held, Row, adds, hold, leaves, leaves_in};
+use super::runs::Scene;
 use std::alloc::Global;
 use std::process::Abort;
 use std::sync::Wait;
 use std::test::*;
 use std::thread::Threads;
-use vt_tests_runs::Held::All;
-use vt_tests_runs::{G4_STORE, Held, PATH, PICTURE, Row, Scene, adds, leaves, leaves_in};
 
 /// The store of 4x4 texels and the path of one picture.
 pub(super) const OVER_G4: &[(&str, Held<'static>)] = &[
@@ -37,13 +39,6 @@ pub(super) const REPLAY_REFUSES: Row<'static> = Row {
     out: b"",
     ..REPLAYS
 };
-
-/// Each run leaves what its row says.
-pub(super) fn hold(rt: &(impl Abort + Threads + Wait + Sync), alloc: Global, rows: &[Row<'_>]) {
-    for i in 0..rows.len() {
-        assert!(rt; leaves(rt, alloc, &rows[i]), "row {i}");
-    }
-}
 
 // What a replay of so many pictures prints, from 0 to 4.
 fn end_of(pictures: usize) -> &'static [u8] {

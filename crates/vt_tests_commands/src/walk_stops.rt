@@ -1,10 +1,11 @@
 // What stands after each call of a walk that fails.
-use super::rows::{OVER_G4, hold};
+use super::files::{FAULT, PICTURE};
+use super::flight_rows::OVER_G4;
+use super::rows::Held::{All, Front};
+use super::rows::{Row, hold};
 use super::walk_rows::{SETTLED, SETTLED_PASSES, SETTLED_WORDS};
 use std::test::*;
 use vt_outside::Fail;
-use vt_tests_runs::Held::{All, Front};
-use vt_tests_runs::{FAULT, PICTURE, Row};
 
 // A settled walk that a call stops before its journal.
 const STOPS: Row<'static> = Row {

@@ -1,9 +1,9 @@
 // Runs of `trial`.
-use super::rows::hold;
+use super::files::{FAULT, G4, PATH, USAGE};
+use super::rows::Held::All;
+use super::rows::{Row, hold};
 use std::test::*;
 use vt_outside::Fail;
-use vt_tests_runs::Held::All;
-use vt_tests_runs::{FAULT, G4, PATH, Row, USAGE};
 
 // A run of `trial 7` over an empty folder puts its line and leaves the folder as it was. Its passes and its reads are those that the
 // lists of pages give, by `python3 tests/reference.py trial 7`.

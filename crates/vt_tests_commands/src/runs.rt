@@ -1,4 +1,4 @@
-//! A run of the words of a command over a folder in memory.
+// A run of the words of a command over a folder in memory.
 
 use std::alloc::{AllocError, Global};
 use std::sync::Wait;

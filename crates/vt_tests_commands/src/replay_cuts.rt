@@ -1,9 +1,10 @@
 // Replays of a journal that is cut.
-use super::rows::{REPLAY_REFUSES, REPLAYS, hold};
+use super::files::{G4_STORE, PATH, PICTURE};
+use super::flight_rows::{REPLAY_REFUSES, REPLAYS};
+use super::rows::Held::{All, Front};
+use super::rows::{Row, hold};
 use super::walk_rows::{LOW, SETTLED_PASSES};
 use std::test::*;
-use vt_tests_runs::Held::{All, Front};
-use vt_tests_runs::{G4_STORE, PATH, PICTURE, Row};
 
 // The picture while page 0 is mapped, and page 2 is not.
 const HALF: &[u8] = b"P6\n2 1\n255\n\x0b\x0b\x0b\x01\x01\x01";

@@ -1,5 +1,9 @@
 // Runs of `walk`.
-use super::rows::{hold, walk_all};
+use super::files::{FAULT, G4, G4_STORE, PATH, USAGE, WIDE_STORE};
+use super::flight_rows::walk_all;
+use super::rows::Held::All;
+use super::rows::{Row, hold, leaves_in};
+use super::runs::{Scene, play};
 use super::walk_rows::{
     BATCH_OF_TWO, COARSE_TO_FINE, EIGHT_STORE, LOST, ONE_BY_ONE, ONE_PASS, REUSED, SETTLED,
     SETTLED_FOUR, SINGLE, STARVED, WIDE_PICTURE,
@@ -8,8 +12,6 @@ use std::alloc::Global;
 use std::sync::Wait;
 use std::test::*;
 use std::thread::Threads;
-use vt_tests_runs::Held::All;
-use vt_tests_runs::{FAULT, G4, G4_STORE, PATH, Row, Scene, USAGE, WIDE_STORE, leaves_in, play};
 
 static WALKS: [Row<'static>; 8] = [
     SINGLE,

@@ -1,4 +1,4 @@
-//! Files that several tests read or compare with, and lines that they look for.
+// Files that several tests read or compare with, and lines that they look for.
 
 /// A texture of 4x4 texels; red, green and blue of texel (x, y) are all 4y+x.
 pub const G4: &[u8] =

@@ -1,9 +1,9 @@
 // Settled walks of one store by several crews.
+use super::runs::{Scene, play};
 use std::alloc::Global;
 use std::sync::Wait;
 use std::test::*;
 use std::thread::Threads;
-use vt_tests_runs::{Scene, play};
 
 // Three pictures over a texture of 512 texels a side, from the heights of 64 to 160 texels.
 static TOUR: &[u8] =

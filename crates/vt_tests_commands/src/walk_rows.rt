@@ -1,8 +1,9 @@
 // Rows of walks, with what each leaves.
-use super::rows::OVER_G4;
+use super::files::{G4_STORE, PATH, PICTURE};
+use super::flight_rows::OVER_G4;
+use super::rows::Held::All;
+use super::rows::Row;
 use vt_outside::Fail;
-use vt_tests_runs::Held::All;
-use vt_tests_runs::{G4_STORE, PATH, PICTURE, Row};
 
 // The store of a texture of one texel, and a path of one picture of one pixel.
 pub(super) const SINGLE_STORE: &[u8] =

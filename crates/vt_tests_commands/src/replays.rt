@@ -1,10 +1,11 @@
 // Runs of `replay`.
-use super::rows::{REPLAY_REFUSES, REPLAYS, hold};
+use super::files::{FAULT, G4_STORE, PATH, PICTURE, USAGE, WIDE_STORE};
+use super::flight_rows::{REPLAY_REFUSES, REPLAYS};
+use super::rows::Held::All;
+use super::rows::{Held, Row, hold};
 use super::walk_rows::{SETTLED_PASSES, SINGLE_STORE, WIDE_PICTURE};
 use std::test::*;
 use vt_outside::Fail;
-use vt_tests_runs::Held::All;
-use vt_tests_runs::{FAULT, G4_STORE, Held, PATH, PICTURE, Row, USAGE, WIDE_STORE};
 
 // The journal of the settled walk of one picture, where the row of its third pass shows the page that is mapped in it.
 const SETTLED: &[u8] =
