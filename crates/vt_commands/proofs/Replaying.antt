@@ -12,7 +12,7 @@ use Rattle.vt_outside.specs.declared.answers.OutsideError.{OutsideError}
 use Rattle.vt_outside.specs.declared.answers.OutsideError.TheVariants as outside
 use Rattle.vt_pages.specs.Shape.{Shape}
 use Rattle.vt_camera.specs.Paths.{PathView}
-use Rattle.vt_store.specs.StoreViews.{IsStore, IsStoreIfTold}
+use Rattle.vt_tiles.specs.StoreViews.{IsStore, IsStoreIfTold}
 use Rattle.vt_journal.specs.JournalText.{Content as Journal}
 use Rattle.vt_files.specs.Courses.{FolderState, SinkState}
 use Rattle.vt_files.specs.Dues.{with_files, IsPart, FailsOnly, Puts}

@@ -16,8 +16,8 @@ use Rattle.vt_mip.specs.Chains.{ChainView, chain_texel}
 use Rattle.vt_pages.specs.Shape.{Shape}
 use Rattle.vt_pages.specs.Pages.{refusal_of}
 use Rattle.vt_store.specs.ChainStores.{chain_store}
-use Rattle.vt_store.specs.StoreViews.{IsStore, IsStoreIfTold}
-use Rattle.vt_store.proofs.Stored.{stores_open}
+use Rattle.vt_tiles.specs.StoreViews.{IsStore, IsStoreIfTold}
+use Rattle.vt_tiles.proofs.Stored.{stores_open}
 use Rattle.vt_pass.specs.Requests as Requests
 use Rattle.vt_walk.specs.declared.error.WalkError.{WalkError}
 use Rattle.vt_walk.specs.declared.error.WalkError.TheVariants as walks

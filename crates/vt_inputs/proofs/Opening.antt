@@ -8,8 +8,8 @@ use Rattle.vt_definitions.specs.Depths.{IsDepth}
 use Rattle.vt_outside.specs.Files.{Files, Asked, bytes_at, with_places}
 use Rattle.vt_outside.specs.declared.place.Place.{Place}
 use Rattle.vt_pages.specs.Shape.{Shape}
-use Rattle.vt_store.specs.Format.{header_length}
-use Rattle.vt_store.specs.StoreViews.{IsStore, IsStoreIfTold}
+use Rattle.vt_tiles.specs.Format.{header_length}
+use Rattle.vt_tiles.specs.StoreViews.{IsStore, IsStoreIfTold}
 use Rattle.vt_files.specs.Courses.{FolderState, Passage}
 use Rattle.vt_inputs.specs.Inputs.{StoreInput, NarrowStore, StoreContent, AsksHeader, header_places}
 use Rattle.vt_inputs.specs.Reads.{FileState, Visit, Visits, Opened, OpensStore, Closed, Took, Refused, IsCausedBy, IsAsked}

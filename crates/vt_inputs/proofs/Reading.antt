@@ -9,12 +9,12 @@ use Rattle.vt_outside.specs.Files.{Files, Asked, bytes_at, with_places, noted}
 use Rattle.vt_outside.specs.declared.place.Place.{Place}
 use Rattle.vt_outside.specs.declared.answers.OutsideError.{OutsideError}
 use Rattle.vt_outside.specs.declared.answers.OutsideError.TheVariants as outside
-use Rattle.vt_store.specs.Format.{header_length}
-use Rattle.vt_store.specs.StoreViews.{IsStore, IsStoreIfTold}
-use Rattle.vt_store.specs.Places.{OpenerAsks}
-use Rattle.vt_store.proofs.Flaws.{whole_length}
-use Rattle.vt_store.specs.declared.error.StoreError.{StoreError}
-use Rattle.vt_store.specs.declared.error.StoreError.TheVariants as store
+use Rattle.vt_tiles.specs.Format.{header_length}
+use Rattle.vt_tiles.specs.StoreViews.{IsStore, IsStoreIfTold}
+use Rattle.vt_tiles.specs.Places.{OpenerAsks}
+use Rattle.vt_tiles.proofs.Flaws.{whole_length}
+use Rattle.vt_tiles.specs.declared.error.StoreError.{StoreError}
+use Rattle.vt_tiles.specs.declared.error.StoreError.TheVariants as store
 use Rattle.vt_pages.specs.Shape.{Shape}
 use Rattle.vt_files.specs.Courses.{FolderState}
 use Rattle.vt_inputs.specs.Inputs.{Input, Content, name_of, IsContent, IsFlawOf, MayAsk, AsksWhole, AsksHeader}

@@ -7,8 +7,8 @@ use Rattle.vt_ppm.specs.declared.error.PpmError.{PpmError}
 use Rattle.vt_ppm.specs.declared.error.PpmError.TheVariants as ppm
 use Rattle.vt_camera.specs.declared.parse.PathError.{PathError}
 use Rattle.vt_camera.specs.declared.parse.PathError.TheVariants as path
-use Rattle.vt_store.specs.declared.error.StoreError.{StoreError}
-use Rattle.vt_store.specs.declared.error.StoreError.TheVariants as store
+use Rattle.vt_tiles.specs.declared.error.StoreError.{StoreError}
+use Rattle.vt_tiles.specs.declared.error.StoreError.TheVariants as store
 use Rattle.vt_inputs.specs.declared.flaws.Flaw.{Flaw}
 use Rattle.vt_inputs.specs.declared.flaws.Flaw.TheVariants as flaws
 

@@ -16,11 +16,11 @@ use Rattle.vt_camera.specs.declared.parse.PathError.{PathError}
 use Rattle.vt_pages.specs.Shape.{Shape, shape_of}
 use Rattle.vt_pages.specs.Pages.{pages_of, refusal_of}
 use Rattle.vt_pages.specs.declared.PagesError.TheVariants as pages_error
-use Rattle.vt_store.specs.Format.{store_flaw, header_length, tile_start, tile_length}
-use Rattle.vt_store.specs.StoreViews.{IsStore, IsStoreIfTold}
-use Rattle.vt_store.specs.Places.{pieces_of, piece_place, piece_places}
-use Rattle.vt_store.specs.StripStores.{strips_of, strip_place, strip_places}
-use Rattle.vt_store.specs.declared.error.StoreError.{StoreError}
+use Rattle.vt_tiles.specs.Format.{store_flaw, header_length, tile_start, tile_length}
+use Rattle.vt_tiles.specs.StoreViews.{IsStore, IsStoreIfTold}
+use Rattle.vt_tiles.specs.Places.{pieces_of, piece_place, piece_places}
+use Rattle.vt_ppm.specs.StripPlaces.{strips_of, strip_place, strip_places}
+use Rattle.vt_tiles.specs.declared.error.StoreError.{StoreError}
 use Rattle.vt_inputs.specs.Flaws.{flaw_of_path, flaw_of_texture, flaw_of_store}
 use Rattle.vt_inputs.specs.declared.flaws.Flaw.{Flaw}
 use Rattle.vt_inputs.specs.declared.flaws.Flaw.TheVariants.{TooManyPages, AlreadyWide}

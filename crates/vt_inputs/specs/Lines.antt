@@ -4,7 +4,7 @@ use Rattle.vt_text.specs.Numbers.{number_spelling}
 use Rattle.vt_print.specs.Places.{place_line}
 use Rattle.vt_pages.specs.Shape.{Shape}
 use Rattle.vt_pages.specs.Pages.{levels_of, pages_of}
-use Rattle.vt_store.specs.Format.{store_length}
+use Rattle.vt_tiles.specs.Format.{store_length}
 
 -- the last line of `plain`: how many pictures it has written
 abbrev pub end_line : ℕ → List ℕ

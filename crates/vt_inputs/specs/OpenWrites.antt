@@ -5,7 +5,7 @@ use Rattle.vt_outside.specs.Files.{with_places}
 use Rattle.vt_outside.specs.declared.place.Place.{Place}
 use Rattle.vt_outside.specs.declared.answers.OutsideError.{OutsideError}
 use Rattle.vt_outside.specs.declared.answers.OutsideError.TheVariants.{Failed}
-use Rattle.vt_store.specs.StripStores.{HoldsMade, HoldsMadeFront}
+use Rattle.vt_tiles.specs.Made.{HoldsMade, HoldsMadeFront}
 use Rattle.vt_files.specs.Courses.{Passage}
 use Rattle.vt_inputs.specs.Reads.{FileState}
 

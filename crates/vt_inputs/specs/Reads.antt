@@ -8,7 +8,7 @@ use Rattle.vt_ppm.specs.Strips.{MayBeOver, ChecksPieces, GainsRows, IsTextureHea
 use Rattle.vt_ppm.specs.declared.error.PpmError.{PpmError}
 use Rattle.vt_ppm.specs.declared.header.Header.{Header}
 use Rattle.vt_pages.specs.Shape.{Shape}
-use Rattle.vt_store.specs.StoreViews.{IsStoreIfTold}
+use Rattle.vt_tiles.specs.StoreViews.{IsStoreIfTold}
 use Rattle.vt_files.specs.Courses.{Passage}
 use Rattle.vt_inputs.specs.Inputs.{Input, Content, name_of, IsContent, IsFlawOf, Fits, MayAsk, AreSeenPlaces, header_places}
 use Rattle.vt_inputs.specs.HeldInputs.{Holds, HasFlaw, IsMissing}

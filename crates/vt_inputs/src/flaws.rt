@@ -8,7 +8,7 @@ use vt_camera::PathError;
 use vt_outside::OutsideError;
 use vt_ppm::PpmError;
 use vt_print::Place;
-use vt_store::StoreError;
+use vt_tiles::StoreError;
 
 /// What is wrong with an input: the first flaw of its bytes. Lines count from 1, bytes from 0.
 #[derive(Clone, Copy)]

@@ -5,7 +5,7 @@ ghost use Rattle.vt_definitions.specs.Depths.{IsDepth};
 ghost use Rattle.vt_outside.specs.Counts.{Rose};
 ghost use Rattle.vt_ppm.specs.Reads.{AreImagePlaces};
 ghost use Rattle.vt_ppm.specs.Strips.{HasRasterIfTold, IsTextureHeader, IsTextureIfTold};
-ghost use Rattle.vt_store.specs.StoreViews.{IsStoreIfTold};
+ghost use Rattle.vt_tiles.specs.StoreViews.{IsStoreIfTold};
 ghost use Rattle.vt_files.specs.Courses.{passage};
 ghost use Rattle.vt_inputs.specs.Inputs.{
   Input,
@@ -30,7 +30,7 @@ use vt_camera::{Path, parse_path};
 use vt_outside::{File, Folder, OutsideError};
 use vt_pages::Geometry;
 use vt_ppm::{Image, StripReader, read_image};
-use vt_store::Store;
+use vt_tiles::Store;
 
 /// Opens a name. Whatever is to be read of it, a refusal is that of the input.
 pub fn open_input<'a, D: Folder>(folder: &mut D, name: &'a str) -> Result<D::File, Refusal<'a>>

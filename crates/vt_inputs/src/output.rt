@@ -10,7 +10,7 @@ ghost use Rattle.vt_inputs.specs.Lines.{end_line, store_line};
 use vt_outside::{OutsideError, Sink};
 use vt_pages::Geometry;
 use vt_print::{LINE_ROOM, Line, put_pieces};
-use vt_store::{StoreError, store_length};
+use vt_tiles::{StoreError, store_length};
 
 /// What the outside refused, of a refusal of a call that writes a store.
 pub fn outside_error(error: StoreError) -> OutsideError

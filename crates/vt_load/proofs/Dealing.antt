@@ -16,7 +16,7 @@ use Rattle.vt_outside.specs.declared.outside.File.{Ghosts as FileMeanings}
 use Rattle.vt_load.specs.declared.queued.Queues.{Queues}
 use Rattle.vt_queue.proofs.Gathered.{all_cut}
 use Rattle.vt_pages.specs.Shape.{Shape}
-use Rattle.vt_store.specs.StoreViews.{StoreView}
+use Rattle.vt_tiles.specs.StoreViews.{StoreView}
 use Rattle.vt_load.specs.QueuedLoaders.{QueuedView, asks_of, answers_of, stores_of, MayLoad, IsLoaderOf, IsNew, AreSplitOff}
 
 -- What is split off at once is a small part.

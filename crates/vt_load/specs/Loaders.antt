@@ -1,6 +1,6 @@
 -- A loader, as callers see it.
 use Rattle.std.specs.Prelude.{ℕ}
-use Rattle.vt_store.specs.StoreViews.{StoreView}
+use Rattle.vt_tiles.specs.StoreViews.{StoreView}
 
 -- a loader: the store that it reads, and its number
 pub record LoaderView (F : Type 0) : Type 0 where

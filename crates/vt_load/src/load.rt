@@ -4,8 +4,8 @@ ghost use Rattle.std.specs.Prelude.{◌≡◌, ◌+◌, ◌<◌, ◌≤◌, true
 ghost use Rattle.vt_outside.specs.Counts.{Rose};
 ghost use Rattle.vt_outside.specs.Files.{IsPiece};
 ghost use Rattle.vt_pages.specs.Pages.{pages_of};
-ghost use Rattle.vt_store.specs.Format.{tile_start, tile_length};
-ghost use Rattle.vt_store.specs.Places.{TileAsked};
+ghost use Rattle.vt_tiles.specs.Format.{tile_start, tile_length};
+ghost use Rattle.vt_tiles.specs.Places.{TileAsked};
 ghost use Rattle.vt_queue.specs.Steps.{Puts};
 ghost use Rattle.vt_queue.specs.Queues.{view_of, splits_of, IsOf, capacity_of};
 ghost use Rattle.vt_load.specs.Readings.{is_readable, is_lost, IsReading};
@@ -17,7 +17,7 @@ use std::thread::Threads;
 use vt_outside::{Bytes, File, Gate, Point};
 use vt_pages::Geometry;
 use vt_queue::{Full, Loaded, Outcome, QueuePass, Request, RequestQueue, ResultQueue};
-use vt_store::{Store, tile_length};
+use vt_tiles::{Store, tile_length};
 
 // Puts a result, and tries again where the queue is full.
 fn put_waiting<Rt: Threads + Wait>(

@@ -11,7 +11,7 @@ use std::sync::Wait;
 use std::thread::Threads;
 use vt_outside::{File, Gate, NoMemory};
 use vt_queue::{Loaded, QueuePass, Request, RequestQueue, ResultQueue};
-use vt_store::Store;
+use vt_tiles::Store;
 
 /// A worker that reads tiles from a store of its own. Contracts see the store and the loader's number.
 pub struct Loader<F: File> {

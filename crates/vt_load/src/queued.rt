@@ -18,7 +18,7 @@ use std::thread;
 use std::thread::Threads;
 use vt_outside::{File, Gate, Items};
 use vt_queue::{Loaded, Queue, QueuePass, Request, RequestQueue, ResultQueue};
-use vt_store::{Store, Stores};
+use vt_tiles::{Store, Stores};
 
 /// The two queues of a pass, which its workers share.
 #[derive(Drop)]

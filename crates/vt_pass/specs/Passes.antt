@@ -14,7 +14,7 @@ use Rattle.vt_pass.specs.declared.crew.PassReport.{PassReport}
 use Rattle.vt_shown.specs.Scenes.{Scene}
 use Rattle.vt_pass.specs.Scenes.{Job}
 use Rattle.vt_pass.specs.Crews.{last_start}
-use Rattle.vt_store.specs.Format.{tile_length, tile_start}
+use Rattle.vt_tiles.specs.Format.{tile_length, tile_start}
 use Rattle.vt_pass.specs.Outcomes.{IsBatchFor, IsOutcome}
 use Rattle.vt_pass.specs.RowOrders.{AreRowsInOrder}
 use Rattle.vt_pass.specs.Requests.{FileState, AreReadFor, ArePartlyReadFor}

@@ -6,7 +6,7 @@ use Rattle.vt_outside.specs.Counts.{RoseTogetherBy}
 use Rattle.vt_pages.specs.Shape.{Shape}
 use Rattle.vt_evict.specs.declared.batches.Planned.{Planned}
 use Rattle.vt_evict.specs.Batches.{read_entries}
-use Rattle.vt_store.specs.Format.{tile_start, tile_length}
+use Rattle.vt_tiles.specs.Format.{tile_start, tile_length}
 use Rattle.vt_pass.specs.Outcomes.{lost_count}
 
 -- a loader's file: its name, the places it was asked, where they are told, and its count of faults

@@ -1,7 +1,7 @@
 -- What a picture shows where the page table changes only between draws.
 use Rattle.std.specs.Prelude.{ℕ, List}
 use Rattle.vt_journal.specs.Changes.{Table}
-use Rattle.vt_store.specs.Format.{stored}
+use Rattle.vt_tiles.specs.Format.{stored}
 use Rattle.vt_shown.specs.Scenes.{Scene}
 use Rattle.vt_shown.specs.Replays.{pixel_under, plain_pixel}
 

@@ -6,7 +6,7 @@ ghost use Rattle.vt_definitions.specs.Depths.{IsDepth};
 ghost use Rattle.vt_pages.specs.Pages.{IsWithinLimits};
 ghost use Rattle.vt_camera.specs.Paths.{PathView};
 ghost use Rattle.vt_journal.specs.Changes.{Table};
-ghost use Rattle.vt_store.specs.StoreViews.{IsStore};
+ghost use Rattle.vt_tiles.specs.StoreViews.{IsStore};
 ghost use Rattle.vt_evict.specs.declared.batches.Planned.{Planned};
 ghost use Rattle.vt_outside.specs.declared.answers.NoMemory.{NoMemory as Refusal};
 ghost use Rattle.vt_pass.specs.declared.crew.PassReport.{PassReport as Report};
@@ -30,7 +30,7 @@ use vt_feedback::Counts;
 use vt_journal::Journal;
 use vt_outside::{File, Gate, Items, NoMemory};
 use vt_pages::Geometry;
-use vt_store::Stores;
+use vt_tiles::Stores;
 
 /// A value that streams tiles of a store into frames, and draws the pictures of a path from them.
 ///

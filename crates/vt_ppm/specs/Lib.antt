@@ -7,3 +7,4 @@ pub mod Reads
 pub mod Refusals
 pub mod Samples
 pub mod Strips
+pub mod StripPlaces

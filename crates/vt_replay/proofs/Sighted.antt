@@ -20,9 +20,9 @@ use Rattle.vt_draw.proofs.Places.{pixel_inside, place_inside, wanted_in_chain, w
 use Rattle.vt_journal.specs.Kept.{entry_of, entries_of}
 use Rattle.vt_journal.specs.Lookups.{is_mapped, IsFirstMapped}
 use Rattle.vt_journal.proofs.Finding.{finest-lookup}
-use Rattle.vt_store.specs.Format.{stored, tile_start}
-use Rattle.vt_store.specs.StoreViews.{IsStore}
-use Rattle.vt_store.proofs.Stored.{pieces_hold_texels}
+use Rattle.vt_tiles.specs.Format.{stored, tile_start}
+use Rattle.vt_tiles.specs.StoreViews.{IsStore}
+use Rattle.vt_tiles.proofs.Stored.{pieces_hold_texels}
 use Rattle.vt_shown.specs.Scenes.{Scene}
 use Rattle.vt_shown.specs.Replays.{shown_at, serving_page, pixel_under}
 use Rattle.vt_replay.specs.Sights.{SightView, IsTrueOf, IsIn, IsHeld, AreTiles, Serves, page_number, row_of}

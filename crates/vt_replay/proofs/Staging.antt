@@ -5,7 +5,7 @@ use Rattle.vt_outside.specs.declared.outside.File.{Ghosts as FileMeanings}
 use Rattle.vt_pages.specs.Shape.{Shape}
 use Rattle.vt_pages.specs.Pages.{pages_of}
 use Rattle.vt_journal.specs.declared.changes.Change.{Change}
-use Rattle.vt_store.specs.StoreViews.{StoreView, IsStoreIfTold}
+use Rattle.vt_tiles.specs.StoreViews.{StoreView, IsStoreIfTold}
 use Rattle.vt_replay.specs.Playing.{Follows, IsStaged}
 use Rattle.vt_replay.specs.Sights.{AreTiles}
 use Rattle.vt_replay.proofs.Readying.{tiles_same}

@@ -11,7 +11,7 @@ use Rattle.vt_pages.specs.Pages.{pages_of}
 use Rattle.vt_journal.specs.Changes.{Table, with_entry}
 use Rattle.vt_journal.specs.Kept.{entry_of, entries_of}
 use Rattle.vt_journal.proofs.Versions.{same_page, entry-same, entry-other}
-use Rattle.vt_store.specs.Format.{tile_start, tile_length}
+use Rattle.vt_tiles.specs.Format.{tile_start, tile_length}
 use Rattle.vt_replay.specs.Sights.{row_of, AreTiles}
 
 -- numbers that are all 0 give no entry

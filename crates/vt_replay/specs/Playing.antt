@@ -12,8 +12,8 @@ use Rattle.vt_journal.specs.Changes.{at}
 use Rattle.vt_journal.specs.Lookups.{change_page}
 use Rattle.vt_journal.specs.Kept.{entries_of, change_frame}
 use Rattle.vt_journal.specs.JournalText.{Pass}
-use Rattle.vt_store.specs.Format.{tile_start, tile_length}
-use Rattle.vt_store.specs.StoreViews.{StoreView, IsStoreIfTold}
+use Rattle.vt_tiles.specs.Format.{tile_start, tile_length}
+use Rattle.vt_tiles.specs.StoreViews.{StoreView, IsStoreIfTold}
 use Rattle.vt_files.specs.Dues.{FileDue, with_files, IsPart}
 use Rattle.vt_replay.specs.Sights.{AreTiles}
 use Rattle.vt_outside.specs.Files.{Files}

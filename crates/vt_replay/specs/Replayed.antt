@@ -9,7 +9,7 @@ use Rattle.vt_journal.specs.declared.changes.Change.{Change}
 use Rattle.vt_journal.specs.declared.changes.RowLine.{RowLine}
 use Rattle.vt_journal.specs.Changes.{Table, at}
 use Rattle.vt_journal.specs.JournalText.{Pass, Content, content_changes}
-use Rattle.vt_store.specs.Format.{stored}
+use Rattle.vt_tiles.specs.Format.{stored}
 use Rattle.vt_files.specs.Dues.{FileDue}
 use Rattle.vt_files.specs.Pictures.{pictures_due}
 use Rattle.vt_shown.specs.Scenes.{Scene, scene_of}

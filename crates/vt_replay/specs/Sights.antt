@@ -9,7 +9,7 @@ use Rattle.vt_draw.specs.declared.lookups.Found.{Found}
 use Rattle.vt_draw.specs.Lookups.{Note, EntryNote, WordNote}
 use Rattle.vt_journal.specs.Changes.{Table}
 use Rattle.vt_journal.specs.Kept.{entries_of}
-use Rattle.vt_store.specs.Format.{tile_start, tile_length}
+use Rattle.vt_tiles.specs.Format.{tile_start, tile_length}
 
 -- row y of bytes, of which each row has so many
 abbrev pub row_of : ℕ → List ℕ → ℕ → List ℕ

@@ -6,8 +6,8 @@ ghost use Rattle.vt_outside.specs.Counts.{Rose};
 ghost use Rattle.vt_pages.specs.Pages.{pages_of, root_of};
 ghost use Rattle.vt_journal.specs.declared.changes.RowLine.{RowLine};
 ghost use Rattle.vt_journal.specs.Kept.{entries_of};
-ghost use Rattle.vt_store.specs.Format.{stored, tile_length};
-ghost use Rattle.vt_store.specs.StoreViews.{IsStore};
+ghost use Rattle.vt_tiles.specs.Format.{stored, tile_length};
+ghost use Rattle.vt_tiles.specs.StoreViews.{IsStore};
 ghost use Rattle.vt_shown.specs.Scenes.{scene_of};
 ghost use Rattle.vt_shown.specs.Replays.{HasPixels, pixel_under};
 ghost use Rattle.vt_replay.specs.Playing.{IsReadOn, IsReady};
@@ -21,7 +21,7 @@ use vt_definitions::texel_length;
 use vt_draw::{Shot, draw_row};
 use vt_journal::RowLine;
 use vt_outside::{File, OutsideError};
-use vt_store::Store;
+use vt_tiles::Store;
 
 // What came of a row that was drawn over the tiles at hand: whether one was missed, and which pages were used and which missing.
 #[derive(Clone, Copy)]

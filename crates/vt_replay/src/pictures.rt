@@ -14,7 +14,7 @@ use crate::play::play;
 use std::alloc::Global;
 use vt_camera::Path;
 use vt_outside::{Folder, OutsideError};
-use vt_store::Store;
+use vt_tiles::Store;
 
 /// Writes the picture of the last pass of each picture of a journal, drawn from a store along the journal's path, and answers
 /// their number. A picture's name is the prefix, its number in four digits and `.ppm`. The store's file is closed.

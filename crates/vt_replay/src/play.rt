@@ -9,7 +9,7 @@ ghost use Rattle.vt_journal.specs.declared.changes.RowLine.{RowLine};
 ghost use Rattle.vt_journal.specs.Changes.{at};
 ghost use Rattle.vt_journal.specs.JournalText.{Pass, content_changes};
 ghost use Rattle.vt_journal.specs.JournalFlaws.{IsLawful};
-ghost use Rattle.vt_store.specs.Format.{stored};
+ghost use Rattle.vt_tiles.specs.Format.{stored};
 ghost use Rattle.vt_files.specs.Courses.{passage};
 ghost use Rattle.vt_files.specs.Dues.{AsksNone};
 ghost use Rattle.vt_files.specs.Pictures.{picture_due, pictures_due};
@@ -31,7 +31,7 @@ use vt_files::{Picture, write_picture};
 use vt_journal::{Journal, JournalText, PassText};
 use vt_outside::{File, Folder, NoMemory, OutsideError};
 use vt_pages::Geometry;
-use vt_store::Store;
+use vt_tiles::Store;
 
 /// The table that follows the journal, the tiles that are at hand, and the room to draw in: the samples of a picture and a count
 /// for each page.

@@ -5,7 +5,7 @@ ghost use Rattle.vt_definitions.specs.Depths.{IsDepth, word_at};
 ghost use Rattle.vt_pages.specs.Pages.{pages_of, root_of};
 ghost use Rattle.vt_draw.specs.Lookups.{place_in_tile};
 ghost use Rattle.vt_journal.specs.Kept.{entries_of};
-ghost use Rattle.vt_store.specs.Format.{tile_length};
+ghost use Rattle.vt_tiles.specs.Format.{tile_length};
 ghost use Rattle.vt_replay.specs.Sights.{SightView, IsSight, IsTrueOf, IsIn, Serves, row_of};
 
 use crate::noted::Noted;

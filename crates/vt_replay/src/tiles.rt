@@ -8,7 +8,7 @@ ghost use Rattle.vt_outside.specs.Files.{IsPiece};
 ghost use Rattle.vt_pages.specs.Pages.{pages_of};
 ghost use Rattle.vt_journal.specs.Changes.{with_entry};
 ghost use Rattle.vt_journal.specs.Kept.{entries_of};
-ghost use Rattle.vt_store.specs.Format.{tile_start, tile_length};
+ghost use Rattle.vt_tiles.specs.Format.{tile_start, tile_length};
 ghost use Rattle.vt_replay.specs.Playing.{IsReadOn};
 ghost use Rattle.vt_replay.specs.Sights.{row_of, IsIn, IsHeld, IsTileOf, AreTiles};
 
@@ -17,7 +17,7 @@ use lru::LruCache;
 use std::alloc::Global;
 use vt_outside::{File, NoMemory, OutsideError};
 use vt_pages::Geometry;
-use vt_store::{Store, tile_length};
+use vt_tiles::{Store, tile_length};
 
 /// A set of tiles.
 #[derive(Drop)]

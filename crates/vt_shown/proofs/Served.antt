@@ -17,9 +17,9 @@ use Rattle.vt_draw.proofs.Places.{pixel_inside, place_inside, wanted_in_chain, w
 use Rattle.vt_journal.specs.Changes.{newest}
 use Rattle.vt_journal.specs.Lookups.{is_mapped, IsFirstMapped}
 use Rattle.vt_journal.proofs.Finding.{finest-lookup}
-use Rattle.vt_store.specs.Format.{stored, tile_start}
-use Rattle.vt_store.specs.StoreViews.{IsStore}
-use Rattle.vt_store.proofs.Stored.{pieces_hold_texels}
+use Rattle.vt_tiles.specs.Format.{stored, tile_start}
+use Rattle.vt_tiles.specs.StoreViews.{IsStore}
+use Rattle.vt_tiles.proofs.Stored.{pieces_hold_texels}
 use Rattle.vt_table.specs.Views.{TableView, IsTable, tile_of}
 use Rattle.vt_table.proofs.TileWords.{word_is}
 use Rattle.vt_sampler.specs.Notes.{entry_number, IsTrueOf}

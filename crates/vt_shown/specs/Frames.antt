@@ -2,7 +2,7 @@
 use Rattle.std.specs.Prelude.{◌≡◌, ℕ, Some, Option, IfSome, List, length}
 use Rattle.vt_outside.specs.Files.{IsPiece}
 use Rattle.vt_journal.specs.Changes.{newest}
-use Rattle.vt_store.specs.Format.{tile_length, tile_start}
+use Rattle.vt_tiles.specs.Format.{tile_length, tile_start}
 use Rattle.vt_table.specs.Views.{TableView, tile_of}
 
 -- a frame has the tile of a page, which is the store's where that is told

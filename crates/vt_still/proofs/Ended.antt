@@ -15,9 +15,9 @@ use Rattle.vt_journal.specs.declared.changes.RowLine.{RowLine}
 use Rattle.vt_journal.specs.Changes.{Table, at, newest}
 use Rattle.vt_journal.specs.JournalText.{changes_of}
 use Rattle.vt_journal.proofs.Versions.{at-front}
-use Rattle.vt_store.specs.StoreViews.{StoreView, IsStoreIfTold}
+use Rattle.vt_tiles.specs.StoreViews.{StoreView, IsStoreIfTold}
 use Rattle.vt_table.specs.Views.{TableView, IsTable}
-use Rattle.vt_store.specs.Format.{tile_length}
+use Rattle.vt_tiles.specs.Format.{tile_length}
 use Rattle.vt_still.specs.RoundKits.{RoundKitView}
 use Rattle.vt_sampler.specs.Samplers.{SamplerView, IsOwn, row_at, row_length, own_rows, pixels_in_rows}
 use Rattle.vt_sampler.proofs.Sharing.{pixels_few}

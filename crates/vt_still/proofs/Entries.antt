@@ -14,7 +14,7 @@ use Rattle.vt_journal.proofs.Versions.{newest-more, mapped_after_map, mapped_aft
 use Rattle.vt_journal.proofs.EventLines.{changes_of-append}
 use Rattle.vt_evict.specs.declared.batches.Planned.{Planned}
 use Rattle.vt_definitions.specs.Depths.{IsDepth, texel_length}
-use Rattle.vt_store.specs.Format.{tile_length}
+use Rattle.vt_tiles.specs.Format.{tile_length}
 use Rattle.vt_table.specs.Views.{TableView, IsTable, IsTile, IsWithin, tile_of}
 use Rattle.vt_pass.specs.Outcomes.{IsEntryFor, IsVictimOf, victim_events, group_of}
 use Rattle.vt_shown.specs.Frames.{HasTile, HoldsTiles}

@@ -9,7 +9,7 @@ use Rattle.vt_outside.specs.declared.outside.File.{Ghosts as FileMeanings}
 use Rattle.vt_definitions.specs.Limits.{most_samplers}
 use Rattle.vt_pages.specs.Shape.{Shape}
 use Rattle.vt_journal.specs.declared.changes.RowLine.{RowLine}
-use Rattle.vt_store.specs.StoreViews.{IsStore}
+use Rattle.vt_tiles.specs.StoreViews.{IsStore}
 use Rattle.vt_table.specs.Views.{TableView}
 use Rattle.vt_pass.specs.RowOrders.{AreRowsInOrder}
 use Rattle.vt_pass.specs.Machines.{told_by}

@@ -12,7 +12,7 @@ use Rattle.vt_pages.specs.Pages.{pages_of}
 use Rattle.vt_table.specs.Views.{TableView, IsTable}
 use Rattle.vt_journal.specs.declared.changes.RowLine.{RowLine}
 use Rattle.vt_sampler.specs.Samplers.{SamplerView, IsFor, IsOwn}
-use Rattle.vt_store.specs.StoreViews.{StoreView, IsStoreIfTold}
+use Rattle.vt_tiles.specs.StoreViews.{StoreView, IsStoreIfTold}
 use Rattle.vt_journal.specs.Changes.{newest, at}
 use Rattle.vt_pass.specs.Machines.{told_by, AreStoresFor}
 use Rattle.vt_sampler.specs.Notes.{MapsRoot as TableMapsRoot}

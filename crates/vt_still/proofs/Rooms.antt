@@ -10,7 +10,7 @@ use Rattle.vt_pages.specs.Pages.{pages_of}
 use Rattle.vt_camera.specs.Paths.{ArePictureSides}
 use Rattle.vt_journal.specs.Changes.{newest}
 use Rattle.vt_table.specs.Views.{TableView, IsTable}
-use Rattle.vt_store.specs.Format.{tile_length}
+use Rattle.vt_tiles.specs.Format.{tile_length}
 use Rattle.vt_evict.specs.declared.batches.Planned.{Planned}
 use Rattle.vt_load.specs.declared.queued.Queues.{Queues}
 use Rattle.vt_still.specs.RoundKits.{IsSetUp, IsAsked}
@@ -19,7 +19,7 @@ use Rattle.vt_pass.specs.Crews.{IsCrew}
 use Rattle.vt_pass.specs.Outcomes.{IsBatchFor}
 use Rattle.vt_shown.specs.Frames.{HoldsTiles}
 use Rattle.vt_pass.specs.Passes.{IsUntouched, IsSpent}
-use Rattle.vt_store.specs.StoreViews.{StoreView, IsStoreIfTold}
+use Rattle.vt_tiles.specs.StoreViews.{StoreView, IsStoreIfTold}
 use Rattle.vt_pass.specs.Machines.{file_state, files_of, told_by, AreStoresFor}
 use Rattle.vt_still.specs.Kits.{KitView, kit_state, IsIdleKit, IsPreparedKit, IsReadyKit, HasRoom, IsSameKit, IsSameStore, AreSameStores, AreSamplersOf}
 

@@ -8,8 +8,8 @@ use Rattle.vt_outside.specs.Lists.{ListView}
 use Rattle.vt_outside.specs.declared.outside.File.{Ghosts as FileMeanings}
 use Rattle.vt_pages.specs.Shape.{Shape}
 use Rattle.vt_journal.specs.declared.changes.Event.{Event}
-use Rattle.vt_store.specs.Format.{tile_length}
-use Rattle.vt_store.specs.StoreViews.{StoreView}
+use Rattle.vt_tiles.specs.Format.{tile_length}
+use Rattle.vt_tiles.specs.StoreViews.{StoreView}
 use Rattle.vt_table.specs.Views.{TableView}
 use Rattle.vt_evict.specs.declared.batches.Planned.{Planned}
 use Rattle.vt_queue.specs.Queues.{view_of}

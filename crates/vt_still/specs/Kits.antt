@@ -10,8 +10,8 @@ use Rattle.vt_camera.specs.Paths.{ArePictureSides}
 use Rattle.vt_journal.specs.declared.changes.Event.{Event}
 use Rattle.vt_journal.specs.declared.changes.RowLine.{RowLine}
 use Rattle.vt_journal.specs.Changes.{newest}
-use Rattle.vt_store.specs.Format.{tile_length}
-use Rattle.vt_store.specs.StoreViews.{StoreView, IsStoreIfTold}
+use Rattle.vt_tiles.specs.Format.{tile_length}
+use Rattle.vt_tiles.specs.StoreViews.{StoreView, IsStoreIfTold}
 use Rattle.vt_table.specs.Views.{TableView, IsTable}
 use Rattle.vt_sampler.specs.Samplers.{SamplerView, row_at}
 use Rattle.vt_evict.specs.declared.batches.Planned.{Planned}

@@ -7,7 +7,7 @@ use Rattle.vt_camera.specs.Paths.{PathView}
 use Rattle.vt_draw.specs.Shots.{shot_row, AreDrawn}
 use Rattle.vt_journal.specs.declared.changes.Change.{Change}
 use Rattle.vt_journal.specs.Changes.{newest}
-use Rattle.vt_store.specs.Format.{tile_length}
+use Rattle.vt_tiles.specs.Format.{tile_length}
 use Rattle.vt_table.specs.Views.{TableView, IsTable}
 use Rattle.vt_sampler.specs.Notes.{IsTrueOf}
 use Rattle.vt_queue.specs.Queues.{view_of}

@@ -4,7 +4,7 @@ use Rattle.vt_outside.specs.Files.{IsPiece}
 use Rattle.vt_pages.specs.Shape.{Shape}
 use Rattle.vt_journal.specs.declared.changes.Event.{Event}
 use Rattle.vt_journal.specs.JournalText.{changes_of}
-use Rattle.vt_store.specs.Format.{tile_length, tile_start}
+use Rattle.vt_tiles.specs.Format.{tile_length, tile_start}
 use Rattle.vt_table.specs.Views.{TableView}
 
 -- the changes of some events were made, and the events noted

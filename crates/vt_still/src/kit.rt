@@ -18,7 +18,7 @@ ghost use Rattle.vt_still.specs.Kits.{KitView, AreSamplersOf, IsKit, IsIdleKit, 
 ghost use Rattle.vt_still.specs.declared.tasks.StillSampler.{StillSampler as Task};
 ghost use Rattle.vt_still.specs.RoundKits.{AreSized, IsSetUp, IsAsked};
 ghost use Rattle.vt_still.specs.BatchRounds.{Begun as Start};
-ghost use Rattle.vt_store.specs.Format.{tile_length};
+ghost use Rattle.vt_tiles.specs.Format.{tile_length};
 ghost use Rattle.vt_evict.specs.declared.batches.Planned.{Planned as Entry};
 ghost use Rattle.vt_load.specs.QueuedLoaders.{MayLoad};
 
@@ -42,7 +42,7 @@ use vt_outside::{File, Items, NoMemory};
 use vt_pages::Geometry;
 use vt_pass::{Crew, PassReport};
 use vt_sampler::Sampler;
-use vt_store::{Stores, tile_length};
+use vt_tiles::{Stores, tile_length};
 use vt_table::StillTable;
 
 // What a pass over a page table that changes only between draws is done with but for the queues: the samplers, the

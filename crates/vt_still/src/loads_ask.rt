@@ -3,7 +3,7 @@
 ghost use Rattle.std.specs.Prelude.{◌≡◌, ℕ, ◌<◌, ◌≤◌, ◌+◌, ◌^◌, [], length, All};
 ghost use Rattle.vt_pages.specs.Shape.{Shape};
 ghost use Rattle.vt_pages.specs.Pages.{pages_of};
-ghost use Rattle.vt_store.specs.Format.{tile_length};
+ghost use Rattle.vt_tiles.specs.Format.{tile_length};
 ghost use Rattle.vt_queue.specs.PassViews.{first_view};
 ghost use Rattle.vt_queue.specs.Queues.{view_of, splits_of, IsOf, capacity_of};
 ghost use Rattle.vt_still.specs.BatchRounds.{ArePut};

@@ -2,7 +2,7 @@
 
 ghost use Rattle.std.specs.Prelude.{◌≡◌, ℕ, ◌*◌, ◌^◌, ◌<◌, ◌≤◌, [], length, reverse, All};
 ghost use Rattle.vt_journal.specs.Changes.{newest};
-ghost use Rattle.vt_store.specs.Format.{tile_length};
+ghost use Rattle.vt_tiles.specs.Format.{tile_length};
 ghost use Rattle.vt_table.specs.Views.{IsTable};
 ghost use Rattle.vt_load.specs.QueuedLoaders.{AreOf, stores_of};
 ghost use Rattle.vt_pass.specs.Outcomes.{IsBatchFor};
@@ -16,7 +16,7 @@ use vt_journal::Events;
 use vt_load::{QueuedLoader, Queues, collect, take_back};
 use vt_outside::{File, Items};
 use vt_queue::{Loaded, QueuePass, Request};
-use vt_store::Stores;
+use vt_tiles::Stores;
 use vt_table::StillTable;
 
 /// Makes the passes of loaders that have ended one again, takes their results, and applies these in the order in which

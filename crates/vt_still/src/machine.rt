@@ -26,7 +26,7 @@ use vt_load::QueuedLoader;
 use vt_outside::{File, Gate, Items, NoMemory};
 use vt_pages::Geometry;
 use vt_pass::{Crew, PassMachine, PassReport};
-use vt_store::Stores;
+use vt_tiles::Stores;
 
 /// A machine that draws all rows of a picture over its page table, and then streams the batch into it.
 pub struct StillMachine<F: File> {
@@ -43,7 +43,7 @@ impl<F: File> Model for StillMachine<F> {
 }
 
 impl<F: File + Send> PassMachine for StillMachine<F> {
-    ghost use Rattle.vt_store.specs.Format.{stored};
+    ghost use Rattle.vt_tiles.specs.Format.{stored};
     ghost use Rattle.vt_pass.specs.Plainly.{mapped_is_plain};
     ghost use Rattle.vt_still.specs.StillLaws.{come_back, has_ended};
 

@@ -30,7 +30,7 @@ use vt_feedback::Counts;
 use vt_outside::{File, Gate, NoMemory};
 use vt_pages::Geometry;
 use vt_pass::{Crew, PassReport};
-use vt_store::Stores;
+use vt_tiles::Stores;
 use vt_table::StillTable;
 
 /// What a pass over a page table that changes only between draws is done with, where the caller holds the table: the

@@ -5,7 +5,7 @@ ghost use Rattle.vt_still.specs.Kits.{AreSameStores};
 
 use std::alloc::Global;
 use vt_outside::{File, Items, NoMemory};
-use vt_store::Store;
+use vt_tiles::Store;
 
 /// An empty list with room for so many elements.
 pub(crate) fn with_room<I>(alloc: Global, n: u64) -> Result<Items<I>, NoMemory>

@@ -5,7 +5,7 @@ ghost use Rattle.vt_definitions.specs.Limits.{most_entries, most_loaders};
 ghost use Rattle.vt_pages.specs.Shape.{Shape};
 ghost use Rattle.vt_pages.specs.Pages.{pages_of};
 ghost use Rattle.vt_journal.specs.Changes.{newest};
-ghost use Rattle.vt_store.specs.Format.{tile_length};
+ghost use Rattle.vt_tiles.specs.Format.{tile_length};
 ghost use Rattle.vt_table.specs.Views.{IsTable};
 ghost use Rattle.vt_queue.specs.PassViews.{all_shares, first_view};
 ghost use Rattle.vt_queue.specs.Queues.{view_of, splits_of, capacity_of};
@@ -29,7 +29,7 @@ use vt_load::{QueuedLoader, Queues, deal};
 use vt_outside::{Bytes, File, Items, NoMemory};
 use vt_pass::Crew;
 use vt_queue::{Loaded, QueuePass, Request, RequestQueue, ResultQueue};
-use vt_store::Stores;
+use vt_tiles::Stores;
 use vt_table::StillTable;
 
 /// What the loaders of a pass are done with: passes of the queues, and room for the loaders, their stores, the results

@@ -22,7 +22,7 @@ use std::thread::Threads;
 use vt_camera::Path;
 use vt_outside::{Folder, Gate, Sink};
 use vt_still::StillMachine;
-use vt_store::Store;
+use vt_tiles::Store;
 use vt_walk::{Names, Settings, WalkError, walk_with};
 
 /// Walks over all pictures of a path, one pass a picture: what is missing is loaded for the next picture, and a lost tile is left

@@ -9,9 +9,9 @@ use Rattle.vt_definitions.specs.Texels.{Source}
 use Rattle.vt_mip.specs.Chains.{ChainView, chain_texel}
 use Rattle.vt_pages.specs.Shape.{Shape}
 use Rattle.vt_pages.specs.Pages.{pages_of}
-use Rattle.vt_store.specs.Format.{header_bytes, tile_bytes, tiles_bytes, store_bytes}
+use Rattle.vt_tiles.specs.Format.{header_bytes, tile_bytes, tiles_bytes, store_bytes}
 use Rattle.vt_store.specs.ChainStores.{AddsPages, AddsPart, chain_store}
-use Rattle.vt_store.proofs.Spans.{span_add}
+use Rattle.vt_tiles.proofs.Spans.{span_add}
 use Rattle.vt_store.proofs.WideStores.{named}
 
 -- tiles, and the ones behind them

@@ -18,10 +18,10 @@ use Rattle.vt_mip.proofs.Words.{next_level}
 use Rattle.vt_pages.specs.Shape.{Shape}
 use Rattle.vt_pages.specs.Pages.{pages_of}
 use Rattle.vt_store.specs.ChainStores.{AddsPages, AddsPart, HasLevelTexels, level_source}
-use Rattle.vt_store.specs.Format.{tiles_bytes}
-use Rattle.vt_store.specs.Refusals.{refusal_by}
-use Rattle.vt_store.specs.declared.error.StoreError.{StoreError}
-use Rattle.vt_store.specs.declared.error.StoreError.TheVariants.{Failed}
+use Rattle.vt_tiles.specs.Format.{tiles_bytes}
+use Rattle.vt_tiles.specs.Refusals.{refusal_by}
+use Rattle.vt_tiles.specs.declared.error.StoreError.{StoreError}
+use Rattle.vt_tiles.specs.declared.error.StoreError.TheVariants.{Failed}
 use Rattle.vt_store.proofs.AddedPages.{tiles_split}
 
 -- the side of a level, by that of level 1

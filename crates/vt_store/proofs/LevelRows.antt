@@ -18,8 +18,8 @@ use Rattle.vt_pages.specs.Shape.{Shape}
 use Rattle.vt_pages.specs.Pages.{IsPage, IsWithinLimits, levels_of, pages_below, columns_at, rows_at, index_at, name_at}
 use Rattle.vt_pages.proofs.Counts.{columns_some, lt_up, pages_below-suc, pages_below_le, pages_of-is}
 use Rattle.vt_store.specs.ChainStores.{AddsPages, AddsPart, HasLevelTexels, IsLevelOf}
-use Rattle.vt_store.specs.Format.{tiles_bytes}
-use Rattle.vt_store.specs.TileLines.{HasTileRows, rows_inside, tile_rows_length}
+use Rattle.vt_tiles.specs.Format.{tiles_bytes}
+use Rattle.vt_tiles.specs.TileLines.{HasTileRows, rows_inside, tile_rows_length}
 use Rattle.vt_store.proofs.AddedPages.{adds_none, adds_more, adds_part, there_bytes}
 use Rattle.vt_store.proofs.Tiles.{columns_fall}
 use Rattle.vt_store.proofs.TileRows.{IsAt, rows_are, tiles_at}

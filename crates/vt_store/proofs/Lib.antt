@@ -1,11 +1,4 @@
-pub mod Accepted
-pub mod Flaws
-pub mod Headers
 pub mod Lines
-pub mod Opening
-pub mod Pieces
-pub mod Refusing
-pub mod Spans
 pub mod Stored
 pub mod Tiles
 pub mod WideStores

@@ -22,10 +22,12 @@ use Rattle.vt_pages.specs.Pages.{IsWithinLimits, levels_of, pages_of, pages_belo
 use Rattle.vt_pages.proofs.Counts.{lt_up, pages_below-suc, pages_below-zero, pages_below_le, pages_of-is}
 use Rattle.vt_pages.proofs.Names.{IsLevelIn, level_of_has}
 use Rattle.vt_store.specs.ChainStores.{level_source}
-use Rattle.vt_store.specs.Format.{tiles_bytes}
-use Rattle.vt_store.specs.TileLines.{tile_word}
-use Rattle.vt_store.specs.StripStores.{strip_shape, strip_rows, strips_of}
-use Rattle.vt_store.proofs.Tiles.{tiles_are, tiles_piece, tiles_bytes_length}
+use Rattle.vt_tiles.specs.Format.{tiles_bytes}
+use Rattle.vt_tiles.specs.TileLines.{tile_word}
+use Rattle.vt_store.specs.StripStores.{strip_shape}
+use Rattle.vt_ppm.specs.StripPlaces.{strip_rows, strips_of}
+use Rattle.vt_store.proofs.Tiles.{tiles_are}
+use Rattle.vt_tiles.proofs.Tiles.{tiles_piece, tiles_bytes_length}
 
 -- the pages of the first level
 pub first_pages : (s : Shape) → pages_below s 1 ≡ rows_at s 0 * columns_at s 0

@@ -14,8 +14,10 @@ use Rattle.vt_definitions.specs.Texels.{Source}
 use Rattle.vt_mip.specs.StripChains.{StripChainView, texture_texel}
 use Rattle.vt_pages.specs.Shape.{Shape}
 use Rattle.vt_pages.specs.Pages.{pages_of, columns_at}
-use Rattle.vt_store.specs.Format.{header_bytes, tiles_bytes, store_bytes}
-use Rattle.vt_store.specs.StripStores.{HoldsMade, HoldsMadeFront, GainsMade, GainsMadeFront, StripsAsked, StripsTried, strip_shape, strip_store, strip_tiles, strip_rows, strip_place, strip_places, strips_of}
+use Rattle.vt_tiles.specs.Format.{header_bytes, tiles_bytes, store_bytes}
+use Rattle.vt_tiles.specs.Made.{HoldsMade, HoldsMadeFront, GainsMade, GainsMadeFront}
+use Rattle.vt_store.specs.StripStores.{StripsAsked, StripsTried, strip_shape, strip_store, strip_tiles}
+use Rattle.vt_ppm.specs.StripPlaces.{strip_rows, strip_place, strip_places, strips_of}
 use Rattle.vt_store.specs.ChainStores.{AddsPages, AddsPart}
 use Rattle.vt_store.proofs.Writing.{front_bytes, front_grown, front_none, front_all, store_split}
 use Rattle.vt_store.proofs.AddedPages.{there_bytes}

@@ -19,10 +19,11 @@ use Rattle.vt_pages.specs.Shape.{Shape, shape_of}
 use Rattle.vt_pages.specs.Pages.{IsWithinLimits, index_at, levels_of, pages_of, rows_at, columns_at, name_at}
 use Rattle.vt_pages.proofs.Counts.{lt_up, columns_some, pages_below-zero}
 use Rattle.vt_pages.proofs.Names.{name_at-index, index_at_below}
-use Rattle.vt_store.specs.Format.{tiles_bytes}
-use Rattle.vt_store.specs.TileLines.{HasTileRows, piece_at, tile_rows_length}
-use Rattle.vt_store.specs.StripStores.{strip_rows, strip_tiles}
-use Rattle.vt_store.proofs.Pieces.{piece_end}
+use Rattle.vt_tiles.specs.Format.{tiles_bytes}
+use Rattle.vt_tiles.specs.TileLines.{HasTileRows, piece_at, tile_rows_length}
+use Rattle.vt_ppm.specs.StripPlaces.{strip_rows}
+use Rattle.vt_store.specs.StripStores.{strip_tiles}
+use Rattle.vt_tiles.proofs.Pieces.{piece_end}
 use Rattle.vt_store.proofs.Widening.{piece_of_slice}
 
 -- the numbers of a strip

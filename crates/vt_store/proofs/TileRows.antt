@@ -9,9 +9,9 @@ use Rattle.vt_pages.specs.declared.PageName.{PageName}
 use Rattle.vt_pages.specs.Shape.{Shape}
 use Rattle.vt_pages.specs.Pages.{IsPage, IsWithinLimits, columns_at, index_of, name_at}
 use Rattle.vt_store.specs.ChainStores.{HasShape}
-use Rattle.vt_store.specs.TileLines.{HasTileRows, HasLines, GainsLine, piece_at, rows_inside, tile_rows_length}
-use Rattle.vt_store.proofs.Pieces.{piece_end}
-use Rattle.vt_store.specs.Format.{tiles_bytes}
+use Rattle.vt_tiles.specs.TileLines.{HasTileRows, HasLines, GainsLine, piece_at, rows_inside, tile_rows_length}
+use Rattle.vt_tiles.proofs.Pieces.{piece_end}
+use Rattle.vt_tiles.specs.Format.{tiles_bytes}
 use Rattle.vt_store.proofs.Tiles.{next_line}
 use Rattle.vt_store.proofs.Widening.{piece_of_slice, clamped_place, tile_begins}
 

@@ -14,10 +14,10 @@ use Rattle.vt_outside.proofs.Changes.{told-bytes-appended, front_of_two, front_o
 use Rattle.vt_pages.specs.Shape.{Shape}
 use Rattle.vt_pages.specs.Pages.{IsWithinLimits, pages_of, columns_at}
 use Rattle.vt_pages.proofs.Counts.{lt_up}
-use Rattle.vt_store.specs.declared.error.StoreError.{StoreError}
-use Rattle.vt_store.specs.Format.{header_bytes, tile_start, tile_length, tiles_bytes, store_bytes, stored}
-use Rattle.vt_store.specs.Places.{TilesAsked, piece_tiles, pieces_of, piece_count, piece_place, piece_places, PiecesAsked, FrontAsked}
-use Rattle.vt_store.specs.StoreViews.{IsStore, IsStoreIfTold}
+use Rattle.vt_tiles.specs.declared.error.StoreError.{StoreError}
+use Rattle.vt_tiles.specs.Format.{header_bytes, tile_start, tile_length, tiles_bytes, store_bytes, stored}
+use Rattle.vt_tiles.specs.Places.{TilesAsked, piece_tiles, pieces_of, piece_count, piece_place, piece_places, PiecesAsked, FrontAsked}
+use Rattle.vt_tiles.specs.StoreViews.{IsStore, IsStoreIfTold}
 use Rattle.vt_store.specs.Widening.{HoldsWidened, HoldsFront, GainsTiles, GainsFront, widened}
 use Rattle.vt_store.proofs.Writing.{front_bytes, front_grown, front_none, front_all, store_split}
 

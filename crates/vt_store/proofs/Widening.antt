@@ -14,13 +14,14 @@ use Rattle.vt_pages.specs.Shape.{Shape}
 use Rattle.vt_pages.specs.Pages.{IsPage, IsWithinLimits, columns_at, rows_at, pages_of, index_of, name_at, texel_page}
 use Rattle.vt_pages.proofs.Counts.{lt_up}
 use Rattle.vt_pages.proofs.Names.{are_inverse}
-use Rattle.vt_store.specs.Format.{header_length, tile_area, tile_length, tile_start, texel_number, stored}
-use Rattle.vt_store.specs.StoreViews.{IsStore}
-use Rattle.vt_store.specs.TileLines.{IsSpan, HasLines, piece_at, tile_piece, tile_word, columns_inside, rows_inside}
+use Rattle.vt_tiles.specs.Format.{header_length, tile_area, tile_length, tile_start, texel_number, stored}
+use Rattle.vt_tiles.specs.StoreViews.{IsStore}
+use Rattle.vt_tiles.specs.TileLines.{IsSpan, HasLines, piece_at, tile_piece, tile_word, columns_inside, rows_inside}
 use Rattle.vt_store.specs.Widening.{IsWideLine, HasWideLines, doubled, widened_word, widened}
-use Rattle.vt_store.proofs.Lines.{up_to, tile_room}
-use Rattle.vt_store.proofs.Pieces.{bytes_moved, bytes_of_take, bytes_of_drop, piece_end, piece_kept, piece_written, word_same}
-use Rattle.vt_store.proofs.Stored.{texel_of_piece}
+use Rattle.vt_tiles.proofs.Lines.{up_to}
+use Rattle.vt_store.proofs.Lines.{tile_room}
+use Rattle.vt_tiles.proofs.Pieces.{bytes_moved, bytes_of_take, bytes_of_drop, piece_end, piece_kept, piece_written, word_same}
+use Rattle.vt_tiles.proofs.Stored.{texel_of_piece}
 
 moved : (xs : List ℕ) (i k : ℕ) → i ≡ k → slice_index xs i ≡ slice_index xs k
 moved xs i k e = ap (slice_index xs) e

@@ -9,8 +9,8 @@ use Rattle.vt_outside.proofs.Changes.{told-bytes-appended, front_of_two, front_o
 use Rattle.vt_definitions.specs.Texels.{Source}
 use Rattle.vt_pages.specs.Shape.{Shape}
 use Rattle.vt_pages.specs.Pages.{pages_of}
-use Rattle.vt_store.specs.Format.{header_bytes, tile_bytes, tiles_bytes, store_bytes}
-use Rattle.vt_store.proofs.Spans.{span_add}
+use Rattle.vt_tiles.specs.Format.{header_bytes, tile_bytes, tiles_bytes, store_bytes}
+use Rattle.vt_tiles.proofs.Spans.{span_add}
 
 -- a store's bytes as far as the tiles of so many pages
 abbrev pub front_bytes : Shape → ℕ → Source → ℕ → List ℕ

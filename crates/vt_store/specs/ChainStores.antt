@@ -9,7 +9,7 @@ use Rattle.vt_mip.specs.InPlace.{ShrinksFront}
 use Rattle.vt_mip.specs.TakenRows.{HalvingView}
 use Rattle.vt_pages.specs.Shape.{Shape, shape_of}
 use Rattle.vt_pages.specs.Pages.{pages_of}
-use Rattle.vt_store.specs.Format.{store_bytes, tiles_bytes}
+use Rattle.vt_tiles.specs.Format.{store_bytes, tiles_bytes}
 
 -- the chain has the sides and the tile side of the pages
 pub record HasShape (chain : ChainView) (shape : Shape) : Type 0 where

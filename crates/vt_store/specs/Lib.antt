@@ -1,9 +1,4 @@
-pub mod Format
 pub mod ChainStores
 pub mod Laws
-pub mod StoreViews
-pub mod Places
-pub mod Refusals
-pub mod TileLines
 pub mod Widening
 pub mod StripStores

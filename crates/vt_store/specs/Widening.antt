@@ -4,8 +4,8 @@ use Rattle.vt_definitions.specs.Depths.{word_of, red_of, green_of, blue_of}
 use Rattle.vt_definitions.specs.Texels.{Source}
 use Rattle.vt_outside.specs.Files.{Files, with_bytes, with_appended}
 use Rattle.vt_pages.specs.Shape.{Shape}
-use Rattle.vt_store.specs.Format.{store_bytes, stored, tiles_bytes}
-use Rattle.vt_store.specs.TileLines.{piece_at}
+use Rattle.vt_tiles.specs.Format.{store_bytes, stored, tiles_bytes}
+use Rattle.vt_tiles.specs.TileLines.{piece_at}
 
 -- so many times a sample of one byte is the sample of two bytes that stands for the same light: 255 becomes 65535
 abbrev pub widening : ℕ

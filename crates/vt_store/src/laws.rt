@@ -1,27 +1,7 @@
-//! Laws of the store format.
-ghost use Rattle.vt_store.specs.Laws.{StoresOpen, StoresHoldSources, StoresHoldChains, StoredWordsAreSmall, PiecesHoldTexels};
-
-/// The store of a source, for sides and a tile side that make a geometry, has no flaw and tells this geometry.
-pub fn stores_open()
-    ensures { StoresOpen }
-{}
-
-/// The store of a source holds the source's words inside every level.
-pub fn stores_hold_sources()
-    ensures { StoresHoldSources }
-{}
+//! The law of the stores of textures.
+ghost use Rattle.vt_store.specs.Laws.{StoresHoldChains};
 
 /// The store of a texture holds the texture's mip chain: from the bytes of the texture to the words of the store.
 pub fn stores_hold_chains()
     ensures { StoresHoldChains }
-{}
-
-/// A store of bytes is a source of words below 2^24.
-pub fn stored_words_are_small()
-    ensures { StoredWordsAreSmall }
-{}
-
-/// A tile that was read of a store holds the words that the store has for the texels of its page.
-pub fn pieces_hold_texels()
-    ensures { PiecesHoldTexels }
 {}

@@ -10,15 +10,15 @@ ghost use Rattle.vt_mip.specs.Halves.{IsHalf};
 ghost use Rattle.vt_mip.specs.InPlace.{ShrinksFront};
 ghost use Rattle.vt_pages.specs.Pages.{pages_of, pages_below, levels_of, columns_at, rows_at, index_at};
 ghost use Rattle.vt_store.specs.ChainStores.{AddsPages, AddsPart, HasLevelTexels, IsLevelOf, level_source};
-ghost use Rattle.vt_store.specs.Format.{tile_length, tiles_bytes};
+ghost use Rattle.vt_tiles.specs.Format.{tile_length, tiles_bytes};
 
-use crate::header::tile_length;
 use crate::write::{put_tiles, size_inside, tile_columns};
 use std::alloc::Global;
 use vt_mip::Shrinking;
 use vt_outside::{Folder, OutsideError};
 use vt_pages::{Geometry, PageName};
 use vt_ppm::{Image, samples_are_bytes};
+use vt_tiles::tile_length;
 
 // Adds a row of tiles of a level to the name, and halves the rows of texels on which it lies.
 fn write_row<D: Folder>(

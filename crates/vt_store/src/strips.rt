@@ -8,11 +8,12 @@ ghost use Rattle.vt_ppm.specs.Format.{depth_of};
 ghost use Rattle.vt_ppm.specs.Strips.{RowsAsked, row_length, texture_of};
 ghost use Rattle.vt_mip.specs.TakenRows.{HalvesFront};
 ghost use Rattle.vt_pages.specs.Pages.{columns_at, rows_at};
-ghost use Rattle.vt_store.specs.Format.{tile_length};
-ghost use Rattle.vt_store.specs.Refusals.{IsOutsideRefusal};
-ghost use Rattle.vt_store.specs.StripStores.{HoldsMade, HoldsMadeFront, GainsMade, GainsMadeFront, StripsAsked, StripsTried, strip_shape, strip_store, strip_tiles, strips_of, strip_rows};
+ghost use Rattle.vt_tiles.specs.Format.{tile_length};
+ghost use Rattle.vt_tiles.specs.Refusals.{IsOutsideRefusal};
+ghost use Rattle.vt_tiles.specs.Made.{HoldsMade, HoldsMadeFront, GainsMade, GainsMadeFront};
+ghost use Rattle.vt_store.specs.StripStores.{StripsAsked, StripsTried, strip_shape, strip_store, strip_tiles};
+ghost use Rattle.vt_ppm.specs.StripPlaces.{strips_of, strip_rows};
 
-use crate::StoreError;
 use crate::levels::write_levels;
 use crate::widen::room_for;
 use crate::write::{begin_store, longest_row, put_tiles, tile_columns};
@@ -21,6 +22,7 @@ use vt_definitions::texel_length;
 use vt_mip::{Halving, StripChain};
 use vt_outside::{File, Folder};
 use vt_pages::Geometry;
+use vt_tiles::StoreError;
 
 // Reads a strip, halves its rows into level 1, and adds its row of tiles to the name.
 fn write_strip<F: File, D: Folder>(

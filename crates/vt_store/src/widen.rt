@@ -1,35 +1,22 @@
 //! Making a store of two-byte samples of one of one-byte samples.
-ghost use Rattle.std.specs.Prelude.{◌≡◌, ℕ, ◌+◌, ◌-◌, ◌*◌, ◌<◌, ◌≤◌, ◌⊎◌, true, false, List, length, min, slice_index, vec_len, IfOk, IfErr, OnOk, OnErr, IsErrOf};
+ghost use Rattle.std.specs.Prelude.{◌≡◌, ℕ, ◌+◌, ◌-◌, ◌*◌, ◌<◌, ◌≤◌, ◌⊎◌, true, false, List, length, min, vec_len, IfOk, IfErr, OnOk, OnErr, IsErrOf};
 ghost use Rattle.vt_outside.specs.Counts.{Rose};
 ghost use Rattle.vt_outside.specs.Files.{IsPiece, IsThere};
 ghost use Rattle.vt_pages.specs.Pages.{pages_of};
-ghost use Rattle.vt_store.specs.Format.{stored, tile_length, tile_start, tiles_bytes};
-ghost use Rattle.vt_store.specs.Places.{TilesAsked, PiecesAsked, FrontAsked, pieces_of};
-ghost use Rattle.vt_store.specs.Refusals.{IsOutsideRefusal};
-ghost use Rattle.vt_store.specs.StoreViews.{IsStore};
+ghost use Rattle.vt_tiles.specs.Format.{stored, tile_length, tile_start, tiles_bytes};
+ghost use Rattle.vt_tiles.specs.Places.{TilesAsked, PiecesAsked, FrontAsked, pieces_of};
+ghost use Rattle.vt_tiles.specs.Refusals.{IsOutsideRefusal};
+ghost use Rattle.vt_tiles.specs.StoreViews.{IsStore};
 ghost use Rattle.vt_store.specs.Widening.{HoldsWidened, HoldsFront, GainsTiles, GainsFront, IsWideLine, HasWideLines, widened};
 
-use crate::header::tile_length;
-use crate::write::{begin_store, longest_row, put_span, size_inside, tile_columns};
-use crate::{Store, StoreError};
+use crate::write::{begin_store, longest_row, size_inside, tile_columns};
 use std::alloc::Global;
 use vt_outside::{Folder, NoMemory};
 use vt_pages::Geometry;
+use vt_tiles::{Store, StoreError, double_bytes, put_span, tile_length};
 
 // How many bytes the longest line of a tile of one-byte samples has.
 const LONGEST_LINE: usize = 384;
-
-// Writes each byte twice: as two bytes it is 257 times the sample that it was as one.
-fn double_bytes(out: &mut [u8], bytes: &[u8])
-    requires { length out.old ≡ 2 * length bytes.now }
-    ensures first { (i : ℕ) → i < length bytes.now → slice_index out.new (2 * i) ≡ slice_index bytes.now i }
-    ensures second { (i : ℕ) → i < length bytes.now → slice_index out.new (2 * i + 1) ≡ slice_index bytes.now i }
-{
-    for (i, byte) in bytes.iter().enumerate() {
-        out[2 * i] = *byte;
-        out[2 * i + 1] = *byte;
-    }
-}
 
 // Writes a line of so many texels of two bytes a sample from texels of one byte: where these are fewer, the last one stands
 // again up to the end.

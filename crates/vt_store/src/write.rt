@@ -7,42 +7,17 @@ ghost use Rattle.vt_definitions.specs.Depths.{IsDepth};
 ghost use Rattle.vt_definitions.specs.Limits.{most_tiled_side};
 ghost use Rattle.vt_mip.specs.Chains.{chain_texel};
 ghost use Rattle.vt_pages.specs.Pages.{pages_of, levels_of, columns_at, name_at};
-ghost use Rattle.vt_store.specs.Format.{header_bytes, tile_length, tiles_bytes};
+ghost use Rattle.vt_tiles.specs.Format.{header_bytes, tile_length, tiles_bytes};
 ghost use Rattle.vt_store.specs.ChainStores.{HasShape, AddsPages, AddsPart, chain_store};
-ghost use Rattle.vt_store.specs.TileLines.{IsFilled, IsSpan, GainsLine, HasTileRows, columns_inside, rows_inside, tile_rows_length};
-ghost use Rattle.vt_store.specs.Refusals.{IsOutsideRefusal};
+ghost use Rattle.vt_tiles.specs.TileLines.{GainsLine, HasTileRows, columns_inside, rows_inside, tile_rows_length};
+ghost use Rattle.vt_tiles.specs.Refusals.{IsOutsideRefusal};
 
-use crate::StoreError;
-use crate::header::{header_of, tile_length};
 use std::alloc::Global;
 use vt_definitions::texel_length;
 use vt_mip::Chain;
 use vt_outside::{Folder, OutsideError};
 use vt_pages::Geometry;
-
-// Writes a texel all over, as often as there is room for it.
-fn fill_texels(out: &mut [u8], texel: &[u8])
-    requires { 1 ≤ length texel.now }
-    ensures { IsFilled texel.now out.new }
-{
-    let size = texel.len();
-    for x in 0..out.len() / size {
-        let at = size * x;
-        out[at..at + size].copy_from_slice(texel);
-    }
-}
-
-/// Writes the texels of a row, of `size` bytes each, from byte `at` on; past the row's end its last texel stands again.
-pub fn put_span(out: &mut [u8], row: &[u8], at: usize, size: usize)
-    requires some { 1 ≤ size }
-    requires inside { at + size ≤ length row.now }
-    ensures { (columns first count : ℕ) → length row.now ≡ size * columns → at ≡ size * first → length out.old ≡ size * count
-        → IsSpan size row.now columns first count out.new }
-{
-    let inside = out.len().min(row.len() - at);
-    out[..inside].copy_from_slice(&row[at..at + inside]);
-    fill_texels(&mut out[inside..], &row[row.len() - size..]);
-}
+use vt_tiles::{StoreError, header_of, put_span, rows_above, tile_length};
 
 // Writes one line of so many tiles that lie side by side, from a row of texels of `size` bytes and a column of tiles on.
 fn put_line(
@@ -187,11 +162,10 @@ fn tile_rows<'a>(chain: &'a Chain, geometry: &Geometry, page: u32) -> &'a [u8]
     ensures rows { HasTileRows geometry.now chain.now.base.depth (chain_texel chain.now) page result.now }
 {
     let name = geometry.page_at(page);
-    let side = geometry.tile() as usize;
     let (width, _) = chain.size(name.level);
     let (_, inside) = size_inside(geometry, page);
     let row_size = texel_length(chain.depth()) * width as usize;
-    let from = row_size * (name.row as usize * side);
+    let from = row_size * rows_above(geometry, page);
     &chain.samples(name.level)[from..from + row_size * inside]
 }
 

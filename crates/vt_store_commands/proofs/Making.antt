@@ -7,7 +7,7 @@ use Rattle.std.proofs.lemmas.List.{append-nil}
 use Rattle.vt_outside.specs.Files.{Files, with_bytes, with_appended}
 use Rattle.vt_outside.proofs.Changes.{told-bytes-appended}
 use Rattle.vt_ppm.specs.Picture.{picture_bytes}
-use Rattle.vt_store.proofs.Spans.{span_add, span_length}
+use Rattle.vt_tiles.proofs.Spans.{span_add, span_length}
 use Rattle.vt_store.proofs.Writing.{longer_part}
 use Rattle.vt_store_commands.specs.commands.Gen.{made_texel, made_row, made_rows, made_file}
 

@@ -9,9 +9,9 @@ use Rattle.vt_outside.specs.declared.place.Place.{Place}
 use Rattle.vt_outside.specs.declared.answers.OutsideError.{OutsideError}
 use Rattle.vt_outside.specs.declared.answers.OutsideError.TheVariants.{Failed}
 use Rattle.vt_pages.specs.Shape.{Shape}
-use Rattle.vt_store.specs.Places.{FrontAsked, PiecesAsked, pieces_of, piece_place, piece_places}
-use Rattle.vt_store.specs.StoreViews.{IsStore}
-use Rattle.vt_store.specs.StripStores.{HoldsMade, HoldsMadeFront}
+use Rattle.vt_tiles.specs.Places.{FrontAsked, PiecesAsked, pieces_of, piece_place, piece_places}
+use Rattle.vt_tiles.specs.StoreViews.{IsStore}
+use Rattle.vt_tiles.specs.Made.{HoldsMade, HoldsMadeFront}
 use Rattle.vt_store.specs.Widening.{HoldsWidened, HoldsFront}
 use Rattle.vt_files.specs.Courses.{FolderState}
 use Rattle.vt_files.specs.Dues.{Writes}

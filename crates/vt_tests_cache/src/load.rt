@@ -9,7 +9,7 @@ use std::thread::Threads;
 use vt_load::*;
 use vt_outside::{Bytes, Fail, Fails, Folder, MemoryFile, MemoryFolder, OpenGate, Place};
 use vt_queue::{Loaded, Outcome, QueuePass, Request, RequestQueue, ResultQueue};
-use vt_store::Store;
+use vt_tiles::Store;
 
 mod beside;
 

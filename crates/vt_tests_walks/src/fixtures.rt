@@ -11,7 +11,7 @@ ghost use Rattle.vt_walk.specs.States.{AreOpen};
 use std::process::Abort;
 use vt_outside::{Folder, MemoryFolder, Place};
 use vt_pass::Crew;
-use vt_store::Store;
+use vt_tiles::Store;
 
 /// The store, with tiles of side 2, of the texture of 4x4 texels whose texel (x, y) is 4y+x in each channel: its header, and the
 /// tiles of four pages and of the root.

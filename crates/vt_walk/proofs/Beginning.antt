@@ -19,8 +19,8 @@ use Rattle.vt_camera.specs.Paths.{PathView}
 use Rattle.vt_journal.specs.Changes.{Table, Pinned}
 use Rattle.vt_journal.specs.declared.changes.Change.{Change}
 use Rattle.vt_journal.specs.JournalText.{head_text, pinned_changes}
-use Rattle.vt_store.specs.Format.{tile_start, tile_length}
-use Rattle.vt_store.specs.StoreViews.{IsStoreIfTold}
+use Rattle.vt_tiles.specs.Format.{tile_start, tile_length}
+use Rattle.vt_tiles.specs.StoreViews.{IsStoreIfTold}
 use Rattle.vt_evict.specs.declared.batches.Planned.{Planned}
 use Rattle.vt_evict.specs.Views.{RecencyView, first_view}
 use Rattle.vt_shown.specs.Scenes.{Scene}

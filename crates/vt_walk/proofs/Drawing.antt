@@ -8,7 +8,7 @@ use Rattle.vt_camera.specs.Paths.{PathView}
 use Rattle.vt_journal.specs.declared.changes.Change.{Change}
 use Rattle.vt_journal.specs.declared.changes.RowLine.{RowLine}
 use Rattle.vt_journal.specs.Changes.{Table, newest}
-use Rattle.vt_store.specs.StoreViews.{IsStore}
+use Rattle.vt_tiles.specs.StoreViews.{IsStore}
 use Rattle.vt_shown.specs.Scenes.{Scene}
 use Rattle.vt_pass.specs.Scenes.{Job}
 use Rattle.vt_pass.specs.Machines.{Setup, MachineState}

@@ -11,7 +11,7 @@ use Rattle.vt_ppm.specs.Picture.{picture_bytes}
 use Rattle.vt_words.specs.Names.{picture_name}
 use Rattle.vt_camera.specs.Paths.{PathView}
 use Rattle.vt_journal.specs.Changes.{Table}
-use Rattle.vt_store.specs.StoreViews.{IsStore}
+use Rattle.vt_tiles.specs.StoreViews.{IsStore}
 use Rattle.vt_evict.specs.declared.batches.Planned.{Planned}
 use Rattle.vt_evict.specs.Views.{RecencyView, pages_needed}
 use Rattle.vt_shown.specs.Scenes.{Scene}

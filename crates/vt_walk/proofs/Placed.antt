@@ -11,8 +11,8 @@ use Rattle.vt_outside.specs.Places.{times_asked, times_failed, is_read_of}
 use Rattle.vt_outside.specs.declared.place.Place.{Place}
 use Rattle.vt_pages.specs.Shape.{Shape}
 use Rattle.vt_pages.specs.Pages.{IsWithinLimits, pages_of}
-use Rattle.vt_store.specs.Format.{tile_start, tile_length}
-use Rattle.vt_store.specs.Places.{TileAsked}
+use Rattle.vt_tiles.specs.Format.{tile_start, tile_length}
+use Rattle.vt_tiles.specs.Places.{TileAsked}
 use Rattle.vt_journal.specs.declared.changes.Change.{Change}
 use Rattle.vt_journal.specs.declared.changes.Change.TheVariants.{Map}
 use Rattle.vt_journal.specs.Changes.{Table, changed, newest, IsNext}

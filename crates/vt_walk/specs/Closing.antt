@@ -4,7 +4,7 @@ use Rattle.std.specs.Str.{bytes_eq}
 use Rattle.vt_outside.specs.Files.{Asked, with_places}
 use Rattle.vt_outside.specs.declared.outside.File.{Ghosts as FileMeanings}
 use Rattle.vt_pages.specs.Shape.{Shape}
-use Rattle.vt_store.specs.StoreViews.{StoreView}
+use Rattle.vt_tiles.specs.StoreViews.{StoreView}
 use Rattle.vt_pass.specs.Requests.{FileState, counts_of}
 use Rattle.vt_pass.specs.Machines.{files_of, told_by, AreStoresFor}
 use Rattle.vt_walk.specs.States.{AreOpen, places_of}

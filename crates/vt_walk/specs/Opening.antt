@@ -3,7 +3,7 @@ use Rattle.std.specs.Prelude.{◌≡◌, ℕ, List, [], Option, OnSome, option_m
 use Rattle.vt_outside.specs.Files.{Asked}
 use Rattle.vt_outside.specs.declared.outside.File.{Ghosts as FileMeanings}
 use Rattle.vt_pages.specs.Shape.{Shape}
-use Rattle.vt_store.specs.StoreViews.{StoreView}
+use Rattle.vt_tiles.specs.StoreViews.{StoreView}
 
 -- a store of a name was just opened: it tells these bytes, or tells none, was asked nothing and has met no fault
 pub record IsFresh {F : Type 0} (g : FileMeanings F) (s : Shape) (d : ℕ) (name : List ℕ) (asked : Option Asked) (told : Option (List ℕ))

@@ -4,7 +4,7 @@ use Rattle.std.specs.List.{range_with_len}
 use Rattle.vt_outside.specs.declared.place.Place.{Place}
 use Rattle.vt_pages.specs.Shape.{Shape}
 use Rattle.vt_pages.specs.Pages.{pages_of}
-use Rattle.vt_store.specs.Format.{tile_start, tile_length}
+use Rattle.vt_tiles.specs.Format.{tile_start, tile_length}
 use Rattle.vt_journal.specs.declared.changes.Change.{Change}
 use Rattle.vt_journal.specs.JournalText.{pinned_change, pinned_changes}
 use Rattle.vt_pass.specs.Machines.{Setup, MachineState}

@@ -2,7 +2,7 @@
 use Rattle.std.specs.Prelude.{◌≡◌, ℕ, ◌+◌, ◌<◌, ◌≤◌, Bool, true, IsTrue, ◌↔◌, List, [], ◌∷◌, length, slice_index, Option, IsSome}
 use Rattle.vt_definitions.specs.Depths.{IsDepth}
 use Rattle.vt_pages.specs.Pages.{IsWithinLimits}
-use Rattle.vt_store.specs.StoreViews.{IsStoreIfTold}
+use Rattle.vt_tiles.specs.StoreViews.{IsStoreIfTold}
 use Rattle.vt_camera.specs.Paths.{PathView}
 use Rattle.vt_journal.specs.Changes.{Table}
 use Rattle.vt_journal.specs.Passes.{pass_of as text_of}

@@ -4,7 +4,7 @@ ghost use Rattle.std.specs.Prelude.{◌≡◌, ◌≤◌, [], length, sum, All, 
 ghost use Rattle.vt_definitions.specs.Depths.{IsDepth};
 ghost use Rattle.vt_outside.specs.Counts.{Rose, RoseBy};
 ghost use Rattle.vt_outside.specs.Files.{bytes_at, IsThere};
-ghost use Rattle.vt_store.specs.StoreViews.{IsStoreIfTold};
+ghost use Rattle.vt_tiles.specs.StoreViews.{IsStoreIfTold};
 ghost use Rattle.vt_pass.specs.Requests.{counts_of};
 ghost use Rattle.vt_pass.specs.Machines.{files_of};
 ghost use Rattle.vt_walk.specs.Closing.{with_closed, AreFresh};
@@ -13,7 +13,7 @@ ghost use Rattle.vt_walk.specs.Opening.{IsFresh};
 use std::alloc::Global;
 use vt_outside::{Folder, OutsideError};
 use vt_pages::Geometry;
-use vt_store::{Store, Stores};
+use vt_tiles::{Store, Stores};
 
 /// Opens a store, which is cut as the geometry says and whose samples have `depth` bytes, once for each loader, of which
 /// there is at least one. After a refusal none is open.

@@ -3,8 +3,8 @@
 ghost use Rattle.std.specs.Prelude.{◌≡◌, ◌+◌, ◌<◌, ◌≤◌, [], length, Bool, false, OnOk, OnErr, IsErrOf};
 ghost use Rattle.vt_outside.specs.Counts.{Rose};
 ghost use Rattle.vt_pages.specs.Pages.{pages_of};
-ghost use Rattle.vt_store.specs.Format.{tile_length as length_of_tile};
-ghost use Rattle.vt_store.specs.Places.{TileAsked};
+ghost use Rattle.vt_tiles.specs.Format.{tile_length as length_of_tile};
+ghost use Rattle.vt_tiles.specs.Places.{TileAsked};
 ghost use Rattle.vt_journal.specs.declared.changes.Change.TheVariants.{Map};
 ghost use Rattle.vt_journal.specs.Changes.{newest, IsNext};
 ghost use Rattle.vt_pass.specs.Crews.{last_start};
@@ -18,7 +18,7 @@ use std::thread::Threads;
 use vt_outside::{File, OutsideError};
 use vt_pages::Geometry;
 use vt_pass::PassMachine;
-use vt_store::{Store, tile_length};
+use vt_tiles::{Store, tile_length};
 
 /// Reads the tile of each pinned page, the last so many pages, from the store in the order of their indexes, and places it: the
 /// first in frame 0, and each further one in the next frame (Mayer 2010).

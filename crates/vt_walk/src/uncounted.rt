@@ -21,7 +21,7 @@ use std::thread::Threads;
 use vt_camera::Path;
 use vt_outside::{Folder, Gate, Sink};
 use vt_pass::PassMachine;
-use vt_store::Store;
+use vt_tiles::Store;
 
 /// Walks over all pictures of a path by a machine, live or settled.
 ///

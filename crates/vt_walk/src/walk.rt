@@ -3,7 +3,7 @@
 ghost use Rattle.std.specs.Prelude.{◌≡◌, ℕ, ◌<◌, ◌≤◌, List, [], ◌∷◌, sum, Option, is_some, IfOk, MatchResult, OnOk};
 ghost use Rattle.vt_outside.specs.Files.{bytes_at};
 ghost use Rattle.vt_pages.specs.Pages.{pinned_of};
-ghost use Rattle.vt_store.specs.StoreViews.{IsStoreIfTold};
+ghost use Rattle.vt_tiles.specs.StoreViews.{IsStoreIfTold};
 ghost use Rattle.vt_shown.specs.Scenes.{scene_of};
 ghost use Rattle.vt_pass.specs.Machines.{file_state};
 ghost use Rattle.vt_walk.specs.Walks.{given_by, walk_setup, mode_of, names_of, AreSettings};
@@ -32,7 +32,7 @@ use vt_camera::Path;
 use vt_evict::Recency;
 use vt_outside::{Folder, Gate, Sink};
 use vt_pass::PassMachine;
-use vt_store::{Store, Stores};
+use vt_tiles::{Store, Stores};
 
 /// Walks over all pictures of a path by a machine, as `walk_with` does, and answers how many passes it had and how many tiles it
 /// asked for: those of a whole run. Conditions, refusals and causes are those of `walk_with`.

@@ -12,7 +12,7 @@ use Rattle.vt_pages.specs.Shape.{Shape}
 use Rattle.vt_pages.specs.Pages.{levels_of, pages_below, pages_of, index_at, root_of, pinned_of, IsWithinLimits}
 use Rattle.vt_pages.proofs.Counts.{pages_below_le}
 use Rattle.vt_words.specs.Names.{picture_name}
-use Rattle.vt_store.specs.Format.{stored}
+use Rattle.vt_tiles.specs.Format.{stored}
 use Rattle.vt_files.specs.Dues.{FileDue, with_files}
 use Rattle.vt_files.specs.Pictures.{picture_due, pictures_due}
 use Rattle.vt_journal.specs.declared.changes.Change.{Change}

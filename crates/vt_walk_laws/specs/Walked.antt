@@ -1,7 +1,7 @@
 -- A walk whose journal is replayed.
 use Rattle.std.specs.Prelude.{◌≡◌, ℕ, List, [], ◌∷◌, ◌++◌, Some, length}
 use Rattle.vt_words.specs.Names.{picture_name}
-use Rattle.vt_store.specs.Format.{stored}
+use Rattle.vt_tiles.specs.Format.{stored}
 use Rattle.vt_files.specs.Dues.{FileDue}
 use Rattle.vt_shown.specs.Replays.{pixel_under}
 use Rattle.vt_walk.specs.Walks.{WalkGiven}

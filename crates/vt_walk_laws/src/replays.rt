@@ -4,7 +4,7 @@ ghost use Rattle.std.specs.Prelude.{◌≡◌, ℕ, ◌+◌, ◌<◌, ◌≤◌,
 ghost use Rattle.vt_outside.specs.Files.{Files};
 ghost use Rattle.vt_pages.specs.Pages.{pinned_of, IsWithinLimits};
 ghost use Rattle.vt_journal.specs.JournalText.{Content, content_changes};
-ghost use Rattle.vt_store.specs.Format.{stored};
+ghost use Rattle.vt_tiles.specs.Format.{stored};
 ghost use Rattle.vt_files.specs.Dues.{with_files};
 ghost use Rattle.vt_files.specs.Pictures.{pictures_due};
 ghost use Rattle.vt_shown.specs.Scenes.{Scene};

@@ -12,7 +12,7 @@ use std::alloc::Global;
 use vt_inputs::{Flaw, Refusal, open_store, put_end, read_journal, read_path, refusal_of};
 use vt_outside::{Folder, OutsideError, Sink};
 use vt_replay::ReplayError;
-use vt_store::Store;
+use vt_tiles::Store;
 use vt_words::ReplayWords;
 
 /// Reads the path, opens the store and reads the journal, writes each picture of the journal under its name, and puts the end

@@ -1,7 +1,7 @@
 -- The command `upgrade`: the store of two-byte samples that is made of one of one-byte samples.
 use Rattle.std.specs.Prelude.{ℕ, List, [], ◌∷◌}
 use Rattle.vt_pages.specs.Shape.{Shape}
-use Rattle.vt_store.specs.Format.{store_bytes, stored}
+use Rattle.vt_tiles.specs.Format.{store_bytes, stored}
 use Rattle.vt_store.specs.Widening.{widened}
 use Rattle.vt_words.specs.Upgrade.{UpgradeText}
 use Rattle.vt_inputs.specs.Lines.{store_line}

@@ -12,7 +12,8 @@ ghost use Rattle.vt_store_commands.specs.commands.Upgrade.{upgrade_task, upgrade
 use std::alloc::Global;
 use vt_inputs::{Flaw, Refusal, open_store, outside_error, put_store_line};
 use vt_outside::{Folder, OutsideError, Sink};
-use vt_store::{Store, widen_store};
+use vt_store::widen_store;
+use vt_tiles::Store;
 use vt_words::UpgradeWords;
 
 /// Opens the store, writes the new one, and puts the new one's line.

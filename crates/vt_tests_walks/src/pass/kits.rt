@@ -3,7 +3,7 @@
 ghost use Rattle.std.specs.Prelude.{◌≡◌, ℕ, ◌≤◌, Option, List, length, IfOk, OnOk};
 ghost use Rattle.std.specs.Bool.{OnTrue};
 ghost use Rattle.vt_pages.specs.Pages.{root_of};
-ghost use Rattle.vt_store.specs.Format.{tile_length};
+ghost use Rattle.vt_tiles.specs.Format.{tile_length};
 ghost use Rattle.vt_table.specs.Views.{IsTable};
 ghost use Rattle.vt_shown.specs.Frames.{HoldsTiles};
 ghost use Rattle.vt_pass.specs.Crews.{IsCrew};

@@ -4,7 +4,7 @@ ghost use Rattle.std.specs.Prelude.{◌≡◌, ◌≤◌, [], length, IfSome};
 ghost use Rattle.std.specs.Bool.{OnTrue};
 ghost use Rattle.vt_outside.specs.Files.{IsPiece};
 ghost use Rattle.vt_pages.specs.Pages.{root_of};
-ghost use Rattle.vt_store.specs.Format.{tile_length, tile_start};
+ghost use Rattle.vt_tiles.specs.Format.{tile_length, tile_start};
 ghost use Rattle.vt_pass.specs.Crews.{IsCrew};
 ghost use Rattle.vt_pass.specs.Passes.{MayPrepare, IsJobFor, Ends};
 ghost use Rattle.vt_pass.specs.Scenes.{job_of};

@@ -3,8 +3,8 @@
 ghost use Rattle.std.specs.Prelude.{◌≡◌, ◌≤◌, ◌<◌, ◌+◌, length, IfSome};
 ghost use Rattle.vt_outside.specs.Files.{IsPiece, bytes_at};
 ghost use Rattle.vt_pages.specs.Pages.{root_of};
-ghost use Rattle.vt_store.specs.Format.{tile_start};
-ghost use Rattle.vt_store.specs.StoreViews.{IsStoreIfTold};
+ghost use Rattle.vt_tiles.specs.Format.{tile_start};
+ghost use Rattle.vt_tiles.specs.StoreViews.{IsStoreIfTold};
 ghost use Rattle.vt_pass.specs.Machines.{told_by, AreStoresFor};
 
 use crate::fixtures::open_store;
@@ -13,7 +13,7 @@ use std::alloc::Global;
 use std::process::Abort;
 use vt_outside::Folder;
 use vt_pages::Geometry;
-use vt_store::{Store, Stores};
+use vt_tiles::{Store, Stores};
 
 /// Opens a store whose tiles have the side 2 and whose samples have one byte, reads the tile of its root, and closes
 /// it.

@@ -16,7 +16,7 @@ use vt_camera::Path;
 use vt_outside::{Fail, Fails, Folder, MemoryFolder, MemorySink, NoMemory, OpenGate, Sink};
 use vt_pages::Geometry;
 use vt_still_walks::{walk_live, walk_settled};
-use vt_store::Store;
+use vt_tiles::Store;
 use vt_walk::{Mode, Names, Settings, WalkError};
 
 /// A walk, and what is to stand after it. In the folder opening 0 is the path's, opening 1 the store's, and the loaders' follow.

@@ -6,7 +6,7 @@ use Rattle.std.proofs.lemmas.Option.{slice_get_within}
 use Rattle.vt_definitions.specs.Depths.{texel_length}
 use Rattle.vt_journal.specs.Kept.{entries_of}
 use Rattle.vt_journal.proofs.Versions.{same_page}
-use Rattle.vt_store.specs.Format.{stored}
+use Rattle.vt_tiles.specs.Format.{stored}
 use Rattle.vt_shown.specs.Scenes.{scene_of}
 use Rattle.vt_shown.specs.Replays.{HasPixels, pixel_under}
 use Rattle.vt_replay.specs.Sights.{row_of}

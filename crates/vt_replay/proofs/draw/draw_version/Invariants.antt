@@ -3,8 +3,8 @@ use Rattle.std.specs.Prelude.{slice_get, slice_index}
 use Rattle.vt_definitions.specs.Depths.{texel_length}
 use Rattle.vt_journal.specs.declared.changes.RowLine.{RowLine}
 use Rattle.vt_journal.specs.Kept.{entries_of}
-use Rattle.vt_store.specs.Format.{stored}
-use Rattle.vt_store.specs.StoreViews.{IsStore}
+use Rattle.vt_tiles.specs.Format.{stored}
+use Rattle.vt_tiles.specs.StoreViews.{IsStore}
 use Rattle.vt_shown.specs.Scenes.{scene_of}
 use Rattle.vt_shown.specs.Replays.{HasPixels, pixel_under}
 use Rattle.vt_replay.specs.Playing.{IsReadOn, IsReady}

@@ -3,7 +3,7 @@ use Rattle.std.specs.Prelude.{IsSome}
 use Rattle.vt_pages.specs.Pages.{root_of, IsWithinLimits}
 use Rattle.vt_journal.specs.declared.changes.Change.{Change}
 use Rattle.vt_journal.specs.Changes.{at}
-use Rattle.vt_store.specs.Format.{stored}
+use Rattle.vt_tiles.specs.Format.{stored}
 use Rattle.vt_files.specs.Pictures.{pictures_due}
 use Rattle.vt_shown.specs.Scenes.{scene_of}
 use Rattle.vt_replay.specs.Playing.{MayBePlayed, ArePlayed, HasWritten}

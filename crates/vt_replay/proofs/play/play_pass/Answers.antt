@@ -1,7 +1,7 @@
 use Rattle.std.proofs.Common.{ℕ, List, [], ◌∷◌, ◌∙◌, subst}
 use Rattle.std.proofs.lemmas.Result.{err_from_is_err_and}
 use Rattle.vt_ppm.specs.Picture.{picture_bytes}
-use Rattle.vt_store.specs.Format.{stored}
+use Rattle.vt_tiles.specs.Format.{stored}
 use Rattle.vt_files.specs.Courses.{passage}
 use Rattle.vt_files.specs.Dues.{Writes}
 use Rattle.vt_files.specs.Pictures.{picture_due}

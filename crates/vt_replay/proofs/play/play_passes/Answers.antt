@@ -6,7 +6,7 @@ use Rattle.vt_ppm.specs.Picture.{picture_bytes}
 use Rattle.vt_journal.specs.declared.changes.Change.{Change}
 use Rattle.vt_journal.specs.JournalText.{Pass}
 use Rattle.vt_journal.specs.Passes.{pass_of}
-use Rattle.vt_store.specs.Format.{stored}
+use Rattle.vt_tiles.specs.Format.{stored}
 use Rattle.vt_files.specs.Courses.{folder_state}
 use Rattle.vt_files.specs.Dues.{with_files}
 use Rattle.vt_files.specs.Pictures.{pictures_due}

@@ -1,6 +1,6 @@
 use Rattle.std.proofs.Common.{◌≡◌, ℕ, ◌≤◌, List, Some}
 use Rattle.std.specs.Prelude.{slice_get, MatchOption}
-use Rattle.vt_store.specs.Format.{stored}
+use Rattle.vt_tiles.specs.Format.{stored}
 use Rattle.vt_files.specs.Courses.{folder_state, passage}
 use Rattle.vt_files.specs.Dues.{AsksNone}
 use Rattle.vt_files.proofs.Writing.{HasPictures}

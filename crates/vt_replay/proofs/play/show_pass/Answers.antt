@@ -4,7 +4,7 @@ use Rattle.std.proofs.lemmas.Option.{slice_get-get_or}
 use Rattle.vt_definitions.specs.Depths.{texel_length}
 use Rattle.vt_journal.specs.declared.changes.RowLine.{RowLine}
 use Rattle.vt_journal.specs.Changes.{at}
-use Rattle.vt_store.specs.Format.{stored}
+use Rattle.vt_tiles.specs.Format.{stored}
 use Rattle.vt_shown.specs.Scenes.{scene_of}
 use Rattle.vt_shown.specs.Replays.{HasPixels, pixel_under}
 use Rattle.vt_replay.specs.Sights.{row_of}

@@ -1,5 +1,5 @@
 use Rattle.std.proofs.Common.{rules, arith, ◌≡◌, ◌+◌, ◌∙◌, ap, subst, refl, length, length-append, None, [], ◌∷◌}
-use Rattle.vt_store.specs.Format.{tile_length}
+use Rattle.vt_tiles.specs.Format.{tile_length}
 use Rattle.vt_queue.specs.Queues.{view_of}
 use Rattle.vt_evict.specs.declared.batches.Planned.{Planned}
 use Rattle.vt_load.proofs.Dealing.{popped_all}

@@ -5,7 +5,7 @@ use Rattle.vt_mip.proofs.Words.{first_level}
 use Rattle.vt_pages.specs.Pages.{columns_at, levels_of, pages_below, pages_of}
 use Rattle.vt_pages.proofs.Counts.{pages_below_le, pages_of-is}
 use Rattle.vt_store.specs.ChainStores.{AddsPages, level_source}
-use Rattle.vt_store.specs.Format.{tile_length}
+use Rattle.vt_tiles.specs.Format.{tile_length}
 use Rattle.vt_store.proofs.AddedPages.{adds_none}
 use Rattle.vt_store.proofs.LevelRows.{passed_on}
 use Rattle.vt_store.proofs.LevelChain.{level_side, level_texels, level_next, adds_then, adds_then_part}

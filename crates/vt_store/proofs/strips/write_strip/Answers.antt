@@ -3,7 +3,7 @@ use Rattle.vt_outside.proofs.Untold.{OnErr-all}
 use Rattle.vt_ppm.specs.Strips.{texture_of}
 use Rattle.vt_pages.specs.Pages.{columns_at}
 use Rattle.vt_store.proofs.StripTiles.{is_strip, strip_length, strip_made, strip_piece}
-use Rattle.vt_store.proofs.Refusing.{none_made, by_file, by_outside, no_fewer}
+use Rattle.vt_tiles.proofs.Refusing.{none_made, by_file, by_outside, no_fewer}
 use Rattle.vt_store.proofs.LevelChain.{refused_by}
 use Rattle.vt_store.proofs.strips.write_strip.Goals as goal
 

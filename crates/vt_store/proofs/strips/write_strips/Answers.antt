@@ -5,15 +5,16 @@ use Rattle.vt_ppm.specs.declared.header.Header.{Header}
 use Rattle.vt_ppm.specs.Strips.{texture_of}
 use Rattle.vt_mip.specs.TakenRows.{HalvingView, HalvesFront}
 use Rattle.vt_pages.specs.Pages.{pages_below, rows_at, columns_at}
-use Rattle.vt_store.specs.Format.{tile_length}
+use Rattle.vt_tiles.specs.Format.{tile_length}
 use Rattle.vt_store.specs.ChainStores.{level_source}
-use Rattle.vt_store.specs.StripStores.{StripsAsked, strip_rows, strips_of}
-use Rattle.vt_store.specs.declared.error.StoreError.TheVariants.{Failed}
+use Rattle.vt_store.specs.StripStores.{StripsAsked}
+use Rattle.vt_ppm.specs.StripPlaces.{strip_rows, strips_of}
+use Rattle.vt_tiles.specs.declared.error.StoreError.TheVariants.{Failed}
 use Rattle.vt_store.proofs.WideStores.{rose_along, no_less, carried}
 use Rattle.vt_store.proofs.StripStores.{made_begun, made_moved, made_more, made_part, made_header, made_whole, made_rest_part, store_seen, front_seen, header_seen, there_made, more_strips, no_strips, strips_front, strip_tried}
 use Rattle.vt_store.proofs.StripLevels.{first_pages, first_inside, strip_inside, are_strips, rest_tiles, level_made, strip_room, strip_small, strip_bytes, next_taken}
 use Rattle.vt_store.proofs.LevelChain.{refused_by}
-use Rattle.vt_store.proofs.Refusing.{none_made, by_memory, by_outside, by_call, no_fault, no_fewer}
+use Rattle.vt_tiles.proofs.Refusing.{none_made, by_memory, by_outside, by_call, no_fault, no_fewer}
 use Rattle.vt_store.proofs.strips.write_strips.Goals as goal
 
 pub returns-in_err-reserve-clause-front_read : goal.returns-in_err-reserve-clause-front_read

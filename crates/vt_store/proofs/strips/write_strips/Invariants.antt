@@ -3,7 +3,9 @@ use Rattle.vt_mip.specs.TakenRows.{HalvesFront}
 use Rattle.vt_pages.specs.Pages.{columns_at}
 use Rattle.vt_ppm.specs.Format.{depth_of}
 use Rattle.vt_ppm.specs.Strips.{texture_of}
-use Rattle.vt_store.specs.StripStores.{HoldsMade, StripsAsked, strips_of}
+use Rattle.vt_tiles.specs.Made.{HoldsMade}
+use Rattle.vt_store.specs.StripStores.{StripsAsked}
+use Rattle.vt_ppm.specs.StripPlaces.{strips_of}
 use Rattle.vt_store.proofs.StripStores.{strip_front}
 use Rattle.vt_store.proofs.strips.write_strips.Given as goal
 

@@ -1,7 +1,7 @@
 use Rattle.std.proofs.Common.{inl, inr, refl}
 use Rattle.vt_outside.proofs.Untold.{OnErr-all}
 use Rattle.vt_store.proofs.WideStores.{told_tiles}
-use Rattle.vt_store.proofs.Refusing.{none_made, by_file, by_outside, no_fewer}
+use Rattle.vt_tiles.proofs.Refusing.{none_made, by_file, by_outside, no_fewer}
 use Rattle.vt_store.proofs.LevelChain.{refused_by}
 use Rattle.vt_store.proofs.widen.widen_piece.Goals as goal
 

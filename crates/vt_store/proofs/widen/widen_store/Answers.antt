@@ -1,10 +1,10 @@
 use Rattle.std.proofs.Common.{ℕ, ◌+◌, ◌-◌, ◌*◌, ◌/◌, inl, inr, refl, sym, ◌∙◌, subst, arith}
 use Rattle.vt_outside.proofs.Untold.{OnErr-all}
-use Rattle.vt_store.specs.Places.{PiecesAsked}
-use Rattle.vt_store.specs.declared.error.StoreError.TheVariants.{Failed}
+use Rattle.vt_tiles.specs.Places.{PiecesAsked}
+use Rattle.vt_tiles.specs.declared.error.StoreError.TheVariants.{Failed}
 use Rattle.vt_store.proofs.WideStores.{some_columns, begun_pages, pages_moved, header_front, none_asked, front_asked, more_asked, piece_tried, piece_is, piece_part, piece_whole, all_done, all_pages, rose_along, no_less, carried, there}
 use Rattle.vt_store.proofs.LevelChain.{refused_by}
-use Rattle.vt_store.proofs.Refusing.{none_made, by_memory, by_outside, by_call, no_fault, no_fewer}
+use Rattle.vt_tiles.proofs.Refusing.{none_made, by_memory, by_outside, by_call, no_fault, no_fewer}
 use Rattle.vt_store.proofs.widen.widen_store.Goals as goal
 
 pub nonzero_div-pieces : goal.nonzero_div-pieces

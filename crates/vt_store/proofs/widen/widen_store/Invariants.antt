@@ -1,6 +1,6 @@
 use Rattle.std.proofs.Common.{◌≡◌, ◌+◌, ◌*◌, ◌≤◌, min}
 use Rattle.vt_pages.specs.Pages.{pages_of}
-use Rattle.vt_store.specs.Places.{PiecesAsked, piece_tiles, pieces_of}
+use Rattle.vt_tiles.specs.Places.{PiecesAsked, piece_tiles, pieces_of}
 use Rattle.vt_store.proofs.WideStores.{HoldsPages}
 use Rattle.vt_store.proofs.widen.widen_store.Given as goal
 

@@ -1,6 +1,6 @@
 use Rattle.std.proofs.Common.{◌≡◌, ℕ, ◌∙◌, inr, refl, subst, length, arith}
-use Rattle.vt_store.specs.Format.{stored}
-use Rattle.vt_store.specs.TileLines.{HasLines}
+use Rattle.vt_tiles.specs.Format.{stored}
+use Rattle.vt_tiles.specs.TileLines.{HasLines}
 use Rattle.vt_store.specs.Widening.{widened}
 use Rattle.vt_store.proofs.Tiles.{tiles_are}
 use Rattle.vt_store.proofs.Widening.{next_wide_tile, are_bytes, wide_room}

@@ -1,8 +1,8 @@
 use Rattle.std.proofs.Common.{ℕ, List}
 use Rattle.vt_outside.specs.Files.{IsPiece}
-use Rattle.vt_store.specs.Format.{stored, tile_start}
-use Rattle.vt_store.specs.StoreViews.{IsStore}
-use Rattle.vt_store.specs.TileLines.{HasLines}
+use Rattle.vt_tiles.specs.Format.{stored, tile_start}
+use Rattle.vt_tiles.specs.StoreViews.{IsStore}
+use Rattle.vt_tiles.specs.TileLines.{HasLines}
 use Rattle.vt_store.specs.Widening.{widened}
 use Rattle.vt_store.proofs.widen.widen_tiles.Given as goal
 

@@ -1,5 +1,5 @@
 use Rattle.std.proofs.Common.{◌≡◌, ◌+◌, ◌*◌, ◌≤◌, ℕ, length, refl, subst, arith}
-use Rattle.vt_store.specs.TileLines.{GainsLine}
+use Rattle.vt_tiles.specs.TileLines.{GainsLine}
 use Rattle.vt_store.proofs.Lines.{next_tile, line_small, bytes_small, line_inside, columns_few, line_begins}
 use Rattle.vt_store.proofs.write.put_line.Goals as goal
 

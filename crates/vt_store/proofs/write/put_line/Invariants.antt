@@ -1,5 +1,5 @@
 use Rattle.std.proofs.Common.{◌≡◌, ℕ, ◌*◌, length}
-use Rattle.vt_store.specs.TileLines.{GainsLine}
+use Rattle.vt_tiles.specs.TileLines.{GainsLine}
 use Rattle.vt_store.proofs.write.put_line.Given as goal
 
 abbrev pub invariant-loop-tile : goal.invariant-loop-tile

@@ -2,7 +2,7 @@ use Rattle.std.proofs.Common.{◌≡◌, ◌+◌, ◌-◌, ◌*◌, ◌≤◌, �
 use Rattle.vt_pages.specs.declared.PageName.{PageName}
 use Rattle.vt_pages.specs.Shape.{Shape}
 use Rattle.vt_pages.specs.Pages.{name_at, columns_at}
-use Rattle.vt_store.specs.TileLines.{HasLines}
+use Rattle.vt_tiles.specs.TileLines.{HasLines}
 use Rattle.vt_store.proofs.Tiles.{columns_small, column_begins, tiles_are}
 use Rattle.vt_store.proofs.TileRows.{more_lines, row_inside_rows}
 use Rattle.vt_store.proofs.Widening.{cut_length}

@@ -1,5 +1,5 @@
 use Rattle.vt_definitions.specs.Texels.{Source}
-use Rattle.vt_store.specs.TileLines.{HasLines, HasTileRows}
+use Rattle.vt_tiles.specs.TileLines.{HasLines, HasTileRows}
 use Rattle.vt_store.proofs.write.put_tiles.Given as goal
 
 abbrev pub invariant-loop-line : goal.invariant-loop-line

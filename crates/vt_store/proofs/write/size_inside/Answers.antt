@@ -1,5 +1,6 @@
 use Rattle.std.proofs.Common.{◌≡◌, ◌*◌, ap, arith}
-use Rattle.vt_store.proofs.Tiles.{column_small, row_small}
+use Rattle.vt_store.proofs.Tiles.{column_small}
+use Rattle.vt_tiles.proofs.Tiles.{row_small}
 use Rattle.vt_store.proofs.Widening.{tile_begins}
 use Rattle.vt_store.proofs.write.size_inside.Goals as goal
 

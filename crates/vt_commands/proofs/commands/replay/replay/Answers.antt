@@ -1,6 +1,6 @@
 use Rattle.std.proofs.Common.{ℕ, List, sym, subst}
 use Rattle.std.proofs.lemmas.Result.{err_from_is_err_and}
-use Rattle.vt_store.specs.StoreViews.{StoreView}
+use Rattle.vt_tiles.specs.StoreViews.{StoreView}
 use Rattle.vt_files.specs.Courses.{folder_state, sink_state}
 use Rattle.vt_words.specs.Replay.{shown_replay}
 use Rattle.vt_inputs.specs.Inputs.{JournalInput, TextContent}

@@ -2,7 +2,7 @@ use Rattle.std.proofs.Common.{◌≡◌, ℕ, List, length, sym, ap, ◌∙◌, 
 use Rattle.std.specs.Prelude.{All}
 use Rattle.std.proofs.lemmas.List.Elements.{All-nil}
 use Rattle.vt_outside.specs.Lists.{ListView}
-use Rattle.vt_store.specs.Format.{tile_length}
+use Rattle.vt_tiles.specs.Format.{tile_length}
 use Rattle.std.proofs.lemmas.List.{length-replicate}
 use Rattle.vt_still.specs.Kits.{AreSamplersOf}
 use Rattle.vt_still.proofs.Kits.{told_first}

@@ -1,6 +1,6 @@
 use Rattle.std.proofs.Common.{◌≤◌, arith, subst, sym}
 use Rattle.std.specs.Prelude.{All}
-use Rattle.vt_store.specs.Format.{tile_length}
+use Rattle.vt_tiles.specs.Format.{tile_length}
 use Rattle.vt_still.specs.RoundKits.{IsSetUp}
 use Rattle.vt_still.specs.Kits.{KitView, HasRoom}
 use Rattle.vt_still.proofs.Rooms.{on_ok, prepared_with, same_asked, room_asked}

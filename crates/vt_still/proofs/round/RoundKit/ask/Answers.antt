@@ -1,5 +1,5 @@
 use Rattle.std.proofs.Common.{◌+◌, ap, ◌∙◌, arith, subst, sym, length}
-use Rattle.vt_store.specs.Format.{tile_length}
+use Rattle.vt_tiles.specs.Format.{tile_length}
 use Rattle.vt_still.specs.RoundKits.{RoundKitView, IsSetUp}
 use Rattle.vt_still.proofs.round.RoundKit.ask.Goals as goal
 

@@ -1,7 +1,7 @@
 use Rattle.std.proofs.Common.{◌≡◌, length, sym, subst, Bool}
 use Rattle.std.specs.Prelude.{All}
 use Rattle.vt_outside.specs.Lists.{ListView}
-use Rattle.vt_store.specs.Format.{tile_length}
+use Rattle.vt_tiles.specs.Format.{tile_length}
 use Rattle.vt_queue.specs.Queues.{view_of}
 use Rattle.vt_still.specs.BatchRounds.{IsEndedRound, IsStreamed}
 use Rattle.vt_still.specs.RoundKits.{RoundKitView}

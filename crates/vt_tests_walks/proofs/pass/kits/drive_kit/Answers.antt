@@ -3,8 +3,8 @@ use Rattle.vt_outside.specs.declared.outside.File.{Ghosts as FileMeanings}
 use Rattle.vt_outside.specs.Files.{Files, bytes_at}
 use Rattle.vt_pages.specs.Shape.{Shape}
 use Rattle.vt_pages.specs.Pages.{root_of}
-use Rattle.vt_store.specs.Format.{tile_length}
-use Rattle.vt_store.specs.StoreViews.{StoreView}
+use Rattle.vt_tiles.specs.Format.{tile_length}
+use Rattle.vt_tiles.specs.StoreViews.{StoreView}
 use Rattle.vt_table.specs.Views.{TableView, IsTable}
 use Rattle.vt_shown.specs.Frames.{HoldsTiles}
 use Rattle.vt_pass.specs.Machines.{told_by}

@@ -7,7 +7,7 @@ use Rattle.vt_pages.specs.Pages.{pages_of}
 use Rattle.vt_journal.specs.declared.changes.Change.{Change}
 use Rattle.vt_journal.specs.Changes.{newest}
 use Rattle.vt_journal.proofs.Versions.{newest-none}
-use Rattle.vt_store.specs.Format.{tile_length, tile_start}
+use Rattle.vt_tiles.specs.Format.{tile_length, tile_start}
 use Rattle.vt_pass.specs.Crews.{last_start}
 use Rattle.vt_pass.specs.Machines.{MachineState}
 use Rattle.vt_pass.specs.Passes.{MayPlace}

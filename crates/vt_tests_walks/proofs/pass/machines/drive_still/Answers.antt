@@ -2,8 +2,8 @@ use Rattle.std.proofs.Common.{ℕ, Option, List, [], ◌∷◌, sym, ap, ◌∙�
 use Rattle.std.specs.Prelude.{IfSome}
 use Rattle.vt_outside.specs.Files.{Files, IsPiece, bytes_at}
 use Rattle.vt_pages.specs.Pages.{root_of}
-use Rattle.vt_store.specs.Format.{tile_start}
-use Rattle.vt_store.specs.StoreViews.{IsStoreIfTold}
+use Rattle.vt_tiles.specs.Format.{tile_start}
+use Rattle.vt_tiles.specs.StoreViews.{IsStoreIfTold}
 use Rattle.vt_pass.specs.Machines.{Setup}
 use Rattle.vt_tests_walks.proofs.pass.machines.drive_still.Goals as goal
 

@@ -3,7 +3,7 @@ use Rattle.std.specs.Prelude.{All}
 use Rattle.vt_outside.specs.declared.outside.File.{Ghosts as FileMeanings}
 use Rattle.vt_outside.specs.Files.{Files, bytes_at}
 use Rattle.vt_pages.specs.Shape.{Shape}
-use Rattle.vt_store.specs.StoreViews.{StoreView, IsStoreIfTold}
+use Rattle.vt_tiles.specs.StoreViews.{StoreView, IsStoreIfTold}
 use Rattle.vt_pass.specs.Machines.{told_by, AreStoresFor}
 use Rattle.vt_tests_walks.proofs.pass.stores.stores_of.Goals as goal
 

@@ -1,7 +1,7 @@
 use Rattle.std.proofs.Common.{◌≡◌, ◌+◌, ◌≤◌, length}
 use Rattle.std.specs.Prelude.{All}
 use Rattle.vt_outside.specs.Files.{bytes_at}
-use Rattle.vt_store.specs.StoreViews.{StoreView}
+use Rattle.vt_tiles.specs.StoreViews.{StoreView}
 use Rattle.vt_tests_walks.proofs.pass.stores.stores_of.Given as goal
 
 -- the stores so far are of the bytes that the name holds

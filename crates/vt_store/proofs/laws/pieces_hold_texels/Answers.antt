@@ -1,5 +1,0 @@
-use Rattle.vt_store.proofs.Stored.{pieces_hold_texels}
-use Rattle.vt_store.proofs.laws.pieces_hold_texels.Goals as goal
-
-pub returns : goal.returns
-returns c = pieces_hold_texels

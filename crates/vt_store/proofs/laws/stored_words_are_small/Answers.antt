@@ -1,5 +1,0 @@
-use Rattle.vt_store.proofs.Stored.{stored_words_are_small}
-use Rattle.vt_store.proofs.laws.stored_words_are_small.Goals as goal
-
-pub returns : goal.returns
-returns c = stored_words_are_small

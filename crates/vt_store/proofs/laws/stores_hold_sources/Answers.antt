@@ -1,5 +1,0 @@
-use Rattle.vt_store.proofs.Stored.{stores_hold_sources}
-use Rattle.vt_store.proofs.laws.stores_hold_sources.Goals as goal
-
-pub returns : goal.returns
-returns c = stores_hold_sources

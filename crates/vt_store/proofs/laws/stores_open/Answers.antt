@@ -1,5 +1,0 @@
-use Rattle.vt_store.proofs.Stored.{stores_open}
-use Rattle.vt_store.proofs.laws.stores_open.Goals as goal
-
-pub returns : goal.returns
-returns c = stores_open
