@@ -15,6 +15,14 @@ use Rattle.vt_words.specs.Commands.{CommandText, PlainCommand, TileCommand, Info
 use Rattle.vt_words.specs.declared.command.Kind.{Kind}
 use Rattle.vt_words.specs.declared.command.Kind.TheVariants.{Plain, Tile, Info, Gen, Trial, Upgrade, Replay, Walk}
 
+-- the kind of command with this name, where it walks or draws what a walk has left
+abbrev pub walking_kind_of : Text → Option Kind
+walking_kind_of name =
+    if bytes_eq name (codes "replay") then Some Replay
+    else (if bytes_eq name (codes "walk") then Some Walk
+    else (if bytes_eq name (codes "trial") then Some Trial
+    else None))
+
 -- the kind of command with this name
 abbrev pub kind_of : Text → Option Kind
 kind_of name =
@@ -23,10 +31,7 @@ kind_of name =
     else (if bytes_eq name (codes "info") then Some Info
     else (if bytes_eq name (codes "gen") then Some Gen
     else (if bytes_eq name (codes "upgrade") then Some Upgrade
-    else (if bytes_eq name (codes "replay") then Some Replay
-    else (if bytes_eq name (codes "walk") then Some Walk
-    else (if bytes_eq name (codes "trial") then Some Trial
-    else None)))))))
+    else walking_kind_of name))))
 
 abbrev pub name_of : Kind → Text
 name_of Plain = codes "plain"

@@ -4,7 +4,7 @@ ghost use Rattle.std.specs.Prelude.{◌≡◌, true, IfOk, IfSome, IsErr, IsErrO
 ghost use Rattle.clap.specs.Words.{rows_of, found_of, is_simple_and_free};
 ghost use Rattle.vt_words.specs.Arguments.{rule_for, texts};
 ghost use Rattle.vt_words.specs.Commands.{command_text, named_text, shown, IsLawful, IsAnswer};
-ghost use Rattle.vt_words.specs.Kinds.{kind_of, rules_of, app_for, values_for};
+ghost use Rattle.vt_words.specs.Kinds.{kind_of, walking_kind_of, rules_of, app_for, values_for};
 
 use crate::arguments::{Argument, WordsError, find};
 use crate::generate::{GenWords, gen_rows, gen_values};
@@ -100,6 +100,13 @@ fn kind_of(name: &str) -> Option<Kind>
     if name == "upgrade" {
         return Some(Kind::Upgrade);
     }
+    walking_kind_of(name)
+}
+
+// The kind of a command that walks, or draws what a walk has left.
+fn walking_kind_of(name: &str) -> Option<Kind>
+    ensures { result ≡ walking_kind_of name.now }
+{
     if name == "replay" {
         return Some(Kind::Replay);
     }
