@@ -11,3 +11,4 @@ pub mod Walk
 pub mod Replay
 pub mod Trial
 pub mod Commands
+pub mod Kinds

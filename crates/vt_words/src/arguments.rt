@@ -1,11 +1,11 @@
 //! A command's arguments as rows of a table, and its words as `clap` finds them.
 
 ghost use Rattle.std.specs.Prelude.{◌≡◌, [], true, false, IfOk, IsErrOf, IsNone, Some, map, option_map};
-ghost use Rattle.clap.specs.Words.{app_of, rule_of, rows_of, found_of, is_simple_and_free, first_of};
+ghost use Rattle.clap.specs.Words.{app_of, rule_of, rows_of, kind_of, found_of, is_simple_and_free, first_of};
 ghost use Rattle.vt_words.specs.Arguments.{app, found, rule_for, is_set, texts};
 
 use clap::error::ErrorKind;
-use clap::{Arg, ArgAction, ArgMatches, Command};
+use clap::{Arg, ArgAction, ArgMatches, Command, Error};
 use std::alloc::{AllocError, Global};
 
 /// Why words were not read.
@@ -46,10 +46,17 @@ pub fn find<'a>(
     };
     match command.try_get_matches_from(words) {
         Ok(matches) => Ok(matches),
-        Err(error) => match error.kind() {
-            ErrorKind::OutOfMemory => Err(WordsError::NoMemory),
-            _ => Err(WordsError::Usage),
-        },
+        Err(error) => Err(words_error(&error)),
+    }
+}
+
+// Why the words were refused: what is not want of memory is their own fault.
+fn words_error(error: &Error) -> WordsError
+    ensures { result ≡ WordsError.Usage → kind_of error.now ≡ ErrorKind.OutOfMemory → ⊥ }
+{
+    match error.kind() {
+        ErrorKind::OutOfMemory => WordsError::NoMemory,
+        _ => WordsError::Usage,
     }
 }
 

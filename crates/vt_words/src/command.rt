@@ -1,18 +1,21 @@
 //! Which command the words ask for.
 
-ghost use Rattle.std.specs.Prelude.{◌≡◌, IfOk, IsErr, IsErrOf, IsNone, Some};
-ghost use Rattle.vt_words.specs.Arguments.{texts};
-ghost use Rattle.vt_words.specs.Commands.{command_text, named_text, other_text, walking_text, shown, IsLawful, IsAnswer};
+ghost use Rattle.std.specs.Prelude.{◌≡◌, true, IfOk, IfSome, IsErr, IsErrOf, IsNone, Some, map, option_map};
+ghost use Rattle.clap.specs.Words.{rows_of, found_of, is_simple_and_free};
+ghost use Rattle.vt_words.specs.Arguments.{rule_for, texts};
+ghost use Rattle.vt_words.specs.Commands.{command_text, named_text, shown, IsLawful, IsAnswer};
+ghost use Rattle.vt_words.specs.Kinds.{kind_of, walking_kind_of, rules_of, app_for, values_for};
 
-use crate::arguments::WordsError;
-use crate::generate::{GenWords, read_gen};
-use crate::info::{InfoWords, read_info};
-use crate::plain::{PlainWords, read_plain};
-use crate::replay::{ReplayWords, read_replay};
-use crate::tile::{TileWords, read_tile};
-use crate::trial::{TrialWords, read_trial};
-use crate::upgrade::{UpgradeWords, read_upgrade};
-use crate::walk::{WalkWords, read_walk};
+use crate::arguments::{Argument, WordsError, find};
+use crate::generate::{GenWords, gen_rows, gen_values};
+use crate::info::{InfoWords, info_rows, info_values};
+use crate::plain::{PlainWords, plain_rows, plain_values};
+use crate::replay::{ReplayWords, replay_rows, replay_values};
+use crate::tile::{TileWords, tile_rows, tile_values};
+use crate::trial::{TrialWords, trial_rows, trial_values};
+use crate::upgrade::{UpgradeWords, upgrade_rows, upgrade_values};
+use crate::walk::{WalkWords, walk_rows, walk_values};
+use clap::ArgMatches;
 use std::alloc::Global;
 
 /// A command and its words.
@@ -36,6 +39,19 @@ pub enum Command<'a> {
     Walk(WalkWords<'a>),
 }
 
+// Which command.
+#[derive(Clone, Copy)]
+pub enum Kind {
+    Plain,
+    Tile,
+    Info,
+    Gen,
+    Trial,
+    Upgrade,
+    Replay,
+    Walk,
+}
+
 /// Reads the words after the program's name: the first names the command, whose `clap` command is handed all of them.
 ///
 /// `Usage` comes only where they are no command's. Where they are, the answer may still be `NoMemory`.
@@ -52,74 +68,87 @@ pub fn read_command<'a>(alloc: Global, words: &'a [String]) -> Result<Command<'a
 }
 
 // Reads the words of a command of this name.
-fn read_named<'a>(alloc: Global, name: &str, words: &'a [String]) -> Result<Command<'a>, WordsError>
-    ensures { IsAnswer (named_text name.now (texts words.now)) result }
-{
-    if name == "plain" {
-        return match read_plain(alloc, words) {
-            Ok(read) => Ok(Command::Plain(read)),
-            Err(error) => Err(error),
-        };
-    }
-    if name == "tile" {
-        return match read_tile(alloc, words) {
-            Ok(read) => Ok(Command::Tile(read)),
-            Err(error) => Err(error),
-        };
-    }
-    if name == "info" {
-        return match read_info(alloc, words) {
-            Ok(read) => Ok(Command::Info(read)),
-            Err(error) => Err(error),
-        };
-    }
-    read_other(alloc, name, words)
-}
-
-// Reads the words of a command of this name that writes another file than `tile`, or that walks.
-fn read_other<'a>(alloc: Global, name: &str, words: &'a [String]) -> Result<Command<'a>, WordsError>
-    ensures { IsAnswer (other_text name.now (texts words.now)) result }
-{
-    if name == "gen" {
-        return match read_gen(alloc, words) {
-            Ok(read) => Ok(Command::Gen(read)),
-            Err(error) => Err(error),
-        };
-    }
-    if name == "upgrade" {
-        return match read_upgrade(alloc, words) {
-            Ok(read) => Ok(Command::Upgrade(read)),
-            Err(error) => Err(error),
-        };
-    }
-    read_walking(alloc, name, words)
-}
-
-// Reads the words of a command of this name that walks, or draws what a walk has left.
-fn read_walking<'a>(
+fn read_named<'a>(
     alloc: Global,
-    name: &str,
+    name: &'a str,
     words: &'a [String],
 ) -> Result<Command<'a>, WordsError>
-    ensures { IsAnswer (walking_text name.now (texts words.now)) result }
+    ensures { IsAnswer (named_text name.entry.now (texts words.entry.now)) result }
+{
+    let Some(kind) = kind_of(name) else {
+        return Err(WordsError::Usage);
+    };
+    let matches = find(alloc, name, rows_of(kind), words)?;
+    values_of(kind, &matches).ok_or(WordsError::Usage)
+}
+
+fn kind_of(name: &str) -> Option<Kind>
+    ensures { result ≡ kind_of name.now }
+{
+    if name == "plain" {
+        return Some(Kind::Plain);
+    }
+    if name == "tile" {
+        return Some(Kind::Tile);
+    }
+    if name == "info" {
+        return Some(Kind::Info);
+    }
+    if name == "gen" {
+        return Some(Kind::Gen);
+    }
+    if name == "upgrade" {
+        return Some(Kind::Upgrade);
+    }
+    walking_kind_of(name)
+}
+
+// The kind of a command that walks, or draws what a walk has left.
+fn walking_kind_of(name: &str) -> Option<Kind>
+    ensures { result ≡ walking_kind_of name.now }
 {
     if name == "replay" {
-        return match read_replay(alloc, words) {
-            Ok(read) => Ok(Command::Replay(read)),
-            Err(error) => Err(error),
-        };
+        return Some(Kind::Replay);
     }
     if name == "walk" {
-        return match read_walk(alloc, words) {
-            Ok(read) => Ok(Command::Walk(read)),
-            Err(error) => Err(error),
-        };
+        return Some(Kind::Walk);
     }
     if name == "trial" {
-        return match read_trial(alloc, words) {
-            Ok(read) => Ok(Command::Trial(read)),
-            Err(error) => Err(error),
-        };
+        return Some(Kind::Trial);
     }
-    Err(WordsError::Usage)
+    None
+}
+
+// The arguments of a command.
+fn rows_of<'a>(kind: Kind) -> &'a [Argument<'a>]
+    ensures rules { map rule_for result.now ≡ rules_of kind }
+    ensures simple { is_simple_and_free (app_for kind) ≡ true }
+{
+    match kind {
+        Kind::Plain => plain_rows(),
+        Kind::Tile => tile_rows(),
+        Kind::Info => info_rows(),
+        Kind::Gen => gen_rows(),
+        Kind::Trial => trial_rows(),
+        Kind::Upgrade => upgrade_rows(),
+        Kind::Replay => replay_rows(),
+        Kind::Walk => walk_rows(),
+    }
+}
+
+// What the values of its arguments ask for.
+fn values_of<'a>(kind: Kind, matches: &ArgMatches<'a>) -> Option<Command<'a>>
+    ensures read { option_map shown result ≡ values_for kind (rows_of (found_of matches.now)) }
+    ensures lawful { IfSome result IsLawful }
+{
+    match kind {
+        Kind::Plain => plain_values(matches),
+        Kind::Tile => tile_values(matches),
+        Kind::Info => info_values(matches),
+        Kind::Gen => gen_values(matches),
+        Kind::Trial => trial_values(matches),
+        Kind::Upgrade => upgrade_values(matches),
+        Kind::Replay => replay_values(matches),
+        Kind::Walk => walk_values(matches),
+    }
 }

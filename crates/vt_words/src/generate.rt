@@ -1,14 +1,15 @@
 //! The words of `gen`.
 
-ghost use Rattle.std.specs.Prelude.{◌≡◌, true, IfOk, IfSome, IsErrOf, IsNone, Some, map, option_map};
+ghost use Rattle.std.specs.Prelude.{◌≡◌, true, IfSome, map, option_map};
 ghost use Rattle.clap.specs.Words.{rows_of, found_of, is_simple_and_free};
-ghost use Rattle.vt_words.specs.Arguments.{rule_for, texts};
-ghost use Rattle.vt_words.specs.Gen.{gen_rules, gen_app, gen_values, gen_text, shown_gen, IsLawfulGen};
+ghost use Rattle.vt_words.specs.Arguments.{rule_for};
+ghost use Rattle.vt_words.specs.Commands.{GenCommand, shown, IsLawful};
+ghost use Rattle.vt_words.specs.Gen.{gen_rules, gen_app, gen_values};
 
-use crate::arguments::{Argument, WordsError, find, text};
+use crate::arguments::{Argument, text};
+use crate::command::Command;
 use crate::numbers::{MOST_NUMBER, number_of};
 use clap::ArgMatches;
-use std::alloc::Global;
 
 // The largest side of such a texture.
 const MOST_SIDE: u32 = 8192;
@@ -26,17 +27,8 @@ pub struct GenWords<'a> {
     pub name: &'a str,
 }
 
-/// Reads the words of `gen`, its name the first of them.
-pub fn read_gen<'a>(alloc: Global, words: &'a [String]) -> Result<GenWords<'a>, WordsError>
-    ensures read { IfOk result (λ read. gen_text (texts words.entry.now) ≡ Some (shown_gen read)) }
-    ensures usage { IsErrOf result WordsError.Usage → IsNone (gen_text (texts words.entry.now)) }
-    ensures lawful { IfOk result IsLawfulGen }
-{
-    let matches = find(alloc, "gen", gen_rows(), words)?;
-    gen_values(&matches).ok_or(WordsError::Usage)
-}
-
-fn gen_rows<'a>() -> &'a [Argument<'a>]
+/// The arguments of `gen`.
+pub fn gen_rows<'a>() -> &'a [Argument<'a>]
     ensures rules { map rule_for result.now ≡ gen_rules }
     ensures simple { is_simple_and_free gen_app ≡ true }
 {
@@ -48,18 +40,19 @@ fn gen_rows<'a>() -> &'a [Argument<'a>]
     ]
 }
 
-fn gen_values<'a>(matches: &ArgMatches<'a>) -> Option<GenWords<'a>>
-    ensures read { option_map shown_gen result ≡ gen_values (rows_of (found_of matches.now)) }
-    ensures lawful { IfSome result IsLawfulGen }
+/// What the values of its arguments ask for.
+pub fn gen_values<'a>(matches: &ArgMatches<'a>) -> Option<Command<'a>>
+    ensures read { option_map shown result ≡ option_map GenCommand (gen_values (rows_of (found_of matches.now))) }
+    ensures lawful { IfSome result IsLawful }
 {
     let number = number_of(matches, "number", 0, MOST_NUMBER)?;
     let width = number_of(matches, "width", 1, MOST_SIDE)?;
     let height = number_of(matches, "height", 1, MOST_SIDE)?;
     let name = text(matches, "name")?;
-    Some(GenWords {
+    Some(Command::Gen(GenWords {
         number,
         width,
         height,
         name,
-    })
+    }))
 }

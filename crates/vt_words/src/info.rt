@@ -1,13 +1,14 @@
 //! The words of `info`.
 
-ghost use Rattle.std.specs.Prelude.{◌≡◌, true, IfOk, IsErrOf, IsNone, Some, map, option_map};
+ghost use Rattle.std.specs.Prelude.{◌≡◌, true, IfSome, map, option_map};
 ghost use Rattle.clap.specs.Words.{rows_of, found_of, is_simple_and_free};
-ghost use Rattle.vt_words.specs.Arguments.{rule_for, texts};
-ghost use Rattle.vt_words.specs.Info.{info_rules, info_app, info_values, info_text, shown_info};
+ghost use Rattle.vt_words.specs.Arguments.{rule_for};
+ghost use Rattle.vt_words.specs.Commands.{InfoCommand, shown, IsLawful};
+ghost use Rattle.vt_words.specs.Info.{info_rules, info_app, info_values};
 
-use crate::arguments::{Argument, WordsError, find, text};
+use crate::arguments::{Argument, text};
+use crate::command::Command;
 use clap::ArgMatches;
-use std::alloc::Global;
 
 /// The word of `info`.
 #[derive(Clone, Copy)]
@@ -16,25 +17,19 @@ pub struct InfoWords<'a> {
     pub store: &'a str,
 }
 
-/// Reads the words of `info`, its name the first of them.
-pub fn read_info<'a>(alloc: Global, words: &'a [String]) -> Result<InfoWords<'a>, WordsError>
-    ensures read { IfOk result (λ read. info_text (texts words.entry.now) ≡ Some (shown_info read)) }
-    ensures usage { IsErrOf result WordsError.Usage → IsNone (info_text (texts words.entry.now)) }
-{
-    let matches = find(alloc, "info", info_rows(), words)?;
-    info_values(&matches).ok_or(WordsError::Usage)
-}
-
-fn info_rows<'a>() -> &'a [Argument<'a>]
+/// The arguments of `info`.
+pub fn info_rows<'a>() -> &'a [Argument<'a>]
     ensures rules { map rule_for result.now ≡ info_rules }
     ensures simple { is_simple_and_free info_app ≡ true }
 {
     &[Argument::Word("store")]
 }
 
-fn info_values<'a>(matches: &ArgMatches<'a>) -> Option<InfoWords<'a>>
-    ensures { option_map shown_info result ≡ info_values (rows_of (found_of matches.now)) }
+/// What the values of its arguments ask for.
+pub fn info_values<'a>(matches: &ArgMatches<'a>) -> Option<Command<'a>>
+    ensures read { option_map shown result ≡ option_map InfoCommand (info_values (rows_of (found_of matches.now))) }
+    ensures lawful { IfSome result IsLawful }
 {
     let store = text(matches, "store")?;
-    Some(InfoWords { store })
+    Some(Command::Info(InfoWords { store }))
 }

@@ -1,16 +1,16 @@
 //! The words of `plain`.
 
-ghost use Rattle.std.specs.Prelude.{◌≡◌, true, IfOk, IfSome, IsErrOf, IsNone, Some, map, option_map};
+ghost use Rattle.std.specs.Prelude.{◌≡◌, true, IfSome, map, option_map};
 ghost use Rattle.clap.specs.Words.{rows_of, found_of, is_simple_and_free};
-ghost use Rattle.vt_definitions.specs.Tiles.{IsTileSide};
-ghost use Rattle.vt_words.specs.Arguments.{rule_for, texts};
-ghost use Rattle.vt_words.specs.Plain.{plain_rules, plain_app, plain_clash, plain_values, plain_text, shown_plain};
+ghost use Rattle.vt_words.specs.Arguments.{rule_for};
+ghost use Rattle.vt_words.specs.Commands.{PlainCommand, shown, IsLawful};
+ghost use Rattle.vt_words.specs.Plain.{plain_rules, plain_app, plain_clash, plain_values};
 
-use crate::arguments::{Argument, WordsError, find, text};
+use crate::arguments::{Argument, text};
+use crate::command::Command;
 use crate::names::is_picture_name;
 use crate::numbers::side_of;
 use clap::ArgMatches;
-use std::alloc::Global;
 
 /// The words of `plain`.
 #[derive(Clone, Copy)]
@@ -25,17 +25,8 @@ pub struct PlainWords<'a> {
     pub tile: u32,
 }
 
-/// Reads the words of `plain`, its name the first of them.
-pub fn read_plain<'a>(alloc: Global, words: &'a [String]) -> Result<PlainWords<'a>, WordsError>
-    ensures read { IfOk result (λ read. plain_text (texts words.entry.now) ≡ Some (shown_plain read)) }
-    ensures usage { IsErrOf result WordsError.Usage → IsNone (plain_text (texts words.entry.now)) }
-    ensures lawful { IfOk result (λ read. IsTileSide read.tile) }
-{
-    let matches = find(alloc, "plain", plain_rows(), words)?;
-    plain_values(&matches).ok_or(WordsError::Usage)
-}
-
-fn plain_rows<'a>() -> &'a [Argument<'a>]
+/// The arguments of `plain`.
+pub fn plain_rows<'a>() -> &'a [Argument<'a>]
     ensures rules { map rule_for result.now ≡ plain_rules }
     ensures simple { is_simple_and_free plain_app ≡ true }
 {
@@ -47,9 +38,10 @@ fn plain_rows<'a>() -> &'a [Argument<'a>]
     ]
 }
 
-fn plain_values<'a>(matches: &ArgMatches<'a>) -> Option<PlainWords<'a>>
-    ensures read { option_map shown_plain result ≡ plain_values (rows_of (found_of matches.now)) }
-    ensures lawful { IfSome result (λ read. IsTileSide read.tile) }
+/// What the values of its arguments ask for.
+pub fn plain_values<'a>(matches: &ArgMatches<'a>) -> Option<Command<'a>>
+    ensures read { option_map shown result ≡ option_map PlainCommand (plain_values (rows_of (found_of matches.now))) }
+    ensures lawful { IfSome result IsLawful }
 {
     let texture = text(matches, "texture")?;
     let path = text(matches, "path")?;
@@ -58,12 +50,12 @@ fn plain_values<'a>(matches: &ArgMatches<'a>) -> Option<PlainWords<'a>>
     if plain_clash(texture, path, prefix) {
         return None;
     }
-    Some(PlainWords {
+    Some(Command::Plain(PlainWords {
         texture,
         path,
         prefix,
         tile,
-    })
+    }))
 }
 
 fn plain_clash(texture: &str, path: &str, prefix: &str) -> bool

@@ -1,14 +1,15 @@
 //! The words of `replay`.
 
-ghost use Rattle.std.specs.Prelude.{◌≡◌, true, IfOk, IfSome, IsErrOf, IsNone, Some, map, option_map};
+ghost use Rattle.std.specs.Prelude.{◌≡◌, true, IfSome, map, option_map};
 ghost use Rattle.clap.specs.Words.{rows_of, found_of, is_simple_and_free};
-ghost use Rattle.vt_words.specs.Arguments.{rule_for, texts};
-ghost use Rattle.vt_words.specs.Replay.{replay_rules, replay_app, replay_values, replay_text, shown_replay, IsLawfulReplay};
+ghost use Rattle.vt_words.specs.Arguments.{rule_for};
+ghost use Rattle.vt_words.specs.Commands.{ReplayCommand, shown, IsLawful};
+ghost use Rattle.vt_words.specs.Replay.{replay_rules, replay_app, replay_values};
 
-use crate::arguments::{Argument, WordsError, find, text};
+use crate::arguments::{Argument, text};
+use crate::command::Command;
 use crate::names::names_clash;
 use clap::ArgMatches;
-use std::alloc::Global;
 
 /// The words of `replay`. Neither the store's name nor the path's nor the journal's is that of a picture, and the journal's is
 /// neither the store's nor the path's.
@@ -24,19 +25,8 @@ pub struct ReplayWords<'a> {
     pub prefix: &'a str,
 }
 
-/// Reads the words of `replay`, its name the first of them.
-///
-/// `Usage` comes only where they are not those of `replay`. Where they are, the answer may still be `NoMemory`.
-pub fn read_replay<'a>(alloc: Global, words: &'a [String]) -> Result<ReplayWords<'a>, WordsError>
-    ensures read { IfOk result (λ read. replay_text (texts words.entry.now) ≡ Some (shown_replay read)) }
-    ensures usage { IsErrOf result WordsError.Usage → IsNone (replay_text (texts words.entry.now)) }
-    ensures lawful { IfOk result IsLawfulReplay }
-{
-    let matches = find(alloc, "replay", replay_rows(), words)?;
-    replay_values(&matches).ok_or(WordsError::Usage)
-}
-
-fn replay_rows<'a>() -> &'a [Argument<'a>]
+/// The arguments of `replay`.
+pub fn replay_rows<'a>() -> &'a [Argument<'a>]
     ensures rules { map rule_for result.now ≡ replay_rules }
     ensures simple { is_simple_and_free replay_app ≡ true }
 {
@@ -48,9 +38,10 @@ fn replay_rows<'a>() -> &'a [Argument<'a>]
     ]
 }
 
-fn replay_values<'a>(matches: &ArgMatches<'a>) -> Option<ReplayWords<'a>>
-    ensures read { option_map shown_replay result ≡ replay_values (rows_of (found_of matches.now)) }
-    ensures lawful { IfSome result IsLawfulReplay }
+/// What the values of its arguments ask for.
+pub fn replay_values<'a>(matches: &ArgMatches<'a>) -> Option<Command<'a>>
+    ensures read { option_map shown result ≡ option_map ReplayCommand (replay_values (rows_of (found_of matches.now))) }
+    ensures lawful { IfSome result IsLawful }
 {
     let store = text(matches, "store")?;
     let path = text(matches, "path")?;
@@ -59,10 +50,10 @@ fn replay_values<'a>(matches: &ArgMatches<'a>) -> Option<ReplayWords<'a>>
     if names_clash(store, path, journal, prefix) {
         return None;
     }
-    Some(ReplayWords {
+    Some(Command::Replay(ReplayWords {
         store,
         path,
         journal,
         prefix,
-    })
+    }))
 }

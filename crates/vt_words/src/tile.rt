@@ -1,15 +1,15 @@
 //! The words of `tile`.
 
-ghost use Rattle.std.specs.Prelude.{◌≡◌, true, IfOk, IfSome, IsErrOf, IsNone, Some, map, option_map};
+ghost use Rattle.std.specs.Prelude.{◌≡◌, true, IfSome, map, option_map};
 ghost use Rattle.clap.specs.Words.{rows_of, found_of, is_simple_and_free};
-ghost use Rattle.vt_definitions.specs.Tiles.{IsTileSide};
-ghost use Rattle.vt_words.specs.Arguments.{rule_for, texts};
-ghost use Rattle.vt_words.specs.Tile.{tile_rules, tile_app, tile_values, tile_text, shown_tile};
+ghost use Rattle.vt_words.specs.Arguments.{rule_for};
+ghost use Rattle.vt_words.specs.Commands.{TileCommand, shown, IsLawful};
+ghost use Rattle.vt_words.specs.Tile.{tile_rules, tile_app, tile_values};
 
-use crate::arguments::{Argument, WordsError, find, text};
+use crate::arguments::{Argument, text};
+use crate::command::Command;
 use crate::numbers::side_of;
 use clap::ArgMatches;
-use std::alloc::Global;
 
 /// The words of `tile`.
 #[derive(Clone, Copy)]
@@ -22,17 +22,8 @@ pub struct TileWords<'a> {
     pub tile: u32,
 }
 
-/// Reads the words of `tile`, its name the first of them.
-pub fn read_tile<'a>(alloc: Global, words: &'a [String]) -> Result<TileWords<'a>, WordsError>
-    ensures read { IfOk result (λ read. tile_text (texts words.entry.now) ≡ Some (shown_tile read)) }
-    ensures usage { IsErrOf result WordsError.Usage → IsNone (tile_text (texts words.entry.now)) }
-    ensures lawful { IfOk result (λ read. IsTileSide read.tile) }
-{
-    let matches = find(alloc, "tile", tile_rows(), words)?;
-    tile_values(&matches).ok_or(WordsError::Usage)
-}
-
-fn tile_rows<'a>() -> &'a [Argument<'a>]
+/// The arguments of `tile`.
+pub fn tile_rows<'a>() -> &'a [Argument<'a>]
     ensures rules { map rule_for result.now ≡ tile_rules }
     ensures simple { is_simple_and_free tile_app ≡ true }
 {
@@ -43,9 +34,10 @@ fn tile_rows<'a>() -> &'a [Argument<'a>]
     ]
 }
 
-fn tile_values<'a>(matches: &ArgMatches<'a>) -> Option<TileWords<'a>>
-    ensures read { option_map shown_tile result ≡ tile_values (rows_of (found_of matches.now)) }
-    ensures lawful { IfSome result (λ read. IsTileSide read.tile) }
+/// What the values of its arguments ask for.
+pub fn tile_values<'a>(matches: &ArgMatches<'a>) -> Option<Command<'a>>
+    ensures read { option_map shown result ≡ option_map TileCommand (tile_values (rows_of (found_of matches.now))) }
+    ensures lawful { IfSome result IsLawful }
 {
     let texture = text(matches, "texture")?;
     let store = text(matches, "store")?;
@@ -53,9 +45,9 @@ fn tile_values<'a>(matches: &ArgMatches<'a>) -> Option<TileWords<'a>>
     if store == texture {
         return None;
     }
-    Some(TileWords {
+    Some(Command::Tile(TileWords {
         texture,
         store,
         tile,
-    })
+    }))
 }

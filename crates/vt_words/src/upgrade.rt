@@ -1,13 +1,14 @@
 //! The words of `upgrade`.
 
-ghost use Rattle.std.specs.Prelude.{◌≡◌, true, IfOk, IsErrOf, IsNone, Some, map, option_map};
+ghost use Rattle.std.specs.Prelude.{◌≡◌, true, IfSome, map, option_map};
 ghost use Rattle.clap.specs.Words.{rows_of, found_of, is_simple_and_free};
-ghost use Rattle.vt_words.specs.Arguments.{rule_for, texts};
-ghost use Rattle.vt_words.specs.Upgrade.{upgrade_rules, upgrade_app, upgrade_values, upgrade_text, shown_upgrade};
+ghost use Rattle.vt_words.specs.Arguments.{rule_for};
+ghost use Rattle.vt_words.specs.Commands.{UpgradeCommand, shown, IsLawful};
+ghost use Rattle.vt_words.specs.Upgrade.{upgrade_rules, upgrade_app, upgrade_values};
 
-use crate::arguments::{Argument, WordsError, find, text};
+use crate::arguments::{Argument, text};
+use crate::command::Command;
 use clap::ArgMatches;
-use std::alloc::Global;
 
 /// The words of `upgrade`.
 #[derive(Clone, Copy)]
@@ -18,29 +19,23 @@ pub struct UpgradeWords<'a> {
     pub new_store: &'a str,
 }
 
-/// Reads the words of `upgrade`, its name the first of them.
-pub fn read_upgrade<'a>(alloc: Global, words: &'a [String]) -> Result<UpgradeWords<'a>, WordsError>
-    ensures read { IfOk result (λ read. upgrade_text (texts words.entry.now) ≡ Some (shown_upgrade read)) }
-    ensures usage { IsErrOf result WordsError.Usage → IsNone (upgrade_text (texts words.entry.now)) }
-{
-    let matches = find(alloc, "upgrade", upgrade_rows(), words)?;
-    upgrade_values(&matches).ok_or(WordsError::Usage)
-}
-
-fn upgrade_rows<'a>() -> &'a [Argument<'a>]
+/// The arguments of `upgrade`.
+pub fn upgrade_rows<'a>() -> &'a [Argument<'a>]
     ensures rules { map rule_for result.now ≡ upgrade_rules }
     ensures simple { is_simple_and_free upgrade_app ≡ true }
 {
     &[Argument::Word("store"), Argument::Word("new_store")]
 }
 
-fn upgrade_values<'a>(matches: &ArgMatches<'a>) -> Option<UpgradeWords<'a>>
-    ensures { option_map shown_upgrade result ≡ upgrade_values (rows_of (found_of matches.now)) }
+/// What the values of its arguments ask for.
+pub fn upgrade_values<'a>(matches: &ArgMatches<'a>) -> Option<Command<'a>>
+    ensures read { option_map shown result ≡ option_map UpgradeCommand (upgrade_values (rows_of (found_of matches.now))) }
+    ensures lawful { IfSome result IsLawful }
 {
     let store = text(matches, "store")?;
     let new_store = text(matches, "new_store")?;
     if new_store == store {
         return None;
     }
-    Some(UpgradeWords { store, new_store })
+    Some(Command::Upgrade(UpgradeWords { store, new_store }))
 }

@@ -1,15 +1,16 @@
 //! The words of `walk`.
 
-ghost use Rattle.std.specs.Prelude.{◌≡◌, true, IfOk, IfSome, IsErrOf, IsNone, Some, map, option_map};
+ghost use Rattle.std.specs.Prelude.{◌≡◌, true, IfSome, map, option_map};
 ghost use Rattle.clap.specs.Words.{rows_of, found_of, is_simple_and_free};
-ghost use Rattle.vt_words.specs.Arguments.{rule_for, texts};
-ghost use Rattle.vt_words.specs.Walk.{walk_rules, walk_app, walk_values, walk_text, shown_walk, IsLawfulWalk};
+ghost use Rattle.vt_words.specs.Arguments.{rule_for};
+ghost use Rattle.vt_words.specs.Commands.{WalkCommand, shown, IsLawful};
+ghost use Rattle.vt_words.specs.Walk.{walk_rules, walk_app, walk_values};
 
-use crate::arguments::{Argument, WordsError, find, is_set, text};
+use crate::arguments::{Argument, is_set, text};
+use crate::command::Command;
 use crate::names::names_clash;
 use crate::numbers::number_of;
 use clap::ArgMatches;
-use std::alloc::Global;
 
 // The largest number of frames.
 const MOST_FRAMES: u32 = 65535;
@@ -52,19 +53,8 @@ pub struct WalkWords<'a> {
     pub settled: bool,
 }
 
-/// Reads the words of `walk`, its name the first of them.
-///
-/// `Usage` comes only where they are not those of `walk`. Where they are, the answer may still be `NoMemory`.
-pub fn read_walk<'a>(alloc: Global, words: &'a [String]) -> Result<WalkWords<'a>, WordsError>
-    ensures read { IfOk result (λ read. walk_text (texts words.entry.now) ≡ Some (shown_walk read)) }
-    ensures usage { IsErrOf result WordsError.Usage → IsNone (walk_text (texts words.entry.now)) }
-    ensures lawful { IfOk result IsLawfulWalk }
-{
-    let matches = find(alloc, "walk", walk_rows(), words)?;
-    walk_values(&matches).ok_or(WordsError::Usage)
-}
-
-fn walk_rows<'a>() -> &'a [Argument<'a>]
+/// The arguments of `walk`.
+pub fn walk_rows<'a>() -> &'a [Argument<'a>]
     ensures rules { map rule_for result.now ≡ walk_rules }
     ensures simple { is_simple_and_free walk_app ≡ true }
 {
@@ -82,9 +72,10 @@ fn walk_rows<'a>() -> &'a [Argument<'a>]
     ]
 }
 
-fn walk_values<'a>(matches: &ArgMatches<'a>) -> Option<WalkWords<'a>>
-    ensures read { option_map shown_walk result ≡ walk_values (rows_of (found_of matches.now)) }
-    ensures lawful { IfSome result IsLawfulWalk }
+/// What the values of its arguments ask for.
+pub fn walk_values<'a>(matches: &ArgMatches<'a>) -> Option<Command<'a>>
+    ensures read { option_map shown result ≡ option_map WalkCommand (walk_values (rows_of (found_of matches.now))) }
+    ensures lawful { IfSome result IsLawful }
 {
     let store = text(matches, "store")?;
     let path = text(matches, "path")?;
@@ -98,7 +89,7 @@ fn walk_values<'a>(matches: &ArgMatches<'a>) -> Option<WalkWords<'a>>
     if names_clash(store, path, journal, prefix) {
         return None;
     }
-    Some(WalkWords {
+    Some(Command::Walk(WalkWords {
         store,
         path,
         prefix,
@@ -109,5 +100,5 @@ fn walk_values<'a>(matches: &ArgMatches<'a>) -> Option<WalkWords<'a>>
         pinned,
         journal,
         settled: is_set(matches, "settled"),
-    })
+    }))
 }

@@ -1,4 +1,4 @@
 use Rattle.vt_words.proofs.info.info_values.Goals as goal
 
-pub returns : goal.returns
-returns c = rw (← c.in_ok-store.ensures)
+pub returns-clause-read : goal.returns-clause-read
+returns-clause-read c = rw (← c.in_ok-store.ensures)
