@@ -19,8 +19,8 @@ use Rattle.vt_store.specs.ChainStores.{chain_store}
 use Rattle.vt_tiles.specs.StoreViews.{IsStore, IsStoreIfTold}
 use Rattle.vt_tiles.proofs.Stored.{stores_open}
 use Rattle.vt_pass.specs.Requests as Requests
-use Rattle.vt_walk.specs.declared.error.WalkError.{WalkError}
-use Rattle.vt_walk.specs.declared.error.WalkError.TheVariants as walks
+use Rattle.vt_turns.specs.declared.error.WalkError.{WalkError}
+use Rattle.vt_turns.specs.declared.error.WalkError.TheVariants as walks
 use Rattle.vt_walk.specs.declared.turns.Walked.{Walked}
 use Rattle.vt_walk.specs.Walks.{WalkGiven, AreSettings}
 use Rattle.vt_walk.specs.Fits.{WalkSetup}

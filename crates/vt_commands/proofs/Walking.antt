@@ -15,8 +15,8 @@ use Rattle.vt_files.specs.Courses.{FolderState, SinkState, Course, IsUntouched}
 use Rattle.vt_pass.specs.Requests.{counts_of}
 use Rattle.vt_pass.specs.Requests
 use Rattle.vt_shown.specs.Scenes.{scene_of}
-use Rattle.vt_walk.specs.declared.error.WalkError.{WalkError}
-use Rattle.vt_walk.specs.declared.error.WalkError.TheVariants as walks
+use Rattle.vt_turns.specs.declared.error.WalkError.{WalkError}
+use Rattle.vt_turns.specs.declared.error.WalkError.TheVariants as walks
 use Rattle.vt_walk.specs.Walks.{WalkGiven, given_by, mode_of}
 use Rattle.vt_walk.specs.Folders.{IsApart}
 use Rattle.vt_walk.specs.States.{WalkState, places_of}

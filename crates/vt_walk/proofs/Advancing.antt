@@ -25,17 +25,19 @@ use Rattle.vt_pass.specs.Requests.{FileState, AreReadFor, ArePartlyReadFor, coun
 use Rattle.vt_outside.specs.Counts.{RoseTogetherBy}
 use Rattle.vt_pass.specs.Machines.{Setup, MachineState}
 use Rattle.vt_pass.specs.Passes.{MayPrepare, Ran}
-use Rattle.vt_walk.specs.declared.passes.Outlook.{Outlook}
-use Rattle.vt_walk.specs.declared.tallies.Tally.{Tally}
-use Rattle.vt_walk.specs.declared.tour.Tour.{Tour}
-use Rattle.vt_walk.specs.declared.turns.Turn.{Turn}
-use Rattle.vt_walk.specs.declared.turns.Drawn.{Drawn}
+use Rattle.vt_turns.specs.declared.turns.Outlook.{Outlook}
+use Rattle.vt_turns.specs.declared.tallies.Tally.{Tally}
+use Rattle.vt_turns.specs.declared.tour.Tour.{Tour}
+use Rattle.vt_turns.specs.declared.turns.Turn.{Turn}
+use Rattle.vt_turns.specs.declared.turns.Drawn.{Drawn}
 use Rattle.vt_walk.specs.Fits.{WalkSetup}
 use Rattle.vt_walk.specs.Runs.{WalkPass, IsWalkSetup, IsRun, pass_of, journal_after, recency_after}
-use Rattle.vt_walk.specs.Logs.{is_load, is_loss, is_eviction, events_in, passes_of}
+use Rattle.vt_turns.specs.Tallies.{is_load, is_loss, is_eviction}
+use Rattle.vt_walk.specs.Logs.{events_in, passes_of}
 use Rattle.vt_walk.specs.Outlooks.{IsOutlook}
-use Rattle.vt_walk.specs.Reported.{IsReported}
-use Rattle.vt_walk.specs.Tallies.{tally_of, with_pass}
+use Rattle.vt_turns.specs.Reported.{IsReported}
+use Rattle.vt_turns.specs.Tallies.{with_pass}
+use Rattle.vt_walk.specs.Tallies.{tally_of}
 use Rattle.vt_walk.specs.Tours.{given_of, tour_scene, IsTour}
 use Rattle.vt_walk.specs.Turns.{MayDraw, HasDrawn}
 use Rattle.vt_walk.specs.Written.{IsDrawnBySome}

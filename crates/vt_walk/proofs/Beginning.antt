@@ -26,11 +26,11 @@ use Rattle.vt_evict.specs.Views.{RecencyView, first_view}
 use Rattle.vt_shown.specs.Scenes.{Scene}
 use Rattle.vt_pass.specs.Requests.{FileState, AllTell, counts_of, times_asked_by, times_failed_by}
 use Rattle.vt_pass.specs.Machines.{MachineState}
-use Rattle.vt_walk.specs.declared.error.WalkError.{WalkError}
-use Rattle.vt_walk.specs.declared.error.WalkError.TheVariants as walk_error
-use Rattle.vt_walk.specs.declared.mode.Mode.TheVariants.{Live, Settled}
-use Rattle.vt_walk.specs.declared.tour.Tour.{Tour}
-use Rattle.vt_walk.specs.Refusals.{refusal_by}
+use Rattle.vt_turns.specs.declared.error.WalkError.{WalkError}
+use Rattle.vt_turns.specs.declared.error.WalkError.TheVariants as walk_error
+use Rattle.vt_turns.specs.declared.mode.Mode.TheVariants.{Live, Settled}
+use Rattle.vt_turns.specs.declared.tour.Tour.{Tour}
+use Rattle.vt_turns.specs.Refusals.{refusal_by}
 use Rattle.vt_walk.specs.Runs.{run_text}
 use Rattle.vt_walk.specs.Walks.{WalkGiven}
 use Rattle.vt_walk.specs.Folders.{with_walk}

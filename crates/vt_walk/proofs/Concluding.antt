@@ -12,11 +12,11 @@ use Rattle.vt_outside.specs.declared.answers.OutsideError.TheVariants.{Failed as
 use Rattle.vt_outside.specs.declared.outside.Folder.{Ghosts as FolderMeanings}
 use Rattle.vt_camera.specs.Paths.{PathView}
 use Rattle.vt_pass.specs.Requests.{FileState, AreSameFiles, counts_of}
-use Rattle.vt_walk.specs.declared.error.WalkError.{WalkError}
-use Rattle.vt_walk.specs.declared.error.WalkError.TheVariants.{NoMemory}
-use Rattle.vt_walk.specs.declared.mode.Mode.{Mode}
-use Rattle.vt_walk.specs.declared.mode.Mode.TheVariants.{Live, Settled}
-use Rattle.vt_walk.specs.Refusals.{refusal_by}
+use Rattle.vt_turns.specs.declared.error.WalkError.{WalkError}
+use Rattle.vt_turns.specs.declared.error.WalkError.TheVariants.{NoMemory}
+use Rattle.vt_turns.specs.declared.mode.Mode.{Mode}
+use Rattle.vt_turns.specs.declared.mode.Mode.TheVariants.{Live, Settled}
+use Rattle.vt_turns.specs.Refusals.{refusal_by}
 use Rattle.vt_walk.specs.Walks.{WalkGiven}
 use Rattle.vt_walk.specs.States.{WalkState, AreOpen, places_of, walk_state}
 use Rattle.vt_walk.specs.Reads.{AreAskedAtMostFor, OnTold}

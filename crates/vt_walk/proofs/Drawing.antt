@@ -15,9 +15,9 @@ use Rattle.vt_pass.specs.Machines.{Setup, MachineState}
 use Rattle.vt_shown.specs.Replays.{IsPictureOf}
 use Rattle.vt_pass.specs.Passes.{IsPictured, IsJobFor, MapsNeeded}
 use Rattle.vt_pass.proofs.Settled.{settled}
-use Rattle.vt_walk.specs.declared.settings.Settings.{Settings}
-use Rattle.vt_walk.specs.declared.mode.Mode.{Mode}
-use Rattle.vt_walk.specs.declared.mode.Mode.TheVariants.{Live, Settled}
+use Rattle.vt_turns.specs.declared.settings.Settings.{Settings}
+use Rattle.vt_turns.specs.declared.mode.Mode.{Mode}
+use Rattle.vt_turns.specs.declared.mode.Mode.TheVariants.{Live, Settled}
 use Rattle.vt_walk.specs.Runs.{WalkPass, IsRun, IsFinished, GoesOn, Finishes, journal_after, plan_after}
 use Rattle.vt_walk.specs.Shown.{last_rows, IsRunPicture}
 use Rattle.vt_walk.specs.Walks.{WalkGiven, WalkNames, given_by}

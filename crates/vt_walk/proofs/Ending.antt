@@ -20,15 +20,15 @@ use Rattle.vt_pass.specs.Requests.{FileState, AllTell}
 use Rattle.vt_pass.specs.Machines.{Setup, MachineState}
 use Rattle.vt_shown.specs.Replays.{IsFull}
 use Rattle.vt_pass.specs.Passes.{MapsNeeded}
-use Rattle.vt_walk.specs.declared.error.WalkError.{WalkError}
-use Rattle.vt_walk.specs.declared.error.WalkError.TheVariants as walk_error
-use Rattle.vt_walk.specs.declared.mode.Mode.{Mode}
-use Rattle.vt_walk.specs.declared.mode.Mode.TheVariants.{Live, Settled}
-use Rattle.vt_walk.specs.declared.settings.Settings.{Settings}
-use Rattle.vt_walk.specs.declared.tallies.Tally.{Tally}
-use Rattle.vt_walk.specs.declared.turns.Turn.{Turn}
-use Rattle.vt_walk.specs.declared.turns.Passed.{Passed}
-use Rattle.vt_walk.specs.Refusals.{refusal_by}
+use Rattle.vt_turns.specs.declared.error.WalkError.{WalkError}
+use Rattle.vt_turns.specs.declared.error.WalkError.TheVariants as walk_error
+use Rattle.vt_turns.specs.declared.mode.Mode.{Mode}
+use Rattle.vt_turns.specs.declared.mode.Mode.TheVariants.{Live, Settled}
+use Rattle.vt_turns.specs.declared.settings.Settings.{Settings}
+use Rattle.vt_turns.specs.declared.tallies.Tally.{Tally}
+use Rattle.vt_turns.specs.declared.turns.Turn.{Turn}
+use Rattle.vt_turns.specs.declared.turns.Passed.{Passed}
+use Rattle.vt_turns.specs.Refusals.{refusal_by}
 use Rattle.vt_walk.specs.Fits.{WalkSetup, Fits, room_of, DoesNotFit, NeedsFrames}
 use Rattle.vt_walk.specs.Runs.{WalkPass, IsWalkSetup, IsRun, IsTurnOf, IsPictureAfter, IsFinished, Finishes, GoesOn, plan_after, recency_after, planned_in, lost_in}
 use Rattle.vt_walk.specs.Logs.{passes_of, picture_line, line_with, wanted_in}
@@ -39,10 +39,11 @@ use Rattle.vt_walk.specs.Written.{IsWritten}
 use Rattle.vt_walk.specs.Standing.{Stands}
 use Rattle.vt_walk.specs.Leaving.{Left, AsksNothing}
 use Rattle.vt_walk.specs.Causes.{HasFailed, IsCausedBy, HasUnfit}
-use Rattle.vt_walk.specs.Tallies.{tally_of, no_passes, numbers_line}
-use Rattle.vt_walk.specs.Judging.{IsEnd, IsStoppedBy}
+use Rattle.vt_turns.specs.Tallies.{no_passes}
+use Rattle.vt_walk.specs.Tallies.{tally_of, numbers_line}
+use Rattle.vt_turns.specs.Judging.{IsEnd, IsStoppedBy}
 use Rattle.vt_walk.specs.Tours.{IsTour, given_of, tour_scene}
-use Rattle.vt_walk.specs.declared.tour.Tour.{Tour}
+use Rattle.vt_turns.specs.declared.tour.Tour.{Tour}
 use Rattle.vt_walk.specs.Turns.{IsGiven, IsAtRun, IsPassed, StandsAt, StandsAfter, LeftBy}
 use Rattle.vt_walk.proofs.Asking.{losses_more}
 use Rattle.vt_walk.proofs.Asks.{with_open}

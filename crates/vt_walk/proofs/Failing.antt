@@ -4,8 +4,8 @@ use Rattle.std.specs.Prelude.{IsTrue, nat_le}
 use Rattle.vt_outside.specs.Counts.{added, count_end, Rose, RoseBy, RoseTogetherBy}
 use Rattle.vt_outside.specs.declared.place.Place.{Place}
 use Rattle.vt_evict.specs.declared.batches.Planned.{Planned}
-use Rattle.vt_walk.specs.declared.mode.Mode.{Mode}
-use Rattle.vt_walk.specs.declared.mode.Mode.TheVariants.{Live, Settled}
+use Rattle.vt_turns.specs.declared.mode.Mode.{Mode}
+use Rattle.vt_turns.specs.declared.mode.Mode.TheVariants.{Live, Settled}
 use Rattle.vt_walk.specs.Walks.{WalkGiven}
 use Rattle.vt_walk.specs.States.{WalkState}
 use Rattle.vt_walk.specs.Reads.{AreAskedFor, OnTold}

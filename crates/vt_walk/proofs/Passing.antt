@@ -15,11 +15,11 @@ use Rattle.vt_shown.specs.Scenes.{Scene}
 use Rattle.vt_pass.specs.Outcomes.{lost_count}
 use Rattle.vt_pass.specs.Requests.{FileState, AllTell, AreSameFiles, AreReadFor, ArePartlyReadFor, counts_of, lost_entries}
 use Rattle.vt_pass.specs.Machines.{MachineState}
-use Rattle.vt_walk.specs.declared.error.WalkError.{WalkError}
-use Rattle.vt_walk.specs.declared.error.WalkError.TheVariants as walk_error
-use Rattle.vt_walk.specs.declared.turns.Turn.{Turn}
-use Rattle.vt_walk.specs.declared.turns.Drawn.{Drawn}
-use Rattle.vt_walk.specs.Refusals.{refusal_by}
+use Rattle.vt_turns.specs.declared.error.WalkError.{WalkError}
+use Rattle.vt_turns.specs.declared.error.WalkError.TheVariants as walk_error
+use Rattle.vt_turns.specs.declared.turns.Turn.{Turn}
+use Rattle.vt_turns.specs.declared.turns.Drawn.{Drawn}
+use Rattle.vt_turns.specs.Refusals.{refusal_by}
 use Rattle.vt_walk.specs.Runs.{WalkPass, IsTurnOf, plan_after, planned_in, lost_in, told_of}
 use Rattle.vt_walk.specs.Walks.{WalkGiven}
 use Rattle.vt_walk.specs.States.{WalkState, places_of}

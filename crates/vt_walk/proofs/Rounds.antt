@@ -9,14 +9,14 @@ use Rattle.vt_outside.specs.declared.answers.OutsideError.TheVariants.{Failed, N
 use Rattle.vt_camera.specs.Paths.{PathView}
 use Rattle.vt_evict.specs.Views.{RecencyView}
 use Rattle.vt_pass.specs.Machines.{MachineState}
-use Rattle.vt_walk.specs.declared.error.WalkError.{WalkError}
-use Rattle.vt_walk.specs.declared.error.WalkError.TheVariants as walk_error
-use Rattle.vt_walk.specs.declared.turns.Turn.{Turn}
+use Rattle.vt_turns.specs.declared.error.WalkError.{WalkError}
+use Rattle.vt_turns.specs.declared.error.WalkError.TheVariants as walk_error
+use Rattle.vt_turns.specs.declared.turns.Turn.{Turn}
 use Rattle.vt_walk.specs.declared.turns.Walked.{Walked}
 use Rattle.vt_walk.specs.Counts.{HasCounts}
-use Rattle.vt_walk.specs.Refusals.{refusal_by}
-use Rattle.vt_walk.specs.declared.mode.Mode.{Mode}
-use Rattle.vt_walk.specs.declared.mode.Mode.TheVariants.{Settled}
+use Rattle.vt_turns.specs.Refusals.{refusal_by}
+use Rattle.vt_turns.specs.declared.mode.Mode.{Mode}
+use Rattle.vt_turns.specs.declared.mode.Mode.TheVariants.{Settled}
 use Rattle.vt_walk.specs.Fits.{WalkSetup, Fits}
 use Rattle.vt_walk.specs.Runs.{WalkPass, IsRun, IsTurnOf, IsWhole, GoesOn}
 use Rattle.vt_walk.specs.Logs.{end_line, reads_of, picture_lines}
@@ -24,7 +24,7 @@ use Rattle.vt_walk.specs.Walks.{WalkGiven}
 use Rattle.vt_walk.specs.States.{WalkState}
 use Rattle.vt_walk.specs.Standing.{Finished}
 use Rattle.vt_walk.specs.Causes.{IsCausedBy}
-use Rattle.vt_walk.specs.Tallies.{no_passes}
+use Rattle.vt_turns.specs.Tallies.{no_passes}
 use Rattle.vt_walk.specs.Turns.{StandsFirst, StandsAt, StandsLast, LeftBy}
 use Rattle.vt_walk.proofs.Steps.{told_gained}
 use Rattle.vt_walk.proofs.Turning.{earlier_fit}

@@ -17,7 +17,7 @@ use Rattle.vt_evict.specs.declared.batches.Planned.{Planned}
 use Rattle.vt_evict.proofs.FirstLemmas.{range-more}
 use Rattle.vt_pass.specs.Outcomes.{lost_count}
 use Rattle.vt_pass.specs.Requests.{lost_entries, times_planned}
-use Rattle.vt_walk.specs.declared.mode.Mode.TheVariants.{Settled}
+use Rattle.vt_turns.specs.declared.mode.Mode.TheVariants.{Settled}
 use Rattle.vt_walk.specs.Fits.{WalkSetup}
 use Rattle.vt_walk.specs.Runs.{WalkPass, IsRun, IsNextPass, IsFinished, run_text, told_of, planned_in, lost_in}
 use Rattle.vt_walk.specs.Logs.{picture_line, picture_lines}

@@ -16,8 +16,8 @@ use Rattle.vt_evict.specs.Views.{RecencyView, is_mapped, first_view, pages_neede
 use Rattle.vt_evict.proofs.SettleLemmas.{self_eq, contains_head}
 use Rattle.vt_pass.specs.Passes.{MapsNeeded}
 use Rattle.vt_pass.proofs.Settled.{no_events}
-use Rattle.vt_walk.specs.declared.mode.Mode.{Mode}
-use Rattle.vt_walk.specs.declared.mode.Mode.TheVariants.{Settled}
+use Rattle.vt_turns.specs.declared.mode.Mode.{Mode}
+use Rattle.vt_turns.specs.declared.mode.Mode.TheVariants.{Settled}
 use Rattle.vt_walk.specs.Fits.{WalkSetup, NeedsFrames, Fits, DoesNotFit}
 use Rattle.vt_walk.specs.Runs.{WalkPass, IsWalkSetup, journal_after, recency_after, plan_after, Finishes, IsFinished, GoesOn, IsRun}
 use Rattle.vt_walk.specs.Agreements.{entry_of}

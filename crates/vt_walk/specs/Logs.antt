@@ -1,10 +1,9 @@
 -- What a walk prints.
-use Rattle.std.specs.Prelude.{ℕ, ◌+◌, ◌==◌, Bool, true, false, List, [], ◌∷◌, ◌++◌, length, sum_by, count_by, codes, flat_map}
+use Rattle.std.specs.Prelude.{ℕ, ◌+◌, ◌==◌, Bool, List, [], ◌∷◌, ◌++◌, length, sum_by, count_by, codes, flat_map}
 use Rattle.std.specs.List.{filter, range_with_len}
 use Rattle.vt_text.specs.Numbers.{number_spelling}
-use Rattle.vt_journal.specs.declared.changes.Change.TheVariants.{Map, Unmap}
 use Rattle.vt_journal.specs.declared.changes.Event.{Event}
-use Rattle.vt_journal.specs.declared.changes.Event.TheVariants.{Changed, Lost}
+use Rattle.vt_turns.specs.Tallies.{is_load, is_loss, is_eviction}
 use Rattle.vt_walk.specs.Fits.{WalkSetup}
 use Rattle.vt_walk.specs.Runs.{WalkPass, planned_in}
 
@@ -16,23 +15,6 @@ passes_of picture passes = filter (λ p. p.picture == picture) passes
 abbrev pub wanted_in : List WalkPass → ℕ
 wanted_in [] = 0
 wanted_in (p ∷ passes) = length p.wants
-
--- a page was mapped
-abbrev pub is_load : Event → Bool
-is_load (Changed (Map page frame)) = true
-is_load (Changed (Unmap page frame)) = false
-is_load (Lost page) = false
-
--- a page was unmapped
-abbrev pub is_eviction : Event → Bool
-is_eviction (Changed (Map page frame)) = false
-is_eviction (Changed (Unmap page frame)) = true
-is_eviction (Lost page) = false
-
--- a page was lost
-abbrev pub is_loss : Event → Bool
-is_loss (Changed change) = false
-is_loss (Lost page) = true
 
 -- how many events of passes are of a kind
 abbrev pub events_in : (Event → Bool) → List WalkPass → ℕ

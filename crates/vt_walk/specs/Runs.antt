@@ -17,8 +17,8 @@ use Rattle.vt_pass.specs.Scenes.{Job}
 use Rattle.vt_pass.specs.Outcomes.{IsOutcome, lost_count}
 use Rattle.vt_pass.specs.RowOrders.{AreRowsInOrder}
 use Rattle.vt_pass.specs.Requests.{lost_entries}
-use Rattle.vt_walk.specs.declared.mode.Mode.{Mode}
-use Rattle.vt_walk.specs.declared.mode.Mode.TheVariants.{Live, Settled}
+use Rattle.vt_turns.specs.declared.mode.Mode.{Mode}
+use Rattle.vt_turns.specs.declared.mode.Mode.TheVariants.{Live, Settled}
 use Rattle.vt_walk.specs.Fits.{WalkSetup, Fits}
 
 -- a pass: its picture, its batch and which entries were lost, its events and its rows, its picture's wanted list, and the table

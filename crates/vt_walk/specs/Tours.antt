@@ -5,7 +5,7 @@ use Rattle.vt_definitions.specs.Depths.{IsDepth}
 use Rattle.vt_pages.specs.Pages.{IsWithinLimits, pages_of, pinned_of}
 use Rattle.vt_journal.specs.Changes.{Table}
 use Rattle.vt_shown.specs.Scenes.{Scene, scene_of}
-use Rattle.vt_walk.specs.declared.tour.Tour.{Tour}
+use Rattle.vt_turns.specs.declared.tour.Tour.{Tour}
 use Rattle.vt_walk.specs.Fits.{WalkSetup}
 use Rattle.vt_walk.specs.Walks.{WalkGiven, given_by, walk_setup, names_of, AreSettings}
 

@@ -14,10 +14,10 @@ use Rattle.vt_pass.specs.Requests.{FileState, AllTell, AreReadFor}
 use Rattle.vt_pass.specs.Outcomes.{lost_count}
 use Rattle.vt_pass.specs.Machines.{MachineState}
 use Rattle.vt_pass.specs.Passes.{Ran}
-use Rattle.vt_walk.specs.declared.error.WalkError.{WalkError}
-use Rattle.vt_walk.specs.declared.turns.Turn.{Turn}
-use Rattle.vt_walk.specs.declared.turns.Passed.{Passed}
-use Rattle.vt_walk.specs.declared.turns.Drawn.{Drawn}
+use Rattle.vt_turns.specs.declared.error.WalkError.{WalkError}
+use Rattle.vt_turns.specs.declared.turns.Turn.{Turn}
+use Rattle.vt_turns.specs.declared.turns.Passed.{Passed}
+use Rattle.vt_turns.specs.declared.turns.Drawn.{Drawn}
 use Rattle.vt_walk.specs.Runs.{WalkPass, IsWalkSetup, IsRun, IsTurnOf, IsNextPass, IsWhole, journal_after, recency_after, plan_after, told_of}
 use Rattle.vt_walk.specs.Logs.{passes_of, reads_of}
 use Rattle.vt_walk.specs.Walks.{WalkGiven}

@@ -8,10 +8,10 @@ use Rattle.vt_journal.specs.Changes.{Table}
 use Rattle.vt_shown.specs.Scenes.{Scene, scene_of}
 use Rattle.vt_pass.specs.Crews.{IsCrew, AreFrames}
 use Rattle.vt_pass.specs.Machines.{Setup, setup_of}
-use Rattle.vt_walk.specs.declared.settings.Settings.{Settings}
-use Rattle.vt_walk.specs.declared.settings.Names.{Names}
-use Rattle.vt_walk.specs.declared.mode.Mode.{Mode}
-use Rattle.vt_walk.specs.declared.mode.Mode.TheVariants.{Live, Settled}
+use Rattle.vt_turns.specs.declared.settings.Settings.{Settings}
+use Rattle.vt_turns.specs.declared.settings.Names.{Names}
+use Rattle.vt_turns.specs.declared.mode.Mode.{Mode}
+use Rattle.vt_turns.specs.declared.mode.Mode.TheVariants.{Live, Settled}
 use Rattle.vt_walk.specs.Fits.{WalkSetup}
 
 -- the names of a walk: its store's, what its pictures' begin with, and its journal's

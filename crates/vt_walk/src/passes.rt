@@ -22,6 +22,7 @@ use vt_journal::{PassText, add_pass};
 use vt_outside::{Folder, Gate, NoMemory, OutsideError};
 use vt_pages::Geometry;
 use vt_pass::{PassMachine, PassReport};
+use vt_turns::Outlook;
 
 /// Prepares a pass for a batch and runs it.
 pub fn run_pass<Rt: Threads + Wait + Sync, M: PassMachine, G: Gate + Sync>(
@@ -39,17 +40,6 @@ pub fn run_pass<Rt: Threads + Wait + Sync, M: PassMachine, G: Gate + Sync>(
 {
     machine.prepare(rt, batch)?;
     machine.run(rt, shot, batch, gate)
-}
-
-/// What a pass leaves for the next one.
-#[derive(Drop)]
-pub struct Outlook {
-    /// How many pages its picture wants.
-    pub wanted: u64,
-    /// How many unpinned pages stand in the lines of these.
-    pub needed: u32,
-    /// What is planned next.
-    pub plan: Batch,
 }
 
 /// Settles a batch of which some entries were lost, makes the pages that the counts want the most recent ones, and plans for

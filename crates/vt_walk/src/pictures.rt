@@ -13,13 +13,13 @@ ghost use Rattle.vt_walk.specs.Logs.{end_line};
 ghost use Rattle.vt_walk.specs.Tallies.{numbers_line};
 
 use crate::files::write_file;
-use crate::tallies::Tally;
 use std::alloc::Global;
 use vt_camera::Path;
 use vt_outside::{Folder, NoMemory, OutsideError, Sink};
 use vt_pass::PassMachine;
 use vt_ppm::encode_into;
 use vt_print::{LINE_ROOM, Line};
+use vt_turns::Tally;
 use vt_words::picture_name;
 
 /// Writes the picture of a machine's last pass under its name, by one creation and one append. After a refusal the name is as

@@ -19,6 +19,7 @@ use vt_outside::{File, OutsideError};
 use vt_pages::Geometry;
 use vt_pass::PassMachine;
 use vt_tiles::{Store, tile_length};
+use vt_turns::pinned_page;
 
 /// Reads the tile of each pinned page, the last so many pages, from the store in the order of their indexes, and places it: the
 /// first in frame 0, and each further one in the next frame (Mayer 2010).
@@ -56,9 +57,10 @@ pub fn place_pinned<Rt: Threads + Wait + Sync, M: PassMachine, F: File>(
     store.reserve(pinned as u64)?;
     let mut buffer = Vec::from_elem(alloc, 0, tile_length(geometry, depth))?;
     let tile = buffer.as_mut_slice();
-    let first = geometry.page_count() - pinned;
+    let pages = geometry.page_count();
     for frame in 0..pinned {
-        place_page(rt, machine, store, first + frame, frame, tile)?;
+        let page = pinned_page(pages, pinned, frame);
+        place_page(rt, machine, store, page, frame, tile)?;
     }
     Ok(())
 }

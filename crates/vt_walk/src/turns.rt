@@ -1,71 +1,30 @@
 //! Pass after pass.
 
-ghost use Rattle.std.specs.Prelude.{◌≡◌, ℕ, ◌+◌, ◌<◌, ◌≤◌, ◌^◌, ◌∷◌, List, Option, length, All, MatchBool, MatchResult, OnOk, OnErr, IfOk};
+ghost use Rattle.std.specs.Prelude.{◌≡◌, ℕ, ◌+◌, ◌<◌, ◌≤◌, ◌∷◌, List, Option, length, All, MatchResult, OnOk, OnErr, IfOk};
 ghost use Rattle.vt_definitions.specs.Limits.{most_versions};
 ghost use Rattle.vt_journal.specs.JournalText.{IsEventInChain};
 ghost use Rattle.vt_pass.specs.Requests.{AreSameFiles, ArePartlyReadFor};
-ghost use Rattle.vt_pass.specs.Outcomes.{lost_count};
 ghost use Rattle.vt_walk.specs.States.{walk_state};
 ghost use Rattle.vt_walk.specs.Tours.{given_of, setup_of_tour, IsTour};
 ghost use Rattle.vt_walk.specs.Runs.{WalkPass};
 ghost use Rattle.vt_walk.specs.Standing.{Finished};
 ghost use Rattle.vt_walk.specs.Written.{IsDrawnBySome};
 ghost use Rattle.vt_walk.specs.Turns.{WalkStart, PassStart, MayDraw, HasDrawn, StandsFirst, StandsAt, StandsAfter, StandsLast, LeftBy};
-ghost use Rattle.vt_walk.specs.Reported.{IsReported};
 ghost use Rattle.vt_walk.specs.Counts.{HasCounts};
-ghost use Rattle.vt_walk.specs.Judging.{MayGoOn, Judges, IsEnd};
+ghost use Rattle.vt_turns.specs.Judging.{MayGoOn};
 
-use crate::error::WalkError;
-use crate::mode::Mode;
-use crate::passes::{Outlook, look_out, run_pass, tell_pass};
+use crate::passes::{look_out, run_pass, tell_pass};
 use crate::pictures::{put_end_line, put_picture_line, write_picture};
-use crate::tallies::Tally;
-use crate::tour::Tour;
 use std::alloc::Global;
 use std::sync::Wait;
 use std::thread::Threads;
 use vt_draw::Shot;
-use vt_evict::{Batch, Losses, Recency};
-use vt_journal::PassText;
+use vt_evict::{Batch, Recency};
 use vt_outside::{Folder, Gate, NoMemory, Sink};
-use vt_pass::{PassMachine, PassReport};
-
-/// What comes next in a walk.
-#[derive(Drop)]
-pub struct Turn {
-    /// The picture of the next pass, or the number of pictures where all are finished.
-    pub picture: u32,
-    /// The batch of the next pass.
-    pub batch: Batch,
-    /// What was counted of the picture's passes so far.
-    pub tally: Tally,
-    /// How many tiles were asked for so far.
-    pub reads: u64,
-}
-
-/// What is known of a pass that was made.
-#[derive(Drop)]
-pub struct Passed {
-    /// The picture that was drawn.
-    pub picture: u32,
-    /// Its batch was empty.
-    pub loads_nothing: bool,
-    /// How many tiles were lost in it.
-    pub lost: u64,
-    /// What it leaves for the next pass.
-    pub outlook: Outlook,
-    /// What was counted of its picture's passes so far.
-    pub tally: Tally,
-    /// How many tiles were asked for so far.
-    pub reads: u64,
-}
-
-/// A pass that was drawn, and is to be told.
-#[derive(Drop)]
-pub struct Drawn {
-    pub text: PassText,
-    pub passed: Passed,
-}
+use vt_pass::PassMachine;
+use vt_turns::{
+    Drawn, Outlook, Passed, Tally, Tour, Turn, WalkError, drawn_of, is_finished, judge,
+};
 
 /// How much a walk took.
 #[derive(Clone, Copy)]
@@ -316,75 +275,6 @@ fn draw_pass<Rt: Threads + Wait + Sync, M: PassMachine, G: Gate + Sync>(
         most,
     )?;
     Ok(drawn_of(number, turn, start, report, outlook))
-}
-
-// What was drawn, by the report of a pass and what it leaves for the next one.
-fn drawn_of(number: u32, turn: Turn, start: u64, report: PassReport, outlook: Outlook) -> Drawn
-    requires passes { turn.tally.passes + 1 < 2 ^ 32 }
-    requires loaded { turn.tally.loaded + length report.events.elements < 2 ^ 64 }
-    requires lost { turn.tally.lost + length report.events.elements < 2 ^ 64 }
-    requires evicted { turn.tally.evicted + length report.events.elements < 2 ^ 64 }
-    requires reads { turn.reads + length turn.batch.elements < 2 ^ 64 }
-    ensures { IsReported number turn start report outlook result }
-{
-    let PassReport {
-        rows,
-        events,
-        losses,
-    } = report;
-    let batch = turn.batch.len();
-    let passed = Passed {
-        picture: turn.picture,
-        loads_nothing: batch == 0,
-        lost: count_lost(&losses),
-        outlook,
-        tally: turn.tally.with_pass(events.slice()),
-        reads: turn.reads + batch as u64,
-    };
-    let text = PassText {
-        pass: number,
-        picture: turn.picture,
-        start,
-        events,
-        rows,
-    };
-    Drawn { text, passed }
-}
-
-// How many tiles were lost.
-fn count_lost(losses: &Losses) -> u64
-    ensures { result ≡ lost_count losses.now.elements }
-{
-    losses.slice().iter().filter(|lost| **lost).count() as u64
-}
-
-// Whether a walk may go on after a pass: in a settled walk no tile was lost in it, and its picture fits.
-fn judge(tour: &Tour<'_>, passed: &Passed) -> Result<(), WalkError>
-    requires enough_frames { tour.now.pinned ≤ tour.now.settings.frames }
-    ensures { Judges tour.now passed.now result }
-{
-    if tour.mode == Mode::Live {
-        return Ok(());
-    }
-    if passed.lost > 0 {
-        return Err(WalkError::Failed);
-    }
-    let room = tour.settings.frames - tour.pinned;
-    if passed.outlook.needed > room {
-        return Err(WalkError::DoesNotFit {
-            picture: passed.picture,
-            wanted: passed.outlook.needed,
-            room,
-        });
-    }
-    Ok(())
-}
-
-// Whether a pass has finished its picture: in a settled walk one that loads nothing, and after which nothing is planned.
-fn is_finished(mode: Mode, loads_nothing: bool, plan: &Batch) -> bool
-    ensures { MatchBool result (IsEnd mode loads_nothing plan.now.elements) (IsEnd mode loads_nothing plan.now.elements → ⊥) }
-{
-    mode == Mode::Live || (loads_nothing && plan.len() == 0)
 }
 
 // Writes the picture that a pass has finished, and its line, or leaves it to the next pass.

@@ -12,8 +12,6 @@ ghost use Rattle.vt_walk.specs.Written.{IsDrawnBySome};
 ghost use Rattle.vt_walk.specs.Turns.{LeftBy};
 ghost use Rattle.vt_walk.specs.Closing.{AreOtherNamesAsBefore};
 
-use crate::error::WalkError;
-use crate::settings::{Names, Settings};
 use crate::walk::walk_counted;
 use std::alloc::Global;
 use std::sync::Wait;
@@ -22,6 +20,7 @@ use vt_camera::Path;
 use vt_outside::{Folder, Gate, Sink};
 use vt_pass::PassMachine;
 use vt_tiles::Store;
+use vt_turns::{Names, Settings, WalkError};
 
 /// Walks over all pictures of a path by a machine, live or settled.
 ///

@@ -17,13 +17,9 @@ ghost use Rattle.vt_walk.specs.Beginnings.{IsBegun, AreTold, IsSameFile};
 ghost use Rattle.vt_pass.specs.Requests.{AreSameFiles, counts_of};
 ghost use Rattle.vt_walk.specs.Closing.{AreFresh, AreOtherNamesAsBefore};
 
-use crate::error::WalkError;
 use crate::files::begin_journal;
 use crate::loaders::{close_stores, open_loaders};
-use crate::mode::Mode;
 use crate::pinned::place_pinned;
-use crate::settings::{Names, Settings};
-use crate::tour::Tour;
 use crate::turns::{Walked, walk_on};
 use std::alloc::Global;
 use std::sync::Wait;
@@ -33,6 +29,7 @@ use vt_evict::Recency;
 use vt_outside::{Folder, Gate, Sink};
 use vt_pass::PassMachine;
 use vt_tiles::{Store, Stores};
+use vt_turns::{Mode, Names, Settings, Tour, WalkError, has_too_few_frames};
 
 /// Walks over all pictures of a path by a machine, as `walk_with` does, and answers how many passes it had and how many tiles it
 /// asked for: those of a whole run. Conditions, refusals and causes are those of `walk_with`.
@@ -139,7 +136,7 @@ fn walk_store<
     ensures faults { D.faults folder.old ≤ D.faults folder.new }
     ensures out_faults { O.faults out.old ≤ O.faults out.new }
 {
-    if tour.settings.frames < tour.pinned {
+    if has_too_few_frames(tour) {
         return Err(WalkError::TooFewFrames {
             frames: tour.settings.frames,
             needed: tour.pinned,

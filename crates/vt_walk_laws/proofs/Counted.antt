@@ -11,8 +11,8 @@ use Rattle.vt_evict.specs.Orders.{is_in}
 use Rattle.vt_evict.proofs.ListLemmas.{is_in-append, is_in-filter, filter_twice, filter_same, filter_all, all_true, distinct-append}
 use Rattle.vt_evict.proofs.SettleLemmas.{same_bool}
 use Rattle.vt_pass.specs.Outcomes.{lost_count}
-use Rattle.vt_walk.specs.declared.mode.Mode.{Mode}
-use Rattle.vt_walk.specs.declared.mode.Mode.TheVariants.{Settled}
+use Rattle.vt_turns.specs.declared.mode.Mode.{Mode}
+use Rattle.vt_turns.specs.declared.mode.Mode.TheVariants.{Settled}
 use Rattle.vt_walk.specs.Fits.{WalkSetup, Fits}
 use Rattle.vt_walk.specs.Runs.{WalkPass, IsWalkSetup, plan_after, Finishes, IsFinished, IsRun, planned_in}
 use Rattle.vt_walk.specs.Logs.{passes_of}

@@ -12,8 +12,8 @@ use Rattle.vt_evict.specs.Views.{RecencyView, IsTable, is_mapped, pages_needed}
 use Rattle.vt_evict.specs.Batches.{IsSettledTable, read_entries}
 use Rattle.vt_evict.specs.Plans.{missing_pages, plan_of}
 use Rattle.vt_pass.specs.Outcomes.{lost_count}
-use Rattle.vt_walk.specs.declared.mode.Mode.{Mode}
-use Rattle.vt_walk.specs.declared.mode.Mode.TheVariants.{Settled}
+use Rattle.vt_turns.specs.declared.mode.Mode.{Mode}
+use Rattle.vt_turns.specs.declared.mode.Mode.TheVariants.{Settled}
 use Rattle.vt_walk.specs.Fits.{WalkSetup, Fits}
 use Rattle.vt_walk.specs.Runs.{WalkPass, IsWalkSetup, recency_after, plan_after, GoesOn, IsRun}
 use Rattle.vt_walk_laws.specs.PassCounts.{pages_to_load, most_before, mapped_after, batch_pages}

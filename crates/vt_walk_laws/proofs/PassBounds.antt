@@ -15,8 +15,8 @@ use Rattle.vt_evict.specs.Orders.{is_in}
 use Rattle.vt_evict.proofs.ListLemmas.{each_once_distinct}
 use Rattle.vt_evict.proofs.SettleLemmas.{self_eq}
 use Rattle.vt_pass.specs.Outcomes.{lost_count}
-use Rattle.vt_walk.specs.declared.mode.Mode.{Mode}
-use Rattle.vt_walk.specs.declared.mode.Mode.TheVariants.{Settled}
+use Rattle.vt_turns.specs.declared.mode.Mode.{Mode}
+use Rattle.vt_turns.specs.declared.mode.Mode.TheVariants.{Settled}
 use Rattle.vt_walk.specs.Fits.{WalkSetup, Fits}
 use Rattle.vt_walk.specs.Runs.{WalkPass, IsWalkSetup, recency_after, plan_after, Finishes, IsFinished, IsPictureAfter, GoesOn, IsRun, planned_in}
 use Rattle.vt_walk.specs.Logs.{passes_of}

@@ -29,8 +29,8 @@ use Rattle.vt_walk.specs.Runs.{WalkPass, IsWalkSetup, IsRun, IsWhole, IsPictureA
 use Rattle.vt_walk.specs.Shown.{last_rows, IsRunPicture}
 use Rattle.vt_walk.specs.Standing.{HasReached, Stands, Finished}
 use Rattle.vt_walk.specs.States.{WalkState}
-use Rattle.vt_walk.specs.declared.mode.Mode.{Mode}
-use Rattle.vt_walk.specs.declared.settings.Settings.{Settings}
+use Rattle.vt_turns.specs.declared.mode.Mode.{Mode}
+use Rattle.vt_turns.specs.declared.settings.Settings.{Settings}
 use Rattle.vt_walk.specs.Walks.{WalkGiven, WalkNames, AreSettings, walk_setup}
 use Rattle.vt_walk.proofs.Agreeing.{root_last}
 use Rattle.vt_walk.proofs.Apart.{other_name}

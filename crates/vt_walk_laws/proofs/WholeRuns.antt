@@ -8,7 +8,7 @@ use Rattle.vt_evict.specs.Views.{RecencyView, touched}
 use Rattle.vt_evict.specs.Batches.{IsSettled}
 use Rattle.vt_evict.specs.Plans.{plan_of}
 use Rattle.vt_pass.specs.Outcomes.{lost_count}
-use Rattle.vt_walk.specs.declared.mode.Mode.TheVariants.{Settled}
+use Rattle.vt_turns.specs.declared.mode.Mode.TheVariants.{Settled}
 use Rattle.vt_walk.specs.Fits.{WalkSetup}
 use Rattle.vt_walk.specs.Runs.{WalkPass, recency_after, plan_after, planned_in, Finishes, IsFinished, IsPictureAfter, IsTurnOf, IsNextPass, IsRun, IsWhole}
 use Rattle.vt_walk.specs.Logs.{reads_of}

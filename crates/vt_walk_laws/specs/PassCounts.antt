@@ -10,7 +10,7 @@ use Rattle.vt_feedback.specs.Wants.{pages_wanted}
 use Rattle.vt_evict.specs.declared.batches.Planned.{Planned}
 use Rattle.vt_evict.specs.Orders.{each_once}
 use Rattle.vt_evict.specs.Views.{is_mapped}
-use Rattle.vt_walk.specs.declared.mode.Mode.TheVariants.{Settled}
+use Rattle.vt_turns.specs.declared.mode.Mode.TheVariants.{Settled}
 use Rattle.vt_walk.specs.Fits.{WalkSetup}
 use Rattle.vt_walk.specs.Runs.{WalkPass, IsWalkSetup, IsRun, IsFinished, GoesOn, recency_after}
 use Rattle.vt_walk.specs.Logs.{passes_of}

@@ -21,7 +21,7 @@ ghost use Rattle.vt_pass.specs.Outcomes.{IsBatchFor, IsOutcome, lost_count};
 ghost use Rattle.vt_pass.specs.Requests.{times_planned, lost_entries};
 ghost use Rattle.vt_pages.specs.Shape.{Shape};
 ghost use Rattle.vt_pass.specs.Passes.{MapsNeeded, IsPictured, Ran};
-ghost use Rattle.vt_walk.specs.declared.mode.Mode.TheVariants.{Live, Settled};
+ghost use Rattle.vt_turns.specs.declared.mode.Mode.TheVariants.{Live, Settled};
 ghost use Rattle.vt_walk.specs.Fits.{WalkSetup, NeedsFrames, Fits, DoesNotFit};
 ghost use Rattle.vt_walk.specs.Runs.{WalkPass, IsWalkSetup, IsRun, IsWhole, GoesOn, IsFinished, journal_after, recency_after, plan_after, planned_in, lost_in};
 ghost use Rattle.vt_walk.specs.Runs.{told_of, run_content, run_text, pass_of, IsTurnOf, IsNextPass};

@@ -11,10 +11,10 @@ use Rattle.vt_camera.specs.PathText.{IsPathText}
 use Rattle.vt_pages.specs.Shape.{Shape, shape_of}
 use Rattle.vt_shown.specs.Scenes.{scene_of}
 use Rattle.vt_pass.specs.PictureWants.{picture_wants}
-use Rattle.vt_walk.specs.declared.settings.Settings.{Settings}
-use Rattle.vt_walk.specs.declared.mode.Mode.TheVariants.{Settled}
-use Rattle.vt_walk.specs.declared.error.WalkError.{WalkError}
-use Rattle.vt_walk.specs.declared.error.WalkError.TheVariants as walks
+use Rattle.vt_turns.specs.declared.settings.Settings.{Settings}
+use Rattle.vt_turns.specs.declared.mode.Mode.TheVariants.{Settled}
+use Rattle.vt_turns.specs.declared.error.WalkError.{WalkError}
+use Rattle.vt_turns.specs.declared.error.WalkError.TheVariants as walks
 use Rattle.vt_walk.specs.declared.turns.Walked.{Walked}
 use Rattle.vt_walk.specs.Fits.{WalkSetup, Fits, DoesNotFit as IsTooLarge, room_of}
 use Rattle.vt_walk.specs.Walks.{walk_setup}

@@ -8,10 +8,10 @@ use Rattle.vt_pages.specs.Pages.{pinned_of}
 use Rattle.vt_camera.specs.Paths.{PathView}
 use Rattle.vt_shown.specs.Scenes.{scene_of}
 use Rattle.vt_files.specs.Courses.{Course}
-use Rattle.vt_walk.specs.declared.settings.Settings.{Settings}
-use Rattle.vt_walk.specs.declared.mode.Mode.TheVariants.{Settled}
-use Rattle.vt_walk.specs.declared.error.WalkError.{WalkError}
-use Rattle.vt_walk.specs.declared.error.WalkError.TheVariants as walks
+use Rattle.vt_turns.specs.declared.settings.Settings.{Settings}
+use Rattle.vt_turns.specs.declared.mode.Mode.TheVariants.{Settled}
+use Rattle.vt_turns.specs.declared.error.WalkError.{WalkError}
+use Rattle.vt_turns.specs.declared.error.WalkError.TheVariants as walks
 use Rattle.vt_walk.specs.Fits.{WalkSetup, Fits, DoesNotFit as IsTooLarge, room_of}
 use Rattle.vt_walk.specs.Walks.{WalkGiven, WalkNames, walk_setup, given_by, mode_of}
 use Rattle.vt_walk.specs.Folders.{IsApart}

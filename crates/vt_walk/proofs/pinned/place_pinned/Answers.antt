@@ -7,9 +7,9 @@ use Rattle.vt_walk.proofs.pinned.place_pinned.Goals as goal
 
 pub place_page-requires-clause-next : goal.place_page-requires-clause-next
 place_page-requires-clause-next g c κs within =
-    next_pinned c.args.geometry.now c.args.pinned c.loop-frame.frame (c.page_count.result - c.args.pinned + c.loop-frame.frame)
+    next_pinned c.args.geometry.now c.args.pinned c.loop-frame.frame c.pinned_page-page.result
     (g.M.PassMachine.state c.args.machine.now) (g.M.PassMachine.state c.loop-frame.machine) c.loop-frame.invariant.state
-    (ap (λ n. n - c.args.pinned + c.loop-frame.frame) c.page_count.ensures.pages)
+    (c.pinned_page-page.ensures ∙ ap (λ n. n - c.args.pinned + c.loop-frame.frame) c.page_count-pages.ensures.pages)
 
 pub place_page-requires-clause-early : goal.place_page-requires-clause-early
 place_page-requires-clause-early g c κs within =
@@ -23,7 +23,7 @@ place_page-requires-clause-early g c κs within =
 
 pub returns-in_err-place_page-clause-part : goal.returns-in_err-place_page-clause-part
 returns-in_err-place_page-clause-part g c =
-    let page = c.page_count.result - c.args.pinned + c.loop-frame.frame in
+    let page = c.pinned_page-page.result in
     let part = c.in_err-place_page.ensures.part in
     OnErr-all c.from_residual-in_err-place_page.result _
     (last_asked c.args.geometry.now c.args.store.now.depth c.args.pinned c.loop-frame.frame part.0 (g.F.File.asked c.args.store.now.file)
@@ -32,25 +32,25 @@ returns-in_err-place_page-clause-part g c =
     (pages_of c.args.geometry.now - c.args.pinned + c.loop-frame.frame) page part.0
     (g.F.File.asked c.loop-frame.store.file) (g.F.File.asked c.place_page.new.store.file)
     (c.loop-frame.invariant.shape ∙ c.requires.shape) c.loop-frame.invariant.depth
-    (ap (λ n. n - c.args.pinned + c.loop-frame.frame) c.page_count.ensures.pages) part.1))
+    (c.pinned_page-page.ensures ∙ ap (λ n. n - c.args.pinned + c.loop-frame.frame) c.page_count-pages.ensures.pages) part.1))
 
 pub returns-in_err-place_page-clause-lost : goal.returns-in_err-place_page-clause-lost
 returns-in_err-place_page-clause-lost g c =
-    let page = c.page_count.result - c.args.pinned + c.loop-frame.frame in
+    let page = c.pinned_page-page.result in
     let part = c.in_err-place_page.ensures.part in
     last_lost c.args.geometry.now c.args.store.now.depth c.args.pinned c.loop-frame.frame part.0 (g.F.File.asked c.args.store.now.file)
-    (g.F.File.asked c.loop-frame.store.file) (g.F.File.asked c.place_page.new.store.file) c.page_count.ensures.limits c.depth-depth.ensures.lawful
+    (g.F.File.asked c.loop-frame.store.file) (g.F.File.asked c.place_page.new.store.file) c.page_count-pages.ensures.limits c.depth-depth.ensures.lawful
     c.loop-frame.invariant.asked
     (asked_at c.args.geometry.now c.loop-frame.store.shape c.args.store.now.depth c.loop-frame.store.depth
     (pages_of c.args.geometry.now - c.args.pinned + c.loop-frame.frame) page part.0
     (g.F.File.asked c.loop-frame.store.file) (g.F.File.asked c.place_page.new.store.file)
     (c.loop-frame.invariant.shape ∙ c.requires.shape) c.loop-frame.invariant.depth
-    (ap (λ n. n - c.args.pinned + c.loop-frame.frame) c.page_count.ensures.pages) part.1)
+    (c.pinned_page-page.ensures ∙ ap (λ n. n - c.args.pinned + c.loop-frame.frame) c.page_count-pages.ensures.pages) part.1)
 
 pub loop-frame-preserved : goal.loop-frame-preserved
 loop-frame-preserved g c =
-    let page = c.page_count.result - c.args.pinned + c.loop-frame.frame in
-    let at = ap (λ n. n - c.args.pinned + c.loop-frame.frame) c.page_count.ensures.pages in
+    let page = c.pinned_page-page.result in
+    let at = c.pinned_page-page.ensures ∙ ap (λ n. n - c.args.pinned + c.loop-frame.frame) c.page_count-pages.ensures.pages in
     record {
       idle = c.place_page.ensures.idle;
       state = next_placed c.args.geometry.now c.args.pinned c.loop-frame.frame page (g.M.PassMachine.state c.args.machine.now)

@@ -1,15 +1,15 @@
 use Rattle.std.proofs.Common.{◌≡◌, ℕ, ◌-◌, ◌<◌, ◌≤◌, Bool, true, false, ◌∷◌, length, refl, sym, subst, ap, Err, arith}
 use Rattle.std.specs.Prelude.{MatchBool}
 use Rattle.std.proofs.lemmas.Result.{err_from_is_err_and}
-use Rattle.vt_walk.specs.declared.mode.Mode.TheVariants.{Settled}
-use Rattle.vt_walk.specs.declared.tour.Tour.{Tour}
-use Rattle.vt_walk.specs.declared.turns.Passed.{Passed}
+use Rattle.vt_turns.specs.declared.mode.Mode.TheVariants.{Settled}
+use Rattle.vt_turns.specs.declared.tour.Tour.{Tour}
+use Rattle.vt_turns.specs.declared.turns.Passed.{Passed}
 use Rattle.vt_pages.specs.Pages.{pinned_of}
 use Rattle.vt_walk.specs.Walks.{names_of}
 use Rattle.vt_walk.specs.States.{walk_state}
 use Rattle.vt_walk.specs.Tours.{IsTour, tour_scene}
 use Rattle.vt_walk.specs.Written.{IsDrawnBySome}
-use Rattle.vt_walk.specs.Judging.{IsEnd, MayGoOn}
+use Rattle.vt_turns.specs.Judging.{IsEnd, MayGoOn}
 use Rattle.vt_walk.proofs.Ending.{rows_count, rows_full, same_picture, next_picture, picture_broke, line_broke}
 use Rattle.vt_walk.proofs.turns.end_turn.Goals as goal
 

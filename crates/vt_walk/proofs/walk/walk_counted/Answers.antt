@@ -8,8 +8,8 @@ use Rattle.vt_pages.specs.Shape.{Shape}
 use Rattle.vt_pages.specs.Pages.{pinned_of}
 use Rattle.vt_shown.specs.Scenes.{scene_of}
 use Rattle.vt_pass.specs.Machines.{file_state}
-use Rattle.vt_walk.specs.declared.error.WalkError.TheVariants.{TooFewFrames}
-use Rattle.vt_walk.specs.declared.mode.Mode.{Mode}
+use Rattle.vt_turns.specs.declared.error.WalkError.TheVariants.{TooFewFrames}
+use Rattle.vt_turns.specs.declared.mode.Mode.{Mode}
 use Rattle.vt_walk.specs.Walks.{WalkGiven, given_by, mode_of, names_of, AreSettings}
 use Rattle.vt_walk.specs.States.{walk_state}
 use Rattle.vt_walk.specs.Standing.{Finished}

@@ -1,6 +1,7 @@
-use Rattle.std.proofs.Common.{[], ◌∷◌, Err, refl, ap, sym, subst, rules}
+use Rattle.std.proofs.Common.{[], ◌∷◌, ◌<◌, ◌≤◌, Err, refl, ap, sym, subst, rules}
+use Rattle.std.specs.Prelude.{MatchBool}
 use Rattle.vt_pass.specs.Machines.{file_state}
-use Rattle.vt_walk.specs.declared.error.WalkError.{WalkError}
+use Rattle.vt_turns.specs.declared.error.WalkError.{WalkError}
 use Rattle.vt_walk.specs.States.{walk_state}
 use Rattle.vt_walk.specs.Tours.{given_of}
 use Rattle.vt_walk.specs.Turns.{LeftBy}
@@ -41,13 +42,14 @@ returns-in-Err-clause-walked g c =
     (refused_first g.D.Folder name drawn given kept c.args.folder.now c.open_loaders.new.folder held faults c.in-Err.refusal
     c.open_loaders.ensures.files c.open_loaders.ensures.asked c.open_loaders.ensures.faults (λ is. c.in-Err.ensures.failed (ap Err is)))
 
-pub returns-then-tour-clause-walked : goal.returns-then-tour-clause-walked
-returns-then-tour-clause-walked g c = (
+pub returns-then-has_too_few_frames-clause-walked : goal.returns-then-has_too_few_frames-clause-walked
+returns-then-has_too_few_frames-clause-walked g c = (
   search rules,
   record {
     frames_are = refl;
     needed_are = c.requires.tour.pages;
-    few = c.if-tour.true;
+    few = subst (λ b. MatchBool b (c.args.tour.now.settings.frames < c.args.tour.now.pinned)
+        (c.args.tour.now.pinned ≤ c.args.tour.now.settings.frames)) c.if-has_too_few_frames.true c.has_too_few_frames.ensures;
     none = record { files = refl; held = refl };
   },
 )

@@ -4,7 +4,7 @@ use Rattle.vt_outside.specs.Counts.{RoseBy}
 use Rattle.vt_outside.specs.Files.{Asked}
 use Rattle.vt_pass.specs.Requests.{FileState, counts_of}
 use Rattle.vt_pass.specs.Machines.{file_state, files_of, setup_of}
-use Rattle.vt_walk.specs.declared.error.WalkError.{WalkError}
+use Rattle.vt_turns.specs.declared.error.WalkError.{WalkError}
 use Rattle.vt_walk.specs.States.{AreOpen, places_of, walk_state}
 use Rattle.vt_walk.specs.Closing.{with_closed}
 use Rattle.vt_walk.specs.Tours.{given_of}

@@ -1,5 +1,5 @@
 use Rattle.std.proofs.Common.{rules, refl, arith}
-use Rattle.vt_walk.proofs.turns.judge.Goals as goal
+use Rattle.vt_turns.proofs.judging.judge.Goals as goal
 
 pub returns-then-passed-room : goal.returns-then-passed-room
 returns-then-passed-room c = record {

@@ -1,6 +1,6 @@
 ghost use Rattle.std.specs.Prelude.{◌≡◌};
-ghost use Rattle.vt_walk.specs.declared.error.WalkError.TheVariants as walk_error;
-ghost use Rattle.vt_walk.specs.Refusals.{refusal_by};
+ghost use Rattle.vt_turns.specs.declared.error.WalkError.TheVariants as walk_error;
+ghost use Rattle.vt_turns.specs.Refusals.{refusal_by};
 
 use thiserror::Error;
 use vt_outside::{NoMemory, OutsideError};

@@ -1,8 +1,7 @@
 //! What a walk counts for its log.
 
 ghost use Rattle.std.specs.Prelude.{◌≡◌, ◌+◌, ◌<◌, ◌≤◌, ◌^◌, length, count_by};
-ghost use Rattle.vt_walk.specs.Logs.{is_load, is_loss, is_eviction};
-ghost use Rattle.vt_walk.specs.Tallies.{with_pass, no_passes};
+ghost use Rattle.vt_turns.specs.Tallies.{is_load, is_loss, is_eviction, with_pass, no_passes};
 
 use vt_journal::{Change, Event};
 

@@ -1,12 +1,12 @@
 -- Whether a walk goes on after a pass.
 use Rattle.std.specs.Prelude.{◌≡◌, ℕ, ◌-◌, ◌<◌, ◌≤◌, Bool, IsTrue, List, [], Result, Ok, Err}
 use Rattle.vt_evict.specs.declared.batches.Planned.{Planned}
-use Rattle.vt_walk.specs.declared.error.WalkError.{WalkError}
-use Rattle.vt_walk.specs.declared.error.WalkError.TheVariants.{TooFewFrames, DoesNotFit, Failed, NoMemory}
-use Rattle.vt_walk.specs.declared.mode.Mode.{Mode}
-use Rattle.vt_walk.specs.declared.mode.Mode.TheVariants.{Live, Settled}
-use Rattle.vt_walk.specs.declared.tour.Tour.{Tour}
-use Rattle.vt_walk.specs.declared.turns.Passed.{Passed}
+use Rattle.vt_turns.specs.declared.error.WalkError.{WalkError}
+use Rattle.vt_turns.specs.declared.error.WalkError.TheVariants.{TooFewFrames, DoesNotFit, Failed, NoMemory}
+use Rattle.vt_turns.specs.declared.mode.Mode.{Mode}
+use Rattle.vt_turns.specs.declared.mode.Mode.TheVariants.{Live, Settled}
+use Rattle.vt_turns.specs.declared.tour.Tour.{Tour}
+use Rattle.vt_turns.specs.declared.turns.Passed.{Passed}
 
 -- how many frames are not those of pinned pages
 abbrev pub tour_room : Tour → ℕ

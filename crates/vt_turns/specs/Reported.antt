@@ -4,10 +4,10 @@ use Rattle.vt_journal.specs.JournalText.{Pass}
 use Rattle.vt_journal.specs.Passes.{pass_of as text_of}
 use Rattle.vt_pass.specs.declared.crew.PassReport.{PassReport}
 use Rattle.vt_pass.specs.Outcomes.{lost_count}
-use Rattle.vt_walk.specs.declared.passes.Outlook.{Outlook}
-use Rattle.vt_walk.specs.declared.turns.Turn.{Turn}
-use Rattle.vt_walk.specs.declared.turns.Drawn.{Drawn}
-use Rattle.vt_walk.specs.Tallies.{with_pass}
+use Rattle.vt_turns.specs.declared.turns.Outlook.{Outlook}
+use Rattle.vt_turns.specs.declared.turns.Turn.{Turn}
+use Rattle.vt_turns.specs.declared.turns.Drawn.{Drawn}
+use Rattle.vt_turns.specs.Tallies.{with_pass}
 
 -- the text of a pass, by its turn, its number, the version at its beginning and its report
 abbrev pub reported_text : ℕ → Turn → ℕ → PassReport → Pass

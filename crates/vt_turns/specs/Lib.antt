@@ -1,0 +1,4 @@
+pub mod Refusals
+pub mod Tallies
+pub mod Judging
+pub mod Reported

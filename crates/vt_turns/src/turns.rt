@@ -1,0 +1,98 @@
+//! What is known of a walk between two passes, and of a pass that was drawn.
+
+ghost use Rattle.std.specs.Prelude.{◌≡◌, ◌+◌, ◌<◌, ◌^◌, length};
+ghost use Rattle.vt_pass.specs.Outcomes.{lost_count};
+ghost use Rattle.vt_turns.specs.Reported.{IsReported};
+
+use crate::tallies::Tally;
+use vt_evict::{Batch, Losses};
+use vt_journal::PassText;
+use vt_pass::PassReport;
+
+/// What comes next in a walk.
+#[derive(Drop)]
+pub struct Turn {
+    /// The picture of the next pass, or the number of pictures where all are finished.
+    pub picture: u32,
+    /// The batch of the next pass.
+    pub batch: Batch,
+    /// What was counted of the picture's passes so far.
+    pub tally: Tally,
+    /// How many tiles were asked for so far.
+    pub reads: u64,
+}
+
+/// What is known of a pass that was made.
+#[derive(Drop)]
+pub struct Passed {
+    /// The picture that was drawn.
+    pub picture: u32,
+    /// Its batch was empty.
+    pub loads_nothing: bool,
+    /// How many tiles were lost in it.
+    pub lost: u64,
+    /// What it leaves for the next pass.
+    pub outlook: Outlook,
+    /// What was counted of its picture's passes so far.
+    pub tally: Tally,
+    /// How many tiles were asked for so far.
+    pub reads: u64,
+}
+
+/// A pass that was drawn, and is to be told.
+#[derive(Drop)]
+pub struct Drawn {
+    pub text: PassText,
+    pub passed: Passed,
+}
+
+/// What a pass leaves for the next one.
+#[derive(Drop)]
+pub struct Outlook {
+    /// How many pages its picture wants.
+    pub wanted: u64,
+    /// How many unpinned pages stand in the lines of these.
+    pub needed: u32,
+    /// What is planned next.
+    pub plan: Batch,
+}
+
+/// What was drawn, by the report of a pass and what it leaves for the next one.
+pub fn drawn_of(number: u32, turn: Turn, start: u64, report: PassReport, outlook: Outlook) -> Drawn
+    requires passes { turn.tally.passes + 1 < 2 ^ 32 }
+    requires loaded { turn.tally.loaded + length report.events.elements < 2 ^ 64 }
+    requires lost { turn.tally.lost + length report.events.elements < 2 ^ 64 }
+    requires evicted { turn.tally.evicted + length report.events.elements < 2 ^ 64 }
+    requires reads { turn.reads + length turn.batch.elements < 2 ^ 64 }
+    ensures { IsReported number turn start report outlook result }
+{
+    let PassReport {
+        rows,
+        events,
+        losses,
+    } = report;
+    let batch = turn.batch.len();
+    let passed = Passed {
+        picture: turn.picture,
+        loads_nothing: batch == 0,
+        lost: count_lost(&losses),
+        outlook,
+        tally: turn.tally.with_pass(events.slice()),
+        reads: turn.reads + batch as u64,
+    };
+    let text = PassText {
+        pass: number,
+        picture: passed.picture,
+        start,
+        events,
+        rows,
+    };
+    Drawn { text, passed }
+}
+
+// How many tiles were lost.
+fn count_lost(losses: &Losses) -> u64
+    ensures { result ≡ lost_count losses.now.elements }
+{
+    losses.slice().iter().filter(|lost| **lost).count() as u64
+}
