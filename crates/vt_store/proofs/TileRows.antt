@@ -150,3 +150,7 @@ pub tiles_at : (s : Shape) (d e : ℕ) (src : Source) (p count : ℕ) (rows tile
     → ((src : Source) → HasTileRows s d src p rows → tiles ≡ tiles_bytes s d src p count) → tiles ≡ tiles_bytes s e src p count
 tiles_at s d e src p count rows tiles same has made =
     made src (subst (λ (n : ℕ). HasTileRows s n src p rows) (sym same) has) ∙ ap (λ (n : ℕ). tiles_bytes s n src p count) same
+
+-- a row of tiles lies within the room for the longest
+pub row_room : (count most z n : ℕ) → count ≤ most → n ≡ most * z → count * z ≤ n
+row_room count most z n few full = omega (arith, mul-le count z most z few (omega arith), full)

@@ -13,7 +13,8 @@ use crate::store::making::{
 use std::alloc::Global;
 use vt_outside::{Fail, Folder, MemoryFile, MemoryFolder, Place};
 use vt_pages::Geometry;
-use vt_store::{StoreError, Stores, store_length, tile_columns, tile_length};
+use vt_store::tile_columns;
+use vt_tiles::{StoreError, Stores, store_length, tile_length};
 
 // Whether an answer is that a call on the outside failed.
 fn has_failed(answer: Result<(), StoreError>) -> bool {

@@ -1,18 +1,21 @@
 -- What the first bytes of a store tell of it.
-use Rattle.std.proofs.Common.{◌≡◌, ℕ, ◌+◌, ◌*◌, ◌<◌, ◌≤◌, min, Option, Some, None, Ok, Err, List, length, take, bytes_eq, refl, sym, ap, ◌∙◌, subst, arith}
+use Rattle.std.proofs.Common.{◌≡◌, ℕ, ◌+◌, ◌*◌, ◌<◌, ◌≤◌, inl, min, Option, Some, None, Ok, Err, List, length, take, bytes_eq, refl, sym, ap, ◌∙◌, subst, arith}
 use Rattle.std.proofs.lemmas.List.{take_min, take-take, get_or-take}
 use Rattle.std.proofs.lemmas.Nat.{mul-le}
+use Rattle.std.specs.Result.{IsErrAnd, result_err}
 use Rattle.std.specs.Prelude.{Result, IfOk, IfErr, IfSome, OnOk, IsErrOf, ◌||◌, if◌then◌else◌}
 use Rattle.vt_outside.specs.Counts.{Rose}
 use Rattle.vt_outside.specs.Files.{IsPiece}
+use Rattle.vt_outside.specs.declared.place.Place.{Place}
 use Rattle.vt_definitions.specs.Numbers.{number_from}
 use Rattle.vt_pages.specs.Shape.{Shape}
 use Rattle.vt_pages.specs.Pages.{pages_of}
 use Rattle.vt_tiles.specs.Format.{flaw_of, has_magic, magic, header_shape, store_depth, store_flaw, store_length, tile_start, tile_length}
+use Rattle.vt_tiles.specs.Places.{OpenerAsks}
 use Rattle.vt_tiles.specs.StoreViews.{IsStore, IsStoreIfTold}
 use Rattle.vt_tiles.specs.Refusals.{IsOutsideRefusal}
 use Rattle.vt_tiles.specs.declared.error.StoreError.{StoreError}
-use Rattle.vt_tiles.specs.declared.error.StoreError.TheVariants.{Failed}
+use Rattle.vt_tiles.specs.declared.error.StoreError.TheVariants.{Failed, NoMemory}
 use Rattle.vt_tiles.proofs.Flaws.{whole_length, told_shape}
 use Rattle.vt_tiles.proofs.Headers.{number_same}
 
@@ -77,6 +80,17 @@ refused_store (Err e) (Some b) (Some a) head n same len piece short flaw = λ _.
 pub no_failure : {T : Type 0} (r : Result T StoreError) (a b : ℕ) → IfErr r (λ e. IsOutsideRefusal e → ⊥) → IsErrOf r Failed → Rose a b
 no_failure (Ok x) a b real failed = let never : ⊥ = cc in absurd never
 no_failure (Err e) a b real failed = let is : e ≡ Failed = cc in absurd (real (subst IsOutsideRefusal (sym is) tt))
+
+-- an opening that was refused before it read
+pub asks_failed : {T : Type 0} (told : Option (List ℕ)) (r : Result T StoreError) (a0 a1 : Option (List Place)) → IsErrAnd r (λ x. x ≡ Failed)
+    → a1 ≡ a0 → OpenerAsks told (result_err r) a0 a1
+asks_failed told (Ok x) a0 a1 is same = absurd is
+asks_failed told (Err x) a0 a1 is same = subst (λ (e : StoreError). OpenerAsks told (Some e) a0 a1) (sym is) (inl same)
+
+pub asks_nothing : {T : Type 0} (told : Option (List ℕ)) (r : Result T StoreError) (a0 a1 : Option (List Place)) → IsErrAnd r (λ x. x ≡ NoMemory)
+    → a1 ≡ a0 → OpenerAsks told (result_err r) a0 a1
+asks_nothing told (Ok x) a0 a1 is same = absurd is
+asks_nothing told (Err x) a0 a1 is same = subst (λ (e : StoreError). OpenerAsks told (Some e) a0 a1) (sym is) same
 
 tiles_below : (p count n t : ℕ) → p + count ≤ n → p * t + count * t ≤ n * t
 tiles_below p count n t h = let e : p * t + count * t ≡ (p + count) * t = omega arith in rw e (mul-le (p + count) t n t h (omega arith))

@@ -35,6 +35,12 @@ pub by_call : {T : Type 0} (q : Result T StoreError) (e : StoreError) → IsErrA
 by_call (Ok x) e is known = tt
 by_call (Err x) e is known = subst IsOutsideRefusal (sym is) known
 
+-- a refusal of the outside tells nothing of the bytes
+pub not_outside : {T : Type 0} (q : Result T StoreError) (P : StoreError → Type 0) → IfErr q IsOutsideRefusal
+    → IfErr q (λ e. (IsOutsideRefusal e → ⊥) → P e)
+not_outside (Ok x) P is = tt
+not_outside (Err e) P is = λ other. absurd (other is)
+
 -- want of memory is no fault
 pub no_fault : {T : Type 0} (q : Result T StoreError) (P : Type 0) → IsErrAnd q (λ x. x ≡ NoMemory) → IsErrOf q Failed → P
 no_fault (Ok x) P is failed = absurd is

@@ -4,7 +4,7 @@
 use super::making::{Answer, STORE_G4, opened};
 use crate::fixtures::{folder_of, holds, place};
 use std::alloc::Global;
-use vt_store::StoreError;
+use vt_tiles::StoreError;
 
 const BAD_MAGIC: Answer = Err(StoreError::BadMagic);
 

@@ -1,9 +1,13 @@
-use Rattle.std.proofs.Common.{◌≡◌, ℕ, ◌*◌, List, take, ap, ◌∙◌}
+use Rattle.std.proofs.Common.{◌≡◌, ℕ, ◌+◌, ◌-◌, ◌*◌, ◌≤◌, List, min, take, sym, ap, ◌∙◌, subst, arith}
 use Rattle.std.proofs.lemmas.Result.{on_ok_weaker, on_err_weaker}
 use Rattle.std.specs.Prelude.{option_map}
 use Rattle.vt_definitions.specs.Depths.{texel_length}
+use Rattle.vt_definitions.specs.Sides.{side}
 use Rattle.vt_outside.specs.Files.{with_appended}
-use Rattle.vt_store.proofs.LevelRows.{row_page, read_rows, rows_full, row_tiles}
+use Rattle.vt_pages.specs.declared.PageName.{PageName}
+use Rattle.vt_pages.specs.Pages.{columns_at}
+use Rattle.vt_tiles.specs.Format.{tile_length}
+use Rattle.vt_store.proofs.LevelRows.{row_low, row_page, read_rows, rows_full, row_tiles}
 use Rattle.vt_store.proofs.levels.write_row.Goals as goal
 
 pub index_of-page-requires : goal.index_of-page-requires
@@ -62,3 +66,48 @@ returns-clause-asked g c = c.append.ensures.asked
 
 pub returns-clause-faults : goal.returns-clause-faults
 returns-clause-faults g c = c.append.ensures.faults
+
+pub put_tiles-requires-clause-depth : goal.put_tiles-requires-clause-depth
+put_tiles-requires-clause-depth g c = c.depth-depth.ensures.depth
+
+pub put_tiles-requires-clause-page : goal.put_tiles-requires-clause-page
+put_tiles-requires-clause-page g c = c.index_of-page.ensures.inside
+
+pub put_tiles-requires-clause-room : goal.put_tiles-requires-clause-room
+put_tiles-requires-clause-room g c =
+    c.requires.room ∙ ap (λ (n : ℕ). n * tile_length c.args.geometry.now c.args.texels.now.depth)
+    (sym c.tile_columns-columns.ensures.value)
+    ∙ ap (λ (n : ℕ). c.tile_columns-columns.result * tile_length c.args.geometry.now n) (sym c.depth-depth.ensures.value)
+
+pub put_tiles-requires-clause-row : goal.put_tiles-requires-clause-row
+put_tiles-requires-clause-row g c =
+    subst (λ (n : PageName). n.col + c.tile_columns-columns.result ≤ columns_at c.args.geometry.now n.level)
+    (sym c.index_of-page.ensures.undone) (omega (arith, c.tile_columns-columns.ensures.value))
+
+pub rows-requires-clause-inside : goal.rows-requires-clause-inside
+rows-requires-clause-inside g c =
+    let low = row_low c.args.geometry.now c.args.level c.args.strip (omega (arith, c.tile.ensures.limits.least_tile)) c.requires.strip in
+    let inside : c.size_inside-inside.result.1 ≡ min c.args.geometry.now.tile (side c.args.geometry.now.height c.args.level
+    - c.args.strip * c.args.geometry.now.tile) = c.size_inside-inside.ensures.rows
+    ∙ ap (λ (n : PageName). min c.args.geometry.now.tile (side c.args.geometry.now.height n.level - n.row * c.args.geometry.now.tile))
+    c.index_of-page.ensures.undone in
+    omega (arith, low, inside, c.requires.taken, c.requires.height)
+
+pub take-requires-clause-inside : goal.take-requires-clause-inside
+take-requires-clause-inside g c =
+    let low = row_low c.args.geometry.now c.args.level c.args.strip (omega (arith, c.tile.ensures.limits.least_tile)) c.requires.strip in
+    let inside : c.size_inside-inside.result.1 ≡ min c.args.geometry.now.tile (side c.args.geometry.now.height c.args.level
+    - c.args.strip * c.args.geometry.now.tile) = c.size_inside-inside.ensures.rows
+    ∙ ap (λ (n : PageName). min c.args.geometry.now.tile (side c.args.geometry.now.height n.level - n.row * c.args.geometry.now.tile))
+    c.index_of-page.ensures.undone in
+    omega (arith, low, inside, c.requires.taken, c.requires.height)
+
+pub returns-clause-taken : goal.returns-clause-taken
+returns-clause-taken g c =
+    let low = row_low c.args.geometry.now c.args.level c.args.strip (omega (arith, c.tile.ensures.limits.least_tile)) c.requires.strip in
+    let inside : c.size_inside-inside.result.1 ≡ min c.args.geometry.now.tile (side c.args.geometry.now.height c.args.level
+    - c.args.strip * c.args.geometry.now.tile) = c.size_inside-inside.ensures.rows
+    ∙ ap (λ (n : PageName). min c.args.geometry.now.tile (side c.args.geometry.now.height n.level - n.row * c.args.geometry.now.tile))
+    c.index_of-page.ensures.undone in
+    let more : (c.args.strip + 1) * c.args.geometry.now.tile ≡ c.args.strip * c.args.geometry.now.tile + c.args.geometry.now.tile = omega arith in
+    omega (arith, low, inside, more, c.requires.taken, c.requires.height, c.take.ensures.taken)

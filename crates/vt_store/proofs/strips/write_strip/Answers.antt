@@ -1,4 +1,6 @@
-use Rattle.std.proofs.Common.{◌≡◌, ℕ, ◌-◌, ◌*◌, inl, inr, min, length, refl, ap, ◌∙◌, arith}
+use Rattle.vt_ppm.specs.Format.{depth_of}
+use Rattle.vt_tiles.specs.Format.{tile_length}
+use Rattle.std.proofs.Common.{◌≡◌, ℕ, ◌-◌, ◌*◌, inl, inr, min, length, refl, sym, ap, ◌∙◌, arith}
 use Rattle.vt_outside.proofs.Untold.{OnErr-all}
 use Rattle.vt_ppm.specs.Strips.{texture_of}
 use Rattle.vt_pages.specs.Pages.{columns_at}
@@ -256,3 +258,27 @@ returns-clause-half_width g c = c.take.ensures.width
 
 pub returns-clause-half_height : goal.returns-clause-half_height
 returns-clause-half_height g c = c.take.ensures.height
+
+pub put_tiles-requires-clause-depth : goal.put_tiles-requires-clause-depth
+put_tiles-requires-clause-depth g c = c.depth-depth.ensures.depth
+
+pub put_tiles-requires-clause-room : goal.put_tiles-requires-clause-room
+put_tiles-requires-clause-room g c =
+    c.requires.tiles
+    ∙ ap (λ (n : ℕ). n * tile_length c.args.geometry.now (depth_of c.args.chain.now.header.maximum)) (sym c.tile_columns-columns.ensures.value)
+    ∙ ap (λ (n : ℕ). c.tile_columns-columns.result * tile_length c.args.geometry.now n) (sym c.depth-depth.ensures.value)
+
+pub rows-requires-clause-spare : goal.rows-requires-clause-spare
+rows-requires-clause-spare g c = c.requires.spare
+
+pub returns-clause-part : goal.returns-clause-part
+returns-clause-part g c = tt
+
+pub returns-clause-refusals : goal.returns-clause-refusals
+returns-clause-refusals g c = tt
+
+pub returns-clause-tried : goal.returns-clause-tried
+returns-clause-tried g c = tt
+
+pub returns-clause-failed : goal.returns-clause-failed
+returns-clause-failed g c = λ failed. let no : ⊥ = cc in absurd no

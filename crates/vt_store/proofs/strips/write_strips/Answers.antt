@@ -1,9 +1,13 @@
 use Rattle.std.proofs.Common.{◌≡◌, ℕ, ◌+◌, ◌-◌, ◌*◌, ◌/◌, inl, inr, List, Some, length, refl, sym, ap, ◌∙◌, subst, arith}
 use Rattle.std.proofs.lemmas.List.{length-take-le}
+use Rattle.std.proofs.lemmas.Nat.{mul-le}
 use Rattle.vt_outside.proofs.Untold.{OnErr-all}
 use Rattle.vt_ppm.specs.declared.header.Header.{Header}
 use Rattle.vt_ppm.specs.Strips.{texture_of}
 use Rattle.vt_mip.specs.TakenRows.{HalvingView, HalvesFront}
+use Rattle.vt_pages.specs.Shape.{shape_of}
+use Rattle.vt_pages.proofs.Counts.{lt_up}
+use Rattle.vt_ppm.specs.Format.{depth_of}
 use Rattle.vt_pages.specs.Pages.{pages_below, rows_at, columns_at}
 use Rattle.vt_tiles.specs.Format.{tile_length}
 use Rattle.vt_store.specs.ChainStores.{level_source}
@@ -12,7 +16,7 @@ use Rattle.vt_ppm.specs.StripPlaces.{strip_rows, strips_of}
 use Rattle.vt_tiles.specs.declared.error.StoreError.TheVariants.{Failed}
 use Rattle.vt_store.proofs.WideStores.{rose_along, no_less, carried}
 use Rattle.vt_store.proofs.StripStores.{made_begun, made_moved, made_more, made_part, made_header, made_whole, made_rest_part, store_seen, front_seen, header_seen, there_made, more_strips, no_strips, strips_front, strip_tried}
-use Rattle.vt_store.proofs.StripLevels.{first_pages, first_inside, strip_inside, are_strips, rest_tiles, level_made, strip_room, strip_small, strip_bytes, next_taken}
+use Rattle.vt_store.proofs.StripLevels.{all_taken, first_pages, first_inside, strip_inside, are_strips, rest_tiles, level_made, strip_room, strip_small, strip_bytes, next_taken}
 use Rattle.vt_store.proofs.LevelChain.{refused_by}
 use Rattle.vt_tiles.proofs.Refusing.{none_made, by_memory, by_outside, by_call, no_fault, no_fewer}
 use Rattle.vt_store.proofs.strips.write_strips.Goals as goal
@@ -560,3 +564,134 @@ returns-in_err-write_strip-clause-refusals g c = by_call c.from_residual-in_err-
 
 pub returns-in_err-write_levels-clause-refusals : goal.returns-in_err-write_levels-clause-refusals
 returns-in_err-write_levels-clause-refusals g c = by_outside c.from_residual-in_err-write_levels.result _ c.from_residual-in_err-write_levels.ensures.1
+
+pub overflow_add-strips : goal.overflow_add-strips
+overflow_add-strips g c =
+    omega (arith, c.tile-side.ensures.tile, c.tile-side.ensures.limits.least_tile, c.tile-side.ensures.limits.most_tile, c.height-height.ensures.height, c.height-height.ensures.limits.most_height)
+
+pub overflow_sub-strips : goal.overflow_sub-strips
+overflow_sub-strips g c =
+    omega (arith, c.tile-side.ensures.tile, c.tile-side.ensures.limits.least_tile, c.tile-side.ensures.limits.most_tile)
+
+pub nonzero_div-strips : goal.nonzero_div-strips
+nonzero_div-strips g c =
+    omega (arith, c.tile-side.ensures.tile, c.tile-side.ensures.limits.least_tile, c.tile-side.ensures.limits.most_tile)
+
+pub overflow_mul-row : goal.overflow_mul-row
+overflow_mul-row g c =
+    omega (
+      arith,
+      mul-le c.texel_length.result c.width-width.result 6 16384 (omega (arith, c.texel_length.ensures.few)) (omega (arith, c.width-width.ensures.width, c.width-width.ensures.limits.most_width)),
+    )
+
+pub overflow_mul-side : goal.overflow_mul-side
+overflow_mul-side g c =
+    omega (
+      arith,
+      strip_small c.tile-side.result c.texel_length.result c.width-width.result (omega (arith, c.tile-side.ensures.tile, c.tile-side.ensures.limits.least_tile, c.tile-side.ensures.limits.most_tile))
+          (omega (arith, c.texel_length.ensures.few)) (omega (arith, c.width-width.ensures.width, c.width-width.ensures.limits.most_width)),
+    )
+
+pub overflow_mul-strip : goal.overflow_mul-strip
+overflow_mul-strip g c =
+    let low = lt_up c.height-height.result c.tile-side.result c.loop-strip.strip
+    (omega (arith, c.tile-side.ensures.tile, c.tile-side.ensures.limits.least_tile)) c.loop-strip-test.true in
+    omega (arith, low, c.height-height.ensures.height, c.height-height.ensures.limits.most_height)
+
+pub overflow_sub-height : goal.overflow_sub-height
+overflow_sub-height g c =
+    let low = lt_up c.height-height.result c.tile-side.result c.loop-strip.strip
+    (omega (arith, c.tile-side.ensures.tile, c.tile-side.ensures.limits.least_tile)) c.loop-strip-test.true in
+    omega (arith, low)
+
+pub new-requires-clause-depth : goal.new-requires-clause-depth
+new-requires-clause-depth g c = c.depth-depth.ensures.depth
+
+pub new-requires-clause-some_columns : goal.new-requires-clause-some_columns
+new-requires-clause-some_columns g c =
+    omega (arith, c.width-width.ensures.width, c.width-width.ensures.limits.least_width)
+
+pub new-requires-clause-few_columns : goal.new-requires-clause-few_columns
+new-requires-clause-few_columns g c =
+    omega (arith, c.width-width.ensures.width, c.width-width.ensures.limits.most_width)
+
+pub new-requires-clause-some_rows : goal.new-requires-clause-some_rows
+new-requires-clause-some_rows g c =
+    omega (arith, c.height-height.ensures.height, c.height-height.ensures.limits.least_height)
+
+pub new-requires-clause-few_rows : goal.new-requires-clause-few_rows
+new-requires-clause-few_rows g c =
+    omega (arith, c.height-height.ensures.height, c.height-height.ensures.limits.most_height)
+
+pub write_strip-requires-clause-shape : goal.write_strip-requires-clause-shape
+write_strip-requires-clause-shape g c κs within =
+    ap (λ (h : Header). shape_of h.width h.height c.loop-strip.chain.tile) c.loop-strip.invariant.header
+    ∙ ap (λ (n : ℕ). shape_of c.args.chain.now.header.width c.args.chain.now.header.height n) c.loop-strip.invariant.tile ∙ c.requires
+
+pub write_strip-requires-clause-spare : goal.write_strip-requires-clause-spare
+write_strip-requires-clause-spare g c κs within =
+    let are = are_strips c.args.geometry.now c.args.chain.now ((c.height-height.result + c.tile-side.result - 1) / c.tile-side.result)
+    c.height-height.result c.tile-side.result
+    c.requires c.height-height.ensures.height c.tile-side.ensures.tile refl in
+    omega (arith, are.all, c.loop-strip.invariant.spare)
+
+pub write_strip-requires-clause-tiles : goal.write_strip-requires-clause-tiles
+write_strip-requires-clause-tiles g c κs within =
+    c.loop-strip.auto.tiles ∙ c.as_mut_slice-tiles.ensures.len ∙ c.in_ok-tiles_room.ensures ∙ c.longest_row.ensures
+    ∙ ap (λ (n : ℕ). columns_at c.args.geometry.now 0 * tile_length c.args.geometry.now n)
+    (c.depth-depth.ensures.value ∙ ap (λ (h : Header). depth_of h.maximum) (sym c.loop-strip.invariant.header))
+
+pub write_strip-requires-clause-depth : goal.write_strip-requires-clause-depth
+write_strip-requires-clause-depth g c κs within =
+    c.loop-strip.invariant.depth ∙ ap (λ (h : Header). depth_of h.maximum) (sym c.loop-strip.invariant.header)
+
+pub write_strip-requires-clause-width : goal.write_strip-requires-clause-width
+write_strip-requires-clause-width g c κs within =
+    c.loop-strip.invariant.width ∙ ap (λ (h : Header). h.width) (sym c.loop-strip.invariant.header)
+
+pub write_strip-requires-clause-height : goal.write_strip-requires-clause-height
+write_strip-requires-clause-height g c κs within =
+    c.loop-strip.invariant.height ∙ ap (λ (h : Header). h.height) (sym c.loop-strip.invariant.header)
+
+pub write_strip-requires-clause-taken : goal.write_strip-requires-clause-taken
+write_strip-requires-clause-taken g c κs within =
+    let are = are_strips c.args.geometry.now c.args.chain.now ((c.height-height.result + c.tile-side.result - 1) / c.tile-side.result)
+    c.height-height.result c.tile-side.result
+    c.requires c.height-height.ensures.height c.tile-side.ensures.tile refl in
+    let low = lt_up c.height-height.result c.tile-side.result c.loop-strip.strip
+    (omega (arith, c.tile-side.ensures.tile, c.tile-side.ensures.limits.least_tile)) c.loop-strip-test.true in
+    omega (
+      arith,
+      low,
+      are.height,
+      ap (λ (n : ℕ). c.loop-strip.strip * n) c.tile-side.ensures.tile,
+      c.height-height.ensures.height,
+      c.loop-strip.invariant.taken,
+    )
+
+pub returns-clause-part : goal.returns-clause-part
+returns-clause-part g c = tt
+
+pub returns-clause-refusals : goal.returns-clause-refusals
+returns-clause-refusals g c = tt
+
+pub returns-clause-front_read : goal.returns-clause-front_read
+returns-clause-front_read g c = tt
+
+pub returns-clause-failed : goal.returns-clause-failed
+returns-clause-failed g c = λ failed. let no : ⊥ = cc in absurd no
+
+pub finish-requires : goal.finish-requires
+finish-requires g c =
+    let are = are_strips c.args.geometry.now c.args.chain.now ((c.height-height.result + c.tile-side.result - 1) / c.tile-side.result)
+    c.height-height.result c.tile-side.result
+    c.requires c.height-height.ensures.height c.tile-side.ensures.tile refl in
+    let all : c.loop-strip.strip ≡ rows_at c.args.geometry.now 0 = omega (arith, are.rows) in
+    omega (
+      arith,
+      all_taken c.args.geometry.now (omega (arith, c.tile-side.ensures.limits.least_tile)),
+      ap (λ (n : ℕ). n * c.args.geometry.now.tile) all,
+      are.height,
+      c.loop-strip.invariant.taken,
+      c.loop-strip.invariant.height,
+    )

@@ -1,4 +1,8 @@
-use Rattle.std.proofs.Common.{inl, inr, refl}
+use Rattle.vt_pages.specs.Shape.{Shape}
+use Rattle.vt_pages.specs.Pages.{pages_of}
+use Rattle.vt_tiles.specs.Format.{tile_length}
+use Rattle.vt_tiles.specs.Places.{TilesAsked}
+use Rattle.std.proofs.Common.{ℕ, ◌*◌, true, false, inl, inr, refl, sym, ap, ◌∙◌, subst, arith}
 use Rattle.vt_outside.proofs.Untold.{OnErr-all}
 use Rattle.vt_store.proofs.WideStores.{told_tiles}
 use Rattle.vt_tiles.proofs.Refusing.{none_made, by_file, by_outside, no_fewer}
@@ -122,3 +126,56 @@ returns-clause-depth g c = c.read_tiles.ensures.depth
 
 pub returns-clause-file_faults : goal.returns-clause-file_faults
 returns-clause-file_faults g c = c.read_tiles.ensures.faults
+
+pub read_tiles-requires-clause-pages : goal.read_tiles-requires-clause-pages
+read_tiles-requires-clause-pages g c = c.requires.pages
+
+pub read_tiles-requires-clause-spare : goal.read_tiles-requires-clause-spare
+read_tiles-requires-clause-spare g c = c.requires.spare
+
+pub read_tiles-requires-clause-size : goal.read_tiles-requires-clause-size
+read_tiles-requires-clause-size g c =
+    c.requires.narrow ∙ ap (λ (d : ℕ). c.args.count * tile_length c.args.store.now.shape d) (sym c.requires.depth)
+
+pub widen_tiles-requires-clause-pages : goal.widen_tiles-requires-clause-pages
+widen_tiles-requires-clause-pages g c =
+    omega (arith, c.requires.pages, ap pages_of (c.geometry.ensures.shape ∙ c.read_tiles.ensures.shape))
+
+pub widen_tiles-requires-clause-room : goal.widen_tiles-requires-clause-room
+widen_tiles-requires-clause-room g c =
+    c.requires.wide ∙ ap (λ (s : Shape). c.args.count * tile_length s 2) (sym (c.geometry.ensures.shape ∙ c.read_tiles.ensures.shape))
+
+pub widen_tiles-requires-clause-tiles : goal.widen_tiles-requires-clause-tiles
+widen_tiles-requires-clause-tiles g c =
+    c.read_tiles.auto.buf ∙ c.requires.narrow
+    ∙ ap (λ (s : Shape). c.args.count * tile_length s 1) (sym (c.geometry.ensures.shape ∙ c.read_tiles.ensures.shape))
+
+pub returns-clause-part : goal.returns-clause-part
+returns-clause-part g c = tt
+
+pub returns-clause-refusals : goal.returns-clause-refusals
+returns-clause-refusals g c = tt
+
+pub returns-clause-tried : goal.returns-clause-tried
+returns-clause-tried g c = tt
+
+pub returns-clause-failed : goal.returns-clause-failed
+returns-clause-failed g c = λ failed. let no : ⊥ = cc in absurd no
+
+pub returns-clause-read : goal.returns-clause-read
+returns-clause-read g c =
+    subst (λ (d : ℕ). TilesAsked c.args.store.now.shape d c.args.first c.args.count false (g.D.File.File.asked c.args.store.now.file)
+    (g.D.File.File.asked c.read_tiles.new.self.file)) c.requires.depth c.in_ok-read_tiles.ensures.asked
+
+pub returns-in_err-append-clause-tried : goal.returns-in_err-append-clause-tried
+returns-in_err-append-clause-tried g c =
+    OnErr-all _ _ (inl (subst (λ (d : ℕ). TilesAsked c.args.store.now.shape d c.args.first c.args.count false (g.D.File.File.asked c.args.store.now.file)
+    (g.D.File.File.asked c.read_tiles.new.self.file)) c.requires.depth c.in_ok-read_tiles.ensures.asked))
+
+pub returns-in_err-read_tiles-clause-tried : goal.returns-in_err-read_tiles-clause-tried
+returns-in_err-read_tiles-clause-tried g c =
+    OnErr-all _ _ (inr (subst (λ (d : ℕ). TilesAsked c.args.store.now.shape d c.args.first c.args.count true (g.D.File.File.asked c.args.store.now.file)
+    (g.D.File.File.asked c.read_tiles.new.self.file)) c.requires.depth c.in_err-read_tiles.ensures.asked))
+
+pub returns-in_err-read_tiles-clause-failed : goal.returns-in_err-read_tiles-clause-failed
+returns-in_err-read_tiles-clause-failed g c = λ failed there. inr (c.in_err-read_tiles.ensures.failed refl)

@@ -1,9 +1,16 @@
-use Rattle.std.proofs.Common.{ℕ, ◌+◌, ◌-◌, ◌*◌, ◌/◌, inl, inr, refl, sym, ◌∙◌, subst, arith}
+use Rattle.std.proofs.Common.{ℕ, ◌+◌, ◌-◌, ◌*◌, ◌/◌, inl, inr, length, refl, sym, ap, ◌∙◌, subst, arith}
+use Rattle.std.proofs.lemmas.List.{length-take-le}
+use Rattle.std.proofs.lemmas.Nat.{mul-le}
 use Rattle.vt_outside.proofs.Untold.{OnErr-all}
+use Rattle.vt_pages.specs.Shape.{Shape}
+use Rattle.vt_pages.specs.Pages.{columns_at, pages_of}
+use Rattle.vt_pages.proofs.Counts.{lt_up}
+use Rattle.vt_tiles.specs.Format.{tile_length}
 use Rattle.vt_tiles.specs.Places.{PiecesAsked}
 use Rattle.vt_tiles.specs.declared.error.StoreError.TheVariants.{Failed}
 use Rattle.vt_store.proofs.WideStores.{some_columns, begun_pages, pages_moved, header_front, none_asked, front_asked, more_asked, piece_tried, piece_is, piece_part, piece_whole, all_done, all_pages, rose_along, no_less, carried, there}
 use Rattle.vt_store.proofs.LevelChain.{refused_by}
+use Rattle.vt_store.proofs.TileRows.{row_room}
 use Rattle.vt_tiles.proofs.Refusing.{none_made, by_memory, by_outside, by_call, no_fault, no_fewer}
 use Rattle.vt_store.proofs.widen.widen_store.Goals as goal
 
@@ -325,3 +332,116 @@ returns-in_err-widen_piece-clause-all_read g c = none_made c.from_residual-in_er
 
 pub returns-in_err-widen_piece-clause-refusals : goal.returns-in_err-widen_piece-clause-refusals
 returns-in_err-widen_piece-clause-refusals g c = by_call c.from_residual-in_err-widen_piece.result _ c.from_residual-in_err-widen_piece.ensures.1 c.in_err-widen_piece.ensures.refusals
+
+pub overflow_add-pieces : goal.overflow_add-pieces
+overflow_add-pieces g c =
+    omega (arith, c.page_count-pages.ensures.limits.most_pages, c.page_count-pages.ensures.pages, c.tile_columns-step.ensures.few)
+
+pub overflow_mul-first : goal.overflow_mul-first
+overflow_mul-first g c =
+    let begins = lt_up c.page_count-pages.result c.tile_columns-step.result c.loop-piece.piece
+    (omega (arith, some_columns c.geometry-geometry.result c.levels.ensures.limits, c.tile_columns-step.ensures.value))
+    c.loop-piece-test.true in
+    omega (arith, begins, c.page_count-pages.type_inv)
+
+pub overflow_sub-pages : goal.overflow_sub-pages
+overflow_sub-pages g c =
+    let begins = lt_up c.page_count-pages.result c.tile_columns-step.result c.loop-piece.piece
+    (omega (arith, some_columns c.geometry-geometry.result c.levels.ensures.limits, c.tile_columns-step.ensures.value))
+    c.loop-piece-test.true in
+    omega (arith, begins)
+
+pub overflow_mul-read : goal.overflow_mul-read
+overflow_mul-read g c =
+    omega (
+      arith,
+      mul-le c.min-count.result c.tile_length.result 16384 98304 (omega (arith, c.min-count.ensures, c.tile_columns-step.ensures.few))
+          c.tile_length.ensures.few,
+    )
+
+pub overflow_mul-made : goal.overflow_mul-made
+overflow_mul-made g c =
+    omega (
+      arith,
+      mul-le c.min-count.result c.tile_length-in-loop-piece.result 16384 98304
+          (omega (arith, c.min-count.ensures, c.tile_columns-step.ensures.few)) c.tile_length-in-loop-piece.ensures.few,
+    )
+
+pub slice_bounds-widen_piece-end : goal.slice_bounds-widen_piece-end
+slice_bounds-widen_piece-end g c =
+    row_room c.min-count.result (columns_at c.geometry-geometry.result 0) c.tile_length.result (length c.loop-piece.narrow)
+    (omega (arith, c.min-count.ensures, c.tile_columns-step.ensures.value))
+    (c.loop-piece.auto.narrow ∙ c.as_mut_slice-narrow.ensures.len ∙ c.in_ok-narrow_room.ensures ∙ c.longest_row.ensures
+    ∙ ap (λ (n : ℕ). columns_at c.geometry-geometry.result 0 * n) (sym c.tile_length.ensures.value))
+
+pub slice_bounds-widen_piece-end-in-loop-piece : goal.slice_bounds-widen_piece-end-in-loop-piece
+slice_bounds-widen_piece-end-in-loop-piece g c =
+    sym (length-take-le _ c.loop-piece.narrow
+    (row_room c.min-count.result (columns_at c.geometry-geometry.result 0) c.tile_length.result (length c.loop-piece.narrow)
+    (omega (arith, c.min-count.ensures, c.tile_columns-step.ensures.value))
+    (c.loop-piece.auto.narrow ∙ c.as_mut_slice-narrow.ensures.len ∙ c.in_ok-narrow_room.ensures ∙ c.longest_row.ensures
+    ∙ ap (λ (n : ℕ). columns_at c.geometry-geometry.result 0 * n) (sym c.tile_length.ensures.value))))
+
+pub slice_bounds-widen_piece-end-in-loop-piece-2 : goal.slice_bounds-widen_piece-end-in-loop-piece-2
+slice_bounds-widen_piece-end-in-loop-piece-2 g c =
+    row_room c.min-count.result (columns_at c.geometry-geometry.result 0) c.tile_length-in-loop-piece.result (length c.loop-piece.wide)
+    (omega (arith, c.min-count.ensures, c.tile_columns-step.ensures.value))
+    (c.loop-piece.auto.wide ∙ c.as_mut_slice-wide.ensures.len ∙ c.in_ok-wide_room.ensures ∙ c.longest_row-2.ensures
+    ∙ ap (λ (n : ℕ). columns_at c.geometry-geometry.result 0 * n) (sym c.tile_length-in-loop-piece.ensures.value))
+
+pub slice_bounds-widen_piece-end-in-loop-piece-3 : goal.slice_bounds-widen_piece-end-in-loop-piece-3
+slice_bounds-widen_piece-end-in-loop-piece-3 g c =
+    sym (length-take-le _ c.loop-piece.wide
+    (row_room c.min-count.result (columns_at c.geometry-geometry.result 0) c.tile_length-in-loop-piece.result (length c.loop-piece.wide)
+    (omega (arith, c.min-count.ensures, c.tile_columns-step.ensures.value))
+    (c.loop-piece.auto.wide ∙ c.as_mut_slice-wide.ensures.len ∙ c.in_ok-wide_room.ensures ∙ c.longest_row-2.ensures
+    ∙ ap (λ (n : ℕ). columns_at c.geometry-geometry.result 0 * n) (sym c.tile_length-in-loop-piece.ensures.value))))
+
+pub widen_piece-requires-clause-depth : goal.widen_piece-requires-clause-depth
+widen_piece-requires-clause-depth g c κs within = c.loop-piece.invariant.depth
+
+pub widen_piece-requires-clause-narrow : goal.widen_piece-requires-clause-narrow
+widen_piece-requires-clause-narrow g c κs within =
+    length-take-le _ c.loop-piece.narrow
+    (row_room c.min-count.result (columns_at c.geometry-geometry.result 0) c.tile_length.result (length c.loop-piece.narrow)
+    (omega (arith, c.min-count.ensures, c.tile_columns-step.ensures.value))
+    (c.loop-piece.auto.narrow ∙ c.as_mut_slice-narrow.ensures.len ∙ c.in_ok-narrow_room.ensures ∙ c.longest_row.ensures
+    ∙ ap (λ (n : ℕ). columns_at c.geometry-geometry.result 0 * n) (sym c.tile_length.ensures.value)))
+    ∙ ap (λ (n : ℕ). c.min-count.result * n) (c.tile_length.ensures.value
+    ∙ ap (λ (s : Shape). tile_length s 1) (c.geometry-geometry.ensures.shape ∙ sym c.loop-piece.invariant.shape))
+
+pub widen_piece-requires-clause-wide : goal.widen_piece-requires-clause-wide
+widen_piece-requires-clause-wide g c κs within =
+    length-take-le _ c.loop-piece.wide
+    (row_room c.min-count.result (columns_at c.geometry-geometry.result 0) c.tile_length-in-loop-piece.result (length c.loop-piece.wide)
+    (omega (arith, c.min-count.ensures, c.tile_columns-step.ensures.value))
+    (c.loop-piece.auto.wide ∙ c.as_mut_slice-wide.ensures.len ∙ c.in_ok-wide_room.ensures ∙ c.longest_row-2.ensures
+    ∙ ap (λ (n : ℕ). columns_at c.geometry-geometry.result 0 * n) (sym c.tile_length-in-loop-piece.ensures.value)))
+    ∙ ap (λ (n : ℕ). c.min-count.result * n) (c.tile_length-in-loop-piece.ensures.value
+    ∙ ap (λ (s : Shape). tile_length s 2) (c.geometry-geometry.ensures.shape ∙ sym c.loop-piece.invariant.shape))
+
+pub widen_piece-requires-clause-pages : goal.widen_piece-requires-clause-pages
+widen_piece-requires-clause-pages g c κs within =
+    let piece = piece_is c.args.store.now.shape c.geometry-geometry.result c.tile_columns-step.result c.page_count-pages.result
+    c.loop-piece.piece (c.loop-piece.piece * c.tile_columns-step.result) c.min-count.result c.geometry-geometry.ensures.shape
+    c.levels.ensures.limits c.tile_columns-step.ensures.value c.page_count-pages.ensures.pages c.loop-piece-test.true refl c.min-count.ensures in
+    omega (arith, piece.inside, ap pages_of c.loop-piece.invariant.shape)
+
+pub widen_piece-requires-clause-spare : goal.widen_piece-requires-clause-spare
+widen_piece-requires-clause-spare g c κs within =
+    let piece = piece_is c.args.store.now.shape c.geometry-geometry.result c.tile_columns-step.result c.page_count-pages.result
+    c.loop-piece.piece (c.loop-piece.piece * c.tile_columns-step.result) c.min-count.result c.geometry-geometry.ensures.shape
+    c.levels.ensures.limits c.tile_columns-step.ensures.value c.page_count-pages.ensures.pages c.loop-piece-test.true refl c.min-count.ensures in
+    omega (arith, piece.below, c.loop-piece.invariant.spare)
+
+pub returns-clause-part : goal.returns-clause-part
+returns-clause-part g c = tt
+
+pub returns-clause-refusals : goal.returns-clause-refusals
+returns-clause-refusals g c = tt
+
+pub returns-clause-front_read : goal.returns-clause-front_read
+returns-clause-front_read g c = tt
+
+pub returns-clause-failed : goal.returns-clause-failed
+returns-clause-failed g c = λ failed. let no : ⊥ = cc in absurd no

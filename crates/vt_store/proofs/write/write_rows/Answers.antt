@@ -1,4 +1,8 @@
-use Rattle.std.proofs.Common.{inr, arith}
+use Rattle.vt_outside.specs.declared.answers.OutsideError.TheVariants.{Failed}
+use Rattle.vt_store.proofs.LevelRows.{passed_on}
+use Rattle.vt_store.proofs.WideStores.{no_less}
+use Rattle.vt_tiles.proofs.Refusing.{none_made}
+use Rattle.std.proofs.Common.{◌∙◌, inr, arith}
 use Rattle.std.proofs.lemmas.Result.{on_ok_weaker, on_err_weaker}
 use Rattle.vt_outside.proofs.Untold.{OnErr-all}
 use Rattle.vt_mip.specs.Chains.{chain_texel}
@@ -30,3 +34,41 @@ returns-clause-part g c = on_err_weaker c.write_pages.result
     (λ adds. inr (part_store c.args.chain.now c.args.geometry.now c.depth-depth.result c.args.name.now (g.D.Folder.files c.args.folder.now)
     (g.D.Folder.files c.begin_store.new.folder) (g.D.Folder.files c.write_pages.new.folder) c.depth-depth.ensures.value
     c.in_ok-begin_store.ensures.whole adds)) c.write_pages.ensures.part
+
+pub returns-in_err-begin_store-clause-whole : goal.returns-in_err-begin_store-clause-whole
+returns-in_err-begin_store-clause-whole g c = none_made c.from_residual.result _ _ c.from_residual.ensures.1
+
+pub returns-in_err-begin_store-clause-failed : goal.returns-in_err-begin_store-clause-failed
+returns-in_err-begin_store-clause-failed g c =
+    λ failed. c.begin_store.ensures.failed
+    (passed_on c.begin_store.result c.from_residual.result _ Failed c.in_err-begin_store.was c.from_residual.ensures.1 failed)
+
+pub returns-in_err-begin_store-clause-asked : goal.returns-in_err-begin_store-clause-asked
+returns-in_err-begin_store-clause-asked g c = c.begin_store.ensures.asked
+
+pub returns-in_err-begin_store-clause-faults : goal.returns-in_err-begin_store-clause-faults
+returns-in_err-begin_store-clause-faults g c = c.begin_store.ensures.faults
+
+pub returns-in_err-room-clause-whole : goal.returns-in_err-room-clause-whole
+returns-in_err-room-clause-whole g c = none_made c.from_residual-in_err-room.result _ _ c.from_residual-in_err-room.ensures.1
+
+pub returns-in_err-room-clause-asked : goal.returns-in_err-room-clause-asked
+returns-in_err-room-clause-asked g c = c.begin_store.ensures.asked
+
+pub returns-in_err-room-clause-faults : goal.returns-in_err-room-clause-faults
+returns-in_err-room-clause-faults g c = c.begin_store.ensures.faults
+
+pub returns-clause-asked : goal.returns-clause-asked
+returns-clause-asked g c = c.write_pages.ensures.asked ∙ c.begin_store.ensures.asked
+
+pub returns-clause-faults : goal.returns-clause-faults
+returns-clause-faults g c = no_less _ _ _ c.begin_store.ensures.faults c.write_pages.ensures.faults
+
+pub returns-clause-failed : goal.returns-clause-failed
+returns-clause-failed g c =
+    λ failed.
+    let rose = c.write_pages.ensures.failed failed (g.D.Folder.files c.args.folder.now) _ c.in_ok-begin_store.ensures.whole in
+    omega (arith, rose, c.begin_store.ensures.faults)
+
+pub write_pages-requires-clause-shape : goal.write_pages-requires-clause-shape
+write_pages-requires-clause-shape g c κs within = c.requires
