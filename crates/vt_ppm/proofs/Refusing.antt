@@ -76,31 +76,31 @@ pub flaw_no_fault : {T : Type 0} (q : Result T PpmError) (e : PpmError) (most : 
 flaw_no_fault (Ok x) e most b P is flaw failed = absurd is
 flaw_no_fault (Err x) e most b P is flaw failed = let same : e ≡ Failed = cc in absurd (subst (IsFlawUpTo most b) same flaw)
 
--- a refusal of the outside says nothing of what was read
+-- what is so of a fault and of want of memory is so of a refusal of the outside
+pub outside_is : (P : PpmError → Type 0) → P Failed → P NoMemory → (e : PpmError) → IsOutsideRefusal e → P e
+outside_is P fault memory BadMagic outside = absurd outside
+outside_is P fault memory (BadHeader at) outside = absurd outside
+outside_is P fault memory BadSize outside = absurd outside
+outside_is P fault memory BadMaximum outside = absurd outside
+outside_is P fault memory (Truncated want have) outside = absurd outside
+outside_is P fault memory (SampleOver at) outside = absurd outside
+outside_is P fault memory Failed outside = fault
+outside_is P fault memory NoMemory outside = memory
+
+-- it says nothing of what was read
 pub outside_answer : {T : Type 0} (q : Result T PpmError) (e : PpmError) (told : Option (List ℕ)) (before after : Option (List Place))
     → IsErrAnd q (λ x. x ≡ e) → IsOutsideRefusal e → AnswersOfImage q told before after
-outside_answer {T} q e told before after is outside = by_error q is (of e outside)
-  where
-    of : (e : PpmError) → IsOutsideRefusal e → AnswersOfImage {T = T} (Err e) told before after
-    of BadMagic never = absurd never
-    of (BadHeader at) never = absurd never
-    of BadSize never = absurd never
-    of BadMaximum never = absurd never
-    of (Truncated want have) never = absurd never
-    of (SampleOver at) never = absurd never
-    of Failed never = tt
-    of NoMemory never = tt
-
-    by_error : (q : Result T PpmError) → IsErrAnd q (λ x. x ≡ e) → AnswersOfImage {T = T} (Err e) told before after → AnswersOfImage q told before after
-    by_error (Ok x) is so = absurd is
-    by_error (Err x) is so = subst (λ y. AnswersOfImage {T = T} (Err y) told before after) (sym is) so
+outside_answer {T} (Ok x) e told before after is outside = absurd is
+outside_answer {T} (Err x) e told before after is outside =
+    outside_is (λ y. AnswersOfImage {T = T} (Err y) told before after) tt tt x (subst IsOutsideRefusal (sym is) outside)
 
 -- a flaw of the header is told once the front was read
 pub header_answer : {T : Type 0} (q : Result T PpmError) (e : PpmError) (told : Option (List ℕ)) (before after : Option (List Place))
     → IsErrAnd q (λ x. x ≡ e) → (IsRasterRefusal e → ⊥) → ReadsFront told before after → AnswersOfImage q told before after
-header_answer {T} q e told before after is other read = by_error q is (of e other)
+header_answer {T} (Ok x) e told before after is other read = absurd is
+header_answer {T} (Err x) e told before after is other read = of x (subst (λ y. IsRasterRefusal y → ⊥) (sym is) other)
   where
-    of : (e : PpmError) → (IsRasterRefusal e → ⊥) → AnswersOfImage {T = T} (Err e) told before after
+    of : (y : PpmError) → (IsRasterRefusal y → ⊥) → AnswersOfImage {T = T} (Err y) told before after
     of BadMagic never = read
     of (BadHeader at) never = read
     of BadSize never = read
@@ -109,10 +109,6 @@ header_answer {T} q e told before after is other read = by_error q is (of e othe
     of (SampleOver at) never = absurd (never tt)
     of Failed never = tt
     of NoMemory never = tt
-
-    by_error : (q : Result T PpmError) → IsErrAnd q (λ x. x ≡ e) → AnswersOfImage {T = T} (Err e) told before after → AnswersOfImage q told before after
-    by_error (Ok x) is so = absurd is
-    by_error (Err x) is so = subst (λ y. AnswersOfImage {T = T} (Err y) told before after) (sym is) so
 
 -- a count that rose later rose
 pub rose_later : (a b c : ℕ) → a ≤ b → Rose b c → Rose a c
@@ -133,40 +129,23 @@ front_answer (Err NoMemory) told before after read = tt
 
 pub outside_header_answer : {T : Type 0} (q : Result T PpmError) (e : PpmError) (told : Option (List ℕ)) (before after : Option (List Place))
     → IsErrAnd q (λ x. x ≡ e) → IsOutsideRefusal e → AnswersOfHeader q told before after
-outside_header_answer (Ok x) e told before after is outside = absurd is
+outside_header_answer {T} (Ok x) e told before after is outside = absurd is
 outside_header_answer {T} (Err x) e told before after is outside =
-    subst (λ y. AnswersOfHeader {T = T} (Err y) told before after) (sym is) (of e outside)
-  where
-    of : (e : PpmError) → IsOutsideRefusal e → AnswersOfHeader {T = T} (Err e) told before after
-    of BadMagic never = absurd never
-    of (BadHeader at) never = absurd never
-    of BadSize never = absurd never
-    of BadMaximum never = absurd never
-    of (Truncated want have) never = absurd never
-    of (SampleOver at) never = absurd never
-    of Failed never = tt
-    of NoMemory never = tt
+    outside_is (λ y. AnswersOfHeader {T = T} (Err y) told before after) tt tt x (subst IsOutsideRefusal (sym is) outside)
 
 -- neither a refusal of the outside nor a flaw of the header speaks of samples
 pub no_raster_no_sample : (e : PpmError) → (IsRasterRefusal e → ⊥) → IsSampleRefusal e → ⊥
+no_raster_no_sample (SampleOver at) never sample = never tt
 no_raster_no_sample BadMagic never sample = sample
 no_raster_no_sample (BadHeader at) never sample = sample
 no_raster_no_sample BadSize never sample = sample
 no_raster_no_sample BadMaximum never sample = sample
 no_raster_no_sample (Truncated want have) never sample = sample
-no_raster_no_sample (SampleOver at) never sample = never tt
 no_raster_no_sample Failed never sample = sample
 no_raster_no_sample NoMemory never sample = sample
 
 pub outside_no_sample : (e : PpmError) → IsOutsideRefusal e → IsSampleRefusal e → ⊥
-outside_no_sample BadMagic outside sample = outside
-outside_no_sample (BadHeader at) outside sample = outside
-outside_no_sample BadSize outside sample = outside
-outside_no_sample BadMaximum outside sample = outside
-outside_no_sample (Truncated want have) outside sample = outside
-outside_no_sample (SampleOver at) outside sample = outside
-outside_no_sample Failed outside sample = sample
-outside_no_sample NoMemory outside sample = sample
+outside_no_sample = outside_is (λ e. IsSampleRefusal e → ⊥) (λ sample. sample) (λ sample. sample)
 
 -- no read is noted where memory was refused
 pub notes_none : {T : Type 0} (q : Result T PpmError) (at len : ℕ) (places : Option (List Place)) → IsErrAnd q (λ x. x ≡ NoMemory)
