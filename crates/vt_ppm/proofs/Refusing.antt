@@ -152,3 +152,12 @@ pub notes_none : {T : Type 0} (q : Result T PpmError) (at len : ℕ) (places : O
     → NotesRead q at len places places
 notes_none (Ok x) at len places is = absurd is
 notes_none {T} (Err x) at len places is = subst (λ y. NotesRead {T = T} (Err y) at len places places) (sym is) refl
+
+pub outside_no_raster : (e : PpmError) → IsOutsideRefusal e → IsRasterRefusal e → ⊥
+outside_no_raster = outside_is (λ e. IsRasterRefusal e → ⊥) (λ never. never) (λ never. never)
+
+-- an answer that tells a flaw of bytes is no fault
+pub flaw_answer_no_fault : {T : Type 0} (q : Result T PpmError) (most : ℕ) (b : List ℕ) (P : Type 0) → IfErr q (λ e. IsFlawUpTo most b e)
+    → IsErrOf q Failed → P
+flaw_answer_no_fault (Ok x) most b P flaw failed = let none : ⊥ = cc in absurd none
+flaw_answer_no_fault (Err x) most b P flaw failed = let same : x ≡ Failed = cc in absurd (subst (IsFlawUpTo most b) same flaw)
