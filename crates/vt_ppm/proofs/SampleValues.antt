@@ -1,5 +1,5 @@
 -- Samples of either depth in bytes, and what they are kept as.
-use Rattle.std.proofs.Common.{◌≡◌, ◌⊎◌, Fits, w8, inl, inr, ℕ, zero, suc, ◌+◌, ◌-◌, ◌*◌, ◌/◌, ◌%◌, ◌<◌, ◌≤◌, true, false, cond, nat_le, List, [], ◌∷◌, ◌++◌, length, get_or, refl, sym, ap, ◌∙◌, subst, arith, length-append}
+use Rattle.std.proofs.Common.{◌≡◌, ◌⊎◌, Fits, w8, inl, inr, ℕ, zero, suc, ◌+◌, ◌-◌, ◌*◌, ◌/◌, ◌%◌, ◌<◌, ◌≤◌, ◌≢◌, true, false, cond, nat_le, List, [], ◌∷◌, ◌++◌, length, get_or, refl, sym, ap, ◌∙◌, subst, arith, length-append}
 use Rattle.std.proofs.Math.Nat.{div-lt_iff_lt-mul}
 use Rattle.std.proofs.lemmas.Bool.{cases_lt}
 use Rattle.std.proofs.lemmas.Bool.Decides.{nat_tests}
@@ -10,6 +10,7 @@ use Rattle.vt_definitions.specs.Numbers.{number_bytes}
 use Rattle.vt_definitions.proofs.TexelWords.{sample_small}
 use Rattle.vt_definitions.proofs.Words.{byte_at}
 use Rattle.vt_ppm.specs.Format.{depth_of, scaled, IsMaximum}
+use Rattle.vt_ppm.specs.Samples.{AreScaledUpTo}
 use Rattle.vt_ppm.specs.Strips.{sample_bytes}
 
 -- what is so at either depth
@@ -187,3 +188,17 @@ two_deep d (inr two) other = two
 -- what a slice is known to hold are bytes
 pub are_bytes : (l : List ℕ) → ((i : ℕ) → Fits w8 (get_or l i 0)) → AreBytes l
 are_bytes l each = λ k d inside. subst (λ n. n < 256) (sym (get_or_default l k d 0 inside)) (each k).fits
+
+-- one sample more that is scaled
+pub scaled_more : (d m n : ℕ) (old before after : List ℕ) (kept : ℕ) → AreScaledUpTo d m n old before
+    → ((k : ℕ) → n ≤ k → sample_at d before k ≡ sample_at d old k) → sample_at d after n ≡ kept
+    → ((k : ℕ) → k ≢ n → sample_at d after k ≡ sample_at d before k) → (sample_at d before n ≤ m → kept ≡ scaled d m (sample_at d before n))
+    → AreScaledUpTo d m (n + 1) old after
+scaled_more d m n old before after kept done rest written others value i inside few =
+    elim (cases_lt i n) [
+      | inl sooner ↦ others i (λ e. absurd (omega (arith, e, sooner))) ∙ done i sooner few
+      | inr late ↦
+          let here : i ≡ n = omega (arith, inside, late) in
+          let same : sample_at d before n ≡ sample_at d old i = rest n (omega arith) ∙ ap (sample_at d old) (sym here) in
+          ap (sample_at d after) here ∙ written ∙ value (subst (λ s. s ≤ m) (sym same) few) ∙ ap (scaled d m) same
+    ]

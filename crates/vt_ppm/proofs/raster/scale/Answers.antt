@@ -23,23 +23,23 @@ pub scale_samples-requires-else-depth_of-eq1-clause-depth : goal.scale_samples-r
 scale_samples-requires-else-depth_of-eq1-clause-depth c = inr refl
 
 pub scale_samples-requires-else-depth_of-eq1-clause-full : goal.scale_samples-requires-else-depth_of-eq1-clause-full
-scale_samples-requires-else-depth_of-eq1-clause-full c = 
+scale_samples-requires-else-depth_of-eq1-clause-full c =
     subst (λ d. length c.args.raster.now ≡ d * c.args.count) (sym c.depth_of.ensures.value ∙ two_deep _ c.depth_of.ensures.depth c.if-depth_of-eq1.false) c.requires.full
 
 pub scale_samples-requires-else-depth_of-eq1-clause-some : goal.scale_samples-requires-else-depth_of-eq1-clause-some
 scale_samples-requires-else-depth_of-eq1-clause-some c = c.requires.maximum.some
 
 pub scale_samples-requires-else-depth_of-eq1-clause-lawful : goal.scale_samples-requires-else-depth_of-eq1-clause-lawful
-scale_samples-requires-else-depth_of-eq1-clause-lawful c = 
+scale_samples-requires-else-depth_of-eq1-clause-lawful c =
     subst (λ d. c.args.maximum ≤ greatest_sample d)
     (sym c.depth_of.ensures.value ∙ two_deep _ c.depth_of.ensures.depth c.if-depth_of-eq1.false) (maximum_few c.args.maximum c.requires.maximum.few)
 
 pub returns-then-depth_of-eq1-clause-scaled : goal.returns-then-depth_of-eq1-clause-scaled
-returns-then-depth_of-eq1-clause-scaled c = 
+returns-then-depth_of-eq1-clause-scaled c =
     subst (λ d. AreScaledUpTo d c.args.maximum c.args.count c.args.raster.now c.scale_samples.new.raster) (sym (sym c.depth_of.ensures.value ∙ c.if-depth_of-eq1.true)) c.scale_samples.ensures
 
 pub returns-else-depth_of-eq1-clause-scaled : goal.returns-else-depth_of-eq1-clause-scaled
-returns-else-depth_of-eq1-clause-scaled c = 
+returns-else-depth_of-eq1-clause-scaled c =
     subst (λ d. AreScaledUpTo d c.args.maximum c.args.count c.args.raster.now c.scale_samples-else-depth_of-eq1.new.raster)
     (sym (sym c.depth_of.ensures.value ∙ two_deep _ c.depth_of.ensures.depth c.if-depth_of-eq1.false)) c.scale_samples-else-depth_of-eq1.ensures
 

@@ -110,7 +110,7 @@ pub returns-in_err-bytes-clause-refusals : goal.returns-in_err-bytes-clause-refu
 returns-in_err-bytes-clause-refusals g c = handed_on c.from_residual-in_err-bytes.result _ _ c.from_residual-in_err-bytes.ensures.1 c.in_err-bytes.ensures.refusals
 
 pub returns-in_err-bytes-clause-failed : goal.returns-in_err-bytes-clause-failed
-returns-in_err-bytes-clause-failed g c = 
+returns-in_err-bytes-clause-failed g c =
     let inside = front_inside _ _ c.in_ok-length.length _ (c.reserve.ensures.bytes ∙ c.length.ensures.bytes) c.in_ok-length.ensures.told c.min.ensures in
     let first : g.F.File.faults c.args.file.now ≤ g.F.File.faults c.reserve.new.self = omega (arith, c.reserve.ensures.faults, c.length.ensures.faults) in
     fault_handed_on {T = Vec ℕ Global} c.from_residual-in_err-bytes.result _ _ c.from_residual-in_err-bytes.ensures.1

@@ -146,7 +146,7 @@ pub returns-in_err-raster-clause-flaw : goal.returns-in_err-raster-clause-flaw
 returns-in_err-raster-clause-flaw g c = handed_on c.from_residual-in_err-raster.result _ _ c.from_residual-in_err-raster.ensures.1 (λ never. absurd (never c.in_err-raster.ensures.refusals))
 
 pub returns-in_err-raster-clause-failed : goal.returns-in_err-raster-clause-failed
-returns-in_err-raster-clause-failed g c = 
+returns-in_err-raster-clause-failed g c =
     let h = c.in_ok-header.header in
     let inside = raster_inside _ _ _ (g.F.File.asked c.args.file.now) c.in_ok-front.front.length h.raster h.width h.height h.maximum _ c.deref.result.now c.in_ok-front.ensures.read
     (rw c.deref.ensures.value c.in_ok-front.ensures.front) (rw c.deref.ensures.value c.in_ok-front.ensures.few) c.in_ok-header.ensures.header

@@ -116,7 +116,7 @@ pub returns-in_err-look_over_rows-clause-refusals : goal.returns-in_err-look_ove
 returns-in_err-look_over_rows-clause-refusals g c = handed_on c.from_residual.result _ _ c.from_residual.ensures.1 c.in_err-look_over_rows.ensures.refusals
 
 pub returns-in_err-look_over_rows-clause-failed : goal.returns-in_err-look_over_rows-clause-failed
-returns-in_err-look_over_rows-clause-failed g c = 
+returns-in_err-look_over_rows-clause-failed g c =
     fault_handed_on {T = Unit {0}} c.from_residual.result _ _ c.from_residual.ensures.1
     (λ failed. rose_later _ _ _ c.loop-piece.invariant.faults (c.in_err-look_over_rows.ensures.failed failed))
 

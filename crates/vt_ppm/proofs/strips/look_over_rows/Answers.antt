@@ -40,7 +40,7 @@ pub returns-in_err-read_at-clause-refusals : goal.returns-in_err-read_at-clause-
 returns-in_err-read_at-clause-refusals g c = handed_on c.from_residual.result Failed _ c.from_residual.ensures.1 tt
 
 pub returns-in_err-read_at-clause-asked : goal.returns-in_err-read_at-clause-asked
-returns-in_err-read_at-clause-asked g c = 
+returns-in_err-read_at-clause-asked g c =
     failed_rows c.args.header.now c.args.y c.args.count _ _ c.from_residual.result c.from_residual.ensures.1
     (rows_noted c.args.header.now c.args.y c.args.count _ _ true _ _ c.row_start-start.ensures.value (c.read_at.auto.buf ∙ c.requires.size) c.in_err-read_at.ensures.asked)
 
@@ -66,9 +66,10 @@ pub returns-in-Some-clause-failed : goal.returns-in-Some-clause-failed
 returns-in-Some-clause-failed g c = λ failed. let no : ⊥ = cc in absurd no
 
 pub returns-in-Some-clause-asked : goal.returns-in-Some-clause-asked
-returns-in-Some-clause-asked g c = 
-    (over_before c.args.header.now c.args.y c.args.count _ _ c.in-Some.number _ c.row_start-start.ensures.value c.depth_of.ensures.value c.sample_count.ensures c.in-Some.ensures.within,
-    rows_noted c.args.header.now c.args.y c.args.count _ _ false _ _ c.row_start-start.ensures.value (c.read_at.auto.buf ∙ c.requires.size) c.in_ok-read_at.ensures.asked)
+returns-in-Some-clause-asked g c = (
+  over_before c.args.header.now c.args.y c.args.count _ _ c.in-Some.number _ c.row_start-start.ensures.value c.depth_of.ensures.value c.sample_count.ensures c.in-Some.ensures.within,
+  rows_noted c.args.header.now c.args.y c.args.count _ _ false _ _ c.row_start-start.ensures.value (c.read_at.auto.buf ∙ c.requires.size) c.in_ok-read_at.ensures.asked,
+)
 
 pub returns-in-Some-clause-spare : goal.returns-in-Some-clause-spare
 returns-in-Some-clause-spare g c = c.read_at.ensures.spare

@@ -54,7 +54,7 @@ pub returns-in_err-at-clause-some : goal.returns-in_err-at-clause-some
 returns-in_err-at-clause-some c = rw c.from_residual.ensures tt
 
 pub returns-then-have-want-clause-some : goal.returns-then-have-want-clause-some
-returns-then-have-want-clause-some c = 
+returns-then-have-want-clause-some c =
     let b = c.args.bytes.now in
     let h = c.in-Ok.header in
     let first : c.split_at.result.0.now ≡ take 65536 b = head_is b c.split_at.result.0.now (length b) refl

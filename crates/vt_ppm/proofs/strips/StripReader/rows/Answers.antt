@@ -40,7 +40,7 @@ pub returns-in_err-read_at-clause-values : goal.returns-in_err-read_at-clause-va
 returns-in_err-read_at-clause-values g c = none_made c.from_residual.result _ _ c.from_residual.ensures.1
 
 pub returns-in_err-read_at-clause-asked : goal.returns-in_err-read_at-clause-asked
-returns-in_err-read_at-clause-asked g c = 
+returns-in_err-read_at-clause-asked g c =
     subst (λ v. RowsAsked v.header c.args.y c.args.count (is_err c.from_residual.result) (g.F.File.asked v.file) (g.F.File.asked c.read_at.new.self)) c.self.view_is
     (told_refused c.from_residual.result _ (λ b. RowsAsked c.self.inside.header c.args.y c.args.count b (g.F.File.asked c.self.inside.file)
     (g.F.File.asked c.read_at.new.self)) c.from_residual.ensures.1 (rows_noted c.self.inside.header c.args.y c.args.count _ _ true _ _ c.row_start.ensures.value
@@ -54,7 +54,7 @@ pub returns-clause-failed : goal.returns-clause-failed
 returns-clause-failed g c = λ failed. absurd (false≢true failed)
 
 pub returns-clause-asked : goal.returns-clause-asked
-returns-clause-asked g c = 
+returns-clause-asked g c =
     subst (λ v. RowsAsked v.header c.args.y c.args.count false (g.F.File.asked v.file) (g.F.File.asked c.read_at.new.self)) c.self.view_is
     (rows_noted c.self.inside.header c.args.y c.args.count _ _ false _ _ c.row_start.ensures.value
     (c.read_at.auto.buf ∙ c.requires.size ∙ ap (λ v. c.args.count * row_length v.header) (sym c.self.view_is))
