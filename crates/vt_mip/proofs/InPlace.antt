@@ -119,3 +119,11 @@ shrinks_on p v u a b ed ew eh full ea eb more before = record {
   shrunk = rw (ed, ew, eh) (subst (λ (n : ℕ). IsShrunk v.depth p.samples v.width v.height n u.samples) (sym eb)
       (more p.samples (subst (λ (n : ℕ). IsShrunk v.depth p.samples v.width v.height n v.samples) ea before.shrunk)));
 }
+
+-- the half of an image's samples is as long as the half of the image wants
+pub half_full : (d w h n : ℕ) (samples : List ℕ) → 1 ≤ w → 1 ≤ h → n ≡ texel_length d * ((w + 1) / 2 * ((h + 1) / 2))
+    → length samples ≡ texel_length d * (w * h) → length (take n samples) ≡ texel_length d * ((w + 1) / 2 * ((h + 1) / 2))
+half_full d w h n samples wide high size full =
+    let less : (w + 1) / 2 * ((h + 1) / 2) ≤ w * h = mul-le ((w + 1) / 2) ((h + 1) / 2) w h (omega (arith, wide)) (omega (arith, high)) in
+    let all : texel_length d * ((w + 1) / 2 * ((h + 1) / 2)) ≤ texel_length d * (w * h) = mul-le-mul_left (texel_length d) less in
+    length-take-le n samples (omega (arith, size, full, all)) ∙ size

@@ -12,3 +12,4 @@ pub mod StripRoom
 pub mod InPlace
 pub mod Bytes
 pub mod PutBoxes
+pub mod Refusing

@@ -97,3 +97,8 @@ box_small d a b c e (inl one) = rw one (narrow a b c e) where
 box_small d a b c e (inr two) = rw two (wide a b c e) where
   wide : (a b c e : ℕ) → a < 65536 → b < 65536 → c < 65536 → e < 65536 → box a b c e < 65536
   wide a b c e p q r s = omega (arith, p, q, r, s)
+
+-- samples that have not one byte have two
+pub two_deep : (d : ℕ) → IsDepth d → (d ≡ 1 → ⊥) → d ≡ 2
+two_deep d (inl one) other = absurd (other one)
+two_deep d (inr two) other = two

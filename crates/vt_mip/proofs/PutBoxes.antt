@@ -1,5 +1,5 @@
 -- The three samples of a texel, written one after the other.
-use Rattle.std.proofs.Common.{◌≡◌, ◌≢◌, ◌⊎◌, inl, inr, ℕ, zero, suc, ◌+◌, ◌-◌, ◌*◌, ◌/◌, ◌%◌, ◌<◌, List, ap, sym, ◌∙◌, subst, arith}
+use Rattle.std.proofs.Common.{◌≡◌, ◌≢◌, ◌⊎◌, inl, inr, ℕ, zero, suc, ◌+◌, ◌-◌, ◌*◌, ◌/◌, ◌%◌, ◌<◌, List, ap, sym, ◌∙◌, arith}
 use Rattle.vt_definitions.specs.Depths.{sample_at}
 use Rattle.vt_mip.specs.Chains.{clamped}
 use Rattle.vt_mip.specs.Halves.{IsHalvedRow, box_at, row_sample, pair_sample}
@@ -46,3 +46,20 @@ last_column d top bottom old new w last k odd el ek written kept before = record
       let right : last + c ≡ 3 * clamped w (2 * x + 1) + c = omega (arith, el, e, odd) in
       ap (sample_at d new) at ∙ written c few ∙ ap (λ n. box_at d top bottom n (last + c)) left
       ∙ ap (λ n. box_at d top bottom (3 * clamped w (2 * x) + c) n) right
+
+-- one pair of columns more
+pub next_column : (d : ℕ) (top bottom old new : List ℕ) (w n : ℕ) → n < w / 2
+    → ((c : ℕ) → c < 3 → sample_at d new (3 * n + c) ≡ box_at d top bottom (6 * n + c) (6 * n + 3 + c))
+    → ((m : ℕ) → m < 3 * n → sample_at d new m ≡ sample_at d old m) → IsHalvedRow d top bottom w n old → IsHalvedRow d top bottom w (n + 1) new
+next_column d top bottom old new w n inside written kept before = record { each = λ x c below few. each x c few (split x below) } where
+  split : (x : ℕ) → x < n + 1 → (x < n) ⊎ (x ≡ n)
+  split x below = grind arith
+
+  each : (x c : ℕ) → c < 3 → (x < n) ⊎ (x ≡ n) → row_sample d new x c ≡ pair_sample d top bottom w x c
+  each x c few (inl low) = kept (3 * x + c) (omega (arith, low, few)) ∙ before.each x c low few
+  each x c few (inr e) =
+      let at : 3 * x + c ≡ 3 * n + c = omega (arith, e) in
+      let left : 6 * n + c ≡ 3 * clamped w (2 * x) + c = omega (arith, e, inside) in
+      let right : 6 * n + 3 + c ≡ 3 * clamped w (2 * x + 1) + c = omega (arith, e, inside) in
+      ap (sample_at d new) at ∙ written c few ∙ ap (λ m. box_at d top bottom m (6 * n + 3 + c)) left
+      ∙ ap (λ m. box_at d top bottom (3 * clamped w (2 * x) + c) m) right

@@ -1,11 +1,12 @@
 -- The rows of the texture that are read for a row of a level.
-use Rattle.std.proofs.Common.{◌≡◌, ℕ, zero, suc, ◌+◌, ◌*◌, ◌^◌, ◌<◌, ◌≤◌, Option, Some, None, true, false, List, [], ◌∷◌, ◌++◌, refl, sym, ap, ◌∙◌, subst, arith, append_assoc}
+use Rattle.std.proofs.Common.{◌≡◌, ℕ, zero, suc, ◌+◌, ◌-◌, ◌*◌, min, Bool, Result, Ok, Err, is_err, OnOk, OnErr, ◌^◌, ◌<◌, ◌≤◌, Option, Some, None, true, false, List, [], ◌∷◌, ◌++◌, refl, sym, ap, ◌∙◌, subst, arith, append_assoc}
 use Rattle.std.proofs.Math.Nat.{pow-succ'}
 use Rattle.std.specs.Prelude.{option_map}
 use Rattle.vt_definitions.specs.Sides.{side}
 use Rattle.vt_outside.specs.declared.place.Place.{Place}
 use Rattle.vt_ppm.specs.declared.header.Header.{Header}
-use Rattle.vt_mip.specs.StripChains.{RowsRead, RowsFailed, row_place, row_places, first_under, rows_under}
+use Rattle.vt_ppm.specs.Strips.{RowsAsked, row_length, row_start}
+use Rattle.vt_mip.specs.StripChains.{IsUpper, RowsRead, RowsFailed, row_place, row_places, first_under, rows_under}
 
 -- a row is one of a level exactly where a row of the texture lies under it
 pub row_under : (h k y : ℕ) → y < side h k → y * 2 ^ k < h
@@ -99,12 +100,6 @@ fail_on h first n m a0 a1 a2 before after =
 pub fail_sooner : (h : Header) (first n m : ℕ) (a0 a1 : Option (List Place)) → n ≤ m → RowsFailed h first n a0 a1 → RowsFailed h first m a0 a1
 fail_sooner h first n m a0 a1 short failed = record { count = failed.count; few = omega (arith, failed.few); asked = failed.asked }
 
--- the first of the two rows below
-pub record IsUpper (h k level y : ℕ) : Type 0 where
-  pub inside : 2 * y < side h k
-  pub first : first_under k (2 * y) ≡ first_under level y
-  pub fewer : rows_under h k (2 * y) ≤ rows_under h level y
-
 pub upper : (h k level y : ℕ) → level ≡ suc k → y < side h level → IsUpper h k level y
 upper h k level y e inside =
     let here : y < side h (suc k) = subst (λ (n : ℕ). y < side h n) e inside in
@@ -177,3 +172,31 @@ module _ (h g : Header) (k level y : ℕ) (a0 a1 a2 : Option (List Place)) (e : 
   both_spare s0 s1 s2 first second =
       let there : s1 ≤ s2 + rows_under h.height k (2 * y + 1) = subst (λ (z : Header). s1 ≤ s2 + rows_under z.height k (2 * y + 1)) same second in
       omega (arith, below.1)
+
+-- a row of level 0 is that of the texture
+module _ (h : Header) (level y : ℕ) (a0 a1 : Option (List Place)) where
+  first_place : (failed : Bool) → level ≡ 0 → y < side h.height level → RowsAsked h y 1 failed a0 a1
+      → (a1 ≡ option_map (λ places. places ++ record { at = row_start h (first_under level y); len = 1 * row_length h; failed = failed } ∷ []) a0)
+      × (rows_under h.height level y ≡ 1)
+  first_place failed e inside asked =
+      let there : y < h.height = subst (λ k. y < side h.height k) e inside in
+      rw e (let same : y * 2 ^ 0 ≡ y = omega arith in let one : min (2 ^ 0) (h.height - y * 2 ^ 0) ≡ 1 = omega (arith, there) in (rw same asked, one))
+
+  pub first_read : {T E : Type 0} (q : Result T E) → level ≡ 0 → y < side h.height level → RowsAsked h y 1 (is_err q) a0 a1
+      → OnOk q (RowsRead h (first_under level y) (rows_under h.height level y) a0 a1)
+  first_read (Ok x) e inside asked = let f = first_place false e inside asked in rw f.1 f.0
+  first_read (Err x) e inside asked = tt
+
+  pub first_tried : {T E : Type 0} (q : Result T E) → level ≡ 0 → y < side h.height level → RowsAsked h y 1 (is_err q) a0 a1
+      → OnErr q (RowsFailed h (first_under level y) (rows_under h.height level y) a0 a1)
+  first_tried (Ok x) e inside asked = tt
+  first_tried (Err x) e inside asked =
+      let f = first_place true e inside asked in
+      let none : first_under level y + 0 ≡ first_under level y = omega arith in
+      record { count = 0; few = omega (arith, f.1); asked = rw none f.0 }
+
+pub first_spare : (h : Header) (level y a b : ℕ) → level ≡ 0 → y < side h.height level → a ≤ b + 1 → a ≤ b + rows_under h.height level y
+first_spare h level y a b e inside few =
+    let there : y < h.height = subst (λ k. y < side h.height k) e inside in
+    let one : 1 ≤ rows_under h.height level y = rw e (omega (arith, there)) in
+    omega (arith, few, one)

@@ -1,15 +1,15 @@
 -- The numbers of levels, and the room for their rows.
 use Rattle.std.proofs.Common.{◌≡◌, ℕ, zero, suc, ◌+◌, ◌-◌, ◌*◌, ◌/◌, ◌<◌, ◌≤◌, ◌⊎◌, inl, inr, refl, sym, ap, ◌∙◌, subst, arith}
 use Rattle.std.proofs.Math.Nat.{mul-le-mul_left}
-use Rattle.vt_definitions.specs.Depths.{texel_length}
+use Rattle.vt_definitions.specs.Depths.{IsDepth, texel_length}
 use Rattle.vt_definitions.specs.Sides.{side, level_count}
 use Rattle.vt_definitions.proofs.Levels.{level_count_least}
 use Rattle.vt_ppm.specs.declared.header.Header.{Header}
 use Rattle.vt_ppm.specs.Format.{depth_of}
-use Rattle.vt_mip.specs.StripChains.{StripChainView, room_length, level_row_length}
+use Rattle.vt_mip.specs.StripChains.{IsBelow, StripChainView, room_length, level_row_length}
 use Rattle.vt_mip.proofs.Fronts.{side_scaled}
 use Rattle.vt_ppm.specs.Strips.{IsTextureHeader}
-use Rattle.vt_mip.proofs.StripReads.{IsUpper, upper}
+use Rattle.vt_mip.proofs.StripReads.{upper}
 
 -- no level before this one has both sides at most the tile side
 abbrev pub NeedsLevels : ℕ → ℕ → ℕ → ℕ → Type 0
@@ -66,14 +66,6 @@ room_grows h a b h' =
     let e : a + (b - a) ≡ b = omega arith in
     let s : room_length h (a + (b - a)) ≡ room_length h b = ap (room_length h) e in omega (arith, s, room_grows_by h a (b - a))
 
--- the room for two rows of the level below, and for those of the levels below that
-pub split_fits : (h : Header) (level k z w m : ℕ) → level ≡ suc k → z ≡ texel_length (depth_of h.maximum) → w ≡ side h.width k
-    → room_length h level ≤ m → (2 * (z * w) + room_length h k ≤ m) × (z * w ≡ level_row_length h k)
-split_fits h level k z w m e ez ew room =
-    let row : z * w ≡ level_row_length h k = ap (λ (i : ℕ). i * w) ez ∙ ap (λ (i : ℕ). texel_length (depth_of h.maximum) * i) ew in
-    let here : room_length h level ≡ room_length h (suc k) = ap (room_length h) e in
-    (omega (arith, room_more h k, row, here), row)
-
 -- the length of a row that is halved
 pub half_length : (h : Header) (level k d w n : ℕ) → level ≡ suc k → d ≡ depth_of h.maximum → w ≡ side h.width k
     → n ≡ level_row_length h level → n ≡ texel_length d * ((w + 1) / 2)
@@ -85,34 +77,28 @@ pub room_few : (n z s k : ℕ) → n ≤ 196608 * k → z ≤ 6 → s ≤ 16384 
 room_few n z s k few small short =
     let a : z * s ≤ z * 16384 = mul-le-mul_left z short in omega (arith, a)
 
--- what a row of a level that is not 0 has to do with the level below
-pub record IsBelow (h : Header) (level y w s z m : ℕ) : Type 0 where
-  pub level_is : level ≡ suc (level - 1)
-  pub columns : w ≡ side h.width (level - 1)
-  pub rows : s ≡ side h.height (level - 1)
-  pub size : z * w ≡ level_row_length h (level - 1)
-  pub room : 2 * (z * w) + room_length h (level - 1) ≤ m
-  pub upper : IsUpper h.height (level - 1) level y
-  pub inside : 2 * y < s
-  pub short : s ≤ 16384
-
-pub is_below : (h h' : Header) (level y d w s z m : ℕ) → h' ≡ h → 1 ≤ level → d ≡ depth_of h.maximum → z ≡ texel_length d
-    → w ≡ side h'.width (level - 1) → s ≡ side h'.height (level - 1) → s ≤ h'.height → IsTextureHeader h → room_length h level ≤ m
-    → y < side h.height level → IsBelow h level y w s z m
-is_below h h' level y d w s z m e some ed ez ew es few header room inside =
+pub is_below : (h h' : Header) (level y d w s z : ℕ) → h' ≡ h → 1 ≤ level → d ≡ depth_of h.maximum → IsDepth d → z ≡ texel_length d
+    → w ≡ side h'.width (level - 1) → s ≡ side h'.height (level - 1) → s ≤ h'.height → IsTextureHeader h → y < side h.height level
+    → IsBelow h level y d w s (z * w)
+is_below h h' level y d w s z e some ed depth ez ew es few header inside =
     let k : ℕ = level - 1 in
     let level_is : level ≡ suc k = omega arith in
     let columns : w ≡ side h.width k = ew ∙ ap (λ (g : Header). side g.width k) e in
     let rows : s ≡ side h.height k = es ∙ ap (λ (g : Header). side g.height k) e in
     let high : h'.height ≡ h.height = ap (λ (g : Header). g.height) e in
-    let fits = split_fits h level k z w m level_is (ez ∙ ap texel_length ed) columns room in
+    let size : z * w ≡ level_row_length h k = ap (λ n. n * w) (ez ∙ ap texel_length ed) ∙ ap (λ n. texel_length (depth_of h.maximum) * n) columns in
+    let room : room_length h level ≡ room_length h (suc k) = ap (room_length h) level_is in
     let up = upper h.height k level y level_is inside in
     record {
       level_is = level_is;
+      depth = ed;
+      is_depth = depth;
+      some_columns = header.sides.some_columns;
       columns = columns;
       rows = rows;
-      size = fits.1;
-      room = fits.0;
+      product = ap (λ n. n * w) ez;
+      size = size;
+      room = omega (arith, room, room_more h k, size);
       upper = up;
       inside = omega (arith, up.inside, rows);
       short = omega (arith, few, high, header.sides.few_rows);

@@ -1,8 +1,8 @@
 -- The mip chain of a texture that is read by rows.
 use Rattle.std.specs.Prelude.{◌≡◌, ℕ, zero, suc, ◌+◌, ◌-◌, ◌*◌, ◌^◌, ◌<◌, ◌≤◌, Bool, true, false, List, [], ◌∷◌, ◌++◌, map, min, Option, option_map}
 use Rattle.std.specs.List.{range_with_len}
-use Rattle.vt_definitions.specs.Depths.{texel_length, word_at}
-use Rattle.vt_definitions.specs.Limits.{most_levels}
+use Rattle.vt_definitions.specs.Depths.{IsDepth, texel_length, word_at}
+use Rattle.vt_definitions.specs.Limits.{most_levels, most_tiled_side}
 use Rattle.vt_definitions.specs.Sides.{side, level_count}
 use Rattle.vt_definitions.specs.Texels.{Source}
 use Rattle.vt_definitions.specs.Tiles.{IsTileSide}
@@ -53,6 +53,27 @@ first_under k y = y * 2 ^ k
 -- how many of a texture's rows lie under a row of a level: two for each row of the level below, as far as there are
 abbrev pub rows_under : ℕ → ℕ → ℕ → ℕ
 rows_under h k y = min (2 ^ k) (h - first_under k y)
+
+-- how a row of a level has to do with the first of the two rows of the level below that it is made of
+pub record IsUpper (h k level y : ℕ) : Type 0 where
+  pub inside : 2 * y < side h k
+  pub first : first_under k (2 * y) ≡ first_under level y
+  pub fewer : rows_under h k (2 * y) ≤ rows_under h level y
+
+-- what a row of a level that is not 0 has to do with the level below: the bytes of a sample, the sides, and the bytes of a row
+pub record IsBelow (h : Header) (level y d w s n : ℕ) : Type 0 where
+  pub level_is : level ≡ suc (level - 1)
+  pub depth : d ≡ depth_of h.maximum
+  pub is_depth : IsDepth d
+  pub some_columns : 1 ≤ h.width
+  pub columns : w ≡ side h.width (level - 1)
+  pub rows : s ≡ side h.height (level - 1)
+  pub product : n ≡ texel_length d * w
+  pub size : n ≡ level_row_length h (level - 1)
+  pub room : room_length h level ≡ 2 * n + room_length h (level - 1)
+  pub upper : IsUpper h.height (level - 1) level y
+  pub inside : 2 * y < s
+  pub short : s ≤ most_tiled_side
 
 -- the place of a row of the texture
 abbrev pub row_place : Header → Bool → ℕ → Place

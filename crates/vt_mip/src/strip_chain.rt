@@ -9,7 +9,7 @@ ghost use Rattle.vt_outside.specs.Counts.{Rose};
 ghost use Rattle.vt_ppm.specs.Format.{depth_of};
 ghost use Rattle.vt_ppm.specs.Strips.{IsTextureHeader, IsTextureIfTold, RowsAsked, row_length, rows_of};
 ghost use Rattle.vt_mip.specs.Chains.{IsTexelRow};
-ghost use Rattle.vt_mip.specs.StripChains.{HasWords, RowsRead, RowsFailed, first_under, rows_under, level_row_length, room_length, texture_texel};
+ghost use Rattle.vt_mip.specs.StripChains.{HasWords, IsBelow, RowsRead, RowsFailed, first_under, rows_under, level_row_length, room_length, texture_texel};
 
 use crate::halving::halve_rows;
 use std::alloc::Global;
@@ -94,6 +94,33 @@ fn room_length<F: File>(reader: &StripReader<F>, level: u32) -> usize
     room
 }
 
+// What a row of a level is made of: how many bytes a sample has, the sides of the level below, and how many bytes a row of that has.
+#[derive(Clone, Copy)]
+struct Below {
+    depth: u32,
+    width: usize,
+    height: u32,
+    size: usize,
+}
+
+// What a row of a level that is not 0 is made of.
+fn row_below<F: File>(reader: &StripReader<F>, level: u32, y: u32) -> Below
+    requires some { 1 ≤ level }
+    requires row { y < side reader.now.header.height level }
+    ensures { IsBelow reader.now.header level y result.depth result.width result.height result.size }
+{
+    let texture = reader.header();
+    let depth = reader.depth();
+    let width = side_at(texture.width, level - 1) as usize;
+    let height = side_at(texture.height, level - 1);
+    Below {
+        depth,
+        width,
+        height,
+        size: texel_length(depth) * width,
+    }
+}
+
 // Writes row `y` of a level, made of rows of the texture. The room holds two rows of each finer level.
 fn level_row<F: File>(
     reader: &mut StripReader<F>,
@@ -122,24 +149,19 @@ fn level_row<F: File>(
     ensures header { reader.new.header ≡ reader.old.header }
     ensures kept { reader.new.checked ≡ true }
 {
-    let texture = reader.header();
-    let (columns, lines) = (texture.width, texture.height);
     if level == 0 {
         return reader.row(y, out);
     }
-    let depth = reader.depth();
-    let width = side_at(columns, level - 1) as usize;
-    let height = side_at(lines, level - 1);
-    let size = texel_length(depth) * width;
-    let (rows, rest) = room.split_at_mut(2 * size);
-    let (top, bottom) = rows.split_at_mut(size);
+    let below = row_below(reader, level, y);
+    let (rows, rest) = room.split_at_mut(2 * below.size);
+    let (top, bottom) = rows.split_at_mut(below.size);
     level_row(reader, level - 1, 2 * y, rest, top)?;
-    if 2 * y + 1 == height {
-        halve_rows(depth, width, top, top, out);
+    if 2 * y + 1 == below.height {
+        halve_rows(below.depth, below.width, top, top, out);
         return Ok(());
     }
     level_row(reader, level - 1, 2 * y + 1, rest, bottom)?;
-    halve_rows(depth, width, top, bottom, out);
+    halve_rows(below.depth, below.width, top, bottom, out);
     Ok(())
 }
 

@@ -9,7 +9,7 @@ use Rattle.vt_ppm.specs.declared.error.PpmError.{PpmError}
 use Rattle.vt_ppm.specs.declared.error.PpmError.TheVariants.{NoMemory}
 use Rattle.vt_ppm.specs.Format.{depth_of}
 use Rattle.vt_ppm.specs.Flaws.{IsLawfulHeader}
-use Rattle.vt_ppm.specs.Reads.{IsFrontPlace, IsRasterPlace, Gains, AsksHeader, AsksImage, ReadsFront, ReadsRaster, NotesRead, IsFront}
+use Rattle.vt_ppm.specs.Reads.{IsFrontPlace, IsRasterPlace, Gains, AreHeaderPlaces, AreImagePlaces, AsksHeader, AsksImage, ReadsFront, ReadsRaster, NotesRead, IsFront}
 use Rattle.vt_ppm.proofs.TellingFiles.{header_told}
 
 gains_nothing : (o n : Option (List Place)) → n ≡ o → Gains o n []
@@ -83,6 +83,9 @@ module _ (t : Option (List ℕ)) (o p n : Option (List Place)) (len r w h m want
     each = (front.is_front, front.read, raster_place (record { at = r; len = want; failed = true }) refl refl);
   }
 
+  pub raster_inside : IfSome t (λ b. r + want ≤ length b)
+  raster_inside = (raster_place (record { at = r; len = want; failed = true }) refl refl).within
+
   pub reads_raster : n ≡ option_map (noted r want false) p → ReadsRaster t o n
   reads_raster e = record {
     front = front.front;
@@ -93,3 +96,25 @@ module _ (t : Option (List ℕ)) (o p n : Option (List Place)) (len r w h m want
     is_raster = raster_place (record { at = r; len = want; failed = false }) refl refl;
     raster_read = refl;
   }
+
+-- nothing is asked for
+pub asks_nothing : (t : Option (List ℕ)) (o n : Option (List Place)) → n ≡ o → AsksHeader t o n
+asks_nothing t o n same = record { places = []; gained = gains_nothing o n same; each = tt }
+
+-- the front lies in the file
+pub front_inside : (t u : Option (List ℕ)) (len count : ℕ) → u ≡ t → IfSome t (λ b. len ≡ length b) → count ≡ min len header_limit
+    → IfSome u (λ b. 0 + count ≤ length b)
+front_inside t u len count same told is = subst (λ o. IfSome o (λ b. 0 + count ≤ length b)) (sym same) (inside t told)
+  where
+    inside : (o : Option (List ℕ)) → IfSome o (λ b. len ≡ length b) → IfSome o (λ b. 0 + count ≤ length b)
+    inside None h = tt
+    inside (Some b) h = omega (arith, h, is)
+
+-- what is asked for a header is so for an image
+pub asks_header_only : (t : Option (List ℕ)) (o n : Option (List Place)) → AsksHeader t o n → AsksImage t o n
+asks_header_only t o n asks = record { places = asks.places; gained = asks.gained; each = of asks.places asks.each }
+  where
+    of : (places : List Place) → AreHeaderPlaces t places → AreImagePlaces t places
+    of [] are = tt
+    of (front ∷ []) are = are
+    of (front ∷ raster ∷ rest) are = absurd are

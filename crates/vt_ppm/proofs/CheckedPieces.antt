@@ -168,3 +168,8 @@ some_rows h is = by_depth (λ d. 1 ≤ min h.height ((1048575 + texel_length d *
   where
     rows_of : (z : ℕ) → 1 ≤ z * h.width → 1 ≤ min h.height ((1048575 + z * h.width) / (z * h.width))
     rows_of z some = omega (arith, is.sides.some_rows, le-div 1 (1048575 + z * h.width) (z * h.width) some (omega arith))
+
+-- no rows were asked for
+pub gains_no_rows : (h : Header) (places : Option (List Place)) → GainsRows h places places
+gains_no_rows h None = record { places = []; gained = refl; each = All-nil (IsRowsPlace h) }
+gains_no_rows h (Some held) = record { places = []; gained = ap Some (sym (append-nil held)); each = All-nil (IsRowsPlace h) }

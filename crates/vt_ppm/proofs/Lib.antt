@@ -13,3 +13,4 @@ pub mod WrittenPictures
 pub mod AskedPlaces
 pub mod StripLaws
 pub mod CheckedPieces
+pub mod Refusing

@@ -1,15 +1,16 @@
 -- Samples of either depth in bytes, and what they are kept as.
-use Rattle.std.proofs.Common.{◌≡◌, ◌⊎◌, inl, inr, ℕ, zero, suc, ◌+◌, ◌-◌, ◌*◌, ◌/◌, ◌%◌, ◌<◌, ◌≤◌, true, false, cond, nat_le, List, [], ◌∷◌, ◌++◌, length, get_or, refl, sym, ap, ◌∙◌, subst, arith, length-append}
+use Rattle.std.proofs.Common.{◌≡◌, ◌⊎◌, Fits, w8, inl, inr, ℕ, zero, suc, ◌+◌, ◌-◌, ◌*◌, ◌/◌, ◌%◌, ◌<◌, ◌≤◌, ◌≢◌, true, false, cond, nat_le, List, [], ◌∷◌, ◌++◌, length, get_or, refl, sym, ap, ◌∙◌, subst, arith, length-append}
 use Rattle.std.proofs.Math.Nat.{div-lt_iff_lt-mul}
 use Rattle.std.proofs.lemmas.Bool.{cases_lt}
 use Rattle.std.proofs.lemmas.Bool.Decides.{nat_tests}
-use Rattle.std.proofs.lemmas.List.{get_or_append_left, get_or-append_right, ext_get_or}
+use Rattle.std.proofs.lemmas.List.{get_or_default, get_or_append_left, get_or-append_right, ext_get_or}
 use Rattle.std.proofs.lemmas.List.Elements.{All-nil, All-cons, All-append}
 use Rattle.vt_definitions.specs.Depths.{IsDepth, AreBytes, sample_at, sample_base, greatest_sample, texel_length}
 use Rattle.vt_definitions.specs.Numbers.{number_bytes}
 use Rattle.vt_definitions.proofs.TexelWords.{sample_small}
 use Rattle.vt_definitions.proofs.Words.{byte_at}
 use Rattle.vt_ppm.specs.Format.{depth_of, scaled, IsMaximum}
+use Rattle.vt_ppm.specs.Samples.{AreScaledUpTo}
 use Rattle.vt_ppm.specs.Strips.{sample_bytes}
 
 -- what is so at either depth
@@ -178,3 +179,26 @@ samples_sample d v (suc n) i depth few inside = elim (cases_lt i n) [
     room : i < n → d * i + d ≤ length (sample_bytes d v n)
     room less = by_depth (λ d. length (sample_bytes d v n) ≡ d * n → d * i + d ≤ length (sample_bytes d v n))
         (λ e. omega (arith, e, less)) (λ e. omega (arith, e, less)) d depth (samples_length d v n depth)
+
+-- samples that have not one byte have two
+pub two_deep : (d : ℕ) → IsDepth d → (d ≡ 1 → ⊥) → d ≡ 2
+two_deep d (inl one) other = absurd (other one)
+two_deep d (inr two) other = two
+
+-- what a slice is known to hold are bytes
+pub are_bytes : (l : List ℕ) → ((i : ℕ) → Fits w8 (get_or l i 0)) → AreBytes l
+are_bytes l each = λ k d inside. subst (λ n. n < 256) (sym (get_or_default l k d 0 inside)) (each k).fits
+
+-- one sample more that is scaled
+pub scaled_more : (d m n : ℕ) (old before after : List ℕ) (kept : ℕ) → AreScaledUpTo d m n old before
+    → ((k : ℕ) → n ≤ k → sample_at d before k ≡ sample_at d old k) → sample_at d after n ≡ kept
+    → ((k : ℕ) → k ≢ n → sample_at d after k ≡ sample_at d before k) → (sample_at d before n ≤ m → kept ≡ scaled d m (sample_at d before n))
+    → AreScaledUpTo d m (n + 1) old after
+scaled_more d m n old before after kept done rest written others value i inside few =
+    elim (cases_lt i n) [
+      | inl sooner ↦ others i (λ e. absurd (omega (arith, e, sooner))) ∙ done i sooner few
+      | inr late ↦
+          let here : i ≡ n = omega (arith, inside, late) in
+          let same : sample_at d before n ≡ sample_at d old i = rest n (omega arith) ∙ ap (sample_at d old) (sym here) in
+          ap (sample_at d after) here ∙ written ∙ value (subst (λ s. s ≤ m) (sym same) few) ∙ ap (scaled d m) same
+    ]

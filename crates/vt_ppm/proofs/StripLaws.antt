@@ -1,18 +1,21 @@
 -- Rows of a texture: which of its samples they are, and what they are kept as.
-use Rattle.std.proofs.Common.{◌≡◌, inl, inr, ℕ, ◌+◌, ◌-◌, ◌*◌, ◌<◌, ◌≤◌, List, length, take, drop, get_or, min, Option, Some, None, IfSome, refl, sym, ap, ◌∙◌, subst, arith, length-drop}
+use Rattle.std.proofs.Common.{◌≡◌, inl, inr, ℕ, ◌+◌, ◌-◌, ◌*◌, ◌<◌, ◌≤◌, List, length, take, drop, get_or, min, Bool, true, Option, Some, None, IfSome, option_map, Result, Ok, Err, IsErrAnd, refl, sym, ap, ◌∙◌, subst, arith, length-drop}
 use Rattle.std.proofs.lemmas.Bool.{cases_lt}
 use Rattle.std.proofs.lemmas.List.{get_or-take, get_or-drop, drop-drop, length-take-le}
 use Rattle.std.proofs.lemmas.List.Elements.{All-take, All-drop}
 use Rattle.std.proofs.lemmas.Nat.{mul-le}
 use Rattle.vt_definitions.specs.Depths.{IsDepth, AreBytes, greatest_sample, sample_at, texel_length}
 use Rattle.vt_definitions.specs.Limits.{header_limit, most_tiled_side}
-use Rattle.vt_outside.specs.Files.{IsPiece, TellsBytes, HasPlace}
+use Rattle.vt_outside.specs.Files.{IsPiece, TellsBytes, HasPlace, noted}
+use Rattle.vt_outside.specs.declared.place.Place.{Place}
+use Rattle.vt_ppm.specs.declared.error.PpmError.{PpmError}
+use Rattle.vt_ppm.specs.declared.error.PpmError.TheVariants.{Failed}
 use Rattle.vt_ppm.specs.declared.header.Header.{Header}
 use Rattle.vt_ppm.specs.Format.{IsTexture, AreUpTo, depth_of, scaled}
 use Rattle.vt_ppm.specs.Flaws.{IsLawfulHeader, IsSampleOver}
 use Rattle.vt_ppm.specs.Reads.{IsFront}
 use Rattle.vt_ppm.specs.Samples.{AreScaledUpTo, IsFirstOver}
-use Rattle.vt_ppm.specs.Strips.{HasRaster, HasRasterIfTold, MayBeOver, HasSamplesIfTold, IsTextureIfTold, AreRowsUpTo, texture_of, sample_bytes, kept_samples, row_length, row_start, rows_of}
+use Rattle.vt_ppm.specs.Strips.{HasRaster, HasRasterIfTold, MayBeOver, HasSamplesIfTold, IsTextureIfTold, AreRowsUpTo, texture_of, sample_bytes, kept_samples, row_length, row_start, rows_of, RowsAsked, ChecksRows}
 use Rattle.vt_ppm.proofs.Rasters.{image_made}
 use Rattle.vt_ppm.proofs.SampleValues.{by_depth, depth_is, sample_few, kept_few, same_bytes, samples_of_texels, samples_length, samples_bytes, samples_sample}
 use Rattle.vt_ppm.proofs.TellingFiles.{header_told}
@@ -247,3 +250,26 @@ module _ (told : Option (List ℕ)) (h : Header) (xs : List ℕ) (y count start 
 -- the samples of rows, in bytes
 pub rows_full : (h : Header) (len count samples : ℕ) → len ≡ count * row_length h → samples ≡ 3 * (h.width * count) → len ≡ depth_of h.maximum * samples
 rows_full h len count samples e f = e ∙ rows_in_samples (depth_of h.maximum) h.width count ∙ ap (λ k. depth_of h.maximum * k) (sym f)
+
+-- the place of rows that a read notes
+pub rows_noted : (h : Header) (y count at len : ℕ) (failed : Bool) (before after : Option (List Place)) → at ≡ row_start h y → len ≡ count * row_length h
+    → after ≡ option_map (noted at len failed) before → RowsAsked h y count failed before after
+rows_noted h y count at len failed before after there whole e =
+    e ∙ ap (λ n. option_map (noted n len failed) before) there ∙ ap (λ n. option_map (noted (row_start h y) n failed) before) whole
+
+-- and what was checked where it failed
+pub failed_rows : {T : Type 0} (h : Header) (y count : ℕ) (before after : Option (List Place)) (q : Result T PpmError) → IsErrAnd q (λ e. e ≡ Failed)
+    → RowsAsked h y count true before after → ChecksRows h y count q before after
+failed_rows h y count before after (Ok x) is asked = absurd is
+failed_rows {T} h y count before after (Err e) is asked = subst (λ f. ChecksRows h y count {T = T} (Err f) before after) (sym is) asked
+
+-- a sample of rows begins before their end
+pub over_before : (h : Header) (y count start d number samples : ℕ) → start ≡ row_start h y → d ≡ depth_of h.maximum
+    → samples ≡ 3 * (h.width * count) → number < samples → start + d * number < row_start h (y + count)
+over_before h y count start d number samples begins depth size inside =
+    let b : ℕ = depth_of h.maximum in
+    let some : 1 ≤ b = by_depth (λ d. 1 ≤ d) (omega arith) (omega arith) b (depth_is h.maximum) in
+    let few : b * (number + 1) ≤ b * (3 * (h.width * count)) = mul-le b (number + 1) b (3 * (h.width * count)) (omega arith) (omega (arith, inside, size)) in
+    let here : d * number ≡ b * number = ap (λ n. n * number) depth in
+    let whole : count * row_length h ≡ b * (3 * (h.width * count)) = rows_in_samples b h.width count in
+    omega (arith, begins, here, few, some, whole)

@@ -255,10 +255,9 @@ impl<F: File> StripReader<F> {
         ensures faults { F.faults self.old.file ≤ F.faults self.new.file }
         ensures header { self.new.header ≡ self.old.header }
     {
-        self.checked = false;
-        look_over(&mut self.file, &self.header, self.buffer.as_mut_slice())?;
-        self.checked = true;
-        Ok(())
+        let answer = look_over(&mut self.file, &self.header, self.buffer.as_mut_slice());
+        self.checked = answer.is_ok();
+        answer
     }
 
     /// Fills the buffer, which has the length of so many rows, with those from row `y` on, each sample scaled so that the greatest

@@ -1,4 +1,4 @@
-use Rattle.std.proofs.Common.{arith, ◌∙◌}
+use Rattle.std.proofs.Common.{◌∙◌}
 use Rattle.vt_mip.proofs.PutBoxes.{three_boxes, none_before}
 use Rattle.vt_mip.proofs.boxes.put_boxes.Goals as goal
 

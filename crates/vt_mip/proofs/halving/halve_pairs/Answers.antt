@@ -1,3 +1,4 @@
+use Rattle.vt_mip.proofs.PutBoxes.{next_column}
 use Rattle.std.proofs.Common.{ℕ, ◌+◌, ◌*◌, ◌/◌, ◌<◌, ◌≤◌, arith}
 use Rattle.std.proofs.Math.Nat.{mul-le-mul_left}
 use Rattle.vt_mip.proofs.halving.halve_pairs.Goals as goal
@@ -29,3 +30,14 @@ put_boxes-requires-clause-second_bottom g c =
 pub put_boxes-requires-clause-room : goal.put_boxes-requires-clause-room
 put_boxes-requires-clause-room g c =
     omega (arith, half_inside g.row.DEPTH c.args.width c.loop-x.x c.loop-x-test.true, c.loop-x.auto.out, c.requires.out)
+
+pub loop-x-init : goal.loop-x-init
+loop-x-init g c = c.requires.blocks
+
+pub loop-x-preserved : goal.loop-x-preserved
+loop-x-preserved g c = 
+    next_column g.row.DEPTH c.args.top.now c.args.bottom.now c.loop-x.out c.put_boxes.new.out c.args.width c.loop-x.x c.loop-x-test.true
+    c.put_boxes.ensures.written c.put_boxes.ensures.kept c.loop-x.invariant
+
+pub put_boxes-requires-clause-depth : goal.put_boxes-requires-clause-depth
+put_boxes-requires-clause-depth g c = c.requires.depth

@@ -1,13 +1,15 @@
-use Rattle.std.proofs.Common.{◌≡◌, ℕ, ◌+◌, ◌-◌, ◌*◌, ◌<◌, ◌≤◌, length, sym, ◌∙◌, subst, arith, rules}
+use Rattle.std.proofs.Common.{◌≡◌, ℕ, ◌+◌, ◌-◌, ◌*◌, ◌<◌, ◌≤◌, length, refl, sym, ◌∙◌, subst, arith, rules}
 use Rattle.std.proofs.Math.Nat.{le_trans}
 use Rattle.std.proofs.lemmas.Result.{on_ok_weaker}
 use Rattle.vt_outside.proofs.Untold.{OnErr-all}
 use Rattle.vt_definitions.specs.Sides.{side}
 use Rattle.vt_ppm.specs.declared.header.Header.{Header}
 use Rattle.vt_mip.proofs.StripRows.{first_words, one_row, two_rows}
-use Rattle.vt_mip.proofs.StripReads.{upper_failed, alone_read, both_read, second_failed, second_spare, both_spare}
+use Rattle.std.proofs.lemmas.Bool.{false≢true}
+use Rattle.vt_mip.proofs.Refusing.{none_made, rose_later}
+use Rattle.vt_mip.proofs.StripReads.{first_read, first_tried, first_spare, upper_failed, alone_read, both_read, second_failed, second_spare, both_spare}
 use Rattle.vt_mip.specs.StripChains.{room_length, level_row_length}
-use Rattle.vt_mip.proofs.StripRoom.{is_below, half_length}
+use Rattle.vt_mip.proofs.StripRoom.{half_length}
 use Rattle.vt_mip.proofs.strip_chain.+level_row.Goals as goal
 
 pub returns-then-level-eq0-clause-words : goal.returns-then-level-eq0-clause-words
@@ -17,138 +19,93 @@ returns-then-level-eq0-clause-words g t c = on_ok_weaker c.row.result
 
 pub split_at_mut-rows-requires : goal.split_at_mut-rows-requires
 split_at_mut-rows-requires g t c =
-    let b = is_below c.args.reader.now.header c.header-texture.result.now c.args.level c.args.y c.depth-depth.result c.side_at-width.result
-    c.side_at-height.result c.texel_length.result (length c.args.room.now) c.header-texture.ensures.value (omega arith)
-    c.depth-depth.ensures.value c.texel_length.ensures.value c.side_at-width.ensures.value c.side_at-height.ensures.value
-    c.side_at-height.ensures.few c.header-texture.ensures.limits c.requires.room c.requires.row in
-    omega (arith, b.room)
+    let b = c.row_below-below.ensures in
+    omega (arith, b.room, c.requires.room)
 
 pub overflow_mul-y : goal.overflow_mul-y
 overflow_mul-y g t c =
-    let b = is_below c.args.reader.now.header c.header-texture.result.now c.args.level c.args.y c.depth-depth.result c.side_at-width.result
-    c.side_at-height.result c.texel_length.result (length c.args.room.now) c.header-texture.ensures.value (omega arith)
-    c.depth-depth.ensures.value c.texel_length.ensures.value c.side_at-width.ensures.value c.side_at-height.ensures.value
-    c.side_at-height.ensures.few c.header-texture.ensures.limits c.requires.room c.requires.row in
+    let b = c.row_below-below.ensures in
     omega (arith, b.inside, b.short)
 
 pub overflow_mul-y-2 : goal.overflow_mul-y-2
 overflow_mul-y-2 g t c =
-    let b = is_below c.args.reader.now.header c.header-texture.result.now c.args.level c.args.y c.depth-depth.result c.side_at-width.result
-    c.side_at-height.result c.texel_length.result (length c.args.room.now) c.header-texture.ensures.value (omega arith)
-    c.depth-depth.ensures.value c.texel_length.ensures.value c.side_at-width.ensures.value c.side_at-height.ensures.value
-    c.side_at-height.ensures.few c.header-texture.ensures.limits c.requires.room c.requires.row in
+    let b = c.row_below-below.ensures in
     omega (arith, b.inside, b.short)
 
 pub overflow_add-y : goal.overflow_add-y
 overflow_add-y g t c =
-    let b = is_below c.args.reader.now.header c.header-texture.result.now c.args.level c.args.y c.depth-depth.result c.side_at-width.result
-    c.side_at-height.result c.texel_length.result (length c.args.room.now) c.header-texture.ensures.value (omega arith)
-    c.depth-depth.ensures.value c.texel_length.ensures.value c.side_at-width.ensures.value c.side_at-height.ensures.value
-    c.side_at-height.ensures.few c.header-texture.ensures.limits c.requires.room c.requires.row in
+    let b = c.row_below-below.ensures in
     omega (arith, b.inside, b.short)
 
 pub overflow_mul-y-3 : goal.overflow_mul-y-3
 overflow_mul-y-3 g t c =
-    let b = is_below c.args.reader.now.header c.header-texture.result.now c.args.level c.args.y c.depth-depth.result c.side_at-width.result
-    c.side_at-height.result c.texel_length.result (length c.args.room.now) c.header-texture.ensures.value (omega arith)
-    c.depth-depth.ensures.value c.texel_length.ensures.value c.side_at-width.ensures.value c.side_at-height.ensures.value
-    c.side_at-height.ensures.few c.header-texture.ensures.limits c.requires.room c.requires.row in
+    let b = c.row_below-below.ensures in
     omega (arith, b.inside, b.short)
 
 pub overflow_add-y-2 : goal.overflow_add-y-2
 overflow_add-y-2 g t c =
-    let b = is_below c.args.reader.now.header c.header-texture.result.now c.args.level c.args.y c.depth-depth.result c.side_at-width.result
-    c.side_at-height.result c.texel_length.result (length c.args.room.now) c.header-texture.ensures.value (omega arith)
-    c.depth-depth.ensures.value c.texel_length.ensures.value c.side_at-width.ensures.value c.side_at-height.ensures.value
-    c.side_at-height.ensures.few c.header-texture.ensures.limits c.requires.room c.requires.row in
+    let b = c.row_below-below.ensures in
     omega (arith, b.inside, b.short)
 
 pub level_row-requires : goal.level_row-requires
 level_row-requires g t c =
-    let b = is_below c.args.reader.now.header c.header-texture.result.now c.args.level c.args.y c.depth-depth.result c.side_at-width.result
-    c.side_at-height.result c.texel_length.result (length c.args.room.now) c.header-texture.ensures.value (omega arith)
-    c.depth-depth.ensures.value c.texel_length.ensures.value c.side_at-width.ensures.value c.side_at-height.ensures.value
-    c.side_at-height.ensures.few c.header-texture.ensures.limits c.requires.room c.requires.row in
+    let b = c.row_below-below.ensures in
     λ κs lives. (
       omega arith,
       (
         search rules,
         (
           c.requires.checked,
-          (b.upper.inside, (omega (arith, b.upper.fewer), (omega (arith, b.room), omega (arith, b.size)))),
+          (b.upper.inside, (omega (arith, b.upper.fewer), (omega (arith, b.room, c.requires.room), omega (arith, b.size)))),
         ),
       ),
     )
 
 pub returns-in_err-level_row-clause-tried : goal.returns-in_err-level_row-clause-tried
 returns-in_err-level_row-clause-tried g t c =
-    let b = is_below c.args.reader.now.header c.header-texture.result.now c.args.level c.args.y c.depth-depth.result c.side_at-width.result
-    c.side_at-height.result c.texel_length.result (length c.args.room.now) c.header-texture.ensures.value (omega arith)
-    c.depth-depth.ensures.value c.texel_length.ensures.value c.side_at-width.ensures.value c.side_at-height.ensures.value
-    c.side_at-height.ensures.few c.header-texture.ensures.limits c.requires.room c.requires.row in
+    let b = c.row_below-below.ensures in
     OnErr-all _ _ (upper_failed c.args.reader.now.header (c.args.level - 1) c.args.level c.args.y (g.F.File.asked c.args.reader.now.file)
     (g.F.File.asked c.level_row.new.reader.file) b.level_is c.requires.row c.in_err-level_row.ensures.tried)
 
 pub returns-in_err-level_row-clause-spare : goal.returns-in_err-level_row-clause-spare
 returns-in_err-level_row-clause-spare g t c =
-    let b = is_below c.args.reader.now.header c.header-texture.result.now c.args.level c.args.y c.depth-depth.result c.side_at-width.result
-    c.side_at-height.result c.texel_length.result (length c.args.room.now) c.header-texture.ensures.value (omega arith)
-    c.depth-depth.ensures.value c.texel_length.ensures.value c.side_at-width.ensures.value c.side_at-height.ensures.value
-    c.side_at-height.ensures.few c.header-texture.ensures.limits c.requires.room c.requires.row in
+    let b = c.row_below-below.ensures in
     omega (arith, c.level_row.ensures.spare, b.upper.fewer)
 
 pub halve_rows-requires-clause-out : goal.halve_rows-requires-clause-out
 halve_rows-requires-clause-out g t c =
-    let b = is_below c.args.reader.now.header c.header-texture.result.now c.args.level c.args.y c.depth-depth.result c.side_at-width.result
-    c.side_at-height.result c.texel_length.result (length c.args.room.now) c.header-texture.ensures.value (omega arith)
-    c.depth-depth.ensures.value c.texel_length.ensures.value c.side_at-width.ensures.value c.side_at-height.ensures.value
-    c.side_at-height.ensures.few c.header-texture.ensures.limits c.requires.room c.requires.row in
-    half_length c.args.reader.now.header c.args.level (c.args.level - 1) c.depth-depth.result c.side_at-width.result (length c.args.out.now)
-    b.level_is c.depth-depth.ensures.value b.columns c.requires.size
+    let b = c.row_below-below.ensures in
+    half_length c.args.reader.now.header c.args.level (c.args.level - 1) c.row_below-below.result.depth c.row_below-below.result.width (length c.args.out.now)
+    b.level_is b.depth b.columns c.requires.size
 
 pub halve_rows-requires-2-clause-out : goal.halve_rows-requires-2-clause-out
 halve_rows-requires-2-clause-out g t c =
-    let b = is_below c.args.reader.now.header c.header-texture.result.now c.args.level c.args.y c.depth-depth.result c.side_at-width.result
-    c.side_at-height.result c.texel_length.result (length c.args.room.now) c.header-texture.ensures.value (omega arith)
-    c.depth-depth.ensures.value c.texel_length.ensures.value c.side_at-width.ensures.value c.side_at-height.ensures.value
-    c.side_at-height.ensures.few c.header-texture.ensures.limits c.requires.room c.requires.row in
-    half_length c.args.reader.now.header c.args.level (c.args.level - 1) c.depth-depth.result c.side_at-width.result (length c.args.out.now)
-    b.level_is c.depth-depth.ensures.value b.columns c.requires.size
+    let b = c.row_below-below.ensures in
+    half_length c.args.reader.now.header c.args.level (c.args.level - 1) c.row_below-below.result.depth c.row_below-below.result.width (length c.args.out.now)
+    b.level_is b.depth b.columns c.requires.size
 
-pub returns-then-y-height-clause-words : goal.returns-then-y-height-clause-words
-returns-then-y-height-clause-words g t c =
-    let b = is_below c.args.reader.now.header c.header-texture.result.now c.args.level c.args.y c.depth-depth.result c.side_at-width.result
-    c.side_at-height.result c.texel_length.result (length c.args.room.now) c.header-texture.ensures.value (omega arith)
-    c.depth-depth.ensures.value c.texel_length.ensures.value c.side_at-width.ensures.value c.side_at-height.ensures.value
-    c.side_at-height.ensures.few c.header-texture.ensures.limits c.requires.room c.requires.row in
-    one_row (g.F.File.bytes c.args.reader.now.file) c.args.reader.now.header c.depth-depth.result c.side_at-width.result (c.args.level - 1) c.args.level
-    c.args.y c.level_row.new.out c.halve_rows.new.out b.level_is c.depth-depth.ensures.value b.columns c.depth-depth.ensures.depth
-    c.header-texture.ensures.limits.sides.some_columns (omega (arith, b.rows)) c.halve_rows.ensures.above
+pub returns-then-y-below-clause-words : goal.returns-then-y-below-clause-words
+returns-then-y-below-clause-words g t c =
+    let b = c.row_below-below.ensures in
+    one_row (g.F.File.bytes c.args.reader.now.file) c.args.reader.now.header c.row_below-below.result.depth c.row_below-below.result.width (c.args.level - 1) c.args.level
+    c.args.y c.level_row.new.out c.halve_rows.new.out b.level_is b.depth b.columns b.is_depth
+    b.some_columns (omega (arith, b.rows)) c.halve_rows.ensures.above
     c.in_ok-level_row.ensures.words c.halve_rows.ensures.row
 
-pub returns-then-y-height-clause-read : goal.returns-then-y-height-clause-read
-returns-then-y-height-clause-read g t c =
-    let b = is_below c.args.reader.now.header c.header-texture.result.now c.args.level c.args.y c.depth-depth.result c.side_at-width.result
-    c.side_at-height.result c.texel_length.result (length c.args.room.now) c.header-texture.ensures.value (omega arith)
-    c.depth-depth.ensures.value c.texel_length.ensures.value c.side_at-width.ensures.value c.side_at-height.ensures.value
-    c.side_at-height.ensures.few c.header-texture.ensures.limits c.requires.room c.requires.row in
+pub returns-then-y-below-clause-read : goal.returns-then-y-below-clause-read
+returns-then-y-below-clause-read g t c =
+    let b = c.row_below-below.ensures in
     alone_read c.args.reader.now.header (c.args.level - 1) c.args.level c.args.y (g.F.File.asked c.args.reader.now.file)
     (g.F.File.asked c.level_row.new.reader.file) b.level_is c.requires.row (omega (arith, b.rows)) c.in_ok-level_row.ensures.read
 
-pub returns-then-y-height-clause-spare : goal.returns-then-y-height-clause-spare
-returns-then-y-height-clause-spare g t c =
-    let b = is_below c.args.reader.now.header c.header-texture.result.now c.args.level c.args.y c.depth-depth.result c.side_at-width.result
-    c.side_at-height.result c.texel_length.result (length c.args.room.now) c.header-texture.ensures.value (omega arith)
-    c.depth-depth.ensures.value c.texel_length.ensures.value c.side_at-width.ensures.value c.side_at-height.ensures.value
-    c.side_at-height.ensures.few c.header-texture.ensures.limits c.requires.room c.requires.row in
+pub returns-then-y-below-clause-spare : goal.returns-then-y-below-clause-spare
+returns-then-y-below-clause-spare g t c =
+    let b = c.row_below-below.ensures in
     omega (arith, c.level_row.ensures.spare, b.upper.fewer)
 
 pub level_row-requires-2 : goal.level_row-requires-2
 level_row-requires-2 g t c =
-    let b = is_below c.args.reader.now.header c.header-texture.result.now c.args.level c.args.y c.depth-depth.result c.side_at-width.result
-    c.side_at-height.result c.texel_length.result (length c.args.room.now) c.header-texture.ensures.value (omega arith)
-    c.depth-depth.ensures.value c.texel_length.ensures.value c.side_at-width.ensures.value c.side_at-height.ensures.value
-    c.side_at-height.ensures.few c.header-texture.ensures.limits c.requires.room c.requires.row in
+    let b = c.row_below-below.ensures in
     let k : ℕ = c.args.level - 1 in
     let same = sym c.level_row.ensures.header in
     let Row : Header → Type 0 = λ z. 2 * c.args.y + 1 < side z.height k in
@@ -169,7 +126,7 @@ level_row-requires-2 g t c =
                   (omega (arith, b.rows, b.inside)) c.level_row.ensures.header
                   c.in_ok-level_row.ensures.read
                   (g.F.File.spare c.args.reader.now.file) (g.F.File.spare c.level_row.new.reader.file) c.requires.spare c.level_row.ensures.spare,
-              (subst Room same (omega (arith, b.room)), subst Size same (omega (arith, b.size))),
+              (subst Room same (omega (arith, b.room, c.requires.room)), subst Size same (omega (arith, b.size))),
             ),
           ),
         ),
@@ -178,10 +135,7 @@ level_row-requires-2 g t c =
 
 pub returns-in_err-level_row-2-clause-tried : goal.returns-in_err-level_row-2-clause-tried
 returns-in_err-level_row-2-clause-tried g t c =
-    let b = is_below c.args.reader.now.header c.header-texture.result.now c.args.level c.args.y c.depth-depth.result c.side_at-width.result
-    c.side_at-height.result c.texel_length.result (length c.args.room.now) c.header-texture.ensures.value (omega arith)
-    c.depth-depth.ensures.value c.texel_length.ensures.value c.side_at-width.ensures.value c.side_at-height.ensures.value
-    c.side_at-height.ensures.few c.header-texture.ensures.limits c.requires.room c.requires.row in
+    let b = c.row_below-below.ensures in
     OnErr-all _ _ (second_failed c.args.reader.now.header c.level_row.new.reader.header (c.args.level - 1) c.args.level c.args.y
     (g.F.File.asked c.args.reader.now.file)
     (g.F.File.asked c.level_row.new.reader.file)
@@ -191,10 +145,7 @@ returns-in_err-level_row-2-clause-tried g t c =
 
 pub returns-in_err-level_row-2-clause-spare : goal.returns-in_err-level_row-2-clause-spare
 returns-in_err-level_row-2-clause-spare g t c =
-    let b = is_below c.args.reader.now.header c.header-texture.result.now c.args.level c.args.y c.depth-depth.result c.side_at-width.result
-    c.side_at-height.result c.texel_length.result (length c.args.room.now) c.header-texture.ensures.value (omega arith)
-    c.depth-depth.ensures.value c.texel_length.ensures.value c.side_at-width.ensures.value c.side_at-height.ensures.value
-    c.side_at-height.ensures.few c.header-texture.ensures.limits c.requires.room c.requires.row in
+    let b = c.row_below-below.ensures in
     both_spare c.args.reader.now.header c.level_row.new.reader.header (c.args.level - 1) c.args.level c.args.y (g.F.File.asked c.args.reader.now.file)
     (g.F.File.asked c.level_row.new.reader.file)
     (g.F.File.asked c.level_row-2.new.reader.file) b.level_is c.requires.row (omega (arith, b.rows, b.inside)) c.level_row.ensures.header
@@ -204,10 +155,7 @@ returns-in_err-level_row-2-clause-spare g t c =
 
 pub returns-clause-spare : goal.returns-clause-spare
 returns-clause-spare g t c =
-    let b = is_below c.args.reader.now.header c.header-texture.result.now c.args.level c.args.y c.depth-depth.result c.side_at-width.result
-    c.side_at-height.result c.texel_length.result (length c.args.room.now) c.header-texture.ensures.value (omega arith)
-    c.depth-depth.ensures.value c.texel_length.ensures.value c.side_at-width.ensures.value c.side_at-height.ensures.value
-    c.side_at-height.ensures.few c.header-texture.ensures.limits c.requires.room c.requires.row in
+    let b = c.row_below-below.ensures in
     both_spare c.args.reader.now.header c.level_row.new.reader.header (c.args.level - 1) c.args.level c.args.y (g.F.File.asked c.args.reader.now.file)
     (g.F.File.asked c.level_row.new.reader.file)
     (g.F.File.asked c.level_row-2.new.reader.file) b.level_is c.requires.row (omega (arith, b.rows, b.inside)) c.level_row.ensures.header
@@ -217,10 +165,7 @@ returns-clause-spare g t c =
 
 pub returns-clause-read : goal.returns-clause-read
 returns-clause-read g t c =
-    let b = is_below c.args.reader.now.header c.header-texture.result.now c.args.level c.args.y c.depth-depth.result c.side_at-width.result
-    c.side_at-height.result c.texel_length.result (length c.args.room.now) c.header-texture.ensures.value (omega arith)
-    c.depth-depth.ensures.value c.texel_length.ensures.value c.side_at-width.ensures.value c.side_at-height.ensures.value
-    c.side_at-height.ensures.few c.header-texture.ensures.limits c.requires.room c.requires.row in
+    let b = c.row_below-below.ensures in
     both_read c.args.reader.now.header c.level_row.new.reader.header (c.args.level - 1) c.args.level c.args.y (g.F.File.asked c.args.reader.now.file)
     (g.F.File.asked c.level_row.new.reader.file)
     (g.F.File.asked c.level_row-2.new.reader.file) b.level_is c.requires.row (omega (arith, b.rows, b.inside)) c.level_row.ensures.header
@@ -229,14 +174,11 @@ returns-clause-read g t c =
 
 pub returns-clause-words : goal.returns-clause-words
 returns-clause-words g t c =
-    let b = is_below c.args.reader.now.header c.header-texture.result.now c.args.level c.args.y c.depth-depth.result c.side_at-width.result
-    c.side_at-height.result c.texel_length.result (length c.args.room.now) c.header-texture.ensures.value (omega arith)
-    c.depth-depth.ensures.value c.texel_length.ensures.value c.side_at-width.ensures.value c.side_at-height.ensures.value
-    c.side_at-height.ensures.few c.header-texture.ensures.limits c.requires.room c.requires.row in
+    let b = c.row_below-below.ensures in
     two_rows (g.F.File.bytes c.args.reader.now.file) (g.F.File.bytes c.level_row.new.reader.file) c.args.reader.now.header
-    c.level_row.new.reader.header c.depth-depth.result c.side_at-width.result (c.args.level - 1) c.args.level c.args.y c.level_row.new.out
+    c.level_row.new.reader.header c.row_below-below.result.depth c.row_below-below.result.width (c.args.level - 1) c.args.level c.args.y c.level_row.new.out
     c.level_row-2.new.out c.halve_rows-2.new.out c.level_row.ensures.bytes c.level_row.ensures.header b.level_is
-    c.depth-depth.ensures.value b.columns c.depth-depth.ensures.depth c.header-texture.ensures.limits.sides.some_columns
+    b.depth b.columns b.is_depth b.some_columns
     (omega (arith, b.rows, b.inside)) c.halve_rows-2.ensures.above c.halve_rows-2.ensures.below c.in_ok-level_row.ensures.words
     c.in_ok-level_row-2.ensures.words c.halve_rows-2.ensures.row
 
@@ -255,20 +197,20 @@ returns-in_err-level_row-clause-header g t c = c.level_row.ensures.header
 pub returns-in_err-level_row-clause-kept : goal.returns-in_err-level_row-clause-kept
 returns-in_err-level_row-clause-kept g t c = c.level_row.ensures.kept
 
-pub returns-then-y-height-clause-bytes : goal.returns-then-y-height-clause-bytes
-returns-then-y-height-clause-bytes g t c = c.level_row.ensures.bytes
+pub returns-then-y-below-clause-bytes : goal.returns-then-y-below-clause-bytes
+returns-then-y-below-clause-bytes g t c = c.level_row.ensures.bytes
 
-pub returns-then-y-height-clause-name : goal.returns-then-y-height-clause-name
-returns-then-y-height-clause-name g t c = c.level_row.ensures.name
+pub returns-then-y-below-clause-name : goal.returns-then-y-below-clause-name
+returns-then-y-below-clause-name g t c = c.level_row.ensures.name
 
-pub returns-then-y-height-clause-faults : goal.returns-then-y-height-clause-faults
-returns-then-y-height-clause-faults g t c = c.level_row.ensures.faults
+pub returns-then-y-below-clause-faults : goal.returns-then-y-below-clause-faults
+returns-then-y-below-clause-faults g t c = c.level_row.ensures.faults
 
-pub returns-then-y-height-clause-header : goal.returns-then-y-height-clause-header
-returns-then-y-height-clause-header g t c = c.level_row.ensures.header
+pub returns-then-y-below-clause-header : goal.returns-then-y-below-clause-header
+returns-then-y-below-clause-header g t c = c.level_row.ensures.header
 
-pub returns-then-y-height-clause-kept : goal.returns-then-y-height-clause-kept
-returns-then-y-height-clause-kept g t c = c.level_row.ensures.kept
+pub returns-then-y-below-clause-kept : goal.returns-then-y-below-clause-kept
+returns-then-y-below-clause-kept g t c = c.level_row.ensures.kept
 
 pub returns-in_err-level_row-2-clause-bytes : goal.returns-in_err-level_row-2-clause-bytes
 returns-in_err-level_row-2-clause-bytes g t c = c.level_row-2.ensures.bytes ∙ c.level_row.ensures.bytes
@@ -299,3 +241,75 @@ returns-clause-header g t c = c.level_row-2.ensures.header ∙ c.level_row.ensur
 
 pub returns-clause-kept : goal.returns-clause-kept
 returns-clause-kept g t c = c.level_row-2.ensures.kept
+
+pub returns-then-level-eq0-clause-values : goal.returns-then-level-eq0-clause-values
+returns-then-level-eq0-clause-values g t c = c.row.ensures.values
+
+pub returns-then-level-eq0-clause-read : goal.returns-then-level-eq0-clause-read
+returns-then-level-eq0-clause-read g t c = first_read c.args.reader.now.header c.args.level c.args.y _ _ c.row.result c.if-level-eq0.true c.requires.row c.row.ensures.asked
+
+pub returns-then-level-eq0-clause-tried : goal.returns-then-level-eq0-clause-tried
+returns-then-level-eq0-clause-tried g t c = first_tried c.args.reader.now.header c.args.level c.args.y _ _ c.row.result c.if-level-eq0.true c.requires.row c.row.ensures.asked
+
+pub returns-then-level-eq0-clause-failed : goal.returns-then-level-eq0-clause-failed
+returns-then-level-eq0-clause-failed g t c = c.row.ensures.failed
+
+pub returns-then-level-eq0-clause-bytes : goal.returns-then-level-eq0-clause-bytes
+returns-then-level-eq0-clause-bytes g t c = c.row.ensures.bytes
+
+pub returns-then-level-eq0-clause-name : goal.returns-then-level-eq0-clause-name
+returns-then-level-eq0-clause-name g t c = c.row.ensures.name
+
+pub returns-then-level-eq0-clause-faults : goal.returns-then-level-eq0-clause-faults
+returns-then-level-eq0-clause-faults g t c = c.row.ensures.faults
+
+pub returns-then-level-eq0-clause-header : goal.returns-then-level-eq0-clause-header
+returns-then-level-eq0-clause-header g t c = c.row.ensures.header
+
+pub returns-then-level-eq0-clause-kept : goal.returns-then-level-eq0-clause-kept
+returns-then-level-eq0-clause-kept g t c = c.row.ensures.kept
+
+pub returns-then-level-eq0-clause-spare : goal.returns-then-level-eq0-clause-spare
+returns-then-level-eq0-clause-spare g t c = first_spare c.args.reader.now.header c.args.level c.args.y _ _ c.if-level-eq0.true c.requires.row c.row.ensures.spare
+
+pub returns-in_err-level_row-clause-words : goal.returns-in_err-level_row-clause-words
+returns-in_err-level_row-clause-words g t c = none_made c.from_residual.result _ _ c.from_residual.ensures.1
+
+pub returns-in_err-level_row-clause-values : goal.returns-in_err-level_row-clause-values
+returns-in_err-level_row-clause-values g t c = none_made c.from_residual.result _ _ c.from_residual.ensures.1
+
+pub returns-in_err-level_row-clause-read : goal.returns-in_err-level_row-clause-read
+returns-in_err-level_row-clause-read g t c = none_made c.from_residual.result _ _ c.from_residual.ensures.1
+
+pub returns-in_err-level_row-2-clause-words : goal.returns-in_err-level_row-2-clause-words
+returns-in_err-level_row-2-clause-words g t c = none_made c.from_residual-in_err-level_row-2.result _ _ c.from_residual-in_err-level_row-2.ensures.1
+
+pub returns-in_err-level_row-2-clause-values : goal.returns-in_err-level_row-2-clause-values
+returns-in_err-level_row-2-clause-values g t c = none_made c.from_residual-in_err-level_row-2.result _ _ c.from_residual-in_err-level_row-2.ensures.1
+
+pub returns-in_err-level_row-2-clause-read : goal.returns-in_err-level_row-2-clause-read
+returns-in_err-level_row-2-clause-read g t c = none_made c.from_residual-in_err-level_row-2.result _ _ c.from_residual-in_err-level_row-2.ensures.1
+
+pub returns-in_err-level_row-clause-failed : goal.returns-in_err-level_row-clause-failed
+returns-in_err-level_row-clause-failed g t c = λ _. c.in_err-level_row.ensures.failed refl
+
+pub returns-in_err-level_row-2-clause-failed : goal.returns-in_err-level_row-2-clause-failed
+returns-in_err-level_row-2-clause-failed g t c = λ _. rose_later _ _ _ c.level_row.ensures.faults (c.in_err-level_row-2.ensures.failed refl)
+
+pub returns-then-y-below-clause-values : goal.returns-then-y-below-clause-values
+returns-then-y-below-clause-values g t c = c.halve_rows.ensures.values
+
+pub returns-clause-values : goal.returns-clause-values
+returns-clause-values g t c = c.halve_rows-2.ensures.values
+
+pub returns-then-y-below-clause-tried : goal.returns-then-y-below-clause-tried
+returns-then-y-below-clause-tried g t c = tt
+
+pub returns-then-y-below-clause-failed : goal.returns-then-y-below-clause-failed
+returns-then-y-below-clause-failed g t c = λ failed. absurd (false≢true failed)
+
+pub returns-clause-tried : goal.returns-clause-tried
+returns-clause-tried g t c = tt
+
+pub returns-clause-failed : goal.returns-clause-failed
+returns-clause-failed g t c = λ failed. absurd (false≢true failed)

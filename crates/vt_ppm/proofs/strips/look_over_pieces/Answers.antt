@@ -1,3 +1,4 @@
+use Rattle.vt_ppm.proofs.Refusing.{none_made, handed_on, fault_handed_on, rose_later}
 use Rattle.std.proofs.Common.{◌*◌, ◌+◌, ◌≤◌, ◌∙◌, min, Err, refl, sym, ap, subst, arith}
 use Rattle.std.proofs.lemmas.Result.{err_from_is_err_and}
 use Rattle.vt_ppm.specs.Flaws.{IsHeaderFlaw}
@@ -107,3 +108,44 @@ look_over_rows-requires-clause-size g c =
     piece_cut c.args.header.now c.piece_rows-step.result c.row_length-row.result c.min-count.result _ c.loop-piece.buffer _ c.loop-piece.auto.buffer
     c.piece_rows-step.ensures.value c.row_length-row.ensures.value c.min-count.ensures c.requires.size
     ∙ ap (λ n. c.min-count.result * n) c.row_length-row.ensures.value
+
+pub returns-in_err-look_over_rows-clause-few : goal.returns-in_err-look_over_rows-clause-few
+returns-in_err-look_over_rows-clause-few g c = none_made c.from_residual.result _ _ c.from_residual.ensures.1
+
+pub returns-in_err-look_over_rows-clause-refusals : goal.returns-in_err-look_over_rows-clause-refusals
+returns-in_err-look_over_rows-clause-refusals g c = handed_on c.from_residual.result _ _ c.from_residual.ensures.1 c.in_err-look_over_rows.ensures.refusals
+
+pub returns-in_err-look_over_rows-clause-failed : goal.returns-in_err-look_over_rows-clause-failed
+returns-in_err-look_over_rows-clause-failed g c =
+    fault_handed_on {T = Unit {0}} c.from_residual.result _ _ c.from_residual.ensures.1
+    (λ failed. rose_later _ _ _ c.loop-piece.invariant.faults (c.in_err-look_over_rows.ensures.failed failed))
+
+pub returns-in_err-look_over_rows-clause-spare : goal.returns-in_err-look_over_rows-clause-spare
+returns-in_err-look_over_rows-clause-spare g c = omega (arith, c.look_over_rows.ensures.spare, c.loop-piece.invariant.spare, c.loop-piece-test.true, c.pieces_of-piece-end.ensures.few)
+
+pub returns-in_err-look_over_rows-clause-bytes : goal.returns-in_err-look_over_rows-clause-bytes
+returns-in_err-look_over_rows-clause-bytes g c = c.look_over_rows.ensures.bytes ∙ c.loop-piece.invariant.bytes
+
+pub returns-in_err-look_over_rows-clause-name : goal.returns-in_err-look_over_rows-clause-name
+returns-in_err-look_over_rows-clause-name g c = c.look_over_rows.ensures.name ∙ c.loop-piece.invariant.called
+
+pub returns-in_err-look_over_rows-clause-faults : goal.returns-in_err-look_over_rows-clause-faults
+returns-in_err-look_over_rows-clause-faults g c = omega (arith, c.look_over_rows.ensures.faults, c.loop-piece.invariant.faults)
+
+pub returns-clause-flaw : goal.returns-clause-flaw
+returns-clause-flaw g c = tt
+
+pub returns-clause-refusals : goal.returns-clause-refusals
+returns-clause-refusals g c = tt
+
+pub returns-clause-failed : goal.returns-clause-failed
+returns-clause-failed g c = λ failed. let no : ⊥ = cc in absurd no
+
+pub returns-clause-bytes : goal.returns-clause-bytes
+returns-clause-bytes g c = c.loop-piece.invariant.bytes
+
+pub returns-clause-name : goal.returns-clause-name
+returns-clause-name g c = c.loop-piece.invariant.called
+
+pub returns-clause-faults : goal.returns-clause-faults
+returns-clause-faults g c = c.loop-piece.invariant.faults
