@@ -4,6 +4,7 @@ pub mod LevelLemmas
 pub mod PathFields
 pub mod PathReadingLemmas
 pub mod WayLemmas
+pub mod Shares
 pub mod PathFlawLemmas
 pub mod PathSteps
 pub mod Bits
