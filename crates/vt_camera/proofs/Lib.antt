@@ -5,6 +5,7 @@ pub mod PathFields
 pub mod PathReadingLemmas
 pub mod WayLemmas
 pub mod Shares
+pub mod Turns
 pub mod PathFlawLemmas
 pub mod PathSteps
 pub mod Bits

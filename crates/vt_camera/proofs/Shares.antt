@@ -42,7 +42,7 @@ far_value n d few low high =
 abbrev pub IsDistance : ℤ → Type 0
 IsDistance d = IsWithin (negsuc 4294967295) (pos 4294967296) d
 
-step_bits : (r : ℤ) (i : ℕ) → r ≡ pos i → i ≤ 9999 → bits r ≡ pos i
+pub step_bits : (r : ℤ) (i : ℕ) → r ≡ pos i → i ≤ 9999 → bits r ≡ pos i
 step_bits r i e few = ap bits e ∙ across_bits (pos i) (omega (arith, ints)) (omega (arith, ints))
 
 step_product : (d r : ℤ) (i : ℕ) → IsDistance d → r ≡ pos i → i ≤ 9999 → bits d *ℤ bits r ≡ d *ℤ pos i
