@@ -3,6 +3,7 @@ use Rattle.std.proofs.Common.{◌≡◌, ℤ, pos, negsuc, ◌+ℤ◌, to_z, of_
 use Rattle.std.specs.Prelude.{◌≤ℤ◌}
 use Rattle.std.specs.Int.{w64}
 use Rattle.std.proofs.lemmas.Int.{ints}
+use Rattle.vt_text.specs.Numbers.{IsWithin}
 
 -- a number as its bits are read
 abbrev pub bits : ℤ → ℤ
@@ -19,6 +20,16 @@ place_bits z low high = omega (arith, ints)
 
 pub direction_bits : (z : ℤ) → negsuc 16383 ≤ℤ z → z ≤ℤ pos 16384 → bits z ≡ z
 direction_bits z low high = omega (arith, ints)
+
+-- a camera's numbers as their bits are read are within the limits of places
+pub place_limits : (z : ℤ) → negsuc 2147483647 ≤ℤ z → z ≤ℤ pos 2147483648 → IsWithin (negsuc 2147483647) (pos 2147483648) (bits z)
+place_limits z low high = (at_least (negsuc 2147483647) z (place_bits z low high) low, at_most (pos 2147483648) z (place_bits z low high) high)
+
+pub height_limits : (z : ℤ) → pos 1 ≤ℤ z → z ≤ℤ pos 16777216 → IsWithin (negsuc 2147483647) (pos 2147483648) (bits z)
+height_limits z low high = place_limits z (omega (arith, ints)) (omega (arith, ints))
+
+pub direction_limits : (z : ℤ) → negsuc 16383 ≤ℤ z → z ≤ℤ pos 16384 → IsWithin (negsuc 2147483647) (pos 2147483648) (bits z)
+direction_limits z low high = place_limits z (omega (arith, ints)) (omega (arith, ints))
 
 pub across_bits : (z : ℤ) → negsuc 274877906943 ≤ℤ z → z ≤ℤ pos 274877906944 → bits z ≡ z
 across_bits z low high = omega (arith, ints)

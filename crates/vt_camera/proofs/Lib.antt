@@ -4,6 +4,8 @@ pub mod LevelLemmas
 pub mod PathFields
 pub mod PathReadingLemmas
 pub mod WayLemmas
+pub mod Shares
+pub mod Turns
 pub mod PathFlawLemmas
 pub mod PathSteps
 pub mod Bits

@@ -17,7 +17,7 @@ natural_fits n few = omega (arith, ints)
 product_is : (n : ℕ) (d : ℤ) → n ≤ 68719476736 → negsuc 16383 ≤ℤ d → d ≤ℤ pos 16384 → to_z w64 n *ℤ bits d ≡ pos n *ℤ d
 product_is n d few low high = ap (λ (z : ℤ). z *ℤ bits d) (natural_bits n few) ∙ ap (λ (z : ℤ). pos n *ℤ z) (direction_bits d low high)
 
-product_small : (n most : ℕ) (d : ℤ) → n ≤ most → negsuc 16383 ≤ℤ d → d ≤ℤ pos 16384 → unsigned_abs (pos n *ℤ d) ≤ most * 16384
+pub product_small : (n most : ℕ) (d : ℤ) → n ≤ most → negsuc 16383 ≤ℤ d → d ≤ℤ pos 16384 → unsigned_abs (pos n *ℤ d) ≤ most * 16384
 product_small n most d few low high =
     let f : unsigned_abs (pos n) ≤ most = omega (arith, ints) in
     let g : unsigned_abs d ≤ 16384 = omega (arith, ints) in

@@ -62,6 +62,21 @@ ring_texel place side some few near =
     ∙ whole_texels place side (excess side) (part_of side) (place / d) (place % d) some few turn.1 turn.0 near split
     ∙ sym (texel_in_turn place side (place / d) (place % d) split part)
 
+-- the same, for the numbers that a row keeps, and as many pieces as the side has texels
+pub kept_texel : (place side part pieces share : ℕ) → 1 ≤ side → side ≤ 16384 → place < 549755813888
+    → part ≡ part_of side → pieces ≡ side → share ≡ on_ring place part pieces → share ≡ place / 256 % side
+kept_texel place side part pieces share some few near p s e =
+    e ∙ ap (λ n. on_ring place n pieces) p ∙ ap (λ n. on_ring place (part_of side) n) s ∙ ring_texel place side some few near
+
+pub kept_texel_within : (place side part pieces share : ℕ) → 1 ≤ side → side ≤ 16384 → place < 549755813888
+    → part ≡ part_of side → pieces ≡ side → share ≡ on_ring place part pieces → share < side
+kept_texel_within place side part pieces share some few near p s e =
+    let is = kept_texel place side part pieces share some few near p s e in
+    omega (arith, is)
+
+pub few_pieces : (pieces side : ℕ) → pieces ≡ side → side ≤ 16384 → pieces ≤ 1073741824
+few_pieces pieces side is few = omega arith
+
 -- a turn of 1/65536 texel of a level
 pub turn_most : (side level : ℕ) → side ≤ 16384 → turn_at side level ≤ 1073741824
 turn_most side level few =

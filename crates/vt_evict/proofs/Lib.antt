@@ -8,6 +8,7 @@ pub mod PlanLemmas
 pub mod FreeLemmas
 pub mod FirstLemmas
 pub mod LawfulLemmas
+pub mod PlansMade
 pub mod PairLemmas
 pub mod LineOrders
 pub mod StampOrder

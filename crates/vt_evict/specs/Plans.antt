@@ -39,3 +39,9 @@ plan_of v wants q =
     let missing = missing_pages v wants in
     let victims = candidates v wants in
     map (planned_at v.entries missing (free_frames v) victims) (range_with_len 0 (planned_count q missing (free_frames v) victims))
+
+-- the plan for a wanted list by its missing pages
+unfoldable pub plan_by : RecencyView → List Wanted → List ℕ → ℕ → List Planned
+plan_by v wants missing q =
+    let victims = candidates v wants in
+    map (planned_at v.entries missing (free_frames v) victims) (range_with_len 0 (planned_count q missing (free_frames v) victims))

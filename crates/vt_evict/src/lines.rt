@@ -149,11 +149,21 @@ pub fn lines_of(
     requires { All (λ w. w.page < pages_of geometry.now) wants.now.elements }
     ensures { IfOk result (λ s. s.keys ≡ line_pages geometry.now (pages_wanted wants.now.elements)) }
 {
+    let mut pages = IndexSet::with_capacity(alloc, wants.slice().len())?;
+    add_lines(geometry, &mut pages, wants)?;
+    Ok(pages)
+}
+
+// Adds the pages of the lines of a wanted list to none.
+fn add_lines(geometry: &Geometry, pages: &mut IndexSet<u32>, wants: &Wants) -> Result<(), NoMemory>
+    requires inside { All (λ w. w.page < pages_of geometry.now) wants.now.elements }
+    requires none { pages.old.keys ≡ [] }
+    ensures { OnOk result (pages.new.keys ≡ line_pages geometry.now (pages_wanted wants.now.elements)) }
+{
     let _limits = geometry.page_count();
     let list = wants.slice();
-    let mut pages = IndexSet::with_capacity(alloc, list.len())?;
     for want in list {
-        add_line(geometry, &mut pages, want.page)?;
+        add_line(geometry, pages, want.page)?;
     }
-    Ok(pages)
+    Ok(())
 }

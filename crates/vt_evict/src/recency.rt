@@ -8,7 +8,7 @@ ghost use Rattle.vt_evict.specs.Orders.{is_in};
 ghost use Rattle.vt_evict.specs.Views.{IsTable, first_view, touched, pages_needed};
 ghost use Rattle.vt_evict.specs.Batches.{IsLawful, IsLawfulEntry, IsSettled, read_entries};
 ghost use Rattle.vt_evict.specs.Kept.{applied, HasTaken};
-ghost use Rattle.vt_evict.specs.Plans.{plan_of};
+ghost use Rattle.vt_evict.specs.Plans.{plan_of, plan_by};
 
 use crate::batches::{Batch, Losses, Planned};
 use crate::lines::{Walk, lines_of, walk_lines};
@@ -179,6 +179,20 @@ impl Recency {
     {
         let asked = missing_of(alloc, &self.geometry, self.entries.as_slice(), wants)?;
         let missing = asked.as_slice();
+        self.plan_by(alloc, wants, missing, q)
+    }
+
+    // The plan by its missing pages.
+    fn plan_by(
+        &self,
+        alloc: Global,
+        wants: &Wants,
+        missing: &[u32],
+        q: u32,
+    ) -> Result<Batch, NoMemory>
+        requires { All (λ w. w.page < pages_of self.now.shape) wants.now.elements }
+        ensures { IfOk result (λ b. b.elements ≡ plan_by self.now wants.now.elements missing.now q) }
+    {
         let most = missing.len().min(q as usize);
         let _ordered = self.free.len();
         let mut batch = with_free(alloc, missing, most, &self.free)?;
@@ -226,12 +240,19 @@ fn first_entries(alloc: Global, pages: u32, pinned: u32) -> Result<Vec<u32>, NoM
     requires { pinned ≤ pages }
     ensures { IfOk result (λ v. v.items ≡ replicate (pages - pinned) 0 ++ range_with_len 1 pinned) }
 {
-    let unpinned = pages - pinned;
-    let mut entries = Vec::from_elem(alloc, 0, unpinned as usize)?;
+    let mut entries = Vec::from_elem(alloc, 0, (pages - pinned) as usize)?;
+    put_frames(&mut entries, pinned)?;
+    Ok(entries)
+}
+
+// Maps so many more pages, to the first frames.
+fn put_frames(entries: &mut Vec<u32>, pinned: u32) -> Result<(), NoMemory>
+    ensures { OnOk result (entries.new.items ≡ entries.old.items ++ range_with_len 1 pinned) }
+{
     for i in 0..pinned {
         entries.push(i + 1)?;
     }
-    Ok(entries)
+    Ok(())
 }
 
 // The frames from one on.

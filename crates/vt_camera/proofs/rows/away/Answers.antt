@@ -1,4 +1,4 @@
-use Rattle.std.proofs.Common.{◌≡◌, ◌≤◌, ◌*ℤ◌, to_z, of_z, arith}
+use Rattle.std.proofs.Common.{◌≡◌, ◌≤◌, ◌*ℤ◌, to_z, of_z, to_z-of_z, FitsSigned, sym, ap₂, subst, arith}
 use Rattle.std.specs.Prelude.{unsigned_abs}
 use Rattle.std.specs.Int.{w64}
 use Rattle.std.proofs.lemmas.Int.{ints, fits_signed_from_abs}
@@ -11,6 +11,11 @@ small c = away_fits c.args.off c.args.across c.requires.off_low c.requires.off_h
 product : (c : goal.Start) → to_z w64 (of_z w64 (to_z w64 (of_z w64 c.args.off) *ℤ to_z w64 (of_z w64 c.args.across))) ≡ c.args.off *ℤ c.args.across
 product c =
     product_value w64 c.args.off c.args.across c.ranges.off c.ranges.across (fits_signed_from_abs w64 (c.args.off *ℤ c.args.across) (omega (arith, small c)))
+
+pub overflow_mul-result : goal.overflow_mul-result
+overflow_mul-result c =
+    subst (FitsSigned w64) (sym (ap₂ ◌*ℤ◌ (to_z-of_z c.ranges.off) (to_z-of_z c.ranges.across)))
+    (fits_signed_from_abs w64 (c.args.off *ℤ c.args.across) (omega (arith, small c)))
 
 pub returns-clause-value : goal.returns-clause-value
 returns-clause-value c = product c

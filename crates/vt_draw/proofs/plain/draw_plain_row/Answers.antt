@@ -3,6 +3,7 @@ use Rattle.std.proofs.Math.Nat.{mul-le-mul_left}
 use Rattle.vt_camera.specs.declared.surfaces.Surface.{Surface}
 use Rattle.vt_mip.specs.Chains.{chain_width, chain_height, IsTexelRaster}
 use Rattle.vt_draw.specs.Plain.{chain_of}
+use Rattle.vt_draw.proofs.Inside.{lines_small, texel_inside}
 use Rattle.vt_draw.proofs.Drawn.{row_samples-none, pixel_drawn}
 use Rattle.vt_draw.proofs.plain.draw_plain_row.Goals as goal
 
@@ -41,3 +42,35 @@ put_texel-requires-clause-to g c =
     let d = g.row.DEPTH in
     let room : 3 * d * (c.loop-x.x + 1) ≤ 3 * d * c.args.columns = mul-le-mul_left (3 * d) (omega arith) in
     omega (arith, room, c.loop-x.auto.out, c.requires.room)
+
+pub overflow_mul-texel : goal.overflow_mul-texel
+overflow_mul-texel g c =
+    let high = rw (← c.level-level.ensures.value, c.requires.surface) at c.texel_in_level-column.ensures.row_within in
+    omega (
+      arith,
+      lines_small c.texel_in_level-column.result.1 c.size-width.result.1 c.size-width.result.0
+          (omega (arith, high, c.size-width.ensures.height)) c.size-width.ensures.few_rows c.size-width.ensures.few_columns,
+    )
+
+pub overflow_add-texel : goal.overflow_add-texel
+overflow_add-texel g c =
+    let high = rw (← c.level-level.ensures.value, c.requires.surface) at c.texel_in_level-column.ensures.row_within in
+    let wide = rw (← c.level-level.ensures.value, c.requires.surface) at c.texel_in_level-column.ensures.column_within in
+    omega (
+      arith,
+      wide,
+      c.size-width.ensures.width,
+      c.size-width.ensures.few_columns,
+      lines_small c.texel_in_level-column.result.1 c.size-width.result.1 c.size-width.result.0
+          (omega (arith, high, c.size-width.ensures.height)) c.size-width.ensures.few_rows c.size-width.ensures.few_columns,
+    )
+
+pub put_texel-requires-clause-from : goal.put_texel-requires-clause-from
+put_texel-requires-clause-from g c =
+    let chain = c.args.chain.now in
+    let level = c.level-level.result in
+    texel_inside g.row.DEPTH chain.base.depth (chain_width chain level) (chain_height chain level) c.size-width.result.0
+    c.texel_in_level-column.result.1 c.texel_in_level-column.result.0 _ c.requires.own c.size-width.ensures.width
+    (rw (← c.level-level.ensures.value, c.requires.surface) at c.texel_in_level-column.ensures.column_within)
+    (rw (← c.level-level.ensures.value, c.requires.surface) at c.texel_in_level-column.ensures.row_within)
+    c.samples-texels.ensures.full

@@ -1,25 +1,8 @@
-use Rattle.std.proofs.Common.{rules, ◌≡◌, ℕ, ◌+◌, ◌-◌, List, ◌∷◌, ◌++◌, [], replicate, append-nil, append_assoc, sym, ap, ◌∙◌, arith}
+use Rattle.std.proofs.Common.{rules, ◌≡◌, ℕ, ◌-◌, List, ◌++◌, replicate, ap, ◌∙◌}
 use Rattle.std.specs.List.{range_with_len}
-use Rattle.vt_evict.proofs.FirstLemmas.{range-more}
 use Rattle.vt_evict.proofs.recency.first_entries.Goals as goal
-
-pub loop-i-preserved : goal.loop-i-preserved
-loop-i-preserved c =
-    let low : List ℕ = replicate (c.args.pages - c.args.pinned) 0 in
-    let one : c.loop-i.i + 1 ≡ 1 + c.loop-i.i = omega arith in
-    c.in_ok-push.ensures.items
-    ∙ ap (λ (l : List ℕ). l ++ (c.loop-i.i + 1) ∷ []) c.loop-i.invariant
-    ∙ append_assoc low (range_with_len 1 c.loop-i.i) _
-    ∙ ap (λ (n : ℕ). low ++ (range_with_len 1 c.loop-i.i ++ n ∷ [])) one
-    ∙ ap (λ (l : List ℕ). low ++ l) (sym (range-more 1 c.loop-i.i))
-
-pub loop-i-init : goal.loop-i-init
-loop-i-init c =
-    let low : List ℕ = replicate (c.args.pages - c.args.pinned) 0 in
-    let same : c.in_ok-entries.entries.items ≡ low = search rules in
-    same ∙ sym (append-nil low)
 
 pub returns : goal.returns
 returns c =
-    let last : c.loop-i.i ≡ c.args.pinned = omega (arith, c.loop-i-test.false) in
-    c.loop-i.invariant ∙ ap (λ (n : ℕ). replicate (c.args.pages - c.args.pinned) 0 ++ range_with_len 1 n) last
+    let same : c.in_ok-entries.entries.items ≡ replicate (c.args.pages - c.args.pinned) 0 = search rules in
+    c.in_ok-put_frames.ensures ∙ ap (λ (l : List ℕ). l ++ range_with_len 1 c.args.pinned) same

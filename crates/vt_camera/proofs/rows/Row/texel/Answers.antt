@@ -1,27 +1,52 @@
-use Rattle.std.proofs.Common.{ℕ, ◌/◌, ◌%◌, ap, ◌∙◌}
+use Rattle.std.proofs.Common.{◌<◌, ◌/◌, ◌%◌, ap, ◌∙◌, subst, arith}
 use Rattle.vt_camera.specs.Rows.{RowView}
-use Rattle.vt_camera.specs.RowParts.{part_of, on_ring}
-use Rattle.vt_camera.proofs.Rings.{ring_texel}
+use Rattle.vt_camera.proofs.Rings.{kept_texel, kept_texel_within, few_pieces}
 use Rattle.vt_camera.proofs.rows.Row.texel.Goals as goal
+
+pub on_ring-requires : goal.on_ring-requires
+on_ring-requires c = few_pieces c.from.result c.self.inside.surface.width c.from.ensures c.self.invariant.surface.width_high
+
+column_within : (c : goal.After-on_ring) → c.on_ring.result < c.self.inside.surface.width
+column_within c =
+    kept_texel_within c.ground-u.result.0 c.self.inside.surface.width c.self.inside.columns.part c.from.result c.on_ring.result
+    c.self.invariant.surface.width_low c.self.invariant.surface.width_high c.ground-u.ensures.column_high c.self.invariant.columns_are.part_is
+    c.from.ensures c.on_ring.ensures
+
+pub overflow_cast-result : goal.overflow_cast-result
+overflow_cast-result c = omega (arith, column_within c, c.self.invariant.surface.width_high)
 
 pub returns-clause-column : goal.returns-clause-column
 returns-clause-column c =
-    let u = c.ground-u.result.0 in
-    let width = c.self.inside.surface.width in
-    c.on_ring.ensures
-    ∙ ap (λ (n : ℕ). on_ring u n c.from.result) c.self.invariant.columns_are.part_is
-    ∙ ap (λ (n : ℕ). on_ring u (part_of width) n) c.from.ensures
-    ∙ ring_texel u width c.self.invariant.surface.width_low c.self.invariant.surface.width_high c.ground-u.ensures.column_high
-    ∙ ap (λ (r : RowView). u / 256 % r.surface.width) c.self.view_is
-    ∙ c.ground-u.ensures.column
+    kept_texel c.ground-u.result.0 c.self.inside.surface.width c.self.inside.columns.part c.from.result c.on_ring.result
+    c.self.invariant.surface.width_low c.self.invariant.surface.width_high c.ground-u.ensures.column_high c.self.invariant.columns_are.part_is
+    c.from.ensures c.on_ring.ensures
+    ∙ ap (λ (r : RowView). c.ground-u.result.0 / 256 % r.surface.width) c.self.view_is ∙ c.ground-u.ensures.column
+
+pub returns-clause-column_within : goal.returns-clause-column_within
+returns-clause-column_within c =
+    subst (λ (r : RowView). c.on_ring.result < r.surface.width) c.self.view_is
+    (kept_texel_within c.ground-u.result.0 c.self.inside.surface.width c.self.inside.columns.part c.from.result c.on_ring.result
+    c.self.invariant.surface.width_low c.self.invariant.surface.width_high c.ground-u.ensures.column_high c.self.invariant.columns_are.part_is
+    c.from.ensures c.on_ring.ensures)
+
+pub on_ring-requires-2 : goal.on_ring-requires-2
+on_ring-requires-2 c = few_pieces c.from-2.result c.self.inside.surface.height c.from-2.ensures c.self.invariant.surface.height_high
+
+row_within : (c : goal.After-on_ring-2) → c.on_ring-2.result < c.self.inside.surface.height
+row_within c =
+    kept_texel_within c.ground-u.result.1 c.self.inside.surface.height c.self.inside.rows.part c.from-2.result c.on_ring-2.result
+    c.self.invariant.surface.height_low c.self.invariant.surface.height_high c.ground-u.ensures.row_high c.self.invariant.rows_are.part_is
+    c.from-2.ensures c.on_ring-2.ensures
+
+pub overflow_cast-result-2 : goal.overflow_cast-result-2
+overflow_cast-result-2 c = omega (arith, row_within c, c.self.invariant.surface.height_high)
 
 pub returns-clause-row : goal.returns-clause-row
 returns-clause-row c =
-    let v = c.ground-u.result.1 in
-    let height = c.self.inside.surface.height in
-    c.on_ring-2.ensures
-    ∙ ap (λ (n : ℕ). on_ring v n c.from-2.result) c.self.invariant.rows_are.part_is
-    ∙ ap (λ (n : ℕ). on_ring v (part_of height) n) c.from-2.ensures
-    ∙ ring_texel v height c.self.invariant.surface.height_low c.self.invariant.surface.height_high c.ground-u.ensures.row_high
-    ∙ ap (λ (r : RowView). v / 256 % r.surface.height) c.self.view_is
-    ∙ c.ground-u.ensures.row
+    kept_texel c.ground-u.result.1 c.self.inside.surface.height c.self.inside.rows.part c.from-2.result c.on_ring-2.result
+    c.self.invariant.surface.height_low c.self.invariant.surface.height_high c.ground-u.ensures.row_high c.self.invariant.rows_are.part_is
+    c.from-2.ensures c.on_ring-2.ensures
+    ∙ ap (λ (r : RowView). c.ground-u.result.1 / 256 % r.surface.height) c.self.view_is ∙ c.ground-u.ensures.row
+
+pub returns-clause-row_within : goal.returns-clause-row_within
+returns-clause-row_within c = subst (λ (r : RowView). c.on_ring-2.result < r.surface.height) c.self.view_is (row_within c)

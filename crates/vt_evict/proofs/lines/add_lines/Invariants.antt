@@ -2,7 +2,7 @@ use Rattle.std.proofs.Common.{◌≡◌, take}
 use Rattle.vt_feedback.specs.Wants.{pages_wanted}
 use Rattle.vt_evict.specs.Orders.{line_pages}
 use Rattle.vt_evict.specs.Kept.{IsClosed}
-use Rattle.vt_evict.proofs.lines.lines_of.Given as goal
+use Rattle.vt_evict.proofs.lines.add_lines.Given as goal
 
 abbrev pub invariant-loop-want : goal.invariant-loop-want
 invariant-loop-want l = record {

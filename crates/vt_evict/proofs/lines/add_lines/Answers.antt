@@ -6,12 +6,12 @@ use Rattle.vt_feedback.specs.declared.Wanted.{Wanted}
 use Rattle.vt_feedback.specs.Wants.{pages_wanted}
 use Rattle.vt_evict.specs.Orders.{line_pages}
 use Rattle.vt_evict.proofs.LineLemmas.{line_pages-none, line_pages-more, walked_over, closed_none}
-use Rattle.vt_evict.proofs.lines.lines_of.Goals as goal
+use Rattle.vt_evict.proofs.lines.add_lines.Goals as goal
 
 pub loop-want-init : goal.loop-want-init
 loop-want-init c = record {
-  closed = rw c.in_ok-pages.ensures.empty (closed_none c.args.geometry.now);
-  walked = c.in_ok-pages.ensures.empty ∙ sym (line_pages-none c.args.geometry.now);
+  closed = rw c.requires.none (closed_none c.args.geometry.now);
+  walked = c.requires.none ∙ sym (line_pages-none c.args.geometry.now);
 }
 
 pub loop-want-preserved : goal.loop-want-preserved
@@ -22,7 +22,7 @@ loop-want-preserved c =
     let d : Wanted = record { page = 0; pixels = 0 } in
     let p : ℕ = (get_or list i d).page in
     let within : i < length list = omega arith in
-    let inside : p < pages_of s = rw c.slice-list.ensures (c.requires i d (omega (arith, ap length c.slice-list.ensures))) in
+    let inside : p < pages_of s = rw c.slice-list.ensures (c.requires.inside i d (omega (arith, ap length c.slice-list.ensures))) in
     record {
       closed = c.in_ok-add_line.ensures.closed;
       walked = c.in_ok-add_line.ensures.added ∙ ap (λ (l : List ℕ). walked_over s l p) c.loop-want.invariant.walked
