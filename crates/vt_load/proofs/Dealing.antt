@@ -1,23 +1,21 @@
 -- How passes are split off for loaders, and made one again.
-use Rattle.std.proofs.Common.{◌≡◌, ◌==◌, true, ℕ, ◌+◌, ◌-◌, ◌/◌, ◌≤◌, List, [], ◌∷◌, ◌++◌, length, map, reverse, Option, refl, sym, ap, ◌∙◌, subst, append_assoc, arith}
+use Rattle.std.proofs.Common.{◌≡◌, ℕ, ◌+◌, ◌-◌, ◌/◌, ◌≤◌, List, [], ◌∷◌, ◌++◌, map, reverse, Option, refl, sym, ap, ◌∙◌, subst, append_assoc, arith}
 use Rattle.std.specs.Prelude.{All}
 use Rattle.std.proofs.Math.Nat.{div-le_of_le-mul}
 use Rattle.std.proofs.lemmas.List.{map-append, reverse-append}
-use Rattle.std.proofs.lemmas.Bool.Decides.{nat_tests}
 use Rattle.std.proofs.lemmas.List.Sorted.{IsPermutation-reverse, IsPermutation-sym, All-permutation}
 use Rattle.std.proofs.lemmas.List.Elements.{All-nil, All-cons, All-head, All-tail, All-push}
 use Rattle.vt_queue.specs.declared.items.Request.{Request}
 use Rattle.vt_queue.specs.declared.items.Loaded.{Loaded}
 use Rattle.vt_queue.specs.declared.views.PassView.{PassView}
 use Rattle.vt_queue.specs.PassViews.{pass_view, all_shares, split_part, Splits, joined, all_joined, shares_of}
-use Rattle.vt_queue.specs.declared.queue.QueuePass.{QueuePass}
-use Rattle.vt_queue.specs.Queues.{view_of, IsOf, capacity_of}
+use Rattle.vt_queue.specs.Queues.{view_of, capacity_of}
 use Rattle.vt_outside.specs.declared.outside.File.{Ghosts as FileMeanings}
 use Rattle.vt_load.specs.declared.queued.Queues.{Queues}
 use Rattle.vt_queue.proofs.Gathered.{all_cut}
 use Rattle.vt_pages.specs.Shape.{Shape}
 use Rattle.vt_tiles.specs.StoreViews.{StoreView}
-use Rattle.vt_load.specs.QueuedLoaders.{QueuedView, asks_of, answers_of, stores_of, MayLoad, IsLoaderOf, IsNew, AreSplitOff}
+use Rattle.vt_load.specs.QueuedLoaders.{QueuedView, AreOf, asks_of, answers_of, stores_of, MayLoad, IsLoaderOf, IsNew, AreSplitOff}
 
 -- What is split off at once is a small part.
 pub part_small : (n : ℕ) → n ≤ all_shares → (n - 1) / split_part ≤ all_shares / split_part
@@ -41,12 +39,6 @@ popped_joined f v u total ls rest x was is h =
     ap (λ z. all_joined z (map f rest)) is ∙ sym (joined_last v (map f rest) (f x))
     ∙ ap (λ l. all_joined v l) (sym (map-append f rest (x ∷ []))) ∙ ap (λ l. all_joined v (map f l)) (sym was) ∙ h
 
--- A list that was found empty.
-pub emptied : {X : Type 0} (xs ys : List X) → ys ≡ xs → true ≡ (length ys == 0) → xs ≡ []
-emptied [] ys same none = refl
-emptied (x ∷ xs) ys same none = let long : length ys ≡ length (x ∷ xs) = ap length same in
-    let zero_long : length ys ≡ 0 = grind (arith, nat_tests, none) in absurd (omega (arith, long, zero_long))
-
 -- What holds of all images holds of what they are images of.
 pub all_unmap : {X Y : Type 0} (P : Y → Type 0) (f : X → Y) (xs : List X) → All P (map f xs) → All (λ x. P (f x)) xs
 all_unmap P f [] all = All-nil (λ x. P (f x))
@@ -64,30 +56,30 @@ module _ {F : Type 0} where
       (All-permutation P _ _ (IsPermutation-sym _ _ (IsPermutation-reverse (stores_of loaders))) turned) in
       λ k e inside. let h = each k e inside in record { shape = h.0; depth = h.1; told_is = h.2 }
 
-  pub split_more : (v v' v'' a : PassView Request) (w w' w'' b : PassView Loaded) (loaders more : List (QueuedView F)) (l : QueuedView F)
-      → AreSplitOff v v' w w' loaders → Splits v' v'' a → Splits w' w'' b → view_of l.asks ≡ a → view_of l.answers ≡ b
+  pub split_more : (v v' v'' : PassView Request) (w w' w'' : PassView Loaded) (loaders more : List (QueuedView F)) (l : QueuedView F)
+      → AreSplitOff v v' w w' loaders → Splits v' v'' (view_of l.asks) → Splits w' w'' (view_of l.answers)
       → more ≡ loaders ++ l ∷ [] → AreSplitOff v v'' w w'' more
-  split_more v v' v'' a w w' w'' b loaders more l s p q is_a is_b e = record {
+  split_more v v' v'' w w' w'' loaders more l s p q e = record {
     asks_are = p.keeps ∙ ap (λ (z : PassView Request). pass_view v''.shares z.known z.put z.took) s.asks_are;
     asks_shares = (let one = asks_one in let two = p.shares in let three = s.asks_shares in omega (arith, one, two, three));
     answers_are = q.keeps ∙ ap (λ (z : PassView Loaded). pass_view w''.shares z.known z.put z.took) s.answers_are;
     answers_shares = (let one = answers_one in let two = q.shares in let three = s.answers_shares in omega (arith, one, two, three));
     new = subst (λ z. All IsNew z) (sym e) (All-push IsNew loaders l s.new one_new);
   } where
-    asks_one : shares_of (asks_of more) ≡ shares_of (asks_of loaders) + a.shares
+    asks_one : shares_of (asks_of more) ≡ shares_of (asks_of loaders) + (view_of l.asks).shares
     asks_one = ap (λ z. shares_of (asks_of z)) e ∙ ap shares_of (map-append (λ (m : QueuedView F). view_of m.asks) loaders (l ∷ []))
-        ∙ shares_more (asks_of loaders) (view_of l.asks) ∙ ap (λ (z : PassView Request). shares_of (asks_of loaders) + z.shares) is_a
+        ∙ shares_more (asks_of loaders) (view_of l.asks)
 
-    answers_one : shares_of (answers_of more) ≡ shares_of (answers_of loaders) + b.shares
+    answers_one : shares_of (answers_of more) ≡ shares_of (answers_of loaders) + (view_of l.answers).shares
     answers_one = ap (λ z. shares_of (answers_of z)) e ∙ ap shares_of (map-append (λ (m : QueuedView F). view_of m.answers) loaders (l ∷ []))
-        ∙ shares_more (answers_of loaders) (view_of l.answers) ∙ ap (λ (z : PassView Loaded). shares_of (answers_of loaders) + z.shares) is_b
+        ∙ shares_more (answers_of loaders) (view_of l.answers)
 
     one_new : IsNew l
     one_new = record {
-      no_takes = ap (λ (z : PassView Request). z.took) (is_a ∙ p.knows);
-      no_asks = ap (λ (z : PassView Request). z.put) (is_a ∙ p.knows);
-      no_results = ap (λ (z : PassView Loaded). z.put) (is_b ∙ q.knows);
-      no_answers = ap (λ (z : PassView Loaded). z.took) (is_b ∙ q.knows);
+      no_takes = ap (λ (z : PassView Request). z.took) p.knows;
+      no_asks = ap (λ (z : PassView Request). z.put) p.knows;
+      no_results = ap (λ (z : PassView Loaded). z.put) q.knows;
+      no_answers = ap (λ (z : PassView Loaded). z.took) q.knows;
     }
 
   -- The store of the last loader that was made stands before those of the ones made before it.
@@ -115,11 +107,24 @@ module _ {F : Type 0} where
       ∙ ap (λ k. stores ++ reverse (stores_of k)) (sym was) ∙ h
 
   -- One more loader may load.
-  pub may_load : (g : FileMeanings F) (q : Queues) (loaders more : List (QueuedView F)) (l : QueuedView F) (a : QueuePass Request)
-      (b : QueuePass Loaded) (x : StoreView F) → more ≡ loaders ++ l ∷ [] → l.asks ≡ a → l.answers ≡ b → l.loader.store ≡ x
-      → IsOf q.requests a → IsOf q.results b → capacity_of q.requests ≤ g.spare x.file → All (MayLoad g q) loaders → All (MayLoad g q) more
-  may_load g q loaders more l a b x e is_a is_b is_x of_a of_b room all = subst (λ k. All (MayLoad g q) k) (sym e)
+  pub may_load : (g : FileMeanings F) (q : Queues) (loaders more : List (QueuedView F)) (l : QueuedView F) (x : StoreView F)
+      → more ≡ loaders ++ l ∷ [] → l.loader.store ≡ x → AreOf q l.asks l.answers → capacity_of q.requests ≤ g.spare x.file
+      → All (MayLoad g q) loaders → All (MayLoad g q) more
+  may_load g q loaders more l x e is_x of room all = subst (λ k. All (MayLoad g q) k) (sym e)
       (All-push (MayLoad g q) loaders l all (record {
-        passes = record { requests = subst (λ p. IsOf q.requests p) (sym is_a) of_a; results = subst (λ p. IsOf q.results p) (sym is_b) of_b };
+        passes = of;
         room = subst (λ (s : StoreView F). capacity_of q.requests ≤ g.spare s.file) (sym is_x) room;
       }))
+
+  -- Before the first one, none were made.
+  pub none_may : (g : FileMeanings F) (q : Queues) (loaders : List (QueuedView F)) → loaders ≡ [] → All (MayLoad g q) loaders
+  none_may g q loaders e = subst (λ k. All (MayLoad g q) k) (sym e) (All-nil (MayLoad g q))
+
+  pub none_dealt : (v : PassView Request) (w : PassView Loaded) (loaders : List (QueuedView F)) → loaders ≡ [] → AreSplitOff v v w w loaders
+  none_dealt v w loaders e = subst (λ k. AreSplitOff v v w w k) (sym e) (record {
+    asks_are = refl;
+    asks_shares = omega arith;
+    answers_are = refl;
+    answers_shares = omega arith;
+    new = All-nil IsNew;
+  })

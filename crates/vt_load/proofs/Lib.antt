@@ -2,3 +2,4 @@ pub mod Loading
 pub mod Answering
 pub mod Dealing
 pub mod Gathering
+mod Collecting

@@ -1,5 +1,5 @@
 -- What a loader does, one request after another.
-use Rattle.std.proofs.Common.{◌≡◌, ℕ, Bool, cond, true, false, List, [], ◌∷◌, ◌++◌, length, take, drop, Option, refl, sym, ap, ◌∙◌, subst, append_assoc}
+use Rattle.std.proofs.Common.{◌≡◌, ℕ, Bool, cond, true, false, List, [], ◌∷◌, ◌++◌, length, take, drop, Option, refl, sym, ap, ◌∙◌, subst, append_assoc, ◌+◌, length-append}
 use Rattle.std.specs.Prelude.{filter, IfSome}
 use Rattle.std.specs.List.{refill}
 use Rattle.std.proofs.Math.Seq.{take-append_seam}
@@ -18,12 +18,18 @@ use Rattle.vt_queue.proofs.Gathered.{append_nil}
 use Rattle.vt_load.specs.Readings.{is_readable, IsReading, AreReadings}
 use Rattle.vt_load.specs.Loads.{Answers, Loads}
 
--- A tile that was read into a buffer's lent bytes stands in the buffer.
+-- What was written into a buffer's lent bytes stands in the buffer.
+pub lent_back : (xs ws : List ℕ) → length ws ≡ length xs → refill (length xs) xs ws ≡ ws
+lent_back xs ws e = ap (λ (n : ℕ). take n (ws ++ drop (length ws) xs)) (sym e) ∙ take-append_seam ws (drop (length ws) xs)
+
+-- So does a tile that was read into them.
 pub lent_tile : (told : Option (List ℕ)) (start : ℕ) (xs ws : List ℕ) → length ws ≡ length xs → IfSome told (λ b. IsPiece b start ws)
     → IfSome told (λ b. IsPiece b start (refill (length xs) xs ws))
-lent_tile told start xs ws e h = subst (λ l. IfSome told (λ b. IsPiece b start l)) (sym back) h where
-  back : refill (length xs) xs ws ≡ ws
-  back = ap (λ (n : ℕ). take n (ws ++ drop (length ws) xs)) (sym e) ∙ take-append_seam ws (drop (length ws) xs)
+lent_tile told start xs ws e h = subst (λ l. IfSome told (λ b. IsPiece b start l)) (sym (lent_back xs ws e)) h
+
+-- One more item was taken.
+pub one_taken : (v w : PassView Request) (r : Request) → Takes v r w → length w.took ≡ length v.took + 1
+one_taken v w r t = ap (λ (u : PassView Request). length u.took) t.is ∙ length-append v.took ((t.place, r) ∷ [])
 
 module _ {F : Type 0} (g : FileMeanings F) where
   -- Readings after others are readings.

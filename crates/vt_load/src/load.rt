@@ -106,7 +106,6 @@ fn read<F: File, G: Gate>(store: &mut Store<F>, loader: u32, request: Request, g
 }
 
 // Reads a request and puts its result, where the store can read it.
-#[tactic(auto, using(crate::proofs::Loading::dropped, crate::proofs::Loading::read_one))]
 fn answer<Rt: Threads + Wait, F: File, G: Gate>(
     rt: &Rt,
     store: &mut Store<F>,

@@ -106,6 +106,32 @@ fn split_off<I>(queue: &Queue<I>, alloc: Global, pass: &mut QueuePass<I>) -> Que
     }
 }
 
+// Makes a loader of a store and a number, and splits passes off for it.
+fn loader_for<F: File>(
+    queues: &Queues,
+    alloc: Global,
+    asks: &mut QueuePass<Request>,
+    answers: &mut QueuePass<Loaded>,
+    store: Store<F>,
+    number: u32,
+) -> QueuedLoader<F>
+    requires passes { AreOf queues.now asks.old answers.old }
+    requires some { (1 ≤ splits_of asks.old) × (1 ≤ splits_of answers.old) }
+    requires few { (splits_of asks.old ≤ all_shares) × (splits_of answers.old ≤ all_shares) }
+    ensures passes { AreOf queues.now asks.new answers.new }
+    ensures other { AreOf queues.now result.asks result.answers }
+    ensures store { result.loader.store ≡ store }
+    ensures asks { Splits (view_of asks.old) (view_of asks.new) (view_of result.asks) }
+    ensures answers { Splits (view_of answers.old) (view_of answers.new) (view_of result.answers) }
+    ensures less { (splits_of asks.new ≤ splits_of asks.old) × (splits_of answers.new ≤ splits_of answers.old) }
+    ensures left { (splits_of asks.old ≤ splits_of asks.new + all_shares / split_part + 1)
+        × (splits_of answers.old ≤ splits_of answers.new + all_shares / split_part + 1) }
+{
+    let theirs = split_off(&queues.requests, alloc, asks);
+    let results = split_off(&queues.results, alloc, answers);
+    QueuedLoader::new(Loader::new(store, number), theirs, results)
+}
+
 /// Makes a loader of each store of a list, which becomes empty, and splits passes off for it. The loader of the first store
 /// has number 0.
 pub fn deal<F: File>(
@@ -132,14 +158,10 @@ pub fn deal<F: File>(
     ensures may { All (MayLoad F.File queues.now) loaders.new.elements }
     ensures split_off { AreSplitOff (view_of asks.old) (view_of asks.new) (view_of answers.old) (view_of answers.new) loaders.new.elements }
 {
-    'deal: while !stores.slice().is_empty() {
-        let theirs = split_off(&queues.requests, alloc, asks);
-        let results = split_off(&queues.results, alloc, answers);
-        let number = stores.len() - 1;
-        let Some(store) = stores.pop() else {
-            unreachable!()
-        };
-        loaders.push(QueuedLoader::new(Loader::new(store, number as u32), theirs, results));
+    while let Some(store) = stores.pop() {
+        let number = stores.len();
+        let loader = loader_for(queues, alloc, asks, answers, store, number as u32);
+        loaders.push(loader);
     }
 }
 
@@ -192,13 +214,12 @@ pub fn collect<Rt: Threads + Wait>(
         if taken >= count {
             return;
         }
-        match results.take(rt, answers) {
-            Some(loaded) => {
-                into.push(loaded);
-                taken += 1;
-            }
-            None => thread::yield_now(),
-        }
+        let Some(loaded) = results.take(rt, answers) else {
+            thread::yield_now();
+            continue;
+        };
+        into.push(loaded);
+        taken += 1;
     }
     unreachable!()
 }

@@ -1,10 +1,10 @@
 -- The requests of a batch are put, one after another.
-use Rattle.std.proofs.Common.{◌≡◌, ℕ, ◌+◌, ◌<◌, ◌≤◌, true, List, [], ◌∷◌, ◌++◌, length, map, get_or, sym, ap, ◌∙◌, subst, zero-add, length-append, arith}
+use Rattle.std.proofs.Common.{◌≡◌, ℕ, ◌+◌, ◌<◌, ◌≤◌, true, List, [], ◌∷◌, ◌++◌, length, map, get_or, refl, sym, ap, ◌∙◌, subst, zero-add, length-append, arith}
 use Rattle.std.specs.Prelude.{All, nat_lt, nat_eq, ◌&&◌}
 use Rattle.std.proofs.lemmas.Bool.Decides.{nat_tests}
 use Rattle.std.proofs.lemmas.List.{map-append}
 use Rattle.std.proofs.lemmas.List.FromFn.{map-range_with_len_more}
-use Rattle.std.proofs.lemmas.List.Elements.{All-push}
+use Rattle.std.proofs.lemmas.List.Elements.{All-nil, All-push}
 use Rattle.std.proofs.lemmas.Option.{slice_get-get_or}
 use Rattle.vt_pages.specs.Shape.{Shape}
 use Rattle.vt_pages.specs.Pages.{pages_of}
@@ -13,7 +13,7 @@ use Rattle.vt_evict.specs.declared.batches.Planned.{Planned}
 use Rattle.vt_queue.specs.declared.items.Request.{Request}
 use Rattle.vt_queue.specs.declared.queue.Queue.{Queue}
 use Rattle.vt_queue.specs.declared.views.PassView.{PassView}
-use Rattle.vt_queue.specs.PassViews.{all_shares}
+use Rattle.vt_queue.specs.PassViews.{all_shares, first_view}
 use Rattle.vt_queue.specs.Orders.{items_of}
 use Rattle.vt_queue.specs.Steps.{Puts}
 use Rattle.vt_queue.specs.Queues.{capacity_of, WasFull}
@@ -27,6 +27,18 @@ pub record HasPut (n : ℕ) (v : PassView Request) : Type 0 where
   pub whole : v.shares ≡ all_shares
   pub no_takes : v.took ≡ []
   pub count : length v.put ≡ n
+
+pub put_none : (v : PassView Request) → v ≡ first_view → HasPut 0 v
+put_none v e = subst (λ (u : PassView Request). HasPut 0 u) (sym e) (record { whole = refl; no_takes = refl; count = refl })
+
+pub asked_none : (s : Shape) (d : ℕ) (batch : List Planned) (v : PassView Request) → v ≡ first_view → ArePut s d batch 0 v
+asked_none s d batch v e = subst (λ (u : PassView Request). ArePut s d batch 0 u) (sym e) (record {
+  whole = refl;
+  no_takes = refl;
+  count = refl;
+  requests = refl;
+  readable = All-nil (λ x. is_readable s d x ≡ true);
+})
 
 pub put_more : (n : ℕ) (v w : PassView Request) (r : Request) → HasPut n v → Puts v r w → HasPut (n + 1) w
 put_more n v w r h p = let e = puts_last v w r p h.whole in record {

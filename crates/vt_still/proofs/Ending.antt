@@ -103,6 +103,11 @@ read_reversed s d batch losses before after r = record {
       inl (omega (arith, h, p, q))
   rose_reversed n b a (inr any) = inr (sym (list_any-IsPermutation (nat_le count_end) a (reverse a) (IsPermutation-reverse a)) ∙ any)
 
+-- As many results are there as were taken.
+pub all_collected : (n : ℕ) (v w : PassView Loaded) (old results : List Loaded) → Collects n v w old results → old ≡ [] → length results ≡ n
+all_collected n v w old results h none = ap length (h.list ∙ ap (λ l. l ++ map (λ (e : ℕ × Loaded). e.1) h.got) none)
+    ∙ length-map h.got (λ (e : ℕ × Loaded). e.1) ∙ h.count
+
 module _ {F : Type 0} (g : FileMeanings F) (q : Queues) (s : Shape) (batch : List Planned) (asks asks_back : PassView Request)
     (answers answers_back answers_end : PassView Loaded) (last : List (QueuedView F)) (old results : List Loaded) (unread : List Request) (over : List Loaded)
     (joined : asks_back ≡ all_joined asks (asks_of last)) (at_step : IsAtStep asks_back unread)
@@ -147,10 +152,6 @@ module _ {F : Type 0} (g : FileMeanings F) (q : Queues) (s : Shape) (batch : Lis
 
   is_served : AreServed g s b.depth b.told round_of
   is_served = each_once g q s b.depth b.told round_of is_round
-
-  pub all_results : length results ≡ length batch
-  all_results = ap length (collected.list ∙ ap (λ l. l ++ map (λ (e : ℕ × Loaded). e.1) collected.got) none)
-      ∙ length-map collected.got (λ (e : ℕ × Loaded). e.1) ∙ collected.count
 
   tickets : IsOrder (length batch) (tickets_of results)
   unfolding round_of

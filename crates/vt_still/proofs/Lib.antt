@@ -9,4 +9,3 @@ pub mod Applying
 pub mod Asking
 pub mod Ending
 pub mod RoundKits
-pub mod Reserving

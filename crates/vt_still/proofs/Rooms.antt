@@ -3,6 +3,12 @@ use Rattle.std.proofs.Common.{◌≡◌, ◌≢◌, ℕ, suc, ◌+◌, ◌<◌, 
 use Rattle.std.specs.Prelude.{slice_set, All, Result, Ok, Err, OnOk, OnErr}
 use Rattle.std.proofs.lemmas.List.{length-set, get_or-set_same, get_or-set_other, get_or_default}
 use Rattle.std.proofs.lemmas.Bool.{cases_eq}
+use Rattle.std.specs.Result.{IsErrAnd}
+use Rattle.std.specs.List.{refill}
+use Rattle.vt_outside.specs.Lists.{ListView}
+use Rattle.vt_journal.specs.declared.changes.Event.{Event}
+use Rattle.vt_journal.specs.declared.changes.RowLine.{RowLine}
+use Rattle.vt_pass.proofs.Lent.{refilled}
 use Rattle.vt_outside.specs.declared.outside.File.{Ghosts as FileMeanings}
 use Rattle.vt_definitions.specs.Depths.{IsDepth}
 use Rattle.vt_pages.specs.Shape.{Shape}
@@ -28,6 +34,16 @@ module _ {F : Type 0} (g : FileMeanings F) where
   pub record HaveRoom (reads n : ℕ) (stores : List (StoreView F)) : Type 0 where
     pub each : (k : ℕ) (d : StoreView F) → k < n → k < length stores → reads ≤ g.spare (get_or stores k d).file
 
+  pub same_one : (before after : StoreView F) → after.shape ≡ before.shape → after.depth ≡ before.depth → g.bytes after.file ≡ g.bytes before.file
+      → g.name after.file ≡ g.name before.file → g.asked after.file ≡ g.asked before.file → g.faults after.file ≡ g.faults before.file
+      → IsSameStore g before after
+  same_one before after shape depth bytes name asked faults = record {
+    shape = shape;
+    depth = depth;
+    bytes = bytes;
+    file = λ i. record { name = name i; asked = asked i; faults = faults i };
+  }
+
   pub same_none : (stores : List (StoreView F)) → AreSameStores g stores stores
   same_none stores = record { number = refl; each = λ k d inside. record { shape = refl; depth = refl; bytes = refl; file = refl } }
 
@@ -51,6 +67,27 @@ module _ {F : Type 0} (g : FileMeanings F) where
         (λ (other : j ≢ k). subst (IsSameStore g (get_or first j d)) (sym (get_or-set_other stores k j now d other)) (h.each j d below))
         (cases_eq j k);
   }
+
+  -- stores that were lent are back
+  pub stores_back : (xs lent ws : List (StoreView F)) → lent ≡ xs → AreSameStores g lent ws → refill (length xs) xs ws ≡ ws
+  stores_back xs lent ws e h = refilled xs ws (h.number ∙ ap length e)
+
+  pub same_back : (xs lent ws : List (StoreView F)) → lent ≡ xs → AreSameStores g lent ws → AreSameStores g xs (refill (length xs) xs ws)
+  same_back xs lent ws e h = subst (AreSameStores g xs) (sym (stores_back xs lent ws e h)) (subst (λ l. AreSameStores g l ws) e h)
+
+  -- a kit with other lists is the same
+  pub same_lists : (j k : KitView F) (rows : ListView RowLine) (events : ListView Event) (stores : List (StoreView F)) → j ≡ k
+      → AreSameStores g j.stores stores → IsSameKit g k (record j { rows = rows; events = events; stores = stores })
+  same_lists j k rows events stores e h = subst (λ x. IsSameKit g x (record j { rows = rows; events = events; stores = stores })) e (record {
+    shape = refl;
+    depth = refl;
+    width = refl;
+    height = refl;
+    crew = refl;
+    samplers = refl;
+    counts = refl;
+    stores = h;
+  })
 
   pub room_none : (reads : ℕ) (stores : List (StoreView F)) → HaveRoom reads 0 stores
   room_none reads stores = record { each = λ k d low inside. absurd (omega (arith, low)) }
@@ -235,6 +272,11 @@ module _ {F : Type 0} (g : FileMeanings F) where
   pub spent : (v w : TableView) (k l : KitView F) → w ≡ record v { spare = w.spare } → IsSameKit g k l → IsSpent (kit_state g v k) (kit_state g w l)
   spent v w k l same h = let u = untouched v w k l same h in record { setup = u.setup; files = u.files }
 
+-- nothing is said of what was made
+pub none_made : {T E : Type 0} (q : Result T E) (R : E → Type 0) (P : Type 0) → IsErrAnd q R → OnOk q P
+none_made (Ok x) R P is = absurd is
+none_made (Err e) R P is = tt
+
 pub on_ok : {T E A B : Type 0} (r : Result T E) → OnOk r A → (A → B) → OnOk r B
 on_ok (Ok x) a f = f a
 on_ok (Err e) n f = n
@@ -242,3 +284,7 @@ on_ok (Err e) n f = n
 pub always_err : {T E B : Type 0} (r : Result T E) → B → OnErr r B
 always_err (Ok x) b = tt
 always_err (Err e) b = b
+
+pub always_ok : {T E B : Type 0} (r : Result T E) → B → OnOk r B
+always_ok (Ok x) b = b
+always_ok (Err e) b = tt

@@ -18,6 +18,7 @@ ghost use Rattle.vt_still.specs.Kits.{KitView, AreSamplersOf, IsKit, IsIdleKit, 
 ghost use Rattle.vt_still.specs.declared.tasks.StillSampler.{StillSampler as Task};
 ghost use Rattle.vt_still.specs.RoundKits.{AreSized, IsSetUp, IsAsked};
 ghost use Rattle.vt_still.specs.BatchRounds.{Begun as Start};
+ghost use Rattle.vt_pages.specs.Pages.{pages_of};
 ghost use Rattle.vt_tiles.specs.Format.{tile_length};
 ghost use Rattle.vt_evict.specs.declared.batches.Planned.{Planned as Entry};
 ghost use Rattle.vt_load.specs.QueuedLoaders.{MayLoad};
@@ -104,6 +105,27 @@ fn samplers_for(
     Ok(samplers)
 }
 
+// What a kit is made of beside its stores: the samplers, their counts, and what its loaders are done with.
+fn kit_parts<F: File>(
+    alloc: Global,
+    geometry: &Geometry,
+    path: &Path,
+    crew: &Crew,
+    depth: u32,
+) -> Result<(Items<StillSampler>, Counts, RoundKit<F>), NoMemory>
+    requires crew { IsCrew crew.now }
+    requires depth { IsDepth depth }
+    ensures samplers { IfOk result (λ made. AreSamplersOf geometry.now depth path.now.width path.now.height crew.now.samplers made.0.elements) }
+    ensures counts { IfOk result (λ made. length made.1 ≡ pages_of geometry.now) }
+    ensures buffers { IfOk result (λ made. made.2.buffers.elements ≡ []) }
+{
+    let samplers = samplers_for(alloc, geometry, path, crew.samplers, depth)?;
+    let counts = Counts::new(alloc, geometry)?;
+    // No pass is made with these queues: each is prepared with new ones.
+    let (_, asks, answers) = new_queues(alloc, 1)?;
+    Ok((samplers, counts, RoundKit::new(alloc, asks, answers)))
+}
+
 impl<F: File> StillKit<F> {
     /// The kit of a crew with one store for each loader, for pictures of the path's sides. A refusal hands the stores
     /// back.
@@ -128,34 +150,23 @@ impl<F: File> StillKit<F> {
         ensures refused { IfErr result (λ e. e.0.elements ≡ stores.elements) }
     {
         let _known = stores.at(0).geometry();
-        let samplers = match samplers_for(alloc, geometry, path, crew.samplers, depth) {
-            Ok(samplers) => samplers,
-            Err(refusal) => return Err((stores, refusal)),
-        };
-        let counts = match Counts::new(alloc, geometry) {
-            Ok(counts) => counts,
-            Err(refusal) => return Err((stores, refusal)),
-        };
-        // No pass is made with these queues: each is prepared with new ones.
-        let (_, asks, answers) = match new_queues(alloc, 1) {
-            Ok(made) => made,
-            Err(refusal) => return Err((stores, refusal)),
-        };
-        let round = RoundKit::new(alloc, asks, answers);
-        Ok(StillKit {
-            alloc,
-            geometry: *geometry,
-            depth,
-            width: path.width(),
-            height: path.height(),
-            crew: *crew,
-            samplers,
-            stores,
-            counts,
-            rows: Items::new(alloc),
-            events: Items::new(alloc),
-            round,
-        })
+        match kit_parts(alloc, geometry, path, crew, depth) {
+            Ok((samplers, counts, round)) => Ok(StillKit {
+                alloc,
+                geometry: *geometry,
+                depth,
+                width: path.width(),
+                height: path.height(),
+                crew: *crew,
+                samplers,
+                stores,
+                counts,
+                rows: Items::new(alloc),
+                events: Items::new(alloc),
+                round,
+            }),
+            Err(refusal) => Err((stores, refusal)),
+        }
     }
 
     /// How many pixels of the last pass's picture need each page.

@@ -18,7 +18,6 @@ use vt_queue::{Loaded, Outcome};
 use vt_table::StillTable;
 
 // Applies a result to its entry, or notes that it was lost. Answers whether it was.
-#[tactic(auto, using(crate::proofs::Entries::published_lost, crate::proofs::Applying::is_tile_of))]
 fn apply_one(
     table: &mut StillTable,
     planned: &Planned,

@@ -1,12 +1,13 @@
 //! Requests for the tiles of a batch.
 
-ghost use Rattle.std.specs.Prelude.{◌≡◌, ℕ, ◌<◌, ◌≤◌, ◌+◌, ◌^◌, [], length, All};
+ghost use Rattle.std.specs.Prelude.{◌≡◌, ℕ, ◌<◌, ◌≤◌, ◌+◌, ◌^◌, [], ◌∷◌, ◌++◌, length, All, slice_get};
 ghost use Rattle.vt_pages.specs.Shape.{Shape};
 ghost use Rattle.vt_pages.specs.Pages.{pages_of};
 ghost use Rattle.vt_tiles.specs.Format.{tile_length};
 ghost use Rattle.vt_queue.specs.PassViews.{first_view};
-ghost use Rattle.vt_queue.specs.Queues.{view_of, splits_of, IsOf, capacity_of};
-ghost use Rattle.vt_still.specs.BatchRounds.{ArePut};
+ghost use Rattle.vt_queue.specs.Steps.{Puts};
+ghost use Rattle.vt_queue.specs.Queues.{view_of, splits_of, IsOf, capacity_of, WasFull};
+ghost use Rattle.vt_still.specs.BatchRounds.{ArePut, page_if};
 ghost use Rattle.vt_still.specs.RoundKits.{AreSized};
 
 use std::sync::Wait;
@@ -14,6 +15,44 @@ use std::thread::Threads;
 use vt_evict::Planned;
 use vt_outside::{Bytes, Items};
 use vt_queue::{Loaded, QueuePass, Request, RequestQueue};
+
+// The request for an entry of a batch, by its place, with a buffer from the end of a list.
+fn request_for(batch: &[Planned], ticket: usize, buffers: &mut Items<Bytes>) -> Request
+    requires inside { ticket < length batch.now }
+    requires few { length batch.now < 2 ^ 32 }
+    requires some { 1 ≤ length buffers.old.elements }
+    ensures ticket { result.ticket ≡ ticket }
+    ensures page { result.page ≡ page_if (slice_get batch.now ticket) }
+    ensures buffer { buffers.old.elements ≡ buffers.new.elements ++ result.buffer ∷ [] }
+    ensures room { buffers.new.spare ≡ buffers.old.spare + 1 }
+{
+    let Some(buffer) = buffers.pop() else {
+        unreachable!()
+    };
+    Request {
+        ticket: ticket as u32,
+        page: batch[ticket].page,
+        buffer,
+    }
+}
+
+// Puts a request into a queue that is not full.
+fn put_next<Rt: Threads + Wait>(
+    rt: &Rt,
+    requests: &RequestQueue,
+    asks: &mut QueuePass<Request>,
+    request: Request,
+)
+    requires of { IsOf requests.now asks.old }
+    requires room { WasFull requests.now (view_of asks.old) → ⊥ }
+    ensures of { IsOf requests.now asks.new × (splits_of asks.new ≡ splits_of asks.old) }
+    ensures puts { Puts (view_of asks.old) request (view_of asks.new) }
+{
+    match requests.put(rt, asks, request) {
+        Ok(()) => {}
+        Err(_) => unreachable!(),
+    }
+}
 
 /// Puts a request for each entry of a batch into a new queue, with a buffer from the end of a list for each.
 pub(crate) fn ask_batch<Rt: Threads + Wait>(
@@ -37,18 +76,8 @@ pub(crate) fn ask_batch<Rt: Threads + Wait>(
     ensures room { buffers.new.spare ≡ buffers.old.spare + length batch.now }
 {
     for ticket in 0..batch.len() {
-        let Some(buffer) = buffers.pop() else {
-            unreachable!()
-        };
-        let request = Request {
-            ticket: ticket as u32,
-            page: batch[ticket].page,
-            buffer,
-        };
-        match requests.put(rt, asks, request) {
-            Ok(()) => {}
-            Err(_) => unreachable!(),
-        }
+        let request = request_for(batch, ticket, buffers);
+        put_next(rt, requests, asks, request);
     }
 }
 

@@ -20,7 +20,6 @@ where
 }
 
 // Makes room in each store to note so many more reads.
-#[tactic(auto, using(crate::proofs::Reserving::reserving))]
 pub(crate) fn reserve_reads<F: File>(stores: &mut [Store<F>], reads: u64) -> Result<(), NoMemory>
     ensures same { AreSameStores F.File stores.old stores.new }
     ensures room { OnOk result (All (λ store. reads ≤ F.spare store.file) stores.new) }

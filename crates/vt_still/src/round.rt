@@ -9,6 +9,7 @@ ghost use Rattle.vt_tiles.specs.Format.{tile_length};
 ghost use Rattle.vt_table.specs.Views.{IsTable};
 ghost use Rattle.vt_queue.specs.PassViews.{all_shares, first_view};
 ghost use Rattle.vt_queue.specs.Queues.{view_of, splits_of, capacity_of};
+ghost use Rattle.vt_load.specs.declared.queued.Queues.{Queues as Both};
 ghost use Rattle.vt_load.specs.QueuedLoaders.{AreOf, MayLoad, stores_of};
 ghost use Rattle.vt_pass.specs.Outcomes.{IsBatchFor};
 ghost use Rattle.vt_still.specs.BatchRounds.{Begun as Start, HaveEnded, IsStreamed};
@@ -147,6 +148,31 @@ impl<F: File> RoundKit<F> {
         stores.destroy_empty();
     }
 
+    // Makes new queues with room for so many items, and takes their passes.
+    fn renew(&mut self, queues: &mut Queues, capacity: u32) -> Result<(), NoMemory>
+        requires { (1 ≤ capacity) × (capacity ≤ most_entries) }
+        ensures new { OnOk result (AreNew capacity queues.new self.new.asks self.new.answers) }
+        ensures rest { self.new ≡ record self.old { asks = self.new.asks; answers = self.new.answers } }
+    {
+        let (made, asks, answers) = new_queues(self.alloc, capacity)?;
+        *queues = made;
+        self.asks = asks;
+        self.answers = answers;
+        Ok(())
+    }
+
+    // Makes room for a crew's loaders, and for the results of so many entries, with a buffer of a tile's length for each.
+    fn make_places(&mut self, crew: &Crew, tile: &[u8], entries: u64) -> Result<(), NoMemory>
+        requires { AreSized (length tile.now) self.old.buffers.elements }
+        ensures { OnOk result ((q : Both) → AreNew crew.now.batch q self.old.asks self.old.answers
+            → IsSetUp q self.new (length tile.now) crew.now entries) }
+    {
+        self.loaders.reserve(u64::from(crew.loaders))?;
+        self.results.reserve(entries)?;
+        self.losses = none_lost(self.alloc, entries)?;
+        make_buffers(self.alloc, &mut self.buffers, entries, tile)
+    }
+
     /// Makes new queues, and room for all that a batch of so many entries needs later. The buffers have a tile's length.
     pub(crate) fn prepare(
         &mut self,
@@ -159,15 +185,8 @@ impl<F: File> RoundKit<F> {
         requires sizes { AreSized (length tile.now) self.old.buffers.elements }
         ensures { OnOk result (IsSetUp queues.new self.new (length tile.now) crew.now entries) }
     {
-        let (made, asks, answers) = new_queues(self.alloc, crew.batch)?;
-        *queues = made;
-        self.asks = asks;
-        self.answers = answers;
-        self.loaders.reserve(u64::from(crew.loaders))?;
-        self.results.reserve(entries)?;
-        self.losses = none_lost(self.alloc, entries)?;
-        make_buffers(self.alloc, &mut self.buffers, entries, tile)?;
-        Ok(())
+        self.renew(queues, crew.batch)?;
+        self.make_places(crew, tile, entries)
     }
 
     /// Puts a request for each entry of a batch into the queues, which are new.

@@ -1,39 +1,58 @@
-use Rattle.std.proofs.Common.{arith, ◌≡◌, ◌+◌, ◌≤◌, length, ap, ◌∙◌, [], ◌∷◌, length-append, sym}
+use Rattle.std.proofs.Common.{arith, ◌≡◌, ◌+◌, ◌≤◌, ◌++◌, length, reverse, ap, ◌∙◌, [], ◌∷◌, length-append}
+use Rattle.vt_queue.proofs.Gathered.{append_nil}
 use Rattle.vt_queue.specs.Queues.{view_of, capacity_of}
-use Rattle.vt_load.proofs.Dealing.{split_more, order_more, popped_all, may_load, loaders_of, emptied}
+use Rattle.vt_load.specs.QueuedLoaders.{stores_of}
+use Rattle.vt_load.proofs.Dealing.{split_more, order_more, popped_all, may_load, loaders_of, none_dealt, none_may}
 use Rattle.vt_load.proofs.queued.deal.Goals as goal
 
-pub deal-preserved : goal.deal-preserved
-deal-preserved g c =
-    let i = c.deal.invariant in
+pub loop-store-init : goal.loop-store-init
+loop-store-init g c =
+    let r = c.requires in
+    let none : length c.args.loaders.now.elements ≡ 0 = ap length r.none in
+    record {
+      passes = r.passes;
+      count = (let a = none in omega (arith, a));
+      asks = (let a = r.splits.0 in omega (arith, a));
+      asks_few = (let a = r.splits.0 in omega (arith, a));
+      answers = (let a = r.splits.1 in omega (arith, a));
+      answers_few = (let a = r.splits.1 in omega (arith, a));
+      room = r.room;
+      back = omega (arith, none);
+      reads = r.reads;
+      order = ap (λ l. c.args.stores.now.elements ++ reverse (stores_of l)) r.none ∙ append_nil _;
+      may = none_may g.F.File c.args.queues.now c.args.loaders.now.elements r.none;
+      split = none_dealt (view_of c.args.asks.now) (view_of c.args.answers.now) c.args.loaders.now.elements r.none;
+    }
+
+pub loop-store-preserved : goal.loop-store-preserved
+loop-store-preserved g c =
+    let i = c.loop-store.invariant in
     let q = c.args.queues.now in
     let was = c.in-Some.ensures.some in
     let rest = c.pop.new.self.elements in
-    let made = c.new-in-deal.result in
-    let is = c.new-in-deal.ensures in
+    let made = c.loader_for-loader.result in
+    let is = c.loader_for-loader.ensures in
     let more = c.push.ensures.elements in
-    let store : made.loader.store ≡ c.in-Some.store = ap (λ m. m.loader.store) is ∙ ap (λ l. l.store) c.new.ensures in
-    let fewer : length c.deal.stores.elements ≡ length rest + 1 = ap length was ∙ length-append rest (c.in-Some.store ∷ []) in
-    let one_more : length c.push.new.self.elements ≡ length c.deal.loaders.elements + 1 = ap length more ∙ length-append c.deal.loaders.elements (made ∷ []) in
-    let popped = popped_all (λ s. capacity_of q.requests ≤ g.F.File.spare s.file) c.deal.stores.elements rest c.in-Some.store was i.reads in
+    let fewer : length c.loop-store.stores.elements ≡ length rest + 1 = ap length was ∙ length-append rest (c.in-Some.store ∷ []) in
+    let one_more : length c.push.new.self.elements ≡ length c.loop-store.loaders.elements + 1 =
+    ap length more ∙ length-append c.loop-store.loaders.elements (made ∷ []) in
+    let popped = popped_all (λ s. capacity_of q.requests ≤ g.F.File.spare s.file) c.loop-store.stores.elements rest c.in-Some.store was i.reads in
     record {
-      passes = record { requests = c.split_off-theirs.ensures.of; results = c.split_off-results.ensures.of };
+      passes = is.passes;
       count = (let a = i.count in omega (arith, a, fewer, one_more));
-      asks = (let a = i.asks in let b = c.split_off-theirs.ensures.left in omega (arith, a, b, one_more));
-      asks_few = (let a = i.asks_few in let b = c.split_off-theirs.ensures.less in omega (arith, a, b));
-      answers = (let a = i.answers in let b = c.split_off-results.ensures.left in omega (arith, a, b, one_more));
-      answers_few = (let a = i.answers_few in let b = c.split_off-results.ensures.less in omega (arith, a, b));
+      asks = (let a = i.asks in let b = is.left.0 in omega (arith, a, b, one_more));
+      asks_few = (let a = i.asks_few in let b = is.less.0 in omega (arith, a, b));
+      answers = (let a = i.answers in let b = is.left.1 in omega (arith, a, b, one_more));
+      answers_few = (let a = i.answers_few in let b = is.less.1 in omega (arith, a, b));
       room = (let a = i.room in let b = c.push.ensures.spare in omega (arith, a, b, fewer));
       back = (let a = i.back in let b = c.in-Some.ensures.spare in omega (arith, a, b, one_more));
       reads = popped.0;
-      order = order_more c.deal.stores.elements rest _ c.deal.loaders.elements c.push.new.self.elements c.in-Some.store made was more store i.order;
-      may = may_load g.F.File q c.deal.loaders.elements c.push.new.self.elements made c.split_off-theirs.result c.split_off-results.result c.in-Some.store
-          more (ap (λ m. m.asks) is) (ap (λ m. m.answers) is) store c.split_off-theirs.ensures.other c.split_off-results.ensures.other popped.1 i.may;
-      split = split_more _ _ _ (view_of c.split_off-theirs.result) _ _ _ (view_of c.split_off-results.result) c.deal.loaders.elements _ made i.split
-          c.split_off-theirs.ensures.splits c.split_off-results.ensures.splits (ap (λ m. view_of m.asks) is) (ap (λ m. view_of m.answers) is) more;
+      order = order_more c.loop-store.stores.elements rest _ c.loop-store.loaders.elements c.push.new.self.elements c.in-Some.store made was more is.store i.order;
+      may = may_load g.F.File q c.loop-store.loaders.elements c.push.new.self.elements made c.in-Some.store more is.store is.other popped.1 i.may;
+      split = split_more _ _ _ _ _ _ c.loop-store.loaders.elements _ made i.split is.asks is.answers more;
     }
 
 pub returns-clause-of : goal.returns-clause-of
 returns-clause-of g c = λ s d told all.
-    let none = emptied c.deal.stores.elements c.slice.result.now c.slice.ensures (sym c.deal-test.false ∙ c.is_empty.ensures) in
-    loaders_of g.F.File s d told c.deal.stores.elements c.args.stores.now.elements c.deal.loaders.elements none c.deal.invariant.order all
+    loaders_of g.F.File s d told c.loop-store.stores.elements c.args.stores.now.elements c.loop-store.loaders.elements c.in_default.ensures.none.0
+    c.loop-store.invariant.order all

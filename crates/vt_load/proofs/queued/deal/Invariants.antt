@@ -5,8 +5,8 @@ use Rattle.vt_queue.specs.Queues.{view_of, splits_of, capacity_of}
 use Rattle.vt_load.specs.QueuedLoaders.{AreOf, MayLoad, AreSplitOff, stores_of}
 use Rattle.vt_load.proofs.queued.deal.Given as goal
 
-abbrev pub invariant-deal : goal.invariant-deal
-invariant-deal g l = record {
+abbrev pub invariant-loop-store : goal.invariant-loop-store
+invariant-loop-store g l = record {
   passes : AreOf l.queues l.asks l.answers;
   count : length l.loaders.elements + length l.stores.elements ≡ length l.initial.stores.elements;
   asks : all_shares ≤ splits_of l.asks + 1 + length l.loaders.elements * (all_shares / split_part + 1);
@@ -21,5 +21,5 @@ invariant-deal g l = record {
   split : AreSplitOff (view_of l.initial.asks) (view_of l.asks) (view_of l.initial.answers) (view_of l.answers) l.loaders.elements;
 }
 
-abbrev pub decreases-deal : goal.decreases-deal
-decreases-deal g l = length l.stores.elements
+abbrev pub decreases-loop-store : goal.decreases-loop-store
+decreases-loop-store g l = length l.stores.elements

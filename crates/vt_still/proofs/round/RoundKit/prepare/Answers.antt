@@ -1,14 +1,11 @@
-use Rattle.std.proofs.Common.{◌∙◌, arith}
+use Rattle.std.proofs.Common.{sym, subst, length}
+use Rattle.vt_still.specs.RoundKits.{RoundKitView, AreSized}
+use Rattle.vt_still.proofs.Rooms.{on_ok}
 use Rattle.vt_still.proofs.round.RoundKit.prepare.Goals as goal
 
+pub make_places-requires : goal.make_places-requires
+make_places-requires g c =
+    subst (λ (r : RoundKitView _). AreSized (length c.args.tile.now) r.buffers.elements) (sym c.renew.ensures.rest) c.requires.sizes
+
 pub returns : goal.returns
-returns g c = record {
-  new = c.in_ok-made.ensures;
-  no_loaders = c.reserve.ensures.elements ∙ c.self.inside.no_loaders;
-  loaders = (let r = c.in_ok-reserve.ensures.room in let e = c.from.ensures in omega (arith, r, e));
-  no_results = c.reserve-2.ensures.elements ∙ c.self.inside.no_results;
-  results = c.in_ok-reserve-2.ensures.room;
-  losses = c.in_ok-self-inside.ensures;
-  buffers = c.in_ok-make_buffers.ensures.count;
-  sizes = c.make_buffers.ensures.sizes;
-}
+returns g c = on_ok c.make_places.result c.make_places.ensures (λ set_up. set_up c.renew.new.queues c.in_ok-renew.ensures.new)
