@@ -9,8 +9,8 @@ use Rattle.vt_journal.specs.declared.changes.Event.{Event}
 use Rattle.vt_journal.specs.declared.changes.Event.TheVariants.{Changed, Lost}
 use Rattle.vt_journal.specs.declared.changes.RowLine.{RowLine}
 use Rattle.vt_journal.specs.declared.lines.Line.{Line}
-use Rattle.vt_journal.specs.declared.lines.Line.TheVariants.{Makes, Loses, Draws}
-use Rattle.vt_journal.specs.JournalText.{changes_of, event_lines, line_text, lines_text, pinned_change}
+use Rattle.vt_journal.specs.declared.lines.Line.TheVariants.{Begins, Makes, Loses, Draws}
+use Rattle.vt_journal.specs.JournalText.{Pass, changes_of, event_lines, line_text, lines_text, pass_text, pinned_change}
 
 pub changes_of-append : (es fs : List Event) → changes_of (es ++ fs) ≡ changes_of es ++ changes_of fs
 changes_of-append [] fs = refl
@@ -67,3 +67,15 @@ rows_more s old before after rows i d within was next =
     next ∙ ap (λ t. t ++ line_text s (Draws (get_or rows i d))) was
     ∙ flat_map_more (line_text s) old (map Draws (take i rows)) (Draws (get_or rows i d))
     ∙ ap (λ (ls : List Line). old ++ lines_text s ls) (sym (map_more Draws rows i d within))
+
+-- the lines of a pass, after their three parts
+pub pass_whole : (s : Shape) (old one two three : List ℕ) (pass : Pass) → one ≡ old ++ line_text s (Begins pass.pass pass.picture pass.start)
+    → two ≡ one ++ lines_text s (event_lines pass.start pass.events) → three ≡ two ++ lines_text s (map Draws pass.rows)
+    → three ≡ old ++ pass_text s pass
+pass_whole s old one two three pass begun told drawn =
+    let begins = line_text s (Begins pass.pass pass.picture pass.start) in
+    let events = lines_text s (event_lines pass.start pass.events) in
+    let rows = lines_text s (map Draws pass.rows) in
+    drawn ∙ ap (λ t. t ++ rows) (told ∙ ap (λ t. t ++ events) begun) ∙ append_assoc (old ++ begins) events rows
+    ∙ append_assoc old begins (events ++ rows)
+    ∙ ap (λ t. old ++ (begins ++ t)) (sym (lines_text-append s (event_lines pass.start pass.events) (map Draws pass.rows)))

@@ -17,9 +17,9 @@ use Rattle.vt_journal.specs.declared.parse.JournalError.TheVariants.{BadLine}
 use Rattle.vt_journal.specs.Passes.{pass_of}
 use Rattle.vt_journal.specs.JournalText.{Pass, changes_of, event_lines, pass_lines, passes_changes}
 use Rattle.vt_journal.specs.JournalFlaws.{Reading, Admits, after, after_all, IsComplete, IsNextPicture, IsFlawFrom}
-use Rattle.vt_journal.specs.JournalReading.{IsCursor, IsLineRead, IsNoLine, Advances, IsRefusal, IsBetween, IsNextPass, IsInPass, IsAwaited, AreEventsRead, IsPassRead, IsHeadWhole, ArePassesRead, IsNoEvent, IsNoEventAt, reading_of, with_rows, head_reading}
+use Rattle.vt_journal.specs.JournalReading.{IsCursor, IsLineRead, IsNoLine, Advances, IsRefusal, IsBetween, IsNextPass, IsInPass, IsAwaited, AreEventsRead, IsPassFilled, IsPassRead, IsHeadWhole, ArePassesRead, IsNoEvent, IsNoEventAt, reading_of, with_rows, head_reading}
 use Rattle.vt_journal.proofs.Stepping.{advance_none, advance_more, advance_line, refused_later, refused_unread, refused_read, some_lines, after_all-append}
-use Rattle.vt_journal.proofs.Events.{after_events, reading_after}
+use Rattle.vt_journal.proofs.Events.{after_events, reading_after, refused_after}
 use Rattle.vt_journal.proofs.Rows.{after_rows}
 
 abbrev made : List Change → ℕ → ℕ → ℕ → List RowLine → Reading
@@ -155,16 +155,6 @@ module _ (s : Shape) (height : ℕ) (text : List ℕ) (r : Reading) (old mid : L
       ∙ sym (reading_after s height text old mid fresh pass at1 number1 at2 number2 a)
       ∙ ap (λ rs. made mid pass.pass pass.picture pass.start rs) (a.same.rows ∙ no_rows)
 
-  -- a refusal among its rows
-  pub rows_refused : (at number at1 number1 at2 number2 : ℕ) (e : JournalError)
-      → Advances s height text r at number (Begins fresh.pass fresh.picture fresh.start ∷ []) at1 number1
-      → AreEventsRead s height text old mid fresh pass at1 number1 at2 number2 → IsRefusal s height text (with_rows mid pass []) at2 number2 e
-      → IsRefusal s height text r at number e
-  rows_refused at number at1 number1 at2 number2 e begin a refusal =
-      refused_later s height text r at number (Begins fresh.pass fresh.picture fresh.start ∷ event_lines (length old) a.events) at2 number2 e
-      (begin_and_events at number at1 number1 at2 number2 begin a)
-      (subst (λ (r : Reading). IsRefusal s height text r at2 number2 e) (sym (told_is at1 number1 at2 number2 a)) refusal)
-
   -- all of it
   pub pass_read : (at number at1 number1 at2 number2 at3 number3 : ℕ) (rows : List RowLine) (whole : PassText)
       → Advances s height text r at number (Begins fresh.pass fresh.picture fresh.start ∷ []) at1 number1
@@ -200,6 +190,31 @@ module _ (s : Shape) (height : ℕ) (text : List ℕ) (r : Reading) (old mid : L
         forward = omega (arith, begin.forward, a.advances.forward, drawn.forward);
         advances = moved;
       }
+
+no_rows_left : (rows : List RowLine) → length rows ≡ 0 → rows ≡ []
+no_rows_left [] e = refl
+no_rows_left (row ∷ rows) e = absurd (omega (arith, e))
+
+-- a pass, by what was read between its first line and its end
+pub pass_filled : (s : Shape) (height : ℕ) (text : List ℕ) (r : Reading) (old mid : List Change) (passes before : ℕ) (fresh pass : PassText)
+    → IsBetween s height old passes before r → fresh.events.elements ≡ [] → fresh.rows.elements ≡ []
+    → (at number at1 number1 at2 number2 : ℕ) → Advances s height text r at number (Begins fresh.pass fresh.picture fresh.start ∷ []) at1 number1
+    → IsPassFilled s height text old mid fresh pass at1 number1 at2 number2 → fresh.picture ≤ fresh.pass
+    → IsPassRead s height text r old mid passes pass at number at2 number2
+pass_filled s height text r old mid passes before fresh pass between no_events no_rows at number at1 number1 at2 number2 begin filled low =
+    let rows = pass.rows.elements in
+    pass_read s height text r old mid passes before fresh filled.middle between no_events no_rows at number at1 number1 filled.rows_at
+    filled.rows_number at2 number2 rows pass begin filled.events filled.rows.advances filled.rows.count
+    (λ flat. filled.rows.no_event (no_rows_left rows (filled.rows.count ∙ flat))) filled.few low
+    filled.same.pass filled.same.picture filled.same.start filled.same.events refl
+
+-- a refusal among the rows of a pass that had none
+pub rows_refused : (s : Shape) (height : ℕ) (text : List ℕ) (old mid : List Change) (fresh pass : PassText) (at number at1 number1 : ℕ)
+    (e : JournalError) → fresh.rows.elements ≡ [] → AreEventsRead s height text old mid fresh pass at number at1 number1
+    → IsRefusal s height text (with_rows mid pass []) at1 number1 e → IsRefusal s height text (reading_of old fresh) at number e
+rows_refused s height text old mid fresh pass at number at1 number1 e no_rows a refusal =
+    refused_after s height text old mid fresh pass at number at1 number1 e a
+    (subst (λ (rs : List RowLine). IsRefusal s height text (with_rows mid pass rs) at1 number1 e) (sym (a.same.rows ∙ no_rows)) refusal)
 
 -- what a pass tells
 pub after_pass : (r : Reading) (pass : PassText)

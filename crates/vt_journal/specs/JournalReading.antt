@@ -139,6 +139,13 @@ pub record AreSameButEvents (before after : PassText) : Type 0 where
   pub start : after.start ≡ before.start
   pub rows : after.rows.elements ≡ before.rows.elements
 
+-- two texts of passes are one but for their rows
+pub record AreSameButRows (before after : PassText) : Type 0 where
+  pub pass : after.pass ≡ before.pass
+  pub picture : after.picture ≡ before.picture
+  pub start : after.start ≡ before.start
+  pub events : after.events.elements ≡ before.events.elements
+
 -- an event was added to a pass, and its change to a journal
 pub record IsEventAdded (before after : KeptView) (pass pass_after : PassText) (event : Event) : Type 0 where
   pub added : pass_after.events.elements ≡ pass.events.elements ++ event ∷ []
@@ -199,6 +206,24 @@ pub record IsRowRead (s : Shape) (height : ℕ) (text : List ℕ) (changes : Lis
   pub spare : rows.spare ≤ rows_after.spare + 1
   pub seen_are : AreSeen pass.start rows_after.elements seen_after
   pub advances : Advances s height text (with_rows changes pass rows.elements) at number (Draws row ∷ []) next_at next_number
+
+-- the rows of a pass were read, all that a picture has
+pub record AreRowsRead (s : Shape) (height : ℕ) (text : List ℕ) (changes : List Change) (pass : PassText)
+    (at number : ℕ) (rows : List RowLine) (next_at next_number : ℕ) : Type 0 where
+  pub count : length rows ≡ height
+  pub no_event : rows ≡ [] → IsNoEventAt s text next_at
+  pub advances : Advances s height text (with_rows changes pass []) at number (map Draws rows) next_at next_number
+
+-- the events and the rows of a pass were read, from one place to another: a pass has them, and a journal the changes
+pub record IsPassFilled (s : Shape) (height : ℕ) (text : List ℕ) (before after : List Change)
+    (pass pass_after : PassText) (at number next_at next_number : ℕ) : Type 0 where
+  pub middle : PassText
+  pub rows_at : ℕ
+  pub rows_number : ℕ
+  pub few : length after ≤ most_versions
+  pub events : AreEventsRead s height text before after pass middle at number rows_at rows_number
+  pub rows : AreRowsRead s height text after middle rows_at rows_number pass_after.rows.elements next_at next_number
+  pub same : AreSameButRows middle pass_after
 
 -- what was told between two passes: the changes, the number of passes and the picture of the last one
 pub record IsBetween (s : Shape) (height : ℕ) (changes : List Change) (passes picture : ℕ) (r : Reading) : Type 0 where

@@ -1,7 +1,9 @@
 -- What the text of a journal tells, once it is read.
-use Rattle.std.specs.Prelude.{◌≡◌, ℕ, List}
+use Rattle.std.specs.Prelude.{◌≡◌, ℕ, List, map}
 use Rattle.vt_pages.specs.Shape.{Shape}
 use Rattle.vt_journal.specs.declared.changes.Change.{Change}
+use Rattle.vt_journal.specs.declared.passes.PassText.{PassText}
+use Rattle.vt_journal.specs.Passes.{pass_of}
 use Rattle.vt_journal.specs.JournalText.{Content, journal_text, content_changes}
 use Rattle.vt_journal.specs.JournalFlaws.{IsLawful}
 
@@ -15,3 +17,8 @@ pub record IsJournalText (s : Shape) (height : ℕ) (text : List ℕ) (view : Te
   pub spelled : text ≡ journal_text s view.content
   pub lawful : IsLawful s height view.content
   pub changes_are : view.changes ≡ content_changes s view.content
+
+-- the text is that of so many pinned pages and these passes, and a journal has its changes
+abbrev pub IsTold : Shape → ℕ → List ℕ → ℕ → List PassText → List Change → Type 0
+IsTold s height text pinned passes changes =
+    IsJournalText s height text (record { content = record { pinned = pinned; passes = map pass_of passes }; changes = changes })

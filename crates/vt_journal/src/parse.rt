@@ -8,7 +8,7 @@ ghost use Rattle.vt_journal.specs.declared.changes.Change.{Change};
 ghost use Rattle.vt_journal.specs.declared.changes.RowLine.{RowLine};
 ghost use Rattle.vt_journal.specs.JournalText.{begin_fields, pair_fields, loss_fields, row_fields};
 ghost use Rattle.vt_journal.specs.declared.lines.Line.{Line};
-ghost use Rattle.vt_journal.specs.JournalReading.{Says, AreBeginNumbers, ArePairNumbers, AreRowNumbers};
+ghost use Rattle.vt_journal.specs.JournalReading.{Says, AreBeginNumbers, ArePairNumbers, AreRowNumbers, IsNumberAt};
 
 use crate::changes::{Change, RowLine};
 use crate::fields::{ends_before, has_word, number_at, page_at, small_at};
@@ -90,6 +90,13 @@ fn read_begin(line: &[u8]) -> Option<Begin>
     })
 }
 
+// The number of a frame that is a line's field `i`, if it is one.
+fn frame_at(line: &[u8], i: usize) -> Option<u32>
+    ensures { IsNumberAt line.now i 65534 result }
+{
+    small_at(line, i, MOST_FRAMES - 1)
+}
+
 // What a line says of a change, by the word that it begins with.
 fn read_pair(geometry: &Geometry, line: &[u8], word: &[u8]) -> Option<Pair>
     ensures { MatchOption result
@@ -106,7 +113,7 @@ fn read_pair(geometry: &Geometry, line: &[u8], word: &[u8]) -> Option<Pair>
     }
     let version = number_at(line, 1)?;
     let page = page_at(geometry, line, 2)?;
-    let frame = small_at(line, 5, MOST_FRAMES - 1)?;
+    let frame = frame_at(line, 5)?;
     Some(Pair {
         version,
         page,

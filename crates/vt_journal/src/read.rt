@@ -1,10 +1,10 @@
 //! The text of a journal, read line by line.
 
-ghost use Rattle.std.specs.Prelude.{◌≡◌, ◌⊎◌, [], ◌∷◌, ◌++◌, MatchResult};
-ghost use Rattle.vt_pages.specs.Pages.{IsWithinLimits};
-ghost use Rattle.vt_journal.specs.JournalReading.{IsCursor, IsRefusal, IsHeadWhole, AreAllPassesRead, head_reading};
-ghost use Rattle.vt_journal.specs.JournalFlaws.{IsJournalFlaw};
-ghost use Rattle.vt_journal.specs.Texts.{IsJournalText};
+ghost use Rattle.std.specs.Prelude.{◌≡◌, ◌⊎◌, ◌<◌, ◌^◌, [], ◌∷◌, ◌++◌, length, MatchResult};
+ghost use Rattle.vt_pages.specs.Pages.{IsWithinLimits, pages_of};
+ghost use Rattle.vt_journal.specs.JournalReading.{IsCursor, IsRefusal, IsSource, IsHeadWhole, AreAllPassesRead, head_reading};
+ghost use Rattle.vt_journal.specs.JournalFlaws.{IsJournalFlaw, nothing_read};
+ghost use Rattle.vt_journal.specs.Texts.{IsJournalText, IsTold};
 
 mod events;
 mod head;
@@ -73,6 +73,31 @@ fn read_passes(
     Ok(passes)
 }
 
+// What a text tells besides its changes.
+#[derive(Drop)]
+struct TextRead {
+    pinned: u32,
+    passes: Vec<PassText>,
+}
+
+// Reads the lines of the pinned pages and then all passes.
+fn read_all(alloc: Global, source: &Source, kept: &mut Kept) -> Result<TextRead, JournalError>
+    requires limits { IsSource source.now.geometry.now source.now.height }
+    requires none { kept.old.changes ≡ [] }
+    requires pages { kept.old.pages ≡ pages_of source.now.geometry.now }
+    ensures { MatchResult result
+        (λ t. (length t.passes.items < 2 ^ 32)
+        × IsTold source.now.geometry.now source.now.height source.now.text.now t.pinned t.passes.items kept.new.changes)
+        (IsRefusal source.now.geometry.now source.now.height source.now.text.now nothing_read 0 1) }
+{
+    let head = read_head(source, kept)?;
+    let passes = read_passes(alloc, source, kept, head.pinned, head.next)?;
+    Ok(TextRead {
+        pinned: head.pinned,
+        passes,
+    })
+}
+
 /// Reads the text of a journal, for the pages of a geometry and pictures of a height.
 pub fn read_text(
     alloc: Global,
@@ -91,7 +116,6 @@ pub fn read_text(
         text,
     };
     let mut kept = Kept::new(alloc, pages)?;
-    let head = read_head(&source, &mut kept)?;
-    let passes = read_passes(alloc, &source, &mut kept, head.pinned, head.next)?;
-    Ok(JournalText::from_parts(kept.into_journal(), head.pinned, passes))
+    let read = read_all(alloc, &source, &mut kept)?;
+    Ok(JournalText::from_parts(kept.into_journal(), read.pinned, read.passes))
 }

@@ -235,6 +235,25 @@ pub fn write_pass(alloc: Global, geometry: &Geometry, pass: &PassText) -> Result
     Ok(text)
 }
 
+// Appends the lines of the pinned pages.
+fn add_head(
+    text: &mut Vec<u8>,
+    geometry: &Geometry,
+    journal: &Journal,
+    pinned: u32,
+) -> Result<(), NoMemory>
+    requires { Pinned geometry.now journal.now.changes pinned }
+    ensures { OnOk result (text.new.items ≡ text.old.items ++ head_text geometry.now pinned) }
+{
+    for place in 0..pinned {
+        let version = u64::from(place) + 1;
+        let change = journal.change(version);
+        let made = Line::Makes { version, change };
+        add_line(text, geometry, made)?;
+    }
+    Ok(())
+}
+
 /// The text of the pinned pages, by which a journal begins: a line for each of its first `pinned` changes.
 pub fn write_head(
     alloc: Global,
@@ -246,10 +265,6 @@ pub fn write_head(
     ensures { IfOk result (λ v. v.items ≡ head_text geometry.now pinned) }
 {
     let mut text = Vec::new(alloc);
-    for place in 0..pinned {
-        let version = u64::from(place) + 1;
-        let change = journal.change(version);
-        add_line(&mut text, geometry, Line::Makes { version, change })?;
-    }
+    add_head(&mut text, geometry, journal, pinned)?;
     Ok(text)
 }

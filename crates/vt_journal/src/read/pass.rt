@@ -3,7 +3,7 @@
 ghost use Rattle.std.specs.Prelude.{◌≡◌, ◌+◌, ◌<◌, ◌≤◌, [], ◌∷◌, length, MatchResult, OnOk, IfOk};
 ghost use Rattle.std.specs.Bool.{MatchBool};
 ghost use Rattle.vt_journal.specs.declared.lines.Line.{Line};
-ghost use Rattle.vt_journal.specs.JournalReading.{IsCursor, IsRefusal, IsNoEventAt, IsBetween, IsNextPass, Advances, IsAwaited, IsPassRead};
+ghost use Rattle.vt_journal.specs.JournalReading.{IsCursor, IsRefusal, IsNoEventAt, IsBetween, IsNextPass, Advances, IsAwaited, IsInPass, IsPassFilled, IsPassRead, reading_of};
 ghost use Rattle.vt_journal.specs.JournalFlaws.{Reading, IsNextPicture};
 
 use crate::changes::{Events, RowLines};
@@ -90,6 +90,30 @@ fn read_begin(
     })
 }
 
+// Reads the events and the rows of a pass, and answers the place after them.
+fn fill_pass(
+    alloc: Global,
+    source: &Source,
+    kept: &mut Kept,
+    pinned: u32,
+    pass: &mut PassText,
+    cursor: Cursor,
+) -> Result<Cursor, JournalError>
+    requires cursor { IsCursor source.now.text.now cursor.at cursor.number }
+    requires in_pass { IsInPass source.now.geometry.now source.now.height kept.old.changes kept.old.pages pinned pass.old }
+    ensures { MatchResult result
+        (λ next. (kept.new.pages ≡ kept.old.pages)
+        × IsPassFilled source.now.geometry.now source.now.height source.now.text.now kept.old.changes kept.new.changes
+        pass.old pass.new cursor.at cursor.number next.at next.number)
+        (IsRefusal source.now.geometry.now source.now.height source.now.text.now (reading_of kept.old.changes pass.old)
+        cursor.at cursor.number) }
+{
+    let next = read_events(source, kept, pinned, pass, cursor)?;
+    let read = read_rows(alloc, source, kept, pass, next)?;
+    pass.rows = read.rows;
+    Ok(read.next)
+}
+
 /// A pass that was read, and what comes after it.
 #[derive(Drop)]
 pub struct PassRead {
@@ -127,11 +151,6 @@ pub fn read_pass(
         events: Events::new(alloc),
         rows: RowLines::new(alloc),
     };
-    let next = read_events(source, kept, pinned, &mut pass, begin.next)?;
-    let read = read_rows(alloc, source, kept, &pass, next)?;
-    pass.rows = read.rows;
-    Ok(PassRead {
-        pass,
-        next: read.next,
-    })
+    let next = fill_pass(alloc, source, kept, pinned, &mut pass, begin.next)?;
+    Ok(PassRead { pass, next })
 }

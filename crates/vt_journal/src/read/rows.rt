@@ -1,10 +1,9 @@
 //! The rows of a pass, read.
 
-ghost use Rattle.std.specs.Prelude.{◌≡◌, ◌+◌, ◌<◌, ◌≤◌, [], ◌∷◌, ◌++◌, length, map, slice_index, MatchResult};
+ghost use Rattle.std.specs.Prelude.{◌≡◌, ◌+◌, ◌<◌, ◌≤◌, [], ◌∷◌, ◌++◌, length, slice_index, MatchResult};
 ghost use Rattle.std.specs.Bool.{MatchBool};
 ghost use Rattle.vt_definitions.specs.Limits.{most_samplers};
-ghost use Rattle.vt_journal.specs.declared.lines.Line.{Line};
-ghost use Rattle.vt_journal.specs.JournalReading.{IsCursor, IsRefusal, IsSmall, IsNoEventAt, IsRowInTurn, AreSeen, AreRowsBegun, IsRowRead, Advances, with_rows};
+ghost use Rattle.vt_journal.specs.JournalReading.{IsCursor, IsRefusal, IsSmall, IsNoEventAt, IsRowInTurn, AreSeen, AreRowsBegun, IsRowRead, AreRowsRead, with_rows};
 
 use crate::changes::{RowLine, RowLines};
 use crate::kept::Kept;
@@ -24,7 +23,10 @@ fn is_row_in_turn(rows: usize, seen: &[u64], version: u64, row: RowLine) -> bool
     if row.row as usize != rows {
         return false;
     }
-    seen[row.sampler as usize] <= row.version && row.version <= version
+    if seen[row.sampler as usize] > row.version {
+        return false;
+    }
+    row.version <= version
 }
 
 // Adds a row that comes next.
@@ -83,6 +85,34 @@ fn unseen(start: u64) -> [u64; MOST_SAMPLERS]
     [start; MOST_SAMPLERS]
 }
 
+// Reads the rows of a pass into a list with room for them.
+fn read_into(
+    source: &Source,
+    kept: &Kept,
+    pass: &PassText,
+    rows: &mut RowLines,
+    cursor: Cursor,
+) -> Result<Cursor, JournalError>
+    requires cursor { IsCursor source.now.text.now cursor.at cursor.number }
+    requires small { IsSmall source.now.geometry.now source.now.height (with_rows kept.now.changes pass.now []) }
+    requires in_pass { 1 ≤ pass.now.pass }
+    requires no_event { IsNoEventAt source.now.geometry.now source.now.text.now cursor.at }
+    requires none { rows.old.elements ≡ [] }
+    requires room { source.now.height ≤ rows.old.spare }
+    ensures { MatchResult result
+        (λ next. AreRowsRead source.now.geometry.now source.now.height source.now.text.now kept.now.changes pass.now
+        cursor.at cursor.number rows.new.elements next.at next.number)
+        (IsRefusal source.now.geometry.now source.now.height source.now.text.now (with_rows kept.now.changes pass.now [])
+        cursor.at cursor.number) }
+{
+    let mut seen = unseen(pass.start);
+    let mut place = cursor;
+    'rows: while rows.len() < source.height as usize {
+        place = read_row(source, kept, pass, rows, &mut seen, place)?;
+    }
+    Ok(place)
+}
+
 /// The rows of a pass that were read, and what comes after them.
 #[derive(Drop)]
 pub struct RowsRead {
@@ -103,19 +133,13 @@ pub fn read_rows(
     requires in_pass { 1 ≤ pass.now.pass }
     requires no_event { IsNoEventAt source.now.geometry.now source.now.text.now cursor.at }
     ensures { MatchResult result
-        (λ r. (length r.rows.elements ≡ source.now.height)
-        × (r.rows.elements ≡ [] → IsNoEventAt source.now.geometry.now source.now.text.now r.next.at)
-        × Advances source.now.geometry.now source.now.height source.now.text.now (with_rows kept.now.changes pass.now [])
-        cursor.at cursor.number (map Line.Draws r.rows.elements) r.next.at r.next.number)
+        (λ r. AreRowsRead source.now.geometry.now source.now.height source.now.text.now kept.now.changes pass.now
+        cursor.at cursor.number r.rows.elements r.next.at r.next.number)
         (IsRefusal source.now.geometry.now source.now.height source.now.text.now (with_rows kept.now.changes pass.now [])
         cursor.at cursor.number) }
 {
     let mut rows = RowLines::new(alloc);
     rows.reserve(u64::from(source.height))?;
-    let mut seen = unseen(pass.start);
-    let mut place = cursor;
-    'rows: while rows.len() < source.height as usize {
-        place = read_row(source, kept, pass, &mut rows, &mut seen, place)?;
-    }
-    Ok(RowsRead { rows, next: place })
+    let next = read_into(source, kept, pass, &mut rows, cursor)?;
+    Ok(RowsRead { rows, next })
 }

@@ -1,4 +1,4 @@
-use Rattle.std.proofs.Common.{rules, ℕ, ◌++◌, List, map, ap, ◌∙◌}
+use Rattle.std.proofs.Common.{rules, ◌++◌, List, map, ap, ◌∙◌}
 use Rattle.std.proofs.lemmas.List.{take_all}
 use Rattle.vt_journal.specs.declared.changes.RowLine.{RowLine}
 use Rattle.vt_journal.specs.declared.lines.Line.TheVariants.{Draws}

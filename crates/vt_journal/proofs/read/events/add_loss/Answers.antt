@@ -1,6 +1,5 @@
 use Rattle.std.proofs.Common.{refl, ◌++◌, ◌∷◌, [], ap, ◌∙◌, sym}
 use Rattle.std.proofs.lemmas.List.{append-nil}
-use Rattle.vt_journal.specs.declared.changes.Event.{Event}
 use Rattle.vt_journal.specs.declared.changes.Event.TheVariants.{Lost}
 use Rattle.vt_journal.proofs.read.events.add_loss.Goals as goal
 

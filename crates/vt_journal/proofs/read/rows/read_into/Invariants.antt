@@ -1,7 +1,7 @@
 use Rattle.std.proofs.Common.{◌≡◌, ◌-◌, ◌+◌, ◌≤◌, [], length, map}
 use Rattle.vt_journal.specs.declared.lines.Line.TheVariants.{Draws}
 use Rattle.vt_journal.specs.JournalReading.{AreRowsBegun, Advances, with_rows, IsNoEventAt}
-use Rattle.vt_journal.proofs.read.rows.read_rows.Given as goal
+use Rattle.vt_journal.proofs.read.rows.read_into.Given as goal
 
 abbrev pub invariant-rows : goal.invariant-rows
 invariant-rows l = record {

@@ -1,21 +1,29 @@
-use Rattle.std.proofs.Common.{rules, ◌≡◌, [], length, arith, ap, ◌∙◌}
+use Rattle.std.proofs.Common.{rules, length, arith, ap}
 use Rattle.vt_journal.specs.declared.changes.RowLine.{RowLine}
 use Rattle.vt_journal.proofs.Rows.{begun_first, begun_more, rows_count, row_refused_later, moved_rows, rows_none}
-use Rattle.vt_journal.proofs.read.rows.read_rows.Goals as goal
+use Rattle.vt_journal.proofs.read.rows.read_into.Goals as goal
 
 pub rows-init : goal.rows-init
 rows-init c =
     let src = c.args.source.now in
-    let none : c.reserve.new.self.elements ≡ [] = c.in_ok-reserve.ensures.elements ∙ c.new-rows.ensures in
+    let none = c.requires.none in
+    let rows = c.args.rows.now.elements in
     record {
       most = omega (arith, ap (λ rows. length {A = RowLine} rows) none);
-      room = omega (arith, c.in_ok-reserve.ensures.room, c.from.ensures);
-      begun = begun_first src.geometry.now src.height c.args.kept.now.changes c.args.pass.now c.reserve.new.self.elements c.unseen-seen.result none
+      room = omega (arith, c.requires.room);
+      begun = begun_first src.geometry.now src.height c.args.kept.now.changes c.args.pass.now rows c.unseen-seen.result none
           c.requires.small c.requires.in_pass c.unseen-seen.ensures;
       first = λ _. c.requires.no_event;
       advances = rows_none src.geometry.now src.height src.text.now c.args.kept.now.changes c.args.pass.now c.args.cursor.at c.args.cursor.number
-          c.reserve.new.self.elements none c.requires.cursor;
+          rows none c.requires.cursor;
     }
+
+pub returns : goal.returns
+returns c = record {
+  count = omega (arith, c.rows.invariant.most, c.rows-test.false, c.len.ensures);
+  no_event = c.rows.invariant.first;
+  advances = c.rows.invariant.advances;
+}
 
 pub returns-in_err-place : goal.returns-in_err-place
 returns-in_err-place c =
