@@ -11,31 +11,38 @@ use vt_camera::{Camera, Path, Row, Surface, parse_path};
 
 // Whether a path has these numbers: its width, its height, its focal length and the number of its pictures.
 fn has_numbers(path: &Path, want: (u32, u32, u32, u32)) -> bool {
-    path.width() == want.0
-        && path.height() == want.1
-        && path.focal() == want.2
-        && path.pictures() == want.3
+    (path.width(), path.height(), path.focal(), path.pictures()) == want
 }
 
-// Whether a text is a path of these numbers, whose first picture has this camera.
-fn begins_with(alloc: Global, text: &[u8], numbers: (u32, u32, u32, u32), camera: Camera) -> bool {
+// Whether a text is a path of these numbers, of which a picture has this camera.
+fn has_camera(
+    alloc: Global,
+    text: &[u8],
+    numbers: (u32, u32, u32, u32),
+    picture: u32,
+    camera: Camera,
+) -> bool {
     match parse_path(alloc, text) {
-        Ok(path) => has_numbers(&path, numbers) && 0 < path.pictures() && path.camera(0) == camera,
+        Ok(path) => {
+            has_numbers(&path, numbers)
+                && picture < path.pictures()
+                && path.camera(picture) == camera
+        }
         Err(_) => false,
     }
 }
 
 #[test]
 fn a_path_gives_its_parts(rt: HostRuntime) {
-    let text = b"size 2048 1\nfocal 4096\nat -2147483648 2147483648 16777216 16384 -16384\n";
-    let camera = Camera {
+    const CAMERA: Camera = Camera {
         u: -2147483648,
         v: 2147483648,
         h: 16777216,
         c: 16384,
         s: -16384,
     };
-    assert!(rt; begins_with(rt.alloc(), text, (2048, 1, 4096, 1), camera));
+    let text = b"size 2048 1\nfocal 4096\nat -2147483648 2147483648 16777216 16384 -16384\n";
+    assert!(rt; has_camera(rt.alloc(), text, (2048, 1, 4096, 1), 0, CAMERA),);
 }
 
 // A row of the first picture of a path: the path's text, the width of its pictures, the row, its level, and its first texels, as
@@ -68,12 +75,21 @@ fn has_texels(row: &Row, width: u32, texels: &[(u32, u32)], in_level: &[(u32, u3
 fn is_row(path: &Path, surface: &Surface, seen: &Seen) -> bool
     requires { IsSurface surface.now }
 {
-    let (_, width, y, level, texels, in_level) = *seen;
-    if path.pictures() < 1 || path.width() != width || y >= path.height() {
+    if path.pictures() < 1 || path.width() != seen.1 || seen.2 >= path.height() {
         return false;
     }
-    let row = Row::of(path, &path.camera(0), y, surface);
-    row.level() == level && has_texels(&row, width, texels, in_level)
+    let row = Row::of(path, &path.camera(0), seen.2, surface);
+    row.level() == seen.3 && has_texels(&row, seen.1, seen.4, seen.5)
+}
+
+// Whether a text is a path that has this row.
+fn has_row(alloc: Global, surface: &Surface, seen: &Seen) -> bool
+    requires { IsSurface surface.now }
+{
+    match parse_path(alloc, seen.0) {
+        Ok(path) => is_row(&path, surface, seen),
+        Err(_) => false,
+    }
 }
 
 // The first of these rows that is another over this surface.
@@ -81,13 +97,8 @@ fn other_row(alloc: Global, surface: &Surface, rows: &[Seen]) -> Option<usize>
     requires { IsSurface surface.now }
 {
     for i in 0..rows.len() {
-        match parse_path(alloc, rows[i].0) {
-            Ok(path) => {
-                if !is_row(&path, surface, &rows[i]) {
-                    return Some(i);
-                }
-            }
-            Err(_) => return Some(i),
+        if !has_row(alloc, surface, &rows[i]) {
+            return Some(i);
         }
     }
     None
