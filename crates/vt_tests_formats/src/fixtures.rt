@@ -32,3 +32,17 @@ pub fn joined(alloc: Global, front: &str, lines: &str) -> Result<String, AllocEr
     text.push_str(lines)?;
     Ok(text)
 }
+
+/// A front, one byte so many times, and what follows it.
+pub fn around(
+    alloc: Global,
+    front: &[u8],
+    byte: u8,
+    count: usize,
+    rest: &[u8],
+) -> Result<Vec<u8>, AllocError> {
+    let mut bytes = Vec::from_slice(alloc, front)?;
+    bytes.resize(front.len().saturating_add(count), byte)?;
+    bytes.extend_from_slice(rest)?;
+    Ok(bytes)
+}

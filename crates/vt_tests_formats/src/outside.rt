@@ -1,6 +1,6 @@
 //! Files, folders and sinks, in memory and of the system.
 
-use crate::fixtures::{folder_of, sink_failing_at};
+use crate::fixtures::{folder_of, no_row_is_wrong, sink_failing_at};
 use std::alloc::Global;
 use std::{env, fs, io, process};
 use vt_outside::*;
@@ -92,38 +92,72 @@ fn an_empty_list_of_what_may_not_be_dropped_ends(rt: HostRuntime) {
     assert!(rt; has_room);
 }
 
-// Whether a name that is made anew is empty, and keeps what is added to it.
-fn keeps_what_is_added(alloc: Global) -> bool {
-    let Ok(mut folder) = holding(alloc, &[], b"old") else {
-        return false;
-    };
-    creates(&mut folder, "a")
-        && folder.holds("a", b"")
-        && appends(&mut folder, "a", b"one ")
-        && appends(&mut folder, "a", b"two")
-        && folder.holds("a", b"one two")
+// What is asked of a folder in memory.
+#[derive(Clone, Copy)]
+enum Asked {
+    Creates,
+    Appends,
+    Opens,
+    Holds,
+    HasNot,
+}
+
+// Something asked of a folder for a name and bytes, and whether it is so.
+type Step = (Asked, &'static str, &'static [u8], bool);
+
+// Whether what is asked of a folder for a name and bytes is so.
+fn is_so(folder: &mut MemoryFolder, asked: Asked, name: &str, bytes: &[u8]) -> bool {
+    match asked {
+        Asked::Creates => folder.create(name).is_ok(),
+        Asked::Appends => folder.append(name, bytes).is_ok(),
+        Asked::Opens => opens(folder, name),
+        Asked::Holds => folder.holds(name, bytes),
+        Asked::HasNot => folder.bytes_of(name).is_none(),
+    }
+}
+
+// The first of these steps that is otherwise.
+fn other_step(folder: &mut MemoryFolder, steps: &[Step]) -> Option<usize> {
+    for i in 0..steps.len() {
+        let (asked, name, bytes, want) = steps[i];
+        if is_so(folder, asked, name, bytes) != want {
+            return Some(i);
+        }
+    }
+    None
+}
+
+// The first of these steps that is otherwise in a folder in which `a` holds these bytes, and of which these calls fail.
+fn misstep(alloc: Global, calls: &[Fail], bytes: &[u8], steps: &[Step]) -> Option<usize> {
+    match holding(alloc, calls, bytes) {
+        Ok(mut folder) => other_step(&mut folder, steps),
+        Err(_) => Some(0),
+    }
 }
 
 #[test]
 fn a_name_is_made_and_added_to(rt: HostRuntime) {
-    assert!(rt; keeps_what_is_added(rt.alloc()));
+    const STEPS: [Step; 5] = [
+        (Asked::Creates, "a", b"", true),
+        (Asked::Holds, "a", b"", true),
+        (Asked::Appends, "a", b"one ", true),
+        (Asked::Appends, "a", b"two", true),
+        (Asked::Holds, "a", b"one two", true),
+    ];
+    no_row_is_wrong(&rt, misstep(rt.alloc(), &[], b"old", &STEPS));
 }
 
-// Whether a missing name is refused until it is made, and the other one stays as it is.
-fn refuses_a_missing_name(alloc: Global) -> bool {
-    let Ok(mut folder) = holding(alloc, &[], b"old") else {
-        return false;
-    };
-    !appends(&mut folder, "b", b"x")
-        && !opens(&mut folder, "b")
-        && folder.bytes_of("b").is_none()
-        && creates(&mut folder, "b")
-        && folder.holds("a", b"old")
-}
-
+// It is refused until it is made, and the other one stays as it is.
 #[test]
 fn a_missing_name_is_refused(rt: HostRuntime) {
-    assert!(rt; refuses_a_missing_name(rt.alloc()));
+    const STEPS: [Step; 5] = [
+        (Asked::Appends, "b", b"x", false),
+        (Asked::Opens, "b", b"", false),
+        (Asked::HasNot, "b", b"", true),
+        (Asked::Creates, "b", b"", true),
+        (Asked::Holds, "a", b"old", true),
+    ];
+    no_row_is_wrong(&rt, misstep(rt.alloc(), &[], b"old", &STEPS));
 }
 
 // `a`, opened twice.
@@ -185,25 +219,20 @@ fn closed_files_leave_their_places(rt: HostRuntime) {
     assert!(rt; keeps_places(rt.alloc()));
 }
 
-// Whether a folder fails at the second opening, the first creation and the second addition.
-fn fails_at_its_list(alloc: Global) -> bool {
-    let calls = [Fail::Open(1), Fail::Create(0), Fail::Append(1)];
-    let Ok(mut folder) = holding(alloc, &calls, b"ab") else {
-        return false;
-    };
-    // Of the bytes of the refused addition three of seven stay.
-    opens(&mut folder, "a")
-        && !opens(&mut folder, "a")
-        && opens(&mut folder, "a")
-        && !creates(&mut folder, "a")
-        && appends(&mut folder, "a", b"c")
-        && !appends(&mut folder, "a", b"defghij")
-        && folder.holds("a", b"abcdef")
-}
-
+// The second opening, the first creation and the second addition fail; of the bytes of the refused addition three of seven stay.
 #[test]
 fn a_folder_fails_at_its_list(rt: HostRuntime) {
-    assert!(rt; fails_at_its_list(rt.alloc()));
+    const CALLS: [Fail; 3] = [Fail::Open(1), Fail::Create(0), Fail::Append(1)];
+    const STEPS: [Step; 7] = [
+        (Asked::Opens, "a", b"", true),
+        (Asked::Opens, "a", b"", false),
+        (Asked::Opens, "a", b"", true),
+        (Asked::Creates, "a", b"", false),
+        (Asked::Appends, "a", b"c", true),
+        (Asked::Appends, "a", b"defghij", false),
+        (Asked::Holds, "a", b"abcdef", true),
+    ];
+    no_row_is_wrong(&rt, misstep(rt.alloc(), &CALLS, b"ab", &STEPS));
 }
 
 // Whether the length of the second opening and the second read of the first fail, and nothing else.

@@ -11,28 +11,11 @@ const NOT_DECIMAL: Result<i64, TextError> = Err(TextError::NotDecimal);
 // The answer is that a number is out of its bounds.
 const PAST: Result<i64, TextError> = Err(TextError::OutOfRange);
 
-// Whether the line that begins at a place of a text ends there.
-fn ends_at(text: &[u8], at: usize, want: Option<usize>) -> bool {
-    at <= text.len() && next_line(text, at) == want
-}
-
-#[test]
-fn lines_end_at_line_feeds(rt: HostRuntime) {
-    let text = b"ab\n\nc";
-    assert!(rt;
-        ends_at(text, 0, Some(2))
-            && ends_at(text, 2, Some(2))
-            && ends_at(text, 3, Some(3))
-            && ends_at(text, 4, None)
-            && ends_at(text, 5, None)
-            && ends_at(b"", 0, None)
-    );
-}
-
-// The first field of a line that is another than these are in turn.
-fn other_field(line: &[u8], fields: &[&[u8]]) -> Option<usize> {
-    for i in 0..fields.len() {
-        if field(line, i) != Some(fields[i]) {
+// The first of these texts of which the line that begins at a place ends elsewhere.
+fn other_end(rows: &[(&[u8], usize, Option<usize>)]) -> Option<usize> {
+    for i in 0..rows.len() {
+        let (text, at, want) = rows[i];
+        if at > text.len() || next_line(text, at) != want {
             return Some(i);
         }
     }
@@ -40,13 +23,35 @@ fn other_field(line: &[u8], fields: &[&[u8]]) -> Option<usize> {
 }
 
 #[test]
+fn lines_end_at_line_feeds(rt: HostRuntime) {
+    const TEXT: &[u8] = b"ab\n\nc";
+    const ROWS: [(&[u8], usize, Option<usize>); 6] = [
+        (TEXT, 0, Some(2)),
+        (TEXT, 2, Some(2)),
+        (TEXT, 3, Some(3)),
+        (TEXT, 4, None),
+        (TEXT, 5, None),
+        (b"", 0, None),
+    ];
+    no_row_is_wrong(&rt, other_end(&ROWS));
+}
+
+// Whether a line has these fields, and no more.
+fn has_fields(line: &[u8], fields: &[&[u8]]) -> bool {
+    for i in 0..fields.len() {
+        if field(line, i) != Some(fields[i]) {
+            return false;
+        }
+    }
+    field(line, fields.len()).is_none() && field(line, usize::MAX).is_none()
+}
+
+#[test]
 fn fields_stand_between_single_blanks(rt: HostRuntime) {
-    const FIELDS: [&[u8]; 5] = [b"", b"at", b"", b"5", b""];
-    let line = b" at  5 ";
-    assert!(rt; field(b"", 0) == Some(b"") && field(b"", 1).is_none());
-    no_row_is_wrong(&rt, other_field(line, &FIELDS));
-    assert!(rt; field(line, 5).is_none() && field(line, usize::MAX).is_none());
-    fields_join(line);
+    const LINE: &[u8] = b" at  5 ";
+    assert!(rt; has_fields(b"", &[b""]));
+    assert!(rt; has_fields(LINE, &[b"", b"at", b"", b"5", b""]));
+    fields_join(LINE);
 }
 
 // The first row of which the field is read otherwise between its bounds.

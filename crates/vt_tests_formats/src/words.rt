@@ -3,91 +3,79 @@
 mod journals;
 
 use crate::fixtures::no_row_is_wrong;
-use std::alloc::{AllocError, Global};
+use std::alloc::Global;
 use std::process::Abort;
+use vt_text::lines::field;
+use vt_text::numbers::decimal;
 use vt_words::{
-    Command, GenWords, PlainWords, ReplayWords, TileWords, UpgradeWords, WalkWords, WordsError,
-    is_picture_name, picture_name, read_command,
+    Command, GenWords, PlainWords, ReplayWords, TileWords, WalkWords, WordsError, is_picture_name,
+    picture_name, read_command,
 };
 
-// Adds words, with these marks before and behind each.
-fn add_words(
-    shown: &mut String,
-    before: &str,
-    words: &[&str],
-    behind: &str,
-) -> Result<(), AllocError> {
-    for word in words {
-        shown.push_str(before)?;
-        shown.push_str(word)?;
-        shown.push_str(behind)?;
+// Whether the fields of a text from one on are these words.
+fn are_words(text: &[u8], first: usize, words: &[&str]) -> bool {
+    for i in 0..words.len() {
+        if field(text, first.saturating_add(i)) != Some(words[i].as_bytes()) {
+            return false;
+        }
     }
-    Ok(())
+    true
 }
 
-// Adds numbers, a blank before each.
-fn add_numbers(alloc: Global, shown: &mut String, numbers: &[u32]) -> Result<(), AllocError> {
-    for number in numbers {
-        shown.push_str(format!(in alloc; " {number}")?.as_str())?;
+// Whether a field of a text is this number.
+fn is_number(text: &[u8], i: usize, number: u32) -> bool {
+    match field(text, i) {
+        Some(field) => decimal(field, 0, 65535) == Ok(i64::from(number)),
+        None => false,
     }
-    Ok(())
 }
 
-// The name of a command, then words with these marks before and behind each, and numbers with a blank before each.
-fn named(
-    alloc: Global,
-    name: &str,
-    before: &str,
-    words: &[&str],
-    behind: &str,
-    numbers: &[u32],
-) -> Result<String, AllocError> {
-    let mut shown = String::from_str(alloc, name)?;
-    add_words(&mut shown, before, words, behind)?;
-    add_numbers(alloc, &mut shown, numbers)?;
-    Ok(shown)
+// Whether the fields of a text from one on are these numbers.
+fn are_numbers(text: &[u8], first: usize, numbers: &[u32]) -> bool {
+    for i in 0..numbers.len() {
+        if !is_number(text, first.saturating_add(i), numbers[i]) {
+            return false;
+        }
+    }
+    true
 }
 
-fn plain_shown(alloc: Global, read: &PlainWords<'_>) -> Result<String, AllocError> {
-    let names = [read.texture, read.path, read.prefix];
-    named(alloc, "plain", " ", &names, "", &[read.tile])
+// Whether the fields of a text are these words, then these numbers, then these words, and no more.
+fn is_told(text: &[u8], words: &[&str], numbers: &[u32], last: &[&str]) -> bool {
+    let behind = words.len() + numbers.len();
+    are_words(text, 0, words)
+        && are_numbers(text, words.len(), numbers)
+        && are_words(text, behind, last)
+        && field(text, behind + last.len()).is_none()
 }
 
-fn tile_shown(alloc: Global, read: &TileWords<'_>) -> Result<String, AllocError> {
-    let names = [read.texture, read.store];
-    named(alloc, "tile", " ", &names, "", &[read.tile])
+fn is_plain(text: &[u8], read: &PlainWords<'_>) -> bool {
+    let words = ["plain", read.texture, read.path, read.prefix];
+    is_told(text, &words, &[read.tile], &[])
 }
 
-fn info_shown(alloc: Global, store: &str) -> Result<String, AllocError> {
-    named(alloc, "info", " ", &[store], "", &[])
+fn is_tile(text: &[u8], read: &TileWords<'_>) -> bool {
+    is_told(text, &["tile", read.texture, read.store], &[read.tile], &[])
 }
 
-fn gen_shown(alloc: Global, read: &GenWords<'_>) -> Result<String, AllocError> {
+fn is_gen(text: &[u8], read: &GenWords<'_>) -> bool {
     let numbers = [read.number, read.width, read.height];
-    let mut shown = named(alloc, "gen", "", &[], "", &numbers)?;
-    shown.push_str(" ")?;
-    shown.push_str(read.name)?;
-    Ok(shown)
+    is_told(text, &["gen"], &numbers, &[read.name])
 }
 
-fn trial_shown(alloc: Global, number: u32) -> Result<String, AllocError> {
-    named(alloc, "trial", "", &[], "", &[number])
+fn is_replay(text: &[u8], read: &ReplayWords<'_>) -> bool {
+    let words = ["replay", read.store, read.path, read.journal, read.prefix];
+    is_told(text, &words, &[], &[])
 }
 
-fn upgrade_shown(alloc: Global, read: &UpgradeWords<'_>) -> Result<String, AllocError> {
-    let names = [read.store, read.new_store];
-    named(alloc, "upgrade", " ", &names, "", &[])
+// Whether a text is the name of a command and these words.
+fn is_of_words(text: &[u8], words: &[&str]) -> bool {
+    is_told(text, words, &[], &[])
 }
 
-// The four names of a replay.
-fn replay_shown(alloc: Global, read: &ReplayWords<'_>) -> Result<String, AllocError> {
-    let names = [read.store, read.path, read.journal, read.prefix];
-    named(alloc, "replay ", "", &names, ",", &[])
-}
-
-// The names of a walk, then its numbers in the order in which they are told.
-fn walk_shown(alloc: Global, read: &WalkWords<'_>) -> Result<String, AllocError> {
-    let names = [read.store, read.path, read.prefix, read.journal];
+// Whether a text is the names of a walk, then its numbers in the order in which they are told.
+fn is_walk(text: &[u8], read: &WalkWords<'_>) -> bool {
+    let words = ["walk", read.store, read.path, read.prefix, read.journal];
     let numbers = [
         read.frames,
         read.samplers,
@@ -95,181 +83,193 @@ fn walk_shown(alloc: Global, read: &WalkWords<'_>) -> Result<String, AllocError>
         read.batch,
         read.pinned,
     ];
-    let mut shown = named(alloc, "walk ", "", &names, ",", &numbers)?;
     if read.settled {
-        shown.push_str(" settled")?;
-    }
-    Ok(shown)
-}
-
-// The answer as a text: the command and its values.
-fn answer(alloc: Global, words: &[String]) -> Result<String, AllocError> {
-    match read_command(alloc, words) {
-        Ok(Command::Plain(read)) => plain_shown(alloc, &read),
-        Ok(Command::Tile(read)) => tile_shown(alloc, &read),
-        Ok(Command::Info(read)) => info_shown(alloc, read.store),
-        Ok(Command::Gen(read)) => gen_shown(alloc, &read),
-        Ok(Command::Trial(read)) => trial_shown(alloc, read.number),
-        Ok(Command::Upgrade(read)) => upgrade_shown(alloc, &read),
-        Ok(Command::Replay(read)) => replay_shown(alloc, &read),
-        Ok(Command::Walk(read)) => walk_shown(alloc, &read),
-        Err(WordsError::Usage) => String::from_str(alloc, "usage"),
-        Err(WordsError::NoMemory) => String::from_str(alloc, "memory"),
+        is_told(text, &words, &numbers, &["settled"])
+    } else {
+        is_told(text, &words, &numbers, &[])
     }
 }
 
-// Words as they are typed.
-fn typed(alloc: Global, words: &[&str]) -> Result<Vec<String>, AllocError> {
-    let mut list = Vec::new(alloc);
-    for word in words {
-        list.push(String::from_str(alloc, word)?)?;
+// Whether a text tells a command and its values.
+fn is_command(text: &[u8], command: &Command<'_>) -> bool {
+    match command {
+        Command::Plain(read) => is_plain(text, read),
+        Command::Tile(read) => is_tile(text, read),
+        Command::Info(read) => is_of_words(text, &["info", read.store]),
+        Command::Gen(read) => is_gen(text, read),
+        Command::Trial(read) => is_told(text, &["trial"], &[read.number], &[]),
+        Command::Upgrade(read) => is_of_words(text, &["upgrade", read.store, read.new_store]),
+        Command::Replay(read) => is_replay(text, read),
+        Command::Walk(read) => is_walk(text, read),
     }
-    Ok(list)
 }
 
 // Whether words are answered by this text.
-fn is_read(alloc: Global, words: &[&str], want: &str) -> bool {
-    let Ok(list) = typed(alloc, words) else {
+fn is_answer(alloc: Global, words: &[String], text: &[u8]) -> bool {
+    match read_command(alloc, words) {
+        Ok(command) => is_command(text, &command),
+        Err(refusal) => refusal == WordsError::Usage && text == b"usage".as_slice(),
+    }
+}
+
+// Adds a word, where there is memory for it.
+fn is_added(alloc: Global, words: &mut Vec<String>, word: &[u8]) -> bool {
+    let Ok(word) = str::from_utf8(word) else {
         return false;
     };
-    match answer(alloc, list.as_slice()) {
-        Ok(shown) => shown.as_str() == want,
+    match String::from_str(alloc, word) {
+        Ok(word) => words.push(word).is_ok(),
         Err(_) => false,
     }
 }
 
-// The first of the cases that is answered otherwise than by its second text.
-fn misread(alloc: Global, cases: &[(&[&str], &str)]) -> Option<usize> {
-    for i in 0..cases.len() {
-        let (words, want) = cases[i];
-        if !is_read(alloc, words, want) {
+// Adds the words behind the program's name in a line that is typed, which single blanks separate.
+fn are_added(alloc: Global, words: &mut Vec<String>, line: &[u8]) -> bool {
+    for i in 1..line.len() {
+        match field(line, i) {
+            Some(word) => {
+                if !is_added(alloc, words, word) {
+                    return false;
+                }
+            }
+            None => return true,
+        }
+    }
+    false
+}
+
+// Whether a line that is typed is answered by this text.
+fn is_read(alloc: Global, line: &str, text: &str) -> bool {
+    let mut words = Vec::new(alloc);
+    are_added(alloc, &mut words, line.as_bytes()) && is_answer(alloc, &words, text.as_bytes())
+}
+
+// The first of these lines that is answered otherwise than by the text beside it.
+fn misread(alloc: Global, rows: &[(&str, &str)]) -> Option<usize> {
+    for i in 0..rows.len() {
+        if !is_read(alloc, rows[i].0, rows[i].1) {
             return Some(i);
         }
     }
     None
 }
 
-/// Looks that each of the cases is answered by its second text.
-pub fn are_read(rt: &impl Abort, alloc: Global, cases: &[(&[&str], &str)]) {
-    no_row_is_wrong(rt, misread(alloc, cases));
+/// Looks that each of these lines, which begin with the program's name, is answered by the text beside it: the name of the command and
+/// its values, a blank between any two.
+pub fn are_read(rt: &impl Abort, alloc: Global, rows: &[(&str, &str)]) {
+    no_row_is_wrong(rt, misread(alloc, rows));
 }
 
 #[test]
 fn the_tile_side_is_one_of_seven_and_else_64(rt: HostRuntime) {
-    const CASES: [(&[&str], &str); 16] = [
-        (&["plain", "t", "p", "x"], "plain t p x 64"),
-        (&["tile", "t", "s"], "tile t s 64"),
-        (&["tile", "t", "s", "--tile", "2"], "tile t s 2"),
-        (&["tile", "t", "s", "--tile", "128"], "tile t s 128"),
-        (&["tile", "t", "s", "--tile", "1"], "usage"),
-        (&["tile", "t", "s", "--tile", "129"], "usage"),
-        (&["tile", "t", "s", "--tile", "256"], "usage"),
-        (&["tile", "t", "s", "--tile", "3"], "usage"),
-        (&["tile", "t", "s", "--tile", "08"], "usage"),
-        (&["tile", "t", "s", "--tile="], "usage"),
-        (&["tile", "t", "s", "--tile=8"], "tile t s 8"),
-        (&["tile", "--tile", "16", "t", "s"], "tile t s 16"),
-        (&["plain", "t", "--tile=32", "p", "x"], "plain t p x 32"),
-        (&["tile", "t", "s", "--tile", "8", "--tile", "8"], "usage"),
-        (&["tile", "t", "s", "--tile"], "usage"),
-        (&["tile", "t", "s", "--til", "8"], "usage"),
+    const CASES: [(&str, &str); 16] = [
+        ("vtex plain t p x", "plain t p x 64"),
+        ("vtex tile t s", "tile t s 64"),
+        ("vtex tile t s --tile 2", "tile t s 2"),
+        ("vtex tile t s --tile 128", "tile t s 128"),
+        ("vtex tile t s --tile 1", "usage"),
+        ("vtex tile t s --tile 129", "usage"),
+        ("vtex tile t s --tile 256", "usage"),
+        ("vtex tile t s --tile 3", "usage"),
+        ("vtex tile t s --tile 08", "usage"),
+        ("vtex tile t s --tile=", "usage"),
+        ("vtex tile t s --tile=8", "tile t s 8"),
+        ("vtex tile --tile 16 t s", "tile t s 16"),
+        ("vtex plain t --tile=32 p x", "plain t p x 32"),
+        ("vtex tile t s --tile 8 --tile 8", "usage"),
+        ("vtex tile t s --tile", "usage"),
+        ("vtex tile t s --til 8", "usage"),
     ];
     are_read(&rt, rt.alloc(), &CASES);
 }
 
 #[test]
 fn words_after_two_dashes_are_names(rt: HostRuntime) {
-    const CASES: [(&[&str], &str); 7] = [
-        (&["info", "--", "--tile"], "info --tile"),
-        (&["tile", "t", "--", "--tile"], "tile t --tile 64"),
-        (&["tile", "t", "s", "--", "--tile", "8"], "usage"),
-        (&["tile", "--tile=4", "--", "-t", "-s"], "tile -t -s 4"),
-        (&["info", "--"], "usage"),
-        (&["gen", "1", "2", "3", "--", "-n"], "gen 1 2 3 -n"),
-        (&["upgrade", "--", "-s", "--t"], "upgrade -s --t"),
+    const CASES: [(&str, &str); 7] = [
+        ("vtex info -- --tile", "info --tile"),
+        ("vtex tile t -- --tile", "tile t --tile 64"),
+        ("vtex tile t s -- --tile 8", "usage"),
+        ("vtex tile --tile=4 -- -t -s", "tile -t -s 4"),
+        ("vtex info --", "usage"),
+        ("vtex gen 1 2 3 -- -n", "gen 1 2 3 -n"),
+        ("vtex upgrade -- -s --t", "upgrade -s --t"),
     ];
     are_read(&rt, rt.alloc(), &CASES);
 }
 
 #[test]
 fn each_command_has_its_words_and_no_more(rt: HostRuntime) {
-    const CASES: [(&[&str], &str); 28] = [
-        (&[], "usage"),
-        (&[""], "usage"),
-        (
-            &["walk", "s", "p", "x"],
-            "walk s,p,x,journal.txt, 64 4 3 64 1",
-        ),
-        (&["walk", "s", "p"], "usage"),
-        (&["trial", "1"], "trial 1"),
-        (&["replay", "s", "p", "j", "x"], "replay s,p,j,x,"),
-        (&["replay", "s", "p", "j"], "usage"),
-        (&["Plain", "t", "p", "x"], "usage"),
-        (&["plain", "t", "p"], "usage"),
-        (&["plain", "t", "p", "x", "y"], "usage"),
-        (&["plain", "", "", ""], "plain    64"),
-        (&["plain", "-t", "p", "x"], "usage"),
-        (&["tile", "t"], "usage"),
-        (&["tile", "t", "s", "u"], "usage"),
-        (&["tile", "-", "s"], "tile - s 64"),
-        (&["info"], "usage"),
-        (&["info", "s", "u"], "usage"),
-        (&["info", "-5"], "usage"),
-        (&["info", "help"], "info help"),
-        (&["info", "--help"], "usage"),
-        (&["info", "s", "-h"], "usage"),
-        (&["info", "s", "--version"], "usage"),
-        (&["info", "s", "--tile", "8"], "usage"),
-        (&["upgrade", "s", "n"], "upgrade s n"),
-        (&["upgrade"], "usage"),
-        (&["upgrade", "s"], "usage"),
-        (&["upgrade", "s", "n", "m"], "usage"),
-        (&["upgrade", "s", "n", "--tile", "8"], "usage"),
+    const CASES: [(&str, &str); 28] = [
+        ("vtex", "usage"),
+        ("vtex ", "usage"),
+        ("vtex walk s p x", "walk s p x journal.txt 64 4 3 64 1"),
+        ("vtex walk s p", "usage"),
+        ("vtex trial 1", "trial 1"),
+        ("vtex replay s p j x", "replay s p j x"),
+        ("vtex replay s p j", "usage"),
+        ("vtex Plain t p x", "usage"),
+        ("vtex plain t p", "usage"),
+        ("vtex plain t p x y", "usage"),
+        ("vtex plain   ", "plain    64"),
+        ("vtex plain -t p x", "usage"),
+        ("vtex tile t", "usage"),
+        ("vtex tile t s u", "usage"),
+        ("vtex tile - s", "tile - s 64"),
+        ("vtex info", "usage"),
+        ("vtex info s u", "usage"),
+        ("vtex info -5", "usage"),
+        ("vtex info help", "info help"),
+        ("vtex info --help", "usage"),
+        ("vtex info s -h", "usage"),
+        ("vtex info s --version", "usage"),
+        ("vtex info s --tile 8", "usage"),
+        ("vtex upgrade s n", "upgrade s n"),
+        ("vtex upgrade", "usage"),
+        ("vtex upgrade s", "usage"),
+        ("vtex upgrade s n m", "usage"),
+        ("vtex upgrade s n --tile 8", "usage"),
     ];
     are_read(&rt, rt.alloc(), &CASES);
 }
 
 #[test]
 fn the_numbers_of_gen_have_bounds(rt: HostRuntime) {
-    const CASES: [(&[&str], &str); 14] = [
-        (&["gen", "0", "1", "1", "n"], "gen 0 1 1 n"),
-        (
-            &["gen", "65535", "8192", "8192", "n"],
-            "gen 65535 8192 8192 n",
-        ),
-        (&["gen", "65536", "1", "1", "n"], "usage"),
-        (&["gen", "-1", "1", "1", "n"], "usage"),
-        (&["gen", "--", "-1", "1", "1", "n"], "usage"),
-        (&["gen", "0", "0", "1", "n"], "usage"),
-        (&["gen", "0", "8193", "1", "n"], "usage"),
-        (&["gen", "0", "1", "0", "n"], "usage"),
-        (&["gen", "0", "1", "8193", "n"], "usage"),
-        (&["gen", "", "1", "1", "n"], "usage"),
-        (&["gen", "+1", "1", "1", "n"], "usage"),
-        (&["gen", "1", "1", "n"], "usage"),
-        (&["gen", "1", "1", "1", "n", "m"], "usage"),
-        (&["gen", "1", "1", "1", "n", "--tile", "8"], "usage"),
+    const CASES: [(&str, &str); 14] = [
+        ("vtex gen 0 1 1 n", "gen 0 1 1 n"),
+        ("vtex gen 65535 8192 8192 n", "gen 65535 8192 8192 n"),
+        ("vtex gen 65536 1 1 n", "usage"),
+        ("vtex gen -1 1 1 n", "usage"),
+        ("vtex gen -- -1 1 1 n", "usage"),
+        ("vtex gen 0 0 1 n", "usage"),
+        ("vtex gen 0 8193 1 n", "usage"),
+        ("vtex gen 0 1 0 n", "usage"),
+        ("vtex gen 0 1 8193 n", "usage"),
+        ("vtex gen  1 1 n", "usage"),
+        ("vtex gen +1 1 1 n", "usage"),
+        ("vtex gen 1 1 n", "usage"),
+        ("vtex gen 1 1 1 n m", "usage"),
+        ("vtex gen 1 1 1 n --tile 8", "usage"),
     ];
     are_read(&rt, rt.alloc(), &CASES);
 }
 
 #[test]
 fn a_name_is_not_both_read_and_written(rt: HostRuntime) {
-    const CASES: [(&[&str], &str); 11] = [
-        (&["tile", "a", "a"], "usage"),
-        (&["tile", "a", "./a"], "tile a ./a 64"),
-        (&["plain", "x0000.ppm", "p", "x"], "usage"),
-        (&["plain", "t", "x9999.ppm", "x"], "usage"),
+    const CASES: [(&str, &str); 11] = [
+        ("vtex tile a a", "usage"),
+        ("vtex tile a ./a", "tile a ./a 64"),
+        ("vtex plain x0000.ppm p x", "usage"),
+        ("vtex plain t x9999.ppm x", "usage"),
         (
-            &["plain", "x10000.ppm", "x000.ppm", "x"],
+            "vtex plain x10000.ppm x000.ppm x",
             "plain x10000.ppm x000.ppm x 64",
         ),
-        (&["plain", "0001.ppm", "p", ""], "usage"),
-        (&["plain", "y0001.ppm", "p", "x"], "plain y0001.ppm p x 64"),
-        (&["plain", "a", "a", "a"], "plain a a a 64"),
-        (&["upgrade", "a", "a"], "usage"),
-        (&["upgrade", "a", "./a"], "upgrade a ./a"),
-        (&["upgrade", "", ""], "usage"),
+        ("vtex plain 0001.ppm p ", "usage"),
+        ("vtex plain y0001.ppm p x", "plain y0001.ppm p x 64"),
+        ("vtex plain a a a", "plain a a a 64"),
+        ("vtex upgrade a a", "usage"),
+        ("vtex upgrade a ./a", "upgrade a ./a"),
+        ("vtex upgrade  ", "usage"),
     ];
     are_read(&rt, rt.alloc(), &CASES);
 }

@@ -2,22 +2,26 @@
 
 mod foreign;
 
-use super::{begins_with, has_numbers};
+use super::{Seen, other_camera};
 use crate::fixtures::no_row_is_wrong;
 use std::alloc::Global;
 use vt_camera::{Camera, Path, parse_path, path_flaw_is_unique, path_has_no_flaw, path_is_unique};
 
 #[test]
 fn one_key_gives_one_picture(rt: HostRuntime) {
-    let text = b"size 2 1\nfocal 1\nat 0 0 256 16384 0\n";
-    let camera = Camera {
-        u: 0,
-        v: 0,
-        h: 256,
-        c: 16384,
-        s: 0,
-    };
-    assert!(rt; begins_with(rt.alloc(), text, (2, 1, 1, 1), camera));
+    const ROWS: [Seen; 1] = [(
+        b"size 2 1\nfocal 1\nat 0 0 256 16384 0\n",
+        (2, 1, 1, 1),
+        0,
+        Camera {
+            u: 0,
+            v: 0,
+            h: 256,
+            c: 16384,
+            s: 0,
+        },
+    )];
+    no_row_is_wrong(&rt, other_camera(rt.alloc(), &ROWS));
     path_is_unique();
     path_flaw_is_unique();
     path_has_no_flaw();
@@ -68,25 +72,37 @@ fn each_way_begins_at_the_key_before_it(rt: HostRuntime) {
     no_row_is_wrong(&rt, other_picture(rt.alloc(), text, &CAMERAS));
 }
 
-// Whether a path of the greatest numbers goes from the greatest place to the least.
-fn has_the_most(path: &Path) -> bool {
-    has_numbers(path, (2048, 2048, 4096, 9999))
-        && 9998 < path.pictures()
-        && path.camera(0).u == 2147483648
-        && path.camera(9998).u == -2147483648
-}
-
-// Whether a path has the least numbers, and its first picture the least sine.
-fn has_the_least(path: &Path) -> bool {
-    has_numbers(path, (1, 1, 1, 1)) && 0 < path.pictures() && path.camera(0).s == -16384
-}
-
+// A path of the greatest numbers goes from the greatest place to the least.
 #[test]
 fn numbers_at_their_limits_are_accepted(rt: HostRuntime) {
-    let most =
+    const MOST: &[u8] =
         b"size 2048 2048\nfocal 4096\nat 2147483648 2147483648 16777216 16384 16384\nto 9998 -2147483648 0 1 0 0\n";
-    let most = parse_path(rt.alloc(), most).expect(&rt, "a path");
-    let least = b"size 1 1\nfocal 1\nat -2147483648 -2147483648 1 -16384 -16384\n";
-    let least = parse_path(rt.alloc(), least).expect(&rt, "a path");
-    assert!(rt; has_the_most(&most) && has_the_least(&least));
+    const LEAST: &[u8] = b"size 1 1\nfocal 1\nat -2147483648 -2147483648 1 -16384 -16384\n";
+    const FIRST: Camera = Camera {
+        u: 2147483648,
+        v: 2147483648,
+        h: 16777216,
+        c: 16384,
+        s: 16384,
+    };
+    const LAST: Camera = Camera {
+        u: -2147483648,
+        v: 0,
+        h: 1,
+        c: 0,
+        s: 0,
+    };
+    const NEAREST: Camera = Camera {
+        u: -2147483648,
+        v: -2147483648,
+        h: 1,
+        c: -16384,
+        s: -16384,
+    };
+    const ROWS: [Seen; 3] = [
+        (MOST, (2048, 2048, 4096, 9999), 0, FIRST),
+        (MOST, (2048, 2048, 4096, 9999), 9998, LAST),
+        (LEAST, (1, 1, 1, 1), 0, NEAREST),
+    ];
+    no_row_is_wrong(&rt, other_camera(rt.alloc(), &ROWS));
 }

@@ -1,34 +1,32 @@
 //! Files of other programs, and bytes that are no texture, each with what its reader answers: worked out by hand from the bytes.
 
-use super::{around, header_refusal, image_of, refusal};
-use crate::fixtures::no_row_is_wrong;
+use super::looks::{Look, refuses, sees};
+use super::readers::Reader;
+use crate::fixtures::{around, no_row_is_wrong};
 use std::alloc::Global;
 use vt_ppm::{PpmError, image_flaw};
-
-// Whether the bytes are read as these samples.
-fn is_read(alloc: Global, bytes: &[u8], samples: &[u8]) -> bool {
-    match image_of(alloc, bytes, &[]) {
-        Ok(image) => image.samples() == samples && image_flaw(bytes).is_none(),
-        Err(_) => false,
-    }
-}
 
 // The first of these bytes that are read as other samples than those beside them.
 fn misread(alloc: Global, rows: &[(&[u8], &[u8])]) -> Option<usize> {
     for i in 0..rows.len() {
         let (bytes, samples) = rows[i];
-        if !is_read(alloc, bytes, samples) {
+        if !sees(alloc, bytes, Look::Samples(samples)) || image_flaw(bytes).is_some() {
             return Some(i);
         }
     }
     None
 }
 
+// Whether bytes are refused so as an image.
+fn is_refused(alloc: Global, bytes: &[u8], flaw: Option<PpmError>) -> bool {
+    refuses(alloc, bytes, Reader::Image, flaw) && image_flaw(bytes) == flaw
+}
+
 // The first of these bytes that are refused otherwise.
 fn misrefused(alloc: Global, rows: &[(&[u8], PpmError)]) -> Option<usize> {
     for i in 0..rows.len() {
         let (bytes, flaw) = rows[i];
-        if refusal(alloc, bytes, &[]) != Some(flaw) || image_flaw(bytes) != Some(flaw) {
+        if !is_refused(alloc, bytes, Some(flaw)) {
             return Some(i);
         }
     }
@@ -110,11 +108,14 @@ fn each_foreign_texture_is_read_or_refused_with_its_first_flaw(rt: HostRuntime) 
     no_row_is_wrong(&rt, misrefused(rt.alloc(), &REFUSED));
 }
 
-// Whether bytes are refused so as an image and as a header.
-fn are_refused(alloc: Global, bytes: &[u8], want: Option<PpmError>) -> bool {
-    refusal(alloc, bytes, &[]) == want
-        && header_refusal(alloc, bytes, &[]) == want
-        && image_flaw(bytes) == want
+// Whether so many blanks behind a magic, and what follows them, are refused so as an image and as a header.
+fn are_refused(alloc: Global, count: usize, rest: &[u8], flaw: Option<PpmError>) -> bool {
+    match around(alloc, b"P6", b' ', count, rest) {
+        Ok(bytes) => {
+            is_refused(alloc, &bytes, flaw) && refuses(alloc, &bytes, Reader::Header, flaw)
+        }
+        Err(_) => false,
+    }
 }
 
 // The first row of so many blanks and what follows them that is refused otherwise.
@@ -123,14 +124,9 @@ fn misread_behind_blanks(
     rows: &[(usize, &[u8], Option<PpmError>)],
 ) -> Option<usize> {
     for i in 0..rows.len() {
-        let (count, rest, want) = rows[i];
-        match around(alloc, b"P6", b' ', count, rest) {
-            Ok(bytes) => {
-                if !are_refused(alloc, &bytes, want) {
-                    return Some(i);
-                }
-            }
-            Err(_) => return Some(i),
+        let (count, rest, flaw) = rows[i];
+        if !are_refused(alloc, count, rest, flaw) {
+            return Some(i);
         }
     }
     None

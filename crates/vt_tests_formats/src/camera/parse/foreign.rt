@@ -17,18 +17,18 @@ const NO_KEY: Result<u32, PathError> = Err(PathError::NoKey { line: 3 });
 
 const MANY: Result<u32, PathError> = Err(PathError::TooManyPictures);
 
-// How many pictures a text has, or why it is no path.
-fn pictures_of(alloc: Global, text: &str) -> Result<u32, PathError> {
+// Whether a text has so many pictures, or is no path for that reason.
+fn has_pictures(alloc: Global, text: &str, want: Result<u32, PathError>) -> bool {
     match parse_path(alloc, text.as_bytes()) {
-        Ok(path) => Ok(path.pictures()),
-        Err(refusal) => Err(refusal),
+        Ok(path) => want == Ok(path.pictures()),
+        Err(refusal) => want == Err(refusal),
     }
 }
 
 // Whether a text of a front and these lines is read so.
 fn is_read(alloc: Global, front: &str, lines: &str, want: Result<u32, PathError>) -> bool {
     match joined(alloc, front, lines) {
-        Ok(text) => pictures_of(alloc, text.as_str()) == want,
+        Ok(text) => has_pictures(alloc, text.as_str(), want),
         Err(_) => false,
     }
 }
