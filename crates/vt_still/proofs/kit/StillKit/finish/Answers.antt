@@ -3,7 +3,7 @@ use Rattle.std.specs.Prelude.{All, true}
 use Rattle.vt_journal.specs.Changes.{newest}
 use Rattle.vt_evict.specs.declared.batches.Planned.{Planned}
 use Rattle.vt_pass.specs.Outcomes.{IsBatchFor}
-use Rattle.vt_store.specs.Format.{tile_length}
+use Rattle.vt_tiles.specs.Format.{tile_length}
 use Rattle.vt_still.specs.RoundKits.{HasPlaces}
 use Rattle.vt_pass.specs.declared.crew.PassReport.{PassReport}
 use Rattle.vt_pass.specs.Scenes.{job_of}
