@@ -1,9 +1,12 @@
-//! The tests of the crates that run passes, walks and replays, over stores in memory. It holds nothing else, and nothing
-//! stands on it: a crate with tests is proved twice, and this one costs nothing beside them.
+//! The tests of the crates that run passes, walks and replays, and of whole commands, over stores and folders in memory. It holds
+//! nothing else, and nothing stands on it: a crate with tests is proved twice, and one above the top call pays a minute or two for the
+//! loading and linking of all below it.
 #![tactic(auto)]
 
 #[cfg(test)]
 mod cases;
+#[cfg(test)]
+mod commands;
 #[cfg(test)]
 mod fixtures;
 #[cfg(test)]
