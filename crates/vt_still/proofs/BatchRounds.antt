@@ -27,7 +27,7 @@ use Rattle.vt_load.proofs.Dealing.{all_unmap}
 use Rattle.vt_pass.specs.Outcomes.{lost_count, group_if, pass_events, IsOrder, IsOutcome}
 use Rattle.vt_pass.specs.Requests.{FileState, AllTell, times_asked_by, times_failed_by, is_tile_at, times_planned, lost_entries, counts_of, AreReadFor}
 use Rattle.vt_pass.specs.Machines.{file_state, files_of}
-use Rattle.vt_still.specs.BatchRounds.{page_if, entry_asks, AreRequestsOf, tickets_of, result_events, AreLossesOf, IsResultOf}
+use Rattle.vt_rounds.specs.BatchRounds.{page_if, entry_asks, AreRequestsOf, tickets_of, result_events, AreLossesOf, IsResultOf}
 
 sum_map : {X Y : Type 0} (h : Y → ℕ) (f : X → Y) (xs : List X) → sum_by h (map f xs) ≡ sum_by (λ x. h (f x)) xs
 sum_map h f [] = refl

@@ -1,11 +1,8 @@
-pub mod Entries
 pub mod Kits
 pub mod Rooms
 pub mod Finished
 pub mod Ended
 pub mod Placed
 pub mod BatchRounds
-pub mod Applying
-pub mod Asking
 pub mod Ending
 pub mod RoundKits

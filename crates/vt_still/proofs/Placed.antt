@@ -6,7 +6,7 @@ use Rattle.vt_table.specs.Views.{TableView, IsTable}
 use Rattle.vt_shown.specs.Frames.{HoldsTiles}
 use Rattle.vt_pass.specs.Machines.{told_by}
 use Rattle.vt_pass.specs.Passes.{MayPlace}
-use Rattle.vt_still.specs.Streams.{IsTileOf}
+use Rattle.vt_rounds.specs.Streams.{IsTileOf}
 use Rattle.vt_still.specs.Kits.{KitView, kit_state, IsIdleKit}
 use Rattle.vt_still.proofs.Rooms.{idle_still, same_none}
 

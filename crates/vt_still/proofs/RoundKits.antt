@@ -21,7 +21,7 @@ use Rattle.vt_still.specs.declared.tasks.StillSampler.{StillSampler}
 use Rattle.vt_pass.specs.Scenes.{Job}
 use Rattle.vt_pass.specs.Requests.{AreReadFor}
 use Rattle.vt_pass.specs.Machines.{files_of, told_by}
-use Rattle.vt_still.specs.BatchRounds.{Begun, IsEndedRound, IsStreamed}
+use Rattle.vt_rounds.specs.BatchRounds.{Begun, IsEndedRound, IsStreamed}
 use Rattle.vt_journal.specs.declared.changes.RowLine.{RowLine}
 use Rattle.vt_pass.specs.declared.crew.PassReport.{PassReport}
 use Rattle.vt_pass.specs.PictureWants.{picture_wants}

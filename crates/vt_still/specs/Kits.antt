@@ -21,7 +21,8 @@ use Rattle.vt_pass.specs.Crews.{IsCrew}
 use Rattle.vt_pass.specs.Outcomes.{IsBatchFor}
 use Rattle.vt_load.specs.declared.queued.Queues.{Queues}
 use Rattle.vt_shown.specs.Frames.{HoldsTiles}
-use Rattle.vt_still.specs.RoundKits.{RoundKitView, AreSized, IsSetUp, IsAsked}
+use Rattle.vt_rounds.specs.Sizes.{AreSized}
+use Rattle.vt_still.specs.RoundKits.{RoundKitView, IsSetUp, IsAsked}
 use Rattle.vt_pass.specs.Machines.{Setup, MachineState, file_state, files_of, told_by, AreStoresFor}
 
 -- a kit: how the texture is cut into pages, how many bytes its samples have, the sides of the pictures, the crew; the samplers and the

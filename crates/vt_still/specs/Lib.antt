@@ -1,6 +1,4 @@
 pub mod StillTasks
-pub mod Streams
-pub mod BatchRounds
 pub mod RoundKits
 pub mod Kits
 pub mod StillMachines

@@ -14,7 +14,8 @@ use Rattle.vt_queue.specs.Queues.{view_of, splits_of, capacity_of}
 use Rattle.vt_load.specs.declared.queued.Queues.{Queues}
 use Rattle.vt_load.specs.QueuedLoaders.{QueuedView, AreOf, IsLoaderOf, AreSplitOff, stores_of}
 use Rattle.vt_pass.specs.declared.crew.Crew.{Crew}
-use Rattle.vt_still.specs.BatchRounds.{ArePut}
+use Rattle.vt_rounds.specs.BatchRounds.{ArePut}
+use Rattle.vt_rounds.specs.Sizes.{AreSized}
 
 -- what the loaders of a pass are done with: the passes of the queues, room for the loaders, for their stores and for the results, the buffers,
 -- and what is noted of each entry
@@ -26,10 +27,6 @@ pub record RoundKitView (F : Type 0) : Type 0 where
   pub results : ListView Loaded
   pub buffers : ListView (ListView ℕ)
   pub losses : ListView Bool
-
--- all of these buffers have one size
-abbrev pub AreSized : ℕ → List (ListView ℕ) → Type 0
-AreSized size buffers = All (λ b. length b.elements ≡ size) buffers
 
 -- two queues are new, with room for so many items, and these are their passes
 pub record AreNew (capacity : ℕ) (q : Queues) (asks : QueuePass Request) (answers : QueuePass Loaded) : Type 0 where

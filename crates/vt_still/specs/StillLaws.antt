@@ -22,7 +22,7 @@ use Rattle.vt_pass.specs.Scenes.{Job}
 use Rattle.vt_pass.specs.Machines.{MachineState, files_of, told_by}
 use Rattle.vt_pass.specs.Passes.{IsJobFor, IsUntouched, Ran, Broke, Ends}
 use Rattle.vt_still.specs.StillTasks.{HasDrawn}
-use Rattle.vt_still.specs.BatchRounds.{Begun, ArePut}
+use Rattle.vt_rounds.specs.BatchRounds.{Begun, ArePut}
 use Rattle.vt_still.specs.RoundKits.{HasPlaces, IsDealt}
 use Rattle.vt_still.specs.Kits.{KitView, kit_setup, kit_state, IsIdleKit, IsReadyKit}
 use Rattle.vt_still.specs.StillMachines.{StillView, KitEnds, AreOut, IsMustered, MayFinish, KitFinishes, kit_before}

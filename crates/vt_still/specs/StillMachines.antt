@@ -24,7 +24,7 @@ use Rattle.vt_pass.specs.Passes.{IsJobFor, Ends}
 use Rattle.vt_still.specs.StillTasks.{HasDrawn}
 use Rattle.vt_still.specs.Kits.{KitView, kit_setup, kit_state, IsIdleKit, HasRoom}
 use Rattle.vt_pass.specs.Outcomes.{IsBatchFor}
-use Rattle.vt_still.specs.BatchRounds.{Begun, IsEndedRound}
+use Rattle.vt_rounds.specs.BatchRounds.{Begun, IsEndedRound}
 use Rattle.vt_still.specs.RoundKits.{HasPlaces, IsDealt}
 use Rattle.vt_pass.specs.All.{AllDid}
 

@@ -16,8 +16,9 @@ ghost use Rattle.vt_pass.specs.StillShows.{still_shows};
 ghost use Rattle.vt_still.specs.StillMachines.{kit_drawn, kit_before, AreOut, MayFinish};
 ghost use Rattle.vt_still.specs.Kits.{KitView, AreSamplersOf, IsKit, IsIdleKit, IsPreparedKit, IsReadyKit, HasRoom, IsSameKit, kit_row, kit_rows, kit_state, lines_at, counted_together};
 ghost use Rattle.vt_still.specs.declared.tasks.StillSampler.{StillSampler as Task};
-ghost use Rattle.vt_still.specs.RoundKits.{AreSized, IsSetUp, IsAsked};
-ghost use Rattle.vt_still.specs.BatchRounds.{Begun as Start};
+ghost use Rattle.vt_rounds.specs.Sizes.{AreSized};
+ghost use Rattle.vt_still.specs.RoundKits.{IsSetUp, IsAsked};
+ghost use Rattle.vt_rounds.specs.BatchRounds.{Begun as Start};
 ghost use Rattle.vt_pages.specs.Pages.{pages_of};
 ghost use Rattle.vt_tiles.specs.Format.{tile_length};
 ghost use Rattle.vt_evict.specs.declared.batches.Planned.{Planned as Entry};
@@ -42,9 +43,10 @@ use vt_load::{QueuedLoader, Queues};
 use vt_outside::{File, Items, NoMemory};
 use vt_pages::Geometry;
 use vt_pass::{Crew, PassReport};
+use vt_rounds::sampler_of;
 use vt_sampler::Sampler;
-use vt_tiles::{Stores, tile_length};
 use vt_table::StillTable;
+use vt_tiles::{Stores, tile_length};
 
 // What a pass over a page table that changes only between draws is done with but for the queues: the samplers, the
 // loaders' stores, and room for what the pass tells. Contracts see all of these.
@@ -263,7 +265,7 @@ impl<F: File> StillKit<F> {
         requires inside { y < self.now.height }
         ensures { result.now ≡ kit_row self.now y }
     {
-        let turn = y % self.crew.samplers;
+        let turn = sampler_of(y, self.crew.samplers);
         self.samplers.at(turn as usize).sampler.row(y)
     }
 

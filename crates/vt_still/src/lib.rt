@@ -3,8 +3,6 @@
 
 mod kit;
 mod loads;
-mod loads_apply;
-mod loads_ask;
 mod loads_end;
 mod loads_task;
 mod machine;
@@ -12,7 +10,6 @@ mod pass;
 mod pass_kit;
 mod room;
 mod round;
-mod stream;
 mod tasks;
 mod told;
 

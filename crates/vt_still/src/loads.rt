@@ -10,7 +10,7 @@ ghost use Rattle.vt_load.specs.Rounds.{Round, AreServed};
 ghost use Rattle.vt_pass.specs.Outcomes.{IsOrder, IsOutcome};
 ghost use Rattle.vt_pass.specs.Requests.{AreReadFor};
 ghost use Rattle.vt_pass.specs.Machines.{files_of};
-ghost use Rattle.vt_still.specs.BatchRounds.{AreRequestsOf, tickets_of, result_events, AreLossesOf, IsResultOf};
+ghost use Rattle.vt_rounds.specs.BatchRounds.{AreRequestsOf, tickets_of, result_events, AreLossesOf, IsResultOf};
 
 use vt_outside::File;
 

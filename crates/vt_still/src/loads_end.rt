@@ -6,9 +6,8 @@ ghost use Rattle.vt_tiles.specs.Format.{tile_length};
 ghost use Rattle.vt_table.specs.Views.{IsTable};
 ghost use Rattle.vt_load.specs.QueuedLoaders.{AreOf, stores_of};
 ghost use Rattle.vt_pass.specs.Outcomes.{IsBatchFor};
-ghost use Rattle.vt_still.specs.BatchRounds.{Begun as Start, HaveEnded, IsStreamed};
+ghost use Rattle.vt_rounds.specs.BatchRounds.{Begun as Start, HaveEnded, IsStreamed};
 
-use crate::loads_apply::apply_results;
 use std::sync::Wait;
 use std::thread::Threads;
 use vt_evict::{Losses, Planned};
@@ -16,8 +15,9 @@ use vt_journal::Events;
 use vt_load::{QueuedLoader, Queues, collect, take_back};
 use vt_outside::{File, Items};
 use vt_queue::{Loaded, QueuePass, Request};
-use vt_tiles::Stores;
+use vt_rounds::apply_results;
 use vt_table::StillTable;
+use vt_tiles::Stores;
 
 /// Makes the passes of loaders that have ended one again, takes their results, and applies these in the order in which
 /// they came. It may wait.

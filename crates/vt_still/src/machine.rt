@@ -6,11 +6,10 @@ ghost use Rattle.vt_pass.specs.PictureWants.{picture_wants};
 ghost use Rattle.vt_still.specs.Kits.{kit_state, IsIdleKit, IsReadyKit};
 ghost use Rattle.vt_pass.specs.StillShows.{still_shows, still_whole};
 ghost use Rattle.vt_still.specs.StillMachines.{StillView, kit_drawn, IsMustered, MayFinish, KitFinishes};
-ghost use Rattle.vt_still.specs.BatchRounds.{Begun as Start};
+ghost use Rattle.vt_rounds.specs.BatchRounds.{Begun as Start};
 
 use crate::kit::StillKit;
 use crate::loads_task::StillShared;
-use crate::stream::put_page;
 use crate::tasks::{NoTask, StillSampler};
 use std::alloc::Global;
 use std::marker::Model;
@@ -26,6 +25,7 @@ use vt_load::QueuedLoader;
 use vt_outside::{File, Gate, Items, NoMemory};
 use vt_pages::Geometry;
 use vt_pass::{Crew, PassMachine, PassReport};
+use vt_rounds::{answered, put_page};
 use vt_tiles::Stores;
 
 /// A machine that draws all rows of a picture over its page table, and then streams the batch into it.
@@ -168,7 +168,7 @@ impl<F: File + Send> PassMachine for StillMachine<F> {
             shot,
             batch,
         );
-        Ok(report)
+        answered(report)
     }
 
     fn journal(&self) -> &Journal {

@@ -12,11 +12,11 @@ ghost use Rattle.vt_queue.specs.Queues.{view_of, splits_of, capacity_of};
 ghost use Rattle.vt_load.specs.declared.queued.Queues.{Queues as Both};
 ghost use Rattle.vt_load.specs.QueuedLoaders.{AreOf, MayLoad, stores_of};
 ghost use Rattle.vt_pass.specs.Outcomes.{IsBatchFor};
-ghost use Rattle.vt_still.specs.BatchRounds.{Begun as Start, HaveEnded, IsStreamed};
+ghost use Rattle.vt_rounds.specs.BatchRounds.{Begun as Start, HaveEnded, IsStreamed};
 ghost use Rattle.vt_pass.specs.declared.crew.Crew.{Crew as Hands};
-ghost use Rattle.vt_still.specs.RoundKits.{AreSized, AreNew, HasPlaces, IsSetUp, IsAsked, IsDealt};
+ghost use Rattle.vt_rounds.specs.Sizes.{AreSized};
+ghost use Rattle.vt_still.specs.RoundKits.{AreNew, HasPlaces, IsSetUp, IsAsked, IsDealt};
 
-use crate::loads_ask::{ask_batch, give_back};
 use crate::loads_end::end_round;
 use crate::room::with_room;
 use std::alloc::Global;
@@ -30,8 +30,9 @@ use vt_load::{QueuedLoader, Queues, deal};
 use vt_outside::{Bytes, File, Items, NoMemory};
 use vt_pass::Crew;
 use vt_queue::{Loaded, QueuePass, Request, RequestQueue, ResultQueue};
-use vt_tiles::Stores;
+use vt_rounds::{ask_batch, give_back};
 use vt_table::StillTable;
+use vt_tiles::Stores;
 
 /// What the loaders of a pass are done with: passes of the queues, and room for the loaders, their stores, the results
 /// and the buffers. Contracts see all of these.

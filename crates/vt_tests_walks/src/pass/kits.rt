@@ -10,7 +10,7 @@ ghost use Rattle.vt_pass.specs.Crews.{IsCrew};
 ghost use Rattle.vt_pass.specs.Passes.{MayPrepare, IsJobFor};
 ghost use Rattle.vt_pass.specs.Scenes.{job_of};
 ghost use Rattle.vt_still.specs.Kits.{kit_setup, kit_state, IsIdleKit};
-ghost use Rattle.vt_still.specs.Streams.{IsTileOf};
+ghost use Rattle.vt_rounds.specs.Streams.{IsTileOf};
 
 use crate::cases::{Case, Deed, check};
 use crate::fixtures::{FOUR, HEADER, ONE_PICTURE, ROOT_TILE, TILE_0};

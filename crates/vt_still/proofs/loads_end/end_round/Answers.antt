@@ -4,7 +4,7 @@ use Rattle.std.specs.List.{AllPairs}
 use Rattle.vt_table.specs.Views.{IsTile}
 use Rattle.vt_queue.specs.Queues.{view_of}
 use Rattle.vt_queue.specs.declared.items.Loaded.{Loaded}
-use Rattle.vt_still.specs.BatchRounds.{IsResultOf, AreApplied}
+use Rattle.vt_rounds.specs.BatchRounds.{IsResultOf, AreApplied}
 use Rattle.vt_still.proofs.Ending.{all_collected, all_entries, all_apart, all_tiles, all_sizes, streamed}
 use Rattle.vt_still.proofs.loads_end.end_round.Goals as goal
 

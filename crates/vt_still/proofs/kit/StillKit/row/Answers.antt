@@ -7,8 +7,10 @@ use Rattle.vt_still.proofs.kit.StillKit.row.Goals as goal
 
 pub row-requires : goal.row-requires
 row-requires g c = own_turn g.F.File c.args.self.now c.args.y c.at.result.now c.requires.kit c.requires.inside
-    (ap (λ (k : KitView _). slice_get k.samplers (c.args.y % k.crew.samplers)) (sym c.self.view_is) ∙ c.at.ensures)
+    (ap (λ (k : KitView _). slice_get k.samplers (c.args.y % k.crew.samplers)) (sym c.self.view_is)
+    ∙ ap (slice_get _) (sym c.sampler_of-turn.ensures) ∙ c.at.ensures)
 
 pub returns : goal.returns
 returns g c = c.row.ensures.bytes ∙ ap (λ (o : Option StillSampler). row_by o c.args.y)
-    (sym (ap (λ (k : KitView _). slice_get k.samplers (c.args.y % k.crew.samplers)) (sym c.self.view_is) ∙ c.at.ensures))
+    (sym (ap (λ (k : KitView _). slice_get k.samplers (c.args.y % k.crew.samplers)) (sym c.self.view_is)
+    ∙ ap (slice_get _) (sym c.sampler_of-turn.ensures) ∙ c.at.ensures))

@@ -10,7 +10,7 @@ returns g c =
     let loaders = c.args.loaders.elements in
     let samplers = c.args.samplers.elements in
     let table = c.finish-report.new.table in
-    let kit = c.finish-report.new.self in (
+    let kit = c.finish-report.new.self in rw c.answered.ensures (
       search rules,
       λ b may. subst (λ (m : StillView _). KitEnds g.F.File job (Ok c.finish-report.result) m.table (kit_before m.kit samplers b) table kit
           (IsIdleKit g.F.File table kit)) c.self.view_is (record {

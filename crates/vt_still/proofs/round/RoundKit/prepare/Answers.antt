@@ -1,5 +1,6 @@
 use Rattle.std.proofs.Common.{sym, subst, length}
-use Rattle.vt_still.specs.RoundKits.{RoundKitView, AreSized}
+use Rattle.vt_rounds.specs.Sizes.{AreSized}
+use Rattle.vt_still.specs.RoundKits.{RoundKitView}
 use Rattle.vt_still.proofs.Rooms.{on_ok}
 use Rattle.vt_still.proofs.round.RoundKit.prepare.Goals as goal
 
