@@ -1,9 +1,9 @@
 -- A halved raster, row by row.
 use Rattle.std.proofs.Common.{◌≡◌, ℕ, inl, inr, ◌+◌, ◌-◌, ◌*◌, ◌/◌, ◌<◌, ◌≤◌, ◌⊎◌, List, length, take, drop, min, sym, ap, ◌∙◌, arith}
-use Rattle.std.proofs.lemmas.Nat.{mul-add-lt}
+use Rattle.std.proofs.lemmas.Nat.{mul-add-lt, mul-le}
 use Rattle.std.proofs.Math.Nat.{mul-le-mul_left}
 use borrow.Rule.Slice.PartMut.{put_mid}
-use Rattle.vt_definitions.specs.Depths.{sample_at}
+use Rattle.vt_definitions.specs.Depths.{IsDepth, sample_at, texel_length}
 use Rattle.vt_mip.specs.Chains.{clamped, halved}
 use Rattle.vt_mip.specs.Halves.{IsHalvedRow, IsHalvedRaster, raster_sample}
 use Rattle.vt_mip.proofs.PartSamples.{cut_sample, kept_sample, written_sample, box_same}
@@ -65,3 +65,18 @@ row_room size h n m low full = let more : size * (n + 1) ≤ size * h = mul-le-m
 pub texel_row_room : (d w h n r m : ℕ) → r ≡ 3 * d → m ≡ 3 * d * (w * h) → n < h → r * w * n + r * w ≤ m
 texel_row_room d w h n r m e f low =
     row_room (r * w) h n m low (f ∙ (let s : 3 * d * (w * h) ≡ 3 * d * w * h = omega arith in s) ∙ ap (λ (q : ℕ). q * w * h) (sym e))
+
+-- how many bytes a row has at most, and a raster
+pub row_small : (z w : ℕ) → z ≤ 6 → w ≤ 16384 → z * w ≤ 98304
+row_small z w few short = let all : z * w ≤ 6 * 16384 = mul-le z w 6 16384 few short in omega (arith, all)
+
+pub raster_small : (d w h n : ℕ) → IsDepth d → w ≤ 16384 → h ≤ 16384 → n ≡ texel_length d * (w * h) → n ≤ 1610612736
+raster_small d w h n depth wide high e =
+    let area : w * h ≤ 16384 * 16384 = mul-le w h 16384 16384 wide high in
+    let few : texel_length d ≤ 6 = two depth in
+    let all : texel_length d * (w * h) ≤ 6 * 268435456 = mul-le (texel_length d) (w * h) 6 268435456 few (omega (arith, area)) in
+    omega (arith, e, all)
+  where
+    two : IsDepth d → texel_length d ≤ 6
+    two (inl one) = omega (arith, one)
+    two (inr double) = omega (arith, double)

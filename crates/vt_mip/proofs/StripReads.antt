@@ -200,3 +200,7 @@ first_spare h level y a b e inside few =
     let there : y < h.height = subst (λ k. y < side h.height k) e inside in
     let one : 1 ≤ rows_under h.height level y = rw e (omega (arith, there)) in
     omega (arith, few, one)
+
+pub first_room : (h : Header) (level y n : ℕ) → level ≡ 0 → y < side h.height level → rows_under h.height level y ≤ n → 1 ≤ n
+first_room h level y n e inside few = let some : 1 ≤ 0 + rows_under h.height level y = first_spare h level y 1 0 e inside (omega arith) in
+    omega (arith, some, few)

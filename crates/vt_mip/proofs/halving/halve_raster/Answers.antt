@@ -1,5 +1,5 @@
 use Rattle.std.proofs.Common.{◌≡◌, ℕ, ◌+◌, ◌-◌, ◌*◌, ◌/◌, ◌≤◌, length, min, ap, ◌∙◌, arith}
-use Rattle.vt_mip.proofs.Rasters.{next_row, texel_row_room}
+use Rattle.vt_mip.proofs.Rasters.{next_row, raster_small, row_small, texel_row_room}
 use Rattle.vt_mip.proofs.halving.halve_raster.Goals as goal
 
 pub slice_bounds-halve_row-end : goal.slice_bounds-halve_row-end
@@ -47,3 +47,60 @@ loop-y-preserved g c =
     c.requires.some_rows (omega arith) top bottom (omega (arith, row)) (omega (arith, row)) place (omega (arith, room))
     (let k : length c.halve_row.new.out ≡ s * half = omega arith in k ∙ ap (λ (q : ℕ). q * half) f ∙ omega arith)
     c.loop-y.invariant c.halve_row.ensures
+
+pub overflow_mul-row : goal.overflow_mul-row
+overflow_mul-row g c = omega (arith, row_small c.texel_length.result c.args.width c.texel_length.ensures.few c.requires.few_columns)
+
+pub overflow_mul-half_row : goal.overflow_mul-half_row
+overflow_mul-half_row g c = omega (arith, row_small c.texel_length-2.result ((c.args.width + 1) / 2) c.texel_length-2.ensures.few (omega arith))
+
+pub overflow_mul-top-in-loop-y : goal.overflow_mul-top-in-loop-y
+overflow_mul-top-in-loop-y g c = omega (
+  arith,
+  texel_row_room g.row.DEPTH c.args.width c.args.height (2 * c.loop-y.y) c.texel_length.result (length c.args.source.now)
+      c.texel_length.ensures.value c.requires.source (omega arith),
+  raster_small g.row.DEPTH c.args.width c.args.height _ c.requires.depth c.requires.few_columns c.requires.few_rows c.requires.source,
+)
+
+pub overflow_add-top : goal.overflow_add-top
+overflow_add-top g c = omega (
+  arith,
+  texel_row_room g.row.DEPTH c.args.width c.args.height (2 * c.loop-y.y) c.texel_length.result (length c.args.source.now)
+      c.texel_length.ensures.value c.requires.source (omega arith),
+  raster_small g.row.DEPTH c.args.width c.args.height _ c.requires.depth c.requires.few_columns c.requires.few_rows c.requires.source,
+)
+
+pub overflow_mul-bottom : goal.overflow_mul-bottom
+overflow_mul-bottom g c = omega (
+  arith,
+  texel_row_room g.row.DEPTH c.args.width c.args.height c.min.result c.texel_length.result (length c.args.source.now)
+      c.texel_length.ensures.value c.requires.source (omega (arith, c.min.ensures)),
+  raster_small g.row.DEPTH c.args.width c.args.height _ c.requires.depth c.requires.few_columns c.requires.few_rows c.requires.source,
+)
+
+pub overflow_add-bottom : goal.overflow_add-bottom
+overflow_add-bottom g c = omega (
+  arith,
+  texel_row_room g.row.DEPTH c.args.width c.args.height c.min.result c.texel_length.result (length c.args.source.now)
+      c.texel_length.ensures.value c.requires.source (omega (arith, c.min.ensures)),
+  raster_small g.row.DEPTH c.args.width c.args.height _ c.requires.depth c.requires.few_columns c.requires.few_rows c.requires.source,
+)
+
+pub overflow_mul-to : goal.overflow_mul-to
+overflow_mul-to g c = omega (
+  arith,
+  texel_row_room g.row.DEPTH ((c.args.width + 1) / 2) ((c.args.height + 1) / 2) c.loop-y.y c.texel_length-2.result (length c.args.out.now)
+      c.texel_length-2.ensures.value c.requires.out (omega arith),
+  raster_small g.row.DEPTH ((c.args.width + 1) / 2) ((c.args.height + 1) / 2) _ c.requires.depth (omega arith) (omega arith) c.requires.out,
+)
+
+pub overflow_add-to : goal.overflow_add-to
+overflow_add-to g c = omega (
+  arith,
+  texel_row_room g.row.DEPTH ((c.args.width + 1) / 2) ((c.args.height + 1) / 2) c.loop-y.y c.texel_length-2.result (length c.args.out.now)
+      c.texel_length-2.ensures.value c.requires.out (omega arith),
+  raster_small g.row.DEPTH ((c.args.width + 1) / 2) ((c.args.height + 1) / 2) _ c.requires.depth (omega arith) (omega arith) c.requires.out,
+)
+
+pub halve_row-requires-clause-depth : goal.halve_row-requires-clause-depth
+halve_row-requires-clause-depth g c = c.requires.depth

@@ -7,7 +7,7 @@ use Rattle.vt_ppm.specs.declared.header.Header.{Header}
 use Rattle.vt_mip.proofs.StripRows.{first_words, one_row, two_rows}
 use Rattle.std.proofs.lemmas.Bool.{false≢true}
 use Rattle.vt_mip.proofs.Refusing.{none_made, rose_later}
-use Rattle.vt_mip.proofs.StripReads.{first_read, first_tried, first_spare, upper_failed, alone_read, both_read, second_failed, second_spare, both_spare}
+use Rattle.vt_mip.proofs.StripReads.{first_read, first_room, first_tried, first_spare, upper_failed, alone_read, both_read, second_failed, second_spare, both_spare}
 use Rattle.vt_mip.specs.StripChains.{room_length, level_row_length}
 use Rattle.vt_mip.proofs.StripRoom.{half_length}
 use Rattle.vt_mip.proofs.strip_chain.+level_row.Goals as goal
@@ -313,3 +313,51 @@ returns-clause-tried g t c = tt
 
 pub returns-clause-failed : goal.returns-clause-failed
 returns-clause-failed g t c = λ failed. absurd (false≢true failed)
+
+pub halve_rows-requires-clause-depth : goal.halve_rows-requires-clause-depth
+halve_rows-requires-clause-depth g t c = c.row_below-below.ensures.is_depth
+
+pub halve_rows-requires-2-clause-depth : goal.halve_rows-requires-2-clause-depth
+halve_rows-requires-2-clause-depth g t c = c.row_below-below.ensures.is_depth
+
+pub halve_rows-requires-clause-top : goal.halve_rows-requires-clause-top
+halve_rows-requires-clause-top g t c = omega (arith, c.row_below-below.ensures.product)
+
+pub halve_rows-requires-clause-bottom : goal.halve_rows-requires-clause-bottom
+halve_rows-requires-clause-bottom g t c = omega (arith, c.row_below-below.ensures.product)
+
+pub halve_rows-requires-2-clause-top : goal.halve_rows-requires-2-clause-top
+halve_rows-requires-2-clause-top g t c = omega (arith, c.row_below-below.ensures.product)
+
+pub halve_rows-requires-2-clause-bottom : goal.halve_rows-requires-2-clause-bottom
+halve_rows-requires-2-clause-bottom g t c = omega (arith, c.row_below-below.ensures.product)
+
+pub overflow_mul-below : goal.overflow_mul-below
+overflow_mul-below g t c = omega (arith, c.row_below-below.ensures.room, c.requires.room)
+
+pub overflow_sub-level : goal.overflow_sub-level
+overflow_sub-level g t c = omega arith
+
+pub overflow_sub-level-2 : goal.overflow_sub-level-2
+overflow_sub-level-2 g t c = omega arith
+
+pub row-requires-clause-checked : goal.row-requires-clause-checked
+row-requires-clause-checked g t c = c.requires.checked
+
+pub row-requires-clause-inside : goal.row-requires-clause-inside
+row-requires-clause-inside g t c = subst (λ k. c.args.y < side c.args.reader.now.header.height k) c.if-level-eq0.true c.requires.row
+
+pub row-requires-clause-size : goal.row-requires-clause-size
+row-requires-clause-size g t c = subst (λ k. length c.args.out.now ≡ level_row_length c.args.reader.now.header k) c.if-level-eq0.true c.requires.size
+
+pub row-requires-clause-spare : goal.row-requires-clause-spare
+row-requires-clause-spare g t c = first_room c.args.reader.now.header _ _ _ c.if-level-eq0.true c.requires.row c.requires.spare
+
+pub row_below-below-requires-clause-row : goal.row_below-below-requires-clause-row
+row_below-below-requires-clause-row g t c = c.requires.row
+
+pub row_below-below-requires-clause-some : goal.row_below-below-requires-clause-some
+row_below-below-requires-clause-some g t c = omega arith
+
+pub split_at_mut-top-requires : goal.split_at_mut-top-requires
+split_at_mut-top-requires g t c = omega arith
