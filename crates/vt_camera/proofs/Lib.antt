@@ -8,5 +8,6 @@ pub mod Shares
 pub mod Turns
 pub mod PathFlawLemmas
 pub mod PathSteps
+pub mod KeysAdded
 pub mod Bits
 pub mod Products

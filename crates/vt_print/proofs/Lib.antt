@@ -1,1 +1,2 @@
 pub mod JoinedPieces
+pub mod Refused

@@ -1,4 +1,5 @@
-use Rattle.std.proofs.Common.{◌≡◌, ◌≤◌, ap, sym, subst, ◌∙◌, arith}
+use Rattle.std.proofs.Common.{◌≡◌, ℕ, ◌*◌, ◌≤◌, ap, sym, subst, ◌∙◌, arith}
+use Rattle.vt_definitions.specs.Depths.{texel_length}
 use Rattle.vt_definitions.specs.Limits.{most_levels}
 use Rattle.vt_camera.specs.Rows.{RowView}
 use Rattle.vt_draw.specs.Plain.{chain_of}
@@ -37,3 +38,7 @@ draw_plain_row-requires-clause-width g c =
 
 pub draw_plain_row-requires-clause-levels : goal.draw_plain_row-requires-clause-levels
 draw_plain_row-requires-clause-levels g c = subst (λ (r : RowView). r.surface.levels ≤ most_levels) (sym c.of-row.ensures) c.requires.levels
+
+pub draw_plain_row-requires-clause-room : goal.draw_plain_row-requires-clause-room
+draw_plain_row-requires-clause-room g c =
+    c.loop-y.auto.row_samples ∙ c.requires.room ∙ ap (λ (n : ℕ). texel_length g.row.DEPTH * n) (sym c.width.ensures.value)

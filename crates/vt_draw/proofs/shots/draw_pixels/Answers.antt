@@ -11,6 +11,10 @@ use Rattle.vt_draw.proofs.Counts.{run-none, run_fits, pixels-none, pixels-next}
 use Rattle.vt_draw.proofs.DrawnPixels.{finest_moved, drawn-more, wanted_is, read_is}
 use Rattle.vt_draw.proofs.shots.draw_pixels.Goals as goal
 
+-- the page of a place is the same by a shape that was kept
+same_page : (s t : Shape) (level column line page : ℕ) → page ≡ covering_page s level column line → t ≡ s → page ≡ covering_page t level column line
+same_page s t level column line page is kept = is ∙ ap (λ (u : Shape). covering_page u level column line) (sym kept)
+
 pub loop-x-init : goal.loop-x-init
 loop-x-init g c = record {
   shape = c.find-found.ensures.shape ∙ c.requires.shape;
@@ -105,30 +109,33 @@ found_for-found-requires-clause-inside g c =
     subst (λ (s : Shape). c.page_at_place-page.result < pages_of s) (sym c.loop-x.invariant.shape) c.page_at_place-page.ensures.inside
 
 pub word_at_place-word-requires-clause-limits : goal.word_at_place-word-requires-clause-limits
-word_at_place-word-requires-clause-limits g c = subst IsWithinLimits (sym (c.found_for-found.ensures.shape ∙ c.loop-x.invariant.shape)) c.requires.limits
+word_at_place-word-requires-clause-limits g c = subst IsWithinLimits
+    (sym (◌∙◌ {b = g.K.Lookup.shape c.loop-x.lookup} c.found_for-found.ensures.shape c.loop-x.invariant.shape)) c.requires.limits
 
 pub word_at_place-word-requires-clause-level : goal.word_at_place-word-requires-clause-level
 word_at_place-word-requires-clause-level g c =
-    subst (λ (s : Shape). c.level-level.result < levels_of s) (sym (c.found_for-found.ensures.shape ∙ c.loop-x.invariant.shape))
+    subst (λ (s : Shape). c.level-level.result < levels_of s)
+    (sym (◌∙◌ {b = g.K.Lookup.shape c.loop-x.lookup} c.found_for-found.ensures.shape c.loop-x.invariant.shape))
     (subst (λ (s : Surface). c.level-level.result < s.levels) c.requires.surface c.level-level.ensures.within)
 
 pub word_at_place-word-requires-clause-column : goal.word_at_place-word-requires-clause-column
 word_at_place-word-requires-clause-column g c =
-    subst (λ (s : Shape). c.texel-column-in-loop-x.result.0 < s.width) (sym (c.found_for-found.ensures.shape ∙ c.loop-x.invariant.shape))
+    subst (λ (s : Shape). c.texel-column-in-loop-x.result.0 < s.width)
+    (sym (◌∙◌ {b = g.K.Lookup.shape c.loop-x.lookup} c.found_for-found.ensures.shape c.loop-x.invariant.shape))
     (subst (λ (s : Surface). c.texel-column-in-loop-x.result.0 < s.width) c.requires.surface c.texel-column-in-loop-x.ensures.column_within)
 
 pub word_at_place-word-requires-clause-line : goal.word_at_place-word-requires-clause-line
 word_at_place-word-requires-clause-line g c =
-    subst (λ (s : Shape). c.texel-column-in-loop-x.result.1 < s.height) (sym (c.found_for-found.ensures.shape ∙ c.loop-x.invariant.shape))
+    subst (λ (s : Shape). c.texel-column-in-loop-x.result.1 < s.height)
+    (sym (◌∙◌ {b = g.K.Lookup.shape c.loop-x.lookup} c.found_for-found.ensures.shape c.loop-x.invariant.shape))
     (subst (λ (s : Surface). c.texel-column-in-loop-x.result.1 < s.height) c.requires.surface c.texel-column-in-loop-x.ensures.row_within)
 
 pub word_at_place-word-requires-clause-finest : goal.word_at_place-word-requires-clause-finest
 word_at_place-word-requires-clause-finest g c =
     let middle = c.found_for-found.new.lookup in
     subst (λ (p : ℕ). IsFinest (g.K.Lookup.shape middle) (g.K.Lookup.version middle) (g.K.Lookup.says middle) p c.found_for-found.result)
-    (c.page_at_place-page.ensures.page
-    ∙ ap (λ (s : Shape). covering_page s c.level-level.result c.texel-column-in-loop-x.result.0 c.texel-column-in-loop-x.result.1)
-    (sym (c.found_for-found.ensures.shape ∙ c.loop-x.invariant.shape))) c.found_for-found.ensures.finest
+    (same_page c.args.geometry.now (g.K.Lookup.shape middle) c.level-level.result c.texel-column-in-loop-x.result.0
+    c.texel-column-in-loop-x.result.1 c.page_at_place-page.result c.page_at_place-page.ensures.page (◌∙◌ {b = g.K.Lookup.shape c.loop-x.lookup} c.found_for-found.ensures.shape c.loop-x.invariant.shape)) c.found_for-found.ensures.finest
 
 pub returns-clause-shape : goal.returns-clause-shape
 returns-clause-shape g c = c.loop-x.invariant.shape ∙ sym c.requires.shape
