@@ -41,4 +41,5 @@ pub nothing_by : (this that : App) (words : List Text) (error : Error) → this 
     → (is_simple_and_free this ≡ true → FailsBy {T = ArgMatches} (fault_of this words) (Err error)) → (kind_of error ≡ OutOfMemory → ⊥)
     → IsNone (found that words)
 nothing_by this that words error same simple kinds other =
-    ap (λ (a : App). is_some (found a words)) (sym same) ∙ some_fault (fault_of this words) (matches_of this words) error (kinds (ap is_simple_and_free same ∙ simple)) other
+    ap (λ (a : App). is_some (found a words)) (sym same)
+    ∙ some_fault (fault_of this words) (matches_of this words) error (kinds (ap is_simple_and_free same ∙ simple)) other

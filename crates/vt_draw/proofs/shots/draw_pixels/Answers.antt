@@ -87,7 +87,8 @@ pub page_at_place-wanted-requires-clause-level : goal.page_at_place-wanted-requi
 page_at_place-wanted-requires-clause-level g c = subst (λ (s : Surface). c.level-level.result < s.levels) c.requires.surface c.level-level.ensures.within
 
 pub page_at_place-wanted-requires-clause-column : goal.page_at_place-wanted-requires-clause-column
-page_at_place-wanted-requires-clause-column g c = subst (λ (s : Surface). c.texel-column.result.0 < s.width) c.requires.surface c.texel-column.ensures.column_within
+page_at_place-wanted-requires-clause-column g c =
+    subst (λ (s : Surface). c.texel-column.result.0 < s.width) c.requires.surface c.texel-column.ensures.column_within
 
 pub page_at_place-wanted-requires-clause-line : goal.page_at_place-wanted-requires-clause-line
 page_at_place-wanted-requires-clause-line g c = subst (λ (s : Surface). c.texel-column.result.1 < s.height) c.requires.surface c.texel-column.ensures.row_within
@@ -96,10 +97,12 @@ pub page_at_place-page-requires-clause-level : goal.page_at_place-page-requires-
 page_at_place-page-requires-clause-level g c = subst (λ (s : Surface). c.level-level.result < s.levels) c.requires.surface c.level-level.ensures.within
 
 pub page_at_place-page-requires-clause-column : goal.page_at_place-page-requires-clause-column
-page_at_place-page-requires-clause-column g c = subst (λ (s : Surface). c.texel-column-in-loop-x.result.0 < s.width) c.requires.surface c.texel-column-in-loop-x.ensures.column_within
+page_at_place-page-requires-clause-column g c =
+    subst (λ (s : Surface). c.texel-column-in-loop-x.result.0 < s.width) c.requires.surface c.texel-column-in-loop-x.ensures.column_within
 
 pub page_at_place-page-requires-clause-line : goal.page_at_place-page-requires-clause-line
-page_at_place-page-requires-clause-line g c = subst (λ (s : Surface). c.texel-column-in-loop-x.result.1 < s.height) c.requires.surface c.texel-column-in-loop-x.ensures.row_within
+page_at_place-page-requires-clause-line g c =
+    subst (λ (s : Surface). c.texel-column-in-loop-x.result.1 < s.height) c.requires.surface c.texel-column-in-loop-x.ensures.row_within
 
 pub found_for-found-requires-clause-before : goal.found_for-found-requires-clause-before
 found_for-found-requires-clause-before g c = c.loop-x.invariant.finest
@@ -135,7 +138,8 @@ word_at_place-word-requires-clause-finest g c =
     let middle = c.found_for-found.new.lookup in
     subst (λ (p : ℕ). IsFinest (g.K.Lookup.shape middle) (g.K.Lookup.version middle) (g.K.Lookup.says middle) p c.found_for-found.result)
     (same_page c.args.geometry.now (g.K.Lookup.shape middle) c.level-level.result c.texel-column-in-loop-x.result.0
-    c.texel-column-in-loop-x.result.1 c.page_at_place-page.result c.page_at_place-page.ensures.page (◌∙◌ {b = g.K.Lookup.shape c.loop-x.lookup} c.found_for-found.ensures.shape c.loop-x.invariant.shape)) c.found_for-found.ensures.finest
+    c.texel-column-in-loop-x.result.1 c.page_at_place-page.result c.page_at_place-page.ensures.page
+    (◌∙◌ {b = g.K.Lookup.shape c.loop-x.lookup} c.found_for-found.ensures.shape c.loop-x.invariant.shape)) c.found_for-found.ensures.finest
 
 pub returns-clause-shape : goal.returns-clause-shape
 returns-clause-shape g c = c.loop-x.invariant.shape ∙ sym c.requires.shape

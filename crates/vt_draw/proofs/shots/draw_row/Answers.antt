@@ -38,7 +38,8 @@ draw_pixels-requires-else-shot-eq1-clause-room g c = λ p below.
 pub returns-else-shot-eq1-clause-drawn : goal.returns-else-shot-eq1-clause-drawn
 returns-else-shot-eq1-clause-drawn g c =
     let depth : 2 ≡ c.args.shot.now.depth = two_left c.args.shot.now.depth c.requires.depth c.if-shot-eq1.false in
-    drawn_as c.args.shot.now.geometry.now 2 c.args.shot.now.depth (g.K.Lookup.version c.draw_pixels-else-shot-eq1.new.lookup) (g.K.Lookup.says c.draw_pixels-else-shot-eq1.new.lookup)
+    drawn_as c.args.shot.now.geometry.now 2 c.args.shot.now.depth (g.K.Lookup.version c.draw_pixels-else-shot-eq1.new.lookup)
+    (g.K.Lookup.says c.draw_pixels-else-shot-eq1.new.lookup)
     c.row_of-row.result _ c.width-columns.result c.args.shot.now.path.now.width c.draw_pixels-else-shot-eq1.new.out depth c.row_of-row.ensures.row
     c.width-columns.ensures.value c.draw_pixels-else-shot-eq1.ensures.drawn
 

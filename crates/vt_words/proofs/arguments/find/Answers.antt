@@ -7,7 +7,8 @@ returns-in_default c = record { found = tt; usage = memory_not_usage }
 
 pub returns-in-Ok-try_get_matches_from : goal.returns-in-Ok-try_get_matches_from
 returns-in-Ok-try_get_matches_from c = record {
-  found = found_by _ _ (texts c.args.words.now) _ c.in-Ok.ensures c.requires c.in-Ok-try_get_matches_from.ensures.kinds c.in-Ok-try_get_matches_from.ensures.matches;
+  found = found_by _ _ (texts c.args.words.now) _ c.in-Ok.ensures c.requires c.in-Ok-try_get_matches_from.ensures.kinds
+      c.in-Ok-try_get_matches_from.ensures.matches;
   usage = ok_not_usage _;
 }
 
