@@ -1,4 +1,4 @@
-mod Answering
+pub mod Answering
 pub mod Passes
 pub mod Reading
 pub mod Sighted
