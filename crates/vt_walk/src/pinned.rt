@@ -1,6 +1,6 @@
 //! Placing the pinned pages.
 
-ghost use Rattle.std.specs.Prelude.{◌≡◌, ◌+◌, ◌<◌, ◌≤◌, [], length, Bool, false, OnOk, OnErr, IsErrOf};
+ghost use Rattle.std.specs.Prelude.{◌≡◌, ◌+◌, ◌^◌, ◌<◌, ◌≤◌, [], length, Bool, false, OnOk, OnErr, IsErrOf};
 ghost use Rattle.vt_outside.specs.Counts.{Rose};
 ghost use Rattle.vt_pages.specs.Pages.{pages_of};
 ghost use Rattle.vt_store.specs.Format.{tile_length as length_of_tile};
@@ -58,9 +58,17 @@ pub fn place_pinned<Rt: Threads + Wait + Sync, M: PassMachine, F: File>(
     let tile = buffer.as_mut_slice();
     let first = geometry.page_count() - pinned;
     for frame in 0..pinned {
-        place_page(rt, machine, store, first + frame, frame, tile)?;
+        place_page(rt, machine, store, page_in(first, frame), frame, tile)?;
     }
     Ok(())
+}
+
+// The pinned page that a frame has, where the first frame has the first of them.
+fn page_in(first: u32, frame: u32) -> u32
+    requires { first + frame < 2 ^ 32 }
+    ensures { result ≡ first + frame }
+{
+    first + frame
 }
 
 // Reads the tile of a page, and places it in a frame.

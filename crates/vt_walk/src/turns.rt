@@ -1,6 +1,6 @@
 //! Pass after pass.
 
-ghost use Rattle.std.specs.Prelude.{◌≡◌, ℕ, ◌+◌, ◌<◌, ◌≤◌, ◌^◌, ◌∷◌, List, Option, length, All, MatchBool, MatchResult, OnOk, OnErr, IfOk};
+ghost use Rattle.std.specs.Prelude.{◌≡◌, ◌≢◌, ℕ, ◌+◌, ◌<◌, ◌≤◌, ◌^◌, [], ◌∷◌, List, Option, length, All, MatchBool, MatchResult, OnOk, OnErr, IfOk};
 ghost use Rattle.vt_definitions.specs.Limits.{most_versions};
 ghost use Rattle.vt_journal.specs.JournalText.{IsEventInChain};
 ghost use Rattle.vt_pass.specs.Requests.{AreSameFiles, ArePartlyReadFor};
@@ -384,7 +384,14 @@ fn judge(tour: &Tour<'_>, passed: &Passed) -> Result<(), WalkError>
 fn is_finished(mode: Mode, loads_nothing: bool, plan: &Batch) -> bool
     ensures { MatchBool result (IsEnd mode loads_nothing plan.now.elements) (IsEnd mode loads_nothing plan.now.elements → ⊥) }
 {
-    mode == Mode::Live || (loads_nothing && plan.len() == 0)
+    mode == Mode::Live || (loads_nothing && plans_nothing(plan))
+}
+
+// Whether a plan has no entry.
+fn plans_nothing(plan: &Batch) -> bool
+    ensures { MatchBool result (plan.now.elements ≡ []) (plan.now.elements ≢ []) }
+{
+    plan.len() == 0
 }
 
 // Writes the picture that a pass has finished, and its line, or leaves it to the next pass.

@@ -1,4 +1,4 @@
-use Rattle.std.proofs.Common.{[], ◌∷◌, Err, refl, ap, sym, subst, rules}
+use Rattle.std.proofs.Common.{[], ◌∷◌, Err, refl, ap, sym, subst, rules, arith}
 use Rattle.vt_pass.specs.Machines.{file_state}
 use Rattle.vt_walk.specs.declared.error.WalkError.{WalkError}
 use Rattle.vt_walk.specs.States.{walk_state}
@@ -51,3 +51,30 @@ returns-then-tour-clause-walked g c = (
     none = record { files = refl; held = refl };
   },
 )
+
+pub returns-in-Ok-clause-faults : goal.returns-in-Ok-clause-faults
+returns-in-Ok-clause-faults g c = omega (arith, c.open_loaders.ensures.faults, c.walk_stores.ensures.faults)
+
+pub returns-in-Ok-clause-out_faults : goal.returns-in-Ok-clause-out_faults
+returns-in-Ok-clause-out_faults g c = c.walk_stores.ensures.out_faults
+
+pub returns-in-Ok-clause-counted : goal.returns-in-Ok-clause-counted
+returns-in-Ok-clause-counted g c = c.walk_stores.ensures.counted
+
+pub returns-in-Ok-clause-opened : goal.returns-in-Ok-clause-opened
+returns-in-Ok-clause-opened g c = c.walk_stores.ensures.opened
+
+pub returns-in-Err-clause-faults : goal.returns-in-Err-clause-faults
+returns-in-Err-clause-faults g c = c.open_loaders.ensures.faults
+
+pub returns-in-Err-clause-out_faults : goal.returns-in-Err-clause-out_faults
+returns-in-Err-clause-out_faults g c = omega arith
+
+pub returns-then-tour-clause-faults : goal.returns-then-tour-clause-faults
+returns-then-tour-clause-faults g c = omega arith
+
+pub returns-then-tour-clause-out_faults : goal.returns-then-tour-clause-out_faults
+returns-then-tour-clause-out_faults g c = omega arith
+
+pub returns-then-tour-clause-opened : goal.returns-then-tour-clause-opened
+returns-then-tour-clause-opened g c = c.requires.opened
