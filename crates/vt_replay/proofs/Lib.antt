@@ -1,3 +1,4 @@
+pub mod Answering
 pub mod Passes
 pub mod Reading
 pub mod Sighted

@@ -1,6 +1,6 @@
 -- What is drawn by a look-up that missed no tile is the store's texel of the page that serves it.
 use Rattle.std.proofs.Common.{◌≡◌, ℕ, ◌+◌, ◌-◌, ◌*◌, ◌/◌, ◌^◌, ◌<◌, ◌≤◌, inl, inr, true, false, List, length, Option, Some, None, refl, sym, ap, ◌∙◌, subst, arith}
-use Rattle.std.specs.Prelude.{slice_get, unwrap_or, IsSome}
+use Rattle.std.specs.Prelude.{slice_get, unwrap_or}
 use Rattle.std.proofs.lemmas.Bool.{cases_lt, false≢true}
 use Rattle.std.proofs.lemmas.List.{get_or_past}
 use Rattle.std.proofs.lemmas.List.Edits.{length-between}
@@ -25,7 +25,7 @@ use Rattle.vt_tiles.specs.StoreViews.{IsStore}
 use Rattle.vt_tiles.proofs.Stored.{pieces_hold_texels}
 use Rattle.vt_shown.specs.Scenes.{Scene}
 use Rattle.vt_shown.specs.Replays.{shown_at, serving_page, pixel_under}
-use Rattle.vt_replay.specs.Sights.{SightView, IsTrueOf, IsIn, IsHeld, AreTiles, Serves, page_number, row_of}
+use Rattle.vt_replay.specs.Sights.{SightView, IsTrueOf, IsIn, IsHeld, AreTiles, page_number, row_of}
 use Rattle.vt_replay.proofs.Places.{row_room}
 
 unmapped_by : (page : ℕ) (o : Option ℕ) → 0 ≡ page_number page o → o ≡ None

@@ -8,7 +8,6 @@ use Rattle.vt_journal.specs.declared.changes.Change.{Change}
 use Rattle.vt_tiles.specs.StoreViews.{StoreView, IsStoreIfTold}
 use Rattle.vt_replay.specs.Playing.{Follows, IsStaged}
 use Rattle.vt_replay.specs.Sights.{AreTiles}
-use Rattle.vt_replay.proofs.Readying.{tiles_same}
 
 pub restaged : {F : Type 0} (g : FileMeanings F) (s t : Shape) (d e width height : ℕ) (js ks : List Change) (entries : List ℕ)
     (version size : ℕ) (slots owners bytes samples counts : List ℕ) (store : StoreView F) → t ≡ s → e ≡ d → ks ≡ js
@@ -21,20 +20,19 @@ restaged g s t d e width height js ks entries version size slots owners bytes sa
 
 -- the first table and the empty set, with room to draw in
 pub staged_first : {F : Type 0} (g : FileMeanings F) (s r : Shape) (d e width height : ℕ) (js ks : List Change)
-    (entries also_entries : List ℕ) (version also_version size also_size : ℕ) (slots also_slots owners also_owners bytes also_bytes samples counts : List ℕ)
+    (entries : List ℕ) (version size : ℕ) (slots owners bytes samples counts : List ℕ)
     (store : StoreView F) → r ≡ s → e ≡ d → ks ≡ js → store.shape ≡ s → store.depth ≡ d
-    → also_entries ≡ entries → also_version ≡ version → also_size ≡ size → also_slots ≡ slots → also_owners ≡ owners → also_bytes ≡ bytes
     → Follows r ks entries version → AreTiles r e size slots owners bytes (g.bytes store.file)
     → length samples ≡ height * (texel_length e * width) → length counts ≡ pages_of r → IsStoreIfTold (g.bytes store.file) s d
-    → IsStaged g s d width height js also_entries also_version also_size also_slots also_owners also_bytes samples counts store
-staged_first g s r d e width height js ks entries also_entries version also_version size also_size slots also_slots owners also_owners bytes also_bytes
-    samples counts store shape depth changes own own_depth a b c f h k follows tiles rows pages is =
-    restaged g s r d e width height js ks also_entries also_version also_size also_slots also_owners also_bytes samples counts store shape depth changes
+    → IsStaged g s d width height js entries version size slots owners bytes samples counts store
+staged_first g s r d e width height js ks entries version size slots owners bytes samples counts store shape depth changes own own_depth follows tiles
+    rows pages is =
+    restaged g s r d e width height js ks entries version size slots owners bytes samples counts store shape depth changes
     (record {
-      follows = subst (λ (l : List ℕ). Follows r ks l also_version) (sym a) (subst (λ (n : ℕ). Follows r ks entries n) (sym b) follows);
+      follows = follows;
       shape = own ∙ sym shape;
       depth = own_depth ∙ sym depth;
-      tiles = tiles_same r e size also_size slots owners bytes also_slots also_owners also_bytes (g.bytes store.file) c f h k tiles;
+      tiles = tiles;
       samples_size = rows;
       counts_size = pages;
       store_is = subst (λ (q : Shape). IsStoreIfTold (g.bytes store.file) q e) (sym shape)

@@ -1,6 +1,7 @@
 -- What a replay leaves.
 use Rattle.std.specs.Prelude.{◌≡◌, ◌⊎◌, ℕ, ◌<◌, ◌++◌, List, Some, Option, All, length, slice_get, option_map, Result, Ok, Err}
 use Rattle.vt_outside.specs.Files.{Files, Asked, with_places}
+use Rattle.vt_outside.specs.declared.answers.OutsideError.{OutsideError}
 use Rattle.vt_outside.specs.declared.place.Place.{Place}
 use Rattle.vt_pages.specs.Shape.{Shape}
 use Rattle.vt_camera.specs.Paths.{PathView}
@@ -50,3 +51,9 @@ pub record IsClosed (s : Shape) (d : ℕ) (name : List ℕ) (asked : Option (Lis
   pub places : List Place
   pub are : All (IsTilePlace s d) places
   pub closed : after ≡ option_map (with_places name (option_map (λ old. old ++ places) asked)) before
+
+-- the answer of a replay, by that of its passes
+abbrev pub replay_answer : Result ℕ OutsideError → Result ℕ ReplayError
+replay_answer (Ok count) = Ok count
+replay_answer (Err OutsideError.Failed) = Err Failed
+replay_answer (Err OutsideError.NoMemory) = Err NoMemory

@@ -6,7 +6,7 @@ ghost use Rattle.vt_files.specs.Courses.{passage};
 ghost use Rattle.vt_files.specs.Dues.{AsksNone};
 ghost use Rattle.vt_replay.specs.Playing.{IsReadOn};
 ghost use Rattle.vt_replay.specs.Flaws.{IsFirstRefused};
-ghost use Rattle.vt_replay.specs.Outcomes.{Leaves, IsClosed};
+ghost use Rattle.vt_replay.specs.Outcomes.{Leaves, IsClosed, replay_answer};
 
 use crate::error::ReplayError;
 use crate::judge::judged;
@@ -67,7 +67,14 @@ fn replay_open<D: Folder>(
 {
     let geometry = store.geometry();
     let text = judged(alloc, &geometry, path, journal)?;
-    match play(alloc, folder, store, path, &text, prefix) {
+    answer_of(play(alloc, folder, store, path, &text, prefix))
+}
+
+// The answer of a replay, by that of its passes.
+fn answer_of(played: Result<u32, OutsideError>) -> Result<u32, ReplayError>
+    ensures { result ≡ replay_answer played }
+{
+    match played {
         Ok(count) => Ok(count),
         Err(OutsideError::Failed) => Err(ReplayError::Failed),
         Err(OutsideError::NoMemory) => Err(ReplayError::NoMemory),

@@ -1,6 +1,6 @@
 //! The passes of a journal in their order: the last of each picture is drawn and written.
 
-ghost use Rattle.std.specs.Prelude.{◌≡◌, ◌≢◌, true, false, ◌⊎◌, ℕ, ◌+◌, ◌*◌, ◌<◌, ◌≤◌, [], ◌∷◌, List, Some, None, length, slice_get, IfOk, OnOk, IsSome};
+ghost use Rattle.std.specs.Prelude.{◌≡◌, ◌≢◌, true, false, ◌⊎◌, ℕ, ◌+◌, ◌*◌, ◌<◌, ◌≤◌, [], ◌∷◌, List, Option, Some, None, length, slice_get, IfOk, OnOk, IsSome};
 ghost use Rattle.vt_definitions.specs.Depths.{IsDepth, texel_length};
 ghost use Rattle.vt_outside.specs.Counts.{Rose};
 ghost use Rattle.vt_pages.specs.Pages.{pages_of, root_of};
@@ -15,8 +15,8 @@ ghost use Rattle.vt_files.specs.Dues.{AsksNone};
 ghost use Rattle.vt_files.specs.Pictures.{picture_due, pictures_due};
 ghost use Rattle.vt_shown.specs.Scenes.{scene_of};
 ghost use Rattle.vt_shown.specs.Replays.{HasPixels, pixel_under};
-ghost use Rattle.vt_replay.specs.Playing.{IsReadOn, MayBePlayed, IsStaged, AreRowsWithin, ArePlayed, HasWritten};
-ghost use Rattle.vt_replay.specs.Sights.{row_of};
+ghost use Rattle.vt_replay.specs.Playing.{IsReadOn, Follows, MayBePlayed, IsStaged, AreRowsWithin, ArePlayed, HasWritten};
+ghost use Rattle.vt_replay.specs.Sights.{row_of, AreTiles};
 ghost use Rattle.vt_replay.specs.Replayed.{replayed_rows, pictures_of, replay_file, replay_due};
 
 use crate::draw::draw_version;
@@ -72,6 +72,32 @@ fn stage_of(
         samples,
         counts,
     })
+}
+
+// What stands before the first pass: a table and a set of tiles that are empty, and the room to draw in.
+fn first_stage(
+    alloc: Global,
+    geometry: &Geometry,
+    depth: u32,
+    path: &Path,
+    journal: &Journal,
+) -> Result<Stage, NoMemory>
+    requires { IsDepth depth }
+    ensures first { IfOk result (λ stage. stage.table.version ≡ 0) }
+    ensures follows { IfOk result (λ stage. Follows geometry.now journal.now.changes stage.table.entries.items stage.table.version) }
+    ensures tiles { IfOk result (λ stage. (told : Option (List ℕ)) → AreTiles geometry.now depth stage.tiles.size
+        stage.tiles.slots.items stage.tiles.owners.items stage.tiles.bytes.items told) }
+    ensures samples { IfOk result (λ stage. length stage.samples.items
+        ≡ path.now.height * (texel_length depth * path.now.width)) }
+    ensures counts { IfOk result (λ stage. length stage.counts.items ≡ pages_of geometry.now) }
+{
+    // From here on it is known that the geometry keeps its limits.
+    let _side = geometry.tile();
+    let slots = slots_for(geometry, journal);
+    let table = PageTable::new(alloc, geometry, journal)?;
+    let tiles = Tiles::new(alloc, geometry, depth, slots)?;
+    let stage = stage_of(alloc, table, tiles, geometry, depth, path)?;
+    Ok(stage)
 }
 
 // Brings a table to a version, and draws the rows of a pass that name it.
@@ -323,9 +349,6 @@ pub(crate) fn play<D: Folder>(
     // From here on it is known that the geometry keeps its limits.
     let _side = geometry.tile();
     let journal = text.journal();
-    let slots = slots_for(&geometry, journal);
-    let table = PageTable::new(alloc, &geometry, journal)?;
-    let tiles = Tiles::new(alloc, &geometry, depth, slots)?;
-    let mut stage = stage_of(alloc, table, tiles, &geometry, depth, path)?;
+    let mut stage = first_stage(alloc, &geometry, depth, path, journal)?;
     play_passes(alloc, folder, prefix, &mut stage, store, path, text)
 }

@@ -1,5 +1,5 @@
 -- What passes ask of the open files, and how the counts of faults add up.
-use Rattle.std.proofs.Common.{◌≡◌, ℕ, ◌+◌, ◌-◌, ◌<◌, ◌≤◌, ◌^◌, ◌⊎◌, inl, inr, Bool, true, false, nat_le, ◌||◌, ◌&&◌, List, [], ◌∷◌, ◌++◌, length, map, sum, Option, Some, None, refl, sym, ap, ◌∙◌, min, arith}
+use Rattle.std.proofs.Common.{◌≡◌, ℕ, ◌+◌, ◌-◌, ◌<◌, ◌≤◌, ◌^◌, ◌⊎◌, inl, inr, Bool, true, false, nat_le, ◌||◌, ◌&&◌, List, [], ◌∷◌, ◌++◌, length, map, sum, Option, Some, None, refl, sym, ap, ◌∙◌, min, subst, arith}
 use Rattle.std.specs.Prelude.{IsSome, IsTrue, is_some, option_map, unwrap_or, flat_map, sum_by, count_by, All}
 use Rattle.std.specs.List.{list_any}
 use Rattle.std.proofs.lemmas.Bool.{false≢true}
@@ -28,6 +28,12 @@ told_twice P Q R None None (Some z) both p q = absurd q
 told_twice P Q R None (Some y) c both p q = absurd p
 told_twice P Q R (Some x) None c both p q = absurd p
 told_twice P Q R (Some x) (Some y) None both p q = absurd q
+
+-- what holds of the same places twice
+pub told_same : (P : List Place → List Place → Type 0) (told now : Option (List Place)) → now ≡ told → ((places : List Place) → P places places)
+    → OnTold P told now
+told_same P None now is same = subst (OnTold P None) (sym is) tt
+told_same P (Some places) now is same = subst (OnTold P (Some places)) (sym is) (same places)
 
 -- the same of each place
 pub told_more : (P R : List Place → List Place → Type 0) (a b : Option (List Place)) → ((x y : List Place) → P x y → R x y) → OnTold P a b → OnTold R a b

@@ -40,3 +40,18 @@ returns-in_err-draw_line-clause-others g c = λ z other.
     let full : length c.draw_line.new.out ≡ line = omega arith in
     row_other (texel_length shot.depth * shot.path.now.width) line c.args.y z (c.args.y * line + line - c.args.y * line) shot.path.now.height
     c.args.samples.now c.draw_line.new.out wide c.requires.within all full (omega arith) other
+
+pub returns-in_err-draw_line-clause-read : goal.returns-in_err-draw_line-clause-read
+returns-in_err-draw_line-clause-read g c = c.draw_line.ensures.read
+
+pub returns-in_err-draw_line-clause-counted : goal.returns-in_err-draw_line-clause-counted
+returns-in_err-draw_line-clause-counted g c = c.draw_line.ensures.counted
+
+pub returns-clause-read : goal.returns-clause-read
+returns-clause-read g c = c.draw_line.ensures.read
+
+pub returns-clause-counted : goal.returns-clause-counted
+returns-clause-counted g c = c.draw_line.ensures.counted
+
+pub returns-clause-ready : goal.returns-clause-ready
+returns-clause-ready g c = c.in_ok-draw_line.ensures.ready

@@ -41,3 +41,9 @@ loop-round-preserved g c =
       counted = λ p inside. (let none = c.clear.ensures p inside in omega (arith, none));
       read = read_then g.F.File c.args.store.now loop.store c.bring_all.new.store loop.invariant.read read;
     }
+
+pub returns-clause-read : goal.returns-clause-read
+returns-clause-read g c = c.loop-round.invariant.read
+
+pub returns-then-not-tried-clause-read : goal.returns-then-not-tried-clause-read
+returns-then-not-tried-clause-read g c = c.loop-round.invariant.read

@@ -1,4 +1,4 @@
-use Rattle.std.proofs.Common.{ℕ, ◌≤◌, List, length, rules, refl, sym, ap, subst, arith}
+use Rattle.std.proofs.Common.{ℕ, ◌≤◌, List, length, refl, sym, ap, subst, arith}
 use Rattle.std.specs.Prelude.{IsSome}
 use Rattle.vt_pages.specs.Pages.{root_of, IsWithinLimits}
 use Rattle.vt_journal.specs.declared.changes.Change.{Change}
@@ -9,40 +9,58 @@ use Rattle.vt_shown.specs.Scenes.{scene_of}
 use Rattle.vt_replay.specs.Playing.{MayBePlayed, ArePlayed, HasWritten}
 use Rattle.vt_replay.specs.Replayed.{replay_file, pictures_of}
 use Rattle.vt_replay.proofs.Passes.{may_be_played, root_mapped, are_played}
+use Rattle.vt_replay.proofs.Reading.{read_none}
 use Rattle.vt_replay.proofs.Staging.{staged_first}
 use Rattle.vt_replay.proofs.play.play.Goals as goal
 
 pub play_passes-requires-clause-played : goal.play_passes-requires-clause-played
-play_passes-requires-clause-played g c =
+play_passes-requires-clause-played g c = λ _ _.
     let s = c.args.store.now.shape in
     let played : MayBePlayed s c.args.text.now.changes = subst (λ (l : List Change). MayBePlayed s l) (sym c.requires.changes)
     (may_be_played s c.args.path.now.height c.args.text.now.content c.requires.lawful) in
-    search (rules, played)
+    played
 
 pub play_passes-requires-clause-staged : goal.play_passes-requires-clause-staged
-play_passes-requires-clause-staged g c =
+play_passes-requires-clause-staged g c = λ _ _.
     let store = c.args.store.now in
     let stage = c.in_ok-stage.stage in
-    let table = c.in_ok-table.table in
-    let tiles = c.in_ok-tiles.tiles in
     let did = c.in_ok-stage.ensures in
-    let staged = staged_first g.D.File.File store.shape c.geometry-geometry.result store.depth c.depth-depth.result c.args.path.now.width
-    c.args.path.now.height c.args.text.now.changes c.journal-journal.result.now.changes table.entries.items stage.table.entries.items table.version
-    stage.table.version tiles.size stage.tiles.size tiles.slots.items stage.tiles.slots.items tiles.owners.items stage.tiles.owners.items
-    tiles.bytes.items stage.tiles.bytes.items stage.samples.items stage.counts.items store c.geometry-geometry.ensures.shape c.depth-depth.ensures.value
-    c.journal-journal.ensures refl refl did.entries did.version did.size did.slots did.owners did.bytes c.in_ok-table.ensures.follows
-    (c.in_ok-tiles.ensures (g.D.File.File.bytes store.file)) did.samples did.counts c.geometry-geometry.ensures.store in
-    search (rules, staged)
+    staged_first g.D.File.File store.shape c.geometry-geometry.result store.depth c.depth-depth.result c.args.path.now.width
+    c.args.path.now.height c.args.text.now.changes c.journal-journal.result.now.changes stage.table.entries.items stage.table.version
+    stage.tiles.size stage.tiles.slots.items stage.tiles.owners.items stage.tiles.bytes.items stage.samples.items stage.counts.items store
+    c.geometry-geometry.ensures.shape c.depth-depth.ensures.value c.journal-journal.ensures refl refl did.follows
+    (did.tiles (g.D.File.File.bytes store.file)) did.samples did.counts c.geometry-geometry.ensures.store
+
+pub play_passes-requires-clause-first : goal.play_passes-requires-clause-first
+play_passes-requires-clause-first g c = λ _ _. c.in_ok-stage.ensures.first
+
+pub returns-in_err-stage-clause-asks : goal.returns-in_err-stage-clause-asks
+returns-in_err-stage-clause-asks g c = record { asked = refl; faults = omega arith }
+
+pub returns-in_err-stage-clause-read : goal.returns-in_err-stage-clause-read
+returns-in_err-stage-clause-read g c = read_none g.D.File.File c.args.store.now
+
+pub returns-clause-count : goal.returns-clause-count
+returns-clause-count g c = c.play_passes.ensures.count
+
+pub returns-clause-asks : goal.returns-clause-asks
+returns-clause-asks g c = c.play_passes.ensures.asks
+
+pub returns-clause-failed : goal.returns-clause-failed
+returns-clause-failed g c = c.play_passes.ensures.failed
+
+pub returns-clause-read : goal.returns-clause-read
+returns-clause-read g c = c.play_passes.ensures.read
 
 pub play_passes-requires-clause-passes : goal.play_passes-requires-clause-passes
-play_passes-requires-clause-passes g c =
+play_passes-requires-clause-passes g c = λ _ _.
     let played = subst (λ (l : List Change). ArePlayed c.args.path.now.height c.args.text.now.content.pinned
     (length l) c.args.text.now.content.passes) (sym c.requires.changes)
     (are_played c.args.store.now.shape c.args.path.now.height c.args.text.now.content c.requires.lawful) in
-    search (rules, played)
+    played
 
 pub play_passes-requires-clause-root : goal.play_passes-requires-clause-root
-play_passes-requires-clause-root g c =
+play_passes-requires-clause-root g c = λ _ _.
     let s = c.args.store.now.shape in
     let js = c.args.text.now.changes in
     let limits : IsWithinLimits s = subst IsWithinLimits c.geometry-geometry.ensures.shape c.tile-side.ensures.limits in
@@ -51,7 +69,7 @@ play_passes-requires-clause-root g c =
     subst (λ (l : List Change). IsSome (at l v (root_of s))) (sym c.requires.changes)
     (root_mapped s c.args.path.now.height c.args.text.now.content limits c.requires.lawful v low
     (omega (arith, high, ap (λ (l : List Change). length l) c.requires.changes)))) in
-    search (rules, mapped)
+    mapped
 
 pub returns-clause-wrote : goal.returns-clause-wrote
 returns-clause-wrote g c = λ b told.

@@ -1,4 +1,4 @@
-use Rattle.std.proofs.Common.{ℕ, List, [], ◌∷◌, ◌∙◌, subst}
+use Rattle.std.proofs.Common.{ℕ, List, [], ◌∷◌, ◌∙◌, subst, refl, arith}
 use Rattle.std.proofs.lemmas.Result.{err_from_is_err_and}
 use Rattle.vt_ppm.specs.Picture.{picture_bytes}
 use Rattle.vt_tiles.specs.Format.{stored}
@@ -8,6 +8,7 @@ use Rattle.vt_files.specs.Pictures.{picture_due}
 use Rattle.vt_shown.specs.Scenes.{scene_of}
 use Rattle.vt_replay.specs.Replayed.{replayed_rows}
 use Rattle.vt_replay.proofs.Written.{nothing_written, samples_written}
+use Rattle.vt_outside.proofs.Untold.{OnOk-all}
 use Rattle.vt_replay.proofs.play.play_pass.Goals as goal
 
 pub returns-in_err-show_pass-clause-wrote : goal.returns-in_err-show_pass-clause-wrote
@@ -29,3 +30,18 @@ returns-clause-wrote g c = λ b told.
     c.height.ensures.value moved in
     samples_written c.args.prefix.now shot.depth shot.path.now.width shot.path.now.height shot.picture c.as_slice.result.now shown p c.write_picture.result
     (c.as_slice.ensures.value ∙ c.in_ok-show_pass.ensures.shown b told) again
+
+pub returns-in_err-show_pass-clause-asks : goal.returns-in_err-show_pass-clause-asks
+returns-in_err-show_pass-clause-asks g c = record { asked = refl; faults = omega arith }
+
+pub returns-in_err-show_pass-clause-read : goal.returns-in_err-show_pass-clause-read
+returns-in_err-show_pass-clause-read g c = c.show_pass.ensures.read
+
+pub returns-clause-read : goal.returns-clause-read
+returns-clause-read g c = c.show_pass.ensures.read
+
+pub returns-clause-staged : goal.returns-clause-staged
+returns-clause-staged g c = OnOk-all c.write_picture.result _ c.in_ok-show_pass.ensures.staged
+
+pub returns-clause-there : goal.returns-clause-there
+returns-clause-there g c = OnOk-all c.write_picture.result _ c.in_ok-show_pass.ensures.there

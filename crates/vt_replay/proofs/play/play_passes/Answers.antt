@@ -162,3 +162,15 @@ returns-clause-wrote g c = λ b told.
     let file : ℕ → List ℕ = replay_file (stored b) (scene_of c.args.store.now.shape c.args.store.now.depth c.args.path.now) c.args.text.now.changes passes in
     (c.loop-i.invariant.files b told).files
     ∙ ap (λ (n : ℕ). option_map (with_files (pictures_due c.args.prefix.now file n)) (g.D.Folder.files c.args.folder.now)) count
+
+pub returns-in_err-play_pass-clause-asks : goal.returns-in_err-play_pass-clause-asks
+returns-in_err-play_pass-clause-asks g c =
+    let low = c.loop-i.invariant.asks.faults in
+    let high = c.play_pass.ensures.asks.faults in
+    record { asked = c.play_pass.ensures.asks.asked ∙ c.loop-i.invariant.asks.asked; faults = omega (arith, low, high) }
+
+pub returns-clause-asks : goal.returns-clause-asks
+returns-clause-asks g c = c.loop-i.invariant.asks
+
+pub returns-clause-read : goal.returns-clause-read
+returns-clause-read g c = c.loop-i.invariant.read

@@ -39,3 +39,12 @@ returns-clause-kept g c = λ y row is other.
     ap (λ (s : List ℕ). row_of wide s y) samples
     ∙ c.in_ok-draw_version.ensures.kept y row (ap (λ (rs : List RowLine). slice_get rs y) c.slice.ensures ∙ is) other
     ∙ ap (λ (s : List ℕ). row_of wide s y) c.as_mut_slice-samples.ensures.value
+
+pub returns-in_err-draw_version-clause-read : goal.returns-in_err-draw_version-clause-read
+returns-in_err-draw_version-clause-read g c = c.draw_version.ensures.read
+
+pub returns-clause-read : goal.returns-clause-read
+returns-clause-read g c = c.draw_version.ensures.read
+
+pub returns-clause-there : goal.returns-clause-there
+returns-clause-there g c = c.advance.ensures.there

@@ -28,3 +28,36 @@ loop-i-preserved g c =
       asked = c.open.ensures.asked ∙ i.asked;
       faults = (let a = i.faults in let b = c.open.ensures.faults in omega (arith, a, b));
     }
+
+pub returns-in_err-reserve-clause-files : goal.returns-in_err-reserve-clause-files
+returns-in_err-reserve-clause-files g c = refl
+
+pub returns-in_err-reserve-clause-asked : goal.returns-in_err-reserve-clause-asked
+returns-in_err-reserve-clause-asked g c = refl
+
+pub returns-in_err-reserve-clause-faults : goal.returns-in_err-reserve-clause-faults
+returns-in_err-reserve-clause-faults g c = omega arith
+
+pub returns-in_err-file-clause-fresh : goal.returns-in_err-file-clause-fresh
+returns-in_err-file-clause-fresh g c = c.loop-i.invariant.fresh
+
+pub returns-in_err-file-clause-files : goal.returns-in_err-file-clause-files
+returns-in_err-file-clause-files g c = c.open.ensures.files ∙ c.loop-i.invariant.files
+
+pub returns-in_err-file-clause-asked : goal.returns-in_err-file-clause-asked
+returns-in_err-file-clause-asked g c = c.open.ensures.asked ∙ c.loop-i.invariant.asked
+
+pub returns-in_err-file-clause-faults : goal.returns-in_err-file-clause-faults
+returns-in_err-file-clause-faults g c = let a = c.loop-i.invariant.faults in let b = c.open.ensures.faults in omega (arith, a, b)
+
+pub returns-clause-fresh : goal.returns-clause-fresh
+returns-clause-fresh g c = c.loop-i.invariant.fresh
+
+pub returns-clause-files : goal.returns-clause-files
+returns-clause-files g c = c.loop-i.invariant.files
+
+pub returns-clause-asked : goal.returns-clause-asked
+returns-clause-asked g c = c.loop-i.invariant.asked
+
+pub returns-clause-faults : goal.returns-clause-faults
+returns-clause-faults g c = c.loop-i.invariant.faults

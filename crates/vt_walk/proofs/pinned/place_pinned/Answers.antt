@@ -1,7 +1,10 @@
-use Rattle.std.proofs.Common.{◌≡◌, ◌+◌, ◌-◌, ap, ◌∙◌, arith, rules}
+use Rattle.std.proofs.Common.{[], ◌≡◌, ◌+◌, ◌-◌, refl, ap, ◌∙◌, arith}
 use Rattle.vt_outside.proofs.Untold.{OnErr-all}
 use Rattle.vt_pages.specs.Pages.{pages_of}
+use Rattle.vt_pass.specs.Machines.{MachineState}
+use Rattle.vt_walk.specs.Reads.{AreAskedAtMostFor, lost_reads}
 use Rattle.vt_walk.specs.Placing.{with_tiles}
+use Rattle.vt_walk.proofs.Asks.{told_same}
 use Rattle.vt_walk.proofs.Placed.{next_pinned, early_pinned, next_placed, asked_at, all_asked, last_asked, more_tiles, none_lost, last_lost}
 use Rattle.vt_walk.proofs.pinned.place_pinned.Goals as goal
 
@@ -81,3 +84,77 @@ pub returns-clause-lost : goal.returns-clause-lost
 returns-clause-lost g c =
     none_lost c.args.geometry.now c.args.store.now.depth c.args.pinned c.loop-frame.frame (g.F.File.asked c.args.store.now.file)
     (g.F.File.asked c.loop-frame.store.file) c.loop-frame.invariant.asked
+
+pub returns-in_err-reserve-clause-files : goal.returns-in_err-reserve-clause-files
+returns-in_err-reserve-clause-files g c = refl
+
+pub returns-in_err-reserve-clause-faults : goal.returns-in_err-reserve-clause-faults
+returns-in_err-reserve-clause-faults g c = omega (arith, c.reserve.ensures.faults)
+
+pub returns-in_err-reserve-clause-bytes : goal.returns-in_err-reserve-clause-bytes
+returns-in_err-reserve-clause-bytes g c = c.reserve.ensures.bytes
+
+pub returns-in_err-reserve-clause-name : goal.returns-in_err-reserve-clause-name
+returns-in_err-reserve-clause-name g c = c.reserve.ensures.name
+
+pub returns-in_err-buffer-clause-files : goal.returns-in_err-buffer-clause-files
+returns-in_err-buffer-clause-files g c = refl
+
+pub returns-in_err-buffer-clause-faults : goal.returns-in_err-buffer-clause-faults
+returns-in_err-buffer-clause-faults g c = omega (arith, c.reserve.ensures.faults)
+
+pub returns-in_err-buffer-clause-bytes : goal.returns-in_err-buffer-clause-bytes
+returns-in_err-buffer-clause-bytes g c = c.reserve.ensures.bytes
+
+pub returns-in_err-buffer-clause-name : goal.returns-in_err-buffer-clause-name
+returns-in_err-buffer-clause-name g c = c.reserve.ensures.name
+
+pub returns-in_err-place_page-clause-files : goal.returns-in_err-place_page-clause-files
+returns-in_err-place_page-clause-files g c =
+    ap (λ (m : MachineState). m.files) (c.in_err-place_page.ensures.refused ∙ c.loop-frame.invariant.state)
+
+pub returns-in_err-place_page-clause-faults : goal.returns-in_err-place_page-clause-faults
+returns-in_err-place_page-clause-faults g c = omega (arith, c.loop-frame.invariant.faults, c.place_page.ensures.faults)
+
+pub returns-in_err-place_page-clause-bytes : goal.returns-in_err-place_page-clause-bytes
+returns-in_err-place_page-clause-bytes g c = c.place_page.ensures.bytes ∙ c.loop-frame.invariant.bytes
+
+pub returns-in_err-place_page-clause-name : goal.returns-in_err-place_page-clause-name
+returns-in_err-place_page-clause-name g c = c.place_page.ensures.name ∙ c.loop-frame.invariant.name
+
+pub returns-clause-idle : goal.returns-clause-idle
+returns-clause-idle g c = c.loop-frame.invariant.idle
+
+pub returns-clause-files : goal.returns-clause-files
+returns-clause-files g c = ap (λ (m : MachineState). m.files) c.loop-frame.invariant.state
+
+pub returns-clause-faults : goal.returns-clause-faults
+returns-clause-faults g c = c.loop-frame.invariant.faults
+
+pub returns-clause-bytes : goal.returns-clause-bytes
+returns-clause-bytes g c = c.loop-frame.invariant.bytes
+
+pub returns-clause-name : goal.returns-clause-name
+returns-clause-name g c = c.loop-frame.invariant.name
+
+pub returns-in_err-reserve-clause-part : goal.returns-in_err-reserve-clause-part
+returns-in_err-reserve-clause-part g c = OnErr-all c.from_residual.result _
+    (told_same (AreAskedAtMostFor c.args.geometry.now c.args.store.now.depth c.args.pinned []) (g.F.File.asked c.args.store.now.file)
+    (g.F.File.asked c.reserve.new.self.file) c.reserve.ensures.asked (λ places at len. omega arith))
+
+pub returns-in_err-reserve-clause-lost : goal.returns-in_err-reserve-clause-lost
+returns-in_err-reserve-clause-lost g c =
+    told_same (λ old new. lost_reads c.args.geometry.now c.args.store.now.depth c.args.pinned new
+    ≡ lost_reads c.args.geometry.now c.args.store.now.depth c.args.pinned old) (g.F.File.asked c.args.store.now.file)
+    (g.F.File.asked c.reserve.new.self.file) c.reserve.ensures.asked (λ places. refl)
+
+pub returns-in_err-buffer-clause-part : goal.returns-in_err-buffer-clause-part
+returns-in_err-buffer-clause-part g c = OnErr-all c.from_residual-in_err-buffer.result _
+    (told_same (AreAskedAtMostFor c.args.geometry.now c.args.store.now.depth c.args.pinned []) (g.F.File.asked c.args.store.now.file)
+    (g.F.File.asked c.reserve.new.self.file) c.reserve.ensures.asked (λ places at len. omega arith))
+
+pub returns-in_err-buffer-clause-lost : goal.returns-in_err-buffer-clause-lost
+returns-in_err-buffer-clause-lost g c =
+    told_same (λ old new. lost_reads c.args.geometry.now c.args.store.now.depth c.args.pinned new
+    ≡ lost_reads c.args.geometry.now c.args.store.now.depth c.args.pinned old) (g.F.File.asked c.args.store.now.file)
+    (g.F.File.asked c.reserve.new.self.file) c.reserve.ensures.asked (λ places. refl)

@@ -1,4 +1,4 @@
-use Rattle.std.proofs.Common.{◌∷◌, refl, ap, Err}
+use Rattle.std.proofs.Common.{◌∷◌, refl, ap, arith, Err}
 use Rattle.std.proofs.lemmas.Result.{err_from_is_err_and}
 use Rattle.vt_walk.specs.States.{walk_state}
 use Rattle.vt_walk.specs.Tours.{given_of}
@@ -49,3 +49,33 @@ returns-clause-made g c = λ b at. pass_made g.M.PassMachine.DEALT g.M.PassMachi
     (walk_state g.D.Folder c.args.tour.now.names.store.now c.args.folder.now (b.start.kept ∷ (g.M.PassMachine.state c.args.machine.now).files)
     b.held b.out_faults) (g.M.PassMachine.state c.args.machine.now) c.args.recency.now at c.requires.more))
     c.in_ok-tell_pass.ensures.whole c.in_ok-tell_pass.ensures.there c.in_ok-tell_pass.ensures.asked c.in_ok-tell_pass.ensures.faults
+
+pub returns-in_err-drawn-clause-same : goal.returns-in_err-drawn-clause-same
+returns-in_err-drawn-clause-same g c = c.draw_pass.ensures.same
+
+pub returns-in_err-drawn-clause-asked : goal.returns-in_err-drawn-clause-asked
+returns-in_err-drawn-clause-asked g c = refl
+
+pub returns-in_err-drawn-clause-faults : goal.returns-in_err-drawn-clause-faults
+returns-in_err-drawn-clause-faults g c = omega arith
+
+pub returns-in_err-tell_pass-clause-same : goal.returns-in_err-tell_pass-clause-same
+returns-in_err-tell_pass-clause-same g c = c.draw_pass.ensures.same
+
+pub returns-in_err-tell_pass-clause-asked : goal.returns-in_err-tell_pass-clause-asked
+returns-in_err-tell_pass-clause-asked g c = c.tell_pass.ensures.asked
+
+pub returns-in_err-tell_pass-clause-faults : goal.returns-in_err-tell_pass-clause-faults
+returns-in_err-tell_pass-clause-faults g c = c.tell_pass.ensures.faults
+
+pub returns-clause-same : goal.returns-clause-same
+returns-clause-same g c = c.draw_pass.ensures.same
+
+pub returns-clause-asked : goal.returns-clause-asked
+returns-clause-asked g c = c.tell_pass.ensures.asked
+
+pub returns-clause-faults : goal.returns-clause-faults
+returns-clause-faults g c = c.tell_pass.ensures.faults
+
+pub returns-clause-idle : goal.returns-clause-idle
+returns-clause-idle g c = c.in_ok-drawn.ensures.idle

@@ -1,4 +1,4 @@
-use Rattle.std.proofs.Common.{◌∷◌, sym, subst}
+use Rattle.std.proofs.Common.{◌∷◌, ◌∙◌, arith, sym, subst}
 use Rattle.std.proofs.lemmas.Result.{err_from_is_err_and}
 use Rattle.vt_walk.specs.States.{walk_state}
 use Rattle.vt_walk.specs.Tours.{given_of}
@@ -54,3 +54,39 @@ end_turn-requires-clause-stands g c κs within = (
 pub returns-clause-taken : goal.returns-clause-taken
 returns-clause-taken g c = λ b at. c.end_turn.ensures.ended b
     (c.in_ok-passed.ensures.made (record { start = b; held = g.O.Sink.held c.args.out.now; out_faults = g.O.Sink.faults c.args.out.now }) at)
+
+pub returns-in_err-passed-clause-same : goal.returns-in_err-passed-clause-same
+returns-in_err-passed-clause-same g c = c.make_pass.ensures.same
+
+pub returns-in_err-passed-clause-asked : goal.returns-in_err-passed-clause-asked
+returns-in_err-passed-clause-asked g c = c.make_pass.ensures.asked
+
+pub returns-in_err-passed-clause-faults : goal.returns-in_err-passed-clause-faults
+returns-in_err-passed-clause-faults g c = c.make_pass.ensures.faults
+
+pub returns-in_err-passed-clause-out_faults : goal.returns-in_err-passed-clause-out_faults
+returns-in_err-passed-clause-out_faults g c = omega arith
+
+pub returns-in_err-judge-clause-same : goal.returns-in_err-judge-clause-same
+returns-in_err-judge-clause-same g c = c.make_pass.ensures.same
+
+pub returns-in_err-judge-clause-asked : goal.returns-in_err-judge-clause-asked
+returns-in_err-judge-clause-asked g c = c.make_pass.ensures.asked
+
+pub returns-in_err-judge-clause-faults : goal.returns-in_err-judge-clause-faults
+returns-in_err-judge-clause-faults g c = c.make_pass.ensures.faults
+
+pub returns-in_err-judge-clause-out_faults : goal.returns-in_err-judge-clause-out_faults
+returns-in_err-judge-clause-out_faults g c = omega arith
+
+pub returns-clause-same : goal.returns-clause-same
+returns-clause-same g c = c.make_pass.ensures.same
+
+pub returns-clause-asked : goal.returns-clause-asked
+returns-clause-asked g c = c.end_turn.ensures.asked ∙ c.make_pass.ensures.asked
+
+pub returns-clause-faults : goal.returns-clause-faults
+returns-clause-faults g c = omega (arith, c.end_turn.ensures.faults, c.make_pass.ensures.faults)
+
+pub returns-clause-out_faults : goal.returns-clause-out_faults
+returns-clause-out_faults g c = c.end_turn.ensures.out_faults

@@ -73,3 +73,42 @@ returns-then-turn-pictures-clause-counted g c =
     (s.0.kept ∷ (g.M.PassMachine.state c.loop-number.machine).files) (g.O.Sink.held c.loop-number.out) (g.O.Sink.faults c.loop-number.out))
     c.loop-number.number (g.M.PassMachine.state c.loop-number.machine) c.loop-number.recency c.loop-number.turn
     (record { passes = c.loop-number.number - 1; reads = c.loop-number.turn.reads }) s.1 (omega (arith, all, pictures)) refl refl
+
+pub returns-then-turn-pictures-clause-same : goal.returns-then-turn-pictures-clause-same
+returns-then-turn-pictures-clause-same g c = c.loop-number.invariant.same
+
+pub returns-then-turn-pictures-clause-asked : goal.returns-then-turn-pictures-clause-asked
+returns-then-turn-pictures-clause-asked g c = c.loop-number.invariant.asked
+
+pub returns-then-turn-pictures-clause-faults : goal.returns-then-turn-pictures-clause-faults
+returns-then-turn-pictures-clause-faults g c = c.loop-number.invariant.faults
+
+pub returns-then-turn-pictures-clause-out_faults : goal.returns-then-turn-pictures-clause-out_faults
+returns-then-turn-pictures-clause-out_faults g c = c.loop-number.invariant.out_faults
+
+pub returns-clause-same : goal.returns-clause-same
+returns-clause-same g c = c.loop-number.invariant.same
+
+pub returns-clause-asked : goal.returns-clause-asked
+returns-clause-asked g c = c.loop-number.invariant.asked
+
+pub returns-clause-faults : goal.returns-clause-faults
+returns-clause-faults g c = c.loop-number.invariant.faults
+
+pub returns-clause-out_faults : goal.returns-clause-out_faults
+returns-clause-out_faults g c = c.loop-number.invariant.out_faults
+
+pub returns-in_err-turn-clause-same : goal.returns-in_err-turn-clause-same
+returns-in_err-turn-clause-same g c = record {
+  names = c.take_turn.ensures.same.names ∙ c.loop-number.invariant.same.names;
+  tell = c.take_turn.ensures.same.tell ∙ c.loop-number.invariant.same.tell;
+}
+
+pub returns-in_err-turn-clause-asked : goal.returns-in_err-turn-clause-asked
+returns-in_err-turn-clause-asked g c = c.take_turn.ensures.asked ∙ c.loop-number.invariant.asked
+
+pub returns-in_err-turn-clause-faults : goal.returns-in_err-turn-clause-faults
+returns-in_err-turn-clause-faults g c = omega (arith, c.take_turn.ensures.faults, c.loop-number.invariant.faults)
+
+pub returns-in_err-turn-clause-out_faults : goal.returns-in_err-turn-clause-out_faults
+returns-in_err-turn-clause-out_faults g c = omega (arith, c.take_turn.ensures.out_faults, c.loop-number.invariant.out_faults)

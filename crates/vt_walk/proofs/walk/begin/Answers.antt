@@ -79,3 +79,42 @@ returns-clause-begun g c = λ held out_faults. head_stands g.M.PassMachine.DEALT
     c.in_ok-recency.recency
     c.in_ok-place_pinned.ensures.placed c.in_ok-place_pinned.ensures.asked c.in_ok-place_pinned.ensures.faults c.in_ok-begin_journal.ensures.whole
     c.in_ok-begin_journal.ensures.there c.in_ok-begin_journal.ensures.asked c.in_ok-begin_journal.ensures.faults c.in_ok-recency.ensures.first
+
+pub returns-in_err-place_pinned-clause-files : goal.returns-in_err-place_pinned-clause-files
+returns-in_err-place_pinned-clause-files g c = c.place_pinned.ensures.files
+
+pub returns-in_err-place_pinned-clause-asked : goal.returns-in_err-place_pinned-clause-asked
+returns-in_err-place_pinned-clause-asked g c = refl
+
+pub returns-in_err-place_pinned-clause-faults : goal.returns-in_err-place_pinned-clause-faults
+returns-in_err-place_pinned-clause-faults g c = omega arith
+
+pub returns-in_err-recency-clause-files : goal.returns-in_err-recency-clause-files
+returns-in_err-recency-clause-files g c = c.place_pinned.ensures.files
+
+pub returns-in_err-recency-clause-asked : goal.returns-in_err-recency-clause-asked
+returns-in_err-recency-clause-asked g c = refl
+
+pub returns-in_err-recency-clause-faults : goal.returns-in_err-recency-clause-faults
+returns-in_err-recency-clause-faults g c = omega arith
+
+pub returns-in_err-begin_journal-clause-files : goal.returns-in_err-begin_journal-clause-files
+returns-in_err-begin_journal-clause-files g c = c.place_pinned.ensures.files
+
+pub returns-in_err-begin_journal-clause-asked : goal.returns-in_err-begin_journal-clause-asked
+returns-in_err-begin_journal-clause-asked g c = c.begin_journal.ensures.asked
+
+pub returns-in_err-begin_journal-clause-faults : goal.returns-in_err-begin_journal-clause-faults
+returns-in_err-begin_journal-clause-faults g c = c.begin_journal.ensures.faults
+
+pub returns-clause-files : goal.returns-clause-files
+returns-clause-files g c = c.place_pinned.ensures.files
+
+pub returns-clause-asked : goal.returns-clause-asked
+returns-clause-asked g c = c.begin_journal.ensures.asked
+
+pub returns-clause-faults : goal.returns-clause-faults
+returns-clause-faults g c = c.begin_journal.ensures.faults
+
+pub returns-clause-idle : goal.returns-clause-idle
+returns-clause-idle g c = c.in_ok-place_pinned.ensures.idle

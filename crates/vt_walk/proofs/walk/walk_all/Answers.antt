@@ -1,4 +1,4 @@
-use Rattle.std.proofs.Common.{◌∷◌, sym, subst}
+use Rattle.std.proofs.Common.{◌∷◌, sym, subst, arith, ◌∙◌}
 use Rattle.std.proofs.lemmas.Result.{err_from_is_err_and}
 use Rattle.vt_pass.specs.Machines.{file_state}
 use Rattle.vt_walk.specs.States.{walk_state}
@@ -40,3 +40,30 @@ returns-clause-walked g c = c.walk_on.ensures.walked (record {
       (file_state g.D.File.File c.args.store.now.file ∷ (g.M.PassMachine.state c.args.machine.now).files) (g.O.Sink.held c.args.out.now)
       (g.O.Sink.faults c.args.out.now));
 }) (c.in_ok-recency.ensures.begun (g.O.Sink.held c.args.out.now) (g.O.Sink.faults c.args.out.now))
+
+pub returns-in_err-recency-clause-store : goal.returns-in_err-recency-clause-store
+returns-in_err-recency-clause-store g c = c.begin.ensures.store
+
+pub returns-in_err-recency-clause-asked : goal.returns-in_err-recency-clause-asked
+returns-in_err-recency-clause-asked g c = c.begin.ensures.asked
+
+pub returns-in_err-recency-clause-faults : goal.returns-in_err-recency-clause-faults
+returns-in_err-recency-clause-faults g c = c.begin.ensures.faults
+
+pub returns-in_err-recency-clause-out_faults : goal.returns-in_err-recency-clause-out_faults
+returns-in_err-recency-clause-out_faults g c = omega arith
+
+pub returns-clause-store : goal.returns-clause-store
+returns-clause-store g c = c.begin.ensures.store
+
+pub returns-clause-asked : goal.returns-clause-asked
+returns-clause-asked g c = c.walk_on.ensures.asked ∙ c.begin.ensures.asked
+
+pub returns-clause-faults : goal.returns-clause-faults
+returns-clause-faults g c = omega (arith, c.begin.ensures.faults, c.walk_on.ensures.faults)
+
+pub returns-clause-out_faults : goal.returns-clause-out_faults
+returns-clause-out_faults g c = c.walk_on.ensures.out_faults
+
+pub returns-clause-counted : goal.returns-clause-counted
+returns-clause-counted g c = c.walk_on.ensures.counted

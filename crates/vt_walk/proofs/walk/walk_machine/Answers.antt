@@ -1,4 +1,4 @@
-use Rattle.std.proofs.Common.{◌≡◌, List, sum, Option, ap, sym, ◌∙◌, subst}
+use Rattle.std.proofs.Common.{◌≡◌, List, sum, Option, ap, sym, ◌∙◌, subst, arith}
 use Rattle.std.specs.Prelude.{is_some}
 use Rattle.vt_outside.specs.Counts.{RoseBy}
 use Rattle.vt_pass.specs.Requests.{FileState, counts_of}
@@ -57,3 +57,12 @@ returns-clause-opened g c =
     one_open 1 c.args.tour.now.names.store.now (g.D.Folder.asked c.args.folder.now) (g.D.Folder.asked c.close_stores.new.folder)
     (file_state g.D.File.File c.args.store.now.file) (file_state g.D.File.File c.walk_all-walked.new.store.file) c.requires.opened
     c.walk_all-walked.ensures.store tell
+
+pub returns-clause-counted : goal.returns-clause-counted
+returns-clause-counted g c = c.walk_all-walked.ensures.counted
+
+pub returns-clause-faults : goal.returns-clause-faults
+returns-clause-faults g c = omega (arith, c.walk_all-walked.ensures.faults, c.close_stores.ensures.faults)
+
+pub returns-clause-out_faults : goal.returns-clause-out_faults
+returns-clause-out_faults g c = c.walk_all-walked.ensures.out_faults

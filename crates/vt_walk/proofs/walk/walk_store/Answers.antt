@@ -1,4 +1,4 @@
-use Rattle.std.proofs.Common.{[], ◌∷◌, ◌<◌, ◌≤◌, Err, refl, ap, sym, subst, rules}
+use Rattle.std.proofs.Common.{[], ◌∷◌, ◌<◌, ◌≤◌, Err, refl, ap, sym, subst, rules, arith}
 use Rattle.std.specs.Prelude.{MatchBool}
 use Rattle.vt_pass.specs.Machines.{file_state}
 use Rattle.vt_turns.specs.declared.error.WalkError.{WalkError}
@@ -53,3 +53,30 @@ returns-then-has_too_few_frames-clause-walked g c = (
     none = record { files = refl; held = refl };
   },
 )
+
+pub returns-in-Ok-clause-faults : goal.returns-in-Ok-clause-faults
+returns-in-Ok-clause-faults g c = omega (arith, c.open_loaders.ensures.faults, c.walk_stores.ensures.faults)
+
+pub returns-in-Ok-clause-out_faults : goal.returns-in-Ok-clause-out_faults
+returns-in-Ok-clause-out_faults g c = c.walk_stores.ensures.out_faults
+
+pub returns-in-Ok-clause-counted : goal.returns-in-Ok-clause-counted
+returns-in-Ok-clause-counted g c = c.walk_stores.ensures.counted
+
+pub returns-in-Ok-clause-opened : goal.returns-in-Ok-clause-opened
+returns-in-Ok-clause-opened g c = c.walk_stores.ensures.opened
+
+pub returns-in-Err-clause-faults : goal.returns-in-Err-clause-faults
+returns-in-Err-clause-faults g c = c.open_loaders.ensures.faults
+
+pub returns-in-Err-clause-out_faults : goal.returns-in-Err-clause-out_faults
+returns-in-Err-clause-out_faults g c = omega arith
+
+pub returns-then-has_too_few_frames-clause-faults : goal.returns-then-has_too_few_frames-clause-faults
+returns-then-has_too_few_frames-clause-faults g c = omega arith
+
+pub returns-then-has_too_few_frames-clause-out_faults : goal.returns-then-has_too_few_frames-clause-out_faults
+returns-then-has_too_few_frames-clause-out_faults g c = omega arith
+
+pub returns-then-has_too_few_frames-clause-opened : goal.returns-then-has_too_few_frames-clause-opened
+returns-then-has_too_few_frames-clause-opened g c = c.requires.opened

@@ -1,4 +1,4 @@
-use Rattle.std.proofs.Common.{◌≡◌, ℕ, List, [], ◌∷◌, sum, Option, refl, ap, sym, ◌∙◌, subst}
+use Rattle.std.proofs.Common.{◌≡◌, ℕ, List, [], ◌∷◌, sum, Option, refl, ap, sym, ◌∙◌, subst, arith}
 use Rattle.std.specs.Prelude.{is_some}
 use Rattle.vt_outside.specs.Counts.{RoseBy}
 use Rattle.vt_outside.specs.Files.{Asked}
@@ -72,3 +72,24 @@ returns-in-Err-clause-others g c =
     others_closed c.args.tour.now.names.store.now c.args.tour.now.settings.crew.loaders (files_of g.D.File.File c.args.stores.elements)
     (g.D.Folder.asked c.args.folder.now) (g.D.Folder.asked c.close_stores.new.folder) c.requires.stores.opened
     (c.close_stores.ensures.asked ∙ ap (λ (fs : List FileState). with_closed fs (g.D.Folder.asked c.args.folder.now)) c.in-Err.ensures.refused)
+
+pub returns-in-Ok-clause-counted : goal.returns-in-Ok-clause-counted
+returns-in-Ok-clause-counted g c = c.walk_machine.ensures.counted
+
+pub returns-in-Ok-clause-opened : goal.returns-in-Ok-clause-opened
+returns-in-Ok-clause-opened g c = c.walk_machine.ensures.opened
+
+pub returns-in-Ok-clause-others : goal.returns-in-Ok-clause-others
+returns-in-Ok-clause-others g c = c.walk_machine.ensures.others
+
+pub returns-in-Ok-clause-faults : goal.returns-in-Ok-clause-faults
+returns-in-Ok-clause-faults g c = c.walk_machine.ensures.faults
+
+pub returns-in-Ok-clause-out_faults : goal.returns-in-Ok-clause-out_faults
+returns-in-Ok-clause-out_faults g c = c.walk_machine.ensures.out_faults
+
+pub returns-in-Err-clause-faults : goal.returns-in-Err-clause-faults
+returns-in-Err-clause-faults g c = c.close_stores.ensures.faults
+
+pub returns-in-Err-clause-out_faults : goal.returns-in-Err-clause-out_faults
+returns-in-Err-clause-out_faults g c = omega arith

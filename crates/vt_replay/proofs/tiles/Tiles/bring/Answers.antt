@@ -4,6 +4,7 @@ use Rattle.vt_journal.specs.Kept.{entries_of}
 use Rattle.vt_replay.specs.Sights.{row_of}
 use Rattle.vt_replay.proofs.Tiling.{tiles_more}
 use Rattle.vt_replay.proofs.Written.{written_back}
+use Rattle.vt_replay.proofs.Reading.{read_none}
 use Rattle.vt_replay.proofs.tiles.Tiles.bring.Goals as goal
 
 pub returns-clause-tiles : goal.returns-clause-tiles
@@ -25,3 +26,12 @@ returns-clause-tiles g c =
     (c.put_entry.ensures ∙ ap (λ (l : List ℕ). with_entry (entries_of l) c.in_ok-slot.slot (Some c.args.page)) c.as_mut_slice.ensures.value)
     (λ z other. c.read_slot.ensures.others z other ∙ ap (λ (l : List ℕ). row_of t.size l z) c.as_mut_slice-bytes.ensures.value)
     c.in_ok-read_slot.ensures.tile)
+
+pub returns-in_err-read_slot-clause-read : goal.returns-in_err-read_slot-clause-read
+returns-in_err-read_slot-clause-read g c = c.read_slot.ensures.read
+
+pub returns-clause-read : goal.returns-clause-read
+returns-clause-read g c = c.read_slot.ensures.read
+
+pub returns-in_err-slot-clause-read : goal.returns-in_err-slot-clause-read
+returns-in_err-slot-clause-read g c = read_none g.F.File c.args.store.now
