@@ -37,7 +37,8 @@ next_pair d w h n at below j j' to end source old row wide high some e f g g' pu
     let past : end ≤ last =
     (let more : v * (n + 1) ≤ w * (2 * (n + 1)) = mul-le v (n + 1) w (2 * (n + 1)) (omega arith) (omega arith) in
     let all : 3 * d * (v * (n + 1)) ≤ 3 * d * (w * (2 * (n + 1))) = mul-le-mul_left (3 * d) more in omega (arith, all, put, ends)) in
-    let later : at ≤ last = (let more : d * (3 * w) * (2 * n) ≤ d * (3 * w) * (2 * (n + 1)) = mul-le-mul_left (d * (3 * w)) (omega arith) in omega (arith, more, e)) in
+    let later : at ≤ last = (let more : d * (3 * w) * (2 * n) ≤ d * (3 * w) * (2 * (n + 1)) = mul-le-mul_left (d * (3 * w)) (omega arith) in omega
+    (arith, more, e)) in
     record {
       halved = next_row d source old row w h n at below j j' to (end - to) wide high some e f g g' put (omega (arith, ends, fits)) full before.halved
           (subst (λ l. IsHalvedRow d (take j l) (take j' (drop below source)) w v row) from

@@ -25,15 +25,16 @@ pub halve_raster-requires-else-depth-eq1-clause-depth : goal.halve_raster-requir
 halve_raster-requires-else-depth-eq1-clause-depth c = inr refl
 
 pub halve_raster-requires-else-depth-eq1-clause-source : goal.halve_raster-requires-else-depth-eq1-clause-source
-halve_raster-requires-else-depth-eq1-clause-source c = 
-    subst (λ (d : ℕ). length c.args.source.now ≡ texel_length d * (c.args.width * c.args.height)) (two_deep _ c.requires.depth c.if-depth-eq1.false) c.requires.source
+halve_raster-requires-else-depth-eq1-clause-source c =
+    subst (λ (d : ℕ). length c.args.source.now ≡ texel_length d * (c.args.width * c.args.height)) (two_deep _ c.requires.depth c.if-depth-eq1.false)
+    c.requires.source
 
 pub halve_raster-requires-else-depth-eq1-clause-out : goal.halve_raster-requires-else-depth-eq1-clause-out
-halve_raster-requires-else-depth-eq1-clause-out c = 
+halve_raster-requires-else-depth-eq1-clause-out c =
     subst (λ (d : ℕ). length c.args.out.now ≡ texel_length d * ((c.args.width + 1) / 2 * ((c.args.height + 1) / 2)))
     (two_deep _ c.requires.depth c.if-depth-eq1.false) c.requires.out
 
 pub returns-else-depth-eq1 : goal.returns-else-depth-eq1
-returns-else-depth-eq1 c = 
+returns-else-depth-eq1 c =
     subst (λ (d : ℕ). IsHalvedRaster d c.args.source.now c.args.width c.args.height ((c.args.height + 1) / 2) c.halve_raster-else-depth-eq1.new.out)
     (sym (two_deep _ c.requires.depth c.if-depth-eq1.false)) c.halve_raster-else-depth-eq1.ensures

@@ -35,7 +35,7 @@ pub loop-x-init : goal.loop-x-init
 loop-x-init g c = c.requires.blocks
 
 pub loop-x-preserved : goal.loop-x-preserved
-loop-x-preserved g c = 
+loop-x-preserved g c =
     next_column g.row.DEPTH c.args.top.now c.args.bottom.now c.loop-x.out c.put_boxes.new.out c.args.width c.loop-x.x c.loop-x-test.true
     c.put_boxes.ensures.written c.put_boxes.ensures.kept c.loop-x.invariant
 

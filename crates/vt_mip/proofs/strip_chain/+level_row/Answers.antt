@@ -87,7 +87,8 @@ halve_rows-requires-2-clause-out g t c =
 pub returns-then-y-below-clause-words : goal.returns-then-y-below-clause-words
 returns-then-y-below-clause-words g t c =
     let b = c.row_below-below.ensures in
-    one_row (g.F.File.bytes c.args.reader.now.file) c.args.reader.now.header c.row_below-below.result.depth c.row_below-below.result.width (c.args.level - 1) c.args.level
+    one_row (g.F.File.bytes c.args.reader.now.file) c.args.reader.now.header c.row_below-below.result.depth c.row_below-below.result.width
+    (c.args.level - 1) c.args.level
     c.args.y c.level_row.new.out c.halve_rows.new.out b.level_is b.depth b.columns b.is_depth
     b.some_columns (omega (arith, b.rows)) c.halve_rows.ensures.above
     c.in_ok-level_row.ensures.words c.halve_rows.ensures.row
@@ -246,10 +247,12 @@ pub returns-then-level-eq0-clause-values : goal.returns-then-level-eq0-clause-va
 returns-then-level-eq0-clause-values g t c = c.row.ensures.values
 
 pub returns-then-level-eq0-clause-read : goal.returns-then-level-eq0-clause-read
-returns-then-level-eq0-clause-read g t c = first_read c.args.reader.now.header c.args.level c.args.y _ _ c.row.result c.if-level-eq0.true c.requires.row c.row.ensures.asked
+returns-then-level-eq0-clause-read g t c =
+    first_read c.args.reader.now.header c.args.level c.args.y _ _ c.row.result c.if-level-eq0.true c.requires.row c.row.ensures.asked
 
 pub returns-then-level-eq0-clause-tried : goal.returns-then-level-eq0-clause-tried
-returns-then-level-eq0-clause-tried g t c = first_tried c.args.reader.now.header c.args.level c.args.y _ _ c.row.result c.if-level-eq0.true c.requires.row c.row.ensures.asked
+returns-then-level-eq0-clause-tried g t c =
+    first_tried c.args.reader.now.header c.args.level c.args.y _ _ c.row.result c.if-level-eq0.true c.requires.row c.row.ensures.asked
 
 pub returns-then-level-eq0-clause-failed : goal.returns-then-level-eq0-clause-failed
 returns-then-level-eq0-clause-failed g t c = c.row.ensures.failed
@@ -270,7 +273,8 @@ pub returns-then-level-eq0-clause-kept : goal.returns-then-level-eq0-clause-kept
 returns-then-level-eq0-clause-kept g t c = c.row.ensures.kept
 
 pub returns-then-level-eq0-clause-spare : goal.returns-then-level-eq0-clause-spare
-returns-then-level-eq0-clause-spare g t c = first_spare c.args.reader.now.header c.args.level c.args.y _ _ c.if-level-eq0.true c.requires.row c.row.ensures.spare
+returns-then-level-eq0-clause-spare g t c =
+    first_spare c.args.reader.now.header c.args.level c.args.y _ _ c.if-level-eq0.true c.requires.row c.row.ensures.spare
 
 pub returns-in_err-level_row-clause-words : goal.returns-in_err-level_row-clause-words
 returns-in_err-level_row-clause-words g t c = none_made c.from_residual.result _ _ c.from_residual.ensures.1

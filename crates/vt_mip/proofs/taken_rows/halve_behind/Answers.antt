@@ -1,6 +1,15 @@
-use Rattle.std.proofs.Common.{ℕ, ◌+◌, ◌*◌, ◌/◌, ◌≤◌, length, ap, ◌∙◌, sym, refl, arith}
+use Rattle.std.proofs.Common.{ℕ, ◌+◌, ◌*◌, ◌/◌, ◌≤◌, ◌≡◌, ◌%◌, length, ap, ◌∙◌, sym, refl, arith}
+use Rattle.vt_definitions.specs.Depths.{texel_length}
+use Rattle.vt_mip.proofs.Rasters.{raster_small, row_small}
 use Rattle.vt_mip.proofs.TakenRows.{half_room, rows_taken}
 use Rattle.vt_mip.proofs.taken_rows.halve_behind.Goals as goal
+
+-- the rows that are made end in the room for the half
+half_end : (w h taken count d z space : ℕ) → taken + count ≤ h → taken % 2 ≡ 0 → space ≡ texel_length d * ((w + 1) / 2 * ((h + 1) / 2))
+    → z ≡ texel_length d → z * ((w + 1) / 2) * (taken / 2) + z * ((w + 1) / 2) * ((count + 1) / 2) ≤ space
+half_end w h taken count d z space inside even room e =
+    half_room (z * ((w + 1) / 2)) taken count h space inside even
+    (room ∙ ap (λ (q : ℕ). q * ((w + 1) / 2 * ((h + 1) / 2))) (sym e) ∙ omega arith)
 
 pub slice_bounds-halve_at-end : goal.slice_bounds-halve_at-end
 slice_bounds-halve_at-end c =
@@ -25,3 +34,48 @@ returns c = λ source piece before.
     rows_taken c.args.depth w c.args.height c.args.taken c.args.count z _ _ source c.args.rows.now c.args.samples.now c.halve_at.new.out
     c.requires.some_columns c.requires.some c.requires.inside c.requires.even c.requires.pairs c.requires.whole c.texel_length.ensures.value
     refl (omega (arith, room)) (omega arith) c.halve_at.ensures piece before
+
+pub halve_at-requires-clause-depth : goal.halve_at-requires-clause-depth
+halve_at-requires-clause-depth c = c.requires.depth
+
+pub halve_at-requires-clause-few_columns : goal.halve_at-requires-clause-few_columns
+halve_at-requires-clause-few_columns c = c.requires.few_columns
+
+pub halve_at-requires-clause-some_columns : goal.halve_at-requires-clause-some_columns
+halve_at-requires-clause-some_columns c = c.requires.some_columns
+
+pub halve_at-requires-clause-some_rows : goal.halve_at-requires-clause-some_rows
+halve_at-requires-clause-some_rows c = c.requires.some
+
+pub halve_at-requires-clause-few_rows : goal.halve_at-requires-clause-few_rows
+halve_at-requires-clause-few_rows c = omega (arith, c.requires.inside, c.requires.few_rows)
+
+pub halve_at-requires-clause-source : goal.halve_at-requires-clause-source
+halve_at-requires-clause-source c = c.requires.whole
+
+pub overflow_mul-half_row : goal.overflow_mul-half_row
+overflow_mul-half_row c = omega (arith, row_small c.texel_length.result ((c.args.width + 1) / 2) c.texel_length.ensures.few (omega arith))
+
+pub overflow_mul-from : goal.overflow_mul-from
+overflow_mul-from c = omega (
+  arith,
+  half_end c.args.width c.args.height c.args.taken c.args.count c.args.depth c.texel_length.result (length c.args.samples.now)
+      c.requires.inside c.requires.even c.requires.room c.texel_length.ensures.value,
+  raster_small c.args.depth ((c.args.width + 1) / 2) ((c.args.height + 1) / 2) _ c.requires.depth (omega arith) (omega arith) c.requires.room,
+)
+
+pub overflow_add-from : goal.overflow_add-from
+overflow_add-from c = omega (
+  arith,
+  half_end c.args.width c.args.height c.args.taken c.args.count c.args.depth c.texel_length.result (length c.args.samples.now)
+      c.requires.inside c.requires.even c.requires.room c.texel_length.ensures.value,
+  raster_small c.args.depth ((c.args.width + 1) / 2) ((c.args.height + 1) / 2) _ c.requires.depth (omega arith) (omega arith) c.requires.room,
+)
+
+pub overflow_mul-made : goal.overflow_mul-made
+overflow_mul-made c = omega (
+  arith,
+  half_end c.args.width c.args.height c.args.taken c.args.count c.args.depth c.texel_length.result (length c.args.samples.now)
+      c.requires.inside c.requires.even c.requires.room c.texel_length.ensures.value,
+  raster_small c.args.depth ((c.args.width + 1) / 2) ((c.args.height + 1) / 2) _ c.requires.depth (omega arith) (omega arith) c.requires.room,
+)

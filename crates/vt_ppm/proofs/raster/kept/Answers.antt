@@ -19,14 +19,6 @@ product_few d s m n depth lawful few e =
 pub overflow_mul-result : goal.overflow_mul-result
 overflow_mul-result g c = omega (arith, product_few g.row.DEPTH _ _ _ c.requires.depth c.requires.lawful c.requires.few c.greatest_sample.ensures)
 
-pub overflow_add-result : goal.overflow_add-result
-overflow_add-result g c = omega (
-  arith,
-  product_few g.row.DEPTH _ _ _ c.requires.depth c.requires.lawful c.requires.few c.greatest_sample.ensures,
-  c.requires.lawful,
-  greatest_few g.row.DEPTH c.requires.depth,
-)
-
 pub overflow_cast-result : goal.overflow_cast-result
 overflow_cast-result g c =
     let same = ap (λ n. (c.args.sample * n + c.args.maximum / 2) / c.args.maximum) c.greatest_sample.ensures in

@@ -14,7 +14,8 @@ pub scale_samples-requires-clause-depth : goal.scale_samples-requires-clause-dep
 scale_samples-requires-clause-depth c = inl refl
 
 pub scale_samples-requires-clause-full : goal.scale_samples-requires-clause-full
-scale_samples-requires-clause-full c = subst (λ d. length c.args.raster.now ≡ d * c.args.count) (sym c.depth_of.ensures.value ∙ c.if-depth_of-eq1.true) c.requires.full
+scale_samples-requires-clause-full c =
+    subst (λ d. length c.args.raster.now ≡ d * c.args.count) (sym c.depth_of.ensures.value ∙ c.if-depth_of-eq1.true) c.requires.full
 
 pub scale_samples-requires-clause-some : goal.scale_samples-requires-clause-some
 scale_samples-requires-clause-some c = c.requires.maximum.some
@@ -24,7 +25,8 @@ scale_samples-requires-else-depth_of-eq1-clause-depth c = inr refl
 
 pub scale_samples-requires-else-depth_of-eq1-clause-full : goal.scale_samples-requires-else-depth_of-eq1-clause-full
 scale_samples-requires-else-depth_of-eq1-clause-full c =
-    subst (λ d. length c.args.raster.now ≡ d * c.args.count) (sym c.depth_of.ensures.value ∙ two_deep _ c.depth_of.ensures.depth c.if-depth_of-eq1.false) c.requires.full
+    subst (λ d. length c.args.raster.now ≡ d * c.args.count) (sym c.depth_of.ensures.value ∙ two_deep _ c.depth_of.ensures.depth c.if-depth_of-eq1.false)
+    c.requires.full
 
 pub scale_samples-requires-else-depth_of-eq1-clause-some : goal.scale_samples-requires-else-depth_of-eq1-clause-some
 scale_samples-requires-else-depth_of-eq1-clause-some c = c.requires.maximum.some
@@ -36,7 +38,8 @@ scale_samples-requires-else-depth_of-eq1-clause-lawful c =
 
 pub returns-then-depth_of-eq1-clause-scaled : goal.returns-then-depth_of-eq1-clause-scaled
 returns-then-depth_of-eq1-clause-scaled c =
-    subst (λ d. AreScaledUpTo d c.args.maximum c.args.count c.args.raster.now c.scale_samples.new.raster) (sym (sym c.depth_of.ensures.value ∙ c.if-depth_of-eq1.true)) c.scale_samples.ensures
+    subst (λ d. AreScaledUpTo d c.args.maximum c.args.count c.args.raster.now c.scale_samples.new.raster)
+    (sym (sym c.depth_of.ensures.value ∙ c.if-depth_of-eq1.true)) c.scale_samples.ensures
 
 pub returns-else-depth_of-eq1-clause-scaled : goal.returns-else-depth_of-eq1-clause-scaled
 returns-else-depth_of-eq1-clause-scaled c =

@@ -107,7 +107,8 @@ pub returns-in_err-bytes-clause-spare : goal.returns-in_err-bytes-clause-spare
 returns-in_err-bytes-clause-spare g c = none_made c.from_residual-in_err-bytes.result _ _ c.from_residual-in_err-bytes.ensures.1
 
 pub returns-in_err-bytes-clause-refusals : goal.returns-in_err-bytes-clause-refusals
-returns-in_err-bytes-clause-refusals g c = handed_on c.from_residual-in_err-bytes.result _ _ c.from_residual-in_err-bytes.ensures.1 c.in_err-bytes.ensures.refusals
+returns-in_err-bytes-clause-refusals g c =
+    handed_on c.from_residual-in_err-bytes.result _ _ c.from_residual-in_err-bytes.ensures.1 c.in_err-bytes.ensures.refusals
 
 pub returns-in_err-bytes-clause-failed : goal.returns-in_err-bytes-clause-failed
 returns-in_err-bytes-clause-failed g c =

@@ -92,13 +92,16 @@ pub returns-in_err-header-clause-image : goal.returns-in_err-header-clause-image
 returns-in_err-header-clause-image g c = no_value c.from_residual-in_err-header.result _ _ c.from_residual-in_err-header.ensures.1
 
 pub returns-in_err-header-clause-failed : goal.returns-in_err-header-clause-failed
-returns-in_err-header-clause-failed g c = flaw_no_fault c.from_residual-in_err-header.result _ _ _ _ c.from_residual-in_err-header.ensures.1 c.in_err-header.ensures.flaw
+returns-in_err-header-clause-failed g c =
+    flaw_no_fault c.from_residual-in_err-header.result _ _ _ _ c.from_residual-in_err-header.ensures.1 c.in_err-header.ensures.flaw
 
 pub returns-in_err-header-clause-asked : goal.returns-in_err-header-clause-asked
 returns-in_err-header-clause-asked g c = asks_header_only _ _ _ c.front_of.ensures.asked
 
 pub returns-in_err-header-clause-read : goal.returns-in_err-header-clause-read
-returns-in_err-header-clause-read g c = header_answer c.from_residual-in_err-header.result _ _ _ _ c.from_residual-in_err-header.ensures.1 c.in_err-header.ensures.no_raster c.in_ok-front.ensures.read
+returns-in_err-header-clause-read g c =
+    header_answer c.from_residual-in_err-header.result _ _ _ _ c.from_residual-in_err-header.ensures.1 c.in_err-header.ensures.no_raster
+    c.in_ok-front.ensures.read
 
 pub returns-then-have-want-clause-image : goal.returns-then-have-want-clause-image
 returns-then-have-want-clause-image g c = tt
@@ -143,19 +146,22 @@ pub returns-in_err-raster-clause-image : goal.returns-in_err-raster-clause-image
 returns-in_err-raster-clause-image g c = no_value c.from_residual-in_err-raster.result _ _ c.from_residual-in_err-raster.ensures.1
 
 pub returns-in_err-raster-clause-flaw : goal.returns-in_err-raster-clause-flaw
-returns-in_err-raster-clause-flaw g c = handed_on c.from_residual-in_err-raster.result _ _ c.from_residual-in_err-raster.ensures.1 (λ never. absurd (never c.in_err-raster.ensures.refusals))
+returns-in_err-raster-clause-flaw g c =
+    handed_on c.from_residual-in_err-raster.result _ _ c.from_residual-in_err-raster.ensures.1 (λ never. absurd (never c.in_err-raster.ensures.refusals))
 
 pub returns-in_err-raster-clause-failed : goal.returns-in_err-raster-clause-failed
 returns-in_err-raster-clause-failed g c =
     let h = c.in_ok-header.header in
-    let inside = raster_inside _ _ _ (g.F.File.asked c.args.file.now) c.in_ok-front.front.length h.raster h.width h.height h.maximum _ c.deref.result.now c.in_ok-front.ensures.read
+    let inside = raster_inside _ _ _ (g.F.File.asked c.args.file.now) c.in_ok-front.front.length h.raster h.width h.height h.maximum _ c.deref.result.now
+    c.in_ok-front.ensures.read
     (rw c.deref.ensures.value c.in_ok-front.ensures.front) (rw c.deref.ensures.value c.in_ok-front.ensures.few) c.in_ok-header.ensures.header
     c.raster_length-want.ensures c.if-have-want.false in
     fault_handed_on {T = Vec ℕ Global} c.from_residual-in_err-raster.result _ _ c.from_residual-in_err-raster.ensures.1
     (λ failed. rose_later _ _ _ c.front_of.ensures.faults (c.in_err-raster.ensures.failed failed (rw c.front_of.ensures.bytes inside)))
 
 pub returns-in_err-raster-clause-read : goal.returns-in_err-raster-clause-read
-returns-in_err-raster-clause-read g c = outside_answer c.from_residual-in_err-raster.result _ _ _ _ c.from_residual-in_err-raster.ensures.1 c.in_err-raster.ensures.refusals
+returns-in_err-raster-clause-read g c =
+    outside_answer c.from_residual-in_err-raster.result _ _ _ _ c.from_residual-in_err-raster.ensures.1 c.in_err-raster.ensures.refusals
 
 pub returns-in_err-raster-clause-bytes : goal.returns-in_err-raster-clause-bytes
 returns-in_err-raster-clause-bytes g c = c.bytes_at.ensures.bytes ∙ c.front_of.ensures.bytes

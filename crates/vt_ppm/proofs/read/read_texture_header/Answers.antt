@@ -51,10 +51,12 @@ pub returns-in_err-header-clause-raster : goal.returns-in_err-header-clause-rast
 returns-in_err-header-clause-raster g c = no_value c.from_residual-in_err-header.result _ _ c.from_residual-in_err-header.ensures.1
 
 pub returns-in_err-header-clause-no_sample : goal.returns-in_err-header-clause-no_sample
-returns-in_err-header-clause-no_sample g c = handed_on c.from_residual-in_err-header.result _ _ c.from_residual-in_err-header.ensures.1 (no_raster_no_sample _ c.in_err-header.ensures.no_raster)
+returns-in_err-header-clause-no_sample g c =
+    handed_on c.from_residual-in_err-header.result _ _ c.from_residual-in_err-header.ensures.1 (no_raster_no_sample _ c.in_err-header.ensures.no_raster)
 
 pub returns-in_err-header-clause-failed : goal.returns-in_err-header-clause-failed
-returns-in_err-header-clause-failed g c = flaw_no_fault c.from_residual-in_err-header.result _ _ _ _ c.from_residual-in_err-header.ensures.1 c.in_err-header.ensures.flaw
+returns-in_err-header-clause-failed g c =
+    flaw_no_fault c.from_residual-in_err-header.result _ _ _ _ c.from_residual-in_err-header.ensures.1 c.in_err-header.ensures.flaw
 
 pub returns-in_err-header-clause-read : goal.returns-in_err-header-clause-read
 returns-in_err-header-clause-read g c = front_answer c.from_residual-in_err-header.result _ _ _ c.in_ok-bytes.ensures.read

@@ -88,7 +88,8 @@ overflow_sub-header g c =
 
 pub slice_bounds-look_over_rows-end : goal.slice_bounds-look_over_rows-end
 slice_bounds-look_over_rows-end g c =
-    let few = piece_room c.args.header.now c.piece_rows-step.result c.row_length-row.result c.min-count.result _ _ c.piece_rows-step.ensures.value c.row_length-row.ensures.value c.min-count.ensures c.requires.size in
+    let few = piece_room c.args.header.now c.piece_rows-step.result c.row_length-row.result c.min-count.result _ _ c.piece_rows-step.ensures.value
+    c.row_length-row.ensures.value c.min-count.ensures c.requires.size in
     subst (λ n. c.min-count.result * c.row_length-row.result ≤ n) (sym c.loop-piece.auto.buffer) few
 
 pub slice_bounds-look_over_rows-end-in-loop-piece : goal.slice_bounds-look_over_rows-end-in-loop-piece
@@ -121,7 +122,8 @@ returns-in_err-look_over_rows-clause-failed g c =
     (λ failed. rose_later _ _ _ c.loop-piece.invariant.faults (c.in_err-look_over_rows.ensures.failed failed))
 
 pub returns-in_err-look_over_rows-clause-spare : goal.returns-in_err-look_over_rows-clause-spare
-returns-in_err-look_over_rows-clause-spare g c = omega (arith, c.look_over_rows.ensures.spare, c.loop-piece.invariant.spare, c.loop-piece-test.true, c.pieces_of-piece-end.ensures.few)
+returns-in_err-look_over_rows-clause-spare g c =
+    omega (arith, c.look_over_rows.ensures.spare, c.loop-piece.invariant.spare, c.loop-piece-test.true, c.pieces_of-piece-end.ensures.few)
 
 pub returns-in_err-look_over_rows-clause-bytes : goal.returns-in_err-look_over_rows-clause-bytes
 returns-in_err-look_over_rows-clause-bytes g c = c.look_over_rows.ensures.bytes ∙ c.loop-piece.invariant.bytes

@@ -42,7 +42,8 @@ returns-in_err-read_at-clause-refusals g c = handed_on c.from_residual.result Fa
 pub returns-in_err-read_at-clause-asked : goal.returns-in_err-read_at-clause-asked
 returns-in_err-read_at-clause-asked g c =
     failed_rows c.args.header.now c.args.y c.args.count _ _ c.from_residual.result c.from_residual.ensures.1
-    (rows_noted c.args.header.now c.args.y c.args.count _ _ true _ _ c.row_start-start.ensures.value (c.read_at.auto.buf ∙ c.requires.size) c.in_err-read_at.ensures.asked)
+    (rows_noted c.args.header.now c.args.y c.args.count _ _ true _ _ c.row_start-start.ensures.value (c.read_at.auto.buf ∙ c.requires.size)
+    c.in_err-read_at.ensures.asked)
 
 pub returns-in_err-read_at-clause-spare : goal.returns-in_err-read_at-clause-spare
 returns-in_err-read_at-clause-spare g c = c.read_at.ensures.spare
@@ -67,8 +68,10 @@ returns-in-Some-clause-failed g c = λ failed. let no : ⊥ = cc in absurd no
 
 pub returns-in-Some-clause-asked : goal.returns-in-Some-clause-asked
 returns-in-Some-clause-asked g c = (
-  over_before c.args.header.now c.args.y c.args.count _ _ c.in-Some.number _ c.row_start-start.ensures.value c.depth_of.ensures.value c.sample_count.ensures c.in-Some.ensures.within,
-  rows_noted c.args.header.now c.args.y c.args.count _ _ false _ _ c.row_start-start.ensures.value (c.read_at.auto.buf ∙ c.requires.size) c.in_ok-read_at.ensures.asked,
+  over_before c.args.header.now c.args.y c.args.count _ _ c.in-Some.number _ c.row_start-start.ensures.value c.depth_of.ensures.value c.sample_count.ensures
+      c.in-Some.ensures.within,
+  rows_noted c.args.header.now c.args.y c.args.count _ _ false _ _ c.row_start-start.ensures.value (c.read_at.auto.buf ∙ c.requires.size)
+      c.in_ok-read_at.ensures.asked,
 )
 
 pub returns-in-Some-clause-spare : goal.returns-in-Some-clause-spare
@@ -93,7 +96,9 @@ pub returns-in-None-clause-failed : goal.returns-in-None-clause-failed
 returns-in-None-clause-failed g c = λ failed. let no : ⊥ = cc in absurd no
 
 pub returns-in-None-clause-asked : goal.returns-in-None-clause-asked
-returns-in-None-clause-asked g c = rows_noted c.args.header.now c.args.y c.args.count _ _ false _ _ c.row_start-start.ensures.value (c.read_at.auto.buf ∙ c.requires.size) c.in_ok-read_at.ensures.asked
+returns-in-None-clause-asked g c =
+    rows_noted c.args.header.now c.args.y c.args.count _ _ false _ _ c.row_start-start.ensures.value (c.read_at.auto.buf ∙ c.requires.size)
+    c.in_ok-read_at.ensures.asked
 
 pub returns-in-None-clause-spare : goal.returns-in-None-clause-spare
 returns-in-None-clause-spare g c = c.read_at.ensures.spare

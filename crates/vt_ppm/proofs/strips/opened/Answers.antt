@@ -41,10 +41,12 @@ pub returns-in_err-buffer-clause-none : goal.returns-in_err-buffer-clause-none
 returns-in_err-buffer-clause-none g c = no_value c.from_residual-in_err-buffer.result _ _ c.from_residual-in_err-buffer.ensures.1
 
 pub returns-in_err-buffer-clause-flaw : goal.returns-in_err-buffer-clause-flaw
-returns-in_err-buffer-clause-flaw g c = handed_on c.from_residual-in_err-buffer.result NoMemory _ c.from_residual-in_err-buffer.ensures.1 (λ never. absurd (never tt))
+returns-in_err-buffer-clause-flaw g c =
+    handed_on c.from_residual-in_err-buffer.result NoMemory _ c.from_residual-in_err-buffer.ensures.1 (λ never. absurd (never tt))
 
 pub returns-in_err-buffer-clause-no_sample : goal.returns-in_err-buffer-clause-no_sample
-returns-in_err-buffer-clause-no_sample g c = handed_on c.from_residual-in_err-buffer.result NoMemory _ c.from_residual-in_err-buffer.ensures.1 (λ sample. sample)
+returns-in_err-buffer-clause-no_sample g c =
+    handed_on c.from_residual-in_err-buffer.result NoMemory _ c.from_residual-in_err-buffer.ensures.1 (λ sample. sample)
 
 pub returns-in_err-buffer-clause-failed : goal.returns-in_err-buffer-clause-failed
 returns-in_err-buffer-clause-failed g c = no_fault c.from_residual-in_err-buffer.result _ c.from_residual-in_err-buffer.ensures.1

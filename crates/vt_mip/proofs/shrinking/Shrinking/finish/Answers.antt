@@ -19,7 +19,7 @@ returns-clause-half c =
     (c.new.ensures ∙ ap image c.truncate.ensures.items) front)
 
 pub new-requires : goal.new-requires
-new-requires c = 
+new-requires c =
     let h = c.self.inside in
     let i = c.self.invariant.image in
     record {

@@ -21,22 +21,24 @@ returns-clause-row g c = row_seen c.level_row.result g.F.File.bytes _ _ c.args.l
     (omega (arith, c.requires.size)) c.level_row.ensures.words c.level_row.ensures.values
 
 pub returns-clause-read : goal.returns-clause-read
-returns-clause-read g c = 
+returns-clause-read g c =
     subst (λ v. OnOk c.level_row.result (RowsRead v.header (first_under c.args.level c.args.y) (rows_under v.header.height c.args.level c.args.y)
     (g.F.File.asked v.file) (g.F.File.asked c.level_row.new.reader.file))) c.self.view_is c.level_row.ensures.read
 
 pub returns-clause-tried : goal.returns-clause-tried
-returns-clause-tried g c = 
+returns-clause-tried g c =
     subst (λ v. OnErr c.level_row.result (RowsFailed v.header (first_under c.args.level c.args.y) (rows_under v.header.height c.args.level c.args.y)
     (g.F.File.asked v.file) (g.F.File.asked c.level_row.new.reader.file))) c.self.view_is c.level_row.ensures.tried
 
 pub returns-clause-failed : goal.returns-clause-failed
-returns-clause-failed g c = 
-    subst (λ v. IsErr c.level_row.result → Rose (g.F.File.faults v.file) (g.F.File.faults c.level_row.new.reader.file)) c.self.view_is c.level_row.ensures.failed
+returns-clause-failed g c =
+    subst (λ v. IsErr c.level_row.result → Rose (g.F.File.faults v.file) (g.F.File.faults c.level_row.new.reader.file)) c.self.view_is
+    c.level_row.ensures.failed
 
 pub returns-clause-spare : goal.returns-clause-spare
-returns-clause-spare g c = 
-    subst (λ v. g.F.File.spare v.file ≤ g.F.File.spare c.level_row.new.reader.file + rows_under v.header.height c.args.level c.args.y) c.self.view_is c.level_row.ensures.spare
+returns-clause-spare g c =
+    subst (λ v. g.F.File.spare v.file ≤ g.F.File.spare c.level_row.new.reader.file + rows_under v.header.height c.args.level c.args.y) c.self.view_is
+    c.level_row.ensures.spare
 
 pub returns-clause-faults : goal.returns-clause-faults
 returns-clause-faults g c = subst (λ v. g.F.File.faults v.file ≤ g.F.File.faults c.level_row.new.reader.file) c.self.view_is c.level_row.ensures.faults
@@ -60,7 +62,8 @@ pub level_row-requires-clause-row : goal.level_row-requires-clause-row
 level_row-requires-clause-row g c = subst (λ v. c.args.y < side v.header.height c.args.level) (sym c.self.view_is) c.requires.row
 
 pub level_row-requires-clause-spare : goal.level_row-requires-clause-spare
-level_row-requires-clause-spare g c = subst (λ v. rows_under v.header.height c.args.level c.args.y ≤ g.F.File.spare v.file) (sym c.self.view_is) c.requires.spare
+level_row-requires-clause-spare g c =
+    subst (λ v. rows_under v.header.height c.args.level c.args.y ≤ g.F.File.spare v.file) (sym c.self.view_is) c.requires.spare
 
 pub level_row-requires-clause-size : goal.level_row-requires-clause-size
 level_row-requires-clause-size g c = subst (λ v. length c.args.out.now ≡ level_row_length v.header c.args.level) (sym c.self.view_is) c.requires.size

@@ -5,7 +5,8 @@ pub returns-clause-room : goal.returns-clause-room
 returns-clause-room g c = c.reserve.ensures.room
 
 pub returns-clause-refused : goal.returns-clause-refused
-returns-clause-refused g c = subst (λ v. OnErr c.reserve.result (g.F.File.spare c.reserve.new.self ≡ g.F.File.spare v.file)) c.self.view_is c.reserve.ensures.refused
+returns-clause-refused g c =
+    subst (λ v. OnErr c.reserve.result (g.F.File.spare c.reserve.new.self ≡ g.F.File.spare v.file)) c.self.view_is c.reserve.ensures.refused
 
 pub returns-clause-bytes : goal.returns-clause-bytes
 returns-clause-bytes g c = c.reserve.ensures.bytes ∙ ap (λ v. g.F.File.bytes v.file) c.self.view_is

@@ -41,7 +41,8 @@ returns-in_err-read_at-clause-values g c = none_made c.from_residual.result _ _ 
 
 pub returns-in_err-read_at-clause-asked : goal.returns-in_err-read_at-clause-asked
 returns-in_err-read_at-clause-asked g c =
-    subst (λ v. RowsAsked v.header c.args.y c.args.count (is_err c.from_residual.result) (g.F.File.asked v.file) (g.F.File.asked c.read_at.new.self)) c.self.view_is
+    subst (λ v. RowsAsked v.header c.args.y c.args.count (is_err c.from_residual.result) (g.F.File.asked v.file) (g.F.File.asked c.read_at.new.self))
+    c.self.view_is
     (told_refused c.from_residual.result _ (λ b. RowsAsked c.self.inside.header c.args.y c.args.count b (g.F.File.asked c.self.inside.file)
     (g.F.File.asked c.read_at.new.self)) c.from_residual.ensures.1 (rows_noted c.self.inside.header c.args.y c.args.count _ _ true _ _ c.row_start.ensures.value
     (c.read_at.auto.buf ∙ c.requires.size ∙ ap (λ v. c.args.count * row_length v.header) (sym c.self.view_is))
