@@ -106,6 +106,7 @@ fn read<F: File, G: Gate>(store: &mut Store<F>, loader: u32, request: Request, g
 }
 
 // Reads a request and puts its result, where the store can read it.
+#[tactic(auto, using(crate::proofs::Loading::read_one))]
 fn answer<Rt: Threads + Wait, F: File, G: Gate>(
     rt: &Rt,
     store: &mut Store<F>,

@@ -1,13 +1,14 @@
 -- A page that is placed in a frame of a still table while no pass is prepared.
-use Rattle.std.proofs.Common.{◌≡◌, ℕ, List, Option, refl, sym, ◌∙◌, subst}
+use Rattle.std.proofs.Common.{◌≡◌, ℕ, List, [], ◌∷◌, ◌++◌, Option, refl, sym, ap, ◌∙◌, subst}
+use Rattle.vt_journal.specs.declared.changes.Change.TheVariants.{Map}
 use Rattle.vt_outside.specs.declared.outside.File.{Ghosts as FileMeanings}
 use Rattle.vt_pages.specs.Shape.{Shape}
 use Rattle.vt_table.specs.Views.{TableView, IsTable}
 use Rattle.vt_shown.specs.Frames.{HoldsTiles}
 use Rattle.vt_pass.specs.Machines.{told_by}
-use Rattle.vt_pass.specs.Passes.{MayPlace}
+use Rattle.vt_pass.specs.Passes.{MayPlace, with_placed}
 use Rattle.vt_rounds.specs.Streams.{IsTileOf}
-use Rattle.vt_still.specs.Kits.{KitView, kit_state, IsIdleKit}
+use Rattle.vt_still.specs.Kits.{KitView, kit_setup, kit_state, IsIdleKit}
 use Rattle.vt_still.proofs.Rooms.{idle_still, same_none}
 
 module _ {F : Type 0} (g : FileMeanings F) where
@@ -35,3 +36,13 @@ module _ {F : Type 0} (g : FileMeanings F) where
         kit = idle.kit;
         holds = holds k.depth (told_by g k.stores) idle.holds (subst (λ (s : Shape). IsTileOf s k.depth (told_by g k.stores) page tile) (sym idle.shape) its);
       }
+
+  -- the machine's state with more room in its table, and with the page placed
+  pub reserved_state : (u v : TableView) (k : KitView F) → v ≡ record u { spare = v.spare } → kit_state g v k ≡ kit_state g u k
+  reserved_state u v k rest = ap (λ (t : TableView). kit_state g t k) rest
+
+  pub placed_state : (u v w : TableView) (k : KitView F) (page frame : ℕ) → v ≡ record u { spare = v.spare } → w.changes ≡ v.changes ++ Map page frame ∷ []
+      → w.frames ≡ v.frames → kit_state g w k ≡ with_placed page frame (kit_state g u k)
+  placed_state u v w k page frame rest changes frames =
+      (λ i. record (kit_state g v k) { setup = record (kit_setup g v k) { frames = frames i }; journal = changes i })
+      ∙ ap (λ (t : TableView). with_placed page frame (kit_state g t k)) rest

@@ -1,6 +1,6 @@
 use Rattle.std.proofs.Common.{◌∙◌, sym, refl, arith}
 use Rattle.vt_queue.specs.Queues.{view_of}
-use Rattle.vt_load.proofs.Loading.{dropped, read_one}
+use Rattle.vt_load.proofs.Loading.{dropped}
 use Rattle.vt_load.proofs.load.answer.Goals as goal
 
 pub returns-then-not-is_readable : goal.returns-then-not-is_readable
@@ -12,17 +12,3 @@ returns-then-not-is_readable g c = record {
   depth = refl;
   room = omega arith;
 }
-
-pub returns : goal.returns
-returns g c =
-    let s = c.args.store.now.shape in
-    let d = c.args.store.now.depth in
-    let one = c.read-loaded.ensures in
-    record {
-      of = c.put_waiting.ensures.of;
-      puts = read_one g.F.File s d c.args.request c.read-loaded.result _ _ c.args.store.now.file c.read-loaded.new.store.file
-          (sym c.is_readable.ensures ∙ c.if-not-is_readable.false) one.reading c.put_waiting.ensures.puts;
-      shape = one.shape;
-      depth = one.depth;
-      room = one.reading.room;
-    }

@@ -47,7 +47,8 @@ loop-store-preserved g c =
       room = (let a = i.room in let b = c.push.ensures.spare in omega (arith, a, b, fewer));
       back = (let a = i.back in let b = c.in-Some.ensures.spare in omega (arith, a, b, one_more));
       reads = popped.0;
-      order = order_more c.loop-store.stores.elements rest _ c.loop-store.loaders.elements c.push.new.self.elements c.in-Some.store made was more is.store i.order;
+      order = order_more c.loop-store.stores.elements rest _ c.loop-store.loaders.elements c.push.new.self.elements c.in-Some.store made was more is.store
+          i.order;
       may = may_load g.F.File q c.loop-store.loaders.elements c.push.new.self.elements made c.in-Some.store more is.store is.other popped.1 i.may;
       split = split_more _ _ _ _ _ _ c.loop-store.loaders.elements _ made i.split is.asks is.answers more;
     }

@@ -21,24 +21,28 @@ loop-ticket-init g c = let r = c.requires in record {
 
 pub request_for-request-requires : goal.request_for-request-requires
 request_for-request-requires g c = record {
-  inside = c.loop-ticket-test.true;
+  inside = (let test = c.loop-ticket-test.true in omega (arith, test));
   few = c.requires.few;
   some = (let a = c.loop-ticket.invariant.count in let b = c.requires.buffers in let low = c.loop-ticket-test.true in omega (arith, a, b, low));
 }
 
 pub put_next-requires : goal.put_next-requires
-put_next-requires g c = record {
-  of = c.loop-ticket.invariant.of.0;
-  room = not_full c.args.requests.now c.loop-ticket.ticket (length c.args.batch.now) (view_of c.loop-ticket.asks) c.loop-ticket.invariant.put
-      c.loop-ticket-test.true c.requires.room;
-}
+put_next-requires g c =
+    let test = c.loop-ticket-test.true in
+    let low : c.loop-ticket.ticket < length c.args.batch.now = omega (arith, test) in
+    record {
+      of = c.loop-ticket.invariant.of.0;
+      room = not_full c.args.requests.now c.loop-ticket.ticket (length c.args.batch.now) (view_of c.loop-ticket.asks) c.loop-ticket.invariant.put low
+          c.requires.room;
+    }
 
 pub loop-ticket-preserved : goal.loop-ticket-preserved
 loop-ticket-preserved g c =
     let i = c.loop-ticket.invariant in
     let batch = c.args.batch.now in
     let ticket = c.loop-ticket.ticket in
-    let low = c.loop-ticket-test.true in
+    let test = c.loop-ticket-test.true in
+    let low : ticket < length batch = omega (arith, test) in
     let is = c.request_for-request.ensures in
     let all = c.loop-ticket.buffers.elements in
     let rest = c.request_for-request.new.buffers.elements in

@@ -29,15 +29,18 @@ apply_results-requires g c =
     record {
       table = r.table;
       lawful = r.lawful;
-      entries = subst (λ l. All (IsResultOf c.args.batch.now) l) lent (all_entries g.F.File c.args.queues.now c.args.table.now.shape c.args.batch.now (view_of c.args.asks.now) (view_of c.take_back.new.asks)
+      entries = subst (λ l. All (IsResultOf c.args.batch.now) l) lent
+          (all_entries g.F.File c.args.queues.now c.args.table.now.shape c.args.batch.now (view_of c.args.asks.now) (view_of c.take_back.new.asks)
           (view_of c.args.answers.now) (view_of c.take_back.new.answers) (view_of c.collect.new.answers) c.args.loaders.elements c.args.results.now.elements
           c.collect.new.into.elements c.take_back.ensures.asks_at_step.0 over.0 c.take_back.ensures.asks c.take_back.ensures.asks_at_step.1
           c.take_back.ensures.answers c.collect.ensures.collects c.requires.no_results over.1 r.ended.0 r.ended.1);
-      apart = subst (λ l. AllPairs (λ (x y : Loaded). x.request.ticket ≢ y.request.ticket) l) lent (all_apart g.F.File c.args.queues.now c.args.table.now.shape c.args.batch.now (view_of c.args.asks.now) (view_of c.take_back.new.asks)
+      apart = subst (λ l. AllPairs (λ (x y : Loaded). x.request.ticket ≢ y.request.ticket) l) lent
+          (all_apart g.F.File c.args.queues.now c.args.table.now.shape c.args.batch.now (view_of c.args.asks.now) (view_of c.take_back.new.asks)
           (view_of c.args.answers.now) (view_of c.take_back.new.answers) (view_of c.collect.new.answers) c.args.loaders.elements c.args.results.now.elements
           c.collect.new.into.elements c.take_back.ensures.asks_at_step.0 over.0 c.take_back.ensures.asks c.take_back.ensures.asks_at_step.1
           c.take_back.ensures.answers c.collect.ensures.collects c.requires.no_results over.1 r.ended.0 r.ended.1);
-      tiles = subst (λ l. All (λ (x : Loaded). IsTile c.args.table.now.shape x.request.buffer.elements) l) lent (all_tiles g.F.File c.args.queues.now c.args.table.now.shape c.args.batch.now (view_of c.args.asks.now) (view_of c.take_back.new.asks)
+      tiles = subst (λ l. All (λ (x : Loaded). IsTile c.args.table.now.shape x.request.buffer.elements) l) lent
+          (all_tiles g.F.File c.args.queues.now c.args.table.now.shape c.args.batch.now (view_of c.args.asks.now) (view_of c.take_back.new.asks)
           (view_of c.args.answers.now) (view_of c.take_back.new.answers) (view_of c.collect.new.answers) c.args.loaders.elements c.args.results.now.elements
           c.collect.new.into.elements c.take_back.ensures.asks_at_step.0 over.0 c.take_back.ensures.asks c.take_back.ensures.asks_at_step.1
           c.take_back.ensures.answers c.collect.ensures.collects c.requires.no_results over.1 r.ended.0 r.ended.1);

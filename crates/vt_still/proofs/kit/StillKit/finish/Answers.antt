@@ -35,7 +35,11 @@ finish-stores-requires g c =
       some = may.some;
       stores = may.stores_room;
       ended = (b, ended_of g.F.File v q _ job loaders samplers b may c.slice.result.now c.slice.ensures);
-      places = (_, subst (λ (l : List Planned). HasPlaces c.self.inside.round (length l) (tile_length c.self.inside.geometry c.self.inside.depth)) lent may.places);
+      places = (
+        _,
+        subst (λ (l : List Planned). HasPlaces c.self.inside.round (length l) (tile_length c.self.inside.geometry c.self.inside.depth)) lent
+            may.places,
+      );
       table = may.drawn.idle.table;
       lawful = subst (λ (l : List Planned). IsBatchFor v.shape v.frames (newest v.changes) l) lent may.lawful;
       few = (let a = may.few in let b = crew.few_entries in omega (arith, a, b, long));

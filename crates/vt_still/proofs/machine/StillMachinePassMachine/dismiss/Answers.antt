@@ -1,4 +1,4 @@
-use Rattle.std.proofs.Common.{Ok, sym, subst, rules}
+use Rattle.std.proofs.Common.{Ok, refl, sym, subst}
 use Rattle.vt_pass.specs.Scenes.{job_of}
 use Rattle.vt_still.specs.Kits.{IsIdleKit}
 use Rattle.vt_still.specs.StillMachines.{StillView, kit_before, MayFinish, KitEnds}
@@ -11,12 +11,12 @@ returns g c =
     let samplers = c.args.samplers.elements in
     let table = c.finish-report.new.table in
     let kit = c.finish-report.new.self in rw c.answered.ensures (
-      search rules,
+      refl,
       λ b may. subst (λ (m : StillView _). KitEnds g.F.File job (Ok c.finish-report.result) m.table (kit_before m.kit samplers b) table kit
           (IsIdleKit g.F.File table kit)) c.self.view_is (record {
             ran = c.finish-report.ensures.ran b
                 (subst (λ (m : StillView _). MayFinish g.F.File m.table m.queues m.kit job loaders samplers b) (sym c.self.view_is) may);
             goes_on = c.finish-report.ensures.idle;
-            broke = search rules;
+            broke = tt;
           }),
     )

@@ -23,7 +23,8 @@ end_round-requires g c =
       loaders = r.loaders;
       some = r.some;
       no_stores = ap (λ l. l.elements) stores ∙ c.self.inside.no_stores;
-      stores = subst (λ n. length loaders ≤ n) (sym (ap (λ l. l.spare) stores)) (subst (λ (x : RoundKitView _). length loaders ≤ x.stores.spare) inside r.stores);
+      stores = subst (λ n. length loaders ≤ n) (sym (ap (λ l. l.spare) stores))
+          (subst (λ (x : RoundKitView _). length loaders ≤ x.stores.spare) inside r.stores);
       ended = (
         r.ended.0,
         subst (λ (x : RoundKitView _). IsEndedRound g.F.File q v.shape batch (view_of x.asks) (view_of x.answers) loaders r.ended.0) inside
