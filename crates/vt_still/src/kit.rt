@@ -42,8 +42,8 @@ use vt_outside::{File, Items, NoMemory};
 use vt_pages::Geometry;
 use vt_pass::{Crew, PassReport};
 use vt_sampler::Sampler;
-use vt_tiles::{Stores, tile_length};
 use vt_table::StillTable;
+use vt_tiles::{Stores, tile_length};
 
 // What a pass over a page table that changes only between draws is done with but for the queues: the samplers, the
 // loaders' stores, and room for what the pass tells. Contracts see all of these.

@@ -16,8 +16,8 @@ use vt_journal::Events;
 use vt_load::{QueuedLoader, Queues, collect, take_back};
 use vt_outside::{File, Items};
 use vt_queue::{Loaded, QueuePass, Request};
-use vt_tiles::Stores;
 use vt_table::StillTable;
+use vt_tiles::Stores;
 
 /// Makes the passes of loaders that have ended one again, takes their results, and applies these in the order in which
 /// they came. It may wait.

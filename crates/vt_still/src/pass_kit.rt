@@ -30,8 +30,8 @@ use vt_feedback::Counts;
 use vt_outside::{File, Gate, NoMemory};
 use vt_pages::Geometry;
 use vt_pass::{Crew, PassReport};
-use vt_tiles::Stores;
 use vt_table::StillTable;
+use vt_tiles::Stores;
 
 /// What a pass over a page table that changes only between draws is done with, where the caller holds the table: the
 /// samplers, the loaders' stores, the queues, and room for what the pass tells. Contracts see the queues and the rest.

@@ -29,8 +29,8 @@ use vt_load::{QueuedLoader, Queues, deal};
 use vt_outside::{Bytes, File, Items, NoMemory};
 use vt_pass::Crew;
 use vt_queue::{Loaded, QueuePass, Request, RequestQueue, ResultQueue};
-use vt_tiles::Stores;
 use vt_table::StillTable;
+use vt_tiles::Stores;
 
 /// What the loaders of a pass are done with: passes of the queues, and room for the loaders, their stores, the results
 /// and the buffers. Contracts see all of these.
