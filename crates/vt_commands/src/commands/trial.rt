@@ -38,8 +38,8 @@ use vt_ppm::{Image, encode};
 use vt_print::Line;
 use vt_still::StillMachine;
 use vt_store::write_store;
-use vt_tiles::Store;
 use vt_store_commands::make_row;
+use vt_tiles::Store;
 use vt_walk::{Names, Settings, WalkError, Walked, walk_counted};
 use vt_words::{TrialWords, picture_name};
 

@@ -10,12 +10,15 @@ use Rattle.vt_store.proofs.WideStores.{no_less}
 use Rattle.vt_store.proofs.levels.write_level.Goals as goal
 
 pub slice_bounds-row-end : goal.slice_bounds-row-end
-slice_bounds-row-end g c = (shorter_row c.args.geometry.now c.args.level c.tile_columns-columns.result c.tile_length.result (length c.args.tiles.now) c.tile-side.ensures.limits
+slice_bounds-row-end g c =
+    (shorter_row c.args.geometry.now c.args.level c.tile_columns-columns.result c.tile_length.result (length c.args.tiles.now) c.tile-side.ensures.limits
     c.tile_columns-columns.ensures.value (c.requires.room ∙ ap (λ (n : ℕ). columns_at c.args.geometry.now 0 * n)
     (ap (tile_length c.args.geometry.now) (sym c.depth-depth.ensures.value) ∙ sym c.tile_length.ensures.value)))
 
 pub slice_bounds-row-end-2 : goal.slice_bounds-row-end-2
-slice_bounds-row-end-2 g c = sym (length-take-le _ c.args.tiles.now (shorter_row c.args.geometry.now c.args.level c.tile_columns-columns.result c.tile_length.result (length c.args.tiles.now) c.tile-side.ensures.limits
+slice_bounds-row-end-2 g c =
+    sym (length-take-le _ c.args.tiles.now (shorter_row c.args.geometry.now c.args.level c.tile_columns-columns.result c.tile_length.result (length
+    c.args.tiles.now) c.tile-side.ensures.limits
     c.tile_columns-columns.ensures.value (c.requires.room ∙ ap (λ (n : ℕ). columns_at c.args.geometry.now 0 * n)
     (ap (tile_length c.args.geometry.now) (sym c.depth-depth.ensures.value) ∙ sym c.tile_length.ensures.value))))
 
@@ -35,7 +38,8 @@ pub loop-strip-preserved : goal.loop-strip-preserved
 loop-strip-preserved g c =
     let i = c.loop-strip.invariant in
     record {
-      adds = λ src has. level_more c.args.geometry.now c.args.image.depth src c.args.level c.loop-strip.strip c.args.name.now (g.D.Folder.files c.args.folder.now)
+      adds = λ src has. level_more c.args.geometry.now c.args.image.depth src c.args.level c.loop-strip.strip c.args.name.now (g.D.Folder.files
+          c.args.folder.now)
           (g.D.Folder.files c.loop-strip.folder)
           (g.D.Folder.files c.write_row.new.folder) (i.adds src has) (c.in_ok-write_row.ensures.whole c.args.image src
           (record { texels = has; front = c.loop-strip.invariant.front; lawful = c.depth-depth.ensures.limits; bytes = c.samples_are_bytes.ensures }));
@@ -56,7 +60,8 @@ write_row-requires-clause-strip g c κs within =
 
 pub write_row-requires-clause-room : goal.write_row-requires-clause-room
 write_row-requires-clause-room g c κs within =
-    c.loop-strip.auto.row ∙ length-take-le _ c.args.tiles.now (shorter_row c.args.geometry.now c.args.level c.tile_columns-columns.result c.tile_length.result (length c.args.tiles.now) c.tile-side.ensures.limits
+    c.loop-strip.auto.row ∙ length-take-le _ c.args.tiles.now (shorter_row c.args.geometry.now c.args.level c.tile_columns-columns.result
+    c.tile_length.result (length c.args.tiles.now) c.tile-side.ensures.limits
     c.tile_columns-columns.ensures.value (c.requires.room ∙ ap (λ (n : ℕ). columns_at c.args.geometry.now 0 * n)
     (ap (tile_length c.args.geometry.now) (sym c.depth-depth.ensures.value) ∙ sym c.tile_length.ensures.value)))
     ∙ ap (λ (n : ℕ). n * c.tile_length.result) c.tile_columns-columns.ensures.value
@@ -83,9 +88,11 @@ pub returns-in_err-write_row-clause-part : goal.returns-in_err-write_row-clause-
 returns-in_err-write_row-clause-part g c =
     let rows = rows_are_at c.args.geometry.now c.args.level c.height-height.result c.tile-side.result
     (c.height-height.ensures.value ∙ c.requires.height) c.tile-side.ensures.tile in
-    OnErr-all _ _ (inr (λ src has. level_part c.args.geometry.now c.args.image.depth src c.args.level c.loop-strip.strip c.args.name.now (g.D.Folder.files c.args.folder.now)
+    OnErr-all _ _ (inr (λ src has. level_part c.args.geometry.now c.args.image.depth src c.args.level c.loop-strip.strip c.args.name.now
+    (g.D.Folder.files c.args.folder.now)
     (g.D.Folder.files c.loop-strip.folder)
-    (g.D.Folder.files c.write_row.new.folder) c.requires.level (let low : c.loop-strip.strip < rows_at c.args.geometry.now c.args.level = omega (arith, rows) in low)
+    (g.D.Folder.files c.write_row.new.folder) c.requires.level (let low : c.loop-strip.strip < rows_at c.args.geometry.now
+    c.args.level = omega (arith, rows) in low)
     (c.loop-strip.invariant.adds src has) (c.in_err-write_row.ensures.part c.args.image src
     (record { texels = has; front = c.loop-strip.invariant.front; lawful = c.depth-depth.ensures.limits; bytes = c.samples_are_bytes.ensures }))))
 
@@ -103,7 +110,8 @@ finish-requires g c =
     let rows = rows_are_at c.args.geometry.now c.args.level c.height-height.result c.tile-side.result
     (c.height-height.ensures.value ∙ c.requires.height) c.tile-side.ensures.tile in
     rows_taken c.args.geometry.now c.args.level c.loop-strip.strip c.args.image.height c.loop-strip.texels.taken
-    (omega (arith, c.tile-side.ensures.limits.least_tile)) c.requires.height (let all : c.loop-strip.strip ≡ rows_at c.args.geometry.now c.args.level = omega (arith, rows) in all)
+    (omega (arith, c.tile-side.ensures.limits.least_tile)) c.requires.height (let all : c.loop-strip.strip ≡ rows_at c.args.geometry.now
+    c.args.level = omega (arith, rows) in all)
     c.loop-strip.invariant.taken ∙ sym c.loop-strip.invariant.height
 
 pub returns-clause-whole : goal.returns-clause-whole

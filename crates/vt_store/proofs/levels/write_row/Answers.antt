@@ -16,7 +16,8 @@ index_of-page-requires g c = row_page c.args.geometry.now c.args.level c.args.st
 pub put_tiles-requires-clause-rows : goal.put_tiles-requires-clause-rows
 put_tiles-requires-clause-rows g c = rows_full c.args.geometry.now c.index_of-page.result c.args.level c.args.strip c.depth-depth.result
     c.args.texels.now.width c.size_inside-inside.result.1 _ c.index_of-page.ensures.undone c.requires.width c.size_inside-inside.ensures.rows
-    (c.rows.ensures.full ∙ ap (λ (n : ℕ). texel_length n * (c.args.texels.now.width * c.size_inside-inside.result.1)) (let e : c.args.texels.now.depth ≡ c.depth-depth.result = cc in e))
+    (c.rows.ensures.full ∙ ap (λ (n : ℕ). texel_length n * (c.args.texels.now.width * c.size_inside-inside.result.1)) (let e :
+    c.args.texels.now.depth ≡ c.depth-depth.result = cc in e))
 
 pub returns-clause-whole : goal.returns-clause-whole
 returns-clause-whole g c =

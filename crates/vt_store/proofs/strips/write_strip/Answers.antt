@@ -199,7 +199,8 @@ pub returns-in_err-append-clause-refusals : goal.returns-in_err-append-clause-re
 returns-in_err-append-clause-refusals g c = by_outside c.from_residual-in_err-append.result _ c.from_residual-in_err-append.ensures.1
 
 pub returns-in_err-append-clause-failed : goal.returns-in_err-append-clause-failed
-returns-in_err-append-clause-failed g c = λ failed there. inl (c.append.ensures.failed (refused_by c.append.result c.from_residual-in_err-append.result _ c.in_err-append.was
+returns-in_err-append-clause-failed g c =
+    λ failed there. inl (c.append.ensures.failed (refused_by c.append.result c.from_residual-in_err-append.result _ c.in_err-append.was
     c.from_residual-in_err-append.ensures.1 failed) there)
 
 pub returns-in_err-append-clause-spare : goal.returns-in_err-append-clause-spare

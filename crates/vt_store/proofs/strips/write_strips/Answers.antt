@@ -271,7 +271,8 @@ returns-in_err-write_levels-clause-part g c =
     let same = λ (b : List ℕ) (e : (g.F.File.bytes c.args.chain.now.file) ≡ Some b). rest_tiles c.args.geometry.now c.args.chain.now.header b p
     c.tile-side.ensures.limits are.width are.height (level b e) in
     let inside = first_inside c.args.geometry.now c.tile-side.ensures.limits.some_level in
-    OnErr-all _ _ (let adds = c.in_err-write_levels.ensures.part in inr (front_seen (g.F.File.bytes c.args.chain.now.file) c.args.chain.now c.args.geometry.now c.args.name.now
+    OnErr-all _ _ (let adds = c.in_err-write_levels.ensures.part in inr (front_seen (g.F.File.bytes c.args.chain.now.file) c.args.chain.now
+    c.args.geometry.now c.args.name.now
     (g.D.Folder.files c.args.folder.now) (g.D.Folder.files c.write_levels.new.folder) c.requires
     (made_rest_part (g.F.File.bytes c.args.chain.now.file) c.args.geometry.now c.args.chain.now.header p.depth (pages_below c.args.geometry.now 1)
     (level_source (record { base = p; tile = c.args.geometry.now.tile }) 1) c.args.name.now (g.D.Folder.files c.args.folder.now)
@@ -523,7 +524,8 @@ pub returns-in_err-begin_store-clause-refusals : goal.returns-in_err-begin_store
 returns-in_err-begin_store-clause-refusals g c = by_outside c.from_residual-in_err-begin_store.result _ c.from_residual-in_err-begin_store.ensures.1
 
 pub returns-in_err-begin_store-clause-failed : goal.returns-in_err-begin_store-clause-failed
-returns-in_err-begin_store-clause-failed g c = λ failed. inl (c.begin_store.ensures.failed (refused_by c.begin_store.result c.from_residual-in_err-begin_store.result _
+returns-in_err-begin_store-clause-failed g c =
+    λ failed. inl (c.begin_store.ensures.failed (refused_by c.begin_store.result c.from_residual-in_err-begin_store.result _
     c.in_err-begin_store.was c.from_residual-in_err-begin_store.ensures.1 failed))
 
 pub returns-in_err-begin_store-clause-asked : goal.returns-in_err-begin_store-clause-asked
@@ -560,14 +562,22 @@ pub returns-in_err-write_levels-clause-all_read : goal.returns-in_err-write_leve
 returns-in_err-write_levels-clause-all_read g c = none_made c.from_residual-in_err-write_levels.result _ _ c.from_residual-in_err-write_levels.ensures.1
 
 pub returns-in_err-write_strip-clause-refusals : goal.returns-in_err-write_strip-clause-refusals
-returns-in_err-write_strip-clause-refusals g c = by_call c.from_residual-in_err-write_strip.result _ c.from_residual-in_err-write_strip.ensures.1 c.in_err-write_strip.ensures.refusals
+returns-in_err-write_strip-clause-refusals g c =
+    by_call c.from_residual-in_err-write_strip.result _ c.from_residual-in_err-write_strip.ensures.1 c.in_err-write_strip.ensures.refusals
 
 pub returns-in_err-write_levels-clause-refusals : goal.returns-in_err-write_levels-clause-refusals
 returns-in_err-write_levels-clause-refusals g c = by_outside c.from_residual-in_err-write_levels.result _ c.from_residual-in_err-write_levels.ensures.1
 
 pub overflow_add-strips : goal.overflow_add-strips
 overflow_add-strips g c =
-    omega (arith, c.tile-side.ensures.tile, c.tile-side.ensures.limits.least_tile, c.tile-side.ensures.limits.most_tile, c.height-height.ensures.height, c.height-height.ensures.limits.most_height)
+    omega (
+      arith,
+      c.tile-side.ensures.tile,
+      c.tile-side.ensures.limits.least_tile,
+      c.tile-side.ensures.limits.most_tile,
+      c.height-height.ensures.height,
+      c.height-height.ensures.limits.most_height,
+    )
 
 pub overflow_sub-strips : goal.overflow_sub-strips
 overflow_sub-strips g c =
@@ -581,14 +591,16 @@ pub overflow_mul-row : goal.overflow_mul-row
 overflow_mul-row g c =
     omega (
       arith,
-      mul-le c.texel_length.result c.width-width.result 6 16384 (omega (arith, c.texel_length.ensures.few)) (omega (arith, c.width-width.ensures.width, c.width-width.ensures.limits.most_width)),
+      mul-le c.texel_length.result c.width-width.result 6 16384 (omega (arith, c.texel_length.ensures.few))
+          (omega (arith, c.width-width.ensures.width, c.width-width.ensures.limits.most_width)),
     )
 
 pub overflow_mul-side : goal.overflow_mul-side
 overflow_mul-side g c =
     omega (
       arith,
-      strip_small c.tile-side.result c.texel_length.result c.width-width.result (omega (arith, c.tile-side.ensures.tile, c.tile-side.ensures.limits.least_tile, c.tile-side.ensures.limits.most_tile))
+      strip_small c.tile-side.result c.texel_length.result c.width-width.result
+          (omega (arith, c.tile-side.ensures.tile, c.tile-side.ensures.limits.least_tile, c.tile-side.ensures.limits.most_tile))
           (omega (arith, c.texel_length.ensures.few)) (omega (arith, c.width-width.ensures.width, c.width-width.ensures.limits.most_width)),
     )
 

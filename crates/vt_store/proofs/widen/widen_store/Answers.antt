@@ -222,7 +222,8 @@ pub returns-in_err-narrow_room-clause-refusals : goal.returns-in_err-narrow_room
 returns-in_err-narrow_room-clause-refusals g c = by_memory c.from_residual-in_err-narrow_room.result c.from_residual-in_err-narrow_room.ensures.1
 
 pub returns-in_err-narrow_room-clause-failed : goal.returns-in_err-narrow_room-clause-failed
-returns-in_err-narrow_room-clause-failed g c = λ failed. no_fault c.from_residual-in_err-narrow_room.result _ c.from_residual-in_err-narrow_room.ensures.1 failed
+returns-in_err-narrow_room-clause-failed g c =
+    λ failed. no_fault c.from_residual-in_err-narrow_room.result _ c.from_residual-in_err-narrow_room.ensures.1 failed
 
 pub returns-in_err-narrow_room-clause-all_read : goal.returns-in_err-narrow_room-clause-all_read
 returns-in_err-narrow_room-clause-all_read g c = none_made c.from_residual-in_err-narrow_room.result _ _ c.from_residual-in_err-narrow_room.ensures.1
@@ -297,7 +298,8 @@ pub returns-in_err-begin_store-clause-refusals : goal.returns-in_err-begin_store
 returns-in_err-begin_store-clause-refusals g c = by_outside c.from_residual-in_err-begin_store.result _ c.from_residual-in_err-begin_store.ensures.1
 
 pub returns-in_err-begin_store-clause-failed : goal.returns-in_err-begin_store-clause-failed
-returns-in_err-begin_store-clause-failed g c = λ failed. inl (c.begin_store.ensures.failed (refused_by c.begin_store.result c.from_residual-in_err-begin_store.result _
+returns-in_err-begin_store-clause-failed g c =
+    λ failed. inl (c.begin_store.ensures.failed (refused_by c.begin_store.result c.from_residual-in_err-begin_store.result _
     c.in_err-begin_store.was c.from_residual-in_err-begin_store.ensures.1 failed))
 
 pub returns-in_err-begin_store-clause-all_read : goal.returns-in_err-begin_store-clause-all_read
@@ -331,7 +333,8 @@ pub returns-in_err-widen_piece-clause-all_read : goal.returns-in_err-widen_piece
 returns-in_err-widen_piece-clause-all_read g c = none_made c.from_residual-in_err-widen_piece.result _ _ c.from_residual-in_err-widen_piece.ensures.1
 
 pub returns-in_err-widen_piece-clause-refusals : goal.returns-in_err-widen_piece-clause-refusals
-returns-in_err-widen_piece-clause-refusals g c = by_call c.from_residual-in_err-widen_piece.result _ c.from_residual-in_err-widen_piece.ensures.1 c.in_err-widen_piece.ensures.refusals
+returns-in_err-widen_piece-clause-refusals g c =
+    by_call c.from_residual-in_err-widen_piece.result _ c.from_residual-in_err-widen_piece.ensures.1 c.in_err-widen_piece.ensures.refusals
 
 pub overflow_add-pieces : goal.overflow_add-pieces
 overflow_add-pieces g c =

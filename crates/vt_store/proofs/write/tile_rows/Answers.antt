@@ -1,4 +1,4 @@
-use Rattle.std.proofs.Common.{◌≡◌, ℕ, ◌+◌, ◌-◌, ◌*◌, ◌≤◌, refl, sym, ap, ◌∙◌, arith}
+use Rattle.std.proofs.Common.{◌≡◌, ℕ, ◌+◌, ◌-◌, ◌*◌, refl, sym, ap, ◌∙◌, arith}
 use Rattle.vt_definitions.specs.Depths.{texel_length}
 use Rattle.vt_mip.specs.Chains.{chain_texel}
 use Rattle.vt_pages.specs.declared.PageName.{PageName}
