@@ -31,7 +31,7 @@ fn a_word_is_written_as_one_texel(rt: HostRuntime) {
     let mut wide = [7; 12];
     put_word::<2>(&mut wide, 1, 6_442_516_479);
     assert!(rt;
-        narrow == [7, 7, 7, 0, 1, 2, 7, 7, 7] && wide == [7, 7, 7, 7, 7, 7, 0, 1, 128, 0, 255, 255],
+        narrow == [7, 7, 7, 0, 1, 2, 7, 7, 7] && wide == [7, 7, 7, 7, 7, 7, 0, 1, 128, 0, 255, 255]
     );
 }
 

@@ -6,7 +6,7 @@ mod readers;
 mod strips;
 
 use crate::fixtures::no_row_is_wrong;
-use looks::{Look, mistold, reads, sees};
+use looks::{Look, misseen, mistold, reads, sees};
 use readers::Reader;
 use std::alloc::Global;
 use vt_outside::Fail;
@@ -21,9 +21,11 @@ fn a_header_is_looked_for_in_one_place(rt: HostRuntime) {
 #[test]
 fn an_image_is_read_from_two_places(rt: HostRuntime) {
     const BYTES: &[u8] = b"P6 2 1 255\nabcdef and more";
-    let image = Look::Image(2, 1, 1, &[0x616263, 0x646566]);
-    assert!(rt; reads(rt.alloc(), BYTES, image, &[(0, 26), (11, 6)]));
-    assert!(rt; sees(rt.alloc(), BYTES, Look::Samples(b"abcdef")));
+    const IMAGE: Look = Look::Image((2, 1, 1), &[0x616263, 0x646566]);
+    assert!(rt;
+        reads(rt.alloc(), BYTES, IMAGE, &[(0, 26), (11, 6)])
+            && sees(rt.alloc(), BYTES, Look::Samples(b"abcdef"))
+    );
 }
 
 #[test]
@@ -93,8 +95,13 @@ fn a_wide_picture_is_written(rt: HostRuntime) {
 
 #[test]
 fn a_texel_of_either_depth_has_its_word(rt: HostRuntime) {
-    let narrow = Look::Image(1, 1, 1, &[98559]);
-    assert!(rt; sees(rt.alloc(), b"P6 1 1 255\n\x01\x80\xff", narrow));
-    let wide = Look::Image(1, 1, 2, &[6442516479]);
-    assert!(rt; sees(rt.alloc(), b"P6 1 1 65535\n\x00\x01\x80\x00\xff\xff", wide),);
+    const ROWS: [(&[u8], (u32, u32, u32), &[u64]); 2] = [
+        (b"P6 1 1 255\n\x01\x80\xff", (1, 1, 1), &[98559]),
+        (
+            b"P6 1 1 65535\n\x00\x01\x80\x00\xff\xff",
+            (1, 1, 2),
+            &[6442516479],
+        ),
+    ];
+    no_row_is_wrong(&rt, misseen(rt.alloc(), &ROWS));
 }

@@ -150,6 +150,6 @@ fn numbers_are_written_in_place(rt: HostRuntime) {
             && is_put(&mut line, 0, 0, 1, b"0.320...................")
             && is_put(&mut line, 4, u64::MAX, 24, b"0.3218446744073709551615")
             && is_read_back(&mut line, 7, 9, Ok(7))
-            && is_read_back(&mut line, 17, 9, PAST),
+            && is_read_back(&mut line, 17, 9, PAST)
     );
 }

@@ -291,6 +291,6 @@ fn a_picture_has_four_digits(rt: HostRuntime) {
         is_picture_name("a/", "a/0730.ppm")
             && !is_picture_name("a/", "a/0730.pp")
             && !is_picture_name("a/", "a/073:.ppm")
-            && is_named(rt.alloc(), "a/", 73, "a/0073.ppm"),
+            && is_named(rt.alloc(), "a/", 73, "a/0073.ppm")
     );
 }

@@ -2,22 +2,26 @@
 
 mod foreign;
 
-use super::has_camera;
+use super::{Seen, other_camera};
 use crate::fixtures::no_row_is_wrong;
 use std::alloc::Global;
 use vt_camera::{Camera, Path, parse_path, path_flaw_is_unique, path_has_no_flaw, path_is_unique};
 
 #[test]
 fn one_key_gives_one_picture(rt: HostRuntime) {
-    const CAMERA: Camera = Camera {
-        u: 0,
-        v: 0,
-        h: 256,
-        c: 16384,
-        s: 0,
-    };
-    let text = b"size 2 1\nfocal 1\nat 0 0 256 16384 0\n";
-    assert!(rt; has_camera(rt.alloc(), text, (2, 1, 1, 1), 0, CAMERA));
+    const ROWS: [Seen; 1] = [(
+        b"size 2 1\nfocal 1\nat 0 0 256 16384 0\n",
+        (2, 1, 1, 1),
+        0,
+        Camera {
+            u: 0,
+            v: 0,
+            h: 256,
+            c: 16384,
+            s: 0,
+        },
+    )];
+    no_row_is_wrong(&rt, other_camera(rt.alloc(), &ROWS));
     path_is_unique();
     path_flaw_is_unique();
     path_has_no_flaw();
@@ -95,7 +99,10 @@ fn numbers_at_their_limits_are_accepted(rt: HostRuntime) {
         c: -16384,
         s: -16384,
     };
-    assert!(rt; has_camera(rt.alloc(), MOST, (2048, 2048, 4096, 9999), 0, FIRST),);
-    assert!(rt; has_camera(rt.alloc(), MOST, (2048, 2048, 4096, 9999), 9998, LAST),);
-    assert!(rt; has_camera(rt.alloc(), LEAST, (1, 1, 1, 1), 0, NEAREST));
+    const ROWS: [Seen; 3] = [
+        (MOST, (2048, 2048, 4096, 9999), 0, FIRST),
+        (MOST, (2048, 2048, 4096, 9999), 9998, LAST),
+        (LEAST, (1, 1, 1, 1), 0, NEAREST),
+    ];
+    no_row_is_wrong(&rt, other_camera(rt.alloc(), &ROWS));
 }

@@ -12,7 +12,7 @@ pub enum Look<'a> {
     /// This refusal of a reader, or none.
     Refusal(Reader, Option<PpmError>),
     /// An image of so many columns and rows and of this depth, whose first texels have these words.
-    Image(u32, u32, u32, &'a [u64]),
+    Image((u32, u32, u32), &'a [u64]),
     /// An image of these samples.
     Samples(&'a [u8]),
     /// A header of this width, behind which the raster begins there.
@@ -72,9 +72,7 @@ fn is_header(alloc: Global, folder: &mut MemoryFolder, width: u32, raster: u64) 
 fn is_found(alloc: Global, folder: &mut MemoryFolder, look: Look) -> bool {
     match look {
         Look::Refusal(reader, refusal) => refusal_in(alloc, folder, reader) == refusal,
-        Look::Image(width, height, depth, words) => {
-            is_image(alloc, folder, (width, height, depth), words)
-        }
+        Look::Image(size, words) => is_image(alloc, folder, size, words),
         Look::Samples(samples) => has_samples(alloc, folder, samples),
         Look::Header(width, raster) => is_header(alloc, folder, width, raster),
         Look::Strips(depth, first, second) => gives(alloc, folder, depth, first, second),
@@ -162,6 +160,17 @@ pub fn mistold(
     for i in 0..rows.len() {
         let (call, reader, refusal) = rows[i];
         if !finds(alloc, bytes, &[call], Look::Refusal(reader, refusal), None) {
+            return Some(i);
+        }
+    }
+    None
+}
+
+/// The first of these images that has other columns, rows or samples of another size, or first texels of other words.
+pub fn misseen(alloc: Global, rows: &[(&[u8], (u32, u32, u32), &[u64])]) -> Option<usize> {
+    for i in 0..rows.len() {
+        let (bytes, size, words) = rows[i];
+        if !sees(alloc, bytes, Look::Image(size, words)) {
             return Some(i);
         }
     }

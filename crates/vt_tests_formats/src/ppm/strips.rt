@@ -43,9 +43,9 @@ fn rows_of_either_depth_are_scaled(rt: HostRuntime) {
 // Two rows and then all three are read at once.
 #[test]
 fn several_rows_are_one_read(rt: HostRuntime) {
-    let look = Look::Strips(1, (1, 2, Some(b"defghi")), (0, 3, Some(b"abcdefghi")));
-    let places = [(0, 29), (14, 6), (11, 9)];
-    assert!(rt; reads(rt.alloc(), b"P6 1 3 255\nabcdefghi and more", look, &places),);
+    const LOOK: Look = Look::Strips(1, (1, 2, Some(b"defghi")), (0, 3, Some(b"abcdefghi")));
+    const PLACES: [(u64, u64); 3] = [(0, 29), (14, 6), (11, 9)];
+    assert!(rt; reads(rt.alloc(), b"P6 1 3 255\nabcdefghi and more", LOOK, &PLACES));
 }
 
 #[test]
@@ -93,9 +93,12 @@ fn a_texture_may_be_larger_than_an_image(rt: HostRuntime) {
 
 #[test]
 fn a_header_may_have_larger_sides_than_an_image(rt: HostRuntime) {
-    assert!(rt; sees(rt.alloc(), b"P6 16384 1 255\n", Look::Header(16384, 15)),);
-    let refusal = Some(PpmError::BadSize);
-    assert!(rt; refuses(rt.alloc(), b"P6 16385 1 255\n", Reader::Header, refusal),);
+    const BAD_SIZE: Option<PpmError> = Some(PpmError::BadSize);
+    const HEADER: Look = Look::Header(16384, 15);
+    assert!(rt;
+        sees(rt.alloc(), b"P6 16384 1 255\n", HEADER)
+            && refuses(rt.alloc(), b"P6 16385 1 255\n", Reader::Header, BAD_SIZE)
+    );
 }
 
 #[test]
@@ -184,7 +187,7 @@ fn each_failing_read_is_told_and_a_row_is_read_after_it(rt: HostRuntime) {
         (FIRST, Reader::Rows, FAILED),
         (SECOND, Reader::Checked, FAILED),
     ];
+    const LOOK: Look = Look::Strips(1, (0, 1, None), (1, 1, Some(b"\xff\x80\x00")));
     no_row_is_wrong(&rt, mistold(rt.alloc(), TWO_ROWS, &ROWS));
-    let look = Look::Strips(1, (0, 1, None), (1, 1, Some(b"\xff\x80\x00")));
-    assert!(rt; finds(rt.alloc(), TWO_ROWS, &[THIRD], look, None));
+    assert!(rt; finds(rt.alloc(), TWO_ROWS, &[THIRD], LOOK, None));
 }
