@@ -2,7 +2,7 @@
 
 use crate::fixtures::sink_failing_at;
 use std::alloc::Global;
-use vt_outside::MemorySink;
+use vt_outside::{Fails, MemorySink};
 use vt_print::{Line, Place, put_pieces, tell_bad_input, tell_pieces, tell_place};
 
 // Adds words and a number to a line, where there is room for them.
@@ -39,28 +39,10 @@ fn a_line_holds_words_and_numbers(rt: HostRuntime) {
     );
 }
 
-// What is told: an input that is bad at a place of so many numbers, a place without a name, or a line as it stands.
-#[derive(Clone, Copy)]
-enum Kind {
-    BadWords,
-    BadNumber,
-    BadTwoNumbers,
-    TwoNumbers,
-    ThreeNumbers,
-    Line,
+// Whether the pieces are put.
+fn puts(sink: &mut MemorySink, pieces: &[&[u8]]) -> bool {
+    put_pieces(sink, pieces).is_ok()
 }
-
-// Something told: its kind, the input's name, and words and numbers in turn, of which only so many count.
-type Told = (
-    Kind,
-    &'static str,
-    (&'static [u8], u64),
-    (&'static [u8], u64),
-    (&'static [u8], u64),
-);
-
-// Words and a number that do not count.
-const NONE: (&[u8], u64) = (b"", 0);
 
 fn tells_bad_input(sink: &mut MemorySink, name: &str, place: &Place<'_>) {
     tell_bad_input(sink, name, place);
@@ -70,94 +52,57 @@ fn tells_place(sink: &mut MemorySink, place: &Place<'_>) {
     tell_place(sink, place);
 }
 
-// Tells this.
-fn tell(sink: &mut MemorySink, told: &Told) {
-    let (kind, name, one, two, three) = *told;
-    match kind {
-        Kind::BadWords => tells_bad_input(sink, name, &Place::words(one.0)),
-        Kind::BadNumber => tells_bad_input(sink, name, &Place::number(one.0, one.1)),
-        Kind::BadTwoNumbers => {
-            tells_bad_input(sink, name, &Place::two_numbers(one.0, one.1, two.0, two.1));
-        }
-        Kind::TwoNumbers => tells_place(sink, &Place::two_numbers(one.0, one.1, two.0, two.1)),
-        Kind::ThreeNumbers => tells_place(
-            sink,
-            &Place::three_numbers(one.0, one.1, two.0, two.1, three.0, three.1),
-        ),
-        Kind::Line => tell_pieces(sink, &[one.0]),
-    }
+fn tells(sink: &mut MemorySink, line: &[u8]) {
+    tell_pieces(sink, &[line]);
 }
 
-// Tells these in turn.
-fn tell_each(sink: &mut MemorySink, rows: &[Told]) {
-    for i in 0..rows.len() {
-        tell(sink, &rows[i]);
-    }
-}
-
-// Whether these, told in turn to a sink of which the put of that number fails, leave these bytes.
-fn leave(alloc: Global, put: u64, rows: &[Told], want: &[u8]) -> bool {
-    match sink_failing_at(alloc, put) {
-        Ok(mut sink) => {
-            tell_each(&mut sink, rows);
-            sink.bytes() == want
-        }
-        Err(_) => false,
-    }
+// Whether three bad inputs are told by their names and places.
+fn are_told(alloc: Global) -> bool {
+    let mut sink = MemorySink::new(alloc, Fails::new(alloc));
+    tells_bad_input(&mut sink, "a.ppm", &Place::words(b"bad size"));
+    tells_bad_input(&mut sink, "", &Place::number(b"bad line ", 7));
+    let lengths = Place::two_numbers(b"length ", 16, b", wanted ", 700);
+    tells_bad_input(&mut sink, "s: 1", &lengths);
+    let expected =
+        b"vtex: bad input: a.ppm: bad size\nvtex: bad input: : bad line 7\nvtex: bad input: s: 1: length 16, wanted 700\n";
+    sink.bytes() == expected.as_slice()
 }
 
 #[test]
 fn a_bad_input_is_told_by_its_name_and_place(rt: HostRuntime) {
-    const ROWS: [Told; 3] = [
-        (Kind::BadWords, "a.ppm", (b"bad size", 0), NONE, NONE),
-        (Kind::BadNumber, "", (b"bad line ", 7), NONE, NONE),
-        (
-            Kind::BadTwoNumbers,
-            "s: 1",
-            (b"length ", 16),
-            (b", wanted ", 700),
-            NONE,
-        ),
-    ];
-    const WANT: &[u8] =
-        b"vtex: bad input: a.ppm: bad size\nvtex: bad input: : bad line 7\nvtex: bad input: s: 1: length 16, wanted 700\n";
-    assert!(rt; leave(rt.alloc(), u64::MAX, &ROWS, WANT));
+    assert!(rt; are_told(rt.alloc()));
+}
+
+// Whether two places and a line are told without a name.
+fn are_told_without_a_name(alloc: Global) -> bool {
+    let mut sink = MemorySink::new(alloc, Fails::new(alloc));
+    let frames = Place::two_numbers(b"", 3, b" frames, pinned pages need ", 5);
+    tells_place(&mut sink, &frames);
+    let wants = Place::three_numbers(b"picture ", 0, b" wants ", 41, b" pages, room for ", 40);
+    tells_place(&mut sink, &wants);
+    tells(&mut sink, b"vtex: out of memory\n");
+    let expected =
+        b"vtex: 3 frames, pinned pages need 5\nvtex: picture 0 wants 41 pages, room for 40\nvtex: out of memory\n";
+    sink.bytes() == expected.as_slice()
 }
 
 #[test]
 fn a_place_is_told_without_a_name(rt: HostRuntime) {
-    const ROWS: [Told; 3] = [
-        (
-            Kind::TwoNumbers,
-            "",
-            (b"", 3),
-            (b" frames, pinned pages need ", 5),
-            NONE,
-        ),
-        (
-            Kind::ThreeNumbers,
-            "",
-            (b"picture ", 0),
-            (b" wants ", 41),
-            (b" pages, room for ", 40),
-        ),
-        (Kind::Line, "", (b"vtex: out of memory\n", 0), NONE, NONE),
-    ];
-    const WANT: &[u8] =
-        b"vtex: 3 frames, pinned pages need 5\nvtex: picture 0 wants 41 pages, room for 40\nvtex: out of memory\n";
-    assert!(rt; leave(rt.alloc(), u64::MAX, &ROWS, WANT));
+    assert!(rt; are_told_without_a_name(rt.alloc()));
 }
 
-// The second put fails, and the line ends there.
+// Whether a line of which the second put fails ends there.
+fn ends_at_a_refused_put(alloc: Global) -> bool {
+    let Ok(mut sink) = sink_failing_at(alloc, 1) else {
+        return false;
+    };
+    tells_bad_input(&mut sink, "abcd", &Place::words(b"bad size"));
+    sink.bytes() == b"vtex: bad input: ab".as_slice()
+}
+
 #[test]
 fn the_first_refused_put_ends_a_line(rt: HostRuntime) {
-    const ROWS: [Told; 1] = [(Kind::BadWords, "abcd", (b"bad size", 0), NONE, NONE)];
-    assert!(rt; leave(rt.alloc(), 1, &ROWS, b"vtex: bad input: ab"));
-}
-
-// Whether the pieces are put.
-fn puts(sink: &mut MemorySink, pieces: &[&[u8]]) -> bool {
-    put_pieces(sink, pieces).is_ok()
+    assert!(rt; ends_at_a_refused_put(rt.alloc()));
 }
 
 // Whether pieces of which one is empty are two puts, so that the third put is that of the next piece.
