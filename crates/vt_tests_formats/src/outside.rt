@@ -92,7 +92,7 @@ fn an_empty_list_of_what_may_not_be_dropped_ends(rt: HostRuntime) {
     assert!(rt; has_room);
 }
 
-// What is asked of a folder in memory.
+// What is asked of a folder in memory. The last three are of two openings of `a`, which holds `abcd`.
 #[derive(Clone, Copy)]
 enum Asked {
     Creates,
@@ -100,64 +100,9 @@ enum Asked {
     Opens,
     Holds,
     HasNot,
-}
-
-// Something asked of a folder for a name and bytes, and whether it is so.
-type Step = (Asked, &'static str, &'static [u8], bool);
-
-// Whether what is asked of a folder for a name and bytes is so.
-fn is_so(folder: &mut MemoryFolder, asked: Asked, name: &str, bytes: &[u8]) -> bool {
-    match asked {
-        Asked::Creates => folder.create(name).is_ok(),
-        Asked::Appends => folder.append(name, bytes).is_ok(),
-        Asked::Opens => opens(folder, name),
-        Asked::Holds => folder.holds(name, bytes),
-        Asked::HasNot => folder.bytes_of(name).is_none(),
-    }
-}
-
-// The first of these steps that is otherwise.
-fn other_step(folder: &mut MemoryFolder, steps: &[Step]) -> Option<usize> {
-    for i in 0..steps.len() {
-        let (asked, name, bytes, want) = steps[i];
-        if is_so(folder, asked, name, bytes) != want {
-            return Some(i);
-        }
-    }
-    None
-}
-
-// The first of these steps that is otherwise in a folder in which `a` holds these bytes, and of which these calls fail.
-fn misstep(alloc: Global, calls: &[Fail], bytes: &[u8], steps: &[Step]) -> Option<usize> {
-    match holding(alloc, calls, bytes) {
-        Ok(mut folder) => other_step(&mut folder, steps),
-        Err(_) => Some(0),
-    }
-}
-
-#[test]
-fn a_name_is_made_and_added_to(rt: HostRuntime) {
-    const STEPS: [Step; 5] = [
-        (Asked::Creates, "a", b"", true),
-        (Asked::Holds, "a", b"", true),
-        (Asked::Appends, "a", b"one ", true),
-        (Asked::Appends, "a", b"two", true),
-        (Asked::Holds, "a", b"one two", true),
-    ];
-    no_row_is_wrong(&rt, misstep(rt.alloc(), &[], b"old", &STEPS));
-}
-
-// It is refused until it is made, and the other one stays as it is.
-#[test]
-fn a_missing_name_is_refused(rt: HostRuntime) {
-    const STEPS: [Step; 5] = [
-        (Asked::Appends, "b", b"x", false),
-        (Asked::Opens, "b", b"", false),
-        (Asked::HasNot, "b", b"", true),
-        (Asked::Creates, "b", b"", true),
-        (Asked::Holds, "a", b"old", true),
-    ];
-    no_row_is_wrong(&rt, misstep(rt.alloc(), &[], b"old", &STEPS));
+    IsReadAndClosed,
+    WasReadInTurn,
+    FailsInTurn,
 }
 
 // `a`, opened twice.
@@ -206,17 +151,87 @@ fn was_asked_in_turn(folder: &MemoryFolder) -> bool {
         && folder.asked("a", 3).is_none()
 }
 
-// Whether closed files leave their places in the order in which they are closed.
-fn keeps_places(alloc: Global) -> bool {
-    match holding(alloc, &[], b"abcd") {
-        Ok(mut folder) => are_read_and_closed(&mut folder) && was_asked_in_turn(&folder),
-        Err(_) => false,
+// Whether the length of the second opening and the second read of the first fail, and nothing else.
+fn fail_at_their_list(folder: &mut MemoryFolder) -> bool {
+    let Ok((mut first, mut second)) = opened_twice(folder) else {
+        return false;
+    };
+    has_length(&mut first, 4)
+        && !has_length(&mut second, 4)
+        && gives(&mut first, 0, *b"ab")
+        && !gives(&mut first, 0, *b"ab")
+        && gives(&mut second, 0, *b"ab")
+}
+
+// Something asked of a folder for a name and bytes, and whether it is so.
+type Step = (Asked, &'static str, &'static [u8], bool);
+
+// Whether what is asked of a folder for a name and bytes is so.
+fn is_so(folder: &mut MemoryFolder, asked: Asked, name: &str, bytes: &[u8]) -> bool {
+    match asked {
+        Asked::Creates => folder.create(name).is_ok(),
+        Asked::Appends => folder.append(name, bytes).is_ok(),
+        Asked::Opens => opens(folder, name),
+        Asked::Holds => folder.holds(name, bytes),
+        Asked::HasNot => folder.bytes_of(name).is_none(),
+        Asked::IsReadAndClosed => are_read_and_closed(folder),
+        Asked::WasReadInTurn => was_asked_in_turn(folder),
+        Asked::FailsInTurn => fail_at_their_list(folder),
+    }
+}
+
+// The first of these steps that is otherwise.
+fn other_step(folder: &mut MemoryFolder, steps: &[Step]) -> Option<usize> {
+    for i in 0..steps.len() {
+        let (asked, name, bytes, want) = steps[i];
+        if is_so(folder, asked, name, bytes) != want {
+            return Some(i);
+        }
+    }
+    None
+}
+
+// The first of these steps that is otherwise in a folder in which `a` holds these bytes, and of which these calls fail.
+fn misstep(alloc: Global, calls: &[Fail], bytes: &[u8], steps: &[Step]) -> Option<usize> {
+    match holding(alloc, calls, bytes) {
+        Ok(mut folder) => other_step(&mut folder, steps),
+        Err(_) => Some(0),
     }
 }
 
 #[test]
+fn a_name_is_made_and_added_to(rt: HostRuntime) {
+    const STEPS: [Step; 5] = [
+        (Asked::Creates, "a", b"", true),
+        (Asked::Holds, "a", b"", true),
+        (Asked::Appends, "a", b"one ", true),
+        (Asked::Appends, "a", b"two", true),
+        (Asked::Holds, "a", b"one two", true),
+    ];
+    no_row_is_wrong(&rt, misstep(rt.alloc(), &[], b"old", &STEPS));
+}
+
+// It is refused until it is made, and the other one stays as it is.
+#[test]
+fn a_missing_name_is_refused(rt: HostRuntime) {
+    const STEPS: [Step; 5] = [
+        (Asked::Appends, "b", b"x", false),
+        (Asked::Opens, "b", b"", false),
+        (Asked::HasNot, "b", b"", true),
+        (Asked::Creates, "b", b"", true),
+        (Asked::Holds, "a", b"old", true),
+    ];
+    no_row_is_wrong(&rt, misstep(rt.alloc(), &[], b"old", &STEPS));
+}
+
+// Closed files leave their places in the order in which they are closed.
+#[test]
 fn closed_files_leave_their_places(rt: HostRuntime) {
-    assert!(rt; keeps_places(rt.alloc()));
+    const STEPS: [Step; 2] = [
+        (Asked::IsReadAndClosed, "a", b"", true),
+        (Asked::WasReadInTurn, "a", b"", true),
+    ];
+    no_row_is_wrong(&rt, misstep(rt.alloc(), &[], b"abcd", &STEPS));
 }
 
 // The second opening, the first creation and the second addition fail; of the bytes of the refused addition three of seven stay.
@@ -235,20 +250,8 @@ fn a_folder_fails_at_its_list(rt: HostRuntime) {
     no_row_is_wrong(&rt, misstep(rt.alloc(), &CALLS, b"ab", &STEPS));
 }
 
-// Whether the length of the second opening and the second read of the first fail, and nothing else.
-fn fail_at_their_list(folder: &mut MemoryFolder) -> bool {
-    let Ok((mut first, mut second)) = opened_twice(folder) else {
-        return false;
-    };
-    has_length(&mut first, 4)
-        && !has_length(&mut second, 4)
-        && gives(&mut first, 0, *b"ab")
-        && !gives(&mut first, 0, *b"ab")
-        && gives(&mut second, 0, *b"ab")
-}
-
-// Whether the files of a folder fail at its list.
-fn has_failing_files(alloc: Global) -> bool {
+#[test]
+fn a_file_fails_at_its_list(rt: HostRuntime) {
     const CALLS: [Fail; 2] = [
         Fail::Length { opening: 1 },
         Fail::Read {
@@ -256,15 +259,8 @@ fn has_failing_files(alloc: Global) -> bool {
             read: 1,
         },
     ];
-    match holding(alloc, &CALLS, b"abcd") {
-        Ok(mut folder) => fail_at_their_list(&mut folder),
-        Err(_) => false,
-    }
-}
-
-#[test]
-fn a_file_fails_at_its_list(rt: HostRuntime) {
-    assert!(rt; has_failing_files(rt.alloc()));
+    const STEPS: [Step; 1] = [(Asked::FailsInTurn, "a", b"", true)];
+    no_row_is_wrong(&rt, misstep(rt.alloc(), &CALLS, b"abcd", &STEPS));
 }
 
 // Whether a sink of which the second put fails keeps the others, and one of the three bytes of that one.

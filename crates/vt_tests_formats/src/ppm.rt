@@ -22,8 +22,10 @@ fn a_header_is_looked_for_in_one_place(rt: HostRuntime) {
 fn an_image_is_read_from_two_places(rt: HostRuntime) {
     const BYTES: &[u8] = b"P6 2 1 255\nabcdef and more";
     const IMAGE: Look = Look::Image((2, 1, 1), &[0x616263, 0x646566]);
-    assert!(rt; reads(rt.alloc(), BYTES, IMAGE, &[(0, 26), (11, 6)]));
-    assert!(rt; sees(rt.alloc(), BYTES, Look::Samples(b"abcdef")));
+    assert!(rt;
+        reads(rt.alloc(), BYTES, IMAGE, &[(0, 26), (11, 6)])
+            && sees(rt.alloc(), BYTES, Look::Samples(b"abcdef"))
+    );
 }
 
 #[test]

@@ -4,8 +4,7 @@ mod foreign;
 
 use super::{Seen, other_camera};
 use crate::fixtures::no_row_is_wrong;
-use std::alloc::Global;
-use vt_camera::{Camera, Path, parse_path, path_flaw_is_unique, path_has_no_flaw, path_is_unique};
+use vt_camera::{Camera, path_flaw_is_unique, path_has_no_flaw, path_is_unique};
 
 #[test]
 fn one_key_gives_one_picture(rt: HostRuntime) {
@@ -27,49 +26,46 @@ fn one_key_gives_one_picture(rt: HostRuntime) {
     path_has_no_flaw();
 }
 
-// Whether the camera of a picture has this place and this cosine.
-fn is_at(path: &Path, picture: usize, want: (i64, i64, i64)) -> bool {
-    if picture >= path.pictures() as usize {
-        return false;
-    }
-    let camera = path.camera(picture as u32);
-    camera.u == want.0 && camera.v == want.1 && camera.c == want.2
-}
-
-// The first picture of a path whose camera has another place or another cosine, or their number where that is another.
-fn other_picture(alloc: Global, text: &[u8], cameras: &[(i64, i64, i64)]) -> Option<usize> {
-    let Ok(path) = parse_path(alloc, text) else {
-        return Some(0);
-    };
-    for i in 0..cameras.len() {
-        if !is_at(&path, i, cameras[i]) {
-            return Some(i);
-        }
-    }
-    if path.pictures() as usize == cameras.len() {
-        None
-    } else {
-        Some(cameras.len())
-    }
-}
-
 #[test]
 fn pictures_on_the_way_are_rounded_down(rt: HostRuntime) {
-    const CAMERAS: [(i64, i64, i64); 4] = [
-        (0, 0, 16384),
-        (-4, 0, 16384),
-        (-7, 0, 16384),
-        (-10, 0, 16384),
+    const TEXT: &[u8] = b"size 2 1\nfocal 1\nat 0 0 256 16384 0\nto 3 -10 0 256 16384 0\n";
+    const NUMBERS: (u32, u32, u32, u32) = (2, 1, 1, 4);
+    const KEY: Camera = Camera {
+        u: 0,
+        v: 0,
+        h: 256,
+        c: 16384,
+        s: 0,
+    };
+    const ROWS: [Seen; 4] = [
+        (TEXT, NUMBERS, 0, KEY),
+        (TEXT, NUMBERS, 1, Camera { u: -4, ..KEY }),
+        (TEXT, NUMBERS, 2, Camera { u: -7, ..KEY }),
+        (TEXT, NUMBERS, 3, Camera { u: -10, ..KEY }),
     ];
-    let text = b"size 2 1\nfocal 1\nat 0 0 256 16384 0\nto 3 -10 0 256 16384 0\n";
-    no_row_is_wrong(&rt, other_picture(rt.alloc(), text, &CAMERAS));
+    no_row_is_wrong(&rt, other_camera(rt.alloc(), &ROWS));
 }
 
 #[test]
 fn each_way_begins_at_the_key_before_it(rt: HostRuntime) {
-    const CAMERAS: [(i64, i64, i64); 5] = [(0, 8, 0), (1, 8, 0), (2, 4, 0), (4, 0, 0), (9, 9, 0)];
-    let text = b"size 2 1\nfocal 1\nat 0 8 1 0 0\nat 1 8 1 0 0\nto 2 4 0 1 0 0\nto 1 9 9 1 0 0\n";
-    no_row_is_wrong(&rt, other_picture(rt.alloc(), text, &CAMERAS));
+    const TEXT: &[u8] =
+        b"size 2 1\nfocal 1\nat 0 8 1 0 0\nat 1 8 1 0 0\nto 2 4 0 1 0 0\nto 1 9 9 1 0 0\n";
+    const NUMBERS: (u32, u32, u32, u32) = (2, 1, 1, 5);
+    const KEY: Camera = Camera {
+        u: 0,
+        v: 8,
+        h: 1,
+        c: 0,
+        s: 0,
+    };
+    const ROWS: [Seen; 5] = [
+        (TEXT, NUMBERS, 0, KEY),
+        (TEXT, NUMBERS, 1, Camera { u: 1, ..KEY }),
+        (TEXT, NUMBERS, 2, Camera { u: 2, v: 4, ..KEY }),
+        (TEXT, NUMBERS, 3, Camera { u: 4, v: 0, ..KEY }),
+        (TEXT, NUMBERS, 4, Camera { u: 9, v: 9, ..KEY }),
+    ];
+    no_row_is_wrong(&rt, other_camera(rt.alloc(), &ROWS));
 }
 
 // A path of the greatest numbers goes from the greatest place to the least.

@@ -93,9 +93,12 @@ fn a_texture_may_be_larger_than_an_image(rt: HostRuntime) {
 
 #[test]
 fn a_header_may_have_larger_sides_than_an_image(rt: HostRuntime) {
-    assert!(rt; sees(rt.alloc(), b"P6 16384 1 255\n", Look::Header(16384, 15)));
-    let refusal = Some(PpmError::BadSize);
-    assert!(rt; refuses(rt.alloc(), b"P6 16385 1 255\n", Reader::Header, refusal));
+    const BAD_SIZE: Option<PpmError> = Some(PpmError::BadSize);
+    const HEADER: Look = Look::Header(16384, 15);
+    assert!(rt;
+        sees(rt.alloc(), b"P6 16384 1 255\n", HEADER)
+            && refuses(rt.alloc(), b"P6 16385 1 255\n", Reader::Header, BAD_SIZE)
+    );
 }
 
 #[test]
@@ -184,7 +187,7 @@ fn each_failing_read_is_told_and_a_row_is_read_after_it(rt: HostRuntime) {
         (FIRST, Reader::Rows, FAILED),
         (SECOND, Reader::Checked, FAILED),
     ];
+    const LOOK: Look = Look::Strips(1, (0, 1, None), (1, 1, Some(b"\xff\x80\x00")));
     no_row_is_wrong(&rt, mistold(rt.alloc(), TWO_ROWS, &ROWS));
-    let look = Look::Strips(1, (0, 1, None), (1, 1, Some(b"\xff\x80\x00")));
-    assert!(rt; finds(rt.alloc(), TWO_ROWS, &[THIRD], look, None));
+    assert!(rt; finds(rt.alloc(), TWO_ROWS, &[THIRD], LOOK, None));
 }
