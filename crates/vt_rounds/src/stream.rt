@@ -86,7 +86,7 @@ fn map_page(table: &mut StillTable, tile: &[u8], planned: &Planned, events: &mut
     }));
 }
 
-// Puts the page of an entry whose tile was read in the place of its victim, if it has one.
+/// Puts the page of an entry whose tile was read in the place of its victim, if it has one.
 pub fn apply(table: &mut StillTable, tile: &[u8], planned: &Planned, events: &mut Events)
     requires table { IsTable table.old }
     requires entry { IsEntryFor table.old.shape table.old.frames (newest table.old.changes) planned.now }

@@ -19,7 +19,7 @@ where
     Ok(list)
 }
 
-// Makes room in each store to note so many more reads.
+/// Makes room in each store to note so many more reads.
 pub(crate) fn reserve_reads<F: File>(stores: &mut [Store<F>], reads: u64) -> Result<(), NoMemory>
     ensures same { AreSameStores F.File stores.old stores.new }
     ensures room { OnOk result (All (λ store. reads ≤ F.spare store.file) stores.new) }

@@ -82,6 +82,7 @@ fn read_named<'a>(
     values_of(kind, &matches).ok_or(WordsError::Usage)
 }
 
+// The kind of the command of this name, if there is one.
 fn kind_of(name: &str) -> Option<Kind>
     ensures { result ≡ kind_of name.now }
 {
