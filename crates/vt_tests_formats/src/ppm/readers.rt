@@ -104,31 +104,31 @@ pub fn refusal_in(alloc: Global, folder: &mut MemoryFolder, reader: Reader) -> O
     refusal_of(folder, answer)
 }
 
-// Reads so many rows from one on, which there are, where they fill the room.
+// Reads so many rows from one on, where there are as many, they fill the room, and there is memory to note the read.
 fn read_into(
     reader: &mut StripReader<MemoryFile>,
     y: u32,
     count: u32,
     room: &mut [u8],
-) -> Result<(), Failed>
+) -> Option<Result<(), Failed>>
     requires { reader.old.checked ≡ true }
     ensures { reader.new.checked ≡ true }
 {
     let height = reader.header().height;
     if y > height || count > height - y || room.len() != count as usize * reader.row_length() {
-        return Err(Failed);
+        return None;
     }
     if reader.reserve(1).is_err() {
-        return Err(Failed);
+        return None;
     }
     if count == 1 {
-        reader.row(y, room)
+        Some(reader.row(y, room))
     } else {
-        reader.rows(y, count, room)
+        Some(reader.rows(y, count, room))
     }
 }
 
-// Whether these rows, of sixteen bytes at most, are read, or refused.
+// Whether these rows, of sixteen bytes at most, are read, or their read fails.
 fn is_strip(reader: &mut StripReader<MemoryFile>, strip: Strip) -> bool
     requires { reader.old.checked ≡ true }
     ensures { reader.new.checked ≡ true }
@@ -140,8 +140,9 @@ fn is_strip(reader: &mut StripReader<MemoryFile>, strip: Strip) -> bool
         return false;
     }
     match read_into(reader, y, count, &mut room[..length]) {
-        Ok(()) => want == Some(&room[..length]),
-        Err(_) => want.is_none(),
+        Some(Ok(())) => want == Some(&room[..length]),
+        Some(Err(_)) => want.is_none(),
+        None => false,
     }
 }
 
