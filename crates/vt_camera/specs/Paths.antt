@@ -10,6 +10,10 @@ pub record PathView : Type 0 where
   pub focal : ℕ
   pub cameras : List Camera
 
+-- the greatest height over a texture, in 1/256 texel
+abbrev pub most_height : ℕ
+most_height = 16777216
+
 -- a camera's place, height and direction are within their limits
 pub record IsCamera (camera : Camera) : Type 0 where
   pub u_low : negsuc 2147483647 ≤ℤ camera.u
@@ -17,7 +21,7 @@ pub record IsCamera (camera : Camera) : Type 0 where
   pub v_low : negsuc 2147483647 ≤ℤ camera.v
   pub v_high : camera.v ≤ℤ pos 2147483648
   pub h_low : pos 1 ≤ℤ camera.h
-  pub h_high : camera.h ≤ℤ pos 16777216
+  pub h_high : camera.h ≤ℤ pos most_height
   pub c_low : negsuc 16383 ≤ℤ camera.c
   pub c_high : camera.c ≤ℤ pos 16384
   pub s_low : negsuc 16383 ≤ℤ camera.s

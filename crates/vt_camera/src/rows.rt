@@ -3,7 +3,7 @@
 ghost use Rattle.std.specs.Prelude.{◌≡◌, ℕ, ◌+◌, ◌-◌, ◌*◌, ◌/◌, ◌%◌, ◌^◌, ◌<◌, ◌≤◌, ℤ, pos, negsuc, ◌+ℤ◌, ◌-ℤ◌, ◌*ℤ◌, ◌≤ℤ◌, ◌<ℤ◌, unsigned_abs};
 ghost use Rattle.vt_definitions.specs.Limits.{most_picture_side, most_focal};
 ghost use Rattle.vt_definitions.specs.Sides.{side};
-ghost use Rattle.vt_camera.specs.Paths.{IsCamera};
+ghost use Rattle.vt_camera.specs.Paths.{IsCamera, most_height};
 ghost use Rattle.vt_camera.specs.Rows.{longest_side, IsSurface, floor_div, ring_place, distance, span, level_within, off_middle, row_of, row_level, row_place};
 ghost use Rattle.vt_camera.specs.RowParts.{whole_turns, middle_of, part_of, turn_at, on_ring, IsAxis};
 
@@ -164,7 +164,7 @@ fn distance_of(camera: &Camera, focal: u32, y: u32) -> u64
     requires limits { IsCamera camera.now }
     requires focal { focal ≤ most_focal }
     ensures value { result ≡ distance focal camera.now y }
-    ensures high { result ≤ 68719476736 }
+    ensures high { result ≤ most_height * most_focal }
 {
     camera.h.unsigned_abs() * u64::from(focal) / (u64::from(y) + 1)
 }
@@ -173,7 +173,7 @@ fn distance_of(camera: &Camera, focal: u32, y: u32) -> u64
 fn span_of(camera: &Camera, y: u32) -> u64
     requires { IsCamera camera.now }
     ensures value { result ≡ span camera.now y }
-    ensures high { result ≤ 16777216 }
+    ensures high { result ≤ most_height }
 {
     camera.h.unsigned_abs() / (u64::from(y) + 1)
 }
@@ -181,8 +181,8 @@ fn span_of(camera: &Camera, y: u32) -> u64
 // The columns of a row of this distance, span and level, on a texture of this width.
 fn columns_of(camera: &Camera, distance: u64, span: u64, side: u32, level: u32) -> Axis
     requires limits { IsCamera camera.now }
-    requires distance { distance ≤ 68719476736 }
-    requires span { span ≤ 16777216 }
+    requires distance { distance ≤ most_height * most_focal }
+    requires span { span ≤ most_height }
     requires side_low { 1 ≤ side }
     requires side_high { side ≤ longest_side }
     requires level { level ≤ 16 }
@@ -196,8 +196,8 @@ fn columns_of(camera: &Camera, distance: u64, span: u64, side: u32, level: u32) 
 // The rows of a row of this distance, span and level, on a texture of this height.
 fn rows_of(camera: &Camera, distance: u64, span: u64, side: u32, level: u32) -> Axis
     requires limits { IsCamera camera.now }
-    requires distance { distance ≤ 68719476736 }
-    requires span { span ≤ 16777216 }
+    requires distance { distance ≤ most_height * most_focal }
+    requires span { span ≤ most_height }
     requires side_low { 1 ≤ side }
     requires side_high { side ≤ longest_side }
     requires level { level ≤ 16 }
@@ -209,7 +209,7 @@ fn rows_of(camera: &Camera, distance: u64, span: u64, side: u32, level: u32) -> 
 
 // The greatest level up to the last whose texels are no wider than the span, or 0.
 fn greatest_level(span: u64, last: u32) -> u32
-    requires { span ≤ 16777216 }
+    requires { span ≤ most_height }
     ensures value { result ≡ level_within span last }
     ensures within { result ≤ last }
     ensures few { result ≤ 16 }
@@ -226,7 +226,7 @@ fn greatest_level(span: u64, last: u32) -> u32
 fn middle(place: i64, distance: u64, direction: i64, side: u32) -> i64
     requires place_low { negsuc 2147483647 ≤ℤ place }
     requires place_high { place ≤ℤ pos 2147483648 }
-    requires distance { distance ≤ 68719476736 }
+    requires distance { distance ≤ most_height * most_focal }
     requires direction_low { negsuc 16383 ≤ℤ direction }
     requires direction_high { direction ≤ℤ pos 16384 }
     requires side_low { 1 ≤ side }
@@ -240,7 +240,7 @@ fn middle(place: i64, distance: u64, direction: i64, side: u32) -> i64
 
 // How far off along one axis the ground of a row lies.
 fn far_off(distance: u64, direction: i64) -> i64
-    requires distance { distance ≤ 68719476736 }
+    requires distance { distance ≤ most_height * most_focal }
     requires direction_low { negsuc 16383 ≤ℤ direction }
     requires direction_high { direction ≤ℤ pos 16384 }
     ensures value { result ≡ floor_div (pos distance *ℤ direction) 16384 }
@@ -263,7 +263,7 @@ fn turns(side: u32) -> i64
 
 // How far a row goes along one axis in two pixels.
 fn scaled(span: u64, direction: i64) -> i64
-    requires span { span ≤ 16777216 }
+    requires span { span ≤ most_height }
     requires direction_low { negsuc 16383 ≤ℤ direction }
     requires direction_high { direction ≤ℤ pos 16384 }
     ensures value { result ≡ pos span *ℤ direction }

@@ -9,6 +9,10 @@ most_tiled_side = 16384
 abbrev pub most_read_side : ℕ
 most_read_side = 8192
 
+-- the largest side of a tile
+abbrev pub most_tile_side : ℕ
+most_tile_side = 128
+
 -- how many pages a chain may have
 abbrev pub most_pages : ℕ
 most_pages = 262144

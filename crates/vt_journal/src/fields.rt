@@ -1,6 +1,6 @@
 //! The fields of a journal's lines, read.
 
-ghost use Rattle.std.specs.Prelude.{◌≡◌, ◌≢◌, ◌+◌, ◌-◌, ◌/◌, ◌<◌, ◌≤◌, ℕ, slice_get, Some, None, MatchOption};
+ghost use Rattle.std.specs.Prelude.{◌≡◌, ◌≢◌, ◌+◌, ◌-◌, ◌/◌, ◌^◌, ◌<◌, ◌≤◌, ℕ, slice_get, Some, None, MatchOption};
 ghost use Rattle.std.specs.Bool.{MatchBool};
 ghost use Rattle.vt_text.specs.Lines.{fields_of};
 ghost use Rattle.vt_pages.specs.Pages.{IsPage, levels_of};
@@ -29,7 +29,7 @@ pub fn ends_before(line: &[u8], fields: usize) -> bool
 
 /// The number below 2^63 that is a line's field `i`, if it is one.
 pub fn number_at(line: &[u8], i: usize) -> Option<u64>
-    ensures { IsNumberAt line.now i 9223372036854775807 result }
+    ensures { IsNumberAt line.now i (2 ^ 63 - 1) result }
 {
     let text = field(line, i)?;
     match decimal(text, 0, i64::MAX) {

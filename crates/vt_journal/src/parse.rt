@@ -1,6 +1,7 @@
 //! The lines of a journal's text, read.
 
-ghost use Rattle.std.specs.Prelude.{◌≡◌, ◌≢◌, ◌<◌, ℕ, MatchOption};
+ghost use Rattle.std.specs.Prelude.{◌≡◌, ◌≢◌, ◌-◌, ◌<◌, ℕ, MatchOption};
+ghost use Rattle.vt_definitions.specs.Limits.{most_frames};
 ghost use Rattle.vt_text.specs.Lines.{fields_of};
 ghost use Rattle.vt_journal.specs.declared.parse.JournalError.TheVariants as journal_error;
 ghost use Rattle.vt_pages.specs.Pages.{pages_of};
@@ -92,7 +93,7 @@ fn read_begin(line: &[u8]) -> Option<Begin>
 
 // The number of a frame that is a line's field `i`, if it is one.
 fn frame_at(line: &[u8], i: usize) -> Option<u32>
-    ensures { IsNumberAt line.now i 65534 result }
+    ensures { IsNumberAt line.now i (most_frames - 1) result }
 {
     small_at(line, i, MOST_FRAMES - 1)
 }

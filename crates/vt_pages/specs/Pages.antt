@@ -1,7 +1,7 @@
 -- The pages of a mip chain: their names, their indexes, their ancestors and their tiles.
 use Rattle.std.specs.Prelude.{◌≡◌, ℕ, zero, suc, ◌+◌, ◌-◌, ◌*◌, ◌/◌, ◌%◌, ◌^◌, ◌<◌, ◌≤◌, min, ◌==◌, ◌&&◌, not, nat_le, if◌then◌else◌, IsTrue, Option, Some, None, List, [], ◌∷◌, map, slice_index}
 use Rattle.std.specs.List.{range_with_len}
-use Rattle.vt_definitions.specs.Limits.{most_tiled_side, most_pages, most_levels}
+use Rattle.vt_definitions.specs.Limits.{most_tile_side, most_tiled_side, most_pages, most_levels}
 use Rattle.vt_definitions.specs.Sides.{side, level_count}
 use Rattle.vt_definitions.specs.Texels.{Source}
 use Rattle.vt_definitions.specs.Tiles.{is_tile_side}
@@ -123,7 +123,7 @@ pub record IsWithinLimits (s : Shape) : Type 0 where
   pub tile_side : IsTrue (is_tile_side s.tile)
   pub tile_power : s.tile ≡ 2 ^ tile_exponent s.tile
   pub least_tile : 2 ≤ s.tile
-  pub most_tile : s.tile ≤ 128
+  pub most_tile : s.tile ≤ most_tile_side
   pub least_width : 1 ≤ s.width
   pub most_width : s.width ≤ most_tiled_side
   pub least_height : 1 ≤ s.height

@@ -1,7 +1,7 @@
 -- What a geometry keeps beside its shape.
 use Rattle.std.specs.Prelude.{◌≡◌, ℕ, ◌+◌, ◌<◌, ◌≤◌, ◌^◌, true, length, slice_index, map}
 use Rattle.std.specs.List.{range_with_len}
-use Rattle.vt_definitions.specs.Limits.{most_levels}
+use Rattle.vt_definitions.specs.Limits.{most_levels, most_tile_side}
 use Rattle.vt_definitions.specs.Sides.{side}
 use Rattle.vt_definitions.specs.Tiles.{is_tile_side}
 use Rattle.vt_pages.specs.declared.tables.Tables.{Tables}
@@ -15,7 +15,7 @@ pub record IsTileShift (t shift : ℕ) : Type 0 where
   pub power : t ≡ 2 ^ shift
   pub shift_inside : shift < 8
   pub least : 2 ≤ t
-  pub most : t ≤ 128
+  pub most : t ≤ most_tile_side
 
 -- the tables hold each level's first page, columns, rows and sides
 pub record IsTabled (s : Shape) (t : Tables) : Type 0 where

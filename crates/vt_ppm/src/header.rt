@@ -125,7 +125,7 @@ pub fn depth_of(maximum: u32) -> u32
 pub fn sample_count(header: &Header) -> usize
     requires { AreImageSides most_tiled_side header.now.width header.now.height }
     ensures value { result ≡ 3 * (header.now.width * header.now.height) }
-    ensures few { result ≤ 805306368 }
+    ensures few { result ≤ 3 * (most_tiled_side * most_tiled_side) }
 {
     3 * (header.width as usize * header.height as usize)
 }

@@ -1,5 +1,6 @@
 //! Where the rows of a texture stand in its file.
 ghost use Rattle.std.specs.Prelude.{◌≡◌, ◌+◌, ◌*◌, ◌≤◌, MatchBool};
+ghost use Rattle.vt_definitions.specs.Limits.{header_limit, most_tiled_side};
 ghost use Rattle.vt_ppm.specs.Strips.{IsTextureHeader, MayBeOver, row_length, row_start, piece_rows, pieces_of};
 
 use crate::Header;
@@ -14,7 +15,7 @@ pub fn row_length(header: &Header) -> usize
     requires { IsTextureHeader header.now }
     ensures value { result ≡ row_length header.now }
     ensures some { 1 ≤ result }
-    ensures few { result ≤ 98304 }
+    ensures few { result ≤ 6 * most_tiled_side }
 {
     texel_length(depth_of(header.maximum)) * header.width as usize
 }
@@ -33,7 +34,7 @@ pub fn row_start(header: &Header, y: u32) -> u64
     requires header { IsTextureHeader header.now }
     requires inside { y ≤ header.now.height }
     ensures value { result ≡ row_start header.now y }
-    ensures few { result ≤ 1610678272 }
+    ensures few { result ≤ header_limit + 6 * (most_tiled_side * most_tiled_side) }
 {
     header.raster + y as u64 * row_length(header) as u64
 }

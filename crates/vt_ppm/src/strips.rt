@@ -1,6 +1,7 @@
 //! A texture that is read by strips of whole rows, so that it is never in memory as a whole.
 ghost use Rattle.std.specs.Prelude.{◌≡◌, ◌+◌, ◌*◌, ◌<◌, ◌≤◌, true, false, length, is_err, IsErr, IsErrOf, IfOk, IfErr, IfSome, OnOk, OnErr};
 ghost use Rattle.vt_definitions.specs.Depths.{IsDepth, AreBytes};
+ghost use Rattle.vt_definitions.specs.Limits.{most_tiled_side};
 ghost use Rattle.vt_outside.specs.Counts.{Rose};
 ghost use Rattle.vt_ppm.specs.Flaws.{IsHeaderFlaw};
 ghost use Rattle.vt_ppm.specs.Format.{depth_of};
@@ -211,7 +212,7 @@ impl<F: File> StripReader<F> {
     pub fn row_length(&self) -> usize
         ensures value { result ≡ row_length self.now.header }
         ensures some { 1 ≤ result }
-        ensures few { result ≤ 98304 }
+        ensures few { result ≤ 6 * most_tiled_side }
     {
         row_length(&self.header)
     }

@@ -1,6 +1,7 @@
 //! The header of a store.
 ghost use Rattle.std.specs.Prelude.{◌≡◌, ◌+◌, ◌*◌, ◌<◌, ◌≤◌, false, None, Some, IfOk, IfErr, OnOk, MatchOption, length, min, take, bytes_eq};
 ghost use Rattle.vt_definitions.specs.Depths.{IsDepth};
+ghost use Rattle.vt_definitions.specs.Limits.{most_tile_side};
 ghost use Rattle.vt_definitions.specs.Numbers.{number_from};
 ghost use Rattle.vt_pages.specs.Pages.{pages_of};
 ghost use Rattle.vt_tiles.specs.Format.{flaw_of, has_magic, header_shape, store_depth, tile_start, tile_length, store_length, header_length, header_bytes, magic};
@@ -34,7 +35,7 @@ fn number_at(head: &[u8], at: usize) -> u32
 pub fn tile_length(geometry: &Geometry, depth: u32) -> usize
     requires { IsDepth depth }
     ensures value { result ≡ tile_length geometry.now depth }
-    ensures few { result ≤ 98304 }
+    ensures few { result ≤ 6 * (most_tile_side * most_tile_side) }
 {
     let side = geometry.tile() as usize;
     side * side * texel_length(depth)

@@ -3,6 +3,7 @@ use Rattle.std.specs.Prelude.{ℕ, List, Option, Some, None, ◌≤◌, ◌&&◌
 use Rattle.std.specs.Str.{bytes_eq}
 use Rattle.std.specs.Str.Parse.{digits_value}
 use Rattle.clap.specs.Words.{Row, Text, first_of}
+use Rattle.vt_definitions.specs.Limits.{most_tile_side}
 use Rattle.vt_definitions.specs.Tiles.{is_tile_side}
 use Rattle.vt_text.specs.Numbers.{number_spelling}
 use Rattle.vt_words.specs.Arguments.{given}
@@ -23,4 +24,4 @@ number_of id least most rows = given (first_of id rows) (number_between least mo
 
 -- the number of an argument, if it is a tile side
 abbrev pub side_of : Text → List Row → Option ℕ
-side_of id rows = given (number_of id 2 128 rows) (λ side. if is_tile_side side then Some side else None)
+side_of id rows = given (number_of id 2 most_tile_side rows) (λ side. if is_tile_side side then Some side else None)

@@ -9,6 +9,9 @@ use crate::arguments::text;
 use clap::ArgMatches;
 use vt_text::decimal;
 
+// The largest side of a tile.
+const MOST_TILE_SIDE: u32 = 128;
+
 /// The greatest number of a texture that is made from one.
 pub const MOST_NUMBER: u32 = 65535;
 
@@ -25,7 +28,7 @@ pub fn side_of(matches: &ArgMatches<'_>, id: &str) -> Option<u32>
     ensures read { result ≡ side_of id.now (rows_of (found_of matches.now)) }
     ensures lawful { IfSome result (λ side. IsTileSide side) }
 {
-    let side = number_of(matches, id, 2, 128)?;
+    let side = number_of(matches, id, 2, MOST_TILE_SIDE)?;
     if is_tile_side(side) { Some(side) } else { None }
 }
 
