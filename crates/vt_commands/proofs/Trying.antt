@@ -1,6 +1,6 @@
 -- What a trial comes to.
 use Rattle.std.proofs.Common.{◌≡◌, ℕ, ◌⊎◌, List, [], ◌∷◌, take, Option, Some, None, true, Result, Ok, Err, refl, sym, ap, subst, ◌∙◌, inl, inr, arith}
-use Rattle.std.specs.Prelude.{MatchResult, IfOk, OnSome, is_some, option_map}
+use Rattle.std.specs.Prelude.{OnSome, is_some, option_map}
 use Rattle.std.specs.Str.{bytes_eq}
 use Rattle.std.proofs.lemmas.Bool.{false≢true}
 use Rattle.std.proofs.lemmas.Slice.Eq.{bytes_eq-Decides}
@@ -19,15 +19,10 @@ use Rattle.vt_store.specs.ChainStores.{chain_store}
 use Rattle.vt_tiles.specs.StoreViews.{IsStore, IsStoreIfTold}
 use Rattle.vt_tiles.proofs.Stored.{stores_open}
 use Rattle.vt_pass.specs.Requests as Requests
-use Rattle.vt_turns.specs.declared.error.WalkError.{WalkError}
-use Rattle.vt_turns.specs.declared.error.WalkError.TheVariants as walks
 use Rattle.vt_walk.specs.declared.turns.Walked.{Walked}
-use Rattle.vt_walk.specs.Walks.{WalkGiven, AreSettings}
-use Rattle.vt_walk.specs.Fits.{WalkSetup}
+use Rattle.vt_walk.specs.Walks.{AreSettings}
 use Rattle.vt_walk.specs.Counts.{HasCounts}
-use Rattle.vt_walk.specs.States.{WalkState, AreOpen}
-use Rattle.vt_walk.specs.Standing.{Finished}
-use Rattle.vt_walk.specs.Turns.{LeftBy}
+use Rattle.vt_walk.specs.States.{AreOpen}
 use Rattle.vt_walk.proofs.Rounds.{each_fits}
 use Rattle.vt_walk.proofs.Wholeness.{fits_or_not}
 use Rattle.vt_words.specs.Trial.{TrialText}
@@ -35,24 +30,7 @@ use Rattle.vt_files.specs.Courses.{FolderState, SinkState, Gain, IsUntouched}
 use Rattle.vt_files.specs.Dues.{FailsOnly, Puts}
 use Rattle.vt_inputs.specs.Terms.{Hindrance, FlawedBeside, ManyTexels, FewFrames, LargePicture, IsRefusalBy, EndsBy}
 use Rattle.vt_inputs.specs.Refusals.{cause_of}
-use Rattle.vt_commands.specs.commands.Trial.{
-  trial_shape,
-  trial_path,
-  trial_settings,
-  trial_setup,
-  trial_line,
-  trial_terms,
-  IsTrial,
-  IsFirstUnfit,
-  HindersTrial,
-  answer_of_trial,
-  IsWalkRefusal,
-  IsTrialRefusal,
-  WalksOver,
-  Compares,
-  TriesOut,
-  beside,
-}
+use Rattle.vt_commands.specs.commands.Trial.{trial_shape, trial_path, trial_settings, trial_setup, trial_line, trial_terms, IsTrial, IsFirstUnfit, HindersTrial, IsWalkRefusal, IsTrialRefusal, Compares, TriesOut, beside}
 use Rattle.vt_commands.specs.declared.commands.trial.Tried.{Tried}
 use Rattle.vt_inputs.specs.declared.refusal.Refusal.{Refusal}
 use Rattle.vt_inputs.specs.declared.refusal.Refusal.TheVariants.{NoMemory, Usage, Fault, Flawed, TooFewFrames, DoesNotFit}
@@ -83,24 +61,6 @@ settings_lawful s is = subst (λ (s : Shape). AreSettings s trial_settings) (sym
   };
   some_level = omega arith;
 })
-
--- what the walk of a trial came to
-pub walked_over : (drawn : PathView → ℕ → ℕ → ℕ → List ℕ → Type 0) (g : WalkGiven) (path : PathView) (first last : WalkState)
-    (r : Result Walked WalkError) → g.setup ≡ trial_setup path
-    → MatchResult r (λ _. Finished drawn g first last) (LeftBy drawn g first last)
-    → IfOk r (HasCounts (trial_setup path)) → WalksOver path (answer_of_trial r)
-walked_over drawn g path first last (Ok walked) same came counted = counted
-walked_over drawn g path first last (Err (walks.TooFewFrames frames needed)) same came counted = tt
-walked_over drawn g path first last (Err walks.Failed) same came counted = tt
-walked_over drawn g path first last (Err walks.NoMemory) same came counted = tt
-walked_over drawn g path first last (Err (walks.DoesNotFit picture wanted room)) same came counted =
-    let h = came.1 in
-    subst (λ (w : WalkSetup). IsFirstUnfit w picture wanted room) same (record {
-      of_path = let of = h.of_picture in let inside = h.stands.is_run.1.of_path in omega (arith, of, inside);
-      room_is = h.room_is;
-      unfit = h.unfit;
-      earlier = h.earlier;
-    })
 
 -- nothing stands in the way of a trial that was made
 free : (words : TrialText) (walked : Walked) → IsTrial words.number walked → (hindrance : Hindrance) → HindersTrial words [] hindrance → ⊥

@@ -18,9 +18,9 @@ use Rattle.vt_journal.specs.Changes.{newest}
 use Rattle.vt_journal.specs.Kept.{KeptView}
 use Rattle.vt_journal.specs.JournalText.{changes_of, event_lines}
 use Rattle.vt_journal.specs.JournalFlaws.{Reading, Admits, after, after_all, pinned_by, IsFlawFrom}
-use Rattle.vt_journal.specs.JournalReading.{IsReadable, IsCursor, IsLineRead, Advances, IsRefusal, IsEventChange, IsInPass, IsEventAdded, AreSameButEvents, AreEventsRead, reading_of}
+use Rattle.vt_journal.specs.JournalReading.{IsReadable, IsLineRead, Advances, IsRefusal, IsEventChange, IsInPass, IsEventAdded, AreSameButEvents, AreEventsRead, reading_of}
 use Rattle.vt_journal.proofs.EventLines.{changes_of-append, event_lines-append}
-use Rattle.vt_journal.proofs.Stepping.{advance_line, advance_none, advance_more, refused_later, refused_read}
+use Rattle.vt_journal.proofs.Stepping.{advance_line, advance_more, refused_later, refused_read}
 
 abbrev made : List Change → ℕ → ℕ → ℕ → List RowLine → Reading
 made changes passes picture start rows = record { changes = changes; passes = passes; picture = picture; start = start; rows = rows }
@@ -105,16 +105,6 @@ module _ (s : Shape) (height : ℕ) (text : List ℕ) where
     same = added.same;
     advances = advance_line s height text (reading_of before.changes pass) at number (Loses p) next_at next_number read
         ((is.in_pass, is.no_rows), read.says.readable, none);
-  }
-
-  pub events_none : (changes : List Change) (pass : PassText) (at number : ℕ) → IsCursor text at number
-      → AreEventsRead s height text changes changes pass pass at number at number
-  events_none changes pass at number cursor = record {
-    events = [];
-    added = sym (append-nil pass.events.elements);
-    changes_are = sym (append-nil changes);
-    same = record { pass = refl; picture = refl; start = refl; rows = refl };
-    advances = advance_none s height text (reading_of changes pass) at number cursor;
   }
 
   -- what was told after events

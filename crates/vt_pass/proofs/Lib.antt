@@ -2,6 +2,5 @@ pub mod Lent
 pub mod Settled
 pub mod Streaming
 pub mod OneRead
-pub mod Following
 pub mod AnyOrder
 pub mod Halves

@@ -97,9 +97,6 @@ sum_lost (e ∷ batch) (l ∷ losses) same = ap (λ n. cond l 1 0 + n) (sum_lost
     ∙ sym (sum_by-cons (λ (b : Bool). cond b 1 0) l losses)
 
 module _ (s : Shape) (d at len : ℕ) where
-  is_there : Planned → ℕ
-  is_there e = cond (is_tile_at s d at len e.page) 1 0
-
   sum_planned : (batch : List Planned) (losses : List Bool) → length losses ≡ length batch
       → sum_both (λ o l. cond (is_tile_at s d at len (page_if o)) 1 0) batch losses ≡ times_planned s d batch at len
   unfolding sum_both
@@ -148,9 +145,6 @@ module _ {F : Type 0} (g : FileMeanings F) (s : Shape) (d : ℕ) where
 
   afters : List (Portion F) → List FileState
   afters ps = map (λ p. file_state g p.after) ps
-
-  Reads : Portion F → Type 0
-  Reads p = IsReadFor g s d (items_of p.put) p.before p.after
 
   -- Sums over files that were read for portions.
   sum_files : (t : FileState → ℕ) (f : Loaded → ℕ) (ps : List (Portion F))

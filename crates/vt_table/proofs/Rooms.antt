@@ -1,7 +1,7 @@
 -- The tiles of frames, each in a room of its own.
 use Rattle.std.proofs.Common.{◌≡◌, ◌≢◌, ℕ, ◌+◌, ◌-◌, ◌*◌, ◌≤◌, ◌<◌, ◌⊎◌, inl, inr, List, [], length, get_or, take, drop, set, sym, ap, ◌∙◌, arith}
 use Rattle.std.specs.Prelude.{slice_range, slice_index_or, slice_index}
-use Rattle.std.proofs.lemmas.List.{drop-take, length-take-le, length-drop, get_or_past, get_or-set_same, get_or-set_other}
+use Rattle.std.proofs.lemmas.List.{drop-take, get_or_past, get_or-set_same, get_or-set_other}
 use Rattle.std.proofs.lemmas.List.FromFn.{get_or-map-range_with_len, length-map-range_with_len}
 use Rattle.std.proofs.lemmas.Nat.{mul-le}
 use Rattle.std.proofs.lemmas.Bool.{cases_lt}
@@ -60,18 +60,6 @@ pub tiles_past : (side : ℕ) (bytes depths : List ℕ) (frames f : ℕ) → fra
 tiles_past side bytes depths frames f past =
     get_or_past (tiles_in side bytes depths frames) f []
     (omega (arith, length-map-range_with_len (λ g. tile_in side bytes (slice_index depths g) g) 0 frames))
-
--- a frame's tile has the length of its depth
-pub tile_length : (side : ℕ) (bytes : List ℕ) (d frames f : ℕ) → f < frames → length bytes ≡ frames * room_of side → d ≤ 2
-    → length (tile_in side bytes d f) ≡ texel_length d * (side * side)
-unfolding tile_in
-tile_length side bytes d frames f inside all most =
-    let cut : f * room_of side + texel_length d * (side * side) - f * room_of side ≡ texel_length d * (side * side) = omega arith in
-    let room : f * room_of side + room_of side ≤ frames * room_of side =
-    omega (arith, mul-le (f + 1) (room_of side) frames (room_of side) (omega arith) (omega arith)) in
-    ap (λ n. length (take n (drop (f * room_of side) bytes))) cut
-    ∙ length-take-le (texel_length d * (side * side)) (drop (f * room_of side) bytes)
-    (omega (arith, length-drop (f * room_of side) bytes, tile_fits d side most))
 
 -- a tile was written into the room of a frame
 pub record IsWritten (side frame d : ℕ) (old new tile : List ℕ) : Type 0 where

@@ -1,7 +1,6 @@
 -- What the passes of a run ask for, and what of it was lost, adds up.
 use Rattle.std.proofs.Common.{◌≡◌, ℕ, suc, ◌+◌, Bool, true, false, cond, List, [], ◌∷◌, ◌++◌, length, refl, ap, ◌∙◌, length-append, arith}
 use Rattle.std.specs.List.{filter, count_by}
-use Rattle.std.proofs.lemmas.List.Elements.{filter-append}
 use Rattle.std.proofs.lemmas.List.Sums.{length-filter, sum_by-append}
 use Rattle.vt_pages.specs.Shape.{Shape}
 use Rattle.vt_evict.specs.declared.batches.Planned.{Planned}

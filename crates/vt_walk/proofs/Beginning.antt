@@ -1,15 +1,15 @@
 -- A walk before its first pass.
-use Rattle.std.proofs.Common.{◌≡◌, ℕ, suc, ◌+◌, ◌-◌, ◌≤◌, ◌⊎◌, inl, inr, List, [], ◌∷◌, ◌++◌, length, map, sum, take, min, Bool, Option, Some, None, refl, sym, ap, ◌∙◌, subst, arith}
-use Rattle.std.specs.Prelude.{option_map, IsSome, unwrap_or, sum_by, flat_map}
+use Rattle.std.proofs.Common.{◌≡◌, ℕ, suc, ◌+◌, ◌-◌, ◌≤◌, ◌⊎◌, inl, inr, List, [], ◌∷◌, ◌++◌, sum, take, Bool, Option, Some, None, refl, sym, ap, ◌∙◌, subst, arith}
+use Rattle.std.specs.Prelude.{option_map, IsSome, unwrap_or, sum_by}
 use Rattle.std.specs.List.{range_with_len}
 use Rattle.std.proofs.lemmas.Bool.{false≢true}
 use Rattle.std.proofs.lemmas.Grind.{flat_map-append}
 use Rattle.std.proofs.lemmas.List.{append-nil}
 use Rattle.std.proofs.lemmas.List.Sums.{sum_by-cons}
 use mathlib.Core.Path.{fun_ext}
-use Rattle.vt_outside.specs.Counts.{added, Rose, RoseBy}
+use Rattle.vt_outside.specs.Counts.{added, Rose}
 use Rattle.vt_outside.specs.Files.{Files, Asked, with_bytes, IsThere}
-use Rattle.vt_outside.specs.Places.{times_asked, times_failed, is_read_of}
+use Rattle.vt_outside.specs.Places.{times_asked, times_failed}
 use Rattle.vt_outside.specs.declared.place.Place.{Place}
 use Rattle.vt_outside.specs.declared.answers.OutsideError.{OutsideError}
 use Rattle.vt_outside.specs.declared.answers.OutsideError.TheVariants.{Failed, NoMemory}
@@ -24,29 +24,24 @@ use Rattle.vt_tiles.specs.StoreViews.{IsStoreIfTold}
 use Rattle.vt_evict.specs.declared.batches.Planned.{Planned}
 use Rattle.vt_evict.specs.Views.{RecencyView, first_view}
 use Rattle.vt_shown.specs.Scenes.{Scene}
-use Rattle.vt_pass.specs.Requests.{FileState, AllTell, counts_of, times_asked_by, times_failed_by}
+use Rattle.vt_pass.specs.Requests.{FileState, AllTell, counts_of}
 use Rattle.vt_pass.specs.Machines.{MachineState}
 use Rattle.vt_turns.specs.declared.error.WalkError.{WalkError}
-use Rattle.vt_turns.specs.declared.error.WalkError.TheVariants as walk_error
-use Rattle.vt_turns.specs.declared.mode.Mode.TheVariants.{Live, Settled}
 use Rattle.vt_turns.specs.declared.tour.Tour.{Tour}
 use Rattle.vt_turns.specs.Refusals.{refusal_by}
-use Rattle.vt_walk.specs.Runs.{run_text}
 use Rattle.vt_walk.specs.Walks.{WalkGiven}
-use Rattle.vt_walk.specs.Folders.{with_walk}
 use Rattle.vt_walk.specs.States.{WalkState, places_of}
-use Rattle.vt_walk.specs.Reads.{AreAskedFor, AreAskedAtMostFor, OnTold, lost_reads, times_pinned}
+use Rattle.vt_walk.specs.Reads.{AreAskedFor, AreAskedAtMostFor, OnTold, lost_reads}
 use Rattle.vt_walk.specs.Placing.{with_pinned}
 use Rattle.vt_walk.specs.Beginnings.{IsBegun, AreTold}
-use Rattle.vt_walk.specs.Causes.{HasFailed, IsCausedBy, reads_lost, faults_borne}
-use Rattle.vt_walk.specs.Leaving.{LeftAtHead, Left}
+use Rattle.vt_walk.specs.Causes.{IsCausedBy, reads_lost}
 use Rattle.vt_walk.specs.Tours.{IsTour, given_of}
 use Rattle.vt_walk.specs.Turns.{IsGiven, StandsFirst, LeftBy}
 use Rattle.vt_walk.proofs.Asking.{count_both}
 use Rattle.vt_walk.proofs.Asks.{with_open, times_with, failed_with, asked_of, failed_of, sum-one, told_more}
 use Rattle.vt_walk.proofs.Failing.{has_failed, few_borne}
 use Rattle.vt_walk.proofs.Passing.{state_of}
-use Rattle.vt_walk.proofs.Steps.{gained_none, changed_twice}
+use Rattle.vt_walk.proofs.Steps.{gained_none}
 use Rattle.vt_walk.proofs.Telling.{run_is_pinned}
 
 -- a tour whose frames are enough is a walk within its limits

@@ -1,6 +1,6 @@
 -- The picture of a machine that has run a picture's last pass is what is to be written of it.
-use Rattle.std.proofs.Common.{◌≡◌, ℕ, ◌+◌, ◌<◌, Bool, true, List, [], ◌∷◌, length, Option, Some, None, refl, sym, ap, ◌∙◌, subst}
-use Rattle.std.specs.Prelude.{IfSome, slice_get, slice_index_or}
+use Rattle.std.proofs.Common.{◌≡◌, ℕ, ◌<◌, Bool, true, List, [], ◌∷◌, length, Option, Some, None, refl, sym, ap, ◌∙◌, subst}
+use Rattle.std.specs.Prelude.{IfSome, slice_get}
 use Rattle.std.specs.List.{concat}
 use Rattle.vt_pages.specs.Pages.{IsWithinLimits}
 use Rattle.vt_ppm.specs.Picture.{picture_bytes}
@@ -10,14 +10,13 @@ use Rattle.vt_journal.specs.declared.changes.RowLine.{RowLine}
 use Rattle.vt_journal.specs.Changes.{Table, newest}
 use Rattle.vt_tiles.specs.StoreViews.{IsStore}
 use Rattle.vt_shown.specs.Scenes.{Scene}
-use Rattle.vt_pass.specs.Scenes.{Job}
 use Rattle.vt_pass.specs.Machines.{Setup, MachineState}
 use Rattle.vt_shown.specs.Replays.{IsPictureOf}
 use Rattle.vt_pass.specs.Passes.{IsPictured, IsJobFor, MapsNeeded}
 use Rattle.vt_pass.proofs.Settled.{settled}
 use Rattle.vt_turns.specs.declared.settings.Settings.{Settings}
 use Rattle.vt_turns.specs.declared.mode.Mode.{Mode}
-use Rattle.vt_turns.specs.declared.mode.Mode.TheVariants.{Live, Settled}
+use Rattle.vt_turns.specs.declared.mode.Mode.TheVariants.{Settled}
 use Rattle.vt_walk.specs.Runs.{WalkPass, IsRun, IsFinished, GoesOn, Finishes, journal_after, plan_after}
 use Rattle.vt_walk.specs.Shown.{last_rows, IsRunPicture}
 use Rattle.vt_walk.specs.Walks.{WalkGiven, WalkNames, given_by}

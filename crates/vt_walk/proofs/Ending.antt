@@ -1,8 +1,8 @@
 -- The turn after a pass.
-use Rattle.std.proofs.Common.{◌≡◌, ℕ, suc, ◌+◌, ◌-◌, ◌<◌, ◌≤◌, ◌≢◌, ◌⊎◌, inl, inr, Bool, true, false, ◌==◌, List, [], ◌∷◌, ◌++◌, length, sum, Option, Some, None, refl, sym, ap, ◌∙◌, subst, min, take, arith}
+use Rattle.std.proofs.Common.{◌≡◌, ℕ, ◌+◌, ◌<◌, ◌≤◌, ◌≢◌, ◌⊎◌, inl, inr, Bool, List, [], ◌∷◌, length, Option, refl, sym, ap, ◌∙◌, subst, take, arith}
 use Rattle.std.specs.Prelude.{option_map, IsSome, IsTrue, ◌↔◌, All, slice_index_or, if◌then◌else◌}
 use Rattle.std.specs.List.{concat}
-use Rattle.vt_outside.specs.Counts.{added, Rose, RoseBy}
+use Rattle.vt_outside.specs.Counts.{Rose}
 use Rattle.vt_outside.specs.Files.{Files, Asked, with_bytes, gained}
 use Rattle.vt_outside.specs.declared.answers.OutsideError.{OutsideError}
 use Rattle.vt_outside.specs.declared.answers.OutsideError.TheVariants.{Failed, NoMemory}
@@ -26,25 +26,23 @@ use Rattle.vt_turns.specs.declared.mode.Mode.{Mode}
 use Rattle.vt_turns.specs.declared.mode.Mode.TheVariants.{Live, Settled}
 use Rattle.vt_turns.specs.declared.settings.Settings.{Settings}
 use Rattle.vt_turns.specs.declared.tallies.Tally.{Tally}
-use Rattle.vt_turns.specs.declared.turns.Turn.{Turn}
 use Rattle.vt_turns.specs.declared.turns.Passed.{Passed}
 use Rattle.vt_turns.specs.Refusals.{refusal_by}
-use Rattle.vt_walk.specs.Fits.{WalkSetup, Fits, room_of, DoesNotFit, NeedsFrames}
-use Rattle.vt_walk.specs.Runs.{WalkPass, IsWalkSetup, IsRun, IsTurnOf, IsPictureAfter, IsFinished, Finishes, GoesOn, plan_after, recency_after, planned_in, lost_in}
-use Rattle.vt_walk.specs.Logs.{passes_of, picture_line, line_with, wanted_in}
+use Rattle.vt_walk.specs.Fits.{WalkSetup, room_of, DoesNotFit, NeedsFrames}
+use Rattle.vt_walk.specs.Runs.{WalkPass, IsWalkSetup, IsRun, Finishes, GoesOn, plan_after, recency_after, planned_in, lost_in}
+use Rattle.vt_walk.specs.Logs.{passes_of, picture_line, wanted_in}
 use Rattle.vt_walk.specs.Walks.{WalkGiven, WalkNames, given_by, names_of}
 use Rattle.vt_walk.specs.States.{WalkState}
 use Rattle.vt_walk.specs.Reads.{AreAskedFor, OnTold}
 use Rattle.vt_walk.specs.Written.{IsWritten}
-use Rattle.vt_walk.specs.Standing.{Stands}
 use Rattle.vt_walk.specs.Leaving.{Left, AsksNothing}
-use Rattle.vt_walk.specs.Causes.{HasFailed, IsCausedBy, HasUnfit}
+use Rattle.vt_walk.specs.Causes.{HasFailed, IsCausedBy}
 use Rattle.vt_turns.specs.Tallies.{no_passes}
 use Rattle.vt_walk.specs.Tallies.{tally_of, numbers_line}
 use Rattle.vt_turns.specs.Judging.{IsEnd, IsStoppedBy}
 use Rattle.vt_walk.specs.Tours.{IsTour, given_of, tour_scene}
 use Rattle.vt_turns.specs.declared.tour.Tour.{Tour}
-use Rattle.vt_walk.specs.Turns.{IsGiven, IsAtRun, IsPassed, StandsAt, StandsAfter, LeftBy}
+use Rattle.vt_walk.specs.Turns.{StandsAt, StandsAfter, LeftBy}
 use Rattle.vt_walk.proofs.Asking.{losses_more}
 use Rattle.vt_walk.proofs.Asks.{with_open}
 use Rattle.vt_walk.proofs.Drawing.{picture_written}

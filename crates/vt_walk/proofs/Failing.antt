@@ -1,7 +1,6 @@
 -- A walk that failed has its cause.
-use Rattle.std.proofs.Common.{◌≡◌, ℕ, ◌+◌, ◌-◌, ◌≤◌, ◌⊎◌, inl, inr, List, [], ◌∷◌, length, sum, Option, Some, None, refl, sym, ap, ◌∙◌, subst, min, arith}
-use Rattle.std.specs.Prelude.{IsTrue, nat_le}
-use Rattle.vt_outside.specs.Counts.{added, count_end, Rose, RoseBy, RoseTogetherBy}
+use Rattle.std.proofs.Common.{◌≡◌, ℕ, ◌+◌, ◌≤◌, inr, List, ◌∷◌, length, sum, Option, Some, None, ap, arith}
+use Rattle.vt_outside.specs.Counts.{added, Rose, RoseBy, RoseTogetherBy}
 use Rattle.vt_outside.specs.declared.place.Place.{Place}
 use Rattle.vt_evict.specs.declared.batches.Planned.{Planned}
 use Rattle.vt_turns.specs.declared.mode.Mode.{Mode}

@@ -70,9 +70,6 @@ in_range p a n below above few = grind (arith, nat_tests)
 lt_true : (n : ℕ) → 0 < n → nat_lt 0 n ≡ true
 lt_true n h = grind (arith, nat_tests)
 
-below_of : (f n : ℕ) → (nat_le 0 f && nat_lt f (0 + n)) ≡ true → f < n
-below_of f n h = grind (arith, nat_tests)
-
 -- where no frame is free, the pages that may move are as many as the frames beside the pinned ones
 all_held : (v : RecencyView) → IsTable v → free_frames v ≡ [] → v.frames ≤ v.pinned + length v.order
 unfolding free_frames

@@ -1,6 +1,6 @@
 -- A pass that was made, or was under way.
-use Rattle.std.proofs.Common.{◌≡◌, ℕ, zero, suc, ◌+◌, ◌<◌, ◌≤◌, ◌⊎◌, inl, inr, Bool, true, false, List, [], ◌∷◌, ◌++◌, length, map, sum, Option, Some, None, refl, sym, ap, ◌∙◌, subst, min, take, arith}
-use Rattle.std.specs.Prelude.{option_map, IsSome, is_some, All}
+use Rattle.std.proofs.Common.{◌≡◌, ℕ, zero, suc, ◌+◌, ◌<◌, ◌≤◌, ◌⊎◌, inl, inr, Bool, List, [], ◌∷◌, map, sum, Option, Some, None, refl, sym, ap, ◌∙◌, subst, take, arith}
+use Rattle.std.specs.Prelude.{option_map, IsSome, is_some}
 use Rattle.vt_outside.specs.Counts.{added, Rose, RoseBy}
 use Rattle.vt_outside.specs.Files.{Files, Asked, with_appended, IsThere}
 use Rattle.vt_outside.specs.declared.answers.OutsideError.{OutsideError}
@@ -13,21 +13,19 @@ use Rattle.vt_evict.specs.declared.batches.Planned.{Planned}
 use Rattle.vt_evict.specs.Views.{RecencyView}
 use Rattle.vt_shown.specs.Scenes.{Scene}
 use Rattle.vt_pass.specs.Outcomes.{lost_count}
-use Rattle.vt_pass.specs.Requests.{FileState, AllTell, AreSameFiles, AreReadFor, ArePartlyReadFor, counts_of, lost_entries}
+use Rattle.vt_pass.specs.Requests.{FileState, AllTell, AreSameFiles, ArePartlyReadFor, counts_of}
 use Rattle.vt_pass.specs.Machines.{MachineState}
 use Rattle.vt_turns.specs.declared.error.WalkError.{WalkError}
 use Rattle.vt_turns.specs.declared.error.WalkError.TheVariants as walk_error
 use Rattle.vt_turns.specs.declared.turns.Turn.{Turn}
 use Rattle.vt_turns.specs.declared.turns.Drawn.{Drawn}
 use Rattle.vt_turns.specs.Refusals.{refusal_by}
-use Rattle.vt_walk.specs.Runs.{WalkPass, IsTurnOf, plan_after, planned_in, lost_in, told_of}
+use Rattle.vt_walk.specs.Runs.{IsTurnOf, plan_after, planned_in, lost_in}
 use Rattle.vt_walk.specs.Walks.{WalkGiven}
-use Rattle.vt_walk.specs.States.{WalkState, places_of}
+use Rattle.vt_walk.specs.States.{WalkState}
 use Rattle.vt_walk.specs.Reads.{AreAskedAtMostFor, OnTold}
-use Rattle.vt_walk.specs.Standing.{Stands}
-use Rattle.vt_walk.specs.Leaving.{LeftInRun, LeftInPass, LeftInText, Left}
 use Rattle.vt_walk.specs.Causes.{HasFailed, IsCausedBy}
-use Rattle.vt_walk.specs.Turns.{IsGiven, StandsAt, StandsAfter, HasDrawn, MayDraw, LeftBy}
+use Rattle.vt_walk.specs.Turns.{StandsAt, StandsAfter, HasDrawn, MayDraw, LeftBy}
 use Rattle.vt_walk.proofs.Asking.{losses_more}
 use Rattle.vt_walk.proofs.Asks.{with_open, pass_asks, pass_asks_most, faults_rise}
 use Rattle.vt_walk.proofs.Steps.{pass_told, asked_more}

@@ -157,16 +157,7 @@ module _ (s : Shape) (d pinned : ℕ) where
         failed = λ at len. let none : times_planned s d [] at len ≡ 0 = refl in omega (arith, failed_by at len pinned old, none);
       })
 
-  -- the tiles of some pinned pages were read
-  pub some_asked : (count : ℕ) (told now : Option (List Place)) → count ≤ pinned → now ≡ with_tiles s d pinned count told
-      → OnTold (AreAskedAtMostFor s d pinned []) told now
-  some_asked count None now low is = subst (λ (o : Option (List Place)). OnTold (AreAskedAtMostFor s d pinned []) None o) (sym is) tt
-  some_asked count (Some old) now low is =
-      subst (λ (o : Option (List Place)). OnTold (AreAskedAtMostFor s d pinned []) (Some old) o) (sym is)
-      (λ at len. let none : times_planned s d [] at len ≡ 0 = refl in
-      omega (arith, asked_by at len count old, few (is_tile_at s d at len) count low, none))
-
-  -- and one more
+  -- the tiles of some pinned pages were read, and one more asked
   pub last_asked : (count : ℕ) (failed : Bool) (told mid now : Option (List Place)) → count < pinned → mid ≡ with_tiles s d pinned count told
       → now ≡ option_map (noted (tile_start s d (base + count)) (tile_length s d) failed) mid → OnTold (AreAskedAtMostFor s d pinned []) told now
   last_asked count failed None mid now low before is =

@@ -71,20 +71,7 @@ module _ (drawn : PathView → ℕ → ℕ → ℕ → List ℕ → Type 0) (g :
     tell = s.tell;
   }
 
-  -- all pictures are finished
-  pub at_last : (number : ℕ) (m : MachineState) (v : RecencyView) (t : Turn) → StandsAt drawn g number t first now m v → t.picture ≡ g.setup.pictures
-      → StandsLast drawn g t.reads first now
-  at_last number m v t s all = record {
-    run = s.run;
-    pictures = s.pictures;
-    given = s.given;
-    stands = s.stands;
-    whole = is_whole g.setup s.run t.picture s.stands.is_run s.turn.turn all;
-    all = sym s.count ∙ all;
-    reads_are = s.turn.reads;
-  }
-
-  -- and the counts of the run are known
+  -- all pictures are finished, and the counts of the run are known
   pub counts_at : (number : ℕ) (m : MachineState) (v : RecencyView) (t : Turn) (walked : Walked) → StandsAt drawn g number t first now m v
       → t.picture ≡ g.setup.pictures → walked.passes ≡ number - 1 → walked.reads ≡ t.reads → HasCounts g.setup walked
   counts_at number m v t walked s all passes reads = record {

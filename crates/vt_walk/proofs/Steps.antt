@@ -1,31 +1,27 @@
 -- One step more of what stands.
-use Rattle.std.proofs.Common.{◌≡◌, ℕ, suc, ◌+◌, ◌<◌, ◌≤◌, ◌≢◌, ◌⊎◌, inl, inr, Bool, true, false, List, [], ◌∷◌, ◌++◌, length, Option, Some, None, refl, sym, ap, ◌∙◌, subst, append_assoc, min, arith}
-use Rattle.std.specs.Prelude.{option_map, if◌then◌else◌, flat_map, IfSome, IsSome, OnSome}
+use Rattle.std.proofs.Common.{◌≡◌, ℕ, suc, ◌+◌, ◌≤◌, ◌≢◌, inl, inr, false, List, [], ◌∷◌, ◌++◌, length, Option, Some, None, refl, sym, ap, ◌∙◌, subst, append_assoc, arith}
+use Rattle.std.specs.Prelude.{option_map, flat_map, IfSome}
 use Rattle.std.specs.List.{range_with_len}
-use Rattle.std.specs.Str.{bytes_eq}
 use Rattle.std.proofs.lemmas.List.{append-nil}
 use Rattle.std.proofs.lemmas.Grind.{flat_map-append}
-use Rattle.vt_outside.specs.Counts.{added, RoseBy}
-use Rattle.vt_outside.specs.Files.{Files, with_bytes, with_appended, gained, IsThere, bytes_at}
+use Rattle.vt_outside.specs.Counts.{RoseBy}
+use Rattle.vt_outside.specs.Files.{Files, with_bytes, with_appended, gained, IsThere}
 use Rattle.vt_outside.specs.declared.place.Place.{Place}
 use Rattle.vt_outside.proofs.Changes.{told-bytes-appended}
 use Rattle.vt_camera.specs.Paths.{PathView}
 use Rattle.vt_journal.specs.JournalText.{pass_text}
 use Rattle.vt_pages.specs.Shape.{Shape}
 use Rattle.vt_words.specs.Names.{picture_name}
-use Rattle.vt_evict.specs.declared.batches.Planned.{Planned}
 use Rattle.vt_evict.proofs.FirstLemmas.{range-more}
 use Rattle.vt_pass.specs.Outcomes.{lost_count}
-use Rattle.vt_pass.specs.Requests.{lost_entries, times_planned}
-use Rattle.vt_turns.specs.declared.mode.Mode.TheVariants.{Settled}
-use Rattle.vt_walk.specs.Fits.{WalkSetup}
+use Rattle.vt_pass.specs.Requests.{lost_entries}
 use Rattle.vt_walk.specs.Runs.{WalkPass, IsRun, IsNextPass, IsFinished, run_text, told_of, planned_in, lost_in}
 use Rattle.vt_walk.specs.Logs.{picture_line, picture_lines}
 use Rattle.vt_walk.specs.Shown.{last_rows, IsRunPicture}
 use Rattle.vt_walk.specs.Walks.{WalkGiven, WalkNames}
 use Rattle.vt_walk.specs.Folders.{with_walk, with_pictures, IsApart}
 use Rattle.vt_walk.specs.States.{WalkState}
-use Rattle.vt_walk.specs.Reads.{AreAskedFor, OnTold, times_pinned}
+use Rattle.vt_walk.specs.Reads.{AreAskedFor, OnTold}
 use Rattle.vt_walk.specs.Written.{IsWritten, AreWritten, AreDrawn}
 use Rattle.vt_walk.specs.Standing.{Stands}
 use Rattle.vt_walk.proofs.Asking.{planned_more, lost_more, losses_more}

@@ -23,6 +23,7 @@ pub struct Table {
 }
 
 impl Table {
+    /// A table that maps the pages of a geometry from a level on, of tiles of one byte a sample or two.
     pub fn new(geometry: Geometry, least: u32, wide: bool) -> Table
         requires { least < levels_of geometry }
         ensures { result.geometry ≡ geometry }
