@@ -7,11 +7,11 @@ use Rattle.std.proofs.lemmas.Slice.Eq.{bytes_eq-Decides}
 use Rattle.std.proofs.lemmas.List.{append-nil, take-append-drop}
 use Rattle.std.proofs.lemmas.List.FromFn.{take-map-range_with_len, map-range_with_len_more}
 use Rattle.vt_outside.specs.Counts.{Rose}
-use Rattle.vt_files.proofs.Counting.{rose_later}
 use Rattle.vt_outside.specs.Files.{Files, with_bytes, with_appended, bytes_at}
 use Rattle.vt_outside.proofs.Changes.{told-bytes-appended}
 use Rattle.vt_outside.specs.declared.answers.OutsideError.{OutsideError}
 use Rattle.vt_outside.specs.declared.answers.OutsideError.TheVariants.{Failed, NoMemory}
+use Rattle.vt_outside.proofs.Refusing.{rose_later}
 use Rattle.vt_files.specs.Courses.{FolderState, Passage}
 use Rattle.vt_files.specs.Dues.{FileDue, with_files, IsFront, IsPart, FailsOnly, AsksNone, Writes}
 use Rattle.vt_files.specs.Pictures.{picture_due, pictures_due}

@@ -27,11 +27,11 @@ use Rattle.std.proofs.Common.{
 use Rattle.std.specs.Option.{option_map, IsSome}
 use Rattle.std.proofs.lemmas.List.{append-nil}
 use Rattle.vt_outside.specs.Counts.{Rose}
-use Rattle.vt_files.proofs.Counting.{rose_later}
 use Rattle.vt_outside.specs.Files.{Files, Asked, bytes_at, with_places}
 use Rattle.vt_outside.specs.declared.place.Place.{Place}
 use Rattle.vt_outside.specs.declared.answers.OutsideError.{OutsideError}
 use Rattle.vt_outside.specs.declared.answers.OutsideError.TheVariants as outside
+use Rattle.vt_outside.proofs.Refusing.{rose_later}
 use Rattle.vt_files.specs.Courses.{FolderState, SinkState}
 use Rattle.vt_inputs.specs.Inputs.{Input, Content, name_of, MayAsk}
 use Rattle.vt_inputs.specs.HeldInputs.{Holds, HasFlaw, IsMissing}

@@ -8,10 +8,10 @@ use Rattle.vt_outside.specs.Files.{Files, with_bytes, with_places}
 use Rattle.vt_outside.specs.declared.place.Place.{Place}
 use Rattle.vt_outside.specs.declared.answers.OutsideError.{OutsideError}
 use Rattle.vt_outside.specs.declared.answers.OutsideError.TheVariants.{Failed}
+use Rattle.vt_outside.proofs.Refusing.{rose_later}
 use Rattle.vt_tiles.specs.Made.{HoldsMade, HoldsMadeFront}
 use Rattle.vt_files.specs.Courses.{FolderState}
 use Rattle.vt_files.specs.Dues.{Writes}
-use Rattle.vt_files.proofs.Counting.{rose_later}
 use Rattle.vt_files.proofs.Writing.{file_written, file_stopped}
 use Rattle.vt_inputs.specs.Reads.{FileState, Closed}
 use Rattle.vt_inputs.specs.OpenWrites.{WritesMade}

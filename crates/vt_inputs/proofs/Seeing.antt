@@ -6,13 +6,13 @@ use Rattle.std.proofs.lemmas.Bool.{false≢true}
 use Rattle.std.proofs.lemmas.List.{append-nil, append_cancel_left}
 use Rattle.vt_outside.specs.Files.{Files, Asked, bytes_at, with_places}
 use Rattle.vt_outside.specs.declared.place.Place.{Place}
+use Rattle.vt_outside.proofs.Refusing.{rose_later}
 use Rattle.vt_ppm.specs.declared.error.PpmError.{PpmError}
 use Rattle.vt_ppm.specs.declared.header.Header.{Header}
 use Rattle.vt_ppm.specs.Format.{IsTexture}
 use Rattle.vt_ppm.specs.Reads.{AsksHeader, ReadsFront}
 use Rattle.vt_ppm.specs.Strips.{HasRasterIfTold, ChecksPieces, texture_of}
 use Rattle.vt_files.specs.Courses.{Passage}
-use Rattle.vt_files.proofs.Counting.{rose_later}
 use Rattle.vt_inputs.specs.Inputs.{Input, AreStrips, AsksStrips, IsFlawOf}
 use Rattle.vt_inputs.specs.Reads.{FileState, Visits, IsCausedIn, LooksOver, MayLookOver, SeesTexture, OpensTexture}
 use Rattle.vt_inputs.specs.declared.refusal.Refusal.{Refusal}

@@ -12,4 +12,3 @@ pub mod StripRoom
 pub mod InPlace
 pub mod Bytes
 pub mod PutBoxes
-pub mod Refusing

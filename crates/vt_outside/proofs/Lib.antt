@@ -4,3 +4,4 @@ pub mod Fronts
 pub mod SameLists
 pub mod Named
 pub mod Halves
+pub mod Refusing

@@ -1,27 +1,12 @@
 -- What a call answers where another one that it makes is refused.
-use Rattle.std.proofs.Common.{◌≡◌, ℕ, ◌≤◌, arith, Bool, true, false, List, Option, Result, Ok, Err, is_ok, is_err, IfOk, OnOk, OnErr, IfErr, IsErrOf, IsErrAnd, refl, sym, ap, ◌∙◌, subst}
+use Rattle.std.proofs.Common.{◌≡◌, ℕ, Bool, true, false, List, Option, Result, Ok, Err, is_ok, is_err, OnOk, OnErr, IfErr, IsErrOf, IsErrAnd, refl, sym, ap, ◌∙◌, subst}
 use Rattle.std.proofs.lemmas.Bool.{false≢true}
 use Rattle.vt_outside.specs.declared.place.Place.{Place}
 use Rattle.vt_ppm.specs.declared.error.PpmError.{PpmError}
 use Rattle.vt_ppm.specs.declared.error.PpmError.TheVariants.{BadMagic, BadHeader, BadSize, BadMaximum, Truncated, SampleOver, Failed, NoMemory}
-use Rattle.vt_outside.specs.Counts.{Rose}
 use Rattle.vt_ppm.specs.Flaws.{IsFlawUpTo}
 use Rattle.vt_ppm.specs.Reads.{AnswersOfHeader, AnswersOfImage, NotesRead, ReadsFront}
 use Rattle.vt_ppm.specs.Refusals.{IsOutsideRefusal, IsRasterRefusal, IsSampleRefusal}
-
--- nothing is said of what was made
-pub none_made : {T E : Type 0} (q : Result T E) (R : E → Type 0) (P : Type 0) → IsErrAnd q R → OnOk q P
-none_made (Ok x) R P is = absurd is
-none_made (Err e) R P is = tt
-
-pub no_value : {T E : Type 0} (q : Result T E) (R : E → Type 0) (P : T → Type 0) → IsErrAnd q R → IfOk q P
-no_value (Ok x) R P is = absurd is
-no_value (Err e) R P is = tt
-
--- what is so of an error is so of the answer with it
-pub handed_on : {T E : Type 0} (q : Result T E) (e : E) (P : E → Type 0) → IsErrAnd q (λ x. x ≡ e) → P e → IfErr q P
-handed_on (Ok x) e P is so = tt
-handed_on (Err x) e P is so = subst P (sym is) so
 
 -- a fault is that of the call
 pub fault_handed_on : {T U : Type 0} (q : Result U PpmError) (e : PpmError) (P : Type 0) → IsErrAnd q (λ x. x ≡ e)
@@ -109,10 +94,6 @@ header_answer {T} (Err x) e told before after is other read = of x (subst (λ y.
     of (SampleOver at) never = absurd (never tt)
     of Failed never = tt
     of NoMemory never = tt
-
--- a count that rose later rose
-pub rose_later : (a b c : ℕ) → a ≤ b → Rose b c → Rose a c
-rose_later a b c first later = omega (arith, first, later)
 
 -- an answer about a header where the front was read, and where the outside refused
 pub front_answer : {T : Type 0} (q : Result T PpmError) (told : Option (List ℕ)) (before after : Option (List Place)) → ReadsFront told before after

@@ -1,9 +1,8 @@
 -- Stores that get room to note reads, one after another.
 use Rattle.std.proofs.Common.{◌≡◌, ◌≢◌, ℕ, suc, ◌+◌, ◌<◌, ◌≤◌, ⊎_elim, List, [], ◌∷◌, length, get_or, ◌*◌, Option, refl, sym, ap, ◌∙◌, subst, arith}
-use Rattle.std.specs.Prelude.{slice_set, All, Result, Ok, Err, OnOk, OnErr}
+use Rattle.std.specs.Prelude.{slice_set, All, Result, Ok, Err, OnOk}
 use Rattle.std.proofs.lemmas.List.{length-set, get_or-set_same, get_or-set_other, get_or_default}
 use Rattle.std.proofs.lemmas.Bool.{cases_eq}
-use Rattle.std.specs.Result.{IsErrAnd}
 use Rattle.std.specs.List.{refill}
 use Rattle.vt_outside.specs.Lists.{ListView}
 use Rattle.vt_journal.specs.declared.changes.Event.{Event}
@@ -272,18 +271,9 @@ module _ {F : Type 0} (g : FileMeanings F) where
   pub spent : (v w : TableView) (k l : KitView F) → w ≡ record v { spare = w.spare } → IsSameKit g k l → IsSpent (kit_state g v k) (kit_state g w l)
   spent v w k l same h = let u = untouched v w k l same h in record { setup = u.setup; files = u.files }
 
--- nothing is said of what was made
-pub none_made : {T E : Type 0} (q : Result T E) (R : E → Type 0) (P : Type 0) → IsErrAnd q R → OnOk q P
-none_made (Ok x) R P is = absurd is
-none_made (Err e) R P is = tt
-
 pub on_ok : {T E A B : Type 0} (r : Result T E) → OnOk r A → (A → B) → OnOk r B
 on_ok (Ok x) a f = f a
 on_ok (Err e) n f = n
-
-pub always_err : {T E B : Type 0} (r : Result T E) → B → OnErr r B
-always_err (Ok x) b = tt
-always_err (Err e) b = b
 
 pub always_ok : {T E B : Type 0} (r : Result T E) → B → OnOk r B
 always_ok (Ok x) b = b

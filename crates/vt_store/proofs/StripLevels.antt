@@ -1,5 +1,5 @@
 -- The numbers of the strips of a texture, and the tiles of the levels behind the first.
-use Rattle.std.proofs.Common.{◌≡◌, ℕ, suc, ◌+◌, ◌-◌, ◌*◌, ◌/◌, ◌%◌, ◌<◌, ◌≤◌, ◌⊎◌, inl, inr, Option, Some, List, min, sym, ap, ◌∙◌, subst, arith}
+use Rattle.std.proofs.Common.{◌≡◌, ℕ, suc, ◌+◌, ◌-◌, ◌*◌, ◌/◌, ◌%◌, ◌<◌, ◌≤◌, ◌⊎◌, inl, inr, Option, Some, List, min, refl, sym, ap, ◌∙◌, subst, arith}
 use Rattle.std.proofs.lemmas.Nat.{mul-le}
 use Rattle.vt_definitions.specs.Depths.{texel_length, word_bytes}
 use Rattle.vt_definitions.specs.Sides.{side}
@@ -43,24 +43,20 @@ strip_inside s i some inside =
     omega (arith, more, first_pages s, first_inside s some)
 
 -- how many strips there are
-pub record AreStrips (s : Shape) (h : Header) (strips : ℕ) : Type 0 where
+pub strips_are : (s : Shape) (height t : ℕ) → height ≡ s.height → t ≡ s.tile → (height + t - 1) / t ≡ rows_at s 0
+unfolding rows_at
+strips_are s height t eh et = ap (λ (n : ℕ). (n + t - 1) / t) eh ∙ ap (λ (n : ℕ). (s.height + n - 1) / n) et
+
+-- the texture of the strips has the sides of the pages
+pub record AreStrips (s : Shape) (h : Header) : Type 0 where
   pub width : h.width ≡ s.width
   pub height : h.height ≡ s.height
-  pub rows : strips ≡ rows_at s 0
-  pub all : strips ≡ strips_of h s.tile
+  pub all : strips_of h s.tile ≡ rows_at s 0
 
-pub are_strips : {F : Type 0} (s : Shape) (v : StripChainView F) (strips height t : ℕ) → strip_shape v ≡ s → height ≡ s.height → t ≡ s.tile
-    → strips ≡ (height + t - 1) / t → AreStrips s v.header strips
-unfolding rows_at
-are_strips s v strips height t shape eh et es =
+pub are_strips : {F : Type 0} (s : Shape) (v : StripChainView F) → strip_shape v ≡ s → AreStrips s v.header
+are_strips s v shape =
     let high : v.header.height ≡ s.height = ap (λ (z : Shape). z.height) shape in
-    let rows : strips ≡ (s.height + s.tile - 1) / s.tile = rw (← et, ← eh) es in
-    record {
-      width = ap (λ (z : Shape). z.width) shape;
-      height = high;
-      rows = rows;
-      all = rows ∙ ap (λ (n : ℕ). (n + s.tile - 1) / s.tile) (sym high);
-    }
+    record { width = ap (λ (z : Shape). z.width) shape; height = high; all = strips_are s v.header.height s.tile high refl }
 
 -- where a strip begins
 pub strip_low : (s : Shape) (i : ℕ) → 1 ≤ s.tile → i < rows_at s 0 → i * s.tile < s.height
@@ -133,7 +129,12 @@ level_made told h half p texture halves made lawful b e =
     let t = texture.each b e in
     half_is_next (texture_of h b) p t.image.depth t.image.some_columns t.image.some_rows t.bytes (made (texture_of h b) (halves b e)) lawful
 
--- the room for a strip
+-- the room for a strip's rows
+pub rows_room : (n t d w e side z w' : ℕ) → n ≡ t * (texel_length d * w) → side ≡ t → z ≡ texel_length e → e ≡ d → w' ≡ w → n ≡ side * (z * w')
+rows_room n t d w e side z w' full es ez ed ew =
+    full ∙ ap (λ (m : ℕ). m * (texel_length d * w)) (sym es) ∙ ap (λ (m : ℕ). side * (m * w)) (sym (ez ∙ ap texel_length ed))
+    ∙ ap (λ (m : ℕ). side * (z * m)) (sym ew)
+
 pub strip_room : (count side z w n : ℕ) → count ≤ side → n ≡ side * (z * w) → count * (z * w) ≤ n
 strip_room count side z w n few full = omega (arith, mul-le count (z * w) side (z * w) few (omega arith), full)
 

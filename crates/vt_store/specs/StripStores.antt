@@ -8,7 +8,7 @@ use Rattle.vt_mip.specs.StripChains.{StripChainView, texture_texel}
 use Rattle.vt_pages.specs.Shape.{Shape, shape_of}
 use Rattle.vt_pages.specs.Pages.{columns_at}
 use Rattle.vt_store.specs.ChainStores.{texture_store}
-use Rattle.vt_tiles.specs.Format.{tiles_bytes}
+use Rattle.vt_tiles.specs.Format.{header_bytes, tiles_bytes}
 use Rattle.vt_ppm.specs.StripPlaces.{strips_of, strip_place, strip_places}
 
 -- the shape of the pages of a texture that is read by rows
@@ -18,6 +18,10 @@ strip_shape chain = shape_of chain.header.width chain.header.height chain.tile
 -- the store of the texture that a file's bytes spell behind its header
 abbrev pub strip_store : {F : Type 0} → StripChainView F → List ℕ → List ℕ
 strip_store chain b = texture_store (texture_of chain.header b) chain.tile
+
+-- the store's header, and the tiles of its first pages
+abbrev pub strip_front : Shape → Header → ℕ → List ℕ → List ℕ
+strip_front s h pages b = header_bytes s (depth_of h.maximum) ++ tiles_bytes s (depth_of h.maximum) (texture_texel h b) 0 pages
 
 -- the tiles of a strip: those of a row of tiles of level 0
 abbrev pub strip_tiles : Shape → Header → ℕ → List ℕ → List ℕ

@@ -1,26 +1,26 @@
 //! Writing the store of a texture that is read by strips, so that it is never in memory as a whole.
-ghost use Rattle.std.specs.Prelude.{◌≡◌, ℕ, ◌+◌, ◌-◌, ◌*◌, ◌/◌, ◌<◌, ◌≤◌, ◌⊎◌, true, false, List, Some, length, IfErr, OnOk, OnErr, IsErrOf};
-ghost use Rattle.vt_definitions.specs.Depths.{texel_length};
+ghost use Rattle.std.specs.Prelude.{◌≡◌, ℕ, ◌+◌, ◌-◌, ◌*◌, ◌/◌, ◌<◌, ◌≤◌, ◌⊎◌, true, false, List, Option, Some, length, IfOk, IfErr, OnOk, OnErr, IsErrOf};
+ghost use Rattle.vt_definitions.specs.Depths.{IsDepth, texel_length};
 ghost use Rattle.vt_definitions.specs.Sides.{side};
 ghost use Rattle.vt_outside.specs.Counts.{Rose};
-ghost use Rattle.vt_outside.specs.Files.{IsThere};
+ghost use Rattle.vt_outside.specs.Files.{Files, IsThere};
 ghost use Rattle.vt_ppm.specs.Format.{depth_of};
+ghost use Rattle.vt_ppm.specs.Image.{ImageView};
 ghost use Rattle.vt_ppm.specs.Strips.{RowsAsked, row_length, texture_of};
 ghost use Rattle.vt_mip.specs.TakenRows.{HalvesFront};
-ghost use Rattle.vt_pages.specs.Pages.{columns_at, rows_at};
+ghost use Rattle.vt_pages.specs.Pages.{IsWithinLimits, columns_at, rows_at};
 ghost use Rattle.vt_tiles.specs.Format.{tile_length};
 ghost use Rattle.vt_tiles.specs.Refusals.{IsOutsideRefusal};
 ghost use Rattle.vt_tiles.specs.Made.{HoldsMade, HoldsMadeFront, GainsMade, GainsMadeFront};
-ghost use Rattle.vt_store.specs.StripStores.{StripsAsked, StripsTried, strip_shape, strip_store, strip_tiles};
+ghost use Rattle.vt_store.specs.StripStores.{StripsAsked, StripsTried, strip_front, strip_shape, strip_store, strip_tiles};
 ghost use Rattle.vt_ppm.specs.StripPlaces.{strips_of, strip_rows};
 
 use crate::levels::write_levels;
-use crate::widen::room_for;
 use crate::write::{begin_store, longest_row, put_tiles, tile_columns};
 use std::alloc::Global;
 use vt_definitions::texel_length;
 use vt_mip::{Halving, StripChain};
-use vt_outside::{File, Folder};
+use vt_outside::{File, Folder, NoMemory};
 use vt_pages::Geometry;
 use vt_tiles::StoreError;
 
@@ -84,6 +84,99 @@ fn write_strip<F: File, D: Folder>(
     Ok(())
 }
 
+// How many strips a texture is read in: one for each row of tiles of level 0.
+fn strip_count(geometry: &Geometry) -> u32
+    ensures count { result ≡ rows_at geometry.now 0 }
+    ensures limits { IsWithinLimits geometry.now }
+{
+    let side = geometry.tile();
+    (geometry.height() + side - 1) / side
+}
+
+// Adds the tiles of level 0 to the name, which holds the store's header: one strip after the other is read, halved and added.
+fn write_first_level<F: File, D: Folder>(
+    chain: &mut StripChain<F>,
+    geometry: &Geometry,
+    rows: &mut [u8],
+    tiles: &mut [u8],
+    half: &mut Halving,
+    folder: &mut D,
+    name: &str,
+) -> Result<(), StoreError>
+    requires shape { strip_shape chain.old ≡ geometry.now }
+    requires spare { rows_at geometry.now 0 ≤ F.spare chain.old.file }
+    requires rows { length rows.old ≡ geometry.now.tile * (texel_length (depth_of chain.old.header.maximum) * geometry.now.width) }
+    requires tiles { length tiles.old ≡ columns_at geometry.now 0 * tile_length geometry.now (depth_of chain.old.header.maximum) }
+    requires depth { half.old.depth ≡ depth_of chain.old.header.maximum }
+    requires width { half.old.width ≡ geometry.now.width }
+    requires height { half.old.height ≡ geometry.now.height }
+    requires taken { half.old.taken ≡ 0 }
+    ensures whole { OnOk result ((before : Option Files) → HoldsMade (F.bytes chain.old.file) (strip_front geometry.now chain.old.header 0) name.now
+        before (D.files folder.old) → HoldsMade (F.bytes chain.old.file)
+        (strip_front geometry.now chain.old.header (rows_at geometry.now 0 * columns_at geometry.now 0)) name.now before (D.files folder.new)) }
+    ensures part { OnErr result ((before : Option Files) → HoldsMade (F.bytes chain.old.file) (strip_front geometry.now chain.old.header 0) name.now
+        before (D.files folder.old) → HoldsMadeFront (F.bytes chain.old.file) (strip_store chain.old) name.now before (D.files folder.new)) }
+    ensures failed { IsErrOf result StoreError.Failed → (before : Option Files) → HoldsMade (F.bytes chain.old.file)
+        (strip_front geometry.now chain.old.header 0) name.now before (D.files folder.old)
+        → Rose (D.faults folder.old) (D.faults folder.new) ⊎ Rose (F.faults chain.old.file) (F.faults chain.new.file) }
+    ensures refusals { IfErr result IsOutsideRefusal }
+    ensures all_read { OnOk result (StripsAsked chain.old.header geometry.now.tile (strips_of chain.old.header geometry.now.tile)
+        (F.asked chain.old.file) (F.asked chain.new.file)) }
+    ensures front_read { OnErr result (StripsTried chain.old.header geometry.now.tile (F.asked chain.old.file) (F.asked chain.new.file)) }
+    ensures halves { OnOk result ((b : List ℕ) → F.bytes chain.old.file ≡ Some b → HalvesFront (texture_of chain.old.header b) half.old
+        → HalvesFront (texture_of chain.old.header b) half.new) }
+    ensures all_taken { OnOk result (half.new.taken ≡ half.old.height) }
+    ensures half_depth { OnOk result (half.new.depth ≡ half.old.depth) }
+    ensures half_width { OnOk result (half.new.width ≡ half.old.width) }
+    ensures half_height { OnOk result (half.new.height ≡ half.old.height) }
+    ensures bytes { F.bytes chain.new.file ≡ F.bytes chain.old.file }
+    ensures name { F.name chain.new.file ≡ F.name chain.old.file }
+    ensures header { chain.new.header ≡ chain.old.header }
+    ensures tile { chain.new.tile ≡ chain.old.tile }
+    ensures file_faults { F.faults chain.old.file ≤ F.faults chain.new.file }
+    ensures asked { D.asked folder.new ≡ D.asked folder.old }
+    ensures faults { D.faults folder.old ≤ D.faults folder.new }
+{
+    let depth = chain.depth();
+    let (width, height, side) = (geometry.width(), geometry.height(), geometry.tile());
+    let row = texel_length(depth) * width as usize;
+    let strips = strip_count(geometry);
+    for strip in 0..strips {
+        let count = side.min(height - strip * side);
+        let some_rows = &mut rows[..count as usize * row];
+        write_strip(chain, geometry, strip, some_rows, tiles, half, folder, name)?;
+    }
+    Ok(())
+}
+
+// The room in which a texture is tiled by strips: for a strip's rows, for a row of tiles, and for level 1.
+#[derive(Drop)]
+struct StripRoom {
+    rows: Vec<u8>,
+    tiles: Vec<u8>,
+    half: Halving,
+}
+
+// Makes this room for samples of `depth` bytes, 1 or 2.
+fn make_room(alloc: Global, geometry: &Geometry, depth: u32) -> Result<StripRoom, NoMemory>
+    requires { IsDepth depth }
+    ensures rows { IfOk result (λ room. length room.rows.items ≡ geometry.now.tile * (texel_length depth * geometry.now.width)) }
+    ensures tiles { IfOk result (λ room. length room.tiles.items ≡ columns_at geometry.now 0 * tile_length geometry.now depth) }
+    ensures taken { IfOk result (λ room. room.half.taken ≡ 0) }
+    ensures depth { IfOk result (λ room. room.half.depth ≡ depth) }
+    ensures width { IfOk result (λ room. room.half.width ≡ geometry.now.width) }
+    ensures height { IfOk result (λ room. room.half.height ≡ geometry.now.height) }
+    ensures begun { IfOk result (λ room. (p : ImageView) → p.depth ≡ depth → p.width ≡ geometry.now.width → p.height ≡ geometry.now.height
+        → HalvesFront p room.half) }
+{
+    let (width, height) = (geometry.width(), geometry.height());
+    let row = texel_length(depth) * width as usize;
+    let rows = vec![in alloc; 0; geometry.tile() as usize * row]?;
+    let tiles = vec![in alloc; 0; longest_row(geometry, depth)]?;
+    let half = Halving::new(alloc, depth, width, height)?;
+    Ok(StripRoom { rows, tiles, half })
+}
+
 /// Makes the name hold the store of the texture of a chain that is read by rows, whose sides and tile side the geometry has: the same
 /// bytes that `write_store` writes of the whole texture. It creates the name, and appends the header and then one row of tiles after
 /// the other.
@@ -117,23 +210,29 @@ pub fn write_strips<F: File, D: Folder>(
     ensures faults { D.faults folder.old ≤ D.faults folder.new }
 {
     let depth = chain.depth();
-    let (width, height, side) = (geometry.width(), geometry.height(), geometry.tile());
-    let strips = (height + side - 1) / side;
-    let row = texel_length(depth) * width as usize;
-    chain.reserve(strips as u64)?;
-    let mut rows_room = room_for(alloc, side as usize * row)?;
-    let mut tiles_room = room_for(alloc, longest_row(geometry, depth))?;
-    let mut half = Halving::new(alloc, depth, width, height)?;
-    let rows = rows_room.as_mut_slice();
-    let tiles = tiles_room.as_mut_slice();
+    chain.reserve(u64::from(strip_count(geometry)))?;
+    let StripRoom {
+        mut rows,
+        mut tiles,
+        mut half,
+    } = make_room(alloc, geometry, depth)?;
     begin_store(geometry, depth, folder, name)?;
-    for strip in 0..strips {
-        let count = side.min(height - strip * side);
-        let some_rows = &mut rows[..count as usize * row];
-        write_strip(
-            chain, geometry, strip, some_rows, tiles, &mut half, folder, name,
-        )?;
-    }
-    write_levels(alloc, half.finish(), geometry, tiles, folder, name)?;
+    write_first_level(
+        chain,
+        geometry,
+        rows.as_mut_slice(),
+        tiles.as_mut_slice(),
+        &mut half,
+        folder,
+        name,
+    )?;
+    write_levels(
+        alloc,
+        half.finish(),
+        geometry,
+        tiles.as_mut_slice(),
+        folder,
+        name,
+    )?;
     Ok(())
 }

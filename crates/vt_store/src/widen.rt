@@ -1,8 +1,9 @@
 //! Making a store of two-byte samples of one of one-byte samples.
 ghost use Rattle.std.specs.Prelude.{◌≡◌, ℕ, ◌+◌, ◌-◌, ◌*◌, ◌<◌, ◌≤◌, ◌⊎◌, true, false, List, length, min, vec_len, IfOk, IfErr, OnOk, OnErr, IsErrOf};
+ghost use Rattle.vt_definitions.specs.Limits.{most_tile_side};
 ghost use Rattle.vt_outside.specs.Counts.{Rose};
 ghost use Rattle.vt_outside.specs.Files.{IsPiece, IsThere};
-ghost use Rattle.vt_pages.specs.Pages.{pages_of};
+ghost use Rattle.vt_pages.specs.Pages.{columns_at, pages_of};
 ghost use Rattle.vt_tiles.specs.Format.{stored, tile_length, tile_start, tiles_bytes};
 ghost use Rattle.vt_tiles.specs.Places.{TilesAsked, PiecesAsked, FrontAsked, pieces_of};
 ghost use Rattle.vt_tiles.specs.Refusals.{IsOutsideRefusal};
@@ -22,7 +23,7 @@ const LONGEST_LINE: usize = 384;
 // again up to the end.
 fn widen_line(out: &mut [u8], texels: &[u8], count: usize)
     requires some { 3 ≤ length texels.now }
-    requires few { count ≤ 128 }
+    requires few { count ≤ most_tile_side }
     requires room { length out.old ≡ 6 * count }
     ensures { (columns : ℕ) → length texels.now ≡ 3 * columns → IsWideLine texels.now columns count out.new }
 {
@@ -37,7 +38,7 @@ fn widen_line(out: &mut [u8], texels: &[u8], count: usize)
 fn widen_tile(out: &mut [u8], tile: &[u8], side: usize, columns: usize, rows: usize)
     requires room { length out.old ≡ 6 * (side * side) }
     requires tile { length tile.now ≡ 3 * (side * side) }
-    requires side { side ≤ 128 }
+    requires side { side ≤ most_tile_side }
     requires columns { (1 ≤ columns) × (columns ≤ side) }
     requires rows { (1 ≤ rows) × (rows ≤ side) }
     ensures { HasWideLines tile.now side columns rows side out.new }
@@ -115,12 +116,14 @@ fn widen_piece<D: Folder>(
     Ok(())
 }
 
-/// Room for so many bytes.
-pub(crate) fn room_for(alloc: Global, length: usize) -> Result<Vec<u8>, NoMemory>
-    ensures { IfOk result (λ room. vec_len room ≡ length) }
+// Room for the tiles of the widest level that lie side by side: of one byte a sample, and of two.
+fn piece_rooms(alloc: Global, geometry: &Geometry) -> Result<(Vec<u8>, Vec<u8>), NoMemory>
+    ensures narrow { IfOk result (λ rooms. length rooms.0.items ≡ columns_at geometry.now 0 * tile_length geometry.now 1) }
+    ensures wide { IfOk result (λ rooms. length rooms.1.items ≡ columns_at geometry.now 0 * tile_length geometry.now 2) }
 {
-    let room = vec![in alloc; 0; length]?;
-    Ok(room)
+    let narrow = vec![in alloc; 0; longest_row(geometry, 1)]?;
+    let wide = vec![in alloc; 0; longest_row(geometry, 2)]?;
+    Ok((narrow, wide))
 }
 
 /// Makes the name hold the store of the same pages whose samples have two bytes, each 257 times the old store's sample of one
@@ -159,8 +162,7 @@ pub fn widen_store<D: Folder>(
     let pages = geometry.page_count();
     let pieces = (pages + step - 1) / step;
     store.reserve(pieces as u64)?;
-    let mut narrow_room = room_for(alloc, longest_row(&geometry, 1))?;
-    let mut wide_room = room_for(alloc, longest_row(&geometry, 2))?;
+    let (mut narrow_room, mut wide_room) = piece_rooms(alloc, &geometry)?;
     let narrow = narrow_room.as_mut_slice();
     let wide = wide_room.as_mut_slice();
     begin_store(&geometry, 2, folder, name)?;

@@ -4,7 +4,7 @@ ghost use Rattle.vt_outside.specs.Counts.{Rose};
 ghost use Rattle.vt_outside.specs.Files.{Files, with_bytes};
 ghost use Rattle.vt_definitions.specs.Texels.{Source};
 ghost use Rattle.vt_definitions.specs.Depths.{IsDepth};
-ghost use Rattle.vt_definitions.specs.Limits.{most_tiled_side};
+ghost use Rattle.vt_definitions.specs.Limits.{most_tile_side, most_tiled_side};
 ghost use Rattle.vt_mip.specs.Chains.{chain_texel};
 ghost use Rattle.vt_pages.specs.Pages.{pages_of, levels_of, columns_at, name_at};
 ghost use Rattle.vt_tiles.specs.Format.{header_bytes, tile_length, tiles_bytes};
@@ -34,7 +34,7 @@ fn put_line(
     requires room { length tiles.old ≡ count * (side * side * size) }
     requires inside { 1 ≤ count → size * ((column + count - 1) * side) + size ≤ length row.now }
     requires few { (column + count) * side ≤ 2 * most_tiled_side }
-    requires side { side ≤ 128 }
+    requires side { side ≤ most_tile_side }
     requires line { line < side }
     ensures { (columns : ℕ) → length row.now ≡ size * columns → GainsLine size row.now columns side column line count count tiles.old tiles.new }
 {
@@ -165,7 +165,7 @@ fn tile_rows<'a>(chain: &'a Chain, geometry: &Geometry, page: u32) -> &'a [u8]
     let (width, _) = chain.size(name.level);
     let (_, inside) = size_inside(geometry, page);
     let row_size = texel_length(chain.depth()) * width as usize;
-    let from = row_size * rows_above(geometry, page);
+    let from = row_size * rows_above(geometry, name);
     &chain.samples(name.level)[from..from + row_size * inside]
 }
 

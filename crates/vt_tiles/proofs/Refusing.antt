@@ -1,21 +1,12 @@
 -- What a call answers where another one that it makes is refused.
-use Rattle.std.proofs.Common.{◌≡◌, ℕ, ◌≤◌, sym, subst, arith}
-use Rattle.std.specs.Prelude.{Result, Ok, Err, IfOk, OnOk, IfErr, IsErrOf}
+use Rattle.std.proofs.Common.{◌≡◌, sym, subst}
+use Rattle.std.specs.Prelude.{Result, Ok, Err, IfErr, IsErrOf}
 use Rattle.std.specs.Result.{IsErrAnd}
 use Rattle.vt_outside.specs.declared.answers.OutsideError.{OutsideError}
 use Rattle.vt_outside.specs.declared.answers.OutsideError.TheVariants as outside_error
 use Rattle.vt_tiles.specs.Refusals.{IsOutsideRefusal, refusal_by}
 use Rattle.vt_tiles.specs.declared.error.StoreError.{StoreError}
 use Rattle.vt_tiles.specs.declared.error.StoreError.TheVariants.{Failed, NoMemory}
-
--- nothing is said of what was made
-pub none_made : {T E : Type 0} (q : Result T E) (R : E → Type 0) (P : Type 0) → IsErrAnd q R → OnOk q P
-none_made (Ok x) R P is = absurd is
-none_made (Err e) R P is = tt
-
-pub no_value : {T E : Type 0} (q : Result T E) (R : E → Type 0) (P : T → Type 0) → IsErrAnd q R → IfOk q P
-no_value (Ok x) R P is = absurd is
-no_value (Err e) R P is = tt
 
 -- which refusal it is: the memory's, the file's, that of a call on the outside, or that of a call that tells it
 pub by_memory : {T : Type 0} (q : Result T StoreError) → IsErrAnd q (λ x. x ≡ NoMemory) → IfErr q IsOutsideRefusal
@@ -45,7 +36,3 @@ not_outside (Err e) P is = λ other. absurd (other is)
 pub no_fault : {T : Type 0} (q : Result T StoreError) (P : Type 0) → IsErrAnd q (λ x. x ≡ NoMemory) → IsErrOf q Failed → P
 no_fault (Ok x) P is failed = absurd is
 no_fault (Err x) P is failed = let no : ⊥ = cc in absurd no
-
--- a count that stays does not fall
-pub no_fewer : (a b : ℕ) → b ≡ a → a ≤ b
-no_fewer a b same = omega arith

@@ -3,6 +3,7 @@ use Rattle.std.proofs.Common.{◌≡◌, ℕ, ◌+◌, ◌*◌, ◌/◌, ◌%◌
 use Rattle.std.proofs.lemmas.List.FromFn.{get_or-map-range_with_len, length-map-range_with_len}
 use Rattle.std.specs.Prelude.{slice_index}
 use Rattle.vt_definitions.specs.Depths.{IsDepth, texel_length, word_bytes}
+use Rattle.vt_definitions.specs.Limits.{most_tiled_side}
 use Rattle.vt_definitions.specs.Sides.{side}
 use Rattle.vt_definitions.specs.Texels.{Source}
 use Rattle.vt_pages.specs.Shape.{Shape}
@@ -59,9 +60,9 @@ tiles_piece s d src first count t i depth p q =
     ∙ tile_texel s d src (first + t) i depth q
 
 -- and a row of pages
-pub row_small : (s : Shape) (k r t : ℕ) → IsWithinLimits s → r < rows_at s k → t ≡ s.tile → r * t < 16384
+pub row_small : (s : Shape) (k r t : ℕ) → IsWithinLimits s → r < rows_at s k → t ≡ s.tile → r * t < most_tiled_side
 unfolding rows_at
 row_small s k r t limits h e =
     let here : r * s.tile < side s.height k = lt_up (side s.height k) s.tile r (omega (arith, limits.least_tile)) h in
-    let most : side s.height k ≤ 16384 = side_most s.height 16384 k (omega arith) limits.most_height in
+    let most : side s.height k ≤ most_tiled_side = side_most s.height most_tiled_side k (omega arith) limits.most_height in
     rw e (omega arith)

@@ -1,9 +1,10 @@
 //! The runs of texels that the tiles of a store are made of.
 ghost use Rattle.std.specs.Prelude.{◌≡◌, ℕ, ◌+◌, ◌*◌, ◌<◌, ◌≤◌, length, slice_index};
-ghost use Rattle.vt_pages.specs.Pages.{pages_of, name_at};
+ghost use Rattle.vt_definitions.specs.Limits.{most_tiled_side};
+ghost use Rattle.vt_pages.specs.Pages.{IsPage};
 ghost use Rattle.vt_tiles.specs.TileLines.{IsFilled, IsSpan};
 
-use vt_pages::Geometry;
+use vt_pages::{Geometry, PageName};
 
 // Writes a texel all over, as often as there is room for it.
 fn fill_texels(out: &mut [u8], texel: &[u8])
@@ -41,12 +42,11 @@ pub fn double_bytes(out: &mut [u8], bytes: &[u8])
     }
 }
 
-/// How many rows of texels of its level stand above a page's tile.
-pub fn rows_above(geometry: &Geometry, page: u32) -> usize
-    requires { page < pages_of geometry.now }
-    ensures value { result ≡ (name_at geometry.now page).row * geometry.now.tile }
-    ensures few { result < 16384 }
+/// How many rows of texels of its level stand above the tile of the page with a name.
+pub fn rows_above(geometry: &Geometry, name: PageName) -> usize
+    requires { IsPage geometry.now name }
+    ensures value { result ≡ name.row * geometry.now.tile }
+    ensures few { result < most_tiled_side }
 {
-    let name = geometry.page_at(page);
     name.row as usize * geometry.tile() as usize
 }

@@ -6,7 +6,7 @@ use Rattle.vt_definitions.specs.Sides.{side}
 use Rattle.vt_ppm.specs.declared.header.Header.{Header}
 use Rattle.vt_mip.proofs.StripRows.{first_words, one_row, two_rows}
 use Rattle.std.proofs.lemmas.Bool.{false≢true}
-use Rattle.vt_mip.proofs.Refusing.{none_made, rose_later}
+use Rattle.vt_outside.proofs.Refusing.{none_made, rose_later}
 use Rattle.vt_mip.proofs.StripReads.{first_read, first_room, first_tried, first_spare, upper_failed, alone_read, both_read, second_failed, second_spare, both_spare}
 use Rattle.vt_mip.specs.StripChains.{room_length, level_row_length}
 use Rattle.vt_mip.proofs.StripRoom.{half_length}

@@ -1,5 +1,6 @@
+use Rattle.vt_outside.proofs.Refusing.{no_value, handed_on}
 use Rattle.vt_ppm.specs.declared.error.PpmError.TheVariants.{Failed, NoMemory}
-use Rattle.vt_ppm.proofs.Refusing.{no_value, handed_on, no_fault, notes_none}
+use Rattle.vt_ppm.proofs.Refusing.{no_fault, notes_none}
 use Rattle.vt_ppm.proofs.read.bytes_at.Goals as goal
 
 pub returns-in_err-bytes-clause-piece : goal.returns-in_err-bytes-clause-piece

@@ -1,7 +1,8 @@
 use Rattle.std.proofs.Common.{ℕ, ◌≤◌, Vec, Global, refl, ◌∙◌, arith}
+use Rattle.vt_outside.proofs.Refusing.{none_made, no_value, handed_on, rose_later}
 use Rattle.vt_ppm.specs.declared.error.PpmError.TheVariants.{Failed, NoMemory}
 use Rattle.vt_ppm.proofs.AskedPlaces.{asks_front, asks_nothing, front_inside, reads_front}
-use Rattle.vt_ppm.proofs.Refusing.{none_made, no_value, handed_on, fault_handed_on, no_fault, rose_later}
+use Rattle.vt_ppm.proofs.Refusing.{fault_handed_on, no_fault}
 use Rattle.vt_ppm.proofs.TellingFiles.{front_told}
 use Rattle.vt_ppm.proofs.read.front_of.Goals as goal
 

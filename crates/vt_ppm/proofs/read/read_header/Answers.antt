@@ -1,5 +1,6 @@
+use Rattle.vt_outside.proofs.Refusing.{no_value, handed_on}
 use Rattle.vt_ppm.specs.declared.read.Front.{Front}
-use Rattle.vt_ppm.proofs.Refusing.{no_value, handed_on, fault_handed_on, flaw_answer_no_fault, front_answer, outside_header_answer, outside_no_raster}
+use Rattle.vt_ppm.proofs.Refusing.{fault_handed_on, flaw_answer_no_fault, front_answer, outside_header_answer, outside_no_raster}
 use Rattle.vt_definitions.specs.Limits.{most_tiled_side}
 use Rattle.vt_ppm.proofs.TellingFiles.{answer_told, header_answer_told}
 use Rattle.vt_ppm.proofs.read.read_header.Goals as goal

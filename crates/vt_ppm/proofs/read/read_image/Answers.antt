@@ -1,9 +1,10 @@
 use Rattle.std.proofs.Common.{ℕ, Vec, Global, refl, ◌∙◌, arith}
 use Rattle.std.proofs.lemmas.Result.{err_from_is_err_and}
+use Rattle.vt_outside.proofs.Refusing.{no_value, handed_on, rose_later}
 use Rattle.vt_definitions.specs.Limits.{most_read_side}
 use Rattle.vt_ppm.specs.declared.read.Front.{Front}
 use Rattle.vt_ppm.proofs.AskedPlaces.{asks_header_only, asks_raster, raster_inside, reads_raster}
-use Rattle.vt_ppm.proofs.Refusing.{no_value, handed_on, fault_handed_on, flaw_no_fault, outside_answer, header_answer, rose_later}
+use Rattle.vt_ppm.proofs.Refusing.{fault_handed_on, flaw_no_fault, outside_answer, header_answer}
 use Rattle.vt_ppm.proofs.TellingFiles.{flaw_told, truncated_told, over_told, image_told}
 use Rattle.vt_ppm.proofs.read.read_image.Goals as goal
 

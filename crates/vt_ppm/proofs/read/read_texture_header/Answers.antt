@@ -1,7 +1,8 @@
 use Rattle.vt_ppm.specs.declared.read.Front.{Front}
-use Rattle.vt_ppm.proofs.Refusing.{no_value, handed_on, fault_handed_on, flaw_no_fault, outside_header_answer, outside_no_sample, no_raster_no_sample, front_answer}
+use Rattle.vt_ppm.proofs.Refusing.{fault_handed_on, flaw_no_fault, outside_header_answer, outside_no_sample, no_raster_no_sample, front_answer}
 use Rattle.std.proofs.Common.{refl}
 use Rattle.std.proofs.lemmas.Result.{err_from_is_err_and}
+use Rattle.vt_outside.proofs.Refusing.{no_value, handed_on}
 use Rattle.vt_definitions.specs.Limits.{most_tiled_side}
 use Rattle.vt_ppm.proofs.StripLaws.{raster_told}
 use Rattle.vt_ppm.proofs.TellingFiles.{flaw_told, truncated_told}

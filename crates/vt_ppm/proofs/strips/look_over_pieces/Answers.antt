@@ -1,6 +1,7 @@
-use Rattle.vt_ppm.proofs.Refusing.{none_made, handed_on, fault_handed_on, rose_later}
+use Rattle.vt_ppm.proofs.Refusing.{fault_handed_on}
 use Rattle.std.proofs.Common.{◌*◌, ◌+◌, ◌≤◌, ◌∙◌, min, Err, refl, sym, ap, subst, arith}
 use Rattle.std.proofs.lemmas.Result.{err_from_is_err_and}
+use Rattle.vt_outside.proofs.Refusing.{none_made, handed_on, rose_later}
 use Rattle.vt_ppm.specs.Flaws.{IsHeaderFlaw}
 use Rattle.vt_ppm.specs.Strips.{AreRowsUpTo, piece_rows}
 use Rattle.vt_ppm.proofs.CheckedPieces.{piece_is, all_done, more_asked, last_asked, check_gains, front_gains, some_rows, found_next, none_done, none_asked, piece_room, piece_cut, samples_told}

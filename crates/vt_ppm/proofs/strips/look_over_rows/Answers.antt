@@ -1,7 +1,7 @@
 use Rattle.std.proofs.Common.{◌≡◌, ◌*◌, ◌∙◌, length, true, false, refl}
+use Rattle.vt_outside.proofs.Refusing.{none_made, handed_on}
 use Rattle.vt_ppm.specs.Strips.{row_length}
 use Rattle.vt_ppm.proofs.StripLaws.{rows_inside, rows_full, more_told, over_told, rows_noted, over_before, failed_rows}
-use Rattle.vt_ppm.proofs.Refusing.{none_made, handed_on}
 use Rattle.vt_ppm.specs.declared.error.PpmError.TheVariants.{Failed}
 use Rattle.vt_ppm.proofs.strips.look_over_rows.Goals as goal
 

@@ -1,7 +1,8 @@
 use Rattle.std.proofs.Common.{◌∙◌}
+use Rattle.vt_outside.proofs.Refusing.{no_value, handed_on}
 use Rattle.vt_ppm.specs.declared.error.PpmError.TheVariants.{NoMemory}
 use Rattle.vt_ppm.specs.declared.header.Header.{Header}
-use Rattle.vt_ppm.proofs.Refusing.{no_value, handed_on, fault_handed_on, no_fault, answer_handed_on}
+use Rattle.vt_ppm.proofs.Refusing.{fault_handed_on, no_fault, answer_handed_on}
 use Rattle.vt_ppm.proofs.strips.opened.Goals as goal
 
 pub returns-in_err-header-clause-limits : goal.returns-in_err-header-clause-limits

@@ -1,8 +1,9 @@
 use Rattle.std.proofs.Common.{◌<◌, length, subst, arith}
 use Rattle.std.proofs.lemmas.List.{get_or_default}
+use Rattle.vt_outside.proofs.Refusing.{none_made}
 use Rattle.vt_tiles.specs.StoreViews.{StoreView}
 use Rattle.vt_still.specs.Kits.{IsSameStore}
-use Rattle.vt_still.proofs.Rooms.{same_one, same_none, same_more, room_none, room_more, room_all, none_made}
+use Rattle.vt_still.proofs.Rooms.{same_one, same_none, same_more, room_none, room_more, room_all}
 use Rattle.vt_still.proofs.room.reserve_reads.Goals as goal
 
 pub loop-i-init : goal.loop-i-init

@@ -2,10 +2,10 @@ use Rattle.std.proofs.Common.{◌≡◌, ℕ, ◌+◌, ◌*◌, ◌<◌, inl, in
 use Rattle.std.proofs.lemmas.List.{length-take-le}
 use Rattle.vt_outside.proofs.Untold.{OnErr-all}
 use Rattle.vt_outside.specs.declared.answers.OutsideError.TheVariants.{Failed}
+use Rattle.vt_outside.proofs.Refusing.{none_made, no_value, no_fewer}
 use Rattle.vt_pages.specs.Pages.{pages_below, columns_at, rows_at}
 use Rattle.vt_tiles.specs.Format.{tile_length}
 use Rattle.vt_store.proofs.LevelRows.{shorter_row, rows_are_at, row_low, rows_taken, level_begun, level_more, level_part, level_whole, there_added, passed_on}
-use Rattle.vt_tiles.proofs.Refusing.{none_made, no_value, no_fewer}
 use Rattle.vt_store.proofs.WideStores.{no_less}
 use Rattle.vt_store.proofs.levels.write_level.Goals as goal
 

@@ -2,10 +2,11 @@ use Rattle.vt_ppm.specs.Format.{depth_of}
 use Rattle.vt_tiles.specs.Format.{tile_length}
 use Rattle.std.proofs.Common.{◌≡◌, ℕ, ◌-◌, ◌*◌, inl, inr, min, length, refl, sym, ap, ◌∙◌, arith}
 use Rattle.vt_outside.proofs.Untold.{OnErr-all}
+use Rattle.vt_outside.proofs.Refusing.{none_made, no_fewer}
 use Rattle.vt_ppm.specs.Strips.{texture_of}
 use Rattle.vt_pages.specs.Pages.{columns_at}
 use Rattle.vt_store.proofs.StripTiles.{is_strip, strip_length, strip_made, strip_piece}
-use Rattle.vt_tiles.proofs.Refusing.{none_made, by_file, by_outside, no_fewer}
+use Rattle.vt_tiles.proofs.Refusing.{by_file, by_outside}
 use Rattle.vt_store.proofs.LevelChain.{refused_by}
 use Rattle.vt_store.proofs.strips.write_strip.Goals as goal
 

@@ -4,8 +4,9 @@ use Rattle.vt_tiles.specs.Format.{tile_length}
 use Rattle.vt_tiles.specs.Places.{TilesAsked}
 use Rattle.std.proofs.Common.{ℕ, ◌*◌, true, false, inl, inr, refl, sym, ap, ◌∙◌, subst, arith}
 use Rattle.vt_outside.proofs.Untold.{OnErr-all}
+use Rattle.vt_outside.proofs.Refusing.{none_made, no_fewer}
 use Rattle.vt_store.proofs.WideStores.{told_tiles}
-use Rattle.vt_tiles.proofs.Refusing.{none_made, by_file, by_outside, no_fewer}
+use Rattle.vt_tiles.proofs.Refusing.{by_file, by_outside}
 use Rattle.vt_store.proofs.LevelChain.{refused_by}
 use Rattle.vt_store.proofs.widen.widen_piece.Goals as goal
 

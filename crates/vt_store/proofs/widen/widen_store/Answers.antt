@@ -2,6 +2,7 @@ use Rattle.std.proofs.Common.{ℕ, ◌+◌, ◌-◌, ◌*◌, ◌/◌, inl, inr,
 use Rattle.std.proofs.lemmas.List.{length-take-le}
 use Rattle.std.proofs.lemmas.Nat.{mul-le}
 use Rattle.vt_outside.proofs.Untold.{OnErr-all}
+use Rattle.vt_outside.proofs.Refusing.{none_made, no_fewer}
 use Rattle.vt_pages.specs.Shape.{Shape}
 use Rattle.vt_pages.specs.Pages.{columns_at, pages_of}
 use Rattle.vt_pages.proofs.Counts.{lt_up}
@@ -11,7 +12,7 @@ use Rattle.vt_tiles.specs.declared.error.StoreError.TheVariants.{Failed}
 use Rattle.vt_store.proofs.WideStores.{some_columns, begun_pages, pages_moved, header_front, none_asked, front_asked, more_asked, piece_tried, piece_is, piece_part, piece_whole, all_done, all_pages, rose_along, no_less, carried, there}
 use Rattle.vt_store.proofs.LevelChain.{refused_by}
 use Rattle.vt_store.proofs.TileRows.{row_room}
-use Rattle.vt_tiles.proofs.Refusing.{none_made, by_memory, by_outside, by_call, no_fault, no_fewer}
+use Rattle.vt_tiles.proofs.Refusing.{by_memory, by_outside, by_call, no_fault}
 use Rattle.vt_store.proofs.widen.widen_store.Goals as goal
 
 pub nonzero_div-pieces : goal.nonzero_div-pieces
@@ -249,48 +250,6 @@ returns-in_err-narrow_room-clause-asked g c = refl
 pub returns-in_err-narrow_room-clause-faults : goal.returns-in_err-narrow_room-clause-faults
 returns-in_err-narrow_room-clause-faults g c = no_fewer _ _ refl
 
-pub returns-in_err-wide_room-clause-whole : goal.returns-in_err-wide_room-clause-whole
-returns-in_err-wide_room-clause-whole g c = none_made c.from_residual-in_err-wide_room.result _ _ c.from_residual-in_err-wide_room.ensures.1
-
-pub returns-in_err-wide_room-clause-part : goal.returns-in_err-wide_room-clause-part
-returns-in_err-wide_room-clause-part g c = OnErr-all _ _ (inl refl)
-
-pub returns-in_err-wide_room-clause-refusals : goal.returns-in_err-wide_room-clause-refusals
-returns-in_err-wide_room-clause-refusals g c = by_memory c.from_residual-in_err-wide_room.result c.from_residual-in_err-wide_room.ensures.1
-
-pub returns-in_err-wide_room-clause-failed : goal.returns-in_err-wide_room-clause-failed
-returns-in_err-wide_room-clause-failed g c = λ failed. no_fault c.from_residual-in_err-wide_room.result _ c.from_residual-in_err-wide_room.ensures.1 failed
-
-pub returns-in_err-wide_room-clause-all_read : goal.returns-in_err-wide_room-clause-all_read
-returns-in_err-wide_room-clause-all_read g c = none_made c.from_residual-in_err-wide_room.result _ _ c.from_residual-in_err-wide_room.ensures.1
-
-pub returns-in_err-wide_room-clause-front_read : goal.returns-in_err-wide_room-clause-front_read
-returns-in_err-wide_room-clause-front_read g c = OnErr-all _ _
-    (front_asked c.args.store.now.shape 0 (g.D.File.File.asked c.args.store.now.file) (g.D.File.File.asked c.reserve.new.self.file)
-    (omega arith) (none_asked c.args.store.now.shape (g.D.File.File.asked c.args.store.now.file)
-    (g.D.File.File.asked c.reserve.new.self.file) c.reserve.ensures.asked))
-
-pub returns-in_err-wide_room-clause-bytes : goal.returns-in_err-wide_room-clause-bytes
-returns-in_err-wide_room-clause-bytes g c = c.reserve.ensures.bytes
-
-pub returns-in_err-wide_room-clause-name : goal.returns-in_err-wide_room-clause-name
-returns-in_err-wide_room-clause-name g c = c.reserve.ensures.name
-
-pub returns-in_err-wide_room-clause-shape : goal.returns-in_err-wide_room-clause-shape
-returns-in_err-wide_room-clause-shape g c = c.reserve.ensures.shape
-
-pub returns-in_err-wide_room-clause-depth : goal.returns-in_err-wide_room-clause-depth
-returns-in_err-wide_room-clause-depth g c = c.reserve.ensures.depth
-
-pub returns-in_err-wide_room-clause-file_faults : goal.returns-in_err-wide_room-clause-file_faults
-returns-in_err-wide_room-clause-file_faults g c = no_fewer _ _ c.reserve.ensures.faults
-
-pub returns-in_err-wide_room-clause-asked : goal.returns-in_err-wide_room-clause-asked
-returns-in_err-wide_room-clause-asked g c = refl
-
-pub returns-in_err-wide_room-clause-faults : goal.returns-in_err-wide_room-clause-faults
-returns-in_err-wide_room-clause-faults g c = no_fewer _ _ refl
-
 pub returns-in_err-begin_store-clause-whole : goal.returns-in_err-begin_store-clause-whole
 returns-in_err-begin_store-clause-whole g c = none_made c.from_residual-in_err-begin_store.result _ _ c.from_residual-in_err-begin_store.ensures.1
 
@@ -374,7 +333,7 @@ pub slice_bounds-widen_piece-end : goal.slice_bounds-widen_piece-end
 slice_bounds-widen_piece-end g c =
     row_room c.min-count.result (columns_at c.geometry-geometry.result 0) c.tile_length.result (length c.loop-piece.narrow)
     (omega (arith, c.min-count.ensures, c.tile_columns-step.ensures.value))
-    (c.loop-piece.auto.narrow ∙ c.as_mut_slice-narrow.ensures.len ∙ c.in_ok-narrow_room.ensures ∙ c.longest_row.ensures
+    (c.loop-piece.auto.narrow ∙ c.as_mut_slice-narrow.ensures.len ∙ c.in_ok-narrow_room.narrow_room.ok.0 ∙ c.in_ok-narrow_room.ensures.narrow
     ∙ ap (λ (n : ℕ). columns_at c.geometry-geometry.result 0 * n) (sym c.tile_length.ensures.value))
 
 pub slice_bounds-widen_piece-end-in-loop-piece : goal.slice_bounds-widen_piece-end-in-loop-piece
@@ -382,14 +341,14 @@ slice_bounds-widen_piece-end-in-loop-piece g c =
     sym (length-take-le _ c.loop-piece.narrow
     (row_room c.min-count.result (columns_at c.geometry-geometry.result 0) c.tile_length.result (length c.loop-piece.narrow)
     (omega (arith, c.min-count.ensures, c.tile_columns-step.ensures.value))
-    (c.loop-piece.auto.narrow ∙ c.as_mut_slice-narrow.ensures.len ∙ c.in_ok-narrow_room.ensures ∙ c.longest_row.ensures
+    (c.loop-piece.auto.narrow ∙ c.as_mut_slice-narrow.ensures.len ∙ c.in_ok-narrow_room.narrow_room.ok.0 ∙ c.in_ok-narrow_room.ensures.narrow
     ∙ ap (λ (n : ℕ). columns_at c.geometry-geometry.result 0 * n) (sym c.tile_length.ensures.value))))
 
 pub slice_bounds-widen_piece-end-in-loop-piece-2 : goal.slice_bounds-widen_piece-end-in-loop-piece-2
 slice_bounds-widen_piece-end-in-loop-piece-2 g c =
     row_room c.min-count.result (columns_at c.geometry-geometry.result 0) c.tile_length-in-loop-piece.result (length c.loop-piece.wide)
     (omega (arith, c.min-count.ensures, c.tile_columns-step.ensures.value))
-    (c.loop-piece.auto.wide ∙ c.as_mut_slice-wide.ensures.len ∙ c.in_ok-wide_room.ensures ∙ c.longest_row-2.ensures
+    (c.loop-piece.auto.wide ∙ c.as_mut_slice-wide.ensures.len ∙ c.in_ok-narrow_room.wide_room.ok.0 ∙ c.in_ok-narrow_room.ensures.wide
     ∙ ap (λ (n : ℕ). columns_at c.geometry-geometry.result 0 * n) (sym c.tile_length-in-loop-piece.ensures.value))
 
 pub slice_bounds-widen_piece-end-in-loop-piece-3 : goal.slice_bounds-widen_piece-end-in-loop-piece-3
@@ -397,7 +356,7 @@ slice_bounds-widen_piece-end-in-loop-piece-3 g c =
     sym (length-take-le _ c.loop-piece.wide
     (row_room c.min-count.result (columns_at c.geometry-geometry.result 0) c.tile_length-in-loop-piece.result (length c.loop-piece.wide)
     (omega (arith, c.min-count.ensures, c.tile_columns-step.ensures.value))
-    (c.loop-piece.auto.wide ∙ c.as_mut_slice-wide.ensures.len ∙ c.in_ok-wide_room.ensures ∙ c.longest_row-2.ensures
+    (c.loop-piece.auto.wide ∙ c.as_mut_slice-wide.ensures.len ∙ c.in_ok-narrow_room.wide_room.ok.0 ∙ c.in_ok-narrow_room.ensures.wide
     ∙ ap (λ (n : ℕ). columns_at c.geometry-geometry.result 0 * n) (sym c.tile_length-in-loop-piece.ensures.value))))
 
 pub widen_piece-requires-clause-depth : goal.widen_piece-requires-clause-depth
@@ -408,7 +367,7 @@ widen_piece-requires-clause-narrow g c κs within =
     length-take-le _ c.loop-piece.narrow
     (row_room c.min-count.result (columns_at c.geometry-geometry.result 0) c.tile_length.result (length c.loop-piece.narrow)
     (omega (arith, c.min-count.ensures, c.tile_columns-step.ensures.value))
-    (c.loop-piece.auto.narrow ∙ c.as_mut_slice-narrow.ensures.len ∙ c.in_ok-narrow_room.ensures ∙ c.longest_row.ensures
+    (c.loop-piece.auto.narrow ∙ c.as_mut_slice-narrow.ensures.len ∙ c.in_ok-narrow_room.narrow_room.ok.0 ∙ c.in_ok-narrow_room.ensures.narrow
     ∙ ap (λ (n : ℕ). columns_at c.geometry-geometry.result 0 * n) (sym c.tile_length.ensures.value)))
     ∙ ap (λ (n : ℕ). c.min-count.result * n) (c.tile_length.ensures.value
     ∙ ap (λ (s : Shape). tile_length s 1) (c.geometry-geometry.ensures.shape ∙ sym c.loop-piece.invariant.shape))
@@ -418,7 +377,7 @@ widen_piece-requires-clause-wide g c κs within =
     length-take-le _ c.loop-piece.wide
     (row_room c.min-count.result (columns_at c.geometry-geometry.result 0) c.tile_length-in-loop-piece.result (length c.loop-piece.wide)
     (omega (arith, c.min-count.ensures, c.tile_columns-step.ensures.value))
-    (c.loop-piece.auto.wide ∙ c.as_mut_slice-wide.ensures.len ∙ c.in_ok-wide_room.ensures ∙ c.longest_row-2.ensures
+    (c.loop-piece.auto.wide ∙ c.as_mut_slice-wide.ensures.len ∙ c.in_ok-narrow_room.wide_room.ok.0 ∙ c.in_ok-narrow_room.ensures.wide
     ∙ ap (λ (n : ℕ). columns_at c.geometry-geometry.result 0 * n) (sym c.tile_length-in-loop-piece.ensures.value)))
     ∙ ap (λ (n : ℕ). c.min-count.result * n) (c.tile_length-in-loop-piece.ensures.value
     ∙ ap (λ (s : Shape). tile_length s 2) (c.geometry-geometry.ensures.shape ∙ sym c.loop-piece.invariant.shape))

@@ -1,4 +1,4 @@
-use Rattle.std.proofs.Common.{◌≡◌, ℕ, ◌+◌, ◌-◌, ◌*◌, refl, sym, ap, ◌∙◌, arith}
+use Rattle.std.proofs.Common.{ℕ, ◌+◌, ◌-◌, ◌*◌, refl, sym, ap, ◌∙◌, arith}
 use Rattle.vt_definitions.specs.Depths.{texel_length}
 use Rattle.vt_mip.specs.Chains.{chain_texel}
 use Rattle.vt_pages.specs.declared.PageName.{PageName}
@@ -38,14 +38,12 @@ slice_bounds-result-end c =
     let z : ℕ = c.texel_length.result in
     let w : ℕ = c.size-width.result.0 in
     let at = is_at v s c.args.page name c.requires.shape c.page_at-name.ensures.name in
-    let above : c.rows_above.result ≡ name.row * s.tile =
-    c.rows_above.ensures.value ∙ ap (λ (n : PageName). n.row * s.tile) (sym c.page_at-name.ensures.name) in
     omega (
       arith,
       rows_cut v s name.level c.args.page z w s.tile c.size_inside-inside.result.1 (z * w * c.rows_above.result)
           (z * w * c.size_inside-inside.result.1) name c.samples.result.now at c.page_at-name.ensures.name c.page_at-name.ensures.in_chain
           c.page_at-name.ensures.limits c.samples.ensures (c.texel_length.ensures.value ∙ ap texel_length c.depth.ensures.value)
-          c.size-width.ensures.width refl c.size_inside-inside.ensures.rows (ap (λ (n : ℕ). z * w * n) above) refl,
+          c.size-width.ensures.width refl c.size_inside-inside.ensures.rows (ap (λ (n : ℕ). z * w * n) c.rows_above.ensures.value) refl,
     )
 
 pub returns-clause-rows : goal.returns-clause-rows
@@ -56,11 +54,9 @@ returns-clause-rows c =
     let z : ℕ = c.texel_length.result in
     let w : ℕ = c.size-width.result.0 in
     let at = is_at v s c.args.page name c.requires.shape c.page_at-name.ensures.name in
-    let above : c.rows_above.result ≡ name.row * s.tile =
-    c.rows_above.ensures.value ∙ ap (λ (n : PageName). n.row * s.tile) (sym c.page_at-name.ensures.name) in
     rows_are v s name.level c.args.page z w s.tile c.size_inside-inside.result.1
     (z * w * c.rows_above.result) (z * w * c.rows_above.result + z * w * c.size_inside-inside.result.1 - z * w * c.rows_above.result)
     name c.samples.result.now at c.page_at-name.ensures.name c.page_at-name.ensures.in_chain
     c.page_at-name.ensures.limits c.samples.ensures (c.texel_length.ensures.value ∙ ap texel_length c.depth.ensures.value)
-    c.size-width.ensures.width refl c.size_inside-inside.ensures.rows (ap (λ (n : ℕ). z * w * n) above) (omega arith) (chain_texel v)
+    c.size-width.ensures.width refl c.size_inside-inside.ensures.rows (ap (λ (n : ℕ). z * w * n) c.rows_above.ensures.value) (omega arith) (chain_texel v)
     (λ x y _ _. ap (λ (n : PageName). chain_texel v n.level x y) (sym c.page_at-name.ensures.name))

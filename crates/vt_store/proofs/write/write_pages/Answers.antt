@@ -3,6 +3,7 @@ use Rattle.std.proofs.lemmas.List.{length-take-le}
 use Rattle.std.proofs.lemmas.Nat.{mul-le}
 use Rattle.vt_outside.specs.declared.answers.OutsideError.TheVariants.{Failed}
 use Rattle.vt_outside.proofs.Untold.{OnErr-all}
+use Rattle.vt_outside.proofs.Refusing.{none_made}
 use Rattle.vt_mip.specs.Chains.{chain_texel}
 use Rattle.vt_pages.specs.Pages.{columns_at, pages_of}
 use Rattle.vt_store.specs.ChainStores.{AddsPages}
@@ -11,7 +12,6 @@ use Rattle.vt_store.proofs.AddedPages.{adds_none, adds_more, adds_part, there_by
 use Rattle.vt_store.proofs.LevelRows.{passed_on}
 use Rattle.vt_store.proofs.TileRows.{row_room, tiles_at}
 use Rattle.vt_store.proofs.WideStores.{no_less}
-use Rattle.vt_tiles.proofs.Refusing.{none_made}
 use Rattle.vt_store.proofs.write.write_pages.Goals as goal
 
 pub loop-page-init : goal.loop-page-init

@@ -1,6 +1,7 @@
 use Rattle.vt_outside.proofs.Untold.{OnErr-all}
+use Rattle.vt_outside.proofs.Refusing.{none_made}
 use Rattle.vt_store.proofs.LevelChain.{refused_by}
-use Rattle.vt_tiles.proofs.Refusing.{none_made, by_outside}
+use Rattle.vt_tiles.proofs.Refusing.{by_outside}
 use Rattle.vt_store.proofs.write.write_store.Goals as goal
 
 pub returns-in_err-write_rows-clause-whole : goal.returns-in_err-write_rows-clause-whole

@@ -1,7 +1,8 @@
 use Rattle.std.proofs.Common.{◌≡◌, Some, ◌∙◌, refl, rules, arith}
 use Rattle.std.specs.Prelude.{IfSome}
+use Rattle.vt_outside.proofs.Refusing.{no_value}
 use Rattle.vt_tiles.specs.Format.{store_flaw}
-use Rattle.vt_tiles.proofs.Refusing.{by_file, by_memory, no_fault, no_value, not_outside}
+use Rattle.vt_tiles.proofs.Refusing.{by_file, by_memory, no_fault, not_outside}
 use Rattle.vt_tiles.proofs.Opening.{asks_failed, asks_nothing, opened_store, refused_store, no_failure}
 use Rattle.vt_tiles.proofs.store.read_header.Goals as goal
 

@@ -1,8 +1,9 @@
 use Rattle.std.proofs.Common.{◌≡◌, ◌+◌, ◌*◌, ◌≤◌, ◌∙◌, length, true, false, is_err, IfSome, refl, ap, sym, subst}
 use Rattle.vt_ppm.specs.Strips.{RowsAsked, row_length, rows_of}
 use Rattle.vt_ppm.proofs.StripLaws.{rows_inside, rows_full, rows_noted, scaled_told}
-use Rattle.vt_ppm.proofs.Refusing.{none_made, told_refused}
+use Rattle.vt_ppm.proofs.Refusing.{told_refused}
 use Rattle.std.proofs.lemmas.Bool.{false≢true}
+use Rattle.vt_outside.proofs.Refusing.{none_made}
 use Rattle.vt_ppm.proofs.strips.StripReader.rows.Goals as goal
 
 pub returns-in_err-read_at-clause-failed : goal.returns-in_err-read_at-clause-failed

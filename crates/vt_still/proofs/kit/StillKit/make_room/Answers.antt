@@ -1,8 +1,9 @@
 use Rattle.std.proofs.Common.{ℕ, ◌≤◌, List, refl, ap, sym, subst, arith}
 use Rattle.std.specs.Prelude.{All}
+use Rattle.vt_outside.proofs.Refusing.{none_made}
 use Rattle.vt_tiles.specs.StoreViews.{StoreView}
 use Rattle.vt_still.specs.Kits.{KitView}
-use Rattle.vt_still.proofs.Rooms.{same_none, same_lists, same_back, stores_back, none_made, always_ok, on_ok}
+use Rattle.vt_still.proofs.Rooms.{same_none, same_lists, same_back, stores_back, always_ok, on_ok}
 use Rattle.vt_still.proofs.kit.StillKit.make_room.Goals as goal
 
 pub returns-in_err-self-inside : goal.returns-in_err-self-inside

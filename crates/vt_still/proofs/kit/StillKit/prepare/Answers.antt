@@ -3,11 +3,12 @@ use Rattle.vt_definitions.specs.Depths.{IsDepth}
 use Rattle.vt_pages.specs.Shape.{Shape}
 use Rattle.vt_pass.specs.Crews.{IsCrew}
 use Rattle.std.specs.Prelude.{All}
+use Rattle.vt_outside.proofs.Refusing.{none_made}
 use Rattle.vt_tiles.specs.Format.{tile_length}
 use Rattle.vt_rounds.specs.Sizes.{AreSized}
 use Rattle.vt_still.specs.RoundKits.{RoundKitView, IsSetUp}
 use Rattle.vt_still.specs.Kits.{KitView, HasRoom}
-use Rattle.vt_still.proofs.Rooms.{on_ok, none_made, same_none, same_lists, prepared_with, same_asked, room_asked}
+use Rattle.vt_still.proofs.Rooms.{on_ok, same_none, same_lists, prepared_with, same_asked, room_asked}
 use Rattle.vt_still.proofs.kit.StillKit.prepare.Goals as goal
 
 pub reserve-requires : goal.reserve-requires

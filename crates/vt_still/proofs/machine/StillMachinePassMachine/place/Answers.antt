@@ -1,4 +1,5 @@
 use Rattle.std.proofs.Common.{◌≡◌, ◌<◌, None, ap, ◌∙◌, sym, subst, arith}
+use Rattle.vt_outside.proofs.Refusing.{none_made, always_err}
 use Rattle.vt_pages.specs.Shape.{Shape}
 use Rattle.vt_pages.specs.Pages.{pages_of}
 use Rattle.vt_journal.specs.Changes.{newest, IsFree}
@@ -9,7 +10,6 @@ use Rattle.vt_still.specs.Kits.{kit_state, IsIdleKit}
 use Rattle.vt_still.specs.StillMachines.{StillView}
 use Rattle.vt_rounds.proofs.Entries.{tile_is}
 use Rattle.vt_still.proofs.Placed.{idle_reserved, idle_placed, reserved_state, placed_state}
-use Rattle.vt_still.proofs.Rooms.{none_made, always_err}
 use Rattle.vt_still.proofs.machine.StillMachinePassMachine.place.Goals as goal
 
 pub reserve-requires : goal.reserve-requires

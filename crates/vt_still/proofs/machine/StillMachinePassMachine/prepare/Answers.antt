@@ -1,11 +1,12 @@
 use Rattle.std.proofs.Common.{sym, subst}
+use Rattle.vt_outside.proofs.Refusing.{always_err, none_made}
 use Rattle.vt_pages.specs.Shape.{Shape}
 use Rattle.vt_journal.specs.Changes.{newest}
 use Rattle.vt_pass.specs.Outcomes.{IsBatchFor}
 use Rattle.vt_pass.specs.Passes.{MayPrepare, IsUntouched, IsSpent}
 use Rattle.vt_still.specs.Kits.{kit_state, IsIdleKit}
 use Rattle.vt_still.specs.StillMachines.{StillView}
-use Rattle.vt_still.proofs.Rooms.{always_err, none_made, untouched, spent, same_asked}
+use Rattle.vt_still.proofs.Rooms.{untouched, spent, same_asked}
 use Rattle.vt_still.proofs.machine.StillMachinePassMachine.prepare.Goals as goal
 
 pub prepare-requires : goal.prepare-requires

@@ -1,6 +1,6 @@
 use Rattle.std.proofs.Common.{ap, refl}
+use Rattle.vt_outside.proofs.Refusing.{none_made}
 use Rattle.vt_still.specs.RoundKits.{RoundKitView}
-use Rattle.vt_still.proofs.Rooms.{none_made}
 use Rattle.vt_still.proofs.round.RoundKit.renew.Goals as goal
 
 pub returns : goal.returns
