@@ -1,6 +1,7 @@
 -- How passes are split off for loaders, and made one again.
-use Rattle.std.proofs.Common.{◌≡◌, ℕ, ◌+◌, ◌-◌, ◌/◌, ◌≤◌, List, [], ◌∷◌, ◌++◌, map, reverse, Option, refl, sym, ap, ◌∙◌, subst, append_assoc, arith}
+use Rattle.std.proofs.Common.{◌≡◌, ℕ, suc, ◌+◌, ◌-◌, ◌/◌, ◌≤◌, List, [], ◌∷◌, ◌++◌, length, map, reverse, Option, refl, sym, ap, ◌∙◌, subst, append_assoc, length-append, arith}
 use Rattle.std.specs.Prelude.{All}
+use Rattle.std.specs.List.{range_with_len}
 use Rattle.std.proofs.Math.Nat.{div-le_of_le-mul}
 use Rattle.std.proofs.lemmas.List.{map-append, reverse-append}
 use Rattle.std.proofs.lemmas.List.Sorted.{IsPermutation-reverse, IsPermutation-sym, All-permutation}
@@ -15,7 +16,7 @@ use Rattle.vt_load.specs.declared.queued.Queues.{Queues}
 use Rattle.vt_queue.proofs.Gathered.{all_cut}
 use Rattle.vt_pages.specs.Shape.{Shape}
 use Rattle.vt_tiles.specs.StoreViews.{StoreView}
-use Rattle.vt_load.specs.QueuedLoaders.{QueuedView, AreOf, asks_of, answers_of, stores_of, MayLoad, IsLoaderOf, IsNew, AreSplitOff}
+use Rattle.vt_load.specs.QueuedLoaders.{QueuedView, AreOf, asks_of, answers_of, stores_of, numbers_of, MayLoad, IsLoaderOf, IsNew, AreSplitOff}
 
 -- What is split off at once is a small part.
 pub part_small : (n : ℕ) → n ≤ all_shares → (n - 1) / split_part ≤ all_shares / split_part
@@ -93,6 +94,21 @@ module _ {F : Type 0} where
       ∙ ap (λ (k : StoreView F). rest ++ (k ∷ reverse (stores_of loaders))) is
       ∙ sym (append_assoc rest (x ∷ []) (reverse (stores_of loaders)))
       ∙ ap (λ k. k ++ reverse (stores_of loaders)) (sym was) ∙ h
+
+  -- The loaders have the numbers of their stores.
+  pub none_numbered : (loaders : List (QueuedView F)) (n : ℕ) → loaders ≡ [] → reverse (numbers_of loaders) ≡ range_with_len n (length loaders)
+  none_numbered loaders n e = subst (λ k. reverse (numbers_of k) ≡ range_with_len n (length k)) (sym e) refl
+
+  pub numbers_more : (rest : ℕ) (loaders more : List (QueuedView F)) (l : QueuedView F) → more ≡ loaders ++ l ∷ [] → l.loader.loader ≡ rest
+      → reverse (numbers_of loaders) ≡ range_with_len (rest + 1) (length loaders) → reverse (numbers_of more) ≡ range_with_len rest (length more)
+  numbers_more rest loaders more l e is h =
+      let one : suc (length loaders) ≡ length more = omega (arith, ap length e ∙ length-append loaders (l ∷ [])) in
+      ap (λ k. reverse (numbers_of k)) e
+      ∙ ap reverse (map-append (λ (m : QueuedView F). m.loader.loader) loaders (l ∷ []))
+      ∙ reverse-append (numbers_of loaders) (l.loader.loader ∷ [])
+      ∙ ap (λ (n : ℕ). n ∷ reverse (numbers_of loaders)) is
+      ∙ ap (λ k. rest ∷ k) h
+      ∙ ap (range_with_len rest) one
 
   -- The stores come back in their order.
   pub back_more : (stores more total : List (StoreView F)) (loaders rest : List (QueuedView F)) (x : StoreView F) (l : QueuedView F)

@@ -37,6 +37,10 @@ module _ {F : Type 0} where
   abbrev pub stores_of : List (QueuedView F) → List (StoreView F)
   stores_of loaders = map (λ l. l.loader.store) loaders
 
+  -- the numbers of loaders, by which a gate knows them
+  abbrev pub numbers_of : List (QueuedView F) → List ℕ
+  numbers_of loaders = map (λ l. l.loader.loader) loaders
+
   -- its passes are of these queues, and its file can note as many reads as the queue of the requests has room for
   pub record MayLoad (g : FileMeanings F) (q : Queues) (l : QueuedView F) : Type 0 where
     pub passes : AreOf q l.asks l.answers

@@ -1,6 +1,7 @@
 //! Loaders with their passes of the two queues, and how these are made of a pass and made one again.
 
 ghost use Rattle.std.specs.Prelude.{◌≡◌, ◌+◌, ◌*◌, ◌-◌, ◌/◌, ◌≤◌, ◌<◌, [], List, Option, length, map, reverse, All, ℕ};
+ghost use Rattle.std.specs.List.{range_with_len};
 ghost use Rattle.vt_definitions.specs.Limits.{most_loaders};
 ghost use Rattle.vt_pages.specs.Shape.{Shape};
 ghost use Rattle.vt_queue.specs.PassViews.{all_shares, split_part, Splits, all_joined};
@@ -8,7 +9,7 @@ ghost use Rattle.vt_queue.specs.Steps.{IsAtStep};
 ghost use Rattle.vt_queue.specs.Queues.{view_of, splits_of, IsOf, capacity_of};
 ghost use Rattle.vt_queue.specs.declared.items.Request.{Request as Ask};
 ghost use Rattle.vt_queue.specs.declared.items.Loaded.{Loaded as Answer};
-ghost use Rattle.vt_load.specs.QueuedLoaders.{AreOf, MayLoad, HasLoaded, IsLoaderOf, AreSplitOff, Collects, asks_of, answers_of, stores_of};
+ghost use Rattle.vt_load.specs.QueuedLoaders.{AreOf, MayLoad, HasLoaded, IsLoaderOf, AreSplitOff, Collects, asks_of, answers_of, stores_of, numbers_of};
 
 use crate::loader::Loader;
 use std::alloc::Global;
@@ -121,6 +122,7 @@ fn loader_for<F: File>(
     ensures passes { AreOf queues.now asks.new answers.new }
     ensures other { AreOf queues.now result.asks result.answers }
     ensures store { result.loader.store ≡ store }
+    ensures number { result.loader.loader ≡ number }
     ensures asks { Splits (view_of asks.old) (view_of asks.new) (view_of result.asks) }
     ensures answers { Splits (view_of answers.old) (view_of answers.new) (view_of result.answers) }
     ensures less { (splits_of asks.new ≤ splits_of asks.old) × (splits_of answers.new ≤ splits_of answers.old) }
@@ -152,6 +154,7 @@ pub fn deal<F: File>(
     ensures stores { stores.new.elements ≡ [] }
     ensures room { length loaders.new.elements ≤ stores.new.spare }
     ensures loaders { reverse (stores_of loaders.new.elements) ≡ stores.old.elements }
+    ensures numbers { reverse (numbers_of loaders.new.elements) ≡ range_with_len 0 (length stores.old.elements) }
     ensures of { (s : Shape) (d : ℕ) (told : Option (List ℕ))
         → All (λ store. (store.shape ≡ s) × (store.depth ≡ d) × (F.bytes store.file ≡ told)) stores.old.elements
         → All (IsLoaderOf F.File s d told) loaders.new.elements }

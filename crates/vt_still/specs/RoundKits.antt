@@ -1,5 +1,6 @@
 -- What the loaders of a pass are done with.
 use Rattle.std.specs.Prelude.{◌≡◌, ℕ, ◌+◌, ◌≤◌, Bool, Option, List, [], length, reverse, All}
+use Rattle.std.specs.List.{range_with_len}
 use Rattle.vt_outside.specs.Lists.{ListView}
 use Rattle.vt_outside.specs.declared.outside.File.{Ghosts as FileMeanings}
 use Rattle.vt_pages.specs.Shape.{Shape}
@@ -12,7 +13,7 @@ use Rattle.vt_queue.specs.declared.queue.QueuePass.{QueuePass}
 use Rattle.vt_queue.specs.PassViews.{all_shares, first_view}
 use Rattle.vt_queue.specs.Queues.{view_of, splits_of, capacity_of}
 use Rattle.vt_load.specs.declared.queued.Queues.{Queues}
-use Rattle.vt_load.specs.QueuedLoaders.{QueuedView, AreOf, IsLoaderOf, AreSplitOff, stores_of}
+use Rattle.vt_load.specs.QueuedLoaders.{QueuedView, AreOf, IsLoaderOf, AreSplitOff, stores_of, numbers_of}
 use Rattle.vt_pass.specs.declared.crew.Crew.{Crew}
 use Rattle.vt_rounds.specs.BatchRounds.{ArePut}
 use Rattle.vt_rounds.specs.Sizes.{AreSized}
@@ -69,13 +70,14 @@ pub record IsAsked {F : Type 0} (q : Queues) (r : RoundKitView F) (s : Shape) (d
   pub loaders : crew.loaders ≤ r.loaders.spare
   pub places : HasPlaces r (length batch) (tile_length s d)
 
--- a loader was made of each store, with passes that were split off for it
+-- a loader was made of each store, with its number, and with passes that were split off for it
 pub record IsDealt {F : Type 0} (g : FileMeanings F) (q : Queues) (r r' : RoundKitView F) (stores : List (StoreView F))
     (loaders : List (QueuedView F)) : Type 0 where
   pub passes : AreOf q r'.asks r'.answers
   pub no_stores : r'.stores.elements ≡ []
   pub room : length loaders ≤ r'.stores.spare
   pub stores_are : reverse (stores_of loaders) ≡ stores
+  pub numbers_are : reverse (numbers_of loaders) ≡ range_with_len 0 (length stores)
   pub of : (s : Shape) (d : ℕ) (told : Option (List ℕ)) → All (λ store. (store.shape ≡ s) × (store.depth ≡ d) × (g.bytes store.file ≡ told)) stores
       → All (IsLoaderOf g s d told) loaders
   pub split : AreSplitOff (view_of r.asks) (view_of r'.asks) (view_of r.answers) (view_of r'.answers) loaders

@@ -1,8 +1,9 @@
-use Rattle.std.proofs.Common.{arith, ◌≡◌, ◌+◌, ◌≤◌, ◌++◌, length, reverse, ap, ◌∙◌, [], ◌∷◌, length-append}
+use Rattle.std.proofs.Common.{arith, ◌≡◌, ℕ, ◌+◌, ◌≤◌, ◌++◌, length, reverse, ap, ◌∙◌, subst, [], ◌∷◌, length-append}
 use Rattle.vt_queue.proofs.Gathered.{append_nil}
 use Rattle.vt_queue.specs.Queues.{view_of, capacity_of}
-use Rattle.vt_load.specs.QueuedLoaders.{stores_of}
-use Rattle.vt_load.proofs.Dealing.{split_more, order_more, popped_all, may_load, loaders_of, none_dealt, none_may}
+use Rattle.std.specs.List.{range_with_len}
+use Rattle.vt_load.specs.QueuedLoaders.{stores_of, numbers_of}
+use Rattle.vt_load.proofs.Dealing.{split_more, order_more, popped_all, may_load, loaders_of, none_dealt, none_may, none_numbered, numbers_more}
 use Rattle.vt_load.proofs.queued.deal.Goals as goal
 
 pub loop-store-init : goal.loop-store-init
@@ -20,6 +21,7 @@ loop-store-init g c =
       back = omega (arith, none);
       reads = r.reads;
       order = ap (λ l. c.args.stores.now.elements ++ reverse (stores_of l)) r.none ∙ append_nil _;
+      numbers = none_numbered c.args.loaders.now.elements (length c.args.stores.now.elements) r.none;
       may = none_may g.F.File c.args.queues.now c.args.loaders.now.elements r.none;
       split = none_dealt (view_of c.args.asks.now) (view_of c.args.answers.now) c.args.loaders.now.elements r.none;
     }
@@ -49,6 +51,9 @@ loop-store-preserved g c =
       reads = popped.0;
       order = order_more c.loop-store.stores.elements rest _ c.loop-store.loaders.elements c.push.new.self.elements c.in-Some.store made was more is.store
           i.order;
+      numbers = numbers_more (length rest) c.loop-store.loaders.elements c.push.new.self.elements made more
+          (is.number ∙ c.len-number.ensures) (subst (λ (n : ℕ). reverse (numbers_of c.loop-store.loaders.elements)
+          ≡ range_with_len n (length c.loop-store.loaders.elements)) fewer i.numbers);
       may = may_load g.F.File q c.loop-store.loaders.elements c.push.new.self.elements made c.in-Some.store more is.store is.other popped.1 i.may;
       split = split_more _ _ _ _ _ _ c.loop-store.loaders.elements _ made i.split is.asks is.answers more;
     }
@@ -57,3 +62,10 @@ pub returns-clause-of : goal.returns-clause-of
 returns-clause-of g c = λ s d told all.
     loaders_of g.F.File s d told c.loop-store.stores.elements c.args.stores.now.elements c.loop-store.loaders.elements c.in_default.ensures.none.0
     c.loop-store.invariant.order all
+
+pub returns-clause-numbers : goal.returns-clause-numbers
+returns-clause-numbers g c =
+    let none : length c.loop-store.stores.elements ≡ 0 = ap length c.in_default.ensures.none.0 in
+    let all : length c.loop-store.loaders.elements ≡ length c.args.stores.now.elements = omega (arith, none, c.loop-store.invariant.count) in
+    c.loop-store.invariant.numbers ∙ ap (λ (n : ℕ). range_with_len n (length c.loop-store.loaders.elements)) none
+    ∙ ap (λ (n : ℕ). range_with_len 0 n) all

@@ -1,8 +1,9 @@
 use Rattle.std.proofs.Common.{◌≡◌, ◌+◌, ◌*◌, ◌/◌, ◌≤◌, ◌++◌, length, reverse}
 use Rattle.std.specs.Prelude.{All}
+use Rattle.std.specs.List.{range_with_len}
 use Rattle.vt_queue.specs.PassViews.{all_shares, split_part}
 use Rattle.vt_queue.specs.Queues.{view_of, splits_of, capacity_of}
-use Rattle.vt_load.specs.QueuedLoaders.{AreOf, MayLoad, AreSplitOff, stores_of}
+use Rattle.vt_load.specs.QueuedLoaders.{AreOf, MayLoad, AreSplitOff, stores_of, numbers_of}
 use Rattle.vt_load.proofs.queued.deal.Given as goal
 
 abbrev pub invariant-loop-store : goal.invariant-loop-store
@@ -17,6 +18,7 @@ invariant-loop-store g l = record {
   back : length l.loaders.elements ≤ l.stores.spare;
   reads : All (λ store. capacity_of l.queues.requests ≤ g.F.File.spare store.file) l.stores.elements;
   order : l.stores.elements ++ reverse (stores_of l.loaders.elements) ≡ l.initial.stores.elements;
+  numbers : reverse (numbers_of l.loaders.elements) ≡ range_with_len (length l.stores.elements) (length l.loaders.elements);
   may : All (MayLoad g.F.File l.queues) l.loaders.elements;
   split : AreSplitOff (view_of l.initial.asks) (view_of l.asks) (view_of l.initial.answers) (view_of l.answers) l.loaders.elements;
 }

@@ -15,6 +15,7 @@ returns g c =
       passes = record { requests = theirs.of; results = given.of };
       other = record { requests = subst (λ p. IsOf q.requests p) asks theirs.other; results = subst (λ p. IsOf q.results p) answers given.other };
       store = ap (λ m. m.loader.store) is ∙ ap (λ l. l.store) c.new.ensures;
+      number = ap (λ m. m.loader.loader) is ∙ ap (λ l. l.loader) c.new.ensures;
       asks = subst (λ p. Splits (view_of c.args.asks.now) (view_of c.split_off-theirs.new.pass) (view_of p)) asks theirs.splits;
       answers = subst (λ p. Splits (view_of c.args.answers.now) (view_of c.split_off-results.new.pass) (view_of p)) answers given.splits;
       less = (theirs.less, given.less);

@@ -35,6 +35,7 @@ returns g c =
         no_stores = ap (λ l. l.elements) c.replace.ensures.after ∙ e.stores;
         room = subst (λ n. length loaders ≤ n) (sym (ap (λ l. l.spare) c.replace.ensures.after)) e.room;
         stores_are = e.loaders;
+        numbers_are = e.numbers;
         of = e.of;
         split = subst (λ (x : RoundKitView _). AreSplitOff (view_of x.asks) asks (view_of x.answers) answers loaders) c.self.view_is e.split_off;
         results = ap (λ (x : RoundKitView _). x.results) c.self.view_is;
