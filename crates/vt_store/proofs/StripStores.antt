@@ -9,7 +9,7 @@ use Rattle.vt_outside.specs.declared.place.Place.{Place}
 use Rattle.vt_outside.proofs.Changes.{told-bytes-appended, front_of_two, front_of_first}
 use Rattle.vt_ppm.specs.declared.header.Header.{Header}
 use Rattle.vt_ppm.specs.Format.{depth_of}
-use Rattle.vt_ppm.specs.Strips.{RowsAsked, row_length, row_start, texture_of}
+use Rattle.vt_ppm.specs.Strips.{RowsAsked, row_length, row_start}
 use Rattle.vt_definitions.specs.Texels.{Source}
 use Rattle.vt_mip.specs.StripChains.{StripChainView, texture_texel}
 use Rattle.vt_pages.specs.Shape.{Shape}
@@ -18,7 +18,7 @@ use Rattle.vt_tiles.specs.Format.{header_bytes, tiles_bytes, store_bytes}
 use Rattle.vt_tiles.specs.Made.{HoldsMade, HoldsMadeFront, GainsMade, GainsMadeFront}
 use Rattle.vt_store.specs.StripStores.{StripsAsked, StripsTried, strip_front, strip_shape, strip_store, strip_tiles}
 use Rattle.vt_ppm.specs.StripPlaces.{strip_rows, strip_place, strip_places, strips_of}
-use Rattle.vt_store.specs.ChainStores.{AddsPages, AddsPart, texture_store}
+use Rattle.vt_store.specs.ChainStores.{AddsPages, AddsPart}
 use Rattle.vt_store.proofs.Writing.{front_bytes, front_grown, front_none, front_all, store_split}
 use Rattle.vt_store.proofs.AddedPages.{there_bytes}
 
@@ -38,19 +38,10 @@ pub made_moved : (told : Option (List ℕ)) (s : Shape) (h : Header) (n : List �
     → HoldsMade told (strip_front s h p) n f0 f1 → HoldsMade told (strip_front s h q) n f0 f1
 made_moved told s h n f0 f1 p q e holds = subst (λ (m : ℕ). HoldsMade told (strip_front s h m) n f0 f1) e holds
 
--- with what a chain tells that was only given room meanwhile
-pub made_at : (told told' : Option (List ℕ)) (s : Shape) (h h' : Header) (n : List ℕ) (f0 f1 : Option Files) (p q : ℕ) → told' ≡ told → h' ≡ h → p ≡ q
-    → HoldsMade told' (strip_front s h' p) n f0 f1 → HoldsMade told (strip_front s h q) n f0 f1
-made_at told told' s h h' n f0 f1 p q et eh e holds =
-    made_moved told s h n f0 f1 p q e (subst (λ (z : Header). HoldsMade told (strip_front s z p) n f0 f1) eh
-    (subst (λ (t : Option (List ℕ)). HoldsMade t (strip_front s h' p) n f0 f1) et holds))
-
-pub front_at : {F : Type 0} (told told' : Option (List ℕ)) (v w : StripChainView F) (n : List ℕ) (f0 f1 : Option Files) → told' ≡ told
-    → w.header ≡ v.header → w.tile ≡ v.tile → HoldsMadeFront told' (strip_store w) n f0 f1 → HoldsMadeFront told (strip_store v) n f0 f1
-front_at told told' v w n f0 f1 et eh es holds =
-    let Front : Option (List ℕ) → Header → ℕ → Type 0 = λ t h side. HoldsMadeFront t (λ b. texture_store (texture_of h b) side) n f0 f1 in
-    subst (λ (m : ℕ). Front told v.header m) es
-    (subst (λ (z : Header). Front told z w.tile) eh (subst (λ (t : Option (List ℕ)). Front t w.header w.tile) et holds))
+-- what is said of a chain that was only given room is said of it before
+pub seen_at : {A : Type 0} (P : A → Header → ℕ → Type 0) {a a' : A} {h h' : Header} {t t' : ℕ} → a' ≡ a → h' ≡ h → t' ≡ t → P a' h' t' → P a h t
+seen_at P {a} {a'} {h} {h'} {t} {t'} ea eh et is =
+    subst (λ (m : ℕ). P a h m) et (subst (λ (z : Header). P a z t') eh (subst (λ (x : _). P x h' t') ea is))
 
 made_next : (told : Option (List ℕ)) (s : Shape) (h : Header) (i : ℕ) (n : List ℕ) (f0 f1 f2 : Option Files)
     → HoldsMade told (strip_front s h (i * columns_at s 0)) n f0 f1 → GainsMade told (strip_tiles s h i) n f1 f2
@@ -237,13 +228,3 @@ pub header_seen : {F : Type 0} (told : Option (List ℕ)) (v : StripChainView F)
     → (f1 ≡ f0) ⊎ HoldsMadeFront told (store_made s v.header) n f0 f1 → (f1 ≡ f0) ⊎ HoldsMadeFront told (strip_store v) n f0 f1
 header_seen told v s n f0 f1 shape (inl same) = inl same
 header_seen told v s n f0 f1 shape (inr part) = inr (front_seen told v s n f0 f1 shape part)
-
--- what was asked behind a header and places that only got room
-pub asked_at : (h h' : Header) (t : ℕ) (a0 a1 a2 : Option (List Place)) → h' ≡ h → a1 ≡ a0 → StripsAsked h' t (strips_of h' t) a1 a2
-    → StripsAsked h t (strips_of h t) a0 a2
-asked_at h h' t a0 a1 a2 eh ea asked =
-    subst (λ (z : Header). StripsAsked z t (strips_of z t) a0 a2) eh (subst (λ (a : Option (List Place)). StripsAsked h' t (strips_of h' t) a a2) ea asked)
-
-pub tried_at : (h h' : Header) (t : ℕ) (a0 a1 a2 : Option (List Place)) → h' ≡ h → a1 ≡ a0 → StripsTried h' t a1 a2 → StripsTried h t a0 a2
-tried_at h h' t a0 a1 a2 eh ea tried =
-    subst (λ (z : Header). StripsTried z t a0 a2) eh (subst (λ (a : Option (List Place)). StripsTried h' t a a2) ea tried)

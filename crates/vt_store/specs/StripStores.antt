@@ -1,14 +1,18 @@
 -- The store of a texture that is read by strips: whole rows, as many as a tile has.
-use Rattle.std.specs.Prelude.{◌≡◌, ◌⊎◌, ℕ, ◌*◌, ◌<◌, ◌≤◌, true, List, [], ◌∷◌, ◌++◌, Option, option_map}
+use Rattle.std.specs.Prelude.{◌≡◌, ◌⊎◌, ℕ, ◌*◌, ◌<◌, ◌≤◌, true, List, [], ◌∷◌, ◌++◌, Option, option_map, length}
+use Rattle.vt_definitions.specs.Depths.{texel_length}
 use Rattle.vt_outside.specs.declared.place.Place.{Place}
 use Rattle.vt_ppm.specs.declared.header.Header.{Header}
 use Rattle.vt_ppm.specs.Format.{depth_of}
+use Rattle.vt_ppm.specs.Image.{ImageView}
 use Rattle.vt_ppm.specs.Strips.{texture_of}
+use Rattle.vt_mip.specs.TakenRows.{HalvesFront}
 use Rattle.vt_mip.specs.StripChains.{StripChainView, texture_texel}
 use Rattle.vt_pages.specs.Shape.{Shape, shape_of}
-use Rattle.vt_pages.specs.Pages.{columns_at}
+use Rattle.vt_pages.specs.Pages.{IsWithinLimits, columns_at}
+use Rattle.vt_store.specs.declared.strips.StripRoom.{StripRoom}
 use Rattle.vt_store.specs.ChainStores.{texture_store}
-use Rattle.vt_tiles.specs.Format.{header_bytes, tiles_bytes}
+use Rattle.vt_tiles.specs.Format.{header_bytes, tile_length, tiles_bytes}
 use Rattle.vt_ppm.specs.StripPlaces.{strips_of, strip_place, strip_places}
 
 -- the shape of the pages of a texture that is read by rows
@@ -37,3 +41,14 @@ pub record StripsTried (h : Header) (t : ℕ) (before after : Option (List Place
   pub few : count ≤ strips_of h t
   pub asked : StripsAsked h t count before after
       ⊎ ((count < strips_of h t) × (after ≡ option_map (λ places. places ++ (strip_places h t count ++ strip_place h t true count ∷ [])) before))
+
+-- the room in which a texture of this shape and depth is tiled by strips: no row was halved into level 1 yet
+pub record IsStripRoom (s : Shape) (d : ℕ) (room : StripRoom) : Type 0 where
+  pub limits : IsWithinLimits s
+  pub rows : length room.rows.items ≡ s.tile * (texel_length d * s.width)
+  pub tiles : length room.tiles.items ≡ columns_at s 0 * tile_length s d
+  pub taken : room.half.taken ≡ 0
+  pub depth : room.half.depth ≡ d
+  pub width : room.half.width ≡ s.width
+  pub height : room.half.height ≡ s.height
+  pub begun : (p : ImageView) → p.depth ≡ d → p.width ≡ s.width → p.height ≡ s.height → HalvesFront p room.half

@@ -5,14 +5,13 @@ ghost use Rattle.vt_definitions.specs.Sides.{side};
 ghost use Rattle.vt_outside.specs.Counts.{Rose};
 ghost use Rattle.vt_outside.specs.Files.{Files, IsThere};
 ghost use Rattle.vt_ppm.specs.Format.{depth_of};
-ghost use Rattle.vt_ppm.specs.Image.{ImageView};
 ghost use Rattle.vt_ppm.specs.Strips.{RowsAsked, row_length, texture_of};
 ghost use Rattle.vt_mip.specs.TakenRows.{HalvesFront};
 ghost use Rattle.vt_pages.specs.Pages.{IsWithinLimits, columns_at, rows_at};
 ghost use Rattle.vt_tiles.specs.Format.{tile_length};
 ghost use Rattle.vt_tiles.specs.Refusals.{IsOutsideRefusal};
 ghost use Rattle.vt_tiles.specs.Made.{HoldsMade, HoldsMadeFront, GainsMade, GainsMadeFront};
-ghost use Rattle.vt_store.specs.StripStores.{StripsAsked, StripsTried, strip_front, strip_shape, strip_store, strip_tiles};
+ghost use Rattle.vt_store.specs.StripStores.{IsStripRoom, StripsAsked, StripsTried, strip_front, strip_shape, strip_store, strip_tiles};
 ghost use Rattle.vt_ppm.specs.StripPlaces.{strips_of, strip_rows};
 
 use crate::levels::write_levels;
@@ -160,14 +159,7 @@ struct StripRoom {
 // Makes this room for samples of `depth` bytes, 1 or 2.
 fn make_room(alloc: Global, geometry: &Geometry, depth: u32) -> Result<StripRoom, NoMemory>
     requires { IsDepth depth }
-    ensures rows { IfOk result (λ room. length room.rows.items ≡ geometry.now.tile * (texel_length depth * geometry.now.width)) }
-    ensures tiles { IfOk result (λ room. length room.tiles.items ≡ columns_at geometry.now 0 * tile_length geometry.now depth) }
-    ensures taken { IfOk result (λ room. room.half.taken ≡ 0) }
-    ensures depth { IfOk result (λ room. room.half.depth ≡ depth) }
-    ensures width { IfOk result (λ room. room.half.width ≡ geometry.now.width) }
-    ensures height { IfOk result (λ room. room.half.height ≡ geometry.now.height) }
-    ensures begun { IfOk result (λ room. (p : ImageView) → p.depth ≡ depth → p.width ≡ geometry.now.width → p.height ≡ geometry.now.height
-        → HalvesFront p room.half) }
+    ensures { IfOk result (IsStripRoom geometry.now depth) }
 {
     let (width, height) = (geometry.width(), geometry.height());
     let row = texel_length(depth) * width as usize;
@@ -175,6 +167,61 @@ fn make_room(alloc: Global, geometry: &Geometry, depth: u32) -> Result<StripRoom
     let tiles = vec![in alloc; 0; longest_row(geometry, depth)]?;
     let half = Halving::new(alloc, depth, width, height)?;
     Ok(StripRoom { rows, tiles, half })
+}
+
+// Makes the name hold the store, in room that was made for it and with room to note each read.
+fn write_in_room<F: File, D: Folder>(
+    alloc: Global,
+    chain: &mut StripChain<F>,
+    geometry: &Geometry,
+    room: StripRoom,
+    folder: &mut D,
+    name: &str,
+) -> Result<(), StoreError>
+    requires shape { strip_shape chain.old ≡ geometry.now }
+    requires spare { rows_at geometry.now 0 ≤ F.spare chain.old.file }
+    requires room { IsStripRoom geometry.now (depth_of chain.old.header.maximum) room }
+    ensures whole { OnOk result (HoldsMade (F.bytes chain.old.file) (strip_store chain.old) name.now (D.files folder.old) (D.files folder.new)) }
+    ensures part { OnErr result ((D.files folder.new ≡ D.files folder.old)
+        ⊎ HoldsMadeFront (F.bytes chain.old.file) (strip_store chain.old) name.now (D.files folder.old) (D.files folder.new)) }
+    ensures refusals { IfErr result IsOutsideRefusal }
+    ensures failed { IsErrOf result StoreError.Failed
+        → Rose (D.faults folder.old) (D.faults folder.new) ⊎ Rose (F.faults chain.old.file) (F.faults chain.new.file) }
+    ensures all_read { OnOk result (StripsAsked chain.old.header geometry.now.tile (strips_of chain.old.header geometry.now.tile)
+        (F.asked chain.old.file) (F.asked chain.new.file)) }
+    ensures front_read { OnErr result (StripsTried chain.old.header geometry.now.tile (F.asked chain.old.file) (F.asked chain.new.file)) }
+    ensures bytes { F.bytes chain.new.file ≡ F.bytes chain.old.file }
+    ensures name { F.name chain.new.file ≡ F.name chain.old.file }
+    ensures header { chain.new.header ≡ chain.old.header }
+    ensures tile { chain.new.tile ≡ chain.old.tile }
+    ensures file_faults { F.faults chain.old.file ≤ F.faults chain.new.file }
+    ensures asked { D.asked folder.new ≡ D.asked folder.old }
+    ensures faults { D.faults folder.old ≤ D.faults folder.new }
+{
+    let StripRoom {
+        mut rows,
+        mut tiles,
+        mut half,
+    } = room;
+    begin_store(geometry, chain.depth(), folder, name)?;
+    write_first_level(
+        chain,
+        geometry,
+        rows.as_mut_slice(),
+        tiles.as_mut_slice(),
+        &mut half,
+        folder,
+        name,
+    )?;
+    write_levels(
+        alloc,
+        half.finish(),
+        geometry,
+        tiles.as_mut_slice(),
+        folder,
+        name,
+    )?;
+    Ok(())
 }
 
 /// Makes the name hold the store of the texture of a chain that is read by rows, whose sides and tile side the geometry has: the same
@@ -209,30 +256,7 @@ pub fn write_strips<F: File, D: Folder>(
     ensures asked { D.asked folder.new ≡ D.asked folder.old }
     ensures faults { D.faults folder.old ≤ D.faults folder.new }
 {
-    let depth = chain.depth();
     chain.reserve(u64::from(strip_count(geometry)))?;
-    let StripRoom {
-        mut rows,
-        mut tiles,
-        mut half,
-    } = make_room(alloc, geometry, depth)?;
-    begin_store(geometry, depth, folder, name)?;
-    write_first_level(
-        chain,
-        geometry,
-        rows.as_mut_slice(),
-        tiles.as_mut_slice(),
-        &mut half,
-        folder,
-        name,
-    )?;
-    write_levels(
-        alloc,
-        half.finish(),
-        geometry,
-        tiles.as_mut_slice(),
-        folder,
-        name,
-    )?;
-    Ok(())
+    let room = make_room(alloc, geometry, chain.depth())?;
+    write_in_room(alloc, chain, geometry, room, folder, name)
 }
