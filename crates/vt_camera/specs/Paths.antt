@@ -1,5 +1,5 @@
 -- A path as its numbers, and the limits that they keep.
-use Rattle.std.specs.Prelude.{ℕ, ◌≤◌, List, length, pos, negsuc, ◌≤ℤ◌, All}
+use Rattle.std.specs.Prelude.{ℕ, ◌≤◌, List, length, pos, neg_ℤ, ◌≤ℤ◌, All}
 use Rattle.vt_definitions.specs.Limits.{most_picture_side, most_focal, most_pictures}
 use Rattle.vt_camera.specs.declared.paths.Camera.{Camera}
 
@@ -10,22 +10,30 @@ pub record PathView : Type 0 where
   pub focal : ℕ
   pub cameras : List Camera
 
+-- how far from 0 a camera's place lies at most on each axis, in 1/256 texel
+abbrev pub most_place : ℕ
+most_place = 2147483648
+
+-- how far from 0 the cosine and the sine of a direction lie at most, in 1/16384
+abbrev pub most_direction : ℕ
+most_direction = 16384
+
 -- the greatest height over a texture, in 1/256 texel
 abbrev pub most_height : ℕ
 most_height = 16777216
 
 -- a camera's place, height and direction are within their limits
 pub record IsCamera (camera : Camera) : Type 0 where
-  pub u_low : negsuc 2147483647 ≤ℤ camera.u
-  pub u_high : camera.u ≤ℤ pos 2147483648
-  pub v_low : negsuc 2147483647 ≤ℤ camera.v
-  pub v_high : camera.v ≤ℤ pos 2147483648
+  pub u_low : neg_ℤ (pos most_place) ≤ℤ camera.u
+  pub u_high : camera.u ≤ℤ pos most_place
+  pub v_low : neg_ℤ (pos most_place) ≤ℤ camera.v
+  pub v_high : camera.v ≤ℤ pos most_place
   pub h_low : pos 1 ≤ℤ camera.h
   pub h_high : camera.h ≤ℤ pos most_height
-  pub c_low : negsuc 16383 ≤ℤ camera.c
-  pub c_high : camera.c ≤ℤ pos 16384
-  pub s_low : negsuc 16383 ≤ℤ camera.s
-  pub s_high : camera.s ≤ℤ pos 16384
+  pub c_low : neg_ℤ (pos most_direction) ≤ℤ camera.c
+  pub c_high : camera.c ≤ℤ pos most_direction
+  pub s_low : neg_ℤ (pos most_direction) ≤ℤ camera.s
+  pub s_high : camera.s ≤ℤ pos most_direction
 
 -- both sides of a picture are within their limits
 pub record ArePictureSides (width height : ℕ) : Type 0 where

@@ -1,13 +1,13 @@
 //! The text of a path, read.
 
-ghost use Rattle.std.specs.Prelude.{◌≡◌, ◌≢◌, ◌≤◌, ◌<◌, ◌+◌, ◌++◌, ◌⊎◌, ◌↔◌, ℕ, List, [], ◌∷◌, length, drop, slice_get, Some, None, MatchOption, MatchResult, IfOk, IfErr};
+ghost use Rattle.std.specs.Prelude.{◌≡◌, ◌≢◌, ◌≤◌, ◌+◌, ◌++◌, ◌⊎◌, ℕ, List, [], ◌∷◌, length, drop, slice_get, Some, None, MatchOption, MatchResult, IfOk, IfErr};
 ghost use Rattle.std.specs.Bool.{MatchBool};
 ghost use Rattle.vt_definitions.specs.Limits.{most_pictures};
 ghost use Rattle.vt_text.specs.Lines.{fields_of, lines_of};
 ghost use Rattle.vt_camera.specs.declared.paths.Camera.{Camera};
 ghost use Rattle.vt_camera.specs.declared.parse.PathError.{PathError};
 ghost use Rattle.vt_camera.specs.Paths.{PathView, IsCamera};
-ghost use Rattle.vt_camera.specs.PathText.{Key, IsKey, At, To, key_fields, size_fields, focal_fields, camera_fields, way_fields, IsPathText};
+ghost use Rattle.vt_camera.specs.PathText.{Key, IsKey, To, camera_fields, way_fields, IsPathText};
 ghost use Rattle.vt_camera.specs.Ways.{way};
 ghost use Rattle.vt_camera.specs.PathFlaws.{IsSizeLine, IsFocalLine, IsKeyLine, count_flaw, IsLineFlaw, IsFlawFrom, IsPathFlaw};
 ghost use Rattle.vt_camera.specs.PathReading.{IsNaturalAt, IsIntegerAt, AreNumbersAt, key_of, IsHead, IsLast, AddsKey, GivesPictures};
@@ -23,6 +23,15 @@ const MOST_PICTURE_SIDE: u32 = 2048;
 
 // The largest focal number.
 const MOST_FOCAL: u32 = 4096;
+
+// How far from 0 a camera's place may lie on each axis, in 1/256 texel.
+const MOST_PLACE: i64 = 2_147_483_648;
+
+// The greatest height over a texture, in 1/256 texel.
+const MOST_HEIGHT: i64 = 16_777_216;
+
+// How far from 0 the cosine and the sine of a direction may lie, in 1/16384.
+const MOST_DIRECTION: i64 = 16_384;
 
 // The largest number of pictures.
 const MOST_PICTURES: u32 = 9999;
@@ -136,11 +145,11 @@ fn camera_at(line: &[u8], i: usize) -> Option<Camera>
     ensures { MatchOption result ((camera : Camera) → IsCamera camera → ¬ AreNumbersAt line.now i camera)
         (λ camera. IsCamera camera × AreNumbersAt line.now i camera) }
 {
-    let u = integer_at(line, i, -2_147_483_648, 2_147_483_648)?;
-    let v = integer_at(line, i + 1, -2_147_483_648, 2_147_483_648)?;
-    let h = integer_at(line, i + 2, 1, 16_777_216)?;
-    let c = integer_at(line, i + 3, -16_384, 16_384)?;
-    let s = integer_at(line, i + 4, -16_384, 16_384)?;
+    let u = integer_at(line, i, -MOST_PLACE, MOST_PLACE)?;
+    let v = integer_at(line, i + 1, -MOST_PLACE, MOST_PLACE)?;
+    let h = integer_at(line, i + 2, 1, MOST_HEIGHT)?;
+    let c = integer_at(line, i + 3, -MOST_DIRECTION, MOST_DIRECTION)?;
+    let s = integer_at(line, i + 4, -MOST_DIRECTION, MOST_DIRECTION)?;
     Some(Camera { u, v, h, c, s })
 }
 

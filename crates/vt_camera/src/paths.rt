@@ -1,6 +1,6 @@
 //! A camera, and the path of cameras that a sequence of pictures is drawn along.
 
-ghost use Rattle.std.specs.Prelude.{◌≡◌, ◌<◌, ◌≤◌, length, slice_get, vec_len, All, Some};
+ghost use Rattle.std.specs.Prelude.{◌≡◌, ◌<◌, ◌≤◌, length, slice_get, Some};
 ghost use Rattle.vt_definitions.specs.Limits.{most_picture_side, most_focal, most_pictures};
 ghost use Rattle.vt_camera.specs.Paths.{IsCamera, IsPath};
 

@@ -1,10 +1,10 @@
 //! A row of a picture: its mip level, and the texel that each of its pixels shows.
 
-ghost use Rattle.std.specs.Prelude.{◌≡◌, ℕ, ◌+◌, ◌-◌, ◌*◌, ◌/◌, ◌%◌, ◌^◌, ◌<◌, ◌≤◌, ℤ, pos, negsuc, ◌+ℤ◌, ◌-ℤ◌, ◌*ℤ◌, ◌≤ℤ◌, ◌<ℤ◌, unsigned_abs};
+ghost use Rattle.std.specs.Prelude.{◌≡◌, ◌+◌, ◌-◌, ◌*◌, ◌/◌, ◌%◌, ◌^◌, ◌<◌, ◌≤◌, ℤ, pos, negsuc, neg_ℤ, ◌+ℤ◌, ◌-ℤ◌, ◌*ℤ◌, ◌≤ℤ◌, ◌<ℤ◌};
 ghost use Rattle.vt_definitions.specs.Limits.{most_picture_side, most_focal};
 ghost use Rattle.vt_definitions.specs.Sides.{side};
-ghost use Rattle.vt_camera.specs.Paths.{IsCamera, most_height};
-ghost use Rattle.vt_camera.specs.Rows.{longest_side, IsSurface, floor_div, ring_place, distance, span, level_within, off_middle, row_of, row_level, row_place};
+ghost use Rattle.vt_camera.specs.Paths.{IsCamera, most_direction, most_height, most_place};
+ghost use Rattle.vt_camera.specs.Rows.{longest_side, IsSurface, floor_div, distance, span, level_within, off_middle, row_of, row_level, row_place};
 ghost use Rattle.vt_camera.specs.RowParts.{whole_turns, middle_of, part_of, turn_at, on_ring, IsAxis};
 
 use crate::paths::{Camera, Path};
@@ -224,11 +224,11 @@ fn greatest_level(span: u64, last: u32) -> u32
 
 // Where a row's middle lies on one axis, whole turns further on.
 fn middle(place: i64, distance: u64, direction: i64, side: u32) -> i64
-    requires place_low { negsuc 2147483647 ≤ℤ place }
-    requires place_high { place ≤ℤ pos 2147483648 }
+    requires place_low { neg_ℤ (pos most_place) ≤ℤ place }
+    requires place_high { place ≤ℤ pos most_place }
     requires distance { distance ≤ most_height * most_focal }
-    requires direction_low { negsuc 16383 ≤ℤ direction }
-    requires direction_high { direction ≤ℤ pos 16384 }
+    requires direction_low { neg_ℤ (pos most_direction) ≤ℤ direction }
+    requires direction_high { direction ≤ℤ pos most_direction }
     requires side_low { 1 ≤ side }
     requires side_high { side ≤ longest_side }
     ensures value { result ≡ middle_of place distance direction side }
@@ -241,8 +241,8 @@ fn middle(place: i64, distance: u64, direction: i64, side: u32) -> i64
 // How far off along one axis the ground of a row lies.
 fn far_off(distance: u64, direction: i64) -> i64
     requires distance { distance ≤ most_height * most_focal }
-    requires direction_low { negsuc 16383 ≤ℤ direction }
-    requires direction_high { direction ≤ℤ pos 16384 }
+    requires direction_low { neg_ℤ (pos most_direction) ≤ℤ direction }
+    requires direction_high { direction ≤ℤ pos most_direction }
     ensures value { result ≡ floor_div (pos distance *ℤ direction) 16384 }
     ensures low { negsuc 68719476735 ≤ℤ result }
     ensures high { result ≤ℤ pos 68719476736 }
@@ -264,8 +264,8 @@ fn turns(side: u32) -> i64
 // How far a row goes along one axis in two pixels.
 fn scaled(span: u64, direction: i64) -> i64
     requires span { span ≤ most_height }
-    requires direction_low { negsuc 16383 ≤ℤ direction }
-    requires direction_high { direction ≤ℤ pos 16384 }
+    requires direction_low { neg_ℤ (pos most_direction) ≤ℤ direction }
+    requires direction_high { direction ≤ℤ pos most_direction }
     ensures value { result ≡ pos span *ℤ direction }
     ensures low { negsuc 274877906943 ≤ℤ result }
     ensures high { result ≤ℤ pos 274877906944 }

@@ -1,9 +1,9 @@
 //! The cameras on the way from one key of a path to the next.
 
-ghost use Rattle.std.specs.Prelude.{◌≡◌, ◌≤◌, ◌++◌, ℤ, pos, negsuc, ◌*ℤ◌, ◌≤ℤ◌, IfOk};
+ghost use Rattle.std.specs.Prelude.{◌≡◌, ◌≤◌, ◌++◌, ℤ, pos, negsuc, neg_ℤ, ◌*ℤ◌, IfOk};
 ghost use Rattle.vt_definitions.specs.Limits.{most_pictures};
 ghost use Rattle.vt_text.specs.Numbers.{IsWithin};
-ghost use Rattle.vt_camera.specs.Paths.{IsCamera};
+ghost use Rattle.vt_camera.specs.Paths.{IsCamera, most_place};
 ghost use Rattle.vt_camera.specs.Rows.{floor_div};
 ghost use Rattle.vt_camera.specs.Ways.{place_between, camera_on_way, way};
 
@@ -23,8 +23,8 @@ fn gone(distance: i64, i: u32, n: u32) -> i64
 
 // The number after step i of n on the way from a to b, rounded down. It keeps within all bounds that both a and b keep.
 fn between(a: i64, b: i64, i: u32, n: u32) -> i64
-    requires a_limits { IsWithin (negsuc 2147483647) (pos 2147483648) a }
-    requires b_limits { IsWithin (negsuc 2147483647) (pos 2147483648) b }
+    requires a_limits { IsWithin (neg_ℤ (pos most_place)) (pos most_place) a }
+    requires b_limits { IsWithin (neg_ℤ (pos most_place)) (pos most_place) b }
     requires some { 1 ≤ n }
     requires within { i ≤ n }
     requires few { n ≤ most_pictures }

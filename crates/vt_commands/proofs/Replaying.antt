@@ -4,7 +4,6 @@ use Rattle.std.specs.Prelude.{Result, OnSome, All}
 use Rattle.std.specs.Option.{option_map, IsSome, is_some, unwrap_or}
 use Rattle.std.proofs.lemmas.Bool.{false≢true}
 use Rattle.std.proofs.lemmas.List.{append-nil}
-use Rattle.std.proofs.lemmas.List.Elements.{All-weaker}
 use Rattle.vt_outside.specs.Counts.{Rose, added}
 use Rattle.vt_outside.specs.Files.{Files, Asked, bytes_at, with_places, gained}
 use Rattle.vt_outside.specs.declared.place.Place.{Place}
@@ -18,13 +17,13 @@ use Rattle.vt_files.specs.Courses.{FolderState, SinkState}
 use Rattle.vt_files.specs.Dues.{with_files, IsPart, FailsOnly, Puts}
 use Rattle.vt_files.proofs.Writing.{part_whole}
 use Rattle.vt_replay.specs.Flaws.{IsFirstRefused}
-use Rattle.vt_replay.specs.Playing.{IsTilePlace}
+use Rattle.vt_tiles.specs.Places.{IsTilePlace}
 use Rattle.vt_replay.specs.Outcomes.{HoldsReplay, HoldsPart, Stopped, Leaves, IsClosed}
 use Rattle.vt_replay.specs.declared.error.ReplayError.{ReplayError}
 use Rattle.vt_replay.specs.declared.error.ReplayError.TheVariants as replay
 use Rattle.vt_words.specs.Replay.{ReplayText}
 use Rattle.vt_inputs.specs.Lines.{end_line}
-use Rattle.vt_inputs.specs.Inputs.{Input, StoreInput, PathInput, PagedStore, JournalInput, PathContent, PagedContent, TextContent, IsOfTile, header_places}
+use Rattle.vt_inputs.specs.Inputs.{Input, StoreInput, PathInput, PagedStore, JournalInput, PathContent, PagedContent, TextContent, header_places}
 use Rattle.vt_inputs.specs.HeldInputs.{Holds}
 use Rattle.vt_inputs.specs.Causes.{AreHeld, IsAskedOrNot, AreAskedOrNot}
 use Rattle.vt_inputs.specs.Reads.{FileState, OpensStore, Closed, Took, Refused, IsCausedBy, IsAsked}
@@ -158,7 +157,7 @@ store_asked words shape depth file files f1 f2 mid after tiles o same some are c
     depth,
     tiles,
     subst (λ (told : Option (List ℕ)). IsStoreIfTold told shape depth) (o.bytes ∙ ap (λ (f : Option Files). bytes_at f words.store) same) o.is,
-    All-weaker (IsTilePlace shape depth) (IsOfTile shape depth) (λ place t. (t.page, t.inside, t.at, t.len)) tiles are,
+    are,
     refl,
   ),
   closed ∙ closed_places words.store file.name (header_places ++ tiles) mid (option_map (λ (old : List Place). old ++ tiles) file.asked)

@@ -1,6 +1,5 @@
 //! The commands: doing what the words ask for. A command is a file of its own and a line in each `match` here.
 
-ghost use Rattle.std.specs.Prelude.{◌≡◌};
 ghost use Rattle.vt_words.specs.Arguments.{texts};
 ghost use Rattle.vt_words.specs.Commands.{shown, IsLawful};
 ghost use Rattle.vt_files.specs.Courses.{course};

@@ -1,4 +1,4 @@
-ghost use Rattle.std.specs.Prelude.{◌≡◌, ℕ, ◌<◌, ◌≤◌};
+ghost use Rattle.std.specs.Prelude.{◌≡◌, ℕ, ◌≤◌};
 ghost use Rattle.vt_definitions.specs.Sides.{side, level_count, IsLevelCount};
 
 /// The number of levels is the least that ends with both sides at most the tile side.

@@ -1,7 +1,7 @@
 //! The steps of drawing a pixel: its wanted page, the page that serves it, and its word.
 
 ghost use Rattle.std.specs.Prelude.{◌≡◌, ◌<◌};
-ghost use Rattle.vt_pages.specs.Pages.{level_of, levels_of, pages_of, IsWithinLimits};
+ghost use Rattle.vt_pages.specs.Pages.{levels_of, pages_of, IsWithinLimits};
 ghost use Rattle.vt_draw.specs.Lookups.{Note, WordNote, IsFinest, covering_page, covering_place};
 
 use crate::lookups::{Found, Lookup};

@@ -1,6 +1,6 @@
 //! The pages that stand in the lines of wanted pages.
 
-ghost use Rattle.std.specs.Prelude.{◌≡◌, ◌+◌, ◌-◌, ◌<◌, true, false, not, [], ◌∷◌, ◌++◌, IfOk, IfSome, IfNone, OnOk, reverse};
+ghost use Rattle.std.specs.Prelude.{◌≡◌, ◌+◌, ◌<◌, false, not, [], ◌∷◌, ◌++◌, IfOk, IfSome, IfNone, OnOk, reverse};
 ghost use Rattle.std.specs.List.{filter, All};
 ghost use Rattle.vt_pages.specs.Pages.{IsWithinLimits, pages_of, line_of};
 ghost use Rattle.vt_feedback.specs.Wants.{pages_wanted};

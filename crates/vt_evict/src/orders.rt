@@ -1,6 +1,6 @@
 //! The order of the mapped pages.
 
-ghost use Rattle.std.specs.Prelude.{◌≡◌, ℕ, ◌-◌, ◌^◌, ◌<◌, ◌&&◌, true, false, OnOk, OnErr, not, nat_eq, [], ◌∷◌, length, slice_index};
+ghost use Rattle.std.specs.Prelude.{◌≡◌, ℕ, ◌-◌, ◌^◌, ◌<◌, true, false, OnOk, OnErr, not, nat_eq, [], ◌∷◌, length, slice_index};
 ghost use Rattle.std.specs.List.{filter};
 ghost use Rattle.std.specs.Map.{keys_of};
 ghost use Rattle.vt_evict.specs.Orders.{is_in, promoted_if, put_first as placed_first};

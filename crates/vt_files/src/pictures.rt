@@ -2,6 +2,7 @@
 
 ghost use Rattle.std.specs.Prelude.{◌≡◌, ◌*◌, ◌<◌, [], ◌∷◌, length, IfOk};
 ghost use Rattle.vt_definitions.specs.Depths.{IsDepth, texel_length};
+ghost use Rattle.vt_words.specs.Names.{four_digit_numbers};
 ghost use Rattle.vt_ppm.specs.Picture.{picture_bytes};
 ghost use Rattle.vt_files.specs.Courses.{passage};
 ghost use Rattle.vt_files.specs.Dues.{Writes};
@@ -36,7 +37,7 @@ pub fn write_picture<D: Folder>(
     number: u32,
     picture: &Picture,
 ) -> Result<(), OutsideError>
-    requires few { number < 10000 }
+    requires few { number < four_digit_numbers }
     requires depth { IsDepth picture.now.depth }
     requires full { length picture.now.samples.now ≡ texel_length picture.now.depth * (picture.now.width * picture.now.height) }
     ensures { Writes (picture_due prefix.now

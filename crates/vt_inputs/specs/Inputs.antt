@@ -14,11 +14,11 @@ use Rattle.vt_camera.specs.PathText.{IsPathText}
 use Rattle.vt_camera.specs.PathFlaws.{IsPathFlaw}
 use Rattle.vt_camera.specs.declared.parse.PathError.{PathError}
 use Rattle.vt_pages.specs.Shape.{Shape, shape_of}
-use Rattle.vt_pages.specs.Pages.{pages_of, refusal_of}
+use Rattle.vt_pages.specs.Pages.{refusal_of}
 use Rattle.vt_pages.specs.declared.PagesError.TheVariants as pages_error
-use Rattle.vt_tiles.specs.Format.{store_flaw, header_length, tile_start, tile_length}
+use Rattle.vt_tiles.specs.Format.{store_flaw, header_length}
 use Rattle.vt_tiles.specs.StoreViews.{IsStore, IsStoreIfTold}
-use Rattle.vt_tiles.specs.Places.{pieces_of, piece_place, piece_places}
+use Rattle.vt_tiles.specs.Places.{IsTilePlace, pieces_of, piece_place, piece_places}
 use Rattle.vt_ppm.specs.StripPlaces.{strips_of, strip_place, strip_places}
 use Rattle.vt_tiles.specs.declared.error.StoreError.{StoreError}
 use Rattle.vt_inputs.specs.Flaws.{flaw_of_path, flaw_of_texture, flaw_of_store}
@@ -147,15 +147,10 @@ abbrev pub AsksPieces : Option (List ℕ) → List Place → Type 0
 AsksPieces told places = AsksHeader told places
     ⊎ ((shape : Shape) × (pieces : List Place) × IfSome told (λ bytes. IsStore bytes shape 1) × ArePieces shape pieces × (places ≡ header_places ++ pieces))
 
--- the place is that of the tile of some page
-abbrev pub IsOfTile : Shape → ℕ → Place → Type 0
-IsOfTile shape depth place =
-    (page : ℕ) × (page < pages_of shape) × (place.at ≡ tile_start shape depth page) × (place.len ≡ tile_length shape depth)
-
 -- the header of a store may be asked, or the whole header and then tiles of its pages
 abbrev pub AsksTiles : Option (List ℕ) → List Place → Type 0
 AsksTiles told places = AsksHeader told places
-    ⊎ ((shape : Shape) × (depth : ℕ) × (tiles : List Place) × IsStoreIfTold told shape depth × All (IsOfTile shape depth) tiles
+    ⊎ ((shape : Shape) × (depth : ℕ) × (tiles : List Place) × IsStoreIfTold told shape depth × All (IsTilePlace shape depth) tiles
     × (places ≡ header_places ++ tiles))
 
 -- the places of a texture that was looked over, with what came of it: a front part that holds its header, and then, behind whatever places

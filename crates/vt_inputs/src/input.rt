@@ -4,7 +4,7 @@ ghost use Rattle.std.specs.Prelude.{◌≡◌, ℕ, ◌≤◌, ◌++◌, true, O
 ghost use Rattle.vt_definitions.specs.Depths.{IsDepth};
 ghost use Rattle.vt_outside.specs.Counts.{Rose};
 ghost use Rattle.vt_ppm.specs.Reads.{AreImagePlaces};
-ghost use Rattle.vt_ppm.specs.Strips.{HasRasterIfTold, IsTextureHeader, IsTextureIfTold};
+ghost use Rattle.vt_ppm.specs.Strips.{IsTextureHeader, IsTextureIfTold};
 ghost use Rattle.vt_tiles.specs.StoreViews.{IsStoreIfTold};
 ghost use Rattle.vt_files.specs.Courses.{passage};
 ghost use Rattle.vt_inputs.specs.Inputs.{

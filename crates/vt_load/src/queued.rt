@@ -1,6 +1,6 @@
 //! Loaders with their passes of the two queues, and how these are made of a pass and made one again.
 
-ghost use Rattle.std.specs.Prelude.{◌≡◌, ◌+◌, ◌*◌, ◌-◌, ◌/◌, ◌≤◌, ◌<◌, [], List, Option, length, map, reverse, All, ℕ};
+ghost use Rattle.std.specs.Prelude.{◌≡◌, ◌+◌, ◌/◌, ◌≤◌, [], List, Option, length, reverse, All, ℕ};
 ghost use Rattle.std.specs.List.{range_with_len};
 ghost use Rattle.vt_definitions.specs.Limits.{most_loaders};
 ghost use Rattle.vt_pages.specs.Shape.{Shape};

@@ -1,7 +1,7 @@
 //! The halving of a block of texels of two rows.
 
 ghost use Rattle.std.specs.Prelude.{◌≡◌, ℕ, ◌+◌, ◌*◌, ◌/◌, ◌%◌, ◌<◌, length, slice_index};
-ghost use Rattle.vt_definitions.specs.Depths.{IsDepth, sample_base};
+ghost use Rattle.vt_definitions.specs.Depths.{IsDepth};
 ghost use Rattle.vt_mip.specs.Halves.{AreBoxes, AreEveryOther, AreWideSamples, AreWords, IsHalvedRow};
 
 use crate::boxes::{box_of, narrow_box};

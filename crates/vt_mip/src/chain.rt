@@ -1,4 +1,4 @@
-ghost use Rattle.std.specs.Prelude.{◌≡◌, ◌+◌, ◌-◌, ◌*◌, ◌<◌, ◌≤◌, ◌↔◌, length, IfOk, OnOk, IsTrue, vec_len, slice_range};
+ghost use Rattle.std.specs.Prelude.{◌≡◌, ◌+◌, ◌*◌, ◌<◌, ◌≤◌, ◌↔◌, length, IfOk, OnOk, IsTrue, vec_len, slice_range};
 ghost use Rattle.vt_definitions.specs.Depths.{IsDepth, AreBytes};
 ghost use Rattle.vt_definitions.specs.Limits.{most_levels, most_read_side};
 ghost use Rattle.vt_definitions.specs.Tiles.{IsTileSide};

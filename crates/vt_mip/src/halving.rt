@@ -1,6 +1,6 @@
 //! The halving of rasters, whose samples have one byte or two.
 
-ghost use Rattle.std.specs.Prelude.{◌≡◌, ℕ, ◌+◌, ◌-◌, ◌*◌, ◌/◌, ◌<◌, ◌≤◌, length, IfOk, OnOk};
+ghost use Rattle.std.specs.Prelude.{◌≡◌, ◌+◌, ◌*◌, ◌/◌, ◌≤◌, length, IfOk, OnOk};
 ghost use Rattle.vt_definitions.specs.Depths.{IsDepth, AreBytes, texel_length};
 ghost use Rattle.vt_definitions.specs.Limits.{most_tiled_side};
 ghost use Rattle.vt_ppm.specs.Image.{IsLawfulImage};

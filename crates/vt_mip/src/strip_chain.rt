@@ -1,13 +1,13 @@
 //! The mip chain of a texture that is read by rows, so that it is never in memory as a whole.
 
-ghost use Rattle.std.specs.Prelude.{◌≡◌, ℕ, ◌+◌, ◌-◌, ◌*◌, ◌/◌, ◌<◌, ◌≤◌, ◌⊎◌, MatchBool, List, Some, true, length, vec_len, is_err, IsErr, IfOk, IfErr, IfSome, OnOk, OnErr};
-ghost use Rattle.vt_definitions.specs.Depths.{IsDepth, AreBytes, texel_length};
+ghost use Rattle.std.specs.Prelude.{◌≡◌, ℕ, ◌+◌, ◌*◌, ◌<◌, ◌≤◌, ◌⊎◌, MatchBool, List, Some, true, length, vec_len, is_err, IsErr, IfOk, IfErr, IfSome, OnOk, OnErr};
+ghost use Rattle.vt_definitions.specs.Depths.{IsDepth, AreBytes};
 ghost use Rattle.vt_definitions.specs.Limits.{most_levels, most_tiled_side};
 ghost use Rattle.vt_definitions.specs.Sides.{side, level_count};
 ghost use Rattle.vt_definitions.specs.Tiles.{IsTileSide};
 ghost use Rattle.vt_outside.specs.Counts.{Rose};
 ghost use Rattle.vt_ppm.specs.Format.{depth_of};
-ghost use Rattle.vt_ppm.specs.Strips.{IsTextureHeader, IsTextureIfTold, RowsAsked, row_length, rows_of};
+ghost use Rattle.vt_ppm.specs.Strips.{IsTextureIfTold, RowsAsked, row_length, rows_of};
 ghost use Rattle.vt_mip.specs.Chains.{IsTexelRow};
 ghost use Rattle.vt_mip.specs.StripChains.{HasWords, IsBelow, RowsRead, RowsFailed, first_under, rows_under, level_row_length, room_length, texture_texel};
 

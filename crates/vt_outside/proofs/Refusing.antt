@@ -1,5 +1,5 @@
 -- What is so of an answer where a call below it was refused, and of counts over several calls.
-use Rattle.std.proofs.Common.{◌≡◌, ℕ, ◌≤◌, Result, Ok, Err, IfOk, OnOk, OnErr, IfErr, IsErrAnd, sym, subst, arith}
+use Rattle.std.proofs.Common.{◌≡◌, ℕ, ◌≤◌, Result, Ok, Err, IfOk, OnOk, IfErr, IsErrAnd, sym, subst, arith}
 use Rattle.vt_outside.specs.Counts.{Rose}
 
 -- nothing is said of what was made
@@ -15,11 +15,6 @@ no_value (Err e) R P is = tt
 pub handed_on : {T E : Type 0} (q : Result T E) (e : E) (P : E → Type 0) → IsErrAnd q (λ x. x ≡ e) → P e → IfErr q P
 handed_on (Ok x) e P is so = tt
 handed_on (Err x) e P is so = subst P (sym is) so
-
--- what holds whatever the answer is, holds where it is an error
-pub always_err : {T E B : Type 0} (r : Result T E) → B → OnErr r B
-always_err (Ok x) b = tt
-always_err (Err e) b = b
 
 -- a rise after calls that lowered nothing is a rise over all of them
 pub rose_later : (a b c : ℕ) → a ≤ b → Rose b c → Rose a c

@@ -1,8 +1,7 @@
-ghost use Rattle.std.specs.Prelude.{◌≡◌, ◌≤◌, ℕ, List, ◌++◌, ◌/◌, ◌||◌, [], Some, true, false, length, take, IsTrue, is_some, is_ok, if◌then◌else◌, slice_get, is_none, IfOk, IfSome, IsErrOf, OnOk, OnErr};
+ghost use Rattle.std.specs.Prelude.{◌≡◌, ◌≤◌, ℕ, List, ◌/◌, ◌||◌, [], Some, false, length, take, IsTrue, is_some, is_ok, if◌then◌else◌, slice_get, is_none, IfOk, IsErrOf, OnOk, OnErr};
 ghost use Rattle.std.specs.Option.{option_copied, option_map};
 ghost use Rattle.vt_outside.specs.Counts.{added};
 ghost use Rattle.vt_outside.specs.FileMaps.{held_by};
-ghost use Rattle.vt_outside.specs.Fails.{is_listed};
 ghost use Rattle.vt_outside.specs.Files.{with_appended, with_bytes, with_places};
 ghost use Rattle.vt_outside.specs.Outcomes.{is_failed};
 

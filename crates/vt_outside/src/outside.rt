@@ -1,4 +1,4 @@
-ghost use Rattle.std.specs.Prelude.{◌≡◌, ℕ, ◌+◌, ◌≤◌, List, [], length, take, Option, Some, IsSome, is_some, is_err, option_map, if◌then◌else◌, IsErr, IsErrOf, IfOk, IfSome, OnOk, OnErr, OnSome};
+ghost use Rattle.std.specs.Prelude.{◌≡◌, ℕ, ◌+◌, ◌≤◌, List, [], length, take, Option, is_some, is_err, option_map, if◌then◌else◌, IsErr, IsErrOf, IfOk, IfSome, OnOk, OnErr, OnSome};
 ghost use Rattle.vt_outside.specs.Counts.{Rose, added};
 ghost use Rattle.vt_outside.specs.Files.{Files, Asked, IsPiece, TellsBytes, HasPlace, IsThere, noted, with_bytes, with_appended, with_places, bytes_at, gained};
 ghost use Rattle.vt_outside.specs.declared.place.Place.{Place};

@@ -1,5 +1,4 @@
-ghost use Rattle.std.specs.Prelude.{◌≡◌, ◌≤◌, None, is_err, IfOk, IsErrOf};
-ghost use Rattle.vt_outside.specs.Counts.{added};
+ghost use Rattle.std.specs.Prelude.{◌≡◌, ◌≤◌, None, is_err, IfOk};
 ghost use Rattle.vt_outside.specs.Outcomes.{raised_if};
 
 use crate::fails::next;

@@ -5,7 +5,7 @@
 //! page is the place of one tile. Pages are numbered from level 0 on, and within a level row by row.
 #![tactic(auto)]
 
-ghost use Rattle.std.specs.Prelude.{◌^◌, ◌≡◌, ℕ, ◌+◌, ◌-◌, ◌*◌, ◌/◌, ◌%◌, ◌<◌, ◌≤◌, ◌↔◌, ◌&&◌, IfOk, IfErr, IfSome, IsNone, OnOk};
+ghost use Rattle.std.specs.Prelude.{◌^◌, ◌≡◌, ℕ, ◌+◌, ◌/◌, ◌<◌, ◌≤◌, ◌↔◌, ◌&&◌, IfOk, IfErr, IfSome, IsNone, OnOk};
 ghost use Rattle.vt_definitions.specs.Sides.{side};
 ghost use Rattle.vt_pages.specs.Shape.{shape_of, is_texture_side};
 ghost use Rattle.vt_pages.specs.Pages.{IsPage, IsPageAt, IsWithinLimits, columns_at, rows_at, pages_below, index_at, index_of, name_at, level_of, levels_of, pages_of, parent_of, ancestor_of, texel_page, pinned_of, refusal_of};

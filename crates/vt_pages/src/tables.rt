@@ -1,8 +1,7 @@
 //! What a geometry computes once for all levels.
 
-ghost use Rattle.std.specs.Prelude.{◌≡◌, ◌+◌, ◌-◌, ◌*◌, ◌/◌, ◌^◌, ◌<◌, ◌≤◌, false, MatchOption};
+ghost use Rattle.std.specs.Prelude.{◌≡◌, ◌^◌, ◌<◌, ◌≤◌, false, MatchOption};
 ghost use Rattle.vt_definitions.specs.Limits.{most_tiled_side};
-ghost use Rattle.vt_definitions.specs.Sides.{side};
 ghost use Rattle.vt_definitions.specs.Tiles.{is_tile_side};
 ghost use Rattle.vt_pages.specs.Shape.{shape_of};
 ghost use Rattle.vt_pages.specs.Tables.{IsTabled, IsTileShift, IsFirstFit};

@@ -1,8 +1,7 @@
 //! The workers of a pass, at work at once.
 
-ghost use Rattle.std.specs.Prelude.{◌≡◌, ℕ, List, length};
 ghost use Rattle.std.specs.Thread.{IsSync, IsSend};
-ghost use Rattle.vt_pass.specs.Scenes.{Job, job_of};
+ghost use Rattle.vt_pass.specs.Scenes.{job_of};
 ghost use Rattle.vt_pass.specs.All.{AllReady, AllDid};
 
 use crate::task::Task;

@@ -3,7 +3,7 @@ ghost use Rattle.std.specs.Prelude.{◌≡◌, ◌*◌, ◌≤◌, length, take,
 ghost use Rattle.vt_definitions.specs.Depths.{IsDepth, texel_length};
 ghost use Rattle.vt_definitions.specs.Limits.{header_limit, most_tiled_side};
 ghost use Rattle.vt_ppm.specs.Flaws.{IsFlawUpTo, IsBrokenAt, AreImageSides, IsLawfulHeader};
-ghost use Rattle.vt_ppm.specs.Format.{IsMaximum, depth_of};
+ghost use Rattle.vt_ppm.specs.Format.{depth_of};
 ghost use Rattle.vt_ppm.specs.Header.{IsFirstHeader};
 ghost use Rattle.vt_ppm.specs.Refusals.{IsRasterRefusal};
 

@@ -8,9 +8,9 @@ use Rattle.vt_outside.specs.declared.outside.File.{Ghosts as FileMeanings}
 use Rattle.vt_pages.specs.Shape.{Shape}
 use Rattle.vt_pages.specs.Pages.{pages_of}
 use Rattle.vt_tiles.specs.Format.{tile_start, tile_length}
-use Rattle.vt_tiles.specs.Places.{TileAsked}
+use Rattle.vt_tiles.specs.Places.{IsTilePlace, TileAsked}
 use Rattle.vt_tiles.specs.StoreViews.{StoreView}
-use Rattle.vt_replay.specs.Playing.{IsTilePlace, AreTilesAsked, IsReadOn}
+use Rattle.vt_replay.specs.Playing.{AreTilesAsked, IsReadOn}
 
 asked_none : (s : Shape) (d : ℕ) (told : Option (List Place)) → AreTilesAsked s d told told
 asked_none s d told = record { places = []; are = All-nil (IsTilePlace s d); asked = same told }

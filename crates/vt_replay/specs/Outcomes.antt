@@ -9,7 +9,7 @@ use Rattle.vt_journal.specs.JournalText.{Pass, Content, journal_text}
 use Rattle.vt_journal.specs.JournalFlaws.{IsLawful}
 use Rattle.vt_files.specs.Dues.{with_files, IsPart}
 use Rattle.vt_replay.specs.Flaws.{IsFirstRefused}
-use Rattle.vt_replay.specs.Playing.{IsTilePlace}
+use Rattle.vt_tiles.specs.Places.{IsTilePlace}
 use Rattle.vt_replay.specs.Replayed.{pictures_of, replay_due}
 use Rattle.vt_replay.specs.declared.error.ReplayError.{ReplayError}
 use Rattle.vt_replay.specs.declared.error.ReplayError.TheVariants.{BadJournal, Failed, NoMemory}

@@ -12,19 +12,12 @@ use Rattle.vt_journal.specs.Changes.{at}
 use Rattle.vt_journal.specs.Lookups.{change_page}
 use Rattle.vt_journal.specs.Kept.{entries_of, change_frame}
 use Rattle.vt_journal.specs.JournalText.{Pass}
-use Rattle.vt_tiles.specs.Format.{tile_start, tile_length}
+use Rattle.vt_tiles.specs.Places.{IsTilePlace}
 use Rattle.vt_tiles.specs.StoreViews.{StoreView, IsStoreIfTold}
 use Rattle.vt_files.specs.Dues.{FileDue, with_files, IsPart}
 use Rattle.vt_replay.specs.Sights.{AreTiles}
 use Rattle.vt_outside.specs.Files.{Files}
 use Rattle.vt_outside.specs.declared.answers.OutsideError.{OutsideError}
-
--- the place of the tile of some page
-pub record IsTilePlace (s : Shape) (d : ℕ) (place : Place) : Type 0 where
-  pub page : ℕ
-  pub inside : page < pages_of s
-  pub at : place.at ≡ tile_start s d page
-  pub len : place.len ≡ tile_length s d
 
 -- tiles were asked, and nothing else
 pub record AreTilesAsked (s : Shape) (d : ℕ) (before after : Option (List Place)) : Type 0 where

@@ -1,6 +1,6 @@
 //! The look-up over a page table and a set of tiles.
 
-ghost use Rattle.std.specs.Prelude.{◌≡◌, ℕ, ◌+◌, ◌-◌, ◌*◌, ◌%◌, ◌<◌, ◌≤◌, false, List, length, IsSome};
+ghost use Rattle.std.specs.Prelude.{◌≡◌, ℕ, ◌*◌, ◌<◌, false, length, IsSome};
 ghost use Rattle.vt_definitions.specs.Depths.{IsDepth, word_at};
 ghost use Rattle.vt_pages.specs.Pages.{pages_of, root_of};
 ghost use Rattle.vt_draw.specs.Lookups.{place_in_tile};

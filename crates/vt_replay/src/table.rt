@@ -1,8 +1,7 @@
 //! A page table that follows a journal, change by change.
 
-ghost use Rattle.std.specs.Prelude.{◌≡◌, ℕ, ◌<◌, ◌≤◌, length, None, IfOk};
+ghost use Rattle.std.specs.Prelude.{◌≡◌, ◌<◌, ◌≤◌, length, None, IfOk};
 ghost use Rattle.vt_definitions.specs.Limits.{most_frames};
-ghost use Rattle.vt_pages.specs.Pages.{pages_of};
 ghost use Rattle.vt_journal.specs.Changes.{with_entry, changed};
 ghost use Rattle.vt_journal.specs.Lookups.{change_page};
 ghost use Rattle.vt_journal.specs.Kept.{entries_of, change_frame};

@@ -1,6 +1,6 @@
 //! A bounded set of tiles: each is read from the store when a row first needs it, in the room of the one that was used longest ago.
 
-ghost use Rattle.std.specs.Prelude.{◌≡◌, ◌≢◌, ℕ, ◌+◌, ◌*◌, ◌<◌, ◌≤◌, ◌^◌, List, Option, Some, length, IfSome, IfOk, OnOk, IsErr, MatchOption};
+ghost use Rattle.std.specs.Prelude.{◌≡◌, ◌≢◌, ℕ, ◌+◌, ◌*◌, ◌<◌, ◌≤◌, ◌^◌, List, Option, Some, length, IfSome, IfOk, OnOk, MatchOption};
 ghost use Rattle.vt_definitions.specs.Limits.{most_frame_texels};
 ghost use Rattle.vt_definitions.specs.Depths.{IsDepth};
 ghost use Rattle.vt_outside.specs.Counts.{Rose};

@@ -1,6 +1,6 @@
 //! Results that are applied to a page table, in the order in which they came.
 
-ghost use Rattle.std.specs.Prelude.{◌≡◌, ◌≢◌, ℕ, ◌+◌, ◌*◌, ◌<◌, ◌≤◌, [], List, Option, length, All};
+ghost use Rattle.std.specs.Prelude.{◌≡◌, ◌≢◌, ℕ, ◌+◌, ◌*◌, ◌≤◌, [], List, Option, length, All};
 ghost use Rattle.std.specs.List.{AllPairs};
 ghost use Rattle.vt_journal.specs.Changes.{newest};
 ghost use Rattle.vt_table.specs.Views.{IsTable, IsTile};

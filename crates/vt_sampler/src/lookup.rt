@@ -1,8 +1,7 @@
 //! The look-up over a page table that changes only between draws.
 
-ghost use Rattle.std.specs.Prelude.{◌≡◌, ℕ, ◌+◌, ◌-◌, ◌*◌, ◌%◌, ◌<◌, ◌≤◌, ◌^◌, Some, None, bit_and, length, IfSome, IfNone};
-ghost use Rattle.vt_pages.specs.Shape.{Shape, tile_exponent};
-ghost use Rattle.vt_pages.specs.Pages.{pages_of, index_of, IsPage, IsWithinLimits};
+ghost use Rattle.std.specs.Prelude.{◌≡◌, ◌*◌, ◌<◌, Some, None, length, IfSome, IfNone};
+ghost use Rattle.vt_pages.specs.Pages.{pages_of, index_of, IsPage};
 ghost use Rattle.vt_journal.specs.Changes.{newest};
 ghost use Rattle.vt_draw.specs.Lookups.{IsFinest, place_in_tile};
 ghost use Rattle.vt_table.specs.Views.{TableView, IsMapped, word_in};

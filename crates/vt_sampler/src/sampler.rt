@@ -1,9 +1,8 @@
 //! A sampler, which draws its share of the rows of a picture.
 
-ghost use Rattle.std.specs.Prelude.{◌≡◌, ℕ, ◌+◌, ◌-◌, ◌*◌, ◌/◌, ◌%◌, ◌<◌, ◌≤◌, ◌^◌, length, slice_index, IfOk};
+ghost use Rattle.std.specs.Prelude.{◌≡◌, ℕ, ◌<◌, ◌≤◌, length, slice_index, IfOk};
 ghost use Rattle.vt_definitions.specs.Limits.{most_samplers};
-ghost use Rattle.vt_definitions.specs.Depths.{IsDepth, texel_length};
-ghost use Rattle.vt_pages.specs.Pages.{pages_of};
+ghost use Rattle.vt_definitions.specs.Depths.{IsDepth};
 ghost use Rattle.vt_draw.specs.Shots.{shot_row, AreDrawn};
 ghost use Rattle.vt_sampler.specs.Notes.{IsTrueOf, MapsRoot};
 ghost use Rattle.vt_sampler.specs.Samplers.{SamplerView, IsOwn, IsFor, IsSampler, own_rows, pixels_in_rows, row_length, row_at, version_at};

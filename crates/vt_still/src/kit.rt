@@ -1,6 +1,6 @@
 //! What a pass over a still table is done with.
 
-ghost use Rattle.std.specs.Prelude.{◌≡◌, ℕ, ◌+◌, ◌*◌, ◌^◌, ◌<◌, ◌≤◌, OnOk, List, [], length, slice_get, slice_index, slice_index_or, Some, IfOk, IfErr, true, All};
+ghost use Rattle.std.specs.Prelude.{◌≡◌, ℕ, ◌^◌, ◌<◌, ◌≤◌, OnOk, List, [], length, slice_index, slice_index_or, IfOk, IfErr, true, All};
 ghost use Rattle.std.specs.List.{concat};
 ghost use Rattle.vt_definitions.specs.Limits.{most_samplers, most_entries};
 ghost use Rattle.vt_definitions.specs.Depths.{IsDepth};

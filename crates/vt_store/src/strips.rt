@@ -1,7 +1,6 @@
 //! Writing the store of a texture that is read by strips, so that it is never in memory as a whole.
-ghost use Rattle.std.specs.Prelude.{◌≡◌, ℕ, ◌+◌, ◌-◌, ◌*◌, ◌/◌, ◌<◌, ◌≤◌, ◌⊎◌, true, false, List, Option, Some, length, IfOk, IfErr, OnOk, OnErr, IsErrOf};
+ghost use Rattle.std.specs.Prelude.{◌≡◌, ℕ, ◌+◌, ◌*◌, ◌<◌, ◌≤◌, ◌⊎◌, true, false, List, Option, Some, length, IfOk, IfErr, OnOk, OnErr, IsErrOf};
 ghost use Rattle.vt_definitions.specs.Depths.{IsDepth, texel_length};
-ghost use Rattle.vt_definitions.specs.Sides.{side};
 ghost use Rattle.vt_outside.specs.Counts.{Rose};
 ghost use Rattle.vt_outside.specs.Files.{Files, IsThere};
 ghost use Rattle.vt_ppm.specs.Format.{depth_of};

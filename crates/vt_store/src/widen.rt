@@ -1,5 +1,5 @@
 //! Making a store of two-byte samples of one of one-byte samples.
-ghost use Rattle.std.specs.Prelude.{◌≡◌, ℕ, ◌+◌, ◌-◌, ◌*◌, ◌<◌, ◌≤◌, ◌⊎◌, true, false, List, length, min, vec_len, IfOk, IfErr, OnOk, OnErr, IsErrOf};
+ghost use Rattle.std.specs.Prelude.{◌≡◌, ℕ, ◌+◌, ◌*◌, ◌≤◌, ◌⊎◌, true, false, List, length, IfOk, IfErr, OnOk, OnErr, IsErrOf};
 ghost use Rattle.vt_definitions.specs.Limits.{most_tile_side};
 ghost use Rattle.vt_outside.specs.Counts.{Rose};
 ghost use Rattle.vt_outside.specs.Files.{IsPiece, IsThere};

@@ -1,7 +1,7 @@
 -- What a table keeps after each of its calls.
 use Rattle.std.proofs.Common.{◌≡◌, ◌≢◌, ℕ, ◌+◌, ◌*◌, ◌≤◌, ◌<◌, inl, inr, Some, None, List, [], ◌∷◌, ◌++◌, length, get_or, set, refl, sym, ap, ◌∙◌, subst, arith, length-set, get_or-set_other, get_or-set_same}
 use Rattle.std.proofs.lemmas.Nat.{mul-le}
-use Rattle.vt_definitions.specs.Limits.{most_frames}
+use Rattle.vt_definitions.specs.Limits.{most_frames, most_frame_texels}
 use Rattle.vt_definitions.specs.Depths.{texel_length}
 use Rattle.std.specs.Prelude.{slice_range}
 use Rattle.vt_pages.specs.Shape.{Shape}
@@ -194,7 +194,7 @@ entries_none = entries_zero
 -- a new table
 pub kept_new : (s : Shape) (js : List Change) (n room frames : ℕ) (entries bytes depths owners : List ℕ)
     → IsWithinLimits s → js ≡ [] → 1 ≤ frames → frames ≤ most_frames
-    → room ≡ room_of s.tile → frames * room ≤ 50331648 → length entries ≡ pages_of s → ((k : ℕ) → get_or entries k 0 ≡ 0)
+    → room ≡ room_of s.tile → frames * room ≤ 6 * most_frame_texels → length entries ≡ pages_of s → ((k : ℕ) → get_or entries k 0 ≡ 0)
     → length bytes ≡ frames * room → length depths ≡ frames → ((k : ℕ) → k < frames → get_or depths k 0 ≡ 1) → length owners ≡ frames
     → IsKept (view_of s js n bytes depths owners) room entries bytes depths
 kept_new s js n room frames entries bytes depths owners limits empty some few is small all_entries zeros all_bytes all_depths ones all_owners = record {

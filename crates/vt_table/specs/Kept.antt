@@ -2,6 +2,7 @@
 use Rattle.std.specs.Prelude.{◌≡◌, ℕ, ◌+◌, ◌*◌, ◌<◌, ◌≤◌, List, length, map, slice_index, slice_range}
 use Rattle.std.specs.List.{range_with_len}
 use Rattle.vt_definitions.specs.Depths.{texel_length}
+use Rattle.vt_definitions.specs.Limits.{most_frame_texels}
 use Rattle.vt_pages.specs.Shape.{Shape}
 use Rattle.vt_pages.specs.Pages.{pages_of}
 use Rattle.vt_journal.specs.declared.changes.Change.{Change}
@@ -36,7 +37,7 @@ view_of s changes spare bytes depths owners = record {
 pub record IsKept (v : TableView) (room : ℕ) (entries bytes depths : List ℕ) : Type 0 where
   pub table : IsTable v
   pub room_is : room ≡ room_of v.shape.tile
-  pub few_bytes : v.frames * room ≤ 50331648
+  pub few_bytes : v.frames * room ≤ 6 * most_frame_texels
   pub all_entries : length entries ≡ pages_of v.shape
   pub agrees : entries_of entries ≡ newest v.changes
   pub all_bytes : length bytes ≡ v.frames * room

@@ -1,6 +1,6 @@
 //! The steps of a table, on what it keeps.
 
-ghost use Rattle.std.specs.Prelude.{◌≡◌, ◌≢◌, ℕ, ◌+◌, ◌*◌, ◌<◌, ◌≤◌, ◌^◌, length, slice_index, slice_range};
+ghost use Rattle.std.specs.Prelude.{◌≡◌, ◌≢◌, ℕ, ◌+◌, ◌<◌, ◌≤◌, length, slice_range};
 ghost use Rattle.vt_definitions.specs.Limits.{most_frames};
 ghost use Rattle.vt_journal.specs.Changes.{changed};
 ghost use Rattle.vt_journal.specs.Lookups.{change_page};

@@ -1,6 +1,6 @@
 //! The page table and the tiles of its frames.
 
-ghost use Rattle.std.specs.Prelude.{◌≡◌, ◌≢◌, ℕ, ◌+◌, ◌*◌, ◌<◌, ◌≤◌, Some, List, [], ◌∷◌, ◌++◌, length, IfOk, OnOk, OnErr};
+ghost use Rattle.std.specs.Prelude.{◌≡◌, ◌≢◌, ℕ, ◌+◌, ◌*◌, ◌<◌, ◌≤◌, Some, [], ◌∷◌, ◌++◌, length, IfOk, OnOk, OnErr};
 ghost use Rattle.vt_definitions.specs.Limits.{most_frames, most_frame_texels, most_versions};
 ghost use Rattle.vt_definitions.specs.Depths.{IsDepth, texel_length};
 ghost use Rattle.vt_pages.specs.Pages.{pages_of};

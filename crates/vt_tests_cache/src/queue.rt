@@ -1,6 +1,5 @@
 //! Queues of two places, alone and between two threads.
 
-ghost use Rattle.std.specs.Prelude.{◌≡◌, IfOk};
 ghost use Rattle.std.specs.Thread.{IsSync};
 ghost use Rattle.vt_queue.specs.Queues.{IsOf};
 

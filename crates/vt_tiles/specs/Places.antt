@@ -28,6 +28,13 @@ OpenerAsks told (Some _) before after = AsksHeader told false before after
 abbrev pub TilesAsked : Shape → ℕ → ℕ → ℕ → Bool → Option (List Place) → Option (List Place) → Type 0
 TilesAsked s d first count failed before after = after ≡ option_map (noted (tile_start s d first) (count * tile_length s d) failed) before
 
+-- the place is that of the tile of some page
+pub record IsTilePlace (s : Shape) (d : ℕ) (place : Place) : Type 0 where
+  pub page : ℕ
+  pub inside : page < pages_of s
+  pub at : place.at ≡ tile_start s d page
+  pub len : place.len ≡ tile_length s d
+
 -- one place more was asked: that of a page's tile
 abbrev pub TileAsked : Shape → ℕ → ℕ → Bool → Option (List Place) → Option (List Place) → Type 0
 TileAsked s d page failed before after = after ≡ option_map (noted (tile_start s d page) (tile_length s d) failed) before

@@ -1,5 +1,5 @@
 //! The header of a store.
-ghost use Rattle.std.specs.Prelude.{◌≡◌, ◌+◌, ◌*◌, ◌<◌, ◌≤◌, false, None, Some, IfOk, IfErr, OnOk, MatchOption, length, min, take, bytes_eq};
+ghost use Rattle.std.specs.Prelude.{◌≡◌, ◌+◌, ◌*◌, ◌≤◌, false, None, Some, IfOk, IfErr, OnOk, MatchOption, length, min, take, bytes_eq};
 ghost use Rattle.vt_definitions.specs.Depths.{IsDepth};
 ghost use Rattle.vt_definitions.specs.Limits.{most_tile_side};
 ghost use Rattle.vt_definitions.specs.Numbers.{number_from};

@@ -1,6 +1,6 @@
 //! The steps of one pass.
 
-ghost use Rattle.std.specs.Prelude.{◌≡◌, ◌⊎◌, ℕ, ◌+◌, ◌≤◌, ◌<◌, take, length, slice_index, All, IfOk, OnOk, OnErr, IsErrOf, option_map};
+ghost use Rattle.std.specs.Prelude.{◌≡◌, ◌⊎◌, ℕ, ◌+◌, ◌≤◌, take, length, slice_index, All, IfOk, OnOk, OnErr, IsErrOf, option_map};
 ghost use Rattle.vt_definitions.specs.Limits.{most_versions};
 ghost use Rattle.vt_outside.specs.Counts.{Rose};
 ghost use Rattle.vt_outside.specs.Files.{with_appended, IsThere};

@@ -1,13 +1,13 @@
 //! What is written of a finished picture, and the last line.
 
-ghost use Rattle.std.specs.Prelude.{◌≡◌, ◌⊎◌, ℕ, ◌+◌, ◌*◌, ◌<◌, ◌≤◌, ◌++◌, take, length, All, IfOk, OnOk, OnErr, IsErrOf, option_map};
+ghost use Rattle.std.specs.Prelude.{◌≡◌, ◌⊎◌, ℕ, ◌+◌, ◌<◌, ◌≤◌, ◌++◌, take, length, All, OnOk, OnErr, IsErrOf, option_map};
 ghost use Rattle.std.specs.List.{concat};
-ghost use Rattle.vt_definitions.specs.Depths.{IsDepth, texel_length};
+ghost use Rattle.vt_definitions.specs.Depths.{IsDepth};
 ghost use Rattle.vt_outside.specs.Counts.{Rose};
 ghost use Rattle.vt_outside.specs.Files.{with_bytes, gained};
 ghost use Rattle.vt_text.specs.Numbers.{number_spelling};
 ghost use Rattle.vt_ppm.specs.Picture.{picture_bytes};
-ghost use Rattle.vt_words.specs.Names.{picture_name};
+ghost use Rattle.vt_words.specs.Names.{four_digit_numbers, picture_name};
 ghost use Rattle.vt_shown.specs.Replays.{IsFull};
 ghost use Rattle.vt_walk.specs.Logs.{end_line};
 ghost use Rattle.vt_walk.specs.Tallies.{numbers_line};
@@ -38,7 +38,7 @@ pub fn write_picture<D: Folder, M: PassMachine>(
     requires depth { IsDepth depth }
     requires count { length (M.state machine.now).rows ≡ path.now.height }
     requires full { All (IsFull depth path.now.width) (M.state machine.now).rows }
-    requires few { picture < 10000 }
+    requires few { picture < four_digit_numbers }
     ensures whole { OnOk result (D.files folder.new ≡ option_map (with_bytes (picture_name prefix.now picture)
         (picture_bytes depth path.now.width path.now.height (concat (M.state machine.now).rows))) (D.files folder.old)) }
     ensures part { OnErr result ((D.files folder.new ≡ D.files folder.old)

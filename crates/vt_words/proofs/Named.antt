@@ -6,7 +6,7 @@ use Rattle.std.proofs.lemmas.Bool.{false≢true}
 use Rattle.std.proofs.lemmas.Bool.Decides.{Decides-eqb}
 use Rattle.std.proofs.lemmas.Slice.Eq.{bytes_eq-Decides, starts_is}
 use Rattle.std.specs.Prelude.{codes}
-use Rattle.vt_words.specs.Names.{four_digits, picture_name, is_digit, is_picture_ending, is_picture_name}
+use Rattle.vt_words.specs.Names.{four_digit_numbers, four_digits, picture_name, is_digit, is_picture_ending, is_picture_name}
 use Rattle.vt_words.proofs.Truths.{both_true, each_true, le_test, le_tested}
 
 digit_known : (n : ℕ) → is_digit (48 + n % 10) ≡ true
@@ -32,7 +32,7 @@ abbrev number_in : ℕ → ℕ → ℕ → ℕ → ℕ
 number_in a b c d = 1000 * (a - 48) + 100 * (b - 48) + 10 * (c - 48) + (d - 48)
 
 digits_written : (a b c d : ℕ) → (48 ≤ a) × (a ≤ 57) → (48 ≤ b) × (b ≤ 57) → (48 ≤ c) × (c ≤ 57) → (48 ≤ d) × (d ≤ 57)
-    → (number_in a b c d < 10000) × (a ∷ b ∷ c ∷ d ∷ [] ≡ four_digits (number_in a b c d))
+    → (number_in a b c d < four_digit_numbers) × (a ∷ b ∷ c ∷ d ∷ [] ≡ four_digits (number_in a b c d))
 digits_written a b c d p q r s =
     let n = number_in a b c d in
     let ea : a ≡ 48 + n / 1000 % 10 = omega arith in
@@ -41,7 +41,7 @@ digits_written a b c d p q r s =
     let ed : d ≡ 48 + n % 10 = omega arith in
     (omega arith, cc)
 
-ending_found : (e : List ℕ) → is_picture_ending e ≡ true → (n : ℕ) × (n < 10000) × (e ≡ four_digits n ++ codes ".ppm")
+ending_found : (e : List ℕ) → is_picture_ending e ≡ true → (n : ℕ) × (n < four_digit_numbers) × (e ≡ four_digits n ++ codes ".ppm")
 ending_found [] h = absurd (false≢true h)
 ending_found (a ∷ []) h = absurd (false≢true h)
 ending_found (a ∷ b ∷ []) h = absurd (false≢true h)
@@ -55,7 +55,7 @@ ending_found (a ∷ b ∷ c ∷ d ∷ rest) h =
     let ppm = (bytes_eq-Decides rest (codes ".ppm")).0 t.1 in
     (number_in a b c d, is.0, ap (λ (r : List ℕ). a ∷ b ∷ c ∷ d ∷ r) ppm ∙ ap (λ (ds : List ℕ). ds ++ codes ".ppm") is.1)
 
-pub name_found : (prefix name : List ℕ) → is_picture_name prefix name ≡ true → (n : ℕ) × (n < 10000) × (name ≡ picture_name prefix n)
+pub name_found : (prefix name : List ℕ) → is_picture_name prefix name ≡ true → (n : ℕ) × (n < four_digit_numbers) × (name ≡ picture_name prefix n)
 name_found prefix name h =
     let t = each_true _ _ h in
     let begins = (starts_is Decides-eqb name prefix _ refl).0 t.0 in

@@ -3,7 +3,11 @@ use Rattle.std.specs.Prelude.{ℕ, ◌+◌, ◌/◌, ◌%◌, List, [], ◌∷�
 use Rattle.std.specs.List.{starts_with}
 use Rattle.std.specs.Str.{bytes_eq}
 
--- a number below ten thousand in four digits
+-- how many numbers four digits spell
+abbrev pub four_digit_numbers : ℕ
+four_digit_numbers = 10000
+
+-- a number below that in four digits
 abbrev pub four_digits : ℕ → List ℕ
 four_digits n = (48 + n / 1000 % 10) ∷ (48 + n / 100 % 10) ∷ (48 + n / 10 % 10) ∷ (48 + n % 10) ∷ []
 

@@ -2,7 +2,7 @@
 
 ghost use Rattle.std.specs.Prelude.{◌≡◌, ◌<◌, ◌+◌, ◌++◌, ◌∷◌, [], OnOk, IfOk, string_bytes};
 ghost use Rattle.vt_words.specs.Journals.{names_clash};
-ghost use Rattle.vt_words.specs.Names.{four_digits, picture_name, is_picture_name, is_picture_ending, is_digit};
+ghost use Rattle.vt_words.specs.Names.{four_digit_numbers, picture_name, is_picture_name, is_picture_ending, is_digit};
 
 use std::alloc::{AllocError, Global};
 
@@ -49,7 +49,7 @@ fn is_digit(byte: u8) -> bool
 
 /// The name of a picture: the prefix, its number, which is below ten thousand, in four digits, and `.ppm`.
 pub fn picture_name(alloc: Global, prefix: &str, picture: u32) -> Result<String, AllocError>
-    requires { picture < 10000 }
+    requires { picture < four_digit_numbers }
     ensures { IfOk result (λ name. string_bytes name ≡ picture_name prefix.now picture) }
 {
     let mut name = String::from_str(alloc, prefix)?;

@@ -3,6 +3,7 @@
 ghost use Rattle.std.specs.Prelude.{◌≡◌, ◌<◌, ◌≤◌, [], length, is_some, option_map, IfOk, OnSome};
 ghost use Rattle.vt_outside.specs.Files.{bytes_at};
 ghost use Rattle.vt_words.specs.Gen.{most_number};
+ghost use Rattle.vt_words.specs.Names.{four_digit_numbers};
 ghost use Rattle.vt_words.specs.Trial.{IsLawfulTrial, shown_trial};
 ghost use Rattle.vt_camera.specs.PathText.{IsPathText};
 ghost use Rattle.vt_pages.specs.Shape.{shape_of};
@@ -316,7 +317,7 @@ fn picture_differing(
 ) -> Result<u64, OutsideError>
     requires depth { chain.now.base.depth ≡ 1 }
     requires picture { picture < length path.now.cameras }
-    requires few { picture < 10000 }
+    requires few { picture < four_digit_numbers }
 {
     let samples = draw_plain(alloc, chain, path, picture)?;
     let plain = encode(alloc, path.width(), path.height(), &samples)?;

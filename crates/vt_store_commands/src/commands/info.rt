@@ -1,6 +1,5 @@
 //! The command `info`: what the header of a tile store tells.
 
-ghost use Rattle.std.specs.Prelude.{◌≡◌};
 ghost use Rattle.vt_files.specs.Courses.{course};
 ghost use Rattle.vt_words.specs.Info.{shown_info};
 ghost use Rattle.vt_inputs.specs.Tasks.{Ends};

@@ -3,6 +3,7 @@
 ghost use Rattle.std.specs.Prelude.{◌<◌, [], ◌∷◌, length};
 ghost use Rattle.vt_definitions.specs.Tiles.{IsTileSide};
 ghost use Rattle.vt_files.specs.Courses.{course, passage};
+ghost use Rattle.vt_words.specs.Names.{four_digit_numbers};
 ghost use Rattle.vt_words.specs.Plain.{shown_plain};
 ghost use Rattle.vt_store_commands.specs.Pictures.{plain_file};
 ghost use Rattle.vt_files.specs.Dues.{Leaves, Writes};
@@ -82,7 +83,7 @@ fn write_picture<D: Folder>(
     folder: &mut D,
 ) -> Result<(), OutsideError>
     requires picture { picture < length path.now.cameras }
-    requires few { picture < 10000 }
+    requires few { picture < four_digit_numbers }
     ensures { Writes (picture_due prefix.now (plain_file chain.now.base chain.now.tile path.now) picture ∷ [])
         (passage D.Folder folder.old folder.new) result }
 {

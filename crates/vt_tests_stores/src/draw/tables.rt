@@ -1,6 +1,6 @@
 //! A look-up over the chain of a texture of 4x4 texels whose texel (x, y) is 4y+x in each channel, in tiles of side 2.
 
-ghost use Rattle.std.specs.Prelude.{◌≡◌, ℕ, ◌+◌, ◌<◌, ◌≤◌, max};
+ghost use Rattle.std.specs.Prelude.{◌≡◌, ◌+◌, ◌<◌, ◌≤◌, max};
 ghost use Rattle.vt_pages.specs.Pages.{level_of, levels_of};
 
 use vt_draw::{Found, Lookup};

@@ -1,6 +1,6 @@
 //! The passes of worked walks: what they are prepared for, and what is to come of them.
 
-ghost use Rattle.std.specs.Prelude.{◌≡◌, ◌≤◌, length, IsSome, IfSome};
+ghost use Rattle.std.specs.Prelude.{◌≤◌, length, IsSome, IfSome};
 ghost use Rattle.std.specs.Bool.{MatchBool};
 ghost use Rattle.vt_pages.specs.Pages.{root_of};
 ghost use Rattle.vt_journal.specs.Changes.{newest};

@@ -1,6 +1,6 @@
 //! Whether a batch may be streamed, by the journal of a page table.
 
-ghost use Rattle.std.specs.Prelude.{◌≡◌, ◌≢◌, ◌<◌, ℕ, Some, None, All, AllPairs, MatchOption};
+ghost use Rattle.std.specs.Prelude.{◌≡◌, ◌≢◌, ◌<◌, All, AllPairs, MatchOption};
 ghost use Rattle.std.specs.Bool.{MatchBool};
 ghost use Rattle.vt_pages.specs.Pages.{pages_of, root_of};
 ghost use Rattle.vt_journal.specs.Changes.{Table as Entries, changed, newest, IsFree};

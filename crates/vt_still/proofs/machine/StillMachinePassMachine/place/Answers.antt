@@ -1,5 +1,6 @@
 use Rattle.std.proofs.Common.{◌≡◌, ◌<◌, None, ap, ◌∙◌, sym, subst, arith}
-use Rattle.vt_outside.proofs.Refusing.{none_made, always_err}
+use Rattle.vt_outside.proofs.Refusing.{none_made}
+use Rattle.vt_outside.proofs.Untold.{OnErr-all}
 use Rattle.vt_pages.specs.Shape.{Shape}
 use Rattle.vt_pages.specs.Pages.{pages_of}
 use Rattle.vt_journal.specs.Changes.{newest, IsFree}
@@ -46,7 +47,7 @@ returns-in_err-reserve g c =
     let rest = c.reserve.ensures.rest in
     record {
       placed = none_made c.from_residual.result _ _ c.from_residual.ensures.1;
-      refused = always_err c.from_residual.result (reserved_state g.F.File u c.reserve.new.self c.self.inside.kit rest
+      refused = OnErr-all c.from_residual.result _ (reserved_state g.F.File u c.reserve.new.self c.self.inside.kit rest
           ∙ ap (λ (m : StillView _). kit_state g.F.File m.table m.kit) c.self.view_is);
       idle = idle_reserved g.F.File u c.reserve.new.self c.self.inside.kit rest
           (subst (λ (m : StillView _). IsIdleKit g.F.File m.table m.kit) (sym c.self.view_is) c.requires.idle);

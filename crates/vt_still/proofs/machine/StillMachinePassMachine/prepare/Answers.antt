@@ -1,5 +1,6 @@
 use Rattle.std.proofs.Common.{sym, subst}
-use Rattle.vt_outside.proofs.Refusing.{always_err, none_made}
+use Rattle.vt_outside.proofs.Refusing.{none_made}
+use Rattle.vt_outside.proofs.Untold.{OnErr-all}
 use Rattle.vt_pages.specs.Shape.{Shape}
 use Rattle.vt_journal.specs.Changes.{newest}
 use Rattle.vt_pass.specs.Outcomes.{IsBatchFor}
@@ -39,7 +40,7 @@ pub returns-in_err-prepare : goal.returns-in_err-prepare
 returns-in_err-prepare g c = record {
   ready = none_made c.from_residual.result _ _ c.from_residual.ensures.1;
   untouched = none_made c.from_residual.result _ _ c.from_residual.ensures.1;
-  refused = always_err c.from_residual.result
+  refused = OnErr-all c.from_residual.result _
       (subst (λ (m : StillView _). IsSpent (kit_state g.F.File m.table m.kit) (kit_state g.F.File c.prepare.new.table c.prepare.new.self)) c.self.view_is
       (spent g.F.File c.self.inside.shared.table c.prepare.new.table c.self.inside.kit c.prepare.new.self c.prepare.ensures.table c.prepare.ensures.same));
 }
