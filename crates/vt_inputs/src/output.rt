@@ -1,6 +1,6 @@
 //! Writing what the commands make.
 
-ghost use Rattle.std.specs.Prelude.{◌≡◌, ◌+◌, ◌≤◌, ◌++◌, length};
+ghost use Rattle.std.specs.Prelude.{◌≡◌, ◌↔◌, ◌+◌, ◌≤◌, ◌++◌, length};
 ghost use Rattle.vt_definitions.specs.Depths.{IsDepth};
 ghost use Rattle.vt_text.specs.Numbers.{number_spelling};
 ghost use Rattle.vt_files.specs.Courses.{gain};
@@ -12,9 +12,9 @@ use vt_pages::Geometry;
 use vt_print::{LINE_ROOM, Line, put_pieces};
 use vt_tiles::{StoreError, store_length};
 
-/// What the outside refused, of a refusal of a call that writes a store.
+/// What the outside refused, of a refusal of a call that writes a store: a failed call where that was one, else want of memory.
 pub fn outside_error(error: StoreError) -> OutsideError
-    ensures { result ≡ OutsideError.Failed → error ≡ StoreError.Failed }
+    ensures { (result ≡ OutsideError.Failed) ↔ (error ≡ StoreError.Failed) }
 {
     match error {
         StoreError::Failed => OutsideError::Failed,

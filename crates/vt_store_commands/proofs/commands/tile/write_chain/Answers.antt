@@ -46,4 +46,4 @@ returns-in-Err g c =
     tried.0 c.outside_error.result
     (subst (λ (t : ℕ). (mid.files ≡ g.D.Folder.files c.args.folder.now)
     ⊎ HoldsMadeFront old.bytes (made_store header t) c.args.name.now (g.D.Folder.files c.args.folder.now) mid.files) side e.part)
-    tried.1 tried.2 (λ is. e.failed (ap Err (c.outside_error.ensures is))) e.name e.asked e.faults closed
+    tried.1 tried.2 (λ is. e.failed (ap Err (c.outside_error.ensures.0 is))) e.name e.asked e.faults closed

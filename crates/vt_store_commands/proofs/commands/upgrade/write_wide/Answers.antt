@@ -28,4 +28,4 @@ returns-in-Err g c =
     record { files = c.close.ensures.files; asked = c.close.ensures.asked; kept = c.close.ensures.kept; faults = c.close.ensures.faults } in
     let closed : Closed new (record { before = mid; after = after }) = rw c.into_file.ensures at shut in
     wide_stopped c.args.store.shape c.args.name.now (folder_state g.D.Folder c.args.folder.now) mid after old new c.outside_error.result
-    e.part e.front_read (λ is. e.failed (ap Err (c.outside_error.ensures is))) e.name e.asked e.faults closed
+    e.part e.front_read (λ is. e.failed (ap Err (c.outside_error.ensures.0 is))) e.name e.asked e.faults closed
