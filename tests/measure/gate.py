@@ -1,0 +1,205 @@
+#!/usr/bin/env python3
+"""What a gate costs, crate by crate, in processor seconds.
+
+    python3 tests/measure/gate.py run LOG      runs `rt ci` at the top of the repository; LOG gets what it prints, and a line of
+                                               time for each check
+    python3 tests/measure/gate.py table LOG    prints the table of such a log, the sums, and the longest chain of crates
+
+Nothing else is to be at work on the machine. The checks are watched twice a second, so a figure may lack half a second. The check of
+a crate's first must-fail edit proves the whole crate a second time: of its time what is above the mean of the other edits counts as
+"again for edits", and so does the last look at the crate. Tests are proved, linked and built; that they run costs next to nothing.
+"""
+import os
+import re
+import subprocess
+import sys
+import time
+
+TICKS = os.sysconf("SC_CLK_TCK")
+KINDS = ("proof", "again for edits", "edits", "tests")
+
+
+def processes():
+    """The parent, processor seconds (with those of its children that have ended) and start of each process."""
+    found = {}
+    for name in os.listdir("/proc"):
+        if name.isdigit():
+            try:
+                with open(f"/proc/{name}/stat") as it:
+                    fields = it.read().rpartition(")")[2].split()
+            except OSError:
+                continue
+            found[int(name)] = int(fields[1]), sum(int(it) for it in fields[11:15]) / TICKS, int(fields[19]) / TICKS
+    return found
+
+
+def words_of(process):
+    try:
+        with open(f"/proc/{process}/cmdline", "rb") as it:
+            return it.read().decode(errors="replace").split("\0")[:-1]
+    except OSError:
+        return []
+
+
+def is_check(words):
+    return len(words) > 1 and os.path.basename(words[0]) == "rattle" and words[1] in ("check", "build")
+
+
+def after(words, flag):
+    return words[words.index(flag) + 1] if flag in words else ""
+
+
+def what_is(words, folder):
+    """The kind of a check and, of an edit, the folder that it shares with the other edits of its crate."""
+    if "--test" in words:
+        return "tests", ""
+    if os.path.basename(folder).startswith("rt-edit-"):
+        return "edit", os.path.basename(after(words, "--incremental"))
+    return "proof", ""
+
+
+class Watch:
+    """The checks below a process: for each its crate, its kind, its start and end, and its processor seconds."""
+
+    def __init__(self, top):
+        self.top = top
+        self.checks = {}
+
+    def look(self):
+        table = processes()
+        children = {}
+        for process, (parent, _, _) in table.items():
+            children.setdefault(parent, []).append(process)
+        left = [self.top]
+        while left:
+            process = left.pop()
+            words = words_of(process)
+            if is_check(words):
+                self.note(process, words, table, children)
+            else:
+                left += children.get(process, [])
+
+    def note(self, process, words, table, children):
+        key = process, table[process][2]
+        if key not in self.checks:
+            try:
+                folder = os.readlink(f"/proc/{process}/cwd")
+            except OSError:
+                return
+            kind, shared = what_is(words, folder)
+            self.checks[key] = [after(words, "--crate-name"), kind, shared or "-", time.time(), 0.0, 0.0]
+        spent, left = 0.0, [process]
+        while left:
+            one = left.pop()
+            spent += table[one][1]
+            left += children.get(one, [])
+        check = self.checks[key]
+        check[4], check[5] = time.time(), max(check[5], spent)
+
+
+def run(log):
+    """Runs the gate, and returns its status."""
+    began = time.time()
+    with open(log, "w") as out:
+        gate = subprocess.Popen(["rt", "ci"], stdin=subprocess.DEVNULL, stdout=out, stderr=subprocess.STDOUT)
+        watch = Watch(gate.pid)
+        while gate.poll() is None:
+            watch.look()
+            time.sleep(0.5)
+    used = os.times()
+    with open(log, "a") as out:
+        for crate, kind, shared, first, last, spent in sorted(watch.checks.values(), key=lambda it: it[3]):
+            print(f"time: {crate} {kind} {shared} {first - began:.1f} {last - began:.1f} {spent:.2f}", file=out)
+        print(f"time: all {time.time() - began:.1f} {used.children_user + used.children_system:.1f}", file=out)
+    return gate.returncode
+
+
+def read(log):
+    """The checks of a log, and the seconds and processor seconds of the whole gate."""
+    checks, whole = [], (0.0, 0.0)
+    with open(log, errors="replace") as it:
+        for line in it:
+            found = re.fullmatch(r"time: (\w+) (proof|tests|edit) (\S+) (\S+) (\S+) (\S+)\n", line)
+            if found:
+                checks.append((found[1], found[2], found[3], *map(float, found.groups()[3:])))
+            elif line.startswith("time: all "):
+                whole = tuple(map(float, line.split()[2:]))
+    return checks, whole
+
+
+def edits_of(checks):
+    """The processor seconds of a crate's edits: what was proved again, what the edits took, and how many there were."""
+    shared = [spent for _, _, folder, _, _, spent in checks if folder != "-"]
+    alone = [spent for _, _, folder, _, _, spent in checks if folder == "-"]
+    if len(shared) < 3:
+        return 0.0, sum(shared) + sum(alone), len(shared) + len(alone)
+    first, *middle, last = shared
+    mean = sum(middle) / len(middle)
+    return max(first - mean, 0) + last, min(first, mean) + sum(middle) + sum(alone), len(middle) + 1
+
+
+def rows_of(checks):
+    rows = {}
+    for crate in sorted({it[0] for it in checks}):
+        mine = [it for it in checks if it[0] == crate]
+        again, edits, count = edits_of([it for it in mine if it[1] == "edit"])
+        proof = sum(it[5] for it in mine if it[1] == "proof")
+        rows[crate] = proof, again, edits, sum(it[5] for it in mine if it[1] == "tests"), count
+    return rows
+
+
+def below(path):
+    """The libraries of each crate, by the repository's list."""
+    found = {}
+    with open(path) as it:
+        for line in it:
+            name, _, libraries = line.partition("#")[0].partition(":")
+            if name.strip():
+                found[name.split()[0]] = libraries.split()
+    return found
+
+
+def longest_chain(checks, libraries):
+    """The chain of crates whose proofs take longest, one after the other, with the seconds of each."""
+    took = {}
+    for crate, kind, _, first, last, _ in checks:
+        if kind == "proof":
+            took[crate] = took.get(crate, 0) + last - first
+    best = {}
+
+    def chain(crate):
+        if crate not in best:
+            before = max((chain(it) for it in libraries.get(crate, []) if it in libraries), key=lambda it: it[0], default=(0, []))
+            best[crate] = before[0] + took.get(crate, 0), [*before[1], (crate, took.get(crate, 0))]
+        return best[crate]
+
+    return max((chain(it) for it in libraries), key=lambda it: it[0])
+
+
+def show(log):
+    checks, (seconds, spent) = read(log)
+    rows = rows_of(checks)
+    number = lambda it: f"{it:.0f}" if it >= 0.5 else ""
+    print("| crate | proof | again for edits | edits | tests | together |\n|---|---|---|---|---|---|")
+    for crate, (proof, again, edits, tests, count) in sorted(rows.items(), key=lambda it: -sum(it[1][:4])):
+        tried = f"{number(edits)} ({count})" if count else ""
+        print(f"| {crate} | {number(proof)} | {number(again)} | {tried} | {number(tests)} | {proof + again + edits + tests:.0f} |")
+    sums = [sum(row[i] for row in rows.values()) for i in range(5)]
+    print(f"| all | {sums[0]:.0f} | {sums[1]:.0f} | {sums[2]:.0f} ({sums[4]}) | {sums[3]:.0f} | {sum(sums[:4]):.0f} |\n")
+    print(f"The gate took {seconds / 60:.1f} minutes and {spent:.0f} processor seconds, those of what is run and linked among them.")
+    together, chain = longest_chain(checks, below("crates.txt"))
+    print(f"The longest chain takes {together:.0f} seconds: " + ", ".join(f"{crate} {took:.0f}" for crate, took in chain) + ".")
+
+
+def main(words):
+    if len(words) == 2 and words[0] == "run":
+        return run(words[1])
+    if len(words) == 2 and words[0] == "table":
+        show(words[1])
+        return 0
+    print(__doc__, end="", file=sys.stderr)
+    return 2
+
+
+if __name__ == "__main__":
+    sys.exit(main(sys.argv[1:]))
