@@ -19,7 +19,7 @@ use Rattle.vt_queue.specs.Steps.{Puts}
 use Rattle.vt_queue.specs.Queues.{capacity_of, WasFull}
 use Rattle.vt_queue.proofs.OrderLemmas.{puts_last, full_of}
 use Rattle.vt_load.specs.Readings.{is_readable}
-use Rattle.vt_load.specs.Results.{wanted_by}
+use Rattle.vt_loaders.specs.Results.{wanted_by}
 use Rattle.vt_rounds.specs.BatchRounds.{page_if, entry_asks, ArePut}
 
 -- So many requests were put through a whole pass, and nothing was taken.

@@ -16,10 +16,10 @@ use Rattle.vt_queue.specs.declared.queue.QueuePass.{QueuePass}
 use Rattle.vt_queue.specs.Queues.{view_of}
 use Rattle.vt_queue.specs.PassViews.{all_shares}
 use Rattle.vt_queue.specs.Orders.{items_of}
-use Rattle.vt_load.specs.declared.queued.Queues.{Queues}
+use Rattle.vt_loaders.specs.declared.queued.Queues.{Queues}
 use Rattle.vt_load.specs.Readings.{is_lost, is_readable}
-use Rattle.vt_load.specs.Results.{wanted_by, IsGood}
-use Rattle.vt_load.specs.QueuedLoaders.{QueuedView, stores_of, HasLoaded, IsLoaderOf, AreSplitOff}
+use Rattle.vt_loaders.specs.Results.{wanted_by, IsGood}
+use Rattle.vt_loaders.specs.QueuedLoaders.{QueuedView, stores_of, HasLoaded, IsLoaderOf, AreSplitOff}
 use Rattle.vt_pass.specs.Outcomes.{group_if, IsEntryFor, IsOutcome}
 use Rattle.vt_pass.specs.Requests.{AreReadFor}
 use Rattle.vt_pass.specs.Machines.{files_of}

@@ -19,7 +19,7 @@ use Rattle.vt_pass.specs.declared.crew.Crew.{Crew}
 use Rattle.vt_still.specs.declared.tasks.StillSampler.{StillSampler}
 use Rattle.vt_pass.specs.Crews.{IsCrew}
 use Rattle.vt_pass.specs.Outcomes.{IsBatchFor}
-use Rattle.vt_load.specs.declared.queued.Queues.{Queues}
+use Rattle.vt_loaders.specs.declared.queued.Queues.{Queues}
 use Rattle.vt_shown.specs.Frames.{HoldsTiles}
 use Rattle.vt_rounds.specs.Sizes.{AreSized}
 use Rattle.vt_still.specs.RoundKits.{RoundKitView, IsSetUp, IsAsked}

@@ -22,7 +22,7 @@ ghost use Rattle.vt_rounds.specs.BatchRounds.{Begun as Start};
 ghost use Rattle.vt_pages.specs.Pages.{pages_of};
 ghost use Rattle.vt_tiles.specs.Format.{tile_length};
 ghost use Rattle.vt_evict.specs.declared.batches.Planned.{Planned as Entry};
-ghost use Rattle.vt_load.specs.QueuedLoaders.{MayLoad};
+ghost use Rattle.vt_loaders.specs.QueuedLoaders.{MayLoad};
 
 use crate::room::{reserve_reads, with_room};
 use crate::round::{RoundKit, new_queues};
@@ -39,7 +39,7 @@ use vt_draw::Shot;
 use vt_evict::Batch;
 use vt_feedback::Counts;
 use vt_journal::{Events, RowLines};
-use vt_load::{QueuedLoader, Queues};
+use vt_loaders::{QueuedLoader, Queues};
 use vt_outside::{File, Items, NoMemory};
 use vt_pages::Geometry;
 use vt_pass::{Crew, PassReport};

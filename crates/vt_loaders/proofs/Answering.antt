@@ -19,8 +19,8 @@ use Rattle.vt_queue.specs.Orders.{items_of}
 use Rattle.vt_queue.proofs.Gathered.{shuffled_as, append_nil, all_cut}
 use Rattle.vt_queue.proofs.OrderLemmas.{items_as_put, count_of, facts_of}
 use Rattle.vt_load.specs.Readings.{is_readable, is_lost, IsReading, AreReadings}
-use Rattle.vt_load.specs.Results.{wanted_by, given_by, read_place, lost_among, IsGood, IsReadFor}
-use Rattle.vt_load.specs.Together.{Portion, IsPortion, all_took, all_put, Exchange, IsExchange, IsAnsweredOnce}
+use Rattle.vt_loaders.specs.Results.{wanted_by, given_by, read_place, lost_among, IsGood, IsReadFor}
+use Rattle.vt_loaders.specs.Together.{Portion, IsPortion, all_took, all_put, Exchange, IsExchange, IsAnsweredOnce}
 
 filter_all : {X : Type 0} (p : X → Bool) (xs : List X) → All (λ x. p x ≡ true) xs → filter p xs ≡ xs
 filter_all p [] all = refl

@@ -6,7 +6,7 @@ use Rattle.vt_queue.specs.declared.items.Request.{Request}
 use Rattle.vt_queue.specs.declared.items.Loaded.{Loaded}
 use Rattle.vt_queue.specs.Orders.{items_of, gathered, IsFirstInFirstOut}
 use Rattle.vt_load.specs.Readings.{is_readable, AreReadings}
-use Rattle.vt_load.specs.Results.{wanted_by, given_by, IsGood, IsReadFor}
+use Rattle.vt_loaders.specs.Results.{wanted_by, given_by, IsGood, IsReadFor}
 
 -- what one of several loaders took and put, and its file before and after
 pub record Portion (F : Type 0) : Type 0 where

@@ -2,8 +2,8 @@
 
 ghost use Rattle.std.specs.Prelude.{ℕ, List, Option};
 ghost use Rattle.vt_pages.specs.Shape.{Shape};
-ghost use Rattle.vt_load.specs.declared.queued.Queues.{Queues as Both};
-ghost use Rattle.vt_load.specs.Rounds.{Round, IsRound, AreServed};
+ghost use Rattle.vt_loaders.specs.declared.queued.Queues.{Queues as Both};
+ghost use Rattle.vt_loaders.specs.Rounds.{Round, IsRound, AreServed};
 
 use vt_outside::File;
 

@@ -12,11 +12,11 @@ use Rattle.vt_queue.specs.declared.views.PassView.{PassView}
 use Rattle.vt_queue.specs.PassViews.{pass_view, all_shares, split_part, Splits, joined, all_joined, shares_of}
 use Rattle.vt_queue.specs.Queues.{view_of, capacity_of}
 use Rattle.vt_outside.specs.declared.outside.File.{Ghosts as FileMeanings}
-use Rattle.vt_load.specs.declared.queued.Queues.{Queues}
+use Rattle.vt_loaders.specs.declared.queued.Queues.{Queues}
 use Rattle.vt_queue.proofs.Gathered.{all_cut}
 use Rattle.vt_pages.specs.Shape.{Shape}
 use Rattle.vt_tiles.specs.StoreViews.{StoreView}
-use Rattle.vt_load.specs.QueuedLoaders.{QueuedView, AreOf, asks_of, answers_of, stores_of, numbers_of, MayLoad, IsLoaderOf, IsNew, AreSplitOff}
+use Rattle.vt_loaders.specs.QueuedLoaders.{QueuedView, AreOf, asks_of, answers_of, stores_of, numbers_of, MayLoad, IsLoaderOf, IsNew, AreSplitOff}
 
 -- What is split off at once is a small part.
 pub part_small : (n : ℕ) → n ≤ all_shares → (n - 1) / split_part ≤ all_shares / split_part

@@ -12,13 +12,13 @@ use Rattle.vt_queue.specs.Orders.{items_of, gathered, IsFirstInFirstOut}
 use Rattle.vt_queue.specs.Queues.{view_of}
 use Rattle.vt_queue.proofs.Gathered.{append_nil}
 use Rattle.vt_queue.proofs.OrderLemmas.{order_of, joined_shares, joined_takes, joined_puts}
-use Rattle.vt_load.specs.declared.queued.Queues.{Queues}
+use Rattle.vt_loaders.specs.declared.queued.Queues.{Queues}
 use Rattle.vt_load.specs.Readings.{is_readable, AreReadings}
-use Rattle.vt_load.specs.Results.{wanted_by, given_by, IsGood}
-use Rattle.vt_load.specs.Together.{Portion, IsPortion, all_took, all_put, Exchange}
-use Rattle.vt_load.specs.QueuedLoaders.{QueuedView, asks_of, answers_of, HasLoaded, IsNew, IsLoaderOf}
-use Rattle.vt_load.specs.Rounds.{Round, IsRound, AreServed}
-use Rattle.vt_load.proofs.Answering.{answered_once}
+use Rattle.vt_loaders.specs.Results.{wanted_by, given_by, IsGood}
+use Rattle.vt_loaders.specs.Together.{Portion, IsPortion, all_took, all_put, Exchange}
+use Rattle.vt_loaders.specs.QueuedLoaders.{QueuedView, asks_of, answers_of, HasLoaded, IsNew, IsLoaderOf}
+use Rattle.vt_loaders.specs.Rounds.{Round, IsRound, AreServed}
+use Rattle.vt_loaders.proofs.Answering.{answered_once}
 
 -- Passes that put nothing leave what was put.
 joined_puts_kept : {I : Type 0} (v : PassView I) (ws : List (PassView I)) → All (λ w. w.put ≡ []) ws → (all_joined v ws).put ≡ v.put

@@ -9,7 +9,7 @@ use Rattle.vt_queue.specs.declared.views.PassView.{PassView}
 use Rattle.vt_queue.specs.declared.queue.QueuePass.{QueuePass}
 use Rattle.vt_queue.specs.PassViews.{pass_view, shares_of}
 use Rattle.vt_queue.specs.Queues.{view_of, IsOf, capacity_of}
-use Rattle.vt_load.specs.declared.queued.Queues.{Queues}
+use Rattle.vt_loaders.specs.declared.queued.Queues.{Queues}
 use Rattle.vt_load.specs.Loaders.{LoaderView, with_file}
 use Rattle.vt_load.specs.Loads.{Loads, HasEnded}
 

@@ -3,8 +3,8 @@ use Rattle.std.specs.Prelude.{All}
 use Rattle.std.specs.List.{range_with_len}
 use Rattle.vt_queue.specs.PassViews.{all_shares, split_part}
 use Rattle.vt_queue.specs.Queues.{view_of, splits_of, capacity_of}
-use Rattle.vt_load.specs.QueuedLoaders.{AreOf, MayLoad, AreSplitOff, stores_of, numbers_of}
-use Rattle.vt_load.proofs.queued.deal.Given as goal
+use Rattle.vt_loaders.specs.QueuedLoaders.{AreOf, MayLoad, AreSplitOff, stores_of, numbers_of}
+use Rattle.vt_loaders.proofs.queued.deal.Given as goal
 
 abbrev pub invariant-loop-store : goal.invariant-loop-store
 invariant-loop-store g l = record {

@@ -1,8 +1,8 @@
 use Rattle.std.proofs.Common.{◌≡◌, ◌∙◌, arith, refl, subst, sym, []}
 use Rattle.vt_queue.specs.Queues.{view_of}
-use Rattle.vt_load.specs.QueuedLoaders.{Collects}
-use Rattle.vt_load.proofs.Collecting.{collects_none, collects_more}
-use Rattle.vt_load.proofs.queued.collect.Goals as goal
+use Rattle.vt_loaders.specs.QueuedLoaders.{Collects}
+use Rattle.vt_loaders.proofs.Collecting.{collects_none, collects_more}
+use Rattle.vt_loaders.proofs.queued.collect.Goals as goal
 
 pub loop-init : goal.loop-init
 loop-init g c = let r = c.requires in record {

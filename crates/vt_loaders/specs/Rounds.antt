@@ -8,11 +8,11 @@ use Rattle.vt_queue.specs.declared.views.PassView.{PassView}
 use Rattle.vt_queue.specs.PassViews.{all_shares, all_joined}
 use Rattle.vt_queue.specs.Orders.{items_of}
 use Rattle.vt_queue.specs.Steps.{IsAtStep}
-use Rattle.vt_load.specs.declared.queued.Queues.{Queues}
+use Rattle.vt_loaders.specs.declared.queued.Queues.{Queues}
 use Rattle.vt_load.specs.Readings.{is_readable}
-use Rattle.vt_load.specs.Results.{wanted_by, given_by, IsGood, IsReadFor}
-use Rattle.vt_load.specs.Together.{Portion, all_put}
-use Rattle.vt_load.specs.QueuedLoaders.{QueuedView, asks_of, answers_of, HasLoaded, IsLoaderOf, AreSplitOff, Collects}
+use Rattle.vt_loaders.specs.Results.{wanted_by, given_by, IsGood, IsReadFor}
+use Rattle.vt_loaders.specs.Together.{Portion, all_put}
+use Rattle.vt_loaders.specs.QueuedLoaders.{QueuedView, asks_of, answers_of, HasLoaded, IsLoaderOf, AreSplitOff, Collects}
 
 -- a round: what the pass of each queue knew at first, when passes for the loaders were split off, and when these were one with it again,
 -- and that of the results once they were taken; the loaders when they began and when they had ended; the results that were taken, in their

@@ -5,8 +5,8 @@ use Rattle.vt_queue.specs.Steps.{IsAtStep}
 use Rattle.vt_queue.specs.Queues.{view_of}
 use Rattle.vt_queue.specs.declared.items.Request.{Request}
 use Rattle.vt_queue.specs.declared.items.Loaded.{Loaded}
-use Rattle.vt_load.specs.QueuedLoaders.{AreOf, asks_of, answers_of, stores_of}
-use Rattle.vt_load.proofs.queued.take_back.Given as goal
+use Rattle.vt_loaders.specs.QueuedLoaders.{AreOf, asks_of, answers_of, stores_of}
+use Rattle.vt_loaders.proofs.queued.take_back.Given as goal
 
 abbrev pub invariant-loop-loader : goal.invariant-loop-loader
 invariant-loop-loader g l = record {

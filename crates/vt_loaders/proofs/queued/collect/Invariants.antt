@@ -2,8 +2,8 @@ use Rattle.std.proofs.Common.{◌≡◌, ◌+◌, ◌≤◌, List}
 use Rattle.vt_queue.specs.Steps.{IsAtStep}
 use Rattle.vt_queue.specs.Queues.{view_of, splits_of, IsOf}
 use Rattle.vt_queue.specs.declared.items.Loaded.{Loaded}
-use Rattle.vt_load.specs.QueuedLoaders.{Collects}
-use Rattle.vt_load.proofs.queued.collect.Given as goal
+use Rattle.vt_loaders.specs.QueuedLoaders.{Collects}
+use Rattle.vt_loaders.proofs.queued.collect.Given as goal
 
 abbrev pub invariant-loop : goal.invariant-loop
 invariant-loop g l = record {

@@ -9,9 +9,9 @@ ghost use Rattle.vt_queue.specs.Steps.{IsAtStep};
 ghost use Rattle.vt_queue.specs.Queues.{view_of, splits_of, IsOf, capacity_of};
 ghost use Rattle.vt_queue.specs.declared.items.Request.{Request as Ask};
 ghost use Rattle.vt_queue.specs.declared.items.Loaded.{Loaded as Answer};
-ghost use Rattle.vt_load.specs.QueuedLoaders.{AreOf, MayLoad, HasLoaded, IsLoaderOf, AreSplitOff, Collects, asks_of, answers_of, stores_of, numbers_of};
+ghost use Rattle.vt_loaders.specs.QueuedLoaders.{AreOf, MayLoad, HasLoaded, IsLoaderOf, AreSplitOff, Collects, asks_of, answers_of, stores_of, numbers_of};
 
-use crate::loader::Loader;
+use vt_load::Loader;
 use std::alloc::Global;
 use std::marker::Model;
 use std::sync::Wait;
@@ -38,7 +38,7 @@ pub struct QueuedLoader<F: File> {
 }
 
 impl<F: File> Model for QueuedLoader<F> {
-    ghost use Rattle.vt_load.specs.QueuedLoaders.{QueuedView};
+    ghost use Rattle.vt_loaders.specs.QueuedLoaders.{QueuedView};
 
     ghost Value = { QueuedView F };
 

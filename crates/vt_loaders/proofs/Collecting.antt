@@ -6,7 +6,7 @@ use Rattle.vt_queue.specs.declared.views.PassView.{PassView}
 use Rattle.vt_queue.specs.PassViews.{pass_view}
 use Rattle.vt_queue.specs.Steps.{Takes}
 use Rattle.vt_queue.proofs.Gathered.{append_nil}
-use Rattle.vt_load.specs.QueuedLoaders.{Collects}
+use Rattle.vt_loaders.specs.QueuedLoaders.{Collects}
 
 -- None was taken yet.
 pub collects_none : (v : PassView Loaded) (old : List Loaded) → Collects 0 v v old old
