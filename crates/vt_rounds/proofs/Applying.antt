@@ -15,7 +15,7 @@ use Rattle.vt_journal.specs.JournalText.{changes_of}
 use Rattle.vt_journal.proofs.EventLines.{changes_of-append}
 use Rattle.vt_tiles.specs.Format.{tile_start}
 use Rattle.vt_table.specs.Views.{TableView, IsTable}
-use Rattle.vt_evict.specs.declared.batches.Planned.{Planned}
+use Rattle.vt_plan.specs.declared.batches.Planned.{Planned}
 use Rattle.vt_queue.specs.declared.items.Loaded.{Loaded}
 use Rattle.vt_queue.specs.declared.items.Outcome.TheVariants.{Read}
 use Rattle.vt_load.specs.Readings.{is_lost}

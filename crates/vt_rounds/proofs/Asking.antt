@@ -9,7 +9,7 @@ use Rattle.std.proofs.lemmas.Option.{slice_get-get_or}
 use Rattle.vt_pages.specs.Shape.{Shape}
 use Rattle.vt_pages.specs.Pages.{pages_of}
 use Rattle.vt_tiles.specs.Format.{tile_length}
-use Rattle.vt_evict.specs.declared.batches.Planned.{Planned}
+use Rattle.vt_plan.specs.declared.batches.Planned.{Planned}
 use Rattle.vt_queue.specs.declared.items.Request.{Request}
 use Rattle.vt_queue.specs.declared.queue.Queue.{Queue}
 use Rattle.vt_queue.specs.declared.views.PassView.{PassView}

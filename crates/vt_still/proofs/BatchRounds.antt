@@ -14,7 +14,7 @@ use Rattle.vt_outside.specs.Places.{times_asked, times_failed, is_read_of}
 use Rattle.vt_outside.specs.Counts.{RoseBy, RoseTogetherBy, count_end}
 use Rattle.vt_pages.specs.Shape.{Shape}
 use Rattle.vt_journal.specs.declared.changes.Event.{Event}
-use Rattle.vt_evict.specs.declared.batches.Planned.{Planned}
+use Rattle.vt_plan.specs.declared.batches.Planned.{Planned}
 use Rattle.vt_evict.specs.Batches.{read_entries}
 use Rattle.vt_queue.specs.declared.items.Loaded.{Loaded}
 use Rattle.vt_queue.specs.Orders.{items_of}

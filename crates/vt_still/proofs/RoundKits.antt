@@ -11,7 +11,7 @@ use Rattle.vt_journal.specs.declared.changes.Event.{Event}
 use Rattle.vt_tiles.specs.Format.{tile_length}
 use Rattle.vt_tiles.specs.StoreViews.{StoreView}
 use Rattle.vt_table.specs.Views.{TableView}
-use Rattle.vt_evict.specs.declared.batches.Planned.{Planned}
+use Rattle.vt_plan.specs.declared.batches.Planned.{Planned}
 use Rattle.vt_queue.specs.Queues.{view_of}
 use Rattle.vt_loaders.specs.declared.queued.Queues.{Queues}
 use Rattle.vt_load.specs.Loaders.{LoaderView}

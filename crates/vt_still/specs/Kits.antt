@@ -14,7 +14,7 @@ use Rattle.vt_tiles.specs.Format.{tile_length}
 use Rattle.vt_tiles.specs.StoreViews.{StoreView, IsStoreIfTold}
 use Rattle.vt_table.specs.Views.{TableView, IsTable}
 use Rattle.vt_sampler.specs.Samplers.{SamplerView, row_at}
-use Rattle.vt_evict.specs.declared.batches.Planned.{Planned}
+use Rattle.vt_plan.specs.declared.batches.Planned.{Planned}
 use Rattle.vt_pass.specs.declared.crew.Crew.{Crew}
 use Rattle.vt_still.specs.declared.tasks.StillSampler.{StillSampler}
 use Rattle.vt_pass.specs.Crews.{IsCrew}

@@ -21,7 +21,7 @@ ghost use Rattle.vt_still.specs.RoundKits.{IsSetUp, IsAsked};
 ghost use Rattle.vt_rounds.specs.BatchRounds.{Begun as Start};
 ghost use Rattle.vt_pages.specs.Pages.{pages_of};
 ghost use Rattle.vt_tiles.specs.Format.{tile_length};
-ghost use Rattle.vt_evict.specs.declared.batches.Planned.{Planned as Entry};
+ghost use Rattle.vt_plan.specs.declared.batches.Planned.{Planned as Entry};
 ghost use Rattle.vt_loaders.specs.QueuedLoaders.{MayLoad};
 
 use crate::room::{reserve_reads, with_room};

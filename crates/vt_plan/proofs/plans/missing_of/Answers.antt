@@ -4,11 +4,10 @@ use Rattle.vt_pages.specs.Shape.{Shape}
 use Rattle.vt_feedback.specs.declared.Wanted.{Wanted}
 use Rattle.vt_feedback.specs.Wants.{pages_wanted}
 use Rattle.vt_pages.specs.Lookups.{step_of}
-use Rattle.vt_evict.specs.Views.{is_mapped}
-use Rattle.vt_evict.specs.Plans.{missing_from}
-use Rattle.vt_evict.specs.Kept.{with_page}
-use Rattle.vt_evict.proofs.PlanLemmas.{missing-none, missing-more}
-use Rattle.vt_evict.proofs.plans.missing_of.Goals as goal
+use Rattle.vt_plan.specs.Missing.{is_mapped, missing_from}
+use Rattle.vt_plan.specs.PageLists.{with_page}
+use Rattle.vt_plan.proofs.PlanLemmas.{missing-none, missing-more}
+use Rattle.vt_plan.proofs.plans.missing_of.Goals as goal
 
 pub loop-want-init : goal.loop-want-init
 loop-want-init c = c.new-missing.ensures.empty ∙ sym (missing-none c.args.geometry.now c.args.entries.now)

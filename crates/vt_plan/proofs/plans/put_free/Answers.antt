@@ -2,10 +2,10 @@ use Rattle.std.proofs.Common.{◌≡◌, ℕ, ◌+◌, List, [], ◌∷◌, ◌+
 use Rattle.std.specs.List.{range_with_len}
 use Rattle.std.specs.Map.Iter.{deref}
 use Rattle.std.proofs.lemmas.Map.Iter.{rest_more, rest_all}
-use Rattle.vt_evict.specs.declared.batches.Planned.{Planned}
-use Rattle.vt_evict.specs.Kept.{freed_at}
-use Rattle.vt_evict.proofs.PlanLemmas.{freed_more, rest_at, none_left}
-use Rattle.vt_evict.proofs.plans.put_free.Goals as goal
+use Rattle.vt_plan.specs.declared.batches.Planned.{Planned}
+use Rattle.vt_plan.specs.Entries.{freed_at}
+use Rattle.vt_plan.proofs.PlanLemmas.{freed_more, rest_at, none_left}
+use Rattle.vt_plan.proofs.plans.put_free.Goals as goal
 
 pub loop-frame-preserved : goal.loop-frame-preserved
 loop-frame-preserved c =

@@ -1,9 +1,9 @@
 use Rattle.std.proofs.Common.{◌≡◌, ◌<◌, ◌≤◌, ◌+◌, ◌-◌, ◌++◌, ℕ, not, map, reverse, drop, length, slice_index}
 use Rattle.std.specs.List.{filter, range_with_len}
 use Rattle.std.specs.Map.{keys_of}
-use Rattle.vt_evict.specs.Orders.{is_in}
-use Rattle.vt_evict.specs.Kept.{taken_at}
-use Rattle.vt_evict.proofs.plans.put_victims.Given as goal
+use Rattle.vt_plan.specs.PageLists.{is_in}
+use Rattle.vt_plan.specs.Entries.{taken_at}
+use Rattle.vt_plan.proofs.plans.put_victims.Given as goal
 
 abbrev pub invariant-loop : goal.invariant-loop
 invariant-loop l =

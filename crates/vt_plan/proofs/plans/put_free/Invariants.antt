@@ -1,7 +1,7 @@
 use Rattle.std.proofs.Common.{◌≡◌, ◌≤◌, ◌+◌, map, drop, length}
 use Rattle.std.specs.List.{range_with_len}
-use Rattle.vt_evict.specs.Kept.{freed_at}
-use Rattle.vt_evict.proofs.plans.put_free.Given as goal
+use Rattle.vt_plan.specs.Entries.{freed_at}
+use Rattle.vt_plan.proofs.plans.put_free.Given as goal
 
 abbrev pub invariant-loop-frame : goal.invariant-loop-frame
 invariant-loop-frame l = record {

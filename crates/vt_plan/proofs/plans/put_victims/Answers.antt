@@ -2,11 +2,11 @@ use Rattle.std.proofs.Common.{◌≡◌, ℕ, ◌+◌, ◌-◌, ◌<◌, Bool, n
 use Rattle.std.specs.List.{filter, range_with_len}
 use Rattle.std.specs.Map.{keys_of}
 use Rattle.std.proofs.lemmas.List.{get_or_append_left, length-map}
-use Rattle.vt_evict.specs.declared.batches.Planned.{Planned}
-use Rattle.vt_evict.specs.Orders.{is_in}
-use Rattle.vt_evict.specs.Kept.{taken_at}
-use Rattle.vt_evict.proofs.PlanLemmas.{offer, last_at, kept_last, none_left}
-use Rattle.vt_evict.proofs.plans.put_victims.Goals as goal
+use Rattle.vt_plan.specs.declared.batches.Planned.{Planned}
+use Rattle.vt_plan.specs.PageLists.{is_in}
+use Rattle.vt_plan.specs.Entries.{taken_at}
+use Rattle.vt_plan.proofs.PlanLemmas.{offer, last_at, kept_last, none_left}
+use Rattle.vt_plan.proofs.plans.put_victims.Goals as goal
 
 pub put_victim-requires-clause-inside : goal.put_victim-requires-clause-inside
 put_victim-requires-clause-inside c =

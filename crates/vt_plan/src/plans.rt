@@ -6,13 +6,11 @@ ghost use Rattle.std.specs.Map.{keys_of};
 ghost use Rattle.vt_pages.specs.Pages.{IsWithinLimits, pages_of};
 ghost use Rattle.vt_feedback.specs.Wants.{pages_wanted};
 ghost use Rattle.vt_pages.specs.Lookups.{step_of as step_above};
-ghost use Rattle.vt_evict.specs.Orders.{is_in};
-ghost use Rattle.vt_evict.specs.Views.{is_mapped};
-ghost use Rattle.vt_evict.specs.Plans.{missing_from};
-ghost use Rattle.vt_evict.specs.Kept.{with_page, freed_at, taken_at, taken_with};
+ghost use Rattle.vt_plan.specs.PageLists.{is_in, with_page};
+ghost use Rattle.vt_plan.specs.Missing.{is_mapped, missing_from};
+ghost use Rattle.vt_plan.specs.Entries.{freed_at, taken_at, taken_with};
 
 use crate::batches::{Batch, Planned};
-use crate::lines::add_page;
 use indexmap::IndexSet;
 use lru::{Iter, LruCache};
 use std::alloc::Global;
@@ -20,6 +18,14 @@ use std::collections::BTreeSet;
 use vt_feedback::Wants;
 use vt_outside::NoMemory;
 use vt_pages::Geometry;
+
+/// Adds a page unless it is there. After a refusal the set can only be dropped.
+pub fn add_page(pages: &mut IndexSet<u32>, page: u32) -> Result<(), NoMemory>
+    ensures { OnOk result (pages.new.keys ≡ with_page pages.old.keys page) }
+{
+    pages.insert(page)?;
+    Ok(())
+}
 
 // The page just before an unmapped page's look-up, in its line.
 fn step_of(geometry: &Geometry, entries: &[u32], page: u32) -> u32

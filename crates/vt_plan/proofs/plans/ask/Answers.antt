@@ -2,9 +2,9 @@ use Rattle.std.proofs.Common.{◌≡◌, ℕ, Bool, false, cond, sym, subst, ari
 use Rattle.std.specs.Prelude.{OnOk}
 use Rattle.std.proofs.lemmas.Bool.Decides.{nat_tests}
 use Rattle.vt_pages.specs.Lookups.{step_of}
-use Rattle.vt_evict.specs.Views.{is_mapped}
-use Rattle.vt_evict.specs.Kept.{with_page}
-use Rattle.vt_evict.proofs.plans.ask.Goals as goal
+use Rattle.vt_plan.specs.Missing.{is_mapped}
+use Rattle.vt_plan.specs.PageLists.{with_page}
+use Rattle.vt_plan.proofs.plans.ask.Goals as goal
 
 pub returns : goal.returns
 returns c =

@@ -1,5 +1,5 @@
 use Rattle.std.proofs.Common.{rules}
-use Rattle.vt_evict.proofs.plans.put_victim.Goals as goal
+use Rattle.vt_plan.proofs.plans.put_victim.Goals as goal
 
 pub returns-then-contains-clause-put : goal.returns-then-contains-clause-put
 returns-then-contains-clause-put c = search rules

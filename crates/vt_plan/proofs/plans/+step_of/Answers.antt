@@ -3,8 +3,8 @@ use Rattle.std.proofs.lemmas.Bool.Decides.{nat_tests}
 use Rattle.vt_pages.specs.Pages.{parent_of}
 use Rattle.vt_pages.proofs.Parents.{parent_facts, level_below}
 use Rattle.vt_pages.proofs.Steps.{step_root, step_below, step_up}
-use Rattle.vt_evict.specs.Views.{is_mapped}
-use Rattle.vt_evict.proofs.plans.+step_of.Goals as goal
+use Rattle.vt_plan.specs.Missing.{is_mapped}
+use Rattle.vt_plan.proofs.plans.+step_of.Goals as goal
 
 pub step_of-requires : goal.step_of-requires
 step_of-requires t c =
