@@ -11,12 +11,12 @@ ghost use Rattle.vt_queue.specs.declared.items.Request.{Request as Ask};
 ghost use Rattle.vt_queue.specs.declared.items.Loaded.{Loaded as Answer};
 ghost use Rattle.vt_loaders.specs.QueuedLoaders.{AreOf, MayLoad, HasLoaded, IsLoaderOf, AreSplitOff, Collects, asks_of, answers_of, stores_of, numbers_of};
 
-use vt_load::Loader;
 use std::alloc::Global;
 use std::marker::Model;
 use std::sync::Wait;
 use std::thread;
 use std::thread::Threads;
+use vt_load::Loader;
 use vt_outside::{File, Gate, Items};
 use vt_queue::{Loaded, Queue, QueuePass, Request, RequestQueue, ResultQueue};
 use vt_tiles::{Store, Stores};
