@@ -7,9 +7,10 @@ use Rattle.std.specs.declared.cmp.Ordering.TheVariants.{Less}
 use Rattle.std.proofs.lemmas.Cmp.{nat_cmp_total}
 use Rattle.std.proofs.lemmas.Map.Lookups.{btree_set_from_contains, CmpEqualImpliesEq}
 use Rattle.std.proofs.lemmas.Bool.Decides.{nat_tests}
-use Rattle.vt_evict.specs.Orders.{is_in}
+use Rattle.vt_plan.specs.PageLists.{is_in}
 use Rattle.vt_evict.specs.Views.{RecencyView, is_held, free_frames}
-use Rattle.vt_evict.proofs.ListLemmas.{by_recursion-filter, is_in-filter}
+use Rattle.vt_evict.proofs.ListLemmas.{by_recursion-filter}
+use Rattle.vt_plan.proofs.ListLemmas.{is_in-filter}
 
 pub same_test : (x y : ℕ) → nat_eq x y ≡ is_eq (nat_cmp x y)
 same_test x y = grind (arith, nat_tests)

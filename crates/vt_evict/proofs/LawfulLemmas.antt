@@ -17,14 +17,17 @@ use Rattle.vt_pages.proofs.Parents.{parent_facts, level_below}
 use Rattle.vt_pages.proofs.Steps.{step_root, step_below, step_up}
 use Rattle.vt_feedback.specs.declared.Wanted.{Wanted}
 use Rattle.vt_feedback.specs.Wants.{pages_wanted}
-use Rattle.vt_evict.specs.declared.batches.Planned.{Planned}
+use Rattle.vt_plan.specs.declared.batches.Planned.{Planned}
 use Rattle.vt_pages.specs.Lookups.{step_of}
-use Rattle.vt_evict.specs.Orders.{is_in, line_pages}
-use Rattle.vt_evict.specs.Views.{RecencyView, IsTable, is_mapped, is_pinned, is_loose, is_held, frame_of, free_frames}
+use Rattle.vt_evict.specs.Orders.{line_pages}
+use Rattle.vt_plan.specs.PageLists.{is_in}
+use Rattle.vt_evict.specs.Views.{RecencyView, IsTable, is_pinned, is_loose, is_held, frame_of, free_frames}
+use Rattle.vt_plan.specs.Missing.{is_mapped, missing_from}
 use Rattle.vt_evict.specs.Batches.{IsLawful, IsLawfulEntry}
-use Rattle.vt_evict.specs.Plans.{missing_pages, missing_from, candidates, planned_at, planned_count, plan_of}
-use Rattle.vt_evict.specs.Kept.{freed_at, taken_at}
-use Rattle.vt_evict.proofs.ListLemmas.{nat_eq_swap, is_in-filter, is_in-reverse, distinct-filter, each_once_distinct, by_recursion-each_once, range_once, and_true, and_false}
+use Rattle.vt_evict.specs.Plans.{missing_pages, candidates, planned_at, planned_count, plan_of}
+use Rattle.vt_plan.specs.Entries.{freed_at, taken_at}
+use Rattle.vt_evict.proofs.ListLemmas.{nat_eq_swap, is_in-reverse, distinct-filter, each_once_distinct, by_recursion-each_once, range_once, and_true, and_false}
+use Rattle.vt_plan.proofs.ListLemmas.{is_in-filter}
 use Rattle.vt_evict.proofs.PlanLemmas.{at_free, at_victim}
 use Rattle.vt_evict.proofs.FreeLemmas.{is_in-range}
 use Rattle.vt_evict.proofs.SettleLemmas.{self_eq, held_from, first_of_and, positive}

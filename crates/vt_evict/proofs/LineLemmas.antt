@@ -13,9 +13,11 @@ use Rattle.vt_pages.specs.Shape.{Shape}
 use Rattle.vt_pages.specs.Pages.{levels_of, pages_of, index_of, IsWithinLimits, level_of, name_at, parent_name, parent_of, line_of}
 use Rattle.vt_pages.proofs.Lines.{parent_is, reaches_root}
 use Rattle.vt_pages.proofs.Parents.{parent_page, line-root, line-parent, parent_facts, root_facts, level_below, line_distinct}
-use Rattle.vt_evict.specs.Orders.{is_in, each_once, line_pages}
-use Rattle.vt_evict.specs.Kept.{IsClosed, with_page}
-use Rattle.vt_evict.proofs.ListLemmas.{nat_eq_true, nat_eq_swap, filter_same, is_in-each_once, each_once-append, each_once-distinct, filter_none, by_recursion-reverse, is_in-more, is_in-reverse}
+use Rattle.vt_evict.specs.Orders.{line_pages}
+use Rattle.vt_plan.specs.PageLists.{is_in, each_once, with_page}
+use Rattle.vt_evict.specs.Kept.{IsClosed}
+use Rattle.vt_evict.proofs.ListLemmas.{nat_eq_swap, each_once-distinct, filter_none, by_recursion-reverse, is_in-more, is_in-reverse}
+use Rattle.vt_plan.proofs.ListLemmas.{nat_eq_true, filter_same, is_in-each_once, each_once-append}
 use Rattle.vt_evict.proofs.WalkLemmas.{is_in-push, or_true, or_false}
 
 -- no page of a coarser page's line is this page

@@ -10,8 +10,10 @@ use Rattle.std.proofs.lemmas.List.Kept.{AllPairs-filter}
 use Rattle.vt_pages.specs.Shape.{Shape}
 use Rattle.vt_pages.specs.Pages.{pages_of, level_of, line_of, IsWithinLimits}
 use Rattle.vt_pages.proofs.Parents.{line_rises}
-use Rattle.vt_evict.specs.Orders.{is_in, each_once, line_pages}
-use Rattle.vt_evict.proofs.ListLemmas.{below_in, is_in-append, is_in-reverse, is_in-each_once, each_once-append, each_once_distinct, filter_all, all_true}
+use Rattle.vt_evict.specs.Orders.{line_pages}
+use Rattle.vt_plan.specs.PageLists.{is_in, each_once}
+use Rattle.vt_evict.proofs.ListLemmas.{below_in, is_in-append, is_in-reverse, each_once_distinct}
+use Rattle.vt_plan.proofs.ListLemmas.{is_in-each_once, each_once-append, filter_all, all_true}
 use Rattle.vt_evict.proofs.LineLemmas.{line_below, line_pages-more}
 use Rattle.vt_evict.proofs.PairLemmas.{pairs_append, pairs_reverse, all_in, not_true}
 

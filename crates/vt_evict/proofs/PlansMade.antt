@@ -5,7 +5,7 @@ use Rattle.std.specs.List.{All}
 use Rattle.vt_outside.specs.Lists.{ListView}
 use Rattle.vt_pages.specs.Pages.{pages_of}
 use Rattle.vt_feedback.specs.declared.Wanted.{Wanted}
-use Rattle.vt_evict.specs.declared.batches.Planned.{Planned}
+use Rattle.vt_plan.specs.declared.batches.Planned.{Planned}
 use Rattle.vt_evict.specs.Views.{RecencyView, IsTable}
 use Rattle.vt_evict.specs.Batches.{IsLawful}
 use Rattle.vt_evict.specs.Plans.{plan_of, plan_by, missing_pages}

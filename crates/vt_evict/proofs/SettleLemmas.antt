@@ -10,12 +10,14 @@ use Rattle.std.proofs.lemmas.List.{get_or-set_other, get_or_past, get_or_default
 use Rattle.std.proofs.lemmas.Option.{get_or_from_slice_get}
 use Rattle.std.proofs.lemmas.List.Folds.{list_any_at, list_any_none, Any-from_list_any}
 use Rattle.vt_pages.specs.Pages.{pages_of}
-use Rattle.vt_evict.specs.declared.batches.Planned.{Planned}
-use Rattle.vt_evict.specs.Orders.{is_in}
-use Rattle.vt_evict.specs.Views.{RecencyView, IsTable, is_mapped, is_pinned, is_loose, is_held}
+use Rattle.vt_plan.specs.declared.batches.Planned.{Planned}
+use Rattle.vt_plan.specs.PageLists.{is_in}
+use Rattle.vt_evict.specs.Views.{RecencyView, IsTable, is_pinned, is_loose, is_held}
+use Rattle.vt_plan.specs.Missing.{is_mapped}
 use Rattle.vt_evict.specs.Batches.{IsFree, IsLawful, IsVictim, IsLawfulEntry, IsSettled, is_page, is_victim, is_read, read_entries, settled_order}
 use Rattle.vt_evict.specs.Kept.{without_victim, order_without, applied}
-use Rattle.vt_evict.proofs.ListLemmas.{nat_eq_true, distinct-cons, distinct-filter, all_true, filter_all, filter_absent, filter_twice, filter_same, is_in-filter, and_true, and_false}
+use Rattle.vt_evict.proofs.ListLemmas.{distinct-cons, distinct-filter, filter_absent, and_true, and_false}
+use Rattle.vt_plan.proofs.ListLemmas.{nat_eq_true, all_true, filter_all, filter_twice, filter_same, is_in-filter}
 use Rattle.vt_evict.proofs.WalkLemmas.{or_true}
 
 nor : (b c : Bool) → (not c && not b) ≡ not (b || c)

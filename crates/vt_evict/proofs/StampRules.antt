@@ -12,12 +12,14 @@ use Rattle.vt_pages.specs.Pages.{line_of}
 use Rattle.vt_feedback.specs.declared.Wanted.{Wanted}
 use Rattle.vt_feedback.specs.Wants.{pages_wanted}
 use Rattle.vt_feedback.proofs.OrderedLists.{ordered_are_one}
-use Rattle.vt_evict.specs.declared.batches.Planned.{Planned}
-use Rattle.vt_evict.specs.Orders.{is_in, line_pages}
+use Rattle.vt_plan.specs.declared.batches.Planned.{Planned}
+use Rattle.vt_evict.specs.Orders.{line_pages}
+use Rattle.vt_plan.specs.PageLists.{is_in}
 use Rattle.vt_evict.specs.Views.{RecencyView, IsTable, is_loose, first_view}
 use Rattle.vt_evict.specs.Plans.{candidates}
 use Rattle.vt_evict.specs.Stamps.{Stamp, is_less, Stamps, no_stamps, Pass, IsByEntry, IsByWant, IsOwn, IsGreatest, AreAfter, AreBefore, IsAbove, IsByStamps}
-use Rattle.vt_evict.proofs.ListLemmas.{nat_eq_true, is_in-filter, is_in-reverse}
+use Rattle.vt_evict.proofs.ListLemmas.{is_in-reverse}
+use Rattle.vt_plan.proofs.ListLemmas.{nat_eq_true, is_in-filter}
 use Rattle.vt_evict.proofs.SettleLemmas.{self_eq}
 use Rattle.vt_evict.proofs.PairLemmas.{pairs_reverse, not_true}
 use Rattle.vt_evict.proofs.LineOrders.{in_lines}

@@ -5,9 +5,12 @@ use Rattle.std.proofs.lemmas.Bool.Decides.{nat_tests}
 use Rattle.vt_pages.specs.Pages.{pages_of}
 use Rattle.vt_feedback.specs.declared.Wanted.{Wanted}
 use Rattle.vt_feedback.specs.Wants.{pages_wanted}
-use Rattle.vt_evict.specs.Orders.{is_in, put_first, line_pages}
-use Rattle.vt_evict.specs.Views.{RecencyView, IsTable, is_mapped, is_pinned, is_loose, is_loose_below, touched_pages, touched, pages_needed}
-use Rattle.vt_evict.proofs.ListLemmas.{filter_same, is_in-more, is_in-filter, distinct-filter, each_once_distinct, put_once}
+use Rattle.vt_evict.specs.Orders.{put_first, line_pages}
+use Rattle.vt_plan.specs.PageLists.{is_in}
+use Rattle.vt_evict.specs.Views.{RecencyView, IsTable, is_pinned, is_loose, is_loose_below, touched_pages, touched, pages_needed}
+use Rattle.vt_plan.specs.Missing.{is_mapped}
+use Rattle.vt_evict.proofs.ListLemmas.{is_in-more, distinct-filter, each_once_distinct, put_once}
+use Rattle.vt_plan.proofs.ListLemmas.{filter_same, is_in-filter}
 
 loose_tests : (p pages pinned : ℕ) (m : Bool) → (nat_lt p (pages - pinned) && m) ≡ (m && not (nat_le pages (p + pinned)))
 loose_tests p pages pinned true = grind (arith, nat_tests)

@@ -10,9 +10,10 @@ use Rattle.std.proofs.lemmas.List.{get_or-set_other, get_or_past, length-set, le
 use Rattle.std.proofs.lemmas.Map.Keys.{IsDistinct-push, IsDistinct-head, IsDistinct-tail, IsDistinct-IsPermutation}
 use Rattle.std.proofs.lemmas.List.Sorted.{IsPermutation-to_front}
 use Rattle.vt_outside.specs.Lists.{ListView}
-use Rattle.vt_evict.specs.Orders.{is_in}
+use Rattle.vt_plan.specs.PageLists.{is_in}
 use Rattle.vt_evict.specs.Kept.{IsWalk}
-use Rattle.vt_evict.proofs.ListLemmas.{nat_eq_true, nat_eq_swap, present, is_in-append, room_for}
+use Rattle.vt_evict.proofs.ListLemmas.{nat_eq_swap, present, is_in-append, room_for}
+use Rattle.vt_plan.proofs.ListLemmas.{nat_eq_true}
 
 -- a marked page is one of the pages
 pub marked_below : (n : ℕ) (marks : List Bool) (walked : ListView ℕ) → IsWalk n marks walked → (p : ℕ) → is_in walked.elements p ≡ true → p < n

@@ -1,12 +1,13 @@
 -- What is kept beside the table: the marks of a walk over lines.
-use Rattle.std.specs.Prelude.{◌≡◌, ℕ, ◌+◌, ◌-◌, ◌^◌, ◌≤◌, min, map, ◌&&◌, not, nat_lt, [], Bool, true, false, nat_eq, slice_set, Option, None, Some, ◌∷◌, ◌++◌, if◌then◌else◌, slice_index, List, length, slice_index_or}
+use Rattle.std.specs.Prelude.{◌≡◌, ℕ, ◌+◌, ◌-◌, ◌^◌, ◌≤◌, min, map, ◌&&◌, not, nat_lt, [], Bool, true, false, nat_eq, slice_set, Option, None, Some, ◌∷◌, ◌++◌, List, length, slice_index_or}
 use Rattle.std.specs.List.{IsDistinct, filter, range_with_len}
 use Rattle.vt_outside.specs.Lists.{ListView}
 use Rattle.vt_pages.specs.Shape.{Shape}
 use Rattle.vt_pages.specs.Pages.{pages_of, parent_of}
 use Rattle.vt_feedback.specs.declared.Wanted.{Wanted}
-use Rattle.vt_evict.specs.declared.batches.Planned.{Planned}
-use Rattle.vt_evict.specs.Orders.{is_in}
+use Rattle.vt_plan.specs.declared.batches.Planned.{Planned}
+use Rattle.vt_plan.specs.PageLists.{is_in}
+use Rattle.vt_plan.specs.Entries.{taken_at}
 use Rattle.vt_evict.specs.Views.{RecencyView, IsTable, is_held}
 use Rattle.vt_evict.specs.Plans.{candidates}
 
@@ -45,22 +46,6 @@ applied v e = record v {
   entries = slice_set (without_victim v.entries e.victim) e.page (e.frame + 1);
   order = e.page ∷ order_without v.order e.victim;
 }
-
--- a list with a page at its end, unless it has it
-abbrev pub with_page : List ℕ → ℕ → List ℕ
-with_page xs p = if is_in xs p then xs else xs ++ p ∷ []
-
--- an entry of a plan whose frame is free
-abbrev pub freed_at : List ℕ → List ℕ → ℕ → Planned
-freed_at missing free j = record { page = slice_index missing j; frame = slice_index free j; victim = None }
-
--- an entry of a plan at a place, with a victim
-abbrev pub taken_with : List ℕ → List ℕ → ℕ → ℕ → Planned
-taken_with entries missing place victim = record { page = slice_index missing place; frame = slice_index entries victim - 1; victim = Some victim }
-
--- an entry of a plan that has a victim, after so many that have none
-abbrev pub taken_at : List ℕ → List ℕ → List ℕ → ℕ → ℕ → Planned
-taken_at entries missing victims before j = taken_with entries missing (before + j) (slice_index victims j)
 
 -- behind the entries before, missing pages have the frames of the pages that may be given up, up to so many entries in all
 abbrev pub HasTaken : RecencyView → List Wanted → List ℕ → ℕ → List Planned → List Planned → Type 0

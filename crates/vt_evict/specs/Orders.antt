@@ -1,17 +1,9 @@
--- Lists of pages without repeats, and the pages of lines.
-use Rattle.std.specs.Prelude.{ℕ, nat_eq, Bool, true, false, not, List, [], ◌∷◌, ◌++◌, reverse}
-use Rattle.std.specs.List.{filter, flat_map, list_any}
+-- Orders of pages, and the pages of lines.
+use Rattle.std.specs.Prelude.{ℕ, nat_eq, Bool, true, false, not, List, ◌∷◌, ◌++◌, reverse}
+use Rattle.std.specs.List.{filter, flat_map}
 use Rattle.vt_pages.specs.Shape.{Shape}
 use Rattle.vt_pages.specs.Pages.{line_of}
-
--- whether a page stands in a list
-abbrev pub is_in : List ℕ → ℕ → Bool
-is_in xs p = list_any (nat_eq p) xs
-
--- the pages of a list, each once, at its first place
-abbrev pub each_once : List ℕ → List ℕ
-each_once [] = []
-each_once (x ∷ xs) = x ∷ filter (λ y. not (nat_eq x y)) (each_once xs)
+use Rattle.vt_plan.specs.PageLists.{is_in, each_once}
 
 -- some pages first, and then the others of a list in their order
 unfoldable pub put_first : List ℕ → List ℕ → List ℕ

@@ -1,17 +1,13 @@
 -- The plan: which pages are loaded next, and into which frames.
 use Rattle.std.specs.Prelude.{ℕ, ◌+◌, ◌-◌, nat_lt, not, min, if◌then◌else◌, None, List, ◌++◌, map, length, slice_index, slice_get, reverse}
 use Rattle.std.specs.List.{filter, range_with_len}
-use Rattle.vt_pages.specs.Shape.{Shape}
 use Rattle.vt_feedback.specs.declared.Wanted.{Wanted}
 use Rattle.vt_feedback.specs.Wants.{pages_wanted}
-use Rattle.vt_evict.specs.declared.batches.Planned.{Planned}
-use Rattle.vt_pages.specs.Lookups.{step_of}
-use Rattle.vt_evict.specs.Orders.{is_in, each_once, line_pages}
-use Rattle.vt_evict.specs.Views.{RecencyView, is_mapped, frame_of, free_frames}
-
--- the steps of the unmapped ones of some pages, each once at its first place
-unfoldable pub missing_from : Shape → List ℕ → List ℕ → List ℕ
-missing_from s entries pages = each_once (map (step_of s (is_mapped entries)) (filter (λ p. not (is_mapped entries p)) pages))
+use Rattle.vt_plan.specs.declared.batches.Planned.{Planned}
+use Rattle.vt_plan.specs.PageLists.{is_in}
+use Rattle.vt_plan.specs.Missing.{missing_from}
+use Rattle.vt_evict.specs.Orders.{line_pages}
+use Rattle.vt_evict.specs.Views.{RecencyView, frame_of, free_frames}
 
 -- the missing pages: the steps of the unmapped wanted pages, each once at its first place
 unfoldable pub missing_pages : RecencyView → List Wanted → List ℕ

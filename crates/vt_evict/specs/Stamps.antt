@@ -5,8 +5,8 @@ use Rattle.vt_pages.specs.Shape.{Shape}
 use Rattle.vt_pages.specs.Pages.{level_of, line_of}
 use Rattle.vt_feedback.specs.declared.Wanted.{Wanted}
 use Rattle.vt_feedback.specs.Wants.{pages_wanted}
-use Rattle.vt_evict.specs.declared.batches.Planned.{Planned}
-use Rattle.vt_evict.specs.Orders.{is_in}
+use Rattle.vt_plan.specs.declared.batches.Planned.{Planned}
+use Rattle.vt_plan.specs.PageLists.{is_in}
 use Rattle.vt_evict.specs.Views.{RecencyView, is_loose}
 
 -- a stamp: the pass that gave it, its place among those of that pass, and the level of its page

@@ -6,7 +6,9 @@ use Rattle.vt_pages.specs.Shape.{Shape}
 use Rattle.vt_pages.specs.Pages.{pages_of, IsWithinLimits}
 use Rattle.vt_feedback.specs.declared.Wanted.{Wanted}
 use Rattle.vt_feedback.specs.Wants.{pages_wanted}
-use Rattle.vt_evict.specs.Orders.{is_in, line_pages, put_first}
+use Rattle.vt_plan.specs.PageLists.{is_in}
+use Rattle.vt_plan.specs.Missing.{is_mapped}
+use Rattle.vt_evict.specs.Orders.{line_pages, put_first}
 
 -- the shape of the pages, the numbers of frames and of pinned pages, an entry for each page (0 for unmapped, else its frame and 1), and the
 -- unpinned mapped pages, the most recently used first
@@ -16,10 +18,6 @@ pub record RecencyView : Type 0 where
   pub pinned : ℕ
   pub entries : List ℕ
   pub order : List ℕ
-
--- a page has a frame
-abbrev pub is_mapped : List ℕ → ℕ → Bool
-is_mapped entries p = nat_lt 0 (slice_index entries p)
 
 -- a page below the pinned ones has a frame
 abbrev pub is_loose_below : List ℕ → ℕ → ℕ → Bool

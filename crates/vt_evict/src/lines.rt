@@ -4,14 +4,16 @@ ghost use Rattle.std.specs.Prelude.{◌≡◌, ◌+◌, ◌<◌, false, not, [],
 ghost use Rattle.std.specs.List.{filter, All};
 ghost use Rattle.vt_pages.specs.Pages.{IsWithinLimits, pages_of, line_of};
 ghost use Rattle.vt_feedback.specs.Wants.{pages_wanted};
-ghost use Rattle.vt_evict.specs.Orders.{is_in, line_pages};
-ghost use Rattle.vt_evict.specs.Kept.{IsWalk, IsClosed, with_page};
+ghost use Rattle.vt_evict.specs.Orders.{line_pages};
+ghost use Rattle.vt_plan.specs.PageLists.{is_in};
+ghost use Rattle.vt_evict.specs.Kept.{IsWalk, IsClosed};
 
 use indexmap::IndexSet;
 use std::alloc::Global;
 use vt_feedback::Wants;
 use vt_outside::{Items, NoMemory};
 use vt_pages::Geometry;
+use vt_plan::add_page;
 
 /// The pages that were walked over, each once, and a mark for each page whether it is one of them.
 #[derive(Drop)]
@@ -108,14 +110,6 @@ pub fn walk_lines(geometry: &Geometry, walk: &mut Walk, wants: &Wants)
     for want in list {
         walk_line(geometry, walk, want.page);
     }
-}
-
-/// Adds a page unless it is there.
-pub fn add_page(pages: &mut IndexSet<u32>, page: u32) -> Result<(), NoMemory>
-    ensures { OnOk result (pages.new.keys ≡ with_page pages.old.keys page) }
-{
-    pages.insert(page)?;
-    Ok(())
 }
 
 // Adds the pages of a page's line from its coarsest page on. The lines of pages that are there are there.

@@ -4,16 +4,14 @@ ghost use Rattle.std.specs.Prelude.{◌≡◌, ℕ, ◌+◌, ◌-◌, ◌<◌, �
 ghost use Rattle.std.specs.List.{All, range_with_len};
 ghost use Rattle.vt_definitions.specs.Limits.{most_frames};
 ghost use Rattle.vt_pages.specs.Pages.{pages_of};
-ghost use Rattle.vt_evict.specs.Orders.{is_in};
+ghost use Rattle.vt_plan.specs.PageLists.{is_in};
 ghost use Rattle.vt_evict.specs.Views.{IsTable, first_view, touched, pages_needed};
 ghost use Rattle.vt_evict.specs.Batches.{IsLawful, IsLawfulEntry, IsSettled, read_entries};
 ghost use Rattle.vt_evict.specs.Kept.{applied, HasTaken};
 ghost use Rattle.vt_evict.specs.Plans.{plan_of, plan_by};
 
-use crate::batches::{Batch, Losses, Planned};
 use crate::lines::{Walk, lines_of, walk_lines};
 use crate::orders::{insert, put_first, remove};
-use crate::plans::{missing_of, put_victims, with_free};
 use lru::LruCache;
 use std::alloc::Global;
 use std::collections::BTreeSet;
@@ -21,6 +19,7 @@ use std::marker::Model;
 use vt_feedback::Wants;
 use vt_outside::NoMemory;
 use vt_pages::Geometry;
+use vt_plan::{Batch, Losses, Planned, missing_of, put_victims, with_free};
 
 /// A table that maps pages to frames, with the recency of its mapped pages. Contracts see the table, and the unpinned
 /// mapped pages, the most recently used first.

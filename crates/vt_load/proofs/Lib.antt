@@ -1,5 +1,1 @@
 pub mod Loading
-pub mod Answering
-pub mod Dealing
-pub mod Gathering
-mod Collecting

@@ -13,7 +13,7 @@ use Rattle.vt_journal.specs.Changes.{Table, changed, newest, IsFree}
 use Rattle.vt_journal.specs.JournalText.{changes_of}
 use Rattle.vt_journal.proofs.Versions.{newest-more}
 use Rattle.vt_journal.proofs.EventLines.{changes_of-append}
-use Rattle.vt_evict.specs.declared.batches.Planned.{Planned}
+use Rattle.vt_plan.specs.declared.batches.Planned.{Planned}
 use Rattle.vt_pass.specs.Outcomes.{IsEntryFor, IsBatchFor, IsVictimOf, group_if, group_at, pass_events, IsOutcome}
 
 same_number : (p q : ℕ) → (p == q) ≡ true → p ≡ q

@@ -14,7 +14,7 @@ use Rattle.vt_journal.specs.declared.changes.Event.TheVariants.{Changed}
 use Rattle.vt_journal.specs.Changes.{Table, changed, newest, IsFree}
 use Rattle.vt_journal.specs.JournalText.{changes_of}
 use Rattle.vt_journal.proofs.Versions.{newest-more, entry-same, entry-other, same_page, mapped_after_map, mapped_after_unmap}
-use Rattle.vt_evict.specs.declared.batches.Planned.{Planned}
+use Rattle.vt_plan.specs.declared.batches.Planned.{Planned}
 use Rattle.vt_pass.specs.Outcomes.{IsEntryFor, IsVictimOf, victim_events, group_of, group_if, group_at, pass_events}
 
 -- an entry stays lawful after a change that is not of its page and not of its frame

@@ -7,7 +7,7 @@ use Rattle.vt_journal.specs.declared.changes.Change.TheVariants.{Map, Unmap}
 use Rattle.vt_journal.specs.declared.changes.Event.{Event}
 use Rattle.vt_journal.specs.declared.changes.Event.TheVariants.{Changed, Lost}
 use Rattle.vt_journal.specs.Changes.{Table, IsFree}
-use Rattle.vt_evict.specs.declared.batches.Planned.{Planned}
+use Rattle.vt_plan.specs.declared.batches.Planned.{Planned}
 
 -- a page is mapped to this frame, and is not the root (Mayer 2010)
 pub record IsVictimOf (s : Shape) (m : Table) (frame p : ℕ) : Type 0 where

@@ -9,7 +9,7 @@ use Rattle.vt_journal.specs.declared.changes.Change.TheVariants.{Map}
 use Rattle.vt_journal.specs.declared.changes.RowLine.{RowLine}
 use Rattle.vt_journal.specs.Changes.{Table, newest, IsNext}
 use Rattle.vt_journal.specs.JournalText.{changes_of}
-use Rattle.vt_evict.specs.declared.batches.Planned.{Planned}
+use Rattle.vt_plan.specs.declared.batches.Planned.{Planned}
 use Rattle.vt_pass.specs.declared.crew.PassReport.{PassReport}
 use Rattle.vt_shown.specs.Scenes.{Scene}
 use Rattle.vt_pass.specs.Scenes.{Job}

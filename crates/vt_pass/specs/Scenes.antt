@@ -2,7 +2,7 @@
 use Rattle.std.specs.Prelude.{ℕ, List}
 use Rattle.vt_draw.specs.declared.shots.Shot.{Shot}
 use Rattle.vt_shown.specs.Scenes.{Scene, scene_of}
-use Rattle.vt_evict.specs.declared.batches.Planned.{Planned}
+use Rattle.vt_plan.specs.declared.batches.Planned.{Planned}
 
 -- the work of a pass: a picture of a scene, by its number, and the batch that is streamed
 pub record Job : Type 0 where

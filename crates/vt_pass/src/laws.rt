@@ -11,7 +11,7 @@ ghost use Rattle.vt_journal.specs.declared.changes.Change.{Change};
 ghost use Rattle.vt_journal.specs.declared.changes.Event.{Event};
 ghost use Rattle.vt_journal.specs.Changes.{Table, newest};
 ghost use Rattle.vt_journal.specs.JournalText.{changes_of};
-ghost use Rattle.vt_evict.specs.declared.batches.Planned.{Planned};
+ghost use Rattle.vt_plan.specs.declared.batches.Planned.{Planned};
 ghost use Rattle.vt_draw.specs.Shots.{shot_row, IsDrawn};
 ghost use Rattle.vt_tiles.specs.Format.{stored, tile_start, tile_length};
 ghost use Rattle.vt_tiles.specs.StoreViews.{IsStore};

@@ -7,7 +7,7 @@ ghost use Rattle.vt_pages.specs.Pages.{IsWithinLimits};
 ghost use Rattle.vt_camera.specs.Paths.{PathView};
 ghost use Rattle.vt_journal.specs.Changes.{Table};
 ghost use Rattle.vt_tiles.specs.StoreViews.{IsStore};
-ghost use Rattle.vt_evict.specs.declared.batches.Planned.{Planned};
+ghost use Rattle.vt_plan.specs.declared.batches.Planned.{Planned};
 ghost use Rattle.vt_outside.specs.declared.answers.NoMemory.{NoMemory as Refusal};
 ghost use Rattle.vt_pass.specs.declared.crew.PassReport.{PassReport as Report};
 ghost use Rattle.vt_shown.specs.Scenes.{Scene};

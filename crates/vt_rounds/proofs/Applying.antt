@@ -15,11 +15,11 @@ use Rattle.vt_journal.specs.JournalText.{changes_of}
 use Rattle.vt_journal.proofs.EventLines.{changes_of-append}
 use Rattle.vt_tiles.specs.Format.{tile_start}
 use Rattle.vt_table.specs.Views.{TableView, IsTable}
-use Rattle.vt_evict.specs.declared.batches.Planned.{Planned}
+use Rattle.vt_plan.specs.declared.batches.Planned.{Planned}
 use Rattle.vt_queue.specs.declared.items.Loaded.{Loaded}
 use Rattle.vt_queue.specs.declared.items.Outcome.TheVariants.{Read}
 use Rattle.vt_load.specs.Readings.{is_lost}
-use Rattle.vt_load.specs.Results.{IsGood}
+use Rattle.vt_loaders.specs.Results.{IsGood}
 use Rattle.vt_pass.specs.Outcomes.{IsEntryFor, IsBatchFor, group_of, group_if}
 use Rattle.vt_shown.specs.Frames.{HoldsTiles}
 use Rattle.vt_rounds.specs.Streams.{Publishes, IsTileOf}

@@ -9,7 +9,7 @@ use Rattle.std.proofs.lemmas.Option.{slice_get-get_or}
 use Rattle.vt_pages.specs.Shape.{Shape}
 use Rattle.vt_pages.specs.Pages.{pages_of}
 use Rattle.vt_tiles.specs.Format.{tile_length}
-use Rattle.vt_evict.specs.declared.batches.Planned.{Planned}
+use Rattle.vt_plan.specs.declared.batches.Planned.{Planned}
 use Rattle.vt_queue.specs.declared.items.Request.{Request}
 use Rattle.vt_queue.specs.declared.queue.Queue.{Queue}
 use Rattle.vt_queue.specs.declared.views.PassView.{PassView}
@@ -19,7 +19,7 @@ use Rattle.vt_queue.specs.Steps.{Puts}
 use Rattle.vt_queue.specs.Queues.{capacity_of, WasFull}
 use Rattle.vt_queue.proofs.OrderLemmas.{puts_last, full_of}
 use Rattle.vt_load.specs.Readings.{is_readable}
-use Rattle.vt_load.specs.Results.{wanted_by}
+use Rattle.vt_loaders.specs.Results.{wanted_by}
 use Rattle.vt_rounds.specs.BatchRounds.{page_if, entry_asks, ArePut}
 
 -- So many requests were put through a whole pass, and nothing was taken.

@@ -12,7 +12,7 @@ use Rattle.vt_journal.specs.Changes.{Table, changed, newest, IsFree, IsLegalNext
 use Rattle.vt_journal.specs.JournalText.{changes_of}
 use Rattle.vt_journal.proofs.Versions.{newest-more, mapped_after_map, mapped_after_unmap}
 use Rattle.vt_journal.proofs.EventLines.{changes_of-append}
-use Rattle.vt_evict.specs.declared.batches.Planned.{Planned}
+use Rattle.vt_plan.specs.declared.batches.Planned.{Planned}
 use Rattle.vt_definitions.specs.Depths.{IsDepth, texel_length}
 use Rattle.vt_tiles.specs.Format.{tile_length}
 use Rattle.vt_table.specs.Views.{TableView, IsTable, IsTile, IsWithin, tile_of}

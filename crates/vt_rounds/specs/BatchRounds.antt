@@ -8,7 +8,7 @@ use Rattle.vt_journal.specs.declared.changes.Event.{Event}
 use Rattle.vt_journal.specs.Changes.{newest}
 use Rattle.vt_journal.specs.JournalText.{changes_of}
 use Rattle.vt_table.specs.Views.{TableView, IsTable}
-use Rattle.vt_evict.specs.declared.batches.Planned.{Planned}
+use Rattle.vt_plan.specs.declared.batches.Planned.{Planned}
 use Rattle.vt_queue.specs.declared.items.Request.{Request}
 use Rattle.vt_queue.specs.declared.items.Loaded.{Loaded}
 use Rattle.vt_queue.specs.declared.views.PassView.{PassView}
@@ -16,10 +16,10 @@ use Rattle.vt_queue.specs.declared.queue.QueuePass.{QueuePass}
 use Rattle.vt_queue.specs.Queues.{view_of}
 use Rattle.vt_queue.specs.PassViews.{all_shares}
 use Rattle.vt_queue.specs.Orders.{items_of}
-use Rattle.vt_load.specs.declared.queued.Queues.{Queues}
+use Rattle.vt_loaders.specs.declared.queued.Queues.{Queues}
 use Rattle.vt_load.specs.Readings.{is_lost, is_readable}
-use Rattle.vt_load.specs.Results.{wanted_by, IsGood}
-use Rattle.vt_load.specs.QueuedLoaders.{QueuedView, stores_of, HasLoaded, IsLoaderOf, AreSplitOff}
+use Rattle.vt_loaders.specs.Results.{wanted_by, IsGood}
+use Rattle.vt_loaders.specs.QueuedLoaders.{QueuedView, stores_of, HasLoaded, IsLoaderOf, AreSplitOff}
 use Rattle.vt_pass.specs.Outcomes.{group_if, IsEntryFor, IsOutcome}
 use Rattle.vt_pass.specs.Requests.{AreReadFor}
 use Rattle.vt_pass.specs.Machines.{files_of}

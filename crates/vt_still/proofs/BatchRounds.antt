@@ -14,16 +14,16 @@ use Rattle.vt_outside.specs.Places.{times_asked, times_failed, is_read_of}
 use Rattle.vt_outside.specs.Counts.{RoseBy, RoseTogetherBy, count_end}
 use Rattle.vt_pages.specs.Shape.{Shape}
 use Rattle.vt_journal.specs.declared.changes.Event.{Event}
-use Rattle.vt_evict.specs.declared.batches.Planned.{Planned}
+use Rattle.vt_plan.specs.declared.batches.Planned.{Planned}
 use Rattle.vt_evict.specs.Batches.{read_entries}
 use Rattle.vt_queue.specs.declared.items.Loaded.{Loaded}
 use Rattle.vt_queue.specs.Orders.{items_of}
 use Rattle.vt_load.specs.Readings.{is_lost}
-use Rattle.vt_load.specs.Results.{given_by, read_place, lost_among, IsReadFor}
-use Rattle.vt_load.specs.Together.{Portion, all_put}
-use Rattle.vt_load.specs.QueuedLoaders.{QueuedView, stores_of}
-use Rattle.vt_load.specs.Rounds.{Round, AreServed}
-use Rattle.vt_load.proofs.Dealing.{all_unmap}
+use Rattle.vt_loaders.specs.Results.{given_by, read_place, lost_among, IsReadFor}
+use Rattle.vt_loaders.specs.Together.{Portion, all_put}
+use Rattle.vt_loaders.specs.QueuedLoaders.{QueuedView, stores_of}
+use Rattle.vt_loaders.specs.Rounds.{Round, AreServed}
+use Rattle.vt_loaders.proofs.Dealing.{all_unmap}
 use Rattle.vt_pass.specs.Outcomes.{lost_count, group_if, pass_events, IsOrder, IsOutcome}
 use Rattle.vt_pass.specs.Requests.{FileState, AllTell, times_asked_by, times_failed_by, is_tile_at, times_planned, lost_entries, counts_of, AreReadFor}
 use Rattle.vt_pass.specs.Machines.{file_state, files_of}

@@ -16,17 +16,17 @@ use Rattle.vt_journal.specs.declared.changes.Event.{Event}
 use Rattle.vt_tiles.specs.Format.{tile_length}
 use Rattle.vt_tiles.specs.StoreViews.{StoreView}
 use Rattle.vt_table.specs.Views.{TableView, IsTile}
-use Rattle.vt_evict.specs.declared.batches.Planned.{Planned}
+use Rattle.vt_plan.specs.declared.batches.Planned.{Planned}
 use Rattle.vt_queue.specs.declared.items.Request.{Request}
 use Rattle.vt_queue.specs.declared.items.Loaded.{Loaded}
 use Rattle.vt_queue.specs.declared.views.PassView.{PassView}
 use Rattle.vt_queue.specs.PassViews.{all_joined}
 use Rattle.vt_queue.specs.Steps.{IsAtStep}
-use Rattle.vt_load.specs.declared.queued.Queues.{Queues}
-use Rattle.vt_load.specs.Results.{IsGood}
-use Rattle.vt_load.specs.QueuedLoaders.{QueuedView, asks_of, answers_of, stores_of, Collects}
-use Rattle.vt_load.specs.Rounds.{Round, IsRound, AreServed}
-use Rattle.vt_load.proofs.Gathering.{each_once}
+use Rattle.vt_loaders.specs.declared.queued.Queues.{Queues}
+use Rattle.vt_loaders.specs.Results.{IsGood}
+use Rattle.vt_loaders.specs.QueuedLoaders.{QueuedView, asks_of, answers_of, stores_of, Collects}
+use Rattle.vt_loaders.specs.Rounds.{Round, IsRound, AreServed}
+use Rattle.vt_loaders.proofs.Gathering.{each_once}
 use Rattle.vt_outside.specs.Places.{times_asked, times_failed}
 use Rattle.vt_pass.specs.Outcomes.{lost_count, IsOrder}
 use Rattle.vt_pass.specs.Requests.{FileState, times_planned, lost_entries, counts_of, AreReadFor}

@@ -17,7 +17,7 @@ use Rattle.vt_journal.specs.Changes.{newest, at}
 use Rattle.vt_pass.specs.Machines.{told_by, AreStoresFor}
 use Rattle.vt_sampler.specs.Notes.{MapsRoot as TableMapsRoot}
 use Rattle.vt_camera.specs.Paths.{PathView}
-use Rattle.vt_load.specs.declared.queued.Queues.{Queues}
+use Rattle.vt_loaders.specs.declared.queued.Queues.{Queues}
 use Rattle.vt_still.specs.declared.tasks.StillSampler.{StillSampler}
 use Rattle.vt_pass.specs.Scenes.{Job}
 use Rattle.vt_pass.specs.All.{AllReady}

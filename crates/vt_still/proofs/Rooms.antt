@@ -16,8 +16,8 @@ use Rattle.vt_camera.specs.Paths.{ArePictureSides}
 use Rattle.vt_journal.specs.Changes.{newest}
 use Rattle.vt_table.specs.Views.{TableView, IsTable}
 use Rattle.vt_tiles.specs.Format.{tile_length}
-use Rattle.vt_evict.specs.declared.batches.Planned.{Planned}
-use Rattle.vt_load.specs.declared.queued.Queues.{Queues}
+use Rattle.vt_plan.specs.declared.batches.Planned.{Planned}
+use Rattle.vt_loaders.specs.declared.queued.Queues.{Queues}
 use Rattle.vt_still.specs.RoundKits.{IsSetUp, IsAsked}
 use Rattle.vt_pass.specs.declared.crew.Crew.{Crew}
 use Rattle.vt_pass.specs.Crews.{IsCrew}

@@ -11,12 +11,12 @@ use Rattle.vt_journal.specs.declared.changes.Event.{Event}
 use Rattle.vt_tiles.specs.Format.{tile_length}
 use Rattle.vt_tiles.specs.StoreViews.{StoreView}
 use Rattle.vt_table.specs.Views.{TableView}
-use Rattle.vt_evict.specs.declared.batches.Planned.{Planned}
+use Rattle.vt_plan.specs.declared.batches.Planned.{Planned}
 use Rattle.vt_queue.specs.Queues.{view_of}
-use Rattle.vt_load.specs.declared.queued.Queues.{Queues}
+use Rattle.vt_loaders.specs.declared.queued.Queues.{Queues}
 use Rattle.vt_load.specs.Loaders.{LoaderView}
-use Rattle.vt_load.specs.QueuedLoaders.{QueuedView, stores_of}
-use Rattle.vt_load.proofs.Answering.{bytes_kept}
+use Rattle.vt_loaders.specs.QueuedLoaders.{QueuedView, stores_of}
+use Rattle.vt_loaders.proofs.Answering.{bytes_kept}
 use Rattle.vt_still.specs.declared.tasks.StillSampler.{StillSampler}
 use Rattle.vt_pass.specs.Scenes.{Job}
 use Rattle.vt_pass.specs.Requests.{AreReadFor}

@@ -14,12 +14,12 @@ use Rattle.vt_tiles.specs.Format.{tile_length}
 use Rattle.vt_tiles.specs.StoreViews.{StoreView, IsStoreIfTold}
 use Rattle.vt_table.specs.Views.{TableView, IsTable}
 use Rattle.vt_sampler.specs.Samplers.{SamplerView, row_at}
-use Rattle.vt_evict.specs.declared.batches.Planned.{Planned}
+use Rattle.vt_plan.specs.declared.batches.Planned.{Planned}
 use Rattle.vt_pass.specs.declared.crew.Crew.{Crew}
 use Rattle.vt_still.specs.declared.tasks.StillSampler.{StillSampler}
 use Rattle.vt_pass.specs.Crews.{IsCrew}
 use Rattle.vt_pass.specs.Outcomes.{IsBatchFor}
-use Rattle.vt_load.specs.declared.queued.Queues.{Queues}
+use Rattle.vt_loaders.specs.declared.queued.Queues.{Queues}
 use Rattle.vt_shown.specs.Frames.{HoldsTiles}
 use Rattle.vt_rounds.specs.Sizes.{AreSized}
 use Rattle.vt_still.specs.RoundKits.{RoundKitView, IsSetUp, IsAsked}

@@ -13,8 +13,8 @@ use Rattle.vt_tiles.specs.StoreViews.{StoreView}
 use Rattle.vt_queue.specs.declared.items.Loaded.{Loaded}
 use Rattle.vt_queue.specs.declared.views.PassView.{PassView}
 use Rattle.vt_queue.specs.Queues.{view_of}
-use Rattle.vt_load.specs.declared.queued.Queues.{Queues}
-use Rattle.vt_load.specs.QueuedLoaders.{QueuedView, HasLoaded, stores_of}
+use Rattle.vt_loaders.specs.declared.queued.Queues.{Queues}
+use Rattle.vt_loaders.specs.QueuedLoaders.{QueuedView, HasLoaded, stores_of}
 use Rattle.vt_pass.specs.declared.crew.PassReport.{PassReport}
 use Rattle.vt_still.specs.declared.tasks.StillSampler.{StillSampler}
 use Rattle.vt_shown.specs.Scenes.{Scene}

@@ -11,8 +11,8 @@ use Rattle.vt_tiles.specs.Format.{tile_length}
 use Rattle.vt_table.specs.Views.{TableView, IsTable}
 use Rattle.vt_sampler.specs.Notes.{IsTrueOf}
 use Rattle.vt_queue.specs.Queues.{view_of}
-use Rattle.vt_load.specs.declared.queued.Queues.{Queues}
-use Rattle.vt_load.specs.QueuedLoaders.{QueuedView, AreOf, stores_of}
+use Rattle.vt_loaders.specs.declared.queued.Queues.{Queues}
+use Rattle.vt_loaders.specs.QueuedLoaders.{QueuedView, AreOf, stores_of}
 use Rattle.vt_pass.specs.declared.crew.PassReport.{PassReport}
 use Rattle.vt_still.specs.declared.tasks.StillSampler.{StillSampler}
 use Rattle.vt_pass.specs.Scenes.{Job}

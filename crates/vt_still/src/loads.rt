@@ -3,10 +3,10 @@
 ghost use Rattle.std.specs.Prelude.{◌≡◌, ℕ, Bool, List, length, All, Option};
 ghost use Rattle.vt_pages.specs.Shape.{Shape};
 ghost use Rattle.vt_journal.specs.declared.changes.Event.{Event};
-ghost use Rattle.vt_evict.specs.declared.batches.Planned.{Planned as Entry};
+ghost use Rattle.vt_plan.specs.declared.batches.Planned.{Planned as Entry};
 ghost use Rattle.vt_queue.specs.Orders.{items_of};
-ghost use Rattle.vt_load.specs.QueuedLoaders.{stores_of};
-ghost use Rattle.vt_load.specs.Rounds.{Round, AreServed};
+ghost use Rattle.vt_loaders.specs.QueuedLoaders.{stores_of};
+ghost use Rattle.vt_loaders.specs.Rounds.{Round, AreServed};
 ghost use Rattle.vt_pass.specs.Outcomes.{IsOrder, IsOutcome};
 ghost use Rattle.vt_pass.specs.Requests.{AreReadFor};
 ghost use Rattle.vt_pass.specs.Machines.{files_of};

@@ -4,7 +4,7 @@ ghost use Rattle.std.specs.Prelude.{◌≡◌, ◌*◌, ◌^◌, ◌<◌, ◌≤
 ghost use Rattle.vt_journal.specs.Changes.{newest};
 ghost use Rattle.vt_tiles.specs.Format.{tile_length};
 ghost use Rattle.vt_table.specs.Views.{IsTable};
-ghost use Rattle.vt_load.specs.QueuedLoaders.{AreOf, stores_of};
+ghost use Rattle.vt_loaders.specs.QueuedLoaders.{AreOf, stores_of};
 ghost use Rattle.vt_pass.specs.Outcomes.{IsBatchFor};
 ghost use Rattle.vt_rounds.specs.BatchRounds.{Begun as Start, HaveEnded, IsStreamed};
 
@@ -12,7 +12,7 @@ use std::sync::Wait;
 use std::thread::Threads;
 use vt_evict::{Losses, Planned};
 use vt_journal::Events;
-use vt_load::{QueuedLoader, Queues, collect, take_back};
+use vt_loaders::{QueuedLoader, Queues, collect, take_back};
 use vt_outside::{File, Items};
 use vt_queue::{Loaded, QueuePass, Request};
 use vt_rounds::apply_results;

@@ -10,7 +10,7 @@ use std::sync::Wait;
 use std::thread::Threads;
 use vt_draw::Shot;
 use vt_evict::Planned;
-use vt_load::{QueuedLoader, Queues};
+use vt_loaders::{QueuedLoader, Queues};
 use vt_outside::{File, Gate, NoMemory};
 use vt_pages::Geometry;
 use vt_pass::Task;
@@ -45,7 +45,7 @@ impl StillShared {
 }
 
 impl<F: File> Task<StillShared> for QueuedLoader<F> {
-    ghost use Rattle.vt_load.specs.QueuedLoaders.{MayLoad, HasLoaded};
+    ghost use Rattle.vt_loaders.specs.QueuedLoaders.{MayLoad, HasLoaded};
 
     ghost ready = { λ shared job loader. MayLoad F.File shared.queues loader };
 

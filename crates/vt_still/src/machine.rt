@@ -21,7 +21,7 @@ use vt_draw::Shot;
 use vt_evict::Batch;
 use vt_feedback::Counts;
 use vt_journal::Journal;
-use vt_load::QueuedLoader;
+use vt_loaders::QueuedLoader;
 use vt_outside::{File, Gate, Items, NoMemory};
 use vt_pages::Geometry;
 use vt_pass::{Crew, PassMachine, PassReport};

@@ -20,7 +20,7 @@ use crate::pass::worked::{By, Passes};
 use vt_evict::Planned;
 use vt_feedback::Wanted;
 use vt_journal::{Change, Event, RowLine};
-use vt_load::QueuedLoader;
+use vt_loaders::QueuedLoader;
 use vt_outside::{Fail, MemoryFile, Place};
 use vt_pass::{Crew, Task};
 use vt_still::StillShared;

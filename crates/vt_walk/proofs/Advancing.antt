@@ -12,7 +12,7 @@ use Rattle.vt_journal.specs.Changes.{Table, newest}
 use Rattle.vt_journal.specs.JournalText.{Pass, IsEventInChain}
 use Rattle.vt_feedback.specs.declared.Wanted.{Wanted}
 use Rattle.vt_feedback.specs.Wants.{IsWants}
-use Rattle.vt_evict.specs.declared.batches.Planned.{Planned}
+use Rattle.vt_plan.specs.declared.batches.Planned.{Planned}
 use Rattle.vt_evict.specs.Views.{RecencyView, pages_needed}
 use Rattle.vt_evict.specs.Batches.{IsLawful, IsSettled, read_entries}
 use Rattle.vt_evict.specs.Plans.{plan_of}

@@ -5,7 +5,7 @@ use Rattle.vt_pages.specs.Shape.{Shape}
 use Rattle.vt_pages.specs.Pages.{pages_of, root_of, IsWithinLimits}
 use Rattle.vt_pages.proofs.Lines.{reaches_root}
 use Rattle.vt_journal.specs.Changes.{Table, IsFree}
-use Rattle.vt_evict.specs.declared.batches.Planned.{Planned}
+use Rattle.vt_plan.specs.declared.batches.Planned.{Planned}
 use Rattle.vt_evict.specs.Views.{RecencyView, IsTable}
 use Rattle.vt_evict.specs.Batches.{IsLawful, IsLawfulEntry, IsVictim, IsFree as HasNoPage}
 use Rattle.vt_pass.specs.Outcomes.{IsEntryFor, IsBatchFor, IsVictimOf}

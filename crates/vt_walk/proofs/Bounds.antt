@@ -15,7 +15,7 @@ use Rattle.vt_journal.specs.declared.changes.Event.TheVariants.{Changed, Lost}
 use Rattle.vt_journal.specs.JournalText.{IsEventInChain, changes_of, pinned_change}
 use Rattle.vt_journal.specs.Following.{AreEventsAfter}
 use Rattle.vt_journal.proofs.EventLines.{length-changes_of}
-use Rattle.vt_evict.specs.declared.batches.Planned.{Planned}
+use Rattle.vt_plan.specs.declared.batches.Planned.{Planned}
 use Rattle.vt_pass.specs.Outcomes.{victim_events, group_if, group_at, pass_events, IsOutcome}
 use Rattle.vt_walk.specs.Fits.{WalkSetup}
 use Rattle.vt_walk.specs.Runs.{WalkPass, IsWalkSetup, IsRun, IsNextPass, journal_after}

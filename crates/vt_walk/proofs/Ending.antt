@@ -12,7 +12,7 @@ use Rattle.vt_words.specs.Names.{picture_name}
 use Rattle.vt_camera.specs.Paths.{PathView}
 use Rattle.vt_journal.specs.Changes.{Table}
 use Rattle.vt_tiles.specs.StoreViews.{IsStore}
-use Rattle.vt_evict.specs.declared.batches.Planned.{Planned}
+use Rattle.vt_plan.specs.declared.batches.Planned.{Planned}
 use Rattle.vt_evict.specs.Views.{RecencyView, pages_needed}
 use Rattle.vt_shown.specs.Scenes.{Scene}
 use Rattle.vt_pass.specs.Outcomes.{lost_count}

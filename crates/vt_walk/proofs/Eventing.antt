@@ -18,7 +18,7 @@ use Rattle.vt_journal.specs.Changes.{Table, changed, newest, IsFree, IsNext, IsO
 use Rattle.vt_journal.specs.JournalText.{changes_of}
 use Rattle.vt_journal.specs.Following.{AreEventsAfter}
 use Rattle.vt_journal.proofs.Versions.{newest-more, in_turn-more, one_to_one, mapped_after_unmap}
-use Rattle.vt_evict.specs.declared.batches.Planned.{Planned}
+use Rattle.vt_plan.specs.declared.batches.Planned.{Planned}
 use Rattle.vt_evict.proofs.SettleLemmas.{self_eq}
 use Rattle.vt_evict.proofs.ListLemmas.{nat_eq_swap, range_once}
 use Rattle.vt_pass.specs.Outcomes.{IsEntryFor, IsBatchFor, IsVictimOf, victim_events, group_of, group_if, group_at, pass_events, IsOutcome}

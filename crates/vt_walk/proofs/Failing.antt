@@ -2,7 +2,7 @@
 use Rattle.std.proofs.Common.{◌≡◌, ℕ, ◌+◌, ◌≤◌, inr, List, ◌∷◌, length, sum, Option, Some, None, ap, arith}
 use Rattle.vt_outside.specs.Counts.{added, Rose, RoseBy, RoseTogetherBy}
 use Rattle.vt_outside.specs.declared.place.Place.{Place}
-use Rattle.vt_evict.specs.declared.batches.Planned.{Planned}
+use Rattle.vt_plan.specs.declared.batches.Planned.{Planned}
 use Rattle.vt_turns.specs.declared.mode.Mode.{Mode}
 use Rattle.vt_turns.specs.declared.mode.Mode.TheVariants.{Live, Settled}
 use Rattle.vt_walk.specs.Walks.{WalkGiven}

@@ -9,7 +9,7 @@ use Rattle.vt_camera.specs.Paths.{PathView}
 use Rattle.vt_journal.specs.Changes.{Table}
 use Rattle.vt_journal.specs.JournalText.{Pass, pass_text}
 use Rattle.vt_journal.specs.Passes.{pass_of as text_of}
-use Rattle.vt_evict.specs.declared.batches.Planned.{Planned}
+use Rattle.vt_plan.specs.declared.batches.Planned.{Planned}
 use Rattle.vt_evict.specs.Views.{RecencyView}
 use Rattle.vt_shown.specs.Scenes.{Scene}
 use Rattle.vt_pass.specs.Outcomes.{lost_count}

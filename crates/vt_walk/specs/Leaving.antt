@@ -6,7 +6,7 @@ use Rattle.vt_outside.specs.declared.place.Place.{Place}
 use Rattle.vt_camera.specs.Paths.{PathView}
 use Rattle.vt_journal.specs.JournalText.{head_text, pass_text}
 use Rattle.vt_pages.specs.Shape.{Shape}
-use Rattle.vt_evict.specs.declared.batches.Planned.{Planned}
+use Rattle.vt_plan.specs.declared.batches.Planned.{Planned}
 use Rattle.vt_pass.specs.Outcomes.{lost_count}
 use Rattle.vt_pass.specs.Requests.{lost_entries}
 use Rattle.vt_words.specs.Names.{picture_name}

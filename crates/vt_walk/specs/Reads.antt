@@ -6,7 +6,7 @@ use Rattle.vt_outside.specs.Places.{times_asked, times_failed}
 use Rattle.vt_pages.specs.Shape.{Shape}
 use Rattle.vt_pages.specs.Pages.{pages_of}
 use Rattle.vt_tiles.specs.Format.{tile_start, tile_length}
-use Rattle.vt_evict.specs.declared.batches.Planned.{Planned}
+use Rattle.vt_plan.specs.declared.batches.Planned.{Planned}
 use Rattle.vt_pass.specs.Requests.{is_tile_at, times_planned}
 
 -- how often a place is that of a pinned page's tile; the pinned pages are the last so many (Mayer 2010)

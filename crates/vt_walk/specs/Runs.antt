@@ -8,7 +8,7 @@ use Rattle.vt_journal.specs.declared.changes.RowLine.{RowLine}
 use Rattle.vt_journal.specs.JournalText.{Pass, Content, changes_of, pinned_changes, journal_text}
 use Rattle.vt_feedback.specs.declared.Wanted.{Wanted}
 use Rattle.vt_feedback.specs.Wants.{IsWants}
-use Rattle.vt_evict.specs.declared.batches.Planned.{Planned}
+use Rattle.vt_plan.specs.declared.batches.Planned.{Planned}
 use Rattle.vt_evict.specs.Views.{RecencyView, first_view, touched}
 use Rattle.vt_evict.specs.Batches.{IsSettled, read_entries}
 use Rattle.vt_evict.specs.Plans.{plan_of}

@@ -6,9 +6,10 @@ use Rattle.std.proofs.lemmas.Bool.{false≢true}
 use Rattle.std.proofs.lemmas.Grind.{flat_map-append}
 use Rattle.std.proofs.lemmas.List.{append-nil, map-append}
 use Rattle.vt_feedback.specs.declared.Wanted.{Wanted}
-use Rattle.vt_evict.specs.declared.batches.Planned.{Planned}
-use Rattle.vt_evict.specs.Orders.{is_in}
-use Rattle.vt_evict.proofs.ListLemmas.{is_in-append, is_in-filter, filter_twice, filter_same, filter_all, all_true, distinct-append}
+use Rattle.vt_plan.specs.declared.batches.Planned.{Planned}
+use Rattle.vt_plan.specs.PageLists.{is_in}
+use Rattle.vt_evict.proofs.ListLemmas.{is_in-append, distinct-append}
+use Rattle.vt_plan.proofs.ListLemmas.{is_in-filter, filter_twice, filter_same, filter_all, all_true}
 use Rattle.vt_evict.proofs.SettleLemmas.{same_bool}
 use Rattle.vt_pass.specs.Outcomes.{lost_count}
 use Rattle.vt_turns.specs.declared.mode.Mode.{Mode}

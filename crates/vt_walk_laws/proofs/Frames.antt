@@ -19,10 +19,13 @@ use Rattle.vt_pages.specs.Lookups.{step_of}
 use Rattle.vt_pages.proofs.Parents.{level_below}
 use Rattle.vt_feedback.specs.declared.Wanted.{Wanted}
 use Rattle.vt_feedback.specs.Wants.{pages_wanted}
-use Rattle.vt_evict.specs.Orders.{is_in, line_pages}
-use Rattle.vt_evict.specs.Views.{RecencyView, IsTable, is_mapped, is_pinned, is_held, frame_of, free_frames, pages_needed}
-use Rattle.vt_evict.specs.Plans.{missing_pages, missing_from, candidates, planned_at, planned_count, plan_of}
-use Rattle.vt_evict.proofs.ListLemmas.{nat_eq_true, nat_eq_swap, is_in-filter, is_in-append, is_in-reverse, is_in-each_once, each_once_distinct, distinct-filter, distinct-append, range_once}
+use Rattle.vt_evict.specs.Orders.{line_pages}
+use Rattle.vt_plan.specs.PageLists.{is_in}
+use Rattle.vt_evict.specs.Views.{RecencyView, IsTable, is_pinned, is_held, frame_of, free_frames, pages_needed}
+use Rattle.vt_plan.specs.Missing.{is_mapped, missing_from}
+use Rattle.vt_evict.specs.Plans.{missing_pages, candidates, planned_at, planned_count, plan_of}
+use Rattle.vt_evict.proofs.ListLemmas.{nat_eq_swap, is_in-append, is_in-reverse, each_once_distinct, distinct-filter, distinct-append, range_once}
+use Rattle.vt_plan.proofs.ListLemmas.{nat_eq_true, is_in-filter, is_in-each_once}
 use Rattle.vt_evict.proofs.FreeLemmas.{is_in-range}
 use Rattle.vt_evict.proofs.LineOrders.{in_lines}
 use Rattle.vt_evict.proofs.SettleLemmas.{self_eq, held_by}

@@ -9,8 +9,8 @@ use Rattle.vt_pages.specs.Lookups.{step_of}
 use Rattle.vt_pages.proofs.Lines.{parent_is, parent_none}
 use Rattle.vt_pages.proofs.Parents.{parent_facts, root_facts, line_begins}
 use Rattle.vt_pages.proofs.Steps.{step_root, step_below, step_up}
-use Rattle.vt_evict.specs.Orders.{is_in, each_once}
-use Rattle.vt_evict.proofs.ListLemmas.{nat_eq_true, filter_twice, filter_same}
+use Rattle.vt_plan.specs.PageLists.{is_in, each_once}
+use Rattle.vt_plan.proofs.ListLemmas.{nat_eq_true, filter_twice, filter_same}
 use Rattle.vt_evict.proofs.SettleLemmas.{self_eq}
 
 -- the part of a list before the first page that is mapped

@@ -6,9 +6,10 @@ use Rattle.std.proofs.lemmas.List.Sums.{length-filter}
 use Rattle.vt_pages.specs.Shape.{Shape}
 use Rattle.vt_feedback.specs.declared.Wanted.{Wanted}
 use Rattle.vt_feedback.specs.Wants.{pages_wanted, IsWants}
-use Rattle.vt_evict.specs.declared.batches.Planned.{Planned}
-use Rattle.vt_evict.specs.Orders.{is_in}
-use Rattle.vt_evict.specs.Views.{RecencyView, IsTable, is_mapped, pages_needed}
+use Rattle.vt_plan.specs.declared.batches.Planned.{Planned}
+use Rattle.vt_plan.specs.PageLists.{is_in}
+use Rattle.vt_evict.specs.Views.{RecencyView, IsTable, pages_needed}
+use Rattle.vt_plan.specs.Missing.{is_mapped}
 use Rattle.vt_evict.specs.Batches.{IsSettledTable, read_entries}
 use Rattle.vt_evict.specs.Plans.{missing_pages, plan_of}
 use Rattle.vt_pass.specs.Outcomes.{lost_count}

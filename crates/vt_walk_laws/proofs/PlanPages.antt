@@ -13,12 +13,15 @@ use Rattle.vt_pages.specs.Lookups.{step_of, pages_before}
 use Rattle.vt_pages.proofs.Parents.{level_below, line_begins}
 use Rattle.vt_feedback.specs.declared.Wanted.{Wanted}
 use Rattle.vt_feedback.specs.Wants.{pages_wanted}
-use Rattle.vt_evict.specs.declared.batches.Planned.{Planned}
-use Rattle.vt_evict.specs.Orders.{is_in, each_once, line_pages}
-use Rattle.vt_evict.specs.Views.{RecencyView, IsTable, is_mapped, free_frames}
+use Rattle.vt_plan.specs.declared.batches.Planned.{Planned}
+use Rattle.vt_evict.specs.Orders.{line_pages}
+use Rattle.vt_plan.specs.PageLists.{is_in, each_once}
+use Rattle.vt_evict.specs.Views.{RecencyView, IsTable, free_frames}
+use Rattle.vt_plan.specs.Missing.{is_mapped, missing_from}
 use Rattle.vt_evict.specs.Batches.{IsSettledTable, is_page, is_read, is_victim}
-use Rattle.vt_evict.specs.Plans.{missing_pages, missing_from, candidates, planned_at, planned_count, plan_of}
-use Rattle.vt_evict.proofs.ListLemmas.{nat_eq_true, nat_eq_swap, is_in-filter, is_in-each_once, is_in-append}
+use Rattle.vt_evict.specs.Plans.{missing_pages, candidates, planned_at, planned_count, plan_of}
+use Rattle.vt_evict.proofs.ListLemmas.{nat_eq_swap, is_in-append}
+use Rattle.vt_plan.proofs.ListLemmas.{nat_eq_true, is_in-filter, is_in-each_once}
 use Rattle.vt_evict.proofs.SettleLemmas.{self_eq, contains_tail}
 use Rattle.vt_walk_laws.specs.PassCounts.{before_lookup, pages_to_load, most_before, batch_pages}
 use Rattle.vt_walk_laws.proofs.LineFronts.{front, front_mapped, length-front, front_loaded, step_is, line_steps, each_once-filter, flat_map-filter}

@@ -5,7 +5,7 @@ ghost use Rattle.std.specs.Int.{div_ceil};
 ghost use Rattle.std.specs.List.{IsDistinct};
 ghost use Rattle.vt_journal.specs.Changes.{newest};
 ghost use Rattle.vt_evict.specs.Plans.{missing_pages};
-ghost use Rattle.vt_evict.specs.Orders.{is_in};
+ghost use Rattle.vt_plan.specs.PageLists.{is_in};
 ghost use Rattle.vt_feedback.specs.Wants.{pages_wanted};
 ghost use Rattle.vt_turns.specs.declared.mode.Mode.TheVariants.{Settled};
 ghost use Rattle.vt_walk.specs.Fits.{WalkSetup, Fits};

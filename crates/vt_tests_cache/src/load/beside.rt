@@ -6,6 +6,7 @@ ghost use Rattle.vt_queue.specs.Queues.{IsOf};
 
 use super::*;
 use std::thread::join_mut;
+use vt_loaders::collect;
 use vt_outside::{File, Items};
 
 // A loader with its passes.

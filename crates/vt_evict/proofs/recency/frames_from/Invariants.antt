@@ -1,5 +1,5 @@
 use Rattle.std.proofs.Common.{◌≡◌, ℕ, ◌&&◌, nat_le, nat_lt}
-use Rattle.vt_evict.specs.Orders.{is_in}
+use Rattle.vt_plan.specs.PageLists.{is_in}
 use Rattle.vt_evict.proofs.recency.frames_from.Given as goal
 
 abbrev pub invariant-loop-frame : goal.invariant-loop-frame

@@ -3,8 +3,8 @@ use Rattle.std.proofs.lemmas.Option.{slice_get-get_or}
 use Rattle.vt_pages.specs.Pages.{pages_of}
 use Rattle.vt_tiles.specs.Format.{tile_length}
 use Rattle.vt_queue.specs.Queues.{view_of}
-use Rattle.vt_evict.specs.declared.batches.Planned.{Planned}
-use Rattle.vt_load.proofs.Dealing.{popped_all}
+use Rattle.vt_plan.specs.declared.batches.Planned.{Planned}
+use Rattle.vt_loaders.proofs.Dealing.{popped_all}
 use Rattle.vt_rounds.specs.BatchRounds.{ArePut, page_if}
 use Rattle.vt_rounds.proofs.Asking.{put_none, asked_none, put_more, not_full, asked_more}
 use Rattle.vt_rounds.proofs.asks.ask_batch.Goals as goal

@@ -1,9 +1,9 @@
 use Rattle.std.proofs.Common.{List, refl, sym, subst, ap, rules, length}
 use Rattle.std.specs.Prelude.{All, true}
 use Rattle.std.specs.List.{refill}
-use Rattle.vt_evict.specs.declared.batches.Planned.{Planned}
-use Rattle.vt_load.specs.declared.queued.Queues.{Queues}
-use Rattle.vt_load.specs.QueuedLoaders.{QueuedView, MayLoad, HasLoaded}
+use Rattle.vt_plan.specs.declared.batches.Planned.{Planned}
+use Rattle.vt_loaders.specs.declared.queued.Queues.{Queues}
+use Rattle.vt_loaders.specs.QueuedLoaders.{QueuedView, MayLoad, HasLoaded}
 use Rattle.vt_table.specs.Views.{TableView}
 use Rattle.vt_still.specs.declared.tasks.StillSampler.{StillSampler}
 use Rattle.vt_pass.specs.All.{AllReady}

@@ -4,7 +4,8 @@ use Rattle.vt_pages.specs.Pages.{pages_of}
 use Rattle.vt_feedback.specs.declared.Wanted.{Wanted}
 use Rattle.vt_feedback.specs.Wants.{pages_wanted}
 use Rattle.vt_evict.specs.Views.{RecencyView, IsTable}
-use Rattle.vt_evict.specs.Plans.{missing_pages, missing_from}
+use Rattle.vt_evict.specs.Plans.{missing_pages}
+use Rattle.vt_plan.specs.Missing.{missing_from}
 use Rattle.vt_evict.proofs.PlansMade.{planned_is, planned_lawful, planned_most}
 use Rattle.vt_evict.proofs.recency.Recency.plan.Goals as goal
 

@@ -1,5 +1,5 @@
 use Rattle.std.proofs.Common.{◌≡◌, ℕ, ◌-◌, suc, Bool, List, drop, get_or, subst, sym, arith}
-use Rattle.vt_evict.specs.declared.batches.Planned.{Planned}
+use Rattle.vt_plan.specs.declared.batches.Planned.{Planned}
 use Rattle.vt_evict.specs.Batches.{IsSettled, IsLawfulEntry, read_entries}
 use Rattle.vt_evict.proofs.SettleLemmas.{settle_step, read_at, nothing_read}
 use Rattle.vt_evict.proofs.recency.Recency.settle.Goals as goal

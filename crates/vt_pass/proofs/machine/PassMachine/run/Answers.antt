@@ -1,5 +1,5 @@
 use Rattle.std.proofs.Common.{List, ap, rules}
-use Rattle.vt_evict.specs.declared.batches.Planned.{Planned}
+use Rattle.vt_plan.specs.declared.batches.Planned.{Planned}
 use Rattle.vt_pass.specs.Scenes.{job_of}
 use Rattle.vt_pass.proofs.Lent.{same_number, one_ready, all_ready, one_did, all_did}
 use Rattle.vt_pass.proofs.machine.PassMachine.run.Goals as goal

@@ -2,7 +2,7 @@ use Rattle.std.proofs.Common.{◌<◌, List, length, refl, sym, subst}
 use Rattle.std.specs.Prelude.{All}
 use Rattle.vt_pages.specs.Pages.{pages_of}
 use Rattle.vt_tiles.specs.Format.{tile_length}
-use Rattle.vt_evict.specs.declared.batches.Planned.{Planned}
+use Rattle.vt_plan.specs.declared.batches.Planned.{Planned}
 use Rattle.vt_still.specs.RoundKits.{IsSetUp, IsAsked}
 use Rattle.vt_still.specs.Kits.{KitView, IsPreparedKit}
 use Rattle.vt_still.proofs.Rooms.{pages_inside, ready_once_asked}

@@ -1,7 +1,7 @@
 use Rattle.std.proofs.Common.{◌≡◌, ◌+◌, ◌≤◌, length, ap, sym, ◌∙◌, subst}
 use Rattle.vt_queue.specs.PassViews.{all_shares}
 use Rattle.vt_queue.specs.Queues.{view_of, splits_of}
-use Rattle.vt_load.specs.QueuedLoaders.{AreOf, AreSplitOff}
+use Rattle.vt_loaders.specs.QueuedLoaders.{AreOf, AreSplitOff}
 use Rattle.vt_still.specs.RoundKits.{RoundKitView}
 use Rattle.vt_still.proofs.round.RoundKit.deal.Goals as goal
 

@@ -3,7 +3,7 @@ use Rattle.std.specs.Prelude.{All}
 use Rattle.vt_outside.specs.Lists.{ListView}
 use Rattle.vt_tiles.specs.Format.{tile_length}
 use Rattle.vt_queue.specs.Queues.{view_of}
-use Rattle.vt_load.specs.QueuedLoaders.{AreOf}
+use Rattle.vt_loaders.specs.QueuedLoaders.{AreOf}
 use Rattle.vt_rounds.specs.BatchRounds.{IsEndedRound, IsStreamed}
 use Rattle.vt_still.specs.RoundKits.{RoundKitView, HasPlaces}
 use Rattle.vt_still.proofs.round.RoundKit.finish.Goals as goal

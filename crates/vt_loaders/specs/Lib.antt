@@ -1,0 +1,4 @@
+pub mod Results
+pub mod Together
+pub mod QueuedLoaders
+pub mod Rounds

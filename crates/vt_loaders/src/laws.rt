@@ -1,0 +1,14 @@
+//! A law of loaders: the contract of a function that does nothing.
+
+ghost use Rattle.std.specs.Prelude.{ℕ, List, Option};
+ghost use Rattle.vt_pages.specs.Shape.{Shape};
+ghost use Rattle.vt_loaders.specs.declared.queued.Queues.{Queues as Both};
+ghost use Rattle.vt_loaders.specs.Rounds.{Round, IsRound, AreServed};
+
+use vt_outside::File;
+
+/// However many loaders there are, each request of a round is answered once.
+pub fn each_request_is_answered_once<F: File>()
+    ensures { (q : Both) (s : Shape) (d : ℕ) (told : Option (List ℕ)) (r : Round F) → IsRound F.File q s d told r
+        → AreServed F.File s d told r }
+{}

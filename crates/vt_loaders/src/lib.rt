@@ -1,0 +1,8 @@
+//! What several loaders do together: they are dealt passes of two queues and taken back, and each request of a round is answered once.
+#![tactic(auto)]
+
+mod laws;
+mod queued;
+
+pub use laws::each_request_is_answered_once;
+pub use queued::{QueuedLoader, Queues, collect, deal, take_back};

@@ -1,0 +1,3 @@
+pub mod PageLists
+pub mod Missing
+pub mod Entries
