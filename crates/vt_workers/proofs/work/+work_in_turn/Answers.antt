@@ -1,6 +1,6 @@
-use Rattle.vt_pass.specs.Scenes.{job_of}
-use Rattle.vt_pass.proofs.Halves.{low_ready, high_ready, both_did}
-use Rattle.vt_pass.proofs.work.+work_in_turn.Goals as goal
+use Rattle.vt_workers.specs.Jobs.{job_of}
+use Rattle.vt_workers.proofs.Halves.{low_ready, high_ready, both_did}
+use Rattle.vt_workers.proofs.work.+work_in_turn.Goals as goal
 
 pub work_in_turn-requires-clause-ready : goal.work_in_turn-requires-clause-ready
 work_in_turn-requires-clause-ready g t c κs within =

@@ -3,7 +3,7 @@ use Rattle.std.proofs.Common.{◌≡◌, ◌+◌, ◌-◌, List, ◌++◌, lengt
 use Rattle.std.specs.Prelude.{slice_index_or}
 use Rattle.std.proofs.lemmas.Bool.{cases_lt}
 use Rattle.std.proofs.lemmas.List.{length-append, get_or_append_left, get_or-append_right, get_or-append-add}
-use Rattle.vt_pass.specs.All.{AllReady, AllDid}
+use Rattle.vt_workers.specs.All.{AllReady, AllDid}
 
 module _ {W : Type 0} (ready : W → Type 0) (xs a b : List W) (parts : xs ≡ a ++ b) (each : AllReady ready xs) where
   count : length xs ≡ length a + length b

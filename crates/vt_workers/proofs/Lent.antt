@@ -2,8 +2,8 @@
 use Rattle.std.proofs.Common.{◌≡◌, ℕ, List, ◌++◌, length, take, drop, sym, ap, ◌∙◌, subst}
 use Rattle.std.specs.List.{refill}
 use Rattle.std.proofs.Math.Seq.{take-append_seam}
-use Rattle.vt_pass.specs.Scenes.{Job}
-use Rattle.vt_pass.specs.All.{AllReady, AllDid}
+use Rattle.vt_workers.specs.Jobs.{Job}
+use Rattle.vt_workers.specs.All.{AllReady, AllDid}
 
 -- a list whose lent elements are all back
 pub refilled : {W : Type 0} (xs ws : List W) → length ws ≡ length xs → refill (length xs) xs ws ≡ ws

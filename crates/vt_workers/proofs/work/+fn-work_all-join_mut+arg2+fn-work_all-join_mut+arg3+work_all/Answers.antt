@@ -1,8 +1,8 @@
 use Rattle.std.proofs.Common.{◌≡◌, length, rules}
-use Rattle.vt_pass.specs.Scenes.{job_of}
-use Rattle.vt_pass.specs.All.{AllDid}
-use Rattle.vt_pass.proofs.Halves.{both_did}
-use Rattle.vt_pass.proofs.work.+fn-work_all-join_mut+arg2+fn-work_all-join_mut+arg3+work_all.Goals as goal
+use Rattle.vt_workers.specs.Jobs.{job_of}
+use Rattle.vt_workers.specs.All.{AllDid}
+use Rattle.vt_workers.proofs.Halves.{both_did}
+use Rattle.vt_workers.proofs.work.+fn-work_all-join_mut+arg2+fn-work_all-join_mut+arg3+work_all.Goals as goal
 
 pub returns : goal.returns
 returns g t c =

@@ -1,8 +1,8 @@
 //! The workers of a pass, at work at once.
 
 ghost use Rattle.std.specs.Thread.{IsSync, IsSend};
-ghost use Rattle.vt_pass.specs.Scenes.{job_of};
-ghost use Rattle.vt_pass.specs.All.{AllReady, AllDid};
+ghost use Rattle.vt_workers.specs.Jobs.{job_of};
+ghost use Rattle.vt_workers.specs.All.{AllReady, AllDid};
 
 use crate::task::Task;
 use std::sync::Wait;
@@ -12,7 +12,7 @@ use vt_evict::Planned;
 use vt_outside::Gate;
 
 /// The loaders, and beside them the samplers and the streamer. Threads cost more than what they do where nothing is to be read, and
-/// one request is taken by one loader.
+/// one request is taken by one loader. Where no thread can be made, the loaders work first, then the samplers, and the streamer last.
 pub fn work_together<
     Rt: Threads + Wait + Sync,
     S: Sync,
@@ -42,14 +42,10 @@ pub fn work_together<
         draw_beside(rt, samplers, streamer, shared, shot, batch, gate);
         return;
     }
+    // The second closure runs in this thread, and before the first where no thread can be made: so a streamer that waits for what loaders read
+    // does not keep them from reading it.
     join_mut(
         rt,
-        &mut || -> ()
-            requires { IsSync Rt.row × IsSync G.row × IsSync S.row × IsSend L.row
-                × AllReady (L.ready shared.now (job_of shot.now batch.now)) loaders.now }
-            ensures { AllDid (L.did shared.entry.now (job_of shot.entry.now batch.entry.now)) loaders.entry.now
-                loaders.exit.now }
-        { load_all(rt, loaders, shared, shot, batch, gate) },
         &mut || -> ()
             requires { IsSync Rt.row × IsSync G.row × IsSync S.row × IsSend M.row × IsSend R.row
                 × AllReady (M.ready shared.now (job_of shot.now batch.now)) samplers.now
@@ -58,6 +54,12 @@ pub fn work_together<
                 samplers.exit.now
                 × R.did shared.entry.now (job_of shot.entry.now batch.entry.now) streamer.entry.now streamer.exit.now }
         { draw_beside(rt, samplers, streamer, shared, shot, batch, gate) },
+        &mut || -> ()
+            requires { IsSync Rt.row × IsSync G.row × IsSync S.row × IsSend L.row
+                × AllReady (L.ready shared.now (job_of shot.now batch.now)) loaders.now }
+            ensures { AllDid (L.did shared.entry.now (job_of shot.entry.now batch.entry.now)) loaders.entry.now
+                loaders.exit.now }
+        { load_all(rt, loaders, shared, shot, batch, gate) },
     );
 }
 
@@ -80,7 +82,8 @@ fn load_all<Rt: Threads + Wait + Sync, S: Sync, L: Task<S> + Send, G: Gate + Syn
     }
 }
 
-// The samplers, and beside them the streamer, which has a thread of its own if it is to be at work meanwhile.
+// The samplers, and beside them the streamer. It has a thread of its own only if it is to be at work meanwhile and there is something to
+// stream: an empty batch is not worth one.
 fn draw_beside<
     Rt: Threads + Wait + Sync,
     S: Sync,
@@ -101,25 +104,26 @@ fn draw_beside<
     ensures samplers { AllDid (M.did shared.now (job_of shot.now batch.now)) samplers.old samplers.new }
     ensures streamer { R.did shared.now (job_of shot.now batch.now) streamer.old streamer.new }
 {
-    if !R::BESIDE {
+    if !R::BESIDE || batch.is_empty() {
         work_all(rt, samplers, shared, shot, batch, gate);
         streamer.work(rt, shared, shot, batch, gate);
         return;
     }
+    // As above: where no thread can be made, the samplers are done before a streamer waits for them.
     join_mut(
         rt,
-        &mut || -> ()
-            requires { IsSync Rt.row × IsSync G.row × IsSync S.row × IsSend M.row
-                × AllReady (M.ready shared.now (job_of shot.now batch.now)) samplers.now }
-            ensures { AllDid (M.did shared.entry.now (job_of shot.entry.now batch.entry.now)) samplers.entry.now
-                samplers.exit.now }
-        { work_all(rt, samplers, shared, shot, batch, gate) },
         &mut || -> ()
             requires { IsSync Rt.row × IsSync G.row × IsSync S.row × IsSend R.row
                 × R.ready shared.now (job_of shot.now batch.now) streamer.now }
             ensures { R.did shared.entry.now (job_of shot.entry.now batch.entry.now) streamer.entry.now
                 streamer.exit.now }
         { streamer.work(rt, shared, shot, batch, gate) },
+        &mut || -> ()
+            requires { IsSync Rt.row × IsSync G.row × IsSync S.row × IsSend M.row
+                × AllReady (M.ready shared.now (job_of shot.now batch.now)) samplers.now }
+            ensures { AllDid (M.did shared.entry.now (job_of shot.entry.now batch.entry.now)) samplers.entry.now
+                samplers.exit.now }
+        { work_all(rt, samplers, shared, shot, batch, gate) },
     );
 }
 

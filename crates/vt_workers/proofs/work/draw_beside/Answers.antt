@@ -1,4 +1,4 @@
-use Rattle.vt_pass.proofs.work.draw_beside.Goals as goal
+use Rattle.vt_workers.proofs.work.draw_beside.Goals as goal
 
 pub work-requires : goal.work-requires
 work-requires g c = c.requires.streamer

@@ -1,6 +1,6 @@
 //! What one worker of a pass does.
 
-ghost use Rattle.vt_pass.specs.Scenes.{Job, job_of};
+ghost use Rattle.vt_workers.specs.Jobs.{Job, job_of};
 
 use std::sync::Wait;
 use std::thread::Threads;
