@@ -8,10 +8,11 @@ use Rattle.vt_definitions.specs.Depths.{texel_length}
 use Rattle.vt_outside.specs.Files.{IsPiece}
 use Rattle.vt_ppm.specs.Image.{ImageView}
 use Rattle.vt_mip.specs.Chains.{halved}
-use Rattle.vt_mip.specs.Halves.{IsHalf, IsHalvedRow, IsHalvedRaster, raster_sample}
+use Rattle.vt_box_filter.specs.HalvedRows.{IsHalvedRow}
+use Rattle.vt_mip.specs.Halves.{IsHalf, IsHalvedRaster, raster_sample}
 use Rattle.vt_mip.specs.InPlace.{IsShrunk, ShrinksFront}
 use Rattle.vt_mip.specs.TakenRows.{HalvingView}
-use Rattle.vt_mip.proofs.PartSamples.{cut_sample}
+use Rattle.vt_box_filter.proofs.PartSamples.{cut_sample}
 use Rattle.vt_mip.proofs.Rasters.{next_row}
 
 -- what is the same from a place on is the same from a later one on

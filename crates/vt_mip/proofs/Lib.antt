@@ -1,8 +1,6 @@
-pub mod PartSamples
 pub mod Rasters
 pub mod Words
 pub mod Fronts
-pub mod BlockRows
 pub mod Small
 pub mod Following
 pub mod TakenRows
@@ -10,5 +8,3 @@ pub mod StripRows
 pub mod StripReads
 pub mod StripRoom
 pub mod InPlace
-pub mod Bytes
-pub mod PutBoxes

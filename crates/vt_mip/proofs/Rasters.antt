@@ -4,9 +4,11 @@ use Rattle.std.proofs.lemmas.Nat.{mul-add-lt, mul-le}
 use Rattle.std.proofs.Math.Nat.{mul-le-mul_left}
 use borrow.Rule.Slice.PartMut.{put_mid}
 use Rattle.vt_definitions.specs.Depths.{IsDepth, sample_at, texel_length}
-use Rattle.vt_mip.specs.Chains.{clamped, halved}
-use Rattle.vt_mip.specs.Halves.{IsHalvedRow, IsHalvedRaster, raster_sample}
-use Rattle.vt_mip.proofs.PartSamples.{cut_sample, kept_sample, written_sample, box_same}
+use Rattle.vt_box_filter.specs.Boxes.{clamped}
+use Rattle.vt_mip.specs.Chains.{halved}
+use Rattle.vt_box_filter.specs.HalvedRows.{IsHalvedRow}
+use Rattle.vt_mip.specs.Halves.{IsHalvedRaster, raster_sample}
+use Rattle.vt_box_filter.proofs.PartSamples.{cut_sample, kept_sample, written_sample, box_same}
 
 -- a clamped column or row is one
 pub clamped_below : (n i : ℕ) → 1 ≤ n → clamped n i < n

@@ -7,7 +7,7 @@ use Rattle.vt_definitions.proofs.TexelWords.{words_small}
 use Rattle.vt_ppm.specs.Image.{texel_of}
 use Rattle.vt_mip.specs.Chains.{halved, halved_word, chain}
 use Rattle.vt_mip.specs.Laws.{ChainWordsAreSmall}
-use Rattle.vt_mip.proofs.PartSamples.{box_small}
+use Rattle.vt_box_filter.proofs.PartSamples.{box_small}
 
 -- what is left of a number by the number of samples is one
 rest_small : (d n : ℕ) → IsDepth d → n % sample_base d < sample_base d

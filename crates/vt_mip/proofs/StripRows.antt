@@ -10,10 +10,11 @@ use Rattle.vt_ppm.specs.Format.{depth_of}
 use Rattle.vt_ppm.specs.Image.{texel_of}
 use Rattle.vt_ppm.specs.Strips.{texture_of, rows_of}
 use Rattle.vt_ppm.proofs.SampleValues.{depth_is}
-use Rattle.vt_mip.specs.Chains.{clamped, halved, halved_word, IsTexelRow}
-use Rattle.vt_mip.specs.Halves.{IsHalvedRow}
+use Rattle.vt_box_filter.specs.Boxes.{clamped}
+use Rattle.vt_mip.specs.Chains.{halved, halved_word, IsTexelRow}
+use Rattle.vt_box_filter.specs.HalvedRows.{IsHalvedRow}
 use Rattle.vt_mip.specs.StripChains.{StripChainView, HasWords, texture_texel, level_row_length}
-use Rattle.vt_mip.proofs.PartSamples.{box_same, cut_sample}
+use Rattle.vt_box_filter.proofs.PartSamples.{box_same, cut_sample}
 use Rattle.vt_mip.proofs.Rasters.{clamped_below}
 use Rattle.vt_mip.proofs.Words.{chain-zero, chain-suc, word_same, red-word, green-word, blue-word}
 

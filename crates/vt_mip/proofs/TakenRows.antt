@@ -6,10 +6,11 @@ use borrow.Rule.Slice.PartMut.{put_mid}
 use Rattle.vt_definitions.specs.Depths.{texel_length}
 use Rattle.vt_outside.specs.Files.{IsPiece}
 use Rattle.vt_ppm.specs.Image.{ImageView}
-use Rattle.vt_mip.specs.Chains.{clamped, halved}
+use Rattle.vt_box_filter.specs.Boxes.{clamped}
+use Rattle.vt_mip.specs.Chains.{halved}
 use Rattle.vt_mip.specs.Halves.{IsHalvedRaster, raster_sample}
 use Rattle.vt_mip.specs.TakenRows.{HalvingView, HalvesFront}
-use Rattle.vt_mip.proofs.PartSamples.{cut_sample, kept_sample, written_sample, box_same}
+use Rattle.vt_box_filter.proofs.PartSamples.{cut_sample, kept_sample, written_sample, box_same}
 use Rattle.vt_mip.proofs.Rasters.{clamped_below}
 
 -- the rows of level 1 that are made lie within it

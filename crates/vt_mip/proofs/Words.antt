@@ -6,10 +6,11 @@ use Rattle.vt_definitions.specs.Sides.{side}
 use Rattle.vt_definitions.specs.Depths.{IsDepth, AreBytes, sample_base, sample_at, word_of, red_of, green_of, blue_of, word_bytes}
 use Rattle.vt_definitions.proofs.TexelWords.{sample_small, texel_words}
 use Rattle.vt_ppm.specs.Image.{ImageView, IsLawfulImage, texel_of}
-use Rattle.vt_mip.specs.Chains.{clamped, halved, halved_word, chain, IsTexelRow, IsTexelRaster}
+use Rattle.vt_box_filter.specs.Boxes.{clamped}
+use Rattle.vt_mip.specs.Chains.{halved, halved_word, chain, IsTexelRow, IsTexelRaster}
 use Rattle.vt_mip.specs.Halves.{IsHalf, raster_sample}
 use Rattle.vt_mip.specs.Levels.{IsLevel}
-use Rattle.vt_mip.proofs.PartSamples.{box_same, cut_texel}
+use Rattle.vt_box_filter.proofs.PartSamples.{box_same, cut_texel}
 use Rattle.vt_mip.proofs.Rasters.{clamped_below}
 
 -- level 0 is the texture

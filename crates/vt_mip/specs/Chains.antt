@@ -1,17 +1,10 @@
 -- The box-filtered mip chain, each texel by itself.
-use Rattle.std.specs.Prelude.{◌≡◌, ℕ, zero, suc, ◌+◌, ◌-◌, ◌*◌, ◌/◌, ◌<◌, List, length, min}
+use Rattle.std.specs.Prelude.{◌≡◌, ℕ, zero, suc, ◌+◌, ◌*◌, ◌<◌, List, length}
 use Rattle.vt_definitions.specs.Sides.{side, level_count}
 use Rattle.vt_definitions.specs.Depths.{texel_length, word_of, red_of, green_of, blue_of, word_bytes, texel_bytes}
 use Rattle.vt_definitions.specs.Texels.{Source}
 use Rattle.vt_ppm.specs.Image.{ImageView, texel_of}
-
--- the box filter: the mean of four samples, a half rounded up
-abbrev pub box : ℕ → ℕ → ℕ → ℕ → ℕ
-box a b c d = (a + b + c + d + 2) / 4
-
--- a column among n columns, or a row among n rows, clamped to the last one
-abbrev pub clamped : ℕ → ℕ → ℕ
-clamped n i = min i (n - 1)
+use Rattle.vt_box_filter.specs.Boxes.{box, clamped}
 
 -- the box filter of samples in w columns and h rows, at a column and a row of the half
 abbrev pub halved : (ℕ → ℕ → ℕ) → ℕ → ℕ → ℕ → ℕ → ℕ

@@ -1,8 +1,6 @@
 //! The box-filtered mip chain of a texture: each level is the one before it halved, down to the first that fits into a tile.
 #![tactic(auto)]
 
-mod blocks;
-mod boxes;
 mod chain;
 mod halving;
 mod laws;

@@ -7,9 +7,9 @@ ghost use Rattle.vt_ppm.specs.Image.{ImageView, IsLawfulImage};
 ghost use Rattle.vt_mip.specs.Halves.{IsHalf};
 ghost use Rattle.vt_mip.specs.InPlace.{IsRoomFor, IsShrunk, ShrinksFront};
 
-use crate::halving::halve_rows;
 use std::alloc::Global;
 use std::marker::Model;
+use vt_box_filter::halve_rows;
 use vt_definitions::texel_length;
 use vt_outside::NoMemory;
 use vt_ppm::Image;

@@ -11,9 +11,9 @@ ghost use Rattle.vt_ppm.specs.Strips.{IsTextureIfTold, RowsAsked, row_length, ro
 ghost use Rattle.vt_mip.specs.Chains.{IsTexelRow};
 ghost use Rattle.vt_mip.specs.StripChains.{HasWords, IsBelow, RowsRead, RowsFailed, first_under, rows_under, level_row_length, room_length, texture_texel};
 
-use crate::halving::halve_rows;
 use std::alloc::Global;
 use std::marker::Model;
+use vt_box_filter::halve_rows;
 use vt_definitions::texel_length;
 use vt_outside::{Failed, File, NoMemory};
 use vt_ppm::StripReader;

@@ -8,7 +8,7 @@ ghost use Rattle.vt_ppm.specs.Image.{ImageView, IsLawfulImage};
 ghost use Rattle.vt_mip.specs.Halves.{IsHalf, IsHalvedRaster};
 ghost use Rattle.vt_mip.specs.TakenRows.{HalvesFront};
 
-use crate::halving::halve_at;
+use crate::halving::halve_raster;
 use std::alloc::Global;
 use std::marker::Model;
 use vt_definitions::texel_length;
@@ -62,7 +62,7 @@ fn halve_behind(
     let half_row = texel_length(depth) * ((width + 1) / 2);
     let from = half_row * (taken / 2);
     let made = half_row * ((count + 1) / 2);
-    halve_at(depth, width, count, rows, &mut samples[from..from + made]);
+    halve_raster(depth, width, count, rows, &mut samples[from..from + made]);
 }
 
 impl Halving {

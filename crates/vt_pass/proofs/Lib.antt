@@ -1,6 +1,4 @@
-pub mod Lent
 pub mod Settled
 pub mod Streaming
 pub mod OneRead
 pub mod AnyOrder
-pub mod Halves

@@ -15,7 +15,7 @@ use Rattle.vt_tiles.specs.StoreViews.{IsStore}
 use Rattle.vt_plan.specs.declared.batches.Planned.{Planned}
 use Rattle.vt_pass.specs.declared.crew.PassReport.{PassReport}
 use Rattle.vt_shown.specs.Scenes.{Scene}
-use Rattle.vt_pass.specs.Scenes.{Job}
+use Rattle.vt_workers.specs.Jobs.{Job}
 use Rattle.vt_pass.specs.Outcomes.{IsOutcome, pass_events}
 use Rattle.vt_shown.specs.Replays.{HasPixels, IsFull, IsPictureOf}
 use Rattle.vt_pass.specs.Machines.{Setup, MachineState}

@@ -1,4 +1,3 @@
-pub mod Scenes
 pub mod Crews
 pub mod Outcomes
 pub mod RowOrders
@@ -7,5 +6,4 @@ pub mod PictureWants
 pub mod StillShows
 pub mod Machines
 pub mod Passes
-pub mod All
 pub mod Plainly

@@ -12,7 +12,7 @@ use Rattle.vt_journal.specs.JournalText.{changes_of}
 use Rattle.vt_plan.specs.declared.batches.Planned.{Planned}
 use Rattle.vt_pass.specs.declared.crew.PassReport.{PassReport}
 use Rattle.vt_shown.specs.Scenes.{Scene}
-use Rattle.vt_pass.specs.Scenes.{Job}
+use Rattle.vt_workers.specs.Jobs.{Job}
 use Rattle.vt_pass.specs.Crews.{last_start}
 use Rattle.vt_tiles.specs.Format.{tile_length, tile_start}
 use Rattle.vt_pass.specs.Outcomes.{IsBatchFor, IsOutcome}

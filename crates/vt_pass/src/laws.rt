@@ -19,7 +19,7 @@ ghost use Rattle.vt_table.specs.Views.{TableView, IsTable};
 ghost use Rattle.vt_sampler.specs.Notes.{IsTrueOf};
 ghost use Rattle.vt_pass.specs.declared.crew.PassReport.{PassReport as Report};
 ghost use Rattle.vt_shown.specs.Scenes.{Scene};
-ghost use Rattle.vt_pass.specs.Scenes.{Job};
+ghost use Rattle.vt_workers.specs.Jobs.{Job};
 ghost use Rattle.vt_pass.specs.Outcomes.{IsEntryFor, IsBatchFor, group_of, pass_events, IsOutcome};
 ghost use Rattle.vt_pass.specs.Requests.{FileState, AreReadFor};
 ghost use Rattle.vt_shown.specs.Replays.{IsPictureOf, pixel_under, plain_pixel};

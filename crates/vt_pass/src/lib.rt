@@ -6,8 +6,6 @@
 mod crew;
 mod laws;
 mod machine;
-mod task;
-mod work;
 
 pub use crew::{Crew, PassReport};
 pub use laws::{
@@ -15,5 +13,4 @@ pub use laws::{
     order_leaves_one_table, reads_add_up, settled_pass_is_plain,
 };
 pub use machine::PassMachine;
-pub use task::Task;
-pub use work::work_together;
+pub use vt_workers::{Task, work_together};

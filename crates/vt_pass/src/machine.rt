@@ -11,15 +11,13 @@ ghost use Rattle.vt_plan.specs.declared.batches.Planned.{Planned};
 ghost use Rattle.vt_outside.specs.declared.answers.NoMemory.{NoMemory as Refusal};
 ghost use Rattle.vt_pass.specs.declared.crew.PassReport.{PassReport as Report};
 ghost use Rattle.vt_shown.specs.Scenes.{Scene};
-ghost use Rattle.vt_pass.specs.Scenes.{Job, job_of};
+ghost use Rattle.vt_workers.specs.Jobs.{Job, job_of};
 ghost use Rattle.vt_pass.specs.Crews.{IsCrew, AreFrames};
 ghost use Rattle.vt_pass.specs.Machines.{MachineState, setup_of, files_of, told_by, AreStoresFor};
 ghost use Rattle.vt_pass.specs.Passes.{Begins, MayPlace, with_placed, MayPrepare, IsUntouched, IsSpent, MapsRoot, IsJobFor, Ends, MapsNeeded};
-ghost use Rattle.vt_pass.specs.All.{AllReady, AllDid};
+ghost use Rattle.vt_workers.specs.All.{AllReady, AllDid};
 
 use crate::crew::{Crew, PassReport};
-use crate::task::Task;
-use crate::work::work_together;
 use std::alloc::Global;
 use std::sync::Wait;
 use std::thread::Threads;
@@ -31,6 +29,7 @@ use vt_journal::Journal;
 use vt_outside::{File, Gate, Items, NoMemory};
 use vt_pages::Geometry;
 use vt_tiles::Stores;
+use vt_workers::{Task, work_together};
 
 /// A value that streams tiles of a store into frames, and draws the pictures of a path from them.
 ///

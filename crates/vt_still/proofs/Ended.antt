@@ -24,7 +24,7 @@ use Rattle.vt_sampler.proofs.Sharing.{pixels_few}
 use Rattle.vt_pass.specs.declared.crew.PassReport.{PassReport}
 use Rattle.vt_still.specs.declared.tasks.StillSampler.{StillSampler}
 use Rattle.vt_plan.specs.declared.batches.Planned.{Planned}
-use Rattle.vt_pass.specs.Scenes.{Job}
+use Rattle.vt_workers.specs.Jobs.{Job}
 use Rattle.vt_pass.specs.Outcomes.{IsOutcome}
 use Rattle.vt_pass.specs.RowOrders.{AreRowsInOrder}
 use Rattle.vt_pass.specs.Requests.{AreReadFor}

@@ -17,7 +17,7 @@ use Rattle.vt_still.specs.Kits.{KitView, kit_setup, IsIdleKit, lines_at, counted
 use Rattle.vt_pass.specs.StillShows.{still_shows}
 use Rattle.vt_still.specs.StillMachines.{WasDrawn}
 use Rattle.vt_still.specs.StillTasks.{HasDrawn}
-use Rattle.vt_pass.specs.Scenes.{Job}
+use Rattle.vt_workers.specs.Jobs.{Job}
 use Rattle.vt_pass.specs.Passes.{IsJobFor}
 use Rattle.vt_shown.specs.Replays.{HasPixels}
 use Rattle.vt_shown.specs.Frames.{HoldsTiles}

@@ -19,8 +19,8 @@ use Rattle.vt_sampler.specs.Notes.{MapsRoot as TableMapsRoot}
 use Rattle.vt_camera.specs.Paths.{PathView}
 use Rattle.vt_loaders.specs.declared.queued.Queues.{Queues}
 use Rattle.vt_still.specs.declared.tasks.StillSampler.{StillSampler}
-use Rattle.vt_pass.specs.Scenes.{Job}
-use Rattle.vt_pass.specs.All.{AllReady}
+use Rattle.vt_workers.specs.Jobs.{Job}
+use Rattle.vt_workers.specs.All.{AllReady}
 use Rattle.vt_still.specs.StillTasks.{MayDraw}
 use Rattle.vt_pass.specs.Passes.{MapsRoot, IsJobFor}
 use Rattle.vt_still.specs.Kits.{KitView, kit_setup, kit_state, IsSamplerOf, AreSamplersOf, IsKit, IsIdleKit, IsReadyKit, lines_at, counted_together}

@@ -7,7 +7,7 @@ use Rattle.std.specs.List.{refill}
 use Rattle.vt_outside.specs.Lists.{ListView}
 use Rattle.vt_journal.specs.declared.changes.Event.{Event}
 use Rattle.vt_journal.specs.declared.changes.RowLine.{RowLine}
-use Rattle.vt_pass.proofs.Lent.{refilled}
+use Rattle.vt_workers.proofs.Lent.{refilled}
 use Rattle.vt_outside.specs.declared.outside.File.{Ghosts as FileMeanings}
 use Rattle.vt_definitions.specs.Depths.{IsDepth}
 use Rattle.vt_pages.specs.Shape.{Shape}

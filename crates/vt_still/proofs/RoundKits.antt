@@ -18,7 +18,7 @@ use Rattle.vt_load.specs.Loaders.{LoaderView}
 use Rattle.vt_loaders.specs.QueuedLoaders.{QueuedView, stores_of}
 use Rattle.vt_loaders.proofs.Answering.{bytes_kept}
 use Rattle.vt_still.specs.declared.tasks.StillSampler.{StillSampler}
-use Rattle.vt_pass.specs.Scenes.{Job}
+use Rattle.vt_workers.specs.Jobs.{Job}
 use Rattle.vt_pass.specs.Requests.{AreReadFor}
 use Rattle.vt_pass.specs.Machines.{files_of, told_by}
 use Rattle.vt_rounds.specs.BatchRounds.{Begun, IsEndedRound, IsStreamed}

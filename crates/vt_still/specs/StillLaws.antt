@@ -18,7 +18,7 @@ use Rattle.vt_loaders.specs.QueuedLoaders.{QueuedView, HasLoaded, stores_of}
 use Rattle.vt_pass.specs.declared.crew.PassReport.{PassReport}
 use Rattle.vt_still.specs.declared.tasks.StillSampler.{StillSampler}
 use Rattle.vt_shown.specs.Scenes.{Scene}
-use Rattle.vt_pass.specs.Scenes.{Job}
+use Rattle.vt_workers.specs.Jobs.{Job}
 use Rattle.vt_pass.specs.Machines.{MachineState, files_of, told_by}
 use Rattle.vt_pass.specs.Passes.{IsJobFor, IsUntouched, Ran, Broke, Ends}
 use Rattle.vt_still.specs.StillTasks.{HasDrawn}
@@ -26,7 +26,7 @@ use Rattle.vt_rounds.specs.BatchRounds.{Begun, ArePut}
 use Rattle.vt_still.specs.RoundKits.{HasPlaces, IsDealt}
 use Rattle.vt_still.specs.Kits.{KitView, kit_setup, kit_state, IsIdleKit, IsReadyKit}
 use Rattle.vt_still.specs.StillMachines.{StillView, KitEnds, AreOut, IsMustered, MayFinish, KitFinishes, kit_before}
-use Rattle.vt_pass.specs.All.{AllDid}
+use Rattle.vt_workers.specs.All.{AllDid}
 
 -- what was left untouched is the same but for the rows and the counts
 pub same_but_picture : (a b : MachineState) → IsUntouched a b → b ≡ record a { rows = b.rows; counts = b.counts }

@@ -15,7 +15,7 @@ use Rattle.vt_loaders.specs.declared.queued.Queues.{Queues}
 use Rattle.vt_loaders.specs.QueuedLoaders.{QueuedView, AreOf, stores_of}
 use Rattle.vt_pass.specs.declared.crew.PassReport.{PassReport}
 use Rattle.vt_still.specs.declared.tasks.StillSampler.{StillSampler}
-use Rattle.vt_pass.specs.Scenes.{Job}
+use Rattle.vt_workers.specs.Jobs.{Job}
 use Rattle.vt_shown.specs.Frames.{HoldsTiles}
 use Rattle.vt_pass.specs.PictureWants.{picture_wants}
 use Rattle.vt_pass.specs.StillShows.{still_shows}
@@ -26,7 +26,7 @@ use Rattle.vt_still.specs.Kits.{KitView, kit_setup, kit_state, IsIdleKit, HasRoo
 use Rattle.vt_pass.specs.Outcomes.{IsBatchFor}
 use Rattle.vt_rounds.specs.BatchRounds.{Begun, IsEndedRound}
 use Rattle.vt_still.specs.RoundKits.{HasPlaces, IsDealt}
-use Rattle.vt_pass.specs.All.{AllDid}
+use Rattle.vt_workers.specs.All.{AllDid}
 
 -- a machine: its page table, its queues and its kit
 pub record StillView (F : Type 0) : Type 0 where

@@ -9,7 +9,7 @@ ghost use Rattle.vt_pass.specs.Outcomes.{IsBatchFor};
 ghost use Rattle.vt_journal.specs.Changes.{newest};
 ghost use Rattle.vt_table.specs.Views.{TableView as Table};
 ghost use Rattle.vt_pass.specs.Machines.{AreStoresFor};
-ghost use Rattle.vt_pass.specs.Scenes.{job_of};
+ghost use Rattle.vt_workers.specs.Jobs.{job_of};
 ghost use Rattle.vt_pass.specs.PictureWants.{picture_wants};
 ghost use Rattle.vt_pass.specs.Passes.{Ran};
 ghost use Rattle.vt_pass.specs.StillShows.{still_shows};

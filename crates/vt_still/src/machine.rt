@@ -1,7 +1,7 @@
 //! The machine over a page table that changes only between draws.
 
 ghost use Rattle.std.specs.Prelude.{true, IsOk};
-ghost use Rattle.vt_pass.specs.Scenes.{job_of};
+ghost use Rattle.vt_workers.specs.Jobs.{job_of};
 ghost use Rattle.vt_pass.specs.PictureWants.{picture_wants};
 ghost use Rattle.vt_still.specs.Kits.{kit_state, IsIdleKit, IsReadyKit};
 ghost use Rattle.vt_pass.specs.StillShows.{still_shows, still_whole};

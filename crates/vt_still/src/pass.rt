@@ -1,7 +1,7 @@
 //! One pass over a page table that changes only between draws.
 
 ghost use Rattle.std.specs.Prelude.{◌≡◌, true, length};
-ghost use Rattle.vt_pass.specs.Scenes.{job_of};
+ghost use Rattle.vt_workers.specs.Jobs.{job_of};
 ghost use Rattle.vt_pass.specs.PictureWants.{picture_wants};
 ghost use Rattle.vt_pass.specs.Passes.{MapsRoot, IsJobFor, Ran};
 ghost use Rattle.vt_still.specs.Kits.{kit_setup, kit_state, lines_at, IsIdleKit, IsReadyKit};

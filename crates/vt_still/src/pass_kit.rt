@@ -7,7 +7,7 @@ ghost use Rattle.vt_journal.specs.Changes.{newest};
 ghost use Rattle.vt_pass.specs.Crews.{IsCrew, last_start};
 ghost use Rattle.vt_pass.specs.Machines.{AreStoresFor};
 ghost use Rattle.vt_pass.specs.Outcomes.{IsBatchFor};
-ghost use Rattle.vt_pass.specs.Scenes.{job_of};
+ghost use Rattle.vt_workers.specs.Jobs.{job_of};
 ghost use Rattle.vt_pass.specs.PictureWants.{picture_wants};
 ghost use Rattle.vt_pass.specs.Passes.{MapsRoot, IsJobFor, Ran};
 ghost use Rattle.vt_still.specs.Kits.{kit_setup, kit_state, kit_rows, lines_at, IsKit, IsIdleKit, IsPreparedKit, IsSameKit};

@@ -19,7 +19,7 @@ use Rattle.vt_evict.specs.Plans.{plan_of}
 use Rattle.vt_pass.specs.declared.crew.PassReport.{PassReport}
 use Rattle.vt_pass.specs.Crews.{last_start}
 use Rattle.vt_shown.specs.Scenes.{Scene}
-use Rattle.vt_pass.specs.Scenes.{Job}
+use Rattle.vt_workers.specs.Jobs.{Job}
 use Rattle.vt_pass.specs.Outcomes.{IsBatchFor, IsOutcome}
 use Rattle.vt_pass.specs.Requests.{FileState, AreReadFor, ArePartlyReadFor, counts_of}
 use Rattle.vt_outside.specs.Counts.{RoseTogetherBy}

@@ -9,7 +9,7 @@ use Rattle.vt_journal.specs.Changes.{Table, at}
 use Rattle.vt_journal.specs.JournalText.{changes_of}
 use Rattle.vt_journal.proofs.Versions.{at-front}
 use Rattle.vt_shown.specs.Scenes.{Scene}
-use Rattle.vt_pass.specs.Scenes.{Job}
+use Rattle.vt_workers.specs.Jobs.{Job}
 use Rattle.vt_pass.specs.Machines.{MachineState}
 use Rattle.vt_pass.specs.Passes.{IsPictured}
 use Rattle.vt_shown.specs.Replays.{HasPixels}

@@ -13,7 +13,7 @@ use Rattle.vt_evict.specs.Views.{RecencyView, first_view, touched}
 use Rattle.vt_evict.specs.Batches.{IsSettled, read_entries}
 use Rattle.vt_evict.specs.Plans.{plan_of}
 use Rattle.vt_pass.specs.declared.crew.PassReport.{PassReport}
-use Rattle.vt_pass.specs.Scenes.{Job}
+use Rattle.vt_workers.specs.Jobs.{Job}
 use Rattle.vt_pass.specs.Outcomes.{IsOutcome, lost_count}
 use Rattle.vt_pass.specs.RowOrders.{AreRowsInOrder}
 use Rattle.vt_pass.specs.Requests.{lost_entries}

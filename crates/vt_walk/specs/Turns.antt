@@ -9,7 +9,7 @@ use Rattle.vt_journal.specs.Passes.{pass_of as text_of}
 use Rattle.vt_evict.specs.Views.{RecencyView, pages_needed}
 use Rattle.vt_pass.specs.declared.crew.PassReport.{PassReport}
 use Rattle.vt_shown.specs.Scenes.{Scene}
-use Rattle.vt_pass.specs.Scenes.{Job}
+use Rattle.vt_workers.specs.Jobs.{Job}
 use Rattle.vt_pass.specs.Requests.{FileState, AllTell, AreReadFor}
 use Rattle.vt_pass.specs.Outcomes.{lost_count}
 use Rattle.vt_pass.specs.Machines.{MachineState}

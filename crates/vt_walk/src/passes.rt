@@ -8,7 +8,7 @@ ghost use Rattle.vt_pages.specs.Pages.{pages_of};
 ghost use Rattle.vt_journal.specs.JournalText.{IsEventInChain, pass_text};
 ghost use Rattle.vt_journal.specs.Passes.{pass_of};
 ghost use Rattle.vt_evict.specs.Batches.{IsLawful};
-ghost use Rattle.vt_pass.specs.Scenes.{job_of};
+ghost use Rattle.vt_workers.specs.Jobs.{job_of};
 ghost use Rattle.vt_pass.specs.Passes.{MayPrepare, IsJobFor, Ends};
 ghost use Rattle.vt_walk.specs.Outlooks.{IsOutlook};
 

@@ -14,7 +14,7 @@ ghost use Rattle.vt_evict.specs.Stamps.{Stamps, IsByStamps};
 ghost use Rattle.vt_feedback.specs.declared.Wanted.{Wanted};
 ghost use Rattle.vt_feedback.specs.Wants.{IsWants};
 ghost use Rattle.vt_pass.specs.declared.crew.PassReport.{PassReport as Report};
-ghost use Rattle.vt_pass.specs.Scenes.{Job};
+ghost use Rattle.vt_workers.specs.Jobs.{Job};
 ghost use Rattle.vt_pass.specs.Machines.{MachineState};
 ghost use Rattle.vt_pass.specs.Outcomes.{IsBatchFor, IsOutcome, lost_count};
 ghost use Rattle.vt_pass.specs.Requests.{times_planned, lost_entries};

@@ -8,7 +8,7 @@ ghost use Rattle.vt_table.specs.Views.{IsTable};
 ghost use Rattle.vt_shown.specs.Frames.{HoldsTiles};
 ghost use Rattle.vt_pass.specs.Crews.{IsCrew};
 ghost use Rattle.vt_pass.specs.Passes.{MayPrepare, IsJobFor};
-ghost use Rattle.vt_pass.specs.Scenes.{job_of};
+ghost use Rattle.vt_workers.specs.Jobs.{job_of};
 ghost use Rattle.vt_still.specs.Kits.{kit_setup, kit_state, IsIdleKit};
 ghost use Rattle.vt_rounds.specs.Streams.{IsTileOf};
 

@@ -7,7 +7,7 @@ ghost use Rattle.vt_pages.specs.Pages.{root_of};
 ghost use Rattle.vt_tiles.specs.Format.{tile_length, tile_start};
 ghost use Rattle.vt_pass.specs.Crews.{IsCrew};
 ghost use Rattle.vt_pass.specs.Passes.{MayPrepare, IsJobFor, Ends};
-ghost use Rattle.vt_pass.specs.Scenes.{job_of};
+ghost use Rattle.vt_workers.specs.Jobs.{job_of};
 
 use crate::pass::driven::{Step, batch_of, came};
 use crate::pass::lawful::root_page;

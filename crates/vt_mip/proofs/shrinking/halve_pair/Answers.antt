@@ -1,7 +1,7 @@
 use Rattle.std.proofs.Common.{◌≡◌, ℕ, ◌+◌, ◌-◌, ◌*◌, ◌/◌, ◌<◌, ◌≤◌, length, take, drop, min, sym, ap, ◌∙◌, subst, arith}
 use Rattle.std.proofs.lemmas.Nat.{mul-le}
 use Rattle.std.proofs.Math.Nat.{mul-le-mul_left}
-use Rattle.vt_mip.specs.Halves.{IsHalvedRow}
+use Rattle.vt_box_filter.specs.HalvedRows.{IsHalvedRow}
 use Rattle.vt_mip.proofs.Rasters.{raster_small, row_small, texel_row_room}
 use Rattle.vt_mip.proofs.InPlace.{next_pair}
 use Rattle.vt_mip.proofs.shrinking.halve_pair.Goals as goal

@@ -11,8 +11,8 @@ half_end w h taken count d z space inside even room e =
     half_room (z * ((w + 1) / 2)) taken count h space inside even
     (room ∙ ap (λ (q : ℕ). q * ((w + 1) / 2 * ((h + 1) / 2))) (sym e) ∙ omega arith)
 
-pub slice_bounds-halve_at-end : goal.slice_bounds-halve_at-end
-slice_bounds-halve_at-end c =
+pub slice_bounds-halve_raster-end : goal.slice_bounds-halve_raster-end
+slice_bounds-halve_raster-end c =
     let w : ℕ = c.args.width in
     let z : ℕ = c.texel_length.result in
     let room : z * ((w + 1) / 2) * (c.args.taken / 2) + z * ((w + 1) / 2) * ((c.args.count + 1) / 2) ≤ length c.args.samples.now =
@@ -31,27 +31,27 @@ returns c = λ source piece before.
     (length c.args.samples.now) c.requires.inside c.requires.even
     (c.requires.room
     ∙ ap (λ (q : ℕ). q * ((w + 1) / 2 * ((c.args.height + 1) / 2))) (sym c.texel_length.ensures.value) ∙ omega arith) in
-    rows_taken c.args.depth w c.args.height c.args.taken c.args.count z _ _ source c.args.rows.now c.args.samples.now c.halve_at.new.out
+    rows_taken c.args.depth w c.args.height c.args.taken c.args.count z _ _ source c.args.rows.now c.args.samples.now c.halve_raster.new.out
     c.requires.some_columns c.requires.some c.requires.inside c.requires.even c.requires.pairs c.requires.whole c.texel_length.ensures.value
-    refl (omega (arith, room)) (omega arith) c.halve_at.ensures piece before
+    refl (omega (arith, room)) (omega arith) c.halve_raster.ensures piece before
 
-pub halve_at-requires-clause-depth : goal.halve_at-requires-clause-depth
-halve_at-requires-clause-depth c = c.requires.depth
+pub halve_raster-requires-clause-depth : goal.halve_raster-requires-clause-depth
+halve_raster-requires-clause-depth c = c.requires.depth
 
-pub halve_at-requires-clause-few_columns : goal.halve_at-requires-clause-few_columns
-halve_at-requires-clause-few_columns c = c.requires.few_columns
+pub halve_raster-requires-clause-few_columns : goal.halve_raster-requires-clause-few_columns
+halve_raster-requires-clause-few_columns c = c.requires.few_columns
 
-pub halve_at-requires-clause-some_columns : goal.halve_at-requires-clause-some_columns
-halve_at-requires-clause-some_columns c = c.requires.some_columns
+pub halve_raster-requires-clause-some_columns : goal.halve_raster-requires-clause-some_columns
+halve_raster-requires-clause-some_columns c = c.requires.some_columns
 
-pub halve_at-requires-clause-some_rows : goal.halve_at-requires-clause-some_rows
-halve_at-requires-clause-some_rows c = c.requires.some
+pub halve_raster-requires-clause-some_rows : goal.halve_raster-requires-clause-some_rows
+halve_raster-requires-clause-some_rows c = c.requires.some
 
-pub halve_at-requires-clause-few_rows : goal.halve_at-requires-clause-few_rows
-halve_at-requires-clause-few_rows c = omega (arith, c.requires.inside, c.requires.few_rows)
+pub halve_raster-requires-clause-few_rows : goal.halve_raster-requires-clause-few_rows
+halve_raster-requires-clause-few_rows c = omega (arith, c.requires.inside, c.requires.few_rows)
 
-pub halve_at-requires-clause-source : goal.halve_at-requires-clause-source
-halve_at-requires-clause-source c = c.requires.whole
+pub halve_raster-requires-clause-source : goal.halve_raster-requires-clause-source
+halve_raster-requires-clause-source c = c.requires.whole
 
 pub overflow_mul-half_row : goal.overflow_mul-half_row
 overflow_mul-half_row c = omega (arith, row_small c.texel_length.result ((c.args.width + 1) / 2) c.texel_length.ensures.few (omega arith))

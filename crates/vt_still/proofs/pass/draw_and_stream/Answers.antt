@@ -6,14 +6,14 @@ use Rattle.vt_loaders.specs.declared.queued.Queues.{Queues}
 use Rattle.vt_loaders.specs.QueuedLoaders.{QueuedView, MayLoad, HasLoaded}
 use Rattle.vt_table.specs.Views.{TableView}
 use Rattle.vt_still.specs.declared.tasks.StillSampler.{StillSampler}
-use Rattle.vt_pass.specs.All.{AllReady}
-use Rattle.vt_pass.specs.Scenes.{Job, job_of}
+use Rattle.vt_workers.specs.All.{AllReady}
+use Rattle.vt_workers.specs.Jobs.{Job, job_of}
 use Rattle.vt_pass.specs.PictureWants.{picture_wants}
 use Rattle.vt_still.specs.StillTasks.{MayDraw, HasDrawn}
 use Rattle.vt_pass.specs.StillShows.{still_shows}
 use Rattle.vt_still.specs.StillLaws.{ran_after, begun, kit_back, same_kit}
 use Rattle.vt_still.proofs.Kits.{may_draw}
-use Rattle.vt_pass.proofs.Lent.{same_number, all_did}
+use Rattle.vt_workers.proofs.Lent.{same_number, all_did}
 use Rattle.vt_still.proofs.pass.draw_and_stream.Goals as goal
 
 pub work_together-requires-clause-loaders : goal.work_together-requires-clause-loaders

@@ -1,7 +1,7 @@
 use Rattle.std.proofs.Common.{true, length, ap, sym, ◌∙◌, subst}
 use Rattle.vt_table.specs.Views.{TableView}
 use Rattle.vt_pass.specs.Machines.{Setup, MachineState}
-use Rattle.vt_pass.specs.Scenes.{job_of}
+use Rattle.vt_workers.specs.Jobs.{job_of}
 use Rattle.vt_pass.specs.PictureWants.{picture_wants}
 use Rattle.vt_pass.specs.StillShows.{still_shows}
 use Rattle.vt_pass.specs.Passes.{MapsRoot, IsJobFor, Ran}

@@ -6,7 +6,7 @@ use Rattle.vt_pass.specs.Outcomes.{IsBatchFor}
 use Rattle.vt_tiles.specs.Format.{tile_length}
 use Rattle.vt_still.specs.RoundKits.{HasPlaces}
 use Rattle.vt_pass.specs.declared.crew.PassReport.{PassReport}
-use Rattle.vt_pass.specs.Scenes.{job_of}
+use Rattle.vt_workers.specs.Jobs.{job_of}
 use Rattle.vt_pass.specs.PictureWants.{picture_wants}
 use Rattle.vt_pass.specs.Passes.{Ran}
 use Rattle.vt_still.specs.Kits.{KitView, kit_state, lines_at}

@@ -1,5 +1,5 @@
 use Rattle.std.proofs.Common.{Ok, refl, sym, subst}
-use Rattle.vt_pass.specs.Scenes.{job_of}
+use Rattle.vt_workers.specs.Jobs.{job_of}
 use Rattle.vt_still.specs.Kits.{IsIdleKit}
 use Rattle.vt_still.specs.StillMachines.{StillView, kit_before, MayFinish, KitEnds}
 use Rattle.vt_still.proofs.machine.StillMachinePassMachine.dismiss.Goals as goal

@@ -1,6 +1,6 @@
 use Rattle.std.proofs.Common.{sym, ap, ◌∙◌, subst}
-use Rattle.vt_pass.specs.All.{AllReady}
-use Rattle.vt_pass.specs.Scenes.{job_of}
+use Rattle.vt_workers.specs.All.{AllReady}
+use Rattle.vt_workers.specs.Jobs.{job_of}
 use Rattle.vt_still.specs.StillTasks.{MayDraw}
 use Rattle.vt_still.specs.StillMachines.{StillView}
 use Rattle.vt_still.proofs.Kits.{may_draw}

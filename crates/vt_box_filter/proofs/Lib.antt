@@ -1,0 +1,4 @@
+pub mod PartSamples
+pub mod BlockRows
+pub mod Bytes
+pub mod PutBoxes

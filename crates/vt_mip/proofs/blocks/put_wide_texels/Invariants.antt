@@ -1,5 +1,0 @@
-use Rattle.vt_mip.specs.Halves.{AreEveryOther}
-use Rattle.vt_mip.proofs.blocks.put_wide_texels.Given as goal
-
-abbrev pub invariant-loop-x : goal.invariant-loop-x
-invariant-loop-x l = AreEveryOther 2 l.samples l.x l.out

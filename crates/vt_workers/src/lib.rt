@@ -1,0 +1,8 @@
+//! The workers of a pass: what one of them does, and how loaders, samplers and a streamer are at work at once.
+#![tactic(auto)]
+
+mod task;
+mod work;
+
+pub use task::Task;
+pub use work::work_together;

@@ -1,0 +1,33 @@
+//! What one worker of a pass does.
+
+ghost use Rattle.vt_workers.specs.Jobs.{Job, job_of};
+
+use std::sync::Wait;
+use std::thread::Threads;
+use vt_draw::Shot;
+use vt_plan::Planned;
+use vt_outside::Gate;
+
+/// A part of a pass that one worker does: it changes itself alone, and reads what it shares with the other workers, an `S`.
+pub trait Task<S: Sync> {
+    /// Whether it is to be at work while others are, in a thread of its own.
+    const BESIDE: bool = true;
+
+    /// It may begin, on what is shared and for the pass's job.
+    ghost ready: { S → Job → Self → Type 0 };
+
+    /// What it was and what it is, once it has worked.
+    ghost did: { S → Job → Self → Self → Type 0 };
+
+    /// Does the part.
+    fn work<Rt: Threads + Wait, G: Gate>(
+        &mut self,
+        rt: &Rt,
+        shared: &S,
+        shot: &Shot<'_>,
+        batch: &[Planned],
+        gate: &G,
+    )
+        requires { ready shared.now (job_of shot.now batch.now) self.old }
+        ensures { did shared.now (job_of shot.now batch.now) self.old self.new };
+}

@@ -1,0 +1,189 @@
+//! The workers of a pass, at work at once.
+
+ghost use Rattle.std.specs.Thread.{IsSync, IsSend};
+ghost use Rattle.vt_workers.specs.Jobs.{job_of};
+ghost use Rattle.vt_workers.specs.All.{AllReady, AllDid};
+
+use crate::task::Task;
+use std::sync::Wait;
+use std::thread::{Threads, join_mut};
+use vt_draw::Shot;
+use vt_plan::Planned;
+use vt_outside::Gate;
+
+/// The loaders, and beside them the samplers and the streamer. Threads cost more than what they do where nothing is to be read, and
+/// one request is taken by one loader. Where no thread can be made, the loaders work first, then the samplers, and the streamer last.
+pub fn work_together<
+    Rt: Threads + Wait + Sync,
+    S: Sync,
+    L: Task<S> + Send,
+    M: Task<S> + Send,
+    R: Task<S> + Send,
+    G: Gate + Sync,
+>(
+    rt: &Rt,
+    loaders: &mut [L],
+    samplers: &mut [M],
+    streamer: &mut R,
+    shared: &S,
+    shot: &Shot<'_>,
+    batch: &[Planned],
+    gate: &G,
+)
+    requires loaders { AllReady (L.ready shared.now (job_of shot.now batch.now)) loaders.old }
+    requires samplers { AllReady (M.ready shared.now (job_of shot.now batch.now)) samplers.old }
+    requires streamer { R.ready shared.now (job_of shot.now batch.now) streamer.old }
+    ensures loaders { AllDid (L.did shared.now (job_of shot.now batch.now)) loaders.old loaders.new }
+    ensures samplers { AllDid (M.did shared.now (job_of shot.now batch.now)) samplers.old samplers.new }
+    ensures streamer { R.did shared.now (job_of shot.now batch.now) streamer.old streamer.new }
+{
+    if batch.is_empty() {
+        work_in_turn(rt, loaders, shared, shot, batch, gate);
+        draw_beside(rt, samplers, streamer, shared, shot, batch, gate);
+        return;
+    }
+    // The second closure runs in this thread, and before the first where no thread can be made: so a streamer that waits for what loaders read
+    // does not keep them from reading it.
+    join_mut(
+        rt,
+        &mut || -> ()
+            requires { IsSync Rt.row × IsSync G.row × IsSync S.row × IsSend M.row × IsSend R.row
+                × AllReady (M.ready shared.now (job_of shot.now batch.now)) samplers.now
+                × R.ready shared.now (job_of shot.now batch.now) streamer.now }
+            ensures { AllDid (M.did shared.entry.now (job_of shot.entry.now batch.entry.now)) samplers.entry.now
+                samplers.exit.now
+                × R.did shared.entry.now (job_of shot.entry.now batch.entry.now) streamer.entry.now streamer.exit.now }
+        { draw_beside(rt, samplers, streamer, shared, shot, batch, gate) },
+        &mut || -> ()
+            requires { IsSync Rt.row × IsSync G.row × IsSync S.row × IsSend L.row
+                × AllReady (L.ready shared.now (job_of shot.now batch.now)) loaders.now }
+            ensures { AllDid (L.did shared.entry.now (job_of shot.entry.now batch.entry.now)) loaders.entry.now
+                loaders.exit.now }
+        { load_all(rt, loaders, shared, shot, batch, gate) },
+    );
+}
+
+// All loaders, at once where there are several requests.
+fn load_all<Rt: Threads + Wait + Sync, S: Sync, L: Task<S> + Send, G: Gate + Sync>(
+    rt: &Rt,
+    loaders: &mut [L],
+    shared: &S,
+    shot: &Shot<'_>,
+    batch: &[Planned],
+    gate: &G,
+)
+    requires { AllReady (L.ready shared.now (job_of shot.now batch.now)) loaders.old }
+    ensures { AllDid (L.did shared.now (job_of shot.now batch.now)) loaders.old loaders.new }
+{
+    if batch.len() == 1 {
+        work_in_turn(rt, loaders, shared, shot, batch, gate);
+    } else {
+        work_all(rt, loaders, shared, shot, batch, gate);
+    }
+}
+
+// The samplers, and beside them the streamer. It has a thread of its own only if it is to be at work meanwhile and there is something to
+// stream: an empty batch is not worth one.
+fn draw_beside<
+    Rt: Threads + Wait + Sync,
+    S: Sync,
+    M: Task<S> + Send,
+    R: Task<S> + Send,
+    G: Gate + Sync,
+>(
+    rt: &Rt,
+    samplers: &mut [M],
+    streamer: &mut R,
+    shared: &S,
+    shot: &Shot<'_>,
+    batch: &[Planned],
+    gate: &G,
+)
+    requires samplers { AllReady (M.ready shared.now (job_of shot.now batch.now)) samplers.old }
+    requires streamer { R.ready shared.now (job_of shot.now batch.now) streamer.old }
+    ensures samplers { AllDid (M.did shared.now (job_of shot.now batch.now)) samplers.old samplers.new }
+    ensures streamer { R.did shared.now (job_of shot.now batch.now) streamer.old streamer.new }
+{
+    if !R::BESIDE || batch.is_empty() {
+        work_all(rt, samplers, shared, shot, batch, gate);
+        streamer.work(rt, shared, shot, batch, gate);
+        return;
+    }
+    // As above: where no thread can be made, the samplers are done before a streamer waits for them.
+    join_mut(
+        rt,
+        &mut || -> ()
+            requires { IsSync Rt.row × IsSync G.row × IsSync S.row × IsSend R.row
+                × R.ready shared.now (job_of shot.now batch.now) streamer.now }
+            ensures { R.did shared.entry.now (job_of shot.entry.now batch.entry.now) streamer.entry.now
+                streamer.exit.now }
+        { streamer.work(rt, shared, shot, batch, gate) },
+        &mut || -> ()
+            requires { IsSync Rt.row × IsSync G.row × IsSync S.row × IsSend M.row
+                × AllReady (M.ready shared.now (job_of shot.now batch.now)) samplers.now }
+            ensures { AllDid (M.did shared.entry.now (job_of shot.entry.now batch.entry.now)) samplers.entry.now
+                samplers.exit.now }
+        { work_all(rt, samplers, shared, shot, batch, gate) },
+    );
+}
+
+// All tasks of a list, by halves.
+fn work_all<Rt: Threads + Wait + Sync, S: Sync, L: Task<S> + Send, G: Gate + Sync>(
+    rt: &Rt,
+    tasks: &mut [L],
+    shared: &S,
+    shot: &Shot<'_>,
+    batch: &[Planned],
+    gate: &G,
+)
+    requires ready { AllReady (L.ready shared.now (job_of shot.now batch.now)) tasks.old }
+    ensures did { AllDid (L.did shared.now (job_of shot.now batch.now)) tasks.old tasks.new }
+{
+    if tasks.len() == 1 {
+        tasks[0].work(rt, shared, shot, batch, gate);
+        return;
+    }
+    if tasks.is_empty() {
+        return;
+    }
+    let (low, high) = tasks.split_at_mut(tasks.len() / 2);
+    join_mut(
+        rt,
+        &mut || -> ()
+            requires { IsSync Rt.row × IsSync G.row × IsSync S.row × IsSend L.row
+                × AllReady (L.ready shared.now (job_of shot.now batch.now)) low.now }
+            ensures { AllDid (L.did shared.entry.now (job_of shot.entry.now batch.entry.now)) low.entry.now
+                low.exit.now }
+        { work_all(rt, low, shared, shot, batch, gate) },
+        &mut || -> ()
+            requires { IsSync Rt.row × IsSync G.row × IsSync S.row × IsSend L.row
+                × AllReady (L.ready shared.now (job_of shot.now batch.now)) high.now }
+            ensures { AllDid (L.did shared.entry.now (job_of shot.entry.now batch.entry.now)) high.entry.now
+                high.exit.now }
+        { work_all(rt, high, shared, shot, batch, gate) },
+    );
+}
+
+// All tasks of a list, one after the other.
+fn work_in_turn<Rt: Threads + Wait, S: Sync, L: Task<S>, G: Gate>(
+    rt: &Rt,
+    tasks: &mut [L],
+    shared: &S,
+    shot: &Shot<'_>,
+    batch: &[Planned],
+    gate: &G,
+)
+    requires ready { AllReady (L.ready shared.now (job_of shot.now batch.now)) tasks.old }
+    ensures did { AllDid (L.did shared.now (job_of shot.now batch.now)) tasks.old tasks.new }
+{
+    if tasks.is_empty() {
+        return;
+    }
+    if tasks.len() == 1 {
+        tasks[0].work(rt, shared, shot, batch, gate);
+        return;
+    }
+    let (low, high) = tasks.split_at_mut(tasks.len() / 2);
+    work_in_turn(rt, low, shared, shot, batch, gate);
+    work_in_turn(rt, high, shared, shot, batch, gate);
+}
