@@ -7,7 +7,7 @@ use Rattle.vt_files.specs.Courses.{Course, SinkState, FolderState, Gain, IsUntou
 use Rattle.vt_inputs.specs.Inputs.{Input, Content}
 use Rattle.vt_inputs.specs.Causes.{Cause, MissingName, FlawedInput, cause_status, IsFirstCause, AreHeld, AreAccepted}
 use Rattle.vt_inputs.specs.Tasks.{HasBadInput}
-use Rattle.vt_commands.specs.Machines.{Drawing}
+use Rattle.vt_walk_commands.specs.Machines.{Drawing}
 use Rattle.vt_inputs.specs.Terms.{Terms, Hindrance, FlawedBeside, ManyTexels, FewFrames, LargePicture, hindrance_status, IsHindered, HasFaultBy, HasBadInputBy, EndsBy}
 use Rattle.vt_inputs.specs.Lines.{memory_line, usage_line, fault_line}
 use Rattle.vt_inputs.specs.Refusals.{status_of, Told, EndTold}

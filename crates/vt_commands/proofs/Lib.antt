@@ -1,6 +1,2 @@
-pub mod Replaying
-pub mod Walking
-pub mod Trying
-pub mod Differing
 pub mod Sound
 pub mod Clauses

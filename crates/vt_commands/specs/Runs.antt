@@ -6,7 +6,7 @@ use Rattle.vt_inputs.specs.Flaws.{flaw_place}
 use Rattle.vt_inputs.specs.Inputs.{Content}
 use Rattle.vt_inputs.specs.Refusals.{Told}
 use Rattle.vt_inputs.specs.Causes.{Cause, cause_status, IsFirstCause, AreHeld}
-use Rattle.vt_commands.specs.Machines.{Drawing}
+use Rattle.vt_walk_commands.specs.Machines.{Drawing}
 use Rattle.vt_inputs.specs.Terms.{Hindrance, hindrance_status, hindrance_line, DoneBy, LeftBy, IsHindered, HasFaultBy, HasBadInputBy}
 use Rattle.vt_words.specs.Commands.{CommandText, command_text}
 use Rattle.vt_commands.specs.commands.{terms_of}

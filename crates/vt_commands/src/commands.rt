@@ -1,27 +1,21 @@
-//! The commands: doing what the words ask for. A command is a file of its own and a line in each `match` here.
+//! The choice of a command: doing what the words ask for. A command is a file of vt_store_commands or vt_walk_commands, and a line in each `match` here.
 
 ghost use Rattle.vt_words.specs.Arguments.{texts};
 ghost use Rattle.vt_words.specs.Commands.{shown, IsLawful};
 ghost use Rattle.vt_files.specs.Courses.{course};
-ghost use Rattle.vt_commands.specs.Machines.{drawing_of};
+ghost use Rattle.vt_walk_commands.specs.Machines.{drawing_of};
 ghost use Rattle.vt_inputs.specs.Terms.{EndsBy};
 ghost use Rattle.vt_commands.specs.commands.{terms_of, EndsRun};
 
-mod replay;
-mod trial;
-mod walk;
-
-use replay::replay;
 use std::alloc::Global;
 use std::sync::Wait;
 use std::thread::Threads;
-use trial::trial;
 use vt_inputs::Refusal;
 use vt_outside::{Folder, Gate, Sink};
 use vt_pass::PassMachine;
 use vt_store_commands::{generate, info, plain, tile, upgrade};
+use vt_walk_commands::{replay, trial, walk};
 use vt_words::{Command, read_command};
-use walk::walk;
 
 /// Reads the words after the program's name and does the command that they ask for.
 pub fn do_command<

@@ -1,4 +1,4 @@
-//! The commands that walk or replay, `walk`, `replay` and `trial`, and the top call, which does any command that words ask for.
+//! The top call, which does any command that words ask for.
 #![tactic(auto)]
 
 mod commands;

@@ -3,7 +3,7 @@
 ghost use Rattle.std.specs.Prelude.{◌≡◌, ◌≢◌, ◌≤◌, ◌⊎◌};
 ghost use Rattle.vt_files.specs.Courses.{course, gain, IsUntouched, IsIdle};
 ghost use Rattle.vt_inputs.specs.Lines.{memory_line, usage_line, fault_line};
-ghost use Rattle.vt_commands.specs.Machines.{drawing_of};
+ghost use Rattle.vt_walk_commands.specs.Machines.{drawing_of};
 ghost use Rattle.vt_inputs.specs.Refusals.{Told};
 ghost use Rattle.vt_words.specs.Arguments.{texts};
 ghost use Rattle.vt_commands.specs.Runs.{AsksNothing, RunDone, RunLeft, RunAsked, RunFault, RunBadInput, RunHindered, RunCaused, RunStopped, RunComplete};

@@ -8,7 +8,7 @@ use Rattle.vt_words.specs.declared.arguments.WordsError.{WordsError}
 use Rattle.vt_words.specs.declared.arguments.WordsError.TheVariants as words
 use Rattle.vt_commands.specs.commands.{IsUnread}
 use Rattle.vt_inputs.specs.Refusals.{refusal_of_words}
-use Rattle.vt_commands.specs.Machines.{drawing_of}
+use Rattle.vt_walk_commands.specs.Machines.{drawing_of}
 use Rattle.vt_commands.proofs.Clauses.{runs_command}
 use Rattle.vt_commands.proofs.commands.do_command.Goals as goal
 
