@@ -1,2 +1,3 @@
 pub mod commands
+pub mod Waits
 pub mod Runs

@@ -3,14 +3,14 @@ use Rattle.vt_words.specs.Tile.{shown_tile}
 use Rattle.vt_words.specs.Info.{shown_info}
 use Rattle.vt_words.specs.Gen.{shown_gen}
 use Rattle.vt_words.specs.Upgrade.{shown_upgrade}
-use Rattle.vt_files.specs.Courses.{course, folder_state, sink_state}
+use Rattle.vt_files.specs.Courses.{course, sink_state}
 use Rattle.vt_store_commands.specs.commands.Plain.{plain_task}
 use Rattle.vt_store_commands.specs.commands.Tile.{tile_task}
 use Rattle.vt_store_commands.specs.commands.Info.{info_task}
 use Rattle.vt_store_commands.specs.commands.Gen.{gen_task}
 use Rattle.vt_store_commands.specs.commands.Upgrade.{upgrade_task}
 use Rattle.vt_inputs.proofs.Terming.{by_task}
-use Rattle.vt_commands.proofs.commands.perform.Goals as goal
+use Rattle.vt_commands.proofs.at_once.perform_at_once.Goals as goal
 
 pub returns-in-Plain : goal.returns-in-Plain
 returns-in-Plain g c =
@@ -44,9 +44,3 @@ returns-in-Upgrade g c =
 
 pub returns-in-Replay : goal.returns-in-Replay
 returns-in-Replay g c = rw c.in-Replay.is c.replay.ensures
-
-pub returns-in-Walk : goal.returns-in-Walk
-returns-in-Walk g c = rw c.in-Walk.is c.walk.ensures
-
-pub returns-in-Trial : goal.returns-in-Trial
-returns-in-Trial g c = rw c.in-Trial.is (c.trial.ensures (folder_state g.D.Folder c.args.folder.now))
