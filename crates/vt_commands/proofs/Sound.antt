@@ -1,5 +1,5 @@
 -- What is known of the terms of every command.
-use Rattle.std.proofs.Common.{◌≡◌, [], List, refl, ap}
+use Rattle.std.proofs.Common.{[], List, refl, ap}
 use Rattle.vt_files.specs.Courses.{Course, FolderState, IsIdle}
 use Rattle.vt_inputs.specs.Inputs.{Input}
 use Rattle.vt_inputs.specs.Causes.{AsksInOrder}

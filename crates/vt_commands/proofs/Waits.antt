@@ -6,8 +6,7 @@ use Rattle.std.specs.declared.alloc.Global.{Global}
 use Rattle.std.proofs.lemmas.Bool.{false≢true}
 use Rattle.std.proofs.lemmas.Slice.Eq.{bytes_eq-Decides}
 use Rattle.vt_files.specs.Courses.{Course, Gain}
-use Rattle.vt_inputs.specs.Causes.{Cause, cause_status, IsFirstCause, AreHeld}
-use Rattle.vt_inputs.specs.Inputs.{Content}
+use Rattle.vt_inputs.specs.Causes.{cause_status, IsFirstCause, AreHeld}
 use Rattle.vt_inputs.specs.Terms.{Terms, Hindrance, hindrance_status, DoneBy, LeftBy, IsHindered, HasFaultBy, HasBadInputBy}
 use Rattle.vt_words.specs.Arguments.{texts}
 use Rattle.vt_words.specs.Plain.{plain_text}
@@ -18,7 +17,7 @@ use Rattle.vt_words.specs.Upgrade.{upgrade_text}
 use Rattle.vt_words.specs.Replay.{replay_text}
 use Rattle.vt_words.specs.Walk.{walk_text}
 use Rattle.vt_words.specs.Trial.{trial_text}
-use Rattle.vt_words.specs.Commands.{CommandText, PlainCommand, TileCommand, InfoCommand, GenCommand, UpgradeCommand, ReplayCommand, WalkCommand, TrialCommand, command_text, named_text}
+use Rattle.vt_words.specs.Commands.{CommandText, PlainCommand, TileCommand, InfoCommand, GenCommand, UpgradeCommand, ReplayCommand, WalkCommand, TrialCommand, named_text}
 use Rattle.vt_walk_commands.specs.Machines.{Drawing}
 use Rattle.vt_commands.specs.commands.{terms_of}
 use Rattle.vt_commands.specs.Waits.{is_waiting_name, may_wait, MayWait}

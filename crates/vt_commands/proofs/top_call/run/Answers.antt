@@ -3,7 +3,6 @@ use Rattle.vt_files.specs.Courses.{course, gain}
 use Rattle.vt_words.specs.Arguments.{texts}
 use Rattle.vt_walk_commands.specs.Machines.{drawing_of}
 use Rattle.vt_commands.specs.Waits.{no_machine}
-use Rattle.vt_commands.specs.Runs.{IsRun}
 use Rattle.vt_commands.proofs.Waits.{by_any}
 use Rattle.vt_commands.proofs.top_call.run.Goals as goal
 
