@@ -1,25 +1,28 @@
 -- The clauses of the top call, from how a run ends.
-use Rattle.std.proofs.Common.{◌≡◌, ◌≢◌, ◌⊎◌, ℕ, ◌≤◌, List, Ok, Err, refl, sym, ap, subst, ◌∙◌, inl, inr, arith}
-use Rattle.std.specs.Prelude.{Result}
+use Rattle.std.proofs.Common.{◌≡◌, ◌≢◌, ◌⊎◌, ℕ, ◌≤◌, List, Option, Ok, Err, refl, sym, ap, subst, ◌∙◌, inl, inr, arith}
+use Rattle.std.specs.Prelude.{Result, IsNone}
 use Rattle.std.specs.Option.{is_some}
 use Rattle.std.proofs.lemmas.Bool.{false≢true}
 use Rattle.vt_files.specs.Courses.{Course, SinkState, FolderState, Gain, IsUntouched, IsIdle}
 use Rattle.vt_inputs.specs.Inputs.{Input, Content}
 use Rattle.vt_inputs.specs.Causes.{Cause, MissingName, FlawedInput, cause_status, IsFirstCause, AreHeld, AreAccepted}
 use Rattle.vt_inputs.specs.Tasks.{HasBadInput}
-use Rattle.vt_commands.specs.Machines.{Drawing}
+use Rattle.vt_walk_commands.specs.Machines.{Drawing}
 use Rattle.vt_inputs.specs.Terms.{Terms, Hindrance, FlawedBeside, ManyTexels, FewFrames, LargePicture, hindrance_status, IsHindered, HasFaultBy, HasBadInputBy, EndsBy}
 use Rattle.vt_inputs.specs.Lines.{memory_line, usage_line, fault_line}
-use Rattle.vt_inputs.specs.Refusals.{status_of, Told, EndTold}
-use Rattle.vt_commands.specs.Runs.{Asks, AsksNothing, RunDone, RunLeft, RunAsked, RunFault, RunBadInput, RunHindered, RunCaused, RunStopped, RunComplete}
-use Rattle.vt_words.specs.Commands.{CommandText}
-use Rattle.vt_commands.specs.commands.{terms_of, EndsCommand, EndsRun}
+use Rattle.vt_inputs.specs.Refusals.{status_of, Told, EndTold, refusal_of_words}
+use Rattle.vt_commands.specs.Runs.{Asks, AsksNothing, RunDone, RunLeft, RunAsked, RunFault, RunBadInput, RunHindered, RunCaused, RunStopped, RunComplete, IsRun}
+use Rattle.vt_words.specs.Commands.{CommandText, command_text}
+use Rattle.vt_words.specs.declared.arguments.WordsError.{WordsError}
+use Rattle.vt_words.specs.declared.arguments.WordsError.TheVariants as words_error
+use Rattle.vt_commands.specs.commands.{terms_of, IsUnread, EndsCommand, EndsRun}
 use Rattle.vt_inputs.specs.declared.flaws.Flaw.{Flaw}
 use Rattle.vt_inputs.specs.declared.refusal.Refusal.{Refusal}
 use Rattle.vt_inputs.specs.declared.refusal.Refusal.TheVariants.{NoMemory, Usage, Fault, Flawed, TooFewFrames, DoesNotFit}
 use Rattle.vt_inputs.proofs.Excluded.{first_status, none_first, held_accepted, first_told, accepted_told}
 use Rattle.vt_inputs.proofs.OneContent.{same_held}
-use Rattle.vt_commands.proofs.Sound.{AreSound, sound}
+use Rattle.vt_walk_commands.proofs.Sound.{AreSound}
+use Rattle.vt_commands.proofs.Sound.{sound}
 
 asks_none : (words : List (List ℕ)) (p : CommandText) → Asks words p → AsksNothing words → ⊥
 asks_none words p asks none = false≢true (sym none ∙ ap is_some asks)
@@ -32,7 +35,7 @@ ends_as : (m : Drawing) (T : Type 0) (words : List (List ℕ)) (c : Course) (r :
     → EndsCommand m words c r → EndsBy (terms_of m p) c r
 ends_as m T words c r p asks h = subst (λ (q : CommandText). EndsBy (terms_of m q) c r) (same_command words h.command p h.is asks) h.ends
 
-pub done_of : (m : Drawing) (T : Type 0) (words : List (List ℕ)) (c : Course) (r : Result T Refusal) → EndsRun m words c r → status_of r ≡ 0 → RunDone m words c
+done_of : (m : Drawing) (T : Type 0) (words : List (List ℕ)) (c : Course) (r : Result T Refusal) → EndsRun m words c r → status_of r ≡ 0 → RunDone m words c
 done_of m T words c (Ok t) h s = (h.command, h.is, h.ends.1)
 done_of m T words c (Err NoMemory) h s = absurd (omega (arith, s))
 done_of m T words c (Err Usage) h s = absurd (omega (arith, s))
@@ -44,7 +47,7 @@ done_of m T words c (Err (DoesNotFit picture wanted room)) h s = absurd (omega (
 idle_untouched : (c : Course) → IsIdle c → IsUntouched c
 idle_untouched c idle = record { files = ap (λ (s : FolderState). s.files) idle.folder; held = ap (λ (s : SinkState). s.held) idle.out }
 
-pub left_of : (m : Drawing) (T : Type 0) (words : List (List ℕ)) (c : Course) (r : Result T Refusal) → EndsRun m words c r → status_of r ≢ 0 → RunLeft m words c
+left_of : (m : Drawing) (T : Type 0) (words : List (List ℕ)) (c : Course) (r : Result T Refusal) → EndsRun m words c r → status_of r ≢ 0 → RunLeft m words c
 left_of m T words c (Ok t) h s = λ p asks. absurd (s refl)
 left_of m T words c (Err refusal) (inl h) s = λ p asks. inl (idle_untouched c h.idle)
 left_of m T words c (Err refusal) (inr h) s = λ p asks. (ends_as m T words c (Err refusal) p asks h).1.0
@@ -53,7 +56,7 @@ bad_untouched : (terms : Terms) (c : Course) (name : List ℕ) (flaw : Flaw) →
 bad_untouched terms c name flaw (inl h) = h.untouched
 bad_untouched terms c name flaw (inr h) = h.stands
 
-pub untouched_of : (m : Drawing) (T : Type 0) (words : List (List ℕ)) (c : Course) (r : Result T Refusal) → EndsRun m words c r
+untouched_of : (m : Drawing) (T : Type 0) (words : List (List ℕ)) (c : Course) (r : Result T Refusal) → EndsRun m words c r
     → (status_of r ≡ 2) ⊎ (status_of r ≡ 4) → IsUntouched c
 untouched_of m T words c (Ok t) h (inl s) = absurd (omega (arith, s))
 untouched_of m T words c (Ok t) h (inr s) = absurd (omega (arith, s))
@@ -68,17 +71,17 @@ untouched_of m T words c (Err (TooFewFrames frames needed)) (inr h) s = h.ends.1
 untouched_of m T words c (Err (DoesNotFit picture wanted room)) (inr h) (inl s) = absurd (omega (arith, s))
 untouched_of m T words c (Err (DoesNotFit picture wanted room)) (inr h) (inr s) = absurd (omega (arith, s))
 
-pub asked_of : (m : Drawing) (T : Type 0) (words : List (List ℕ)) (c : Course) (r : Result T Refusal) → EndsRun m words c r → RunAsked m words c
+asked_of : (m : Drawing) (T : Type 0) (words : List (List ℕ)) (c : Course) (r : Result T Refusal) → EndsRun m words c r → RunAsked m words c
 asked_of m T words c (Ok t) h = λ p asks. (ends_as m T words c (Ok t) p asks h).0
 asked_of m T words c (Err refusal) (inl h) = λ p asks. (sound m p).idle c h.idle
 asked_of m T words c (Err refusal) (inr h) = λ p asks. (ends_as m T words c (Err refusal) p asks h).0
 
-pub idle_of : (m : Drawing) (T : Type 0) (words : List (List ℕ)) (c : Course) (r : Result T Refusal) → EndsRun m words c r → AsksNothing words → IsIdle c
+idle_of : (m : Drawing) (T : Type 0) (words : List (List ℕ)) (c : Course) (r : Result T Refusal) → EndsRun m words c r → AsksNothing words → IsIdle c
 idle_of m T words c (Ok t) h none = absurd (asks_none words h.command h.is none)
 idle_of m T words c (Err refusal) (inl h) none = h.idle
 idle_of m T words c (Err refusal) (inr h) none = absurd (asks_none words h.command h.is none)
 
-pub usage_of : (m : Drawing) (T : Type 0) (words : List (List ℕ)) (c : Course) (r : Result T Refusal) (err : Gain) → EndsRun m words c r → EndTold r err
+usage_of : (m : Drawing) (T : Type 0) (words : List (List ℕ)) (c : Course) (r : Result T Refusal) (err : Gain) → EndsRun m words c r → EndTold r err
     → status_of r ≡ 2 → AsksNothing words ⊎ RunHindered m words c err 2
 usage_of m T words c (Ok t) err h told s = absurd (omega (arith, s))
 usage_of m T words c (Err NoMemory) err h told s = absurd (omega (arith, s))
@@ -90,7 +93,7 @@ usage_of m T words c (Err (Flawed name flaw)) err h told s = absurd (omega (arit
 usage_of m T words c (Err (TooFewFrames frames needed)) err h told s = absurd (omega (arith, s))
 usage_of m T words c (Err (DoesNotFit picture wanted room)) err h told s = absurd (omega (arith, s))
 
-pub no_command_of : (m : Drawing) (T : Type 0) (words : List (List ℕ)) (c : Course) (r : Result T Refusal) → EndsRun m words c r
+no_command_of : (m : Drawing) (T : Type 0) (words : List (List ℕ)) (c : Course) (r : Result T Refusal) → EndsRun m words c r
     → AsksNothing words → (status_of r ≡ 2) ⊎ (status_of r ≡ 1)
 no_command_of m T words c (Ok t) h none = absurd (asks_none words h.command h.is none)
 no_command_of m T words c (Err NoMemory) h none = inr refl
@@ -101,7 +104,7 @@ no_command_of m T words c (Err (Flawed name flaw)) (inl h) none = absurd h.unrea
 no_command_of m T words c (Err (TooFewFrames frames needed)) (inl h) none = absurd h.unread
 no_command_of m T words c (Err (DoesNotFit picture wanted room)) (inl h) none = absurd h.unread
 
-pub fault_of : (m : Drawing) (T : Type 0) (words : List (List ℕ)) (c : Course) (r : Result T Refusal) → EndsRun m words c r → status_of r ≡ 3
+fault_of : (m : Drawing) (T : Type 0) (words : List (List ℕ)) (c : Course) (r : Result T Refusal) → EndsRun m words c r → status_of r ≡ 3
     → RunFault m words c
 fault_of m T words c (Ok t) h s = absurd (omega (arith, s))
 fault_of m T words c (Err NoMemory) h s = absurd (omega (arith, s))
@@ -161,7 +164,7 @@ came_to : (m : Drawing) (T : Type 0) (words : List (List ℕ)) (c : Course) (r :
 came_to m T words c (Ok t) h = λ p asks. inr (ends_as m T words c (Ok t) p asks h)
 came_to m T words c (Err refusal) h = unread_caused m T words c refusal h
 
-pub caused_of : (m : Drawing) (T : Type 0) (words : List (List ℕ)) (c : Course) (r : Result T Refusal) → EndsRun m words c r → RunCaused m words c (status_of r)
+caused_of : (m : Drawing) (T : Type 0) (words : List (List ℕ)) (c : Course) (r : Result T Refusal) → EndsRun m words c r → RunCaused m words c (status_of r)
 caused_of m T words c r h = λ p cause asks none first. elim (came_to m T words c r h p asks) [
   | inl wanting ↦ inr wanting
   | inr ends ↦ caused_as T c r (terms_of m p) cause ends none first
@@ -206,7 +209,7 @@ stopped_as T c (Err (TooFewFrames frames needed)) terms contents a laws h none h
 stopped_as T c (Err (DoesNotFit picture wanted room)) terms contents a laws h none held hinders =
     inl (hindered_status terms c contents a (LargePicture picture wanted room) laws held hinders h.1.1)
 
-pub stopped_of : (m : Drawing) (T : Type 0) (words : List (List ℕ)) (c : Course) (r : Result T Refusal) → EndsRun m words c r
+stopped_of : (m : Drawing) (T : Type 0) (words : List (List ℕ)) (c : Course) (r : Result T Refusal) → EndsRun m words c r
     → RunStopped m words c (status_of r)
 stopped_of m T words c r h = λ p contents hindrance asks none held hinders. elim (came_to m T words c r h p asks) [
   | inl wanting ↦ inr wanting
@@ -236,12 +239,21 @@ complete_as T c (Err (TooFewFrames frames needed)) terms contents h none held fr
 complete_as T c (Err (DoesNotFit picture wanted room)) terms contents h none held free =
     absurd (none_met terms c contents (LargePicture picture wanted room) held free h.1.1)
 
-pub complete_of : (m : Drawing) (T : Type 0) (words : List (List ℕ)) (c : Course) (r : Result T Refusal) → EndsRun m words c r
+complete_of : (m : Drawing) (T : Type 0) (words : List (List ℕ)) (c : Course) (r : Result T Refusal) → EndsRun m words c r
     → RunComplete m words c (status_of r)
 complete_of m T words c r h = λ p contents asks none held free. elim (came_to m T words c r h p asks) [
   | inl wanting ↦ inr wanting
   | inr ends ↦ complete_as T c r (terms_of m p) contents ends none held free
 ]
+
+unread_by : (asked : Option CommandText) (e : WordsError) → (e ≡ words_error.Usage → IsNone asked) → IsUnread asked (refusal_of_words e)
+unread_by asked words_error.Usage none = none refl
+unread_by asked words_error.NoMemory none = tt
+
+-- a run whose words were refused
+pub runs_unread : (m : Drawing) (T : Type 0) (words : List (List ℕ)) (c : Course) (e : WordsError) → IsIdle c
+    → (e ≡ words_error.Usage → IsNone (command_text words)) → EndsRun {T = T} m words c (Err (refusal_of_words e))
+runs_unread m T words c e idle none = inl (record { unread = unread_by (command_text words) e none; idle = idle })
 
 -- a run that did a command
 pub runs_command : (m : Drawing) (T : Type 0) (words : List (List ℕ)) (c : Course) (r : Result T Refusal) (command : CommandText)
@@ -249,7 +261,7 @@ pub runs_command : (m : Drawing) (T : Type 0) (words : List (List ℕ)) (c : Cou
 runs_command m T words c (Ok t) command is ends = record { command = command; is = is; ends = ends }
 runs_command m T words c (Err refusal) command is ends = inr (record { command = command; is = is; ends = ends })
 
-pub small_of : (T : Type 0) (r : Result T Refusal) → status_of r ≤ 5
+small_of : (T : Type 0) (r : Result T Refusal) → status_of r ≤ 5
 small_of T (Ok t) = omega arith
 small_of T (Err NoMemory) = omega arith
 small_of T (Err Usage) = omega arith
@@ -258,7 +270,7 @@ small_of T (Err (Flawed name flaw)) = omega arith
 small_of T (Err (TooFewFrames frames needed)) = omega arith
 small_of T (Err (DoesNotFit picture wanted room)) = omega arith
 
-pub bad_input_of : (m : Drawing) (T : Type 0) (words : List (List ℕ)) (c : Course) (r : Result T Refusal) (err : Gain) → EndsRun m words c r
+bad_input_of : (m : Drawing) (T : Type 0) (words : List (List ℕ)) (c : Course) (r : Result T Refusal) (err : Gain) → EndsRun m words c r
     → EndTold r err → status_of r ≡ 4
     → RunBadInput m words c err
 bad_input_of m T words c (Ok t) err h told s = absurd (omega (arith, s))
@@ -271,7 +283,7 @@ bad_input_of m T words c (Err (Flawed name flaw)) err (inl h) told s = absurd h.
 bad_input_of m T words c (Err (Flawed name flaw)) err
     (inr h) told s = record { command = h.command; asks = h.is; name = name.now; flaw = flaw; bad = h.ends.1.1; told = told }
 
-pub silent_of : (T : Type 0) (r : Result T Refusal) (err : Gain) → EndTold r err → status_of r ≡ 0 → err.after.held ≡ err.before.held
+silent_of : (T : Type 0) (r : Result T Refusal) (err : Gain) → EndTold r err → status_of r ≡ 0 → err.after.held ≡ err.before.held
 silent_of T (Ok t) err told s = ap (λ (s : SinkState). s.held) told
 silent_of T (Err NoMemory) err told s = absurd (omega (arith, s))
 silent_of T (Err Usage) err told s = absurd (omega (arith, s))
@@ -280,7 +292,7 @@ silent_of T (Err (Flawed name flaw)) err told s = absurd (omega (arith, s))
 silent_of T (Err (TooFewFrames frames needed)) err told s = absurd (omega (arith, s))
 silent_of T (Err (DoesNotFit picture wanted room)) err told s = absurd (omega (arith, s))
 
-pub memory_told_of : (T : Type 0) (r : Result T Refusal) (err : Gain) → EndTold r err → status_of r ≡ 1 → Told memory_line err
+memory_told_of : (T : Type 0) (r : Result T Refusal) (err : Gain) → EndTold r err → status_of r ≡ 1 → Told memory_line err
 memory_told_of T (Ok t) err told s = absurd (omega (arith, s))
 memory_told_of T (Err NoMemory) err told s = told
 memory_told_of T (Err Usage) err told s = absurd (omega (arith, s))
@@ -289,7 +301,7 @@ memory_told_of T (Err (Flawed name flaw)) err told s = absurd (omega (arith, s))
 memory_told_of T (Err (TooFewFrames frames needed)) err told s = absurd (omega (arith, s))
 memory_told_of T (Err (DoesNotFit picture wanted room)) err told s = absurd (omega (arith, s))
 
-pub usage_told_of : (T : Type 0) (r : Result T Refusal) (err : Gain) → EndTold r err → status_of r ≡ 2 → Told usage_line err
+usage_told_of : (T : Type 0) (r : Result T Refusal) (err : Gain) → EndTold r err → status_of r ≡ 2 → Told usage_line err
 usage_told_of T (Ok t) err told s = absurd (omega (arith, s))
 usage_told_of T (Err NoMemory) err told s = absurd (omega (arith, s))
 usage_told_of T (Err Usage) err told s = told
@@ -298,7 +310,7 @@ usage_told_of T (Err (Flawed name flaw)) err told s = absurd (omega (arith, s))
 usage_told_of T (Err (TooFewFrames frames needed)) err told s = absurd (omega (arith, s))
 usage_told_of T (Err (DoesNotFit picture wanted room)) err told s = absurd (omega (arith, s))
 
-pub fault_told_of : (T : Type 0) (r : Result T Refusal) (err : Gain) → EndTold r err → status_of r ≡ 3 → Told fault_line err
+fault_told_of : (T : Type 0) (r : Result T Refusal) (err : Gain) → EndTold r err → status_of r ≡ 3 → Told fault_line err
 fault_told_of T (Ok t) err told s = absurd (omega (arith, s))
 fault_told_of T (Err NoMemory) err told s = absurd (omega (arith, s))
 fault_told_of T (Err Usage) err told s = absurd (omega (arith, s))
@@ -307,7 +319,7 @@ fault_told_of T (Err (Flawed name flaw)) err told s = absurd (omega (arith, s))
 fault_told_of T (Err (TooFewFrames frames needed)) err told s = absurd (omega (arith, s))
 fault_told_of T (Err (DoesNotFit picture wanted room)) err told s = absurd (omega (arith, s))
 
-pub hindered_of : (m : Drawing) (T : Type 0) (words : List (List ℕ)) (c : Course) (r : Result T Refusal) (err : Gain) → EndsRun m words c r → EndTold r err
+hindered_of : (m : Drawing) (T : Type 0) (words : List (List ℕ)) (c : Course) (r : Result T Refusal) (err : Gain) → EndsRun m words c r → EndTold r err
     → status_of r ≡ 5 → RunHindered m words c err 5
 hindered_of m T words c (Ok t) err h told s = absurd (omega (arith, s))
 hindered_of m T words c (Err NoMemory) err h told s = absurd (omega (arith, s))
@@ -320,3 +332,27 @@ hindered_of m T words c (Err (TooFewFrames frames needed)) err (inr h) told s =
     record { command = h.command; asks = h.is; hindrance = FewFrames frames needed; comes = refl; met = h.ends.1.1; told = told }
 hindered_of m T words c (Err (DoesNotFit picture wanted room)) err (inr h) told s =
     record { command = h.command; asks = h.is; hindrance = LargePicture picture wanted room; comes = refl; met = h.ends.1.1; told = told }
+
+-- all clauses
+pub run_of : (m : Drawing) (T : Type 0) (words : List (List ℕ)) (c : Course) (r : Result T Refusal) (err : Gain) → EndsRun m words c r → EndTold r err
+    → IsRun m words c err (status_of r)
+run_of m T words c r err h told = record {
+  statuses = small_of T r;
+  done = done_of m T words c r h;
+  left = left_of m T words c r h;
+  untouched = untouched_of m T words c r h;
+  asked = asked_of m T words c r h;
+  idle = idle_of m T words c r h;
+  usage = usage_of m T words c r err h told;
+  no_command = no_command_of m T words c r h;
+  fault = fault_of m T words c r h;
+  bad_input = bad_input_of m T words c r err h told;
+  hindered = hindered_of m T words c r err h told;
+  caused = caused_of m T words c r h;
+  stopped = stopped_of m T words c r h;
+  complete = complete_of m T words c r h;
+  silent = silent_of T r err told;
+  memory_told = memory_told_of T r err told;
+  usage_told = usage_told_of T r err told;
+  fault_told = fault_told_of T r err told;
+}

@@ -1,6 +1,3 @@
-pub mod Replaying
-pub mod Walking
-pub mod Trying
-pub mod Differing
 pub mod Sound
 pub mod Clauses
+pub mod Waits

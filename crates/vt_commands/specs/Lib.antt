@@ -1,3 +1,3 @@
-pub mod Machines
 pub mod commands
+pub mod Waits
 pub mod Runs

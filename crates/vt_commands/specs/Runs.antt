@@ -1,12 +1,13 @@
 -- What the top call says of a run, by its words, its course and its status.
-use Rattle.std.specs.Prelude.{◌≡◌, ◌⊎◌, ℕ, List, Some, IsNone}
+use Rattle.std.specs.Prelude.{◌≡◌, ◌≢◌, ◌≤◌, ◌⊎◌, ℕ, List, Some, IsNone}
 use Rattle.vt_print.specs.Places.{bad_input_line}
-use Rattle.vt_files.specs.Courses.{Course, Gain}
+use Rattle.vt_files.specs.Courses.{Course, Gain, IsUntouched, IsIdle}
 use Rattle.vt_inputs.specs.Flaws.{flaw_place}
 use Rattle.vt_inputs.specs.Inputs.{Content}
+use Rattle.vt_inputs.specs.Lines.{memory_line, usage_line, fault_line}
 use Rattle.vt_inputs.specs.Refusals.{Told}
 use Rattle.vt_inputs.specs.Causes.{Cause, cause_status, IsFirstCause, AreHeld}
-use Rattle.vt_commands.specs.Machines.{Drawing}
+use Rattle.vt_walk_commands.specs.Machines.{Drawing}
 use Rattle.vt_inputs.specs.Terms.{Hindrance, hindrance_status, hindrance_line, DoneBy, LeftBy, IsHindered, HasFaultBy, HasBadInputBy}
 use Rattle.vt_words.specs.Commands.{CommandText, command_text}
 use Rattle.vt_commands.specs.commands.{terms_of}
@@ -70,3 +71,25 @@ abbrev pub RunComplete : Drawing → List (List ℕ) → Course → ℕ → Type
 RunComplete m words c status = (command : CommandText) (contents : List Content) → Asks words command
     → ((terms_of m command).failed c → ⊥) → AreHeld c.folder.before.files (terms_of m command).inputs contents
     → ((hindrance : Hindrance) → (terms_of m command).hinders contents hindrance → ⊥) → (status ≡ 0) ⊎ (status ≡ 1)
+
+-- all that the top call says of a run that answered this status: what stands, what was asked, the causes of each status, and the line on
+-- the error output
+pub record IsRun (m : Drawing) (words : List (List ℕ)) (c : Course) (err : Gain) (status : ℕ) : Type 0 where
+  pub statuses : status ≤ 5
+  pub done : status ≡ 0 → RunDone m words c
+  pub left : status ≢ 0 → RunLeft m words c
+  pub untouched : (status ≡ 2) ⊎ (status ≡ 4) → IsUntouched c
+  pub asked : RunAsked m words c
+  pub idle : AsksNothing words → IsIdle c
+  pub usage : status ≡ 2 → AsksNothing words ⊎ RunHindered m words c err 2
+  pub no_command : AsksNothing words → (status ≡ 2) ⊎ (status ≡ 1)
+  pub fault : status ≡ 3 → RunFault m words c
+  pub bad_input : status ≡ 4 → RunBadInput m words c err
+  pub hindered : status ≡ 5 → RunHindered m words c err 5
+  pub caused : RunCaused m words c status
+  pub stopped : RunStopped m words c status
+  pub complete : RunComplete m words c status
+  pub silent : status ≡ 0 → err.after.held ≡ err.before.held
+  pub memory_told : status ≡ 1 → Told memory_line err
+  pub usage_told : status ≡ 2 → Told usage_line err
+  pub fault_told : status ≡ 3 → Told fault_line err

@@ -1,7 +1,4 @@
 -- The commands: what each has to do, and how a run ends.
-pub mod Replay
-pub mod Walk
-pub mod Trial
 use Rattle.std.specs.Prelude.{◌≡◌, ◌⊎◌, ℕ, List, Option, Some, IsNone, Result, Ok, Err}
 use Rattle.vt_words.specs.Commands.{
   CommandText,
@@ -16,16 +13,16 @@ use Rattle.vt_words.specs.Commands.{
   command_text,
 }
 use Rattle.vt_files.specs.Courses.{Course, IsIdle}
-use Rattle.vt_commands.specs.Machines.{Drawing}
+use Rattle.vt_walk_commands.specs.Machines.{Drawing}
 use Rattle.vt_inputs.specs.Terms.{Terms, task_terms, EndsBy}
 use Rattle.vt_store_commands.specs.commands.Plain.{plain_task}
 use Rattle.vt_store_commands.specs.commands.Tile.{tile_task}
 use Rattle.vt_store_commands.specs.commands.Info.{info_task}
 use Rattle.vt_store_commands.specs.commands.Gen.{gen_task}
 use Rattle.vt_store_commands.specs.commands.Upgrade.{upgrade_task}
-use Rattle.vt_commands.specs.commands.Replay.{replay_terms}
-use Rattle.vt_commands.specs.commands.Walk.{walk_terms}
-use Rattle.vt_commands.specs.commands.Trial.{trial_terms}
+use Rattle.vt_walk_commands.specs.commands.Replay.{replay_terms}
+use Rattle.vt_walk_commands.specs.commands.Walk.{walk_terms}
+use Rattle.vt_walk_commands.specs.commands.Trial.{trial_terms}
 use Rattle.vt_inputs.specs.declared.refusal.Refusal.{Refusal}
 use Rattle.vt_inputs.specs.declared.refusal.Refusal.TheVariants.{NoMemory, Usage, Fault, Flawed, TooFewFrames, DoesNotFit}
 

@@ -1,7 +1,9 @@
-//! The commands that walk or replay, `walk`, `replay` and `trial`, and the top call, which does any command that words ask for.
+//! The top call, which does any command that words ask for, and the part of it that waits for nobody.
 #![tactic(auto)]
 
-mod commands;
+mod at_once;
 mod top_call;
+mod waiting;
 
+pub use at_once::{may_wait, run_at_once};
 pub use top_call::run;

@@ -3,16 +3,16 @@
 ghost use Rattle.std.specs.Prelude.{◌≡◌, ◌≢◌, ◌≤◌, ◌⊎◌};
 ghost use Rattle.vt_files.specs.Courses.{course, gain, IsUntouched, IsIdle};
 ghost use Rattle.vt_inputs.specs.Lines.{memory_line, usage_line, fault_line};
-ghost use Rattle.vt_commands.specs.Machines.{drawing_of};
+ghost use Rattle.vt_walk_commands.specs.Machines.{drawing_of};
 ghost use Rattle.vt_inputs.specs.Refusals.{Told};
 ghost use Rattle.vt_words.specs.Arguments.{texts};
 ghost use Rattle.vt_commands.specs.Runs.{AsksNothing, RunDone, RunLeft, RunAsked, RunFault, RunBadInput, RunHindered, RunCaused, RunStopped, RunComplete};
 
-use crate::commands::do_command;
+use crate::at_once::{may_wait, run_at_once};
+use crate::waiting::run_waiting;
 use std::alloc::Global;
 use std::sync::Wait;
 use std::thread::Threads;
-use vt_inputs::{status_of, tell_end};
 use vt_outside::{Folder, Gate, Sink};
 use vt_pass::PassMachine;
 
@@ -26,7 +26,7 @@ use vt_pass::PassMachine;
 /// and writes the replay of each picture of the journal; `walk` reads a path and opens a store, and writes a journal and each
 /// picture of the path as a machine of type `M` draws it while it streams the tiles of the store, whichever machine that is; `trial`
 /// walks settled in memory over a texture and a path that are made from a number, and tells how many passes and reads it took.
-/// `walk` and `trial` may wait.
+/// `walk` and `trial` may wait; any other words are handed to `run_at_once`.
 pub fn run<
     M: PassMachine<File = D::File>,
     Rt: Threads + Wait + Sync,
@@ -82,7 +82,8 @@ pub fn run<
     ensures usage_told { result ≡ 2 → Told usage_line (gain E.Sink err.old err.new) }
     ensures fault_told { result ≡ 3 → Told fault_line (gain E.Sink err.old err.new) }
 {
-    let end = do_command::<M, Rt, D, O, G>(rt, alloc, words, folder, out, gate);
-    tell_end(&end, err);
-    status_of(&end)
+    if may_wait(words) {
+        return run_waiting::<M, Rt, D, O, E, G>(rt, alloc, words, folder, out, err, gate);
+    }
+    run_at_once(alloc, words, folder, out, err)
 }

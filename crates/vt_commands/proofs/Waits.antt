@@ -1,0 +1,168 @@
+-- Which words may wait, and that the clauses of a run that waits for nobody are the same by any machine.
+use Rattle.std.proofs.Common.{◌≡◌, ◌≤◌, ◌⊎◌, ℕ, List, [], ◌∷◌, length, get_or, Option, Some, None, Bool, true, false, ◌||◌, refl, sym, ap, subst, ◌∙◌, inl, inr, arith}
+use Rattle.std.specs.Prelude.{String, string_bytes, is_some, option_map, codes, if◌then◌else◌}
+use Rattle.std.specs.Str.{bytes_eq}
+use Rattle.std.specs.declared.alloc.Global.{Global}
+use Rattle.std.proofs.lemmas.Bool.{false≢true}
+use Rattle.std.proofs.lemmas.Slice.Eq.{bytes_eq-Decides}
+use Rattle.vt_files.specs.Courses.{Course, Gain}
+use Rattle.vt_inputs.specs.Causes.{cause_status, IsFirstCause, AreHeld}
+use Rattle.vt_inputs.specs.Terms.{Terms, Hindrance, hindrance_status, DoneBy, LeftBy, IsHindered, HasFaultBy, HasBadInputBy}
+use Rattle.vt_words.specs.Arguments.{texts}
+use Rattle.vt_words.specs.Plain.{plain_text}
+use Rattle.vt_words.specs.Tile.{tile_text}
+use Rattle.vt_words.specs.Info.{info_text}
+use Rattle.vt_words.specs.Gen.{gen_text}
+use Rattle.vt_words.specs.Upgrade.{upgrade_text}
+use Rattle.vt_words.specs.Replay.{replay_text}
+use Rattle.vt_words.specs.Walk.{walk_text}
+use Rattle.vt_words.specs.Trial.{trial_text}
+use Rattle.vt_words.specs.Commands.{CommandText, PlainCommand, TileCommand, InfoCommand, GenCommand, UpgradeCommand, ReplayCommand, WalkCommand, TrialCommand, named_text}
+use Rattle.vt_walk_commands.specs.Machines.{Drawing}
+use Rattle.vt_commands.specs.commands.{terms_of}
+use Rattle.vt_commands.specs.Waits.{is_waiting_name, may_wait, MayWait}
+use Rattle.vt_commands.specs.Runs.{Asks, AsksNothing, RunBadInput, RunHindered, RunCaused, RunStopped, RunComplete, IsRun}
+
+-- the first word says whether words may wait
+pub first_waits : (words : List (String Global)) (name : String Global) (text : List ℕ) → 1 ≤ length words → name ≡ get_or words 0 name
+    → text ≡ string_bytes name → is_waiting_name text ≡ may_wait (texts words)
+first_waits [] name text some is shows = absurd (let no : ⊥ = omega arith in no)
+first_waits (word ∷ rest) name text some is shows = ap is_waiting_name (shows ∙ ap string_bytes is)
+
+-- the command waits for nobody
+abbrev IsFree : CommandText → Type 0
+IsFree command = MayWait command → ⊥
+
+-- one of two, whichever the test picks
+picked : (P : CommandText → Type 0) (p : CommandText) (b : Bool) (this rest : Option CommandText) → (b ≡ true → this ≡ Some p → P p)
+    → (rest ≡ Some p → P p) → (if b then this else rest) ≡ Some p → P p
+picked P p true this rest here there is = here refl is
+picked P p false this rest here there is = there is
+
+made : {A : Type 0} (P : CommandText → Type 0) (p : CommandText) (make : A → CommandText) (value : Option A) → ((a : A) → P (make a))
+    → option_map make value ≡ Some p → P p
+made P p make None all is = absurd (false≢true (ap is_some is))
+made P p make (Some a) all is = let same : make a ≡ p = cc in subst P same (all a)
+
+-- what the words of a command of another name ask for
+named_free : (name : List ℕ) (words : List (List ℕ)) (p : CommandText) → (bytes_eq name (codes "walk") ≡ true → ⊥)
+    → (bytes_eq name (codes "trial") ≡ true → ⊥) → named_text name words ≡ Some p → IsFree p
+named_free name words p walk trial =
+    picked IsFree p _ _ _ (λ is. made IsFree p PlainCommand (plain_text words) (λ a x. x))
+    (picked IsFree p _ _ _ (λ is. made IsFree p TileCommand (tile_text words) (λ a x. x))
+    (picked IsFree p _ _ _ (λ is. made IsFree p InfoCommand (info_text words) (λ a x. x))
+    (picked IsFree p _ _ _ (λ is. made IsFree p GenCommand (gen_text words) (λ a x. x))
+    (picked IsFree p _ _ _ (λ is. made IsFree p UpgradeCommand (upgrade_text words) (λ a x. x))
+    (picked IsFree p _ _ _ (λ is. made IsFree p ReplayCommand (replay_text words) (λ a x. x))
+    (picked IsFree p _ _ _ (λ is. absurd (walk is))
+    (picked IsFree p _ _ _ (λ is. absurd (trial is)) (λ is. absurd (false≢true (ap is_some is))))))))))
+
+neither : (a b : Bool) → (a || b) ≡ false → (a ≡ true → ⊥) × (b ≡ true → ⊥)
+neither true b never = absurd (false≢true (sym never))
+neither false true never = absurd (false≢true (sym never))
+neither false false never = (λ is. false≢true is, λ is. false≢true is)
+
+one_of : (a b : Bool) → (a || b) ≡ true → (a ≡ true) ⊎ (b ≡ true)
+one_of true b is = inl refl
+one_of false true is = inr refl
+one_of false false is = absurd (false≢true is)
+
+pub is_at_once : (words : List (List ℕ)) → may_wait words ≡ false → (command : CommandText) → Asks words command → IsFree command
+is_at_once [] never command asks = absurd (false≢true (ap is_some asks))
+is_at_once (name ∷ words) never command asks = let other = neither _ _ never in named_free name (name ∷ words) command other.0 other.1 asks
+
+-- what the words of these two names ask for
+named_waiting : (name : List ℕ) (words : List (List ℕ)) (p : CommandText) → (bytes_eq name (codes "walk") ≡ true) ⊎ (bytes_eq name (codes "trial") ≡ true)
+    → named_text name words ≡ Some p → MayWait p
+named_waiting name words p (inl is) asks =
+    made MayWait p WalkCommand (walk_text words) (λ a. tt)
+    (subst (λ (n : List ℕ). named_text n words ≡ Some p) ((bytes_eq-Decides name (codes "walk")).0 is) asks)
+named_waiting name words p (inr is) asks =
+    made MayWait p TrialCommand (trial_text words) (λ a. tt)
+    (subst (λ (n : List ℕ). named_text n words ≡ Some p) ((bytes_eq-Decides name (codes "trial")).0 is) asks)
+
+pub is_waiting : (words : List (List ℕ)) → may_wait words ≡ true → (command : CommandText) → Asks words command → MayWait command
+is_waiting [] is command asks = absurd (false≢true is)
+is_waiting (name ∷ words) is command asks = named_waiting name (name ∷ words) command (one_of _ _ is) asks
+
+-- what holds of the terms of a command that waits for nobody holds of them by any machine
+carried : (m n : Drawing) (F : Terms → Type 0) (command : CommandText) → (MayWait command → ⊥) → F (terms_of m command) → F (terms_of n command)
+carried m n F (PlainCommand words) free x = x
+carried m n F (TileCommand words) free x = x
+carried m n F (InfoCommand words) free x = x
+carried m n F (GenCommand words) free x = x
+carried m n F (UpgradeCommand words) free x = x
+carried m n F (ReplayCommand words) free x = x
+carried m n F (WalkCommand words) free x = absurd (free tt)
+carried m n F (TrialCommand words) free x = absurd (free tt)
+
+hindered_by : (m n : Drawing) (words : List (List ℕ)) (c : Course) (err : Gain) (status : ℕ) → may_wait words ≡ false → RunHindered m words c err status
+    → RunHindered n words c err status
+hindered_by m n words c err status never h = record {
+  command = h.command;
+  asks = h.asks;
+  hindrance = h.hindrance;
+  comes = h.comes;
+  met = carried m n (λ terms. IsHindered terms c h.hindrance) h.command (is_at_once words never h.command h.asks) h.met;
+  told = h.told;
+}
+
+usage_by : (m n : Drawing) (words : List (List ℕ)) (c : Course) (err : Gain) → may_wait words ≡ false → AsksNothing words ⊎ RunHindered m words c err 2
+    → AsksNothing words ⊎ RunHindered n words c err 2
+usage_by m n words c err never (inl none) = inl none
+usage_by m n words c err never (inr h) = inr (hindered_by m n words c err 2 never h)
+
+bad_input_by : (m n : Drawing) (words : List (List ℕ)) (c : Course) (err : Gain) → may_wait words ≡ false → RunBadInput m words c err
+    → RunBadInput n words c err
+bad_input_by m n words c err never b = record {
+  command = b.command;
+  asks = b.asks;
+  name = b.name;
+  flaw = b.flaw;
+  bad = carried m n (λ terms. HasBadInputBy terms c b.name b.flaw) b.command (is_at_once words never b.command b.asks) b.bad;
+  told = b.told;
+}
+
+caused_by : (m n : Drawing) (words : List (List ℕ)) (c : Course) (status : ℕ) → may_wait words ≡ false → RunCaused m words c status
+    → RunCaused n words c status
+caused_by m n words c status never r = λ p cause asks.
+    carried m n (λ terms. (terms.failed c → ⊥) → IsFirstCause c.folder.before.files terms.inputs cause → (status ≡ cause_status cause) ⊎ (status ≡ 1))
+    p (is_at_once words never p asks) (λ none first. r p cause asks none first)
+
+stopped_by : (m n : Drawing) (words : List (List ℕ)) (c : Course) (status : ℕ) → may_wait words ≡ false → RunStopped m words c status
+    → RunStopped n words c status
+stopped_by m n words c status never r = λ p contents hindrance asks.
+    carried m n (λ terms. (terms.failed c → ⊥) → AreHeld c.folder.before.files terms.inputs contents → terms.hinders contents hindrance
+    → (status ≡ hindrance_status hindrance) ⊎ (status ≡ 1))
+    p (is_at_once words never p asks) (λ none held hinders. r p contents hindrance asks none held hinders)
+
+complete_by : (m n : Drawing) (words : List (List ℕ)) (c : Course) (status : ℕ) → may_wait words ≡ false → RunComplete m words c status
+    → RunComplete n words c status
+complete_by m n words c status never r = λ p contents asks.
+    carried m n (λ terms. (terms.failed c → ⊥) → AreHeld c.folder.before.files terms.inputs contents
+    → ((hindrance : Hindrance) → terms.hinders contents hindrance → ⊥) → (status ≡ 0) ⊎ (status ≡ 1))
+    p (is_at_once words never p asks) (λ none held met. r p contents asks none held met)
+
+-- a run that waits for nobody is one by any machine
+pub by_any : (m n : Drawing) (words : List (List ℕ)) (c : Course) (err : Gain) (status : ℕ) → may_wait words ≡ false → IsRun m words c err status
+    → IsRun n words c err status
+by_any m n words c err status never r = record {
+  statuses = r.statuses;
+  done = λ s. let d = r.done s in (d.0, d.1, carried m n (λ terms. DoneBy terms c) d.0 (is_at_once words never d.0 d.1) d.2);
+  left = λ s p asks. carried m n (λ terms. LeftBy terms c) p (is_at_once words never p asks) (r.left s p asks);
+  untouched = r.untouched;
+  asked = λ p asks. carried m n (λ terms. terms.asks c) p (is_at_once words never p asks) (r.asked p asks);
+  idle = r.idle;
+  usage = λ s. usage_by m n words c err never (r.usage s);
+  no_command = r.no_command;
+  fault = λ s. let f = r.fault s in (f.0, f.1, carried m n (λ terms. HasFaultBy terms c) f.0 (is_at_once words never f.0 f.1) f.2);
+  bad_input = λ s. bad_input_by m n words c err never (r.bad_input s);
+  hindered = λ s. hindered_by m n words c err 5 never (r.hindered s);
+  caused = caused_by m n words c status never r.caused;
+  stopped = stopped_by m n words c status never r.stopped;
+  complete = complete_by m n words c status never r.complete;
+  silent = r.silent;
+  memory_told = r.memory_told;
+  usage_told = r.usage_told;
+  fault_told = r.fault_told;
+}

@@ -1,5 +1,0 @@
-use Rattle.std.proofs.Common.{rules}
-use Rattle.vt_commands.proofs.commands.replay.flaw_of_replay.Goals as goal
-
-pub returns-in-BadJournal : goal.returns-in-BadJournal
-returns-in-BadJournal c = search rules

@@ -1,5 +1,0 @@
-use Rattle.std.proofs.Common.{rules}
-use Rattle.vt_commands.proofs.commands.trial.compare.Goals as goal
-
-pub returns : goal.returns
-returns c = search rules

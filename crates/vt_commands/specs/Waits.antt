@@ -1,0 +1,45 @@
+-- Which commands may wait for other threads: `walk` and `trial`.
+use Rattle.std.specs.Prelude.{ℕ, List, [], ◌∷◌, Bool, false, ◌||◌, codes}
+use Rattle.std.specs.Str.{bytes_eq}
+use Rattle.vt_words.specs.Commands.{
+  CommandText,
+  PlainCommand,
+  TileCommand,
+  InfoCommand,
+  GenCommand,
+  UpgradeCommand,
+  ReplayCommand,
+  WalkCommand,
+  TrialCommand,
+}
+use Rattle.vt_walk_commands.specs.Machines.{Drawing}
+
+-- the name is that of a command that may wait
+abbrev pub is_waiting_name : List ℕ → Bool
+is_waiting_name name = bytes_eq name (codes "walk") || bytes_eq name (codes "trial")
+
+-- the first of the words is such a name
+abbrev pub may_wait : List (List ℕ) → Bool
+may_wait [] = false
+may_wait (name ∷ words) = is_waiting_name name
+
+-- the command may wait
+abbrev pub MayWait : CommandText → Type 0
+MayWait (PlainCommand words) = ⊥
+MayWait (TileCommand words) = ⊥
+MayWait (InfoCommand words) = ⊥
+MayWait (GenCommand words) = ⊥
+MayWait (UpgradeCommand words) = ⊥
+MayWait (ReplayCommand words) = ⊥
+MayWait (WalkCommand words) = Unit {0}
+MayWait (TrialCommand words) = Unit {0}
+
+-- of no machine: the terms of a command that waits for nobody are the same by any
+abbrev pub no_machine : Drawing
+no_machine = record {
+  dealt = false;
+  needs = λ scene picture page. 0;
+  shows = λ scene bytes table picture x y. [];
+  whole = λ scene bytes picture x y. [];
+  drawn = λ path picture row version bytes. ⊥;
+}

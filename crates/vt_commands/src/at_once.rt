@@ -1,0 +1,89 @@
+//! The commands that wait for nobody: all but `walk` and `trial`. A command is a file of vt_store_commands or vt_walk_commands, and a
+//! line in the `match` here.
+
+ghost use Rattle.std.specs.Prelude.{◌≡◌, false};
+ghost use Rattle.vt_words.specs.Arguments.{texts};
+ghost use Rattle.vt_words.specs.Commands.{shown, IsLawful};
+ghost use Rattle.vt_files.specs.Courses.{course, gain};
+ghost use Rattle.vt_inputs.specs.Terms.{EndsBy};
+ghost use Rattle.vt_commands.specs.commands.{terms_of, EndsRun};
+ghost use Rattle.vt_commands.specs.Waits.{is_waiting_name, may_wait, MayWait, no_machine};
+ghost use Rattle.vt_commands.specs.Runs.{IsRun};
+
+use std::alloc::Global;
+use vt_inputs::{Refusal, status_of, tell_end};
+use vt_outside::{Folder, Sink};
+use vt_store_commands::{generate, info, plain, tile, upgrade};
+use vt_walk_commands::replay;
+use vt_words::{Command, read_command};
+
+/// Whether the words may be those of a command that waits: the first one is `walk` or `trial`.
+pub fn may_wait(words: &[String]) -> bool
+    ensures { result ≡ may_wait (texts words.now) }
+{
+    match words {
+        [name, ..] => is_waiting_name(name.as_str()),
+        [] => false,
+    }
+}
+
+fn is_waiting_name(name: &str) -> bool
+    ensures { result ≡ is_waiting_name name.now }
+{
+    name == "walk" || name == "trial"
+}
+
+/// Does what `run` does, where the words are not those of a command that may wait: it starts no thread and waits for nobody, so it
+/// returns whatever bytes, places and faults come.
+pub fn run_at_once<D: Folder, O: Sink, E: Sink>(
+    alloc: Global,
+    words: &[String],
+    folder: &mut D,
+    out: &mut O,
+    err: &mut E,
+) -> u8
+    requires { may_wait (texts words.now) ≡ false }
+    ensures { IsRun no_machine (texts words.now) (course D.Folder O.Sink folder.old folder.new out.old out.new)
+        (gain E.Sink err.old err.new) result }
+{
+    let end = do_at_once(alloc, words, folder, out);
+    tell_end(&end, err);
+    status_of(&end)
+}
+
+// Reads the words and does the command that they ask for.
+fn do_at_once<'a, D: Folder, O: Sink>(
+    alloc: Global,
+    words: &'a [String],
+    folder: &mut D,
+    out: &mut O,
+) -> Result<(), Refusal<'a>>
+    requires { may_wait (texts words.now) ≡ false }
+    ensures { EndsRun no_machine (texts words.now) (course D.Folder O.Sink folder.old folder.new out.old out.new) result }
+{
+    let command = read_command(alloc, words)?;
+    perform_at_once(alloc, &command, folder, out)
+}
+
+// Does a command.
+fn perform_at_once<'a, D: Folder, O: Sink>(
+    alloc: Global,
+    command: &Command<'a>,
+    folder: &mut D,
+    out: &mut O,
+) -> Result<(), Refusal<'a>>
+    requires lawful { IsLawful command.now }
+    requires at_once { MayWait (shown command.now) → ⊥ }
+    ensures { EndsBy (terms_of no_machine (shown command.now)) (course D.Folder O.Sink folder.old folder.new out.old out.new) result }
+{
+    match command {
+        Command::Plain(words) => plain(alloc, words, folder, out),
+        Command::Tile(words) => tile(alloc, words, folder, out),
+        Command::Info(words) => info(words, folder, out),
+        Command::Gen(words) => generate(alloc, words, folder),
+        Command::Upgrade(words) => upgrade(alloc, words, folder, out),
+        Command::Replay(words) => replay(alloc, words, folder, out),
+        Command::Walk(_) => unreachable!(),
+        Command::Trial(_) => unreachable!(),
+    }
+}

@@ -1,0 +1,104 @@
+//! The commands that may wait for other threads: `walk` and `trial`. A command is a file of vt_walk_commands, and a line in the `match`
+//! here.
+
+ghost use Rattle.std.specs.Prelude.{◌≡◌, true};
+ghost use Rattle.vt_words.specs.Arguments.{texts};
+ghost use Rattle.vt_words.specs.Commands.{shown, IsLawful};
+ghost use Rattle.vt_files.specs.Courses.{course, gain};
+ghost use Rattle.vt_walk_commands.specs.Machines.{drawing_of};
+ghost use Rattle.vt_inputs.specs.Terms.{EndsBy};
+ghost use Rattle.vt_commands.specs.commands.{terms_of, EndsRun};
+ghost use Rattle.vt_commands.specs.Waits.{may_wait, MayWait};
+ghost use Rattle.vt_commands.specs.Runs.{IsRun};
+
+use std::alloc::Global;
+use std::sync::Wait;
+use std::thread::Threads;
+use vt_inputs::{Refusal, status_of, tell_end};
+use vt_outside::{Folder, Gate, Sink};
+use vt_pass::PassMachine;
+use vt_walk_commands::{trial, walk};
+use vt_words::{Command, read_command};
+
+/// Does what `run` does, where the words are those of a command that may wait.
+pub fn run_waiting<
+    M: PassMachine<File = D::File>,
+    Rt: Threads + Wait + Sync,
+    D: Folder,
+    O: Sink,
+    E: Sink,
+    G: Gate + Sync,
+>(
+    rt: &Rt,
+    alloc: Global,
+    words: &[String],
+    folder: &mut D,
+    out: &mut O,
+    err: &mut E,
+    gate: &G,
+) -> u8
+    requires { may_wait (texts words.now) ≡ true }
+    ensures { IsRun (drawing_of M.DEALT M.needs M.shows M.whole M.drawn) (texts words.now)
+        (course D.Folder O.Sink folder.old folder.new out.old out.new) (gain E.Sink err.old err.new) result }
+{
+    let end = do_waiting::<M, Rt, D, O, G>(rt, alloc, words, folder, out, gate);
+    tell_end(&end, err);
+    status_of(&end)
+}
+
+// Reads the words and does the command that they ask for.
+fn do_waiting<
+    'a,
+    M: PassMachine<File = D::File>,
+    Rt: Threads + Wait + Sync,
+    D: Folder,
+    O: Sink,
+    G: Gate + Sync,
+>(
+    rt: &Rt,
+    alloc: Global,
+    words: &'a [String],
+    folder: &mut D,
+    out: &mut O,
+    gate: &G,
+) -> Result<(), Refusal<'a>>
+    requires { may_wait (texts words.now) ≡ true }
+    ensures { EndsRun (drawing_of M.DEALT M.needs M.shows M.whole M.drawn) (texts words.now)
+        (course D.Folder O.Sink folder.old folder.new out.old out.new) result }
+{
+    let command = read_command(alloc, words)?;
+    perform_waiting::<M, Rt, D, O, G>(rt, alloc, &command, folder, out, gate)
+}
+
+// Does a command.
+fn perform_waiting<
+    'a,
+    M: PassMachine<File = D::File>,
+    Rt: Threads + Wait + Sync,
+    D: Folder,
+    O: Sink,
+    G: Gate + Sync,
+>(
+    rt: &Rt,
+    alloc: Global,
+    command: &Command<'a>,
+    folder: &mut D,
+    out: &mut O,
+    gate: &G,
+) -> Result<(), Refusal<'a>>
+    requires lawful { IsLawful command.now }
+    requires waits { MayWait (shown command.now) }
+    ensures { EndsBy (terms_of (drawing_of M.DEALT M.needs M.shows M.whole M.drawn) (shown command.now))
+        (course D.Folder O.Sink folder.old folder.new out.old out.new) result }
+{
+    match command {
+        Command::Walk(words) => walk::<M, Rt, D, O, G>(rt, alloc, words, folder, out, gate),
+        Command::Trial(words) => trial(rt, alloc, words, out, gate),
+        Command::Plain(_)
+        | Command::Tile(_)
+        | Command::Info(_)
+        | Command::Gen(_)
+        | Command::Upgrade(_)
+        | Command::Replay(_) => unreachable!(),
+    }
+}

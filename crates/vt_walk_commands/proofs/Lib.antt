@@ -1,0 +1,5 @@
+pub mod Replaying
+pub mod Walking
+pub mod Trying
+pub mod Differing
+pub mod Sound

@@ -1,0 +1,209 @@
+-- The command `walk`: the pictures of a path, drawn while the pages that they want are streamed from a store.
+use Rattle.std.specs.Prelude.{◌≡◌, ◌⊎◌, ℕ, ◌+◌, ◌*◌, ◌<◌, ◌≤◌, List, [], ◌∷◌, ◌++◌, length, Option, IsSome, option_map, Result, Ok, Err}
+use Rattle.vt_definitions.specs.Limits.{most_frame_texels}
+use Rattle.vt_outside.specs.Counts.{Rose, RoseBy, added}
+use Rattle.vt_outside.specs.Files.{Files, Asked, bytes_at}
+use Rattle.vt_pages.specs.Shape.{Shape}
+use Rattle.vt_pages.specs.Pages.{pinned_of}
+use Rattle.vt_camera.specs.Paths.{PathView}
+use Rattle.vt_shown.specs.Scenes.{scene_of}
+use Rattle.vt_files.specs.Courses.{Course}
+use Rattle.vt_turns.specs.declared.settings.Settings.{Settings}
+use Rattle.vt_turns.specs.declared.mode.Mode.TheVariants.{Settled}
+use Rattle.vt_turns.specs.declared.error.WalkError.{WalkError}
+use Rattle.vt_turns.specs.declared.error.WalkError.TheVariants as walks
+use Rattle.vt_walk.specs.Fits.{WalkSetup, Fits, DoesNotFit as IsTooLarge, room_of}
+use Rattle.vt_walk.specs.Walks.{WalkGiven, WalkNames, walk_setup, given_by, mode_of}
+use Rattle.vt_walk.specs.Folders.{IsApart}
+use Rattle.vt_walk.specs.States.{WalkState}
+use Rattle.vt_walk.specs.Standing.{Finished}
+use Rattle.vt_walk.specs.Leaving.{Left}
+use Rattle.vt_walk.specs.Causes.{HasUnfit, faults_borne}
+use Rattle.vt_walk.specs.Closing.{AreOtherNamesAsBefore}
+use Rattle.vt_words.specs.Walk.{WalkText}
+use Rattle.vt_walk_commands.specs.Machines.{Drawing}
+use Rattle.vt_inputs.specs.Inputs.{Input, Content, PathInput, StoreInput, PathContent, StoreContent, header_places}
+use Rattle.vt_inputs.specs.Causes.{AreHeld, IsAskedOrNot, AsksSome}
+use Rattle.vt_inputs.specs.Terms.{Terms, Hindrance, FlawedBeside, ManyTexels, FewFrames, LargePicture}
+use Rattle.vt_inputs.specs.declared.refusal.Refusal.{Refusal}
+use Rattle.vt_inputs.specs.declared.refusal.Refusal.TheVariants.{NoMemory, Fault, TooFewFrames, DoesNotFit}
+
+-- what a walk is of: a path, and a store by its header
+pub record WalkOf : Type 0 where
+  pub path : PathView
+  pub shape : Shape
+  pub depth : ℕ
+
+-- the inputs hold these
+abbrev pub contents_of : WalkOf → List Content
+contents_of of = PathContent of.path ∷ StoreContent of.shape of.depth ∷ []
+
+-- the numbers that the words give
+abbrev pub settings_of : WalkText → Settings
+settings_of words = record {
+  frames = words.frames;
+  pinned = words.pinned;
+  crew = record { samplers = words.samplers; loaders = words.loaders; batch = words.batch };
+}
+
+-- the names that the words give
+abbrev pub walk_names : WalkText → WalkNames
+walk_names words = record { store = words.store; prefix = words.prefix; journal = words.journal }
+
+-- the walk that the words ask for, over the bytes that the folder tells of the store
+abbrev pub walk_given : Drawing → WalkText → WalkOf → Option Files → WalkGiven
+walk_given m words of files =
+    given_by m.dealt m.needs m.shows m.whole (scene_of of.shape of.depth of.path) (settings_of words) (mode_of words.settled)
+    (bytes_at files words.store) (walk_names words)
+
+-- what stood before a walk once its store was opened: of the store its header was asked, after these places; the count of faults has
+-- come at most to the end of its type
+abbrev pub walk_first : WalkText → Option Asked → Course → WalkState
+walk_first words read c = record {
+  files = c.folder.before.files;
+  held = c.out.before.held;
+  faults = added c.folder.before.faults 0;
+  out_faults = c.out.before.faults;
+  asked = option_map (λ (asked : Asked). asked words.store ++ header_places) read;
+}
+
+-- what stands at the end
+abbrev pub walk_last : WalkText → Course → WalkState
+walk_last words c = record {
+  files = c.folder.after.files;
+  held = c.out.after.held;
+  faults = c.folder.after.faults;
+  out_faults = c.out.after.faults;
+  asked = option_map (λ (asked : Asked). asked words.store) c.folder.after.asked;
+}
+
+-- the journal's name is no picture's; the path was asked, and then the walk was made whole: what it leaves stands between the opening of its store and the end
+pub record HasWalked (m : Drawing) (words : WalkText) (contents : List Content) (c : Course) : Type 0 where
+  pub of : WalkOf
+  pub are : contents ≡ contents_of of
+  pub read : Option Asked
+  pub path : IsAskedOrNot c.folder.before.files (PathInput words.path) c.folder.before.asked read
+  pub apart : IsApart (walk_names words)
+  pub finished : Finished m.drawn (walk_given m words of c.folder.before.files) (walk_first words read c) (walk_last words c)
+
+-- the journal's name is no picture's; the path was asked, and then the walk was left
+pub record HasLeft (m : Drawing) (words : WalkText) (contents : List Content) (c : Course) : Type 0 where
+  pub of : WalkOf
+  pub are : contents ≡ contents_of of
+  pub read : Option Asked
+  pub path : IsAskedOrNot c.folder.before.files (PathInput words.path) c.folder.before.asked read
+  pub apart : IsApart (walk_names words)
+  pub left : Left m.drawn (walk_given m words of c.folder.before.files) (walk_first words read c) (walk_last words c)
+
+-- the journal's name is no picture's; a settled walk was left exactly after the first pass of a picture that does not fit, the first such
+pub record HasLeftAtUnfit (m : Drawing) (words : WalkText) (contents : List Content) (picture : ℕ) (c : Course) : Type 0 where
+  pub of : WalkOf
+  pub are : contents ≡ contents_of of
+  pub read : Option Asked
+  pub path : IsAskedOrNot c.folder.before.files (PathInput words.path) c.folder.before.asked read
+  pub apart : IsApart (walk_names words)
+  pub needed : ℕ
+  pub room : ℕ
+  pub unfit : HasUnfit m.drawn (walk_given m words of c.folder.before.files) picture needed room (walk_first words read c) (walk_last words c)
+
+-- how many texels the frames have together
+abbrev pub frame_texels : WalkText → WalkOf → ℕ
+frame_texels words of = words.frames * (of.shape.tile * of.shape.tile)
+
+-- how many pages are pinned
+abbrev pub walk_pinned : WalkText → WalkOf → ℕ
+walk_pinned words of = pinned_of of.shape words.pinned
+
+-- the frames have few enough texels, and there are fewer than the pinned pages
+pub record HasFewFrames (words : WalkText) (of : WalkOf) (frames needed : ℕ) : Type 0 where
+  pub few_texels : frame_texels words of ≤ most_frame_texels
+  pub frames_are : frames ≡ words.frames
+  pub needed_are : needed ≡ walk_pinned words of
+  pub few : frames < needed
+
+-- the setup of the walk that the words ask for
+abbrev pub setup_for : Drawing → WalkText → WalkOf → WalkSetup
+setup_for m words of = walk_setup m.dealt m.needs (scene_of of.shape of.depth of.path) (settings_of words) (mode_of words.settled)
+
+-- there are frames for the pinned pages, and this is the first picture of a settled walk that does not fit
+pub record HasLargePicture (m : Drawing) (words : WalkText) (of : WalkOf) (picture wanted room : ℕ) : Type 0 where
+  pub few_texels : frame_texels words of ≤ most_frame_texels
+  pub enough : walk_pinned words of ≤ words.frames
+  pub settled : mode_of words.settled ≡ Settled
+  pub of_path : picture < length of.path.cameras
+  pub room_is : room ≡ room_of (setup_for m words of)
+  pub unfit : IsTooLarge (setup_for m words of) picture wanted
+  pub earlier : (i : ℕ) → i < picture → Fits (setup_for m words of) i
+
+-- this stands in the way of a walk
+abbrev pub StandsInWay : Drawing → WalkText → WalkOf → Hindrance → Type 0
+StandsInWay m words of (FlawedBeside name flaw) = ⊥
+StandsInWay m words of ManyTexels = most_frame_texels < frame_texels words of
+StandsInWay m words of (FewFrames frames needed) = HasFewFrames words of frames needed
+StandsInWay m words of (LargePicture picture wanted room) = HasLargePicture m words of picture wanted room
+
+-- this stands in the way of a walk over what the inputs hold
+pub record HindersWalk (m : Drawing) (words : WalkText) (contents : List Content) (hindrance : Hindrance) : Type 0 where
+  pub of : WalkOf
+  pub are : contents ≡ contents_of of
+  pub stands : StandsInWay m words of hindrance
+
+-- `walk` reads the path, and opens the store for its header
+abbrev pub walk_inputs : WalkText → List Input
+walk_inputs words = PathInput words.path ∷ StoreInput words.store ∷ []
+
+-- what stands is what a walk leaves, so that the store was asked for the header and the tiles of its passes; beside it the path was asked
+-- and no other name
+pub record AsksOfWalk (m : Drawing) (words : WalkText) (c : Course) : Type 0 where
+  pub read : Option Asked
+  pub path : IsAskedOrNot c.folder.before.files (PathInput words.path) c.folder.before.asked read
+  pub others : AreOtherNamesAsBefore words.store read c.folder.after.asked
+  pub contents : List Content
+  pub held : IsSome c.folder.before.files → AreHeld c.folder.before.files (walk_inputs words) contents
+  pub stands : HasWalked m words contents c ⊎ HasLeft m words contents c
+
+-- no more than the path and the header was asked, or what a walk asks
+abbrev pub WalkAsks : Drawing → WalkText → Course → Type 0
+WalkAsks m words c = AsksSome (walk_inputs words) c.folder ⊎ AsksOfWalk m words c
+
+-- the folder's count rose, and no tile was asked
+pub record FailedBefore (words : WalkText) (c : Course) : Type 0 where
+  pub asks : AsksSome (walk_inputs words) c.folder
+  pub rose : Rose c.folder.before.faults c.folder.after.faults
+
+-- the folder's count rose, in a live walk by more than the tiles of the unpinned pages of what the inputs hold that were lost
+pub record FailedInWalk (m : Drawing) (words : WalkText) (c : Course) : Type 0 where
+  pub of : WalkOf
+  pub held : IsSome c.folder.before.files → AreHeld c.folder.before.files (walk_inputs words) (contents_of of)
+  pub read : Option Asked
+  pub path : IsAskedOrNot c.folder.before.files (PathInput words.path) c.folder.before.asked read
+  pub rose : let given = walk_given m words of c.folder.before.files in
+      RoseBy (faults_borne given.setup.mode given (walk_first words read c) (walk_last words c) + 1) c.folder.before.faults c.folder.after.faults
+
+-- a call failed that ends a walk
+abbrev pub WalkFailed : Drawing → WalkText → Course → Type 0
+WalkFailed m words c = Rose c.out.before.faults c.out.after.faults ⊎ (FailedBefore words c ⊎ FailedInWalk m words c)
+
+-- the terms of `walk` by a machine
+abbrev pub walk_terms : Drawing → WalkText → Terms
+walk_terms m words = record {
+  inputs = walk_inputs words;
+  asks = WalkAsks m words;
+  hinders = HindersWalk m words;
+  done = HasWalked m words;
+  stopped = HasLeft m words;
+  unfit = HasLeftAtUnfit m words;
+  failed = WalkFailed m words;
+}
+
+-- the refusal of a walk
+abbrev pub refusal_of_walk : WalkError → Refusal
+refusal_of_walk (walks.TooFewFrames frames needed) = TooFewFrames frames needed
+refusal_of_walk (walks.DoesNotFit picture wanted room) = DoesNotFit picture wanted room
+refusal_of_walk walks.Failed = Fault
+refusal_of_walk walks.NoMemory = NoMemory
+
+-- the answer of a walk
+abbrev pub IsAnswer : Result (Unit {0}) WalkError → Result (Unit {0}) Refusal → Type 0
+IsAnswer (Ok u) result = result ≡ Ok u
+IsAnswer (Err error) result = result ≡ Err (refusal_of_walk error)

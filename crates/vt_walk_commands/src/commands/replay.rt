@@ -1,0 +1,77 @@
+//! The command `replay`: the pictures of a journal, drawn again from its store and its path.
+
+ghost use Rattle.std.specs.Prelude.{◌≡◌, IfOk, IfErr};
+ghost use Rattle.vt_files.specs.Courses.{course, passage};
+ghost use Rattle.vt_words.specs.Replay.{shown_replay};
+ghost use Rattle.vt_inputs.specs.Inputs.{JournalInput, TextContent};
+ghost use Rattle.vt_inputs.specs.Reads.{file_state, Took};
+ghost use Rattle.vt_inputs.specs.Terms.{EndsBy};
+ghost use Rattle.vt_walk_commands.specs.commands.Replay.{replay_terms, RefusedBeside, IsAnswer, flaw_of_replay};
+
+use std::alloc::Global;
+use vt_inputs::{Flaw, Refusal, open_store, put_end, read_journal, read_path, refusal_of};
+use vt_outside::{Folder, OutsideError, Sink};
+use vt_replay::ReplayError;
+use vt_tiles::Store;
+use vt_words::ReplayWords;
+
+/// Reads the path, opens the store and reads the journal, writes each picture of the journal under its name, and puts the end
+/// line.
+pub fn replay<'a, D: Folder, O: Sink>(
+    alloc: Global,
+    words: &ReplayWords<'a>,
+    folder: &mut D,
+    out: &mut O,
+) -> Result<(), Refusal<'a>>
+    ensures { EndsBy (replay_terms (shown_replay words.now)) (course D.Folder O.Sink folder.old folder.new out.old out.new) result }
+{
+    let path = read_path(alloc, folder, words.path)?;
+    let store = open_store(folder, words.store)?;
+    let (store, text) = read_beside(alloc, folder, store, words.journal)?;
+    let played = vt_replay::replay(alloc, folder, store, &path, &text, words.prefix);
+    let pictures = answer_of(words.journal, played)?;
+    put_end(out, pictures)?;
+    Ok(())
+}
+
+// Reads the text of a journal beside an open store, which is closed where the journal is refused.
+fn read_beside<'a, D: Folder>(
+    alloc: Global,
+    folder: &mut D,
+    store: Store<D::File>,
+    name: &'a str,
+) -> Result<(Store<D::File>, Vec<u8>), Refusal<'a>>
+    ensures same { IfOk result (λ read. read.0 ≡ store) }
+    ensures took { IfOk result (λ read. Took (JournalInput name.now) (TextContent read.1.items) (passage D.Folder folder.old folder.new)) }
+    ensures refused { IfErr result (λ refusal. RefusedBeside name.now refusal (file_state D.File.File store.file)
+        (passage D.Folder folder.old folder.new)) }
+{
+    match read_journal(alloc, folder, name) {
+        Ok(text) => Ok((store, text)),
+        Err(refusal) => {
+            folder.close(store.into_file());
+            Err(refusal)
+        }
+    }
+}
+
+// The answer of a replay, with the journal's name beside its flaw.
+fn answer_of(name: &str, played: Result<u32, ReplayError>) -> Result<u32, Refusal<'_>>
+    ensures { IsAnswer name.now played result }
+{
+    match played {
+        Ok(pictures) => Ok(pictures),
+        Err(error) => Err(refusal_of(name, flaw_of_replay(error))),
+    }
+}
+
+// The flaw of a journal that is refused, or what the outside refused.
+fn flaw_of_replay(error: ReplayError) -> Result<Flaw, OutsideError>
+    ensures { result ≡ flaw_of_replay error }
+{
+    match error {
+        ReplayError::BadJournal { line } => Ok(Flaw::BadLine(line)),
+        ReplayError::Failed => Err(OutsideError::Failed),
+        ReplayError::NoMemory => Err(OutsideError::NoMemory),
+    }
+}
