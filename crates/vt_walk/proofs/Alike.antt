@@ -11,15 +11,13 @@ use Rattle.vt_tiles.specs.Format.{tile_start, tile_length}
 use Rattle.vt_plan.specs.declared.batches.Planned.{Planned}
 use Rattle.vt_turns.specs.declared.error.WalkError.{WalkError}
 use Rattle.vt_turns.specs.declared.error.WalkError.TheVariants.{TooFewFrames, DoesNotFit, Failed, NoMemory}
-use Rattle.vt_turns.specs.declared.mode.Mode.{Mode}
-use Rattle.vt_turns.specs.declared.mode.Mode.TheVariants.{Live, Settled}
 use Rattle.vt_walk.specs.Runs.{WalkPass, plan_after, planned_in, lost_in}
 use Rattle.vt_walk.specs.Walks.{WalkGiven}
 use Rattle.vt_walk.specs.States.{WalkState}
 use Rattle.vt_walk.specs.Reads.{AreAskedFor, AreAskedAtMostFor, OnTold, lost_reads}
 use Rattle.vt_walk.specs.Standing.{Stands, Finished}
 use Rattle.vt_walk.specs.Leaving.{AsksNothing, LeftAtHead, IsFront, LeftInRun, Left}
-use Rattle.vt_walk.specs.Causes.{reads_lost, faults_borne, HasFailed, IsCausedBy}
+use Rattle.vt_walk.specs.Causes.{reads_lost, HasFailed, IsCausedBy}
 use Rattle.vt_walk.specs.Turns.{LeftBy}
 use Rattle.vt_walk.proofs.Asks.{told_twice}
 use Rattle.vt_walk.proofs.Placed.{same_sum}
@@ -211,13 +209,21 @@ module _ (drawn : PathView → ℕ → ℕ → ℕ → List ℕ → Type 0) (g :
   reads_alike a None (Some c) same = absurd same
   reads_alike a (Some b) None same = absurd same
 
-  borne_alike : (mode : Mode) → faults_borne mode g first last ≡ faults_borne mode g first mid
-  borne_alike Live = reads_alike first.asked mid.asked last.asked alike.asked
-  borne_alike Settled = refl
-
-  failed_alike : HasFailed g first mid → HasFailed g first last
-  failed_alike (inl rose) = let same = alike.out_faults in inl (omega (arith, rose, same))
-  failed_alike (inr rose) = let same = borne_alike g.setup.mode in let more = alike.faults in inr (omega (arith, rose, same, more))
+  failed_alike : HasFailed drawn g first mid → HasFailed drawn g first last
+  failed_alike (inl (inl rose)) = let same = alike.out_faults in inl (inl (omega (arith, rose, same)))
+  failed_alike (inl (inr rose)) =
+      let same = reads_alike first.asked mid.asked last.asked alike.asked in
+      let more = alike.faults in
+      inl (inr (omega (arith, rose, same, more)))
+  failed_alike (inr lost) = inr (record {
+    settled = lost.settled;
+    pass = lost.pass;
+    before = lost.before;
+    some = lost.some;
+    pictures = lost.pictures;
+    stands = stands_alike (lost.pass ∷ lost.before) lost.pictures lost.stands;
+    rose = let rose = lost.rose in let more = alike.faults in omega (arith, rose, more);
+  })
 
   caused_alike : (error : WalkError) → IsCausedBy drawn g first mid error → IsCausedBy drawn g first last error
   caused_alike (TooFewFrames frames needed) c = record {

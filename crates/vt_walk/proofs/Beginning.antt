@@ -39,7 +39,7 @@ use Rattle.vt_walk.specs.Tours.{IsTour, given_of}
 use Rattle.vt_walk.specs.Turns.{IsGiven, StandsFirst, LeftBy}
 use Rattle.vt_walk.proofs.Asking.{count_both}
 use Rattle.vt_walk.proofs.Asks.{with_open, times_with, failed_with, asked_of, failed_of, sum-one, told_more}
-use Rattle.vt_walk.proofs.Failing.{has_failed, few_borne}
+use Rattle.vt_walk.proofs.Failing.{has_broken}
 use Rattle.vt_walk.proofs.Passing.{state_of}
 use Rattle.vt_walk.proofs.Steps.{gained_none}
 use Rattle.vt_walk.proofs.Telling.{run_is_pinned}
@@ -249,9 +249,8 @@ module _ (dealt : Bool) (needs : Scene → ℕ → ℕ → ℕ) (shows : Scene �
         cause NoMemory failed = tt
         cause Failed failed =
             let rose = failed refl in
-            let borne = few_borne t.mode given was (later files asked faults) 0 (omega (arith, none)) in
             let same_sum : sum (counts_of n.files) ≡ sum (counts_of m.files) = ap (λ (fs : List FileState). sum (counts_of fs)) same in
-            inr (omega (arith, sum-one kept.faults (counts_of m.files), sum-one now.faults (counts_of n.files), same_sum, rose, borne))
+            inl (inr (omega (arith, sum-one kept.faults (counts_of m.files), sum-one now.faults (counts_of n.files), same_sum, rose, none)))
 
   -- the journal was not begun
   pub head_broke : (new : Option Files) (opened : Option Asked) (rose : ℕ) → n.files ≡ m.files
@@ -285,8 +284,8 @@ module _ (dealt : Bool) (needs : Scene → ℕ → ℕ → ℕ) (shows : Scene �
         cause Failed failed exactly =
             let rises = failed refl in
             let same_sum : sum (counts_of n.files) ≡ sum (counts_of m.files) = ap (λ (fs : List FileState). sum (counts_of fs)) same in
-            has_failed given [] [] was (later new opened rose) walk_given exactly
-            (omega (arith, sum-one kept.faults (counts_of m.files), sum-one now.faults (counts_of n.files), same_sum, rises, grown))
+            inl (has_broken given [] [] was (later new opened rose) walk_given exactly
+            (omega (arith, sum-one kept.faults (counts_of m.files), sum-one now.faults (counts_of n.files), same_sum, rises, grown)))
 
   -- the journal's head stands
   pub head_stands : (new : Option Files) (opened : Option Asked) (rose : ℕ) (v : RecencyView) → n ≡ with_pinned t.geometry.now t.pinned m

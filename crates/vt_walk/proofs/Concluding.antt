@@ -14,15 +14,13 @@ use Rattle.vt_camera.specs.Paths.{PathView}
 use Rattle.vt_pass.specs.Requests.{FileState, AreSameFiles, counts_of}
 use Rattle.vt_turns.specs.declared.error.WalkError.{WalkError}
 use Rattle.vt_turns.specs.declared.error.WalkError.TheVariants.{NoMemory}
-use Rattle.vt_turns.specs.declared.mode.Mode.{Mode}
-use Rattle.vt_turns.specs.declared.mode.Mode.TheVariants.{Live, Settled}
 use Rattle.vt_turns.specs.Refusals.{refusal_by}
 use Rattle.vt_walk.specs.Walks.{WalkGiven}
 use Rattle.vt_walk.specs.States.{WalkState, AreOpen, places_of, walk_state}
 use Rattle.vt_walk.specs.Reads.{AreAskedAtMostFor, OnTold}
 use Rattle.vt_walk.specs.Standing.{Finished}
 use Rattle.vt_walk.specs.Leaving.{Left}
-use Rattle.vt_walk.specs.Causes.{reads_lost, faults_borne, HasFailed, IsCausedBy}
+use Rattle.vt_walk.specs.Causes.{reads_lost, HasFailed, IsCausedBy}
 use Rattle.vt_walk.specs.Beginnings.{AreTold, IsSameFile}
 use Rattle.vt_walk.specs.Closing.{with_closed, AreOtherNamesAsBefore}
 use Rattle.vt_walk.specs.Turns.{LeftBy}
@@ -172,15 +170,14 @@ module _ {D F : Type 0} (d : FolderMeanings D F) (name : List ℕ) where
         (closed_alike d name 1 [] (kept ∷ []) mid last held o are closed (omega (arith, sum-one kept.faults [], faults)) files) r ends
 
     -- where nothing was asked, each rise of the folder's count is a failure
-    none_borne : (mode : Mode) (first now : WalkState) → now.asked ≡ first.asked → faults_borne mode g first now ≡ 0
-    none_borne Settled first now asked = refl
-    none_borne Live first now asked = ap (λ (o : Option (List Place)). reads_lost g first.asked o) asked ∙ none first.asked where
+    none_lost : (first now : WalkState) → now.asked ≡ first.asked → reads_lost g first.asked now.asked ≡ 0
+    none_lost first now asked = ap (λ (o : Option (List Place)). reads_lost g first.asked o) asked ∙ none first.asked where
       none : (o : Option (List Place)) → reads_lost g o o ≡ 0
       none None = refl
       none (Some places) = omega arith
 
-    pub failed_alone : (first now : WalkState) → now.asked ≡ first.asked → Rose first.faults now.faults → HasFailed g first now
-    failed_alone first now asked rose = let none = none_borne g.setup.mode first now asked in inr (omega (arith, none, rose))
+    pub failed_alone : (first now : WalkState) → now.asked ≡ first.asked → Rose first.faults now.faults → HasFailed drawn g first now
+    failed_alone first now asked rose = let none = none_lost first now asked in inl (inr (omega (arith, none, rose)))
 
     -- a refusal before anything was asked or written
     pub refused_first : (kept : FileState) (old new : D) (held : Option (List ℕ)) (o : ℕ) (refusal : OutsideError) → d.files new ≡ d.files old

@@ -4,14 +4,12 @@ use Rattle.std.specs.Prelude.{MatchResult}
 use Rattle.vt_camera.specs.Paths.{PathView}
 use Rattle.vt_turns.specs.declared.error.WalkError.{WalkError}
 use Rattle.vt_turns.specs.declared.error.WalkError.TheVariants.{TooFewFrames, DoesNotFit, Failed, NoMemory}
-use Rattle.vt_turns.specs.declared.mode.Mode.{Mode}
-use Rattle.vt_turns.specs.declared.mode.Mode.TheVariants.{Live, Settled}
 use Rattle.vt_walk.specs.Runs.{WalkPass}
 use Rattle.vt_walk.specs.Walks.{WalkGiven}
 use Rattle.vt_walk.specs.States.{WalkState}
 use Rattle.vt_walk.specs.Standing.{Stands, Finished}
 use Rattle.vt_walk.specs.Leaving.{Left}
-use Rattle.vt_walk.specs.Causes.{faults_borne, HasFailed, IsCausedBy}
+use Rattle.vt_walk.specs.Causes.{HasFailed, IsCausedBy}
 use Rattle.vt_walk.specs.Turns.{LeftBy}
 
 module _ (drawn : PathView → ℕ → ℕ → ℕ → List ℕ → Type 0) (g : WalkGiven) (first now : WalkState) (fewer : ℕ) (few : fewer ≤ first.faults) where
@@ -61,13 +59,18 @@ module _ (drawn : PathView → ℕ → ℕ → ℕ → List ℕ → Type 0) (g :
   })
   left_from (inr l) = inr (record { run = l.run; pictures = l.pictures; mid = l.mid; stands = stands_from l.run l.pictures l.mid l.stands; front = l.front })
 
-  borne_from : (mode : Mode) → faults_borne mode g earlier now ≡ faults_borne mode g first now
-  borne_from Live = refl
-  borne_from Settled = refl
-
-  failed_from : HasFailed g first now → HasFailed g earlier now
-  failed_from (inl rose) = inl rose
-  failed_from (inr rose) = let same = borne_from g.setup.mode in inr (omega (arith, rose, same, few))
+  failed_from : HasFailed drawn g first now → HasFailed drawn g earlier now
+  failed_from (inl (inl rose)) = inl (inl rose)
+  failed_from (inl (inr rose)) = inl (inr (omega (arith, rose, few)))
+  failed_from (inr lost) = inr (record {
+    settled = lost.settled;
+    pass = lost.pass;
+    before = lost.before;
+    some = lost.some;
+    pictures = lost.pictures;
+    stands = stands_from (lost.pass ∷ lost.before) lost.pictures now lost.stands;
+    rose = let rose = lost.rose in omega (arith, rose, few);
+  })
 
   caused_from : (error : WalkError) → IsCausedBy drawn g first now error → IsCausedBy drawn g earlier now error
   caused_from (TooFewFrames frames needed) c = record {

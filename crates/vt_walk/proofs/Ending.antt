@@ -36,7 +36,7 @@ use Rattle.vt_walk.specs.States.{WalkState}
 use Rattle.vt_walk.specs.Reads.{AreAskedFor, OnTold}
 use Rattle.vt_walk.specs.Written.{IsWritten}
 use Rattle.vt_walk.specs.Leaving.{Left, AsksNothing}
-use Rattle.vt_walk.specs.Causes.{HasFailed, IsCausedBy}
+use Rattle.vt_walk.specs.Causes.{HasBroken, IsCausedBy}
 use Rattle.vt_turns.specs.Tallies.{no_passes}
 use Rattle.vt_walk.specs.Tallies.{tally_of, numbers_line}
 use Rattle.vt_turns.specs.Judging.{IsEnd, IsStoppedBy}
@@ -46,7 +46,7 @@ use Rattle.vt_walk.specs.Turns.{StandsAt, StandsAfter, LeftBy}
 use Rattle.vt_walk.proofs.Asking.{losses_more}
 use Rattle.vt_walk.proofs.Asks.{with_open}
 use Rattle.vt_walk.proofs.Drawing.{picture_written}
-use Rattle.vt_walk.proofs.Failing.{has_failed, settled_failed}
+use Rattle.vt_walk.proofs.Failing.{has_broken}
 use Rattle.vt_walk.proofs.Passing.{state_of}
 use Rattle.vt_walk.proofs.Running.{run_kept}
 use Rattle.vt_walk.proofs.Showing.{other_number, self_number}
@@ -168,7 +168,18 @@ module _ (dealt : Bool) (needs : Scene → ℕ → ℕ → ℕ) (shows : Scene �
       let n = losses_more given.setup s.pass s.run s.at_run.is_run in
       let e = s.passed.lost in
       let f = s.stands.faults in
-      (stops was s, settled_failed given first was settled (omega (arith, n, e, f, lost)))
+      (
+        stops was s,
+        inr (record {
+          settled = settled;
+          pass = s.pass;
+          before = s.run;
+          some = omega (arith, e, lost);
+          pictures = s.pictures;
+          stands = s.stands;
+          rose = omega (arith, n, e, f, lost);
+        }),
+      )
 
   -- the picture does not fit
   pub no_room : (was : WalkState) → StandsAfter dealt needs shows drawn given number p first was m v → mode ≡ Settled → (picture wanted room : ℕ)
@@ -252,9 +263,9 @@ module _ (dealt : Bool) (needs : Scene → ℕ → ℕ → ℕ) (shows : Scene �
         }
 
     -- the folder failed after a pass
-    fails : (s : StandsAfter dealt needs shows drawn given number p first was m v) → asked' ≡ asked → Rose faults faults' → HasFailed given first now
+    fails : (s : StandsAfter dealt needs shows drawn given number p first was m v) → asked' ≡ asked → Rose faults faults' → HasBroken given first now
     fails s same rose =
-        has_failed given (planned_in (s.pass ∷ s.run)) (lost_in (s.pass ∷ s.run)) first now s.given
+        has_broken given (planned_in (s.pass ∷ s.run)) (lost_in (s.pass ∷ s.run)) first now s.given
         (subst (λ (a : Option Asked). OnTold (AreAskedFor scene.shape scene.depth given.setup.pinned (planned_in (s.pass ∷ s.run))
         (lost_in (s.pass ∷ s.run))) first.asked (with_open store (kept ∷ m.files) a))
         (sym same) s.stands.asked) (let f = s.stands.faults in omega (arith, f, rose))
@@ -292,7 +303,7 @@ module _ (dealt : Bool) (needs : Scene → ℕ → ℕ → ℕ) (shows : Scene �
         ) where
           cause : (error : OutsideError) → (error ≡ Failed → Rose faults faults') → IsCausedBy drawn given first now (refusal_by error)
           cause NoMemory failed = tt
-          cause Failed failed = fails s same (failed refl)
+          cause Failed failed = inl (fails s same (failed refl))
 
     -- of the line a front part stands
     pub line_broke : (error : OutsideError) (e : WalkError) (s : StandsAfter dealt needs shows drawn given number p first was m v)
@@ -327,7 +338,7 @@ module _ (dealt : Bool) (needs : Scene → ℕ → ℕ → ℕ) (shows : Scene �
         ) where
           cause : (error : OutsideError) → (error ≡ Failed → Rose out_faults out_faults') → IsCausedBy drawn given first now (refusal_by error)
           cause NoMemory failed = tt
-          cause Failed failed = inl (let r = failed refl in let o = s.stands.out_faults in omega (arith, r, o))
+          cause Failed failed = inl (inl (let r = failed refl in let o = s.stands.out_faults in omega (arith, r, o)))
 
 -- the walk stops after a pass, for its cause
 pub stopped : (dealt : Bool) (needs : Scene → ℕ → ℕ → ℕ) (shows : Scene → List ℕ → Table → ℕ → ℕ → ℕ → List ℕ) (whole : Scene → List ℕ → ℕ → ℕ → ℕ → List ℕ)

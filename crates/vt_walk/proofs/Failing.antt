@@ -1,14 +1,12 @@
 -- A walk that failed has its cause.
-use Rattle.std.proofs.Common.{◌≡◌, ℕ, ◌+◌, ◌≤◌, inr, List, ◌∷◌, length, sum, Option, Some, None, ap, arith}
+use Rattle.std.proofs.Common.{◌≡◌, ℕ, ◌+◌, ◌≤◌, inr, List, ◌∷◌, length, sum, Option, Some, None, arith}
 use Rattle.vt_outside.specs.Counts.{added, Rose, RoseBy, RoseTogetherBy}
 use Rattle.vt_outside.specs.declared.place.Place.{Place}
 use Rattle.vt_plan.specs.declared.batches.Planned.{Planned}
-use Rattle.vt_turns.specs.declared.mode.Mode.{Mode}
-use Rattle.vt_turns.specs.declared.mode.Mode.TheVariants.{Live, Settled}
 use Rattle.vt_walk.specs.Walks.{WalkGiven}
 use Rattle.vt_walk.specs.States.{WalkState}
 use Rattle.vt_walk.specs.Reads.{AreAskedFor, OnTold}
-use Rattle.vt_walk.specs.Causes.{HasFailed, reads_lost, faults_borne}
+use Rattle.vt_walk.specs.Causes.{HasBroken, reads_lost}
 use Rattle.vt_walk.specs.Turns.{IsGiven}
 use Rattle.vt_walk.proofs.Asks.{faults_rise}
 use Rattle.vt_walk.proofs.LostReads.{lost_reads_most}
@@ -21,23 +19,13 @@ few_lost g planned lost (Some a) None given asked = omega arith
 few_lost g planned lost (Some a) (Some b) given asked =
     omega (arith, lost_reads_most g.scene.shape g.scene.depth g.setup.pinned planned lost a b given.limits given.depth asked)
 
-pub few_borne : (mode : Mode) (g : WalkGiven) (first now : WalkState) (n : ℕ) → reads_lost g first.asked now.asked ≤ n → faults_borne mode g first now ≤ n
-few_borne Live g first now n few = few
-few_borne Settled g first now n few = omega arith
-
 -- the folder's count rose by more than the lost entries
-pub has_failed : (g : WalkGiven) (planned lost : List Planned) (first now : WalkState) → IsGiven g
+pub has_broken : (g : WalkGiven) (planned lost : List Planned) (first now : WalkState) → IsGiven g
     → OnTold (AreAskedFor g.scene.shape g.scene.depth g.setup.pinned planned lost) first.asked now.asked
-    → RoseBy (length lost + 1) first.faults now.faults → HasFailed g first now
-has_failed g planned lost first now given asked rose =
-    let few = few_borne g.setup.mode g first now (length lost) (few_lost g planned lost first.asked now.asked given asked) in
+    → RoseBy (length lost + 1) first.faults now.faults → HasBroken g first now
+has_broken g planned lost first now given asked rose =
+    let few = few_lost g planned lost first.asked now.asked given asked in
     inr (omega (arith, few, rose))
-
--- in a settled walk each rise is enough
-pub settled_failed : (g : WalkGiven) (first now : WalkState) → g.setup.mode ≡ Settled → Rose first.faults now.faults → HasFailed g first now
-settled_failed g first now settled rose =
-    let none : faults_borne g.setup.mode g first now ≡ 0 = ap (λ m. faults_borne m g first now) settled in
-    inr (omega (arith, none, rose))
 
 -- a folder's count rose besides those of the files
 pub faults_rise_more : (n f k kept : ℕ) (old new : List ℕ) → RoseTogetherBy n old new → Rose f k

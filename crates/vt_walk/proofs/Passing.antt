@@ -24,12 +24,12 @@ use Rattle.vt_walk.specs.Runs.{IsTurnOf, plan_after, planned_in, lost_in}
 use Rattle.vt_walk.specs.Walks.{WalkGiven}
 use Rattle.vt_walk.specs.States.{WalkState}
 use Rattle.vt_walk.specs.Reads.{AreAskedAtMostFor, OnTold}
-use Rattle.vt_walk.specs.Causes.{HasFailed, IsCausedBy}
+use Rattle.vt_walk.specs.Causes.{HasBroken, IsCausedBy}
 use Rattle.vt_walk.specs.Turns.{StandsAt, StandsAfter, HasDrawn, MayDraw, LeftBy}
 use Rattle.vt_walk.proofs.Asking.{losses_more}
 use Rattle.vt_walk.proofs.Asks.{with_open, pass_asks, pass_asks_most, faults_rise}
 use Rattle.vt_walk.proofs.Steps.{pass_told, asked_more}
-use Rattle.vt_walk.proofs.Failing.{has_failed, faults_rise_more}
+use Rattle.vt_walk.proofs.Failing.{has_broken, faults_rise_more}
 
 -- the state of a walk by what its folder is
 abbrev pub state_of : Option Files → Option Asked → ℕ → List ℕ → List FileState → Option (List ℕ) → ℕ → WalkState
@@ -172,11 +172,11 @@ module _ (dealt : Bool) (needs : Scene → ℕ → ℕ → ℕ) (shows : Scene �
         cause error failed,
       ) where
         lost : RoseBy (lost_count h.pass.losses + 1) (added faults (sum (kept.faults ∷ counts_of m.files))) (added rose (sum (kept.faults ∷ counts_of n.files)))
-            → HasFailed g first (now new rose)
+            → HasBroken g first (now new rose)
         lost more =
             let add = losses_more g.setup h.pass s.run (s.stands.is_run, h.next) in
             let before = s.stands.faults in
-            has_failed g (planned_in (h.pass ∷ s.run)) (lost_in (h.pass ∷ s.run)) first (now new rose) s.given
+            has_broken g (planned_in (h.pass ∷ s.run)) (lost_in (h.pass ∷ s.run)) first (now new rose) s.given
             (asked_more g.scene.shape g.scene.depth g.setup.pinned h.pass s.run first.asked was.asked (with_open store (kept ∷ n.files) asked) s.stands.asked
             (pass_asks g.scene.shape g.scene.depth h.pass.batch h.pass.losses store kept m.files n.files asked s.tell h.read))
             (omega (arith, add, before, more))
@@ -184,8 +184,8 @@ module _ (dealt : Bool) (needs : Scene → ℕ → ℕ → ℕ) (shows : Scene �
         cause : (error : OutsideError) → (error ≡ Failed → IsThere files g.names.journal → Rose faults rose)
             → IsCausedBy drawn g first (now new rose) (refusal_by error)
         cause NoMemory failed = tt
-        cause Failed failed = lost (faults_rise_more (lost_count h.pass.losses) faults rose kept.faults (counts_of m.files) (counts_of n.files)
-            h.read.faults (failed refl s.stands.there))
+        cause Failed failed = inl (lost (faults_rise_more (lost_count h.pass.losses) faults rose kept.faults (counts_of m.files) (counts_of n.files)
+            h.read.faults (failed refl s.stands.there)))
 
   pub text_broke : (new : Option Files) (later : Option Asked) (rose : ℕ) (d : Drawn) (error : OutsideError) (e : WalkError)
       (s : StandsAt drawn g number t first was m v) → HasDrawn dealt needs shows drawn g s.run t m n u d

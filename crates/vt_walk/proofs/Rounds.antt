@@ -149,4 +149,4 @@ module _ (drawn : PathView → ℕ → ℕ → ℕ → List ℕ → Type 0) (g :
   ) where
     cause : (error : OutsideError) → (error ≡ Failed → Rose now.out_faults out_faults) → IsCausedBy drawn g first (with_text held out_faults) (refusal_by error)
     cause NoMemory failed = tt
-    cause Failed failed = inl (let r = failed refl in let o = s.stands.out_faults in omega (arith, r, o))
+    cause Failed failed = inl (inl (let r = failed refl in let o = s.stands.out_faults in omega (arith, r, o)))

@@ -1,12 +1,12 @@
 -- Why a walk was refused.
-use Rattle.std.specs.Prelude.{◌≡◌, ◌⊎◌, ℕ, ◌+◌, ◌-◌, ◌<◌, List, [], ◌∷◌, length, Option, Some, None}
+use Rattle.std.specs.Prelude.{◌≡◌, ◌⊎◌, ℕ, ◌+◌, ◌-◌, ◌<◌, ◌≤◌, List, [], ◌∷◌, length, Option, Some, None}
 use Rattle.vt_outside.specs.Counts.{Rose, RoseBy}
 use Rattle.vt_outside.specs.declared.place.Place.{Place}
 use Rattle.vt_camera.specs.Paths.{PathView}
 use Rattle.vt_turns.specs.declared.error.WalkError.{WalkError}
 use Rattle.vt_turns.specs.declared.error.WalkError.TheVariants.{TooFewFrames, DoesNotFit, Failed, NoMemory}
-use Rattle.vt_turns.specs.declared.mode.Mode.{Mode}
-use Rattle.vt_turns.specs.declared.mode.Mode.TheVariants.{Live, Settled}
+use Rattle.vt_turns.specs.declared.mode.Mode.TheVariants.{Settled}
+use Rattle.vt_pass.specs.Outcomes.{lost_count}
 use Rattle.vt_walk.specs.Fits.{Fits, DoesNotFit as IsTooLarge, room_of}
 use Rattle.vt_walk.specs.Runs.{WalkPass}
 use Rattle.vt_walk.specs.Logs.{passes_of}
@@ -16,20 +16,30 @@ use Rattle.vt_walk.specs.Reads.{lost_reads}
 use Rattle.vt_walk.specs.Standing.{Stands}
 use Rattle.vt_walk.specs.Leaving.{WritesNothing}
 
--- how many reads of unpinned pages' tiles failed in between, where the places are told; a live walk goes on after each
+-- how many reads of unpinned pages' tiles failed in between, where the places are told
 abbrev pub reads_lost : WalkGiven → Option (List Place) → Option (List Place) → ℕ
 reads_lost g (Some old) (Some new) =
     lost_reads g.scene.shape g.scene.depth g.setup.pinned new - lost_reads g.scene.shape g.scene.depth g.setup.pinned old
 reads_lost g _ _ = 0
 
--- how many faults a walk of this mode goes on after
-abbrev pub faults_borne : Mode → WalkGiven → WalkState → WalkState → ℕ
-faults_borne Live g first now = reads_lost g first.asked now.asked
-faults_borne Settled g first now = 0
+-- a call that ends a walk of either mode failed: the sink's count rose, or the folder's did by more than the tiles that were lost
+abbrev pub HasBroken : WalkGiven → WalkState → WalkState → Type 0
+HasBroken g first now = Rose first.out_faults now.out_faults ⊎ RoseBy (reads_lost g first.asked now.asked + 1) first.faults now.faults
 
--- a call failed: the sink's count rose, or the folder's did, in a live walk by more than the tiles that were lost
-abbrev pub HasFailed : WalkGiven → WalkState → WalkState → Type 0
-HasFailed g first now = Rose first.out_faults now.out_faults ⊎ RoseBy (faults_borne g.setup.mode g first now + 1) first.faults now.faults
+-- a settled walk lost a tile: what stands is the beginning of a run that ends with the pass that lost it, so the journal tells that pass,
+-- and nothing else
+pub record HasLost (drawn : PathView → ℕ → ℕ → ℕ → List ℕ → Type 0) (g : WalkGiven) (first now : WalkState) : Type 0 where
+  pub settled : g.setup.mode ≡ Settled
+  pub pass : WalkPass
+  pub before : List WalkPass
+  pub some : 1 ≤ lost_count pass.losses
+  pub pictures : List (List ℕ)
+  pub stands : Stands drawn g (pass ∷ before) pictures first now
+  pub rose : Rose first.faults now.faults
+
+-- a call failed that ends the walk; in a live walk a lost tile is none
+abbrev pub HasFailed : (PathView → ℕ → ℕ → ℕ → List ℕ → Type 0) → WalkGiven → WalkState → WalkState → Type 0
+HasFailed drawn g first now = HasBroken g first now ⊎ HasLost drawn g first now
 
 -- there are fewer frames than pinned pages, and nothing was written
 pub record HasTooFewFrames (g : WalkGiven) (frames needed : ℕ) (first now : WalkState) : Type 0 where
@@ -57,5 +67,5 @@ pub record HasUnfit (drawn : PathView → ℕ → ℕ → ℕ → List ℕ → T
 abbrev pub IsCausedBy : (PathView → ℕ → ℕ → ℕ → List ℕ → Type 0) → WalkGiven → WalkState → WalkState → WalkError → Type 0
 IsCausedBy drawn g first now (TooFewFrames frames needed) = HasTooFewFrames g frames needed first now
 IsCausedBy drawn g first now (DoesNotFit picture needed room) = HasUnfit drawn g picture needed room first now
-IsCausedBy drawn g first now Failed = HasFailed g first now
+IsCausedBy drawn g first now Failed = HasFailed drawn g first now
 IsCausedBy drawn g first now NoMemory = Unit {0}

@@ -32,8 +32,8 @@ use vt_turns::{Names, Settings, WalkError};
 ///
 /// `TooFewFrames` comes exactly where there are fewer frames than pinned pages, `DoesNotFit` in a settled walk at the first
 /// picture that needs more unpinned pages at once than there is room for, after its first pass. `Failed` comes only where the
-/// count of faults of the folder, taken at the beginning with that of the store's file, or that of the output rose; in a live
-/// walk the folder's rose by more than the tiles that were lost. It may wait.
+/// count of faults of the folder, taken at the beginning with that of the store's file, rose by more than the tiles that were
+/// lost, or that of the output rose; or at a lost tile of a settled walk, after the pass that lost it was told. It may wait.
 pub fn walk_with<
     Rt: Threads + Wait + Sync,
     M: PassMachine<File = D::File>,

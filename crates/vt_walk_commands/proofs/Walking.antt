@@ -329,14 +329,22 @@ why_left m words of file f0 f1 f2 f3 out shown (walks.DoesNotFit picture wanted 
     enough (inl few) =
         let wrong : Err (walks.DoesNotFit picture wanted room) ≡ Err (walks.TooFewFrames words.frames (walk_pinned words of)) = made.few_frames few in
         absurd (cc)
-why_left m words of file f0 f1 f2 f3 out shown walks.Failed made (inl rose) = inl (inl rose)
-why_left m words of file f0 f1 f2 f3 out shown walks.Failed made (inr rose) = inl (inr (inr (record {
+why_left m words of file f0 f1 f2 f3 out shown walks.Failed made (inl (inl rose)) = inl (inl rose)
+why_left m words of file f0 f1 f2 f3 out shown walks.Failed made (inl (inr rose)) = inl (inr (inr (inl (record {
   of = of;
   held = both_held words of file f0 f1 f2 made.inputs;
   read = f1.asked;
   path = asked_in (PathInput words.path) f0.files f0.files f0 f1 refl made.inputs.path_read.asked;
   rose = omega (arith, rose);
-})))
+}))))
+why_left m words of file f0 f1 f2 f3 out shown walks.Failed made (inr lost) = inl (inr (inr (inr (record {
+  of = of;
+  held = both_held words of file f0 f1 f2 made.inputs;
+  read = f1.asked;
+  path = asked_in (PathInput words.path) f0.files f0.files f0 f1 refl made.inputs.path_read.asked;
+  lost = lost;
+  rose = let rose = lost.rose in omega (arith, rose);
+}))))
 why_left m words of file f0 f1 f2 f3 out shown walks.NoMemory made cause = tt
 
 -- the walk was left

@@ -18,7 +18,7 @@ use Rattle.vt_walk.specs.Folders.{IsApart}
 use Rattle.vt_walk.specs.States.{WalkState}
 use Rattle.vt_walk.specs.Standing.{Finished}
 use Rattle.vt_walk.specs.Leaving.{Left}
-use Rattle.vt_walk.specs.Causes.{HasUnfit, faults_borne}
+use Rattle.vt_walk.specs.Causes.{HasUnfit, HasLost, reads_lost}
 use Rattle.vt_walk.specs.Closing.{AreOtherNamesAsBefore}
 use Rattle.vt_words.specs.Walk.{WalkText}
 use Rattle.vt_walk_commands.specs.Machines.{Drawing}
@@ -171,18 +171,27 @@ pub record FailedBefore (words : WalkText) (c : Course) : Type 0 where
   pub asks : AsksSome (walk_inputs words) c.folder
   pub rose : Rose c.folder.before.faults c.folder.after.faults
 
--- the folder's count rose, in a live walk by more than the tiles of the unpinned pages of what the inputs hold that were lost
+-- the folder's count rose by more than the tiles of the unpinned pages of what the inputs hold that were lost
 pub record FailedInWalk (m : Drawing) (words : WalkText) (c : Course) : Type 0 where
   pub of : WalkOf
   pub held : IsSome c.folder.before.files → AreHeld c.folder.before.files (walk_inputs words) (contents_of of)
   pub read : Option Asked
   pub path : IsAskedOrNot c.folder.before.files (PathInput words.path) c.folder.before.asked read
   pub rose : let given = walk_given m words of c.folder.before.files in
-      RoseBy (faults_borne given.setup.mode given (walk_first words read c) (walk_last words c) + 1) c.folder.before.faults c.folder.after.faults
+      RoseBy (reads_lost given (walk_first words read c).asked (walk_last words c).asked + 1) c.folder.before.faults c.folder.after.faults
+
+-- the walk is settled, and what stands of it ends with a pass that lost a tile, which the journal tells
+pub record LostInWalk (m : Drawing) (words : WalkText) (c : Course) : Type 0 where
+  pub of : WalkOf
+  pub held : IsSome c.folder.before.files → AreHeld c.folder.before.files (walk_inputs words) (contents_of of)
+  pub read : Option Asked
+  pub path : IsAskedOrNot c.folder.before.files (PathInput words.path) c.folder.before.asked read
+  pub lost : HasLost m.drawn (walk_given m words of c.folder.before.files) (walk_first words read c) (walk_last words c)
+  pub rose : Rose c.folder.before.faults c.folder.after.faults
 
 -- a call failed that ends a walk
 abbrev pub WalkFailed : Drawing → WalkText → Course → Type 0
-WalkFailed m words c = Rose c.out.before.faults c.out.after.faults ⊎ (FailedBefore words c ⊎ FailedInWalk m words c)
+WalkFailed m words c = Rose c.out.before.faults c.out.after.faults ⊎ (FailedBefore words c ⊎ (FailedInWalk m words c ⊎ LostInWalk m words c))
 
 -- the terms of `walk` by a machine
 abbrev pub walk_terms : Drawing → WalkText → Terms
