@@ -1,5 +1,5 @@
 -- What a table keeps after each of its calls.
-use Rattle.std.proofs.Common.{◌≡◌, ◌≢◌, ℕ, ◌+◌, ◌*◌, ◌≤◌, ◌<◌, inl, inr, Some, None, List, [], ◌∷◌, ◌++◌, length, get_or, set, refl, sym, ap, ◌∙◌, subst, arith, length-set, get_or-set_other, get_or-set_same}
+use Rattle.std.proofs.Common.{◌≡◌, ◌≢◌, ℕ, ◌+◌, ◌*◌, ◌≤◌, ◌<◌, inl, inr, List, [], ◌∷◌, ◌++◌, length, get_or, set, refl, sym, ap, ◌∙◌, subst, arith, length-set, get_or-set_other, get_or-set_same}
 use Rattle.std.proofs.lemmas.Nat.{mul-le}
 use Rattle.vt_definitions.specs.Limits.{most_frames, most_frame_texels}
 use Rattle.vt_definitions.specs.Depths.{texel_length}
@@ -7,13 +7,13 @@ use Rattle.std.specs.Prelude.{slice_range}
 use Rattle.vt_pages.specs.Shape.{Shape}
 use Rattle.vt_pages.specs.Pages.{pages_of, IsWithinLimits}
 use Rattle.vt_journal.specs.declared.changes.Change.{Change}
-use Rattle.vt_journal.specs.declared.changes.Change.TheVariants.{Map, Unmap}
-use Rattle.vt_journal.specs.Changes.{Table, newest, changed, nothing_mapped, IsFree, IsLegalNext, AreLegal}
+use Rattle.vt_journal.specs.Changes.{Table, newest, changed, nothing_mapped, IsFree, IsLegalNext}
 use Rattle.vt_journal.specs.Kept.{entry_of, entries_of}
-use Rattle.vt_journal.proofs.Versions.{newest-none, newest-more, legal-none, legal-more, in_turn-legal, one_to_one, same_page, entry-other, mapped_after_map, mapped_after_unmap}
-use Rattle.vt_table.specs.Views.{TableView, IsTable, IsTile, IsWithin, IsReady, filled_for, filled_after, tile_of}
+use Rattle.vt_journal.proofs.Versions.{newest-none, newest-more, same_page}
+use Rattle.vt_table.specs.Views.{TableView, IsTile, IsWithin, IsReady, filled_after, tile_of}
 use Rattle.vt_table.specs.Kept.{tile_in, view_of, room_of, IsKept}
 use Rattle.vt_table.proofs.Rooms.{tiles_at}
+use Rattle.vt_table.proofs.Lawful.{Follows, table_spared, table_filled, table_published, table_none}
 
 -- the depth of a tile, from its length
 pub depth_of_length : (s : Shape) (tile : List ℕ) (room d : ℕ) (h : IsTile s tile) → 1 ≤ s.tile → room ≡ room_of s.tile
@@ -34,16 +34,7 @@ pub kept_reserved : (s : Shape) (js ks : List Change) (n m room : ℕ) (entries 
     → IsKept (view_of s js n bytes depths owners) room entries bytes depths → IsKept (view_of s ks m bytes depths owners) room entries bytes depths
 kept_reserved s js ks n m room entries bytes depths owners same k =
     subst (λ (l : List Change). IsKept (view_of s l m bytes depths owners) room entries bytes depths) (sym same) (record {
-      table = record {
-        limits = k.table.limits;
-        some_frame = k.table.some_frame;
-        few_frames = k.table.few_frames;
-        legal = k.table.legal;
-        one_to_one = k.table.one_to_one;
-        pages_inside = k.table.pages_inside;
-        frames_inside = k.table.frames_inside;
-        filled = k.table.filled;
-      };
+      table = table_spared (view_of s js n bytes depths owners) m k.table;
       room_is = k.room_is;
       few_bytes = k.few_bytes;
       all_entries = k.all_entries;
@@ -74,18 +65,7 @@ pub kept_filled : (s : Shape) (js : List Change) (n room frame page d : ℕ) (en
     → 1 ≤ d → d ≤ 2 → length new ≡ length bytes → IsKept (view_of s js n bytes depths owners) room entries bytes depths
     → IsKept (view_of s js n new (set depths frame d) (set owners frame (page + 1))) room entries new (set depths frame d)
 kept_filled s js n room frame page d entries bytes depths owners new inside free low high same k = record {
-  table = record {
-    limits = k.table.limits;
-    some_frame = omega (arith, k.table.some_frame, frames);
-    few_frames = omega (arith, k.table.few_frames, frames);
-    legal = k.table.legal;
-    one_to_one = k.table.one_to_one;
-    pages_inside = k.table.pages_inside;
-    frames_inside = λ p f e. omega (arith, k.table.frames_inside p f e, frames);
-    filled = λ p f e.
-        let other : f ≢ frame = λ is. free p (e ∙ ap Some is) in
-        ap entry_of (get_or-set_other owners frame f (page + 1) 0 other) ∙ k.table.filled p f e;
-  };
+  table = table_filled s js n frame page _ _ owners free k.table;
   room_is = k.room_is;
   few_bytes = rw frames k.few_bytes;
   all_entries = k.all_entries;
@@ -99,46 +79,6 @@ kept_filled s js n room frame page d entries bytes depths owners new inside free
     frames : length (set owners frame (page + 1)) ≡ length owners
     frames = length-set owners frame (page + 1)
 
--- what a change that is legal next leaves of a table
-record Follows (v w : TableView) (change : Change) : Type 0 where
-  pub shape : w.shape ≡ v.shape
-  pub frames : w.frames ≡ v.frames
-  pub changes : newest w.changes ≡ changed (newest v.changes) change
-  pub owners : filled_for w ≡ filled_after (filled_for v) change
-
-pages_after : (v w : TableView) (change : Change) → Follows v w change → IsTable v → IsWithin v change
-    → (p f : ℕ) → newest w.changes p ≡ Some f → p < pages_of v.shape
-pages_after v w (Map page frame) h t within p f e =
-    elim (mapped_after_map (newest v.changes) page frame p f (sym (ap (λ (m : Table). m p) h.changes) ∙ e)) [
-      | inl (same, is) ↦ omega (arith, within.page_inside, same)
-      | inr (other, was) ↦ t.pages_inside p f was
-    ]
-pages_after v w (Unmap page frame) h t within p f e =
-    t.pages_inside p f (mapped_after_unmap (newest v.changes) page frame p f (sym (ap (λ (m : Table). m p) h.changes) ∙ e)).1
-
-frames_after : (v w : TableView) (change : Change) → Follows v w change → IsTable v → IsWithin v change
-    → (p f : ℕ) → newest w.changes p ≡ Some f → f < v.frames
-frames_after v w (Map page frame) h t within p f e =
-    elim (mapped_after_map (newest v.changes) page frame p f (sym (ap (λ (m : Table). m p) h.changes) ∙ e)) [
-      | inl (same, is) ↦ omega (arith, within.frame_inside, is)
-      | inr (other, was) ↦ t.frames_inside p f was
-    ]
-frames_after v w (Unmap page frame) h t within p f e =
-    t.frames_inside p f (mapped_after_unmap (newest v.changes) page frame p f (sym (ap (λ (m : Table). m p) h.changes) ∙ e)).1
-
-filled_still : (v w : TableView) (change : Change) → Follows v w change → IsTable v → IsReady v change → IsLegalNext v.shape (newest v.changes) change
-    → (p f : ℕ) → newest w.changes p ≡ Some f → filled_for w f ≡ Some p
-filled_still v w (Map page frame) h t ready legal p f e =
-    ap (λ (m : Table). m f) h.owners
-    ∙ elim (mapped_after_map (newest v.changes) page frame p f (sym (ap (λ (m : Table). m p) h.changes) ∙ e)) [
-      | inl (same, is) ↦ ap (filled_for v) (sym is) ∙ ready ∙ ap Some (sym same)
-      | inr (other, was) ↦ t.filled p f was
-    ]
-filled_still v w (Unmap page frame) h t ready legal p f e =
-    let was = mapped_after_unmap (newest v.changes) page frame p f (sym (ap (λ (m : Table). m p) h.changes) ∙ e) in
-    let other : f ≢ frame = λ is. was.0 (t.one_to_one p page f was.1 (legal.0 ∙ ap Some (sym is))) in
-    ap (λ (m : Table). m f) h.owners ∙ entry-other (filled_for v) frame f None other ∙ t.filled p f was.1
-
 -- a table after a change
 pub kept_published : (s : Shape) (js : List Change) (n m room : ℕ) (change : Change)
     (entries bytes depths owners to_entries to_owners : List ℕ) (ks : List Change)
@@ -149,16 +89,7 @@ pub kept_published : (s : Shape) (js : List Change) (n m room : ℕ) (change : C
     → IsKept (view_of s ks m bytes depths to_owners) room to_entries bytes depths
 kept_published s js n m room change entries bytes depths owners to_entries to_owners ks
     grown within legal ready all_entries all_owners new_entries new_owners k = record {
-      table = record {
-        limits = k.table.limits;
-        some_frame = omega (arith, k.table.some_frame);
-        few_frames = omega (arith, k.table.few_frames);
-        legal = lawful;
-        one_to_one = one_to_one ks (length ks) (in_turn-legal s ks lawful) (omega arith);
-        pages_inside = pages_after v w change follows k.table within;
-        frames_inside = λ p f e. omega (arith, frames_after v w change follows k.table within p f e);
-        filled = filled_still v w change follows k.table ready legal;
-      };
+      table = table_published v w change follows grown k.table within legal ready;
       room_is = k.room_is;
       few_bytes = rw all_owners k.few_bytes;
       all_entries = all_entries ∙ k.all_entries;
@@ -174,9 +105,6 @@ kept_published s js n m room change entries bytes depths owners to_entries to_ow
 
     w : TableView
     w = view_of s ks m bytes depths to_owners
-
-    lawful : AreLegal s ks
-    lawful = subst (AreLegal s) (sym grown) (legal-more s js change k.table.legal legal)
 
     next : newest ks ≡ changed (newest js) change
     next = ap newest grown ∙ newest-more js change
@@ -198,16 +126,7 @@ pub kept_new : (s : Shape) (js : List Change) (n room frames : ℕ) (entries byt
     → length bytes ≡ frames * room → length depths ≡ frames → ((k : ℕ) → k < frames → get_or depths k 0 ≡ 1) → length owners ≡ frames
     → IsKept (view_of s js n bytes depths owners) room entries bytes depths
 kept_new s js n room frames entries bytes depths owners limits empty some few is small all_entries zeros all_bytes all_depths ones all_owners = record {
-  table = record {
-    limits = limits;
-    some_frame = omega arith;
-    few_frames = omega arith;
-    legal = subst (AreLegal s) (sym empty) (legal-none s);
-    one_to_one = λ p q f e. absurd (nowhere p f e);
-    pages_inside = λ p f e. absurd (nowhere p f e);
-    frames_inside = λ p f e. absurd (nowhere p f e);
-    filled = λ p f e. absurd (nowhere p f e);
-  };
+  table = table_none (view_of s js n bytes depths owners) limits empty (omega arith) (omega arith);
   room_is = is;
   few_bytes = rw all_owners small;
   all_entries = all_entries;
@@ -217,9 +136,6 @@ kept_new s js n room frames entries bytes depths owners limits empty some few is
   low_depth = λ f h. let e : get_or depths f 0 ≡ 1 = ones f (omega arith) in omega arith;
   high_depth = λ f h. let e : get_or depths f 0 ≡ 1 = ones f (omega arith) in omega arith;
 }
-  where
-    nowhere : (p f : ℕ) → newest js p ≡ Some f → ⊥
-    nowhere p f e = let none : newest js p ≡ None = ap (λ (l : List Change). newest l p) empty ∙ newest-none p in let s : None ≡ Some f = sym none ∙ e in cc
 
 -- the bytes of a frame's tile, as they are read from the frames' rooms
 pub tile_read : (s : Shape) (js : List Change) (n room frame d size : ℕ) (entries bytes depths owners : List ℕ)

@@ -1,6 +1,7 @@
 pub mod Rooms
 pub mod Entries
 pub mod TileWords
+pub mod Lawful
 pub mod Keeping
 pub mod Holding
 pub mod FewChanges

@@ -20,7 +20,7 @@ pub(crate) fn put_tile(bytes: &mut [u8], at: usize, tile: &[u8])
 }
 
 /// The depth of a tile of so many bytes, of which the room of a frame has two for each sample.
-pub(crate) fn depth_in(length: usize, room: usize) -> u8
+pub fn depth_in(length: usize, room: usize) -> u8
     ensures wide { length ≡ room → result ≡ 2 }
     ensures narrow { length ≢ room → result ≡ 1 }
 {
@@ -28,7 +28,7 @@ pub(crate) fn depth_in(length: usize, room: usize) -> u8
 }
 
 /// Gives the page of a change the number of its new entry.
-pub(crate) fn put_entry(entries: &mut [u32], change: Change)
+pub fn put_entry(entries: &mut [u32], change: Change)
     requires page { change_page change < length entries.old }
     requires frame { change_frame change ≤ most_frames }
     ensures { entries_of entries.new ≡ changed (entries_of entries.old) change }
@@ -40,7 +40,7 @@ pub(crate) fn put_entry(entries: &mut [u32], change: Change)
 }
 
 /// Takes its page from a frame that a change unmaps.
-pub(crate) fn free_owner(owners: &mut [u32], change: Change)
+pub fn free_owner(owners: &mut [u32], change: Change)
     requires { change_frame change < length owners.old }
     ensures { entries_of owners.new ≡ filled_after (entries_of owners.old) change }
 {

@@ -1,0 +1,7 @@
+mod Legal
+mod Keeping
+pub mod Rows
+mod Contents
+mod PassSteps
+mod WriterSteps
+pub mod GivingSteps

@@ -1,0 +1,17 @@
+pub mod Sizes
+pub mod Places
+pub mod Changes
+pub mod Contents
+pub mod Stages
+pub mod PassViews
+pub mod WriterViews
+pub mod Giving
+pub mod Seats
+pub mod Notes
+pub mod Banks
+pub mod Sound
+pub mod Rules
+pub mod Plays
+pub mod Holds
+pub mod Values
+pub mod Tokens

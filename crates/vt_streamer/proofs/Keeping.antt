@@ -1,0 +1,216 @@
+-- What a streamer keeps, after each of its calls.
+use Rattle.std.proofs.Common.{◌≡◌, ℕ, ◌+◌, ◌-◌, ◌*◌, ◌<◌, ◌≤◌, List, [], ◌∷◌, ◌++◌, length, get_or, set, replicate, refl, sym, ap, ◌∙◌, subst, arith, Some, None, inl, inr, length-set}
+use Rattle.atomic_table.specs.Seated.{TableId}
+use Rattle.vt_definitions.specs.Limits.{most_frames}
+use Rattle.vt_pages.specs.Shape.{Shape}
+use Rattle.vt_pages.specs.Pages.{pages_of, root_of, IsWithinLimits}
+use Rattle.vt_journal.specs.declared.changes.Change.{Change}
+use Rattle.vt_journal.specs.Changes.{Table, at, newest, changed, IsFree, IsLegalNext}
+use Rattle.vt_journal.specs.Kept.{entries_of}
+use Rattle.vt_journal.proofs.Versions.{newest-none, newest-more, slice_get-push}
+use Rattle.vt_table.specs.Views.{TableView, IsTable, IsWithin, IsReady, filled_after}
+use Rattle.vt_table.proofs.Lawful.{Follows, table_spared, table_filled, table_published, table_none}
+use Rattle.vt_table.proofs.Keeping.{entries_none}
+use Rattle.vt_grace.specs.declared.sizes.Sizes.{Sizes}
+use Rattle.vt_grace.specs.declared.views.WriterView.{WriterView}
+use Rattle.vt_grace.specs.Values.{WordsValue, WriterValue}
+use Rattle.vt_grace.specs.Changes.{IsNextKeeping}
+use Rattle.vt_grace.specs.Sizes.{sizes_of}
+use Rattle.vt_grace.specs.Places.{entry_place, bank_of}
+use Rattle.vt_grace.specs.WriterViews.{first_writer}
+use Rattle.vt_grace.specs.Banks.{Stands}
+use Rattle.vt_grace.specs.Sound.{IsSound}
+use Rattle.vt_grace.specs.Tokens.{IsWriterOf}
+use Rattle.vt_grace.proofs.GivingSteps.{zeros, nothing, sound_first}
+use Rattle.vt_streamer.specs.Looks.{HasLooked}
+use Rattle.vt_streamer.specs.Banks.{IsInside, AreInside, AreRotated, HasPublished}
+use Rattle.vt_streamer.specs.Frees.{IsFreeSince, since_after}
+use Rattle.vt_streamer.specs.Views.{StreamerView, table_of, IsStreamerOf}
+use Rattle.vt_streamer.specs.Kept.{view_of, IsKept}
+use Rattle.vt_streamer.proofs.Freeing.{free_more}
+
+-- a writer that has published nothing since, and has written no bank
+pub record IsAlike (v w : WriterView) : Type 0 where
+  pub sizes : w.sizes ≡ v.sizes
+  pub journal : w.journal ≡ v.journal
+  pub entries : w.entries ≡ v.entries
+
+rotated_alike : (v w : WriterView) → IsAlike v w → AreRotated v → AreRotated w
+rotated_alike v w same rotated =
+    subst (λ (x : Sizes × List ℕ × List Change). (i : ℕ) → i < 4 → Stands x.0 x.1 (at x.2 (length x.2 - i)) (bank_of (length x.2 + 4 - i)))
+    (λ i. (sym same.sizes i, sym same.entries i, sym same.journal i)) rotated
+
+-- the streamer after the writer looked, gave a pass or took one back
+pub kept_alike : (s : Shape) (seat seat' : WriterValue) (spare spare' samplers : ℕ) (owners entries floors floors' since : List ℕ) (changes changes' : List Change)
+    → IsAlike seat.view seat'.view → IsSound seat'.view → floors' ≡ seat'.view.floors → changes' ≡ changes
+    → IsKept (view_of s seat spare owners) samplers changes entries floors since
+    → IsKept (view_of s seat' spare' owners) samplers changes' entries floors' since
+kept_alike s seat seat' spare spare' samplers owners entries floors floors' since changes changes' same sound all_floors unchanged k = record {
+  lawful = subst (λ (js : List Change). IsTable record { shape = s; frames = length owners; changes = js; spare = spare'; tiles = []; owners = owners })
+      (sym same.journal) (table_spared (table_of (view_of s seat spare owners)) spare' k.lawful);
+  sound = sound;
+  sizes = same.sizes ∙ k.sizes;
+  journal = same.journal ∙ (k.journal ∙ sym unchanged);
+  inside = subst (λ (x : Sizes × List Change). AreInside x.0 x.1) (λ i. (sym same.sizes i, sym same.journal i)) k.inside;
+  rotated = rotated_alike seat.view seat'.view same k.rotated;
+  all_floors = all_floors;
+  all_entries = k.all_entries;
+  agrees = k.agrees ∙ ap newest (sym same.journal);
+  all_since = k.all_since;
+  free = subst (λ (js : List Change). (f : ℕ) → f < length owners → IsFree (newest js) f → IsFreeSince js f (get_or since f 0)) (sym same.journal) k.free;
+}
+
+-- and after a free frame was filled
+pub kept_filled : (s : Shape) (seat seat' : WriterValue) (spare samplers frame page : ℕ) (owners entries floors since : List ℕ) (changes : List Change)
+    → IsAlike seat.view seat'.view → IsSound seat'.view → seat'.view.floors ≡ seat.view.floors → IsFree (newest seat.view.journal) frame
+    → IsKept (view_of s seat spare owners) samplers changes entries floors since
+    → IsKept (view_of s seat' spare (set owners frame (page + 1))) samplers changes entries floors since
+kept_filled s seat seat' spare samplers frame page owners entries floors since changes same sound floors_are free k =
+    let count = length-set owners frame (page + 1) in let alike = kept_alike s seat seat' spare spare samplers owners entries floors floors since changes changes same sound
+    (k.all_floors ∙ sym floors_are) refl k in record {
+      lawful = table_filled s seat'.view.journal spare frame page [] [] owners (subst (λ (js : List Change). IsFree (newest js) frame) (sym same.journal) free) alike.lawful;
+      sound = sound;
+      sizes = alike.sizes ∙ ap (λ (n : ℕ). sizes_of s n samplers) (sym count);
+      journal = alike.journal;
+      inside = alike.inside;
+      rotated = alike.rotated;
+      all_floors = alike.all_floors;
+      all_entries = alike.all_entries;
+      agrees = alike.agrees;
+      all_since = alike.all_since ∙ sym count;
+      free = λ f low. alike.free f (omega arith);
+    }
+
+-- the changes of a journal that grows
+inside_more : (z : Sizes) (js : List Change) (c : Change) → AreInside z js → IsInside z c → AreInside z (js ++ c ∷ [])
+inside_more z js c all one v change is =
+    elim (slice_get-push js c v change is) [ inl (low, before) ↦ all v change before | inr (last, same) ↦ subst (IsInside z) same one ]
+
+-- and after a change was published
+pub kept_published : (s : Shape) (seat seat' : WriterValue) (spare spare' samplers : ℕ) (change : Change) (owners owners' entries entries' floors since since' : List ℕ)
+    (changes changes' : List Change) → HasPublished seat.view seat'.view change → IsSound seat'.view → AreRotated seat'.view → seat'.view.floors ≡ seat.view.floors
+    → changes' ≡ changes ++ change ∷ [] → length entries' ≡ length entries → length owners' ≡ length owners
+    → entries_of entries' ≡ changed (entries_of entries) change → entries_of owners' ≡ filled_after (entries_of owners) change
+    → since' ≡ since_after since change (length changes + 1) → length since' ≡ length since → IsInside seat.view.sizes change
+    → IsWithin (table_of (view_of s seat spare owners)) change → IsLegalNext s (newest seat.view.journal) change → IsReady (table_of (view_of s seat spare owners)) change
+    → IsKept (view_of s seat spare owners) samplers changes entries floors since
+    → IsKept (view_of s seat' spare' owners') samplers changes' entries' floors since'
+kept_published s seat seat' spare spare' samplers change owners owners' entries entries' floors since since' changes changes'
+    published sound rotated same_floors grown all_entries all_owners new_entries new_owners new_since all_since inside within legal ready k = record {
+      lawful = table_published v w change follows published.journal k.lawful within legal ready;
+      sound = sound;
+      sizes = sizes ∙ (k.sizes ∙ ap (λ (n : ℕ). sizes_of s n samplers) (sym all_owners));
+      journal = published.journal ∙ (ap (λ (js : List Change). js ++ change ∷ []) k.journal ∙ sym grown);
+      inside = subst (λ (x : Sizes × List Change). AreInside x.0 x.1) (λ i. (sym sizes i, sym published.journal i))
+          (inside_more seat.view.sizes seat.view.journal change k.inside inside);
+      rotated = rotated;
+      all_floors = k.all_floors ∙ sym same_floors;
+      all_entries = all_entries ∙ k.all_entries;
+      agrees = new_entries ∙ (ap (λ (m : Table). changed m change) k.agrees ∙ sym next);
+      all_since = all_since ∙ (k.all_since ∙ sym all_owners);
+      free = λ f low free. subst (λ (x : List Change × List ℕ). IsFreeSince x.0 f (get_or x.1 f 0))
+          (λ i. (sym published.journal i, sym numbers i))
+          (free_more seat.view.journal change (length owners) since k.lawful.one_to_one legal.0 k.all_since k.free f (omega arith)
+          (subst (λ (js : List Change). IsFree (newest js) f) published.journal free));
+    }
+  where
+    v : TableView
+    v = table_of (view_of s seat spare owners)
+
+    w : TableView
+    w = table_of (view_of s seat' spare' owners')
+
+    sizes : seat'.view.sizes ≡ seat.view.sizes
+    sizes = ap (λ (x : WriterView). x.sizes) published.rest
+
+    next : newest seat'.view.journal ≡ changed (newest seat.view.journal) change
+    next = ap newest published.journal ∙ newest-more seat.view.journal change
+
+    numbers : since' ≡ since_after since change (length seat.view.journal + 1)
+    numbers = new_since ∙ ap (λ (js : List Change). since_after since change (length js + 1)) (sym k.journal)
+
+    follows : Follows v w change
+    follows = record { shape = refl; frames = all_owners; changes = next; owners = new_owners }
+
+-- the banks of a new table are those of version 0
+rotated_first : (z : Sizes) → AreRotated (first_writer z)
+rotated_first z i low page within = zeros (4 * z.pages) (entry_place z (bank_of (4 - i)) page) ∙ sym (nothing (0 - i) (omega arith) page)
+
+-- a new streamer
+pub kept_first : (s : Shape) (seat : WriterValue) (spare samplers : ℕ) (owners entries floors since : List ℕ) (changes : List Change)
+    → IsWithinLimits s → changes ≡ [] → 1 ≤ length owners → length owners ≤ most_frames → seat.view ≡ first_writer (sizes_of s (length owners) samplers)
+    → floors ≡ replicate samplers 0 → length entries ≡ pages_of s → ((k : ℕ) → get_or entries k 0 ≡ 0) → length since ≡ length owners → ((k : ℕ) → get_or since k 0 ≡ 0)
+    → IsKept (view_of s seat spare owners) samplers changes entries floors since
+kept_first s seat spare samplers owners entries floors since changes limits empty some few first all_floors all_entries zero_entries all_since zero_since = record {
+  lawful = table_none (table_of (view_of s seat spare owners)) limits journal some few;
+  sound = subst IsSound (sym first) (sound_first z);
+  sizes = ap (λ (w : WriterView). w.sizes) first;
+  journal = journal ∙ sym empty;
+  inside = subst (AreInside seat.view.sizes) (sym journal) (λ v change is. cc);
+  rotated = subst AreRotated (sym first) (rotated_first z);
+  all_floors = all_floors ∙ sym (ap (λ (w : WriterView). w.floors) first);
+  all_entries = all_entries;
+  agrees = entries_none entries zero_entries ∙ ((λ i p. sym (newest-none p) i) ∙ ap newest (sym journal));
+  all_since = all_since;
+  free = λ f low free. subst (λ (x : List Change × ℕ). IsFreeSince x.0 f x.1) (λ i. (sym journal i, sym (zero_since f) i)) (never f);
+}
+  where
+    z : Sizes
+    z = sizes_of s (length owners) samplers
+
+    journal : seat.view.journal ≡ []
+    journal = ap (λ (w : WriterView). w.journal) first
+
+    empty_at : (v page f : ℕ) → v ≡ 0 → at [] v page ≡ Some f → ⊥
+    empty_at v page f none e = let here : at [] v page ≡ None = ap (λ (u : ℕ). at [] u page) none ∙ newest-none page in let s : None ≡ Some f = sym here ∙ e in cc
+
+    never : (f : ℕ) → IsFreeSince [] f 0
+    never f v page from to = empty_at v page f (omega arith)
+
+-- the streamer of words, by what it keeps and by its seat
+pub streamer_of : (words : WordsValue) (s : Shape) (seat : WriterValue) (spare samplers : ℕ) (owners entries floors since : List ℕ) (changes : List Change)
+    → IsWriterOf words seat → IsKept (view_of s seat spare owners) samplers changes entries floors since → IsStreamerOf words (view_of s seat spare owners)
+streamer_of words s seat spare samplers owners entries floors since changes of k = record {
+  table = of.table;
+  seen = of.sizes;
+  sizes = let whole = sym of.sizes ∙ k.sizes in whole ∙ ap (λ (n : ℕ). sizes_of s (length owners) n) (sym (ap (λ (z : Sizes). z.samplers) whole));
+  limits = of.limits;
+  sound = k.sound;
+  lawful = k.lawful;
+}
+
+-- the writer's seat, by what is seen of the streamer
+pub seat_of : (words : WordsValue) (s : Shape) (seat : WriterValue) (spare : ℕ) (owners : List ℕ) (v : StreamerView) → view_of s seat spare owners ≡ v
+    → IsStreamerOf words v → IsWriterOf words seat
+seat_of words s seat spare owners v is of = let h = subst (IsStreamerOf words) (sym is) of in record { table = h.table; sizes = h.seen; limits = h.limits }
+
+-- what is seen, where only the writer's view changed
+pub seen_but_writer : (s : Shape) (seat seat' : WriterValue) (spare : ℕ) (owners : List ℕ) (v : StreamerView) → view_of s seat spare owners ≡ v
+    → seat'.table ≡ seat.table → view_of s seat' spare owners ≡ record v { writer = seat'.view }
+seen_but_writer s seat seat' spare owners v is same =
+    ap (λ (t : TableId). let x : StreamerView = record { table = t; shape = s; writer = seat'.view; spare = spare; owners = owners } in x) same
+    ∙ ap (λ (x : StreamerView). record x { writer = seat'.view }) is
+
+-- looks leave the journal and the banks
+pub alike_looked : (v w : WriterView) → HasLooked v w → IsAlike v w
+alike_looked v w h = record { sizes = ap (λ (x : WriterView). x.sizes) h.rest; journal = ap (λ (x : WriterView). x.journal) h.rest; entries = ap (λ (x : WriterView). x.entries) h.rest }
+
+-- what publishing a change asks of the banks, by what is kept
+pub asks_all : (z : Sizes) (s : Shape) (seat : WriterValue) (spare samplers : ℕ) (owners entries floors since : List ℕ) (changes : List Change)
+    → seat.view.sizes ≡ z → IsKept (view_of s seat spare owners) samplers changes entries floors since → AreInside z changes
+asks_all z s seat spare samplers owners entries floors since changes same k =
+    subst (λ (x : Sizes × List Change). AreInside x.0 x.1) (λ i. (same i, k.journal i)) k.inside
+
+pub asks_next : (z : Sizes) (s : Shape) (seat : WriterValue) (spare samplers : ℕ) (owners entries floors since : List ℕ) (changes : List Change) (change : Change)
+    → seat.view.sizes ≡ z → IsKept (view_of s seat spare owners) samplers changes entries floors since → IsLegalNext s (newest seat.view.journal) change
+    → IsNextKeeping z.root (newest changes) change
+asks_next z s seat spare samplers owners entries floors since changes change same k legal =
+    let root : root_of s ≡ z.root = sym (ap (λ (x : Sizes). x.root) k.sizes) ∙ ap (λ (x : Sizes). x.root) same in
+    subst (λ (x : ℕ × List Change). IsNextKeeping x.0 (newest x.1) change) (λ i. (root i, k.journal i)) legal
+
+pub asks_inside : (z : Sizes) (s : Shape) (seat : WriterValue) (spare samplers : ℕ) (owners entries floors since : List ℕ) (changes : List Change) (change : Change)
+    → seat.view.sizes ≡ z → IsKept (view_of s seat spare owners) samplers changes entries floors since → IsWithin (table_of (view_of s seat spare owners)) change
+    → IsInside z change
+asks_inside z s seat spare samplers owners entries floors since changes change same k within =
+    let sizes : sizes_of s (length owners) samplers ≡ z = sym k.sizes ∙ same in
+    subst (λ (x : Sizes). IsInside x change) sizes record { page_inside = within.page_inside; frame_inside = within.frame_inside }

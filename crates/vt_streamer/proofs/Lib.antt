@@ -1,0 +1,5 @@
+mod Looking
+mod Leading
+mod Filling
+mod Freeing
+mod Keeping

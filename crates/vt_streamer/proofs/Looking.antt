@@ -1,0 +1,75 @@
+-- Looks of the writer, one after the other.
+use Rattle.std.proofs.Common.{◌≡◌, ℕ, zero, suc, ◌+◌, ◌-◌, ◌<◌, ◌≤◌, [], ◌∷◌, ◌++◌, length, get_or, set, refl, sym, ap, ◌∙◌, subst, arith, get_or-set_same, get_or-set_other}
+use Rattle.std.proofs.lemmas.List.{append_assoc}
+use mathlib.Core.Logic.{dite}
+use native.Mathlib.Decide.{ℕ_discrete}
+use Rattle.vt_grace.specs.declared.views.Look.{Look}
+use Rattle.vt_grace.specs.declared.views.WriterView.{WriterView}
+use Rattle.vt_grace.specs.WriterViews.{version_of, floor_of, raised, after_look}
+use Rattle.vt_streamer.specs.Looks.{HasLooked, IsBehind, IsFirstBehind}
+
+-- no look
+pub looked_none : (v : WriterView) → HasLooked v v
+looked_none v = record { rest = refl; up = λ k. omega arith; more = []; looks = refl }
+
+raised_up : (v f n : ℕ) → f ≤ v → f ≤ raised v f n
+raised_up v f zero low = low
+raised_up v f (suc k) low = omega arith
+
+-- one look
+pub looked_once : (v w : WriterView) (sampler word : ℕ) → w ≡ after_look v sampler word → sampler < length v.floors → floor_of v sampler ≤ version_of v
+    → HasLooked v w
+looked_once v w sampler word after inside low = subst (λ (x : WriterView). HasLooked v x) (sym after) record {
+  rest = refl;
+  up = λ k. dite (ℕ_discrete k sampler)
+      (λ same. let here : floor_of (after_look v sampler word) k ≡ floor = ap (λ (j : ℕ). get_or (set v.floors sampler floor) j 0) same
+      ∙ get_or-set_same v.floors sampler floor 0 inside in
+      let was : floor_of v k ≡ floor_of v sampler = ap (floor_of v) same in let rose = raised_up (version_of v) (floor_of v sampler) word low in omega arith)
+      (λ other. let else : floor_of (after_look v sampler word) k ≡ floor_of v k = get_or-set_other v.floors sampler k floor 0 other in omega arith);
+  more = record { sampler = sampler; word = word } ∷ [];
+  looks = refl;
+}
+  where
+    floor : ℕ
+    floor = raised (version_of v) (floor_of v sampler) word
+
+-- looks after looks
+pub looked_on : (u v w : WriterView) → HasLooked u v → HasLooked v w → HasLooked u w
+looked_on u v w first second = record {
+  rest = second.rest ∙ ap (λ (x : WriterView). record x { floors = w.floors; looks = w.looks }) first.rest;
+  up = λ k. let a = first.up k in let b = second.up k in omega arith;
+  more = second.more ++ first.more;
+  looks = second.looks ∙ ap (λ ls. second.more ++ ls) first.looks ∙ sym (append_assoc second.more first.more u.looks);
+}
+
+-- a look after which the floor is still too low found an announcement that is too low
+missed : (v f n least now : ℕ) → now ≡ raised v f n → now < least → least ≤ v → (n - 1 < least) × (n ≡ n - 1 + 1)
+missed v f zero least now is low top = absurd (omega arith)
+missed v f (suc k) least now is low top = (omega arith, omega arith)
+
+pub behind_now : (v w : WriterView) (sampler word floor now least : ℕ) → w ≡ after_look v sampler word → sampler < length v.floors → floor ≡ floor_of v sampler
+    → now ≡ raised (version_of v) floor word → now < least → least ≤ version_of v → IsBehind v w least sampler (word - 1)
+behind_now v w sampler word floor now least after inside at is low top = subst (λ (x : WriterView). IsBehind v x least sampler (word - 1)) (sym after) record {
+  below = (missed (version_of v) floor word least now is low top).0;
+  low = let here : floor_of (after_look v sampler word) sampler ≡ now = get_or-set_same v.floors sampler (raised (version_of v) (floor_of v sampler) word) 0 inside
+      ∙ ap (λ (f : ℕ). raised (version_of v) f word) (sym at) ∙ sym is in omega arith;
+  before = [];
+  looks = ap (λ (x : ℕ). let l : Look = record { sampler = sampler; word = x } in l ∷ v.looks) (missed (version_of v) floor word least now is low top).1;
+}
+
+-- the first that is behind, after looks at those before it
+pub first_behind : (u v w : WriterView) (least sampler holds : ℕ) → HasLooked u v → HasLooked v w → sampler < u.sizes.samplers
+    → ((k : ℕ) → k < sampler → least ≤ floor_of v k) → IsBehind v w least sampler holds → IsFirstBehind u w least sampler holds
+first_behind u v w least sampler holds first second inside reached h = record {
+  inside = inside;
+  behind = record {
+    below = h.below;
+    low = h.low;
+    before = h.before ++ first.more;
+    looks = h.looks ∙ ap (λ ls. look ∷ (h.before ++ ls)) first.looks ∙ ap (λ ls. look ∷ ls) (sym (append_assoc h.before first.more u.looks));
+  };
+  others = λ k low. let a = reached k low in let b = second.up k in omega arith;
+}
+  where
+    look : Look
+    look = record { sampler = sampler; word = holds + 1 }

@@ -1,0 +1,32 @@
+-- What a streamer keeps beside its view.
+use Rattle.std.specs.Prelude.{◌≡◌, ℕ, ◌<◌, List, length, slice_index}
+use Rattle.vt_pages.specs.Shape.{Shape}
+use Rattle.vt_pages.specs.Pages.{pages_of}
+use Rattle.vt_journal.specs.declared.changes.Change.{Change}
+use Rattle.vt_journal.specs.Changes.{newest, IsFree}
+use Rattle.vt_journal.specs.Kept.{entries_of}
+use Rattle.vt_table.specs.Views.{IsTable}
+use Rattle.vt_grace.specs.Values.{WriterValue}
+use Rattle.vt_grace.specs.Sizes.{sizes_of}
+use Rattle.vt_grace.specs.Sound.{IsSound}
+use Rattle.vt_streamer.specs.Banks.{AreInside, AreRotated}
+use Rattle.vt_streamer.specs.Frees.{IsFreeSince}
+use Rattle.vt_streamer.specs.Views.{StreamerView, table_of}
+
+-- what is seen of what is kept
+abbrev pub view_of : Shape → WriterValue → ℕ → List ℕ → StreamerView
+view_of s seat spare owners = record { table = seat.table; shape = s; writer = seat.view; spare = spare; owners = owners }
+
+-- what is kept is the writer's: its journal, its floors, for each page the number of its frame, and for each free frame since when it is free
+pub record IsKept (v : StreamerView) (samplers : ℕ) (changes : List Change) (entries floors since : List ℕ) : Type 0 where
+  pub lawful : IsTable (table_of v)
+  pub sound : IsSound v.writer
+  pub sizes : v.writer.sizes ≡ sizes_of v.shape (length v.owners) samplers
+  pub journal : v.writer.journal ≡ changes
+  pub inside : AreInside v.writer.sizes v.writer.journal
+  pub rotated : AreRotated v.writer
+  pub all_floors : floors ≡ v.writer.floors
+  pub all_entries : length entries ≡ pages_of v.shape
+  pub agrees : entries_of entries ≡ newest v.writer.journal
+  pub all_since : length since ≡ length v.owners
+  pub free : (frame : ℕ) → frame < length v.owners → IsFree (newest v.writer.journal) frame → IsFreeSince v.writer.journal frame (slice_index since frame)

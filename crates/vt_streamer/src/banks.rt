@@ -1,0 +1,75 @@
+//! The bank of the next version is led on, change by change, from the version that it had to the next one.
+
+ghost use Rattle.std.specs.Prelude.{◌≡◌, ℕ, ◌+◌, ◌≤◌, ◌<◌, length};
+ghost use Rattle.vt_definitions.specs.Limits.{most_versions};
+ghost use Rattle.vt_journal.specs.Changes.{at, newest};
+ghost use Rattle.vt_journal.specs.Lookups.{change_page};
+ghost use Rattle.vt_grace.specs.Changes.{IsNextKeeping};
+ghost use Rattle.vt_grace.specs.WriterViews.{version_of, after_entry};
+ghost use Rattle.vt_grace.specs.Places.{bank_of};
+ghost use Rattle.vt_grace.specs.Banks.{MayWriteNext, Stands};
+ghost use Rattle.vt_grace.specs.Sound.{IsSound};
+ghost use Rattle.vt_grace.specs.Tokens.{IsWriterOf};
+ghost use Rattle.vt_streamer.specs.Banks.{new_entry, IsInside, AreInside, AreRotated, HasEntered, HasPublished};
+
+use vt_grace::{Words, WriterSeat};
+use vt_journal::{Change, Journal};
+
+// Writes the entry that a change gives its page into the bank of the next version.
+fn advance(words: &Words, writer: &mut WriterSeat, change: Change)
+    requires of { IsWriterOf words.now writer.old }
+    requires may { MayWriteNext writer.old.view }
+    requires inside { IsInside words.now.sizes change }
+    ensures of { IsWriterOf words.now writer.new }
+    ensures sound { IsSound writer.new.view }
+    ensures view { writer.new.view ≡ after_entry writer.old.view (change_page change) (new_entry change) }
+{
+    match change {
+        Change::Map { page, frame } => writer.set_entry(words, page, u64::from(frame) + 1),
+        Change::Unmap { page, frame: _ } => writer.set_entry(words, page, 0),
+    }
+}
+
+// Leads the bank of the next version on, from an older version to the newest.
+fn lead_on(words: &Words, writer: &mut WriterSeat, journal: &Journal, from: u64)
+    requires of { IsWriterOf words.now writer.old }
+    requires sound { IsSound writer.old.view }
+    requires may { MayWriteNext writer.old.view }
+    requires changes { journal.now.changes ≡ writer.old.view.journal }
+    requires inside { AreInside words.now.sizes journal.now.changes }
+    requires from { from ≤ length journal.now.changes }
+    requires stands { Stands words.now.sizes writer.old.view.entries (at journal.now.changes from)
+        (bank_of (version_of writer.old.view + 1)) }
+    ensures of { IsWriterOf words.now writer.new }
+    ensures sound { IsSound writer.new.view }
+    ensures entered { HasEntered writer.old.view writer.new.view }
+    ensures stands { Stands words.now.sizes writer.new.view.entries (newest journal.now.changes)
+        (bank_of (version_of writer.old.view + 1)) }
+{
+    for version in from..journal.version() {
+        advance(words, writer, journal.change(version + 1));
+    }
+}
+
+/// Writes the entries by which the next version differs from the one four before it, at most four, and publishes it.
+pub(crate) fn put_next(words: &Words, writer: &mut WriterSeat, journal: &Journal, change: Change)
+    requires of { IsWriterOf words.now writer.old }
+    requires sound { IsSound writer.old.view }
+    requires may { MayWriteNext writer.old.view }
+    requires changes { journal.now.changes ≡ writer.old.view.journal }
+    requires all { AreInside words.now.sizes journal.now.changes }
+    requires rotated { AreRotated writer.old.view }
+    requires next { IsNextKeeping words.now.sizes.root (newest journal.now.changes) change }
+    requires inside { IsInside words.now.sizes change }
+    requires room { version_of writer.old.view < most_versions }
+    ensures of { IsWriterOf words.now writer.new }
+    ensures sound { IsSound writer.new.view }
+    ensures rotated { AreRotated writer.new.view }
+    ensures published { HasPublished writer.old.view writer.new.view change }
+    ensures floors { writer.new.view.floors ≡ writer.old.view.floors }
+{
+    let from = journal.version().saturating_sub(3);
+    lead_on(words, writer, journal, from);
+    advance(words, writer, change);
+    writer.publish(words, change);
+}
