@@ -1,14 +1,16 @@
 -- The command `trial`: a settled walk in memory, over a texture and a path that are made from a number.
-use Rattle.std.specs.Prelude.{◌≡◌, ◌⊎◌, ℕ, ◌+◌, ◌-◌, ◌*◌, ◌<◌, ◌==◌, not, min, List, [], ◌++◌, take, length, slice_index, codes, option_map, true, Result, Ok, Err}
+use Rattle.std.specs.Prelude.{◌≡◌, ◌⊎◌, ℕ, ◌+◌, ◌-◌, ◌*◌, ◌<◌, ◌==◌, not, min, List, [], ◌++◌, take, length, slice_index, codes, option_map, sum_by, true, Option, Some, None, Result, Ok, Err}
 use Rattle.std.specs.List.{range_with_len, count_by}
 use Rattle.vt_outside.specs.Counts.{Rose}
-use Rattle.vt_outside.specs.Files.{gained}
+use Rattle.vt_outside.specs.Files.{Files, gained}
 use Rattle.vt_text.specs.Numbers.{number_spelling}
 use Rattle.vt_ppm.specs.Image.{ImageView}
+use Rattle.vt_ppm.specs.Picture.{picture_bytes}
 use Rattle.vt_mip.specs.Chains.{ChainView}
 use Rattle.vt_camera.specs.Paths.{PathView}
 use Rattle.vt_camera.specs.PathText.{IsPathText}
 use Rattle.vt_pages.specs.Shape.{Shape, shape_of}
+use Rattle.vt_draw.specs.Plain.{plain_samples}
 use Rattle.vt_shown.specs.Scenes.{scene_of}
 use Rattle.vt_pass.specs.PictureWants.{picture_wants}
 use Rattle.vt_turns.specs.declared.settings.Settings.{Settings}
@@ -20,6 +22,7 @@ use Rattle.vt_walk.specs.Fits.{WalkSetup, Fits, DoesNotFit as IsTooLarge, room_o
 use Rattle.vt_walk.specs.Walks.{walk_setup}
 use Rattle.vt_walk.specs.Counts.{HasCounts}
 use Rattle.vt_words.specs.Trial.{TrialText}
+use Rattle.vt_words.specs.Names.{picture_name}
 use Rattle.vt_files.specs.Courses.{FolderState, Gain, Course, IsUntouched}
 use Rattle.vt_inputs.specs.Inputs.{Content}
 use Rattle.vt_inputs.specs.Terms.{Terms, Hindrance, FlawedBeside, ManyTexels, FewFrames, LargePicture}
@@ -168,3 +171,20 @@ other_bytes a b n = count_by (λ i. not (slice_index a i == slice_index b i)) (r
 -- how many bytes of two texts are other, place by place; what one has more counts too
 abbrev pub differing : List ℕ → List ℕ → ℕ
 differing a b = length a - length b + (length b - length a) + other_bytes a b (min (length a) (length b))
+
+-- the bytes of the file of a plain picture
+abbrev pub plain_file : ChainView → PathView → ℕ → List ℕ
+plain_file chain path picture = picture_bytes 1 path.width path.height (plain_samples chain.base chain.tile path picture)
+
+-- how many bytes of what a name holds are other than those of a picture; all of these, where the name is missing
+abbrev pub differing_from : Option (List ℕ) → List ℕ → ℕ
+differing_from None plain = length plain
+differing_from (Some drawn) plain = differing drawn plain
+
+-- how many bytes of a picture in a folder are other than those of the plain picture
+abbrev pub differing_in : Files → ChainView → PathView → ℕ → ℕ
+differing_in files chain path picture = differing_from (files (picture_name (codes "picture") picture)) (plain_file chain path picture)
+
+-- how many bytes of the first so many pictures are
+abbrev pub differing_together : Files → ChainView → PathView → ℕ → ℕ
+differing_together files chain path pictures = sum_by (differing_in files chain path) (range_with_len 0 pictures)

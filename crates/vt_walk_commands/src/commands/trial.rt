@@ -1,7 +1,9 @@
 //! The command `trial`: a settled walk in memory, over a texture and a path that are made from a number.
 
 ghost use Rattle.std.specs.Prelude.{◌≡◌, ◌<◌, ◌≤◌, [], length, is_some, option_map, IfOk, OnSome};
+ghost use Rattle.vt_outside.specs.Counts.{added};
 ghost use Rattle.vt_outside.specs.Files.{bytes_at};
+ghost use Rattle.vt_outside.specs.MemoryFolder.{files_of};
 ghost use Rattle.vt_words.specs.Gen.{most_number};
 ghost use Rattle.vt_words.specs.Names.{four_digit_numbers};
 ghost use Rattle.vt_words.specs.Trial.{IsLawfulTrial, shown_trial};
@@ -23,6 +25,8 @@ ghost use Rattle.vt_walk_commands.specs.commands.Trial.{
   Compares,
   IsOfTrial,
   differing,
+  differing_in,
+  differing_together,
 };
 
 use std::alloc::Global;
@@ -290,7 +294,7 @@ fn compare<'a>(
     Ok(Tried { walked, differ })
 }
 
-// How many bytes of the pictures in a folder are other than those of the plain pictures.
+// How many bytes of the pictures in a folder are other than those of the plain pictures; it stands at the end of its type.
 fn count_differing(
     alloc: Global,
     folder: &MemoryFolder,
@@ -298,6 +302,7 @@ fn count_differing(
     path: &Path,
 ) -> Result<u64, OutsideError>
     requires { chain.now.base.depth ≡ 1 }
+    ensures { IfOk result (λ n. n ≡ added 0 (differing_together (files_of folder.now) chain.now path.now (length path.now.cameras))) }
 {
     let mut count: u64 = 0;
     for picture in 0..path.pictures() {
@@ -318,6 +323,7 @@ fn picture_differing(
     requires depth { chain.now.base.depth ≡ 1 }
     requires picture { picture < length path.now.cameras }
     requires few { picture < four_digit_numbers }
+    ensures { IfOk result (λ n. n ≡ differing_in (files_of folder.now) chain.now path.now picture) }
 {
     let samples = draw_plain(alloc, chain, path, picture)?;
     let plain = encode(alloc, path.width(), path.height(), &samples)?;
