@@ -1,5 +1,5 @@
 -- A row of a picture that is drawn over a look-up of pages.
-use Rattle.std.specs.Prelude.{◌≡◌, ℕ, ◌+◌, ◌<◌, ◌==◌, if◌then◌else◌, List, length, slice_index}
+use Rattle.std.specs.Prelude.{◌≡◌, ℕ, ◌+◌, ◌<◌, ◌==◌, if◌then◌else◌, List, length, slice_index, sum_by}
 use Rattle.std.specs.List.{range_with_len, count_by}
 use Rattle.vt_definitions.specs.Depths.{texel_bytes, word_bytes}
 use Rattle.vt_pages.specs.Shape.{Shape}
@@ -26,6 +26,10 @@ wanted_page s row x = covering_page s (row_level row) (row_place row x).0 (row_p
 -- how many of the first n pixels of a row want page p (Mayer 2010)
 unfoldable pub pixels_wanting : Shape → RowView → ℕ → ℕ → ℕ
 pixels_wanting s row n p = count_by (λ x. wanted_page s row x == p) (range_with_len 0 n)
+
+-- how many pixels of some rows of a picture want a page (Mayer 2010)
+unfoldable pub pixels_in_rows : Shape → PathView → ℕ → List ℕ → ℕ → ℕ
+pixels_in_rows s path picture rows p = sum_by (λ y. pixels_wanting s (shot_row s path picture y) path.width p) rows
 
 -- how many pixels of a run that want one page want page p
 unfoldable pub run_of : ℕ → ℕ → ℕ → ℕ

@@ -1,7 +1,7 @@
 -- What a picture wants of the pages.
 use Rattle.std.specs.Prelude.{ℕ}
 use Rattle.std.specs.List.{range_with_len}
-use Rattle.vt_sampler.specs.Samplers.{pixels_in_rows}
+use Rattle.vt_draw.specs.Shots.{pixels_in_rows}
 use Rattle.vt_shown.specs.Scenes.{Scene}
 
 -- how many pixels of a scene's picture want a page (Mayer 2010)

@@ -15,12 +15,11 @@ use Rattle.vt_pages.specs.Laws.{ReachesRoot}
 use Rattle.vt_pages.proofs.Lines.{reaches_root}
 use Rattle.vt_pages.proofs.Parents.{level_below}
 use Rattle.vt_camera.specs.Rows.{RowView}
-use Rattle.vt_draw.specs.Shots.{shot_row, wanted_page, pixels_wanting}
+use Rattle.vt_draw.specs.Shots.{shot_row, wanted_page, pixels_wanting, pixels_in_rows}
 use Rattle.vt_draw.proofs.Places.{wanted_in_chain}
 use Rattle.vt_journal.specs.Changes.{Table}
 use Rattle.vt_journal.specs.Lookups.{is_mapped, IsFirstMapped}
 use Rattle.vt_journal.proofs.Finding.{finest-lookup}
-use Rattle.vt_sampler.specs.Samplers.{pixels_in_rows}
 use Rattle.vt_shown.specs.Scenes.{Scene}
 use Rattle.vt_shown.specs.Replays.{scene_row, shown_at, pixel_under, plain_pixel}
 use Rattle.vt_pass.specs.PictureWants.{picture_wants}

@@ -12,11 +12,8 @@ ghost use Rattle.vt_journal.specs.declared.changes.Event.{Event};
 ghost use Rattle.vt_journal.specs.Changes.{Table, newest};
 ghost use Rattle.vt_journal.specs.JournalText.{changes_of};
 ghost use Rattle.vt_plan.specs.declared.batches.Planned.{Planned};
-ghost use Rattle.vt_draw.specs.Shots.{shot_row, IsDrawn};
-ghost use Rattle.vt_tiles.specs.Format.{stored, tile_start, tile_length};
+ghost use Rattle.vt_tiles.specs.Format.{tile_start, tile_length};
 ghost use Rattle.vt_tiles.specs.StoreViews.{IsStore};
-ghost use Rattle.vt_table.specs.Views.{TableView, IsTable};
-ghost use Rattle.vt_sampler.specs.Notes.{IsTrueOf};
 ghost use Rattle.vt_pass.specs.declared.crew.PassReport.{PassReport as Report};
 ghost use Rattle.vt_shown.specs.Scenes.{Scene};
 ghost use Rattle.vt_workers.specs.Jobs.{Job};
@@ -24,7 +21,6 @@ ghost use Rattle.vt_pass.specs.Outcomes.{IsEntryFor, IsBatchFor, group_of, pass_
 ghost use Rattle.vt_pass.specs.Requests.{FileState, AreReadFor};
 ghost use Rattle.vt_shown.specs.Replays.{IsPictureOf, pixel_under, plain_pixel};
 ghost use Rattle.vt_pass.specs.PictureWants.{picture_wants};
-ghost use Rattle.vt_shown.specs.Frames.{HoldsTiles};
 ghost use Rattle.vt_pass.specs.Machines.{MachineState};
 ghost use Rattle.vt_pass.specs.Passes.{IsJobFor, MapsNeeded, Ran};
 
@@ -49,16 +45,6 @@ pub fn order_leaves_one_table()
         (events others : List Event)
         → IsBatchFor s frames (newest js) batch → IsOutcome batch losses events → IsOutcome batch losses others
         → newest (js ++ changes_of events) ≡ newest (js ++ changes_of others) }
-{}
-
-/// A pixel that was drawn by notes which are true of a page table, whose frames hold a store's tiles, has the bytes
-/// that the replay has (van Waveren 2012).
-pub fn drawn_pixels_are_replayed()
-    ensures { (v : TableView) (scene : Scene) (b : List ℕ) (i x y : ℕ) (bytes : List ℕ) → IsTable v → scene.shape
-        ≡ v.shape
-        → IsStore b v.shape scene.depth → HoldsTiles v scene.depth (Some b)
-        → IsDrawn v.shape scene.depth (length v.changes) (IsTrueOf v) (shot_row v.shape scene.path i y) x bytes
-        → bytes ≡ pixel_under (stored b) scene (newest v.changes) i x y }
 {}
 
 /// The reads of a batch add up, one entry after another: one of the loaders' files was asked once more, for the tile of

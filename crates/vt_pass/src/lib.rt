@@ -9,8 +9,8 @@ mod machine;
 
 pub use crew::{Crew, PassReport};
 pub use laws::{
-    drawn_pixels_are_replayed, entries_are_streamed_one_by_one, mapped_pixels_are_plain,
-    order_leaves_one_table, reads_add_up, settled_pass_is_plain,
+    entries_are_streamed_one_by_one, mapped_pixels_are_plain, order_leaves_one_table, reads_add_up,
+    settled_pass_is_plain,
 };
 pub use machine::PassMachine;
 pub use vt_workers::{Task, work_together};

@@ -21,7 +21,7 @@ use Rattle.vt_queue.specs.declared.items.Outcome.TheVariants.{Read}
 use Rattle.vt_load.specs.Readings.{is_lost}
 use Rattle.vt_loaders.specs.Results.{IsGood}
 use Rattle.vt_pass.specs.Outcomes.{IsEntryFor, IsBatchFor, group_of, group_if}
-use Rattle.vt_shown.specs.Frames.{HoldsTiles}
+use Rattle.vt_rounds.specs.Frames.{HoldsTiles}
 use Rattle.vt_rounds.specs.Streams.{Publishes, IsTileOf}
 use Rattle.vt_rounds.specs.BatchRounds.{page_if, result_group, result_events, IsResultOf, AreApplied}
 use Rattle.vt_pass.proofs.Streaming.{entry_stays}

@@ -17,7 +17,7 @@ use Rattle.vt_definitions.specs.Depths.{IsDepth, texel_length}
 use Rattle.vt_tiles.specs.Format.{tile_length}
 use Rattle.vt_table.specs.Views.{TableView, IsTable, IsTile, IsWithin, tile_of}
 use Rattle.vt_pass.specs.Outcomes.{IsEntryFor, IsVictimOf, victim_events, group_of}
-use Rattle.vt_shown.specs.Frames.{HasTile, HoldsTiles}
+use Rattle.vt_rounds.specs.Frames.{HasTile, HoldsTiles}
 use Rattle.vt_rounds.specs.Streams.{Publishes, IsTileOf}
 
 victim_of : (s : Shape) (frames : ℕ) (m : Table) (e : Planned) (victim : ℕ) → IsEntryFor s frames m e → e.victim ≡ Some victim → IsVictimOf s m e.frame victim

@@ -23,7 +23,7 @@ use Rattle.vt_loaders.specs.QueuedLoaders.{QueuedView, stores_of, HasLoaded, IsL
 use Rattle.vt_pass.specs.Outcomes.{group_if, IsEntryFor, IsOutcome}
 use Rattle.vt_pass.specs.Requests.{AreReadFor}
 use Rattle.vt_pass.specs.Machines.{files_of}
-use Rattle.vt_shown.specs.Frames.{HoldsTiles}
+use Rattle.vt_rounds.specs.Frames.{HoldsTiles}
 
 -- the page of an entry, if there is one
 abbrev pub page_if : Option Planned → ℕ

@@ -1,3 +1,4 @@
+pub mod Frames
 pub mod Streams
 pub mod Sizes
 pub mod BatchRounds

@@ -11,9 +11,9 @@ use Rattle.std.proofs.lemmas.List.Elements.{filter-append}
 use Rattle.std.proofs.lemmas.List.Sums.{sum_by-cons, sum_by_push}
 use Rattle.vt_pages.specs.Shape.{Shape}
 use Rattle.vt_camera.specs.Paths.{PathView, ArePictureSides}
-use Rattle.vt_draw.specs.Shots.{shot_row, pixels_wanting}
+use Rattle.vt_draw.specs.Shots.{shot_row, pixels_wanting, pixels_in_rows}
 use Rattle.vt_draw.proofs.Counts.{pixels-most}
-use Rattle.vt_sampler.specs.Samplers.{own_rows, own_count, pixels_in_rows, row_in}
+use Rattle.vt_sampler.specs.Samplers.{own_rows, own_count, row_in}
 use Rattle.vt_sampler.proofs.Quotients.{apart, quotient_from, rest_small}
 
 range_more : (a n : ℕ) → range_with_len a (suc n) ≡ range_with_len a n ++ (a + n) ∷ []

@@ -1,20 +1,15 @@
 -- The rows of a sampler, and what contracts see of it.
-use Rattle.std.specs.Prelude.{◌≡◌, ℕ, ◌+◌, ◌-◌, ◌*◌, ◌/◌, ◌%◌, ◌<◌, ◌≤◌, ◌==◌, List, length, filter, sum_by, slice_range}
+use Rattle.std.specs.Prelude.{◌≡◌, ℕ, ◌+◌, ◌-◌, ◌*◌, ◌/◌, ◌%◌, ◌<◌, ◌≤◌, ◌==◌, List, length, filter, slice_range}
 use Rattle.std.specs.List.{range_with_len}
 use Rattle.vt_definitions.specs.Limits.{most_samplers}
 use Rattle.vt_definitions.specs.Depths.{texel_length}
 use Rattle.vt_pages.specs.Shape.{Shape}
 use Rattle.vt_pages.specs.Pages.{pages_of}
 use Rattle.vt_camera.specs.Paths.{PathView, ArePictureSides}
-use Rattle.vt_draw.specs.Shots.{shot_row, pixels_wanting}
 
 -- the rows of a sampler of a picture of so many: those whose number leaves its own by the number of samplers, from the top
 unfoldable pub own_rows : ℕ → ℕ → ℕ → List ℕ
 own_rows sampler samplers height = filter (λ y. y % samplers == sampler) (range_with_len 0 height)
-
--- how many pixels of some rows of a picture want a page (Mayer 2010)
-unfoldable pub pixels_in_rows : Shape → PathView → ℕ → List ℕ → ℕ → ℕ
-pixels_in_rows s path picture rows p = sum_by (λ y. pixels_wanting s (shot_row s path picture y) path.width p) rows
 
 -- its number among so many samplers, the sides and the depth of its pictures, the version at which its rows were drawn, their bytes one row
 -- after the other, and for each page how many of their pixels want it

@@ -4,7 +4,8 @@ ghost use Rattle.std.specs.Prelude.{◌≡◌, ℕ, ◌^◌, ◌<◌, ◌≤◌,
 ghost use Rattle.std.specs.List.{range_with_len};
 ghost use Rattle.vt_pages.specs.Shape.{Shape};
 ghost use Rattle.vt_camera.specs.Paths.{PathView, ArePictureSides};
-ghost use Rattle.vt_sampler.specs.Samplers.{own_rows, pixels_in_rows};
+ghost use Rattle.vt_sampler.specs.Samplers.{own_rows};
+ghost use Rattle.vt_draw.specs.Shots.{pixels_in_rows};
 
 /// What the samplers of a picture count together is what all its rows want.
 pub fn samplers_share_the_rows()

@@ -4,9 +4,9 @@ ghost use Rattle.std.specs.Prelude.{◌≡◌, ℕ, ◌+◌, ◌*◌, ◌%◌, �
 ghost use Rattle.vt_definitions.specs.Limits.{most_samplers};
 ghost use Rattle.vt_definitions.specs.Depths.{IsDepth, texel_length};
 ghost use Rattle.vt_pages.specs.Pages.{pages_of};
-ghost use Rattle.vt_draw.specs.Shots.{shot_row, AreDrawn, AreCounted};
+ghost use Rattle.vt_draw.specs.Shots.{shot_row, AreDrawn, AreCounted, pixels_in_rows};
 ghost use Rattle.vt_sampler.specs.Notes.{IsTrueOf, MapsRoot};
-ghost use Rattle.vt_sampler.specs.Samplers.{own_rows, own_count, pixels_in_rows, row_in, row_length};
+ghost use Rattle.vt_sampler.specs.Samplers.{own_rows, own_count, row_in, row_length};
 
 use crate::lookup::StillLookup;
 use vt_definitions::texel_length;

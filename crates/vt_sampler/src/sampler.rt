@@ -3,9 +3,9 @@
 ghost use Rattle.std.specs.Prelude.{◌≡◌, ℕ, ◌<◌, ◌≤◌, length, slice_index, IfOk};
 ghost use Rattle.vt_definitions.specs.Limits.{most_samplers};
 ghost use Rattle.vt_definitions.specs.Depths.{IsDepth};
-ghost use Rattle.vt_draw.specs.Shots.{shot_row, AreDrawn};
+ghost use Rattle.vt_draw.specs.Shots.{shot_row, AreDrawn, pixels_in_rows};
 ghost use Rattle.vt_sampler.specs.Notes.{IsTrueOf, MapsRoot};
-ghost use Rattle.vt_sampler.specs.Samplers.{SamplerView, IsOwn, IsFor, IsSampler, own_rows, pixels_in_rows, row_length, row_at, version_at};
+ghost use Rattle.vt_sampler.specs.Samplers.{SamplerView, IsOwn, IsFor, IsSampler, own_rows, row_length, row_at, version_at};
 
 use crate::rows::{clear, draw_rows};
 use std::alloc::Global;

@@ -1,3 +1,2 @@
 pub mod Scenes
 pub mod Replays
-pub mod Frames

@@ -19,7 +19,8 @@ use Rattle.vt_tiles.specs.StoreViews.{StoreView, IsStoreIfTold}
 use Rattle.vt_table.specs.Views.{TableView, IsTable}
 use Rattle.vt_tiles.specs.Format.{tile_length}
 use Rattle.vt_still.specs.RoundKits.{RoundKitView}
-use Rattle.vt_sampler.specs.Samplers.{SamplerView, IsOwn, row_at, row_length, own_rows, pixels_in_rows}
+use Rattle.vt_sampler.specs.Samplers.{SamplerView, IsOwn, row_at, row_length, own_rows}
+use Rattle.vt_draw.specs.Shots.{pixels_in_rows}
 use Rattle.vt_sampler.proofs.Sharing.{pixels_few}
 use Rattle.vt_pass.specs.declared.crew.PassReport.{PassReport}
 use Rattle.vt_still.specs.declared.tasks.StillSampler.{StillSampler}
@@ -30,7 +31,7 @@ use Rattle.vt_pass.specs.RowOrders.{AreRowsInOrder}
 use Rattle.vt_pass.specs.Requests.{AreReadFor}
 use Rattle.vt_shown.specs.Replays.{HasPixels, IsFull, AreReplayed}
 use Rattle.vt_pass.specs.PictureWants.{picture_wants}
-use Rattle.vt_shown.specs.Frames.{HoldsTiles}
+use Rattle.vt_rounds.specs.Frames.{HoldsTiles}
 use Rattle.vt_pass.specs.Machines.{files_of, told_by, AreStoresFor}
 use Rattle.vt_pass.specs.Passes.{Ran, IsPictured}
 use Rattle.vt_still.specs.StillTasks.{HasDrawn}

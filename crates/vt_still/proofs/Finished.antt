@@ -20,16 +20,16 @@ use Rattle.vt_still.specs.StillTasks.{HasDrawn}
 use Rattle.vt_workers.specs.Jobs.{Job}
 use Rattle.vt_pass.specs.Passes.{IsJobFor}
 use Rattle.vt_shown.specs.Replays.{HasPixels}
-use Rattle.vt_shown.specs.Frames.{HoldsTiles}
-use Rattle.vt_shown.proofs.Served.{drawn_as_replayed}
+use Rattle.vt_rounds.specs.Frames.{HoldsTiles}
+use Rattle.vt_still.proofs.Served.{drawn_as_replayed}
 use Rattle.vt_definitions.specs.Depths.{texel_bytes}
-use Rattle.vt_draw.specs.Shots.{shot_row, IsDrawn, AreDrawn}
+use Rattle.vt_draw.specs.Shots.{shot_row, IsDrawn, AreDrawn, pixels_in_rows}
 use Rattle.vt_sampler.specs.Notes.{IsTrueOf}
 use Rattle.vt_journal.specs.declared.changes.Change.{Change}
 use Rattle.vt_journal.specs.Changes.{newest}
 use Rattle.vt_still.specs.declared.tasks.StillSampler.{StillSampler}
 use Rattle.vt_camera.specs.Paths.{PathView}
-use Rattle.vt_sampler.specs.Samplers.{SamplerView, IsOwn, row_at, own_rows, pixels_in_rows}
+use Rattle.vt_sampler.specs.Samplers.{SamplerView, IsOwn, row_at, own_rows}
 use Rattle.vt_sampler.proofs.Sharing.{rows_shared}
 use Rattle.std.proofs.lemmas.List.Sums.{sum_by-cons}
 

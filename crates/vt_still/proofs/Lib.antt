@@ -6,3 +6,4 @@ pub mod Placed
 pub mod BatchRounds
 pub mod Ending
 pub mod RoundKits
+mod Served

@@ -4,7 +4,7 @@ use Rattle.vt_journal.specs.declared.changes.Change.TheVariants.{Map}
 use Rattle.vt_outside.specs.declared.outside.File.{Ghosts as FileMeanings}
 use Rattle.vt_pages.specs.Shape.{Shape}
 use Rattle.vt_table.specs.Views.{TableView, IsTable}
-use Rattle.vt_shown.specs.Frames.{HoldsTiles}
+use Rattle.vt_rounds.specs.Frames.{HoldsTiles}
 use Rattle.vt_pass.specs.Machines.{told_by}
 use Rattle.vt_pass.specs.Passes.{MayPlace, with_placed}
 use Rattle.vt_rounds.specs.Streams.{IsTileOf}

@@ -22,7 +22,7 @@ use Rattle.vt_still.specs.RoundKits.{IsSetUp, IsAsked}
 use Rattle.vt_pass.specs.declared.crew.Crew.{Crew}
 use Rattle.vt_pass.specs.Crews.{IsCrew}
 use Rattle.vt_pass.specs.Outcomes.{IsBatchFor}
-use Rattle.vt_shown.specs.Frames.{HoldsTiles}
+use Rattle.vt_rounds.specs.Frames.{HoldsTiles}
 use Rattle.vt_pass.specs.Passes.{IsUntouched, IsSpent}
 use Rattle.vt_tiles.specs.StoreViews.{StoreView, IsStoreIfTold}
 use Rattle.vt_pass.specs.Machines.{file_state, files_of, told_by, AreStoresFor}

@@ -30,7 +30,7 @@ use Rattle.vt_still.specs.RoundKits.{RoundKitView}
 use Rattle.vt_still.specs.Kits.{KitView, kit_state, IsIdleKit, lines_at, counted_together}
 use Rattle.vt_pass.specs.StillShows.{still_shows}
 use Rattle.vt_still.specs.StillMachines.{MayFinish, kit_before, kit_drawn}
-use Rattle.vt_shown.specs.Frames.{HoldsTiles}
+use Rattle.vt_rounds.specs.Frames.{HoldsTiles}
 use Rattle.vt_still.proofs.Ended.{HasFed, idle_after, pass_ran}
 
 -- stores that all tell the same, tell it together

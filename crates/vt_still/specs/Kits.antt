@@ -20,7 +20,7 @@ use Rattle.vt_still.specs.declared.tasks.StillSampler.{StillSampler}
 use Rattle.vt_pass.specs.Crews.{IsCrew}
 use Rattle.vt_pass.specs.Outcomes.{IsBatchFor}
 use Rattle.vt_loaders.specs.declared.queued.Queues.{Queues}
-use Rattle.vt_shown.specs.Frames.{HoldsTiles}
+use Rattle.vt_rounds.specs.Frames.{HoldsTiles}
 use Rattle.vt_rounds.specs.Sizes.{AreSized}
 use Rattle.vt_still.specs.RoundKits.{RoundKitView, IsSetUp, IsAsked}
 use Rattle.vt_pass.specs.Machines.{Setup, MachineState, file_state, files_of, told_by, AreStoresFor}

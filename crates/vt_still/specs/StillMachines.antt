@@ -16,7 +16,7 @@ use Rattle.vt_loaders.specs.QueuedLoaders.{QueuedView, AreOf, stores_of}
 use Rattle.vt_pass.specs.declared.crew.PassReport.{PassReport}
 use Rattle.vt_still.specs.declared.tasks.StillSampler.{StillSampler}
 use Rattle.vt_workers.specs.Jobs.{Job}
-use Rattle.vt_shown.specs.Frames.{HoldsTiles}
+use Rattle.vt_rounds.specs.Frames.{HoldsTiles}
 use Rattle.vt_pass.specs.PictureWants.{picture_wants}
 use Rattle.vt_pass.specs.StillShows.{still_shows}
 use Rattle.vt_pass.specs.Machines.{told_by}

@@ -1,9 +1,9 @@
 -- What a sampler asks and leaves that draws over a still table.
 use Rattle.std.specs.Prelude.{◌≡◌, ℕ, ◌<◌, length, slice_index}
-use Rattle.vt_draw.specs.Shots.{shot_row, AreDrawn}
+use Rattle.vt_draw.specs.Shots.{shot_row, AreDrawn, pixels_in_rows}
 use Rattle.vt_table.specs.Views.{TableView}
 use Rattle.vt_sampler.specs.Notes.{IsTrueOf, MapsRoot}
-use Rattle.vt_sampler.specs.Samplers.{SamplerView, IsOwn, IsFor, own_rows, pixels_in_rows, row_at, row_length, version_at}
+use Rattle.vt_sampler.specs.Samplers.{SamplerView, IsOwn, IsFor, own_rows, row_at, row_length, version_at}
 use Rattle.vt_workers.specs.Jobs.{Job}
 
 -- a sampler may draw a job over a table: it is made for it, and the table maps the root

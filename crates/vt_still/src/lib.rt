@@ -2,6 +2,7 @@
 #![tactic(auto)]
 
 mod kit;
+mod laws;
 mod loads;
 mod loads_end;
 mod loads_task;
@@ -13,6 +14,7 @@ mod round;
 mod tasks;
 mod told;
 
+pub use laws::drawn_pixels_are_replayed;
 pub use loads::rounds_are_passes;
 pub use loads_task::StillShared;
 pub use machine::StillMachine;

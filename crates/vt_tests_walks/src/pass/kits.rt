@@ -5,7 +5,7 @@ ghost use Rattle.std.specs.Bool.{OnTrue};
 ghost use Rattle.vt_pages.specs.Pages.{root_of};
 ghost use Rattle.vt_tiles.specs.Format.{tile_length};
 ghost use Rattle.vt_table.specs.Views.{IsTable};
-ghost use Rattle.vt_shown.specs.Frames.{HoldsTiles};
+ghost use Rattle.vt_rounds.specs.Frames.{HoldsTiles};
 ghost use Rattle.vt_pass.specs.Crews.{IsCrew};
 ghost use Rattle.vt_pass.specs.Passes.{MayPrepare, IsJobFor};
 ghost use Rattle.vt_workers.specs.Jobs.{job_of};

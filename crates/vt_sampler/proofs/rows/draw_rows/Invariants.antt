@@ -1,8 +1,8 @@
 use Rattle.std.proofs.Common.{◌≡◌, ℕ, ◌-◌, ◌*◌, ◌/◌, ◌%◌, ◌<◌, length}
 use Rattle.std.specs.Prelude.{slice_index}
-use Rattle.vt_draw.specs.Shots.{shot_row, AreDrawn}
+use Rattle.vt_draw.specs.Shots.{shot_row, AreDrawn, pixels_in_rows}
 use Rattle.vt_sampler.specs.Notes.{IsTrueOf}
-use Rattle.vt_sampler.specs.Samplers.{own_rows, pixels_in_rows, row_in}
+use Rattle.vt_sampler.specs.Samplers.{own_rows, row_in}
 use Rattle.vt_sampler.proofs.rows.draw_rows.Given as goal
 
 -- the sampler's rows so far are drawn and counted

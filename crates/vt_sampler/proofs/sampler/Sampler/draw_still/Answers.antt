@@ -2,9 +2,9 @@ use Rattle.std.proofs.Common.{◌≡◌, ◌<◌, ◌*◌, List, ◌∙◌, ap, 
 use Rattle.std.specs.Prelude.{slice_index}
 use Rattle.std.specs.Vec.{with_items}
 use Rattle.std.proofs.lemmas.List.{with_items_is}
-use Rattle.vt_draw.specs.Shots.{shot_row, AreDrawn}
+use Rattle.vt_draw.specs.Shots.{shot_row, AreDrawn, pixels_in_rows}
 use Rattle.vt_sampler.specs.Notes.{IsTrueOf}
-use Rattle.vt_sampler.specs.Samplers.{SamplerView, IsFor, own_count, own_rows, pixels_in_rows, row_length, row_in}
+use Rattle.vt_sampler.specs.Samplers.{SamplerView, IsFor, own_count, own_rows, row_length, row_in}
 use Rattle.vt_sampler.proofs.Sharing.{own_full}
 use Rattle.vt_sampler.proofs.sampler.Sampler.draw_still.Goals as goal
 

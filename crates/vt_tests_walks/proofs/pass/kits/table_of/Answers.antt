@@ -5,7 +5,7 @@ use Rattle.vt_journal.specs.declared.changes.Change.{Change}
 use Rattle.vt_journal.specs.Changes.{newest, IsFree}
 use Rattle.vt_journal.proofs.Versions.{newest-none}
 use Rattle.vt_table.specs.Views.{TableView}
-use Rattle.vt_shown.specs.Frames.{HoldsTiles}
+use Rattle.vt_rounds.specs.Frames.{HoldsTiles}
 use Rattle.vt_rounds.specs.Streams.{IsTileOf}
 use Rattle.vt_rounds.proofs.Entries.{holds_mapped}
 use Rattle.vt_tests_walks.proofs.pass.kits.table_of.Goals as goal

@@ -25,7 +25,7 @@ use Rattle.vt_table.proofs.TileWords.{word_is}
 use Rattle.vt_sampler.specs.Notes.{entry_number, IsTrueOf}
 use Rattle.vt_shown.specs.Scenes.{Scene}
 use Rattle.vt_shown.specs.Replays.{shown_at, serving_page, pixel_under}
-use Rattle.vt_shown.specs.Frames.{HoldsTiles}
+use Rattle.vt_rounds.specs.Frames.{HoldsTiles}
 
 -- the entry numbers tell the frames
 unmapped_by : (o : Option ℕ) → 0 ≡ entry_number o → o ≡ None
