@@ -167,8 +167,7 @@ module _ (dealt : Bool) (needs : Scene → ℕ → ℕ → ℕ) (shows : Scene �
   tile_lost was s settled lost =
       let n = losses_more given.setup s.pass s.run s.at_run.is_run in
       let e = s.passed.lost in
-      let f = s.stands.faults in
-      (
+      let f = s.stands.faults in (
         stops was s,
         inr (record {
           settled = settled;

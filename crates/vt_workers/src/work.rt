@@ -8,8 +8,8 @@ use crate::task::Task;
 use std::sync::Wait;
 use std::thread::{Threads, join_mut};
 use vt_draw::Shot;
-use vt_plan::Planned;
 use vt_outside::Gate;
+use vt_plan::Planned;
 
 /// The loaders, and beside them the samplers and the streamer. Threads cost more than what they do where nothing is to be read, and
 /// one request is taken by one loader. Where no thread can be made, the loaders work first, then the samplers, and the streamer last.
