@@ -22,6 +22,7 @@ const MAKES: Row<'static> = Row {
     err: b"",
 };
 
+// A texture is made from a number.
 static MADE_FROM_NUMBERS: [Row<'static>; 3] = [
     Row {
         words: "gen 1 2 1 g.ppm",
@@ -42,22 +43,13 @@ static MADE_FROM_NUMBERS: [Row<'static>; 3] = [
     },
 ];
 
-#[test]
-fn a_texture_is_made_from_a_number(rt: HostRuntime) {
-    hold(&rt, rt.alloc(), &MADE_FROM_NUMBERS);
-}
-
+// An older file is written over.
 static OVER_OLDER: [Row<'static>; 1] = [Row {
     words: "gen 0 1 1 g4.ppm",
     fail: None,
     left: &[("g4.ppm", All(b"P6\n1 1\n255\n\x00\x00\x00"))],
     ..MAKES
 }];
-
-#[test]
-fn an_older_file_is_written_over(rt: HostRuntime) {
-    hold(&rt, rt.alloc(), &OVER_OLDER);
-}
 
 // A run of `gen` with a call that fails.
 const STOPS: Row<'static> = Row {
@@ -66,6 +58,7 @@ const STOPS: Row<'static> = Row {
     ..MAKES
 };
 
+// A call that fails stops gen.
 static STOPPED: [Row<'static>; 4] = [
     Row {
         fail: Some(Fail::Create(0)),
@@ -91,11 +84,6 @@ static STOPPED: [Row<'static>; 4] = [
     },
 ];
 
-#[test]
-fn a_call_that_fails_stops_gen(rt: HostRuntime) {
-    hold(&rt, rt.alloc(), &STOPPED);
-}
-
 // Words by which nothing is made.
 const REFUSES: Row<'static> = Row {
     fail: None,
@@ -106,6 +94,7 @@ const REFUSES: Row<'static> = Row {
     ..MAKES
 };
 
+// Sides of no texture are refused.
 static OF_NO_TEXTURE: [Row<'static>; 3] = [
     Row {
         words: "gen 1 0 1 g.ppm",
@@ -121,11 +110,7 @@ static OF_NO_TEXTURE: [Row<'static>; 3] = [
     },
 ];
 
-#[test]
-fn sides_of_no_texture_are_refused(rt: HostRuntime) {
-    hold(&rt, rt.alloc(), &OF_NO_TEXTURE);
-}
-
+// The tile side may be left out.
 static NO_TILE_SIDE: [Row<'static>; 1] = [Row {
     words: "tile g4.ppm s.vts",
     fail: None,
@@ -135,6 +120,11 @@ static NO_TILE_SIDE: [Row<'static>; 1] = [Row {
 }];
 
 #[test]
-fn the_tile_side_may_be_left_out(rt: HostRuntime) {
-    hold(&rt, rt.alloc(), &NO_TILE_SIDE);
+fn each_run_of_gen_leaves_its_row(rt: HostRuntime) {
+    let alloc = rt.alloc();
+    hold(&rt, alloc, "made from numbers", &MADE_FROM_NUMBERS);
+    hold(&rt, alloc, "over older", &OVER_OLDER);
+    hold(&rt, alloc, "stopped", &STOPPED);
+    hold(&rt, alloc, "of no texture", &OF_NO_TEXTURE);
+    hold(&rt, alloc, "no tile side", &NO_TILE_SIDE);
 }
