@@ -1,5 +1,6 @@
 //! Whole commands by the words of the top call, over a folder in memory, with what each leaves.
 
+mod crews;
 mod files;
 mod flight_rows;
 mod generate;
