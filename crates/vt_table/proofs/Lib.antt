@@ -4,4 +4,4 @@ pub mod TileWords
 pub mod Lawful
 pub mod Keeping
 pub mod Holding
-pub mod FewChanges
+pub mod LastPage
