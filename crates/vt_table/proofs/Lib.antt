@@ -4,4 +4,4 @@ pub mod TileWords
 pub mod Lawful
 pub mod Keeping
 pub mod Holding
-pub mod LastPage
+pub mod FewChanges

@@ -8,11 +8,9 @@ pub fn holds(rt: &impl Abort, it: bool) {
     assert!(rt; it);
 }
 
-/// Looks that no row of a table is wrong; a failure tells the table, which is named, and the first that is.
-pub fn no_row_is_wrong(rt: &impl Abort, name: &str, wrong: Option<usize>) {
-    if let Some(row) = wrong {
-        panic!(rt; "{name}: row {row}");
-    }
+/// Looks that no row of a table is wrong; where one is, the failure names the first.
+pub fn no_row_is_wrong(rt: &impl Abort, wrong: Option<usize>) {
+    assert_eq!(rt; wrong, None);
 }
 
 /// A front and the lines behind it.

@@ -121,96 +121,225 @@ fn are_passes(alloc: Global, side: u32, frames: u32, q: u32, passes: &[Pass]) ->
     }
 }
 
-// The first of two frames is the root's, and a page above a wanted one keeps the other.
-static KEPT_ABOVE: [Pass; 3] = [
-    Pass {
-        pages: &[0],
-        needed: 2,
-        plan: &[Planned {
-            page: 16,
-            frame: 1,
-            victim: None,
-        }],
-        lost: &[false],
-    },
-    Pass {
-        pages: &[0],
-        needed: 2,
-        plan: &[],
-        lost: &[],
-    },
-    Pass {
-        pages: &[12],
-        needed: 2,
-        plan: &[Planned {
-            page: 18,
-            frame: 1,
-            victim: Some(16),
-        }],
-        lost: &[false],
-    },
-];
+#[test]
+fn a_plan_asks_for_coarse_pages_before_fine_ones(rt: HostRuntime) {
+    const PASSES: [Pass; 3] = [
+        Pass {
+            pages: &[0, 12],
+            needed: 4,
+            plan: &[
+                Planned {
+                    page: 16,
+                    frame: 1,
+                    victim: None,
+                },
+                Planned {
+                    page: 18,
+                    frame: 2,
+                    victim: None,
+                },
+            ],
+            lost: &[false, false],
+        },
+        Pass {
+            pages: &[0, 12],
+            needed: 4,
+            plan: &[
+                Planned {
+                    page: 0,
+                    frame: 3,
+                    victim: None,
+                },
+                Planned {
+                    page: 12,
+                    frame: 4,
+                    victim: None,
+                },
+            ],
+            lost: &[false, false],
+        },
+        Pass {
+            pages: &[0, 12],
+            needed: 4,
+            plan: &[],
+            lost: &[],
+        },
+    ];
+    holds(&rt, are_passes(rt.alloc(), 8, 5, 64, &PASSES));
+}
+
+#[test]
+fn a_batch_of_one_goes_down_one_line_after_the_other(rt: HostRuntime) {
+    const PASSES: [Pass; 5] = [
+        Pass {
+            pages: &[0, 12],
+            needed: 4,
+            plan: &[Planned {
+                page: 16,
+                frame: 1,
+                victim: None,
+            }],
+            lost: &[false],
+        },
+        Pass {
+            pages: &[0, 12],
+            needed: 4,
+            plan: &[Planned {
+                page: 0,
+                frame: 2,
+                victim: None,
+            }],
+            lost: &[false],
+        },
+        Pass {
+            pages: &[0, 12],
+            needed: 4,
+            plan: &[Planned {
+                page: 18,
+                frame: 3,
+                victim: None,
+            }],
+            lost: &[false],
+        },
+        Pass {
+            pages: &[0, 12],
+            needed: 4,
+            plan: &[Planned {
+                page: 12,
+                frame: 4,
+                victim: None,
+            }],
+            lost: &[false],
+        },
+        Pass {
+            pages: &[0, 12],
+            needed: 4,
+            plan: &[],
+            lost: &[],
+        },
+    ];
+    holds(&rt, are_passes(rt.alloc(), 8, 5, 1, &PASSES));
+}
 
 #[test]
 fn a_page_above_a_wanted_one_keeps_its_frame(rt: HostRuntime) {
-    holds(&rt, are_passes(rt.alloc(), 8, 2, 64, &KEPT_ABOVE));
+    const PASSES: [Pass; 3] = [
+        Pass {
+            pages: &[0],
+            needed: 2,
+            plan: &[Planned {
+                page: 16,
+                frame: 1,
+                victim: None,
+            }],
+            lost: &[false],
+        },
+        Pass {
+            pages: &[0],
+            needed: 2,
+            plan: &[],
+            lost: &[],
+        },
+        Pass {
+            pages: &[12],
+            needed: 2,
+            plan: &[Planned {
+                page: 18,
+                frame: 1,
+                victim: Some(16),
+            }],
+            lost: &[false],
+        },
+    ];
+    holds(&rt, are_passes(rt.alloc(), 8, 2, 64, &PASSES));
 }
-
-// Of three frames two are taken in turn, one of them at the second attempt.
-static LOST_TILE: [Pass; 4] = [
-    Pass {
-        pages: &[0, 2],
-        needed: 2,
-        plan: &[
-            Planned {
-                page: 0,
-                frame: 1,
-                victim: None,
-            },
-            Planned {
-                page: 2,
-                frame: 2,
-                victim: None,
-            },
-        ],
-        lost: &[false, false],
-    },
-    Pass {
-        pages: &[0, 2],
-        needed: 2,
-        plan: &[],
-        lost: &[],
-    },
-    Pass {
-        pages: &[1, 3],
-        needed: 2,
-        plan: &[
-            Planned {
-                page: 1,
-                frame: 2,
-                victim: Some(2),
-            },
-            Planned {
-                page: 3,
-                frame: 1,
-                victim: Some(0),
-            },
-        ],
-        lost: &[true, false],
-    },
-    Pass {
-        pages: &[1, 3],
-        needed: 2,
-        plan: &[Planned {
-            page: 1,
-            frame: 2,
-            victim: Some(2),
-        }],
-        lost: &[false],
-    },
-];
 
 #[test]
 fn a_lost_tile_leaves_its_victim(rt: HostRuntime) {
-    holds(&rt, are_passes(rt.alloc(), 4, 3, 64, &LOST_TILE));
+    const PASSES: [Pass; 4] = [
+        Pass {
+            pages: &[0, 2],
+            needed: 2,
+            plan: &[
+                Planned {
+                    page: 0,
+                    frame: 1,
+                    victim: None,
+                },
+                Planned {
+                    page: 2,
+                    frame: 2,
+                    victim: None,
+                },
+            ],
+            lost: &[false, false],
+        },
+        Pass {
+            pages: &[0, 2],
+            needed: 2,
+            plan: &[],
+            lost: &[],
+        },
+        Pass {
+            pages: &[1, 3],
+            needed: 2,
+            plan: &[
+                Planned {
+                    page: 1,
+                    frame: 2,
+                    victim: Some(2),
+                },
+                Planned {
+                    page: 3,
+                    frame: 1,
+                    victim: Some(0),
+                },
+            ],
+            lost: &[true, false],
+        },
+        Pass {
+            pages: &[1, 3],
+            needed: 2,
+            plan: &[Planned {
+                page: 1,
+                frame: 2,
+                victim: Some(2),
+            }],
+            lost: &[false],
+        },
+    ];
+    holds(&rt, are_passes(rt.alloc(), 4, 3, 64, &PASSES));
+}
+
+#[test]
+fn one_picture_settles_page_by_page(rt: HostRuntime) {
+    const PASSES: [Pass; 3] = [
+        Pass {
+            pages: &[0, 2],
+            needed: 2,
+            plan: &[Planned {
+                page: 0,
+                frame: 1,
+                victim: None,
+            }],
+            lost: &[false],
+        },
+        Pass {
+            pages: &[0, 2],
+            needed: 2,
+            plan: &[Planned {
+                page: 2,
+                frame: 2,
+                victim: None,
+            }],
+            lost: &[false],
+        },
+        Pass {
+            pages: &[0, 2],
+            needed: 2,
+            plan: &[],
+            lost: &[],
+        },
+    ];
+    holds(&rt, are_passes(rt.alloc(), 4, 3, 1, &PASSES));
 }

@@ -5,8 +5,7 @@ ghost use Rattle.std.specs.Prelude.{ℕ, ◌<◌, slice_index};
 
 use crate::checks::holds;
 use std::alloc::Global;
-use vt_feedback::{Counts, Wanted, Wants};
-use vt_outside::NoMemory;
+use vt_feedback::*;
 use vt_pages::Geometry;
 
 // The counts of a picture whose wanted pages are given, each with the number of its pixels, which is below a thousand.
@@ -22,35 +21,32 @@ fn counted(wanted: &[(usize, u32)]) -> [u32; 21]
     counts
 }
 
-// Whether a wanted list was made, and is this one.
-fn is_list(list: Result<Wants, NoMemory>, want: &[Wanted]) -> bool {
-    match list {
-        Ok(wants) => wants.slice() == want,
-        Err(_) => false,
-    }
-}
-
-// Whether this is the wanted list of two pictures, and counts that are cleared behind it want nothing.
-fn is_wanted(
+// The wanted list of two pictures, of counts that were cleared behind them or not.
+fn list_of(
     alloc: Global,
     first: &[(usize, u32)],
     second: &[(usize, u32)],
-    want: &[Wanted],
-) -> bool {
-    let Ok(geometry) = Geometry::new(8, 8, 2) else {
-        return false;
-    };
+    is_cleared: bool,
+) -> Option<Wants> {
+    let geometry = Geometry::new(8, 8, 2).ok()?;
+    let mut counts = Counts::new(alloc, &geometry).ok()?;
     if geometry.page_count() != 21 {
-        return false;
+        return None;
     }
-    let Ok(mut counts) = Counts::new(alloc, &geometry) else {
-        return false;
-    };
     counts.merge(&counted(first));
     counts.merge(&counted(second));
-    let is_right = is_list(counts.wanted(alloc, &geometry), want);
-    counts.clear();
-    is_right && is_list(counts.wanted(alloc, &geometry), &[])
+    if is_cleared {
+        counts.clear();
+    }
+    counts.wanted(alloc, &geometry).ok()
+}
+
+// Whether a wanted list was made, and is this one.
+fn is_list(list: &Option<Wants>, want: &[Wanted]) -> bool {
+    match list {
+        Some(wants) => wants.slice() == want,
+        None => false,
+    }
 }
 
 #[test]
@@ -70,5 +66,36 @@ fn coarser_levels_come_first_then_more_pixels_then_smaller_indexes(rt: HostRunti
         Wanted { page: 2, pixels: 5 },
         Wanted { page: 3, pixels: 5 },
     ];
-    holds(&rt, is_wanted(rt.alloc(), &FIRST, &SECOND, &LISTED));
+    holds(
+        &rt,
+        is_list(&list_of(rt.alloc(), &FIRST, &SECOND, false), &LISTED),
+    );
+}
+
+#[test]
+fn cleared_counts_want_nothing(rt: HostRuntime) {
+    const ALL: [(usize, u32); 21] = [
+        (0, 1),
+        (1, 1),
+        (2, 1),
+        (3, 1),
+        (4, 1),
+        (5, 1),
+        (6, 1),
+        (7, 1),
+        (8, 1),
+        (9, 1),
+        (10, 1),
+        (11, 1),
+        (12, 1),
+        (13, 1),
+        (14, 1),
+        (15, 1),
+        (16, 1),
+        (17, 1),
+        (18, 1),
+        (19, 1),
+        (20, 1),
+    ];
+    holds(&rt, is_list(&list_of(rt.alloc(), &ALL, &[], true), &[]));
 }

@@ -2,7 +2,7 @@
 
 ghost use Rattle.vt_queue.specs.Queues.{IsOf};
 
-use crate::checks::no_row_is_wrong;
+use crate::checks::holds;
 use std::alloc::Global;
 use std::sync::Wait;
 use std::thread::Threads;
@@ -87,37 +87,33 @@ fn ask<Rt: Threads + Wait>(
     requests.put(rt, asks, request).is_ok()
 }
 
-// A result that is to be: its ticket, and the tile that was read, or no bytes where it was lost.
-#[derive(Clone, Copy)]
+// A result that is to be: its ticket, and the tile that was read, or none where it was lost, with a buffer of 12 bytes.
 struct Answer {
     ticket: u32,
-    tile: &'static [u8],
+    tile: Option<&'static [u8]>,
 }
 
-// What a loader is to do with two requests, with the tickets 0 and 1: the calls that fail, the store, the page and the buffer of each
-// request, the results, and the places that are asked of the store.
-#[derive(Clone, Copy)]
+// What a loader is to do with two requests, with the tickets 0 and 1: the second one's page and buffer, the results, and the places
+// that are asked of the store.
 struct Round {
     calls: &'static [Fail],
     store: &'static [u8],
-    first: (u32, &'static [u8]),
     second: (u32, &'static [u8]),
-    answers: &'static [Answer],
+    answers: [Option<Answer>; 3],
     places: &'static [Place],
 }
 
-// Whether this is that result; a buffer that is lost has 12 bytes.
+// Whether this is that result.
 fn is_result(loaded: &Loaded, answer: &Answer) -> bool {
-    let is_right = if answer.tile.is_empty() {
-        loaded.outcome == Outcome::Lost && loaded.request.buffer.len() == 12
-    } else {
-        loaded.outcome == Outcome::Read && loaded.request.buffer.slice() == answer.tile
+    let is_right = match answer.tile {
+        Some(tile) => loaded.outcome == Outcome::Read && loaded.request.buffer.slice() == tile,
+        None => loaded.outcome == Outcome::Lost && loaded.request.buffer.len() == 12,
     };
     is_right && loaded.request.ticket == answer.ticket
 }
 
 // Whether this is that result, or none where there is to be none.
-fn is_answer(found: Option<Loaded>, answer: Option<&Answer>) -> bool {
+fn is_answer(found: Option<Loaded>, answer: &Option<Answer>) -> bool {
     match (found, answer) {
         (Some(loaded), Some(answer)) => is_result(&loaded, answer),
         (None, None) => true,
@@ -125,25 +121,26 @@ fn is_answer(found: Option<Loaded>, answer: Option<&Answer>) -> bool {
     }
 }
 
-// Whether three results are taken that are those, and none behind them.
+// Whether three results are taken that are those.
 fn are_answers<Rt: Threads + Wait>(
     rt: &Rt,
     results: &ResultQueue,
     pass: &mut QueuePass<Loaded>,
-    answers: &[Answer],
+    answers: &[Option<Answer>; 3],
 ) -> bool
     requires { IsOf results.now pass.old }
 {
-    is_answer(results.take(rt, pass), answers.get(0))
-        && is_answer(results.take(rt, pass), answers.get(1))
-        && is_answer(results.take(rt, pass), answers.get(2))
+    is_answer(results.take(rt, pass), &answers[0])
+        && is_answer(results.take(rt, pass), &answers[1])
+        && is_answer(results.take(rt, pass), &answers[2])
 }
 
-// Puts both requests, lets a loader run, and answers whether its results are those.
+// Whether a loader answers two requests so, the first of which is for this page and with this buffer.
 fn is_answered<Rt: Threads + Wait>(
     rt: &Rt,
     alloc: Global,
     folder: &mut MemoryFolder,
+    first: (u32, &[u8]),
     round: &Round,
 ) -> bool {
     let Ok((requests, mut asks)) = RequestQueue::new(alloc, 2) else {
@@ -152,46 +149,26 @@ fn is_answered<Rt: Threads + Wait>(
     let Ok((results, mut answers)) = ResultQueue::new(alloc, 2) else {
         return false;
     };
-    let is_first = ask(
-        rt,
-        alloc,
-        &requests,
-        &mut asks,
-        0,
-        round.first.0,
-        round.first.1,
-    );
-    let is_second = ask(
-        rt,
-        alloc,
-        &requests,
-        &mut asks,
-        1,
-        round.second.0,
-        round.second.1,
-    );
+    let (page, buffer) = round.second;
+    let is_first = ask(rt, alloc, &requests, &mut asks, 0, first.0, first.1);
+    let is_second = ask(rt, alloc, &requests, &mut asks, 1, page, buffer);
     run_one(rt, folder, &requests, &mut asks, &results, &mut answers);
-    is_first && is_second && are_answers(rt, &results, &mut answers, round.answers)
+    is_first && is_second && are_answers(rt, &results, &mut answers, &round.answers)
 }
 
-// Whether a loader does that.
-fn is_served<Rt: Threads + Wait>(rt: &Rt, alloc: Global, round: &Round) -> bool {
+// Whether a loader does that, where the first request is for this page and with this buffer.
+fn is_served<Rt: Threads + Wait>(
+    rt: &Rt,
+    alloc: Global,
+    first: (u32, &[u8]),
+    round: &Round,
+) -> bool {
     match folder_of(alloc, round.calls, round.store) {
         Some(mut folder) => {
-            is_answered(rt, alloc, &mut folder, round) && folder.was_asked("a", round.places)
+            is_answered(rt, alloc, &mut folder, first, round) && folder.was_asked("a", round.places)
         }
         None => false,
     }
-}
-
-// The first of these rounds in which a loader does something else.
-fn misserved<Rt: Threads + Wait>(rt: &Rt, alloc: Global, rounds: &[Round]) -> Option<usize> {
-    for i in 0..rounds.len() {
-        if !is_served(rt, alloc, &rounds[i]) {
-            return Some(i);
-        }
-    }
-    None
 }
 
 // The header, of 16 bytes.
@@ -201,115 +178,126 @@ const HEADER: Place = Place {
     failed: false,
 };
 
-// The tiles of pages, of 12 bytes each.
-const TILE_0: Place = Place {
-    at: 16,
+// The tiles of two pages, of 12 bytes each.
+const TILE_1: Place = Place {
+    at: 28,
     len: 12,
     failed: false,
 };
 
-const TILE_1: Place = Place { at: 28, ..TILE_0 };
-
-const TILE_2: Place = Place { at: 40, ..TILE_0 };
-
-const TILE_4: Place = Place { at: 64, ..TILE_0 };
-
-// A read of the tile of page 3 that fails.
-const LOST_3: Place = Place {
-    at: 52,
+const TILE_2: Place = Place {
+    at: 40,
     len: 12,
-    failed: true,
-};
-
-// The tile of page 2 where a sample has two bytes.
-const WIDE_TILE_2: Place = Place {
-    at: 64,
-    len: 24,
     failed: false,
 };
 
-// Two requests that are answered in the order of the queue, and two of which the read of the first is lost.
-static ANSWERED: [Round; 2] = [
-    Round {
+#[test]
+fn requests_are_answered_in_the_order_of_the_queue(rt: HostRuntime) {
+    const TILE_4: Place = Place {
+        at: 64,
+        len: 12,
+        failed: false,
+    };
+    const ROUND: Round = Round {
         calls: &[],
         store: &STORE,
-        first: (1, &[0; 12]),
         second: (4, &[9; 12]),
-        answers: &[
-            Answer {
+        answers: [
+            Some(Answer {
                 ticket: 0,
-                tile: &[2, 2, 2, 3, 3, 3, 6, 6, 6, 7, 7, 7],
-            },
-            Answer {
+                tile: Some(&[2, 2, 2, 3, 3, 3, 6, 6, 6, 7, 7, 7]),
+            }),
+            Some(Answer {
                 ticket: 1,
-                tile: &[3, 3, 3, 5, 5, 5, 11, 11, 11, 13, 13, 13],
-            },
+                tile: Some(&[3, 3, 3, 5, 5, 5, 11, 11, 11, 13, 13, 13]),
+            }),
+            None,
         ],
         places: &[HEADER, TILE_1, TILE_4],
-    },
-    Round {
+    };
+    holds(&rt, is_served(&rt, rt.alloc(), (1, &[0; 12]), &ROUND));
+}
+
+#[test]
+fn a_loader_goes_on_after_a_lost_read(rt: HostRuntime) {
+    const LOST: Place = Place {
+        at: 52,
+        len: 12,
+        failed: true,
+    };
+    const TILE_0: Place = Place {
+        at: 16,
+        len: 12,
+        failed: false,
+    };
+    const ROUND: Round = Round {
         calls: &[Fail::Read {
             opening: 0,
             read: 1,
         }],
         store: &STORE,
-        first: (3, &[0; 12]),
         second: (0, &[0; 12]),
-        answers: &[
-            Answer {
+        answers: [
+            Some(Answer {
                 ticket: 0,
-                tile: &[],
-            },
-            Answer {
+                tile: None,
+            }),
+            Some(Answer {
                 ticket: 1,
-                tile: &[0, 0, 0, 1, 1, 1, 4, 4, 4, 5, 5, 5],
-            },
+                tile: Some(&[0, 0, 0, 1, 1, 1, 4, 4, 4, 5, 5, 5]),
+            }),
+            None,
         ],
-        places: &[HEADER, LOST_3, TILE_0],
-    },
-];
-
-// A request that is dropped, before one that is answered.
-const DROPPED: Round = Round {
-    calls: &[],
-    store: &STORE,
-    first: (5, &[0; 12]),
-    second: (2, &[0; 12]),
-    answers: &[Answer {
-        ticket: 1,
-        tile: &[8, 8, 8, 9, 9, 9, 12, 12, 12, 13, 13, 13],
-    }],
-    places: &[HEADER, TILE_2],
-};
-
-// A request of no page, two with a buffer of another length, and one of them behind a request where a sample has two bytes.
-static DROPS: [Round; 4] = [
-    DROPPED,
-    Round {
-        first: (1, &[0; 11]),
-        ..DROPPED
-    },
-    Round {
-        first: (1, &[]),
-        ..DROPPED
-    },
-    Round {
-        store: &WIDE_STORE,
-        first: (2, &[0; 24]),
-        answers: &[Answer {
-            ticket: 0,
-            tile: &[
-                8, 8, 8, 8, 8, 8, 9, 9, 9, 9, 9, 9, 12, 12, 12, 12, 12, 12, 13, 13, 13, 13, 13, 13,
-            ],
-        }],
-        places: &[HEADER, WIDE_TILE_2],
-        ..DROPPED
-    },
-];
+        places: &[HEADER, LOST, TILE_0],
+    };
+    holds(&rt, is_served(&rt, rt.alloc(), (3, &[0; 12]), &ROUND));
+}
 
 #[test]
-fn requests_are_answered_in_their_order_or_dropped(rt: HostRuntime) {
-    let alloc = rt.alloc();
-    no_row_is_wrong(&rt, "answered", misserved(&rt, alloc, &ANSWERED));
-    no_row_is_wrong(&rt, "drops", misserved(&rt, alloc, &DROPS));
+fn a_request_of_no_page_or_with_another_buffer_is_dropped(rt: HostRuntime) {
+    const CASES: [(u32, &[u8]); 4] = [(5, &[0; 12]), (u32::MAX, &[0; 12]), (1, &[0; 11]), (1, &[])];
+    const ROUND: Round = Round {
+        calls: &[],
+        store: &STORE,
+        second: (2, &[0; 12]),
+        answers: [
+            Some(Answer {
+                ticket: 1,
+                tile: Some(&[8, 8, 8, 9, 9, 9, 12, 12, 12, 13, 13, 13]),
+            }),
+            None,
+            None,
+        ],
+        places: &[HEADER, TILE_2],
+    };
+    for case in &CASES {
+        holds(&rt, is_served(&rt, rt.alloc(), *case, &ROUND));
+    }
+}
+
+#[test]
+fn a_store_of_two_bytes_a_sample_has_tiles_of_twice_the_length(rt: HostRuntime) {
+    const TILE: Place = Place {
+        at: 64,
+        len: 24,
+        failed: false,
+    };
+    const ROUND: Round = Round {
+        calls: &[],
+        store: &WIDE_STORE,
+        second: (2, &[0; 12]),
+        answers: [
+            Some(Answer {
+                ticket: 0,
+                tile: Some(&[
+                    8, 8, 8, 8, 8, 8, 9, 9, 9, 9, 9, 9, 12, 12, 12, 12, 12, 12, 13, 13, 13, 13, 13,
+                    13,
+                ]),
+            }),
+            None,
+            None,
+        ],
+        places: &[HEADER, TILE],
+    };
+    holds(&rt, is_served(&rt, rt.alloc(), (2, &[0; 24]), &ROUND));
 }

@@ -1,11 +1,12 @@
-//! Queues of two places.
+//! Queues of two places, alone and between two threads.
 
+ghost use Rattle.std.specs.Thread.{IsSync};
 ghost use Rattle.vt_queue.specs.Queues.{IsOf};
 
 use crate::checks::holds;
 use std::alloc::Global;
 use std::sync::Wait;
-use std::thread::Threads;
+use std::thread::{Threads, join_mut};
 use vt_outside::Bytes;
 use vt_queue::*;
 
@@ -102,8 +103,58 @@ fn taken_three<Rt: Threads + Wait + Sync, I: Ticketed + Drop>(
 }
 
 #[test]
-fn the_first_item_comes_out_first_and_a_full_queue_hands_back(rt: HostRuntime) {
-    let alloc = rt.alloc();
-    holds(&rt, is_in_order::<HostRuntime, Request>(&rt, alloc));
-    holds(&rt, is_in_order::<HostRuntime, Loaded>(&rt, alloc));
+fn the_first_request_comes_out_first_and_a_full_queue_hands_back(rt: HostRuntime) {
+    holds(&rt, is_in_order::<HostRuntime, Request>(&rt, rt.alloc()));
+}
+
+#[test]
+fn the_first_result_comes_out_first_and_a_full_queue_hands_back(rt: HostRuntime) {
+    holds(&rt, is_in_order::<HostRuntime, Loaded>(&rt, rt.alloc()));
+}
+
+// Two threads put a request each, 3 and 4.
+fn put_beside<Rt: Threads + Wait + Sync>(
+    rt: &Rt,
+    alloc: Global,
+    queue: &RequestQueue,
+    mine: &mut QueuePass<Request>,
+    theirs: &mut QueuePass<Request>,
+)
+    requires { IsOf queue.now mine.old × IsOf queue.now theirs.old }
+    ensures { IsOf queue.now mine.new × IsOf queue.now theirs.new }
+{
+    join_mut(
+        rt,
+        &mut || -> ()
+            requires { IsSync Rt.row × IsOf queue.now mine.now }
+            ensures { IsOf queue.entry.now mine.exit.now }
+        {
+            let _ = refused(rt, alloc, queue, mine, 3);
+        },
+        &mut || -> ()
+            requires { IsSync Rt.row × IsOf queue.now theirs.now }
+            ensures { IsOf queue.entry.now theirs.exit.now }
+        {
+            let _ = refused(rt, alloc, queue, theirs, 4);
+        },
+    );
+}
+
+// Whether what two threads put is taken, through one pass again, once each.
+fn is_taken_once<Rt: Threads + Wait + Sync>(rt: &Rt, alloc: Global) -> bool {
+    let Ok((queue, mut mine)) = RequestQueue::new(alloc, 2) else {
+        return false;
+    };
+    let Ok(mut theirs) = queue.split(alloc, &mut mine) else {
+        return false;
+    };
+    put_beside(rt, alloc, &queue, &mut mine, &mut theirs);
+    queue.join(&mut mine, theirs);
+    let takes = taken_three(rt, &queue, &mut mine);
+    takes == [Some(3), Some(4), None] || takes == [Some(4), Some(3), None]
+}
+
+#[test]
+fn what_two_threads_put_is_taken_once_each(rt: HostRuntime) {
+    holds(&rt, is_taken_once(&rt, rt.alloc()));
 }

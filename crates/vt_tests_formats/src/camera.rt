@@ -36,6 +36,23 @@ pub fn other_camera(alloc: Global, rows: &[Seen]) -> Option<usize> {
     None
 }
 
+#[test]
+fn a_path_gives_its_parts(rt: HostRuntime) {
+    const ROWS: [Seen; 1] = [(
+        b"size 2048 1\nfocal 4096\nat -2147483648 2147483648 16777216 16384 -16384\n",
+        (2048, 1, 4096, 1),
+        0,
+        Camera {
+            u: -2147483648,
+            v: 2147483648,
+            h: 16777216,
+            c: 16384,
+            s: -16384,
+        },
+    )];
+    no_row_is_wrong(&rt, other_camera(rt.alloc(), &ROWS));
+}
+
 // A texel of a row of the first picture of a path: the path's text, the width of its pictures, the row, its level, the column, and
 // the texel as it is in the texture and in that level.
 type Texel = (&'static [u8], u32, u32, u32, u32, (u32, u32), (u32, u32));
@@ -74,67 +91,64 @@ fn other_texel(alloc: Global, surface: &Surface, rows: &[Texel]) -> Option<usize
     None
 }
 
-// A coarser level comes with its span.
-const NEAR: &[u8] = b"size 2 1\nfocal 1\nat 0 0 256 16384 0\n";
-
-const NEARLY: &[u8] = b"size 2 1\nfocal 1\nat 0 0 511 16384 0\n";
-
-const FAR: &[u8] = b"size 2 1\nfocal 1\nat 0 0 512 16384 0\n";
-
-const LEVELS: [Texel; 6] = [
-    (NEAR, 2, 0, 0, 0, (1, 3), (1, 3)),
-    (NEAR, 2, 0, 0, 1, (1, 0), (1, 0)),
-    (NEARLY, 2, 0, 0, 0, (1, 3), (1, 3)),
-    (NEARLY, 2, 0, 0, 1, (1, 0), (1, 0)),
-    (FAR, 2, 0, 1, 0, (2, 3), (1, 1)),
-    (FAR, 2, 0, 1, 1, (2, 1), (1, 0)),
-];
-
-// Slanted rows round down.
-// Row 1 has the distance 1000 and the span 500, row 0 twice as much; no quotient is whole.
-const SLANTED_PATH: &[u8] = b"size 3 2\nfocal 2\nat -1 300 1000 9830 13107\n";
-
-const SLANTED: [Texel; 6] = [
-    (SLANTED_PATH, 3, 1, 0, 0, (3, 3), (3, 3)),
-    (SLANTED_PATH, 3, 1, 0, 1, (2, 4), (2, 4)),
-    (SLANTED_PATH, 3, 1, 0, 2, (0, 5), (0, 5)),
-    (SLANTED_PATH, 3, 0, 1, 0, (2, 5), (1, 2)),
-    (SLANTED_PATH, 3, 0, 1, 1, (4, 0), (2, 0)),
-    (SLANTED_PATH, 3, 0, 1, 2, (1, 2), (0, 1)),
-];
-
-// The largest numbers fit.
-// Every number as large as it can be: the column is 2^15*5889 modulo 16383, the row is -2^15*9983 modulo 16383, and both
-// are found by 2^14 being 1 there.
-const LARGEST: [Texel; 1] = [(
-    b"size 2048 1\nfocal 4096\nat -2147483648 2147483648 16777216 16384 -16384\n",
-    2048,
-    0,
-    16,
-    0,
-    (11778, 12800),
-    (0, 0),
-)];
-
 #[test]
-fn each_pixel_shows_its_texel(rt: HostRuntime) {
-    let alloc = rt.alloc();
+fn a_coarser_level_comes_with_its_span(rt: HostRuntime) {
+    const NEAR: &[u8] = b"size 2 1\nfocal 1\nat 0 0 256 16384 0\n";
+    const NEARLY: &[u8] = b"size 2 1\nfocal 1\nat 0 0 511 16384 0\n";
+    const FAR: &[u8] = b"size 2 1\nfocal 1\nat 0 0 512 16384 0\n";
+    const ROWS: [Texel; 6] = [
+        (NEAR, 2, 0, 0, 0, (1, 3), (1, 3)),
+        (NEAR, 2, 0, 0, 1, (1, 0), (1, 0)),
+        (NEARLY, 2, 0, 0, 0, (1, 3), (1, 3)),
+        (NEARLY, 2, 0, 0, 1, (1, 0), (1, 0)),
+        (FAR, 2, 0, 1, 0, (2, 3), (1, 1)),
+        (FAR, 2, 0, 1, 1, (2, 1), (1, 0)),
+    ];
     let surface = Surface {
         width: 4,
         height: 4,
         levels: 2,
     };
-    no_row_is_wrong(&rt, "levels", other_texel(alloc, &surface, &LEVELS));
+    no_row_is_wrong(&rt, other_texel(rt.alloc(), &surface, &ROWS));
+}
+
+// Row 1 has the distance 1000 and the span 500, row 0 twice as much; no quotient is whole.
+#[test]
+fn slanted_rows_round_down(rt: HostRuntime) {
+    const TEXT: &[u8] = b"size 3 2\nfocal 2\nat -1 300 1000 9830 13107\n";
+    const ROWS: [Texel; 6] = [
+        (TEXT, 3, 1, 0, 0, (3, 3), (3, 3)),
+        (TEXT, 3, 1, 0, 1, (2, 4), (2, 4)),
+        (TEXT, 3, 1, 0, 2, (0, 5), (0, 5)),
+        (TEXT, 3, 0, 1, 0, (2, 5), (1, 2)),
+        (TEXT, 3, 0, 1, 1, (4, 0), (2, 0)),
+        (TEXT, 3, 0, 1, 2, (1, 2), (0, 1)),
+    ];
     let surface = Surface {
         width: 5,
         height: 7,
         levels: 3,
     };
-    no_row_is_wrong(&rt, "slanted", other_texel(alloc, &surface, &SLANTED));
+    no_row_is_wrong(&rt, other_texel(rt.alloc(), &surface, &ROWS));
+}
+
+// Every number as large as it can be: the column is 2^15*5889 modulo 16383, the row is -2^15*9983 modulo 16383, and both
+// are found by 2^14 being 1 there.
+#[test]
+fn the_largest_numbers_fit(rt: HostRuntime) {
+    const ROWS: [Texel; 1] = [(
+        b"size 2048 1\nfocal 4096\nat -2147483648 2147483648 16777216 16384 -16384\n",
+        2048,
+        0,
+        16,
+        0,
+        (11778, 12800),
+        (0, 0),
+    )];
     let surface = Surface {
         width: 16383,
         height: 16383,
         levels: 20,
     };
-    no_row_is_wrong(&rt, "largest", other_texel(alloc, &surface, &LARGEST));
+    no_row_is_wrong(&rt, other_texel(rt.alloc(), &surface, &ROWS));
 }

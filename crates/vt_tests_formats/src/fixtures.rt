@@ -4,11 +4,9 @@ use std::alloc::{AllocError, Global};
 use std::process::Abort;
 use vt_outside::{Fail, Fails, MemoryFolder, MemorySink, NoMemory};
 
-/// Looks that no row of a table is wrong; a failure tells the table, which is named, and the first that is.
-pub fn no_row_is_wrong(rt: &impl Abort, name: &str, wrong: Option<usize>) {
-    if let Some(row) = wrong {
-        panic!(rt; "{name}: row {row}");
-    }
+/// Looks that no row of a table is wrong; where one is, the failure names the first.
+pub fn no_row_is_wrong(rt: &impl Abort, wrong: Option<usize>) {
+    assert_eq!(rt; wrong, None);
 }
 
 /// A folder in which a name holds these bytes, and of which these calls fail.

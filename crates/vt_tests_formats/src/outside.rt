@@ -76,20 +76,20 @@ fn gives_back(alloc: Global) -> bool {
     }
 }
 
+#[test]
+fn a_list_gives_back_what_it_was_given(rt: HostRuntime) {
+    assert!(rt; gives_back(rt.alloc()));
+}
+
 // A value that may not be dropped.
 struct Kept;
 
-// Whether there is room in an empty list of what may not be dropped, which ends.
-fn ends_empty(alloc: Global) -> bool {
-    let mut list: Items<Kept> = Items::new(alloc);
+#[test]
+fn an_empty_list_of_what_may_not_be_dropped_ends(rt: HostRuntime) {
+    let mut list: Items<Kept> = Items::new(rt.alloc());
     let has_room = list.reserve(2).is_ok();
     list.destroy_empty();
-    has_room
-}
-
-#[test]
-fn a_list_gives_back_what_it_was_given(rt: HostRuntime) {
-    assert!(rt; gives_back(rt.alloc()) && ends_empty(rt.alloc()));
+    assert!(rt; has_room);
 }
 
 // What is asked of a folder in memory. The last three are of two openings of `a`, which holds `abcd`.
@@ -199,73 +199,68 @@ fn misstep(alloc: Global, calls: &[Fail], bytes: &[u8], steps: &[Step]) -> Optio
     }
 }
 
-// A name is made and added to.
-const MADE: [Step; 5] = [
-    (Asked::Creates, "a", b"", true),
-    (Asked::Holds, "a", b"", true),
-    (Asked::Appends, "a", b"one ", true),
-    (Asked::Appends, "a", b"two", true),
-    (Asked::Holds, "a", b"one two", true),
-];
+#[test]
+fn a_name_is_made_and_added_to(rt: HostRuntime) {
+    const STEPS: [Step; 5] = [
+        (Asked::Creates, "a", b"", true),
+        (Asked::Holds, "a", b"", true),
+        (Asked::Appends, "a", b"one ", true),
+        (Asked::Appends, "a", b"two", true),
+        (Asked::Holds, "a", b"one two", true),
+    ];
+    no_row_is_wrong(&rt, misstep(rt.alloc(), &[], b"old", &STEPS));
+}
 
-// A missing name is refused.
 // It is refused until it is made, and the other one stays as it is.
-const MISSING: [Step; 5] = [
-    (Asked::Appends, "b", b"x", false),
-    (Asked::Opens, "b", b"", false),
-    (Asked::HasNot, "b", b"", true),
-    (Asked::Creates, "b", b"", true),
-    (Asked::Holds, "a", b"old", true),
-];
+#[test]
+fn a_missing_name_is_refused(rt: HostRuntime) {
+    const STEPS: [Step; 5] = [
+        (Asked::Appends, "b", b"x", false),
+        (Asked::Opens, "b", b"", false),
+        (Asked::HasNot, "b", b"", true),
+        (Asked::Creates, "b", b"", true),
+        (Asked::Holds, "a", b"old", true),
+    ];
+    no_row_is_wrong(&rt, misstep(rt.alloc(), &[], b"old", &STEPS));
+}
 
-// Closed files leave their places.
 // Closed files leave their places in the order in which they are closed.
-const CLOSED: [Step; 2] = [
-    (Asked::IsReadAndClosed, "a", b"", true),
-    (Asked::WasReadInTurn, "a", b"", true),
-];
+#[test]
+fn closed_files_leave_their_places(rt: HostRuntime) {
+    const STEPS: [Step; 2] = [
+        (Asked::IsReadAndClosed, "a", b"", true),
+        (Asked::WasReadInTurn, "a", b"", true),
+    ];
+    no_row_is_wrong(&rt, misstep(rt.alloc(), &[], b"abcd", &STEPS));
+}
 
-// A folder fails at its list.
 // The second opening, the first creation and the second addition fail; of the bytes of the refused addition three of seven stay.
-const FOLDER_FAILS_AT: [Fail; 3] = [Fail::Open(1), Fail::Create(0), Fail::Append(1)];
-
-const FOLDER_FAILS: [Step; 7] = [
-    (Asked::Opens, "a", b"", true),
-    (Asked::Opens, "a", b"", false),
-    (Asked::Opens, "a", b"", true),
-    (Asked::Creates, "a", b"", false),
-    (Asked::Appends, "a", b"c", true),
-    (Asked::Appends, "a", b"defghij", false),
-    (Asked::Holds, "a", b"abcdef", true),
-];
-
-// A file fails at its list.
-const FILE_FAILS_AT: [Fail; 2] = [
-    Fail::Length { opening: 1 },
-    Fail::Read {
-        opening: 0,
-        read: 1,
-    },
-];
-
-const FILE_FAILS: [Step; 1] = [(Asked::FailsInTurn, "a", b"", true)];
+#[test]
+fn a_folder_fails_at_its_list(rt: HostRuntime) {
+    const CALLS: [Fail; 3] = [Fail::Open(1), Fail::Create(0), Fail::Append(1)];
+    const STEPS: [Step; 7] = [
+        (Asked::Opens, "a", b"", true),
+        (Asked::Opens, "a", b"", false),
+        (Asked::Opens, "a", b"", true),
+        (Asked::Creates, "a", b"", false),
+        (Asked::Appends, "a", b"c", true),
+        (Asked::Appends, "a", b"defghij", false),
+        (Asked::Holds, "a", b"abcdef", true),
+    ];
+    no_row_is_wrong(&rt, misstep(rt.alloc(), &CALLS, b"ab", &STEPS));
+}
 
 #[test]
-fn a_folder_in_memory_takes_each_step_as_told(rt: HostRuntime) {
-    let alloc = rt.alloc();
-    no_row_is_wrong(&rt, "made", misstep(alloc, &[], b"old", &MADE));
-    no_row_is_wrong(&rt, "missing", misstep(alloc, &[], b"old", &MISSING));
-    no_row_is_wrong(&rt, "closed", misstep(alloc, &[], b"abcd", &CLOSED));
-    no_row_is_wrong(
-        &rt,
-        "folder fails",
-        misstep(alloc, &FOLDER_FAILS_AT, b"ab", &FOLDER_FAILS),
-    );
-    no_row_is_wrong(
-        &rt,
-        "file fails",
-        misstep(alloc, &FILE_FAILS_AT, b"abcd", &FILE_FAILS),
-    );
+fn a_file_fails_at_its_list(rt: HostRuntime) {
+    const CALLS: [Fail; 2] = [
+        Fail::Length { opening: 1 },
+        Fail::Read {
+            opening: 0,
+            read: 1,
+        },
+    ];
+    const STEPS: [Step; 1] = [(Asked::FailsInTurn, "a", b"", true)];
+    no_row_is_wrong(&rt, misstep(rt.alloc(), &CALLS, b"abcd", &STEPS));
 }
 
 // Whether a sink of which the second put fails keeps the others, and one of the three bytes of that one.
@@ -281,15 +276,9 @@ fn keeps_what_is_put(alloc: Global) -> bool {
     }
 }
 
-// Whether a stream takes two bytes.
-fn takes_what_is_put(alloc: Global) -> bool {
-    let mut sink = RealSink::new(Vec::new(alloc));
-    puts(&mut sink, b"ab") && sink.faults() == 0
-}
-
 #[test]
 fn a_sink_keeps_what_is_put(rt: HostRuntime) {
-    assert!(rt; keeps_what_is_put(rt.alloc()) && takes_what_is_put(rt.alloc()));
+    assert!(rt; keeps_what_is_put(rt.alloc()));
     OpenGate.at(Point::Published { version: 0 });
 }
 
@@ -334,4 +323,15 @@ fn is_kept_and_removed(rt: &HostRuntime, path: &str) -> bool {
 fn real_files_keep_what_is_added(rt: HostRuntime) {
     let path = real_path(&rt).expect(&rt, "a path");
     assert!(rt; is_kept_and_removed(&rt, path.as_str()));
+}
+
+// Whether a stream takes two bytes.
+fn takes_what_is_put(alloc: Global) -> bool {
+    let mut sink = RealSink::new(Vec::new(alloc));
+    puts(&mut sink, b"ab") && sink.faults() == 0
+}
+
+#[test]
+fn a_stream_takes_what_is_put(rt: HostRuntime) {
+    assert!(rt; takes_what_is_put(rt.alloc()));
 }

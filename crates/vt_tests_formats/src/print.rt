@@ -24,16 +24,19 @@ fn ends(line: &mut Line, words: &[u8], want: &[u8]) -> bool {
     line.bytes() == want
 }
 
-// Whether two lines hold their words and numbers.
-fn hold_words_and_numbers() -> bool {
+#[test]
+fn a_line_holds_words_and_numbers(rt: HostRuntime) {
     let mut line = Line::new();
+    assert!(rt;
+        line.bytes().is_empty()
+            && gains(&mut line, b"store ", 512)
+            && gains(&mut line, b" levels ", 0)
+            && ends(&mut line, b"\n", b"store 512 levels 0\n")
+    );
     let mut full = Line::new();
-    line.bytes().is_empty()
-        && gains(&mut line, b"store ", 512)
-        && gains(&mut line, b" levels ", 0)
-        && ends(&mut line, b"\n", b"store 512 levels 0\n")
-        && gains(&mut full, b"", u64::MAX)
-        && full.bytes() == b"18446744073709551615".as_slice()
+    assert!(rt;
+        gains(&mut full, b"", u64::MAX) && full.bytes() == b"18446744073709551615".as_slice()
+    );
 }
 
 // Whether the pieces are put.
@@ -65,6 +68,11 @@ fn are_told(alloc: Global) -> bool {
     sink.bytes() == expected.as_slice()
 }
 
+#[test]
+fn a_bad_input_is_told_by_its_name_and_place(rt: HostRuntime) {
+    assert!(rt; are_told(rt.alloc()));
+}
+
 // Whether two places and a line are told without a name.
 fn are_told_without_a_name(alloc: Global) -> bool {
     let mut sink = MemorySink::new(alloc, Fails::new(alloc));
@@ -78,6 +86,11 @@ fn are_told_without_a_name(alloc: Global) -> bool {
     sink.bytes() == expected.as_slice()
 }
 
+#[test]
+fn a_place_is_told_without_a_name(rt: HostRuntime) {
+    assert!(rt; are_told_without_a_name(rt.alloc()));
+}
+
 // Whether a line of which the second put fails ends there.
 fn ends_at_a_refused_put(alloc: Global) -> bool {
     let Ok(mut sink) = sink_failing_at(alloc, 1) else {
@@ -85,6 +98,11 @@ fn ends_at_a_refused_put(alloc: Global) -> bool {
     };
     tells_bad_input(&mut sink, "abcd", &Place::words(b"bad size"));
     sink.bytes() == b"vtex: bad input: ab".as_slice()
+}
+
+#[test]
+fn the_first_refused_put_ends_a_line(rt: HostRuntime) {
+    assert!(rt; ends_at_a_refused_put(rt.alloc()));
 }
 
 // Whether pieces of which one is empty are two puts, so that the third put is that of the next piece.
@@ -100,9 +118,6 @@ fn skips_an_empty_piece(alloc: Global) -> bool {
 }
 
 #[test]
-fn lines_and_places_are_told_as_they_are_and_end_at_a_refused_put(rt: HostRuntime) {
-    let alloc = rt.alloc();
-    assert!(rt; hold_words_and_numbers());
-    assert!(rt; are_told(alloc) && are_told_without_a_name(alloc));
-    assert!(rt; ends_at_a_refused_put(alloc) && skips_an_empty_piece(alloc));
+fn a_piece_of_no_bytes_is_no_put(rt: HostRuntime) {
+    assert!(rt; skips_an_empty_piece(rt.alloc()));
 }

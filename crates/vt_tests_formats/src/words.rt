@@ -156,108 +156,123 @@ fn misread(alloc: Global, rows: &[(&str, &str)]) -> Option<usize> {
 
 /// Looks that each of these lines, which begin with the program's name, is answered by the text beside it: the name of the command and
 /// its values, a blank between any two.
-pub fn are_read(rt: &impl Abort, alloc: Global, name: &str, rows: &[(&str, &str)]) {
-    no_row_is_wrong(rt, name, misread(alloc, rows));
+pub fn are_read(rt: &impl Abort, alloc: Global, rows: &[(&str, &str)]) {
+    no_row_is_wrong(rt, misread(alloc, rows));
 }
 
-// The tile side is one of seven and else 64.
-const TILE_SIDES: [(&str, &str); 16] = [
-    ("vtex plain t p x", "plain t p x 64"),
-    ("vtex tile t s", "tile t s 64"),
-    ("vtex tile t s --tile 2", "tile t s 2"),
-    ("vtex tile t s --tile 128", "tile t s 128"),
-    ("vtex tile t s --tile 1", "usage"),
-    ("vtex tile t s --tile 129", "usage"),
-    ("vtex tile t s --tile 256", "usage"),
-    ("vtex tile t s --tile 3", "usage"),
-    ("vtex tile t s --tile 08", "usage"),
-    ("vtex tile t s --tile=", "usage"),
-    ("vtex tile t s --tile=8", "tile t s 8"),
-    ("vtex tile --tile 16 t s", "tile t s 16"),
-    ("vtex plain t --tile=32 p x", "plain t p x 32"),
-    ("vtex tile t s --tile 8 --tile 8", "usage"),
-    ("vtex tile t s --tile", "usage"),
-    ("vtex tile t s --til 8", "usage"),
-];
+#[test]
+fn the_tile_side_is_one_of_seven_and_else_64(rt: HostRuntime) {
+    const CASES: [(&str, &str); 16] = [
+        ("vtex plain t p x", "plain t p x 64"),
+        ("vtex tile t s", "tile t s 64"),
+        ("vtex tile t s --tile 2", "tile t s 2"),
+        ("vtex tile t s --tile 128", "tile t s 128"),
+        ("vtex tile t s --tile 1", "usage"),
+        ("vtex tile t s --tile 129", "usage"),
+        ("vtex tile t s --tile 256", "usage"),
+        ("vtex tile t s --tile 3", "usage"),
+        ("vtex tile t s --tile 08", "usage"),
+        ("vtex tile t s --tile=", "usage"),
+        ("vtex tile t s --tile=8", "tile t s 8"),
+        ("vtex tile --tile 16 t s", "tile t s 16"),
+        ("vtex plain t --tile=32 p x", "plain t p x 32"),
+        ("vtex tile t s --tile 8 --tile 8", "usage"),
+        ("vtex tile t s --tile", "usage"),
+        ("vtex tile t s --til 8", "usage"),
+    ];
+    are_read(&rt, rt.alloc(), &CASES);
+}
 
-// Words after two dashes are names.
-const AFTER_DASHES: [(&str, &str); 7] = [
-    ("vtex info -- --tile", "info --tile"),
-    ("vtex tile t -- --tile", "tile t --tile 64"),
-    ("vtex tile t s -- --tile 8", "usage"),
-    ("vtex tile --tile=4 -- -t -s", "tile -t -s 4"),
-    ("vtex info --", "usage"),
-    ("vtex gen 1 2 3 -- -n", "gen 1 2 3 -n"),
-    ("vtex upgrade -- -s --t", "upgrade -s --t"),
-];
+#[test]
+fn words_after_two_dashes_are_names(rt: HostRuntime) {
+    const CASES: [(&str, &str); 7] = [
+        ("vtex info -- --tile", "info --tile"),
+        ("vtex tile t -- --tile", "tile t --tile 64"),
+        ("vtex tile t s -- --tile 8", "usage"),
+        ("vtex tile --tile=4 -- -t -s", "tile -t -s 4"),
+        ("vtex info --", "usage"),
+        ("vtex gen 1 2 3 -- -n", "gen 1 2 3 -n"),
+        ("vtex upgrade -- -s --t", "upgrade -s --t"),
+    ];
+    are_read(&rt, rt.alloc(), &CASES);
+}
 
-// Each command has its words and no more.
-const COMMANDS: [(&str, &str); 28] = [
-    ("vtex", "usage"),
-    ("vtex ", "usage"),
-    ("vtex walk s p x", "walk s p x journal.txt 64 4 3 64 1"),
-    ("vtex walk s p", "usage"),
-    ("vtex trial 1", "trial 1"),
-    ("vtex replay s p j x", "replay s p j x"),
-    ("vtex replay s p j", "usage"),
-    ("vtex Plain t p x", "usage"),
-    ("vtex plain t p", "usage"),
-    ("vtex plain t p x y", "usage"),
-    ("vtex plain   ", "plain    64"),
-    ("vtex plain -t p x", "usage"),
-    ("vtex tile t", "usage"),
-    ("vtex tile t s u", "usage"),
-    ("vtex tile - s", "tile - s 64"),
-    ("vtex info", "usage"),
-    ("vtex info s u", "usage"),
-    ("vtex info -5", "usage"),
-    ("vtex info help", "info help"),
-    ("vtex info --help", "usage"),
-    ("vtex info s -h", "usage"),
-    ("vtex info s --version", "usage"),
-    ("vtex info s --tile 8", "usage"),
-    ("vtex upgrade s n", "upgrade s n"),
-    ("vtex upgrade", "usage"),
-    ("vtex upgrade s", "usage"),
-    ("vtex upgrade s n m", "usage"),
-    ("vtex upgrade s n --tile 8", "usage"),
-];
+#[test]
+fn each_command_has_its_words_and_no_more(rt: HostRuntime) {
+    const CASES: [(&str, &str); 28] = [
+        ("vtex", "usage"),
+        ("vtex ", "usage"),
+        ("vtex walk s p x", "walk s p x journal.txt 64 4 3 64 1"),
+        ("vtex walk s p", "usage"),
+        ("vtex trial 1", "trial 1"),
+        ("vtex replay s p j x", "replay s p j x"),
+        ("vtex replay s p j", "usage"),
+        ("vtex Plain t p x", "usage"),
+        ("vtex plain t p", "usage"),
+        ("vtex plain t p x y", "usage"),
+        ("vtex plain   ", "plain    64"),
+        ("vtex plain -t p x", "usage"),
+        ("vtex tile t", "usage"),
+        ("vtex tile t s u", "usage"),
+        ("vtex tile - s", "tile - s 64"),
+        ("vtex info", "usage"),
+        ("vtex info s u", "usage"),
+        ("vtex info -5", "usage"),
+        ("vtex info help", "info help"),
+        ("vtex info --help", "usage"),
+        ("vtex info s -h", "usage"),
+        ("vtex info s --version", "usage"),
+        ("vtex info s --tile 8", "usage"),
+        ("vtex upgrade s n", "upgrade s n"),
+        ("vtex upgrade", "usage"),
+        ("vtex upgrade s", "usage"),
+        ("vtex upgrade s n m", "usage"),
+        ("vtex upgrade s n --tile 8", "usage"),
+    ];
+    are_read(&rt, rt.alloc(), &CASES);
+}
 
-// The numbers of gen have bounds.
-const GEN_NUMBERS: [(&str, &str); 14] = [
-    ("vtex gen 0 1 1 n", "gen 0 1 1 n"),
-    ("vtex gen 65535 8192 8192 n", "gen 65535 8192 8192 n"),
-    ("vtex gen 65536 1 1 n", "usage"),
-    ("vtex gen -1 1 1 n", "usage"),
-    ("vtex gen -- -1 1 1 n", "usage"),
-    ("vtex gen 0 0 1 n", "usage"),
-    ("vtex gen 0 8193 1 n", "usage"),
-    ("vtex gen 0 1 0 n", "usage"),
-    ("vtex gen 0 1 8193 n", "usage"),
-    ("vtex gen  1 1 n", "usage"),
-    ("vtex gen +1 1 1 n", "usage"),
-    ("vtex gen 1 1 n", "usage"),
-    ("vtex gen 1 1 1 n m", "usage"),
-    ("vtex gen 1 1 1 n --tile 8", "usage"),
-];
+#[test]
+fn the_numbers_of_gen_have_bounds(rt: HostRuntime) {
+    const CASES: [(&str, &str); 14] = [
+        ("vtex gen 0 1 1 n", "gen 0 1 1 n"),
+        ("vtex gen 65535 8192 8192 n", "gen 65535 8192 8192 n"),
+        ("vtex gen 65536 1 1 n", "usage"),
+        ("vtex gen -1 1 1 n", "usage"),
+        ("vtex gen -- -1 1 1 n", "usage"),
+        ("vtex gen 0 0 1 n", "usage"),
+        ("vtex gen 0 8193 1 n", "usage"),
+        ("vtex gen 0 1 0 n", "usage"),
+        ("vtex gen 0 1 8193 n", "usage"),
+        ("vtex gen  1 1 n", "usage"),
+        ("vtex gen +1 1 1 n", "usage"),
+        ("vtex gen 1 1 n", "usage"),
+        ("vtex gen 1 1 1 n m", "usage"),
+        ("vtex gen 1 1 1 n --tile 8", "usage"),
+    ];
+    are_read(&rt, rt.alloc(), &CASES);
+}
 
-// A name is not both read and written.
-const NAMES: [(&str, &str); 11] = [
-    ("vtex tile a a", "usage"),
-    ("vtex tile a ./a", "tile a ./a 64"),
-    ("vtex plain x0000.ppm p x", "usage"),
-    ("vtex plain t x9999.ppm x", "usage"),
-    (
-        "vtex plain x10000.ppm x000.ppm x",
-        "plain x10000.ppm x000.ppm x 64",
-    ),
-    ("vtex plain 0001.ppm p ", "usage"),
-    ("vtex plain y0001.ppm p x", "plain y0001.ppm p x 64"),
-    ("vtex plain a a a", "plain a a a 64"),
-    ("vtex upgrade a a", "usage"),
-    ("vtex upgrade a ./a", "upgrade a ./a"),
-    ("vtex upgrade  ", "usage"),
-];
+#[test]
+fn a_name_is_not_both_read_and_written(rt: HostRuntime) {
+    const CASES: [(&str, &str); 11] = [
+        ("vtex tile a a", "usage"),
+        ("vtex tile a ./a", "tile a ./a 64"),
+        ("vtex plain x0000.ppm p x", "usage"),
+        ("vtex plain t x9999.ppm x", "usage"),
+        (
+            "vtex plain x10000.ppm x000.ppm x",
+            "plain x10000.ppm x000.ppm x 64",
+        ),
+        ("vtex plain 0001.ppm p ", "usage"),
+        ("vtex plain y0001.ppm p x", "plain y0001.ppm p x 64"),
+        ("vtex plain a a a", "plain a a a 64"),
+        ("vtex upgrade a a", "usage"),
+        ("vtex upgrade a ./a", "upgrade a ./a"),
+        ("vtex upgrade  ", "usage"),
+    ];
+    are_read(&rt, rt.alloc(), &CASES);
+}
 
 // Whether a picture of this prefix has this name.
 fn is_named(alloc: Global, prefix: &str, picture: u32, want: &str) -> bool {
@@ -270,21 +285,12 @@ fn is_named(alloc: Global, prefix: &str, picture: u32, want: &str) -> bool {
     }
 }
 
-// A picture has four digits.
-fn have_four_digits(alloc: Global) -> bool {
-    is_picture_name("a/", "a/0730.ppm")
-        && !is_picture_name("a/", "a/0730.pp")
-        && !is_picture_name("a/", "a/073:.ppm")
-        && is_named(alloc, "a/", 73, "a/0073.ppm")
-}
-
 #[test]
-fn each_line_is_read_as_its_command(rt: HostRuntime) {
-    let alloc = rt.alloc();
-    are_read(&rt, alloc, "tile sides", &TILE_SIDES);
-    are_read(&rt, alloc, "after dashes", &AFTER_DASHES);
-    are_read(&rt, alloc, "commands", &COMMANDS);
-    are_read(&rt, alloc, "gen numbers", &GEN_NUMBERS);
-    are_read(&rt, alloc, "names", &NAMES);
-    assert!(rt; have_four_digits(alloc));
+fn a_picture_has_four_digits(rt: HostRuntime) {
+    assert!(rt;
+        is_picture_name("a/", "a/0730.ppm")
+            && !is_picture_name("a/", "a/0730.pp")
+            && !is_picture_name("a/", "a/073:.ppm")
+            && is_named(rt.alloc(), "a/", 73, "a/0073.ppm")
+    );
 }

@@ -71,6 +71,18 @@ fn is_drawn(alloc: Global, least: u32, depth: u32, samples: &[u8]) -> bool
     &*picture == samples && counts == [8, 7, 8, 7, 7]
 }
 
+#[test]
+fn an_unmapped_page_is_served_by_its_ancestor(rt: HostRuntime) {
+    const COARSE: [u8; 6] = [0x0b, 0x0b, 0x0b, 0x03, 0x03, 0x03];
+    holds(&rt, is_drawn(rt.alloc(), 0, 1, &NARROW_PICTURE));
+    holds(&rt, is_drawn(rt.alloc(), 1, 1, &COARSE));
+}
+
+#[test]
+fn wide_samples_have_their_high_byte_first(rt: HostRuntime) {
+    holds(&rt, is_drawn(rt.alloc(), 0, 2, &WIDE_PICTURE));
+}
+
 // The plain picture of a texture of four columns and rows.
 fn plain_of(alloc: Global, depth: u32, texture: &[u8]) -> Option<Vec<u8>> {
     let path = path_of(alloc)?;
@@ -87,14 +99,11 @@ fn is_drawn_plain(alloc: Global, depth: u32, texture: &[u8], samples: &[u8]) -> 
     }
 }
 
-// The root alone.
-const COARSE: [u8; 6] = [0x0b, 0x0b, 0x0b, 0x03, 0x03, 0x03];
-
 #[test]
-fn an_unmapped_page_is_served_by_its_ancestor_at_either_depth(rt: HostRuntime) {
-    let alloc = rt.alloc();
-    holds(&rt, is_drawn(alloc, 1, 1, &COARSE));
-    holds(&rt, is_drawn(alloc, 0, 2, &WIDE_PICTURE));
-    holds(&rt, is_drawn_plain(alloc, 1, &FOUR, &NARROW_PICTURE));
-    holds(&rt, is_drawn_plain(alloc, 2, &WIDE_FOUR, &WIDE_PICTURE));
+fn the_plain_picture_shows_the_chain_at_either_depth(rt: HostRuntime) {
+    holds(&rt, is_drawn_plain(rt.alloc(), 1, &FOUR, &NARROW_PICTURE));
+    holds(
+        &rt,
+        is_drawn_plain(rt.alloc(), 2, &WIDE_FOUR, &WIDE_PICTURE),
+    );
 }

@@ -40,13 +40,6 @@ pub fn holds(rt: &impl Abort, it: bool) {
     assert!(rt; it);
 }
 
-/// Looks that no row of a table is wrong; a failure tells the table, which is named, and the first that is.
-pub fn no_row_is_wrong(rt: &impl Abort, name: &str, wrong: Option<usize>) {
-    if let Some(row) = wrong {
-        panic!(rt; "{name}: row {row}");
-    }
-}
-
 /// A place that was read.
 pub fn place(at: u64, len: u64) -> Place {
     Place {

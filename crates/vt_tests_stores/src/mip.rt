@@ -4,7 +4,7 @@ mod strips;
 
 ghost use Rattle.vt_definitions.specs.Tiles.{IsTileSide};
 
-use crate::fixtures::{FIVE_BY_THREE, FOUR, holds, image_of, no_row_is_wrong};
+use crate::fixtures::{FIVE_BY_THREE, FOUR, holds, image_of};
 use std::alloc::Global;
 use vt_mip::Chain;
 
@@ -98,19 +98,9 @@ fn is_halved(alloc: Global, want: &Halved) -> bool {
     }
 }
 
-// The first of these textures that is halved otherwise.
-fn mishalved(alloc: Global, rows: &[Halved]) -> Option<usize> {
-    for i in 0..rows.len() {
-        if !is_halved(alloc, &rows[i]) {
-            return Some(i);
-        }
-    }
-    None
-}
-
-static HALVED: [Halved; 4] = [
-    // A texture of four by four is halved once.
-    Halved {
+#[test]
+fn a_texture_of_four_by_four_is_halved_once(rt: HostRuntime) {
+    const HALVED: Halved = Halved {
         depth: 1,
         samples: &FOUR,
         sizes: &[(4, 4), (2, 2)],
@@ -121,9 +111,13 @@ static HALVED: [Halved; 4] = [
         ],
         rows: &[(1, 1, &[11, 11, 11, 13, 13, 13])],
         last: &[3, 3, 3, 5, 5, 5, 11, 11, 11, 13, 13, 13],
-    },
-    // Odd last columns and rows count twice.
-    Halved {
+    };
+    holds(&rt, is_halved(rt.alloc(), &HALVED));
+}
+
+#[test]
+fn odd_last_columns_and_rows_count_twice(rt: HostRuntime) {
+    const HALVED: Halved = Halved {
         depth: 1,
         samples: &FIVE_BY_THREE,
         sizes: &[(5, 3), (3, 2), (2, 1)],
@@ -134,9 +128,13 @@ static HALVED: [Halved; 4] = [
             (2, 0, &[15, 15, 15, 17, 17, 17]),
         ],
         last: &[15, 15, 15, 17, 17, 17],
-    },
-    // A half counts up and channels stay apart.
-    Halved {
+    };
+    holds(&rt, is_halved(rt.alloc(), &HALVED));
+}
+
+#[test]
+fn a_half_counts_up_and_channels_stay_apart(rt: HostRuntime) {
+    const HALVED: Halved = Halved {
         depth: 1,
         samples: &[
             0, 10, 20, 1, 11, 21, 0, 10, 20, 0, 10, 20, 2, 12, 22, 3, 13, 23, 0, 10, 20, 1, 11, 21,
@@ -145,9 +143,13 @@ static HALVED: [Halved; 4] = [
         words: &[],
         rows: &[(1, 0, &[2, 12, 22, 0, 10, 20])],
         last: &[2, 12, 22, 0, 10, 20],
-    },
-    // Two byte samples are boxed as numbers.
-    Halved {
+    };
+    holds(&rt, is_halved(rt.alloc(), &HALVED));
+}
+
+#[test]
+fn two_byte_samples_are_boxed_as_numbers(rt: HostRuntime) {
+    const HALVED: Halved = Halved {
         depth: 2,
         samples: &[
             0x00, 0x00, 0x00, 0x00, 0xff, 0xff, 0x00, 0x00, 0x00, 0x01, 0xff, 0xff, 0x9c, 0x40,
@@ -165,8 +167,9 @@ static HALVED: [Halved; 4] = [
         last: &[
             0x00, 0x00, 0x00, 0x02, 0xff, 0xff, 0xaf, 0xc8, 0x01, 0x01, 0x40, 0x00,
         ],
-    },
-];
+    };
+    holds(&rt, is_halved(rt.alloc(), &HALVED));
+}
 
 // A texture of two rows of 70 columns, in samples of one byte: its column's number.
 fn narrow_columns() -> [u8; 420] {
@@ -201,21 +204,13 @@ fn is_stepped(alloc: Global, depth: u32, samples: &[u8], first: u64, step: u64) 
     has_sizes(&chain, &[(70, 2), (35, 1)])
 }
 
-// Whether long rows are halved like short ones, at either depth.
-fn are_stepped(alloc: Global) -> bool {
-    is_stepped(alloc, 1, &narrow_columns(), 0x010101, 0x020202)
-        && is_stepped(
-            alloc,
-            2,
-            &wide_columns(),
-            0x8001_8001_8001,
-            0x0002_0002_0002,
-        )
-}
-
 #[test]
-fn textures_are_halved_to_their_chains(rt: HostRuntime) {
-    let alloc = rt.alloc();
-    no_row_is_wrong(&rt, "halved", mishalved(alloc, &HALVED));
-    holds(&rt, are_stepped(alloc));
+fn long_rows_are_halved_like_short_ones(rt: HostRuntime) {
+    let narrow = narrow_columns();
+    holds(&rt, is_stepped(rt.alloc(), 1, &narrow, 0x010101, 0x020202));
+    let wide = wide_columns();
+    holds(
+        &rt,
+        is_stepped(rt.alloc(), 2, &wide, 0x8001_8001_8001, 0x0002_0002_0002),
+    );
 }

@@ -6,7 +6,7 @@ mod strips;
 
 ghost use Rattle.vt_definitions.specs.Depths.{IsDepth};
 
-use crate::fixtures::{FIVE_BY_THREE, FOUR, folder_of, holds, no_row_is_wrong};
+use crate::fixtures::{FIVE_BY_THREE, FOUR, folder_of, holds, place};
 use crate::store::making::{
     FIVE_BY_THREE_STORE, STORE_G4, Texture, WIDE_G4, opened, store_in, widened, written,
 };
@@ -97,6 +97,22 @@ const G4: Texture = Texture {
     samples: &FOUR,
 };
 
+#[test]
+fn a_store_is_written_and_read_tile_by_tile(rt: HostRuntime) {
+    const TILE: Place = Place {
+        at: 28,
+        len: 12,
+        failed: false,
+    };
+    const MADE: Made = Made {
+        bytes: &STORE_G4,
+        opened: (4, 4, 2, 1),
+        tiles: &[(1, [2, 2, 2, 3, 3, 3, 6, 6, 6, 7, 7, 7])],
+        places: &[HEADER, HEADER, TILE],
+    };
+    holds(&rt, is_written(rt.alloc(), &G4, &MADE));
+}
+
 // Whether the store of 5 by 3 texels in tiles of side 2 has this length at a depth, and a tile that one, and whether three tiles
 // lie side by side at the first level.
 fn has_lengths(depth: u32, store: u64, tile: usize) -> bool
@@ -111,6 +127,90 @@ fn has_lengths(depth: u32, store: u64, tile: usize) -> bool
         }
         Err(_) => false,
     }
+}
+
+#[test]
+fn a_geometry_tells_the_lengths_of_its_store(rt: HostRuntime) {
+    holds(&rt, has_lengths(1, 124, 12));
+    holds(&rt, has_lengths(2, 232, 24));
+}
+
+#[test]
+fn one_texel_fills_a_tile(rt: HostRuntime) {
+    const TEXTURE: Texture = Texture {
+        depth: 1,
+        size: (1, 1),
+        samples: &[10, 20, 30],
+    };
+    const MADE: Made = Made {
+        bytes: &[
+            0x56, 0x54, 0x53, 0x31, 0, 0, 0, 1, 0, 0, 0, 1, 0, 0, 0, 2, 10, 20, 30, 10, 20, 30, 10,
+            20, 30, 10, 20, 30,
+        ],
+        opened: (1, 1, 2, 1),
+        tiles: &[],
+        places: &[HEADER],
+    };
+    holds(&rt, is_written(rt.alloc(), &TEXTURE, &MADE));
+}
+
+#[test]
+fn a_store_of_two_byte_samples_has_twice_as_many_bytes_a_texel(rt: HostRuntime) {
+    const TEXTURE: Texture = Texture {
+        depth: 2,
+        size: (1, 1),
+        samples: &[0, 1, 0x80, 0, 0xff, 0xff],
+    };
+    const MADE: Made = Made {
+        bytes: &[
+            0x56, 0x54, 0x53, 0x32, 0, 0, 0, 1, 0, 0, 0, 1, 0, 0, 0, 2, 0, 1, 0x80, 0, 0xff, 0xff,
+            0, 1, 0x80, 0, 0xff, 0xff, 0, 1, 0x80, 0, 0xff, 0xff, 0, 1, 0x80, 0, 0xff, 0xff,
+        ],
+        opened: (1, 1, 2, 2),
+        tiles: &[],
+        places: &[HEADER],
+    };
+    holds(&rt, is_written(rt.alloc(), &TEXTURE, &MADE));
+}
+
+#[test]
+fn past_the_edge_the_last_texel_stands_again(rt: HostRuntime) {
+    const TEXTURE: Texture = Texture {
+        depth: 1,
+        size: (5, 3),
+        samples: &FIVE_BY_THREE,
+    };
+    const MADE: Made = Made {
+        bytes: &FIVE_BY_THREE_STORE,
+        opened: (5, 3, 2, 1),
+        tiles: &[
+            (2, [4, 4, 4, 4, 4, 4, 14, 14, 14, 14, 14, 14]),
+            (5, [24, 24, 24, 24, 24, 24, 24, 24, 24, 24, 24, 24]),
+            (8, [15, 15, 15, 17, 17, 17, 15, 15, 15, 17, 17, 17]),
+        ],
+        places: &[
+            HEADER,
+            HEADER,
+            Place {
+                at: 40,
+                len: 12,
+                failed: false,
+            },
+            HEADER,
+            Place {
+                at: 76,
+                len: 12,
+                failed: false,
+            },
+            HEADER,
+            Place {
+                at: 112,
+                len: 12,
+                failed: false,
+            },
+        ],
+    };
+    holds(&rt, is_written(rt.alloc(), &TEXTURE, &MADE));
 }
 
 // Whether the opening of the store that `a` holds fails.
@@ -139,6 +239,20 @@ fn fails_four_times(alloc: Global, calls: &[Fail]) -> bool {
     }
 }
 
+#[test]
+fn a_fault_leaves_a_front_part_of_the_store(rt: HostRuntime) {
+    const CALLS: [Fail; 4] = [
+        Fail::Length { opening: 0 },
+        Fail::Read {
+            opening: 1,
+            read: 0,
+        },
+        Fail::Append(2),
+        Fail::Create(1),
+    ];
+    holds(&rt, fails_four_times(rt.alloc(), &CALLS));
+}
+
 // Whether a store is widened to that one and is still held, and was asked for these places and no others.
 fn is_widened(alloc: Global, bytes: &[u8], want: &Made, places: &[Place]) -> bool {
     match folder_of(alloc, &[], bytes) {
@@ -158,6 +272,38 @@ const WIDE_MADE: Made = Made {
     tiles: &[],
     places: &[HEADER],
 };
+
+#[test]
+fn a_widened_store_has_each_sample_times_257(rt: HostRuntime) {
+    let places = [HEADER, place(16, 24), place(40, 24), place(64, 12)];
+    holds(&rt, is_widened(rt.alloc(), &STORE_G4, &WIDE_MADE, &places));
+    holds(&rt, WIDE_G4[22..28] == [1, 1, 1, 1, 1, 1]);
+}
+
+#[test]
+fn a_store_is_widened_in_pieces_that_are_read_once(rt: HostRuntime) {
+    let places = [HEADER, place(16, 24), place(40, 24), place(64, 12)];
+    holds(&rt, is_widened(rt.alloc(), &STORE_G4, &WIDE_MADE, &places));
+}
+
+#[test]
+fn a_widened_store_has_the_last_texel_past_the_edge_whatever_stood_there(rt: HostRuntime) {
+    const NARROW: [u8; 28] = [
+        0x56, 0x54, 0x53, 0x31, 0, 0, 0, 1, 0, 0, 0, 1, 0, 0, 0, 2, 10, 20, 30, 1, 2, 3, 4, 5, 6,
+        7, 8, 9,
+    ];
+    const MADE: Made = Made {
+        bytes: &[
+            0x56, 0x54, 0x53, 0x32, 0, 0, 0, 1, 0, 0, 0, 1, 0, 0, 0, 2, 10, 10, 20, 20, 30, 30, 10,
+            10, 20, 20, 30, 30, 10, 10, 20, 20, 30, 30, 10, 10, 20, 20, 30, 30,
+        ],
+        opened: (1, 1, 2, 2),
+        tiles: &[],
+        places: &[HEADER],
+    };
+    let places = [HEADER, place(16, 12)];
+    holds(&rt, is_widened(rt.alloc(), &NARROW, &MADE, &places));
+}
 
 // Whether `b` holds so many bytes of the wide store, or is not there where there is no number.
 fn is_left(folder: &MemoryFolder, left: Option<usize>) -> bool {
@@ -179,6 +325,41 @@ fn leaves(alloc: Global, call: Fail, left: Option<usize>) -> bool {
     }
 }
 
+#[test]
+fn each_fault_of_a_widening_leaves_a_front_part(rt: HostRuntime) {
+    const ROWS: [(Fail, Option<usize>); 8] = [
+        (Fail::Append(0), Some(8)),
+        (
+            Fail::Read {
+                opening: 0,
+                read: 1,
+            },
+            Some(16),
+        ),
+        (Fail::Append(1), Some(40)),
+        (
+            Fail::Read {
+                opening: 0,
+                read: 2,
+            },
+            Some(64),
+        ),
+        (Fail::Append(2), Some(88)),
+        (
+            Fail::Read {
+                opening: 0,
+                read: 3,
+            },
+            Some(112),
+        ),
+        (Fail::Append(3), Some(124)),
+        (Fail::Create(0), None),
+    ];
+    for (call, left) in &ROWS {
+        holds(&rt, leaves(rt.alloc(), *call, *left));
+    }
+}
+
 // How many stores a new list of stores has.
 fn new_list_length(alloc: Global) -> usize {
     let stores: Stores<MemoryFile> = Stores::new(alloc);
@@ -187,209 +368,7 @@ fn new_list_length(alloc: Global) -> usize {
     length
 }
 
-// A tile of one-byte samples.
-const TILE_1: Place = Place {
-    at: 28,
-    len: 12,
-    failed: false,
-};
-
-static WRITTEN: [(Texture, Made); 4] = [
-    // A store is written and read tile by tile.
-    (
-        G4,
-        Made {
-            bytes: &STORE_G4,
-            opened: (4, 4, 2, 1),
-            tiles: &[(1, [2, 2, 2, 3, 3, 3, 6, 6, 6, 7, 7, 7])],
-            places: &[HEADER, HEADER, TILE_1],
-        },
-    ),
-    // One texel fills a tile.
-    (
-        Texture {
-            depth: 1,
-            size: (1, 1),
-            samples: &[10, 20, 30],
-        },
-        Made {
-            bytes: &[
-                0x56, 0x54, 0x53, 0x31, 0, 0, 0, 1, 0, 0, 0, 1, 0, 0, 0, 2, 10, 20, 30, 10, 20, 30,
-                10, 20, 30, 10, 20, 30,
-            ],
-            opened: (1, 1, 2, 1),
-            tiles: &[],
-            places: &[HEADER],
-        },
-    ),
-    // A store of two byte samples has twice as many bytes a texel.
-    (
-        Texture {
-            depth: 2,
-            size: (1, 1),
-            samples: &[0, 1, 0x80, 0, 0xff, 0xff],
-        },
-        Made {
-            bytes: &[
-                0x56, 0x54, 0x53, 0x32, 0, 0, 0, 1, 0, 0, 0, 1, 0, 0, 0, 2, 0, 1, 0x80, 0, 0xff,
-                0xff, 0, 1, 0x80, 0, 0xff, 0xff, 0, 1, 0x80, 0, 0xff, 0xff, 0, 1, 0x80, 0, 0xff,
-                0xff,
-            ],
-            opened: (1, 1, 2, 2),
-            tiles: &[],
-            places: &[HEADER],
-        },
-    ),
-    // Past the edge the last texel stands again.
-    (
-        Texture {
-            depth: 1,
-            size: (5, 3),
-            samples: &FIVE_BY_THREE,
-        },
-        Made {
-            bytes: &FIVE_BY_THREE_STORE,
-            opened: (5, 3, 2, 1),
-            tiles: &[
-                (2, [4, 4, 4, 4, 4, 4, 14, 14, 14, 14, 14, 14]),
-                (5, [24, 24, 24, 24, 24, 24, 24, 24, 24, 24, 24, 24]),
-                (8, [15, 15, 15, 17, 17, 17, 15, 15, 15, 17, 17, 17]),
-            ],
-            places: &[
-                HEADER,
-                HEADER,
-                Place { at: 40, ..TILE_1 },
-                HEADER,
-                Place { at: 76, ..TILE_1 },
-                HEADER,
-                Place { at: 112, ..TILE_1 },
-            ],
-        },
-    ),
-];
-
-// The first of these textures that makes another store.
-fn miswritten(alloc: Global, rows: &[(Texture, Made)]) -> Option<usize> {
-    for i in 0..rows.len() {
-        let (texture, made) = &rows[i];
-        if !is_written(alloc, texture, made) {
-            return Some(i);
-        }
-    }
-    None
-}
-
-// The calls that fail of two openings and two writings.
-const CALLS: [Fail; 4] = [
-    Fail::Length { opening: 0 },
-    Fail::Read {
-        opening: 1,
-        read: 0,
-    },
-    Fail::Append(2),
-    Fail::Create(1),
-];
-
 #[test]
-fn stores_are_written_and_read(rt: HostRuntime) {
-    let alloc = rt.alloc();
-    no_row_is_wrong(&rt, "written", miswritten(alloc, &WRITTEN));
-    holds(&rt, fails_four_times(alloc, &CALLS));
-    holds(&rt, has_lengths(1, 124, 12) && has_lengths(2, 232, 24));
-    holds(&rt, new_list_length(alloc) == 0);
-}
-
-// The store of one texel, past whose edge other bytes stand.
-const NARROW: [u8; 28] = [
-    0x56, 0x54, 0x53, 0x31, 0, 0, 0, 1, 0, 0, 0, 1, 0, 0, 0, 2, 10, 20, 30, 1, 2, 3, 4, 5, 6, 7, 8,
-    9,
-];
-
-// The store that it is widened to: past the edge the last texel stands again.
-const WIDE_TEXEL: Made = Made {
-    bytes: &[
-        0x56, 0x54, 0x53, 0x32, 0, 0, 0, 1, 0, 0, 0, 1, 0, 0, 0, 2, 10, 10, 20, 20, 30, 30, 10, 10,
-        20, 20, 30, 30, 10, 10, 20, 20, 30, 30, 10, 10, 20, 20, 30, 30,
-    ],
-    opened: (1, 1, 2, 2),
-    tiles: &[],
-    places: &[HEADER],
-};
-
-// The calls of a widening that fail, and how much each leaves.
-const LEFT: [(Fail, Option<usize>); 8] = [
-    (Fail::Append(0), Some(8)),
-    (
-        Fail::Read {
-            opening: 0,
-            read: 1,
-        },
-        Some(16),
-    ),
-    (Fail::Append(1), Some(40)),
-    (
-        Fail::Read {
-            opening: 0,
-            read: 2,
-        },
-        Some(64),
-    ),
-    (Fail::Append(2), Some(88)),
-    (
-        Fail::Read {
-            opening: 0,
-            read: 3,
-        },
-        Some(112),
-    ),
-    (Fail::Append(3), Some(124)),
-    (Fail::Create(0), None),
-];
-
-// The first of these calls that leaves otherwise.
-fn misleft(alloc: Global, rows: &[(Fail, Option<usize>)]) -> Option<usize> {
-    for i in 0..rows.len() {
-        let (call, left) = rows[i];
-        if !leaves(alloc, call, left) {
-            return Some(i);
-        }
-    }
-    None
-}
-
-// Each sample of a widened store is its byte twice, and each piece is read once.
-static PIECES: [Place; 4] = [
-    HEADER,
-    Place {
-        at: 16,
-        len: 24,
-        failed: false,
-    },
-    Place {
-        at: 40,
-        len: 24,
-        failed: false,
-    },
-    Place {
-        at: 64,
-        len: 12,
-        failed: false,
-    },
-];
-
-static TEXEL_PIECES: [Place; 2] = [
-    HEADER,
-    Place {
-        at: 16,
-        len: 12,
-        failed: false,
-    },
-];
-
-#[test]
-fn stores_are_widened(rt: HostRuntime) {
-    let alloc = rt.alloc();
-    holds(&rt, is_widened(alloc, &STORE_G4, &WIDE_MADE, &PIECES));
-    holds(&rt, is_widened(alloc, &NARROW, &WIDE_TEXEL, &TEXEL_PIECES));
-    no_row_is_wrong(&rt, "left", misleft(alloc, &LEFT));
+fn a_new_list_of_stores_is_empty(rt: HostRuntime) {
+    holds(&rt, new_list_length(rt.alloc()) == 0);
 }

@@ -1,6 +1,6 @@
 //! Tables of cases: what stands in a folder in memory before, what is done, and what is to come of it.
 
-use crate::pass::pass_comes;
+use crate::pass::worked::{Passes, passes_come};
 use crate::replay::{Replay, replay_comes};
 use crate::walk::worked::{Walk, walk_comes};
 use std::alloc::Global;
@@ -15,8 +15,7 @@ use vt_outside::{Fail, Fails, MemoryFolder, NoMemory};
 pub enum Deed<'a> {
     Walk(Walk<'a>),
     Replay(Replay<'a>),
-    /// A pass of a kit over a table that maps the root, which loads nothing.
-    Pass,
+    Passes(Passes<'a>),
 }
 
 /// A row of a table. In the folder the name `s` holds the store and the name `p` the path, which are to stay.
@@ -52,7 +51,7 @@ fn comes<Rt: Abort + Threads + Wait + Sync>(
     match &case.deed {
         Deed::Walk(walk) => walk_comes(rt, alloc, folder, path, case.fails, walk),
         Deed::Replay(replay) => replay_comes(rt, alloc, folder, path, replay),
-        Deed::Pass => pass_comes(rt, alloc, folder, path),
+        Deed::Passes(passes) => passes_come(rt, alloc, folder, path, passes),
     }
 }
 
@@ -82,14 +81,9 @@ fn holds<Rt: Abort + Threads + Wait + Sync>(rt: &Rt, alloc: Global, case: &Case<
     }
 }
 
-/// Looks whether each case of a table comes out; a failure tells the table, which is named, and the number of the first that does not.
-pub fn check<Rt: Abort + Threads + Wait + Sync>(
-    rt: &Rt,
-    alloc: Global,
-    name: &str,
-    cases: &[Case<'_>],
-) {
+/// Looks whether each case of a table comes out.
+pub fn check<Rt: Abort + Threads + Wait + Sync>(rt: &Rt, alloc: Global, cases: &[Case<'_>]) {
     for i in 0..cases.len() {
-        assert!(rt; holds(rt, alloc, &cases[i]), "{name}: case {i}");
+        assert!(rt; holds(rt, alloc, &cases[i]), "case {i}");
     }
 }

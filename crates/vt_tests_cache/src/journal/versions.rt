@@ -16,3 +16,18 @@ pub fn one_map(alloc: Global) -> Result<Journal, NoMemory>
     journal.push(Change::Map { page: 4, frame: 0 });
     Ok(journal)
 }
+
+// Whether the journal of one change has that change.
+fn has_one_version(alloc: Global) -> bool {
+    match one_map(alloc) {
+        Ok(journal) => journal.version() == 1
+            && journal.change(1) == Change::Map { page: 4, frame: 0 },
+        Err(_) => false,
+    }
+}
+
+#[test]
+fn changes_make_the_versions_of_a_journal(rt: HostRuntime) {
+    let empty = Journal::new(rt.alloc());
+    assert!(rt; empty.version() == 0 && has_one_version(rt.alloc()));
+}

@@ -1,4 +1,4 @@
-//! Journals that are read, and written again from what was read.
+//! Journals that are written from what they tell, and read again.
 
 ghost use Rattle.std.specs.Prelude.{All};
 ghost use Rattle.std.specs.Bool.{MatchBool};
@@ -6,21 +6,21 @@ ghost use Rattle.vt_journal.specs.JournalText.{IsEventInChain};
 
 use super::versions::one_map;
 use super::{LOST_TILE, SETTLED};
-use crate::checks::no_row_is_wrong;
 use std::alloc::Global;
 use vt_journal::{
-    Change, Event, Journal, JournalText, PassText, RowLine, add_pass, parse_journal, write_head,
-    write_pass,
+    Change, Event, Events, Journal, JournalText, PassText, RowLine, RowLines, add_pass,
+    parse_journal, write_head, write_pass,
 };
 use vt_outside::NoMemory;
 use vt_pages::Geometry;
 
-// A journal of four passes that is read and written: its text, its changes, and what its last pass tells.
-struct Written {
-    text: &'static str,
-    changes: &'static [Change],
+// What a pass of one row tells, which sampler 0 drew.
+struct Told {
+    pass: u32,
     picture: u32,
+    start: u64,
     events: &'static [Event],
+    version: u64,
 }
 
 // Whether the page that an event names is in the chain.
@@ -46,6 +46,15 @@ fn are_in_chain(geometry: &Geometry, events: &[Event]) -> bool
     true
 }
 
+// The row of a pass.
+fn row_of(told: &Told) -> RowLine {
+    RowLine {
+        row: 0,
+        sampler: 0,
+        version: told.version,
+    }
+}
+
 // The text of the one pinned page.
 fn head_text(alloc: Global, geometry: &Geometry) -> Result<Vec<u8>, NoMemory> {
     let journal = one_map(alloc)?;
@@ -53,6 +62,19 @@ fn head_text(alloc: Global, geometry: &Geometry) -> Result<Vec<u8>, NoMemory> {
         return Err(NoMemory);
     }
     write_head(alloc, geometry, &journal, 1)
+}
+
+// A pass that tells this.
+fn pass_of(alloc: Global, told: &Told) -> Result<PassText, NoMemory> {
+    let events = Events::from_slice(alloc, told.events)?;
+    let rows = RowLines::from_slice(alloc, &[row_of(told)])?;
+    Ok(PassText {
+        pass: told.pass,
+        picture: told.picture,
+        start: told.start,
+        events,
+        rows,
+    })
 }
 
 // Appends the text of a pass, and tells whether it is the same as what is written of it alone.
@@ -70,40 +92,52 @@ fn is_added(alloc: Global, text: &mut Vec<u8>, geometry: &Geometry, pass: &PassT
     }
 }
 
-// Appends the texts of all passes, and tells whether each is the same as what is written of it alone.
-fn are_added(alloc: Global, text: &mut Vec<u8>, geometry: &Geometry, read: &JournalText) -> bool {
-    for i in 0..read.passes() {
-        if !is_added(alloc, text, geometry, read.pass(i)) {
-            return false;
+// Appends the texts of passes, and tells whether each is the same as what is written of it alone.
+fn are_added(alloc: Global, text: &mut Vec<u8>, geometry: &Geometry, passes: &[Told]) -> bool {
+    for told in passes {
+        match pass_of(alloc, told) {
+            Ok(pass) => {
+                if !is_added(alloc, text, geometry, &pass) {
+                    return false;
+                }
+            }
+            Err(_) => return false,
         }
     }
     true
 }
 
-// Whether a journal that was read is written as this text.
-fn is_written(alloc: Global, geometry: &Geometry, read: &JournalText, text: &str) -> bool {
+// Whether the passes are written as the text.
+fn are_written(alloc: Global, geometry: &Geometry, passes: &[Told], text: &str) -> bool {
     match head_text(alloc, geometry) {
         Ok(mut written) => {
-            are_added(alloc, &mut written, geometry, read) && written.as_slice() == text.as_bytes()
+            are_added(alloc, &mut written, geometry, passes)
+                && written.as_slice() == text.as_bytes()
         }
         Err(_) => false,
     }
 }
 
-// The row of the last pass.
-const ROW: RowLine = RowLine {
-    row: 0,
-    sampler: 0,
-    version: 3,
-};
+// Whether a pass that was read tells what it is to tell.
+fn is_told(read: &PassText, told: &Told) -> bool {
+    read.pass == told.pass
+        && read.picture == told.picture
+        && read.start == told.start
+        && read.events.slice() == told.events
+        && read.rows.slice() == [row_of(told)].as_slice()
+}
 
-// Whether the last pass tells what it is to tell.
-fn is_told(read: &PassText, want: &Written) -> bool {
-    read.pass == 4
-        && read.picture == want.picture
-        && read.start == 3
-        && read.events.slice() == want.events
-        && read.rows.slice() == [ROW].as_slice()
+// Whether the passes that were read tell what they are to tell.
+fn are_told(read: &JournalText, passes: &[Told]) -> bool {
+    if read.passes() as usize != passes.len() {
+        return false;
+    }
+    for i in 0..read.passes() {
+        if !is_told(read.pass(i), &passes[i as usize]) {
+            return false;
+        }
+    }
+    true
 }
 
 // Whether the journal has these changes.
@@ -119,33 +153,31 @@ fn has_changes(journal: &Journal, changes: &[Change]) -> bool {
     true
 }
 
-// Whether a journal was read as it is to be.
-fn is_right(read: &JournalText, want: &Written) -> bool {
-    read.pinned() == 1
-        && read.passes() == 4
-        && is_told(read.pass(3), want)
-        && has_changes(read.journal(), want.changes)
-}
-
-// Whether the text of a journal is read as it is to be, and what was read is written as that text.
-fn is_read_and_written(alloc: Global, want: &Written) -> bool {
-    let Ok(geometry) = Geometry::new(4, 4, 2) else {
-        return false;
-    };
-    match parse_journal(alloc, &geometry, 1, want.text.as_bytes()) {
-        Ok(read) => is_right(&read, want) && is_written(alloc, &geometry, &read, want.text),
+// Whether the text is read as the passes, with these changes.
+fn is_read(
+    alloc: Global,
+    geometry: &Geometry,
+    text: &str,
+    passes: &[Told],
+    changes: &[Change],
+) -> bool {
+    match parse_journal(alloc, geometry, 1, text.as_bytes()) {
+        Ok(read) => {
+            read.pinned() == 1 && are_told(&read, passes) && has_changes(read.journal(), changes)
+        }
         Err(_) => false,
     }
 }
 
-// The first of these journals that is read or written otherwise.
-fn miswritten(alloc: Global, journals: &[Written]) -> Option<usize> {
-    for i in 0..journals.len() {
-        if !is_read_and_written(alloc, &journals[i]) {
-            return Some(i);
+// Whether the passes are written as the text, which is read as they are, with these changes.
+fn is_written_and_read(alloc: Global, passes: &[Told], changes: &[Change], text: &str) -> bool {
+    match Geometry::new(4, 4, 2) {
+        Ok(geometry) => {
+            are_written(alloc, &geometry, passes, text)
+                && is_read(alloc, &geometry, text, passes, changes)
         }
+        Err(_) => false,
     }
-    None
 }
 
 // The changes of both journals.
@@ -155,31 +187,103 @@ const FIRST: Change = Change::Map { page: 0, frame: 1 };
 
 const SECOND: Change = Change::Map { page: 2, frame: 2 };
 
-// The changes behind the tile that is lost.
-const VICTIM: Change = Change::Unmap { page: 0, frame: 1 };
-
-const THIRD: Change = Change::Map { page: 3, frame: 1 };
-
-static JOURNALS: [Written; 2] = [
-    Written {
-        text: LOST_TILE,
-        changes: &[ROOT, FIRST, SECOND, VICTIM, THIRD],
-        picture: 3,
-        events: &[
-            Event::Lost { page: 1 },
-            Event::Changed(VICTIM),
-            Event::Changed(THIRD),
-        ],
-    },
-    Written {
-        text: SETTLED,
-        changes: &[ROOT, FIRST, SECOND],
-        picture: 0,
-        events: &[],
-    },
-];
+#[test]
+fn the_journal_of_a_lost_tile_is_written_and_read(rt: HostRuntime) {
+    const VICTIM: Change = Change::Unmap { page: 0, frame: 1 };
+    const THIRD: Change = Change::Map { page: 3, frame: 1 };
+    const LOST: [Event; 3] = [
+        Event::Lost { page: 1 },
+        Event::Changed(VICTIM),
+        Event::Changed(THIRD),
+    ];
+    const PASSES: [Told; 4] = [
+        Told {
+            pass: 1,
+            picture: 0,
+            start: 1,
+            events: &[],
+            version: 1,
+        },
+        Told {
+            pass: 2,
+            picture: 1,
+            start: 1,
+            events: &[Event::Changed(FIRST), Event::Changed(SECOND)],
+            version: 1,
+        },
+        Told {
+            pass: 3,
+            picture: 2,
+            start: 3,
+            events: &[],
+            version: 3,
+        },
+        Told {
+            pass: 4,
+            picture: 3,
+            start: 3,
+            events: &LOST,
+            version: 3,
+        },
+    ];
+    let changes = [ROOT, FIRST, SECOND, VICTIM, THIRD];
+    assert!(rt; is_written_and_read(rt.alloc(), &PASSES, &changes, LOST_TILE));
+}
 
 #[test]
-fn the_journals_of_a_lost_tile_and_of_a_settled_picture_are_read_and_written(rt: HostRuntime) {
-    no_row_is_wrong(&rt, "journals", miswritten(rt.alloc(), &JOURNALS));
+fn the_journal_of_a_settled_picture_is_written_and_read(rt: HostRuntime) {
+    const PASSES: [Told; 4] = [
+        Told {
+            pass: 1,
+            picture: 0,
+            start: 1,
+            events: &[],
+            version: 1,
+        },
+        Told {
+            pass: 2,
+            picture: 0,
+            start: 1,
+            events: &[Event::Changed(FIRST)],
+            version: 2,
+        },
+        Told {
+            pass: 3,
+            picture: 0,
+            start: 2,
+            events: &[Event::Changed(SECOND)],
+            version: 3,
+        },
+        Told {
+            pass: 4,
+            picture: 0,
+            start: 3,
+            events: &[],
+            version: 3,
+        },
+    ];
+    let changes = [ROOT, FIRST, SECOND];
+    assert!(rt; is_written_and_read(rt.alloc(), &PASSES, &changes, SETTLED));
+}
+
+// The text of no pinned page.
+fn empty_head(alloc: Global, geometry: &Geometry) -> Result<Vec<u8>, NoMemory> {
+    let journal = Journal::new(alloc);
+    write_head(alloc, geometry, &journal, 0)
+}
+
+// Whether the text of no pinned page is empty.
+fn is_head_empty(alloc: Global) -> bool {
+    let Ok(geometry) = Geometry::new(4, 4, 2) else {
+        return false;
+    };
+    match empty_head(alloc, &geometry) {
+        Ok(head) => head.is_empty(),
+        Err(_) => false,
+    }
+}
+
+#[test]
+fn the_head_of_no_pinned_page_is_empty(rt: HostRuntime) {
+    assert!(rt; is_head_empty(rt.alloc()));
 }

@@ -1,23 +1,22 @@
 //! Loaders at work in threads.
 
 ghost use Rattle.std.specs.Prelude.{◌≤◌, IfSome};
-ghost use Rattle.std.specs.Thread.{IsSync};
+ghost use Rattle.std.specs.Thread.{IsSync, IsSend};
 ghost use Rattle.vt_queue.specs.Queues.{IsOf};
 
 use super::*;
-use crate::checks::holds;
 use std::thread::join_mut;
 use vt_loaders::collect;
-use vt_outside::Items;
+use vt_outside::{File, Items};
 
 // A loader with its passes.
-struct Worker {
-    loader: Loader<MemoryFile>,
+struct Worker<F: File> {
+    loader: Loader<F>,
     asks: QueuePass<Request>,
     answers: QueuePass<Loaded>,
 }
 
-impl Worker {
+impl<F: File> Worker<F> {
     // Lets the loader run.
     fn work<Rt: Threads + Wait>(&mut self, rt: &Rt, requests: &RequestQueue, results: &ResultQueue)
         requires asks { IsOf requests.now self.old.asks }
@@ -38,6 +37,32 @@ impl Worker {
     }
 }
 
+// Two loaders at once.
+fn work_beside<Rt: Threads + Wait + Sync, F: File + Send>(
+    rt: &Rt,
+    first: &mut Worker<F>,
+    second: &mut Worker<F>,
+    requests: &RequestQueue,
+    results: &ResultQueue,
+)
+    requires first { IsOf requests.now first.old.asks × IsOf results.now first.old.answers }
+    requires second { IsOf requests.now second.old.asks × IsOf results.now second.old.answers }
+    ensures first { IsOf requests.now first.new.asks × IsOf results.now first.new.answers }
+    ensures second { IsOf requests.now second.new.asks × IsOf results.now second.new.answers }
+{
+    join_mut(
+        rt,
+        &mut || -> ()
+            requires { IsSync Rt.row × IsSend F.row × IsOf requests.now first.now.asks × IsOf results.now first.now.answers }
+            ensures { IsOf requests.entry.now first.exit.now.asks × IsOf results.entry.now first.exit.now.answers }
+        { first.work(rt, requests, results) },
+        &mut || -> ()
+            requires { IsSync Rt.row × IsSend F.row × IsOf requests.now second.now.asks × IsOf results.now second.now.answers }
+            ensures { IsOf requests.entry.now second.exit.now.asks × IsOf results.entry.now second.exit.now.answers }
+        { second.work(rt, requests, results) },
+    );
+}
+
 // The sum of the tickets of results.
 fn sum_of(results: &[Loaded]) -> u64 {
     let mut sum = 0u64;
@@ -48,9 +73,9 @@ fn sum_of(results: &[Loaded]) -> u64 {
 }
 
 // A loader, and beside it one that takes so many of its results.
-fn take_beside<Rt: Threads + Wait + Sync>(
+fn take_beside<Rt: Threads + Wait + Sync, F: File + Send>(
     rt: &Rt,
-    worker: &mut Worker,
+    worker: &mut Worker<F>,
     answers: &mut QueuePass<Loaded>,
     requests: &RequestQueue,
     results: &ResultQueue,
@@ -65,7 +90,7 @@ fn take_beside<Rt: Threads + Wait + Sync>(
     join_mut(
         rt,
         &mut || -> ()
-            requires { IsSync Rt.row × IsOf requests.now worker.now.asks × IsOf results.now worker.now.answers }
+            requires { IsSync Rt.row × IsSend F.row × IsOf requests.now worker.now.asks × IsOf results.now worker.now.answers }
             ensures { IsOf requests.entry.now worker.exit.now.asks × IsOf results.entry.now worker.exit.now.answers }
         { worker.work(rt, requests, results) },
         &mut || -> ()
@@ -75,25 +100,13 @@ fn take_beside<Rt: Threads + Wait + Sync>(
     );
 }
 
-// Ends a worker: its passes are joined to those that they are of, and its file is closed.
-fn end(
-    folder: &mut MemoryFolder,
-    worker: Worker,
-    requests: &RequestQueue,
-    asks: &mut QueuePass<Request>,
-    results: &ResultQueue,
-    answers: &mut QueuePass<Loaded>,
-)
-    requires asks { IsOf requests.now asks.old × IsOf results.now answers.old }
-    requires worker { IsOf requests.now worker.asks × IsOf results.now worker.answers }
-{
+// Ends a worker, and closes its file.
+fn end(folder: &mut MemoryFolder, worker: Worker<MemoryFile>) {
     let Worker {
         loader,
-        asks: own_asks,
-        answers: own_answers,
+        asks: _,
+        answers: _,
     } = worker;
-    requests.join(asks, own_asks);
-    results.join(answers, own_answers);
     folder.close(loader.into_store().into_file());
 }
 
@@ -106,7 +119,7 @@ fn worker_of(
     results: &ResultQueue,
     answers: &mut QueuePass<Loaded>,
     loader: u32,
-) -> Option<Worker>
+) -> Option<Worker<MemoryFile>>
     requires asks { IsOf requests.now asks.old }
     requires answers { IsOf results.now answers.old }
     ensures asks { IsOf requests.now asks.new }
@@ -138,6 +151,81 @@ fn ask_three<Rt: Threads + Wait>(
     ask(rt, alloc, requests, asks, 4, 4, &[0; 12]) && is_first && is_second
 }
 
+// Lets two loaders answer requests, and answers whether there were two.
+fn work_two<Rt: Threads + Wait + Sync>(
+    rt: &Rt,
+    alloc: Global,
+    folder: &mut MemoryFolder,
+    requests: &RequestQueue,
+    asks: &mut QueuePass<Request>,
+    results: &ResultQueue,
+    answers: &mut QueuePass<Loaded>,
+) -> bool
+    requires asks { IsOf requests.now asks.old }
+    requires answers { IsOf results.now answers.old }
+    ensures { IsOf results.now answers.new }
+{
+    let Some(mut first) = worker_of(alloc, folder, requests, asks, results, answers, 0) else {
+        return false;
+    };
+    let Some(mut second) = worker_of(alloc, folder, requests, asks, results, answers, 1) else {
+        end(folder, first);
+        return false;
+    };
+    work_beside(rt, &mut first, &mut second, requests, results);
+    end(folder, first);
+    end(folder, second);
+    true
+}
+
+// Four requests, with the tickets 1, 2, 4 and 8, are put; two loaders answer them. The sum of the tickets of the results.
+fn sum_of_two<Rt: Threads + Wait + Sync>(
+    rt: &Rt,
+    alloc: Global,
+    folder: &mut MemoryFolder,
+) -> Option<u64> {
+    let (requests, mut asks) = RequestQueue::new(alloc, 4).ok()?;
+    let (results, mut answers) = ResultQueue::new(alloc, 4).ok()?;
+    let mut taken = Items::new(alloc);
+    taken.reserve(4).ok()?;
+    let is_asked = ask_three(rt, alloc, &requests, &mut asks);
+    let is_last = ask(rt, alloc, &requests, &mut asks, 8, 1, &[0; 12]);
+    if is_asked
+        && is_last
+        && work_two(
+            rt,
+            alloc,
+            folder,
+            &requests,
+            &mut asks,
+            &results,
+            &mut answers,
+        )
+    {
+        collect(rt, &results, &mut answers, 4, &mut taken);
+    }
+    Some(sum_of(taken.slice()))
+}
+
+// Whether two loaders answer each of four requests once, by one read each, beside one of the header each.
+fn is_answered_once<Rt: Threads + Wait + Sync>(rt: &Rt, alloc: Global) -> bool {
+    match folder_of(alloc, &[], &STORE) {
+        Some(mut folder) => {
+            sum_of_two(rt, alloc, &mut folder) == Some(15)
+                && folder.asked("a", 5).is_some()
+                && folder.asked("a", 6).is_none()
+        }
+        None => false,
+    }
+}
+
+#[test]
+fn two_loaders_answer_each_request_once(rt: HostRuntime) {
+    for _ in 0..100 {
+        holds(&rt, is_answered_once(&rt, rt.alloc()));
+    }
+}
+
 // Lets a loader answer three requests, and takes its results beside it.
 fn work_one<Rt: Threads + Wait + Sync>(
     rt: &Rt,
@@ -154,7 +242,7 @@ fn work_one<Rt: Threads + Wait + Sync>(
 {
     if let Some(mut worker) = worker_of(alloc, folder, requests, asks, results, answers, 0) {
         take_beside(rt, &mut worker, answers, requests, results, 3, taken);
-        end(folder, worker, requests, asks, results, answers);
+        end(folder, worker);
     }
 }
 

@@ -2,135 +2,142 @@
 
 use super::are_read;
 
-// The options of walk have defaults.
-const WALK_OPTIONS: [(&str, &str); 9] = [
-    ("vtex walk s p x", "walk s p x journal.txt 64 4 3 64 1"),
-    (
-        "vtex walk s p x --settled",
-        "walk s p x journal.txt 64 4 3 64 1 settled",
-    ),
-    (
-        "vtex walk --settled s --journal j p x",
-        "walk s p x j 64 4 3 64 1 settled",
-    ),
-    (
-        "vtex walk s p x --frames=3 --samplers 1 --loaders=1",
-        "walk s p x journal.txt 3 1 1 64 1",
-    ),
-    (
-        "vtex walk s p x --pinned 2 --batch 1",
-        "walk s p x journal.txt 64 4 3 1 2",
-    ),
-    (
-        "vtex walk -- --settled p x",
-        "walk --settled p x journal.txt 64 4 3 64 1",
-    ),
-    ("vtex walk s s s", "walk s s s journal.txt 64 4 3 64 1"),
-    ("vtex walk    --journal=-", "walk    - 64 4 3 64 1"),
-    ("vtex walk s p x --journal=", "walk s p x  64 4 3 64 1"),
-];
-
-// The numbers of walk have bounds.
-const WALK_NUMBERS: [(&str, &str); 18] = [
-    (
-        "vtex walk s p x --frames 65535 --samplers 64",
-        "walk s p x journal.txt 65535 64 3 64 1",
-    ),
-    (
-        "vtex walk s p x --loaders=16 --batch=4096 --pinned=16",
-        "walk s p x journal.txt 64 4 16 4096 16",
-    ),
-    (
-        "vtex walk s p x --frames 1 --samplers 1",
-        "walk s p x journal.txt 1 1 3 64 1",
-    ),
-    ("vtex walk s p x --frames 0", "usage"),
-    ("vtex walk s p x --frames 65536", "usage"),
-    ("vtex walk s p x --frames 064", "usage"),
-    ("vtex walk s p x --frames ", "usage"),
-    ("vtex walk s p x --frames=-1", "usage"),
-    ("vtex walk s p x --samplers 0", "usage"),
-    ("vtex walk s p x --samplers 65", "usage"),
-    ("vtex walk s p x --loaders 0", "usage"),
-    ("vtex walk s p x --loaders 17", "usage"),
-    ("vtex walk s p x --batch 0", "usage"),
-    ("vtex walk s p x --batch 4097", "usage"),
-    ("vtex walk s p x --pinned 0", "usage"),
-    ("vtex walk s p x --pinned 17", "usage"),
-    ("vtex walk s p x --batch 1 --batch 1", "usage"),
-    ("vtex walk s p x --batch", "usage"),
-];
-
-// Walk has three words and its own options.
-const WALK_WORDS: [(&str, &str); 10] = [
-    ("vtex walk", "usage"),
-    ("vtex walk s", "usage"),
-    ("vtex walk s p", "usage"),
-    ("vtex walk s p x y", "usage"),
-    ("vtex walk s p x --settled --settled", "usage"),
-    ("vtex walk s p x --settled=true", "usage"),
-    ("vtex walk s p x --settle", "usage"),
-    ("vtex walk s p x --tile 64", "usage"),
-    ("vtex walk s p x --help", "usage"),
-    ("vtex walk s p x -f 64", "usage"),
-];
-
-// A walk writes no name that it reads.
-const WALK_NAMES: [(&str, &str); 10] = [
-    ("vtex walk x0000.ppm p x", "usage"),
-    ("vtex walk s x9999.ppm x", "usage"),
-    ("vtex walk s p x --journal x0001.ppm", "usage"),
-    ("vtex walk s p x --journal s", "usage"),
-    ("vtex walk s p x --journal p", "usage"),
-    ("vtex walk journal.txt p x", "usage"),
-    ("vtex walk s journal.txt x", "usage"),
-    ("vtex walk 0000.ppm p ", "usage"),
-    (
-        "vtex walk x10000.ppm x000.ppm x",
-        "walk x10000.ppm x000.ppm x journal.txt 64 4 3 64 1",
-    ),
-    (
-        "vtex walk s p x --journal ./s",
-        "walk s p x ./s 64 4 3 64 1",
-    ),
-];
-
-// Replay has four names and writes none that it reads.
-const REPLAYS: [(&str, &str); 13] = [
-    ("vtex replay s p j x", "replay s p j x"),
-    ("vtex replay s s j s", "replay s s j s"),
-    ("vtex replay -- -s -p -j -x", "replay -s -p -j -x"),
-    ("vtex replay", "usage"),
-    ("vtex replay s p j", "usage"),
-    ("vtex replay s p j x y", "usage"),
-    ("vtex replay s p j x --settled", "usage"),
-    ("vtex replay s p s x", "usage"),
-    ("vtex replay s p p x", "usage"),
-    ("vtex replay x0000.ppm p j x", "usage"),
-    ("vtex replay s x0000.ppm j x", "usage"),
-    ("vtex replay s p x0000.ppm x", "usage"),
-    ("vtex replay s p ./s x", "replay s p ./s x"),
-];
-
-// Trial has a number of sixteen bits.
-const TRIALS: [(&str, &str); 8] = [
-    ("vtex trial 0", "trial 0"),
-    ("vtex trial 7", "trial 7"),
-    ("vtex trial 65535", "trial 65535"),
-    ("vtex trial 65536", "usage"),
-    ("vtex trial 07", "usage"),
-    ("vtex trial -1", "usage"),
-    ("vtex trial", "usage"),
-    ("vtex trial 7 7", "usage"),
-];
+#[test]
+fn the_options_of_walk_have_defaults(rt: HostRuntime) {
+    const CASES: [(&str, &str); 9] = [
+        ("vtex walk s p x", "walk s p x journal.txt 64 4 3 64 1"),
+        (
+            "vtex walk s p x --settled",
+            "walk s p x journal.txt 64 4 3 64 1 settled",
+        ),
+        (
+            "vtex walk --settled s --journal j p x",
+            "walk s p x j 64 4 3 64 1 settled",
+        ),
+        (
+            "vtex walk s p x --frames=3 --samplers 1 --loaders=1",
+            "walk s p x journal.txt 3 1 1 64 1",
+        ),
+        (
+            "vtex walk s p x --pinned 2 --batch 1",
+            "walk s p x journal.txt 64 4 3 1 2",
+        ),
+        (
+            "vtex walk -- --settled p x",
+            "walk --settled p x journal.txt 64 4 3 64 1",
+        ),
+        ("vtex walk s s s", "walk s s s journal.txt 64 4 3 64 1"),
+        ("vtex walk    --journal=-", "walk    - 64 4 3 64 1"),
+        ("vtex walk s p x --journal=", "walk s p x  64 4 3 64 1"),
+    ];
+    are_read(&rt, rt.alloc(), &CASES);
+}
 
 #[test]
-fn each_line_is_read_as_its_command(rt: HostRuntime) {
-    let alloc = rt.alloc();
-    are_read(&rt, alloc, "walk options", &WALK_OPTIONS);
-    are_read(&rt, alloc, "walk numbers", &WALK_NUMBERS);
-    are_read(&rt, alloc, "walk words", &WALK_WORDS);
-    are_read(&rt, alloc, "walk names", &WALK_NAMES);
-    are_read(&rt, alloc, "replays", &REPLAYS);
-    are_read(&rt, alloc, "trials", &TRIALS);
+fn the_numbers_of_walk_have_bounds(rt: HostRuntime) {
+    const CASES: [(&str, &str); 18] = [
+        (
+            "vtex walk s p x --frames 65535 --samplers 64",
+            "walk s p x journal.txt 65535 64 3 64 1",
+        ),
+        (
+            "vtex walk s p x --loaders=16 --batch=4096 --pinned=16",
+            "walk s p x journal.txt 64 4 16 4096 16",
+        ),
+        (
+            "vtex walk s p x --frames 1 --samplers 1",
+            "walk s p x journal.txt 1 1 3 64 1",
+        ),
+        ("vtex walk s p x --frames 0", "usage"),
+        ("vtex walk s p x --frames 65536", "usage"),
+        ("vtex walk s p x --frames 064", "usage"),
+        ("vtex walk s p x --frames ", "usage"),
+        ("vtex walk s p x --frames=-1", "usage"),
+        ("vtex walk s p x --samplers 0", "usage"),
+        ("vtex walk s p x --samplers 65", "usage"),
+        ("vtex walk s p x --loaders 0", "usage"),
+        ("vtex walk s p x --loaders 17", "usage"),
+        ("vtex walk s p x --batch 0", "usage"),
+        ("vtex walk s p x --batch 4097", "usage"),
+        ("vtex walk s p x --pinned 0", "usage"),
+        ("vtex walk s p x --pinned 17", "usage"),
+        ("vtex walk s p x --batch 1 --batch 1", "usage"),
+        ("vtex walk s p x --batch", "usage"),
+    ];
+    are_read(&rt, rt.alloc(), &CASES);
+}
+
+#[test]
+fn walk_has_three_words_and_its_own_options(rt: HostRuntime) {
+    const CASES: [(&str, &str); 10] = [
+        ("vtex walk", "usage"),
+        ("vtex walk s", "usage"),
+        ("vtex walk s p", "usage"),
+        ("vtex walk s p x y", "usage"),
+        ("vtex walk s p x --settled --settled", "usage"),
+        ("vtex walk s p x --settled=true", "usage"),
+        ("vtex walk s p x --settle", "usage"),
+        ("vtex walk s p x --tile 64", "usage"),
+        ("vtex walk s p x --help", "usage"),
+        ("vtex walk s p x -f 64", "usage"),
+    ];
+    are_read(&rt, rt.alloc(), &CASES);
+}
+
+#[test]
+fn a_walk_writes_no_name_that_it_reads(rt: HostRuntime) {
+    const CASES: [(&str, &str); 10] = [
+        ("vtex walk x0000.ppm p x", "usage"),
+        ("vtex walk s x9999.ppm x", "usage"),
+        ("vtex walk s p x --journal x0001.ppm", "usage"),
+        ("vtex walk s p x --journal s", "usage"),
+        ("vtex walk s p x --journal p", "usage"),
+        ("vtex walk journal.txt p x", "usage"),
+        ("vtex walk s journal.txt x", "usage"),
+        ("vtex walk 0000.ppm p ", "usage"),
+        (
+            "vtex walk x10000.ppm x000.ppm x",
+            "walk x10000.ppm x000.ppm x journal.txt 64 4 3 64 1",
+        ),
+        (
+            "vtex walk s p x --journal ./s",
+            "walk s p x ./s 64 4 3 64 1",
+        ),
+    ];
+    are_read(&rt, rt.alloc(), &CASES);
+}
+
+#[test]
+fn replay_has_four_names_and_writes_none_that_it_reads(rt: HostRuntime) {
+    const CASES: [(&str, &str); 13] = [
+        ("vtex replay s p j x", "replay s p j x"),
+        ("vtex replay s s j s", "replay s s j s"),
+        ("vtex replay -- -s -p -j -x", "replay -s -p -j -x"),
+        ("vtex replay", "usage"),
+        ("vtex replay s p j", "usage"),
+        ("vtex replay s p j x y", "usage"),
+        ("vtex replay s p j x --settled", "usage"),
+        ("vtex replay s p s x", "usage"),
+        ("vtex replay s p p x", "usage"),
+        ("vtex replay x0000.ppm p j x", "usage"),
+        ("vtex replay s x0000.ppm j x", "usage"),
+        ("vtex replay s p x0000.ppm x", "usage"),
+        ("vtex replay s p ./s x", "replay s p ./s x"),
+    ];
+    are_read(&rt, rt.alloc(), &CASES);
+}
+
+#[test]
+fn trial_has_a_number_of_sixteen_bits(rt: HostRuntime) {
+    const CASES: [(&str, &str); 8] = [
+        ("vtex trial 0", "trial 0"),
+        ("vtex trial 7", "trial 7"),
+        ("vtex trial 65535", "trial 65535"),
+        ("vtex trial 65536", "usage"),
+        ("vtex trial 07", "usage"),
+        ("vtex trial -1", "usage"),
+        ("vtex trial", "usage"),
+        ("vtex trial 7 7", "usage"),
+    ];
+    are_read(&rt, rt.alloc(), &CASES);
 }

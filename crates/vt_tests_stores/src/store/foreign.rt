@@ -48,6 +48,11 @@ fn cuts_are_answered(alloc: Global) -> bool {
     true
 }
 
+#[test]
+fn a_store_that_is_cut_is_refused_by_what_is_left(rt: HostRuntime) {
+    holds(&rt, cuts_are_answered(rt.alloc()));
+}
+
 // The store of G4 with the digit of another magic and with other numbers in its header.
 fn with_header(digit: u8, width: u32, height: u32, tile: u32) -> [u8; 76] {
     let mut bytes = STORE_G4;
@@ -69,30 +74,26 @@ fn headers_are_answered(alloc: Global, rows: &[(u8, u32, u32, u32, Answer)]) -> 
     true
 }
 
-// Each header, and what its store is answered.
-const HEADERS: [(u8, u32, u32, u32, Answer); 10] = [
-    (b'1', 4, 4, 2, Ok((4, 4, 2, 1))),
-    (b'1', 0, 4, 2, BAD_GEOMETRY),
-    (b'1', 4294967295, 4, 2, BAD_GEOMETRY),
-    (b'1', 16385, 4, 2, BAD_GEOMETRY),
-    (b'1', 4, 4, 256, BAD_GEOMETRY),
-    (b'1', 4, 4, 3, BAD_GEOMETRY),
-    (b'1', 8192, 8192, 2, BAD_GEOMETRY),
-    (b'2', 4, 4, 2, WRONG_LENGTH),
-    (b'2', 4, 16385, 2, BAD_GEOMETRY),
-    (b'3', 4, 4, 2, BAD_MAGIC),
-];
-
-// Whether the store of G4 with a byte more is refused.
-fn is_longer_refused(alloc: Global) -> bool {
-    let mut longer = [0; 77];
-    longer[..76].copy_from_slice(&STORE_G4);
-    is_answered(alloc, &longer, wrong(76, 77))
+#[test]
+fn each_foreign_header_of_a_store_is_accepted_or_refused(rt: HostRuntime) {
+    const ROWS: [(u8, u32, u32, u32, Answer); 10] = [
+        (b'1', 4, 4, 2, Ok((4, 4, 2, 1))),
+        (b'1', 0, 4, 2, BAD_GEOMETRY),
+        (b'1', 4294967295, 4, 2, BAD_GEOMETRY),
+        (b'1', 16385, 4, 2, BAD_GEOMETRY),
+        (b'1', 4, 4, 256, BAD_GEOMETRY),
+        (b'1', 4, 4, 3, BAD_GEOMETRY),
+        (b'1', 8192, 8192, 2, BAD_GEOMETRY),
+        (b'2', 4, 4, 2, WRONG_LENGTH),
+        (b'2', 4, 16385, 2, BAD_GEOMETRY),
+        (b'3', 4, 4, 2, BAD_MAGIC),
+    ];
+    holds(&rt, headers_are_answered(rt.alloc(), &ROWS));
 }
 
 #[test]
-fn each_foreign_store_is_accepted_or_refused(rt: HostRuntime) {
-    let alloc = rt.alloc();
-    holds(&rt, headers_are_answered(alloc, &HEADERS));
-    holds(&rt, cuts_are_answered(alloc) && is_longer_refused(alloc));
+fn a_store_with_a_byte_more_is_refused(rt: HostRuntime) {
+    let mut longer = [0; 77];
+    longer[..76].copy_from_slice(&STORE_G4);
+    holds(&rt, is_answered(rt.alloc(), &longer, wrong(76, 77)));
 }

@@ -51,6 +51,33 @@ fn is_tiled(alloc: Global, texture: &[u8], store: &[u8], places: &[Place]) -> bo
     }
 }
 
+#[test]
+fn a_texture_is_tiled_by_strips_as_whole(rt: HostRuntime) {
+    let places = [place(0, 56), place(11, 30), place(41, 15)];
+    holds(
+        &rt,
+        is_tiled(rt.alloc(), &TEXTURE, &FIVE_BY_THREE_STORE, &places),
+    );
+}
+
+#[test]
+fn two_byte_samples_are_tiled_by_strips_alike(rt: HostRuntime) {
+    let places = [place(0, 103), place(13, 60), place(73, 30)];
+    holds(
+        &rt,
+        is_tiled(rt.alloc(), &WIDE_TEXTURE, &WIDE_STORE, &places),
+    );
+}
+
+#[test]
+fn one_texel_is_tiled_by_strips(rt: HostRuntime) {
+    const TEXEL: &[u8] = b"P6 1 1 255\n\x09\x08\x07";
+    const STORE: &[u8] =
+        b"VTS1\0\0\0\x01\0\0\0\x01\0\0\0\x02\x09\x08\x07\x09\x08\x07\x09\x08\x07\x09\x08\x07";
+    let places = [place(0, 14), place(11, 3)];
+    holds(&rt, is_tiled(rt.alloc(), TEXEL, STORE, &places));
+}
+
 // Bytes, and behind them so many of the value 7.
 fn with_sevens(alloc: Global, front: &[u8], count: usize) -> Option<Vec<u8>> {
     let mut bytes = front.to_vec(alloc).ok()?;
@@ -71,6 +98,12 @@ fn sevens_are_tiled(alloc: Global, places: &[Place]) -> bool {
     }
 }
 
+#[test]
+fn the_widest_texture_is_tiled_by_strips(rt: HostRuntime) {
+    let places = [place(0, 65536), place(15, 98304)];
+    holds(&rt, sevens_are_tiled(rt.alloc(), &places));
+}
+
 // Whether the third read of a tiling fails, that of the last row, and the three tiles of the rows before it are left.
 fn fails_at_the_last_row(alloc: Global) -> bool {
     const CALLS: [Fail; 1] = [Fail::Read {
@@ -87,29 +120,7 @@ fn fails_at_the_last_row(alloc: Global) -> bool {
     }
 }
 
-// Whether the texture of five columns and three rows is tiled so at either depth.
-fn are_tiled(alloc: Global) -> bool {
-    let narrow = [place(0, 56), place(11, 30), place(41, 15)];
-    let wide = [place(0, 103), place(13, 60), place(73, 30)];
-    is_tiled(alloc, &TEXTURE, &FIVE_BY_THREE_STORE, &narrow)
-        && is_tiled(alloc, &WIDE_TEXTURE, &WIDE_STORE, &wide)
-}
-
-// Whether one texel is tiled.
-fn is_texel_tiled(alloc: Global) -> bool {
-    const TEXEL: &[u8] = b"P6 1 1 255\n\x09\x08\x07";
-    const STORE: &[u8] =
-        b"VTS1\0\0\0\x01\0\0\0\x01\0\0\0\x02\x09\x08\x07\x09\x08\x07\x09\x08\x07\x09\x08\x07";
-    is_tiled(alloc, TEXEL, STORE, &[place(0, 14), place(11, 3)])
-}
-
 #[test]
-fn textures_are_tiled_by_strips(rt: HostRuntime) {
-    let alloc = rt.alloc();
-    holds(&rt, are_tiled(alloc) && is_texel_tiled(alloc));
-    holds(
-        &rt,
-        sevens_are_tiled(alloc, &[place(0, 65536), place(15, 98304)]),
-    );
-    holds(&rt, fails_at_the_last_row(alloc));
+fn a_strip_whose_read_fails_leaves_the_rows_before_it(rt: HostRuntime) {
+    holds(&rt, fails_at_the_last_row(rt.alloc()));
 }

@@ -70,17 +70,9 @@ fn is_replayed(rt: &(impl Threads + Wait + Sync), alloc: Global, row: &Row<'_>) 
 }
 
 /// Each walk leaves what its row says, and its journal is replayed to its pictures.
-pub(super) fn walk_all(
-    rt: &(impl Abort + Threads + Wait + Sync),
-    alloc: Global,
-    name: &str,
-    rows: &[Row<'_>],
-) {
-    hold(rt, alloc, name, rows);
+pub(super) fn walk_all(rt: &(impl Abort + Threads + Wait + Sync), alloc: Global, rows: &[Row<'_>]) {
+    hold(rt, alloc, rows);
     for i in 0..rows.len() {
-        assert!(rt;
-            is_replayed(rt, alloc, &rows[i]),
-            "{name}: replay of row {i}"
-        );
+        assert!(rt; is_replayed(rt, alloc, &rows[i]), "row {i}");
     }
 }

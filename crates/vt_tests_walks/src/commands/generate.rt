@@ -22,7 +22,6 @@ const MAKES: Row<'static> = Row {
     err: b"",
 };
 
-// A texture is made from a number.
 static MADE_FROM_NUMBERS: [Row<'static>; 3] = [
     Row {
         words: "gen 1 2 1 g.ppm",
@@ -43,13 +42,22 @@ static MADE_FROM_NUMBERS: [Row<'static>; 3] = [
     },
 ];
 
-// An older file is written over.
+#[test]
+fn a_texture_is_made_from_a_number(rt: HostRuntime) {
+    hold(&rt, rt.alloc(), &MADE_FROM_NUMBERS);
+}
+
 static OVER_OLDER: [Row<'static>; 1] = [Row {
     words: "gen 0 1 1 g4.ppm",
     fail: None,
     left: &[("g4.ppm", All(b"P6\n1 1\n255\n\x00\x00\x00"))],
     ..MAKES
 }];
+
+#[test]
+fn an_older_file_is_written_over(rt: HostRuntime) {
+    hold(&rt, rt.alloc(), &OVER_OLDER);
+}
 
 // A run of `gen` with a call that fails.
 const STOPS: Row<'static> = Row {
@@ -58,7 +66,6 @@ const STOPS: Row<'static> = Row {
     ..MAKES
 };
 
-// A call that fails stops gen.
 static STOPPED: [Row<'static>; 4] = [
     Row {
         fail: Some(Fail::Create(0)),
@@ -84,6 +91,11 @@ static STOPPED: [Row<'static>; 4] = [
     },
 ];
 
+#[test]
+fn a_call_that_fails_stops_gen(rt: HostRuntime) {
+    hold(&rt, rt.alloc(), &STOPPED);
+}
+
 // Words by which nothing is made.
 const REFUSES: Row<'static> = Row {
     fail: None,
@@ -94,7 +106,6 @@ const REFUSES: Row<'static> = Row {
     ..MAKES
 };
 
-// Sides of no texture are refused.
 static OF_NO_TEXTURE: [Row<'static>; 3] = [
     Row {
         words: "gen 1 0 1 g.ppm",
@@ -110,7 +121,11 @@ static OF_NO_TEXTURE: [Row<'static>; 3] = [
     },
 ];
 
-// The tile side may be left out.
+#[test]
+fn sides_of_no_texture_are_refused(rt: HostRuntime) {
+    hold(&rt, rt.alloc(), &OF_NO_TEXTURE);
+}
+
 static NO_TILE_SIDE: [Row<'static>; 1] = [Row {
     words: "tile g4.ppm s.vts",
     fail: None,
@@ -120,11 +135,6 @@ static NO_TILE_SIDE: [Row<'static>; 1] = [Row {
 }];
 
 #[test]
-fn each_run_of_gen_leaves_its_row(rt: HostRuntime) {
-    let alloc = rt.alloc();
-    hold(&rt, alloc, "made from numbers", &MADE_FROM_NUMBERS);
-    hold(&rt, alloc, "over older", &OVER_OLDER);
-    hold(&rt, alloc, "stopped", &STOPPED);
-    hold(&rt, alloc, "of no texture", &OF_NO_TEXTURE);
-    hold(&rt, alloc, "no tile side", &NO_TILE_SIDE);
+fn the_tile_side_may_be_left_out(rt: HostRuntime) {
+    hold(&rt, rt.alloc(), &NO_TILE_SIDE);
 }

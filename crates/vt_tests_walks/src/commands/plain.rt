@@ -45,7 +45,13 @@ const STOPS: Row<'static> = Row {
     ..REFUSES
 };
 
-// A row is drawn at its own level.
+static FIRST: [Row<'static>; 1] = [DRAWS];
+
+#[test]
+fn the_first_picture_is_drawn(rt: HostRuntime) {
+    hold(&rt, rt.alloc(), &FIRST);
+}
+
 static HEIGHTS: [Row<'static>; 2] = [
     // Higher.
     Row {
@@ -66,9 +72,13 @@ static HEIGHTS: [Row<'static>; 2] = [
     },
 ];
 
+#[test]
+fn a_row_is_drawn_at_its_own_level(rt: HostRuntime) {
+    hold(&rt, rt.alloc(), &HEIGHTS);
+}
+
 const BAD_LINE: &[u8] = b"vtex: bad input: a.path: bad line 2\n";
 
-// A flawed path is told with its line.
 static FLAWED_PATHS: [Row<'static>; 4] = [
     Row {
         files: &[
@@ -104,10 +114,14 @@ static FLAWED_PATHS: [Row<'static>; 4] = [
     },
 ];
 
+#[test]
+fn a_flawed_path_is_told_with_its_line(rt: HostRuntime) {
+    hold(&rt, rt.alloc(), &FLAWED_PATHS);
+}
+
 const MOVED: &[u8] = b"P6\n2 1\n255\n\x0c\x0c\x0c\x00\x00\x00";
 
 // The places 0, -4, -7 and -10: from the second on the pixels show the column before.
-// Pictures on the way are drawn.
 static ON_THE_WAY: [Row<'static>; 1] = [Row {
     files: &[
         ("g4.ppm", All(G4)),
@@ -121,7 +135,11 @@ static ON_THE_WAY: [Row<'static>; 1] = [Row {
     ..DRAWS
 }];
 
-// A path may have no pictures.
+#[test]
+fn pictures_on_the_way_are_drawn(rt: HostRuntime) {
+    hold(&rt, rt.alloc(), &ON_THE_WAY);
+}
+
 static NO_PICTURES: [Row<'static>; 1] = [Row {
     files: &[("g4.ppm", All(G4)), ("a.path", All(b"size 2 1\nfocal 1\n"))],
     pictures: &[],
@@ -129,7 +147,11 @@ static NO_PICTURES: [Row<'static>; 1] = [Row {
     ..DRAWS
 }];
 
-// Words of no command are refused.
+#[test]
+fn a_path_may_have_no_pictures(rt: HostRuntime) {
+    hold(&rt, rt.alloc(), &NO_PICTURES);
+}
+
 static NO_COMMANDS: [Row<'static>; 8] = [
     Row {
         words: "",
@@ -165,15 +187,23 @@ static NO_COMMANDS: [Row<'static>; 8] = [
     },
 ];
 
+#[test]
+fn words_of_no_command_are_refused(rt: HostRuntime) {
+    hold(&rt, rt.alloc(), &NO_COMMANDS);
+}
+
 // Texture and path may have one name, since both are only read; these bytes are no path.
-// Texture and path may have one name.
 static ONE_NAME: [Row<'static>; 1] = [Row {
     words: "plain g4.ppm g4.ppm f --tile 2",
     err: b"vtex: bad input: g4.ppm: bad line 1\n",
     ..REFUSES
 }];
 
-// A missing name is a fault.
+#[test]
+fn texture_and_path_may_have_one_name(rt: HostRuntime) {
+    hold(&rt, rt.alloc(), &ONE_NAME);
+}
+
 static MISSING_NAMES: [Row<'static>; 2] = [
     Row {
         words: "plain none a.path f --tile 2",
@@ -185,7 +215,11 @@ static MISSING_NAMES: [Row<'static>; 2] = [
     },
 ];
 
-// A call that fails stops plain.
+#[test]
+fn a_missing_name_is_a_fault(rt: HostRuntime) {
+    hold(&rt, rt.alloc(), &MISSING_NAMES);
+}
+
 static STOPPED: [Row<'static>; 12] = [
     Row {
         fail: Some(Fail::Open(0)),
@@ -254,8 +288,12 @@ static STOPPED: [Row<'static>; 12] = [
     },
 ];
 
+#[test]
+fn a_call_that_fails_stops_plain(rt: HostRuntime) {
+    hold(&rt, rt.alloc(), &STOPPED);
+}
+
 // The line ends at the put that fails, and the status stays.
-// A line ends where a put fails.
 static LINE_CUT: [Row<'static>; 1] = [Row {
     words: "plain none a.path f --tile 2",
     err_fail: Some(Fail::Put(0)),
@@ -263,7 +301,11 @@ static LINE_CUT: [Row<'static>; 1] = [Row {
     ..STOPS
 }];
 
-// The first cause among the inputs decides.
+#[test]
+fn a_line_ends_where_a_put_fails(rt: HostRuntime) {
+    hold(&rt, rt.alloc(), &LINE_CUT);
+}
+
 static FIRST_CAUSES: [Row<'static>; 2] = [
     Row {
         words: "plain none a.path f --tile 2",
@@ -278,25 +320,18 @@ static FIRST_CAUSES: [Row<'static>; 2] = [
     },
 ];
 
+#[test]
+fn the_first_cause_among_the_inputs_decides(rt: HostRuntime) {
+    hold(&rt, rt.alloc(), &FIRST_CAUSES);
+}
+
 // A second creation would fail.
-// Each picture is created once.
 static CREATED_ONCE: [Row<'static>; 1] = [Row {
     fail: Some(Fail::Create(1)),
     ..DRAWS
 }];
 
 #[test]
-fn each_run_of_plain_leaves_its_row(rt: HostRuntime) {
-    let alloc = rt.alloc();
-    hold(&rt, alloc, "heights", &HEIGHTS);
-    hold(&rt, alloc, "flawed paths", &FLAWED_PATHS);
-    hold(&rt, alloc, "on the way", &ON_THE_WAY);
-    hold(&rt, alloc, "no pictures", &NO_PICTURES);
-    hold(&rt, alloc, "no commands", &NO_COMMANDS);
-    hold(&rt, alloc, "one name", &ONE_NAME);
-    hold(&rt, alloc, "missing names", &MISSING_NAMES);
-    hold(&rt, alloc, "stopped", &STOPPED);
-    hold(&rt, alloc, "line cut", &LINE_CUT);
-    hold(&rt, alloc, "first causes", &FIRST_CAUSES);
-    hold(&rt, alloc, "created once", &CREATED_ONCE);
+fn each_picture_is_created_once(rt: HostRuntime) {
+    hold(&rt, rt.alloc(), &CREATED_ONCE);
 }

@@ -116,5 +116,5 @@ static CUTS: [Row<'static>; 11] = [
 
 #[test]
 fn a_journal_that_is_cut_at_a_line_is_replayed_after_the_head_and_after_a_pass(rt: HostRuntime) {
-    hold(&rt, rt.alloc(), "cuts", &CUTS);
+    hold(&rt, rt.alloc(), &CUTS);
 }

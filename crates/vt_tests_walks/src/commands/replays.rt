@@ -26,7 +26,6 @@ const OVER_SETTLED: &[(&str, Held<'static>)] = &[
     ("j.txt", All(SETTLED)),
 ];
 
-// A journal is replayed at both depths.
 static BOTH_DEPTHS: [Row<'static>; 2] = [
     Row {
         files: OVER_SETTLED,
@@ -43,8 +42,12 @@ static BOTH_DEPTHS: [Row<'static>; 2] = [
     },
 ];
 
+#[test]
+fn a_journal_is_replayed_at_both_depths(rt: HostRuntime) {
+    hold(&rt, rt.alloc(), &BOTH_DEPTHS);
+}
+
 // A journal over a store and a path, and the line by which it is refused.
-// A journal is refused beside its path and its store.
 static REFUSED: [Row<'static>; 9] = [
     Row {
         files: &[
@@ -146,13 +149,22 @@ static REFUSED: [Row<'static>; 9] = [
     },
 ];
 
+#[test]
+fn a_journal_is_refused_beside_its_path_and_its_store(rt: HostRuntime) {
+    hold(&rt, rt.alloc(), &REFUSED);
+}
+
 // A second creation would fail.
-// A replay creates each picture once.
 static CREATED_ONCE: [Row<'static>; 1] = [Row {
     files: OVER_SETTLED,
     fail: Some(Fail::Create(1)),
     ..REPLAYS
 }];
+
+#[test]
+fn a_replay_creates_each_picture_once(rt: HostRuntime) {
+    hold(&rt, rt.alloc(), &CREATED_ONCE);
+}
 
 // A replay that a call or a missing name stops before its picture.
 const STOPS: Row<'static> = Row {
@@ -163,7 +175,6 @@ const STOPS: Row<'static> = Row {
 };
 
 // A failed call of a replay, with the pictures and the output that it leaves.
-// What stands after a failed call of a replay.
 static STOPPED: [Row<'static>; 14] = [
     Row {
         fail: Some(Fail::Open(0)),
@@ -240,6 +251,11 @@ static STOPPED: [Row<'static>; 14] = [
     },
 ];
 
+#[test]
+fn what_stands_after_a_failed_call_of_a_replay(rt: HostRuntime) {
+    hold(&rt, rt.alloc(), &STOPPED);
+}
+
 // A replay by words that are those of no command.
 const MISUSES: Row<'static> = Row {
     status: 2,
@@ -247,7 +263,6 @@ const MISUSES: Row<'static> = Row {
     ..STOPS
 };
 
-// A replay is refused for its words and for a missing name.
 static WORDS_AND_NAMES: [Row<'static>; 6] = [
     Row {
         words: "replay s.vts a.path j.txt",
@@ -276,11 +291,6 @@ static WORDS_AND_NAMES: [Row<'static>; 6] = [
 ];
 
 #[test]
-fn each_run_of_replay_leaves_its_row(rt: HostRuntime) {
-    let alloc = rt.alloc();
-    hold(&rt, alloc, "both depths", &BOTH_DEPTHS);
-    hold(&rt, alloc, "refused", &REFUSED);
-    hold(&rt, alloc, "created once", &CREATED_ONCE);
-    hold(&rt, alloc, "stopped", &STOPPED);
-    hold(&rt, alloc, "words and names", &WORDS_AND_NAMES);
+fn a_replay_is_refused_for_its_words_and_for_a_missing_name(rt: HostRuntime) {
+    hold(&rt, rt.alloc(), &WORDS_AND_NAMES);
 }

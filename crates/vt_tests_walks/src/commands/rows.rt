@@ -152,14 +152,9 @@ pub fn leaves(rt: &(impl Threads + Wait + Sync), alloc: Global, row: &Row<'_>) -
     }
 }
 
-/// Each run leaves what its row says; a failure tells the rows, which are named, and the number of the first that is wrong.
-pub(super) fn hold(
-    rt: &(impl Abort + Threads + Wait + Sync),
-    alloc: Global,
-    name: &str,
-    rows: &[Row<'_>],
-) {
+/// Each run leaves what its row says.
+pub(super) fn hold(rt: &(impl Abort + Threads + Wait + Sync), alloc: Global, rows: &[Row<'_>]) {
     for i in 0..rows.len() {
-        assert!(rt; leaves(rt, alloc, &rows[i]), "{name}: row {i}");
+        assert!(rt; leaves(rt, alloc, &rows[i]), "row {i}");
     }
 }

@@ -53,7 +53,6 @@ const SINGLE_STORE: &[u8] =
 
 const SINGLE_LINE: &[u8] = b"store 1 1 tile 2 levels 1 pages 1 bytes 28\n";
 
-// A single texel fills its tile.
 static SINGLE: [Row<'static>; 2] = [
     Row {
         files: &[
@@ -71,13 +70,17 @@ static SINGLE: [Row<'static>; 2] = [
     },
 ];
 
+#[test]
+fn a_single_texel_fills_its_tile(rt: HostRuntime) {
+    hold(&rt, rt.alloc(), &SINGLE);
+}
+
 const DEEP_STORE: &[u8] =
     b"VTS2\x00\x00\x00\x01\x00\x00\x00\x01\x00\x00\x00\x02\x00\x01\x80\x00\xff\xff\x00\x01\
         \x80\x00\xff\xff\x00\x01\x80\x00\xff\xff\x00\x01\x80\x00\xff\xff";
 
 const DEEP_LINE: &[u8] = b"store 1 1 tile 2 levels 1 pages 1 bytes 40\n";
 
-// A store has the depth of its texture.
 static DEEP: [Row<'static>; 2] = [
     Row {
         files: &[
@@ -95,8 +98,17 @@ static DEEP: [Row<'static>; 2] = [
     },
 ];
 
-// A texture of four by four is tiled.
+#[test]
+fn a_store_has_the_depth_of_its_texture(rt: HostRuntime) {
+    hold(&rt, rt.alloc(), &DEEP);
+}
+
 static FOUR_BY_FOUR: [Row<'static>; 2] = [TILES, INFORMS];
+
+#[test]
+fn a_texture_of_four_by_four_is_tiled(rt: HostRuntime) {
+    hold(&rt, rt.alloc(), &FOUR_BY_FOUR);
+}
 
 // All channels of texel (x, y) are 10y+x.
 const ODD_STORE: &[u8] =
@@ -109,7 +121,6 @@ const ODD_STORE: &[u8] =
 
 const ODD_LINE: &[u8] = b"store 5 3 tile 2 levels 3 pages 9 bytes 124\n";
 
-// Odd sides are clamped.
 static ODD: [Row<'static>; 2] = [
     Row {
         files: &[
@@ -134,6 +145,11 @@ static ODD: [Row<'static>; 2] = [
     },
 ];
 
+#[test]
+fn odd_sides_are_clamped(rt: HostRuntime) {
+    hold(&rt, rt.alloc(), &ODD);
+}
+
 // The boxes of 0, 1, 2, 3 and of 0, 0, 0, 1 are the two texels of level 1: 2 and 0.
 const ROUNDED_STORE: &[u8] =
     b"VTS1\x00\x00\x00\x04\x00\x00\x00\x02\x00\x00\x00\x02\x00\x00\x00\x01\x01\x01\x02\x02\x02\x03\
@@ -142,7 +158,6 @@ const ROUNDED_STORE: &[u8] =
 
 const ROUNDED_LINE: &[u8] = b"store 4 2 tile 2 levels 2 pages 3 bytes 52\n";
 
-// Boxes are rounded.
 static ROUNDED: [Row<'static>; 2] = [
     Row {
         files: &[
@@ -166,6 +181,11 @@ static ROUNDED: [Row<'static>; 2] = [
     },
 ];
 
+#[test]
+fn boxes_are_rounded(rt: HostRuntime) {
+    hold(&rt, rt.alloc(), &ROUNDED);
+}
+
 const TILE_OF_THREE: &[u8] = b"VTS1\x00\x00\x00\x04\x00\x00\x00\x04\x00\x00\x00\x03\x00\x00\x00";
 
 const TOO_MANY: &[u8] = b"VTS1\x00\x00\x20\x00\x00\x00\x20\x00\x00\x00\x00\x02\x00\x00\x00";
@@ -182,7 +202,6 @@ const MISINFORMS: Row<'static> = Row {
     ..REFUSES
 };
 
-// A flawed store is told with its numbers.
 static FLAWED_STORES: [Row<'static>; 8] = [
     Row {
         files: &[("t.ppm", All(LONGER)), ("a.path", All(PATH))],
@@ -226,7 +245,11 @@ static FLAWED_STORES: [Row<'static>; 8] = [
     },
 ];
 
-// Words of neither command are refused.
+#[test]
+fn a_flawed_store_is_told_with_its_numbers(rt: HostRuntime) {
+    hold(&rt, rt.alloc(), &FLAWED_STORES);
+}
+
 static NO_COMMANDS: [Row<'static>; 8] = [
     Row {
         words: "tile t.ppm t.ppm --tile 2",
@@ -262,6 +285,11 @@ static NO_COMMANDS: [Row<'static>; 8] = [
     },
 ];
 
+#[test]
+fn words_of_neither_command_are_refused(rt: HostRuntime) {
+    hold(&rt, rt.alloc(), &NO_COMMANDS);
+}
+
 // A run that a call or a missing name stops before the store.
 const STOPS: Row<'static> = Row {
     status: 3,
@@ -269,7 +297,6 @@ const STOPS: Row<'static> = Row {
     ..REFUSES
 };
 
-// A texture that is flawed or missing is refused.
 static NO_TEXTURES: [Row<'static>; 3] = [
     Row {
         files: &[("t.ppm", All(b"P5 1 1 255\n\x00")), ("a.path", All(PATH))],
@@ -287,14 +314,6 @@ static NO_TEXTURES: [Row<'static>; 3] = [
 ];
 
 #[test]
-fn each_run_of_tile_and_info_leaves_its_row(rt: HostRuntime) {
-    let alloc = rt.alloc();
-    hold(&rt, alloc, "single", &SINGLE);
-    hold(&rt, alloc, "deep", &DEEP);
-    hold(&rt, alloc, "four by four", &FOUR_BY_FOUR);
-    hold(&rt, alloc, "odd", &ODD);
-    hold(&rt, alloc, "rounded", &ROUNDED);
-    hold(&rt, alloc, "flawed stores", &FLAWED_STORES);
-    hold(&rt, alloc, "no commands", &NO_COMMANDS);
-    hold(&rt, alloc, "no textures", &NO_TEXTURES);
+fn a_texture_that_is_flawed_or_missing_is_refused(rt: HostRuntime) {
+    hold(&rt, rt.alloc(), &NO_TEXTURES);
 }

@@ -20,11 +20,14 @@ const TRIES_SEVEN: Row<'static> = Row {
     err: b"",
 };
 
-// A trial tells the same line at each run.
 static SEVEN_TWICE: [Row<'static>; 2] = [TRIES_SEVEN, TRIES_SEVEN];
 
+#[test]
+fn a_trial_tells_the_same_line_at_each_run(rt: HostRuntime) {
+    hold(&rt, rt.alloc(), &SEVEN_TWICE);
+}
+
 // A put that fails leaves the first half of its bytes.
-// A trial whose line is refused is a fault.
 static REFUSED_LINE: [Row<'static>; 1] = [Row {
     files: &[("g4.ppm", All(G4)), ("a.path", All(PATH))],
     fail: Some(Fail::Put(0)),
@@ -34,7 +37,11 @@ static REFUSED_LINE: [Row<'static>; 1] = [Row {
     ..TRIES_SEVEN
 }];
 
-// A trial has a number of sixteen bits.
+#[test]
+fn a_trial_whose_line_is_refused_is_a_fault(rt: HostRuntime) {
+    hold(&rt, rt.alloc(), &REFUSED_LINE);
+}
+
 static GREATER_NUMBER: [Row<'static>; 1] = [Row {
     words: "trial 65536",
     files: &[("g4.ppm", All(G4)), ("a.path", All(PATH))],
@@ -45,9 +52,6 @@ static GREATER_NUMBER: [Row<'static>; 1] = [Row {
 }];
 
 #[test]
-fn each_run_of_trial_leaves_its_row(rt: HostRuntime) {
-    let alloc = rt.alloc();
-    hold(&rt, alloc, "seven twice", &SEVEN_TWICE);
-    hold(&rt, alloc, "refused line", &REFUSED_LINE);
-    hold(&rt, alloc, "greater number", &GREATER_NUMBER);
+fn a_trial_has_a_number_of_sixteen_bits(rt: HostRuntime) {
+    hold(&rt, rt.alloc(), &GREATER_NUMBER);
 }

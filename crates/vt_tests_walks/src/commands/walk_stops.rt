@@ -28,7 +28,6 @@ const STOPS_AMID: Row<'static> = Row {
 };
 
 // Calls that fail, with what stands then. One that fails to add bytes leaves the first half of them.
-// Each call of a walk that fails leaves what was written before it.
 static STOPPED: [Row<'static>; 18] = [
     Row {
         fail: Some(Fail::Open(0)),
@@ -127,14 +126,22 @@ static STOPPED: [Row<'static>; 18] = [
     },
 ];
 
+#[test]
+fn each_call_of_a_walk_that_fails_leaves_what_was_written_before_it(rt: HostRuntime) {
+    hold(&rt, rt.alloc(), &STOPPED);
+}
+
 // A third creation would fail.
-// A walk creates its journal and its picture once each.
 static CREATED_ONCE: [Row<'static>; 1] = [Row {
     fail: Some(Fail::Create(2)),
     ..SETTLED
 }];
 
-// A settled walk ends after the pass that lost a tile.
+#[test]
+fn a_walk_creates_its_journal_and_its_picture_once_each(rt: HostRuntime) {
+    hold(&rt, rt.alloc(), &CREATED_ONCE);
+}
+
 static LOST_TILES: [Row<'static>; 2] = [
     Row {
         fail: Some(Fail::Read {
@@ -167,9 +174,6 @@ static LOST_TILES: [Row<'static>; 2] = [
 ];
 
 #[test]
-fn each_stopped_walk_leaves_its_row(rt: HostRuntime) {
-    let alloc = rt.alloc();
-    hold(&rt, alloc, "stopped", &STOPPED);
-    hold(&rt, alloc, "created once", &CREATED_ONCE);
-    hold(&rt, alloc, "lost tiles", &LOST_TILES);
+fn a_settled_walk_ends_after_the_pass_that_lost_a_tile(rt: HostRuntime) {
+    hold(&rt, rt.alloc(), &LOST_TILES);
 }

@@ -1,15 +1,18 @@
 // Runs of `walk`.
-use super::files::{FAULT, G4_STORE, PATH, USAGE, WIDE_STORE};
+use super::files::{FAULT, G4, G4_STORE, PATH, USAGE, WIDE_STORE};
 use super::flight_rows::walk_all;
 use super::rows::Held::All;
-use super::rows::{Row, hold};
+use super::rows::{Row, hold, leaves_in};
+use super::runs::{Scene, play};
 use super::walk_rows::{
     BATCH_OF_TWO, COARSE_TO_FINE, EIGHT_STORE, LOST, ONE_BY_ONE, ONE_PASS, REUSED, SETTLED,
     SETTLED_FOUR, SINGLE, STARVED, WIDE_PICTURE,
 };
+use std::alloc::Global;
+use std::sync::Wait;
 use std::test::*;
+use std::thread::Threads;
 
-// Each walk leaves its row and is replayed.
 static WALKS: [Row<'static>; 8] = [
     SINGLE,
     STARVED,
@@ -20,6 +23,11 @@ static WALKS: [Row<'static>; 8] = [
     COARSE_TO_FINE,
     ONE_BY_ONE,
 ];
+
+#[test]
+fn each_walk_leaves_its_row_and_is_replayed(rt: HostRuntime) {
+    walk_all(&rt, rt.alloc(), &WALKS);
+}
 
 const SETTLED_WIDE: Row<'static> = Row {
     files: &[("s.vts", All(WIDE_STORE)), ("a.path", All(PATH))],
@@ -82,6 +90,12 @@ static WIDE_CREWS: [Row<'static>; 6] = [
     },
 ];
 
+#[test]
+fn a_settled_walk_is_the_same_by_any_crew_at_both_depths(rt: HostRuntime) {
+    walk_all(&rt, rt.alloc(), &CREWS);
+    walk_all(&rt, rt.alloc(), &WIDE_CREWS);
+}
+
 const UNFIT: Row<'static> = Row {
     words: "walk s.vts a.path f --frames 2 --samplers 1 --loaders 1 --batch 1 --journal j.txt --settled",
     status: 5,
@@ -92,7 +106,6 @@ const UNFIT: Row<'static> = Row {
     ..SETTLED
 };
 
-// A picture that does not fit ends a settled walk after its first pass.
 static UNFITTING: [Row<'static>; 2] = [
     UNFIT,
     // The pages above the wanted ones need frames too.
@@ -108,6 +121,11 @@ static UNFITTING: [Row<'static>; 2] = [
     },
 ];
 
+#[test]
+fn a_picture_that_does_not_fit_ends_a_settled_walk_after_its_first_pass(rt: HostRuntime) {
+    hold(&rt, rt.alloc(), &UNFITTING);
+}
+
 // A walk that is refused before it writes.
 const REFUSES: Row<'static> = Row {
     left: &[],
@@ -117,7 +135,6 @@ const REFUSES: Row<'static> = Row {
     ..SETTLED
 };
 
-// A walk is refused with nothing written.
 static REFUSED: [Row<'static>; 8] = [
     Row {
         words: "walk s.vts a.path f --frames 4 --pinned 2",
@@ -172,11 +189,44 @@ static REFUSED: [Row<'static>; 8] = [
 ];
 
 #[test]
-fn each_run_of_walk_leaves_its_row(rt: HostRuntime) {
+fn a_walk_is_refused_with_nothing_written(rt: HostRuntime) {
+    hold(&rt, rt.alloc(), &REFUSED);
+}
+
+const TILES: Row<'static> = Row {
+    words: "tile g4.ppm s.vts --tile 16",
+    files: &[("g4.ppm", All(G4)), ("a.path", All(PATH))],
+    fail: None,
+    err_fail: None,
+    status: 0,
+    left: &[],
+    missing: &["journal.txt"],
+    pictures: &[],
+    out: b"store 4 4 tile 16 levels 1 pages 1 bytes 784\n",
+    err: b"",
+};
+
+// The run that makes the store of the texture with tiles of 16 texels a side.
+static TILED: Row<'static> = TILES;
+
+// A walk after it that is refused, and puts nothing after its line.
+static TOO_MANY_FRAMES: Row<'static> = Row {
+    words: "walk s.vts a.path f --frames 32769",
+    status: 2,
+    err: USAGE,
+    ..TILES
+};
+
+// Walks of one store are refused with a frame too many, and done with as many as may be.
+fn frames_hold(rt: &(impl Threads + Wait + Sync), alloc: Global, scene: &mut Scene) -> bool {
+    leaves_in(rt, alloc, &TILED, scene)
+        && leaves_in(rt, alloc, &TOO_MANY_FRAMES, scene)
+        && play(rt, alloc, "walk s.vts a.path f --frames 32768", scene) == 0
+}
+
+#[test]
+fn all_frames_have_eight_mega_texels_at_most(rt: HostRuntime) {
     let alloc = rt.alloc();
-    walk_all(&rt, alloc, "walks", &WALKS);
-    walk_all(&rt, alloc, "crews", &CREWS);
-    walk_all(&rt, alloc, "wide crews", &WIDE_CREWS);
-    hold(&rt, alloc, "unfitting", &UNFITTING);
-    hold(&rt, alloc, "refused", &REFUSED);
+    let mut scene = Scene::new(alloc);
+    assert!(rt; frames_hold(&rt, alloc, &mut scene));
 }

@@ -1,26 +1,19 @@
 //! The stores of a folder, as tests open them.
 
-ghost use Rattle.std.specs.Prelude.{◌≡◌, ◌<◌, ◌≤◌, IfSome};
+ghost use Rattle.std.specs.Prelude.{◌≡◌, ◌≤◌, IfSome};
 ghost use Rattle.vt_outside.specs.Files.{IsPiece, bytes_at};
-ghost use Rattle.vt_pages.specs.Pages.{pages_of, root_of};
+ghost use Rattle.vt_pages.specs.Pages.{root_of};
 ghost use Rattle.vt_tiles.specs.Format.{tile_start};
 ghost use Rattle.vt_tiles.specs.StoreViews.{IsStoreIfTold};
 ghost use Rattle.vt_pass.specs.Machines.{told_by, AreStoresFor};
 
 use crate::fixtures::open_store;
+use crate::pass::lawful::root_page;
 use std::alloc::Global;
 use std::process::Abort;
 use vt_outside::Folder;
 use vt_pages::Geometry;
 use vt_tiles::{Store, Stores};
-
-/// The page of the last level.
-pub fn root_page(geometry: &Geometry) -> u32
-    ensures root { result ≡ root_of geometry.now }
-    ensures inside { result < pages_of geometry.now }
-{
-    geometry.page_count() - 1
-}
 
 /// Opens a store whose tiles have the side 2 and whose samples have one byte, reads the tile of its root, and closes
 /// it.

@@ -44,68 +44,63 @@ fn misread(alloc: Global, front: &str, rows: &[(&str, Result<u32, PathError>)]) 
     None
 }
 
-// Each foreign text of other lines is refused at the first.
-const FIRST_LINES: [(&str, Result<u32, PathError>); 16] = [
-    ("", BAD1),
-    ("size 2 1", BAD1),
-    ("focal 1\nsize 2 1\n", BAD1),
-    ("size 0 1\nfocal 1\n", BAD1),
-    ("size 2 2049\nfocal 1\n", BAD1),
-    ("size 02 1\nfocal 1\n", BAD1),
-    ("size 2 01\nfocal 1\n", BAD1),
-    ("size 2  1\nfocal 1\n", BAD1),
-    ("size 2 1 \nfocal 1\n", BAD1),
-    ("size 2 1\r\nfocal 1\n", BAD1),
-    ("size 2 1\n", BAD2),
-    ("size 2 1\nfocal 1", BAD2),
-    ("size 2 1\nsize 2 1\n", BAD2),
-    ("size 2 1\nfocal 0\n", BAD2),
-    ("size 2 1\nfocal 4097\n", BAD2),
-    ("size 2 1\nfocal 1\n", Ok(0)),
-];
-
-// Each foreign key behind the two first lines is refused.
-const FIRST_KEYS: [(&str, Result<u32, PathError>); 17] = [
-    ("\n", BAD3),
-    ("at 0 0 256 16384 0", BAD3),
-    ("at 0 0 1 0 0 0\n", BAD3),
-    ("at -0 0 256 0 0\n", BAD3),
-    ("at 0 0 1 0 -0\n", BAD3),
-    ("at 0 0 0 0 0\n", BAD3),
-    ("at 0 0 16777217 1 0\n", BAD3),
-    ("at 0 0 1 16385 0\n", BAD3),
-    ("at 0 0 1 0 -16385\n", BAD3),
-    ("at 2147483649 0 1 0 0\n", BAD3),
-    ("at -2147483649 0 1 0 0\n", BAD3),
-    ("at 0 -2147483649 1 0 0\n", BAD3),
-    ("to 1 0 0 1 0\n", BAD3),
-    ("to x 0 0 1 0 0\n", BAD3),
-    ("to 1 0 0 1 0 0\n", NO_KEY),
-    ("to 9999 0 0 1 0 0\n", NO_KEY),
-    ("to 9999 0 0 1 0 0\nat\n", NO_KEY),
-];
-
-// Each foreign key behind a first one is refused.
-const FURTHER_KEYS: [(&str, Result<u32, PathError>); 6] = [
-    ("", Ok(1)),
-    ("\n", BAD4),
-    ("to 0 0 0 1 0 0\n", BAD4),
-    ("to 10000 0 0 1 0 0\n", BAD4),
-    ("to 9999 0 0 1 0 0\n", MANY),
-    ("to 9998 0 0 1 0 0\nat 0 0 1 0 0\nat\n", MANY),
-];
-
-// A path of one key.
-const ONE_KEY: &str = "size 2 1\nfocal 1\nat 0 0 256 16384 0\n";
+#[test]
+fn each_foreign_text_of_other_lines_is_refused_at_the_first(rt: HostRuntime) {
+    const ROWS: [(&str, Result<u32, PathError>); 16] = [
+        ("", BAD1),
+        ("size 2 1", BAD1),
+        ("focal 1\nsize 2 1\n", BAD1),
+        ("size 0 1\nfocal 1\n", BAD1),
+        ("size 2 2049\nfocal 1\n", BAD1),
+        ("size 02 1\nfocal 1\n", BAD1),
+        ("size 2 01\nfocal 1\n", BAD1),
+        ("size 2  1\nfocal 1\n", BAD1),
+        ("size 2 1 \nfocal 1\n", BAD1),
+        ("size 2 1\r\nfocal 1\n", BAD1),
+        ("size 2 1\n", BAD2),
+        ("size 2 1\nfocal 1", BAD2),
+        ("size 2 1\nsize 2 1\n", BAD2),
+        ("size 2 1\nfocal 0\n", BAD2),
+        ("size 2 1\nfocal 4097\n", BAD2),
+        ("size 2 1\nfocal 1\n", Ok(0)),
+    ];
+    no_row_is_wrong(&rt, misread(rt.alloc(), "", &ROWS));
+}
 
 #[test]
-fn each_foreign_text_is_read_or_refused_at_its_first_flaw(rt: HostRuntime) {
-    let alloc = rt.alloc();
-    no_row_is_wrong(&rt, "first lines", misread(alloc, "", &FIRST_LINES));
-    no_row_is_wrong(
-        &rt,
-        "first keys",
-        misread(alloc, "size 2 1\nfocal 1\n", &FIRST_KEYS),
-    );
-    no_row_is_wrong(&rt, "further keys", misread(alloc, ONE_KEY, &FURTHER_KEYS));
+fn each_foreign_key_behind_the_two_first_lines_is_refused(rt: HostRuntime) {
+    const ROWS: [(&str, Result<u32, PathError>); 17] = [
+        ("\n", BAD3),
+        ("at 0 0 256 16384 0", BAD3),
+        ("at 0 0 1 0 0 0\n", BAD3),
+        ("at -0 0 256 0 0\n", BAD3),
+        ("at 0 0 1 0 -0\n", BAD3),
+        ("at 0 0 0 0 0\n", BAD3),
+        ("at 0 0 16777217 1 0\n", BAD3),
+        ("at 0 0 1 16385 0\n", BAD3),
+        ("at 0 0 1 0 -16385\n", BAD3),
+        ("at 2147483649 0 1 0 0\n", BAD3),
+        ("at -2147483649 0 1 0 0\n", BAD3),
+        ("at 0 -2147483649 1 0 0\n", BAD3),
+        ("to 1 0 0 1 0\n", BAD3),
+        ("to x 0 0 1 0 0\n", BAD3),
+        ("to 1 0 0 1 0 0\n", NO_KEY),
+        ("to 9999 0 0 1 0 0\n", NO_KEY),
+        ("to 9999 0 0 1 0 0\nat\n", NO_KEY),
+    ];
+    no_row_is_wrong(&rt, misread(rt.alloc(), "size 2 1\nfocal 1\n", &ROWS));
+}
+
+#[test]
+fn each_foreign_key_behind_a_first_one_is_refused(rt: HostRuntime) {
+    const ROWS: [(&str, Result<u32, PathError>); 6] = [
+        ("", Ok(1)),
+        ("\n", BAD4),
+        ("to 0 0 0 1 0 0\n", BAD4),
+        ("to 10000 0 0 1 0 0\n", BAD4),
+        ("to 9999 0 0 1 0 0\n", MANY),
+        ("to 9998 0 0 1 0 0\nat 0 0 1 0 0\nat\n", MANY),
+    ];
+    let front = "size 2 1\nfocal 1\nat 0 0 256 16384 0\n";
+    no_row_is_wrong(&rt, misread(rt.alloc(), front, &ROWS));
 }

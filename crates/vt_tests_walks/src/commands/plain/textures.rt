@@ -6,7 +6,6 @@ use super::{DRAWS, REFUSES};
 use std::test::*;
 
 // Each fault of a texture, with its place.
-// A flawed texture is told with its place.
 static FLAWED: [Row<'static>; 9] = [
     Row {
         files: &[("g4.ppm", All(b"")), ("a.path", All(PATH))],
@@ -62,22 +61,30 @@ static FLAWED: [Row<'static>; 9] = [
     },
 ];
 
+#[test]
+fn a_flawed_texture_is_told_with_its_place(rt: HostRuntime) {
+    hold(&rt, rt.alloc(), &FLAWED);
+}
+
 // The first picture's texture with 100 as its maximum: 13 becomes 33, and 1 becomes 3.
 const G100: &[u8] =
     b"P6\n4 4\n100\n\x00\x00\x00\x01\x01\x01\x02\x02\x02\x03\x03\x03\x04\x04\x04\x05\x05\x05\x06\x06\
         \x06\x07\x07\x07\x08\x08\x08\x09\x09\x09\x0a\x0a\x0a\x0b\x0b\x0b\x0c\x0c\x0c\x0d\x0d\x0d\x0e\x0e\
         \x0e\x0f\x0f\x0f";
 
-// A texture is scaled by its maximum.
 static SCALED: [Row<'static>; 1] = [Row {
     files: &[("g4.ppm", All(G100)), ("a.path", All(PATH))],
     pictures: &[b"P6\n2 1\n255\n\x21\x21\x21\x03\x03\x03"],
     ..DRAWS
 }];
 
+#[test]
+fn a_texture_is_scaled_by_its_maximum(rt: HostRuntime) {
+    hold(&rt, rt.alloc(), &SCALED);
+}
+
 const SINGLE_PATH: &[u8] = b"size 1 1\nfocal 1\nat 0 0 256 16384 0\n";
 
-// A picture has the depth of its texture.
 static DEPTHS: [Row<'static>; 3] = [
     Row {
         files: &[
@@ -106,9 +113,6 @@ static DEPTHS: [Row<'static>; 3] = [
 ];
 
 #[test]
-fn each_texture_is_drawn_or_refused_by_its_row(rt: HostRuntime) {
-    let alloc = rt.alloc();
-    hold(&rt, alloc, "flawed", &FLAWED);
-    hold(&rt, alloc, "scaled", &SCALED);
-    hold(&rt, alloc, "depths", &DEPTHS);
+fn a_picture_has_the_depth_of_its_texture(rt: HostRuntime) {
+    hold(&rt, rt.alloc(), &DEPTHS);
 }

@@ -1,5 +1,5 @@
-// Runs over textures and a store that are large, or whose headers say so.
-use super::super::files::{PATH, USAGE};
+// Runs over textures that are large, or whose headers say so.
+use super::super::files::PATH;
 use super::super::rows::Held::All;
 use super::super::rows::{Row, hold, leaves_in};
 use super::super::runs::Scene;
@@ -8,28 +8,12 @@ use std::alloc::Global;
 use std::sync::Wait;
 use std::test::*;
 use std::thread::Threads;
-use vt_outside::MemoryFolder;
 
-// So many bytes that are all the same but for a header.
-#[derive(Clone, Copy)]
-struct Even {
-    header: &'static [u8],
-    length: usize,
-    sample: u8,
-}
-
-// A run over the bytes that `t.ppm` holds, and the store that it leaves, if there is one.
-struct Large {
-    row: Row<'static>,
-    over: Even,
-    store: Option<Even>,
-}
-
-// The bytes themselves; none where memory is wanting, and then the rows below fail.
-fn bytes_of(alloc: Global, even: &Even) -> Vec<u8> {
-    match vec![in alloc; even.sample; even.length] {
+// So many bytes that are all the same but for a header; none where memory is wanting, and then the rows below fail.
+fn even(alloc: Global, header: &[u8], length: usize, sample: u8) -> Vec<u8> {
+    match vec![in alloc; sample; length] {
         Ok(mut bytes) => {
-            write_front(&mut bytes, even.header);
+            write_front(&mut bytes, header);
             bytes
         }
         Err(_) => Vec::new(alloc),
@@ -43,130 +27,86 @@ fn write_front(bytes: &mut [u8], header: &[u8]) {
     }
 }
 
-// Whether this is the store that stands, or none does.
-fn has_store(alloc: Global, folder: &MemoryFolder, store: &Option<Even>) -> bool {
-    match store {
-        Some(even) => folder.holds("s.vts", &bytes_of(alloc, even)),
-        None => folder.bytes_of("s.vts").is_none(),
-    }
+// The run of a row over this texture leaves what the row says, the texture, and this store, if there is one.
+fn leaves_over(
+    rt: &(impl Threads + Wait + Sync),
+    alloc: Global,
+    row: &Row<'_>,
+    texture: &[u8],
+    store: Option<&[u8]>,
+) -> bool {
+    let mut scene = Scene::new(alloc);
+    stands_over(rt, alloc, row, texture, store, &mut scene)
 }
 
-// The run leaves what its row says, the bytes that it is over, and its store, in a scene that is empty before.
+// The same over an empty scene.
 fn stands_over(
     rt: &(impl Threads + Wait + Sync),
     alloc: Global,
-    large: &Large,
+    row: &Row<'_>,
     texture: &[u8],
+    store: Option<&[u8]>,
     scene: &mut Scene,
 ) -> bool {
     scene.folder.add("t.ppm", texture).is_ok()
-        && leaves_in(rt, alloc, &large.row, scene)
+        && leaves_in(rt, alloc, row, scene)
         && scene.folder.holds("t.ppm", texture)
-        && has_store(alloc, &scene.folder, &large.store)
+        && scene.folder.bytes_of("s.vts") == store
 }
 
-// The same in a scene of its own.
-fn leaves_over(rt: &(impl Threads + Wait + Sync), alloc: Global, large: &Large) -> bool {
-    let texture = bytes_of(alloc, &large.over);
-    let mut scene = Scene::new(alloc);
-    stands_over(rt, alloc, large, &texture, &mut scene)
+// The store of the widest texture begins so.
+static WIDEST_HEAD: &[u8] = b"VTS1\x00\x00\x40\x00\x00\x00\x00\x02\x00\x00\x00\x02";
+
+static WIDEST: Row<'static> = Row {
+    files: &[("a.path", All(PATH))],
+    left: &[],
+    out: b"store 16384 2 tile 2 levels 14 pages 16383 bytes 196612\n",
+    ..TILES
+};
+
+#[test]
+fn the_widest_texture_is_tiled(rt: HostRuntime) {
+    let alloc = rt.alloc();
+    let texture = even(alloc, b"P6\n16384 2\n255\n", 15 + 3 * 32768, 7);
+    let store = even(alloc, WIDEST_HEAD, 196612, 7);
+    assert!(rt; leaves_over(&rt, alloc, &WIDEST, &texture, Some(&store)));
 }
 
-// A run over a texture of 1024x768 texels, which has a page more than a store may have.
-const TOO_MANY_PAGES: Row<'static> = Row {
+// One page more than a store may have.
+static TOO_MANY_PAGES: Row<'static> = Row {
     files: &[("a.path", All(PATH))],
     err: b"vtex: bad input: t.ppm: too many pages 262145\n",
     ..REFUSES
 };
 
-const TOO_MANY_TEXELS: Even = Even {
-    header: b"P6\n1024 768\n255\n",
-    length: 16 + 3 * 786432,
-    sample: 0,
-};
-
-// A walk over the store of a texture of 4x4 texels in one tile of 16, in as many frames as eight mega-texels fill.
-const MOST_FRAMES: Row<'static> = Row {
-    words: "walk t.ppm a.path f --frames 32768",
+// Its samples are looked over before its pages are counted.
+static OVER_MAXIMUM: Row<'static> = Row {
     files: &[("a.path", All(PATH))],
-    left: &[(
-        "journal.txt",
-        All(b"map 1 0 0 0 0\npass 1 picture 0 start 1\nrow 0 0 1\n"),
-    )],
-    pictures: &[b"P6\n2 1\n255\n\x07\x07\x07\x07\x07\x07"],
-    out: b"picture 0 passes 1 wanted 1 loaded 0 lost 0 evicted 0\nend pictures 1 reads 1\n",
-    ..TILES
+    err: b"vtex: bad input: t.ppm: sample over maximum at byte 16\n",
+    ..REFUSES
 };
 
-const TILE_OF_16: Even = Even {
-    header: b"VTS1\x00\x00\x00\x04\x00\x00\x00\x04\x00\x00\x00\x10",
-    length: 784,
-    sample: 7,
-};
+// The run of a row over such a texture of 1024x768 texels leaves what the row says, and no store.
+fn refuses_even(
+    rt: &(impl Threads + Wait + Sync),
+    alloc: Global,
+    row: &Row<'_>,
+    header: &[u8],
+    sample: u8,
+) -> bool {
+    let texture = even(alloc, header, 16 + 3 * 786432, sample);
+    leaves_over(rt, alloc, row, &texture, None)
+}
 
-static LARGE: [Large; 5] = [
-    // The widest texture.
-    Large {
-        row: Row {
-            files: &[("a.path", All(PATH))],
-            left: &[],
-            out: b"store 16384 2 tile 2 levels 14 pages 16383 bytes 196612\n",
-            ..TILES
-        },
-        over: Even {
-            header: b"P6\n16384 2\n255\n",
-            length: 15 + 3 * 32768,
-            sample: 7,
-        },
-        store: Some(Even {
-            header: b"VTS1\x00\x00\x40\x00\x00\x00\x00\x02\x00\x00\x00\x02",
-            length: 196612,
-            sample: 7,
-        }),
-    },
-    Large {
-        row: TOO_MANY_PAGES,
-        over: TOO_MANY_TEXELS,
-        store: None,
-    },
-    // Its samples are looked over before its pages are counted.
-    Large {
-        row: Row {
-            err: b"vtex: bad input: t.ppm: sample over maximum at byte 16\n",
-            ..TOO_MANY_PAGES
-        },
-        over: Even {
-            header: b"P6\n1024 768\n254\n",
-            sample: 255,
-            ..TOO_MANY_TEXELS
-        },
-        store: None,
-    },
-    Large {
-        row: MOST_FRAMES,
-        over: TILE_OF_16,
-        store: None,
-    },
-    // A frame more.
-    Large {
-        row: Row {
-            words: "walk t.ppm a.path f --frames 32769",
-            status: 2,
-            left: &[],
-            missing: &["journal.txt"],
-            pictures: &[],
-            out: b"",
-            err: USAGE,
-            ..MOST_FRAMES
-        },
-        over: TILE_OF_16,
-        store: None,
-    },
-];
+#[test]
+fn a_texture_may_have_too_many_pages(rt: HostRuntime) {
+    let alloc = rt.alloc();
+    assert!(rt; refuses_even(&rt, alloc, &TOO_MANY_PAGES, b"P6\n1024 768\n255\n", 0));
+    assert!(rt; refuses_even(&rt, alloc, &OVER_MAXIMUM, b"P6\n1024 768\n254\n", 255));
+}
 
 const BAD_SIZE: &[u8] = b"vtex: bad input: t.ppm: bad size\n";
 
-// What is cut into tiles may have larger sides than what is drawn as it is.
 static WIDE_SIDES: [Row<'static>; 4] = [
     Row {
         files: &[("t.ppm", All(b"P6 16385 1 255\n")), ("a.path", All(PATH))],
@@ -192,10 +132,6 @@ static WIDE_SIDES: [Row<'static>; 4] = [
 ];
 
 #[test]
-fn each_large_run_leaves_its_row(rt: HostRuntime) {
-    let alloc = rt.alloc();
-    for i in 0..LARGE.len() {
-        assert!(rt; leaves_over(&rt, alloc, &LARGE[i]), "large: row {i}");
-    }
-    hold(&rt, alloc, "wide sides", &WIDE_SIDES);
+fn what_is_cut_into_tiles_may_have_larger_sides(rt: HostRuntime) {
+    hold(&rt, rt.alloc(), &WIDE_SIDES);
 }

@@ -36,7 +36,6 @@ const STOPS_G15: Row<'static> = Row {
 // The texture is opened, its header is read, and its samples are looked over before the store is created. A failed append leaves the
 // first half of its piece: the header, the two rows of tiles of level 0, each of which is read before it is appended, and that of
 // level 1. A failed put leaves the first half of the line's 43 bytes.
-// A call that fails stops tile.
 static TILES_STOPPED: [Row<'static>; 14] = [
     TILES_G15,
     Row {
@@ -122,6 +121,11 @@ static TILES_STOPPED: [Row<'static>; 14] = [
     },
 ];
 
+#[test]
+fn a_call_that_fails_stops_tile(rt: HostRuntime) {
+    hold(&rt, rt.alloc(), &TILES_STOPPED);
+}
+
 // A run of `info` that a call stops.
 const INFO_STOPS: Row<'static> = Row {
     status: 3,
@@ -130,7 +134,6 @@ const INFO_STOPS: Row<'static> = Row {
     ..INFORMS
 };
 
-// A call that fails stops info.
 static INFO_STOPPED: [Row<'static>; 3] = [
     Row {
         fail: Some(Fail::Open(0)),
@@ -149,17 +152,18 @@ static INFO_STOPPED: [Row<'static>; 3] = [
     },
 ];
 
+#[test]
+fn a_call_that_fails_stops_info(rt: HostRuntime) {
+    hold(&rt, rt.alloc(), &INFO_STOPPED);
+}
+
 // A second creation would fail.
-// A store is created once.
 static CREATED_ONCE: [Row<'static>; 1] = [Row {
     fail: Some(Fail::Create(1)),
     ..TILES
 }];
 
 #[test]
-fn each_stopped_run_of_tile_and_info_leaves_its_row(rt: HostRuntime) {
-    let alloc = rt.alloc();
-    hold(&rt, alloc, "tiles stopped", &TILES_STOPPED);
-    hold(&rt, alloc, "info stopped", &INFO_STOPPED);
-    hold(&rt, alloc, "created once", &CREATED_ONCE);
+fn a_store_is_created_once(rt: HostRuntime) {
+    hold(&rt, rt.alloc(), &CREATED_ONCE);
 }

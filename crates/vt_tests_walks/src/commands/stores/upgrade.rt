@@ -45,7 +45,6 @@ const STOPS: Row<'static> = Row {
     ..REFUSES
 };
 
-// A store is upgraded.
 static UPGRADED: [Row<'static>; 3] = [
     UPGRADES,
     INFORMS,
@@ -56,6 +55,12 @@ static UPGRADED: [Row<'static>; 3] = [
     },
 ];
 
+#[test]
+fn a_store_is_upgraded(rt: HostRuntime) {
+    assert!(rt; WIDE_STORE.len() == 136);
+    hold(&rt, rt.alloc(), &UPGRADED);
+}
+
 // The store of one texel has other texels in its tile, which no level has.
 const EDGED: &[u8] =
     b"VTS1\x00\x00\x00\x01\x00\x00\x00\x01\x00\x00\x00\x02\x0a\x14\xff\x01\x01\x01\x02\x02\x02\x03\x03\x03";
@@ -64,7 +69,6 @@ const WIDE_EDGED: &[u8] =
     b"VTS2\x00\x00\x00\x01\x00\x00\x00\x01\x00\x00\x00\x02\x0a\x0a\x14\x14\xff\xff\x0a\x0a\x14\x14\xff\xff\
         \x0a\x0a\x14\x14\xff\xff\x0a\x0a\x14\x14\xff\xff";
 
-// Past an edge the last texel stands again.
 static PAST_AN_EDGE: [Row<'static>; 1] = [Row {
     files: &[("s.vts", All(EDGED)), ("a.path", All(PATH))],
     left: &[("w.vts", All(WIDE_EDGED))],
@@ -72,19 +76,27 @@ static PAST_AN_EDGE: [Row<'static>; 1] = [Row {
     ..UPGRADES
 }];
 
-// A name that is there is written anew.
+#[test]
+fn past_an_edge_the_last_texel_stands_again(rt: HostRuntime) {
+    hold(&rt, rt.alloc(), &PAST_AN_EDGE);
+}
+
 static WRITTEN_ANEW: [Row<'static>; 1] = [Row {
     words: "upgrade s.vts a.path",
     left: &[("a.path", All(WIDE_STORE))],
     ..UPGRADES
 }];
 
+#[test]
+fn a_name_that_is_there_is_written_anew(rt: HostRuntime) {
+    hold(&rt, rt.alloc(), &WRITTEN_ANEW);
+}
+
 const TAKEN_FOR_WIDE: &[u8] =
     b"VTS2\x00\x00\x00\x01\x00\x00\x00\x01\x00\x00\x00\x02\x0a\x14\x1e\x0a\x14\x1e\x0a\x14\x1e\x0a\x14\x1e";
 
 const TILE_OF_THREE: &[u8] = b"VTS1\x00\x00\x00\x04\x00\x00\x00\x04\x00\x00\x00\x03";
 
-// A store that is wide flawed or missing is refused.
 static REFUSED: [Row<'static>; 8] = [
     Row {
         files: &[("s.vts", All(WIDE_STORE)), ("a.path", All(PATH))],
@@ -127,7 +139,11 @@ static REFUSED: [Row<'static>; 8] = [
     },
 ];
 
-// Words that are not two names are refused.
+#[test]
+fn a_store_that_is_wide_flawed_or_missing_is_refused(rt: HostRuntime) {
+    hold(&rt, rt.alloc(), &REFUSED);
+}
+
 static NOT_TWO_NAMES: [Row<'static>; 5] = [
     Row {
         words: "upgrade",
@@ -151,6 +167,11 @@ static NOT_TWO_NAMES: [Row<'static>; 5] = [
     },
 ];
 
+#[test]
+fn words_that_are_not_two_names_are_refused(rt: HostRuntime) {
+    hold(&rt, rt.alloc(), &NOT_TWO_NAMES);
+}
+
 // A run that a call stops when the new store has been created.
 const STOPS_AMID: Row<'static> = Row {
     status: 3,
@@ -159,7 +180,6 @@ const STOPS_AMID: Row<'static> = Row {
     ..UPGRADES
 };
 
-// A call that fails stops upgrade.
 static STOPPED: [Row<'static>; 12] = [
     Row {
         fail: Some(Fail::Open(0)),
@@ -234,8 +254,12 @@ static STOPPED: [Row<'static>; 12] = [
     },
 ];
 
+#[test]
+fn a_call_that_fails_stops_upgrade(rt: HostRuntime) {
+    hold(&rt, rt.alloc(), &STOPPED);
+}
+
 // One call more than these would fail.
-// Each piece is read and written once.
 static ONCE_EACH: [Row<'static>; 5] = [
     Row {
         fail: Some(Fail::Open(1)),
@@ -263,13 +287,6 @@ static ONCE_EACH: [Row<'static>; 5] = [
 ];
 
 #[test]
-fn each_run_of_upgrade_leaves_its_row(rt: HostRuntime) {
-    let alloc = rt.alloc();
-    hold(&rt, alloc, "upgraded", &UPGRADED);
-    hold(&rt, alloc, "past an edge", &PAST_AN_EDGE);
-    hold(&rt, alloc, "written anew", &WRITTEN_ANEW);
-    hold(&rt, alloc, "refused", &REFUSED);
-    hold(&rt, alloc, "not two names", &NOT_TWO_NAMES);
-    hold(&rt, alloc, "stopped", &STOPPED);
-    hold(&rt, alloc, "once each", &ONCE_EACH);
+fn each_piece_is_read_and_written_once(rt: HostRuntime) {
+    hold(&rt, rt.alloc(), &ONCE_EACH);
 }

@@ -1,6 +1,6 @@
 use Rattle.std.proofs.Common.{◌∙◌}
 use Rattle.vt_still.proofs.Rooms.{untouched}
-use Rattle.vt_tests_walks.proofs.pass.pass.Goals as goal
+use Rattle.vt_tests_walks.proofs.pass.kits.pass.Goals as goal
 
 pub returns-clause-setup : goal.returns-clause-setup
 returns-clause-setup g c =

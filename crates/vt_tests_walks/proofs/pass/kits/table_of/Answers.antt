@@ -8,7 +8,7 @@ use Rattle.vt_table.specs.Views.{TableView}
 use Rattle.vt_rounds.specs.Frames.{HoldsTiles}
 use Rattle.vt_rounds.specs.Streams.{IsTileOf}
 use Rattle.vt_rounds.proofs.Entries.{holds_mapped}
-use Rattle.vt_tests_walks.proofs.pass.table_of.Goals as goal
+use Rattle.vt_tests_walks.proofs.pass.kits.table_of.Goals as goal
 
 -- where there are no changes no page is mapped
 none_mapped : (js : List Change) (page : ℕ) → js ≡ [] → newest js page ≡ None

@@ -10,7 +10,7 @@ use Rattle.vt_rounds.specs.Frames.{HoldsTiles}
 use Rattle.vt_pass.specs.Machines.{told_by}
 use Rattle.vt_rounds.specs.Streams.{IsTileOf}
 use Rattle.vt_still.specs.Kits.{KitView, IsKit, IsIdleKit}
-use Rattle.vt_tests_walks.proofs.pass.drive_kit.Goals as goal
+use Rattle.vt_tests_walks.proofs.pass.kits.drive_kit.Goals as goal
 
 tile_size : (s : Shape) → s.tile ≡ 2 → tile_length s 1 ≡ 12
 tile_size s side = ap (λ (t : ℕ). tile_length (record s { tile = t }) 1) side
@@ -26,8 +26,8 @@ idle_over g s v k stores told table shape kit its depth same tells holds = recor
   holds = subst (λ (x : ℕ × Option (List ℕ)). HoldsTiles v x.0 x.1) (λ i. (sym depth i, sym (ap (told_by g) same ∙ tells) i)) holds;
 }
 
-pub run_one-right-requires-clause-idle : goal.run_one-right-requires-clause-idle
-run_one-right-requires-clause-idle g c κs within =
+pub run_two-right-requires-clause-idle : goal.run_two-right-requires-clause-idle
+run_two-right-requires-clause-idle g c κs within =
     let s = c.read_root-geometry.result in
     let told = bytes_at (g.D.Folder.files c.args.folder.now) (115 ∷ []) in
     let tile : IsTileOf s 1 told (root_of s) c.read_root-geometry.new.tile = record {
