@@ -1,9 +1,8 @@
 -- What a streamer keeps, after each of its calls.
 use Rattle.std.proofs.Common.{◌≡◌, ℕ, ◌+◌, ◌-◌, ◌*◌, ◌<◌, ◌≤◌, List, [], ◌∷◌, ◌++◌, length, get_or, set, replicate, refl, sym, ap, ◌∙◌, subst, arith, Some, None, inl, inr, length-set}
-use Rattle.atomic_table.specs.Seated.{TableId}
 use Rattle.vt_definitions.specs.Limits.{most_frames}
 use Rattle.vt_pages.specs.Shape.{Shape}
-use Rattle.vt_pages.specs.Pages.{pages_of, root_of, IsWithinLimits}
+use Rattle.vt_pages.specs.Pages.{pages_of, IsWithinLimits}
 use Rattle.vt_journal.specs.declared.changes.Change.{Change}
 use Rattle.vt_journal.specs.Changes.{Table, at, newest, changed, IsFree, IsLegalNext}
 use Rattle.vt_journal.specs.Kept.{entries_of}
@@ -14,7 +13,6 @@ use Rattle.vt_table.proofs.Keeping.{entries_none}
 use Rattle.vt_grace.specs.declared.sizes.Sizes.{Sizes}
 use Rattle.vt_grace.specs.declared.views.WriterView.{WriterView}
 use Rattle.vt_grace.specs.Values.{WordsValue, WriterValue}
-use Rattle.vt_grace.specs.Changes.{IsNextKeeping}
 use Rattle.vt_grace.specs.Sizes.{sizes_of}
 use Rattle.vt_grace.specs.Places.{entry_place, bank_of}
 use Rattle.vt_grace.specs.WriterViews.{first_writer}
@@ -184,13 +182,6 @@ pub seat_of : (words : WordsValue) (s : Shape) (seat : WriterValue) (spare : ℕ
     → IsStreamerOf words v → IsWriterOf words seat
 seat_of words s seat spare owners v is of = let h = subst (IsStreamerOf words) (sym is) of in record { table = h.table; sizes = h.seen; limits = h.limits }
 
--- what is seen, where only the writer's view changed
-pub seen_but_writer : (s : Shape) (seat seat' : WriterValue) (spare : ℕ) (owners : List ℕ) (v : StreamerView) → view_of s seat spare owners ≡ v
-    → seat'.table ≡ seat.table → view_of s seat' spare owners ≡ record v { writer = seat'.view }
-seen_but_writer s seat seat' spare owners v is same =
-    ap (λ (t : TableId). let x : StreamerView = record { table = t; shape = s; writer = seat'.view; spare = spare; owners = owners } in x) same
-    ∙ ap (λ (x : StreamerView). record x { writer = seat'.view }) is
-
 -- looks leave the journal and the banks
 pub alike_looked : (v w : WriterView) → HasLooked v w → IsAlike v w
 alike_looked v w h = record { sizes = ap (λ (x : WriterView). x.sizes) h.rest; journal = ap (λ (x : WriterView). x.journal) h.rest; entries = ap (λ (x : WriterView). x.entries) h.rest }
@@ -200,13 +191,6 @@ pub asks_all : (z : Sizes) (s : Shape) (seat : WriterValue) (spare samplers : �
     → seat.view.sizes ≡ z → IsKept (view_of s seat spare owners) samplers changes entries floors since → AreInside z changes
 asks_all z s seat spare samplers owners entries floors since changes same k =
     subst (λ (x : Sizes × List Change). AreInside x.0 x.1) (λ i. (same i, k.journal i)) k.inside
-
-pub asks_next : (z : Sizes) (s : Shape) (seat : WriterValue) (spare samplers : ℕ) (owners entries floors since : List ℕ) (changes : List Change) (change : Change)
-    → seat.view.sizes ≡ z → IsKept (view_of s seat spare owners) samplers changes entries floors since → IsLegalNext s (newest seat.view.journal) change
-    → IsNextKeeping z.root (newest changes) change
-asks_next z s seat spare samplers owners entries floors since changes change same k legal =
-    let root : root_of s ≡ z.root = sym (ap (λ (x : Sizes). x.root) k.sizes) ∙ ap (λ (x : Sizes). x.root) same in
-    subst (λ (x : ℕ × List Change). IsNextKeeping x.0 (newest x.1) change) (λ i. (root i, k.journal i)) legal
 
 pub asks_inside : (z : Sizes) (s : Shape) (seat : WriterValue) (spare samplers : ℕ) (owners entries floors since : List ℕ) (changes : List Change) (change : Change)
     → seat.view.sizes ≡ z → IsKept (view_of s seat spare owners) samplers changes entries floors since → IsWithin (table_of (view_of s seat spare owners)) change

@@ -6,7 +6,6 @@ use Rattle.vt_journal.specs.declared.changes.Change.{Change}
 use Rattle.vt_journal.specs.declared.changes.Change.TheVariants.{Map, Unmap}
 use Rattle.vt_journal.specs.Changes.{Table, at, newest, changed, with_entry}
 use Rattle.vt_journal.specs.Lookups.{change_page}
-use Rattle.vt_journal.specs.Kept.{change_frame}
 use Rattle.vt_journal.proofs.Versions.{entry-same, entry-other, at-front, at-next, newest-more}
 use Rattle.vt_grace.specs.declared.sizes.Sizes.{Sizes}
 use Rattle.vt_grace.specs.declared.views.WriterView.{WriterView}
@@ -116,8 +115,3 @@ published_by v x y w page entry change entered step after =
     let all : w ≡ after_change (after_entry (record v { entries = x.entries }) page entry) change =
     after ∙ ap (λ (z : WriterView). after_change z change) (step ∙ ap (λ (z : WriterView). after_entry z page entry) entered.rest) in
     subst (λ (z : WriterView). HasPublished v z change) (sym all) record { journal = refl; contents = refl; rest = refl }
-
--- the entry of a change is small
-pub small_entry : (change : Change) (frames : ℕ) → change_frame change < frames → new_entry change ≤ frames
-small_entry (Map page frame) frames low = omega arith
-small_entry (Unmap page frame) frames low = omega arith

@@ -8,10 +8,6 @@ use Rattle.vt_grace.specs.declared.views.WriterView.{WriterView}
 use Rattle.vt_grace.specs.WriterViews.{version_of, floor_of, raised, after_look}
 use Rattle.vt_streamer.specs.Looks.{HasLooked, IsBehind, IsFirstBehind}
 
--- no look
-pub looked_none : (v : WriterView) → HasLooked v v
-looked_none v = record { rest = refl; up = λ k. omega arith; more = []; looks = refl }
-
 raised_up : (v f n : ℕ) → f ≤ v → f ≤ raised v f n
 raised_up v f zero low = low
 raised_up v f (suc k) low = omega arith
@@ -40,21 +36,6 @@ looked_on u v w first second = record {
   up = λ k. let a = first.up k in let b = second.up k in omega arith;
   more = second.more ++ first.more;
   looks = second.looks ∙ ap (λ ls. second.more ++ ls) first.looks ∙ sym (append_assoc second.more first.more u.looks);
-}
-
--- a look after which the floor is still too low found an announcement that is too low
-missed : (v f n least now : ℕ) → now ≡ raised v f n → now < least → least ≤ v → (n - 1 < least) × (n ≡ n - 1 + 1)
-missed v f zero least now is low top = absurd (omega arith)
-missed v f (suc k) least now is low top = (omega arith, omega arith)
-
-pub behind_now : (v w : WriterView) (sampler word floor now least : ℕ) → w ≡ after_look v sampler word → sampler < length v.floors → floor ≡ floor_of v sampler
-    → now ≡ raised (version_of v) floor word → now < least → least ≤ version_of v → IsBehind v w least sampler (word - 1)
-behind_now v w sampler word floor now least after inside at is low top = subst (λ (x : WriterView). IsBehind v x least sampler (word - 1)) (sym after) record {
-  below = (missed (version_of v) floor word least now is low top).0;
-  low = let here : floor_of (after_look v sampler word) sampler ≡ now = get_or-set_same v.floors sampler (raised (version_of v) (floor_of v sampler) word) 0 inside
-      ∙ ap (λ (f : ℕ). raised (version_of v) f word) (sym at) ∙ sym is in omega arith;
-  before = [];
-  looks = ap (λ (x : ℕ). let l : Look = record { sampler = sampler; word = x } in l ∷ v.looks) (missed (version_of v) floor word least now is low top).1;
 }
 
 -- the first that is behind, after looks at those before it
