@@ -14,7 +14,7 @@ use std::alloc::Global;
 use std::sync::Wait;
 use std::thread::Threads;
 use vt_outside::{Folder, Gate, Sink};
-use vt_pass::PassMachine;
+use vt_machine::PassMachine;
 
 /// Does what the words after the program's name say, and answers the status of the program: 0 where it is done, 1 for want
 /// of memory, 2 for words that are those of no command, 3 for a fault or a missing name, 4 for an input outside its format, 5

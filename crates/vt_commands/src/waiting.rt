@@ -16,7 +16,7 @@ use std::sync::Wait;
 use std::thread::Threads;
 use vt_inputs::{Refusal, status_of, tell_end};
 use vt_outside::{Folder, Gate, Sink};
-use vt_pass::PassMachine;
+use vt_machine::PassMachine;
 use vt_walk_commands::{trial, walk};
 use vt_words::{Command, read_command};
 

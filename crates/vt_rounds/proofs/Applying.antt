@@ -20,11 +20,11 @@ use Rattle.vt_queue.specs.declared.items.Loaded.{Loaded}
 use Rattle.vt_queue.specs.declared.items.Outcome.TheVariants.{Read}
 use Rattle.vt_load.specs.Readings.{is_lost}
 use Rattle.vt_loaders.specs.Results.{IsGood}
-use Rattle.vt_pass.specs.Outcomes.{IsEntryFor, IsBatchFor, group_of, group_if}
+use Rattle.vt_machine.specs.Outcomes.{IsEntryFor, IsBatchFor, group_of, group_if}
 use Rattle.vt_rounds.specs.Frames.{HoldsTiles}
 use Rattle.vt_rounds.specs.Streams.{Publishes, IsTileOf}
 use Rattle.vt_rounds.specs.BatchRounds.{page_if, result_group, result_events, IsResultOf, AreApplied}
-use Rattle.vt_pass.proofs.Streaming.{entry_stays}
+use Rattle.vt_machine.proofs.Streaming.{entry_stays}
 
 -- The buffer of a good result that was read is the tile of its page.
 pub is_tile_of : (bytes : Option (List ℕ)) (s : Shape) (d page : ℕ) (x : Loaded) → IsGood bytes s d x → x.outcome ≡ Read → x.request.page ≡ page

@@ -16,7 +16,7 @@ use Rattle.vt_plan.specs.declared.batches.Planned.{Planned}
 use Rattle.vt_definitions.specs.Depths.{IsDepth, texel_length}
 use Rattle.vt_tiles.specs.Format.{tile_length}
 use Rattle.vt_table.specs.Views.{TableView, IsTable, IsTile, IsWithin, tile_of}
-use Rattle.vt_pass.specs.Outcomes.{IsEntryFor, IsVictimOf, victim_events, group_of}
+use Rattle.vt_machine.specs.Outcomes.{IsEntryFor, IsVictimOf, victim_events, group_of}
 use Rattle.vt_rounds.specs.Frames.{HasTile, HoldsTiles}
 use Rattle.vt_rounds.specs.Streams.{Publishes, IsTileOf}
 

@@ -20,9 +20,9 @@ use Rattle.vt_loaders.specs.declared.queued.Queues.{Queues}
 use Rattle.vt_load.specs.Readings.{is_lost, is_readable}
 use Rattle.vt_loaders.specs.Results.{wanted_by, IsGood}
 use Rattle.vt_loaders.specs.QueuedLoaders.{QueuedView, stores_of, HasLoaded, IsLoaderOf, AreSplitOff}
-use Rattle.vt_pass.specs.Outcomes.{group_if, IsEntryFor, IsOutcome}
-use Rattle.vt_pass.specs.Requests.{AreReadFor}
-use Rattle.vt_pass.specs.Machines.{files_of}
+use Rattle.vt_machine.specs.Outcomes.{group_if, IsEntryFor, IsOutcome}
+use Rattle.vt_machine.specs.Requests.{AreReadFor}
+use Rattle.vt_machine.specs.Machines.{files_of}
 use Rattle.vt_rounds.specs.Frames.{HoldsTiles}
 
 -- the page of an entry, if there is one

@@ -6,7 +6,7 @@ ghost use Rattle.vt_journal.specs.Changes.{newest};
 ghost use Rattle.vt_table.specs.Views.{IsTable, IsTile};
 ghost use Rattle.vt_load.specs.Readings.{is_lost};
 ghost use Rattle.vt_loaders.specs.Results.{IsGood};
-ghost use Rattle.vt_pass.specs.Outcomes.{IsEntryFor, IsBatchFor, group_of};
+ghost use Rattle.vt_machine.specs.Outcomes.{IsEntryFor, IsBatchFor, group_of};
 ghost use Rattle.vt_rounds.specs.Frames.{HoldsTiles};
 ghost use Rattle.vt_rounds.specs.Streams.{Publishes};
 ghost use Rattle.vt_rounds.specs.BatchRounds.{IsResultOf, AreApplied};

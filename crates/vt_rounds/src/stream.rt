@@ -6,7 +6,7 @@ ghost use Rattle.vt_journal.specs.declared.changes.Change.TheVariants.{Map};
 ghost use Rattle.vt_journal.specs.declared.changes.Event.TheVariants.{Changed};
 ghost use Rattle.vt_journal.specs.Changes.{newest, IsFree};
 ghost use Rattle.vt_table.specs.Views.{IsTable, IsTile};
-ghost use Rattle.vt_pass.specs.Outcomes.{IsEntryFor, group_of, victim_events};
+ghost use Rattle.vt_machine.specs.Outcomes.{IsEntryFor, group_of, victim_events};
 ghost use Rattle.vt_rounds.specs.Frames.{HoldsTiles};
 ghost use Rattle.vt_rounds.specs.Streams.{Publishes, IsTileOf};
 

@@ -3,7 +3,7 @@
 ghost use Rattle.std.specs.Prelude.{◌≡◌, ◌≤◌, ◌%◌, Ok};
 
 use vt_outside::NoMemory;
-use vt_pass::PassReport;
+use vt_machine::PassReport;
 
 /// The sampler that draws a row: the rows from the top are dealt to the samplers in turn.
 pub fn sampler_of(row: u32, samplers: u32) -> u32

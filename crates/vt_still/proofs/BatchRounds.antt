@@ -24,9 +24,9 @@ use Rattle.vt_loaders.specs.Together.{Portion, all_put}
 use Rattle.vt_loaders.specs.QueuedLoaders.{QueuedView, stores_of}
 use Rattle.vt_loaders.specs.Rounds.{Round, AreServed}
 use Rattle.vt_loaders.proofs.Dealing.{all_unmap}
-use Rattle.vt_pass.specs.Outcomes.{lost_count, group_if, pass_events, IsOrder, IsOutcome}
-use Rattle.vt_pass.specs.Requests.{FileState, AllTell, times_asked_by, times_failed_by, is_tile_at, times_planned, lost_entries, counts_of, AreReadFor}
-use Rattle.vt_pass.specs.Machines.{file_state, files_of}
+use Rattle.vt_machine.specs.Outcomes.{lost_count, group_if, pass_events, IsOrder, IsOutcome}
+use Rattle.vt_machine.specs.Requests.{FileState, AllTell, times_asked_by, times_failed_by, is_tile_at, times_planned, lost_entries, counts_of, AreReadFor}
+use Rattle.vt_machine.specs.Machines.{file_state, files_of}
 use Rattle.vt_rounds.specs.BatchRounds.{page_if, entry_asks, AreRequestsOf, tickets_of, result_events, AreLossesOf, IsResultOf}
 
 sum_map : {X Y : Type 0} (h : Y → ℕ) (f : X → Y) (xs : List X) → sum_by h (map f xs) ≡ sum_by (λ x. h (f x)) xs

@@ -22,21 +22,21 @@ use Rattle.vt_still.specs.RoundKits.{RoundKitView}
 use Rattle.vt_sampler.specs.Samplers.{SamplerView, IsOwn, row_at, row_length, own_rows}
 use Rattle.vt_draw.specs.Shots.{pixels_in_rows}
 use Rattle.vt_sampler.proofs.Sharing.{pixels_few}
-use Rattle.vt_pass.specs.declared.crew.PassReport.{PassReport}
+use Rattle.vt_machine.specs.declared.crew.PassReport.{PassReport}
 use Rattle.vt_still.specs.declared.tasks.StillSampler.{StillSampler}
 use Rattle.vt_plan.specs.declared.batches.Planned.{Planned}
 use Rattle.vt_workers.specs.Jobs.{Job}
-use Rattle.vt_pass.specs.Outcomes.{IsOutcome}
-use Rattle.vt_pass.specs.RowOrders.{AreRowsInOrder}
-use Rattle.vt_pass.specs.Requests.{AreReadFor}
+use Rattle.vt_machine.specs.Outcomes.{IsOutcome}
+use Rattle.vt_machine.specs.RowOrders.{AreRowsInOrder}
+use Rattle.vt_machine.specs.Requests.{AreReadFor}
 use Rattle.vt_shown.specs.Replays.{HasPixels, IsFull, AreReplayed}
-use Rattle.vt_pass.specs.PictureWants.{picture_wants}
+use Rattle.vt_machine.specs.PictureWants.{picture_wants}
 use Rattle.vt_rounds.specs.Frames.{HoldsTiles}
-use Rattle.vt_pass.specs.Machines.{files_of, told_by, AreStoresFor}
-use Rattle.vt_pass.specs.Passes.{Ran, IsPictured}
+use Rattle.vt_machine.specs.Machines.{files_of, told_by, AreStoresFor}
+use Rattle.vt_machine.specs.Passes.{Ran, IsPictured}
 use Rattle.vt_still.specs.StillTasks.{HasDrawn}
 use Rattle.vt_still.specs.Kits.{KitView, kit_row, kit_rows, kit_setup, kit_state, IsSamplerOf, AreSamplersOf, IsIdleKit, row_by, lines_at, counted_together}
-use Rattle.vt_pass.specs.StillShows.{still_shows}
+use Rattle.vt_machine.specs.StillShows.{still_shows}
 use Rattle.vt_still.specs.StillMachines.{WasDrawn, kit_drawn, HaveDrawn}
 use Rattle.vt_still.proofs.Kits.{own_turn}
 use Rattle.vt_still.proofs.Finished.{made_at, lines_in_order, counted_is_wanted, row_was_drawn, row_is_replayed}

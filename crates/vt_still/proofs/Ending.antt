@@ -28,9 +28,9 @@ use Rattle.vt_loaders.specs.QueuedLoaders.{QueuedView, asks_of, answers_of, stor
 use Rattle.vt_loaders.specs.Rounds.{Round, IsRound, AreServed}
 use Rattle.vt_loaders.proofs.Gathering.{each_once}
 use Rattle.vt_outside.specs.Places.{times_asked, times_failed}
-use Rattle.vt_pass.specs.Outcomes.{lost_count, IsOrder}
-use Rattle.vt_pass.specs.Requests.{FileState, times_planned, lost_entries, counts_of, AreReadFor}
-use Rattle.vt_pass.specs.Machines.{file_state, files_of}
+use Rattle.vt_machine.specs.Outcomes.{lost_count, IsOrder}
+use Rattle.vt_machine.specs.Requests.{FileState, times_planned, lost_entries, counts_of, AreReadFor}
+use Rattle.vt_machine.specs.Machines.{file_state, files_of}
 use Rattle.vt_rounds.specs.BatchRounds.{tickets_of, result_events, IsResultOf, AreLossesOf, AreApplied, Begun, IsEndedRound, IsStreamed}
 use Rattle.vt_rounds.proofs.Entries.{tile_is}
 use Rattle.vt_still.proofs.BatchRounds.{tickets_once, results_of_entries, round_outcome, round_read}

@@ -11,14 +11,14 @@ use Rattle.vt_pages.specs.Shape.{Shape}
 use Rattle.vt_journal.specs.declared.changes.RowLine.{RowLine}
 use Rattle.vt_tiles.specs.StoreViews.{IsStore}
 use Rattle.vt_table.specs.Views.{TableView}
-use Rattle.vt_pass.specs.RowOrders.{AreRowsInOrder}
-use Rattle.vt_pass.specs.Machines.{told_by}
+use Rattle.vt_machine.specs.RowOrders.{AreRowsInOrder}
+use Rattle.vt_machine.specs.Machines.{told_by}
 use Rattle.vt_still.specs.Kits.{KitView, kit_setup, IsIdleKit, lines_at, counted_together}
-use Rattle.vt_pass.specs.StillShows.{still_shows}
+use Rattle.vt_machine.specs.StillShows.{still_shows}
 use Rattle.vt_still.specs.StillMachines.{WasDrawn}
 use Rattle.vt_still.specs.StillTasks.{HasDrawn}
 use Rattle.vt_workers.specs.Jobs.{Job}
-use Rattle.vt_pass.specs.Passes.{IsJobFor}
+use Rattle.vt_machine.specs.Passes.{IsJobFor}
 use Rattle.vt_shown.specs.Replays.{HasPixels}
 use Rattle.vt_rounds.specs.Frames.{HoldsTiles}
 use Rattle.vt_still.proofs.Served.{drawn_as_replayed}

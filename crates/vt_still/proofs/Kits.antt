@@ -14,7 +14,7 @@ use Rattle.vt_journal.specs.declared.changes.RowLine.{RowLine}
 use Rattle.vt_sampler.specs.Samplers.{SamplerView, IsFor, IsOwn}
 use Rattle.vt_tiles.specs.StoreViews.{StoreView, IsStoreIfTold}
 use Rattle.vt_journal.specs.Changes.{newest, at}
-use Rattle.vt_pass.specs.Machines.{told_by, AreStoresFor}
+use Rattle.vt_machine.specs.Machines.{told_by, AreStoresFor}
 use Rattle.vt_sampler.specs.Notes.{MapsRoot as TableMapsRoot}
 use Rattle.vt_camera.specs.Paths.{PathView}
 use Rattle.vt_loaders.specs.declared.queued.Queues.{Queues}
@@ -22,7 +22,7 @@ use Rattle.vt_still.specs.declared.tasks.StillSampler.{StillSampler}
 use Rattle.vt_workers.specs.Jobs.{Job}
 use Rattle.vt_workers.specs.All.{AllReady}
 use Rattle.vt_still.specs.StillTasks.{MayDraw}
-use Rattle.vt_pass.specs.Passes.{MapsRoot, IsJobFor}
+use Rattle.vt_machine.specs.Passes.{MapsRoot, IsJobFor}
 use Rattle.vt_still.specs.Kits.{KitView, kit_setup, kit_state, IsSamplerOf, AreSamplersOf, IsKit, IsIdleKit, IsReadyKit, lines_at, counted_together}
 
 -- what holds of each place of a list holds of it with one more

@@ -5,8 +5,8 @@ use Rattle.vt_outside.specs.declared.outside.File.{Ghosts as FileMeanings}
 use Rattle.vt_pages.specs.Shape.{Shape}
 use Rattle.vt_table.specs.Views.{TableView, IsTable}
 use Rattle.vt_rounds.specs.Frames.{HoldsTiles}
-use Rattle.vt_pass.specs.Machines.{told_by}
-use Rattle.vt_pass.specs.Passes.{MayPlace, with_placed}
+use Rattle.vt_machine.specs.Machines.{told_by}
+use Rattle.vt_machine.specs.Passes.{MayPlace, with_placed}
 use Rattle.vt_rounds.specs.Streams.{IsTileOf}
 use Rattle.vt_still.specs.Kits.{KitView, kit_setup, kit_state, IsIdleKit}
 use Rattle.vt_still.proofs.Rooms.{idle_still, same_none}

@@ -19,13 +19,13 @@ use Rattle.vt_tiles.specs.Format.{tile_length}
 use Rattle.vt_plan.specs.declared.batches.Planned.{Planned}
 use Rattle.vt_loaders.specs.declared.queued.Queues.{Queues}
 use Rattle.vt_still.specs.RoundKits.{IsSetUp, IsAsked}
-use Rattle.vt_pass.specs.declared.crew.Crew.{Crew}
-use Rattle.vt_pass.specs.Crews.{IsCrew}
-use Rattle.vt_pass.specs.Outcomes.{IsBatchFor}
+use Rattle.vt_machine.specs.declared.crew.Crew.{Crew}
+use Rattle.vt_machine.specs.Crews.{IsCrew}
+use Rattle.vt_machine.specs.Outcomes.{IsBatchFor}
 use Rattle.vt_rounds.specs.Frames.{HoldsTiles}
-use Rattle.vt_pass.specs.Passes.{IsUntouched, IsSpent}
+use Rattle.vt_machine.specs.Passes.{IsUntouched, IsSpent}
 use Rattle.vt_tiles.specs.StoreViews.{StoreView, IsStoreIfTold}
-use Rattle.vt_pass.specs.Machines.{file_state, files_of, told_by, AreStoresFor}
+use Rattle.vt_machine.specs.Machines.{file_state, files_of, told_by, AreStoresFor}
 use Rattle.vt_still.specs.Kits.{KitView, kit_state, IsIdleKit, IsPreparedKit, IsReadyKit, HasRoom, IsSameKit, IsSameStore, AreSameStores, AreSamplersOf}
 
 module _ {F : Type 0} (g : FileMeanings F) where

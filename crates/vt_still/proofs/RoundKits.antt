@@ -19,16 +19,16 @@ use Rattle.vt_loaders.specs.QueuedLoaders.{QueuedView, stores_of}
 use Rattle.vt_loaders.proofs.Answering.{bytes_kept}
 use Rattle.vt_still.specs.declared.tasks.StillSampler.{StillSampler}
 use Rattle.vt_workers.specs.Jobs.{Job}
-use Rattle.vt_pass.specs.Requests.{AreReadFor}
-use Rattle.vt_pass.specs.Machines.{files_of, told_by}
+use Rattle.vt_machine.specs.Requests.{AreReadFor}
+use Rattle.vt_machine.specs.Machines.{files_of, told_by}
 use Rattle.vt_rounds.specs.BatchRounds.{Begun, IsEndedRound, IsStreamed}
 use Rattle.vt_journal.specs.declared.changes.RowLine.{RowLine}
-use Rattle.vt_pass.specs.declared.crew.PassReport.{PassReport}
-use Rattle.vt_pass.specs.PictureWants.{picture_wants}
-use Rattle.vt_pass.specs.Passes.{Ran}
+use Rattle.vt_machine.specs.declared.crew.PassReport.{PassReport}
+use Rattle.vt_machine.specs.PictureWants.{picture_wants}
+use Rattle.vt_machine.specs.Passes.{Ran}
 use Rattle.vt_still.specs.RoundKits.{RoundKitView}
 use Rattle.vt_still.specs.Kits.{KitView, kit_state, IsIdleKit, lines_at, counted_together}
-use Rattle.vt_pass.specs.StillShows.{still_shows}
+use Rattle.vt_machine.specs.StillShows.{still_shows}
 use Rattle.vt_still.specs.StillMachines.{MayFinish, kit_before, kit_drawn}
 use Rattle.vt_rounds.specs.Frames.{HoldsTiles}
 use Rattle.vt_still.proofs.Ended.{HasFed, idle_after, pass_ran}

@@ -15,15 +15,15 @@ use Rattle.vt_tiles.specs.StoreViews.{StoreView, IsStoreIfTold}
 use Rattle.vt_table.specs.Views.{TableView, IsTable}
 use Rattle.vt_sampler.specs.Samplers.{SamplerView, row_at}
 use Rattle.vt_plan.specs.declared.batches.Planned.{Planned}
-use Rattle.vt_pass.specs.declared.crew.Crew.{Crew}
+use Rattle.vt_machine.specs.declared.crew.Crew.{Crew}
 use Rattle.vt_still.specs.declared.tasks.StillSampler.{StillSampler}
-use Rattle.vt_pass.specs.Crews.{IsCrew}
-use Rattle.vt_pass.specs.Outcomes.{IsBatchFor}
+use Rattle.vt_machine.specs.Crews.{IsCrew}
+use Rattle.vt_machine.specs.Outcomes.{IsBatchFor}
 use Rattle.vt_loaders.specs.declared.queued.Queues.{Queues}
 use Rattle.vt_rounds.specs.Frames.{HoldsTiles}
 use Rattle.vt_rounds.specs.Sizes.{AreSized}
 use Rattle.vt_still.specs.RoundKits.{RoundKitView, IsSetUp, IsAsked}
-use Rattle.vt_pass.specs.Machines.{Setup, MachineState, file_state, files_of, told_by, AreStoresFor}
+use Rattle.vt_machine.specs.Machines.{Setup, MachineState, file_state, files_of, told_by, AreStoresFor}
 
 -- a kit: how the texture is cut into pages, how many bytes its samples have, the sides of the pictures, the crew; the samplers and the
 -- loaders' stores; how many pixels of the last picture need each page; the lists that the next pass fills; and what its loaders are done with

@@ -15,12 +15,12 @@ use Rattle.vt_queue.specs.declared.views.PassView.{PassView}
 use Rattle.vt_queue.specs.Queues.{view_of}
 use Rattle.vt_loaders.specs.declared.queued.Queues.{Queues}
 use Rattle.vt_loaders.specs.QueuedLoaders.{QueuedView, HasLoaded, stores_of}
-use Rattle.vt_pass.specs.declared.crew.PassReport.{PassReport}
+use Rattle.vt_machine.specs.declared.crew.PassReport.{PassReport}
 use Rattle.vt_still.specs.declared.tasks.StillSampler.{StillSampler}
 use Rattle.vt_shown.specs.Scenes.{Scene}
 use Rattle.vt_workers.specs.Jobs.{Job}
-use Rattle.vt_pass.specs.Machines.{MachineState, files_of, told_by}
-use Rattle.vt_pass.specs.Passes.{IsJobFor, IsUntouched, Ran, Broke, Ends}
+use Rattle.vt_machine.specs.Machines.{MachineState, files_of, told_by}
+use Rattle.vt_machine.specs.Passes.{IsJobFor, IsUntouched, Ran, Broke, Ends}
 use Rattle.vt_still.specs.StillTasks.{HasDrawn}
 use Rattle.vt_rounds.specs.BatchRounds.{Begun, ArePut}
 use Rattle.vt_still.specs.RoundKits.{HasPlaces, IsDealt}

@@ -13,17 +13,17 @@ use Rattle.vt_sampler.specs.Notes.{IsTrueOf}
 use Rattle.vt_queue.specs.Queues.{view_of}
 use Rattle.vt_loaders.specs.declared.queued.Queues.{Queues}
 use Rattle.vt_loaders.specs.QueuedLoaders.{QueuedView, AreOf, stores_of}
-use Rattle.vt_pass.specs.declared.crew.PassReport.{PassReport}
+use Rattle.vt_machine.specs.declared.crew.PassReport.{PassReport}
 use Rattle.vt_still.specs.declared.tasks.StillSampler.{StillSampler}
 use Rattle.vt_workers.specs.Jobs.{Job}
 use Rattle.vt_rounds.specs.Frames.{HoldsTiles}
-use Rattle.vt_pass.specs.PictureWants.{picture_wants}
-use Rattle.vt_pass.specs.StillShows.{still_shows}
-use Rattle.vt_pass.specs.Machines.{told_by}
-use Rattle.vt_pass.specs.Passes.{IsJobFor, Ends}
+use Rattle.vt_machine.specs.PictureWants.{picture_wants}
+use Rattle.vt_machine.specs.StillShows.{still_shows}
+use Rattle.vt_machine.specs.Machines.{told_by}
+use Rattle.vt_machine.specs.Passes.{IsJobFor, Ends}
 use Rattle.vt_still.specs.StillTasks.{HasDrawn}
 use Rattle.vt_still.specs.Kits.{KitView, kit_setup, kit_state, IsIdleKit, HasRoom}
-use Rattle.vt_pass.specs.Outcomes.{IsBatchFor}
+use Rattle.vt_machine.specs.Outcomes.{IsBatchFor}
 use Rattle.vt_rounds.specs.BatchRounds.{Begun, IsEndedRound}
 use Rattle.vt_still.specs.RoundKits.{HasPlaces, IsDealt}
 use Rattle.vt_workers.specs.All.{AllDid}

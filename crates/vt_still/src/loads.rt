@@ -7,9 +7,9 @@ ghost use Rattle.vt_plan.specs.declared.batches.Planned.{Planned as Entry};
 ghost use Rattle.vt_queue.specs.Orders.{items_of};
 ghost use Rattle.vt_loaders.specs.QueuedLoaders.{stores_of};
 ghost use Rattle.vt_loaders.specs.Rounds.{Round, AreServed};
-ghost use Rattle.vt_pass.specs.Outcomes.{IsOrder, IsOutcome};
-ghost use Rattle.vt_pass.specs.Requests.{AreReadFor};
-ghost use Rattle.vt_pass.specs.Machines.{files_of};
+ghost use Rattle.vt_machine.specs.Outcomes.{IsOrder, IsOutcome};
+ghost use Rattle.vt_machine.specs.Requests.{AreReadFor};
+ghost use Rattle.vt_machine.specs.Machines.{files_of};
 ghost use Rattle.vt_rounds.specs.BatchRounds.{AreRequestsOf, tickets_of, result_events, AreLossesOf, IsResultOf};
 
 use vt_outside::File;

@@ -5,7 +5,7 @@ ghost use Rattle.vt_journal.specs.Changes.{newest};
 ghost use Rattle.vt_tiles.specs.Format.{tile_length};
 ghost use Rattle.vt_table.specs.Views.{IsTable};
 ghost use Rattle.vt_loaders.specs.QueuedLoaders.{AreOf, stores_of};
-ghost use Rattle.vt_pass.specs.Outcomes.{IsBatchFor};
+ghost use Rattle.vt_machine.specs.Outcomes.{IsBatchFor};
 ghost use Rattle.vt_rounds.specs.BatchRounds.{Begun as Start, HaveEnded, IsStreamed};
 
 use std::sync::Wait;

@@ -1,7 +1,7 @@
 //! Loaders as workers of a pass.
 
 ghost use Rattle.std.specs.Prelude.{◌≡◌, [], IfOk};
-ghost use Rattle.vt_pass.specs.Crews.{AreFrames};
+ghost use Rattle.vt_machine.specs.Crews.{AreFrames};
 ghost use Rattle.vt_table.specs.Views.{IsTable};
 
 use crate::round::new_queues;
@@ -13,7 +13,7 @@ use vt_evict::Planned;
 use vt_loaders::{QueuedLoader, Queues};
 use vt_outside::{File, Gate, NoMemory};
 use vt_pages::Geometry;
-use vt_pass::Task;
+use vt_machine::Task;
 use vt_table::StillTable;
 
 /// What the workers of a pass over a still table share where its tiles are read through queues.

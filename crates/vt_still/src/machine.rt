@@ -2,9 +2,9 @@
 
 ghost use Rattle.std.specs.Prelude.{true, IsOk};
 ghost use Rattle.vt_workers.specs.Jobs.{job_of};
-ghost use Rattle.vt_pass.specs.PictureWants.{picture_wants};
+ghost use Rattle.vt_machine.specs.PictureWants.{picture_wants};
 ghost use Rattle.vt_still.specs.Kits.{kit_state, IsIdleKit, IsReadyKit};
-ghost use Rattle.vt_pass.specs.StillShows.{still_shows, still_whole};
+ghost use Rattle.vt_machine.specs.StillShows.{still_shows, still_whole};
 ghost use Rattle.vt_still.specs.StillMachines.{StillView, kit_drawn, IsMustered, MayFinish, KitFinishes};
 ghost use Rattle.vt_rounds.specs.BatchRounds.{Begun as Start};
 
@@ -24,7 +24,7 @@ use vt_journal::Journal;
 use vt_loaders::QueuedLoader;
 use vt_outside::{File, Gate, Items, NoMemory};
 use vt_pages::Geometry;
-use vt_pass::{Crew, PassMachine, PassReport};
+use vt_machine::{Crew, PassMachine, PassReport};
 use vt_rounds::{answered, put_page};
 use vt_tiles::Stores;
 
@@ -44,7 +44,7 @@ impl<F: File> Model for StillMachine<F> {
 
 impl<F: File + Send> PassMachine for StillMachine<F> {
     ghost use Rattle.vt_tiles.specs.Format.{stored};
-    ghost use Rattle.vt_pass.specs.Plainly.{mapped_is_plain};
+    ghost use Rattle.vt_machine.specs.Plainly.{mapped_is_plain};
     ghost use Rattle.vt_still.specs.StillLaws.{come_back, has_ended};
 
     type File = F;

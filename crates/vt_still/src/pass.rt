@@ -2,10 +2,10 @@
 
 ghost use Rattle.std.specs.Prelude.{◌≡◌, true, length};
 ghost use Rattle.vt_workers.specs.Jobs.{job_of};
-ghost use Rattle.vt_pass.specs.PictureWants.{picture_wants};
-ghost use Rattle.vt_pass.specs.Passes.{MapsRoot, IsJobFor, Ran};
+ghost use Rattle.vt_machine.specs.PictureWants.{picture_wants};
+ghost use Rattle.vt_machine.specs.Passes.{MapsRoot, IsJobFor, Ran};
 ghost use Rattle.vt_still.specs.Kits.{kit_setup, kit_state, lines_at, IsIdleKit, IsReadyKit};
-ghost use Rattle.vt_pass.specs.StillShows.{still_shows};
+ghost use Rattle.vt_machine.specs.StillShows.{still_shows};
 ghost use Rattle.vt_still.specs.StillMachines.{kit_drawn};
 
 use crate::kit::StillKit;
@@ -16,7 +16,7 @@ use std::thread::Threads;
 use vt_draw::Shot;
 use vt_evict::Batch;
 use vt_outside::{File, Gate};
-use vt_pass::{PassReport, work_together};
+use vt_machine::{PassReport, work_together};
 
 /// Draws the picture of a shot over the table, and then streams the batch into it, whose requests were put: samplers
 /// draw and loaders read at once, and the results are applied once all have ended. It may wait.

@@ -4,14 +4,14 @@ ghost use Rattle.std.specs.Prelude.{◌≡◌, ◌≤◌, true, OnOk, length, If
 ghost use Rattle.std.specs.List.{concat};
 ghost use Rattle.vt_definitions.specs.Depths.{IsDepth};
 ghost use Rattle.vt_journal.specs.Changes.{newest};
-ghost use Rattle.vt_pass.specs.Crews.{IsCrew, last_start};
-ghost use Rattle.vt_pass.specs.Machines.{AreStoresFor};
-ghost use Rattle.vt_pass.specs.Outcomes.{IsBatchFor};
+ghost use Rattle.vt_machine.specs.Crews.{IsCrew, last_start};
+ghost use Rattle.vt_machine.specs.Machines.{AreStoresFor};
+ghost use Rattle.vt_machine.specs.Outcomes.{IsBatchFor};
 ghost use Rattle.vt_workers.specs.Jobs.{job_of};
-ghost use Rattle.vt_pass.specs.PictureWants.{picture_wants};
-ghost use Rattle.vt_pass.specs.Passes.{MapsRoot, IsJobFor, Ran};
+ghost use Rattle.vt_machine.specs.PictureWants.{picture_wants};
+ghost use Rattle.vt_machine.specs.Passes.{MapsRoot, IsJobFor, Ran};
 ghost use Rattle.vt_still.specs.Kits.{kit_setup, kit_state, kit_rows, lines_at, IsKit, IsIdleKit, IsPreparedKit, IsSameKit};
-ghost use Rattle.vt_pass.specs.StillShows.{still_shows};
+ghost use Rattle.vt_machine.specs.StillShows.{still_shows};
 ghost use Rattle.vt_still.specs.StillMachines.{kit_drawn};
 ghost use Rattle.vt_sampler.specs.Notes.{MapsRoot as TableMapsRoot};
 
@@ -29,7 +29,7 @@ use vt_evict::Batch;
 use vt_feedback::Counts;
 use vt_outside::{File, Gate, NoMemory};
 use vt_pages::Geometry;
-use vt_pass::{Crew, PassReport};
+use vt_machine::{Crew, PassReport};
 use vt_table::StillTable;
 use vt_tiles::Stores;
 

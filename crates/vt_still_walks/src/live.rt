@@ -4,9 +4,9 @@ ghost use Rattle.std.specs.Prelude.{◌≡◌, ◌<◌, ◌≤◌, [], ◌∷◌
 ghost use Rattle.vt_outside.specs.Files.{bytes_at};
 ghost use Rattle.vt_pages.specs.Pages.{pinned_of};
 ghost use Rattle.vt_shown.specs.Scenes.{scene_of};
-ghost use Rattle.vt_pass.specs.Machines.{file_state};
-ghost use Rattle.vt_pass.specs.PictureWants.{picture_wants};
-ghost use Rattle.vt_pass.specs.StillShows.{still_shows, still_whole};
+ghost use Rattle.vt_machine.specs.Machines.{file_state};
+ghost use Rattle.vt_machine.specs.PictureWants.{picture_wants};
+ghost use Rattle.vt_machine.specs.StillShows.{still_shows, still_whole};
 ghost use Rattle.vt_turns.specs.declared.mode.Mode.TheVariants.{Live, Settled};
 ghost use Rattle.vt_walk.specs.Walks.{given_by, names_of, AreSettings};
 ghost use Rattle.vt_walk.specs.States.{walk_state, AreOpen};

@@ -4,13 +4,13 @@
 ghost use Rattle.std.specs.Prelude.{◌≡◌, [], ◌∷◌, is_some};
 ghost use Rattle.std.specs.Bool.{OnTrue};
 ghost use Rattle.vt_outside.specs.Files.{bytes_at};
-ghost use Rattle.vt_pass.specs.Crews.{IsCrew};
-ghost use Rattle.vt_pass.specs.Machines.{file_state};
+ghost use Rattle.vt_machine.specs.Crews.{IsCrew};
+ghost use Rattle.vt_machine.specs.Machines.{file_state};
 ghost use Rattle.vt_walk.specs.States.{AreOpen};
 
 use std::process::Abort;
 use vt_outside::{Folder, MemoryFolder, Place};
-use vt_pass::Crew;
+use vt_machine::Crew;
 use vt_tiles::Store;
 
 /// The store, with tiles of side 2, of the texture of 4x4 texels whose texel (x, y) is 4y+x in each channel: its header, and the

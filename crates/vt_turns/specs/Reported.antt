@@ -2,8 +2,8 @@
 use Rattle.std.specs.Prelude.{◌≡◌, ℕ, ◌+◌, IsTrue, ◌↔◌, [], length}
 use Rattle.vt_journal.specs.JournalText.{Pass}
 use Rattle.vt_journal.specs.Passes.{pass_of as text_of}
-use Rattle.vt_pass.specs.declared.crew.PassReport.{PassReport}
-use Rattle.vt_pass.specs.Outcomes.{lost_count}
+use Rattle.vt_machine.specs.declared.crew.PassReport.{PassReport}
+use Rattle.vt_machine.specs.Outcomes.{lost_count}
 use Rattle.vt_turns.specs.declared.turns.Outlook.{Outlook}
 use Rattle.vt_turns.specs.declared.turns.Turn.{Turn}
 use Rattle.vt_turns.specs.declared.turns.Drawn.{Drawn}

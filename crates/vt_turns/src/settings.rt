@@ -1,6 +1,6 @@
 //! What a walk is made with.
 
-use vt_pass::Crew;
+use vt_machine::Crew;
 
 /// How many frames a walk has, how many levels are pinned, and its crew.
 #[derive(Clone, Copy)]

@@ -1,13 +1,13 @@
 //! What is known of a walk between two passes, and of a pass that was drawn.
 
 ghost use Rattle.std.specs.Prelude.{◌≡◌, ◌+◌, ◌<◌, ◌^◌, length};
-ghost use Rattle.vt_pass.specs.Outcomes.{lost_count};
+ghost use Rattle.vt_machine.specs.Outcomes.{lost_count};
 ghost use Rattle.vt_turns.specs.Reported.{IsReported};
 
 use crate::tallies::Tally;
 use vt_evict::{Batch, Losses};
 use vt_journal::PassText;
-use vt_pass::PassReport;
+use vt_machine::PassReport;
 
 /// What comes next in a walk.
 #[derive(Drop)]

@@ -16,15 +16,15 @@ use Rattle.vt_plan.specs.declared.batches.Planned.{Planned}
 use Rattle.vt_evict.specs.Views.{RecencyView, pages_needed}
 use Rattle.vt_evict.specs.Batches.{IsLawful, IsSettled, read_entries}
 use Rattle.vt_evict.specs.Plans.{plan_of}
-use Rattle.vt_pass.specs.declared.crew.PassReport.{PassReport}
-use Rattle.vt_pass.specs.Crews.{last_start}
+use Rattle.vt_machine.specs.declared.crew.PassReport.{PassReport}
+use Rattle.vt_machine.specs.Crews.{last_start}
 use Rattle.vt_shown.specs.Scenes.{Scene}
 use Rattle.vt_workers.specs.Jobs.{Job}
-use Rattle.vt_pass.specs.Outcomes.{IsBatchFor, IsOutcome}
-use Rattle.vt_pass.specs.Requests.{FileState, AreReadFor, ArePartlyReadFor, counts_of}
+use Rattle.vt_machine.specs.Outcomes.{IsBatchFor, IsOutcome}
+use Rattle.vt_machine.specs.Requests.{FileState, AreReadFor, ArePartlyReadFor, counts_of}
 use Rattle.vt_outside.specs.Counts.{RoseTogetherBy}
-use Rattle.vt_pass.specs.Machines.{Setup, MachineState}
-use Rattle.vt_pass.specs.Passes.{MayPrepare, Ran}
+use Rattle.vt_machine.specs.Machines.{Setup, MachineState}
+use Rattle.vt_machine.specs.Passes.{MayPrepare, Ran}
 use Rattle.vt_turns.specs.declared.turns.Outlook.{Outlook}
 use Rattle.vt_turns.specs.declared.tallies.Tally.{Tally}
 use Rattle.vt_turns.specs.declared.tour.Tour.{Tour}

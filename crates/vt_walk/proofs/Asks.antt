@@ -13,7 +13,7 @@ use Rattle.vt_outside.specs.Places.{times_asked, times_failed, is_read_of}
 use Rattle.vt_outside.specs.declared.place.Place.{Place}
 use Rattle.vt_pages.specs.Shape.{Shape}
 use Rattle.vt_plan.specs.declared.batches.Planned.{Planned}
-use Rattle.vt_pass.specs.Requests.{FileState, AllTell, AreReadFor, ArePartlyReadFor, times_asked_by, times_failed_by, lost_entries}
+use Rattle.vt_machine.specs.Requests.{FileState, AllTell, AreReadFor, ArePartlyReadFor, times_asked_by, times_failed_by, lost_entries}
 use Rattle.vt_walk.specs.Reads.{AreAskedFor, AreAskedAtMostFor, OnTold}
 use Rattle.vt_walk.specs.States.{places_of}
 use Rattle.vt_walk.proofs.Asking.{count_both}

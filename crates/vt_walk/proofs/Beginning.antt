@@ -24,8 +24,8 @@ use Rattle.vt_tiles.specs.StoreViews.{IsStoreIfTold}
 use Rattle.vt_plan.specs.declared.batches.Planned.{Planned}
 use Rattle.vt_evict.specs.Views.{RecencyView, first_view}
 use Rattle.vt_shown.specs.Scenes.{Scene}
-use Rattle.vt_pass.specs.Requests.{FileState, AllTell, counts_of}
-use Rattle.vt_pass.specs.Machines.{MachineState}
+use Rattle.vt_machine.specs.Requests.{FileState, AllTell, counts_of}
+use Rattle.vt_machine.specs.Machines.{MachineState}
 use Rattle.vt_turns.specs.declared.error.WalkError.{WalkError}
 use Rattle.vt_turns.specs.declared.tour.Tour.{Tour}
 use Rattle.vt_turns.specs.Refusals.{refusal_by}

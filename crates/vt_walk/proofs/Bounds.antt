@@ -16,7 +16,7 @@ use Rattle.vt_journal.specs.JournalText.{IsEventInChain, changes_of, pinned_chan
 use Rattle.vt_journal.specs.Following.{AreEventsAfter}
 use Rattle.vt_journal.proofs.EventLines.{length-changes_of}
 use Rattle.vt_plan.specs.declared.batches.Planned.{Planned}
-use Rattle.vt_pass.specs.Outcomes.{victim_events, group_if, group_at, pass_events, IsOutcome}
+use Rattle.vt_machine.specs.Outcomes.{victim_events, group_if, group_at, pass_events, IsOutcome}
 use Rattle.vt_walk.specs.Fits.{WalkSetup}
 use Rattle.vt_walk.specs.Runs.{WalkPass, IsWalkSetup, IsRun, IsNextPass, journal_after}
 use Rattle.vt_walk.specs.Logs.{events_in, reads_of}

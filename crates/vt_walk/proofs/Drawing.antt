@@ -10,10 +10,10 @@ use Rattle.vt_journal.specs.declared.changes.RowLine.{RowLine}
 use Rattle.vt_journal.specs.Changes.{Table, newest}
 use Rattle.vt_tiles.specs.StoreViews.{IsStore}
 use Rattle.vt_shown.specs.Scenes.{Scene}
-use Rattle.vt_pass.specs.Machines.{Setup, MachineState}
+use Rattle.vt_machine.specs.Machines.{Setup, MachineState}
 use Rattle.vt_shown.specs.Replays.{IsPictureOf}
-use Rattle.vt_pass.specs.Passes.{IsPictured, IsJobFor, MapsNeeded}
-use Rattle.vt_pass.proofs.Settled.{settled}
+use Rattle.vt_machine.specs.Passes.{IsPictured, IsJobFor, MapsNeeded}
+use Rattle.vt_machine.proofs.Settled.{settled}
 use Rattle.vt_turns.specs.declared.settings.Settings.{Settings}
 use Rattle.vt_turns.specs.declared.mode.Mode.{Mode}
 use Rattle.vt_turns.specs.declared.mode.Mode.TheVariants.{Settled}

@@ -15,11 +15,11 @@ use Rattle.vt_tiles.specs.StoreViews.{IsStore}
 use Rattle.vt_plan.specs.declared.batches.Planned.{Planned}
 use Rattle.vt_evict.specs.Views.{RecencyView, pages_needed}
 use Rattle.vt_shown.specs.Scenes.{Scene}
-use Rattle.vt_pass.specs.Outcomes.{lost_count}
-use Rattle.vt_pass.specs.Requests.{FileState, AllTell}
-use Rattle.vt_pass.specs.Machines.{Setup, MachineState}
+use Rattle.vt_machine.specs.Outcomes.{lost_count}
+use Rattle.vt_machine.specs.Requests.{FileState, AllTell}
+use Rattle.vt_machine.specs.Machines.{Setup, MachineState}
 use Rattle.vt_shown.specs.Replays.{IsFull}
-use Rattle.vt_pass.specs.Passes.{MapsNeeded}
+use Rattle.vt_machine.specs.Passes.{MapsNeeded}
 use Rattle.vt_turns.specs.declared.error.WalkError.{WalkError}
 use Rattle.vt_turns.specs.declared.error.WalkError.TheVariants as walk_error
 use Rattle.vt_turns.specs.declared.mode.Mode.{Mode}

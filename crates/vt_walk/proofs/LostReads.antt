@@ -13,7 +13,7 @@ use Rattle.vt_pages.specs.Shape.{Shape}
 use Rattle.vt_pages.specs.Pages.{IsWithinLimits, pages_of}
 use Rattle.vt_tiles.specs.Format.{tile_area, tile_length, tile_start}
 use Rattle.vt_plan.specs.declared.batches.Planned.{Planned}
-use Rattle.vt_pass.specs.Requests.{is_tile_at, times_planned}
+use Rattle.vt_machine.specs.Requests.{is_tile_at, times_planned}
 use Rattle.vt_walk.specs.Reads.{AreAskedFor, lost_reads}
 
 -- a tile has bytes

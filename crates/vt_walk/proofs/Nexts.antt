@@ -8,12 +8,12 @@ use Rattle.vt_feedback.specs.declared.Wanted.{Wanted}
 use Rattle.vt_feedback.specs.Wants.{IsWants}
 use Rattle.vt_evict.specs.Views.{RecencyView}
 use Rattle.vt_evict.specs.Batches.{IsSettled, read_entries}
-use Rattle.vt_pass.specs.declared.crew.PassReport.{PassReport}
+use Rattle.vt_machine.specs.declared.crew.PassReport.{PassReport}
 use Rattle.vt_shown.specs.Scenes.{Scene}
 use Rattle.vt_workers.specs.Jobs.{Job}
-use Rattle.vt_pass.specs.RowOrders.{AreRowsInOrder}
-use Rattle.vt_pass.specs.Machines.{MachineState}
-use Rattle.vt_pass.specs.Passes.{Ran}
+use Rattle.vt_machine.specs.RowOrders.{AreRowsInOrder}
+use Rattle.vt_machine.specs.Machines.{MachineState}
+use Rattle.vt_machine.specs.Passes.{Ran}
 use Rattle.vt_walk.specs.Fits.{WalkSetup}
 use Rattle.vt_walk.specs.Runs.{WalkPass, pass_of, journal_after, recency_after, plan_after, IsTurnOf, IsNextPass}
 

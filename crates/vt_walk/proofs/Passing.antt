@@ -12,9 +12,9 @@ use Rattle.vt_journal.specs.Passes.{pass_of as text_of}
 use Rattle.vt_plan.specs.declared.batches.Planned.{Planned}
 use Rattle.vt_evict.specs.Views.{RecencyView}
 use Rattle.vt_shown.specs.Scenes.{Scene}
-use Rattle.vt_pass.specs.Outcomes.{lost_count}
-use Rattle.vt_pass.specs.Requests.{FileState, AllTell, AreSameFiles, ArePartlyReadFor, counts_of}
-use Rattle.vt_pass.specs.Machines.{MachineState}
+use Rattle.vt_machine.specs.Outcomes.{lost_count}
+use Rattle.vt_machine.specs.Requests.{FileState, AllTell, AreSameFiles, ArePartlyReadFor, counts_of}
+use Rattle.vt_machine.specs.Machines.{MachineState}
 use Rattle.vt_turns.specs.declared.error.WalkError.{WalkError}
 use Rattle.vt_turns.specs.declared.error.WalkError.TheVariants as walk_error
 use Rattle.vt_turns.specs.declared.turns.Turn.{Turn}

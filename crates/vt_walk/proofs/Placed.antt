@@ -19,9 +19,9 @@ use Rattle.vt_journal.specs.Changes.{Table, changed, newest, IsNext}
 use Rattle.vt_journal.specs.JournalText.{pinned_change}
 use Rattle.vt_journal.proofs.Versions.{newest-none, newest-more, mapped_after_map}
 use Rattle.vt_evict.proofs.FirstLemmas.{range-more}
-use Rattle.vt_pass.specs.Machines.{MachineState}
-use Rattle.vt_pass.specs.Passes.{with_placed}
-use Rattle.vt_pass.specs.Requests.{is_tile_at, times_planned}
+use Rattle.vt_machine.specs.Machines.{MachineState}
+use Rattle.vt_machine.specs.Passes.{with_placed}
+use Rattle.vt_machine.specs.Requests.{is_tile_at, times_planned}
 use Rattle.vt_walk.specs.Reads.{AreAskedFor, AreAskedAtMostFor, OnTold, lost_reads}
 use Rattle.vt_walk.specs.Placing.{with_changes, first_pinned, tile_place, with_tiles}
 use Rattle.vt_walk.proofs.Asking.{count_both}

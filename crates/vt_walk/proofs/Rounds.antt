@@ -8,7 +8,7 @@ use Rattle.vt_outside.specs.declared.answers.OutsideError.{OutsideError}
 use Rattle.vt_outside.specs.declared.answers.OutsideError.TheVariants.{Failed, NoMemory}
 use Rattle.vt_camera.specs.Paths.{PathView}
 use Rattle.vt_evict.specs.Views.{RecencyView}
-use Rattle.vt_pass.specs.Machines.{MachineState}
+use Rattle.vt_machine.specs.Machines.{MachineState}
 use Rattle.vt_turns.specs.declared.error.WalkError.{WalkError}
 use Rattle.vt_turns.specs.declared.error.WalkError.TheVariants as walk_error
 use Rattle.vt_turns.specs.declared.turns.Turn.{Turn}

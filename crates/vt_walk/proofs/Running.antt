@@ -22,7 +22,7 @@ use Rattle.vt_evict.specs.Batches.{IsLawful, IsFree, IsVictim}
 use Rattle.vt_evict.proofs.FirstLemmas.{range-more, first_table}
 use Rattle.vt_evict.proofs.TouchLemmas.{touched_table}
 use Rattle.vt_evict.proofs.LawfulLemmas.{plan_lawful, plan_count}
-use Rattle.vt_pass.specs.Outcomes.{IsBatchFor}
+use Rattle.vt_machine.specs.Outcomes.{IsBatchFor}
 use Rattle.vt_walk.specs.Fits.{WalkSetup}
 use Rattle.vt_walk.specs.Runs.{WalkPass, IsWalkSetup, journal_after, recency_after, plan_after, IsNextPass, IsRun}
 use Rattle.vt_walk.specs.Agreements.{entry_of, Agrees}

@@ -22,8 +22,8 @@ use Rattle.vt_evict.specs.Batches.{IsLawful, IsLawfulEntry, IsFree, IsVictim, Is
 use Rattle.vt_evict.specs.Kept.{applied, without_victim}
 use Rattle.vt_plan.proofs.ListLemmas.{nat_eq_true}
 use Rattle.vt_evict.proofs.SettleLemmas.{applied_some, applied_none, settle_step, nothing_read, contains_tail}
-use Rattle.vt_pass.specs.Outcomes.{victim_events, group_of, group_if, group_at, pass_events, IsOutcome}
-use Rattle.vt_pass.proofs.AnyOrder.{any_order}
+use Rattle.vt_machine.specs.Outcomes.{victim_events, group_of, group_if, group_at, pass_events, IsOutcome}
+use Rattle.vt_machine.proofs.AnyOrder.{any_order}
 use Rattle.vt_walk.specs.Agreements.{entry_of, Agrees}
 use Rattle.vt_walk.proofs.Agreeing.{may_be_run}
 

@@ -10,8 +10,8 @@ use Rattle.vt_journal.specs.JournalText.{changes_of}
 use Rattle.vt_journal.proofs.Versions.{at-front}
 use Rattle.vt_shown.specs.Scenes.{Scene}
 use Rattle.vt_workers.specs.Jobs.{Job}
-use Rattle.vt_pass.specs.Machines.{MachineState}
-use Rattle.vt_pass.specs.Passes.{IsPictured}
+use Rattle.vt_machine.specs.Machines.{MachineState}
+use Rattle.vt_machine.specs.Passes.{IsPictured}
 use Rattle.vt_shown.specs.Replays.{HasPixels}
 use Rattle.vt_walk.specs.Fits.{WalkSetup}
 use Rattle.vt_walk.specs.Runs.{WalkPass, journal_after, IsRun}

@@ -16,8 +16,8 @@ use Rattle.vt_plan.specs.PageLists.{is_in}
 use Rattle.vt_evict.specs.Views.{RecencyView, first_view, pages_needed}
 use Rattle.vt_plan.specs.Missing.{is_mapped}
 use Rattle.vt_evict.proofs.SettleLemmas.{self_eq, contains_head}
-use Rattle.vt_pass.specs.Passes.{MapsNeeded}
-use Rattle.vt_pass.proofs.Settled.{no_events}
+use Rattle.vt_machine.specs.Passes.{MapsNeeded}
+use Rattle.vt_machine.proofs.Settled.{no_events}
 use Rattle.vt_turns.specs.declared.mode.Mode.{Mode}
 use Rattle.vt_turns.specs.declared.mode.Mode.TheVariants.{Settled}
 use Rattle.vt_walk.specs.Fits.{WalkSetup, NeedsFrames, Fits, DoesNotFit}

@@ -7,8 +7,8 @@ use Rattle.vt_camera.specs.Paths.{PathView}
 use Rattle.vt_journal.specs.JournalText.{head_text, pass_text}
 use Rattle.vt_pages.specs.Shape.{Shape}
 use Rattle.vt_plan.specs.declared.batches.Planned.{Planned}
-use Rattle.vt_pass.specs.Outcomes.{lost_count}
-use Rattle.vt_pass.specs.Requests.{lost_entries}
+use Rattle.vt_machine.specs.Outcomes.{lost_count}
+use Rattle.vt_machine.specs.Requests.{lost_entries}
 use Rattle.vt_words.specs.Names.{picture_name}
 use Rattle.vt_walk.specs.Runs.{WalkPass, IsTurnOf, IsNextPass, IsFinished, IsWhole, plan_after, told_of, planned_in, lost_in}
 use Rattle.vt_walk.specs.Logs.{picture_line, walk_end_line}

@@ -12,11 +12,11 @@ use Rattle.vt_plan.specs.declared.batches.Planned.{Planned}
 use Rattle.vt_evict.specs.Views.{RecencyView, first_view, touched}
 use Rattle.vt_evict.specs.Batches.{IsSettled, read_entries}
 use Rattle.vt_evict.specs.Plans.{plan_of}
-use Rattle.vt_pass.specs.declared.crew.PassReport.{PassReport}
+use Rattle.vt_machine.specs.declared.crew.PassReport.{PassReport}
 use Rattle.vt_workers.specs.Jobs.{Job}
-use Rattle.vt_pass.specs.Outcomes.{IsOutcome, lost_count}
-use Rattle.vt_pass.specs.RowOrders.{AreRowsInOrder}
-use Rattle.vt_pass.specs.Requests.{lost_entries}
+use Rattle.vt_machine.specs.Outcomes.{IsOutcome, lost_count}
+use Rattle.vt_machine.specs.RowOrders.{AreRowsInOrder}
+use Rattle.vt_machine.specs.Requests.{lost_entries}
 use Rattle.vt_turns.specs.declared.mode.Mode.{Mode}
 use Rattle.vt_turns.specs.declared.mode.Mode.TheVariants.{Live, Settled}
 use Rattle.vt_walk.specs.Fits.{WalkSetup, Fits}

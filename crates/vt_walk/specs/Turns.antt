@@ -7,13 +7,13 @@ use Rattle.vt_camera.specs.Paths.{PathView}
 use Rattle.vt_journal.specs.Changes.{Table}
 use Rattle.vt_journal.specs.Passes.{pass_of as text_of}
 use Rattle.vt_evict.specs.Views.{RecencyView, pages_needed}
-use Rattle.vt_pass.specs.declared.crew.PassReport.{PassReport}
+use Rattle.vt_machine.specs.declared.crew.PassReport.{PassReport}
 use Rattle.vt_shown.specs.Scenes.{Scene}
 use Rattle.vt_workers.specs.Jobs.{Job}
-use Rattle.vt_pass.specs.Requests.{FileState, AllTell, AreReadFor}
-use Rattle.vt_pass.specs.Outcomes.{lost_count}
-use Rattle.vt_pass.specs.Machines.{MachineState}
-use Rattle.vt_pass.specs.Passes.{Ran}
+use Rattle.vt_machine.specs.Requests.{FileState, AllTell, AreReadFor}
+use Rattle.vt_machine.specs.Outcomes.{lost_count}
+use Rattle.vt_machine.specs.Machines.{MachineState}
+use Rattle.vt_machine.specs.Passes.{Ran}
 use Rattle.vt_turns.specs.declared.error.WalkError.{WalkError}
 use Rattle.vt_turns.specs.declared.turns.Turn.{Turn}
 use Rattle.vt_turns.specs.declared.turns.Passed.{Passed}

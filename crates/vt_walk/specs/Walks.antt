@@ -6,8 +6,8 @@ use Rattle.vt_pages.specs.Pages.{IsWithinLimits, pinned_of}
 use Rattle.vt_camera.specs.Paths.{PathView}
 use Rattle.vt_journal.specs.Changes.{Table}
 use Rattle.vt_shown.specs.Scenes.{Scene, scene_of}
-use Rattle.vt_pass.specs.Crews.{IsCrew, AreFrames}
-use Rattle.vt_pass.specs.Machines.{Setup, setup_of}
+use Rattle.vt_machine.specs.Crews.{IsCrew, AreFrames}
+use Rattle.vt_machine.specs.Machines.{Setup, setup_of}
 use Rattle.vt_turns.specs.declared.settings.Settings.{Settings}
 use Rattle.vt_turns.specs.declared.settings.Names.{Names}
 use Rattle.vt_turns.specs.declared.mode.Mode.{Mode}

@@ -9,7 +9,7 @@ ghost use Rattle.vt_journal.specs.JournalText.{IsEventInChain, pass_text};
 ghost use Rattle.vt_journal.specs.Passes.{pass_of};
 ghost use Rattle.vt_evict.specs.Batches.{IsLawful};
 ghost use Rattle.vt_workers.specs.Jobs.{job_of};
-ghost use Rattle.vt_pass.specs.Passes.{MayPrepare, IsJobFor, Ends};
+ghost use Rattle.vt_machine.specs.Passes.{MayPrepare, IsJobFor, Ends};
 ghost use Rattle.vt_walk.specs.Outlooks.{IsOutlook};
 
 use std::alloc::Global;
@@ -21,7 +21,7 @@ use vt_feedback::Counts;
 use vt_journal::{PassText, add_pass};
 use vt_outside::{Folder, Gate, NoMemory, OutsideError};
 use vt_pages::Geometry;
-use vt_pass::{PassMachine, PassReport};
+use vt_machine::{PassMachine, PassReport};
 use vt_turns::Outlook;
 
 /// Prepares a pass for a batch and runs it.

@@ -16,7 +16,7 @@ use crate::files::write_file;
 use std::alloc::Global;
 use vt_camera::Path;
 use vt_outside::{Folder, NoMemory, OutsideError, Sink};
-use vt_pass::PassMachine;
+use vt_machine::PassMachine;
 use vt_ppm::encode_into;
 use vt_print::{LINE_ROOM, Line};
 use vt_turns::Tally;

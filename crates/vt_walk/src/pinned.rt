@@ -7,8 +7,8 @@ ghost use Rattle.vt_tiles.specs.Format.{tile_length as length_of_tile};
 ghost use Rattle.vt_tiles.specs.Places.{TileAsked};
 ghost use Rattle.vt_journal.specs.declared.changes.Change.TheVariants.{Map};
 ghost use Rattle.vt_journal.specs.Changes.{newest, IsNext};
-ghost use Rattle.vt_pass.specs.Crews.{last_start};
-ghost use Rattle.vt_pass.specs.Passes.{with_placed};
+ghost use Rattle.vt_machine.specs.Crews.{last_start};
+ghost use Rattle.vt_machine.specs.Passes.{with_placed};
 ghost use Rattle.vt_walk.specs.Reads.{AreAskedFor, AreAskedAtMostFor, OnTold, lost_reads};
 ghost use Rattle.vt_walk.specs.Placing.{IsStoreOf, with_pinned};
 
@@ -17,7 +17,7 @@ use std::sync::Wait;
 use std::thread::Threads;
 use vt_outside::{File, OutsideError};
 use vt_pages::Geometry;
-use vt_pass::PassMachine;
+use vt_machine::PassMachine;
 use vt_tiles::{Store, tile_length};
 use vt_turns::pinned_page;
 

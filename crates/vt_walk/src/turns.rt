@@ -3,7 +3,7 @@
 ghost use Rattle.std.specs.Prelude.{◌≡◌, ℕ, ◌+◌, ◌<◌, ◌≤◌, ◌∷◌, List, Option, length, All, MatchResult, OnOk, OnErr, IfOk};
 ghost use Rattle.vt_definitions.specs.Limits.{most_versions};
 ghost use Rattle.vt_journal.specs.JournalText.{IsEventInChain};
-ghost use Rattle.vt_pass.specs.Requests.{AreSameFiles, ArePartlyReadFor};
+ghost use Rattle.vt_machine.specs.Requests.{AreSameFiles, ArePartlyReadFor};
 ghost use Rattle.vt_walk.specs.States.{walk_state};
 ghost use Rattle.vt_walk.specs.Tours.{given_of, setup_of_tour, IsTour};
 ghost use Rattle.vt_walk.specs.Runs.{WalkPass};
@@ -21,7 +21,7 @@ use std::thread::Threads;
 use vt_draw::Shot;
 use vt_evict::{Batch, Recency};
 use vt_outside::{Folder, Gate, NoMemory, Sink};
-use vt_pass::PassMachine;
+use vt_machine::PassMachine;
 use vt_turns::{
     Drawn, Outlook, Passed, Tally, Tour, Turn, WalkError, drawn_of, is_finished, judge,
 };

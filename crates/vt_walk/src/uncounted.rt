@@ -4,7 +4,7 @@ ghost use Rattle.std.specs.Prelude.{◌≡◌, ◌<◌, ◌≤◌, [], ◌∷◌
 ghost use Rattle.vt_outside.specs.Files.{bytes_at};
 ghost use Rattle.vt_pages.specs.Pages.{pinned_of};
 ghost use Rattle.vt_shown.specs.Scenes.{scene_of};
-ghost use Rattle.vt_pass.specs.Machines.{file_state};
+ghost use Rattle.vt_machine.specs.Machines.{file_state};
 ghost use Rattle.vt_walk.specs.Walks.{given_by, mode_of, names_of, AreSettings};
 ghost use Rattle.vt_walk.specs.States.{walk_state, AreOpen};
 ghost use Rattle.vt_walk.specs.Standing.{Finished};
@@ -18,7 +18,7 @@ use std::sync::Wait;
 use std::thread::Threads;
 use vt_camera::Path;
 use vt_outside::{Folder, Gate, Sink};
-use vt_pass::PassMachine;
+use vt_machine::PassMachine;
 use vt_tiles::Store;
 use vt_turns::{Names, Settings, WalkError};
 

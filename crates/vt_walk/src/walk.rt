@@ -5,7 +5,7 @@ ghost use Rattle.vt_outside.specs.Files.{bytes_at};
 ghost use Rattle.vt_pages.specs.Pages.{pinned_of};
 ghost use Rattle.vt_tiles.specs.StoreViews.{IsStoreIfTold};
 ghost use Rattle.vt_shown.specs.Scenes.{scene_of};
-ghost use Rattle.vt_pass.specs.Machines.{file_state};
+ghost use Rattle.vt_machine.specs.Machines.{file_state};
 ghost use Rattle.vt_walk.specs.Walks.{given_by, walk_setup, mode_of, names_of, AreSettings};
 ghost use Rattle.vt_walk.specs.Counts.{HasCounts};
 ghost use Rattle.vt_walk.specs.States.{walk_state, places_of, AreOpen};
@@ -14,7 +14,7 @@ ghost use Rattle.vt_walk.specs.Written.{IsDrawnBySome};
 ghost use Rattle.vt_walk.specs.Turns.{StandsFirst, LeftBy};
 ghost use Rattle.vt_walk.specs.Tours.{given_of, setup_of_tour, IsTour};
 ghost use Rattle.vt_walk.specs.Beginnings.{IsBegun, AreTold, IsSameFile};
-ghost use Rattle.vt_pass.specs.Requests.{AreSameFiles, counts_of};
+ghost use Rattle.vt_machine.specs.Requests.{AreSameFiles, counts_of};
 ghost use Rattle.vt_walk.specs.Closing.{AreFresh, AreOtherNamesAsBefore};
 
 use crate::files::begin_journal;
@@ -27,7 +27,7 @@ use std::thread::Threads;
 use vt_camera::Path;
 use vt_evict::Recency;
 use vt_outside::{Folder, Gate, Sink};
-use vt_pass::PassMachine;
+use vt_machine::PassMachine;
 use vt_tiles::{Store, Stores};
 use vt_turns::{Mode, Names, Settings, Tour, WalkError, has_too_few_frames};
 

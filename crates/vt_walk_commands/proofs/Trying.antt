@@ -18,7 +18,7 @@ use Rattle.vt_pages.specs.Pages.{refusal_of}
 use Rattle.vt_store.specs.ChainStores.{chain_store}
 use Rattle.vt_tiles.specs.StoreViews.{IsStore, IsStoreIfTold}
 use Rattle.vt_tiles.proofs.Stored.{stores_open}
-use Rattle.vt_pass.specs.Requests as Requests
+use Rattle.vt_machine.specs.Requests as Requests
 use Rattle.vt_walk.specs.declared.turns.Walked.{Walked}
 use Rattle.vt_walk.specs.Walks.{AreSettings}
 use Rattle.vt_walk.specs.Counts.{HasCounts}

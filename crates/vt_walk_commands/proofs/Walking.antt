@@ -12,8 +12,8 @@ use Rattle.vt_outside.specs.declared.place.Place.{Place}
 use Rattle.vt_pages.specs.Shape.{Shape}
 use Rattle.vt_camera.specs.Paths.{PathView}
 use Rattle.vt_files.specs.Courses.{FolderState, SinkState, Course, IsUntouched}
-use Rattle.vt_pass.specs.Requests.{counts_of}
-use Rattle.vt_pass.specs.Requests
+use Rattle.vt_machine.specs.Requests.{counts_of}
+use Rattle.vt_machine.specs.Requests
 use Rattle.vt_shown.specs.Scenes.{scene_of}
 use Rattle.vt_turns.specs.declared.error.WalkError.{WalkError}
 use Rattle.vt_turns.specs.declared.error.WalkError.TheVariants as walks

@@ -11,7 +11,7 @@ use Rattle.vt_plan.specs.PageLists.{is_in}
 use Rattle.vt_evict.proofs.ListLemmas.{is_in-append, distinct-append}
 use Rattle.vt_plan.proofs.ListLemmas.{is_in-filter, filter_twice, filter_same, filter_all, all_true}
 use Rattle.vt_evict.proofs.SettleLemmas.{same_bool}
-use Rattle.vt_pass.specs.Outcomes.{lost_count}
+use Rattle.vt_machine.specs.Outcomes.{lost_count}
 use Rattle.vt_turns.specs.declared.mode.Mode.{Mode}
 use Rattle.vt_turns.specs.declared.mode.Mode.TheVariants.{Settled}
 use Rattle.vt_walk.specs.Fits.{WalkSetup, Fits}

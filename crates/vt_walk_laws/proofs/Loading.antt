@@ -12,7 +12,7 @@ use Rattle.vt_evict.specs.Views.{RecencyView, IsTable, pages_needed}
 use Rattle.vt_plan.specs.Missing.{is_mapped}
 use Rattle.vt_evict.specs.Batches.{IsSettledTable, read_entries}
 use Rattle.vt_evict.specs.Plans.{missing_pages, plan_of}
-use Rattle.vt_pass.specs.Outcomes.{lost_count}
+use Rattle.vt_machine.specs.Outcomes.{lost_count}
 use Rattle.vt_turns.specs.declared.mode.Mode.{Mode}
 use Rattle.vt_turns.specs.declared.mode.Mode.TheVariants.{Settled}
 use Rattle.vt_walk.specs.Fits.{WalkSetup, Fits}

@@ -14,7 +14,7 @@ use Rattle.vt_plan.specs.declared.batches.Planned.{Planned}
 use Rattle.vt_plan.specs.PageLists.{is_in}
 use Rattle.vt_evict.proofs.ListLemmas.{each_once_distinct}
 use Rattle.vt_evict.proofs.SettleLemmas.{self_eq}
-use Rattle.vt_pass.specs.Outcomes.{lost_count}
+use Rattle.vt_machine.specs.Outcomes.{lost_count}
 use Rattle.vt_turns.specs.declared.mode.Mode.{Mode}
 use Rattle.vt_turns.specs.declared.mode.Mode.TheVariants.{Settled}
 use Rattle.vt_walk.specs.Fits.{WalkSetup, Fits}

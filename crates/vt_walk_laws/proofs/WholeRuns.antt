@@ -7,7 +7,7 @@ use Rattle.vt_plan.specs.declared.batches.Planned.{Planned}
 use Rattle.vt_evict.specs.Views.{RecencyView, touched}
 use Rattle.vt_evict.specs.Batches.{IsSettled}
 use Rattle.vt_evict.specs.Plans.{plan_of}
-use Rattle.vt_pass.specs.Outcomes.{lost_count}
+use Rattle.vt_machine.specs.Outcomes.{lost_count}
 use Rattle.vt_turns.specs.declared.mode.Mode.TheVariants.{Settled}
 use Rattle.vt_walk.specs.Fits.{WalkSetup}
 use Rattle.vt_walk.specs.Runs.{WalkPass, recency_after, plan_after, planned_in, Finishes, IsFinished, IsPictureAfter, IsTurnOf, IsNextPass, IsRun, IsWhole}

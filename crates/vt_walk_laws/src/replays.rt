@@ -8,8 +8,8 @@ ghost use Rattle.vt_tiles.specs.Format.{stored};
 ghost use Rattle.vt_files.specs.Dues.{with_files};
 ghost use Rattle.vt_files.specs.Pictures.{pictures_due};
 ghost use Rattle.vt_shown.specs.Scenes.{Scene};
-ghost use Rattle.vt_pass.specs.PictureWants.{picture_wants};
-ghost use Rattle.vt_pass.specs.StillShows.{still_shows, still_whole};
+ghost use Rattle.vt_machine.specs.PictureWants.{picture_wants};
+ghost use Rattle.vt_machine.specs.StillShows.{still_shows, still_whole};
 ghost use Rattle.vt_turns.specs.declared.mode.Mode.{Mode};
 ghost use Rattle.vt_turns.specs.declared.settings.Settings.{Settings};
 ghost use Rattle.vt_walk.specs.Fits.{WalkSetup};
@@ -24,7 +24,7 @@ ghost use Rattle.vt_replay.specs.Outcomes.{IsReplayable};
 ghost use Rattle.vt_replay.specs.Replayed.{last_lines, pictures_of, replay_file, replay_due};
 ghost use Rattle.vt_walk_laws.specs.Walked.{IsOfStore, named_pictures};
 
-use vt_pass::PassMachine;
+use vt_machine::PassMachine;
 
 /// The journal of a run tells of each picture the rows of its last pass, and it tells of as many pictures as the run has come to:
 /// of all, where the run is whole.

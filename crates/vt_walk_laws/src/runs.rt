@@ -13,13 +13,13 @@ ghost use Rattle.vt_evict.specs.Batches.{IsLawful, IsSettled, read_entries};
 ghost use Rattle.vt_evict.specs.Stamps.{Stamps, IsByStamps};
 ghost use Rattle.vt_feedback.specs.declared.Wanted.{Wanted};
 ghost use Rattle.vt_feedback.specs.Wants.{IsWants};
-ghost use Rattle.vt_pass.specs.declared.crew.PassReport.{PassReport as Report};
+ghost use Rattle.vt_machine.specs.declared.crew.PassReport.{PassReport as Report};
 ghost use Rattle.vt_workers.specs.Jobs.{Job};
-ghost use Rattle.vt_pass.specs.Machines.{MachineState};
-ghost use Rattle.vt_pass.specs.Outcomes.{IsBatchFor, IsOutcome, lost_count};
-ghost use Rattle.vt_pass.specs.Requests.{times_planned, lost_entries};
+ghost use Rattle.vt_machine.specs.Machines.{MachineState};
+ghost use Rattle.vt_machine.specs.Outcomes.{IsBatchFor, IsOutcome, lost_count};
+ghost use Rattle.vt_machine.specs.Requests.{times_planned, lost_entries};
 ghost use Rattle.vt_pages.specs.Shape.{Shape};
-ghost use Rattle.vt_pass.specs.Passes.{MapsNeeded, IsPictured, Ran};
+ghost use Rattle.vt_machine.specs.Passes.{MapsNeeded, IsPictured, Ran};
 ghost use Rattle.vt_turns.specs.declared.mode.Mode.TheVariants.{Live, Settled};
 ghost use Rattle.vt_walk.specs.Fits.{WalkSetup, NeedsFrames, Fits, DoesNotFit};
 ghost use Rattle.vt_walk.specs.Runs.{WalkPass, IsWalkSetup, IsRun, IsWhole, GoesOn, IsFinished, journal_after, recency_after, plan_after, planned_in, lost_in};
@@ -29,7 +29,7 @@ ghost use Rattle.vt_walk_laws.specs.Stamped.{AreStampsOf};
 ghost use Rattle.vt_walk.specs.Shown.{IsRunPicture};
 ghost use Rattle.vt_walk.specs.Logs.{passes_of, picture_lines, reads_of};
 
-use vt_pass::PassMachine;
+use vt_machine::PassMachine;
 
 /// A batch that is lawful for the recency's table is lawful for a journal's table that agrees with it.
 pub fn planned_batch_may_be_run()
@@ -89,7 +89,7 @@ pub fn run_text_grows()
 {}
 
 /// A settled picture that is finished by a pass of a run, and fits, had all that it needs mapped when the pass began; so the
-/// pass, which loaded nothing, shows the plain picture (vt_pass, law `settled_pass_is_plain`).
+/// pass, which loaded nothing, shows the plain picture (vt_machine, law `settled_pass_is_plain`).
 pub fn finished_picture_is_mapped()
     ensures { (w : WalkSetup) (p : WalkPass) (passes : List WalkPass) → IsWalkSetup w → IsRun w (p ∷ passes) → w.mode ≡ Settled
         → GoesOn w.mode w p → IsFinished w p passes → MapsNeeded w.shape (newest (journal_after w passes)) (w.needs p.picture) }

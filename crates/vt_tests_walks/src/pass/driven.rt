@@ -4,8 +4,8 @@ ghost use Rattle.std.specs.Prelude.{◌≤◌, length, IsSome, IfSome};
 ghost use Rattle.std.specs.Bool.{MatchBool};
 ghost use Rattle.vt_pages.specs.Pages.{root_of};
 ghost use Rattle.vt_journal.specs.Changes.{newest};
-ghost use Rattle.vt_pass.specs.Crews.{last_start};
-ghost use Rattle.vt_pass.specs.Outcomes.{IsBatchFor};
+ghost use Rattle.vt_machine.specs.Crews.{last_start};
+ghost use Rattle.vt_machine.specs.Outcomes.{IsBatchFor};
 
 use crate::pass::lawful::{entry_of, is_lawful, root_page};
 use std::alloc::Global;
@@ -14,7 +14,7 @@ use vt_feedback::{Wanted, Wants};
 use vt_journal::{Event, Journal, RowLine};
 use vt_outside::{Items, NoMemory};
 use vt_pages::Geometry;
-use vt_pass::PassReport;
+use vt_machine::PassReport;
 
 /// A pass of a worked walk: the picture and the batch, and what is to come of it.
 #[derive(Clone, Copy)]

@@ -6,7 +6,7 @@ ghost use Rattle.vt_pages.specs.Pages.{pages_of, root_of};
 ghost use Rattle.vt_journal.specs.Changes.{Table as Entries, changed, newest, IsFree};
 ghost use Rattle.vt_journal.specs.Kept.{change_frame};
 ghost use Rattle.vt_plan.specs.declared.batches.Planned.{Planned as Entry};
-ghost use Rattle.vt_pass.specs.Outcomes.{IsEntryFor, IsVictimOf, IsBatchFor};
+ghost use Rattle.vt_machine.specs.Outcomes.{IsEntryFor, IsVictimOf, IsBatchFor};
 
 use vt_evict::Planned;
 use vt_journal::{Change, Journal};

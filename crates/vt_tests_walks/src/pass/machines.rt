@@ -5,8 +5,8 @@ ghost use Rattle.std.specs.Bool.{OnTrue};
 ghost use Rattle.vt_outside.specs.Files.{IsPiece};
 ghost use Rattle.vt_pages.specs.Pages.{root_of};
 ghost use Rattle.vt_tiles.specs.Format.{tile_length, tile_start};
-ghost use Rattle.vt_pass.specs.Crews.{IsCrew};
-ghost use Rattle.vt_pass.specs.Passes.{MayPrepare, IsJobFor, Ends};
+ghost use Rattle.vt_machine.specs.Crews.{IsCrew};
+ghost use Rattle.vt_machine.specs.Passes.{MayPrepare, IsJobFor, Ends};
 ghost use Rattle.vt_workers.specs.Jobs.{job_of};
 
 use crate::pass::driven::{Step, batch_of, came};
@@ -21,7 +21,7 @@ use vt_draw::Shot;
 use vt_evict::Batch;
 use vt_outside::{Folder, NoMemory, OpenGate};
 use vt_pages::Geometry;
-use vt_pass::{Crew, PassMachine, PassReport};
+use vt_machine::{Crew, PassMachine, PassReport};
 use vt_still::StillMachine;
 
 // Prepares a pass for a batch and runs it.

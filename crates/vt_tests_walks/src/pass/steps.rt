@@ -6,7 +6,7 @@ use vt_evict::Planned;
 use vt_feedback::Wanted;
 use vt_journal::{Change, Event, RowLine};
 use vt_outside::Place;
-use vt_pass::Crew;
+use vt_machine::Crew;
 
 /// The pages 0 and 2 for frames that are free.
 pub const LOAD_0: Planned = Planned {

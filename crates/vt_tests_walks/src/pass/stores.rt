@@ -5,7 +5,7 @@ ghost use Rattle.vt_outside.specs.Files.{IsPiece, bytes_at};
 ghost use Rattle.vt_pages.specs.Pages.{root_of};
 ghost use Rattle.vt_tiles.specs.Format.{tile_start};
 ghost use Rattle.vt_tiles.specs.StoreViews.{IsStoreIfTold};
-ghost use Rattle.vt_pass.specs.Machines.{told_by, AreStoresFor};
+ghost use Rattle.vt_machine.specs.Machines.{told_by, AreStoresFor};
 
 use crate::fixtures::open_store;
 use crate::pass::lawful::root_page;

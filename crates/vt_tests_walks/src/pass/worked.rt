@@ -10,7 +10,7 @@ use std::sync::Wait;
 use std::thread::Threads;
 use vt_camera::Path;
 use vt_outside::{MemoryFolder, Place};
-use vt_pass::Crew;
+use vt_machine::Crew;
 
 /// What runs passes.
 #[derive(Clone, Copy)]

@@ -3,7 +3,7 @@
 use crate::cases::{Case, Deed, check};
 use crate::fixtures::{FINE, FOUR, ONE_PICTURE};
 use crate::walk::worked::Walk;
-use vt_pass::Crew;
+use vt_machine::Crew;
 use vt_walk::{Mode, Settings, WalkError};
 
 const SETTINGS: Settings = Settings {

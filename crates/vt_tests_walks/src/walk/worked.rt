@@ -3,7 +3,7 @@
 ghost use Rattle.std.specs.Prelude.{◌≡◌, [], ◌∷◌, is_some};
 ghost use Rattle.std.specs.Bool.{OnTrue};
 ghost use Rattle.vt_outside.specs.Files.{bytes_at};
-ghost use Rattle.vt_pass.specs.Machines.{file_state};
+ghost use Rattle.vt_machine.specs.Machines.{file_state};
 ghost use Rattle.vt_walk.specs.Walks.{AreSettings};
 ghost use Rattle.vt_walk.specs.States.{AreOpen};
 

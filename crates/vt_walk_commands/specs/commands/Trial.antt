@@ -12,7 +12,7 @@ use Rattle.vt_camera.specs.PathText.{IsPathText}
 use Rattle.vt_pages.specs.Shape.{Shape, shape_of}
 use Rattle.vt_draw.specs.Plain.{plain_samples}
 use Rattle.vt_shown.specs.Scenes.{scene_of}
-use Rattle.vt_pass.specs.PictureWants.{picture_wants}
+use Rattle.vt_machine.specs.PictureWants.{picture_wants}
 use Rattle.vt_turns.specs.declared.settings.Settings.{Settings}
 use Rattle.vt_turns.specs.declared.mode.Mode.TheVariants.{Settled}
 use Rattle.vt_turns.specs.declared.error.WalkError.{WalkError}

@@ -38,7 +38,7 @@ use vt_inputs::{Refusal, add};
 use vt_mip::Chain;
 use vt_outside::{Fails, Folder, Gate, MemoryFolder, MemorySink, NoMemory, OutsideError, Sink};
 use vt_pages::Geometry;
-use vt_pass::Crew;
+use vt_machine::Crew;
 use vt_ppm::{Image, encode};
 use vt_print::Line;
 use vt_still::StillMachine;

@@ -14,7 +14,7 @@ use std::thread::Threads;
 use vt_inputs::{Refusal, open_store, read_path};
 use vt_outside::{Folder, Gate, Sink};
 use vt_pages::Geometry;
-use vt_pass::{Crew, PassMachine};
+use vt_machine::{Crew, PassMachine};
 use vt_walk::{Names, Settings, WalkError, walk_with};
 use vt_words::WalkWords;
 

@@ -1,7 +1,7 @@
 use Rattle.std.proofs.Common.{Bool, ap, subst, sym, arith}
 use Rattle.vt_table.specs.Views.{IsTile}
 use Rattle.vt_load.specs.Readings.{is_lost}
-use Rattle.vt_pass.specs.Outcomes.{group_of}
+use Rattle.vt_machine.specs.Outcomes.{group_of}
 use Rattle.vt_rounds.specs.Streams.{Publishes, IsTileOf}
 use Rattle.vt_rounds.proofs.Entries.{published_lost}
 use Rattle.vt_rounds.proofs.Applying.{is_tile_of}

@@ -8,9 +8,9 @@ use Rattle.vt_table.specs.Views.{TableView}
 use Rattle.vt_still.specs.declared.tasks.StillSampler.{StillSampler}
 use Rattle.vt_workers.specs.All.{AllReady}
 use Rattle.vt_workers.specs.Jobs.{Job, job_of}
-use Rattle.vt_pass.specs.PictureWants.{picture_wants}
+use Rattle.vt_machine.specs.PictureWants.{picture_wants}
 use Rattle.vt_still.specs.StillTasks.{MayDraw, HasDrawn}
-use Rattle.vt_pass.specs.StillShows.{still_shows}
+use Rattle.vt_machine.specs.StillShows.{still_shows}
 use Rattle.vt_still.specs.StillLaws.{ran_after, begun, kit_back, same_kit}
 use Rattle.vt_still.proofs.Kits.{may_draw}
 use Rattle.vt_workers.proofs.Lent.{same_number, all_did}

@@ -1,10 +1,10 @@
 use Rattle.std.proofs.Common.{true, length, ap, sym, ◌∙◌, subst}
 use Rattle.vt_table.specs.Views.{TableView}
-use Rattle.vt_pass.specs.Machines.{Setup, MachineState}
+use Rattle.vt_machine.specs.Machines.{Setup, MachineState}
 use Rattle.vt_workers.specs.Jobs.{job_of}
-use Rattle.vt_pass.specs.PictureWants.{picture_wants}
-use Rattle.vt_pass.specs.StillShows.{still_shows}
-use Rattle.vt_pass.specs.Passes.{MapsRoot, IsJobFor, Ran}
+use Rattle.vt_machine.specs.PictureWants.{picture_wants}
+use Rattle.vt_machine.specs.StillShows.{still_shows}
+use Rattle.vt_machine.specs.Passes.{MapsRoot, IsJobFor, Ran}
 use Rattle.vt_still.specs.Kits.{KitView, PassKitView, kit_setup, kit_state, lines_at, IsIdleKit, IsPreparedKit, IsReadyKit}
 use Rattle.vt_still.specs.StillMachines.{kit_drawn}
 use Rattle.vt_still.proofs.pass_kit.run_pass.Goals as goal

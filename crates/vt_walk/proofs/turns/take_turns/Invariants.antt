@@ -1,5 +1,5 @@
 use Rattle.std.proofs.Common.{◌≡◌, ◌≤◌, ◌∷◌}
-use Rattle.vt_pass.specs.Requests.{AreSameFiles}
+use Rattle.vt_machine.specs.Requests.{AreSameFiles}
 use Rattle.vt_walk.specs.States.{walk_state}
 use Rattle.vt_walk.specs.Tours.{given_of}
 use Rattle.vt_walk.specs.Written.{IsDrawnBySome}

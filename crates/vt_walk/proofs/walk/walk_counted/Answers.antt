@@ -7,7 +7,7 @@ use Rattle.vt_outside.specs.Files.{with_places}
 use Rattle.vt_pages.specs.Shape.{Shape}
 use Rattle.vt_pages.specs.Pages.{pinned_of}
 use Rattle.vt_shown.specs.Scenes.{scene_of}
-use Rattle.vt_pass.specs.Machines.{file_state}
+use Rattle.vt_machine.specs.Machines.{file_state}
 use Rattle.vt_turns.specs.declared.error.WalkError.TheVariants.{TooFewFrames}
 use Rattle.vt_turns.specs.declared.mode.Mode.{Mode}
 use Rattle.vt_walk.specs.Walks.{WalkGiven, given_by, mode_of, names_of, AreSettings}

@@ -1,5 +1,5 @@
 use Rattle.std.specs.Prelude.{true}
-use Rattle.vt_pass.specs.PictureWants.{picture_wants}
+use Rattle.vt_machine.specs.PictureWants.{picture_wants}
 use Rattle.vt_walk_laws.proofs.Walked.{settings_fit}
 use Rattle.vt_walk_laws.proofs.replays.still_walk_is_of_its_store.Goals as goal
 

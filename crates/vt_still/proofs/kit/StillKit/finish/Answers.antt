@@ -2,15 +2,15 @@ use Rattle.std.proofs.Common.{◌≡◌, List, length, refl, sym, ap, ◌∙◌,
 use Rattle.std.specs.Prelude.{All, true}
 use Rattle.vt_journal.specs.Changes.{newest}
 use Rattle.vt_plan.specs.declared.batches.Planned.{Planned}
-use Rattle.vt_pass.specs.Outcomes.{IsBatchFor}
+use Rattle.vt_machine.specs.Outcomes.{IsBatchFor}
 use Rattle.vt_tiles.specs.Format.{tile_length}
 use Rattle.vt_still.specs.RoundKits.{HasPlaces}
-use Rattle.vt_pass.specs.declared.crew.PassReport.{PassReport}
+use Rattle.vt_machine.specs.declared.crew.PassReport.{PassReport}
 use Rattle.vt_workers.specs.Jobs.{job_of}
-use Rattle.vt_pass.specs.PictureWants.{picture_wants}
-use Rattle.vt_pass.specs.Passes.{Ran}
+use Rattle.vt_machine.specs.PictureWants.{picture_wants}
+use Rattle.vt_machine.specs.Passes.{Ran}
 use Rattle.vt_still.specs.Kits.{KitView, kit_state, lines_at}
-use Rattle.vt_pass.specs.StillShows.{still_shows}
+use Rattle.vt_machine.specs.StillShows.{still_shows}
 use Rattle.vt_still.specs.StillMachines.{kit_drawn, kit_before, MayFinish}
 use Rattle.vt_still.proofs.Ended.{counts_fit, counts_low}
 use Rattle.vt_still.proofs.RoundKits.{tile_is, ended_of, idle_finished, ran_finished}

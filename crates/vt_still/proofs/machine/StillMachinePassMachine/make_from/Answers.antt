@@ -1,5 +1,5 @@
 use Rattle.std.proofs.Common.{ap, ◌∙◌}
-use Rattle.vt_pass.specs.Machines.{files_of, told_by}
+use Rattle.vt_machine.specs.Machines.{files_of, told_by}
 use Rattle.vt_still.proofs.Kits.{idle_made}
 use Rattle.vt_still.proofs.machine.StillMachinePassMachine.make_from.Goals as goal
 

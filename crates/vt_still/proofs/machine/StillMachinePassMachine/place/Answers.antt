@@ -6,7 +6,7 @@ use Rattle.vt_pages.specs.Pages.{pages_of}
 use Rattle.vt_journal.specs.Changes.{newest, IsFree}
 use Rattle.vt_tiles.specs.Format.{tile_length}
 use Rattle.vt_table.specs.Views.{TableView}
-use Rattle.vt_pass.specs.Passes.{MayPlace, with_placed}
+use Rattle.vt_machine.specs.Passes.{MayPlace, with_placed}
 use Rattle.vt_still.specs.Kits.{kit_state, IsIdleKit}
 use Rattle.vt_still.specs.StillMachines.{StillView}
 use Rattle.vt_rounds.proofs.Entries.{tile_is}

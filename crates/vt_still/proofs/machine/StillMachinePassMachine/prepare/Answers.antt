@@ -3,8 +3,8 @@ use Rattle.vt_outside.proofs.Refusing.{none_made}
 use Rattle.vt_outside.proofs.Untold.{OnErr-all}
 use Rattle.vt_pages.specs.Shape.{Shape}
 use Rattle.vt_journal.specs.Changes.{newest}
-use Rattle.vt_pass.specs.Outcomes.{IsBatchFor}
-use Rattle.vt_pass.specs.Passes.{MayPrepare, IsUntouched, IsSpent}
+use Rattle.vt_machine.specs.Outcomes.{IsBatchFor}
+use Rattle.vt_machine.specs.Passes.{MayPrepare, IsUntouched, IsSpent}
 use Rattle.vt_still.specs.Kits.{kit_state, IsIdleKit}
 use Rattle.vt_still.specs.StillMachines.{StillView}
 use Rattle.vt_still.proofs.Rooms.{untouched, spent, same_asked}

@@ -7,7 +7,7 @@ use Rattle.vt_tiles.specs.Format.{tile_length}
 use Rattle.vt_tiles.specs.StoreViews.{StoreView}
 use Rattle.vt_table.specs.Views.{TableView, IsTable}
 use Rattle.vt_rounds.specs.Frames.{HoldsTiles}
-use Rattle.vt_pass.specs.Machines.{told_by}
+use Rattle.vt_machine.specs.Machines.{told_by}
 use Rattle.vt_rounds.specs.Streams.{IsTileOf}
 use Rattle.vt_still.specs.Kits.{KitView, IsKit, IsIdleKit}
 use Rattle.vt_tests_walks.proofs.pass.kits.drive_kit.Goals as goal

@@ -2,7 +2,7 @@ use Rattle.std.proofs.Common.{ℕ, ◌<◌}
 use Rattle.std.specs.Prelude.{slice_index_or}
 use Rattle.vt_plan.specs.declared.batches.Planned.{Planned}
 use Rattle.vt_journal.specs.Changes.{newest}
-use Rattle.vt_pass.specs.Outcomes.{IsEntryFor}
+use Rattle.vt_machine.specs.Outcomes.{IsEntryFor}
 use Rattle.vt_tests_walks.proofs.pass.lawful.are_entries.Given as goal
 
 -- the entries so far are lawful

@@ -8,9 +8,9 @@ use Rattle.vt_journal.specs.declared.changes.Change.{Change}
 use Rattle.vt_journal.specs.Changes.{newest}
 use Rattle.vt_journal.proofs.Versions.{newest-none}
 use Rattle.vt_tiles.specs.Format.{tile_length, tile_start}
-use Rattle.vt_pass.specs.Crews.{last_start}
-use Rattle.vt_pass.specs.Machines.{MachineState}
-use Rattle.vt_pass.specs.Passes.{MayPlace}
+use Rattle.vt_machine.specs.Crews.{last_start}
+use Rattle.vt_machine.specs.Machines.{MachineState}
+use Rattle.vt_machine.specs.Passes.{MayPlace}
 use Rattle.vt_tests_walks.proofs.pass.machines.drive_placed.Goals as goal
 
 -- in a machine that maps nothing a page may be placed in the first frame

@@ -4,7 +4,7 @@ use Rattle.vt_outside.specs.Files.{Files, IsPiece, bytes_at}
 use Rattle.vt_pages.specs.Pages.{root_of}
 use Rattle.vt_tiles.specs.Format.{tile_start}
 use Rattle.vt_tiles.specs.StoreViews.{IsStoreIfTold}
-use Rattle.vt_pass.specs.Machines.{Setup}
+use Rattle.vt_machine.specs.Machines.{Setup}
 use Rattle.vt_tests_walks.proofs.pass.machines.drive_still.Goals as goal
 
 pub stores_of-stores-requires-clause-store : goal.stores_of-stores-requires-clause-store

@@ -4,7 +4,7 @@ use Rattle.vt_outside.specs.declared.outside.File.{Ghosts as FileMeanings}
 use Rattle.vt_outside.specs.Files.{Files, bytes_at}
 use Rattle.vt_pages.specs.Shape.{Shape}
 use Rattle.vt_tiles.specs.StoreViews.{StoreView, IsStoreIfTold}
-use Rattle.vt_pass.specs.Machines.{told_by, AreStoresFor}
+use Rattle.vt_machine.specs.Machines.{told_by, AreStoresFor}
 use Rattle.vt_tests_walks.proofs.pass.stores.stores_of.Goals as goal
 
 -- what the first of such stores tells

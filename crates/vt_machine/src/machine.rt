@@ -1,0 +1,287 @@
+//! What streams and draws, as its callers see it.
+
+ghost use Rattle.std.specs.Prelude.{◌≡◌, ℕ, ◌<◌, Bool, List, [], length, Result, IfOk, IfErr, OnOk, OnErr};
+ghost use Rattle.std.specs.List.{concat};
+ghost use Rattle.vt_definitions.specs.Depths.{IsDepth};
+ghost use Rattle.vt_pages.specs.Pages.{IsWithinLimits};
+ghost use Rattle.vt_camera.specs.Paths.{PathView};
+ghost use Rattle.vt_journal.specs.Changes.{Table};
+ghost use Rattle.vt_tiles.specs.StoreViews.{IsStore};
+ghost use Rattle.vt_plan.specs.declared.batches.Planned.{Planned};
+ghost use Rattle.vt_outside.specs.declared.answers.NoMemory.{NoMemory as Refusal};
+ghost use Rattle.vt_machine.specs.declared.crew.PassReport.{PassReport as Report};
+ghost use Rattle.vt_shown.specs.Scenes.{Scene};
+ghost use Rattle.vt_workers.specs.Jobs.{Job, job_of};
+ghost use Rattle.vt_machine.specs.Crews.{IsCrew, AreFrames};
+ghost use Rattle.vt_machine.specs.Machines.{MachineState, setup_of, files_of, told_by, AreStoresFor};
+ghost use Rattle.vt_machine.specs.Passes.{Begins, MayPlace, with_placed, MayPrepare, IsUntouched, IsSpent, MapsRoot, IsJobFor, Ends, MapsNeeded};
+ghost use Rattle.vt_workers.specs.All.{AllReady, AllDid};
+
+use crate::crew::{Crew, PassReport};
+use std::alloc::Global;
+use std::sync::Wait;
+use std::thread::Threads;
+use vt_camera::Path;
+use vt_draw::Shot;
+use vt_evict::Batch;
+use vt_feedback::Counts;
+use vt_journal::Journal;
+use vt_outside::{File, Gate, Items, NoMemory};
+use vt_pages::Geometry;
+use vt_tiles::Stores;
+use vt_workers::{Task, work_together};
+
+/// A value that streams tiles of a store into frames, and draws the pictures of a path from them.
+///
+/// It is made for a texture that is cut into pages, for pictures of the path's sides, a number of frames and a crew.
+/// First pages are placed in frames. Then each pass is prepared for a batch and run; after it the picture, its counts
+/// and the journal of the page table can be asked for. A machine that was refused memory by `prepare` or `run` can only
+/// be ended. Where the files of the loaders do not tell their bytes or the places that they were asked, clauses on
+/// these say nothing.
+pub trait PassMachine: Sized {
+    /// What the loaders read.
+    type File: File + Send;
+
+    /// What the workers of a pass share.
+    type Shared: Sync;
+
+    /// A worker that reads tiles.
+    type Loader: Task<Self::Shared> + Send;
+
+    /// A worker that draws rows.
+    type Sampler: Task<Self::Shared> + Send;
+
+    /// The worker that changes the page table while the samplers draw, if it is changed then.
+    type Streamer: Task<Self::Shared> + Send;
+
+    /// Whether row y is always drawn by sampler y modulo their number.
+    const DEALT: bool;
+
+    ghost DEALT: { Bool };
+
+    /// How many pixels of a picture need each page.
+    ghost needs: { Scene → ℕ → ℕ → ℕ };
+
+    /// The bytes of a pixel of a picture of a store's bytes, under a page table.
+    ghost shows: { Scene → List ℕ → Table → ℕ → ℕ → ℕ → List ℕ };
+
+    /// The bytes of a pixel of a picture of a store's bytes, without a page table.
+    ghost whole: { Scene → List ℕ → ℕ → ℕ → ℕ → List ℕ };
+
+    /// What it is at present.
+    ghost state: { Self → MachineState };
+
+    /// No pass is prepared, and it can go on.
+    ghost is_idle: { Self → Type 0 };
+
+    /// A pass is prepared for this batch.
+    ghost is_ready: { Self → List Planned → Type 0 };
+
+    /// By what it has done up to now, row y of a path's picture, drawn at a version, has these bytes.
+    ghost drawn: { Self → PathView → ℕ → ℕ → ℕ → List ℕ → Type 0 };
+
+    /// What its workers share.
+    ghost lent: { Self → Self.Shared };
+
+    /// What it was and what it is once its workers were moved out, and what they are.
+    ghost mustered: { Self → Job → Self → List Self.Loader → List Self.Sampler → Self.Streamer → Type 0 };
+
+    /// These workers may be moved back.
+    ghost may_dismiss: { Self → Job → List Self.Loader → List Self.Sampler → Self.Streamer → Type 0 };
+
+    /// What it was without its workers, and what it is and answers once they were moved back.
+    ghost dismissed: { Self → Job → List Self.Loader → List Self.Sampler → Self.Streamer → Self
+        → Result Report Refusal → Type 0 };
+
+    /// Makes a machine as `make` does, with the stores of a list, which it leaves empty. After a refusal the list has
+    /// them all.
+    fn make_from<Rt: Threads + Wait + Sync>(
+        rt: &Rt,
+        alloc: Global,
+        geometry: &Geometry,
+        path: &Path,
+        frames: u32,
+        crew: &Crew,
+        depth: u32,
+        stores: &mut Stores<Self::File>,
+    ) -> Result<Self, NoMemory>
+        requires frames { AreFrames geometry.now frames }
+        requires crew { IsCrew crew.now }
+        requires depth { IsDepth depth }
+        requires stores { AreStoresFor Self.File.File geometry.now depth crew.now.loaders stores.old.elements }
+        ensures begins { IfOk result (λ m. Begins (setup_of geometry.now depth path.now frames crew.now
+            (told_by Self.File.File stores.old.elements)) (files_of Self.File.File stores.old.elements) (state m)) }
+        ensures idle { IfOk result is_idle }
+        ensures taken { OnOk result (stores.new.elements ≡ []) }
+        ensures refused { OnErr result (files_of Self.File.File stores.new.elements
+            ≡ files_of Self.File.File stores.old.elements) };
+
+    /// Makes a machine with one store for each loader, whose journal is empty. A refusal hands the stores back.
+    ///
+    /// The stores are cut as the geometry says, their samples have `depth` bytes, and all of them tell the same bytes
+    /// or none does. The frames are from 1 to 65,535, and have at most 8,388,608 texels together. Of the path only the
+    /// sides of its pictures count here.
+    final fn make<Rt: Threads + Wait + Sync>(
+        rt: &Rt,
+        alloc: Global,
+        geometry: &Geometry,
+        path: &Path,
+        frames: u32,
+        crew: &Crew,
+        depth: u32,
+        mut stores: Stores<Self::File>,
+    ) -> Result<Self, (Stores<Self::File>, NoMemory)>
+        requires frames { AreFrames geometry.now frames }
+        requires crew { IsCrew crew.now }
+        requires depth { IsDepth depth }
+        requires stores { AreStoresFor Self.File.File geometry.now depth crew.now.loaders stores.elements }
+        ensures begins { IfOk result (λ m. Begins (setup_of geometry.now depth path.now frames crew.now
+            (told_by Self.File.File stores.elements)) (files_of Self.File.File stores.elements) (state m)) }
+        ensures idle { IfOk result is_idle }
+        ensures refused { IfErr result (λ e. files_of Self.File.File e.0.elements
+            ≡ files_of Self.File.File stores.elements) }
+    {
+        match Self::make_from(rt, alloc, geometry, path, frames, crew, depth, &mut stores) {
+            Ok(machine) => {
+                stores.destroy_empty();
+                Ok(machine)
+            }
+            Err(refusal) => Err((stores, refusal)),
+        }
+    }
+
+    /// Maps a page to a frame that it fills with the page's tile, while no pass is prepared. Both are free, and the
+    /// tile is the store's, where that is told. After a refusal nothing changed.
+    fn place<Rt: Threads + Wait + Sync>(
+        &mut self,
+        rt: &Rt,
+        page: u32,
+        frame: u32,
+        tile: &[u8],
+    ) -> Result<(), NoMemory>
+        requires idle { is_idle self.old }
+        requires may { MayPlace (state self.old) page frame tile.now }
+        ensures placed { OnOk result (state self.new ≡ with_placed page frame (state self.old)) }
+        ensures refused { OnErr result (state self.new ≡ state self.old) }
+        ensures idle { is_idle self.new };
+
+    /// Makes room for a pass that streams a batch, which is lawful for the newest version and no longer than the crew's
+    /// batches. After a refusal the machine can only be ended.
+    fn prepare<Rt: Threads + Wait + Sync>(&mut self, rt: &Rt, batch: &Batch) -> Result<(), NoMemory>
+        requires idle { is_idle self.old }
+        requires may { MayPrepare (state self.old) batch.now.elements }
+        ensures ready { OnOk result (is_ready self.new batch.now.elements) }
+        ensures untouched { OnOk result (IsUntouched (state self.old) (state self.new)) }
+        ensures refused { OnErr result (IsSpent (state self.old) (state self.new)) };
+
+    /// Moves the workers out, that they may be at work while what they share is lent.
+    fn muster(
+        &mut self,
+        shot: &Shot<'_>,
+        batch: &Batch,
+    ) -> (Items<Self::Loader>, Items<Self::Sampler>, Self::Streamer)
+        requires ready { is_ready self.old batch.now.elements }
+        requires root { MapsRoot (state self.old) }
+        requires job { IsJobFor (state self.old).setup (job_of shot.now batch.now.elements) }
+        ensures mustered { mustered self.old (job_of shot.now batch.now.elements)
+            self.new result.0.elements result.1.elements result.2 }
+        ensures loaders { AllReady (Self.Loader.ready (lent self.new) (job_of shot.now batch.now.elements))
+            result.0.elements }
+        ensures samplers { AllReady (Self.Sampler.ready (lent self.new) (job_of shot.now batch.now.elements))
+            result.1.elements }
+        ensures streamer { Self.Streamer.ready (lent self.new) (job_of shot.now batch.now.elements) result.2 };
+
+    /// What the workers share.
+    fn shared(&self) -> &Self::Shared
+        ensures { result.now ≡ lent self.now };
+
+    /// Moves the workers back, does what they have left of the pass, and tells what the pass did.
+    fn dismiss<Rt: Threads + Wait + Sync, G: Gate + Sync>(
+        &mut self,
+        rt: &Rt,
+        loaders: Items<Self::Loader>,
+        samplers: Items<Self::Sampler>,
+        streamer: Self::Streamer,
+        shot: &Shot<'_>,
+        batch: &Batch,
+        gate: &G,
+    ) -> Result<PassReport, NoMemory>
+        requires { may_dismiss self.old (job_of shot.now batch.now.elements)
+            loaders.elements samplers.elements streamer }
+        ensures { dismissed self.old (job_of shot.now batch.now.elements)
+            loaders.elements samplers.elements streamer self.new result };
+
+    /// Runs the pass that is prepared for this batch: draws the picture of the shot and streams the batch. It may wait.
+    ///
+    /// After a refusal the machine can only be ended.
+    final fn run<Rt: Threads + Wait + Sync, G: Gate + Sync>(
+        &mut self,
+        rt: &Rt,
+        shot: &Shot<'_>,
+        batch: &Batch,
+        gate: &G,
+    ) -> Result<PassReport, NoMemory>
+        requires ready { is_ready self.old batch.now.elements }
+        requires root { MapsRoot (state self.old) }
+        requires job { IsJobFor (state self.old).setup (job_of shot.now batch.now.elements) }
+        ensures { Ends DEALT needs shows (drawn self.new) (is_idle self.new)
+            (job_of shot.now batch.now.elements) result (state self.old) (state self.new) }
+    {
+        let (mut loaders, mut samplers, mut streamer) = self.muster(shot, batch);
+        work_together(
+            rt,
+            loaders.slice_mut(),
+            samplers.slice_mut(),
+            &mut streamer,
+            self.shared(),
+            shot,
+            batch.slice(),
+            gate,
+        );
+        self.dismiss(rt, loaders, samplers, streamer, shot, batch, gate)
+    }
+
+    /// The journal of the page table.
+    fn journal(&self) -> &Journal
+        ensures { result.now.changes ≡ (state self.now).journal };
+
+    /// How many pixels of the last pass's picture need each page.
+    fn counts(&self) -> &Counts
+        requires { is_idle self.now }
+        ensures { result.now ≡ (state self.now).counts };
+
+    /// The samples of the last pass's picture: its rows from the top.
+    fn picture(&self, alloc: Global) -> Result<Vec<u8>, NoMemory>
+        requires { is_idle self.now }
+        ensures { IfOk result (λ picture. picture.items ≡ concat (state self.now).rows) };
+
+    /// Ends the machine, and hands the stores back with the states of their files.
+    fn end<Rt: Threads + Wait + Sync>(self, rt: &Rt) -> Stores<Self::File>
+        ensures { files_of Self.File.File result.elements ≡ (state self).files };
+
+    /// Where the root is mapped and every page that a picture needs, a pixel under the page table is that without one.
+    ghost shows_whole: { (scene : Scene) (b : List ℕ) (m : Table) (i x y : ℕ) → IsWithinLimits scene.shape
+        → IsStore b scene.shape scene.depth
+        → i < length scene.path.cameras → x < scene.path.width → y < scene.path.height
+        → MapsNeeded scene.shape m (needs scene i)
+        → shows scene b m i x y ≡ whole scene b i x y };
+
+    /// What the workers did leaves what can be moved back.
+    ghost may_come_back: { (job : Job) (m n : Self) (a c : List Self.Loader) (e f : List Self.Sampler)
+        (b d : Self.Streamer)
+        → is_ready m job.batch → MapsRoot (state m) → IsJobFor (state m).setup job → mustered m job n a e b
+        → length c ≡ length a → length f ≡ length e
+        → AllDid (Self.Loader.did (lent n) job) a c → AllDid (Self.Sampler.did (lent n) job) e f
+        → Self.Streamer.did (lent n) job b d
+        → may_dismiss n job c f d };
+
+    /// What the workers did is a pass, once they are moved back.
+    ghost has_run: { (job : Job) (m n p : Self) (a c : List Self.Loader) (e f : List Self.Sampler)
+        (b d : Self.Streamer) (r : Result Report Refusal)
+        → is_ready m job.batch → MapsRoot (state m) → IsJobFor (state m).setup job → mustered m job n a e b
+        → length c ≡ length a → length f ≡ length e
+        → AllDid (Self.Loader.did (lent n) job) a c → AllDid (Self.Sampler.did (lent n) job) e f
+        → Self.Streamer.did (lent n) job b d
+        → dismissed n job c f d p r
+        → Ends DEALT needs shows (drawn p) (is_idle p) job r (state m) (state p) };
+}

@@ -1,5 +1,0 @@
-use Rattle.vt_pass.proofs.OneRead.{read_more}
-use Rattle.vt_pass.proofs.laws.reads_add_up.Goals as goal
-
-pub returns : goal.returns
-returns c = read_more

@@ -1,6 +1,0 @@
-use Rattle.vt_pass.proofs.Settled.{settled}
-use Rattle.vt_pass.proofs.laws.settled_pass_is_plain.Goals as goal
-
-pub returns : goal.returns
-returns g c = λ m. settled g.M.PassMachine.DEALT g.M.PassMachine.needs g.M.PassMachine.shows g.M.PassMachine.whole (g.M.PassMachine.drawn m)
-    g.met.M.PassMachine.shows_whole
