@@ -18,6 +18,7 @@ use Rattle.vt_shown.specs.Scenes.{Scene}
 use Rattle.vt_workers.specs.Jobs.{Job}
 use Rattle.vt_machine.specs.Outcomes.{IsOutcome, pass_events}
 use Rattle.vt_shown.specs.Replays.{HasPixels, IsFull, IsPictureOf}
+use Rattle.vt_machine.specs.Drawings.{Drawing}
 use Rattle.vt_machine.specs.Machines.{Setup, MachineState}
 use Rattle.vt_machine.specs.Passes.{IsJobFor, MapsNeeded, Ran}
 
@@ -37,16 +38,15 @@ there : (lines : List RowLine) (y : ℕ) → y < length lines → (line : RowLin
 there [] y inside = absurd (omega arith)
 there (line ∷ lines) y inside = let d : RowLine = line in let e : slice_get (line ∷ lines) y ≡ Some _ = slice_get-get_or (line ∷ lines) y d inside in (_, e)
 
-module _ (dealt : Bool) (needs : Scene → ℕ → ℕ → ℕ) (shows : Scene → List ℕ → Table → ℕ → ℕ → ℕ → List ℕ) (whole : Scene → List ℕ → ℕ → ℕ → ℕ → List ℕ)
-    (drawn : PathView → ℕ → ℕ → ℕ → List ℕ → Type 0)
+module _ (draws : Drawing) (drawn : PathView → ℕ → ℕ → ℕ → List ℕ → Type 0)
     (law : (scene : Scene) (b : List ℕ) (m : Table) (i x y : ℕ) → IsWithinLimits scene.shape → IsStore b scene.shape scene.depth
-    → i < length scene.path.cameras → x < scene.path.width → y < scene.path.height → MapsNeeded scene.shape m (needs scene i)
-    → shows scene b m i x y ≡ whole scene b i x y) where
+    → i < length scene.path.cameras → x < scene.path.width → y < scene.path.height → MapsNeeded scene.shape m (draws.needs scene i)
+    → draws.shows scene b m i x y ≡ draws.whole scene b i x y) where
   pub settled : (job : Job) (report : PassReport) (before after : MachineState) (b : List ℕ)
-      → Ran dealt needs shows drawn job report before after → job.batch ≡ [] → IsWithinLimits job.scene.shape → IsJobFor before.setup job
+      → Ran draws drawn job report before after → job.batch ≡ [] → IsWithinLimits job.scene.shape → IsJobFor before.setup job
       → before.setup.bytes ≡ Some b → IsStore b job.scene.shape job.scene.depth
-      → MapsNeeded job.scene.shape (newest before.journal) (needs job.scene job.picture)
-      → IsPictureOf before.setup.depth before.setup.width before.setup.height (λ x y. whole job.scene b job.picture x y) (concat after.rows)
+      → MapsNeeded job.scene.shape (newest before.journal) (draws.needs job.scene job.picture)
+      → IsPictureOf before.setup.depth before.setup.width before.setup.height (λ x y. draws.whole job.scene b job.picture x y) (concat after.rows)
   settled job report before after b ran none limits job_for told store needed =
       let same : after.journal ≡ before.journal = ran.journal ∙ ap (λ (events : List Event). before.journal ++ changes_of events)
       (no_events job.batch report.losses.elements report.events.elements none ran.outcome) ∙ append-nil before.journal in
@@ -63,11 +63,11 @@ module _ (dealt : Bool) (needs : Scene → ℕ → ℕ → ℕ) (shows : Scene �
             let v : l.0.version ≡ length before.journal =
             (let low = row.from in let high = row.to in let e : length after.journal ≡ length before.journal = ap length same in omega (arith, low, high, e)) in
             let replayed = if_some after.setup.bytes b _ (ap (λ (s : Setup). s.bytes) setup ∙ told) ran.picture.replayed y l.0 l.1 in
-            let pixels = subst (λ (s : Setup). HasPixels s.depth s.width (λ x. shows job.scene b (at after.journal l.0.version) job.picture x y)
+            let pixels = subst (λ (s : Setup). HasPixels s.depth s.width (λ x. draws.shows job.scene b (at after.journal l.0.version) job.picture x y)
             (slice_index_or after.rows y [])) setup replayed in
             let table : at after.journal l.0.version ≡ newest before.journal = ap (λ (js : List Change). at js l.0.version) same ∙ ap (at before.journal) v in
             pixels x inside
-            ∙ ap (λ (m : Table). shows job.scene b m job.picture x y) table
+            ∙ ap (λ (m : Table). draws.shows job.scene b m job.picture x y) table
             ∙ law job.scene b (newest before.journal) job.picture x y limits store job_for.picture
             (let e = job_for.width in omega (arith, e, inside)) (let e = job_for.height in omega (arith, e, below)) needed;
         joined = refl;

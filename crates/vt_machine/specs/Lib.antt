@@ -2,8 +2,8 @@ pub mod Crews
 pub mod Outcomes
 pub mod RowOrders
 pub mod Requests
-pub mod PictureWants
-pub mod StillShows
+pub mod Drawings
+pub mod Nearest
 pub mod Machines
 pub mod Passes
 pub mod Plainly

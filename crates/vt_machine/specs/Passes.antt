@@ -11,10 +11,10 @@ use Rattle.vt_journal.specs.Changes.{Table, newest, IsNext}
 use Rattle.vt_journal.specs.JournalText.{changes_of}
 use Rattle.vt_plan.specs.declared.batches.Planned.{Planned}
 use Rattle.vt_machine.specs.declared.crew.PassReport.{PassReport}
-use Rattle.vt_shown.specs.Scenes.{Scene}
 use Rattle.vt_workers.specs.Jobs.{Job}
 use Rattle.vt_machine.specs.Crews.{last_start}
 use Rattle.vt_tiles.specs.Format.{tile_length, tile_start}
+use Rattle.vt_machine.specs.Drawings.{Drawing}
 use Rattle.vt_machine.specs.Outcomes.{IsBatchFor, IsOutcome}
 use Rattle.vt_machine.specs.RowOrders.{AreRowsInOrder}
 use Rattle.vt_machine.specs.Requests.{FileState, AreReadFor, ArePartlyReadFor}
@@ -71,25 +71,25 @@ pub record IsJobFor (given : Setup) (job : Job) : Type 0 where
   pub picture : job.picture < length job.scene.path.cameras
 
 -- a machine's picture of a job: its rows are the replay of the pass, and each came from what the machine did; its counts are those needed
-pub record IsPictured (needs : Scene → ℕ → ℕ → ℕ) (shows : Scene → List ℕ → Table → ℕ → ℕ → ℕ → List ℕ)
-    (drawn : PathView → ℕ → ℕ → ℕ → List ℕ → Type 0) (job : Job) (lines : List RowLine) (s : MachineState) : Type 0 where
+pub record IsPictured (draws : Drawing) (drawn : PathView → ℕ → ℕ → ℕ → List ℕ → Type 0) (job : Job) (lines : List RowLine)
+    (s : MachineState) : Type 0 where
   pub count : length s.rows ≡ s.setup.height
   pub full : All (IsFull s.setup.depth s.setup.width) s.rows
-  pub replayed : IfSome s.setup.bytes (λ b. AreReplayed s.setup.depth s.setup.width (λ m x y. shows job.scene b m job.picture x y) s.journal lines s.rows)
+  pub replayed : IfSome s.setup.bytes (λ b. AreReplayed s.setup.depth s.setup.width (λ m x y. draws.shows job.scene b m job.picture x y) s.journal lines s.rows)
   pub from_draws : (y : ℕ) (line : RowLine) → slice_get lines y ≡ Some line → drawn job.scene.path job.picture y line.version (slice_index_or s.rows y [])
   pub all_counts : length s.counts ≡ pages_of s.setup.shape
-  pub counts_are : (p : ℕ) → p < pages_of s.setup.shape → slice_index s.counts p ≡ needs job.scene job.picture p
+  pub counts_are : (p : ℕ) → p < pages_of s.setup.shape → slice_index s.counts p ≡ draws.needs job.scene job.picture p
 
 -- a pass was run: its events are an outcome of its batch, of which the changes are in the journal, its rows are in order, each tile was
 -- asked for once, and the picture is the job's
-pub record Ran (dealt : Bool) (needs : Scene → ℕ → ℕ → ℕ) (shows : Scene → List ℕ → Table → ℕ → ℕ → ℕ → List ℕ)
-    (drawn : PathView → ℕ → ℕ → ℕ → List ℕ → Type 0) (job : Job) (report : PassReport) (before after : MachineState) : Type 0 where
+pub record Ran (draws : Drawing) (drawn : PathView → ℕ → ℕ → ℕ → List ℕ → Type 0) (job : Job) (report : PassReport)
+    (before after : MachineState) : Type 0 where
   pub setup : after.setup ≡ before.setup
   pub outcome : IsOutcome job.batch report.losses.elements report.events.elements
   pub journal : after.journal ≡ before.journal ++ changes_of report.events.elements
-  pub rows : AreRowsInOrder dealt before.setup.crew.samplers before.setup.height (length before.journal) (length after.journal) report.rows.elements
+  pub rows : AreRowsInOrder draws.dealt before.setup.crew.samplers before.setup.height (length before.journal) (length after.journal) report.rows.elements
   pub read : AreReadFor before.setup.shape before.setup.depth job.batch report.losses.elements before.files after.files
-  pub picture : IsPictured needs shows drawn job report.rows.elements after
+  pub picture : IsPictured draws drawn job report.rows.elements after
 
 -- a pass could not be run to its end: only the files are left, which were asked for each tile at most once
 pub record Broke (job : Job) (before after : MachineState) : Type 0 where
@@ -97,10 +97,9 @@ pub record Broke (job : Job) (before after : MachineState) : Type 0 where
   pub read : ArePartlyReadFor before.setup.shape before.setup.depth job.batch before.files after.files
 
 -- how the run of a pass ends: it was run, and the machine can go on; or memory was refused, and it can only be ended
-pub record Ends (dealt : Bool) (needs : Scene → ℕ → ℕ → ℕ) (shows : Scene → List ℕ → Table → ℕ → ℕ → ℕ → List ℕ)
-    (drawn : PathView → ℕ → ℕ → ℕ → List ℕ → Type 0) (idle : Type 0) (job : Job) (result : Result PassReport NoMemory)
-    (before after : MachineState) : Type 0 where
-  pub ran : IfOk result (λ report. Ran dealt needs shows drawn job report before after)
+pub record Ends (draws : Drawing) (drawn : PathView → ℕ → ℕ → ℕ → List ℕ → Type 0) (idle : Type 0) (job : Job)
+    (result : Result PassReport NoMemory) (before after : MachineState) : Type 0 where
+  pub ran : IfOk result (λ report. Ran draws drawn job report before after)
   pub goes_on : OnOk result idle
   pub broke : OnErr result (Broke job before after)
 

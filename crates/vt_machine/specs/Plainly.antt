@@ -22,7 +22,7 @@ use Rattle.vt_journal.specs.Lookups.{is_mapped, IsFirstMapped}
 use Rattle.vt_journal.proofs.Finding.{finest-lookup}
 use Rattle.vt_shown.specs.Scenes.{Scene}
 use Rattle.vt_shown.specs.Replays.{scene_row, shown_at, pixel_under, plain_pixel}
-use Rattle.vt_machine.specs.PictureWants.{picture_wants}
+use Rattle.vt_machine.specs.Nearest.{picture_wants}
 use Rattle.vt_machine.specs.Passes.{MapsNeeded}
 
 same_number : (p : ℕ) → (p == p) ≡ true

@@ -20,7 +20,7 @@ ghost use Rattle.vt_workers.specs.Jobs.{Job};
 ghost use Rattle.vt_machine.specs.Outcomes.{IsEntryFor, IsBatchFor, group_of, pass_events, IsOutcome};
 ghost use Rattle.vt_machine.specs.Requests.{FileState, AreReadFor};
 ghost use Rattle.vt_shown.specs.Replays.{IsPictureOf, pixel_under, plain_pixel};
-ghost use Rattle.vt_machine.specs.PictureWants.{picture_wants};
+ghost use Rattle.vt_machine.specs.Nearest.{picture_wants};
 ghost use Rattle.vt_machine.specs.Machines.{MachineState};
 ghost use Rattle.vt_machine.specs.Passes.{IsJobFor, MapsNeeded, Ran};
 
@@ -30,11 +30,11 @@ use crate::machine::PassMachine;
 /// needs.
 pub fn settled_pass_is_plain<M: PassMachine>()
     ensures { (m : M) (job : Job) (report : Report) (before after : MachineState) (b : List ℕ)
-        → Ran M.DEALT M.needs M.shows (M.drawn m) job report before after → job.batch ≡ []
+        → Ran M.drawing (M.drawn m) job report before after → job.batch ≡ []
         → IsWithinLimits job.scene.shape
         → IsJobFor before.setup job → before.setup.bytes ≡ Some b → IsStore b job.scene.shape job.scene.depth
-        → MapsNeeded job.scene.shape (newest before.journal) (M.needs job.scene job.picture)
-        → IsPictureOf before.setup.depth before.setup.width before.setup.height (λ x y. M.whole job.scene b
+        → MapsNeeded job.scene.shape (newest before.journal) (M.drawing.needs job.scene job.picture)
+        → IsPictureOf before.setup.depth before.setup.width before.setup.height (λ x y. M.drawing.whole job.scene b
         job.picture x y) (concat after.rows) }
 {}
 

@@ -1,6 +1,6 @@
 //! What streams and draws, as its callers see it.
 
-ghost use Rattle.std.specs.Prelude.{◌≡◌, ℕ, ◌<◌, Bool, List, [], length, Result, IfOk, IfErr, OnOk, OnErr};
+ghost use Rattle.std.specs.Prelude.{◌≡◌, ℕ, ◌<◌, List, [], length, Result, IfOk, IfErr, OnOk, OnErr};
 ghost use Rattle.std.specs.List.{concat};
 ghost use Rattle.vt_definitions.specs.Depths.{IsDepth};
 ghost use Rattle.vt_pages.specs.Pages.{IsWithinLimits};
@@ -11,6 +11,7 @@ ghost use Rattle.vt_plan.specs.declared.batches.Planned.{Planned};
 ghost use Rattle.vt_outside.specs.declared.answers.NoMemory.{NoMemory as Refusal};
 ghost use Rattle.vt_machine.specs.declared.crew.PassReport.{PassReport as Report};
 ghost use Rattle.vt_shown.specs.Scenes.{Scene};
+ghost use Rattle.vt_machine.specs.Drawings.{Drawing};
 ghost use Rattle.vt_workers.specs.Jobs.{Job, job_of};
 ghost use Rattle.vt_machine.specs.Crews.{IsCrew, AreFrames};
 ghost use Rattle.vt_machine.specs.Machines.{MachineState, setup_of, files_of, told_by, AreStoresFor};
@@ -57,16 +58,8 @@ pub trait PassMachine: Sized {
     /// Whether row y is always drawn by sampler y modulo their number.
     const DEALT: bool;
 
-    ghost DEALT: { Bool };
-
-    /// How many pixels of a picture need each page.
-    ghost needs: { Scene → ℕ → ℕ → ℕ };
-
-    /// The bytes of a pixel of a picture of a store's bytes, under a page table.
-    ghost shows: { Scene → List ℕ → Table → ℕ → ℕ → ℕ → List ℕ };
-
-    /// The bytes of a pixel of a picture of a store's bytes, without a page table.
-    ghost whole: { Scene → List ℕ → ℕ → ℕ → ℕ → List ℕ };
+    /// How machines of this kind draw.
+    ghost drawing: { Drawing };
 
     /// What it is at present.
     ghost state: { Self → MachineState };
@@ -79,6 +72,9 @@ pub trait PassMachine: Sized {
 
     /// By what it has done up to now, row y of a path's picture, drawn at a version, has these bytes.
     ghost drawn: { Self → PathView → ℕ → ℕ → ℕ → List ℕ → Type 0 };
+
+    /// What is so where want of memory ends the run of a pass: nothing, for machines that take all their memory before.
+    ghost refuses: { Type 0 };
 
     /// What its workers share.
     ghost lent: { Self → Self.Shared };
@@ -224,8 +220,9 @@ pub trait PassMachine: Sized {
         requires ready { is_ready self.old batch.now.elements }
         requires root { MapsRoot (state self.old) }
         requires job { IsJobFor (state self.old).setup (job_of shot.now batch.now.elements) }
-        ensures { Ends DEALT needs shows (drawn self.new) (is_idle self.new)
+        ensures ends { Ends drawing (drawn self.new) (is_idle self.new)
             (job_of shot.now batch.now.elements) result (state self.old) (state self.new) }
+        ensures refused { OnErr result refuses }
     {
         let (mut loaders, mut samplers, mut streamer) = self.muster(shot, batch);
         work_together(
@@ -243,6 +240,7 @@ pub trait PassMachine: Sized {
 
     /// The journal of the page table.
     fn journal(&self) -> &Journal
+        requires { is_idle self.now }
         ensures { result.now.changes ≡ (state self.now).journal };
 
     /// How many pixels of the last pass's picture need each page.
@@ -263,8 +261,8 @@ pub trait PassMachine: Sized {
     ghost shows_whole: { (scene : Scene) (b : List ℕ) (m : Table) (i x y : ℕ) → IsWithinLimits scene.shape
         → IsStore b scene.shape scene.depth
         → i < length scene.path.cameras → x < scene.path.width → y < scene.path.height
-        → MapsNeeded scene.shape m (needs scene i)
-        → shows scene b m i x y ≡ whole scene b i x y };
+        → MapsNeeded scene.shape m (drawing.needs scene i)
+        → drawing.shows scene b m i x y ≡ drawing.whole scene b i x y };
 
     /// What the workers did leaves what can be moved back.
     ghost may_come_back: { (job : Job) (m n : Self) (a c : List Self.Loader) (e f : List Self.Sampler)
@@ -283,5 +281,9 @@ pub trait PassMachine: Sized {
         → AllDid (Self.Loader.did (lent n) job) a c → AllDid (Self.Sampler.did (lent n) job) e f
         → Self.Streamer.did (lent n) job b d
         → dismissed n job c f d p r
-        → Ends DEALT needs shows (drawn p) (is_idle p) job r (state m) (state p) };
+        → Ends drawing (drawn p) (is_idle p) job r (state m) (state p) };
+
+    /// Where the pass was refused memory, that is so which may refuse it.
+    ghost has_answered: { (job : Job) (n p : Self) (c : List Self.Loader) (f : List Self.Sampler) (d : Self.Streamer)
+        (r : Result Report Refusal) → dismissed n job c f d p r → OnErr r refuses };
 }

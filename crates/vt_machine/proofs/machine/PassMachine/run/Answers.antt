@@ -37,8 +37,8 @@ dismiss-requires g c =
     done.ensures.samplers)
     (one_did g.Self.Streamer.Task.did _ _ _ _ c.shared.ensures same out.2 done.new.streamer done.ensures.streamer)
 
-pub returns : goal.returns
-returns g c =
+pub returns-clause-ends : goal.returns-clause-ends
+returns-clause-ends g c =
     let shot = c.args.shot.now in
     let with = λ (batch : List Planned). job_of shot batch in
     let out = c.muster-loaders.result in
@@ -54,3 +54,7 @@ returns g c =
     (all_did g.Self.Sampler.Task.did _ _ _ _ c.shared.ensures same out.1.elements _ done.new.samplers c.slice_mut-2.ensures.value (search rules)
     done.ensures.samplers)
     (one_did g.Self.Streamer.Task.did _ _ _ _ c.shared.ensures same out.2 done.new.streamer done.ensures.streamer) c.dismiss.ensures
+
+pub returns-clause-refused : goal.returns-clause-refused
+returns-clause-refused g c =
+    g.met.Self.PassMachine.has_answered (job_of c.args.shot.now c.args.batch.now.elements) _ _ _ _ _ c.dismiss.result c.dismiss.ensures
