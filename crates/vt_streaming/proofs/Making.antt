@@ -15,7 +15,10 @@ use Rattle.vt_grace.specs.declared.views.WriterView.{WriterView}
 use Rattle.vt_grace.specs.Places.{content_of}
 use Rattle.vt_streamer.specs.Banks.{HasPublished}
 use Rattle.vt_streamer.specs.Looks.{HasLooked}
-use Rattle.vt_streamer.specs.Views.{StreamerView}
+use Rattle.vt_streamer.specs.Views.{StreamerView, table_of, IsStreamerOf}
+use Rattle.vt_grace.specs.declared.sizes.Sizes.{Sizes}
+use Rattle.vt_grace.specs.Values.{WordsValue}
+use Rattle.vt_rounds.specs.Streams.{Publishes}
 use Rattle.vt_streaming.specs.Made.{HasMade, after_looks}
 
 pub made_none : (v : WriterView) → HasMade [] [] v v
@@ -67,3 +70,12 @@ pub looked_more : (u v w : StreamerView) → v ≡ after_looks u v.writer → Ha
     → w ≡ after_looks u w.writer
 looked_more u v w a looked rest = rest ∙ ap (λ (x : WriterView). record v { writer = x }) looked.rest
     ∙ ap (λ (x : StreamerView). record x { writer = record x.writer { floors = w.writer.floors; looks = w.writer.looks } }) a
+
+-- what was made, as the changes of a table
+pub publishes : (v : StreamerView) (w : WriterView) (events : List Event) (brought : List (List ℕ)) → HasMade events brought v.writer w
+    → Publishes events (table_of v) (record (table_of v) { changes = w.journal }) [] events
+publishes v w events brought h = record { changes = h.journal; events = refl; shape = refl; frames = refl }
+
+-- streamers of the same words have as many frames
+pub as_many_frames : (words : WordsValue) (v w : StreamerView) → IsStreamerOf words v → IsStreamerOf words w → length w.owners ≡ length v.owners
+as_many_frames words v w a b = ap (λ (z : Sizes). z.frames) (sym b.sizes ∙ a.sizes)
