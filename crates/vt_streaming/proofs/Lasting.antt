@@ -11,6 +11,7 @@ use Rattle.vt_journal.specs.declared.changes.Change.{Change}
 use Rattle.vt_journal.specs.declared.changes.Event.{Event}
 use Rattle.vt_journal.specs.Changes.{newest}
 use Rattle.vt_journal.specs.JournalText.{changes_of}
+use Rattle.vt_table.specs.Views.{IsTile}
 use Rattle.vt_plan.specs.declared.batches.Planned.{Planned}
 use Rattle.vt_grace.specs.declared.views.WriterView.{WriterView}
 use Rattle.vt_queue.specs.declared.items.Loaded.{Loaded}
@@ -35,6 +36,7 @@ module _ (batch : List Planned) (start : StreamerView)
         streamed = made_none start.writer;
         events = sym (append-nil r.events.elements);
         losses = record { told = blank.losses; each = All-nil (λ (x : Loaded). slice_index_or r.losses.elements x.request.ticket true ≡ is_lost x.outcome) };
+        tiles = All-nil (λ (x : Loaded). IsTile start.shape x.request.buffer.elements);
         ahead = λ k e is free. subst (IsEntryFor start.shape (length start.owners) (newest start.writer.journal)) (get_or_from_slice_get batch k e e is)
             (lawful.each k e (slice_get_within batch k e is));
       })
@@ -76,8 +78,8 @@ module _ (batch : List Planned) (start : StreamerView)
       → All (λ y. slice_index_or r.taken.elements y.request.ticket false ≡ true) r.results.elements
       → get_or r.taken.elements x.request.ticket false ≡ false → x.request.ticket < length batch → length r.taken.elements ≡ length batch
       → HasMade (result_group batch x) (result_contents v.shape batch x) v.writer w.writer → w.shape ≡ v.shape → length w.owners ≡ length v.owners
-      → HasNoted batch x r q → IsUnderWay batch start w before q
-  under_way v w before r q x h marked new inside flags made shape frames noted =
+      → HasNoted batch x r q → IsTile start.shape x.request.buffer.elements → IsUnderWay batch start w before q
+  under_way v w before r q x h marked new inside flags made shape frames noted tile =
       let t : ℕ = x.request.ticket in
       let e : Planned = get_or batch t (record { page = 0; frame = 0; victim = None }) in
       let at : slice_get batch t ≡ Some e = slice_get-get_or batch t (record { page = 0; frame = 0; victim = None }) inside in
@@ -102,6 +104,8 @@ module _ (batch : List Planned) (start : StreamerView)
             ∙ ap (λ (l : List Event). before ++ l) (sym events) ∙ ap (λ (l : List Loaded). before ++ result_events batch l) (sym noted.results);
         losses = subst (λ (z : List Loaded × List Bool). AreLossesOf batch z.0 z.1) (λ i. (sym noted.results i, sym noted.losses i))
             (losses_more results r.losses.elements r.taken.elements x h.losses marked new inside);
+        tiles = subst (All (λ (y : Loaded). IsTile start.shape y.request.buffer.elements)) (sym noted.results)
+            (All-push (λ (y : Loaded). IsTile start.shape y.request.buffer.elements) results x h.tiles tile);
         ahead = λ k f is free.
             let still : get_or (set r.taken.elements t true) k false ≡ false = ap (λ (l : List Bool). get_or l k false) (sym noted.taken) ∙ free in
             let other : t ≢ k = λ same. false≢true (sym still ∙ ap (λ (n : ℕ). get_or (set r.taken.elements t true) n false) (sym same)

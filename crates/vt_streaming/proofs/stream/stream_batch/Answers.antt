@@ -61,7 +61,8 @@ loop-preserved-then-is_wanted g c =
           i.streams took.takes inside new);
       under_way = under_way c.args.batch.now c.args.streamer.now c.requires.lawful c.loop.streamer c.stream_result.new.streamer c.args.into.now.events.elements
           c.loop.into c.stream_result.new.into x i.under_way i.streams.marked new inside count did.made did.shape
-          (as_many_frames c.args.words.now c.loop.streamer c.stream_result.new.streamer i.of did.of) did.noted;
+          (as_many_frames c.args.words.now c.loop.streamer c.stream_result.new.streamer i.of did.of) did.noted
+          (subst (λ (z : Shape). IsTile z x.request.buffer.elements) (c.geometry.ensures ∙ i.under_way.shape) (wanted_tile s flags x wanted));
     }
 
 pub loop-preserved : goal.loop-preserved
