@@ -1,6 +1,6 @@
 //! Results that come in any order are streamed, and what they leave is told.
 
-ghost use Rattle.std.specs.Prelude.{◌≡◌, ◌*◌, ◌≤◌, ◌<◌, ◌^◌, false, length, IfOk};
+ghost use Rattle.std.specs.Prelude.{◌≡◌, ◌≤◌, ◌<◌, ◌^◌, false, length, IfOk};
 ghost use Rattle.std.specs.Bool.{MatchBool};
 ghost use Rattle.vt_grace.specs.WriterViews.{is_out};
 ghost use Rattle.vt_grace.specs.Tokens.{IsPassOf};
@@ -94,7 +94,8 @@ fn is_put<Rt: Threads + Wait>(
         .is_ok()
 }
 
-// Whether results were put: of a ticket that is too high, of another length, twice for ticket 2, and those of the tickets 1 and 0.
+// Whether results were put: of a ticket that is too high, of another length, twice for ticket 2, and those of the tickets
+// 1 and 0.
 fn are_put<Rt: Threads + Wait>(
     rt: &Rt,
     alloc: Global,
