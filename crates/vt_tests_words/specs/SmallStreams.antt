@@ -1,5 +1,6 @@
 -- A streamer over a texture of five pages in tiles of four texels.
-use Rattle.std.specs.Prelude.{◌≡◌, ℕ}
+use Rattle.std.specs.Prelude.{◌≡◌, ◌≢◌, ℕ}
+use Rattle.vt_plan.specs.declared.batches.Planned.{Planned}
 use Rattle.vt_grace.specs.Values.{WordsValue}
 use Rattle.vt_streamer.specs.Views.{StreamerView, IsStreamerOf}
 
@@ -9,3 +10,7 @@ pub record IsSmall (words : WordsValue) (n : ℕ) (v : StreamerView) : Type 0 wh
   pub pages : words.sizes.pages ≡ 5
   pub texels : words.sizes.texels ≡ 4
   pub frames : words.sizes.frames ≡ n
+
+-- two entries of a batch have other pages and other frames
+abbrev pub AreOther : Planned → Planned → Type 0
+AreOther a b = (a.page ≢ b.page) × (a.frame ≢ b.frame)

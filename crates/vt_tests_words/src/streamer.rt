@@ -1,5 +1,7 @@
 //! The calls of a streamer and of the words beside it, over a texture of 4x4 texels in tiles of side 2, which has 5 pages.
 
+mod batch;
 mod beside;
 mod held;
+mod lawful;
 mod small;

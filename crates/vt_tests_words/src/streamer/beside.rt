@@ -86,8 +86,8 @@ fn stream(words: &Words, mut streamer: Streamer) -> (Streamer, bool)
     (streamer, is_done)
 }
 
-// Reads the entry of a page, and a word of its frame where it is mapped.
-fn read_page(words: &Words, held: &mut Held, page: u32) -> (u64, u64)
+/// Reads the entry of a page, and the last word of its frame where it is mapped.
+pub(crate) fn read_page(words: &Words, held: &mut Held, page: u32) -> (u64, u64)
     requires of { IsHeldOf words.now held.old }
     requires page { page < words.now.sizes.pages }
     requires texels { 3 < words.now.sizes.texels }

@@ -40,16 +40,16 @@ pub(crate) fn is_mapped_to(streamer: &Streamer, page: u32, frame: u32) -> bool
     streamer.frame_of(page) == Some(frame)
 }
 
-// Whether a page is not mapped.
-fn is_unmapped(streamer: &Streamer, page: u32) -> bool
+/// Whether a page is not mapped.
+pub(crate) fn is_unmapped(streamer: &Streamer, page: u32) -> bool
     requires { page < pages_of streamer.now.shape }
     ensures { MatchBool result (newest streamer.now.writer.journal page ≡ None) (newest streamer.now.writer.journal page ≢ None) }
 {
     streamer.frame_of(page).is_none()
 }
 
-// Whether no page is mapped to a frame.
-fn is_unused(words: &Words, streamer: &Streamer, frames: u32, frame: u32) -> bool
+/// Whether no page is mapped to a frame.
+pub(crate) fn is_unused(words: &Words, streamer: &Streamer, frames: u32, frame: u32) -> bool
     requires { IsSmall words.now frames streamer.now }
     ensures { MatchBool result (IsFree (newest streamer.now.writer.journal) frame) (Unit {0}) }
 {
