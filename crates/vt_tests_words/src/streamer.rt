@@ -4,4 +4,5 @@ mod batch;
 mod beside;
 mod held;
 mod lawful;
-mod small;
+pub(crate) mod patient;
+pub(crate) mod small;
