@@ -1,5 +1,5 @@
 -- A machine before a walk has placed its pinned pages.
-use Rattle.std.specs.Prelude.{◌≡◌, ℕ, List, [], Option, IsSome, is_some, All}
+use Rattle.std.specs.Prelude.{◌≡◌, List, [], Option, IsSome, is_some}
 use Rattle.vt_outside.specs.Files.{Asked}
 use Rattle.vt_machine.specs.Requests.{FileState, AllTell}
 use Rattle.vt_machine.specs.Machines.{MachineState}
