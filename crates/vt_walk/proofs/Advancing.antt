@@ -41,6 +41,7 @@ use Rattle.vt_walk.specs.Tallies.{tally_of}
 use Rattle.vt_walk.specs.Tours.{given_of, tour_scene, IsTour}
 use Rattle.vt_walk.specs.Turns.{MayDraw, HasDrawn}
 use Rattle.vt_walk.specs.Written.{IsDrawnBySome}
+use Rattle.vt_walk.specs.Walks.{machine_of}
 use Rattle.vt_walk.proofs.Agreeing.{root_last}
 use Rattle.vt_walk.proofs.Asking.{reads_more}
 use Rattle.vt_walk.proofs.Bounds.{outcome_short, events_short, journal_short, kind_short, reads_short, events_in_chain}
@@ -168,7 +169,7 @@ module _ (draws : Drawing)
       let short = journal_short g.setup run tour.settings.crew.few_entries may.at_run.is_run in
       let planned : length turn.batch.elements ≤ t.settings.crew.batch = omega (arith, ap length may.turn.batch, plan_most g.setup run) in
       let early : length (journal_after g.setup run) ≤ last_start = omega (arith, short, may.turn.number_is, below, h.enough_frames, h.most_frames) in
-      prepare_of m g.machine (journal_after g.setup run) turn.batch.elements may.at_run.setup may.at_run.journal (root_mapped g.setup run h may.at_run.is_run)
+      prepare_of m (machine_of g) (journal_after g.setup run) turn.batch.elements may.at_run.setup may.at_run.journal (root_mapped g.setup run h may.at_run.is_run)
       (batch_may_be_run g.setup run turn.batch.elements may.at_run.is_run kept may.turn.batch) planned early
 
   pub recency_shape : (run : List WalkPass) (number : ℕ) (turn : Turn) (m : MachineState) (v : RecencyView)
@@ -229,7 +230,7 @@ module _ (draws : Drawing)
       let g = given_of draws t told in
       let job : Job = record { scene = tour_scene t; picture = turn.picture; batch = turn.batch.elements } in
       let ran = ran_by_some draws drawn machine job report m after by_one in
-      let setup : after.setup ≡ g.machine = ran.setup ∙ may.at_run.setup in
+      let setup : after.setup ≡ machine_of g = ran.setup ∙ may.at_run.setup in
       let pages : pages_of t.geometry.now ≡ pages_of after.setup.shape = ap (λ (x : Setup). pages_of x.shape) (sym setup) in
       let same : (p : ℕ) → p < pages_of t.geometry.now → slice_index counts p ≡ draws.needs (tour_scene t) turn.picture p =
       λ p inside. ap (λ (x : List ℕ). slice_index x p) counts_are_its ∙ ran.picture.counts_are p (omega (arith, inside, pages)) in

@@ -20,7 +20,7 @@ use Rattle.vt_turns.specs.declared.mode.Mode.{Mode}
 use Rattle.vt_turns.specs.declared.mode.Mode.TheVariants.{Settled}
 use Rattle.vt_walk.specs.Runs.{WalkPass, IsRun, IsFinished, GoesOn, Finishes, journal_after, plan_after}
 use Rattle.vt_walk.specs.Shown.{last_rows, IsRunPicture}
-use Rattle.vt_walk.specs.Walks.{WalkGiven, WalkNames, given_by}
+use Rattle.vt_walk.specs.Walks.{WalkGiven, WalkNames, machine_of, given_by}
 use Rattle.vt_walk.specs.Written.{IsWritten}
 use Rattle.vt_walk.specs.Turns.{IsGiven, HasRun, job_for}
 use Rattle.vt_walk.proofs.Showing.{picture_drawn, rows_after, self_number}
@@ -44,7 +44,7 @@ module _ (draws : Drawing)
       → GoesOn mode given.setup p → IsFinished given.setup p run
       → IsWritten drawn given (p ∷ run) p.picture (picture_bytes scene.depth scene.path.width scene.path.height (concat m.rows))
   picture_written run p m is_given is_run r journal goes_on finished =
-      let setup : m.setup ≡ given.machine = r.ran.setup ∙ r.setup in
+      let setup : m.setup ≡ machine_of given = r.ran.setup ∙ r.setup in
       let pictured : IsPictured draws drawn (job_for given p) p.rows m =
       subst (λ lines. IsPictured draws drawn (job_for given p) lines m) r.rows_are r.ran.picture in
       let own : last_rows (p ∷ run) p.picture ≡ p.rows = rows_after true p run p.picture (self_number p.picture) in
@@ -60,7 +60,7 @@ module _ (draws : Drawing)
           each = λ y line is. pictured.from_draws y line (ap (λ (rows : List RowLine). slice_get rows y) (sym own) ∙ is);
         };
       } where
-        replayed : (o : Option (List ℕ)) → told ≡ o → m.setup ≡ given.machine → IsPictured draws drawn (job_for given p) p.rows m
+        replayed : (o : Option (List ℕ)) → told ≡ o → m.setup ≡ machine_of given → IsPictured draws drawn (job_for given p) p.rows m
             → IfSome o (λ b. IsRunPicture given.setup (p ∷ run) scene.depth scene.path.width (draws.shows scene b) p.picture (concat m.rows))
         replayed None is setup pictured = tt
         replayed (Some b) is setup pictured =

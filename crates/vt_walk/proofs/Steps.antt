@@ -60,7 +60,7 @@ written_stays drawn g p run picture bytes is_run other w =
     record {
       samples = w.samples;
       encoded = w.encoded;
-      replay = stays g.machine.bytes w.replay;
+      replay = stays g.told w.replay;
       plain = w.plain;
       from_draws = subst (λ lines. AreDrawn drawn g.scene.path picture lines w.samples) (sym same) w.from_draws;
     } where

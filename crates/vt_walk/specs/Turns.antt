@@ -18,7 +18,7 @@ use Rattle.vt_turns.specs.declared.turns.Passed.{Passed}
 use Rattle.vt_turns.specs.declared.turns.Drawn.{Drawn}
 use Rattle.vt_walk.specs.Runs.{WalkPass, IsWalkSetup, IsRun, IsTurnOf, IsNextPass, IsWhole, journal_after, recency_after, plan_after, told_of}
 use Rattle.vt_walk.specs.Logs.{passes_of, reads_of}
-use Rattle.vt_walk.specs.Walks.{WalkGiven}
+use Rattle.vt_walk.specs.Walks.{WalkGiven, machine_of}
 use Rattle.vt_walk.specs.States.{WalkState}
 use Rattle.vt_walk.specs.Standing.{Stands}
 use Rattle.vt_walk.specs.Leaving.{Left}
@@ -29,7 +29,7 @@ use Rattle.vt_walk.specs.Tallies.{tally_of}
 pub record IsGiven (g : WalkGiven) : Type 0 where
   pub setup : IsWalkSetup g.setup
   pub limits : IsWithinLimits g.scene.shape
-  pub store : IsStoreIfTold g.machine.bytes g.scene.shape g.scene.depth
+  pub store : IsStoreIfTold g.told g.scene.shape g.scene.depth
   pub depth : IsDepth g.scene.depth
 
 -- what a walk began with: the store's bytes, where they are told, the store's file, and what stood
@@ -47,7 +47,7 @@ pub record PassStart : Type 0 where
 -- a machine and the recency of its pages are as a run has left them
 pub record IsAtRun (g : WalkGiven) (run : List WalkPass) (m : MachineState) (v : RecencyView) : Type 0 where
   pub is_run : IsRun g.setup run
-  pub setup : m.setup ≡ g.machine
+  pub setup : m.setup ≡ machine_of g
   pub journal : m.journal ≡ journal_after g.setup run
   pub recency : v ≡ recency_after g.setup run
 
@@ -89,7 +89,7 @@ pub record HasRun (drawn : PathView → ℕ → ℕ → ℕ → List ℕ → Typ
     (m : MachineState) : Type 0 where
   pub before : MachineState
   pub report : PassReport
-  pub setup : before.setup ≡ g.machine
+  pub setup : before.setup ≡ machine_of g
   pub journal : before.journal ≡ journal_after g.setup run
   pub ran : Ran g.draws drawn (job_for g pass) report before m
   pub rows_are : report.rows.elements ≡ pass.rows

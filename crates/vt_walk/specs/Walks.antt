@@ -9,6 +9,7 @@ use Rattle.vt_shown.specs.Scenes.{Scene, scene_of}
 use Rattle.vt_machine.specs.Crews.{IsCrew, AreFrames}
 use Rattle.vt_machine.specs.Drawings.{Drawing}
 use Rattle.vt_machine.specs.Machines.{Setup, setup_of}
+use Rattle.vt_machine.specs.declared.crew.Crew.{Crew}
 use Rattle.vt_turns.specs.declared.settings.Settings.{Settings}
 use Rattle.vt_turns.specs.declared.settings.Names.{Names}
 use Rattle.vt_turns.specs.declared.mode.Mode.{Mode}
@@ -26,9 +27,14 @@ pub record WalkNames : Type 0 where
 pub record WalkGiven : Type 0 where
   pub setup : WalkSetup
   pub scene : Scene
-  pub machine : Setup
+  pub crew : Crew
+  pub told : Option (List ℕ)
   pub names : WalkNames
   pub draws : Drawing
+
+-- what the machine of a walk is made for
+abbrev pub machine_of : WalkGiven → Setup
+machine_of g = setup_of g.scene.shape g.scene.depth g.scene.path g.setup.frames g.crew g.told
 
 -- the names as texts
 abbrev pub names_of : Names → WalkNames
@@ -59,7 +65,8 @@ abbrev pub given_by : Drawing → Scene → Settings → Mode → Option (List �
 given_by draws scene settings mode told names = record {
   setup = walk_setup draws scene settings mode;
   scene = scene;
-  machine = setup_of scene.shape scene.depth scene.path settings.frames settings.crew told;
+  crew = settings.crew;
+  told = told;
   names = names;
   draws = draws;
 }
