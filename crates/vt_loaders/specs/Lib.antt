@@ -2,3 +2,4 @@ pub mod Results
 pub mod Together
 pub mod QueuedLoaders
 pub mod Rounds
+pub mod Streamed
