@@ -1,9 +1,6 @@
 -- What a row that was drawn under a hold leaves.
-use Rattle.std.proofs.Common.{◌≡◌, ℕ, List, [], ◌∷◌, sym, ap, ◌∙◌}
-use Rattle.vt_pages.specs.Shape.{Shape}
-use Rattle.vt_camera.specs.Rows.{RowView}
+use Rattle.std.proofs.Common.{◌≡◌, ℕ, [], ◌∷◌, sym, ap, ◌∙◌}
 use Rattle.vt_draw.specs.Lookups.{Note, EntryNote, WordNote}
-use Rattle.vt_draw.specs.Shots.{AreDrawn}
 use Rattle.vt_grace.specs.declared.views.Stage.TheVariants.{Idle}
 use Rattle.vt_grace.specs.declared.views.PassView.{PassView}
 use Rattle.vt_grace.specs.PassViews.{idle}
@@ -34,24 +31,4 @@ held_one p h d q v w pinned more is number =
       notes = λ note n.
           noted_idle d q is note
           (more.notes note (noted_by p h (ap (λ (x : PassView). x.notes) pinned) (ap (λ (x : PassView). x.word_notes) pinned) note n));
-    }
-
--- a row that is drawn by what is said is drawn by all that is said besides
-pub drawn_by_more : (s : Shape) (d version n : ℕ) (says more : Note → Type 0) (row : RowView) (bytes : List ℕ)
-    → ((note : Note) → says note → more note) → AreDrawn s d version says row n bytes → AreDrawn s d version more row n bytes
-drawn_by_more s d version n says more row bytes on drawn x inside =
-    let h = drawn x inside in
-    record {
-      found = h.found;
-      word = h.word;
-      finest = record {
-        no_finer = h.finest.no_finer;
-        level_inside = h.finest.level_inside;
-        page = h.finest.page;
-        level = h.finest.level;
-        unmapped = λ k from to. on _ (h.finest.unmapped k from to);
-        mapped = on _ h.finest.mapped;
-      };
-      read = on _ h.read;
-      shown = h.shown;
     }

@@ -1,7 +1,8 @@
 use Rattle.std.proofs.Common.{ℕ, sym, subst}
+use Rattle.vt_draw.proofs.DrawnRows.{drawn_by_more}
 use Rattle.vt_draw.specs.Shots.{shot_row, AreDrawn}
 use Rattle.vt_lookup.specs.Notes.{IsNotedIn}
-use Rattle.vt_lookup.proofs.Ending.{held_one, noted_idle, drawn_by_more}
+use Rattle.vt_lookup.proofs.Ending.{held_one, noted_idle}
 use Rattle.vt_lookup.proofs.drawing.draw_held.Goals as goal
 
 pub returns-clause-more : goal.returns-clause-more

@@ -1,9 +1,9 @@
 use Rattle.std.proofs.Common.{◌≡◌, ℕ, sym, ap, ◌∙◌, subst}
 use Rattle.vt_draw.specs.Lookups.{Note}
+use Rattle.vt_draw.proofs.DrawnRows.{drawn_by_more}
 use Rattle.vt_draw.specs.Shots.{shot_row, AreDrawn}
 use Rattle.vt_grace.specs.Values.{HeldValue}
 use Rattle.vt_lookup.specs.Notes.{IsNotedIn, LookupValue}
-use Rattle.vt_lookup.proofs.Ending.{drawn_by_more}
 use Rattle.vt_lookup.proofs.drawing.draw_under.Goals as goal
 
 pub returns-clause-drawn : goal.returns-clause-drawn
