@@ -12,9 +12,9 @@ use Rattle.vt_streamer.specs.Views.{StreamerView}
 use Rattle.vt_rounds.specs.BatchRounds.{result_events}
 
 -- the changes of some events were published, with these contents, after looks at samplers and fills of frames
-pub record HasMade (events : List Event) (contents : List (List ℕ)) (v w : WriterView) : Type 0 where
+pub record HasMade (events : List Event) (brought : List (List ℕ)) (v w : WriterView) : Type 0 where
   pub journal : w.journal ≡ v.journal ++ changes_of events
-  pub contents : w.contents ≡ v.contents ++ contents
+  pub contents : w.contents ≡ v.contents ++ brought
   pub rest : w ≡ record v {
     journal = w.journal;
     contents = w.contents;

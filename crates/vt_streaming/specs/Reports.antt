@@ -2,6 +2,7 @@
 use Rattle.std.specs.Prelude.{◌≡◌, ℕ, ◌+◌, ◌*◌, ◌≤◌, true, false, Some, List, [], ◌∷◌, ◌++◌, length, slice_get, slice_index_or, slice_set, All}
 use Rattle.vt_journal.specs.declared.changes.Event.{Event}
 use Rattle.vt_journal.specs.Changes.{newest}
+use Rattle.vt_table.specs.Views.{IsTile}
 use Rattle.vt_plan.specs.declared.batches.Planned.{Planned}
 use Rattle.vt_queue.specs.declared.items.Loaded.{Loaded}
 use Rattle.vt_load.specs.Readings.{is_lost}
@@ -37,5 +38,6 @@ pub record IsUnderWay (batch : List Planned) (start v : StreamerView) (before : 
   pub streamed : HasStreamed start.shape batch r.results.elements start.writer v.writer
   pub events : r.events.elements ≡ before ++ result_events batch r.results.elements
   pub losses : AreLossesOf batch r.results.elements r.losses.elements
+  pub tiles : All (λ x. IsTile start.shape x.request.buffer.elements) r.results.elements
   pub ahead : (k : ℕ) (e : Planned) → slice_get batch k ≡ Some e → slice_index_or r.taken.elements k false ≡ false
       → IsEntryFor start.shape (length start.owners) (newest v.writer.journal) e

@@ -1,7 +1,8 @@
 //! A batch is streamed, result by result, until there was one for each entry.
 
-ghost use Rattle.std.specs.Prelude.{◌≡◌, ◌+◌, ◌*◌, ◌<◌, ◌≤◌, ◌^◌, ◌++◌, length};
+ghost use Rattle.std.specs.Prelude.{◌≡◌, ◌+◌, ◌*◌, ◌<◌, ◌≤◌, ◌^◌, ◌++◌, length, All};
 ghost use Rattle.vt_journal.specs.Changes.{newest};
+ghost use Rattle.vt_table.specs.Views.{IsTile};
 ghost use Rattle.vt_queue.specs.Queues.{view_of, splits_of, IsOf};
 ghost use Rattle.vt_streamer.specs.Views.{IsStreamerOf};
 ghost use Rattle.vt_machine.specs.Outcomes.{IsBatchFor};
@@ -50,6 +51,7 @@ pub fn stream_batch<Rt: Threads + Wait, G: Gate>(
     ensures shape { streamer.new.shape ≡ streamer.old.shape }
     ensures frames { length streamer.new.owners ≡ length streamer.old.owners }
     ensures events { into.new.events.elements ≡ into.old.events.elements ++ result_events batch.now into.new.results.elements }
+    ensures tiles { All (λ x. IsTile streamer.old.shape x.request.buffer.elements) into.new.results.elements }
     ensures losses { AreLossesOf batch.now into.new.results.elements into.new.losses.elements }
 {
     let mut done = 0;
