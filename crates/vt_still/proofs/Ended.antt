@@ -30,13 +30,12 @@ use Rattle.vt_machine.specs.Outcomes.{IsOutcome}
 use Rattle.vt_machine.specs.RowOrders.{AreRowsInOrder}
 use Rattle.vt_machine.specs.Requests.{AreReadFor}
 use Rattle.vt_shown.specs.Replays.{HasPixels, IsFull, AreReplayed}
-use Rattle.vt_machine.specs.PictureWants.{picture_wants}
+use Rattle.vt_machine.specs.Nearest.{nearest, nearest_shows, picture_wants}
 use Rattle.vt_rounds.specs.Frames.{HoldsTiles}
 use Rattle.vt_machine.specs.Machines.{files_of, told_by, AreStoresFor}
 use Rattle.vt_machine.specs.Passes.{Ran, IsPictured}
 use Rattle.vt_still.specs.StillTasks.{HasDrawn}
 use Rattle.vt_still.specs.Kits.{KitView, kit_row, kit_rows, kit_setup, kit_state, IsSamplerOf, AreSamplersOf, IsIdleKit, row_by, lines_at, counted_together}
-use Rattle.vt_machine.specs.StillShows.{still_shows}
 use Rattle.vt_still.specs.StillMachines.{WasDrawn, kit_drawn, HaveDrawn}
 use Rattle.vt_still.proofs.Kits.{own_turn}
 use Rattle.vt_still.proofs.Finished.{made_at, lines_in_order, counted_is_wanted, row_was_drawn, row_is_replayed}
@@ -155,10 +154,10 @@ module _ {F : Type 0} (g : FileMeanings F) (v : TableView) (k : KitView F) (job 
       (row_was_drawn g v k job r.by.before r.task.sampler y later idle_drawn h.job_is r.by.drawn r.own)
 
   pub row_replayed : (y : ℕ) (bytes : List ℕ) → y < k.height → told_by g k.stores ≡ Some bytes
-      → HasPixels k.depth k.width (λ x. still_shows job.scene bytes (newest v.changes) job.picture x y) (kit_row k y)
+      → HasPixels k.depth k.width (λ x. nearest_shows job.scene bytes (newest v.changes) job.picture x y) (kit_row k y)
   row_replayed y bytes inside told =
       let r = has_row y inside in
-      subst (λ (z : ℕ × List ℕ). HasPixels k.depth z.0 (λ x. still_shows job.scene bytes (newest v.changes) job.picture x y) z.1)
+      subst (λ (z : ℕ × List ℕ). HasPixels k.depth z.0 (λ x. nearest_shows job.scene bytes (newest v.changes) job.picture x y) z.1)
       (λ i. (h.job_is.width i, sym r.is i))
       (row_is_replayed g v k job r.by.before r.task.sampler y bytes idle_drawn h.job_is r.by.drawn r.own told)
 
@@ -220,7 +219,7 @@ module _ {F : Type 0} (g : FileMeanings F) (v : TableView) (k : KitView F) (job 
     first_version : at w.changes (length v.changes) ≡ newest v.changes
     first_version = ap (λ js. at js (length v.changes)) grown ∙ at-front v.changes (changes_of noted) (length v.changes) (omega arith)
 
-    pictured : IsPictured picture_wants still_shows (kit_drawn g w (record k { stores = stores; counts = counts; rows = rows; events = events; round = round }))
+    pictured : IsPictured nearest (kit_drawn g w (record k { stores = stores; counts = counts; rows = rows; events = events; round = round }))
         job report.rows.elements (kit_state g w (record k { stores = stores; counts = counts; rows = rows; events = events; round = round }))
     pictured = record {
       count = length-map-range_with_len (kit_row k) 0 k.height;
@@ -235,15 +234,15 @@ module _ {F : Type 0} (g : FileMeanings F) (v : TableView) (k : KitView F) (job 
           ∙ counted g v k job h p low;
     } where
       by_told : (o : Option (List ℕ)) → told_by g k.stores ≡ o
-          → IfSome o (λ b. AreReplayed k.depth k.width (λ m x y. still_shows job.scene b m job.picture x y) w.changes report.rows.elements (kit_rows k))
+          → IfSome o (λ b. AreReplayed k.depth k.width (λ m x y. nearest_shows job.scene b m job.picture x y) w.changes report.rows.elements (kit_rows k))
       by_told None none = tt
       by_told (Some bytes) is = λ y line there. let l = line_at y line there in
           let table : newest v.changes ≡ at w.changes line.version = sym first_version ∙ ap (at w.changes) (sym l.1) in
-          subst (λ (z : Table × List ℕ). HasPixels k.depth k.width (λ x. still_shows job.scene bytes z.0 job.picture x y) z.1)
+          subst (λ (z : Table × List ℕ). HasPixels k.depth k.width (λ x. nearest_shows job.scene bytes z.0 job.picture x y) z.1)
           (λ i. (table i, sym (row_there g v k job h y [] l.0) i))
           (row_replayed g v k job h y bytes l.0 is)
 
-    pub pass_ran : Ran true picture_wants still_shows (kit_drawn g w
+    pub pass_ran : Ran nearest (kit_drawn g w
         (record k { stores = stores; counts = counts; rows = rows; events = events; round = round }))
         job report (kit_state g v k) (kit_state g w (record k { stores = stores; counts = counts; rows = rows; events = events; round = round }))
     pass_ran =

@@ -14,7 +14,7 @@ use Rattle.vt_table.specs.Views.{TableView}
 use Rattle.vt_machine.specs.RowOrders.{AreRowsInOrder}
 use Rattle.vt_machine.specs.Machines.{told_by}
 use Rattle.vt_still.specs.Kits.{KitView, kit_setup, IsIdleKit, lines_at, counted_together}
-use Rattle.vt_machine.specs.StillShows.{still_shows}
+use Rattle.vt_machine.specs.Nearest.{nearest_shows}
 use Rattle.vt_still.specs.StillMachines.{WasDrawn}
 use Rattle.vt_still.specs.StillTasks.{HasDrawn}
 use Rattle.vt_workers.specs.Jobs.{Job}
@@ -108,7 +108,7 @@ row_was_drawn g v k job a b y later idle job_is h own = record {
 -- its pixels are those of the replay
 pub row_is_replayed : {F : Type 0} (g : FileMeanings F) (v : TableView) (k : KitView F) (job : Job) (a b : SamplerView) (y : ℕ) (bytes : List ℕ)
     → IsIdleKit g v k → IsJobFor (kit_setup g v k) job → HasDrawn v job a b → IsOwn b y → told_by g k.stores ≡ Some bytes
-    → HasPixels k.depth job.scene.path.width (λ x. still_shows job.scene bytes (newest v.changes) job.picture x y) (row_at b y)
+    → HasPixels k.depth job.scene.path.width (λ x. nearest_shows job.scene bytes (newest v.changes) job.picture x y) (row_at b y)
 row_is_replayed g v k job a b y bytes idle job_is h own told = λ x inside.
     let is = subst (λ (z : Shape × ℕ × ℕ). IsDrawn z.0 z.1 z.2 (IsTrueOf v) (shot_row z.0 job.scene.path job.picture y) x (texel_bytes z.1 (row_at b y) x))
     (λ i. ((job_is.shape ∙ sym idle.shape) i, job_is.depth i, h.version y own i)) (h.drawn y own x inside) in

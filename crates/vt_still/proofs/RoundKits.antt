@@ -1,6 +1,6 @@
 -- A round of loaders that was streamed into a table feeds it from the kit's stores.
 use Rattle.std.proofs.Common.{◌≡◌, ℕ, ◌<◌, ◌≤◌, Bool, List, [], ◌∷◌, length, reverse, Option, sym, ap, ◌∙◌, subst, arith}
-use Rattle.std.specs.Prelude.{All, slice_index, true}
+use Rattle.std.specs.Prelude.{All, slice_index}
 use Rattle.std.proofs.lemmas.List.{length-reverse, length-map}
 use Rattle.std.proofs.lemmas.List.Elements.{All-map}
 use Rattle.std.proofs.lemmas.List.Sorted.{IsPermutation-reverse, All-permutation}
@@ -24,11 +24,10 @@ use Rattle.vt_machine.specs.Machines.{files_of, told_by}
 use Rattle.vt_rounds.specs.BatchRounds.{Begun, IsEndedRound, IsStreamed}
 use Rattle.vt_journal.specs.declared.changes.RowLine.{RowLine}
 use Rattle.vt_machine.specs.declared.crew.PassReport.{PassReport}
-use Rattle.vt_machine.specs.PictureWants.{picture_wants}
+use Rattle.vt_machine.specs.Nearest.{nearest}
 use Rattle.vt_machine.specs.Passes.{Ran}
 use Rattle.vt_still.specs.RoundKits.{RoundKitView}
 use Rattle.vt_still.specs.Kits.{KitView, kit_state, IsIdleKit, lines_at, counted_together}
-use Rattle.vt_machine.specs.StillShows.{still_shows}
 use Rattle.vt_still.specs.StillMachines.{MayFinish, kit_before, kit_drawn}
 use Rattle.vt_rounds.specs.Frames.{HoldsTiles}
 use Rattle.vt_still.proofs.Ended.{HasFed, idle_after, pass_ran}
@@ -124,7 +123,7 @@ module _ {F : Type 0} (g : FileMeanings F) (v : TableView) (q : Queues) (k : Kit
   -- and what was done is a pass
   pub ran_finished : (report : PassReport) → report.rows.elements ≡ lines_at k.crew.samplers k.height (length v.changes) → report.events.elements ≡ noted
       → report.losses.elements ≡ told
-      → Ran true picture_wants still_shows (kit_drawn g w l) job report (kit_state g v (kit_before k f b)) (kit_state g w l)
+      → Ran nearest (kit_drawn g w l) job report (kit_state g v (kit_before k f b)) (kit_state g w l)
   ran_finished report lines noted_is told_is =
-      subst (λ (x : KitView F). Ran true picture_wants still_shows (kit_drawn g w x) job report (kit_state g v (kit_before k f b)) (kit_state g w x)) (sym rest)
+      subst (λ (x : KitView F). Ran nearest (kit_drawn g w x) job report (kit_state g v (kit_before k f b)) (kit_state g w x)) (sym rest)
       (pass_ran g v (kit_before k f b) job may.drawn w stores noted told fed_stores counts number sums rows events round sizes report lines noted_is told_is)

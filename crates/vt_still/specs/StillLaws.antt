@@ -1,12 +1,12 @@
 -- What the workers of the machine over a still table did is a pass, once they are moved back.
-use Rattle.std.specs.Prelude.{◌≡◌, ℕ, ◌≤◌, Bool, List, length, Result, Ok, Err, IfOk, OnErr, All}
+use Rattle.std.specs.Prelude.{◌≡◌, ℕ, ◌≤◌, Bool, List, length, Result, Ok, Err, IfOk, IsOk, OnErr, All}
 use Rattle.std.proofs.Common.{refl, subst, sym, ap, ◌∙◌, arith}
 use Rattle.std.proofs.lemmas.List.{length-reverse, length-map}
+use Rattle.std.proofs.lemmas.Bool.{false≢true}
 use Rattle.vt_outside.specs.Lists.{ListView}
 use Rattle.vt_outside.specs.declared.outside.File.{Ghosts as FileMeanings}
 use Rattle.vt_outside.specs.declared.answers.NoMemory.{NoMemory}
 use Rattle.vt_camera.specs.Paths.{PathView}
-use Rattle.vt_journal.specs.Changes.{Table}
 use Rattle.vt_table.specs.Views.{TableView}
 use Rattle.vt_tiles.specs.Format.{tile_length}
 use Rattle.vt_tiles.specs.StoreViews.{StoreView}
@@ -17,8 +17,8 @@ use Rattle.vt_loaders.specs.declared.queued.Queues.{Queues}
 use Rattle.vt_loaders.specs.QueuedLoaders.{QueuedView, HasLoaded, stores_of}
 use Rattle.vt_machine.specs.declared.crew.PassReport.{PassReport}
 use Rattle.vt_still.specs.declared.tasks.StillSampler.{StillSampler}
-use Rattle.vt_shown.specs.Scenes.{Scene}
 use Rattle.vt_workers.specs.Jobs.{Job}
+use Rattle.vt_machine.specs.Drawings.{Drawing}
 use Rattle.vt_machine.specs.Machines.{MachineState, files_of, told_by}
 use Rattle.vt_machine.specs.Passes.{IsJobFor, IsUntouched, Ran, Broke, Ends}
 use Rattle.vt_still.specs.StillTasks.{HasDrawn}
@@ -28,16 +28,20 @@ use Rattle.vt_still.specs.Kits.{KitView, kit_setup, kit_state, IsIdleKit, IsRead
 use Rattle.vt_still.specs.StillMachines.{StillView, KitEnds, AreOut, IsMustered, MayFinish, KitFinishes, kit_before}
 use Rattle.vt_workers.specs.All.{AllDid}
 
+-- an answer is no refusal
+pub none_refused : (r : Result PassReport NoMemory) → IsOk r → OnErr r ⊥
+none_refused (Ok report) ok = tt
+none_refused (Err refusal) ok = absurd (false≢true ok)
+
 -- what was left untouched is the same but for the rows and the counts
 pub same_but_picture : (a b : MachineState) → IsUntouched a b → b ≡ record a { rows = b.rows; counts = b.counts }
 same_but_picture a b h = λ i. record { setup = h.setup i; files = h.files i; journal = h.journal i; rows = b.rows; counts = b.counts }
 
 -- how a pass ends does not depend on the rows and counts before it
-module _ (dealt : Bool) (needs : Scene → ℕ → ℕ → ℕ) (shows : Scene → List ℕ → Table → ℕ → ℕ → ℕ → List ℕ)
-    (drawn : PathView → ℕ → ℕ → ℕ → List ℕ → Type 0) (job : Job) (a b c : MachineState) (h : IsUntouched a b) where
-  pub ran_after : (report : PassReport) → Ran dealt needs shows drawn job report b c → Ran dealt needs shows drawn job report a c
+module _ (draws : Drawing) (drawn : PathView → ℕ → ℕ → ℕ → List ℕ → Type 0) (job : Job) (a b c : MachineState) (h : IsUntouched a b) where
+  pub ran_after : (report : PassReport) → Ran draws drawn job report b c → Ran draws drawn job report a c
   ran_after report ran =
-      let moved = subst (λ s. Ran dealt needs shows drawn job report s c) (same_but_picture a b h) ran in
+      let moved = subst (λ s. Ran draws drawn job report s c) (same_but_picture a b h) ran in
       record {
         setup = moved.setup;
         outcome = moved.outcome;
@@ -52,11 +56,11 @@ module _ (dealt : Bool) (needs : Scene → ℕ → ℕ → ℕ) (shows : Scene �
       let moved = subst (λ s. Broke job s c) (same_but_picture a b h) broke in
       record { setup = moved.setup; read = moved.read }
 
-  pub ends_after : (idle : Type 0) (result : Result PassReport NoMemory) → Ends dealt needs shows drawn idle job result b c
-      → Ends dealt needs shows drawn idle job result a c
+  pub ends_after : (idle : Type 0) (result : Result PassReport NoMemory) → Ends draws drawn idle job result b c
+      → Ends draws drawn idle job result a c
   ends_after idle result e = record { ran = ran_if result e.ran; goes_on = e.goes_on; broke = broke_if result e.broke } where
-    ran_if : (r : Result PassReport NoMemory) → IfOk r (λ report. Ran dealt needs shows drawn job report b c)
-        → IfOk r (λ report. Ran dealt needs shows drawn job report a c)
+    ran_if : (r : Result PassReport NoMemory) → IfOk r (λ report. Ran draws drawn job report b c)
+        → IfOk r (λ report. Ran draws drawn job report a c)
     ran_if (Ok report) ran = ran_after report ran
     ran_if (Err refusal) none = none
 
@@ -175,7 +179,7 @@ module _ {F : Type 0} (g : FileMeanings F) (job : Job) (m n : StillView F) (a c 
 
   pub has_ended : (p : StillView F) (r : Result PassReport NoMemory) → KitFinishes g job r n c f p
       → KitEnds g job r m.table m.kit p.table p.kit (IsIdleKit g p.table p.kit)
-  has_ended p r done = ends_after _ _ _ _ job (kit_state g m.table m.kit) (kit_state g n.table (kit_before n.kit f b)) (kit_state g p.table p.kit)
+  has_ended p r done = ends_after _ _ job (kit_state g m.table m.kit) (kit_state g n.table (kit_before n.kit f b)) (kit_state g p.table p.kit)
       (subst (λ (x : TableView). IsUntouched (kit_state g m.table m.kit) (kit_state g x (kit_before n.kit f b))) (sym mustered.table)
       (same_kit g m.table m.queues m.kit n.kit job a c e f mustered.out)) (IsIdleKit g p.table p.kit) r (done b may_finish) where
         b : Begun F

@@ -1,5 +1,5 @@
 -- The machine over a still table.
-use Rattle.std.specs.Prelude.{◌≡◌, ℕ, ◌*◌, ◌≤◌, ◌++◌, Option, List, [], length, reverse, Result, true, All}
+use Rattle.std.specs.Prelude.{◌≡◌, ℕ, ◌*◌, ◌≤◌, ◌++◌, Option, List, [], length, reverse, Result, All}
 use Rattle.vt_outside.specs.declared.outside.File.{Ghosts as FileMeanings}
 use Rattle.vt_outside.specs.declared.answers.NoMemory.{NoMemory}
 use Rattle.vt_pages.specs.Shape.{Shape}
@@ -17,8 +17,7 @@ use Rattle.vt_machine.specs.declared.crew.PassReport.{PassReport}
 use Rattle.vt_still.specs.declared.tasks.StillSampler.{StillSampler}
 use Rattle.vt_workers.specs.Jobs.{Job}
 use Rattle.vt_rounds.specs.Frames.{HoldsTiles}
-use Rattle.vt_machine.specs.PictureWants.{picture_wants}
-use Rattle.vt_machine.specs.StillShows.{still_shows}
+use Rattle.vt_machine.specs.Nearest.{nearest}
 use Rattle.vt_machine.specs.Machines.{told_by}
 use Rattle.vt_machine.specs.Passes.{IsJobFor, Ends}
 use Rattle.vt_still.specs.StillTasks.{HasDrawn}
@@ -52,7 +51,7 @@ kit_drawn g v k path i y version bytes = WasDrawn k.shape k.depth (told_by g k.s
 
 -- how a pass over a table with a kit ends
 abbrev pub KitEnds : {F : Type 0} → FileMeanings F → Job → Result PassReport NoMemory → TableView → KitView F → TableView → KitView F → Type 0 → Type 0
-KitEnds g job result v k w l idle = Ends true picture_wants still_shows (kit_drawn g w l) idle job result (kit_state g v k) (kit_state g w l)
+KitEnds g job result v k w l idle = Ends nearest (kit_drawn g w l) idle job result (kit_state g v k) (kit_state g w l)
 
 -- the workers were moved out of a kit
 pub record AreOut {F : Type 0} (g : FileMeanings F) (q : Queues) (k l : KitView F) (loaders : List (QueuedView F)) (samplers : List StillSampler) : Type 0 where

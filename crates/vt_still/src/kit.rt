@@ -1,6 +1,6 @@
 //! What a pass over a still table is done with.
 
-ghost use Rattle.std.specs.Prelude.{◌≡◌, ℕ, ◌^◌, ◌<◌, ◌≤◌, OnOk, List, [], length, slice_index, slice_index_or, IfOk, IfErr, true, All};
+ghost use Rattle.std.specs.Prelude.{◌≡◌, ℕ, ◌^◌, ◌<◌, ◌≤◌, OnOk, List, [], length, slice_index, slice_index_or, IfOk, IfErr, All};
 ghost use Rattle.std.specs.List.{concat};
 ghost use Rattle.vt_definitions.specs.Limits.{most_samplers, most_entries};
 ghost use Rattle.vt_definitions.specs.Depths.{IsDepth};
@@ -10,9 +10,8 @@ ghost use Rattle.vt_journal.specs.Changes.{newest};
 ghost use Rattle.vt_table.specs.Views.{TableView as Table};
 ghost use Rattle.vt_machine.specs.Machines.{AreStoresFor};
 ghost use Rattle.vt_workers.specs.Jobs.{job_of};
-ghost use Rattle.vt_machine.specs.PictureWants.{picture_wants};
+ghost use Rattle.vt_machine.specs.Nearest.{nearest};
 ghost use Rattle.vt_machine.specs.Passes.{Ran};
-ghost use Rattle.vt_machine.specs.StillShows.{still_shows};
 ghost use Rattle.vt_still.specs.StillMachines.{kit_drawn, kit_before, AreOut, MayFinish};
 ghost use Rattle.vt_still.specs.Kits.{KitView, AreSamplersOf, IsKit, IsIdleKit, IsPreparedKit, IsReadyKit, HasRoom, IsSameKit, kit_row, kit_rows, kit_state, lines_at, counted_together};
 ghost use Rattle.vt_still.specs.declared.tasks.StillSampler.{StillSampler as Task};
@@ -40,9 +39,9 @@ use vt_evict::Batch;
 use vt_feedback::Counts;
 use vt_journal::{Events, RowLines};
 use vt_loaders::{QueuedLoader, Queues};
+use vt_machine::{Crew, PassReport};
 use vt_outside::{File, Items, NoMemory};
 use vt_pages::Geometry;
-use vt_machine::{Crew, PassReport};
 use vt_rounds::sampler_of;
 use vt_sampler::Sampler;
 use vt_table::StillTable;
@@ -346,7 +345,7 @@ impl<F: File> StillKit<F> {
         ensures ran { (b : Start F)
             → MayFinish F.File table.old queues.now self.old (job_of _shot.now batch.now.elements) loaders.elements
             samplers.elements b
-            → Ran true picture_wants still_shows (kit_drawn F.File table.new self.new)
+            → Ran nearest (kit_drawn F.File table.new self.new)
             (job_of _shot.now batch.now.elements) result
             (kit_state F.File table.old (kit_before self.old samplers.elements b))
             (kit_state F.File table.new self.new) }

@@ -11,9 +11,9 @@ use std::thread::Threads;
 use vt_draw::Shot;
 use vt_evict::Planned;
 use vt_loaders::{QueuedLoader, Queues};
+use vt_machine::Task;
 use vt_outside::{File, Gate, NoMemory};
 use vt_pages::Geometry;
-use vt_machine::Task;
 use vt_table::StillTable;
 
 /// What the workers of a pass over a still table share where its tiles are read through queues.

@@ -1,10 +1,9 @@
 //! The machine over a page table that changes only between draws.
 
-ghost use Rattle.std.specs.Prelude.{true, IsOk};
+ghost use Rattle.std.specs.Prelude.{IsOk};
 ghost use Rattle.vt_workers.specs.Jobs.{job_of};
-ghost use Rattle.vt_machine.specs.PictureWants.{picture_wants};
+ghost use Rattle.vt_machine.specs.Nearest.{nearest};
 ghost use Rattle.vt_still.specs.Kits.{kit_state, IsIdleKit, IsReadyKit};
-ghost use Rattle.vt_machine.specs.StillShows.{still_shows, still_whole};
 ghost use Rattle.vt_still.specs.StillMachines.{StillView, kit_drawn, IsMustered, MayFinish, KitFinishes};
 ghost use Rattle.vt_rounds.specs.BatchRounds.{Begun as Start};
 
@@ -22,9 +21,9 @@ use vt_evict::Batch;
 use vt_feedback::Counts;
 use vt_journal::Journal;
 use vt_loaders::QueuedLoader;
+use vt_machine::{Crew, PassMachine, PassReport};
 use vt_outside::{File, Gate, Items, NoMemory};
 use vt_pages::Geometry;
-use vt_machine::{Crew, PassMachine, PassReport};
 use vt_rounds::{answered, put_page};
 use vt_tiles::Stores;
 
@@ -45,7 +44,7 @@ impl<F: File> Model for StillMachine<F> {
 impl<F: File + Send> PassMachine for StillMachine<F> {
     ghost use Rattle.vt_tiles.specs.Format.{stored};
     ghost use Rattle.vt_machine.specs.Plainly.{mapped_is_plain};
-    ghost use Rattle.vt_still.specs.StillLaws.{come_back, has_ended};
+    ghost use Rattle.vt_still.specs.StillLaws.{come_back, has_ended, none_refused};
 
     type File = F;
 
@@ -59,13 +58,7 @@ impl<F: File + Send> PassMachine for StillMachine<F> {
 
     const DEALT: bool = true;
 
-    ghost DEALT = { true };
-
-    ghost needs = { picture_wants };
-
-    ghost shows = { still_shows };
-
-    ghost whole = { still_whole };
+    ghost drawing = { nearest };
 
     ghost state = { λ m. kit_state F.File m.table m.kit };
 
@@ -74,6 +67,9 @@ impl<F: File + Send> PassMachine for StillMachine<F> {
     ghost is_ready = { λ m batch. IsReadyKit F.File m.table m.queues m.kit batch };
 
     ghost drawn = { λ m. kit_drawn F.File m.table m.kit };
+
+    // All memory is taken before a pass is run.
+    ghost refuses = { ⊥ };
 
     ghost lent = { λ m. record { table = m.table; queues = m.queues } };
 
@@ -196,4 +192,6 @@ impl<F: File + Send> PassMachine for StillMachine<F> {
 
     ghost has_run = { λ job m n p a c e f b d r ready root job_is mustered lo sa did_lo did_sa did_st dismissed.
         has_ended F.File job m n a c e f mustered ready job_is lo sa did_lo did_sa p r dismissed.1 };
+
+    ghost has_answered = { λ job n p c f d r dismissed. none_refused r dismissed.0 };
 }

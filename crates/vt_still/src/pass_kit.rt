@@ -1,6 +1,6 @@
 //! A pass over a table that its caller holds.
 
-ghost use Rattle.std.specs.Prelude.{◌≡◌, ◌≤◌, true, OnOk, length, IfOk, IfErr};
+ghost use Rattle.std.specs.Prelude.{◌≡◌, ◌≤◌, OnOk, length, IfOk, IfErr};
 ghost use Rattle.std.specs.List.{concat};
 ghost use Rattle.vt_definitions.specs.Depths.{IsDepth};
 ghost use Rattle.vt_journal.specs.Changes.{newest};
@@ -8,10 +8,9 @@ ghost use Rattle.vt_machine.specs.Crews.{IsCrew, last_start};
 ghost use Rattle.vt_machine.specs.Machines.{AreStoresFor};
 ghost use Rattle.vt_machine.specs.Outcomes.{IsBatchFor};
 ghost use Rattle.vt_workers.specs.Jobs.{job_of};
-ghost use Rattle.vt_machine.specs.PictureWants.{picture_wants};
+ghost use Rattle.vt_machine.specs.Nearest.{nearest};
 ghost use Rattle.vt_machine.specs.Passes.{MapsRoot, IsJobFor, Ran};
 ghost use Rattle.vt_still.specs.Kits.{kit_setup, kit_state, kit_rows, lines_at, IsKit, IsIdleKit, IsPreparedKit, IsSameKit};
-ghost use Rattle.vt_machine.specs.StillShows.{still_shows};
 ghost use Rattle.vt_still.specs.StillMachines.{kit_drawn};
 ghost use Rattle.vt_sampler.specs.Notes.{MapsRoot as TableMapsRoot};
 
@@ -27,9 +26,9 @@ use vt_camera::Path;
 use vt_draw::Shot;
 use vt_evict::Batch;
 use vt_feedback::Counts;
+use vt_machine::{Crew, PassReport};
 use vt_outside::{File, Gate, NoMemory};
 use vt_pages::Geometry;
-use vt_machine::{Crew, PassReport};
 use vt_table::StillTable;
 use vt_tiles::Stores;
 
@@ -147,7 +146,7 @@ pub fn run_pass<Rt: Threads + Wait + Sync, F: File + Send, G: Gate + Sync>(
     requires prepared { IsPreparedKit F.File table.old kit.old.queues kit.old.kit batch.now.elements }
     requires root { MapsRoot (kit_state F.File table.old kit.old.kit) }
     requires job { IsJobFor (kit_setup F.File table.old kit.old.kit) (job_of shot.now batch.now.elements) }
-    ensures ran { Ran true picture_wants still_shows (kit_drawn F.File table.new kit.new.kit)
+    ensures ran { Ran nearest (kit_drawn F.File table.new kit.new.kit)
         (job_of shot.now batch.now.elements) result (kit_state F.File table.old kit.old.kit)
         (kit_state F.File table.new kit.new.kit) }
     ensures idle { IsIdleKit F.File table.new kit.new.kit }

@@ -7,8 +7,8 @@ use std::sync::Wait;
 use std::thread::Threads;
 use vt_draw::Shot;
 use vt_evict::Planned;
-use vt_outside::Gate;
 use vt_machine::Task;
+use vt_outside::Gate;
 use vt_sampler::Sampler;
 
 /// A sampler that draws its rows of the pass's picture over a page table.

@@ -8,7 +8,7 @@ use Rattle.vt_pages.specs.Pages.{pages_of, root_of}
 use Rattle.vt_camera.specs.Paths.{PathView}
 use Rattle.vt_journal.specs.declared.changes.Change.{Change}
 use Rattle.vt_journal.specs.declared.changes.Event.{Event}
-use Rattle.vt_journal.specs.Changes.{Table, newest}
+use Rattle.vt_journal.specs.Changes.{newest}
 use Rattle.vt_journal.specs.JournalText.{Pass, IsEventInChain}
 use Rattle.vt_feedback.specs.declared.Wanted.{Wanted}
 use Rattle.vt_feedback.specs.Wants.{IsWants}
@@ -16,9 +16,9 @@ use Rattle.vt_plan.specs.declared.batches.Planned.{Planned}
 use Rattle.vt_evict.specs.Views.{RecencyView, pages_needed}
 use Rattle.vt_evict.specs.Batches.{IsLawful, IsSettled, read_entries}
 use Rattle.vt_evict.specs.Plans.{plan_of}
+use Rattle.vt_machine.specs.Drawings.{Drawing}
 use Rattle.vt_machine.specs.declared.crew.PassReport.{PassReport}
 use Rattle.vt_machine.specs.Crews.{last_start}
-use Rattle.vt_shown.specs.Scenes.{Scene}
 use Rattle.vt_workers.specs.Jobs.{Job}
 use Rattle.vt_machine.specs.Outcomes.{IsBatchFor, IsOutcome}
 use Rattle.vt_machine.specs.Requests.{FileState, AreReadFor, ArePartlyReadFor, counts_of}
@@ -41,6 +41,7 @@ use Rattle.vt_walk.specs.Tallies.{tally_of}
 use Rattle.vt_walk.specs.Tours.{given_of, tour_scene, IsTour}
 use Rattle.vt_walk.specs.Turns.{MayDraw, HasDrawn}
 use Rattle.vt_walk.specs.Written.{IsDrawnBySome}
+use Rattle.vt_walk.specs.Walks.{machine_of}
 use Rattle.vt_walk.proofs.Agreeing.{root_last}
 use Rattle.vt_walk.proofs.Asking.{reads_more}
 use Rattle.vt_walk.proofs.Bounds.{outcome_short, events_short, journal_short, kind_short, reads_short, events_in_chain}
@@ -118,11 +119,11 @@ wants_for s f g wants same h = record {
   );
 }
 
-ran_by_some : {M : Type 0} (dealt : Bool) (needs : Scene → ℕ → ℕ → ℕ) (shows : Scene → List ℕ → Table → ℕ → ℕ → ℕ → List ℕ)
+ran_by_some : {M : Type 0} (draws : Drawing)
     (drawn : M → PathView → ℕ → ℕ → ℕ → List ℕ → Type 0)
-    (machine : M) (job : Job) (report : PassReport) (s t : MachineState) → Ran dealt needs shows (drawn machine) job report s t
-    → Ran dealt needs shows (IsDrawnBySome drawn) job report s t
-ran_by_some dealt needs shows drawn machine job report s t ran = record {
+    (machine : M) (job : Job) (report : PassReport) (s t : MachineState) → Ran draws (drawn machine) job report s t
+    → Ran draws (IsDrawnBySome drawn) job report s t
+ran_by_some draws drawn machine job report s t ran = record {
   setup = ran.setup;
   outcome = ran.outcome;
   journal = ran.journal;
@@ -157,38 +158,38 @@ pub record HasRoom (turn : Turn) (events : List Event) : Type 0 where
   pub evicted : turn.tally.evicted + length events < 2 ^ 64
   pub reads : turn.reads + length turn.batch.elements < 2 ^ 64
 
-module _ (dealt : Bool) (needs : Scene → ℕ → ℕ → ℕ) (shows : Scene → List ℕ → Table → ℕ → ℕ → ℕ → List ℕ) (whole : Scene → List ℕ → ℕ → ℕ → ℕ → List ℕ)
+module _ (draws : Drawing)
     (t : Tour) (told : Option (List ℕ)) where
   pub may_prepare : (run : List WalkPass) (number : ℕ) (turn : Turn) (m : MachineState) (v : RecencyView) → IsTour t → number < 4294967296
-      → MayDraw (given_of dealt needs shows whole t told) run number turn m v → MayPrepare m turn.batch.elements
+      → MayDraw (given_of draws t told) run number turn m v → MayPrepare m turn.batch.elements
   may_prepare run number turn m v tour below may =
-      let g = given_of dealt needs shows whole t told in
+      let g = given_of draws t told in
       let h = may.given.setup in
       let kept = run_kept g.setup run h may.at_run.is_run in
       let short = journal_short g.setup run tour.settings.crew.few_entries may.at_run.is_run in
       let planned : length turn.batch.elements ≤ t.settings.crew.batch = omega (arith, ap length may.turn.batch, plan_most g.setup run) in
       let early : length (journal_after g.setup run) ≤ last_start = omega (arith, short, may.turn.number_is, below, h.enough_frames, h.most_frames) in
-      prepare_of m g.machine (journal_after g.setup run) turn.batch.elements may.at_run.setup may.at_run.journal (root_mapped g.setup run h may.at_run.is_run)
+      prepare_of m (machine_of g) (journal_after g.setup run) turn.batch.elements may.at_run.setup may.at_run.journal (root_mapped g.setup run h may.at_run.is_run)
       (batch_may_be_run g.setup run turn.batch.elements may.at_run.is_run kept may.turn.batch) planned early
 
   pub recency_shape : (run : List WalkPass) (number : ℕ) (turn : Turn) (m : MachineState) (v : RecencyView)
-      → MayDraw (given_of dealt needs shows whole t told) run number turn m v → v.shape ≡ t.geometry.now
+      → MayDraw (given_of draws t told) run number turn m v → v.shape ≡ t.geometry.now
   recency_shape run number turn m v may =
       ap (λ (x : RecencyView). x.shape) may.at_run.recency
-      ∙ (run_kept (given_of dealt needs shows whole t told).setup run may.given.setup may.at_run.is_run).shape
+      ∙ (run_kept (given_of draws t told).setup run may.given.setup may.at_run.is_run).shape
 
   pub turn_lawful : (run : List WalkPass) (number : ℕ) (turn : Turn) (m : MachineState) (v : RecencyView)
-      → MayDraw (given_of dealt needs shows whole t told) run number turn m v → IsLawful v turn.batch.elements
+      → MayDraw (given_of draws t told) run number turn m v → IsLawful v turn.batch.elements
   turn_lawful run number turn m v may =
-      let w = (given_of dealt needs shows whole t told).setup in
+      let w = (given_of draws t told).setup in
       subst (λ (x : RecencyView). IsLawful x turn.batch.elements) (sym may.at_run.recency)
       (batch_is_lawful w run turn.batch.elements may.at_run.is_run (run_kept w run may.given.setup may.at_run.is_run) may.turn.batch)
 
   pub has_room : (run : List WalkPass) (number : ℕ) (turn : Turn) (m : MachineState) (v : RecencyView) (losses : List Bool) (events : List Event)
       → IsTour t → number < 4294967296
-      → MayDraw (given_of dealt needs shows whole t told) run number turn m v → IsOutcome turn.batch.elements losses events → HasRoom turn events
+      → MayDraw (given_of draws t told) run number turn m v → IsOutcome turn.batch.elements losses events → HasRoom turn events
   has_room run number turn m v losses events tour below may outcome =
-      let w = (given_of dealt needs shows whole t told).setup in
+      let w = (given_of draws t told).setup in
       let h = may.given.setup in
       let few = tour.settings.crew.few_entries in
       let is_run = may.at_run.is_run in
@@ -209,8 +210,8 @@ module _ (dealt : Bool) (needs : Scene → ℕ → ℕ → ℕ) (shows : Scene �
   -- a pass whose outlook was refused was read for
   pub read_at_most : {M : Type 0} (drawn : M → PathView → ℕ → ℕ → ℕ → List ℕ → Type 0) (machine : M) (run : List WalkPass) (number : ℕ) (turn : Turn)
       (m after : MachineState) (v : RecencyView) (report : PassReport)
-      → MayDraw (given_of dealt needs shows whole t told) run number turn m v
-      → Ran dealt needs shows (drawn machine) (record { scene = tour_scene t; picture = turn.picture; batch = turn.batch.elements }) report m after
+      → MayDraw (given_of draws t told) run number turn m v
+      → Ran draws (drawn machine) (record { scene = tour_scene t; picture = turn.picture; batch = turn.batch.elements }) report m after
       → ArePartlyReadFor t.geometry.now t.depth turn.batch.elements m.files after.files
   read_at_most drawn machine run number turn m after v report may ran =
       read_partly t.geometry.now t.depth turn.batch.elements report.losses.elements m.files after.files
@@ -219,25 +220,25 @@ module _ (dealt : Bool) (needs : Scene → ℕ → ℕ → ℕ) (shows : Scene �
   pub has_drawn : {M : Type 0} (drawn : M → PathView → ℕ → ℕ → ℕ → List ℕ → Type 0) (machine : M) (run : List WalkPass) (number start : ℕ) (turn : Turn)
       (m after : MachineState)
       (v v' : RecencyView) (counts : List ℕ) (report : PassReport) (o : Outlook) (d : Drawn)
-      → MayDraw (given_of dealt needs shows whole t told) run number turn m v
-      → Ran dealt needs shows (drawn machine) (record { scene = tour_scene t; picture = turn.picture; batch = turn.batch.elements }) report m after
+      → MayDraw (given_of draws t told) run number turn m v
+      → Ran draws (drawn machine) (record { scene = tour_scene t; picture = turn.picture; batch = turn.batch.elements }) report m after
       → counts ≡ after.counts
       → IsOutlook t.geometry.now (slice_index counts) t.settings.crew.batch v turn.batch.elements report.losses.elements v' o → start ≡ length m.journal
-      → IsReported number turn start report o d → HasDrawn dealt needs shows (IsDrawnBySome drawn)
-      (given_of dealt needs shows whole t told) run turn m after v' d
+      → IsReported number turn start report o d → HasDrawn (IsDrawnBySome drawn)
+      (given_of draws t told) run turn m after v' d
   has_drawn drawn machine run number start turn m after v v' counts report o d may by_one counts_are_its outlook start_is reported =
-      let g = given_of dealt needs shows whole t told in
+      let g = given_of draws t told in
       let job : Job = record { scene = tour_scene t; picture = turn.picture; batch = turn.batch.elements } in
-      let ran = ran_by_some dealt needs shows drawn machine job report m after by_one in
-      let setup : after.setup ≡ g.machine = ran.setup ∙ may.at_run.setup in
+      let ran = ran_by_some draws drawn machine job report m after by_one in
+      let setup : after.setup ≡ machine_of g = ran.setup ∙ may.at_run.setup in
       let pages : pages_of t.geometry.now ≡ pages_of after.setup.shape = ap (λ (x : Setup). pages_of x.shape) (sym setup) in
-      let same : (p : ℕ) → p < pages_of t.geometry.now → slice_index counts p ≡ needs (tour_scene t) turn.picture p =
+      let same : (p : ℕ) → p < pages_of t.geometry.now → slice_index counts p ≡ draws.needs (tour_scene t) turn.picture p =
       λ p inside. ap (λ (x : List ℕ). slice_index x p) counts_are_its ∙ ran.picture.counts_are p (omega (arith, inside, pages)) in
-      let wanted = wants_for t.geometry.now (slice_index counts) (needs (tour_scene t) turn.picture) outlook.wants same outlook.wanted in
+      let wanted = wants_for t.geometry.now (slice_index counts) (draws.needs (tour_scene t) turn.picture) outlook.wants same outlook.wanted in
       let settles = subst (λ (x : RecencyView). IsSettled x (read_entries turn.batch.elements report.losses.elements) outlook.settled) may.at_run.recency
       outlook.settles in
       let pass : WalkPass = pass_of job report outlook.wants outlook.settled in
-      let next = comes_next needs shows (IsDrawnBySome drawn) dealt g.setup run job report outlook.wants outlook.settled m after ran refl
+      let next = comes_next draws (IsDrawnBySome drawn) g.setup run job report outlook.wants outlook.settled m after ran refl
       (ap (λ (x : Setup). x.crew.samplers) (sym may.at_run.setup))
       (ap (λ (x : Setup). x.height) (sym may.at_run.setup)) may.at_run.journal may.turn.turn may.more may.turn.batch wanted settles in
       record {
@@ -248,7 +249,7 @@ module _ (dealt : Bool) (needs : Scene → ℕ → ℕ → ℕ) (shows : Scene �
         at_run = record {
           is_run = (may.at_run.is_run, next);
           setup = setup;
-          journal = journal_grown needs shows (IsDrawnBySome drawn) dealt g.setup run job report outlook.wants outlook.settled m after ran may.at_run.journal;
+          journal = journal_grown draws (IsDrawnBySome drawn) g.setup run job report outlook.wants outlook.settled m after ran may.at_run.journal;
           recency = outlook.after_is;
         };
         read = subst (λ (x : Setup). AreReadFor x.shape x.depth turn.batch.elements report.losses.elements m.files after.files) may.at_run.setup ran.read;
@@ -279,21 +280,21 @@ module _ (dealt : Bool) (needs : Scene → ℕ → ℕ → ℕ) (shows : Scene �
   -- the events that its text tells are in the chain
   pub told_in_chain : (drawn : PathView → ℕ → ℕ → ℕ → List ℕ → Type 0) (run : List WalkPass) (number : ℕ) (turn : Turn) (m after : MachineState)
       (v v' : RecencyView) (d : Drawn)
-      → MayDraw (given_of dealt needs shows whole t told) run number turn m v
-      → HasDrawn dealt needs shows drawn (given_of dealt needs shows whole t told) run turn m after v' d
+      → MayDraw (given_of draws t told) run number turn m v
+      → HasDrawn drawn (given_of draws t told) run turn m after v' d
       → All (IsEventInChain t.geometry.now) d.text.events.elements
   told_in_chain drawn run number turn m after v v' d may has =
       subst (All (IsEventInChain t.geometry.now)) (sym (ap (λ (x : Pass). x.events) has.text))
-      (events_in_chain (given_of dealt needs shows whole t told).setup run has.pass may.given.setup may.at_run.is_run has.next)
+      (events_in_chain (given_of draws t told).setup run has.pass may.given.setup may.at_run.is_run has.next)
 
   -- there is room for the versions that its text tells
   pub told_have_room : (drawn : PathView → ℕ → ℕ → ℕ → List ℕ → Type 0) (run : List WalkPass) (number : ℕ) (turn : Turn) (m after : MachineState)
       (v v' : RecencyView) (d : Drawn)
-      → IsTour t → number < 4294967296 → MayDraw (given_of dealt needs shows whole t told) run number turn m v
-      → HasDrawn dealt needs shows drawn (given_of dealt needs shows whole t told) run turn m after v' d
+      → IsTour t → number < 4294967296 → MayDraw (given_of draws t told) run number turn m v
+      → HasDrawn drawn (given_of draws t told) run turn m after v' d
       → d.text.start + length d.text.events.elements ≤ most_versions
   told_have_room drawn run number turn m after v v' d tour below may has =
-      let w = (given_of dealt needs shows whole t told).setup in
+      let w = (given_of draws t told).setup in
       let h = may.given.setup in
       let few = tour.settings.crew.few_entries in
       let start : d.text.start ≡ length (journal_after w run) = ap (λ (x : Pass). x.start) has.text in

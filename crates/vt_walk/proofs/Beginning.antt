@@ -1,5 +1,5 @@
 -- A walk before its first pass.
-use Rattle.std.proofs.Common.{◌≡◌, ℕ, suc, ◌+◌, ◌-◌, ◌≤◌, ◌⊎◌, inl, inr, List, [], ◌∷◌, ◌++◌, sum, take, Bool, Option, Some, None, refl, sym, ap, ◌∙◌, subst, arith}
+use Rattle.std.proofs.Common.{◌≡◌, ℕ, suc, ◌+◌, ◌-◌, ◌≤◌, ◌⊎◌, inl, inr, List, [], ◌∷◌, ◌++◌, sum, take, Option, Some, None, refl, sym, ap, ◌∙◌, subst, arith}
 use Rattle.std.specs.Prelude.{option_map, IsSome, unwrap_or, sum_by}
 use Rattle.std.specs.List.{range_with_len}
 use Rattle.std.proofs.lemmas.Bool.{false≢true}
@@ -16,14 +16,14 @@ use Rattle.vt_outside.specs.declared.answers.OutsideError.TheVariants.{Failed, N
 use Rattle.vt_pages.specs.Shape.{Shape}
 use Rattle.vt_pages.specs.Pages.{pages_of}
 use Rattle.vt_camera.specs.Paths.{PathView}
-use Rattle.vt_journal.specs.Changes.{Table, Pinned}
+use Rattle.vt_journal.specs.Changes.{Pinned}
 use Rattle.vt_journal.specs.declared.changes.Change.{Change}
 use Rattle.vt_journal.specs.JournalText.{head_text, pinned_changes}
 use Rattle.vt_tiles.specs.Format.{tile_start, tile_length}
 use Rattle.vt_tiles.specs.StoreViews.{IsStoreIfTold}
 use Rattle.vt_plan.specs.declared.batches.Planned.{Planned}
 use Rattle.vt_evict.specs.Views.{RecencyView, first_view}
-use Rattle.vt_shown.specs.Scenes.{Scene}
+use Rattle.vt_machine.specs.Drawings.{Drawing}
 use Rattle.vt_machine.specs.Requests.{FileState, AllTell, counts_of}
 use Rattle.vt_machine.specs.Machines.{MachineState}
 use Rattle.vt_turns.specs.declared.error.WalkError.{WalkError}
@@ -45,10 +45,10 @@ use Rattle.vt_walk.proofs.Steps.{gained_none}
 use Rattle.vt_walk.proofs.Telling.{run_is_pinned}
 
 -- a tour whose frames are enough is a walk within its limits
-pub is_given : (dealt : Bool) (needs : Scene → ℕ → ℕ → ℕ) (shows : Scene → List ℕ → Table → ℕ → ℕ → ℕ → List ℕ) (whole : Scene → List ℕ → ℕ → ℕ → ℕ → List ℕ)
+pub is_given : (draws : Drawing)
     (t : Tour) (told : Option (List ℕ)) → IsTour t → t.pinned ≤ t.settings.frames → IsStoreIfTold told t.geometry.now t.depth
-    → IsGiven (given_of dealt needs shows whole t told)
-is_given dealt needs shows whole t told h frames store = record {
+    → IsGiven (given_of draws t told)
+is_given draws t told h frames store = record {
   setup = record {
     limits = h.limits;
     most_frames = h.settings.frames.few;
@@ -176,13 +176,13 @@ first_tells asked f files told some = told some 0 f (omega arith)
 others_tell : (asked : Option Asked) (f : FileState) (files : List FileState) → AreTold asked (f ∷ files) → IsSome asked → AllTell files
 others_tell asked f files told some = λ k d inside. told some (suc k) d (omega (arith, inside))
 
-module _ (dealt : Bool) (needs : Scene → ℕ → ℕ → ℕ) (shows : Scene → List ℕ → Table → ℕ → ℕ → ℕ → List ℕ) (whole : Scene → List ℕ → ℕ → ℕ → ℕ → List ℕ)
+module _ (draws : Drawing)
     (drawn : PathView → ℕ → ℕ → ℕ → List ℕ → Type 0) (t : Tour) (told : Option (List ℕ)) (d : ℕ) (store : List ℕ) (kept now : FileState)
     (files : Option Files) (asked : Option Asked) (faults : ℕ) (m n : MachineState) (held : Option (List ℕ)) (out_faults : ℕ)
     (tour : IsTour t) (frames : t.pinned ≤ t.settings.frames) (is_store : IsStoreIfTold told t.geometry.now d) (depth : d ≡ t.depth)
-    (begins : IsBegun (given_of dealt needs shows whole t told) m) (tells : AreTold asked (kept ∷ m.files)) where
+    (begins : IsBegun (given_of draws t told) m) (tells : AreTold asked (kept ∷ m.files)) where
   abbrev given : WalkGiven
-  given = given_of dealt needs shows whole t told
+  given = given_of draws t told
 
   abbrev was : WalkState
   was = state_of files asked faults store (kept ∷ m.files) held out_faults
@@ -191,7 +191,7 @@ module _ (dealt : Bool) (needs : Scene → ℕ → ℕ → ℕ) (shows : Scene �
   later new opened rose = state_of new opened rose store (now ∷ n.files) held out_faults
 
   pub walk_given : IsGiven given
-  walk_given = is_given dealt needs shows whole t told tour frames (subst (IsStoreIfTold told t.geometry.now) depth is_store)
+  walk_given = is_given draws t told tour frames (subst (IsStoreIfTold told t.geometry.now) depth is_store)
 
   -- the pinned pages are those of the tour
   pub pages_pinned : (changes : List Change) → n ≡ with_pinned t.geometry.now t.pinned m → changes ≡ n.journal → Pinned t.geometry.now changes t.pinned

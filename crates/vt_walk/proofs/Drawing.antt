@@ -1,5 +1,5 @@
 -- The picture of a machine that has run a picture's last pass is what is to be written of it.
-use Rattle.std.proofs.Common.{◌≡◌, ℕ, ◌<◌, Bool, true, List, [], ◌∷◌, length, Option, Some, None, refl, sym, ap, ◌∙◌, subst}
+use Rattle.std.proofs.Common.{◌≡◌, ℕ, ◌<◌, true, List, [], ◌∷◌, length, Option, Some, None, refl, sym, ap, ◌∙◌, subst}
 use Rattle.std.specs.Prelude.{IfSome, slice_get}
 use Rattle.std.specs.List.{concat}
 use Rattle.vt_pages.specs.Pages.{IsWithinLimits}
@@ -10,6 +10,7 @@ use Rattle.vt_journal.specs.declared.changes.RowLine.{RowLine}
 use Rattle.vt_journal.specs.Changes.{Table, newest}
 use Rattle.vt_tiles.specs.StoreViews.{IsStore}
 use Rattle.vt_shown.specs.Scenes.{Scene}
+use Rattle.vt_machine.specs.Drawings.{Drawing}
 use Rattle.vt_machine.specs.Machines.{Setup, MachineState}
 use Rattle.vt_shown.specs.Replays.{IsPictureOf}
 use Rattle.vt_machine.specs.Passes.{IsPictured, IsJobFor, MapsNeeded}
@@ -19,7 +20,7 @@ use Rattle.vt_turns.specs.declared.mode.Mode.{Mode}
 use Rattle.vt_turns.specs.declared.mode.Mode.TheVariants.{Settled}
 use Rattle.vt_walk.specs.Runs.{WalkPass, IsRun, IsFinished, GoesOn, Finishes, journal_after, plan_after}
 use Rattle.vt_walk.specs.Shown.{last_rows, IsRunPicture}
-use Rattle.vt_walk.specs.Walks.{WalkGiven, WalkNames, given_by}
+use Rattle.vt_walk.specs.Walks.{WalkGiven, WalkNames, machine_of, given_by}
 use Rattle.vt_walk.specs.Written.{IsWritten}
 use Rattle.vt_walk.specs.Turns.{IsGiven, HasRun, job_for}
 use Rattle.vt_walk.proofs.Showing.{picture_drawn, rows_after, self_number}
@@ -29,23 +30,23 @@ use Rattle.vt_walk.proofs.Wholeness.{finished_maps_needed}
 no_batch : (mode : Mode) (p : WalkPass) (plan : List _) → mode ≡ Settled → Finishes mode p.batch plan → p.batch ≡ []
 no_batch mode p plan is finishes = (subst (λ m. Finishes m p.batch plan) is finishes).0
 
-module _ (dealt : Bool) (needs : Scene → ℕ → ℕ → ℕ) (shows : Scene → List ℕ → Table → ℕ → ℕ → ℕ → List ℕ) (whole : Scene → List ℕ → ℕ → ℕ → ℕ → List ℕ)
+module _ (draws : Drawing)
     (drawn : PathView → ℕ → ℕ → ℕ → List ℕ → Type 0)
     (law : (scene : Scene) (b : List ℕ) (m : Table) (i x y : ℕ) → IsWithinLimits scene.shape → IsStore b scene.shape scene.depth
-    → i < length scene.path.cameras → x < scene.path.width → y < scene.path.height → MapsNeeded scene.shape m (needs scene i)
-    → shows scene b m i x y ≡ whole scene b i x y)
+    → i < length scene.path.cameras → x < scene.path.width → y < scene.path.height → MapsNeeded scene.shape m (draws.needs scene i)
+    → draws.shows scene b m i x y ≡ draws.whole scene b i x y)
     (scene : Scene) (settings : Settings) (mode : Mode) (told : Option (List ℕ)) (names : WalkNames) where
   abbrev given : WalkGiven
-  given = given_by dealt needs shows whole scene settings mode told names
+  given = given_by draws scene settings mode told names
 
   pub picture_written : (run : List WalkPass) (p : WalkPass) (m : MachineState) → IsGiven given → IsRun given.setup (p ∷ run)
-      → HasRun dealt needs shows drawn given run p m → m.journal ≡ journal_after given.setup (p ∷ run)
+      → HasRun drawn given run p m → m.journal ≡ journal_after given.setup (p ∷ run)
       → GoesOn mode given.setup p → IsFinished given.setup p run
       → IsWritten drawn given (p ∷ run) p.picture (picture_bytes scene.depth scene.path.width scene.path.height (concat m.rows))
   picture_written run p m is_given is_run r journal goes_on finished =
-      let setup : m.setup ≡ given.machine = r.ran.setup ∙ r.setup in
-      let pictured : IsPictured needs shows drawn (job_for given p) p.rows m =
-      subst (λ lines. IsPictured needs shows drawn (job_for given p) lines m) r.rows_are r.ran.picture in
+      let setup : m.setup ≡ machine_of given = r.ran.setup ∙ r.setup in
+      let pictured : IsPictured draws drawn (job_for given p) p.rows m =
+      subst (λ lines. IsPictured draws drawn (job_for given p) lines m) r.rows_are r.ran.picture in
       let own : last_rows (p ∷ run) p.picture ≡ p.rows = rows_after true p run p.picture (self_number p.picture) in
       record {
         samples = concat m.rows;
@@ -59,23 +60,23 @@ module _ (dealt : Bool) (needs : Scene → ℕ → ℕ → ℕ) (shows : Scene �
           each = λ y line is. pictured.from_draws y line (ap (λ (rows : List RowLine). slice_get rows y) (sym own) ∙ is);
         };
       } where
-        replayed : (o : Option (List ℕ)) → told ≡ o → m.setup ≡ given.machine → IsPictured needs shows drawn (job_for given p) p.rows m
-            → IfSome o (λ b. IsRunPicture given.setup (p ∷ run) scene.depth scene.path.width (shows scene b) p.picture (concat m.rows))
+        replayed : (o : Option (List ℕ)) → told ≡ o → m.setup ≡ machine_of given → IsPictured draws drawn (job_for given p) p.rows m
+            → IfSome o (λ b. IsRunPicture given.setup (p ∷ run) scene.depth scene.path.width (draws.shows scene b) p.picture (concat m.rows))
         replayed None is setup pictured = tt
         replayed (Some b) is setup pictured =
-            subst (λ (s : Setup). IsRunPicture given.setup (p ∷ run) s.depth s.width (shows scene b) p.picture (concat m.rows)) setup
-            (picture_drawn given.setup p run needs shows drawn (job_for given p) m b pictured (ap (λ (s : Setup). s.bytes) setup ∙ is)
+            subst (λ (s : Setup). IsRunPicture given.setup (p ∷ run) s.depth s.width (draws.shows scene b) p.picture (concat m.rows)) setup
+            (picture_drawn given.setup p run draws drawn (job_for given p) m b pictured (ap (λ (s : Setup). s.bytes) setup ∙ is)
             (ap (λ (s : Setup). s.height) setup) journal refl)
 
         plain_picture : (o : Option (List ℕ)) → told ≡ o → mode ≡ Settled
-            → IfSome o (λ b. IsPictureOf scene.depth scene.path.width scene.path.height (λ x y. whole scene b p.picture x y) (concat m.rows))
+            → IfSome o (λ b. IsPictureOf scene.depth scene.path.width scene.path.height (λ x y. draws.whole scene b p.picture x y) (concat m.rows))
         plain_picture None is settled_mode = tt
         plain_picture (Some b) is settled_mode =
             let none = no_batch mode p (plan_after given.setup (p ∷ run)) settled_mode finished in
             let job : IsJobFor r.before.setup (job_for given p) = subst (λ (s : Setup). IsJobFor s (job_for given p)) (sym r.setup)
             (record { shape = refl; depth = refl; width = refl; height = refl; picture = is_run.1.of_path }) in
             let needed = finished_maps_needed given.setup p run is_given.setup is_run settled_mode goes_on finished in
-            let at_table = subst (λ (js : List Change). MapsNeeded scene.shape (newest js) (needs scene p.picture)) (sym r.journal) needed in
-            subst (λ (s : Setup). IsPictureOf s.depth s.width s.height (λ x y. whole scene b p.picture x y) (concat m.rows)) r.setup
-            (settled dealt needs shows whole drawn law (job_for given p) r.report r.before m b r.ran none is_given.setup.limits job
+            let at_table = subst (λ (js : List Change). MapsNeeded scene.shape (newest js) (draws.needs scene p.picture)) (sym r.journal) needed in
+            subst (λ (s : Setup). IsPictureOf s.depth s.width s.height (λ x y. draws.whole scene b p.picture x y) (concat m.rows)) r.setup
+            (settled draws drawn law (job_for given p) r.report r.before m b r.ran none is_given.setup.limits job
             (ap (λ (s : Setup). s.bytes) r.setup ∙ is) (is_given.store.each b is) at_table)

@@ -1,5 +1,5 @@
 -- A walk that began with fewer faults.
-use Rattle.std.proofs.Common.{◌≡◌, ℕ, ◌≤◌, inl, inr, List, ◌∷◌, Result, Ok, Err, refl, arith}
+use Rattle.std.proofs.Common.{ℕ, ◌≤◌, inl, inr, List, ◌∷◌, Result, Ok, Err, arith}
 use Rattle.std.specs.Prelude.{MatchResult}
 use Rattle.vt_camera.specs.Paths.{PathView}
 use Rattle.vt_turns.specs.declared.error.WalkError.{WalkError}

@@ -15,6 +15,7 @@ use Rattle.vt_tiles.specs.StoreViews.{IsStore}
 use Rattle.vt_plan.specs.declared.batches.Planned.{Planned}
 use Rattle.vt_evict.specs.Views.{RecencyView, pages_needed}
 use Rattle.vt_shown.specs.Scenes.{Scene}
+use Rattle.vt_machine.specs.Drawings.{Drawing}
 use Rattle.vt_machine.specs.Outcomes.{lost_count}
 use Rattle.vt_machine.specs.Requests.{FileState, AllTell}
 use Rattle.vt_machine.specs.Machines.{Setup, MachineState}
@@ -101,25 +102,25 @@ line_is p run picture wanted t same wants tally =
     ap (λ k. numbers_line k wanted t) same ∙ ap (λ k. numbers_line p.picture k t) wants ∙ ap (numbers_line p.picture (length p.wants)) tally
     ∙ ap (λ k. numbers_line p.picture k (tally_of (passes_of p.picture (p ∷ run)))) (ap wanted_in (sym (line_of p run)))
 
-module _ (dealt : Bool) (needs : Scene → ℕ → ℕ → ℕ) (shows : Scene → List ℕ → Table → ℕ → ℕ → ℕ → List ℕ) (whole : Scene → List ℕ → ℕ → ℕ → ℕ → List ℕ)
+module _ (draws : Drawing)
     (drawn : PathView → ℕ → ℕ → ℕ → List ℕ → Type 0)
     (law : (scene : Scene) (b : List ℕ) (m : Table) (i x y : ℕ) → IsWithinLimits scene.shape → IsStore b scene.shape scene.depth
-    → i < length scene.path.cameras → x < scene.path.width → y < scene.path.height → MapsNeeded scene.shape m (needs scene i)
-    → shows scene b m i x y ≡ whole scene b i x y)
+    → i < length scene.path.cameras → x < scene.path.width → y < scene.path.height → MapsNeeded scene.shape m (draws.needs scene i)
+    → draws.shows scene b m i x y ≡ draws.whole scene b i x y)
     (scene : Scene) (settings : Settings) (mode : Mode) (told : Option (List ℕ)) (names : WalkNames) (number : ℕ) (p : Passed) (first : WalkState)
     (m : MachineState) (v : RecencyView) where
   abbrev given : WalkGiven
-  given = given_by dealt needs shows whole scene settings mode told names
+  given = given_by draws scene settings mode told names
 
   -- rows of a picture are full
-  pub rows_count : (was : WalkState) → StandsAfter dealt needs shows drawn given number p first was m v → length m.rows ≡ scene.path.height
+  pub rows_count : (was : WalkState) → StandsAfter drawn given number p first was m v → length m.rows ≡ scene.path.height
   rows_count was s = s.has_run.ran.picture.count ∙ ap (λ (x : Setup). x.height) s.at_run.setup
 
-  pub rows_full : (was : WalkState) → StandsAfter dealt needs shows drawn given number p first was m v → All (IsFull scene.depth scene.path.width) m.rows
+  pub rows_full : (was : WalkState) → StandsAfter drawn given number p first was m v → All (IsFull scene.depth scene.path.width) m.rows
   rows_full was s = subst (λ (x : Setup). (k : ℕ) (d : List ℕ) → k < length m.rows
       → IsFull x.depth x.width (slice_index_or m.rows k d)) s.at_run.setup s.has_run.ran.picture.full
 
-  goes : (was : WalkState) (s : StandsAfter dealt needs shows drawn given number p first was m v) → (mode ≡ Settled → p.lost ≡ 0)
+  goes : (was : WalkState) (s : StandsAfter drawn given number p first was m v) → (mode ≡ Settled → p.lost ≡ 0)
       → (mode ≡ Settled → p.outlook.needed ≤ room_of given.setup)
       → GoesOn mode given.setup s.pass
   goes was s none fits =
@@ -127,7 +128,7 @@ module _ (dealt : Bool) (needs : Scene → ℕ → ℕ → ℕ) (shows : Scene �
       (subst (NeedsFrames given.setup s.pass.picture) (sym s.passed.needed) (needs_frames given.setup s.pass s.run s.given.setup s.at_run.is_run))
 
   -- the same picture has another pass
-  pub same_picture : (was : WalkState) (s : StandsAfter dealt needs shows drawn given number p first was m v) → (mode ≡ Settled → p.lost ≡ 0)
+  pub same_picture : (was : WalkState) (s : StandsAfter drawn given number p first was m v) → (mode ≡ Settled → p.lost ≡ 0)
       → (mode ≡ Settled → p.outlook.needed ≤ room_of given.setup) → (IsEnd mode p.loads_nothing p.outlook.plan.elements → ⊥)
       → StandsAt drawn given (number + 1) (record { picture = p.picture; batch = p.outlook.plan; tally = p.tally; reads = p.reads }) first was m v
   same_picture was s none fits unfinished =
@@ -152,7 +153,7 @@ module _ (dealt : Bool) (needs : Scene → ℕ → ℕ → ℕ) (shows : Scene �
       }
 
   -- the walk stops after the pass, of which all stands
-  stops : (was : WalkState) → StandsAfter dealt needs shows drawn given number p first was m v → Left drawn given first was
+  stops : (was : WalkState) → StandsAfter drawn given number p first was m v → Left drawn given first was
   stops was s = inr (record {
     run = s.pass ∷ s.run;
     pictures = s.pictures;
@@ -162,7 +163,7 @@ module _ (dealt : Bool) (needs : Scene → ℕ → ℕ → ℕ) (shows : Scene �
   })
 
   -- a tile of a settled walk was lost
-  pub tile_lost : (was : WalkState) → StandsAfter dealt needs shows drawn given number p first was m v → mode ≡ Settled → 1 ≤ p.lost
+  pub tile_lost : (was : WalkState) → StandsAfter drawn given number p first was m v → mode ≡ Settled → 1 ≤ p.lost
       → LeftBy drawn given first was walk_error.Failed
   tile_lost was s settled lost =
       let n = losses_more given.setup s.pass s.run s.at_run.is_run in
@@ -181,7 +182,7 @@ module _ (dealt : Bool) (needs : Scene → ℕ → ℕ → ℕ) (shows : Scene �
       )
 
   -- the picture does not fit
-  pub no_room : (was : WalkState) → StandsAfter dealt needs shows drawn given number p first was m v → mode ≡ Settled → (picture wanted room : ℕ)
+  pub no_room : (was : WalkState) → StandsAfter drawn given number p first was m v → mode ≡ Settled → (picture wanted room : ℕ)
       → picture ≡ p.picture → wanted ≡ p.outlook.needed → room ≡ room_of given.setup → room < wanted
       → LeftBy drawn given first was (walk_error.DoesNotFit picture wanted room)
   no_room was s settled picture wanted room of_picture are is over =
@@ -209,11 +210,11 @@ module _ (dealt : Bool) (needs : Scene → ℕ → ℕ → ℕ) (shows : Scene �
   abbrev bytes : List ℕ
   bytes = picture_bytes scene.depth scene.path.width scene.path.height (concat m.rows)
 
-  is_written : (was : WalkState) (s : StandsAfter dealt needs shows drawn given number p first was m v) → (mode ≡ Settled → p.lost ≡ 0)
+  is_written : (was : WalkState) (s : StandsAfter drawn given number p first was m v) → (mode ≡ Settled → p.lost ≡ 0)
       → (mode ≡ Settled → p.outlook.needed ≤ room_of given.setup) → IsEnd mode p.loads_nothing p.outlook.plan.elements
       → IsWritten drawn given (s.pass ∷ s.run) s.pass.picture bytes
   is_written was s none fits end =
-      picture_written dealt needs shows whole drawn law scene settings mode told names s.run s.pass m s.given s.at_run.is_run s.has_run
+      picture_written draws drawn law scene settings mode told names s.run s.pass m s.given s.at_run.is_run s.has_run
       s.at_run.journal (goes was s none fits)
       ((end_of mode s.pass p.loads_nothing p.outlook.plan.elements (plan_after given.setup (s.pass ∷ s.run)) s.passed.loads_nothing s.passed.plan).0 end)
 
@@ -226,7 +227,7 @@ module _ (dealt : Bool) (needs : Scene → ℕ → ℕ → ℕ) (shows : Scene �
     now = state_of files' asked' faults' store (kept ∷ m.files) held' out_faults'
 
     -- the picture and its line are whole
-    pub next_picture : (s : StandsAfter dealt needs shows drawn given number p first was m v) → (mode ≡ Settled → p.lost ≡ 0)
+    pub next_picture : (s : StandsAfter drawn given number p first was m v) → (mode ≡ Settled → p.lost ≡ 0)
         → (mode ≡ Settled → p.outlook.needed ≤ room_of given.setup) → IsEnd mode p.loads_nothing p.outlook.plan.elements
         → files' ≡ option_map (with_bytes (picture_name names.prefix p.picture) bytes) files
         → held' ≡ option_map (gained (numbers_line p.picture p.outlook.wanted p.tally)) held
@@ -262,7 +263,7 @@ module _ (dealt : Bool) (needs : Scene → ℕ → ℕ → ℕ) (shows : Scene �
         }
 
     -- the folder failed after a pass
-    fails : (s : StandsAfter dealt needs shows drawn given number p first was m v) → asked' ≡ asked → Rose faults faults' → HasBroken given first now
+    fails : (s : StandsAfter drawn given number p first was m v) → asked' ≡ asked → Rose faults faults' → HasBroken given first now
     fails s same rose =
         has_broken given (planned_in (s.pass ∷ s.run)) (lost_in (s.pass ∷ s.run)) first now s.given
         (subst (λ (a : Option Asked). OnTold (AreAskedFor scene.shape scene.depth given.setup.pinned (planned_in (s.pass ∷ s.run))
@@ -273,7 +274,7 @@ module _ (dealt : Bool) (needs : Scene → ℕ → ℕ → ℕ) (shows : Scene �
     asks_nothing same risen out_risen = record { asked = ap (with_open store (kept ∷ m.files)) same; faults = omega (arith, risen); out_faults = out_risen }
 
     -- of the picture a front part stands
-    pub picture_broke : (error : OutsideError) (e : WalkError) (s : StandsAfter dealt needs shows drawn given number p first was m v)
+    pub picture_broke : (error : OutsideError) (e : WalkError) (s : StandsAfter drawn given number p first was m v)
         → (mode ≡ Settled → p.lost ≡ 0)
         → (mode ≡ Settled → p.outlook.needed ≤ room_of given.setup) → IsEnd mode p.loads_nothing p.outlook.plan.elements
         → (files' ≡ files) ⊎ ((k : ℕ) × (files' ≡ option_map (with_bytes (picture_name names.prefix p.picture) (take k bytes)) files))
@@ -305,7 +306,7 @@ module _ (dealt : Bool) (needs : Scene → ℕ → ℕ → ℕ) (shows : Scene �
           cause Failed failed = inl (fails s same (failed refl))
 
     -- of the line a front part stands
-    pub line_broke : (error : OutsideError) (e : WalkError) (s : StandsAfter dealt needs shows drawn given number p first was m v)
+    pub line_broke : (error : OutsideError) (e : WalkError) (s : StandsAfter drawn given number p first was m v)
         → (mode ≡ Settled → p.lost ≡ 0)
         → (mode ≡ Settled → p.outlook.needed ≤ room_of given.setup) → IsEnd mode p.loads_nothing p.outlook.plan.elements
         → files' ≡ option_map (with_bytes (picture_name names.prefix p.picture) bytes) files
@@ -340,18 +341,18 @@ module _ (dealt : Bool) (needs : Scene → ℕ → ℕ → ℕ) (shows : Scene �
           cause Failed failed = inl (inl (let r = failed refl in let o = s.stands.out_faults in omega (arith, r, o)))
 
 -- the walk stops after a pass, for its cause
-pub stopped : (dealt : Bool) (needs : Scene → ℕ → ℕ → ℕ) (shows : Scene → List ℕ → Table → ℕ → ℕ → ℕ → List ℕ) (whole : Scene → List ℕ → ℕ → ℕ → ℕ → List ℕ)
+pub stopped : (draws : Drawing)
     (drawn : PathView → ℕ → ℕ → ℕ → List ℕ → Type 0)
     (law : (scene : Scene) (b : List ℕ) (m : Table) (i x y : ℕ) → IsWithinLimits scene.shape → IsStore b scene.shape scene.depth
-    → i < length scene.path.cameras → x < scene.path.width → y < scene.path.height → MapsNeeded scene.shape m (needs scene i)
-    → shows scene b m i x y ≡ whole scene b i x y)
+    → i < length scene.path.cameras → x < scene.path.width → y < scene.path.height → MapsNeeded scene.shape m (draws.needs scene i)
+    → draws.shows scene b m i x y ≡ draws.whole scene b i x y)
     (t : Tour) (told : Option (List ℕ)) (number : ℕ) (p : Passed) (first was : WalkState) (m : MachineState) (v : RecencyView) → IsTour t
-    → StandsAfter dealt needs shows drawn (given_of dealt needs shows whole t told) number p first was m v → (e : WalkError) → IsStoppedBy t p e
-    → LeftBy drawn (given_of dealt needs shows whole t told) first was e
-stopped dealt needs shows whole drawn law t told number p first was m v tour s (walk_error.TooFewFrames frames needed) is = absurd is
-stopped dealt needs shows whole drawn law t told number p first was m v tour s (walk_error.DoesNotFit picture wanted room) is =
-    no_room dealt needs shows whole drawn law (tour_scene t) t.settings t.mode told (names_of t.names) number p first m v was s is.settled picture wanted room
+    → StandsAfter drawn (given_of draws t told) number p first was m v → (e : WalkError) → IsStoppedBy t p e
+    → LeftBy drawn (given_of draws t told) first was e
+stopped draws drawn law t told number p first was m v tour s (walk_error.TooFewFrames frames needed) is = absurd is
+stopped draws drawn law t told number p first was m v tour s (walk_error.DoesNotFit picture wanted room) is =
+    no_room draws drawn law (tour_scene t) t.settings t.mode told (names_of t.names) number p first m v was s is.settled picture wanted room
     is.picture_is is.wanted_are (let r = is.room_is in let pages = tour.pages in omega (arith, r, pages)) is.unfit
-stopped dealt needs shows whole drawn law t told number p first was m v tour s walk_error.Failed is =
-    tile_lost dealt needs shows whole drawn law (tour_scene t) t.settings t.mode told (names_of t.names) number p first m v was s is.0 is.1
-stopped dealt needs shows whole drawn law t told number p first was m v tour s walk_error.NoMemory is = absurd is
+stopped draws drawn law t told number p first was m v tour s walk_error.Failed is =
+    tile_lost draws drawn law (tour_scene t) t.settings t.mode told (names_of t.names) number p first m v was s is.0 is.1
+stopped draws drawn law t told number p first was m v tour s walk_error.NoMemory is = absurd is

@@ -1,5 +1,5 @@
 -- A walk that failed has its cause.
-use Rattle.std.proofs.Common.{◌≡◌, ℕ, ◌+◌, ◌≤◌, inr, List, ◌∷◌, length, sum, Option, Some, None, arith}
+use Rattle.std.proofs.Common.{ℕ, ◌+◌, ◌≤◌, inr, List, ◌∷◌, length, sum, Option, Some, None, arith}
 use Rattle.vt_outside.specs.Counts.{added, Rose, RoseBy, RoseTogetherBy}
 use Rattle.vt_outside.specs.declared.place.Place.{Place}
 use Rattle.vt_plan.specs.declared.batches.Planned.{Planned}

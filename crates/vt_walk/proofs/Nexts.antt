@@ -2,14 +2,13 @@
 use Rattle.std.proofs.Common.{◌≡◌, ℕ, ◌<◌, Bool, List, ◌∷◌, ◌++◌, length, sym, ap, ◌∙◌, subst}
 use Rattle.vt_camera.specs.Paths.{PathView}
 use Rattle.vt_journal.specs.declared.changes.Change.{Change}
-use Rattle.vt_journal.specs.Changes.{Table}
 use Rattle.vt_journal.specs.JournalText.{changes_of}
 use Rattle.vt_feedback.specs.declared.Wanted.{Wanted}
 use Rattle.vt_feedback.specs.Wants.{IsWants}
 use Rattle.vt_evict.specs.Views.{RecencyView}
 use Rattle.vt_evict.specs.Batches.{IsSettled, read_entries}
+use Rattle.vt_machine.specs.Drawings.{Drawing}
 use Rattle.vt_machine.specs.declared.crew.PassReport.{PassReport}
-use Rattle.vt_shown.specs.Scenes.{Scene}
 use Rattle.vt_workers.specs.Jobs.{Job}
 use Rattle.vt_machine.specs.RowOrders.{AreRowsInOrder}
 use Rattle.vt_machine.specs.Machines.{MachineState}
@@ -17,22 +16,22 @@ use Rattle.vt_machine.specs.Passes.{Ran}
 use Rattle.vt_walk.specs.Fits.{WalkSetup}
 use Rattle.vt_walk.specs.Runs.{WalkPass, pass_of, journal_after, recency_after, plan_after, IsTurnOf, IsNextPass}
 
-module _ (needs : Scene → ℕ → ℕ → ℕ) (shows : Scene → List ℕ → Table → ℕ → ℕ → ℕ → List ℕ) (drawn : PathView → ℕ → ℕ → ℕ → List ℕ → Type 0) where
-  pub journal_grown : (dealt : Bool) (w : WalkSetup) (before : List WalkPass) (job : Job) (report : PassReport) (wants : List Wanted)
+module _ (draws : Drawing) (drawn : PathView → ℕ → ℕ → ℕ → List ℕ → Type 0) where
+  pub journal_grown : (w : WalkSetup) (before : List WalkPass) (job : Job) (report : PassReport) (wants : List Wanted)
       (settled : RecencyView) (s t : MachineState)
-      → Ran dealt needs shows drawn job report s t → s.journal ≡ journal_after w before
+      → Ran draws drawn job report s t → s.journal ≡ journal_after w before
       → t.journal ≡ journal_after w (pass_of job report wants settled ∷ before)
-  journal_grown dealt w before job report wants settled s t ran journal = ran.journal
+  journal_grown w before job report wants settled s t ran journal = ran.journal
       ∙ ap (λ (js : List Change). js ++ changes_of report.events.elements) journal
 
-  pub comes_next : (dealt : Bool) (w : WalkSetup) (before : List WalkPass) (job : Job) (report : PassReport) (wants : List Wanted)
+  pub comes_next : (w : WalkSetup) (before : List WalkPass) (job : Job) (report : PassReport) (wants : List Wanted)
       (settled : RecencyView) (s t : MachineState)
-      → Ran dealt needs shows drawn job report s t → w.dealt ≡ dealt → w.samplers ≡ s.setup.crew.samplers → w.height ≡ s.setup.height
+      → Ran draws drawn job report s t → w.dealt ≡ draws.dealt → w.samplers ≡ s.setup.crew.samplers → w.height ≡ s.setup.height
       → s.journal ≡ journal_after w before
       → IsTurnOf w before job.picture → job.picture < w.pictures → job.batch ≡ plan_after w before → IsWants w.shape (w.needs job.picture) wants
       → IsSettled (recency_after w before) (read_entries job.batch report.losses.elements) settled → IsNextPass w before (pass_of job report wants settled)
-  comes_next dealt w before job report wants settled s t ran is_dealt samplers height journal turn inside planned wanted settles =
-      let grown = journal_grown dealt w before job report wants settled s t ran journal in
+  comes_next w before job report wants settled s t ran is_dealt samplers height journal turn inside planned wanted settles =
+      let grown = journal_grown w before job report wants settled s t ran journal in
       let a = subst (λ (d : Bool). AreRowsInOrder d s.setup.crew.samplers s.setup.height (length s.journal) (length t.journal) report.rows.elements)
       (sym is_dealt) ran.rows in
       let b = subst (λ n. AreRowsInOrder w.dealt n s.setup.height (length s.journal) (length t.journal) report.rows.elements) (sym samplers) a in

@@ -1,17 +1,15 @@
 -- A pass that was made, or was under way.
-use Rattle.std.proofs.Common.{◌≡◌, ℕ, zero, suc, ◌+◌, ◌<◌, ◌≤◌, ◌⊎◌, inl, inr, Bool, List, [], ◌∷◌, map, sum, Option, Some, None, refl, sym, ap, ◌∙◌, subst, take, arith}
+use Rattle.std.proofs.Common.{◌≡◌, ℕ, zero, suc, ◌+◌, ◌<◌, ◌≤◌, ◌⊎◌, inl, inr, List, [], ◌∷◌, map, sum, Option, Some, None, refl, sym, ap, ◌∙◌, subst, take, arith}
 use Rattle.std.specs.Prelude.{option_map, IsSome, is_some}
 use Rattle.vt_outside.specs.Counts.{added, Rose, RoseBy}
 use Rattle.vt_outside.specs.Files.{Files, Asked, with_appended, IsThere}
 use Rattle.vt_outside.specs.declared.answers.OutsideError.{OutsideError}
 use Rattle.vt_outside.specs.declared.answers.OutsideError.TheVariants.{Failed, NoMemory}
 use Rattle.vt_camera.specs.Paths.{PathView}
-use Rattle.vt_journal.specs.Changes.{Table}
 use Rattle.vt_journal.specs.JournalText.{Pass, pass_text}
 use Rattle.vt_journal.specs.Passes.{pass_of as text_of}
 use Rattle.vt_plan.specs.declared.batches.Planned.{Planned}
 use Rattle.vt_evict.specs.Views.{RecencyView}
-use Rattle.vt_shown.specs.Scenes.{Scene}
 use Rattle.vt_machine.specs.Outcomes.{lost_count}
 use Rattle.vt_machine.specs.Requests.{FileState, AllTell, AreSameFiles, ArePartlyReadFor, counts_of}
 use Rattle.vt_machine.specs.Machines.{MachineState}
@@ -65,7 +63,7 @@ may_draw drawn g number t first now m v s more = record { given = s.given; at_ru
 pub still_tell : (old new : List FileState) → AreSameFiles old new → AllTell old → AllTell new
 still_tell old new same tell = all_told old new same.tell tell
 
-module _ (dealt : Bool) (needs : Scene → ℕ → ℕ → ℕ) (shows : Scene → List ℕ → Table → ℕ → ℕ → ℕ → List ℕ) (drawn : PathView → ℕ → ℕ → ℕ → List ℕ → Type 0)
+module _ (drawn : PathView → ℕ → ℕ → ℕ → List ℕ → Type 0)
     (g : WalkGiven) (number : ℕ) (t : Turn) (first : WalkState) (store : List ℕ) (kept : FileState) (held : Option (List ℕ)) (out_faults : ℕ)
     (files : Option Files) (asked : Option Asked) (faults : ℕ) (m n : MachineState) (v u : RecencyView) where
   abbrev was : WalkState
@@ -76,10 +74,10 @@ module _ (dealt : Bool) (needs : Scene → ℕ → ℕ → ℕ) (shows : Scene �
 
   -- the text of the pass stands whole
   stands_whole : (new : Option Files) (rose : ℕ) (d : Drawn) (s : StandsAt drawn g number t first was m v)
-      → HasDrawn dealt needs shows drawn g s.run t m n u d
+      → HasDrawn drawn g s.run t m n u d
       → new ≡ option_map (with_appended g.names.journal (pass_text g.setup.shape (text_of d.text))) files
       → (IsThere files g.names.journal → IsThere new g.names.journal) → faults ≤ rose
-      → StandsAfter dealt needs shows drawn g number d.passed first (now new rose) n u
+      → StandsAfter drawn g number d.passed first (now new rose) n u
   stands_whole new rose d s h written there risen =
       let count = h.picture ∙ s.count in
       let fault = faults_rise (lost_count h.pass.losses) faults kept.faults (counts_of m.files) (counts_of n.files) h.read.faults in
@@ -105,12 +103,12 @@ module _ (dealt : Bool) (needs : Scene → ℕ → ℕ → ℕ) (shows : Scene �
         still_told (Some places) told = refl
 
   pub pass_made : (new : Option Files) (later : Option Asked) (rose : ℕ) (d : Drawn) (s : StandsAt drawn g number t first was m v)
-      → HasDrawn dealt needs shows drawn g s.run t m n u d
+      → HasDrawn drawn g s.run t m n u d
       → new ≡ option_map (with_appended g.names.journal (pass_text g.setup.shape (text_of d.text))) files
       → (IsThere files g.names.journal → IsThere new g.names.journal) → later ≡ asked → faults ≤ rose
-      → StandsAfter dealt needs shows drawn g number d.passed first (state_of new later rose store (kept ∷ n.files) held out_faults) n u
+      → StandsAfter drawn g number d.passed first (state_of new later rose store (kept ∷ n.files) held out_faults) n u
   pass_made new later rose d s h written there same risen =
-      subst (λ (a : Option Asked). StandsAfter dealt needs shows drawn g number d.passed first (state_of new a rose store (kept ∷ n.files) held out_faults) n u)
+      subst (λ (a : Option Asked). StandsAfter drawn g number d.passed first (state_of new a rose store (kept ∷ n.files) held out_faults) n u)
       (sym same) (stands_whole new rose d s h written there risen)
 
   -- the pass could not be drawn, or not be planned after
@@ -144,7 +142,7 @@ module _ (dealt : Bool) (needs : Scene → ℕ → ℕ → ℕ) (shows : Scene �
 
   -- of the pass's text a front part stands
   text_left : (new : Option Files) (rose : ℕ) (d : Drawn) (error : OutsideError) (s : StandsAt drawn g number t first was m v)
-      → HasDrawn dealt needs shows drawn g s.run t m n u d
+      → HasDrawn drawn g s.run t m n u d
       → (new ≡ files) ⊎ ((k : ℕ) × (new ≡ option_map (with_appended g.names.journal (take k (pass_text g.setup.shape (text_of d.text)))) files))
       → faults ≤ rose → (error ≡ Failed → IsThere files g.names.journal → Rose faults rose)
       → LeftBy drawn g first (now new rose) (refusal_by error)
@@ -188,7 +186,7 @@ module _ (dealt : Bool) (needs : Scene → ℕ → ℕ → ℕ) (shows : Scene �
             h.read.faults (failed refl s.stands.there)))
 
   pub text_broke : (new : Option Files) (later : Option Asked) (rose : ℕ) (d : Drawn) (error : OutsideError) (e : WalkError)
-      (s : StandsAt drawn g number t first was m v) → HasDrawn dealt needs shows drawn g s.run t m n u d
+      (s : StandsAt drawn g number t first was m v) → HasDrawn drawn g s.run t m n u d
       → (new ≡ files) ⊎ ((k : ℕ) × (new ≡ option_map (with_appended g.names.journal (take k (pass_text g.setup.shape (text_of d.text)))) files))
       → later ≡ asked → faults ≤ rose → (error ≡ Failed → IsThere files g.names.journal → Rose faults rose) → e ≡ refusal_by error
       → LeftBy drawn g first (state_of new later rose store (kept ∷ n.files) held out_faults) e

@@ -8,8 +8,8 @@ use Rattle.vt_journal.specs.declared.changes.RowLine.{RowLine}
 use Rattle.vt_journal.specs.Changes.{Table, at}
 use Rattle.vt_journal.specs.JournalText.{changes_of}
 use Rattle.vt_journal.proofs.Versions.{at-front}
-use Rattle.vt_shown.specs.Scenes.{Scene}
 use Rattle.vt_workers.specs.Jobs.{Job}
+use Rattle.vt_machine.specs.Drawings.{Drawing}
 use Rattle.vt_machine.specs.Machines.{MachineState}
 use Rattle.vt_machine.specs.Passes.{IsPictured}
 use Rattle.vt_shown.specs.Replays.{HasPixels}
@@ -71,12 +71,12 @@ picture_stays w p passes d width pixel picture samples run other shown =
 if_some : {X : Type 0} (o : Option X) (x : X) (P : X → Type 0) → o ≡ Some x → IfSome o P → P x
 if_some o x P e h = subst (λ p. IfSome p P) e h
 
-pub picture_drawn : (w : WalkSetup) (p : WalkPass) (passes : List WalkPass) (needs : Scene → ℕ → ℕ → ℕ) (shows : Scene → List ℕ → Table → ℕ → ℕ → ℕ → List ℕ)
-    (drawn : PathView → ℕ → ℕ → ℕ → List ℕ → Type 0) (job : Job) (s : MachineState) (b : List ℕ) → IsPictured needs shows drawn job p.rows s
+pub picture_drawn : (w : WalkSetup) (p : WalkPass) (passes : List WalkPass) (draws : Drawing)
+    (drawn : PathView → ℕ → ℕ → ℕ → List ℕ → Type 0) (job : Job) (s : MachineState) (b : List ℕ) → IsPictured draws drawn job p.rows s
     → s.setup.bytes ≡ Some b
     → s.setup.height ≡ w.height → s.journal ≡ journal_after w (p ∷ passes) → job.picture ≡ p.picture
-    → IsRunPicture w (p ∷ passes) s.setup.depth s.setup.width (shows job.scene b) p.picture (concat s.rows)
-picture_drawn w p passes needs shows drawn job s b pictured told height journal picture =
+    → IsRunPicture w (p ∷ passes) s.setup.depth s.setup.width (draws.shows job.scene b) p.picture (concat s.rows)
+picture_drawn w p passes draws drawn job s b pictured told height journal picture =
     let own : last_rows (p ∷ passes) p.picture ≡ p.rows = rows_after true p passes p.picture (self_number p.picture) in
     let replayed = if_some s.setup.bytes b _ told pictured.replayed in
     record {
@@ -85,9 +85,9 @@ picture_drawn w p passes needs shows drawn job s b pictured told height journal 
       full = pictured.full;
       replayed = λ y line is.
           let pixels = replayed y line (ap (λ (rows : List RowLine). slice_get rows y) (sym own) ∙ is) in
-          subst (λ k. HasPixels s.setup.depth s.setup.width (λ x. shows job.scene b (at (journal_after w (p ∷ passes)) line.version) k x y)
+          subst (λ k. HasPixels s.setup.depth s.setup.width (λ x. draws.shows job.scene b (at (journal_after w (p ∷ passes)) line.version) k x y)
           (slice_index_or s.rows y [])) picture
-          (subst (λ (js : List Change). HasPixels s.setup.depth s.setup.width (λ x. shows job.scene b (at js line.version) job.picture x y)
+          (subst (λ (js : List Change). HasPixels s.setup.depth s.setup.width (λ x. draws.shows job.scene b (at js line.version) job.picture x y)
           (slice_index_or s.rows y [])) journal pixels);
       joined = refl;
     }

@@ -60,14 +60,14 @@ written_stays drawn g p run picture bytes is_run other w =
     record {
       samples = w.samples;
       encoded = w.encoded;
-      replay = stays g.machine.bytes w.replay;
+      replay = stays g.told w.replay;
       plain = w.plain;
       from_draws = subst (λ lines. AreDrawn drawn g.scene.path picture lines w.samples) (sym same) w.from_draws;
     } where
-      stays : (told : Option (List ℕ)) → IfSome told (λ b. IsRunPicture g.setup run g.scene.depth g.scene.path.width (g.shows b) picture w.samples)
-          → IfSome told (λ b. IsRunPicture g.setup (p ∷ run) g.scene.depth g.scene.path.width (g.shows b) picture w.samples)
+      stays : (told : Option (List ℕ)) → IfSome told (λ b. IsRunPicture g.setup run g.scene.depth g.scene.path.width (g.draws.shows g.scene b) picture w.samples)
+          → IfSome told (λ b. IsRunPicture g.setup (p ∷ run) g.scene.depth g.scene.path.width (g.draws.shows g.scene b) picture w.samples)
       stays None shown = tt
-      stays (Some b) shown = picture_stays g.setup p run g.scene.depth g.scene.path.width (g.shows b) picture w.samples is_run other shown
+      stays (Some b) shown = picture_stays g.setup p run g.scene.depth g.scene.path.width (g.draws.shows g.scene b) picture w.samples is_run other shown
 
 pub all_stay : (drawn : PathView → ℕ → ℕ → ℕ → List ℕ → Type 0) (g : WalkGiven) (p : WalkPass) (run : List WalkPass) (pictures : List (List ℕ))
     → IsRun g.setup run → length pictures ≤ p.picture → AreWritten drawn g run pictures → AreWritten drawn g (p ∷ run) pictures

@@ -1,13 +1,13 @@
 -- A machine before a walk has placed its pinned pages.
-use Rattle.std.specs.Prelude.{◌≡◌, ℕ, List, [], Option, IsSome, is_some, All}
+use Rattle.std.specs.Prelude.{◌≡◌, List, [], Option, IsSome, is_some}
 use Rattle.vt_outside.specs.Files.{Asked}
 use Rattle.vt_machine.specs.Requests.{FileState, AllTell}
 use Rattle.vt_machine.specs.Machines.{MachineState}
-use Rattle.vt_walk.specs.Walks.{WalkGiven}
+use Rattle.vt_walk.specs.Walks.{WalkGiven, machine_of}
 
 -- a machine was made for a walk, and its journal is empty
 pub record IsBegun (g : WalkGiven) (m : MachineState) : Type 0 where
-  pub setup : m.setup ≡ g.machine
+  pub setup : m.setup ≡ machine_of g
   pub journal : m.journal ≡ []
 
 -- where a folder tells the places that were asked, open files do so

@@ -1,16 +1,13 @@
 -- What a refused walk leaves: the beginning of a run whole, and of the step that was under way a front part.
-use Rattle.std.specs.Prelude.{◌≡◌, ◌⊎◌, ℕ, ◌+◌, ◌<◌, ◌≤◌, List, [], ◌∷◌, ◌++◌, length, take, option_map}
+use Rattle.std.specs.Prelude.{◌≡◌, ◌⊎◌, ℕ, ◌<◌, ◌≤◌, List, [], ◌∷◌, length, take, option_map}
 use Rattle.vt_outside.specs.Counts.{RoseBy}
 use Rattle.vt_outside.specs.Files.{with_bytes, with_appended, gained}
-use Rattle.vt_outside.specs.declared.place.Place.{Place}
 use Rattle.vt_camera.specs.Paths.{PathView}
 use Rattle.vt_journal.specs.JournalText.{head_text, pass_text}
-use Rattle.vt_pages.specs.Shape.{Shape}
-use Rattle.vt_plan.specs.declared.batches.Planned.{Planned}
 use Rattle.vt_machine.specs.Outcomes.{lost_count}
 use Rattle.vt_machine.specs.Requests.{lost_entries}
 use Rattle.vt_words.specs.Names.{picture_name}
-use Rattle.vt_walk.specs.Runs.{WalkPass, IsTurnOf, IsNextPass, IsFinished, IsWhole, plan_after, told_of, planned_in, lost_in}
+use Rattle.vt_walk.specs.Runs.{WalkPass, IsTurnOf, IsNextPass, IsFinished, IsWhole, plan_after, told_of}
 use Rattle.vt_walk.specs.Logs.{picture_line, walk_end_line}
 use Rattle.vt_walk.specs.Walks.{WalkGiven}
 use Rattle.vt_walk.specs.States.{WalkState}

@@ -17,6 +17,7 @@ pub mod Placing
 pub mod Outlooks
 pub mod Tallies
 pub mod Turns
+pub mod Courses
 pub mod Beginnings
 pub mod Opening
 pub mod Counts

@@ -1,5 +1,5 @@
 -- What stands of a walk at a time.
-use Rattle.std.specs.Prelude.{◌≡◌, ℕ, ◌++◌, List, [], sum, replicate, length, map, flat_map, Option, IsSome, is_some, option_map, unwrap_or}
+use Rattle.std.specs.Prelude.{◌≡◌, ℕ, ◌++◌, List, [], sum, replicate, map, flat_map, Option, IsSome, is_some, option_map, unwrap_or}
 use Rattle.vt_outside.specs.Counts.{added}
 use Rattle.vt_outside.specs.Files.{Files, Asked}
 use Rattle.vt_outside.specs.declared.place.Place.{Place}

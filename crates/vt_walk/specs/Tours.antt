@@ -1,10 +1,10 @@
 -- A walk as the parts of its code are given it.
-use Rattle.std.specs.Prelude.{◌≡◌, ℕ, ◌≤◌, Bool, Option, List, length}
+use Rattle.std.specs.Prelude.{◌≡◌, ℕ, ◌≤◌, Option, List, length}
 use Rattle.vt_definitions.specs.Limits.{most_pictures}
 use Rattle.vt_definitions.specs.Depths.{IsDepth}
 use Rattle.vt_pages.specs.Pages.{IsWithinLimits, pages_of, pinned_of}
-use Rattle.vt_journal.specs.Changes.{Table}
 use Rattle.vt_shown.specs.Scenes.{Scene, scene_of}
+use Rattle.vt_machine.specs.Drawings.{Drawing}
 use Rattle.vt_turns.specs.declared.tour.Tour.{Tour}
 use Rattle.vt_walk.specs.Fits.{WalkSetup}
 use Rattle.vt_walk.specs.Walks.{WalkGiven, given_by, walk_setup, names_of, AreSettings}
@@ -13,14 +13,13 @@ use Rattle.vt_walk.specs.Walks.{WalkGiven, given_by, walk_setup, names_of, AreSe
 abbrev pub tour_scene : Tour → Scene
 tour_scene t = scene_of t.geometry.now t.depth t.path.now
 
--- the walk of a tour, by a machine's functions and the store's bytes, where they are told
-abbrev pub given_of : Bool → (Scene → ℕ → ℕ → ℕ) → (Scene → List ℕ → Table → ℕ → ℕ → ℕ → List ℕ) → (Scene → List ℕ → ℕ → ℕ → ℕ → List ℕ)
-    → Tour → Option (List ℕ) → WalkGiven
-given_of dealt needs shows whole t told = given_by dealt needs shows whole (tour_scene t) t.settings t.mode told (names_of t.names)
+-- the walk of a tour, by how a machine draws and the store's bytes, where they are told
+abbrev pub given_of : Drawing → Tour → Option (List ℕ) → WalkGiven
+given_of draws t told = given_by draws (tour_scene t) t.settings t.mode told (names_of t.names)
 
 -- the numbers of the walk of a tour
-abbrev pub setup_of_tour : Bool → (Scene → ℕ → ℕ → ℕ) → Tour → WalkSetup
-setup_of_tour dealt needs t = walk_setup dealt needs (tour_scene t) t.settings t.mode
+abbrev pub setup_of_tour : Drawing → Tour → WalkSetup
+setup_of_tour draws t = walk_setup draws (tour_scene t) t.settings t.mode
 
 -- its numbers are within their limits
 pub record IsTour (t : Tour) : Type 0 where

@@ -1,14 +1,12 @@
 -- A walk between two passes, and after a pass.
-use Rattle.std.specs.Prelude.{◌≡◌, ℕ, ◌+◌, ◌<◌, ◌≤◌, Bool, true, IsTrue, ◌↔◌, List, [], ◌∷◌, length, slice_index, Option, IsSome}
+use Rattle.std.specs.Prelude.{◌≡◌, ℕ, ◌+◌, ◌<◌, ◌≤◌, IsTrue, ◌↔◌, List, [], ◌∷◌, length, Option, IsSome}
 use Rattle.vt_definitions.specs.Depths.{IsDepth}
 use Rattle.vt_pages.specs.Pages.{IsWithinLimits}
 use Rattle.vt_tiles.specs.StoreViews.{IsStoreIfTold}
 use Rattle.vt_camera.specs.Paths.{PathView}
-use Rattle.vt_journal.specs.Changes.{Table}
 use Rattle.vt_journal.specs.Passes.{pass_of as text_of}
 use Rattle.vt_evict.specs.Views.{RecencyView, pages_needed}
 use Rattle.vt_machine.specs.declared.crew.PassReport.{PassReport}
-use Rattle.vt_shown.specs.Scenes.{Scene}
 use Rattle.vt_workers.specs.Jobs.{Job}
 use Rattle.vt_machine.specs.Requests.{FileState, AllTell, AreReadFor}
 use Rattle.vt_machine.specs.Outcomes.{lost_count}
@@ -20,7 +18,7 @@ use Rattle.vt_turns.specs.declared.turns.Passed.{Passed}
 use Rattle.vt_turns.specs.declared.turns.Drawn.{Drawn}
 use Rattle.vt_walk.specs.Runs.{WalkPass, IsWalkSetup, IsRun, IsTurnOf, IsNextPass, IsWhole, journal_after, recency_after, plan_after, told_of}
 use Rattle.vt_walk.specs.Logs.{passes_of, reads_of}
-use Rattle.vt_walk.specs.Walks.{WalkGiven}
+use Rattle.vt_walk.specs.Walks.{WalkGiven, machine_of}
 use Rattle.vt_walk.specs.States.{WalkState}
 use Rattle.vt_walk.specs.Standing.{Stands}
 use Rattle.vt_walk.specs.Leaving.{Left}
@@ -31,7 +29,7 @@ use Rattle.vt_walk.specs.Tallies.{tally_of}
 pub record IsGiven (g : WalkGiven) : Type 0 where
   pub setup : IsWalkSetup g.setup
   pub limits : IsWithinLimits g.scene.shape
-  pub store : IsStoreIfTold g.machine.bytes g.scene.shape g.scene.depth
+  pub store : IsStoreIfTold g.told g.scene.shape g.scene.depth
   pub depth : IsDepth g.scene.depth
 
 -- what a walk began with: the store's bytes, where they are told, the store's file, and what stood
@@ -49,7 +47,7 @@ pub record PassStart : Type 0 where
 -- a machine and the recency of its pages are as a run has left them
 pub record IsAtRun (g : WalkGiven) (run : List WalkPass) (m : MachineState) (v : RecencyView) : Type 0 where
   pub is_run : IsRun g.setup run
-  pub setup : m.setup ≡ g.machine
+  pub setup : m.setup ≡ machine_of g
   pub journal : m.journal ≡ journal_after g.setup run
   pub recency : v ≡ recency_after g.setup run
 
@@ -87,26 +85,25 @@ abbrev pub job_for : WalkGiven → WalkPass → Job
 job_for g pass = record { scene = g.scene; picture = pass.picture; batch = pass.batch }
 
 -- a machine has run a pass that comes after a run
-pub record HasRun (dealt : Bool) (needs : Scene → ℕ → ℕ → ℕ) (shows : Scene → List ℕ → Table → ℕ → ℕ → ℕ → List ℕ)
-    (drawn : PathView → ℕ → ℕ → ℕ → List ℕ → Type 0) (g : WalkGiven) (run : List WalkPass) (pass : WalkPass) (m : MachineState) : Type 0 where
+pub record HasRun (drawn : PathView → ℕ → ℕ → ℕ → List ℕ → Type 0) (g : WalkGiven) (run : List WalkPass) (pass : WalkPass)
+    (m : MachineState) : Type 0 where
   pub before : MachineState
   pub report : PassReport
-  pub setup : before.setup ≡ g.machine
+  pub setup : before.setup ≡ machine_of g
   pub journal : before.journal ≡ journal_after g.setup run
-  pub ran : Ran dealt needs shows drawn (job_for g pass) report before m
+  pub ran : Ran g.draws drawn (job_for g pass) report before m
   pub rows_are : report.rows.elements ≡ pass.rows
 
 -- a machine has drawn the next pass of a run, and streamed its batch
-pub record HasDrawn (dealt : Bool) (needs : Scene → ℕ → ℕ → ℕ) (shows : Scene → List ℕ → Table → ℕ → ℕ → ℕ → List ℕ)
-    (drawn : PathView → ℕ → ℕ → ℕ → List ℕ → Type 0) (g : WalkGiven) (run : List WalkPass) (t : Turn) (before after : MachineState) (v : RecencyView)
-    (d : Drawn) : Type 0 where
+pub record HasDrawn (drawn : PathView → ℕ → ℕ → ℕ → List ℕ → Type 0) (g : WalkGiven) (run : List WalkPass) (t : Turn)
+    (before after : MachineState) (v : RecencyView) (d : Drawn) : Type 0 where
   pub pass : WalkPass
   pub next : IsNextPass g.setup run pass
   pub picture : pass.picture ≡ t.picture
   pub batch : pass.batch ≡ t.batch.elements
   pub at_run : IsAtRun g (pass ∷ run) after v
   pub read : AreReadFor g.scene.shape g.scene.depth pass.batch pass.losses before.files after.files
-  pub has_run : HasRun dealt needs shows drawn g run pass after
+  pub has_run : HasRun drawn g run pass after
   pub text : text_of d.text ≡ told_of g.setup run pass
   pub passed : IsPassed g run pass d.passed
 
@@ -123,9 +120,8 @@ pub record StandsAt (drawn : PathView → ℕ → ℕ → ℕ → List ℕ → T
   pub tell : IsSome now.asked → AllTell m.files
 
 -- the beginning of a run stands whole, and its newest pass has just been made
-pub record StandsAfter (dealt : Bool) (needs : Scene → ℕ → ℕ → ℕ) (shows : Scene → List ℕ → Table → ℕ → ℕ → ℕ → List ℕ)
-    (drawn : PathView → ℕ → ℕ → ℕ → List ℕ → Type 0) (g : WalkGiven) (number : ℕ) (p : Passed) (first now : WalkState) (m : MachineState)
-    (v : RecencyView) : Type 0 where
+pub record StandsAfter (drawn : PathView → ℕ → ℕ → ℕ → List ℕ → Type 0) (g : WalkGiven) (number : ℕ) (p : Passed)
+    (first now : WalkState) (m : MachineState) (v : RecencyView) : Type 0 where
   pub run : List WalkPass
   pub pass : WalkPass
   pub pictures : List (List ℕ)
@@ -134,7 +130,7 @@ pub record StandsAfter (dealt : Bool) (needs : Scene → ℕ → ℕ → ℕ) (s
   pub stands : Stands drawn g (pass ∷ run) pictures first now
   pub at_run : IsAtRun g (pass ∷ run) m v
   pub passed : IsPassed g run pass p
-  pub has_run : HasRun dealt needs shows drawn g run pass m
+  pub has_run : HasRun drawn g run pass m
   pub number_is : number ≡ length run + 1
   pub tell : IsSome now.asked → AllTell m.files
 

@@ -1,13 +1,15 @@
 -- What a walk is given.
-use Rattle.std.specs.Prelude.{◌≡◌, ℕ, ◌≤◌, Bool, true, false, Option, List, length}
-use Rattle.vt_definitions.specs.Depths.{IsDepth}
+use Rattle.std.specs.Prelude.{ℕ, ◌≤◌, Bool, true, false, Option, List, length}
+use Rattle.vt_outside.specs.declared.outside.File.{Ghosts as FileMeanings}
 use Rattle.vt_pages.specs.Shape.{Shape}
-use Rattle.vt_pages.specs.Pages.{IsWithinLimits, pinned_of}
+use Rattle.vt_pages.specs.Pages.{pinned_of}
 use Rattle.vt_camera.specs.Paths.{PathView}
-use Rattle.vt_journal.specs.Changes.{Table}
+use Rattle.vt_tiles.specs.StoreViews.{StoreView}
 use Rattle.vt_shown.specs.Scenes.{Scene, scene_of}
 use Rattle.vt_machine.specs.Crews.{IsCrew, AreFrames}
+use Rattle.vt_machine.specs.Drawings.{Drawing}
 use Rattle.vt_machine.specs.Machines.{Setup, setup_of}
+use Rattle.vt_machine.specs.declared.crew.Crew.{Crew}
 use Rattle.vt_turns.specs.declared.settings.Settings.{Settings}
 use Rattle.vt_turns.specs.declared.settings.Names.{Names}
 use Rattle.vt_turns.specs.declared.mode.Mode.{Mode}
@@ -20,15 +22,19 @@ pub record WalkNames : Type 0 where
   pub prefix : List ℕ
   pub journal : List ℕ
 
--- a walk: its numbers, what its pictures are of, its crew, the bytes of its store, where they are told, its names, and the bytes of
--- each pixel of its pictures of a store's bytes, under a page table and without one
+-- a walk: its numbers, what its pictures are of, its crew, the bytes of its store, where they are told, its names, and how its machine
+-- draws
 pub record WalkGiven : Type 0 where
   pub setup : WalkSetup
   pub scene : Scene
-  pub machine : Setup
+  pub crew : Crew
+  pub told : Option (List ℕ)
   pub names : WalkNames
-  pub shows : List ℕ → Table → ℕ → ℕ → ℕ → List ℕ
-  pub whole : List ℕ → ℕ → ℕ → ℕ → List ℕ
+  pub draws : Drawing
+
+-- what the machine of a walk is made for
+abbrev pub machine_of : WalkGiven → Setup
+machine_of g = setup_of g.scene.shape g.scene.depth g.scene.path g.setup.frames g.crew g.told
 
 -- the names as texts
 abbrev pub names_of : Names → WalkNames
@@ -40,31 +46,35 @@ mode_of true = Settled
 mode_of false = Live
 
 -- the numbers of a walk: the pages of the last so many levels are pinned (Mayer 2010)
-abbrev pub walk_setup : Bool → (Scene → ℕ → ℕ → ℕ) → Scene → Settings → Mode → WalkSetup
-walk_setup dealt needs scene settings mode = record {
+abbrev pub walk_setup : Drawing → Scene → Settings → Mode → WalkSetup
+walk_setup draws scene settings mode = record {
   mode = mode;
   shape = scene.shape;
   frames = settings.frames;
   pinned = pinned_of scene.shape settings.pinned;
   most = settings.crew.batch;
   samplers = settings.crew.samplers;
-  dealt = dealt;
+  dealt = draws.dealt;
   height = scene.path.height;
   pictures = length scene.path.cameras;
-  needs = needs scene;
+  needs = draws.needs scene;
 }
 
--- a walk by a machine's functions, a scene, settings, a mode, the store's bytes, where they are told, and names
-abbrev pub given_by : Bool → (Scene → ℕ → ℕ → ℕ) → (Scene → List ℕ → Table → ℕ → ℕ → ℕ → List ℕ) → (Scene → List ℕ → ℕ → ℕ → ℕ → List ℕ)
-    → Scene → Settings → Mode → Option (List ℕ) → WalkNames → WalkGiven
-given_by dealt needs shows whole scene settings mode told names = record {
-  setup = walk_setup dealt needs scene settings mode;
+-- a walk by how a machine draws, a scene, settings, a mode, the store's bytes, where they are told, and names
+abbrev pub given_by : Drawing → Scene → Settings → Mode → Option (List ℕ) → WalkNames → WalkGiven
+given_by draws scene settings mode told names = record {
+  setup = walk_setup draws scene settings mode;
   scene = scene;
-  machine = setup_of scene.shape scene.depth scene.path settings.frames settings.crew told;
+  crew = settings.crew;
+  told = told;
   names = names;
-  shows = shows scene;
-  whole = whole scene;
+  draws = draws;
 }
+
+-- the walk that a call is to make, by how a machine draws: over a store, of a path, under names, with settings, and settled or live
+abbrev pub given_to : {F : Type 0} → Drawing → FileMeanings F → StoreView F → PathView → Names → Settings → Bool → WalkGiven
+given_to draws f store path names settings settled =
+    given_by draws (scene_of store.shape store.depth path) settings (mode_of settled) (f.bytes store.file) (names_of names)
 
 -- the settings are within their limits
 pub record AreSettings (s : Shape) (settings : Settings) : Type 0 where

@@ -26,9 +26,9 @@ pub record AreDrawn (drawn : PathView → ℕ → ℕ → ℕ → List ℕ → T
 pub record IsWritten (drawn : PathView → ℕ → ℕ → ℕ → List ℕ → Type 0) (g : WalkGiven) (run : List WalkPass) (picture : ℕ) (bytes : List ℕ) : Type 0 where
   pub samples : List ℕ
   pub encoded : bytes ≡ picture_bytes g.scene.depth g.scene.path.width g.scene.path.height samples
-  pub replay : IfSome g.machine.bytes (λ b. IsRunPicture g.setup run g.scene.depth g.scene.path.width (g.shows b) picture samples)
+  pub replay : IfSome g.told (λ b. IsRunPicture g.setup run g.scene.depth g.scene.path.width (g.draws.shows g.scene b) picture samples)
   pub plain : g.setup.mode ≡ Settled
-      → IfSome g.machine.bytes (λ b. IsPictureOf g.scene.depth g.scene.path.width g.scene.path.height (λ x y. g.whole b picture x y) samples)
+      → IfSome g.told (λ b. IsPictureOf g.scene.depth g.scene.path.width g.scene.path.height (λ x y. g.draws.whole g.scene b picture x y) samples)
   pub from_draws : AreDrawn drawn g.scene.path picture (last_rows run picture) samples
 
 -- the bytes of the first pictures of a run, the newest first

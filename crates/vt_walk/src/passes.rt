@@ -19,9 +19,9 @@ use vt_draw::Shot;
 use vt_evict::{Batch, Losses, Recency};
 use vt_feedback::Counts;
 use vt_journal::{PassText, add_pass};
+use vt_machine::{PassMachine, PassReport};
 use vt_outside::{Folder, Gate, NoMemory, OutsideError};
 use vt_pages::Geometry;
-use vt_machine::{PassMachine, PassReport};
 use vt_turns::Outlook;
 
 /// Prepares a pass for a batch and runs it.
@@ -35,7 +35,7 @@ pub fn run_pass<Rt: Threads + Wait + Sync, M: PassMachine, G: Gate + Sync>(
     requires idle { M.is_idle machine.old }
     requires may { MayPrepare (M.state machine.old) batch.now.elements }
     requires job { IsJobFor (M.state machine.old).setup (job_of shot.now batch.now.elements) }
-    ensures { Ends M.DEALT M.needs M.shows (M.drawn machine.new) (M.is_idle machine.new)
+    ensures { Ends M.drawing (M.drawn machine.new) (M.is_idle machine.new)
         (job_of shot.now batch.now.elements) result (M.state machine.old) (M.state machine.new) }
 {
     machine.prepare(rt, batch)?;

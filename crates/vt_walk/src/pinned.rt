@@ -15,9 +15,9 @@ ghost use Rattle.vt_walk.specs.Placing.{IsStoreOf, with_pinned};
 use std::alloc::Global;
 use std::sync::Wait;
 use std::thread::Threads;
+use vt_machine::PassMachine;
 use vt_outside::{File, OutsideError};
 use vt_pages::Geometry;
-use vt_machine::PassMachine;
 use vt_tiles::{Store, tile_length};
 use vt_turns::pinned_page;
 

@@ -10,6 +10,7 @@ ghost use Rattle.vt_walk.specs.Runs.{WalkPass};
 ghost use Rattle.vt_walk.specs.Standing.{Finished};
 ghost use Rattle.vt_walk.specs.Written.{IsDrawnBySome};
 ghost use Rattle.vt_walk.specs.Turns.{WalkStart, PassStart, MayDraw, HasDrawn, StandsFirst, StandsAt, StandsAfter, StandsLast, LeftBy};
+ghost use Rattle.vt_walk.specs.Courses.{state_by};
 ghost use Rattle.vt_walk.specs.Counts.{HasCounts};
 ghost use Rattle.vt_turns.specs.Judging.{MayGoOn};
 
@@ -20,8 +21,8 @@ use std::sync::Wait;
 use std::thread::Threads;
 use vt_draw::Shot;
 use vt_evict::{Batch, Recency};
-use vt_outside::{Folder, Gate, NoMemory, Sink};
 use vt_machine::PassMachine;
+use vt_outside::{Folder, Gate, NoMemory, Sink};
 use vt_turns::{
     Drawn, Outlook, Passed, Tally, Tour, Turn, WalkError, drawn_of, is_finished, judge,
 };
@@ -50,21 +51,17 @@ pub fn walk_on<Rt: Threads + Wait + Sync, M: PassMachine, D: Folder, O: Sink, G:
     requires tour { IsTour tour.now }
     requires enough_frames { tour.now.pinned ≤ tour.now.settings.frames }
     requires idle { M.is_idle machine.old }
-    requires stands { (b : WalkStart) × StandsFirst (IsDrawnBySome M.drawn)
-        (given_of M.DEALT M.needs M.shows M.whole tour.now b.told) b.first
-        (walk_state D.Folder tour.now.names.store.now folder.old (b.kept ∷ (M.state machine.old).files) (O.held out.old)
-        (O.faults out.old)) (M.state machine.old) recency.old }
-    ensures walked { (b : WalkStart) → StandsFirst (IsDrawnBySome M.drawn)
-        (given_of M.DEALT M.needs M.shows M.whole tour.now b.told) b.first
-        (walk_state D.Folder tour.now.names.store.now folder.old (b.kept ∷ (M.state machine.old).files) (O.held out.old)
-        (O.faults out.old)) (M.state machine.old) recency.old
-        → MatchResult result (λ _. Finished (IsDrawnBySome M.drawn) (given_of M.DEALT M.needs M.shows M.whole tour.now b.told)
-        b.first (walk_state D.Folder tour.now.names.store.now folder.new (b.kept ∷ (M.state machine.new).files)
-        (O.held out.new) (O.faults out.new)))
-        (LeftBy (IsDrawnBySome M.drawn) (given_of M.DEALT M.needs M.shows M.whole tour.now b.told) b.first
-        (walk_state D.Folder tour.now.names.store.now folder.new (b.kept ∷ (M.state machine.new).files) (O.held out.new)
-        (O.faults out.new))) }
-    ensures counted { IfOk result (HasCounts (setup_of_tour M.DEALT M.needs tour.now)) }
+    requires stands { (b : WalkStart) × StandsFirst (IsDrawnBySome M.drawn) (given_of M.drawing tour.now b.told) b.first
+        (state_by D.Folder O.Sink tour.now.names.store.now folder.old out.old (b.kept ∷ (M.state machine.old).files))
+        (M.state machine.old) recency.old }
+    ensures walked { (b : WalkStart) → let drawn = IsDrawnBySome M.drawn in
+        let given = given_of M.drawing tour.now b.told in
+        let name = tour.now.names.store.now in
+        let before = state_by D.Folder O.Sink name folder.old out.old (b.kept ∷ (M.state machine.old).files) in
+        let after = state_by D.Folder O.Sink name folder.new out.new (b.kept ∷ (M.state machine.new).files) in
+        StandsFirst drawn given b.first before (M.state machine.old) recency.old
+        → MatchResult result (λ _. Finished drawn given b.first after) (LeftBy drawn given b.first after) }
+    ensures counted { IfOk result (HasCounts (setup_of_tour M.drawing tour.now)) }
     ensures same { AreSameFiles (M.state machine.old).files (M.state machine.new).files }
     ensures asked { D.asked folder.new ≡ D.asked folder.old }
     ensures faults { D.faults folder.old ≤ D.faults folder.new }
@@ -90,22 +87,17 @@ fn take_turns<Rt: Threads + Wait + Sync, M: PassMachine, D: Folder, O: Sink, G: 
     requires tour { IsTour tour.now }
     requires enough_frames { tour.now.pinned ≤ tour.now.settings.frames }
     requires idle { M.is_idle machine.old }
-    requires stands { (b : WalkStart) × StandsFirst (IsDrawnBySome M.drawn)
-        (given_of M.DEALT M.needs M.shows M.whole tour.now b.told) b.first
-        (walk_state D.Folder tour.now.names.store.now folder.old (b.kept ∷ (M.state machine.old).files) (O.held out.old)
-        (O.faults out.old)) (M.state machine.old) recency.old }
-    ensures walked { (b : WalkStart) → StandsFirst (IsDrawnBySome M.drawn)
-        (given_of M.DEALT M.needs M.shows M.whole tour.now b.told) b.first
-        (walk_state D.Folder tour.now.names.store.now folder.old (b.kept ∷ (M.state machine.old).files) (O.held out.old)
-        (O.faults out.old)) (M.state machine.old) recency.old
-        → MatchResult result (λ walked. StandsLast (IsDrawnBySome M.drawn)
-        (given_of M.DEALT M.needs M.shows M.whole tour.now b.told) walked.reads b.first
-        (walk_state D.Folder tour.now.names.store.now folder.new (b.kept ∷ (M.state machine.new).files) (O.held out.new)
-        (O.faults out.new)))
-        (LeftBy (IsDrawnBySome M.drawn) (given_of M.DEALT M.needs M.shows M.whole tour.now b.told) b.first
-        (walk_state D.Folder tour.now.names.store.now folder.new (b.kept ∷ (M.state machine.new).files) (O.held out.new)
-        (O.faults out.new))) }
-    ensures counted { IfOk result (HasCounts (setup_of_tour M.DEALT M.needs tour.now)) }
+    requires stands { (b : WalkStart) × StandsFirst (IsDrawnBySome M.drawn) (given_of M.drawing tour.now b.told) b.first
+        (state_by D.Folder O.Sink tour.now.names.store.now folder.old out.old (b.kept ∷ (M.state machine.old).files))
+        (M.state machine.old) recency.old }
+    ensures walked { (b : WalkStart) → let drawn = IsDrawnBySome M.drawn in
+        let given = given_of M.drawing tour.now b.told in
+        let name = tour.now.names.store.now in
+        let before = state_by D.Folder O.Sink name folder.old out.old (b.kept ∷ (M.state machine.old).files) in
+        let after = state_by D.Folder O.Sink name folder.new out.new (b.kept ∷ (M.state machine.new).files) in
+        StandsFirst drawn given b.first before (M.state machine.old) recency.old
+        → MatchResult result (λ walked. StandsLast drawn given walked.reads b.first after) (LeftBy drawn given b.first after) }
+    ensures counted { IfOk result (HasCounts (setup_of_tour M.drawing tour.now)) }
     ensures same { AreSameFiles (M.state machine.old).files (M.state machine.new).files }
     ensures asked { D.asked folder.new ≡ D.asked folder.old }
     ensures faults { D.faults folder.old ≤ D.faults folder.new }
@@ -150,21 +142,17 @@ fn take_turn<Rt: Threads + Wait + Sync, M: PassMachine, D: Folder, O: Sink, G: G
     requires enough_frames { tour.now.pinned ≤ tour.now.settings.frames }
     requires idle { M.is_idle machine.old }
     requires more { turn.picture < length tour.now.path.now.cameras }
-    requires stands { (b : WalkStart) × StandsAt (IsDrawnBySome M.drawn)
-        (given_of M.DEALT M.needs M.shows M.whole tour.now b.told) number turn b.first
-        (walk_state D.Folder tour.now.names.store.now folder.old (b.kept ∷ (M.state machine.old).files) (O.held out.old)
-        (O.faults out.old)) (M.state machine.old) recency.old }
-    ensures taken { (b : WalkStart) → StandsAt (IsDrawnBySome M.drawn)
-        (given_of M.DEALT M.needs M.shows M.whole tour.now b.told) number turn b.first
-        (walk_state D.Folder tour.now.names.store.now folder.old (b.kept ∷ (M.state machine.old).files) (O.held out.old)
-        (O.faults out.old)) (M.state machine.old) recency.old
-        → MatchResult result (λ next. StandsAt (IsDrawnBySome M.drawn)
-        (given_of M.DEALT M.needs M.shows M.whole tour.now b.told) (number + 1) next b.first
-        (walk_state D.Folder tour.now.names.store.now folder.new (b.kept ∷ (M.state machine.new).files) (O.held out.new)
-        (O.faults out.new)) (M.state machine.new) recency.new)
-        (LeftBy (IsDrawnBySome M.drawn) (given_of M.DEALT M.needs M.shows M.whole tour.now b.told) b.first
-        (walk_state D.Folder tour.now.names.store.now folder.new (b.kept ∷ (M.state machine.new).files) (O.held out.new)
-        (O.faults out.new))) }
+    requires stands { (b : WalkStart) × StandsAt (IsDrawnBySome M.drawn) (given_of M.drawing tour.now b.told) number turn b.first
+        (state_by D.Folder O.Sink tour.now.names.store.now folder.old out.old (b.kept ∷ (M.state machine.old).files))
+        (M.state machine.old) recency.old }
+    ensures taken { (b : WalkStart) → let drawn = IsDrawnBySome M.drawn in
+        let given = given_of M.drawing tour.now b.told in
+        let name = tour.now.names.store.now in
+        let before = state_by D.Folder O.Sink name folder.old out.old (b.kept ∷ (M.state machine.old).files) in
+        let after = state_by D.Folder O.Sink name folder.new out.new (b.kept ∷ (M.state machine.new).files) in
+        StandsAt drawn given number turn b.first before (M.state machine.old) recency.old
+        → MatchResult result (λ next. StandsAt drawn given (number + 1) next b.first after (M.state machine.new) recency.new)
+        (LeftBy drawn given b.first after) }
     ensures idle { OnOk result (M.is_idle machine.new) }
     ensures same { AreSameFiles (M.state machine.old).files (M.state machine.new).files }
     ensures asked { D.asked folder.new ≡ D.asked folder.old }
@@ -197,21 +185,18 @@ fn make_pass<Rt: Threads + Wait + Sync, M: PassMachine, D: Folder, G: Gate + Syn
     requires enough_frames { tour.now.pinned ≤ tour.now.settings.frames }
     requires idle { M.is_idle machine.old }
     requires more { turn.picture < length tour.now.path.now.cameras }
-    requires stands { (b : PassStart) × StandsAt (IsDrawnBySome M.drawn)
-        (given_of M.DEALT M.needs M.shows M.whole tour.now b.start.told) number turn b.start.first
-        (walk_state D.Folder tour.now.names.store.now folder.old (b.start.kept ∷ (M.state machine.old).files)
-        b.held b.out_faults) (M.state machine.old) recency.old }
-    ensures made { (b : PassStart) → StandsAt (IsDrawnBySome M.drawn)
-        (given_of M.DEALT M.needs M.shows M.whole tour.now b.start.told) number turn b.start.first
-        (walk_state D.Folder tour.now.names.store.now folder.old (b.start.kept ∷ (M.state machine.old).files)
-        b.held b.out_faults) (M.state machine.old) recency.old
-        → MatchResult result (λ passed. StandsAfter M.DEALT M.needs M.shows (IsDrawnBySome M.drawn)
-        (given_of M.DEALT M.needs M.shows M.whole tour.now b.start.told) number passed b.start.first
-        (walk_state D.Folder tour.now.names.store.now folder.new (b.start.kept ∷ (M.state machine.new).files)
-        b.held b.out_faults) (M.state machine.new) recency.new)
-        (LeftBy (IsDrawnBySome M.drawn) (given_of M.DEALT M.needs M.shows M.whole tour.now b.start.told) b.start.first
-        (walk_state D.Folder tour.now.names.store.now folder.new (b.start.kept ∷ (M.state machine.new).files)
-        b.held b.out_faults)) }
+    requires stands { (b : PassStart) × StandsAt (IsDrawnBySome M.drawn) (given_of M.drawing tour.now b.start.told) number turn
+        b.start.first
+        (walk_state D.Folder tour.now.names.store.now folder.old (b.start.kept ∷ (M.state machine.old).files) b.held
+        b.out_faults) (M.state machine.old) recency.old }
+    ensures made { (b : PassStart) → let drawn = IsDrawnBySome M.drawn in
+        let given = given_of M.drawing tour.now b.start.told in
+        let name = tour.now.names.store.now in
+        let before = walk_state D.Folder name folder.old (b.start.kept ∷ (M.state machine.old).files) b.held b.out_faults in
+        let after = walk_state D.Folder name folder.new (b.start.kept ∷ (M.state machine.new).files) b.held b.out_faults in
+        StandsAt drawn given number turn b.start.first before (M.state machine.old) recency.old
+        → MatchResult result (λ passed. StandsAfter drawn given number passed b.start.first after (M.state machine.new)
+        recency.new) (LeftBy drawn given b.start.first after) }
     ensures idle { OnOk result (M.is_idle machine.new) }
     ensures same { AreSameFiles (M.state machine.old).files (M.state machine.new).files }
     ensures asked { D.asked folder.new ≡ D.asked folder.old }
@@ -243,12 +228,11 @@ fn draw_pass<Rt: Threads + Wait + Sync, M: PassMachine, G: Gate + Sync>(
     requires enough_frames { tour.now.pinned ≤ tour.now.settings.frames }
     requires idle { M.is_idle machine.old }
     requires may { (told : Option (List ℕ)) × (run : List WalkPass) × MayDraw
-        (given_of M.DEALT M.needs M.shows M.whole tour.now told) run number turn (M.state machine.old) recency.old }
+        (given_of M.drawing tour.now told) run number turn (M.state machine.old) recency.old }
     ensures drawn { (told : Option (List ℕ)) (run : List WalkPass) → MayDraw
-        (given_of M.DEALT M.needs M.shows M.whole tour.now told) run number turn (M.state machine.old) recency.old
-        → IfOk result (HasDrawn M.DEALT M.needs M.shows (IsDrawnBySome M.drawn)
-        (given_of M.DEALT M.needs M.shows M.whole tour.now told) run turn (M.state machine.old) (M.state machine.new)
-        recency.new) }
+        (given_of M.drawing tour.now told) run number turn (M.state machine.old) recency.old
+        → IfOk result (HasDrawn (IsDrawnBySome M.drawn) (given_of M.drawing tour.now told) run turn (M.state machine.old)
+        (M.state machine.new) recency.new) }
     ensures pages { IfOk result (λ d. All (IsEventInChain tour.now.geometry.now) d.text.events.elements) }
     ensures room { IfOk result (λ d. d.text.start + length d.text.events.elements ≤ most_versions) }
     ensures refused { OnErr result (ArePartlyReadFor tour.now.geometry.now tour.now.depth turn.batch.elements
@@ -292,21 +276,17 @@ fn end_turn<M: PassMachine, D: Folder, O: Sink>(
     requires tour { IsTour tour.now }
     requires idle { M.is_idle machine.now }
     requires goes_on { MayGoOn tour.now passed }
-    requires stands { (b : WalkStart) × StandsAfter M.DEALT M.needs M.shows (IsDrawnBySome M.drawn)
-        (given_of M.DEALT M.needs M.shows M.whole tour.now b.told) number passed b.first
-        (walk_state D.Folder tour.now.names.store.now folder.old (b.kept ∷ (M.state machine.now).files) (O.held out.old)
-        (O.faults out.old)) (M.state machine.now) recency.now }
-    ensures ended { (b : WalkStart) → StandsAfter M.DEALT M.needs M.shows (IsDrawnBySome M.drawn)
-        (given_of M.DEALT M.needs M.shows M.whole tour.now b.told) number passed b.first
-        (walk_state D.Folder tour.now.names.store.now folder.old (b.kept ∷ (M.state machine.now).files) (O.held out.old)
-        (O.faults out.old)) (M.state machine.now) recency.now
-        → MatchResult result (λ next. StandsAt (IsDrawnBySome M.drawn)
-        (given_of M.DEALT M.needs M.shows M.whole tour.now b.told) (number + 1) next b.first
-        (walk_state D.Folder tour.now.names.store.now folder.new (b.kept ∷ (M.state machine.now).files) (O.held out.new)
-        (O.faults out.new)) (M.state machine.now) recency.now)
-        (LeftBy (IsDrawnBySome M.drawn) (given_of M.DEALT M.needs M.shows M.whole tour.now b.told) b.first
-        (walk_state D.Folder tour.now.names.store.now folder.new (b.kept ∷ (M.state machine.now).files) (O.held out.new)
-        (O.faults out.new))) }
+    requires stands { (b : WalkStart) × StandsAfter (IsDrawnBySome M.drawn) (given_of M.drawing tour.now b.told) number passed b.first
+        (state_by D.Folder O.Sink tour.now.names.store.now folder.old out.old (b.kept ∷ (M.state machine.now).files))
+        (M.state machine.now) recency.now }
+    ensures ended { (b : WalkStart) → let drawn = IsDrawnBySome M.drawn in
+        let given = given_of M.drawing tour.now b.told in
+        let name = tour.now.names.store.now in
+        let before = state_by D.Folder O.Sink name folder.old out.old (b.kept ∷ (M.state machine.now).files) in
+        let after = state_by D.Folder O.Sink name folder.new out.new (b.kept ∷ (M.state machine.now).files) in
+        StandsAfter drawn given number passed b.first before (M.state machine.now) recency.now
+        → MatchResult result (λ next. StandsAt drawn given (number + 1) next b.first after (M.state machine.now) recency.now)
+        (LeftBy drawn given b.first after) }
     ensures asked { D.asked folder.new ≡ D.asked folder.old }
     ensures faults { D.faults folder.old ≤ D.faults folder.new }
     ensures out_faults { O.faults out.old ≤ O.faults out.new }

@@ -1,15 +1,11 @@
 //! Walks that answer nothing but that they are done.
 
-ghost use Rattle.std.specs.Prelude.{◌≡◌, ◌<◌, ◌≤◌, [], ◌∷◌, is_some, MatchResult};
+ghost use Rattle.std.specs.Prelude.{◌≡◌, ◌<◌, ◌≤◌, [], is_some};
 ghost use Rattle.vt_outside.specs.Files.{bytes_at};
 ghost use Rattle.vt_pages.specs.Pages.{pinned_of};
-ghost use Rattle.vt_shown.specs.Scenes.{scene_of};
-ghost use Rattle.vt_machine.specs.Machines.{file_state};
-ghost use Rattle.vt_walk.specs.Walks.{given_by, mode_of, names_of, AreSettings};
-ghost use Rattle.vt_walk.specs.States.{walk_state, AreOpen};
-ghost use Rattle.vt_walk.specs.Standing.{Finished};
-ghost use Rattle.vt_walk.specs.Written.{IsDrawnBySome};
-ghost use Rattle.vt_walk.specs.Turns.{LeftBy};
+ghost use Rattle.vt_walk.specs.Walks.{given_to, AreSettings};
+ghost use Rattle.vt_walk.specs.States.{AreOpen};
+ghost use Rattle.vt_walk.specs.Courses.{walk_course, file_of, Walks};
 ghost use Rattle.vt_walk.specs.Closing.{AreOtherNamesAsBefore};
 
 use crate::walk::walk_counted;
@@ -17,8 +13,8 @@ use std::alloc::Global;
 use std::sync::Wait;
 use std::thread::Threads;
 use vt_camera::Path;
-use vt_outside::{Folder, Gate, Sink};
 use vt_machine::PassMachine;
+use vt_outside::{Folder, Gate, Sink};
 use vt_tiles::Store;
 use vt_turns::{Names, Settings, WalkError};
 
@@ -55,17 +51,12 @@ pub fn walk_with<
     requires settings { AreSettings store.shape settings.now }
     requires bytes { D.File.bytes store.file ≡ bytes_at (D.files folder.old) names.now.store.now }
     requires tells { is_some (D.File.bytes store.file) ≡ is_some (D.files folder.old) }
-    requires opened { AreOpen 1 names.now.store.now (D.asked folder.old) (file_state D.File.File store.file ∷ []) }
-    ensures walked { let drawn = IsDrawnBySome M.drawn in
-        let given = given_by M.DEALT M.needs M.shows M.whole (scene_of store.shape store.depth path.now) settings.now
-        (mode_of settled)
-        (D.File.bytes store.file) (names_of names.now) in
-        let first = walk_state D.Folder names.now.store.now folder.old (file_state D.File.File store.file ∷ [])
-        (O.held out.old) (O.faults out.old) in
-        let last = walk_state D.Folder names.now.store.now folder.new [] (O.held out.new) (O.faults out.new) in
-        MatchResult result (λ _. Finished drawn given first last) (LeftBy drawn given first last) }
-    ensures few { settings.now.frames < pinned_of store.shape settings.now.pinned
-        → result ≡ Err (WalkError.TooFewFrames settings.now.frames (pinned_of store.shape settings.now.pinned)) }
+    requires opened { AreOpen 1 names.now.store.now (D.asked folder.old) (file_of D.File.File store) }
+    ensures walked { Walks M.drawn (given_to M.drawing D.File.File store path.now names.now settings.now settled)
+        (walk_course D.Folder O.Sink names.now.store.now (file_of D.File.File store) [] folder.old folder.new out.old
+        out.new) result }
+    ensures few { let needed = pinned_of store.shape settings.now.pinned in settings.now.frames < needed
+        → result ≡ Err (WalkError.TooFewFrames settings.now.frames needed) }
     ensures others { AreOtherNamesAsBefore names.now.store.now (D.asked folder.old) (D.asked folder.new) }
     ensures faults { D.faults folder.old ≤ D.faults folder.new }
     ensures out_faults { O.faults out.old ≤ O.faults out.new }

@@ -6,12 +6,12 @@ ghost use Rattle.vt_pages.specs.Pages.{pinned_of};
 ghost use Rattle.vt_tiles.specs.StoreViews.{IsStoreIfTold};
 ghost use Rattle.vt_shown.specs.Scenes.{scene_of};
 ghost use Rattle.vt_machine.specs.Machines.{file_state};
-ghost use Rattle.vt_walk.specs.Walks.{given_by, walk_setup, mode_of, names_of, AreSettings};
+ghost use Rattle.vt_walk.specs.Walks.{given_to, walk_setup, mode_of, AreSettings};
 ghost use Rattle.vt_walk.specs.Counts.{HasCounts};
 ghost use Rattle.vt_walk.specs.States.{walk_state, places_of, AreOpen};
-ghost use Rattle.vt_walk.specs.Standing.{Finished};
 ghost use Rattle.vt_walk.specs.Written.{IsDrawnBySome};
 ghost use Rattle.vt_walk.specs.Turns.{StandsFirst, LeftBy};
+ghost use Rattle.vt_walk.specs.Courses.{walk_course, file_of, Walks};
 ghost use Rattle.vt_walk.specs.Tours.{given_of, setup_of_tour, IsTour};
 ghost use Rattle.vt_walk.specs.Beginnings.{IsBegun, AreTold, IsSameFile};
 ghost use Rattle.vt_machine.specs.Requests.{AreSameFiles, counts_of};
@@ -26,8 +26,8 @@ use std::sync::Wait;
 use std::thread::Threads;
 use vt_camera::Path;
 use vt_evict::Recency;
-use vt_outside::{Folder, Gate, Sink};
 use vt_machine::PassMachine;
+use vt_outside::{Folder, Gate, Sink};
 use vt_tiles::{Store, Stores};
 use vt_turns::{Mode, Names, Settings, Tour, WalkError, has_too_few_frames};
 
@@ -54,19 +54,14 @@ pub fn walk_counted<
     requires settings { AreSettings store.shape settings.now }
     requires bytes { D.File.bytes store.file ≡ bytes_at (D.files folder.old) names.now.store.now }
     requires tells { is_some (D.File.bytes store.file) ≡ is_some (D.files folder.old) }
-    requires opened { AreOpen 1 names.now.store.now (D.asked folder.old) (file_state D.File.File store.file ∷ []) }
-    ensures walked { let drawn = IsDrawnBySome M.drawn in
-        let given = given_by M.DEALT M.needs M.shows M.whole (scene_of store.shape store.depth path.now) settings.now
-        (mode_of settled)
-        (D.File.bytes store.file) (names_of names.now) in
-        let first = walk_state D.Folder names.now.store.now folder.old (file_state D.File.File store.file ∷ [])
-        (O.held out.old) (O.faults out.old) in
-        let last = walk_state D.Folder names.now.store.now folder.new [] (O.held out.new) (O.faults out.new) in
-        MatchResult result (λ _. Finished drawn given first last) (LeftBy drawn given first last) }
-    ensures counted { IfOk result (HasCounts (walk_setup M.DEALT M.needs (scene_of store.shape store.depth path.now) settings.now
+    requires opened { AreOpen 1 names.now.store.now (D.asked folder.old) (file_of D.File.File store) }
+    ensures walked { Walks M.drawn (given_to M.drawing D.File.File store path.now names.now settings.now settled)
+        (walk_course D.Folder O.Sink names.now.store.now (file_of D.File.File store) [] folder.old folder.new out.old
+        out.new) result }
+    ensures counted { IfOk result (HasCounts (walk_setup M.drawing (scene_of store.shape store.depth path.now) settings.now
         (mode_of settled))) }
-    ensures few { settings.now.frames < pinned_of store.shape settings.now.pinned
-        → result ≡ Err (WalkError.TooFewFrames settings.now.frames (pinned_of store.shape settings.now.pinned)) }
+    ensures few { let needed = pinned_of store.shape settings.now.pinned in settings.now.frames < needed
+        → result ≡ Err (WalkError.TooFewFrames settings.now.frames needed) }
     ensures others { AreOtherNamesAsBefore names.now.store.now (D.asked folder.old) (D.asked folder.new) }
     ensures faults { D.faults folder.old ≤ D.faults folder.new }
     ensures out_faults { O.faults out.old ≤ O.faults out.new }
@@ -119,19 +114,14 @@ fn walk_store<
     requires store { IsStoreIfTold (D.File.bytes store.old.file) store.old.shape store.old.depth }
     requires bytes { D.File.bytes store.old.file ≡ bytes_at (D.files folder.old) tour.now.names.store.now }
     requires tells { is_some (D.File.bytes store.old.file) ≡ is_some (D.files folder.old) }
-    requires opened { AreOpen 1 tour.now.names.store.now (D.asked folder.old) (file_state D.File.File store.old.file ∷ []) }
-    ensures walked { let drawn = IsDrawnBySome M.drawn in
-        let given = given_of M.DEALT M.needs M.shows M.whole tour.now (D.File.bytes store.old.file) in
-        let name = tour.now.names.store.now in
-        let first = walk_state D.Folder name folder.old (file_state D.File.File store.old.file ∷ []) (O.held out.old)
-        (O.faults out.old) in
-        let last = walk_state D.Folder name folder.new (file_state D.File.File store.new.file ∷ []) (O.held out.new)
-        (O.faults out.new) in
-        MatchResult result (λ _. Finished drawn given first last) (LeftBy drawn given first last) }
-    ensures counted { IfOk result (HasCounts (setup_of_tour M.DEALT M.needs tour.now)) }
+    requires opened { AreOpen 1 tour.now.names.store.now (D.asked folder.old) (file_of D.File.File store.old) }
+    ensures walked { Walks M.drawn (given_of M.drawing tour.now (D.File.bytes store.old.file))
+        (walk_course D.Folder O.Sink tour.now.names.store.now (file_of D.File.File store.old)
+        (file_of D.File.File store.new) folder.old folder.new out.old out.new) result }
+    ensures counted { IfOk result (HasCounts (setup_of_tour M.drawing tour.now)) }
     ensures few { tour.now.settings.frames < tour.now.pinned
         → result ≡ Err (WalkError.TooFewFrames tour.now.settings.frames tour.now.pinned) }
-    ensures opened { AreOpen 1 tour.now.names.store.now (D.asked folder.new) (file_state D.File.File store.new.file ∷ []) }
+    ensures opened { AreOpen 1 tour.now.names.store.now (D.asked folder.new) (file_of D.File.File store.new) }
     ensures others { AreOtherNamesAsBefore tour.now.names.store.now (D.asked folder.old) (D.asked folder.new) }
     ensures faults { D.faults folder.old ≤ D.faults folder.new }
     ensures out_faults { O.faults out.old ≤ O.faults out.new }
@@ -183,17 +173,12 @@ fn walk_stores<
     requires stores { AreFresh D.File.File tour.now.geometry.now tour.now.depth tour.now.settings.crew.loaders
         tour.now.names.store.now
         (D.asked folder.old) (D.File.bytes store.old.file) stores.elements }
-    requires opened { AreOpen 1 tour.now.names.store.now (D.asked folder.old) (file_state D.File.File store.old.file ∷ []) }
-    ensures walked { let drawn = IsDrawnBySome M.drawn in
-        let given = given_of M.DEALT M.needs M.shows M.whole tour.now (D.File.bytes store.old.file) in
-        let name = tour.now.names.store.now in
-        let first = walk_state D.Folder name folder.old (file_state D.File.File store.old.file ∷ []) (O.held out.old)
-        (O.faults out.old) in
-        let last = walk_state D.Folder name folder.new (file_state D.File.File store.new.file ∷ []) (O.held out.new)
-        (O.faults out.new) in
-        MatchResult result (λ _. Finished drawn given first last) (LeftBy drawn given first last) }
-    ensures counted { IfOk result (HasCounts (setup_of_tour M.DEALT M.needs tour.now)) }
-    ensures opened { AreOpen 1 tour.now.names.store.now (D.asked folder.new) (file_state D.File.File store.new.file ∷ []) }
+    requires opened { AreOpen 1 tour.now.names.store.now (D.asked folder.old) (file_of D.File.File store.old) }
+    ensures walked { Walks M.drawn (given_of M.drawing tour.now (D.File.bytes store.old.file))
+        (walk_course D.Folder O.Sink tour.now.names.store.now (file_of D.File.File store.old)
+        (file_of D.File.File store.new) folder.old folder.new out.old out.new) result }
+    ensures counted { IfOk result (HasCounts (setup_of_tour M.drawing tour.now)) }
+    ensures opened { AreOpen 1 tour.now.names.store.now (D.asked folder.new) (file_of D.File.File store.new) }
     ensures others { AreOtherNamesAsBefore tour.now.names.store.now (D.asked folder.old) (D.asked folder.new) }
     ensures faults { D.faults folder.old ≤ D.faults folder.new }
     ensures out_faults { O.faults out.old ≤ O.faults out.new }
@@ -241,23 +226,18 @@ fn walk_machine<
     requires depth { store.old.depth ≡ tour.now.depth }
     requires store { IsStoreIfTold (D.File.bytes store.old.file) store.old.shape store.old.depth }
     requires idle { M.is_idle machine }
-    requires begins { IsBegun (given_of M.DEALT M.needs M.shows M.whole tour.now (D.File.bytes store.old.file))
+    requires begins { IsBegun (given_of M.drawing tour.now (D.File.bytes store.old.file))
         (M.state machine) }
     requires no_faults { sum (counts_of (M.state machine).files) ≡ 0 }
     requires no_places { places_of (M.state machine).files ≡ [] }
     requires loaders { AreOpen tour.now.settings.crew.loaders tour.now.names.store.now (D.asked folder.old)
         (M.state machine).files }
-    requires opened { AreOpen 1 tour.now.names.store.now (D.asked folder.old) (file_state D.File.File store.old.file ∷ []) }
-    ensures walked { let drawn = IsDrawnBySome M.drawn in
-        let given = given_of M.DEALT M.needs M.shows M.whole tour.now (D.File.bytes store.old.file) in
-        let name = tour.now.names.store.now in
-        let first = walk_state D.Folder name folder.old (file_state D.File.File store.old.file ∷ []) (O.held out.old)
-        (O.faults out.old) in
-        let last = walk_state D.Folder name folder.new (file_state D.File.File store.new.file ∷ []) (O.held out.new)
-        (O.faults out.new) in
-        MatchResult result (λ _. Finished drawn given first last) (LeftBy drawn given first last) }
-    ensures counted { IfOk result (HasCounts (setup_of_tour M.DEALT M.needs tour.now)) }
-    ensures opened { AreOpen 1 tour.now.names.store.now (D.asked folder.new) (file_state D.File.File store.new.file ∷ []) }
+    requires opened { AreOpen 1 tour.now.names.store.now (D.asked folder.old) (file_of D.File.File store.old) }
+    ensures walked { Walks M.drawn (given_of M.drawing tour.now (D.File.bytes store.old.file))
+        (walk_course D.Folder O.Sink tour.now.names.store.now (file_of D.File.File store.old)
+        (file_of D.File.File store.new) folder.old folder.new out.old out.new) result }
+    ensures counted { IfOk result (HasCounts (setup_of_tour M.drawing tour.now)) }
+    ensures opened { AreOpen 1 tour.now.names.store.now (D.asked folder.new) (file_of D.File.File store.new) }
     ensures others { AreOtherNamesAsBefore tour.now.names.store.now (D.asked folder.old) (D.asked folder.new) }
     ensures faults { D.faults folder.old ≤ D.faults folder.new }
     ensures out_faults { O.faults out.old ≤ O.faults out.new }
@@ -290,18 +270,14 @@ fn walk_all<
     requires depth { store.old.depth ≡ tour.now.depth }
     requires store { IsStoreIfTold (D.File.bytes store.old.file) store.old.shape store.old.depth }
     requires idle { M.is_idle machine.old }
-    requires begins { IsBegun (given_of M.DEALT M.needs M.shows M.whole tour.now (D.File.bytes store.old.file))
+    requires begins { IsBegun (given_of M.drawing tour.now (D.File.bytes store.old.file))
         (M.state machine.old) }
     requires tell { AreTold (D.asked folder.old) (file_state D.File.File store.old.file ∷ (M.state machine.old).files) }
-    ensures walked { let drawn = IsDrawnBySome M.drawn in
-        let given = given_of M.DEALT M.needs M.shows M.whole tour.now (D.File.bytes store.old.file) in
-        let name = tour.now.names.store.now in
-        let first = walk_state D.Folder name folder.old (file_state D.File.File store.old.file ∷ (M.state machine.old).files)
-        (O.held out.old) (O.faults out.old) in
-        let last = walk_state D.Folder name folder.new (file_state D.File.File store.new.file ∷ (M.state machine.new).files)
-        (O.held out.new) (O.faults out.new) in
-        MatchResult result (λ _. Finished drawn given first last) (LeftBy drawn given first last) }
-    ensures counted { IfOk result (HasCounts (setup_of_tour M.DEALT M.needs tour.now)) }
+    ensures walked { Walks M.drawn (given_of M.drawing tour.now (D.File.bytes store.old.file))
+        (walk_course D.Folder O.Sink tour.now.names.store.now
+        (file_state D.File.File store.old.file ∷ (M.state machine.old).files)
+        (file_state D.File.File store.new.file ∷ (M.state machine.new).files) folder.old folder.new out.old out.new) result }
+    ensures counted { IfOk result (HasCounts (setup_of_tour M.drawing tour.now)) }
     ensures same { AreSameFiles (M.state machine.old).files (M.state machine.new).files }
     ensures store { IsSameFile (file_state D.File.File store.old.file) (file_state D.File.File store.new.file) }
     ensures asked { D.asked folder.new ≡ D.asked folder.old }
@@ -338,11 +314,11 @@ fn begin<Rt: Threads + Wait + Sync, M: PassMachine, D: Folder>(
     requires depth { store.old.depth ≡ tour.now.depth }
     requires store { IsStoreIfTold (D.File.bytes store.old.file) store.old.shape store.old.depth }
     requires idle { M.is_idle machine.old }
-    requires begins { IsBegun (given_of M.DEALT M.needs M.shows M.whole tour.now (D.File.bytes store.old.file))
+    requires begins { IsBegun (given_of M.drawing tour.now (D.File.bytes store.old.file))
         (M.state machine.old) }
     requires tell { AreTold (D.asked folder.old) (file_state D.File.File store.old.file ∷ (M.state machine.old).files) }
     ensures begun { (held : Option (List ℕ)) (out_faults : ℕ) → let drawn = IsDrawnBySome M.drawn in
-        let given = given_of M.DEALT M.needs M.shows M.whole tour.now (D.File.bytes store.old.file) in
+        let given = given_of M.drawing tour.now (D.File.bytes store.old.file) in
         let name = tour.now.names.store.now in
         let first = walk_state D.Folder name folder.old (file_state D.File.File store.old.file ∷ (M.state machine.old).files)
         held out_faults in

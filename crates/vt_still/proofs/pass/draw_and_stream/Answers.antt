@@ -8,9 +8,8 @@ use Rattle.vt_table.specs.Views.{TableView}
 use Rattle.vt_still.specs.declared.tasks.StillSampler.{StillSampler}
 use Rattle.vt_workers.specs.All.{AllReady}
 use Rattle.vt_workers.specs.Jobs.{Job, job_of}
-use Rattle.vt_machine.specs.PictureWants.{picture_wants}
+use Rattle.vt_machine.specs.Nearest.{nearest}
 use Rattle.vt_still.specs.StillTasks.{MayDraw, HasDrawn}
-use Rattle.vt_machine.specs.StillShows.{still_shows}
 use Rattle.vt_still.specs.StillLaws.{ran_after, begun, kit_back, same_kit}
 use Rattle.vt_still.proofs.Kits.{may_draw}
 use Rattle.vt_workers.proofs.Lent.{same_number, all_did}
@@ -76,5 +75,5 @@ returns-clause-ran g c =
     (all_did (λ (x : TableView) j (v w : StillSampler). HasDrawn x j v.sampler w.sampler) _ _ _ _ refl (ap with c.slice.ensures) e _ us
     c.slice_mut-2.ensures.value
     (search rules) c.work_together.ensures.samplers) in
-    ran_after true picture_wants still_shows _ job _ _ _
+    ran_after nearest _ job _ _ _
     (same_kit g.F.File table q k l job a (refill (length a) a ws) e (refill (length e) e us) out) c.finish.result (c.finish.ensures.ran b may)

@@ -2,8 +2,7 @@ use Rattle.std.proofs.Common.{true, length, ap, sym, ◌∙◌, subst}
 use Rattle.vt_table.specs.Views.{TableView}
 use Rattle.vt_machine.specs.Machines.{Setup, MachineState}
 use Rattle.vt_workers.specs.Jobs.{job_of}
-use Rattle.vt_machine.specs.PictureWants.{picture_wants}
-use Rattle.vt_machine.specs.StillShows.{still_shows}
+use Rattle.vt_machine.specs.Nearest.{nearest}
 use Rattle.vt_machine.specs.Passes.{MapsRoot, IsJobFor, Ran}
 use Rattle.vt_still.specs.Kits.{KitView, PassKitView, kit_setup, kit_state, lines_at, IsIdleKit, IsPreparedKit, IsReadyKit}
 use Rattle.vt_still.specs.StillMachines.{kit_drawn}
@@ -50,7 +49,7 @@ returns g c =
     ∙ ap (λ (x : PassKitView _). kit_state g.F.File v x.kit) c.kit.view_is
     ∙ ap (λ (w : TableView). kit_state g.F.File w was) c.swap.ensures.y_after in
     record {
-      ran = subst (λ (z : TableView × MachineState). Ran true picture_wants still_shows (kit_drawn g.F.File z.0 kit)
+      ran = subst (λ (z : TableView × MachineState). Ran nearest (kit_drawn g.F.File z.0 kit)
           (job_of c.args.shot.now c.args.batch.now.elements) did.result z.1 (kit_state g.F.File z.0 kit)) (λ i. (back i, before i)) did.ensures.ran;
       idle = subst (λ (w : TableView). IsIdleKit g.F.File w kit) back did.ensures.idle;
       lines = did.ensures.lines ∙ ap (λ (k : KitView _). lines_at k.crew.samplers k.height (length v.changes)) c.ask.ensures.rest

@@ -7,51 +7,51 @@ use Rattle.vt_walk.proofs.Advancing.{may_prepare, recency_shape, turn_lawful, ha
 use Rattle.vt_walk.proofs.turns.draw_pass.Goals as goal
 
 pub run_pass-requires-clause-may : goal.run_pass-requires-clause-may
-run_pass-requires-clause-may g c κs within = may_prepare g.M.PassMachine.DEALT g.M.PassMachine.needs g.M.PassMachine.shows g.M.PassMachine.whole
+run_pass-requires-clause-may g c κs within = may_prepare g.M.PassMachine.drawing
     c.args.tour.now c.requires.may.0
     c.requires.may.1 c.args.number c.args.turn (g.M.PassMachine.state c.args.machine.now) c.args.recency.now c.requires.tour c.ranges.number.fits
     c.requires.may.2
 
 pub look_out-requires-clause-shape : goal.look_out-requires-clause-shape
-look_out-requires-clause-shape g c = recency_shape g.M.PassMachine.DEALT g.M.PassMachine.needs g.M.PassMachine.shows g.M.PassMachine.whole c.args.tour.now
+look_out-requires-clause-shape g c = recency_shape g.M.PassMachine.drawing c.args.tour.now
     c.requires.may.0
     c.requires.may.1 c.args.number c.args.turn (g.M.PassMachine.state c.args.machine.now) c.args.recency.now c.requires.may.2
 
 pub look_out-requires-clause-lawful : goal.look_out-requires-clause-lawful
-look_out-requires-clause-lawful g c = turn_lawful g.M.PassMachine.DEALT g.M.PassMachine.needs g.M.PassMachine.shows g.M.PassMachine.whole c.args.tour.now
+look_out-requires-clause-lawful g c = turn_lawful g.M.PassMachine.drawing c.args.tour.now
     c.requires.may.0
     c.requires.may.1 c.args.number c.args.turn (g.M.PassMachine.state c.args.machine.now) c.args.recency.now c.requires.may.2
 
 pub drawn_of-requires-clause-passes : goal.drawn_of-requires-clause-passes
-drawn_of-requires-clause-passes g c = (has_room g.M.PassMachine.DEALT g.M.PassMachine.needs g.M.PassMachine.shows g.M.PassMachine.whole c.args.tour.now
+drawn_of-requires-clause-passes g c = (has_room g.M.PassMachine.drawing c.args.tour.now
     c.requires.may.0
     c.requires.may.1 c.args.number c.args.turn (g.M.PassMachine.state c.args.machine.now) c.args.recency.now c.in_ok-report.report.losses.elements
     c.in_ok-report.report.events.elements
     c.requires.tour c.ranges.number.fits c.requires.may.2 c.in_ok-report.ensures.ran.outcome).passes
 
 pub drawn_of-requires-clause-loaded : goal.drawn_of-requires-clause-loaded
-drawn_of-requires-clause-loaded g c = (has_room g.M.PassMachine.DEALT g.M.PassMachine.needs g.M.PassMachine.shows g.M.PassMachine.whole c.args.tour.now
+drawn_of-requires-clause-loaded g c = (has_room g.M.PassMachine.drawing c.args.tour.now
     c.requires.may.0
     c.requires.may.1 c.args.number c.args.turn (g.M.PassMachine.state c.args.machine.now) c.args.recency.now c.in_ok-report.report.losses.elements
     c.in_ok-report.report.events.elements
     c.requires.tour c.ranges.number.fits c.requires.may.2 c.in_ok-report.ensures.ran.outcome).loaded
 
 pub drawn_of-requires-clause-lost : goal.drawn_of-requires-clause-lost
-drawn_of-requires-clause-lost g c = (has_room g.M.PassMachine.DEALT g.M.PassMachine.needs g.M.PassMachine.shows g.M.PassMachine.whole c.args.tour.now
+drawn_of-requires-clause-lost g c = (has_room g.M.PassMachine.drawing c.args.tour.now
     c.requires.may.0
     c.requires.may.1 c.args.number c.args.turn (g.M.PassMachine.state c.args.machine.now) c.args.recency.now c.in_ok-report.report.losses.elements
     c.in_ok-report.report.events.elements
     c.requires.tour c.ranges.number.fits c.requires.may.2 c.in_ok-report.ensures.ran.outcome).lost
 
 pub drawn_of-requires-clause-evicted : goal.drawn_of-requires-clause-evicted
-drawn_of-requires-clause-evicted g c = (has_room g.M.PassMachine.DEALT g.M.PassMachine.needs g.M.PassMachine.shows g.M.PassMachine.whole c.args.tour.now
+drawn_of-requires-clause-evicted g c = (has_room g.M.PassMachine.drawing c.args.tour.now
     c.requires.may.0
     c.requires.may.1 c.args.number c.args.turn (g.M.PassMachine.state c.args.machine.now) c.args.recency.now c.in_ok-report.report.losses.elements
     c.in_ok-report.report.events.elements
     c.requires.tour c.ranges.number.fits c.requires.may.2 c.in_ok-report.ensures.ran.outcome).evicted
 
 pub drawn_of-requires-clause-reads : goal.drawn_of-requires-clause-reads
-drawn_of-requires-clause-reads g c = (has_room g.M.PassMachine.DEALT g.M.PassMachine.needs g.M.PassMachine.shows g.M.PassMachine.whole c.args.tour.now
+drawn_of-requires-clause-reads g c = (has_room g.M.PassMachine.drawing c.args.tour.now
     c.requires.may.0
     c.requires.may.1 c.args.number c.args.turn (g.M.PassMachine.state c.args.machine.now) c.args.recency.now c.in_ok-report.report.losses.elements
     c.in_ok-report.report.events.elements
@@ -60,13 +60,13 @@ drawn_of-requires-clause-reads g c = (has_room g.M.PassMachine.DEALT g.M.PassMac
 pub returns-in_err-outlook-clause-refused : goal.returns-in_err-outlook-clause-refused
 returns-in_err-outlook-clause-refused g c =
     let p = err_from_is_err_and c.from_residual-in_err-outlook.result c.from_residual-in_err-outlook.ensures.1 in
-    rw p.1 (read_at_most g.M.PassMachine.DEALT g.M.PassMachine.needs g.M.PassMachine.shows g.M.PassMachine.whole c.args.tour.now c.requires.may.0
+    rw p.1 (read_at_most g.M.PassMachine.drawing c.args.tour.now c.requires.may.0
     g.M.PassMachine.drawn c.run_pass.new.machine c.requires.may.1 c.args.number c.args.turn (g.M.PassMachine.state c.args.machine.now)
     (g.M.PassMachine.state c.run_pass.new.machine)
     c.args.recency.now c.in_ok-report.report c.requires.may.2 c.in_ok-report.ensures.ran)
 
 pub returns-clause-drawn : goal.returns-clause-drawn
-returns-clause-drawn g c = λ told run may. has_drawn g.M.PassMachine.DEALT g.M.PassMachine.needs g.M.PassMachine.shows g.M.PassMachine.whole
+returns-clause-drawn g c = λ told run may. has_drawn g.M.PassMachine.drawing
     c.args.tour.now told
     g.M.PassMachine.drawn c.run_pass.new.machine run c.args.number c.version-start.result c.args.turn (g.M.PassMachine.state c.args.machine.now)
     (g.M.PassMachine.state c.run_pass.new.machine)
@@ -75,12 +75,12 @@ returns-clause-drawn g c = λ told run may. has_drawn g.M.PassMachine.DEALT g.M.
     c.in_ok-outlook.ensures (c.version-start.ensures.version ∙ ap (λ (x : List Change). length x) c.journal.ensures) c.drawn_of.ensures
 
 pub returns-clause-pages : goal.returns-clause-pages
-returns-clause-pages g c = told_in_chain g.M.PassMachine.DEALT g.M.PassMachine.needs g.M.PassMachine.shows g.M.PassMachine.whole c.args.tour.now
+returns-clause-pages g c = told_in_chain g.M.PassMachine.drawing c.args.tour.now
     c.requires.may.0
     (IsDrawnBySome g.M.PassMachine.drawn) c.requires.may.1 c.args.number c.args.turn (g.M.PassMachine.state c.args.machine.now)
     (g.M.PassMachine.state c.run_pass.new.machine)
     c.args.recency.now c.look_out.new.recency c.drawn_of.result c.requires.may.2
-    (has_drawn g.M.PassMachine.DEALT g.M.PassMachine.needs g.M.PassMachine.shows g.M.PassMachine.whole c.args.tour.now c.requires.may.0
+    (has_drawn g.M.PassMachine.drawing c.args.tour.now c.requires.may.0
     g.M.PassMachine.drawn c.run_pass.new.machine c.requires.may.1 c.args.number c.version-start.result c.args.turn
     (g.M.PassMachine.state c.args.machine.now) (g.M.PassMachine.state c.run_pass.new.machine)
     c.args.recency.now c.look_out.new.recency c.counts.result.now c.in_ok-report.report c.in_ok-outlook.outlook c.drawn_of.result c.requires.may.2
@@ -88,12 +88,12 @@ returns-clause-pages g c = told_in_chain g.M.PassMachine.DEALT g.M.PassMachine.n
     c.in_ok-outlook.ensures (c.version-start.ensures.version ∙ ap (λ (x : List Change). length x) c.journal.ensures) c.drawn_of.ensures)
 
 pub returns-clause-room : goal.returns-clause-room
-returns-clause-room g c = told_have_room g.M.PassMachine.DEALT g.M.PassMachine.needs g.M.PassMachine.shows g.M.PassMachine.whole c.args.tour.now
+returns-clause-room g c = told_have_room g.M.PassMachine.drawing c.args.tour.now
     c.requires.may.0
     (IsDrawnBySome g.M.PassMachine.drawn) c.requires.may.1 c.args.number c.args.turn (g.M.PassMachine.state c.args.machine.now)
     (g.M.PassMachine.state c.run_pass.new.machine)
     c.args.recency.now c.look_out.new.recency c.drawn_of.result c.requires.tour c.ranges.number.fits c.requires.may.2
-    (has_drawn g.M.PassMachine.DEALT g.M.PassMachine.needs g.M.PassMachine.shows g.M.PassMachine.whole c.args.tour.now c.requires.may.0
+    (has_drawn g.M.PassMachine.drawing c.args.tour.now c.requires.may.0
     g.M.PassMachine.drawn c.run_pass.new.machine c.requires.may.1 c.args.number c.version-start.result c.args.turn
     (g.M.PassMachine.state c.args.machine.now) (g.M.PassMachine.state c.run_pass.new.machine)
     c.args.recency.now c.look_out.new.recency c.counts.result.now c.in_ok-report.report c.in_ok-outlook.outlook c.drawn_of.result c.requires.may.2

@@ -17,8 +17,7 @@ room : (t : Tour) (p : Passed) → IsTour t → MayGoOn t p → t.mode ≡ Settl
 room t p h goes_on settled = let fits = goes_on.fits settled in let pages = h.pages in omega (arith, fits, pages)
 
 pub returns-then-not-is_finished-clause-ended : goal.returns-then-not-is_finished-clause-ended
-returns-then-not-is_finished-clause-ended g c = λ b at. same_picture g.M.PassMachine.DEALT g.M.PassMachine.needs g.M.PassMachine.shows
-    g.M.PassMachine.whole (IsDrawnBySome g.M.PassMachine.drawn) g.met.M.PassMachine.shows_whole (tour_scene c.args.tour.now) c.args.tour.now.settings
+returns-then-not-is_finished-clause-ended g c = λ b at. same_picture g.M.PassMachine.drawing (IsDrawnBySome g.M.PassMachine.drawn) g.met.M.PassMachine.shows_whole (tour_scene c.args.tour.now) c.args.tour.now.settings
     c.args.tour.now.mode b.told (names_of c.args.tour.now.names)
     c.args.number c.args.passed b.first (g.M.PassMachine.state c.args.machine.now) c.args.recency.now
     (walk_state g.D.Folder c.args.tour.now.names.store.now c.args.folder.now (b.kept ∷ (g.M.PassMachine.state c.args.machine.now).files)
@@ -32,7 +31,7 @@ write_picture-requires-clause-few g c κs within =
     let i = c.requires.stands.1.passed.inside in let e = c.requires.stands.1.passed.picture in let few = c.requires.tour.pictures in omega (arith, i, e, few)
 
 pub write_picture-requires-clause-count : goal.write_picture-requires-clause-count
-write_picture-requires-clause-count g c κs within = rows_count g.M.PassMachine.DEALT g.M.PassMachine.needs g.M.PassMachine.shows g.M.PassMachine.whole
+write_picture-requires-clause-count g c κs within = rows_count g.M.PassMachine.drawing
     (IsDrawnBySome g.M.PassMachine.drawn) g.met.M.PassMachine.shows_whole (tour_scene c.args.tour.now) c.args.tour.now.settings c.args.tour.now.mode
     c.requires.stands.0.told (names_of c.args.tour.now.names)
     c.args.number c.args.passed c.requires.stands.0.first (g.M.PassMachine.state c.args.machine.now) c.args.recency.now
@@ -41,7 +40,7 @@ write_picture-requires-clause-count g c κs within = rows_count g.M.PassMachine.
     c.requires.stands.1
 
 pub write_picture-requires-clause-full : goal.write_picture-requires-clause-full
-write_picture-requires-clause-full g c κs within = rows_full g.M.PassMachine.DEALT g.M.PassMachine.needs g.M.PassMachine.shows g.M.PassMachine.whole
+write_picture-requires-clause-full g c κs within = rows_full g.M.PassMachine.drawing
     (IsDrawnBySome g.M.PassMachine.drawn) g.met.M.PassMachine.shows_whole (tour_scene c.args.tour.now) c.args.tour.now.settings c.args.tour.now.mode
     c.requires.stands.0.told (names_of c.args.tour.now.names)
     c.args.number c.args.passed c.requires.stands.0.first (g.M.PassMachine.state c.args.machine.now) c.args.recency.now
@@ -52,7 +51,7 @@ write_picture-requires-clause-full g c κs within = rows_full g.M.PassMachine.DE
 pub returns-in_err-write_picture-clause-ended : goal.returns-in_err-write_picture-clause-ended
 returns-in_err-write_picture-clause-ended g c =
     let p = err_from_is_err_and c.from_residual.result c.from_residual.ensures.1 in
-    λ b at. rw p.1 (picture_broke g.M.PassMachine.DEALT g.M.PassMachine.needs g.M.PassMachine.shows g.M.PassMachine.whole
+    λ b at. rw p.1 (picture_broke g.M.PassMachine.drawing
     (IsDrawnBySome g.M.PassMachine.drawn) g.met.M.PassMachine.shows_whole (tour_scene c.args.tour.now) c.args.tour.now.settings
     c.args.tour.now.mode b.told (names_of c.args.tour.now.names)
     c.args.number c.args.passed b.first (g.M.PassMachine.state c.args.machine.now) c.args.recency.now c.args.tour.now.names.store.now b.kept
@@ -70,7 +69,7 @@ returns-in_err-write_picture-clause-ended g c =
 pub returns-in_err-put_picture_line-clause-ended : goal.returns-in_err-put_picture_line-clause-ended
 returns-in_err-put_picture_line-clause-ended g c =
     let p = err_from_is_err_and c.from_residual-in_err-put_picture_line.result c.from_residual-in_err-put_picture_line.ensures.1 in
-    λ b at. rw p.1 (line_broke g.M.PassMachine.DEALT g.M.PassMachine.needs g.M.PassMachine.shows g.M.PassMachine.whole
+    λ b at. rw p.1 (line_broke g.M.PassMachine.drawing
     (IsDrawnBySome g.M.PassMachine.drawn) g.met.M.PassMachine.shows_whole (tour_scene c.args.tour.now) c.args.tour.now.settings
     c.args.tour.now.mode b.told (names_of c.args.tour.now.names)
     c.args.number c.args.passed b.first (g.M.PassMachine.state c.args.machine.now) c.args.recency.now c.args.tour.now.names.store.now b.kept
@@ -90,7 +89,7 @@ overflow_add-result g c =
     let i = c.requires.stands.1.passed.inside in let e = c.requires.stands.1.passed.picture in let few = c.requires.tour.pictures in omega (arith, i, e, few)
 
 pub returns-clause-ended : goal.returns-clause-ended
-returns-clause-ended g c = λ b at. next_picture g.M.PassMachine.DEALT g.M.PassMachine.needs g.M.PassMachine.shows g.M.PassMachine.whole
+returns-clause-ended g c = λ b at. next_picture g.M.PassMachine.drawing
     (IsDrawnBySome g.M.PassMachine.drawn) g.met.M.PassMachine.shows_whole (tour_scene c.args.tour.now) c.args.tour.now.settings c.args.tour.now.mode
     b.told (names_of c.args.tour.now.names)
     c.args.number c.args.passed b.first (g.M.PassMachine.state c.args.machine.now) c.args.recency.now c.args.tour.now.names.store.now b.kept

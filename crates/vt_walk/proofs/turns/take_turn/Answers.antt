@@ -21,7 +21,7 @@ pub returns-in_err-passed-clause-taken : goal.returns-in_err-passed-clause-taken
 returns-in_err-passed-clause-taken g c =
     let p = err_from_is_err_and c.from_residual.result c.from_residual.ensures.1 in
     λ b at. rw p.1 (subst (LeftBy (IsDrawnBySome g.M.PassMachine.drawn)
-    (given_of g.M.PassMachine.DEALT g.M.PassMachine.needs g.M.PassMachine.shows g.M.PassMachine.whole c.args.tour.now b.told) b.first
+    (given_of g.M.PassMachine.drawing c.args.tour.now b.told) b.first
     (walk_state g.D.Folder c.args.tour.now.names.store.now c.make_pass.new.folder (b.kept ∷ (g.M.PassMachine.state c.make_pass.new.machine).files)
     (g.O.Sink.held c.args.out.now) (g.O.Sink.faults c.args.out.now))) (sym p.2)
     (c.in_err-passed.ensures.made (record { start = b; held = g.O.Sink.held c.args.out.now; out_faults = g.O.Sink.faults c.args.out.now }) at))
@@ -30,10 +30,10 @@ pub returns-in_err-judge-clause-taken : goal.returns-in_err-judge-clause-taken
 returns-in_err-judge-clause-taken g c =
     let p = err_from_is_err_and c.from_residual-in_err-judge.result c.from_residual-in_err-judge.ensures.1 in
     λ b at. rw p.1 (subst (LeftBy (IsDrawnBySome g.M.PassMachine.drawn)
-    (given_of g.M.PassMachine.DEALT g.M.PassMachine.needs g.M.PassMachine.shows g.M.PassMachine.whole c.args.tour.now b.told) b.first
+    (given_of g.M.PassMachine.drawing c.args.tour.now b.told) b.first
     (walk_state g.D.Folder c.args.tour.now.names.store.now c.make_pass.new.folder (b.kept ∷ (g.M.PassMachine.state c.make_pass.new.machine).files)
     (g.O.Sink.held c.args.out.now) (g.O.Sink.faults c.args.out.now))) (sym p.2)
-    (stopped g.M.PassMachine.DEALT g.M.PassMachine.needs g.M.PassMachine.shows g.M.PassMachine.whole (IsDrawnBySome g.M.PassMachine.drawn)
+    (stopped g.M.PassMachine.drawing (IsDrawnBySome g.M.PassMachine.drawn)
     g.met.M.PassMachine.shows_whole c.args.tour.now b.told c.args.number
     c.in_ok-passed.passed b.first (walk_state g.D.Folder c.args.tour.now.names.store.now c.make_pass.new.folder
     (b.kept ∷ (g.M.PassMachine.state c.make_pass.new.machine).files) (g.O.Sink.held c.args.out.now) (g.O.Sink.faults c.args.out.now))

@@ -13,15 +13,14 @@ loop-number-init g c =
     record {
       some = (
         s.0,
-        first_at (IsDrawnBySome g.M.PassMachine.drawn) (given_of g.M.PassMachine.DEALT g.M.PassMachine.needs g.M.PassMachine.shows
-            g.M.PassMachine.whole c.args.tour.now s.0.told) s.0.first
+        first_at (IsDrawnBySome g.M.PassMachine.drawn) (given_of g.M.PassMachine.drawing c.args.tour.now s.0.told) s.0.first
             (walk_state g.D.Folder c.args.tour.now.names.store.now c.args.folder.now (s.0.kept ∷ (g.M.PassMachine.state c.args.machine.now).files)
             (g.O.Sink.held c.args.out.now) (g.O.Sink.faults c.args.out.now)) (g.M.PassMachine.state c.args.machine.now) c.args.recency.now
             (record { picture = 0; batch = c.new.result; tally = c.new-2.result; reads = c.args.tour.now.pinned }) s.1 refl c.new.ensures
             c.new-2.ensures c.requires.tour.pages,
       );
       each = λ b at. first_at (IsDrawnBySome g.M.PassMachine.drawn)
-          (given_of g.M.PassMachine.DEALT g.M.PassMachine.needs g.M.PassMachine.shows g.M.PassMachine.whole c.args.tour.now b.told) b.first
+          (given_of g.M.PassMachine.drawing c.args.tour.now b.told) b.first
           (walk_state g.D.Folder c.args.tour.now.names.store.now c.args.folder.now (b.kept ∷ (g.M.PassMachine.state c.args.machine.now).files)
           (g.O.Sink.held c.args.out.now) (g.O.Sink.faults c.args.out.now)) (g.M.PassMachine.state c.args.machine.now) c.args.recency.now
           (record { picture = 0; batch = c.new.result; tally = c.new-2.result; reads = c.args.tour.now.pinned }) at refl c.new.ensures c.new-2.ensures
@@ -35,7 +34,7 @@ loop-number-init g c =
 
 pub returns-clause-walked : goal.returns-clause-walked
 returns-clause-walked g c = λ b at. at_left (IsDrawnBySome g.M.PassMachine.drawn)
-    (given_of g.M.PassMachine.DEALT g.M.PassMachine.needs g.M.PassMachine.shows g.M.PassMachine.whole c.args.tour.now b.told) b.first
+    (given_of g.M.PassMachine.drawing c.args.tour.now b.told) b.first
     (walk_state g.D.Folder c.args.tour.now.names.store.now c.loop-number.folder (b.kept ∷ (g.M.PassMachine.state c.loop-number.machine).files)
     (g.O.Sink.held c.loop-number.out) (g.O.Sink.faults c.loop-number.out))
     c.loop-number.number (g.M.PassMachine.state c.loop-number.machine) c.loop-number.recency c.loop-number.turn (c.loop-number.invariant.each b at)
@@ -58,7 +57,7 @@ pub returns-in_err-turn-clause-walked : goal.returns-in_err-turn-clause-walked
 returns-in_err-turn-clause-walked g c =
     let p = err_from_is_err_and c.from_residual.result c.from_residual.ensures.1 in
     λ b at. rw p.1 (subst (LeftBy (IsDrawnBySome g.M.PassMachine.drawn)
-    (given_of g.M.PassMachine.DEALT g.M.PassMachine.needs g.M.PassMachine.shows g.M.PassMachine.whole c.args.tour.now b.told) b.first
+    (given_of g.M.PassMachine.drawing c.args.tour.now b.told) b.first
     (walk_state g.D.Folder c.args.tour.now.names.store.now c.take_turn.new.folder (b.kept ∷ (g.M.PassMachine.state c.take_turn.new.machine).files)
     (g.O.Sink.held c.take_turn.new.out) (g.O.Sink.faults c.take_turn.new.out))) (sym p.2)
     (c.in_err-turn.ensures.taken b (c.loop-number.invariant.each b at)))
@@ -68,7 +67,7 @@ returns-then-turn-pictures-clause-counted g c =
     let s = c.loop-number.invariant.some in
     let all = c.if-turn-pictures.true in
     let pictures = c.pictures-pictures.ensures.value in
-    counts_at (IsDrawnBySome g.M.PassMachine.drawn) (given_of g.M.PassMachine.DEALT g.M.PassMachine.needs g.M.PassMachine.shows g.M.PassMachine.whole
+    counts_at (IsDrawnBySome g.M.PassMachine.drawn) (given_of g.M.PassMachine.drawing
     c.args.tour.now s.0.told) s.0.first (walk_state g.D.Folder c.args.tour.now.names.store.now c.loop-number.folder
     (s.0.kept ∷ (g.M.PassMachine.state c.loop-number.machine).files) (g.O.Sink.held c.loop-number.out) (g.O.Sink.faults c.loop-number.out))
     c.loop-number.number (g.M.PassMachine.state c.loop-number.machine) c.loop-number.recency c.loop-number.turn

@@ -9,15 +9,14 @@ use Rattle.vt_walk.proofs.turns.take_turns.Given as goal
 abbrev pub invariant-loop-number : goal.invariant-loop-number
 invariant-loop-number g l = record {
   some : (b : WalkStart) × StandsAt (IsDrawnBySome g.M.PassMachine.drawn)
-      (given_of g.M.PassMachine.DEALT g.M.PassMachine.needs g.M.PassMachine.shows g.M.PassMachine.whole l.tour b.told) l.number l.turn b.first
+      (given_of g.M.PassMachine.drawing l.tour b.told) l.number l.turn b.first
       (walk_state g.D.Folder l.tour.names.store.now l.folder (b.kept ∷ (g.M.PassMachine.state l.machine).files) (g.O.Sink.held l.out)
       (g.O.Sink.faults l.out)) (g.M.PassMachine.state l.machine) l.recency;
   each : (b : WalkStart) → StandsFirst (IsDrawnBySome g.M.PassMachine.drawn)
-      (given_of g.M.PassMachine.DEALT g.M.PassMachine.needs g.M.PassMachine.shows g.M.PassMachine.whole l.tour b.told) b.first
+      (given_of g.M.PassMachine.drawing l.tour b.told) b.first
       (walk_state g.D.Folder l.tour.names.store.now l.fn.folder (b.kept ∷ (g.M.PassMachine.state l.fn.machine).files) (g.O.Sink.held l.fn.out)
       (g.O.Sink.faults l.fn.out)) (g.M.PassMachine.state l.fn.machine) l.fn.recency
-      → StandsAt (IsDrawnBySome g.M.PassMachine.drawn) (given_of g.M.PassMachine.DEALT g.M.PassMachine.needs g.M.PassMachine.shows
-      g.M.PassMachine.whole l.tour b.told) l.number l.turn b.first
+      → StandsAt (IsDrawnBySome g.M.PassMachine.drawn) (given_of g.M.PassMachine.drawing l.tour b.told) l.number l.turn b.first
       (walk_state g.D.Folder l.tour.names.store.now l.folder (b.kept ∷ (g.M.PassMachine.state l.machine).files) (g.O.Sink.held l.out)
       (g.O.Sink.faults l.out)) (g.M.PassMachine.state l.machine) l.recency;
   idle : g.M.PassMachine.is_idle l.machine;

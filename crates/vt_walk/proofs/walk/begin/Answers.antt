@@ -10,7 +10,7 @@ use Rattle.vt_walk.proofs.walk.begin.Goals as goal
 pub returns-in_err-place_pinned-clause-begun : goal.returns-in_err-place_pinned-clause-begun
 returns-in_err-place_pinned-clause-begun g c =
     let p = err_from_is_err_and c.from_residual.result c.from_residual.ensures.1 in
-    λ held out_faults. rw p.1 (pinned_broke g.M.PassMachine.DEALT g.M.PassMachine.needs g.M.PassMachine.shows g.M.PassMachine.whole
+    λ held out_faults. rw p.1 (pinned_broke g.M.PassMachine.drawing
     (IsDrawnBySome g.M.PassMachine.drawn) c.args.tour.now
     (g.D.File.File.bytes c.args.store.now.file) c.args.store.now.depth c.args.tour.now.names.store.now
     (file_state g.D.File.File c.args.store.now.file) (file_state g.D.File.File c.place_pinned.new.store.file)
@@ -25,7 +25,7 @@ returns-in_err-place_pinned-clause-begun g c =
 pub returns-in_err-recency-clause-begun : goal.returns-in_err-recency-clause-begun
 returns-in_err-recency-clause-begun g c =
     let p = err_from_is_err_and c.from_residual-in_err-recency.result c.from_residual-in_err-recency.ensures.1 in
-    λ held out_faults. rw p.1 (head_broke g.M.PassMachine.DEALT g.M.PassMachine.needs g.M.PassMachine.shows g.M.PassMachine.whole
+    λ held out_faults. rw p.1 (head_broke g.M.PassMachine.drawing
     (IsDrawnBySome g.M.PassMachine.drawn) c.args.tour.now
     (g.D.File.File.bytes c.args.store.now.file) c.args.store.now.depth c.args.tour.now.names.store.now
     (file_state g.D.File.File c.args.store.now.file) (file_state g.D.File.File c.place_pinned.new.store.file)
@@ -40,7 +40,7 @@ returns-in_err-recency-clause-begun g c =
 
 pub begin_journal-requires-after_bounds : goal.begin_journal-requires-after_bounds
 begin_journal-requires-after_bounds g c κs within =
-    pages_pinned g.M.PassMachine.DEALT g.M.PassMachine.needs g.M.PassMachine.shows g.M.PassMachine.whole (IsDrawnBySome g.M.PassMachine.drawn) c.args.tour.now
+    pages_pinned g.M.PassMachine.drawing (IsDrawnBySome g.M.PassMachine.drawn) c.args.tour.now
     (g.D.File.File.bytes c.args.store.now.file) c.args.store.now.depth c.args.tour.now.names.store.now
     (file_state g.D.File.File c.args.store.now.file) (file_state g.D.File.File c.place_pinned.new.store.file)
     (g.D.Folder.files c.args.folder.now) (g.D.Folder.asked c.args.folder.now) (g.D.Folder.faults c.args.folder.now)
@@ -52,7 +52,7 @@ begin_journal-requires-after_bounds g c κs within =
 pub returns-in_err-begin_journal-clause-begun : goal.returns-in_err-begin_journal-clause-begun
 returns-in_err-begin_journal-clause-begun g c =
     let p = err_from_is_err_and c.from_residual-in_err-begin_journal.result c.from_residual-in_err-begin_journal.ensures.1 in
-    λ held out_faults. rw p.1 (head_broke g.M.PassMachine.DEALT g.M.PassMachine.needs g.M.PassMachine.shows g.M.PassMachine.whole
+    λ held out_faults. rw p.1 (head_broke g.M.PassMachine.drawing
     (IsDrawnBySome g.M.PassMachine.drawn) c.args.tour.now
     (g.D.File.File.bytes c.args.store.now.file) c.args.store.now.depth c.args.tour.now.names.store.now
     (file_state g.D.File.File c.args.store.now.file) (file_state g.D.File.File c.place_pinned.new.store.file)
@@ -66,7 +66,7 @@ returns-in_err-begin_journal-clause-begun g c =
     c.in_err-begin_journal.ensures.asked c.in_err-begin_journal.ensures.faults _ p.0 (λ is. c.in_err-begin_journal.ensures.failed (ap Err is)) p.2)
 
 pub returns-clause-begun : goal.returns-clause-begun
-returns-clause-begun g c = λ held out_faults. head_stands g.M.PassMachine.DEALT g.M.PassMachine.needs g.M.PassMachine.shows g.M.PassMachine.whole
+returns-clause-begun g c = λ held out_faults. head_stands g.M.PassMachine.drawing
     (IsDrawnBySome g.M.PassMachine.drawn) c.args.tour.now
     (g.D.File.File.bytes c.args.store.now.file) c.args.store.now.depth c.args.tour.now.names.store.now
     (file_state g.D.File.File c.args.store.now.file) (file_state g.D.File.File c.place_pinned.new.store.file)

@@ -11,7 +11,7 @@ pub returns-in_err-recency-clause-walked : goal.returns-in_err-recency-clause-wa
 returns-in_err-recency-clause-walked g c =
     let p = err_from_is_err_and c.from_residual.result c.from_residual.ensures.1 in
     rw p.1 (subst (LeftBy (IsDrawnBySome g.M.PassMachine.drawn)
-    (given_of g.M.PassMachine.DEALT g.M.PassMachine.needs g.M.PassMachine.shows g.M.PassMachine.whole c.args.tour.now
+    (given_of g.M.PassMachine.drawing c.args.tour.now
     (g.D.File.File.bytes c.args.store.now.file)) (walk_state g.D.Folder c.args.tour.now.names.store.now c.args.folder.now
     (file_state g.D.File.File c.args.store.now.file ∷ (g.M.PassMachine.state c.args.machine.now).files) (g.O.Sink.held c.args.out.now)
     (g.O.Sink.faults c.args.out.now)) (walk_state g.D.Folder c.args.tour.now.names.store.now c.begin.new.folder

@@ -39,7 +39,7 @@ returns-clause-walked g c =
     let drawn = IsDrawnBySome g.M.PassMachine.drawn in
     let name = c.args.names.now.store.now in
     let told = g.D.File.File.bytes c.args.store.file in
-    let given = λ (s : Shape) (d : ℕ) (m : Mode). given_by g.M.PassMachine.DEALT g.M.PassMachine.needs g.M.PassMachine.shows g.M.PassMachine.whole
+    let given = λ (s : Shape) (d : ℕ) (m : Mode). given_by g.M.PassMachine.drawing
     (scene_of s d c.args.path.now) c.args.settings.now m told (names_of c.args.names.now) in
     let first = walk_state g.D.Folder name c.args.folder.now (file_state g.D.File.File c.args.store.file ∷ []) (g.O.Sink.held c.args.out.now)
     (g.O.Sink.faults c.args.out.now) in

@@ -23,7 +23,7 @@ returns-clause-walked g c =
     let mid = c.walk_all-walked.new.folder in
     let last = c.close_stores.new.folder in
     machine_closed g.D.Folder c.args.tour.now.names.store.now (IsDrawnBySome g.M.PassMachine.drawn)
-    (given_of g.M.PassMachine.DEALT g.M.PassMachine.needs g.M.PassMachine.shows g.M.PassMachine.whole c.args.tour.now
+    (given_of g.M.PassMachine.drawing c.args.tour.now
     (g.D.File.File.bytes c.args.store.now.file))
     c.walk_all-walked.result (file_state g.D.File.File c.args.store.now.file) (file_state g.D.File.File c.walk_all-walked.new.store.file)
     (g.M.PassMachine.state c.args.machine).files left c.args.folder.now mid last _ _ _ _ c.args.tour.now.settings.crew.loaders

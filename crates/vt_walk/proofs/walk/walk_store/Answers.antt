@@ -18,7 +18,7 @@ pub returns-in-Ok-clause-walked : goal.returns-in-Ok-clause-walked
 returns-in-Ok-clause-walked g c =
     let name = c.args.tour.now.names.store.now in
     opened_first g.D.Folder name (IsDrawnBySome g.M.PassMachine.drawn)
-    (given_of g.M.PassMachine.DEALT g.M.PassMachine.needs g.M.PassMachine.shows g.M.PassMachine.whole c.args.tour.now
+    (given_of g.M.PassMachine.drawing c.args.tour.now
     (g.D.File.File.bytes c.args.store.now.file))
     c.walk_stores.result (file_state g.D.File.File c.args.store.now.file) c.args.folder.now c.open_loaders.new.folder (g.O.Sink.held c.args.out.now)
     (g.O.Sink.faults c.args.out.now)
@@ -29,7 +29,7 @@ returns-in-Ok-clause-walked g c =
 pub returns-in-Err-clause-walked : goal.returns-in-Err-clause-walked
 returns-in-Err-clause-walked g c =
     let drawn = IsDrawnBySome g.M.PassMachine.drawn in
-    let given = given_of g.M.PassMachine.DEALT g.M.PassMachine.needs g.M.PassMachine.shows g.M.PassMachine.whole c.args.tour.now
+    let given = given_of g.M.PassMachine.drawing c.args.tour.now
     (g.D.File.File.bytes c.args.store.now.file) in
     let name = c.args.tour.now.names.store.now in
     let kept = file_state g.D.File.File c.args.store.now.file in

@@ -39,7 +39,7 @@ walk_machine-requires-clause-loaders g c κs within =
 pub returns-in-Err-clause-walked : goal.returns-in-Err-clause-walked
 returns-in-Err-clause-walked g c =
     let drawn = IsDrawnBySome g.M.PassMachine.drawn in
-    let given = given_of g.M.PassMachine.DEALT g.M.PassMachine.needs g.M.PassMachine.shows g.M.PassMachine.whole c.args.tour.now
+    let given = given_of g.M.PassMachine.drawing c.args.tour.now
     (g.D.File.File.bytes c.args.store.now.file) in
     let name = c.args.tour.now.names.store.now in
     let kept = file_state g.D.File.File c.args.store.now.file in

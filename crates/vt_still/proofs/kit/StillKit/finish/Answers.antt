@@ -7,10 +7,9 @@ use Rattle.vt_tiles.specs.Format.{tile_length}
 use Rattle.vt_still.specs.RoundKits.{HasPlaces}
 use Rattle.vt_machine.specs.declared.crew.PassReport.{PassReport}
 use Rattle.vt_workers.specs.Jobs.{job_of}
-use Rattle.vt_machine.specs.PictureWants.{picture_wants}
+use Rattle.vt_machine.specs.Nearest.{nearest}
 use Rattle.vt_machine.specs.Passes.{Ran}
 use Rattle.vt_still.specs.Kits.{KitView, kit_state, lines_at}
-use Rattle.vt_machine.specs.StillShows.{still_shows}
 use Rattle.vt_still.specs.StillMachines.{kit_drawn, kit_before, MayFinish}
 use Rattle.vt_still.proofs.Ended.{counts_fit, counts_low}
 use Rattle.vt_still.proofs.RoundKits.{tile_is, ended_of, idle_finished, ran_finished}
@@ -82,7 +81,7 @@ returns-clause-ran g c = λ b given.
     let told = c.tell-rows in
     let version = c.version-start.ensures.version ∙ ap length c.journal.ensures.changes in
     let report : PassReport = record { rows = told.result; events = did.new.events; losses = did.result.1 } in
-    subst (λ (x : KitView _). Ran true picture_wants still_shows (kit_drawn g.F.File did.new.table told.new.self) job report
+    subst (λ (x : KitView _). Ran nearest (kit_drawn g.F.File did.new.table told.new.self) job report
     (kit_state g.F.File v (kit_before x samplers b)) (kit_state g.F.File did.new.table told.new.self)) c.self.view_is
     (ran_finished g.F.File v q _ job loaders samplers b may did.new.table did.new.events.elements did.result.1.elements c.slice.result.now c.slice.ensures
     (did.ensures.streamed b ended) did.result.0.elements did.ensures.stores told.new.self told.new.self.counts told.new.self.rows c.replace-events.new.dest
