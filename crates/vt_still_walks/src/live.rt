@@ -1,18 +1,12 @@
 //! Walks by the machine over a still table.
 
-ghost use Rattle.std.specs.Prelude.{◌≡◌, ◌<◌, ◌≤◌, [], ◌∷◌, true, is_some, MatchResult};
+ghost use Rattle.std.specs.Prelude.{◌≡◌, ◌<◌, ◌≤◌, [], true, false, is_some};
 ghost use Rattle.vt_outside.specs.Files.{bytes_at};
 ghost use Rattle.vt_pages.specs.Pages.{pinned_of};
-ghost use Rattle.vt_shown.specs.Scenes.{scene_of};
-ghost use Rattle.vt_machine.specs.Machines.{file_state};
-ghost use Rattle.vt_machine.specs.PictureWants.{picture_wants};
-ghost use Rattle.vt_machine.specs.StillShows.{still_shows, still_whole};
-ghost use Rattle.vt_turns.specs.declared.mode.Mode.TheVariants.{Live, Settled};
-ghost use Rattle.vt_walk.specs.Walks.{given_by, names_of, AreSettings};
-ghost use Rattle.vt_walk.specs.States.{walk_state, AreOpen};
-ghost use Rattle.vt_walk.specs.Standing.{Finished};
-ghost use Rattle.vt_walk.specs.Written.{IsDrawnBySome};
-ghost use Rattle.vt_walk.specs.Turns.{LeftBy};
+ghost use Rattle.vt_machine.specs.Nearest.{nearest};
+ghost use Rattle.vt_walk.specs.Walks.{given_to, AreSettings};
+ghost use Rattle.vt_walk.specs.States.{AreOpen};
+ghost use Rattle.vt_walk.specs.Courses.{walk_course, file_of, Walks};
 ghost use Rattle.vt_walk.specs.Closing.{AreOtherNamesAsBefore};
 ghost use Rattle.vt_still_walks.specs.StillDrawn.{drawn_by};
 
@@ -41,17 +35,12 @@ pub fn walk_live<Rt: Threads + Wait + Sync, D: Folder, O: Sink, G: Gate + Sync>(
     requires settings { AreSettings store.shape settings.now }
     requires bytes { D.File.bytes store.file ≡ bytes_at (D.files folder.old) names.now.store.now }
     requires tells { is_some (D.File.bytes store.file) ≡ is_some (D.files folder.old) }
-    requires opened { AreOpen 1 names.now.store.now (D.asked folder.old) (file_state D.File.File store.file ∷ []) }
-    ensures walked { let drawn = IsDrawnBySome (drawn_by D.File.File) in
-        let given = given_by true picture_wants still_shows still_whole (scene_of store.shape store.depth path.now)
-        settings.now Live
-        (D.File.bytes store.file) (names_of names.now) in
-        let first = walk_state D.Folder names.now.store.now folder.old (file_state D.File.File store.file ∷ [])
-        (O.held out.old) (O.faults out.old) in
-        let last = walk_state D.Folder names.now.store.now folder.new [] (O.held out.new) (O.faults out.new) in
-        MatchResult result (λ _. Finished drawn given first last) (LeftBy drawn given first last) }
-    ensures few { settings.now.frames < pinned_of store.shape settings.now.pinned
-        → result ≡ Err (WalkError.TooFewFrames settings.now.frames (pinned_of store.shape settings.now.pinned)) }
+    requires opened { AreOpen 1 names.now.store.now (D.asked folder.old) (file_of D.File.File store) }
+    ensures walked { Walks (drawn_by D.File.File) (given_to nearest D.File.File store path.now names.now settings.now false)
+        (walk_course D.Folder O.Sink names.now.store.now (file_of D.File.File store) [] folder.old folder.new out.old
+        out.new) result }
+    ensures few { let needed = pinned_of store.shape settings.now.pinned in settings.now.frames < needed
+        → result ≡ Err (WalkError.TooFewFrames settings.now.frames needed) }
     ensures others { AreOtherNamesAsBefore names.now.store.now (D.asked folder.old) (D.asked folder.new) }
     ensures faults { D.faults folder.old ≤ D.faults folder.new }
     ensures out_faults { O.faults out.old ≤ O.faults out.new }
@@ -77,17 +66,12 @@ pub fn walk_settled<Rt: Threads + Wait + Sync, D: Folder, O: Sink, G: Gate + Syn
     requires settings { AreSettings store.shape settings.now }
     requires bytes { D.File.bytes store.file ≡ bytes_at (D.files folder.old) names.now.store.now }
     requires tells { is_some (D.File.bytes store.file) ≡ is_some (D.files folder.old) }
-    requires opened { AreOpen 1 names.now.store.now (D.asked folder.old) (file_state D.File.File store.file ∷ []) }
-    ensures walked { let drawn = IsDrawnBySome (drawn_by D.File.File) in
-        let given = given_by true picture_wants still_shows still_whole (scene_of store.shape store.depth path.now)
-        settings.now Settled
-        (D.File.bytes store.file) (names_of names.now) in
-        let first = walk_state D.Folder names.now.store.now folder.old (file_state D.File.File store.file ∷ [])
-        (O.held out.old) (O.faults out.old) in
-        let last = walk_state D.Folder names.now.store.now folder.new [] (O.held out.new) (O.faults out.new) in
-        MatchResult result (λ _. Finished drawn given first last) (LeftBy drawn given first last) }
-    ensures few { settings.now.frames < pinned_of store.shape settings.now.pinned
-        → result ≡ Err (WalkError.TooFewFrames settings.now.frames (pinned_of store.shape settings.now.pinned)) }
+    requires opened { AreOpen 1 names.now.store.now (D.asked folder.old) (file_of D.File.File store) }
+    ensures walked { Walks (drawn_by D.File.File) (given_to nearest D.File.File store path.now names.now settings.now true)
+        (walk_course D.Folder O.Sink names.now.store.now (file_of D.File.File store) [] folder.old folder.new out.old
+        out.new) result }
+    ensures few { let needed = pinned_of store.shape settings.now.pinned in settings.now.frames < needed
+        → result ≡ Err (WalkError.TooFewFrames settings.now.frames needed) }
     ensures others { AreOtherNamesAsBefore names.now.store.now (D.asked folder.old) (D.asked folder.new) }
     ensures faults { D.faults folder.old ≤ D.faults folder.new }
     ensures out_faults { O.faults out.old ≤ O.faults out.new }

@@ -29,6 +29,7 @@ use Rattle.vt_walk.specs.Runs.{WalkPass, IsWalkSetup, IsRun, IsWhole, IsPictureA
 use Rattle.vt_walk.specs.Shown.{last_rows, IsRunPicture}
 use Rattle.vt_walk.specs.Standing.{HasReached, Stands, Finished}
 use Rattle.vt_walk.specs.States.{WalkState}
+use Rattle.vt_machine.specs.Drawings.{Drawing}
 use Rattle.vt_turns.specs.declared.mode.Mode.{Mode}
 use Rattle.vt_turns.specs.declared.settings.Settings.{Settings}
 use Rattle.vt_walk.specs.Walks.{WalkGiven, WalkNames, AreSettings, walk_setup}
@@ -115,8 +116,8 @@ written_again drawn g b run picture bytes store is_run low written =
     let width = g.scene.path.width in
     let height = g.scene.path.height in
     let rows = last_rows run picture in
-    let shown : IsRunPicture g.setup run g.scene.depth width (g.shows b) picture written.samples =
-    subst (λ (o : Option (List ℕ)). IfSome o (λ bs. IsRunPicture g.setup run g.scene.depth width (g.shows bs) picture written.samples)) store.told
+    let shown : IsRunPicture g.setup run g.scene.depth width (g.draws.shows g.scene b) picture written.samples =
+    subst (λ (o : Option (List ℕ)). IfSome o (λ bs. IsRunPicture g.setup run g.scene.depth width (g.draws.shows g.scene bs) picture written.samples)) store.told
     written.replay in
     let under : IsRunPicture g.setup run g.scene.depth width (pixel_under (stored b) g.scene) picture written.samples =
     subst (λ (pixel : Table → ℕ → ℕ → ℕ → List ℕ). IsRunPicture g.setup run g.scene.depth width pixel picture written.samples) store.shows shown in
@@ -309,10 +310,10 @@ unfolding pinned_of
 most_pinned s n = omega arith
 
 -- the numbers of a walk are within their limits, where the scene and the settings are, and there are frames for the pinned pages
-pub settings_fit : (dealt : Bool) (needs : Scene → ℕ → ℕ → ℕ) (scene : Scene) (settings : Settings) (mode : Mode)
+pub settings_fit : (draws : Drawing) (scene : Scene) (settings : Settings) (mode : Mode)
     → IsWithinLimits scene.shape → AreSettings scene.shape settings → pinned_of scene.shape settings.pinned ≤ settings.frames
-    → IsWalkSetup (walk_setup dealt needs scene settings mode)
-settings_fit dealt needs scene settings mode limits are enough = record {
+    → IsWalkSetup (walk_setup draws scene settings mode)
+settings_fit draws scene settings mode limits are enough = record {
   limits = limits;
   most_frames = are.frames.few;
   some_pinned = some_pinned scene.shape settings.pinned limits are.some_level;

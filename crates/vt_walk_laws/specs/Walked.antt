@@ -12,8 +12,8 @@ pub record IsOfStore (g : WalkGiven) (b : List ℕ) : Type 0 where
   pub shape : g.setup.shape ≡ g.scene.shape
   pub height : g.setup.height ≡ g.scene.path.height
   pub pictures : g.setup.pictures ≡ length g.scene.path.cameras
-  pub told : g.machine.bytes ≡ Some b
-  pub shows : g.shows b ≡ pixel_under (stored b) g.scene
+  pub told : g.told ≡ Some b
+  pub shows : g.draws.shows g.scene b ≡ pixel_under (stored b) g.scene
 
 -- pictures, the newest first in the list, as files in the order of their numbers, each under its name
 abbrev pub named_pictures : List ℕ → List (List ℕ) → List FileDue

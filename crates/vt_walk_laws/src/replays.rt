@@ -1,6 +1,6 @@
 //! Laws that tie walks to replays: each is the contract of a function that does nothing.
 
-ghost use Rattle.std.specs.Prelude.{◌≡◌, ℕ, ◌+◌, ◌<◌, ◌≤◌, true, List, ◌∷◌, length, Option, Some, option_map};
+ghost use Rattle.std.specs.Prelude.{◌≡◌, ℕ, ◌+◌, ◌<◌, ◌≤◌, List, ◌∷◌, length, Option, Some, option_map};
 ghost use Rattle.vt_outside.specs.Files.{Files};
 ghost use Rattle.vt_pages.specs.Pages.{pinned_of, IsWithinLimits};
 ghost use Rattle.vt_journal.specs.JournalText.{Content, content_changes};
@@ -8,8 +8,7 @@ ghost use Rattle.vt_tiles.specs.Format.{stored};
 ghost use Rattle.vt_files.specs.Dues.{with_files};
 ghost use Rattle.vt_files.specs.Pictures.{pictures_due};
 ghost use Rattle.vt_shown.specs.Scenes.{Scene};
-ghost use Rattle.vt_machine.specs.PictureWants.{picture_wants};
-ghost use Rattle.vt_machine.specs.StillShows.{still_shows, still_whole};
+ghost use Rattle.vt_machine.specs.Nearest.{nearest};
 ghost use Rattle.vt_turns.specs.declared.mode.Mode.{Mode};
 ghost use Rattle.vt_turns.specs.declared.settings.Settings.{Settings};
 ghost use Rattle.vt_walk.specs.Fits.{WalkSetup};
@@ -88,8 +87,8 @@ pub fn replay_gives_the_walk<M: PassMachine>()
 /// where its settings are and there are frames for the pinned pages, as in each finished walk.
 pub fn still_walk_is_of_its_store()
     ensures store { (scene : Scene) (settings : Settings) (mode : Mode) (b : List ℕ) (names : WalkNames)
-        → IsOfStore (given_by true picture_wants still_shows still_whole scene settings mode (Some b) names) b }
+        → IsOfStore (given_by nearest scene settings mode (Some b) names) b }
     ensures setup { (scene : Scene) (settings : Settings) (mode : Mode) (told : Option (List ℕ)) (names : WalkNames)
         → IsWithinLimits scene.shape → AreSettings scene.shape settings → pinned_of scene.shape settings.pinned ≤ settings.frames
-        → IsWalkSetup (given_by true picture_wants still_shows still_whole scene settings mode told names).setup }
+        → IsWalkSetup (given_by nearest scene settings mode told names).setup }
 {}

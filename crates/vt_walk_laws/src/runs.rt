@@ -114,9 +114,9 @@ pub fn run_order_is_by_stamps()
 /// What a machine has drawn of a pass is its picture in the run.
 pub fn drawn_picture_is_the_runs<M: PassMachine>()
     ensures { (m : M) (w : WalkSetup) (p : WalkPass) (passes : List WalkPass) (job : Job) (s : MachineState) (b : List ℕ)
-        → IsPictured M.needs M.shows (M.drawn m) job p.rows s → s.setup.bytes ≡ Some b → s.setup.height ≡ w.height
+        → IsPictured M.drawing (M.drawn m) job p.rows s → s.setup.bytes ≡ Some b → s.setup.height ≡ w.height
         → s.journal ≡ journal_after w (p ∷ passes) → job.picture ≡ p.picture
-        → IsRunPicture w (p ∷ passes) s.setup.depth s.setup.width (M.shows job.scene b) p.picture (concat s.rows) }
+        → IsRunPicture w (p ∷ passes) s.setup.depth s.setup.width (M.drawing.shows job.scene b) p.picture (concat s.rows) }
 {}
 
 /// The picture of a run stays through the passes of other pictures.
@@ -179,12 +179,12 @@ pub fn run_places_add_up()
 /// planned, and the recency was settled by it; and the machine's journal is then that of the longer run.
 pub fn ran_pass_comes_next<M: PassMachine>()
     ensures next { (m : M) (w : WalkSetup) (before : List WalkPass) (job : Job) (report : Report) (wants : List Wanted) (settled : RecencyView)
-        (s t : MachineState) → Ran M.DEALT M.needs M.shows (M.drawn m) job report s t → w.dealt ≡ M.DEALT → w.samplers ≡ s.setup.crew.samplers
+        (s t : MachineState) → Ran M.drawing (M.drawn m) job report s t → w.dealt ≡ M.drawing.dealt → w.samplers ≡ s.setup.crew.samplers
         → w.height ≡ s.setup.height → s.journal ≡ journal_after w before → IsTurnOf w before job.picture → job.picture < w.pictures
         → job.batch ≡ plan_after w before → IsWants w.shape (w.needs job.picture) wants
         → IsSettled (recency_after w before) (read_entries job.batch report.losses.elements) settled
         → IsNextPass w before (pass_of job report wants settled) }
     ensures journal { (m : M) (w : WalkSetup) (before : List WalkPass) (job : Job) (report : Report) (wants : List Wanted)
-        (settled : RecencyView) (s t : MachineState) → Ran M.DEALT M.needs M.shows (M.drawn m) job report s t → s.journal ≡ journal_after w before
+        (settled : RecencyView) (s t : MachineState) → Ran M.drawing (M.drawn m) job report s t → s.journal ≡ journal_after w before
         → t.journal ≡ journal_after w (pass_of job report wants settled ∷ before) }
 {}

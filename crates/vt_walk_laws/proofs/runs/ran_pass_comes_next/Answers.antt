@@ -3,6 +3,6 @@ use Rattle.vt_walk_laws.proofs.runs.ran_pass_comes_next.Goals as goal
 
 pub returns : goal.returns
 returns g c = record {
-  next = λ m. comes_next g.M.PassMachine.needs g.M.PassMachine.shows (g.M.PassMachine.drawn m) g.M.PassMachine.DEALT;
-  journal = λ m. journal_grown g.M.PassMachine.needs g.M.PassMachine.shows (g.M.PassMachine.drawn m) g.M.PassMachine.DEALT;
+  next = λ m. comes_next g.M.PassMachine.drawing (g.M.PassMachine.drawn m);
+  journal = λ m. journal_grown g.M.PassMachine.drawing (g.M.PassMachine.drawn m);
 }
