@@ -5,7 +5,7 @@ use std::sync::Wait;
 use std::thread::Threads;
 use vt_commands::run;
 use vt_outside::{Fail, Fails, MemoryFile, MemoryFolder, MemorySink, NoMemory, OpenGate};
-use vt_still::StillMachine;
+use vt_pass::WordMachine;
 
 /// What commands run over: a folder in memory, the output and the error output.
 #[derive(Drop)]
@@ -84,7 +84,7 @@ fn play_words(
     words: &[String],
     scene: &mut Scene,
 ) -> u8 {
-    run::<StillMachine<MemoryFile>, _, _, _, _, _>(
+    run::<WordMachine<MemoryFile>, _, _, _, _, _>(
         rt,
         alloc,
         words,

@@ -15,7 +15,7 @@ use std::thread::Threads;
 use vt_camera::Path;
 use vt_outside::{Fail, Fails, Folder, MemoryFolder, MemorySink, NoMemory, OpenGate, Sink};
 use vt_pages::Geometry;
-use vt_still_walks::{walk_live, walk_settled};
+use vt_word_walks::{walk_live, walk_settled};
 use vt_tiles::Store;
 use vt_walk::{Mode, Names, Settings, WalkError};
 

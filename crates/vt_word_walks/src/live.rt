@@ -1,4 +1,4 @@
-//! Walks by the machine over a still table.
+//! Walks by the machine over shared words.
 
 ghost use Rattle.std.specs.Prelude.{◌≡◌, ◌<◌, ◌≤◌, [], true, false, is_some};
 ghost use Rattle.vt_outside.specs.Files.{bytes_at};
@@ -8,14 +8,14 @@ ghost use Rattle.vt_walk.specs.Walks.{given_to, AreSettings};
 ghost use Rattle.vt_walk.specs.States.{AreOpen};
 ghost use Rattle.vt_walk.specs.Courses.{walk_course, file_of, Walks};
 ghost use Rattle.vt_walk.specs.Closing.{AreOtherNamesAsBefore};
-ghost use Rattle.vt_still_walks.specs.StillDrawn.{drawn_by};
+ghost use Rattle.vt_word_walks.specs.WordDrawn.{drawn_of};
 
 use std::alloc::Global;
 use std::sync::Wait;
 use std::thread::Threads;
 use vt_camera::Path;
 use vt_outside::{Folder, Gate, Sink};
-use vt_still::StillMachine;
+use vt_pass::WordMachine;
 use vt_tiles::Store;
 use vt_walk::{Names, Settings, WalkError, walk_with};
 
@@ -36,7 +36,7 @@ pub fn walk_live<Rt: Threads + Wait + Sync, D: Folder, O: Sink, G: Gate + Sync>(
     requires bytes { D.File.bytes store.file ≡ bytes_at (D.files folder.old) names.now.store.now }
     requires tells { is_some (D.File.bytes store.file) ≡ is_some (D.files folder.old) }
     requires opened { AreOpen 1 names.now.store.now (D.asked folder.old) (file_of D.File.File store) }
-    ensures walked { Walks (drawn_by D.File.File) (given_to nearest D.File.File store path.now names.now settings.now false)
+    ensures walked { Walks drawn_of (given_to nearest D.File.File store path.now names.now settings.now false)
         (walk_course D.Folder O.Sink names.now.store.now (file_of D.File.File store) [] folder.old folder.new out.old
         out.new) result }
     ensures few { let needed = pinned_of store.shape settings.now.pinned in settings.now.frames < needed
@@ -45,7 +45,7 @@ pub fn walk_live<Rt: Threads + Wait + Sync, D: Folder, O: Sink, G: Gate + Sync>(
     ensures faults { D.faults folder.old ≤ D.faults folder.new }
     ensures out_faults { O.faults out.old ≤ O.faults out.new }
 {
-    walk_with::<Rt, StillMachine<D::File>, D, O, G>(
+    walk_with::<Rt, WordMachine<D::File>, D, O, G>(
         rt, alloc, folder, store, path, names, settings, false, out, gate,
     )
 }
@@ -67,7 +67,7 @@ pub fn walk_settled<Rt: Threads + Wait + Sync, D: Folder, O: Sink, G: Gate + Syn
     requires bytes { D.File.bytes store.file ≡ bytes_at (D.files folder.old) names.now.store.now }
     requires tells { is_some (D.File.bytes store.file) ≡ is_some (D.files folder.old) }
     requires opened { AreOpen 1 names.now.store.now (D.asked folder.old) (file_of D.File.File store) }
-    ensures walked { Walks (drawn_by D.File.File) (given_to nearest D.File.File store path.now names.now settings.now true)
+    ensures walked { Walks drawn_of (given_to nearest D.File.File store path.now names.now settings.now true)
         (walk_course D.Folder O.Sink names.now.store.now (file_of D.File.File store) [] folder.old folder.new out.old
         out.new) result }
     ensures few { let needed = pinned_of store.shape settings.now.pinned in settings.now.frames < needed
@@ -76,7 +76,7 @@ pub fn walk_settled<Rt: Threads + Wait + Sync, D: Folder, O: Sink, G: Gate + Syn
     ensures faults { D.faults folder.old ≤ D.faults folder.new }
     ensures out_faults { O.faults out.old ≤ O.faults out.new }
 {
-    walk_with::<Rt, StillMachine<D::File>, D, O, G>(
+    walk_with::<Rt, WordMachine<D::File>, D, O, G>(
         rt, alloc, folder, store, path, names, settings, true, out, gate,
     )
 }

@@ -1,4 +1,4 @@
-//! Walks by the machine over a still table, live and settled.
+//! Walks by the machine over shared words, live and settled.
 #![tactic(auto)]
 
 mod live;
