@@ -5,7 +5,7 @@ use Rattle.vt_files.specs.Courses.{Course, FolderState, IsIdle}
 use Rattle.vt_inputs.specs.Inputs.{Input, Content}
 use Rattle.vt_inputs.specs.Causes.{AreAskedOrNot}
 use Rattle.vt_inputs.specs.Terms.{Terms, Hindrance, FlawedBeside, ManyTexels, FewFrames, LargePicture, hindrance_status}
-use Rattle.vt_walk_commands.specs.Machines.{Drawing}
+use Rattle.vt_walk_commands.specs.Machines.{MachineKind}
 use Rattle.vt_walk_commands.specs.commands.Walk.{WalkOf, HindersWalk, StandsInWay, contents_of, walk_inputs, walk_terms}
 use Rattle.vt_walk_commands.specs.commands.Replay.{HasBadLine, replay_closes, replay_terms}
 use Rattle.vt_walk_commands.specs.commands.Trial.{HindersTrial, trial_terms}
@@ -36,7 +36,7 @@ replay_sound words = record {
 }
 
 -- too many texels exclude the others
-one_stands : (m : Drawing) (words : WalkText) (of : WalkOf) (a b : Hindrance) → StandsInWay m words of a → StandsInWay m words of b
+one_stands : (m : MachineKind) (words : WalkText) (of : WalkOf) (a b : Hindrance) → StandsInWay m words of a → StandsInWay m words of b
     → hindrance_status a ≡ hindrance_status b
 one_stands m words of (FlawedBeside name flaw) b x y = absurd x
 one_stands m words of a (FlawedBeside name flaw) x y = absurd y
@@ -58,12 +58,12 @@ same_of a b same =
     let depth : a.depth ≡ b.depth = cc in
     λ i. record { path = path i; shape = shape i; depth = depth i }
 
-walk_one : (m : Drawing) (words : WalkText) (contents : List Content) (a b : Hindrance) → HindersWalk m words contents a → HindersWalk m words contents b
+walk_one : (m : MachineKind) (words : WalkText) (contents : List Content) (a b : Hindrance) → HindersWalk m words contents a → HindersWalk m words contents b
     → hindrance_status a ≡ hindrance_status b
 walk_one m words contents a b x y =
     one_stands m words x.of a b x.stands (subst (λ (o : WalkOf). StandsInWay m words o b) (same_of y.of x.of (sym y.are ∙ x.are)) y.stands)
 
-pub walk_sound : (m : Drawing) (words : WalkText) → AreSound (walk_terms m words)
+pub walk_sound : (m : MachineKind) (words : WalkText) → AreSound (walk_terms m words)
 walk_sound m words = record {
   one = walk_one m words;
   idle = λ c idle.

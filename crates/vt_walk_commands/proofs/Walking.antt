@@ -32,7 +32,7 @@ use Rattle.vt_walk.proofs.Wholeness.{fits_or_not}
 use Rattle.vt_words.specs.Names.{is_picture_name}
 use Rattle.vt_words.specs.Journals.{names_clash}
 use Rattle.vt_words.specs.Walk.{WalkText}
-use Rattle.vt_walk_commands.specs.Machines.{Drawing}
+use Rattle.vt_walk_commands.specs.Machines.{MachineKind}
 use Rattle.vt_inputs.specs.Inputs.{PathInput, StoreInput, PathContent, StoreContent, header_places}
 use Rattle.vt_inputs.specs.HeldInputs.{Holds}
 use Rattle.vt_inputs.specs.Causes.{AreHeld, AsksSome}
@@ -53,12 +53,12 @@ abbrev pub over : FolderState → FolderState → SinkState → SinkState → Co
 over before after out shown = record { folder = record { before = before; after = after }; out = record { before = out; after = shown } }
 
 -- the count of faults rose, and only the inputs were asked
-risen_before : (m : Drawing) (words : WalkText) (c : Course) → AsksSome (walk_inputs words) c.folder → HasRisen c → WalkFailed m words c
+risen_before : (m : MachineKind) (words : WalkText) (c : Course) → AsksSome (walk_inputs words) c.folder → HasRisen c → WalkFailed m words c
 risen_before m words c asks (inl rose) = inr (inl (record { asks = asks; rose = rose }))
 risen_before m words c asks (inr rose) = inl rose
 
 -- the path was refused
-pub path_refused : (m : Drawing) (words : WalkText) (refusal : Refusal) (f0 f1 : FolderState) (out : SinkState)
+pub path_refused : (m : MachineKind) (words : WalkText) (refusal : Refusal) (f0 f1 : FolderState) (out : SinkState)
     → Refused (PathInput words.path) refusal (record { before = f0; after = f1 })
     → EndsBy {T = Unit {0}} (walk_terms m words) (over f0 f1 out out) (Err refusal)
 path_refused m words refusal f0 f1 out h =
@@ -78,7 +78,7 @@ abbrev pub ReadPath : WalkText → PathView → FolderState → FolderState → 
 ReadPath words path f0 f1 = Took (PathInput words.path) (PathContent path) (record { before = f0; after = f1 })
 
 -- the store was refused
-pub store_refused : (m : Drawing) (words : WalkText) (path : PathView) (refusal : Refusal) (f0 f1 f2 : FolderState) (out : SinkState)
+pub store_refused : (m : MachineKind) (words : WalkText) (path : PathView) (refusal : Refusal) (f0 f1 f2 : FolderState) (out : SinkState)
     → ReadPath words path f0 f1 → Refused (StoreInput words.store) refusal (record { before = f1; after = f2 })
     → EndsBy {T = Unit {0}} (walk_terms m words) (over f0 f2 out out) (Err refusal)
 store_refused m words path refusal f0 f1 f2 out p h =
@@ -111,7 +111,7 @@ both_held words of file f0 f1 f2 h told =
     )
 
 -- the frames have too many texels, and the store was closed
-pub many_refused : (m : Drawing) (words : WalkText) (of : WalkOf) (file : FileState) (f0 f1 f2 f3 : FolderState) (out : SinkState)
+pub many_refused : (m : MachineKind) (words : WalkText) (of : WalkOf) (file : FileState) (f0 f1 f2 f3 : FolderState) (out : SinkState)
     → HasInputs words of file f0 f1 f2 → Closed file (record { before = f2; after = f3 }) → most_frame_texels < frame_texels words of
     → EndsBy {T = Unit {0}} (walk_terms m words) (over f0 f3 out out) (Err Usage)
 many_refused m words of file f0 f1 f2 f3 out h closed many =
@@ -139,9 +139,9 @@ abbrev pub file_of : FileState → Requests.FileState
 file_of file = record { name = file.name; asked = file.asked; faults = file.faults }
 
 -- the walk that the words ask for, over these bytes of the store
-abbrev pub given_told : Drawing → WalkText → WalkOf → Option (List ℕ) → WalkGiven
+abbrev pub given_told : MachineKind → WalkText → WalkOf → Option (List ℕ) → WalkGiven
 given_told m words of told =
-    given_by m.dealt m.needs m.shows m.whole (scene_of of.shape of.depth of.path) (settings_of words) (mode_of words.settled)
+    given_by m.draws (scene_of of.shape of.depth of.path) (settings_of words) (mode_of words.settled)
     told (walk_names words)
 
 -- what stood before a walk, with the store's file that is open
@@ -165,7 +165,7 @@ ended words f out = record {
 }
 
 -- what a walk came to
-abbrev pub CameTo : Drawing → WalkGiven → WalkState → WalkState → Result (Unit {0}) WalkError → Type 0
+abbrev pub CameTo : MachineKind → WalkGiven → WalkState → WalkState → Result (Unit {0}) WalkError → Type 0
 CameTo m g first last r = MatchResult r (λ _. Finished m.drawn g first last) (WalkLeftBy m.drawn g first last)
 
 header_asked : (store : List ℕ) (asked : Option Asked) (file : FileState) → file.asked ≡ option_map (λ (_ : Asked). header_places) asked
@@ -182,7 +182,7 @@ none_open store (Some a) =
     subst (λ (places : List Place). OnTold AreSamePlaces (Some places) (Some (a store))) (sym (append-nil (a store))) (same_places (Some (a store)))
 
 -- what a walk came to, from when its inputs were read
-from_inputs : (m : Drawing) (words : WalkText) (of : WalkOf) (file : FileState) (f0 f1 f2 f3 : FolderState) (out shown : SinkState)
+from_inputs : (m : MachineKind) (words : WalkText) (of : WalkOf) (file : FileState) (f0 f1 f2 f3 : FolderState) (out shown : SinkState)
     (r : Result (Unit {0}) WalkError) → HasInputs words of file f0 f1 f2
     → CameTo m (given_told m words of file.bytes) (began words file f2 out) (ended words f3 shown) r
     → CameTo m (walk_given m words of f0.files) (walk_first words f1.asked (over f0 f3 out shown)) (walk_last words (over f0 f3 out shown)) r
@@ -217,7 +217,7 @@ from_inputs m words of file f0 f1 f2 f3 out shown r h came =
     few = let path = h.path_read.faults in let opened = h.opened.faults in omega (arith, path, opened)
 
 -- what is known of a walk that was made
-pub record WasMade (m : Drawing) (words : WalkText) (of : WalkOf) (file : FileState) (f0 f1 f2 f3 : FolderState) (out shown : SinkState)
+pub record WasMade (m : MachineKind) (words : WalkText) (of : WalkOf) (file : FileState) (f0 f1 f2 f3 : FolderState) (out shown : SinkState)
     (r : Result (Unit {0}) WalkError) : Type 0 where
   pub inputs : HasInputs words of file f0 f1 f2
   pub few_texels : frame_texels words of ≤ most_frame_texels
@@ -226,7 +226,7 @@ pub record WasMade (m : Drawing) (words : WalkText) (of : WalkOf) (file : FileSt
   pub few_frames : words.frames < walk_pinned words of → r ≡ Err (walks.TooFewFrames words.frames (walk_pinned words of))
   pub others : AreOtherNamesAsBefore words.store f2.asked f3.asked
 
-asks_walk : (m : Drawing) (words : WalkText) (of : WalkOf) (file : FileState) (f0 f1 f2 f3 : FolderState) (out shown : SinkState)
+asks_walk : (m : MachineKind) (words : WalkText) (of : WalkOf) (file : FileState) (f0 f1 f2 f3 : FolderState) (out shown : SinkState)
     → HasInputs words of file f0 f1 f2 → AreOtherNamesAsBefore words.store f2.asked f3.asked
     → HasWalked m words (contents_of of) (over f0 f3 out shown) ⊎ HasLeft m words (contents_of of) (over f0 f3 out shown)
     → WalkAsks m words (over f0 f3 out shown)
@@ -240,7 +240,7 @@ asks_walk m words of file f0 f1 f2 f3 out shown h others stands = inr (record {
 })
 
 -- nothing stands in the way of a finished walk
-nothing_hinders : (m : Drawing) (words : WalkText) (of : WalkOf) (files : Option Files) (first last : WalkState)
+nothing_hinders : (m : MachineKind) (words : WalkText) (of : WalkOf) (files : Option Files) (first last : WalkState)
     → frame_texels words of ≤ most_frame_texels → Finished m.drawn (walk_given m words of files) first last
     → (hindrance : Hindrance) → StandsInWay m words of hindrance → ⊥
 nothing_hinders m words of files first last few f (FlawedBeside name flaw) h = h
@@ -253,7 +253,7 @@ nothing_hinders m words of files first last few f (LargePicture picture wanted r
     fits_or_not (walk_given m words of files).setup picture wanted (f.fits h.settled picture h.of_path) h.unfit
 
 -- the walk is finished
-walk_done : (m : Drawing) (words : WalkText) (of : WalkOf) (file : FileState) (f0 f1 f2 f3 : FolderState) (out shown : SinkState)
+walk_done : (m : MachineKind) (words : WalkText) (of : WalkOf) (file : FileState) (f0 f1 f2 f3 : FolderState) (out shown : SinkState)
     → WasMade m words of file f0 f1 f2 f3 out shown (Ok tt) → EndsBy {T = Unit {0}} (walk_terms m words) (over f0 f3 out shown) (Ok tt)
 walk_done m words of file f0 f1 f2 f3 out shown made =
     let h = made.inputs in
@@ -279,7 +279,7 @@ walk_done m words of file f0 f1 f2 f3 out shown made =
     )
 
 -- why a walk was left, as the terms say it
-why_left : (m : Drawing) (words : WalkText) (of : WalkOf) (file : FileState) (f0 f1 f2 f3 : FolderState) (out shown : SinkState) (error : WalkError)
+why_left : (m : MachineKind) (words : WalkText) (of : WalkOf) (file : FileState) (f0 f1 f2 f3 : FolderState) (out shown : SinkState) (error : WalkError)
     → WasMade m words of file f0 f1 f2 f3 out shown (Err error)
     → IsCausedBy m.drawn (walk_given m words of f0.files) (walk_first words f1.asked (over f0 f3 out shown))
     (walk_last words (over f0 f3 out shown)) error
@@ -348,7 +348,7 @@ why_left m words of file f0 f1 f2 f3 out shown walks.Failed made (inr lost) = in
 why_left m words of file f0 f1 f2 f3 out shown walks.NoMemory made cause = tt
 
 -- the walk was left
-walk_left : (m : Drawing) (words : WalkText) (of : WalkOf) (file : FileState) (f0 f1 f2 f3 : FolderState) (out shown : SinkState) (error : WalkError)
+walk_left : (m : MachineKind) (words : WalkText) (of : WalkOf) (file : FileState) (f0 f1 f2 f3 : FolderState) (out shown : SinkState) (error : WalkError)
     → WasMade m words of file f0 f1 f2 f3 out shown (Err error)
     → EndsBy {T = Unit {0}} (walk_terms m words) (over f0 f3 out shown) (Err (refusal_of_walk error))
 walk_left m words of file f0 f1 f2 f3 out shown error made =
@@ -395,7 +395,7 @@ names_apart words none =
     (bytes_eq words.journal words.store) (bytes_eq words.journal words.path) none
 
 -- how a walk ends, by its answer
-pub walk_ends : (m : Drawing) (words : WalkText) (of : WalkOf) (file : FileState) (f0 f1 f2 f3 : FolderState) (out shown : SinkState)
+pub walk_ends : (m : MachineKind) (words : WalkText) (of : WalkOf) (file : FileState) (f0 f1 f2 f3 : FolderState) (out shown : SinkState)
     (walked : Result (Unit {0}) WalkError) (r : Result (Unit {0}) Refusal) → WasMade m words of file f0 f1 f2 f3 out shown walked → IsAnswer walked r
     → EndsBy {T = Unit {0}} (walk_terms m words) (over f0 f3 out shown) r
 walk_ends m words of file f0 f1 f2 f3 out shown (Ok tt) r made is =

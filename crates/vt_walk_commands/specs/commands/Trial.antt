@@ -1,5 +1,5 @@
 -- The command `trial`: a settled walk in memory, over a texture and a path that are made from a number.
-use Rattle.std.specs.Prelude.{◌≡◌, ◌⊎◌, ℕ, ◌+◌, ◌-◌, ◌*◌, ◌<◌, ◌==◌, not, min, List, [], ◌++◌, take, length, slice_index, codes, option_map, sum_by, true, Option, Some, None, Result, Ok, Err}
+use Rattle.std.specs.Prelude.{◌≡◌, ◌⊎◌, ℕ, ◌+◌, ◌-◌, ◌*◌, ◌<◌, ◌==◌, not, min, List, [], ◌++◌, take, length, slice_index, codes, option_map, sum_by, Option, Some, None, Result, Ok, Err}
 use Rattle.std.specs.List.{range_with_len, count_by}
 use Rattle.vt_outside.specs.Counts.{Rose}
 use Rattle.vt_outside.specs.Files.{Files, gained}
@@ -12,7 +12,7 @@ use Rattle.vt_camera.specs.PathText.{IsPathText}
 use Rattle.vt_pages.specs.Shape.{Shape, shape_of}
 use Rattle.vt_draw.specs.Plain.{plain_samples}
 use Rattle.vt_shown.specs.Scenes.{scene_of}
-use Rattle.vt_machine.specs.PictureWants.{picture_wants}
+use Rattle.vt_machine.specs.Nearest.{nearest}
 use Rattle.vt_turns.specs.declared.settings.Settings.{Settings}
 use Rattle.vt_turns.specs.declared.mode.Mode.TheVariants.{Settled}
 use Rattle.vt_turns.specs.declared.error.WalkError.{WalkError}
@@ -59,7 +59,7 @@ trial_settings = record { frames = 64; pinned = 1; crew = record { samplers = 4;
 
 -- the settled walk over a path
 abbrev pub trial_setup : PathView → WalkSetup
-trial_setup path = walk_setup true picture_wants (scene_of trial_shape 1 path) trial_settings Settled
+trial_setup path = walk_setup nearest (scene_of trial_shape 1 path) trial_settings Settled
 
 -- the chain of the texture of a number
 abbrev pub IsOfTrial : ℕ → ChainView → Type 0

@@ -21,7 +21,7 @@ use Rattle.vt_walk.specs.Leaving.{Left}
 use Rattle.vt_walk.specs.Causes.{HasUnfit, HasLost, reads_lost}
 use Rattle.vt_walk.specs.Closing.{AreOtherNamesAsBefore}
 use Rattle.vt_words.specs.Walk.{WalkText}
-use Rattle.vt_walk_commands.specs.Machines.{Drawing}
+use Rattle.vt_walk_commands.specs.Machines.{MachineKind}
 use Rattle.vt_inputs.specs.Inputs.{Input, Content, PathInput, StoreInput, PathContent, StoreContent, header_places}
 use Rattle.vt_inputs.specs.Causes.{AreHeld, IsAskedOrNot, AsksSome}
 use Rattle.vt_inputs.specs.Terms.{Terms, Hindrance, FlawedBeside, ManyTexels, FewFrames, LargePicture}
@@ -51,9 +51,9 @@ abbrev pub walk_names : WalkText → WalkNames
 walk_names words = record { store = words.store; prefix = words.prefix; journal = words.journal }
 
 -- the walk that the words ask for, over the bytes that the folder tells of the store
-abbrev pub walk_given : Drawing → WalkText → WalkOf → Option Files → WalkGiven
+abbrev pub walk_given : MachineKind → WalkText → WalkOf → Option Files → WalkGiven
 walk_given m words of files =
-    given_by m.dealt m.needs m.shows m.whole (scene_of of.shape of.depth of.path) (settings_of words) (mode_of words.settled)
+    given_by m.draws (scene_of of.shape of.depth of.path) (settings_of words) (mode_of words.settled)
     (bytes_at files words.store) (walk_names words)
 
 -- what stood before a walk once its store was opened: of the store its header was asked, after these places; the count of faults has
@@ -78,7 +78,7 @@ walk_last words c = record {
 }
 
 -- the journal's name is no picture's; the path was asked, and then the walk was made whole: what it leaves stands between the opening of its store and the end
-pub record HasWalked (m : Drawing) (words : WalkText) (contents : List Content) (c : Course) : Type 0 where
+pub record HasWalked (m : MachineKind) (words : WalkText) (contents : List Content) (c : Course) : Type 0 where
   pub of : WalkOf
   pub are : contents ≡ contents_of of
   pub read : Option Asked
@@ -87,7 +87,7 @@ pub record HasWalked (m : Drawing) (words : WalkText) (contents : List Content) 
   pub finished : Finished m.drawn (walk_given m words of c.folder.before.files) (walk_first words read c) (walk_last words c)
 
 -- the journal's name is no picture's; the path was asked, and then the walk was left
-pub record HasLeft (m : Drawing) (words : WalkText) (contents : List Content) (c : Course) : Type 0 where
+pub record HasLeft (m : MachineKind) (words : WalkText) (contents : List Content) (c : Course) : Type 0 where
   pub of : WalkOf
   pub are : contents ≡ contents_of of
   pub read : Option Asked
@@ -96,7 +96,7 @@ pub record HasLeft (m : Drawing) (words : WalkText) (contents : List Content) (c
   pub left : Left m.drawn (walk_given m words of c.folder.before.files) (walk_first words read c) (walk_last words c)
 
 -- the journal's name is no picture's; a settled walk was left exactly after the first pass of a picture that does not fit, the first such
-pub record HasLeftAtUnfit (m : Drawing) (words : WalkText) (contents : List Content) (picture : ℕ) (c : Course) : Type 0 where
+pub record HasLeftAtUnfit (m : MachineKind) (words : WalkText) (contents : List Content) (picture : ℕ) (c : Course) : Type 0 where
   pub of : WalkOf
   pub are : contents ≡ contents_of of
   pub read : Option Asked
@@ -122,11 +122,11 @@ pub record HasFewFrames (words : WalkText) (of : WalkOf) (frames needed : ℕ) :
   pub few : frames < needed
 
 -- the setup of the walk that the words ask for
-abbrev pub setup_for : Drawing → WalkText → WalkOf → WalkSetup
-setup_for m words of = walk_setup m.dealt m.needs (scene_of of.shape of.depth of.path) (settings_of words) (mode_of words.settled)
+abbrev pub setup_for : MachineKind → WalkText → WalkOf → WalkSetup
+setup_for m words of = walk_setup m.draws (scene_of of.shape of.depth of.path) (settings_of words) (mode_of words.settled)
 
 -- there are frames for the pinned pages, and this is the first picture of a settled walk that does not fit
-pub record HasLargePicture (m : Drawing) (words : WalkText) (of : WalkOf) (picture wanted room : ℕ) : Type 0 where
+pub record HasLargePicture (m : MachineKind) (words : WalkText) (of : WalkOf) (picture wanted room : ℕ) : Type 0 where
   pub few_texels : frame_texels words of ≤ most_frame_texels
   pub enough : walk_pinned words of ≤ words.frames
   pub settled : mode_of words.settled ≡ Settled
@@ -136,14 +136,14 @@ pub record HasLargePicture (m : Drawing) (words : WalkText) (of : WalkOf) (pictu
   pub earlier : (i : ℕ) → i < picture → Fits (setup_for m words of) i
 
 -- this stands in the way of a walk
-abbrev pub StandsInWay : Drawing → WalkText → WalkOf → Hindrance → Type 0
+abbrev pub StandsInWay : MachineKind → WalkText → WalkOf → Hindrance → Type 0
 StandsInWay m words of (FlawedBeside name flaw) = ⊥
 StandsInWay m words of ManyTexels = most_frame_texels < frame_texels words of
 StandsInWay m words of (FewFrames frames needed) = HasFewFrames words of frames needed
 StandsInWay m words of (LargePicture picture wanted room) = HasLargePicture m words of picture wanted room
 
 -- this stands in the way of a walk over what the inputs hold
-pub record HindersWalk (m : Drawing) (words : WalkText) (contents : List Content) (hindrance : Hindrance) : Type 0 where
+pub record HindersWalk (m : MachineKind) (words : WalkText) (contents : List Content) (hindrance : Hindrance) : Type 0 where
   pub of : WalkOf
   pub are : contents ≡ contents_of of
   pub stands : StandsInWay m words of hindrance
@@ -154,7 +154,7 @@ walk_inputs words = PathInput words.path ∷ StoreInput words.store ∷ []
 
 -- what stands is what a walk leaves, so that the store was asked for the header and the tiles of its passes; beside it the path was asked
 -- and no other name
-pub record AsksOfWalk (m : Drawing) (words : WalkText) (c : Course) : Type 0 where
+pub record AsksOfWalk (m : MachineKind) (words : WalkText) (c : Course) : Type 0 where
   pub read : Option Asked
   pub path : IsAskedOrNot c.folder.before.files (PathInput words.path) c.folder.before.asked read
   pub others : AreOtherNamesAsBefore words.store read c.folder.after.asked
@@ -163,7 +163,7 @@ pub record AsksOfWalk (m : Drawing) (words : WalkText) (c : Course) : Type 0 whe
   pub stands : HasWalked m words contents c ⊎ HasLeft m words contents c
 
 -- no more than the path and the header was asked, or what a walk asks
-abbrev pub WalkAsks : Drawing → WalkText → Course → Type 0
+abbrev pub WalkAsks : MachineKind → WalkText → Course → Type 0
 WalkAsks m words c = AsksSome (walk_inputs words) c.folder ⊎ AsksOfWalk m words c
 
 -- the folder's count rose, and no tile was asked
@@ -172,7 +172,7 @@ pub record FailedBefore (words : WalkText) (c : Course) : Type 0 where
   pub rose : Rose c.folder.before.faults c.folder.after.faults
 
 -- the folder's count rose by more than the tiles of the unpinned pages of what the inputs hold that were lost
-pub record FailedInWalk (m : Drawing) (words : WalkText) (c : Course) : Type 0 where
+pub record FailedInWalk (m : MachineKind) (words : WalkText) (c : Course) : Type 0 where
   pub of : WalkOf
   pub held : IsSome c.folder.before.files → AreHeld c.folder.before.files (walk_inputs words) (contents_of of)
   pub read : Option Asked
@@ -181,7 +181,7 @@ pub record FailedInWalk (m : Drawing) (words : WalkText) (c : Course) : Type 0 w
       RoseBy (reads_lost given (walk_first words read c).asked (walk_last words c).asked + 1) c.folder.before.faults c.folder.after.faults
 
 -- the walk is settled, and what stands of it ends with a pass that lost a tile, which the journal tells
-pub record LostInWalk (m : Drawing) (words : WalkText) (c : Course) : Type 0 where
+pub record LostInWalk (m : MachineKind) (words : WalkText) (c : Course) : Type 0 where
   pub of : WalkOf
   pub held : IsSome c.folder.before.files → AreHeld c.folder.before.files (walk_inputs words) (contents_of of)
   pub read : Option Asked
@@ -190,11 +190,11 @@ pub record LostInWalk (m : Drawing) (words : WalkText) (c : Course) : Type 0 whe
   pub rose : Rose c.folder.before.faults c.folder.after.faults
 
 -- a call failed that ends a walk
-abbrev pub WalkFailed : Drawing → WalkText → Course → Type 0
+abbrev pub WalkFailed : MachineKind → WalkText → Course → Type 0
 WalkFailed m words c = Rose c.out.before.faults c.out.after.faults ⊎ (FailedBefore words c ⊎ (FailedInWalk m words c ⊎ LostInWalk m words c))
 
 -- the terms of `walk` by a machine
-abbrev pub walk_terms : Drawing → WalkText → Terms
+abbrev pub walk_terms : MachineKind → WalkText → Terms
 walk_terms m words = record {
   inputs = walk_inputs words;
   asks = WalkAsks m words;

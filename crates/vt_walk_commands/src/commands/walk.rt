@@ -4,7 +4,7 @@ ghost use Rattle.std.specs.Prelude.{◌≡◌, ◌<◌, ◌≤◌, ◌*◌, ◌�
 ghost use Rattle.vt_definitions.specs.Limits.{most_frames, most_frame_texels};
 ghost use Rattle.vt_files.specs.Courses.{course};
 ghost use Rattle.vt_words.specs.Walk.{shown_walk, IsLawfulWalk};
-ghost use Rattle.vt_walk_commands.specs.Machines.{drawing_of};
+ghost use Rattle.vt_walk_commands.specs.Machines.{kind_of};
 ghost use Rattle.vt_inputs.specs.Terms.{EndsBy};
 ghost use Rattle.vt_walk_commands.specs.commands.Walk.{walk_terms, IsAnswer, refusal_of_walk};
 
@@ -12,9 +12,9 @@ use std::alloc::Global;
 use std::sync::Wait;
 use std::thread::Threads;
 use vt_inputs::{Refusal, open_store, read_path};
+use vt_machine::{Crew, PassMachine};
 use vt_outside::{Folder, Gate, Sink};
 use vt_pages::Geometry;
-use vt_machine::{Crew, PassMachine};
 use vt_walk::{Names, Settings, WalkError, walk_with};
 use vt_words::WalkWords;
 
@@ -40,7 +40,7 @@ pub fn walk<
     gate: &G,
 ) -> Result<(), Refusal<'a>>
     requires { IsLawfulWalk words.now }
-    ensures { EndsBy (walk_terms (drawing_of M.DEALT M.needs M.shows M.whole M.drawn) (shown_walk words.now))
+    ensures { EndsBy (walk_terms (kind_of M.drawing M.drawn) (shown_walk words.now))
         (course D.Folder O.Sink folder.old folder.new out.old out.new) result }
 {
     let path = read_path(alloc, folder, words.path)?;
