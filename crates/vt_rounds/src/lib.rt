@@ -3,10 +3,12 @@
 
 mod asks;
 mod results;
+mod rounds;
 mod stream;
 mod turns;
 
 pub use asks::{ask_batch, give_back};
 pub use results::apply_results;
+pub use rounds::rounds_are_passes;
 pub use stream::put_page;
 pub use turns::{answered, sampler_of};
