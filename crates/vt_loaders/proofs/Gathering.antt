@@ -21,19 +21,19 @@ use Rattle.vt_loaders.specs.Rounds.{Round, IsRound, AreServed}
 use Rattle.vt_loaders.proofs.Answering.{answered_once}
 
 -- Passes that put nothing leave what was put.
-joined_puts_kept : {I : Type 0} (v : PassView I) (ws : List (PassView I)) → All (λ w. w.put ≡ []) ws → (all_joined v ws).put ≡ v.put
+pub joined_puts_kept : {I : Type 0} (v : PassView I) (ws : List (PassView I)) → All (λ w. w.put ≡ []) ws → (all_joined v ws).put ≡ v.put
 joined_puts_kept v [] all = refl
 joined_puts_kept v (w ∷ ws) all = ap (λ l. (all_joined v ws).put ++ l) (All-head (λ (u : PassView _). u.put ≡ []) w ws all)
     ∙ append_nil (all_joined v ws).put ∙ joined_puts_kept v ws (All-tail (λ (u : PassView _). u.put ≡ []) w ws all)
 
-joined_takes_kept : {I : Type 0} (v : PassView I) (ws : List (PassView I)) → All (λ w. w.took ≡ []) ws → (all_joined v ws).took ≡ v.took
+pub joined_takes_kept : {I : Type 0} (v : PassView I) (ws : List (PassView I)) → All (λ w. w.took ≡ []) ws → (all_joined v ws).took ≡ v.took
 joined_takes_kept v [] all = refl
 joined_takes_kept v (w ∷ ws) all = ap (λ l. (all_joined v ws).took ++ l) (All-head (λ (u : PassView _). u.took ≡ []) w ws all)
     ∙ append_nil (all_joined v ws).took ∙ joined_takes_kept v ws (All-tail (λ (u : PassView _). u.took ≡ []) w ws all)
 
 module _ {F : Type 0} (g : FileMeanings F) (q : Queues) (s : Shape) (d : ℕ) (told : Option (List ℕ)) where
   -- What loaders did, portion by portion.
-  record Gathering (a c : List (QueuedView F)) : Type 0 where
+  pub record Gathering (a c : List (QueuedView F)) : Type 0 where
     pub portions : List (Portion F)
     pub are : All (IsPortion g s d told) portions
     pub took : gathered (λ w. w.took) (asks_of c) ≡ all_took portions
@@ -45,7 +45,7 @@ module _ {F : Type 0} (g : FileMeanings F) (q : Queues) (s : Shape) (d : ℕ) (t
     pub befores : map (λ (p : Portion F). p.before) portions ≡ map (λ (l : QueuedView F). l.loader.store.file) a
     pub afters : map (λ (p : Portion F). p.after) portions ≡ map (λ (l : QueuedView F). l.loader.store.file) c
 
-  gathering : (a c : List (QueuedView F)) → length c ≡ length a → All IsNew a → All (IsLoaderOf g s d told) a
+  pub gathering : (a c : List (QueuedView F)) → length c ≡ length a → All IsNew a → All (IsLoaderOf g s d told) a
       → ((k : ℕ) (e : QueuedView F) → k < length a → HasLoaded g q (get_or a k e) (get_or c k e)) → Gathering a c
   gathering [] [] same new of did = record {
     portions = [];

@@ -1,9 +1,10 @@
-//! A law of loaders: the contract of a function that does nothing.
+//! Laws of loaders, each the contract of a function that does nothing.
 
-ghost use Rattle.std.specs.Prelude.{ℕ, List, Option};
+ghost use Rattle.std.specs.Prelude.{◌≡◌, ℕ, List, Option, length};
 ghost use Rattle.vt_pages.specs.Shape.{Shape};
 ghost use Rattle.vt_loaders.specs.declared.queued.Queues.{Queues as Both};
 ghost use Rattle.vt_loaders.specs.Rounds.{Round, IsRound, AreServed};
+ghost use Rattle.vt_loaders.specs.Streamed.{IsStreamedRound};
 
 use vt_outside::File;
 
@@ -11,4 +12,11 @@ use vt_outside::File;
 pub fn each_request_is_answered_once<F: File>()
     ensures { (q : Both) (s : Shape) (d : ℕ) (told : Option (List ℕ)) (r : Round F) → IsRound F.File q s d told r
         → AreServed F.File s d told r }
+{}
+
+/// The same where the results are taken while the loaders are at work, until there are at least as many as requests were put: no
+/// more were taken, and each request was answered once.
+pub fn each_streamed_request_is_answered_once<F: File>()
+    ensures { (q : Both) (s : Shape) (d : ℕ) (told : Option (List ℕ)) (r : Round F) → (x : IsStreamedRound F.File q s d told r)
+        → (length x.got ≡ length r.asks.put) × AreServed F.File s d told r }
 {}

@@ -1,3 +1,3 @@
 pub mod Entries
-pub mod Applying
 pub mod Asking
+pub mod BatchRounds

@@ -1,29 +1,21 @@
 -- A batch whose tiles are read by a round of requests.
-use Rattle.std.specs.Prelude.{◌≡◌, ℕ, ◌<◌, ◌≤◌, Bool, true, Option, Some, None, List, [], ◌++◌, length, map, take, reverse, slice_get, slice_index_or, flat_map, All}
+use Rattle.std.specs.Prelude.{◌≡◌, ℕ, ◌<◌, Bool, true, Option, Some, None, List, [], length, map, slice_get, slice_index_or, flat_map, All}
 use Rattle.std.specs.List.{range_with_len}
 use Rattle.vt_definitions.specs.Depths.{IsDepth}
 use Rattle.vt_outside.specs.declared.outside.File.{Ghosts as FileMeanings}
 use Rattle.vt_pages.specs.Shape.{Shape}
 use Rattle.vt_journal.specs.declared.changes.Event.{Event}
-use Rattle.vt_journal.specs.Changes.{newest}
-use Rattle.vt_journal.specs.JournalText.{changes_of}
-use Rattle.vt_table.specs.Views.{TableView, IsTable}
 use Rattle.vt_plan.specs.declared.batches.Planned.{Planned}
 use Rattle.vt_queue.specs.declared.items.Request.{Request}
 use Rattle.vt_queue.specs.declared.items.Loaded.{Loaded}
 use Rattle.vt_queue.specs.declared.views.PassView.{PassView}
-use Rattle.vt_queue.specs.declared.queue.QueuePass.{QueuePass}
-use Rattle.vt_queue.specs.Queues.{view_of}
 use Rattle.vt_queue.specs.PassViews.{all_shares}
 use Rattle.vt_queue.specs.Orders.{items_of}
 use Rattle.vt_loaders.specs.declared.queued.Queues.{Queues}
 use Rattle.vt_load.specs.Readings.{is_lost, is_readable}
-use Rattle.vt_loaders.specs.Results.{wanted_by, IsGood}
+use Rattle.vt_loaders.specs.Results.{wanted_by}
 use Rattle.vt_loaders.specs.QueuedLoaders.{QueuedView, stores_of, HasLoaded, IsLoaderOf, AreSplitOff}
-use Rattle.vt_machine.specs.Outcomes.{group_if, IsEntryFor, IsOutcome}
-use Rattle.vt_machine.specs.Requests.{AreReadFor}
-use Rattle.vt_machine.specs.Machines.{files_of}
-use Rattle.vt_rounds.specs.Frames.{HoldsTiles}
+use Rattle.vt_machine.specs.Outcomes.{group_if}
 
 -- the page of an entry, if there is one
 abbrev pub page_if : Option Planned → ℕ
@@ -60,20 +52,6 @@ pub record IsResultOf (batch : List Planned) (result : Loaded) : Type 0 where
   pub inside : result.request.ticket < length batch
   pub page : result.request.page ≡ page_if (slice_get batch result.request.ticket)
 
--- The first results were applied to a table, each to the entry of its ticket, and it was noted of each whether it is lost.
-pub record AreApplied (batch : List Planned) (results : List Loaded) (start : TableView) (n : ℕ) (v : TableView) (events : List Event)
-    (losses : List Bool) : Type 0 where
-  pub table : IsTable v
-  pub shape : v.shape ≡ start.shape
-  pub frames : v.frames ≡ start.frames
-  pub events_are : events ≡ result_events batch (take n results)
-  pub changes : v.changes ≡ start.changes ++ changes_of events
-  pub told : length losses ≡ length batch
-  pub each : (k : ℕ) (x : Loaded) → k < n → slice_get results k ≡ Some x → slice_index_or losses x.request.ticket true ≡ is_lost x.outcome
-  pub ahead : (k : ℕ) (x : Loaded) (e : Planned) → n ≤ k → slice_get results k ≡ Some x → slice_get batch x.request.ticket ≡ Some e
-      → IsEntryFor start.shape start.frames (newest v.changes) e
-  pub holds : (d : ℕ) (bytes : Option (List ℕ)) → All (IsGood bytes start.shape d) results → HoldsTiles start d bytes → HoldsTiles v d bytes
-
 -- The requests for the first entries of a batch were put through a whole pass, and nothing was taken.
 pub record ArePut (s : Shape) (d : ℕ) (batch : List Planned) (n : ℕ) (v : PassView Request) : Type 0 where
   pub whole : v.shares ≡ all_shares
@@ -103,20 +81,3 @@ pub record IsEndedRound {F : Type 0} (g : FileMeanings F) (q : Queues) (s : Shap
   pub loaders : All (IsLoaderOf g s b.depth b.told) b.first
   pub number : length last ≡ length b.first
   pub loaded : (k : ℕ) (e : QueuedView F) → k < length b.first → HasLoaded g q (slice_index_or b.first k e) (slice_index_or last k e)
-
--- and the passes that are left are these, where the tiles are for this table
-abbrev pub HaveEnded : {F : Type 0} → FileMeanings F → Queues → TableView → List Planned → QueuePass Request → QueuePass Loaded → List (QueuedView F)
-    → Begun F → Type 0
-HaveEnded g q v batch asks answers last b = IsEndedRound g q v.shape batch (view_of asks) (view_of answers) last b
-
--- The round was streamed into a table: its events are an outcome of the batch, of which the changes were made, the files were read for it,
--- and the frames hold the store's tiles if they did before.
-pub record IsStreamed {F : Type 0} (g : FileMeanings F) (batch : List Planned) (start : TableView) (b : Begun F) (last : List (QueuedView F))
-    (v : TableView) (events : List Event) (losses : List Bool) : Type 0 where
-  pub table : IsTable v
-  pub shape : v.shape ≡ start.shape
-  pub frames : v.frames ≡ start.frames
-  pub changes : v.changes ≡ start.changes ++ changes_of events
-  pub outcome : IsOutcome batch losses events
-  pub read : AreReadFor start.shape b.depth batch losses (files_of g (reverse (stores_of b.first))) (files_of g (reverse (stores_of last)))
-  pub holds : HoldsTiles start b.depth b.told → HoldsTiles v b.depth b.told

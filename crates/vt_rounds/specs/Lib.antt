@@ -1,4 +1,3 @@
-pub mod Frames
 pub mod Streams
 pub mod Sizes
 pub mod BatchRounds

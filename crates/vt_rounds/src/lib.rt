@@ -1,12 +1,10 @@
-//! A round of requests for a batch over a page table that nobody draws from meanwhile: what is asked, and how the results are applied.
+//! A round of requests for a batch: what is asked, and what the results are for the batch.
 #![tactic(auto)]
 
 mod asks;
-mod results;
-mod stream;
+mod rounds;
 mod turns;
 
 pub use asks::{ask_batch, give_back};
-pub use results::apply_results;
-pub use stream::put_page;
+pub use rounds::rounds_are_passes;
 pub use turns::{answered, sampler_of};

@@ -2,8 +2,8 @@
 
 ghost use Rattle.std.specs.Prelude.{◌≡◌, ◌≤◌, ◌%◌, Ok};
 
-use vt_outside::NoMemory;
 use vt_machine::PassReport;
+use vt_outside::NoMemory;
 
 /// The sampler that draws a row: the rows from the top are dealt to the samplers in turn.
 pub fn sampler_of(row: u32, samplers: u32) -> u32

@@ -2,10 +2,13 @@
 
 mod crews;
 mod files;
-mod flight_rows;
+mod flights;
+mod gates;
 mod generate;
+mod meetings;
 mod plain;
 mod replay_cuts;
+mod replay_rows;
 mod replays;
 mod rows;
 mod runs;

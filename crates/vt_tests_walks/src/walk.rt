@@ -1,4 +1,4 @@
-//! Walks by the machine over a still table, in a folder in memory.
+//! Walks by the machine over shared words, in a folder in memory.
 
 mod live;
 mod settled;

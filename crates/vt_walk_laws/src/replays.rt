@@ -83,9 +83,9 @@ pub fn replay_gives_the_walk<M: PassMachine>()
         ≡ last.files }
 {}
 
-/// A walk by the machine over a still table is of its store, where this tells its bytes; and its numbers are within their limits,
-/// where its settings are and there are frames for the pinned pages, as in each finished walk.
-pub fn still_walk_is_of_its_store()
+/// A walk by a machine that draws a pixel by the nearest mapped page is of its store, where this tells its bytes; and its numbers are
+/// within their limits, where its settings are and there are frames for the pinned pages, as in each finished walk.
+pub fn nearest_walk_is_of_its_store()
     ensures store { (scene : Scene) (settings : Settings) (mode : Mode) (b : List ℕ) (names : WalkNames)
         → IsOfStore (given_by nearest scene settings mode (Some b) names) b }
     ensures setup { (scene : Scene) (settings : Settings) (mode : Mode) (told : Option (List ℕ)) (names : WalkNames)

@@ -1,6 +1,6 @@
 // Replays of a journal that is cut.
 use super::files::{G4_STORE, PATH, PICTURE};
-use super::flight_rows::{REPLAY_REFUSES, REPLAYS};
+use super::replay_rows::{REPLAY_REFUSES, REPLAYS};
 use super::rows::Held::{All, Front};
 use super::rows::{Row, hold};
 use super::walk_rows::{LOW, SETTLED_PASSES};

@@ -1,6 +1,6 @@
 // Runs of `replay`.
 use super::files::{FAULT, G4_STORE, PATH, PICTURE, USAGE, WIDE_STORE};
-use super::flight_rows::{REPLAY_REFUSES, REPLAYS};
+use super::replay_rows::{REPLAY_REFUSES, REPLAYS};
 use super::rows::Held::All;
 use super::rows::{Held, Row, hold};
 use super::walk_rows::{SETTLED_PASSES, SINGLE_STORE, WIDE_PICTURE};

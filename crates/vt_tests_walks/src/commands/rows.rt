@@ -2,6 +2,7 @@
 // none.
 
 use super::runs::{Scene, play};
+use crate::told::Told;
 use std::alloc::Global;
 use std::process::Abort;
 use std::sync::Wait;
@@ -16,6 +17,10 @@ pub enum Held<'a> {
     All(&'a [u8]),
     /// The first so many of these.
     Front(&'a [u8], usize),
+    /// A journal of this text.
+    Journal(Told<'a>),
+    /// The first so many bytes of one.
+    Begun(Told<'a>, usize),
 }
 
 /// A run, and what it leaves.
@@ -40,8 +45,8 @@ pub struct Row<'a> {
     pub err: &'a [u8],
 }
 
-// The names of the first pictures.
-static PICTURES: [&str; 5] = [
+/// The names of the first pictures.
+pub(super) static PICTURES: [&str; 5] = [
     "f0000.ppm",
     "f0001.ppm",
     "f0002.ppm",
@@ -49,7 +54,7 @@ static PICTURES: [&str; 5] = [
     "f0004.ppm",
 ];
 
-// The bytes themselves.
+// The bytes themselves; of a journal the text.
 fn bytes_of<'a>(held: &Held<'a>) -> &'a [u8] {
     match *held {
         Held::All(bytes) => bytes,
@@ -60,6 +65,8 @@ fn bytes_of<'a>(held: &Held<'a>) -> &'a [u8] {
                 bytes
             }
         }
+        Held::Journal(told) => told.text,
+        Held::Begun(told, _) => told.text,
     }
 }
 
@@ -73,10 +80,20 @@ pub fn adds(folder: &mut MemoryFolder, files: &[(&str, Held<'_>)]) -> bool {
     true
 }
 
+// The name holds these.
+fn is_held(folder: &MemoryFolder, name: &str, held: &Held<'_>) -> bool {
+    match (held, folder.bytes_of(name)) {
+        (Held::Journal(told), Some(bytes)) => told.is(bytes),
+        (Held::Begun(told, count), Some(bytes)) => told.begins(bytes, *count),
+        (_, Some(bytes)) => bytes == bytes_of(held),
+        (_, None) => false,
+    }
+}
+
 // Each of the names holds its bytes.
 fn has_left(folder: &MemoryFolder, left: &[(&str, Held<'_>)]) -> bool {
     for (name, held) in left {
-        if !folder.holds(name, bytes_of(held)) {
+        if !is_held(folder, name, held) {
             return false;
         }
     }
@@ -123,13 +140,17 @@ fn has_pictures(folder: &MemoryFolder, pictures: &[&[u8]]) -> bool {
     true
 }
 
-// What a row says stands.
-fn stands(scene: &Scene, row: &Row<'_>) -> bool {
+/// What a row says stands, but for the pictures.
+pub(super) fn stands_beside(scene: &Scene, row: &Row<'_>) -> bool {
     has_left(&scene.folder, row.left)
         && has_kept(&scene.folder, row)
         && misses(&scene.folder, row.missing)
-        && has_pictures(&scene.folder, row.pictures)
         && scene.printed(row.out, row.err)
+}
+
+// What a row says stands.
+fn stands(scene: &Scene, row: &Row<'_>) -> bool {
+    has_pictures(&scene.folder, row.pictures) && stands_beside(scene, row)
 }
 
 /// A run over a scene, to whose folder the files of its row are added first, leaves what its row says.

@@ -1,27 +1,30 @@
 // A run of the words of a command over a folder in memory.
 
+use super::gates::{Meeting, Meetings};
 use std::alloc::{AllocError, Global};
 use std::sync::Wait;
 use std::thread::Threads;
 use vt_commands::run;
-use vt_outside::{Fail, Fails, MemoryFile, MemoryFolder, MemorySink, NoMemory, OpenGate};
-use vt_still::StillMachine;
+use vt_outside::{Fail, Fails, MemoryFile, MemoryFolder, MemorySink, NoMemory};
+use vt_pass::WordMachine;
 
-/// What commands run over: a folder in memory, the output and the error output.
+/// What commands run over: a folder in memory, the output and the error output, and the gate of their workers.
 #[derive(Drop)]
 pub struct Scene {
     pub folder: MemoryFolder,
     pub out: MemorySink,
     pub err: MemorySink,
+    pub gate: Meetings,
 }
 
 impl Scene {
-    /// An empty folder and empty outputs, on which no call fails.
+    /// An empty folder and empty outputs, on which no call fails, and a gate at which nobody waits.
     pub fn new(alloc: Global) -> Scene {
         Scene {
             folder: MemoryFolder::new(alloc, Fails::new(alloc)),
             out: MemorySink::new(alloc, Fails::new(alloc)),
             err: MemorySink::new(alloc, Fails::new(alloc)),
+            gate: Meetings::new(Meeting::Nobody),
         }
     }
 
@@ -38,6 +41,7 @@ impl Scene {
             folder: MemoryFolder::new(alloc, on_folder),
             out: MemorySink::new(alloc, on_out),
             err: MemorySink::new(alloc, on_err),
+            gate: Meetings::new(Meeting::Nobody),
         })
     }
 
@@ -84,13 +88,13 @@ fn play_words(
     words: &[String],
     scene: &mut Scene,
 ) -> u8 {
-    run::<StillMachine<MemoryFile>, _, _, _, _, _>(
+    run::<WordMachine<MemoryFile>, _, _, _, _, _>(
         rt,
         alloc,
         words,
         &mut scene.folder,
         &mut scene.out,
         &mut scene.err,
-        &OpenGate,
+        &scene.gate,
     )
 }

@@ -1,8 +1,10 @@
 // Rows of walks, with what each leaves.
 use super::files::{G4_STORE, PATH, PICTURE};
-use super::flight_rows::OVER_G4;
-use super::rows::Held::All;
+use super::flights::Flight;
+use super::replay_rows::OVER_G4;
+use super::rows::Held::{All, Journal};
 use super::rows::Row;
+use crate::told::Told;
 use vt_outside::Fail;
 
 // The store of a texture of one texel, and a path of one picture of one pixel.
@@ -31,10 +33,17 @@ pub(super) const EIGHT_STORE: &[u8] = b"VTS1\x00\x00\x00\x08\x00\x00\x00\x08\x00
 const FOUR_PICTURES: &[u8] = b"size 2 1\nfocal 1\nat 0 0 256 16384 0\nat 0 0 256 16384 0\n\
         at 512 0 256 16384 0\nat 512 0 256 16384 0\n";
 
-// The first picture where the root alone is mapped, and the third where the pages 0 and 2 are mapped.
+// The first picture where the root alone is mapped, and where page 0 is mapped too.
 pub(super) const LOW: &[u8] = b"P6\n2 1\n255\n\x0b\x0b\x0b\x03\x03\x03";
 
-const FAR: &[u8] = b"P6\n2 1\n255\n\x0d\x0d\x0d\x05\x05\x05";
+pub(super) const WITH_PAGE_0: &[u8] = b"P6\n2 1\n255\n\x0b\x0b\x0b\x01\x01\x01";
+
+// The third picture where neither page 1 nor page 3 is mapped, and where one of them is.
+pub(super) const FAR: &[u8] = b"P6\n2 1\n255\n\x0d\x0d\x0d\x05\x05\x05";
+
+const FAR_WITH_PAGE_1: &[u8] = b"P6\n2 1\n255\n\x0d\x0d\x0d\x03\x03\x03";
+
+const FAR_WITH_PAGE_3: &[u8] = b"P6\n2 1\n255\n\x0f\x0f\x0f\x05\x05\x05";
 
 // The third picture, settled.
 const OTHER: &[u8] = b"P6\n2 1\n255\n\x0f\x0f\x0f\x03\x03\x03";
@@ -44,11 +53,19 @@ pub(super) const WIDE_PICTURE: &[u8] =
 
 pub(super) const ONE_PASS: &[u8] = b"map 1 1 0 0 0\npass 1 picture 0 start 1\nrow 0 0 1\n";
 
-// The journal of the settled walk of one picture: its head ends at byte 14, and its passes at the bytes 49, 98, 147 and 182.
+// A journal of the settled walk of one picture: its head ends at byte 14, and its passes at the bytes 49, 98, 147 and 182.
 pub(super) const SETTLED_PASSES: &[u8] =
     b"map 1 1 0 0 0\npass 1 picture 0 start 1\nrow 0 0 1\npass 2 picture 0 start 1\n\
         map 2 0 0 0 1\nrow 0 0 1\npass 3 picture 0 start 2\nmap 3 0 0 1 2\nrow 0 0 2\n\
         pass 4 picture 0 start 3\nrow 0 0 3\n";
+
+/// The journals of that walk.
+pub(super) const SETTLED_TOLD: Told<'static> = Told {
+    text: b"map 1 1 0 0 0\npass 1 picture 0 start 1\nrow 0 0 1\npass 2 picture 0 start 1\n\
+        map 2 0 0 0 1\nrow 0 0 ?\npass 3 picture 0 start 2\nmap 3 0 0 1 2\nrow 0 0 ?\n\
+        pass 4 picture 0 start 3\nrow 0 0 3\n",
+    versions: &[(1, 2), (2, 3)],
+};
 
 // Its log: the picture's line ends at byte 54, and the last one at byte 77.
 pub(super) const SETTLED_LOG: &[u8] =
@@ -83,55 +100,104 @@ pub(super) const STARVED: Row<'static> = Row {
     err: b"",
 };
 
-// Both pages of the first place are replaced by those of the other. Page 2 is the less recent one.
-pub(super) const REUSED: Row<'static> = Row {
-    words: "walk s.vts a.path f --frames 3 --samplers 1 --loaders 1 --batch 64 --journal j.txt",
-    files: &[("s.vts", All(G4_STORE)), ("a.path", All(FOUR_PICTURES))],
+/// The journal of the next walk.
+pub(super) const REUSED_TEXT: &[u8] =
+    b"map 1 1 0 0 0\npass 1 picture 0 start 1\nrow 0 0 ?\npass 2 picture 1 start 1\nmap 2 0 0 0 1\n\
+        map 3 0 0 1 2\nrow 0 0 ?\npass 3 picture 2 start 3\nrow 0 0 ?\npass 4 picture 3 start 3\n\
+        unmap 4 0 0 1 2\nmap 5 0 1 0 2\nunmap 6 0 0 0 1\nmap 7 0 1 1 1\nrow 0 0 ?\n";
+
+// A picture of eight rows, askew, while only the root is mapped, by three samplers.
+pub(super) const TALL: Row<'static> = Row {
+    words: "walk s.vts a.path f --frames 1 --samplers 3 --loaders 1 --journal j.txt",
+    files: &[
+        ("s.vts", All(G4_STORE)),
+        (
+            "a.path",
+            All(b"size 3 8\nfocal 2\nat 300 200 700 11585 11585\n"),
+        ),
+    ],
     fail: None,
     err_fail: None,
     status: 0,
     left: &[(
         "j.txt",
         All(
-            b"map 1 1 0 0 0\npass 1 picture 0 start 1\nrow 0 0 1\npass 2 picture 1 start 1\nmap 2 0 0 0 1\n\
-            map 3 0 0 1 2\nrow 0 0 1\npass 3 picture 2 start 3\nrow 0 0 3\npass 4 picture 3 start 3\n\
-            unmap 4 0 0 1 2\nmap 5 0 1 0 2\nunmap 6 0 0 0 1\nmap 7 0 1 1 1\nrow 0 0 3\n",
+            b"map 1 1 0 0 0\npass 1 picture 0 start 1\nrow 0 0 1\nrow 1 1 1\nrow 2 2 1\nrow 3 0 1\n\
+            row 4 1 1\nrow 5 2 1\nrow 6 0 1\nrow 7 1 1\n",
         ),
     )],
     missing: &["journal.txt"],
-    pictures: &[LOW, LOW, FAR, FAR],
-    out: b"picture 0 passes 1 wanted 2 loaded 0 lost 0 evicted 0\n\
-        picture 1 passes 1 wanted 2 loaded 2 lost 0 evicted 0\n\
-        picture 2 passes 1 wanted 2 loaded 0 lost 0 evicted 0\n\
-        picture 3 passes 1 wanted 2 loaded 2 lost 0 evicted 2\nend pictures 4 reads 5\n",
+    pictures: &[
+        b"P6\n3 8\n255\n\x0d\x0d\x0d\x03\x03\x03\x0d\x0d\x0d\x03\x03\x03\x0d\x0d\x0d\x0d\x0d\x0d\
+        \x05\x05\x05\x0d\x0d\x0d\x0b\x0b\x0b\x05\x05\x05\x05\x05\x05\x0b\x0b\x0b\x05\x05\x05\x03\x03\x03\
+        \x03\x03\x03\x05\x05\x05\x03\x03\x03\x03\x03\x03\x05\x05\x05\x03\x03\x03\x03\x03\x03\x03\x03\x03\
+        \x03\x03\x03\x03\x03\x03",
+    ],
+    out: b"picture 0 passes 1 wanted 5 loaded 0 lost 0 evicted 0\nend pictures 1 reads 1\n",
     err: b"",
 };
 
+// Both pages of the first place are replaced by those of the other. Page 2 is the less recent one.
+pub(super) const REUSED: Flight<'static> = Flight {
+    row: Row {
+        words: "walk s.vts a.path f --frames 3 --samplers 1 --loaders 1 --batch 64 --journal j.txt",
+        files: &[("s.vts", All(G4_STORE)), ("a.path", All(FOUR_PICTURES))],
+        fail: None,
+        err_fail: None,
+        status: 0,
+        left: &[],
+        missing: &["journal.txt"],
+        pictures: &[],
+        out: b"picture 0 passes 1 wanted 2 loaded 0 lost 0 evicted 0\n\
+            picture 1 passes 1 wanted 2 loaded 2 lost 0 evicted 0\n\
+            picture 2 passes 1 wanted 2 loaded 0 lost 0 evicted 0\n\
+            picture 3 passes 1 wanted 2 loaded 2 lost 0 evicted 2\nend pictures 4 reads 5\n",
+        err: b"",
+    },
+    told: Told {
+        text: REUSED_TEXT,
+        versions: &[(1, 1), (1, 3), (3, 3), (3, 7)],
+    },
+    shown: &[
+        &[LOW],
+        &[LOW, WITH_PAGE_0, PICTURE],
+        &[FAR],
+        &[FAR, FAR, FAR_WITH_PAGE_1, FAR_WITH_PAGE_1, OTHER],
+    ],
+};
+
 // The same where page 1 is lost, in whose place page 2 stays.
-pub(super) const LOST: Row<'static> = Row {
-    words: "walk s.vts a.path f --frames 3 --samplers 1 --loaders 1 --batch 64 --journal j.txt",
-    files: &[("s.vts", All(G4_STORE)), ("a.path", All(FOUR_PICTURES))],
-    fail: Some(Fail::Read {
-        opening: 2,
-        read: 2,
-    }),
-    err_fail: None,
-    status: 0,
-    left: &[(
-        "j.txt",
-        All(
-            b"map 1 1 0 0 0\npass 1 picture 0 start 1\nrow 0 0 1\npass 2 picture 1 start 1\nmap 2 0 0 0 1\n\
-            map 3 0 0 1 2\nrow 0 0 1\npass 3 picture 2 start 3\nrow 0 0 3\npass 4 picture 3 start 3\n\
-            lost 0 1 0\nunmap 4 0 0 0 1\nmap 5 0 1 1 1\nrow 0 0 3\n",
-        ),
-    )],
-    missing: &["journal.txt"],
-    pictures: &[LOW, LOW, FAR, FAR],
-    out: b"picture 0 passes 1 wanted 2 loaded 0 lost 0 evicted 0\n\
-        picture 1 passes 1 wanted 2 loaded 2 lost 0 evicted 0\n\
-        picture 2 passes 1 wanted 2 loaded 0 lost 0 evicted 0\n\
-        picture 3 passes 1 wanted 2 loaded 1 lost 1 evicted 1\nend pictures 4 reads 5\n",
-    err: b"",
+pub(super) const LOST: Flight<'static> = Flight {
+    row: Row {
+        words: "walk s.vts a.path f --frames 3 --samplers 1 --loaders 1 --batch 64 --journal j.txt",
+        files: &[("s.vts", All(G4_STORE)), ("a.path", All(FOUR_PICTURES))],
+        fail: Some(Fail::Read {
+            opening: 2,
+            read: 2,
+        }),
+        err_fail: None,
+        status: 0,
+        left: &[],
+        missing: &["journal.txt"],
+        pictures: &[],
+        out: b"picture 0 passes 1 wanted 2 loaded 0 lost 0 evicted 0\n\
+            picture 1 passes 1 wanted 2 loaded 2 lost 0 evicted 0\n\
+            picture 2 passes 1 wanted 2 loaded 0 lost 0 evicted 0\n\
+            picture 3 passes 1 wanted 2 loaded 1 lost 1 evicted 1\nend pictures 4 reads 5\n",
+        err: b"",
+    },
+    told: Told {
+        text: b"map 1 1 0 0 0\npass 1 picture 0 start 1\nrow 0 0 ?\npass 2 picture 1 start 1\nmap 2 0 0 0 1\n\
+            map 3 0 0 1 2\nrow 0 0 ?\npass 3 picture 2 start 3\nrow 0 0 ?\npass 4 picture 3 start 3\n\
+            lost 0 1 0\nunmap 4 0 0 0 1\nmap 5 0 1 1 1\nrow 0 0 ?\n",
+        versions: &[(1, 1), (1, 3), (3, 3), (3, 5)],
+    },
+    shown: &[
+        &[LOW],
+        &[LOW, WITH_PAGE_0, PICTURE],
+        &[FAR],
+        &[FAR, FAR, FAR_WITH_PAGE_3],
+    ],
 };
 
 // The words of the settled walk of one picture.
@@ -144,7 +210,7 @@ pub(super) const SETTLED: Row<'static> = Row {
     fail: None,
     err_fail: None,
     status: 0,
-    left: &[("j.txt", All(SETTLED_PASSES))],
+    left: &[("j.txt", Journal(SETTLED_TOLD))],
     missing: &["journal.txt"],
     pictures: &[PICTURE],
     out: SETTLED_LOG,
@@ -159,10 +225,11 @@ pub(super) const BATCH_OF_TWO: Row<'static> = Row {
     status: 0,
     left: &[(
         "j.txt",
-        All(
-            b"map 1 1 0 0 0\npass 1 picture 0 start 1\nrow 0 0 1\npass 2 picture 0 start 1\nmap 2 0 0 0 1\n\
-            map 3 0 0 1 2\nrow 0 0 1\npass 3 picture 0 start 3\nrow 0 0 3\n",
-        ),
+        Journal(Told {
+            text: b"map 1 1 0 0 0\npass 1 picture 0 start 1\nrow 0 0 1\npass 2 picture 0 start 1\nmap 2 0 0 0 1\n\
+            map 3 0 0 1 2\nrow 0 0 ?\npass 3 picture 0 start 3\nrow 0 0 3\n",
+            versions: &[(1, 3)],
+        }),
     )],
     missing: &["journal.txt"],
     pictures: &[PICTURE],
@@ -178,13 +245,14 @@ pub(super) const SETTLED_FOUR: Row<'static> = Row {
     status: 0,
     left: &[(
         "j.txt",
-        All(
-            b"map 1 1 0 0 0\npass 1 picture 0 start 1\nrow 0 0 1\npass 2 picture 0 start 1\nmap 2 0 0 0 1\n\
-            map 3 0 0 1 2\nrow 0 0 1\npass 3 picture 0 start 3\nrow 0 0 3\npass 4 picture 1 start 3\n\
+        Journal(Told {
+            text: b"map 1 1 0 0 0\npass 1 picture 0 start 1\nrow 0 0 1\npass 2 picture 0 start 1\nmap 2 0 0 0 1\n\
+            map 3 0 0 1 2\nrow 0 0 ?\npass 3 picture 0 start 3\nrow 0 0 3\npass 4 picture 1 start 3\n\
             row 0 0 3\npass 5 picture 2 start 3\nrow 0 0 3\npass 6 picture 2 start 3\nunmap 4 0 0 1 2\n\
-            map 5 0 1 0 2\nunmap 6 0 0 0 1\nmap 7 0 1 1 1\nrow 0 0 3\npass 7 picture 2 start 7\n\
+            map 5 0 1 0 2\nunmap 6 0 0 0 1\nmap 7 0 1 1 1\nrow 0 0 ?\npass 7 picture 2 start 7\n\
             row 0 0 7\npass 8 picture 3 start 7\nrow 0 0 7\n",
-        ),
+            versions: &[(1, 3), (3, 7)],
+        }),
     )],
     missing: &["journal.txt"],
     pictures: &[PICTURE, PICTURE, OTHER, OTHER],
@@ -204,11 +272,12 @@ pub(super) const COARSE_TO_FINE: Row<'static> = Row {
     status: 0,
     left: &[(
         "j.txt",
-        All(
-            b"map 1 2 0 0 0\npass 1 picture 0 start 1\nrow 0 0 1\npass 2 picture 0 start 1\nmap 2 1 0 0 1\n\
-            map 3 1 0 1 2\nrow 0 0 1\npass 3 picture 0 start 3\nmap 4 0 0 0 3\nmap 5 0 0 3 4\nrow 0 0 3\n\
+        Journal(Told {
+            text: b"map 1 2 0 0 0\npass 1 picture 0 start 1\nrow 0 0 1\npass 2 picture 0 start 1\nmap 2 1 0 0 1\n\
+            map 3 1 0 1 2\nrow 0 0 ?\npass 3 picture 0 start 3\nmap 4 0 0 0 3\nmap 5 0 0 3 4\nrow 0 0 ?\n\
             pass 4 picture 0 start 5\nrow 0 0 5\n",
-        ),
+            versions: &[(1, 3), (3, 5)],
+        }),
     )],
     missing: &["journal.txt"],
     pictures: &[b"P6\n2 1\n255\n\x39\x39\x39\x01\x01\x01"],
@@ -225,12 +294,13 @@ pub(super) const ONE_BY_ONE: Row<'static> = Row {
     status: 0,
     left: &[(
         "j.txt",
-        All(
-            b"map 1 2 0 0 0\npass 1 picture 0 start 1\nrow 0 0 1\npass 2 picture 0 start 1\nmap 2 1 0 0 1\n\
-            row 0 0 1\npass 3 picture 0 start 2\nmap 3 0 0 0 2\nrow 0 0 2\npass 4 picture 0 start 3\n\
-            map 4 1 0 1 3\nrow 0 0 3\npass 5 picture 0 start 4\nmap 5 0 0 3 4\nrow 0 0 4\n\
+        Journal(Told {
+            text: b"map 1 2 0 0 0\npass 1 picture 0 start 1\nrow 0 0 1\npass 2 picture 0 start 1\nmap 2 1 0 0 1\n\
+            row 0 0 ?\npass 3 picture 0 start 2\nmap 3 0 0 0 2\nrow 0 0 ?\npass 4 picture 0 start 3\n\
+            map 4 1 0 1 3\nrow 0 0 ?\npass 5 picture 0 start 4\nmap 5 0 0 3 4\nrow 0 0 ?\n\
             pass 6 picture 0 start 5\nrow 0 0 5\n",
-        ),
+            versions: &[(1, 2), (2, 3), (3, 4), (4, 5)],
+        }),
     )],
     missing: &["journal.txt"],
     pictures: &[b"P6\n2 1\n255\n\x39\x39\x39\x01\x01\x01"],

@@ -1,9 +1,10 @@
 // What stands after each call of a walk that fails.
 use super::files::{FAULT, PICTURE};
-use super::flight_rows::OVER_G4;
-use super::rows::Held::{All, Front};
+use super::replay_rows::OVER_G4;
+use super::rows::Held::{All, Begun, Journal};
 use super::rows::{Row, hold};
-use super::walk_rows::{SETTLED, SETTLED_PASSES, SETTLED_WORDS};
+use super::walk_rows::{SETTLED, SETTLED_TOLD, SETTLED_WORDS};
+use crate::told::Told;
 use std::test::*;
 use vt_outside::Fail;
 
@@ -76,50 +77,50 @@ static STOPPED: [Row<'static>; 18] = [
     },
     Row {
         fail: Some(Fail::Append(0)),
-        left: &[("j.txt", Front(SETTLED_PASSES, 7))],
+        left: &[("j.txt", Begun(SETTLED_TOLD, 7))],
         ..STOPS_AMID
     },
     Row {
         fail: Some(Fail::Append(1)),
-        left: &[("j.txt", Front(SETTLED_PASSES, 14 + 17))],
+        left: &[("j.txt", Begun(SETTLED_TOLD, 14 + 17))],
         ..STOPS_AMID
     },
     Row {
         fail: Some(Fail::Append(2)),
-        left: &[("j.txt", Front(SETTLED_PASSES, 49 + 24))],
+        left: &[("j.txt", Begun(SETTLED_TOLD, 49 + 24))],
         ..STOPS_AMID
     },
     Row {
         fail: Some(Fail::Append(3)),
-        left: &[("j.txt", Front(SETTLED_PASSES, 98 + 24))],
+        left: &[("j.txt", Begun(SETTLED_TOLD, 98 + 24))],
         ..STOPS_AMID
     },
     Row {
         fail: Some(Fail::Append(4)),
-        left: &[("j.txt", Front(SETTLED_PASSES, 147 + 17))],
+        left: &[("j.txt", Begun(SETTLED_TOLD, 147 + 17))],
         ..STOPS_AMID
     },
     Row {
         fail: Some(Fail::Create(1)),
-        left: &[("j.txt", All(SETTLED_PASSES))],
+        left: &[("j.txt", Journal(SETTLED_TOLD))],
         ..STOPS_AMID
     },
     Row {
         fail: Some(Fail::Append(5)),
-        left: &[("j.txt", All(SETTLED_PASSES))],
+        left: &[("j.txt", Journal(SETTLED_TOLD))],
         pictures: &[b"P6\n2 1\n2"],
         ..STOPS_AMID
     },
     Row {
         fail: Some(Fail::Put(0)),
-        left: &[("j.txt", All(SETTLED_PASSES))],
+        left: &[("j.txt", Journal(SETTLED_TOLD))],
         pictures: &[PICTURE],
         out: b"picture 0 passes 4 wanted 2",
         ..STOPS_AMID
     },
     Row {
         fail: Some(Fail::Put(1)),
-        left: &[("j.txt", All(SETTLED_PASSES))],
+        left: &[("j.txt", Journal(SETTLED_TOLD))],
         pictures: &[PICTURE],
         out: b"picture 0 passes 4 wanted 2 loaded 2 lost 0 evicted 0\nend picture",
         ..STOPS_AMID
@@ -164,10 +165,11 @@ static LOST_TILES: [Row<'static>; 2] = [
         }),
         left: &[(
             "j.txt",
-            All(
-                b"map 1 1 0 0 0\npass 1 picture 0 start 1\nrow 0 0 1\npass 2 picture 0 start 1\n\
-            map 2 0 0 0 1\nrow 0 0 1\npass 3 picture 0 start 2\nlost 0 0 1\nrow 0 0 2\n",
-            ),
+            Journal(Told {
+                text: b"map 1 1 0 0 0\npass 1 picture 0 start 1\nrow 0 0 1\npass 2 picture 0 start 1\n\
+            map 2 0 0 0 1\nrow 0 0 ?\npass 3 picture 0 start 2\nlost 0 0 1\nrow 0 0 2\n",
+                versions: &[(1, 2)],
+            }),
         )],
         ..STOPS_AMID
     },

@@ -1,23 +1,22 @@
 // Runs of `walk`.
 use super::files::{FAULT, G4, G4_STORE, PATH, USAGE, WIDE_STORE};
-use super::flight_rows::walk_all;
+use super::flights::{Flight, fly_all, walk_all};
 use super::rows::Held::All;
 use super::rows::{Row, hold, leaves_in};
 use super::runs::{Scene, play};
 use super::walk_rows::{
     BATCH_OF_TWO, COARSE_TO_FINE, EIGHT_STORE, LOST, ONE_BY_ONE, ONE_PASS, REUSED, SETTLED,
-    SETTLED_FOUR, SINGLE, STARVED, WIDE_PICTURE,
+    SETTLED_FOUR, SINGLE, STARVED, TALL, WIDE_PICTURE,
 };
 use std::alloc::Global;
 use std::sync::Wait;
 use std::test::*;
 use std::thread::Threads;
 
-static WALKS: [Row<'static>; 8] = [
+static WALKS: [Row<'static>; 7] = [
     SINGLE,
     STARVED,
-    REUSED,
-    LOST,
+    TALL,
     BATCH_OF_TWO,
     SETTLED_FOUR,
     COARSE_TO_FINE,
@@ -27,6 +26,13 @@ static WALKS: [Row<'static>; 8] = [
 #[test]
 fn each_walk_leaves_its_row_and_is_replayed(rt: HostRuntime) {
     walk_all(&rt, rt.alloc(), &WALKS);
+}
+
+static FLIGHTS: [Flight<'static>; 2] = [REUSED, LOST];
+
+#[test]
+fn each_live_picture_is_that_of_its_version_and_is_replayed(rt: HostRuntime) {
+    fly_all(&rt, rt.alloc(), &FLIGHTS);
 }
 
 const SETTLED_WIDE: Row<'static> = Row {

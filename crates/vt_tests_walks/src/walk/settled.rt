@@ -2,6 +2,7 @@
 
 use crate::cases::{Case, Deed, check};
 use crate::fixtures::{FINE, FOUR, ONE_PICTURE};
+use crate::told::Told;
 use crate::walk::worked::Walk;
 use vt_machine::Crew;
 use vt_walk::{Mode, Settings, WalkError};
@@ -21,20 +22,21 @@ const BY_ONE: Walk<'_> = Walk {
     settings: SETTINGS,
     mode: Mode::Settled,
     error: None,
-    journal: Some(
-        b"map 1 1 0 0 0
+    journal: Some(Told {
+        text: b"map 1 1 0 0 0
 pass 1 picture 0 start 1
 row 0 0 1
 pass 2 picture 0 start 1
 map 2 0 0 0 1
-row 0 0 1
+row 0 0 ?
 pass 3 picture 0 start 2
 map 3 0 0 1 2
-row 0 0 2
+row 0 0 ?
 pass 4 picture 0 start 3
 row 0 0 3
 ",
-    ),
+        versions: &[(1, 2), (2, 3)],
+    }),
     log: b"picture 0 passes 4 wanted 2 loaded 2 lost 0 evicted 0\nend pictures 1 reads 3\n",
     pictures: &[FINE],
 };
@@ -82,7 +84,10 @@ const UNFIT: Walk<'_> = Walk {
         wanted: 2,
         room: 1,
     }),
-    journal: Some(b"map 1 1 0 0 0\npass 1 picture 0 start 1\nrow 0 0 1\n"),
+    journal: Some(Told {
+        text: b"map 1 1 0 0 0\npass 1 picture 0 start 1\nrow 0 0 1\n",
+        versions: &[],
+    }),
     log: b"",
     pictures: &[],
     ..BY_ONE

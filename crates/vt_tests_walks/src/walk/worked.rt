@@ -7,7 +7,8 @@ ghost use Rattle.vt_machine.specs.Machines.{file_state};
 ghost use Rattle.vt_walk.specs.Walks.{AreSettings};
 ghost use Rattle.vt_walk.specs.States.{AreOpen};
 
-use crate::fixtures::{is_crew, open_store, pictures_stand, stands};
+use crate::fixtures::{is_crew, open_store, pictures_stand};
+use crate::told::Told;
 use std::alloc::Global;
 use std::process::Abort;
 use std::sync::Wait;
@@ -15,9 +16,9 @@ use std::thread::Threads;
 use vt_camera::Path;
 use vt_outside::{Fail, Fails, Folder, MemoryFolder, MemorySink, NoMemory, OpenGate, Sink};
 use vt_pages::Geometry;
-use vt_still_walks::{walk_live, walk_settled};
 use vt_tiles::Store;
 use vt_walk::{Mode, Names, Settings, WalkError};
+use vt_word_walks::{walk_live, walk_settled};
 
 /// A walk, and what is to stand after it. In the folder opening 0 is the path's, opening 1 the store's, and the loaders' follow.
 #[derive(Clone, Copy)]
@@ -26,7 +27,7 @@ pub struct Walk<'a> {
     pub mode: Mode,
     pub error: Option<WalkError>,
     /// What the journal holds, if its name is there.
-    pub journal: Option<&'a [u8]>,
+    pub journal: Option<Told<'a>>,
     pub log: &'a [u8],
     /// What the names of the first pictures hold, the others of which are not there.
     pub pictures: &'a [&'a [u8]],
@@ -91,9 +92,18 @@ fn sink_of(alloc: Global, calls: &[Fail]) -> Result<MemorySink, NoMemory> {
     Ok(MemorySink::new(alloc, Fails::from_slice(alloc, calls)?))
 }
 
+// Whether the journal's name holds such a journal, or is not there where there is none.
+fn has_journal(folder: &MemoryFolder, journal: Option<Told<'_>>) -> bool {
+    match (folder.bytes_of("j"), journal) {
+        (Some(bytes), Some(told)) => told.is(bytes),
+        (None, None) => true,
+        _ => false,
+    }
+}
+
 // Whether a folder holds what is to stand after a walk.
 fn is_left(folder: &MemoryFolder, walk: &Walk<'_>) -> bool {
-    stands(folder, "j", walk.journal) && pictures_stand(folder, walk.pictures)
+    has_journal(folder, walk.journal) && pictures_stand(folder, walk.pictures)
 }
 
 /// Walks over the store of a folder, by a sink in which these calls fail, too: whether all came of it that was to come.

@@ -41,7 +41,7 @@ use vt_outside::{Fails, Folder, Gate, MemoryFolder, MemorySink, NoMemory, Outsid
 use vt_pages::Geometry;
 use vt_ppm::{Image, encode};
 use vt_print::Line;
-use vt_still::StillMachine;
+use vt_pass::WordMachine;
 use vt_store::write_store;
 use vt_store_commands::make_row;
 use vt_tiles::Store;
@@ -217,7 +217,7 @@ fn walk_over<'a, Rt: Threads + Wait + Sync, D: Folder, G: Gate + Sync>(
         },
     };
     let mut log = MemorySink::new(alloc, Fails::new(alloc));
-    let walked = walk_counted::<Rt, StillMachine<D::File>, D, MemorySink, G>(
+    let walked = walk_counted::<Rt, WordMachine<D::File>, D, MemorySink, G>(
         rt, alloc, folder, store, path, &names, &settings, true, &mut log, gate,
     );
     answer_of(walked)

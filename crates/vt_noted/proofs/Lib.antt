@@ -1,0 +1,4 @@
+pub mod Brought
+pub mod Handed
+pub mod Replayed
+pub mod Growing

@@ -1,0 +1,85 @@
+//! Laws of rows that are drawn by notes of the shared words: each is the contract of a function that does nothing.
+
+ghost use Rattle.std.specs.Prelude.{◌≡◌, ℕ, ◌++◌, Option, Some, IfSome, List, [], length, slice_get, slice_index_or};
+ghost use Rattle.vt_pages.specs.Shape.{Shape};
+ghost use Rattle.vt_pages.specs.Pages.{IsWithinLimits};
+ghost use Rattle.vt_camera.specs.Rows.{RowView};
+ghost use Rattle.vt_draw.specs.Shots.{shot_row, IsDrawn, AreDrawn};
+ghost use Rattle.vt_journal.specs.declared.changes.Change.{Change};
+ghost use Rattle.vt_journal.specs.declared.changes.RowLine.{RowLine};
+ghost use Rattle.vt_journal.specs.Changes.{at};
+ghost use Rattle.vt_tiles.specs.Format.{stored};
+ghost use Rattle.vt_tiles.specs.StoreViews.{IsStore, IsStoreIfTold};
+ghost use Rattle.vt_grace.specs.declared.views.EntryNote.{EntryNote as ReadEntry};
+ghost use Rattle.vt_grace.specs.declared.views.WordNote.{WordNote as ReadWord};
+ghost use Rattle.vt_grace.specs.declared.views.PassView.{PassView};
+ghost use Rattle.vt_grace.specs.declared.views.WriterView.{WriterView};
+ghost use Rattle.vt_grace.specs.WriterViews.{after_look, after_entry, after_word, after_change};
+ghost use Rattle.vt_grace.specs.Giving.{after_giving, after_return};
+ghost use Rattle.vt_grace.specs.Sound.{IsSound};
+ghost use Rattle.vt_shown.specs.Scenes.{Scene};
+ghost use Rattle.vt_shown.specs.Replays.{pixel_under, HasPixels, AreReplayed};
+ghost use Rattle.vt_noted.specs.Noted.{IsAmong, IsNotedBy, HasNoted, HasNotesOf};
+ghost use Rattle.vt_noted.specs.Stored.{AreStored};
+
+/// A pixel that was drawn at a version by notes which a writer took back, whose contents are tiles of a store, has the
+/// bytes that the replay of that version has, though the journal has grown since (van Waveren 2012).
+pub fn noted_pixels_are_replayed()
+    ensures { (w : WriterView) (s : Shape) (d : ℕ) (b : List ℕ) (scene : Scene) (version i x y : ℕ) (bytes : List ℕ)
+        → IsSound w → IsWithinLimits s → IsStore b s d → AreStored s d (Some b) w.journal w.contents
+        → scene.shape ≡ s → scene.depth ≡ d
+        → IsDrawn s d version (IsNotedBy w) (shot_row s scene.path i y) x bytes
+        → bytes ≡ pixel_under (stored b) scene (at w.journal version) i x y }
+{}
+
+/// So has each of the first `n` pixels of a row.
+pub fn noted_rows_are_replayed()
+    ensures { (w : WriterView) (s : Shape) (d : ℕ) (b : List ℕ) (scene : Scene) (version i n y : ℕ) (bytes : List ℕ)
+        → IsSound w → IsWithinLimits s → IsStore b s d → AreStored s d (Some b) w.journal w.contents
+        → scene.shape ≡ s → scene.depth ≡ d
+        → AreDrawn s d version (IsNotedBy w) (shot_row s scene.path i y) n bytes
+        → HasPixels d n (λ x. pixel_under (stored b) scene (at w.journal version) i x y) bytes }
+{}
+
+/// A picture each of whose rows was drawn so, at the version that its line names, is the replay of the journal, where
+/// the store's bytes are told.
+pub fn pictures_by_notes_are_replayed()
+    ensures { (w : WriterView) (s : Shape) (d : ℕ) (told : Option (List ℕ)) (scene : Scene) (i n : ℕ)
+        (lines : List RowLine) (rows : List (List ℕ))
+        → IsSound w → IsWithinLimits s → IsStoreIfTold told s d → AreStored s d told w.journal w.contents
+        → scene.shape ≡ s → scene.depth ≡ d
+        → ((y : ℕ) (line : RowLine) → slice_get lines y ≡ Some line
+        → AreDrawn s d line.version (IsNotedBy w) (shot_row s scene.path i y) n (slice_index_or rows y []))
+        → IfSome told (λ b. AreReplayed d n (λ m x y. pixel_under (stored b) scene m i x y) w.journal lines rows) }
+{}
+
+/// What a pass has noted the writer has noted once it took the pass back; and what a writer has noted it has noted after
+/// each of its steps, and after any change of what it knows beside its notes.
+pub fn notes_are_kept()
+    ensures passed { (w : WriterView) (p : PassView) → HasNoted (after_return w p) p.notes p.word_notes }
+    ensures returned { (w : WriterView) (p : PassView) → HasNotesOf (after_return w p) w }
+    ensures given { (w : WriterView) (sampler : ℕ) → HasNotesOf (after_giving w sampler) w }
+    ensures looked { (w : WriterView) (sampler word : ℕ) → HasNotesOf (after_look w sampler word) w }
+    ensures entered { (w : WriterView) (page entry : ℕ) → HasNotesOf (after_entry w page entry) w }
+    ensures filled { (w : WriterView) (frame place word : ℕ) → HasNotesOf (after_word w frame place word) w }
+    ensures published { (w : WriterView) (change : Change) → HasNotesOf (after_change w change) w }
+    ensures alike { (v w : WriterView) → w.notes ≡ v.notes → w.word_notes ≡ v.word_notes → HasNotesOf w v }
+    ensures onward { (v w : WriterView) (entries : List ReadEntry) (words : List ReadWord) → HasNoted v entries words
+        → HasNotesOf w v → HasNoted w entries words }
+{}
+
+/// A row that was drawn by notes is drawn by those of a writer that has noted all of them.
+pub fn drawn_rows_stay_drawn()
+    ensures { (w : WriterView) (entries : List ReadEntry) (words : List ReadWord) (s : Shape) (d version n : ℕ)
+        (row : RowView) (bytes : List ℕ) → HasNoted w entries words
+        → AreDrawn s d version (IsAmong entries words) row n bytes → AreDrawn s d version (IsNotedBy w) row n bytes }
+{}
+
+/// Where the contents of a journal and those of the changes that were added are tiles of a store, those of the whole
+/// journal are.
+pub fn stored_contents_grow()
+    ensures { (s : Shape) (d : ℕ) (told : Option (List ℕ)) (journal added : List Change)
+        (contents more : List (List ℕ)) → length contents ≡ length journal
+        → AreStored s d told journal contents → AreStored s d told added more
+        → AreStored s d told (journal ++ added) (contents ++ more) }
+{}

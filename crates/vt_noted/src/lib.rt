@@ -1,0 +1,9 @@
+//! Rows that were drawn by the notes of a writer of the shared words are the replay of the journal.
+#![tactic(auto)]
+
+mod laws;
+
+pub use laws::{
+    drawn_rows_stay_drawn, noted_pixels_are_replayed, noted_rows_are_replayed, notes_are_kept,
+    pictures_by_notes_are_replayed, stored_contents_grow,
+};

@@ -1,0 +1,4 @@
+pub mod Kits
+pub mod Rooms
+pub mod GivenOnes
+pub mod ReturnedOnes

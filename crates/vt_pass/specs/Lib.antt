@@ -1,0 +1,7 @@
+pub mod WordTasks
+pub mod RoundKits
+pub mod GivenPasses
+pub mod Kits
+pub mod Placed
+pub mod WordMachines
+pub mod WordLaws

@@ -1,0 +1,260 @@
+//! The machine over a page table of shared words.
+
+ghost use Rattle.std.specs.Prelude.{◌≡◌, ◌≤◌, IsOk, IfOk};
+ghost use Rattle.vt_definitions.specs.Limits.{most_samplers};
+ghost use Rattle.vt_workers.specs.Jobs.{job_of};
+ghost use Rattle.vt_grace.specs.Sizes.{sizes_of};
+ghost use Rattle.vt_grace.specs.WriterViews.{first_writer};
+ghost use Rattle.vt_machine.specs.Crews.{AreFrames};
+ghost use Rattle.vt_streamer.specs.Views.{IsStreamerOf};
+ghost use Rattle.vt_machine.specs.Nearest.{nearest};
+ghost use Rattle.vt_pass.specs.WordMachines.{WordView, Begun, word_state, IsIdleBy, IsReadyBy, drawn_by, IsMustered, MayFinish, WordFinishes};
+
+use crate::kit::WordKit;
+use crate::place::place_page;
+use crate::prepare::prepare_pass;
+use crate::round::{blank_report, new_queues};
+use crate::shared::WordShared;
+use crate::workers::{WordSampler, WordStreamer};
+use std::alloc::Global;
+use std::marker::Model;
+use std::mem;
+use std::sync::Wait;
+use std::thread::Threads;
+use vt_camera::Path;
+use vt_draw::Shot;
+use vt_evict::Batch;
+use vt_feedback::Counts;
+use vt_journal::Journal;
+use vt_loaders::QueuedLoader;
+use vt_machine::{Crew, PassMachine, PassReport};
+use vt_outside::{File, Gate, Items, NoMemory};
+use vt_pages::Geometry;
+use vt_queue::{QueuePass, Request};
+use vt_rounds::answered;
+use vt_streamer::Streamer;
+use vt_tiles::Stores;
+
+/// A machine that draws the rows of a picture, each under a version that it holds meanwhile, and streams the batch at the
+/// same time.
+pub struct WordMachine<F: File> {
+    shared: WordShared,
+    // It is out while a pass is run.
+    streamer: Option<WordStreamer>,
+    kit: WordKit<F>,
+}
+
+impl<F: File> Model for WordMachine<F> {
+    ghost use Rattle.vt_pass.specs.WordMachines.{WordView};
+
+    ghost Value = { WordView F };
+
+    ghost view = { λ m. record {
+      words = m.shared.words;
+      queues = m.shared.queues;
+      streamer = m.streamer;
+      kit = m.kit;
+    } };
+}
+
+// Words that map nothing with their streamer, and queues with which no pass is made, with a pass of the requests: each
+// pass is prepared with new ones.
+fn new_parts(
+    alloc: Global,
+    geometry: &Geometry,
+    frames: u32,
+    samplers: u32,
+) -> Result<(WordShared, WordStreamer, QueuePass<Request>), NoMemory>
+    requires frames { AreFrames geometry.now frames }
+    requires some { 1 ≤ samplers }
+    requires few { samplers ≤ most_samplers }
+    ensures of { IfOk result (λ made. IsStreamerOf made.0.words made.1.streamer) }
+    ensures sizes { IfOk result (λ made. made.0.words.sizes ≡ sizes_of geometry.now frames samplers) }
+    ensures shape { IfOk result (λ made. made.1.streamer.shape ≡ geometry.now) }
+    ensures writer { IfOk result (λ made. made.1.streamer.writer ≡ first_writer (sizes_of geometry.now frames samplers)) }
+{
+    let (words, streamer) = Streamer::new(alloc, geometry, frames, samplers)?;
+    let (queues, asks, answers) = new_queues(alloc, 1)?;
+    let report = blank_report(alloc, 0)?;
+    let shared = WordShared { words, queues };
+    let own = WordStreamer {
+        streamer,
+        answers,
+        report,
+    };
+    Ok((shared, own, asks))
+}
+
+impl<F: File + Send> PassMachine for WordMachine<F> {
+    ghost use Rattle.vt_tiles.specs.Format.{stored};
+    ghost use Rattle.vt_machine.specs.Plainly.{mapped_is_plain};
+    ghost use Rattle.vt_pass.specs.WordLaws.{come_back, has_ended, none_refused};
+
+    type File = F;
+
+    type Shared = WordShared;
+
+    type Loader = QueuedLoader<F>;
+
+    type Sampler = WordSampler;
+
+    type Streamer = WordStreamer;
+
+    const DEALT: bool = true;
+
+    ghost drawing = { nearest };
+
+    ghost state = { λ m. word_state F.File m };
+
+    ghost is_idle = { λ m. IsIdleBy F.File m.words m.streamer m.kit };
+
+    ghost is_ready = { λ m batch. IsReadyBy F.File m.words m.queues m.streamer m.kit batch };
+
+    ghost drawn = { λ m. drawn_by m.kit m.streamer };
+
+    ghost refuses = { ⊥ };
+
+    ghost lent = { λ m. record { words = m.words; queues = m.queues } };
+
+    ghost mustered = { λ m job n loaders samplers streamer. IsMustered F.File m n loaders samplers streamer };
+
+    ghost may_dismiss = { λ n job loaders samplers streamer. (b : Begun F)
+        × MayFinish F.File n.words n.queues n.kit job loaders samplers streamer b };
+
+    ghost dismissed = { λ n job loaders samplers streamer p result. IsOk result
+        × WordFinishes F.File job result n loaders samplers streamer p };
+
+    fn make_from<Rt: Threads + Wait + Sync>(
+        _rt: &Rt,
+        alloc: Global,
+        geometry: &Geometry,
+        path: &Path,
+        frames: u32,
+        crew: &Crew,
+        depth: u32,
+        stores: &mut Stores<Self::File>,
+    ) -> Result<Self, NoMemory> {
+        let (shared, own, asks) = new_parts(alloc, geometry, frames, crew.samplers)?;
+        let held = mem::replace(stores, Items::new(alloc));
+        match WordKit::new(alloc, geometry, path, crew, depth, asks, held) {
+            Ok(kit) => Ok(WordMachine {
+                shared,
+                streamer: Some(own),
+                kit,
+            }),
+            Err((held, refusal)) => {
+                mem::replace(stores, held).destroy_empty();
+                Err(refusal)
+            }
+        }
+    }
+
+    fn place<Rt: Threads + Wait + Sync>(
+        &mut self,
+        _rt: &Rt,
+        page: u32,
+        frame: u32,
+        tile: &[u8],
+    ) -> Result<(), NoMemory> {
+        match &mut self.streamer {
+            Some(own) => place_page(&self.shared.words, &mut own.streamer, page, frame, tile),
+            None => unreachable!(),
+        }
+    }
+
+    fn prepare<Rt: Threads + Wait + Sync>(
+        &mut self,
+        rt: &Rt,
+        batch: &Batch,
+    ) -> Result<(), NoMemory> {
+        match &mut self.streamer {
+            Some(own) => prepare_pass(rt, &mut self.shared, own, &mut self.kit, batch),
+            None => unreachable!(),
+        }
+    }
+
+    fn muster(
+        &mut self,
+        _shot: &Shot<'_>,
+        _batch: &Batch,
+    ) -> (Items<QueuedLoader<F>>, Items<WordSampler>, WordStreamer) {
+        let own = mem::replace(&mut self.streamer, None);
+        match own {
+            Some(mut own) => {
+                let (loaders, samplers) = self.kit.muster(&self.shared.queues, &mut own.answers);
+                (loaders, samplers, own)
+            }
+            None => unreachable!(),
+        }
+    }
+
+    fn shared(&self) -> &WordShared {
+        &self.shared
+    }
+
+    fn dismiss<Rt: Threads + Wait + Sync, G: Gate + Sync>(
+        &mut self,
+        _rt: &Rt,
+        loaders: Items<QueuedLoader<F>>,
+        samplers: Items<WordSampler>,
+        mut streamer: WordStreamer,
+        shot: &Shot<'_>,
+        batch: &Batch,
+        _gate: &G,
+    ) -> Result<PassReport, NoMemory>
+        requires { (b : Begun F) × MayFinish F.File self.old.words self.old.queues self.old.kit
+            (job_of shot.now batch.now.elements) loaders.elements samplers.elements streamer b }
+        ensures { IsOk result
+            × WordFinishes F.File (job_of shot.now batch.now.elements) result
+            self.old loaders.elements samplers.elements streamer self.new }
+    {
+        let report = self.kit.finish(
+            &self.shared.words,
+            &self.shared.queues,
+            loaders,
+            samplers,
+            &mut streamer.streamer,
+            &mut streamer.answers,
+            &mut streamer.report,
+            shot,
+            batch,
+        );
+        self.streamer = Some(streamer);
+        answered(report)
+    }
+
+    fn journal(&self) -> &Journal {
+        match &self.streamer {
+            Some(own) => own.streamer.journal(),
+            None => unreachable!(),
+        }
+    }
+
+    fn counts(&self) -> &Counts {
+        self.kit.counts()
+    }
+
+    fn picture(&self, alloc: Global) -> Result<Vec<u8>, NoMemory> {
+        self.kit.picture(alloc)
+    }
+
+    fn end<Rt: Threads + Wait + Sync>(self, _rt: &Rt) -> Stores<Self::File> {
+        let WordMachine {
+            shared: _,
+            streamer: _,
+            kit,
+        } = self;
+        kit.end()
+    }
+
+    ghost shows_whole = { λ scene b m i x y limits store inside below_width below_height maps.
+        mapped_is_plain (stored b) scene m i x y limits below_width below_height maps };
+
+    ghost may_come_back = { λ job m n a c e f b d ready root job_is mustered lo sa did_lo did_sa did_st.
+        come_back F.File job m n a c e f b d ready job_is mustered lo sa did_lo did_sa did_st };
+
+    ghost has_run = { λ job m n p a c e f b d r ready root job_is mustered lo sa did_lo did_sa did_st dismissed.
+        has_ended F.File job m n a c e f b d ready job_is mustered lo sa did_lo did_sa did_st p r dismissed.1 };
+
+    ghost has_answered = { λ job n p c f d r dismissed. none_refused r dismissed.0 };
+}

@@ -1,0 +1,46 @@
+//! A pass over shared words is prepared.
+
+ghost use Rattle.std.specs.Prelude.{◌≡◌, ◌≤◌, OnOk, length};
+ghost use Rattle.vt_journal.specs.Changes.{newest};
+ghost use Rattle.vt_machine.specs.Crews.{last_start};
+ghost use Rattle.vt_machine.specs.Outcomes.{IsBatchFor};
+ghost use Rattle.vt_pass.specs.Kits.{IsIdleKit, IsReadyKit, IsSameKit};
+
+use crate::kit::WordKit;
+use crate::shared::WordShared;
+use crate::workers::WordStreamer;
+use std::sync::Wait;
+use std::thread::Threads;
+use vt_evict::Batch;
+use vt_outside::{File, NoMemory};
+
+/// Makes all room for a pass that streams a batch, puts its requests into new queues, and gives the samplers their passes.
+pub(crate) fn prepare_pass<Rt: Threads + Wait, F: File>(
+    rt: &Rt,
+    shared: &mut WordShared,
+    own: &mut WordStreamer,
+    kit: &mut WordKit<F>,
+    batch: &Batch,
+) -> Result<(), NoMemory>
+    requires idle { IsIdleKit F.File shared.old.words own.old.streamer kit.old }
+    requires lawful { IsBatchFor own.old.streamer.shape (length own.old.streamer.owners)
+        (newest own.old.streamer.writer.journal) batch.now.elements }
+    requires few { length batch.now.elements ≤ kit.old.crew.batch }
+    requires early { length own.old.streamer.writer.journal ≤ last_start }
+    ensures ready { OnOk result
+        (IsReadyKit F.File shared.new.words shared.new.queues own.new kit.new batch.now.elements) }
+    ensures words { shared.new.words ≡ shared.old.words }
+    ensures journal { own.new.streamer.writer.journal ≡ own.old.streamer.writer.journal }
+    ensures same { IsSameKit F.File (record kit.old { samplers = kit.new.samplers }) kit.new }
+{
+    kit.prepare(
+        &mut shared.queues,
+        &mut own.streamer,
+        &mut own.answers,
+        &mut own.report,
+        batch,
+    )?;
+    kit.ask(rt, &shared.queues, batch);
+    kit.give(&shared.words, &mut own.streamer);
+    Ok(())
+}

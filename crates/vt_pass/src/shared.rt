@@ -1,0 +1,38 @@
+//! What the workers of a pass over shared words have in common.
+
+use std::sync::Wait;
+use std::thread::Threads;
+use vt_draw::Shot;
+use vt_grace::Words;
+use vt_loaders::{QueuedLoader, Queues};
+use vt_outside::{File, Gate};
+use vt_plan::Planned;
+use vt_workers::Task;
+
+/// What the workers of a pass over shared words have in common.
+#[derive(Drop)]
+pub struct WordShared {
+    /// The words of the page table and of the frames.
+    pub words: Words,
+    /// The queues of the requests and of the results.
+    pub queues: Queues,
+}
+
+impl<F: File> Task<WordShared> for QueuedLoader<F> {
+    ghost use Rattle.vt_loaders.specs.QueuedLoaders.{MayLoad, HasLoaded};
+
+    ghost ready = { λ shared job loader. MayLoad F.File shared.queues loader };
+
+    ghost did = { λ shared job before after. HasLoaded F.File shared.queues before after };
+
+    fn work<Rt: Threads + Wait, G: Gate>(
+        &mut self,
+        rt: &Rt,
+        shared: &WordShared,
+        _shot: &Shot<'_>,
+        _batch: &[Planned],
+        gate: &G,
+    ) {
+        self.run(rt, &shared.queues, gate);
+    }
+}
