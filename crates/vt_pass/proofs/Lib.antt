@@ -2,3 +2,4 @@ pub mod Kits
 pub mod Rooms
 pub mod GivenOnes
 pub mod ReturnedOnes
+pub mod Idle
