@@ -1,6 +1,6 @@
 -- The parts of a kit, one after another.
 use Rattle.std.proofs.Common.{◌≡◌, ℕ, zero, suc, ◌+◌, List, [], ◌∷◌, ◌++◌, length, get_or, Some, refl, sym, ap, ◌∙◌, subst, append_assoc, arith}
-use Rattle.std.specs.Prelude.{slice_get, slice_index, ◌%◌, ◌≤◌, map, take, ◌<◌}
+use Rattle.std.specs.Prelude.{slice_get, slice_index, ◌%◌, ◌≤◌, map, take, ◌<◌, true, None, IsSome}
 use Rattle.std.proofs.lemmas.List.{length-append, append-nil, take_more}
 use Rattle.std.proofs.lemmas.List.FromFn.{map-range_with_len_more}
 use Rattle.std.proofs.lemmas.List.Sums.{sum_by_push, sum_by-take-le}
@@ -8,22 +8,27 @@ use Rattle.std.specs.List.{range_with_len, concat}
 use Rattle.std.proofs.lemmas.Option.{none-some, same_Some, slice_get-get_or}
 use Rattle.vt_outside.specs.declared.outside.File.{Ghosts as FileMeanings}
 use Rattle.vt_pages.specs.Shape.{Shape}
-use Rattle.vt_pages.specs.Pages.{pages_of}
-use Rattle.vt_table.specs.Views.{TableView, IsTable}
+use Rattle.vt_pages.specs.Pages.{pages_of, root_of}
 use Rattle.vt_journal.specs.declared.changes.RowLine.{RowLine}
 use Rattle.vt_sampler.specs.Samplers.{SamplerView, IsFor, IsOwn}
 use Rattle.vt_tiles.specs.StoreViews.{StoreView, IsStoreIfTold}
-use Rattle.vt_journal.specs.Changes.{newest, at}
+use Rattle.vt_journal.specs.Changes.{newest}
+use Rattle.vt_journal.specs.Lookups.{is_mapped}
+use Rattle.vt_grace.specs.declared.sizes.Sizes.{Sizes}
+use Rattle.vt_grace.specs.declared.views.PassView.{PassView}
+use Rattle.vt_grace.specs.Values.{WordsValue}
+use Rattle.vt_streamer.specs.Views.{StreamerView}
+use Rattle.vt_lookup.specs.Notes.{Fits}
 use Rattle.vt_machine.specs.Machines.{told_by, AreStoresFor}
-use Rattle.vt_sampler.specs.Notes.{MapsRoot as TableMapsRoot}
 use Rattle.vt_camera.specs.Paths.{PathView}
 use Rattle.vt_loaders.specs.declared.queued.Queues.{Queues}
 use Rattle.vt_pass.specs.declared.workers.WordSampler.{WordSampler}
 use Rattle.vt_workers.specs.Jobs.{Job}
 use Rattle.vt_workers.specs.All.{AllReady}
-use Rattle.vt_pass.specs.StillTasks.{MayDraw}
+use Rattle.vt_pass.specs.declared.workers.WordStreamer.{WordStreamer}
+use Rattle.vt_pass.specs.WordTasks.{MayDraw}
 use Rattle.vt_machine.specs.Passes.{MapsRoot, IsJobFor}
-use Rattle.vt_pass.specs.Kits.{KitView, kit_setup, kit_state, IsSamplerOf, AreSamplersOf, IsKit, IsIdleKit, IsReadyKit, lines_at, counted_together}
+use Rattle.vt_pass.specs.Kits.{KitView, kit_setup, kit_state, IsSamplerOf, AreSamplersOf, IsKit, IsFitKit, IsReadyKit, line_of, lines_of, counted_together}
 
 -- what holds of each place of a list holds of it with one more
 pub each_more : {A : Type 0} (P : ℕ → A → Type 0) (xs : List A) (x : A) → ((k : ℕ) (a : A) → slice_get xs k ≡ Some a → P k a) → P (length xs) x
@@ -43,31 +48,56 @@ module _ (s : Shape) (d width height samplers : ℕ) where
   first_none = record { count = refl; each = λ k task e. absurd (none-some task e) }
 
   pub first_more : (n : ℕ) (tasks : List WordSampler) (v : SamplerView) → AreFirst n tasks → IsSamplerOf s d width height samplers n v
-      → AreFirst (n + 1) (tasks ++ record { sampler = v } ∷ [])
+      → AreFirst (n + 1) (tasks ++ record { sampler = v; pass = None } ∷ [])
   first_more n tasks v h new = record {
-    count = length-append tasks (record { sampler = v } ∷ []) ∙ ap (λ k. k + 1) h.count;
-    each = each_more (λ k task. IsSamplerOf s d width height samplers k task.sampler) tasks (record { sampler = v }) h.each
+    count = length-append tasks (record { sampler = v; pass = None } ∷ []) ∙ ap (λ k. k + 1) h.count;
+    each = each_more (λ k task. IsSamplerOf s d width height samplers k task.sampler) tasks (record { sampler = v; pass = None }) h.each
         (subst (λ k. IsSamplerOf s d width height samplers k v) (sym h.count) new);
   }
 
   pub all_first : (tasks : List WordSampler) → AreFirst samplers tasks → AreSamplersOf s d width height samplers tasks
   all_first tasks h = record { count = h.count; each = h.each }
 
-pub may_draw : {F : Type 0} (g : FileMeanings F) (job : Job) (v : TableView) (q : Queues) (k : KitView F) (tasks : List WordSampler)
-    → IsReadyKit g v q k job.batch
-    → MapsRoot (kit_state g v k) → IsJobFor (kit_setup g v k) job → tasks ≡ k.samplers
-    → AllReady (λ task. MayDraw v job task.sampler) tasks
-may_draw g job v q k tasks ready root job_is same = subst (AllReady (λ task. MayDraw v job task.sampler)) (sym same)
-    (λ n d inside. let its = ready.idle.kit.samplers.each n (get_or k.samplers n d) (slice_get-get_or k.samplers n d inside) in record {
+-- the words of a kit are as large as the shape of its pages asks
+pub kit_fits : {F : Type 0} (g : FileMeanings F) (words : WordsValue) (v : StreamerView) (k : KitView F) → IsFitKit g words v k → Fits k.shape words.sizes
+kit_fits g words v k fit = subst (λ s. Fits s words.sizes) fit.shape (record {
+  pages = ap (λ (z : Sizes). z.pages) fit.of.sizes;
+  texels = ap (λ (z : Sizes). z.texels) fit.of.sizes;
+  root = ap (λ (z : Sizes). z.root) fit.of.sizes;
+})
+
+-- where the journal maps the root, a new pass is rooted
+pub rooted_by : {F : Type 0} (g : FileMeanings F) (words : WordsValue) (v : StreamerView) (k : KitView F) → IsFitKit g words v k
+    → MapsRoot (kit_state g words v.writer.journal k)
+    → is_mapped (newest v.writer.journal) v.writer.sizes.root ≡ true
+rooted_by g words v k fit root =
+    let is : v.writer.sizes.root ≡ root_of k.shape = ap (λ (z : Sizes). z.root) fit.of.seen ∙ ap (λ (z : Sizes). z.root) fit.of.sizes ∙ ap root_of fit.shape in
+    subst (λ r. IsSome (newest v.writer.journal r)) (sym is) root
+
+-- the samplers of a prepared kit may draw a job of the machine, whose journal maps the root
+pub may_draw : {F : Type 0} (g : FileMeanings F) (job : Job) (words : WordsValue) (q : Queues) (t : WordStreamer) (k : KitView F) (tasks : List WordSampler)
+    → IsReadyKit g words q t k job.batch
+    → MapsRoot (kit_state g words t.streamer.writer.journal k) → IsJobFor (kit_setup g words k) job → tasks ≡ k.samplers
+    → AllReady (MayDraw words job.scene job.picture) tasks
+may_draw g job words q t k tasks ready root job_is same = subst (AllReady (MayDraw words job.scene job.picture)) (sym same)
+    (λ n d inside.
+    let there = slice_get-get_or k.samplers n d inside in
+    let its = ready.fit.kit.samplers.each n (get_or k.samplers n d) there in
+    let has = ready.passes n (get_or k.samplers n d) there in
+    record {
       for_it = record {
         width = its.width_is ∙ sym job_is.width;
         height = its.height_is ∙ sym job_is.height;
         depth = its.depth_is ∙ sym job_is.depth;
         pages = its.pages ∙ ap (λ s. pages_of s) (sym job_is.shape);
       };
-      picture = job_is.picture;
-      shape = ready.idle.shape ∙ sym job_is.shape;
-      root = subst (λ s. TableMapsRoot (record v { shape = s })) (sym ready.idle.shape) root;
+      picture_is = job_is.picture;
+      fits = subst (λ s. Fits s words.sizes) (sym job_is.shape) (kit_fits g words t.streamer k ready.fit);
+      pass = has.pass;
+      has = has.has;
+      of = has.of;
+      rooted = ap (λ (p : PassView). p.rooted) has.view ∙ rooted_by g words t.streamer k ready.fit root;
+      own = ap (λ (p : PassView). p.sampler) has.view ∙ sym its.number_is;
     })
 
 pub new_sampler : (s : Shape) (path : PathView) (d samplers number : ℕ) (v : SamplerView) → (v.sampler ≡ number) × (v.samplers ≡ samplers) → IsFor v s path d
@@ -82,10 +112,9 @@ new_sampler s path d samplers number v is for_it = record {
 }
 
 -- the line of one row more
-pub lines_more : (samplers row version : ℕ) → lines_at samplers (row + 1) version ≡ lines_at samplers row version
-    ++ record { row = row; sampler = row % samplers; version = version } ∷ []
-lines_more samplers row version = let z : 0 + row ≡ row = omega arith in map-range_with_len_more
-    (λ y. let l : RowLine = record { row = y; sampler = y % samplers; version = version } in l) 0 row row z
+pub lines_more : (samplers : ℕ) (tasks : List WordSampler) (row : ℕ) → lines_of samplers tasks (row + 1) ≡ lines_of samplers tasks row
+    ++ line_of samplers tasks row ∷ []
+lines_more samplers tasks row = let z : 0 + row ≡ row = omega arith in map-range_with_len_more (line_of samplers tasks) 0 row row z
 
 concat_push : (xs : List (List ℕ)) (x : List ℕ) → concat (xs ++ x ∷ []) ≡ concat xs ++ x
 concat_push [] x = append-nil x
@@ -120,16 +149,4 @@ pub own_turn : {F : Type 0} (g : FileMeanings F) (k : KitView F) (y : ℕ) (task
 own_turn g k y task kit inside at = let its = kit.samplers.each (y % k.crew.samplers) task at in record {
   inside = subst (λ h. y < h) (sym its.height_is) inside;
   own = ap (λ n. y % n) its.among ∙ sym its.number_is;
-}
-
--- a table that maps nothing holds its tiles
-pub idle_made : {F : Type 0} (g : FileMeanings F) (s : Shape) (v : TableView) (k : KitView F) → IsTable v → v.shape ≡ s → v.changes ≡ [] → IsKit g k
-    → k.shape ≡ s
-    → IsIdleKit g v k
-unfolding at
-idle_made g s v k table shape changes kit same = record {
-  table = table;
-  shape = shape ∙ sym same;
-  kit = kit;
-  holds = λ page frame is. absurd (none-some frame (sym (ap (λ js. newest js page) changes) ∙ is));
 }

@@ -1,5 +1,5 @@
 -- Passes that are given to samplers, and taken back from them.
-use Rattle.std.specs.Prelude.{◌≡◌, ℕ, Option, Some, None, List, [], ◌∷◌, length, map, slice_get, IfSome, All}
+use Rattle.std.specs.Prelude.{◌≡◌, ℕ, ◌<◌, Option, Some, None, List, [], ◌∷◌, length, map, slice_get, slice_index_or, IfSome, All}
 use Rattle.vt_grace.specs.declared.views.WriterView.{WriterView}
 use Rattle.vt_grace.specs.Giving.{new_pass, after_return}
 use Rattle.vt_grace.specs.Values.{WordsValue, PassValue}
@@ -22,8 +22,9 @@ pub record HasGiven (v w : WriterView) : Type 0 where
   pub rest : w ≡ record v { floors = w.floors; looks = w.looks; out = w.out }
 
 -- the samplers are the same but for their passes
-abbrev pub AreSameSamplers : List WordSampler → List WordSampler → Type 0
-AreSameSamplers before after = map (λ task. task.sampler) after ≡ map (λ task. task.sampler) before
+pub record AreSameSamplers (before after : List WordSampler) : Type 0 where
+  pub number : length after ≡ length before
+  pub each : (n : ℕ) (d : WordSampler) → n < length before → (slice_index_or after n d).sampler ≡ (slice_index_or before n d).sampler
 
 -- the pass of each sampler that has one is a pass of these words
 abbrev pub ArePassesOf : WordsValue → List WordSampler → Type 0
@@ -39,6 +40,10 @@ abbrev pub all_returned : WriterView → List WordSampler → WriterView
 all_returned w [] = w
 all_returned w (task ∷ tasks) = all_returned (after_pass w task.pass) tasks
 
+-- a sampler without a pass
+abbrev pub without_pass : WordSampler → WordSampler
+without_pass task = record { sampler = task.sampler; pass = None }
+
 -- samplers without passes
 abbrev pub without_passes : List WordSampler → List WordSampler
-without_passes tasks = map (λ task. record task { pass = None }) tasks
+without_passes tasks = map without_pass tasks
