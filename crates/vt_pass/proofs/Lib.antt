@@ -4,3 +4,5 @@ pub mod Returned
 pub mod Contents
 pub mod Ending
 pub mod RowLines
+pub mod Ended
+pub mod Finished
