@@ -5,12 +5,13 @@ use Rattle.std.proofs.lemmas.List.{length-append, append-nil, take_more}
 use Rattle.std.proofs.lemmas.List.FromFn.{map-range_with_len_more}
 use Rattle.std.proofs.lemmas.List.Sums.{sum_by_push, sum_by-take-le}
 use Rattle.std.specs.List.{range_with_len, concat}
+use Rattle.std.proofs.lemmas.Nat.{mod_below}
 use Rattle.std.proofs.lemmas.Option.{none-some, same_Some, slice_get-get_or}
 use Rattle.vt_outside.specs.declared.outside.File.{Ghosts as FileMeanings}
 use Rattle.vt_pages.specs.Shape.{Shape}
 use Rattle.vt_pages.specs.Pages.{pages_of, root_of}
 use Rattle.vt_journal.specs.declared.changes.RowLine.{RowLine}
-use Rattle.vt_sampler.specs.Samplers.{SamplerView, IsFor, IsOwn}
+use Rattle.vt_sampler.specs.Samplers.{SamplerView, IsFor, IsOwn, version_at}
 use Rattle.vt_tiles.specs.StoreViews.{StoreView, IsStoreIfTold}
 use Rattle.vt_journal.specs.Changes.{newest}
 use Rattle.vt_journal.specs.Lookups.{is_mapped}
@@ -28,7 +29,7 @@ use Rattle.vt_workers.specs.All.{AllReady}
 use Rattle.vt_pass.specs.declared.workers.WordStreamer.{WordStreamer}
 use Rattle.vt_pass.specs.WordTasks.{MayDraw}
 use Rattle.vt_machine.specs.Passes.{MapsRoot, IsJobFor}
-use Rattle.vt_pass.specs.Kits.{KitView, kit_setup, kit_state, IsSamplerOf, AreSamplersOf, IsKit, IsFitKit, IsReadyKit, line_of, lines_of, counted_together}
+use Rattle.vt_pass.specs.Kits.{KitView, kit_setup, kit_state, IsSamplerOf, AreSamplersOf, IsKit, IsFitKit, IsReadyKit, version_by, line_of, lines_of, counted_together}
 
 -- what holds of each place of a list holds of it with one more
 pub each_more : {A : Type 0} (P : ℕ → A → Type 0) (xs : List A) (x : A) → ((k : ℕ) (a : A) → slice_get xs k ≡ Some a → P k a) → P (length xs) x
@@ -150,3 +151,36 @@ own_turn g k y task kit inside at = let its = kit.samplers.each (y % k.crew.samp
   inside = subst (λ h. y < h) (sym its.height_is) inside;
   own = ap (λ n. y % n) its.among ∙ sym its.number_is;
 }
+
+-- a row is one of the rows of the sampler whose turn it is, where the samplers stand at the places of their numbers
+pub own_row : (s : Shape) (d width height samplers : ℕ) (tasks : List WordSampler) (y : ℕ) (task : WordSampler)
+    → AreSamplersOf s d width height samplers tasks → y < height → slice_get tasks (y % samplers) ≡ Some task → IsOwn task.sampler y
+own_row s d width height samplers tasks y task are inside at = let its = are.each (y % samplers) task at in record {
+  inside = subst (λ h. y < h) (sym its.height_is) inside;
+  own = ap (λ n. y % n) its.among ∙ sym its.number_is;
+}
+
+-- the sampler whose turn it is stands among them
+pub turn_there : (samplers : ℕ) (tasks : List WordSampler) (y : ℕ) (d : WordSampler) → 1 ≤ samplers → length tasks ≡ samplers
+    → slice_get tasks (y % samplers) ≡ Some (get_or tasks (y % samplers) d)
+turn_there samplers tasks y d some count = slice_get-get_or tasks (y % samplers) d (let low = mod_below y samplers some in omega (arith, low, count))
+
+pub own_here : (s : Shape) (d width height samplers : ℕ) (tasks : List WordSampler) (y sampler : ℕ) (e : WordSampler)
+    → AreSamplersOf s d width height samplers tasks → 1 ≤ samplers → y < height → sampler ≡ y % samplers → IsOwn (get_or tasks sampler e).sampler y
+own_here s d width height samplers tasks y sampler e are some inside turn = subst (λ n. IsOwn (get_or tasks n e).sampler y) (sym turn)
+    (own_row s d width height samplers tasks y (get_or tasks (y % samplers) e) are inside (turn_there samplers tasks y e some are.count))
+
+-- what is noted of a row is its line
+pub line_is : (samplers : ℕ) (tasks : List WordSampler) (y sampler version : ℕ) (e : WordSampler) → 1 ≤ samplers → length tasks ≡ samplers
+    → sampler ≡ y % samplers → version ≡ version_at (get_or tasks sampler e).sampler y
+    → record { row = y; sampler = sampler; version = version } ≡ line_of samplers tasks y
+line_is samplers tasks y sampler version e some count turn is =
+    let at : version ≡ version_by (slice_get tasks (y % samplers)) y = is ∙ ap (λ n. version_at (get_or tasks n e).sampler y) turn
+    ∙ ap (λ o. version_by o y) (sym (turn_there samplers tasks y e some count)) in
+    λ i. record { row = y; sampler = turn i; version = at i }
+
+-- each sampler counts the pages of the texture
+pub counts_fit : (s : Shape) (d width height samplers : ℕ) (tasks : List WordSampler) (counts : List ℕ) → AreSamplersOf s d width height samplers tasks
+    → length counts ≡ pages_of s → (k : ℕ) (e : WordSampler) → k < length tasks → length (get_or tasks k e).sampler.counts ≡ length counts
+counts_fit s d width height samplers tasks counts are all k e inside =
+    (are.each k (get_or tasks k e) (slice_get-get_or tasks k e inside)).pages ∙ sym all

@@ -6,3 +6,5 @@ pub mod Ending
 pub mod RowLines
 pub mod Ended
 pub mod Finished
+pub mod GivenOnes
+pub mod ReturnedOnes

@@ -33,6 +33,33 @@ use Rattle.vt_pass.specs.declared.workers.WordStreamer.{WordStreamer}
 use Rattle.vt_pass.specs.RoundKits.{IsSetUp, IsAsked}
 use Rattle.vt_pass.specs.Kits.{KitView, IsKit, IsFitKit, IsIdleKit, AreAllIn, IsPreparedKit, IsAskedKit, HasRoom, IsSameKit, IsSameStore, AreSameStores, AreSamplersOf}
 
+-- the streamer of words stays so with more room
+pub streamer_still : (words : WordsValue) (v w : StreamerView) → w ≡ record v { spare = w.spare } → IsStreamerOf words v → IsStreamerOf words w
+streamer_still words v w same of =
+    let t = of.lawful in
+    let table : IsTable (table_of (record v { spare = w.spare })) = record {
+      limits = t.limits;
+      some_frame = t.some_frame;
+      few_frames = t.few_frames;
+      legal = t.legal;
+      one_to_one = t.one_to_one;
+      pages_inside = t.pages_inside;
+      frames_inside = t.frames_inside;
+      filled = t.filled;
+    } in
+    subst (IsStreamerOf words) (sym same) (record {
+      table = of.table;
+      seen = of.seen;
+      sizes = of.sizes;
+      limits = of.limits;
+      sound = of.sound;
+      lawful = table;
+    })
+
+-- room stays so
+pub room_asked : {F : Type 0} (l m : KitView F) → m ≡ record l { round = m.round } → HasRoom l → HasRoom m
+room_asked l m rest room = subst HasRoom (sym rest) (record { no_rows = room.no_rows; rows = room.rows })
+
 module _ {F : Type 0} (g : FileMeanings F) where
   -- the first of some stores have room to note so many reads
   pub record HaveRoom (reads n : ℕ) (stores : List (StoreView F)) : Type 0 where
@@ -139,29 +166,6 @@ module _ {F : Type 0} (g : FileMeanings F) where
     below : (k : ℕ) → k < length after → k < length before
     below k inside = let n = h.number in omega (arith, n, inside)
 
-  -- the streamer of words stays so with more room
-  pub streamer_still : (words : WordsValue) (v w : StreamerView) → w ≡ record v { spare = w.spare } → IsStreamerOf words v → IsStreamerOf words w
-  streamer_still words v w same of =
-      let t = of.lawful in
-      let table : IsTable (table_of (record v { spare = w.spare })) = record {
-        limits = t.limits;
-        some_frame = t.some_frame;
-        few_frames = t.few_frames;
-        legal = t.legal;
-        one_to_one = t.one_to_one;
-        pages_inside = t.pages_inside;
-        frames_inside = t.frames_inside;
-        filled = t.filled;
-      } in
-      subst (IsStreamerOf words) (sym same) (record {
-        table = of.table;
-        seen = of.seen;
-        sizes = of.sizes;
-        limits = of.limits;
-        sound = of.sound;
-        lawful = table;
-      })
-
   -- a whole kit stays so with more room
   pub kit_still : (k l : KitView F) → IsSameKit g k l → IsKit g k → All (λ b. length b.elements ≡ tile_length l.shape l.depth) l.round.buffers.elements
       → IsKit g l
@@ -210,10 +214,6 @@ module _ {F : Type 0} (g : FileMeanings F) where
     counts = h.counts;
     stores = h.stores;
   })
-
-  -- room stays so
-  pub room_asked : (l m : KitView F) → m ≡ record l { round = m.round } → HasRoom l → HasRoom m
-  room_asked l m rest room = subst HasRoom (sym rest) (record { no_rows = room.no_rows; rows = room.rows })
 
   pub prepared_with : (words : WordsValue) (v w : StreamerView) (answers : QueuePass Loaded) (report : StreamReport) (q : Queues) (k l : KitView F)
       (batch : List Planned) → w ≡ record v { spare = w.spare } → IsSameKit g k l → IsIdleKit g words v k

@@ -1,15 +1,14 @@
-use Rattle.std.proofs.Common.{ℕ, ◌≤◌, arith, refl, subst, sym}
+use Rattle.std.proofs.Common.{ℕ, ◌≤◌, arith, subst, sym}
 use Rattle.vt_definitions.specs.Depths.{IsDepth}
 use Rattle.vt_pages.specs.Shape.{Shape}
 use Rattle.vt_machine.specs.Crews.{IsCrew}
 use Rattle.std.specs.Prelude.{All}
-use Rattle.vt_outside.proofs.Refusing.{none_made}
 use Rattle.vt_tiles.specs.Format.{tile_length}
 use Rattle.vt_rounds.specs.Sizes.{AreSized}
 use Rattle.vt_streaming.specs.Reports.{IsBlank}
 use Rattle.vt_pass.specs.RoundKits.{RoundKitView, IsSetUp}
 use Rattle.vt_pass.specs.Kits.{KitView}
-use Rattle.vt_pass.proofs.Rooms.{on_ok, same_none, same_lists, prepared_with, same_asked, room_asked}
+use Rattle.vt_pass.proofs.Rooms.{on_ok, prepared_with, same_asked, room_asked}
 use Rattle.vt_pass.proofs.kit.WordKit.prepare.Goals as goal
 
 pub reserve-requires : goal.reserve-requires
@@ -32,3 +31,17 @@ set_up-requires g c =
           (subst (λ (z : Shape × ℕ). AreSized (tile_length z.0 z.1) c.args.self.now.round.buffers.elements)
           (λ i. (sym same.shape i, sym same.depth i)) kit.buffers);
     }
+
+pub returns-clause-prepared : goal.returns-clause-prepared
+returns-clause-prepared g c = on_ok c.set_up.result c.set_up.ensures.set_up (λ set_up. λ w idle.
+    let l = c.make_room.new.self in
+    let m = c.set_up.new.self in
+    let count = c.len-entries.ensures in
+    prepared_with g.F.File w c.args.streamer.now c.reserve.new.self c.set_up.new.answers c.in_ok-report.field-0 c.set_up.new.queues c.args.self.now m
+    c.args.batch.now.elements c.in_ok-reserve.ensures.rest
+    (same_asked g.F.File c.args.self.now l m c.make_room.ensures.same c.set_up.ensures.rest) idle c.requires.lawful c.requires.few
+    (let r = c.in_ok-reserve.ensures.room in omega (arith, r, count))
+    (subst (λ n. IsBlank n c.in_ok-report.field-0) count c.in_ok-report.ensures.blank) c.in_ok-report.ensures.no_events
+    (room_asked l m c.set_up.ensures.rest c.in_ok-make_room.ensures.room)
+    (subst (λ (x : KitView _). All (λ store. x.crew.batch ≤ g.F.File.spare store.file) x.stores) (sym c.set_up.ensures.rest) c.in_ok-make_room.ensures.reads)
+    (subst (IsSetUp c.set_up.new.queues m.round c.set_up.new.answers (tile_length m.shape m.depth) m.crew) count set_up))
