@@ -19,8 +19,9 @@ use vt_still::StillMachine;
 use vt_tiles::Store;
 use vt_walk::{Names, Settings, WalkError, walk_with};
 
-/// Walks over all pictures of a path, one pass a picture: what is missing is loaded for the next picture, and a lost tile is left
-/// out. Conditions, refusals and causes are those of `walk_with`, but that `DoesNotFit` does not come. It may wait.
+/// Walks over all pictures of a path, one pass a picture: what is missing is loaded for the next picture, and a lost
+/// tile is left out. Conditions, refusals and causes are those of `walk_with`, but that `DoesNotFit` does not come.
+/// It may wait.
 pub fn walk_live<Rt: Threads + Wait + Sync, D: Folder, O: Sink, G: Gate + Sync>(
     rt: &Rt,
     alloc: Global,
@@ -36,7 +37,8 @@ pub fn walk_live<Rt: Threads + Wait + Sync, D: Folder, O: Sink, G: Gate + Sync>(
     requires bytes { D.File.bytes store.file ≡ bytes_at (D.files folder.old) names.now.store.now }
     requires tells { is_some (D.File.bytes store.file) ≡ is_some (D.files folder.old) }
     requires opened { AreOpen 1 names.now.store.now (D.asked folder.old) (file_of D.File.File store) }
-    ensures walked { Walks (drawn_by D.File.File) (given_to nearest D.File.File store path.now names.now settings.now false)
+    ensures walked { Walks (drawn_by D.File.File) (given_to nearest D.File.File store path.now names.now settings.now
+        false)
         (walk_course D.Folder O.Sink names.now.store.now (file_of D.File.File store) [] folder.old folder.new out.old
         out.new) result }
     ensures few { let needed = pinned_of store.shape settings.now.pinned in settings.now.frames < needed
@@ -50,8 +52,8 @@ pub fn walk_live<Rt: Threads + Wait + Sync, D: Folder, O: Sink, G: Gate + Sync>(
     )
 }
 
-/// Walks over all pictures of a path, each drawn until nothing is missing: it is then the plain picture. A lost tile ends the walk
-/// with `Failed`. Conditions, refusals and causes are those of `walk_with`. It may wait.
+/// Walks over all pictures of a path, each drawn until nothing is missing: it is then the plain picture. A lost tile
+/// ends the walk with `Failed`. Conditions, refusals and causes are those of `walk_with`. It may wait.
 pub fn walk_settled<Rt: Threads + Wait + Sync, D: Folder, O: Sink, G: Gate + Sync>(
     rt: &Rt,
     alloc: Global,
@@ -67,7 +69,8 @@ pub fn walk_settled<Rt: Threads + Wait + Sync, D: Folder, O: Sink, G: Gate + Syn
     requires bytes { D.File.bytes store.file ≡ bytes_at (D.files folder.old) names.now.store.now }
     requires tells { is_some (D.File.bytes store.file) ≡ is_some (D.files folder.old) }
     requires opened { AreOpen 1 names.now.store.now (D.asked folder.old) (file_of D.File.File store) }
-    ensures walked { Walks (drawn_by D.File.File) (given_to nearest D.File.File store path.now names.now settings.now true)
+    ensures walked { Walks (drawn_by D.File.File) (given_to nearest D.File.File store path.now names.now settings.now
+        true)
         (walk_course D.Folder O.Sink names.now.store.now (file_of D.File.File store) [] folder.old folder.new out.old
         out.new) result }
     ensures few { let needed = pinned_of store.shape settings.now.pinned in settings.now.frames < needed
