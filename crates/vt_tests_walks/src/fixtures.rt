@@ -9,8 +9,8 @@ ghost use Rattle.vt_machine.specs.Machines.{file_state};
 ghost use Rattle.vt_walk.specs.States.{AreOpen};
 
 use std::process::Abort;
-use vt_outside::{Folder, MemoryFolder, Place};
 use vt_machine::Crew;
+use vt_outside::{Folder, MemoryFolder, Place};
 use vt_tiles::Store;
 
 /// The store, with tiles of side 2, of the texture of 4x4 texels whose texel (x, y) is 4y+x in each channel: its header, and the

@@ -21,8 +21,8 @@ use vt_evict::Planned;
 use vt_feedback::Wanted;
 use vt_journal::{Change, Event, RowLine};
 use vt_loaders::QueuedLoader;
-use vt_outside::{Fail, MemoryFile, Place};
 use vt_machine::{Crew, Task};
+use vt_outside::{Fail, MemoryFile, Place};
 use vt_still::StillShared;
 
 // Page 1 is lost, in whose place page 2 stays.

@@ -12,9 +12,9 @@ use std::alloc::Global;
 use vt_evict::{Batch, Planned};
 use vt_feedback::{Wanted, Wants};
 use vt_journal::{Event, Journal, RowLine};
+use vt_machine::PassReport;
 use vt_outside::{Items, NoMemory};
 use vt_pages::Geometry;
-use vt_machine::PassReport;
 
 /// A pass of a worked walk: the picture and the batch, and what is to come of it.
 #[derive(Clone, Copy)]

@@ -27,9 +27,9 @@ use vt_camera::Path;
 use vt_draw::Shot;
 use vt_evict::Batch;
 use vt_journal::{Change, Event};
+use vt_machine::{Crew, PassReport};
 use vt_outside::{Fail, File, Folder, NoMemory, OpenGate};
 use vt_pages::Geometry;
-use vt_machine::{Crew, PassReport};
 use vt_still::{PassKit, run_pass};
 use vt_table::StillTable;
 

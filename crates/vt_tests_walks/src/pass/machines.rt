@@ -19,9 +19,9 @@ use std::thread::Threads;
 use vt_camera::Path;
 use vt_draw::Shot;
 use vt_evict::Batch;
+use vt_machine::{Crew, PassMachine, PassReport};
 use vt_outside::{Folder, NoMemory, OpenGate};
 use vt_pages::Geometry;
-use vt_machine::{Crew, PassMachine, PassReport};
 use vt_still::StillMachine;
 
 // Prepares a pass for a batch and runs it.
@@ -34,7 +34,7 @@ fn pass<Rt: Threads + Wait + Sync, M: PassMachine>(
     requires idle { M.is_idle machine.old }
     requires may { MayPrepare (M.state machine.old) batch.now.elements }
     requires job { IsJobFor (M.state machine.old).setup (job_of shot.now batch.now.elements) }
-    ensures { Ends M.DEALT M.needs M.shows (M.drawn machine.new) (M.is_idle machine.new)
+    ensures { Ends M.drawing (M.drawn machine.new) (M.is_idle machine.new)
         (job_of shot.now batch.now.elements) result (M.state machine.old) (M.state machine.new) }
 {
     machine.prepare(rt, batch)?;

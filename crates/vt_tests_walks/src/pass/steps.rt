@@ -5,8 +5,8 @@ use crate::pass::driven::Step;
 use vt_evict::Planned;
 use vt_feedback::Wanted;
 use vt_journal::{Change, Event, RowLine};
-use vt_outside::Place;
 use vt_machine::Crew;
+use vt_outside::Place;
 
 /// The pages 0 and 2 for frames that are free.
 pub const LOAD_0: Planned = Planned {

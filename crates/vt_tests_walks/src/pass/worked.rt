@@ -9,8 +9,8 @@ use std::process::Abort;
 use std::sync::Wait;
 use std::thread::Threads;
 use vt_camera::Path;
-use vt_outside::{MemoryFolder, Place};
 use vt_machine::Crew;
+use vt_outside::{MemoryFolder, Place};
 
 /// What runs passes.
 #[derive(Clone, Copy)]

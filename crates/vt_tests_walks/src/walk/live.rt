@@ -3,8 +3,8 @@
 use crate::cases::{Case, Deed, check};
 use crate::fixtures::{FAR, FOUR, FOUR_PICTURES, LOW, ONE_PICTURE};
 use crate::walk::worked::Walk;
-use vt_outside::Fail;
 use vt_machine::Crew;
+use vt_outside::Fail;
 use vt_walk::{Mode, Settings, WalkError};
 
 const FEW: Walk<'_> = Walk {
