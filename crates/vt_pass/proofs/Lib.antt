@@ -8,3 +8,4 @@ pub mod Ended
 pub mod Finished
 pub mod GivenOnes
 pub mod ReturnedOnes
+pub mod Finishing
