@@ -9,3 +9,4 @@ pub mod Finished
 pub mod GivenOnes
 pub mod ReturnedOnes
 pub mod Finishing
+pub mod Idle
