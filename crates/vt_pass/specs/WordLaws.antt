@@ -155,10 +155,10 @@ module _ {F : Type 0} (g : FileMeanings F) (words : WordsValue) (q : Queues) (wa
   unfolding begun round
   same_kit = subst (λ (x : KitView F). IsUntouched (kit_state g words was.streamer.writer.journal k)
       (kit_state g words b.streamer.writer.journal (kit_before x begun))) (sym out.rest) (record {
-    setup = ap (λ (x : List (StoreView F)). kit_setup g words (record k { stores = x })) dealt.stores_are;
-    files = ap (files_of g) dealt.stores_are;
-    journal = ap (λ (x : WordStreamer). x.streamer.writer.journal) streamer_is;
-  })
+        setup = ap (λ (x : List (StoreView F)). kit_setup g words (record k { stores = x })) dealt.stores_are;
+        files = ap (files_of g) dealt.stores_are;
+        journal = ap (λ (x : WordStreamer). x.streamer.writer.journal) streamer_is;
+      })
 
 module _ {F : Type 0} (g : FileMeanings F) (job : Job) (m n : WordView F) (a c : List (QueuedView F)) (e f : List WordSampler) (b d : WordStreamer)
     (ready : IsReadyBy g m.words m.queues m.streamer m.kit job.batch) (job_is : IsJobFor (word_state g m).setup job)
