@@ -75,7 +75,7 @@ module _ {F : Type 0} (g : FileMeanings F) (words : WordsValue) (q : Queues) (wa
   dealt : IsDealt g q k.round l.round was.answers b.answers k.stores a
   dealt = out.dealt
 
-  round : Round F
+  pub round : Round F
   round = record {
     asks = view_of k.round.asks;
     answers = view_of was.answers;
@@ -85,7 +85,7 @@ module _ {F : Type 0} (g : FileMeanings F) (words : WordsValue) (q : Queues) (wa
   }
 
   -- how the work began
-  pub begun : Begun F
+  unfoldable pub begun : Begun F
   begun = record { round = round; samplers = k.samplers; streamer = b }
 
   -- the workers may be moved back into the kit from which they were moved out
