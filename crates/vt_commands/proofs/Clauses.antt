@@ -7,11 +7,11 @@ use Rattle.vt_files.specs.Courses.{Course, SinkState, FolderState, Gain, IsUntou
 use Rattle.vt_inputs.specs.Inputs.{Input, Content}
 use Rattle.vt_inputs.specs.Causes.{Cause, MissingName, FlawedInput, cause_status, IsFirstCause, AreHeld, AreAccepted}
 use Rattle.vt_inputs.specs.Tasks.{HasBadInput}
-use Rattle.vt_walk_commands.specs.Machines.{Drawing}
+use Rattle.vt_walk_commands.specs.Machines.{MachineKind}
 use Rattle.vt_inputs.specs.Terms.{Terms, Hindrance, FlawedBeside, ManyTexels, FewFrames, LargePicture, hindrance_status, IsHindered, HasFaultBy, HasBadInputBy, EndsBy}
 use Rattle.vt_inputs.specs.Lines.{memory_line, usage_line, fault_line}
 use Rattle.vt_inputs.specs.Refusals.{status_of, Told, EndTold, refusal_of_words}
-use Rattle.vt_commands.specs.Runs.{Asks, AsksNothing, RunDone, RunLeft, RunAsked, RunFault, RunBadInput, RunHindered, RunCaused, RunStopped, RunComplete, IsRun}
+use Rattle.vt_commands.specs.Runs.{Run, Asks, AsksNothing, RunDone, RunLeft, RunAsked, RunFault, RunBadInput, RunHindered, RunCaused, RunStopped, RunComplete, IsRun}
 use Rattle.vt_words.specs.Commands.{CommandText, command_text}
 use Rattle.vt_words.specs.declared.arguments.WordsError.{WordsError}
 use Rattle.vt_words.specs.declared.arguments.WordsError.TheVariants as words_error
@@ -31,32 +31,32 @@ same_command : (words : List (List ℕ)) (p q : CommandText) → Asks words p �
 same_command words p q a b = cc
 
 -- how the words' command ended, whichever name it is given
-ends_as : (m : Drawing) (T : Type 0) (words : List (List ℕ)) (c : Course) (r : Result T Refusal) (p : CommandText) → Asks words p
+ends_as : (m : MachineKind) (T : Type 0) (words : List (List ℕ)) (c : Course) (r : Result T Refusal) (p : CommandText) → Asks words p
     → EndsCommand m words c r → EndsBy (terms_of m p) c r
 ends_as m T words c r p asks h = subst (λ (q : CommandText). EndsBy (terms_of m q) c r) (same_command words h.command p h.is asks) h.ends
 
-done_of : (m : Drawing) (T : Type 0) (words : List (List ℕ)) (c : Course) (r : Result T Refusal) → EndsRun m words c r → status_of r ≡ 0 → RunDone m words c
-done_of m T words c (Ok t) h s = (h.command, h.is, h.ends.1)
-done_of m T words c (Err NoMemory) h s = absurd (omega (arith, s))
-done_of m T words c (Err Usage) h s = absurd (omega (arith, s))
-done_of m T words c (Err Fault) h s = absurd (omega (arith, s))
-done_of m T words c (Err (Flawed name flaw)) h s = absurd (omega (arith, s))
-done_of m T words c (Err (TooFewFrames frames needed)) h s = absurd (omega (arith, s))
-done_of m T words c (Err (DoesNotFit picture wanted room)) h s = absurd (omega (arith, s))
+done_of : (run : Run) (T : Type 0) (r : Result T Refusal) → EndsRun run.kind run.words run.course r → status_of r ≡ 0 → RunDone run
+done_of run T (Ok t) h s = (h.command, h.is, h.ends.1)
+done_of run T (Err NoMemory) h s = absurd (omega (arith, s))
+done_of run T (Err Usage) h s = absurd (omega (arith, s))
+done_of run T (Err Fault) h s = absurd (omega (arith, s))
+done_of run T (Err (Flawed name flaw)) h s = absurd (omega (arith, s))
+done_of run T (Err (TooFewFrames frames needed)) h s = absurd (omega (arith, s))
+done_of run T (Err (DoesNotFit picture wanted room)) h s = absurd (omega (arith, s))
 
 idle_untouched : (c : Course) → IsIdle c → IsUntouched c
 idle_untouched c idle = record { files = ap (λ (s : FolderState). s.files) idle.folder; held = ap (λ (s : SinkState). s.held) idle.out }
 
-left_of : (m : Drawing) (T : Type 0) (words : List (List ℕ)) (c : Course) (r : Result T Refusal) → EndsRun m words c r → status_of r ≢ 0 → RunLeft m words c
-left_of m T words c (Ok t) h s = λ p asks. absurd (s refl)
-left_of m T words c (Err refusal) (inl h) s = λ p asks. inl (idle_untouched c h.idle)
-left_of m T words c (Err refusal) (inr h) s = λ p asks. (ends_as m T words c (Err refusal) p asks h).1.0
+left_of : (run : Run) (T : Type 0) (r : Result T Refusal) → EndsRun run.kind run.words run.course r → status_of r ≢ 0 → RunLeft run
+left_of run T (Ok t) h s = λ p asks. absurd (s refl)
+left_of run T (Err refusal) (inl h) s = λ p asks. inl (idle_untouched run.course h.idle)
+left_of run T (Err refusal) (inr h) s = λ p asks. (ends_as run.kind T run.words run.course (Err refusal) p asks h).1.0
 
 bad_untouched : (terms : Terms) (c : Course) (name : List ℕ) (flaw : Flaw) → HasBadInputBy terms c name flaw → IsUntouched c
 bad_untouched terms c name flaw (inl h) = h.untouched
 bad_untouched terms c name flaw (inr h) = h.stands
 
-untouched_of : (m : Drawing) (T : Type 0) (words : List (List ℕ)) (c : Course) (r : Result T Refusal) → EndsRun m words c r
+untouched_of : (m : MachineKind) (T : Type 0) (words : List (List ℕ)) (c : Course) (r : Result T Refusal) → EndsRun m words c r
     → (status_of r ≡ 2) ⊎ (status_of r ≡ 4) → IsUntouched c
 untouched_of m T words c (Ok t) h (inl s) = absurd (omega (arith, s))
 untouched_of m T words c (Ok t) h (inr s) = absurd (omega (arith, s))
@@ -71,29 +71,29 @@ untouched_of m T words c (Err (TooFewFrames frames needed)) (inr h) s = h.ends.1
 untouched_of m T words c (Err (DoesNotFit picture wanted room)) (inr h) (inl s) = absurd (omega (arith, s))
 untouched_of m T words c (Err (DoesNotFit picture wanted room)) (inr h) (inr s) = absurd (omega (arith, s))
 
-asked_of : (m : Drawing) (T : Type 0) (words : List (List ℕ)) (c : Course) (r : Result T Refusal) → EndsRun m words c r → RunAsked m words c
-asked_of m T words c (Ok t) h = λ p asks. (ends_as m T words c (Ok t) p asks h).0
-asked_of m T words c (Err refusal) (inl h) = λ p asks. (sound m p).idle c h.idle
-asked_of m T words c (Err refusal) (inr h) = λ p asks. (ends_as m T words c (Err refusal) p asks h).0
+asked_of : (run : Run) (T : Type 0) (r : Result T Refusal) → EndsRun run.kind run.words run.course r → RunAsked run
+asked_of run T (Ok t) h = λ p asks. (ends_as run.kind T run.words run.course (Ok t) p asks h).0
+asked_of run T (Err refusal) (inl h) = λ p asks. (sound run.kind p).idle run.course h.idle
+asked_of run T (Err refusal) (inr h) = λ p asks. (ends_as run.kind T run.words run.course (Err refusal) p asks h).0
 
-idle_of : (m : Drawing) (T : Type 0) (words : List (List ℕ)) (c : Course) (r : Result T Refusal) → EndsRun m words c r → AsksNothing words → IsIdle c
+idle_of : (m : MachineKind) (T : Type 0) (words : List (List ℕ)) (c : Course) (r : Result T Refusal) → EndsRun m words c r → AsksNothing words → IsIdle c
 idle_of m T words c (Ok t) h none = absurd (asks_none words h.command h.is none)
 idle_of m T words c (Err refusal) (inl h) none = h.idle
 idle_of m T words c (Err refusal) (inr h) none = absurd (asks_none words h.command h.is none)
 
-usage_of : (m : Drawing) (T : Type 0) (words : List (List ℕ)) (c : Course) (r : Result T Refusal) (err : Gain) → EndsRun m words c r → EndTold r err
-    → status_of r ≡ 2 → AsksNothing words ⊎ RunHindered m words c err 2
-usage_of m T words c (Ok t) err h told s = absurd (omega (arith, s))
-usage_of m T words c (Err NoMemory) err h told s = absurd (omega (arith, s))
-usage_of m T words c (Err Usage) err (inl h) told s = inl h.unread
-usage_of m T words c (Err Usage) err (inr h) told s =
+usage_of : (run : Run) (T : Type 0) (r : Result T Refusal) → EndsRun run.kind run.words run.course r → EndTold r run.err
+    → status_of r ≡ 2 → AsksNothing run.words ⊎ RunHindered run 2
+usage_of run T (Ok t) h told s = absurd (omega (arith, s))
+usage_of run T (Err NoMemory) h told s = absurd (omega (arith, s))
+usage_of run T (Err Usage) (inl h) told s = inl h.unread
+usage_of run T (Err Usage) (inr h) told s =
     inr (record { command = h.command; asks = h.is; hindrance = ManyTexels; comes = refl; met = h.ends.1.1; told = told })
-usage_of m T words c (Err Fault) err h told s = absurd (omega (arith, s))
-usage_of m T words c (Err (Flawed name flaw)) err h told s = absurd (omega (arith, s))
-usage_of m T words c (Err (TooFewFrames frames needed)) err h told s = absurd (omega (arith, s))
-usage_of m T words c (Err (DoesNotFit picture wanted room)) err h told s = absurd (omega (arith, s))
+usage_of run T (Err Fault) h told s = absurd (omega (arith, s))
+usage_of run T (Err (Flawed name flaw)) h told s = absurd (omega (arith, s))
+usage_of run T (Err (TooFewFrames frames needed)) h told s = absurd (omega (arith, s))
+usage_of run T (Err (DoesNotFit picture wanted room)) h told s = absurd (omega (arith, s))
 
-no_command_of : (m : Drawing) (T : Type 0) (words : List (List ℕ)) (c : Course) (r : Result T Refusal) → EndsRun m words c r
+no_command_of : (m : MachineKind) (T : Type 0) (words : List (List ℕ)) (c : Course) (r : Result T Refusal) → EndsRun m words c r
     → AsksNothing words → (status_of r ≡ 2) ⊎ (status_of r ≡ 1)
 no_command_of m T words c (Ok t) h none = absurd (asks_none words h.command h.is none)
 no_command_of m T words c (Err NoMemory) h none = inr refl
@@ -104,16 +104,16 @@ no_command_of m T words c (Err (Flawed name flaw)) (inl h) none = absurd h.unrea
 no_command_of m T words c (Err (TooFewFrames frames needed)) (inl h) none = absurd h.unread
 no_command_of m T words c (Err (DoesNotFit picture wanted room)) (inl h) none = absurd h.unread
 
-fault_of : (m : Drawing) (T : Type 0) (words : List (List ℕ)) (c : Course) (r : Result T Refusal) → EndsRun m words c r → status_of r ≡ 3
-    → RunFault m words c
-fault_of m T words c (Ok t) h s = absurd (omega (arith, s))
-fault_of m T words c (Err NoMemory) h s = absurd (omega (arith, s))
-fault_of m T words c (Err Usage) h s = absurd (omega (arith, s))
-fault_of m T words c (Err Fault) (inl h) s = absurd h.unread
-fault_of m T words c (Err Fault) (inr h) s = (h.command, h.is, h.ends.1.1)
-fault_of m T words c (Err (Flawed name flaw)) h s = absurd (omega (arith, s))
-fault_of m T words c (Err (TooFewFrames frames needed)) h s = absurd (omega (arith, s))
-fault_of m T words c (Err (DoesNotFit picture wanted room)) h s = absurd (omega (arith, s))
+fault_of : (run : Run) (T : Type 0) (r : Result T Refusal) → EndsRun run.kind run.words run.course r → status_of r ≡ 3
+    → RunFault run
+fault_of run T (Ok t) h s = absurd (omega (arith, s))
+fault_of run T (Err NoMemory) h s = absurd (omega (arith, s))
+fault_of run T (Err Usage) h s = absurd (omega (arith, s))
+fault_of run T (Err Fault) (inl h) s = absurd h.unread
+fault_of run T (Err Fault) (inr h) s = (h.command, h.is, h.ends.1.1)
+fault_of run T (Err (Flawed name flaw)) h s = absurd (omega (arith, s))
+fault_of run T (Err (TooFewFrames frames needed)) h s = absurd (omega (arith, s))
+fault_of run T (Err (DoesNotFit picture wanted room)) h s = absurd (omega (arith, s))
 
 -- what holds of the inputs of a hindrance has no first cause
 hindered_first : (terms : Terms) (c : Course) (cause : Cause) (hindrance : Hindrance) → IsFirstCause c.folder.before.files terms.inputs cause
@@ -148,7 +148,7 @@ caused_as T c (Err (TooFewFrames frames needed)) terms cause h none first =
 caused_as T c (Err (DoesNotFit picture wanted room)) terms cause h none first =
     absurd (hindered_first terms c cause (LargePicture picture wanted room) first h.1.1)
 
-unread_caused : (m : Drawing) (T : Type 0) (words : List (List ℕ)) (c : Course) (refusal : Refusal) → EndsRun {T = T} m words c (Err refusal)
+unread_caused : (m : MachineKind) (T : Type 0) (words : List (List ℕ)) (c : Course) (refusal : Refusal) → EndsRun {T = T} m words c (Err refusal)
     → (p : CommandText) → Asks words p → (status_of {T = T} (Err refusal) ≡ 1) ⊎ EndsBy {T = T} (terms_of m p) c (Err refusal)
 unread_caused m T words c refusal (inr h) = λ p asks. inr (ends_as m T words c (Err refusal) p asks h)
 unread_caused m T words c NoMemory (inl h) = λ p asks. inl refl
@@ -159,15 +159,15 @@ unread_caused m T words c (TooFewFrames frames needed) (inl h) = λ p asks. absu
 unread_caused m T words c (DoesNotFit picture wanted room) (inl h) = λ p asks. absurd h.unread
 
 -- an ending of the words' command, or want of memory
-came_to : (m : Drawing) (T : Type 0) (words : List (List ℕ)) (c : Course) (r : Result T Refusal) → EndsRun m words c r
+came_to : (m : MachineKind) (T : Type 0) (words : List (List ℕ)) (c : Course) (r : Result T Refusal) → EndsRun m words c r
     → (p : CommandText) → Asks words p → (status_of r ≡ 1) ⊎ EndsBy (terms_of m p) c r
 came_to m T words c (Ok t) h = λ p asks. inr (ends_as m T words c (Ok t) p asks h)
 came_to m T words c (Err refusal) h = unread_caused m T words c refusal h
 
-caused_of : (m : Drawing) (T : Type 0) (words : List (List ℕ)) (c : Course) (r : Result T Refusal) → EndsRun m words c r → RunCaused m words c (status_of r)
-caused_of m T words c r h = λ p cause asks none first. elim (came_to m T words c r h p asks) [
+caused_of : (run : Run) (T : Type 0) (r : Result T Refusal) → EndsRun run.kind run.words run.course r → RunCaused run (status_of r)
+caused_of run T r h = λ p cause asks none first. elim (came_to run.kind T run.words run.course r h p asks) [
   | inl wanting ↦ inr wanting
-  | inr ends ↦ caused_as T c r (terms_of m p) cause ends none first
+  | inr ends ↦ caused_as T run.course r (terms_of run.kind p) cause ends none first
 ]
 
 -- what stands in a command's way is what stands in the way of what the folder holds
@@ -209,11 +209,11 @@ stopped_as T c (Err (TooFewFrames frames needed)) terms contents a laws h none h
 stopped_as T c (Err (DoesNotFit picture wanted room)) terms contents a laws h none held hinders =
     inl (hindered_status terms c contents a (LargePicture picture wanted room) laws held hinders h.1.1)
 
-stopped_of : (m : Drawing) (T : Type 0) (words : List (List ℕ)) (c : Course) (r : Result T Refusal) → EndsRun m words c r
-    → RunStopped m words c (status_of r)
-stopped_of m T words c r h = λ p contents hindrance asks none held hinders. elim (came_to m T words c r h p asks) [
+stopped_of : (run : Run) (T : Type 0) (r : Result T Refusal) → EndsRun run.kind run.words run.course r
+    → RunStopped run (status_of r)
+stopped_of run T r h = λ p contents hindrance asks none held hinders. elim (came_to run.kind T run.words run.course r h p asks) [
   | inl wanting ↦ inr wanting
-  | inr ends ↦ stopped_as T c r (terms_of m p) contents hindrance (sound m p) ends none held hinders
+  | inr ends ↦ stopped_as T run.course r (terms_of run.kind p) contents hindrance (sound run.kind p) ends none held hinders
 ]
 
 -- nothing stands in the way of what the folder holds, and so in the command's way
@@ -239,11 +239,11 @@ complete_as T c (Err (TooFewFrames frames needed)) terms contents h none held fr
 complete_as T c (Err (DoesNotFit picture wanted room)) terms contents h none held free =
     absurd (none_met terms c contents (LargePicture picture wanted room) held free h.1.1)
 
-complete_of : (m : Drawing) (T : Type 0) (words : List (List ℕ)) (c : Course) (r : Result T Refusal) → EndsRun m words c r
-    → RunComplete m words c (status_of r)
-complete_of m T words c r h = λ p contents asks none held free. elim (came_to m T words c r h p asks) [
+complete_of : (run : Run) (T : Type 0) (r : Result T Refusal) → EndsRun run.kind run.words run.course r
+    → RunComplete run (status_of r)
+complete_of run T r h = λ p contents asks none held free. elim (came_to run.kind T run.words run.course r h p asks) [
   | inl wanting ↦ inr wanting
-  | inr ends ↦ complete_as T c r (terms_of m p) contents ends none held free
+  | inr ends ↦ complete_as T run.course r (terms_of run.kind p) contents ends none held free
 ]
 
 unread_by : (asked : Option CommandText) (e : WordsError) → (e ≡ words_error.Usage → IsNone asked) → IsUnread asked (refusal_of_words e)
@@ -251,12 +251,12 @@ unread_by asked words_error.Usage none = none refl
 unread_by asked words_error.NoMemory none = tt
 
 -- a run whose words were refused
-pub runs_unread : (m : Drawing) (T : Type 0) (words : List (List ℕ)) (c : Course) (e : WordsError) → IsIdle c
+pub runs_unread : (m : MachineKind) (T : Type 0) (words : List (List ℕ)) (c : Course) (e : WordsError) → IsIdle c
     → (e ≡ words_error.Usage → IsNone (command_text words)) → EndsRun {T = T} m words c (Err (refusal_of_words e))
 runs_unread m T words c e idle none = inl (record { unread = unread_by (command_text words) e none; idle = idle })
 
 -- a run that did a command
-pub runs_command : (m : Drawing) (T : Type 0) (words : List (List ℕ)) (c : Course) (r : Result T Refusal) (command : CommandText)
+pub runs_command : (m : MachineKind) (T : Type 0) (words : List (List ℕ)) (c : Course) (r : Result T Refusal) (command : CommandText)
     → Asks words command → EndsBy (terms_of m command) c r → EndsRun m words c r
 runs_command m T words c (Ok t) command is ends = record { command = command; is = is; ends = ends }
 runs_command m T words c (Err refusal) command is ends = inr (record { command = command; is = is; ends = ends })
@@ -270,17 +270,17 @@ small_of T (Err (Flawed name flaw)) = omega arith
 small_of T (Err (TooFewFrames frames needed)) = omega arith
 small_of T (Err (DoesNotFit picture wanted room)) = omega arith
 
-bad_input_of : (m : Drawing) (T : Type 0) (words : List (List ℕ)) (c : Course) (r : Result T Refusal) (err : Gain) → EndsRun m words c r
-    → EndTold r err → status_of r ≡ 4
-    → RunBadInput m words c err
-bad_input_of m T words c (Ok t) err h told s = absurd (omega (arith, s))
-bad_input_of m T words c (Err NoMemory) err h told s = absurd (omega (arith, s))
-bad_input_of m T words c (Err Usage) err h told s = absurd (omega (arith, s))
-bad_input_of m T words c (Err Fault) err h told s = absurd (omega (arith, s))
-bad_input_of m T words c (Err (TooFewFrames frames needed)) err h told s = absurd (omega (arith, s))
-bad_input_of m T words c (Err (DoesNotFit picture wanted room)) err h told s = absurd (omega (arith, s))
-bad_input_of m T words c (Err (Flawed name flaw)) err (inl h) told s = absurd h.unread
-bad_input_of m T words c (Err (Flawed name flaw)) err
+bad_input_of : (run : Run) (T : Type 0) (r : Result T Refusal) → EndsRun run.kind run.words run.course r
+    → EndTold r run.err → status_of r ≡ 4
+    → RunBadInput run
+bad_input_of run T (Ok t) h told s = absurd (omega (arith, s))
+bad_input_of run T (Err NoMemory) h told s = absurd (omega (arith, s))
+bad_input_of run T (Err Usage) h told s = absurd (omega (arith, s))
+bad_input_of run T (Err Fault) h told s = absurd (omega (arith, s))
+bad_input_of run T (Err (TooFewFrames frames needed)) h told s = absurd (omega (arith, s))
+bad_input_of run T (Err (DoesNotFit picture wanted room)) h told s = absurd (omega (arith, s))
+bad_input_of run T (Err (Flawed name flaw)) (inl h) told s = absurd h.unread
+bad_input_of run T (Err (Flawed name flaw))
     (inr h) told s = record { command = h.command; asks = h.is; name = name.now; flaw = flaw; bad = h.ends.1.1; told = told }
 
 silent_of : (T : Type 0) (r : Result T Refusal) (err : Gain) → EndTold r err → status_of r ≡ 0 → err.after.held ≡ err.before.held
@@ -319,40 +319,39 @@ fault_told_of T (Err (Flawed name flaw)) err told s = absurd (omega (arith, s))
 fault_told_of T (Err (TooFewFrames frames needed)) err told s = absurd (omega (arith, s))
 fault_told_of T (Err (DoesNotFit picture wanted room)) err told s = absurd (omega (arith, s))
 
-hindered_of : (m : Drawing) (T : Type 0) (words : List (List ℕ)) (c : Course) (r : Result T Refusal) (err : Gain) → EndsRun m words c r → EndTold r err
-    → status_of r ≡ 5 → RunHindered m words c err 5
-hindered_of m T words c (Ok t) err h told s = absurd (omega (arith, s))
-hindered_of m T words c (Err NoMemory) err h told s = absurd (omega (arith, s))
-hindered_of m T words c (Err Usage) err h told s = absurd (omega (arith, s))
-hindered_of m T words c (Err Fault) err h told s = absurd (omega (arith, s))
-hindered_of m T words c (Err (Flawed name flaw)) err h told s = absurd (omega (arith, s))
-hindered_of m T words c (Err (TooFewFrames frames needed)) err (inl h) told s = absurd h.unread
-hindered_of m T words c (Err (DoesNotFit picture wanted room)) err (inl h) told s = absurd h.unread
-hindered_of m T words c (Err (TooFewFrames frames needed)) err (inr h) told s =
+hindered_of : (run : Run) (T : Type 0) (r : Result T Refusal) → EndsRun run.kind run.words run.course r → EndTold r run.err
+    → status_of r ≡ 5 → RunHindered run 5
+hindered_of run T (Ok t) h told s = absurd (omega (arith, s))
+hindered_of run T (Err NoMemory) h told s = absurd (omega (arith, s))
+hindered_of run T (Err Usage) h told s = absurd (omega (arith, s))
+hindered_of run T (Err Fault) h told s = absurd (omega (arith, s))
+hindered_of run T (Err (Flawed name flaw)) h told s = absurd (omega (arith, s))
+hindered_of run T (Err (TooFewFrames frames needed)) (inl h) told s = absurd h.unread
+hindered_of run T (Err (DoesNotFit picture wanted room)) (inl h) told s = absurd h.unread
+hindered_of run T (Err (TooFewFrames frames needed)) (inr h) told s =
     record { command = h.command; asks = h.is; hindrance = FewFrames frames needed; comes = refl; met = h.ends.1.1; told = told }
-hindered_of m T words c (Err (DoesNotFit picture wanted room)) err (inr h) told s =
+hindered_of run T (Err (DoesNotFit picture wanted room)) (inr h) told s =
     record { command = h.command; asks = h.is; hindrance = LargePicture picture wanted room; comes = refl; met = h.ends.1.1; told = told }
 
 -- all clauses
-pub run_of : (m : Drawing) (T : Type 0) (words : List (List ℕ)) (c : Course) (r : Result T Refusal) (err : Gain) → EndsRun m words c r → EndTold r err
-    → IsRun m words c err (status_of r)
-run_of m T words c r err h told = record {
+pub is_run : (run : Run) (T : Type 0) (r : Result T Refusal) → EndsRun run.kind run.words run.course r → EndTold r run.err → IsRun run (status_of r)
+is_run run T r h told = record {
   statuses = small_of T r;
-  done = done_of m T words c r h;
-  left = left_of m T words c r h;
-  untouched = untouched_of m T words c r h;
-  asked = asked_of m T words c r h;
-  idle = idle_of m T words c r h;
-  usage = usage_of m T words c r err h told;
-  no_command = no_command_of m T words c r h;
-  fault = fault_of m T words c r h;
-  bad_input = bad_input_of m T words c r err h told;
-  hindered = hindered_of m T words c r err h told;
-  caused = caused_of m T words c r h;
-  stopped = stopped_of m T words c r h;
-  complete = complete_of m T words c r h;
-  silent = silent_of T r err told;
-  memory_told = memory_told_of T r err told;
-  usage_told = usage_told_of T r err told;
-  fault_told = fault_told_of T r err told;
+  done = done_of run T r h;
+  left = left_of run T r h;
+  untouched = untouched_of run.kind T run.words run.course r h;
+  asked = asked_of run T r h;
+  idle = idle_of run.kind T run.words run.course r h;
+  usage = usage_of run T r h told;
+  no_command = no_command_of run.kind T run.words run.course r h;
+  fault = fault_of run T r h;
+  bad_input = bad_input_of run T r h told;
+  hindered = hindered_of run T r h told;
+  caused = caused_of run T r h;
+  stopped = stopped_of run T r h;
+  complete = complete_of run T r h;
+  silent = silent_of T r run.err told;
+  memory_told = memory_told_of T r run.err told;
+  usage_told = usage_told_of T r run.err told;
+  fault_told = fault_told_of T r run.err told;
 }

@@ -5,7 +5,6 @@ use Rattle.std.specs.Str.{bytes_eq}
 use Rattle.std.specs.declared.alloc.Global.{Global}
 use Rattle.std.proofs.lemmas.Bool.{false≢true}
 use Rattle.std.proofs.lemmas.Slice.Eq.{bytes_eq-Decides}
-use Rattle.vt_files.specs.Courses.{Course, Gain}
 use Rattle.vt_inputs.specs.Causes.{cause_status, IsFirstCause, AreHeld}
 use Rattle.vt_inputs.specs.Terms.{Terms, Hindrance, hindrance_status, DoneBy, LeftBy, IsHindered, HasFaultBy, HasBadInputBy}
 use Rattle.vt_words.specs.Arguments.{texts}
@@ -18,10 +17,10 @@ use Rattle.vt_words.specs.Replay.{replay_text}
 use Rattle.vt_words.specs.Walk.{walk_text}
 use Rattle.vt_words.specs.Trial.{trial_text}
 use Rattle.vt_words.specs.Commands.{CommandText, PlainCommand, TileCommand, InfoCommand, GenCommand, UpgradeCommand, ReplayCommand, WalkCommand, TrialCommand, named_text}
-use Rattle.vt_walk_commands.specs.Machines.{Drawing}
+use Rattle.vt_walk_commands.specs.Machines.{MachineKind}
 use Rattle.vt_commands.specs.commands.{terms_of}
 use Rattle.vt_commands.specs.Waits.{is_waiting_name, may_wait, MayWait}
-use Rattle.vt_commands.specs.Runs.{Asks, AsksNothing, RunBadInput, RunHindered, RunCaused, RunStopped, RunComplete, IsRun}
+use Rattle.vt_commands.specs.Runs.{Run, Asks, AsksNothing, RunBadInput, RunHindered, RunCaused, RunStopped, RunComplete, IsRun}
 
 -- the first word says whether words may wait
 pub first_waits : (words : List (String Global)) (name : String Global) (text : List ℕ) → 1 ≤ length words → name ≡ get_or words 0 name
@@ -86,7 +85,7 @@ is_waiting [] is command asks = absurd (false≢true is)
 is_waiting (name ∷ words) is command asks = named_waiting name (name ∷ words) command (one_of _ _ is) asks
 
 -- what holds of the terms of a command that waits for nobody holds of them by any machine
-carried : (m n : Drawing) (F : Terms → Type 0) (command : CommandText) → (MayWait command → ⊥) → F (terms_of m command) → F (terms_of n command)
+carried : (m n : MachineKind) (F : Terms → Type 0) (command : CommandText) → (MayWait command → ⊥) → F (terms_of m command) → F (terms_of n command)
 carried m n F (PlainCommand words) free x = x
 carried m n F (TileCommand words) free x = x
 carried m n F (InfoCommand words) free x = x
@@ -96,71 +95,74 @@ carried m n F (ReplayCommand words) free x = x
 carried m n F (WalkCommand words) free x = absurd (free tt)
 carried m n F (TrialCommand words) free x = absurd (free tt)
 
-hindered_by : (m n : Drawing) (words : List (List ℕ)) (c : Course) (err : Gain) (status : ℕ) → may_wait words ≡ false → RunHindered m words c err status
-    → RunHindered n words c err status
-hindered_by m n words c err status never h = record {
+-- the same run by another kind of machine
+abbrev pub by_kind : MachineKind → Run → Run
+by_kind kind run = record run { kind = kind }
+
+hindered_by : (n : MachineKind) (run : Run) (status : ℕ) → may_wait run.words ≡ false → RunHindered run status → RunHindered (by_kind n run) status
+hindered_by n run status never h = record {
   command = h.command;
   asks = h.asks;
   hindrance = h.hindrance;
   comes = h.comes;
-  met = carried m n (λ terms. IsHindered terms c h.hindrance) h.command (is_at_once words never h.command h.asks) h.met;
+  met = carried run.kind n (λ terms. IsHindered terms run.course h.hindrance) h.command (is_at_once run.words never h.command h.asks) h.met;
   told = h.told;
 }
 
-usage_by : (m n : Drawing) (words : List (List ℕ)) (c : Course) (err : Gain) → may_wait words ≡ false → AsksNothing words ⊎ RunHindered m words c err 2
-    → AsksNothing words ⊎ RunHindered n words c err 2
-usage_by m n words c err never (inl none) = inl none
-usage_by m n words c err never (inr h) = inr (hindered_by m n words c err 2 never h)
+usage_by : (n : MachineKind) (run : Run) → may_wait run.words ≡ false → AsksNothing run.words ⊎ RunHindered run 2
+    → AsksNothing run.words ⊎ RunHindered (by_kind n run) 2
+usage_by n run never (inl none) = inl none
+usage_by n run never (inr h) = inr (hindered_by n run 2 never h)
 
-bad_input_by : (m n : Drawing) (words : List (List ℕ)) (c : Course) (err : Gain) → may_wait words ≡ false → RunBadInput m words c err
-    → RunBadInput n words c err
-bad_input_by m n words c err never b = record {
+bad_input_by : (n : MachineKind) (run : Run) → may_wait run.words ≡ false → RunBadInput run → RunBadInput (by_kind n run)
+bad_input_by n run never b = record {
   command = b.command;
   asks = b.asks;
   name = b.name;
   flaw = b.flaw;
-  bad = carried m n (λ terms. HasBadInputBy terms c b.name b.flaw) b.command (is_at_once words never b.command b.asks) b.bad;
+  bad = carried run.kind n (λ terms. HasBadInputBy terms run.course b.name b.flaw) b.command (is_at_once run.words never b.command b.asks) b.bad;
   told = b.told;
 }
 
-caused_by : (m n : Drawing) (words : List (List ℕ)) (c : Course) (status : ℕ) → may_wait words ≡ false → RunCaused m words c status
-    → RunCaused n words c status
-caused_by m n words c status never r = λ p cause asks.
-    carried m n (λ terms. (terms.failed c → ⊥) → IsFirstCause c.folder.before.files terms.inputs cause → (status ≡ cause_status cause) ⊎ (status ≡ 1))
-    p (is_at_once words never p asks) (λ none first. r p cause asks none first)
+caused_by : (n : MachineKind) (run : Run) (status : ℕ) → may_wait run.words ≡ false → RunCaused run status → RunCaused (by_kind n run) status
+caused_by n run status never r = λ p cause asks.
+    carried run.kind n (λ terms. (terms.failed run.course → ⊥) → IsFirstCause run.course.folder.before.files terms.inputs cause
+    → (status ≡ cause_status cause) ⊎ (status ≡ 1))
+    p (is_at_once run.words never p asks) (λ none first. r p cause asks none first)
 
-stopped_by : (m n : Drawing) (words : List (List ℕ)) (c : Course) (status : ℕ) → may_wait words ≡ false → RunStopped m words c status
-    → RunStopped n words c status
-stopped_by m n words c status never r = λ p contents hindrance asks.
-    carried m n (λ terms. (terms.failed c → ⊥) → AreHeld c.folder.before.files terms.inputs contents → terms.hinders contents hindrance
-    → (status ≡ hindrance_status hindrance) ⊎ (status ≡ 1))
-    p (is_at_once words never p asks) (λ none held hinders. r p contents hindrance asks none held hinders)
+stopped_by : (n : MachineKind) (run : Run) (status : ℕ) → may_wait run.words ≡ false → RunStopped run status → RunStopped (by_kind n run) status
+stopped_by n run status never r = λ p contents hindrance asks.
+    carried run.kind n (λ terms. (terms.failed run.course → ⊥) → AreHeld run.course.folder.before.files terms.inputs contents
+    → terms.hinders contents hindrance → (status ≡ hindrance_status hindrance) ⊎ (status ≡ 1))
+    p (is_at_once run.words never p asks) (λ none held hinders. r p contents hindrance asks none held hinders)
 
-complete_by : (m n : Drawing) (words : List (List ℕ)) (c : Course) (status : ℕ) → may_wait words ≡ false → RunComplete m words c status
-    → RunComplete n words c status
-complete_by m n words c status never r = λ p contents asks.
-    carried m n (λ terms. (terms.failed c → ⊥) → AreHeld c.folder.before.files terms.inputs contents
+complete_by : (n : MachineKind) (run : Run) (status : ℕ) → may_wait run.words ≡ false → RunComplete run status → RunComplete (by_kind n run) status
+complete_by n run status never r = λ p contents asks.
+    carried run.kind n (λ terms. (terms.failed run.course → ⊥) → AreHeld run.course.folder.before.files terms.inputs contents
     → ((hindrance : Hindrance) → terms.hinders contents hindrance → ⊥) → (status ≡ 0) ⊎ (status ≡ 1))
-    p (is_at_once words never p asks) (λ none held met. r p contents asks none held met)
+    p (is_at_once run.words never p asks) (λ none held met. r p contents asks none held met)
 
 -- a run that waits for nobody is one by any machine
-pub by_any : (m n : Drawing) (words : List (List ℕ)) (c : Course) (err : Gain) (status : ℕ) → may_wait words ≡ false → IsRun m words c err status
-    → IsRun n words c err status
-by_any m n words c err status never r = record {
+pub by_any : (n : MachineKind) (run : Run) (status : ℕ) → may_wait run.words ≡ false → IsRun run status → IsRun (by_kind n run) status
+by_any n run status never r = record {
   statuses = r.statuses;
-  done = λ s. let d = r.done s in (d.0, d.1, carried m n (λ terms. DoneBy terms c) d.0 (is_at_once words never d.0 d.1) d.2);
-  left = λ s p asks. carried m n (λ terms. LeftBy terms c) p (is_at_once words never p asks) (r.left s p asks);
+  done = λ s.
+      let d = r.done s in
+      (d.0, d.1, carried run.kind n (λ terms. DoneBy terms run.course) d.0 (is_at_once run.words never d.0 d.1) d.2);
+  left = λ s p asks. carried run.kind n (λ terms. LeftBy terms run.course) p (is_at_once run.words never p asks) (r.left s p asks);
   untouched = r.untouched;
-  asked = λ p asks. carried m n (λ terms. terms.asks c) p (is_at_once words never p asks) (r.asked p asks);
+  asked = λ p asks. carried run.kind n (λ terms. terms.asks run.course) p (is_at_once run.words never p asks) (r.asked p asks);
   idle = r.idle;
-  usage = λ s. usage_by m n words c err never (r.usage s);
+  usage = λ s. usage_by n run never (r.usage s);
   no_command = r.no_command;
-  fault = λ s. let f = r.fault s in (f.0, f.1, carried m n (λ terms. HasFaultBy terms c) f.0 (is_at_once words never f.0 f.1) f.2);
-  bad_input = λ s. bad_input_by m n words c err never (r.bad_input s);
-  hindered = λ s. hindered_by m n words c err 5 never (r.hindered s);
-  caused = caused_by m n words c status never r.caused;
-  stopped = stopped_by m n words c status never r.stopped;
-  complete = complete_by m n words c status never r.complete;
+  fault = λ s.
+      let f = r.fault s in
+      (f.0, f.1, carried run.kind n (λ terms. HasFaultBy terms run.course) f.0 (is_at_once run.words never f.0 f.1) f.2);
+  bad_input = λ s. bad_input_by n run never (r.bad_input s);
+  hindered = λ s. hindered_by n run 5 never (r.hindered s);
+  caused = caused_by n run status never r.caused;
+  stopped = stopped_by n run status never r.stopped;
+  complete = complete_by n run status never r.complete;
   silent = r.silent;
   memory_told = r.memory_told;
   usage_told = r.usage_told;

@@ -1,17 +1,31 @@
--- What the top call says of a run, by its words, its course and its status.
+-- What the top call says of a run, by what it was given and what it left, and its status.
 use Rattle.std.specs.Prelude.{◌≡◌, ◌≢◌, ◌≤◌, ◌⊎◌, ℕ, List, Some, IsNone}
+use Rattle.vt_outside.specs.declared.outside.Folder.{Ghosts as FolderMeanings}
+use Rattle.vt_outside.specs.declared.outside.Sink.{Ghosts as SinkMeanings}
 use Rattle.vt_print.specs.Places.{bad_input_line}
-use Rattle.vt_files.specs.Courses.{Course, Gain, IsUntouched, IsIdle}
+use Rattle.vt_files.specs.Courses.{Course, Gain, course, gain, IsUntouched, IsIdle}
 use Rattle.vt_inputs.specs.Flaws.{flaw_place}
 use Rattle.vt_inputs.specs.Inputs.{Content}
 use Rattle.vt_inputs.specs.Lines.{memory_line, usage_line, fault_line}
 use Rattle.vt_inputs.specs.Refusals.{Told}
 use Rattle.vt_inputs.specs.Causes.{Cause, cause_status, IsFirstCause, AreHeld}
-use Rattle.vt_walk_commands.specs.Machines.{Drawing}
+use Rattle.vt_walk_commands.specs.Machines.{MachineKind}
 use Rattle.vt_inputs.specs.Terms.{Hindrance, hindrance_status, hindrance_line, DoneBy, LeftBy, IsHindered, HasFaultBy, HasBadInputBy}
 use Rattle.vt_words.specs.Commands.{CommandText, command_text}
 use Rattle.vt_commands.specs.commands.{terms_of}
 use Rattle.vt_inputs.specs.declared.flaws.Flaw.{Flaw}
+
+-- a run: the kind of machine by which it may walk, its words, the folder and the output before and after it, and the error output
+pub record Run : Type 1 where
+  pub kind : MachineKind
+  pub words : List (List ℕ)
+  pub course : Course
+  pub err : Gain
+
+-- the run with a kind of machine, words, and a folder, an output and an error output before and after it
+abbrev pub run_of : {D F O E : Type 0} → MachineKind → FolderMeanings D F → SinkMeanings O → SinkMeanings E → List (List ℕ) → D → D → O → O → E → E → Run
+run_of kind d o e words folder_old folder_new out_old out_new err_old err_new =
+    record { kind = kind; words = words; course = course d o folder_old folder_new out_old out_new; err = gain e err_old err_new }
 
 -- the words ask for a command
 abbrev pub Asks : List (List ℕ) → CommandText → Type 0
@@ -22,74 +36,81 @@ abbrev pub AsksNothing : List (List ℕ) → Type 0
 AsksNothing words = IsNone (command_text words)
 
 -- the words' command is done
-abbrev pub RunDone : Drawing → List (List ℕ) → Course → Type 0
-RunDone m words c = (command : CommandText) × Asks words command × DoneBy (terms_of m command) c
+abbrev pub RunDone : Run → Type 0
+RunDone run = (command : CommandText) × Asks run.words command × DoneBy (terms_of run.kind command) run.course
 
 -- the words' command left a part of what is due
-abbrev pub RunLeft : Drawing → List (List ℕ) → Course → Type 0
-RunLeft m words c = (command : CommandText) → Asks words command → LeftBy (terms_of m command) c
+abbrev pub RunLeft : Run → Type 0
+RunLeft run = (command : CommandText) → Asks run.words command → LeftBy (terms_of run.kind command) run.course
 
 -- nothing was asked but what the words' command asks
-abbrev pub RunAsked : Drawing → List (List ℕ) → Course → Type 0
-RunAsked m words c = (command : CommandText) → Asks words command → (terms_of m command).asks c
+abbrev pub RunAsked : Run → Type 0
+RunAsked run = (command : CommandText) → Asks run.words command → (terms_of run.kind command).asks run.course
 
 -- a call failed, or the first cause among the inputs is a missing name
-abbrev pub RunFault : Drawing → List (List ℕ) → Course → Type 0
-RunFault m words c = (command : CommandText) × Asks words command × HasFaultBy (terms_of m command) c
+abbrev pub RunFault : Run → Type 0
+RunFault run = (command : CommandText) × Asks run.words command × HasFaultBy (terms_of run.kind command) run.course
 
 -- an input is refused for a flaw, and its line was told
-pub record RunBadInput (m : Drawing) (words : List (List ℕ)) (c : Course) (err : Gain) : Type 0 where
+pub record RunBadInput (run : Run) : Type 0 where
   pub command : CommandText
-  pub asks : Asks words command
+  pub asks : Asks run.words command
   pub name : List ℕ
   pub flaw : Flaw
-  pub bad : HasBadInputBy (terms_of m command) c name flaw
-  pub told : Told (bad_input_line name (flaw_place flaw)) err
+  pub bad : HasBadInputBy (terms_of run.kind command) run.course name flaw
+  pub told : Told (bad_input_line name (flaw_place flaw)) run.err
 
 -- something of this status stands in the way of what the inputs hold together, and its line was told
-pub record RunHindered (m : Drawing) (words : List (List ℕ)) (c : Course) (err : Gain) (status : ℕ) : Type 0 where
+pub record RunHindered (run : Run) (status : ℕ) : Type 0 where
   pub command : CommandText
-  pub asks : Asks words command
+  pub asks : Asks run.words command
   pub hindrance : Hindrance
   pub comes : hindrance_status hindrance ≡ status
-  pub met : IsHindered (terms_of m command) c hindrance
-  pub told : Told (hindrance_line hindrance) err
+  pub met : IsHindered (terms_of run.kind command) run.course hindrance
+  pub told : Told (hindrance_line hindrance) run.err
 
 -- where no call failed, the status is that of the first cause among the inputs, but for want of memory
-abbrev pub RunCaused : Drawing → List (List ℕ) → Course → ℕ → Type 0
-RunCaused m words c status = (command : CommandText) (cause : Cause) → Asks words command → ((terms_of m command).failed c → ⊥)
-    → IsFirstCause c.folder.before.files (terms_of m command).inputs cause → (status ≡ cause_status cause) ⊎ (status ≡ 1)
+abbrev pub RunCaused : Run → ℕ → Type 0
+RunCaused run status = (command : CommandText) (cause : Cause) → Asks run.words command → ((terms_of run.kind command).failed run.course → ⊥)
+    → IsFirstCause run.course.folder.before.files (terms_of run.kind command).inputs cause → (status ≡ cause_status cause) ⊎ (status ≡ 1)
 
 -- where no call failed and the inputs are accepted, the status is that of what stands in the way of what they hold
-abbrev pub RunStopped : Drawing → List (List ℕ) → Course → ℕ → Type 0
-RunStopped m words c status = (command : CommandText) (contents : List Content) (hindrance : Hindrance) → Asks words command
-    → ((terms_of m command).failed c → ⊥) → AreHeld c.folder.before.files (terms_of m command).inputs contents
-    → (terms_of m command).hinders contents hindrance → (status ≡ hindrance_status hindrance) ⊎ (status ≡ 1)
+abbrev pub RunStopped : Run → ℕ → Type 0
+RunStopped run status = (command : CommandText) (contents : List Content) (hindrance : Hindrance) → Asks run.words command
+    → ((terms_of run.kind command).failed run.course → ⊥)
+    → AreHeld run.course.folder.before.files (terms_of run.kind command).inputs contents
+    → (terms_of run.kind command).hinders contents hindrance → (status ≡ hindrance_status hindrance) ⊎ (status ≡ 1)
 
 -- and where nothing does, it is 0
-abbrev pub RunComplete : Drawing → List (List ℕ) → Course → ℕ → Type 0
-RunComplete m words c status = (command : CommandText) (contents : List Content) → Asks words command
-    → ((terms_of m command).failed c → ⊥) → AreHeld c.folder.before.files (terms_of m command).inputs contents
-    → ((hindrance : Hindrance) → (terms_of m command).hinders contents hindrance → ⊥) → (status ≡ 0) ⊎ (status ≡ 1)
+abbrev pub RunComplete : Run → ℕ → Type 0
+RunComplete run status = (command : CommandText) (contents : List Content) → Asks run.words command
+    → ((terms_of run.kind command).failed run.course → ⊥)
+    → AreHeld run.course.folder.before.files (terms_of run.kind command).inputs contents
+    → ((hindrance : Hindrance) → (terms_of run.kind command).hinders contents hindrance → ⊥) → (status ≡ 0) ⊎ (status ≡ 1)
 
--- all that the top call says of a run that answered this status: what stands, what was asked, the causes of each status, and the line on
--- the error output
-pub record IsRun (m : Drawing) (words : List (List ℕ)) (c : Course) (err : Gain) (status : ℕ) : Type 0 where
+-- all that the top call says of a run that answered this status
+pub record IsRun (run : Run) (status : ℕ) : Type 0 where
   pub statuses : status ≤ 5
-  pub done : status ≡ 0 → RunDone m words c
-  pub left : status ≢ 0 → RunLeft m words c
-  pub untouched : (status ≡ 2) ⊎ (status ≡ 4) → IsUntouched c
-  pub asked : RunAsked m words c
-  pub idle : AsksNothing words → IsIdle c
-  pub usage : status ≡ 2 → AsksNothing words ⊎ RunHindered m words c err 2
-  pub no_command : AsksNothing words → (status ≡ 2) ⊎ (status ≡ 1)
-  pub fault : status ≡ 3 → RunFault m words c
-  pub bad_input : status ≡ 4 → RunBadInput m words c err
-  pub hindered : status ≡ 5 → RunHindered m words c err 5
-  pub caused : RunCaused m words c status
-  pub stopped : RunStopped m words c status
-  pub complete : RunComplete m words c status
-  pub silent : status ≡ 0 → err.after.held ≡ err.before.held
-  pub memory_told : status ≡ 1 → Told memory_line err
-  pub usage_told : status ≡ 2 → Told usage_line err
-  pub fault_told : status ≡ 3 → Told fault_line err
+  -- on status 0 all that is due stands, else a part of it, in its order
+  pub done : status ≡ 0 → RunDone run
+  pub left : status ≢ 0 → RunLeft run
+  -- words and inputs that are refused leave all as it was, whether the folder tells or not
+  pub untouched : (status ≡ 2) ⊎ (status ≡ 4) → IsUntouched run.course
+  -- nothing but the command's inputs is read, and of words that are none of a command's the folder is not asked at all
+  pub asked : RunAsked run
+  pub idle : AsksNothing run.words → IsIdle run.course
+  -- the causes of the refusals: the first among the inputs decides
+  pub usage : status ≡ 2 → AsksNothing run.words ⊎ RunHindered run 2
+  pub no_command : AsksNothing run.words → (status ≡ 2) ⊎ (status ≡ 1)
+  pub fault : status ≡ 3 → RunFault run
+  pub bad_input : status ≡ 4 → RunBadInput run
+  pub hindered : status ≡ 5 → RunHindered run 5
+  -- where no call failed, the status is that of the first cause, and 0 where there is none; but memory may be wanting
+  pub caused : RunCaused run status
+  pub stopped : RunStopped run status
+  pub complete : RunComplete run status
+  -- the line on the error output, or a front part of it where a put on it was refused
+  pub silent : status ≡ 0 → run.err.after.held ≡ run.err.before.held
+  pub memory_told : status ≡ 1 → Told memory_line run.err
+  pub usage_told : status ≡ 2 → Told usage_line run.err
+  pub fault_told : status ≡ 3 → Told fault_line run.err

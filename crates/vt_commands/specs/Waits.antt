@@ -12,7 +12,7 @@ use Rattle.vt_words.specs.Commands.{
   WalkCommand,
   TrialCommand,
 }
-use Rattle.vt_walk_commands.specs.Machines.{Drawing}
+use Rattle.vt_walk_commands.specs.Machines.{MachineKind}
 
 -- the name is that of a command that may wait
 abbrev pub is_waiting_name : List ℕ → Bool
@@ -35,11 +35,13 @@ MayWait (WalkCommand words) = Unit {0}
 MayWait (TrialCommand words) = Unit {0}
 
 -- of no machine: the terms of a command that waits for nobody are the same by any
-abbrev pub no_machine : Drawing
+abbrev pub no_machine : MachineKind
 no_machine = record {
-  dealt = false;
-  needs = λ scene picture page. 0;
-  shows = λ scene bytes table picture x y. [];
-  whole = λ scene bytes picture x y. [];
+  draws = record {
+    dealt = false;
+    needs = λ scene picture page. 0;
+    shows = λ scene bytes table picture x y. [];
+    whole = λ scene bytes picture x y. [];
+  };
   drawn = λ path picture row version bytes. ⊥;
 }

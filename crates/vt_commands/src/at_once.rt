@@ -4,11 +4,11 @@
 ghost use Rattle.std.specs.Prelude.{◌≡◌, false};
 ghost use Rattle.vt_words.specs.Arguments.{texts};
 ghost use Rattle.vt_words.specs.Commands.{shown, IsLawful};
-ghost use Rattle.vt_files.specs.Courses.{course, gain};
+ghost use Rattle.vt_files.specs.Courses.{course};
 ghost use Rattle.vt_inputs.specs.Terms.{EndsBy};
 ghost use Rattle.vt_commands.specs.commands.{terms_of, EndsRun};
 ghost use Rattle.vt_commands.specs.Waits.{is_waiting_name, may_wait, MayWait, no_machine};
-ghost use Rattle.vt_commands.specs.Runs.{IsRun};
+ghost use Rattle.vt_commands.specs.Runs.{run_of, IsRun};
 
 use std::alloc::Global;
 use vt_inputs::{Refusal, status_of, tell_end};
@@ -43,8 +43,8 @@ pub fn run_at_once<D: Folder, O: Sink, E: Sink>(
     err: &mut E,
 ) -> u8
     requires { may_wait (texts words.now) ≡ false }
-    ensures { IsRun no_machine (texts words.now) (course D.Folder O.Sink folder.old folder.new out.old out.new)
-        (gain E.Sink err.old err.new) result }
+    ensures { IsRun (run_of no_machine D.Folder O.Sink E.Sink (texts words.now) folder.old folder.new out.old out.new err.old
+        err.new) result }
 {
     let end = do_at_once(alloc, words, folder, out);
     tell_end(&end, err);

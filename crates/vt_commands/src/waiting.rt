@@ -4,19 +4,19 @@
 ghost use Rattle.std.specs.Prelude.{◌≡◌, true};
 ghost use Rattle.vt_words.specs.Arguments.{texts};
 ghost use Rattle.vt_words.specs.Commands.{shown, IsLawful};
-ghost use Rattle.vt_files.specs.Courses.{course, gain};
-ghost use Rattle.vt_walk_commands.specs.Machines.{drawing_of};
+ghost use Rattle.vt_files.specs.Courses.{course};
+ghost use Rattle.vt_walk_commands.specs.Machines.{kind_of};
 ghost use Rattle.vt_inputs.specs.Terms.{EndsBy};
 ghost use Rattle.vt_commands.specs.commands.{terms_of, EndsRun};
 ghost use Rattle.vt_commands.specs.Waits.{may_wait, MayWait};
-ghost use Rattle.vt_commands.specs.Runs.{IsRun};
+ghost use Rattle.vt_commands.specs.Runs.{run_of, IsRun};
 
 use std::alloc::Global;
 use std::sync::Wait;
 use std::thread::Threads;
 use vt_inputs::{Refusal, status_of, tell_end};
-use vt_outside::{Folder, Gate, Sink};
 use vt_machine::PassMachine;
+use vt_outside::{Folder, Gate, Sink};
 use vt_walk_commands::{trial, walk};
 use vt_words::{Command, read_command};
 
@@ -38,8 +38,8 @@ pub fn run_waiting<
     gate: &G,
 ) -> u8
     requires { may_wait (texts words.now) ≡ true }
-    ensures { IsRun (drawing_of M.DEALT M.needs M.shows M.whole M.drawn) (texts words.now)
-        (course D.Folder O.Sink folder.old folder.new out.old out.new) (gain E.Sink err.old err.new) result }
+    ensures { IsRun (run_of (kind_of M.drawing M.drawn) D.Folder O.Sink E.Sink (texts words.now) folder.old folder.new
+        out.old out.new err.old err.new) result }
 {
     let end = do_waiting::<M, Rt, D, O, G>(rt, alloc, words, folder, out, gate);
     tell_end(&end, err);
@@ -63,7 +63,7 @@ fn do_waiting<
     gate: &G,
 ) -> Result<(), Refusal<'a>>
     requires { may_wait (texts words.now) ≡ true }
-    ensures { EndsRun (drawing_of M.DEALT M.needs M.shows M.whole M.drawn) (texts words.now)
+    ensures { EndsRun (kind_of M.drawing M.drawn) (texts words.now)
         (course D.Folder O.Sink folder.old folder.new out.old out.new) result }
 {
     let command = read_command(alloc, words)?;
@@ -88,7 +88,7 @@ fn perform_waiting<
 ) -> Result<(), Refusal<'a>>
     requires lawful { IsLawful command.now }
     requires waits { MayWait (shown command.now) }
-    ensures { EndsBy (terms_of (drawing_of M.DEALT M.needs M.shows M.whole M.drawn) (shown command.now))
+    ensures { EndsBy (terms_of (kind_of M.drawing M.drawn) (shown command.now))
         (course D.Folder O.Sink folder.old folder.new out.old out.new) result }
 {
     match command {

@@ -5,7 +5,7 @@ ghost use Rattle.std.specs.List.{All, range_with_len};
 ghost use Rattle.vt_definitions.specs.Limits.{most_frames};
 ghost use Rattle.vt_pages.specs.Pages.{pages_of};
 ghost use Rattle.vt_plan.specs.PageLists.{is_in};
-ghost use Rattle.vt_evict.specs.Views.{IsTable, first_view, touched, pages_needed};
+ghost use Rattle.vt_evict.specs.Views.{IsTable, first_view, free_frames, touched, pages_needed};
 ghost use Rattle.vt_evict.specs.Batches.{IsLawful, IsLawfulEntry, IsSettled, read_entries};
 ghost use Rattle.vt_evict.specs.Kept.{applied, HasTaken};
 ghost use Rattle.vt_evict.specs.Plans.{plan_of, plan_by};
@@ -103,6 +103,22 @@ impl Recency {
             self.apply_unless(is_lost, batch.at(left))?;
         }
         Ok(())
+    }
+
+    /// The entries of the table: for each page 0 where it is unmapped, else its frame and 1.
+    pub fn entries(&self) -> &[u32]
+        ensures entries { result.now ≡ self.now.entries }
+        ensures table { IsTable self.now }
+    {
+        let _frames = self.frames();
+        self.entries.as_slice()
+    }
+
+    /// How many frames no page has.
+    pub fn free_count(&self) -> usize
+        ensures { result ≡ length (free_frames self.now) }
+    {
+        self.free.len()
     }
 
     // The number of frames.

@@ -33,7 +33,7 @@ unfolding level_of
 level_within s p = last_level_within s p (levels_of s - 1)
 
 -- what holds of each rank of the first n pages
-record IsRank (s : Shape) (counts : List ℕ) (n : ℕ) (r : Rank) : Type 0 where
+pub record IsRank (s : Shape) (counts : List ℕ) (n : ℕ) (r : Rank) : Type 0 where
   pub same : rank_of s counts r.page ≡ r
   pub below : r.page < n
   pub some : 0 < slice_index counts r.page
@@ -111,7 +111,7 @@ pages_apart s counts n = IsDistinct-from_apart (λ a b. a.page == b.page) (ranks
     (λ i j d below inside. let h : (get_or (ranks_below s counts n) i d).page < (get_or (ranks_below s counts n) j d).page = pages_rise s counts n i j
     d below inside in grind (arith, nat_tests))
 
-abbrev rank_cmp : Rank → Rank → Ordering
+abbrev pub rank_cmp : Rank → Rank → Ordering
 rank_cmp a b = ordering_then (nat_cmp a.fineness b.fineness) (ordering_then (nat_cmp a.rarity b.rarity) (nat_cmp a.page b.page))
 
 -- the fields of two ranks, of which the second is not less, and what the pages' levels and pixels make of it
@@ -152,25 +152,41 @@ Contains-map : {X Y : Type 0} (f : X → Y) (xs : List X) (x : X) (y : Y) → Co
 Contains-map f xs x y there same =
     (there.0, rw length-map there.1, get_or-map f xs there.0 x y there.1 ∙ ap f there.2 ∙ same)
 
+not_same : (a b : ℕ) → (a == b) ≡ false → a ≢ b
+not_same a b h e = grind (arith, nat_tests)
+
+-- some ranks are those of the wanted pages, each once
+pub record AreRanks (s : Shape) (counts : List ℕ) (rs : List Rank) : Type 0 where
+  pub each : All (IsRank s counts (length counts)) rs
+  pub apart : IsDistinct (λ a b. a.page == b.page) rs
+  pub all : (p : ℕ) → p < length counts → 0 < slice_index counts p → Contains rs (rank_of s counts p)
+
+-- ranks that change places stay those of the wanted pages
+pub ranks_moved : (s : Shape) (counts : List ℕ) (from rs : List Rank) → AreRanks s counts from → IsPermutation from rs → AreRanks s counts rs
+ranks_moved s counts from rs h moved = record {
+  each = All-permutation (IsRank s counts (length counts)) from rs moved h.each;
+  apart = IsDistinct-IsPermutation (λ a b. a.page == b.page) (λ a b. grind (arith, nat_tests)) from rs moved h.apart;
+  all = λ p below some. Contains-permutation from rs (rank_of s counts p) moved (h.all p below some);
+}
+
+below_are_ranks : (s : Shape) (counts : List ℕ) → AreRanks s counts (ranks_below s counts (length counts))
+below_are_ranks s counts = record {
+  each = ranks_are s counts (length counts);
+  apart = pages_apart s counts (length counts);
+  all = λ p below some. rank_is_there s counts (length counts) p below some;
+}
+
 module _ (s : Shape) (counts : List ℕ) (rs : List Rank) (pages : length counts ≡ pages_of s) (most : (p : ℕ) → slice_index counts p ≤ most_pixels)
-    (moved : IsPermutation (ranks_below s counts (length counts)) rs) where
-  all_ranks : All (IsRank s counts (length counts)) rs
-  all_ranks = All-permutation (IsRank s counts (length counts)) (ranks_below s counts (length counts)) rs moved (ranks_are s counts (length counts))
-
-  all_apart : IsDistinct (λ a b. a.page == b.page) rs
-  all_apart = IsDistinct-IsPermutation (λ a b. a.page == b.page) (λ a b. grind (arith, nat_tests)) (ranks_below s counts (length counts)) rs moved
-      (pages_apart s counts (length counts))
-
+    (are : AreRanks s counts rs) where
   in_order : IsSortedBy (λ a b. is_lt (rank_cmp a b)) rs → IsTotalOrder rank_cmp → AllPairs (λ a b. is_before s a b ≡ true) (map wanted_by rs)
   in_order sorted total i j d below inside =
       let r : Rank = rank_of s counts 0 in
       let within : j < length rs = rw length-map at inside in
       let under : i < length rs = omega arith in
       rw (get_or-map wanted_by rs i r d under, get_or-map wanted_by rs j r d within)
-      (earlier s counts (length counts) (get_or rs i r) (get_or rs j r) most (all_ranks i r under) (all_ranks j r within)
+      (earlier s counts (length counts) (get_or rs i r) (get_or rs j r) most (are.each i r under) (are.each j r within)
       (sorted_far (λ a b. is_lt (rank_cmp a b)) (ranks_by total (λ x. x)) rs sorted i j r (omega arith) within)
-      (λ e. let h : ((get_or rs i r).page == (get_or rs j r).page) ≡ false = apart_from_distinct (λ a b. a.page == b.page) rs i j r all_apart below
-      within in grind (arith, nat_tests)))
+      (not_same (get_or rs i r).page (get_or rs j r).page (apart_from_distinct (λ a b. a.page == b.page) rs i j r are.apart below within)))
 
   each_once : IsDistinct nat_eq (map (λ w. w.page) (map wanted_by rs))
   each_once = IsDistinct-from_apart nat_eq (map (λ w. w.page) (map wanted_by rs)) (λ i j d below inside.
@@ -180,7 +196,7 @@ module _ (s : Shape) (counts : List ℕ) (rs : List Rank) (pages : length counts
       let under : i < length rs = omega arith in
       let page_at : (k : ℕ) → k < length rs → get_or (map (λ (w : Wanted). w.page) (map wanted_by rs)) k d ≡ (get_or rs k r).page
       = λ k h. get_or-map (λ (w : Wanted). w.page) (map wanted_by rs) k w d (rw length-map h) ∙ ap (λ (w : Wanted). w.page) (get_or-map wanted_by rs k r w h) in
-      let apart : ((get_or rs i r).page == (get_or rs j r).page) ≡ false = apart_from_distinct (λ a b. a.page == b.page) rs i j r all_apart below within in
+      let apart : ((get_or rs i r).page == (get_or rs j r).page) ≡ false = apart_from_distinct (λ a b. a.page == b.page) rs i j r are.apart below within in
       rw (page_at i under, page_at j within) apart)
 
   each_wanted : (r : Rank) → IsRank s counts (length counts) r → IsWanted s (slice_index counts) (wanted_by r)
@@ -189,22 +205,28 @@ module _ (s : Shape) (counts : List ℕ) (rs : List Rank) (pages : length counts
   these_only : (w : Wanted) → Contains (map wanted_by rs) w → IsWanted s (slice_index counts) w
   these_only w there = All-contains (IsWanted s (slice_index counts)) (map wanted_by rs) w
       (All-map (IsWanted s (slice_index counts)) wanted_by rs
-      (All-weaker (IsRank s counts (length counts)) (λ r. IsWanted s (slice_index counts) (wanted_by r)) each_wanted rs all_ranks)) there
+      (All-weaker (IsRank s counts (length counts)) (λ r. IsWanted s (slice_index counts) (wanted_by r)) each_wanted rs are.each)) there
 
   these_all : (w : Wanted) → IsWanted s (slice_index counts) w → Contains (map wanted_by rs) w
   these_all w h =
       let r : Rank = rank_of s counts w.page in
-      let there : Contains rs r = Contains-permutation (ranks_below s counts (length counts)) rs r moved
-      (rank_is_there s counts (length counts) w.page (omega (arith, h.inside)) (omega (arith, h.some, h.all))) in
+      let there : Contains rs r = are.all w.page (omega (arith, h.inside)) (omega (arith, h.some, h.all)) in
       let same : wanted_by r ≡ w = wanted_by-rank_of s counts w.page (most w.page)
       ∙ ap (λ (n : ℕ). let v : Wanted = record { page = w.page; pixels = n } in v) (sym h.all) in
       Contains-map wanted_by rs r w there same
 
+-- the ranks of the wanted pages, in order, make the wanted list
+pub wants_by_ranks : (s : Shape) (counts : List ℕ) (rs : List Rank) → length counts ≡ pages_of s → ((p : ℕ) → slice_index counts p ≤ most_pixels)
+    → AreRanks s counts rs → IsSortedBy (λ a b. is_lt (rank_cmp a b)) rs → IsTotalOrder rank_cmp
+    → IsWants s (slice_index counts) (map wanted_by rs)
+wants_by_ranks s counts rs pages most are sorted total = record {
+  ordered = in_order s counts rs pages most are sorted total;
+  once = each_once s counts rs pages most are;
+  exact = λ w. (these_only s counts rs pages most are w, these_all s counts rs pages most are w);
+}
+
 pub wants_from_ranks : (s : Shape) (counts : List ℕ) (rs : List Rank) → length counts ≡ pages_of s → ((p : ℕ) → slice_index counts p ≤ most_pixels)
     → IsPermutation (ranks_below s counts (length counts)) rs → IsSortedBy (λ a b. is_lt (rank_cmp a b)) rs → IsTotalOrder rank_cmp
     → IsWants s (slice_index counts) (map wanted_by rs)
-wants_from_ranks s counts rs pages most moved sorted total = record {
-  ordered = in_order s counts rs pages most moved sorted total;
-  once = each_once s counts rs pages most moved;
-  exact = λ w. (these_only s counts rs pages most moved w, these_all s counts rs pages most moved w);
-}
+wants_from_ranks s counts rs pages most moved sorted total =
+    wants_by_ranks s counts rs pages most (ranks_moved s counts (ranks_below s counts (length counts)) rs (below_are_ranks s counts) moved) sorted total

@@ -15,7 +15,8 @@ mod laws;
 mod ranks;
 
 pub use laws::wants_are_one;
-use ranks::{ranks_of, wants_of};
+use ranks::ranks_of;
+pub use ranks::{Rank, rank_at, wants_of};
 
 /// A page that a picture wants.
 #[derive(Clone, Copy, Debug, PartialEq, Eq)]

@@ -43,8 +43,8 @@ fn is_wanted(pixels: u32) -> bool
     pixels > 0
 }
 
-// The rank of a page.
-fn rank_at(geometry: &Geometry, counts: &[u32], page: u32) -> Rank
+/// The rank of a page.
+pub fn rank_at(geometry: &Geometry, counts: &[u32], page: u32) -> Rank
     requires pages { length counts.now ≡ pages_of geometry.now }
     requires inside { page < pages_of geometry.now }
     ensures { result ≡ rank_of geometry.now counts.now page }

@@ -1,32 +1,198 @@
 -- What the workers of the machine over shared words did is a pass, once they are moved back.
-use Rattle.std.specs.Prelude.{◌≡◌, List, length, Result, Ok, Err, IsOk, OnErr}
+use Rattle.std.specs.Prelude.{◌≡◌, ℕ, ◌≤◌, Option, Some, List, [], length, reverse, Result, Ok, Err, IsOk, IfOk, OnErr, All}
+use Rattle.std.proofs.Common.{refl, subst, sym, ap, ◌∙◌, arith}
 use Rattle.std.proofs.lemmas.Bool.{false≢true}
+use Rattle.std.proofs.lemmas.List.{length-reverse, length-map}
+use Rattle.vt_outside.specs.Lists.{ListView}
 use Rattle.vt_outside.specs.declared.outside.File.{Ghosts as FileMeanings}
 use Rattle.vt_outside.specs.declared.answers.NoMemory.{NoMemory}
-use Rattle.vt_loaders.specs.QueuedLoaders.{QueuedView, HasLoaded}
+use Rattle.vt_camera.specs.Paths.{PathView}
+use Rattle.vt_tiles.specs.Format.{tile_length}
+use Rattle.vt_tiles.specs.StoreViews.{StoreView}
+use Rattle.vt_grace.specs.Values.{WordsValue}
+use Rattle.vt_queue.specs.Queues.{view_of}
+use Rattle.vt_loaders.specs.declared.queued.Queues.{Queues}
+use Rattle.vt_loaders.specs.QueuedLoaders.{QueuedView, HasLoaded, stores_of}
 use Rattle.vt_workers.specs.Jobs.{Job}
 use Rattle.vt_workers.specs.All.{AllDid}
 use Rattle.vt_machine.specs.declared.crew.PassReport.{PassReport}
-use Rattle.vt_machine.specs.Passes.{IsJobFor}
+use Rattle.vt_machine.specs.Drawings.{Drawing}
+use Rattle.vt_machine.specs.Machines.{MachineState, files_of, told_by}
+use Rattle.vt_machine.specs.Nearest.{nearest}
+use Rattle.vt_machine.specs.Passes.{IsJobFor, IsUntouched, Ran, Broke, Ends}
+use Rattle.vt_rounds.specs.BatchRounds.{Begun as Round}
+use Rattle.vt_rounds.specs.Sizes.{AreSized}
 use Rattle.vt_pass.specs.declared.workers.WordSampler.{WordSampler}
 use Rattle.vt_pass.specs.declared.workers.WordStreamer.{WordStreamer}
 use Rattle.vt_pass.specs.WordTasks.{HasDrawn, HasFed}
-use Rattle.vt_pass.specs.WordMachines.{WordView, Begun, word_state, IsReadyBy, IsMustered, MayFinish, WordEnds, WordFinishes}
+use Rattle.vt_pass.specs.RoundKits.{IsDealt}
+use Rattle.vt_pass.specs.GivenPasses.{HaveNewPasses}
+use Rattle.vt_pass.specs.Kits.{KitView, kit_setup, kit_state, IsFitKit, IsReadyKit}
+use Rattle.vt_pass.specs.WordMachines.{WordView, Begun, word_state, journal_by, kit_before, drawn_by, AreOut, IsReadyBy, IsMustered, IsIdleBy, MayFinish, WordEnds, WordFinishes}
 
 -- a pass that was run refused nothing
 pub none_refused : (r : Result PassReport NoMemory) → IsOk r → OnErr r ⊥
 none_refused (Ok report) ok = tt
 none_refused (Err refusal) ok = absurd (false≢true ok)
 
+-- what was left untouched is the same but for the rows and the counts
+same_but_picture : (a b : MachineState) → IsUntouched a b → b ≡ record a { rows = b.rows; counts = b.counts }
+same_but_picture a b h = λ i. record { setup = h.setup i; files = h.files i; journal = h.journal i; rows = b.rows; counts = b.counts }
+
+-- how a pass ends does not depend on the rows and counts before it
+module _ (draws : Drawing) (drawn : PathView → ℕ → ℕ → ℕ → List ℕ → Type 0) (job : Job) (a b c : MachineState) (h : IsUntouched a b) where
+  ran_after : (report : PassReport) → Ran draws drawn job report b c → Ran draws drawn job report a c
+  ran_after report ran =
+      let moved = subst (λ s. Ran draws drawn job report s c) (same_but_picture a b h) ran in
+      record {
+        setup = moved.setup;
+        outcome = moved.outcome;
+        journal = moved.journal;
+        rows = moved.rows;
+        read = moved.read;
+        picture = moved.picture;
+      }
+
+  broke_after : Broke job b c → Broke job a c
+  broke_after broke =
+      let moved = subst (λ s. Broke job s c) (same_but_picture a b h) broke in
+      record { setup = moved.setup; read = moved.read }
+
+  ends_after : (idle : Type 0) (result : Result PassReport NoMemory) → Ends draws drawn idle job result b c → Ends draws drawn idle job result a c
+  ends_after idle result e = record { ran = ran_if result e.ran; goes_on = e.goes_on; broke = broke_if result e.broke } where
+    ran_if : (r : Result PassReport NoMemory) → IfOk r (λ report. Ran draws drawn job report b c) → IfOk r (λ report. Ran draws drawn job report a c)
+    ran_if (Ok report) ran = ran_after report ran
+    ran_if (Err refusal) none = none
+
+    broke_if : (r : Result PassReport NoMemory) → OnErr r (Broke job b c) → OnErr r (Broke job a c)
+    broke_if (Ok report) none = none
+    broke_if (Err refusal) broke = broke_after broke
+
+-- the workers were moved out of a kit whose streamer is there
+module _ {F : Type 0} (g : FileMeanings F) (words : WordsValue) (q : Queues) (was b d : WordStreamer) (k l : KitView F) (job : Job)
+    (a c : List (QueuedView F)) (e f : List WordSampler) (out : AreOut g q k l was.answers b.answers a e)
+    (streamer_is : b ≡ record was { answers = b.answers }) where
+  dealt : IsDealt g q k.round l.round was.answers b.answers k.stores a
+  dealt = out.dealt
+
+  round : Round F
+  round = record {
+    asks = view_of k.round.asks;
+    answers = view_of was.answers;
+    first = a;
+    depth = k.depth;
+    told = told_by g k.stores;
+  }
+
+  -- how the work began
+  begun : Begun F
+  begun = record { round = round; samplers = k.samplers; streamer = b }
+
+  -- the workers may be moved back into the kit from which they were moved out
+  kit_back : IsReadyKit g words q was k job.batch → IsJobFor (kit_setup g words k) job → length c ≡ length a → length f ≡ length e
+      → AllDid (HasLoaded g q) a c → AllDid (HasDrawn words job.scene job.picture) e f → HasFed words q job.batch b d
+      → MayFinish g words q l job c f d begun
+  unfolding begun round
+  kit_back ready job_is number number_f did_load did_draw did_stream =
+      subst (λ (x : KitView F). MayFinish g words q x job c f d begun) (sym out.rest) (record {
+        worked = record {
+          fit = subst (λ (x : List (StoreView F)). IsFitKit g words b.streamer (record k { stores = x; round = l.round })) (sym dealt.stores_are)
+              (subst (λ (x : WordStreamer). IsFitKit g words x.streamer (record k { round = l.round })) (sym streamer_is) (record {
+                of = ready.fit.of;
+                shape = ready.fit.shape;
+                samplers = ready.fit.samplers;
+                stored = ready.fit.stored;
+                kit = record {
+                  crew = ready.fit.kit.crew;
+                  depth = ready.fit.kit.depth;
+                  stores = ready.fit.kit.stores;
+                  told = ready.fit.kit.told;
+                  samplers = ready.fit.kit.samplers;
+                  sides = ready.fit.kit.sides;
+                  counts = ready.fit.kit.counts;
+                  buffers = sizes ready.fit.kit.buffers;
+                };
+              }));
+          job_is = subst (λ (x : List (StoreView F)). IsJobFor (kit_setup g words (record k { stores = x })) job) (sym dealt.stores_are) job_is;
+          passes = subst (λ (x : WordStreamer). HaveNewPasses words x.streamer.writer k.samplers) (sym streamer_is) ready.passes;
+          no_events = ap (λ (x : WordStreamer). x.report.events.elements) streamer_is ∙ ready.streamer.no_events;
+          number = number_f ∙ ap length out.moved;
+          drawn = subst (λ x. AllDid (HasDrawn words job.scene job.picture) x f) out.moved did_draw;
+          fed = did_stream;
+          ended = record {
+            asked = ready.queued.put;
+            answers_all = ap (λ w. w.shares) ready.queued.no_answers;
+            no_results = ap (λ w. w.put) ready.queued.no_answers;
+            no_answers = ap (λ w. w.took) ready.queued.no_answers;
+            split = dealt.split;
+            depth_is = ready.fit.kit.depth;
+            loaders = dealt.of k.shape k.depth (told_by g k.stores) (λ j x inside. let are = ready.fit.kit.stores in
+                (are.shapes j x inside, are.depths j x inside, are.told j x inside));
+            number = number;
+            loaded = did_load;
+          };
+          depth_is = refl;
+          told_is = ap (told_by g) (sym dealt.stores_are);
+        };
+        few = ready.few;
+        room = record { no_rows = ready.room.no_rows; rows = ready.room.rows };
+        no_stores = refl;
+        passes = record { requests = dealt.passes.requests; results = did_stream.answers };
+        loaders_of = λ j x inside. (did_load j x (omega (arith, number, inside))).passes;
+        some = (let x = ready.fit.kit.crew.some_loader in let y = ready.fit.kit.stores.count in let z = number_is in omega (arith, x, y, z, number));
+        stores_room = (let x = dealt.room in omega (arith, x, number));
+        buffers = subst (λ (x : ListView (ListView ℕ)). length job.batch ≤ x.spare) (sym dealt.buffers) ready.queued.buffers;
+        sizes = sizes ready.queued.sizes;
+      }) where
+        number_is : length a ≡ length k.stores
+        number_is = sym (length-reverse (stores_of a) ∙ length-map a (λ (x : QueuedView F). x.loader.store)) ∙ ap length dealt.stores_are
+
+        sizes : AreSized (tile_length k.shape k.depth) k.round.buffers.elements → AreSized (tile_length k.shape k.depth) l.round.buffers.elements
+        sizes all = subst (λ (x : ListView (ListView ℕ)). AreSized (tile_length k.shape k.depth) x.elements) (sym dealt.buffers) all
+
+  -- but for the pictures it was the same kit
+  same_kit : IsUntouched (kit_state g words was.streamer.writer.journal k) (kit_state g words b.streamer.writer.journal (kit_before l begun))
+  unfolding begun round
+  same_kit = subst (λ (x : KitView F). IsUntouched (kit_state g words was.streamer.writer.journal k)
+      (kit_state g words b.streamer.writer.journal (kit_before x begun))) (sym out.rest) (record {
+    setup = ap (λ (x : List (StoreView F)). kit_setup g words (record k { stores = x })) dealt.stores_are;
+    files = ap (files_of g) dealt.stores_are;
+    journal = ap (λ (x : WordStreamer). x.streamer.writer.journal) streamer_is;
+  })
+
 module _ {F : Type 0} (g : FileMeanings F) (job : Job) (m n : WordView F) (a c : List (QueuedView F)) (e f : List WordSampler) (b d : WordStreamer)
     (ready : IsReadyBy g m.words m.queues m.streamer m.kit job.batch) (job_is : IsJobFor (word_state g m).setup job)
     (mustered : IsMustered g m n a e b) (number : length c ≡ length a) (number_f : length f ≡ length e)
     (did_load : AllDid (HasLoaded g n.queues) a c) (did_draw : AllDid (HasDrawn n.words job.scene job.picture) e f)
     (did_stream : HasFed n.words n.queues job.batch b d) where
+  z : Begun F
+  z = begun g m.words m.queues mustered.was b d m.kit n.kit job a c e f mustered.out mustered.streamer_is
+
+  may_finish : MayFinish g n.words n.queues n.kit job c f d z
+  unfolding z
+  may_finish = subst (λ (x : WordsValue × Queues). MayFinish g x.0 x.1 n.kit job c f d
+      (begun g m.words m.queues mustered.was b d m.kit n.kit job a c e f mustered.out mustered.streamer_is))
+      (λ i. (sym mustered.words i, sym mustered.queues i))
+      (kit_back g m.words m.queues mustered.was b d m.kit n.kit job a c e f mustered.out mustered.streamer_is
+      (subst (λ (x : Option WordStreamer). IsReadyBy g m.words m.queues x m.kit job.batch) mustered.there ready) job_is number number_f
+      (subst (λ (x : Queues). AllDid (HasLoaded g x) a c) mustered.queues did_load)
+      (subst (λ (x : WordsValue). AllDid (HasDrawn x job.scene job.picture) e f) mustered.words did_draw)
+      (subst (λ (x : WordsValue × Queues). HasFed x.0 x.1 job.batch b d) (λ i. (mustered.words i, mustered.queues i)) did_stream))
+
   -- the workers may be moved back into the kit from which they were moved out
   pub come_back : (z : Begun F) × MayFinish g n.words n.queues n.kit job c f d z
-  come_back = ?
+  come_back = (z, may_finish)
+
+  before : IsUntouched (word_state g m) (kit_state g n.words b.streamer.writer.journal (kit_before n.kit z))
+  unfolding z
+  before = subst (λ (x : WordsValue × Option WordStreamer). IsUntouched (kit_state g m.words (journal_by x.1) m.kit)
+      (kit_state g x.0 b.streamer.writer.journal
+      (kit_before n.kit (begun g m.words m.queues mustered.was b d m.kit n.kit job a c e f mustered.out mustered.streamer_is))))
+      (λ i. (sym mustered.words i, sym mustered.there i))
+      (same_kit g m.words m.queues mustered.was b d m.kit n.kit job a c e f mustered.out mustered.streamer_is)
 
   -- and then the machine has run the pass
   pub has_ended : (p : WordView F) (r : Result PassReport NoMemory) → WordFinishes g job r n c f d p → WordEnds g job r (word_state g m) p
-  has_ended p r done = ?
+  unfolding z begun
+  has_ended p r done = ends_after nearest (drawn_by p.kit p.streamer) job (word_state g m)
+      (kit_state g n.words b.streamer.writer.journal (kit_before n.kit z)) (word_state g p) before (IsIdleBy g p.words p.streamer p.kit) r (done z may_finish)

@@ -1,7 +1,6 @@
 -- What lasts while the results of a batch are streamed one after another.
-use Rattle.std.proofs.Common.{◌≡◌, ◌≢◌, ℕ, ◌+◌, ◌<◌, ◌≤◌, inl, inr, ◌⊎◌, Bool, true, false, List, [], ◌∷◌, ◌++◌, length, set, get_or, Some, None, refl, sym, ap, ◌∙◌, subst, append_assoc, arith}
+use Rattle.std.proofs.Common.{◌≡◌, ◌≢◌, ℕ, ◌<◌, ◌≤◌, inl, inr, ◌⊎◌, Bool, true, false, List, [], ◌∷◌, ◌++◌, length, set, get_or, Some, None, refl, sym, ap, ◌∙◌, subst, append_assoc, arith}
 use Rattle.std.specs.Prelude.{slice_get, slice_index_or, All}
-use Rattle.std.specs.List.{AllPairs}
 use Rattle.std.proofs.lemmas.List.{append-nil, length-set, get_or-set_same, get_or-set_other}
 use Rattle.std.proofs.lemmas.List.Elements.{All-nil, All-push}
 use Rattle.std.proofs.lemmas.Bool.{cases_lt, false≢true}
@@ -13,23 +12,23 @@ use Rattle.vt_journal.specs.Changes.{newest}
 use Rattle.vt_journal.specs.JournalText.{changes_of}
 use Rattle.vt_table.specs.Views.{IsTile}
 use Rattle.vt_plan.specs.declared.batches.Planned.{Planned}
-use Rattle.vt_grace.specs.declared.views.WriterView.{WriterView}
 use Rattle.vt_queue.specs.declared.items.Loaded.{Loaded}
 use Rattle.vt_load.specs.Readings.{is_lost}
 use Rattle.vt_streamer.specs.Views.{StreamerView}
-use Rattle.vt_machine.specs.Outcomes.{IsEntryFor, IsBatchFor, group_of, group_if}
+use Rattle.vt_machine.specs.Outcomes.{IsEntryFor, IsBatchFor, group_if}
 use Rattle.vt_machine.proofs.Streaming.{entry_stays}
 use Rattle.vt_rounds.specs.BatchRounds.{result_group, result_events, AreLossesOf}
 use Rattle.vt_streaming.specs.declared.report.StreamReport.{StreamReport}
 use Rattle.vt_streaming.specs.Made.{HasMade, HasStreamed, result_contents, results_contents}
 use Rattle.vt_streaming.specs.Reports.{IsBlank, HasNoted, IsUnderWay}
 use Rattle.vt_streaming.proofs.Making.{made_none, made_both}
-use Rattle.vt_streaming.proofs.Taking.{flag_kept, flag_set}
+use Rattle.vt_streaming.proofs.Taking.{flag_was, flag_set}
 
 module _ (batch : List Planned) (start : StreamerView)
     (lawful : IsBatchFor start.shape (length start.owners) (newest start.writer.journal) batch) where
   pub begun : (r : StreamReport) → IsBlank (length batch) r → IsUnderWay batch start start r.events.elements r
-  begun r blank = subst (λ (results : List Loaded). IsUnderWay batch start start r.events.elements (record r { results = record r.results { elements = results } }))
+  begun r blank = subst (λ (results : List Loaded). IsUnderWay batch start start r.events.elements
+      (record r { results = record r.results { elements = results } }))
       (sym blank.no_results) (record {
         shape = refl;
         frames = refl;
@@ -88,7 +87,8 @@ module _ (batch : List Planned) (start : StreamerView)
       let results : List Loaded = r.results.elements in
       let events : result_events batch (results ++ x ∷ []) ≡ result_events batch results ++ result_group batch x =
       flat_map-append (result_group batch) results (x ∷ []) ∙ ap (λ (l : List Event). result_events batch results ++ l) (append-nil (result_group batch x)) in
-      let contents : results_contents start.shape batch (results ++ x ∷ []) ≡ results_contents start.shape batch results ++ result_contents start.shape batch x =
+      let contents : results_contents start.shape batch (results ++ x ∷ [])
+      ≡ results_contents start.shape batch results ++ result_contents start.shape batch x =
       flat_map-append (result_contents start.shape batch) results (x ∷ [])
       ∙ ap (λ (l : List (List ℕ)). results_contents start.shape batch results ++ l) (append-nil (result_contents start.shape batch x)) in
       let one : HasMade (result_group batch x) (result_contents start.shape batch x) v.writer w.writer =
@@ -110,14 +110,8 @@ module _ (batch : List Planned) (start : StreamerView)
             let still : get_or (set r.taken.elements t true) k false ≡ false = ap (λ (l : List Bool). get_or l k false) (sym noted.taken) ∙ free in
             let other : t ≢ k = λ same. false≢true (sym still ∙ ap (λ (n : ℕ). get_or (set r.taken.elements t true) n false) (sym same)
             ∙ flag_set r.taken.elements t (omega (arith, inside, flags))) in
-            let before : get_or r.taken.elements k false ≡ false = was (get_or r.taken.elements k false) refl r.taken.elements t k still in
+            let before : get_or r.taken.elements k false ≡ false = flag_was r.taken.elements t k still in
             subst (λ (js : List Change). IsEntryFor start.shape (length start.owners) (newest js) f)
             (ap (λ (o : List Event). v.writer.journal ++ changes_of o) (ap (λ o. group_if o lost) (sym at)) ∙ sym made.journal)
             (entry_stays start.shape (length start.owners) v.writer.journal e f lost entry (h.ahead k f is before) (entries_apart t k e f other at is));
       }
-    where
-      was : (b : Bool) → b ≡ b → (l : List Bool) (i j : ℕ) → get_or (set l i true) j false ≡ false → get_or l j false ≡ false
-      was b any l i j e = by_value (get_or l j false) refl where
-        by_value : (c : Bool) → get_or l j false ≡ c → get_or l j false ≡ false
-        by_value true is = absurd (false≢true (sym e ∙ flag_kept l i j is))
-        by_value false is = is

@@ -1,7 +1,6 @@
 -- Results that are taken one after another.
-use Rattle.std.proofs.Common.{◌≡◌, ◌≢◌, ℕ, zero, suc, ◌+◌, ◌*◌, ◌<◌, ◌≤◌, inl, inr, Bool, true, false, List, [], ◌∷◌, ◌++◌, length, map, set, get_or, refl, sym, ap, ◌∙◌, subst, append_assoc, length-append, arith}
-use Rattle.std.specs.Prelude.{All, slice_index_or, not, ◌&&◌, ◌||◌, nat_lt, nat_eq}
-use Rattle.std.specs.List.{AllPairs}
+use Rattle.std.proofs.Common.{◌≡◌, ◌≢◌, ℕ, zero, suc, ◌*◌, ◌<◌, inl, inr, Bool, true, false, List, [], ◌∷◌, ◌++◌, length, set, get_or, refl, sym, ap, ◌∙◌, append_assoc, length-append, arith}
+use Rattle.std.specs.Prelude.{slice_index_or, not, ◌&&◌, ◌||◌, nat_lt, nat_eq}
 use Rattle.std.proofs.lemmas.Bool.Decides.{nat_tests}
 use Rattle.std.proofs.lemmas.Bool.{false≢true}
 use Rattle.std.proofs.lemmas.List.Quantifiers.{all_pairs_push}
@@ -13,17 +12,22 @@ use Rattle.vt_queue.specs.declared.items.Loaded.{Loaded}
 use Rattle.vt_queue.specs.declared.views.PassView.{PassView}
 use Rattle.vt_queue.specs.PassViews.{pass_view}
 use Rattle.vt_queue.specs.Steps.{Takes}
-use Rattle.vt_queue.specs.Orders.{items_of}
 use Rattle.vt_loaders.specs.Streamed.{with_taken}
-use Rattle.vt_streaming.specs.Streams.{Streams, is_new, is_tile_length, is_wanted}
+use Rattle.vt_streaming.specs.Streams.{Streams, is_wanted}
 
 -- a flag that is set
-pub flag_kept : (l : List Bool) (i j : ℕ) → get_or l j false ≡ true → get_or (set l i true) j false ≡ true
+flag_kept : (l : List Bool) (i j : ℕ) → get_or l j false ≡ true → get_or (set l i true) j false ≡ true
 flag_kept [] i j e = e
 flag_kept (x ∷ xs) zero zero e = refl
 flag_kept (x ∷ xs) zero (suc j) e = e
 flag_kept (x ∷ xs) (suc i) zero e = e
 flag_kept (x ∷ xs) (suc i) (suc j) e = flag_kept xs i j e
+
+pub flag_was : (l : List Bool) (i j : ℕ) → get_or (set l i true) j false ≡ false → get_or l j false ≡ false
+flag_was l i j e = by_value (get_or l j false) refl where
+  by_value : (b : Bool) → get_or l j false ≡ b → get_or l j false ≡ false
+  by_value true is = absurd (false≢true (sym e ∙ flag_kept l i j is))
+  by_value false is = is
 
 pub flag_set : (l : List Bool) (i : ℕ) → i < length l → get_or (set l i true) i false ≡ true
 flag_set [] i inside = absurd (omega (arith, inside))

@@ -29,7 +29,8 @@ fn unmap_victim<Rt: Wait, G: Gate>(
     gate: &G,
 )
     requires of { IsStreamerOf words.now streamer.old }
-    requires entry { IsEntryFor streamer.old.shape (length streamer.old.owners) (newest streamer.old.writer.journal) planned.now }
+    requires entry { IsEntryFor streamer.old.shape (length streamer.old.owners) (newest streamer.old.writer.journal)
+        planned.now }
     requires spare { 1 ≤ streamer.old.spare }
     requires room { 1 ≤ events.old.spare }
     ensures of { IsStreamerOf words.now streamer.new }
@@ -68,8 +69,8 @@ fn map_page<Rt: Wait, G: Gate>(
     requires tile { IsTile streamer.old.shape tile.now }
     requires spare { 1 ≤ streamer.old.spare }
     ensures of { IsStreamerOf words.now streamer.new }
-    ensures made { HasMade (Changed (Map planned.now.page planned.now.frame) ∷ []) (words_in streamer.old.shape tile.now ∷ [])
-        streamer.old.writer streamer.new.writer }
+    ensures made { HasMade (Changed (Map planned.now.page planned.now.frame) ∷ [])
+        (words_in streamer.old.shape tile.now ∷ []) streamer.old.writer streamer.new.writer }
     ensures shape { streamer.new.shape ≡ streamer.old.shape }
     ensures spare { streamer.old.spare ≤ streamer.new.spare + 1 }
 {
@@ -93,7 +94,8 @@ pub(crate) fn put_entry<Rt: Wait, G: Gate>(
     gate: &G,
 )
     requires of { IsStreamerOf words.now streamer.old }
-    requires entry { IsEntryFor streamer.old.shape (length streamer.old.owners) (newest streamer.old.writer.journal) planned.now }
+    requires entry { IsEntryFor streamer.old.shape (length streamer.old.owners) (newest streamer.old.writer.journal)
+        planned.now }
     requires tile { IsTile streamer.old.shape tile.now }
     requires spare { 2 ≤ streamer.old.spare }
     requires room { 2 ≤ events.old.spare }

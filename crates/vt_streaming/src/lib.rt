@@ -1,4 +1,5 @@
-//! A batch is streamed into a table of shared words while loaders work: results are taken, and each is applied to the entry of its ticket.
+//! A batch is streamed into a table of shared words while loaders work: results are taken, and each is applied to the entry
+//! of its ticket.
 #![tactic(auto)]
 
 mod entries;

@@ -11,8 +11,8 @@ const YIELDS: u32 = 100;
 // A later pause sleeps for so many microseconds.
 const SLEEP: u64 = 50;
 
-/// Lets other threads work. It takes the number of pauses since something went on, and answers the next number: the first pauses
-/// end at once where no thread waits for a processor, and each later one is a short sleep.
+/// Lets other threads work. It takes the number of pauses since something went on, and answers the next number: the first
+/// pauses end at once where no thread waits for a processor, and each later one is a short sleep.
 pub(crate) fn pause<Rt: Wait>(rt: &Rt, pauses: u32) -> u32 {
     if pauses < YIELDS {
         thread::yield_now();

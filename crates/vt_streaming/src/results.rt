@@ -1,8 +1,6 @@
 //! A result is applied to the entry of its ticket, and noted.
 
-ghost use Rattle.std.specs.Prelude.{◌≡◌, ◌+◌, ◌*◌, ◌<◌, ◌≤◌, Some, ◌++◌, length, slice_get};
-ghost use Rattle.vt_pages.specs.Pages.{IsWithinLimits};
-ghost use Rattle.vt_pages.specs.Shape.{Shape};
+ghost use Rattle.std.specs.Prelude.{◌≡◌, ◌+◌, ◌<◌, ◌≤◌, Some, ◌++◌, length, slice_get};
 ghost use Rattle.vt_journal.specs.Changes.{newest};
 ghost use Rattle.vt_table.specs.Views.{IsTile};
 ghost use Rattle.vt_streamer.specs.Views.{IsStreamerOf};
@@ -41,7 +39,8 @@ fn is_tile_length(geometry: &Geometry, length: usize) -> bool
     length == 3 * texels || length == 6 * texels
 }
 
-/// Whether a result is to be applied: it is for an entry whose result was not taken, and its buffer has the length of a tile.
+/// Whether a result is to be applied: it is for an entry whose result was not taken, and its buffer has the length of a
+/// tile.
 pub(crate) fn is_wanted(geometry: &Geometry, taken: &Losses, loaded: &Loaded) -> bool
     ensures { result ≡ is_wanted geometry.now taken.now.elements loaded.now }
 {
@@ -60,7 +59,8 @@ fn apply_result<Rt: Wait, G: Gate>(
     gate: &G,
 ) -> bool
     requires of { IsStreamerOf words.now streamer.old }
-    requires entry { IsEntryFor streamer.old.shape (length streamer.old.owners) (newest streamer.old.writer.journal) planned.now }
+    requires entry { IsEntryFor streamer.old.shape (length streamer.old.owners) (newest streamer.old.writer.journal)
+        planned.now }
     requires tile { IsTile streamer.old.shape loaded.now.request.buffer.elements }
     requires spare { 2 ≤ streamer.old.spare }
     requires room { 2 ≤ events.old.spare }

@@ -22,10 +22,11 @@ use vt_outside::Gate;
 use vt_queue::{Loaded, QueuePass, ResultQueue};
 use vt_streamer::Streamer;
 
-/// Takes results until there was one for each entry of a batch, and applies each to the entry of its ticket as it comes: where the
-/// tile was read, the victim is unmapped, the frame filled once no sampler may look at it, and the page mapped; where it is lost, that
-/// is noted. Other results are dropped: those whose ticket is no entry's or was taken before in this call, and those whose buffer has
-/// not the length of a tile. It takes no memory, and it may wait. The gate is told of each version.
+/// Takes results until there was one for each entry of a batch, and applies each to the entry of its ticket as it comes:
+/// where the tile was read, the victim is unmapped, the frame filled once no sampler may look at it, and the page mapped;
+/// where it is lost, that is noted. Other results are dropped: those whose ticket is no entry's or was taken before in this
+/// call, and those whose buffer has not the length of a tile. It takes no memory, and it may wait. The gate is told of each
+/// version.
 pub fn stream_batch<Rt: Threads + Wait, G: Gate>(
     rt: &Rt,
     words: &Words,
@@ -38,7 +39,8 @@ pub fn stream_batch<Rt: Threads + Wait, G: Gate>(
 )
     requires streamer { IsStreamerOf words.now streamer.old }
     requires answers { IsOf results.now answers.old }
-    requires lawful { IsBatchFor streamer.old.shape (length streamer.old.owners) (newest streamer.old.writer.journal) batch.now }
+    requires lawful { IsBatchFor streamer.old.shape (length streamer.old.owners) (newest streamer.old.writer.journal)
+        batch.now }
     requires few { length batch.now < 2 ^ 32 }
     requires spare { 2 * length batch.now ≤ streamer.old.spare }
     requires report { IsBlank (length batch.now) into.old }
@@ -47,10 +49,12 @@ pub fn stream_batch<Rt: Threads + Wait, G: Gate>(
     ensures took { Streams (length batch.now) (view_of answers.old) (view_of answers.new) into.new.taken.elements
         into.new.results.elements }
     ensures all { length into.new.results.elements ≡ length batch.now }
-    ensures streamed { HasStreamed streamer.old.shape batch.now into.new.results.elements streamer.old.writer streamer.new.writer }
+    ensures streamed { HasStreamed streamer.old.shape batch.now into.new.results.elements streamer.old.writer
+        streamer.new.writer }
     ensures shape { streamer.new.shape ≡ streamer.old.shape }
     ensures frames { length streamer.new.owners ≡ length streamer.old.owners }
-    ensures events { into.new.events.elements ≡ into.old.events.elements ++ result_events batch.now into.new.results.elements }
+    ensures events { into.new.events.elements
+        ≡ into.old.events.elements ++ result_events batch.now into.new.results.elements }
     ensures tiles { All (λ x. IsTile streamer.old.shape x.request.buffer.elements) into.new.results.elements }
     ensures losses { AreLossesOf batch.now into.new.results.elements into.new.losses.elements }
 {

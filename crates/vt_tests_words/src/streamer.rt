@@ -1,5 +1,8 @@
 //! The calls of a streamer and of the words beside it, over a texture of 4x4 texels in tiles of side 2, which has 5 pages.
 
+mod batch;
 mod beside;
 mod held;
-mod small;
+mod lawful;
+pub(crate) mod patient;
+pub(crate) mod small;

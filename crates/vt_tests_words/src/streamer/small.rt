@@ -28,6 +28,7 @@ pub(crate) fn small_streamer(
     ensures small { IfOk result (λ made. IsSmall made.0 frames made.1) }
     ensures samplers { IfOk result (λ made. made.0.sizes.samplers ≡ 1) }
     ensures none_out { IfOk result (λ made. is_out made.1.writer 0 ≡ false) }
+    ensures shape { IfOk result (λ made. made.1.shape ≡ geometry.now) }
 {
     Streamer::new(alloc, geometry, frames, 1)
 }
@@ -40,16 +41,16 @@ pub(crate) fn is_mapped_to(streamer: &Streamer, page: u32, frame: u32) -> bool
     streamer.frame_of(page) == Some(frame)
 }
 
-// Whether a page is not mapped.
-fn is_unmapped(streamer: &Streamer, page: u32) -> bool
+/// Whether a page is not mapped.
+pub(crate) fn is_unmapped(streamer: &Streamer, page: u32) -> bool
     requires { page < pages_of streamer.now.shape }
     ensures { MatchBool result (newest streamer.now.writer.journal page ≡ None) (newest streamer.now.writer.journal page ≢ None) }
 {
     streamer.frame_of(page).is_none()
 }
 
-// Whether no page is mapped to a frame.
-fn is_unused(words: &Words, streamer: &Streamer, frames: u32, frame: u32) -> bool
+/// Whether no page is mapped to a frame.
+pub(crate) fn is_unused(words: &Words, streamer: &Streamer, frames: u32, frame: u32) -> bool
     requires { IsSmall words.now frames streamer.now }
     ensures { MatchBool result (IsFree (newest streamer.now.writer.journal) frame) (Unit {0}) }
 {
@@ -102,7 +103,8 @@ pub(crate) fn mapped(
     requires page { page < 5 }
     requires inside { frame < frames }
     requires tile { length tile.now ≡ 12 }
-    ensures { IsSmall words.now frames streamer.new }
+    ensures small { IsSmall words.now frames streamer.new }
+    ensures out { streamer.new.writer.out ≡ streamer.old.writer.out }
 {
     if !is_unused(words, streamer, frames, frame) || !is_unmapped(streamer, page) {
         return None;

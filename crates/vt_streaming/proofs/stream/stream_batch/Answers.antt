@@ -57,8 +57,8 @@ loop-preserved-then-is_wanted g c =
       results_room = (let a = i.results_room in let b = did.noted.results_room in omega (arith, a, b));
       streams = subst (λ (z : List Bool × List Loaded). Streams all (view_of c.args.answers.now) (view_of c.take_result-loaded.new.answers) z.0 z.1)
           (λ j. (sym did.noted.taken j, sym did.noted.results j))
-          (streams_kept all (view_of c.args.answers.now) (view_of c.loop.answers) (view_of c.take_result-loaded.new.answers) flags c.loop.into.results.elements x
-          i.streams took.takes inside new);
+          (streams_kept all (view_of c.args.answers.now) (view_of c.loop.answers) (view_of c.take_result-loaded.new.answers) flags
+          c.loop.into.results.elements x i.streams took.takes inside new);
       under_way = under_way c.args.batch.now c.args.streamer.now c.requires.lawful c.loop.streamer c.stream_result.new.streamer c.args.into.now.events.elements
           c.loop.into c.stream_result.new.into x i.under_way i.streams.marked new inside count did.made did.shape
           (as_many_frames c.args.words.now c.loop.streamer c.stream_result.new.streamer i.of did.of) did.noted

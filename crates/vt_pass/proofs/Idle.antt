@@ -1,0 +1,108 @@
+-- The machine between its passes: made, with a page placed, and with its samplers moved out.
+use Rattle.std.proofs.Common.{◌≡◌, ℕ, zero, suc, false, List, [], ◌∷◌, ◌++◌, length, get_or, Option, Some, refl, sym, ap, ◌∙◌, subst, replicate}
+use Rattle.std.specs.Prelude.{slice_index_or, IfSome, Result, Ok, Err, OnOk, OnErr}
+use Rattle.std.proofs.lemmas.Option.{none-some, same_Some}
+use Rattle.vt_outside.specs.declared.outside.File.{Ghosts as FileMeanings}
+use Rattle.vt_outside.specs.declared.answers.NoMemory.{NoMemory}
+use Rattle.vt_outside.specs.Files.{IsPiece}
+use Rattle.vt_pages.specs.Shape.{Shape}
+use Rattle.vt_journal.specs.declared.changes.Change.{Change}
+use Rattle.vt_journal.specs.declared.changes.Change.TheVariants.{Map}
+use Rattle.vt_journal.specs.Lookups.{change_page}
+use Rattle.vt_tiles.specs.Format.{tile_start}
+use Rattle.vt_grace.specs.declared.sizes.Sizes.{Sizes}
+use Rattle.vt_grace.specs.declared.views.WriterView.{WriterView}
+use Rattle.vt_grace.specs.Sizes.{sizes_of}
+use Rattle.vt_grace.specs.WriterViews.{first_writer, is_out}
+use Rattle.vt_grace.specs.Values.{WordsValue}
+use Rattle.vt_streamer.specs.Fills.{words_in}
+use Rattle.vt_streamer.specs.Views.{StreamerView, IsStreamerOf}
+use Rattle.vt_workers.specs.Jobs.{Job}
+use Rattle.vt_workers.specs.All.{AllReady}
+use Rattle.vt_machine.specs.declared.crew.Crew.{Crew}
+use Rattle.vt_machine.specs.Machines.{told_by}
+use Rattle.vt_machine.specs.Passes.{MapsRoot, MayPlace, IsJobFor}
+use Rattle.vt_noted.specs.Stored.{AreStored}
+use Rattle.vt_noted.proofs.Growing.{stored_grow}
+use Rattle.vt_pass.specs.declared.workers.WordSampler.{WordSampler}
+use Rattle.vt_pass.specs.declared.workers.WordStreamer.{WordStreamer}
+use Rattle.vt_pass.specs.WordTasks.{MayDraw}
+use Rattle.vt_pass.specs.Placed.{HasPlaced}
+use Rattle.vt_pass.specs.Kits.{KitView, kit_state, IsKit, IsIdleKit, AreAllIn}
+use Rattle.vt_pass.specs.WordMachines.{WordView, journal_by, word_state, IsIdleBy, IsReadyBy}
+use Rattle.vt_pass.proofs.Kits.{may_draw}
+use Rattle.vt_pass.proofs.Rooms.{same_none, same_lists, fit_still}
+
+-- no pass of the first writer is out
+none_out : (m n : ℕ) → get_or (replicate m false) n false ≡ false
+none_out zero n = refl
+none_out (suc m) zero = refl
+none_out (suc m) (suc n) = none_out m n
+
+module _ {F : Type 0} (g : FileMeanings F) where
+  -- a machine that was made is idle
+  pub idle_made : (s : Shape) (frames : ℕ) (crew : Crew) (words : WordsValue) (v : StreamerView) (k : KitView F) → IsStreamerOf words v
+      → words.sizes ≡ sizes_of s frames crew.samplers → v.shape ≡ s → v.writer ≡ first_writer (sizes_of s frames crew.samplers)
+      → IsKit g k → k.shape ≡ s → k.crew ≡ crew → IsIdleKit g words v k
+  idle_made s frames crew words v k of sizes shape writer kit same crew_is = record {
+    fit = record {
+      of = of;
+      shape = shape ∙ sym same;
+      samplers = ap (λ (z : Sizes). z.samplers) sizes ∙ ap (λ (c : Crew). c.samplers) (sym crew_is);
+      stored = subst (λ (w : WriterView). AreStored k.shape k.depth (told_by g k.stores) w.journal w.contents) (sym writer)
+          (λ j page frame is. absurd (none-some (Map page frame) is));
+      kit = kit;
+    };
+    all_in = λ n. ap (λ (w : WriterView). is_out w n) writer ∙ none_out crew.samplers n;
+  }
+
+  -- a machine in which a page was placed, or that was refused memory for it, is idle
+  pub idle_placed : (words : WordsValue) (v w : StreamerView) (k : KitView F) (page frame : ℕ) (tile : List ℕ) (r : Result (Unit {0}) NoMemory)
+      → IsIdleKit g words v k → IsStreamerOf words w → MayPlace (kit_state g words v.writer.journal k) page frame tile
+      → OnOk r (HasPlaced v w page frame tile) → OnErr r (w ≡ record v { spare = w.spare }) → IsIdleKit g words w k
+  idle_placed words v w k page frame tile (Ok x) idle of may placed refused = record {
+    fit = record {
+      of = of;
+      shape = placed.shape ∙ idle.fit.shape;
+      samplers = idle.fit.samplers;
+      stored = subst (λ (x : List Change × List (List ℕ)). AreStored k.shape k.depth (told_by g k.stores) x.0 x.1)
+          (λ i. (sym placed.journal i, sym placed.contents i))
+          (stored_grow k.shape k.depth (told_by g k.stores) v.writer.journal (Map page frame ∷ []) v.writer.contents (words_in v.shape tile ∷ [])
+          idle.fit.of.sound.contents idle.fit.stored one);
+      kit = idle.fit.kit;
+    };
+    all_in = λ n. ap (λ o. slice_index_or o n false) placed.out ∙ idle.all_in n;
+  } where
+    one : AreStored k.shape k.depth (told_by g k.stores) (Map page frame ∷ []) (words_in v.shape tile ∷ [])
+    one zero p f is =
+        let page_is : page ≡ p = ap change_page (same_Some (Map page frame) (Map p f) is) in
+        record {
+          tile = tile;
+          size = may.size;
+          of_store = subst (λ q. IfSome (told_by g k.stores) (λ b. IsPiece b (tile_start k.shape k.depth q) tile)) page_is may.of_store;
+          words = ap (λ s. words_in s tile) idle.fit.shape;
+        }
+    one (suc j) p f is = absurd (none-some (Map p f) is)
+  idle_placed words v w k page frame tile (Err e) idle of may placed refused = record {
+    fit = fit_still g words v w k k refused (same_lists g k k k.rows k.stores refl (same_none g k.stores)) idle.fit idle.fit.kit.buffers;
+    all_in = subst AreAllIn (sym refused) idle.all_in;
+  }
+
+  -- the streamer of an idle machine is there
+  pub idle_there : (m : WordView F) (t : WordStreamer) → m.streamer ≡ Some t → IsIdleBy g m.words m.streamer m.kit → IsIdleKit g m.words t.streamer m.kit
+  idle_there m t there idle = subst (λ (o : Option WordStreamer). IsIdleBy g m.words o m.kit) there idle
+
+  pub machine_placed : (m : WordView F) (t : WordStreamer) (w : StreamerView) (page frame : ℕ) (tile : List ℕ) (r : Result (Unit {0}) NoMemory)
+      → m.streamer ≡ Some t → IsIdleBy g m.words m.streamer m.kit → IsStreamerOf m.words w → MayPlace (word_state g m) page frame tile
+      → OnOk r (HasPlaced t.streamer w page frame tile) → OnErr r (w ≡ record t.streamer { spare = w.spare }) → IsIdleKit g m.words w m.kit
+  machine_placed m t w page frame tile r there idle of may placed refused =
+      idle_placed m.words t.streamer w m.kit page frame tile r (idle_there m t there idle) of
+      (subst (λ (o : Option WordStreamer). MayPlace (kit_state g m.words (journal_by o) m.kit) page frame tile) there may) placed refused
+
+  -- samplers that were moved out of a prepared machine may draw
+  pub muster_draws : (job : Job) (m : WordView F) (t : WordStreamer) (tasks : List WordSampler) → m.streamer ≡ Some t
+      → IsReadyBy g m.words m.queues m.streamer m.kit job.batch → MapsRoot (word_state g m) → IsJobFor (word_state g m).setup job
+      → tasks ≡ m.kit.samplers → AllReady (MayDraw m.words job.scene job.picture) tasks
+  muster_draws job m t tasks there ready root job_is same =
+      may_draw g job m.words m.queues t m.kit tasks (subst (λ (o : Option WordStreamer). IsReadyBy g m.words m.queues o m.kit job.batch) there ready)
+      (subst (λ (o : Option WordStreamer). MapsRoot (kit_state g m.words (journal_by o) m.kit)) there root) job_is same
