@@ -21,17 +21,17 @@ use Rattle.vt_workers.specs.Jobs.{Job}
 use Rattle.vt_workers.specs.All.{AllReady}
 use Rattle.vt_machine.specs.declared.crew.Crew.{Crew}
 use Rattle.vt_machine.specs.Machines.{told_by}
-use Rattle.vt_machine.specs.Passes.{MapsRoot, MayPlace, IsJobFor}
+use Rattle.vt_machine.specs.Passes.{MapsRoot, MayPlace, IsJobFor, IsUntouched, IsSpent}
 use Rattle.vt_noted.specs.Stored.{AreStored}
 use Rattle.vt_noted.proofs.Growing.{stored_grow}
 use Rattle.vt_pass.specs.declared.workers.WordSampler.{WordSampler}
 use Rattle.vt_pass.specs.declared.workers.WordStreamer.{WordStreamer}
 use Rattle.vt_pass.specs.WordTasks.{MayDraw}
 use Rattle.vt_pass.specs.Placed.{HasPlaced}
-use Rattle.vt_pass.specs.Kits.{KitView, kit_state, IsKit, IsIdleKit, AreAllIn}
+use Rattle.vt_pass.specs.Kits.{KitView, kit_state, IsKit, IsIdleKit, IsSameKit, AreAllIn}
 use Rattle.vt_pass.specs.WordMachines.{WordView, journal_by, word_state, IsIdleBy, IsReadyBy}
 use Rattle.vt_pass.proofs.Kits.{may_draw}
-use Rattle.vt_pass.proofs.Rooms.{same_none, same_lists, fit_still}
+use Rattle.vt_pass.proofs.Rooms.{same_none, same_lists, told_same, files_same, fit_still}
 
 -- no pass of the first writer is out
 none_out : (m n : ℕ) → get_or (replicate m false) n false ≡ false
@@ -106,3 +106,24 @@ module _ {F : Type 0} (g : FileMeanings F) where
   muster_draws job m t tasks there ready root job_is same =
       may_draw g job m.words m.queues t m.kit tasks (subst (λ (o : Option WordStreamer). IsReadyBy g m.words m.queues o m.kit job.batch) there ready)
       (subst (λ (o : Option WordStreamer). MapsRoot (kit_state g m.words (journal_by o) m.kit)) there root) job_is same
+
+  -- a machine that was prepared, or was refused memory for it, is what it was but for its samplers and its rooms
+  module _ (m : WordView F) (t u : WordStreamer) (words : WordsValue) (l : KitView F) (there : m.streamer ≡ Some t) (words_are : words ≡ m.words)
+      (journal : u.streamer.writer.journal ≡ t.streamer.writer.journal) (same : IsSameKit g (record m.kit { samplers = l.samplers }) l) where
+    pub machine_untouched : IsUntouched (word_state g m) (kit_state g words u.streamer.writer.journal l)
+    machine_untouched = record {
+      setup = λ i. record {
+        shape = same.shape i;
+        depth = same.depth i;
+        width = same.width i;
+        height = same.height i;
+        frames = (words_are i).sizes.frames;
+        crew = same.crew i;
+        bytes = told_same g m.kit.stores l.stores same.stores i;
+      };
+      files = files_same g m.kit.stores l.stores same.stores;
+      journal = journal ∙ ap journal_by (sym there);
+    }
+
+    pub machine_spent : IsSpent (word_state g m) (kit_state g words u.streamer.writer.journal l)
+    machine_spent = record { setup = machine_untouched.setup; files = machine_untouched.files }

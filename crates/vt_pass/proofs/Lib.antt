@@ -8,4 +8,5 @@ pub mod Ended
 pub mod Finished
 pub mod GivenOnes
 pub mod ReturnedOnes
+pub mod Finishing
 pub mod Idle

@@ -1,6 +1,6 @@
 -- What gets room for a pass: the stores of a kit, one after another, the kit and its streamer.
 use Rattle.std.proofs.Common.{◌≡◌, ◌≢◌, ℕ, suc, ◌+◌, ◌<◌, ◌≤◌, ⊎_elim, List, [], ◌∷◌, length, get_or, ◌*◌, Option, refl, sym, ap, ◌∙◌, subst, arith}
-use Rattle.std.specs.Prelude.{slice_set, All, Result, Ok, Err, OnOk}
+use Rattle.std.specs.Prelude.{slice_set, All, Result, Ok, Err, OnOk, OnErr}
 use Rattle.std.proofs.lemmas.List.{length-set, get_or-set_same, get_or-set_other, get_or_default}
 use Rattle.std.proofs.lemmas.Bool.{cases_eq}
 use Rattle.std.specs.List.{refill}
@@ -273,3 +273,7 @@ on_ok (Err e) n f = n
 pub always_ok : {T E B : Type 0} (r : Result T E) → B → OnOk r B
 always_ok (Ok x) b = b
 always_ok (Err e) b = tt
+
+pub always_err : {T E B : Type 0} (r : Result T E) → B → OnErr r B
+always_err (Ok x) b = tt
+always_err (Err e) b = b
