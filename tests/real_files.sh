@@ -372,6 +372,9 @@ same_pictures() {
   for picture in "$1"[0-9][0-9][0-9][0-9].ppm; do cmp -s "$picture" "$2${picture#"$1"}" || return 1; done
 }
 
+# Two journals are the same but for the lines of their rows.
+same_but_rows() { cmp -s <(grep -v '^row ' "$1") <(grep -v '^row ' "$2"); }
+
 # The settled and the live walk over a texture that the program tiles: the settled pictures are the plain ones, and pictures and log those
 # of the reference, whatever the crew.
 walks_over() {
@@ -384,8 +387,8 @@ walks_over() {
   cmp -s want.log settled.log && same_pictures want settled; say $? "$what, $*: settled pictures and log"
   $reference walk walk.vts "$path" want still.txt "$@" > want.log
   cmp -s want.log live.log; say $? "$what, $*: live log"
-  # A machine that draws before it loads, with one loader, leaves no choice.
-  case " $* " in *" --loaders 1 "*) cmp -s want.txt settled.txt && cmp -s still.txt live.txt; say $? "$what, $*: journals";; esac
+  # One loader leaves no choice but the versions at which rows are drawn.
+  case " $* " in *" --loaders 1 "*) same_but_rows want.txt settled.txt && same_but_rows still.txt live.txt; say $? "$what, $*: journals";; esac
   if has replay; then
     replay_of "live walk of $what, $*" walk.vts "$path" live
     replay_of "settled walk of $what, $*" walk.vts "$path" settled

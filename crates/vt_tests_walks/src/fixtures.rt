@@ -35,8 +35,6 @@ pub const TILE_0: Place = Place {
     failed: false,
 };
 
-pub const TILE_1: Place = Place { at: 28, ..TILE_0 };
-
 pub const TILE_2: Place = Place { at: 40, ..TILE_0 };
 
 pub const TILE_3: Place = Place { at: 52, ..TILE_0 };
