@@ -225,6 +225,15 @@ impl Streamer {
         &self.journal
     }
 
+    /// The pages and their tiles.
+    #[inline]
+    pub fn geometry(&self) -> &Geometry
+        ensures { result.now ≡ self.now.shape }
+    {
+        let _samplers = self.samplers;
+        &self.geometry
+    }
+
     /// The frame of a page in the newest version; `None` exactly where the page is not mapped.
     #[inline]
     pub fn frame_of(&self, page: u32) -> Option<u32>
