@@ -2,4 +2,6 @@
 #![tactic(auto)]
 
 #[cfg(test)]
+mod measured;
+#[cfg(test)]
 mod streamer;

@@ -2,4 +2,4 @@
 
 mod beside;
 mod held;
-mod small;
+pub(crate) mod small;
