@@ -174,7 +174,7 @@ fn main() {
     let mut table = Table::new(64);
     table.map(0, 1, &[1; 12288]);
     let answer = match words[1].as_str() {
-        "store" => store(&table, times),
+        "stores" => store(&table, times),
         "holds" => hold(&table, times),
         "entries" => load(&table.words, ENTRIES + PAGES, 4, times),
         "words" => load(&table.words, table.first_texel(1), 4096, times),

@@ -4,7 +4,7 @@ ghost use Rattle.std.specs.Prelude.{◌≡◌, ◌≢◌, ◌≤◌, ◌<◌, �
 ghost use Rattle.vt_grace.specs.PassViews.{NoneAbove, idle, noting, wording, HasEntry};
 ghost use Rattle.vt_grace.specs.Tokens.{IsPassOf, IsHeldOf};
 
-use crate::places::{word_of_entry, word_of_texel};
+use crate::places::{first_entry, first_texel};
 use crate::plays::{Announce, Hint, Hold, Read, ReadWord, Unpin};
 use crate::tokens::{Held, Pass, Words};
 
@@ -27,6 +27,9 @@ impl Pass {
             seat,
             sampler,
             version,
+            first_entry: first_entry(&words.sizes, (version % 4) as usize),
+            first_texel: first_texel(&words.sizes),
+            texels: words.sizes.texels as usize,
         }
     }
 }
@@ -52,8 +55,7 @@ impl Held {
         ensures most { result ≤ words.now.sizes.frames }
         ensures root { page ≡ words.now.sizes.root → self.old.view.rooted ≡ true → result ≢ 0 }
     {
-        let bank = (self.version % 4) as usize;
-        let word = word_of_entry(&words.sizes, bank, page as usize);
+        let word = self.first_entry + page as usize;
         let shared = &words.table.shared;
         shared.load::<Read>(&mut self.seat, word)
     }
@@ -68,10 +70,9 @@ impl Held {
         ensures version { self.new.version ≡ self.old.version }
         ensures view { self.new.view ≡ wording self.old.version frame place result self.old.view }
     {
-        let seat = &mut self.seat;
-        let word = word_of_texel(&words.sizes, frame as usize, place as usize);
+        let word = self.first_texel + (frame as usize * self.texels + place as usize);
         let shared = &words.table.shared;
-        shared.load::<ReadWord>(seat, word)
+        shared.load::<ReadWord>(&mut self.seat, word)
     }
 
     /// Holds the version no longer.
@@ -84,6 +85,9 @@ impl Held {
             mut seat,
             sampler,
             version: _,
+            first_entry: _,
+            first_texel: _,
+            texels: _,
         } = self;
         let shared = &words.table.shared;
         shared.store::<Unpin>(&mut seat, 1 + sampler as usize, 0);
