@@ -5,7 +5,7 @@ usage: words.py [TESTS] [--rounds 9]
 
 TESTS is the program that `rt test` builds in crates/vt_tests_words; words.rs is built here. Each call is timed as many times as a test of TESTS makes it,
 from outside, less the time of the test that makes a tenth of these calls; so the start of the process and what is set up before are left out. Both programs
-run in turn, by `chrt -f 40` where it may. It prints the medians. It wants rustc.
+run in turn, by `chrt -f 40` where it may. It prints the medians and the least times. It wants rustc.
 """
 import argparse
 import os
@@ -44,9 +44,9 @@ def seconds(words):
     return time.monotonic() - begin
 
 
-def per_call(first, many, few, calls):
-    """The nanoseconds of a call, by a run that makes so many and one that makes a tenth of them."""
-    return (seconds([*first, *many]) - seconds([*first, *few])) * 1e9 / (0.9 * calls)
+def nanoseconds(runs, calls):
+    """The nanoseconds of a call by the medians and by the least times of runs, each with one that makes so many calls and one that makes a tenth of them."""
+    return [(of(many for many, _ in runs) - of(few for _, few in runs)) * 1e9 / (0.9 * calls) for of in (statistics.median, min)]
 
 
 def main():
@@ -55,19 +55,20 @@ def main():
     parser.add_argument("--rounds", type=int, default=9)
     asked = parser.parse_args()
     first, tests = first_words(), os.path.abspath(asked.tests)
+    timed = lambda many, few: (seconds([*first, *many]), seconds([*first, *few]))
     with tempfile.TemporaryDirectory() as folder:
         plain = os.path.join(folder, "words")
         subprocess.run(["rustc", "-O", os.path.join(HERE, "words.rs"), "-o", plain], check=True)
-        bare = [per_call(first, [plain, "stores", "10000000"], [plain, "stores", "1000000"], 10_000_000) for _ in range(asked.rounds)]
-        print("a store in plain Rust: %.2f ns\n" % statistics.median(bare))
-        print("| call | ns | plain Rust, ns | times |\n|---|---|---|---|", flush=True)
+        bare = [timed([plain, "stores", "10000000"], [plain, "stores", "1000000"]) for _ in range(asked.rounds)]
+        print("a store in plain Rust: %.2f ns, at least %.2f\n" % tuple(nanoseconds(bare, 10_000_000)))
+        print("| call | ns | plain Rust, ns | times | least ns | plain Rust, least ns | times |\n|---|---|---|---|---|---|---|", flush=True)
         for title, module, name, calls, group in CALLS:
             ours, others = [], []
             for _ in range(asked.rounds):
-                ours.append(per_call(first, *([tests, "measured::%s::%s_%s" % (module, often, name)] for often in ("many", "few")), calls))
-                others.append(per_call(first, *([plain, name, str(times)] for times in (calls // group, calls // group // 10)), calls))
-            middle, other = statistics.median(ours), statistics.median(others)
-            print("| %s | %.2f | %.2f | %.2f |" % (title, middle, other, middle / other), flush=True)
+                ours.append(timed(*([tests, "measured::%s::%s_%s" % (module, often, name)] for often in ("many", "few"))))
+                others.append(timed(*([plain, name, str(times)] for times in (calls // group, calls // group // 10))))
+            pairs = zip(nanoseconds(ours, calls), nanoseconds(others, calls))
+            print("| %s | %s |" % (title, " | ".join("%.2f | %.2f | %.2f" % (our, other, our / other) for our, other in pairs)), flush=True)
 
 
 if __name__ == "__main__":
