@@ -19,12 +19,11 @@ TOP = os.path.dirname(os.path.dirname(HERE))
 
 # of each call its name in the table, its module and its name among the tests, how often the test makes it, and how many make one time of words.rs
 CALLS = [
-    ("a pin and an unpin", "holds", "holds", 10_000_000, 1),
-    ("an entry", "reads", "entries", 100_000_000, 1),
-    ("a word", "reads", "words", 100_000_000, 1),
-    ("a fill of 64x64, one byte a sample", "fills", "narrow_fills", 6_000, 1),
-    ("a fill of 64x64, two bytes a sample", "fills", "wide_fills", 6_000, 1),
-    ("a fill of 2x2", "fills", "small_fills", 5_000_000, 1),
+    ("a pin and an unpin", "calls", "holds", 10_000_000, 1),
+    ("an entry", "calls", "entries", 100_000_000, 1),
+    ("a word", "calls", "words", 100_000_000, 1),
+    ("a fill of 64x64, one byte a sample", "calls", "narrow_fills", 6_000, 1),
+    ("a fill of 64x64, two bytes a sample", "calls", "wide_fills", 6_000, 1),
     ("a round: a fill of 2x2 and two publishes", "rounds", "rounds", 1_000_000, 1_000),
 ]
 

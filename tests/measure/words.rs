@@ -144,14 +144,14 @@ fn store(table: &Table, times: u64) -> u64 {
     table.words[0].load(SeqCst)
 }
 
-fn fill(side: usize, bytes: usize, times: u64) -> u64 {
-    let mut table = Table::new(side);
+fn fill(bytes: usize, times: u64) -> u64 {
+    let mut table = Table::new(64);
     let mut tile = vec![1; bytes];
     tile[bytes - 1] = 2;
     for _ in 0..times {
         table.fill(black_box(1), 0, black_box(&tile));
     }
-    load(&table.words, table.first_texel(1), (side * side) as u64, (side * side) as u64)
+    load(&table.words, table.first_texel(1), 4096, 4096)
 }
 
 /// Maps and unmaps the pages 0 to 3 in turn, a thousand times on each table.
@@ -178,9 +178,8 @@ fn main() {
         "holds" => hold(&table, times),
         "entries" => load(&table.words, ENTRIES + PAGES, 4, times),
         "words" => load(&table.words, table.first_texel(1), 4096, times),
-        "narrow_fills" => fill(64, 12288, times),
-        "wide_fills" => fill(64, 24576, times),
-        "small_fills" => fill(2, 12, times),
+        "narrow_fills" => fill(12288, times),
+        "wide_fills" => fill(24576, times),
         "rounds" => play(times),
         _ => panic!("no such operation"),
     };

@@ -1,14 +1,11 @@
 -- What is known of a small streamer.
-use Rattle.std.proofs.Common.{◌≡◌, ◌+◌, ℕ, List, length, refl, ap, ◌∙◌, sym, subst, arith}
+use Rattle.std.proofs.Common.{◌≡◌, ◌*◌, ℕ, List, length, refl, ap, ◌∙◌, sym, subst, arith, inl}
 use Rattle.vt_pages.specs.Pages.{pages_of, root_of}
 use Rattle.vt_table.specs.Views.{IsTile}
 use Rattle.vt_table.proofs.Lawful.{table_spared}
 use Rattle.vt_table.proofs.FewChanges.{last_page}
 use Rattle.vt_grace.specs.declared.sizes.Sizes.{Sizes}
-use Rattle.vt_grace.specs.declared.views.PassView.{PassView}
-use Rattle.vt_grace.specs.PassViews.{HasEntry, noting}
 use Rattle.vt_grace.specs.Values.{WordsValue}
-use Rattle.vt_grace.specs.Banks.{MayFill}
 use Rattle.vt_streamer.specs.Views.{StreamerView, table_of, IsStreamerOf}
 use Rattle.vt_tests_words.specs.SmallStreams.{IsSmall}
 
@@ -18,11 +15,17 @@ five_pages words n v h = sym (ap (λ (z : Sizes). z.pages) h.of.sizes) ∙ h.pag
 pub all_frames : (words : WordsValue) (n : ℕ) (v : StreamerView) → IsSmall words n v → length v.owners ≡ n
 all_frames words n v h = sym (ap (λ (z : Sizes). z.frames) h.of.sizes) ∙ h.frames
 
+pub four_texels : (words : WordsValue) (n : ℕ) (v : StreamerView) → IsSmall words n v → v.shape.tile * v.shape.tile ≡ 4
+four_texels words n v h = sym (ap (λ (z : Sizes). z.texels) h.of.sizes) ∙ h.texels
+
 pub root_is_4 : (words : WordsValue) (n : ℕ) (v : StreamerView) → IsSmall words n v → root_of v.shape ≡ 4
 root_is_4 words n v h = let last = last_page v.shape h.of.lawful.limits in let all = five_pages words n v h in omega arith
 
 pub still_small : (words : WordsValue) (n : ℕ) (v w : StreamerView) → IsSmall words n v → IsStreamerOf words w → IsSmall words n w
-still_small words n v w h of = record { of = of; pages = h.pages; frames = h.frames }
+still_small words n v w h of = record { of = of; pages = h.pages; texels = h.texels; frames = h.frames }
+
+pub small_tile : (words : WordsValue) (n : ℕ) (v : StreamerView) (tile : List ℕ) → IsSmall words n v → length tile ≡ 12 → IsTile v.shape tile
+small_tile words n v tile h long = let four = four_texels words n v h in record { depth = 1; lawful = inl refl; full = omega arith }
 
 pub small_spared : (words : WordsValue) (n : ℕ) (v w : StreamerView) → IsSmall words n v → w ≡ record v { spare = w.spare } → IsSmall words n w
 small_spared words n v w h same = still_small words n v w h (subst (IsStreamerOf words) (sym same) record {
@@ -33,18 +36,3 @@ small_spared words n v w h same = still_small words n v w h (subst (IsStreamerOf
   sound = h.of.sound;
   lawful = table_spared (table_of v) w.spare h.of.lawful;
 })
-
-pub still_may : (v w : StreamerView) (frame : ℕ) → w ≡ record v { writer = record v.writer { texels = w.writer.texels }; owners = w.owners }
-    → MayFill v.writer frame → MayFill w.writer frame
-still_may v w frame rest may = subst (λ (u : StreamerView). MayFill u.writer frame) (sym rest) may
-
-pub still_tile : (v w : StreamerView) (tile : List ℕ) → w ≡ record v { writer = record v.writer { texels = w.writer.texels }; owners = w.owners }
-    → IsTile v.shape tile → IsTile w.shape tile
-still_tile v w tile rest is = subst (λ (u : StreamerView). IsTile u.shape tile) (sym rest) is
-
-pub still_journal : (v w : StreamerView) → w ≡ record v { writer = record v.writer { texels = w.writer.texels }; owners = w.owners }
-    → w.writer.journal ≡ v.writer.journal
-still_journal v w rest = ap (λ (u : StreamerView). u.writer.journal) rest
-
-pub noted_now : (u page entry frame : ℕ) (p : PassView) → entry ≡ frame + 1 → HasEntry u (noting u page entry p) frame
-noted_now u page entry frame p is = (record { version = u; page = page; entry = entry }, (0, omega arith, refl), refl, is)

@@ -1,23 +1,27 @@
-//! Entries and words are read under one hold.
+//! Versions are held, and entries and words are read under one hold.
 
 ghost use Rattle.std.specs.Prelude.{◌<◌};
 ghost use Rattle.vt_grace.specs.PassViews.{HasEntry};
 ghost use Rattle.vt_grace.specs.Tokens.{IsPassOf, IsHeldOf};
 
-use crate::measured::tables::table;
-use crate::streamer::small::mapped;
-use std::alloc::Global;
 use vt_grace::{Held, Pass, Words};
 
-const ENTRIES: u64 = 100_000_000;
-
-const WORDS: u64 = 100_000_000;
-
-// How many bytes a tile of one-byte samples has.
-const TILE: usize = 12_288;
+/// Holds the newest version so often, and adds up the versions.
+pub(crate) fn hold(words: &Words, mut pass: Pass, times: u64) -> (Pass, u64)
+    requires { IsPassOf words.now pass }
+    ensures { IsPassOf words.now result.0 }
+{
+    let mut sum: u64 = 0;
+    for time in 0..times {
+        let held = pass.pin(words);
+        sum = sum.wrapping_add(held.version());
+        pass = held.unpin(words);
+    }
+    (pass, sum)
+}
 
 // Reads the entries of the pages 0 to 3 in turn, and adds them up.
-fn read_entries(words: &Words, held: &mut Held, times: u64) -> u64
+fn sum_entries(words: &Words, held: &mut Held, times: u64) -> u64
     requires of { IsHeldOf words.now held.old }
     requires pages { 3 < words.now.sizes.pages }
     ensures { IsHeldOf words.now held.new }
@@ -29,8 +33,19 @@ fn read_entries(words: &Words, held: &mut Held, times: u64) -> u64
     sum
 }
 
+/// Reads so many entries of the pages 0 to 3 in turn, and adds them up.
+pub(crate) fn read_entries(words: &Words, pass: Pass, times: u64) -> (Pass, u64)
+    requires of { IsPassOf words.now pass }
+    requires pages { 3 < words.now.sizes.pages }
+    ensures { IsPassOf words.now result.0 }
+{
+    let mut held = pass.pin(words);
+    let sum = sum_entries(words, &mut held, times);
+    (held.unpin(words), sum)
+}
+
 // Reads the words of a frame in turn, and adds them up.
-fn read_words(words: &Words, held: &mut Held, frame: u32, times: u64) -> u64
+fn sum_words(words: &Words, held: &mut Held, frame: u32, times: u64) -> u64
     requires of { IsHeldOf words.now held.old }
     requires texels { 4095 < words.now.sizes.texels }
     requires noted { HasEntry held.old.version held.old.view frame }
@@ -43,25 +58,8 @@ fn read_words(words: &Words, held: &mut Held, frame: u32, times: u64) -> u64
     sum
 }
 
-// Whether the entries of the pages 0 to 3, of which page 0 is mapped to frame 1, are read.
-fn are_entries_read(alloc: Global, times: u64) -> bool {
-    let Some((words, mut streamer)) = table(alloc, 64) else {
-        return false;
-    };
-    let Ok(tile) = Vec::from_elem(alloc, 1, TILE) else {
-        return false;
-    };
-    let pass = streamer.give_pass(&words, 0);
-    let _mapped = mapped(&words, &mut streamer, 3, 0, 1, &tile);
-    let mut held = pass.pin(&words);
-    let sum = read_entries(&words, &mut held, times);
-    let pass = held.unpin(&words);
-    streamer.take_back(&words, pass);
-    sum == times / 4 * 2
-}
-
-/// Holds a version, reads the entry of page 0, and then words of its frame, from the first on, and adds them up.
-pub(crate) fn read_frame(words: &Words, pass: Pass, times: u64) -> (Pass, u64)
+/// Reads so many words of the frame of page 0, from the first on, and adds them up; 0 where the page is not mapped.
+pub(crate) fn read_words(words: &Words, pass: Pass, times: u64) -> (Pass, u64)
     requires of { IsPassOf words.now pass }
     requires pages { 3 < words.now.sizes.pages }
     requires texels { 4095 < words.now.sizes.texels }
@@ -72,41 +70,6 @@ pub(crate) fn read_frame(words: &Words, pass: Pass, times: u64) -> (Pass, u64)
     if entry == 0 {
         return (held.unpin(words), 0);
     }
-    let sum = read_words(words, &mut held, (entry - 1) as u32, times);
+    let sum = sum_words(words, &mut held, (entry - 1) as u32, times);
     (held.unpin(words), sum)
-}
-
-// Whether the words of a frame whose samples are all 1 are read.
-fn are_words_read(alloc: Global, times: u64) -> bool {
-    let Some((words, mut streamer)) = table(alloc, 64) else {
-        return false;
-    };
-    let Ok(tile) = Vec::from_elem(alloc, 1, TILE) else {
-        return false;
-    };
-    let pass = streamer.give_pass(&words, 0);
-    let _mapped = mapped(&words, &mut streamer, 3, 0, 1, &tile);
-    let (pass, sum) = read_frame(&words, pass, times);
-    streamer.take_back(&words, pass);
-    sum == times.wrapping_mul(0x10101)
-}
-
-#[test]
-fn many_entries(rt: HostRuntime) {
-    assert!(&rt; are_entries_read(rt.alloc(), ENTRIES));
-}
-
-#[test]
-fn few_entries(rt: HostRuntime) {
-    assert!(&rt; are_entries_read(rt.alloc(), ENTRIES / 10));
-}
-
-#[test]
-fn many_words(rt: HostRuntime) {
-    assert!(&rt; are_words_read(rt.alloc(), WORDS));
-}
-
-#[test]
-fn few_words(rt: HostRuntime) {
-    assert!(&rt; are_words_read(rt.alloc(), WORDS / 10));
 }

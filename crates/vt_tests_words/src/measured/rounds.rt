@@ -1,12 +1,12 @@
-//! Pages are mapped and unmapped.
+//! Pages are mapped and unmapped, over a texture of 4x4 texels in tiles of side 2.
 
 ghost use Rattle.std.specs.Prelude.{◌<◌};
 ghost use Rattle.vt_tests_words.specs.SmallStreams.{IsSmall};
 
-use crate::measured::tables::table;
-use crate::streamer::small::{mapped, unmapped};
+use crate::streamer::small::{mapped, small_streamer, unmapped};
 use std::alloc::Global;
 use vt_grace::Words;
+use vt_pages::Geometry;
 use vt_streamer::Streamer;
 
 // How many rounds are played on a table, and on how many tables.
@@ -51,7 +51,13 @@ fn play(words: &Words, streamer: &mut Streamer) -> bool
 
 // Whether the rounds on a new table come to the version that they make.
 fn is_all_played(alloc: Global) -> bool {
-    let Some((words, mut streamer)) = table(alloc, 2) else {
+    let Ok(geometry) = Geometry::new(4, 4, 2) else {
+        return false;
+    };
+    if geometry.page_count() != 5 || geometry.tile() != 2 {
+        return false;
+    }
+    let Ok((words, mut streamer)) = small_streamer(alloc, &geometry, 3) else {
         return false;
     };
     play(&words, &mut streamer) && streamer.journal().version() == 2 * ROUNDS

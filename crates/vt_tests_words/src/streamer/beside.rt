@@ -184,7 +184,6 @@ fn run_both<R: Threads + Sync>(
 ) -> (Streamer, bool, Pass, Vec<Seen>)
     requires small { IsSmall words.now 3 streamer }
     requires of { IsPassOf words.now pass }
-    requires texels { 3 < words.now.sizes.texels }
     ensures small { IsSmall words.now 3 result.0 }
     ensures of { IsPassOf words.now result.2 }
 {
@@ -209,7 +208,6 @@ fn is_true_beside<R: Threads + Sync>(
 ) -> bool
     requires small { IsSmall words.now 3 streamer }
     requires samplers { words.now.sizes.samplers ≡ 1 }
-    requires texels { 3 < words.now.sizes.texels }
     requires none_out { is_out streamer.writer 0 ≡ false }
 {
     let blank = Seen {

@@ -1,10 +1,9 @@
 //! Calls of a small streamer that look first whether they may be made.
 
-ghost use Rattle.std.specs.Prelude.{◌≡◌, ◌≢◌, ◌*◌, ◌≤◌, ◌<◌, Some, None, IfOk, false};
+ghost use Rattle.std.specs.Prelude.{◌≡◌, ◌≢◌, ◌≤◌, ◌<◌, Some, None, IfOk, length, false};
 ghost use Rattle.std.specs.Bool.{MatchBool};
 ghost use Rattle.vt_pages.specs.Pages.{pages_of};
 ghost use Rattle.vt_journal.specs.Changes.{newest, IsFree};
-ghost use Rattle.vt_table.specs.Views.{IsTile};
 ghost use Rattle.vt_grace.specs.WriterViews.{is_out};
 ghost use Rattle.vt_streamer.specs.Views.{StreamerView};
 ghost use Rattle.vt_tests_words.specs.SmallStreams.{IsSmall};
@@ -22,13 +21,12 @@ pub(crate) fn small_streamer(
     geometry: &Geometry,
     frames: u32,
 ) -> Result<(Words, Streamer), NoMemory>
-    requires few_texels { geometry.now.tile * geometry.now.tile ≤ 4096 }
+    requires tile { geometry.now.tile ≡ 2 }
     requires pages { pages_of geometry.now ≡ 5 }
     requires some_frame { 1 ≤ frames }
     requires few_frames { frames ≤ 5 }
     ensures small { IfOk result (λ made. IsSmall made.0 frames made.1) }
     ensures samplers { IfOk result (λ made. made.0.sizes.samplers ≡ 1) }
-    ensures texels { IfOk result (λ made. made.0.sizes.texels ≡ geometry.now.tile * geometry.now.tile) }
     ensures none_out { IfOk result (λ made. is_out made.1.writer 0 ≡ false) }
 {
     Streamer::new(alloc, geometry, frames, 1)
@@ -42,16 +40,16 @@ pub(crate) fn is_mapped_to(streamer: &Streamer, page: u32, frame: u32) -> bool
     streamer.frame_of(page) == Some(frame)
 }
 
-/// Whether a page is not mapped.
-pub(crate) fn is_unmapped(streamer: &Streamer, page: u32) -> bool
+// Whether a page is not mapped.
+fn is_unmapped(streamer: &Streamer, page: u32) -> bool
     requires { page < pages_of streamer.now.shape }
     ensures { MatchBool result (newest streamer.now.writer.journal page ≡ None) (newest streamer.now.writer.journal page ≢ None) }
 {
     streamer.frame_of(page).is_none()
 }
 
-/// Whether no page is mapped to a frame.
-pub(crate) fn is_unused(words: &Words, streamer: &Streamer, frames: u32, frame: u32) -> bool
+// Whether no page is mapped to a frame.
+fn is_unused(words: &Words, streamer: &Streamer, frames: u32, frame: u32) -> bool
     requires { IsSmall words.now frames streamer.now }
     ensures { MatchBool result (IsFree (newest streamer.now.writer.journal) frame) (Unit {0}) }
 {
@@ -63,8 +61,8 @@ pub(crate) fn is_unused(words: &Words, streamer: &Streamer, frames: u32, frame: 
     true
 }
 
-/// Makes room for a change.
-pub(crate) fn is_reserved(streamer: &mut Streamer) -> bool
+// Makes room for a change.
+fn is_reserved(streamer: &mut Streamer) -> bool
     ensures rest { streamer.new ≡ record streamer.old { spare = streamer.new.spare } }
     ensures room { MatchBool result (1 ≤ streamer.new.spare) (Unit {0}) }
 {
@@ -72,21 +70,6 @@ pub(crate) fn is_reserved(streamer: &mut Streamer) -> bool
         return false;
     }
     streamer.reserve(1).is_ok()
-}
-
-/// Whether bytes are those of a tile.
-pub(crate) fn is_tile(streamer: &Streamer, tile: &[u8]) -> bool
-    ensures { MatchBool result (IsTile streamer.now.shape tile.now) (Unit {0}) }
-{
-    let side = streamer.geometry().tile() as usize;
-    let texels = side * side;
-    if tile.len() == 3 * texels {
-        return true;
-    }
-    if tile.len() == 6 * texels {
-        return true;
-    }
-    false
 }
 
 /// What freeing a frame comes to, if no page is mapped to it.
@@ -106,7 +89,7 @@ pub(crate) fn freed(
     Some(streamer.try_free(words, frame))
 }
 
-/// What mapping a page to a frame comes to, with a tile that is filled in, if both are free and it is a tile.
+/// What mapping a page to a frame comes to, with a tile that is filled in, if both are free.
 pub(crate) fn mapped(
     words: &Words,
     streamer: &mut Streamer,
@@ -118,12 +101,10 @@ pub(crate) fn mapped(
     requires small { IsSmall words.now frames streamer.old }
     requires page { page < 5 }
     requires inside { frame < frames }
+    requires tile { length tile.now ≡ 12 }
     ensures { IsSmall words.now frames streamer.new }
 {
     if !is_unused(words, streamer, frames, frame) || !is_unmapped(streamer, page) {
-        return None;
-    }
-    if !is_tile(streamer, tile) {
         return None;
     }
     if let Err(waiting) = streamer.try_free(words, frame) {
