@@ -69,7 +69,7 @@ fn make(words: &Words, pass: Pass, calls: Calls) -> (Pass, u64)
     }
 }
 
-// What the calls answer together once page 0 is mapped to frame 1, which is filled so often before; 0 where it is not mapped.
+// What the calls answer together once page 0 is mapped to frame 1, which was filled so often; 0 where it is not mapped.
 fn answered(words: &Words, streamer: &mut Streamer, tile: &[u8], fills: u64, calls: Calls) -> u64
     requires blank { IsBlank words.now streamer.old }
     requires samplers { words.now.sizes.samplers ≡ 1 }
