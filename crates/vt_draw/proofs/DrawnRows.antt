@@ -19,3 +19,23 @@ drawn_as s e d v says r t n m out depth row width drawn =
 pub counted_as : (s : Shape) (r t : RowView) (n m : ℕ) (old new : List ℕ) → r ≡ t → n ≡ m → AreCounted s r n old new → AreCounted s t m old new
 counted_as s r t n m old new row width counted =
     subst (λ (a : RowView). AreCounted s a m old new) row (subst (λ (a : ℕ). AreCounted s r a old new) width counted)
+
+-- a row that is drawn by what is said is drawn by all that is said besides
+pub drawn_by_more : (s : Shape) (d version n : ℕ) (says more : Note → Type 0) (row : RowView) (bytes : List ℕ)
+    → ((note : Note) → says note → more note) → AreDrawn s d version says row n bytes → AreDrawn s d version more row n bytes
+drawn_by_more s d version n says more row bytes on drawn x inside =
+    let h = drawn x inside in
+    record {
+      found = h.found;
+      word = h.word;
+      finest = record {
+        no_finer = h.finest.no_finer;
+        level_inside = h.finest.level_inside;
+        page = h.finest.page;
+        level = h.finest.level;
+        unmapped = λ k from to. on _ (h.finest.unmapped k from to);
+        mapped = on _ h.finest.mapped;
+      };
+      read = on _ h.read;
+      shown = h.shown;
+    }

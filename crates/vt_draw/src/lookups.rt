@@ -29,13 +29,20 @@ pub trait Lookup {
     /// Whether it stands for a note. What it says once it says after each later call.
     ghost says: { Self → Note → Type 0 };
 
+    /// What the look-up stands on besides, as the table that it reads.
+    ghost Kept: { Type 0 } = { Unit {0} };
+
+    /// What this look-up stands on. No call changes it.
+    ghost kept: { Self → Self.Kept };
+
     /// Answers the finest mapped page among a page and its ancestors; `page` is below the page count.
     fn find(&mut self, page: u32) -> Found
         requires { page < pages_of (shape self.old) }
         ensures finest { IsFinest (shape self.new) (version self.new) (says self.new) page result }
         ensures said { (note : Note) → says self.old note → says self.new note }
         ensures version { version self.new ≡ version self.old }
-        ensures shape { shape self.new ≡ shape self.old };
+        ensures shape { shape self.new ≡ shape self.old }
+        ensures kept { Self.kept self.new ≡ Self.kept self.old };
 
     /// Answers the word of the texel in column `x` and row `y` of the found page's level, where the page was found by this
     /// look-up at this version and the texel lies in it.
@@ -47,5 +54,6 @@ pub trait Lookup {
         ensures read { says self.new (WordNote (version self.new) found.now.slot (place_in_tile (shape self.new) x y) result) }
         ensures said { (note : Note) → says self.old note → says self.new note }
         ensures version { version self.new ≡ version self.old }
-        ensures shape { shape self.new ≡ shape self.old };
+        ensures shape { shape self.new ≡ shape self.old }
+        ensures kept { Self.kept self.new ≡ Self.kept self.old };
 }

@@ -29,6 +29,7 @@ pub(crate) fn found_for<K: Lookup>(lookup: &mut K, before: u32, found: Found, pa
     ensures said { (note : Note) → K.says lookup.old note → K.says lookup.new note }
     ensures version { K.version lookup.new ≡ K.version lookup.old }
     ensures shape { K.shape lookup.new ≡ K.shape lookup.old }
+    ensures kept { K.kept lookup.new ≡ K.kept lookup.old }
 {
     if page == before {
         found
@@ -57,6 +58,7 @@ pub(crate) fn word_at_place<K: Lookup>(
     ensures said { (note : Note) → K.says lookup.old note → K.says lookup.new note }
     ensures version { K.version lookup.new ≡ K.version lookup.old }
     ensures shape { K.shape lookup.new ≡ K.shape lookup.old }
+    ensures kept { K.kept lookup.new ≡ K.kept lookup.old }
 {
     lookup.texel(found, column >> found.level, line >> found.level)
 }

@@ -65,6 +65,7 @@ pub fn draw_row<K: Lookup>(lookup: &mut K, shot: &Shot, y: u32, out: &mut [u8], 
     ensures said { (note : Note) → K.says lookup.old note → K.says lookup.new note }
     ensures version { K.version lookup.new ≡ K.version lookup.old }
     ensures shape { K.shape lookup.new ≡ K.shape lookup.old }
+    ensures kept { K.kept lookup.new ≡ K.kept lookup.old }
 {
     let row = row_of(shot, y);
     let columns = shot.path.width();
@@ -126,6 +127,7 @@ fn draw_pixels<K: Lookup, const DEPTH: u32>(
     ensures said { (note : Note) → K.says lookup.old note → K.says lookup.new note }
     ensures version { K.version lookup.new ≡ K.version lookup.old }
     ensures shape { K.shape lookup.new ≡ K.shape lookup.old }
+    ensures kept { K.kept lookup.new ≡ K.kept lookup.old }
 {
     let level = row.level();
     let (column, line) = row.texel(0);

@@ -1,9 +1,6 @@
 -- What is true of a still table.
 use Rattle.std.proofs.Common.{◌≡◌, ℕ, ◌+◌, Option, Some, None, List, length, refl, sym, ap, ◌∙◌, arith}
-use Rattle.vt_pages.specs.Shape.{Shape}
 use Rattle.vt_draw.specs.Lookups.{Note, EntryNote, WordNote}
-use Rattle.vt_draw.specs.Shots.{AreDrawn}
-use Rattle.vt_camera.specs.Rows.{RowView}
 use Rattle.vt_journal.specs.Changes.{newest}
 use Rattle.vt_definitions.specs.Depths.{word_at}
 use Rattle.vt_table.specs.Views.{TableView, word_in, tile_word}
@@ -29,26 +26,6 @@ true_back u v on (WordNote version frame place word) h =
     let mapped : newest u.changes h.1.0 ≡ Some frame = mapped_alike (newest u.changes h.1.0) (newest v.changes h.1.0) frame here.1 h.1.1 in
     let read = on (WordNote (length u.changes) frame place (word_in u frame place)) (refl, (h.1.0, mapped), refl) in
     (h.0 ∙ sym here.0, (h.1.0, mapped), h.2 ∙ sym read.2)
-
--- a row that is drawn by what is said is drawn by all that is said besides
-pub drawn_by_more : (s : Shape) (d version n : ℕ) (says more : Note → Type 0) (row : RowView) (bytes : List ℕ)
-    → ((note : Note) → says note → more note) → AreDrawn s d version says row n bytes → AreDrawn s d version more row n bytes
-drawn_by_more s d version n says more row bytes on drawn x inside =
-    let h = drawn x inside in
-    record {
-      found = h.found;
-      word = h.word;
-      finest = record {
-        no_finer = h.finest.no_finer;
-        level_inside = h.finest.level_inside;
-        page = h.finest.page;
-        level = h.finest.level;
-        unmapped = λ k from to. on _ (h.finest.unmapped k from to);
-        mapped = on _ h.finest.mapped;
-      };
-      read = on _ h.read;
-      shown = h.shown;
-    }
 
 -- a word of the tile that was found is the table's
 pub found_word : (v : TableView) (frame depth place : ℕ) (tile : List ℕ) → IsFound v frame depth tile → word_at depth tile place ≡ word_in v frame place

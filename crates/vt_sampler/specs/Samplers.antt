@@ -1,5 +1,5 @@
 -- The rows of a sampler, and what contracts see of it.
-use Rattle.std.specs.Prelude.{◌≡◌, ℕ, ◌+◌, ◌-◌, ◌*◌, ◌/◌, ◌%◌, ◌<◌, ◌≤◌, ◌==◌, List, length, filter, slice_range}
+use Rattle.std.specs.Prelude.{◌≡◌, ℕ, ◌+◌, ◌-◌, ◌*◌, ◌/◌, ◌%◌, ◌<◌, ◌≤◌, ◌==◌, List, length, filter, slice_index, slice_range}
 use Rattle.std.specs.List.{range_with_len}
 use Rattle.vt_definitions.specs.Limits.{most_samplers}
 use Rattle.vt_definitions.specs.Depths.{texel_length}
@@ -11,15 +11,15 @@ use Rattle.vt_camera.specs.Paths.{PathView, ArePictureSides}
 unfoldable pub own_rows : ℕ → ℕ → ℕ → List ℕ
 own_rows sampler samplers height = filter (λ y. y % samplers == sampler) (range_with_len 0 height)
 
--- its number among so many samplers, the sides and the depth of its pictures, the version at which its rows were drawn, their bytes one row
--- after the other, and for each page how many of their pixels want it
+-- its number among so many samplers, the sides and the depth of its pictures, the version at which each of its rows was drawn, their bytes
+-- one row after the other, and for each page how many of their pixels want it
 pub record SamplerView : Type 0 where
   pub sampler : ℕ
   pub samplers : ℕ
   pub width : ℕ
   pub height : ℕ
   pub depth : ℕ
-  pub version : ℕ
+  pub versions : List ℕ
   pub bytes : List ℕ
   pub counts : List ℕ
 
@@ -42,7 +42,7 @@ row_at v y = row_in v.samplers (row_length v.depth v.width) v.bytes y
 
 -- the version at which a row of a sampler was drawn
 abbrev pub version_at : SamplerView → ℕ → ℕ
-version_at v y = v.version
+version_at v y = slice_index v.versions (y / v.samplers)
 
 -- the sampler draws pictures of a path, of a texture that is cut into pages, at a depth
 pub record IsFor (v : SamplerView) (s : Shape) (path : PathView) (d : ℕ) : Type 0 where
@@ -62,4 +62,5 @@ pub record IsSampler (v : SamplerView) : Type 0 where
   pub sides : ArePictureSides v.width v.height
   pub low_depth : 1 ≤ v.depth
   pub high_depth : v.depth ≤ 2
+  pub rows : length v.versions ≡ own_count v.sampler v.samplers v.height
   pub room : length v.bytes ≡ own_count v.sampler v.samplers v.height * row_length v.depth v.width

@@ -132,6 +132,8 @@ impl Lookup for StillLookup<'_> {
 
     ghost says = { IsTrueOf };
 
+    ghost kept = { λ _. tt };
+
     #[inline]
     fn find(&mut self, page: u32) -> Found {
         let found = finest_mapped(self.table, self.geometry, page);

@@ -40,6 +40,13 @@ pub(crate) fn clear(counts: &mut [u32])
     counts.fill(0);
 }
 
+/// Sets the version of each row.
+pub(crate) fn set_all(versions: &mut [u64], version: u64)
+    ensures { (i : ℕ) → i < length versions.new → slice_index versions.new i ≡ version }
+{
+    versions.fill(version);
+}
+
 /// Draws the rows of a sampler of a picture over a table, one after the other, and counts their pixels.
 pub(crate) fn draw_rows(
     table: &StillTable,

@@ -1,24 +1,29 @@
 //! A sampler, which draws its share of the rows of a picture.
 
-ghost use Rattle.std.specs.Prelude.{◌≡◌, ℕ, ◌<◌, ◌≤◌, length, slice_index, IfOk};
+ghost use Rattle.std.specs.Prelude.{◌≡◌, ℕ, ◌<◌, ◌≤◌, true, List, length, slice_index, IfOk};
 ghost use Rattle.vt_definitions.specs.Limits.{most_samplers};
 ghost use Rattle.vt_definitions.specs.Depths.{IsDepth};
 ghost use Rattle.vt_draw.specs.Shots.{shot_row, AreDrawn, pixels_in_rows};
+ghost use Rattle.vt_grace.specs.Tokens.{IsPassOf};
+ghost use Rattle.vt_lookup.specs.Notes.{Fits, IsNotedIn, HasHeldMore};
+ghost use Rattle.vt_sampler.specs.Held.{WasHeld};
 ghost use Rattle.vt_sampler.specs.Notes.{IsTrueOf, MapsRoot};
 ghost use Rattle.vt_sampler.specs.Samplers.{SamplerView, IsOwn, IsFor, IsSampler, own_rows, row_length, row_at, version_at};
 
-use crate::rows::{clear, draw_rows};
+use crate::held_rows::draw_held_rows;
+use crate::rows::{clear, draw_rows, set_all};
 use std::alloc::Global;
 use std::marker::Model;
 use vt_camera::Path;
 use vt_definitions::texel_length;
 use vt_draw::Shot;
-use vt_outside::NoMemory;
+use vt_grace::{Pass, Words};
+use vt_outside::{Gate, NoMemory};
 use vt_pages::Geometry;
 use vt_table::StillTable;
 
 /// One of the samplers that share the rows of a picture: each draws the rows whose number leaves its own by the number of
-/// samplers. Contracts see the rows' bytes, the version at which they were drawn, and how many of their pixels want each
+/// samplers. Contracts see the rows' bytes, the version at which each was drawn, and how many of their pixels want each
 /// page.
 #[derive(Drop)]
 pub struct Sampler {
@@ -27,7 +32,7 @@ pub struct Sampler {
     width: u32,
     height: u32,
     depth: u32,
-    version: u64,
+    versions: Vec<u64>,
     // The rows one after the other, from the top.
     bytes: Vec<u8>,
     counts: Vec<u32>,
@@ -44,7 +49,7 @@ impl Model for Sampler {
       width = s.width;
       height = s.height;
       depth = s.depth;
-      version = s.version;
+      versions = s.versions.items;
       bytes = s.bytes.items;
       counts = s.counts.items;
     } };
@@ -55,7 +60,7 @@ impl Model for Sampler {
       width = s.width;
       height = s.height;
       depth = s.depth;
-      version = s.version;
+      versions = s.versions.items;
       bytes = s.bytes.items;
       counts = s.counts.items;
     }) };
@@ -76,11 +81,12 @@ impl Sampler {
         requires few { samplers ≤ most_samplers }
         requires depth { IsDepth depth }
         ensures sampler { IfOk result (λ v. (v.sampler ≡ sampler) × (v.samplers ≡ samplers)) }
-        ensures version { IfOk result (λ v. v.version ≡ 0) }
+        ensures version { IfOk result (λ v. (y : ℕ) → version_at v y ≡ 0) }
         ensures for_it { IfOk result (λ v. IsFor v geometry.now path.now depth) }
     {
         let line = texel_length(depth) * path.width() as usize;
         let rows = (path.height() + samplers - 1 - sampler) / samplers;
+        let versions = Vec::from_elem(alloc, 0, rows as usize)?;
         let bytes = Vec::from_elem(alloc, 0, rows as usize * line)?;
         let counts = Vec::from_elem(alloc, 0, geometry.page_count() as usize)?;
         Ok(Sampler {
@@ -89,7 +95,7 @@ impl Sampler {
             width: path.width(),
             height: path.height(),
             depth,
-            version: 0,
+            versions,
             bytes,
             counts,
         })
@@ -116,7 +122,7 @@ impl Sampler {
         ensures for_it { IsFor self.new shot.now.geometry.now shot.now.path.now shot.now.depth }
     {
         clear(self.counts.as_mut_slice());
-        self.version = table.journal().version();
+        set_all(self.versions.as_mut_slice(), table.journal().version());
         draw_rows(
             table,
             shot,
@@ -125,6 +131,50 @@ impl Sampler {
             self.bytes.as_mut_slice(),
             self.counts.as_mut_slice(),
         );
+    }
+
+    /// Draws its rows of a picture over a table of words, from the top, each in the newest version, which it holds meanwhile,
+    /// and counts how many of their pixels want each page. It gives the pass back.
+    ///
+    /// The pass is this sampler's and was given at a version that maps the root, and all are for one path, one texture and one
+    /// depth. The gate is told of a row after the pin and before its first look-up. It takes no memory, refuses nothing, and
+    /// waits only where the gate does.
+    pub fn draw<G: Gate>(&mut self, shot: &Shot, words: &Words, pass: Pass, gate: &G) -> Pass
+        requires for_it { IsFor self.old shot.now.geometry.now shot.now.path.now shot.now.depth }
+        requires picture { shot.now.picture < length shot.now.path.now.cameras }
+        requires fits { Fits shot.now.geometry.now words.now.sizes }
+        requires of { IsPassOf words.now pass }
+        requires rooted { pass.view.rooted ≡ true }
+        requires own { pass.view.sampler ≡ self.old.sampler }
+        ensures of { IsPassOf words.now result }
+        ensures pass { (more : List ℕ) × HasHeldMore pass.view result.view more }
+        ensures drawn { (y : ℕ) → IsOwn self.new y
+            → let row = shot_row shot.now.geometry.now shot.now.path.now shot.now.picture y in
+            AreDrawn shot.now.geometry.now shot.now.depth (version_at self.new y) (IsNotedIn result.view) row
+            shot.now.path.now.width (row_at self.new y) }
+        ensures full { (y : ℕ) → IsOwn self.new y
+            → length (row_at self.new y) ≡ row_length shot.now.depth shot.now.path.now.width }
+        ensures held { (y : ℕ) → IsOwn self.new y → WasHeld pass.view result.view (version_at self.new y) }
+        ensures rising { (y z : ℕ) → IsOwn self.new y → IsOwn self.new z → y ≤ z
+            → version_at self.new y ≤ version_at self.new z }
+        ensures counted { (p : ℕ) → p < length self.new.counts
+            → let rows = own_rows self.new.sampler self.new.samplers self.new.height in
+            slice_index self.new.counts p ≡ pixels_in_rows shot.now.geometry.now shot.now.path.now shot.now.picture rows p }
+        ensures sampler { (self.new.sampler ≡ self.old.sampler) × (self.new.samplers ≡ self.old.samplers) }
+        ensures for_it { IsFor self.new shot.now.geometry.now shot.now.path.now shot.now.depth }
+    {
+        clear(self.counts.as_mut_slice());
+        draw_held_rows(
+            pass,
+            words,
+            shot,
+            self.sampler,
+            self.samplers,
+            gate,
+            self.bytes.as_mut_slice(),
+            self.versions.as_mut_slice(),
+            self.counts.as_mut_slice(),
+        )
     }
 
     /// The bytes of one of its rows: three samples a pixel, the most significant byte of a sample first.
@@ -143,8 +193,7 @@ impl Sampler {
         requires { IsOwn self.now y }
         ensures { result ≡ version_at self.now y }
     {
-        let _ = y;
-        self.version
+        self.versions[(y / self.samplers) as usize]
     }
 
     /// For each page how many pixels of its rows want it.

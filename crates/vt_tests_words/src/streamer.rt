@@ -2,4 +2,5 @@
 
 mod beside;
 mod held;
+pub(crate) mod patient;
 pub(crate) mod small;

@@ -48,6 +48,8 @@ impl Lookup for Table {
       | WordNote version frame place word ↦ Unit {0}
     ] };
 
+    ghost kept = { λ _. tt };
+
     fn find(&mut self, page: u32) -> Found {
         let level = coarser(self.geometry.page_at(page).level, self.least);
         let page = self.geometry.ancestor_at(page, level);

@@ -20,6 +20,7 @@ loop-x-init g c = record {
   shape = c.find-found.ensures.shape ∙ c.requires.shape;
   version = c.find-found.ensures.version;
   said = c.find-found.ensures.said;
+  kept = c.find-found.ensures.kept;
   finest = c.find-found.ensures.finest;
   drawn = λ i none. absurd (omega arith);
   inside = omega arith;
@@ -75,6 +76,7 @@ loop-x-preserved g c =
       shape = shape;
       version = number;
       said = λ note h. c.word_at_place-word.ensures.said note (c.found_for-found.ensures.said note (c.loop-x.invariant.said note h));
+      kept = c.word_at_place-word.ensures.kept ∙ c.found_for-found.ensures.kept ∙ c.loop-x.invariant.kept;
       finest = finest;
       drawn = drawn-more s g.row.DEPTH version (g.K.Lookup.says c.loop-x.lookup) (g.K.Lookup.says last) row x c.loop-x.out c.put_word.new.bytes
           (λ note h. c.word_at_place-word.ensures.said note (c.found_for-found.ensures.said note h)) c.put_word.ensures.kept drawn c.loop-x.invariant.drawn;
@@ -149,6 +151,9 @@ returns-clause-version g c = c.loop-x.invariant.version
 
 pub returns-clause-said : goal.returns-clause-said
 returns-clause-said g c = c.loop-x.invariant.said
+
+pub returns-clause-kept : goal.returns-clause-kept
+returns-clause-kept g c = c.loop-x.invariant.kept
 
 pub find-found-requires : goal.find-found-requires
 find-found-requires g c = subst (λ (s : Shape). c.page_at_place-wanted.result < pages_of s) (sym c.requires.shape) c.page_at_place-wanted.ensures.inside

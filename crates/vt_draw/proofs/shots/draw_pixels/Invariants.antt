@@ -10,6 +10,7 @@ invariant-loop-x g l = record {
   shape : g.K.Lookup.shape l.lookup ≡ l.geometry;
   version : g.K.Lookup.version l.lookup ≡ g.K.Lookup.version l.fn.lookup;
   said : (note : Note) → g.K.Lookup.says l.fn.lookup note → g.K.Lookup.says l.lookup note;
+  kept : g.K.Lookup.kept l.lookup ≡ g.K.Lookup.kept l.fn.lookup;
   finest : IsFinest (g.K.Lookup.shape l.lookup) (g.K.Lookup.version l.lookup) (g.K.Lookup.says l.lookup) l.wanted l.found;
   drawn : (i : ℕ) → i < l.x → IsDrawn l.geometry g.row.DEPTH (g.K.Lookup.version l.fn.lookup) (g.K.Lookup.says l.lookup) l.row i
       (texel_bytes g.row.DEPTH l.out i);

@@ -99,5 +99,11 @@ returns-else-shot-eq1-clause-said g c = c.draw_pixels-else-shot-eq1.ensures.said
 pub returns-else-shot-eq1-clause-version : goal.returns-else-shot-eq1-clause-version
 returns-else-shot-eq1-clause-version g c = c.draw_pixels-else-shot-eq1.ensures.version
 
+pub returns-then-shot-eq1-clause-kept : goal.returns-then-shot-eq1-clause-kept
+returns-then-shot-eq1-clause-kept g c = c.draw_pixels.ensures.kept
+
+pub returns-else-shot-eq1-clause-kept : goal.returns-else-shot-eq1-clause-kept
+returns-else-shot-eq1-clause-kept g c = c.draw_pixels-else-shot-eq1.ensures.kept
+
 pub returns-else-shot-eq1-clause-shape : goal.returns-else-shot-eq1-clause-shape
 returns-else-shot-eq1-clause-shape g c = c.draw_pixels-else-shot-eq1.ensures.shape

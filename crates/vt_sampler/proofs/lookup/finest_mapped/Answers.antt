@@ -5,7 +5,8 @@ use Rattle.vt_pages.specs.Shape.{Shape}
 use Rattle.vt_pages.specs.Pages.{levels_of, index_of, level_of, ancestor_of, root_of}
 use Rattle.vt_journal.specs.Changes.{newest}
 use Rattle.vt_sampler.specs.Notes.{entry_number}
-use Rattle.vt_sampler.proofs.Climbing.{half_more, ancestor_named, ancestor_index, ancestor_level, some_mapped}
+use Rattle.vt_lookup.proofs.Climbing.{half_more, ancestor_named, ancestor_index, ancestor_level}
+use Rattle.vt_sampler.proofs.Climbing.{some_mapped}
 use Rattle.vt_sampler.proofs.lookup.finest_mapped.Goals as goal
 
 pub found_at-requires-clause-name : goal.found_at-requires-clause-name

@@ -1,9 +1,10 @@
 use Rattle.std.proofs.Common.{◌≡◌, ◌∙◌, ap, subst, sym, length}
 use Rattle.vt_draw.specs.Lookups.{Note}
+use Rattle.vt_draw.proofs.DrawnRows.{drawn_by_more}
 use Rattle.vt_draw.specs.Shots.{shot_row, AreDrawn}
 use Rattle.vt_table.specs.Views.{TableView}
 use Rattle.vt_sampler.specs.Notes.{IsTrueOf}
-use Rattle.vt_sampler.proofs.Truths.{true_back, drawn_by_more}
+use Rattle.vt_sampler.proofs.Truths.{true_back}
 use Rattle.vt_sampler.proofs.rows.draw_one_row.Goals as goal
 
 pub returns-clause-drawn : goal.returns-clause-drawn

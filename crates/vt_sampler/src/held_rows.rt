@@ -1,0 +1,73 @@
+//! The rows of a sampler, each drawn under a hold of its own.
+
+ghost use Rattle.std.specs.Prelude.{◌≡◌, ℕ, ◌+◌, ◌*◌, ◌/◌, ◌%◌, ◌<◌, ◌≤◌, true, List, length, slice_index};
+ghost use Rattle.vt_definitions.specs.Limits.{most_samplers};
+ghost use Rattle.vt_definitions.specs.Depths.{IsDepth, texel_length};
+ghost use Rattle.vt_pages.specs.Pages.{pages_of};
+ghost use Rattle.vt_draw.specs.Shots.{shot_row, AreDrawn, pixels_in_rows};
+ghost use Rattle.vt_grace.specs.Tokens.{IsPassOf};
+ghost use Rattle.vt_lookup.specs.Notes.{Fits, IsNotedIn, HasHeldMore};
+ghost use Rattle.vt_sampler.specs.Held.{WasHeld};
+ghost use Rattle.vt_sampler.specs.Samplers.{own_rows, own_count, row_in, row_length};
+
+use vt_definitions::texel_length;
+use vt_draw::Shot;
+use vt_grace::{Pass, Words};
+use vt_lookup::draw_held;
+use vt_outside::Gate;
+
+/// Draws the rows of a sampler of a picture over a table of words, one after the other, each in the newest version, and tells
+/// at which version each was drawn.
+pub(crate) fn draw_held_rows<G: Gate>(
+    pass: Pass,
+    words: &Words,
+    shot: &Shot,
+    sampler: u32,
+    samplers: u32,
+    gate: &G,
+    bytes: &mut [u8],
+    versions: &mut [u64],
+    counts: &mut [u32],
+) -> Pass
+    requires of { IsPassOf words.now pass }
+    requires fits { Fits shot.now.geometry.now words.now.sizes }
+    requires rooted { pass.view.rooted ≡ true }
+    requires one_of { sampler < samplers }
+    requires few { samplers ≤ most_samplers }
+    requires depth { IsDepth shot.now.depth }
+    requires picture { shot.now.picture < length shot.now.path.now.cameras }
+    requires bytes { length bytes.old ≡ own_count sampler samplers shot.now.path.now.height
+        * row_length shot.now.depth shot.now.path.now.width }
+    requires rows { length versions.old ≡ own_count sampler samplers shot.now.path.now.height }
+    requires pages { length counts.old ≡ pages_of shot.now.geometry.now }
+    requires none { (p : ℕ) → p < length counts.old → slice_index counts.old p ≡ 0 }
+    ensures of { IsPassOf words.now result }
+    ensures pass { (more : List ℕ) × HasHeldMore pass.view result.view more }
+    ensures drawn { (y : ℕ) → y < shot.now.path.now.height → y % samplers ≡ sampler
+        → let row = shot_row shot.now.geometry.now shot.now.path.now shot.now.picture y in
+        let line = row_length shot.now.depth shot.now.path.now.width in
+        AreDrawn shot.now.geometry.now shot.now.depth (slice_index versions.new (y / samplers)) (IsNotedIn result.view) row
+        shot.now.path.now.width (row_in samplers line bytes.new y) }
+    ensures held { (y : ℕ) → y < shot.now.path.now.height → y % samplers ≡ sampler
+        → WasHeld pass.view result.view (slice_index versions.new (y / samplers)) }
+    ensures rising { (y z : ℕ) → z < shot.now.path.now.height → y % samplers ≡ sampler → z % samplers ≡ sampler → y ≤ z
+        → slice_index versions.new (y / samplers) ≤ slice_index versions.new (z / samplers) }
+    ensures counted { (p : ℕ) → p < length counts.new
+        → let rows = own_rows sampler samplers shot.now.path.now.height in
+        slice_index counts.new p ≡ pixels_in_rows shot.now.geometry.now shot.now.path.now shot.now.picture rows p }
+{
+    let line = texel_length(shot.depth) * shot.path.width() as usize;
+    let height = shot.path.height();
+    let mut pass = pass;
+    let mut at = 0;
+    let mut y = sampler;
+    while y < height {
+        let row = &mut bytes[at..at + line];
+        let (next, version) = draw_held(pass, words, shot, sampler, y, gate, row, counts);
+        pass = next;
+        versions[(y / samplers) as usize] = version;
+        at += line;
+        y += samplers;
+    }
+    pass
+}
