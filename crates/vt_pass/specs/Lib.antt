@@ -4,5 +4,6 @@ pub mod GivenPasses
 pub mod Kits
 pub mod PassKits
 pub mod Placed
+pub mod HeldPasses
 pub mod WordMachines
 pub mod WordLaws
