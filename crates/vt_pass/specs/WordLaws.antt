@@ -41,6 +41,7 @@ same_but_picture a b h = λ i. record { setup = h.setup i; files = h.files i; jo
 
 -- how a pass ends does not depend on the rows and counts before it
 module _ (draws : Drawing) (drawn : PathView → ℕ → ℕ → ℕ → List ℕ → Type 0) (job : Job) (a b c : MachineState) (h : IsUntouched a b) where
+  -- what was run after the one was run after the other
   pub ran_after : (report : PassReport) → Ran draws drawn job report b c → Ran draws drawn job report a c
   ran_after report ran =
       let moved = subst (λ s. Ran draws drawn job report s c) (same_but_picture a b h) ran in
@@ -53,11 +54,13 @@ module _ (draws : Drawing) (drawn : PathView → ℕ → ℕ → ℕ → List �
         picture = moved.picture;
       }
 
+  -- and so is a pass that could not be run to its end
   pub broke_after : Broke job b c → Broke job a c
   broke_after broke =
       let moved = subst (λ s. Broke job s c) (same_but_picture a b h) broke in
       record { setup = moved.setup; read = moved.read }
 
+  -- however it ends
   pub ends_after : (idle : Type 0) (result : Result PassReport NoMemory) → Ends draws drawn idle job result b c → Ends draws drawn idle job result a c
   ends_after idle result e = record { ran = ran_if result e.ran; goes_on = e.goes_on; broke = broke_if result e.broke } where
     ran_if : (r : Result PassReport NoMemory) → IfOk r (λ report. Ran draws drawn job report b c) → IfOk r (λ report. Ran draws drawn job report a c)
@@ -72,9 +75,11 @@ module _ (draws : Drawing) (drawn : PathView → ℕ → ℕ → ℕ → List �
 module _ {F : Type 0} (g : FileMeanings F) (words : WordsValue) (q : Queues) (was b d : WordStreamer) (k l : KitView F) (job : Job)
     (a c : List (QueuedView F)) (e f : List WordSampler) (out : AreOut g q k l was.answers b.answers a e)
     (streamer_is : b ≡ record was { answers = b.answers }) where
+  -- a loader was made of each store
   dealt : IsDealt g q k.round l.round was.answers b.answers k.stores a
   dealt = out.dealt
 
+  -- how the round of the loaders began
   pub round : Round F
   round = record {
     asks = view_of k.round.asks;
@@ -165,9 +170,11 @@ module _ {F : Type 0} (g : FileMeanings F) (job : Job) (m n : WordView F) (a c :
     (mustered : IsMustered g m n a e b) (number : length c ≡ length a) (number_f : length f ≡ length e)
     (did_load : AllDid (HasLoaded g n.queues) a c) (did_draw : AllDid (HasDrawn n.words job.scene job.picture) e f)
     (did_stream : HasFed n.words n.queues job.batch b d) where
+  -- how the work began
   z : Begun F
   z = begun g m.words m.queues mustered.was b d m.kit n.kit job a c e f mustered.out mustered.streamer_is
 
+  -- it leaves what may be moved back
   may_finish : MayFinish g n.words n.queues n.kit job c f d z
   unfolding z
   may_finish = subst (λ (x : WordsValue × Queues). MayFinish g x.0 x.1 n.kit job c f d
@@ -183,6 +190,7 @@ module _ {F : Type 0} (g : FileMeanings F) (job : Job) (m n : WordView F) (a c :
   pub come_back : (z : Begun F) × MayFinish g n.words n.queues n.kit job c f d z
   come_back = (z, may_finish)
 
+  -- and it began with what the machine was
   before : IsUntouched (word_state g m) (kit_state g n.words b.streamer.writer.journal (kit_before n.kit z))
   unfolding z
   before = subst (λ (x : WordsValue × Option WordStreamer). IsUntouched (kit_state g m.words (journal_by x.1) m.kit)

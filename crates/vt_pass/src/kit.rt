@@ -21,6 +21,7 @@ ghost use Rattle.vt_rounds.specs.Sizes.{AreSized};
 ghost use Rattle.vt_streaming.specs.declared.report.StreamReport.{StreamReport as Told};
 ghost use Rattle.vt_pass.specs.declared.workers.WordStreamer.{WordStreamer as Own};
 ghost use Rattle.vt_pass.specs.RoundKits.{IsSetUp, IsAsked};
+ghost use Rattle.vt_pass.specs.GivenPasses.{HasGiven};
 ghost use Rattle.vt_pass.specs.Kits.{KitView, AreSamplersOf, IsKit, IsFitKit, IsIdleKit, AreAllIn, IsPreparedKit, IsAskedKit, IsReadyKit, HasRoom, HasStreamerRoom, IsSameKit, kit_row, kit_rows, lines_of, counted_together};
 ghost use Rattle.vt_pass.specs.WordMachines.{AreOut, Begun, MayFinish, KitRan, kit_before};
 
@@ -278,6 +279,7 @@ impl<F: File> WordKit<F> {
             → IsReadyKit F.File words.now q (record { streamer = streamer.new; answers = answers; report = report }) self.new batch }
         ensures rest { self.new ≡ record self.old { samplers = self.new.samplers } }
         ensures journal { streamer.new.writer.journal ≡ streamer.old.writer.journal }
+        ensures given { HasGiven streamer.old.writer streamer.new.writer }
     {
         give_passes(words, streamer, self.samplers.slice_mut());
     }
