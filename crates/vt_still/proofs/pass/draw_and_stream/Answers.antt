@@ -1,5 +1,5 @@
 use Rattle.std.proofs.Common.{List, refl, sym, subst, ap, rules, length}
-use Rattle.std.specs.Prelude.{All, true}
+use Rattle.std.specs.Prelude.{All}
 use Rattle.std.specs.List.{refill}
 use Rattle.vt_plan.specs.declared.batches.Planned.{Planned}
 use Rattle.vt_loaders.specs.declared.queued.Queues.{Queues}

@@ -1,4 +1,4 @@
-use Rattle.std.proofs.Common.{true, length, ap, sym, ◌∙◌, subst}
+use Rattle.std.proofs.Common.{length, ap, sym, ◌∙◌, subst}
 use Rattle.vt_table.specs.Views.{TableView}
 use Rattle.vt_machine.specs.Machines.{Setup, MachineState}
 use Rattle.vt_workers.specs.Jobs.{job_of}

@@ -1,5 +1,5 @@
 use Rattle.std.proofs.Common.{◌≡◌, List, length, refl, sym, ap, ◌∙◌, subst, arith}
-use Rattle.std.specs.Prelude.{All, true}
+use Rattle.std.specs.Prelude.{All}
 use Rattle.vt_journal.specs.Changes.{newest}
 use Rattle.vt_plan.specs.declared.batches.Planned.{Planned}
 use Rattle.vt_machine.specs.Outcomes.{IsBatchFor}
