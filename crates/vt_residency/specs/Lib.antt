@@ -1,0 +1,5 @@
+pub mod Tallies
+pub mod Loads
+pub mod Places
+pub mod Changes
+pub mod Residencies
