@@ -7,9 +7,13 @@ use Rattle.vt_residency.specs.declared.places.Place.{Place}
 use Rattle.vt_residency.specs.Places.{IsPlaceOf}
 use Rattle.std.specs.List.{position_or_len}
 use Rattle.vt_pages.specs.Shape.{Shape}
-use Rattle.vt_pages.specs.Pages.{IsWithinLimits, level_of, pages_of, parent_of}
+use Rattle.vt_pages.specs.Pages.{IsWithinLimits, level_of, levels_of, pages_of, parent_of, parent_name, index_of, name_at, root_of, line_of}
 use Rattle.vt_pages.specs.Lookups.{lookup}
-use Rattle.vt_pages.proofs.Parents.{parent_facts, root_facts, line_begins}
+use Rattle.vt_pages.proofs.Parents.{IsParent, parent_facts, root_facts, line_begins}
+use Rattle.vt_pages.proofs.Lines.{parent_is, reaches_root}
+use Rattle.vt_evict.specs.Views.{RecencyView, IsTable, is_pinned}
+use Rattle.std.proofs.lemmas.Bool.{false≢true}
+use Rattle.std.proofs.Common.{zero, ◌-◌, ◌≤◌, nat_le, sym}
 
 -- what is found in a list that stands for a line
 find_in : (ℕ → Bool) → List ℕ → Option ℕ
@@ -63,3 +67,34 @@ found_up s es p q r limits inside e low = by (lookup_up s (is_mapped es) p q lim
 pub found_none : (s : Shape) (es : List ℕ) (p : ℕ) → IsWithinLimits s → p < pages_of s → parent_of s p ≡ None → slice_index es p ≡ 0
     → lookup s (is_mapped es) p ≡ None
 found_none s es p limits inside e low = lookup_none s (is_mapped es) p limits inside e (low_of es p low)
+
+some_not_none : (x : ℕ) → (let o : Option ℕ = Some x in o) ≡ None → ⊥
+some_not_none x e = false≢true (sym (ap is_some e)) where
+  is_some : Option ℕ → Bool
+  is_some None = false
+  is_some (Some x) = true
+
+le_true : (a b : ℕ) → a ≤ b → nat_le a b ≡ true
+le_true a b h = grind (arith, nat_tests)
+
+-- each page has a look-up, since the root is mapped
+pub found_some : (v : RecencyView) → IsTable v → (up p : ℕ) → level_of v.shape p + up + 1 ≡ levels_of v.shape → p < pages_of v.shape
+    → lookup v.shape (is_mapped v.entries) p ≡ None → ⊥
+found_some v h zero p level inside none =
+    let r = reaches_root v.shape p (omega (arith, h.limits.least_tile)) h.limits.least_width h.limits.least_height inside in
+    let is : p ≡ root_of v.shape = sym r.begins ∙ ap (slice_index (line_of v.shape p)) (let e : 0 ≡ levels_of v.shape - 1 - level_of v.shape p = omega (arith, level) in e) ∙ r.ends in
+    let pinned : is_pinned v p ≡ true = le_true (pages_of v.shape) (p + v.pinned) (omega (arith, is, r.root_is_last, h.some_pinned)) in
+    some_not_none p (sym (lookup_here v.shape (is_mapped v.entries) p h.limits inside (h.pinned_mapped p inside pinned)) ∙ none)
+found_some v h (suc up) p level inside none = step (is_mapped v.entries p) refl (found_some v h up q (omega (arith, facts.level, level)) facts.inside) where
+  q : ℕ
+  q = index_of v.shape (parent_name (name_at v.shape p))
+
+  parent : parent_of v.shape p ≡ Some q
+  parent = parent_is v.shape p (omega (arith, level))
+
+  facts : IsParent v.shape p q
+  facts = parent_facts v.shape p q h.limits inside parent
+
+  step : (b : Bool) → is_mapped v.entries p ≡ b → (lookup v.shape (is_mapped v.entries) q ≡ None → ⊥) → ⊥
+  step true high rest = some_not_none p (sym (lookup_here v.shape (is_mapped v.entries) p h.limits inside high) ∙ none)
+  step false low rest = rest (sym (lookup_up v.shape (is_mapped v.entries) p q h.limits inside parent low) ∙ none)

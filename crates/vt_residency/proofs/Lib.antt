@@ -4,3 +4,4 @@ pub mod Ranking
 pub mod Finding
 pub mod UnderWay
 pub mod Passing
+pub mod Leveling

@@ -3,3 +3,4 @@ pub mod Loads
 pub mod Places
 pub mod Changes
 pub mod Residencies
+pub mod Levels

@@ -4,6 +4,7 @@
 
 mod changes;
 mod feedback;
+mod levels;
 mod loads;
 mod places;
 mod residency;
@@ -11,6 +12,7 @@ mod tally;
 
 pub use changes::{Change, put_changes};
 pub use feedback::{Listed, are_pages, are_pages_or_none};
+pub use levels::{Level, level_at};
 pub use loads::{Load, NO_PAGE, put_loads};
 pub use places::Place;
 pub use residency::{Info, Residency};

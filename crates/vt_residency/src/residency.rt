@@ -1,7 +1,9 @@
 //! Which pages have frames, which loads are under way, and which are added next.
 
 ghost use Rattle.std.specs.Prelude.{◌≡◌, ℕ, ◌+◌, ◌-◌, ◌<◌, ◌≤◌, ◌^◌, ◌++◌, [], length, map, IfOk, OnOk, OnErr, MatchOption, None, slice_index};
+ghost use Rattle.std.specs.Bool.{MatchBool};
 ghost use Rattle.std.specs.List.{All, range_with_len};
+ghost use Rattle.vt_residency.specs.Levels.{IsLevelTable, HasLevelLength};
 ghost use Rattle.vt_definitions.specs.Limits.{most_frames};
 ghost use Rattle.vt_pages.specs.Pages.{IsWithinLimits, pages_of, pages_below, levels_of};
 ghost use Rattle.vt_pages.specs.Lookups.{lookup};
@@ -14,6 +16,7 @@ ghost use Rattle.vt_residency.specs.Residencies.{IsPlanned, IsPassed, IsKept, Is
 
 use crate::changes::change_count;
 use crate::feedback::{Listed, add_counts, add_listed, add_pages};
+use crate::levels::put_level;
 use crate::loads::{add_apart, unmarked};
 use crate::places::{Place, find};
 use crate::tally::Tally;
@@ -244,21 +247,25 @@ impl Residency {
     }
 
     /// The look-up of a page.
-    pub fn find(&self, page: u32) -> Option<Place>
+    pub fn find(&self, page: u32) -> Place
         requires { page < pages_of self.now.table.shape }
-        ensures { MatchOption result (lookup self.now.table.shape (is_mapped self.now.table.entries) page ≡ None)
-            (IsPlaceOf self.now.table.shape self.now.table.entries page) }
+        ensures { IsPlaceOf self.now.table.shape self.now.table.entries page result }
     {
         let _pages = self.geometry.page_count();
-        find(&self.geometry, self.recency.entries(), page)
+        match find(&self.geometry, self.recency.entries(), page) {
+            Some(place) => place,
+            None => unreachable!(),
+        }
     }
 
-    /// The entries of the table: for each page 0 where it is unmapped, else its frame and 1.
-    pub fn entries(&self) -> &[u32]
-        ensures entries { result.now ≡ self.now.table.entries }
-        ensures long { length result.now ≡ pages_of self.now.table.shape }
+    /// Writes the entries of a level's pages, for each 0 where it is unmapped, else its frame and 1, to a list that is as long as the
+    /// level has pages; otherwise changes nothing.
+    pub fn put_level(&self, level: u32, out: &mut [u32]) -> bool
+        ensures table { MatchBool result (IsLevelTable self.now.table.shape self.now.table.entries level out.new)
+            ((out.new ≡ out.old) × (HasLevelLength self.now.table.shape level (length out.old) → ⊥)) }
+        ensures long { length out.new ≡ length out.old }
     {
-        self.recency.entries()
+        put_level(&self.geometry, self.recency.entries(), level, out)
     }
 
     /// Settles the loads that are under way by a number for each: 0 for one that came, 2 for one that is still under way, and any other
