@@ -99,7 +99,7 @@ void vtex_cache_init(vtex_cache *at);
 
 /* Opens the cache for so many frames, at most 65535, in which the last `pinned` pages are mapped for good, the first of them to frame 0.
  * `pinned` is at least 1 and at most the frames and the pages. A cache that is open is opened anew. The pinned pages are the changes to be
- * uploaded before the first picture. Takes some 9 bytes a page and up to some 40 a free frame.
+ * uploaded before the first picture. Takes some 21 bytes a page and 13 a frame.
  * VTEX_DONE, VTEX_BAD_SHAPE, VTEX_BAD_NUMBER, VTEX_NO_MEMORY; on all but the first the cache is as it was. */
 uint32_t vtex_cache_open(vtex_cache *at, const vtex_shape *shape, uint32_t frames, uint32_t pinned);
 
@@ -109,7 +109,7 @@ uint32_t vtex_cache_open(vtex_cache *at, const vtex_shape *shape, uint32_t frame
  * under way that have neither the page nor the frame of one that is under way already. Pixels past 4294967295 for a page count as so many.
  *   VTEX_DONE; VTEX_BAD_NUMBER where the feedback does not fit, and VTEX_CLOSED: nothing changed; VTEX_NO_MEMORY: the table and the loads
  *   are as they were, and the next pass goes on.
- * Takes some 30 to 100 bytes a wanted page and 12 to 24 a load while it runs, and keeps those of the loads. */
+ * Takes some 20 to 80 bytes a wanted page and 12 a load while it runs, and keeps 12 a load. */
 
 /* A number of pixels for each page: `pages` numbers. Costs what there is. */
 uint32_t vtex_cache_pass_counts(vtex_cache *at, const uint32_t *pixels, size_t pages, uint32_t most);
@@ -125,7 +125,7 @@ uint32_t vtex_cache_loads(vtex_cache *at, vtex_load *out, size_t room);
 /* Says what became of the loads under way: a byte for each, in the order of vtex_cache_loads. For each that came its victim is unmapped and
  * its page mapped; one that was lost is forgotten; one that is under way stays so. The pages that came are the most recent ones.
  * VTEX_DONE; VTEX_BAD_NUMBER where `count` is another number: nothing changed; VTEX_CLOSED; VTEX_NO_MEMORY: the cache is closed now.
- * Takes some 26 bytes a load while it runs, and keeps some 12 for each that is under way or came. */
+ * Takes some 34 bytes a load while it runs, and keeps some 60 for each page that it maps to a frame that was free. */
 uint32_t vtex_cache_settle(vtex_cache *at, const uint8_t *states, size_t count);
 
 /* How many changes the last settling made, or the opening. If there is room for them all they are written to the front of `out`, in an
