@@ -43,8 +43,8 @@ module _ {F : Type 0} (g : FileMeanings F) (words : WordsValue) (q : Queues) (wa
     held = subst (λ (x : WordStreamer). AreHeldRows x.streamer.writer w.writer report.rows.elements) streamer_is done.held;
   }
 
-module _ {F : Type 0} (g : FileMeanings F) (words : WordsValue) (t : WordStreamer) (v : StreamerView) (k l m : KitView F) (asked : l ≡ record k { round = l.round })
-    (rest : m ≡ record l { samplers = m.samplers }) (given : HasGiven t.streamer.writer v.writer) where
+module _ {F : Type 0} (g : FileMeanings F) (words : WordsValue) (t : WordStreamer) (v : StreamerView) (k l m : KitView F)
+    (asked : l ≡ record k { round = l.round }) (rest : m ≡ record l { samplers = m.samplers }) (given : HasGiven t.streamer.writer v.writer) where
   journal : v.writer.journal ≡ t.streamer.writer.journal
   journal = ap (λ (x : WriterView). x.journal) given.rest
 

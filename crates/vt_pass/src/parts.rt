@@ -30,7 +30,8 @@ pub(crate) fn new_parts(
     ensures of { IfOk result (λ made. IsStreamerOf made.0.words made.1.streamer) }
     ensures sizes { IfOk result (λ made. made.0.words.sizes ≡ sizes_of geometry.now frames samplers) }
     ensures shape { IfOk result (λ made. made.1.streamer.shape ≡ geometry.now) }
-    ensures writer { IfOk result (λ made. made.1.streamer.writer ≡ first_writer (sizes_of geometry.now frames samplers)) }
+    ensures writer { IfOk result (λ made. made.1.streamer.writer
+        ≡ first_writer (sizes_of geometry.now frames samplers)) }
 {
     let (words, streamer) = Streamer::new(alloc, geometry, frames, samplers)?;
     let (queues, asks, answers) = new_queues(alloc, 1)?;

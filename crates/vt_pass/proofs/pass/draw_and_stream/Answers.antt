@@ -44,7 +44,8 @@ finish-requires g c =
     let number_f = same_number e _ us c.slice_mut-2.ensures.value (search rules) in
     let did_load = all_did (λ (x : Queues) (j : Job) (v w : QueuedView _). HasLoaded g.F.File x v w) q q _ _ refl (ap with c.slice.ensures) a _ ws
     c.slice_mut.ensures.value (search rules) c.work_together.ensures.loaders in
-    let did_draw = all_did (λ (x : WordsValue) (j : Job) (v w : WordSampler). HasDrawn x j.scene j.picture v w) words words _ _ refl (ap with c.slice.ensures) e _ us
+    let did_draw = all_did (λ (x : WordsValue) (j : Job) (v w : WordSampler). HasDrawn x j.scene j.picture v w) words words _ _ refl
+    (ap with c.slice.ensures) e _ us
     c.slice_mut-2.ensures.value (search rules) c.work_together.ensures.samplers in
     let did_stream = subst (λ (l : List Planned). HasFed words q l b d) c.slice.ensures c.work_together.ensures.streamer in
     lent_back g.F.File words q own b d c.args.kit.now c.muster-loaders.new.self job a (refill (length a) a ws) e (refill (length e) e us)
@@ -68,7 +69,8 @@ returns-clause-ran g c =
     let number_f = same_number e _ us c.slice_mut-2.ensures.value (search rules) in
     let did_load = all_did (λ (x : Queues) (j : Job) (v w : QueuedView _). HasLoaded g.F.File x v w) q q _ _ refl (ap with c.slice.ensures) a _ ws
     c.slice_mut.ensures.value (search rules) c.work_together.ensures.loaders in
-    let did_draw = all_did (λ (x : WordsValue) (j : Job) (v w : WordSampler). HasDrawn x j.scene j.picture v w) words words _ _ refl (ap with c.slice.ensures) e _ us
+    let did_draw = all_did (λ (x : WordsValue) (j : Job) (v w : WordSampler). HasDrawn x j.scene j.picture v w) words words _ _ refl
+    (ap with c.slice.ensures) e _ us
     c.slice_mut-2.ensures.value (search rules) c.work_together.ensures.samplers in
     let did_stream = subst (λ (l : List Planned). HasFed words q l b d) c.slice.ensures c.work_together.ensures.streamer in
     let back = lent_back g.F.File words q own b d c.args.kit.now c.muster-loaders.new.self job a (refill (length a) a ws) e (refill (length e) e us)
