@@ -1,6 +1,11 @@
--- A streamer over a texture of five pages in tiles of four texels.
-use Rattle.std.specs.Prelude.{◌≡◌, ℕ}
-use Rattle.vt_grace.specs.Values.{WordsValue}
+-- A streamer over a texture of five pages in tiles of four texels, and a sampler beside it.
+use Rattle.std.specs.Prelude.{◌≡◌, ℕ, true}
+use Rattle.vt_pages.specs.Shape.{Shape}
+use Rattle.vt_camera.specs.Paths.{PathView}
+use Rattle.vt_grace.specs.Values.{WordsValue, PassValue}
+use Rattle.vt_grace.specs.Tokens.{IsPassOf}
+use Rattle.vt_lookup.specs.Notes.{Fits}
+use Rattle.vt_sampler.specs.Samplers.{SamplerView, IsFor}
 use Rattle.vt_streamer.specs.Views.{StreamerView, IsStreamerOf}
 
 -- it is the streamer of these words, with so many frames
@@ -9,3 +14,13 @@ pub record IsSmall (words : WordsValue) (n : ℕ) (v : StreamerView) : Type 0 wh
   pub pages : words.sizes.pages ≡ 5
   pub texels : words.sizes.texels ≡ 4
   pub frames : words.sizes.frames ≡ n
+
+-- a sampler of its own may draw the pictures of a path over these words with a pass
+pub record MayDraw (words : WordsValue) (s : Shape) (path : PathView) (v : SamplerView) (p : PassValue) : Type 0 where
+  pub fits : Fits s words.sizes
+  pub for_it : IsFor v s path 1
+  pub sampler : v.sampler ≡ 0
+  pub samplers : v.samplers ≡ 1
+  pub of : IsPassOf words p
+  pub rooted : p.view.rooted ≡ true
+  pub own : p.view.sampler ≡ 0

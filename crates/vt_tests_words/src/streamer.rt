@@ -2,4 +2,5 @@
 
 mod beside;
 mod held;
-mod small;
+pub(crate) mod patient;
+pub(crate) mod small;

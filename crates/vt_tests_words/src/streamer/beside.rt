@@ -5,7 +5,8 @@ ghost use Rattle.vt_grace.specs.WriterViews.{is_out};
 ghost use Rattle.vt_grace.specs.Tokens.{IsPassOf, IsHeldOf};
 ghost use Rattle.vt_tests_words.specs.SmallStreams.{IsSmall};
 
-use crate::streamer::small::{mapped, small_streamer, unmapped};
+use crate::streamer::patient::{comes_in, goes_out};
+use crate::streamer::small::small_streamer;
 use std::alloc::Global;
 use std::thread::{Threads, join};
 use vt_grace::{Held, Pass, Words};
@@ -17,9 +18,6 @@ use vt_streamer::Streamer;
 const ROUNDS: u64 = 10_000;
 
 const ROWS: usize = 40_000;
-
-// How often a call that waits for the sampler is made again.
-const TRIES: u64 = 10_000_000_000;
 
 // What a row read under one hold: of each of the pages 0 to 3 the entry, and a word of its frame.
 #[derive(Clone, Copy)]
@@ -36,41 +34,6 @@ fn tile_of(round: u64) -> [u8; 12] {
     [0, high, low, 0, high, low, 0, high, low, 0, high, low]
 }
 
-// Whether a page came to be mapped to a frame.
-fn is_mapped(words: &Words, streamer: &mut Streamer, page: u32, frame: u32, round: u64) -> bool
-    requires small { IsSmall words.now 3 streamer.old }
-    requires page { page < 5 }
-    requires frame { frame < 3 }
-    ensures { IsSmall words.now 3 streamer.new }
-{
-    let tile = tile_of(round);
-    for turn in 0..TRIES {
-        match mapped(words, streamer, 3, page, frame, &tile) {
-            Some(Ok(_)) => return true,
-            Some(Err(_)) => {}
-            None => return false,
-        }
-    }
-    false
-}
-
-// Whether a page came to be unmapped.
-fn is_unmapped(words: &Words, streamer: &mut Streamer, page: u32, frame: u32) -> bool
-    requires small { IsSmall words.now 3 streamer.old }
-    requires page { page < 4 }
-    requires frame { frame < 3 }
-    ensures { IsSmall words.now 3 streamer.new }
-{
-    for turn in 0..TRIES {
-        match unmapped(words, streamer, 3, page, frame) {
-            Some(Ok(_)) => return true,
-            Some(Err(_)) => {}
-            None => return false,
-        }
-    }
-    false
-}
-
 // Maps and unmaps the pages 0 to 3 in turn, each to the one of the frames 1 and 2 that was not used last. Round r is mapped by version 2r + 2.
 fn stream(words: &Words, mut streamer: Streamer) -> (Streamer, bool)
     requires { IsSmall words.now 3 streamer }
@@ -80,8 +43,8 @@ fn stream(words: &Words, mut streamer: Streamer) -> (Streamer, bool)
     for round in 0..ROUNDS {
         let page = (round % 4) as u32;
         let frame = 1 + (round % 2) as u32;
-        is_done &= is_mapped(words, &mut streamer, page, frame, round);
-        is_done &= is_unmapped(words, &mut streamer, page, frame);
+        is_done &= comes_in(words, &mut streamer, page, frame, &tile_of(round));
+        is_done &= goes_out(words, &mut streamer, page, frame);
     }
     (streamer, is_done)
 }
@@ -219,7 +182,7 @@ fn is_true_beside<R: Threads + Sync>(
         return false;
     };
     let pass = streamer.give_pass(words, 0);
-    if !is_mapped(words, &mut streamer, 4, 0, 0) {
+    if !comes_in(words, &mut streamer, 4, 0, &tile_of(0)) {
         return false;
     }
     let (mut streamer, is_done, pass, rows) = run_both(rt, words, streamer, pass, rows);

@@ -28,6 +28,7 @@ pub(crate) fn small_streamer(
     ensures small { IfOk result (λ made. IsSmall made.0 frames made.1) }
     ensures samplers { IfOk result (λ made. made.0.sizes.samplers ≡ 1) }
     ensures none_out { IfOk result (λ made. is_out made.1.writer 0 ≡ false) }
+    ensures shape { IfOk result (λ made. made.1.shape ≡ geometry.now) }
 {
     Streamer::new(alloc, geometry, frames, 1)
 }
@@ -102,7 +103,8 @@ pub(crate) fn mapped(
     requires page { page < 5 }
     requires inside { frame < frames }
     requires tile { length tile.now ≡ 12 }
-    ensures { IsSmall words.now frames streamer.new }
+    ensures small { IsSmall words.now frames streamer.new }
+    ensures out { streamer.new.writer.out ≡ streamer.old.writer.out }
 {
     if !is_unused(words, streamer, frames, frame) || !is_unmapped(streamer, page) {
         return None;

@@ -1,5 +1,0 @@
-use Rattle.vt_tests_words.specs.SmallStreams.{IsSmall}
-use Rattle.vt_tests_words.proofs.streamer.beside.is_unmapped.Given as goal
-
-abbrev pub invariant-loop-turn : goal.invariant-loop-turn
-invariant-loop-turn l = IsSmall l.words 3 l.streamer
