@@ -8,10 +8,10 @@ use Rattle.vt_loaders.specs.QueuedLoaders.{QueuedView, MayLoad, HasLoaded}
 use Rattle.vt_workers.specs.All.{AllReady}
 use Rattle.vt_workers.specs.Jobs.{Job, job_of}
 use Rattle.vt_workers.proofs.Lent.{same_number, all_did}
-use Rattle.vt_pass.specs.declared.workers.WordSampler.{WordSampler}
-use Rattle.vt_pass.specs.declared.workers.WordStreamer.{WordStreamer}
-use Rattle.vt_pass.specs.WordTasks.{MayDraw, HasDrawn, HasFed}
-use Rattle.vt_pass.proofs.Kits.{may_draw}
+use Rattle.vt_word_workers.specs.declared.workers.WordSampler.{WordSampler}
+use Rattle.vt_word_workers.specs.declared.workers.WordStreamer.{WordStreamer}
+use Rattle.vt_word_workers.specs.WordTasks.{MayDraw, HasDrawn, HasFed}
+use Rattle.vt_word_workers.proofs.Kits.{may_draw}
 use Rattle.vt_pass.proofs.Lending.{lent_back, lent_ran}
 use Rattle.vt_pass.proofs.pass.draw_and_stream.Goals as goal
 
@@ -44,7 +44,8 @@ finish-requires g c =
     let number_f = same_number e _ us c.slice_mut-2.ensures.value (search rules) in
     let did_load = all_did (λ (x : Queues) (j : Job) (v w : QueuedView _). HasLoaded g.F.File x v w) q q _ _ refl (ap with c.slice.ensures) a _ ws
     c.slice_mut.ensures.value (search rules) c.work_together.ensures.loaders in
-    let did_draw = all_did (λ (x : WordsValue) (j : Job) (v w : WordSampler). HasDrawn x j.scene j.picture v w) words words _ _ refl (ap with c.slice.ensures) e _ us
+    let did_draw = all_did (λ (x : WordsValue) (j : Job) (v w : WordSampler). HasDrawn x j.scene j.picture v w) words words _ _ refl
+    (ap with c.slice.ensures) e _ us
     c.slice_mut-2.ensures.value (search rules) c.work_together.ensures.samplers in
     let did_stream = subst (λ (l : List Planned). HasFed words q l b d) c.slice.ensures c.work_together.ensures.streamer in
     lent_back g.F.File words q own b d c.args.kit.now c.muster-loaders.new.self job a (refill (length a) a ws) e (refill (length e) e us)
@@ -68,7 +69,8 @@ returns-clause-ran g c =
     let number_f = same_number e _ us c.slice_mut-2.ensures.value (search rules) in
     let did_load = all_did (λ (x : Queues) (j : Job) (v w : QueuedView _). HasLoaded g.F.File x v w) q q _ _ refl (ap with c.slice.ensures) a _ ws
     c.slice_mut.ensures.value (search rules) c.work_together.ensures.loaders in
-    let did_draw = all_did (λ (x : WordsValue) (j : Job) (v w : WordSampler). HasDrawn x j.scene j.picture v w) words words _ _ refl (ap with c.slice.ensures) e _ us
+    let did_draw = all_did (λ (x : WordsValue) (j : Job) (v w : WordSampler). HasDrawn x j.scene j.picture v w) words words _ _ refl
+    (ap with c.slice.ensures) e _ us
     c.slice_mut-2.ensures.value (search rules) c.work_together.ensures.samplers in
     let did_stream = subst (λ (l : List Planned). HasFed words q l b d) c.slice.ensures c.work_together.ensures.streamer in
     let back = lent_back g.F.File words q own b d c.args.kit.now c.muster-loaders.new.self job a (refill (length a) a ws) e (refill (length e) e us)
