@@ -29,8 +29,7 @@ fn ranks_at(
 ) -> Result<Vec<Rank>, NoMemory>
     requires long { length counts.now ≡ pages_of geometry.now }
     requires inside { All (λ p. p < pages_of geometry.now) pages.now }
-    ensures ranks { IfOk result (λ r. r.items ≡ map (rank_of geometry.now counts.now) pages.now) }
-    ensures most { (p : ℕ) → slice_index counts.now p ≤ most_pixels }
+    ensures { IfOk result (λ r. r.items ≡ map (rank_of geometry.now counts.now) pages.now) }
 {
     let mut ranks = Vec::new(alloc);
     for page in pages {

@@ -20,7 +20,7 @@ returns c =
     let s : Shape = c.args.geometry.now in
     let counts : List ℕ = c.args.self.now.counts.items in
     let ranks : c.in_ok-ranks.ranks.items ≡ map (rank_of s counts) c.args.self.now.pages.elements =
-    c.in_ok-ranks.ensures.ranks ∙ ap (λ (l : List ℕ). map (rank_of s c.as_slice.result.now) l) c.slice.ensures
+    c.in_ok-ranks.ensures ∙ ap (λ (l : List ℕ). map (rank_of s c.as_slice.result.now) l) c.slice.ensures
     ∙ ap (λ (l : List ℕ). map (rank_of s l) c.args.self.now.pages.elements) c.as_slice.ensures.value in
     IfOk-weaker c.wants_of.result (λ w. w.elements ≡ map wanted_by c.as_slice-2.result.now) (λ w. IsWants s (slice_index counts) w.elements)
     (λ w e. rw (e, c.as_slice-2.ensures.value)
