@@ -1,7 +1,7 @@
 -- How a pass over shared words ends, once its workers are moved back and the passes of its samplers were taken back.
-use Rattle.std.proofs.Common.{◌≡◌, ℕ, ◌+◌, ◌%◌, ◌<◌, ◌≤◌, true, Bool, List, [], ◌∷◌, ◌++◌, length, get_or, Option, Some, refl, sym, ap, ◌∙◌, subst, arith}
+use Rattle.std.proofs.Common.{◌≡◌, ℕ, ◌+◌, ◌<◌, ◌≤◌, true, Bool, List, [], ◌∷◌, ◌++◌, length, get_or, Option, Some, sym, ap, ◌∙◌, subst, arith}
 use Rattle.std.specs.Prelude.{slice_get, slice_index, reverse, All, IfSome}
-use Rattle.std.proofs.lemmas.List.{length-append, length-reverse, length-map}
+use Rattle.std.proofs.lemmas.List.{length-reverse, length-map}
 use Rattle.std.proofs.lemmas.List.Elements.{All-map}
 use Rattle.std.proofs.lemmas.List.FromFn.{length-map-range_with_len, get_or-map-range_with_len}
 use Rattle.std.proofs.lemmas.List.Sorted.{IsPermutation-reverse, All-permutation}
@@ -20,7 +20,6 @@ use Rattle.vt_grace.specs.declared.views.WriterView.{WriterView}
 use Rattle.vt_grace.specs.declared.sizes.Sizes.{Sizes}
 use Rattle.vt_grace.specs.Values.{WordsValue}
 use Rattle.vt_streamer.specs.Views.{StreamerView, IsStreamerOf}
-use Rattle.vt_plan.specs.declared.batches.Planned.{Planned}
 use Rattle.vt_queue.specs.declared.items.Request.{Request}
 use Rattle.vt_queue.specs.declared.items.Loaded.{Loaded}
 use Rattle.vt_queue.specs.declared.views.PassView.{PassView}
@@ -39,7 +38,7 @@ use Rattle.vt_machine.specs.RowOrders.{AreRowsInOrder}
 use Rattle.vt_machine.specs.Requests.{AreReadFor}
 use Rattle.vt_machine.specs.Machines.{files_of, told_by, AreStoresFor}
 use Rattle.vt_machine.specs.Nearest.{nearest, nearest_shows}
-use Rattle.vt_machine.specs.Passes.{IsPictured, Ran}
+use Rattle.vt_machine.specs.Passes.{IsPictured}
 use Rattle.vt_rounds.specs.BatchRounds.{result_events}
 use Rattle.vt_rounds.specs.Sizes.{AreSized}
 use Rattle.vt_streaming.specs.Made.{HasStreamed, results_contents}
@@ -50,13 +49,13 @@ use Rattle.vt_word_workers.specs.declared.workers.WordSampler.{WordSampler}
 use Rattle.vt_word_workers.specs.declared.workers.WordStreamer.{WordStreamer}
 use Rattle.vt_word_workers.specs.GivenPasses.{all_returned, without_passes}
 use Rattle.vt_word_workers.specs.RoundKits.{RoundKitView}
-use Rattle.vt_word_workers.specs.Kits.{KitView, kit_row, kit_rows, kit_setup, kit_state, line_of, lines_of, IsIdleKit, counted_together}
+use Rattle.vt_word_workers.specs.Kits.{KitView, kit_row, kit_rows, kit_setup, kit_state, lines_of, IsIdleKit, counted_together}
 use Rattle.vt_word_workers.specs.HeldPasses.{AreHeldRows}
 use Rattle.vt_word_workers.specs.KitPasses.{Begun, MayFinish, HaveWorked, WasDrawn, KitRan, kit_before, kit_drawn}
 use Rattle.vt_word_workers.proofs.Returned.{journal_stays, contents_stay, have_returned}
-use Rattle.vt_word_workers.proofs.RowLines.{row_version, line_there, lines_in_order}
+use Rattle.vt_word_workers.proofs.RowLines.{line_there, lines_in_order}
 use Rattle.vt_word_workers.proofs.Contents.{results_stored}
-use Rattle.vt_word_workers.proofs.Ended.{HasRow, samplers_stay, counted, all_in, has_row, row_full, rows_rise, row_from, row_to, row_drawn, row_held}
+use Rattle.vt_word_workers.proofs.Ended.{samplers_stay, counted, all_in, has_row, row_full, rows_rise, row_from, row_to, row_drawn, row_held}
 use Rattle.vt_word_workers.proofs.Ending.{all_entries, all_good, all_sizes, outcome, read}
 
 -- stores that all tell the same, tell it together

@@ -1,12 +1,11 @@
 -- Passes of the words that are given to samplers one after another.
 use Rattle.std.proofs.Common.{◌≡◌, ◌≢◌, ℕ, ◌+◌, ◌<◌, ◌≤◌, false, true, ⊎_elim, List, length, get_or, Some, refl, sym, ap, ◌∙◌, subst, arith}
-use Rattle.std.specs.Prelude.{slice_get, slice_set}
+use Rattle.std.specs.Prelude.{slice_set}
 use Rattle.std.proofs.lemmas.List.{length-set, get_or-set_same, get_or-set_other, get_or_default}
 use Rattle.std.proofs.lemmas.Bool.{cases_eq}
 use Rattle.std.proofs.lemmas.Option.{get_or_from_slice_get, slice_get-get_or, slice_get_within}
 use Rattle.vt_outside.specs.declared.outside.File.{Ghosts as FileMeanings}
 use Rattle.vt_pages.specs.Shape.{Shape}
-use Rattle.vt_journal.specs.Changes.{newest}
 use Rattle.vt_grace.specs.declared.views.WriterView.{WriterView}
 use Rattle.vt_grace.specs.Giving.{after_giving, new_pass}
 use Rattle.vt_grace.specs.WriterViews.{after_look, is_out}
@@ -20,7 +19,7 @@ use Rattle.vt_loaders.specs.declared.queued.Queues.{Queues}
 use Rattle.vt_streaming.specs.declared.report.StreamReport.{StreamReport}
 use Rattle.vt_word_workers.specs.declared.workers.WordSampler.{WordSampler}
 use Rattle.vt_word_workers.specs.GivenPasses.{HasNewPass, HaveNewPasses, HasGiven, AreSameSamplers}
-use Rattle.vt_word_workers.specs.Kits.{KitView, IsSamplerOf, AreSamplersOf, IsFitKit, IsAskedKit, IsReadyKit}
+use Rattle.vt_word_workers.specs.Kits.{KitView, IsSamplerOf, AreSamplersOf, IsAskedKit, IsReadyKit}
 
 pub same_samplers : (tasks : List WordSampler) → AreSameSamplers tasks tasks
 same_samplers tasks = record { number = refl; each = λ n d inside. refl }

@@ -10,7 +10,6 @@ use Rattle.std.proofs.lemmas.Option.{none-some, same_Some, slice_get-get_or}
 use Rattle.vt_outside.specs.declared.outside.File.{Ghosts as FileMeanings}
 use Rattle.vt_pages.specs.Shape.{Shape}
 use Rattle.vt_pages.specs.Pages.{pages_of, root_of}
-use Rattle.vt_journal.specs.declared.changes.RowLine.{RowLine}
 use Rattle.vt_sampler.specs.Samplers.{SamplerView, IsFor, IsOwn, version_at}
 use Rattle.vt_tiles.specs.StoreViews.{StoreView, IsStoreIfTold}
 use Rattle.vt_journal.specs.Changes.{newest}

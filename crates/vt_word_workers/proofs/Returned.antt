@@ -1,14 +1,12 @@
 -- What a writer knows that took the passes of samplers back.
-use Rattle.std.proofs.Common.{◌≡◌, ℕ, zero, suc, ◌<◌, ◌≤◌, inl, inr, Bool, false, List, [], ◌∷◌, ◌++◌, length, get_or, Option, Some, None, refl, sym, ap, ◌∙◌, subst, append_assoc, arith}
+use Rattle.std.proofs.Common.{◌≡◌, ℕ, zero, suc, ◌≤◌, inl, inr, Bool, false, List, [], ◌∷◌, ◌++◌, length, get_or, Option, Some, None, refl, sym, ap, ◌∙◌, subst, append_assoc, arith}
 use Rattle.std.specs.Prelude.{slice_get, slice_set, All, Contains}
 use Rattle.std.proofs.lemmas.List.Elements.{Contains-append_left, Contains-append_right}
 use Rattle.std.proofs.lemmas.Option.{none-some, same_Some, slice_get_cases}
 use Rattle.vt_draw.specs.Lookups.{Note, EntryNote, WordNote}
-use Rattle.vt_journal.specs.declared.changes.Change.{Change}
 use Rattle.vt_grace.specs.declared.views.PassView.{PassView}
 use Rattle.vt_grace.specs.declared.views.Returned.{Returned}
 use Rattle.vt_grace.specs.declared.views.WriterView.{WriterView}
-use Rattle.vt_grace.specs.Giving.{after_return}
 use Rattle.vt_grace.specs.WriterViews.{is_out}
 use Rattle.vt_grace.specs.Values.{PassValue}
 use Rattle.vt_lookup.specs.Notes.{IsNotedIn}

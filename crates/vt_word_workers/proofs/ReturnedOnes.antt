@@ -1,6 +1,6 @@
 -- Passes of the words that are taken back from samplers one after another.
 use Rattle.std.proofs.Common.{◌≡◌, ℕ, ◌+◌, ◌-◌, ◌<◌, List, [], ◌∷◌, ◌++◌, length, map, take, drop, get_or, refl, sym, ap, ◌∙◌, arith}
-use Rattle.std.specs.Prelude.{slice_set, None}
+use Rattle.std.specs.Prelude.{slice_set}
 use Rattle.std.proofs.lemmas.List.{take_more, length-map, length-append, length-drop, length-take-le, get_or-drop, get_or-append_right, get_or_default}
 use Rattle.std.proofs.lemmas.List.Edits.{map_over_more}
 use Rattle.vt_grace.specs.declared.views.WriterView.{WriterView}

@@ -1,5 +1,5 @@
 -- What a pass over shared words is done with, and what holds of it.
-use Rattle.std.specs.Prelude.{◌≡◌, ℕ, ◌*◌, ◌%◌, ◌<◌, ◌≤◌, Bool, false, Option, None, Some, List, [], length, map, slice_get, slice_index, slice_index_or, sum_by, All}
+use Rattle.std.specs.Prelude.{◌≡◌, ℕ, ◌*◌, ◌%◌, ◌<◌, ◌≤◌, false, Option, None, Some, List, [], length, map, slice_get, slice_index, slice_index_or, sum_by, All}
 use Rattle.std.specs.List.{range_with_len}
 use Rattle.vt_definitions.specs.Depths.{IsDepth}
 use Rattle.vt_outside.specs.Lists.{ListView}

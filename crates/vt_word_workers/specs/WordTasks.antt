@@ -10,11 +10,10 @@ use Rattle.vt_sampler.specs.Samplers.{IsOwn, IsFor, own_rows, row_at, row_length
 use Rattle.vt_shown.specs.Scenes.{Scene}
 use Rattle.vt_plan.specs.declared.batches.Planned.{Planned}
 use Rattle.vt_machine.specs.Outcomes.{IsBatchFor}
-use Rattle.vt_queue.specs.declared.items.Loaded.{Loaded}
 use Rattle.vt_queue.specs.Queues.{view_of, splits_of, IsOf}
 use Rattle.vt_loaders.specs.declared.queued.Queues.{Queues}
 use Rattle.vt_rounds.specs.BatchRounds.{result_events, AreLossesOf}
-use Rattle.vt_streamer.specs.Views.{StreamerView, IsStreamerOf}
+use Rattle.vt_streamer.specs.Views.{IsStreamerOf}
 use Rattle.vt_streaming.specs.Made.{HasStreamed}
 use Rattle.vt_streaming.specs.Streams.{Streams}
 use Rattle.vt_streaming.specs.Reports.{IsBlank}

@@ -1,4 +1,4 @@
-use Rattle.std.proofs.Common.{◌≡◌, ℕ, ◌<◌, ◌^◌, length, sym, ap, ◌∙◌, subst}
+use Rattle.std.proofs.Common.{◌<◌, ◌^◌, length, sym, subst}
 use Rattle.std.specs.List.{refill}
 use Rattle.vt_workers.specs.Jobs.{job_of}
 use Rattle.vt_machine.specs.declared.crew.PassReport.{PassReport}
