@@ -37,3 +37,12 @@ pub(crate) fn word_of_texel(sizes: &Sizes, frame: usize, place: usize) -> usize
 {
     1 + sizes.samplers as usize + 4 * sizes.pages as usize + (frame * sizes.texels as usize + place)
 }
+
+/// The first word of a frame.
+pub(crate) fn start_of_frame(sizes: &Sizes, frame: u32) -> usize
+    requires { AreWithinLimits sizes.now }
+    ensures { result ≡ texel_word sizes.now frame 0 }
+{
+    let texels = frame as usize * sizes.texels as usize;
+    1 + sizes.samplers as usize + 4 * sizes.pages as usize + texels
+}

@@ -2,11 +2,22 @@
 
 ghost use Rattle.std.specs.Prelude.{◌≡◌, ◌≢◌, ◌≤◌, ◌<◌, ◌∷◌, ℕ, true};
 ghost use Rattle.vt_grace.specs.PassViews.{NoneAbove, idle, noting, wording, HasEntry};
+ghost use Rattle.vt_grace.specs.Places.{texel_word};
 ghost use Rattle.vt_grace.specs.Tokens.{IsPassOf, IsHeldOf};
 
-use crate::places::{word_of_entry, word_of_texel};
+use crate::places::{start_of_frame, word_of_entry};
 use crate::plays::{Announce, Hint, Hold, Read, ReadWord, Unpin};
 use crate::tokens::{Held, Pass, Words};
+
+impl Words {
+    /// The index of the first word of a frame among all words.
+    #[inline(never)]
+    pub fn start_of(&self, frame: u32) -> usize
+        ensures { result ≡ texel_word self.now.sizes frame 0 }
+    {
+        start_of_frame(&self.sizes, frame)
+    }
+}
 
 impl Pass {
     /// Holds the newest version, which is not below any that this pass held before, nor below the one at which it was given. The
@@ -68,8 +79,23 @@ impl Held {
         ensures version { self.new.version ≡ self.old.version }
         ensures view { self.new.view ≡ wording self.old.version frame place result self.old.view }
     {
+        let start = start_of_frame(&words.sizes, frame);
+        self.word_from(words, start, frame, place)
+    }
+
+    /// The same where the index of the frame's first word is at hand, which is read once for many places.
+    #[inline(always)]
+    pub fn word_from(&mut self, words: &Words, start: usize, frame: u32, place: u32) -> u64
+        requires of { IsHeldOf words.now self.old }
+        requires start { start ≡ texel_word words.now.sizes frame 0 }
+        requires inside { place < words.now.sizes.texels }
+        requires noted { HasEntry self.old.version self.old.view frame }
+        ensures of { IsHeldOf words.now self.new }
+        ensures version { self.new.version ≡ self.old.version }
+        ensures view { self.new.view ≡ wording self.old.version frame place result self.old.view }
+    {
         let seat = &mut self.seat;
-        let word = word_of_texel(&words.sizes, frame as usize, place as usize);
+        let word = start + place as usize;
         let shared = &words.table.shared;
         shared.load::<ReadWord>(seat, word)
     }

@@ -3,6 +3,7 @@
 ghost use Rattle.std.specs.Prelude.{◌≡◌, ◌<◌, ◌*◌, true};
 ghost use Rattle.vt_pages.specs.Pages.{pages_of};
 ghost use Rattle.vt_draw.specs.Lookups.{IsFinest, place_in_tile};
+ghost use Rattle.vt_grace.specs.Places.{texel_word};
 ghost use Rattle.vt_grace.specs.Tokens.{IsHeldOf};
 ghost use Rattle.vt_lookup.specs.Notes.{Fits, IsNotedIn, HasNotedMore, LookupValue, LookupBase, base_of};
 
@@ -11,16 +12,20 @@ use vt_draw::{Found, Lookup};
 use vt_grace::{Held, Words};
 use vt_pages::{Geometry, PageName};
 
-/// A look-up of pages in the version that is held. It says what was noted under the hold.
+/// A look-up of pages in the version that is held. It says what was noted under the hold, and takes no memory.
 #[derive(Drop)]
 pub struct HeldLookup<'a> {
     held: Held,
     words: &'a Words,
     geometry: &'a Geometry,
+    // The frame that was found last, and the index of its first word.
+    slot: u32,
+    start: usize,
 }
 
 impl<'a> Model for HeldLookup<'a> {
     ghost use Rattle.std.specs.Prelude.{◌≡◌, true};
+    ghost use Rattle.vt_grace.specs.Places.{texel_word};
     ghost use Rattle.vt_grace.specs.Tokens.{IsHeldOf};
     ghost use Rattle.vt_lookup.specs.Notes.{Fits, LookupValue};
 
@@ -28,7 +33,8 @@ impl<'a> Model for HeldLookup<'a> {
 
     ghost view = { λ l. record { shape = l.geometry.now; words = l.words.now; held = l.held } };
 
-    ghost invariant = { λ l. IsHeldOf l.words.now l.held × Fits l.geometry.now l.words.now.sizes × (l.held.view.rooted ≡ true) };
+    ghost invariant = { λ l. IsHeldOf l.words.now l.held × Fits l.geometry.now l.words.now.sizes × (l.held.view.rooted ≡ true)
+        × (l.start ≡ texel_word l.words.now.sizes l.slot 0) };
 }
 
 impl<'a> HeldLookup<'a> {
@@ -43,6 +49,8 @@ impl<'a> HeldLookup<'a> {
             held,
             words,
             geometry,
+            slot: 0,
+            start: words.start_of(0),
         }
     }
 
@@ -54,8 +62,21 @@ impl<'a> HeldLookup<'a> {
             held,
             words: _,
             geometry: _,
+            slot: _,
+            start: _,
         } = self;
         held
+    }
+
+    // The index of the first word of a frame, which is mostly the one that was found last.
+    #[inline(always)]
+    fn start_of(&self, frame: u32) -> usize
+        ensures { result ≡ texel_word self.now.words.sizes frame 0 }
+    {
+        if frame == self.slot {
+            return self.start;
+        }
+        self.words.start_of(frame)
     }
 }
 
@@ -70,7 +91,9 @@ fn place_of(geometry: &Geometry, x: u32, y: u32) -> u32
     (y & mask) * side + (x & mask)
 }
 
-// The finest page that is mapped in the held version, of a page and its ancestors.
+// The finest page that is mapped in the held version, of a page and its ancestors. It is called once for a run of pixels, and
+// keeps out of their loop.
+#[inline(never)]
 fn finest_mapped(held: &mut Held, words: &Words, geometry: &Geometry, page: u32) -> Found
     requires of { IsHeldOf words.now held.old }
     requires fits { Fits geometry.now words.now.sizes }
@@ -111,12 +134,18 @@ impl Lookup for HeldLookup<'_> {
 
     ghost kept = { base_of };
 
+    #[inline]
     fn find(&mut self, page: u32) -> Found {
-        finest_mapped(&mut self.held, self.words, self.geometry, page)
+        let found = finest_mapped(&mut self.held, self.words, self.geometry, page);
+        self.start = self.words.start_of(found.slot);
+        self.slot = found.slot;
+        found
     }
 
+    #[inline(always)]
     fn texel(&mut self, found: &Found, x: u32, y: u32) -> u64 {
-        self.held
-            .word(self.words, found.slot, place_of(self.geometry, x, y))
+        let start = self.start_of(found.slot);
+        let place = place_of(self.geometry, x, y);
+        self.held.word_from(self.words, start, found.slot, place)
     }
 }

@@ -11,6 +11,7 @@ use Rattle.vt_pages.specs.Shape.{Shape}
 use Rattle.vt_pages.specs.Pages.{pages_of}
 use Rattle.vt_camera.specs.Paths.{ArePictureSides}
 use Rattle.vt_draw.specs.Shots.{shot_row, AreDrawn, pixels_in_rows}
+use Rattle.vt_journal.specs.declared.changes.RowLine.{RowLine}
 use Rattle.vt_grace.specs.declared.views.PassView.{PassView}
 use Rattle.vt_grace.specs.declared.views.WriterView.{WriterView}
 use Rattle.vt_grace.specs.Giving.{new_pass}
@@ -32,8 +33,9 @@ use Rattle.vt_pass.specs.declared.workers.WordStreamer.{WordStreamer}
 use Rattle.vt_pass.specs.GivenPasses.{HasNewPass, ArePassesOf, all_returned, without_pass, without_passes}
 use Rattle.vt_pass.specs.WordTasks.{HasDrawn}
 use Rattle.vt_pass.specs.Kits.{KitView, IsSamplerOf, AreSamplersOf, row_by, version_by, counted_together}
+use Rattle.vt_pass.specs.HeldPasses.{IsHeldRow}
 use Rattle.vt_pass.specs.WordMachines.{Begun, HaveWorked, WasDrawn}
-use Rattle.vt_pass.proofs.Returned.{holds_of, HasOwnPass, return_of, WasReturned, was_returned, says_more, none_out}
+use Rattle.vt_pass.proofs.Returned.{holds_of, HasOwnPass, return_of, WasReturned, was_returned, have_returned, says_more, none_out}
 use Rattle.vt_pass.proofs.RowLines.{row_version, counted_is_wanted}
 
 -- a sampler without its pass, of those without passes
@@ -225,4 +227,15 @@ module _ {F : Type 0} (g : FileMeanings F) (words : WordsValue) (q : Queues) (k 
       returned = was_back.returned;
       turn = own_number (y % k.crew.samplers) r.task by;
       held = held;
+    }
+
+    -- its pass was given at the start, and is among those that were taken back
+    pub row_held : (line : RowLine) → line.sampler ≡ y % k.crew.samplers → line.version ≡ version_at r.task.sampler y
+        → IsHeldRow (version_of b.streamer.streamer.writer) (have_returned t.streamer.writer f).more line
+    row_held line turn version = record {
+      by = return_of by.drawn.pass.view;
+      among = (have_returned t.streamer.writer f).each (y % k.crew.samplers) r.task by.drawn.pass r.there by.drawn.has;
+      sampler = own_number (y % k.crew.samplers) r.task by ∙ sym turn;
+      given = ap (λ (p : PassView). p.given) by.drawn.held_more.rest ∙ ap (λ (p : PassView). p.given) (pass_was_new (y % k.crew.samplers) r.task by);
+      held = subst (Contains by.drawn.pass.view.held) (sym version) held;
     }

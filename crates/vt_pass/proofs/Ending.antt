@@ -36,8 +36,8 @@ map_reverse f [] = refl
 map_reverse f (x ∷ xs) = ap (map f) (reverse-append (x ∷ []) xs) ∙ map-append f (reverse xs) (x ∷ []) ∙ ap (λ l. l ++ f x ∷ []) (map_reverse f xs)
     ∙ sym (reverse-append (f x ∷ []) (map f xs))
 
-read_reversed : (s : Shape) (d : ℕ) (batch : List Planned) (losses : List Bool) (before after : List FileState) → AreReadFor s d batch losses before after
-    → AreReadFor s d batch losses (reverse before) (reverse after)
+read_reversed : (s : Shape) (d : ℕ) (batch : List Planned) (losses : List Bool) (before after : List FileState)
+    → AreReadFor s d batch losses before after → AreReadFor s d batch losses (reverse before) (reverse after)
 read_reversed s d batch losses before after r = record {
   same = record {
     names = map_reverse (λ (f : FileState). f.name) after ∙ ap reverse r.same.names ∙ sym (map_reverse (λ (f : FileState). f.name) before);

@@ -51,11 +51,12 @@ use Rattle.vt_pass.specs.declared.workers.WordStreamer.{WordStreamer}
 use Rattle.vt_pass.specs.GivenPasses.{all_returned, without_passes}
 use Rattle.vt_pass.specs.RoundKits.{RoundKitView}
 use Rattle.vt_pass.specs.Kits.{KitView, kit_row, kit_rows, kit_setup, kit_state, line_of, lines_of, IsIdleKit, counted_together}
+use Rattle.vt_pass.specs.HeldPasses.{AreHeldRows}
 use Rattle.vt_pass.specs.WordMachines.{Begun, MayFinish, HaveWorked, WasDrawn, KitRan, kit_before, kit_drawn}
-use Rattle.vt_pass.proofs.Returned.{journal_stays, contents_stay}
+use Rattle.vt_pass.proofs.Returned.{journal_stays, contents_stay, have_returned}
 use Rattle.vt_pass.proofs.RowLines.{row_version, line_there, lines_in_order}
 use Rattle.vt_pass.proofs.Contents.{results_stored}
-use Rattle.vt_pass.proofs.Ended.{HasRow, samplers_stay, counted, all_in, has_row, row_full, rows_rise, row_from, row_to, row_drawn}
+use Rattle.vt_pass.proofs.Ended.{HasRow, samplers_stay, counted, all_in, has_row, row_full, rows_rise, row_from, row_to, row_drawn, row_held}
 use Rattle.vt_pass.proofs.Ending.{all_entries, all_good, all_sizes, outcome, read}
 
 -- stores that all tell the same, tell it together
@@ -255,19 +256,33 @@ module _ {F : Type 0} (g : FileMeanings F) (words : WordsValue) (q : Queues) (k 
           (omega (arith, e, from), omega (arith, e, to)))
           (rows_rise g words q k job c f t b h)
 
+      held_rows : AreHeldRows b.streamer.streamer.writer after lines
+      held_rows = let all = have_returned t.streamer.writer f in record {
+        more = all.more;
+        returned = all.returned ∙ ap (λ (w : WriterView). all.more ++ w.returned) streamed.rest;
+        each = λ y line is.
+            let at = line_there k.crew.samplers (without_passes f) k.height y line is in
+            let r = has_row g words q k job c f t b h y at.0 in
+            row_held g words q k job c f t b h y r line (ap (λ (l : RowLine). l.sampler) at.1) (ap (λ (l : RowLine). l.version) at.1 ∙ r.version_is);
+      }
+
       -- and what was done is a pass
       pub ran_after : (report : PassReport) → report.rows.elements ≡ lines → report.events ≡ t.report.events → report.losses ≡ t.report.losses
           → KitRan g words job report b.streamer.streamer (kit_before k b) streamer_after kit_after
       ran_after report lines_are noted told = record {
-        setup = λ i. record (kit_setup g words (kit_before k b)) { bytes = same_told i };
-        outcome = subst (λ (x : List Bool × List Event). IsOutcome job.batch x.0 x.1)
-            (λ i. ((ap (λ l. l.elements) (sym told)) i, (ap (λ l. l.elements) (sym noted)) i)) outcome_is;
-        journal = journal_is ∙ ap (λ (l : ListView Event). b.streamer.streamer.writer.journal ++ changes_of l.elements) (sym noted);
-        rows = subst (AreRowsInOrder true k.crew.samplers k.height (length b.streamer.streamer.writer.journal) (length after.journal)) (sym lines_are) in_order;
-        read = subst (λ (l : ListView Bool). AreReadFor k.shape k.depth job.batch l.elements (files_of g (reverse (stores_of b.round.first)))
-            (files_of g (reverse (stores_of c)))) (sym told) read_is;
-        picture = subst (λ (l : List RowLine). IsPictured nearest (kit_drawn kit_after streamer_after) job l (kit_state g words after.journal kit_after))
-            (sym lines_are) pictured;
+        ran = record {
+          setup = λ i. record (kit_setup g words (kit_before k b)) { bytes = same_told i };
+          outcome = subst (λ (x : List Bool × List Event). IsOutcome job.batch x.0 x.1)
+              (λ i. ((ap (λ l. l.elements) (sym told)) i, (ap (λ l. l.elements) (sym noted)) i)) outcome_is;
+          journal = journal_is ∙ ap (λ (l : ListView Event). b.streamer.streamer.writer.journal ++ changes_of l.elements) (sym noted);
+          rows = subst (AreRowsInOrder true k.crew.samplers k.height (length b.streamer.streamer.writer.journal) (length after.journal)) (sym lines_are)
+              in_order;
+          read = subst (λ (l : ListView Bool). AreReadFor k.shape k.depth job.batch l.elements (files_of g (reverse (stores_of b.round.first)))
+              (files_of g (reverse (stores_of c)))) (sym told) read_is;
+          picture = subst (λ (l : List RowLine). IsPictured nearest (kit_drawn kit_after streamer_after) job l (kit_state g words after.journal kit_after))
+              (sym lines_are) pictured;
+        };
+        held = subst (AreHeldRows b.streamer.streamer.writer after) (sym lines_are) held_rows;
       }
 
       -- so it is of a streamer and a kit that are these

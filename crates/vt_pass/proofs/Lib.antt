@@ -10,3 +10,4 @@ pub mod GivenOnes
 pub mod ReturnedOnes
 pub mod Finishing
 pub mod Idle
+pub mod Lending

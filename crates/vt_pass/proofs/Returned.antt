@@ -1,7 +1,7 @@
 -- What a writer knows that took the passes of samplers back.
-use Rattle.std.proofs.Common.{◌≡◌, ℕ, zero, suc, ◌<◌, ◌≤◌, inl, inr, Bool, false, List, [], ◌∷◌, ◌++◌, length, get_or, Option, Some, None, refl, sym, ap, ◌∙◌, subst, arith}
+use Rattle.std.proofs.Common.{◌≡◌, ℕ, zero, suc, ◌<◌, ◌≤◌, inl, inr, Bool, false, List, [], ◌∷◌, ◌++◌, length, get_or, Option, Some, None, refl, sym, ap, ◌∙◌, subst, append_assoc, arith}
 use Rattle.std.specs.Prelude.{slice_get, slice_set, All, Contains}
-use Rattle.std.proofs.lemmas.List.Elements.{Contains-append_right}
+use Rattle.std.proofs.lemmas.List.Elements.{Contains-append_left, Contains-append_right}
 use Rattle.std.proofs.lemmas.Option.{none-some, same_Some, slice_get_cases}
 use Rattle.vt_draw.specs.Lookups.{Note, EntryNote, WordNote}
 use Rattle.vt_journal.specs.declared.changes.Change.{Change}
@@ -38,7 +38,7 @@ pub contents_stay : (w : WriterView) (tasks : List WordSampler) → (all_returne
 contents_stay w [] = refl
 contents_stay w (t ∷ ts) = contents_stay (after_pass w t.pass) ts ∙ contents_once w t.pass
 
--- What the writer has noted, and which passes it took back, stays known.
+-- What the writer has noted stays noted.
 notes_once : (w : WriterView) (o : Option PassValue) → HasNotesOf (after_pass w o) w
 notes_once w None = notes_alike w w refl refl
 notes_once w (Some pass) = notes_stay w pass.view
@@ -47,15 +47,6 @@ notes_kept : (w : WriterView) (tasks : List WordSampler) → HasNotesOf (all_ret
 notes_kept w [] = notes_alike w w refl refl
 notes_kept w (t ∷ ts) = noted_onward (after_pass w t.pass) (all_returned (after_pass w t.pass) ts) w.notes w.word_notes (notes_once w t.pass)
     (notes_kept (after_pass w t.pass) ts)
-
-returned_once : (w : WriterView) (o : Option PassValue) (r : Returned) → Contains w.returned r → Contains (after_pass w o).returned r
-returned_once w None r has = has
-returned_once w (Some pass) r has =
-    Contains-append_right (record { sampler = pass.view.sampler; given = pass.view.given; held = pass.view.held } ∷ []) w.returned r has
-
-returned_kept : (w : WriterView) (tasks : List WordSampler) (r : Returned) → Contains w.returned r → Contains (all_returned w tasks).returned r
-returned_kept w [] r has = has
-returned_kept w (t ∷ ts) r has = returned_kept (after_pass w t.pass) ts r (returned_once w t.pass r has)
 
 -- what is known of a pass that was taken back
 abbrev pub return_of : PassView → Returned
@@ -66,22 +57,61 @@ pub record WasReturned (w : WriterView) (p : PassView) : Type 0 where
   pub noted : HasNoted w p.notes p.word_notes
   pub returned : Contains w.returned (return_of p)
 
-newest_return : (w : WriterView) (p : PassView) → Contains (after_return w p).returned (return_of p)
-newest_return w p = (0, omega arith, refl)
+noted_back : (w : WriterView) (tasks : List WordSampler) (n : ℕ) (task : WordSampler) (pass : PassValue) → slice_get tasks n ≡ Some task
+    → task.pass ≡ Some pass → HasNoted (all_returned w tasks) pass.view.notes pass.view.word_notes
+noted_back w [] n task pass is has = absurd (none-some task is)
+noted_back w (t ∷ ts) zero task pass is has =
+    let same : t.pass ≡ Some pass = ap (λ (x : WordSampler). x.pass) (same_Some t task is) ∙ has in
+    noted_onward (after_pass w t.pass) (all_returned (after_pass w t.pass) ts) pass.view.notes pass.view.word_notes
+    (subst (λ (o : Option PassValue). HasNoted (after_pass w o) pass.view.notes pass.view.word_notes) (sym same) (pass_noted w pass.view))
+    (notes_kept (after_pass w t.pass) ts)
+noted_back w (t ∷ ts) (suc n) task pass is has = noted_back (after_pass w t.pass) ts n task pass is has
+
+-- Which passes were taken back beside those that had been.
+once : Option PassValue → List Returned
+once None = []
+once (Some pass) = return_of pass.view ∷ []
+
+one_back : (w : WriterView) (o : Option PassValue) → (after_pass w o).returned ≡ once o ++ w.returned
+unfolding once
+one_back w None = refl
+one_back w (Some pass) = refl
+
+pub record HaveReturned (w : WriterView) (tasks : List WordSampler) : Type 0 where
+  pub more : List Returned
+  pub returned : (all_returned w tasks).returned ≡ more ++ w.returned
+  pub each : (n : ℕ) (task : WordSampler) (pass : PassValue) → slice_get tasks n ≡ Some task → task.pass ≡ Some pass → Contains more (return_of pass.view)
+
+first : (o : Option PassValue) (pass : PassValue) → o ≡ Some pass → Contains (once o) (return_of pass.view)
+unfolding once
+first o pass has = subst (λ p. Contains (once p) (return_of pass.view)) (sym has) (0, omega arith, refl)
+
+each_of : (t : WordSampler) (ts : List WordSampler) (one more : List Returned)
+    → ((pass : PassValue) → t.pass ≡ Some pass → Contains one (return_of pass.view))
+    → ((n : ℕ) (task : WordSampler) (pass : PassValue) → slice_get ts n ≡ Some task → task.pass ≡ Some pass → Contains more (return_of pass.view))
+    → (n : ℕ) (task : WordSampler) (pass : PassValue) → slice_get (t ∷ ts) n ≡ Some task → task.pass ≡ Some pass
+    → Contains (more ++ one) (return_of pass.view)
+each_of t ts one more now later zero task pass is has =
+    Contains-append_right more one (return_of pass.view) (now pass (ap (λ (x : WordSampler). x.pass) (same_Some t task is) ∙ has))
+each_of t ts one more now later (suc n) task pass is has = Contains-append_left more one (return_of pass.view) (later n task pass is has)
+
+pub have_returned : (w : WriterView) (tasks : List WordSampler) → HaveReturned w tasks
+have_returned w [] = record { more = []; returned = refl; each = λ n task pass is has. absurd (none-some task is) }
+have_returned w (t ∷ ts) =
+    let rest = have_returned (after_pass w t.pass) ts in
+    record {
+      more = rest.more ++ once t.pass;
+      returned = rest.returned ∙ ap (λ l. rest.more ++ l) (one_back w t.pass) ∙ sym (append_assoc rest.more (once t.pass) w.returned);
+      each = each_of t ts (once t.pass) rest.more (λ pass has. first t.pass pass has) rest.each;
+    }
 
 pub was_returned : (w : WriterView) (tasks : List WordSampler) (n : ℕ) (task : WordSampler) (pass : PassValue) → slice_get tasks n ≡ Some task
     → task.pass ≡ Some pass → WasReturned (all_returned w tasks) pass.view
-was_returned w [] n task pass is has = absurd (none-some task is)
-was_returned w (t ∷ ts) zero task pass is has =
-    let same : t.pass ≡ Some pass = ap (λ (x : WordSampler). x.pass) (same_Some t task is) ∙ has in
-    record {
-      noted = noted_onward (after_pass w t.pass) (all_returned (after_pass w t.pass) ts) pass.view.notes pass.view.word_notes
-          (subst (λ (o : Option PassValue). HasNoted (after_pass w o) pass.view.notes pass.view.word_notes) (sym same) (pass_noted w pass.view))
-          (notes_kept (after_pass w t.pass) ts);
-      returned = returned_kept (after_pass w t.pass) ts (return_of pass.view)
-          (subst (λ (o : Option PassValue). Contains (after_pass w o).returned (return_of pass.view)) (sym same) (newest_return w pass.view));
-    }
-was_returned w (t ∷ ts) (suc n) task pass is has = was_returned (after_pass w t.pass) ts n task pass is has
+was_returned w tasks n task pass is has = let all = have_returned w tasks in record {
+  noted = noted_back w tasks n task pass is has;
+  returned = subst (λ (l : List Returned). Contains l (return_of pass.view)) (sym all.returned)
+      (Contains-append_left all.more w.returned (return_of pass.view) (all.each n task pass is has));
+}
 
 -- what a pass noted the writer has noted
 in_among : (p : PassView) (note : Note) → IsNotedIn p note → IsAmong p.notes p.word_notes note

@@ -30,7 +30,8 @@ module _ (xs ys : List WordSampler) (i : ℕ) (d : WordSampler) (inside : i < le
   pub tasks_step : slice_set ys i (without_pass (get_or ys i d)) ≡ map without_pass (take (i + 1) xs) ++ drop (i + 1) xs
   tasks_step =
       let low : i < length ys = (let a = ap length are in let b = length-append (map without_pass (take i xs)) (drop i xs) in
-      let c = length-map (take i xs) without_pass in let e = length-take-le i xs (omega (arith, inside)) in let f = length-drop i xs in omega (arith, inside, a, b, c, e, f)) in
+      let c = length-map (take i xs) without_pass in let e = length-take-le i xs (omega (arith, inside)) in let f = length-drop i xs in
+      omega (arith, inside, a, b, c, e, f)) in
       map_over_more without_pass xs ys i (get_or ys i d) inside are (get_or_default ys i d (get_or ys i d) low)
 
   pub returned_step : (s t : StreamerView) → t ≡ record s { writer = all_returned s.writer (take i xs) }

@@ -36,12 +36,13 @@ none_refused (Ok report) ok = tt
 none_refused (Err refusal) ok = absurd (false≢true ok)
 
 -- what was left untouched is the same but for the rows and the counts
-same_but_picture : (a b : MachineState) → IsUntouched a b → b ≡ record a { rows = b.rows; counts = b.counts }
+pub same_but_picture : (a b : MachineState) → IsUntouched a b → b ≡ record a { rows = b.rows; counts = b.counts }
 same_but_picture a b h = λ i. record { setup = h.setup i; files = h.files i; journal = h.journal i; rows = b.rows; counts = b.counts }
 
 -- how a pass ends does not depend on the rows and counts before it
 module _ (draws : Drawing) (drawn : PathView → ℕ → ℕ → ℕ → List ℕ → Type 0) (job : Job) (a b c : MachineState) (h : IsUntouched a b) where
-  ran_after : (report : PassReport) → Ran draws drawn job report b c → Ran draws drawn job report a c
+  -- what was run after the one was run after the other
+  pub ran_after : (report : PassReport) → Ran draws drawn job report b c → Ran draws drawn job report a c
   ran_after report ran =
       let moved = subst (λ s. Ran draws drawn job report s c) (same_but_picture a b h) ran in
       record {
@@ -53,12 +54,14 @@ module _ (draws : Drawing) (drawn : PathView → ℕ → ℕ → ℕ → List �
         picture = moved.picture;
       }
 
-  broke_after : Broke job b c → Broke job a c
+  -- and so is a pass that could not be run to its end
+  pub broke_after : Broke job b c → Broke job a c
   broke_after broke =
       let moved = subst (λ s. Broke job s c) (same_but_picture a b h) broke in
       record { setup = moved.setup; read = moved.read }
 
-  ends_after : (idle : Type 0) (result : Result PassReport NoMemory) → Ends draws drawn idle job result b c → Ends draws drawn idle job result a c
+  -- however it ends
+  pub ends_after : (idle : Type 0) (result : Result PassReport NoMemory) → Ends draws drawn idle job result b c → Ends draws drawn idle job result a c
   ends_after idle result e = record { ran = ran_if result e.ran; goes_on = e.goes_on; broke = broke_if result e.broke } where
     ran_if : (r : Result PassReport NoMemory) → IfOk r (λ report. Ran draws drawn job report b c) → IfOk r (λ report. Ran draws drawn job report a c)
     ran_if (Ok report) ran = ran_after report ran
@@ -72,10 +75,12 @@ module _ (draws : Drawing) (drawn : PathView → ℕ → ℕ → ℕ → List �
 module _ {F : Type 0} (g : FileMeanings F) (words : WordsValue) (q : Queues) (was b d : WordStreamer) (k l : KitView F) (job : Job)
     (a c : List (QueuedView F)) (e f : List WordSampler) (out : AreOut g q k l was.answers b.answers a e)
     (streamer_is : b ≡ record was { answers = b.answers }) where
+  -- a loader was made of each store
   dealt : IsDealt g q k.round l.round was.answers b.answers k.stores a
   dealt = out.dealt
 
-  round : Round F
+  -- how the round of the loaders began
+  pub round : Round F
   round = record {
     asks = view_of k.round.asks;
     answers = view_of was.answers;
@@ -85,11 +90,11 @@ module _ {F : Type 0} (g : FileMeanings F) (words : WordsValue) (q : Queues) (wa
   }
 
   -- how the work began
-  begun : Begun F
+  unfoldable pub begun : Begun F
   begun = record { round = round; samplers = k.samplers; streamer = b }
 
   -- the workers may be moved back into the kit from which they were moved out
-  kit_back : IsReadyKit g words q was k job.batch → IsJobFor (kit_setup g words k) job → length c ≡ length a → length f ≡ length e
+  pub kit_back : IsReadyKit g words q was k job.batch → IsJobFor (kit_setup g words k) job → length c ≡ length a → length f ≡ length e
       → AllDid (HasLoaded g q) a c → AllDid (HasDrawn words job.scene job.picture) e f → HasFed words q job.batch b d
       → MayFinish g words q l job c f d begun
   unfolding begun round
@@ -151,23 +156,25 @@ module _ {F : Type 0} (g : FileMeanings F) (words : WordsValue) (q : Queues) (wa
         sizes all = subst (λ (x : ListView (ListView ℕ)). AreSized (tile_length k.shape k.depth) x.elements) (sym dealt.buffers) all
 
   -- but for the pictures it was the same kit
-  same_kit : IsUntouched (kit_state g words was.streamer.writer.journal k) (kit_state g words b.streamer.writer.journal (kit_before l begun))
+  pub same_kit : IsUntouched (kit_state g words was.streamer.writer.journal k) (kit_state g words b.streamer.writer.journal (kit_before l begun))
   unfolding begun round
   same_kit = subst (λ (x : KitView F). IsUntouched (kit_state g words was.streamer.writer.journal k)
       (kit_state g words b.streamer.writer.journal (kit_before x begun))) (sym out.rest) (record {
-    setup = ap (λ (x : List (StoreView F)). kit_setup g words (record k { stores = x })) dealt.stores_are;
-    files = ap (files_of g) dealt.stores_are;
-    journal = ap (λ (x : WordStreamer). x.streamer.writer.journal) streamer_is;
-  })
+        setup = ap (λ (x : List (StoreView F)). kit_setup g words (record k { stores = x })) dealt.stores_are;
+        files = ap (files_of g) dealt.stores_are;
+        journal = ap (λ (x : WordStreamer). x.streamer.writer.journal) streamer_is;
+      })
 
 module _ {F : Type 0} (g : FileMeanings F) (job : Job) (m n : WordView F) (a c : List (QueuedView F)) (e f : List WordSampler) (b d : WordStreamer)
     (ready : IsReadyBy g m.words m.queues m.streamer m.kit job.batch) (job_is : IsJobFor (word_state g m).setup job)
     (mustered : IsMustered g m n a e b) (number : length c ≡ length a) (number_f : length f ≡ length e)
     (did_load : AllDid (HasLoaded g n.queues) a c) (did_draw : AllDid (HasDrawn n.words job.scene job.picture) e f)
     (did_stream : HasFed n.words n.queues job.batch b d) where
+  -- how the work began
   z : Begun F
   z = begun g m.words m.queues mustered.was b d m.kit n.kit job a c e f mustered.out mustered.streamer_is
 
+  -- it leaves what may be moved back
   may_finish : MayFinish g n.words n.queues n.kit job c f d z
   unfolding z
   may_finish = subst (λ (x : WordsValue × Queues). MayFinish g x.0 x.1 n.kit job c f d
@@ -183,6 +190,7 @@ module _ {F : Type 0} (g : FileMeanings F) (job : Job) (m n : WordView F) (a c :
   pub come_back : (z : Begun F) × MayFinish g n.words n.queues n.kit job c f d z
   come_back = (z, may_finish)
 
+  -- and it began with what the machine was
   before : IsUntouched (word_state g m) (kit_state g n.words b.streamer.writer.journal (kit_before n.kit z))
   unfolding z
   before = subst (λ (x : WordsValue × Option WordStreamer). IsUntouched (kit_state g m.words (journal_by x.1) m.kit)

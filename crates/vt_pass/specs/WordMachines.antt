@@ -31,6 +31,7 @@ use Rattle.vt_pass.specs.declared.workers.WordStreamer.{WordStreamer}
 use Rattle.vt_pass.specs.WordTasks.{HasDrawn, HasFed}
 use Rattle.vt_pass.specs.RoundKits.{IsDealt}
 use Rattle.vt_pass.specs.GivenPasses.{HaveNewPasses}
+use Rattle.vt_pass.specs.HeldPasses.{AreHeldRows}
 use Rattle.vt_pass.specs.Kits.{KitView, kit_setup, kit_state, IsFitKit, IsIdleKit, IsReadyKit, HasRoom}
 
 -- a machine: its words, its queues, its streamer, which is out while a pass is run, and its kit
@@ -131,9 +132,11 @@ pub record MayFinish {F : Type 0} (g : FileMeanings F) (words : WordsValue) (q :
   pub buffers : length job.batch ≤ k.round.buffers.spare
   pub sizes : AreSized (tile_length k.shape k.depth) k.round.buffers.elements
 
--- a pass was run over words with a kit, by their streamer before and after
-abbrev pub KitRan : {F : Type 0} → FileMeanings F → WordsValue → Job → PassReport → StreamerView → KitView F → StreamerView → KitView F → Type 0
-KitRan g words job report v k w l = Ran nearest (kit_drawn l w) job report (kit_state g words v.writer.journal k) (kit_state g words w.writer.journal l)
+-- a pass was run over words with a kit, by their streamer before and after; and each row's version is one that its sampler's pass held
+pub record KitRan {F : Type 0} (g : FileMeanings F) (words : WordsValue) (job : Job) (report : PassReport) (v : StreamerView) (k : KitView F)
+    (w : StreamerView) (l : KitView F) : Type 0 where
+  pub ran : Ran nearest (kit_drawn l w) job report (kit_state g words v.writer.journal k) (kit_state g words w.writer.journal l)
+  pub held : AreHeldRows v.writer w.writer report.rows.elements
 
 -- how a pass of a machine ends
 abbrev pub WordEnds : {F : Type 0} → FileMeanings F → Job → Result PassReport NoMemory → MachineState → WordView F → Type 0

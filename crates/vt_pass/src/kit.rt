@@ -21,6 +21,7 @@ ghost use Rattle.vt_rounds.specs.Sizes.{AreSized};
 ghost use Rattle.vt_streaming.specs.declared.report.StreamReport.{StreamReport as Told};
 ghost use Rattle.vt_pass.specs.declared.workers.WordStreamer.{WordStreamer as Own};
 ghost use Rattle.vt_pass.specs.RoundKits.{IsSetUp, IsAsked};
+ghost use Rattle.vt_pass.specs.GivenPasses.{HasGiven};
 ghost use Rattle.vt_pass.specs.Kits.{KitView, AreSamplersOf, IsKit, IsFitKit, IsIdleKit, AreAllIn, IsPreparedKit, IsAskedKit, IsReadyKit, HasRoom, HasStreamerRoom, IsSameKit, kit_row, kit_rows, lines_of, counted_together};
 ghost use Rattle.vt_pass.specs.WordMachines.{AreOut, Begun, MayFinish, KitRan, kit_before};
 
@@ -98,7 +99,8 @@ fn samplers_for(
 ) -> Result<Items<WordSampler>, NoMemory>
     requires few { count ≤ most_samplers }
     requires depth { IsDepth depth }
-    ensures { IfOk result (λ s. AreSamplersOf geometry.now depth path.now.width path.now.height count s.elements) }
+    ensures { IfOk result
+        (λ s. AreSamplersOf geometry.now depth path.now.width path.now.height count s.elements) }
 {
     let mut samplers = Items::new(alloc);
     samplers.reserve(u64::from(count))?;
@@ -122,7 +124,8 @@ fn kit_parts(
 ) -> Result<(Items<WordSampler>, Counts), NoMemory>
     requires crew { IsCrew crew.now }
     requires depth { IsDepth depth }
-    ensures samplers { IfOk result (λ made. AreSamplersOf geometry.now depth path.now.width path.now.height crew.now.samplers made.0.elements) }
+    ensures samplers { IfOk result (λ made. AreSamplersOf geometry.now depth path.now.width path.now.height
+        crew.now.samplers made.0.elements) }
     ensures counts { IfOk result (λ made. length made.1 ≡ pages_of geometry.now) }
 {
     let samplers = samplers_for(alloc, geometry, path, crew.samplers, depth)?;
@@ -216,7 +219,8 @@ impl<F: File> WordKit<F> {
         requires few { length batch.now.elements ≤ self.old.crew.batch }
         requires early { length streamer.old.writer.journal ≤ last_start }
         ensures prepared { OnOk result ((w : WordsValue) → IsIdleKit F.File w streamer.old self.old
-            → IsPreparedKit F.File w queues.new (record { streamer = streamer.new; answers = answers.new; report = report.new })
+            → IsPreparedKit F.File w queues.new
+            (record { streamer = streamer.new; answers = answers.new; report = report.new })
             self.new batch.now.elements) }
         ensures streamer { streamer.new ≡ record streamer.old { spare = streamer.new.spare } }
         ensures same { IsSameKit F.File self.old self.new }
@@ -261,7 +265,8 @@ impl<F: File> WordKit<F> {
 
     /// Puts a request for each entry of the batch for which the pass is prepared into its queues. It takes no memory.
     pub(crate) fn ask<Rt: Threads + Wait>(&mut self, rt: &Rt, queues: &Queues, batch: &Batch)
-        requires prepared { (w : WordsValue) × (t : Own) × IsPreparedKit F.File w queues.now t self.old batch.now.elements }
+        requires prepared { (w : WordsValue) × (t : Own)
+            × IsPreparedKit F.File w queues.now t self.old batch.now.elements }
         ensures asked { (w : WordsValue) (t : Own) → IsPreparedKit F.File w queues.now t self.old batch.now.elements
             → IsAskedKit F.File w queues.now t self.new batch.now.elements }
         ensures rest { self.new ≡ record self.old { round = self.new.round } }
@@ -274,10 +279,13 @@ impl<F: File> WordKit<F> {
         requires fit { IsFitKit F.File words.now streamer.old self.old }
         requires all_in { AreAllIn streamer.old }
         ensures ready { (q : Both) (answers : Token Answer) (report : Told) (batch : List Entry)
-            → IsAskedKit F.File words.now q (record { streamer = streamer.old; answers = answers; report = report }) self.old batch
-            → IsReadyKit F.File words.now q (record { streamer = streamer.new; answers = answers; report = report }) self.new batch }
+            → IsAskedKit F.File words.now q (record { streamer = streamer.old; answers = answers; report = report })
+            self.old batch
+            → IsReadyKit F.File words.now q (record { streamer = streamer.new; answers = answers; report = report })
+            self.new batch }
         ensures rest { self.new ≡ record self.old { samplers = self.new.samplers } }
         ensures journal { streamer.new.writer.journal ≡ streamer.old.writer.journal }
+        ensures given { HasGiven streamer.old.writer streamer.new.writer }
     {
         give_passes(words, streamer, self.samplers.slice_mut());
     }
@@ -373,8 +381,9 @@ impl<F: File> WordKit<F> {
         _shot: &Shot<'_>,
         _batch: &Batch,
     ) -> PassReport
-        requires { (b : Begun F) × MayFinish F.File words.now queues.now self.old (job_of _shot.now _batch.now.elements)
-            loaders.elements samplers.elements (record { streamer = streamer.old; answers = answers.old; report = report.old }) b }
+        requires { (b : Begun F) × MayFinish F.File words.now queues.now self.old
+            (job_of _shot.now _batch.now.elements) loaders.elements samplers.elements
+            (record { streamer = streamer.old; answers = answers.old; report = report.old }) b }
         ensures ran { (b : Begun F)
             → MayFinish F.File words.now queues.now self.old (job_of _shot.now _batch.now.elements) loaders.elements
             samplers.elements (record { streamer = streamer.old; answers = answers.old; report = report.old }) b

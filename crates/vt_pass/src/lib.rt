@@ -3,7 +3,11 @@
 
 mod given;
 mod kit;
+mod lent;
 mod machine;
+mod parts;
+mod pass;
+mod pass_kit;
 mod place;
 mod prepare;
 mod room;
@@ -13,6 +17,8 @@ mod tasks;
 mod told;
 mod workers;
 
+pub use lent::LentShared;
 pub use machine::WordMachine;
+pub use pass_kit::{PassKit, run_pass};
 pub use shared::WordShared;
 pub use workers::{WordSampler, WordStreamer};

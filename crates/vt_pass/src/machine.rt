@@ -1,19 +1,14 @@
 //! The machine over a page table of shared words.
 
-ghost use Rattle.std.specs.Prelude.{◌≡◌, ◌≤◌, IsOk, IfOk};
-ghost use Rattle.vt_definitions.specs.Limits.{most_samplers};
+ghost use Rattle.std.specs.Prelude.{IsOk};
 ghost use Rattle.vt_workers.specs.Jobs.{job_of};
-ghost use Rattle.vt_grace.specs.Sizes.{sizes_of};
-ghost use Rattle.vt_grace.specs.WriterViews.{first_writer};
-ghost use Rattle.vt_machine.specs.Crews.{AreFrames};
-ghost use Rattle.vt_streamer.specs.Views.{IsStreamerOf};
 ghost use Rattle.vt_machine.specs.Nearest.{nearest};
 ghost use Rattle.vt_pass.specs.WordMachines.{WordView, Begun, word_state, IsIdleBy, IsReadyBy, drawn_by, IsMustered, MayFinish, WordFinishes};
 
 use crate::kit::WordKit;
+use crate::parts::new_parts;
 use crate::place::place_page;
 use crate::prepare::prepare_pass;
-use crate::round::{blank_report, new_queues};
 use crate::shared::WordShared;
 use crate::workers::{WordSampler, WordStreamer};
 use std::alloc::Global;
@@ -30,9 +25,7 @@ use vt_loaders::QueuedLoader;
 use vt_machine::{Crew, PassMachine, PassReport};
 use vt_outside::{File, Gate, Items, NoMemory};
 use vt_pages::Geometry;
-use vt_queue::{QueuePass, Request};
 use vt_rounds::answered;
-use vt_streamer::Streamer;
 use vt_tiles::Stores;
 
 /// A machine that draws the rows of a picture, each under a version that it holds meanwhile, and streams the batch at the
@@ -55,34 +48,6 @@ impl<F: File> Model for WordMachine<F> {
       streamer = m.streamer;
       kit = m.kit;
     } };
-}
-
-// Words that map nothing with their streamer, and queues with which no pass is made, with a pass of the requests: each
-// pass is prepared with new ones.
-fn new_parts(
-    alloc: Global,
-    geometry: &Geometry,
-    frames: u32,
-    samplers: u32,
-) -> Result<(WordShared, WordStreamer, QueuePass<Request>), NoMemory>
-    requires frames { AreFrames geometry.now frames }
-    requires some { 1 ≤ samplers }
-    requires few { samplers ≤ most_samplers }
-    ensures of { IfOk result (λ made. IsStreamerOf made.0.words made.1.streamer) }
-    ensures sizes { IfOk result (λ made. made.0.words.sizes ≡ sizes_of geometry.now frames samplers) }
-    ensures shape { IfOk result (λ made. made.1.streamer.shape ≡ geometry.now) }
-    ensures writer { IfOk result (λ made. made.1.streamer.writer ≡ first_writer (sizes_of geometry.now frames samplers)) }
-{
-    let (words, streamer) = Streamer::new(alloc, geometry, frames, samplers)?;
-    let (queues, asks, answers) = new_queues(alloc, 1)?;
-    let report = blank_report(alloc, 0)?;
-    let shared = WordShared { words, queues };
-    let own = WordStreamer {
-        streamer,
-        answers,
-        report,
-    };
-    Ok((shared, own, asks))
 }
 
 impl<F: File + Send> PassMachine for WordMachine<F> {

@@ -25,4 +25,5 @@ returns g c =
           (once_given g.F.File c.args.words.now v w old ws e.rest e.given e.of e.passes same q answers report batch asked);
       rest = ap (λ (k : KitView _). record k { samplers = refill (length xs) xs ws }) c.self.view_is;
       journal = ap (λ (x : WriterView). x.journal) e.given.rest;
+      given = e.given;
     }

@@ -25,8 +25,8 @@ returns g c =
       λ b may. subst (λ (m : WordView _). Ends nearest (kit_drawn kit w) (IsIdleKit g.F.File words w kit) job (Ok c.finish-report.result)
           (kit_state g.F.File m.words b.streamer.streamer.writer.journal (kit_before m.kit b)) (kit_state g.F.File words w.writer.journal kit))
           c.self.view_is (record {
-            ran = c.finish-report.ensures.ran b
-                (subst (λ (m : WordView _). MayFinish g.F.File m.words m.queues m.kit job loaders samplers own b) (sym c.self.view_is) may);
+            ran = (c.finish-report.ensures.ran b
+                (subst (λ (m : WordView _). MayFinish g.F.File m.words m.queues m.kit job loaders samplers own b) (sym c.self.view_is) may)).ran;
             goes_on = c.finish-report.ensures.idle;
             broke = tt;
           }),

@@ -5,7 +5,8 @@ use Rattle.vt_pass.proofs.round.RoundKit.ask.Goals as goal
 
 pub returns : goal.returns
 returns g c = λ answers s d crew pages given.
-    let set_up = subst (λ (r : RoundKitView _). IsSetUp c.args.queues.now r answers (tile_length s d) crew (length c.args.batch.now)) (sym c.self.view_is) given in
+    let set_up = subst (λ (r : RoundKitView _). IsSetUp c.args.queues.now r answers (tile_length s d) crew (length c.args.batch.now))
+    (sym c.self.view_is) given in
     let asked = c.ask_batch.ensures in
     record {
       passes = record { requests = asked.of.0; results = set_up.new.passes.results };

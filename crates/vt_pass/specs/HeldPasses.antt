@@ -1,0 +1,21 @@
+-- At which versions the rows of a pass over shared words were drawn.
+use Rattle.std.specs.Prelude.{◌≡◌, ℕ, Some, List, ◌++◌, slice_get, Contains}
+use Rattle.vt_journal.specs.declared.changes.RowLine.{RowLine}
+use Rattle.vt_grace.specs.declared.views.Returned.{Returned}
+use Rattle.vt_grace.specs.declared.views.WriterView.{WriterView}
+use Rattle.vt_grace.specs.WriterViews.{version_of}
+
+-- a row's version is one that a pass of its sampler held, which was given at this start and is among these that were taken back
+pub record IsHeldRow (start : ℕ) (returned : List Returned) (row : RowLine) : Type 0 where
+  pub by : Returned
+  pub among : Contains returned by
+  pub sampler : by.sampler ≡ row.sampler
+  pub given : by.given ≡ start
+  pub held : Contains by.held row.version
+
+-- between two views of the writer passes were taken back, and each of these rows was drawn at a version that such a pass of its sampler
+-- held, which was given at the newest version of the first view
+pub record AreHeldRows (v w : WriterView) (rows : List RowLine) : Type 0 where
+  pub more : List Returned
+  pub returned : w.returned ≡ more ++ v.returned
+  pub each : (y : ℕ) (row : RowLine) → slice_get rows y ≡ Some row → IsHeldRow (version_of v) more row

@@ -1,0 +1,184 @@
+//! A pass over words and a streamer that its caller holds.
+
+ghost use Rattle.std.specs.Prelude.{◌≡◌, ◌≤◌, OnOk, length, IfOk, IfErr};
+ghost use Rattle.std.specs.List.{concat};
+ghost use Rattle.vt_definitions.specs.Depths.{IsDepth};
+ghost use Rattle.vt_journal.specs.Changes.{newest};
+ghost use Rattle.vt_workers.specs.Jobs.{job_of};
+ghost use Rattle.vt_machine.specs.Crews.{IsCrew, last_start};
+ghost use Rattle.vt_machine.specs.Machines.{AreStoresFor};
+ghost use Rattle.vt_machine.specs.Outcomes.{IsBatchFor};
+ghost use Rattle.vt_machine.specs.Passes.{MapsRoot, IsJobFor};
+ghost use Rattle.vt_pass.specs.PassKits.{IsPreparedFor};
+ghost use Rattle.vt_pass.specs.Kits.{kit_setup, kit_state, kit_rows, IsKit, IsIdleKit, IsSameKit};
+ghost use Rattle.vt_pass.specs.WordMachines.{KitRan};
+
+use crate::kit::WordKit;
+use crate::parts::new_parts;
+use crate::pass::ask_and_run;
+use crate::shared::WordShared;
+use crate::workers::WordStreamer;
+use std::alloc::Global;
+use std::marker::Model;
+use std::mem;
+use std::sync::Wait;
+use std::thread::Threads;
+use vt_camera::Path;
+use vt_draw::Shot;
+use vt_evict::Batch;
+use vt_feedback::Counts;
+use vt_grace::Words;
+use vt_loaders::Queues;
+use vt_machine::{Crew, PassReport};
+use vt_outside::{File, Gate, NoMemory};
+use vt_pages::Geometry;
+use vt_streamer::Streamer;
+use vt_tiles::Stores;
+
+/// What a pass over shared words is done with, where the caller holds the words and their streamer: the samplers, the
+/// loaders' stores, the queues, and room for what the pass tells. Contracts see the queues and the rest.
+pub struct PassKit<F: File> {
+    queues: Queues,
+    // The streamer stands in it while a pass is run, and else a spare one of one frame.
+    own: WordStreamer,
+    kit: WordKit<F>,
+}
+
+impl<F: File> Model for PassKit<F> {
+    ghost use Rattle.vt_pass.specs.PassKits.{PassKitView};
+
+    ghost Value = { PassKitView F };
+
+    ghost view = { λ k. record { queues = k.queues; answers = k.own.answers; report = k.own.report; kit = k.kit } };
+}
+
+impl<F: File> PassKit<F> {
+    /// The kit of a crew with one store for each loader, for pictures of the path's sides. A refusal hands the stores
+    /// back.
+    ///
+    /// The stores are cut as the geometry says, their samples have `depth` bytes, and all of them tell the same bytes
+    /// or none does.
+    pub fn new(
+        alloc: Global,
+        geometry: &Geometry,
+        path: &Path,
+        crew: &Crew,
+        depth: u32,
+        stores: Stores<F>,
+    ) -> Result<PassKit<F>, (Stores<F>, NoMemory)>
+        requires crew { IsCrew crew.now }
+        requires depth { IsDepth depth }
+        requires stores { AreStoresFor F.File geometry.now depth crew.now.loaders stores.elements }
+        ensures kit { IfOk result (λ k. IsKit F.File k.kit) }
+        ensures shape { IfOk result (λ k. k.kit.shape ≡ geometry.now) }
+        ensures depth { IfOk result (λ k. k.kit.depth ≡ depth) }
+        ensures width { IfOk result (λ k. k.kit.width ≡ path.now.width) }
+        ensures height { IfOk result (λ k. k.kit.height ≡ path.now.height) }
+        ensures crew { IfOk result (λ k. k.kit.crew ≡ crew.now) }
+        ensures stores { IfOk result (λ k. k.kit.stores ≡ stores.elements) }
+        ensures refused { IfErr result (λ e. e.0.elements ≡ stores.elements) }
+    {
+        // A tile's side is small, and so one frame is within its limits.
+        let _side = geometry.tile();
+        let (shared, own, asks) = match new_parts(alloc, geometry, 1, 1) {
+            Ok(parts) => parts,
+            Err(refusal) => return Err((stores, refusal)),
+        };
+        let WordShared { words: _, queues } = shared;
+        match WordKit::new(alloc, geometry, path, crew, depth, asks, stores) {
+            Ok(kit) => Ok(PassKit { queues, own, kit }),
+            Err(refused) => Err(refused),
+        }
+    }
+
+    /// How many pixels of the last pass's picture need each page.
+    pub fn counts(&self) -> &Counts
+        ensures { result.now ≡ self.now.kit.counts }
+    {
+        self.kit.counts()
+    }
+
+    /// The loaders' stores, in place of the kit.
+    pub fn end(self) -> Stores<F>
+        ensures { result.elements ≡ self.kit.stores }
+    {
+        let PassKit {
+            queues: _,
+            own: _,
+            kit,
+        } = self;
+        kit.end()
+    }
+
+    /// Makes all room for one pass that streams a batch into words. No sampler has a pass of them, the journal has at most
+    /// 2^61 changes, and the batch is lawful for the newest version and no longer than the crew's batches. After a refusal
+    /// the kit can only be ended.
+    pub fn prepare(
+        &mut self,
+        _words: &Words,
+        streamer: &mut Streamer,
+        batch: &Batch,
+    ) -> Result<(), NoMemory>
+        requires idle { IsIdleKit F.File _words.now streamer.old self.old.kit }
+        requires lawful { IsBatchFor streamer.old.shape (length streamer.old.owners)
+            (newest streamer.old.writer.journal) batch.now.elements }
+        requires few { length batch.now.elements ≤ self.old.kit.crew.batch }
+        requires early { length streamer.old.writer.journal ≤ last_start }
+        ensures prepared { OnOk result (IsPreparedFor F.File _words.now streamer.new self.new batch.now.elements) }
+        ensures streamer { streamer.new ≡ record streamer.old { spare = streamer.new.spare } }
+        ensures same { IsSameKit F.File self.old.kit self.new.kit }
+    {
+        self.kit.prepare(
+            &mut self.queues,
+            streamer,
+            &mut self.own.answers,
+            &mut self.own.report,
+            batch,
+        )
+    }
+
+    /// The samples of the last pass's picture: its rows from the top. It asks for their memory once.
+    pub fn picture(&self, alloc: Global) -> Result<Vec<u8>, NoMemory>
+        requires { IsKit F.File self.now.kit }
+        ensures { IfOk result (λ picture. picture.items ≡ concat (kit_rows self.now.kit)) }
+    {
+        self.kit.picture(alloc)
+    }
+}
+
+/// Draws the picture of a shot over the words, and streams the batch into them at the same time: all requests are put
+/// before the workers begin; samplers draw, each row under a version that it holds meanwhile, while loaders read and the
+/// streamer applies the results as they come. It takes no memory and refuses nothing. It may wait.
+///
+/// The kit is prepared for this batch with these words and their streamer, and since then no pass was run and the words
+/// were not changed.
+pub fn run_pass<Rt: Threads + Wait + Sync, F: File + Send, G: Gate + Sync>(
+    rt: &Rt,
+    kit: &mut PassKit<F>,
+    words: &Words,
+    streamer: &mut Streamer,
+    shot: &Shot<'_>,
+    batch: &Batch,
+    gate: &G,
+) -> PassReport
+    requires prepared { IsPreparedFor F.File words.now streamer.old kit.old batch.now.elements }
+    requires root { MapsRoot (kit_state F.File words.now streamer.old.writer.journal kit.old.kit) }
+    requires job { IsJobFor (kit_setup F.File words.now kit.old.kit) (job_of shot.now batch.now.elements) }
+    ensures ran { KitRan F.File words.now (job_of shot.now batch.now.elements) result streamer.old kit.old.kit
+        streamer.new kit.new.kit }
+    ensures idle { IsIdleKit F.File words.now streamer.new kit.new.kit }
+{
+    mem::swap(streamer, &mut kit.own.streamer);
+    let report = ask_and_run(
+        rt,
+        &mut kit.kit,
+        words,
+        &kit.queues,
+        &mut kit.own,
+        shot,
+        batch,
+        gate,
+    );
+    mem::swap(streamer, &mut kit.own.streamer);
+    report
+}
