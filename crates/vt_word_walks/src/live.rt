@@ -8,7 +8,7 @@ ghost use Rattle.vt_walk.specs.Walks.{given_to, AreSettings};
 ghost use Rattle.vt_walk.specs.States.{AreOpen};
 ghost use Rattle.vt_walk.specs.Courses.{walk_course, file_of, Walks};
 ghost use Rattle.vt_walk.specs.Closing.{AreOtherNamesAsBefore};
-ghost use Rattle.vt_word_walks.specs.WordDrawn.{drawn_of};
+ghost use Rattle.vt_word_walks.specs.WordDrawn.{drawn_over};
 
 use std::alloc::Global;
 use std::sync::Wait;
@@ -36,7 +36,7 @@ pub fn walk_live<Rt: Threads + Wait + Sync, D: Folder, O: Sink, G: Gate + Sync>(
     requires bytes { D.File.bytes store.file ≡ bytes_at (D.files folder.old) names.now.store.now }
     requires tells { is_some (D.File.bytes store.file) ≡ is_some (D.files folder.old) }
     requires opened { AreOpen 1 names.now.store.now (D.asked folder.old) (file_of D.File.File store) }
-    ensures walked { Walks drawn_of (given_to nearest D.File.File store path.now names.now settings.now false)
+    ensures walked { Walks (drawn_over D.File.File) (given_to nearest D.File.File store path.now names.now settings.now false)
         (walk_course D.Folder O.Sink names.now.store.now (file_of D.File.File store) [] folder.old folder.new out.old
         out.new) result }
     ensures few { let needed = pinned_of store.shape settings.now.pinned in settings.now.frames < needed
@@ -67,7 +67,7 @@ pub fn walk_settled<Rt: Threads + Wait + Sync, D: Folder, O: Sink, G: Gate + Syn
     requires bytes { D.File.bytes store.file ≡ bytes_at (D.files folder.old) names.now.store.now }
     requires tells { is_some (D.File.bytes store.file) ≡ is_some (D.files folder.old) }
     requires opened { AreOpen 1 names.now.store.now (D.asked folder.old) (file_of D.File.File store) }
-    ensures walked { Walks drawn_of (given_to nearest D.File.File store path.now names.now settings.now true)
+    ensures walked { Walks (drawn_over D.File.File) (given_to nearest D.File.File store path.now names.now settings.now true)
         (walk_course D.Folder O.Sink names.now.store.now (file_of D.File.File store) [] folder.old folder.new out.old
         out.new) result }
     ensures few { let needed = pinned_of store.shape settings.now.pinned in settings.now.frames < needed
