@@ -4,8 +4,9 @@
 usage: run.py [SECONDS [PROGRAM [SEED [COMMAND..]]]]     (3600, crates/vtex/out/vtex, a new seed and all commands where they are not given)
 
 Outside the gate. A case is a command with random textures, paths, stores and journals, of which some are damaged or missing, and random options. One in
-three has a call that fails or comes short. At the end it says how many cases of each kind it ran, how many inputs were damaged in which way, and how many
-cases were wrong; each of these is kept in a folder with its words, its inputs and what the program left. The same seed gives the same cases.
+three has a call that fails or comes short. At the end it says how many cases of each kind it ran, how many inputs were damaged in which way, how many passes,
+versions and rows the journals of walks told and at which versions of their passes rows were drawn, and how many cases were wrong; each of these is kept in a
+folder with its words, its inputs and what the program left. The same seed gives the same cases, but not the same order in which tiles come.
 """
 import os
 import random
@@ -26,10 +27,29 @@ from judge import Doubt
 from stores import contents
 
 
+def rows_of(text):
+    """What a journal tells, counted: its passes, its versions, and its rows by where in their pass the version lies at which they were drawn."""
+    counts, start, last = Counter(), 0, 0
+    for line in text.split(b"\n")[:-1]:
+        words = line.split(b" ")
+        if words[0] == b"pass":
+            start = last
+            counts["passes"] += 1
+        elif words[0] in (b"map", b"unmap"):
+            last = int(words[1])
+            counts["versions"] += 1
+        elif words[0] == b"row":
+            version = int(words[3])
+            place = "at the start" if version == start else "at the newest version" if version == last else "in between"
+            counts["rows " + (place if start < last else "of passes that change nothing")] += 1
+    return counts
+
+
 class Soak:
     def __init__(self, program, scratch, commands):
         self.failing, self.folder = Failing(program, scratch), os.path.join(scratch, "folder")
-        self.commands, self.counts, self.damages, self.wrong, self.kept = commands, Counter(), Counter(), 0, None
+        self.commands, self.wrong, self.kept = commands, 0, None
+        self.counts, self.damages, self.told = Counter(), Counter(), Counter()
         os.mkdir(self.folder)
         os.chdir(self.folder)
 
@@ -76,6 +96,8 @@ class Soak:
             at = chance.randint(1, calls) if calls else 0
         flaws = self.flaws(case, kind, at)
         self.counts[case.kind + (", a call fails" if at else "")] += 1
+        if case.settings and os.path.isfile("j.txt"):
+            self.told.update(rows_of(contents("j.txt")))
         self.damages.update(case.damages)
         if flaws:
             self.wrong += 1
@@ -94,7 +116,9 @@ def main():
             soak.try_case(seed)
             seed += 1
         os.chdir(top)
-    for title, count in sorted(soak.counts.items()) + [("damaged input, " + title, count) for title, count in sorted(soak.damages.items())]:
+    damages = [("damaged input, " + title, count) for title, count in sorted(soak.damages.items())]
+    told = [("journals of walks, " + title, count) for title, count in sorted(soak.told.items())]
+    for title, count in sorted(soak.counts.items()) + damages + told:
         print("%s: %d" % (title, count))
     print("%d cases, %d wrong" % (sum(soak.counts.values()), soak.wrong))
     return 1 if soak.wrong else 0

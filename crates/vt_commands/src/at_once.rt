@@ -1,5 +1,5 @@
-//! The commands that wait for nobody: all but `walk` and `trial`. A command is a file of vt_store_commands or vt_walk_commands, and a
-//! line in the `match` here.
+//! The commands that wait for nobody: all but `walk` and `trial`. A command is a file of vt_store_commands or
+//! vt_walk_commands, and a line in the `match` here.
 
 ghost use Rattle.std.specs.Prelude.{◌≡◌, false};
 ghost use Rattle.vt_words.specs.Arguments.{texts};
@@ -33,8 +33,8 @@ fn is_waiting_name(name: &str) -> bool
     name == "walk" || name == "trial"
 }
 
-/// Does what `run` does, where the words are not those of a command that may wait: it starts no thread and waits for nobody, so it
-/// returns whatever bytes, places and faults come.
+/// Does what `run` does, where the words are not those of a command that may wait: it starts no thread and waits for
+/// nobody, so it returns whatever bytes, places and faults come.
 pub fn run_at_once<D: Folder, O: Sink, E: Sink>(
     alloc: Global,
     words: &[String],
@@ -43,7 +43,8 @@ pub fn run_at_once<D: Folder, O: Sink, E: Sink>(
     err: &mut E,
 ) -> u8
     requires { may_wait (texts words.now) ≡ false }
-    ensures { IsRun (run_of no_machine D.Folder O.Sink E.Sink (texts words.now) folder.old folder.new out.old out.new err.old
+    ensures { IsRun (run_of no_machine D.Folder O.Sink E.Sink (texts words.now) folder.old folder.new out.old out.new
+        err.old
         err.new) result }
 {
     let end = do_at_once(alloc, words, folder, out);
@@ -59,7 +60,8 @@ fn do_at_once<'a, D: Folder, O: Sink>(
     out: &mut O,
 ) -> Result<(), Refusal<'a>>
     requires { may_wait (texts words.now) ≡ false }
-    ensures { EndsRun no_machine (texts words.now) (course D.Folder O.Sink folder.old folder.new out.old out.new) result }
+    ensures { EndsRun no_machine (texts words.now) (course D.Folder O.Sink folder.old folder.new out.old out.new)
+        result }
 {
     let command = read_command(alloc, words)?;
     perform_at_once(alloc, &command, folder, out)
@@ -74,7 +76,8 @@ fn perform_at_once<'a, D: Folder, O: Sink>(
 ) -> Result<(), Refusal<'a>>
     requires lawful { IsLawful command.now }
     requires at_once { MayWait (shown command.now) → ⊥ }
-    ensures { EndsBy (terms_of no_machine (shown command.now)) (course D.Folder O.Sink folder.old folder.new out.old out.new) result }
+    ensures { EndsBy (terms_of no_machine (shown command.now))
+        (course D.Folder O.Sink folder.old folder.new out.old out.new) result }
 {
     match command {
         Command::Plain(words) => plain(alloc, words, folder, out),

@@ -12,20 +12,21 @@ use std::thread::Threads;
 use vt_machine::PassMachine;
 use vt_outside::{Folder, Gate, Sink};
 
-/// Does what the words after the program's name say, and answers the status of the program: 0 where it is done, 1 for want
-/// of memory, 2 for words that are those of no command, 3 for a fault or a missing name, 4 for an input outside its format, 5
-/// where the frames are too few.
+/// Does what the words after the program's name say, and answers the status of the program: 0 where it is done, 1 for
+/// want of memory, 2 for words that are those of no command, 3 for a fault or a missing name, 4 for an input outside
+/// its format, 5 where the frames are too few.
 ///
-/// `plain` reads the path and then the texture, and writes the plain picture of each camera; `tile` reads a texture and writes
-/// its tile store; `info` tells what a tile store's header says; `gen` writes the texture of a number; `upgrade` reads a tile
-/// store of one-byte samples and writes the one of two-byte samples that it makes; `replay` reads a path, a store and a journal,
-/// and writes the replay of each picture of the journal; `walk` reads a path and opens a store, and writes a journal and each
-/// picture of the path as a machine of type `M` draws it while it streams the tiles of the store, whichever machine that is; `trial`
-/// walks settled in memory over a texture and a path that are made from a number, and tells how many passes and reads it took.
-/// `walk` and `trial` may wait; any other words are handed to `run_at_once`.
+/// `plain` reads the path and then the texture, and writes the plain picture of each camera; `tile` reads a texture
+/// and writes its tile store; `info` tells what a tile store's header says; `gen` writes the texture of a number;
+/// `upgrade` reads a tile store of one-byte samples and writes the one of two-byte samples that it makes; `replay`
+/// reads a path, a store and a journal, and writes the replay of each picture of the journal; `walk` reads a path and
+/// opens a store, and writes a journal and each picture of the path as a machine of type `M` draws it while it
+/// streams the tiles of the store, whichever machine that is; `trial` walks settled in memory over a texture and a
+/// path that are made from a number, and tells how many passes and reads it took. `walk` and `trial` may wait; any
+/// other words are handed to `run_at_once`.
 ///
-/// The contract is the record `IsRun` of `specs/Runs.antt`, with a field for each promise: what stands, what was asked, the
-/// cause of each status, and the line on the error output.
+/// The contract is the record `IsRun` of `specs/Runs.antt`, with a field for each promise: what stands, what was
+/// asked, the cause of each status, and the line on the error output.
 pub fn run<
     M: PassMachine<File = D::File>,
     Rt: Threads + Wait + Sync,

@@ -1,5 +1,5 @@
-//! The commands that may wait for other threads: `walk` and `trial`. A command is a file of vt_walk_commands, and a line in the `match`
-//! here.
+//! The commands that may wait for other threads: `walk` and `trial`. A command is a file of vt_walk_commands, and a
+//! line in the `match` here.
 
 ghost use Rattle.std.specs.Prelude.{◌≡◌, true};
 ghost use Rattle.vt_words.specs.Arguments.{texts};

@@ -1,5 +1,5 @@
 -- Where the words of a table are: the newest version, an announcement for each sampler, four banks of entries, the texels of the frames.
-use Rattle.std.specs.Prelude.{ℕ, ◌+◌, ◌*◌, ◌%◌, List, [], take, drop}
+use Rattle.std.specs.Prelude.{◌≡◌, ℕ, ◌+◌, ◌*◌, ◌%◌, List, [], take, drop}
 use Rattle.vt_journal.specs.declared.changes.Change.{Change}
 use Rattle.vt_journal.specs.declared.changes.Change.TheVariants.{Map, Unmap}
 use Rattle.vt_grace.specs.declared.sizes.Sizes.{Sizes}
@@ -27,6 +27,12 @@ texel_place z frame place = frame * z.texels + place
 -- the place of a texel of a frame, among the words
 abbrev pub texel_word : Sizes → ℕ → ℕ → ℕ
 texel_word z frame place = 1 + z.samplers + 4 * z.pages + texel_place z frame place
+
+-- the words of the first entry of a bank and of the first texel, and how many texels a frame has
+pub record AreStarts (z : Sizes) (bank entry texel count : ℕ) : Type 0 where
+  pub entries : entry ≡ entry_word z bank 0
+  pub texels : texel ≡ texel_word z 0 0
+  pub counted : count ≡ z.texels
 
 -- the words of a frame, among those of all frames
 abbrev pub frame_words : Sizes → List ℕ → ℕ → List ℕ

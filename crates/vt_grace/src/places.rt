@@ -16,6 +16,23 @@ pub(crate) fn count_words(sizes: &Sizes) -> usize
         + sizes.frames as usize * sizes.texels as usize
 }
 
+/// The word of the first entry of a bank.
+pub(crate) fn first_entry(sizes: &Sizes, bank: usize) -> usize
+    requires limits { AreWithinLimits sizes.now }
+    requires bank { bank < 4 }
+    ensures { result ≡ entry_word sizes.now bank 0 }
+{
+    1 + sizes.samplers as usize + bank * sizes.pages as usize
+}
+
+/// The word of the first texel of the first frame.
+pub(crate) fn first_texel(sizes: &Sizes) -> usize
+    requires { AreWithinLimits sizes.now }
+    ensures { result ≡ texel_word sizes.now 0 0 }
+{
+    1 + sizes.samplers as usize + 4 * sizes.pages as usize
+}
+
 /// The word of a page's entry in a bank.
 pub(crate) fn word_of_entry(sizes: &Sizes, bank: usize, page: usize) -> usize
     requires limits { AreWithinLimits sizes.now }

@@ -5,7 +5,7 @@ ghost use Rattle.vt_grace.specs.PassViews.{NoneAbove, idle, noting, wording, Has
 ghost use Rattle.vt_grace.specs.Places.{texel_word};
 ghost use Rattle.vt_grace.specs.Tokens.{IsPassOf, IsHeldOf};
 
-use crate::places::{start_of_frame, word_of_entry};
+use crate::places::{first_entry, first_texel, start_of_frame};
 use crate::plays::{Announce, Hint, Hold, Read, ReadWord, Unpin};
 use crate::tokens::{Held, Pass, Words};
 
@@ -38,6 +38,9 @@ impl Pass {
             seat,
             sampler,
             version,
+            first_entry: first_entry(&words.sizes, (version % 4) as usize),
+            first_texel: first_texel(&words.sizes),
+            texels: words.sizes.texels as usize,
         }
     }
 }
@@ -63,8 +66,7 @@ impl Held {
         ensures most { result ≤ words.now.sizes.frames }
         ensures root { page ≡ words.now.sizes.root → self.old.view.rooted ≡ true → result ≢ 0 }
     {
-        let bank = (self.version % 4) as usize;
-        let word = word_of_entry(&words.sizes, bank, page as usize);
+        let word = self.first_entry + page as usize;
         let shared = &words.table.shared;
         shared.load::<Read>(&mut self.seat, word)
     }
@@ -79,8 +81,9 @@ impl Held {
         ensures version { self.new.version ≡ self.old.version }
         ensures view { self.new.view ≡ wording self.old.version frame place result self.old.view }
     {
-        let start = start_of_frame(&words.sizes, frame);
-        self.word_from(words, start, frame, place)
+        let word = self.first_texel + (frame as usize * self.texels + place as usize);
+        let shared = &words.table.shared;
+        shared.load::<ReadWord>(&mut self.seat, word)
     }
 
     /// The same where the index of the frame's first word is at hand, which is read once for many places.
@@ -110,6 +113,9 @@ impl Held {
             mut seat,
             sampler,
             version: _,
+            first_entry: _,
+            first_texel: _,
+            texels: _,
         } = self;
         let shared = &words.table.shared;
         shared.store::<Unpin>(&mut seat, 1 + sampler as usize, 0);

@@ -52,18 +52,26 @@ pub struct Held {
     pub(crate) seat: Chair,
     pub(crate) sampler: u32,
     pub(crate) version: u64,
+    // The word of the first entry of the version's bank, and of the first texel.
+    pub(crate) first_entry: usize,
+    pub(crate) first_texel: usize,
+    // How many texels a frame has.
+    pub(crate) texels: usize,
 }
 
 impl Model for Held {
+    ghost use Rattle.std.specs.Prelude.{◌%◌};
     ghost use Rattle.vt_grace.specs.Seats.{IsPassing, pass_at};
     ghost use Rattle.vt_grace.specs.Holds.{IsHolding};
+    ghost use Rattle.vt_grace.specs.Places.{AreStarts};
     ghost use Rattle.vt_grace.specs.Values.{HeldValue};
 
     ghost Value = { HeldValue };
 
     ghost view = { λ h. record { table = h.seat.table_id; version = h.version; view = pass_at h.seat } };
 
-    ghost invariant = { λ h. IsPassing h.seat × IsHolding h.seat h.sampler h.version };
+    ghost invariant = { λ h. IsPassing h.seat × IsHolding h.seat h.sampler h.version
+        × AreStarts (pass_at h.seat).sizes (h.version % 4) h.first_entry h.first_texel h.texels };
 }
 
 /// The right to publish versions. Contracts see of which table it is, and what the writer knows, with which the words agree: only the

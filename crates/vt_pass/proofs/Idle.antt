@@ -24,14 +24,14 @@ use Rattle.vt_machine.specs.Machines.{told_by}
 use Rattle.vt_machine.specs.Passes.{MapsRoot, MayPlace, IsJobFor, IsUntouched, IsSpent}
 use Rattle.vt_noted.specs.Stored.{AreStored}
 use Rattle.vt_noted.proofs.Growing.{stored_grow}
-use Rattle.vt_pass.specs.declared.workers.WordSampler.{WordSampler}
-use Rattle.vt_pass.specs.declared.workers.WordStreamer.{WordStreamer}
-use Rattle.vt_pass.specs.WordTasks.{MayDraw}
+use Rattle.vt_word_workers.specs.declared.workers.WordSampler.{WordSampler}
+use Rattle.vt_word_workers.specs.declared.workers.WordStreamer.{WordStreamer}
+use Rattle.vt_word_workers.specs.WordTasks.{MayDraw}
 use Rattle.vt_pass.specs.Placed.{HasPlaced}
-use Rattle.vt_pass.specs.Kits.{KitView, kit_state, IsKit, IsIdleKit, IsSameKit, AreAllIn}
+use Rattle.vt_word_workers.specs.Kits.{KitView, kit_state, IsKit, IsIdleKit, IsSameKit, AreAllIn}
 use Rattle.vt_pass.specs.WordMachines.{WordView, journal_by, word_state, IsIdleBy, IsReadyBy}
-use Rattle.vt_pass.proofs.Kits.{may_draw}
-use Rattle.vt_pass.proofs.Rooms.{same_none, same_lists, told_same, files_same, fit_still}
+use Rattle.vt_word_workers.proofs.Kits.{may_draw}
+use Rattle.vt_word_workers.proofs.Rooms.{same_none, same_lists, told_same, files_same, fit_still}
 
 -- no pass of the first writer is out
 none_out : (m n : ℕ) → get_or (replicate m false) n false ≡ false

@@ -13,13 +13,13 @@ use Rattle.vt_workers.specs.All.{AllDid}
 use Rattle.vt_machine.specs.declared.crew.PassReport.{PassReport}
 use Rattle.vt_machine.specs.Nearest.{nearest}
 use Rattle.vt_machine.specs.Passes.{MapsRoot, IsJobFor, IsUntouched}
-use Rattle.vt_pass.specs.declared.workers.WordSampler.{WordSampler}
-use Rattle.vt_pass.specs.declared.workers.WordStreamer.{WordStreamer}
-use Rattle.vt_pass.specs.WordTasks.{HasDrawn, HasFed}
-use Rattle.vt_pass.specs.GivenPasses.{HasGiven}
-use Rattle.vt_pass.specs.HeldPasses.{IsHeldRow, AreHeldRows}
-use Rattle.vt_pass.specs.Kits.{KitView, kit_setup, kit_state, IsReadyKit}
-use Rattle.vt_pass.specs.WordMachines.{Begun, AreOut, MayFinish, KitRan, kit_before, kit_drawn}
+use Rattle.vt_word_workers.specs.declared.workers.WordSampler.{WordSampler}
+use Rattle.vt_word_workers.specs.declared.workers.WordStreamer.{WordStreamer}
+use Rattle.vt_word_workers.specs.WordTasks.{HasDrawn, HasFed}
+use Rattle.vt_word_workers.specs.GivenPasses.{HasGiven}
+use Rattle.vt_word_workers.specs.HeldPasses.{IsHeldRow, AreHeldRows}
+use Rattle.vt_word_workers.specs.Kits.{KitView, kit_setup, kit_state, IsReadyKit}
+use Rattle.vt_word_workers.specs.KitPasses.{Begun, AreOut, MayFinish, KitRan, kit_before, kit_drawn}
 use Rattle.vt_pass.specs.WordLaws.{ran_after, begun, kit_back, same_kit}
 
 module _ {F : Type 0} (g : FileMeanings F) (words : WordsValue) (q : Queues) (was b d : WordStreamer) (k l : KitView F) (job : Job)

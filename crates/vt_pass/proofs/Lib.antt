@@ -1,13 +1,2 @@
-pub mod Kits
-pub mod Rooms
-pub mod Returned
-pub mod Contents
-pub mod Ending
-pub mod RowLines
-pub mod Ended
-pub mod Finished
-pub mod GivenOnes
-pub mod ReturnedOnes
-pub mod Finishing
 pub mod Idle
 pub mod Lending

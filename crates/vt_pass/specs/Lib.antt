@@ -1,9 +1,4 @@
-pub mod WordTasks
-pub mod RoundKits
-pub mod GivenPasses
-pub mod Kits
 pub mod PassKits
 pub mod Placed
-pub mod HeldPasses
 pub mod WordMachines
 pub mod WordLaws

@@ -8,7 +8,7 @@ use Rattle.vt_queue.specs.declared.queue.QueuePass.{QueuePass}
 use Rattle.vt_queue.specs.declared.items.Loaded.{Loaded}
 use Rattle.vt_loaders.specs.declared.queued.Queues.{Queues}
 use Rattle.vt_streaming.specs.declared.report.StreamReport.{StreamReport}
-use Rattle.vt_pass.specs.Kits.{KitView, IsPreparedKit}
+use Rattle.vt_word_workers.specs.Kits.{KitView, IsPreparedKit}
 
 -- its queues, the pass by which the streamer takes results, what the streamer tells, and what else a pass is done with
 pub record PassKitView (F : Type 0) : Type 0 where

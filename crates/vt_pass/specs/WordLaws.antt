@@ -22,13 +22,14 @@ use Rattle.vt_machine.specs.Nearest.{nearest}
 use Rattle.vt_machine.specs.Passes.{IsJobFor, IsUntouched, Ran, Broke, Ends}
 use Rattle.vt_rounds.specs.BatchRounds.{Begun as Round}
 use Rattle.vt_rounds.specs.Sizes.{AreSized}
-use Rattle.vt_pass.specs.declared.workers.WordSampler.{WordSampler}
-use Rattle.vt_pass.specs.declared.workers.WordStreamer.{WordStreamer}
-use Rattle.vt_pass.specs.WordTasks.{HasDrawn, HasFed}
-use Rattle.vt_pass.specs.RoundKits.{IsDealt}
-use Rattle.vt_pass.specs.GivenPasses.{HaveNewPasses}
-use Rattle.vt_pass.specs.Kits.{KitView, kit_setup, kit_state, IsFitKit, IsReadyKit}
-use Rattle.vt_pass.specs.WordMachines.{WordView, Begun, word_state, journal_by, kit_before, drawn_by, AreOut, IsReadyBy, IsMustered, IsIdleBy, MayFinish, WordEnds, WordFinishes}
+use Rattle.vt_word_workers.specs.declared.workers.WordSampler.{WordSampler}
+use Rattle.vt_word_workers.specs.declared.workers.WordStreamer.{WordStreamer}
+use Rattle.vt_word_workers.specs.WordTasks.{HasDrawn, HasFed}
+use Rattle.vt_word_workers.specs.RoundKits.{IsDealt}
+use Rattle.vt_word_workers.specs.GivenPasses.{HaveNewPasses}
+use Rattle.vt_word_workers.specs.Kits.{KitView, kit_setup, kit_state, IsFitKit, IsReadyKit}
+use Rattle.vt_word_workers.specs.KitPasses.{Begun, kit_before, AreOut, MayFinish}
+use Rattle.vt_pass.specs.WordMachines.{WordView, word_state, journal_by, drawn_by, IsReadyBy, IsMustered, IsIdleBy, WordEnds, WordFinishes}
 
 -- a pass that was run refused nothing
 pub none_refused : (r : Result PassReport NoMemory) → IsOk r → OnErr r ⊥

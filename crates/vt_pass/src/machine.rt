@@ -1,16 +1,17 @@
 //! The machine over a page table of shared words.
 
-ghost use Rattle.std.specs.Prelude.{IsOk};
+ghost use Rattle.std.specs.Prelude.{◌≡◌, [], IsOk, IfOk, OnOk, OnErr};
+ghost use Rattle.vt_definitions.specs.Depths.{IsDepth};
+ghost use Rattle.vt_machine.specs.Crews.{IsCrew};
+ghost use Rattle.vt_machine.specs.Machines.{AreStoresFor};
+ghost use Rattle.vt_word_workers.specs.Kits.{IsMadeFor};
 ghost use Rattle.vt_workers.specs.Jobs.{job_of};
 ghost use Rattle.vt_machine.specs.Nearest.{nearest};
-ghost use Rattle.vt_pass.specs.WordMachines.{WordView, Begun, word_state, IsIdleBy, IsReadyBy, drawn_by, IsMustered, MayFinish, WordFinishes};
+ghost use Rattle.vt_word_workers.specs.KitPasses.{Begun, MayFinish};
+ghost use Rattle.vt_pass.specs.WordMachines.{WordView, word_state, IsIdleBy, IsReadyBy, drawn_by, IsMustered, WordFinishes};
 
-use crate::kit::WordKit;
-use crate::parts::new_parts;
 use crate::place::place_page;
 use crate::prepare::prepare_pass;
-use crate::shared::WordShared;
-use crate::workers::{WordSampler, WordStreamer};
 use std::alloc::Global;
 use std::marker::Model;
 use std::mem;
@@ -25,8 +26,10 @@ use vt_loaders::QueuedLoader;
 use vt_machine::{Crew, PassMachine, PassReport};
 use vt_outside::{File, Gate, Items, NoMemory};
 use vt_pages::Geometry;
+use vt_queue::{QueuePass, Request};
 use vt_rounds::answered;
 use vt_tiles::Stores;
+use vt_word_workers::{WordKit, WordSampler, WordShared, WordStreamer, new_parts};
 
 /// A machine that draws the rows of a picture, each under a version that it holds meanwhile, and streams the batch at the
 /// same time.
@@ -48,6 +51,34 @@ impl<F: File> Model for WordMachine<F> {
       streamer = m.streamer;
       kit = m.kit;
     } };
+}
+
+// The kit with the stores of a list, which it leaves empty. After a refusal the list has them all.
+fn kit_from<F: File>(
+    alloc: Global,
+    geometry: &Geometry,
+    path: &Path,
+    crew: &Crew,
+    depth: u32,
+    asks: QueuePass<Request>,
+    stores: &mut Stores<F>,
+) -> Result<WordKit<F>, NoMemory>
+    requires crew { IsCrew crew.now }
+    requires depth { IsDepth depth }
+    requires stores { AreStoresFor F.File geometry.now depth crew.now.loaders stores.old.elements }
+    ensures made { IfOk result (IsMadeFor F.File geometry.now depth path.now.width path.now.height crew.now
+        stores.old.elements) }
+    ensures taken { OnOk result (stores.new.elements ≡ []) }
+    ensures refused { OnErr result (stores.new.elements ≡ stores.old.elements) }
+{
+    let held = mem::replace(stores, Items::new(alloc));
+    match WordKit::new(alloc, geometry, path, crew, depth, asks, held) {
+        Ok(kit) => Ok(kit),
+        Err((held, refusal)) => {
+            mem::replace(stores, held).destroy_empty();
+            Err(refusal)
+        }
+    }
 }
 
 impl<F: File + Send> PassMachine for WordMachine<F> {
@@ -100,18 +131,12 @@ impl<F: File + Send> PassMachine for WordMachine<F> {
         stores: &mut Stores<Self::File>,
     ) -> Result<Self, NoMemory> {
         let (shared, own, asks) = new_parts(alloc, geometry, frames, crew.samplers)?;
-        let held = mem::replace(stores, Items::new(alloc));
-        match WordKit::new(alloc, geometry, path, crew, depth, asks, held) {
-            Ok(kit) => Ok(WordMachine {
-                shared,
-                streamer: Some(own),
-                kit,
-            }),
-            Err((held, refusal)) => {
-                mem::replace(stores, held).destroy_empty();
-                Err(refusal)
-            }
-        }
+        let kit = kit_from(alloc, geometry, path, crew, depth, asks, stores)?;
+        Ok(WordMachine {
+            shared,
+            streamer: Some(own),
+            kit,
+        })
     }
 
     fn place<Rt: Threads + Wait + Sync>(

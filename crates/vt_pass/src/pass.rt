@@ -2,12 +2,9 @@
 
 ghost use Rattle.vt_workers.specs.Jobs.{job_of};
 ghost use Rattle.vt_machine.specs.Passes.{MapsRoot, IsJobFor};
-ghost use Rattle.vt_pass.specs.Kits.{kit_setup, kit_state, IsIdleKit, IsPreparedKit, IsReadyKit};
-ghost use Rattle.vt_pass.specs.WordMachines.{KitRan};
+ghost use Rattle.vt_word_workers.specs.Kits.{kit_setup, kit_state, IsIdleKit, IsPreparedKit, IsReadyKit};
+ghost use Rattle.vt_word_workers.specs.KitPasses.{KitRan};
 
-use crate::kit::WordKit;
-use crate::lent::LentShared;
-use crate::workers::WordStreamer;
 use std::sync::Wait;
 use std::thread::Threads;
 use vt_draw::Shot;
@@ -16,6 +13,7 @@ use vt_grace::Words;
 use vt_loaders::Queues;
 use vt_machine::PassReport;
 use vt_outside::{File, Gate};
+use vt_word_workers::{LentShared, WordKit, WordStreamer};
 use vt_workers::work_together;
 
 // Draws the picture of a shot and streams the batch, whose requests were put, at the same time. It may wait.

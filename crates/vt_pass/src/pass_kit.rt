@@ -10,14 +10,10 @@ ghost use Rattle.vt_machine.specs.Machines.{AreStoresFor};
 ghost use Rattle.vt_machine.specs.Outcomes.{IsBatchFor};
 ghost use Rattle.vt_machine.specs.Passes.{MapsRoot, IsJobFor};
 ghost use Rattle.vt_pass.specs.PassKits.{IsPreparedFor};
-ghost use Rattle.vt_pass.specs.Kits.{kit_setup, kit_state, kit_rows, IsKit, IsIdleKit, IsSameKit};
-ghost use Rattle.vt_pass.specs.WordMachines.{KitRan};
+ghost use Rattle.vt_word_workers.specs.Kits.{kit_setup, kit_state, kit_rows, IsKit, IsIdleKit, IsSameKit};
+ghost use Rattle.vt_word_workers.specs.KitPasses.{KitRan};
 
-use crate::kit::WordKit;
-use crate::parts::new_parts;
 use crate::pass::ask_and_run;
-use crate::shared::WordShared;
-use crate::workers::WordStreamer;
 use std::alloc::Global;
 use std::marker::Model;
 use std::mem;
@@ -34,6 +30,7 @@ use vt_outside::{File, Gate, NoMemory};
 use vt_pages::Geometry;
 use vt_streamer::Streamer;
 use vt_tiles::Stores;
+use vt_word_workers::{WordKit, WordShared, WordStreamer, new_parts};
 
 /// What a pass over shared words is done with, where the caller holds the words and their streamer: the samplers, the
 /// loaders' stores, the queues, and room for what the pass tells. Contracts see the queues and the rest.

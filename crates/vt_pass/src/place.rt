@@ -9,7 +9,7 @@ ghost use Rattle.vt_grace.specs.Banks.{MayFill};
 ghost use Rattle.vt_streamer.specs.Banks.{HasPublished};
 ghost use Rattle.vt_streamer.specs.Looks.{HasLooked};
 ghost use Rattle.vt_streamer.specs.Views.{IsStreamerOf, table_of};
-ghost use Rattle.vt_pass.specs.Kits.{AreAllIn};
+ghost use Rattle.vt_word_workers.specs.Kits.{AreAllIn};
 ghost use Rattle.vt_pass.specs.Placed.{HasPlaced};
 
 use vt_grace::Words;

@@ -4,15 +4,13 @@ ghost use Rattle.std.specs.Prelude.{◌≡◌, ◌≤◌, OnOk, length};
 ghost use Rattle.vt_journal.specs.Changes.{newest};
 ghost use Rattle.vt_machine.specs.Crews.{last_start};
 ghost use Rattle.vt_machine.specs.Outcomes.{IsBatchFor};
-ghost use Rattle.vt_pass.specs.Kits.{IsIdleKit, IsReadyKit, IsSameKit};
+ghost use Rattle.vt_word_workers.specs.Kits.{IsIdleKit, IsReadyKit, IsSameKit};
 
-use crate::kit::WordKit;
-use crate::shared::WordShared;
-use crate::workers::WordStreamer;
 use std::sync::Wait;
 use std::thread::Threads;
 use vt_evict::Batch;
 use vt_outside::{File, NoMemory};
+use vt_word_workers::{WordKit, WordShared, WordStreamer};
 
 /// Makes all room for a pass that streams a batch, puts its requests into new queues, and gives the samplers their passes.
 pub(crate) fn prepare_pass<Rt: Threads + Wait, F: File>(

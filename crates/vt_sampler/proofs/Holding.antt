@@ -3,7 +3,7 @@ use Rattle.std.proofs.Common.{◌≡◌, ℕ, ◌+◌, ◌/◌, ◌%◌, ◌≤�
 use Rattle.std.specs.Prelude.{Contains, slice_index, slice_set}
 use Rattle.std.proofs.lemmas.Bool.{cases_lt}
 use Rattle.std.proofs.lemmas.List.{get_or-set_same, get_or-set_other}
-use Rattle.std.proofs.lemmas.List.Elements.{All-contains, Contains-append_left, Contains-append_right}
+use Rattle.std.proofs.lemmas.List.Elements.{All-contains, All-contains_itself, Contains-append_left, Contains-append_right}
 use Rattle.vt_grace.specs.declared.views.PassView.{PassView}
 use Rattle.vt_grace.specs.PassViews.{NoneAbove}
 use Rattle.vt_lookup.specs.Notes.{HasHeldMore}
@@ -33,15 +33,22 @@ was_held_then p q r u v then was = record {
   held = ap (λ (x : PassView). x.held) then.rest ∙ ap (λ (us : List ℕ). v ∷ us) was.held;
   among = Contains-append_right (v ∷ []) was.more u was.among;
   since = was.since;
+  later = was.later;
 }
 
+none_above_rest : (v : ℕ) (us ws : List ℕ) → NoneAbove v (us ++ ws) → NoneAbove v ws
+none_above_rest v us ws h = λ k d low.
+    All-contains (λ x. x ≤ v) (us ++ ws) _ h (Contains-append_right us ws _ (All-contains_itself ws k d low))
+
 -- and what is held now is held
-pub was_held_now : (p q r : PassView) (more : List ℕ) (v : ℕ) → HasHeldMore p q more → HasHeldMore q r (v ∷ []) → q.given ≤ v → WasHeld p r v
-was_held_now p q r more v first then since = record {
+pub was_held_now : (p q r : PassView) (more : List ℕ) (v : ℕ) → HasHeldMore p q more → HasHeldMore q r (v ∷ []) → q.given ≤ v → NoneAbove v q.held
+    → WasHeld p r v
+was_held_now p q r more v first then since later = record {
   more = v ∷ more;
   held = ap (λ (x : PassView). x.held) then.rest ∙ ap (λ (us : List ℕ). v ∷ us) (ap (λ (x : PassView). x.held) first.rest);
   among = (0, omega arith, refl);
   since = let given : q.given ≡ p.given = ap (λ (x : PassView). x.given) first.rest in omega arith;
+  later = none_above_rest v more p.held (subst (NoneAbove v) (ap (λ (x : PassView). x.held) first.rest) later);
 }
 
 -- what was held is not above a version that is not below any that was held

@@ -1,1 +1,2 @@
 pub mod SmallStreams
+pub mod BlankStreams

@@ -26,8 +26,8 @@ pub fn write_file<D: Folder>(folder: &mut D, name: &str, bytes: &[u8]) -> Result
     folder.append(name, bytes)
 }
 
-/// Begins a journal: makes the name hold the text of the pinned pages. After a refusal the name is as before, or holds a front
-/// part of that text.
+/// Begins a journal: makes the name hold the text of the pinned pages. After a refusal the name is as before, or
+/// holds a front part of that text.
 pub fn begin_journal<D: Folder>(
     alloc: Global,
     folder: &mut D,

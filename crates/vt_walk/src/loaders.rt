@@ -15,8 +15,8 @@ use vt_outside::{Folder, OutsideError};
 use vt_pages::Geometry;
 use vt_tiles::{Store, Stores};
 
-/// Opens a store, which is cut as the geometry says and whose samples have `depth` bytes, once for each loader, of which
-/// there is at least one. After a refusal none is open.
+/// Opens a store, which is cut as the geometry says and whose samples have `depth` bytes, once for each loader, of
+/// which there is at least one. After a refusal none is open.
 pub fn open_loaders<D: Folder>(
     alloc: Global,
     folder: &mut D,
@@ -79,7 +79,8 @@ fn open_into<D: Folder>(
 #[tactic(auto, using(crate::proofs::Opened::closed_last, crate::proofs::Opened::counts_last))]
 pub fn close_stores<D: Folder>(folder: &mut D, mut stores: Stores<D::File>)
     ensures asked { D.asked folder.new ≡ with_closed (files_of D.File.File stores.elements) (D.asked folder.old) }
-    ensures rose { RoseBy (sum (counts_of (files_of D.File.File stores.elements))) (D.faults folder.old) (D.faults folder.new) }
+    ensures rose { RoseBy (sum (counts_of (files_of D.File.File stores.elements))) (D.faults folder.old)
+        (D.faults folder.new) }
     ensures files { D.files folder.new ≡ D.files folder.old }
     ensures faults { D.faults folder.old ≤ D.faults folder.new }
 {

@@ -42,8 +42,8 @@ pub fn run_pass<Rt: Threads + Wait + Sync, M: PassMachine, G: Gate + Sync>(
     machine.run(rt, shot, batch, gate)
 }
 
-/// Settles a batch of which some entries were lost, makes the pages that the counts want the most recent ones, and plans for
-/// them with at most `most` entries.
+/// Settles a batch of which some entries were lost, makes the pages that the counts want the most recent ones, and
+/// plans for them with at most `most` entries.
 pub fn look_out(
     alloc: Global,
     geometry: &Geometry,
@@ -82,7 +82,8 @@ fn make_text(buffer: &mut Vec<u8>, geometry: &Geometry, pass: &PassText) -> Resu
     add_pass(buffer, geometry, pass)
 }
 
-/// Adds the text of a pass, which is made in a buffer, to the journal, in one call. After a refusal a front part of it was added.
+/// Adds the text of a pass, which is made in a buffer, to the journal, in one call. After a refusal a front part of
+/// it was added.
 pub fn tell_pass<D: Folder>(
     buffer: &mut Vec<u8>,
     folder: &mut D,
@@ -95,7 +96,8 @@ pub fn tell_pass<D: Folder>(
     ensures whole { OnOk result (D.files folder.new ≡ option_map (with_appended journal.now (pass_text geometry.now
         (pass_of pass.now))) (D.files folder.old)) }
     ensures part { OnErr result ((D.files folder.new ≡ D.files folder.old) ⊎ ((k : ℕ) × (D.files folder.new
-        ≡ option_map (with_appended journal.now (take k (pass_text geometry.now (pass_of pass.now)))) (D.files folder.old)))) }
+        ≡ option_map (with_appended journal.now (take k (pass_text geometry.now (pass_of pass.now))))
+        (D.files folder.old)))) }
     ensures there { IsThere (D.files folder.old) journal.now → IsThere (D.files folder.new) journal.now }
     ensures failed { IsErrOf result OutsideError.Failed → IsThere (D.files folder.old) journal.now → Rose
         (D.faults folder.old) (D.faults folder.new) }

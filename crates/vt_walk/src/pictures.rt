@@ -22,8 +22,8 @@ use vt_print::{LINE_ROOM, Line};
 use vt_turns::Tally;
 use vt_words::picture_name;
 
-/// Writes the picture of a machine's last pass under its name, by one creation and one append. After a refusal the name is as
-/// before, or holds a front part of its bytes. These are made in the buffer.
+/// Writes the picture of a machine's last pass under its name, by one creation and one append. After a refusal the
+/// name is as before, or holds a front part of its bytes. These are made in the buffer.
 pub fn write_picture<D: Folder, M: PassMachine>(
     buffer: &mut Vec<u8>,
     alloc: Global,
@@ -40,7 +40,8 @@ pub fn write_picture<D: Folder, M: PassMachine>(
     requires full { All (IsFull depth path.now.width) (M.state machine.now).rows }
     requires few { picture < four_digit_numbers }
     ensures whole { OnOk result (D.files folder.new ≡ option_map (with_bytes (picture_name prefix.now picture)
-        (picture_bytes depth path.now.width path.now.height (concat (M.state machine.now).rows))) (D.files folder.old)) }
+        (picture_bytes depth path.now.width path.now.height (concat (M.state machine.now).rows)))
+        (D.files folder.old)) }
     ensures part { OnErr result ((D.files folder.new ≡ D.files folder.old)
         ⊎ ((k : ℕ) × (D.files folder.new ≡ option_map (with_bytes (picture_name prefix.now picture)
         (take k (picture_bytes depth path.now.width path.now.height (concat (M.state machine.now).rows))))
@@ -55,15 +56,16 @@ pub fn write_picture<D: Folder, M: PassMachine>(
     write_file(folder, name.as_str(), buffer)
 }
 
-/// Puts the line of a picture with this tally, of whose pages so many are wanted, in one call. After a refusal a front part of it
-/// was put.
+/// Puts the line of a picture with this tally, of whose pages so many are wanted, in one call. After a refusal a
+/// front part of it was put.
 pub fn put_picture_line<O: Sink>(
     out: &mut O,
     picture: u32,
     wanted: u64,
     tally: &Tally,
 ) -> Result<(), OutsideError>
-    ensures whole { OnOk result (O.held out.new ≡ option_map (gained (numbers_line picture wanted tally.now)) (O.held out.old)) }
+    ensures whole { OnOk result (O.held out.new ≡ option_map (gained (numbers_line picture wanted tally.now))
+        (O.held out.old)) }
     ensures part { OnErr result ((k : ℕ) × (O.held out.new ≡ option_map (gained (take k
         (numbers_line picture wanted tally.now))) (O.held out.old))) }
     ensures failed { IsErrOf result OutsideError.Failed → Rose (O.faults out.old) (O.faults out.new) }

@@ -21,8 +21,8 @@ use vt_pages::Geometry;
 use vt_tiles::{Store, tile_length};
 use vt_turns::pinned_page;
 
-/// Reads the tile of each pinned page, the last so many pages, from the store in the order of their indexes, and places it: the
-/// first in frame 0, and each further one in the next frame (Mayer 2010).
+/// Reads the tile of each pinned page, the last so many pages, from the store in the order of their indexes, and
+/// places it: the first in frame 0, and each further one in the next frame (Mayer 2010).
 pub fn place_pinned<Rt: Threads + Wait + Sync, M: PassMachine, F: File>(
     rt: &Rt,
     alloc: Global,
@@ -33,7 +33,8 @@ pub fn place_pinned<Rt: Threads + Wait + Sync, M: PassMachine, F: File>(
 ) -> Result<(), OutsideError>
     requires idle { M.is_idle machine.old }
     requires begins { (M.state machine.old).journal ≡ [] }
-    requires machine_store { IsStoreOf (M.state machine.old).setup (F.bytes store.old.file) store.old.shape store.old.depth }
+    requires machine_store { IsStoreOf (M.state machine.old).setup (F.bytes store.old.file) store.old.shape
+        store.old.depth }
     requires shape { store.old.shape ≡ geometry.now }
     requires enough_pages { pinned ≤ pages_of geometry.now }
     requires enough_frames { pinned ≤ (M.state machine.old).setup.frames }
@@ -42,7 +43,8 @@ pub fn place_pinned<Rt: Threads + Wait + Sync, M: PassMachine, F: File>(
     ensures files { (M.state machine.new).files ≡ (M.state machine.old).files }
     ensures asked { OnOk result (OnTold (AreAskedFor geometry.now store.old.depth pinned [] []) (F.asked store.old.file)
         (F.asked store.new.file)) }
-    ensures part { OnErr result (OnTold (AreAskedAtMostFor geometry.now store.old.depth pinned []) (F.asked store.old.file)
+    ensures part { OnErr result (OnTold (AreAskedAtMostFor geometry.now store.old.depth pinned [])
+        (F.asked store.old.file)
         (F.asked store.new.file)) }
     // A failed read of a pinned tile is no lost tile.
     ensures lost { OnTold (λ old new. lost_reads geometry.now store.old.depth pinned new ≡ lost_reads geometry.now
@@ -75,7 +77,8 @@ fn place_page<Rt: Threads + Wait + Sync, M: PassMachine, F: File>(
     tile: &mut [u8],
 ) -> Result<(), OutsideError>
     requires idle { M.is_idle machine.old }
-    requires machine_store { IsStoreOf (M.state machine.old).setup (F.bytes store.old.file) store.old.shape store.old.depth }
+    requires machine_store { IsStoreOf (M.state machine.old).setup (F.bytes store.old.file) store.old.shape
+        store.old.depth }
     requires page { page < pages_of store.old.shape }
     requires frame { frame < (M.state machine.old).setup.frames }
     requires next { IsNext (newest (M.state machine.old).journal) (Map page frame) }

@@ -96,7 +96,8 @@ fn take_turns<Rt: Threads + Wait + Sync, M: PassMachine, D: Folder, O: Sink, G: 
         let before = state_by D.Folder O.Sink name folder.old out.old (b.kept ∷ (M.state machine.old).files) in
         let after = state_by D.Folder O.Sink name folder.new out.new (b.kept ∷ (M.state machine.new).files) in
         StandsFirst drawn given b.first before (M.state machine.old) recency.old
-        → MatchResult result (λ walked. StandsLast drawn given walked.reads b.first after) (LeftBy drawn given b.first after) }
+        → MatchResult result (λ walked. StandsLast drawn given walked.reads b.first after)
+        (LeftBy drawn given b.first after) }
     ensures counted { IfOk result (HasCounts (setup_of_tour M.drawing tour.now)) }
     ensures same { AreSameFiles (M.state machine.old).files (M.state machine.new).files }
     ensures asked { D.asked folder.new ≡ D.asked folder.old }
@@ -142,7 +143,8 @@ fn take_turn<Rt: Threads + Wait + Sync, M: PassMachine, D: Folder, O: Sink, G: G
     requires enough_frames { tour.now.pinned ≤ tour.now.settings.frames }
     requires idle { M.is_idle machine.old }
     requires more { turn.picture < length tour.now.path.now.cameras }
-    requires stands { (b : WalkStart) × StandsAt (IsDrawnBySome M.drawn) (given_of M.drawing tour.now b.told) number turn b.first
+    requires stands { (b : WalkStart) × StandsAt (IsDrawnBySome M.drawn)
+        (given_of M.drawing tour.now b.told) number turn b.first
         (state_by D.Folder O.Sink tour.now.names.store.now folder.old out.old (b.kept ∷ (M.state machine.old).files))
         (M.state machine.old) recency.old }
     ensures taken { (b : WalkStart) → let drawn = IsDrawnBySome M.drawn in
@@ -151,7 +153,8 @@ fn take_turn<Rt: Threads + Wait + Sync, M: PassMachine, D: Folder, O: Sink, G: G
         let before = state_by D.Folder O.Sink name folder.old out.old (b.kept ∷ (M.state machine.old).files) in
         let after = state_by D.Folder O.Sink name folder.new out.new (b.kept ∷ (M.state machine.new).files) in
         StandsAt drawn given number turn b.first before (M.state machine.old) recency.old
-        → MatchResult result (λ next. StandsAt drawn given (number + 1) next b.first after (M.state machine.new) recency.new)
+        → MatchResult result (λ next. StandsAt drawn given (number + 1) next b.first after
+        (M.state machine.new) recency.new)
         (LeftBy drawn given b.first after) }
     ensures idle { OnOk result (M.is_idle machine.new) }
     ensures same { AreSameFiles (M.state machine.old).files (M.state machine.new).files }
@@ -185,15 +188,18 @@ fn make_pass<Rt: Threads + Wait + Sync, M: PassMachine, D: Folder, G: Gate + Syn
     requires enough_frames { tour.now.pinned ≤ tour.now.settings.frames }
     requires idle { M.is_idle machine.old }
     requires more { turn.picture < length tour.now.path.now.cameras }
-    requires stands { (b : PassStart) × StandsAt (IsDrawnBySome M.drawn) (given_of M.drawing tour.now b.start.told) number turn
+    requires stands { (b : PassStart) × StandsAt (IsDrawnBySome M.drawn)
+        (given_of M.drawing tour.now b.start.told) number turn
         b.start.first
         (walk_state D.Folder tour.now.names.store.now folder.old (b.start.kept ∷ (M.state machine.old).files) b.held
         b.out_faults) (M.state machine.old) recency.old }
     ensures made { (b : PassStart) → let drawn = IsDrawnBySome M.drawn in
         let given = given_of M.drawing tour.now b.start.told in
         let name = tour.now.names.store.now in
-        let before = walk_state D.Folder name folder.old (b.start.kept ∷ (M.state machine.old).files) b.held b.out_faults in
-        let after = walk_state D.Folder name folder.new (b.start.kept ∷ (M.state machine.new).files) b.held b.out_faults in
+        let before = walk_state D.Folder name folder.old (b.start.kept ∷ (M.state machine.old).files) b.held
+        b.out_faults in
+        let after = walk_state D.Folder name folder.new (b.start.kept ∷ (M.state machine.new).files) b.held
+        b.out_faults in
         StandsAt drawn given number turn b.start.first before (M.state machine.old) recency.old
         → MatchResult result (λ passed. StandsAfter drawn given number passed b.start.first after (M.state machine.new)
         recency.new) (LeftBy drawn given b.start.first after) }
@@ -231,7 +237,8 @@ fn draw_pass<Rt: Threads + Wait + Sync, M: PassMachine, G: Gate + Sync>(
         (given_of M.drawing tour.now told) run number turn (M.state machine.old) recency.old }
     ensures drawn { (told : Option (List ℕ)) (run : List WalkPass) → MayDraw
         (given_of M.drawing tour.now told) run number turn (M.state machine.old) recency.old
-        → IfOk result (HasDrawn (IsDrawnBySome M.drawn) (given_of M.drawing tour.now told) run turn (M.state machine.old)
+        → IfOk result (HasDrawn (IsDrawnBySome M.drawn) (given_of M.drawing tour.now told) run turn
+        (M.state machine.old)
         (M.state machine.new) recency.new) }
     ensures pages { IfOk result (λ d. All (IsEventInChain tour.now.geometry.now) d.text.events.elements) }
     ensures room { IfOk result (λ d. d.text.start + length d.text.events.elements ≤ most_versions) }
@@ -276,7 +283,8 @@ fn end_turn<M: PassMachine, D: Folder, O: Sink>(
     requires tour { IsTour tour.now }
     requires idle { M.is_idle machine.now }
     requires goes_on { MayGoOn tour.now passed }
-    requires stands { (b : WalkStart) × StandsAfter (IsDrawnBySome M.drawn) (given_of M.drawing tour.now b.told) number passed b.first
+    requires stands { (b : WalkStart) × StandsAfter (IsDrawnBySome M.drawn)
+        (given_of M.drawing tour.now b.told) number passed b.first
         (state_by D.Folder O.Sink tour.now.names.store.now folder.old out.old (b.kept ∷ (M.state machine.now).files))
         (M.state machine.now) recency.now }
     ensures ended { (b : WalkStart) → let drawn = IsDrawnBySome M.drawn in
@@ -285,7 +293,8 @@ fn end_turn<M: PassMachine, D: Folder, O: Sink>(
         let before = state_by D.Folder O.Sink name folder.old out.old (b.kept ∷ (M.state machine.now).files) in
         let after = state_by D.Folder O.Sink name folder.new out.new (b.kept ∷ (M.state machine.now).files) in
         StandsAfter drawn given number passed b.first before (M.state machine.now) recency.now
-        → MatchResult result (λ next. StandsAt drawn given (number + 1) next b.first after (M.state machine.now) recency.now)
+        → MatchResult result (λ next. StandsAt drawn given (number + 1) next b.first after
+        (M.state machine.now) recency.now)
         (LeftBy drawn given b.first after) }
     ensures asked { D.asked folder.new ≡ D.asked folder.old }
     ensures faults { D.faults folder.old ≤ D.faults folder.new }

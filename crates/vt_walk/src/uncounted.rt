@@ -20,16 +20,17 @@ use vt_turns::{Names, Settings, WalkError};
 
 /// Walks over all pictures of a path by a machine, live or settled.
 ///
-/// The store was opened from `names.store`, which still holds its bytes where the folder tells them. First the store is
-/// opened once more for each loader, and the tiles of the pinned pages are read from the given one in the order of their
-/// indexes. Then the journal is created with its head. Each pass is run, and its text is added to the journal in one call.
-/// After a picture's last pass the picture is created and written in one call, and its line is put. The last line ends the
-/// walk, and all files are closed, also after a refusal.
+/// The store was opened from `names.store`, which still holds its bytes where the folder tells them. First the store
+/// is opened once more for each loader, and the tiles of the pinned pages are read from the given one in the order of
+/// their indexes. Then the journal is created with its head. Each pass is run, and its text is added to the journal
+/// in one call. After a picture's last pass the picture is created and written in one call, and its line is put. The
+/// last line ends the walk, and all files are closed, also after a refusal.
 ///
-/// `TooFewFrames` comes exactly where there are fewer frames than pinned pages, `DoesNotFit` in a settled walk at the first
-/// picture that needs more unpinned pages at once than there is room for, after its first pass. `Failed` comes only where the
-/// count of faults of the folder, taken at the beginning with that of the store's file, rose by more than the tiles that were
-/// lost, or that of the output rose; or at a lost tile of a settled walk, after the pass that lost it was told. It may wait.
+/// `TooFewFrames` comes exactly where there are fewer frames than pinned pages, `DoesNotFit` in a settled walk at the
+/// first picture that needs more unpinned pages at once than there is room for, after its first pass. `Failed` comes
+/// only where the count of faults of the folder, taken at the beginning with that of the store's file, rose by more
+/// than the tiles that were lost, or that of the output rose; or at a lost tile of a settled walk, after the pass
+/// that lost it was told. It may wait.
 pub fn walk_with<
     Rt: Threads + Wait + Sync,
     M: PassMachine<File = D::File>,

@@ -31,8 +31,8 @@ use vt_outside::{Folder, Gate, Sink};
 use vt_tiles::{Store, Stores};
 use vt_turns::{Mode, Names, Settings, Tour, WalkError, has_too_few_frames};
 
-/// Walks over all pictures of a path by a machine, as `walk_with` does, and answers how many passes it had and how many tiles it
-/// asked for: those of a whole run. Conditions, refusals and causes are those of `walk_with`.
+/// Walks over all pictures of a path by a machine, as `walk_with` does, and answers how many passes it had and how
+/// many tiles it asked for: those of a whole run. Conditions, refusals and causes are those of `walk_with`.
 pub fn walk_counted<
     Rt: Threads + Wait + Sync,
     M: PassMachine<File = D::File>,
@@ -58,7 +58,8 @@ pub fn walk_counted<
     ensures walked { Walks M.drawn (given_to M.drawing D.File.File store path.now names.now settings.now settled)
         (walk_course D.Folder O.Sink names.now.store.now (file_of D.File.File store) [] folder.old folder.new out.old
         out.new) result }
-    ensures counted { IfOk result (HasCounts (walk_setup M.drawing (scene_of store.shape store.depth path.now) settings.now
+    ensures counted { IfOk result (HasCounts (walk_setup M.drawing (scene_of store.shape store.depth path.now)
+        settings.now
         (mode_of settled))) }
     ensures few { let needed = pinned_of store.shape settings.now.pinned in settings.now.frames < needed
         → result ≡ Err (WalkError.TooFewFrames settings.now.frames needed) }
@@ -276,7 +277,8 @@ fn walk_all<
     ensures walked { Walks M.drawn (given_of M.drawing tour.now (D.File.bytes store.old.file))
         (walk_course D.Folder O.Sink tour.now.names.store.now
         (file_state D.File.File store.old.file ∷ (M.state machine.old).files)
-        (file_state D.File.File store.new.file ∷ (M.state machine.new).files) folder.old folder.new out.old out.new) result }
+        (file_state D.File.File store.new.file ∷ (M.state machine.new).files) folder.old folder.new out.old out.new)
+        result }
     ensures counted { IfOk result (HasCounts (setup_of_tour M.drawing tour.now)) }
     ensures same { AreSameFiles (M.state machine.old).files (M.state machine.new).files }
     ensures store { IsSameFile (file_state D.File.File store.old.file) (file_state D.File.File store.new.file) }
@@ -320,9 +322,11 @@ fn begin<Rt: Threads + Wait + Sync, M: PassMachine, D: Folder>(
     ensures begun { (held : Option (List ℕ)) (out_faults : ℕ) → let drawn = IsDrawnBySome M.drawn in
         let given = given_of M.drawing tour.now (D.File.bytes store.old.file) in
         let name = tour.now.names.store.now in
-        let first = walk_state D.Folder name folder.old (file_state D.File.File store.old.file ∷ (M.state machine.old).files)
+        let first = walk_state D.Folder name folder.old (file_state D.File.File store.old.file
+        ∷ (M.state machine.old).files)
         held out_faults in
-        let last = walk_state D.Folder name folder.new (file_state D.File.File store.new.file ∷ (M.state machine.new).files)
+        let last = walk_state D.Folder name folder.new (file_state D.File.File store.new.file
+        ∷ (M.state machine.new).files)
         held out_faults in
         MatchResult result (λ recency. StandsFirst drawn given first last (M.state machine.new) recency)
         (LeftBy drawn given first last) }

@@ -1,4 +1,5 @@
-//! Laws of walks: of their runs, of how many passes a settled picture has, and of what the journal of a walk replays to.
+//! Laws of walks: of their runs, of how many passes a settled picture has, and of what the journal of a walk replays
+//! to.
 #![tactic(auto)]
 
 mod pass_counts;

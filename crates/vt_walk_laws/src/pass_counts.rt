@@ -13,15 +13,16 @@ ghost use Rattle.vt_walk.specs.Runs.{WalkPass, IsWalkSetup, IsRun, IsWhole, IsFi
 ghost use Rattle.vt_walk.specs.Logs.{passes_of};
 ghost use Rattle.vt_walk_laws.specs.PassCounts.{mapped_after, picture_pages, most_in_line, batch_pages, IsFinishedPicture, HasPicture};
 
-/// A settled run has each picture before its newest one finished, and so it has the newest one, where its newest pass finishes
-/// it and
-/// the run goes on; so it has all pictures of the path, where it is whole.
+/// A settled run has each picture before its newest one finished, and so it has the newest one, where its newest pass
+/// finishes it and the run goes on; so it has all pictures of the path, where it is whole.
 pub fn run_has_its_pictures()
-    ensures earlier { (w : WalkSetup) (p : WalkPass) (passes : List WalkPass) (picture : ℕ) → IsWalkSetup w → w.mode ≡ Settled
+    ensures earlier { (w : WalkSetup) (p : WalkPass) (passes : List WalkPass) (picture : ℕ) → IsWalkSetup w
+        → w.mode ≡ Settled
         → IsRun w (p ∷ passes) → picture < p.picture → HasPicture w (p ∷ passes) picture }
     ensures newest { (w : WalkSetup) (p : WalkPass) (passes : List WalkPass) → IsWalkSetup w → w.mode ≡ Settled
         → IsRun w (p ∷ passes) → GoesOn w.mode w p → IsFinished w p passes → HasPicture w (p ∷ passes) p.picture }
-    ensures whole { (w : WalkSetup) (passes : List WalkPass) (picture : ℕ) → IsWalkSetup w → w.mode ≡ Settled → IsRun w passes
+    ensures whole { (w : WalkSetup) (passes : List WalkPass) (picture : ℕ) → IsWalkSetup w → w.mode ≡ Settled
+        → IsRun w passes
         → IsWhole w passes → picture < w.pictures → HasPicture w passes picture }
 {}
 
@@ -33,14 +34,17 @@ pub fn mapped_pages_are_the_journals()
         → mapped_after w passes page ≡ false → newest (journal_after w passes) page ≡ None }
 {}
 
-/// What is planned for a picture that fits has all missing pages, or as many as a batch may have: frames are never too few.
+/// What is planned for a picture that fits has all missing pages, or as many as a batch may have: frames are never
+/// too few.
 pub fn fitting_plan_is_full()
-    ensures { (w : WalkSetup) (p : WalkPass) (passes : List WalkPass) → IsWalkSetup w → IsRun w (p ∷ passes) → Fits w p.picture
-        → length (plan_after w (p ∷ passes)) ≡ min w.most (length (missing_pages (recency_after w (p ∷ passes)) p.wants)) }
+    ensures { (w : WalkSetup) (p : WalkPass) (passes : List WalkPass) → IsWalkSetup w → IsRun w (p ∷ passes)
+        → Fits w p.picture
+        → length (plan_after w (p ∷ passes)) ≡ min w.most (length
+        (missing_pages (recency_after w (p ∷ passes)) p.wants)) }
 {}
 
-/// The batches of a finished picture of a settled run together have exactly the pages that stand before the look-up in the
-/// lines of its wanted pages after its first pass, each once.
+/// The batches of a finished picture of a settled run together have exactly the pages that stand before the look-up
+/// in the lines of its wanted pages after its first pass, each once.
 pub fn picture_loads_each_page_once()
     ensures exact { (w : WalkSetup) (later : List WalkPass) (first : WalkPass) (before : List WalkPass) (page : ℕ)
         → IsFinishedPicture w later first before
@@ -59,8 +63,8 @@ pub fn mapped_picture_has_one_pass()
         → length (passes_of first.picture (later ++ first ∷ before)) ≡ 1 }
 {}
 
-/// Where a wanted page is unmapped after the first pass, a finished picture of a settled run has the first pass, the last
-/// pass, which loads nothing, and as many between them at least as full batches would hold its pages.
+/// Where a wanted page is unmapped after the first pass, a finished picture of a settled run has the first pass, the
+/// last pass, which loads nothing, and as many between them at least as full batches would hold its pages.
 pub fn picture_has_passes_enough()
     ensures { (w : WalkSetup) (later : List WalkPass) (first : WalkPass) (before : List WalkPass) (page : ℕ)
         → IsFinishedPicture w later first before → is_in (pages_wanted first.wants) page ≡ true
@@ -69,8 +73,9 @@ pub fn picture_has_passes_enough()
         ≤ length (passes_of first.picture (later ++ first ∷ before)) }
 {}
 
-/// A finished picture of a settled run has at most the first pass, the last pass, one for each full batch of its pages, and
-/// one for each page of the line with most of them: a batch that is not full has a page of each line that has one left.
+/// A finished picture of a settled run has at most the first pass, the last pass, one for each full batch of its
+/// pages, and one for each page of the line with most of them: a batch that is not full has a page of each line that
+/// has one left.
 pub fn picture_has_few_passes()
     ensures { (w : WalkSetup) (later : List WalkPass) (first : WalkPass) (before : List WalkPass)
         → IsFinishedPicture w later first before

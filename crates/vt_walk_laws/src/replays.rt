@@ -25,18 +25,20 @@ ghost use Rattle.vt_walk_laws.specs.Walked.{IsOfStore, named_pictures};
 
 use vt_machine::PassMachine;
 
-/// The journal of a run tells of each picture the rows of its last pass, and it tells of as many pictures as the run has come to:
-/// of all, where the run is whole.
+/// The journal of a run tells of each picture the rows of its last pass, and it tells of as many pictures as the run
+/// has come to: of all, where the run is whole.
 pub fn journal_tells_its_run()
     ensures rows { (w : WalkSetup) (run : List WalkPass) (picture : ℕ)
         → last_lines (passes_told w run) picture ≡ last_rows run picture }
     ensures pictures { (w : WalkSetup) (p : WalkPass) (run : List WalkPass)
         → pictures_of (passes_told w (p ∷ run)) ≡ p.picture + 1 }
-    ensures whole { (w : WalkSetup) (run : List WalkPass) → IsWhole w run → pictures_of (passes_told w run) ≡ w.pictures }
+    ensures whole { (w : WalkSetup) (run : List WalkPass) → IsWhole w run
+        → pictures_of (passes_told w run) ≡ w.pictures }
 {}
 
-/// What a walk has written of a picture to which its run has come is the file of the replay of the run's journal, byte for byte.
-/// So a picture is drawn again from the journal, the store and the path, also where the walk was refused later on.
+/// What a walk has written of a picture to which its run has come is the file of the replay of the run's journal,
+/// byte for byte. So a picture is drawn again from the journal, the store and the path, also where the walk was
+/// refused later on.
 pub fn replay_gives_the_written_picture<M: PassMachine>()
     ensures { (g : WalkGiven) (b : List ℕ) (run : List WalkPass) (picture : ℕ) (bytes : List ℕ) → IsOfStore g b
         → IsRun g.setup run
@@ -45,10 +47,11 @@ pub fn replay_gives_the_written_picture<M: PassMachine>()
         (passes_told g.setup run) picture }
 {}
 
-/// While a walk goes on, and where it was refused, the pictures that stand are those of the replay of the passes that its journal
-/// tells by then.
+/// While a walk goes on, and where it was refused, the pictures that stand are those of the replay of the passes that
+/// its journal tells by then.
 pub fn replay_gives_what_stands<M: PassMachine>()
-    ensures { (g : WalkGiven) (b prefix : List ℕ) (run : List WalkPass) (pictures : List (List ℕ)) (first now : WalkState)
+    ensures { (g : WalkGiven) (b prefix : List ℕ) (run : List WalkPass) (pictures : List (List ℕ))
+        (first now : WalkState)
         → IsOfStore g b
         → Stands (IsDrawnBySome M.drawn) g run pictures first now
         → let file = replay_file (stored b) g.scene (content_changes g.scene.shape (run_content g.setup run))
@@ -56,9 +59,9 @@ pub fn replay_gives_what_stands<M: PassMachine>()
         pictures_due prefix file (length pictures) ≡ named_pictures prefix pictures }
 {}
 
-/// The replay of the journal of a finished walk: its text is that of a lawful journal whose pictures are in the path, and
-/// whatever content is read from it, the files that the replay is to leave are the walk's pictures, all of them and no more,
-/// under its names or others; so in the walk's own folder a replay leaves what it holds.
+/// The replay of the journal of a finished walk: its text is that of a lawful journal whose pictures are in the path,
+/// and whatever content is read from it, the files that the replay is to leave are the walk's pictures, all of them
+/// and no more, under its names or others; so in the walk's own folder a replay leaves what it holds.
 pub fn replay_gives_the_walk<M: PassMachine>()
     ensures replayable { (g : WalkGiven) (b : List ℕ) (first last : WalkState) → IsOfStore g b → IsWalkSetup g.setup
         → (walk : Finished (IsDrawnBySome M.drawn) g first last)
@@ -79,7 +82,8 @@ pub fn replay_gives_the_walk<M: PassMachine>()
         → IsWalkSetup g.setup
         → (walk : Finished (IsDrawnBySome M.drawn) g first last)
         → IsReplayable g.scene.shape g.scene.path (run_text g.setup walk.run) content → IsApart g.names
-        → option_map (with_files (replay_due g.scene.shape g.scene.depth b g.scene.path g.names.prefix content)) last.files
+        → option_map (with_files (replay_due g.scene.shape g.scene.depth b g.scene.path g.names.prefix content))
+        last.files
         ≡ last.files }
 {}
 
@@ -89,6 +93,7 @@ pub fn nearest_walk_is_of_its_store()
     ensures store { (scene : Scene) (settings : Settings) (mode : Mode) (b : List ℕ) (names : WalkNames)
         → IsOfStore (given_by nearest scene settings mode (Some b) names) b }
     ensures setup { (scene : Scene) (settings : Settings) (mode : Mode) (told : Option (List ℕ)) (names : WalkNames)
-        → IsWithinLimits scene.shape → AreSettings scene.shape settings → pinned_of scene.shape settings.pinned ≤ settings.frames
+        → IsWithinLimits scene.shape → AreSettings scene.shape settings
+        → pinned_of scene.shape settings.pinned ≤ settings.frames
         → IsWalkSetup (given_by nearest scene settings mode told names).setup }
 {}

@@ -19,8 +19,9 @@ use vt_pass::WordMachine;
 use vt_tiles::Store;
 use vt_walk::{Names, Settings, WalkError, walk_with};
 
-/// Walks over all pictures of a path, one pass a picture: what is missing is loaded for the next picture, and a lost tile is left
-/// out. Conditions, refusals and causes are those of `walk_with`, but that `DoesNotFit` does not come. It may wait.
+/// Walks over all pictures of a path, one pass a picture: what is missing is loaded for the next picture, and a lost
+/// tile is left out. Conditions, refusals and causes are those of `walk_with`, but that `DoesNotFit` does not come.
+/// It may wait.
 pub fn walk_live<Rt: Threads + Wait + Sync, D: Folder, O: Sink, G: Gate + Sync>(
     rt: &Rt,
     alloc: Global,
@@ -50,8 +51,8 @@ pub fn walk_live<Rt: Threads + Wait + Sync, D: Folder, O: Sink, G: Gate + Sync>(
     )
 }
 
-/// Walks over all pictures of a path, each drawn until nothing is missing: it is then the plain picture. A lost tile ends the walk
-/// with `Failed`. Conditions, refusals and causes are those of `walk_with`. It may wait.
+/// Walks over all pictures of a path, each drawn until nothing is missing: it is then the plain picture. A lost tile
+/// ends the walk with `Failed`. Conditions, refusals and causes are those of `walk_with`. It may wait.
 pub fn walk_settled<Rt: Threads + Wait + Sync, D: Folder, O: Sink, G: Gate + Sync>(
     rt: &Rt,
     alloc: Global,

@@ -15,15 +15,16 @@ use vt_replay::ReplayError;
 use vt_tiles::Store;
 use vt_words::ReplayWords;
 
-/// Reads the path, opens the store and reads the journal, writes each picture of the journal under its name, and puts the end
-/// line.
+/// Reads the path, opens the store and reads the journal, writes each picture of the journal under its name, and puts
+/// the end line.
 pub fn replay<'a, D: Folder, O: Sink>(
     alloc: Global,
     words: &ReplayWords<'a>,
     folder: &mut D,
     out: &mut O,
 ) -> Result<(), Refusal<'a>>
-    ensures { EndsBy (replay_terms (shown_replay words.now)) (course D.Folder O.Sink folder.old folder.new out.old out.new) result }
+    ensures { EndsBy (replay_terms (shown_replay words.now))
+        (course D.Folder O.Sink folder.old folder.new out.old out.new) result }
 {
     let path = read_path(alloc, folder, words.path)?;
     let store = open_store(folder, words.store)?;
@@ -42,7 +43,8 @@ fn read_beside<'a, D: Folder>(
     name: &'a str,
 ) -> Result<(Store<D::File>, Vec<u8>), Refusal<'a>>
     ensures same { IfOk result (λ read. read.0 ≡ store) }
-    ensures took { IfOk result (λ read. Took (JournalInput name.now) (TextContent read.1.items) (passage D.Folder folder.old folder.new)) }
+    ensures took { IfOk result (λ read. Took (JournalInput name.now) (TextContent read.1.items)
+        (passage D.Folder folder.old folder.new)) }
     ensures refused { IfErr result (λ refusal. RefusedBeside name.now refusal (file_state D.File.File store.file)
         (passage D.Folder folder.old folder.new)) }
 {

@@ -53,8 +53,8 @@ const SIDE: u32 = 2048;
 
 const TILE: u32 = 64;
 
-/// Makes the texture and the path of a number, walks settled over them in memory, compares the pictures with the plain ones, and
-/// puts a line: how many passes and reads the walk took, and how many bytes differ. It may wait.
+/// Makes the texture and the path of a number, walks settled over them in memory, compares the pictures with the
+/// plain ones, and puts a line: how many passes and reads the walk took, and how many bytes differ. It may wait.
 #[tactic(auto, using(crate::proofs::Trying::refused))]
 pub fn trial<'a, Rt: Threads + Wait + Sync, O: Sink, G: Gate + Sync>(
     rt: &Rt,
@@ -111,7 +111,8 @@ fn line_of_trial(number: u32, tried: &Tried) -> Line
     line
 }
 
-// Tries a number out. Its own folder and sink have no failing calls; should one fail nevertheless, or a byte differ, nothing is put.
+// Tries a number out. Its own folder and sink have no failing calls; should one fail nevertheless, or a byte differ,
+// nothing is put.
 #[tactic(auto, using(crate::proofs::Trying::compared))]
 fn try_out<'a, Rt: Threads + Wait + Sync, G: Gate + Sync>(
     rt: &Rt,
@@ -246,7 +247,8 @@ fn answer_of<'a>(walked: Result<Walked, WalkError>) -> Result<Walked, Refusal<'a
     }
 }
 
-// Makes a name hold the store of the chain of a trial, and opens it. Its bytes are known, so its header need not be read.
+// Makes a name hold the store of the chain of a trial, and opens it. Its bytes are known, so its header need not be
+// read.
 fn make_store<D: Folder>(
     alloc: Global,
     folder: &mut D,
@@ -294,7 +296,8 @@ fn compare<'a>(
     Ok(Tried { walked, differ })
 }
 
-// How many bytes of the pictures in a folder are other than those of the plain pictures; it stands at the end of its type.
+// How many bytes of the pictures in a folder are other than those of the plain pictures; it stands at the end of its
+// type.
 fn count_differing(
     alloc: Global,
     folder: &MemoryFolder,
@@ -302,7 +305,8 @@ fn count_differing(
     path: &Path,
 ) -> Result<u64, OutsideError>
     requires { chain.now.base.depth ≡ 1 }
-    ensures { IfOk result (λ n. n ≡ added 0 (differing_together (files_of folder.now) chain.now path.now (length path.now.cameras))) }
+    ensures { IfOk result (λ n. n ≡ added 0 (differing_together (files_of folder.now) chain.now path.now
+        (length path.now.cameras))) }
 {
     let mut count: u64 = 0;
     for picture in 0..path.pictures() {

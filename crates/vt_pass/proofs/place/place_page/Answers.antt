@@ -1,4 +1,4 @@
-use Rattle.vt_pass.proofs.Rooms.{streamer_still}
+use Rattle.vt_word_workers.proofs.Rooms.{streamer_still}
 use Rattle.vt_pass.proofs.place.place_page.Goals as goal
 
 pub free_at_once-requires-clause-of : goal.free_at_once-requires-clause-of

@@ -109,7 +109,8 @@ loop-y-preserved g c =
           c.loop-y.invariant.place room full here before z below (own ∙ sym c.loop-y.invariant.own);
       held = λ z below own.
           versions_after (λ (i : ℕ) (u : ℕ). WasHeld first new u) n c.loop-y.y v c.loop-y.versions fits
-          (was_held_now first old new c.loop-y.invariant.pass.0 v c.loop-y.invariant.pass.1 c.draw_held-next.ensures.more c.draw_held-next.ensures.given)
+          (was_held_now first old new c.loop-y.invariant.pass.0 v c.loop-y.invariant.pass.1 c.draw_held-next.ensures.more c.draw_held-next.ensures.given
+          c.draw_held-next.ensures.later)
           (λ i less same. was_held_then first old new _ v c.draw_held-next.ensures.more (c.loop-y.invariant.held i less (same ∙ c.loop-y.invariant.own)))
           z below (own ∙ sym c.loop-y.invariant.own);
       rising = λ x z below own_x own_z low.

@@ -10,6 +10,7 @@ use Rattle.vt_grace.specs.Seats.{pass_at}
 use Rattle.vt_grace.specs.Stages.{hint_of, held_of}
 use Rattle.vt_grace.specs.Places.{words_of, texel_word}
 use Rattle.vt_grace.specs.PassViews.{wording, HasEntry}
+use Rattle.vt_grace.proofs.Starts.{starts_kept}
 use Rattle.vt_grace.proofs.PassSteps.{words, sees_pass}
 use Rattle.vt_grace.proofs.tokens.Held.word_from.Goals as goal
 
@@ -62,6 +63,7 @@ invariant_of-self c =
         inside = let same = ap (λ (p : PassView). p.sizes.samplers) seen.1 in let inside = own.inside in omega arith;
         small = subst (λ (p : PassView). All (λ n. n.entry ≤ p.sizes.frames) p.notes) (sym seen.1) own.small;
       },
+      starts_kept _ _ _ _ _ _ (ap (λ (p : PassView). p.sizes) seen.1) c.self.invariant.2,
     )
 
 pub returns-clause-of : goal.returns-clause-of

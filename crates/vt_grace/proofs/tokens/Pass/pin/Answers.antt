@@ -1,4 +1,4 @@
-use Rattle.std.proofs.Common.{arith, ◌≤◌, sym, ap, ◌∙◌, subst, All}
+use Rattle.std.proofs.Common.{arith, ◌≤◌, sym, refl, ap, ◌∙◌, subst, All}
 use Rattle.vt_grace.specs.declared.views.Stage.{Stage}
 use Rattle.vt_grace.specs.declared.views.Stage.TheVariants.{Holding}
 use Rattle.vt_grace.specs.declared.views.PassView.{PassView}
@@ -6,6 +6,7 @@ use Rattle.vt_grace.specs.Values.{PassValue}
 use Rattle.vt_grace.specs.Stages.{hint_of}
 use Rattle.vt_grace.specs.PassViews.{holding, NoneAbove}
 use Rattle.vt_grace.specs.Seats.{pass_at}
+use Rattle.vt_grace.proofs.Starts.{starts_kept}
 use Rattle.vt_grace.proofs.PassSteps.{hints, announces, holds, sees_pass, pins}
 use Rattle.vt_grace.proofs.tokens.Pass.pin.Goals as goal
 
@@ -31,6 +32,8 @@ invariant_of-result c = let own = c.self.invariant.1 in let all = pins (pass_at 
     inside = let same = ap (λ p. p.sizes.samplers) seen.1 in let inside = own.inside in omega arith;
     small = subst (λ (p : PassView). All (λ n. n.entry ≤ p.sizes.frames) p.notes) (sym seen.1) own.small;
   },
+  starts_kept _ _ _ _ _ _ (ap (λ p. p.sizes) seen.1 ∙ (ap (λ v. v.view.sizes) c.self.view_is ∙ (c.requires.sizes ∙ sym (ap (λ v. v.sizes) c.words.view_is))))
+      record { entries = c.first_entry.ensures; texels = c.first_texel.ensures; counted = refl },
 )
 
 pub returns-clause-of : goal.returns-clause-of

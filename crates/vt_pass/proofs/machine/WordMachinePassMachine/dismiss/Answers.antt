@@ -2,8 +2,9 @@ use Rattle.std.proofs.Common.{Ok, Some, refl, sym, subst}
 use Rattle.vt_workers.specs.Jobs.{job_of}
 use Rattle.vt_machine.specs.Nearest.{nearest}
 use Rattle.vt_machine.specs.Passes.{Ends}
-use Rattle.vt_pass.specs.Kits.{kit_state, IsIdleKit}
-use Rattle.vt_pass.specs.WordMachines.{WordView, Begun, MayFinish, kit_before, kit_drawn}
+use Rattle.vt_word_workers.specs.Kits.{kit_state, IsIdleKit}
+use Rattle.vt_word_workers.specs.KitPasses.{Begun, MayFinish, kit_before, kit_drawn}
+use Rattle.vt_pass.specs.WordMachines.{WordView}
 use Rattle.vt_pass.proofs.machine.WordMachinePassMachine.dismiss.Goals as goal
 
 pub finish-report-requires : goal.finish-report-requires

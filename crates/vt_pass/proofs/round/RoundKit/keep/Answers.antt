@@ -1,9 +1,0 @@
-use Rattle.std.proofs.Common.{subst, sym}
-use Rattle.vt_rounds.specs.Sizes.{AreSized}
-use Rattle.vt_pass.specs.RoundKits.{RoundKitView}
-use Rattle.vt_pass.proofs.round.RoundKit.keep.Goals as goal
-
-pub returns : goal.returns
-returns g c = record {
-  sizes = λ n all sized. c.give_back.ensures.sizes n all (subst (λ (r : RoundKitView _). AreSized n r.buffers.elements) (sym c.self.view_is) sized);
-}

@@ -1,0 +1,11 @@
+use Rattle.std.proofs.Common.{◌≡◌, take, length}
+use Rattle.std.specs.List.{flat_map}
+use Rattle.vt_residency.specs.Changes.{changes_of}
+use Rattle.vt_residency.proofs.changes.fill.Given as goal
+
+abbrev pub invariant-loop-load : goal.invariant-loop-load
+invariant-loop-load l = record {
+  count : l.count ≡ length (flat_map changes_of (take l.load-index l.loads));
+  written : take l.count l.out ≡ flat_map changes_of (take l.load-index l.loads);
+  long : length l.out ≡ length l.fn.out;
+}

@@ -1,0 +1,64 @@
+-- What is known of a streamer that has published nothing.
+use Rattle.std.proofs.Common.{◌≡◌, ◌+◌, ℕ, Some, None, List, length, refl, ap, ◌∙◌, sym, subst, arith}
+use Rattle.vt_pages.specs.Pages.{pages_of}
+use Rattle.vt_journal.specs.declared.changes.Change.{Change}
+use Rattle.vt_journal.specs.declared.changes.Change.TheVariants.{Map}
+use Rattle.vt_journal.specs.Changes.{newest, IsFree, IsLegalNext}
+use Rattle.vt_journal.proofs.Versions.{newest-none}
+use Rattle.vt_table.specs.Views.{IsTile}
+use Rattle.vt_table.proofs.Lawful.{table_spared}
+use Rattle.vt_grace.specs.declared.sizes.Sizes.{Sizes}
+use Rattle.vt_grace.specs.declared.views.PassView.{PassView}
+use Rattle.vt_grace.specs.PassViews.{HasEntry, noting}
+use Rattle.vt_grace.specs.Values.{WordsValue}
+use Rattle.vt_grace.specs.Banks.{MayFill}
+use Rattle.vt_streamer.specs.Views.{StreamerView, table_of, IsStreamerOf}
+use Rattle.vt_tests_words.specs.BlankStreams.{IsBlank}
+
+pub blank_pages : (words : WordsValue) (v : StreamerView) → IsBlank words v → pages_of v.shape ≡ 5
+blank_pages words v h = sym (ap (λ (z : Sizes). z.pages) h.of.sizes) ∙ h.pages
+
+pub blank_frames : (words : WordsValue) (v : StreamerView) → IsBlank words v → length v.owners ≡ 3
+blank_frames words v h = sym (ap (λ (z : Sizes). z.frames) h.of.sizes) ∙ h.frames
+
+pub blank_now : (words : WordsValue) (v w : StreamerView) → IsBlank words v → IsStreamerOf words w → w.writer.journal ≡ v.writer.journal → IsBlank words w
+blank_now words v w h of same = record { of = of; pages = h.pages; texels = h.texels; frames = h.frames; journal = same ∙ h.journal }
+
+none_some : (f : ℕ) → None ≡ Some f → ⊥
+none_some f e = cc
+
+blank_none : (words : WordsValue) (v : StreamerView) (page : ℕ) → IsBlank words v → newest v.writer.journal page ≡ None
+blank_none words v page h = ap (λ (js : List Change). newest js page) h.journal ∙ newest-none page
+
+pub blank_free : (words : WordsValue) (v : StreamerView) (frame : ℕ) → IsBlank words v → IsFree (newest v.writer.journal) frame
+blank_free words v frame h page e = none_some frame (sym (blank_none words v page h) ∙ e)
+
+pub blank_legal : (words : WordsValue) (v : StreamerView) (page frame : ℕ) → IsBlank words v → IsLegalNext v.shape (newest v.writer.journal) (Map page frame)
+blank_legal words v page frame h = ((blank_none words v page h, blank_free words v frame h), tt)
+
+pub blank_spared : (words : WordsValue) (v w : StreamerView) → IsBlank words v → w ≡ record v { spare = w.spare } → IsBlank words w
+blank_spared words v w h same = subst (IsBlank words) (sym same) record {
+  of = record {
+    table = h.of.table;
+    seen = h.of.seen;
+    sizes = h.of.sizes;
+    limits = h.of.limits;
+    sound = h.of.sound;
+    lawful = table_spared (table_of v) w.spare h.of.lawful;
+  };
+  pages = h.pages;
+  texels = h.texels;
+  frames = h.frames;
+  journal = h.journal;
+}
+
+pub still_may : (v w : StreamerView) (frame : ℕ) → w ≡ record v { writer = record v.writer { texels = w.writer.texels }; owners = w.owners }
+    → MayFill v.writer frame → MayFill w.writer frame
+still_may v w frame rest may = subst (λ (u : StreamerView). MayFill u.writer frame) (sym rest) may
+
+pub still_tile : (v w : StreamerView) (tile : List ℕ) → w ≡ record v { writer = record v.writer { texels = w.writer.texels }; owners = w.owners }
+    → IsTile v.shape tile → IsTile w.shape tile
+still_tile v w tile rest is = subst (λ (u : StreamerView). IsTile u.shape tile) (sym rest) is
+
+pub noted_now : (u page entry frame : ℕ) (p : PassView) → entry ≡ frame + 1 → HasEntry u (noting u page entry p) frame
+noted_now u page entry frame p is = (record { version = u; page = page; entry = entry }, (0, omega arith, refl), refl, is)

@@ -1,0 +1,186 @@
+-- The parts of a kit, one after another.
+use Rattle.std.proofs.Common.{◌≡◌, ℕ, zero, suc, ◌+◌, List, [], ◌∷◌, ◌++◌, length, get_or, Some, refl, sym, ap, ◌∙◌, subst, append_assoc, arith}
+use Rattle.std.specs.Prelude.{slice_get, slice_index, ◌%◌, ◌≤◌, map, take, ◌<◌, true, None, IsSome}
+use Rattle.std.proofs.lemmas.List.{length-append, append-nil, take_more}
+use Rattle.std.proofs.lemmas.List.FromFn.{map-range_with_len_more}
+use Rattle.std.proofs.lemmas.List.Sums.{sum_by_push, sum_by-take-le}
+use Rattle.std.specs.List.{range_with_len, concat}
+use Rattle.std.proofs.lemmas.Nat.{mod_below}
+use Rattle.std.proofs.lemmas.Option.{none-some, same_Some, slice_get-get_or}
+use Rattle.vt_outside.specs.declared.outside.File.{Ghosts as FileMeanings}
+use Rattle.vt_pages.specs.Shape.{Shape}
+use Rattle.vt_pages.specs.Pages.{pages_of, root_of}
+use Rattle.vt_journal.specs.declared.changes.RowLine.{RowLine}
+use Rattle.vt_sampler.specs.Samplers.{SamplerView, IsFor, IsOwn, version_at}
+use Rattle.vt_tiles.specs.StoreViews.{StoreView, IsStoreIfTold}
+use Rattle.vt_journal.specs.Changes.{newest}
+use Rattle.vt_journal.specs.Lookups.{is_mapped}
+use Rattle.vt_grace.specs.declared.sizes.Sizes.{Sizes}
+use Rattle.vt_grace.specs.declared.views.PassView.{PassView}
+use Rattle.vt_grace.specs.Values.{WordsValue}
+use Rattle.vt_streamer.specs.Views.{StreamerView}
+use Rattle.vt_lookup.specs.Notes.{Fits}
+use Rattle.vt_machine.specs.Machines.{told_by, AreStoresFor}
+use Rattle.vt_camera.specs.Paths.{PathView}
+use Rattle.vt_loaders.specs.declared.queued.Queues.{Queues}
+use Rattle.vt_word_workers.specs.declared.workers.WordSampler.{WordSampler}
+use Rattle.vt_workers.specs.Jobs.{Job}
+use Rattle.vt_workers.specs.All.{AllReady}
+use Rattle.vt_word_workers.specs.declared.workers.WordStreamer.{WordStreamer}
+use Rattle.vt_word_workers.specs.WordTasks.{MayDraw}
+use Rattle.vt_machine.specs.Passes.{MapsRoot, IsJobFor}
+use Rattle.vt_word_workers.specs.Kits.{KitView, kit_setup, kit_state, IsSamplerOf, AreSamplersOf, IsKit, IsFitKit, IsReadyKit, version_by, line_of, lines_of, counted_together}
+
+-- what holds of each place of a list holds of it with one more
+pub each_more : {A : Type 0} (P : ℕ → A → Type 0) (xs : List A) (x : A) → ((k : ℕ) (a : A) → slice_get xs k ≡ Some a → P k a) → P (length xs) x
+    → (k : ℕ) (a : A) → slice_get (xs ++ x ∷ []) k ≡ Some a → P k a
+each_more P [] x h p zero a e = subst (P 0) (same_Some x a e) p
+each_more P [] x h p (suc k) a e = absurd (none-some a e)
+each_more P (y ∷ ys) x h p zero a e = h zero a e
+each_more P (y ∷ ys) x h p (suc k) a e = each_more (λ j. P (suc j)) ys x (λ j b f. h (suc j) b f) p k a e
+
+module _ (s : Shape) (d width height samplers : ℕ) where
+  -- the samplers of the first numbers
+  pub record AreFirst (n : ℕ) (tasks : List WordSampler) : Type 0 where
+    pub count : length tasks ≡ n
+    pub each : (k : ℕ) (task : WordSampler) → slice_get tasks k ≡ Some task → IsSamplerOf s d width height samplers k task.sampler
+
+  pub first_none : AreFirst 0 []
+  first_none = record { count = refl; each = λ k task e. absurd (none-some task e) }
+
+  pub first_more : (n : ℕ) (tasks : List WordSampler) (v : SamplerView) → AreFirst n tasks → IsSamplerOf s d width height samplers n v
+      → AreFirst (n + 1) (tasks ++ record { sampler = v; pass = None } ∷ [])
+  first_more n tasks v h new = record {
+    count = length-append tasks (record { sampler = v; pass = None } ∷ []) ∙ ap (λ k. k + 1) h.count;
+    each = each_more (λ k task. IsSamplerOf s d width height samplers k task.sampler) tasks (record { sampler = v; pass = None }) h.each
+        (subst (λ k. IsSamplerOf s d width height samplers k v) (sym h.count) new);
+  }
+
+  pub all_first : (tasks : List WordSampler) → AreFirst samplers tasks → AreSamplersOf s d width height samplers tasks
+  all_first tasks h = record { count = h.count; each = h.each }
+
+-- the words of a kit are as large as the shape of its pages asks
+pub kit_fits : {F : Type 0} (g : FileMeanings F) (words : WordsValue) (v : StreamerView) (k : KitView F) → IsFitKit g words v k → Fits k.shape words.sizes
+kit_fits g words v k fit = subst (λ s. Fits s words.sizes) fit.shape (record {
+  pages = ap (λ (z : Sizes). z.pages) fit.of.sizes;
+  texels = ap (λ (z : Sizes). z.texels) fit.of.sizes;
+  root = ap (λ (z : Sizes). z.root) fit.of.sizes;
+})
+
+-- where the journal maps the root, a new pass is rooted
+pub rooted_by : {F : Type 0} (g : FileMeanings F) (words : WordsValue) (v : StreamerView) (k : KitView F) → IsFitKit g words v k
+    → MapsRoot (kit_state g words v.writer.journal k)
+    → is_mapped (newest v.writer.journal) v.writer.sizes.root ≡ true
+rooted_by g words v k fit root =
+    let is : v.writer.sizes.root ≡ root_of k.shape = ap (λ (z : Sizes). z.root) fit.of.seen ∙ ap (λ (z : Sizes). z.root) fit.of.sizes ∙ ap root_of fit.shape in
+    subst (λ r. IsSome (newest v.writer.journal r)) (sym is) root
+
+-- the samplers of a prepared kit may draw a job of the machine, whose journal maps the root
+pub may_draw : {F : Type 0} (g : FileMeanings F) (job : Job) (words : WordsValue) (q : Queues) (t : WordStreamer) (k : KitView F) (tasks : List WordSampler)
+    → IsReadyKit g words q t k job.batch
+    → MapsRoot (kit_state g words t.streamer.writer.journal k) → IsJobFor (kit_setup g words k) job → tasks ≡ k.samplers
+    → AllReady (MayDraw words job.scene job.picture) tasks
+may_draw g job words q t k tasks ready root job_is same = subst (AllReady (MayDraw words job.scene job.picture)) (sym same)
+    (λ n d inside.
+    let there = slice_get-get_or k.samplers n d inside in
+    let its = ready.fit.kit.samplers.each n (get_or k.samplers n d) there in
+    let has = ready.passes n (get_or k.samplers n d) there in
+    record {
+      for_it = record {
+        width = its.width_is ∙ sym job_is.width;
+        height = its.height_is ∙ sym job_is.height;
+        depth = its.depth_is ∙ sym job_is.depth;
+        pages = its.pages ∙ ap (λ s. pages_of s) (sym job_is.shape);
+      };
+      picture_is = job_is.picture;
+      fits = subst (λ s. Fits s words.sizes) (sym job_is.shape) (kit_fits g words t.streamer k ready.fit);
+      pass = has.pass;
+      has = has.has;
+      of = has.of;
+      rooted = ap (λ (p : PassView). p.rooted) has.view ∙ rooted_by g words t.streamer k ready.fit root;
+      own = ap (λ (p : PassView). p.sampler) has.view ∙ sym its.number_is;
+    })
+
+pub new_sampler : (s : Shape) (path : PathView) (d samplers number : ℕ) (v : SamplerView) → (v.sampler ≡ number) × (v.samplers ≡ samplers) → IsFor v s path d
+    → IsSamplerOf s d path.width path.height samplers number v
+new_sampler s path d samplers number v is for_it = record {
+  number_is = is.0;
+  among = is.1;
+  width_is = for_it.width;
+  height_is = for_it.height;
+  depth_is = for_it.depth;
+  pages = for_it.pages;
+}
+
+-- the line of one row more
+pub lines_more : (samplers : ℕ) (tasks : List WordSampler) (row : ℕ) → lines_of samplers tasks (row + 1) ≡ lines_of samplers tasks row
+    ++ line_of samplers tasks row ∷ []
+lines_more samplers tasks row = let z : 0 + row ≡ row = omega arith in map-range_with_len_more (line_of samplers tasks) 0 row row z
+
+concat_push : (xs : List (List ℕ)) (x : List ℕ) → concat (xs ++ x ∷ []) ≡ concat xs ++ x
+concat_push [] x = append-nil x
+concat_push (y ∷ xs) x = ap (λ t. y ++ t) (concat_push xs x) ∙ sym (append_assoc y (concat xs) x)
+
+-- the bytes of one row more
+pub joined_more : (f : ℕ → List ℕ) (y : ℕ) → concat (map f (range_with_len 0 (y + 1))) ≡ concat (map f (range_with_len 0 y)) ++ f y
+joined_more f y = let z : 0 + y ≡ y = omega arith in ap concat (map-range_with_len_more f 0 y y z) ∙ concat_push (map f (range_with_len 0 y)) (f y)
+
+-- the counts of one sampler more
+pub counted_more : (tasks : List WordSampler) (i p : ℕ) (d : WordSampler) → i < length tasks
+    → counted_together (take (i + 1) tasks) p ≡ counted_together (take i tasks) p + slice_index (get_or tasks i d).sampler.counts p
+counted_more tasks i p d inside = ap (λ l. counted_together l p) (take_more tasks i d inside)
+    ∙ sum_by_push (λ (task : WordSampler). slice_index task.sampler.counts p) (take i tasks) (get_or tasks i d)
+
+pub counted_below : (tasks : List WordSampler) (i p : ℕ) → counted_together (take i tasks) p ≤ counted_together tasks p
+counted_below tasks i p = sum_by-take-le (λ (task : WordSampler). slice_index task.sampler.counts p) tasks i
+
+-- what the first of some stores knows of its bytes
+pub told_first : {F : Type 0} (g : FileMeanings F) (s : Shape) (d loaders : ℕ) (stores : List (StoreView F)) (store : StoreView F)
+    → AreStoresFor g s d loaders stores
+    → slice_get stores 0 ≡ Some store → IsStoreIfTold (g.bytes store.file) store.shape store.depth → IsStoreIfTold (told_by g stores) s d
+told_first g s d loaders [] store are is known = absurd (none-some store is)
+told_first g s d loaders (x ∷ xs) store are is known =
+    let same : x ≡ store = same_Some x store is in
+    let mine = subst (λ (y : StoreView _). IsStoreIfTold (g.bytes y.file) y.shape y.depth) (sym same) known in
+    subst (λ (z : Shape × ℕ). IsStoreIfTold (g.bytes x.file) z.0 z.1) (λ i. (are.shapes 0 x (omega arith) i, are.depths 0 x (omega arith) i)) mine
+
+-- a row is one of the rows of the sampler whose turn it is
+pub own_turn : {F : Type 0} (g : FileMeanings F) (k : KitView F) (y : ℕ) (task : WordSampler) → IsKit g k → y < k.height
+    → slice_get k.samplers (y % k.crew.samplers) ≡ Some task → IsOwn task.sampler y
+own_turn g k y task kit inside at = let its = kit.samplers.each (y % k.crew.samplers) task at in record {
+  inside = subst (λ h. y < h) (sym its.height_is) inside;
+  own = ap (λ n. y % n) its.among ∙ sym its.number_is;
+}
+
+-- a row is one of the rows of the sampler whose turn it is, where the samplers stand at the places of their numbers
+pub own_row : (s : Shape) (d width height samplers : ℕ) (tasks : List WordSampler) (y : ℕ) (task : WordSampler)
+    → AreSamplersOf s d width height samplers tasks → y < height → slice_get tasks (y % samplers) ≡ Some task → IsOwn task.sampler y
+own_row s d width height samplers tasks y task are inside at = let its = are.each (y % samplers) task at in record {
+  inside = subst (λ h. y < h) (sym its.height_is) inside;
+  own = ap (λ n. y % n) its.among ∙ sym its.number_is;
+}
+
+-- the sampler whose turn it is stands among them
+pub turn_there : (samplers : ℕ) (tasks : List WordSampler) (y : ℕ) (d : WordSampler) → 1 ≤ samplers → length tasks ≡ samplers
+    → slice_get tasks (y % samplers) ≡ Some (get_or tasks (y % samplers) d)
+turn_there samplers tasks y d some count = slice_get-get_or tasks (y % samplers) d (let low = mod_below y samplers some in omega (arith, low, count))
+
+pub own_here : (s : Shape) (d width height samplers : ℕ) (tasks : List WordSampler) (y sampler : ℕ) (e : WordSampler)
+    → AreSamplersOf s d width height samplers tasks → 1 ≤ samplers → y < height → sampler ≡ y % samplers → IsOwn (get_or tasks sampler e).sampler y
+own_here s d width height samplers tasks y sampler e are some inside turn = subst (λ n. IsOwn (get_or tasks n e).sampler y) (sym turn)
+    (own_row s d width height samplers tasks y (get_or tasks (y % samplers) e) are inside (turn_there samplers tasks y e some are.count))
+
+-- what is noted of a row is its line
+pub line_is : (samplers : ℕ) (tasks : List WordSampler) (y sampler version : ℕ) (e : WordSampler) → 1 ≤ samplers → length tasks ≡ samplers
+    → sampler ≡ y % samplers → version ≡ version_at (get_or tasks sampler e).sampler y
+    → record { row = y; sampler = sampler; version = version } ≡ line_of samplers tasks y
+line_is samplers tasks y sampler version e some count turn is =
+    let at : version ≡ version_by (slice_get tasks (y % samplers)) y = is ∙ ap (λ n. version_at (get_or tasks n e).sampler y) turn
+    ∙ ap (λ o. version_by o y) (sym (turn_there samplers tasks y e some count)) in
+    λ i. record { row = y; sampler = turn i; version = at i }
+
+-- each sampler counts the pages of the texture
+pub counts_fit : (s : Shape) (d width height samplers : ℕ) (tasks : List WordSampler) (counts : List ℕ) → AreSamplersOf s d width height samplers tasks
+    → length counts ≡ pages_of s → (k : ℕ) (e : WordSampler) → k < length tasks → length (get_or tasks k e).sampler.counts ≡ length counts
+counts_fit s d width height samplers tasks counts are all k e inside =
+    (are.each k (get_or tasks k e) (slice_get-get_or tasks k e inside)).pages ∙ sym all

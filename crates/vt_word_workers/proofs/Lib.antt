@@ -1,0 +1,11 @@
+pub mod Kits
+pub mod Rooms
+pub mod Returned
+pub mod Contents
+pub mod Ending
+pub mod RowLines
+pub mod Ended
+pub mod Finished
+pub mod GivenOnes
+pub mod ReturnedOnes
+pub mod Finishing

@@ -1,0 +1,11 @@
+use Rattle.std.proofs.Common.{◌≡◌}
+use Rattle.vt_streamer.specs.Views.{IsStreamerOf}
+use Rattle.vt_word_workers.proofs.GivenOnes.{HaveGiven}
+use Rattle.vt_word_workers.proofs.given.give_passes.Given as goal
+
+abbrev pub invariant-loop-i : goal.invariant-loop-i
+invariant-loop-i l = record {
+  of : IsStreamerOf l.words l.streamer;
+  rest : l.streamer ≡ record l.fn.streamer { writer = l.streamer.writer };
+  given : HaveGiven l.words l.fn.streamer.writer l.i l.streamer.writer l.fn.tasks l.tasks;
+}

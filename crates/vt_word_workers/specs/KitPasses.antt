@@ -1,0 +1,95 @@
+-- A pass over shared words, by what its workers did.
+use Rattle.std.specs.Prelude.{◌≡◌, ℕ, ◌%◌, ◌≤◌, List, [], length, reverse, All, Contains}
+use Rattle.vt_outside.specs.declared.outside.File.{Ghosts as FileMeanings}
+use Rattle.vt_pages.specs.Shape.{Shape}
+use Rattle.vt_camera.specs.Paths.{PathView}
+use Rattle.vt_draw.specs.Shots.{shot_row, AreDrawn}
+use Rattle.vt_tiles.specs.Format.{tile_length}
+use Rattle.vt_grace.specs.declared.views.WriterView.{WriterView}
+use Rattle.vt_grace.specs.declared.views.Returned.{Returned}
+use Rattle.vt_grace.specs.Values.{WordsValue}
+use Rattle.vt_streamer.specs.Views.{StreamerView}
+use Rattle.vt_queue.specs.declared.queue.QueuePass.{QueuePass}
+use Rattle.vt_queue.specs.declared.items.Loaded.{Loaded}
+use Rattle.vt_queue.specs.Queues.{view_of}
+use Rattle.vt_loaders.specs.declared.queued.Queues.{Queues}
+use Rattle.vt_loaders.specs.QueuedLoaders.{QueuedView, AreOf, stores_of}
+use Rattle.vt_workers.specs.Jobs.{Job}
+use Rattle.vt_workers.specs.All.{AllDid}
+use Rattle.vt_machine.specs.declared.crew.PassReport.{PassReport}
+use Rattle.vt_machine.specs.Nearest.{nearest}
+use Rattle.vt_machine.specs.Machines.{told_by}
+use Rattle.vt_machine.specs.Passes.{IsJobFor, Ran}
+use Rattle.vt_rounds.specs.BatchRounds.{Begun as Round, IsEndedRound}
+use Rattle.vt_rounds.specs.Sizes.{AreSized}
+use Rattle.vt_noted.specs.Noted.{IsNotedBy}
+use Rattle.vt_word_workers.specs.declared.workers.WordSampler.{WordSampler}
+use Rattle.vt_word_workers.specs.declared.workers.WordStreamer.{WordStreamer}
+use Rattle.vt_word_workers.specs.WordTasks.{HasDrawn, HasFed}
+use Rattle.vt_word_workers.specs.RoundKits.{IsDealt}
+use Rattle.vt_word_workers.specs.GivenPasses.{HaveNewPasses}
+use Rattle.vt_word_workers.specs.HeldPasses.{AreHeldRows}
+use Rattle.vt_word_workers.specs.Kits.{KitView, kit_setup, kit_state, IsFitKit, HasRoom}
+
+-- a row of a picture was drawn at a version by notes that a writer took back, and the version is one that a pass of its sampler held
+pub record WasDrawn (s : Shape) (d samplers : ℕ) (w : WriterView) (path : PathView) (i y version : ℕ) (bytes : List ℕ) : Type 0 where
+  pub drawn : AreDrawn s d version (IsNotedBy w) (shot_row s path i y) path.width bytes
+  pub by : Returned
+  pub returned : Contains w.returned by
+  pub turn : by.sampler ≡ y % samplers
+  pub held : Contains by.held version
+
+-- what the samplers of a kit have drawn up to now over the words of a streamer
+abbrev pub kit_drawn : {F : Type 0} → KitView F → StreamerView → PathView → ℕ → ℕ → ℕ → List ℕ → Type 0
+kit_drawn k v path i y version bytes = WasDrawn k.shape k.depth k.crew.samplers v.writer path i y version bytes
+
+-- the workers were moved out of a kit, with passes of the queues that were split off
+pub record AreOut {F : Type 0} (g : FileMeanings F) (q : Queues) (k l : KitView F) (answers answers' : QueuePass Loaded)
+    (loaders : List (QueuedView F)) (samplers : List WordSampler) : Type 0 where
+  pub rest : l ≡ record k { samplers = []; stores = []; round = l.round }
+  pub moved : samplers ≡ k.samplers
+  pub dealt : IsDealt g q k.round l.round answers answers' k.stores loaders
+
+-- how the work of a pass began: the round of its loaders, the samplers and the streamer
+pub record Begun (F : Type 0) : Type 0 where
+  pub round : Round F
+  pub samplers : List WordSampler
+  pub streamer : WordStreamer
+
+-- the kit from which the workers were moved out
+abbrev pub kit_before : {F : Type 0} → KitView F → Begun F → KitView F
+kit_before k b = record k { samplers = b.samplers; stores = reverse (stores_of b.round.first) }
+
+-- the workers of a pass have worked: the samplers have drawn the job, the streamer has streamed its batch, and the loaders have ended their round
+pub record HaveWorked {F : Type 0} (g : FileMeanings F) (words : WordsValue) (q : Queues) (k : KitView F) (job : Job) (loaders : List (QueuedView F))
+    (samplers : List WordSampler) (t : WordStreamer) (b : Begun F) : Type 0 where
+  pub fit : IsFitKit g words b.streamer.streamer (kit_before k b)
+  pub job_is : IsJobFor (kit_setup g words (kit_before k b)) job
+  pub passes : HaveNewPasses words b.streamer.streamer.writer b.samplers
+  pub no_events : b.streamer.report.events.elements ≡ []
+  pub number : length samplers ≡ length b.samplers
+  pub drawn : AllDid (HasDrawn words job.scene job.picture) b.samplers samplers
+  pub fed : HasFed words q job.batch b.streamer t
+  pub ended : IsEndedRound g q k.shape job.batch (view_of k.round.asks) (view_of b.streamer.answers) loaders b.round
+  pub depth_is : b.round.depth ≡ k.depth
+  pub told_is : b.round.told ≡ told_by g (reverse (stores_of b.round.first))
+
+-- workers may be moved back into a kit
+pub record MayFinish {F : Type 0} (g : FileMeanings F) (words : WordsValue) (q : Queues) (k : KitView F) (job : Job) (loaders : List (QueuedView F))
+    (samplers : List WordSampler) (t : WordStreamer) (b : Begun F) : Type 0 where
+  pub worked : HaveWorked g words q k job loaders samplers t b
+  pub few : length job.batch ≤ k.crew.batch
+  pub room : HasRoom k
+  pub no_stores : k.stores ≡ []
+  pub passes : AreOf q k.round.asks t.answers
+  pub loaders_of : All (λ l. AreOf q l.asks l.answers) loaders
+  pub some : 1 ≤ length loaders
+  pub stores_room : length loaders ≤ k.round.stores.spare
+  pub buffers : length job.batch ≤ k.round.buffers.spare
+  pub sizes : AreSized (tile_length k.shape k.depth) k.round.buffers.elements
+
+-- a pass was run over words with a kit, by their streamer before and after; and each row's version is one that its sampler's pass held
+pub record KitRan {F : Type 0} (g : FileMeanings F) (words : WordsValue) (job : Job) (report : PassReport) (v : StreamerView) (k : KitView F)
+    (w : StreamerView) (l : KitView F) : Type 0 where
+  pub ran : Ran nearest (kit_drawn l w) job report (kit_state g words v.writer.journal k) (kit_state g words w.writer.journal l)
+  pub held : AreHeldRows v.writer w.writer report.rows.elements

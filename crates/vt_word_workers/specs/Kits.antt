@@ -1,0 +1,211 @@
+-- What a pass over shared words is done with, and what holds of it.
+use Rattle.std.specs.Prelude.{◌≡◌, ℕ, ◌*◌, ◌%◌, ◌<◌, ◌≤◌, Bool, false, Option, None, Some, List, [], length, map, slice_get, slice_index, slice_index_or, sum_by, All}
+use Rattle.std.specs.List.{range_with_len}
+use Rattle.vt_definitions.specs.Depths.{IsDepth}
+use Rattle.vt_outside.specs.Lists.{ListView}
+use Rattle.vt_outside.specs.declared.outside.File.{Ghosts as FileMeanings}
+use Rattle.vt_pages.specs.Shape.{Shape}
+use Rattle.vt_pages.specs.Pages.{pages_of}
+use Rattle.vt_camera.specs.Paths.{ArePictureSides}
+use Rattle.vt_journal.specs.declared.changes.Change.{Change}
+use Rattle.vt_journal.specs.declared.changes.RowLine.{RowLine}
+use Rattle.vt_journal.specs.Changes.{newest}
+use Rattle.vt_tiles.specs.Format.{tile_length}
+use Rattle.vt_tiles.specs.StoreViews.{StoreView, IsStoreIfTold}
+use Rattle.vt_grace.specs.Values.{WordsValue}
+use Rattle.vt_grace.specs.WriterViews.{is_out}
+use Rattle.vt_streamer.specs.Views.{StreamerView, IsStreamerOf}
+use Rattle.vt_sampler.specs.Samplers.{SamplerView, row_at, version_at}
+use Rattle.vt_plan.specs.declared.batches.Planned.{Planned}
+use Rattle.vt_machine.specs.declared.crew.Crew.{Crew}
+use Rattle.vt_machine.specs.Crews.{IsCrew}
+use Rattle.vt_machine.specs.Outcomes.{IsBatchFor}
+use Rattle.vt_machine.specs.Machines.{Setup, MachineState, file_state, files_of, told_by, AreStoresFor}
+use Rattle.vt_loaders.specs.declared.queued.Queues.{Queues}
+use Rattle.vt_rounds.specs.Sizes.{AreSized}
+use Rattle.vt_streaming.specs.Reports.{IsBlank}
+use Rattle.vt_noted.specs.Stored.{AreStored}
+use Rattle.vt_word_workers.specs.declared.workers.WordSampler.{WordSampler}
+use Rattle.vt_word_workers.specs.declared.workers.WordStreamer.{WordStreamer}
+use Rattle.vt_word_workers.specs.RoundKits.{RoundKitView, IsSetUp, IsAsked}
+use Rattle.vt_word_workers.specs.GivenPasses.{HaveNewPasses}
+
+-- a kit: how the texture is cut into pages, how many bytes its samples have, the sides of the pictures, the crew; the samplers and the
+-- loaders' stores; how many pixels of the last picture need each page; the list that the next pass fills; and what its loaders are done with
+pub record KitView (F : Type 0) : Type 0 where
+  pub shape : Shape
+  pub depth : ℕ
+  pub width : ℕ
+  pub height : ℕ
+  pub crew : Crew
+  pub samplers : List WordSampler
+  pub stores : List (StoreView F)
+  pub counts : List ℕ
+  pub rows : ListView RowLine
+  pub round : RoundKitView F
+
+-- the bytes of a row of a sampler, if it is there
+abbrev pub row_by : Option WordSampler → ℕ → List ℕ
+row_by None y = []
+row_by (Some task) y = row_at task.sampler y
+
+-- the version of a row of a sampler, if it is there
+abbrev pub version_by : Option WordSampler → ℕ → ℕ
+version_by None y = 0
+version_by (Some task) y = version_at task.sampler y
+
+-- the bytes of row y of the last picture: those of the sampler whose turn it is
+abbrev pub kit_row : {F : Type 0} → KitView F → ℕ → List ℕ
+kit_row k y = row_by (slice_get k.samplers (y % k.crew.samplers)) y
+
+-- the rows of the last picture, from the top
+abbrev pub kit_rows : {F : Type 0} → KitView F → List (List ℕ)
+kit_rows k = map (kit_row k) (range_with_len 0 k.height)
+
+-- the line of a row: it was drawn by the sampler whose turn it is, at the version of that sampler's row
+abbrev pub line_of : ℕ → List WordSampler → ℕ → RowLine
+line_of samplers tasks y = record { row = y; sampler = y % samplers; version = version_by (slice_get tasks (y % samplers)) y }
+
+-- the lines of the rows of a picture, from the top
+abbrev pub lines_of : ℕ → List WordSampler → ℕ → List RowLine
+lines_of samplers tasks height = map (line_of samplers tasks) (range_with_len 0 height)
+
+-- how many pixels samplers have counted together for a page
+abbrev pub counted_together : List WordSampler → ℕ → ℕ
+counted_together tasks p = sum_by (λ task. slice_index task.sampler.counts p) tasks
+
+-- what a machine of words and a kit was made for
+abbrev pub kit_setup : {F : Type 0} → FileMeanings F → WordsValue → KitView F → Setup
+kit_setup g words k = record {
+  shape = k.shape;
+  depth = k.depth;
+  width = k.width;
+  height = k.height;
+  frames = words.sizes.frames;
+  crew = k.crew;
+  bytes = told_by g k.stores;
+}
+
+-- what a machine of words, a journal and a kit is
+abbrev pub kit_state : {F : Type 0} → FileMeanings F → WordsValue → List Change → KitView F → MachineState
+kit_state g words journal k = record {
+  setup = kit_setup g words k;
+  files = files_of g k.stores;
+  journal = journal;
+  rows = kit_rows k;
+  counts = k.counts;
+}
+
+-- a sampler has this number among so many, and draws pictures of these sides, of a texture that is cut into pages, at a depth
+pub record IsSamplerOf (s : Shape) (d width height samplers number : ℕ) (v : SamplerView) : Type 0 where
+  pub number_is : v.sampler ≡ number
+  pub among : v.samplers ≡ samplers
+  pub width_is : v.width ≡ width
+  pub height_is : v.height ≡ height
+  pub depth_is : v.depth ≡ d
+  pub pages : length v.counts ≡ pages_of s
+
+-- there are so many samplers, each at the place of its number
+pub record AreSamplersOf (s : Shape) (d width height samplers : ℕ) (tasks : List WordSampler) : Type 0 where
+  pub count : length tasks ≡ samplers
+  pub each : (n : ℕ) (task : WordSampler) → slice_get tasks n ≡ Some task → IsSamplerOf s d width height samplers n task.sampler
+
+-- a kit that is whole: its parts are for one texture and for pictures of one size
+pub record IsKit {F : Type 0} (g : FileMeanings F) (k : KitView F) : Type 0 where
+  pub crew : IsCrew k.crew
+  pub depth : IsDepth k.depth
+  pub stores : AreStoresFor g k.shape k.depth k.crew.loaders k.stores
+  pub told : IsStoreIfTold (told_by g k.stores) k.shape k.depth
+  pub samplers : AreSamplersOf k.shape k.depth k.width k.height k.crew.samplers k.samplers
+  pub sides : ArePictureSides k.width k.height
+  pub counts : length k.counts ≡ pages_of k.shape
+  pub buffers : AreSized (tile_length k.shape k.depth) k.round.buffers.elements
+
+-- a whole kit that was made for a texture, for pictures of these sides and for a crew, of these stores
+pub record IsMadeFor {F : Type 0} (g : FileMeanings F) (s : Shape) (d width height : ℕ) (crew : Crew) (stores : List (StoreView F))
+    (k : KitView F) : Type 0 where
+  pub kit : IsKit g k
+  pub shape : k.shape ≡ s
+  pub depth : k.depth ≡ d
+  pub width_is : k.width ≡ width
+  pub height_is : k.height ≡ height
+  pub crew_is : k.crew ≡ crew
+  pub stores_are : k.stores ≡ stores
+
+-- a whole kit and the streamer of words for its texture and its samplers, by which each page was mapped with the words of its tile
+pub record IsFitKit {F : Type 0} (g : FileMeanings F) (words : WordsValue) (v : StreamerView) (k : KitView F) : Type 0 where
+  pub of : IsStreamerOf words v
+  pub shape : v.shape ≡ k.shape
+  pub samplers : words.sizes.samplers ≡ k.crew.samplers
+  pub stored : AreStored k.shape k.depth (told_by g k.stores) v.writer.journal v.writer.contents
+  pub kit : IsKit g k
+
+-- no sampler has a pass
+abbrev pub AreAllIn : StreamerView → Type 0
+AreAllIn v = (n : ℕ) → is_out v.writer n ≡ false
+
+-- such a kit while no sampler has a pass
+pub record IsIdleKit {F : Type 0} (g : FileMeanings F) (words : WordsValue) (v : StreamerView) (k : KitView F) : Type 0 where
+  pub fit : IsFitKit g words v k
+  pub all_in : AreAllIn v
+
+-- a kit has room for the lines of a picture's rows
+pub record HasRoom {F : Type 0} (k : KitView F) : Type 0 where
+  pub no_rows : k.rows.elements ≡ []
+  pub rows : k.height ≤ k.rows.spare
+
+-- the streamer has room for a pass of so many entries, and tells nothing yet
+pub record HasStreamerRoom (t : WordStreamer) (entries : ℕ) : Type 0 where
+  pub spare : 2 * entries ≤ t.streamer.spare
+  pub report : IsBlank entries t.report
+  pub no_events : t.report.events.elements ≡ []
+
+-- there is room for a pass of a batch, which is lawful for the newest version and no longer than the crew's, and these hold of the passes of the
+-- words and of those of the queues
+pub record IsKitFor {F : Type 0} (g : FileMeanings F) (words : WordsValue) (t : WordStreamer) (k : KitView F) (batch : List Planned)
+    (Passes Queued : Type 0) : Type 0 where
+  pub fit : IsFitKit g words t.streamer k
+  pub lawful : IsBatchFor t.streamer.shape (length t.streamer.owners) (newest t.streamer.writer.journal) batch
+  pub few : length batch ≤ k.crew.batch
+  pub streamer : HasStreamerRoom t (length batch)
+  pub room : HasRoom k
+  pub reads : All (λ store. k.crew.batch ≤ g.spare store.file) k.stores
+  pub passes : Passes
+  pub queued : Queued
+
+-- a pass is prepared for a batch: its queues are new; the requests are still to be put, and the passes of the words to be given
+abbrev pub IsPreparedKit : {F : Type 0} → FileMeanings F → WordsValue → Queues → WordStreamer → KitView F → List Planned → Type 0
+IsPreparedKit g words q t k batch = IsKitFor g words t k batch (AreAllIn t.streamer)
+    (IsSetUp q k.round t.answers (tile_length k.shape k.depth) k.crew (length batch))
+
+-- the requests were put
+abbrev pub IsAskedKit : {F : Type 0} → FileMeanings F → WordsValue → Queues → WordStreamer → KitView F → List Planned → Type 0
+IsAskedKit g words q t k batch = IsKitFor g words t k batch (AreAllIn t.streamer) (IsAsked q k.round t.answers k.shape k.depth k.crew batch)
+
+-- and each sampler was given its pass
+abbrev pub IsReadyKit : {F : Type 0} → FileMeanings F → WordsValue → Queues → WordStreamer → KitView F → List Planned → Type 0
+IsReadyKit g words q t k batch = IsKitFor g words t k batch (HaveNewPasses words t.streamer.writer k.samplers)
+    (IsAsked q k.round t.answers k.shape k.depth k.crew batch)
+
+-- a store is the same but for its room to note reads
+pub record IsSameStore {F : Type 0} (g : FileMeanings F) (before after : StoreView F) : Type 0 where
+  pub shape : after.shape ≡ before.shape
+  pub depth : after.depth ≡ before.depth
+  pub bytes : g.bytes after.file ≡ g.bytes before.file
+  pub file : file_state g after.file ≡ file_state g before.file
+
+-- the stores are the same but for their room to note reads
+pub record AreSameStores {F : Type 0} (g : FileMeanings F) (before after : List (StoreView F)) : Type 0 where
+  pub number : length after ≡ length before
+  pub each : (k : ℕ) (d : StoreView F) → k < length before → IsSameStore g (slice_index_or before k d) (slice_index_or after k d)
+
+-- a kit is the same but for the room of its lists and its stores, and for what its loaders are done with
+pub record IsSameKit {F : Type 0} (g : FileMeanings F) (before after : KitView F) : Type 0 where
+  pub shape : after.shape ≡ before.shape
+  pub depth : after.depth ≡ before.depth
+  pub width : after.width ≡ before.width
+  pub height : after.height ≡ before.height
+  pub crew : after.crew ≡ before.crew
+  pub samplers : after.samplers ≡ before.samplers
+  pub counts : after.counts ≡ before.counts
+  pub stores : AreSameStores g before.stores after.stores

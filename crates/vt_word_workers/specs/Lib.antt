@@ -1,0 +1,6 @@
+pub mod WordTasks
+pub mod RoundKits
+pub mod GivenPasses
+pub mod HeldPasses
+pub mod Kits
+pub mod KitPasses

@@ -1,0 +1,78 @@
+//! What the workers of a pass have in common where its caller holds the words.
+
+use crate::tasks::{draw_own, stream_own};
+use crate::workers::{WordSampler, WordStreamer};
+use std::sync::Wait;
+use std::thread::Threads;
+use vt_draw::Shot;
+use vt_grace::Words;
+use vt_loaders::{QueuedLoader, Queues};
+use vt_outside::{File, Gate};
+use vt_plan::Planned;
+use vt_workers::Task;
+
+/// What the workers of a pass have in common where its caller holds the words.
+#[derive(Drop)]
+pub struct LentShared<'a> {
+    /// The words of the page table and of the frames.
+    pub words: &'a Words,
+    /// The queues of the requests and of the results.
+    pub queues: &'a Queues,
+}
+
+impl<'a, F: File> Task<LentShared<'a>> for QueuedLoader<F> {
+    ghost use Rattle.vt_loaders.specs.QueuedLoaders.{MayLoad, HasLoaded};
+
+    ghost ready = { λ shared job loader. MayLoad F.File shared.queues.now loader };
+
+    ghost did = { λ shared job before after. HasLoaded F.File shared.queues.now before after };
+
+    fn work<Rt: Threads + Wait, G: Gate>(
+        &mut self,
+        rt: &Rt,
+        shared: &LentShared<'a>,
+        _shot: &Shot<'_>,
+        _batch: &[Planned],
+        gate: &G,
+    ) {
+        self.run(rt, shared.queues, gate);
+    }
+}
+
+impl<'a> Task<LentShared<'a>> for WordSampler {
+    ghost use Rattle.vt_word_workers.specs.WordTasks.{MayDraw, HasDrawn};
+
+    ghost ready = { λ shared job task. MayDraw shared.words.now job.scene job.picture task };
+
+    ghost did = { λ shared job before after. HasDrawn shared.words.now job.scene job.picture before after };
+
+    fn work<Rt: Threads + Wait, G: Gate>(
+        &mut self,
+        _rt: &Rt,
+        shared: &LentShared<'a>,
+        shot: &Shot<'_>,
+        _batch: &[Planned],
+        gate: &G,
+    ) {
+        draw_own(self, shot, shared.words, gate);
+    }
+}
+
+impl<'a> Task<LentShared<'a>> for WordStreamer {
+    ghost use Rattle.vt_word_workers.specs.WordTasks.{MayStream, HasFed};
+
+    ghost ready = { λ shared job task. MayStream shared.words.now shared.queues.now job.batch task };
+
+    ghost did = { λ shared job before after. HasFed shared.words.now shared.queues.now job.batch before after };
+
+    fn work<Rt: Threads + Wait, G: Gate>(
+        &mut self,
+        rt: &Rt,
+        shared: &LentShared<'a>,
+        _shot: &Shot<'_>,
+        batch: &[Planned],
+        gate: &G,
+    ) {
+        stream_own(rt, self, shared.words, shared.queues, batch, gate);
+    }
+}

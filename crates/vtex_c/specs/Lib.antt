@@ -1,0 +1,4 @@
+pub mod Statuses
+pub mod Shapes
+pub mod Stores
+pub mod Caches

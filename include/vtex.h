@@ -1,0 +1,152 @@
+/* The page cache for engines in C and C++.
+ *
+ * A texture with its mip chain is cut into pages, each of which has a tile in a store. The cache says which pages have one of F frames,
+ * which pages to load next and into which frames, and which frame shows what. It reads no file, starts no thread and draws nothing: the
+ * engine reads the tiles and uploads them. Pages are numbered from level 0 on, and in a level row by row, so the root is the last.
+ *
+ * Every call answers at once. Those on shapes and stores use no memory but what they are given, and may be made from any thread at any
+ * time. Those that take a cache are for one thread at a time; a cache may be handed to another thread under a lock. Memory is taken (by
+ * malloc and realloc) only in vtex_cache_open, the three passes and vtex_cache_settle, and given back (by free) there and in
+ * vtex_cache_close.
+ *
+ * Each number is tested. Most calls answer a status; one other than VTEX_DONE leaves what the call was to write as it was. What cannot be
+ * tested, C upholds: a pointer is that of such an object, a length is the true one, what a call writes is no other argument's memory, and
+ * the place of a cache stays where it is from vtex_cache_init to vtex_cache_close. A length of 0 may come with any pointer but NULL.
+ */
+#ifndef VTEX_H
+#define VTEX_H
+#include <stddef.h>
+#include <stdint.h>
+#ifdef __cplusplus
+extern "C" {
+#endif
+
+/* Statuses. */
+enum {
+    VTEX_DONE = 0,       /* what was asked was done */
+    VTEX_BAD_SHAPE = 1,  /* the sides or the tile side make no chain of pages */
+    VTEX_BAD_NUMBER = 2, /* a number or a length is outside its bounds */
+    VTEX_NO_MEMORY = 3,  /* memory was refused */
+    VTEX_CLOSED = 4,     /* the cache is not open */
+    VTEX_BAD_STORE = 5   /* the bytes are no store's */
+};
+
+/* What stands for no page. */
+#define VTEX_NO_PAGE UINT32_MAX
+
+/* What became of a load, for vtex_cache_settle. Any other number says that it was lost. */
+enum { VTEX_CAME = 0, VTEX_LOST = 1, VTEX_UNDER_WAY = 2 };
+
+/* The sides of a texture, from 1 to 16384 texels, and of a tile, a power of two from 2 to 128. A chain has at most 262144 pages. */
+typedef struct { uint32_t width, height, tile; } vtex_shape;
+/* A level: its sides in texels, its columns and rows of pages, and the index of its first page. */
+typedef struct { uint32_t width, height, columns, rows, first; } vtex_level_info;
+/* The name of a page: its level, 0 the finest, and its column and row there. */
+typedef struct { uint32_t level, column, row; } vtex_name;
+/* The shape of a store's pages, and how many bytes a sample has, 1 or 2 (the more significant first). A texel has three samples. */
+typedef struct { vtex_shape shape; uint32_t depth; } vtex_store;
+/* A run of a file's bytes. */
+typedef struct { uint64_t start, length; } vtex_range;
+
+/* A wanted page, and how many pixels want it. */
+typedef struct { uint32_t page, pixels; } vtex_wanted;
+/* A load: a page, the frame that its tile goes to, and the page that has the frame before, or VTEX_NO_PAGE. */
+typedef struct { uint32_t page, frame, victim; } vtex_load;
+/* A change of the page table: a page was mapped to a frame (mapped is 1), or taken out of it (0). */
+typedef struct { uint32_t page, frame, mapped; } vtex_change;
+/* What a look-up finds: a mapped page, its frame and its level. */
+typedef struct { uint32_t page, frame, level; } vtex_place;
+/* The numbers of a cache: its pages, the frames that no page has, the loads under way, and the changes of the last settling. */
+typedef struct { uint32_t pages, free, loads, changes; } vtex_info;
+
+/* A cache, whose place is the engine's: vtex_cache_size() bytes, aligned as a pointer. */
+typedef struct vtex_cache vtex_cache;
+
+/* ---- the geometry of a texture's pages: VTEX_DONE, VTEX_BAD_SHAPE, or VTEX_BAD_NUMBER where there is no such level, texel or page */
+
+/* How many pages the chain has, from 1 to 262144. */
+uint32_t vtex_page_count(const vtex_shape *shape, uint32_t *pages);
+/* How many levels the chain has, from 1 to 14. */
+uint32_t vtex_level_count(const vtex_shape *shape, uint32_t *levels);
+/* A level's sides, columns and rows of pages, and first page. */
+uint32_t vtex_level(const vtex_shape *shape, uint32_t level, vtex_level_info *told);
+/* The page of the texel (x, y) of a level. */
+uint32_t vtex_page_of_texel(const vtex_shape *shape, uint32_t level, uint32_t x, uint32_t y, uint32_t *page);
+/* The level, the column and the row of a page. */
+uint32_t vtex_page_name(const vtex_shape *shape, uint32_t page, vtex_name *name);
+/* The page at a level, a column and a row. */
+uint32_t vtex_page_at(const vtex_shape *shape, const vtex_name *name, uint32_t *page);
+/* The page of the next coarser level over a page's place; VTEX_NO_PAGE for the root. */
+uint32_t vtex_parent(const vtex_shape *shape, uint32_t page, uint32_t *parent);
+/* How many pages the last so many levels have, or all levels where there are fewer. They are the last so many indexes. */
+uint32_t vtex_pinned_count(const vtex_shape *shape, uint32_t levels, uint32_t *pages);
+
+/* ---- a store, which the engine reads itself */
+
+/* The shape and the depth of a store of `length` bytes, of which `head` is the first 16, or all where there are fewer: VTEX_DONE,
+ * VTEX_BAD_STORE, or VTEX_BAD_NUMBER where `count` is neither. */
+uint32_t vtex_store_open(const uint8_t *head, size_t count, uint64_t length, vtex_store *store);
+/* Where a page's tile stands in the file: VTEX_DONE, VTEX_BAD_SHAPE, or VTEX_BAD_NUMBER for another depth or page. */
+uint32_t vtex_store_tile(const vtex_store *store, uint32_t page, vtex_range *range);
+
+/* ---- a cache: calls for one thread at a time */
+
+/* How many bytes the place of a cache has. */
+size_t vtex_cache_size(void);
+
+/* Makes a closed cache of a place. It takes no memory and cannot fail. */
+void vtex_cache_init(vtex_cache *at);
+
+/* Opens the cache for so many frames, at most 65535, in which the last `pinned` pages are mapped for good, the first of them to frame 0.
+ * `pinned` is at least 1 and at most the frames and the pages. A cache that is open is opened anew. The pinned pages are the changes to be
+ * uploaded before the first picture. Takes some 21 bytes a page and 13 a frame.
+ * VTEX_DONE, VTEX_BAD_SHAPE, VTEX_BAD_NUMBER, VTEX_NO_MEMORY; on all but the first the cache is as it was. */
+uint32_t vtex_cache_open(vtex_cache *at, const vtex_shape *shape, uint32_t frames, uint32_t pinned);
+
+/* The three passes. Each takes what the pixels of a picture want, makes the wanted mapped pages the most recent ones, and plans which pages
+ * to load next: the missing page nearest above each wanted one, coarse before fine and many pixels before few, into the free frames and
+ * then into those of the least recent pages that no wanted page needs. Of this plan of at most `most` entries those are added to the loads
+ * under way that have neither the page nor the frame of one that is under way already. Pixels past 4294967295 for a page count as so many.
+ *   VTEX_DONE; VTEX_BAD_NUMBER where the feedback does not fit, and VTEX_CLOSED: nothing changed; VTEX_NO_MEMORY: the table and the loads
+ *   are as they were, and the next pass goes on.
+ * Takes some 20 to 80 bytes a wanted page and 12 a load while it runs, and keeps 12 a load. */
+
+/* A number of pixels for each page: `pages` numbers. Costs what there is. */
+uint32_t vtex_cache_pass_counts(vtex_cache *at, const uint32_t *pixels, size_t pages, uint32_t most);
+/* A list of wanted pages with their numbers of pixels; those of a page that stands there again are added. Costs what is wanted. */
+uint32_t vtex_cache_pass_wanted(vtex_cache *at, const vtex_wanted *list, size_t count, uint32_t most);
+/* Page indexes as a feedback buffer has them, one a pixel, VTEX_NO_PAGE where a pixel wants none. Costs what is wanted. */
+uint32_t vtex_cache_pass_pages(vtex_cache *at, const uint32_t *list, size_t count, uint32_t most);
+
+/* How many loads are under way. If there is room for them all they are written to the front of `out`, the oldest first, so those that the
+ * last pass added come last. 0 for a closed cache. */
+uint32_t vtex_cache_loads(vtex_cache *at, vtex_load *out, size_t room);
+
+/* Says what became of the loads under way: a byte for each, in the order of vtex_cache_loads. For each that came its victim is unmapped and
+ * its page mapped; one that was lost is forgotten; one that is under way stays so. The pages that came are the most recent ones.
+ * VTEX_DONE; VTEX_BAD_NUMBER where `count` is another number: nothing changed; VTEX_CLOSED; VTEX_NO_MEMORY: the cache is closed now.
+ * Takes some 34 bytes a load while it runs, and keeps some 60 for each page that it maps to a frame that was free. */
+uint32_t vtex_cache_settle(vtex_cache *at, const uint8_t *states, size_t count);
+
+/* How many changes the last settling made, or the opening. If there is room for them all they are written to the front of `out`, in an
+ * order in which they may be uploaded: a page is taken out of its frame before the next is mapped to it. 0 for a closed cache. */
+uint32_t vtex_cache_changes(vtex_cache *at, vtex_change *out, size_t room);
+
+/* The first mapped page of a page's line, which has the page itself, its parent and so on to the root: VTEX_DONE, VTEX_BAD_NUMBER,
+ * VTEX_CLOSED. */
+uint32_t vtex_cache_look_up(vtex_cache *at, uint32_t page, vtex_place *found);
+
+/* The page table of a level, row by row, as an array for upload: for each page 0 where it has no frame, else its frame and 1. `room` is the
+ * level's number of pages: VTEX_DONE, VTEX_BAD_NUMBER, VTEX_CLOSED. */
+uint32_t vtex_cache_table(vtex_cache *at, uint32_t level, uint32_t *out, size_t room);
+
+/* The numbers of the cache: VTEX_DONE, VTEX_CLOSED. */
+uint32_t vtex_cache_info(vtex_cache *at, vtex_info *told);
+
+/* Gives all memory back: VTEX_DONE. The place may then be forgotten, or the cache opened again. */
+uint32_t vtex_cache_close(vtex_cache *at);
+
+#ifdef __cplusplus
+}
+#endif
+#endif
