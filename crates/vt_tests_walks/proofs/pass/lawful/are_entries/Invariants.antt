@@ -1,0 +1,12 @@
+use Rattle.std.proofs.Common.{ℕ, ◌<◌}
+use Rattle.std.specs.Prelude.{slice_index_or}
+use Rattle.vt_plan.specs.declared.batches.Planned.{Planned}
+use Rattle.vt_journal.specs.Changes.{newest}
+use Rattle.vt_machine.specs.Outcomes.{IsEntryFor}
+use Rattle.vt_tests_walks.proofs.pass.lawful.are_entries.Given as goal
+
+-- the entries so far are lawful
+abbrev pub invariant-loop-i : goal.invariant-loop-i
+invariant-loop-i l = record {
+  each : (k : ℕ) (d : Planned) → k < l.i → IsEntryFor l.geometry l.frames (newest l.journal.changes) (slice_index_or l.batch k d);
+}
