@@ -5,3 +5,4 @@ pub mod Finding
 pub mod UnderWay
 pub mod Passing
 pub mod Leveling
+pub mod Listing

@@ -1,5 +1,5 @@
 -- The changes of a page table that loads make.
-use Rattle.std.specs.Prelude.{◌≡◌, ℕ, ◌≤◌, Option, None, Some, List, [], ◌∷◌, ◌++◌, take, length}
+use Rattle.std.specs.Prelude.{◌≡◌, ℕ, ◌<◌, ◌≤◌, Option, None, Some, List, [], ◌∷◌, ◌++◌, take, drop, length}
 use Rattle.std.specs.List.{flat_map}
 use Rattle.vt_plan.specs.declared.batches.Planned.{Planned}
 use Rattle.vt_residency.specs.declared.changes.Change.{Change}
@@ -13,8 +13,10 @@ given_up frame (Some p) = record { page = p; frame = frame; mapped = 0 } ∷ []
 abbrev pub changes_of : Planned → List Change
 changes_of e = given_up e.frame e.victim ++ record { page = e.page; frame = e.frame; mapped = 1 } ∷ []
 
--- the number of changes is told, and where a list has room for them they are at its front
+-- the number of changes is told, and where a list has room for them they are at its front; else the list is as it was
 pub record HasChanges (loads : List Planned) (old : List Change) (n : ℕ) (new : List Change) : Type 0 where
   pub count : n ≡ length (flat_map changes_of loads)
   pub long : length new ≡ length old
   pub changes : n ≤ length old → take n new ≡ flat_map changes_of loads
+  pub rest : n ≤ length old → drop n new ≡ drop n old
+  pub kept : length old < n → new ≡ old

@@ -1,6 +1,6 @@
 //! The changes of a page table, in the order in which they may be uploaded.
 
-ghost use Rattle.std.specs.Prelude.{◌≡◌, ◌+◌, ◌^◌, ◌<◌, ◌≤◌, ◌++◌, Option, None, Some, take, length};
+ghost use Rattle.std.specs.Prelude.{◌≡◌, ◌+◌, ◌^◌, ◌<◌, ◌≤◌, ◌++◌, Option, None, Some, take, drop, length};
 ghost use Rattle.std.specs.List.{flat_map};
 ghost use Rattle.vt_residency.specs.Changes.{changes_of, HasChanges};
 
@@ -42,6 +42,7 @@ pub fn change_count(loads: &[Planned]) -> usize
 fn put(load: &Planned, out: &mut [Change], from: usize)
     requires { from + length (changes_of load.now) ≤ length out.old }
     ensures changes { take (from + length (changes_of load.now)) out.new ≡ take from out.old ++ changes_of load.now }
+    ensures rest { drop (from + length (changes_of load.now)) out.new ≡ drop (from + length (changes_of load.now)) out.old }
     ensures long { length out.new ≡ length out.old }
 {
     let map = Change {
@@ -66,6 +67,7 @@ fn put(load: &Planned, out: &mut [Change], from: usize)
 fn fill(loads: &[Planned], out: &mut [Change])
     requires { length (flat_map changes_of loads.now) ≤ length out.old }
     ensures changes { take (length (flat_map changes_of loads.now)) out.new ≡ flat_map changes_of loads.now }
+    ensures rest { drop (length (flat_map changes_of loads.now)) out.new ≡ drop (length (flat_map changes_of loads.now)) out.old }
     ensures long { length out.new ≡ length out.old }
 {
     let mut count = 0;

@@ -1,6 +1,6 @@
 //! Loads: which are under way, and which a plan adds to them.
 
-ghost use Rattle.std.specs.Prelude.{◌≡◌, ℕ, ◌^◌, ◌<◌, ◌≤◌, ◌+◌, ◌++◌, if◌then◌else◌, [], ◌∷◌, map, take, length, IfOk};
+ghost use Rattle.std.specs.Prelude.{◌≡◌, ℕ, ◌^◌, ◌<◌, ◌≤◌, ◌+◌, ◌++◌, if◌then◌else◌, [], ◌∷◌, map, take, drop, length, IfOk};
 ghost use Rattle.std.specs.List.{filter};
 ghost use Rattle.vt_evict.specs.Batches.{read_entries};
 ghost use Rattle.vt_residency.specs.Loads.{load_in, HasLoads, is_apart, is_same};
@@ -36,6 +36,7 @@ fn load_of(planned: &Planned) -> Load
 fn fill(batch: &[Planned], out: &mut [Load])
     requires { length batch.now ≤ length out.old }
     ensures loads { take (length batch.now) out.new ≡ map load_in batch.now }
+    ensures rest { drop (length batch.now) out.new ≡ drop (length batch.now) out.old }
     ensures long { length out.new ≡ length out.old }
 {
     for i in 0..batch.len() {
