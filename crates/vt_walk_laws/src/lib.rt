@@ -12,8 +12,8 @@ pub use pass_counts::{
     run_has_its_pictures,
 };
 pub use replays::{
-    journal_tells_its_run, replay_gives_the_walk, replay_gives_the_written_picture,
-    replay_gives_what_stands, nearest_walk_is_of_its_store,
+    journal_tells_its_run, nearest_walk_is_of_its_store, replay_gives_the_walk,
+    replay_gives_the_written_picture, replay_gives_what_stands,
 };
 pub use runs::{
     drawn_picture_is_the_runs, finished_picture_is_mapped, next_batch_may_be_run,
