@@ -1,5 +1,5 @@
 -- The machine between its passes: made, with a page placed, and with its samplers moved out.
-use Rattle.std.proofs.Common.{◌≡◌, ℕ, zero, suc, false, List, [], ◌∷◌, ◌++◌, length, get_or, Option, Some, refl, sym, ap, ◌∙◌, subst, replicate}
+use Rattle.std.proofs.Common.{◌≡◌, ℕ, zero, suc, false, List, [], ◌∷◌, get_or, Option, Some, refl, sym, ap, ◌∙◌, subst, replicate}
 use Rattle.std.specs.Prelude.{slice_index_or, IfSome, Result, Ok, Err, OnOk, OnErr}
 use Rattle.std.proofs.lemmas.Option.{none-some, same_Some}
 use Rattle.vt_outside.specs.declared.outside.File.{Ghosts as FileMeanings}

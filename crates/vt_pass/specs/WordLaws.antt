@@ -1,5 +1,5 @@
 -- What the workers of the machine over shared words did is a pass, once they are moved back.
-use Rattle.std.specs.Prelude.{◌≡◌, ℕ, ◌≤◌, Option, Some, List, [], length, reverse, Result, Ok, Err, IsOk, IfOk, OnErr, All}
+use Rattle.std.specs.Prelude.{◌≡◌, ℕ, ◌≤◌, Option, List, length, Result, Ok, Err, IsOk, IfOk, OnErr}
 use Rattle.std.proofs.Common.{refl, subst, sym, ap, ◌∙◌, arith}
 use Rattle.std.proofs.lemmas.Bool.{false≢true}
 use Rattle.std.proofs.lemmas.List.{length-reverse, length-map}

@@ -1,8 +1,8 @@
 //! What a pass over shared words is done with.
 
-ghost use Rattle.std.specs.Prelude.{◌≡◌, ℕ, ◌^◌, ◌<◌, ◌≤◌, OnOk, List, [], length, slice_index, slice_index_or, IfOk, IfErr, All};
+ghost use Rattle.std.specs.Prelude.{◌≡◌, ℕ, ◌^◌, ◌<◌, ◌≤◌, OnOk, List, [], length, slice_index, IfOk, IfErr, All};
 ghost use Rattle.std.specs.List.{concat};
-ghost use Rattle.vt_definitions.specs.Limits.{most_samplers, most_entries};
+ghost use Rattle.vt_definitions.specs.Limits.{most_samplers};
 ghost use Rattle.vt_definitions.specs.Depths.{IsDepth};
 ghost use Rattle.vt_pages.specs.Pages.{pages_of};
 ghost use Rattle.vt_journal.specs.Changes.{newest};
@@ -22,7 +22,7 @@ ghost use Rattle.vt_streaming.specs.declared.report.StreamReport.{StreamReport a
 ghost use Rattle.vt_word_workers.specs.declared.workers.WordStreamer.{WordStreamer as Own};
 ghost use Rattle.vt_word_workers.specs.RoundKits.{IsSetUp, IsAsked};
 ghost use Rattle.vt_word_workers.specs.GivenPasses.{HasGiven};
-ghost use Rattle.vt_word_workers.specs.Kits.{KitView, AreSamplersOf, IsKit, IsMadeFor, IsFitKit, IsIdleKit, AreAllIn, IsPreparedKit, IsAskedKit, IsReadyKit, HasRoom, HasStreamerRoom, IsSameKit, kit_row, kit_rows, lines_of, counted_together};
+ghost use Rattle.vt_word_workers.specs.Kits.{KitView, AreSamplersOf, IsKit, IsMadeFor, IsFitKit, IsIdleKit, AreAllIn, IsPreparedKit, IsAskedKit, IsReadyKit, HasRoom, IsSameKit, kit_row, kit_rows, lines_of, counted_together};
 ghost use Rattle.vt_word_workers.specs.KitPasses.{AreOut, Begun, MayFinish, KitRan, kit_before};
 
 use crate::given::{give_passes, return_passes};

@@ -11,7 +11,6 @@ ghost use Rattle.vt_queue.specs.declared.queue.QueuePass.{QueuePass as Token};
 ghost use Rattle.vt_queue.specs.PassViews.{all_shares, first_view, all_joined};
 ghost use Rattle.vt_queue.specs.Steps.{IsAtStep};
 ghost use Rattle.vt_queue.specs.Queues.{view_of, splits_of, IsOf, capacity_of};
-ghost use Rattle.vt_loaders.specs.declared.queued.Queues.{Queues as Both};
 ghost use Rattle.vt_loaders.specs.QueuedLoaders.{AreOf, MayLoad, stores_of, asks_of, answers_of};
 ghost use Rattle.vt_machine.specs.declared.crew.Crew.{Crew as Hands};
 ghost use Rattle.vt_rounds.specs.Sizes.{AreSized};

@@ -1,4 +1,4 @@
-use Rattle.std.proofs.Common.{Ok, Some, refl, sym, subst}
+use Rattle.std.proofs.Common.{Ok, refl, sym, subst}
 use Rattle.vt_workers.specs.Jobs.{job_of}
 use Rattle.vt_machine.specs.Nearest.{nearest}
 use Rattle.vt_machine.specs.Passes.{Ends}
