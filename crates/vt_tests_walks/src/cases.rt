@@ -1,6 +1,5 @@
 //! Tables of cases: what stands in a folder in memory before, what is done, and what is to come of it.
 
-use crate::pass::kits::pass_comes;
 use crate::replay::{Replay, replay_comes};
 use crate::walk::worked::{Walk, walk_comes};
 use std::alloc::Global;
@@ -15,8 +14,6 @@ use vt_outside::{Fail, Fails, MemoryFolder, NoMemory};
 pub enum Deed<'a> {
     Walk(Walk<'a>),
     Replay(Replay<'a>),
-    /// A pass over words of the test.
-    Pass,
 }
 
 /// A row of a table. In the folder the name `s` holds the store and the name `p` the path, which are to stay.
@@ -52,7 +49,6 @@ fn comes<Rt: Abort + Threads + Wait + Sync>(
     match &case.deed {
         Deed::Walk(walk) => walk_comes(rt, alloc, folder, path, case.fails, walk),
         Deed::Replay(replay) => replay_comes(rt, alloc, folder, path, replay),
-        Deed::Pass => pass_comes(rt, alloc, folder, path),
     }
 }
 
