@@ -510,5 +510,12 @@ for command in walk replay trial; do
   if has "$command"; then "check_$command"; else echo "skipped: $command, which the program has not yet"; fi
 done
 
+# The cache for engines, where its library is built.
+if command -v g++ >/dev/null && [ -f "$top/crates/vtex_c/out/libvtex_c.a" ]; then
+  python3 "$top/tests/engine.py" "$program"; say $? "the cache for engines"
+else
+  echo "skipped: the cache for engines (rt lib in crates/vtex_c, and g++)"
+fi
+
 echo "$passed passed, $failed failed"
 [ "$failed" -eq 0 ]
