@@ -15,15 +15,6 @@ use Rattle.vt_grace.specs.Banks.{MayFill}
 use Rattle.vt_streamer.specs.Views.{StreamerView, table_of, IsStreamerOf}
 use Rattle.vt_tests_words.specs.BlankStreams.{IsBlank}
 
-pub blank_pages : (words : WordsValue) (v : StreamerView) → IsBlank words v → pages_of v.shape ≡ 5
-blank_pages words v h = sym (ap (λ (z : Sizes). z.pages) h.of.sizes) ∙ h.pages
-
-pub blank_frames : (words : WordsValue) (v : StreamerView) → IsBlank words v → length v.owners ≡ 3
-blank_frames words v h = sym (ap (λ (z : Sizes). z.frames) h.of.sizes) ∙ h.frames
-
-pub blank_now : (words : WordsValue) (v w : StreamerView) → IsBlank words v → IsStreamerOf words w → w.writer.journal ≡ v.writer.journal → IsBlank words w
-blank_now words v w h of same = record { of = of; pages = h.pages; texels = h.texels; frames = h.frames; journal = same ∙ h.journal }
-
 none_some : (f : ℕ) → None ≡ Some f → ⊥
 none_some f e = cc
 
@@ -55,10 +46,6 @@ blank_spared words v w h same = subst (IsBlank words) (sym same) record {
 pub still_may : (v w : StreamerView) (frame : ℕ) → w ≡ record v { writer = record v.writer { texels = w.writer.texels }; owners = w.owners }
     → MayFill v.writer frame → MayFill w.writer frame
 still_may v w frame rest may = subst (λ (u : StreamerView). MayFill u.writer frame) (sym rest) may
-
-pub still_tile : (v w : StreamerView) (tile : List ℕ) → w ≡ record v { writer = record v.writer { texels = w.writer.texels }; owners = w.owners }
-    → IsTile v.shape tile → IsTile w.shape tile
-still_tile v w tile rest is = subst (λ (u : StreamerView). IsTile u.shape tile) (sym rest) is
 
 pub noted_now : (u page entry frame : ℕ) (p : PassView) → entry ≡ frame + 1 → HasEntry u (noting u page entry p) frame
 noted_now u page entry frame p is = (record { version = u; page = page; entry = entry }, (0, omega arith, refl), refl, is)
