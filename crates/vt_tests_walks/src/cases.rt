@@ -1,5 +1,6 @@
 //! Tables of cases: what stands in a folder in memory before, what is done, and what is to come of it.
 
+use crate::pass::kits::passes_come;
 use crate::replay::{Replay, replay_comes};
 use crate::walk::worked::{Walk, walk_comes};
 use std::alloc::Global;
@@ -14,6 +15,8 @@ use vt_outside::{Fail, Fails, MemoryFolder, NoMemory};
 pub enum Deed<'a> {
     Walk(Walk<'a>),
     Replay(Replay<'a>),
+    /// Passes over words of the test.
+    Passes,
 }
 
 /// A row of a table. In the folder the name `s` holds the store and the name `p` the path, which are to stay.
@@ -49,6 +52,7 @@ fn comes<Rt: Abort + Threads + Wait + Sync>(
     match &case.deed {
         Deed::Walk(walk) => walk_comes(rt, alloc, folder, path, case.fails, walk),
         Deed::Replay(replay) => replay_comes(rt, alloc, folder, path, replay),
+        Deed::Passes => passes_come(rt, alloc, folder, path),
     }
 }
 

@@ -5,6 +5,7 @@ mod files;
 mod flights;
 mod gates;
 mod generate;
+mod large_walk;
 mod meetings;
 mod plain;
 mod replay_cuts;

@@ -1,4 +1,4 @@
-//! The tests of the crates that run walks and replays, and of whole commands, over stores and folders in memory. It holds
+//! The tests of the crates that run passes, walks and replays, and of whole commands, over stores and folders in memory. It holds
 //! nothing else, and nothing stands on it: a crate with tests is proved twice, and one above the top call pays a minute or two for the
 //! loading and linking of all below it.
 #![tactic(auto)]
@@ -9,6 +9,8 @@ mod cases;
 mod commands;
 #[cfg(test)]
 mod fixtures;
+#[cfg(test)]
+mod pass;
 #[cfg(test)]
 mod replay;
 #[cfg(test)]
