@@ -5,4 +5,4 @@ mod laws;
 mod queued;
 
 pub use laws::{each_request_is_answered_once, each_streamed_request_is_answered_once};
-pub use queued::{QueuedLoader, Queues, collect, deal, take_back};
+pub use queued::{QueuedLoader, Queues, deal, take_back};

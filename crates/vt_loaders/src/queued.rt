@@ -9,12 +9,11 @@ ghost use Rattle.vt_queue.specs.Steps.{IsAtStep};
 ghost use Rattle.vt_queue.specs.Queues.{view_of, splits_of, IsOf, capacity_of};
 ghost use Rattle.vt_queue.specs.declared.items.Request.{Request as Ask};
 ghost use Rattle.vt_queue.specs.declared.items.Loaded.{Loaded as Answer};
-ghost use Rattle.vt_loaders.specs.QueuedLoaders.{AreOf, MayLoad, HasLoaded, IsLoaderOf, AreSplitOff, Collects, asks_of, answers_of, stores_of, numbers_of};
+ghost use Rattle.vt_loaders.specs.QueuedLoaders.{AreOf, MayLoad, HasLoaded, IsLoaderOf, AreSplitOff, asks_of, answers_of, stores_of, numbers_of};
 
 use std::alloc::Global;
 use std::marker::Model;
 use std::sync::Wait;
-use std::thread;
 use std::thread::Threads;
 use vt_load::Loader;
 use vt_outside::{File, Gate, Items};
@@ -196,33 +195,4 @@ pub fn take_back<F: File>(
         queues.results.join(answers, given);
     }
     loaders.destroy_empty();
-}
-
-/// Takes so many results, and puts them behind those of a list. Where the queue is empty it tries again, and so it may wait.
-pub fn collect<Rt: Threads + Wait>(
-    rt: &Rt,
-    results: &ResultQueue,
-    answers: &mut QueuePass<Loaded>,
-    count: u32,
-    into: &mut Items<Loaded>,
-)
-    requires of { IsOf results.now answers.old }
-    requires room { count ≤ into.old.spare }
-    ensures of { IsOf results.now answers.new × (splits_of answers.new ≡ splits_of answers.old) }
-    ensures collects { Collects count (view_of answers.old) (view_of answers.new) into.old.elements into.new.elements }
-    ensures at_step { (left : List Answer) → IsAtStep (view_of answers.old) left → (over : List Answer) × IsAtStep (view_of answers.new) over }
-{
-    let mut taken = 0;
-    for _ in rt.forever() {
-        if taken >= count {
-            return;
-        }
-        let Some(loaded) = results.take(rt, answers) else {
-            thread::yield_now();
-            continue;
-        };
-        into.push(loaded);
-        taken += 1;
-    }
-    unreachable!()
 }

@@ -14,7 +14,7 @@ use Rattle.vt_queue.specs.Orders.{items_of}
 use Rattle.vt_loaders.specs.declared.queued.Queues.{Queues}
 use Rattle.vt_load.specs.Readings.{is_lost, is_readable}
 use Rattle.vt_loaders.specs.Results.{wanted_by}
-use Rattle.vt_loaders.specs.QueuedLoaders.{QueuedView, stores_of, HasLoaded, IsLoaderOf, AreSplitOff}
+use Rattle.vt_loaders.specs.QueuedLoaders.{QueuedView, HasLoaded, IsLoaderOf, AreSplitOff}
 use Rattle.vt_machine.specs.Outcomes.{group_if}
 
 -- the page of an entry, if there is one

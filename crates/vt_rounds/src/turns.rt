@@ -1,9 +1,6 @@
-//! Whose turn a row is, and what a pass answers.
+//! Whose turn a row is.
 
-ghost use Rattle.std.specs.Prelude.{◌≡◌, ◌≤◌, ◌%◌, Ok};
-
-use vt_machine::PassReport;
-use vt_outside::NoMemory;
+ghost use Rattle.std.specs.Prelude.{◌≡◌, ◌≤◌, ◌%◌};
 
 /// The sampler that draws a row: the rows from the top are dealt to the samplers in turn.
 pub fn sampler_of(row: u32, samplers: u32) -> u32
@@ -11,11 +8,4 @@ pub fn sampler_of(row: u32, samplers: u32) -> u32
     ensures { result ≡ row % samplers }
 {
     row % samplers
-}
-
-/// What a pass answers that was prepared: its report, since it took all its memory before.
-pub fn answered(report: PassReport) -> Result<PassReport, NoMemory>
-    ensures { result ≡ Ok report }
-{
-    Ok(report)
 }

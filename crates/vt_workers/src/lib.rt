@@ -2,6 +2,7 @@
 #![tactic(auto)]
 
 mod task;
+mod threads;
 mod work;
 
 pub use task::Task;

@@ -10,9 +10,6 @@ use vt_plan::Planned;
 
 /// A part of a pass that one worker does: it changes itself alone, and reads what it shares with the other workers, an `S`.
 pub trait Task<S: Sync> {
-    /// Whether it is to be at work while others are, in a thread of its own.
-    const BESIDE: bool = true;
-
     /// It may begin, on what is shared and for the pass's job.
     ghost ready: { S → Job → Self → Type 0 };
 

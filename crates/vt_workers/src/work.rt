@@ -5,14 +5,15 @@ ghost use Rattle.vt_workers.specs.Jobs.{job_of};
 ghost use Rattle.vt_workers.specs.All.{AllReady, AllDid};
 
 use crate::task::Task;
+use crate::threads::{loader_threads, sampler_threads};
 use std::sync::Wait;
 use std::thread::{Threads, join_mut};
 use vt_draw::Shot;
 use vt_outside::Gate;
 use vt_plan::Planned;
 
-/// The loaders, and beside them the samplers and the streamer. Threads cost more than what they do where nothing is to be read, and
-/// one request is taken by one loader. Where no thread can be made, the loaders work first, then the samplers, and the streamer last.
+/// The samplers, and beside them the loaders and the streamer, in as many threads as pay: in this one alone where the batch is empty and the
+/// picture small. Where no thread can be made, the samplers work first, then the loaders, and the streamer last.
 pub fn work_together<
     Rt: Threads + Wait + Sync,
     S: Sync,
@@ -38,78 +39,58 @@ pub fn work_together<
     ensures streamer { R.did shared.now (job_of shot.now batch.now) streamer.old streamer.new }
 {
     if batch.is_empty() {
-        work_in_turn(rt, loaders, shared, shot, batch, gate);
-        draw_beside(rt, samplers, streamer, shared, shot, batch, gate);
+        load_and_stream(rt, loaders, streamer, shared, shot, batch, gate);
+        draw_all(rt, samplers, shared, shot, batch, gate);
         return;
     }
-    // The second closure runs in this thread, and before the first where no thread can be made: so a streamer that waits for what loaders read
-    // does not keep them from reading it.
+    // The second closure runs in this thread, and so begins at once. Where no thread can be made it comes before the first: so the samplers are
+    // done before a streamer waits for them.
     join_mut(
         rt,
         &mut || -> ()
-            requires { IsSync Rt.row × IsSync G.row × IsSync S.row × IsSend M.row × IsSend R.row
-                × AllReady (M.ready shared.now (job_of shot.now batch.now)) samplers.now
+            requires { IsSync Rt.row × IsSync G.row × IsSync S.row × IsSend L.row × IsSend R.row
+                × AllReady (L.ready shared.now (job_of shot.now batch.now)) loaders.now
                 × R.ready shared.now (job_of shot.now batch.now) streamer.now }
-            ensures { AllDid (M.did shared.entry.now (job_of shot.entry.now batch.entry.now)) samplers.entry.now
-                samplers.exit.now
-                × R.did shared.entry.now (job_of shot.entry.now batch.entry.now) streamer.entry.now streamer.exit.now }
-        { draw_beside(rt, samplers, streamer, shared, shot, batch, gate) },
-        &mut || -> ()
-            requires { IsSync Rt.row × IsSync G.row × IsSync S.row × IsSend L.row
-                × AllReady (L.ready shared.now (job_of shot.now batch.now)) loaders.now }
             ensures { AllDid (L.did shared.entry.now (job_of shot.entry.now batch.entry.now)) loaders.entry.now
-                loaders.exit.now }
-        { load_all(rt, loaders, shared, shot, batch, gate) },
+                loaders.exit.now
+                × R.did shared.entry.now (job_of shot.entry.now batch.entry.now) streamer.entry.now streamer.exit.now }
+        { load_and_stream(rt, loaders, streamer, shared, shot, batch, gate) },
+        &mut || -> ()
+            requires { IsSync Rt.row × IsSync G.row × IsSync S.row × IsSend M.row
+                × AllReady (M.ready shared.now (job_of shot.now batch.now)) samplers.now }
+            ensures { AllDid (M.did shared.entry.now (job_of shot.entry.now batch.entry.now)) samplers.entry.now
+                samplers.exit.now }
+        { draw_all(rt, samplers, shared, shot, batch, gate) },
     );
 }
 
-// All loaders, at once where there are several requests.
-fn load_all<Rt: Threads + Wait + Sync, S: Sync, L: Task<S> + Send, G: Gate + Sync>(
-    rt: &Rt,
-    loaders: &mut [L],
-    shared: &S,
-    shot: &Shot<'_>,
-    batch: &[Planned],
-    gate: &G,
-)
-    requires { AllReady (L.ready shared.now (job_of shot.now batch.now)) loaders.old }
-    ensures { AllDid (L.did shared.now (job_of shot.now batch.now)) loaders.old loaders.new }
-{
-    if batch.len() == 1 {
-        work_in_turn(rt, loaders, shared, shot, batch, gate);
-    } else {
-        work_all(rt, loaders, shared, shot, batch, gate);
-    }
-}
-
-// The samplers, and beside them the streamer. It has a thread of its own only if it is to be at work meanwhile and there is something to
-// stream: an empty batch is not worth one.
-fn draw_beside<
+// The loaders, and beside them the streamer. One request is read before there is anything to stream, so it needs no thread.
+fn load_and_stream<
     Rt: Threads + Wait + Sync,
     S: Sync,
-    M: Task<S> + Send,
+    L: Task<S> + Send,
     R: Task<S> + Send,
     G: Gate + Sync,
 >(
     rt: &Rt,
-    samplers: &mut [M],
+    loaders: &mut [L],
     streamer: &mut R,
     shared: &S,
     shot: &Shot<'_>,
     batch: &[Planned],
     gate: &G,
 )
-    requires samplers { AllReady (M.ready shared.now (job_of shot.now batch.now)) samplers.old }
+    requires loaders { AllReady (L.ready shared.now (job_of shot.now batch.now)) loaders.old }
     requires streamer { R.ready shared.now (job_of shot.now batch.now) streamer.old }
-    ensures samplers { AllDid (M.did shared.now (job_of shot.now batch.now)) samplers.old samplers.new }
+    ensures loaders { AllDid (L.did shared.now (job_of shot.now batch.now)) loaders.old loaders.new }
     ensures streamer { R.did shared.now (job_of shot.now batch.now) streamer.old streamer.new }
 {
-    if !R::BESIDE || batch.is_empty() {
-        work_all(rt, samplers, shared, shot, batch, gate);
+    if batch.len() <= 1 {
+        work_in_turn(rt, loaders, shared, shot, batch, gate);
         streamer.work(rt, shared, shot, batch, gate);
         return;
     }
-    // As above: where no thread can be made, the samplers are done before a streamer waits for them.
+    // As above: where no thread can be made, the loaders are done before a streamer waits for what they read.
     join_mut(
         rt,
         &mut || -> ()
@@ -119,17 +100,51 @@ fn draw_beside<
                 streamer.exit.now }
         { streamer.work(rt, shared, shot, batch, gate) },
         &mut || -> ()
-            requires { IsSync Rt.row × IsSync G.row × IsSync S.row × IsSend M.row
-                × AllReady (M.ready shared.now (job_of shot.now batch.now)) samplers.now }
-            ensures { AllDid (M.did shared.entry.now (job_of shot.entry.now batch.entry.now)) samplers.entry.now
-                samplers.exit.now }
-        { work_all(rt, samplers, shared, shot, batch, gate) },
+            requires { IsSync Rt.row × IsSync G.row × IsSync S.row × IsSend L.row
+                × AllReady (L.ready shared.now (job_of shot.now batch.now)) loaders.now }
+            ensures { AllDid (L.did shared.entry.now (job_of shot.entry.now batch.entry.now)) loaders.entry.now
+                loaders.exit.now }
+        {
+            work_all(
+                rt,
+                loader_threads(batch),
+                loaders,
+                shared,
+                shot,
+                batch,
+                gate,
+            )
+        },
     );
 }
 
-// All tasks of a list, by halves.
+// All samplers, which share threads where the picture is small.
+fn draw_all<Rt: Threads + Wait + Sync, S: Sync, M: Task<S> + Send, G: Gate + Sync>(
+    rt: &Rt,
+    samplers: &mut [M],
+    shared: &S,
+    shot: &Shot<'_>,
+    batch: &[Planned],
+    gate: &G,
+)
+    requires { AllReady (M.ready shared.now (job_of shot.now batch.now)) samplers.old }
+    ensures { AllDid (M.did shared.now (job_of shot.now batch.now)) samplers.old samplers.new }
+{
+    work_all(
+        rt,
+        sampler_threads(shot),
+        samplers,
+        shared,
+        shot,
+        batch,
+        gate,
+    );
+}
+
+// All tasks of a list, by halves, in so many threads.
 fn work_all<Rt: Threads + Wait + Sync, S: Sync, L: Task<S> + Send, G: Gate + Sync>(
     rt: &Rt,
+    threads: usize,
     tasks: &mut [L],
     shared: &S,
     shot: &Shot<'_>,
@@ -139,13 +154,12 @@ fn work_all<Rt: Threads + Wait + Sync, S: Sync, L: Task<S> + Send, G: Gate + Syn
     requires ready { AllReady (L.ready shared.now (job_of shot.now batch.now)) tasks.old }
     ensures did { AllDid (L.did shared.now (job_of shot.now batch.now)) tasks.old tasks.new }
 {
-    if tasks.len() == 1 {
-        tasks[0].work(rt, shared, shot, batch, gate);
+    if threads <= 1 || tasks.len() <= 1 {
+        work_in_turn(rt, tasks, shared, shot, batch, gate);
         return;
     }
-    if tasks.is_empty() {
-        return;
-    }
+    let few = threads / 2;
+    let rest = threads - few;
     let (low, high) = tasks.split_at_mut(tasks.len() / 2);
     join_mut(
         rt,
@@ -154,13 +168,13 @@ fn work_all<Rt: Threads + Wait + Sync, S: Sync, L: Task<S> + Send, G: Gate + Syn
                 × AllReady (L.ready shared.now (job_of shot.now batch.now)) low.now }
             ensures { AllDid (L.did shared.entry.now (job_of shot.entry.now batch.entry.now)) low.entry.now
                 low.exit.now }
-        { work_all(rt, low, shared, shot, batch, gate) },
+        { work_all(rt, few, low, shared, shot, batch, gate) },
         &mut || -> ()
             requires { IsSync Rt.row × IsSync G.row × IsSync S.row × IsSend L.row
                 × AllReady (L.ready shared.now (job_of shot.now batch.now)) high.now }
             ensures { AllDid (L.did shared.entry.now (job_of shot.entry.now batch.entry.now)) high.entry.now
                 high.exit.now }
-        { work_all(rt, high, shared, shot, batch, gate) },
+        { work_all(rt, rest, high, shared, shot, batch, gate) },
     );
 }
 

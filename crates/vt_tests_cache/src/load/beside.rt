@@ -1,13 +1,13 @@
 //! Loaders at work in threads.
 
-ghost use Rattle.std.specs.Prelude.{◌≤◌, IfSome};
+ghost use Rattle.std.specs.Prelude.{IfSome};
 ghost use Rattle.std.specs.Thread.{IsSync, IsSend};
 ghost use Rattle.vt_queue.specs.Queues.{IsOf};
 
 use super::*;
+use std::thread;
 use std::thread::join_mut;
-use vt_loaders::collect;
-use vt_outside::{File, Items};
+use vt_outside::File;
 
 // A loader with its passes.
 struct Worker<F: File> {
@@ -63,16 +63,33 @@ fn work_beside<Rt: Threads + Wait + Sync, F: File + Send>(
     );
 }
 
-// The sum of the tickets of results.
-fn sum_of(results: &[Loaded]) -> u64 {
+// Takes so many results, and tries again where there is none. The sum of their tickets.
+fn sum_taken<Rt: Threads + Wait>(
+    rt: &Rt,
+    results: &ResultQueue,
+    answers: &mut QueuePass<Loaded>,
+    count: u32,
+) -> u64
+    requires { IsOf results.now answers.old }
+    ensures { IsOf results.now answers.new }
+{
     let mut sum = 0u64;
-    for loaded in results {
+    let mut taken = 0;
+    for _ in rt.forever() {
+        if taken >= count {
+            return sum;
+        }
+        let Some(loaded) = results.take(rt, answers) else {
+            thread::yield_now();
+            continue;
+        };
         sum = sum.wrapping_add(u64::from(loaded.request.ticket));
+        taken += 1;
     }
-    sum
+    unreachable!()
 }
 
-// A loader, and beside it one that takes so many of its results.
+// A loader, and beside it one that takes so many of its results. The sum of their tickets.
 fn take_beside<Rt: Threads + Wait + Sync, F: File + Send>(
     rt: &Rt,
     worker: &mut Worker<F>,
@@ -80,24 +97,24 @@ fn take_beside<Rt: Threads + Wait + Sync, F: File + Send>(
     requests: &RequestQueue,
     results: &ResultQueue,
     count: u32,
-    into: &mut Items<Loaded>,
-)
+) -> u64
     requires worker { IsOf requests.now worker.old.asks × IsOf results.now worker.old.answers }
-    requires answers { IsOf results.now answers.old × (count ≤ into.old.spare) }
+    requires answers { IsOf results.now answers.old }
     ensures worker { IsOf requests.now worker.new.asks × IsOf results.now worker.new.answers }
     ensures answers { IsOf results.now answers.new }
 {
-    join_mut(
+    let (_, sum) = join_mut(
         rt,
         &mut || -> ()
             requires { IsSync Rt.row × IsSend F.row × IsOf requests.now worker.now.asks × IsOf results.now worker.now.answers }
             ensures { IsOf requests.entry.now worker.exit.now.asks × IsOf results.entry.now worker.exit.now.answers }
         { worker.work(rt, requests, results) },
-        &mut || -> ()
-            requires { IsSync Rt.row × IsOf results.now answers.now × (count ≤ into.now.spare) }
+        &mut || -> u64
+            requires { IsSync Rt.row × IsOf results.now answers.now }
             ensures { IsOf results.entry.now answers.exit.now }
-        { collect(rt, results, answers, count, into) },
+        { sum_taken(rt, results, answers, count) },
     );
+    sum
 }
 
 // Ends a worker, and closes its file.
@@ -186,8 +203,6 @@ fn sum_of_two<Rt: Threads + Wait + Sync>(
 ) -> Option<u64> {
     let (requests, mut asks) = RequestQueue::new(alloc, 4).ok()?;
     let (results, mut answers) = ResultQueue::new(alloc, 4).ok()?;
-    let mut taken = Items::new(alloc);
-    taken.reserve(4).ok()?;
     let is_asked = ask_three(rt, alloc, &requests, &mut asks);
     let is_last = ask(rt, alloc, &requests, &mut asks, 8, 1, &[0; 12]);
     if is_asked
@@ -202,9 +217,9 @@ fn sum_of_two<Rt: Threads + Wait + Sync>(
             &mut answers,
         )
     {
-        collect(rt, &results, &mut answers, 4, &mut taken);
+        return Some(sum_taken(rt, &results, &mut answers, 4));
     }
-    Some(sum_of(taken.slice()))
+    None
 }
 
 // Whether two loaders answer each of four requests once, by one read each, beside one of the header each.
@@ -226,7 +241,7 @@ fn two_loaders_answer_each_request_once(rt: HostRuntime) {
     }
 }
 
-// Lets a loader answer three requests, and takes its results beside it.
+// Lets a loader answer three requests, and takes its results beside it. The sum of their tickets, or 0 where there is no loader.
 fn work_one<Rt: Threads + Wait + Sync>(
     rt: &Rt,
     alloc: Global,
@@ -235,14 +250,17 @@ fn work_one<Rt: Threads + Wait + Sync>(
     asks: &mut QueuePass<Request>,
     results: &ResultQueue,
     answers: &mut QueuePass<Loaded>,
-    taken: &mut Items<Loaded>,
-)
+) -> u64
     requires asks { IsOf requests.now asks.old }
-    requires answers { IsOf results.now answers.old × (3 ≤ taken.old.spare) }
+    requires answers { IsOf results.now answers.old }
 {
-    if let Some(mut worker) = worker_of(alloc, folder, requests, asks, results, answers, 0) {
-        take_beside(rt, &mut worker, answers, requests, results, 3, taken);
-        end(folder, worker);
+    match worker_of(alloc, folder, requests, asks, results, answers, 0) {
+        Some(mut worker) => {
+            let sum = take_beside(rt, &mut worker, answers, requests, results, 3);
+            end(folder, worker);
+            sum
+        }
+        None => 0,
     }
 }
 
@@ -254,21 +272,18 @@ fn sum_through_one_place<Rt: Threads + Wait + Sync>(
 ) -> Option<u64> {
     let (requests, mut asks) = RequestQueue::new(alloc, 3).ok()?;
     let (results, mut answers) = ResultQueue::new(alloc, 1).ok()?;
-    let mut taken = Items::new(alloc);
-    taken.reserve(3).ok()?;
-    if ask_three(rt, alloc, &requests, &mut asks) {
-        work_one(
-            rt,
-            alloc,
-            folder,
-            &requests,
-            &mut asks,
-            &results,
-            &mut answers,
-            &mut taken,
-        );
+    if !ask_three(rt, alloc, &requests, &mut asks) {
+        return None;
     }
-    Some(sum_of(taken.slice()))
+    Some(work_one(
+        rt,
+        alloc,
+        folder,
+        &requests,
+        &mut asks,
+        &results,
+        &mut answers,
+    ))
 }
 
 // Whether each of three requests is answered through a queue of one place.
