@@ -1,2 +1,3 @@
 pub mod RankLemmas
+pub mod Marks
 pub mod OrderedLists

@@ -1,2 +1,3 @@
 pub mod Wants
 pub mod Ranks
+pub mod Blocks

@@ -11,9 +11,11 @@ use std::marker::Model;
 use vt_outside::{Items, NoMemory};
 use vt_pages::Geometry;
 
+mod blocks;
 mod laws;
 mod ranks;
 
+use blocks::{BLOCK, add_blocks, clear_blocks};
 pub use laws::wants_are_one;
 use ranks::ranks_of;
 pub use ranks::{Rank, rank_at, wants_of};
@@ -34,14 +36,19 @@ pub type Wants = Items<Wanted>;
 #[derive(Drop)]
 pub struct Counts {
     counts: Vec<u32>,
+    // For each block of pages whether a pixel may want one of them.
+    marks: Vec<bool>,
 }
 
 impl Model for Counts {
     ghost use Rattle.std.specs.Prelude.{ℕ, List};
+    ghost use Rattle.vt_feedback.specs.Blocks.{AreMarked};
 
     ghost Value = { List ℕ };
 
     ghost view = { λ c. c.counts.items };
+
+    ghost invariant = { λ c. AreMarked c.counts.items c.marks.items };
 }
 
 impl Counts {
@@ -49,15 +56,17 @@ impl Counts {
     pub fn new(alloc: Global, geometry: &Geometry) -> Result<Counts, NoMemory>
         ensures { IfOk result (λ c. c ≡ replicate (pages_of geometry.now) 0) }
     {
-        let counts = Vec::from_elem(alloc, 0, geometry.page_count() as usize)?;
-        Ok(Counts { counts })
+        let pages = geometry.page_count() as usize;
+        let counts = Vec::from_elem(alloc, 0, pages)?;
+        let marks = Vec::from_elem(alloc, false, (pages + BLOCK - 1) / BLOCK)?;
+        Ok(Counts { counts, marks })
     }
 
     /// Sets each count to 0.
     pub fn clear(&mut self)
         ensures { self.new ≡ replicate (length self.old) 0 }
     {
-        self.counts.fill(0);
+        clear_blocks(self.counts.as_mut_slice(), self.marks.as_mut_slice());
     }
 
     /// Adds counts, of which there is one for each page. No sum may pass the type.
@@ -67,7 +76,11 @@ impl Counts {
         ensures length { length self.new ≡ length self.old }
         ensures sums { (p : ℕ) → slice_index self.new p ≡ slice_index self.old p + slice_index counts.now p }
     {
-        add_counts(self.counts.as_mut_slice(), counts);
+        add_blocks(
+            self.counts.as_mut_slice(),
+            self.marks.as_mut_slice(),
+            counts,
+        );
     }
 
     /// The wanted list: each page that a pixel wants once, with the number of its pixels. A coarser level comes first,
@@ -76,19 +89,13 @@ impl Counts {
         requires { length self.now ≡ pages_of geometry.now }
         ensures { IfOk result (λ w. IsWants geometry.now (slice_index self.now) w.elements) }
     {
-        let mut ranks = ranks_of(alloc, geometry, self.counts.as_slice())?;
+        let mut ranks = ranks_of(
+            alloc,
+            geometry,
+            self.counts.as_slice(),
+            self.marks.as_slice(),
+        )?;
         ranks.sort_unstable();
         wants_of(alloc, ranks.as_slice())
-    }
-}
-
-// Adds counts to sums, place by place.
-fn add_counts(sums: &mut [u32], counts: &[u32])
-    requires lengths { length counts.now ≡ length sums.old }
-    requires room { (p : ℕ) → p < length sums.old → slice_index sums.old p + slice_index counts.now p < 2 ^ 32 }
-    ensures { (p : ℕ) → slice_index sums.new p ≡ slice_index sums.old p + slice_index counts.now p }
-{
-    for i in 0..counts.len() {
-        sums[i] += counts[i];
     }
 }

@@ -1,10 +1,11 @@
 //! The ranks by which std's sort puts wanted pages into their order.
 
 ghost use Rattle.std.specs.Prelude.{◌≡◌, ℕ, ◌<◌, ◌≤◌, length, IfOk, OnOk, map, nat_lt, slice_index};
-ghost use Rattle.std.specs.Bool.{MatchBool};
 ghost use Rattle.vt_pages.specs.Pages.{pages_of};
+ghost use Rattle.vt_feedback.specs.Blocks.{AreMarked};
 ghost use Rattle.vt_feedback.specs.Ranks.{most_pixels, rank_of, ranks_below, wanted_by};
 
+use crate::blocks::{BLOCK, block_end};
 use crate::{Wanted, Wants};
 use std::alloc::Global;
 use vt_outside::NoMemory;
@@ -19,21 +20,6 @@ pub struct Rank {
     pub rarity: u32,
     /// The index of the page.
     pub page: u32,
-}
-
-// How many pages are passed over together where no pixel wants one of them.
-const BLOCK: u32 = 32;
-
-// Whether no pixel wants one of some pages.
-fn are_unwanted(counts: &[u32]) -> bool
-    requires { length counts.now ≤ 32 }
-    ensures { MatchBool result ((p : ℕ) → p < length counts.now → slice_index counts.now p ≡ 0) (Unit {0}) }
-{
-    let mut pixels = 0;
-    for i in 0..counts.len() {
-        pixels += u64::from(counts[i]);
-    }
-    pixels == 0
 }
 
 // Whether a pixel wants a page that so many pixels want.
@@ -78,22 +64,26 @@ fn add_ranks(
     Ok(())
 }
 
-/// The ranks of the pages that a pixel wants, by rising index. Most pages of a large texture are wanted by none, and are passed over
-/// in blocks.
-pub fn ranks_of(alloc: Global, geometry: &Geometry, counts: &[u32]) -> Result<Vec<Rank>, NoMemory>
-    requires { length counts.now ≡ pages_of geometry.now }
+/// The ranks of the pages that a pixel wants, by rising index. Blocks without a mark are passed over.
+pub fn ranks_of(
+    alloc: Global,
+    geometry: &Geometry,
+    counts: &[u32],
+    marks: &[bool],
+) -> Result<Vec<Rank>, NoMemory>
+    requires pages { length counts.now ≡ pages_of geometry.now }
+    requires marked { AreMarked counts.now marks.now }
     ensures ranks { IfOk result (λ r. r.items ≡ ranks_below geometry.now counts.now (length counts.now)) }
     ensures most { (p : ℕ) → slice_index counts.now p ≤ most_pixels }
 {
     let mut ranks = Vec::new(alloc);
-    let pages = geometry.page_count();
-    let mut first = 0;
-    while first < pages {
-        let end = first + BLOCK.min(pages - first);
-        if !are_unwanted(&counts[first as usize..end as usize]) {
-            add_ranks(&mut ranks, geometry, counts, first, end)?;
+    let _pages = geometry.page_count();
+    for block in 0..marks.len() {
+        let first = block * BLOCK;
+        if marks[block] {
+            let end = block_end(first, counts.len());
+            add_ranks(&mut ranks, geometry, counts, first as u32, end as u32)?;
         }
-        first = end;
     }
     Ok(ranks)
 }

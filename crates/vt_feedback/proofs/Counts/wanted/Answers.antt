@@ -16,8 +16,8 @@ returns c =
     subst (λ (l : List ℕ). (p : ℕ) → slice_index l p ≤ most_pixels) same c.in_ok-ranks.ensures.most in
     let ranks : c.in_ok-ranks.ranks.items ≡ ranks_below s counts (length counts) =
     subst (λ (l : List ℕ). c.in_ok-ranks.ranks.items ≡ ranks_below s l (length l)) same c.in_ok-ranks.ensures.ranks in
-    IfOk-weaker c.wants_of.result (λ w. w.elements ≡ map wanted_by c.as_slice-2.result.now) (λ w. IsWants s (slice_index counts) w.elements)
-    (λ w e. rw (e, c.as_slice-2.ensures.value)
+    IfOk-weaker c.wants_of.result (λ w. w.elements ≡ map wanted_by c.as_slice-3.result.now) (λ w. IsWants s (slice_index counts) w.elements)
+    (λ w e. rw (e, c.as_slice-3.ensures.value)
     (wants_from_ranks s counts c.sort_unstable.new.self.items c.requires most (rw (← ranks) c.sort_unstable.ensures.permutation)
     c.sort_unstable.ensures.sorted total-law))
     c.wants_of.ensures
