@@ -1,5 +1,5 @@
 -- The ranks of wanted pages, in order, are the wanted list.
-use Rattle.std.proofs.Common.{◌≡◌, ◌≢◌, ℕ, zero, suc, ◌+◌, ◌-◌, ◌<◌, ◌≤◌, Bool, true, false, cond, ◌==◌, nat_eq, nat_lt, nat_le, List, [], ◌∷◌, ◌++◌, map, length, slice_index, take, drop, get_or, Contains, refl, sym, ap, subst, ◌∙◌, ◌||◌, ◌&&◌, inl, inr, add-one, append-nil, arith}
+use Rattle.std.proofs.Common.{◌≡◌, ◌≢◌, ℕ, zero, suc, ◌+◌, ◌-◌, ◌<◌, ◌≤◌, Bool, true, false, cond, ◌==◌, nat_eq, nat_lt, nat_le, List, [], ◌∷◌, ◌++◌, map, length, slice_index, get_or, Contains, refl, sym, ap, subst, ◌∙◌, ◌||◌, ◌&&◌, inl, inr, add-one, append-nil, arith}
 use Rattle.std.specs.List.{All, AllPairs, IsDistinct}
 use Rattle.std.specs.List.Sorted.{IsPermutation, IsSortedBy}
 use Rattle.std.specs.Cmp.{IsTotalOrder}
@@ -7,7 +7,7 @@ use Rattle.std.specs.Ordering.{is_lt, nat_cmp, ordering_then}
 use Rattle.std.specs.declared.cmp.Ordering.{Ordering}
 use Rattle.std.proofs.lemmas.Bool.Decides.{nat_tests}
 use Rattle.std.proofs.lemmas.Bool.{cases_lt}
-use Rattle.std.proofs.lemmas.List.{length-map, get_or-map, get_or-take, get_or-drop, length-take-le, length-drop}
+use Rattle.std.proofs.lemmas.List.{length-map, get_or-map}
 use Rattle.std.proofs.lemmas.List.Elements.{All-nil, All-push, All-weaker, All-map, Contains-append_left, Contains-push, All-contains}
 use Rattle.std.proofs.lemmas.List.Quantifiers.{all_pairs_push}
 use Rattle.std.proofs.lemmas.List.FromFn.{filter_of_map_range_with_len_more}
@@ -63,16 +63,6 @@ ranks-passed s counts first (suc n) none =
     ∙ ap (λ (t : Bool). ranks_below s counts (first + n) ++ cond t (rank_of s counts (first + n) ∷ []) []) b
     ∙ append-nil (ranks_below s counts (first + n))
     ∙ ranks-passed s counts first n (λ p below. none p (omega arith))
-
--- a block of pages that no pixel wants, as it is cut out of the counts
-pub block_passed : (s : Shape) (counts : List ℕ) (first n k : ℕ) → k ≡ n → first + n ≤ length counts
-    → ((p : ℕ) → p < length (take k (drop first counts)) → slice_index (take k (drop first counts)) p ≡ 0)
-    → ranks_below s counts first ≡ ranks_below s counts (first + n)
-block_passed s counts first n k same inside none =
-    sym (ranks-passed s counts first n (λ p below.
-    let long : length (take k (drop first counts)) ≡ k =
-    length-take-le k (drop first counts) (omega (arith, length-drop first counts)) in
-    sym (get_or-take k (drop first counts) p 0 (omega arith) ∙ get_or-drop first counts p 0) ∙ none p (omega arith)))
 
 wider : {s : Shape} {counts : List ℕ} {n : ℕ} {r : Rank} → IsRank s counts n r → IsRank s counts (suc n) r
 wider h = record { same = h.same; below = omega (arith, h.below); some = h.some }
