@@ -13,7 +13,7 @@ use vt_outside::Gate;
 use vt_plan::Planned;
 
 /// The samplers, and beside them the loaders and the streamer, in as many threads as pay: in this one alone where the batch is empty and the
-/// picture small. Where no thread can be made, the samplers work first, then the loaders, and the streamer last.
+/// picture small. Where no thread can be made, they work one after the other, and the streamer after the loaders.
 pub fn work_together<
     Rt: Threads + Wait + Sync,
     S: Sync,
@@ -41,10 +41,39 @@ pub fn work_together<
     if batch.is_empty() {
         load_and_stream(rt, loaders, streamer, shared, shot, batch, gate);
         draw_all(rt, samplers, shared, shot, batch, gate);
-        return;
+    } else if samplers.len() == 1 || sampler_threads(shot) == 1 {
+        draw_here(rt, loaders, samplers, streamer, shared, shot, batch, gate);
+    } else {
+        stream_here(rt, loaders, samplers, streamer, shared, shot, batch, gate);
     }
-    // The second closure runs in this thread, and so begins at once. Where no thread can be made it comes before the first: so the samplers are
-    // done before a streamer waits for them.
+}
+
+// Draws in this thread, where it begins at once, beside loaders and streamer. The second closure of a join runs in this thread, and before the
+// first where no thread can be made.
+fn draw_here<
+    Rt: Threads + Wait + Sync,
+    S: Sync,
+    L: Task<S> + Send,
+    M: Task<S> + Send,
+    R: Task<S> + Send,
+    G: Gate + Sync,
+>(
+    rt: &Rt,
+    loaders: &mut [L],
+    samplers: &mut [M],
+    streamer: &mut R,
+    shared: &S,
+    shot: &Shot<'_>,
+    batch: &[Planned],
+    gate: &G,
+)
+    requires loaders { AllReady (L.ready shared.now (job_of shot.now batch.now)) loaders.old }
+    requires samplers { AllReady (M.ready shared.now (job_of shot.now batch.now)) samplers.old }
+    requires streamer { R.ready shared.now (job_of shot.now batch.now) streamer.old }
+    ensures loaders { AllDid (L.did shared.now (job_of shot.now batch.now)) loaders.old loaders.new }
+    ensures samplers { AllDid (M.did shared.now (job_of shot.now batch.now)) samplers.old samplers.new }
+    ensures streamer { R.did shared.now (job_of shot.now batch.now) streamer.old streamer.new }
+{
     join_mut(
         rt,
         &mut || -> ()
@@ -61,6 +90,50 @@ pub fn work_together<
             ensures { AllDid (M.did shared.entry.now (job_of shot.entry.now batch.entry.now)) samplers.entry.now
                 samplers.exit.now }
         { draw_all(rt, samplers, shared, shot, batch, gate) },
+    );
+}
+
+// Reads and streams in this thread, beside samplers that have several: so what is short begins first.
+fn stream_here<
+    Rt: Threads + Wait + Sync,
+    S: Sync,
+    L: Task<S> + Send,
+    M: Task<S> + Send,
+    R: Task<S> + Send,
+    G: Gate + Sync,
+>(
+    rt: &Rt,
+    loaders: &mut [L],
+    samplers: &mut [M],
+    streamer: &mut R,
+    shared: &S,
+    shot: &Shot<'_>,
+    batch: &[Planned],
+    gate: &G,
+)
+    requires loaders { AllReady (L.ready shared.now (job_of shot.now batch.now)) loaders.old }
+    requires samplers { AllReady (M.ready shared.now (job_of shot.now batch.now)) samplers.old }
+    requires streamer { R.ready shared.now (job_of shot.now batch.now) streamer.old }
+    ensures loaders { AllDid (L.did shared.now (job_of shot.now batch.now)) loaders.old loaders.new }
+    ensures samplers { AllDid (M.did shared.now (job_of shot.now batch.now)) samplers.old samplers.new }
+    ensures streamer { R.did shared.now (job_of shot.now batch.now) streamer.old streamer.new }
+{
+    join_mut(
+        rt,
+        &mut || -> ()
+            requires { IsSync Rt.row × IsSync G.row × IsSync S.row × IsSend M.row
+                × AllReady (M.ready shared.now (job_of shot.now batch.now)) samplers.now }
+            ensures { AllDid (M.did shared.entry.now (job_of shot.entry.now batch.entry.now)) samplers.entry.now
+                samplers.exit.now }
+        { draw_all(rt, samplers, shared, shot, batch, gate) },
+        &mut || -> ()
+            requires { IsSync Rt.row × IsSync G.row × IsSync S.row × IsSend L.row × IsSend R.row
+                × AllReady (L.ready shared.now (job_of shot.now batch.now)) loaders.now
+                × R.ready shared.now (job_of shot.now batch.now) streamer.now }
+            ensures { AllDid (L.did shared.entry.now (job_of shot.entry.now batch.entry.now)) loaders.entry.now
+                loaders.exit.now
+                × R.did shared.entry.now (job_of shot.entry.now batch.entry.now) streamer.entry.now streamer.exit.now }
+        { load_and_stream(rt, loaders, streamer, shared, shot, batch, gate) },
     );
 }
 
@@ -90,7 +163,7 @@ fn load_and_stream<
         streamer.work(rt, shared, shot, batch, gate);
         return;
     }
-    // As above: where no thread can be made, the loaders are done before a streamer waits for what they read.
+    // Where no thread can be made, the loaders are done before a streamer waits for what they read.
     join_mut(
         rt,
         &mut || -> ()
