@@ -8,10 +8,15 @@ ghost use Rattle.vt_camera.specs.Rows.{IsSurface};
 ghost use Rattle.vt_draw.specs.Plain.{chain_of, surface_of, row_samples, first_rows, plain_samples};
 
 use std::alloc::{AllocError, Global};
+use std::thread::Threads;
 use vt_camera::{Camera, Path, Row, Surface};
 use vt_definitions::texel_length;
 use vt_mip::Chain;
 use vt_outside::NoMemory;
+use vt_parts::{processors, threads_for};
+
+// How many nanoseconds it takes to draw a pixel, about.
+const PIXEL_TIME: u64 = 5;
 
 // How many bytes the longest row of a picture has.
 const MOST_ROW_SIZE: usize = 12288;
@@ -19,7 +24,8 @@ const MOST_ROW_SIZE: usize = 12288;
 /// Draws the plain picture with this number of a path, row by row from the top: three samples a pixel, each of as many bytes as
 /// the chain's samples have, the most significant first. A pixel shows what the level of its row has at the pixel's place
 /// (van Waveren 2012).
-pub fn draw_plain(
+pub fn draw_plain<Rt: Threads + Sync>(
+    rt: &Rt,
     alloc: Global,
     chain: &Chain,
     path: &Path,
@@ -31,13 +37,27 @@ pub fn draw_plain(
         length samples.items ≡ texel_length chain.now.base.depth * (path.now.width * path.now.height)) }
 {
     let mut samples = Vec::new(alloc);
-    draw_plain_behind(chain, path, picture, &mut samples)?;
+    let threads = drawing_threads(rt, path);
+    draw_plain_behind(rt, threads, chain, path, picture, &mut samples)?;
     Ok(samples)
 }
 
-/// Draws the plain picture as `draw_plain` does, behind what a buffer holds, as the header of the picture's file. So one buffer can
-/// serve one picture after the other. After want of memory the buffer may hold anything.
-pub fn draw_plain_behind(
+/// How many threads are to draw a picture of a path: a picture of 320x200 is worth two or three. The system is asked for its processors, so a
+/// command asks once for all its pictures.
+pub fn drawing_threads<Rt: Threads>(rt: &Rt, path: &Path) -> usize
+    ensures { 1 ≤ result }
+{
+    threads_for(
+        processors(rt),
+        PIXEL_TIME * path.width() as u64 * path.height() as u64,
+    )
+}
+
+/// Draws the plain picture as `draw_plain` does, in so many threads, behind what a buffer holds, as the header of the picture's file. So one
+/// buffer can serve one picture after the other. After want of memory the buffer may hold anything.
+pub fn draw_plain_behind<Rt: Threads + Sync>(
+    rt: &Rt,
+    threads: usize,
     chain: &Chain,
     path: &Path,
     picture: u32,

@@ -8,6 +8,7 @@ ghost use Rattle.vt_mip.specs.Levels.{GainsHalf, IsLastFitting};
 use crate::halving::halved_image;
 use std::alloc::Global;
 use std::marker::Model;
+use std::thread::Threads;
 use vt_definitions::texel_length;
 use vt_outside::NoMemory;
 use vt_ppm::{Image, samples_are_bytes};
@@ -61,7 +62,12 @@ fn raster_row(samples: &[u8], size: usize, y: usize) -> &[u8]
 
 impl Chain {
     /// Builds the chain of a texture for a tile side of 2, 4, 8, 16, 32, 64 or 128. Refused only where memory is.
-    pub fn build(alloc: Global, image: Image, tile: u32) -> Result<Chain, NoMemory>
+    pub fn build<Rt: Threads + Sync>(
+        rt: &Rt,
+        alloc: Global,
+        image: Image,
+        tile: u32,
+    ) -> Result<Chain, NoMemory>
         requires { IsTileSide tile }
         ensures { IfOk result (λ c. c ≡ record { base = image; tile = tile }) }
     {

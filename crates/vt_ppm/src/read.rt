@@ -13,6 +13,7 @@ use crate::header::{HEADER_LIMIT, MOST_READ_SIDE, MOST_TILED_SIDE, lawful_header
 use crate::raster::{image_of, over_at};
 use crate::{Header, Image, PpmError};
 use std::alloc::Global;
+use std::thread::Threads;
 use vt_outside::{File, NoMemory};
 
 // The front of a file, as far as a header may reach, and the length of the whole.
@@ -124,7 +125,11 @@ pub fn read_texture_header<F: File>(alloc: Global, file: &mut F) -> Result<Heade
 /// Where the file tells its bytes, `BadMagic` to `SampleOver` come exactly as the first flaw of those bytes. `Failed` comes only
 /// where the file's count of faults rose, and `NoMemory` where memory was refused. It asks for two places at most: the front of
 /// the file, as far as a header may reach, and then the raster.
-pub fn read_image<F: File>(alloc: Global, file: &mut F) -> Result<Image, PpmError>
+pub fn read_image<Rt: Threads + Sync, F: File>(
+    rt: &Rt,
+    alloc: Global,
+    file: &mut F,
+) -> Result<Image, PpmError>
     ensures image { IfOk result (λ i. IfSome (F.bytes file.old) (λ b. IsImage b i)) }
     ensures flaw { IfErr result (λ e. (IsOutsideRefusal e → ⊥) → IfSome (F.bytes file.old) (λ b. IsImageFlaw b e)) }
     ensures failed { IsErrOf result PpmError.Failed → Rose (F.faults file.old) (F.faults file.new) }
