@@ -10,7 +10,8 @@ ghost use Rattle.vt_ppm.specs.Refusals.{IsOutsideRefusal, IsRasterRefusal, IsSam
 ghost use Rattle.vt_ppm.specs.Strips.{IsTextureHeader, HasRasterIfTold};
 
 use crate::header::{HEADER_LIMIT, MOST_READ_SIDE, MOST_TILED_SIDE, lawful_header, raster_length};
-use crate::raster::{image_of, over_at};
+use crate::parts::{over_at_in_parts, passing_threads};
+use crate::raster::image_of;
 use crate::{Header, Image, PpmError};
 use std::alloc::Global;
 use std::thread::Threads;
@@ -124,7 +125,7 @@ pub fn read_texture_header<F: File>(alloc: Global, file: &mut F) -> Result<Heade
 ///
 /// Where the file tells its bytes, `BadMagic` to `SampleOver` come exactly as the first flaw of those bytes. `Failed` comes only
 /// where the file's count of faults rose, and `NoMemory` where memory was refused. It asks for two places at most: the front of
-/// the file, as far as a header may reach, and then the raster.
+/// the file, as far as a header may reach, and then the raster. The samples of a large raster are scaled in several threads.
 pub fn read_image<Rt: Threads + Sync, F: File>(
     rt: &Rt,
     alloc: Global,
@@ -147,8 +148,9 @@ pub fn read_image<Rt: Threads + Sync, F: File>(
         return Err(PpmError::Truncated { want, have });
     }
     let raster = bytes_at(alloc, file, header.raster, want as usize)?;
-    if let Some(at) = over_at(&header, &raster) {
+    let threads = passing_threads(rt, &header);
+    if let Some(at) = over_at_in_parts(rt, threads, &header, &raster) {
         return Err(PpmError::SampleOver { at });
     }
-    Ok(image_of(&header, raster))
+    Ok(image_of(rt, threads, &header, raster))
 }
