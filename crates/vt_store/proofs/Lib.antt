@@ -8,6 +8,8 @@ pub mod TileRows
 pub mod AddedPages
 pub mod StripTiles
 pub mod StripStores
+pub mod OneStep
+pub mod StripSteps
 pub mod StripLevels
 mod LevelRows
 mod LevelChain

@@ -2,3 +2,5 @@ pub mod ChainStores
 pub mod Laws
 pub mod Widening
 pub mod StripStores
+pub mod Steps
+pub mod StripSteps

@@ -1,5 +1,5 @@
 -- The store of a texture that is read by strips: whole rows, as many as a tile has.
-use Rattle.std.specs.Prelude.{◌≡◌, ◌⊎◌, ℕ, ◌*◌, ◌<◌, ◌≤◌, true, List, [], ◌∷◌, ◌++◌, Option, option_map, length}
+use Rattle.std.specs.Prelude.{◌≡◌, ◌⊎◌, ℕ, ◌*◌, ◌<◌, ◌≤◌, true, List, [], ◌∷◌, ◌++◌, Option, option_map, length, vec_len}
 use Rattle.vt_definitions.specs.Depths.{texel_length}
 use Rattle.vt_outside.specs.declared.place.Place.{Place}
 use Rattle.vt_ppm.specs.declared.header.Header.{Header}
@@ -42,11 +42,12 @@ pub record StripsTried (h : Header) (t : ℕ) (before after : Option (List Place
   pub asked : StripsAsked h t count before after
       ⊎ ((count < strips_of h t) × (after ≡ option_map (λ places. places ++ (strip_places h t count ++ strip_place h t true count ∷ [])) before))
 
--- the room in which a texture of this shape and depth is tiled by strips: no row was halved into level 1 yet
+-- the room in which a texture of this shape and depth is tiled by strips, with a second row of tiles or none: no row was halved into level 1 yet
 pub record IsStripRoom (s : Shape) (d : ℕ) (room : StripRoom) : Type 0 where
   pub limits : IsWithinLimits s
   pub rows : length room.rows.items ≡ s.tile * (texel_length d * s.width)
-  pub tiles : length room.tiles.items ≡ columns_at s 0 * tile_length s d
+  pub front : vec_len room.front ≡ columns_at s 0 * tile_length s d
+  pub back : (vec_len room.back ≡ 0) ⊎ (vec_len room.back ≡ columns_at s 0 * tile_length s d)
   pub taken : room.half.taken ≡ 0
   pub depth : room.half.depth ≡ d
   pub width : room.half.width ≡ s.width

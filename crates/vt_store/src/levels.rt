@@ -1,5 +1,5 @@
 //! Writing the levels behind the first, each of which is halved while its rows of tiles are written.
-ghost use Rattle.std.specs.Prelude.{◌≡◌, ◌⊎◌, ℕ, ◌+◌, ◌*◌, ◌<◌, ◌≤◌, List, Option, length, take, min, option_map, IfOk, OnOk, OnErr, IsErrOf};
+ghost use Rattle.std.specs.Prelude.{◌≡◌, ◌⊎◌, ℕ, ◌+◌, ◌*◌, ◌%◌, ◌<◌, ◌≤◌, List, Option, length, take, min, option_map, IfOk, OnOk, OnErr, IsErrOf};
 ghost use Rattle.vt_definitions.specs.Depths.{AreBytes};
 ghost use Rattle.vt_definitions.specs.Sides.{side};
 ghost use Rattle.vt_definitions.specs.Texels.{Source};
@@ -12,16 +12,68 @@ ghost use Rattle.vt_pages.specs.Pages.{pages_of, pages_below, levels_of, columns
 ghost use Rattle.vt_store.specs.ChainStores.{AddsPages, AddsPart, HasLevelTexels, IsLevelOf, level_source};
 ghost use Rattle.vt_tiles.specs.Format.{tile_length, tiles_bytes};
 
-use crate::write::{put_tiles, size_inside, tile_columns};
+use crate::write::{is_worth_a_thread, put_tiles, size_inside, tile_columns};
 use std::alloc::Global;
+use std::thread::{Threads, join_mut};
 use vt_mip::Shrinking;
 use vt_outside::{Folder, OutsideError};
 use vt_pages::{Geometry, PageName};
 use vt_ppm::{Image, samples_are_bytes};
 use vt_tiles::tile_length;
 
+// Adds a row of tiles to the name, and halves so many rows of texels of their level: meanwhile, where that is worth a thread.
+fn add_and_take<Rt: Threads, D: Folder>(
+    rt: &Rt,
+    processors: usize,
+    texels: &mut Shrinking,
+    count: u32,
+    tiles: &[u8],
+    folder: &mut D,
+    name: &str,
+) -> Result<(), OutsideError>
+    requires inside { texels.old.taken + count ≤ texels.old.height }
+    requires even { texels.old.taken % 2 ≡ 0 }
+    requires pairs { (count % 2 ≡ 0) ⊎ (texels.old.taken + count ≡ texels.old.height) }
+    ensures files { OnOk result (D.files folder.new ≡ option_map (with_appended name.now tiles.now) (D.files folder.old)) }
+    ensures part { OnErr result ((k : ℕ) × (D.files folder.new ≡ option_map (with_appended name.now (take k tiles.now)) (D.files folder.old))) }
+    ensures failed { IsErrOf result OutsideError.Failed → IsThere (D.files folder.old) name.now → Rose (D.faults folder.old) (D.faults folder.new) }
+    ensures asked { D.asked folder.new ≡ D.asked folder.old }
+    ensures faults { D.faults folder.old ≤ D.faults folder.new }
+    ensures taken { texels.new.taken ≡ texels.old.taken + count }
+    ensures depth { texels.new.depth ≡ texels.old.depth }
+    ensures width { texels.new.width ≡ texels.old.width }
+    ensures height { texels.new.height ≡ texels.old.height }
+    ensures halves { (p : ImageView) → ShrinksFront p texels.old → ShrinksFront p texels.new }
+{
+    if !is_worth_a_thread(processors, tiles.len()) {
+        texels.take(count);
+        return folder.append(name, tiles);
+    }
+    let (_, added) = join_mut(
+        rt,
+        &mut || -> ()
+            requires { (texels.now.taken + count ≤ texels.now.height) × (texels.now.taken % 2 ≡ 0)
+                × ((count % 2 ≡ 0) ⊎ (texels.now.taken + count ≡ texels.now.height)) }
+            ensures { (texels.exit.now.taken ≡ texels.entry.now.taken + count) × (texels.exit.now.depth ≡ texels.entry.now.depth)
+                × (texels.exit.now.width ≡ texels.entry.now.width) × (texels.exit.now.height ≡ texels.entry.now.height)
+                × ((p : ImageView) → ShrinksFront p texels.entry.now → ShrinksFront p texels.exit.now) }
+        { texels.take(count) },
+        &mut || -> Result<(), OutsideError>
+            ensures { OnOk result (D.files folder.exit.now ≡ option_map (with_appended name.entry.now tiles.entry.now) (D.files folder.entry.now))
+                × OnErr result ((k : ℕ) × (D.files folder.exit.now
+                ≡ option_map (with_appended name.entry.now (take k tiles.entry.now)) (D.files folder.entry.now)))
+                × (IsErrOf result OutsideError.Failed → IsThere (D.files folder.entry.now) name.entry.now
+                → Rose (D.faults folder.entry.now) (D.faults folder.exit.now))
+                × (D.asked folder.exit.now ≡ D.asked folder.entry.now) × (D.faults folder.entry.now ≤ D.faults folder.exit.now) }
+        { folder.append(name, tiles) },
+    );
+    added
+}
+
 // Adds a row of tiles of a level to the name, and halves the rows of texels on which it lies.
-fn write_row<D: Folder>(
+fn write_row<Rt: Threads, D: Folder>(
+    rt: &Rt,
+    processors: usize,
     texels: &mut Shrinking,
     geometry: &Geometry,
     level: u32,
@@ -68,14 +120,23 @@ fn write_row<D: Folder>(
         page,
         columns,
     );
-    texels.take(inside as u32);
-    folder.append(name, tiles)
+    add_and_take(
+        rt,
+        processors,
+        texels,
+        inside as u32,
+        tiles,
+        folder,
+        name,
+    )
 }
 
 // Adds the tiles of a level to the name, one row of tiles an append, and answers the next level's image, which takes its memory. The buffer has the length of
 // the longest row of tiles.
-fn write_level<D: Folder>(
+fn write_level<Rt: Threads, D: Folder>(
+    rt: &Rt,
     alloc: Global,
+    processors: usize,
     image: Image,
     geometry: &Geometry,
     level: u32,
@@ -106,15 +167,27 @@ fn write_level<D: Folder>(
     let columns = tile_columns(geometry, level);
     let row = &mut tiles[..columns as usize * tile_length(geometry, depth)];
     for strip in 0..(height + side - 1) / side {
-        write_row(&mut texels, geometry, level, strip, row, folder, name)?;
+        write_row(
+            rt,
+            processors,
+            &mut texels,
+            geometry,
+            level,
+            strip,
+            row,
+            folder,
+            name,
+        )?;
     }
     Ok(texels.finish())
 }
 
 /// Adds the tiles of all levels but the first to the name, where the image is level 1. The buffer has the length of the longest row
 /// of tiles.
-pub(crate) fn write_levels<D: Folder>(
+pub(crate) fn write_levels<Rt: Threads, D: Folder>(
+    rt: &Rt,
     alloc: Global,
+    processors: usize,
     image: Image,
     geometry: &Geometry,
     tiles: &mut [u8],
@@ -138,7 +211,9 @@ pub(crate) fn write_levels<D: Folder>(
     let _ = image.width();
     let mut next = image;
     for level in 1..geometry.levels() {
-        next = write_level(alloc, next, geometry, level, tiles, folder, name)?;
+        next = write_level(
+            rt, alloc, processors, next, geometry, level, tiles, folder, name,
+        )?;
     }
     Ok(())
 }

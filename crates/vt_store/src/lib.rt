@@ -4,6 +4,8 @@
 
 mod laws;
 mod levels;
+mod steps;
+mod strip;
 mod strips;
 mod widen;
 mod write;

@@ -17,6 +17,7 @@ use vt_definitions::texel_length;
 use vt_mip::Chain;
 use vt_outside::{Folder, OutsideError};
 use vt_pages::Geometry;
+use vt_parts::threads_for;
 use vt_tiles::{StoreError, header_of, put_span, rows_above, tile_length};
 
 // Writes one line of so many tiles that lie side by side, from a row of texels of `size` bytes and a column of tiles on.
@@ -132,6 +133,12 @@ pub fn longest_row(geometry: &Geometry, depth: u32) -> usize
 {
     let _ = geometry.levels();
     tile_columns(geometry, 0) as usize * tile_length(geometry, depth)
+}
+
+/// Whether a second thread is worth while for a row of tiles of so many bytes, which one of the two adds while the other makes the next: a byte takes
+/// about a nanosecond to be made and added.
+pub(crate) fn is_worth_a_thread(processors: usize, bytes: usize) -> bool {
+    1 < threads_for(processors, bytes as u64)
 }
 
 /// Makes the name hold the header of a store whose samples have `depth` bytes, 1 or 2, in two calls of the folder. After a

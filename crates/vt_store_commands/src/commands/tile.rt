@@ -129,7 +129,7 @@ fn write_chain<Rt: Threads + Sync, D: Folder>(
     ensures { WritesMade (file_state D.File.File chain.file) (made_store chain.header geometry.now.tile)
         (AreStrips chain.header geometry.now.tile) name.now (passage D.Folder folder.old folder.new) result }
 {
-    let written = write_strips(alloc, &mut chain, geometry, folder, name);
+    let written = write_strips(rt, alloc, &mut chain, geometry, folder, name);
     folder.close(chain.into_file());
     match written {
         Ok(()) => Ok(()),

@@ -4,6 +4,7 @@ use super::has_failed;
 use super::making::FIVE_BY_THREE_STORE;
 use crate::fixtures::{TEXTURE, WIDE_TEXTURE, folder_of, holds, place, reader_in};
 use std::alloc::Global;
+use std::thread::Threads;
 use vt_mip::StripChain;
 use vt_outside::{Fail, Folder, MemoryFolder, Place};
 use vt_pages::Geometry;
@@ -23,7 +24,11 @@ const WIDE_STORE: [u8; 232] = [
 ];
 
 // Makes the name `b` hold the store of the texture that `a` holds, in tiles of side 2.
-fn tiled(alloc: Global, folder: &mut MemoryFolder) -> Result<(), StoreError> {
+fn tiled<Rt: Threads + Sync>(
+    rt: &Rt,
+    alloc: Global,
+    folder: &mut MemoryFolder,
+) -> Result<(), StoreError> {
     let Some(reader) = reader_in(alloc, folder) else {
         return Err(StoreError::BadMagic);
     };
@@ -32,7 +37,7 @@ fn tiled(alloc: Global, folder: &mut MemoryFolder) -> Result<(), StoreError> {
         return Err(StoreError::NoMemory);
     };
     let answer = match Geometry::new(width, height, 2) {
-        Ok(geometry) => write_strips(alloc, &mut chain, &geometry, folder, "b"),
+        Ok(geometry) => write_strips(rt, alloc, &mut chain, &geometry, folder, "b"),
         Err(_) => Err(StoreError::BadGeometry),
     };
     folder.close(chain.into_file());
@@ -40,10 +45,16 @@ fn tiled(alloc: Global, folder: &mut MemoryFolder) -> Result<(), StoreError> {
 }
 
 // Whether a texture is tiled to this store, and was asked for these places and no others.
-fn is_tiled(alloc: Global, texture: &[u8], store: &[u8], places: &[Place]) -> bool {
+fn is_tiled<Rt: Threads + Sync>(
+    rt: &Rt,
+    alloc: Global,
+    texture: &[u8],
+    store: &[u8],
+    places: &[Place],
+) -> bool {
     match folder_of(alloc, &[], texture) {
         Some(mut folder) => {
-            tiled(alloc, &mut folder).is_ok()
+            tiled(rt, alloc, &mut folder).is_ok()
                 && folder.holds("b", store)
                 && folder.was_asked("a", places)
         }
@@ -56,7 +67,7 @@ fn a_texture_is_tiled_by_strips_as_whole(rt: HostRuntime) {
     let places = [place(0, 56), place(11, 30), place(41, 15)];
     holds(
         &rt,
-        is_tiled(rt.alloc(), &TEXTURE, &FIVE_BY_THREE_STORE, &places),
+        is_tiled(&rt, rt.alloc(), &TEXTURE, &FIVE_BY_THREE_STORE, &places),
     );
 }
 
@@ -65,7 +76,7 @@ fn two_byte_samples_are_tiled_by_strips_alike(rt: HostRuntime) {
     let places = [place(0, 103), place(13, 60), place(73, 30)];
     holds(
         &rt,
-        is_tiled(rt.alloc(), &WIDE_TEXTURE, &WIDE_STORE, &places),
+        is_tiled(&rt, rt.alloc(), &WIDE_TEXTURE, &WIDE_STORE, &places),
     );
 }
 
@@ -75,7 +86,7 @@ fn one_texel_is_tiled_by_strips(rt: HostRuntime) {
     const STORE: &[u8] =
         b"VTS1\0\0\0\x01\0\0\0\x01\0\0\0\x02\x09\x08\x07\x09\x08\x07\x09\x08\x07\x09\x08\x07";
     let places = [place(0, 14), place(11, 3)];
-    holds(&rt, is_tiled(rt.alloc(), TEXEL, STORE, &places));
+    holds(&rt, is_tiled(&rt, rt.alloc(), TEXEL, STORE, &places));
 }
 
 // Bytes, and behind them so many of the value 7.
@@ -87,13 +98,13 @@ fn with_sevens(alloc: Global, front: &[u8], count: usize) -> Option<Vec<u8>> {
 }
 
 // Whether two rows of 16,384 texels of sevens are tiled to a store of sevens.
-fn sevens_are_tiled(alloc: Global, places: &[Place]) -> bool {
+fn sevens_are_tiled<Rt: Threads + Sync>(rt: &Rt, alloc: Global, places: &[Place]) -> bool {
     const HEADER: &[u8] = b"VTS1\0\0\x40\0\0\0\0\x02\0\0\0\x02";
     let Some(texture) = with_sevens(alloc, b"P6 16384 2 255\n", 98304) else {
         return false;
     };
     match with_sevens(alloc, HEADER, 196596) {
-        Some(store) => is_tiled(alloc, &texture, &store, places),
+        Some(store) => is_tiled(rt, alloc, &texture, &store, places),
         None => false,
     }
 }
@@ -101,18 +112,18 @@ fn sevens_are_tiled(alloc: Global, places: &[Place]) -> bool {
 #[test]
 fn the_widest_texture_is_tiled_by_strips(rt: HostRuntime) {
     let places = [place(0, 65536), place(15, 98304)];
-    holds(&rt, sevens_are_tiled(rt.alloc(), &places));
+    holds(&rt, sevens_are_tiled(&rt, rt.alloc(), &places));
 }
 
 // Whether the third read of a tiling fails, that of the last row, and the three tiles of the rows before it are left.
-fn fails_at_the_last_row(alloc: Global) -> bool {
+fn fails_at_the_last_row<Rt: Threads + Sync>(rt: &Rt, alloc: Global) -> bool {
     const CALLS: [Fail; 1] = [Fail::Read {
         opening: 0,
         read: 2,
     }];
     match folder_of(alloc, &CALLS, &TEXTURE) {
         Some(mut folder) => {
-            has_failed(tiled(alloc, &mut folder))
+            has_failed(tiled(rt, alloc, &mut folder))
                 && folder.holds("b", &FIVE_BY_THREE_STORE[..52])
                 && folder.asked("a", 3).is_none()
         }
@@ -122,5 +133,5 @@ fn fails_at_the_last_row(alloc: Global) -> bool {
 
 #[test]
 fn a_strip_whose_read_fails_leaves_the_rows_before_it(rt: HostRuntime) {
-    holds(&rt, fails_at_the_last_row(rt.alloc()));
+    holds(&rt, fails_at_the_last_row(&rt, rt.alloc()));
 }

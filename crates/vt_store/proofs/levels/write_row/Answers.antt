@@ -21,7 +21,7 @@ put_tiles-requires-clause-rows g c = rows_full c.args.geometry.now c.index_of-pa
 
 pub returns-clause-whole : goal.returns-clause-whole
 returns-clause-whole g c =
-    on_ok_weaker c.append.result
+    on_ok_weaker c.add_and_take.result
     (λ held p src has. held ∙ ap (λ (l : List ℕ). option_map (with_appended c.args.name.now l) (g.D.Folder.files c.args.folder.now))
     (row_tiles c.args.geometry.now p src c.args.level c.args.strip c.index_of-page.result c.tile_columns-columns.result c.depth-depth.result
     c.rows.result.now c.put_tiles.new.tiles c.index_of-page.ensures.index c.tile_columns-columns.ensures.value
@@ -29,11 +29,11 @@ returns-clause-whole g c =
     (read_rows c.args.geometry.now p c.args.texels.now src c.index_of-page.result c.args.level c.args.strip c.rows.result.now c.tile.ensures.limits
     c.requires.level c.requires.strip c.index_of-page.ensures.undone c.requires.width c.requires.height c.requires.taken
     (c.rows.ensures.full ∙ ap (λ (n : ℕ). texel_length c.args.texels.now.depth * (c.args.texels.now.width * n)) c.size_inside-inside.ensures.rows)
-    c.rows.ensures.piece has) c.put_tiles.ensures)) c.append.ensures.files
+    c.rows.ensures.piece has) c.put_tiles.ensures)) c.add_and_take.ensures.files
 
 pub returns-clause-part : goal.returns-clause-part
 returns-clause-part g c =
-    on_err_weaker c.append.result
+    on_err_weaker c.add_and_take.result
     (λ held p src has. (
       held.0,
       held.1
@@ -45,28 +45,28 @@ returns-clause-part g c =
           c.requires.level c.requires.strip c.index_of-page.ensures.undone c.requires.width c.requires.height c.requires.taken
           (c.rows.ensures.full ∙ ap (λ (n : ℕ). texel_length c.args.texels.now.depth * (c.args.texels.now.width * n)) c.size_inside-inside.ensures.rows)
           c.rows.ensures.piece has) c.put_tiles.ensures),
-    )) c.append.ensures.part
+    )) c.add_and_take.ensures.part
 
 pub returns-clause-halves : goal.returns-clause-halves
-returns-clause-halves g c = c.take.ensures.halves
+returns-clause-halves g c = c.add_and_take.ensures.halves
 
 pub returns-clause-depth : goal.returns-clause-depth
-returns-clause-depth g c = c.take.ensures.depth
+returns-clause-depth g c = c.add_and_take.ensures.depth
 
 pub returns-clause-width : goal.returns-clause-width
-returns-clause-width g c = c.take.ensures.width
+returns-clause-width g c = c.add_and_take.ensures.width
 
 pub returns-clause-height : goal.returns-clause-height
-returns-clause-height g c = c.take.ensures.height
+returns-clause-height g c = c.add_and_take.ensures.height
 
 pub returns-clause-failed : goal.returns-clause-failed
-returns-clause-failed g c = c.append.ensures.failed
+returns-clause-failed g c = c.add_and_take.ensures.failed
 
 pub returns-clause-asked : goal.returns-clause-asked
-returns-clause-asked g c = c.append.ensures.asked
+returns-clause-asked g c = c.add_and_take.ensures.asked
 
 pub returns-clause-faults : goal.returns-clause-faults
-returns-clause-faults g c = c.append.ensures.faults
+returns-clause-faults g c = c.add_and_take.ensures.faults
 
 pub put_tiles-requires-clause-depth : goal.put_tiles-requires-clause-depth
 put_tiles-requires-clause-depth g c = c.depth-depth.ensures.depth
@@ -94,8 +94,8 @@ rows-requires-clause-inside g c =
     c.index_of-page.ensures.undone in
     omega (arith, low, inside, c.requires.taken, c.requires.height)
 
-pub take-requires-clause-inside : goal.take-requires-clause-inside
-take-requires-clause-inside g c =
+pub add_and_take-requires-clause-inside : goal.add_and_take-requires-clause-inside
+add_and_take-requires-clause-inside g c =
     let low = row_low c.args.geometry.now c.args.level c.args.strip (omega (arith, c.tile.ensures.limits.least_tile)) c.requires.strip in
     let inside : c.size_inside-inside.result.1 ≡ min c.args.geometry.now.tile (side c.args.geometry.now.height c.args.level
     - c.args.strip * c.args.geometry.now.tile) = c.size_inside-inside.ensures.rows
@@ -111,4 +111,4 @@ returns-clause-taken g c =
     ∙ ap (λ (n : PageName). min c.args.geometry.now.tile (side c.args.geometry.now.height n.level - n.row * c.args.geometry.now.tile))
     c.index_of-page.ensures.undone in
     let more : (c.args.strip + 1) * c.args.geometry.now.tile ≡ c.args.strip * c.args.geometry.now.tile + c.args.geometry.now.tile = omega arith in
-    omega (arith, low, inside, more, c.requires.taken, c.requires.height, c.take.ensures.taken)
+    omega (arith, low, inside, more, c.requires.taken, c.requires.height, c.add_and_take.ensures.taken)

@@ -10,9 +10,12 @@ use Rattle.vt_tiles.specs.declared.error.StoreError.TheVariants.{Failed}
 use Rattle.vt_tiles.proofs.Refusing.{by_outside, by_call}
 use Rattle.vt_store.specs.ChainStores.{level_source}
 use Rattle.vt_store.specs.StripStores.{strip_front}
-use Rattle.vt_store.proofs.WideStores.{rose_along, no_less, carried}
+use Rattle.vt_store.specs.StripSteps.{strips_state}
+use Rattle.vt_store.proofs.WideStores.{rose_along, no_less}
 use Rattle.vt_store.proofs.StripStores.{made_moved, made_begun, made_header, made_whole, made_rest_part, store_seen, front_seen, header_seen, no_strips, strips_front}
 use Rattle.vt_store.proofs.StripLevels.{first_pages, first_inside, are_strips, rest_tiles, level_made}
+use Rattle.vt_store.proofs.OneStep.{error_is}
+use Rattle.vt_store.proofs.StripSteps.{first_next}
 use Rattle.vt_store.proofs.LevelChain.{refused_by}
 use Rattle.vt_store.proofs.strips.write_in_room.Goals as goal
 
@@ -75,7 +78,7 @@ pub returns-in_err-write_first_level-clause-part : goal.returns-in_err-write_fir
 returns-in_err-write_first_level-clause-part g c =
     let begun = made_begun (g.F.File.bytes c.args.chain.now.file) c.args.geometry.now c.args.chain.now.header c.depth.result c.args.name.now
     (g.D.Folder.files c.args.folder.now) (g.D.Folder.files c.begin_store.new.folder) c.depth.ensures.value c.in_ok-begin_store.ensures.whole in
-    OnErr-all _ _ (inr (c.in_err-write_first_level.ensures.part (g.D.Folder.files c.args.folder.now) begun))
+    OnErr-all _ _ (inr (c.in_err-write_first_level.ensures.level.part (g.D.Folder.files c.args.folder.now) begun))
 
 pub returns-in_err-write_first_level-clause-failed : goal.returns-in_err-write_first_level-clause-failed
 returns-in_err-write_first_level-clause-failed g c =
@@ -85,29 +88,29 @@ returns-in_err-write_first_level-clause-failed g c =
     (g.D.Folder.faults c.write_first_level.new.folder)
     (g.F.File.faults c.args.chain.now.file) (g.F.File.faults c.args.chain.now.file) (g.F.File.faults c.write_first_level.new.chain.file)
     c.begin_store.ensures.faults (no_fewer _ _ refl)
-    (c.write_first_level.ensures.failed (carried c.write_first_level.result c.from_residual-in_err-write_first_level.result _ Failed
-    c.in_err-write_first_level.was c.from_residual-in_err-write_first_level.ensures.1 failed) (g.D.Folder.files c.args.folder.now) begun)
+    (c.in_err-write_first_level.ensures.level.failed (error_is c.from_residual-in_err-write_first_level.result _ Failed
+    c.from_residual-in_err-write_first_level.ensures.1 failed) (g.D.Folder.files c.args.folder.now) begun)
 
 pub returns-in_err-write_first_level-clause-refusals : goal.returns-in_err-write_first_level-clause-refusals
-returns-in_err-write_first_level-clause-refusals g c = by_call c.from_residual-in_err-write_first_level.result _ c.from_residual-in_err-write_first_level.ensures.1 c.in_err-write_first_level.ensures.refusals
+returns-in_err-write_first_level-clause-refusals g c = by_call c.from_residual-in_err-write_first_level.result _ c.from_residual-in_err-write_first_level.ensures.1 c.in_err-write_first_level.ensures.level.outside
 
 pub returns-in_err-write_first_level-clause-front_read : goal.returns-in_err-write_first_level-clause-front_read
-returns-in_err-write_first_level-clause-front_read g c = OnErr-all _ _ c.in_err-write_first_level.ensures.front_read
+returns-in_err-write_first_level-clause-front_read g c = OnErr-all _ _ c.in_err-write_first_level.ensures.level.front_read
 
 pub returns-in_err-write_first_level-clause-bytes : goal.returns-in_err-write_first_level-clause-bytes
-returns-in_err-write_first_level-clause-bytes g c = c.write_first_level.ensures.bytes
+returns-in_err-write_first_level-clause-bytes g c = c.write_first_level.ensures.kept.told
 
 pub returns-in_err-write_first_level-clause-name : goal.returns-in_err-write_first_level-clause-name
-returns-in_err-write_first_level-clause-name g c = c.write_first_level.ensures.name
+returns-in_err-write_first_level-clause-name g c = c.write_first_level.ensures.kept.called
 
 pub returns-in_err-write_first_level-clause-header : goal.returns-in_err-write_first_level-clause-header
-returns-in_err-write_first_level-clause-header g c = c.write_first_level.ensures.header
+returns-in_err-write_first_level-clause-header g c = c.write_first_level.ensures.kept.header
 
 pub returns-in_err-write_first_level-clause-tile : goal.returns-in_err-write_first_level-clause-tile
-returns-in_err-write_first_level-clause-tile g c = c.write_first_level.ensures.tile
+returns-in_err-write_first_level-clause-tile g c = c.write_first_level.ensures.kept.tile
 
 pub returns-in_err-write_first_level-clause-file_faults : goal.returns-in_err-write_first_level-clause-file_faults
-returns-in_err-write_first_level-clause-file_faults g c = c.write_first_level.ensures.file_faults
+returns-in_err-write_first_level-clause-file_faults g c = c.write_first_level.ensures.kept.faults
 
 pub returns-in_err-write_first_level-clause-asked : goal.returns-in_err-write_first_level-clause-asked
 returns-in_err-write_first_level-clause-asked g c = c.write_first_level.ensures.asked ∙ c.begin_store.ensures.asked
@@ -136,9 +139,9 @@ returns-in_err-write_levels-clause-part g c =
     (g.D.Folder.files c.write_first_level.new.folder) =
     made_moved told s h c.args.name.now (g.D.Folder.files c.args.folder.now) (g.D.Folder.files c.write_first_level.new.folder)
     (rows_at s 0 * columns_at s 0) (pages_below s 1) (sym (first_pages s))
-    (c.in_ok-write_first_level.ensures.whole (g.D.Folder.files c.args.folder.now) begun) in
+    (c.in_ok-write_first_level.ensures.level.whole (g.D.Folder.files c.args.folder.now) begun) in
     let halves : (b : List ℕ) → told ≡ Some b → HalvesFront (texture_of h b) c.write_first_level.new.half = λ b e.
-    c.in_ok-write_first_level.ensures.halves b e (c.requires.room.begun (texture_of h b) refl are.width are.height) in
+    c.in_ok-write_first_level.ensures.level.halves b e (c.requires.room.begun (texture_of h b) refl are.width are.height) in
     let level = level_made told h c.write_first_level.new.half p c.depth.ensures.texture halves c.finish.ensures.half c.finish.ensures.lawful in
     let same = λ (b : List ℕ) (e : told ≡ Some b). rest_tiles s h b p c.requires.room.limits are.width are.height (level b e) in
     let inside = first_inside s c.requires.room.limits.some_level in
@@ -156,7 +159,7 @@ returns-in_err-write_levels-clause-failed g c =
     let begun = made_begun (g.F.File.bytes c.args.chain.now.file) c.args.geometry.now c.args.chain.now.header c.depth.result c.args.name.now
     (g.D.Folder.files c.args.folder.now) (g.D.Folder.files c.begin_store.new.folder) c.depth.ensures.value c.in_ok-begin_store.ensures.whole in
     λ failed.
-    let first = c.in_ok-write_first_level.ensures.whole (g.D.Folder.files c.args.folder.now) begun in
+    let first = c.in_ok-write_first_level.ensures.level.whole (g.D.Folder.files c.args.folder.now) begun in
     let rose = c.write_levels.ensures.failed
     (refused_by c.write_levels.result c.from_residual-in_err-write_levels.result _ c.in_err-write_levels.was
     c.from_residual-in_err-write_levels.ensures.1 failed)
@@ -166,22 +169,22 @@ returns-in_err-write_levels-clause-failed g c =
 pub returns-in_err-write_levels-clause-front_read : goal.returns-in_err-write_levels-clause-front_read
 returns-in_err-write_levels-clause-front_read g c =
     OnErr-all _ _ (strips_front c.args.chain.now.header c.args.geometry.now.tile (strips_of c.args.chain.now.header c.args.geometry.now.tile)
-    (g.F.File.asked c.args.chain.now.file) (g.F.File.asked c.write_first_level.new.chain.file) (omega arith) c.in_ok-write_first_level.ensures.all_read)
+    (g.F.File.asked c.args.chain.now.file) (g.F.File.asked c.write_first_level.new.chain.file) (omega arith) c.in_ok-write_first_level.ensures.level.all_read)
 
 pub returns-in_err-write_levels-clause-bytes : goal.returns-in_err-write_levels-clause-bytes
-returns-in_err-write_levels-clause-bytes g c = c.write_first_level.ensures.bytes
+returns-in_err-write_levels-clause-bytes g c = c.write_first_level.ensures.kept.told
 
 pub returns-in_err-write_levels-clause-name : goal.returns-in_err-write_levels-clause-name
-returns-in_err-write_levels-clause-name g c = c.write_first_level.ensures.name
+returns-in_err-write_levels-clause-name g c = c.write_first_level.ensures.kept.called
 
 pub returns-in_err-write_levels-clause-header : goal.returns-in_err-write_levels-clause-header
-returns-in_err-write_levels-clause-header g c = c.write_first_level.ensures.header
+returns-in_err-write_levels-clause-header g c = c.write_first_level.ensures.kept.header
 
 pub returns-in_err-write_levels-clause-tile : goal.returns-in_err-write_levels-clause-tile
-returns-in_err-write_levels-clause-tile g c = c.write_first_level.ensures.tile
+returns-in_err-write_levels-clause-tile g c = c.write_first_level.ensures.kept.tile
 
 pub returns-in_err-write_levels-clause-file_faults : goal.returns-in_err-write_levels-clause-file_faults
-returns-in_err-write_levels-clause-file_faults g c = c.write_first_level.ensures.file_faults
+returns-in_err-write_levels-clause-file_faults g c = c.write_first_level.ensures.kept.faults
 
 pub returns-in_err-write_levels-clause-asked : goal.returns-in_err-write_levels-clause-asked
 returns-in_err-write_levels-clause-asked g c = c.write_levels.ensures.asked ∙ c.write_first_level.ensures.asked ∙ c.begin_store.ensures.asked
@@ -205,9 +208,9 @@ returns-clause-whole g c =
     (g.D.Folder.files c.write_first_level.new.folder) =
     made_moved told s h c.args.name.now (g.D.Folder.files c.args.folder.now) (g.D.Folder.files c.write_first_level.new.folder)
     (rows_at s 0 * columns_at s 0) (pages_below s 1) (sym (first_pages s))
-    (c.in_ok-write_first_level.ensures.whole (g.D.Folder.files c.args.folder.now) begun) in
+    (c.in_ok-write_first_level.ensures.level.whole (g.D.Folder.files c.args.folder.now) begun) in
     let halves : (b : List ℕ) → told ≡ Some b → HalvesFront (texture_of h b) c.write_first_level.new.half = λ b e.
-    c.in_ok-write_first_level.ensures.halves b e (c.requires.room.begun (texture_of h b) refl are.width are.height) in
+    c.in_ok-write_first_level.ensures.level.halves b e (c.requires.room.begun (texture_of h b) refl are.width are.height) in
     let level = level_made told h c.write_first_level.new.half p c.depth.ensures.texture halves c.finish.ensures.half c.finish.ensures.lawful in
     let same = λ (b : List ℕ) (e : told ≡ Some b). rest_tiles s h b p c.requires.room.limits are.width are.height (level b e) in
     let inside = first_inside s c.requires.room.limits.some_level in
@@ -217,7 +220,7 @@ returns-clause-whole g c =
     c.in_ok-write_levels.ensures.whole same)
 
 pub returns-clause-all_read : goal.returns-clause-all_read
-returns-clause-all_read g c = c.in_ok-write_first_level.ensures.all_read
+returns-clause-all_read g c = c.in_ok-write_first_level.ensures.level.all_read
 
 pub returns-clause-part : goal.returns-clause-part
 returns-clause-part g c = tt
@@ -232,19 +235,19 @@ pub returns-clause-failed : goal.returns-clause-failed
 returns-clause-failed g c = λ failed. let no : ⊥ = cc in absurd no
 
 pub returns-clause-bytes : goal.returns-clause-bytes
-returns-clause-bytes g c = c.write_first_level.ensures.bytes
+returns-clause-bytes g c = c.write_first_level.ensures.kept.told
 
 pub returns-clause-name : goal.returns-clause-name
-returns-clause-name g c = c.write_first_level.ensures.name
+returns-clause-name g c = c.write_first_level.ensures.kept.called
 
 pub returns-clause-header : goal.returns-clause-header
-returns-clause-header g c = c.write_first_level.ensures.header
+returns-clause-header g c = c.write_first_level.ensures.kept.header
 
 pub returns-clause-tile : goal.returns-clause-tile
-returns-clause-tile g c = c.write_first_level.ensures.tile
+returns-clause-tile g c = c.write_first_level.ensures.kept.tile
 
 pub returns-clause-file_faults : goal.returns-clause-file_faults
-returns-clause-file_faults g c = c.write_first_level.ensures.file_faults
+returns-clause-file_faults g c = c.write_first_level.ensures.kept.faults
 
 pub returns-clause-asked : goal.returns-clause-asked
 returns-clause-asked g c = c.write_levels.ensures.asked ∙ c.write_first_level.ensures.asked ∙ c.begin_store.ensures.asked
@@ -254,3 +257,8 @@ returns-clause-faults g c =
     no_less (g.D.Folder.faults c.args.folder.now) (g.D.Folder.faults c.write_first_level.new.folder) (g.D.Folder.faults c.write_levels.new.folder)
     (no_less (g.D.Folder.faults c.args.folder.now) (g.D.Folder.faults c.begin_store.new.folder) (g.D.Folder.faults c.write_first_level.new.folder)
     c.begin_store.ensures.faults c.write_first_level.ensures.faults) c.write_levels.ensures.faults
+
+pub write_first_level-requires-clause-first : goal.write_first_level-requires-clause-first
+write_first_level-requires-clause-first g c κs within =
+    first_next c.args.geometry.now (strips_state g.F.File c.args.chain.now c.args.room.half) c.requires.shape c.requires.room.limits c.requires.spare
+    c.requires.room.depth c.requires.room.width c.requires.room.height c.requires.room.taken

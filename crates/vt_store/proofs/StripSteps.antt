@@ -1,0 +1,246 @@
+-- The steps of writing a store by strips: what one comes to, and what stands after some.
+use Rattle.std.proofs.Common.{◌≡◌, ℕ, ◌+◌, ◌-◌, ◌*◌, ◌<◌, ◌≤◌, inl, inr, Bool, Option, Some, List, take, min, refl, sym, ap, ◌∙◌, subst, arith, Ok, Err}
+use Rattle.std.proofs.lemmas.Nat.{le-div}
+use Rattle.std.specs.Prelude.{option_map, Result}
+use Rattle.std.specs.Result.{IsErrAnd}
+use Rattle.vt_outside.specs.Counts.{Rose}
+use Rattle.vt_outside.specs.Files.{Files, with_appended}
+use Rattle.vt_outside.specs.declared.answers.OutsideError.{OutsideError}
+use Rattle.vt_outside.specs.declared.answers.OutsideError.TheVariants as outside_error
+use Rattle.vt_outside.specs.declared.place.Place.{Place}
+use Rattle.vt_ppm.specs.declared.header.Header.{Header}
+use Rattle.vt_ppm.specs.Format.{depth_of}
+use Rattle.vt_ppm.specs.StripPlaces.{strip_rows, strips_of}
+use Rattle.vt_ppm.specs.Strips.{RowsAsked, texture_of}
+use Rattle.vt_mip.specs.TakenRows.{HalvingView, HalvesFront}
+use Rattle.vt_pages.specs.Shape.{Shape, shape_of}
+use Rattle.vt_pages.specs.Pages.{IsWithinLimits, columns_at, rows_at}
+use Rattle.vt_tiles.specs.declared.error.StoreError.{StoreError}
+use Rattle.vt_tiles.specs.declared.error.StoreError.TheVariants.{Failed, NoMemory}
+use Rattle.vt_tiles.specs.Made.{HoldsMade, HoldsMadeFront}
+use Rattle.vt_tiles.specs.Refusals.{IsOutsideRefusal, refusal_by}
+use Rattle.vt_store.specs.StripStores.{StripsAsked, StripsTried, strip_front, strip_tiles}
+use Rattle.vt_store.specs.Steps.{AddsFront, StepDone, StepStopped}
+use Rattle.vt_store.specs.StripSteps.{StripsState, KeepsStrips, IsNextStrip, StripMade, StripLost, MakesStrip, StripTried, StripStep, StripsDone, StripsStopped, AddsStrips, state_store}
+use Rattle.vt_store.proofs.StripStores.{store_made, made_moved, made_more, made_part, there_made, more_strips, no_strips, strips_front, strip_tried}
+use Rattle.vt_store.proofs.StripLevels.{all_taken, strip_inside, strips_are, strip_low, next_taken}
+use Rattle.vt_store.proofs.WideStores.{rose_along}
+
+-- nothing is lost where nothing was done
+pub keeps_none : (a : StripsState) → KeepsStrips a a
+keeps_none a = record { told = refl; called = refl; header = refl; tile = refl; faults = omega arith }
+
+pub keeps_on : (a b c : StripsState) → KeepsStrips a b → KeepsStrips b c → KeepsStrips a c
+keeps_on a b c p q = record {
+  told = q.told ∙ p.told;
+  called = q.called ∙ p.called;
+  header = q.header ∙ p.header;
+  tile = q.tile ∙ p.tile;
+  faults = omega (arith, p.faults, q.faults);
+}
+
+-- its place, where it was asked by its row and number of rows
+pub asked_at : (h : Header) (t i y count : ℕ) (failed : Bool) (p q : Option (List Place)) → y ≡ i * t → count ≡ strip_rows h t i
+    → RowsAsked h y count failed p q → RowsAsked h (i * t) (strip_rows h t i) failed p q
+asked_at h t i y count failed p q ey ec one =
+    subst (λ (n : ℕ). RowsAsked h (i * t) n failed p q) ec (subst (λ (n : ℕ). RowsAsked h n count failed p q) ey one)
+
+-- how a strip was read that was made, or not
+pub read_of : {T E : Type 0} (s : Shape) (i : ℕ) (a b : StripsState) (tiles : List ℕ) (r : Result T E) → MakesStrip s i a b tiles r → StripTried s i a b
+read_of s i a b tiles (Ok x) made = inr (inl made.read)
+read_of s i a b tiles (Err e) lost = inr (inr lost.read)
+
+-- The name holds the tiles of the first strips, those of strip i are made, and the strips up to it were read and halved
+pub record IsAhead (s : Shape) (n : List ℕ) (i : ℕ) (a b : StripsState) (f g : Option Files) (m k : ℕ) (row : List ℕ) : Type 0 where
+  pub held : (before : Option Files) → HoldsMade a.told (strip_front s a.header 0) n before f
+      → HoldsMade a.told (strip_front s a.header (i * columns_at s 0)) n before g
+  pub tiles : (bytes : List ℕ) → a.told ≡ Some bytes → row ≡ strip_tiles s a.header i bytes
+  pub read : StripsAsked a.header s.tile (i + 1) a.places b.places
+  pub spare : rows_at s 0 ≤ b.spare + (i + 1)
+  pub kept : KeepsStrips a b
+  pub depth : b.half.depth ≡ a.half.depth
+  pub width : b.half.width ≡ a.half.width
+  pub height : b.half.height ≡ a.half.height
+  pub taken : b.half.taken ≡ min ((i + 1) * s.tile) a.header.height
+  pub halves : (bytes : List ℕ) → a.told ≡ Some bytes → HalvesFront (texture_of a.header bytes) a.half → HalvesFront (texture_of a.header bytes) b.half
+  pub faults : m ≤ k
+
+module _ (s : Shape) (n : List ℕ) (a : StripsState) (first : IsNextStrip s 0 a) (limits : IsWithinLimits s) where
+  high : a.header.height ≡ s.height
+  high = ap (λ (z : Shape). z.height) first.shape
+
+  some_tile : 1 ≤ s.tile
+  some_tile = omega (arith, limits.least_tile)
+
+  all_strips : strips_of a.header s.tile ≡ rows_at s 0
+  all_strips = strips_are s a.header.height s.tile high refl
+
+  -- a front part of the store, as callers see it
+  seen : (before g : Option Files) → HoldsMadeFront a.told (store_made s a.header) n before g → HoldsMadeFront a.told (state_store a) n before g
+  seen before g holds = subst (λ (z : Shape). HoldsMadeFront a.told (store_made z a.header) n before g) (sym first.shape) holds
+
+  -- the first strip was not read
+  pub first_lost : (b : StripsState) (f : Option Files) (m : ℕ) → StripLost s 0 a b → StripsStopped s n a b f f m m Failed
+  first_lost b f m lost = record {
+    part = λ before h. seen before f
+        (made_part a.told a.told s a.header a.header 0 n before f f refl refl (strip_inside s 0 limits.some_level first.inside)
+        (made_moved a.told s a.header n before f 0 (0 * columns_at s 0) (omega arith) h) (inl refl));
+    front_read = strip_tried a.header a.header s.tile 0 (0 * s.tile) (strip_rows a.header s.tile 0) a.places a.places b.places
+        (omega (arith, all_strips, first.inside)) (no_strips a.header s.tile a.places a.places refl) refl refl refl (inr lost.read);
+    failed = λ _ before h. inr lost.rose;
+    outside = tt;
+  }
+
+  -- it was made
+  pub ahead_begun : (b : StripsState) (f : Option Files) (m : ℕ) (tiles : List ℕ) → rows_at s 0 ≤ a.spare → StripMade s 0 a b tiles
+      → KeepsStrips a b → a.spare ≤ b.spare + 1 → IsAhead s n 0 a b f f m m tiles
+  ahead_begun b f m tiles enough made kept spare = record {
+    held = λ before h. made_moved a.told s a.header n before f 0 (0 * columns_at s 0) (omega arith) h;
+    tiles = made.tiles;
+    read = more_strips a.header a.header s.tile 0 (0 * s.tile) (strip_rows a.header s.tile 0) a.places a.places b.places
+        (no_strips a.header s.tile a.places a.places refl) refl refl refl made.read;
+    spare = omega (arith, enough, spare);
+    kept = kept;
+    depth = made.depth;
+    width = made.width;
+    height = made.height;
+    taken = made.taken ∙ ap (λ (c : ℕ). c + strip_rows a.header s.tile 0) first.taken ∙ next_taken s a.header 0 high some_tile first.inside;
+    halves = made.halves;
+    faults = omega arith;
+  }
+
+  module _ (i : ℕ) (b : StripsState) (f g : Option Files) (m k : ℕ) (tiles : List ℕ) (ahead : IsAhead s n i a b f g m k tiles) where
+    -- the next strip may be made
+    pub ahead_next : i + 1 < rows_at s 0 → IsNextStrip s (i + 1) b
+    ahead_next inside =
+        let low = strip_low s (i + 1) some_tile inside in
+        record {
+          shape = ap (λ (h : Header). shape_of h.width h.height b.tile) ahead.kept.header
+              ∙ ap (λ (t : ℕ). shape_of a.header.width a.header.height t) ahead.kept.tile ∙ first.shape;
+          inside = inside;
+          spare = omega (arith, inside, ahead.spare);
+          depth = ahead.depth ∙ first.depth ∙ ap (λ (h : Header). depth_of h.maximum) (sym ahead.kept.header);
+          width = ahead.width ∙ first.width ∙ ap (λ (h : Header). h.width) (sym ahead.kept.header);
+          height = ahead.height ∙ first.height ∙ ap (λ (h : Header). h.height) (sym ahead.kept.header);
+          taken = omega (arith, low, high, ahead.taken);
+        }
+
+    -- the tiles that are made, where some of them were added
+    pub ahead_part : (p : ℕ) (h : Option Files) → i < rows_at s 0 → h ≡ option_map (with_appended n (take p tiles)) g
+        → (before : Option Files) → HoldsMade a.told (strip_front s a.header 0) n before f → HoldsMadeFront a.told (state_store a) n before h
+    ahead_part p h inside held before begun = seen before h
+        (made_part a.told a.told s a.header a.header i n before g h refl refl (strip_inside s i limits.some_level inside) (ahead.held before begun)
+        (inr (record { more = tiles; part = p; held = held; same = ahead.tiles })))
+
+    -- where all were added
+    ahead_added : (h : Option Files) → h ≡ option_map (with_appended n tiles) g → (before : Option Files)
+        → HoldsMade a.told (strip_front s a.header 0) n before f → HoldsMade a.told (strip_front s a.header ((i + 1) * columns_at s 0)) n before h
+    ahead_added h held before begun =
+        made_more a.told a.told s a.header a.header i n before g h refl refl (ahead.held before begun)
+        (record { more = tiles; held = held; same = ahead.tiles })
+
+    -- one step more
+    pub ahead_more : (c : StripsState) (h : Option Files) (l : ℕ) (next : List ℕ) → i + 1 < rows_at s 0 → StepDone (StripMade s (i + 1) b c next) n tiles g h
+        → KeepsStrips b c → b.spare ≤ c.spare + 1 → k ≤ l → IsAhead s n (i + 1) a c f h m l next
+    ahead_more c h l next inside done kept spare faults =
+        let e = ahead.kept.header in
+        let now = ahead_next inside in
+        let made = done.made in
+        record {
+          held = ahead_added h done.added;
+          tiles = λ bytes is. made.tiles bytes (ahead.kept.told ∙ is) ∙ ap (λ (z : Header). strip_tiles s z (i + 1) bytes) e;
+          read = more_strips a.header b.header s.tile (i + 1) ((i + 1) * s.tile) (strip_rows b.header s.tile (i + 1)) a.places b.places c.places
+              ahead.read e refl (ap (λ (z : Header). strip_rows z s.tile (i + 1)) e) made.read;
+          spare = omega (arith, ahead.spare, spare);
+          kept = keeps_on a b c ahead.kept kept;
+          depth = made.depth ∙ ahead.depth;
+          width = made.width ∙ ahead.width;
+          height = made.height ∙ ahead.height;
+          taken = made.taken ∙ ap (λ (x : ℕ). x + strip_rows b.header s.tile (i + 1)) now.taken
+              ∙ ap (λ (z : Header). (i + 1) * s.tile + strip_rows z s.tile (i + 1)) e
+              ∙ next_taken s a.header (i + 1) high some_tile inside;
+          halves = λ bytes is half.
+              let Half : Header → HalvingView → Type 0 = λ z v. HalvesFront (texture_of z bytes) v in
+              subst (λ (z : Header). Half z c.half) e
+              (made.halves bytes (ahead.kept.told ∙ is) (subst (λ (z : Header). Half z b.half) (sym e) (ahead.halves bytes is half)));
+          faults = omega (arith, ahead.faults, faults);
+        }
+
+    -- a step was refused
+    pub ahead_stopped : (c : StripsState) (h : Option Files) (l : ℕ) (e : StoreError) → i + 1 < rows_at s 0
+        → StepStopped (StripTried s (i + 1) b c) (Rose b.faults c.faults) n tiles g h k l e → StripsStopped s n a c f h m l e
+    ahead_stopped c h l e inside stopped = record {
+      part = ahead_part stopped.part h (omega arith) stopped.held;
+      front_read = tried stopped.read;
+      failed = λ is before begun. rose_along m k l a.faults b.faults c.faults ahead.faults ahead.kept.faults
+          (stopped.rose is (there_made a.told (strip_front s a.header (i * columns_at s 0)) n before g (ahead.held before begun)));
+      outside = stopped.outside;
+    } where
+      few : i + 1 < strips_of a.header s.tile
+      few = omega (arith, all_strips, inside)
+
+      tried : StripTried s (i + 1) b c → StripsTried a.header s.tile a.places c.places
+      tried (inl same) = strips_front a.header s.tile (i + 1) a.places c.places (omega (arith, few)) (same ∙ ahead.read)
+      tried (inr one) = strip_tried a.header b.header s.tile (i + 1) ((i + 1) * s.tile) (strip_rows b.header s.tile (i + 1)) a.places b.places c.places
+          few ahead.read ahead.kept.header refl (ap (λ (z : Header). strip_rows z s.tile (i + 1)) ahead.kept.header) one
+
+    -- the last row of tiles was refused
+    pub last_refused : {T : Type 0} (h : Option Files) (l : ℕ) (e : OutsideError) (q : Result T StoreError) → i + 1 ≡ rows_at s 0
+        → IsErrAnd q (λ x. x ≡ refusal_by e) → AddsFront n tiles g h k l e → AddsStrips s n a b f h m l q
+    last_refused h l e (Ok x) all is adds = absurd is
+    last_refused h l outside_error.Failed (Err x) all is adds = record {
+      part = ahead_part adds.part h (omega arith) adds.held;
+      front_read = strips_front a.header s.tile (i + 1) a.places b.places (omega (arith, all_strips, all)) ahead.read;
+      failed = λ _ before begun. rose_along m k l a.faults b.faults b.faults ahead.faults ahead.kept.faults
+          (inl (adds.rose refl (there_made a.told (strip_front s a.header (i * columns_at s 0)) n before g (ahead.held before begun))));
+      outside = subst IsOutsideRefusal (sym is) tt;
+    }
+    last_refused h l outside_error.NoMemory (Err x) all is adds = record {
+      part = ahead_part adds.part h (omega arith) adds.held;
+      front_read = strips_front a.header s.tile (i + 1) a.places b.places (omega (arith, all_strips, all)) ahead.read;
+      failed = λ failed before begun. let no : ⊥ = cc in absurd no;
+      outside = subst IsOutsideRefusal (sym is) tt;
+    }
+
+    -- it was added
+    pub last_added : (h : Option Files) → i + 1 ≡ rows_at s 0 → h ≡ option_map (with_appended n tiles) g → StripsDone s n a b f h
+    last_added h all held = record {
+      whole = λ before begun. made_moved a.told s a.header n before h ((i + 1) * columns_at s 0) (rows_at s 0 * columns_at s 0)
+          (ap (λ (x : ℕ). x * columns_at s 0) all) (ahead_added h held before begun);
+      all_read = subst (λ (x : ℕ). StripsAsked a.header s.tile x a.places b.places) (all ∙ sym all_strips) ahead.read;
+      halves = ahead.halves;
+      all_taken = omega (arith, all_taken s some_tile, ap (λ (x : ℕ). x * s.tile) all, high, first.height, ahead.taken);
+      half_depth = ahead.depth;
+      half_width = ahead.width;
+      half_height = ahead.height;
+    }
+
+-- a step in rooms that were lent
+pub steps_in : {T : Type 0} (s : Shape) (i : ℕ) (n tiles tiles' next next' : List ℕ) (a b : StripsState) (f g : Option Files) (m k : ℕ)
+    (r : Result T StoreError) → tiles ≡ tiles' → next' ≡ next → StripStep s i n tiles next a b f g m k r → StripStep s i n tiles' next' a b f g m k r
+steps_in s i n tiles tiles' next next' a b f g m k r lent back step =
+    subst (λ (l : List ℕ). StripStep s i n tiles' l a b f g m k r) (sym back) (subst (λ (l : List ℕ). StripStep s i n l next a b f g m k r) lent step)
+
+-- there is a strip
+pub rows_some : (s : Shape) → IsWithinLimits s → 1 ≤ rows_at s 0
+unfolding rows_at
+rows_some s limits = le-div 1 (s.height + s.tile - 1) s.tile (omega (arith, limits.least_tile)) (omega (arith, limits.least_height))
+
+-- in a room for a texture's strips the first one is next
+pub first_next : (s : Shape) (a : StripsState) → shape_of a.header.width a.header.height a.tile ≡ s → IsWithinLimits s → rows_at s 0 ≤ a.spare
+    → a.half.depth ≡ depth_of a.header.maximum → a.half.width ≡ s.width → a.half.height ≡ s.height → a.half.taken ≡ 0 → IsNextStrip s 0 a
+first_next s a shape limits spare depth width height taken = record {
+  shape = shape;
+  inside = rows_some s limits;
+  spare = omega (arith, rows_some s limits, spare);
+  depth = depth;
+  width = width ∙ sym (ap (λ (z : Shape). z.width) shape);
+  height = height ∙ sym (ap (λ (z : Shape). z.height) shape);
+  taken = omega (arith, taken);
+}
+
+-- what refused a step refuses the writing of the strips
+pub stopped_by : {T : Type 0} (s : Shape) (n : List ℕ) (a b : StripsState) (f g : Option Files) (m k : ℕ) (q : Result T StoreError) (e : StoreError)
+    → IsErrAnd q (λ x. x ≡ e) → StripsStopped s n a b f g m k e → AddsStrips s n a b f g m k q
+stopped_by s n a b f g m k (Ok x) e is stopped = absurd is
+stopped_by s n a b f g m k (Err x) e is stopped = subst (λ (y : StoreError). StripsStopped s n a b f g m k y) (sym is) stopped

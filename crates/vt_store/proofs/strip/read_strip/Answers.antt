@@ -1,0 +1,157 @@
+use Rattle.std.proofs.Common.{◌≡◌, ℕ, ◌+◌, ◌-◌, ◌*◌, true, false, min, length, refl, sym, ap, ◌∙◌, arith}
+use Rattle.vt_ppm.specs.Format.{depth_of}
+use Rattle.vt_ppm.specs.Strips.{texture_of}
+use Rattle.vt_pages.specs.Pages.{columns_at}
+use Rattle.vt_tiles.specs.Format.{tile_length}
+use Rattle.vt_store.proofs.StripTiles.{is_strip, strip_length, strip_made, strip_piece}
+use Rattle.vt_store.proofs.OneStep.{is_lost}
+use Rattle.vt_store.proofs.StripSteps.{asked_at}
+use Rattle.vt_store.proofs.strip.read_strip.Goals as goal
+
+pub overflow_mul-y : goal.overflow_mul-y
+overflow_mul-y g c =
+    let begins = is_strip c.args.geometry.now c.args.chain.now.header c.args.chain.now.tile c.args.strip c.args.geometry.now.tile
+    (c.args.strip * c.args.geometry.now.tile) c.args.geometry.now.height
+    (min c.args.geometry.now.tile (c.args.geometry.now.height - c.args.strip * c.args.geometry.now.tile)) (columns_at c.args.geometry.now 0)
+    c.requires.next.shape c.tile-side.ensures.limits c.requires.next.inside refl refl refl refl refl in
+    let place : c.args.strip * c.tile-side.result ≡ c.args.strip * c.args.geometry.now.tile = ap (λ (n : ℕ). c.args.strip * n) c.tile-side.ensures.tile in
+    omega (arith, place, begins.begins, c.tile-side.ensures.limits.most_height)
+
+pub overflow_sub-height : goal.overflow_sub-height
+overflow_sub-height g c =
+    let begins = is_strip c.args.geometry.now c.args.chain.now.header c.args.chain.now.tile c.args.strip c.args.geometry.now.tile
+    (c.args.strip * c.args.geometry.now.tile) c.args.geometry.now.height
+    (min c.args.geometry.now.tile (c.args.geometry.now.height - c.args.strip * c.args.geometry.now.tile)) (columns_at c.args.geometry.now 0)
+    c.requires.next.shape c.tile-side.ensures.limits c.requires.next.inside refl refl refl refl refl in
+    let place : c.args.strip * c.tile-side.result ≡ c.args.strip * c.args.geometry.now.tile = ap (λ (n : ℕ). c.args.strip * n) c.tile-side.ensures.tile in
+    omega (arith, place, begins.begins, c.height.ensures.height)
+
+pub rows-requires-clause-inside : goal.rows-requires-clause-inside
+rows-requires-clause-inside g c =
+    let is = is_strip c.args.geometry.now c.args.chain.now.header c.args.chain.now.tile c.args.strip c.tile-side.result
+    (c.args.strip * c.tile-side.result) c.height.result c.min-count.result c.tile_columns-columns.result c.requires.next.shape
+    c.tile-side.ensures.limits c.requires.next.inside c.tile-side.ensures.tile c.height.ensures.height refl c.min-count.ensures
+    c.tile_columns-columns.ensures.value in
+    omega (arith, is.ends, is.height)
+
+pub take-requires-clause-some : goal.take-requires-clause-some
+take-requires-clause-some g c =
+    let is = is_strip c.args.geometry.now c.args.chain.now.header c.args.chain.now.tile c.args.strip c.tile-side.result
+    (c.args.strip * c.tile-side.result) c.height.result c.min-count.result c.tile_columns-columns.result c.requires.next.shape
+    c.tile-side.ensures.limits c.requires.next.inside c.tile-side.ensures.tile c.height.ensures.height refl c.min-count.ensures
+    c.tile_columns-columns.ensures.value in
+    is.some
+
+pub take-requires-clause-inside : goal.take-requires-clause-inside
+take-requires-clause-inside g c =
+    let is = is_strip c.args.geometry.now c.args.chain.now.header c.args.chain.now.tile c.args.strip c.tile-side.result
+    (c.args.strip * c.tile-side.result) c.height.result c.min-count.result c.tile_columns-columns.result c.requires.next.shape
+    c.tile-side.ensures.limits c.requires.next.inside c.tile-side.ensures.tile c.height.ensures.height refl c.min-count.ensures
+    c.tile_columns-columns.ensures.value in
+    omega (arith, is.ends, is.height, is.place, c.requires.next.taken, c.requires.next.height)
+
+pub overflow_mul-strip : goal.overflow_mul-strip
+overflow_mul-strip g c =
+    let is = is_strip c.args.geometry.now c.args.chain.now.header c.args.chain.now.tile c.args.strip c.tile-side.result
+    (c.args.strip * c.tile-side.result) c.height.result c.min-count.result c.tile_columns-columns.result c.requires.next.shape
+    c.tile-side.ensures.limits c.requires.next.inside c.tile-side.ensures.tile c.height.ensures.height refl c.min-count.ensures
+    c.tile_columns-columns.ensures.value in
+    omega (arith, is.page, c.tile-side.ensures.limits.most_pages)
+
+pub put_tiles-requires-clause-page : goal.put_tiles-requires-clause-page
+put_tiles-requires-clause-page g c =
+    let is = is_strip c.args.geometry.now c.args.chain.now.header c.args.chain.now.tile c.args.strip c.tile-side.result
+    (c.args.strip * c.tile-side.result) c.height.result c.min-count.result c.tile_columns-columns.result c.requires.next.shape
+    c.tile-side.ensures.limits c.requires.next.inside c.tile-side.ensures.tile c.height.ensures.height refl c.min-count.ensures
+    c.tile_columns-columns.ensures.value in
+    is.page
+
+pub put_tiles-requires-clause-row : goal.put_tiles-requires-clause-row
+put_tiles-requires-clause-row g c =
+    let is = is_strip c.args.geometry.now c.args.chain.now.header c.args.chain.now.tile c.args.strip c.tile-side.result
+    (c.args.strip * c.tile-side.result) c.height.result c.min-count.result c.tile_columns-columns.result c.requires.next.shape
+    c.tile-side.ensures.limits c.requires.next.inside c.tile-side.ensures.tile c.height.ensures.height refl c.min-count.ensures
+    c.tile_columns-columns.ensures.value in
+    is.along
+
+pub put_tiles-requires-clause-rows : goal.put_tiles-requires-clause-rows
+put_tiles-requires-clause-rows g c =
+    let is = is_strip c.args.geometry.now c.args.chain.now.header c.args.chain.now.tile c.args.strip c.tile-side.result
+    (c.args.strip * c.tile-side.result) c.height.result c.min-count.result c.tile_columns-columns.result c.requires.next.shape
+    c.tile-side.ensures.limits c.requires.next.inside c.tile-side.ensures.tile c.height.ensures.height refl c.min-count.ensures
+    c.tile_columns-columns.ensures.value in
+    strip_length c.args.geometry.now c.args.chain.now.header c.args.strip (c.args.strip * c.tile-side.result) c.min-count.result
+    c.tile_columns-columns.result c.depth-depth.result (length c.rows.new.out) is c.depth-depth.ensures.value
+    (c.rows.auto.out ∙ c.requires.rows)
+
+pub returns-clause-made : goal.returns-clause-made
+returns-clause-made g c =
+    let is = is_strip c.args.geometry.now c.args.chain.now.header c.args.chain.now.tile c.args.strip c.tile-side.result
+    (c.args.strip * c.tile-side.result) c.height.result c.min-count.result c.tile_columns-columns.result c.requires.next.shape
+    c.tile-side.ensures.limits c.requires.next.inside c.tile-side.ensures.tile c.height.ensures.height refl c.min-count.ensures
+    c.tile_columns-columns.ensures.value in
+    let h = c.args.chain.now.header in
+    let told = g.F.File.bytes c.args.chain.now.file in
+    record {
+      read = asked_at h c.args.geometry.now.tile c.args.strip (c.args.strip * c.tile-side.result) c.min-count.result false
+          (g.F.File.asked c.args.chain.now.file) (g.F.File.asked c.rows.new.self.file) is.place is.counts c.in_ok-rows.ensures.asked;
+      tiles = strip_made told c.args.geometry.now h c.args.strip (c.args.strip * c.tile-side.result) c.min-count.result
+          c.tile_columns-columns.result c.depth-depth.result c.rows.new.out c.put_tiles.new.tiles is c.depth-depth.ensures.value
+          c.rows.ensures.texture c.in_ok-rows.ensures.rows c.put_tiles.ensures;
+      halves = λ b e before. c.take.ensures.halves (texture_of h b) before
+          (strip_piece told c.args.geometry.now h c.args.strip (c.args.strip * c.tile-side.result) c.min-count.result c.tile_columns-columns.result
+          c.args.half.now.taken c.rows.new.out is c.requires.next.taken c.rows.ensures.texture c.in_ok-rows.ensures.rows b e);
+      taken = c.take.ensures.taken ∙ ap (λ (n : ℕ). c.args.half.now.taken + n) is.counts;
+      depth = c.take.ensures.depth;
+      width = c.take.ensures.width;
+      height = c.take.ensures.height;
+    }
+
+pub returns-in_err-rows-clause-made : goal.returns-in_err-rows-clause-made
+returns-in_err-rows-clause-made g c =
+    let is = is_strip c.args.geometry.now c.args.chain.now.header c.args.chain.now.tile c.args.strip c.tile-side.result
+    (c.args.strip * c.tile-side.result) c.height.result c.min-count.result c.tile_columns-columns.result c.requires.next.shape
+    c.tile-side.ensures.limits c.requires.next.inside c.tile-side.ensures.tile c.height.ensures.height refl c.min-count.ensures
+    c.tile_columns-columns.ensures.value in
+    is_lost _ _ c.from_residual.result _ c.from_residual.ensures.1
+    (record {
+      read = asked_at c.args.chain.now.header c.args.geometry.now.tile c.args.strip (c.args.strip * c.tile-side.result) c.min-count.result true
+          (g.F.File.asked c.args.chain.now.file) (g.F.File.asked c.rows.new.self.file) is.place is.counts c.in_err-rows.ensures.asked;
+      rose = c.in_err-rows.ensures.failed refl;
+    })
+
+pub returns-clause-kept : goal.returns-clause-kept
+returns-clause-kept g c = record {
+  told = c.rows.ensures.bytes;
+  called = c.rows.ensures.name;
+  header = c.rows.ensures.header;
+  tile = c.rows.ensures.tile;
+  faults = c.rows.ensures.faults;
+}
+
+pub returns-in_err-rows-clause-kept : goal.returns-in_err-rows-clause-kept
+returns-in_err-rows-clause-kept g c = record {
+  told = c.rows.ensures.bytes;
+  called = c.rows.ensures.name;
+  header = c.rows.ensures.header;
+  tile = c.rows.ensures.tile;
+  faults = c.rows.ensures.faults;
+}
+
+pub returns-clause-spare : goal.returns-clause-spare
+returns-clause-spare g c = c.rows.ensures.spare
+
+pub returns-in_err-rows-clause-spare : goal.returns-in_err-rows-clause-spare
+returns-in_err-rows-clause-spare g c = c.rows.ensures.spare
+
+pub put_tiles-requires-clause-depth : goal.put_tiles-requires-clause-depth
+put_tiles-requires-clause-depth g c = c.depth-depth.ensures.depth
+
+pub put_tiles-requires-clause-room : goal.put_tiles-requires-clause-room
+put_tiles-requires-clause-room g c =
+    c.requires.tiles
+    ∙ ap (λ (n : ℕ). n * tile_length c.args.geometry.now (depth_of c.args.chain.now.header.maximum)) (sym c.tile_columns-columns.ensures.value)
+    ∙ ap (λ (n : ℕ). c.tile_columns-columns.result * tile_length c.args.geometry.now n) (sym c.depth-depth.ensures.value)
+
+pub rows-requires-clause-spare : goal.rows-requires-clause-spare
+rows-requires-clause-spare g c = c.requires.next.spare
