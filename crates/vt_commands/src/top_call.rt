@@ -28,7 +28,7 @@ use vt_outside::{Folder, Gate, Sink};
 /// The contract is the record `IsRun` of `specs/Runs.antt`, with a field for each promise: what stands, what was
 /// asked, the cause of each status, and the line on the error output.
 pub fn run<
-    M: PassMachine<File = D::File>,
+    M: PassMachine<File = D::File> + Send,
     Rt: Threads + Wait + Sync,
     D: Folder,
     O: Sink,

@@ -22,7 +22,7 @@ use vt_words::{Command, read_command};
 
 /// Does what `run` does, where the words are those of a command that may wait.
 pub fn run_waiting<
-    M: PassMachine<File = D::File>,
+    M: PassMachine<File = D::File> + Send,
     Rt: Threads + Wait + Sync,
     D: Folder,
     O: Sink,
@@ -49,7 +49,7 @@ pub fn run_waiting<
 // Reads the words and does the command that they ask for.
 fn do_waiting<
     'a,
-    M: PassMachine<File = D::File>,
+    M: PassMachine<File = D::File> + Send,
     Rt: Threads + Wait + Sync,
     D: Folder,
     O: Sink,
@@ -73,7 +73,7 @@ fn do_waiting<
 // Does a command.
 fn perform_waiting<
     'a,
-    M: PassMachine<File = D::File>,
+    M: PassMachine<File = D::File> + Send,
     Rt: Threads + Wait + Sync,
     D: Folder,
     O: Sink,

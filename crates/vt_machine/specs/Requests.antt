@@ -1,5 +1,5 @@
 -- What a pass asks of the files of its loaders: each tile of its batch once, and nothing else.
-use Rattle.std.specs.Prelude.{◌≡◌, ℕ, ◌+◌, ◌≤◌, Bool, not, ◌==◌, ◌&&◌, Option, IsSome, is_some, unwrap_or, List, [], map, sum_by, count_by, All}
+use Rattle.std.specs.Prelude.{◌≡◌, ℕ, ◌+◌, ◌≤◌, Bool, not, ◌==◌, ◌&&◌, Option, IsSome, is_some, unwrap_or, List, [], length, map, sum_by, count_by, All}
 use Rattle.vt_outside.specs.declared.place.Place.{Place}
 use Rattle.vt_outside.specs.Places.{times_asked, times_failed}
 use Rattle.vt_outside.specs.Counts.{RoseTogetherBy}
@@ -64,8 +64,11 @@ pub record AreReadFor (s : Shape) (d : ℕ) (batch : List Planned) (losses : Lis
   pub once : AllTell before → AreAskedOnce s d batch losses before after
   pub faults : RoseTogetherBy (lost_count losses) (counts_of before) (counts_of after)
 
--- the files were read for a part of a batch
+-- the files were read for a part of a batch: where they tell their places, each request was made at most once, and a read failed at most as
+-- often as it is that of some entries, by which their counts rose together
 pub record ArePartlyReadFor (s : Shape) (d : ℕ) (batch : List Planned) (before after : List FileState) : Type 0 where
   pub same : AreSameFiles before after
   pub at_most_once : AllTell before → AreAskedAtMostOnce s d batch before after
-  pub faults : RoseTogetherBy 0 (counts_of before) (counts_of after)
+  pub lost : List Planned
+  pub failed : AllTell before → (at len : ℕ) → times_failed_by after at len ≤ times_failed_by before at len + times_planned s d lost at len
+  pub faults : RoseTogetherBy (length lost) (counts_of before) (counts_of after)

@@ -1,5 +1,5 @@
 -- Whether a walk goes on after a pass.
-use Rattle.std.specs.Prelude.{◌≡◌, ℕ, ◌-◌, ◌<◌, ◌≤◌, Bool, IsTrue, List, [], Result, Ok, Err}
+use Rattle.std.specs.Prelude.{◌≡◌, ℕ, ◌+◌, ◌-◌, ◌<◌, ◌≤◌, Bool, IsTrue, List, [], length, Result, Ok, Err}
 use Rattle.vt_plan.specs.declared.batches.Planned.{Planned}
 use Rattle.vt_turns.specs.declared.error.WalkError.{WalkError}
 use Rattle.vt_turns.specs.declared.error.WalkError.TheVariants.{TooFewFrames, DoesNotFit, Failed, NoMemory}
@@ -42,3 +42,8 @@ Judges t p (Err error) = IsStoppedBy t p error
 abbrev pub IsEnd : Mode → Bool → List Planned → Type 0
 IsEnd Live loads_nothing plan = Unit {0}
 IsEnd Settled loads_nothing plan = IsTrue loads_nothing × (plan ≡ [])
+
+-- a pass has finished its picture, and the path has a next one
+pub record IsFollowed (t : Tour) (p : Passed) : Type 0 where
+  pub ends : IsEnd t.mode p.loads_nothing p.outlook.plan.elements
+  pub more : p.picture + 1 < length t.path.now.cameras

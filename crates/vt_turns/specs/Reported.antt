@@ -7,7 +7,8 @@ use Rattle.vt_machine.specs.Outcomes.{lost_count}
 use Rattle.vt_turns.specs.declared.turns.Outlook.{Outlook}
 use Rattle.vt_turns.specs.declared.turns.Turn.{Turn}
 use Rattle.vt_turns.specs.declared.turns.Drawn.{Drawn}
-use Rattle.vt_turns.specs.Tallies.{with_pass}
+use Rattle.vt_turns.specs.declared.turns.Passed.{Passed}
+use Rattle.vt_turns.specs.Tallies.{with_pass, no_passes}
 
 -- the text of a pass, by its turn, its number, the version at its beginning and its report
 abbrev pub reported_text : ℕ → Turn → ℕ → PassReport → Pass
@@ -22,3 +23,7 @@ pub record IsReported (number : ℕ) (t : Turn) (start : ℕ) (r : PassReport) (
   pub tally : d.passed.tally ≡ with_pass r.events.elements t.tally
   pub reads : d.passed.reads ≡ t.reads + length t.batch.elements
   pub text : text_of d.text ≡ reported_text number t start r
+
+-- the turn after a pass that has finished its picture
+abbrev pub next_turn : Passed → Turn
+next_turn p = record { picture = p.picture + 1; batch = p.outlook.plan; tally = no_passes; reads = p.reads }

@@ -1,12 +1,13 @@
 //! What a walk decides: whether it may begin, and whether it goes on after a pass.
 
-ghost use Rattle.std.specs.Prelude.{◌≡◌, ◌+◌, ◌-◌, ◌<◌, ◌≤◌, MatchBool};
-ghost use Rattle.vt_turns.specs.Judging.{Judges, IsEnd};
+ghost use Rattle.std.specs.Prelude.{◌≡◌, ◌+◌, ◌-◌, ◌<◌, ◌≤◌, length, MatchBool};
+ghost use Rattle.vt_turns.specs.Judging.{Judges, IsEnd, IsFollowed};
 
 use crate::error::WalkError;
 use crate::mode::Mode;
 use crate::tour::Tour;
 use crate::turns::Passed;
+use vt_camera::Path;
 use vt_evict::Batch;
 
 /// Whether a walk has fewer frames than pinned pages.
@@ -52,4 +53,27 @@ pub fn is_finished(mode: Mode, loads_nothing: bool, plan: &Batch) -> bool
     ensures { MatchBool result (IsEnd mode loads_nothing plan.now.elements) (IsEnd mode loads_nothing plan.now.elements → ⊥) }
 {
     mode == Mode::Live || (loads_nothing && plan.len() == 0)
+}
+
+// The least number of pixels of a picture that is written while the next one is drawn. A thread for that costs some 50 microseconds, which
+// smaller pictures do not win back. What a walk writes does not depend on this number.
+const LEAST_BESIDE: u32 = 100_000;
+
+/// Whether a picture is written while the next one's first pass is drawn: the pass has finished it, there is a next one, and it is large
+/// enough to be worth a thread.
+pub fn is_written_beside(tour: &Tour<'_>, passed: &Passed) -> bool
+    ensures { MatchBool result (IsFollowed tour.now passed.now) (Unit {0}) }
+{
+    let pixels = tour.path.width().saturating_mul(tour.path.height());
+    pixels >= LEAST_BESIDE
+        && has_next(tour.path, passed.picture)
+        && is_finished(tour.mode, passed.loads_nothing, &passed.outlook.plan)
+}
+
+// Whether a path has a picture after this one.
+fn has_next(path: &Path, picture: u32) -> bool
+    ensures { MatchBool result (picture + 1 < length path.now.cameras) (length path.now.cameras ≤ picture + 1) }
+{
+    let pictures = path.pictures();
+    picture < pictures && 1 < pictures - picture
 }

@@ -10,9 +10,9 @@ mod tour;
 mod turns;
 
 pub use error::WalkError;
-pub use judging::{has_too_few_frames, is_finished, judge, pinned_page};
+pub use judging::{has_too_few_frames, is_finished, is_written_beside, judge, pinned_page};
 pub use mode::Mode;
 pub use settings::{Names, Settings};
 pub use tallies::Tally;
 pub use tour::Tour;
-pub use turns::{Drawn, Outlook, Passed, Turn, drawn_of};
+pub use turns::{Drawn, Next, Outlook, Passed, Turn, drawn_of, turn_after};

@@ -2,14 +2,14 @@
 
 ghost use Rattle.std.specs.Prelude.{◌≡◌, ◌+◌, ◌<◌, ◌^◌, length};
 ghost use Rattle.vt_machine.specs.Outcomes.{lost_count};
-ghost use Rattle.vt_turns.specs.Reported.{IsReported};
+ghost use Rattle.vt_turns.specs.Reported.{IsReported, next_turn};
 
 use crate::tallies::Tally;
 use vt_evict::{Batch, Losses};
 use vt_journal::PassText;
 use vt_machine::PassReport;
 
-/// What comes next in a walk.
+/// What a walk is to do next.
 #[derive(Drop)]
 pub struct Turn {
     /// The picture of the next pass, or the number of pictures where all are finished.
@@ -46,6 +46,15 @@ pub struct Drawn {
     pub passed: Passed,
 }
 
+/// What comes next in a walk.
+#[derive(Drop)]
+pub enum Next {
+    /// This pass, which was drawn, is to be told.
+    Pass(Drawn),
+    /// All pictures are finished, for which so many tiles were asked for.
+    End(u64),
+}
+
 /// What a pass leaves for the next one.
 #[derive(Drop)]
 pub struct Outlook {
@@ -55,6 +64,19 @@ pub struct Outlook {
     pub needed: u32,
     /// What is planned next.
     pub plan: Batch,
+}
+
+/// The turn after a pass that has finished its picture: the next picture's first pass.
+pub fn turn_after(passed: Passed) -> Turn
+    requires { passed.picture + 1 < 2 ^ 32 }
+    ensures { result ≡ next_turn passed }
+{
+    Turn {
+        picture: passed.picture + 1,
+        batch: passed.outlook.plan,
+        tally: Tally::new(),
+        reads: passed.reads,
+    }
 }
 
 /// What was drawn, by the report of a pass and what it leaves for the next one.

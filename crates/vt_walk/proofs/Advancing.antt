@@ -1,5 +1,5 @@
 -- A pass that a machine has run is the next of its walk's run.
-use Rattle.std.proofs.Common.{◌≡◌, ℕ, ◌+◌, ◌<◌, ◌≤◌, ◌^◌, inl, inr, Bool, true, false, nat_lt, List, [], ◌∷◌, length, Option, refl, sym, ap, ◌∙◌, subst, arith}
+use Rattle.std.proofs.Common.{◌≡◌, ℕ, ◌+◌, ◌<◌, ◌≤◌, ◌^◌, Bool, true, false, nat_lt, List, [], ◌∷◌, length, Option, Result, Ok, Err, refl, sym, ap, ◌∙◌, subst, arith}
 use Rattle.std.specs.Prelude.{All, IsSome, slice_index, count_by, if◌then◌else◌, ◌==◌}
 use Rattle.std.proofs.lemmas.List.Sums.{sum_by-cons}
 use Rattle.vt_definitions.specs.Limits.{most_versions, most_entries}
@@ -21,10 +21,11 @@ use Rattle.vt_machine.specs.declared.crew.PassReport.{PassReport}
 use Rattle.vt_machine.specs.Crews.{last_start}
 use Rattle.vt_workers.specs.Jobs.{Job}
 use Rattle.vt_machine.specs.Outcomes.{IsBatchFor, IsOutcome}
-use Rattle.vt_machine.specs.Requests.{FileState, AreReadFor, ArePartlyReadFor, counts_of}
+use Rattle.vt_machine.specs.Requests.{FileState, AreReadFor, ArePartlyReadFor, counts_of, lost_entries}
 use Rattle.vt_outside.specs.Counts.{RoseTogetherBy}
+use Rattle.vt_outside.specs.declared.answers.NoMemory.{NoMemory}
 use Rattle.vt_machine.specs.Machines.{Setup, MachineState}
-use Rattle.vt_machine.specs.Passes.{MayPrepare, Ran}
+use Rattle.vt_machine.specs.Passes.{MayPrepare, IsJobFor, Ran, Broke, Ends}
 use Rattle.vt_turns.specs.declared.turns.Outlook.{Outlook}
 use Rattle.vt_turns.specs.declared.tallies.Tally.{Tally}
 use Rattle.vt_turns.specs.declared.tour.Tour.{Tour}
@@ -40,10 +41,11 @@ use Rattle.vt_turns.specs.Tallies.{with_pass}
 use Rattle.vt_walk.specs.Tallies.{tally_of}
 use Rattle.vt_walk.specs.Tours.{given_of, tour_scene, IsTour}
 use Rattle.vt_walk.specs.Turns.{MayDraw, HasDrawn}
+use Rattle.vt_walk.specs.Following.{HasRunTurn}
 use Rattle.vt_walk.specs.Written.{IsDrawnBySome}
 use Rattle.vt_walk.specs.Walks.{machine_of}
 use Rattle.vt_walk.proofs.Agreeing.{root_last}
-use Rattle.vt_walk.proofs.Asking.{reads_more}
+use Rattle.vt_walk.proofs.Asking.{count_lost, reads_more}
 use Rattle.vt_walk.proofs.Bounds.{outcome_short, events_short, journal_short, kind_short, reads_short, events_in_chain}
 use Rattle.vt_walk.proofs.Nexts.{journal_grown, comes_next}
 use Rattle.vt_walk.proofs.Running.{run_kept, batch_is_lawful, batch_may_be_run, plan_most}
@@ -119,7 +121,8 @@ wants_for s f g wants same h = record {
   );
 }
 
-ran_by_some : {M : Type 0} (draws : Drawing)
+-- what a machine has drawn, some machine has
+pub ran_by_some : {M : Type 0} (draws : Drawing)
     (drawn : M → PathView → ℕ → ℕ → ℕ → List ℕ → Type 0)
     (machine : M) (job : Job) (report : PassReport) (s t : MachineState) → Ran draws (drawn machine) job report s t
     → Ran draws (IsDrawnBySome drawn) job report s t
@@ -139,16 +142,16 @@ ran_by_some draws drawn machine job report s t ran = record {
   };
 }
 
-read_partly : (s : Shape) (d : ℕ) (batch : List Planned) (losses : List Bool) (old new : List FileState) → AreReadFor s d batch losses old new
-    → ArePartlyReadFor s d batch old new
-read_partly s d batch losses old new read = record {
+-- files that were read for a batch were read for a part of it
+pub read_partly : (s : Shape) (d : ℕ) (batch : List Planned) (losses : List Bool) (old new : List FileState) → length losses ≡ length batch
+    → AreReadFor s d batch losses old new → ArePartlyReadFor s d batch old new
+read_partly s d batch losses old new each read = record {
   same = read.same;
   at_most_once = λ tell at len. let once = (read.once tell).asked at len in omega (arith, once);
-  faults = fewer _ read.faults;
-} where
-  fewer : (n : ℕ) → RoseTogetherBy n (counts_of old) (counts_of new) → RoseTogetherBy 0 (counts_of old) (counts_of new)
-  fewer n (inl more) = inl (omega (arith, more))
-  fewer n (inr end) = inr end
+  lost = lost_entries batch losses;
+  failed = λ tell at len. let once = (read.once tell).failed at len in omega (arith, once);
+  faults = subst (λ n. RoseTogetherBy n (counts_of old) (counts_of new)) (sym (count_lost batch losses each)) read.faults;
+}
 
 -- the counts of a turn have room for a pass with these events
 pub record HasRoom (turn : Turn) (events : List Event) : Type 0 where
@@ -207,29 +210,54 @@ module _ (draws : Drawing)
         reads = omega (arith, may.turn.reads, planned, reads_short w run few is_run, may.turn.number_is, below, h.enough_frames, h.most_frames);
       }
 
-  -- a pass whose outlook was refused was read for
-  pub read_at_most : {M : Type 0} (drawn : M → PathView → ℕ → ℕ → ℕ → List ℕ → Type 0) (machine : M) (run : List WalkPass) (number : ℕ) (turn : Turn)
+  -- the job of a turn is one for its machine
+  pub is_job : (run : List WalkPass) (number : ℕ) (turn : Turn) (m : MachineState) (v : RecencyView) → MayDraw (given_of draws t told) run number turn m v
+      → IsJobFor m.setup (record { scene = tour_scene t; picture = turn.picture; batch = turn.batch.elements })
+  is_job run number turn m v may =
+      let job : Job = record { scene = tour_scene t; picture = turn.picture; batch = turn.batch.elements } in
+      subst (λ (x : Setup). IsJobFor x job) (sym may.at_run.setup)
+      (record { shape = refl; depth = refl; width = refl; height = refl; picture = may.more })
+
+  -- a pass that was run was read for
+  pub read_at_most : (drawn : PathView → ℕ → ℕ → ℕ → List ℕ → Type 0) (run : List WalkPass) (number : ℕ) (turn : Turn)
       (m after : MachineState) (v : RecencyView) (report : PassReport)
       → MayDraw (given_of draws t told) run number turn m v
-      → Ran draws (drawn machine) (record { scene = tour_scene t; picture = turn.picture; batch = turn.batch.elements }) report m after
+      → Ran draws drawn (record { scene = tour_scene t; picture = turn.picture; batch = turn.batch.elements }) report m after
       → ArePartlyReadFor t.geometry.now t.depth turn.batch.elements m.files after.files
-  read_at_most drawn machine run number turn m after v report may ran =
-      read_partly t.geometry.now t.depth turn.batch.elements report.losses.elements m.files after.files
+  read_at_most drawn run number turn m after v report may ran =
+      read_partly t.geometry.now t.depth turn.batch.elements report.losses.elements m.files after.files ran.outcome.told
       (subst (λ (x : Setup). AreReadFor x.shape x.depth turn.batch.elements report.losses.elements m.files after.files) may.at_run.setup ran.read)
 
-  pub has_drawn : {M : Type 0} (drawn : M → PathView → ℕ → ℕ → ℕ → List ℕ → Type 0) (machine : M) (run : List WalkPass) (number start : ℕ) (turn : Turn)
+  -- so was one that was refused memory
+  pub read_broken : (run : List WalkPass) (number : ℕ) (turn : Turn) (m after : MachineState) (v : RecencyView)
+      → MayDraw (given_of draws t told) run number turn m v
+      → Broke (record { scene = tour_scene t; picture = turn.picture; batch = turn.batch.elements }) m after
+      → ArePartlyReadFor t.geometry.now t.depth turn.batch.elements m.files after.files
+  read_broken run number turn m after v may broke =
+      subst (λ (x : Setup). ArePartlyReadFor x.shape x.depth turn.batch.elements m.files after.files) may.at_run.setup broke.read
+
+  -- however its run ended
+  pub read_ended : (drawn : PathView → ℕ → ℕ → ℕ → List ℕ → Type 0) (idle : Type 0) (run : List WalkPass) (number : ℕ) (turn : Turn)
+      (m after : MachineState) (v : RecencyView) (result : Result PassReport NoMemory)
+      → MayDraw (given_of draws t told) run number turn m v
+      → Ends draws drawn idle (record { scene = tour_scene t; picture = turn.picture; batch = turn.batch.elements }) result m after
+      → ArePartlyReadFor t.geometry.now t.depth turn.batch.elements m.files after.files
+  read_ended drawn idle run number turn m after v (Ok report) may ends = read_at_most drawn run number turn m after v report may ends.ran
+  read_ended drawn idle run number turn m after v (Err refusal) may ends = read_broken run number turn m after v may ends.broke
+
+  pub has_drawn : (drawn : PathView → ℕ → ℕ → ℕ → List ℕ → Type 0) (run : List WalkPass) (number start : ℕ) (turn : Turn)
       (m after : MachineState)
       (v v' : RecencyView) (counts : List ℕ) (report : PassReport) (o : Outlook) (d : Drawn)
-      → MayDraw (given_of draws t told) run number turn m v
-      → Ran draws (drawn machine) (record { scene = tour_scene t; picture = turn.picture; batch = turn.batch.elements }) report m after
+      → HasRunTurn drawn (given_of draws t told) run number turn start report m after v
       → counts ≡ after.counts
-      → IsOutlook t.geometry.now (slice_index counts) t.settings.crew.batch v turn.batch.elements report.losses.elements v' o → start ≡ length m.journal
-      → IsReported number turn start report o d → HasDrawn (IsDrawnBySome drawn)
+      → IsOutlook t.geometry.now (slice_index counts) t.settings.crew.batch v turn.batch.elements report.losses.elements v' o
+      → IsReported number turn start report o d → HasDrawn drawn
       (given_of draws t told) run turn m after v' d
-  has_drawn drawn machine run number start turn m after v v' counts report o d may by_one counts_are_its outlook start_is reported =
+  has_drawn drawn run number start turn m after v v' counts report o d made counts_are_its outlook reported =
+      let may = made.may in
+      let ran = made.ran in
       let g = given_of draws t told in
       let job : Job = record { scene = tour_scene t; picture = turn.picture; batch = turn.batch.elements } in
-      let ran = ran_by_some draws drawn machine job report m after by_one in
       let setup : after.setup ≡ machine_of g = ran.setup ∙ may.at_run.setup in
       let pages : pages_of t.geometry.now ≡ pages_of after.setup.shape = ap (λ (x : Setup). pages_of x.shape) (sym setup) in
       let same : (p : ℕ) → p < pages_of t.geometry.now → slice_index counts p ≡ draws.needs (tour_scene t) turn.picture p =
@@ -238,7 +266,7 @@ module _ (draws : Drawing)
       let settles = subst (λ (x : RecencyView). IsSettled x (read_entries turn.batch.elements report.losses.elements) outlook.settled) may.at_run.recency
       outlook.settles in
       let pass : WalkPass = pass_of job report outlook.wants outlook.settled in
-      let next = comes_next draws (IsDrawnBySome drawn) g.setup run job report outlook.wants outlook.settled m after ran refl
+      let next = comes_next draws drawn g.setup run job report outlook.wants outlook.settled m after ran refl
       (ap (λ (x : Setup). x.crew.samplers) (sym may.at_run.setup))
       (ap (λ (x : Setup). x.height) (sym may.at_run.setup)) may.at_run.journal may.turn.turn may.more may.turn.batch wanted settles in
       record {
@@ -249,7 +277,7 @@ module _ (draws : Drawing)
         at_run = record {
           is_run = (may.at_run.is_run, next);
           setup = setup;
-          journal = journal_grown draws (IsDrawnBySome drawn) g.setup run job report outlook.wants outlook.settled m after ran may.at_run.journal;
+          journal = journal_grown draws drawn g.setup run job report outlook.wants outlook.settled m after ran may.at_run.journal;
           recency = outlook.after_is;
         };
         read = subst (λ (x : Setup). AreReadFor x.shape x.depth turn.batch.elements report.losses.elements m.files after.files) may.at_run.setup ran.read;
@@ -257,7 +285,7 @@ module _ (draws : Drawing)
         text = reported.text ∙ (λ i. record {
           pass = may.turn.number_is i;
           picture = turn.picture;
-          start = (start_is ∙ ap length may.at_run.journal) i;
+          start = (made.start_is ∙ ap length may.at_run.journal) i;
           events = report.events.elements;
           rows = report.rows.elements;
         });

@@ -1,7 +1,7 @@
 -- A finished walk and what a refused one leaves stay so where files are closed.
-use Rattle.std.proofs.Common.{◌≡◌, ℕ, ◌-◌, inl, inr, List, [], ◌∷◌, length, Option, Some, None, Result, Ok, Err, refl, sym, ap, ◌∙◌, subst, arith}
-use Rattle.std.specs.Prelude.{MatchResult}
-use Rattle.vt_outside.specs.Files.{IsThere}
+use Rattle.std.proofs.Common.{◌≡◌, ℕ, ◌+◌, ◌-◌, ◌≤◌, ◌⊎◌, inl, inr, take, List, [], ◌∷◌, length, Option, Some, None, Result, Ok, Err, refl, sym, ap, ◌∙◌, subst, arith}
+use Rattle.std.specs.Prelude.{MatchResult, option_map}
+use Rattle.vt_outside.specs.Files.{Files, IsThere, with_bytes, gained}
 use Rattle.vt_outside.specs.Places.{times_failed}
 use Rattle.vt_outside.specs.declared.place.Place.{Place}
 use Rattle.vt_camera.specs.Paths.{PathView}
@@ -11,12 +11,14 @@ use Rattle.vt_tiles.specs.Format.{tile_start, tile_length}
 use Rattle.vt_plan.specs.declared.batches.Planned.{Planned}
 use Rattle.vt_turns.specs.declared.error.WalkError.{WalkError}
 use Rattle.vt_turns.specs.declared.error.WalkError.TheVariants.{TooFewFrames, DoesNotFit, Failed, NoMemory}
+use Rattle.vt_words.specs.Names.{picture_name}
 use Rattle.vt_walk.specs.Runs.{WalkPass, plan_after, planned_in, lost_in}
+use Rattle.vt_walk.specs.Logs.{picture_line}
 use Rattle.vt_walk.specs.Walks.{WalkGiven}
 use Rattle.vt_walk.specs.States.{WalkState}
 use Rattle.vt_walk.specs.Reads.{AreAskedFor, AreAskedAtMostFor, OnTold, lost_reads}
 use Rattle.vt_walk.specs.Standing.{Stands, Finished}
-use Rattle.vt_walk.specs.Leaving.{AsksNothing, LeftAtHead, IsFront, LeftInRun, Left}
+use Rattle.vt_walk.specs.Leaving.{AsksNothing, AsksForNext, AsksAhead, LeftAtHead, IsFront, LeftInRun, Left}
 use Rattle.vt_walk.specs.Causes.{reads_lost, HasFailed, IsCausedBy}
 use Rattle.vt_walk.specs.Turns.{LeftBy}
 use Rattle.vt_walk.proofs.Asks.{told_twice}
@@ -106,6 +108,44 @@ module _ (drawn : PathView → ℕ → ℕ → ℕ → List ℕ → Type 0) (g :
     out_faults = s.out_faults;
   }
 
+  -- what stood before a picture was written, with the places that were asked at the end, unless a pass was under way
+  shifted : (run : List WalkPass) (pictures : List (List ℕ)) (before : WalkState) → Stands drawn g run pictures first before
+      → AsksAhead g run (length pictures) before mid
+      → (at : WalkState) × Stands drawn g run pictures first at × (at.files ≡ before.files) × (at.held ≡ before.held)
+      × AsksAhead g run (length pictures) at last
+  shifted run pictures before s a = pick a.asked where
+    faults : before.faults ≤ last.faults
+    faults = let most = a.faults in let more = alike.faults in omega (arith, most, more)
+
+    out_faults : before.out_faults ≤ last.out_faults
+    out_faults = let most = a.out_faults in let same = alike.out_faults in omega (arith, most, same)
+
+    pick : (mid.asked ≡ before.asked) ⊎ AsksForNext g run (length pictures + 1) before.asked mid.asked
+        → (at : WalkState) × Stands drawn g run pictures first at × (at.files ≡ before.files) × (at.held ≡ before.held)
+        × AsksAhead g run (length pictures) at last
+    pick (inl same) = (
+      middle before,
+      middle_alike run pictures before (record { asked = same; faults = a.faults; out_faults = a.out_faults }) s,
+      refl,
+      refl,
+      record { asked = inl refl; faults = faults; out_faults = out_faults },
+    )
+    pick (inr next) = (
+      before,
+      s,
+      refl,
+      refl,
+      record {
+        asked = inr (record {
+          turn = next.turn;
+          of_path = next.of_path;
+          asked = still_at_most g.scene.shape g.scene.depth 0 (plan_after g.setup run) before.asked mid.asked last.asked next.asked alike.asked;
+        });
+        faults = faults;
+        out_faults = out_faults;
+      },
+    )
+
   front_alike : (run : List WalkPass) (pictures : List (List ℕ)) (before : WalkState) → Stands drawn g run pictures first before
       → IsFront drawn g run (length pictures) before mid → LeftInRun drawn g first last
   front_alike run pictures before s (inl (written, none)) = record {
@@ -146,35 +186,41 @@ module _ (drawn : PathView → ℕ → ℕ → ℕ → List ℕ → Type 0) (g :
       out_faults = let most = l.out_faults in let same = alike.out_faults in omega (arith, most, same);
     })));
   }
-  front_alike run pictures before s (inr (inr (inr (inl l)))) = record {
-    run = run;
-    pictures = pictures;
-    mid = middle before;
-    stands = middle_alike run pictures before l.none s;
-    front = inr (inr (inr (inl (record {
-      finished = l.finished;
-      bytes = l.bytes;
-      written = l.written;
-      files = elim l.files [ inl none ↦ inl (alike.files ∙ none) | inr (k, part) ↦ inr (k, alike.files ∙ part) ];
-      held = alike.held ∙ l.held;
-      none = none_alike before l.none;
-    }))));
-  }
-  front_alike run pictures before s (inr (inr (inr (inr (inl l))))) = record {
-    run = run;
-    pictures = pictures;
-    mid = middle before;
-    stands = middle_alike run pictures before l.none s;
-    front = inr (inr (inr (inr (inl (record {
-      finished = l.finished;
-      bytes = l.bytes;
-      written = l.written;
-      files = alike.files ∙ l.files;
-      count = l.count;
-      held = alike.held ∙ l.held;
-      none = none_alike before l.none;
-    })))));
-  }
+  front_alike run pictures before s (inr (inr (inr (inl l)))) =
+      let m = shifted run pictures before s l.ahead in
+      record {
+        run = run;
+        pictures = pictures;
+        mid = m.0;
+        stands = m.1;
+        front = inr (inr (inr (inl (record {
+          finished = l.finished;
+          bytes = l.bytes;
+          written = l.written;
+          files = subst (λ (told : Option Files). (last.files ≡ told) ⊎ ((k : ℕ)
+              × (last.files ≡ option_map (with_bytes (picture_name g.names.prefix (length pictures)) (take k l.bytes)) told)))
+              (sym m.2) (elim l.files [ inl none ↦ inl (alike.files ∙ none) | inr (k, part) ↦ inr (k, alike.files ∙ part) ]);
+          held = alike.held ∙ l.held ∙ sym m.3;
+          ahead = m.4;
+        }))));
+      }
+  front_alike run pictures before s (inr (inr (inr (inr (inl l))))) =
+      let m = shifted run pictures before s l.ahead in
+      record {
+        run = run;
+        pictures = pictures;
+        mid = m.0;
+        stands = m.1;
+        front = inr (inr (inr (inr (inl (record {
+          finished = l.finished;
+          bytes = l.bytes;
+          written = l.written;
+          files = alike.files ∙ l.files ∙ ap (option_map (with_bytes (picture_name g.names.prefix (length pictures)) l.bytes)) (sym m.2);
+          count = l.count;
+          held = alike.held ∙ l.held ∙ ap (option_map (gained (take l.count (picture_line run (length pictures))))) (sym m.3);
+          ahead = m.4;
+        })))));
+      }
   front_alike run pictures before s (inr (inr (inr (inr (inr l))))) = record {
     run = run;
     pictures = pictures;

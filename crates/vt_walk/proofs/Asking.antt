@@ -13,7 +13,7 @@ use Rattle.vt_walk.specs.Logs.{reads_of}
 pub count_both : {X : Type 0} (t : X → Bool) (xs ys : List X) → count_by t (xs ++ ys) ≡ count_by t xs + count_by t ys
 count_both t xs ys = sum_by-append (λ x. cond (t x) 1 0) xs ys
 
-planned_both : (s : Shape) (d at len : ℕ) (xs ys : List Planned)
+pub planned_both : (s : Shape) (d at len : ℕ) (xs ys : List Planned)
     → times_planned s d (xs ++ ys) at len ≡ times_planned s d xs at len + times_planned s d ys at len
 planned_both s d at len xs ys = count_both (λ (e : Planned). is_tile_at s d at len e.page) xs ys
 
@@ -32,7 +32,7 @@ kept_lost (e ∷ batch) [] same = absurd (omega (arith, same))
 kept_lost (e ∷ batch) (true ∷ losses) same = ap suc (kept_lost batch losses (omega (arith, same)))
 kept_lost (e ∷ batch) (false ∷ losses) same = kept_lost batch losses (omega (arith, same))
 
-count_lost : (batch : List Planned) (losses : List Bool) → length losses ≡ length batch → length (lost_entries batch losses) ≡ lost_count losses
+pub count_lost : (batch : List Planned) (losses : List Bool) → length losses ≡ length batch → length (lost_entries batch losses) ≡ lost_count losses
 count_lost batch losses same = kept_lost batch losses same ∙ length-filter (λ l. l) losses
 
 pub losses_more : (w : WalkSetup) (p : WalkPass) (passes : List WalkPass) → IsRun w (p ∷ passes)

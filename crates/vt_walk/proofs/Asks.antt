@@ -17,6 +17,7 @@ use Rattle.vt_machine.specs.Requests.{FileState, AllTell, AreReadFor, ArePartlyR
 use Rattle.vt_walk.specs.Reads.{AreAskedFor, AreAskedAtMostFor, OnTold}
 use Rattle.vt_walk.specs.States.{places_of}
 use Rattle.vt_walk.proofs.Asking.{count_both}
+use Rattle.vt_walk.proofs.LostReads.{FailsAtMostFor}
 
 -- two steps are one
 pub told_twice : (P Q R : List Place → List Place → Type 0) (a b c : Option (List Place)) → ((x y z : List Place) → P x y → Q y z → R x z)
@@ -116,6 +117,22 @@ pass_asks_most s d batch store kept old new (Some places) tell read =
       times_with at len (places store) (kept ∷ new),
       asked_of at len kept old,
       asked_of at len kept new,
+      most at len,
+    )
+
+-- no more reads of a pass failed than those of some entries
+pub pass_fails_most : (s : Shape) (d : ℕ) (batch : List Planned) (store : List ℕ) (kept : FileState) (old new : List FileState) (asked : Option Asked)
+    → (IsSome (with_open store (kept ∷ old) asked) → AllTell old) → (read : ArePartlyReadFor s d batch old new)
+    → OnTold (FailsAtMostFor s d read.lost) (with_open store (kept ∷ old) asked) (with_open store (kept ∷ new) asked)
+pass_fails_most s d batch store kept old new None tell read = tt
+pass_fails_most s d batch store kept old new (Some places) tell read =
+    let most = read.failed (tell refl) in
+    λ at len. omega (
+      arith,
+      failed_with at len (places store) (kept ∷ old),
+      failed_with at len (places store) (kept ∷ new),
+      failed_of at len kept old,
+      failed_of at len kept new,
       most at len,
     )
 

@@ -1,12 +1,12 @@
 -- The turn after a pass.
-use Rattle.std.proofs.Common.{◌≡◌, ℕ, ◌+◌, ◌<◌, ◌≤◌, ◌≢◌, ◌⊎◌, inl, inr, Bool, List, [], ◌∷◌, length, Option, refl, sym, ap, ◌∙◌, subst, take, arith}
+use Rattle.std.proofs.Common.{◌≡◌, ℕ, ◌+◌, ◌-◌, ◌<◌, ◌≤◌, ◌≢◌, ◌⊎◌, inl, inr, Bool, List, [], ◌∷◌, length, Option, refl, sym, ap, ◌∙◌, subst, take, arith}
 use Rattle.std.specs.Prelude.{option_map, IsSome, IsTrue, ◌↔◌, All, slice_index_or, if◌then◌else◌}
 use Rattle.std.specs.List.{concat}
 use Rattle.vt_outside.specs.Counts.{Rose}
 use Rattle.vt_outside.specs.Files.{Files, Asked, with_bytes, gained}
 use Rattle.vt_outside.specs.declared.answers.OutsideError.{OutsideError}
 use Rattle.vt_outside.specs.declared.answers.OutsideError.TheVariants.{Failed, NoMemory}
-use Rattle.vt_pages.specs.Pages.{IsWithinLimits}
+use Rattle.vt_pages.specs.Pages.{IsWithinLimits, pinned_of}
 use Rattle.vt_ppm.specs.Picture.{picture_bytes}
 use Rattle.vt_words.specs.Names.{picture_name}
 use Rattle.vt_camera.specs.Paths.{PathView}
@@ -17,7 +17,7 @@ use Rattle.vt_evict.specs.Views.{RecencyView, pages_needed}
 use Rattle.vt_shown.specs.Scenes.{Scene}
 use Rattle.vt_machine.specs.Drawings.{Drawing}
 use Rattle.vt_machine.specs.Outcomes.{lost_count}
-use Rattle.vt_machine.specs.Requests.{FileState, AllTell}
+use Rattle.vt_machine.specs.Requests.{FileState, AllTell, ArePartlyReadFor, counts_of}
 use Rattle.vt_machine.specs.Machines.{Setup, MachineState}
 use Rattle.vt_shown.specs.Replays.{IsFull}
 use Rattle.vt_machine.specs.Passes.{MapsNeeded}
@@ -34,20 +34,22 @@ use Rattle.vt_walk.specs.Runs.{WalkPass, IsWalkSetup, IsRun, Finishes, GoesOn, p
 use Rattle.vt_walk.specs.Logs.{passes_of, picture_line, wanted_in}
 use Rattle.vt_walk.specs.Walks.{WalkGiven, WalkNames, given_by, names_of}
 use Rattle.vt_walk.specs.States.{WalkState}
-use Rattle.vt_walk.specs.Reads.{AreAskedFor, OnTold}
+use Rattle.vt_walk.specs.Reads.{AreAskedFor, AreAskedAtMostFor, OnTold}
 use Rattle.vt_walk.specs.Written.{IsWritten}
-use Rattle.vt_walk.specs.Leaving.{Left, AsksNothing}
+use Rattle.vt_walk.specs.Leaving.{Left, AsksAhead}
 use Rattle.vt_walk.specs.Causes.{HasBroken, IsCausedBy}
 use Rattle.vt_turns.specs.Tallies.{no_passes}
+use Rattle.vt_turns.specs.Reported.{next_turn}
 use Rattle.vt_walk.specs.Tallies.{tally_of, numbers_line}
-use Rattle.vt_turns.specs.Judging.{IsEnd, IsStoppedBy}
+use Rattle.vt_turns.specs.Judging.{IsEnd, IsStoppedBy, MayGoOn}
 use Rattle.vt_walk.specs.Tours.{IsTour, given_of, tour_scene}
 use Rattle.vt_turns.specs.declared.tour.Tour.{Tour}
-use Rattle.vt_walk.specs.Turns.{StandsAt, StandsAfter, LeftBy}
+use Rattle.vt_walk.specs.Turns.{IsTurn, MayDraw, StandsAt, StandsAfter, LeftBy}
 use Rattle.vt_walk.proofs.Asking.{losses_more}
-use Rattle.vt_walk.proofs.Asks.{with_open}
+use Rattle.vt_walk.proofs.Asks.{with_open, pass_asks_most, pass_fails_most, faults_rise}
 use Rattle.vt_walk.proofs.Drawing.{picture_written}
-use Rattle.vt_walk.proofs.Failing.{has_broken}
+use Rattle.vt_walk.proofs.Failing.{has_broken, broken_ahead, faults_rise_more}
+use Rattle.vt_walk.proofs.LostReads.{FailsAtMostFor}
 use Rattle.vt_walk.proofs.Passing.{state_of}
 use Rattle.vt_walk.proofs.Running.{run_kept}
 use Rattle.vt_walk.proofs.Showing.{other_number, self_number}
@@ -152,6 +154,33 @@ module _ (draws : Drawing)
         tell = s.tell;
       }
 
+  finished : (was : WalkState) (s : StandsAfter drawn given number p first was m v) → IsEnd mode p.loads_nothing p.outlook.plan.elements
+      → Finishes mode s.pass.batch (plan_after given.setup (s.pass ∷ s.run))
+  finished was s end =
+      (end_of mode s.pass p.loads_nothing p.outlook.plan.elements (plan_after given.setup (s.pass ∷ s.run)) s.passed.loads_nothing s.passed.plan).0 end
+
+  -- it is the turn of the next picture's first pass
+  turn_is : (was : WalkState) (s : StandsAfter drawn given number p first was m v) → (mode ≡ Settled → p.lost ≡ 0)
+      → (mode ≡ Settled → p.outlook.needed ≤ room_of given.setup) → IsEnd mode p.loads_nothing p.outlook.plan.elements
+      → (t : Tally) → t ≡ no_passes
+      → IsTurn given (s.pass ∷ s.run) (number + 1) (record { picture = p.picture + 1; batch = p.outlook.plan; tally = t; reads = p.reads })
+  turn_is was s none fits end t empty = record {
+    inside = let i = s.passed.inside in let e = s.passed.picture in omega (arith, i, e);
+    turn = (goes was s none fits, inl (finished was s end, ap (λ k. k + 1) s.passed.picture));
+    batch = s.passed.plan;
+    tally = empty ∙ ap tally_of (sym (none_after given.setup s.pass s.run (p.picture + 1) s.at_run.is_run
+        (let e = s.passed.picture in omega (arith, e))));
+    reads = s.passed.reads;
+    number_is = let n = s.number_is in omega (arith, n);
+  }
+
+  -- a machine may draw the next picture's first pass
+  pub next_may : (was : WalkState) (s : StandsAfter drawn given number p first was m v) → (mode ≡ Settled → p.lost ≡ 0)
+      → (mode ≡ Settled → p.outlook.needed ≤ room_of given.setup) → IsEnd mode p.loads_nothing p.outlook.plan.elements
+      → p.picture + 1 < length scene.path.cameras → MayDraw given (s.pass ∷ s.run) (number + 1) (next_turn p) m v
+  next_may was s none fits end more =
+      record { given = s.given; at_run = s.at_run; turn = turn_is was s none fits end no_passes refl; more = more }
+
   -- the walk stops after the pass, of which all stands
   stops : (was : WalkState) → StandsAfter drawn given number p first was m v → Left drawn given first was
   stops was s = inr (record {
@@ -161,6 +190,11 @@ module _ (draws : Drawing)
     stands = s.stands;
     front = inl (record { files = refl; held = refl }, record { asked = refl; faults = omega arith; out_faults = omega arith });
   })
+
+  -- memory was refused after the pass
+  pub stays : (was : WalkState) → StandsAfter drawn given number p first was m v → (e : WalkError) → e ≡ walk_error.NoMemory
+      → LeftBy drawn given first was e
+  stays was s e is = (stops was s, subst (IsCausedBy drawn given first was) (sym is) tt)
 
   -- a tile of a settled walk was lost
   pub tile_lost : (was : WalkState) → StandsAfter drawn given number p first was m v → mode ≡ Settled → 1 ≤ p.lost
@@ -215,8 +249,7 @@ module _ (draws : Drawing)
       → IsWritten drawn given (s.pass ∷ s.run) s.pass.picture bytes
   is_written was s none fits end =
       picture_written draws drawn law scene settings mode told names s.run s.pass m s.given s.at_run.is_run s.has_run
-      s.at_run.journal (goes was s none fits)
-      ((end_of mode s.pass p.loads_nothing p.outlook.plan.elements (plan_after given.setup (s.pass ∷ s.run)) s.passed.loads_nothing s.passed.plan).0 end)
+      s.at_run.journal (goes was s none fits) (finished was s end)
 
   module _ (store : List ℕ) (kept : FileState) (files files' : Option Files) (asked asked' : Option Asked) (faults faults' : ℕ) (held held' : Option (List ℕ))
       (out_faults out_faults' : ℕ) where
@@ -235,14 +268,12 @@ module _ (draws : Drawing)
         → StandsAt drawn given (number + 1) (record { picture = p.picture + 1; batch = p.outlook.plan; tally = t; reads = p.reads }) first now m v
     next_picture s none fits end written line same risen out_risen t empty =
         let picture : p.picture ≡ length s.pictures = s.passed.picture ∙ s.count in
-        let finish = (end_of mode s.pass p.loads_nothing p.outlook.plan.elements (plan_after given.setup (s.pass ∷ s.run)) s.passed.loads_nothing
-        s.passed.plan).0 end in
         record {
           run = s.pass ∷ s.run;
           pictures = bytes ∷ s.pictures;
           count = omega (arith, picture);
           given = s.given;
-          stands = picture_told drawn given s.pass s.run s.pictures bytes first was now s.stands finish s.count
+          stands = picture_told drawn given s.pass s.run s.pictures bytes first was now s.stands (finished was s end) s.count
               (subst (λ k. IsWritten drawn given (s.pass ∷ s.run) k bytes) s.count (is_written was s none fits end))
               (written ∙ ap (λ k. option_map (with_bytes (picture_name names.prefix k) bytes) files) picture)
               (line ∙ ap (λ (l : List ℕ). option_map (gained l) held)
@@ -250,80 +281,106 @@ module _ (draws : Drawing)
               ∙ ap (picture_line (s.pass ∷ s.run)) s.count))
               (ap (with_open store (kept ∷ m.files)) same) (omega (arith, risen)) out_risen;
           at_run = s.at_run;
-          turn = record {
-            inside = let i = s.passed.inside in let e = s.passed.picture in omega (arith, i, e);
-            turn = (goes was s none fits, inl (finish, ap (λ k. k + 1) s.passed.picture));
-            batch = s.passed.plan;
-            tally = empty ∙ ap tally_of (sym (none_after given.setup s.pass s.run (p.picture + 1) s.at_run.is_run
-                (let e = s.passed.picture in omega (arith, e))));
-            reads = s.passed.reads;
-            number_is = let n = s.number_is in omega (arith, n);
-          };
+          turn = turn_is was s none fits end t empty;
           tell = subst (λ (a : Option Asked). IsSome (with_open store (kept ∷ m.files) a) → AllTell m.files) (sym same) s.tell;
         }
 
+    -- what stands then, with the files that are open
+    abbrev later : List FileState → WalkState
+    later opened = state_of files' asked' faults' store (kept ∷ opened) held' out_faults'
+
+    -- the files are as they were, or the next picture's first pass was under way
+    abbrev pub AreAhead : List FileState → Type 0
+    AreAhead opened = (opened ≡ m.files)
+        ⊎ ((p.picture + 1 < length scene.path.cameras) × ArePartlyReadFor scene.shape scene.depth p.outlook.plan.elements m.files opened)
+
     -- the folder failed after a pass
-    fails : (s : StandsAfter drawn given number p first was m v) → asked' ≡ asked → Rose faults faults' → HasBroken given first now
-    fails s same rose =
-        has_broken given (planned_in (s.pass ∷ s.run)) (lost_in (s.pass ∷ s.run)) first now s.given
+    fails : (s : StandsAfter drawn given number p first was m v) → asked' ≡ asked → Rose faults faults' → (opened : List FileState) → AreAhead opened
+        → HasBroken given first (later opened)
+    fails s same rose opened (inl none) =
+        subst (λ (files : List FileState). HasBroken given first (later files)) (sym none)
+        (has_broken given (planned_in (s.pass ∷ s.run)) (lost_in (s.pass ∷ s.run)) first now s.given
         (subst (λ (a : Option Asked). OnTold (AreAskedFor scene.shape scene.depth given.setup.pinned (planned_in (s.pass ∷ s.run))
         (lost_in (s.pass ∷ s.run))) first.asked (with_open store (kept ∷ m.files) a))
-        (sym same) s.stands.asked) (let f = s.stands.faults in omega (arith, f, rose))
+        (sym same) s.stands.asked) (let f = s.stands.faults in omega (arith, f, rose)))
+    fails s same rose opened (inr (more, read)) =
+        broken_ahead given (planned_in (s.pass ∷ s.run)) (lost_in (s.pass ∷ s.run)) read.lost first was (later opened) s.given s.stands.asked
+        (subst (λ (a : Option Asked). OnTold (FailsAtMostFor scene.shape scene.depth read.lost) was.asked (with_open store (kept ∷ opened) a))
+        (sym same) (pass_fails_most scene.shape scene.depth p.outlook.plan.elements store kept m.files opened asked s.tell read))
+        (let f = s.stands.faults in
+        omega (arith, f, faults_rise_more (length read.lost) faults faults' kept.faults (counts_of m.files) (counts_of opened) read.faults rose))
 
-    asks_nothing : asked' ≡ asked → faults ≤ faults' → out_faults ≤ out_faults' → AsksNothing was now
-    asks_nothing same risen out_risen = record { asked = ap (with_open store (kept ∷ m.files)) same; faults = omega (arith, risen); out_faults = out_risen }
+    -- nothing was asked but by the next picture's first pass
+    asks_ahead : (s : StandsAfter drawn given number p first was m v) → (mode ≡ Settled → p.lost ≡ 0)
+        → (mode ≡ Settled → p.outlook.needed ≤ room_of given.setup) → IsEnd mode p.loads_nothing p.outlook.plan.elements
+        → asked' ≡ asked → faults ≤ faults' → out_faults ≤ out_faults' → (opened : List FileState) → AreAhead opened
+        → AsksAhead given (s.pass ∷ s.run) (length s.pictures) was (later opened)
+    asks_ahead s none fits end same risen out_risen opened (inl unread) =
+        subst (λ (files : List FileState). AsksAhead given (s.pass ∷ s.run) (length s.pictures) was (later files)) (sym unread)
+        (record { asked = inl (ap (with_open store (kept ∷ m.files)) same); faults = omega (arith, risen); out_faults = out_risen })
+    asks_ahead s none fits end same risen out_risen opened (inr (more, read)) =
+        let picture : p.picture ≡ length s.pictures = s.passed.picture ∙ s.count in
+        let rise = faults_rise (length read.lost) faults kept.faults (counts_of m.files) (counts_of opened) read.faults in
+        record {
+          asked = inr (record {
+            turn = (goes was s none fits, inl (finished was s end, ap (λ k. k + 1) (sym s.count)));
+            of_path = omega (arith, more, picture);
+            asked = subst (λ (a : Option Asked). OnTold (AreAskedAtMostFor scene.shape scene.depth 0 (plan_after given.setup (s.pass ∷ s.run))) was.asked
+                (with_open store (kept ∷ opened) a)) (sym same)
+                (subst (λ (batch : List Planned). OnTold (AreAskedAtMostFor scene.shape scene.depth 0 batch) was.asked (with_open store (kept ∷ opened) asked))
+                s.passed.plan (pass_asks_most scene.shape scene.depth p.outlook.plan.elements store kept m.files opened asked s.tell read));
+          });
+          faults = omega (arith, rise, risen);
+          out_faults = out_risen;
+        }
 
     -- of the picture a front part stands
-    pub picture_broke : (error : OutsideError) (e : WalkError) (s : StandsAfter drawn given number p first was m v)
+    pub picture_broke : (opened : List FileState) → AreAhead opened → (error : OutsideError) (e : WalkError) (s : StandsAfter drawn given number p first was m v)
         → (mode ≡ Settled → p.lost ≡ 0)
         → (mode ≡ Settled → p.outlook.needed ≤ room_of given.setup) → IsEnd mode p.loads_nothing p.outlook.plan.elements
         → (files' ≡ files) ⊎ ((k : ℕ) × (files' ≡ option_map (with_bytes (picture_name names.prefix p.picture) (take k bytes)) files))
         → held' ≡ held → asked' ≡ asked → faults ≤ faults' → out_faults ≤ out_faults' → (error ≡ Failed → Rose faults faults') → e ≡ refusal_by error
-        → LeftBy drawn given first now e
-    picture_broke error e s none fits end part line same risen out_risen failed is =
-        let picture : p.picture ≡ length s.pictures = s.passed.picture ∙ s.count in
-        let finish = (end_of mode s.pass p.loads_nothing p.outlook.plan.elements (plan_after given.setup (s.pass ∷ s.run)) s.passed.loads_nothing
-        s.passed.plan).0 end in (
+        → LeftBy drawn given first (later opened) e
+    picture_broke opened ahead error e s none fits end part line same risen out_risen failed is =
+        let picture : p.picture ≡ length s.pictures = s.passed.picture ∙ s.count in (
           inr (record {
             run = s.pass ∷ s.run;
             pictures = s.pictures;
             mid = was;
             stands = s.stands;
             front = inr (inr (inr (inl (record {
-              finished = (finish, s.count);
+              finished = (finished was s end, s.count);
               bytes = bytes;
               written = subst (λ k. IsWritten drawn given (s.pass ∷ s.run) k bytes) s.count (is_written was s none fits end);
               files = subst (λ n. (files' ≡ files) ⊎ ((k : ℕ)
                   × (files' ≡ option_map (with_bytes (picture_name names.prefix n) (take k bytes)) files))) picture part;
               held = line;
-              none = asks_nothing same risen out_risen;
+              ahead = asks_ahead s none fits end same risen out_risen opened ahead;
             }))));
           }),
-          subst (IsCausedBy drawn given first now) (sym is) (cause error failed),
+          subst (IsCausedBy drawn given first (later opened)) (sym is) (cause error failed),
         ) where
-          cause : (error : OutsideError) → (error ≡ Failed → Rose faults faults') → IsCausedBy drawn given first now (refusal_by error)
+          cause : (error : OutsideError) → (error ≡ Failed → Rose faults faults') → IsCausedBy drawn given first (later opened) (refusal_by error)
           cause NoMemory failed = tt
-          cause Failed failed = inl (fails s same (failed refl))
+          cause Failed failed = inl (fails s same (failed refl) opened ahead)
 
     -- of the line a front part stands
-    pub line_broke : (error : OutsideError) (e : WalkError) (s : StandsAfter drawn given number p first was m v)
+    pub line_broke : (opened : List FileState) → AreAhead opened → (error : OutsideError) (e : WalkError) (s : StandsAfter drawn given number p first was m v)
         → (mode ≡ Settled → p.lost ≡ 0)
         → (mode ≡ Settled → p.outlook.needed ≤ room_of given.setup) → IsEnd mode p.loads_nothing p.outlook.plan.elements
         → files' ≡ option_map (with_bytes (picture_name names.prefix p.picture) bytes) files
         → (k : ℕ) × (held' ≡ option_map (gained (take k (numbers_line p.picture p.outlook.wanted p.tally))) held)
         → asked' ≡ asked → faults ≤ faults' → out_faults ≤ out_faults' → (error ≡ Failed → Rose out_faults out_faults') → e ≡ refusal_by error
-        → LeftBy drawn given first now e
-    line_broke error e s none fits end written part same risen out_risen failed is =
-        let picture : p.picture ≡ length s.pictures = s.passed.picture ∙ s.count in
-        let finish = (end_of mode s.pass p.loads_nothing p.outlook.plan.elements (plan_after given.setup (s.pass ∷ s.run)) s.passed.loads_nothing
-        s.passed.plan).0 end in (
+        → LeftBy drawn given first (later opened) e
+    line_broke opened ahead error e s none fits end written part same risen out_risen failed is =
+        let picture : p.picture ≡ length s.pictures = s.passed.picture ∙ s.count in (
           inr (record {
             run = s.pass ∷ s.run;
             pictures = s.pictures;
             mid = was;
             stands = s.stands;
             front = inr (inr (inr (inr (inl (record {
-              finished = (finish, s.count);
+              finished = (finished was s end, s.count);
               bytes = bytes;
               written = subst (λ k. IsWritten drawn given (s.pass ∷ s.run) k bytes) s.count (is_written was s none fits end);
               files = written ∙ ap (λ k. option_map (with_bytes (picture_name names.prefix k) bytes) files) picture;
@@ -331,14 +388,18 @@ module _ (draws : Drawing)
               held = part.1 ∙ ap (λ (l : List ℕ). option_map (gained (take part.0 l)) held)
                   (line_is s.pass s.run p.picture p.outlook.wanted p.tally s.passed.picture s.passed.wanted s.passed.tally
                   ∙ ap (picture_line (s.pass ∷ s.run)) s.count);
-              none = asks_nothing same risen out_risen;
+              ahead = asks_ahead s none fits end same risen out_risen opened ahead;
             })))));
           }),
-          subst (IsCausedBy drawn given first now) (sym is) (cause error failed),
+          subst (IsCausedBy drawn given first (later opened)) (sym is) (cause error failed),
         ) where
-          cause : (error : OutsideError) → (error ≡ Failed → Rose out_faults out_faults') → IsCausedBy drawn given first now (refusal_by error)
+          cause : (error : OutsideError) → (error ≡ Failed → Rose out_faults out_faults') → IsCausedBy drawn given first (later opened) (refusal_by error)
           cause NoMemory failed = tt
           cause Failed failed = inl (inl (let r = failed refl in let o = s.stands.out_faults in omega (arith, r, o)))
+
+-- a settled picture has room
+pub room_left : (t : Tour) (p : Passed) → IsTour t → MayGoOn t p → t.mode ≡ Settled → p.outlook.needed ≤ t.settings.frames - pinned_of t.geometry.now t.settings.pinned
+room_left t p h goes_on settled = let fits = goes_on.fits settled in let pages = h.pages in omega (arith, fits, pages)
 
 -- the walk stops after a pass, for its cause
 pub stopped : (draws : Drawing)

@@ -23,6 +23,8 @@ pub mod Placed
 pub mod Passing
 pub mod Ending
 pub mod Rounds
+pub mod Aheads
+pub mod Besides
 pub mod Beginning
 pub mod Closings
 pub mod Alike

@@ -14,7 +14,7 @@ use Rattle.vt_pages.specs.Pages.{IsWithinLimits, pages_of}
 use Rattle.vt_tiles.specs.Format.{tile_area, tile_length, tile_start}
 use Rattle.vt_plan.specs.declared.batches.Planned.{Planned}
 use Rattle.vt_machine.specs.Requests.{is_tile_at, times_planned}
-use Rattle.vt_walk.specs.Reads.{AreAskedFor, lost_reads}
+use Rattle.vt_walk.specs.Reads.{lost_reads}
 
 -- a tile has bytes
 pub some_byte : (s : Shape) (d : ℕ) → IsWithinLimits s → IsDepth d → 1 ≤ tile_length s d
@@ -86,13 +86,17 @@ planned_most s d (e ∷ lost) n some =
       planned_most s d lost n some,
     )
 
-pub lost_reads_most : (s : Shape) (d pinned : ℕ) (planned lost : List Planned) (old new : List Place) → IsWithinLimits s → IsDepth d
-    → AreAskedFor s d pinned planned lost old new → lost_reads s d pinned new ≤ lost_reads s d pinned old + length lost
-lost_reads_most s d pinned planned lost old new limits depth asked =
+-- a read failed at most as often more as it is that of one of these entries
+abbrev pub FailsAtMostFor : Shape → ℕ → List Planned → List Place → List Place → Type 0
+FailsAtMostFor s d lost before after = (at len : ℕ) → times_failed at len after ≤ times_failed at len before + times_planned s d lost at len
+
+pub lost_reads_most : (s : Shape) (d pinned : ℕ) (lost : List Planned) (old new : List Place) → IsWithinLimits s → IsDepth d
+    → FailsAtMostFor s d lost old new → lost_reads s d pinned new ≤ lost_reads s d pinned old + length lost
+lost_reads_most s d pinned lost old new limits depth fails =
     omega (
       arith,
       sums (λ p. times_failed (tile_start s d p) (tile_length s d) new) (λ p. times_failed (tile_start s d p) (tile_length s d) old)
           (λ p. times_planned s d lost (tile_start s d p) (tile_length s d)) (range_with_len 0 (pages_of s - pinned))
-          (λ p. omega (arith, asked.failed (tile_start s d p) (tile_length s d))),
+          (λ p. fails (tile_start s d p) (tile_length s d)),
       planned_most s d lost (pages_of s - pinned) (some_byte s d limits depth),
     )

@@ -1,5 +1,5 @@
 -- A pass that was made, or was under way.
-use Rattle.std.proofs.Common.{◌≡◌, ℕ, zero, suc, ◌+◌, ◌<◌, ◌≤◌, ◌⊎◌, inl, inr, List, [], ◌∷◌, map, sum, Option, Some, None, refl, sym, ap, ◌∙◌, subst, take, arith}
+use Rattle.std.proofs.Common.{◌≡◌, ℕ, zero, suc, ◌+◌, ◌<◌, ◌≤◌, ◌⊎◌, inl, inr, List, [], ◌∷◌, length, map, sum, Option, Some, None, refl, sym, ap, ◌∙◌, subst, take, arith}
 use Rattle.std.specs.Prelude.{option_map, IsSome, is_some}
 use Rattle.vt_outside.specs.Counts.{added, Rose, RoseBy}
 use Rattle.vt_outside.specs.Files.{Files, Asked, with_appended, IsThere}
@@ -116,7 +116,7 @@ module _ (drawn : PathView → ℕ → ℕ → ℕ → List ℕ → Type 0)
       → ArePartlyReadFor g.scene.shape g.scene.depth t.batch.elements m.files n.files
       → (e : WalkError) → e ≡ walk_error.NoMemory → LeftBy drawn g first (now files faults) e
   pass_broke s more read e is =
-      let fault = faults_rise 0 faults kept.faults (counts_of m.files) (counts_of n.files) read.faults in
+      let fault = faults_rise (length read.lost) faults kept.faults (counts_of m.files) (counts_of n.files) read.faults in
       let asks : OnTold (AreAskedAtMostFor g.scene.shape g.scene.depth 0 (plan_after g.setup s.run)) (with_open store (kept ∷ m.files) asked)
       (with_open store (kept ∷ n.files) asked) =
       subst (λ (batch : List Planned). OnTold (AreAskedAtMostFor g.scene.shape g.scene.depth 0 batch) (with_open store (kept ∷ m.files) asked)

@@ -1,5 +1,5 @@
 -- The first turn, the last one, and the end of a walk.
-use Rattle.std.proofs.Common.{◌≡◌, ℕ, ◌+◌, ◌-◌, ◌<◌, ◌≤◌, ◌⊎◌, inl, inr, List, [], ◌∷◌, ◌++◌, length, Option, refl, sym, ap, ◌∙◌, subst, take, arith}
+use Rattle.std.proofs.Common.{◌≡◌, ℕ, ◌+◌, ◌<◌, ◌≤◌, ◌⊎◌, inl, inr, List, [], ◌∷◌, ◌++◌, length, Option, refl, sym, ap, ◌∙◌, subst, take, arith}
 use Rattle.std.specs.Prelude.{option_map}
 use Rattle.std.proofs.lemmas.Bool.{cases_lt}
 use Rattle.vt_outside.specs.Counts.{Rose}
@@ -10,10 +10,7 @@ use Rattle.vt_camera.specs.Paths.{PathView}
 use Rattle.vt_evict.specs.Views.{RecencyView}
 use Rattle.vt_machine.specs.Machines.{MachineState}
 use Rattle.vt_turns.specs.declared.error.WalkError.{WalkError}
-use Rattle.vt_turns.specs.declared.error.WalkError.TheVariants as walk_error
 use Rattle.vt_turns.specs.declared.turns.Turn.{Turn}
-use Rattle.vt_walk.specs.declared.turns.Walked.{Walked}
-use Rattle.vt_walk.specs.Counts.{HasCounts}
 use Rattle.vt_turns.specs.Refusals.{refusal_by}
 use Rattle.vt_turns.specs.declared.mode.Mode.{Mode}
 use Rattle.vt_turns.specs.declared.mode.Mode.TheVariants.{Settled}
@@ -31,7 +28,7 @@ use Rattle.vt_walk.proofs.Turning.{earlier_fit}
 use Rattle.vt_walk.proofs.Telling.{run_is_legal, run_is_pinned}
 
 -- nothing more is to follow
-is_whole : (w : WalkSetup) (run : List WalkPass) (picture : ℕ) → IsRun w run → IsTurnOf w run picture → picture ≡ w.pictures → IsWhole w run
+pub is_whole : (w : WalkSetup) (run : List WalkPass) (picture : ℕ) → IsRun w run → IsTurnOf w run picture → picture ≡ w.pictures → IsWhole w run
 is_whole w [] picture is_run turn all = sym all ∙ turn
 is_whole w (p ∷ run) picture is_run turn all = (turn.0, (either turn.1).0, (either turn.1).1) where
   either : {F : Type 0} → (F × (picture ≡ p.picture + 1)) ⊎ ((F → ⊥) × (picture ≡ p.picture)) → F × (p.picture + 1 ≡ w.pictures)
@@ -70,31 +67,6 @@ module _ (drawn : PathView → ℕ → ℕ → ℕ → List ℕ → Type 0) (g :
     };
     tell = s.tell;
   }
-
-  -- all pictures are finished, and the counts of the run are known
-  pub counts_at : (number : ℕ) (m : MachineState) (v : RecencyView) (t : Turn) (walked : Walked) → StandsAt drawn g number t first now m v
-      → t.picture ≡ g.setup.pictures → walked.passes ≡ number - 1 → walked.reads ≡ t.reads → HasCounts g.setup walked
-  counts_at number m v t walked s all passes reads = record {
-    run = s.run;
-    is_run = s.stands.is_run;
-    whole = is_whole g.setup s.run t.picture s.stands.is_run s.turn.turn all;
-    passes = let n = s.turn.number_is in omega (arith, n, passes);
-    reads = reads ∙ s.turn.reads;
-  }
-
-  -- the walk ends before a pass
-  pub at_left : (number : ℕ) (m : MachineState) (v : RecencyView) (t : Turn) → StandsAt drawn g number t first now m v
-      → LeftBy drawn g first now walk_error.NoMemory
-  at_left number m v t s = (
-    inr (record {
-      run = s.run;
-      pictures = s.pictures;
-      mid = now;
-      stands = s.stands;
-      front = inl (record { files = refl; held = refl }, record { asked = refl; faults = omega arith; out_faults = omega arith });
-    }),
-    tt,
-  )
 
   abbrev with_text : Option (List ℕ) → ℕ → WalkState
   with_text held out_faults = record { files = now.files; held = held; faults = now.faults; out_faults = out_faults; asked = now.asked }

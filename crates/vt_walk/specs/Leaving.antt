@@ -1,7 +1,8 @@
 -- What a refused walk leaves: the beginning of a run whole, and of the step that was under way a front part.
-use Rattle.std.specs.Prelude.{◌≡◌, ◌⊎◌, ℕ, ◌<◌, ◌≤◌, List, [], ◌∷◌, length, take, option_map}
+use Rattle.std.specs.Prelude.{◌≡◌, ◌⊎◌, ℕ, ◌+◌, ◌<◌, ◌≤◌, Option, List, [], ◌∷◌, length, take, option_map}
 use Rattle.vt_outside.specs.Counts.{RoseBy}
 use Rattle.vt_outside.specs.Files.{with_bytes, with_appended, gained}
+use Rattle.vt_outside.specs.declared.place.Place.{Place}
 use Rattle.vt_camera.specs.Paths.{PathView}
 use Rattle.vt_journal.specs.JournalText.{head_text, pass_text}
 use Rattle.vt_machine.specs.Outcomes.{lost_count}
@@ -62,6 +63,19 @@ abbrev pub HasFinished : WalkGiven → List WalkPass → ℕ → Type 0
 HasFinished g [] picture = ⊥
 HasFinished g (p ∷ passes) picture = IsFinished g.setup p passes × (p.picture ≡ picture)
 
+-- the next picture's first pass was under way: its tiles were asked for, each at most once
+pub record AsksForNext (g : WalkGiven) (run : List WalkPass) (picture : ℕ) (before after : Option (List Place)) : Type 0 where
+  pub turn : IsTurnOf g.setup run picture
+  pub of_path : picture < g.setup.pictures
+  pub asked : OnTold (AreAskedAtMostFor g.scene.shape g.scene.depth 0 (plan_after g.setup run)) before after
+
+-- after a finished picture nothing was asked, or the pass that comes next was under way while the picture was written; and the counts did
+-- not fall
+pub record AsksAhead (g : WalkGiven) (run : List WalkPass) (picture : ℕ) (before after : WalkState) : Type 0 where
+  pub asked : (after.asked ≡ before.asked) ⊎ AsksForNext g run (picture + 1) before.asked after.asked
+  pub faults : before.faults ≤ after.faults
+  pub out_faults : before.out_faults ≤ after.out_faults
+
 -- of a finished picture a front part stands, or its name is as before
 pub record LeftInPicture (drawn : PathView → ℕ → ℕ → ℕ → List ℕ → Type 0) (g : WalkGiven) (run : List WalkPass) (picture : ℕ)
     (before after : WalkState) : Type 0 where
@@ -71,7 +85,7 @@ pub record LeftInPicture (drawn : PathView → ℕ → ℕ → ℕ → List ℕ 
   pub files : (after.files ≡ before.files)
       ⊎ ((k : ℕ) × (after.files ≡ option_map (with_bytes (picture_name g.names.prefix picture) (take k bytes)) before.files))
   pub held : after.held ≡ before.held
-  pub none : AsksNothing before after
+  pub ahead : AsksAhead g run picture before after
 
 -- a finished picture is whole, and of its line a front part stands
 pub record LeftInLine (drawn : PathView → ℕ → ℕ → ℕ → List ℕ → Type 0) (g : WalkGiven) (run : List WalkPass) (picture : ℕ)
@@ -82,7 +96,7 @@ pub record LeftInLine (drawn : PathView → ℕ → ℕ → ℕ → List ℕ →
   pub files : after.files ≡ option_map (with_bytes (picture_name g.names.prefix picture) bytes) before.files
   pub count : ℕ
   pub held : after.held ≡ option_map (gained (take count (picture_line run picture))) before.held
-  pub none : AsksNothing before after
+  pub ahead : AsksAhead g run picture before after
 
 -- the run is whole, and of the last line a front part stands
 pub record LeftAtEnd (g : WalkGiven) (run : List WalkPass) (pictures : ℕ) (before after : WalkState) : Type 0 where

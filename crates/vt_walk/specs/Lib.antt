@@ -8,6 +8,7 @@ pub mod Folders
 pub mod States
 pub mod Reads
 pub mod Written
+pub mod Writing
 pub mod Standing
 pub mod Leaving
 pub mod Causes
@@ -17,6 +18,7 @@ pub mod Placing
 pub mod Outlooks
 pub mod Tallies
 pub mod Turns
+pub mod Following
 pub mod Courses
 pub mod Beginnings
 pub mod Opening

@@ -4,6 +4,7 @@ ghost use Rattle.std.specs.Prelude.{◌≡◌, ◌⊎◌, ℕ, ◌≤◌, take, 
 ghost use Rattle.vt_outside.specs.Counts.{Rose};
 ghost use Rattle.vt_outside.specs.Files.{with_bytes, IsThere};
 ghost use Rattle.vt_journal.specs.Changes.{Pinned};
+ghost use Rattle.vt_walk.specs.Writing.{WritesFile};
 ghost use Rattle.vt_journal.specs.JournalText.{head_text};
 
 use std::alloc::Global;
@@ -24,6 +25,13 @@ pub fn write_file<D: Folder>(folder: &mut D, name: &str, bytes: &[u8]) -> Result
 {
     folder.create(name)?;
     folder.append(name, bytes)
+}
+
+/// Does what `write_file` does, with a clause that is one fact.
+pub fn write_whole<D: Folder>(folder: &mut D, name: &str, bytes: &[u8]) -> Result<(), OutsideError>
+    ensures { WritesFile D.Folder name.now bytes.now result folder.old folder.new }
+{
+    write_file(folder, name, bytes)
 }
 
 /// Begins a journal: makes the name hold the text of the pinned pages. After a refusal the name is as before, or

@@ -1,6 +1,8 @@
 //! A walk over the pictures of a path: pass after pass, live or settled, and what is written of them.
 #![tactic(auto)]
 
+mod advance;
+mod beside;
 mod files;
 mod loaders;
 mod passes;

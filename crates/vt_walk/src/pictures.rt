@@ -1,6 +1,6 @@
 //! What is written of a finished picture, and the last line.
 
-ghost use Rattle.std.specs.Prelude.{◌≡◌, ◌⊎◌, ℕ, ◌+◌, ◌<◌, ◌≤◌, ◌++◌, take, length, All, OnOk, OnErr, IsErrOf, option_map};
+ghost use Rattle.std.specs.Prelude.{◌≡◌, ◌⊎◌, ℕ, ◌+◌, ◌<◌, ◌≤◌, ◌++◌, take, length, All, IfOk, OnOk, OnErr, IsErrOf, option_map, string_bytes};
 ghost use Rattle.std.specs.List.{concat};
 ghost use Rattle.vt_definitions.specs.Depths.{IsDepth};
 ghost use Rattle.vt_outside.specs.Counts.{Rose};
@@ -50,10 +50,33 @@ pub fn write_picture<D: Folder, M: PassMachine>(
     ensures asked { D.asked folder.new ≡ D.asked folder.old }
     ensures faults { D.faults folder.old ≤ D.faults folder.new }
 {
+    let name = make_picture(buffer, alloc, machine, depth, path, prefix, picture)?;
+    write_file(folder, name.as_str(), buffer)
+}
+
+/// Makes a buffer hold the bytes of the picture of a machine's last pass, and answers its name.
+pub fn make_picture<M: PassMachine>(
+    buffer: &mut Vec<u8>,
+    alloc: Global,
+    machine: &M,
+    depth: u32,
+    path: &Path,
+    prefix: &str,
+    picture: u32,
+) -> Result<String, NoMemory>
+    requires idle { M.is_idle machine.now }
+    requires depth { IsDepth depth }
+    requires count { length (M.state machine.now).rows ≡ path.now.height }
+    requires full { All (IsFull depth path.now.width) (M.state machine.now).rows }
+    requires few { picture < four_digit_numbers }
+    ensures bytes { OnOk result (buffer.new.items ≡ picture_bytes depth path.now.width path.now.height
+        (concat (M.state machine.now).rows)) }
+    ensures name { IfOk result (λ name. string_bytes name ≡ picture_name prefix.now picture) }
+{
     let samples = machine.picture(alloc)?;
     encode_into(buffer, alloc, depth, path.width(), path.height(), &samples)?;
     let name = picture_name(alloc, prefix, picture)?;
-    write_file(folder, name.as_str(), buffer)
+    Ok(name)
 }
 
 /// Puts the line of a picture with this tally, of whose pages so many are wanted, in one call. After a refusal a

@@ -1,30 +1,30 @@
 //! Pass after pass.
 
-ghost use Rattle.std.specs.Prelude.{◌≡◌, ℕ, ◌+◌, ◌<◌, ◌≤◌, ◌∷◌, List, Option, length, All, MatchResult, OnOk, OnErr, IfOk};
-ghost use Rattle.vt_definitions.specs.Limits.{most_versions};
-ghost use Rattle.vt_journal.specs.JournalText.{IsEventInChain};
-ghost use Rattle.vt_machine.specs.Requests.{AreSameFiles, ArePartlyReadFor};
+ghost use Rattle.std.specs.Prelude.{◌≡◌, ◌+◌, ◌<◌, ◌≤◌, ◌^◌, ◌∷◌, MatchResult, OnOk, IfOk};
+ghost use Rattle.vt_machine.specs.Requests.{AreSameFiles};
 ghost use Rattle.vt_walk.specs.States.{walk_state};
 ghost use Rattle.vt_walk.specs.Tours.{given_of, setup_of_tour, IsTour};
-ghost use Rattle.vt_walk.specs.Runs.{WalkPass};
 ghost use Rattle.vt_walk.specs.Standing.{Finished};
 ghost use Rattle.vt_walk.specs.Written.{IsDrawnBySome};
-ghost use Rattle.vt_walk.specs.Turns.{WalkStart, PassStart, MayDraw, HasDrawn, StandsFirst, StandsAt, StandsAfter, StandsLast, LeftBy};
+ghost use Rattle.vt_walk.specs.Turns.{WalkStart, PassStart, StandsFirst, StandsAt, StandsAfter, StandsLast, LeftBy};
+ghost use Rattle.vt_walk.specs.Following.{StandsDrawn, StandsNext};
 ghost use Rattle.vt_walk.specs.Courses.{state_by};
 ghost use Rattle.vt_walk.specs.Counts.{HasCounts};
 ghost use Rattle.vt_turns.specs.Judging.{MayGoOn};
 
-use crate::passes::{look_out, run_pass, tell_pass};
+use crate::advance::draw_next;
+use crate::beside::draw_beside;
+use crate::passes::tell_pass;
 use crate::pictures::{put_end_line, put_picture_line, write_picture};
 use std::alloc::Global;
 use std::sync::Wait;
 use std::thread::Threads;
-use vt_draw::Shot;
 use vt_evict::{Batch, Recency};
 use vt_machine::PassMachine;
-use vt_outside::{Folder, Gate, NoMemory, Sink};
+use vt_outside::{Folder, Gate, Sink};
 use vt_turns::{
-    Drawn, Outlook, Passed, Tally, Tour, Turn, WalkError, drawn_of, is_finished, judge,
+    Drawn, Next, Outlook, Passed, Tally, Tour, Turn, WalkError, is_finished, is_written_beside,
+    judge,
 };
 
 /// How much a walk took.
@@ -37,7 +37,13 @@ pub struct Walked {
 }
 
 /// Takes turns until all pictures are finished, and puts the last line. The text of each pass is made in the buffer.
-pub fn walk_on<Rt: Threads + Wait + Sync, M: PassMachine, D: Folder, O: Sink, G: Gate + Sync>(
+pub fn walk_on<
+    Rt: Threads + Wait + Sync,
+    M: PassMachine + Send,
+    D: Folder,
+    O: Sink,
+    G: Gate + Sync,
+>(
     rt: &Rt,
     alloc: Global,
     folder: &mut D,
@@ -72,8 +78,8 @@ pub fn walk_on<Rt: Threads + Wait + Sync, M: PassMachine, D: Folder, O: Sink, G:
     Ok(took)
 }
 
-// Takes turns until all pictures are finished, and answers how much they took.
-fn take_turns<Rt: Threads + Wait + Sync, M: PassMachine, D: Folder, O: Sink, G: Gate + Sync>(
+// Takes turns until all pictures are finished, and answers how much they took. Each pass is drawn in the turn before it is told.
+fn take_turns<Rt: Threads + Wait + Sync, M: PassMachine + Send, D: Folder, O: Sink, G: Gate + Sync>(
     rt: &Rt,
     alloc: Global,
     folder: &mut D,
@@ -104,29 +110,33 @@ fn take_turns<Rt: Threads + Wait + Sync, M: PassMachine, D: Folder, O: Sink, G: 
     ensures faults { D.faults folder.old ≤ D.faults folder.new }
     ensures out_faults { O.faults out.old ≤ O.faults out.new }
 {
-    let pictures = tour.path.pictures();
-    let mut turn = Turn {
+    let turn = Turn {
         picture: 0,
         batch: Batch::new(alloc),
         tally: Tally::new(),
         reads: tour.pinned as u64,
     };
+    let mut next = draw_next(rt, alloc, machine, recency, tour, 1, turn, gate)?;
     for number in 1..u32::MAX {
-        if turn.picture == pictures {
-            return Ok(Walked {
-                passes: number - 1,
-                reads: turn.reads,
-            });
+        match next {
+            Next::End(reads) => {
+                return Ok(Walked {
+                    passes: number - 1,
+                    reads,
+                });
+            }
+            Next::Pass(drawn) => {
+                next = take_turn(
+                    rt, alloc, folder, machine, recency, tour, number, drawn, buffer, out, gate,
+                )?;
+            }
         }
-        turn = take_turn(
-            rt, alloc, folder, machine, recency, tour, number, turn, buffer, out, gate,
-        )?;
     }
     Err(WalkError::NoMemory)
 }
 
-// Makes the next pass of a walk, and writes the picture that it finishes. The pass's text is made in the buffer.
-fn take_turn<Rt: Threads + Wait + Sync, M: PassMachine, D: Folder, O: Sink, G: Gate + Sync>(
+// Tells a pass that was drawn, writes the picture that it finishes, and draws the next pass. The pass's text is made in the buffer.
+fn take_turn<Rt: Threads + Wait + Sync, M: PassMachine + Send, D: Folder, O: Sink, G: Gate + Sync>(
     rt: &Rt,
     alloc: Global,
     folder: &mut D,
@@ -134,81 +144,70 @@ fn take_turn<Rt: Threads + Wait + Sync, M: PassMachine, D: Folder, O: Sink, G: G
     recency: &mut Recency,
     tour: &Tour<'_>,
     number: u32,
-    turn: Turn,
+    drawn: Drawn,
     buffer: &mut Vec<u8>,
     out: &mut O,
     gate: &G,
-) -> Result<Turn, WalkError>
+) -> Result<Next, WalkError>
     requires tour { IsTour tour.now }
     requires enough_frames { tour.now.pinned ≤ tour.now.settings.frames }
     requires idle { M.is_idle machine.old }
-    requires more { turn.picture < length tour.now.path.now.cameras }
-    requires stands { (b : WalkStart) × StandsAt (IsDrawnBySome M.drawn)
-        (given_of M.drawing tour.now b.told) number turn b.first
-        (state_by D.Folder O.Sink tour.now.names.store.now folder.old out.old (b.kept ∷ (M.state machine.old).files))
+    requires few { number + 1 < 2 ^ 32 }
+    requires stands { (b : WalkStart) × StandsDrawn (IsDrawnBySome M.drawn) (given_of M.drawing tour.now b.told) number
+        drawn b.first (λ files. state_by D.Folder O.Sink tour.now.names.store.now folder.old out.old (b.kept ∷ files))
         (M.state machine.old) recency.old }
-    ensures taken { (b : WalkStart) → let drawn = IsDrawnBySome M.drawn in
+    ensures taken { (b : WalkStart) → let some = IsDrawnBySome M.drawn in
         let given = given_of M.drawing tour.now b.told in
         let name = tour.now.names.store.now in
-        let before = state_by D.Folder O.Sink name folder.old out.old (b.kept ∷ (M.state machine.old).files) in
-        let after = state_by D.Folder O.Sink name folder.new out.new (b.kept ∷ (M.state machine.new).files) in
-        StandsAt drawn given number turn b.first before (M.state machine.old) recency.old
-        → MatchResult result (λ next. StandsAt drawn given (number + 1) next b.first after
-        (M.state machine.new) recency.new)
-        (LeftBy drawn given b.first after) }
+        StandsDrawn some given number drawn b.first (λ files. state_by D.Folder O.Sink name folder.old out.old
+        (b.kept ∷ files)) (M.state machine.old) recency.old
+        → MatchResult result (λ next. StandsNext some given (number + 1) next b.first
+        (λ files. state_by D.Folder O.Sink name folder.new out.new (b.kept ∷ files)) (M.state machine.new) recency.new)
+        (LeftBy some given b.first (state_by D.Folder O.Sink name folder.new out.new
+        (b.kept ∷ (M.state machine.new).files))) }
     ensures idle { OnOk result (M.is_idle machine.new) }
     ensures same { AreSameFiles (M.state machine.old).files (M.state machine.new).files }
     ensures asked { D.asked folder.new ≡ D.asked folder.old }
     ensures faults { D.faults folder.old ≤ D.faults folder.new }
     ensures out_faults { O.faults out.old ≤ O.faults out.new }
 {
-    let passed = make_pass(
-        rt, alloc, folder, machine, recency, tour, number, turn, buffer, gate,
-    )?;
+    let passed = tell_drawn(buffer, folder, machine, recency, tour, number, drawn)?;
     judge(tour, &passed)?;
-    end_turn(
-        buffer, alloc, folder, machine, recency, tour, number, passed, out,
+    go_on(
+        rt, alloc, folder, machine, recency, tour, number, passed, buffer, out, gate,
     )
 }
 
-// Makes the next pass of a walk, and tells it to the journal by a text that is made in the buffer.
-fn make_pass<Rt: Threads + Wait + Sync, M: PassMachine, D: Folder, G: Gate + Sync>(
-    rt: &Rt,
-    alloc: Global,
+// Tells a pass that was drawn to the journal, by a text that is made in the buffer.
+fn tell_drawn<M: PassMachine, D: Folder>(
+    buffer: &mut Vec<u8>,
     folder: &mut D,
-    machine: &mut M,
-    recency: &mut Recency,
+    machine: &M,
+    recency: &Recency,
     tour: &Tour<'_>,
     number: u32,
-    turn: Turn,
-    buffer: &mut Vec<u8>,
-    gate: &G,
+    drawn: Drawn,
 ) -> Result<Passed, WalkError>
     requires tour { IsTour tour.now }
-    requires enough_frames { tour.now.pinned ≤ tour.now.settings.frames }
-    requires idle { M.is_idle machine.old }
-    requires more { turn.picture < length tour.now.path.now.cameras }
-    requires stands { (b : PassStart) × StandsAt (IsDrawnBySome M.drawn)
-        (given_of M.drawing tour.now b.start.told) number turn
-        b.start.first
-        (walk_state D.Folder tour.now.names.store.now folder.old (b.start.kept ∷ (M.state machine.old).files) b.held
-        b.out_faults) (M.state machine.old) recency.old }
-    ensures made { (b : PassStart) → let drawn = IsDrawnBySome M.drawn in
+    requires stands { (b : PassStart) × StandsDrawn (IsDrawnBySome M.drawn)
+        (given_of M.drawing tour.now b.start.told) number drawn b.start.first
+        (λ files. walk_state D.Folder tour.now.names.store.now folder.old (b.start.kept ∷ files) b.held b.out_faults)
+        (M.state machine.now) recency.now }
+    ensures told { (b : PassStart) → let some = IsDrawnBySome M.drawn in
         let given = given_of M.drawing tour.now b.start.told in
         let name = tour.now.names.store.now in
-        let before = walk_state D.Folder name folder.old (b.start.kept ∷ (M.state machine.old).files) b.held
+        let after = walk_state D.Folder name folder.new (b.start.kept ∷ (M.state machine.now).files) b.held
         b.out_faults in
-        let after = walk_state D.Folder name folder.new (b.start.kept ∷ (M.state machine.new).files) b.held
-        b.out_faults in
-        StandsAt drawn given number turn b.start.first before (M.state machine.old) recency.old
-        → MatchResult result (λ passed. StandsAfter drawn given number passed b.start.first after (M.state machine.new)
-        recency.new) (LeftBy drawn given b.start.first after) }
-    ensures idle { OnOk result (M.is_idle machine.new) }
-    ensures same { AreSameFiles (M.state machine.old).files (M.state machine.new).files }
+        StandsDrawn some given number drawn b.start.first (λ files. walk_state D.Folder name folder.old
+        (b.start.kept ∷ files) b.held b.out_faults) (M.state machine.now) recency.now
+        → MatchResult result (λ passed. StandsAfter some given number passed b.start.first after (M.state machine.now)
+        recency.now) (LeftBy some given b.start.first after) }
     ensures asked { D.asked folder.new ≡ D.asked folder.old }
     ensures faults { D.faults folder.old ≤ D.faults folder.new }
 {
-    let drawn = draw_pass(rt, alloc, machine, recency, tour, number, turn, gate)?;
+    let _ = machine;
+    let _ = recency;
+    let _ = number;
     tell_pass(
         buffer,
         folder,
@@ -219,53 +218,52 @@ fn make_pass<Rt: Threads + Wait + Sync, M: PassMachine, D: Folder, G: Gate + Syn
     Ok(drawn.passed)
 }
 
-// Draws the next pass of a walk, streams its batch, and plans what comes after it.
-fn draw_pass<Rt: Threads + Wait + Sync, M: PassMachine, G: Gate + Sync>(
+// Writes the picture that a pass has finished, and its line, and draws the next pass: meanwhile, where that is worth it.
+fn go_on<Rt: Threads + Wait + Sync, M: PassMachine + Send, D: Folder, O: Sink, G: Gate + Sync>(
     rt: &Rt,
     alloc: Global,
+    folder: &mut D,
     machine: &mut M,
     recency: &mut Recency,
     tour: &Tour<'_>,
     number: u32,
-    turn: Turn,
+    passed: Passed,
+    buffer: &mut Vec<u8>,
+    out: &mut O,
     gate: &G,
-) -> Result<Drawn, NoMemory>
+) -> Result<Next, WalkError>
     requires tour { IsTour tour.now }
-    requires enough_frames { tour.now.pinned ≤ tour.now.settings.frames }
     requires idle { M.is_idle machine.old }
-    requires may { (told : Option (List ℕ)) × (run : List WalkPass) × MayDraw
-        (given_of M.drawing tour.now told) run number turn (M.state machine.old) recency.old }
-    ensures drawn { (told : Option (List ℕ)) (run : List WalkPass) → MayDraw
-        (given_of M.drawing tour.now told) run number turn (M.state machine.old) recency.old
-        → IfOk result (HasDrawn (IsDrawnBySome M.drawn) (given_of M.drawing tour.now told) run turn
-        (M.state machine.old)
-        (M.state machine.new) recency.new) }
-    ensures pages { IfOk result (λ d. All (IsEventInChain tour.now.geometry.now) d.text.events.elements) }
-    ensures room { IfOk result (λ d. d.text.start + length d.text.events.elements ≤ most_versions) }
-    ensures refused { OnErr result (ArePartlyReadFor tour.now.geometry.now tour.now.depth turn.batch.elements
-        (M.state machine.old).files (M.state machine.new).files) }
+    requires few { number + 1 < 2 ^ 32 }
+    requires goes_on { MayGoOn tour.now passed }
+    requires stands { (b : WalkStart) × StandsAfter (IsDrawnBySome M.drawn) (given_of M.drawing tour.now b.told) number
+        passed b.first (state_by D.Folder O.Sink tour.now.names.store.now folder.old out.old
+        (b.kept ∷ (M.state machine.old).files)) (M.state machine.old) recency.old }
+    ensures taken { (b : WalkStart) → let some = IsDrawnBySome M.drawn in
+        let given = given_of M.drawing tour.now b.told in
+        let name = tour.now.names.store.now in
+        StandsAfter some given number passed b.first (state_by D.Folder O.Sink name folder.old out.old
+        (b.kept ∷ (M.state machine.old).files)) (M.state machine.old) recency.old
+        → MatchResult result (λ next. StandsNext some given (number + 1) next b.first
+        (λ files. state_by D.Folder O.Sink name folder.new out.new (b.kept ∷ files)) (M.state machine.new) recency.new)
+        (LeftBy some given b.first (state_by D.Folder O.Sink name folder.new out.new
+        (b.kept ∷ (M.state machine.new).files))) }
     ensures idle { OnOk result (M.is_idle machine.new) }
     ensures same { AreSameFiles (M.state machine.old).files (M.state machine.new).files }
+    ensures asked { D.asked folder.new ≡ D.asked folder.old }
+    ensures faults { D.faults folder.old ≤ D.faults folder.new }
+    ensures out_faults { O.faults out.old ≤ O.faults out.new }
 {
-    let shot = Shot {
-        geometry: tour.geometry,
-        path: tour.path,
-        picture: turn.picture,
-        depth: tour.depth,
-    };
-    let start = machine.journal().version();
-    let report = run_pass(rt, machine, &shot, &turn.batch, gate)?;
-    let most = tour.settings.crew.batch;
-    let outlook = look_out(
-        alloc,
-        tour.geometry,
-        machine.counts(),
-        recency,
-        &turn.batch,
-        &report.losses,
-        most,
+    if is_written_beside(tour, &passed) {
+        return draw_beside(
+            rt, alloc, folder, machine, recency, tour, number, passed, buffer, out, gate,
+        );
+    }
+    let turn = end_turn(
+        buffer, alloc, folder, machine, recency, tour, number, passed, out,
     )?;
-    Ok(drawn_of(number, turn, start, report, outlook))
+    let next = draw_next(rt, alloc, machine, recency, tour, number + 1, turn, gate)?;
+    Ok(next)
 }
 
 // Writes the picture that a pass has finished, and its line, or leaves it to the next pass.

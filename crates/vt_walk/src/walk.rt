@@ -35,7 +35,7 @@ use vt_turns::{Mode, Names, Settings, Tour, WalkError, has_too_few_frames};
 /// many tiles it asked for: those of a whole run. Conditions, refusals and causes are those of `walk_with`.
 pub fn walk_counted<
     Rt: Threads + Wait + Sync,
-    M: PassMachine<File = D::File>,
+    M: PassMachine<File = D::File> + Send,
     D: Folder,
     O: Sink,
     G: Gate + Sync,
@@ -96,7 +96,7 @@ fn mode_of(settled: bool) -> Mode
 // Walks over all pictures, with the store's file that is open. Fewer frames than pinned pages are refused first.
 fn walk_store<
     Rt: Threads + Wait + Sync,
-    M: PassMachine<File = D::File>,
+    M: PassMachine<File = D::File> + Send,
     D: Folder,
     O: Sink,
     G: Gate + Sync,
@@ -152,7 +152,7 @@ fn walk_store<
 // Walks over all pictures by a machine that is made with the stores of its loaders.
 fn walk_stores<
     Rt: Threads + Wait + Sync,
-    M: PassMachine<File = D::File>,
+    M: PassMachine<File = D::File> + Send,
     D: Folder,
     O: Sink,
     G: Gate + Sync,
@@ -207,7 +207,7 @@ fn walk_stores<
 // Walks over all pictures by a machine, and closes the files of its loaders.
 fn walk_machine<
     Rt: Threads + Wait + Sync,
-    M: PassMachine<File = D::File>,
+    M: PassMachine<File = D::File> + Send,
     D: Folder,
     O: Sink,
     G: Gate + Sync,
@@ -251,7 +251,7 @@ fn walk_machine<
 // Places the pinned pages, begins the journal, and walks over all pictures.
 fn walk_all<
     Rt: Threads + Wait + Sync,
-    M: PassMachine<File = D::File>,
+    M: PassMachine<File = D::File> + Send,
     D: Folder,
     O: Sink,
     G: Gate + Sync,

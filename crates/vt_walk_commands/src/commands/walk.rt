@@ -26,7 +26,7 @@ const _LIMIT: () = prove!(MOST_FRAME_TEXELS == 8_388_608);
 /// Reads the path and opens the store, and walks by a machine over all pictures of the path. It may wait.
 pub fn walk<
     'a,
-    M: PassMachine<File = D::File>,
+    M: PassMachine<File = D::File> + Send,
     Rt: Threads + Wait + Sync,
     D: Folder,
     O: Sink,

@@ -1,20 +1,13 @@
-use Rattle.std.proofs.Common.{◌≡◌, ◌-◌, ◌≤◌, Bool, ◌∷◌, refl, subst, ap, Err, arith}
+use Rattle.std.proofs.Common.{Bool, ◌∷◌, inl, refl, subst, ap, Err, arith}
 use Rattle.std.specs.Prelude.{MatchBool}
 use Rattle.std.proofs.lemmas.Result.{err_from_is_err_and}
-use Rattle.vt_turns.specs.declared.mode.Mode.TheVariants.{Settled}
-use Rattle.vt_turns.specs.declared.tour.Tour.{Tour}
-use Rattle.vt_turns.specs.declared.turns.Passed.{Passed}
-use Rattle.vt_pages.specs.Pages.{pinned_of}
 use Rattle.vt_walk.specs.Walks.{names_of}
 use Rattle.vt_walk.specs.States.{walk_state}
-use Rattle.vt_walk.specs.Tours.{IsTour, tour_scene}
+use Rattle.vt_walk.specs.Tours.{tour_scene}
 use Rattle.vt_walk.specs.Written.{IsDrawnBySome}
-use Rattle.vt_turns.specs.Judging.{IsEnd, MayGoOn}
-use Rattle.vt_walk.proofs.Ending.{rows_count, rows_full, same_picture, next_picture, picture_broke, line_broke}
+use Rattle.vt_turns.specs.Judging.{IsEnd}
+use Rattle.vt_walk.proofs.Ending.{rows_count, rows_full, room_left, same_picture, next_picture, picture_broke, line_broke}
 use Rattle.vt_walk.proofs.turns.end_turn.Goals as goal
-
-room : (t : Tour) (p : Passed) → IsTour t → MayGoOn t p → t.mode ≡ Settled → p.outlook.needed ≤ t.settings.frames - pinned_of t.geometry.now t.settings.pinned
-room t p h goes_on settled = let fits = goes_on.fits settled in let pages = h.pages in omega (arith, fits, pages)
 
 pub returns-then-not-is_finished-clause-ended : goal.returns-then-not-is_finished-clause-ended
 returns-then-not-is_finished-clause-ended g c = λ b at. same_picture g.M.PassMachine.drawing (IsDrawnBySome g.M.PassMachine.drawn) g.met.M.PassMachine.shows_whole (tour_scene c.args.tour.now) c.args.tour.now.settings
@@ -22,7 +15,7 @@ returns-then-not-is_finished-clause-ended g c = λ b at. same_picture g.M.PassMa
     c.args.number c.args.passed b.first (g.M.PassMachine.state c.args.machine.now) c.args.recency.now
     (walk_state g.D.Folder c.args.tour.now.names.store.now c.args.folder.now (b.kept ∷ (g.M.PassMachine.state c.args.machine.now).files)
     (g.O.Sink.held c.args.out.now) (g.O.Sink.faults c.args.out.now))
-    at c.requires.goes_on.none_lost (room c.args.tour.now c.args.passed c.requires.tour c.requires.goes_on)
+    at c.requires.goes_on.none_lost (room_left c.args.tour.now c.args.passed c.requires.tour c.requires.goes_on)
     (subst (λ (b : Bool). MatchBool b (IsEnd c.args.tour.now.mode c.args.passed.loads_nothing c.args.passed.outlook.plan.elements)
     (IsEnd c.args.tour.now.mode c.args.passed.loads_nothing c.args.passed.outlook.plan.elements → ⊥)) c.if-not-is_finished.true c.is_finished.ensures)
 
@@ -59,7 +52,7 @@ returns-in_err-write_picture-clause-ended g c =
     (g.D.Folder.asked c.args.folder.now) (g.D.Folder.asked c.write_picture.new.folder) (g.D.Folder.faults c.args.folder.now)
     (g.D.Folder.faults c.write_picture.new.folder)
     (g.O.Sink.held c.args.out.now) (g.O.Sink.held c.args.out.now) (g.O.Sink.faults c.args.out.now) (g.O.Sink.faults c.args.out.now)
-    _ p.0 at c.requires.goes_on.none_lost (room c.args.tour.now c.args.passed c.requires.tour c.requires.goes_on)
+    (g.M.PassMachine.state c.args.machine.now).files (inl refl) _ p.0 at c.requires.goes_on.none_lost (room_left c.args.tour.now c.args.passed c.requires.tour c.requires.goes_on)
     (subst (λ (b : Bool). MatchBool b (IsEnd c.args.tour.now.mode c.args.passed.loads_nothing c.args.passed.outlook.plan.elements)
     (IsEnd c.args.tour.now.mode c.args.passed.loads_nothing c.args.passed.outlook.plan.elements
     → ⊥)) c.if-not-is_finished.false c.is_finished.ensures) c.in_err-write_picture.ensures.part refl c.in_err-write_picture.ensures.asked
@@ -77,7 +70,7 @@ returns-in_err-put_picture_line-clause-ended g c =
     (g.D.Folder.asked c.args.folder.now) (g.D.Folder.asked c.write_picture.new.folder) (g.D.Folder.faults c.args.folder.now)
     (g.D.Folder.faults c.write_picture.new.folder)
     (g.O.Sink.held c.args.out.now) (g.O.Sink.held c.put_picture_line.new.out) (g.O.Sink.faults c.args.out.now) (g.O.Sink.faults c.put_picture_line.new.out)
-    _ p.0 at c.requires.goes_on.none_lost (room c.args.tour.now c.args.passed c.requires.tour c.requires.goes_on)
+    (g.M.PassMachine.state c.args.machine.now).files (inl refl) _ p.0 at c.requires.goes_on.none_lost (room_left c.args.tour.now c.args.passed c.requires.tour c.requires.goes_on)
     (subst (λ (b : Bool). MatchBool b (IsEnd c.args.tour.now.mode c.args.passed.loads_nothing c.args.passed.outlook.plan.elements)
     (IsEnd c.args.tour.now.mode c.args.passed.loads_nothing c.args.passed.outlook.plan.elements
     → ⊥)) c.if-not-is_finished.false c.is_finished.ensures) c.in_ok-write_picture.ensures.whole c.in_err-put_picture_line.ensures.part
@@ -97,7 +90,7 @@ returns-clause-ended g c = λ b at. next_picture g.M.PassMachine.drawing
     (g.D.Folder.asked c.args.folder.now) (g.D.Folder.asked c.write_picture.new.folder) (g.D.Folder.faults c.args.folder.now)
     (g.D.Folder.faults c.write_picture.new.folder)
     (g.O.Sink.held c.args.out.now) (g.O.Sink.held c.put_picture_line.new.out) (g.O.Sink.faults c.args.out.now) (g.O.Sink.faults c.put_picture_line.new.out)
-    at c.requires.goes_on.none_lost (room c.args.tour.now c.args.passed c.requires.tour c.requires.goes_on)
+    at c.requires.goes_on.none_lost (room_left c.args.tour.now c.args.passed c.requires.tour c.requires.goes_on)
     (subst (λ (b : Bool). MatchBool b (IsEnd c.args.tour.now.mode c.args.passed.loads_nothing c.args.passed.outlook.plan.elements)
     (IsEnd c.args.tour.now.mode c.args.passed.loads_nothing c.args.passed.outlook.plan.elements
     → ⊥)) c.if-not-is_finished.false c.is_finished.ensures) c.in_ok-write_picture.ensures.whole c.in_ok-put_picture_line.ensures.whole

@@ -1,4 +1,4 @@
-use Rattle.std.proofs.Common.{◌∷◌, ◌∙◌, arith, sym, subst}
+use Rattle.std.proofs.Common.{◌∷◌, ◌∙◌, arith, refl, sym, subst}
 use Rattle.std.proofs.lemmas.Result.{err_from_is_err_and}
 use Rattle.vt_walk.specs.States.{walk_state}
 use Rattle.vt_walk.specs.Tours.{given_of}
@@ -7,8 +7,8 @@ use Rattle.vt_walk.specs.Written.{IsDrawnBySome}
 use Rattle.vt_walk.proofs.Ending.{stopped}
 use Rattle.vt_walk.proofs.turns.take_turn.Goals as goal
 
-pub make_pass-requires-clause-stands : goal.make_pass-requires-clause-stands
-make_pass-requires-clause-stands g c κs within = (
+pub tell_drawn-requires-clause-stands : goal.tell_drawn-requires-clause-stands
+tell_drawn-requires-clause-stands g c κs within = (
   (record {
     start = c.requires.stands.0;
     held = g.O.Sink.held c.args.out.now;
@@ -22,29 +22,29 @@ returns-in_err-passed-clause-taken g c =
     let p = err_from_is_err_and c.from_residual.result c.from_residual.ensures.1 in
     λ b at. rw p.1 (subst (LeftBy (IsDrawnBySome g.M.PassMachine.drawn)
     (given_of g.M.PassMachine.drawing c.args.tour.now b.told) b.first
-    (walk_state g.D.Folder c.args.tour.now.names.store.now c.make_pass.new.folder (b.kept ∷ (g.M.PassMachine.state c.make_pass.new.machine).files)
+    (walk_state g.D.Folder c.args.tour.now.names.store.now c.tell_drawn.new.folder (b.kept ∷ (g.M.PassMachine.state c.args.machine.now).files)
     (g.O.Sink.held c.args.out.now) (g.O.Sink.faults c.args.out.now))) (sym p.2)
-    (c.in_err-passed.ensures.made (record { start = b; held = g.O.Sink.held c.args.out.now; out_faults = g.O.Sink.faults c.args.out.now }) at))
+    (c.in_err-passed.ensures.told (record { start = b; held = g.O.Sink.held c.args.out.now; out_faults = g.O.Sink.faults c.args.out.now }) at))
 
 pub returns-in_err-judge-clause-taken : goal.returns-in_err-judge-clause-taken
 returns-in_err-judge-clause-taken g c =
     let p = err_from_is_err_and c.from_residual-in_err-judge.result c.from_residual-in_err-judge.ensures.1 in
     λ b at. rw p.1 (subst (LeftBy (IsDrawnBySome g.M.PassMachine.drawn)
     (given_of g.M.PassMachine.drawing c.args.tour.now b.told) b.first
-    (walk_state g.D.Folder c.args.tour.now.names.store.now c.make_pass.new.folder (b.kept ∷ (g.M.PassMachine.state c.make_pass.new.machine).files)
+    (walk_state g.D.Folder c.args.tour.now.names.store.now c.tell_drawn.new.folder (b.kept ∷ (g.M.PassMachine.state c.args.machine.now).files)
     (g.O.Sink.held c.args.out.now) (g.O.Sink.faults c.args.out.now))) (sym p.2)
     (stopped g.M.PassMachine.drawing (IsDrawnBySome g.M.PassMachine.drawn)
-    g.met.M.PassMachine.shows_whole c.args.tour.now b.told c.args.number
-    c.in_ok-passed.passed b.first (walk_state g.D.Folder c.args.tour.now.names.store.now c.make_pass.new.folder
-    (b.kept ∷ (g.M.PassMachine.state c.make_pass.new.machine).files) (g.O.Sink.held c.args.out.now) (g.O.Sink.faults c.args.out.now))
-    (g.M.PassMachine.state c.make_pass.new.machine) c.make_pass.new.recency c.requires.tour
-    (c.in_ok-passed.ensures.made (record { start = b; held = g.O.Sink.held c.args.out.now; out_faults = g.O.Sink.faults c.args.out.now }) at) _
+    (g.met.M.PassMachine g.world.𝓛 g.world.𝓜 g.world.𝓡 ((λ s x. x), (λ x. x), (λ x. x), λ x. x)).shows_whole c.args.tour.now b.told c.args.number
+    c.in_ok-passed.passed b.first (walk_state g.D.Folder c.args.tour.now.names.store.now c.tell_drawn.new.folder
+    (b.kept ∷ (g.M.PassMachine.state c.args.machine.now).files) (g.O.Sink.held c.args.out.now) (g.O.Sink.faults c.args.out.now))
+    (g.M.PassMachine.state c.args.machine.now) c.args.recency.now c.requires.tour
+    (c.in_ok-passed.ensures.told (record { start = b; held = g.O.Sink.held c.args.out.now; out_faults = g.O.Sink.faults c.args.out.now }) at) _
     c.in_err-judge.ensures))
 
-pub end_turn-requires-clause-stands : goal.end_turn-requires-clause-stands
-end_turn-requires-clause-stands g c κs within = (
+pub go_on-requires-clause-stands : goal.go_on-requires-clause-stands
+go_on-requires-clause-stands g c κs within = (
   c.requires.stands.0,
-  c.in_ok-passed.ensures.made (record {
+  c.in_ok-passed.ensures.told (record {
     start = c.requires.stands.0;
     held = g.O.Sink.held c.args.out.now;
     out_faults = g.O.Sink.faults c.args.out.now;
@@ -52,41 +52,41 @@ end_turn-requires-clause-stands g c κs within = (
 )
 
 pub returns-clause-taken : goal.returns-clause-taken
-returns-clause-taken g c = λ b at. c.end_turn.ensures.ended b
-    (c.in_ok-passed.ensures.made (record { start = b; held = g.O.Sink.held c.args.out.now; out_faults = g.O.Sink.faults c.args.out.now }) at)
-
-pub returns-in_err-passed-clause-same : goal.returns-in_err-passed-clause-same
-returns-in_err-passed-clause-same g c = c.make_pass.ensures.same
+returns-clause-taken g c = λ b at. c.go_on.ensures.taken b
+    (c.in_ok-passed.ensures.told (record { start = b; held = g.O.Sink.held c.args.out.now; out_faults = g.O.Sink.faults c.args.out.now }) at)
 
 pub returns-in_err-passed-clause-asked : goal.returns-in_err-passed-clause-asked
-returns-in_err-passed-clause-asked g c = c.make_pass.ensures.asked
+returns-in_err-passed-clause-asked g c = c.tell_drawn.ensures.asked
 
 pub returns-in_err-passed-clause-faults : goal.returns-in_err-passed-clause-faults
-returns-in_err-passed-clause-faults g c = c.make_pass.ensures.faults
+returns-in_err-passed-clause-faults g c = c.tell_drawn.ensures.faults
+
+pub returns-in_err-judge-clause-asked : goal.returns-in_err-judge-clause-asked
+returns-in_err-judge-clause-asked g c = c.tell_drawn.ensures.asked
+
+pub returns-in_err-judge-clause-faults : goal.returns-in_err-judge-clause-faults
+returns-in_err-judge-clause-faults g c = c.tell_drawn.ensures.faults
+
+pub returns-in_err-passed-clause-same : goal.returns-in_err-passed-clause-same
+returns-in_err-passed-clause-same g c = record { names = refl; tell = refl }
+
+pub returns-in_err-judge-clause-same : goal.returns-in_err-judge-clause-same
+returns-in_err-judge-clause-same g c = record { names = refl; tell = refl }
 
 pub returns-in_err-passed-clause-out_faults : goal.returns-in_err-passed-clause-out_faults
 returns-in_err-passed-clause-out_faults g c = omega arith
-
-pub returns-in_err-judge-clause-same : goal.returns-in_err-judge-clause-same
-returns-in_err-judge-clause-same g c = c.make_pass.ensures.same
-
-pub returns-in_err-judge-clause-asked : goal.returns-in_err-judge-clause-asked
-returns-in_err-judge-clause-asked g c = c.make_pass.ensures.asked
-
-pub returns-in_err-judge-clause-faults : goal.returns-in_err-judge-clause-faults
-returns-in_err-judge-clause-faults g c = c.make_pass.ensures.faults
 
 pub returns-in_err-judge-clause-out_faults : goal.returns-in_err-judge-clause-out_faults
 returns-in_err-judge-clause-out_faults g c = omega arith
 
 pub returns-clause-same : goal.returns-clause-same
-returns-clause-same g c = c.make_pass.ensures.same
+returns-clause-same g c = c.go_on.ensures.same
 
 pub returns-clause-asked : goal.returns-clause-asked
-returns-clause-asked g c = c.end_turn.ensures.asked ∙ c.make_pass.ensures.asked
+returns-clause-asked g c = c.go_on.ensures.asked ∙ c.tell_drawn.ensures.asked
 
 pub returns-clause-faults : goal.returns-clause-faults
-returns-clause-faults g c = omega (arith, c.end_turn.ensures.faults, c.make_pass.ensures.faults)
+returns-clause-faults g c = omega (arith, c.go_on.ensures.faults, c.tell_drawn.ensures.faults)
 
 pub returns-clause-out_faults : goal.returns-clause-out_faults
-returns-clause-out_faults g c = c.end_turn.ensures.out_faults
+returns-clause-out_faults g c = c.go_on.ensures.out_faults

@@ -1,24 +1,23 @@
 use Rattle.std.proofs.Common.{◌≡◌, ◌≤◌, ◌∷◌}
 use Rattle.vt_machine.specs.Requests.{AreSameFiles}
-use Rattle.vt_walk.specs.States.{walk_state}
+use Rattle.vt_walk.specs.Courses.{state_by}
 use Rattle.vt_walk.specs.Tours.{given_of}
 use Rattle.vt_walk.specs.Written.{IsDrawnBySome}
-use Rattle.vt_walk.specs.Turns.{WalkStart, StandsFirst, StandsAt}
+use Rattle.vt_walk.specs.Turns.{WalkStart, StandsFirst}
+use Rattle.vt_walk.specs.Following.{StandsNext}
 use Rattle.vt_walk.proofs.turns.take_turns.Given as goal
 
 abbrev pub invariant-loop-number : goal.invariant-loop-number
 invariant-loop-number g l = record {
-  some : (b : WalkStart) × StandsAt (IsDrawnBySome g.M.PassMachine.drawn)
-      (given_of g.M.PassMachine.drawing l.tour b.told) l.number l.turn b.first
-      (walk_state g.D.Folder l.tour.names.store.now l.folder (b.kept ∷ (g.M.PassMachine.state l.machine).files) (g.O.Sink.held l.out)
-      (g.O.Sink.faults l.out)) (g.M.PassMachine.state l.machine) l.recency;
+  some : (b : WalkStart) × StandsNext (IsDrawnBySome g.M.PassMachine.drawn)
+      (given_of g.M.PassMachine.drawing l.tour b.told) l.number l.next b.first
+      (λ files. state_by g.D.Folder g.O.Sink l.tour.names.store.now l.folder l.out (b.kept ∷ files)) (g.M.PassMachine.state l.machine) l.recency;
   each : (b : WalkStart) → StandsFirst (IsDrawnBySome g.M.PassMachine.drawn)
       (given_of g.M.PassMachine.drawing l.tour b.told) b.first
-      (walk_state g.D.Folder l.tour.names.store.now l.fn.folder (b.kept ∷ (g.M.PassMachine.state l.fn.machine).files) (g.O.Sink.held l.fn.out)
-      (g.O.Sink.faults l.fn.out)) (g.M.PassMachine.state l.fn.machine) l.fn.recency
-      → StandsAt (IsDrawnBySome g.M.PassMachine.drawn) (given_of g.M.PassMachine.drawing l.tour b.told) l.number l.turn b.first
-      (walk_state g.D.Folder l.tour.names.store.now l.folder (b.kept ∷ (g.M.PassMachine.state l.machine).files) (g.O.Sink.held l.out)
-      (g.O.Sink.faults l.out)) (g.M.PassMachine.state l.machine) l.recency;
+      (state_by g.D.Folder g.O.Sink l.tour.names.store.now l.fn.folder l.fn.out (b.kept ∷ (g.M.PassMachine.state l.fn.machine).files))
+      (g.M.PassMachine.state l.fn.machine) l.fn.recency
+      → StandsNext (IsDrawnBySome g.M.PassMachine.drawn) (given_of g.M.PassMachine.drawing l.tour b.told) l.number l.next b.first
+      (λ files. state_by g.D.Folder g.O.Sink l.tour.names.store.now l.folder l.out (b.kept ∷ files)) (g.M.PassMachine.state l.machine) l.recency;
   idle : g.M.PassMachine.is_idle l.machine;
   same : AreSameFiles (g.M.PassMachine.state l.fn.machine).files (g.M.PassMachine.state l.machine).files;
   asked : g.D.Folder.asked l.folder ≡ g.D.Folder.asked l.fn.folder;

@@ -1,0 +1,128 @@
+use Rattle.std.proofs.Common.{◌+◌, ◌∷◌, ◌∙◌, List, length, ap, arith, refl, sym, subst}
+use Rattle.std.proofs.lemmas.Result.{err_from_is_err_and}
+use Rattle.vt_journal.specs.declared.changes.Change.{Change}
+use Rattle.vt_turns.specs.Reported.{next_turn}
+use Rattle.vt_walk.specs.Courses.{state_by}
+use Rattle.vt_walk.specs.States.{walk_state}
+use Rattle.vt_walk.specs.Tours.{given_of}
+use Rattle.vt_walk.specs.Turns.{LeftBy}
+use Rattle.vt_walk.specs.Written.{IsDrawnBySome}
+use Rattle.vt_walk.proofs.Besides.{ran_as, picture_rows, full_rows, left_after, plan_broke, is_drawn}
+use Rattle.vt_walk.proofs.beside.draw_beside.Goals as goal
+
+pub make_picture-requires-clause-few : goal.make_picture-requires-clause-few
+make_picture-requires-clause-few g c κs within =
+    let i = c.requires.stands.1.passed.inside in let e = c.requires.stands.1.passed.picture in let few = c.requires.tour.pictures in omega (arith, i, e, few)
+
+pub make_picture-requires-clause-count : goal.make_picture-requires-clause-count
+make_picture-requires-clause-count g c κs within =
+    let b = c.requires.stands.0 in
+    picture_rows g.M.PassMachine.drawing (IsDrawnBySome g.M.PassMachine.drawn) (g.met.M.PassMachine g.world.𝓛 g.world.𝓜 g.world.𝓡 ((λ s x. x), (λ x. x), (λ x. x), λ x. x)).shows_whole c.args.tour.now b.told c.args.number c.args.passed b.first
+    (g.M.PassMachine.state c.args.machine.now) c.args.recency.now c.requires.tour
+    (walk_state g.D.Folder c.args.tour.now.names.store.now c.args.folder.now (b.kept ∷ (g.M.PassMachine.state c.args.machine.now).files)
+    (g.O.Sink.held c.args.out.now) (g.O.Sink.faults c.args.out.now)) c.requires.stands.1
+
+pub make_picture-requires-clause-full : goal.make_picture-requires-clause-full
+make_picture-requires-clause-full g c κs within =
+    let b = c.requires.stands.0 in
+    full_rows g.M.PassMachine.drawing (IsDrawnBySome g.M.PassMachine.drawn) (g.met.M.PassMachine g.world.𝓛 g.world.𝓜 g.world.𝓡 ((λ s x. x), (λ x. x), (λ x. x), λ x. x)).shows_whole c.args.tour.now b.told c.args.number c.args.passed b.first
+    (g.M.PassMachine.state c.args.machine.now) c.args.recency.now c.requires.tour
+    (walk_state g.D.Folder c.args.tour.now.names.store.now c.args.folder.now (b.kept ∷ (g.M.PassMachine.state c.args.machine.now).files)
+    (g.O.Sink.held c.args.out.now) (g.O.Sink.faults c.args.out.now)) c.requires.stands.1
+
+pub plan_on-requires-clause-ran : goal.plan_on-requires-clause-ran
+plan_on-requires-clause-ran g c κs within =
+    let b = c.requires.stands.0 in
+    let s = ran_as (IsDrawnBySome g.M.PassMachine.drawn) (given_of g.M.PassMachine.drawing c.args.tour.now b.told) (c.args.number + 1) (next_turn c.args.passed) c.turn_after-turn.result
+    (length (g.M.PassMachine.state c.args.machine.now).journal) c.version-start.result c.in_ok-report.report b.first
+    (λ files. state_by g.D.Folder g.O.Sink c.args.tour.now.names.store.now c.write_beside.new.folder c.write_beside.new.out (b.kept ∷ files)) (g.M.PassMachine.state c.write_beside.new.machine) c.args.recency.now
+    c.turn_after-turn.ensures (c.version-start.ensures.version ∙ ap (λ (x : List Change). length x) c.journal.ensures) (c.in_ok-report.ensures.ran b c.requires.stands.1) in (
+      record { told = b.told; run = s.stands.run; machine = s.before },
+      s.has_run,
+    )
+
+pub returns-in_err-name-clause-taken : goal.returns-in_err-name-clause-taken
+returns-in_err-name-clause-taken g c =
+    let p = err_from_is_err_and c.from_residual.result c.from_residual.ensures.1 in
+    λ b at. rw p.1 (left_after g.M.PassMachine.drawing (IsDrawnBySome g.M.PassMachine.drawn) (g.met.M.PassMachine g.world.𝓛 g.world.𝓜 g.world.𝓡 ((λ s x. x), (λ x. x), (λ x. x), λ x. x)).shows_whole c.args.tour.now b.told c.args.number c.args.passed b.first
+    (g.M.PassMachine.state c.args.machine.now) c.args.recency.now c.requires.tour
+    (walk_state g.D.Folder c.args.tour.now.names.store.now c.args.folder.now (b.kept ∷ (g.M.PassMachine.state c.args.machine.now).files)
+    (g.O.Sink.held c.args.out.now) (g.O.Sink.faults c.args.out.now)) at p.0 p.2)
+
+pub returns-in_err-report-clause-taken : goal.returns-in_err-report-clause-taken
+returns-in_err-report-clause-taken g c =
+    let p = err_from_is_err_and c.from_residual-in_err-report.result c.from_residual-in_err-report.ensures.1 in
+    λ b at. rw p.1 (subst (LeftBy (IsDrawnBySome g.M.PassMachine.drawn) (given_of g.M.PassMachine.drawing c.args.tour.now b.told) b.first
+    (walk_state g.D.Folder c.args.tour.now.names.store.now c.write_beside.new.folder (b.kept ∷ (g.M.PassMachine.state c.write_beside.new.machine).files)
+    (g.O.Sink.held c.write_beside.new.out) (g.O.Sink.faults c.write_beside.new.out))) (sym p.2) (c.in_err-report.ensures.ran b at))
+
+pub returns-in_err-drawn-clause-taken : goal.returns-in_err-drawn-clause-taken
+returns-in_err-drawn-clause-taken g c =
+    let p = err_from_is_err_and c.from_residual-in_err-drawn.result c.from_residual-in_err-drawn.ensures.1 in
+    λ b at. rw p.1 (plan_broke g.M.PassMachine.drawing (IsDrawnBySome g.M.PassMachine.drawn) c.args.tour.now b.told
+    g.D.Folder c.args.tour.now.names.store.now b.kept (g.O.Sink.held c.write_beside.new.out) (g.O.Sink.faults c.write_beside.new.out)
+    c.write_beside.new.folder (c.args.number + 1) c.version-start.result c.turn_after-turn.result c.in_ok-report.report b.first (g.M.PassMachine.state c.write_beside.new.machine)
+    c.args.recency.now c.plan_on.new.recency (ran_as (IsDrawnBySome g.M.PassMachine.drawn) (given_of g.M.PassMachine.drawing c.args.tour.now b.told) (c.args.number + 1) (next_turn c.args.passed) c.turn_after-turn.result
+    (length (g.M.PassMachine.state c.args.machine.now).journal) c.version-start.result c.in_ok-report.report b.first
+    (λ files. state_by g.D.Folder g.O.Sink c.args.tour.now.names.store.now c.write_beside.new.folder c.write_beside.new.out (b.kept ∷ files)) (g.M.PassMachine.state c.write_beside.new.machine) c.args.recency.now
+    c.turn_after-turn.ensures (c.version-start.ensures.version ∙ ap (λ (x : List Change). length x) c.journal.ensures) (c.in_ok-report.ensures.ran b at)) p.0 p.2)
+
+pub returns-clause-taken : goal.returns-clause-taken
+returns-clause-taken g c = λ b at.
+    let s = ran_as (IsDrawnBySome g.M.PassMachine.drawn) (given_of g.M.PassMachine.drawing c.args.tour.now b.told) (c.args.number + 1) (next_turn c.args.passed) c.turn_after-turn.result
+    (length (g.M.PassMachine.state c.args.machine.now).journal) c.version-start.result c.in_ok-report.report b.first
+    (λ files. state_by g.D.Folder g.O.Sink c.args.tour.now.names.store.now c.write_beside.new.folder c.write_beside.new.out (b.kept ∷ files)) (g.M.PassMachine.state c.write_beside.new.machine) c.args.recency.now
+    c.turn_after-turn.ensures (c.version-start.ensures.version ∙ ap (λ (x : List Change). length x) c.journal.ensures) (c.in_ok-report.ensures.ran b at) in
+    is_drawn g.M.PassMachine.drawing (IsDrawnBySome g.M.PassMachine.drawn) c.args.tour.now b.told
+    g.D.Folder c.args.tour.now.names.store.now b.kept (g.O.Sink.held c.write_beside.new.out) (g.O.Sink.faults c.write_beside.new.out)
+    c.write_beside.new.folder (c.args.number + 1) c.version-start.result c.turn_after-turn.result c.in_ok-report.report b.first (g.M.PassMachine.state c.write_beside.new.machine)
+    c.args.recency.now c.plan_on.new.recency s c.in_ok-drawn.drawn
+    (c.in_ok-drawn.ensures (record { told = b.told; run = s.stands.run; machine = s.before }) s.has_run)
+
+pub returns-in_err-name-clause-same : goal.returns-in_err-name-clause-same
+returns-in_err-name-clause-same g c = record { names = refl; tell = refl }
+
+pub returns-in_err-name-clause-asked : goal.returns-in_err-name-clause-asked
+returns-in_err-name-clause-asked g c = refl
+
+pub returns-in_err-name-clause-faults : goal.returns-in_err-name-clause-faults
+returns-in_err-name-clause-faults g c = omega arith
+
+pub returns-in_err-name-clause-out_faults : goal.returns-in_err-name-clause-out_faults
+returns-in_err-name-clause-out_faults g c = omega arith
+
+pub returns-in_err-report-clause-same : goal.returns-in_err-report-clause-same
+returns-in_err-report-clause-same g c = c.write_beside.ensures.same
+
+pub returns-in_err-report-clause-asked : goal.returns-in_err-report-clause-asked
+returns-in_err-report-clause-asked g c = c.write_beside.ensures.asked
+
+pub returns-in_err-report-clause-faults : goal.returns-in_err-report-clause-faults
+returns-in_err-report-clause-faults g c = c.write_beside.ensures.faults
+
+pub returns-in_err-report-clause-out_faults : goal.returns-in_err-report-clause-out_faults
+returns-in_err-report-clause-out_faults g c = c.write_beside.ensures.out_faults
+
+pub returns-in_err-drawn-clause-same : goal.returns-in_err-drawn-clause-same
+returns-in_err-drawn-clause-same g c = c.write_beside.ensures.same
+
+pub returns-in_err-drawn-clause-asked : goal.returns-in_err-drawn-clause-asked
+returns-in_err-drawn-clause-asked g c = c.write_beside.ensures.asked
+
+pub returns-in_err-drawn-clause-faults : goal.returns-in_err-drawn-clause-faults
+returns-in_err-drawn-clause-faults g c = c.write_beside.ensures.faults
+
+pub returns-in_err-drawn-clause-out_faults : goal.returns-in_err-drawn-clause-out_faults
+returns-in_err-drawn-clause-out_faults g c = c.write_beside.ensures.out_faults
+
+pub returns-clause-same : goal.returns-clause-same
+returns-clause-same g c = c.write_beside.ensures.same
+
+pub returns-clause-asked : goal.returns-clause-asked
+returns-clause-asked g c = c.write_beside.ensures.asked
+
+pub returns-clause-faults : goal.returns-clause-faults
+returns-clause-faults g c = c.write_beside.ensures.faults
+
+pub returns-clause-out_faults : goal.returns-clause-out_faults
+returns-clause-out_faults g c = c.write_beside.ensures.out_faults
