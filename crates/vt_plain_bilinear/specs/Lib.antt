@@ -1,0 +1,5 @@
+pub mod Corners
+pub mod Blends
+pub mod Plain
+pub mod Served
+pub mod Shown
