@@ -3,3 +3,6 @@ pub mod Blends
 pub mod Plain
 pub mod Served
 pub mod Shown
+pub mod Inside
+pub mod BlendUnder
+pub mod BlendPlain

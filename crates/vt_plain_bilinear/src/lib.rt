@@ -4,9 +4,11 @@
 
 mod blends;
 mod corners;
+mod filter;
 mod plain;
 mod rows;
 mod served;
 
+pub use filter::Bilinear;
 pub use plain::{draw_plain_blend, draw_plain_blend_behind};
 pub use rows::draw_row_blend;

@@ -1,0 +1,8 @@
+pub mod Corners
+pub mod Samples
+pub mod Joined
+pub mod PlainBlends
+pub mod Counts
+pub mod Kept
+pub mod Evidence
+pub mod DrawnBlends
