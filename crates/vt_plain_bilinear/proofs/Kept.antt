@@ -2,12 +2,13 @@
 use Rattle.std.proofs.Common.{◌≡◌, ℕ, refl, sym, ◌∙◌, subst}
 use Rattle.vt_pages.specs.Shape.{Shape}
 use Rattle.vt_draw.specs.declared.lookups.Found.{Found}
-use Rattle.vt_draw.specs.Lookups.{Note, IsFinest}
-use Rattle.vt_draw.proofs.DrawnPixels.{finest_kept}
+use Rattle.vt_pages.specs.Pages.{texel_page}
+use Rattle.vt_draw.specs.Lookups.{Note, WordNote, IsFinest}
+use Rattle.vt_draw.proofs.DrawnPixels.{finest_kept, finest_moved}
 use Rattle.vt_plain_bilinear.specs.declared.served.Memo.{Memo}
 use Rattle.vt_plain_bilinear.specs.declared.corners.Corners.{Corners}
 use Rattle.vt_plain_bilinear.specs.declared.blends.Texels.{Texels}
-use Rattle.vt_plain_bilinear.specs.Served.{GoesOn, IsServed, AreServed, IsMemo}
+use Rattle.vt_plain_bilinear.specs.Served.{GoesOn, coarser_place, IsServed, AreServed, IsMemo}
 
 -- where nothing is called
 pub stays : {A : Type 0} (s : Shape) (v : ℕ) (says : Note → Type 0) (a : A) → GoesOn s v says a s v says a
@@ -53,3 +54,23 @@ all_served_kept s version says later k at t said h = record {
   third = served_kept s version says later k at.column at.next_line t.third said h.third;
   fourth = served_kept s version says later k at.next_column at.next_line t.fourth said h.fourth;
 }
+
+-- a word that was read of the page that was found stays served
+pub served_later : (s : Shape) (v w : ℕ) (says tells later : Note → Type 0) (k x y word : ℕ) (found : Found) → w ≡ v
+    → ((note : Note) → says note → later note) → ((note : Note) → tells note → later note) → IsFinest s v says (texel_page s k x y) found
+    → tells (WordNote w found.slot (coarser_place s k found.level x y) word) → IsServed s v later k x y word
+served_later s v w says tells later k x y word found same said told finest read = record {
+  found = found;
+  finest = finest_kept s v says later (texel_page s k x y) found said finest;
+  read = subst (λ (n : ℕ). later (WordNote n found.slot (coarser_place s k found.level x y) word)) same (told _ read);
+}
+
+-- what a look-up found for a page it has found, by the names that it had before
+pub finest_before : (s t : Shape) (v w : ℕ) (says : Note → Type 0) (p : ℕ) (found : Found) → t ≡ s → w ≡ v → IsFinest t w says p found
+    → IsFinest s v says p found
+finest_before s t v w says p found shape version h = finest_moved t s w v says says p found (sym shape) (sym version) (λ note is. is) h
+
+-- and so is all that was asked for last
+pub memo_moved : (s : Shape) (v w : ℕ) (says later : Note → Type 0) (memo : Memo) → w ≡ v → ((note : Note) → says note → later note)
+    → IsMemo s v says memo → IsMemo s w later memo
+memo_moved s v w says later memo version said h = subst (λ (n : ℕ). IsMemo s n later memo) (sym version) (memo_kept s v says later memo said h)

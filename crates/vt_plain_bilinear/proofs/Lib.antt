@@ -1,4 +1,4 @@
-pub mod Corners
+pub mod Weighing
 pub mod Samples
 pub mod Joined
 pub mod PlainBlends

@@ -1,13 +1,17 @@
 -- The bytes of the plain picture by blends, row by row.
-use Rattle.std.proofs.Common.{◌≡◌, ◌≢◌, ℕ, ◌+◌, ◌*◌, ◌<◌, ◌≤◌, ◌⊎◌, ⊎_elim, List, [], ◌∷◌, ◌++◌, length, refl, sym, ap, ◌∙◌, subst, append_assoc, arith}
+use Rattle.std.proofs.Common.{◌≡◌, ◌≢◌, ℕ, ◌+◌, ◌*◌, ◌^◌, ◌<◌, ◌⊎◌, ⊎_elim, List, ◌++◌, length, sym, ap, ◌∙◌, subst, append_assoc, arith}
 use Rattle.std.specs.List.{flat_map, range_with_len}
 use Rattle.std.proofs.lemmas.List.{append-nil}
-use Rattle.vt_definitions.specs.Depths.{texel_bytes, word_bytes, word_at}
+use Rattle.vt_definitions.specs.Depths.{IsDepth, AreBytes, texel_bytes, word_bytes, word_at}
 use Rattle.vt_definitions.specs.Texels.{Source}
+use Rattle.vt_ppm.specs.Image.{ImageView}
+use Rattle.vt_mip.specs.Chains.{IsTexelRaster}
+use Rattle.vt_mip.specs.Laws.{ChainWordsAreSmall}
 use Rattle.vt_camera.specs.declared.paths.Camera.{Camera}
 use Rattle.vt_camera.specs.declared.surfaces.Surface.{Surface}
 use Rattle.vt_camera.specs.Paths.{PathView}
 use Rattle.vt_camera.specs.Rows.{RowView, row_of, row_level}
+use Rattle.vt_draw.specs.Plain.{chain_of}
 use Rattle.vt_tiles.proofs.Spans.{span_add, span_length}
 use Rattle.vt_plain_bilinear.specs.declared.corners.Corners.{Corners}
 use Rattle.vt_plain_bilinear.specs.declared.corners.Weights.{Weights}
@@ -30,7 +34,10 @@ rows-none d source surface path camera held = sym (append-nil held)
 
 -- one row more
 one_more : (f : ℕ → List ℕ) (n : ℕ) → flat_map f (range_with_len 0 n) ++ f n ≡ flat_map f (range_with_len 0 (n + 1))
-one_more f n = ap (λ (t : List ℕ). flat_map f (range_with_len 0 n) ++ t) (sym (append-nil (f n))) ∙ sym (span_add f 0 n 1)
+one_more f n =
+    let here : n ≡ 0 + n = omega arith in
+    let last : f n ≡ flat_map f (range_with_len n 1) = sym (append-nil (f n)) in
+    ap (λ (t : List ℕ). flat_map f (range_with_len 0 n) ++ t) (last ∙ ap (λ (i : ℕ). flat_map f (range_with_len i 1)) here) ∙ sym (span_add f 0 n 1)
 
 rows-more : (d : ℕ) (source : Source) (surface : Surface) (path : PathView) (camera : Camera) (y : ℕ)
     → first_blended_rows d source surface path camera y ++ row_blends d source (row_of path camera y surface) path.width
@@ -74,6 +81,19 @@ same_texels columns rows f g at inside each = λ i. record {
   third = each at.column at.next_line inside.column inside.next_line i;
   fourth = each at.next_column at.next_line inside.next_column inside.next_line i;
 }
+
+-- the words of a level's bytes are the chain's
+pub raster_word : (d : ℕ) (base : ImageView) (level k columns rows wide high : ℕ) (bytes : List ℕ) → IsDepth d → base.depth ≡ d → AreBytes base.samples
+    → level ≡ k → wide ≡ columns → high ≡ rows → IsTexelRaster d (chain_of base level) columns rows bytes → ChainWordsAreSmall
+    → ((e w : ℕ) (b : List ℕ) (i : ℕ) → IsDepth e → w < 2 ^ (24 * e) → texel_bytes e b i ≡ word_bytes e w → word_at e b i ≡ w)
+    → (x y : ℕ) → x < wide → y < high → word_at d bytes (y * wide + x) ≡ chain_of base k x y
+raster_word d base level k columns rows wide high bytes depth own are same w h raster small words x y inside below =
+    let few : chain_of base level x y < 2 ^ (24 * d) =
+    subst (λ (e : ℕ). chain_of base level x y < 2 ^ (24 * e)) own (small base level x y (subst IsDepth (sym own) depth) are) in
+    ap (λ (n : ℕ). word_at d bytes (y * n + x)) w
+    ∙ words d (chain_of base level x y) bytes (y * columns + x) depth few
+    (raster.each x y (subst (λ (n : ℕ). x < n) w inside) (subst (λ (n : ℕ). y < n) h below))
+    ∙ ap (λ (i : ℕ). chain_of base i x y) same
 
 -- the word that a pixel shows
 pub word_is : (d : ℕ) (row : RowView) (x columns rows blended : ℕ) (f g : ℕ → ℕ → ℕ) (at : Corners) (w : Weights) (t : Texels)

@@ -1,5 +1,5 @@
 -- A blend, where the pages of its texels are mapped: it is that of the plain picture.
-use Rattle.std.proofs.Common.{◌≡◌, ℕ, ◌+◌, ◌-◌, ◌*◌, ◌/◌, ◌^◌, ◌<◌, ◌≤◌, zero, suc, Bool, true, false, cond, List, [], ◌∷◌, ◌++◌, get_or, Option, refl, sym, ap, ◌∙◌, zero-add, add-one, arith}
+use Rattle.std.proofs.Common.{◌≡◌, ℕ, ◌+◌, ◌-◌, ◌*◌, ◌/◌, ◌^◌, ◌<◌, ◌≤◌, zero, suc, Bool, true, false, [], ◌∷◌, ◌++◌, get_or, Option, refl, sym, ap, ◌∙◌, zero-add, add-one, arith}
 use Rattle.std.specs.Prelude.{unwrap_or, IsSome, sum_by, ◌==◌, if◌then◌else◌}
 use Rattle.std.specs.List.{range_with_len}
 use Rattle.std.proofs.Math.Nat.{div-one}
@@ -29,7 +29,7 @@ use Rattle.vt_plain_bilinear.specs.Shown.{texel_under, blend_under, plain_blend}
 use Rattle.vt_plain_bilinear.specs.Inside.{row_level_inside, pixel_corners_inside}
 
 -- a run has no more for any page than it has
-run-most : (page run p : ℕ) → run_of page run p ≤ run
+pub run-most : (page run p : ℕ) → run_of page run p ≤ run
 unfolding run_of
 run-most page run p = step (page == p) where
   step : (b : Bool) → (if b then run else 0) ≤ run
@@ -125,8 +125,8 @@ mapped_blend_is_plain source scene m i x y limits inside below needed =
     let among = times-some (pages_about s k c) in
     let mapped : (u v : ℕ) → IsInside s k u v → 1 ≤ times_among (pages_about s k c) (texel_page s k u v) → texel_under source s m k u v ≡ source k u v =
     λ u v at one.
-        mapped_texel source s m k u v limits at
-        (needed (texel_page s k u v) (texel_is_page s k u v some at).inside (picture_has scene i x y (texel_page s k u v) inside below one)) in
+    mapped_texel source s m k u v limits at
+    (needed (texel_page s k u v) (texel_is_page s k u v some at).inside (picture_has scene i x y (texel_page s k u v) inside below one)) in
     let first = mapped c.column c.line (level, in_level.column, in_level.line) among.0 in
     let second = mapped c.next_column c.line (level, in_level.next_column, in_level.line) among.1 in
     let third = mapped c.column c.next_line (level, in_level.column, in_level.next_line) among.2 in

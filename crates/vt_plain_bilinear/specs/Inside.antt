@@ -1,5 +1,5 @@
 -- Where the corners of a place lie: inside their level, in the page that serves them.
-use Rattle.std.proofs.Common.{◌≡◌, ℕ, ◌+◌, ◌-◌, ◌*◌, ◌/◌, ◌%◌, ◌^◌, ◌<◌, ◌≤◌, Bool, true, false, refl, sym, ap, ◌∙◌, subst, mul_comm, arith}
+use Rattle.std.proofs.Common.{◌≡◌, ℕ, ◌+◌, ◌-◌, ◌*◌, ◌/◌, ◌^◌, ◌<◌, ◌≤◌, Bool, true, false, refl, sym, ap, ◌∙◌, subst, mul_comm, arith}
 use Rattle.std.specs.Prelude.{◌==◌, if◌then◌else◌}
 use Rattle.std.proofs.lemmas.Bool.{eqb-false}
 use Rattle.std.proofs.Math.Nat.{div-div-eq-div-mul}
@@ -78,6 +78,6 @@ covered s version says k x y found some inside finest =
     let low : k ≤ j = omega (arith, level, no_finer) in
     let up : k + (j - k) ≡ j = omega (arith, low) in
     let P : ℕ → Type 0 = λ i. IsInside s i (x / 2 ^ (j - k)) (y / 2 ^ (j - k))
-        × (ancestor_of s p i ≡ texel_page s i (x / 2 ^ (j - k)) (y / 2 ^ (j - k))) in
+    × (ancestor_of s p i ≡ texel_page s i (x / 2 ^ (j - k)) (y / 2 ^ (j - k))) in
     let line = subst P up (lines_follow_places s some k x y (j - k) inside (omega (arith, up, top))) in
     record { low = low; inside = line.0; page = sym (finest.page ∙ line.1) }

@@ -1,5 +1,5 @@
 -- A row of a picture that is drawn by blends over a look-up of pages.
-use Rattle.std.specs.Prelude.{◌≡◌, ℕ, ◌+◌, ◌-◌, ◌*◌, ◌/◌, ◌^◌, ◌<◌, List, length, slice_index, sum_by}
+use Rattle.std.specs.Prelude.{◌≡◌, ℕ, ◌+◌, ◌-◌, ◌/◌, ◌^◌, ◌<◌, List, length, slice_index, sum_by}
 use Rattle.std.specs.List.{range_with_len}
 use Rattle.vt_definitions.specs.Depths.{texel_bytes, word_bytes}
 use Rattle.vt_pages.specs.Shape.{Shape}
@@ -16,11 +16,11 @@ use Rattle.vt_plain_bilinear.specs.Corners.{corners_of, weights_of}
 use Rattle.vt_plain_bilinear.specs.Blends.{blended_word}
 
 -- a look-up looks at the same pages and version as before, stands on the same, and says no less
-pub record GoesOn {A : Type 0} (s : Shape) (version : ℕ) (says : Note → Type 0) (kept : A) (t : Shape) (same : ℕ) (tells : Note → Type 0) (still : A) : Type 0 where
+pub record GoesOn {A : Type 0} (s : Shape) (v : ℕ) (says : Note → Type 0) (a : A) (t : Shape) (w : ℕ) (tells : Note → Type 0) (b : A) : Type 0 where
   pub shape : t ≡ s
-  pub version : same ≡ version
+  pub version : w ≡ v
   pub said : (note : Note) → says note → tells note
-  pub kept : still ≡ kept
+  pub kept : b ≡ a
 
 -- the place in its tile of the texel of level j that covers the texel in a column and a row of level k
 abbrev pub coarser_place : Shape → ℕ → ℕ → ℕ → ℕ → ℕ

@@ -14,9 +14,9 @@ use crate::blends::{Texels, blend_words};
 use crate::corners::{Corners, corners_of, weights_of};
 use std::alloc::{AllocError, Global};
 use vt_camera::{Camera, Path, Row, Surface};
-use vt_definitions::{put_word, texel_length, word_at};
+use vt_definitions::{put_word, texel_length, texels_with_bytes_have_words, word_at};
 use vt_draw::surface_of;
-use vt_mip::{Chain, texture_samples_are_bytes};
+use vt_mip::{Chain, chain_words_are_small, texture_samples_are_bytes};
 use vt_outside::NoMemory;
 
 // How many bytes the longest row of a picture has.
@@ -120,24 +120,25 @@ fn blend_row<const DEPTH: u32>(chain: &Chain, row: Row, columns: u32, out: &mut 
     ensures { out.new ≡ row_blends DEPTH (chain_of chain.now.base) row columns }
 {
     texture_samples_are_bytes(chain);
+    chain_words_are_small();
+    texels_with_bytes_have_words();
     let level = row.level();
     let texels = chain.samples(level);
     let (wide, high) = chain.size(level);
     for x in 0..columns {
         let at = corners_of(&row, level, wide, high, x);
         let words = texels_about::<DEPTH>(texels, wide, high, &at);
-        put_word::<DEPTH>(out, x as usize, blend_words::<DEPTH>(&weights_of(&at), &words));
+        put_word::<DEPTH>(
+            out,
+            x as usize,
+            blend_words::<DEPTH>(&weights_of(&at), &words),
+        );
     }
 }
 
 // The words at some corners of a level whose texels stand row by row, in so many columns and rows.
 #[inline(always)]
-fn texels_about<const DEPTH: u32>(
-    texels: &[u8],
-    columns: u32,
-    rows: u32,
-    at: &Corners,
-) -> Texels
+fn texels_about<const DEPTH: u32>(texels: &[u8], columns: u32, rows: u32, at: &Corners) -> Texels
     requires depth { IsDepth DEPTH }
     requires few_columns { columns ≤ most_read_side }
     requires few_rows { rows ≤ most_read_side }

@@ -183,11 +183,16 @@ fn blend_pixels<K: Lookup, const DEPTH: u32>(
     let mut run = 0;
     for x in 0..columns {
         let at = corners_of(&row, level, wide, high, x);
-        let (texels, last, length) =
-            take_texels(lookup, geometry, &mut memo, level, &at, seen, run, counts);
+        let (texels, last, length) = take_texels(
+            lookup, geometry, &mut memo, level, &at, seen, run, counts,
+        );
         seen = last;
         run = length;
-        put_word::<DEPTH>(out, x as usize, blend_words::<DEPTH>(&weights_of(&at), &texels));
+        put_word::<DEPTH>(
+            out,
+            x as usize,
+            blend_words::<DEPTH>(&weights_of(&at), &texels),
+        );
     }
     add_texels(counts, seen.page, run);
 }

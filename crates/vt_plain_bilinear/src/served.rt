@@ -168,7 +168,14 @@ pub(crate) fn words_by<K: Lookup>(
         first: word_of_texel(lookup, geometry, first, level, at.column, at.line),
         second: word_of_texel(lookup, geometry, second, level, at.next_column, at.line),
         third: word_of_texel(lookup, geometry, third, level, at.column, at.next_line),
-        fourth: word_of_texel(lookup, geometry, fourth, level, at.next_column, at.next_line),
+        fourth: word_of_texel(
+            lookup,
+            geometry,
+            fourth,
+            level,
+            at.next_column,
+            at.next_line,
+        ),
     }
 }
 
@@ -201,5 +208,7 @@ pub(crate) fn words_apart<K: Lookup>(
     let second = recall(lookup, geometry, memo, pages.second);
     let third = recall(lookup, geometry, memo, pages.third);
     let fourth = recall(lookup, geometry, memo, pages.fourth);
-    words_by(lookup, geometry, level, at, &first, &second, &third, &fourth)
+    words_by(
+        lookup, geometry, level, at, &first, &second, &third, &fourth,
+    )
 }
