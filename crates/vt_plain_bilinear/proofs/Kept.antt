@@ -10,10 +10,6 @@ use Rattle.vt_plain_bilinear.specs.declared.corners.Corners.{Corners}
 use Rattle.vt_plain_bilinear.specs.declared.blends.Texels.{Texels}
 use Rattle.vt_plain_bilinear.specs.Served.{GoesOn, coarser_place, IsServed, AreServed, IsMemo}
 
--- where nothing is called
-pub stays : {A : Type 0} (s : Shape) (v : ℕ) (says : Note → Type 0) (a : A) → GoesOn s v says a s v says a
-stays s v says a = record { shape = refl; version = refl; said = λ note h. h; kept = refl }
-
 -- one call after the other
 pub goes_on : {A : Type 0} {s t u : Shape} {v w z : ℕ} {says tells adds : Note → Type 0} {a b c : A} → GoesOn s v says a t w tells b
     → GoesOn t w tells b u z adds c → GoesOn s v says a u z adds c
@@ -23,11 +19,6 @@ goes_on first then = record {
   said = λ note h. then.said note (first.said note h);
   kept = then.kept ∙ first.kept;
 }
-
--- what was found for a page was found for the same page under another name
-pub finest_same : (s : Shape) (version : ℕ) (says : Note → Type 0) (p q : ℕ) (found : Found) → p ≡ q → IsFinest s version says p found
-    → IsFinest s version says q found
-finest_same s version says p q found same h = subst (λ (r : ℕ). IsFinest s version says r found) same h
 
 pub memo_kept : (s : Shape) (version : ℕ) (says later : Note → Type 0) (memo : Memo) → ((note : Note) → says note → later note)
     → IsMemo s version says memo → IsMemo s version later memo
@@ -69,8 +60,3 @@ served_later s v w says tells later k x y word found same said told finest read 
 pub finest_before : (s t : Shape) (v w : ℕ) (says : Note → Type 0) (p : ℕ) (found : Found) → t ≡ s → w ≡ v → IsFinest t w says p found
     → IsFinest s v says p found
 finest_before s t v w says p found shape version h = finest_moved t s w v says says p found (sym shape) (sym version) (λ note is. is) h
-
--- and so is all that was asked for last
-pub memo_moved : (s : Shape) (v w : ℕ) (says later : Note → Type 0) (memo : Memo) → w ≡ v → ((note : Note) → says note → later note)
-    → IsMemo s v says memo → IsMemo s w later memo
-memo_moved s v w says later memo version said h = subst (λ (n : ℕ). IsMemo s n later memo) (sym version) (memo_kept s v says later memo said h)

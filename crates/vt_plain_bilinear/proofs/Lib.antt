@@ -1,5 +1,4 @@
 pub mod Weighing
-pub mod Samples
 pub mod Joined
 pub mod PlainBlends
 pub mod Counts
