@@ -14,7 +14,7 @@ use Rattle.vt_filter.specs.Evidence.{IsBy, AreShown}
 
 -- each page of a line is unmapped, at so many levels from one on
 module _ (s : Shape) (version p : ℕ) where
-  pub finer : ℕ → ℕ → List Note
+  abbrev finer : ℕ → ℕ → List Note
   finer from zero = []
   finer from (suc n) = EntryNote version (ancestor_of s p from) 0 ∷ finer (suc from) n
 

@@ -3,7 +3,6 @@
 ghost use Rattle.std.specs.Prelude.{◌≡◌, ℕ, ◌*◌, ◌<◌, false, length, IsSome};
 ghost use Rattle.vt_definitions.specs.Depths.{IsDepth, word_at};
 ghost use Rattle.vt_pages.specs.Pages.{pages_of, root_of};
-ghost use Rattle.vt_draw.specs.Lookups.{place_in_tile};
 ghost use Rattle.vt_journal.specs.Changes.{IsOneToOne};
 ghost use Rattle.vt_journal.specs.Kept.{entries_of};
 ghost use Rattle.vt_tiles.specs.Format.{tile_length};
@@ -14,7 +13,7 @@ use crate::table::PageTable;
 use crate::tiles::{Tiles, entry_at};
 use std::marker::Model;
 use vt_definitions::word_in;
-use vt_draw::{Found, Lookup};
+use vt_draw::{Found, Lookup, place_of};
 use vt_pages::Geometry;
 
 /// A look-up of pages in a page table, which maps the root, over the tiles that are at hand. A page whose tile is not there is
@@ -149,17 +148,6 @@ impl Sight<'_> {
             None => 0,
         }
     }
-}
-
-// The place of a texel of a level in the tile of its page.
-#[inline]
-fn place_of(geometry: &Geometry, x: u32, y: u32) -> u32
-    ensures place { result ≡ place_in_tile geometry.now x y }
-    ensures inside { result < geometry.now.tile * geometry.now.tile }
-{
-    let side = geometry.tile();
-    let mask = side - 1;
-    (y & mask) * side + (x & mask)
 }
 
 // The finest page that a table maps of a page and its ancestors.
