@@ -2,6 +2,7 @@ pub mod Answering
 pub mod Passes
 pub mod Reading
 pub mod Sighted
+pub mod Climbing
 pub mod Tiling
 pub mod Readying
 pub mod Following
@@ -11,3 +12,4 @@ pub mod Rows
 pub mod Places
 pub mod Written
 pub mod Staging
+pub mod Trying
