@@ -88,7 +88,7 @@ fn play_words(
     words: &[String],
     scene: &mut Scene,
 ) -> u8 {
-    run::<WordMachine<MemoryFile>, _, _, _, _, _>(
+    run::<WordMachine<MemoryFile>, WordMachine<MemoryFile>, _, _, _, _, _>(
         rt,
         alloc,
         words,
