@@ -27,9 +27,13 @@ wanted_page s row x = covering_page s (row_level row) (row_place row x).0 (row_p
 unfoldable pub pixels_wanting : Shape → RowView → ℕ → ℕ → ℕ
 pixels_wanting s row n p = count_by (λ x. wanted_page s row x == p) (range_with_len 0 n)
 
+-- how much some rows of a picture want of a page together, by how much the first pixels of a row want of it
+unfoldable pub wants_in_rows : (Shape → RowView → ℕ → ℕ → ℕ) → Shape → PathView → ℕ → List ℕ → ℕ → ℕ
+wants_in_rows wants s path picture rows p = sum_by (λ y. wants s (shot_row s path picture y) path.width p) rows
+
 -- how many pixels of some rows of a picture want a page (Mayer 2010)
-unfoldable pub pixels_in_rows : Shape → PathView → ℕ → List ℕ → ℕ → ℕ
-pixels_in_rows s path picture rows p = sum_by (λ y. pixels_wanting s (shot_row s path picture y) path.width p) rows
+abbrev pub pixels_in_rows : Shape → PathView → ℕ → List ℕ → ℕ → ℕ
+pixels_in_rows s path picture rows p = wants_in_rows pixels_wanting s path picture rows p
 
 -- how many pixels of a run that want one page want page p
 unfoldable pub run_of : ℕ → ℕ → ℕ → ℕ

@@ -1,10 +1,12 @@
 //! What a picture is drawn from: a look-up of pages.
 
-ghost use Rattle.std.specs.Prelude.{◌≡◌, ℕ, ◌+◌, ◌<◌};
+ghost use Rattle.std.specs.Prelude.{◌≡◌, ℕ, ◌+◌, ◌*◌, ◌<◌};
 ghost use Rattle.vt_pages.specs.Shape.{Shape};
 ghost use Rattle.vt_pages.specs.Pages.{level_of, pages_of, texel_page};
 ghost use Rattle.vt_pages.specs.Laws.{IsInside};
 ghost use Rattle.vt_draw.specs.Lookups.{Note, EntryNote, WordNote, IsFinest, place_in_tile};
+
+use vt_pages::Geometry;
 
 /// What a look-up found for a page: a page of its line, and where its texels stand.
 #[derive(Clone, Copy, Debug, PartialEq, Eq)]
@@ -56,4 +58,15 @@ pub trait Lookup {
         ensures version { version self.new ≡ version self.old }
         ensures shape { shape self.new ≡ shape self.old }
         ensures kept { Self.kept self.new ≡ Self.kept self.old };
+}
+
+/// The place of the texel in column `x` and row `y` of a level in the tile of its page, which goes row by row.
+#[inline]
+pub fn place_of(geometry: &Geometry, x: u32, y: u32) -> u32
+    ensures place { result ≡ place_in_tile geometry.now x y }
+    ensures inside { result < geometry.now.tile * geometry.now.tile }
+{
+    let side = geometry.tile();
+    let mask = side - 1;
+    (y & mask) * side + (x & mask)
 }

@@ -1,14 +1,14 @@
 //! The look-up that owns its hold.
 
-ghost use Rattle.std.specs.Prelude.{◌≡◌, ◌<◌, ◌*◌, true};
+ghost use Rattle.std.specs.Prelude.{◌≡◌, ◌<◌, true};
 ghost use Rattle.vt_pages.specs.Pages.{pages_of};
-ghost use Rattle.vt_draw.specs.Lookups.{IsFinest, place_in_tile};
+ghost use Rattle.vt_draw.specs.Lookups.{IsFinest};
 ghost use Rattle.vt_grace.specs.Places.{texel_word};
 ghost use Rattle.vt_grace.specs.Tokens.{IsHeldOf};
 ghost use Rattle.vt_lookup.specs.Notes.{Fits, IsNotedIn, HasNotedMore, LookupValue, LookupBase, base_of};
 
 use std::marker::Model;
-use vt_draw::{Found, Lookup};
+use vt_draw::{Found, Lookup, place_of};
 use vt_grace::{Held, Words};
 use vt_pages::{Geometry, PageName};
 
@@ -78,17 +78,6 @@ impl<'a> HeldLookup<'a> {
         }
         self.words.start_of(frame)
     }
-}
-
-// The place of a texel of a level in the tile of its page.
-#[inline]
-fn place_of(geometry: &Geometry, x: u32, y: u32) -> u32
-    ensures place { result ≡ place_in_tile geometry.now x y }
-    ensures inside { result < geometry.now.tile * geometry.now.tile }
-{
-    let side = geometry.tile();
-    let mask = side - 1;
-    (y & mask) * side + (x & mask)
 }
 
 // The finest page that is mapped in the held version, of a page and its ancestors. It is called once for a run of pixels, and

@@ -1,12 +1,32 @@
 -- How a machine draws.
-use Rattle.std.specs.Prelude.{ℕ, Bool, List}
+use Rattle.std.specs.Prelude.{ℕ, Bool, true, List}
+use Rattle.vt_definitions.specs.Texels.{Source}
+use Rattle.vt_pages.specs.Shape.{Shape}
+use Rattle.vt_camera.specs.Rows.{RowView}
 use Rattle.vt_journal.specs.Changes.{Table}
+use Rattle.vt_tiles.specs.Format.{stored}
 use Rattle.vt_shown.specs.Scenes.{Scene}
+use Rattle.vt_filter.specs.declared.filters.Filter.{Ghosts as FilterMeanings}
+use Rattle.vt_filter.specs.FilterLaws.{picture_wants}
 
--- what belongs to a kind of machines: whether row y is always drawn by sampler y modulo their number; how many pixels of a picture need each
+-- what belongs to a kind of machines: whether row y is always drawn by sampler y modulo their number; how many texels a picture needs of each
 -- page; and of a store's bytes the bytes of each pixel of a picture, under a page table and without one
 pub record Drawing : Type 0 where
   pub dealt : Bool
   pub needs : Scene → ℕ → ℕ → ℕ
   pub shows : Scene → List ℕ → Table → ℕ → ℕ → ℕ → List ℕ
   pub whole : Scene → List ℕ → ℕ → ℕ → ℕ → List ℕ
+
+-- rows are dealt to the samplers, and pixels are made of a store's texels in these ways
+abbrev pub drawing_by : (Shape → RowView → ℕ → ℕ → ℕ) → (Source → Scene → Table → ℕ → ℕ → ℕ → List ℕ) → (Source → Scene → ℕ → ℕ → ℕ → List ℕ)
+    → Drawing
+drawing_by wants under plain = record {
+  dealt = true;
+  needs = picture_wants wants;
+  shows = λ scene b m i x y. under (stored b) scene m i x y;
+  whole = λ scene b i x y. plain (stored b) scene i x y;
+}
+
+-- and as a filter makes them
+abbrev pub drawing_of : {P : Type 0} → FilterMeanings P → Drawing
+drawing_of f = drawing_by f.wants f.under f.plain

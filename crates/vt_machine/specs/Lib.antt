@@ -6,4 +6,3 @@ pub mod Drawings
 pub mod Nearest
 pub mod Machines
 pub mod Passes
-pub mod Plainly

@@ -7,6 +7,8 @@ ghost use Rattle.vt_outside.specs.Counts.{Rose};
 ghost use Rattle.vt_outside.specs.Files.{noted};
 ghost use Rattle.vt_pages.specs.Shape.{Shape};
 ghost use Rattle.vt_pages.specs.Pages.{IsWithinLimits};
+ghost use Rattle.vt_draw.specs.Shots.{pixels_wanting};
+ghost use Rattle.vt_filter.specs.FilterLaws.{picture_wants};
 ghost use Rattle.vt_journal.specs.declared.changes.Change.{Change};
 ghost use Rattle.vt_journal.specs.declared.changes.Event.{Event};
 ghost use Rattle.vt_journal.specs.Changes.{Table, newest};
@@ -20,7 +22,6 @@ ghost use Rattle.vt_workers.specs.Jobs.{Job};
 ghost use Rattle.vt_machine.specs.Outcomes.{IsEntryFor, IsBatchFor, group_of, pass_events, IsOutcome};
 ghost use Rattle.vt_machine.specs.Requests.{FileState, AreReadFor};
 ghost use Rattle.vt_shown.specs.Replays.{IsPictureOf, pixel_under, plain_pixel};
-ghost use Rattle.vt_machine.specs.Nearest.{picture_wants};
 ghost use Rattle.vt_machine.specs.Machines.{MachineState};
 ghost use Rattle.vt_machine.specs.Passes.{IsJobFor, MapsNeeded, Ran};
 
@@ -66,7 +67,7 @@ pub fn reads_add_up()
 /// the plain picture (van Waveren 2012).
 pub fn mapped_pixels_are_plain()
     ensures { (src : Source) (scene : Scene) (m : Table) (i x y : ℕ) → IsWithinLimits scene.shape → x < scene.path.width
-        → y < scene.path.height → MapsNeeded scene.shape m (picture_wants scene i)
+        → y < scene.path.height → MapsNeeded scene.shape m (picture_wants pixels_wanting scene i)
         → pixel_under src scene m i x y ≡ plain_pixel src scene i x y }
 {}
 

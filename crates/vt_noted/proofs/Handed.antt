@@ -1,40 +1,14 @@
 -- What notes say is handed on to notes that say no less.
-use Rattle.std.proofs.Common.{◌≡◌, ℕ, List, sym, subst}
+use Rattle.std.proofs.Common.{◌≡◌, List, sym, subst}
 use Rattle.std.specs.Prelude.{Contains}
 use Rattle.std.proofs.lemmas.List.Elements.{Contains-append_left, Contains-append_right}
-use Rattle.vt_pages.specs.Shape.{Shape}
-use Rattle.vt_camera.specs.Rows.{RowView}
 use Rattle.vt_draw.specs.Lookups.{Note, EntryNote, WordNote}
-use Rattle.vt_draw.specs.Shots.{IsDrawn, AreDrawn}
 use Rattle.vt_grace.specs.declared.views.EntryNote.{EntryNote as ReadEntry}
 use Rattle.vt_grace.specs.declared.views.WordNote.{WordNote as ReadWord}
 use Rattle.vt_grace.specs.declared.views.PassView.{PassView}
 use Rattle.vt_grace.specs.declared.views.WriterView.{WriterView}
 use Rattle.vt_grace.specs.Giving.{after_return}
 use Rattle.vt_noted.specs.Noted.{IsAmong, IsNotedBy, HasNoted, HasNotesOf}
-
--- a pixel that was drawn by notes is drawn by notes that say no less
-pub said_by : (says tells : Note → Type 0) → ((note : Note) → says note → tells note) → (s : Shape) (d version x : ℕ) (row : RowView) (bytes : List ℕ)
-    → IsDrawn s d version says row x bytes → IsDrawn s d version tells row x bytes
-said_by says tells so s d version x row bytes drawn = record {
-  found = drawn.found;
-  word = drawn.word;
-  finest = record {
-    no_finer = drawn.finest.no_finer;
-    level_inside = drawn.finest.level_inside;
-    page = drawn.finest.page;
-    level = drawn.finest.level;
-    unmapped = λ k low high. so _ (drawn.finest.unmapped k low high);
-    mapped = so _ drawn.finest.mapped;
-  };
-  read = so _ drawn.read;
-  shown = drawn.shown;
-}
-
--- and so is a row
-pub row_said_by : (says tells : Note → Type 0) → ((note : Note) → says note → tells note) → (s : Shape) (d version n : ℕ) (row : RowView) (bytes : List ℕ)
-    → AreDrawn s d version says row n bytes → AreDrawn s d version tells row n bytes
-row_said_by says tells so s d version n row bytes drawn = λ x inside. said_by says tells so s d version x row _ (drawn x inside)
 
 -- each note of some is one that a writer has
 pub noted_by : (w : WriterView) (entries : List ReadEntry) (words : List ReadWord) → HasNoted w entries words → (note : Note) → IsAmong entries words note

@@ -4,7 +4,7 @@ ghost use Rattle.std.specs.Prelude.{◌≡◌, ℕ, ◌++◌, Option, Some, IfSo
 ghost use Rattle.vt_pages.specs.Shape.{Shape};
 ghost use Rattle.vt_pages.specs.Pages.{IsWithinLimits};
 ghost use Rattle.vt_camera.specs.Rows.{RowView};
-ghost use Rattle.vt_draw.specs.Shots.{shot_row, IsDrawn, AreDrawn};
+ghost use Rattle.vt_draw.specs.Shots.{shot_row, AreDrawn};
 ghost use Rattle.vt_journal.specs.declared.changes.Change.{Change};
 ghost use Rattle.vt_journal.specs.declared.changes.RowLine.{RowLine};
 ghost use Rattle.vt_journal.specs.Changes.{at};
@@ -18,39 +18,50 @@ ghost use Rattle.vt_grace.specs.WriterViews.{after_look, after_entry, after_word
 ghost use Rattle.vt_grace.specs.Giving.{after_giving, after_return};
 ghost use Rattle.vt_grace.specs.Sound.{IsSound};
 ghost use Rattle.vt_shown.specs.Scenes.{Scene};
-ghost use Rattle.vt_shown.specs.Replays.{pixel_under, HasPixels, AreReplayed};
+ghost use Rattle.vt_shown.specs.Replays.{HasPixels, AreReplayed};
+ghost use Rattle.vt_filter.specs.Evidence.{IsBy, AreTrue, AreShown};
 ghost use Rattle.vt_noted.specs.Noted.{IsAmong, IsNotedBy, HasNoted, HasNotesOf};
 ghost use Rattle.vt_noted.specs.Stored.{AreStored};
 
-/// A pixel that was drawn at a version by notes which a writer took back, whose contents are tiles of a store, has the
+use vt_filter::{Filter, Nearest};
+
+/// What a writer took back as notes of a version is true of that version's table over the store, where the contents of its
+/// changes are tiles of the store.
+pub fn notes_are_true()
+    ensures { (w : WriterView) (s : Shape) (d : ℕ) (b : List ℕ) (version : ℕ)
+        → IsSound w → IsWithinLimits s → IsStore b s d → AreStored s d (Some b) w.journal w.contents
+        → AreTrue s (stored b) (at w.journal version) version (IsNotedBy w) }
+{}
+
+/// A pixel that a filter drew at a version by notes which a writer took back, whose contents are tiles of a store, has the
 /// bytes that the replay of that version has, though the journal has grown since (van Waveren 2012).
-pub fn noted_pixels_are_replayed()
+pub fn noted_pixels_are_replayed<P: Filter>()
     ensures { (w : WriterView) (s : Shape) (d : ℕ) (b : List ℕ) (scene : Scene) (version i x y : ℕ) (bytes : List ℕ)
         → IsSound w → IsWithinLimits s → IsStore b s d → AreStored s d (Some b) w.journal w.contents
         → scene.shape ≡ s → scene.depth ≡ d
-        → IsDrawn s d version (IsNotedBy w) (shot_row s scene.path i y) x bytes
-        → bytes ≡ pixel_under (stored b) scene (at w.journal version) i x y }
+        → IsBy (IsNotedBy w) (λ notes. P.shown s d version notes (shot_row s scene.path i y) x bytes)
+        → bytes ≡ P.under (stored b) scene (at w.journal version) i x y }
 {}
 
 /// So has each of the first `n` pixels of a row.
-pub fn noted_rows_are_replayed()
+pub fn noted_rows_are_replayed<P: Filter>()
     ensures { (w : WriterView) (s : Shape) (d : ℕ) (b : List ℕ) (scene : Scene) (version i n y : ℕ) (bytes : List ℕ)
         → IsSound w → IsWithinLimits s → IsStore b s d → AreStored s d (Some b) w.journal w.contents
         → scene.shape ≡ s → scene.depth ≡ d
-        → AreDrawn s d version (IsNotedBy w) (shot_row s scene.path i y) n bytes
-        → HasPixels d n (λ x. pixel_under (stored b) scene (at w.journal version) i x y) bytes }
+        → AreShown P.shown s d version (IsNotedBy w) (shot_row s scene.path i y) n bytes
+        → HasPixels d n (λ x. P.under (stored b) scene (at w.journal version) i x y) bytes }
 {}
 
 /// A picture each of whose rows was drawn so, at the version that its line names, is the replay of the journal, where
 /// the store's bytes are told.
-pub fn pictures_by_notes_are_replayed()
+pub fn pictures_by_notes_are_replayed<P: Filter>()
     ensures { (w : WriterView) (s : Shape) (d : ℕ) (told : Option (List ℕ)) (scene : Scene) (i n : ℕ)
         (lines : List RowLine) (rows : List (List ℕ))
         → IsSound w → IsWithinLimits s → IsStoreIfTold told s d → AreStored s d told w.journal w.contents
         → scene.shape ≡ s → scene.depth ≡ d
         → ((y : ℕ) (line : RowLine) → slice_get lines y ≡ Some line
-        → AreDrawn s d line.version (IsNotedBy w) (shot_row s scene.path i y) n (slice_index_or rows y []))
-        → IfSome told (λ b. AreReplayed d n (λ m x y. pixel_under (stored b) scene m i x y) w.journal lines rows) }
+        → AreShown P.shown s d line.version (IsNotedBy w) (shot_row s scene.path i y) n (slice_index_or rows y []))
+        → IfSome told (λ b. AreReplayed d n (λ m x y. P.under (stored b) scene m i x y) w.journal lines rows) }
 {}
 
 /// What a pass has noted the writer has noted once it took the pass back; and what a writer has noted it has noted after
@@ -68,11 +79,22 @@ pub fn notes_are_kept()
         → HasNotesOf w v → HasNoted w entries words }
 {}
 
-/// A row that was drawn by notes is drawn by those of a writer that has noted all of them.
-pub fn drawn_rows_stay_drawn()
+/// A row that a filter drew by notes is drawn by those of a writer that has noted all of them.
+pub fn drawn_rows_stay_drawn<P: Filter>()
     ensures { (w : WriterView) (entries : List ReadEntry) (words : List ReadWord) (s : Shape) (d version n : ℕ)
         (row : RowView) (bytes : List ℕ) → HasNoted w entries words
-        → AreDrawn s d version (IsAmong entries words) row n bytes → AreDrawn s d version (IsNotedBy w) row n bytes }
+        → AreShown P.shown s d version (IsAmong entries words) row n bytes
+        → AreShown P.shown s d version (IsNotedBy w) row n bytes }
+{}
+
+/// A row whose pixels are one texel each is shown by notes of a writer where it is drawn by them, and else is not.
+pub fn nearest_rows_are_drawn()
+    ensures drawn { (w : WriterView) (s : Shape) (d version n : ℕ) (row : RowView) (bytes : List ℕ)
+        → AreShown ⟦<Nearest as Filter>⟧.shown s d version (IsNotedBy w) row n bytes
+        → AreDrawn s d version (IsNotedBy w) row n bytes }
+    ensures shown { (w : WriterView) (s : Shape) (d version n : ℕ) (row : RowView) (bytes : List ℕ)
+        → AreDrawn s d version (IsNotedBy w) row n bytes
+        → AreShown ⟦<Nearest as Filter>⟧.shown s d version (IsNotedBy w) row n bytes }
 {}
 
 /// Where the contents of a journal and those of the changes that were added are tiles of a store, those of the whole

@@ -2,6 +2,7 @@
 use Rattle.std.proofs.Common.{◌≡◌, ℕ, List, ◌++◌, length, refl, sym, ap, ◌∙◌, subst}
 use Rattle.vt_outside.specs.declared.outside.File.{Ghosts as FileMeanings}
 use Rattle.vt_journal.specs.declared.changes.Change.{Change}
+use Rattle.vt_filter.specs.declared.filters.Filter.{Ghosts as FilterMeanings}
 use Rattle.vt_grace.specs.declared.views.WriterView.{WriterView}
 use Rattle.vt_grace.specs.WriterViews.{version_of}
 use Rattle.vt_grace.specs.Values.{WordsValue}
@@ -11,7 +12,7 @@ use Rattle.vt_loaders.specs.QueuedLoaders.{QueuedView, HasLoaded}
 use Rattle.vt_workers.specs.Jobs.{Job}
 use Rattle.vt_workers.specs.All.{AllDid}
 use Rattle.vt_machine.specs.declared.crew.PassReport.{PassReport}
-use Rattle.vt_machine.specs.Nearest.{nearest}
+use Rattle.vt_machine.specs.Drawings.{drawing_of}
 use Rattle.vt_machine.specs.Passes.{MapsRoot, IsJobFor, IsUntouched}
 use Rattle.vt_word_workers.specs.declared.workers.WordSampler.{WordSampler}
 use Rattle.vt_word_workers.specs.declared.workers.WordStreamer.{WordStreamer}
@@ -22,24 +23,24 @@ use Rattle.vt_word_workers.specs.Kits.{KitView, kit_setup, kit_state, IsReadyKit
 use Rattle.vt_word_workers.specs.KitPasses.{Begun, AreOut, MayFinish, KitRan, kit_before, kit_drawn}
 use Rattle.vt_pass.specs.WordLaws.{ran_after, begun, kit_back, same_kit}
 
-module _ {F : Type 0} (g : FileMeanings F) (words : WordsValue) (q : Queues) (was b d : WordStreamer) (k l : KitView F) (job : Job)
+module _ {F P : Type 0} (g : FileMeanings F) (filter : FilterMeanings P) (words : WordsValue) (q : Queues) (was b d : WordStreamer) (k l : KitView F) (job : Job)
     (a c : List (QueuedView F)) (e f : List WordSampler) (out : AreOut g q k l was.answers b.answers a e)
     (streamer_is : b ≡ record was { answers = b.answers }) (ready : IsReadyKit g words q was k job.batch) (job_is : IsJobFor (kit_setup g words k) job)
     (number : length c ≡ length a) (number_f : length f ≡ length e) (did_load : AllDid (HasLoaded g q) a c)
-    (did_draw : AllDid (HasDrawn words job.scene job.picture) e f) (did_stream : HasFed words q job.batch b d) where
-  pub lent_back : (z : Begun F) × MayFinish g words q l job c f d z
+    (did_draw : AllDid (HasDrawn filter words job.scene job.picture) e f) (did_stream : HasFed words q job.batch b d) where
+  pub lent_back : (z : Begun F) × MayFinish g filter words q l job c f d z
   lent_back = (
-    begun g words q was b d k l job a c e f out streamer_is,
-    kit_back g words q was b d k l job a c e f out streamer_is ready job_is number number_f did_load did_draw did_stream,
+    begun g filter words q was b d k l job a c e f out streamer_is,
+    kit_back g filter words q was b d k l job a c e f out streamer_is ready job_is number number_f did_load did_draw did_stream,
   )
 
   pub lent_ran : (report : PassReport) (w : StreamerView) (m : KitView F)
-      → KitRan g words job report lent_back.0.streamer.streamer (kit_before l lent_back.0) w m → KitRan g words job report was.streamer k w m
+      → KitRan g filter words job report lent_back.0.streamer.streamer (kit_before l lent_back.0) w m → KitRan g filter words job report was.streamer k w m
   unfolding lent_back begun
   lent_ran report w m done = record {
-    ran = ran_after nearest (kit_drawn m w) job (kit_state g words was.streamer.writer.journal k)
-        (kit_state g words b.streamer.writer.journal (kit_before l (begun g words q was b d k l job a c e f out streamer_is)))
-        (kit_state g words w.writer.journal m) (same_kit g words q was b d k l job a c e f out streamer_is) report done.ran;
+    ran = ran_after (drawing_of filter) (kit_drawn filter m w) job (kit_state g words was.streamer.writer.journal k)
+        (kit_state g words b.streamer.writer.journal (kit_before l (begun g filter words q was b d k l job a c e f out streamer_is)))
+        (kit_state g words w.writer.journal m) (same_kit g filter words q was b d k l job a c e f out streamer_is) report done.ran;
     held = subst (λ (x : WordStreamer). AreHeldRows x.streamer.writer w.writer report.rows.elements) streamer_is done.held;
   }
 
@@ -63,10 +64,10 @@ module _ {F : Type 0} (g : FileMeanings F) (words : WordsValue) (t : WordStreame
   pub given_job : (job : Job) → IsJobFor (kit_setup g words k) job → IsJobFor (kit_setup g words m) job
   given_job job is = subst (λ (x : KitView F). IsJobFor (kit_setup g words x) job) (sym given_is) is
 
-  pub given_ran : (job : Job) (report : PassReport) (w : StreamerView) (n : KitView F) → KitRan g words job report v m w n
-      → KitRan g words job report t.streamer k w n
-  given_ran job report w n done = record {
-    ran = ran_after nearest (kit_drawn n w) job (kit_state g words t.streamer.writer.journal k) (kit_state g words v.writer.journal m)
+  pub given_ran : {P : Type 0} (filter : FilterMeanings P) (job : Job) (report : PassReport) (w : StreamerView) (n : KitView F) → KitRan g filter words job report v m w n
+      → KitRan g filter words job report t.streamer k w n
+  given_ran filter job report w n done = record {
+    ran = ran_after (drawing_of filter) (kit_drawn filter n w) job (kit_state g words t.streamer.writer.journal k) (kit_state g words v.writer.journal m)
         (kit_state g words w.writer.journal n) untouched report done.ran;
     held = record {
       more = done.held.more;

@@ -7,6 +7,7 @@ use Rattle.vt_outside.specs.Lists.{ListView}
 use Rattle.vt_outside.specs.declared.outside.File.{Ghosts as FileMeanings}
 use Rattle.vt_outside.specs.declared.answers.NoMemory.{NoMemory}
 use Rattle.vt_camera.specs.Paths.{PathView}
+use Rattle.vt_filter.specs.declared.filters.Filter.{Ghosts as FilterMeanings}
 use Rattle.vt_tiles.specs.Format.{tile_length}
 use Rattle.vt_tiles.specs.StoreViews.{StoreView}
 use Rattle.vt_grace.specs.Values.{WordsValue}
@@ -16,9 +17,8 @@ use Rattle.vt_loaders.specs.QueuedLoaders.{QueuedView, HasLoaded, stores_of}
 use Rattle.vt_workers.specs.Jobs.{Job}
 use Rattle.vt_workers.specs.All.{AllDid}
 use Rattle.vt_machine.specs.declared.crew.PassReport.{PassReport}
-use Rattle.vt_machine.specs.Drawings.{Drawing}
+use Rattle.vt_machine.specs.Drawings.{Drawing, drawing_of}
 use Rattle.vt_machine.specs.Machines.{MachineState, files_of, told_by}
-use Rattle.vt_machine.specs.Nearest.{nearest}
 use Rattle.vt_machine.specs.Passes.{IsJobFor, IsUntouched, Ran, Broke, Ends}
 use Rattle.vt_rounds.specs.BatchRounds.{Begun as Round}
 use Rattle.vt_rounds.specs.Sizes.{AreSized}
@@ -73,7 +73,7 @@ module _ (draws : Drawing) (drawn : PathView → ℕ → ℕ → ℕ → List �
     broke_if (Err refusal) broke = broke_after broke
 
 -- the workers were moved out of a kit whose streamer is there
-module _ {F : Type 0} (g : FileMeanings F) (words : WordsValue) (q : Queues) (was b d : WordStreamer) (k l : KitView F) (job : Job)
+module _ {F P : Type 0} (g : FileMeanings F) (filter : FilterMeanings P) (words : WordsValue) (q : Queues) (was b d : WordStreamer) (k l : KitView F) (job : Job)
     (a c : List (QueuedView F)) (e f : List WordSampler) (out : AreOut g q k l was.answers b.answers a e)
     (streamer_is : b ≡ record was { answers = b.answers }) where
   -- a loader was made of each store
@@ -96,11 +96,11 @@ module _ {F : Type 0} (g : FileMeanings F) (words : WordsValue) (q : Queues) (wa
 
   -- the workers may be moved back into the kit from which they were moved out
   pub kit_back : IsReadyKit g words q was k job.batch → IsJobFor (kit_setup g words k) job → length c ≡ length a → length f ≡ length e
-      → AllDid (HasLoaded g q) a c → AllDid (HasDrawn words job.scene job.picture) e f → HasFed words q job.batch b d
-      → MayFinish g words q l job c f d begun
+      → AllDid (HasLoaded g q) a c → AllDid (HasDrawn filter words job.scene job.picture) e f → HasFed words q job.batch b d
+      → MayFinish g filter words q l job c f d begun
   unfolding begun round
   kit_back ready job_is number number_f did_load did_draw did_stream =
-      subst (λ (x : KitView F). MayFinish g words q x job c f d begun) (sym out.rest) (record {
+      subst (λ (x : KitView F). MayFinish g filter words q x job c f d begun) (sym out.rest) (record {
         worked = record {
           fit = subst (λ (x : List (StoreView F)). IsFitKit g words b.streamer (record k { stores = x; round = l.round })) (sym dealt.stores_are)
               (subst (λ (x : WordStreamer). IsFitKit g words x.streamer (record k { round = l.round })) (sym streamer_is) (record {
@@ -123,7 +123,7 @@ module _ {F : Type 0} (g : FileMeanings F) (words : WordsValue) (q : Queues) (wa
           passes = subst (λ (x : WordStreamer). HaveNewPasses words x.streamer.writer k.samplers) (sym streamer_is) ready.passes;
           no_events = ap (λ (x : WordStreamer). x.report.events.elements) streamer_is ∙ ready.streamer.no_events;
           number = number_f ∙ ap length out.moved;
-          drawn = subst (λ x. AllDid (HasDrawn words job.scene job.picture) x f) out.moved did_draw;
+          drawn = subst (λ x. AllDid (HasDrawn filter words job.scene job.picture) x f) out.moved did_draw;
           fed = did_stream;
           ended = record {
             asked = ready.queued.put;
@@ -166,29 +166,29 @@ module _ {F : Type 0} (g : FileMeanings F) (words : WordsValue) (q : Queues) (wa
         journal = ap (λ (x : WordStreamer). x.streamer.writer.journal) streamer_is;
       })
 
-module _ {F : Type 0} (g : FileMeanings F) (job : Job) (m n : WordView F) (a c : List (QueuedView F)) (e f : List WordSampler) (b d : WordStreamer)
+module _ {F P : Type 0} (g : FileMeanings F) (filter : FilterMeanings P) (job : Job) (m n : WordView F) (a c : List (QueuedView F)) (e f : List WordSampler) (b d : WordStreamer)
     (ready : IsReadyBy g m.words m.queues m.streamer m.kit job.batch) (job_is : IsJobFor (word_state g m).setup job)
     (mustered : IsMustered g m n a e b) (number : length c ≡ length a) (number_f : length f ≡ length e)
-    (did_load : AllDid (HasLoaded g n.queues) a c) (did_draw : AllDid (HasDrawn n.words job.scene job.picture) e f)
+    (did_load : AllDid (HasLoaded g n.queues) a c) (did_draw : AllDid (HasDrawn filter n.words job.scene job.picture) e f)
     (did_stream : HasFed n.words n.queues job.batch b d) where
   -- how the work began
   z : Begun F
-  z = begun g m.words m.queues mustered.was b d m.kit n.kit job a c e f mustered.out mustered.streamer_is
+  z = begun g filter m.words m.queues mustered.was b d m.kit n.kit job a c e f mustered.out mustered.streamer_is
 
   -- it leaves what may be moved back
-  may_finish : MayFinish g n.words n.queues n.kit job c f d z
+  may_finish : MayFinish g filter n.words n.queues n.kit job c f d z
   unfolding z
-  may_finish = subst (λ (x : WordsValue × Queues). MayFinish g x.0 x.1 n.kit job c f d
-      (begun g m.words m.queues mustered.was b d m.kit n.kit job a c e f mustered.out mustered.streamer_is))
+  may_finish = subst (λ (x : WordsValue × Queues). MayFinish g filter x.0 x.1 n.kit job c f d
+      (begun g filter m.words m.queues mustered.was b d m.kit n.kit job a c e f mustered.out mustered.streamer_is))
       (λ i. (sym mustered.words i, sym mustered.queues i))
-      (kit_back g m.words m.queues mustered.was b d m.kit n.kit job a c e f mustered.out mustered.streamer_is
+      (kit_back g filter m.words m.queues mustered.was b d m.kit n.kit job a c e f mustered.out mustered.streamer_is
       (subst (λ (x : Option WordStreamer). IsReadyBy g m.words m.queues x m.kit job.batch) mustered.there ready) job_is number number_f
       (subst (λ (x : Queues). AllDid (HasLoaded g x) a c) mustered.queues did_load)
-      (subst (λ (x : WordsValue). AllDid (HasDrawn x job.scene job.picture) e f) mustered.words did_draw)
+      (subst (λ (x : WordsValue). AllDid (HasDrawn filter x job.scene job.picture) e f) mustered.words did_draw)
       (subst (λ (x : WordsValue × Queues). HasFed x.0 x.1 job.batch b d) (λ i. (mustered.words i, mustered.queues i)) did_stream))
 
   -- the workers may be moved back into the kit from which they were moved out
-  pub come_back : (z : Begun F) × MayFinish g n.words n.queues n.kit job c f d z
+  pub come_back : (z : Begun F) × MayFinish g filter n.words n.queues n.kit job c f d z
   come_back = (z, may_finish)
 
   -- and it began with what the machine was
@@ -196,12 +196,12 @@ module _ {F : Type 0} (g : FileMeanings F) (job : Job) (m n : WordView F) (a c :
   unfolding z
   before = subst (λ (x : WordsValue × Option WordStreamer). IsUntouched (kit_state g m.words (journal_by x.1) m.kit)
       (kit_state g x.0 b.streamer.writer.journal
-      (kit_before n.kit (begun g m.words m.queues mustered.was b d m.kit n.kit job a c e f mustered.out mustered.streamer_is))))
+      (kit_before n.kit (begun g filter m.words m.queues mustered.was b d m.kit n.kit job a c e f mustered.out mustered.streamer_is))))
       (λ i. (sym mustered.words i, sym mustered.there i))
-      (same_kit g m.words m.queues mustered.was b d m.kit n.kit job a c e f mustered.out mustered.streamer_is)
+      (same_kit g filter m.words m.queues mustered.was b d m.kit n.kit job a c e f mustered.out mustered.streamer_is)
 
   -- and then the machine has run the pass
-  pub has_ended : (p : WordView F) (r : Result PassReport NoMemory) → WordFinishes g job r n c f d p → WordEnds g job r (word_state g m) p
+  pub has_ended : (p : WordView F) (r : Result PassReport NoMemory) → WordFinishes g filter job r n c f d p → WordEnds g filter job r (word_state g m) p
   unfolding z begun
-  has_ended p r done = ends_after nearest (drawn_by p.kit p.streamer) job (word_state g m)
+  has_ended p r done = ends_after (drawing_of filter) (drawn_by filter p.kit p.streamer) job (word_state g m)
       (kit_state g n.words b.streamer.writer.journal (kit_before n.kit z)) (word_state g p) before (IsIdleBy g p.words p.streamer p.kit) r (done z may_finish)

@@ -3,6 +3,7 @@ use Rattle.std.specs.Prelude.{◌≡◌, ℕ, Option, None, Some, List, [], Resu
 use Rattle.vt_outside.specs.declared.outside.File.{Ghosts as FileMeanings}
 use Rattle.vt_outside.specs.declared.answers.NoMemory.{NoMemory}
 use Rattle.vt_camera.specs.Paths.{PathView}
+use Rattle.vt_filter.specs.declared.filters.Filter.{Ghosts as FilterMeanings}
 use Rattle.vt_journal.specs.declared.changes.Change.{Change}
 use Rattle.vt_grace.specs.Values.{WordsValue}
 use Rattle.vt_plan.specs.declared.batches.Planned.{Planned}
@@ -10,7 +11,7 @@ use Rattle.vt_loaders.specs.declared.queued.Queues.{Queues}
 use Rattle.vt_loaders.specs.QueuedLoaders.{QueuedView}
 use Rattle.vt_workers.specs.Jobs.{Job}
 use Rattle.vt_machine.specs.declared.crew.PassReport.{PassReport}
-use Rattle.vt_machine.specs.Nearest.{nearest}
+use Rattle.vt_machine.specs.Drawings.{drawing_of}
 use Rattle.vt_machine.specs.Machines.{MachineState}
 use Rattle.vt_machine.specs.Passes.{Ends}
 use Rattle.vt_word_workers.specs.declared.workers.WordSampler.{WordSampler}
@@ -45,9 +46,9 @@ IsReadyBy g words q None k batch = ⊥
 IsReadyBy g words q (Some t) k batch = IsReadyKit g words q t k batch
 
 -- and over those of a streamer that may be out
-abbrev pub drawn_by : {F : Type 0} → KitView F → Option WordStreamer → PathView → ℕ → ℕ → ℕ → List ℕ → Type 0
-drawn_by k None path i y version bytes = ⊥
-drawn_by k (Some t) path i y version bytes = kit_drawn k t.streamer path i y version bytes
+abbrev pub drawn_by : {F P : Type 0} → FilterMeanings P → KitView F → Option WordStreamer → PathView → ℕ → ℕ → ℕ → List ℕ → Type 0
+drawn_by filter k None path i y version bytes = ⊥
+drawn_by filter k (Some t) path i y version bytes = kit_drawn filter k t.streamer path i y version bytes
 
 -- the workers were moved out of a machine
 pub record IsMustered {F : Type 0} (g : FileMeanings F) (m n : WordView F) (loaders : List (QueuedView F)) (samplers : List WordSampler)
@@ -60,11 +61,11 @@ pub record IsMustered {F : Type 0} (g : FileMeanings F) (m n : WordView F) (load
   pub out : AreOut g m.queues m.kit n.kit was.answers streamer.answers loaders samplers
 
 -- how a pass of a machine ends
-abbrev pub WordEnds : {F : Type 0} → FileMeanings F → Job → Result PassReport NoMemory → MachineState → WordView F → Type 0
-WordEnds g job result before p = Ends nearest (drawn_by p.kit p.streamer) (IsIdleBy g p.words p.streamer p.kit) job result before (word_state g p)
+abbrev pub WordEnds : {F P : Type 0} → FileMeanings F → FilterMeanings P → Job → Result PassReport NoMemory → MachineState → WordView F → Type 0
+WordEnds g filter job result before p = Ends (drawing_of filter) (drawn_by filter p.kit p.streamer) (IsIdleBy g p.words p.streamer p.kit) job result before (word_state g p)
 
 -- however the work began, what was done is a pass
-abbrev pub WordFinishes : {F : Type 0} → FileMeanings F → Job → Result PassReport NoMemory → WordView F → List (QueuedView F) → List WordSampler
-    → WordStreamer → WordView F → Type 0
-WordFinishes g job result n loaders samplers t p = (b : Begun _) → MayFinish g n.words n.queues n.kit job loaders samplers t b
-    → WordEnds g job result (kit_state g n.words b.streamer.streamer.writer.journal (kit_before n.kit b)) p
+abbrev pub WordFinishes : {F P : Type 0} → FileMeanings F → FilterMeanings P → Job → Result PassReport NoMemory → WordView F → List (QueuedView F)
+    → List WordSampler → WordStreamer → WordView F → Type 0
+WordFinishes g filter job result n loaders samplers t p = (b : Begun _) → MayFinish g filter n.words n.queues n.kit job loaders samplers t b
+    → WordEnds g filter job result (kit_state g n.words b.streamer.streamer.writer.journal (kit_before n.kit b)) p

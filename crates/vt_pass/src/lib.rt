@@ -8,6 +8,6 @@ mod pass_kit;
 mod place;
 mod prepare;
 
-pub use machine::WordMachine;
-pub use pass_kit::{PassKit, run_pass};
+pub use machine::{FilteredMachine, WordMachine};
+pub use pass_kit::{PassKit, run_pass, run_pass_by};
 pub use vt_word_workers::{LentShared, WordSampler, WordShared, WordStreamer};

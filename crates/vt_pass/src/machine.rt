@@ -6,7 +6,7 @@ ghost use Rattle.vt_machine.specs.Crews.{IsCrew};
 ghost use Rattle.vt_machine.specs.Machines.{AreStoresFor};
 ghost use Rattle.vt_word_workers.specs.Kits.{IsMadeFor};
 ghost use Rattle.vt_workers.specs.Jobs.{job_of};
-ghost use Rattle.vt_machine.specs.Nearest.{nearest};
+ghost use Rattle.vt_machine.specs.Drawings.{drawing_of};
 ghost use Rattle.vt_word_workers.specs.KitPasses.{Begun, MayFinish};
 ghost use Rattle.vt_pass.specs.WordMachines.{WordView, word_state, IsIdleBy, IsReadyBy, drawn_by, IsMustered, WordFinishes};
 
@@ -21,6 +21,7 @@ use vt_camera::Path;
 use vt_draw::Shot;
 use vt_evict::Batch;
 use vt_feedback::Counts;
+use vt_filter::{Filter, Nearest};
 use vt_journal::Journal;
 use vt_loaders::QueuedLoader;
 use vt_machine::{Crew, PassMachine, PassReport};
@@ -31,16 +32,19 @@ use vt_rounds::answered;
 use vt_tiles::Stores;
 use vt_word_workers::{WordKit, WordSampler, WordShared, WordStreamer, new_parts};
 
-/// A machine that draws the rows of a picture, each under a version that it holds meanwhile, and streams the batch at the
-/// same time.
-pub struct WordMachine<F: File> {
-    shared: WordShared,
+/// A machine that draws the rows of a picture by a filter, each under a version that it holds meanwhile, and streams the
+/// batch at the same time.
+pub struct FilteredMachine<F: File, P: Filter> {
+    shared: WordShared<P>,
     // It is out while a pass is run.
     streamer: Option<WordStreamer>,
     kit: WordKit<F>,
 }
 
-impl<F: File> Model for WordMachine<F> {
+/// The machine that draws each pixel of one texel.
+pub type WordMachine<F> = FilteredMachine<F, Nearest>;
+
+impl<F: File, P: Filter> Model for FilteredMachine<F, P> {
     ghost use Rattle.vt_pass.specs.WordMachines.{WordView};
 
     ghost Value = { WordView F };
@@ -81,14 +85,13 @@ fn kit_from<F: File>(
     }
 }
 
-impl<F: File + Send> PassMachine for WordMachine<F> {
+impl<F: File + Send, P: Filter + Sync> PassMachine for FilteredMachine<F, P> {
     ghost use Rattle.vt_tiles.specs.Format.{stored};
-    ghost use Rattle.vt_machine.specs.Plainly.{mapped_is_plain};
     ghost use Rattle.vt_pass.specs.WordLaws.{come_back, has_ended, none_refused};
 
     type File = F;
 
-    type Shared = WordShared;
+    type Shared = WordShared<P>;
 
     type Loader = QueuedLoader<F>;
 
@@ -98,7 +101,7 @@ impl<F: File + Send> PassMachine for WordMachine<F> {
 
     const DEALT: bool = true;
 
-    ghost drawing = { nearest };
+    ghost drawing = { drawing_of P.Filter };
 
     ghost state = { λ m. word_state F.File m };
 
@@ -106,19 +109,19 @@ impl<F: File + Send> PassMachine for WordMachine<F> {
 
     ghost is_ready = { λ m batch. IsReadyBy F.File m.words m.queues m.streamer m.kit batch };
 
-    ghost drawn = { λ m. drawn_by m.kit m.streamer };
+    ghost drawn = { λ m. drawn_by P.Filter m.kit m.streamer };
 
     ghost refuses = { ⊥ };
 
-    ghost lent = { λ m. record { words = m.words; queues = m.queues } };
+    ghost lent = { λ m. record { words = m.words; queues = m.queues; filter = record {} } };
 
     ghost mustered = { λ m job n loaders samplers streamer. IsMustered F.File m n loaders samplers streamer };
 
     ghost may_dismiss = { λ n job loaders samplers streamer. (b : Begun F)
-        × MayFinish F.File n.words n.queues n.kit job loaders samplers streamer b };
+        × MayFinish F.File P.Filter n.words n.queues n.kit job loaders samplers streamer b };
 
     ghost dismissed = { λ n job loaders samplers streamer p result. IsOk result
-        × WordFinishes F.File job result n loaders samplers streamer p };
+        × WordFinishes F.File P.Filter job result n loaders samplers streamer p };
 
     fn make_from<Rt: Threads + Wait + Sync>(
         _rt: &Rt,
@@ -130,9 +133,9 @@ impl<F: File + Send> PassMachine for WordMachine<F> {
         depth: u32,
         stores: &mut Stores<Self::File>,
     ) -> Result<Self, NoMemory> {
-        let (shared, own, asks) = new_parts(alloc, geometry, frames, crew.samplers)?;
+        let (shared, own, asks) = new_parts::<P>(alloc, geometry, frames, crew.samplers)?;
         let kit = kit_from(alloc, geometry, path, crew, depth, asks, stores)?;
-        Ok(WordMachine {
+        Ok(FilteredMachine {
             shared,
             streamer: Some(own),
             kit,
@@ -178,7 +181,7 @@ impl<F: File + Send> PassMachine for WordMachine<F> {
         }
     }
 
-    fn shared(&self) -> &WordShared {
+    fn shared(&self) -> &WordShared<P> {
         &self.shared
     }
 
@@ -192,13 +195,13 @@ impl<F: File + Send> PassMachine for WordMachine<F> {
         batch: &Batch,
         _gate: &G,
     ) -> Result<PassReport, NoMemory>
-        requires { (b : Begun F) × MayFinish F.File self.old.words self.old.queues self.old.kit
+        requires { (b : Begun F) × MayFinish F.File P.Filter self.old.words self.old.queues self.old.kit
             (job_of shot.now batch.now.elements) loaders.elements samplers.elements streamer b }
         ensures { IsOk result
-            × WordFinishes F.File (job_of shot.now batch.now.elements) result
+            × WordFinishes F.File P.Filter (job_of shot.now batch.now.elements) result
             self.old loaders.elements samplers.elements streamer self.new }
     {
-        let report = self.kit.finish(
+        let report = self.kit.finish::<P>(
             &self.shared.words,
             &self.shared.queues,
             loaders,
@@ -229,7 +232,7 @@ impl<F: File + Send> PassMachine for WordMachine<F> {
     }
 
     fn end<Rt: Threads + Wait + Sync>(self, _rt: &Rt) -> Stores<Self::File> {
-        let WordMachine {
+        let FilteredMachine {
             shared: _,
             streamer: _,
             kit,
@@ -238,13 +241,13 @@ impl<F: File + Send> PassMachine for WordMachine<F> {
     }
 
     ghost shows_whole = { λ scene b m i x y limits store inside below_width below_height maps.
-        mapped_is_plain (stored b) scene m i x y limits below_width below_height maps };
+        P.is_plain (stored b) scene m i x y limits below_width below_height maps.root maps.needed_mapped };
 
     ghost may_come_back = { λ job m n a c e f b d ready root job_is mustered lo sa did_lo did_sa did_st.
-        come_back F.File job m n a c e f b d ready job_is mustered lo sa did_lo did_sa did_st };
+        come_back F.File P.Filter job m n a c e f b d ready job_is mustered lo sa did_lo did_sa did_st };
 
     ghost has_run = { λ job m n p a c e f b d r ready root job_is mustered lo sa did_lo did_sa did_st dismissed.
-        has_ended F.File job m n a c e f b d ready job_is mustered lo sa did_lo did_sa did_st p r dismissed.1 };
+        has_ended F.File P.Filter job m n a c e f b d ready job_is mustered lo sa did_lo did_sa did_st p r dismissed.1 };
 
     ghost has_answered = { λ job n p c f d r dismissed. none_refused r dismissed.0 };
 }

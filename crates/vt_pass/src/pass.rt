@@ -5,10 +5,12 @@ ghost use Rattle.vt_machine.specs.Passes.{MapsRoot, IsJobFor};
 ghost use Rattle.vt_word_workers.specs.Kits.{kit_setup, kit_state, IsIdleKit, IsPreparedKit, IsReadyKit};
 ghost use Rattle.vt_word_workers.specs.KitPasses.{KitRan};
 
+use std::marker::PhantomData;
 use std::sync::Wait;
 use std::thread::Threads;
 use vt_draw::Shot;
 use vt_evict::Batch;
+use vt_filter::Filter;
 use vt_grace::Words;
 use vt_loaders::Queues;
 use vt_machine::PassReport;
@@ -16,8 +18,13 @@ use vt_outside::{File, Gate};
 use vt_word_workers::{LentShared, WordKit, WordStreamer};
 use vt_workers::work_together;
 
-// Draws the picture of a shot and streams the batch, whose requests were put, at the same time. It may wait.
-fn draw_and_stream<Rt: Threads + Wait + Sync, F: File + Send, G: Gate + Sync>(
+// Draws the picture of a shot by a filter and streams the batch, whose requests were put, at the same time. It may wait.
+fn draw_and_stream<
+    Rt: Threads + Wait + Sync,
+    F: File + Send,
+    P: Filter + Sync,
+    G: Gate + Sync,
+>(
     rt: &Rt,
     kit: &mut WordKit<F>,
     words: &Words,
@@ -30,12 +37,16 @@ fn draw_and_stream<Rt: Threads + Wait + Sync, F: File + Send, G: Gate + Sync>(
     requires ready { IsReadyKit F.File words.now queues.now own.old kit.old batch.now.elements }
     requires root { MapsRoot (kit_state F.File words.now own.old.streamer.writer.journal kit.old) }
     requires job { IsJobFor (kit_setup F.File words.now kit.old) (job_of shot.now batch.now.elements) }
-    ensures ran { KitRan F.File words.now (job_of shot.now batch.now.elements) result own.old.streamer kit.old
+    ensures ran { KitRan F.File P.Filter words.now (job_of shot.now batch.now.elements) result own.old.streamer kit.old
         own.new.streamer kit.new }
     ensures idle { IsIdleKit F.File words.now own.new.streamer kit.new }
 {
     let (mut loaders, mut samplers) = kit.muster(queues, &mut own.answers);
-    let shared = LentShared { words, queues };
+    let shared = LentShared::<P> {
+        words,
+        queues,
+        filter: PhantomData,
+    };
     work_together(
         rt,
         loaders.slice_mut(),
@@ -46,7 +57,7 @@ fn draw_and_stream<Rt: Threads + Wait + Sync, F: File + Send, G: Gate + Sync>(
         batch.slice(),
         gate,
     );
-    kit.finish(
+    kit.finish::<P>(
         words,
         queues,
         loaders,
@@ -59,9 +70,14 @@ fn draw_and_stream<Rt: Threads + Wait + Sync, F: File + Send, G: Gate + Sync>(
     )
 }
 
-/// Puts the requests of a batch, gives the samplers their passes, and then draws the picture of a shot and streams the
-/// batch at the same time. It may wait.
-pub(crate) fn ask_and_run<Rt: Threads + Wait + Sync, F: File + Send, G: Gate + Sync>(
+/// Puts the requests of a batch, gives the samplers their passes, and then draws the picture of a shot by a filter and
+/// streams the batch at the same time. It may wait.
+pub(crate) fn ask_and_run<
+    Rt: Threads + Wait + Sync,
+    F: File + Send,
+    P: Filter + Sync,
+    G: Gate + Sync,
+>(
     rt: &Rt,
     kit: &mut WordKit<F>,
     words: &Words,
@@ -74,11 +90,11 @@ pub(crate) fn ask_and_run<Rt: Threads + Wait + Sync, F: File + Send, G: Gate + S
     requires prepared { IsPreparedKit F.File words.now queues.now own.old kit.old batch.now.elements }
     requires root { MapsRoot (kit_state F.File words.now own.old.streamer.writer.journal kit.old) }
     requires job { IsJobFor (kit_setup F.File words.now kit.old) (job_of shot.now batch.now.elements) }
-    ensures ran { KitRan F.File words.now (job_of shot.now batch.now.elements) result own.old.streamer kit.old
+    ensures ran { KitRan F.File P.Filter words.now (job_of shot.now batch.now.elements) result own.old.streamer kit.old
         own.new.streamer kit.new }
     ensures idle { IsIdleKit F.File words.now own.new.streamer kit.new }
 {
     kit.ask(rt, queues, batch);
     kit.give(words, &mut own.streamer);
-    draw_and_stream(rt, kit, words, queues, own, shot, batch, gate)
+    draw_and_stream::<Rt, F, P, G>(rt, kit, words, queues, own, shot, batch, gate)
 }

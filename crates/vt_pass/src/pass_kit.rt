@@ -23,6 +23,7 @@ use vt_camera::Path;
 use vt_draw::Shot;
 use vt_evict::Batch;
 use vt_feedback::Counts;
+use vt_filter::{Filter, Nearest};
 use vt_grace::Words;
 use vt_loaders::Queues;
 use vt_machine::{Crew, PassReport};
@@ -77,18 +78,22 @@ impl<F: File> PassKit<F> {
     {
         // A tile's side is small, and so one frame is within its limits.
         let _side = geometry.tile();
-        let (shared, own, asks) = match new_parts(alloc, geometry, 1, 1) {
+        let (shared, own, asks) = match new_parts::<Nearest>(alloc, geometry, 1, 1) {
             Ok(parts) => parts,
             Err(refusal) => return Err((stores, refusal)),
         };
-        let WordShared { words: _, queues } = shared;
+        let WordShared {
+            words: _,
+            queues,
+            filter: _,
+        } = shared;
         match WordKit::new(alloc, geometry, path, crew, depth, asks, stores) {
             Ok(kit) => Ok(PassKit { queues, own, kit }),
             Err(refused) => Err(refused),
         }
     }
 
-    /// How many pixels of the last pass's picture need each page.
+    /// How many texels the last pass's picture needs of each page.
     pub fn counts(&self) -> &Counts
         ensures { result.now ≡ self.now.kit.counts }
     {
@@ -143,12 +148,49 @@ impl<F: File> PassKit<F> {
     }
 }
 
-/// Draws the picture of a shot over the words, and streams the batch into them at the same time: all requests are put
+/// Draws the picture of a shot by a filter over the words, and streams the batch into them at the same time: all requests are put
 /// before the workers begin; samplers draw, each row under a version that it holds meanwhile, while loaders read and the
 /// streamer applies the results as they come. It takes no memory and refuses nothing. It may wait.
 ///
 /// The kit is prepared for this batch with these words and their streamer, and since then no pass was run and the words
 /// were not changed.
+pub fn run_pass_by<
+    Rt: Threads + Wait + Sync,
+    F: File + Send,
+    P: Filter + Sync,
+    G: Gate + Sync,
+>(
+    rt: &Rt,
+    kit: &mut PassKit<F>,
+    words: &Words,
+    streamer: &mut Streamer,
+    shot: &Shot<'_>,
+    batch: &Batch,
+    gate: &G,
+) -> PassReport
+    requires prepared { IsPreparedFor F.File words.now streamer.old kit.old batch.now.elements }
+    requires root { MapsRoot (kit_state F.File words.now streamer.old.writer.journal kit.old.kit) }
+    requires job { IsJobFor (kit_setup F.File words.now kit.old.kit) (job_of shot.now batch.now.elements) }
+    ensures ran { KitRan F.File P.Filter words.now (job_of shot.now batch.now.elements) result streamer.old kit.old.kit
+        streamer.new kit.new.kit }
+    ensures idle { IsIdleKit F.File words.now streamer.new kit.new.kit }
+{
+    mem::swap(streamer, &mut kit.own.streamer);
+    let report = ask_and_run::<Rt, F, P, G>(
+        rt,
+        &mut kit.kit,
+        words,
+        &kit.queues,
+        &mut kit.own,
+        shot,
+        batch,
+        gate,
+    );
+    mem::swap(streamer, &mut kit.own.streamer);
+    report
+}
+
+/// Runs a pass as `run_pass_by` does, in which each pixel is one texel.
 pub fn run_pass<Rt: Threads + Wait + Sync, F: File + Send, G: Gate + Sync>(
     rt: &Rt,
     kit: &mut PassKit<F>,
@@ -161,21 +203,9 @@ pub fn run_pass<Rt: Threads + Wait + Sync, F: File + Send, G: Gate + Sync>(
     requires prepared { IsPreparedFor F.File words.now streamer.old kit.old batch.now.elements }
     requires root { MapsRoot (kit_state F.File words.now streamer.old.writer.journal kit.old.kit) }
     requires job { IsJobFor (kit_setup F.File words.now kit.old.kit) (job_of shot.now batch.now.elements) }
-    ensures ran { KitRan F.File words.now (job_of shot.now batch.now.elements) result streamer.old kit.old.kit
+    ensures ran { KitRan F.File ⟦<Nearest as Filter>⟧ words.now (job_of shot.now batch.now.elements) result streamer.old kit.old.kit
         streamer.new kit.new.kit }
     ensures idle { IsIdleKit F.File words.now streamer.new kit.new.kit }
 {
-    mem::swap(streamer, &mut kit.own.streamer);
-    let report = ask_and_run(
-        rt,
-        &mut kit.kit,
-        words,
-        &kit.queues,
-        &mut kit.own,
-        shot,
-        batch,
-        gate,
-    );
-    mem::swap(streamer, &mut kit.own.streamer);
-    report
+    run_pass_by::<Rt, F, Nearest, G>(rt, kit, words, streamer, shot, batch, gate)
 }

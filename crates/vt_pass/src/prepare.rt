@@ -9,13 +9,14 @@ ghost use Rattle.vt_word_workers.specs.Kits.{IsIdleKit, IsReadyKit, IsSameKit};
 use std::sync::Wait;
 use std::thread::Threads;
 use vt_evict::Batch;
+use vt_filter::Filter;
 use vt_outside::{File, NoMemory};
 use vt_word_workers::{WordKit, WordShared, WordStreamer};
 
 /// Makes all room for a pass that streams a batch, puts its requests into new queues, and gives the samplers their passes.
-pub(crate) fn prepare_pass<Rt: Threads + Wait, F: File>(
+pub(crate) fn prepare_pass<Rt: Threads + Wait, F: File, P: Filter>(
     rt: &Rt,
-    shared: &mut WordShared,
+    shared: &mut WordShared<P>,
     own: &mut WordStreamer,
     kit: &mut WordKit<F>,
     batch: &Batch,

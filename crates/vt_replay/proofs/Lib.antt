@@ -2,6 +2,7 @@ pub mod Answering
 pub mod Passes
 pub mod Reading
 pub mod Sighted
+pub mod Climbing
 pub mod Tiling
 pub mod Readying
 pub mod Following

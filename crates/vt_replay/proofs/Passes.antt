@@ -77,6 +77,7 @@ pub may_be_played : (s : Shape) (height : ℕ) (c : Content) → IsLawful s heig
 may_be_played s height c lawful = record {
   in_pages = λ v change is. (change_bounded s height c lawful v change is).0;
   in_frames = λ v change is. (change_bounded s height c lawful v change is).1;
+  in_turn = lawful_in_turn s height c lawful;
 }
 
 -- each version from that of the pinned pages on maps the root

@@ -24,6 +24,7 @@ pub ready_after : {F : Type 0} (g : FileMeanings F) (s : Shape) (d : ℕ) (entri
 ready_after g s d entries size n slots owners bytes more_slots more_owners more_bytes store after h read tiles = record {
   all_entries = h.all_entries;
   root = h.root;
+  apart = h.apart;
   shape = read.shape ∙ h.shape;
   depth = read.depth ∙ h.depth;
   tiles = subst (λ (o : Option (List ℕ)). AreTiles s d n more_slots more_owners more_bytes o) (sym read.bytes) tiles;

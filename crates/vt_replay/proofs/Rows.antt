@@ -11,9 +11,9 @@ use Rattle.vt_journal.specs.declared.changes.Change.{Change}
 use Rattle.vt_journal.specs.declared.changes.RowLine.{RowLine}
 use Rattle.vt_journal.specs.Changes.{at}
 use Rattle.vt_shown.specs.Scenes.{Scene}
-use Rattle.vt_shown.specs.Replays.{HasPixels, pixel_under, IsReplayOf}
+use Rattle.vt_shown.specs.Replays.{HasPixels, IsReplayOf}
 use Rattle.vt_replay.specs.Sights.{row_of}
-use Rattle.vt_replay.specs.Replayed.{version_of, replayed_row, replayed_rows}
+use Rattle.vt_replay.specs.Replayed.{Under, version_of, replayed_row, replayed_rows}
 
 -- bytes are their pieces of so many bytes each, one after another
 pieces_joined : (z n a : ℕ) (f : ℕ → List ℕ) (bytes : List ℕ) → length bytes ≡ n * z → ((x : ℕ) → x < n → take z (drop (x * z) bytes) ≡ f (a + x))
@@ -49,15 +49,15 @@ row_joined d width pixel bytes size has =
     ∙ cut_bytes bytes (texel_length d * x) (texel_length d) room ∙ has x low ∙ ap pixel (let e : x ≡ 0 + x = omega arith in e)))
 
 -- the rows of a pass, each with the pixels of its version's page table, are its replay
-pub rows_are_replayed : (src : Source) (scene : Scene) (changes : List Change) (lines : List RowLine) (i height line : ℕ) (samples : List ℕ)
+pub rows_are_replayed : (under : Under) (src : Source) (scene : Scene) (changes : List Change) (lines : List RowLine) (i height line : ℕ) (samples : List ℕ)
     → line ≡ texel_length scene.depth * scene.path.width → length samples ≡ height * line → length lines ≡ height
     → ((y : ℕ) (row : RowLine) → slice_get lines y ≡ Some row
-    → HasPixels scene.depth scene.path.width (λ x. pixel_under src scene (at changes row.version) i x y) (row_of line samples y))
+    → HasPixels scene.depth scene.path.width (λ x. under src scene (at changes row.version) i x y) (row_of line samples y))
     → ((y : ℕ) → y < height → (row : RowLine) × (slice_get lines y ≡ Some row))
-    → samples ≡ replayed_rows src scene changes lines i height
+    → samples ≡ replayed_rows under src scene changes lines i height
 unfolding replayed_rows replayed_row
-rows_are_replayed src scene changes lines i height line samples line_is size count has some =
-    pieces_joined line height 0 (λ y. flat_map (λ x. pixel_under src scene (at changes (version_of lines y)) i x y)
+rows_are_replayed under src scene changes lines i height line samples line_is size count has some =
+    pieces_joined line height 0 (λ y. flat_map (λ x. under src scene (at changes (version_of lines y)) i x y)
     (range_with_len 0 scene.path.width)) samples size
     (λ y low.
     (let found = some y low in
@@ -74,9 +74,9 @@ rows_are_replayed src scene changes lines i height line samples line_is size cou
       room,
     ) in e) ∙ line_is in
     let version : row.version ≡ version_of lines y = sym (ap (λ o. unwrap_or (option_map (λ (l : RowLine). l.version) o) 0) found.1) in
-    piece ∙ row_joined scene.depth scene.path.width (λ x. pixel_under src scene (at changes row.version) i x y) (row_of line samples y) full (has y row found.1)
-    ∙ ap (λ (v : ℕ). flat_map (λ x. pixel_under src scene (at changes v) i x y) (range_with_len 0 scene.path.width)) version
-    ∙ ap (λ (k : ℕ). flat_map (λ x. pixel_under src scene (at changes (version_of lines k)) i x k) (range_with_len 0 scene.path.width))
+    piece ∙ row_joined scene.depth scene.path.width (λ x. under src scene (at changes row.version) i x y) (row_of line samples y) full (has y row found.1)
+    ∙ ap (λ (v : ℕ). flat_map (λ x. under src scene (at changes v) i x y) (range_with_len 0 scene.path.width)) version
+    ∙ ap (λ (k : ℕ). flat_map (λ x. under src scene (at changes (version_of lines k)) i x k) (range_with_len 0 scene.path.width))
     (let e : y ≡ 0 + y = omega arith in e)))
 
 rows_joined : (f : ℕ → List ℕ) (rows : List (List ℕ)) (a : ℕ) → ((y : ℕ) → y < length rows → slice_index_or rows y [] ≡ f (a + y))
@@ -89,22 +89,22 @@ rows_joined f (r ∷ rs) a each =
     (rows_joined f rs (a + 1) (λ y low. each (suc y) (omega (arith, low)) ∙ ap f (let e : a + suc y ≡ (a + 1) + y = omega arith in e)))
 
 -- a picture that is the replay of a pass has these bytes, and no others
-pub replay_is_one : (src : Source) (scene : Scene) (changes : List Change) (lines : List RowLine) (i : ℕ) (samples : List ℕ)
+pub replay_is_one : (under : Under) (src : Source) (scene : Scene) (changes : List Change) (lines : List RowLine) (i : ℕ) (samples : List ℕ)
     → length lines ≡ scene.path.height
-    → IsReplayOf scene.depth scene.path.width scene.path.height (λ m x y. pixel_under src scene m i x y) changes lines samples
-    → samples ≡ replayed_rows src scene changes lines i scene.path.height
+    → IsReplayOf scene.depth scene.path.width scene.path.height (λ m x y. under src scene m i x y) changes lines samples
+    → samples ≡ replayed_rows under src scene changes lines i scene.path.height
 unfolding replayed_rows replayed_row
-replay_is_one src scene changes lines i samples count is =
+replay_is_one under src scene changes lines i samples count is =
     let first : RowLine = record { row = 0; sampler = 0; version = 0 } in
-    let row : ℕ → List ℕ = λ (y : ℕ). flat_map (λ x. pixel_under src scene (at changes (version_of lines y)) i x y)
+    let row : ℕ → List ℕ = λ (y : ℕ). flat_map (λ x. under src scene (at changes (version_of lines y)) i x y)
     (range_with_len 0 scene.path.width) in
     let number = is.count in
     is.joined ∙ rows_joined row is.rows 0 (λ y low.
     (let found = slice_get-get_or lines y first (omega (arith, low, number, count)) in
     let line = get_or lines y first in
     let version : line.version ≡ version_of lines y = sym (ap (λ o. unwrap_or (option_map (λ (l : RowLine). l.version) o) 0) found) in
-    row_joined scene.depth scene.path.width (λ x. pixel_under src scene (at changes line.version) i x y) (slice_index_or is.rows y [])
+    row_joined scene.depth scene.path.width (λ x. under src scene (at changes line.version) i x y) (slice_index_or is.rows y [])
     (is.full y [] low) (is.replayed y line found)
-    ∙ ap (λ (v : ℕ). flat_map (λ x. pixel_under src scene (at changes v) i x y) (range_with_len 0 scene.path.width)) version
+    ∙ ap (λ (v : ℕ). flat_map (λ x. under src scene (at changes v) i x y) (range_with_len 0 scene.path.width)) version
     ∙ ap row (let e : y ≡ 0 + y = omega arith in e)))
     ∙ ap (λ (n : ℕ). flat_map row (range_with_len 0 n)) number

@@ -21,7 +21,7 @@ use Rattle.vt_pages.specs.Shape.{Shape}
 use Rattle.vt_camera.specs.Paths.{PathView}
 use Rattle.vt_shown.specs.Scenes.{Scene, scene_of}
 use Rattle.vt_replay.specs.Playing.{HasWritten, AreRowsWithin, ArePlayed}
-use Rattle.vt_replay.specs.Replayed.{replayed_rows, lines_after, last_lines, pictures_after, pictures_of, replay_file}
+use Rattle.vt_replay.specs.Replayed.{Under, replayed_rows, lines_after, last_lines, pictures_after, pictures_of, replay_file}
 
 -- a list that was written through a slice of all of it
 pub written_back : (len : ℕ) (new old : List ℕ) → length new ≡ len → length old ≡ len → take len (new ++ drop (length new) old) ≡ new
@@ -95,19 +95,19 @@ later_pictures height pinned last passes i p all is next (suc n) q at =
     ]
 
 -- the file of the replay of a picture is that of its last pass
-pub file_is : (src : Source) (scene : Scene) (changes : List Change) (height pinned last : ℕ) (passes : List Pass) (i : ℕ) (p : Pass)
+pub file_is : (under : Under) (src : Source) (scene : Scene) (changes : List Change) (height pinned last : ℕ) (passes : List Pass) (i : ℕ) (p : Pass)
     → ArePlayed height pinned last passes → slice_get passes i ≡ Some p
     → ((q : Pass) → slice_get passes (i + 1) ≡ Some q → q.picture ≢ p.picture)
-    → picture_bytes scene.depth scene.path.width scene.path.height (replayed_rows src scene changes p.rows p.picture scene.path.height)
-    ≡ replay_file src scene changes passes p.picture
+    → picture_bytes scene.depth scene.path.width scene.path.height (replayed_rows under src scene changes p.rows p.picture scene.path.height)
+    ≡ replay_file under src scene changes passes p.picture
 unfolding replay_file
-file_is src scene changes height pinned last passes i p all is next =
+file_is under src scene changes height pinned last passes i p all is next =
     let rows : last_lines passes p.picture ≡ p.rows = lines_at [] passes i p is (λ j q low at e.
     (let n : j ≡ i + 1 + (j - (i + 1)) = omega (arith, low) in
     let more = later_pictures height pinned last passes i p all is next (j - (i + 1)) q (ap (slice_get passes) (sym n) ∙ at) in
     absurd (omega (arith, more, e)))) in
     ap (λ (ls : List RowLine). picture_bytes scene.depth scene.path.width scene.path.height
-    (replayed_rows src scene changes ls p.picture scene.path.height)) (sym rows)
+    (replayed_rows under src scene changes ls p.picture scene.path.height)) (sym rows)
 
 -- how many pictures there are, by the last pass
 count_at : (count : ℕ) (ps : List Pass) (i : ℕ) (p : Pass) → slice_get ps i ≡ Some p → slice_get ps (suc i) ≡ None → pictures_after count ps ≡ p.picture + 1
@@ -227,13 +227,13 @@ rows_within height pinned last passes i version p all is at end = pick (slice_ge
     )
 
 -- the file of a pass that was drawn under equal names
-pub shown_is : (src : Source) (s t : Shape) (d e : ℕ) (path : PathView) (js ks : List Change) (pinned last : ℕ) (passes : List Pass) (i : ℕ) (p : Pass)
+pub shown_is : (under : Under) (src : Source) (s t : Shape) (d e : ℕ) (path : PathView) (js ks : List Change) (pinned last : ℕ) (passes : List Pass) (i : ℕ) (p : Pass)
     → t ≡ s → e ≡ d → ks ≡ js → ArePlayed path.height pinned last passes → slice_get passes i ≡ Some p
     → ((q : Pass) → slice_get passes (i + 1) ≡ Some q → q.picture ≢ p.picture)
-    → picture_bytes e path.width path.height (replayed_rows src (scene_of t e path) ks p.rows p.picture path.height)
-    ≡ replay_file src (scene_of s d path) js passes p.picture
-shown_is src s t d e path js ks pinned last passes i p shape depth changes all is next =
-    ap (λ (r : Shape). picture_bytes e path.width path.height (replayed_rows src (scene_of r e path) ks p.rows p.picture path.height)) shape
-    ∙ ap (λ (n : ℕ). picture_bytes n path.width path.height (replayed_rows src (scene_of s n path) ks p.rows p.picture path.height)) depth
-    ∙ ap (λ (l : List Change). picture_bytes d path.width path.height (replayed_rows src (scene_of s d path) l p.rows p.picture path.height)) changes
-    ∙ file_is src (scene_of s d path) js path.height pinned last passes i p all is next
+    → picture_bytes e path.width path.height (replayed_rows under src (scene_of t e path) ks p.rows p.picture path.height)
+    ≡ replay_file under src (scene_of s d path) js passes p.picture
+shown_is under src s t d e path js ks pinned last passes i p shape depth changes all is next =
+    ap (λ (r : Shape). picture_bytes e path.width path.height (replayed_rows under src (scene_of r e path) ks p.rows p.picture path.height)) shape
+    ∙ ap (λ (n : ℕ). picture_bytes n path.width path.height (replayed_rows under src (scene_of s n path) ks p.rows p.picture path.height)) depth
+    ∙ ap (λ (l : List Change). picture_bytes d path.width path.height (replayed_rows under src (scene_of s d path) l p.rows p.picture path.height)) changes
+    ∙ file_is under src (scene_of s d path) js path.height pinned last passes i p all is next

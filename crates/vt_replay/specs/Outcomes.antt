@@ -10,7 +10,7 @@ use Rattle.vt_journal.specs.JournalFlaws.{IsLawful}
 use Rattle.vt_files.specs.Dues.{with_files, IsPart}
 use Rattle.vt_replay.specs.Flaws.{IsFirstRefused}
 use Rattle.vt_tiles.specs.Places.{IsTilePlace}
-use Rattle.vt_replay.specs.Replayed.{pictures_of, replay_due}
+use Rattle.vt_replay.specs.Replayed.{Under, pictures_of, replay_due}
 use Rattle.vt_replay.specs.declared.error.ReplayError.{ReplayError}
 use Rattle.vt_replay.specs.declared.error.ReplayError.TheVariants.{BadJournal, Failed, NoMemory}
 
@@ -21,30 +21,30 @@ pub record IsReplayable (s : Shape) (path : PathView) (text : List ℕ) (content
   pub in_path : (i : ℕ) (pass : Pass) → slice_get content.passes i ≡ Some pass → pass.picture < length path.cameras
 
 -- where the store tells its bytes, each picture of the journal has at its name the file of its replay, and all else is as before
-abbrev pub HoldsReplay : Shape → ℕ → Option (List ℕ) → PathView → List ℕ → Content → Option Files → Option Files → Type 0
-HoldsReplay s d told path prefix content before after =
-    (b : List ℕ) → told ≡ Some b → after ≡ option_map (with_files (replay_due s d b path prefix content)) before
+abbrev pub HoldsReplay : Under → Shape → ℕ → Option (List ℕ) → PathView → List ℕ → Content → Option Files → Option Files → Type 0
+HoldsReplay under s d told path prefix content before after =
+    (b : List ℕ) → told ≡ Some b → after ≡ option_map (with_files (replay_due under s d b path prefix content)) before
 
 -- where the store tells its bytes, a part of the pictures is there: some whole, and of the next at most a front part
-abbrev pub HoldsPart : Shape → ℕ → Option (List ℕ) → PathView → List ℕ → Content → Option Files → Option Files → Type 0
-HoldsPart s d told path prefix content before after =
-    (b : List ℕ) → told ≡ Some b → IsPart (replay_due s d b path prefix content) before after
+abbrev pub HoldsPart : Under → Shape → ℕ → Option (List ℕ) → PathView → List ℕ → Content → Option Files → Option Files → Type 0
+HoldsPart under s d told path prefix content before after =
+    (b : List ℕ) → told ≡ Some b → IsPart (replay_due under s d b path prefix content) before after
 
 -- nothing was written, or a part of what the journal is to leave
-abbrev pub Stopped : Shape → ℕ → Option (List ℕ) → PathView → List ℕ → List ℕ → Option Files → Option Files → Type 0
-Stopped s d told path text prefix before after =
-    (after ≡ before) ⊎ ((content : Content) × IsReplayable s path text content × HoldsPart s d told path prefix content before after)
+abbrev pub Stopped : Under → Shape → ℕ → Option (List ℕ) → PathView → List ℕ → List ℕ → Option Files → Option Files → Type 0
+Stopped under s d told path text prefix before after =
+    (after ≡ before) ⊎ ((content : Content) × IsReplayable s path text content × HoldsPart under s d told path prefix content before after)
 
--- what a replay leaves by its answer: the number of the journal's pictures and all of them; nothing, where a line of the journal is
+-- what a replay by a filter leaves by its answer: the number of the journal's pictures and all of them; nothing, where a line of the journal is
 -- refused, which is the first such line; or else a part
-abbrev pub Leaves : Shape → ℕ → Option (List ℕ) → PathView → List ℕ → List ℕ → Option Files → Option Files → Result ℕ ReplayError → Type 0
-Leaves s d told path text prefix before after (Ok count) =
+abbrev pub Leaves : Under → Shape → ℕ → Option (List ℕ) → PathView → List ℕ → List ℕ → Option Files → Option Files → Result ℕ ReplayError → Type 0
+Leaves under s d told path text prefix before after (Ok count) =
     (content : Content) × IsReplayable s path text content × (count ≡ pictures_of content.passes)
-    × HoldsReplay s d told path prefix content before after
-Leaves s d told path text prefix before after (Err (BadJournal line)) =
+    × HoldsReplay under s d told path prefix content before after
+Leaves under s d told path text prefix before after (Err (BadJournal line)) =
     (after ≡ before) × IsFirstRefused s path.height (length path.cameras) text line
-Leaves s d told path text prefix before after (Err Failed) = Stopped s d told path text prefix before after
-Leaves s d told path text prefix before after (Err NoMemory) = Stopped s d told path text prefix before after
+Leaves under s d told path text prefix before after (Err Failed) = Stopped under s d told path text prefix before after
+Leaves under s d told path text prefix before after (Err NoMemory) = Stopped under s d told path text prefix before after
 
 -- the store's file was closed in its folder, after it was asked for tiles alone
 pub record IsClosed (s : Shape) (d : ℕ) (name : List ℕ) (asked : Option (List Place)) (before after : Option Asked) : Type 0 where

@@ -8,7 +8,7 @@ use Rattle.vt_pages.specs.Shape.{Shape}
 use Rattle.vt_pages.specs.Pages.{pages_of, root_of}
 use Rattle.vt_journal.specs.declared.changes.Change.{Change}
 use Rattle.vt_journal.specs.declared.changes.RowLine.{RowLine}
-use Rattle.vt_journal.specs.Changes.{at}
+use Rattle.vt_journal.specs.Changes.{at, AreInTurn, IsOneToOne}
 use Rattle.vt_journal.specs.Lookups.{change_page}
 use Rattle.vt_journal.specs.Kept.{entries_of, change_frame}
 use Rattle.vt_journal.specs.JournalText.{Pass}
@@ -34,22 +34,25 @@ pub record IsReadOn {F : Type 0} (g : FileMeanings F) (before after : StoreView 
   pub faults : g.faults before.file ≤ g.faults after.file
   pub tiles : AreTilesAsked before.shape before.depth (g.asked before.file) (g.asked after.file)
 
--- the page and the frame of each change are within their bounds
+-- each change may come after those before it, and its page and its frame are within their bounds
 pub record MayBePlayed (s : Shape) (changes : List Change) : Type 0 where
   pub in_pages : (v : ℕ) (change : Change) → slice_get changes v ≡ Some change → change_page change < pages_of s
   pub in_frames : (v : ℕ) (change : Change) → slice_get changes v ≡ Some change → change_frame change < most_frames
+  pub in_turn : AreInTurn changes
 
--- the numbers of a page table are those of a version of a journal
+-- the numbers of a page table are those of a version of a journal, in which no two pages have one frame
 pub record Follows (s : Shape) (changes : List Change) (entries : List ℕ) (version : ℕ) : Type 0 where
   pub all_entries : length entries ≡ pages_of s
   pub inside : version ≤ length changes
   pub agrees : entries_of entries ≡ at changes version
+  pub apart : IsOneToOne (entries_of entries)
 
 -- a table that maps the root, a set of tiles and a store are ready for the rows of a picture: the set holds tiles of the store
 pub record IsReady {F : Type 0} (g : FileMeanings F) (s : Shape) (d : ℕ) (entries : List ℕ) (size : ℕ) (slots owners bytes : List ℕ)
     (store : StoreView F) : Type 0 where
   pub all_entries : length entries ≡ pages_of s
   pub root : IsSome (entries_of entries (root_of s))
+  pub apart : IsOneToOne (entries_of entries)
   pub shape : store.shape ≡ s
   pub depth : store.depth ≡ d
   pub tiles : AreTiles s d size slots owners bytes (g.bytes store.file)

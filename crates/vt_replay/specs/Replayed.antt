@@ -13,20 +13,23 @@ use Rattle.vt_tiles.specs.Format.{stored}
 use Rattle.vt_files.specs.Dues.{FileDue}
 use Rattle.vt_files.specs.Pictures.{pictures_due}
 use Rattle.vt_shown.specs.Scenes.{Scene, scene_of}
-use Rattle.vt_shown.specs.Replays.{pixel_under}
 
 -- the version that the line of a row names
 abbrev pub version_of : List RowLine → ℕ → ℕ
 version_of lines y = unwrap_or (option_map (λ line. line.version) (slice_get lines y)) 0
 
--- the bytes of the first pixels of a row of a picture under a page table (van Waveren 2012)
-unfoldable pub replayed_row : Source → Scene → Table → ℕ → ℕ → ℕ → List ℕ
-replayed_row src scene m i y columns = flat_map (λ x. pixel_under src scene m i x y) (range_with_len 0 columns)
+-- how a filter shows pixels: the bytes of pixel (x, y) of picture i of a scene under a page table, of a source of texels
+abbrev pub Under : Type 0
+Under = Source → Scene → Table → ℕ → ℕ → ℕ → List ℕ
+
+-- the bytes of the first pixels of a row of a picture under a page table, as a filter shows them
+unfoldable pub replayed_row : Under → Source → Scene → Table → ℕ → ℕ → ℕ → List ℕ
+replayed_row under src scene m i y columns = flat_map (λ x. under src scene m i x y) (range_with_len 0 columns)
 
 -- the bytes of the first rows of the replay of a pass of a picture: each row under the page table of the version that its line names
-unfoldable pub replayed_rows : Source → Scene → List Change → List RowLine → ℕ → ℕ → List ℕ
-replayed_rows src scene changes lines i rows =
-    flat_map (λ y. replayed_row src scene (at changes (version_of lines y)) i y scene.path.width) (range_with_len 0 rows)
+unfoldable pub replayed_rows : Under → Source → Scene → List Change → List RowLine → ℕ → ℕ → List ℕ
+replayed_rows under src scene changes lines i rows =
+    flat_map (λ y. replayed_row under src scene (at changes (version_of lines y)) i y scene.path.width) (range_with_len 0 rows)
 
 -- the rows of the last pass of a picture, where these were so far
 abbrev pub lines_after : List RowLine → List Pass → ℕ → List RowLine
@@ -47,15 +50,15 @@ abbrev pub pictures_of : List Pass → ℕ
 pictures_of passes = pictures_after 0 passes
 
 -- the samples of the replay of a picture: those of its last pass
-abbrev pub replay_samples : Source → Scene → List Change → List Pass → ℕ → List ℕ
-replay_samples src scene changes passes i = replayed_rows src scene changes (last_lines passes i) i scene.path.height
+abbrev pub replay_samples : Under → Source → Scene → List Change → List Pass → ℕ → List ℕ
+replay_samples under src scene changes passes i = replayed_rows under src scene changes (last_lines passes i) i scene.path.height
 
 -- the file of the replay of a picture, at the depth of the scene (the Netpbm manual's P6 page)
-unfoldable pub replay_file : Source → Scene → List Change → List Pass → ℕ → List ℕ
-replay_file src scene changes passes i =
-    picture_bytes scene.depth scene.path.width scene.path.height (replay_samples src scene changes passes i)
+unfoldable pub replay_file : Under → Source → Scene → List Change → List Pass → ℕ → List ℕ
+replay_file under src scene changes passes i =
+    picture_bytes scene.depth scene.path.width scene.path.height (replay_samples under src scene changes passes i)
 
 -- the files that the replay of a journal is to leave: each picture of its passes under its name, drawn from a store's bytes
-abbrev pub replay_due : Shape → ℕ → List ℕ → PathView → List ℕ → Content → List FileDue
-replay_due s d b path prefix content =
-    pictures_due prefix (replay_file (stored b) (scene_of s d path) (content_changes s content) content.passes) (pictures_of content.passes)
+abbrev pub replay_due : Under → Shape → ℕ → List ℕ → PathView → List ℕ → Content → List FileDue
+replay_due under s d b path prefix content =
+    pictures_due prefix (replay_file under (stored b) (scene_of s d path) (content_changes s content) content.passes) (pictures_of content.passes)

@@ -7,7 +7,7 @@ use Rattle.vt_pages.specs.Shape.{Shape}
 use Rattle.vt_pages.specs.Pages.{level_of, levels_of, pages_of, ancestor_of, root_of}
 use Rattle.vt_draw.specs.declared.lookups.Found.{Found}
 use Rattle.vt_draw.specs.Lookups.{Note, EntryNote, WordNote}
-use Rattle.vt_journal.specs.Changes.{Table}
+use Rattle.vt_journal.specs.Changes.{Table, IsOneToOne}
 use Rattle.vt_journal.specs.Kept.{entries_of}
 use Rattle.vt_tiles.specs.Format.{tile_start, tile_length}
 
@@ -53,27 +53,37 @@ pub record SightView : Type 0 where
   pub bytes : List ℕ
   pub missed : Bool
 
--- what holds of every look-up: the table has an entry for each page and maps the root, and the set has room for whole tiles
+-- what holds of every look-up: the table has an entry for each page, maps the root and no two pages to one frame, and the set has room for
+-- whole tiles
 pub record IsSight (v : SightView) : Type 0 where
   pub lawful : IsDepth v.depth
   pub all_entries : length v.entries ≡ pages_of v.shape
   pub root : IsSome (entries_of v.entries (root_of v.shape))
+  pub apart : IsOneToOne (entries_of v.entries)
   pub size_is : v.size ≡ tile_length v.shape v.depth
   pub all_slots : length v.slots ≡ pages_of v.shape
   pub all_bytes : length v.bytes ≡ length v.owners * v.size
 
--- the number of a page: 0 where it is unmapped, and else one more than its index
-abbrev pub page_number : ℕ → Option ℕ → ℕ
-page_number page None = 0
-page_number page (Some frame) = page + 1
+-- what no call of a look-up changes: all but whether a tile was missed
+abbrev pub sight_base : SightView → SightView
+sight_base v = record v { missed = false }
 
--- a note is true: it tells the number of a page, whose tile is at hand at the version of the table if none was missed, or a word of a page's tile
--- if that is at hand
+-- the number of an entry: 0 where a page is unmapped, and else one more than its frame
+abbrev pub entry_number : Option ℕ → ℕ
+entry_number None = 0
+entry_number (Some frame) = frame + 1
+
+-- the tile of a page is at hand and has a word at a place
+abbrev pub HasWord : SightView → ℕ → ℕ → ℕ → Type 0
+HasWord v page place word = (slot : ℕ) × IsIn v.slots v.owners page slot × (word ≡ word_at v.depth (row_of v.size v.bytes slot) place)
+
+-- a note is true: it tells the number of a page's entry, or a word of the page that a frame has; and if no tile was missed, the page's tile is at
+-- hand
 abbrev pub IsTrueOf : SightView → Note → Type 0
 IsTrueOf v (EntryNote version page entry) =
-    (entry ≡ page_number page (entries_of v.entries page)) × (version ≡ v.version → v.missed ≡ false → 1 ≤ entry → IsHeld v.slots v.owners page)
-IsTrueOf v (WordNote version page place word) =
-    (slot : ℕ) → IsIn v.slots v.owners page slot → word ≡ word_at v.depth (row_of v.size v.bytes slot) place
+    (entry ≡ entry_number (entries_of v.entries page)) × (v.missed ≡ false → 1 ≤ entry → IsHeld v.slots v.owners page)
+IsTrueOf v (WordNote version frame place word) =
+    v.missed ≡ false → (page : ℕ) → entries_of v.entries page ≡ Some frame → HasWord v page place word
 
 -- a page serves another: it is the finest page of the other's line that a table maps (van Waveren 2012)
 pub record Serves (s : Shape) (m : Table) (p : ℕ) (found : Found) : Type 0 where
@@ -81,7 +91,6 @@ pub record Serves (s : Shape) (m : Table) (p : ℕ) (found : Found) : Type 0 whe
   pub level_inside : found.level < levels_of s
   pub page : found.page ≡ ancestor_of s p found.level
   pub level : found.level ≡ level_of s found.page
-  pub slot : found.slot ≡ found.page
   pub inside : found.page < pages_of s
   pub unmapped : (k : ℕ) → level_of s p ≤ k → k < found.level → m (ancestor_of s p k) ≡ None
-  pub mapped : IsSome (m found.page)
+  pub mapped : m found.page ≡ Some found.slot

@@ -5,11 +5,12 @@ ghost use Rattle.vt_definitions.specs.Depths.{IsDepth, texel_length};
 ghost use Rattle.vt_outside.specs.Counts.{Rose};
 ghost use Rattle.vt_pages.specs.Pages.{pages_of, root_of};
 ghost use Rattle.vt_journal.specs.declared.changes.RowLine.{RowLine};
+ghost use Rattle.vt_journal.specs.Changes.{IsOneToOne};
 ghost use Rattle.vt_journal.specs.Kept.{entries_of};
 ghost use Rattle.vt_tiles.specs.Format.{stored, tile_length};
 ghost use Rattle.vt_tiles.specs.StoreViews.{IsStore};
 ghost use Rattle.vt_shown.specs.Scenes.{scene_of};
-ghost use Rattle.vt_shown.specs.Replays.{HasPixels, pixel_under};
+ghost use Rattle.vt_shown.specs.Replays.{HasPixels};
 ghost use Rattle.vt_replay.specs.Playing.{IsReadOn, IsReady};
 ghost use Rattle.vt_replay.specs.Sights.{row_of, AreTiles};
 
@@ -18,7 +19,8 @@ use crate::sight::Sight;
 use crate::table::PageTable;
 use crate::tiles::Tiles;
 use vt_definitions::texel_length;
-use vt_draw::{Shot, draw_row};
+use vt_draw::Shot;
+use vt_filter::Filter;
 use vt_journal::RowLine;
 use vt_outside::{File, OutsideError};
 use vt_tiles::Store;
@@ -32,7 +34,7 @@ struct Tried {
 }
 
 // Draws row y of a picture over a table and the tiles at hand. It is drawn where no tile was missed.
-fn try_line(
+fn try_line<P: Filter>(
     table: &PageTable,
     tiles: &Tiles,
     shot: &Shot,
@@ -45,9 +47,10 @@ fn try_line(
     requires within { y < shot.now.path.now.height }
     requires bytes { length out.old ≡ texel_length shot.now.depth * shot.now.path.now.width }
     requires pages { length counts.old ≡ pages_of shot.now.geometry.now }
-    requires room { (p : ℕ) → p < length counts.old → slice_index counts.old p + shot.now.path.now.width < 2 ^ 32 }
+    requires room { (p : ℕ) → p < length counts.old → slice_index counts.old p + 4 * shot.now.path.now.width < 2 ^ 32 }
     requires entries { length table.now.entries.items ≡ pages_of shot.now.geometry.now }
     requires root { IsSome (entries_of table.now.entries.items (root_of shot.now.geometry.now)) }
+    requires apart { IsOneToOne (entries_of table.now.entries.items) }
     requires size { tiles.now.size ≡ tile_length shot.now.geometry.now shot.now.depth }
     requires slots { length tiles.now.slots.items ≡ pages_of shot.now.geometry.now }
     requires rooms { length tiles.now.bytes.items ≡ length tiles.now.owners.items * tiles.now.size }
@@ -56,14 +59,14 @@ fn try_line(
         tiles.now.bytes.items (Some b)
         → let scene = scene_of shot.now.geometry.now shot.now.depth shot.now.path.now in
         HasPixels shot.now.depth shot.now.path.now.width
-        (λ x. pixel_under (stored b) scene (entries_of table.now.entries.items) shot.now.picture x y) out.new }
+        (λ x. P.under (stored b) scene (entries_of table.now.entries.items) shot.now.picture x y) out.new }
     ensures counted { (p : ℕ) → p < length counts.new
-        → slice_index counts.new p ≤ slice_index counts.old p + shot.now.path.now.width }
+        → slice_index counts.new p ≤ slice_index counts.old p + 4 * shot.now.path.now.width }
 {
     // From here on it is known that the geometry keeps its limits.
     let _side = shot.geometry.tile();
     let mut sight = Sight::new(shot.geometry, table, tiles, shot.depth);
-    draw_row(&mut sight, shot, y, out, counts);
+    P::draw_row(&mut sight, shot, y, out, counts);
     Tried {
         missed: sight.missed(),
         used: sight.used(),
@@ -119,7 +122,7 @@ fn clear(counts: &mut [u32])
 
 // Draws row y of a picture over a table: anew each time that it missed tiles, after these were read. Each time one tile more that
 // the row needs is at hand, so as many times as it has pixels are enough, but where the set has no room for all that it needs.
-fn draw_line<F: File>(
+fn draw_line<P: Filter, F: File>(
     table: &PageTable,
     tiles: &mut Tiles,
     store: &mut Store<F>,
@@ -133,7 +136,7 @@ fn draw_line<F: File>(
     requires within { y < shot.now.path.now.height }
     requires bytes { length out.old ≡ texel_length shot.now.depth * shot.now.path.now.width }
     requires pages { length counts.old ≡ pages_of shot.now.geometry.now }
-    requires room { (p : ℕ) → p < length counts.old → slice_index counts.old p + shot.now.path.now.width < 2 ^ 32 }
+    requires room { (p : ℕ) → p < length counts.old → slice_index counts.old p + 4 * shot.now.path.now.width < 2 ^ 32 }
     requires ready { IsReady F.File shot.now.geometry.now shot.now.depth table.now.entries.items
         tiles.old.size tiles.old.slots.items tiles.old.owners.items tiles.old.bytes.items store.old }
     ensures ready { OnOk result (IsReady F.File shot.now.geometry.now shot.now.depth table.now.entries.items
@@ -141,14 +144,14 @@ fn draw_line<F: File>(
     ensures shown { OnOk result ((b : List ℕ) → F.bytes store.old.file ≡ Some b → IsStore b shot.now.geometry.now shot.now.depth
         → let scene = scene_of shot.now.geometry.now shot.now.depth shot.now.path.now in
         HasPixels shot.now.depth shot.now.path.now.width
-        (λ x. pixel_under (stored b) scene (entries_of table.now.entries.items) shot.now.picture x y) out.new) }
+        (λ x. P.under (stored b) scene (entries_of table.now.entries.items) shot.now.picture x y) out.new) }
     ensures counted { (p : ℕ) → p < length counts.new
-        → slice_index counts.new p ≤ slice_index counts.old p + shot.now.path.now.width }
+        → slice_index counts.new p ≤ slice_index counts.old p + 4 * shot.now.path.now.width }
     ensures failed { result ≡ Err OutsideError.Failed → Rose (F.faults store.old.file) (F.faults store.new.file) }
     ensures read { IsReadOn F.File store.old store.new }
 {
     for _round in 0..shot.path.width() + 1 {
-        let tried = try_line(table, tiles, shot, y, out, counts);
+        let tried = try_line::<P>(table, tiles, shot, y, out, counts);
         tiles.touch(&tried.used);
         if !tried.missed {
             return Ok(());
@@ -160,7 +163,7 @@ fn draw_line<F: File>(
 }
 
 // Draws row y of a picture into its place among the picture's samples.
-fn draw_into<F: File>(
+fn draw_into<P: Filter, F: File>(
     table: &PageTable,
     tiles: &mut Tiles,
     store: &mut Store<F>,
@@ -174,7 +177,7 @@ fn draw_into<F: File>(
     requires within { y < shot.now.path.now.height }
     requires bytes { length samples.old ≡ shot.now.path.now.height * (texel_length shot.now.depth * shot.now.path.now.width) }
     requires pages { length counts.old ≡ pages_of shot.now.geometry.now }
-    requires room { (p : ℕ) → p < length counts.old → slice_index counts.old p + shot.now.path.now.width < 2 ^ 32 }
+    requires room { (p : ℕ) → p < length counts.old → slice_index counts.old p + 4 * shot.now.path.now.width < 2 ^ 32 }
     requires ready { IsReady F.File shot.now.geometry.now shot.now.depth table.now.entries.items
         tiles.old.size tiles.old.slots.items tiles.old.owners.items tiles.old.bytes.items store.old }
     ensures ready { OnOk result (IsReady F.File shot.now.geometry.now shot.now.depth table.now.entries.items
@@ -182,18 +185,18 @@ fn draw_into<F: File>(
     ensures shown { OnOk result ((b : List ℕ) → F.bytes store.old.file ≡ Some b → IsStore b shot.now.geometry.now shot.now.depth
         → let scene = scene_of shot.now.geometry.now shot.now.depth shot.now.path.now in
         HasPixels shot.now.depth shot.now.path.now.width
-        (λ x. pixel_under (stored b) scene (entries_of table.now.entries.items) shot.now.picture x y)
+        (λ x. P.under (stored b) scene (entries_of table.now.entries.items) shot.now.picture x y)
         (row_of (texel_length shot.now.depth * shot.now.path.now.width) samples.new y)) }
     ensures others { (z : ℕ) → z ≢ y → let line = texel_length shot.now.depth * shot.now.path.now.width in
         row_of line samples.new z ≡ row_of line samples.old z }
     ensures counted { (p : ℕ) → p < length counts.new
-        → slice_index counts.new p ≤ slice_index counts.old p + shot.now.path.now.width }
+        → slice_index counts.new p ≤ slice_index counts.old p + 4 * shot.now.path.now.width }
     ensures failed { result ≡ Err OutsideError.Failed → Rose (F.faults store.old.file) (F.faults store.new.file) }
     ensures read { IsReadOn F.File store.old store.new }
 {
     let line = texel_length(shot.depth) * shot.path.width() as usize;
     let at = y as usize * line;
-    draw_line(
+    draw_line::<P, F>(
         table,
         tiles,
         store,
@@ -206,7 +209,7 @@ fn draw_into<F: File>(
 }
 
 // Draws row y of a picture into its place, where it is chosen.
-fn draw_chosen<F: File>(
+fn draw_chosen<P: Filter, F: File>(
     table: &PageTable,
     tiles: &mut Tiles,
     store: &mut Store<F>,
@@ -221,7 +224,7 @@ fn draw_chosen<F: File>(
     requires within { y < shot.now.path.now.height }
     requires bytes { length samples.old ≡ shot.now.path.now.height * (texel_length shot.now.depth * shot.now.path.now.width) }
     requires pages { length counts.old ≡ pages_of shot.now.geometry.now }
-    requires room { (p : ℕ) → p < length counts.old → slice_index counts.old p + shot.now.path.now.width < 2 ^ 32 }
+    requires room { (p : ℕ) → p < length counts.old → slice_index counts.old p + 4 * shot.now.path.now.width < 2 ^ 32 }
     requires ready { IsReady F.File shot.now.geometry.now shot.now.depth table.now.entries.items
         tiles.old.size tiles.old.slots.items tiles.old.owners.items tiles.old.bytes.items store.old }
     ensures ready { OnOk result (IsReady F.File shot.now.geometry.now shot.now.depth table.now.entries.items
@@ -230,20 +233,20 @@ fn draw_chosen<F: File>(
         → IsStore b shot.now.geometry.now shot.now.depth
         → let scene = scene_of shot.now.geometry.now shot.now.depth shot.now.path.now in
         HasPixels shot.now.depth shot.now.path.now.width
-        (λ x. pixel_under (stored b) scene (entries_of table.now.entries.items) shot.now.picture x y)
+        (λ x. P.under (stored b) scene (entries_of table.now.entries.items) shot.now.picture x y)
         (row_of (texel_length shot.now.depth * shot.now.path.now.width) samples.new y)) }
     ensures others { (z : ℕ) → z ≢ y → let line = texel_length shot.now.depth * shot.now.path.now.width in
         row_of line samples.new z ≡ row_of line samples.old z }
     ensures kept { chosen ≡ false → samples.new ≡ samples.old }
     ensures counted { (p : ℕ) → p < length counts.new
-        → slice_index counts.new p ≤ slice_index counts.old p + shot.now.path.now.width }
+        → slice_index counts.new p ≤ slice_index counts.old p + 4 * shot.now.path.now.width }
     ensures failed { result ≡ Err OutsideError.Failed → Rose (F.faults store.old.file) (F.faults store.new.file) }
     ensures read { IsReadOn F.File store.old store.new }
 {
     if !chosen {
         return Ok(());
     }
-    draw_into(table, tiles, store, shot, y, samples, counts)
+    draw_into::<P, F>(table, tiles, store, shot, y, samples, counts)
 }
 
 // Whether row y of a pass names a version.
@@ -256,7 +259,7 @@ fn names_version(rows: &[RowLine], y: u32, version: u64) -> bool
 
 /// Draws the rows of a pass that name a version, over the table of that version, and reads the tiles that they need and the set has
 /// not. The counts are scratch room.
-pub(crate) fn draw_version<F: File>(
+pub(crate) fn draw_version<P: Filter, F: File>(
     table: &PageTable,
     tiles: &mut Tiles,
     store: &mut Store<F>,
@@ -279,7 +282,7 @@ pub(crate) fn draw_version<F: File>(
         → (y : ℕ) (row : RowLine) → slice_get rows.now y ≡ Some row → row.version ≡ version
         → let scene = scene_of shot.now.geometry.now shot.now.depth shot.now.path.now in
         HasPixels shot.now.depth shot.now.path.now.width
-        (λ x. pixel_under (stored b) scene (entries_of table.now.entries.items) shot.now.picture x y)
+        (λ x. P.under (stored b) scene (entries_of table.now.entries.items) shot.now.picture x y)
         (row_of (texel_length shot.now.depth * shot.now.path.now.width) samples.new y)) }
     ensures kept { OnOk result ((y : ℕ) (row : RowLine) → slice_get rows.now y ≡ Some row → row.version ≢ version
         → let line = texel_length shot.now.depth * shot.now.path.now.width in
@@ -293,7 +296,7 @@ pub(crate) fn draw_version<F: File>(
     prove!(width <= 2048);
     for y in 0..shot.path.height() {
         let chosen = names_version(rows, y, version);
-        draw_chosen(table, tiles, store, shot, y, chosen, samples, counts)?;
+        draw_chosen::<P, F>(table, tiles, store, shot, y, chosen, samples, counts)?;
     }
     Ok(())
 }

@@ -15,4 +15,4 @@ mod tiles;
 
 pub use error::ReplayError;
 pub use laws::replay_is_one;
-pub use pictures::replay;
+pub use pictures::{replay, replay_by};

@@ -4,6 +4,7 @@ ghost use Rattle.std.specs.Prelude.{◌≡◌, ◌⊎◌, ◌≤◌, ℕ, length
 ghost use Rattle.vt_outside.specs.Counts.{Rose, added};
 ghost use Rattle.vt_files.specs.Courses.{passage};
 ghost use Rattle.vt_files.specs.Dues.{AsksNone};
+ghost use Rattle.vt_shown.specs.Replays.{pixel_under};
 ghost use Rattle.vt_replay.specs.Playing.{IsReadOn};
 ghost use Rattle.vt_replay.specs.Flaws.{IsFirstRefused};
 ghost use Rattle.vt_replay.specs.Outcomes.{Leaves, IsClosed, replay_answer};
@@ -13,11 +14,13 @@ use crate::judge::judged;
 use crate::play::play;
 use std::alloc::Global;
 use vt_camera::Path;
+use vt_filter::{Filter, Nearest};
 use vt_outside::{Folder, OutsideError};
 use vt_tiles::Store;
 
-/// Writes the picture of the last pass of each picture of a journal, drawn from a store along the journal's path, and answers
-/// their number. A picture's name is the prefix, its number in four digits and `.ppm`. The store's file is closed.
+/// Writes the picture of the last pass of each picture of a journal, drawn from a store along the journal's path, each pixel of the
+/// texel that serves it, and answers their number. A picture's name is the prefix, its number in four digits and `.ppm`. The store's
+/// file is closed.
 ///
 /// `BadJournal` comes exactly for the first line that the journal's reader refuses or that names a picture that the path has
 /// not, before anything is written; `Failed` only where the folder's count of faults rose above what it was with that of the
@@ -31,7 +34,29 @@ pub fn replay<D: Folder>(
     journal: &[u8],
     prefix: &str,
 ) -> Result<u32, ReplayError>
-    ensures leaves { Leaves store.shape store.depth (D.File.bytes store.file) path.now journal.now prefix.now
+    ensures leaves { Leaves pixel_under store.shape store.depth (D.File.bytes store.file) path.now journal.now prefix.now
+        (D.files folder.old) (D.files folder.new) result }
+    ensures refused { (line : ℕ) → IsFirstRefused store.shape path.now.height (length path.now.cameras) journal.now line
+        → (result ≡ Err (ReplayError.BadJournal line)) ⊎ (result ≡ Err ReplayError.NoMemory) }
+    ensures failed { result ≡ Err ReplayError.Failed
+        → Rose (added (D.faults folder.old) (D.File.faults store.file)) (D.faults folder.new) }
+    ensures closed { IsClosed store.shape store.depth (D.File.name store.file) (D.File.asked store.file)
+        (D.asked folder.old) (D.asked folder.new) }
+    ensures faults { added (D.faults folder.old) (D.File.faults store.file) ≤ D.faults folder.new }
+{
+    replay_by::<Nearest, D>(alloc, folder, store, path, journal, prefix)
+}
+
+/// Writes the pictures of a journal as `replay` does, their pixels made of texels by a filter.
+pub fn replay_by<P: Filter, D: Folder>(
+    alloc: Global,
+    folder: &mut D,
+    store: Store<D::File>,
+    path: &Path,
+    journal: &[u8],
+    prefix: &str,
+) -> Result<u32, ReplayError>
+    ensures leaves { Leaves P.under store.shape store.depth (D.File.bytes store.file) path.now journal.now prefix.now
         (D.files folder.old) (D.files folder.new) result }
     ensures refused { (line : ℕ) → IsFirstRefused store.shape path.now.height (length path.now.cameras) journal.now line
         → (result ≡ Err (ReplayError.BadJournal line)) ⊎ (result ≡ Err ReplayError.NoMemory) }
@@ -42,13 +67,13 @@ pub fn replay<D: Folder>(
     ensures faults { added (D.faults folder.old) (D.File.faults store.file) ≤ D.faults folder.new }
 {
     let mut store = store;
-    let result = replay_open(alloc, folder, &mut store, path, journal, prefix);
+    let result = replay_open::<P, D>(alloc, folder, &mut store, path, journal, prefix);
     folder.close(store.into_file());
     result
 }
 
 // Judges a journal and plays it, over a store that stays open.
-fn replay_open<D: Folder>(
+fn replay_open<P: Filter, D: Folder>(
     alloc: Global,
     folder: &mut D,
     store: &mut Store<D::File>,
@@ -56,7 +81,7 @@ fn replay_open<D: Folder>(
     journal: &[u8],
     prefix: &str,
 ) -> Result<u32, ReplayError>
-    ensures leaves { Leaves store.old.shape store.old.depth (D.File.bytes store.old.file) path.now journal.now prefix.now
+    ensures leaves { Leaves P.under store.old.shape store.old.depth (D.File.bytes store.old.file) path.now journal.now prefix.now
         (D.files folder.old) (D.files folder.new) result }
     ensures refused { (line : ℕ) → IsFirstRefused store.old.shape path.now.height (length path.now.cameras) journal.now line
         → (result ≡ Err (ReplayError.BadJournal line)) ⊎ (result ≡ Err ReplayError.NoMemory) }
@@ -67,7 +92,7 @@ fn replay_open<D: Folder>(
 {
     let geometry = store.geometry();
     let text = judged(alloc, &geometry, path, journal)?;
-    answer_of(play(alloc, folder, store, path, &text, prefix))
+    answer_of(play::<P, D>(alloc, folder, store, path, &text, prefix))
 }
 
 // The answer of a replay, by that of its passes.

@@ -14,7 +14,7 @@ ghost use Rattle.vt_files.specs.Courses.{passage};
 ghost use Rattle.vt_files.specs.Dues.{AsksNone};
 ghost use Rattle.vt_files.specs.Pictures.{picture_due, pictures_due};
 ghost use Rattle.vt_shown.specs.Scenes.{scene_of};
-ghost use Rattle.vt_shown.specs.Replays.{HasPixels, pixel_under};
+ghost use Rattle.vt_shown.specs.Replays.{HasPixels};
 ghost use Rattle.vt_replay.specs.Playing.{IsReadOn, Follows, MayBePlayed, IsStaged, AreRowsWithin, ArePlayed, HasWritten};
 ghost use Rattle.vt_replay.specs.Sights.{row_of, AreTiles};
 ghost use Rattle.vt_replay.specs.Replayed.{replayed_rows, pictures_of, replay_file, replay_due};
@@ -28,6 +28,7 @@ use vt_camera::Path;
 use vt_definitions::texel_length;
 use vt_draw::Shot;
 use vt_files::{Picture, write_picture};
+use vt_filter::Filter;
 use vt_journal::{Journal, JournalText, PassText};
 use vt_outside::{File, Folder, NoMemory, OutsideError};
 use vt_pages::Geometry;
@@ -101,7 +102,7 @@ fn first_stage(
 }
 
 // Brings a table to a version, and draws the rows of a pass that name it.
-fn show_version<F: File>(
+fn show_version<P: Filter, F: File>(
     stage: &mut Stage,
     store: &mut Store<F>,
     journal: &Journal,
@@ -127,7 +128,7 @@ fn show_version<F: File>(
         → (y : ℕ) (row : RowLine) → slice_get pass.now.rows.elements y ≡ Some row → row.version ≡ version
         → let scene = scene_of shot.now.geometry.now shot.now.depth shot.now.path.now in
         HasPixels shot.now.depth shot.now.path.now.width
-        (λ x. pixel_under (stored b) scene (at journal.now.changes version) shot.now.picture x y)
+        (λ x. P.under (stored b) scene (at journal.now.changes version) shot.now.picture x y)
         (row_of (texel_length shot.now.depth * shot.now.path.now.width) stage.new.samples.items y)) }
     ensures kept { OnOk result ((y : ℕ) (row : RowLine) → slice_get pass.now.rows.elements y ≡ Some row → row.version ≢ version
         → let line = texel_length shot.now.depth * shot.now.path.now.width in
@@ -138,7 +139,7 @@ fn show_version<F: File>(
     stage.table.advance(shot.geometry, journal, version);
     let samples = stage.samples.as_mut_slice();
     let counts = stage.counts.as_mut_slice();
-    draw_version(
+    draw_version::<P, F>(
         &stage.table,
         &mut stage.tiles,
         store,
@@ -152,7 +153,7 @@ fn show_version<F: File>(
 }
 
 // Draws a pass of a picture: the table goes from version to version up to the last, and at each the rows that name it are drawn.
-fn show_pass<F: File>(
+fn show_pass<P: Filter, F: File>(
     stage: &mut Stage,
     store: &mut Store<F>,
     journal: &Journal,
@@ -176,20 +177,20 @@ fn show_pass<F: File>(
         stage.new.tiles.owners.items stage.new.tiles.bytes.items stage.new.samples.items stage.new.counts.items store.new) }
     ensures there { OnOk result (stage.new.table.version ≡ last) }
     ensures shown { OnOk result ((b : List ℕ) → F.bytes store.old.file ≡ Some b
-        → stage.new.samples.items ≡ replayed_rows (stored b) (scene_of shot.now.geometry.now shot.now.depth shot.now.path.now)
+        → stage.new.samples.items ≡ replayed_rows P.under (stored b) (scene_of shot.now.geometry.now shot.now.depth shot.now.path.now)
         journal.now.changes pass.now.rows.elements shot.now.picture shot.now.path.now.height) }
     ensures failed { result ≡ Err OutsideError.Failed → Rose (F.faults store.old.file) (F.faults store.new.file) }
     ensures read { IsReadOn F.File store.old store.new }
 {
     let _newest = journal.version();
     for version in pass.start..last + 1 {
-        show_version(stage, store, journal, shot, pass, version)?;
+        show_version::<P, F>(stage, store, journal, shot, pass, version)?;
     }
     Ok(())
 }
 
 // Draws a pass of a picture and writes the picture.
-fn play_pass<D: Folder>(
+fn play_pass<P: Filter, D: Folder>(
     alloc: Global,
     folder: &mut D,
     prefix: &str,
@@ -218,14 +219,14 @@ fn play_pass<D: Folder>(
     ensures asks { AsksNone (passage D.Folder folder.old folder.new) }
     ensures wrote { (b : List ℕ) → D.File.bytes store.old.file ≡ Some b
         → HasWritten (picture_due prefix.now (λ picture. picture_bytes shot.now.depth shot.now.path.now.width
-        shot.now.path.now.height (replayed_rows (stored b) (scene_of shot.now.geometry.now shot.now.depth shot.now.path.now)
+        shot.now.path.now.height (replayed_rows P.under (stored b) (scene_of shot.now.geometry.now shot.now.depth shot.now.path.now)
         journal.now.changes pass.now.rows.elements picture shot.now.path.now.height)) shot.now.picture ∷ [])
         (D.files folder.old) (D.files folder.new) result }
     ensures failed { result ≡ Err OutsideError.Failed → Rose (D.faults folder.old) (D.faults folder.new)
         ⊎ Rose (D.File.faults store.old.file) (D.File.faults store.new.file) }
     ensures read { IsReadOn D.File.File store.old store.new }
 {
-    show_pass(stage, store, journal, shot, pass, last)?;
+    show_pass::<P, D::File>(stage, store, journal, shot, pass, last)?;
     let pictures = shot.path.pictures();
     prove!(shot.picture < pictures);
     let picture = Picture {
@@ -266,7 +267,7 @@ fn last_of(text: &JournalText, i: u32) -> u64
 }
 
 // Draws and writes the last pass of each picture, in the order of the pictures. Answers their number.
-fn play_passes<D: Folder>(
+fn play_passes<P: Filter, D: Folder>(
     alloc: Global,
     folder: &mut D,
     prefix: &str,
@@ -289,7 +290,7 @@ fn play_passes<D: Folder>(
     ensures count { IfOk result (λ n. n ≡ pictures_of text.now.content.passes) }
     ensures asks { AsksNone (passage D.Folder folder.old folder.new) }
     ensures wrote { (b : List ℕ) → D.File.bytes store.old.file ≡ Some b
-        → HasWritten (pictures_due prefix.now (replay_file (stored b) (scene_of store.old.shape store.old.depth path.now)
+        → HasWritten (pictures_due prefix.now (replay_file P.under (stored b) (scene_of store.old.shape store.old.depth path.now)
         text.now.changes text.now.content.passes) (pictures_of text.now.content.passes))
         (D.files folder.old) (D.files folder.new) result }
     ensures failed { result ≡ Err OutsideError.Failed → Rose (D.faults folder.old) (D.faults folder.new)
@@ -314,7 +315,7 @@ fn play_passes<D: Folder>(
         };
         let last = last_of(text, i);
         let journal = text.journal();
-        play_pass(
+        play_pass::<P, D>(
             alloc, folder, prefix, stage, store, journal, &shot, pass, last,
         )?;
         done += 1;
@@ -323,7 +324,7 @@ fn play_passes<D: Folder>(
 }
 
 /// Draws and writes the last pass of each picture of a journal whose pictures are all in the path. Answers their number.
-pub(crate) fn play<D: Folder>(
+pub(crate) fn play<P: Filter, D: Folder>(
     alloc: Global,
     folder: &mut D,
     store: &mut Store<D::File>,
@@ -338,7 +339,7 @@ pub(crate) fn play<D: Folder>(
     ensures count { IfOk result (λ n. n ≡ pictures_of text.now.content.passes) }
     ensures asks { AsksNone (passage D.Folder folder.old folder.new) }
     ensures wrote { (b : List ℕ) → D.File.bytes store.old.file ≡ Some b
-        → HasWritten (replay_due store.old.shape store.old.depth b path.now prefix.now text.now.content)
+        → HasWritten (replay_due P.under store.old.shape store.old.depth b path.now prefix.now text.now.content)
         (D.files folder.old) (D.files folder.new) result }
     ensures failed { result ≡ Err OutsideError.Failed → Rose (D.faults folder.old) (D.faults folder.new)
         ⊎ Rose (D.File.faults store.old.file) (D.File.faults store.new.file) }
@@ -350,5 +351,5 @@ pub(crate) fn play<D: Folder>(
     let _side = geometry.tile();
     let journal = text.journal();
     let mut stage = first_stage(alloc, &geometry, depth, path, journal)?;
-    play_passes(alloc, folder, prefix, &mut stage, store, path, text)
+    play_passes::<P, D>(alloc, folder, prefix, &mut stage, store, path, text)
 }

@@ -3,22 +3,22 @@
 ghost use Rattle.std.specs.Prelude.{◌≡◌, ℕ, ◌*◌, ◌<◌, false, length, IsSome};
 ghost use Rattle.vt_definitions.specs.Depths.{IsDepth, word_at};
 ghost use Rattle.vt_pages.specs.Pages.{pages_of, root_of};
-ghost use Rattle.vt_draw.specs.Lookups.{place_in_tile};
+ghost use Rattle.vt_journal.specs.Changes.{IsOneToOne};
 ghost use Rattle.vt_journal.specs.Kept.{entries_of};
 ghost use Rattle.vt_tiles.specs.Format.{tile_length};
-ghost use Rattle.vt_replay.specs.Sights.{SightView, IsSight, IsTrueOf, IsIn, Serves, row_of};
+ghost use Rattle.vt_replay.specs.Sights.{SightView, IsSight, IsTrueOf, IsIn, Serves, row_of, sight_base};
 
 use crate::noted::Noted;
 use crate::table::PageTable;
-use crate::tiles::Tiles;
+use crate::tiles::{Tiles, entry_at};
 use std::marker::Model;
 use vt_definitions::word_in;
-use vt_draw::{Found, Lookup};
+use vt_draw::{Found, Lookup, place_of};
 use vt_pages::Geometry;
 
 /// A look-up of pages in a page table, which maps the root, over the tiles that are at hand. A page whose tile is not there is
-/// noted, and what is told of its texels means nothing (van Waveren 2012). A page is its own frame. Contracts see what is looked at, and
-/// whether a tile was missed.
+/// noted, and what is told of its texels means nothing (van Waveren 2012). Contracts see what is looked at, and whether a tile was
+/// missed.
 #[derive(Drop)]
 pub(crate) struct Sight<'a> {
     geometry: &'a Geometry,
@@ -76,6 +76,7 @@ impl<'a> Sight<'a> {
         requires depth { IsDepth depth }
         requires entries { length table.now.entries.items ≡ pages_of geometry.now }
         requires root { IsSome (entries_of table.now.entries.items (root_of geometry.now)) }
+        requires apart { IsOneToOne (entries_of table.now.entries.items) }
         requires size { tiles.now.size ≡ tile_length geometry.now depth }
         requires slots { length tiles.now.slots.items ≡ pages_of geometry.now }
         requires bytes { length tiles.now.bytes.items ≡ length tiles.now.owners.items * tiles.now.size }
@@ -123,6 +124,19 @@ impl<'a> Sight<'a> {
 }
 
 impl Sight<'_> {
+    // The word at a place of the tile of a page. It means nothing where the tile is not at hand.
+    #[inline(always)]
+    fn word_of(&self, page: u32, place: u32) -> u64
+        requires { place < self.now.shape.tile * self.now.shape.tile }
+        ensures { (slot : ℕ) → IsIn self.now.slots self.now.owners page slot
+            → result ≡ word_at self.now.depth (row_of self.now.size self.now.bytes slot) place }
+    {
+        match self.tile {
+            Some(tile) if page == self.page => word_in(tile, self.depth, place as usize),
+            _ => self.far_word(page, place),
+        }
+    }
+
     // The word at a place of the tile of a page that was not found last, or 0 where that is not at hand.
     fn far_word(&self, page: u32, place: u32) -> u64
         requires { place < self.now.shape.tile * self.now.shape.tile }
@@ -136,17 +150,6 @@ impl Sight<'_> {
     }
 }
 
-// The place of a texel of a level in the tile of its page.
-#[inline]
-fn place_of(geometry: &Geometry, x: u32, y: u32) -> u32
-    ensures place { result ≡ place_in_tile geometry.now x y }
-    ensures inside { result < geometry.now.tile * geometry.now.tile }
-{
-    let side = geometry.tile();
-    let mask = side - 1;
-    (y & mask) * side + (x & mask)
-}
-
 // The finest page that a table maps of a page and its ancestors.
 fn finest_mapped(table: &PageTable, geometry: &Geometry, page: u32) -> Found
     requires entries { length table.now.entries.items ≡ pages_of geometry.now }
@@ -157,11 +160,11 @@ fn finest_mapped(table: &PageTable, geometry: &Geometry, page: u32) -> Found
     let name = geometry.page_at(page);
     for level in name.level..geometry.levels() {
         let ancestor = geometry.ancestor_at(page, level);
-        if table.entries[ancestor as usize] > 0 {
+        if let Some(slot) = entry_at(table.entries.as_slice(), ancestor) {
             return Found {
                 page: ancestor,
                 level,
-                slot: ancestor,
+                slot,
             };
         }
     }
@@ -175,7 +178,9 @@ impl Lookup for Sight<'_> {
 
     ghost says = { IsTrueOf };
 
-    ghost kept = { λ _. tt };
+    ghost Kept = { SightView };
+
+    ghost kept = { sight_base };
 
     #[inline]
     fn find(&mut self, page: u32) -> Found {
@@ -193,10 +198,6 @@ impl Lookup for Sight<'_> {
 
     #[inline(always)]
     fn texel(&mut self, found: &Found, x: u32, y: u32) -> u64 {
-        let place = place_of(self.geometry, x, y);
-        match self.tile {
-            Some(tile) if found.page == self.page => word_in(tile, self.depth, place as usize),
-            _ => self.far_word(found.page, place),
-        }
+        self.word_of(found.page, place_of(self.geometry, x, y))
     }
 }

@@ -92,9 +92,9 @@ impl Tiles {
     }
 }
 
-// The entry at a place of numbers, of which each is 0 or one more than its entry.
+/// The entry at a place of numbers, of which each is 0 or one more than its entry.
 #[inline]
-fn entry_at(numbers: &[u32], at: u32) -> Option<u32>
+pub(crate) fn entry_at(numbers: &[u32], at: u32) -> Option<u32>
     ensures entry { result ≡ entries_of numbers.now at }
     ensures inside { IfSome result (λ _. at < length numbers.now) }
 {

@@ -1,4 +1,4 @@
--- The rows of samplers, and how many of their pixels want a page.
+-- The rows of samplers, and how much they want of a page.
 use Rattle.std.proofs.Common.{◌≡◌, ◌≢◌, ℕ, zero, suc, ◌+◌, ◌-◌, ◌*◌, ◌/◌, ◌%◌, ◌≤◌, ◌<◌, inl, inr, Bool, true, false, cond, List, [], ◌∷◌, ◌++◌, length, drop, refl, sym, ap, ◌∙◌, arith, add-zero, eq-eqb}
 use Rattle.std.specs.Prelude.{◌==◌, ◌^◌, sum_by, filter}
 use Rattle.std.specs.List.{range_with_len}
@@ -11,8 +11,9 @@ use Rattle.std.proofs.lemmas.List.Elements.{filter-append}
 use Rattle.std.proofs.lemmas.List.Sums.{sum_by-cons, sum_by_push}
 use Rattle.vt_pages.specs.Shape.{Shape}
 use Rattle.vt_camera.specs.Paths.{PathView, ArePictureSides}
-use Rattle.vt_draw.specs.Shots.{shot_row, pixels_wanting, pixels_in_rows}
-use Rattle.vt_draw.proofs.Counts.{pixels-most}
+use Rattle.vt_camera.specs.Rows.{RowView}
+use Rattle.vt_draw.specs.Shots.{shot_row, wants_in_rows}
+use Rattle.vt_filter.specs.FilterLaws.{WantsFew}
 use Rattle.vt_sampler.specs.Samplers.{own_rows, own_count, row_in}
 use Rattle.vt_sampler.proofs.Quotients.{apart, quotient_from, rest_small}
 
@@ -99,37 +100,34 @@ length-own_rows k n (suc h) = step (length-own_rows k n h) (h % n == k) refl whe
       ap length (own_rows-suc k n h ∙ ap (λ b. own_rows k n h ++ cond b (h ∷ []) []) e ∙ append-nil (own_rows k n h)) in
       omega arith
 
-pub pixels_in_rows-none : (s : Shape) (path : PathView) (picture p : ℕ) → pixels_in_rows s path picture [] p ≡ 0
-unfolding pixels_in_rows
-pixels_in_rows-none s path picture p = refl
+-- what rows want of a page, by what the pixels of a row want of it
+module _ (wants : Shape → RowView → ℕ → ℕ → ℕ) (s : Shape) (path : PathView) (picture p : ℕ) where
+  pub wants-none : wants_in_rows wants s path picture [] p ≡ 0
+  unfolding wants_in_rows
+  wants-none = refl
 
-pub pixels_in_rows-push : (s : Shape) (path : PathView) (picture y p : ℕ) (rows : List ℕ)
-    → pixels_in_rows s path picture (rows ++ y ∷ []) p
-    ≡ pixels_in_rows s path picture rows p + pixels_wanting s (shot_row s path picture y) path.width p
-unfolding pixels_in_rows
-pixels_in_rows-push s path picture y p rows = sum_by_push (λ z. pixels_wanting s (shot_row s path picture z) path.width p) rows y
+  pub wants-push : (y : ℕ) (rows : List ℕ) → wants_in_rows wants s path picture (rows ++ y ∷ []) p
+      ≡ wants_in_rows wants s path picture rows p + wants s (shot_row s path picture y) path.width p
+  unfolding wants_in_rows
+  wants-push y rows = sum_by_push (λ z. wants s (shot_row s path picture z) path.width p) rows y
 
-rows_most : (s : Shape) (path : PathView) (picture p : ℕ) (rows : List ℕ)
-    → pixels_in_rows s path picture rows p ≤ length rows * path.width
-unfolding pixels_in_rows
-rows_most s path picture p [] = omega arith
-rows_most s path picture p (y ∷ rows) =
-    omega (
-      arith,
-      sum_by-cons (λ z. pixels_wanting s (shot_row s path picture z) path.width p) y rows,
-      rows_most s path picture p rows,
-      pixels-most s (shot_row s path picture y) path.width p,
-    )
+  module _ (most : ℕ) (few : (z : ℕ) → wants s (shot_row s path picture z) path.width p ≤ most) where
+    rows_most : (rows : List ℕ) → wants_in_rows wants s path picture rows p ≤ length rows * most
+    unfolding wants_in_rows
+    rows_most [] = omega arith
+    rows_most (y ∷ rows) =
+        omega (arith, sum_by-cons (λ z. wants s (shot_row s path picture z) path.width p) y rows, rows_most rows, few y)
 
--- a sampler's rows want no page more often than they have pixels
-pub own_pixels_most : (s : Shape) (path : PathView) (picture p k n h : ℕ)
-    → pixels_in_rows s path picture (own_rows k n h) p ≤ h * path.width
-own_pixels_most s path picture p k n h =
-    omega (
-      arith,
-      rows_most s path picture p (own_rows k n h),
-      mul-le (length (own_rows k n h)) path.width h path.width (length-own_rows k n h) (omega arith),
-    )
+    -- a sampler's rows want no more of a page than so many rows do at most
+    pub own_most : (k n h : ℕ) → wants_in_rows wants s path picture (own_rows k n h) p ≤ h * most
+    own_most k n h =
+        omega (arith, rows_most (own_rows k n h), mul-le (length (own_rows k n h)) most h most (length-own_rows k n h) (omega arith))
+
+    -- a picture wants less of a page than a count can hold
+    pub wants_few : most ≤ 8192 → path.height ≤ 2048 → wants_in_rows wants s path picture (range_with_len 0 path.height) p < 2 ^ 32
+    wants_few low high =
+        let all = ap (λ n. n * most) (length-range_with_len 0 path.height) in
+        omega (arith, rows_most (range_with_len 0 path.height), all, mul-le path.height most 2048 8192 high low)
 
 -- sums over the samplers
 sum-same : (f g : ℕ → ℕ) (xs : List ℕ) → ((x : ℕ) → f x ≡ g x) → sum_by f xs ≡ sum_by g xs
@@ -176,58 +174,67 @@ sum-picked r v a (suc n) from to =
     ]
 
 -- a row more of the picture is a row more of its one sampler
-own_more : (s : Shape) (path : PathView) (picture p k n h : ℕ) → pixels_in_rows s path picture (own_rows k n (suc h)) p
-    ≡ pixels_in_rows s path picture (own_rows k n h) p + picked (h % n) (pixels_wanting s (shot_row s path picture h) path.width p) k
-unfolding picked
-own_more s path picture p k n h = step (h % n == k) refl where
-  step : (b : Bool) → (h % n == k) ≡ b → pixels_in_rows s path picture (own_rows k n (suc h)) p
-      ≡ pixels_in_rows s path picture (own_rows k n h) p + cond (h % n == k) (pixels_wanting s (shot_row s path picture h) path.width p) 0
-  step true e =
-      ap (λ (rows : List ℕ). pixels_in_rows s path picture rows p) (own_rows-suc k n h ∙ ap (λ b. own_rows k n h ++ cond b (h ∷ []) []) e)
-      ∙ pixels_in_rows-push s path picture h p (own_rows k n h)
-      ∙ ap (λ b. pixels_in_rows s path picture (own_rows k n h) p + cond b (pixels_wanting s (shot_row s path picture h) path.width p) 0) (sym e)
-  step false e =
-      ap (λ (rows : List ℕ). pixels_in_rows s path picture rows p)
-      (own_rows-suc k n h ∙ ap (λ b. own_rows k n h ++ cond b (h ∷ []) []) e ∙ append-nil (own_rows k n h))
-      ∙ sym (add-zero (pixels_in_rows s path picture (own_rows k n h) p))
-      ∙ ap (λ b. pixels_in_rows s path picture (own_rows k n h) p + cond b (pixels_wanting s (shot_row s path picture h) path.width p) 0) (sym e)
+module _ (wants : Shape → RowView → ℕ → ℕ → ℕ) (s : Shape) (path : PathView) (picture p : ℕ) where
+  -- what the rows want of the page
+  rows_want : List ℕ → ℕ
+  rows_want rows = wants_in_rows wants s path picture rows p
 
-all_more : (s : Shape) (path : PathView) (picture p h : ℕ) → pixels_in_rows s path picture (range_with_len 0 (suc h)) p
-    ≡ pixels_in_rows s path picture (range_with_len 0 h) p + pixels_wanting s (shot_row s path picture h) path.width p
-all_more s path picture p h =
-    ap (λ (rows : List ℕ). pixels_in_rows s path picture rows p) (range_more 0 h ∙ ap (λ (m : ℕ). range_with_len 0 h ++ m ∷ []) (omega arith))
-    ∙ pixels_in_rows-push s path picture h p (range_with_len 0 h)
+  row_wants : ℕ → ℕ
+  row_wants y = wants s (shot_row s path picture y) path.width p
 
-pub rows_shared : (s : Shape) (path : PathView) (picture n h p : ℕ) → 1 ≤ n
-    → sum_by (λ k. pixels_in_rows s path picture (own_rows k n h) p) (range_with_len 0 n) ≡ pixels_in_rows s path picture (range_with_len 0 h) p
-rows_shared s path picture n zero p some =
-    sum-same (λ k. pixels_in_rows s path picture (own_rows k n 0) p) (λ (k : ℕ). 0) (range_with_len 0 n)
-    (λ k. ap (λ (rows : List ℕ). pixels_in_rows s path picture rows p) (own_rows-none k n) ∙ pixels_in_rows-none s path picture p)
-    ∙ sum-zero (range_with_len 0 n)
-    ∙ sym (pixels_in_rows-none s path picture p)
-rows_shared s path picture n (suc h) p some =
-    sum-same (λ k. pixels_in_rows s path picture (own_rows k n (suc h)) p)
-    (λ k. pixels_in_rows s path picture (own_rows k n h) p + picked (h % n) (pixels_wanting s (shot_row s path picture h) path.width p) k)
-    (range_with_len 0 n) (λ k. own_more s path picture p k n h)
-    ∙ sum-both (λ k. pixels_in_rows s path picture (own_rows k n h) p)
-    (picked (h % n) (pixels_wanting s (shot_row s path picture h) path.width p)) (range_with_len 0 n)
-    ∙ omega (
-      arith,
-      rows_shared s path picture n h p some,
-      sum-picked (h % n) (pixels_wanting s (shot_row s path picture h) path.width p) 0 n (omega arith) (omega (arith, mod_below h n some)),
-      all_more s path picture p h,
-    )
+  own_more : (k n h : ℕ) → rows_want (own_rows k n (suc h)) ≡ rows_want (own_rows k n h) + picked (h % n) (row_wants h) k
+  unfolding picked rows_want row_wants
+  own_more k n h = step (h % n == k) refl where
+    step : (b : Bool) → (h % n == k) ≡ b
+        → rows_want (own_rows k n (suc h)) ≡ rows_want (own_rows k n h) + cond (h % n == k) (row_wants h) 0
+    step true e =
+        ap rows_want (own_rows-suc k n h ∙ ap (λ b. own_rows k n h ++ cond b (h ∷ []) []) e)
+        ∙ wants-push wants s path picture p h (own_rows k n h)
+        ∙ ap (λ b. rows_want (own_rows k n h) + cond b (row_wants h) 0) (sym e)
+    step false e =
+        ap rows_want (own_rows-suc k n h ∙ ap (λ b. own_rows k n h ++ cond b (h ∷ []) []) e ∙ append-nil (own_rows k n h))
+        ∙ sym (add-zero (rows_want (own_rows k n h)))
+        ∙ ap (λ b. rows_want (own_rows k n h) + cond b (row_wants h) 0) (sym e)
 
--- a picture has fewer pixels than a count can hold
-pub pixels_few : (s : Shape) (path : PathView) (picture p : ℕ) → ArePictureSides path.width path.height
-    → pixels_in_rows s path picture (range_with_len 0 path.height) p < 2 ^ 32
-pixels_few s path picture p sides =
-    let most = rows_most s path picture p (range_with_len 0 path.height) in
-    let all = ap (λ n. n * path.width) (length-range_with_len 0 path.height) in
-    omega (arith, most, all, mul-le path.height path.width 2048 2048 sides.height_high sides.width_high)
+  all_more : (h : ℕ) → rows_want (range_with_len 0 (suc h)) ≡ rows_want (range_with_len 0 h) + row_wants h
+  unfolding rows_want row_wants
+  all_more h =
+      ap rows_want (range_more 0 h ∙ ap (λ (m : ℕ). range_with_len 0 h ++ m ∷ []) (omega arith))
+      ∙ wants-push wants s path picture p h (range_with_len 0 h)
+
+  shared : (n h : ℕ) → 1 ≤ n → sum_by (λ k. rows_want (own_rows k n h)) (range_with_len 0 n) ≡ rows_want (range_with_len 0 h)
+  unfolding rows_want
+  shared n zero some =
+      sum-same (λ k. rows_want (own_rows k n 0)) (λ (k : ℕ). 0) (range_with_len 0 n)
+      (λ k. ap rows_want (own_rows-none k n) ∙ wants-none wants s path picture p)
+      ∙ sum-zero (range_with_len 0 n)
+      ∙ sym (wants-none wants s path picture p)
+  shared n (suc h) some =
+      sum-same (λ k. rows_want (own_rows k n (suc h))) (λ k. rows_want (own_rows k n h) + picked (h % n) (row_wants h) k)
+      (range_with_len 0 n) (λ k. own_more k n h)
+      ∙ sum-both (λ k. rows_want (own_rows k n h)) (picked (h % n) (row_wants h)) (range_with_len 0 n)
+      ∙ omega (
+        arith,
+        shared n h some,
+        sum-picked (h % n) (row_wants h) 0 n (omega arith) (omega (arith, mod_below h n some)),
+        all_more h,
+      )
+
+pub rows_shared : (wants : Shape → RowView → ℕ → ℕ → ℕ) (s : Shape) (path : PathView) (picture n h p : ℕ) → 1 ≤ n
+    → sum_by (λ k. wants_in_rows wants s path picture (own_rows k n h) p) (range_with_len 0 n) ≡ wants_in_rows wants s path picture (range_with_len 0 h) p
+unfolding rows_want
+rows_shared wants s path picture n h p some = shared wants s path picture p n h some
+
+-- a picture wants no more texels of a page than a count can hold, where so many pixels want at most four each
+pub picture_few : (wants : Shape → RowView → ℕ → ℕ → ℕ) → WantsFew wants → (s : Shape) (path : PathView) (picture p : ℕ)
+    → ArePictureSides path.width path.height → wants_in_rows wants s path picture (range_with_len 0 path.height) p < 2 ^ 32
+picture_few wants few s path picture p sides =
+    wants_few wants s path picture p (4 * path.width) (λ z. few s (shot_row s path picture z) path.width p)
+    (let w = sides.width_high in omega (arith, w)) sides.height_high
 
 -- and so its samplers count no page more often together
-pub few_together : (s : Shape) (path : PathView) (picture n p : ℕ) → 1 ≤ n → ArePictureSides path.width path.height
-    → sum_by (λ k. pixels_in_rows s path picture (own_rows k n path.height) p) (range_with_len 0 n) < 2 ^ 32
-few_together s path picture n p some sides =
-    omega (arith, rows_shared s path picture n path.height p some, pixels_few s path picture p sides)
+pub few_together : (wants : Shape → RowView → ℕ → ℕ → ℕ) → WantsFew wants → (s : Shape) (path : PathView) (picture n p : ℕ) → 1 ≤ n
+    → ArePictureSides path.width path.height
+    → sum_by (λ k. wants_in_rows wants s path picture (own_rows k n path.height) p) (range_with_len 0 n) < 2 ^ 32
+few_together wants few s path picture n p some sides =
+    omega (arith, rows_shared wants s path picture n path.height p some, picture_few wants few s path picture p sides)

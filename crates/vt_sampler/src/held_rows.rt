@@ -4,7 +4,8 @@ ghost use Rattle.std.specs.Prelude.{◌≡◌, ℕ, ◌+◌, ◌*◌, ◌/◌, �
 ghost use Rattle.vt_definitions.specs.Limits.{most_samplers};
 ghost use Rattle.vt_definitions.specs.Depths.{IsDepth, texel_length};
 ghost use Rattle.vt_pages.specs.Pages.{pages_of};
-ghost use Rattle.vt_draw.specs.Shots.{shot_row, AreDrawn, pixels_in_rows};
+ghost use Rattle.vt_draw.specs.Shots.{shot_row, wants_in_rows};
+ghost use Rattle.vt_filter.specs.Evidence.{AreShown};
 ghost use Rattle.vt_grace.specs.Tokens.{IsPassOf};
 ghost use Rattle.vt_lookup.specs.Notes.{Fits, IsNotedIn, HasHeldMore};
 ghost use Rattle.vt_sampler.specs.Held.{WasHeld};
@@ -12,13 +13,14 @@ ghost use Rattle.vt_sampler.specs.Samplers.{own_rows, own_count, row_in, row_len
 
 use vt_definitions::texel_length;
 use vt_draw::Shot;
+use vt_filter::Filter;
 use vt_grace::{Pass, Words};
 use vt_lookup::draw_held;
 use vt_outside::Gate;
 
-/// Draws the rows of a sampler of a picture over a table of words, one after the other, each in the newest version, and tells
-/// at which version each was drawn.
-pub(crate) fn draw_held_rows<G: Gate>(
+/// Draws the rows of a sampler of a picture by a filter over a table of words, one after the other, each in the newest version,
+/// and tells at which version each was drawn.
+pub(crate) fn draw_held_rows<P: Filter, G: Gate>(
     pass: Pass,
     words: &Words,
     shot: &Shot,
@@ -46,7 +48,7 @@ pub(crate) fn draw_held_rows<G: Gate>(
     ensures drawn { (y : ℕ) → y < shot.now.path.now.height → y % samplers ≡ sampler
         → let row = shot_row shot.now.geometry.now shot.now.path.now shot.now.picture y in
         let line = row_length shot.now.depth shot.now.path.now.width in
-        AreDrawn shot.now.geometry.now shot.now.depth (slice_index versions.new (y / samplers)) (IsNotedIn result.view) row
+        AreShown P.shown shot.now.geometry.now shot.now.depth (slice_index versions.new (y / samplers)) (IsNotedIn result.view) row
         shot.now.path.now.width (row_in samplers line bytes.new y) }
     ensures held { (y : ℕ) → y < shot.now.path.now.height → y % samplers ≡ sampler
         → WasHeld pass.view result.view (slice_index versions.new (y / samplers)) }
@@ -54,7 +56,7 @@ pub(crate) fn draw_held_rows<G: Gate>(
         → slice_index versions.new (y / samplers) ≤ slice_index versions.new (z / samplers) }
     ensures counted { (p : ℕ) → p < length counts.new
         → let rows = own_rows sampler samplers shot.now.path.now.height in
-        slice_index counts.new p ≡ pixels_in_rows shot.now.geometry.now shot.now.path.now shot.now.picture rows p }
+        slice_index counts.new p ≡ wants_in_rows P.wants shot.now.geometry.now shot.now.path.now shot.now.picture rows p }
 {
     let line = texel_length(shot.depth) * shot.path.width() as usize;
     let height = shot.path.height();
@@ -63,7 +65,7 @@ pub(crate) fn draw_held_rows<G: Gate>(
     let mut y = sampler;
     while y < height {
         let row = &mut bytes[at..at + line];
-        let (next, version) = draw_held(pass, words, shot, sampler, y, gate, row, counts);
+        let (next, version) = draw_held::<P, G>(pass, words, shot, sampler, y, gate, row, counts);
         pass = next;
         versions[(y / samplers) as usize] = version;
         at += line;

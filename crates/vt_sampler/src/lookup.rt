@@ -3,13 +3,13 @@
 ghost use Rattle.std.specs.Prelude.{◌≡◌, ◌*◌, ◌<◌, Some, None, length, IfSome, IfNone};
 ghost use Rattle.vt_pages.specs.Pages.{pages_of, index_of, IsPage};
 ghost use Rattle.vt_journal.specs.Changes.{newest};
-ghost use Rattle.vt_draw.specs.Lookups.{IsFinest, place_in_tile};
+ghost use Rattle.vt_draw.specs.Lookups.{IsFinest};
 ghost use Rattle.vt_table.specs.Views.{TableView, IsMapped, word_in};
 ghost use Rattle.vt_sampler.specs.Notes.{IsTrueOf, MapsRoot};
 
 use std::marker::Model;
 use vt_definitions::word_in;
-use vt_draw::{Found, Lookup};
+use vt_draw::{Found, Lookup, place_of};
 use vt_pages::{Geometry, PageName};
 use vt_table::StillTable;
 
@@ -71,17 +71,6 @@ impl<'a> StillLookup<'a> {
             depth: 1,
         }
     }
-}
-
-// The place of a texel of a level in the tile of its page.
-#[inline]
-fn place_of(geometry: &Geometry, x: u32, y: u32) -> u32
-    ensures place { result ≡ place_in_tile geometry.now x y }
-    ensures inside { result < geometry.now.tile * geometry.now.tile }
-{
-    let side = geometry.tile();
-    let mask = side - 1;
-    (y & mask) * side + (x & mask)
 }
 
 // The page with a name and its frame, if a table maps it.

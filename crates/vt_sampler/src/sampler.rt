@@ -3,7 +3,8 @@
 ghost use Rattle.std.specs.Prelude.{◌≡◌, ℕ, ◌<◌, ◌≤◌, true, List, length, slice_index, IfOk};
 ghost use Rattle.vt_definitions.specs.Limits.{most_samplers};
 ghost use Rattle.vt_definitions.specs.Depths.{IsDepth};
-ghost use Rattle.vt_draw.specs.Shots.{shot_row, AreDrawn, pixels_in_rows};
+ghost use Rattle.vt_draw.specs.Shots.{shot_row, AreDrawn, wants_in_rows, pixels_in_rows};
+ghost use Rattle.vt_filter.specs.Evidence.{AreShown};
 ghost use Rattle.vt_grace.specs.Tokens.{IsPassOf};
 ghost use Rattle.vt_lookup.specs.Notes.{Fits, IsNotedIn, HasHeldMore};
 ghost use Rattle.vt_sampler.specs.Held.{WasHeld};
@@ -17,13 +18,14 @@ use std::marker::Model;
 use vt_camera::Path;
 use vt_definitions::texel_length;
 use vt_draw::Shot;
+use vt_filter::{Filter, Nearest};
 use vt_grace::{Pass, Words};
 use vt_outside::{Gate, NoMemory};
 use vt_pages::Geometry;
 use vt_table::StillTable;
 
 /// One of the samplers that share the rows of a picture: each draws the rows whose number leaves its own by the number of
-/// samplers. Contracts see the rows' bytes, the version at which each was drawn, and how many of their pixels want each
+/// samplers. Contracts see the rows' bytes, the version at which each was drawn, and how many texels they want of each
 /// page.
 #[derive(Drop)]
 pub struct Sampler {
@@ -133,12 +135,57 @@ impl Sampler {
         );
     }
 
-    /// Draws its rows of a picture over a table of words, from the top, each in the newest version, which it holds meanwhile,
-    /// and counts how many of their pixels want each page. It gives the pass back.
+    /// Draws its rows of a picture by a filter over a table of words, from the top, each in the newest version, which it holds
+    /// meanwhile, and counts how many texels they want of each page. It gives the pass back.
     ///
     /// The pass is this sampler's and was given at a version that maps the root, and all are for one path, one texture and one
     /// depth. The gate is told of a row after the pin and before its first look-up. It takes no memory, refuses nothing, and
     /// waits only where the gate does.
+    pub fn draw_by<P: Filter, G: Gate>(
+        &mut self,
+        shot: &Shot,
+        words: &Words,
+        pass: Pass,
+        gate: &G,
+    ) -> Pass
+        requires for_it { IsFor self.old shot.now.geometry.now shot.now.path.now shot.now.depth }
+        requires picture { shot.now.picture < length shot.now.path.now.cameras }
+        requires fits { Fits shot.now.geometry.now words.now.sizes }
+        requires of { IsPassOf words.now pass }
+        requires rooted { pass.view.rooted ≡ true }
+        requires own { pass.view.sampler ≡ self.old.sampler }
+        ensures of { IsPassOf words.now result }
+        ensures pass { (more : List ℕ) × HasHeldMore pass.view result.view more }
+        ensures drawn { (y : ℕ) → IsOwn self.new y
+            → let row = shot_row shot.now.geometry.now shot.now.path.now shot.now.picture y in
+            AreShown P.shown shot.now.geometry.now shot.now.depth (version_at self.new y) (IsNotedIn result.view) row
+            shot.now.path.now.width (row_at self.new y) }
+        ensures full { (y : ℕ) → IsOwn self.new y
+            → length (row_at self.new y) ≡ row_length shot.now.depth shot.now.path.now.width }
+        ensures held { (y : ℕ) → IsOwn self.new y → WasHeld pass.view result.view (version_at self.new y) }
+        ensures rising { (y z : ℕ) → IsOwn self.new y → IsOwn self.new z → y ≤ z
+            → version_at self.new y ≤ version_at self.new z }
+        ensures counted { (p : ℕ) → p < length self.new.counts
+            → let rows = own_rows self.new.sampler self.new.samplers self.new.height in
+            slice_index self.new.counts p ≡ wants_in_rows P.wants shot.now.geometry.now shot.now.path.now shot.now.picture rows p }
+        ensures sampler { (self.new.sampler ≡ self.old.sampler) × (self.new.samplers ≡ self.old.samplers) }
+        ensures for_it { IsFor self.new shot.now.geometry.now shot.now.path.now shot.now.depth }
+    {
+        clear(self.counts.as_mut_slice());
+        draw_held_rows::<P, G>(
+            pass,
+            words,
+            shot,
+            self.sampler,
+            self.samplers,
+            gate,
+            self.bytes.as_mut_slice(),
+            self.versions.as_mut_slice(),
+            self.counts.as_mut_slice(),
+        )
+    }
+
+    /// Draws as `draw_by` does, each pixel of one texel, and counts how many of the pixels of its rows want each page.
     pub fn draw<G: Gate>(&mut self, shot: &Shot, words: &Words, pass: Pass, gate: &G) -> Pass
         requires for_it { IsFor self.old shot.now.geometry.now shot.now.path.now shot.now.depth }
         requires picture { shot.now.picture < length shot.now.path.now.cameras }
@@ -163,18 +210,7 @@ impl Sampler {
         ensures sampler { (self.new.sampler ≡ self.old.sampler) × (self.new.samplers ≡ self.old.samplers) }
         ensures for_it { IsFor self.new shot.now.geometry.now shot.now.path.now shot.now.depth }
     {
-        clear(self.counts.as_mut_slice());
-        draw_held_rows(
-            pass,
-            words,
-            shot,
-            self.sampler,
-            self.samplers,
-            gate,
-            self.bytes.as_mut_slice(),
-            self.versions.as_mut_slice(),
-            self.counts.as_mut_slice(),
-        )
+        self.draw_by::<Nearest, G>(shot, words, pass, gate)
     }
 
     /// The bytes of one of its rows: three samples a pixel, the most significant byte of a sample first.
@@ -196,7 +232,7 @@ impl Sampler {
         self.versions[(y / self.samplers) as usize]
     }
 
-    /// For each page how many pixels of its rows want it.
+    /// How many texels its rows want of each page: with one texel a pixel, how many of their pixels want it.
     pub fn counts(&self) -> &[u32]
         ensures { result.now ≡ self.now.counts }
     {

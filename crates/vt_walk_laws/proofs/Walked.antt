@@ -21,7 +21,7 @@ use Rattle.vt_journal.specs.Changes.{Table}
 use Rattle.vt_journal.specs.JournalFlaws.{IsLawful}
 use Rattle.vt_journal.specs.JournalText.{Pass, Content, content_changes, journal_text}
 use Rattle.vt_journal.proofs.Contents.{content_unique}
-use Rattle.vt_shown.specs.Replays.{IsReplayOf, pixel_under}
+use Rattle.vt_shown.specs.Replays.{IsReplayOf}
 use Rattle.vt_shown.specs.Scenes.{Scene}
 use Rattle.vt_walk.specs.Fits.{WalkSetup}
 use Rattle.vt_walk.specs.Folders.{with_pictures, with_walk, IsApart}
@@ -39,7 +39,7 @@ use Rattle.vt_walk.specs.Written.{IsWritten, AreWritten}
 use Rattle.vt_walk.proofs.Showing.{rows_after}
 use Rattle.vt_walk.proofs.Telling.{told_changes, run_is_lawful}
 use Rattle.vt_replay.specs.Outcomes.{IsReplayable}
-use Rattle.vt_replay.specs.Replayed.{replayed_rows, lines_after, last_lines, pictures_after, pictures_of, replay_file, replay_due}
+use Rattle.vt_replay.specs.Replayed.{Under, replayed_rows, lines_after, last_lines, pictures_after, pictures_of, replay_file, replay_due}
 use Rattle.vt_walk_laws.specs.Walked.{IsOfStore, named_pictures}
 use Rattle.vt_replay.proofs.Rows.{replay_is_one}
 
@@ -108,73 +108,73 @@ rows_full w (p ∷ q ∷ passes) picture run low = pick (p.picture == picture) r
       ap length (rows_after false p (q ∷ passes) picture other) ∙ earlier (grind (arith, low, count, before, most, apart))
 
 -- what was written of a picture is the file of the replay of the run's journal
-pub written_again : (drawn : PathView → ℕ → ℕ → ℕ → List ℕ → Type 0) (g : WalkGiven) (b : List ℕ) (run : List WalkPass) (picture : ℕ) (bytes : List ℕ)
-    → IsOfStore g b → IsRun g.setup run → picture < pictures_of (passes_told g.setup run) → IsWritten drawn g run picture bytes
-    → bytes ≡ replay_file (stored b) g.scene (content_changes g.scene.shape (run_content g.setup run)) (passes_told g.setup run) picture
+pub written_again : (under : Under) (drawn : PathView → ℕ → ℕ → ℕ → List ℕ → Type 0) (g : WalkGiven) (b : List ℕ) (run : List WalkPass) (picture : ℕ) (bytes : List ℕ)
+    → IsOfStore under g b → IsRun g.setup run → picture < pictures_of (passes_told g.setup run) → IsWritten drawn g run picture bytes
+    → bytes ≡ replay_file under (stored b) g.scene (content_changes g.scene.shape (run_content g.setup run)) (passes_told g.setup run) picture
 unfolding replay_file
-written_again drawn g b run picture bytes store is_run low written =
+written_again under drawn g b run picture bytes store is_run low written =
     let width = g.scene.path.width in
     let height = g.scene.path.height in
     let rows = last_rows run picture in
     let shown : IsRunPicture g.setup run g.scene.depth width (g.draws.shows g.scene b) picture written.samples =
     subst (λ (o : Option (List ℕ)). IfSome o (λ bs. IsRunPicture g.setup run g.scene.depth width (g.draws.shows g.scene bs) picture written.samples)) store.told
     written.replay in
-    let under : IsRunPicture g.setup run g.scene.depth width (pixel_under (stored b) g.scene) picture written.samples =
+    let of_store : IsRunPicture g.setup run g.scene.depth width (under (stored b) g.scene) picture written.samples =
     subst (λ (pixel : Table → ℕ → ℕ → ℕ → List ℕ). IsRunPicture g.setup run g.scene.depth width pixel picture written.samples) store.shows shown in
-    let replayed : IsReplayOf g.scene.depth width height (λ m x y. pixel_under (stored b) g.scene m picture x y)
+    let replayed : IsReplayOf g.scene.depth width height (λ m x y. under (stored b) g.scene m picture x y)
     (journal_after g.setup run) rows written.samples =
-    subst (λ (n : ℕ). IsReplayOf g.scene.depth width n (λ m x y. pixel_under (stored b) g.scene m picture x y) (journal_after g.setup run) rows written.samples)
-    store.height under in
-    let one = replay_is_one (stored b) g.scene (journal_after g.setup run) rows picture written.samples
+    subst (λ (n : ℕ). IsReplayOf g.scene.depth width n (λ m x y. under (stored b) g.scene m picture x y) (journal_after g.setup run) rows written.samples)
+    store.height of_store in
+    let one = replay_is_one under (stored b) g.scene (journal_after g.setup run) rows picture written.samples
     (rows_full g.setup run picture is_run low ∙ store.height) replayed in
     let changes : journal_after g.setup run ≡ content_changes g.scene.shape (run_content g.setup run) =
     sym (told_changes g.setup run) ∙ ap (λ (s : Shape). content_changes s (run_content g.setup run)) store.shape in
     written.encoded ∙ ap (λ (samples : List ℕ). picture_bytes g.scene.depth width height samples)
-    (one ∙ ap (λ (cs : List Change). replayed_rows (stored b) g.scene cs rows picture height) changes
-    ∙ ap (λ (ls : List RowLine). replayed_rows (stored b) g.scene (content_changes g.scene.shape (run_content g.setup run)) ls picture height)
+    (one ∙ ap (λ (cs : List Change). replayed_rows under (stored b) g.scene cs rows picture height) changes
+    ∙ ap (λ (ls : List RowLine). replayed_rows under (stored b) g.scene (content_changes g.scene.shape (run_content g.setup run)) ls picture height)
     (sym (last_told g.setup run picture)))
 
 -- the pictures that were written, by their numbers
-named_again : (drawn : PathView → ℕ → ℕ → ℕ → List ℕ → Type 0) (g : WalkGiven) (b prefix : List ℕ) (run : List WalkPass) (pictures : List (List ℕ))
-    → IsOfStore g b → IsRun g.setup run → length pictures ≤ pictures_of (passes_told g.setup run) → AreWritten drawn g run pictures
-    → pictures_due prefix (replay_file (stored b) g.scene (content_changes g.scene.shape (run_content g.setup run)) (passes_told g.setup run)) (length pictures)
+named_again : (under : Under) (drawn : PathView → ℕ → ℕ → ℕ → List ℕ → Type 0) (g : WalkGiven) (b prefix : List ℕ) (run : List WalkPass) (pictures : List (List ℕ))
+    → IsOfStore under g b → IsRun g.setup run → length pictures ≤ pictures_of (passes_told g.setup run) → AreWritten drawn g run pictures
+    → pictures_due prefix (replay_file under (stored b) g.scene (content_changes g.scene.shape (run_content g.setup run)) (passes_told g.setup run)) (length pictures)
     ≡ named_pictures prefix pictures
-named_again drawn g b prefix run [] store is_run most written = refl
-named_again drawn g b prefix run (bytes ∷ pictures) store is_run most written =
-    let file : ℕ → List ℕ = replay_file (stored b) g.scene (content_changes g.scene.shape (run_content g.setup run)) (passes_told g.setup run) in
+named_again under drawn g b prefix run [] store is_run most written = refl
+named_again under drawn g b prefix run (bytes ∷ pictures) store is_run most written =
+    let file : ℕ → List ℕ = replay_file under (stored b) g.scene (content_changes g.scene.shape (run_content g.setup run)) (passes_told g.setup run) in
     let more : length (bytes ∷ pictures) ≡ length pictures + 1 = omega arith in
     ap (pictures_due prefix file) more
     ∙ map-range_with_len_more (picture_due prefix file) 0 (length pictures) (length pictures) (omega arith)
     ∙ ap (λ (fs : List FileDue). fs ++ picture_due prefix file (length pictures) ∷ [])
-    (named_again drawn g b prefix run pictures store is_run (omega (arith, most)) written.0)
+    (named_again under drawn g b prefix run pictures store is_run (omega (arith, most)) written.0)
     ∙ ap (λ (bs : List ℕ). named_pictures prefix pictures ++ picture_due prefix (λ _. bs) (length pictures) ∷ [])
-    (sym (written_again drawn g b run (length pictures) bytes store is_run (omega (arith, most)) written.1))
+    (sym (written_again under drawn g b run (length pictures) bytes store is_run (omega (arith, most)) written.1))
 
 -- the files of the replay of a whole run are its pictures
-due_again : (drawn : PathView → ℕ → ℕ → ℕ → List ℕ → Type 0) (g : WalkGiven) (b prefix : List ℕ) (run : List WalkPass) (pictures : List (List ℕ))
-    → IsOfStore g b → IsRun g.setup run → IsWhole g.setup run → length pictures ≡ g.setup.pictures → AreWritten drawn g run pictures
-    → replay_due g.scene.shape g.scene.depth b g.scene.path prefix (run_content g.setup run) ≡ named_pictures prefix pictures
-due_again drawn g b prefix run pictures store is_run whole all written =
+due_again : (under : Under) (drawn : PathView → ℕ → ℕ → ℕ → List ℕ → Type 0) (g : WalkGiven) (b prefix : List ℕ) (run : List WalkPass) (pictures : List (List ℕ))
+    → IsOfStore under g b → IsRun g.setup run → IsWhole g.setup run → length pictures ≡ g.setup.pictures → AreWritten drawn g run pictures
+    → replay_due under g.scene.shape g.scene.depth b g.scene.path prefix (run_content g.setup run) ≡ named_pictures prefix pictures
+due_again under drawn g b prefix run pictures store is_run whole all written =
     let count : pictures_of (passes_told g.setup run) ≡ length pictures = count_whole g.setup run whole ∙ sym all in
-    ap (pictures_due prefix (replay_file (stored b) g.scene (content_changes g.scene.shape (run_content g.setup run)) (passes_told g.setup run))) count
-    ∙ named_again drawn g b prefix run pictures store is_run (omega (arith, count)) written
+    ap (pictures_due prefix (replay_file under (stored b) g.scene (content_changes g.scene.shape (run_content g.setup run)) (passes_told g.setup run))) count
+    ∙ named_again under drawn g b prefix run pictures store is_run (omega (arith, count)) written
 
-run_lawful : (g : WalkGiven) (b : List ℕ) (run : List WalkPass) → IsOfStore g b → IsWalkSetup g.setup → IsRun g.setup run
+run_lawful : (under : Under) (g : WalkGiven) (b : List ℕ) (run : List WalkPass) → IsOfStore under g b → IsWalkSetup g.setup → IsRun g.setup run
     → IsLawful g.scene.shape g.scene.path.height (run_content g.setup run)
-run_lawful g b run store h is_run =
+run_lawful under g b run store h is_run =
     subst (λ (n : ℕ). IsLawful g.scene.shape n (run_content g.setup run)) store.height
     (subst (λ (s : Shape). IsLawful s g.setup.height (run_content g.setup run)) store.shape (run_is_lawful g.setup run h is_run))
 
-run_spelled : (g : WalkGiven) (b : List ℕ) (run : List WalkPass) → IsOfStore g b → run_text g.setup run ≡ journal_text g.scene.shape (run_content g.setup run)
-run_spelled g b run store = ap (λ (s : Shape). journal_text s (run_content g.setup run)) store.shape
+run_spelled : (under : Under) (g : WalkGiven) (b : List ℕ) (run : List WalkPass) → IsOfStore under g b → run_text g.setup run ≡ journal_text g.scene.shape (run_content g.setup run)
+run_spelled under g b run store = ap (λ (s : Shape). journal_text s (run_content g.setup run)) store.shape
 
 -- a content that is read from the journal's text of a run is what the run told
-content_is : (g : WalkGiven) (b : List ℕ) (run : List WalkPass) (content : Content) → IsOfStore g b → IsWalkSetup g.setup → IsRun g.setup run
+content_is : (under : Under) (g : WalkGiven) (b : List ℕ) (run : List WalkPass) (content : Content) → IsOfStore under g b → IsWalkSetup g.setup → IsRun g.setup run
     → IsReplayable g.scene.shape g.scene.path (run_text g.setup run) content → run_content g.setup run ≡ content
-content_is g b run content store h is_run read =
+content_is under g b run content store h is_run read =
     let tile : 1 ≤ g.scene.shape.tile = subst (λ (s : Shape). 1 ≤ s.tile) store.shape (omega (arith, h.limits.least_tile)) in
-    content_unique g.scene.shape g.scene.path.height (run_content g.setup run) content tile (run_lawful g b run store h is_run) read.lawful
-    (sym (run_spelled g b run store) ∙ read.spelled)
+    content_unique g.scene.shape g.scene.path.height (run_content g.setup run) content tile (run_lawful under g b run store h is_run) read.lawful
+    (sym (run_spelled under g b run store) ∙ read.spelled)
 
 -- the last element of a list, or one before it
 one_of : {X : Type 0} (xs : List X) (x y : X) (i : ℕ) → slice_get (xs ++ x ∷ []) i ≡ Some y → (slice_get xs i ≡ Some y) ⊎ (x ≡ y)
@@ -192,28 +192,28 @@ told_inside w (p ∷ run) is_run i pass is = elim (one_of (passes_told w run) (t
 ]
 
 -- a replay of the journal's text of a run is not refused
-pub run_replayable : (g : WalkGiven) (b : List ℕ) (run : List WalkPass) → IsOfStore g b → IsWalkSetup g.setup → IsRun g.setup run
+pub run_replayable : (under : Under) (g : WalkGiven) (b : List ℕ) (run : List WalkPass) → IsOfStore under g b → IsWalkSetup g.setup → IsRun g.setup run
     → IsReplayable g.scene.shape g.scene.path (run_text g.setup run) (run_content g.setup run)
-run_replayable g b run store h is_run = record {
-  lawful = run_lawful g b run store h is_run;
-  spelled = run_spelled g b run store;
+run_replayable under g b run store h is_run = record {
+  lawful = run_lawful under g b run store h is_run;
+  spelled = run_spelled under g b run store;
   in_path = λ i pass is. subst (λ (n : ℕ). pass.picture < n) store.pictures (told_inside g.setup run is_run i pass is);
 }
 
-pub count_read : (g : WalkGiven) (b : List ℕ) (run : List WalkPass) (content : Content) → IsOfStore g b → IsWalkSetup g.setup → IsRun g.setup run
+pub count_read : (under : Under) (g : WalkGiven) (b : List ℕ) (run : List WalkPass) (content : Content) → IsOfStore under g b → IsWalkSetup g.setup → IsRun g.setup run
     → IsWhole g.setup run
     → IsReplayable g.scene.shape g.scene.path (run_text g.setup run) content → pictures_of content.passes ≡ g.setup.pictures
-count_read g b run content store h is_run whole read =
-    subst (λ (c : Content). pictures_of c.passes ≡ g.setup.pictures) (content_is g b run content store h is_run read) (count_whole g.setup run whole)
+count_read under g b run content store h is_run whole read =
+    subst (λ (c : Content). pictures_of c.passes ≡ g.setup.pictures) (content_is under g b run content store h is_run read) (count_whole g.setup run whole)
 
-pub due_read : (drawn : PathView → ℕ → ℕ → ℕ → List ℕ → Type 0) (g : WalkGiven) (b prefix : List ℕ) (run : List WalkPass) (pictures : List (List ℕ))
+pub due_read : (under : Under) (drawn : PathView → ℕ → ℕ → ℕ → List ℕ → Type 0) (g : WalkGiven) (b prefix : List ℕ) (run : List WalkPass) (pictures : List (List ℕ))
     (content : Content)
-    → IsOfStore g b → IsWalkSetup g.setup → IsRun g.setup run → IsWhole g.setup run → length pictures ≡ g.setup.pictures → AreWritten drawn g run pictures
+    → IsOfStore under g b → IsWalkSetup g.setup → IsRun g.setup run → IsWhole g.setup run → length pictures ≡ g.setup.pictures → AreWritten drawn g run pictures
     → IsReplayable g.scene.shape g.scene.path (run_text g.setup run) content
-    → replay_due g.scene.shape g.scene.depth b g.scene.path prefix content ≡ named_pictures prefix pictures
-due_read drawn g b prefix run pictures content store h is_run whole all written read =
-    subst (λ (c : Content). replay_due g.scene.shape g.scene.depth b g.scene.path prefix c ≡ named_pictures prefix pictures)
-    (content_is g b run content store h is_run read) (due_again drawn g b prefix run pictures store is_run whole all written)
+    → replay_due under g.scene.shape g.scene.depth b g.scene.path prefix content ≡ named_pictures prefix pictures
+due_read under drawn g b prefix run pictures content store h is_run whole all written read =
+    subst (λ (c : Content). replay_due under g.scene.shape g.scene.depth b g.scene.path prefix c ≡ named_pictures prefix pictures)
+    (content_is under g b run content store h is_run read) (due_again under drawn g b prefix run pictures store is_run whole all written)
 
 file_last : (files : List FileDue) (file : FileDue) (before : Files)
     → with_files (files ++ file ∷ []) before ≡ with_bytes file.name file.bytes (with_files files before)
@@ -280,22 +280,22 @@ told_again names text pictures due (Some files) last apart is left =
     ∙ sym left
 
 -- a replay in the folder of a finished walk leaves what it holds
-pub left_again : (drawn : PathView → ℕ → ℕ → ℕ → List ℕ → Type 0) (g : WalkGiven) (b : List ℕ) (first last : WalkState) (content : Content)
-    → IsOfStore g b → IsWalkSetup g.setup → (walk : Finished drawn g first last) → IsReplayable g.scene.shape g.scene.path (run_text g.setup walk.run) content
-    → IsApart g.names → option_map (with_files (replay_due g.scene.shape g.scene.depth b g.scene.path g.names.prefix content)) last.files ≡ last.files
-left_again drawn g b first last content store h walk read apart =
-    told_again g.names (run_text g.setup walk.run) walk.pictures (replay_due g.scene.shape g.scene.depth b g.scene.path g.names.prefix content)
+pub left_again : (under : Under) (drawn : PathView → ℕ → ℕ → ℕ → List ℕ → Type 0) (g : WalkGiven) (b : List ℕ) (first last : WalkState) (content : Content)
+    → IsOfStore under g b → IsWalkSetup g.setup → (walk : Finished drawn g first last) → IsReplayable g.scene.shape g.scene.path (run_text g.setup walk.run) content
+    → IsApart g.names → option_map (with_files (replay_due under g.scene.shape g.scene.depth b g.scene.path g.names.prefix content)) last.files ≡ last.files
+left_again under drawn g b first last content store h walk read apart =
+    told_again g.names (run_text g.setup walk.run) walk.pictures (replay_due under g.scene.shape g.scene.depth b g.scene.path g.names.prefix content)
     first.files last.files apart
-    (due_read drawn g b g.names.prefix walk.run walk.pictures content store h walk.is_run walk.whole walk.all walk.written read) (walk.files apart)
+    (due_read under drawn g b g.names.prefix walk.run walk.pictures content store h walk.is_run walk.whole walk.all walk.written read) (walk.files apart)
 
 -- the pictures that stand of a run's beginning are those of the replay of its journal
-pub standing_again : (drawn : PathView → ℕ → ℕ → ℕ → List ℕ → Type 0) (g : WalkGiven) (b prefix : List ℕ) (run : List WalkPass) (pictures : List (List ℕ))
+pub standing_again : (under : Under) (drawn : PathView → ℕ → ℕ → ℕ → List ℕ → Type 0) (g : WalkGiven) (b prefix : List ℕ) (run : List WalkPass) (pictures : List (List ℕ))
     (first now : WalkState)
-    → IsOfStore g b → Stands drawn g run pictures first now
-    → pictures_due prefix (replay_file (stored b) g.scene (content_changes g.scene.shape (run_content g.setup run)) (passes_told g.setup run)) (length pictures)
+    → IsOfStore under g b → Stands drawn g run pictures first now
+    → pictures_due prefix (replay_file under (stored b) g.scene (content_changes g.scene.shape (run_content g.setup run)) (passes_told g.setup run)) (length pictures)
     ≡ named_pictures prefix pictures
-standing_again drawn g b prefix run pictures first now store stands =
-    named_again drawn g b prefix run pictures store stands.is_run (reached_told g.setup run (length pictures) stands.reached) stands.written
+standing_again under drawn g b prefix run pictures first now store stands =
+    named_again under drawn g b prefix run pictures store stands.is_run (reached_told g.setup run (length pictures) stands.reached) stands.written
 
 -- some page is pinned where some level is
 some_pinned : (s : Shape) (n : ℕ) → IsWithinLimits s → 1 ≤ n → 1 ≤ pinned_of s n

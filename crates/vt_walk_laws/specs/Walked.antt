@@ -3,17 +3,17 @@ use Rattle.std.specs.Prelude.{◌≡◌, ℕ, List, [], ◌∷◌, ◌++◌, Som
 use Rattle.vt_words.specs.Names.{picture_name}
 use Rattle.vt_tiles.specs.Format.{stored}
 use Rattle.vt_files.specs.Dues.{FileDue}
-use Rattle.vt_shown.specs.Replays.{pixel_under}
 use Rattle.vt_walk.specs.Walks.{WalkGiven}
+use Rattle.vt_replay.specs.Replayed.{Under}
 
--- a walk is of a store that tells these bytes: its numbers are those of its scene, and each pixel is what a page table shows of the
--- store (van Waveren 2012)
-pub record IsOfStore (g : WalkGiven) (b : List ℕ) : Type 0 where
+-- a walk is of a store that tells these bytes: its numbers are those of its scene, and each pixel is what a filter shows of the store under a
+-- page table (van Waveren 2012)
+pub record IsOfStore (under : Under) (g : WalkGiven) (b : List ℕ) : Type 0 where
   pub shape : g.setup.shape ≡ g.scene.shape
   pub height : g.setup.height ≡ g.scene.path.height
   pub pictures : g.setup.pictures ≡ length g.scene.path.cameras
   pub told : g.told ≡ Some b
-  pub shows : g.draws.shows g.scene b ≡ pixel_under (stored b) g.scene
+  pub shows : g.draws.shows g.scene b ≡ under (stored b) g.scene
 
 -- pictures, the newest first in the list, as files in the order of their numbers, each under its name
 abbrev pub named_pictures : List ℕ → List (List ℕ) → List FileDue

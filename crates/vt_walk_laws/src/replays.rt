@@ -8,6 +8,7 @@ ghost use Rattle.vt_tiles.specs.Format.{stored};
 ghost use Rattle.vt_files.specs.Dues.{with_files};
 ghost use Rattle.vt_files.specs.Pictures.{pictures_due};
 ghost use Rattle.vt_shown.specs.Scenes.{Scene};
+ghost use Rattle.vt_shown.specs.Replays.{pixel_under};
 ghost use Rattle.vt_machine.specs.Nearest.{nearest};
 ghost use Rattle.vt_turns.specs.declared.mode.Mode.{Mode};
 ghost use Rattle.vt_turns.specs.declared.settings.Settings.{Settings};
@@ -20,7 +21,7 @@ ghost use Rattle.vt_walk.specs.States.{WalkState};
 ghost use Rattle.vt_walk.specs.Walks.{WalkGiven, WalkNames, AreSettings, given_by};
 ghost use Rattle.vt_walk.specs.Written.{IsDrawnBySome, IsWritten};
 ghost use Rattle.vt_replay.specs.Outcomes.{IsReplayable};
-ghost use Rattle.vt_replay.specs.Replayed.{last_lines, pictures_of, replay_file, replay_due};
+ghost use Rattle.vt_replay.specs.Replayed.{Under, last_lines, pictures_of, replay_file, replay_due};
 ghost use Rattle.vt_walk_laws.specs.Walked.{IsOfStore, named_pictures};
 
 use vt_machine::PassMachine;
@@ -40,21 +41,21 @@ pub fn journal_tells_its_run()
 /// byte for byte. So a picture is drawn again from the journal, the store and the path, also where the walk was
 /// refused later on.
 pub fn replay_gives_the_written_picture<M: PassMachine>()
-    ensures { (g : WalkGiven) (b : List ℕ) (run : List WalkPass) (picture : ℕ) (bytes : List ℕ) → IsOfStore g b
+    ensures { (under : Under) (g : WalkGiven) (b : List ℕ) (run : List WalkPass) (picture : ℕ) (bytes : List ℕ) → IsOfStore under g b
         → IsRun g.setup run
         → picture < pictures_of (passes_told g.setup run) → IsWritten (IsDrawnBySome M.drawn) g run picture bytes
-        → bytes ≡ replay_file (stored b) g.scene (content_changes g.scene.shape (run_content g.setup run))
+        → bytes ≡ replay_file under (stored b) g.scene (content_changes g.scene.shape (run_content g.setup run))
         (passes_told g.setup run) picture }
 {}
 
 /// While a walk goes on, and where it was refused, the pictures that stand are those of the replay of the passes that
 /// its journal tells by then.
 pub fn replay_gives_what_stands<M: PassMachine>()
-    ensures { (g : WalkGiven) (b prefix : List ℕ) (run : List WalkPass) (pictures : List (List ℕ))
+    ensures { (under : Under) (g : WalkGiven) (b prefix : List ℕ) (run : List WalkPass) (pictures : List (List ℕ))
         (first now : WalkState)
-        → IsOfStore g b
+        → IsOfStore under g b
         → Stands (IsDrawnBySome M.drawn) g run pictures first now
-        → let file = replay_file (stored b) g.scene (content_changes g.scene.shape (run_content g.setup run))
+        → let file = replay_file under (stored b) g.scene (content_changes g.scene.shape (run_content g.setup run))
         (passes_told g.setup run) in
         pictures_due prefix file (length pictures) ≡ named_pictures prefix pictures }
 {}
@@ -63,26 +64,26 @@ pub fn replay_gives_what_stands<M: PassMachine>()
 /// and whatever content is read from it, the files that the replay is to leave are the walk's pictures, all of them
 /// and no more, under its names or others; so in the walk's own folder a replay leaves what it holds.
 pub fn replay_gives_the_walk<M: PassMachine>()
-    ensures replayable { (g : WalkGiven) (b : List ℕ) (first last : WalkState) → IsOfStore g b → IsWalkSetup g.setup
+    ensures replayable { (under : Under) (g : WalkGiven) (b : List ℕ) (first last : WalkState) → IsOfStore under g b → IsWalkSetup g.setup
         → (walk : Finished (IsDrawnBySome M.drawn) g first last)
         → IsReplayable g.scene.shape g.scene.path (run_text g.setup walk.run) (run_content g.setup walk.run) }
-    ensures count { (g : WalkGiven) (b : List ℕ) (first last : WalkState) (content : Content) → IsOfStore g b
+    ensures count { (under : Under) (g : WalkGiven) (b : List ℕ) (first last : WalkState) (content : Content) → IsOfStore under g b
         → IsWalkSetup g.setup
         → (walk : Finished (IsDrawnBySome M.drawn) g first last)
         → IsReplayable g.scene.shape g.scene.path (run_text g.setup walk.run) content
         → pictures_of content.passes ≡ g.setup.pictures }
-    ensures due { (g : WalkGiven) (b prefix : List ℕ) (first last : WalkState) (content : Content) → IsOfStore g b
+    ensures due { (under : Under) (g : WalkGiven) (b prefix : List ℕ) (first last : WalkState) (content : Content) → IsOfStore under g b
         → IsWalkSetup g.setup
         → (walk : Finished (IsDrawnBySome M.drawn) g first last)
         → IsReplayable g.scene.shape g.scene.path (run_text g.setup walk.run) content
-        → replay_due g.scene.shape g.scene.depth b g.scene.path prefix content ≡ named_pictures prefix walk.pictures }
+        → replay_due under g.scene.shape g.scene.depth b g.scene.path prefix content ≡ named_pictures prefix walk.pictures }
     ensures files { (prefix : List ℕ) (pictures : List (List ℕ)) (files : Files)
         → with_files (named_pictures prefix pictures) files ≡ with_pictures prefix pictures files }
-    ensures again { (g : WalkGiven) (b : List ℕ) (first last : WalkState) (content : Content) → IsOfStore g b
+    ensures again { (under : Under) (g : WalkGiven) (b : List ℕ) (first last : WalkState) (content : Content) → IsOfStore under g b
         → IsWalkSetup g.setup
         → (walk : Finished (IsDrawnBySome M.drawn) g first last)
         → IsReplayable g.scene.shape g.scene.path (run_text g.setup walk.run) content → IsApart g.names
-        → option_map (with_files (replay_due g.scene.shape g.scene.depth b g.scene.path g.names.prefix content))
+        → option_map (with_files (replay_due under g.scene.shape g.scene.depth b g.scene.path g.names.prefix content))
         last.files
         ≡ last.files }
 {}
@@ -91,7 +92,7 @@ pub fn replay_gives_the_walk<M: PassMachine>()
 /// within their limits, where its settings are and there are frames for the pinned pages, as in each finished walk.
 pub fn nearest_walk_is_of_its_store()
     ensures store { (scene : Scene) (settings : Settings) (mode : Mode) (b : List ℕ) (names : WalkNames)
-        → IsOfStore (given_by nearest scene settings mode (Some b) names) b }
+        → IsOfStore pixel_under (given_by nearest scene settings mode (Some b) names) b }
     ensures setup { (scene : Scene) (settings : Settings) (mode : Mode) (told : Option (List ℕ)) (names : WalkNames)
         → IsWithinLimits scene.shape → AreSettings scene.shape settings
         → pinned_of scene.shape settings.pinned ≤ settings.frames

@@ -14,6 +14,7 @@ use std::alloc::Global;
 use std::sync::Wait;
 use std::thread::Threads;
 use vt_camera::Path;
+use vt_filter::{Filter, Nearest};
 use vt_outside::{Folder, Gate, Sink};
 use vt_pass::WordMachine;
 use vt_tiles::Store;
@@ -37,7 +38,7 @@ pub fn walk_live<Rt: Threads + Wait + Sync, D: Folder, O: Sink, G: Gate + Sync>(
     requires bytes { D.File.bytes store.file ≡ bytes_at (D.files folder.old) names.now.store.now }
     requires tells { is_some (D.File.bytes store.file) ≡ is_some (D.files folder.old) }
     requires opened { AreOpen 1 names.now.store.now (D.asked folder.old) (file_of D.File.File store) }
-    ensures walked { Walks (drawn_over D.File.File) (given_to nearest D.File.File store path.now names.now settings.now false)
+    ensures walked { Walks (drawn_over ⟦<Nearest as Filter>⟧ D.File.File) (given_to nearest D.File.File store path.now names.now settings.now false)
         (walk_course D.Folder O.Sink names.now.store.now (file_of D.File.File store) [] folder.old folder.new out.old
         out.new) result }
     ensures few { let needed = pinned_of store.shape settings.now.pinned in settings.now.frames < needed
@@ -68,7 +69,7 @@ pub fn walk_settled<Rt: Threads + Wait + Sync, D: Folder, O: Sink, G: Gate + Syn
     requires bytes { D.File.bytes store.file ≡ bytes_at (D.files folder.old) names.now.store.now }
     requires tells { is_some (D.File.bytes store.file) ≡ is_some (D.files folder.old) }
     requires opened { AreOpen 1 names.now.store.now (D.asked folder.old) (file_of D.File.File store) }
-    ensures walked { Walks (drawn_over D.File.File) (given_to nearest D.File.File store path.now names.now settings.now true)
+    ensures walked { Walks (drawn_over ⟦<Nearest as Filter>⟧ D.File.File) (given_to nearest D.File.File store path.now names.now settings.now true)
         (walk_course D.Folder O.Sink names.now.store.now (file_of D.File.File store) [] folder.old folder.new out.old
         out.new) result }
     ensures few { let needed = pinned_of store.shape settings.now.pinned in settings.now.frames < needed

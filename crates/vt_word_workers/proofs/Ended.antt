@@ -10,7 +10,11 @@ use Rattle.vt_outside.specs.declared.outside.File.{Ghosts as FileMeanings}
 use Rattle.vt_pages.specs.Shape.{Shape}
 use Rattle.vt_pages.specs.Pages.{pages_of}
 use Rattle.vt_camera.specs.Paths.{ArePictureSides}
-use Rattle.vt_draw.specs.Shots.{shot_row, AreDrawn, pixels_in_rows}
+use Rattle.vt_draw.specs.Shots.{shot_row, wants_in_rows}
+use Rattle.vt_filter.specs.declared.filters.Filter.{Ghosts as FilterMeanings}
+use Rattle.vt_filter.specs.Evidence.{AreShown}
+use Rattle.vt_filter.specs.FilterLaws.{WantsFew, picture_wants}
+use Rattle.vt_filter.proofs.Handed.{shown_by_more}
 use Rattle.vt_journal.specs.declared.changes.RowLine.{RowLine}
 use Rattle.vt_grace.specs.declared.views.PassView.{PassView}
 use Rattle.vt_grace.specs.declared.views.WriterView.{WriterView}
@@ -21,13 +25,11 @@ use Rattle.vt_grace.specs.Values.{WordsValue, PassValue}
 use Rattle.vt_grace.specs.WriterViews.{version_of, is_out}
 use Rattle.vt_lookup.specs.Notes.{IsNotedIn}
 use Rattle.vt_sampler.specs.Samplers.{IsOwn, own_rows, row_at, row_length, version_at}
-use Rattle.vt_sampler.proofs.Sharing.{pixels_few}
+use Rattle.vt_sampler.proofs.Sharing.{picture_few}
 use Rattle.vt_noted.specs.Noted.{IsNotedBy}
-use Rattle.vt_noted.proofs.Handed.{row_said_by}
 use Rattle.vt_loaders.specs.declared.queued.Queues.{Queues}
 use Rattle.vt_loaders.specs.QueuedLoaders.{QueuedView}
 use Rattle.vt_workers.specs.Jobs.{Job}
-use Rattle.vt_machine.specs.Nearest.{picture_wants}
 use Rattle.vt_word_workers.specs.declared.workers.WordSampler.{WordSampler}
 use Rattle.vt_word_workers.specs.declared.workers.WordStreamer.{WordStreamer}
 use Rattle.vt_word_workers.specs.GivenPasses.{HasNewPass, ArePassesOf, all_returned, without_pass, without_passes}
@@ -58,14 +60,14 @@ counted_without (t ∷ ts) p =
     let r = counted_without ts p in
     omega (arith, a, b, r)
 
-module _ {F : Type 0} (g : FileMeanings F) (words : WordsValue) (q : Queues) (k : KitView F) (job : Job) (c : List (QueuedView F)) (f : List WordSampler)
-    (t : WordStreamer) (b : Begun F) (h : HaveWorked g words q k job c f t b) where
+module _ {F P : Type 0} (g : FileMeanings F) (filter : FilterMeanings P) (words : WordsValue) (q : Queues) (k : KitView F) (job : Job)
+    (c : List (QueuedView F)) (f : List WordSampler) (t : WordStreamer) (b : Begun F) (h : HaveWorked g filter words q k job c f t b) where
   -- what a sampler was, that it had a new pass then, and that it has drawn
   record HasWorked (number : ℕ) (task : WordSampler) : Type 0 where
     before : WordSampler
     was : IsSamplerOf k.shape k.depth k.width k.height k.crew.samplers number before.sampler
     new : HasNewPass words b.streamer.streamer.writer number before
-    drawn : HasDrawn words job.scene job.picture before task
+    drawn : HasDrawn filter words job.scene job.picture before task
 
   worked : (m : ℕ) (task : WordSampler) → slice_get f m ≡ Some task → HasWorked m task
   worked m task is =
@@ -75,7 +77,7 @@ module _ {F : Type 0} (g : FileMeanings F) (words : WordsValue) (q : Queues) (k 
         before = get_or b.samplers m task;
         was = h.fit.kit.samplers.each m (get_or b.samplers m task) there;
         new = h.passes m (get_or b.samplers m task) there;
-        drawn = subst (λ (x : WordSampler). HasDrawn words job.scene job.picture (get_or b.samplers m task) x) (get_or_from_slice_get f m task task is)
+        drawn = subst (λ (x : WordSampler). HasDrawn filter words job.scene job.picture (get_or b.samplers m task) x) (get_or_from_slice_get f m task task is)
             (h.drawn m task low);
       }
 
@@ -118,25 +120,25 @@ module _ {F : Type 0} (g : FileMeanings F) (words : WordsValue) (q : Queues) (k 
   }
 
   sampler_counts : (p m : ℕ) (task : WordSampler) → p < length k.counts → slice_get f m ≡ Some task
-      → slice_index task.sampler.counts p ≡ pixels_in_rows job.scene.shape job.scene.path job.picture (own_rows m k.crew.samplers job.scene.path.height) p
+      → slice_index task.sampler.counts p ≡ wants_in_rows filter.wants job.scene.shape job.scene.path job.picture (own_rows m k.crew.samplers job.scene.path.height) p
   sampler_counts p m task inside is =
       let d = worked m task is in
       let its = stays m task is in
       let below : p < length task.sampler.counts = (let a = its.pages in let e = h.fit.kit.counts in omega (arith, a, e, inside)) in
       d.drawn.counted p below
-      ∙ (λ i. pixels_in_rows job.scene.shape job.scene.path job.picture (own_rows (its.number_is i) (its.among i) (d.drawn.for_it.height i)) p)
+      ∙ (λ i. wants_in_rows filter.wants job.scene.shape job.scene.path job.picture (own_rows (its.number_is i) (its.among i) (d.drawn.for_it.height i)) p)
 
   -- what they have counted together is what the picture wants
-  pub counted : (p : ℕ) → p < length k.counts → counted_together (without_passes f) p ≡ picture_wants job.scene job.picture p
+  pub counted : (p : ℕ) → p < length k.counts → counted_together (without_passes f) p ≡ picture_wants filter.wants job.scene job.picture p
   counted p inside = counted_without f p
-      ∙ counted_is_wanted job.scene.shape job.scene.path job.picture k.crew.samplers p f h.fit.kit.crew.some_sampler number_is
+      ∙ counted_is_wanted filter.wants job.scene.shape job.scene.path job.picture k.crew.samplers p f h.fit.kit.crew.some_sampler number_is
       (λ m task is. sampler_counts p m task inside is)
 
   -- and it is below the counts' bound
-  pub counts_low : (p : ℕ) → p < length k.counts → counted_together (without_passes f) p < 2 ^ 32
-  counts_low p inside =
+  pub counts_low : WantsFew filter.wants → (p : ℕ) → p < length k.counts → counted_together (without_passes f) p < 2 ^ 32
+  counts_low most p inside =
       let sides = subst (λ (x : ℕ × ℕ). ArePictureSides x.0 x.1) (λ i. (sym h.job_is.width i, sym h.job_is.height i)) h.fit.kit.sides in
-      let few = pixels_few job.scene.shape job.scene.path job.picture p sides in
+      let few = picture_few filter.wants most job.scene.shape job.scene.path job.picture p sides in
       let e = counted p inside in
       omega (arith, e, few)
 
@@ -216,11 +218,12 @@ module _ {F : Type 0} (g : FileMeanings F) (words : WordsValue) (q : Queues) (k 
         let back = holds_of (IsSoundReturn (version_of after)) after.returned (return_of by.drawn.pass.view) sound.returned was_back.returned in
         holds_of (λ v. v ≤ version_of after) by.drawn.pass.view.held (version_at r.task.sampler y) back.held held
 
-    pub row_drawn : WasDrawn k.shape k.depth k.crew.samplers after job.scene.path job.picture y (version_at r.task.sampler y) (row_at r.task.sampler y)
+    pub row_drawn : WasDrawn filter k.shape k.depth k.crew.samplers after job.scene.path job.picture y (version_at r.task.sampler y) (row_at r.task.sampler y)
     row_drawn = record {
-      drawn = row_said_by (IsNotedIn by.drawn.pass.view) (IsNotedBy after) (says_more after by.drawn.pass.view was_back) k.shape k.depth
-          (version_at r.task.sampler y) job.scene.path.width (shot_row k.shape job.scene.path job.picture y) (row_at r.task.sampler y)
-          (subst (λ (z : Shape × ℕ). AreDrawn z.0 z.1 (version_at r.task.sampler y) (IsNotedIn by.drawn.pass.view)
+      drawn = shown_by_more filter.shown k.shape k.depth (version_at r.task.sampler y) job.scene.path.width (IsNotedIn by.drawn.pass.view)
+          (IsNotedBy after) (shot_row k.shape job.scene.path job.picture y) (row_at r.task.sampler y)
+          (says_more after by.drawn.pass.view was_back)
+          (subst (λ (z : Shape × ℕ). AreShown filter.shown z.0 z.1 (version_at r.task.sampler y) (IsNotedIn by.drawn.pass.view)
           (shot_row z.0 job.scene.path job.picture y) job.scene.path.width (row_at r.task.sampler y))
           (λ i. (h.job_is.shape i, h.job_is.depth i)) (by.drawn.drawn y r.own));
       by = return_of by.drawn.pass.view;

@@ -13,9 +13,11 @@ use Rattle.vt_journal.specs.declared.changes.Change.{Change}
 use Rattle.vt_journal.specs.declared.changes.Event.{Event}
 use Rattle.vt_journal.specs.declared.changes.RowLine.{RowLine}
 use Rattle.vt_journal.specs.JournalText.{changes_of}
-use Rattle.vt_tiles.specs.Format.{tile_length}
+use Rattle.vt_tiles.specs.Format.{stored, tile_length}
 use Rattle.vt_tiles.specs.StoreViews.{StoreView, IsStoreIfTold}
 use Rattle.vt_shown.specs.Replays.{IsFull, AreReplayed}
+use Rattle.vt_filter.specs.declared.filters.Filter.{Ghosts as FilterMeanings}
+use Rattle.vt_filter.specs.FilterLaws.{IsUnder}
 use Rattle.vt_grace.specs.declared.views.WriterView.{WriterView}
 use Rattle.vt_grace.specs.declared.sizes.Sizes.{Sizes}
 use Rattle.vt_grace.specs.Values.{WordsValue}
@@ -37,7 +39,7 @@ use Rattle.vt_machine.specs.Outcomes.{IsOutcome}
 use Rattle.vt_machine.specs.RowOrders.{AreRowsInOrder}
 use Rattle.vt_machine.specs.Requests.{AreReadFor}
 use Rattle.vt_machine.specs.Machines.{files_of, told_by, AreStoresFor}
-use Rattle.vt_machine.specs.Nearest.{nearest, nearest_shows}
+use Rattle.vt_machine.specs.Drawings.{drawing_of}
 use Rattle.vt_machine.specs.Passes.{IsPictured}
 use Rattle.vt_rounds.specs.BatchRounds.{result_events}
 use Rattle.vt_rounds.specs.Sizes.{AreSized}
@@ -64,9 +66,9 @@ told_all : {F : Type 0} (g : FileMeanings F) (told : Option (List ℕ)) (stores 
 told_all g told [] some all = absurd (omega (arith, some))
 told_all g told (x ∷ xs) some all = all 0 x (omega arith)
 
-module _ {F : Type 0} (g : FileMeanings F) (words : WordsValue) (q : Queues) (k : KitView F) (job : Job) (c : List (QueuedView F)) (f : List WordSampler)
-    (t : WordStreamer) (b : Begun F) (may : MayFinish g words q k job c f t b) where
-  abbrev h : HaveWorked g words q k job c f t b
+module _ {F P : Type 0} (g : FileMeanings F) (filter : FilterMeanings P) (words : WordsValue) (q : Queues) (k : KitView F) (job : Job)
+    (c : List (QueuedView F)) (f : List WordSampler) (t : WordStreamer) (b : Begun F) (may : MayFinish g filter words q k job c f t b) where
+  abbrev h : HaveWorked g filter words q k job c f t b
   h = may.worked
 
   -- a store of a loader is as the loaders' stores were
@@ -171,7 +173,7 @@ module _ {F : Type 0} (g : FileMeanings F) (words : WordsValue) (q : Queues) (k 
         (results_stored k.shape k.depth (told_by g (reverse (stores_of b.round.first))) job.batch results entries good))
 
     -- the streamer has the passes of the samplers back, and the kit its workers
-    module _ (of : IsStreamerOf words streamer_after) (counts : List ℕ) (number : length counts ≡ length k.counts)
+    module _ (law : IsUnder filter.shown filter.under) (of : IsStreamerOf words streamer_after) (counts : List ℕ) (number : length counts ≡ length k.counts)
         (sums : (p : ℕ) → p < length k.counts → slice_index counts p ≡ counted_together (without_passes f) p)
         (rows : ListView RowLine) (round : RoundKitView F) (buffers : AreSized (tile_length k.shape k.depth) round.buffers.elements) where
       abbrev kit_after : KitView F
@@ -193,13 +195,13 @@ module _ {F : Type 0} (g : FileMeanings F) (words : WordsValue) (q : Queues) (k 
             depth = h.fit.kit.depth;
             stores = stores_for;
             told = told_after;
-            samplers = samplers_stay g words q k job c f t b h;
+            samplers = samplers_stay g filter words q k job c f t b h;
             sides = h.fit.kit.sides;
             counts = number ∙ h.fit.kit.counts;
             buffers = buffers;
           };
         };
-        all_in = all_in g words q k job c f t b h of.sound (ap (λ (z : Sizes). z.samplers) of.seen ∙ h.fit.samplers);
+        all_in = all_in g filter words q k job c f t b h of.sound (ap (λ (z : Sizes). z.samplers) of.seen ∙ h.fit.samplers);
       }
 
       row_there : (y : ℕ) (d : List ℕ) → y < k.height → get_or (kit_rows kit_after) y d ≡ kit_row kit_after y
@@ -208,32 +210,32 @@ module _ {F : Type 0} (g : FileMeanings F) (words : WordsValue) (q : Queues) (k 
       rows_full : All (IsFull k.depth k.width) (kit_rows kit_after)
       rows_full y d inside =
           let low : y < k.height = (let e = length-map-range_with_len (kit_row kit_after) 0 k.height in omega (arith, e, inside)) in
-          let r = has_row g words q k job c f t b h y low in
-          subst (IsFull k.depth k.width) (sym (row_there y d low ∙ r.bytes_are)) (row_full g words q k job c f t b h y r)
+          let r = has_row g filter words q k job c f t b h y low in
+          subst (IsFull k.depth k.width) (sym (row_there y d low ∙ r.bytes_are)) (row_full g filter words q k job c f t b h y r)
 
       abbrev lines : List RowLine
       lines = lines_of k.crew.samplers (without_passes f) k.height
 
       from_draws : (y : ℕ) (line : RowLine) → slice_get lines y ≡ Some line
-          → WasDrawn k.shape k.depth k.crew.samplers after job.scene.path job.picture y line.version (get_or (kit_rows kit_after) y [])
+          → WasDrawn filter k.shape k.depth k.crew.samplers after job.scene.path job.picture y line.version (get_or (kit_rows kit_after) y [])
       from_draws y line is =
           let at = line_there k.crew.samplers (without_passes f) k.height y line is in
-          let r = has_row g words q k job c f t b h y at.0 in
-          subst (λ (z : ℕ × List ℕ). WasDrawn k.shape k.depth k.crew.samplers after job.scene.path job.picture y z.0 z.1)
+          let r = has_row g filter words q k job c f t b h y at.0 in
+          subst (λ (z : ℕ × List ℕ). WasDrawn filter k.shape k.depth k.crew.samplers after job.scene.path job.picture y z.0 z.1)
           (λ i. (sym (ap (λ (l : RowLine). l.version) at.1 ∙ r.version_is) i, sym (row_there y [] at.0 ∙ r.bytes_are) i))
-          (row_drawn g words q k job c f t b h y r)
+          (row_drawn g filter words q k job c f t b h y r)
 
       limits : IsWithinLimits k.shape
       limits = subst IsWithinLimits h.fit.shape h.fit.of.lawful.limits
 
       replayed : IfSome (told_by g (reverse (stores_of c)))
-          (λ bytes. AreReplayed k.depth k.width (λ m x y. nearest_shows job.scene bytes m job.picture x y) after.journal lines (kit_rows kit_after))
+          (λ bytes. AreReplayed k.depth k.width (λ m x y. filter.under (stored bytes) job.scene m job.picture x y) after.journal lines (kit_rows kit_after))
       replayed = subst (λ (n : ℕ). IfSome (told_by g (reverse (stores_of c)))
-          (λ bytes. AreReplayed k.depth n (λ m x y. nearest_shows job.scene bytes m job.picture x y) after.journal lines (kit_rows kit_after))) h.job_is.width
-          (picture_replayed after k.shape k.depth (told_by g (reverse (stores_of c))) job.scene job.picture job.scene.path.width lines (kit_rows kit_after)
+          (λ bytes. AreReplayed k.depth n (λ m x y. filter.under (stored bytes) job.scene m job.picture x y) after.journal lines (kit_rows kit_after))) h.job_is.width
+          (picture_replayed filter.shown filter.under law after k.shape k.depth (told_by g (reverse (stores_of c))) job.scene job.picture job.scene.path.width lines (kit_rows kit_after)
           of.sound limits told_after stored_after h.job_is.shape h.job_is.depth (λ y line is. (from_draws y line is).drawn))
 
-      pictured : IsPictured nearest (kit_drawn kit_after streamer_after) job lines (kit_state g words after.journal kit_after)
+      pictured : IsPictured (drawing_of filter) (kit_drawn filter kit_after streamer_after) job lines (kit_state g words after.journal kit_after)
       pictured = record {
         count = length-map-range_with_len (kit_row kit_after) 0 k.height;
         full = rows_full;
@@ -241,19 +243,19 @@ module _ {F : Type 0} (g : FileMeanings F) (words : WordsValue) (q : Queues) (k 
         from_draws = from_draws;
         all_counts = number ∙ h.fit.kit.counts;
         counts_are = λ p inside. let low : p < length k.counts = (let e = h.fit.kit.counts in omega (arith, e, inside)) in
-            sums p low ∙ counted g words q k job c f t b h p low;
+            sums p low ∙ counted g filter words q k job c f t b h p low;
       }
 
       in_order : AreRowsInOrder true k.crew.samplers k.height (length b.streamer.streamer.writer.journal) (length after.journal) lines
       in_order = lines_in_order k.crew.samplers k.height (length b.streamer.streamer.writer.journal) (length after.journal) (without_passes f)
           h.fit.kit.crew.some_sampler h.fit.kit.crew.few_samplers
           (λ y inside.
-          let r = has_row g words q k job c f t b h y inside in
+          let r = has_row g filter words q k job c f t b h y inside in
           let e = r.version_is in
-          let from = row_from g words q k job c f t b h y r in
-          let to = row_to g words q k job c f t b h y r of.sound in
+          let from = row_from g filter words q k job c f t b h y r in
+          let to = row_to g filter words q k job c f t b h y r of.sound in
           (omega (arith, e, from), omega (arith, e, to)))
-          (rows_rise g words q k job c f t b h)
+          (rows_rise g filter words q k job c f t b h)
 
       held_rows : AreHeldRows b.streamer.streamer.writer after lines
       held_rows = let all = have_returned t.streamer.writer f in record {
@@ -261,13 +263,13 @@ module _ {F : Type 0} (g : FileMeanings F) (words : WordsValue) (q : Queues) (k 
         returned = all.returned ∙ ap (λ (w : WriterView). all.more ++ w.returned) streamed.rest;
         each = λ y line is.
             let at = line_there k.crew.samplers (without_passes f) k.height y line is in
-            let r = has_row g words q k job c f t b h y at.0 in
-            row_held g words q k job c f t b h y r line (ap (λ (l : RowLine). l.sampler) at.1) (ap (λ (l : RowLine). l.version) at.1 ∙ r.version_is);
+            let r = has_row g filter words q k job c f t b h y at.0 in
+            row_held g filter words q k job c f t b h y r line (ap (λ (l : RowLine). l.sampler) at.1) (ap (λ (l : RowLine). l.version) at.1 ∙ r.version_is);
       }
 
       -- and what was done is a pass
       pub ran_after : (report : PassReport) → report.rows.elements ≡ lines → report.events ≡ t.report.events → report.losses ≡ t.report.losses
-          → KitRan g words job report b.streamer.streamer (kit_before k b) streamer_after kit_after
+          → KitRan g filter words job report b.streamer.streamer (kit_before k b) streamer_after kit_after
       ran_after report lines_are noted told = record {
         ran = record {
           setup = λ i. record (kit_setup g words (kit_before k b)) { bytes = same_told i };
@@ -278,7 +280,7 @@ module _ {F : Type 0} (g : FileMeanings F) (words : WordsValue) (q : Queues) (k 
               in_order;
           read = subst (λ (l : ListView Bool). AreReadFor k.shape k.depth job.batch l.elements (files_of g (reverse (stores_of b.round.first)))
               (files_of g (reverse (stores_of c)))) (sym told) read_is;
-          picture = subst (λ (l : List RowLine). IsPictured nearest (kit_drawn kit_after streamer_after) job l (kit_state g words after.journal kit_after))
+          picture = subst (λ (l : List RowLine). IsPictured (drawing_of filter) (kit_drawn filter kit_after streamer_after) job l (kit_state g words after.journal kit_after))
               (sym lines_are) pictured;
         };
         held = subst (AreHeldRows b.streamer.streamer.writer after) (sym lines_are) held_rows;
@@ -290,7 +292,7 @@ module _ {F : Type 0} (g : FileMeanings F) (words : WordsValue) (q : Queues) (k 
         idle_finished = subst (λ (z : StreamerView × KitView F). IsIdleKit g words z.0 z.1) (λ i. (sym w_is i, sym rest i)) idle_after
 
         pub ran_finished : (report : PassReport) → report.rows.elements ≡ lines → report.events ≡ t.report.events → report.losses ≡ t.report.losses
-            → KitRan g words job report b.streamer.streamer (kit_before k b) w l
+            → KitRan g filter words job report b.streamer.streamer (kit_before k b) w l
         ran_finished report lines_are noted told =
-            subst (λ (z : StreamerView × KitView F). KitRan g words job report b.streamer.streamer (kit_before k b) z.0 z.1) (λ i. (sym w_is i, sym rest i))
+            subst (λ (z : StreamerView × KitView F). KitRan g filter words job report b.streamer.streamer (kit_before k b) z.0 z.1) (λ i. (sym w_is i, sym rest i))
             (ran_after report lines_are noted told)

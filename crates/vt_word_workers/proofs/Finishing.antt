@@ -6,6 +6,8 @@ use Rattle.std.proofs.lemmas.List.{length-map}
 use Rattle.vt_outside.specs.Lists.{ListView}
 use Rattle.vt_outside.specs.declared.outside.File.{Ghosts as FileMeanings}
 use Rattle.vt_journal.specs.declared.changes.RowLine.{RowLine}
+use Rattle.vt_filter.specs.declared.filters.Filter.{Ghosts as FilterMeanings}
+use Rattle.vt_filter.specs.FilterLaws.{IsUnder}
 use Rattle.vt_tiles.specs.Format.{tile_length}
 use Rattle.vt_tiles.specs.StoreViews.{StoreView}
 use Rattle.vt_grace.specs.Values.{WordsValue}
@@ -36,8 +38,9 @@ tasks_back xs lent ws same are =
     let all : ws ≡ without_passes xs = are ∙ ap without_passes same in
     refilled xs ws (ap length all ∙ length-map xs without_pass) ∙ all
 
-module _ {F : Type 0} (g : FileMeanings F) (words : WordsValue) (q : Queues) (k : KitView F) (job : Job) (c : List (QueuedView F)) (f : List WordSampler)
-    (t : WordStreamer) (b : Begun F) (may : MayFinish g words q k job c f t b)
+module _ {F P : Type 0} (g : FileMeanings F) (filter : FilterMeanings P) (law : IsUnder filter.shown filter.under) (words : WordsValue) (q : Queues)
+    (k : KitView F) (job : Job) (c : List (QueuedView F)) (f : List WordSampler) (t : WordStreamer) (b : Begun F)
+    (may : MayFinish g filter words q k job c f t b)
     (asks_back : PassView Request) (answers_end : PassView Loaded) (stores : List (StoreView F))
     (joined : asks_back ≡ all_joined (view_of k.round.asks) (asks_of c)) (given : answers_end ≡ all_joined (view_of t.answers) (answers_of c))
     (unread : (left : List Request) × IsAtStep asks_back left) (over : (left : List Loaded) × IsAtStep answers_end left)
@@ -55,7 +58,7 @@ module _ {F : Type 0} (g : FileMeanings F) (words : WordsValue) (q : Queues) (k 
   back = tasks_back f lent ws lent_is without
 
   sizes : AreSized (tile_length k.shape k.depth) round.buffers.elements
-  sizes = kept (tile_length k.shape k.depth) (sizes_back g words q k job c f t b may asks_back answers_end joined given unread over)
+  sizes = kept (tile_length k.shape k.depth) (sizes_back g filter words q k job c f t b may asks_back answers_end joined given unread over)
       (subst (λ (x : ListView (ListView ℕ)). AreSized (tile_length k.shape k.depth) x.elements) (sym same_buffers) may.sizes)
 
   w_is : w ≡ record t.streamer { writer = all_returned t.streamer.writer f }
@@ -69,13 +72,13 @@ module _ {F : Type 0} (g : FileMeanings F) (words : WordsValue) (q : Queues) (k 
 
   -- the kit can go on
   pub goes_on : IsIdleKit g words w l
-  goes_on = idle_finished g words q k job c f t b may asks_back answers_end joined given unread over (subst (IsStreamerOf words) w_is of) counts number summed
+  goes_on = idle_finished g filter words q k job c f t b may asks_back answers_end joined given unread over law (subst (IsStreamerOf words) w_is of) counts number summed
       rows round sizes w w_is l l_is
 
   -- and a pass was run
   pub ran : (report : PassReport) → report.rows.elements ≡ lines_of k.crew.samplers (refill (length f) f ws) k.height
       → report.events ≡ t.report.events → report.losses ≡ t.report.losses
-      → KitRan g words job report b.streamer.streamer (kit_before k b) w l
-  ran report lines noted told = ran_finished g words q k job c f t b may asks_back answers_end joined given unread over
+      → KitRan g filter words job report b.streamer.streamer (kit_before k b) w l
+  ran report lines noted told = ran_finished g filter words q k job c f t b may asks_back answers_end joined given unread over law
       (subst (IsStreamerOf words) w_is of) counts number summed rows round sizes w w_is l l_is report
       (lines ∙ ap (λ xs. lines_of k.crew.samplers xs k.height) back) noted told

@@ -9,7 +9,8 @@ use Rattle.std.proofs.lemmas.Option.{none-some, same_Some, slice_get_within}
 use Rattle.vt_definitions.specs.Limits.{most_samplers}
 use Rattle.vt_pages.specs.Shape.{Shape}
 use Rattle.vt_camera.specs.Paths.{PathView}
-use Rattle.vt_draw.specs.Shots.{pixels_in_rows}
+use Rattle.vt_camera.specs.Rows.{RowView}
+use Rattle.vt_draw.specs.Shots.{wants_in_rows}
 use Rattle.vt_journal.specs.declared.changes.RowLine.{RowLine}
 use Rattle.vt_sampler.specs.Samplers.{own_rows}
 use Rattle.vt_sampler.proofs.Sharing.{rows_shared}
@@ -79,12 +80,12 @@ counts_add p f a (t ∷ ts) h =
     omega (arith, x, y, r, z)
 
 -- samplers that have drawn a picture have counted together what it wants
-pub counted_is_wanted : (s : Shape) (path : PathView) (i samplers p : ℕ) (tasks : List WordSampler) → 1 ≤ samplers → length tasks ≡ samplers
+pub counted_is_wanted : (wants : Shape → RowView → ℕ → ℕ → ℕ) (s : Shape) (path : PathView) (i samplers p : ℕ) (tasks : List WordSampler) → 1 ≤ samplers → length tasks ≡ samplers
     → ((n : ℕ) (task : WordSampler) → slice_get tasks n ≡ Some task
-    → slice_index task.sampler.counts p ≡ pixels_in_rows s path i (own_rows n samplers path.height) p)
-    → counted_together tasks p ≡ pixels_in_rows s path i (range_with_len 0 path.height) p
-counted_is_wanted s path i samplers p tasks some number each =
-    counts_add p (λ k. pixels_in_rows s path i (own_rows k samplers path.height) p) 0 tasks
-    (λ n task at. let m : n ≡ 0 + n = omega arith in each n task at ∙ ap (λ k. pixels_in_rows s path i (own_rows k samplers path.height) p) m)
-    ∙ ap (λ n. sum_by (λ k. pixels_in_rows s path i (own_rows k samplers path.height) p) (range_with_len 0 n)) number
-    ∙ rows_shared s path i samplers path.height p some
+    → slice_index task.sampler.counts p ≡ wants_in_rows wants s path i (own_rows n samplers path.height) p)
+    → counted_together tasks p ≡ wants_in_rows wants s path i (range_with_len 0 path.height) p
+counted_is_wanted wants s path i samplers p tasks some number each =
+    counts_add p (λ k. wants_in_rows wants s path i (own_rows k samplers path.height) p) 0 tasks
+    (λ n task at. let m : n ≡ 0 + n = omega arith in each n task at ∙ ap (λ k. wants_in_rows wants s path i (own_rows k samplers path.height) p) m)
+    ∙ ap (λ n. sum_by (λ k. wants_in_rows wants s path i (own_rows k samplers path.height) p) (range_with_len 0 n)) number
+    ∙ rows_shared wants s path i samplers path.height p some

@@ -3,7 +3,9 @@ use Rattle.std.specs.Prelude.{◌≡◌, ℕ, ◌%◌, ◌≤◌, List, [], leng
 use Rattle.vt_outside.specs.declared.outside.File.{Ghosts as FileMeanings}
 use Rattle.vt_pages.specs.Shape.{Shape}
 use Rattle.vt_camera.specs.Paths.{PathView}
-use Rattle.vt_draw.specs.Shots.{shot_row, AreDrawn}
+use Rattle.vt_draw.specs.Shots.{shot_row}
+use Rattle.vt_filter.specs.declared.filters.Filter.{Ghosts as FilterMeanings}
+use Rattle.vt_filter.specs.Evidence.{AreShown}
 use Rattle.vt_tiles.specs.Format.{tile_length}
 use Rattle.vt_grace.specs.declared.views.WriterView.{WriterView}
 use Rattle.vt_grace.specs.declared.views.Returned.{Returned}
@@ -17,7 +19,7 @@ use Rattle.vt_loaders.specs.QueuedLoaders.{QueuedView, AreOf, stores_of}
 use Rattle.vt_workers.specs.Jobs.{Job}
 use Rattle.vt_workers.specs.All.{AllDid}
 use Rattle.vt_machine.specs.declared.crew.PassReport.{PassReport}
-use Rattle.vt_machine.specs.Nearest.{nearest}
+use Rattle.vt_machine.specs.Drawings.{drawing_of}
 use Rattle.vt_machine.specs.Machines.{told_by}
 use Rattle.vt_machine.specs.Passes.{IsJobFor, Ran}
 use Rattle.vt_rounds.specs.BatchRounds.{Begun as Round, IsEndedRound}
@@ -31,17 +33,17 @@ use Rattle.vt_word_workers.specs.GivenPasses.{HaveNewPasses}
 use Rattle.vt_word_workers.specs.HeldPasses.{AreHeldRows}
 use Rattle.vt_word_workers.specs.Kits.{KitView, kit_setup, kit_state, IsFitKit, HasRoom}
 
--- a row of a picture was drawn at a version by notes that a writer took back, and the version is one that a pass of its sampler held
-pub record WasDrawn (s : Shape) (d samplers : ℕ) (w : WriterView) (path : PathView) (i y version : ℕ) (bytes : List ℕ) : Type 0 where
-  pub drawn : AreDrawn s d version (IsNotedBy w) (shot_row s path i y) path.width bytes
+-- a row of a picture was drawn by a filter at a version by notes that a writer took back, and the version is one that a pass of its sampler held
+pub record WasDrawn {P : Type 0} (filter : FilterMeanings P) (s : Shape) (d samplers : ℕ) (w : WriterView) (path : PathView) (i y version : ℕ) (bytes : List ℕ) : Type 0 where
+  pub drawn : AreShown filter.shown s d version (IsNotedBy w) (shot_row s path i y) path.width bytes
   pub by : Returned
   pub returned : Contains w.returned by
   pub turn : by.sampler ≡ y % samplers
   pub held : Contains by.held version
 
 -- what the samplers of a kit have drawn up to now over the words of a streamer
-abbrev pub kit_drawn : {F : Type 0} → KitView F → StreamerView → PathView → ℕ → ℕ → ℕ → List ℕ → Type 0
-kit_drawn k v path i y version bytes = WasDrawn k.shape k.depth k.crew.samplers v.writer path i y version bytes
+abbrev pub kit_drawn : {F P : Type 0} → FilterMeanings P → KitView F → StreamerView → PathView → ℕ → ℕ → ℕ → List ℕ → Type 0
+kit_drawn filter k v path i y version bytes = WasDrawn filter k.shape k.depth k.crew.samplers v.writer path i y version bytes
 
 -- the workers were moved out of a kit, with passes of the queues that were split off
 pub record AreOut {F : Type 0} (g : FileMeanings F) (q : Queues) (k l : KitView F) (answers answers' : QueuePass Loaded)
@@ -60,24 +62,24 @@ pub record Begun (F : Type 0) : Type 0 where
 abbrev pub kit_before : {F : Type 0} → KitView F → Begun F → KitView F
 kit_before k b = record k { samplers = b.samplers; stores = reverse (stores_of b.round.first) }
 
--- the workers of a pass have worked: the samplers have drawn the job, the streamer has streamed its batch, and the loaders have ended their round
-pub record HaveWorked {F : Type 0} (g : FileMeanings F) (words : WordsValue) (q : Queues) (k : KitView F) (job : Job) (loaders : List (QueuedView F))
-    (samplers : List WordSampler) (t : WordStreamer) (b : Begun F) : Type 0 where
+-- the workers of a pass have worked: the samplers have drawn the job by a filter, the streamer has streamed its batch, and the loaders have ended their round
+pub record HaveWorked {F P : Type 0} (g : FileMeanings F) (filter : FilterMeanings P) (words : WordsValue) (q : Queues) (k : KitView F) (job : Job)
+    (loaders : List (QueuedView F)) (samplers : List WordSampler) (t : WordStreamer) (b : Begun F) : Type 0 where
   pub fit : IsFitKit g words b.streamer.streamer (kit_before k b)
   pub job_is : IsJobFor (kit_setup g words (kit_before k b)) job
   pub passes : HaveNewPasses words b.streamer.streamer.writer b.samplers
   pub no_events : b.streamer.report.events.elements ≡ []
   pub number : length samplers ≡ length b.samplers
-  pub drawn : AllDid (HasDrawn words job.scene job.picture) b.samplers samplers
+  pub drawn : AllDid (HasDrawn filter words job.scene job.picture) b.samplers samplers
   pub fed : HasFed words q job.batch b.streamer t
   pub ended : IsEndedRound g q k.shape job.batch (view_of k.round.asks) (view_of b.streamer.answers) loaders b.round
   pub depth_is : b.round.depth ≡ k.depth
   pub told_is : b.round.told ≡ told_by g (reverse (stores_of b.round.first))
 
 -- workers may be moved back into a kit
-pub record MayFinish {F : Type 0} (g : FileMeanings F) (words : WordsValue) (q : Queues) (k : KitView F) (job : Job) (loaders : List (QueuedView F))
-    (samplers : List WordSampler) (t : WordStreamer) (b : Begun F) : Type 0 where
-  pub worked : HaveWorked g words q k job loaders samplers t b
+pub record MayFinish {F P : Type 0} (g : FileMeanings F) (filter : FilterMeanings P) (words : WordsValue) (q : Queues) (k : KitView F) (job : Job)
+    (loaders : List (QueuedView F)) (samplers : List WordSampler) (t : WordStreamer) (b : Begun F) : Type 0 where
+  pub worked : HaveWorked g filter words q k job loaders samplers t b
   pub few : length job.batch ≤ k.crew.batch
   pub room : HasRoom k
   pub no_stores : k.stores ≡ []
@@ -88,8 +90,8 @@ pub record MayFinish {F : Type 0} (g : FileMeanings F) (words : WordsValue) (q :
   pub buffers : length job.batch ≤ k.round.buffers.spare
   pub sizes : AreSized (tile_length k.shape k.depth) k.round.buffers.elements
 
--- a pass was run over words with a kit, by their streamer before and after; and each row's version is one that its sampler's pass held
-pub record KitRan {F : Type 0} (g : FileMeanings F) (words : WordsValue) (job : Job) (report : PassReport) (v : StreamerView) (k : KitView F)
-    (w : StreamerView) (l : KitView F) : Type 0 where
-  pub ran : Ran nearest (kit_drawn l w) job report (kit_state g words v.writer.journal k) (kit_state g words w.writer.journal l)
+-- a pass was run by a filter over words with a kit, by their streamer before and after; and each row's version is one that its sampler's pass held
+pub record KitRan {F P : Type 0} (g : FileMeanings F) (filter : FilterMeanings P) (words : WordsValue) (job : Job) (report : PassReport)
+    (v : StreamerView) (k : KitView F) (w : StreamerView) (l : KitView F) : Type 0 where
+  pub ran : Ran (drawing_of filter) (kit_drawn filter l w) job report (kit_state g words v.writer.journal k) (kit_state g words w.writer.journal l)
   pub held : AreHeldRows v.writer w.writer report.rows.elements

@@ -31,7 +31,7 @@ use Rattle.vt_word_workers.specs.RoundKits.{RoundKitView, IsSetUp, IsAsked}
 use Rattle.vt_word_workers.specs.GivenPasses.{HaveNewPasses}
 
 -- a kit: how the texture is cut into pages, how many bytes its samples have, the sides of the pictures, the crew; the samplers and the
--- loaders' stores; how many pixels of the last picture need each page; the list that the next pass fills; and what its loaders are done with
+-- loaders' stores; how many texels the last picture needs of each page; the list that the next pass fills; and what its loaders are done with
 pub record KitView (F : Type 0) : Type 0 where
   pub shape : Shape
   pub depth : ℕ
@@ -70,7 +70,7 @@ line_of samplers tasks y = record { row = y; sampler = y % samplers; version = v
 abbrev pub lines_of : ℕ → List WordSampler → ℕ → List RowLine
 lines_of samplers tasks height = map (line_of samplers tasks) (range_with_len 0 height)
 
--- how many pixels samplers have counted together for a page
+-- how many texels samplers have counted together for a page
 abbrev pub counted_together : List WordSampler → ℕ → ℕ
 counted_together tasks p = sum_by (λ task. slice_index task.sampler.counts p) tasks
 

@@ -1,6 +1,6 @@
 -- What the samplers and the streamer of a pass over shared words ask and leave.
 use Rattle.std.specs.Prelude.{◌≡◌, ℕ, ◌*◌, ◌^◌, ◌<◌, ◌≤◌, ◌++◌, true, Some, List, length, slice_index}
-use Rattle.vt_draw.specs.Shots.{shot_row, AreDrawn, pixels_in_rows}
+use Rattle.vt_draw.specs.Shots.{shot_row, wants_in_rows}
 use Rattle.vt_journal.specs.Changes.{newest}
 use Rattle.vt_grace.specs.Values.{WordsValue, PassValue}
 use Rattle.vt_grace.specs.Tokens.{IsPassOf}
@@ -8,6 +8,8 @@ use Rattle.vt_lookup.specs.Notes.{Fits, IsNotedIn, HasHeldMore}
 use Rattle.vt_sampler.specs.Held.{WasHeld}
 use Rattle.vt_sampler.specs.Samplers.{IsOwn, IsFor, own_rows, row_at, row_length, version_at}
 use Rattle.vt_shown.specs.Scenes.{Scene}
+use Rattle.vt_filter.specs.declared.filters.Filter.{Ghosts as FilterMeanings}
+use Rattle.vt_filter.specs.Evidence.{AreShown}
 use Rattle.vt_plan.specs.declared.batches.Planned.{Planned}
 use Rattle.vt_machine.specs.Outcomes.{IsBatchFor}
 use Rattle.vt_queue.specs.Queues.{view_of, splits_of, IsOf}
@@ -31,9 +33,9 @@ pub record MayDraw (words : WordsValue) (scene : Scene) (picture : ℕ) (a : Wor
   pub rooted : pass.view.rooted ≡ true
   pub own : pass.view.sampler ≡ a.sampler.sampler
 
--- a sampler has drawn its rows of a picture of a scene over words, by what its pass noted, each at a version that the pass came to hold
--- meanwhile; these never fall from row to row; and it has counted the rows' pixels
-pub record HasDrawn (words : WordsValue) (scene : Scene) (picture : ℕ) (a b : WordSampler) : Type 0 where
+-- a sampler has drawn its rows of a picture of a scene by a filter over words, by what its pass noted, each at a version that the pass came to
+-- hold meanwhile; these never fall from row to row; and it has counted the texels that the rows want
+pub record HasDrawn {P : Type 0} (filter : FilterMeanings P) (words : WordsValue) (scene : Scene) (picture : ℕ) (a b : WordSampler) : Type 0 where
   pub number : b.sampler.sampler ≡ a.sampler.sampler
   pub among : b.sampler.samplers ≡ a.sampler.samplers
   pub for_it : IsFor b.sampler scene.shape scene.path scene.depth
@@ -44,13 +46,13 @@ pub record HasDrawn (words : WordsValue) (scene : Scene) (picture : ℕ) (a b : 
   pub of : IsPassOf words pass
   pub more : List ℕ
   pub held_more : HasHeldMore before.view pass.view more
-  pub drawn : (y : ℕ) → IsOwn b.sampler y → AreDrawn scene.shape scene.depth (version_at b.sampler y) (IsNotedIn pass.view)
+  pub drawn : (y : ℕ) → IsOwn b.sampler y → AreShown filter.shown scene.shape scene.depth (version_at b.sampler y) (IsNotedIn pass.view)
       (shot_row scene.shape scene.path picture y) scene.path.width (row_at b.sampler y)
   pub full : (y : ℕ) → IsOwn b.sampler y → length (row_at b.sampler y) ≡ row_length scene.depth scene.path.width
   pub held : (y : ℕ) → IsOwn b.sampler y → WasHeld before.view pass.view (version_at b.sampler y)
   pub rising : (y z : ℕ) → IsOwn b.sampler y → IsOwn b.sampler z → y ≤ z → version_at b.sampler y ≤ version_at b.sampler z
   pub counted : (p : ℕ) → p < length b.sampler.counts
-      → slice_index b.sampler.counts p ≡ pixels_in_rows scene.shape scene.path picture
+      → slice_index b.sampler.counts p ≡ wants_in_rows filter.wants scene.shape scene.path picture
       (own_rows b.sampler.sampler b.sampler.samplers b.sampler.height) p
 
 -- the streamer may stream a batch: it is that of the words, its pass is one of the results, the batch is lawful for the newest version, and

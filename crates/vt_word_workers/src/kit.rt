@@ -40,6 +40,7 @@ use vt_definitions::texel_length;
 use vt_draw::Shot;
 use vt_evict::Batch;
 use vt_feedback::Counts;
+use vt_filter::Filter;
 use vt_grace::Words;
 use vt_journal::RowLines;
 use vt_loaders::{QueuedLoader, Queues};
@@ -171,7 +172,7 @@ impl<F: File> WordKit<F> {
         }
     }
 
-    /// How many pixels of the last pass's picture need each page.
+    /// How many texels the last pass's picture needs of each page.
     pub fn counts(&self) -> &Counts
         ensures { result.now ≡ self.now.counts }
     {
@@ -362,9 +363,9 @@ impl<F: File> WordKit<F> {
         mem::replace(&mut self.rows, Items::new(self.alloc))
     }
 
-    /// Ends the round of the loaders, takes the passes of the samplers back, moves the workers back, and tells what the
-    /// pass did.
-    pub fn finish(
+    /// Ends the round of the loaders, takes the passes of the samplers back, which have drawn by a filter, moves the workers
+    /// back, and tells what the pass did.
+    pub fn finish<P: Filter>(
         &mut self,
         words: &Words,
         queues: &Queues,
@@ -376,13 +377,13 @@ impl<F: File> WordKit<F> {
         _shot: &Shot<'_>,
         _batch: &Batch,
     ) -> PassReport
-        requires { (b : Begun F) × MayFinish F.File words.now queues.now self.old
+        requires { (b : Begun F) × MayFinish F.File P.Filter words.now queues.now self.old
             (job_of _shot.now _batch.now.elements) loaders.elements samplers.elements
             (record { streamer = streamer.old; answers = answers.old; report = report.old }) b }
         ensures ran { (b : Begun F)
-            → MayFinish F.File words.now queues.now self.old (job_of _shot.now _batch.now.elements) loaders.elements
+            → MayFinish F.File P.Filter words.now queues.now self.old (job_of _shot.now _batch.now.elements) loaders.elements
             samplers.elements (record { streamer = streamer.old; answers = answers.old; report = report.old }) b
-            → KitRan F.File words.now (job_of _shot.now _batch.now.elements) result
+            → KitRan F.File P.Filter words.now (job_of _shot.now _batch.now.elements) result
             b.streamer.streamer (kit_before self.old b) streamer.new self.new }
         ensures idle { IsIdleKit F.File words.now streamer.new self.new }
     {

@@ -2,9 +2,11 @@
 
 use crate::tasks::{draw_own, stream_own};
 use crate::workers::{WordSampler, WordStreamer};
+use std::marker::PhantomData;
 use std::sync::Wait;
 use std::thread::Threads;
 use vt_draw::Shot;
+use vt_filter::Filter;
 use vt_grace::Words;
 use vt_loaders::{QueuedLoader, Queues};
 use vt_outside::{File, Gate};
@@ -13,14 +15,16 @@ use vt_workers::Task;
 
 /// What the workers of a pass have in common where its caller holds the words.
 #[derive(Drop)]
-pub struct LentShared<'a> {
+pub struct LentShared<'a, P: Filter> {
     /// The words of the page table and of the frames.
     pub words: &'a Words,
     /// The queues of the requests and of the results.
     pub queues: &'a Queues,
+    /// The filter by which the samplers draw.
+    pub filter: PhantomData<P>,
 }
 
-impl<'a, F: File> Task<LentShared<'a>> for QueuedLoader<F> {
+impl<'a, F: File, P: Filter> Task<LentShared<'a, P>> for QueuedLoader<F> {
     ghost use Rattle.vt_loaders.specs.QueuedLoaders.{MayLoad, HasLoaded};
 
     ghost ready = { λ shared job loader. MayLoad F.File shared.queues.now loader };
@@ -30,7 +34,7 @@ impl<'a, F: File> Task<LentShared<'a>> for QueuedLoader<F> {
     fn work<Rt: Threads + Wait, G: Gate>(
         &mut self,
         rt: &Rt,
-        shared: &LentShared<'a>,
+        shared: &LentShared<'a, P>,
         _shot: &Shot<'_>,
         _batch: &[Planned],
         gate: &G,
@@ -39,26 +43,26 @@ impl<'a, F: File> Task<LentShared<'a>> for QueuedLoader<F> {
     }
 }
 
-impl<'a> Task<LentShared<'a>> for WordSampler {
+impl<'a, P: Filter> Task<LentShared<'a, P>> for WordSampler {
     ghost use Rattle.vt_word_workers.specs.WordTasks.{MayDraw, HasDrawn};
 
     ghost ready = { λ shared job task. MayDraw shared.words.now job.scene job.picture task };
 
-    ghost did = { λ shared job before after. HasDrawn shared.words.now job.scene job.picture before after };
+    ghost did = { λ shared job before after. HasDrawn P.Filter shared.words.now job.scene job.picture before after };
 
     fn work<Rt: Threads + Wait, G: Gate>(
         &mut self,
         _rt: &Rt,
-        shared: &LentShared<'a>,
+        shared: &LentShared<'a, P>,
         shot: &Shot<'_>,
         _batch: &[Planned],
         gate: &G,
     ) {
-        draw_own(self, shot, shared.words, gate);
+        draw_own::<P, G>(self, shot, shared.words, gate);
     }
 }
 
-impl<'a> Task<LentShared<'a>> for WordStreamer {
+impl<'a, P: Filter> Task<LentShared<'a, P>> for WordStreamer {
     ghost use Rattle.vt_word_workers.specs.WordTasks.{MayStream, HasFed};
 
     ghost ready = { λ shared job task. MayStream shared.words.now shared.queues.now job.batch task };
@@ -68,7 +72,7 @@ impl<'a> Task<LentShared<'a>> for WordStreamer {
     fn work<Rt: Threads + Wait, G: Gate>(
         &mut self,
         rt: &Rt,
-        shared: &LentShared<'a>,
+        shared: &LentShared<'a, P>,
         _shot: &Shot<'_>,
         batch: &[Planned],
         gate: &G,

@@ -11,6 +11,8 @@ use crate::round::{blank_report, new_queues};
 use crate::shared::WordShared;
 use crate::workers::WordStreamer;
 use std::alloc::Global;
+use std::marker::PhantomData;
+use vt_filter::Filter;
 use vt_outside::NoMemory;
 use vt_pages::Geometry;
 use vt_queue::{QueuePass, Request};
@@ -18,12 +20,12 @@ use vt_streamer::Streamer;
 
 /// Words that map nothing with their streamer, and queues with which no pass is made, with a pass of the requests: each
 /// pass is prepared with new ones.
-pub fn new_parts(
+pub fn new_parts<P: Filter>(
     alloc: Global,
     geometry: &Geometry,
     frames: u32,
     samplers: u32,
-) -> Result<(WordShared, WordStreamer, QueuePass<Request>), NoMemory>
+) -> Result<(WordShared<P>, WordStreamer, QueuePass<Request>), NoMemory>
     requires frames { AreFrames geometry.now frames }
     requires some { 1 ≤ samplers }
     requires few { samplers ≤ most_samplers }
@@ -36,7 +38,11 @@ pub fn new_parts(
     let (words, streamer) = Streamer::new(alloc, geometry, frames, samplers)?;
     let (queues, asks, answers) = new_queues(alloc, 1)?;
     let report = blank_report(alloc, 0)?;
-    let shared = WordShared { words, queues };
+    let shared = WordShared {
+        words,
+        queues,
+        filter: PhantomData,
+    };
     let own = WordStreamer {
         streamer,
         answers,

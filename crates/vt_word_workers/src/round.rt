@@ -272,6 +272,9 @@ impl<F: File> RoundKit<F> {
     /// Has the buffers of results back, of which none is left.
     pub(crate) fn keep(&mut self, results: &mut Items<Loaded>)
         requires { length results.old.elements ≤ self.old.buffers.spare }
+        ensures none { results.new.elements ≡ [] }
+        ensures count { length self.new.buffers.elements
+            ≡ length self.old.buffers.elements + length results.old.elements }
         ensures sizes { (n : ℕ) → All (λ x. length x.request.buffer.elements ≡ n) results.old.elements
             → AreSized n self.old.buffers.elements → AreSized n self.new.buffers.elements }
     {

@@ -1,8 +1,10 @@
 //! What the workers of a pass over shared words have in common.
 
+use std::marker::PhantomData;
 use std::sync::Wait;
 use std::thread::Threads;
 use vt_draw::Shot;
+use vt_filter::Filter;
 use vt_grace::Words;
 use vt_loaders::{QueuedLoader, Queues};
 use vt_outside::{File, Gate};
@@ -11,14 +13,16 @@ use vt_workers::Task;
 
 /// What the workers of a pass over shared words have in common.
 #[derive(Drop)]
-pub struct WordShared {
+pub struct WordShared<P: Filter> {
     /// The words of the page table and of the frames.
     pub words: Words,
     /// The queues of the requests and of the results.
     pub queues: Queues,
+    /// The filter by which the samplers draw.
+    pub filter: PhantomData<P>,
 }
 
-impl<F: File> Task<WordShared> for QueuedLoader<F> {
+impl<F: File, P: Filter> Task<WordShared<P>> for QueuedLoader<F> {
     ghost use Rattle.vt_loaders.specs.QueuedLoaders.{MayLoad, HasLoaded};
 
     ghost ready = { λ shared job loader. MayLoad F.File shared.queues loader };
@@ -28,7 +32,7 @@ impl<F: File> Task<WordShared> for QueuedLoader<F> {
     fn work<Rt: Threads + Wait, G: Gate>(
         &mut self,
         rt: &Rt,
-        shared: &WordShared,
+        shared: &WordShared<P>,
         _shot: &Shot<'_>,
         _batch: &[Planned],
         gate: &G,

@@ -9,6 +9,7 @@ use std::mem;
 use std::sync::Wait;
 use std::thread::Threads;
 use vt_draw::Shot;
+use vt_filter::Filter;
 use vt_grace::Words;
 use vt_loaders::Queues;
 use vt_outside::Gate;
@@ -16,15 +17,15 @@ use vt_plan::Planned;
 use vt_streaming::stream_batch;
 use vt_workers::Task;
 
-// Lets a sampler draw its rows with its pass, which it has back afterwards.
-pub(crate) fn draw_own<G: Gate>(task: &mut WordSampler, shot: &Shot<'_>, words: &Words, gate: &G)
+// Lets a sampler draw its rows by a filter with its pass, which it has back afterwards.
+pub(crate) fn draw_own<P: Filter, G: Gate>(task: &mut WordSampler, shot: &Shot<'_>, words: &Words, gate: &G)
     requires { MayDraw words.now (scene_of shot.now.geometry.now shot.now.depth shot.now.path.now) shot.now.picture task.old }
-    ensures { HasDrawn words.now (scene_of shot.now.geometry.now shot.now.depth shot.now.path.now) shot.now.picture
+    ensures { HasDrawn P.Filter words.now (scene_of shot.now.geometry.now shot.now.depth shot.now.path.now) shot.now.picture
         task.old task.new }
 {
     let pass = mem::replace(&mut task.pass, None);
     match pass {
-        Some(pass) => task.pass = Some(task.sampler.draw(shot, words, pass, gate)),
+        Some(pass) => task.pass = Some(task.sampler.draw_by::<P, G>(shot, words, pass, gate)),
         None => unreachable!(),
     }
 }
@@ -53,24 +54,24 @@ pub(crate) fn stream_own<Rt: Threads + Wait, G: Gate>(
     );
 }
 
-impl Task<WordShared> for WordSampler {
+impl<P: Filter> Task<WordShared<P>> for WordSampler {
     ghost ready = { λ shared job task. MayDraw shared.words job.scene job.picture task };
 
-    ghost did = { λ shared job before after. HasDrawn shared.words job.scene job.picture before after };
+    ghost did = { λ shared job before after. HasDrawn P.Filter shared.words job.scene job.picture before after };
 
     fn work<Rt: Threads + Wait, G: Gate>(
         &mut self,
         _rt: &Rt,
-        shared: &WordShared,
+        shared: &WordShared<P>,
         shot: &Shot<'_>,
         _batch: &[Planned],
         gate: &G,
     ) {
-        draw_own(self, shot, &shared.words, gate);
+        draw_own::<P, G>(self, shot, &shared.words, gate);
     }
 }
 
-impl Task<WordShared> for WordStreamer {
+impl<P: Filter> Task<WordShared<P>> for WordStreamer {
     ghost ready = { λ shared job task. MayStream shared.words shared.queues job.batch task };
 
     ghost did = { λ shared job before after. HasFed shared.words shared.queues job.batch before after };
@@ -78,7 +79,7 @@ impl Task<WordShared> for WordStreamer {
     fn work<Rt: Threads + Wait, G: Gate>(
         &mut self,
         rt: &Rt,
-        shared: &WordShared,
+        shared: &WordShared<P>,
         _shot: &Shot<'_>,
         batch: &[Planned],
         gate: &G,

@@ -8,6 +8,7 @@ use Rattle.vt_camera.specs.Paths.{PathView}
 use Rattle.vt_journal.specs.JournalText.{Content as Journal}
 use Rattle.vt_files.specs.Courses.{Passage, Course}
 use Rattle.vt_files.specs.Dues.{Due, with_files, IsPart}
+use Rattle.vt_shown.specs.Replays.{pixel_under}
 use Rattle.vt_replay.specs.Flaws.{IsFirstRefused}
 use Rattle.vt_replay.specs.Outcomes.{IsReplayable}
 use Rattle.vt_replay.specs.Replayed.{replay_due, pictures_of}
@@ -40,7 +41,7 @@ contents_of g = PathContent g.path ∷ PagedContent g.shape g.depth g.bytes ∷ 
 -- the pictures of a journal, each the replay of its last pass, and the end line
 abbrev pub journal_due : ReplayText → ReplayOf → Journal → Due
 journal_due words g journal = record {
-  files = replay_due g.shape g.depth g.bytes g.path words.prefix journal;
+  files = replay_due pixel_under g.shape g.depth g.bytes g.path words.prefix journal;
   text = end_line (pictures_of journal.passes);
 }
 

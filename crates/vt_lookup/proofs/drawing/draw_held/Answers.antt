@@ -1,6 +1,7 @@
 use Rattle.std.proofs.Common.{ℕ, sym, subst}
-use Rattle.vt_draw.proofs.DrawnRows.{drawn_by_more}
-use Rattle.vt_draw.specs.Shots.{shot_row, AreDrawn}
+use Rattle.vt_draw.specs.Shots.{shot_row}
+use Rattle.vt_filter.specs.Evidence.{AreShown}
+use Rattle.vt_filter.proofs.Handed.{shown_by_more}
 use Rattle.vt_lookup.specs.Notes.{IsNotedIn}
 use Rattle.vt_lookup.proofs.Ending.{held_one, noted_idle}
 use Rattle.vt_lookup.proofs.drawing.draw_held.Goals as goal
@@ -13,8 +14,8 @@ returns-clause-more g c =
 pub returns-clause-drawn : goal.returns-clause-drawn
 returns-clause-drawn g c =
     let row = shot_row c.args.shot.now.geometry.now c.args.shot.now.path.now c.args.shot.now.picture c.args.y in
-    drawn_by_more c.args.shot.now.geometry.now c.args.shot.now.depth c.version-version.result c.args.shot.now.path.now.width
+    shown_by_more g.P.Filter.shown c.args.shot.now.geometry.now c.args.shot.now.depth c.version-version.result c.args.shot.now.path.now.width
     (IsNotedIn c.draw_under-held.result.view) (IsNotedIn c.unpin.result.view) row c.draw_under-held.new.out
     (noted_idle c.draw_under-held.result.view c.unpin.result.view c.unpin.ensures.view)
-    (subst (λ (v : ℕ). AreDrawn c.args.shot.now.geometry.now c.args.shot.now.depth v (IsNotedIn c.draw_under-held.result.view)
+    (subst (λ (v : ℕ). AreShown g.P.Filter.shown c.args.shot.now.geometry.now c.args.shot.now.depth v (IsNotedIn c.draw_under-held.result.view)
     row c.args.shot.now.path.now.width c.draw_under-held.new.out) (sym c.version-version.ensures) c.draw_under-held.ensures.drawn)

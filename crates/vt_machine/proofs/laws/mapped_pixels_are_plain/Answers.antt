@@ -1,5 +1,5 @@
-use Rattle.vt_machine.specs.Plainly.{mapped_is_plain}
+use Rattle.vt_filter.specs.NearestPlain.{mapped_is_plain}
 use Rattle.vt_machine.proofs.laws.mapped_pixels_are_plain.Goals as goal
 
 pub returns : goal.returns
-returns c = mapped_is_plain
+returns c = λ src scene m i x y limits inside below needed. mapped_is_plain src scene m i x y limits inside below needed.needed_mapped

@@ -17,5 +17,5 @@ draw_and_stream-requires-clause-job g c κs within = given_job g.F.File c.args.w
 
 pub returns-clause-ran : goal.returns-clause-ran
 returns-clause-ran g c = given_ran g.F.File c.args.words.now c.args.own.now c.give.new.streamer c.args.kit.now c.ask.new.self
-    c.give.new.self c.ask.ensures.rest c.give.ensures.rest c.give.ensures.given (job_of c.args.shot.now c.args.batch.now.elements)
+    c.give.new.self c.ask.ensures.rest c.give.ensures.rest c.give.ensures.given g.P.Filter (job_of c.args.shot.now c.args.batch.now.elements)
     c.draw_and_stream.result c.draw_and_stream.new.own.streamer c.draw_and_stream.new.kit c.draw_and_stream.ensures.ran

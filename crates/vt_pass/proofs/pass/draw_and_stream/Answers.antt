@@ -44,11 +44,11 @@ finish-requires g c =
     let number_f = same_number e _ us c.slice_mut-2.ensures.value (search rules) in
     let did_load = all_did (λ (x : Queues) (j : Job) (v w : QueuedView _). HasLoaded g.F.File x v w) q q _ _ refl (ap with c.slice.ensures) a _ ws
     c.slice_mut.ensures.value (search rules) c.work_together.ensures.loaders in
-    let did_draw = all_did (λ (x : WordsValue) (j : Job) (v w : WordSampler). HasDrawn x j.scene j.picture v w) words words _ _ refl
+    let did_draw = all_did (λ (x : WordsValue) (j : Job) (v w : WordSampler). HasDrawn g.P.Filter x j.scene j.picture v w) words words _ _ refl
     (ap with c.slice.ensures) e _ us
     c.slice_mut-2.ensures.value (search rules) c.work_together.ensures.samplers in
     let did_stream = subst (λ (l : List Planned). HasFed words q l b d) c.slice.ensures c.work_together.ensures.streamer in
-    lent_back g.F.File words q own b d c.args.kit.now c.muster-loaders.new.self job a (refill (length a) a ws) e (refill (length e) e us)
+    lent_back g.F.File g.P.Filter words q own b d c.args.kit.now c.muster-loaders.new.self job a (refill (length a) a ws) e (refill (length e) e us)
     c.muster-loaders.ensures.out refl c.requires.ready c.requires.job number
     number_f did_load did_draw did_stream
 
@@ -69,14 +69,14 @@ returns-clause-ran g c =
     let number_f = same_number e _ us c.slice_mut-2.ensures.value (search rules) in
     let did_load = all_did (λ (x : Queues) (j : Job) (v w : QueuedView _). HasLoaded g.F.File x v w) q q _ _ refl (ap with c.slice.ensures) a _ ws
     c.slice_mut.ensures.value (search rules) c.work_together.ensures.loaders in
-    let did_draw = all_did (λ (x : WordsValue) (j : Job) (v w : WordSampler). HasDrawn x j.scene j.picture v w) words words _ _ refl
+    let did_draw = all_did (λ (x : WordsValue) (j : Job) (v w : WordSampler). HasDrawn g.P.Filter x j.scene j.picture v w) words words _ _ refl
     (ap with c.slice.ensures) e _ us
     c.slice_mut-2.ensures.value (search rules) c.work_together.ensures.samplers in
     let did_stream = subst (λ (l : List Planned). HasFed words q l b d) c.slice.ensures c.work_together.ensures.streamer in
-    let back = lent_back g.F.File words q own b d c.args.kit.now c.muster-loaders.new.self job a (refill (length a) a ws) e (refill (length e) e us)
+    let back = lent_back g.F.File g.P.Filter words q own b d c.args.kit.now c.muster-loaders.new.self job a (refill (length a) a ws) e (refill (length e) e us)
     c.muster-loaders.ensures.out refl c.requires.ready c.requires.job number
     number_f did_load did_draw did_stream in
-    lent_ran g.F.File words q own b d c.args.kit.now c.muster-loaders.new.self job a (refill (length a) a ws) e (refill (length e) e us)
+    lent_ran g.F.File g.P.Filter words q own b d c.args.kit.now c.muster-loaders.new.self job a (refill (length a) a ws) e (refill (length e) e us)
     c.muster-loaders.ensures.out refl c.requires.ready c.requires.job number
     number_f did_load did_draw did_stream
     c.finish.result c.finish.new.streamer c.finish.new.self (c.finish.ensures.ran back.0 back.1)

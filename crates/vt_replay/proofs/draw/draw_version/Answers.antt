@@ -8,7 +8,7 @@ use Rattle.vt_journal.specs.Kept.{entries_of}
 use Rattle.vt_journal.proofs.Versions.{same_page}
 use Rattle.vt_tiles.specs.Format.{stored}
 use Rattle.vt_shown.specs.Scenes.{scene_of}
-use Rattle.vt_shown.specs.Replays.{HasPixels, pixel_under}
+use Rattle.vt_shown.specs.Replays.{HasPixels}
 use Rattle.vt_replay.specs.Sights.{row_of}
 use Rattle.vt_replay.proofs.Places.{told_apart}
 use Rattle.vt_replay.proofs.Reading.{read_none, read_then}
@@ -30,7 +30,7 @@ draw_chosen-requires-clause-room g c = λ p inside.
     let counted = at.invariant.counted p inside in
     let height = c.height-y-end.ensures in
     let width = c.width-width.ensures in
-    let most = mul-le (at.y + 1) wide 2048 2048 (omega (arith, c.loop-y-test.true, height.high)) (omega (arith, width.value, width.high)) in
+    let most = mul-le (at.y + 1) (4 * wide) 2048 8192 (omega (arith, c.loop-y-test.true, height.high)) (omega (arith, width.value, width.high)) in
     omega (arith, counted, most)
 
 pub returns-in_err-draw_chosen-clause-read : goal.returns-in_err-draw_chosen-clause-read
@@ -50,7 +50,7 @@ loop-y-preserved g c =
       ready = drawn.ready;
       shown = λ b told store z row low is named.
           let Has : ℕ → List ℕ → Type 0 = λ (k : ℕ) (t : List ℕ). HasPixels shot.depth shot.path.now.width
-          (λ x. pixel_under (stored b) (scene_of shot.geometry.now shot.depth shot.path.now) (entries_of c.args.table.now.entries.items) shot.picture x k) t in
+          (λ x. g.P.Filter.under (stored b) (scene_of shot.geometry.now shot.depth shot.path.now) (entries_of c.args.table.now.entries.items) shot.picture x k) t in
           elim (cases_lt z at.y) [
             | inl before ↦
                 let other : z ≢ at.y = λ e. absurd (omega (arith, before, e)) in

@@ -1,18 +1,20 @@
-use Rattle.std.proofs.Common.{◌∙◌, false, refl, subst, sym, arith}
-use Rattle.vt_definitions.specs.Depths.{texel_bytes}
-use Rattle.vt_draw.specs.Lookups.{Note}
+use Rattle.std.proofs.Common.{◌≡◌, ◌∙◌, false, refl, ap, subst, sym, arith}
 use Rattle.vt_draw.specs.Shots.{shot_row}
-use Rattle.vt_draw.proofs.Counts.{pixels-most}
+use Rattle.vt_journal.specs.Kept.{entries_of}
+use Rattle.vt_tiles.specs.Format.{stored}
 use Rattle.vt_shown.specs.Scenes.{scene_of}
-use Rattle.vt_replay.specs.Sights.{SightView, IsTrueOf}
-use Rattle.vt_replay.proofs.Sighted.{drawn_as_replayed}
+use Rattle.vt_filter.specs.Evidence.{AreShown}
+use Rattle.vt_filter.proofs.Handed.{row_is_under}
+use Rattle.vt_replay.specs.Sights.{SightView, IsTrueOf, sight_base}
+use Rattle.vt_replay.proofs.Sighted.{none_missed, true_sight}
 use Rattle.vt_replay.proofs.draw.try_line.Goals as goal
 
 pub returns-clause-shown : goal.returns-clause-shown
-returns-clause-shown c = λ none b store tiles x inside.
+returns-clause-shown g c = λ none b store tiles.
     let shot = c.args.shot.now in
+    let s = shot.geometry.now in
     let t : SightView = record {
-      shape = shot.geometry.now;
+      shape = s;
       depth = shot.depth;
       size = c.args.tiles.now.size;
       version = c.args.table.now.version;
@@ -23,13 +25,16 @@ returns-clause-shown c = λ none b store tiles x inside.
       missed = false;
     } in
     let v : SightView = c.draw_row.new.lookup in
-    let on : (note : Note) → IsTrueOf t note → IsTrueOf v note =
-    λ note h. c.draw_row.ensures.said note (subst (λ (u : SightView). IsTrueOf u note) (sym c.new-sight.ensures) h) in
-    drawn_as_replayed t v (scene_of shot.geometry.now shot.depth shot.path.now) b shot.picture x c.args.y (texel_bytes shot.depth c.draw_row.new.out x)
-    c.tile-side.ensures.limits refl (sym c.missed.ensures ∙ none) store tiles on (c.draw_row.ensures.drawn x inside)
+    let same : v ≡ t = sym (none_missed v (sym c.missed.ensures ∙ none)) ∙ c.draw_row.ensures.kept ∙ ap sight_base c.new-sight.ensures in
+    let row = shot_row s shot.path.now shot.picture c.args.y in
+    let shown = subst (λ (u : SightView). AreShown g.P.Filter.shown s shot.depth v.version (IsTrueOf u) row shot.path.now.width c.draw_row.new.out) same
+    c.draw_row.ensures.drawn in
+    row_is_under g.P.Filter.shown g.P.Filter.under g.met.P.Filter.is_under (stored b) (scene_of s shot.depth shot.path.now) (entries_of t.entries)
+    v.version (IsTrueOf t) c.tile-side.ensures.limits (true_sight t b v.version refl store tiles) shot.picture shot.path.now.width c.args.y
+    c.draw_row.new.out shown
 
 pub returns-clause-counted : goal.returns-clause-counted
-returns-clause-counted c = λ p inside.
+returns-clause-counted g c = λ p inside.
     let shot = c.args.shot.now in
     let row = shot_row shot.geometry.now shot.path.now shot.picture c.args.y in
-    omega (arith, c.draw_row.ensures.counted p inside, pixels-most shot.geometry.now row shot.path.now.width p)
+    omega (arith, c.draw_row.ensures.counted p inside, g.met.P.Filter.wants_few shot.geometry.now row shot.path.now.width p)

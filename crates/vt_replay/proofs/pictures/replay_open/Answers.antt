@@ -14,8 +14,8 @@ returns-clause-leaves g c =
     let before = g.D.Folder.files c.args.folder.now in
     let after = g.D.Folder.files c.play.new.folder in
     let read = subst (λ (s : Shape). IsReplayable s path c.args.journal.now text.content) c.geometry-geometry.ensures.shape c.in_ok-text.ensures.read in
-    subst (Leaves store.shape store.depth told path c.args.journal.now c.args.prefix.now before after) (sym c.answer_of.ensures)
-    (leaves_played store.shape store.depth told path c.args.journal.now c.args.prefix.now text.content before after c.play.result read
+    subst (Leaves g.P.Filter.under store.shape store.depth told path c.args.journal.now c.args.prefix.now before after) (sym c.answer_of.ensures)
+    (leaves_played g.P.Filter.under store.shape store.depth told path c.args.journal.now c.args.prefix.now text.content before after c.play.result read
     c.play.ensures.count c.play.ensures.wrote)
 
 pub returns-clause-failed : goal.returns-clause-failed

@@ -81,5 +81,5 @@ returns-clause-wrote g c = λ b told.
     let after = g.D.Folder.files c.play_passes.new.folder in
     let r = c.play_passes.result in
     let wrote = c.play_passes.ensures.wrote b told in
-    subst (λ (l : List Change). HasWritten (pictures_due c.args.prefix.now (replay_file (stored b) (scene_of s d path)
+    subst (λ (l : List Change). HasWritten (pictures_due c.args.prefix.now (replay_file g.P.Filter.under (stored b) (scene_of s d path)
     l content.passes) (pictures_of content.passes)) before after r) c.requires.changes wrote

@@ -19,7 +19,7 @@ returns-in_err-show_pass-clause-wrote g c = λ b told.
 pub returns-clause-wrote : goal.returns-clause-wrote
 returns-clause-wrote g c = λ b told.
     let shot = c.args.shot.now in
-    let shown : ℕ → List ℕ = λ (picture : ℕ). replayed_rows (stored b) (scene_of shot.geometry.now shot.depth shot.path.now)
+    let shown : ℕ → List ℕ = λ (picture : ℕ). replayed_rows g.P.Filter.under (stored b) (scene_of shot.geometry.now shot.depth shot.path.now)
     c.args.journal.now.changes c.args.pass.now.rows.elements picture shot.path.now.height in
     let p = passage g.D.Folder c.args.folder.now c.write_picture.new.folder in
     let moved = subst (λ (w : ℕ). Writes (picture_due c.args.prefix.now

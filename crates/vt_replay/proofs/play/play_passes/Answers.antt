@@ -25,7 +25,7 @@ loop-i-init g c = record {
   turn = turn_first c.args.path.now.height c.args.text.now.content.pinned (length c.args.text.now.changes) c.args.stage.now.table.version
       c.args.text.now.content.passes c.requires.passes c.requires.first;
   asks = record { asked = refl; faults = omega arith };
-  files = λ b told. no_pictures c.args.prefix.now (replay_file (stored b) (scene_of c.args.store.now.shape c.args.store.now.depth c.args.path.now)
+  files = λ b told. no_pictures c.args.prefix.now (replay_file g.P.Filter.under (stored b) (scene_of c.args.store.now.shape c.args.store.now.depth c.args.path.now)
       c.args.text.now.changes c.args.text.now.content.passes) (folder_state g.D.Folder c.args.folder.now);
   read = read_none g.D.File.File c.args.store.now;
 }
@@ -57,11 +57,11 @@ returns-in_err-play_pass-clause-wrote g c = λ b told.
     let s = c.args.store.now.shape in
     let d = c.args.store.now.depth in
     let p = pass_of c.pass-pass.result.now in
-    let file : ℕ → List ℕ = replay_file (stored b) (scene_of s d path) c.args.text.now.changes passes in
-    let shown : ℕ → List ℕ = λ (picture : ℕ). picture_bytes c.depth-depth.result path.width path.height (replayed_rows (stored b)
+    let file : ℕ → List ℕ = replay_file g.P.Filter.under (stored b) (scene_of s d path) c.args.text.now.changes passes in
+    let shown : ℕ → List ℕ = λ (picture : ℕ). picture_bytes c.depth-depth.result path.width path.height (replayed_rows g.P.Filter.under (stored b)
     (scene_of c.geometry-geometry.result c.depth-depth.result path) c.journal-journal.result.now.changes p.rows picture path.height) in
     let turn = turn_at passes c.loop-i.i c.loop-i.done c.loop-i.stage.table.version p c.loop-i.invariant.turn c.pass-pass.ensures in
-    let same : shown p.picture ≡ file p.picture = shown_is (stored b) s c.geometry-geometry.result d c.depth-depth.result path c.args.text.now.changes
+    let same : shown p.picture ≡ file p.picture = shown_is g.P.Filter.under (stored b) s c.geometry-geometry.result d c.depth-depth.result path c.args.text.now.changes
     c.journal-journal.result.now.changes c.args.text.now.content.pinned (length c.args.text.now.changes) passes c.loop-i.i p
     c.geometry-geometry.ensures.shape c.depth-depth.ensures.value c.journal-journal.ensures c.requires.passes c.pass-pass.ensures
     (λ q at. c.if-not-is_last.ensures.last refl p q c.pass-pass.ensures at) in
@@ -130,10 +130,10 @@ loop-i-preserved g c =
           (λ q at. did.there ∙ c.last_of-last.ensures.next q at);
       asks = record { asked = later.asked ∙ first.asked; faults = omega (arith, low, high) };
       files = λ b told.
-          let file : ℕ → List ℕ = replay_file (stored b) (scene_of s d path) c.args.text.now.changes passes in
-          let shown : ℕ → List ℕ = λ (picture : ℕ). picture_bytes c.depth-depth.result path.width path.height (replayed_rows (stored b)
+          let file : ℕ → List ℕ = replay_file g.P.Filter.under (stored b) (scene_of s d path) c.args.text.now.changes passes in
+          let shown : ℕ → List ℕ = λ (picture : ℕ). picture_bytes c.depth-depth.result path.width path.height (replayed_rows g.P.Filter.under (stored b)
           (scene_of c.geometry-geometry.result c.depth-depth.result path) c.journal-journal.result.now.changes p.rows picture path.height) in
-          let same : shown p.picture ≡ file p.picture = shown_is (stored b) s c.geometry-geometry.result d c.depth-depth.result path c.args.text.now.changes
+          let same : shown p.picture ≡ file p.picture = shown_is g.P.Filter.under (stored b) s c.geometry-geometry.result d c.depth-depth.result path c.args.text.now.changes
           c.journal-journal.result.now.changes c.args.text.now.content.pinned (length c.args.text.now.changes) passes loop.i p
           c.geometry-geometry.ensures.shape c.depth-depth.ensures.value c.journal-journal.ensures c.requires.passes c.pass-pass.ensures
           (λ q at. c.if-not-is_last.ensures.last refl p q c.pass-pass.ensures at) in
@@ -159,7 +159,7 @@ returns-clause-wrote g c = λ b told.
     subst (λ (o : Option Pass). MatchOption o (c.loop-i.done ≡ pictures_of passes) (λ (q : Pass). (c.loop-i.done ≡ q.picture) ×
     (c.loop-i.stage.table.version ≤ q.start)))
     (slice_get_past passes c.loop-i.i past) c.loop-i.invariant.turn in
-    let file : ℕ → List ℕ = replay_file (stored b) (scene_of c.args.store.now.shape c.args.store.now.depth c.args.path.now) c.args.text.now.changes passes in
+    let file : ℕ → List ℕ = replay_file g.P.Filter.under (stored b) (scene_of c.args.store.now.shape c.args.store.now.depth c.args.path.now) c.args.text.now.changes passes in
     (c.loop-i.invariant.files b told).files
     ∙ ap (λ (n : ℕ). option_map (with_files (pictures_due c.args.prefix.now file n)) (g.D.Folder.files c.args.folder.now)) count
 

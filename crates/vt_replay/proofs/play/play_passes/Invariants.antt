@@ -19,7 +19,7 @@ invariant-loop-i g l = record {
       (λ p. (l.done ≡ p.picture) × (l.stage.table.version ≤ p.start));
   asks : AsksNone (passage g.D.Folder l.fn.folder l.folder);
   files : (b : List ℕ) → g.D.File.File.bytes l.fn.store.file ≡ Some b
-      → HasPictures l.prefix (replay_file (stored b) (scene_of l.fn.store.shape l.fn.store.depth l.path) l.text.changes l.text.content.passes) l.done
+      → HasPictures l.prefix (replay_file g.P.Filter.under (stored b) (scene_of l.fn.store.shape l.fn.store.depth l.path) l.text.changes l.text.content.passes) l.done
       (folder_state g.D.Folder l.fn.folder) (folder_state g.D.Folder l.folder);
   read : IsReadOn g.D.File.File l.fn.store l.store;
 }

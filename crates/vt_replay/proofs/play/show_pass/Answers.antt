@@ -6,7 +6,7 @@ use Rattle.vt_journal.specs.declared.changes.RowLine.{RowLine}
 use Rattle.vt_journal.specs.Changes.{at}
 use Rattle.vt_tiles.specs.Format.{stored}
 use Rattle.vt_shown.specs.Scenes.{scene_of}
-use Rattle.vt_shown.specs.Replays.{HasPixels, pixel_under}
+use Rattle.vt_shown.specs.Replays.{HasPixels}
 use Rattle.vt_replay.specs.Sights.{row_of}
 use Rattle.vt_replay.proofs.Reading.{read_none, read_then}
 use Rattle.vt_replay.proofs.Rows.{rows_are_replayed}
@@ -40,7 +40,7 @@ loop-version-preserved g c =
       there = inr (ap (λ (n : ℕ). n + 1) there);
       shown = λ b told y row is low.
           let Has : ℕ → List ℕ → Type 0 = λ (v : ℕ) (t : List ℕ). HasPixels shot.depth shot.path.now.width
-          (λ x. pixel_under (stored b) (scene_of shot.geometry.now shot.depth shot.path.now) (at js v) shot.picture x y) t in
+          (λ x. g.P.Filter.under (stored b) (scene_of shot.geometry.now shot.depth shot.path.now) (at js v) shot.picture x y) t in
           elim (cases_lt row.version loop.version) [
             | inl before ↦
                 let other : row.version ≢ loop.version = λ e. absurd (omega (arith, before, e)) in
@@ -59,7 +59,7 @@ returns-clause-shown g c = λ b told.
     let loop = c.loop-version in
     let rows = c.args.pass.now.rows.elements in
     let first : RowLine = record { row = 0; sampler = 0; version = 0 } in
-    rows_are_replayed (stored b) (scene_of shot.geometry.now shot.depth shot.path.now) c.args.journal.now.changes rows shot.picture shot.path.now.height
+    rows_are_replayed g.P.Filter.under (stored b) (scene_of shot.geometry.now shot.depth shot.path.now) c.args.journal.now.changes rows shot.picture shot.path.now.height
     (texel_length shot.depth * shot.path.now.width) loop.stage.samples.items refl loop.invariant.staged.samples_size c.requires.rows.count
     (λ y row is. loop.invariant.shown b told y row is (let to = c.requires.rows.to y row is in let end = c.loop-version-test.false in omega (arith, to, end)))
     (λ y low. (get_or rows y first, slice_get-get_or rows y first (let count = c.requires.rows.count in omega (arith, count, low))))

@@ -5,7 +5,7 @@ use Rattle.vt_journal.specs.declared.changes.RowLine.{RowLine}
 use Rattle.vt_journal.specs.Changes.{at}
 use Rattle.vt_tiles.specs.Format.{stored}
 use Rattle.vt_shown.specs.Scenes.{scene_of}
-use Rattle.vt_shown.specs.Replays.{HasPixels, pixel_under}
+use Rattle.vt_shown.specs.Replays.{HasPixels}
 use Rattle.vt_replay.specs.Playing.{IsReadOn, IsStaged}
 use Rattle.vt_replay.specs.Sights.{row_of}
 use Rattle.vt_replay.proofs.play.show_pass.Given as goal
@@ -21,7 +21,7 @@ invariant-loop-version g l = record {
   shown : (b : List ℕ) → g.F.File.bytes l.fn.store.file ≡ Some b
       → (y : ℕ) (row : RowLine) → slice_get l.pass.rows.elements y ≡ Some row → row.version < l.version
       → HasPixels l.shot.depth l.shot.path.now.width
-      (λ x. pixel_under (stored b) (scene_of l.shot.geometry.now l.shot.depth l.shot.path.now) (at l.journal.changes row.version) l.shot.picture x y)
+      (λ x. g.P.Filter.under (stored b) (scene_of l.shot.geometry.now l.shot.depth l.shot.path.now) (at l.journal.changes row.version) l.shot.picture x y)
       (row_of (texel_length l.shot.depth * l.shot.path.now.width) l.stage.samples.items y);
   read : IsReadOn g.F.File l.fn.store l.store;
 }

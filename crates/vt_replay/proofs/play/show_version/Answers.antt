@@ -6,7 +6,7 @@ use Rattle.vt_journal.specs.Changes.{Table, at}
 use Rattle.vt_journal.specs.Kept.{entries_of}
 use Rattle.vt_tiles.specs.Format.{stored}
 use Rattle.vt_shown.specs.Scenes.{scene_of}
-use Rattle.vt_shown.specs.Replays.{HasPixels, pixel_under}
+use Rattle.vt_shown.specs.Replays.{HasPixels}
 use Rattle.vt_replay.specs.Sights.{row_of}
 use Rattle.vt_replay.proofs.Written.{written_back}
 use Rattle.vt_replay.proofs.play.show_version.Goals as goal
@@ -24,7 +24,7 @@ returns-clause-shown g c = λ b told y row is named x inside.
     let agrees : entries_of c.advance.new.self.entries.items ≡ at js c.args.version = c.advance.ensures.follows.agrees ∙ ap (at js) c.advance.ensures.there in
     let shown = c.in_ok-draw_version.ensures.shown b told (c.requires.staged.store_is.each b told) y row
     (ap (λ (rs : List RowLine). slice_get rs y) c.slice.ensures ∙ is) named in
-    let moved = subst (λ (m : Table). HasPixels shot.depth shot.path.now.width (λ k. pixel_under (stored b) scene m shot.picture k y)
+    let moved = subst (λ (m : Table). HasPixels shot.depth shot.path.now.width (λ k. g.P.Filter.under (stored b) scene m shot.picture k y)
     (row_of wide c.draw_version.new.samples y)) agrees shown in
     ap (λ (s : List ℕ). texel_bytes shot.depth (row_of wide s y) x) samples ∙ moved x inside
 

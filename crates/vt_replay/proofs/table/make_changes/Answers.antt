@@ -5,7 +5,7 @@ use Rattle.vt_replay.proofs.table.make_changes.Goals as goal
 pub loop-made-preserved : goal.loop-made-preserved
 loop-made-preserved c =
     let more = follows_more c.args.geometry.now c.args.journal.now.changes c.loop-made.entries c.make_change.new.entries c.loop-made.made c.change.result
-    c.loop-made.invariant.follows c.change.ensures (omega arith) c.make_change.ensures in
+    c.requires.played.in_turn c.loop-made.invariant.follows c.change.ensures (omega arith) c.make_change.ensures in
     record { follows = more }
 
 pub make_change-requires-clause-page : goal.make_change-requires-clause-page

@@ -4,14 +4,15 @@ use Rattle.std.proofs.lemmas.Nat.{mul-le}
 use Rattle.std.proofs.lemmas.Bool.{cases_lt}
 use Rattle.std.proofs.lemmas.List.{get_or-set_same}
 use Rattle.vt_draw.specs.Lookups.{Note}
-use Rattle.vt_draw.proofs.DrawnRows.{drawn_by_more}
-use Rattle.vt_draw.specs.Shots.{shot_row, AreDrawn, pixels_wanting, pixels_in_rows}
+use Rattle.vt_filter.specs.Evidence.{AreShown}
+use Rattle.vt_filter.proofs.Handed.{shown_by_more}
+use Rattle.vt_draw.specs.Shots.{shot_row, wants_in_rows}
 use Rattle.vt_grace.specs.declared.views.PassView.{PassView}
 use Rattle.vt_lookup.specs.Notes.{IsNotedIn}
 use Rattle.vt_sampler.specs.Held.{WasHeld}
 use Rattle.vt_sampler.specs.Samplers.{own_rows, own_count, row_in}
 use Rattle.vt_sampler.proofs.Quotients.{apart, quotient_after, rest_after, rest_small, quotient_small}
-use Rattle.vt_sampler.proofs.Sharing.{own_fits, own_room, own_rows-first, own_rows-next, own_rows-same, own_pixels_most, pixels_in_rows-none, pixels_in_rows-push}
+use Rattle.vt_sampler.proofs.Sharing.{own_fits, own_room, own_rows-first, own_rows-next, own_rows-same, own_most, wants-none, wants-push}
 use Rattle.vt_sampler.proofs.Drawing.{rows_after}
 use Rattle.vt_sampler.proofs.Holding.{none_held, held_then, was_held_then, was_held_now, not_above, version_before, versions_after, rising_after}
 use Rattle.vt_sampler.proofs.held_rows.draw_held_rows.Goals as goal
@@ -31,9 +32,9 @@ loop-y-init g c =
       rising = λ x z below own_x own_z low. absurd (none z below own_z);
       counted = λ p inside.
           c.requires.none p inside
-          ∙ sym (ap (λ (rows : List ℕ). pixels_in_rows c.args.shot.now.geometry.now c.args.shot.now.path.now c.args.shot.now.picture rows p)
+          ∙ sym (ap (λ (rows : List ℕ). wants_in_rows g.P.Filter.wants c.args.shot.now.geometry.now c.args.shot.now.path.now c.args.shot.now.picture rows p)
           (own_rows-first c.args.sampler c.args.samplers c.requires.one_of)
-          ∙ pixels_in_rows-none c.args.shot.now.geometry.now c.args.shot.now.path.now c.args.shot.now.picture p);
+          ∙ wants-none g.P.Filter.wants c.args.shot.now.geometry.now c.args.shot.now.path.now c.args.shot.now.picture p);
     }
 
 pub slice_bounds-row-end : goal.slice_bounds-row-end
@@ -46,10 +47,16 @@ slice_bounds-row-end g c =
 
 pub draw_held-next-requires-clause-room : goal.draw_held-next-requires-clause-room
 draw_held-next-requires-clause-room g c p inside =
-    let most = own_pixels_most c.args.shot.now.geometry.now c.args.shot.now.path.now c.args.shot.now.picture p c.args.sampler c.args.samplers c.loop-y.y in
+    let s = c.args.shot.now.geometry.now in
+    let path = c.args.shot.now.path.now in
+    let picture = c.args.shot.now.picture in
+    let wants = g.P.Filter.wants in
+    let few : (z : ℕ) → wants s (shot_row s path picture z) path.width p ≤ 4 * path.width = λ z.
+    g.met.P.Filter.wants_few s (shot_row s path picture z) path.width p in
+    let most = own_most wants s path picture p (4 * path.width) few c.args.sampler c.args.samplers c.loop-y.y in
     let low : c.loop-y.y ≤ 2048 = omega (arith, c.height-height.ensures.high) in
-    let wide : c.args.shot.now.path.now.width ≤ 2048 = omega (arith, c.width.ensures.value, c.width.ensures.high) in
-    omega (arith, most, c.loop-y.invariant.counted p inside, mul-le c.loop-y.y c.args.shot.now.path.now.width 2048 2048 low wide)
+    let wide : path.width ≤ 2048 = omega (arith, c.width.ensures.value, c.width.ensures.high) in
+    omega (arith, most, wide, c.loop-y.invariant.counted p inside, mul-le c.loop-y.y (4 * path.width) 2048 8192 low (omega (arith, wide)))
 
 pub loop-y-preserved : goal.loop-y-preserved
 loop-y-preserved g c =
@@ -69,7 +76,7 @@ loop-y-preserved g c =
     ) in
     let versions : List ℕ = slice_set c.loop-y.versions (c.loop-y.y / n) v in
     let D : ℕ → (Note → Type 0) → ℕ → List ℕ → Type 0 = λ u says z row.
-    AreDrawn c.args.shot.now.geometry.now c.args.shot.now.depth u says
+    AreShown g.P.Filter.shown c.args.shot.now.geometry.now c.args.shot.now.depth u says
     (shot_row c.args.shot.now.geometry.now c.args.shot.now.path.now c.args.shot.now.picture z) c.args.shot.now.path.now.width row in
     let P : ℕ → List ℕ → Type 0 = λ z row. D (slice_index versions (z / n)) (IsNotedIn new) z row in
     let full : length c.draw_held-next.new.out ≡ c.texel_length.result * c.width.result = omega arith in
@@ -82,7 +89,7 @@ loop-y-preserved g c =
     (sym (get_or-set_same c.loop-y.versions (c.loop-y.y / n) v 0 fits)) c.draw_held-next.ensures.drawn in
     let before : (z : ℕ) → z < c.loop-y.y → z % n ≡ c.loop-y.y % n → P z (row_in n (c.texel_length.result * c.width.result) c.loop-y.bytes z) =
     λ z less same.
-    drawn_by_more c.args.shot.now.geometry.now c.args.shot.now.depth (slice_index versions (z / n)) c.args.shot.now.path.now.width
+    shown_by_more g.P.Filter.shown c.args.shot.now.geometry.now c.args.shot.now.depth (slice_index versions (z / n)) c.args.shot.now.path.now.width
     (IsNotedIn old) (IsNotedIn new) (shot_row c.args.shot.now.geometry.now c.args.shot.now.path.now c.args.shot.now.picture z)
     (row_in n (c.texel_length.result * c.width.result) c.loop-y.bytes z) c.draw_held-next.ensures.more.notes
     (subst (λ (u : ℕ). D u (IsNotedIn old) z (row_in n (c.texel_length.result * c.width.result) c.loop-y.bytes z))
@@ -120,18 +127,18 @@ loop-y-preserved g c =
           x z below (own_x ∙ sym c.loop-y.invariant.own) (own_z ∙ sym c.loop-y.invariant.own) low;
       counted = λ p inside.
           c.draw_held-next.ensures.counted p inside
-          ∙ ap (λ m. m + pixels_wanting c.args.shot.now.geometry.now
+          ∙ ap (λ m. m + g.P.Filter.wants c.args.shot.now.geometry.now
           (shot_row c.args.shot.now.geometry.now c.args.shot.now.path.now c.args.shot.now.picture c.loop-y.y) c.args.shot.now.path.now.width p)
           (c.loop-y.invariant.counted p (omega arith))
-          ∙ sym (ap (λ (rows : List ℕ). pixels_in_rows c.args.shot.now.geometry.now c.args.shot.now.path.now c.args.shot.now.picture rows p)
+          ∙ sym (ap (λ (rows : List ℕ). wants_in_rows g.P.Filter.wants c.args.shot.now.geometry.now c.args.shot.now.path.now c.args.shot.now.picture rows p)
           (own_rows-next c.args.sampler n c.loop-y.y some c.loop-y.invariant.own)
-          ∙ pixels_in_rows-push c.args.shot.now.geometry.now c.args.shot.now.path.now c.args.shot.now.picture c.loop-y.y p
+          ∙ wants-push g.P.Filter.wants c.args.shot.now.geometry.now c.args.shot.now.path.now c.args.shot.now.picture p c.loop-y.y
           (own_rows c.args.sampler n c.loop-y.y));
     }
 
 pub returns-clause-counted : goal.returns-clause-counted
 returns-clause-counted g c p inside =
     c.loop-y.invariant.counted p inside
-    ∙ ap (λ (rows : List ℕ). pixels_in_rows c.args.shot.now.geometry.now c.args.shot.now.path.now c.args.shot.now.picture rows p)
+    ∙ ap (λ (rows : List ℕ). wants_in_rows g.P.Filter.wants c.args.shot.now.geometry.now c.args.shot.now.path.now c.args.shot.now.picture rows p)
     (own_rows-same c.args.sampler c.args.samplers c.args.shot.now.path.now.height c.loop-y.y (omega (arith, c.height-height.ensures.value))
     (λ z below own. omega (arith, c.loop-y.invariant.last z below own, c.height-height.ensures.value)))

@@ -1,6 +1,7 @@
 use Rattle.std.proofs.Common.{◌≡◌, ℕ, ◌-◌, ◌*◌, ◌/◌, ◌%◌, ◌<◌, ◌≤◌, List, length}
 use Rattle.std.specs.Prelude.{slice_index}
-use Rattle.vt_draw.specs.Shots.{shot_row, AreDrawn, pixels_in_rows}
+use Rattle.vt_draw.specs.Shots.{shot_row, wants_in_rows}
+use Rattle.vt_filter.specs.Evidence.{AreShown}
 use Rattle.vt_grace.specs.Tokens.{IsPassOf}
 use Rattle.vt_lookup.specs.Notes.{IsNotedIn, HasHeldMore}
 use Rattle.vt_sampler.specs.Held.{WasHeld}
@@ -16,13 +17,13 @@ invariant-loop-y g l = record {
   own : l.y % l.samplers ≡ l.sampler;
   last : (z : ℕ) → z < l.y → z % l.samplers ≡ l.sampler → z < l.height;
   drawn : (z : ℕ) → z < l.y → z % l.samplers ≡ l.sampler
-      → AreDrawn l.shot.geometry.now l.shot.depth (slice_index l.versions (z / l.samplers)) (IsNotedIn l.pass.view)
+      → AreShown g.P.Filter.shown l.shot.geometry.now l.shot.depth (slice_index l.versions (z / l.samplers)) (IsNotedIn l.pass.view)
       (shot_row l.shot.geometry.now l.shot.path.now l.shot.picture z) l.shot.path.now.width (row_in l.samplers l.line l.bytes z);
   held : (z : ℕ) → z < l.y → z % l.samplers ≡ l.sampler → WasHeld l.fn.pass.view l.pass.view (slice_index l.versions (z / l.samplers));
   rising : (x z : ℕ) → z < l.y → x % l.samplers ≡ l.sampler → z % l.samplers ≡ l.sampler → x ≤ z
       → slice_index l.versions (x / l.samplers) ≤ slice_index l.versions (z / l.samplers);
   counted : (p : ℕ) → p < length l.counts
-      → slice_index l.counts p ≡ pixels_in_rows l.shot.geometry.now l.shot.path.now l.shot.picture (own_rows l.sampler l.samplers l.y) p;
+      → slice_index l.counts p ≡ wants_in_rows g.P.Filter.wants l.shot.geometry.now l.shot.path.now l.shot.picture (own_rows l.sampler l.samplers l.y) p;
 }
 
 abbrev pub decreases-loop-y : goal.decreases-loop-y

@@ -2,10 +2,11 @@ use Rattle.std.proofs.Common.{◌≡◌, ℕ, ◌+◌, ◌*◌, ◌≤◌, inl, 
 use Rattle.std.proofs.lemmas.Nat.{mul-le}
 use Rattle.std.proofs.lemmas.Bool.{cases_lt}
 use Rattle.vt_draw.specs.Shots.{shot_row, AreDrawn, pixels_wanting, pixels_in_rows}
+use Rattle.vt_draw.proofs.Counts.{pixels-most}
 use Rattle.vt_sampler.specs.Notes.{IsTrueOf}
 use Rattle.vt_sampler.specs.Samplers.{own_rows, own_count, row_in, row_length}
 use Rattle.vt_sampler.proofs.Quotients.{apart, quotient_after, rest_after, rest_small, quotient_small}
-use Rattle.vt_sampler.proofs.Sharing.{own_room, own_rows-first, own_rows-next, own_rows-same, own_pixels_most, pixels_in_rows-none, pixels_in_rows-push}
+use Rattle.vt_sampler.proofs.Sharing.{own_room, own_rows-first, own_rows-next, own_rows-same, own_most, wants-none, wants-push}
 use Rattle.vt_sampler.proofs.Drawing.{rows_after}
 use Rattle.vt_sampler.proofs.rows.draw_rows.Goals as goal
 
@@ -20,7 +21,7 @@ loop-y-init c =
           c.requires.none p inside
           ∙ sym (ap (λ (rows : List ℕ). pixels_in_rows c.args.shot.now.geometry.now c.args.shot.now.path.now c.args.shot.now.picture rows p)
           (own_rows-first c.args.sampler c.args.samplers c.requires.one_of)
-          ∙ pixels_in_rows-none c.args.shot.now.geometry.now c.args.shot.now.path.now c.args.shot.now.picture p);
+          ∙ wants-none pixels_wanting c.args.shot.now.geometry.now c.args.shot.now.path.now c.args.shot.now.picture p);
     }
 
 pub slice_bounds-draw_one_row-end : goal.slice_bounds-draw_one_row-end
@@ -33,7 +34,11 @@ slice_bounds-draw_one_row-end c =
 
 pub draw_one_row-requires-clause-room : goal.draw_one_row-requires-clause-room
 draw_one_row-requires-clause-room c p inside =
-    let most = own_pixels_most c.args.shot.now.geometry.now c.args.shot.now.path.now c.args.shot.now.picture p c.args.sampler c.args.samplers c.loop-y.y in
+    let s = c.args.shot.now.geometry.now in
+    let path = c.args.shot.now.path.now in
+    let picture = c.args.shot.now.picture in
+    let most = own_most pixels_wanting s path picture p path.width (λ z. pixels-most s (shot_row s path picture z) path.width p) c.args.sampler
+    c.args.samplers c.loop-y.y in
     let low : c.loop-y.y ≤ 2048 = omega (arith, c.height-height.ensures.high) in
     let wide : c.args.shot.now.path.now.width ≤ 2048 = omega (arith, c.width.ensures.value, c.width.ensures.high) in
     omega (arith, most, c.loop-y.invariant.counted p inside, mul-le c.loop-y.y c.args.shot.now.path.now.width 2048 2048 low wide)
@@ -73,7 +78,7 @@ loop-y-preserved c =
           (c.loop-y.invariant.counted p (omega arith))
           ∙ sym (ap (λ (rows : List ℕ). pixels_in_rows c.args.shot.now.geometry.now c.args.shot.now.path.now c.args.shot.now.picture rows p)
           (own_rows-next c.args.sampler c.args.samplers c.loop-y.y some c.loop-y.invariant.own)
-          ∙ pixels_in_rows-push c.args.shot.now.geometry.now c.args.shot.now.path.now c.args.shot.now.picture c.loop-y.y p
+          ∙ wants-push pixels_wanting c.args.shot.now.geometry.now c.args.shot.now.path.now c.args.shot.now.picture p c.loop-y.y
           (own_rows c.args.sampler c.args.samplers c.loop-y.y));
     }
 

@@ -4,10 +4,10 @@ use Rattle.vt_walk_laws.proofs.replays.replay_gives_the_walk.Goals as goal
 
 pub returns : goal.returns
 returns g c = record {
-  replayable = λ given b first last store h walk. run_replayable given b walk.run store h walk.is_run;
-  count = λ given b first last content store h walk. count_read given b walk.run content store h walk.is_run walk.whole;
-  due = λ given b prefix first last content store h walk.
-      due_read (IsDrawnBySome g.M.PassMachine.drawn) given b prefix walk.run walk.pictures content store h walk.is_run walk.whole walk.all walk.written;
+  replayable = λ under given b first last store h walk. run_replayable under given b walk.run store h walk.is_run;
+  count = λ under given b first last content store h walk. count_read under given b walk.run content store h walk.is_run walk.whole;
+  due = λ under given b prefix first last content store h walk.
+      due_read under (IsDrawnBySome g.M.PassMachine.drawn) given b prefix walk.run walk.pictures content store h walk.is_run walk.whole walk.all walk.written;
   files = named_stand;
-  again = left_again (IsDrawnBySome g.M.PassMachine.drawn);
+  again = λ under. left_again under (IsDrawnBySome g.M.PassMachine.drawn);
 }

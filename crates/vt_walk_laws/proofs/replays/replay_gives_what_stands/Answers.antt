@@ -3,4 +3,4 @@ use Rattle.vt_walk_laws.proofs.Walked.{standing_again}
 use Rattle.vt_walk_laws.proofs.replays.replay_gives_what_stands.Goals as goal
 
 pub returns : goal.returns
-returns g c = standing_again (IsDrawnBySome g.M.PassMachine.drawn)
+returns g c = λ under. standing_again under (IsDrawnBySome g.M.PassMachine.drawn)

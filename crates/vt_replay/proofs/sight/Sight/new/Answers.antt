@@ -6,6 +6,7 @@ invariant_of-result c = (
     lawful = c.requires.depth;
     all_entries = c.requires.entries;
     root = c.requires.root;
+    apart = c.requires.apart;
     size_is = c.requires.size;
     all_slots = c.requires.slots;
     all_bytes = c.requires.bytes;

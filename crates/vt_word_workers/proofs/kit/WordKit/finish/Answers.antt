@@ -20,7 +20,7 @@ tell-rows-requires-clause-samplers g c =
     subst (λ (x : KitView _). AreSamplersOf x.shape x.depth x.width x.height x.crew.samplers (refill (length f) f c.return_passes.new.tasks))
     (sym c.self.view_is)
     (subst (λ xs. AreSamplersOf k.shape k.depth k.width k.height k.crew.samplers xs) (sym back)
-    (samplers_stay g.F.File c.args.words.now c.args.queues.now k job c.args.loaders.elements f t b c.requires.1.worked))
+    (samplers_stay g.F.File g.P.Filter c.args.words.now c.args.queues.now k job c.args.loaders.elements f t b c.requires.1.worked))
 
 pub tell-rows-requires-clause-few : goal.tell-rows-requires-clause-few
 tell-rows-requires-clause-few g c = λ p low.
@@ -31,7 +31,7 @@ tell-rows-requires-clause-few g c = λ p low.
     let b = c.requires.0 in
     let back = tasks_back f c.slice_mut.result.now c.return_passes.new.tasks c.slice_mut.ensures.value c.return_passes.ensures.tasks in
     subst (λ xs. counted_together xs p < 2 ^ 32) (sym back)
-    (counts_low g.F.File c.args.words.now c.args.queues.now k job c.args.loaders.elements f t b c.requires.1.worked p
+    (counts_low g.F.File g.P.Filter c.args.words.now c.args.queues.now k job c.args.loaders.elements f t b c.requires.1.worked g.met.P.Filter.wants_few p
     (subst (λ (x : KitView _). p < length x.counts) c.self.view_is low))
 
 pub returns-clause-ran : goal.returns-clause-ran
@@ -41,13 +41,13 @@ returns-clause-ran g c = λ b given.
     let job = job_of c.args._shot.now c.args._batch.now.elements in
     let f = c.args.samplers.elements in
     let t : WordStreamer = record { streamer = c.args.streamer.now; answers = c.args.answers.now; report = c.args.report.now } in
-    let may = subst (λ (x : KitView _). MayFinish g.F.File words q x job c.args.loaders.elements f t b) (sym c.self.view_is) given in
+    let may = subst (λ (x : KitView _). MayFinish g.F.File g.P.Filter words q x job c.args.loaders.elements f t b) (sym c.self.view_is) given in
     let e = c.end_round-stores in
     let s = c.return_passes in
     let told = c.tell-rows in
     let report : PassReport = record { rows = told.result; events = c.replace-events.result; losses = c.replace-losses.result } in
-    subst (λ (x : KitView _). KitRan g.F.File words job report b.streamer.streamer (kit_before x b) s.new.streamer told.new.self) c.self.view_is
-    (ran g.F.File words q _ job c.args.loaders.elements f t b may _ _ e.result.elements e.ensures.asks e.ensures.answers e.ensures.asks_at_step
+    subst (λ (x : KitView _). KitRan g.F.File g.P.Filter words job report b.streamer.streamer (kit_before x b) s.new.streamer told.new.self) c.self.view_is
+    (ran g.F.File g.P.Filter g.met.P.Filter.is_under words q _ job c.args.loaders.elements f t b may _ _ e.result.elements e.ensures.asks e.ensures.answers e.ensures.asks_at_step
     e.ensures.answers_at_step e.ensures.stores c.slice_mut.result.now s.new.tasks c.slice_mut.ensures.value s.ensures.tasks s.new.streamer s.ensures.of
     s.ensures.returned e.new.self c.keep.new.self e.ensures.buffers c.keep.ensures.sizes told.new.self told.new.self.counts told.new.self.rows
     told.ensures.rest told.ensures.number told.ensures.sums report told.ensures.lines c.replace-events.ensures.value c.replace-losses.ensures.value)
@@ -60,11 +60,11 @@ returns-clause-idle g c =
     let f = c.args.samplers.elements in
     let t : WordStreamer = record { streamer = c.args.streamer.now; answers = c.args.answers.now; report = c.args.report.now } in
     let b = c.requires.0 in
-    let may = subst (λ (x : KitView _). MayFinish g.F.File words q x job c.args.loaders.elements f t b) (sym c.self.view_is) c.requires.1 in
+    let may = subst (λ (x : KitView _). MayFinish g.F.File g.P.Filter words q x job c.args.loaders.elements f t b) (sym c.self.view_is) c.requires.1 in
     let e = c.end_round-stores in
     let s = c.return_passes in
     let told = c.tell-rows in
-    goes_on g.F.File words q _ job c.args.loaders.elements f t b may _ _ e.result.elements e.ensures.asks e.ensures.answers e.ensures.asks_at_step
+    goes_on g.F.File g.P.Filter g.met.P.Filter.is_under words q _ job c.args.loaders.elements f t b may _ _ e.result.elements e.ensures.asks e.ensures.answers e.ensures.asks_at_step
     e.ensures.answers_at_step e.ensures.stores c.slice_mut.result.now s.new.tasks c.slice_mut.ensures.value s.ensures.tasks s.new.streamer s.ensures.of
     s.ensures.returned e.new.self c.keep.new.self e.ensures.buffers c.keep.ensures.sizes told.new.self told.new.self.counts told.new.self.rows
     told.ensures.rest told.ensures.number told.ensures.sums

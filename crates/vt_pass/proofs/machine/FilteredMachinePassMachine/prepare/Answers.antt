@@ -3,7 +3,7 @@ use Rattle.vt_word_workers.specs.Kits.{IsSameKit}
 use Rattle.vt_pass.specs.WordMachines.{WordView}
 use Rattle.vt_word_workers.proofs.Rooms.{always_ok, always_err}
 use Rattle.vt_pass.proofs.Idle.{machine_untouched, machine_spent}
-use Rattle.vt_pass.proofs.machine.WordMachinePassMachine.prepare.Goals as goal
+use Rattle.vt_pass.proofs.machine.FilteredMachinePassMachine.prepare.Goals as goal
 
 pub returns-clause-untouched : goal.returns-clause-untouched
 returns-clause-untouched g c =

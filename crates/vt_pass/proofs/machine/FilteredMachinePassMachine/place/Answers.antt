@@ -3,7 +3,7 @@ use Rattle.vt_streamer.specs.Views.{IsStreamerOf}
 use Rattle.vt_pass.specs.WordMachines.{WordView}
 use Rattle.vt_word_workers.specs.Kits.{IsIdleKit}
 use Rattle.vt_pass.proofs.Idle.{machine_placed}
-use Rattle.vt_pass.proofs.machine.WordMachinePassMachine.place.Goals as goal
+use Rattle.vt_pass.proofs.machine.FilteredMachinePassMachine.place.Goals as goal
 
 pub returns-clause-idle : goal.returns-clause-idle
 returns-clause-idle g c =

@@ -1,5 +1,5 @@
 use Rattle.vt_pass.proofs.Idle.{idle_made}
-use Rattle.vt_pass.proofs.machine.WordMachinePassMachine.make_from.Goals as goal
+use Rattle.vt_pass.proofs.machine.FilteredMachinePassMachine.make_from.Goals as goal
 
 pub returns-clause-idle : goal.returns-clause-idle
 returns-clause-idle g c =

@@ -4,7 +4,7 @@ use Rattle.vt_workers.specs.All.{AllReady}
 use Rattle.vt_word_workers.specs.WordTasks.{MayDraw}
 use Rattle.vt_pass.specs.WordMachines.{WordView}
 use Rattle.vt_pass.proofs.Idle.{muster_draws}
-use Rattle.vt_pass.proofs.machine.WordMachinePassMachine.muster.Goals as goal
+use Rattle.vt_pass.proofs.machine.FilteredMachinePassMachine.muster.Goals as goal
 
 pub returns-clause-samplers : goal.returns-clause-samplers
 returns-clause-samplers g c =

@@ -1,0 +1,4 @@
+pub mod Evidence
+pub mod FilterLaws
+pub mod NearestPixels
+pub mod NearestPlain
