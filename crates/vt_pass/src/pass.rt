@@ -19,12 +19,7 @@ use vt_word_workers::{LentShared, WordKit, WordStreamer};
 use vt_workers::work_together;
 
 // Draws the picture of a shot by a filter and streams the batch, whose requests were put, at the same time. It may wait.
-fn draw_and_stream<
-    Rt: Threads + Wait + Sync,
-    F: File + Send,
-    P: Filter + Sync,
-    G: Gate + Sync,
->(
+fn draw_and_stream<Rt: Threads + Wait + Sync, F: File + Send, P: Filter + Sync, G: Gate + Sync>(
     rt: &Rt,
     kit: &mut WordKit<F>,
     words: &Words,

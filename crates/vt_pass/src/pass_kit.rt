@@ -154,12 +154,7 @@ impl<F: File> PassKit<F> {
 ///
 /// The kit is prepared for this batch with these words and their streamer, and since then no pass was run and the words
 /// were not changed.
-pub fn run_pass_by<
-    Rt: Threads + Wait + Sync,
-    F: File + Send,
-    P: Filter + Sync,
-    G: Gate + Sync,
->(
+pub fn run_pass_by<Rt: Threads + Wait + Sync, F: File + Send, P: Filter + Sync, G: Gate + Sync>(
     rt: &Rt,
     kit: &mut PassKit<F>,
     words: &Words,

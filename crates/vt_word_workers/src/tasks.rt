@@ -18,7 +18,12 @@ use vt_streaming::stream_batch;
 use vt_workers::Task;
 
 // Lets a sampler draw its rows by a filter with its pass, which it has back afterwards.
-pub(crate) fn draw_own<P: Filter, G: Gate>(task: &mut WordSampler, shot: &Shot<'_>, words: &Words, gate: &G)
+pub(crate) fn draw_own<P: Filter, G: Gate>(
+    task: &mut WordSampler,
+    shot: &Shot<'_>,
+    words: &Words,
+    gate: &G,
+)
     requires { MayDraw words.now (scene_of shot.now.geometry.now shot.now.depth shot.now.path.now) shot.now.picture task.old }
     ensures { HasDrawn P.Filter words.now (scene_of shot.now.geometry.now shot.now.depth shot.now.path.now) shot.now.picture
         task.old task.new }

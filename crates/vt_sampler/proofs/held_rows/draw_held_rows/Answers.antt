@@ -10,7 +10,7 @@ use Rattle.vt_draw.specs.Shots.{shot_row, wants_in_rows}
 use Rattle.vt_grace.specs.declared.views.PassView.{PassView}
 use Rattle.vt_lookup.specs.Notes.{IsNotedIn}
 use Rattle.vt_sampler.specs.Held.{WasHeld}
-use Rattle.vt_sampler.specs.Samplers.{own_rows, own_count, row_in}
+use Rattle.vt_sampler.specs.Samplers.{own_rows, own_count, row_in, row_length}
 use Rattle.vt_sampler.proofs.Quotients.{apart, quotient_after, rest_after, rest_small, quotient_small}
 use Rattle.vt_sampler.proofs.Sharing.{own_fits, own_room, own_rows-first, own_rows-next, own_rows-same, own_most, wants-none, wants-push}
 use Rattle.vt_sampler.proofs.Drawing.{rows_after}
@@ -142,3 +142,13 @@ returns-clause-counted g c p inside =
     ∙ ap (λ (rows : List ℕ). wants_in_rows g.P.Filter.wants c.args.shot.now.geometry.now c.args.shot.now.path.now c.args.shot.now.picture rows p)
     (own_rows-same c.args.sampler c.args.samplers c.args.shot.now.path.now.height c.loop-y.y (omega (arith, c.height-height.ensures.value))
     (λ z below own. omega (arith, c.loop-y.invariant.last z below own, c.height-height.ensures.value)))
+
+pub returns-clause-drawn : goal.returns-clause-drawn
+returns-clause-drawn g c y inside own =
+    let s = c.args.shot.now.geometry.now in
+    let path = c.args.shot.now.path.now in
+    let depth = c.args.shot.now.depth in
+    let line : c.texel_length.result * c.width.result ≡ row_length depth path.width = λ i. c.texel_length.ensures.value i * c.width.ensures.value i in
+    let low : y < c.loop-y.y = omega (arith, inside, c.loop-y-test.false, c.height-height.ensures.value) in
+    subst (λ (n : ℕ). AreShown g.P.Filter.shown s depth (slice_index c.loop-y.versions (y / c.args.samplers)) (IsNotedIn c.loop-y.pass.view)
+    (shot_row s path c.args.shot.now.picture y) path.width (row_in c.args.samplers n c.loop-y.bytes y)) line (c.loop-y.invariant.drawn y low own)
