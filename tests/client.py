@@ -2,7 +2,7 @@
 """Draws the pictures of a walk from its store, its path and its journal alone: a client that was written from docs/FORMATS.md, and shares no code
 with the other programs here. It trusts its files.
 
-usage: client.py STORE PATH JOURNAL PREFIX     writes PREFIX0000.ppm and so on
+usage: client.py STORE PATH JOURNAL PREFIX [bilinear]     writes PREFIX0000.ppm and so on, by bilinear filtering where that word is given
 """
 import sys
 
@@ -38,11 +38,23 @@ class Store:
         return self.data[at : at + size]
 
     def shown(self, table, level, x, y):
-        """The texel of level 0 at (x, y) as the finest mapped page serves it that is no finer than the level."""
-        for k in range(level, len(self.levels)):
-            if self.index(k, (x >> k) // self.tile, (y >> k) // self.tile) in table:
-                return self.texel(k, x >> k, y >> k)
+        """The texel of a level at (x, y) as the finest mapped page serves it that is no finer than the level."""
+        for up in range(len(self.levels) - level):
+            if self.index(level + up, (x >> up) // self.tile, (y >> up) // self.tile) in table:
+                return self.texel(level + up, x >> up, y >> up)
         raise ValueError("the root is not mapped")
+
+    def blend(self, table, level, u, v):
+        """The samples at a place of a level, in 1/256 texel: those of the four texels about it, by how near it lies to each."""
+        sums, width, height = [32768] * 3, self.width, self.height
+        for _ in range(level):
+            width, height = (width + 1) // 2, (height + 1) // 2
+        for x, a in ((u // 256, 256 - u % 256), ((u // 256 + 1) % width, u % 256)):
+            for y, b in ((v // 256, 256 - v % 256), ((v // 256 + 1) % height, v % 256)):
+                texel = self.shown(table, level, x, y)
+                for c in range(3):
+                    sums[c] += a * b * int.from_bytes(texel[c * self.depth : (c + 1) * self.depth], "big")
+        return b"".join((total // 65536).to_bytes(self.depth, "big") for total in sums)
 
 
 class Path:
@@ -57,7 +69,7 @@ class Path:
             last = camera if word == "at" else self.cameras[-1]
             self.cameras += [[a + (b - a) * i // steps for a, b in zip(last, camera)] for i in range(1, steps + 1)]
 
-    def row(self, store, table, picture, y):
+    def row(self, store, table, picture, y, is_bilinear):
         """The samples of a picture's row under a page table."""
         u, v, h, c, s = self.cameras[picture]
         z, p, level = h * self.focal // (y + 1), h // (y + 1), 0
@@ -66,9 +78,9 @@ class Path:
         samples = b""
         for x in range(self.width):
             across = (2 * x + 1 - self.width) * p
-            column = (u + z * c // 16384 - across * s // 32768) // 256 % store.width
-            row = (v + z * s // 16384 + across * c // 32768) // 256 % store.height
-            samples += store.shown(table, level, column, row)
+            place = (u + z * c // 16384 - across * s // 32768) % (256 * store.width) >> level
+            line = (v + z * s // 16384 + across * c // 32768) % (256 * store.height) >> level
+            samples += store.blend(table, level, place, line) if is_bilinear else store.shown(table, level, place // 256, line // 256)
         return samples
 
 
@@ -94,12 +106,12 @@ def table_at(changes, version):
     return table
 
 
-def main(store_name, path_name, journal_name, prefix):
+def main(store_name, path_name, journal_name, prefix, filtering="nearest"):
     store, path = Store(store_name), Path(path_name)
     changes, passes = read_journal(store, journal_name)
     for picture, versions in passes.items():
         tables = {version: table_at(changes, version) for version in set(versions)}
-        rows = [path.row(store, tables[version], picture, y) for y, version in enumerate(versions)]
+        rows = [path.row(store, tables[version], picture, y, filtering == "bilinear") for y, version in enumerate(versions)]
         with open("%s%04d.ppm" % (prefix, picture), "wb") as file:
             file.write(b"P6\n%d %d\n%d\n" % (path.width, path.height, 256**store.depth - 1) + b"".join(rows))
     print("end pictures %d" % len(passes))

@@ -149,7 +149,7 @@ def refusal_of(store_name, path_name, settings):
     """The status and line of the first cause in path, store and settings, or None for the status, with the store and the path."""
     try:
         name, data = path_name, contents(path_name)
-        path = Path(data) if data is not None else None
+        path = Path(data, settings.filtering) if data is not None else None
         name, data = store_name, contents(store_name) if path else None
         store = Store(data) if data is not None else None
     except Flaw as flaw:

@@ -2,20 +2,20 @@
 """Draws plain pictures, writes and upgrades tile stores, makes textures, walks, replays journals and judges walks by the rules of
 docs/FORMATS.md, texel by texel and page by page, apart from the program.
 
-usage: reference.py TEXTURE PATH PREFIX TILE          writes PREFIX0000.ppm and so on
+usage: reference.py TEXTURE PATH PREFIX TILE [FILTER] writes PREFIX0000.ppm and so on
        reference.py tile TEXTURE STORE TILE           writes the store, and prints its line
        reference.py texels TEXTURE STORE              reads each texel of each level back from the store, by its place
        reference.py upgrade STORE NEW                 writes the store of two bytes a sample that one of one byte makes, and prints its line
        reference.py gen NUMBER WIDTH HEIGHT NAME      writes the texture of a number
        reference.py walk STORE PATH PREFIX JOURNAL [OPTIONS]       walks with one loader that reads when all rows are drawn; prints the log, ends as vtex
-       reference.py replay STORE PATH JOURNAL PREFIX  draws the pictures of a journal, and prints the last line
+       reference.py replay STORE PATH JOURNAL PREFIX [FILTER]      draws the pictures of a journal, and prints the last line
        reference.py judge STORE PATH PREFIX JOURNAL LOG [OPTIONS]  says what is wrong with what a walk left, if anything is
        reference.py trial NUMBER                      prints the line of a trial, by its pages alone
        reference.py rows                              works the rows of rows.py, and says which come out otherwise
        reference.py make WIDTH HEIGHT SEED NAME MOST  writes a P6 texture of pseudo-random samples up to MOST, which is 255 where it is left out
        reference.py noise WIDTH HEIGHT SEED NAME DEPTH  writes a P6 texture of random samples of one byte or two, for large ones; one where it is left out
 
-OPTIONS are those of `vtex walk` but --journal, of which --loaders changes nothing here, and --lost N. For `walk` the read of that number fails, among
+FILTER is nearest or bilinear, and nearest where it is left out. OPTIONS are those of `vtex walk` but --journal, of which --loaders changes nothing here, and --lost N. For `walk` the read of that number fails, among
 the reads of batches, counted from 0; for `judge` as many pages may have been lost. `judge` has besides --status N, with which the walk ended, and
 --error FILE, what it printed on the error output. A file that is outside its format is told with its flaw and status 4.
 """
@@ -25,7 +25,7 @@ import sys
 from journals import Journal, replay
 from judge import Doubt, Left, ending_of, flaws_of_walk, refusal_of
 from rows import wrong_rows
-from stores import Flaw, Path, Store, contents
+from stores import BILINEAR, NEAREST, Flaw, Path, Store, contents
 from textures import MOST_TILED_SIDE, chain_of, generated, made, noise, picture_of, read_image, sample_bytes, store_of, texel_of, upgraded
 from walks import Settings, Still, Walk, trial, walked
 
@@ -51,8 +51,8 @@ def end(status, line):
     sys.exit(status)
 
 
-def draw(texture, path_name, prefix, tile):
-    path, (depth, rows) = Path(contents(path_name)), read_image(contents(texture))
+def draw(texture, path_name, prefix, tile, filtering=NEAREST):
+    path, (depth, rows) = Path(contents(path_name), filtering), read_image(contents(texture))
     levels = chain_of(rows, int(tile))
     write_pictures(prefix, (picture_of(depth, levels, path, picture) for picture in range(len(path.cameras))))
 
@@ -101,9 +101,10 @@ def walk_words(words):
         parser.add_argument("--" + option, type=int, default=value)
     parser.add_argument("--settled", action="store_true")
     parser.add_argument("--live", action="store_false", dest="settled")
+    parser.add_argument("--filter", choices=[NEAREST, BILINEAR], default=NEAREST)
     parser.add_argument("--error")
     found = parser.parse_intermixed_args(words)
-    return found, Settings(found.frames, found.samplers, found.batch, found.pinned, found.settled)
+    return found, Settings(found.frames, found.samplers, found.batch, found.pinned, found.settled, found.filter)
 
 
 def walk(*words):
@@ -119,8 +120,8 @@ def walk(*words):
     end(*ending_of(run))
 
 
-def draw_journal(store_name, path_name, journal_name, prefix):
-    store, path = Store(contents(store_name)), Path(contents(path_name))
+def draw_journal(store_name, path_name, journal_name, prefix, filtering=NEAREST):
+    store, path = Store(contents(store_name)), Path(contents(path_name), filtering)
     pictures = replay(store, path, Journal(store.geometry, path.height, contents(journal_name), len(path.cameras)))
     write_pictures(prefix, pictures)
     say(b"end pictures %d\n" % len(pictures))

@@ -4,12 +4,14 @@ import tempfile
 
 from journals import Journal, replay
 from judge import Doubt, Left, flaws_of_walk
-from stores import Flaw, Geometry, Path, Store
+from stores import BILINEAR, Flaw, Geometry, Path, Store, plain_picture
+from textures import chain_of, picture_of
 from walks import Settings, Shuffled, Still, Walk, trial, walked
 
 FIRST = b"size 2 1\nfocal 1\nat 0 0 256 16384 0\n"
 FOUR = b"size 2 1\nfocal 1\n" + b"at 0 0 256 16384 0\n" * 2 + b"at 512 0 256 16384 0\n" * 2
 FOUR_TEXELS = [0, 1, 4, 5, 2, 3, 6, 7, 8, 9, 12, 13, 10, 11, 14, 15, 3, 5, 11, 13]
+WRAPPED = b"size 1 1\nfocal 1\nat 640 -64 256 16384 0\n"
 LOST = b"""map 1 1 0 0 0
 pass 1 picture 0 start 1
 row 0 0 1
@@ -55,6 +57,11 @@ row 0 0 5
 
 def grey(samples):
     return b"P6\n2 1\n255\n" + b"".join(bytes([sample] * 3) for sample in samples)
+
+
+def pixel(sample):
+    """A picture of one pixel."""
+    return b"P6\n1 1\n255\n" + bytes([sample] * 3)
 
 
 def filled(text, a, b):
@@ -106,7 +113,7 @@ class Rows:
 
     def walk(self, row, store_bytes, path_text, settings, journal, log, pictures, lost=()):
         """A walk with one loader: its journal, log and pictures are these, the judge finds nothing, and each other byte is found wrong."""
-        store, path = Store(store_bytes), Path(path_text)
+        store, path = Store(store_bytes), Path(path_text, settings.filtering)
         text, run = walked(Walk(store.geometry, path, settings), Still(), lost)
         self.is_true(journal is None or text == journal, row + ": journal")
         self.is_true(run.log + run.end_line() == log, row + ": log")
@@ -148,6 +155,24 @@ def starved_walk(rows):
     rows.walk("starved live walk", FOUR_STORE, FIRST, Settings(frames=1), None, log, [grey([0x0B, 0x03])])
     line = b"vtex: 4 frames, pinned pages need 5\n"
     rows.refusal("too few frames", FOUR_STORE, FIRST, Settings(frames=4, pinned=2), 5, line, None, b"", [])
+
+
+def blends(rows):
+    """Two pictures of one pixel, whose place lies between four texels; about the second the texture begins anew both ways."""
+    texture = [[sample for x in range(4) for sample in [4 * y + x] * 3] for y in range(4)]
+    between = b"size 1 1\nfocal 1\nat 128 64 256 16384 0\n"
+    for row, text, sample in (("a blend", between, 3), ("a blend that wraps", WRAPPED, 5)):
+        path = Path(text, BILINEAR)
+        plain = [picture_of(1, chain_of(texture, 2), path, 0), plain_picture(Store(FOUR_STORE), path, 0)]
+        rows.is_true(plain == [pixel(sample)] * 2, row)
+    log = b"picture 0 passes 1 wanted 4 loaded 0 lost 0 evicted 0\nend pictures 1 reads 1\n"
+    rows.walk("starved blends", FOUR_STORE, WRAPPED, Settings(frames=1, filtering=BILINEAR), None, log, [pixel(6)])
+    log = b"picture 0 passes 3 wanted 4 loaded 4 lost 0 evicted 0\nend pictures 1 reads 5\n"
+    for samplers in (1, 2, 7):
+        settings = Settings(frames=5, samplers=samplers, settled=True, filtering=BILINEAR)
+        rows.walk("settled blends", FOUR_STORE, WRAPPED, settings, None, log, [pixel(5)])
+    settings, line = Settings(frames=4, settled=True, filtering=BILINEAR), b"vtex: picture 0 wants 4 pages, room for 3\n"
+    rows.refusal("blends that do not fit", FOUR_STORE, WRAPPED, settings, 5, line, HEAD + ONE_PASS + b"row 0 0 1\n", b"", [])
 
 
 def lost_tile(rows):
@@ -345,7 +370,7 @@ def any_order(rows):
         rows.is_true(status == 5 or not said, "any order %d, cut: %s" % (seed, said))
 
 
-WORKED = [single_texel, starved_walk, lost_tile, other_lines, no_tile_lost, one_settled, one_batch, coarse_to_fine, failing_calls, replays, foreign_journals]
+WORKED = [single_texel, starved_walk, blends, lost_tile, other_lines, no_tile_lost, one_settled, one_batch, coarse_to_fine, failing_calls, replays, foreign_journals]
 WORKED += [failing_creations, held_version, large_walk, any_order]
 
 

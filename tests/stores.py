@@ -97,12 +97,15 @@ class Store:
         return b"store %d %d tile %d levels %d pages %d bytes %d\n" % (g.width, g.height, g.tile, len(g.levels), g.pages, len(self.data))
 
 
-class Path:
-    """The sides of the pictures, the focal number and a camera for each picture."""
+NEAREST, BILINEAR = "nearest", "bilinear"
 
-    def __init__(self, text):
+
+class Path:
+    """The sides of the pictures, the focal number and a camera for each picture; and by which filter the pictures are drawn."""
+
+    def __init__(self, text, filtering=NEAREST):
         *lines, rest = text.split(b"\n")
-        self.cameras = []
+        self.cameras, self.filtering = [], filtering
         for number, line in enumerate(lines, 1):
             self.take(number, line.split(b" "))
         if rest or len(lines) < 2:
@@ -127,23 +130,47 @@ class Path:
         first = self.cameras[-1] if self.cameras else camera
         self.cameras += [[a + (b - a) * step // steps for a, b in zip(first, camera)] for step in range(1, steps + 1)]
 
-    def row(self, geometry, picture, y):
-        """The row's level, and the columns and rows of level 0 that its pixels show."""
+    def places(self, geometry, picture, y):
+        """The row's level, and where its pixels lie across and down on level 0, in 1/256 texel."""
         u, v, h, c, s = self.cameras[picture]
         z, p = h * self.focal // (y + 1), h // (y + 1)
         level = max([k for k in range(len(geometry.levels)) if 256 * 2**k <= p] or [0])
         u, v = u + z * c // 16384, v + z * s // 16384
         across = [(2 * x + 1 - self.width) * p for x in range(self.width)]
-        columns = [(u - a * s // 32768) // 256 % geometry.width for a in across]
-        return level, columns, [(v + a * c // 32768) // 256 % geometry.height for a in across]
+        columns = [(u - a * s // 32768) % (256 * geometry.width) for a in across]
+        return level, columns, [(v + a * c // 32768) % (256 * geometry.height) for a in across]
+
+    def row(self, geometry, picture, y):
+        """The row's level, and the columns and rows of level 0 that its pixels show."""
+        level, across, down = self.places(geometry, picture, y)
+        return level, [place // 256 for place in across], [place // 256 for place in down]
+
+    def corners(self, geometry, picture, y):
+        """The row's level, and of each of its pixels the four texels of that level about its place, each as its weight, column and row."""
+        level, across, down = self.places(geometry, picture, y)
+        width, height = geometry.levels[level][:2]
+        pixels = []
+        for place, line in zip(across, down):
+            (column, e), (row, f) = divmod(place >> level, 256), divmod(line >> level, 256)
+            columns, rows = ((256 - e, column), (e, (column + 1) % width)), ((256 - f, row), (f, (row + 1) % height))
+            pixels.append([(b * a, x, y) for b, y in rows for a, x in columns])
+        return level, pixels
+
+    def texels(self, geometry, picture, y):
+        """The row's level, and the columns and rows of that level of the texels that its pixels want."""
+        if self.filtering == BILINEAR:
+            level, pixels = self.corners(geometry, picture, y)
+            return level, [(column, row) for pixel in pixels for _, column, row in pixel]
+        level, columns, rows = self.row(geometry, picture, y)
+        return level, [(column >> level, row >> level) for column, row in zip(columns, rows)]
 
     def wants(self, geometry, picture):
         """The wanted list of a picture."""
         pixels = Counter()
         for y in range(self.height):
-            level, columns, rows = self.row(geometry, picture, y)
-            side, across, first = geometry.tile << level, geometry.levels[level][2], geometry.levels[level][4]
-            pixels.update([first + row // side * across + column // side for column, row in zip(columns, rows)])
+            level, texels = self.texels(geometry, picture, y)
+            across, first = geometry.levels[level][2], geometry.levels[level][4]
+            pixels.update([first + row // geometry.tile * across + column // geometry.tile for column, row in texels])
         return sorted(pixels, key=lambda page: (-geometry.name_of(page)[0], -pixels[page], page))
 
 
@@ -175,8 +202,32 @@ def row_shown(geometry, path, picture, y, table):
         yield *served[page], column, row
 
 
+def texel_shown(store, level, column, row, table):
+    """The samples of a level's texel as the finest mapped page serves it, or of its own page where the table is None."""
+    page = store.geometry.index_of(level, column // store.geometry.tile, row // store.geometry.tile)
+    shown = page if table is None else store.geometry.look_up(table, page)
+    up, tile, depth = store.geometry.name_of(shown)[0] - level, store.geometry.tile, store.depth
+    at = 16 + store.tile_bytes * shown + 3 * depth * ((row >> up) % tile * tile + (column >> up) % tile)
+    return [int.from_bytes(store.data[place : place + depth], "big") for place in range(at, at + 3 * depth, depth)]
+
+
+def blended(depth, weights, texels):
+    """The bytes of a blend, of four weights and the samples of four texels."""
+    sums = [sum(weight * sample for weight, sample in zip(weights, channel)) for channel in zip(*texels)]
+    return b"".join(((total + 32768) // 65536).to_bytes(depth, "big") for total in sums)
+
+
+def row_blends(store, path, picture, y, table):
+    """The samples of a row by blends, under a page table, or of the plain picture where the table is None."""
+    level, pixels = path.corners(store.geometry, picture, y)
+    rows = [[texel_shown(store, level, column, row, table) for _, column, row in pixel] for pixel in pixels]
+    return b"".join(blended(store.depth, [weight for weight, _, _ in pixel], texels) for pixel, texels in zip(pixels, rows))
+
+
 def row_samples(store, path, picture, y, table):
     """The samples of a row under a page table, or of the plain picture where the table is None."""
+    if path.filtering == BILINEAR:
+        return row_blends(store, path, picture, y, table)
     data, out, tile, texel = store.data, bytearray(), store.geometry.tile, 3 * store.depth
     for page, level, column, row in row_shown(store.geometry, path, picture, y, table):
         at = 16 + store.tile_bytes * page + texel * ((row >> level) % tile * tile + (column >> level) % tile)

@@ -4,7 +4,7 @@ A texture is its depth and its levels: how many bytes a sample has, and for each
 """
 import random
 
-from stores import Flaw, Geometry
+from stores import BILINEAR, Flaw, Geometry
 
 MOST_HEADER, MOST_READ_SIDE, MOST_TILED_SIDE, MOST_PAGES = 65536, 8192, 16384, 262144
 WHITE = b" \t\n\r"
@@ -96,6 +96,17 @@ def chain_of(texture, tile):
     return levels
 
 
+def blend_of(depth, level, u, v):
+    """The bytes of the blend about a place of a level, in 1/256 texel."""
+    columns, rows, out = len(level[0]) // 3, len(level), []
+    (x, e), (y, f) = divmod(u, 256), divmod(v, 256)
+    top, bottom, left, right = level[y], level[(y + 1) % rows], 3 * x, 3 * ((x + 1) % columns)
+    for c in range(3):
+        above, below = top[left + c] * (256 - e) + top[right + c] * e, bottom[left + c] * (256 - e) + bottom[right + c] * e
+        out.append((above * (256 - f) + below * f + 32768) // 65536)
+    return sample_bytes(depth, out)
+
+
 def picture_of(depth, levels, path, picture):
     """The plain picture of a chain, by the path's own rows and not by pages."""
     (u, v, h, c, s), (width, height) = path.cameras[picture], (path.width, path.height)
@@ -106,10 +117,13 @@ def picture_of(depth, levels, path, picture):
         level = max([k for k in range(len(levels)) if 256 * 2**k <= p] or [0])
         for x in range(width):
             across = (2 * x + 1 - width) * p
-            column = (u + z * c // 16384 - across * s // 32768) // 256 % columns
-            row = (v + z * s // 16384 + across * c // 32768) // 256 % rows
-            at = 3 * (column >> level)
-            out += sample_bytes(depth, levels[level][row >> level][at : at + 3])
+            place = (u + z * c // 16384 - across * s // 32768) % (256 * columns)
+            line = (v + z * s // 16384 + across * c // 32768) % (256 * rows)
+            if path.filtering == BILINEAR:
+                out += blend_of(depth, levels[level], place >> level, line >> level)
+                continue
+            at = 3 * (place // 256 >> level)
+            out += sample_bytes(depth, levels[level][line // 256 >> level][at : at + 3])
     return bytes(out)
 
 

@@ -1,14 +1,15 @@
 """Walks by lists of pages: the wanted list, stamps, plan and passes, journal and log, by the rules of docs/FORMATS.md."""
 import random
 
-from stores import Geometry, Path
+from stores import NEAREST, Geometry, Path
 
 MOST_FRAME_TEXELS = 8388608
 
 
 class Settings:
-    def __init__(self, frames=64, samplers=4, batch=64, pinned=1, settled=False):
+    def __init__(self, frames=64, samplers=4, batch=64, pinned=1, settled=False, filtering=NEAREST):
         self.frames, self.samplers, self.batch, self.pinned, self.settled = frames, samplers, batch, pinned, settled
+        self.filtering = filtering
 
 
 class Entry:

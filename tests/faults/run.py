@@ -19,8 +19,9 @@ sys.path.insert(0, os.path.join(top, "tests"))
 
 from failing import KINDS, Failing, doubt_of, doubt_of_walk, flaws_of_reads
 from judge import flaws_of_due, flaws_of_walk
-from rows import EIGHT_STORE, FIRST, FOUR, FOUR_STORE, LOST, filled, grey
+from rows import EIGHT_STORE, FIRST, FOUR, FOUR_STORE, LOST, WRAPPED, filled, grey, pixel
 from stores import contents
+from stores import BILINEAR
 from walks import Settings
 
 TEXELS = FOUR_STORE[16::3]
@@ -29,6 +30,7 @@ SCALED_STORE = FOUR_STORE[:16] + b"".join(bytes([n] * 3) for n in SCALED)
 WIDE = b"VTS2" + FOUR_STORE[4:16] + b"".join(bytes([n] * 6) for n in TEXELS)
 TOLD = b"store 4 4 tile 2 levels 2 pages 5 bytes 76\n"
 MADE = b"P6\n2 2\n255\n\x01\x03\x07\x02\x03\x07\x01\x04\x07\x02\x04\x08"
+BLEND, COARSE_BLEND = pixel(5), pixel(6)
 INPUTS = {
     "g4.ppm": b"P6\n4 4\n255\n" + b"".join(bytes([n] * 3) for n in range(16)),
     "g15.ppm": b"P6\n4 4\n15\n" + b"".join(bytes([n] * 3) for n in range(16)),
@@ -38,6 +40,8 @@ INPUTS = {
     "e.vts": EIGHT_STORE,
     "wide.vts": WIDE,
     "j.txt": filled(LOST, 2, 4),
+    "b.path": WRAPPED,
+    "b.txt": b"map 1 1 0 0 0\npass 1 picture 0 start 1\nrow 0 0 1\n",
 }
 
 
@@ -86,8 +90,11 @@ JOBS = [
     WalkJob("s.vts", "a.path", "--frames 2 --samplers 1 --loaders 1 --batch 1 --settled", Settings(2, 1, 1, 1, True)),
     WalkJob("s.vts", "four.path", "--frames 4 --samplers 2 --loaders 3 --batch 2", Settings(4, 2, 2)),
     WalkJob("e.vts", "a.path", "--frames 5 --samplers 7 --loaders 2 --settled", Settings(5, 7, 64, 1, True)),
+    WalkJob("s.vts", "a.path", "--frames 5 --samplers 2 --loaders 2 --settled --filter bilinear", Settings(5, 2, 64, 1, True, BILINEAR)),
     WalkJob("wide.vts", "a.path", "--frames 3 --samplers 2 --loaders 1 --settled", Settings(3, 2, 64, 1, True)),
     Job(["replay", "s.vts", "four.path", "j.txt", "f"], PICTURES, b"end pictures 4\n"),
+    Job(["plain", "g4.ppm", "b.path", "f", "--tile", "2", "--filter", "bilinear"], [("f0000.ppm", BLEND)], b"end pictures 1\n"),
+    Job(["replay", "s.vts", "b.path", "b.txt", "f", "--filter", "bilinear"], [("f0000.ppm", COARSE_BLEND)], b"end pictures 1\n"),
 ]
 
 

@@ -4,7 +4,7 @@ import re
 
 from judge import FAULT, LINES, flaws_of_due, flaws_of_walk
 from journals import Journal, replay
-from stores import Flaw, Geometry, Path, Store, contents
+from stores import BILINEAR, NEAREST, Flaw, Geometry, Path, Store, contents
 from textures import MOST_TILED_SIDE, chain_of, generated, picture_of, read_image, sample_bytes, store_of, upgraded
 from walks import Settings, Shuffled, Walk, trial, walked
 
@@ -20,6 +20,9 @@ class Inputs:
 
     def is_one_in(self, n):
         return self.random.randrange(n) == 0
+
+    def filtering(self):
+        return self.random.choice([NEAREST, NEAREST, BILINEAR])
 
     def side(self):
         return self.random.choice([1, 2, 3, self.random.randint(1, 40), self.random.randint(1, 40), self.random.randint(1, 150)])
@@ -83,7 +86,7 @@ class Inputs:
     def settings(self, store, path):
         """Mostly as many frames as the pictures need, or a few more or less, and small numbers of the others; else any numbers."""
         small = [self.random.choice([1, 2, 3, 7, self.random.randint(1, most)]) for most in (64, 4096, 16)]
-        settings = Settings(store.geometry.pages, *small, settled=self.is_one_in(2))
+        settings = Settings(store.geometry.pages, *small, settled=self.is_one_in(2), filtering=path.filtering)
         if self.is_one_in(4):
             settings.frames = self.random.randint(1, 65535)
             return settings
@@ -100,6 +103,14 @@ class Inputs:
         settings = self.settings(store, path)
         settings.frames = max(settings.frames, len(store.geometry.pinned(settings.pinned)))
         return walked(Walk(store.geometry, path, settings), Shuffled(self.random.random()), lost)[0]
+
+
+def filter_words(filtering):
+    return [] if filtering == NEAREST else ["--filter", filtering]
+
+
+def kind_of(filtering):
+    return "" if filtering == NEAREST else " by blends"
 
 
 class Case:
@@ -122,8 +133,8 @@ class WalkCase(Case):
         words = ["walk", "s.vts", "p.path", "f", "--journal", "j.txt", "--loaders", str(loaders)]
         for option in ("frames", "samplers", "batch", "pinned"):
             words += ["--" + option, str(getattr(settings, option))]
-        kind = "settled walk" if settings.settled else "live walk"
-        super().__init__(kind, words + ["--settled"] * settings.settled, inputs, None, r"j\.txt|f[0-9]{4}\.ppm")
+        kind = ("settled walk" if settings.settled else "live walk") + kind_of(settings.filtering)
+        super().__init__(kind, words + filter_words(settings.filtering) + ["--settled"] * settings.settled, inputs, None, r"j\.txt|f[0-9]{4}\.ppm")
         self.settings = settings
 
     def flaws(self, left, doubt):
@@ -152,8 +163,8 @@ def texture_to_tile(data, tile):
     return image
 
 
-def due_of_plain(tile):
-    values, refusal = first_cause(("p.path", lambda data: Path(data)), ("t.ppm", lambda data, path: read_image(data)))
+def due_of_plain(tile, filtering):
+    values, refusal = first_cause(("p.path", lambda data: Path(data, filtering)), ("t.ppm", lambda data, path: read_image(data)))
     if values is None:
         return refusal, [], b""
     path, (depth, rows) = values
@@ -181,8 +192,8 @@ def due_of_upgrade():
     return (refusal, [("w.vts", values[0])], Store(values[0]).line()) if values else (refusal, [], b"")
 
 
-def due_of_replay():
-    path_read, store_read = ("p.path", lambda data: Path(data)), ("s.vts", lambda data, path: Store(data))
+def due_of_replay(filtering):
+    path_read, store_read = ("p.path", lambda data: Path(data, filtering)), ("s.vts", lambda data, path: Store(data))
     journal_read = ("j.txt", lambda data, path, store: Journal(store.geometry, path.height, data, len(path.cameras)))
     values, refusal = first_cause(path_read, store_read, journal_read)
     if values is None:
@@ -195,8 +206,9 @@ def due_of_replay():
 def plain_case(make):
     tile = make.random.choice(TILES)
     inputs = {"t.ppm": make.maybe_damaged(make.texture()), "p.path": make.maybe_damaged(make.path())}
-    words = ["plain", "t.ppm", "p.path", "f", "--tile", str(tile)]
-    return Case("plain", words, inputs, lambda: due_of_plain(tile), r"f[0-9]{4}\.ppm")
+    filtering = make.filtering()
+    words = ["plain", "t.ppm", "p.path", "f", "--tile", str(tile)] + filter_words(filtering)
+    return Case("plain" + kind_of(filtering), words, inputs, lambda: due_of_plain(tile, filtering), r"f[0-9]{4}\.ppm")
 
 
 def tile_case(make):
@@ -221,7 +233,7 @@ def gen_case(make):
 
 def walk_case(make):
     store, path = make.store(), make.path() if make.is_one_in(3) else make.flight()
-    settings = make.settings(Store(store), Path(path))
+    settings = make.settings(Store(store), Path(path, make.filtering()))
     inputs = {"s.vts": make.maybe_damaged(store), "p.path": make.maybe_damaged(path)} if make.is_one_in(3) else {"s.vts": store, "p.path": path}
     return WalkCase(inputs, settings, make.random.randint(1, 16))
 
@@ -231,7 +243,9 @@ def replay_case(make):
     inputs = {"s.vts": store, "p.path": path, "j.txt": make.maybe_damaged(make.journal(store, path))}
     if make.is_one_in(8):
         inputs["p.path"] = make.path()
-    return Case("replay", ["replay", "s.vts", "p.path", "j.txt", "f"], inputs, due_of_replay, r"f[0-9]{4}\.ppm")
+    filtering = make.filtering()
+    words = ["replay", "s.vts", "p.path", "j.txt", "f"] + filter_words(filtering)
+    return Case("replay" + kind_of(filtering), words, inputs, lambda: due_of_replay(filtering), r"f[0-9]{4}\.ppm")
 
 
 def trial_case(make):

@@ -7,7 +7,7 @@ use Rattle.std.proofs.lemmas.Int.{ints, int_rem_euclid_is, unsigned_abs-mul}
 use Rattle.std.proofs.lemmas.Nat.{mul-le}
 use Rattle.vt_camera.specs.declared.rows.Axis.{Axis}
 use Rattle.vt_camera.specs.declared.paths.Camera.{Camera}
-use Rattle.vt_camera.specs.Rows.{floor_div, ring_place, off_middle, distance, span, ground_u, ground_v, camera_place}
+use Rattle.vt_camera.specs.Rows.{floor_div, ring_place, off_middle, distance, span, ground_u, ground_v, camera_place, camera_spot}
 use Rattle.vt_camera.specs.RowParts.{whole_turns, middle_of, IsAxis}
 
 pub ring_place_below : (z : ℤ) (n : ℕ) → 1 ≤ n → ring_place z n < n
@@ -119,6 +119,36 @@ row_shown width focal camera x y columns rows middle away place v some e f g pos
       arith,
       ints,
     ))
+
+-- whole turns more lead to the same place on the ring
+same_spot : (z : ℤ) (k n m : ℕ) → 1 ≤ n → z +ℤ pos (k * n) ≡ pos m → m % n ≡ ring_place z n
+same_spot z k n m some e = sym (ap unsigned_abs (int_rem_euclid_is z (pos n) n k m some refl e))
+
+-- the place on the ring of the whole places of the code's sum for the column
+pub column_spot : (width focal : ℕ) (camera : Camera) (x y columns rows : ℕ) (middle away place : ℤ) (u : ℕ) → 1 ≤ columns
+    → middle ≡ middle_of camera.u (distance focal camera y) camera.c columns *ℤ pos 32768 +ℤ pos 32767
+    → away ≡ off_middle width x *ℤ (pos (span camera y) *ℤ camera.s)
+    → place ≡ middle -ℤ away → pos 0 ≤ℤ place → pos u ≡ floor_div place 32768
+    → u % (256 * columns) ≡ (camera_spot width focal camera x y columns rows).0
+unfolding camera_spot ground_u
+column_spot width focal camera x y columns rows middle away place u some e f g positive whole =
+    same_spot _ (1073741824 / columns + 1) (256 * columns) u (omega arith)
+    (minus_turns camera.u (floor_div (pos (distance focal camera y) *ℤ camera.c) 16384) (floor_div away 32768) _ (pos (whole_turns columns))
+    (middle_of camera.u (distance focal camera y) camera.c columns) (pos u) refl (ap (λ (z : ℤ). floor_div z 32768) f)
+    (whole ∙ before_middle (middle_of camera.u (distance focal camera y) camera.c columns) away place positive (g ∙ ap (λ (z : ℤ). z -ℤ away) e)))
+
+-- and of the sum for the row
+pub row_spot_is : (width focal : ℕ) (camera : Camera) (x y columns rows : ℕ) (middle away place : ℤ) (v : ℕ) → 1 ≤ rows
+    → middle ≡ middle_of camera.v (distance focal camera y) camera.s rows *ℤ pos 32768
+    → away ≡ off_middle width x *ℤ (pos (span camera y) *ℤ camera.c)
+    → place ≡ middle +ℤ away → pos 0 ≤ℤ place → pos v ≡ floor_div place 32768
+    → v % (256 * rows) ≡ (camera_spot width focal camera x y columns rows).1
+unfolding camera_spot ground_v
+row_spot_is width focal camera x y columns rows middle away place v some e f g positive whole =
+    same_spot _ (1073741824 / rows + 1) (256 * rows) v (omega arith)
+    (plus_turns camera.v (floor_div (pos (distance focal camera y) *ℤ camera.s) 16384) (floor_div away 32768) _ (pos (whole_turns rows))
+    (middle_of camera.v (distance focal camera y) camera.s rows) (pos v) refl (ap (λ (z : ℤ). floor_div z 32768) f)
+    (whole ∙ beyond_middle (middle_of camera.v (distance focal camera y) camera.s rows) away place positive (g ∙ ap (λ (z : ℤ). z +ℤ away) e)))
 
 -- an axis is one of equal numbers
 pub same_axis : (side level : ℕ) (middle middle' across across' : ℤ) (axis : Axis) → middle ≡ middle'

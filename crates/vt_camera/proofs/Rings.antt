@@ -62,6 +62,37 @@ ring_texel place side some few near =
     ∙ whole_texels place side (excess side) (part_of side) (place / d) (place % d) some few turn.1 turn.0 near split
     ∙ sym (texel_in_turn place side (place / d) (place % d) split part)
 
+-- the share of a turn that parts are, in 1/256 texel, is what the place is on the ring
+whole_spots : (place side e m q r : ℕ) → side ≤ 16384 → e < 256 * side
+    → 256 * side * m ≡ 18446744073709551616 + e → place < 549755813888 → place ≡ 256 * side * q + r
+    → (q * e + r * m) * (256 * side) / 18446744073709551616 ≡ r
+whole_spots place side e m q r few small turn near split =
+    let turns : (q * e + r * m) * (256 * side) ≡ r * 18446744073709551616 + e * place = omega (arith, ap (λ n. r * n) turn, ap (λ n. e * n) split) in
+    let over : e * place ≤ 4194304 * 549755813888 = mul-le e place 4194304 549755813888 (omega arith) (omega arith) in
+    ap (λ n. n / 18446744073709551616) turns ∙ div-mul-add r 18446744073709551616 (e * place) (omega arith)
+
+ring_spot : (place side : ℕ) → 1 ≤ side → side ≤ 16384 → place < 549755813888 → on_ring place (part_of side) (256 * side) ≡ place % (256 * side)
+ring_spot place side some few near =
+    let d = 256 * side in
+    let split : place ≡ d * (place / d) + place % d = sym (div-add-mod place d) in
+    let part : place % d < d = omega arith in
+    let turn = turn_of_parts side some in
+    ap (λ n. n * d / 2 ^ 64) (low_parts place side (excess side) (part_of side) (place / d) (place % d) turn.1 turn.0 few near split part)
+    ∙ whole_spots place side (excess side) (part_of side) (place / d) (place % d) few turn.1 turn.0 near split
+
+-- the same, for the numbers that a row keeps, and 256 pieces for each texel of the side
+pub kept_spot : (place side part pieces share : ℕ) → 1 ≤ side → side ≤ 16384 → place < 549755813888
+    → part ≡ part_of side → pieces ≡ side → share ≡ on_ring place part (256 * pieces) → share ≡ place % (256 * side)
+kept_spot place side part pieces share some few near p s e =
+    e ∙ ap (λ n. on_ring place n (256 * pieces)) p ∙ ap (λ n. on_ring place (part_of side) (256 * n)) s ∙ ring_spot place side some few near
+
+pub kept_spot_within : (place side part pieces share : ℕ) → 1 ≤ side → side ≤ 16384 → place < 549755813888
+    → part ≡ part_of side → pieces ≡ side → share ≡ on_ring place part (256 * pieces) → share < 256 * side
+kept_spot_within place side part pieces share some few near p s e =
+    let is = kept_spot place side part pieces share some few near p s e in
+    let rest : place % (256 * side) < 256 * side = omega arith in
+    omega (arith, is, rest)
+
 -- the same, for the numbers that a row keeps, and as many pieces as the side has texels
 pub kept_texel : (place side part pieces share : ℕ) → 1 ≤ side → side ≤ 16384 → place < 549755813888
     → part ≡ part_of side → pieces ≡ side → share ≡ on_ring place part pieces → share ≡ place / 256 % side

@@ -66,6 +66,13 @@ camera_place width focal camera x y columns rows = (
   ring_place (floor_div (ground_v width focal camera x y) 256) rows,
 )
 
+-- where pixel (x, y) lies on a texture that repeats, in 1/256 texel from its first column and its first row
+unfoldable pub camera_spot : ℕ → ℕ → Camera → ℕ → ℕ → ℕ → ℕ → ℕ × ℕ
+camera_spot width focal camera x y columns rows = (
+  ring_place (ground_u width focal camera x y) (256 * columns),
+  ring_place (ground_v width focal camera x y) (256 * rows),
+)
+
 -- a row of a picture: the picture's width, the focal number, the camera, the row's number and the texture
 pub record RowView : Type 0 where
   pub width : ℕ
@@ -85,6 +92,10 @@ row_level row = camera_level row.camera row.y row.surface.levels
 -- the texel that pixel x of a row shows
 abbrev pub row_place : RowView → ℕ → ℕ × ℕ
 row_place row x = camera_place row.width row.focal row.camera x row.y row.surface.width row.surface.height
+
+-- where pixel x of a row lies on the texture, in 1/256 texel
+abbrev pub row_spot : RowView → ℕ → ℕ × ℕ
+row_spot row x = camera_spot row.width row.focal row.camera x row.y row.surface.width row.surface.height
 
 -- k is the greatest level up to the last whose texels are no wider than the span p, or 0 where there is none (van Waveren 2012)
 pub record IsLevelOf (p last k : ℕ) : Type 0 where

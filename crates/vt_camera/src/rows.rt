@@ -4,7 +4,7 @@ ghost use Rattle.std.specs.Prelude.{◌≡◌, ◌+◌, ◌-◌, ◌*◌, ◌/�
 ghost use Rattle.vt_definitions.specs.Limits.{most_picture_side, most_focal};
 ghost use Rattle.vt_definitions.specs.Sides.{side};
 ghost use Rattle.vt_camera.specs.Paths.{IsCamera, most_direction, most_height, most_place};
-ghost use Rattle.vt_camera.specs.Rows.{longest_side, IsSurface, floor_div, distance, span, level_within, off_middle, row_of, row_level, row_place};
+ghost use Rattle.vt_camera.specs.Rows.{longest_side, IsSurface, floor_div, distance, span, level_within, off_middle, row_of, row_level, row_place, row_spot};
 ghost use Rattle.vt_camera.specs.RowParts.{whole_turns, middle_of, part_of, turn_at, on_ring, IsAxis};
 
 use crate::paths::{Camera, Path};
@@ -142,12 +142,31 @@ impl Row {
         )
     }
 
+    /// Where pixel x of the row lies on the texture, in 1/256 texel of level 0 from its first column and its first row, x below the
+    /// picture's width. It takes no memory.
+    #[inline(always)]
+    pub fn place(&self, x: u32) -> (u32, u32)
+        requires { x < self.now.width }
+        ensures column { result.0 ≡ (row_spot self.now x).0 }
+        ensures row { result.1 ≡ (row_spot self.now x).1 }
+        ensures column_within { result.0 < 256 * self.now.surface.width }
+        ensures row_within { result.1 < 256 * self.now.surface.height }
+    {
+        let (u, v) = self.ground(x);
+        (
+            on_ring(u, self.columns.part, 256 * u64::from(self.surface.width)) as u32,
+            on_ring(v, self.rows.part, 256 * u64::from(self.surface.height)) as u32,
+        )
+    }
+
     // The column and the row of the ground that pixel x shows, whole turns further on, in 1/256 texel.
     #[inline(always)]
     fn ground(&self, x: u32) -> (u64, u64)
         requires { x < self.now.width }
         ensures column { result.0 / 256 % self.now.surface.width ≡ (row_place self.now x).0 }
         ensures row { result.1 / 256 % self.now.surface.height ≡ (row_place self.now x).1 }
+        ensures column_spot { result.0 % (256 * self.now.surface.width) ≡ (row_spot self.now x).0 }
+        ensures row_spot { result.1 % (256 * self.now.surface.height) ≡ (row_spot self.now x).1 }
         ensures column_high { result.0 < 549755813888 }
         ensures row_high { result.1 < 549755813888 }
     {

@@ -75,8 +75,8 @@ fn draw_picture<const DEPTH: u32>(
     Ok(())
 }
 
-// The surface that a chain is to a camera.
-fn surface_of(chain: &Chain) -> Surface
+/// The surface that a chain is to a camera.
+pub fn surface_of(chain: &Chain) -> Surface
     ensures value { result ≡ surface_of chain.now.base chain.now.tile }
     ensures limits { IsSurface result }
     ensures levels { result.levels ≤ most_levels }

@@ -25,8 +25,8 @@ pub struct Shot<'a> {
     pub depth: u32,
 }
 
-// Row y of the picture.
-fn row_of(shot: &Shot, y: u32) -> Row
+/// Row `y` of the picture, below its height.
+pub fn row_of(shot: &Shot, y: u32) -> Row
     requires picture { shot.now.picture < length shot.now.path.now.cameras }
     requires within { y < shot.now.path.now.height }
     ensures row { result ≡ shot_row shot.now.geometry.now shot.now.path.now shot.now.picture y }

@@ -14,18 +14,18 @@ use Rattle.vt_filter.specs.Evidence.{IsBy, AreShown}
 
 -- each page of a line is unmapped, at so many levels from one on
 module _ (s : Shape) (version p : ℕ) where
-  abbrev finer : ℕ → ℕ → List Note
+  abbrev pub finer : ℕ → ℕ → List Note
   finer from zero = []
   finer from (suc n) = EntryNote version (ancestor_of s p from) 0 ∷ finer (suc from) n
 
-  finer_said : (says : Note → Type 0) (from n : ℕ)
+  pub finer_said : (says : Note → Type 0) (from n : ℕ)
       → ((k : ℕ) → from ≤ k → k < from + n → says (EntryNote version (ancestor_of s p k) 0)) → All says (finer from n)
   finer_said says from zero each = All-nil says
   finer_said says from (suc n) each =
       All-cons says (EntryNote version (ancestor_of s p from) 0) (finer (suc from) n) (each from (omega arith) (omega arith))
       (finer_said says (suc from) n (λ k low high. each k (omega (arith, low)) (omega (arith, high))))
 
-  finer_there : (from n k : ℕ) → from ≤ k → k < from + n → Contains (finer from n) (EntryNote version (ancestor_of s p k) 0)
+  pub finer_there : (from n k : ℕ) → from ≤ k → k < from + n → Contains (finer from n) (EntryNote version (ancestor_of s p k) 0)
   finer_there from zero k low high = absurd (omega (arith, low, high))
   finer_there from (suc n) k low high =
       elim (cases_lt from k) [

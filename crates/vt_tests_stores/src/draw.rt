@@ -1,5 +1,6 @@
 //! The worked picture over two look-ups and over the whole chain.
 
+mod blends;
 mod tables;
 
 ghost use Rattle.std.specs.Prelude.{◌≡◌, length, IfSome};

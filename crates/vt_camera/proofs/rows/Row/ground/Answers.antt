@@ -1,8 +1,8 @@
-use Rattle.std.proofs.Common.{◌≡◌, ◌/◌, ◌%◌, ℤ, pos, ◌-ℤ◌, ◌+ℤ◌, ◌*ℤ◌, to_z, of_z, refl, ap, ◌∙◌, subst}
+use Rattle.std.proofs.Common.{◌≡◌, ◌*◌, ◌/◌, ◌%◌, ℤ, pos, ◌-ℤ◌, ◌+ℤ◌, ◌*ℤ◌, to_z, of_z, refl, ap, ◌∙◌, subst}
 use Rattle.std.specs.Int.{w64}
-use Rattle.vt_camera.specs.Rows.{RowView, off_middle, span, row_place}
+use Rattle.vt_camera.specs.Rows.{RowView, off_middle, span, row_place, row_spot}
 use Rattle.vt_camera.proofs.Bits.{off_same, off_low, off_high}
-use Rattle.vt_camera.proofs.Ground.{axis_middle_low, axis_middle_high, axis_across_low, axis_across_high, axis_middle, axis_across, column_shown, row_shown}
+use Rattle.vt_camera.proofs.Ground.{axis_middle_low, axis_middle_high, axis_across_low, axis_across_high, axis_middle, axis_across, column_shown, row_shown, column_spot, row_spot_is}
 use Rattle.vt_camera.proofs.rows.Row.ground.Goals as goal
 
 pub place_before-requires-clause-middle_low : goal.place_before-requires-clause-middle_low
@@ -67,6 +67,34 @@ returns-clause-row c =
     let rows = c.self.invariant.rows_are in
     subst Shown c.self.view_is
     (row_shown row.width row.focal row.camera c.args.x row.y row.surface.width row.surface.height row.rows.middle
+    (off_middle row.width c.args.x *ℤ (pos (span row.camera row.y) *ℤ row.camera.c)) _ c.place_beyond.result
+    c.self.invariant.surface.height_low rows.middle_is refl
+    (ap (λ (z : ℤ). z +ℤ to_z w64 (of_z w64 c.half_pixels-off.result) *ℤ to_z w64 (of_z w64 row.rows.across)) (axis_middle rows)
+    ∙ ap (λ (z : ℤ). row.rows.middle +ℤ z *ℤ to_z w64 (of_z w64 row.rows.across)) (off_is c)
+    ∙ ap (λ (z : ℤ). row.rows.middle +ℤ off_middle row.width c.args.x *ℤ z) (axis_across rows))
+    c.place_beyond.ensures.positive c.place_beyond.ensures.value)
+
+pub returns-clause-column_spot : goal.returns-clause-column_spot
+returns-clause-column_spot c =
+    let Shown : RowView → Type 0 = λ row. c.place_before.result % (256 * row.surface.width) ≡ (row_spot row c.args.x).0 in
+    let row = c.self.inside in
+    let columns = c.self.invariant.columns_are in
+    subst Shown c.self.view_is
+    (column_spot row.width row.focal row.camera c.args.x row.y row.surface.width row.surface.height row.columns.middle
+    (off_middle row.width c.args.x *ℤ (pos (span row.camera row.y) *ℤ row.camera.s)) _ c.place_before.result
+    c.self.invariant.surface.width_low columns.middle_is refl
+    (ap (λ (z : ℤ). z -ℤ to_z w64 (of_z w64 c.half_pixels-off.result) *ℤ to_z w64 (of_z w64 row.columns.across)) (axis_middle columns)
+    ∙ ap (λ (z : ℤ). row.columns.middle -ℤ z *ℤ to_z w64 (of_z w64 row.columns.across)) (off_is c)
+    ∙ ap (λ (z : ℤ). row.columns.middle -ℤ off_middle row.width c.args.x *ℤ z) (axis_across columns))
+    c.place_before.ensures.positive c.place_before.ensures.value)
+
+pub returns-clause-row_spot : goal.returns-clause-row_spot
+returns-clause-row_spot c =
+    let Shown : RowView → Type 0 = λ row. c.place_beyond.result % (256 * row.surface.height) ≡ (row_spot row c.args.x).1 in
+    let row = c.self.inside in
+    let rows = c.self.invariant.rows_are in
+    subst Shown c.self.view_is
+    (row_spot_is row.width row.focal row.camera c.args.x row.y row.surface.width row.surface.height row.rows.middle
     (off_middle row.width c.args.x *ℤ (pos (span row.camera row.y) *ℤ row.camera.c)) _ c.place_beyond.result
     c.self.invariant.surface.height_low rows.middle_is refl
     (ap (λ (z : ℤ). z +ℤ to_z w64 (of_z w64 c.half_pixels-off.result) *ℤ to_z w64 (of_z w64 row.rows.across)) (axis_middle rows)

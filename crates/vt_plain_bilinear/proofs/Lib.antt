@@ -1,0 +1,7 @@
+pub mod Weighing
+pub mod Joined
+pub mod PlainBlends
+pub mod Counts
+pub mod Kept
+pub mod Evidence
+pub mod DrawnBlends

@@ -1,0 +1,115 @@
+-- The bytes of the plain picture by blends, row by row.
+use Rattle.std.proofs.Common.{◌≡◌, ◌≢◌, ℕ, ◌+◌, ◌*◌, ◌^◌, ◌<◌, ◌⊎◌, ⊎_elim, List, ◌++◌, length, sym, ap, ◌∙◌, subst, append_assoc, arith}
+use Rattle.std.specs.List.{flat_map, range_with_len}
+use Rattle.std.proofs.lemmas.List.{append-nil}
+use Rattle.vt_definitions.specs.Depths.{IsDepth, AreBytes, texel_bytes, word_bytes, word_at}
+use Rattle.vt_definitions.specs.Texels.{Source}
+use Rattle.vt_ppm.specs.Image.{ImageView}
+use Rattle.vt_mip.specs.Chains.{IsTexelRaster}
+use Rattle.vt_mip.specs.Laws.{ChainWordsAreSmall}
+use Rattle.vt_camera.specs.declared.paths.Camera.{Camera}
+use Rattle.vt_camera.specs.declared.surfaces.Surface.{Surface}
+use Rattle.vt_camera.specs.Paths.{PathView}
+use Rattle.vt_camera.specs.Rows.{RowView, row_of, row_level}
+use Rattle.vt_draw.specs.Plain.{chain_of}
+use Rattle.vt_tiles.proofs.Spans.{span_add, span_length}
+use Rattle.vt_plain_bilinear.specs.declared.corners.Corners.{Corners}
+use Rattle.vt_plain_bilinear.specs.declared.corners.Weights.{Weights}
+use Rattle.vt_plain_bilinear.specs.declared.blends.Texels.{Texels}
+use Rattle.vt_plain_bilinear.specs.Corners.{corners_of, weights_of, AreInside}
+use Rattle.vt_plain_bilinear.specs.Blends.{blended_word, texels_of, blend_of, blend_bytes}
+use Rattle.vt_plain_bilinear.specs.Plain.{row_blends, first_blended_rows}
+use Rattle.vt_plain_bilinear.proofs.Joined.{joined, length-word_bytes}
+
+-- a row whose pixels are blends
+pub row_is : (d : ℕ) (source : Source) (row : RowView) (columns : ℕ) (bytes : List ℕ) → length bytes ≡ 3 * d * columns
+    → ((x : ℕ) → x < columns → texel_bytes d bytes x ≡ blend_bytes d row x (source (row_level row))) → bytes ≡ row_blends d source row columns
+unfolding row_blends
+row_is d source row columns bytes full each = joined d bytes (λ (x : ℕ). blend_bytes d row x (source (row_level row))) columns full each
+
+pub rows-none : (d : ℕ) (source : Source) (surface : Surface) (path : PathView) (camera : Camera) (held : List ℕ)
+    → held ≡ held ++ first_blended_rows d source surface path camera 0
+unfolding first_blended_rows
+rows-none d source surface path camera held = sym (append-nil held)
+
+-- one row more
+one_more : (f : ℕ → List ℕ) (n : ℕ) → flat_map f (range_with_len 0 n) ++ f n ≡ flat_map f (range_with_len 0 (n + 1))
+one_more f n =
+    let here : n ≡ 0 + n = omega arith in
+    let last : f n ≡ flat_map f (range_with_len n 1) = sym (append-nil (f n)) in
+    ap (λ (t : List ℕ). flat_map f (range_with_len 0 n) ++ t) (last ∙ ap (λ (i : ℕ). flat_map f (range_with_len i 1)) here) ∙ sym (span_add f 0 n 1)
+
+rows-more : (d : ℕ) (source : Source) (surface : Surface) (path : PathView) (camera : Camera) (y : ℕ)
+    → first_blended_rows d source surface path camera y ++ row_blends d source (row_of path camera y surface) path.width
+    ≡ first_blended_rows d source surface path camera (y + 1)
+unfolding first_blended_rows
+rows-more d source surface path camera y = one_more (λ (i : ℕ). row_blends d source (row_of path camera i surface) path.width) y
+
+pub row_added : (d : ℕ) (source : Source) (surface : Surface) (path : PathView) (camera : Camera) (y width : ℕ) (row : RowView)
+    (held before drawn after : List ℕ) → after ≡ before ++ drawn → drawn ≡ row_blends d source row width
+    → row ≡ row_of path camera y surface → width ≡ path.width → before ≡ held ++ first_blended_rows d source surface path camera y
+    → after ≡ held ++ first_blended_rows d source surface path camera (y + 1)
+row_added d source surface path camera y width row held before drawn after gained is r w so_far =
+    gained
+    ∙ ap (λ (t : List ℕ). before ++ t) is
+    ∙ ap (λ (v : RowView). before ++ row_blends d source v width) r
+    ∙ ap (λ (n : ℕ). before ++ row_blends d source (row_of path camera y surface) n) w
+    ∙ ap (λ (t : List ℕ). t ++ row_blends d source (row_of path camera y surface) path.width) so_far
+    ∙ append_assoc held (first_blended_rows d source surface path camera y) (row_blends d source (row_of path camera y surface) path.width)
+    ∙ ap (λ (t : List ℕ). held ++ t) (rows-more d source surface path camera y)
+
+length-row_blends : (d : ℕ) (source : Source) (row : RowView) (columns : ℕ) → length (row_blends d source row columns) ≡ columns * (3 * d)
+unfolding row_blends
+length-row_blends d source row columns =
+    span_length (λ (x : ℕ). blend_bytes d row x (source (row_level row))) 0 columns (3 * d)
+    (λ x. length-word_bytes d (blend_of d row x (source (row_level row))))
+
+pub length-rows : (d : ℕ) (source : Source) (surface : Surface) (path : PathView) (camera : Camera) (rows : ℕ)
+    → length (first_blended_rows d source surface path camera rows) ≡ 3 * d * (path.width * rows)
+unfolding first_blended_rows
+length-rows d source surface path camera rows =
+    span_length (λ (y : ℕ). row_blends d source (row_of path camera y surface) path.width) 0 rows (path.width * (3 * d))
+    (λ y. length-row_blends d source (row_of path camera y surface) path.width)
+    ∙ (let e : rows * (path.width * (3 * d)) ≡ 3 * d * (path.width * rows) = omega arith in e)
+
+-- the words at corners inside a level are those of any words that agree inside it
+pub same_texels : (columns rows : ℕ) (f g : ℕ → ℕ → ℕ) (at : Corners) → AreInside columns rows at
+    → ((x y : ℕ) → x < columns → y < rows → f x y ≡ g x y) → texels_of f at ≡ texels_of g at
+same_texels columns rows f g at inside each = λ i. record {
+  first = each at.column at.line inside.column inside.line i;
+  second = each at.next_column at.line inside.next_column inside.line i;
+  third = each at.column at.next_line inside.column inside.next_line i;
+  fourth = each at.next_column at.next_line inside.next_column inside.next_line i;
+}
+
+-- the words of a level's bytes are the chain's
+pub raster_word : (d : ℕ) (base : ImageView) (level k columns rows wide high : ℕ) (bytes : List ℕ) → IsDepth d → base.depth ≡ d → AreBytes base.samples
+    → level ≡ k → wide ≡ columns → high ≡ rows → IsTexelRaster d (chain_of base level) columns rows bytes → ChainWordsAreSmall
+    → ((e w : ℕ) (b : List ℕ) (i : ℕ) → IsDepth e → w < 2 ^ (24 * e) → texel_bytes e b i ≡ word_bytes e w → word_at e b i ≡ w)
+    → (x y : ℕ) → x < wide → y < high → word_at d bytes (y * wide + x) ≡ chain_of base k x y
+raster_word d base level k columns rows wide high bytes depth own are same w h raster small words x y inside below =
+    let few : chain_of base level x y < 2 ^ (24 * d) =
+    subst (λ (e : ℕ). chain_of base level x y < 2 ^ (24 * e)) own (small base level x y (subst IsDepth (sym own) depth) are) in
+    ap (λ (n : ℕ). word_at d bytes (y * n + x)) w
+    ∙ words d (chain_of base level x y) bytes (y * columns + x) depth few
+    (raster.each x y (subst (λ (n : ℕ). x < n) w inside) (subst (λ (n : ℕ). y < n) h below))
+    ∙ ap (λ (i : ℕ). chain_of base i x y) same
+
+-- the word that a pixel shows
+pub word_is : (d : ℕ) (row : RowView) (x columns rows blended : ℕ) (f g : ℕ → ℕ → ℕ) (at : Corners) (w : Weights) (t : Texels)
+    → at ≡ corners_of row x → AreInside columns rows at → w ≡ weights_of at → t ≡ texels_of f at
+    → ((x y : ℕ) → x < columns → y < rows → f x y ≡ g x y) → blended ≡ blended_word d w t → blended ≡ blend_of d row x g
+unfolding blend_of
+word_is d row x columns rows blended f g at w t is inside weighs texels each blend =
+    blend
+    ∙ ap (λ (v : Weights). blended_word d v t) weighs
+    ∙ ap (λ (u : Texels). blended_word d (weights_of at) u) (texels ∙ same_texels columns rows f g at inside each)
+    ∙ ap (λ (c : Corners). blended_word d (weights_of c) (texels_of g c)) is
+
+-- one pixel more is written, and those before it stay
+pub pixel_more : (d x : ℕ) (f : ℕ → List ℕ) (before after : List ℕ) → ((i : ℕ) → i ≢ x → texel_bytes d after i ≡ texel_bytes d before i)
+    → texel_bytes d after x ≡ f x → ((i : ℕ) → i < x → texel_bytes d before i ≡ f i) → (i : ℕ) → i < x + 1 → texel_bytes d after i ≡ f i
+pixel_more d x f before after kept here so_far i below =
+    let or : (i < x) ⊎ (i ≡ x) = grind arith in
+    ⊎_elim (λ (low : i < x). let apart : i ≢ x = omega (arith, low) in kept i apart ∙ so_far i low)
+    (λ (same : i ≡ x). ap (texel_bytes d after) same ∙ here ∙ ap f (sym same)) or

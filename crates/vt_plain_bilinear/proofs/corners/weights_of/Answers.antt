@@ -1,0 +1,12 @@
+use Rattle.std.proofs.Common.{refl}
+use Rattle.vt_plain_bilinear.specs.Corners.{weights_of}
+use Rattle.vt_plain_bilinear.proofs.Weighing.{weights_whole}
+use Rattle.vt_plain_bilinear.proofs.corners.weights_of.Goals as goal
+
+pub returns-clause-value : goal.returns-clause-value
+unfolding weights_of
+returns-clause-value c = refl
+
+pub returns-clause-whole : goal.returns-clause-whole
+unfolding weights_of
+returns-clause-whole c = weights_whole c.args.at.now c.requires.across c.requires.down

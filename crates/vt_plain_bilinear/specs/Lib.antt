@@ -1,0 +1,8 @@
+pub mod Corners
+pub mod Blends
+pub mod Plain
+pub mod Served
+pub mod Shown
+pub mod Inside
+pub mod BlendUnder
+pub mod BlendPlain

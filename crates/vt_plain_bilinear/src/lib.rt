@@ -1,0 +1,14 @@
+//! Pictures by bilinear filtering: each pixel is the blend of the four texels about its place, over a mip chain, and over any look-up
+//! of pages.
+#![tactic(auto)]
+
+mod blends;
+mod corners;
+mod filter;
+mod plain;
+mod rows;
+mod served;
+
+pub use filter::Bilinear;
+pub use plain::{draw_plain_blend, draw_plain_blend_behind};
+pub use rows::draw_row_blend;
