@@ -7,7 +7,6 @@ use Rattle.vt_files.specs.Courses.{Course, SinkState, FolderState, Gain, IsUntou
 use Rattle.vt_inputs.specs.Inputs.{Input, Content}
 use Rattle.vt_inputs.specs.Causes.{Cause, MissingName, FlawedInput, cause_status, IsFirstCause, AreHeld, AreAccepted}
 use Rattle.vt_inputs.specs.Tasks.{HasBadInput}
-use Rattle.vt_walk_commands.specs.Machines.{MachineKind}
 use Rattle.vt_inputs.specs.Terms.{Terms, Hindrance, FlawedBeside, ManyTexels, FewFrames, LargePicture, hindrance_status, IsHindered, HasFaultBy, HasBadInputBy, EndsBy}
 use Rattle.vt_inputs.specs.Lines.{memory_line, usage_line, fault_line}
 use Rattle.vt_inputs.specs.Refusals.{status_of, Told, EndTold, refusal_of_words}
@@ -15,6 +14,7 @@ use Rattle.vt_commands.specs.Runs.{Run, Asks, AsksNothing, RunDone, RunLeft, Run
 use Rattle.vt_words.specs.Commands.{CommandText, command_text}
 use Rattle.vt_words.specs.declared.arguments.WordsError.{WordsError}
 use Rattle.vt_words.specs.declared.arguments.WordsError.TheVariants as words_error
+use Rattle.vt_walk_commands.specs.Machines.{Machines}
 use Rattle.vt_commands.specs.commands.{terms_of, IsUnread, EndsCommand, EndsRun}
 use Rattle.vt_inputs.specs.declared.flaws.Flaw.{Flaw}
 use Rattle.vt_inputs.specs.declared.refusal.Refusal.{Refusal}
@@ -31,11 +31,11 @@ same_command : (words : List (List ℕ)) (p q : CommandText) → Asks words p �
 same_command words p q a b = cc
 
 -- how the words' command ended, whichever name it is given
-ends_as : (m : MachineKind) (T : Type 0) (words : List (List ℕ)) (c : Course) (r : Result T Refusal) (p : CommandText) → Asks words p
+ends_as : (m : Machines) (T : Type 0) (words : List (List ℕ)) (c : Course) (r : Result T Refusal) (p : CommandText) → Asks words p
     → EndsCommand m words c r → EndsBy (terms_of m p) c r
 ends_as m T words c r p asks h = subst (λ (q : CommandText). EndsBy (terms_of m q) c r) (same_command words h.command p h.is asks) h.ends
 
-done_of : (run : Run) (T : Type 0) (r : Result T Refusal) → EndsRun run.kind run.words run.course r → status_of r ≡ 0 → RunDone run
+done_of : (run : Run) (T : Type 0) (r : Result T Refusal) → EndsRun run.machines run.words run.course r → status_of r ≡ 0 → RunDone run
 done_of run T (Ok t) h s = (h.command, h.is, h.ends.1)
 done_of run T (Err NoMemory) h s = absurd (omega (arith, s))
 done_of run T (Err Usage) h s = absurd (omega (arith, s))
@@ -47,16 +47,16 @@ done_of run T (Err (DoesNotFit picture wanted room)) h s = absurd (omega (arith,
 idle_untouched : (c : Course) → IsIdle c → IsUntouched c
 idle_untouched c idle = record { files = ap (λ (s : FolderState). s.files) idle.folder; held = ap (λ (s : SinkState). s.held) idle.out }
 
-left_of : (run : Run) (T : Type 0) (r : Result T Refusal) → EndsRun run.kind run.words run.course r → status_of r ≢ 0 → RunLeft run
+left_of : (run : Run) (T : Type 0) (r : Result T Refusal) → EndsRun run.machines run.words run.course r → status_of r ≢ 0 → RunLeft run
 left_of run T (Ok t) h s = λ p asks. absurd (s refl)
 left_of run T (Err refusal) (inl h) s = λ p asks. inl (idle_untouched run.course h.idle)
-left_of run T (Err refusal) (inr h) s = λ p asks. (ends_as run.kind T run.words run.course (Err refusal) p asks h).1.0
+left_of run T (Err refusal) (inr h) s = λ p asks. (ends_as run.machines T run.words run.course (Err refusal) p asks h).1.0
 
 bad_untouched : (terms : Terms) (c : Course) (name : List ℕ) (flaw : Flaw) → HasBadInputBy terms c name flaw → IsUntouched c
 bad_untouched terms c name flaw (inl h) = h.untouched
 bad_untouched terms c name flaw (inr h) = h.stands
 
-untouched_of : (m : MachineKind) (T : Type 0) (words : List (List ℕ)) (c : Course) (r : Result T Refusal) → EndsRun m words c r
+untouched_of : (m : Machines) (T : Type 0) (words : List (List ℕ)) (c : Course) (r : Result T Refusal) → EndsRun m words c r
     → (status_of r ≡ 2) ⊎ (status_of r ≡ 4) → IsUntouched c
 untouched_of m T words c (Ok t) h (inl s) = absurd (omega (arith, s))
 untouched_of m T words c (Ok t) h (inr s) = absurd (omega (arith, s))
@@ -71,17 +71,17 @@ untouched_of m T words c (Err (TooFewFrames frames needed)) (inr h) s = h.ends.1
 untouched_of m T words c (Err (DoesNotFit picture wanted room)) (inr h) (inl s) = absurd (omega (arith, s))
 untouched_of m T words c (Err (DoesNotFit picture wanted room)) (inr h) (inr s) = absurd (omega (arith, s))
 
-asked_of : (run : Run) (T : Type 0) (r : Result T Refusal) → EndsRun run.kind run.words run.course r → RunAsked run
-asked_of run T (Ok t) h = λ p asks. (ends_as run.kind T run.words run.course (Ok t) p asks h).0
-asked_of run T (Err refusal) (inl h) = λ p asks. (sound run.kind p).idle run.course h.idle
-asked_of run T (Err refusal) (inr h) = λ p asks. (ends_as run.kind T run.words run.course (Err refusal) p asks h).0
+asked_of : (run : Run) (T : Type 0) (r : Result T Refusal) → EndsRun run.machines run.words run.course r → RunAsked run
+asked_of run T (Ok t) h = λ p asks. (ends_as run.machines T run.words run.course (Ok t) p asks h).0
+asked_of run T (Err refusal) (inl h) = λ p asks. (sound run.machines p).idle run.course h.idle
+asked_of run T (Err refusal) (inr h) = λ p asks. (ends_as run.machines T run.words run.course (Err refusal) p asks h).0
 
-idle_of : (m : MachineKind) (T : Type 0) (words : List (List ℕ)) (c : Course) (r : Result T Refusal) → EndsRun m words c r → AsksNothing words → IsIdle c
+idle_of : (m : Machines) (T : Type 0) (words : List (List ℕ)) (c : Course) (r : Result T Refusal) → EndsRun m words c r → AsksNothing words → IsIdle c
 idle_of m T words c (Ok t) h none = absurd (asks_none words h.command h.is none)
 idle_of m T words c (Err refusal) (inl h) none = h.idle
 idle_of m T words c (Err refusal) (inr h) none = absurd (asks_none words h.command h.is none)
 
-usage_of : (run : Run) (T : Type 0) (r : Result T Refusal) → EndsRun run.kind run.words run.course r → EndTold r run.err
+usage_of : (run : Run) (T : Type 0) (r : Result T Refusal) → EndsRun run.machines run.words run.course r → EndTold r run.err
     → status_of r ≡ 2 → AsksNothing run.words ⊎ RunHindered run 2
 usage_of run T (Ok t) h told s = absurd (omega (arith, s))
 usage_of run T (Err NoMemory) h told s = absurd (omega (arith, s))
@@ -93,7 +93,7 @@ usage_of run T (Err (Flawed name flaw)) h told s = absurd (omega (arith, s))
 usage_of run T (Err (TooFewFrames frames needed)) h told s = absurd (omega (arith, s))
 usage_of run T (Err (DoesNotFit picture wanted room)) h told s = absurd (omega (arith, s))
 
-no_command_of : (m : MachineKind) (T : Type 0) (words : List (List ℕ)) (c : Course) (r : Result T Refusal) → EndsRun m words c r
+no_command_of : (m : Machines) (T : Type 0) (words : List (List ℕ)) (c : Course) (r : Result T Refusal) → EndsRun m words c r
     → AsksNothing words → (status_of r ≡ 2) ⊎ (status_of r ≡ 1)
 no_command_of m T words c (Ok t) h none = absurd (asks_none words h.command h.is none)
 no_command_of m T words c (Err NoMemory) h none = inr refl
@@ -104,7 +104,7 @@ no_command_of m T words c (Err (Flawed name flaw)) (inl h) none = absurd h.unrea
 no_command_of m T words c (Err (TooFewFrames frames needed)) (inl h) none = absurd h.unread
 no_command_of m T words c (Err (DoesNotFit picture wanted room)) (inl h) none = absurd h.unread
 
-fault_of : (run : Run) (T : Type 0) (r : Result T Refusal) → EndsRun run.kind run.words run.course r → status_of r ≡ 3
+fault_of : (run : Run) (T : Type 0) (r : Result T Refusal) → EndsRun run.machines run.words run.course r → status_of r ≡ 3
     → RunFault run
 fault_of run T (Ok t) h s = absurd (omega (arith, s))
 fault_of run T (Err NoMemory) h s = absurd (omega (arith, s))
@@ -148,7 +148,7 @@ caused_as T c (Err (TooFewFrames frames needed)) terms cause h none first =
 caused_as T c (Err (DoesNotFit picture wanted room)) terms cause h none first =
     absurd (hindered_first terms c cause (LargePicture picture wanted room) first h.1.1)
 
-unread_caused : (m : MachineKind) (T : Type 0) (words : List (List ℕ)) (c : Course) (refusal : Refusal) → EndsRun {T = T} m words c (Err refusal)
+unread_caused : (m : Machines) (T : Type 0) (words : List (List ℕ)) (c : Course) (refusal : Refusal) → EndsRun {T = T} m words c (Err refusal)
     → (p : CommandText) → Asks words p → (status_of {T = T} (Err refusal) ≡ 1) ⊎ EndsBy {T = T} (terms_of m p) c (Err refusal)
 unread_caused m T words c refusal (inr h) = λ p asks. inr (ends_as m T words c (Err refusal) p asks h)
 unread_caused m T words c NoMemory (inl h) = λ p asks. inl refl
@@ -159,15 +159,15 @@ unread_caused m T words c (TooFewFrames frames needed) (inl h) = λ p asks. absu
 unread_caused m T words c (DoesNotFit picture wanted room) (inl h) = λ p asks. absurd h.unread
 
 -- an ending of the words' command, or want of memory
-came_to : (m : MachineKind) (T : Type 0) (words : List (List ℕ)) (c : Course) (r : Result T Refusal) → EndsRun m words c r
+came_to : (m : Machines) (T : Type 0) (words : List (List ℕ)) (c : Course) (r : Result T Refusal) → EndsRun m words c r
     → (p : CommandText) → Asks words p → (status_of r ≡ 1) ⊎ EndsBy (terms_of m p) c r
 came_to m T words c (Ok t) h = λ p asks. inr (ends_as m T words c (Ok t) p asks h)
 came_to m T words c (Err refusal) h = unread_caused m T words c refusal h
 
-caused_of : (run : Run) (T : Type 0) (r : Result T Refusal) → EndsRun run.kind run.words run.course r → RunCaused run (status_of r)
-caused_of run T r h = λ p cause asks none first. elim (came_to run.kind T run.words run.course r h p asks) [
+caused_of : (run : Run) (T : Type 0) (r : Result T Refusal) → EndsRun run.machines run.words run.course r → RunCaused run (status_of r)
+caused_of run T r h = λ p cause asks none first. elim (came_to run.machines T run.words run.course r h p asks) [
   | inl wanting ↦ inr wanting
-  | inr ends ↦ caused_as T run.course r (terms_of run.kind p) cause ends none first
+  | inr ends ↦ caused_as T run.course r (terms_of run.machines p) cause ends none first
 ]
 
 -- what stands in a command's way is what stands in the way of what the folder holds
@@ -209,11 +209,11 @@ stopped_as T c (Err (TooFewFrames frames needed)) terms contents a laws h none h
 stopped_as T c (Err (DoesNotFit picture wanted room)) terms contents a laws h none held hinders =
     inl (hindered_status terms c contents a (LargePicture picture wanted room) laws held hinders h.1.1)
 
-stopped_of : (run : Run) (T : Type 0) (r : Result T Refusal) → EndsRun run.kind run.words run.course r
+stopped_of : (run : Run) (T : Type 0) (r : Result T Refusal) → EndsRun run.machines run.words run.course r
     → RunStopped run (status_of r)
-stopped_of run T r h = λ p contents hindrance asks none held hinders. elim (came_to run.kind T run.words run.course r h p asks) [
+stopped_of run T r h = λ p contents hindrance asks none held hinders. elim (came_to run.machines T run.words run.course r h p asks) [
   | inl wanting ↦ inr wanting
-  | inr ends ↦ stopped_as T run.course r (terms_of run.kind p) contents hindrance (sound run.kind p) ends none held hinders
+  | inr ends ↦ stopped_as T run.course r (terms_of run.machines p) contents hindrance (sound run.machines p) ends none held hinders
 ]
 
 -- nothing stands in the way of what the folder holds, and so in the command's way
@@ -239,11 +239,11 @@ complete_as T c (Err (TooFewFrames frames needed)) terms contents h none held fr
 complete_as T c (Err (DoesNotFit picture wanted room)) terms contents h none held free =
     absurd (none_met terms c contents (LargePicture picture wanted room) held free h.1.1)
 
-complete_of : (run : Run) (T : Type 0) (r : Result T Refusal) → EndsRun run.kind run.words run.course r
+complete_of : (run : Run) (T : Type 0) (r : Result T Refusal) → EndsRun run.machines run.words run.course r
     → RunComplete run (status_of r)
-complete_of run T r h = λ p contents asks none held free. elim (came_to run.kind T run.words run.course r h p asks) [
+complete_of run T r h = λ p contents asks none held free. elim (came_to run.machines T run.words run.course r h p asks) [
   | inl wanting ↦ inr wanting
-  | inr ends ↦ complete_as T run.course r (terms_of run.kind p) contents ends none held free
+  | inr ends ↦ complete_as T run.course r (terms_of run.machines p) contents ends none held free
 ]
 
 unread_by : (asked : Option CommandText) (e : WordsError) → (e ≡ words_error.Usage → IsNone asked) → IsUnread asked (refusal_of_words e)
@@ -251,12 +251,12 @@ unread_by asked words_error.Usage none = none refl
 unread_by asked words_error.NoMemory none = tt
 
 -- a run whose words were refused
-pub runs_unread : (m : MachineKind) (T : Type 0) (words : List (List ℕ)) (c : Course) (e : WordsError) → IsIdle c
+pub runs_unread : (m : Machines) (T : Type 0) (words : List (List ℕ)) (c : Course) (e : WordsError) → IsIdle c
     → (e ≡ words_error.Usage → IsNone (command_text words)) → EndsRun {T = T} m words c (Err (refusal_of_words e))
 runs_unread m T words c e idle none = inl (record { unread = unread_by (command_text words) e none; idle = idle })
 
 -- a run that did a command
-pub runs_command : (m : MachineKind) (T : Type 0) (words : List (List ℕ)) (c : Course) (r : Result T Refusal) (command : CommandText)
+pub runs_command : (m : Machines) (T : Type 0) (words : List (List ℕ)) (c : Course) (r : Result T Refusal) (command : CommandText)
     → Asks words command → EndsBy (terms_of m command) c r → EndsRun m words c r
 runs_command m T words c (Ok t) command is ends = record { command = command; is = is; ends = ends }
 runs_command m T words c (Err refusal) command is ends = inr (record { command = command; is = is; ends = ends })
@@ -270,7 +270,7 @@ small_of T (Err (Flawed name flaw)) = omega arith
 small_of T (Err (TooFewFrames frames needed)) = omega arith
 small_of T (Err (DoesNotFit picture wanted room)) = omega arith
 
-bad_input_of : (run : Run) (T : Type 0) (r : Result T Refusal) → EndsRun run.kind run.words run.course r
+bad_input_of : (run : Run) (T : Type 0) (r : Result T Refusal) → EndsRun run.machines run.words run.course r
     → EndTold r run.err → status_of r ≡ 4
     → RunBadInput run
 bad_input_of run T (Ok t) h told s = absurd (omega (arith, s))
@@ -319,7 +319,7 @@ fault_told_of T (Err (Flawed name flaw)) err told s = absurd (omega (arith, s))
 fault_told_of T (Err (TooFewFrames frames needed)) err told s = absurd (omega (arith, s))
 fault_told_of T (Err (DoesNotFit picture wanted room)) err told s = absurd (omega (arith, s))
 
-hindered_of : (run : Run) (T : Type 0) (r : Result T Refusal) → EndsRun run.kind run.words run.course r → EndTold r run.err
+hindered_of : (run : Run) (T : Type 0) (r : Result T Refusal) → EndsRun run.machines run.words run.course r → EndTold r run.err
     → status_of r ≡ 5 → RunHindered run 5
 hindered_of run T (Ok t) h told s = absurd (omega (arith, s))
 hindered_of run T (Err NoMemory) h told s = absurd (omega (arith, s))
@@ -334,16 +334,16 @@ hindered_of run T (Err (DoesNotFit picture wanted room)) (inr h) told s =
     record { command = h.command; asks = h.is; hindrance = LargePicture picture wanted room; comes = refl; met = h.ends.1.1; told = told }
 
 -- all clauses
-pub is_run : (run : Run) (T : Type 0) (r : Result T Refusal) → EndsRun run.kind run.words run.course r → EndTold r run.err → IsRun run (status_of r)
+pub is_run : (run : Run) (T : Type 0) (r : Result T Refusal) → EndsRun run.machines run.words run.course r → EndTold r run.err → IsRun run (status_of r)
 is_run run T r h told = record {
   statuses = small_of T r;
   done = done_of run T r h;
   left = left_of run T r h;
-  untouched = untouched_of run.kind T run.words run.course r h;
+  untouched = untouched_of run.machines T run.words run.course r h;
   asked = asked_of run T r h;
-  idle = idle_of run.kind T run.words run.course r h;
+  idle = idle_of run.machines T run.words run.course r h;
   usage = usage_of run T r h told;
-  no_command = no_command_of run.kind T run.words run.course r h;
+  no_command = no_command_of run.machines T run.words run.course r h;
   fault = fault_of run T r h;
   bad_input = bad_input_of run T r h told;
   hindered = hindered_of run T r h told;

@@ -1,3 +1,4 @@
+pub mod Choosing
 pub mod Sound
 pub mod Clauses
 pub mod Waits

@@ -10,9 +10,9 @@ use Rattle.vt_store_commands.specs.commands.Tile.{tile_task}
 use Rattle.vt_store_commands.specs.commands.Info.{info_task}
 use Rattle.vt_store_commands.specs.commands.Gen.{gen_task}
 use Rattle.vt_store_commands.specs.commands.Upgrade.{upgrade_task}
-use Rattle.vt_walk_commands.specs.Machines.{MachineKind}
 use Rattle.vt_walk_commands.proofs.Sound.{AreSound, replay_sound, walk_sound, trial_sound}
 use Rattle.vt_words.specs.Commands.{CommandText, PlainCommand, TileCommand, InfoCommand, GenCommand, UpgradeCommand, ReplayCommand, WalkCommand, TrialCommand}
+use Rattle.vt_walk_commands.specs.Machines.{Machines, chosen}
 use Rattle.vt_commands.specs.commands.{terms_of}
 
 -- where nothing was asked, no input was
@@ -22,12 +22,12 @@ asks_idle inputs c idle = record { some = []; rest = inputs; split = refl; asked
 task_sound : (task : Task) → AreSound (task_terms task)
 task_sound task = record { one = λ contents a b x y. absurd x; idle = asks_idle task.inputs }
 
-pub sound : (m : MachineKind) (command : CommandText) → AreSound (terms_of m command)
+pub sound : (m : Machines) (command : CommandText) → AreSound (terms_of m command)
 sound m (PlainCommand words) = task_sound (plain_task words)
 sound m (TileCommand words) = task_sound (tile_task words)
 sound m (InfoCommand words) = task_sound (info_task words)
 sound m (GenCommand words) = task_sound (gen_task words)
 sound m (UpgradeCommand words) = task_sound (upgrade_task words)
 sound m (ReplayCommand words) = replay_sound words
-sound m (WalkCommand words) = walk_sound m words
+sound m (WalkCommand words) = walk_sound (chosen m words) words
 sound m (TrialCommand words) = trial_sound words

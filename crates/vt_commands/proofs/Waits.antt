@@ -17,7 +17,7 @@ use Rattle.vt_words.specs.Replay.{replay_text}
 use Rattle.vt_words.specs.Walk.{walk_text}
 use Rattle.vt_words.specs.Trial.{trial_text}
 use Rattle.vt_words.specs.Commands.{CommandText, PlainCommand, TileCommand, InfoCommand, GenCommand, UpgradeCommand, ReplayCommand, WalkCommand, TrialCommand, named_text}
-use Rattle.vt_walk_commands.specs.Machines.{MachineKind}
+use Rattle.vt_walk_commands.specs.Machines.{Machines}
 use Rattle.vt_commands.specs.commands.{terms_of}
 use Rattle.vt_commands.specs.Waits.{is_waiting_name, may_wait, MayWait}
 use Rattle.vt_commands.specs.Runs.{Run, Asks, AsksNothing, RunBadInput, RunHindered, RunCaused, RunStopped, RunComplete, IsRun}
@@ -85,7 +85,7 @@ is_waiting [] is command asks = absurd (false≢true is)
 is_waiting (name ∷ words) is command asks = named_waiting name (name ∷ words) command (one_of _ _ is) asks
 
 -- what holds of the terms of a command that waits for nobody holds of them by any machine
-carried : (m n : MachineKind) (F : Terms → Type 0) (command : CommandText) → (MayWait command → ⊥) → F (terms_of m command) → F (terms_of n command)
+carried : (m n : Machines) (F : Terms → Type 0) (command : CommandText) → (MayWait command → ⊥) → F (terms_of m command) → F (terms_of n command)
 carried m n F (PlainCommand words) free x = x
 carried m n F (TileCommand words) free x = x
 carried m n F (InfoCommand words) free x = x
@@ -95,69 +95,69 @@ carried m n F (ReplayCommand words) free x = x
 carried m n F (WalkCommand words) free x = absurd (free tt)
 carried m n F (TrialCommand words) free x = absurd (free tt)
 
--- the same run by another kind of machine
-abbrev pub by_kind : MachineKind → Run → Run
-by_kind kind run = record run { kind = kind }
+-- the same run by other machines
+abbrev pub by_others : Machines → Run → Run
+by_others machines run = record run { machines = machines }
 
-hindered_by : (n : MachineKind) (run : Run) (status : ℕ) → may_wait run.words ≡ false → RunHindered run status → RunHindered (by_kind n run) status
+hindered_by : (n : Machines) (run : Run) (status : ℕ) → may_wait run.words ≡ false → RunHindered run status → RunHindered (by_others n run) status
 hindered_by n run status never h = record {
   command = h.command;
   asks = h.asks;
   hindrance = h.hindrance;
   comes = h.comes;
-  met = carried run.kind n (λ terms. IsHindered terms run.course h.hindrance) h.command (is_at_once run.words never h.command h.asks) h.met;
+  met = carried run.machines n (λ terms. IsHindered terms run.course h.hindrance) h.command (is_at_once run.words never h.command h.asks) h.met;
   told = h.told;
 }
 
-usage_by : (n : MachineKind) (run : Run) → may_wait run.words ≡ false → AsksNothing run.words ⊎ RunHindered run 2
-    → AsksNothing run.words ⊎ RunHindered (by_kind n run) 2
+usage_by : (n : Machines) (run : Run) → may_wait run.words ≡ false → AsksNothing run.words ⊎ RunHindered run 2
+    → AsksNothing run.words ⊎ RunHindered (by_others n run) 2
 usage_by n run never (inl none) = inl none
 usage_by n run never (inr h) = inr (hindered_by n run 2 never h)
 
-bad_input_by : (n : MachineKind) (run : Run) → may_wait run.words ≡ false → RunBadInput run → RunBadInput (by_kind n run)
+bad_input_by : (n : Machines) (run : Run) → may_wait run.words ≡ false → RunBadInput run → RunBadInput (by_others n run)
 bad_input_by n run never b = record {
   command = b.command;
   asks = b.asks;
   name = b.name;
   flaw = b.flaw;
-  bad = carried run.kind n (λ terms. HasBadInputBy terms run.course b.name b.flaw) b.command (is_at_once run.words never b.command b.asks) b.bad;
+  bad = carried run.machines n (λ terms. HasBadInputBy terms run.course b.name b.flaw) b.command (is_at_once run.words never b.command b.asks) b.bad;
   told = b.told;
 }
 
-caused_by : (n : MachineKind) (run : Run) (status : ℕ) → may_wait run.words ≡ false → RunCaused run status → RunCaused (by_kind n run) status
+caused_by : (n : Machines) (run : Run) (status : ℕ) → may_wait run.words ≡ false → RunCaused run status → RunCaused (by_others n run) status
 caused_by n run status never r = λ p cause asks.
-    carried run.kind n (λ terms. (terms.failed run.course → ⊥) → IsFirstCause run.course.folder.before.files terms.inputs cause
+    carried run.machines n (λ terms. (terms.failed run.course → ⊥) → IsFirstCause run.course.folder.before.files terms.inputs cause
     → (status ≡ cause_status cause) ⊎ (status ≡ 1))
     p (is_at_once run.words never p asks) (λ none first. r p cause asks none first)
 
-stopped_by : (n : MachineKind) (run : Run) (status : ℕ) → may_wait run.words ≡ false → RunStopped run status → RunStopped (by_kind n run) status
+stopped_by : (n : Machines) (run : Run) (status : ℕ) → may_wait run.words ≡ false → RunStopped run status → RunStopped (by_others n run) status
 stopped_by n run status never r = λ p contents hindrance asks.
-    carried run.kind n (λ terms. (terms.failed run.course → ⊥) → AreHeld run.course.folder.before.files terms.inputs contents
+    carried run.machines n (λ terms. (terms.failed run.course → ⊥) → AreHeld run.course.folder.before.files terms.inputs contents
     → terms.hinders contents hindrance → (status ≡ hindrance_status hindrance) ⊎ (status ≡ 1))
     p (is_at_once run.words never p asks) (λ none held hinders. r p contents hindrance asks none held hinders)
 
-complete_by : (n : MachineKind) (run : Run) (status : ℕ) → may_wait run.words ≡ false → RunComplete run status → RunComplete (by_kind n run) status
+complete_by : (n : Machines) (run : Run) (status : ℕ) → may_wait run.words ≡ false → RunComplete run status → RunComplete (by_others n run) status
 complete_by n run status never r = λ p contents asks.
-    carried run.kind n (λ terms. (terms.failed run.course → ⊥) → AreHeld run.course.folder.before.files terms.inputs contents
+    carried run.machines n (λ terms. (terms.failed run.course → ⊥) → AreHeld run.course.folder.before.files terms.inputs contents
     → ((hindrance : Hindrance) → terms.hinders contents hindrance → ⊥) → (status ≡ 0) ⊎ (status ≡ 1))
     p (is_at_once run.words never p asks) (λ none held met. r p contents asks none held met)
 
 -- a run that waits for nobody is one by any machine
-pub by_any : (n : MachineKind) (run : Run) (status : ℕ) → may_wait run.words ≡ false → IsRun run status → IsRun (by_kind n run) status
+pub by_any : (n : Machines) (run : Run) (status : ℕ) → may_wait run.words ≡ false → IsRun run status → IsRun (by_others n run) status
 by_any n run status never r = record {
   statuses = r.statuses;
   done = λ s.
       let d = r.done s in
-      (d.0, d.1, carried run.kind n (λ terms. DoneBy terms run.course) d.0 (is_at_once run.words never d.0 d.1) d.2);
-  left = λ s p asks. carried run.kind n (λ terms. LeftBy terms run.course) p (is_at_once run.words never p asks) (r.left s p asks);
+      (d.0, d.1, carried run.machines n (λ terms. DoneBy terms run.course) d.0 (is_at_once run.words never d.0 d.1) d.2);
+  left = λ s p asks. carried run.machines n (λ terms. LeftBy terms run.course) p (is_at_once run.words never p asks) (r.left s p asks);
   untouched = r.untouched;
-  asked = λ p asks. carried run.kind n (λ terms. terms.asks run.course) p (is_at_once run.words never p asks) (r.asked p asks);
+  asked = λ p asks. carried run.machines n (λ terms. terms.asks run.course) p (is_at_once run.words never p asks) (r.asked p asks);
   idle = r.idle;
   usage = λ s. usage_by n run never (r.usage s);
   no_command = r.no_command;
   fault = λ s.
       let f = r.fault s in
-      (f.0, f.1, carried run.kind n (λ terms. HasFaultBy terms run.course) f.0 (is_at_once run.words never f.0 f.1) f.2);
+      (f.0, f.1, carried run.machines n (λ terms. HasFaultBy terms run.course) f.0 (is_at_once run.words never f.0 f.1) f.2);
   bad_input = λ s. bad_input_by n run never (r.bad_input s);
   hindered = λ s. hindered_by n run 5 never (r.hindered s);
   caused = caused_by n run status never r.caused;

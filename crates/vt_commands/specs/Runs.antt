@@ -9,23 +9,23 @@ use Rattle.vt_inputs.specs.Inputs.{Content}
 use Rattle.vt_inputs.specs.Lines.{memory_line, usage_line, fault_line}
 use Rattle.vt_inputs.specs.Refusals.{Told}
 use Rattle.vt_inputs.specs.Causes.{Cause, cause_status, IsFirstCause, AreHeld}
-use Rattle.vt_walk_commands.specs.Machines.{MachineKind}
 use Rattle.vt_inputs.specs.Terms.{Hindrance, hindrance_status, hindrance_line, DoneBy, LeftBy, IsHindered, HasFaultBy, HasBadInputBy}
 use Rattle.vt_words.specs.Commands.{CommandText, command_text}
+use Rattle.vt_walk_commands.specs.Machines.{Machines}
 use Rattle.vt_commands.specs.commands.{terms_of}
 use Rattle.vt_inputs.specs.declared.flaws.Flaw.{Flaw}
 
--- a run: the kind of machine by which it may walk, its words, the folder and the output before and after it, and the error output
+-- a run: the kinds of machines by which it may walk, its words, the folder and the output before and after it, and the error output
 pub record Run : Type 1 where
-  pub kind : MachineKind
+  pub machines : Machines
   pub words : List (List ℕ)
   pub course : Course
   pub err : Gain
 
--- the run with a kind of machine, words, and a folder, an output and an error output before and after it
-abbrev pub run_of : {D F O E : Type 0} → MachineKind → FolderMeanings D F → SinkMeanings O → SinkMeanings E → List (List ℕ) → D → D → O → O → E → E → Run
-run_of kind d o e words folder_old folder_new out_old out_new err_old err_new =
-    record { kind = kind; words = words; course = course d o folder_old folder_new out_old out_new; err = gain e err_old err_new }
+-- the run with kinds of machines, words, and a folder, an output and an error output before and after it
+abbrev pub run_of : {D F O E : Type 0} → Machines → FolderMeanings D F → SinkMeanings O → SinkMeanings E → List (List ℕ) → D → D → O → O → E → E → Run
+run_of machines d o e words folder_old folder_new out_old out_new err_old err_new =
+    record { machines = machines; words = words; course = course d o folder_old folder_new out_old out_new; err = gain e err_old err_new }
 
 -- the words ask for a command
 abbrev pub Asks : List (List ℕ) → CommandText → Type 0
@@ -37,19 +37,19 @@ AsksNothing words = IsNone (command_text words)
 
 -- the words' command is done
 abbrev pub RunDone : Run → Type 0
-RunDone run = (command : CommandText) × Asks run.words command × DoneBy (terms_of run.kind command) run.course
+RunDone run = (command : CommandText) × Asks run.words command × DoneBy (terms_of run.machines command) run.course
 
 -- the words' command left a part of what is due
 abbrev pub RunLeft : Run → Type 0
-RunLeft run = (command : CommandText) → Asks run.words command → LeftBy (terms_of run.kind command) run.course
+RunLeft run = (command : CommandText) → Asks run.words command → LeftBy (terms_of run.machines command) run.course
 
 -- nothing was asked but what the words' command asks
 abbrev pub RunAsked : Run → Type 0
-RunAsked run = (command : CommandText) → Asks run.words command → (terms_of run.kind command).asks run.course
+RunAsked run = (command : CommandText) → Asks run.words command → (terms_of run.machines command).asks run.course
 
 -- a call failed, or the first cause among the inputs is a missing name
 abbrev pub RunFault : Run → Type 0
-RunFault run = (command : CommandText) × Asks run.words command × HasFaultBy (terms_of run.kind command) run.course
+RunFault run = (command : CommandText) × Asks run.words command × HasFaultBy (terms_of run.machines command) run.course
 
 -- an input is refused for a flaw, and its line was told
 pub record RunBadInput (run : Run) : Type 0 where
@@ -57,7 +57,7 @@ pub record RunBadInput (run : Run) : Type 0 where
   pub asks : Asks run.words command
   pub name : List ℕ
   pub flaw : Flaw
-  pub bad : HasBadInputBy (terms_of run.kind command) run.course name flaw
+  pub bad : HasBadInputBy (terms_of run.machines command) run.course name flaw
   pub told : Told (bad_input_line name (flaw_place flaw)) run.err
 
 -- something of this status stands in the way of what the inputs hold together, and its line was told
@@ -66,27 +66,27 @@ pub record RunHindered (run : Run) (status : ℕ) : Type 0 where
   pub asks : Asks run.words command
   pub hindrance : Hindrance
   pub comes : hindrance_status hindrance ≡ status
-  pub met : IsHindered (terms_of run.kind command) run.course hindrance
+  pub met : IsHindered (terms_of run.machines command) run.course hindrance
   pub told : Told (hindrance_line hindrance) run.err
 
 -- where no call failed, the status is that of the first cause among the inputs, but for want of memory
 abbrev pub RunCaused : Run → ℕ → Type 0
-RunCaused run status = (command : CommandText) (cause : Cause) → Asks run.words command → ((terms_of run.kind command).failed run.course → ⊥)
-    → IsFirstCause run.course.folder.before.files (terms_of run.kind command).inputs cause → (status ≡ cause_status cause) ⊎ (status ≡ 1)
+RunCaused run status = (command : CommandText) (cause : Cause) → Asks run.words command → ((terms_of run.machines command).failed run.course → ⊥)
+    → IsFirstCause run.course.folder.before.files (terms_of run.machines command).inputs cause → (status ≡ cause_status cause) ⊎ (status ≡ 1)
 
 -- where no call failed and the inputs are accepted, the status is that of what stands in the way of what they hold
 abbrev pub RunStopped : Run → ℕ → Type 0
 RunStopped run status = (command : CommandText) (contents : List Content) (hindrance : Hindrance) → Asks run.words command
-    → ((terms_of run.kind command).failed run.course → ⊥)
-    → AreHeld run.course.folder.before.files (terms_of run.kind command).inputs contents
-    → (terms_of run.kind command).hinders contents hindrance → (status ≡ hindrance_status hindrance) ⊎ (status ≡ 1)
+    → ((terms_of run.machines command).failed run.course → ⊥)
+    → AreHeld run.course.folder.before.files (terms_of run.machines command).inputs contents
+    → (terms_of run.machines command).hinders contents hindrance → (status ≡ hindrance_status hindrance) ⊎ (status ≡ 1)
 
 -- and where nothing does, it is 0
 abbrev pub RunComplete : Run → ℕ → Type 0
 RunComplete run status = (command : CommandText) (contents : List Content) → Asks run.words command
-    → ((terms_of run.kind command).failed run.course → ⊥)
-    → AreHeld run.course.folder.before.files (terms_of run.kind command).inputs contents
-    → ((hindrance : Hindrance) → (terms_of run.kind command).hinders contents hindrance → ⊥) → (status ≡ 0) ⊎ (status ≡ 1)
+    → ((terms_of run.machines command).failed run.course → ⊥)
+    → AreHeld run.course.folder.before.files (terms_of run.machines command).inputs contents
+    → ((hindrance : Hindrance) → (terms_of run.machines command).hinders contents hindrance → ⊥) → (status ≡ 0) ⊎ (status ≡ 1)
 
 -- all that the top call says of a run that answered this status
 pub record IsRun (run : Run) (status : ℕ) : Type 0 where

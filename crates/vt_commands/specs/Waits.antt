@@ -12,7 +12,7 @@ use Rattle.vt_words.specs.Commands.{
   WalkCommand,
   TrialCommand,
 }
-use Rattle.vt_walk_commands.specs.Machines.{MachineKind}
+use Rattle.vt_walk_commands.specs.Machines.{MachineKind, Machines}
 
 -- the name is that of a command that may wait
 abbrev pub is_waiting_name : List ℕ → Bool
@@ -34,7 +34,7 @@ MayWait (ReplayCommand words) = ⊥
 MayWait (WalkCommand words) = Unit {0}
 MayWait (TrialCommand words) = Unit {0}
 
--- of no machine: the terms of a command that waits for nobody are the same by any
+-- of no machine
 abbrev pub no_machine : MachineKind
 no_machine = record {
   draws = record {
@@ -45,3 +45,7 @@ no_machine = record {
   };
   drawn = λ path picture row version bytes. ⊥;
 }
+
+-- with no machine: the terms of a command that waits for nobody are the same by any
+abbrev pub no_machines : Machines
+no_machines = record { nearest = no_machine; bilinear = no_machine }

@@ -13,7 +13,6 @@ use Rattle.vt_words.specs.Commands.{
   command_text,
 }
 use Rattle.vt_files.specs.Courses.{Course, IsIdle}
-use Rattle.vt_walk_commands.specs.Machines.{MachineKind}
 use Rattle.vt_inputs.specs.Terms.{Terms, task_terms, EndsBy}
 use Rattle.vt_store_commands.specs.commands.Plain.{plain_task}
 use Rattle.vt_store_commands.specs.commands.Tile.{tile_task}
@@ -23,18 +22,19 @@ use Rattle.vt_store_commands.specs.commands.Upgrade.{upgrade_task}
 use Rattle.vt_walk_commands.specs.commands.Replay.{replay_terms}
 use Rattle.vt_walk_commands.specs.commands.Walk.{walk_terms}
 use Rattle.vt_walk_commands.specs.commands.Trial.{trial_terms}
+use Rattle.vt_walk_commands.specs.Machines.{Machines, chosen}
 use Rattle.vt_inputs.specs.declared.refusal.Refusal.{Refusal}
 use Rattle.vt_inputs.specs.declared.refusal.Refusal.TheVariants.{NoMemory, Usage, Fault, Flawed, TooFewFrames, DoesNotFit}
 
--- the terms of a command by a machine
-abbrev pub terms_of : MachineKind → CommandText → Terms
+-- the terms of a command by these machines
+abbrev pub terms_of : Machines → CommandText → Terms
 terms_of m (PlainCommand words) = task_terms (plain_task words)
 terms_of m (TileCommand words) = task_terms (tile_task words)
 terms_of m (InfoCommand words) = task_terms (info_task words)
 terms_of m (GenCommand words) = task_terms (gen_task words)
 terms_of m (UpgradeCommand words) = task_terms (upgrade_task words)
 terms_of m (ReplayCommand words) = replay_terms words
-terms_of m (WalkCommand words) = walk_terms m words
+terms_of m (WalkCommand words) = walk_terms (chosen m words) words
 terms_of m (TrialCommand words) = trial_terms words
 
 -- a refusal of words: they ask for nothing, or memory was wanting
@@ -52,12 +52,12 @@ pub record IsRefused (words : List (List ℕ)) (c : Course) (refusal : Refusal) 
   pub idle : IsIdle c
 
 -- the words are those of a command, which ended so
-pub record EndsCommand {T : Type 0} (m : MachineKind) (words : List (List ℕ)) (c : Course) (result : Result T Refusal) : Type 0 where
+pub record EndsCommand {T : Type 0} (m : Machines) (words : List (List ℕ)) (c : Course) (result : Result T Refusal) : Type 0 where
   pub command : CommandText
   pub is : command_text words ≡ Some command
   pub ends : EndsBy (terms_of m command) c result
 
 -- how a run ends
-abbrev pub EndsRun : {T : Type 0} → MachineKind → List (List ℕ) → Course → Result T Refusal → Type 0
+abbrev pub EndsRun : {T : Type 0} → Machines → List (List ℕ) → Course → Result T Refusal → Type 0
 EndsRun {T} m words c (Ok value) = EndsCommand {T = T} m words c (Ok value)
 EndsRun {T} m words c (Err refusal) = IsRefused words c refusal ⊎ EndsCommand {T = T} m words c (Err refusal)

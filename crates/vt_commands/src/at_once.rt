@@ -7,7 +7,7 @@ ghost use Rattle.vt_words.specs.Commands.{shown, IsLawful};
 ghost use Rattle.vt_files.specs.Courses.{course};
 ghost use Rattle.vt_inputs.specs.Terms.{EndsBy};
 ghost use Rattle.vt_commands.specs.commands.{terms_of, EndsRun};
-ghost use Rattle.vt_commands.specs.Waits.{is_waiting_name, may_wait, MayWait, no_machine};
+ghost use Rattle.vt_commands.specs.Waits.{is_waiting_name, may_wait, MayWait, no_machines};
 ghost use Rattle.vt_commands.specs.Runs.{run_of, IsRun};
 
 use std::alloc::Global;
@@ -45,7 +45,7 @@ pub fn run_at_once<Rt: Threads + Sync, D: Folder, O: Sink, E: Sink>(
     err: &mut E,
 ) -> u8
     requires { may_wait (texts words.now) ≡ false }
-    ensures { IsRun (run_of no_machine D.Folder O.Sink E.Sink (texts words.now) folder.old folder.new out.old out.new
+    ensures { IsRun (run_of no_machines D.Folder O.Sink E.Sink (texts words.now) folder.old folder.new out.old out.new
         err.old
         err.new) result }
 {
@@ -63,7 +63,7 @@ fn do_at_once<'a, Rt: Threads + Sync, D: Folder, O: Sink>(
     out: &mut O,
 ) -> Result<(), Refusal<'a>>
     requires { may_wait (texts words.now) ≡ false }
-    ensures { EndsRun no_machine (texts words.now) (course D.Folder O.Sink folder.old folder.new out.old out.new)
+    ensures { EndsRun no_machines (texts words.now) (course D.Folder O.Sink folder.old folder.new out.old out.new)
         result }
 {
     let command = read_command(alloc, words)?;
@@ -80,7 +80,7 @@ fn perform_at_once<'a, Rt: Threads + Sync, D: Folder, O: Sink>(
 ) -> Result<(), Refusal<'a>>
     requires lawful { IsLawful command.now }
     requires at_once { MayWait (shown command.now) → ⊥ }
-    ensures { EndsBy (terms_of no_machine (shown command.now))
+    ensures { EndsBy (terms_of no_machines (shown command.now))
         (course D.Folder O.Sink folder.old folder.new out.old out.new) result }
 {
     match command {

@@ -2,6 +2,7 @@
 #![tactic(auto)]
 
 mod at_once;
+mod choice;
 mod top_call;
 mod waiting;
 

@@ -1,7 +1,7 @@
 //! The top call.
 
 ghost use Rattle.vt_words.specs.Arguments.{texts};
-ghost use Rattle.vt_walk_commands.specs.Machines.{kind_of};
+ghost use Rattle.vt_walk_commands.specs.Machines.{machines_of};
 ghost use Rattle.vt_commands.specs.Runs.{run_of, IsRun};
 
 use crate::at_once::{may_wait, run_at_once};
@@ -20,15 +20,16 @@ use vt_outside::{Folder, Gate, Sink};
 /// and writes its tile store; `info` tells what a tile store's header says; `gen` writes the texture of a number;
 /// `upgrade` reads a tile store of one-byte samples and writes the one of two-byte samples that it makes; `replay`
 /// reads a path, a store and a journal, and writes the replay of each picture of the journal; `walk` reads a path and
-/// opens a store, and writes a journal and each picture of the path as a machine of type `M` draws it while it
-/// streams the tiles of the store, whichever machine that is; `trial` walks settled in memory over a texture and a
-/// path that are made from a number, and tells how many passes and reads it took. `walk` and `trial` may wait; any
-/// other words are handed to `run_at_once`.
+/// opens a store, and writes a journal and each picture of the path as a machine draws it while it streams the tiles
+/// of the store: one of type `M`, or of type `Blend` where the words ask for bilinear filtering, whichever machines
+/// these are; `trial` walks settled in memory over a texture and a path that are made from a number, and tells how
+/// many passes and reads it took. `walk` and `trial` may wait; any other words are handed to `run_at_once`.
 ///
 /// The contract is the record `IsRun` of `specs/Runs.antt`, with a field for each promise: what stands, what was
 /// asked, the cause of each status, and the line on the error output.
 pub fn run<
     M: PassMachine<File = D::File> + Send,
+    Blend: PassMachine<File = D::File> + Send,
     Rt: Threads + Wait + Sync,
     D: Folder,
     O: Sink,
@@ -43,11 +44,11 @@ pub fn run<
     err: &mut E,
     gate: &G,
 ) -> u8
-    ensures { IsRun (run_of (kind_of M.drawing M.drawn) D.Folder O.Sink E.Sink (texts words.now) folder.old folder.new
-        out.old out.new err.old err.new) result }
+    ensures { IsRun (run_of (machines_of M.drawing M.drawn Blend.drawing Blend.drawn) D.Folder O.Sink E.Sink
+        (texts words.now) folder.old folder.new out.old out.new err.old err.new) result }
 {
     if may_wait(words) {
-        return run_waiting::<M, Rt, D, O, E, G>(rt, alloc, words, folder, out, err, gate);
+        return run_waiting::<M, Blend, Rt, D, O, E, G>(rt, alloc, words, folder, out, err, gate);
     }
     run_at_once(rt, alloc, words, folder, out, err)
 }

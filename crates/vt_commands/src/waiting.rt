@@ -5,24 +5,26 @@ ghost use Rattle.std.specs.Prelude.{◌≡◌, true};
 ghost use Rattle.vt_words.specs.Arguments.{texts};
 ghost use Rattle.vt_words.specs.Commands.{shown, IsLawful};
 ghost use Rattle.vt_files.specs.Courses.{course};
-ghost use Rattle.vt_walk_commands.specs.Machines.{kind_of};
+ghost use Rattle.vt_walk_commands.specs.Machines.{machines_of};
 ghost use Rattle.vt_inputs.specs.Terms.{EndsBy};
 ghost use Rattle.vt_commands.specs.commands.{terms_of, EndsRun};
 ghost use Rattle.vt_commands.specs.Waits.{may_wait, MayWait};
 ghost use Rattle.vt_commands.specs.Runs.{run_of, IsRun};
 
+use crate::choice::walk_chosen;
 use std::alloc::Global;
 use std::sync::Wait;
 use std::thread::Threads;
 use vt_inputs::{Refusal, status_of, tell_end};
 use vt_machine::PassMachine;
 use vt_outside::{Folder, Gate, Sink};
-use vt_walk_commands::{trial, walk};
+use vt_walk_commands::trial;
 use vt_words::{Command, read_command};
 
 /// Does what `run` does, where the words are those of a command that may wait.
 pub fn run_waiting<
     M: PassMachine<File = D::File> + Send,
+    Blend: PassMachine<File = D::File> + Send,
     Rt: Threads + Wait + Sync,
     D: Folder,
     O: Sink,
@@ -38,10 +40,10 @@ pub fn run_waiting<
     gate: &G,
 ) -> u8
     requires { may_wait (texts words.now) ≡ true }
-    ensures { IsRun (run_of (kind_of M.drawing M.drawn) D.Folder O.Sink E.Sink (texts words.now) folder.old folder.new
-        out.old out.new err.old err.new) result }
+    ensures { IsRun (run_of (machines_of M.drawing M.drawn Blend.drawing Blend.drawn) D.Folder O.Sink E.Sink
+        (texts words.now) folder.old folder.new out.old out.new err.old err.new) result }
 {
-    let end = do_waiting::<M, Rt, D, O, G>(rt, alloc, words, folder, out, gate);
+    let end = do_waiting::<M, Blend, Rt, D, O, G>(rt, alloc, words, folder, out, gate);
     tell_end(&end, err);
     status_of(&end)
 }
@@ -50,6 +52,7 @@ pub fn run_waiting<
 fn do_waiting<
     'a,
     M: PassMachine<File = D::File> + Send,
+    Blend: PassMachine<File = D::File> + Send,
     Rt: Threads + Wait + Sync,
     D: Folder,
     O: Sink,
@@ -63,17 +66,18 @@ fn do_waiting<
     gate: &G,
 ) -> Result<(), Refusal<'a>>
     requires { may_wait (texts words.now) ≡ true }
-    ensures { EndsRun (kind_of M.drawing M.drawn) (texts words.now)
+    ensures { EndsRun (machines_of M.drawing M.drawn Blend.drawing Blend.drawn) (texts words.now)
         (course D.Folder O.Sink folder.old folder.new out.old out.new) result }
 {
     let command = read_command(alloc, words)?;
-    perform_waiting::<M, Rt, D, O, G>(rt, alloc, &command, folder, out, gate)
+    perform_waiting::<M, Blend, Rt, D, O, G>(rt, alloc, &command, folder, out, gate)
 }
 
 // Does a command.
 fn perform_waiting<
     'a,
     M: PassMachine<File = D::File> + Send,
+    Blend: PassMachine<File = D::File> + Send,
     Rt: Threads + Wait + Sync,
     D: Folder,
     O: Sink,
@@ -88,11 +92,13 @@ fn perform_waiting<
 ) -> Result<(), Refusal<'a>>
     requires lawful { IsLawful command.now }
     requires waits { MayWait (shown command.now) }
-    ensures { EndsBy (terms_of (kind_of M.drawing M.drawn) (shown command.now))
+    ensures { EndsBy (terms_of (machines_of M.drawing M.drawn Blend.drawing Blend.drawn) (shown command.now))
         (course D.Folder O.Sink folder.old folder.new out.old out.new) result }
 {
     match command {
-        Command::Walk(words) => walk::<M, Rt, D, O, G>(rt, alloc, words, folder, out, gate),
+        Command::Walk(words) => {
+            walk_chosen::<M, Blend, Rt, D, O, G>(rt, alloc, words, folder, out, gate)
+        }
         Command::Trial(words) => trial(rt, alloc, words, out, gate),
         Command::Plain(_)
         | Command::Tile(_)

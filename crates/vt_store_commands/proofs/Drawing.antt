@@ -4,8 +4,8 @@ use Rattle.vt_definitions.specs.Depths.{greatest_sample}
 use Rattle.vt_ppm.specs.Image.{ImageView}
 use Rattle.vt_ppm.specs.Picture.{picture_header, picture_bytes}
 use Rattle.vt_camera.specs.Paths.{PathView}
-use Rattle.vt_draw.specs.Plain.{plain_samples}
-use Rattle.vt_store_commands.specs.Pictures.{plain_file}
+use Rattle.vt_words.specs.declared.filters.Filtering.{Filtering}
+use Rattle.vt_store_commands.specs.Pictures.{plain_file, samples_by}
 
 -- the parts of a header stand before samples
 header_before : (xs ys zs samples : List ℕ) → (codes "P6\n" ++ xs ++ codes " " ++ ys ++ codes "\n" ++ zs ++ codes "\n") ++ samples
@@ -13,13 +13,13 @@ header_before : (xs ys zs samples : List ℕ) → (codes "P6\n" ++ xs ++ codes "
 header_before xs ys zs samples = simp append_assoc
 
 -- a header, and a picture that was drawn behind it, are the picture's file
-pub file_is : (texture : ImageView) (tile : ℕ) (path : PathView) (picture d w h : ℕ) (given bytes begun : List ℕ)
-    → given ≡ bytes → bytes ≡ begun ++ plain_samples texture tile path picture → begun ≡ picture_header d w h
+pub file_is : (filter : Filtering) (texture : ImageView) (tile : ℕ) (path : PathView) (picture d w h : ℕ) (given bytes begun : List ℕ)
+    → given ≡ bytes → bytes ≡ begun ++ samples_by filter texture tile path picture → begun ≡ picture_header d w h
     → d ≡ texture.depth → w ≡ path.width → h ≡ path.height
-    → given ≡ plain_file texture tile path picture
+    → given ≡ plain_file filter texture tile path picture
 unfolding plain_file
-file_is texture tile path picture d w h given bytes begun same drawn header depth columns rows =
-    let samples = plain_samples texture tile path picture in
+file_is filter texture tile path picture d w h given bytes begun same drawn header depth columns rows =
+    let samples = samples_by filter texture tile path picture in
     same ∙ drawn ∙ ap (λ (l : List ℕ). l ++ samples) header
     ∙ header_before (decimal w) (decimal h) (decimal (greatest_sample d)) samples
     ∙ ap (λ (n : ℕ). picture_bytes n w h samples) depth

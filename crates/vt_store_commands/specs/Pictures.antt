@@ -4,8 +4,17 @@ use Rattle.vt_ppm.specs.Image.{ImageView}
 use Rattle.vt_ppm.specs.Picture.{picture_bytes}
 use Rattle.vt_camera.specs.Paths.{PathView}
 use Rattle.vt_draw.specs.Plain.{plain_samples}
+use Rattle.vt_plain_bilinear.specs.Plain.{plain_blends}
+use Rattle.vt_words.specs.declared.filters.Filtering.{Filtering}
+use Rattle.vt_words.specs.declared.filters.Filtering.TheVariants.{Nearest, Bilinear}
 
--- the file of the plain picture, at its depth, of a texture, a tile side, a path and the number of a picture (the Netpbm manual's P6 page)
-unfoldable pub plain_file : ImageView → ℕ → PathView → ℕ → List ℕ
-plain_file texture tile path picture =
-    picture_bytes texture.depth path.width path.height (plain_samples texture tile path picture)
+-- the samples of the plain picture by a filter
+abbrev pub samples_by : Filtering → ImageView → ℕ → PathView → ℕ → List ℕ
+samples_by Nearest = plain_samples
+samples_by Bilinear = plain_blends
+
+-- the file of the plain picture by a filter, at its depth, of a texture, a tile side, a path and the number of a picture (the Netpbm
+-- manual's P6 page)
+unfoldable pub plain_file : Filtering → ImageView → ℕ → PathView → ℕ → List ℕ
+plain_file filter texture tile path picture =
+    picture_bytes texture.depth path.width path.height (samples_by filter texture tile path picture)

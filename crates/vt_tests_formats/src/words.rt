@@ -8,8 +8,8 @@ use std::process::Abort;
 use vt_text::lines::field;
 use vt_text::numbers::decimal;
 use vt_words::{
-    Command, GenWords, PlainWords, ReplayWords, TileWords, WalkWords, WordsError, is_picture_name,
-    picture_name, read_command,
+    Command, Filtering, GenWords, PlainWords, ReplayWords, TileWords, WalkWords, WordsError,
+    is_picture_name, picture_name, read_command,
 };
 
 // Whether the fields of a text from one on are these words.
@@ -49,9 +49,17 @@ fn is_told(text: &[u8], words: &[&str], numbers: &[u32], last: &[&str]) -> bool 
         && field(text, behind + last.len()).is_none()
 }
 
+// What is told of a filter: nothing of the nearest.
+fn told_of(filter: Filtering) -> &'static [&'static str] {
+    match filter {
+        Filtering::Nearest => &[],
+        Filtering::Bilinear => &["bilinear"],
+    }
+}
+
 fn is_plain(text: &[u8], read: &PlainWords<'_>) -> bool {
     let words = ["plain", read.texture, read.path, read.prefix];
-    is_told(text, &words, &[read.tile], &[])
+    is_told(text, &words, &[read.tile], told_of(read.filter))
 }
 
 fn is_tile(text: &[u8], read: &TileWords<'_>) -> bool {
@@ -65,7 +73,7 @@ fn is_gen(text: &[u8], read: &GenWords<'_>) -> bool {
 
 fn is_replay(text: &[u8], read: &ReplayWords<'_>) -> bool {
     let words = ["replay", read.store, read.path, read.journal, read.prefix];
-    is_told(text, &words, &[], &[])
+    is_told(text, &words, &[], told_of(read.filter))
 }
 
 // Whether a text is the name of a command and these words.
@@ -73,7 +81,16 @@ fn is_of_words(text: &[u8], words: &[&str]) -> bool {
     is_told(text, words, &[], &[])
 }
 
-// Whether a text is the names of a walk, then its numbers in the order in which they are told.
+// What is told of a walk last: that it is settled, and its filter.
+fn told_last(settled: bool, filter: Filtering) -> &'static [&'static str] {
+    match (settled, filter) {
+        (true, Filtering::Bilinear) => &["settled", "bilinear"],
+        (true, Filtering::Nearest) => &["settled"],
+        (false, _) => told_of(filter),
+    }
+}
+
+// Whether a text is the names of a walk, then its numbers in the order in which they are told, and what is told last.
 fn is_walk(text: &[u8], read: &WalkWords<'_>) -> bool {
     let words = ["walk", read.store, read.path, read.prefix, read.journal];
     let numbers = [
@@ -83,11 +100,7 @@ fn is_walk(text: &[u8], read: &WalkWords<'_>) -> bool {
         read.batch,
         read.pinned,
     ];
-    if read.settled {
-        is_told(text, &words, &numbers, &["settled"])
-    } else {
-        is_told(text, &words, &numbers, &[])
-    }
+    is_told(text, &words, &numbers, told_last(read.settled, read.filter))
 }
 
 // Whether a text tells a command and its values.

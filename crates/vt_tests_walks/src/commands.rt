@@ -2,6 +2,7 @@
 
 mod crews;
 mod files;
+mod filters;
 mod flights;
 mod gates;
 mod generate;

@@ -18,7 +18,6 @@ use Rattle.vt_files.specs.Dues.{with_files, IsPart, FailsOnly, Puts}
 use Rattle.vt_files.proofs.Writing.{part_whole}
 use Rattle.vt_replay.specs.Flaws.{IsFirstRefused}
 use Rattle.vt_tiles.specs.Places.{IsTilePlace}
-use Rattle.vt_shown.specs.Replays.{pixel_under}
 use Rattle.vt_replay.specs.Outcomes.{HoldsReplay, HoldsPart, Stopped, Leaves, IsClosed}
 use Rattle.vt_replay.specs.declared.error.ReplayError.{ReplayError}
 use Rattle.vt_replay.specs.declared.error.ReplayError.TheVariants as replay
@@ -30,7 +29,7 @@ use Rattle.vt_inputs.specs.Causes.{AreHeld, IsAskedOrNot, AreAskedOrNot}
 use Rattle.vt_inputs.specs.Reads.{FileState, OpensStore, Closed, Took, Refused, IsCausedBy, IsAsked}
 use Rattle.vt_inputs.specs.Refusals.{IsRefusalOf, cause_of}
 use Rattle.vt_inputs.specs.Terms.{FlawedBeside, LeftBy, IsRefusalBy, EndsBy}
-use Rattle.vt_walk_commands.specs.commands.Replay.{ReplayOf, contents_of, journal_due, replay_inputs, replay_closes, replay_terms}
+use Rattle.vt_walk_commands.specs.commands.Replay.{ReplayOf, under_by, contents_of, journal_due, replay_inputs, replay_closes, replay_terms}
 use Rattle.vt_walk_commands.specs.commands.Replay.{RefusedBeside, IsAnswer, flaw_of_replay}
 use Rattle.vt_inputs.specs.declared.refusal.Refusal.{Refusal}
 use Rattle.vt_inputs.specs.declared.refusal.Refusal.TheVariants.{NoMemory, Usage, Fault, Flawed, TooFewFrames, DoesNotFit}
@@ -303,7 +302,7 @@ bytes_told words path shape depth file text f0 f1 f2 f3 h told =
 -- the pictures of the journal stand
 replayed_files : (words : ReplayText) (path : PathView) (shape : Shape) (depth : ℕ) (file : FileState) (text : List ℕ)
     (f0 f1 f2 f3 f4 : FolderState) (journal : Journal) → HasInputs words path shape depth file text f0 f1 f2 f3
-    → HoldsReplay pixel_under shape depth file.bytes path words.prefix journal f3.files f4.files → IsSome f0.files
+    → HoldsReplay (under_by words.filter) shape depth file.bytes path words.prefix journal f3.files f4.files → IsSome f0.files
     → f4.files ≡ option_map (with_files (journal_due words (replay_of path shape depth file text) journal).files) f0.files
 replayed_files words path shape depth file text f0 f1 f2 f3 f4 journal h holds told =
     let due = (journal_due words (replay_of path shape depth file text) journal).files in
@@ -312,7 +311,7 @@ replayed_files words path shape depth file text f0 f1 f2 f3 f4 journal h holds t
 
 part_files : (words : ReplayText) (path : PathView) (shape : Shape) (depth : ℕ) (file : FileState) (text : List ℕ)
     (f0 f1 f2 f3 f4 : FolderState) (journal : Journal) → HasInputs words path shape depth file text f0 f1 f2 f3
-    → HoldsPart pixel_under shape depth file.bytes path words.prefix journal f3.files f4.files → IsSome f0.files
+    → HoldsPart (under_by words.filter) shape depth file.bytes path words.prefix journal f3.files f4.files → IsSome f0.files
     → IsPart (journal_due words (replay_of path shape depth file text) journal).files f0.files f4.files
 part_files words path shape depth file text f0 f1 f2 f3 f4 journal h holds told =
     let due = (journal_due words (replay_of path shape depth file text) journal).files in
@@ -322,7 +321,7 @@ part_files words path shape depth file text f0 f1 f2 f3 f4 journal h holds told 
 -- what stands where the replay came to a stop
 left_stopped : (words : ReplayText) (path : PathView) (shape : Shape) (depth : ℕ) (file : FileState) (text : List ℕ)
     (f0 f1 f2 f3 f4 : FolderState) (out : SinkState) → HasInputs words path shape depth file text f0 f1 f2 f3
-    → Stopped pixel_under shape depth file.bytes path text words.prefix f3.files f4.files
+    → Stopped (under_by words.filter) shape depth file.bytes path text words.prefix f3.files f4.files
     → LeftBy (replay_terms words) (record { folder = record { before = f0; after = f4 }; out = record { before = out; after = out } })
 left_stopped words path shape depth file text f0 f1 f2 f3 f4 out h (inl same) =
     inl (record { files = same ∙ files_kept words path shape depth file text f0 f1 f2 f3 h; held = refl })
@@ -349,7 +348,7 @@ rise a b c d e n p q r rose = omega (arith, p, q, r, rose)
 replay_refused : (words : ReplayText) (path : PathView) (shape : Shape) (depth : ℕ) (file : FileState) (text : List ℕ)
     (f0 f1 f2 f3 f4 : FolderState) (out : SinkState) (error : ReplayError) (refusal : Refusal)
     → HasInputs words path shape depth file text f0 f1 f2 f3 → IsClosed shape depth file.name file.asked f3.asked f4.asked
-    → Leaves pixel_under shape depth file.bytes path text words.prefix f3.files f4.files (Err error)
+    → Leaves (under_by words.filter) shape depth file.bytes path text words.prefix f3.files f4.files (Err error)
     → (error ≡ replay.Failed → Rose (added f3.faults file.faults) f4.faults)
     → IsRefusalOf words.journal (flaw_of_replay error) refusal
     → EndsBy {T = Unit {0}} (replay_terms words)
@@ -394,7 +393,7 @@ replay_refused words path shape depth file text f0 f1 f2 f3 f4 out replay.NoMemo
 line_refused : (words : ReplayText) (path : PathView) (shape : Shape) (depth : ℕ) (file : FileState) (text : List ℕ)
     (f0 f1 f2 f3 f4 : FolderState) (out shown : SinkState) (count pictures : ℕ) (error : OutsideError)
     → HasInputs words path shape depth file text f0 f1 f2 f3 → IsClosed shape depth file.name file.asked f3.asked f4.asked
-    → Leaves pixel_under shape depth file.bytes path text words.prefix f3.files f4.files (Ok count) → pictures ≡ count
+    → Leaves (under_by words.filter) shape depth file.bytes path text words.prefix f3.files f4.files (Ok count) → pictures ≡ count
     → Puts {T = Unit {0}} (end_line pictures) (record { before = out; after = shown }) (Err error)
     → EndsBy {T = Unit {0}} (replay_terms words)
     (record { folder = record { before = f0; after = f4 }; out = record { before = out; after = shown } }) (Err (cause_of error))
@@ -445,7 +444,7 @@ same_first a b line same first =
 replay_done : (words : ReplayText) (path : PathView) (shape : Shape) (depth : ℕ) (file : FileState) (text : List ℕ)
     (f0 f1 f2 f3 f4 : FolderState) (out shown : SinkState) (count pictures : ℕ)
     → HasInputs words path shape depth file text f0 f1 f2 f3 → IsClosed shape depth file.name file.asked f3.asked f4.asked
-    → Leaves pixel_under shape depth file.bytes path text words.prefix f3.files f4.files (Ok count)
+    → Leaves (under_by words.filter) shape depth file.bytes path text words.prefix f3.files f4.files (Ok count)
     → ((line : ℕ) → IsFirstRefused shape path.height (length path.cameras) text line → ⊥) → pictures ≡ count
     → Puts {T = Unit {0}} (end_line pictures) (record { before = out; after = shown }) (Ok tt)
     → EndsBy {T = Unit {0}} (replay_terms words)
@@ -473,7 +472,7 @@ replay_done words path shape depth file text f0 f1 f2 f3 f4 out shown count pict
 pub answer_refused : (words : ReplayText) (path : PathView) (shape : Shape) (depth : ℕ) (file : FileState) (text : List ℕ)
     (f0 f1 f2 f3 f4 : FolderState) (out : SinkState) (played : Result ℕ ReplayError) (refusal : Refusal)
     → HasInputs words path shape depth file text f0 f1 f2 f3 → IsClosed shape depth file.name file.asked f3.asked f4.asked
-    → Leaves pixel_under shape depth file.bytes path text words.prefix f3.files f4.files played
+    → Leaves (under_by words.filter) shape depth file.bytes path text words.prefix f3.files f4.files played
     → (played ≡ Err replay.Failed → Rose (added f3.faults file.faults) f4.faults)
     → IsAnswer words.journal played (Err refusal)
     → EndsBy {T = Unit {0}} (replay_terms words)
@@ -485,7 +484,7 @@ answer_refused words path shape depth file text f0 f1 f2 f3 f4 out (Err error) r
 pub answer_untold : (words : ReplayText) (path : PathView) (shape : Shape) (depth : ℕ) (file : FileState) (text : List ℕ)
     (f0 f1 f2 f3 f4 : FolderState) (out shown : SinkState) (played : Result ℕ ReplayError) (pictures : ℕ) (error : OutsideError)
     → HasInputs words path shape depth file text f0 f1 f2 f3 → IsClosed shape depth file.name file.asked f3.asked f4.asked
-    → Leaves pixel_under shape depth file.bytes path text words.prefix f3.files f4.files played → IsAnswer words.journal played (Ok pictures)
+    → Leaves (under_by words.filter) shape depth file.bytes path text words.prefix f3.files f4.files played → IsAnswer words.journal played (Ok pictures)
     → Puts {T = Unit {0}} (end_line pictures) (record { before = out; after = shown }) (Err error)
     → EndsBy {T = Unit {0}} (replay_terms words)
     (record { folder = record { before = f0; after = f4 }; out = record { before = out; after = shown } }) (Err (cause_of error))
@@ -496,7 +495,7 @@ answer_untold words path shape depth file text f0 f1 f2 f3 f4 out shown (Err e) 
 pub answer_told : (words : ReplayText) (path : PathView) (shape : Shape) (depth : ℕ) (file : FileState) (text : List ℕ)
     (f0 f1 f2 f3 f4 : FolderState) (out shown : SinkState) (played : Result ℕ ReplayError) (pictures : ℕ)
     → HasInputs words path shape depth file text f0 f1 f2 f3 → IsClosed shape depth file.name file.asked f3.asked f4.asked
-    → Leaves pixel_under shape depth file.bytes path text words.prefix f3.files f4.files played
+    → Leaves (under_by words.filter) shape depth file.bytes path text words.prefix f3.files f4.files played
     → ((line : ℕ) → IsFirstRefused shape path.height (length path.cameras) text line
     → (played ≡ Err (replay.BadJournal line)) ⊎ (played ≡ Err replay.NoMemory)) → IsAnswer words.journal played (Ok pictures)
     → Puts {T = Unit {0}} (end_line pictures) (record { before = out; after = shown }) (Ok tt)

@@ -2,32 +2,36 @@
 use Rattle.std.specs.Prelude.{◌≡◌, List, [], ◌∷◌, Option, Some, None, false, codes, if◌then◌else◌}
 use Rattle.clap.specs.Words.{App, Row, Rule, Text, first_of}
 use Rattle.vt_words.specs.Arguments.{app, word, found, given}
+use Rattle.vt_words.specs.Filters.{filter_option, filter_of}
 use Rattle.vt_words.specs.Journals.{names_clash}
+use Rattle.vt_words.specs.declared.filters.Filtering.{Filtering}
 use Rattle.vt_words.specs.declared.replay.ReplayWords.{ReplayWords}
 
--- the words as names
+-- the words as names and a filter
 pub record ReplayText : Type 0 where
   pub store : Text
   pub path : Text
   pub journal : Text
   pub prefix : Text
+  pub filter : Filtering
 
 -- its arguments
 unfoldable pub replay_rules : List Rule
-replay_rules = word (codes "store") ∷ word (codes "path") ∷ word (codes "journal") ∷ word (codes "prefix") ∷ []
+replay_rules = word (codes "store") ∷ word (codes "path") ∷ word (codes "journal") ∷ word (codes "prefix") ∷ filter_option ∷ []
 
 abbrev pub replay_app : App
 replay_app = app (codes "replay") replay_rules
 
--- what the rows say; nothing where names clash
+-- what the rows say; nothing where the filter is not lawful or names clash
 abbrev pub replay_values : List Row → Option ReplayText
 replay_values rows =
     given (first_of (codes "store") rows) (λ store.
     given (first_of (codes "path") rows) (λ path.
     given (first_of (codes "journal") rows) (λ journal.
     given (first_of (codes "prefix") rows) (λ prefix.
+    given (filter_of rows) (λ filter.
     if names_clash store path journal prefix then None
-    else Some (record { store = store; path = path; journal = journal; prefix = prefix })))))
+    else Some (record { store = store; path = path; journal = journal; prefix = prefix; filter = filter }))))))
 
 -- what the words of `replay`, its name the first, ask for
 abbrev pub replay_text : List Text → Option ReplayText
@@ -35,7 +39,13 @@ replay_text words = given (found replay_app words) replay_values
 
 -- the words without where they lie in memory
 abbrev pub shown_replay : ReplayWords → ReplayText
-shown_replay words = record { store = words.store.now; path = words.path.now; journal = words.journal.now; prefix = words.prefix.now }
+shown_replay words = record {
+  store = words.store.now;
+  path = words.path.now;
+  journal = words.journal.now;
+  prefix = words.prefix.now;
+  filter = words.filter;
+}
 
 -- no names clash
 abbrev pub IsLawfulReplay : ReplayWords → Type 0

@@ -3,6 +3,7 @@
 
 mod arguments;
 mod command;
+mod filters;
 mod generate;
 mod info;
 mod laws;
@@ -17,6 +18,7 @@ mod walk;
 
 pub use arguments::WordsError;
 pub use command::{Command, read_command};
+pub use filters::Filtering;
 pub use generate::GenWords;
 pub use info::InfoWords;
 pub use laws::{known_names_are_pictures, picture_names_are_known};

@@ -8,6 +8,7 @@ ghost use Rattle.vt_words.specs.Plain.{plain_rules, plain_app, plain_clash, plai
 
 use crate::arguments::{Argument, text};
 use crate::command::Command;
+use crate::filters::{Filtering, filter_of};
 use crate::names::is_picture_name;
 use crate::numbers::side_of;
 use clap::ArgMatches;
@@ -23,6 +24,8 @@ pub struct PlainWords<'a> {
     pub prefix: &'a str,
     /// The tile side, one of 2, 4, 8, 16, 32, 64 and 128.
     pub tile: u32,
+    /// How the pixels are made of texels.
+    pub filter: Filtering,
 }
 
 /// The arguments of `plain`.
@@ -35,6 +38,7 @@ pub fn plain_rows<'a>() -> &'a [Argument<'a>]
         Argument::Word("path"),
         Argument::Word("prefix"),
         Argument::Option("tile", "64"),
+        Argument::Option("filter", "nearest"),
     ]
 }
 
@@ -47,6 +51,7 @@ pub fn plain_values<'a>(matches: &ArgMatches<'a>) -> Option<Command<'a>>
     let path = text(matches, "path")?;
     let prefix = text(matches, "prefix")?;
     let tile = side_of(matches, "tile")?;
+    let filter = filter_of(matches)?;
     if plain_clash(texture, path, prefix) {
         return None;
     }
@@ -55,6 +60,7 @@ pub fn plain_values<'a>(matches: &ArgMatches<'a>) -> Option<Command<'a>>
         path,
         prefix,
         tile,
+        filter,
     }))
 }
 

@@ -8,6 +8,7 @@ ghost use Rattle.vt_words.specs.Replay.{replay_rules, replay_app, replay_values}
 
 use crate::arguments::{Argument, text};
 use crate::command::Command;
+use crate::filters::{Filtering, filter_of};
 use crate::names::names_clash;
 use clap::ArgMatches;
 
@@ -23,6 +24,8 @@ pub struct ReplayWords<'a> {
     pub journal: &'a str,
     /// What the pictures' names begin with.
     pub prefix: &'a str,
+    /// How the pixels are made of texels; the journal does not tell by which filter its walk has drawn.
+    pub filter: Filtering,
 }
 
 /// The arguments of `replay`.
@@ -35,6 +38,7 @@ pub fn replay_rows<'a>() -> &'a [Argument<'a>]
         Argument::Word("path"),
         Argument::Word("journal"),
         Argument::Word("prefix"),
+        Argument::Option("filter", "nearest"),
     ]
 }
 
@@ -47,6 +51,7 @@ pub fn replay_values<'a>(matches: &ArgMatches<'a>) -> Option<Command<'a>>
     let path = text(matches, "path")?;
     let journal = text(matches, "journal")?;
     let prefix = text(matches, "prefix")?;
+    let filter = filter_of(matches)?;
     if names_clash(store, path, journal, prefix) {
         return None;
     }
@@ -55,5 +60,6 @@ pub fn replay_values<'a>(matches: &ArgMatches<'a>) -> Option<Command<'a>>
         path,
         journal,
         prefix,
+        filter,
     }))
 }

@@ -13,7 +13,8 @@ use std::{env, io};
 pub use vt_commands::run;
 use vt_inputs::Refusal;
 use vt_outside::{OpenGate, RealFile, RealFolder, RealSink};
-use vt_pass::WordMachine;
+use vt_pass::{FilteredMachine, WordMachine};
+use vt_plain_bilinear::Bilinear;
 
 // The words after the program's name.
 fn words_of(rt: &HostRuntime, alloc: Global) -> io::Result<Vec<String>> {
@@ -47,7 +48,15 @@ fn main(rt: HostRuntime) -> ExitCode {
     };
     let mut folder = RealFolder::new(&rt);
     let mut out = RealSink::new(rt.stdout());
-    let status = run::<WordMachine<RealFile<File>>, _, _, _, _, _>(
+    let status = run::<
+        WordMachine<RealFile<File>>,
+        FilteredMachine<RealFile<File>, Bilinear>,
+        _,
+        _,
+        _,
+        _,
+        _,
+    >(
         &rt,
         alloc,
         words.as_slice(),

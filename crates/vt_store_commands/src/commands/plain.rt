@@ -1,11 +1,11 @@
 //! The command `plain`: the plain picture of each camera of a path over a texture.
 
-ghost use Rattle.std.specs.Prelude.{◌<◌, [], ◌∷◌, length};
+ghost use Rattle.std.specs.Prelude.{◌≡◌, ◌<◌, [], ◌∷◌, ◌++◌, length, OnOk};
 ghost use Rattle.vt_definitions.specs.Tiles.{IsTileSide};
 ghost use Rattle.vt_files.specs.Courses.{course, passage};
 ghost use Rattle.vt_words.specs.Names.{four_digit_numbers};
 ghost use Rattle.vt_words.specs.Plain.{shown_plain};
-ghost use Rattle.vt_store_commands.specs.Pictures.{plain_file};
+ghost use Rattle.vt_store_commands.specs.Pictures.{plain_file, samples_by};
 ghost use Rattle.vt_files.specs.Dues.{Leaves, Writes};
 ghost use Rattle.vt_inputs.specs.Tasks.{Ends};
 ghost use Rattle.vt_files.specs.Pictures.{picture_due, pictures_due};
@@ -18,9 +18,10 @@ use vt_draw::{draw_plain_behind, drawing_threads};
 use vt_files::write_file;
 use vt_inputs::{Refusal, put_end, read_path, read_texture};
 use vt_mip::Chain;
-use vt_outside::{Folder, OutsideError, Sink};
+use vt_outside::{Folder, NoMemory, OutsideError, Sink};
+use vt_plain_bilinear::draw_plain_blend_behind;
 use vt_ppm::{Image, begin_picture};
-use vt_words::{PlainWords, picture_name};
+use vt_words::{Filtering, PlainWords, picture_name};
 
 /// Reads the path and then the texture, writes the plain picture of each camera under its name, and puts the end line.
 pub fn plain<'a, Rt: Threads + Sync, D: Folder, O: Sink>(
@@ -50,10 +51,10 @@ fn leave_pictures<Rt: Threads + Sync, D: Folder, O: Sink>(
     out: &mut O,
 ) -> Result<(), OutsideError>
     requires { IsTileSide words.now.tile }
-    ensures { Leaves (path_due words.now.prefix.now texture words.now.tile path.now) (course D.Folder O.Sink folder.old folder.new out.old out.new) result }
+    ensures { Leaves (path_due (shown_plain words.now) texture path.now) (course D.Folder O.Sink folder.old folder.new out.old out.new) result }
 {
     let chain = Chain::build(rt, alloc, texture, words.tile)?;
-    write_pictures(rt, alloc, &chain, path, words.prefix, folder)?;
+    write_pictures(rt, alloc, &chain, path, words, folder)?;
     put_end(out, path.pictures())
 }
 
@@ -63,10 +64,11 @@ fn write_pictures<Rt: Threads + Sync, D: Folder>(
     alloc: Global,
     chain: &Chain,
     path: &Path,
-    prefix: &str,
+    words: &PlainWords<'_>,
     folder: &mut D,
 ) -> Result<(), OutsideError>
-    ensures { Writes (pictures_due prefix.now (plain_file chain.now.base chain.now.tile path.now) (length path.now.cameras))
+    ensures { Writes (pictures_due words.now.prefix.now
+        (plain_file words.now.filter chain.now.base chain.now.tile path.now) (length path.now.cameras))
         (passage D.Folder folder.old folder.new) result }
 {
     let threads = drawing_threads(rt, path);
@@ -80,7 +82,7 @@ fn write_pictures<Rt: Threads + Sync, D: Folder>(
             chain,
             path,
             picture,
-            prefix,
+            words,
             folder,
         )?;
     }
@@ -96,16 +98,36 @@ fn write_picture<Rt: Threads + Sync, D: Folder>(
     chain: &Chain,
     path: &Path,
     picture: u32,
-    prefix: &str,
+    words: &PlainWords<'_>,
     folder: &mut D,
 ) -> Result<(), OutsideError>
     requires picture { picture < length path.now.cameras }
     requires few { picture < four_digit_numbers }
-    ensures { Writes (picture_due prefix.now (plain_file chain.now.base chain.now.tile path.now) picture ∷ [])
+    ensures { Writes (picture_due words.now.prefix.now (plain_file words.now.filter chain.now.base chain.now.tile path.now) picture ∷ [])
         (passage D.Folder folder.old folder.new) result }
 {
     begin_picture(buffer, alloc, chain.depth(), path.width(), path.height())?;
-    draw_plain_behind(rt, threads, chain, path, picture, buffer)?;
-    let name = picture_name(alloc, prefix, picture)?;
+    draw_behind(rt, threads, words.filter, chain, path, picture, buffer)?;
+    let name = picture_name(alloc, words.prefix, picture)?;
     write_file(folder, name.as_str(), buffer)
+}
+
+// Draws a picture by a filter behind what the buffer holds, in so many threads where each pixel is one texel.
+fn draw_behind<Rt: Threads + Sync>(
+    rt: &Rt,
+    threads: usize,
+    filter: Filtering,
+    chain: &Chain,
+    path: &Path,
+    picture: u32,
+    buffer: &mut Vec<u8>,
+) -> Result<(), NoMemory>
+    requires { picture < length path.now.cameras }
+    ensures { OnOk result (buffer.new.items
+        ≡ buffer.old.items ++ samples_by filter chain.now.base chain.now.tile path.now picture) }
+{
+    match filter {
+        Filtering::Nearest => draw_plain_behind(rt, threads, chain, path, picture, buffer),
+        Filtering::Bilinear => draw_plain_blend_behind(chain, path, picture, buffer),
+    }
 }

@@ -128,6 +128,52 @@ fn replay_has_four_names_and_writes_none_that_it_reads(rt: HostRuntime) {
 }
 
 #[test]
+fn the_filter_is_one_of_two_and_else_the_nearest(rt: HostRuntime) {
+    const CASES: [(&str, &str); 18] = [
+        (
+            "vtex plain t p x --filter bilinear",
+            "plain t p x 64 bilinear",
+        ),
+        (
+            "vtex plain --filter=bilinear t p x --tile 2",
+            "plain t p x 2 bilinear",
+        ),
+        ("vtex plain t p x --filter nearest", "plain t p x 64"),
+        (
+            "vtex replay s p j x --filter bilinear",
+            "replay s p j x bilinear",
+        ),
+        ("vtex replay --filter nearest s p j x", "replay s p j x"),
+        (
+            "vtex walk s p x --filter bilinear",
+            "walk s p x journal.txt 64 4 3 64 1 bilinear",
+        ),
+        (
+            "vtex walk s p x --settled --filter=bilinear",
+            "walk s p x journal.txt 64 4 3 64 1 settled bilinear",
+        ),
+        (
+            "vtex walk s p x --filter nearest --settled",
+            "walk s p x journal.txt 64 4 3 64 1 settled",
+        ),
+        ("vtex plain t p x --filter trilinear", "usage"),
+        ("vtex plain t p x --filter Bilinear", "usage"),
+        ("vtex replay s p j x --filter=", "usage"),
+        ("vtex replay s p j x --filter", "usage"),
+        ("vtex walk s p x --filter linear", "usage"),
+        (
+            "vtex walk s p x --filter bilinear --filter bilinear",
+            "usage",
+        ),
+        ("vtex tile t s --filter bilinear", "usage"),
+        ("vtex info s --filter nearest", "usage"),
+        ("vtex gen 1 1 1 n --filter bilinear", "usage"),
+        ("vtex trial 7 --filter bilinear", "usage"),
+    ];
+    are_read(&rt, rt.alloc(), &CASES);
+}
+
+#[test]
 fn trial_has_a_number_of_sixteen_bits(rt: HostRuntime) {
     const CASES: [(&str, &str); 8] = [
         ("vtex trial 0", "trial 0"),

@@ -6,15 +6,18 @@ use Rattle.vt_outside.specs.declared.answers.OutsideError.TheVariants as outside
 use Rattle.vt_pages.specs.Shape.{Shape}
 use Rattle.vt_camera.specs.Paths.{PathView}
 use Rattle.vt_journal.specs.JournalText.{Content as Journal}
+use Rattle.vt_shown.specs.Replays.{pixel_under}
+use Rattle.vt_plain_bilinear.specs.Shown.{blend_under}
 use Rattle.vt_files.specs.Courses.{Passage, Course}
 use Rattle.vt_files.specs.Dues.{Due, with_files, IsPart}
-use Rattle.vt_shown.specs.Replays.{pixel_under}
 use Rattle.vt_replay.specs.Flaws.{IsFirstRefused}
 use Rattle.vt_replay.specs.Outcomes.{IsReplayable}
-use Rattle.vt_replay.specs.Replayed.{replay_due, pictures_of}
+use Rattle.vt_replay.specs.Replayed.{Under, replay_due, pictures_of}
 use Rattle.vt_replay.specs.declared.error.ReplayError.{ReplayError}
 use Rattle.vt_replay.specs.declared.error.ReplayError.TheVariants as replay
 use Rattle.vt_words.specs.Replay.{ReplayText}
+use Rattle.vt_words.specs.declared.filters.Filtering.{Filtering}
+use Rattle.vt_words.specs.declared.filters.Filtering.TheVariants.{Nearest, Bilinear}
 use Rattle.vt_inputs.specs.Lines.{end_line}
 use Rattle.vt_inputs.specs.Inputs.{Input, Content, PathInput, PagedStore, JournalInput, PathContent, PagedContent, TextContent}
 use Rattle.vt_inputs.specs.Causes.{AsksSome}
@@ -25,6 +28,11 @@ use Rattle.vt_inputs.specs.Terms.{Terms, Hindrance, FlawedBeside}
 use Rattle.vt_inputs.specs.declared.flaws.Flaw.{Flaw}
 use Rattle.vt_inputs.specs.declared.flaws.Flaw.TheVariants.{BadLine}
 use Rattle.vt_inputs.specs.declared.refusal.Refusal.{Refusal}
+
+-- how a filter shows pixels under a page table
+abbrev pub under_by : Filtering → Under
+under_by Nearest = pixel_under
+under_by Bilinear = blend_under
 
 -- what a replay is of: a path, a store with its bytes, and the text of a journal
 pub record ReplayOf : Type 0 where
@@ -38,10 +46,10 @@ pub record ReplayOf : Type 0 where
 abbrev pub contents_of : ReplayOf → List Content
 contents_of g = PathContent g.path ∷ PagedContent g.shape g.depth g.bytes ∷ TextContent g.text ∷ []
 
--- the pictures of a journal, each the replay of its last pass, and the end line
+-- the pictures of a journal, each the replay of its last pass by the words' filter, and the end line
 abbrev pub journal_due : ReplayText → ReplayOf → Journal → Due
 journal_due words g journal = record {
-  files = replay_due pixel_under g.shape g.depth g.bytes g.path words.prefix journal;
+  files = replay_due (under_by words.filter) g.shape g.depth g.bytes g.path words.prefix journal;
   text = end_line (pictures_of journal.passes);
 }
 

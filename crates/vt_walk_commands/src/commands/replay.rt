@@ -1,20 +1,26 @@
 //! The command `replay`: the pictures of a journal, drawn again from its store and its path.
 
-ghost use Rattle.std.specs.Prelude.{◌≡◌, IfOk, IfErr};
+ghost use Rattle.std.specs.Prelude.{◌≡◌, ◌⊎◌, ℕ, length, IfOk, IfErr};
+ghost use Rattle.vt_outside.specs.Counts.{Rose, added};
 ghost use Rattle.vt_files.specs.Courses.{course, passage};
 ghost use Rattle.vt_words.specs.Replay.{shown_replay};
+ghost use Rattle.vt_replay.specs.Flaws.{IsFirstRefused};
+ghost use Rattle.vt_replay.specs.Outcomes.{Leaves, IsClosed};
 ghost use Rattle.vt_inputs.specs.Inputs.{JournalInput, TextContent};
 ghost use Rattle.vt_inputs.specs.Reads.{file_state, Took};
 ghost use Rattle.vt_inputs.specs.Terms.{EndsBy};
-ghost use Rattle.vt_walk_commands.specs.commands.Replay.{replay_terms, RefusedBeside, IsAnswer, flaw_of_replay};
+ghost use Rattle.vt_walk_commands.specs.commands.Replay.{under_by, replay_terms, RefusedBeside, IsAnswer, flaw_of_replay};
 
 use std::alloc::Global;
 use std::thread::Threads;
+use vt_camera::Path;
+use vt_filter::Nearest;
 use vt_inputs::{Flaw, Refusal, open_store, put_end, read_journal, read_path, refusal_of};
 use vt_outside::{Folder, OutsideError, Sink};
-use vt_replay::ReplayError;
+use vt_plain_bilinear::Bilinear;
+use vt_replay::{ReplayError, replay_by};
 use vt_tiles::Store;
-use vt_words::ReplayWords;
+use vt_words::{Filtering, ReplayWords};
 
 /// Reads the path, opens the store and reads the journal, writes each picture of the journal under its name, and puts
 /// the end line.
@@ -31,7 +37,16 @@ pub fn replay<'a, Rt: Threads + Sync, D: Folder, O: Sink>(
     let path = read_path(alloc, folder, words.path)?;
     let store = open_store(folder, words.store)?;
     let (store, text) = read_beside(alloc, folder, store, words.journal)?;
-    let played = vt_replay::replay(alloc, folder, store, &path, &text, words.prefix);
+    let played = play(
+        rt,
+        words.filter,
+        alloc,
+        folder,
+        store,
+        &path,
+        &text,
+        words.prefix,
+    );
     let pictures = answer_of(words.journal, played)?;
     put_end(out, pictures)?;
     Ok(())
@@ -55,6 +70,36 @@ fn read_beside<'a, D: Folder>(
         Err(refusal) => {
             folder.close(store.into_file());
             Err(refusal)
+        }
+    }
+}
+
+// Draws the pictures of a journal by a filter, and closes the store.
+fn play<Rt: Threads + Sync, D: Folder>(
+    rt: &Rt,
+    filter: Filtering,
+    alloc: Global,
+    folder: &mut D,
+    store: Store<D::File>,
+    path: &Path,
+    journal: &[u8],
+    prefix: &str,
+) -> Result<u32, ReplayError>
+    ensures leaves { Leaves (under_by filter) store.shape store.depth (D.File.bytes store.file) path.now journal.now
+        prefix.now (D.files folder.old) (D.files folder.new) result }
+    ensures refused { (line : ℕ) → IsFirstRefused store.shape path.now.height (length path.now.cameras) journal.now line
+        → (result ≡ Err (ReplayError.BadJournal line)) ⊎ (result ≡ Err ReplayError.NoMemory) }
+    ensures failed { result ≡ Err ReplayError.Failed
+        → Rose (added (D.faults folder.old) (D.File.faults store.file)) (D.faults folder.new) }
+    ensures closed { IsClosed store.shape store.depth (D.File.name store.file) (D.File.asked store.file)
+        (D.asked folder.old) (D.asked folder.new) }
+{
+    match filter {
+        Filtering::Nearest => replay_by::<Rt, Nearest, D>(
+            rt, alloc, folder, store, path, journal, prefix,
+        ),
+        Filtering::Bilinear => {
+            replay_by::<Rt, Bilinear, D>(rt, alloc, folder, store, path, journal, prefix)
         }
     }
 }

@@ -3,7 +3,7 @@ use Rattle.std.proofs.lemmas.Result.{err_from_is_err_and}
 use Rattle.vt_words.specs.Arguments.{texts}
 use Rattle.vt_words.specs.Commands.{shown}
 use Rattle.vt_files.specs.Courses.{course}
-use Rattle.vt_commands.specs.Waits.{no_machine}
+use Rattle.vt_commands.specs.Waits.{no_machines}
 use Rattle.vt_commands.proofs.Clauses.{runs_unread, runs_command}
 use Rattle.vt_commands.proofs.Waits.{is_at_once}
 use Rattle.vt_commands.proofs.at_once.do_at_once.Goals as goal
@@ -11,7 +11,7 @@ use Rattle.vt_commands.proofs.at_once.do_at_once.Goals as goal
 pub returns-in_err-command : goal.returns-in_err-command
 returns-in_err-command g c =
     let p = err_from_is_err_and c.from_residual.result c.from_residual.ensures.1 in
-    rw (p.1, p.2) (runs_unread no_machine _ (texts c.args.words.now) _
+    rw (p.1, p.2) (runs_unread no_machines _ (texts c.args.words.now) _
     c.in_err-command.field-0.0 (record { folder = refl; out = refl }) (λ is. c.in_err-command.ensures.usage (ap Err is)))
 
 pub perform_at_once-requires-clause-at_once : goal.perform_at_once-requires-clause-at_once
@@ -19,6 +19,6 @@ perform_at_once-requires-clause-at_once g c lives outlive = is_at_once (texts c.
 
 pub returns : goal.returns
 returns g c =
-    runs_command no_machine _ (texts c.args.words.now)
+    runs_command no_machines _ (texts c.args.words.now)
     (course g.D.Folder g.O.Sink c.args.folder.now c.perform_at_once.new.folder c.args.out.now c.perform_at_once.new.out)
     c.perform_at_once.result (shown c.in_ok-command.command) c.in_ok-command.ensures.read c.perform_at_once.ensures

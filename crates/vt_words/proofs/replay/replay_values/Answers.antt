@@ -2,10 +2,10 @@ use Rattle.std.proofs.Common.{sym, ◌∙◌}
 use Rattle.vt_words.proofs.replay.replay_values.Goals as goal
 
 pub returns-then-names_clash-clause-read : goal.returns-then-names_clash-clause-read
-returns-then-names_clash-clause-read c = rw (← c.in_ok-store.ensures, ← c.in_ok-path.ensures, ← c.in_ok-journal.ensures, ← c.in_ok-prefix.ensures, ← c.names_clash.ensures, c.if-names_clash.true)
+returns-then-names_clash-clause-read c = rw (← c.in_ok-store.ensures, ← c.in_ok-path.ensures, ← c.in_ok-journal.ensures, ← c.in_ok-prefix.ensures, ← c.in_ok-filter.ensures, ← c.names_clash.ensures, c.if-names_clash.true)
 
 pub returns-clause-read : goal.returns-clause-read
-returns-clause-read c = rw (← c.in_ok-store.ensures, ← c.in_ok-path.ensures, ← c.in_ok-journal.ensures, ← c.in_ok-prefix.ensures, ← c.names_clash.ensures, c.if-names_clash.false)
+returns-clause-read c = rw (← c.in_ok-store.ensures, ← c.in_ok-path.ensures, ← c.in_ok-journal.ensures, ← c.in_ok-prefix.ensures, ← c.in_ok-filter.ensures, ← c.names_clash.ensures, c.if-names_clash.false)
 
 pub returns-clause-lawful : goal.returns-clause-lawful
 returns-clause-lawful c = sym c.names_clash.ensures ∙ c.if-names_clash.false

@@ -10,11 +10,11 @@ use Rattle.vt_store_commands.proofs.commands.plain.write_pictures.Goals as goal
 
 pub loop-picture-init : goal.loop-picture-init
 loop-picture-init g c =
-    no_pictures c.args.prefix.now (plain_file c.args.chain.now.base c.args.chain.now.tile c.args.path.now) (folder_state g.D.Folder c.args.folder.now)
+    no_pictures c.args.words.now.prefix.now (plain_file c.args.words.now.filter c.args.chain.now.base c.args.chain.now.tile c.args.path.now) (folder_state g.D.Folder c.args.folder.now)
 
 pub loop-picture-preserved : goal.loop-picture-preserved
 loop-picture-preserved g c =
-    more_pictures c.args.prefix.now (plain_file c.args.chain.now.base c.args.chain.now.tile c.args.path.now) c.loop-picture.picture
+    more_pictures c.args.words.now.prefix.now (plain_file c.args.words.now.filter c.args.chain.now.base c.args.chain.now.tile c.args.path.now) c.loop-picture.picture
     (folder_state g.D.Folder c.args.folder.now) (folder_state g.D.Folder c.loop-picture.folder) (folder_state g.D.Folder c.write_picture.new.folder)
     c.loop-picture.invariant c.in_ok-write_picture.ensures
 
@@ -23,7 +23,7 @@ returns-in_err-write_picture g c =
     let p = err_from_is_err_and c.from_residual.result c.from_residual.ensures.1 in
     let path = c.args.path.now in
     let below : c.loop-picture.picture < length path.cameras = omega (arith, c.loop-picture-test.true, c.pictures-picture-end.ensures.value) in
-    rw (p.1, p.2) (stopped_pictures c.args.prefix.now (plain_file c.args.chain.now.base c.args.chain.now.tile path) c.loop-picture.picture (length path.cameras)
+    rw (p.1, p.2) (stopped_pictures c.args.words.now.prefix.now (plain_file c.args.words.now.filter c.args.chain.now.base c.args.chain.now.tile path) c.loop-picture.picture (length path.cameras)
     (folder_state g.D.Folder c.args.folder.now) (folder_state g.D.Folder c.loop-picture.folder) (folder_state g.D.Folder c.write_picture.new.folder)
     c.in_err-write_picture.field-0.0 below c.loop-picture.invariant c.in_err-write_picture.ensures)
 
@@ -34,6 +34,6 @@ returns g c =
     omega (arith, c.loop-picture-test.false, c.loop-picture.auto.picture-end, c.pictures-picture-end.ensures.value) in (
       c.loop-picture.invariant.asks,
       c.loop-picture.invariant.files
-          ∙ ap (λ (n : ℕ). option_map (with_files (pictures_due c.args.prefix.now (plain_file c.args.chain.now.base c.args.chain.now.tile path) n))
+          ∙ ap (λ (n : ℕ). option_map (with_files (pictures_due c.args.words.now.prefix.now (plain_file c.args.words.now.filter c.args.chain.now.base c.args.chain.now.tile path) n))
           (g.D.Folder.files c.args.folder.now)) all,
     )

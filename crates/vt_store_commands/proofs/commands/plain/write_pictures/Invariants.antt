@@ -6,4 +6,4 @@ use Rattle.vt_store_commands.proofs.commands.plain.write_pictures.Given as goal
 -- the pictures so far are written
 abbrev pub invariant-loop-picture : goal.invariant-loop-picture
 invariant-loop-picture g l =
-    HasPictures l.prefix (plain_file l.chain.base l.chain.tile l.path) l.picture (folder_state g.D.Folder l.fn.folder) (folder_state g.D.Folder l.folder)
+    HasPictures l.words.prefix.now (plain_file l.words.filter l.chain.base l.chain.tile l.path) l.picture (folder_state g.D.Folder l.fn.folder) (folder_state g.D.Folder l.folder)

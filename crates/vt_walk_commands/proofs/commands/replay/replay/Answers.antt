@@ -38,7 +38,7 @@ returns-in_err-pictures g c =
     let f1 = folder_state g.D.Folder c.read_path.new.folder in
     let f2 = folder_state g.D.Folder c.open_store.new.folder in
     let f3 = folder_state g.D.Folder c.read_beside.new.folder in
-    let f4 = folder_state g.D.Folder c.replay-played.new.folder in
+    let f4 = folder_state g.D.Folder c.play-played.new.folder in
     let store = c.in_ok-store-2.store in
     let file = file_state g.D.File.File store.file in
     let text = c.deref.result.now in
@@ -50,9 +50,9 @@ returns-in_err-pictures g c =
     (sym c.deref.ensures.value) c.in_ok-store-2.ensures.took in
     let inputs : HasInputs words c.in_ok-path.path store.shape store.depth file text f0 f1 f2 f3 =
     record { path_read = c.in_ok-path.ensures; opened = opened; text_read = read } in
-    let e = c.replay-played.ensures in
+    let e = c.play-played.ensures in
     rw (p.1, p.2) (answer_refused words c.in_ok-path.path store.shape store.depth file text f0 f1 f2 f3 f4 (sink_state g.O.Sink c.args.out.now)
-    c.replay-played.result c.in_err-pictures.field-0.0 inputs e.closed e.leaves e.failed c.in_err-pictures.ensures)
+    c.play-played.result c.in_err-pictures.field-0.0 inputs e.closed e.leaves e.failed c.in_err-pictures.ensures)
 
 pub returns-in_err-put_end : goal.returns-in_err-put_end
 returns-in_err-put_end g c =
@@ -62,7 +62,7 @@ returns-in_err-put_end g c =
     let f1 = folder_state g.D.Folder c.read_path.new.folder in
     let f2 = folder_state g.D.Folder c.open_store.new.folder in
     let f3 = folder_state g.D.Folder c.read_beside.new.folder in
-    let f4 = folder_state g.D.Folder c.replay-played.new.folder in
+    let f4 = folder_state g.D.Folder c.play-played.new.folder in
     let store = c.in_ok-store-2.store in
     let file = file_state g.D.File.File store.file in
     let text = c.deref.result.now in
@@ -74,9 +74,9 @@ returns-in_err-put_end g c =
     (sym c.deref.ensures.value) c.in_ok-store-2.ensures.took in
     let inputs : HasInputs words c.in_ok-path.path store.shape store.depth file text f0 f1 f2 f3 =
     record { path_read = c.in_ok-path.ensures; opened = opened; text_read = read } in
-    let e = c.replay-played.ensures in
+    let e = c.play-played.ensures in
     rw (p.1, p.2) (answer_untold words c.in_ok-path.path store.shape store.depth file text f0 f1 f2 f3 f4 (sink_state g.O.Sink c.args.out.now)
-    (sink_state g.O.Sink c.put_end.new.out) c.replay-played.result c.in_ok-pictures.pictures c.in_err-put_end.field-0.0 inputs e.closed e.leaves
+    (sink_state g.O.Sink c.put_end.new.out) c.play-played.result c.in_ok-pictures.pictures c.in_err-put_end.field-0.0 inputs e.closed e.leaves
     c.in_ok-pictures.ensures c.in_err-put_end.ensures)
 
 pub returns : goal.returns
@@ -86,7 +86,7 @@ returns g c =
     let f1 = folder_state g.D.Folder c.read_path.new.folder in
     let f2 = folder_state g.D.Folder c.open_store.new.folder in
     let f3 = folder_state g.D.Folder c.read_beside.new.folder in
-    let f4 = folder_state g.D.Folder c.replay-played.new.folder in
+    let f4 = folder_state g.D.Folder c.play-played.new.folder in
     let store = c.in_ok-store-2.store in
     let file = file_state g.D.File.File store.file in
     let text = c.deref.result.now in
@@ -98,7 +98,7 @@ returns g c =
     (sym c.deref.ensures.value) c.in_ok-store-2.ensures.took in
     let inputs : HasInputs words c.in_ok-path.path store.shape store.depth file text f0 f1 f2 f3 =
     record { path_read = c.in_ok-path.ensures; opened = opened; text_read = read } in
-    let e = c.replay-played.ensures in
+    let e = c.play-played.ensures in
     answer_told words c.in_ok-path.path store.shape store.depth file text f0 f1 f2 f3 f4 (sink_state g.O.Sink c.args.out.now)
-    (sink_state g.O.Sink c.put_end.new.out) c.replay-played.result c.in_ok-pictures.pictures inputs e.closed e.leaves e.refused
+    (sink_state g.O.Sink c.put_end.new.out) c.play-played.result c.in_ok-pictures.pictures inputs e.closed e.leaves e.refused
     c.in_ok-pictures.ensures c.in_ok-put_end.ensures
