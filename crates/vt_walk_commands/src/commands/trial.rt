@@ -163,11 +163,7 @@ fn path_text(number: u32) -> Line
 }
 
 // The mip chain of the texture of a number.
-fn make_chain<Rt: Threads + Sync>(
-    rt: &Rt,
-    alloc: Global,
-    number: u32,
-) -> Result<Chain, NoMemory>
+fn make_chain<Rt: Threads + Sync>(rt: &Rt, alloc: Global, number: u32) -> Result<Chain, NoMemory>
     requires { number ≤ most_number }
     ensures { IfOk result (IsOfTrial number) }
 {
