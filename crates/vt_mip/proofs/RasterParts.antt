@@ -28,7 +28,7 @@ module _ (d w l r : ℕ) (a b p q : List ℕ) (wide : 1 ≤ w) (high : 1 ≤ r) 
   in_upper i j c inside few =
       ap (λ (y : ℕ). raster_sample d a w (clamped w i) y c) (let s : clamped (2 * l) j ≡ j = omega (arith, inside) in s)
       ∙ sym (sample_before d a b (3 * (w * (2 * l))) (3 * (j * w + clamped w i) + c) upper
-          (among w (clamped w i) j c (2 * l) (clamped_below w i wide) inside few))
+      (among w (clamped w i) j c (2 * l) (clamped_below w i wide) inside few))
       ∙ ap (λ (y : ℕ). raster_sample d (a ++ b) w (clamped w i) y c) (let s : j ≡ clamped (2 * l + r) j = omega (arith, inside) in s)
 
   -- the samples of the lower part
@@ -46,7 +46,7 @@ module _ (d w l r : ℕ) (a b p q : List ℕ) (wide : 1 ≤ w) (high : 1 ≤ r) 
       sample_before d p q (3 * ((w + 1) / 2 * l)) (3 * (y * ((w + 1) / 2) + x) + c) made (among ((w + 1) / 2) x y c l inside early few)
       ∙ above.each x y c inside early few
       ∙ box_same _ _ _ _ _ _ _ _ (in_upper (2 * x) (2 * y) c (omega (arith, early)) few) (in_upper (2 * x + 1) (2 * y) c (omega (arith, early)) few)
-          (in_upper (2 * x) (2 * y + 1) c (omega (arith, early)) few) (in_upper (2 * x + 1) (2 * y + 1) c (omega (arith, early)) few)
+      (in_upper (2 * x) (2 * y + 1) c (omega (arith, early)) few) (in_upper (2 * x + 1) (2 * y + 1) c (omega (arith, early)) few)
 
   in_high : (x y c : ℕ) → x < (w + 1) / 2 → y < (r + 1) / 2 → c < 3
       → raster_sample d (p ++ q) ((w + 1) / 2) x (l + y) c ≡ halved (λ i j. raster_sample d (a ++ b) w i j c) w (2 * l + r) x (l + y)
@@ -55,7 +55,7 @@ module _ (d w l r : ℕ) (a b p q : List ℕ) (wide : 1 ≤ w) (high : 1 ≤ r) 
       ∙ sample_behind d p q (3 * ((w + 1) / 2 * l)) (3 * (y * ((w + 1) / 2) + x) + c) made
       ∙ below.each x y c inside late few
       ∙ box_same _ _ _ _ _ _ _ _ (in_lower (2 * x) (2 * y) (2 * (l + y)) c (omega arith) few) (in_lower (2 * x + 1) (2 * y) (2 * (l + y)) c (omega arith) few)
-          (in_lower (2 * x) (2 * y + 1) (2 * (l + y) + 1) c (omega arith) few) (in_lower (2 * x + 1) (2 * y + 1) (2 * (l + y) + 1) c (omega arith) few)
+      (in_lower (2 * x) (2 * y + 1) (2 * (l + y) + 1) c (omega arith) few) (in_lower (2 * x + 1) (2 * y + 1) (2 * (l + y) + 1) c (omega arith) few)
 
   both : IsHalvedRaster d (a ++ b) w (2 * l + r) (l + (r + 1) / 2) (p ++ q)
   both = record {

@@ -86,7 +86,12 @@ fn wide_samples_have_their_high_byte_first(rt: HostRuntime) {
 }
 
 // The plain picture of a texture of four columns and rows.
-fn plain_of<Rt: Threads + Sync>(rt: &Rt, alloc: Global, depth: u32, texture: &[u8]) -> Option<Vec<u8>> {
+fn plain_of<Rt: Threads + Sync>(
+    rt: &Rt,
+    alloc: Global,
+    depth: u32,
+    texture: &[u8],
+) -> Option<Vec<u8>> {
     let path = path_of(alloc)?;
     let image = image_of(alloc, depth, 4, 4, texture)?;
     let chain = Chain::build(rt, alloc, image, 2).ok()?;
@@ -94,7 +99,13 @@ fn plain_of<Rt: Threads + Sync>(rt: &Rt, alloc: Global, depth: u32, texture: &[u
 }
 
 // Whether the plain picture of such a texture has these samples.
-fn is_drawn_plain<Rt: Threads + Sync>(rt: &Rt, alloc: Global, depth: u32, texture: &[u8], samples: &[u8]) -> bool {
+fn is_drawn_plain<Rt: Threads + Sync>(
+    rt: &Rt,
+    alloc: Global,
+    depth: u32,
+    texture: &[u8],
+    samples: &[u8],
+) -> bool {
     match plain_of(rt, alloc, depth, texture) {
         Some(picture) => picture.as_slice() == samples,
         None => false,
@@ -103,7 +114,10 @@ fn is_drawn_plain<Rt: Threads + Sync>(rt: &Rt, alloc: Global, depth: u32, textur
 
 #[test]
 fn the_plain_picture_shows_the_chain_at_either_depth(rt: HostRuntime) {
-    holds(&rt, is_drawn_plain(&rt, rt.alloc(), 1, &FOUR, &NARROW_PICTURE));
+    holds(
+        &rt,
+        is_drawn_plain(&rt, rt.alloc(), 1, &FOUR, &NARROW_PICTURE),
+    );
     holds(
         &rt,
         is_drawn_plain(&rt, rt.alloc(), 2, &WIDE_FOUR, &WIDE_PICTURE),

@@ -21,10 +21,18 @@ struct Halved {
 }
 
 // The chain of these samples.
-fn chain_of<Rt: Threads + Sync>(rt: &Rt, alloc: Global, depth: u32, size: (u32, u32), samples: &[u8], tile: u32) -> Option<Chain>
+fn chain_of<Rt: Threads + Sync>(
+    rt: &Rt,
+    alloc: Global,
+    depth: u32,
+    size: (u32, u32),
+    samples: &[u8],
+    tile: u32,
+) -> Option<Chain>
     requires { IsTileSide tile }
 {
-    Chain::build(rt, 
+    Chain::build(
+        rt,
         alloc,
         image_of(alloc, depth, size.0, size.1, samples)?,
         tile,
@@ -191,7 +199,14 @@ fn wide_columns() -> [u8; 840] {
 }
 
 // Whether two rows of 70 columns are halved to one row whose first word is given, and the step from one word to the next.
-fn is_stepped<Rt: Threads + Sync>(rt: &Rt, alloc: Global, depth: u32, samples: &[u8], first: u64, step: u64) -> bool {
+fn is_stepped<Rt: Threads + Sync>(
+    rt: &Rt,
+    alloc: Global,
+    depth: u32,
+    samples: &[u8],
+    first: u64,
+    step: u64,
+) -> bool {
     let Some(chain) = chain_of(rt, alloc, depth, (70, 2), samples, 64) else {
         return false;
     };
@@ -208,10 +223,20 @@ fn is_stepped<Rt: Threads + Sync>(rt: &Rt, alloc: Global, depth: u32, samples: &
 #[test]
 fn long_rows_are_halved_like_short_ones(rt: HostRuntime) {
     let narrow = narrow_columns();
-    holds(&rt, is_stepped(&rt, rt.alloc(), 1, &narrow, 0x010101, 0x020202));
+    holds(
+        &rt,
+        is_stepped(&rt, rt.alloc(), 1, &narrow, 0x010101, 0x020202),
+    );
     let wide = wide_columns();
     holds(
         &rt,
-        is_stepped(&rt, rt.alloc(), 2, &wide, 0x8001_8001_8001, 0x0002_0002_0002),
+        is_stepped(
+            &rt,
+            rt.alloc(),
+            2,
+            &wide,
+            0x8001_8001_8001,
+            0x0002_0002_0002,
+        ),
     );
 }

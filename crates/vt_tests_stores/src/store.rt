@@ -223,7 +223,11 @@ fn fails_to_open(folder: &mut MemoryFolder) -> bool {
 }
 
 // Whether the writing of the store of G4 fails, and `b` then holds its first 52 bytes.
-fn fails_behind_52_bytes<Rt: Threads + Sync>(rt: &Rt, alloc: Global, folder: &mut MemoryFolder) -> bool {
+fn fails_behind_52_bytes<Rt: Threads + Sync>(
+    rt: &Rt,
+    alloc: Global,
+    folder: &mut MemoryFolder,
+) -> bool {
     has_failed(written(rt, alloc, folder, &G4)) && folder.holds("b", &STORE_G4[..52])
 }
 

@@ -19,12 +19,21 @@ fn misread<Rt: Threads + Sync>(rt: &Rt, alloc: Global, rows: &[(&[u8], &[u8])]) 
 }
 
 // Whether bytes are refused so as an image.
-fn is_refused<Rt: Threads + Sync>(rt: &Rt, alloc: Global, bytes: &[u8], flaw: Option<PpmError>) -> bool {
+fn is_refused<Rt: Threads + Sync>(
+    rt: &Rt,
+    alloc: Global,
+    bytes: &[u8],
+    flaw: Option<PpmError>,
+) -> bool {
     refuses(rt, alloc, bytes, Reader::Image, flaw) && image_flaw(bytes) == flaw
 }
 
 // The first of these bytes that are refused otherwise.
-fn misrefused<Rt: Threads + Sync>(rt: &Rt, alloc: Global, rows: &[(&[u8], PpmError)]) -> Option<usize> {
+fn misrefused<Rt: Threads + Sync>(
+    rt: &Rt,
+    alloc: Global,
+    rows: &[(&[u8], PpmError)],
+) -> Option<usize> {
     for i in 0..rows.len() {
         let (bytes, flaw) = rows[i];
         if !is_refused(rt, alloc, bytes, Some(flaw)) {
@@ -110,7 +119,13 @@ fn each_foreign_texture_is_read_or_refused_with_its_first_flaw(rt: HostRuntime) 
 }
 
 // Whether so many blanks behind a magic, and what follows them, are refused so as an image and as a header.
-fn are_refused<Rt: Threads + Sync>(rt: &Rt, alloc: Global, count: usize, rest: &[u8], flaw: Option<PpmError>) -> bool {
+fn are_refused<Rt: Threads + Sync>(
+    rt: &Rt,
+    alloc: Global,
+    count: usize,
+    rest: &[u8],
+    flaw: Option<PpmError>,
+) -> bool {
     match around(alloc, b"P6", b' ', count, rest) {
         Ok(bytes) => {
             is_refused(rt, alloc, &bytes, flaw) && refuses(rt, alloc, &bytes, Reader::Header, flaw)
@@ -120,7 +135,8 @@ fn are_refused<Rt: Threads + Sync>(rt: &Rt, alloc: Global, count: usize, rest: &
 }
 
 // The first row of so many blanks and what follows them that is refused otherwise.
-fn misread_behind_blanks<Rt: Threads + Sync>(rt: &Rt, 
+fn misread_behind_blanks<Rt: Threads + Sync>(
+    rt: &Rt,
     alloc: Global,
     rows: &[(usize, &[u8], Option<PpmError>)],
 ) -> Option<usize> {

@@ -36,7 +36,8 @@ fn has_words(image: &Image, words: &[u64]) -> bool {
 }
 
 // Whether `t` holds an image of so many columns and rows and of this depth, whose first texels have these words.
-fn is_image<Rt: Threads + Sync>(rt: &Rt, 
+fn is_image<Rt: Threads + Sync>(
+    rt: &Rt,
     alloc: Global,
     folder: &mut MemoryFolder,
     size: (u32, u32, u32),
@@ -51,7 +52,12 @@ fn is_image<Rt: Threads + Sync>(rt: &Rt,
 }
 
 // Whether `t` holds an image of these samples.
-fn has_samples<Rt: Threads + Sync>(rt: &Rt, alloc: Global, folder: &mut MemoryFolder, samples: &[u8]) -> bool {
+fn has_samples<Rt: Threads + Sync>(
+    rt: &Rt,
+    alloc: Global,
+    folder: &mut MemoryFolder,
+    samples: &[u8],
+) -> bool {
     match image_in(rt, alloc, folder) {
         Ok(image) => {
             let are_same = image.samples() == samples;
@@ -70,7 +76,12 @@ fn is_header(alloc: Global, folder: &mut MemoryFolder, width: u32, raster: u64) 
 }
 
 // Whether this is found in `t`.
-fn is_found<Rt: Threads + Sync>(rt: &Rt, alloc: Global, folder: &mut MemoryFolder, look: Look) -> bool {
+fn is_found<Rt: Threads + Sync>(
+    rt: &Rt,
+    alloc: Global,
+    folder: &mut MemoryFolder,
+    look: Look,
+) -> bool {
     match look {
         Look::Refusal(reader, refusal) => refusal_in(rt, alloc, folder, reader) == refusal,
         Look::Image(size, words) => is_image(rt, alloc, folder, size, words),
@@ -99,7 +110,8 @@ fn are_asked(folder: &MemoryFolder, places: &[(u64, u64)]) -> bool {
 }
 
 // Whether this is found in `t`, and where places are told, no others are asked for.
-fn is_found_in<Rt: Threads + Sync>(rt: &Rt, 
+fn is_found_in<Rt: Threads + Sync>(
+    rt: &Rt,
     alloc: Global,
     folder: &mut MemoryFolder,
     look: Look,
@@ -113,7 +125,8 @@ fn is_found_in<Rt: Threads + Sync>(rt: &Rt,
 }
 
 /// Whether this is found in these bytes where these calls fail, and where places are told, as their starts and lengths, no others are read.
-pub fn finds<Rt: Threads + Sync>(rt: &Rt, 
+pub fn finds<Rt: Threads + Sync>(
+    rt: &Rt,
     alloc: Global,
     bytes: &[u8],
     calls: &[Fail],
@@ -132,17 +145,33 @@ pub fn sees<Rt: Threads + Sync>(rt: &Rt, alloc: Global, bytes: &[u8], look: Look
 }
 
 /// Whether this is found in these bytes, and these are the starts and the lengths of all that is read for it.
-pub fn reads<Rt: Threads + Sync>(rt: &Rt, alloc: Global, bytes: &[u8], look: Look, places: &[(u64, u64)]) -> bool {
+pub fn reads<Rt: Threads + Sync>(
+    rt: &Rt,
+    alloc: Global,
+    bytes: &[u8],
+    look: Look,
+    places: &[(u64, u64)],
+) -> bool {
     finds(rt, alloc, bytes, &[], look, Some(places))
 }
 
 /// Whether a reader refuses these bytes so, or does not.
-pub fn refuses<Rt: Threads + Sync>(rt: &Rt, alloc: Global, bytes: &[u8], reader: Reader, refusal: Option<PpmError>) -> bool {
+pub fn refuses<Rt: Threads + Sync>(
+    rt: &Rt,
+    alloc: Global,
+    bytes: &[u8],
+    reader: Reader,
+    refusal: Option<PpmError>,
+) -> bool {
     sees(rt, alloc, bytes, Look::Refusal(reader, refusal))
 }
 
 /// The first of these bytes that a reader refuses otherwise.
-pub fn misrefused<Rt: Threads + Sync>(rt: &Rt, alloc: Global, rows: &[(&[u8], Reader, Option<PpmError>)]) -> Option<usize> {
+pub fn misrefused<Rt: Threads + Sync>(
+    rt: &Rt,
+    alloc: Global,
+    rows: &[(&[u8], Reader, Option<PpmError>)],
+) -> Option<usize> {
     for i in 0..rows.len() {
         let (bytes, reader, refusal) = rows[i];
         if !refuses(rt, alloc, bytes, reader, refusal) {
@@ -153,14 +182,22 @@ pub fn misrefused<Rt: Threads + Sync>(rt: &Rt, alloc: Global, rows: &[(&[u8], Re
 }
 
 /// The first of these failing calls of which a reader tells otherwise.
-pub fn mistold<Rt: Threads + Sync>(rt: &Rt, 
+pub fn mistold<Rt: Threads + Sync>(
+    rt: &Rt,
     alloc: Global,
     bytes: &[u8],
     rows: &[(Fail, Reader, Option<PpmError>)],
 ) -> Option<usize> {
     for i in 0..rows.len() {
         let (call, reader, refusal) = rows[i];
-        if !finds(rt, alloc, bytes, &[call], Look::Refusal(reader, refusal), None) {
+        if !finds(
+            rt,
+            alloc,
+            bytes,
+            &[call],
+            Look::Refusal(reader, refusal),
+            None,
+        ) {
             return Some(i);
         }
     }
@@ -168,7 +205,11 @@ pub fn mistold<Rt: Threads + Sync>(rt: &Rt,
 }
 
 /// The first of these images that has other columns, rows or samples of another size, or first texels of other words.
-pub fn misseen<Rt: Threads + Sync>(rt: &Rt, alloc: Global, rows: &[(&[u8], (u32, u32, u32), &[u64])]) -> Option<usize> {
+pub fn misseen<Rt: Threads + Sync>(
+    rt: &Rt,
+    alloc: Global,
+    rows: &[(&[u8], (u32, u32, u32), &[u64])],
+) -> Option<usize> {
     for i in 0..rows.len() {
         let (bytes, size, words) = rows[i];
         if !sees(rt, alloc, bytes, Look::Image(size, words)) {

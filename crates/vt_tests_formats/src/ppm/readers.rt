@@ -19,7 +19,11 @@ pub enum Reader {
 pub type Strip<'a> = (u32, u32, Option<&'a [u8]>);
 
 /// The image that `t` holds.
-pub fn image_in<Rt: Threads + Sync>(rt: &Rt, alloc: Global, folder: &mut MemoryFolder) -> Result<Image, PpmError> {
+pub fn image_in<Rt: Threads + Sync>(
+    rt: &Rt,
+    alloc: Global,
+    folder: &mut MemoryFolder,
+) -> Result<Image, PpmError> {
     let Ok(mut file) = folder.open("t") else {
         return Err(PpmError::Failed);
     };
@@ -95,7 +99,12 @@ fn refusal_of(
 }
 
 /// Why a reader refuses what `t` holds.
-pub fn refusal_in<Rt: Threads + Sync>(rt: &Rt, alloc: Global, folder: &mut MemoryFolder, reader: Reader) -> Option<PpmError> {
+pub fn refusal_in<Rt: Threads + Sync>(
+    rt: &Rt,
+    alloc: Global,
+    folder: &mut MemoryFolder,
+    reader: Reader,
+) -> Option<PpmError> {
     let answer = match reader {
         Reader::Image => return image_in(rt, alloc, folder).err(),
         Reader::Header => return header_in(alloc, folder).err(),

@@ -9,7 +9,11 @@ use vt_outside::Fail;
 use vt_ppm::PpmError;
 
 // The first of these textures of two rows that has another depth or other rows; the second row is read first.
-fn misscaled<Rt: Threads + Sync>(rt: &Rt, alloc: Global, rows: &[(&[u8], u32, &[u8], &[u8])]) -> Option<usize> {
+fn misscaled<Rt: Threads + Sync>(
+    rt: &Rt,
+    alloc: Global,
+    rows: &[(&[u8], u32, &[u8], &[u8])],
+) -> Option<usize> {
     for i in 0..rows.len() {
         let (bytes, depth, first, second) = rows[i];
         let look = Look::Strips(depth, (1, 1, Some(second)), (0, 1, Some(first)));
@@ -46,7 +50,15 @@ fn rows_of_either_depth_are_scaled(rt: HostRuntime) {
 fn several_rows_are_one_read(rt: HostRuntime) {
     const LOOK: Look = Look::Strips(1, (1, 2, Some(b"defghi")), (0, 3, Some(b"abcdefghi")));
     const PLACES: [(u64, u64); 3] = [(0, 29), (14, 6), (11, 9)];
-    assert!(rt; reads(&rt, rt.alloc(), b"P6 1 3 255\nabcdefghi and more", LOOK, &PLACES));
+    assert!(rt;
+        reads(
+            &rt,
+            rt.alloc(),
+            b"P6 1 3 255\nabcdefghi and more",
+            LOOK,
+            &PLACES
+        )
+    );
 }
 
 #[test]
@@ -98,7 +110,13 @@ fn a_header_may_have_larger_sides_than_an_image(rt: HostRuntime) {
     const HEADER: Look = Look::Header(16384, 15);
     assert!(rt;
         sees(&rt, rt.alloc(), b"P6 16384 1 255\n", HEADER)
-            && refuses(&rt, rt.alloc(), b"P6 16385 1 255\n", Reader::Header, BAD_SIZE)
+            && refuses(
+                &rt,
+                rt.alloc(),
+                b"P6 16385 1 255\n",
+                Reader::Header,
+                BAD_SIZE
+            )
     );
 }
 
@@ -144,10 +162,20 @@ fn a_raster_is_looked_over_in_pieces(rt: HostRuntime) {
 }
 
 // The first of these textures that is refused, or asked for other starts and lengths.
-fn misasked<Rt: Threads + Sync>(rt: &Rt, alloc: Global, rows: &[(&[u8], &[(u64, u64)])]) -> Option<usize> {
+fn misasked<Rt: Threads + Sync>(
+    rt: &Rt,
+    alloc: Global,
+    rows: &[(&[u8], &[(u64, u64)])],
+) -> Option<usize> {
     for i in 0..rows.len() {
         let (bytes, places) = rows[i];
-        if !reads(rt, alloc, bytes, Look::Refusal(Reader::Checked, None), places) {
+        if !reads(
+            rt,
+            alloc,
+            bytes,
+            Look::Refusal(Reader::Checked, None),
+            places,
+        ) {
             return Some(i);
         }
     }

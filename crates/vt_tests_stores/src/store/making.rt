@@ -66,7 +66,8 @@ pub struct Texture {
 }
 
 /// Makes the name `b` hold the store of a texture with tiles of side 2.
-pub fn written<Rt: Threads + Sync>(rt: &Rt, 
+pub fn written<Rt: Threads + Sync>(
+    rt: &Rt,
     alloc: Global,
     folder: &mut MemoryFolder,
     texture: &Texture,
