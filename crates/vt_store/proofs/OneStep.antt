@@ -1,5 +1,5 @@
 -- One step of writing a store: what it comes to.
-use Rattle.std.proofs.Common.{◌≡◌, ℕ, ◌⊎◌, inl, inr, Option, List, length, take, refl, sym, ap, ◌∙◌, subst, Ok, Err}
+use Rattle.std.proofs.Common.{◌≡◌, ℕ, inl, inr, Option, List, length, take, refl, sym, ap, ◌∙◌, subst, Ok, Err}
 use Rattle.std.proofs.Math.Seq.{take-length}
 use Rattle.std.specs.Prelude.{option_map, Result, OnOk, OnErr, IsErrOf}
 use Rattle.std.specs.Result.{IsErrAnd}
@@ -8,9 +8,9 @@ use Rattle.vt_outside.specs.Files.{Files, IsThere, with_appended}
 use Rattle.vt_outside.specs.declared.answers.OutsideError.{OutsideError}
 use Rattle.vt_outside.specs.declared.answers.OutsideError.TheVariants as outside_error
 use Rattle.vt_tiles.specs.declared.error.StoreError.{StoreError}
-use Rattle.vt_tiles.specs.declared.error.StoreError.TheVariants.{Failed, NoMemory}
+use Rattle.vt_tiles.specs.declared.error.StoreError.TheVariants.{Failed}
 use Rattle.vt_tiles.specs.Refusals.{IsOutsideRefusal, refusal_by}
-use Rattle.vt_store.specs.Steps.{Makes, AddsFront, Adds, StepDone, StepStopped, Steps}
+use Rattle.vt_store.specs.Steps.{Makes, AddsFront, Adds, Steps}
 
 -- what an append comes to
 pub adds_of : {T : Type 0} (n tiles : List ℕ) (f g : Option Files) (m k : ℕ) (r : Result T OutsideError)

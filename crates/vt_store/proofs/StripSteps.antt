@@ -16,7 +16,7 @@ use Rattle.vt_mip.specs.TakenRows.{HalvingView, HalvesFront}
 use Rattle.vt_pages.specs.Shape.{Shape, shape_of}
 use Rattle.vt_pages.specs.Pages.{IsWithinLimits, columns_at, rows_at}
 use Rattle.vt_tiles.specs.declared.error.StoreError.{StoreError}
-use Rattle.vt_tiles.specs.declared.error.StoreError.TheVariants.{Failed, NoMemory}
+use Rattle.vt_tiles.specs.declared.error.StoreError.TheVariants.{Failed}
 use Rattle.vt_tiles.specs.Made.{HoldsMade, HoldsMadeFront}
 use Rattle.vt_tiles.specs.Refusals.{IsOutsideRefusal, refusal_by}
 use Rattle.vt_store.specs.StripStores.{StripsAsked, StripsTried, strip_front, strip_tiles}

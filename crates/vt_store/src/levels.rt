@@ -12,7 +12,7 @@ ghost use Rattle.vt_pages.specs.Pages.{pages_of, pages_below, levels_of, columns
 ghost use Rattle.vt_store.specs.ChainStores.{AddsPages, AddsPart, HasLevelTexels, IsLevelOf, level_source};
 ghost use Rattle.vt_tiles.specs.Format.{tile_length, tiles_bytes};
 
-use crate::write::{is_worth_a_thread, put_tiles, size_inside, tile_columns};
+use crate::write::{put_tiles, size_inside, threads_for_row, tile_columns};
 use std::alloc::Global;
 use std::thread::{Threads, join_mut};
 use vt_mip::Shrinking;
@@ -45,7 +45,7 @@ fn add_and_take<Rt: Threads, D: Folder>(
     ensures height { texels.new.height ≡ texels.old.height }
     ensures halves { (p : ImageView) → ShrinksFront p texels.old → ShrinksFront p texels.new }
 {
-    if !is_worth_a_thread(processors, tiles.len()) {
+    if threads_for_row(processors, tiles.len()) < 2 {
         texels.take(count);
         return folder.append(name, tiles);
     }
@@ -120,15 +120,7 @@ fn write_row<Rt: Threads, D: Folder>(
         page,
         columns,
     );
-    add_and_take(
-        rt,
-        processors,
-        texels,
-        inside as u32,
-        tiles,
-        folder,
-        name,
-    )
+    add_and_take(rt, processors, texels, inside as u32, tiles, folder, name)
 }
 
 // Adds the tiles of a level to the name, one row of tiles an append, and answers the next level's image, which takes its memory. The buffer has the length of

@@ -1,6 +1,6 @@
 //! The steps of writing a store by strips: a strip's row of tiles is added while the next one's is made.
 ghost use Rattle.std.specs.Prelude.{◌≡◌, ◌⊎◌, ◌+◌, ◌*◌, ◌≤◌, length, vec_len, IfOk};
-ghost use Rattle.std.specs.Thread.{IsSend};
+ghost use Rattle.std.specs.Thread.{IsSend, IsSync};
 ghost use Rattle.vt_definitions.specs.Depths.{texel_length};
 ghost use Rattle.vt_ppm.specs.Format.{depth_of};
 ghost use Rattle.vt_pages.specs.Pages.{columns_at};
@@ -48,7 +48,9 @@ pub(crate) fn add_row<D: Folder>(
 }
 
 // Adds a row of tiles, and then makes that of a strip in the same room.
-fn step_in_turn<F: File, D: Folder>(
+fn step_in_turn<Rt: Threads + Sync, F: File, D: Folder>(
+    rt: &Rt,
+    threads: usize,
     chain: &mut StripChain<F>,
     geometry: &Geometry,
     strip: u32,
@@ -69,13 +71,14 @@ fn step_in_turn<F: File, D: Folder>(
     ensures faults { D.faults folder.old ≤ D.faults folder.new }
 {
     add_row(folder, name, tiles)?;
-    make_strip(chain, geometry, strip, rows, tiles, half)?;
+    make_strip(rt, threads, chain, geometry, strip, rows, tiles, half)?;
     Ok(())
 }
 
 // Makes the row of tiles of a strip in a thread of its own, and adds another one meanwhile. Where no thread can be made, it is added first.
 fn add_and_make<Rt: Threads + Sync, F: File + Send, D: Folder>(
     rt: &Rt,
+    threads: usize,
     chain: &mut StripChain<F>,
     geometry: &Geometry,
     strip: u32,
@@ -99,14 +102,14 @@ fn add_and_make<Rt: Threads + Sync, F: File + Send, D: Folder>(
     join_mut(
         rt,
         &mut || -> Result<(), Failed>
-            requires { IsSend F.row × IsNextStrip geometry.now strip (strips_state F.File chain.now half.now)
+            requires { IsSync Rt.row × IsSend F.row × IsNextStrip geometry.now strip (strips_state F.File chain.now half.now)
                 × (length rows.now ≡ geometry.now.tile * (texel_length (depth_of chain.now.header.maximum) * geometry.now.width))
                 × (length next.now ≡ columns_at geometry.now 0 * tile_length geometry.now (depth_of chain.now.header.maximum)) }
             ensures { MakesStrip geometry.entry.now strip (strips_state F.File chain.entry.now half.entry.now)
                 (strips_state F.File chain.exit.now half.exit.now) next.exit.now result
                 × KeepsStrips (strips_state F.File chain.entry.now half.entry.now) (strips_state F.File chain.exit.now half.exit.now)
                 × (F.spare chain.entry.now.file ≤ F.spare chain.exit.now.file + 1) }
-        { make_strip(chain, geometry, strip, rows, next, half) },
+        { make_strip(rt, threads, chain, geometry, strip, rows, next, half) },
         &mut || -> Result<(), OutsideError>
             ensures { Adds name.entry.now tiles.entry.now (D.files folder.entry.now) (D.files folder.exit.now) (D.faults folder.entry.now)
                 (D.faults folder.exit.now) result
@@ -118,6 +121,7 @@ fn add_and_make<Rt: Threads + Sync, F: File + Send, D: Folder>(
 // Adds a row of tiles, and makes that of a strip meanwhile.
 fn step_at_once<Rt: Threads + Sync, F: File + Send, D: Folder>(
     rt: &Rt,
+    threads: usize,
     chain: &mut StripChain<F>,
     geometry: &Geometry,
     strip: u32,
@@ -139,7 +143,7 @@ fn step_at_once<Rt: Threads + Sync, F: File + Send, D: Folder>(
     ensures faults { D.faults folder.old ≤ D.faults folder.new }
 {
     let (made, added) = add_and_make(
-        rt, chain, geometry, strip, rows, next, half, folder, name, tiles,
+        rt, threads, chain, geometry, strip, rows, next, half, folder, name, tiles,
     );
     added?;
     made?;
@@ -151,6 +155,7 @@ fn step_at_once<Rt: Threads + Sync, F: File + Send, D: Folder>(
 /// been read.
 pub(crate) fn write_next<Rt: Threads + Sync, F: File + Send, D: Folder>(
     rt: &Rt,
+    threads: usize,
     chain: &mut StripChain<F>,
     geometry: &Geometry,
     strip: u32,
@@ -176,6 +181,8 @@ pub(crate) fn write_next<Rt: Threads + Sync, F: File + Send, D: Folder>(
 {
     if back.is_empty() {
         return step_in_turn(
+            rt,
+            threads,
             chain,
             geometry,
             strip,
@@ -189,6 +196,7 @@ pub(crate) fn write_next<Rt: Threads + Sync, F: File + Send, D: Folder>(
     mem::swap(front, back);
     step_at_once(
         rt,
+        threads,
         chain,
         geometry,
         strip,

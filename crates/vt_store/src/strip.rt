@@ -1,21 +1,87 @@
 //! A strip of a texture: as many whole rows as a tile has, of which a row of tiles and rows of level 1 are made.
-ghost use Rattle.std.specs.Prelude.{◌≡◌, ◌+◌, ◌*◌, ◌≤◌, length};
-ghost use Rattle.vt_definitions.specs.Depths.{texel_length};
+ghost use Rattle.std.specs.Prelude.{◌≡◌, ◌⊎◌, ◌+◌, ◌*◌, ◌%◌, ◌<◌, ◌≤◌, length};
+ghost use Rattle.vt_definitions.specs.Depths.{IsDepth, texel_length};
+ghost use Rattle.vt_definitions.specs.Texels.{Source};
+ghost use Rattle.vt_outside.specs.Files.{IsPiece};
 ghost use Rattle.vt_ppm.specs.Format.{depth_of};
 ghost use Rattle.vt_ppm.specs.StripPlaces.{strip_rows};
+ghost use Rattle.vt_ppm.specs.Image.{ImageView};
 ghost use Rattle.vt_ppm.specs.Strips.{row_length};
-ghost use Rattle.vt_pages.specs.Pages.{columns_at};
-ghost use Rattle.vt_tiles.specs.Format.{tile_length};
+ghost use Rattle.vt_mip.specs.TakenRows.{HalvesFront};
+ghost use Rattle.vt_pages.specs.Pages.{columns_at, name_at, pages_of};
+ghost use Rattle.vt_tiles.specs.Format.{tile_length, tiles_bytes};
+ghost use Rattle.vt_tiles.specs.TileLines.{HasTileRows, tile_rows_length};
 ghost use Rattle.vt_store.specs.StripSteps.{IsNextStrip, KeepsStrips, MakesStrip, strips_state};
 
 use crate::write::{put_tiles, tile_columns};
+use std::thread::{Threads, join_mut};
 use vt_definitions::texel_length;
 use vt_mip::{Halving, StripChain};
 use vt_outside::{Failed, File};
 use vt_pages::Geometry;
 
+// Halves the rows of a strip into level 1, and makes of them its row of tiles: the one beside the other, where three threads are at work.
+fn halve_and_cut<Rt: Threads + Sync>(
+    rt: &Rt,
+    threads: usize,
+    half: &mut Halving,
+    rows: &[u8],
+    count: u32,
+    tiles: &mut [u8],
+    depth: u32,
+    geometry: &Geometry,
+    first: u32,
+    columns: u32,
+)
+    requires some { 1 ≤ count }
+    requires inside { half.old.taken + count ≤ half.old.height }
+    requires even { half.old.taken % 2 ≡ 0 }
+    requires pairs { (count % 2 ≡ 0) ⊎ (half.old.taken + count ≡ half.old.height) }
+    requires whole { length rows.now ≡ texel_length half.old.depth * (half.old.width * count) }
+    requires depth { IsDepth depth }
+    requires page { first < pages_of geometry.now }
+    requires row { (name_at geometry.now first).col + columns ≤ columns_at geometry.now (name_at geometry.now first).level }
+    requires room { length tiles.old ≡ columns * tile_length geometry.now depth }
+    requires rows { length rows.now ≡ tile_rows_length geometry.now depth first }
+    ensures taken { half.new.taken ≡ half.old.taken + count }
+    ensures depth { half.new.depth ≡ half.old.depth }
+    ensures width { half.new.width ≡ half.old.width }
+    ensures height { half.new.height ≡ half.old.height }
+    ensures halves { (p : ImageView) → HalvesFront p half.old
+        → IsPiece p.samples (texel_length p.depth * (p.width * half.old.taken)) rows.now → HalvesFront p half.new }
+    ensures tiles { (src : Source) → HasTileRows geometry.now depth src first rows.now → tiles.new ≡ tiles_bytes geometry.now depth src first columns }
+{
+    if threads < 3 {
+        half.take(rows, count);
+        put_tiles(tiles, rows, depth, geometry, first, columns);
+        return;
+    }
+    join_mut(
+        rt,
+        &mut || -> ()
+            requires { (1 ≤ count) × (half.now.taken + count ≤ half.now.height) × (half.now.taken % 2 ≡ 0)
+                × ((count % 2 ≡ 0) ⊎ (half.now.taken + count ≡ half.now.height))
+                × (length rows.now ≡ texel_length half.now.depth * (half.now.width * count)) }
+            ensures { (half.exit.now.taken ≡ half.entry.now.taken + count) × (half.exit.now.depth ≡ half.entry.now.depth)
+                × (half.exit.now.width ≡ half.entry.now.width) × (half.exit.now.height ≡ half.entry.now.height)
+                × ((p : ImageView) → HalvesFront p half.entry.now
+                → IsPiece p.samples (texel_length p.depth * (p.width * half.entry.now.taken)) rows.entry.now → HalvesFront p half.exit.now) }
+        { half.take(rows, count) },
+        &mut || -> ()
+            requires { IsDepth depth × (first < pages_of geometry.now)
+                × ((name_at geometry.now first).col + columns ≤ columns_at geometry.now (name_at geometry.now first).level)
+                × (length tiles.now ≡ columns * tile_length geometry.now depth)
+                × (length rows.now ≡ tile_rows_length geometry.now depth first) }
+            ensures { (src : Source) → HasTileRows geometry.entry.now depth src first rows.entry.now
+                → tiles.exit.now ≡ tiles_bytes geometry.entry.now depth src first columns }
+        { put_tiles(tiles, rows, depth, geometry, first, columns) },
+    );
+}
+
 // Reads a strip into a buffer of its length, halves its rows into level 1, and makes its row of tiles.
-fn read_strip<F: File>(
+fn read_strip<Rt: Threads + Sync, F: File>(
+    rt: &Rt,
+    threads: usize,
     chain: &mut StripChain<F>,
     geometry: &Geometry,
     strip: u32,
@@ -36,14 +102,26 @@ fn read_strip<F: File>(
     let columns = tile_columns(geometry, 0);
     let depth = chain.depth();
     chain.rows(y, count, rows)?;
-    half.take(rows, count);
-    put_tiles(tiles, rows, depth, geometry, strip * columns, columns);
+    halve_and_cut(
+        rt,
+        threads,
+        half,
+        rows,
+        count,
+        tiles,
+        depth,
+        geometry,
+        strip * columns,
+        columns,
+    );
     Ok(())
 }
 
 /// Reads a strip, halves its rows into level 1, and makes its row of tiles. The rooms are as long as the longest strip and as a row of
-/// tiles of level 0. It makes one read and takes no memory. `Failed` comes only where the file's count of faults rose.
-pub(crate) fn make_strip<F: File>(
+/// tiles of level 0. With three threads the rows are halved in one of their own. It makes one read and takes no memory. `Failed` comes only where the file's count of faults rose.
+pub(crate) fn make_strip<Rt: Threads + Sync, F: File>(
+    rt: &Rt,
+    threads: usize,
     chain: &mut StripChain<F>,
     geometry: &Geometry,
     strip: u32,
@@ -63,6 +141,8 @@ pub(crate) fn make_strip<F: File>(
     let row = texel_length(depth) * width as usize;
     let count = side.min(height - strip * side);
     read_strip(
+        rt,
+        threads,
         chain,
         geometry,
         strip,

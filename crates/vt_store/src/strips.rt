@@ -14,7 +14,7 @@ ghost use Rattle.vt_ppm.specs.StripPlaces.{strips_of};
 use crate::levels::write_levels;
 use crate::steps::{add_row, tile_rooms, write_next};
 use crate::strip::make_strip;
-use crate::write::{begin_store, is_worth_a_thread, longest_row};
+use crate::write::{begin_store, longest_row, threads_for_row};
 use std::alloc::Global;
 use std::thread::Threads;
 use vt_definitions::texel_length;
@@ -38,6 +38,7 @@ fn strip_count(geometry: &Geometry) -> u32
 // `back` has room for a second row of tiles, a strip's tiles are added while the next one's are made.
 fn write_first_level<Rt: Threads + Sync, F: File + Send, D: Folder>(
     rt: &Rt,
+    threads: usize,
     chain: &mut StripChain<F>,
     geometry: &Geometry,
     rows: &mut [u8],
@@ -60,10 +61,20 @@ fn write_first_level<Rt: Threads + Sync, F: File + Send, D: Folder>(
     ensures faults { D.faults folder.old ≤ D.faults folder.new }
 {
     let last = strip_count(geometry) - 1;
-    make_strip(chain, geometry, 0, rows, front.as_mut_slice(), half)?;
+    make_strip(
+        rt,
+        threads,
+        chain,
+        geometry,
+        0,
+        rows,
+        front.as_mut_slice(),
+        half,
+    )?;
     for strip in 0..last {
         write_next(
             rt,
+            threads,
             chain,
             geometry,
             strip + 1,
@@ -151,6 +162,7 @@ fn write_in_room<Rt: Threads + Sync, F: File + Send, D: Folder>(
     begin_store(geometry, chain.depth(), folder, name)?;
     write_first_level(
         rt,
+        threads_for_row(processors, front.len()),
         chain,
         geometry,
         rows.as_mut_slice(),
@@ -211,7 +223,7 @@ pub fn write_strips<Rt: Threads + Sync, F: File + Send, D: Folder>(
     chain.reserve(u64::from(strip_count(geometry)))?;
     let available = processors(rt);
     let depth = chain.depth();
-    let beside = is_worth_a_thread(available, longest_row(geometry, depth));
+    let beside = 1 < threads_for_row(available, longest_row(geometry, depth));
     let room = make_room(alloc, geometry, depth, beside)?;
     write_in_room(rt, alloc, available, chain, geometry, room, folder, name)
 }

@@ -135,10 +135,9 @@ pub fn longest_row(geometry: &Geometry, depth: u32) -> usize
     tile_columns(geometry, 0) as usize * tile_length(geometry, depth)
 }
 
-/// Whether a second thread is worth while for a row of tiles of so many bytes, which one of the two adds while the other makes the next: a byte takes
-/// about a nanosecond to be made and added.
-pub(crate) fn is_worth_a_thread(processors: usize, bytes: usize) -> bool {
-    1 < threads_for(processors, bytes as u64)
+/// How many threads are to make rows of tiles of so many bytes and to add them to a name: it takes one about a nanosecond a byte.
+pub(crate) fn threads_for_row(processors: usize, bytes: usize) -> usize {
+    threads_for(processors, bytes as u64)
 }
 
 /// Makes the name hold the header of a store whose samples have `depth` bytes, 1 or 2, in two calls of the folder. After a

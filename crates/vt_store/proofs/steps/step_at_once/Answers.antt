@@ -1,7 +1,4 @@
-use Rattle.std.proofs.Common.{ℕ, inr, Ok, Err, subst}
-use Rattle.std.specs.Prelude.{Result}
-use Rattle.vt_outside.specs.declared.answers.OutsideError.{OutsideError}
-use Rattle.vt_outside.specs.declared.answers.Failed.{Failed}
+use Rattle.std.proofs.Common.{inr, subst}
 use Rattle.vt_store.specs.Steps.{Adds}
 use Rattle.vt_store.specs.StripSteps.{MakesStrip, strips_state}
 use Rattle.vt_store.proofs.OneStep.{step_not_added, step_not_made}

@@ -1,4 +1,4 @@
-use Rattle.std.proofs.Common.{◌≡◌, ℕ, ◌+◌, ◌-◌, ◌*◌, length, refl, sym, ap, ◌∙◌, arith}
+use Rattle.std.proofs.Common.{◌≡◌, ℕ, ◌-◌, ◌*◌, length, refl, sym, ap, arith}
 use Rattle.std.proofs.lemmas.List.{length-take-le}
 use Rattle.std.proofs.lemmas.Nat.{mul-le}
 use Rattle.vt_ppm.specs.Format.{depth_of}
@@ -52,13 +52,13 @@ slice_bounds-read_strip-end-2 g c =
     c.tile-side.ensures.tile c.texel_length.ensures.value c.depth-depth.ensures.value c.width-width.ensures.width)))
 
 pub read_strip-requires-clause-next : goal.read_strip-requires-clause-next
-read_strip-requires-clause-next g c = c.requires.next
+read_strip-requires-clause-next g c κs within = c.requires.next
 
 pub read_strip-requires-clause-tiles : goal.read_strip-requires-clause-tiles
-read_strip-requires-clause-tiles g c = c.requires.tiles
+read_strip-requires-clause-tiles g c κs within = c.requires.tiles
 
 pub read_strip-requires-clause-rows : goal.read_strip-requires-clause-rows
-read_strip-requires-clause-rows g c =
+read_strip-requires-clause-rows g c κs within =
     let shape = c.requires.next.shape in
     strip_bytes c.args.geometry.now c.args.chain.now.header c.args.chain.now.header c.args.strip c.depth-depth.result c.texel_length.result
     c.width-width.result c.tile-side.result c.height-height.result c.min-count.result _ refl (ap (λ (z : Shape). z.width) shape)

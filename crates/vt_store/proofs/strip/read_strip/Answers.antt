@@ -34,16 +34,16 @@ rows-requires-clause-inside g c =
     c.tile_columns-columns.ensures.value in
     omega (arith, is.ends, is.height)
 
-pub take-requires-clause-some : goal.take-requires-clause-some
-take-requires-clause-some g c =
+pub halve_and_cut-requires-clause-some : goal.halve_and_cut-requires-clause-some
+halve_and_cut-requires-clause-some g c κs within =
     let is = is_strip c.args.geometry.now c.args.chain.now.header c.args.chain.now.tile c.args.strip c.tile-side.result
     (c.args.strip * c.tile-side.result) c.height.result c.min-count.result c.tile_columns-columns.result c.requires.next.shape
     c.tile-side.ensures.limits c.requires.next.inside c.tile-side.ensures.tile c.height.ensures.height refl c.min-count.ensures
     c.tile_columns-columns.ensures.value in
     is.some
 
-pub take-requires-clause-inside : goal.take-requires-clause-inside
-take-requires-clause-inside g c =
+pub halve_and_cut-requires-clause-inside : goal.halve_and_cut-requires-clause-inside
+halve_and_cut-requires-clause-inside g c κs within =
     let is = is_strip c.args.geometry.now c.args.chain.now.header c.args.chain.now.tile c.args.strip c.tile-side.result
     (c.args.strip * c.tile-side.result) c.height.result c.min-count.result c.tile_columns-columns.result c.requires.next.shape
     c.tile-side.ensures.limits c.requires.next.inside c.tile-side.ensures.tile c.height.ensures.height refl c.min-count.ensures
@@ -58,24 +58,24 @@ overflow_mul-strip g c =
     c.tile_columns-columns.ensures.value in
     omega (arith, is.page, c.tile-side.ensures.limits.most_pages)
 
-pub put_tiles-requires-clause-page : goal.put_tiles-requires-clause-page
-put_tiles-requires-clause-page g c =
+pub halve_and_cut-requires-clause-page : goal.halve_and_cut-requires-clause-page
+halve_and_cut-requires-clause-page g c κs within =
     let is = is_strip c.args.geometry.now c.args.chain.now.header c.args.chain.now.tile c.args.strip c.tile-side.result
     (c.args.strip * c.tile-side.result) c.height.result c.min-count.result c.tile_columns-columns.result c.requires.next.shape
     c.tile-side.ensures.limits c.requires.next.inside c.tile-side.ensures.tile c.height.ensures.height refl c.min-count.ensures
     c.tile_columns-columns.ensures.value in
     is.page
 
-pub put_tiles-requires-clause-row : goal.put_tiles-requires-clause-row
-put_tiles-requires-clause-row g c =
+pub halve_and_cut-requires-clause-row : goal.halve_and_cut-requires-clause-row
+halve_and_cut-requires-clause-row g c κs within =
     let is = is_strip c.args.geometry.now c.args.chain.now.header c.args.chain.now.tile c.args.strip c.tile-side.result
     (c.args.strip * c.tile-side.result) c.height.result c.min-count.result c.tile_columns-columns.result c.requires.next.shape
     c.tile-side.ensures.limits c.requires.next.inside c.tile-side.ensures.tile c.height.ensures.height refl c.min-count.ensures
     c.tile_columns-columns.ensures.value in
     is.along
 
-pub put_tiles-requires-clause-rows : goal.put_tiles-requires-clause-rows
-put_tiles-requires-clause-rows g c =
+pub halve_and_cut-requires-clause-rows : goal.halve_and_cut-requires-clause-rows
+halve_and_cut-requires-clause-rows g c κs within =
     let is = is_strip c.args.geometry.now c.args.chain.now.header c.args.chain.now.tile c.args.strip c.tile-side.result
     (c.args.strip * c.tile-side.result) c.height.result c.min-count.result c.tile_columns-columns.result c.requires.next.shape
     c.tile-side.ensures.limits c.requires.next.inside c.tile-side.ensures.tile c.height.ensures.height refl c.min-count.ensures
@@ -96,15 +96,15 @@ returns-clause-made g c =
       read = asked_at h c.args.geometry.now.tile c.args.strip (c.args.strip * c.tile-side.result) c.min-count.result false
           (g.F.File.asked c.args.chain.now.file) (g.F.File.asked c.rows.new.self.file) is.place is.counts c.in_ok-rows.ensures.asked;
       tiles = strip_made told c.args.geometry.now h c.args.strip (c.args.strip * c.tile-side.result) c.min-count.result
-          c.tile_columns-columns.result c.depth-depth.result c.rows.new.out c.put_tiles.new.tiles is c.depth-depth.ensures.value
-          c.rows.ensures.texture c.in_ok-rows.ensures.rows c.put_tiles.ensures;
-      halves = λ b e before. c.take.ensures.halves (texture_of h b) before
+          c.tile_columns-columns.result c.depth-depth.result c.rows.new.out c.halve_and_cut.new.tiles is c.depth-depth.ensures.value
+          c.rows.ensures.texture c.in_ok-rows.ensures.rows c.halve_and_cut.ensures.tiles;
+      halves = λ b e before. c.halve_and_cut.ensures.halves (texture_of h b) before
           (strip_piece told c.args.geometry.now h c.args.strip (c.args.strip * c.tile-side.result) c.min-count.result c.tile_columns-columns.result
           c.args.half.now.taken c.rows.new.out is c.requires.next.taken c.rows.ensures.texture c.in_ok-rows.ensures.rows b e);
-      taken = c.take.ensures.taken ∙ ap (λ (n : ℕ). c.args.half.now.taken + n) is.counts;
-      depth = c.take.ensures.depth;
-      width = c.take.ensures.width;
-      height = c.take.ensures.height;
+      taken = c.halve_and_cut.ensures.taken ∙ ap (λ (n : ℕ). c.args.half.now.taken + n) is.counts;
+      depth = c.halve_and_cut.ensures.depth;
+      width = c.halve_and_cut.ensures.width;
+      height = c.halve_and_cut.ensures.height;
     }
 
 pub returns-in_err-rows-clause-made : goal.returns-in_err-rows-clause-made
@@ -144,11 +144,11 @@ returns-clause-spare g c = c.rows.ensures.spare
 pub returns-in_err-rows-clause-spare : goal.returns-in_err-rows-clause-spare
 returns-in_err-rows-clause-spare g c = c.rows.ensures.spare
 
-pub put_tiles-requires-clause-depth : goal.put_tiles-requires-clause-depth
-put_tiles-requires-clause-depth g c = c.depth-depth.ensures.depth
+pub halve_and_cut-requires-clause-depth : goal.halve_and_cut-requires-clause-depth
+halve_and_cut-requires-clause-depth g c κs within = c.depth-depth.ensures.depth
 
-pub put_tiles-requires-clause-room : goal.put_tiles-requires-clause-room
-put_tiles-requires-clause-room g c =
+pub halve_and_cut-requires-clause-room : goal.halve_and_cut-requires-clause-room
+halve_and_cut-requires-clause-room g c κs within =
     c.requires.tiles
     ∙ ap (λ (n : ℕ). n * tile_length c.args.geometry.now (depth_of c.args.chain.now.header.maximum)) (sym c.tile_columns-columns.ensures.value)
     ∙ ap (λ (n : ℕ). c.tile_columns-columns.result * tile_length c.args.geometry.now n) (sym c.depth-depth.ensures.value)

@@ -1,4 +1,4 @@
-use Rattle.std.proofs.Common.{◌≡◌, ℕ, ◌+◌, ◌*◌, ◌<◌, inl, inr, List, length, refl, sym, ap, ◌∙◌, subst, arith}
+use Rattle.std.proofs.Common.{◌≡◌, ℕ, ◌+◌, ◌*◌, inl, inr, List, refl, sym, ap, ◌∙◌, subst, arith}
 use Rattle.std.proofs.lemmas.List.{with_items_is}
 use Rattle.std.specs.Prelude.{option_map}
 use Rattle.vt_definitions.specs.Depths.{texel_length}
@@ -138,7 +138,7 @@ returns-clause-faults g c =
     c.loop-strip.invariant.ahead.faults c.add_row.ensures.faults
 
 pub make_strip-requires-clause-next : goal.make_strip-requires-clause-next
-make_strip-requires-clause-next g c = c.requires.first
+make_strip-requires-clause-next g c κs within = c.requires.first
 
 pub write_next-requires-clause-next : goal.write_next-requires-clause-next
 write_next-requires-clause-next g c κs within =
