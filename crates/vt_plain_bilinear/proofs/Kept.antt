@@ -1,5 +1,5 @@
 -- What a look-up served stays served: it goes on to say what it says.
-use Rattle.std.proofs.Common.{◌≡◌, ℕ, refl, sym, ◌∙◌, subst}
+use Rattle.std.proofs.Common.{◌≡◌, ℕ, sym, ◌∙◌, subst}
 use Rattle.vt_pages.specs.Shape.{Shape}
 use Rattle.vt_draw.specs.declared.lookups.Found.{Found}
 use Rattle.vt_pages.specs.Pages.{texel_page}

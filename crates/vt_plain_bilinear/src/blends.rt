@@ -1,6 +1,6 @@
 //! The blend of the words of four texels.
 
-ghost use Rattle.std.specs.Prelude.{◌≡◌, ℕ, ◌+◌, ◌*◌, ◌/◌, ◌%◌, ◌<◌, ◌≤◌};
+ghost use Rattle.std.specs.Prelude.{◌≡◌, ◌/◌, ◌%◌, ◌<◌, ◌≤◌};
 ghost use Rattle.vt_definitions.specs.Depths.{IsDepth};
 ghost use Rattle.vt_plain_bilinear.specs.Corners.{AreWhole};
 ghost use Rattle.vt_plain_bilinear.specs.Blends.{blended, blended_word};
@@ -55,7 +55,8 @@ fn wide_sample(word: u64, unit: u64) -> u32
 fn narrow_channel(w: &Weights, t: &Texels, unit: u64) -> u64
     requires whole { AreWhole w.now }
     requires some { 1 ≤ unit }
-    ensures value { result ≡ blended w.now (t.now.first / unit % 256) (t.now.second / unit % 256) (t.now.third / unit % 256) (t.now.fourth / unit % 256) }
+    ensures value { result ≡ blended w.now (t.now.first / unit % 256) (t.now.second / unit % 256)
+        (t.now.third / unit % 256) (t.now.fourth / unit % 256) }
     ensures few { result < 65536 }
 {
     let (first, second) = (narrow_sample(t.first, unit), narrow_sample(t.second, unit));
@@ -68,7 +69,8 @@ fn narrow_channel(w: &Weights, t: &Texels, unit: u64) -> u64
 fn wide_channel(w: &Weights, t: &Texels, unit: u64) -> u64
     requires whole { AreWhole w.now }
     requires some { 1 ≤ unit }
-    ensures value { result ≡ blended w.now (t.now.first / unit % 65536) (t.now.second / unit % 65536) (t.now.third / unit % 65536) (t.now.fourth / unit % 65536) }
+    ensures value { result ≡ blended w.now (t.now.first / unit % 65536) (t.now.second / unit % 65536)
+        (t.now.third / unit % 65536) (t.now.fourth / unit % 65536) }
     ensures few { result < 65536 }
 {
     let (first, second) = (wide_sample(t.first, unit), wide_sample(t.second, unit));

@@ -1,6 +1,6 @@
 //! The four texels about the place of a pixel, and what they weigh.
 
-ghost use Rattle.std.specs.Prelude.{◌≡◌, ◌*◌, ◌/◌, ◌%◌, ◌<◌, ◌≤◌};
+ghost use Rattle.std.specs.Prelude.{◌≡◌, ◌<◌};
 ghost use Rattle.vt_definitions.specs.Limits.{most_levels};
 ghost use Rattle.vt_definitions.specs.Sides.{side};
 ghost use Rattle.vt_camera.specs.Rows.{row_level};

@@ -1,6 +1,6 @@
 //! Drawing the plain picture by blends.
 
-ghost use Rattle.std.specs.Prelude.{◌≡◌, ℕ, ◌+◌, ◌*◌, ◌<◌, ◌≤◌, ◌++◌, length, IfOk, OnOk};
+ghost use Rattle.std.specs.Prelude.{◌≡◌, ◌+◌, ◌*◌, ◌<◌, ◌≤◌, ◌++◌, length, IfOk, OnOk};
 ghost use Rattle.vt_definitions.specs.Depths.{IsDepth, texel_length, word_at};
 ghost use Rattle.vt_definitions.specs.Limits.{most_levels, most_read_side};
 ghost use Rattle.vt_camera.specs.Paths.{IsCamera};

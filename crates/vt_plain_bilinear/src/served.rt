@@ -1,13 +1,12 @@
 //! The words of the four texels of a pixel, as a look-up of pages serves them.
 
-ghost use Rattle.std.specs.Prelude.{◌≡◌, ℕ, ◌+◌, ◌-◌, ◌<◌, ◌≤◌, ◌^◌, IfSome, length, slice_index};
+ghost use Rattle.std.specs.Prelude.{◌≡◌, ◌<◌};
 ghost use Rattle.vt_pages.specs.Pages.{pages_of, levels_of, texel_page, IsWithinLimits};
 ghost use Rattle.vt_pages.specs.Laws.{IsInside};
 ghost use Rattle.vt_definitions.specs.Sides.{side};
 ghost use Rattle.vt_draw.specs.Lookups.{WordNote, IsFinest};
-ghost use Rattle.vt_draw.specs.Shots.{run_of};
 ghost use Rattle.vt_plain_bilinear.specs.Corners.{AreInside};
-ghost use Rattle.vt_plain_bilinear.specs.Served.{GoesOn, coarser_place, AreServed, pages_about, times_among, IsMemo};
+ghost use Rattle.vt_plain_bilinear.specs.Served.{GoesOn, coarser_place, AreServed, pages_about, IsMemo};
 
 use crate::blends::Texels;
 use crate::corners::Corners;
@@ -130,7 +129,8 @@ fn word_of_texel<K: Lookup>(
     requires limits { IsWithinLimits geometry.now }
     requires shape { K.shape lookup.old ≡ geometry.now }
     requires inside { IsInside geometry.now level column line }
-    requires finest { IsFinest geometry.now (K.version lookup.old) (K.says lookup.old) (texel_page geometry.now level column line) found.now }
+    requires finest { IsFinest geometry.now (K.version lookup.old) (K.says lookup.old)
+        (texel_page geometry.now level column line) found.now }
     ensures read { K.says lookup.new (WordNote (K.version lookup.old) found.now.slot
         (coarser_place geometry.now level found.now.level column line) result) }
     ensures on { GoesOn (K.shape lookup.old) (K.version lookup.old) (K.says lookup.old) (K.kept lookup.old)
@@ -156,10 +156,14 @@ pub(crate) fn words_by<K: Lookup>(
     requires shape { K.shape lookup.old ≡ geometry.now }
     requires level { level < levels_of geometry.now }
     requires inside { AreInside (side geometry.now.width level) (side geometry.now.height level) at.now }
-    requires first { IsFinest geometry.now (K.version lookup.old) (K.says lookup.old) (pages_about geometry.now level at.now).first first.now }
-    requires second { IsFinest geometry.now (K.version lookup.old) (K.says lookup.old) (pages_about geometry.now level at.now).second second.now }
-    requires third { IsFinest geometry.now (K.version lookup.old) (K.says lookup.old) (pages_about geometry.now level at.now).third third.now }
-    requires fourth { IsFinest geometry.now (K.version lookup.old) (K.says lookup.old) (pages_about geometry.now level at.now).fourth fourth.now }
+    requires first { IsFinest geometry.now (K.version lookup.old) (K.says lookup.old)
+        (pages_about geometry.now level at.now).first first.now }
+    requires second { IsFinest geometry.now (K.version lookup.old) (K.says lookup.old)
+        (pages_about geometry.now level at.now).second second.now }
+    requires third { IsFinest geometry.now (K.version lookup.old) (K.says lookup.old)
+        (pages_about geometry.now level at.now).third third.now }
+    requires fourth { IsFinest geometry.now (K.version lookup.old) (K.says lookup.old)
+        (pages_about geometry.now level at.now).fourth fourth.now }
     ensures served { AreServed geometry.now (K.version lookup.old) (K.says lookup.new) level at.now result }
     ensures on { GoesOn (K.shape lookup.old) (K.version lookup.old) (K.says lookup.old) (K.kept lookup.old)
         (K.shape lookup.new) (K.version lookup.new) (K.says lookup.new) (K.kept lookup.new) }
