@@ -147,6 +147,6 @@ module _ (line first next cut : ℕ) (shows : ℕ → List ℕ → Type 0) (a b 
       subst (λ (l : List Bool). AreTried line first shows l (c ++ e) samples (u ++ v)) (sym parts)
       (subst (λ (s : List ℕ). AreTried line first shows (a ++ b) (c ++ e) s (u ++ v)) (sym pieces)
       (record {
-        kept = λ k done. elim (cases_lt k cut) [ | inl below ↦ kept_low k below done | inr past ↦ kept_high k past done ];
-        drawn = λ k is done. elim (cases_lt k cut) [ | inl below ↦ drawn_low k below is done | inr past ↦ drawn_high k past is done ];
+        kept = λ k done. elim (cases_lt k cut) [ inl below ↦ kept_low k below done | inr past ↦ kept_high k past done ];
+        drawn = λ k is done. elim (cases_lt k cut) [ inl below ↦ drawn_low k below is done | inr past ↦ drawn_high k past is done ];
       }))

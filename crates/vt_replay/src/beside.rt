@@ -265,7 +265,11 @@ fn try_beside<Rt: Threads + Sync, P: Filter>(
                 × MayTry shot.now table.now tiles.now next (length high_left.now) (length high.now) }
             ensures { HasTried P.under shot.entry.now table.entry.now tiles.entry.now next high_left.entry.now
                 high_left.exit.now high.entry.now high.exit.now }
-        { try_beside::<Rt, P>(rt, table, tiles, shot, next, many, high_parts, high_left, high) },
+        {
+            try_beside::<Rt, P>(
+                rt, table, tiles, shot, next, many, high_parts, high_left, high,
+            )
+        },
     );
 }
 
