@@ -10,11 +10,11 @@ use std::fs::File;
 use std::io::ErrorKind;
 use std::process::ExitCode;
 use std::{env, io};
+use vt_bilinear::BlendMachine;
 pub use vt_commands::run;
 use vt_inputs::Refusal;
 use vt_outside::{OpenGate, RealFile, RealFolder, RealSink};
-use vt_pass::{FilteredMachine, WordMachine};
-use vt_plain_bilinear::Bilinear;
+use vt_pass::WordMachine;
 
 // The words after the program's name.
 fn words_of(rt: &HostRuntime, alloc: Global) -> io::Result<Vec<String>> {
@@ -48,15 +48,7 @@ fn main(rt: HostRuntime) -> ExitCode {
     };
     let mut folder = RealFolder::new(&rt);
     let mut out = RealSink::new(rt.stdout());
-    let status = run::<
-        WordMachine<RealFile<File>>,
-        FilteredMachine<RealFile<File>, Bilinear>,
-        _,
-        _,
-        _,
-        _,
-        _,
-    >(
+    let status = run::<WordMachine<RealFile<File>>, BlendMachine<RealFile<File>>, _, _, _, _, _>(
         &rt,
         alloc,
         words.as_slice(),

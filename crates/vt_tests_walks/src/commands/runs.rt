@@ -4,10 +4,10 @@ use super::gates::{Meeting, Meetings};
 use std::alloc::{AllocError, Global};
 use std::sync::Wait;
 use std::thread::Threads;
+use vt_bilinear::BlendMachine;
 use vt_commands::run;
 use vt_outside::{Fail, Fails, MemoryFile, MemoryFolder, MemorySink, NoMemory};
-use vt_pass::{FilteredMachine, WordMachine};
-use vt_plain_bilinear::Bilinear;
+use vt_pass::WordMachine;
 
 /// What commands run over: a folder in memory, the output and the error output, and the gate of their workers.
 #[derive(Drop)]
@@ -89,7 +89,7 @@ fn play_words(
     words: &[String],
     scene: &mut Scene,
 ) -> u8 {
-    run::<WordMachine<MemoryFile>, FilteredMachine<MemoryFile, Bilinear>, _, _, _, _, _>(
+    run::<WordMachine<MemoryFile>, BlendMachine<MemoryFile>, _, _, _, _, _>(
         rt,
         alloc,
         words,
