@@ -243,10 +243,10 @@ impl<F: File + Send, P: Filter + Sync> PassMachine for FilteredMachine<F, P> {
         P.is_plain (stored b) scene m i x y limits below_width below_height maps.root maps.needed_mapped };
 
     ghost may_come_back = { λ job m n a c e f b d ready root job_is mustered lo sa did_lo did_sa did_st.
-        come_back F.File P.Filter job m n a c e f b d ready job_is mustered lo sa did_lo did_sa did_st };
+        come_back F.File P.Filter.own job m n a c e f b d ready job_is mustered lo sa did_lo did_sa did_st };
 
     ghost has_run = { λ job m n p a c e f b d r ready root job_is mustered lo sa did_lo did_sa did_st dismissed.
-        has_ended F.File P.Filter job m n a c e f b d ready job_is mustered lo sa did_lo did_sa did_st p r dismissed.1 };
+        has_ended F.File P.Filter.own job m n a c e f b d ready job_is mustered lo sa did_lo did_sa did_st p r dismissed.1 };
 
     ghost has_answered = { λ job n p c f d r dismissed. none_refused r dismissed.0 };
 }
