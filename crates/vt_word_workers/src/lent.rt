@@ -24,7 +24,7 @@ pub struct LentShared<'a, P: Filter> {
     pub filter: PhantomData<P>,
 }
 
-impl<'a, F: File, P: Filter> Task<LentShared<'a, P>> for QueuedLoader<F> {
+impl<'a, F: File, P: Filter + Sync> Task<LentShared<'a, P>> for QueuedLoader<F> {
     ghost use Rattle.vt_loaders.specs.QueuedLoaders.{MayLoad, HasLoaded};
 
     ghost ready = { λ shared job loader. MayLoad F.File shared.queues.now loader };
@@ -43,7 +43,7 @@ impl<'a, F: File, P: Filter> Task<LentShared<'a, P>> for QueuedLoader<F> {
     }
 }
 
-impl<'a, P: Filter> Task<LentShared<'a, P>> for WordSampler {
+impl<'a, P: Filter + Sync> Task<LentShared<'a, P>> for WordSampler {
     ghost use Rattle.vt_word_workers.specs.WordTasks.{MayDraw, HasDrawn};
 
     ghost ready = { λ shared job task. MayDraw shared.words.now job.scene job.picture task };
@@ -62,7 +62,7 @@ impl<'a, P: Filter> Task<LentShared<'a, P>> for WordSampler {
     }
 }
 
-impl<'a, P: Filter> Task<LentShared<'a, P>> for WordStreamer {
+impl<'a, P: Filter + Sync> Task<LentShared<'a, P>> for WordStreamer {
     ghost use Rattle.vt_word_workers.specs.WordTasks.{MayStream, HasFed};
 
     ghost ready = { λ shared job task. MayStream shared.words.now shared.queues.now job.batch task };

@@ -22,7 +22,7 @@ pub struct WordShared<P: Filter> {
     pub filter: PhantomData<P>,
 }
 
-impl<F: File, P: Filter> Task<WordShared<P>> for QueuedLoader<F> {
+impl<F: File, P: Filter + Sync> Task<WordShared<P>> for QueuedLoader<F> {
     ghost use Rattle.vt_loaders.specs.QueuedLoaders.{MayLoad, HasLoaded};
 
     ghost ready = { λ shared job loader. MayLoad F.File shared.queues loader };

@@ -59,7 +59,7 @@ pub(crate) fn stream_own<Rt: Threads + Wait, G: Gate>(
     );
 }
 
-impl<P: Filter> Task<WordShared<P>> for WordSampler {
+impl<P: Filter + Sync> Task<WordShared<P>> for WordSampler {
     ghost ready = { λ shared job task. MayDraw shared.words job.scene job.picture task };
 
     ghost did = { λ shared job before after. HasDrawn P.Filter shared.words job.scene job.picture before after };
@@ -76,7 +76,7 @@ impl<P: Filter> Task<WordShared<P>> for WordSampler {
     }
 }
 
-impl<P: Filter> Task<WordShared<P>> for WordStreamer {
+impl<P: Filter + Sync> Task<WordShared<P>> for WordStreamer {
     ghost ready = { λ shared job task. MayStream shared.words shared.queues job.batch task };
 
     ghost did = { λ shared job before after. HasFed shared.words shared.queues job.batch before after };
