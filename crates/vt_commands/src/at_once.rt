@@ -11,6 +11,7 @@ ghost use Rattle.vt_commands.specs.Waits.{is_waiting_name, may_wait, MayWait, no
 ghost use Rattle.vt_commands.specs.Runs.{run_of, IsRun};
 
 use std::alloc::Global;
+use std::thread::Threads;
 use vt_inputs::{Refusal, status_of, tell_end};
 use vt_outside::{Folder, Sink};
 use vt_store_commands::{generate, info, plain, tile, upgrade};
@@ -33,9 +34,10 @@ fn is_waiting_name(name: &str) -> bool
     name == "walk" || name == "trial"
 }
 
-/// Does what `run` does, where the words are not those of a command that may wait: it starts no thread and waits for
-/// nobody, so it returns whatever bytes, places and faults come.
-pub fn run_at_once<D: Folder, O: Sink, E: Sink>(
+/// Does what `run` does, where the words are not those of a command that may wait: it joins each thread that it starts and waits
+/// for nobody else, so it returns whatever bytes, places and faults come.
+pub fn run_at_once<Rt: Threads + Sync, D: Folder, O: Sink, E: Sink>(
+    rt: &Rt,
     alloc: Global,
     words: &[String],
     folder: &mut D,
@@ -47,13 +49,14 @@ pub fn run_at_once<D: Folder, O: Sink, E: Sink>(
         err.old
         err.new) result }
 {
-    let end = do_at_once(alloc, words, folder, out);
+    let end = do_at_once(rt, alloc, words, folder, out);
     tell_end(&end, err);
     status_of(&end)
 }
 
 // Reads the words and does the command that they ask for.
-fn do_at_once<'a, D: Folder, O: Sink>(
+fn do_at_once<'a, Rt: Threads + Sync, D: Folder, O: Sink>(
+    rt: &Rt,
     alloc: Global,
     words: &'a [String],
     folder: &mut D,
@@ -64,11 +67,12 @@ fn do_at_once<'a, D: Folder, O: Sink>(
         result }
 {
     let command = read_command(alloc, words)?;
-    perform_at_once(alloc, &command, folder, out)
+    perform_at_once(rt, alloc, &command, folder, out)
 }
 
 // Does a command.
-fn perform_at_once<'a, D: Folder, O: Sink>(
+fn perform_at_once<'a, Rt: Threads + Sync, D: Folder, O: Sink>(
+    rt: &Rt,
     alloc: Global,
     command: &Command<'a>,
     folder: &mut D,
@@ -80,12 +84,12 @@ fn perform_at_once<'a, D: Folder, O: Sink>(
         (course D.Folder O.Sink folder.old folder.new out.old out.new) result }
 {
     match command {
-        Command::Plain(words) => plain(alloc, words, folder, out),
-        Command::Tile(words) => tile(alloc, words, folder, out),
+        Command::Plain(words) => plain(rt, alloc, words, folder, out),
+        Command::Tile(words) => tile(rt, alloc, words, folder, out),
         Command::Info(words) => info(words, folder, out),
         Command::Gen(words) => generate(alloc, words, folder),
-        Command::Upgrade(words) => upgrade(alloc, words, folder, out),
-        Command::Replay(words) => replay(alloc, words, folder, out),
+        Command::Upgrade(words) => upgrade(rt, alloc, words, folder, out),
+        Command::Replay(words) => replay(rt, alloc, words, folder, out),
         Command::Walk(_) => unreachable!(),
         Command::Trial(_) => unreachable!(),
     }

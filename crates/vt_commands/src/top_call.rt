@@ -50,5 +50,5 @@ pub fn run<
     if may_wait(words) {
         return run_waiting::<M, Blend, Rt, D, O, E, G>(rt, alloc, words, folder, out, err, gate);
     }
-    run_at_once(alloc, words, folder, out, err)
+    run_at_once(rt, alloc, words, folder, out, err)
 }

@@ -38,11 +38,6 @@ pub row_samples-more : (d : ℕ) (source : Source) (row : RowView) (x : ℕ)
 unfolding row_samples
 row_samples-more d source row x = sym (over_more (λ (i : ℕ). word_bytes d (shown_word source row i)) x)
 
-pub first_rows-none : (d : ℕ) (source : Source) (surface : Surface) (path : PathView) (camera : Camera) (held : List ℕ)
-    → held ≡ held ++ first_rows d source surface path camera 0
-unfolding first_rows
-first_rows-none d source surface path camera held = sym (append-nil held)
-
 first_rows-more : (d : ℕ) (source : Source) (surface : Surface) (path : PathView) (camera : Camera) (y : ℕ) (held : List ℕ)
     → (held ++ first_rows d source surface path camera y) ++ row_samples d source (row_of path camera y surface) path.width
     ≡ held ++ first_rows d source surface path camera (y + 1)

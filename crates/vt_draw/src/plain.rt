@@ -1,25 +1,29 @@
 //! Drawing the plain picture.
 
 ghost use Rattle.std.specs.Prelude.{◌≡◌, ◌+◌, ◌*◌, ◌<◌, ◌≤◌, ◌++◌, length, take, IfOk, OnOk};
+ghost use Rattle.std.specs.Thread.{IsSync};
 ghost use Rattle.vt_definitions.specs.Depths.{IsDepth, texel_length, texel_bytes};
 ghost use Rattle.vt_definitions.specs.Limits.{most_levels};
-ghost use Rattle.vt_camera.specs.Paths.{IsCamera};
 ghost use Rattle.vt_camera.specs.Rows.{IsSurface};
-ghost use Rattle.vt_draw.specs.Plain.{chain_of, surface_of, row_samples, first_rows, plain_samples};
+ghost use Rattle.vt_draw.specs.Plain.{chain_of, surface_of, row_samples, plain_samples};
+ghost use Rattle.vt_draw.specs.Views.{IsView, IsRoomFor, rows_shown};
 
-use std::alloc::{AllocError, Global};
+use std::alloc::Global;
+use std::thread::{Threads, join_mut};
 use vt_camera::{Camera, Path, Row, Surface};
 use vt_definitions::texel_length;
 use vt_mip::Chain;
 use vt_outside::NoMemory;
+use vt_parts::{processors, share, threads_for};
 
-// How many bytes the longest row of a picture has.
-const MOST_ROW_SIZE: usize = 12288;
+// How many nanoseconds it takes to draw a pixel, about.
+const PIXEL_TIME: u64 = 5;
 
 /// Draws the plain picture with this number of a path, row by row from the top: three samples a pixel, each of as many bytes as
 /// the chain's samples have, the most significant first. A pixel shows what the level of its row has at the pixel's place
 /// (van Waveren 2012).
-pub fn draw_plain(
+pub fn draw_plain<Rt: Threads + Sync>(
+    rt: &Rt,
     alloc: Global,
     chain: &Chain,
     path: &Path,
@@ -31,13 +35,27 @@ pub fn draw_plain(
         length samples.items ≡ texel_length chain.now.base.depth * (path.now.width * path.now.height)) }
 {
     let mut samples = Vec::new(alloc);
-    draw_plain_behind(chain, path, picture, &mut samples)?;
+    let threads = drawing_threads(rt, path);
+    draw_plain_behind(rt, threads, chain, path, picture, &mut samples)?;
     Ok(samples)
 }
 
-/// Draws the plain picture as `draw_plain` does, behind what a buffer holds, as the header of the picture's file. So one buffer can
-/// serve one picture after the other. After want of memory the buffer may hold anything.
-pub fn draw_plain_behind(
+/// How many threads are to draw a picture of a path: a picture of 320x200 is worth two or three. The system is asked for its processors, so a
+/// command asks once for all its pictures.
+pub fn drawing_threads<Rt: Threads>(rt: &Rt, path: &Path) -> usize
+    ensures { 1 ≤ result }
+{
+    threads_for(
+        processors(rt),
+        PIXEL_TIME * path.width() as u64 * path.height() as u64,
+    )
+}
+
+/// Draws the plain picture as `draw_plain` does, in so many threads, behind what a buffer holds, as the header of the picture's file. So one
+/// buffer can serve one picture after the other. After want of memory the buffer may hold anything.
+pub fn draw_plain_behind<Rt: Threads + Sync>(
+    rt: &Rt,
+    threads: usize,
     chain: &Chain,
     path: &Path,
     picture: u32,
@@ -47,14 +65,25 @@ pub fn draw_plain_behind(
     ensures { OnOk result (bytes.new.items ≡ bytes.old.items ++ plain_samples chain.now.base chain.now.tile path.now picture) }
 {
     if chain.depth() == 1 {
-        draw_picture::<1>(chain, path, picture, bytes)
+        draw_picture::<Rt, 1>(rt, threads, chain, path, picture, bytes)
     } else {
-        draw_picture::<2>(chain, path, picture, bytes)
+        draw_picture::<Rt, 2>(rt, threads, chain, path, picture, bytes)
     }
 }
 
+// What the rows of a picture are drawn of: a chain, a path, the picture's camera, and the chain as a surface to it.
+#[derive(Clone, Copy)]
+struct View<'a> {
+    chain: &'a Chain,
+    path: &'a Path,
+    camera: Camera,
+    surface: Surface,
+}
+
 // Draws the plain picture of a chain whose samples have DEPTH bytes behind what a buffer holds.
-fn draw_picture<const DEPTH: u32>(
+fn draw_picture<Rt: Threads + Sync, const DEPTH: u32>(
+    rt: &Rt,
+    threads: usize,
     chain: &Chain,
     path: &Path,
     picture: u32,
@@ -65,13 +94,16 @@ fn draw_picture<const DEPTH: u32>(
     requires picture { picture < length path.now.cameras }
     ensures { OnOk result (bytes.new.items ≡ bytes.old.items ++ plain_samples chain.now.base chain.now.tile path.now picture) }
 {
-    let surface = surface_of(chain);
-    let camera = path.camera(picture);
-    let row_size = texel_length(DEPTH) * path.width() as usize;
-    bytes.reserve(row_size * path.height() as usize)?;
-    let mut row_samples = [0; MOST_ROW_SIZE];
-    let row_samples = &mut row_samples[..row_size];
-    draw_rows::<DEPTH>(chain, path, &camera, &surface, row_samples, bytes)?;
+    let view = View {
+        chain,
+        path,
+        camera: path.camera(picture),
+        surface: surface_of(chain),
+    };
+    let held = bytes.len();
+    let size = texel_length(DEPTH) * path.width() as usize * path.height() as usize;
+    bytes.resize(held + size, 0)?;
+    draw_behind::<Rt, DEPTH>(rt, threads, &view, held, bytes.as_mut_slice());
     Ok(())
 }
 
@@ -90,31 +122,100 @@ pub fn surface_of(chain: &Chain) -> Surface
     }
 }
 
-// Adds the bytes of all rows of the picture that a camera takes, each by way of a row's room.
-fn draw_rows<const DEPTH: u32>(
-    chain: &Chain,
-    path: &Path,
-    camera: &Camera,
-    surface: &Surface,
-    row_samples: &mut [u8],
-    samples: &mut Vec<u8>,
-) -> Result<(), AllocError>
-    requires depth { IsDepth DEPTH }
-    requires own { chain.now.base.depth ≡ DEPTH }
-    requires surface { surface.now ≡ surface_of chain.now.base chain.now.tile }
-    requires limits { IsSurface surface.now }
-    requires camera { IsCamera camera.now }
-    requires levels { surface.now.levels ≤ most_levels }
-    requires room { length row_samples.old ≡ texel_length DEPTH * path.now.width }
-    ensures { OnOk result (samples.new.items
-        ≡ samples.old.items ++ first_rows DEPTH (chain_of chain.now.base) surface.now path.now camera.now path.now.height) }
+// Writes the bytes of all rows behind so many others.
+fn draw_behind<Rt: Threads + Sync, const DEPTH: u32>(
+    rt: &Rt,
+    threads: usize,
+    view: &View<'_>,
+    held: usize,
+    bytes: &mut [u8],
+)
+    requires view { IsView DEPTH view.now }
+    requires room { length bytes.old ≡ held + texel_length DEPTH * (view.now.path.now.width * view.now.path.now.height) }
+    ensures { bytes.new ≡ take held bytes.old ++ rows_shown DEPTH view.now view.now.path.now.height }
 {
-    for y in 0..path.height() {
-        let row = Row::of(path, camera, y, surface);
-        draw_plain_row::<DEPTH>(chain, row, path.width(), row_samples);
-        samples.extend_from_slice(row_samples)?;
+    let height = view.path.height();
+    let (_, samples) = bytes.split_at_mut(held);
+    draw_in_parts::<Rt, DEPTH>(rt, threads, view, 0, height, samples);
+}
+
+// Writes the bytes of the rows from one on to another, in so many threads, each of which writes rows of its own.
+#[cycle(parts)]
+fn draw_in_parts<Rt: Threads + Sync, const DEPTH: u32>(
+    rt: &Rt,
+    threads: usize,
+    view: &View<'_>,
+    first: u32,
+    end: u32,
+    out: &mut [u8],
+)
+    requires { IsRoomFor DEPTH view.now first end (length out.old) }
+    ensures { rows_shown DEPTH view.now first ++ out.new ≡ rows_shown DEPTH view.now end }
+{
+    if threads < 2 {
+        draw_rows::<DEPTH>(view, first, end, out);
+        return;
     }
-    Ok(())
+    let few = threads / 2;
+    let middle = first + share((end - first) as usize, threads, few) as u32;
+    let size = texel_length(DEPTH) * view.path.width() as usize;
+    let (front, back) = out.split_at_mut(size * (middle - first) as usize);
+    draw_both::<Rt, DEPTH>(
+        rt,
+        few,
+        threads - few,
+        view,
+        first,
+        middle,
+        end,
+        front,
+        back,
+    );
+}
+
+// Writes the rows above the middle one, in `few` threads, and at once the others, in `many`. A function of its own, so that what the
+// closures ask is what it is given.
+#[cycle(parts)]
+fn draw_both<Rt: Threads + Sync, const DEPTH: u32>(
+    rt: &Rt,
+    few: usize,
+    many: usize,
+    view: &View<'_>,
+    first: u32,
+    middle: u32,
+    end: u32,
+    front: &mut [u8],
+    back: &mut [u8],
+)
+    requires some { (1 ≤ few) × (1 ≤ many) }
+    requires front { IsRoomFor DEPTH view.now first middle (length front.old) }
+    requires back { IsRoomFor DEPTH view.now middle end (length back.old) }
+    ensures front { rows_shown DEPTH view.now first ++ front.new ≡ rows_shown DEPTH view.now middle }
+    ensures back { rows_shown DEPTH view.now middle ++ back.new ≡ rows_shown DEPTH view.now end }
+{
+    let mut above = ||
+        requires { IsSync Rt.row × IsRoomFor DEPTH view.now first middle (length front.now) }
+        ensures { rows_shown DEPTH view.entry.now first ++ front.exit.now ≡ rows_shown DEPTH view.entry.now middle }
+    { draw_in_parts::<Rt, DEPTH>(rt, few, view, first, middle, front) };
+    let mut below = ||
+        requires { IsSync Rt.row × IsRoomFor DEPTH view.now middle end (length back.now) }
+        ensures { rows_shown DEPTH view.entry.now middle ++ back.exit.now ≡ rows_shown DEPTH view.entry.now end }
+    { draw_in_parts::<Rt, DEPTH>(rt, many, view, middle, end, back) };
+    join_mut(rt, &mut above, &mut below);
+}
+
+// Writes the bytes of the rows from one on to another.
+fn draw_rows<const DEPTH: u32>(view: &View<'_>, first: u32, end: u32, out: &mut [u8])
+    requires { IsRoomFor DEPTH view.now first end (length out.old) }
+    ensures { rows_shown DEPTH view.now first ++ out.new ≡ rows_shown DEPTH view.now end }
+{
+    let columns = view.path.width();
+    let size = texel_length(DEPTH) * columns as usize;
+    for y in first..end {
+        let row = Row::of(view.path, &view.camera, y, &view.surface);
+        let at = size * (y - first) as usize;
+        draw_plain_row::<DEPTH>(view.chain, row, columns, &mut out[at..at + size]);
+    }
 }
 
 // Writes the bytes of a row of so many pixels. It takes the row by value, for then no write can be one to the row's numbers.

@@ -26,6 +26,7 @@ ghost use Rattle.vt_inputs.specs.Reads.{LooksOver, MayLookOver, SeesTexture};
 use crate::flaws::{flaw_of_path, flaw_of_store, flaw_of_texture};
 use crate::refusal::{Refusal, refusal_of};
 use std::alloc::Global;
+use std::thread::Threads;
 use vt_camera::{Path, parse_path};
 use vt_outside::{File, Folder, OutsideError};
 use vt_pages::Geometry;
@@ -90,7 +91,8 @@ fn path_of<'a>(alloc: Global, name: &'a str, text: &[u8]) -> Result<Path, Refusa
 }
 
 /// Reads the texture of a name.
-pub fn read_texture<'a, D: Folder>(
+pub fn read_texture<'a, Rt: Threads + Sync, D: Folder>(
+    rt: &Rt,
     alloc: Global,
     folder: &mut D,
     name: &'a str,
@@ -98,17 +100,22 @@ pub fn read_texture<'a, D: Folder>(
     ensures { Reads (TextureInput name.now) TextureContent (passage D.Folder folder.old folder.new) result }
 {
     let mut file = open_input(folder, name)?;
-    let texture = texture_in(alloc, name, &mut file);
+    let texture = texture_in(rt, alloc, name, &mut file);
     folder.close(file);
     texture
 }
 
 // The texture in an open file.
-fn texture_in<'a, F: File>(alloc: Global, name: &'a str, file: &mut F) -> Result<Image, Refusal<'a>>
+fn texture_in<'a, Rt: Threads + Sync, F: File>(
+    rt: &Rt,
+    alloc: Global,
+    name: &'a str,
+    file: &mut F,
+) -> Result<Image, Refusal<'a>>
     ensures finds { Finds (TextureInput name.now) TextureContent (visit F.File file.old file.new) result }
     ensures visits { Visits AreImagePlaces (visit F.File file.old file.new) }
 {
-    match read_image(alloc, file) {
+    match read_image(rt, alloc, file) {
         Ok(texture) => Ok(texture),
         Err(error) => Err(refusal_of(name, flaw_of_texture(error))),
     }

@@ -1,4 +1,5 @@
 pub mod Rasters
+pub mod RasterParts
 pub mod Words
 pub mod Fronts
 pub mod Small

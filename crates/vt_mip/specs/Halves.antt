@@ -1,5 +1,7 @@
 -- The samples of rasters and images that are halves of others, at a depth d.
-use Rattle.std.specs.Prelude.{◌≡◌, ℕ, ◌+◌, ◌*◌, ◌/◌, ◌<◌, List}
+use Rattle.std.specs.Prelude.{◌≡◌, ℕ, ◌+◌, ◌*◌, ◌/◌, ◌<◌, ◌≤◌, List}
+use Rattle.vt_definitions.specs.Depths.{IsDepth, texel_length}
+use Rattle.vt_definitions.specs.Limits.{most_tiled_side}
 use Rattle.vt_ppm.specs.Image.{ImageView}
 use Rattle.vt_box_filter.specs.HalvedRows.{row_sample}
 use Rattle.vt_mip.specs.Chains.{halved}
@@ -19,3 +21,13 @@ pub record IsHalf (p q : ImageView) : Type 0 where
   pub columns : q.width ≡ (p.width + 1) / 2
   pub rows : q.height ≡ (p.height + 1) / 2
   pub raster : IsHalvedRaster p.depth p.samples p.width p.height q.height q.samples
+
+-- so many bytes hold a raster of w columns and h rows, which are sides of one that is cut into tiles, and so many have room for its half
+pub record AreHalfSizes (d w h space room : ℕ) : Type 0 where
+  pub depth : IsDepth d
+  pub some_columns : 1 ≤ w
+  pub few_columns : w ≤ most_tiled_side
+  pub some_rows : 1 ≤ h
+  pub few_rows : h ≤ most_tiled_side
+  pub source : space ≡ texel_length d * (w * h)
+  pub out : room ≡ texel_length d * ((w + 1) / 2 * ((h + 1) / 2))

@@ -8,8 +8,10 @@ ghost use Rattle.vt_mip.specs.Levels.{GainsHalf, IsLastFitting};
 use crate::halving::halved_image;
 use std::alloc::Global;
 use std::marker::Model;
+use std::thread::Threads;
 use vt_definitions::texel_length;
 use vt_outside::NoMemory;
+use vt_parts::processors;
 use vt_ppm::{Image, samples_are_bytes};
 
 /// A texture and its coarser levels, each the one before it halved, down to the first whose two sides are at most the tile side.
@@ -40,12 +42,17 @@ fn last_fits(levels: &Vec<Image>, tile: u32) -> bool
 }
 
 // The levels with the next one, the last one halved.
-fn add_level(alloc: Global, levels: &mut Vec<Image>) -> Result<(), NoMemory>
+fn add_level<Rt: Threads + Sync>(
+    rt: &Rt,
+    processors: usize,
+    alloc: Global,
+    levels: &mut Vec<Image>,
+) -> Result<(), NoMemory>
     requires { 1 ≤ vec_len levels.old }
     ensures { OnOk result (GainsHalf levels.old.items levels.new.items) }
 {
     let last = levels.len() - 1;
-    let next = halved_image(alloc, &levels[last])?;
+    let next = halved_image(rt, processors, alloc, &levels[last])?;
     levels.push(next)?;
     Ok(())
 }
@@ -61,16 +68,22 @@ fn raster_row(samples: &[u8], size: usize, y: usize) -> &[u8]
 
 impl Chain {
     /// Builds the chain of a texture for a tile side of 2, 4, 8, 16, 32, 64 or 128. Refused only where memory is.
-    pub fn build(alloc: Global, image: Image, tile: u32) -> Result<Chain, NoMemory>
+    pub fn build<Rt: Threads + Sync>(
+        rt: &Rt,
+        alloc: Global,
+        image: Image,
+        tile: u32,
+    ) -> Result<Chain, NoMemory>
         requires { IsTileSide tile }
         ensures { IfOk result (λ c. c ≡ record { base = image; tile = tile }) }
     {
         // An image has texels, and at most so many a side: so its chain has few levels.
         let _ = image.width();
+        let processors = processors(rt);
         let mut levels = Vec::new(alloc);
         levels.push(image)?;
         while !last_fits(&levels, tile) {
-            add_level(alloc, &mut levels)?;
+            add_level(rt, processors, alloc, &mut levels)?;
         }
         Ok(Chain { levels, tile })
     }

@@ -5,6 +5,7 @@ pub mod Fields
 pub mod Breaks
 pub mod HeaderFields
 pub mod SampleValues
+pub mod SampleParts
 pub mod Rasters
 pub mod TellingFiles
 pub mod ImageLaws

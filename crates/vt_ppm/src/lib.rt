@@ -6,6 +6,7 @@ mod field;
 mod header;
 mod image;
 mod laws;
+mod parts;
 mod picture;
 mod raster;
 mod read;

@@ -7,7 +7,9 @@ ghost use Rattle.vt_ppm.specs.Format.{IsMaximum, AreUpTo, depth_of, scaled};
 ghost use Rattle.vt_ppm.specs.Samples.{AreScaledUpTo, IsFirstOver, IsOverAt, IsRasterImage, IsScale};
 
 use crate::header::{depth_of, sample_count};
+use crate::parts::scale_in_parts;
 use crate::{Header, Image};
+use std::thread::Threads;
 use vt_definitions::{greatest_sample, put_sample, sample_at};
 
 /// The byte of the file at which the first sample above the maximum begins.
@@ -22,15 +24,26 @@ pub fn over_at(header: &Header, raster: &[u8]) -> Option<u64>
     Some(header.raster + depth_of(header.maximum) as u64 * number as u64)
 }
 
-/// The image of a raster of which no sample is above the maximum.
-pub fn image_of(header: &Header, mut raster: Vec<u8>) -> Image
+/// The image of a raster of which no sample is above the maximum, made by so many threads.
+pub fn image_of<Rt: Threads + Sync>(
+    rt: &Rt,
+    threads: usize,
+    header: &Header,
+    mut raster: Vec<u8>,
+) -> Image
     requires sides { AreImageSides most_read_side header.now.width header.now.height }
     requires maximum { IsMaximum header.now.maximum }
     requires full { length raster.items ≡ texel_length (depth_of header.now.maximum) * (header.now.width * header.now.height) }
     requires few { AreUpTo (depth_of header.now.maximum) header.now.maximum (3 * (header.now.width * header.now.height)) raster.items }
     ensures { IsRasterImage header.now.width header.now.height header.now.maximum raster.items result }
 {
-    scale(raster.as_mut_slice(), sample_count(header), header.maximum);
+    scale_in_parts(
+        rt,
+        threads,
+        raster.as_mut_slice(),
+        sample_count(header),
+        header.maximum,
+    );
     Image::new(
         depth_of(header.maximum),
         header.width,

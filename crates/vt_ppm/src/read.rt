@@ -10,9 +10,11 @@ ghost use Rattle.vt_ppm.specs.Refusals.{IsOutsideRefusal, IsRasterRefusal, IsSam
 ghost use Rattle.vt_ppm.specs.Strips.{IsTextureHeader, HasRasterIfTold};
 
 use crate::header::{HEADER_LIMIT, MOST_READ_SIDE, MOST_TILED_SIDE, lawful_header, raster_length};
-use crate::raster::{image_of, over_at};
+use crate::parts::{over_at_in_parts, passing_threads};
+use crate::raster::image_of;
 use crate::{Header, Image, PpmError};
 use std::alloc::Global;
+use std::thread::Threads;
 use vt_outside::{File, NoMemory};
 
 // The front of a file, as far as a header may reach, and the length of the whole.
@@ -123,8 +125,12 @@ pub fn read_texture_header<F: File>(alloc: Global, file: &mut F) -> Result<Heade
 ///
 /// Where the file tells its bytes, `BadMagic` to `SampleOver` come exactly as the first flaw of those bytes. `Failed` comes only
 /// where the file's count of faults rose, and `NoMemory` where memory was refused. It asks for two places at most: the front of
-/// the file, as far as a header may reach, and then the raster.
-pub fn read_image<F: File>(alloc: Global, file: &mut F) -> Result<Image, PpmError>
+/// the file, as far as a header may reach, and then the raster. The samples of a large raster are scaled in several threads.
+pub fn read_image<Rt: Threads + Sync, F: File>(
+    rt: &Rt,
+    alloc: Global,
+    file: &mut F,
+) -> Result<Image, PpmError>
     ensures image { IfOk result (λ i. IfSome (F.bytes file.old) (λ b. IsImage b i)) }
     ensures flaw { IfErr result (λ e. (IsOutsideRefusal e → ⊥) → IfSome (F.bytes file.old) (λ b. IsImageFlaw b e)) }
     ensures failed { IsErrOf result PpmError.Failed → Rose (F.faults file.old) (F.faults file.new) }
@@ -142,8 +148,9 @@ pub fn read_image<F: File>(alloc: Global, file: &mut F) -> Result<Image, PpmErro
         return Err(PpmError::Truncated { want, have });
     }
     let raster = bytes_at(alloc, file, header.raster, want as usize)?;
-    if let Some(at) = over_at(&header, &raster) {
+    let threads = passing_threads(rt, &header);
+    if let Some(at) = over_at_in_parts(rt, threads, &header, &raster) {
         return Err(PpmError::SampleOver { at });
     }
-    Ok(image_of(&header, raster))
+    Ok(image_of(rt, threads, &header, raster))
 }

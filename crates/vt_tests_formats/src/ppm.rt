@@ -15,7 +15,7 @@ use vt_ppm::{PpmError, encode, encode_wide};
 #[test]
 fn a_header_is_looked_for_in_one_place(rt: HostRuntime) {
     let header = Look::Header(3, 11);
-    assert!(rt; reads(rt.alloc(), b"P6 3 2 255\n", header, &[(0, 11)]));
+    assert!(rt; reads(&rt, rt.alloc(), b"P6 3 2 255\n", header, &[(0, 11)]));
 }
 
 #[test]
@@ -23,8 +23,8 @@ fn an_image_is_read_from_two_places(rt: HostRuntime) {
     const BYTES: &[u8] = b"P6 2 1 255\nabcdef and more";
     const IMAGE: Look = Look::Image((2, 1, 1), &[0x616263, 0x646566]);
     assert!(rt;
-        reads(rt.alloc(), BYTES, IMAGE, &[(0, 26), (11, 6)])
-            && sees(rt.alloc(), BYTES, Look::Samples(b"abcdef"))
+        reads(&rt, rt.alloc(), BYTES, IMAGE, &[(0, 26), (11, 6)])
+            && sees(&rt, rt.alloc(), BYTES, Look::Samples(b"abcdef"))
     );
 }
 
@@ -54,7 +54,7 @@ fn each_failing_call_is_told(rt: HostRuntime) {
         (THIRD, Reader::Image, None),
         (THIRD, Reader::Header, None),
     ];
-    no_row_is_wrong(&rt, mistold(rt.alloc(), b"P6 1 1 255\nabc", &ROWS));
+    no_row_is_wrong(&rt, mistold(&rt, rt.alloc(), b"P6 1 1 255\nabc", &ROWS));
 }
 
 // Whether a picture of so many columns and rows, of one-byte samples, is these bytes.
@@ -103,5 +103,5 @@ fn a_texel_of_either_depth_has_its_word(rt: HostRuntime) {
             &[6442516479],
         ),
     ];
-    no_row_is_wrong(&rt, misseen(rt.alloc(), &ROWS));
+    no_row_is_wrong(&rt, misseen(&rt, rt.alloc(), &ROWS));
 }

@@ -9,6 +9,7 @@ ghost use Rattle.vt_definitions.specs.Depths.{IsDepth};
 use crate::draw::tables::Table;
 use crate::fixtures::{FOUR, holds, image_of};
 use std::alloc::Global;
+use std::thread::Threads;
 use vt_camera::{Path, parse_path};
 use vt_draw::{Shot, draw_plain, draw_row};
 use vt_mip::Chain;
@@ -85,16 +86,27 @@ fn wide_samples_have_their_high_byte_first(rt: HostRuntime) {
 }
 
 // The plain picture of a texture of four columns and rows.
-fn plain_of(alloc: Global, depth: u32, texture: &[u8]) -> Option<Vec<u8>> {
+fn plain_of<Rt: Threads + Sync>(
+    rt: &Rt,
+    alloc: Global,
+    depth: u32,
+    texture: &[u8],
+) -> Option<Vec<u8>> {
     let path = path_of(alloc)?;
     let image = image_of(alloc, depth, 4, 4, texture)?;
-    let chain = Chain::build(alloc, image, 2).ok()?;
-    draw_plain(alloc, &chain, &path, 0).ok()
+    let chain = Chain::build(rt, alloc, image, 2).ok()?;
+    draw_plain(rt, alloc, &chain, &path, 0).ok()
 }
 
 // Whether the plain picture of such a texture has these samples.
-fn is_drawn_plain(alloc: Global, depth: u32, texture: &[u8], samples: &[u8]) -> bool {
-    match plain_of(alloc, depth, texture) {
+fn is_drawn_plain<Rt: Threads + Sync>(
+    rt: &Rt,
+    alloc: Global,
+    depth: u32,
+    texture: &[u8],
+    samples: &[u8],
+) -> bool {
+    match plain_of(rt, alloc, depth, texture) {
         Some(picture) => picture.as_slice() == samples,
         None => false,
     }
@@ -102,9 +114,12 @@ fn is_drawn_plain(alloc: Global, depth: u32, texture: &[u8], samples: &[u8]) -> 
 
 #[test]
 fn the_plain_picture_shows_the_chain_at_either_depth(rt: HostRuntime) {
-    holds(&rt, is_drawn_plain(rt.alloc(), 1, &FOUR, &NARROW_PICTURE));
     holds(
         &rt,
-        is_drawn_plain(rt.alloc(), 2, &WIDE_FOUR, &WIDE_PICTURE),
+        is_drawn_plain(&rt, rt.alloc(), 1, &FOUR, &NARROW_PICTURE),
+    );
+    holds(
+        &rt,
+        is_drawn_plain(&rt, rt.alloc(), 2, &WIDE_FOUR, &WIDE_PICTURE),
     );
 }

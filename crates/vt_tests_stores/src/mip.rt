@@ -6,6 +6,7 @@ ghost use Rattle.vt_definitions.specs.Tiles.{IsTileSide};
 
 use crate::fixtures::{FIVE_BY_THREE, FOUR, holds, image_of};
 use std::alloc::Global;
+use std::thread::Threads;
 use vt_mip::Chain;
 
 // What a texture is halved to in tiles of side 2: the sides of all levels, some words by level, column and row, some rows by
@@ -20,10 +21,18 @@ struct Halved {
 }
 
 // The chain of these samples.
-fn chain_of(alloc: Global, depth: u32, size: (u32, u32), samples: &[u8], tile: u32) -> Option<Chain>
+fn chain_of<Rt: Threads + Sync>(
+    rt: &Rt,
+    alloc: Global,
+    depth: u32,
+    size: (u32, u32),
+    samples: &[u8],
+    tile: u32,
+) -> Option<Chain>
     requires { IsTileSide tile }
 {
     Chain::build(
+        rt,
         alloc,
         image_of(alloc, depth, size.0, size.1, samples)?,
         tile,
@@ -88,11 +97,11 @@ fn is_chain(chain: &Chain, want: &Halved) -> bool {
 }
 
 // Whether a texture is halved so.
-fn is_halved(alloc: Global, want: &Halved) -> bool {
+fn is_halved<Rt: Threads + Sync>(rt: &Rt, alloc: Global, want: &Halved) -> bool {
     if want.sizes.is_empty() {
         return false;
     }
-    match chain_of(alloc, want.depth, want.sizes[0], want.samples, 2) {
+    match chain_of(rt, alloc, want.depth, want.sizes[0], want.samples, 2) {
         Some(chain) => is_chain(&chain, want),
         None => false,
     }
@@ -112,7 +121,7 @@ fn a_texture_of_four_by_four_is_halved_once(rt: HostRuntime) {
         rows: &[(1, 1, &[11, 11, 11, 13, 13, 13])],
         last: &[3, 3, 3, 5, 5, 5, 11, 11, 11, 13, 13, 13],
     };
-    holds(&rt, is_halved(rt.alloc(), &HALVED));
+    holds(&rt, is_halved(&rt, rt.alloc(), &HALVED));
 }
 
 #[test]
@@ -129,7 +138,7 @@ fn odd_last_columns_and_rows_count_twice(rt: HostRuntime) {
         ],
         last: &[15, 15, 15, 17, 17, 17],
     };
-    holds(&rt, is_halved(rt.alloc(), &HALVED));
+    holds(&rt, is_halved(&rt, rt.alloc(), &HALVED));
 }
 
 #[test]
@@ -144,7 +153,7 @@ fn a_half_counts_up_and_channels_stay_apart(rt: HostRuntime) {
         rows: &[(1, 0, &[2, 12, 22, 0, 10, 20])],
         last: &[2, 12, 22, 0, 10, 20],
     };
-    holds(&rt, is_halved(rt.alloc(), &HALVED));
+    holds(&rt, is_halved(&rt, rt.alloc(), &HALVED));
 }
 
 #[test]
@@ -168,7 +177,7 @@ fn two_byte_samples_are_boxed_as_numbers(rt: HostRuntime) {
             0x00, 0x00, 0x00, 0x02, 0xff, 0xff, 0xaf, 0xc8, 0x01, 0x01, 0x40, 0x00,
         ],
     };
-    holds(&rt, is_halved(rt.alloc(), &HALVED));
+    holds(&rt, is_halved(&rt, rt.alloc(), &HALVED));
 }
 
 // A texture of two rows of 70 columns, in samples of one byte: its column's number.
@@ -190,8 +199,15 @@ fn wide_columns() -> [u8; 840] {
 }
 
 // Whether two rows of 70 columns are halved to one row whose first word is given, and the step from one word to the next.
-fn is_stepped(alloc: Global, depth: u32, samples: &[u8], first: u64, step: u64) -> bool {
-    let Some(chain) = chain_of(alloc, depth, (70, 2), samples, 64) else {
+fn is_stepped<Rt: Threads + Sync>(
+    rt: &Rt,
+    alloc: Global,
+    depth: u32,
+    samples: &[u8],
+    first: u64,
+    step: u64,
+) -> bool {
+    let Some(chain) = chain_of(rt, alloc, depth, (70, 2), samples, 64) else {
         return false;
     };
     let mut word = first;
@@ -207,10 +223,20 @@ fn is_stepped(alloc: Global, depth: u32, samples: &[u8], first: u64, step: u64) 
 #[test]
 fn long_rows_are_halved_like_short_ones(rt: HostRuntime) {
     let narrow = narrow_columns();
-    holds(&rt, is_stepped(rt.alloc(), 1, &narrow, 0x010101, 0x020202));
+    holds(
+        &rt,
+        is_stepped(&rt, rt.alloc(), 1, &narrow, 0x010101, 0x020202),
+    );
     let wide = wide_columns();
     holds(
         &rt,
-        is_stepped(rt.alloc(), 2, &wide, 0x8001_8001_8001, 0x0002_0002_0002),
+        is_stepped(
+            &rt,
+            rt.alloc(),
+            2,
+            &wide,
+            0x8001_8001_8001,
+            0x0002_0002_0002,
+        ),
     );
 }

@@ -11,6 +11,7 @@ use crate::store::making::{
     FIVE_BY_THREE_STORE, STORE_G4, Texture, WIDE_G4, opened, store_in, widened, written,
 };
 use std::alloc::Global;
+use std::thread::Threads;
 use vt_outside::{Fail, Folder, MemoryFile, MemoryFolder, Place};
 use vt_pages::Geometry;
 use vt_store::tile_columns;
@@ -75,10 +76,10 @@ fn is_made(folder: &mut MemoryFolder, want: &Made) -> bool {
 }
 
 // Whether a texture makes this store.
-fn is_written(alloc: Global, texture: &Texture, want: &Made) -> bool {
+fn is_written<Rt: Threads + Sync>(rt: &Rt, alloc: Global, texture: &Texture, want: &Made) -> bool {
     match folder_of(alloc, &[], b"old") {
         Some(mut folder) => {
-            written(alloc, &mut folder, texture).is_ok() && is_made(&mut folder, want)
+            written(rt, alloc, &mut folder, texture).is_ok() && is_made(&mut folder, want)
         }
         None => false,
     }
@@ -110,7 +111,7 @@ fn a_store_is_written_and_read_tile_by_tile(rt: HostRuntime) {
         tiles: &[(1, [2, 2, 2, 3, 3, 3, 6, 6, 6, 7, 7, 7])],
         places: &[HEADER, HEADER, TILE],
     };
-    holds(&rt, is_written(rt.alloc(), &G4, &MADE));
+    holds(&rt, is_written(&rt, rt.alloc(), &G4, &MADE));
 }
 
 // Whether the store of 5 by 3 texels in tiles of side 2 has this length at a depth, and a tile that one, and whether three tiles
@@ -151,7 +152,7 @@ fn one_texel_fills_a_tile(rt: HostRuntime) {
         tiles: &[],
         places: &[HEADER],
     };
-    holds(&rt, is_written(rt.alloc(), &TEXTURE, &MADE));
+    holds(&rt, is_written(&rt, rt.alloc(), &TEXTURE, &MADE));
 }
 
 #[test]
@@ -170,7 +171,7 @@ fn a_store_of_two_byte_samples_has_twice_as_many_bytes_a_texel(rt: HostRuntime) 
         tiles: &[],
         places: &[HEADER],
     };
-    holds(&rt, is_written(rt.alloc(), &TEXTURE, &MADE));
+    holds(&rt, is_written(&rt, rt.alloc(), &TEXTURE, &MADE));
 }
 
 #[test]
@@ -210,7 +211,7 @@ fn past_the_edge_the_last_texel_stands_again(rt: HostRuntime) {
             },
         ],
     };
-    holds(&rt, is_written(rt.alloc(), &TEXTURE, &MADE));
+    holds(&rt, is_written(&rt, rt.alloc(), &TEXTURE, &MADE));
 }
 
 // Whether the opening of the store that `a` holds fails.
@@ -222,18 +223,22 @@ fn fails_to_open(folder: &mut MemoryFolder) -> bool {
 }
 
 // Whether the writing of the store of G4 fails, and `b` then holds its first 52 bytes.
-fn fails_behind_52_bytes(alloc: Global, folder: &mut MemoryFolder) -> bool {
-    has_failed(written(alloc, folder, &G4)) && folder.holds("b", &STORE_G4[..52])
+fn fails_behind_52_bytes<Rt: Threads + Sync>(
+    rt: &Rt,
+    alloc: Global,
+    folder: &mut MemoryFolder,
+) -> bool {
+    has_failed(written(rt, alloc, folder, &G4)) && folder.holds("b", &STORE_G4[..52])
 }
 
 // Whether two openings of the store fail, and two writings.
-fn fails_four_times(alloc: Global, calls: &[Fail]) -> bool {
+fn fails_four_times<Rt: Threads + Sync>(rt: &Rt, alloc: Global, calls: &[Fail]) -> bool {
     match folder_of(alloc, calls, &STORE_G4) {
         Some(mut folder) => {
             fails_to_open(&mut folder)
                 && fails_to_open(&mut folder)
-                && fails_behind_52_bytes(alloc, &mut folder)
-                && fails_behind_52_bytes(alloc, &mut folder)
+                && fails_behind_52_bytes(rt, alloc, &mut folder)
+                && fails_behind_52_bytes(rt, alloc, &mut folder)
         }
         None => false,
     }
@@ -250,7 +255,7 @@ fn a_fault_leaves_a_front_part_of_the_store(rt: HostRuntime) {
         Fail::Append(2),
         Fail::Create(1),
     ];
-    holds(&rt, fails_four_times(rt.alloc(), &CALLS));
+    holds(&rt, fails_four_times(&rt, rt.alloc(), &CALLS));
 }
 
 // Whether a store is widened to that one and is still held, and was asked for these places and no others.

@@ -12,8 +12,9 @@ ghost use Rattle.vt_files.specs.Pictures.{picture_due, pictures_due};
 ghost use Rattle.vt_store_commands.specs.commands.Plain.{plain_task, path_due};
 
 use std::alloc::Global;
+use std::thread::Threads;
 use vt_camera::Path;
-use vt_draw::draw_plain_behind;
+use vt_draw::{draw_plain_behind, drawing_threads};
 use vt_files::write_file;
 use vt_inputs::{Refusal, put_end, read_path, read_texture};
 use vt_mip::Chain;
@@ -23,7 +24,8 @@ use vt_ppm::{Image, begin_picture};
 use vt_words::{Filtering, PlainWords, picture_name};
 
 /// Reads the path and then the texture, writes the plain picture of each camera under its name, and puts the end line.
-pub fn plain<'a, D: Folder, O: Sink>(
+pub fn plain<'a, Rt: Threads + Sync, D: Folder, O: Sink>(
+    rt: &Rt,
     alloc: Global,
     words: &PlainWords<'a>,
     folder: &mut D,
@@ -33,13 +35,14 @@ pub fn plain<'a, D: Folder, O: Sink>(
     ensures { Ends (plain_task (shown_plain words.now)) (course D.Folder O.Sink folder.old folder.new out.old out.new) result }
 {
     let path = read_path(alloc, folder, words.path)?;
-    let texture = read_texture(alloc, folder, words.texture)?;
-    leave_pictures(alloc, texture, &path, words, folder, out)?;
+    let texture = read_texture(rt, alloc, folder, words.texture)?;
+    leave_pictures(rt, alloc, texture, &path, words, folder, out)?;
     Ok(())
 }
 
 // Writes all pictures of a path over a texture, and puts the end line.
-fn leave_pictures<D: Folder, O: Sink>(
+fn leave_pictures<Rt: Threads + Sync, D: Folder, O: Sink>(
+    rt: &Rt,
     alloc: Global,
     texture: Image,
     path: &Path,
@@ -50,13 +53,14 @@ fn leave_pictures<D: Folder, O: Sink>(
     requires { IsTileSide words.now.tile }
     ensures { Leaves (path_due (shown_plain words.now) texture path.now) (course D.Folder O.Sink folder.old folder.new out.old out.new) result }
 {
-    let chain = Chain::build(alloc, texture, words.tile)?;
-    write_pictures(alloc, &chain, path, words, folder)?;
+    let chain = Chain::build(rt, alloc, texture, words.tile)?;
+    write_pictures(rt, alloc, &chain, path, words, folder)?;
     put_end(out, path.pictures())
 }
 
 // Writes all pictures of the path, in the order of their numbers, each made in the same buffer.
-fn write_pictures<D: Folder>(
+fn write_pictures<Rt: Threads + Sync, D: Folder>(
+    rt: &Rt,
     alloc: Global,
     chain: &Chain,
     path: &Path,
@@ -67,15 +71,28 @@ fn write_pictures<D: Folder>(
         (plain_file words.now.filter chain.now.base chain.now.tile path.now) (length path.now.cameras))
         (passage D.Folder folder.old folder.new) result }
 {
+    let threads = drawing_threads(rt, path);
     let mut buffer = Vec::new(alloc);
     for picture in 0..path.pictures() {
-        write_picture(&mut buffer, alloc, chain, path, picture, words, folder)?;
+        write_picture(
+            rt,
+            threads,
+            &mut buffer,
+            alloc,
+            chain,
+            path,
+            picture,
+            words,
+            folder,
+        )?;
     }
     Ok(())
 }
 
-// Draws a picture behind its header in the buffer, and writes it under its name.
-fn write_picture<D: Folder>(
+// Draws a picture behind its header in the buffer, in so many threads, and writes it under its name.
+fn write_picture<Rt: Threads + Sync, D: Folder>(
+    rt: &Rt,
+    threads: usize,
     buffer: &mut Vec<u8>,
     alloc: Global,
     chain: &Chain,
@@ -90,13 +107,15 @@ fn write_picture<D: Folder>(
         (passage D.Folder folder.old folder.new) result }
 {
     begin_picture(buffer, alloc, chain.depth(), path.width(), path.height())?;
-    draw_behind(words.filter, chain, path, picture, buffer)?;
+    draw_behind(rt, threads, words.filter, chain, path, picture, buffer)?;
     let name = picture_name(alloc, words.prefix, picture)?;
     write_file(folder, name.as_str(), buffer)
 }
 
-// Draws a picture by a filter behind what the buffer holds.
-fn draw_behind(
+// Draws a picture by a filter behind what the buffer holds; single texels in so many threads.
+fn draw_behind<Rt: Threads + Sync>(
+    rt: &Rt,
+    threads: usize,
     filter: Filtering,
     chain: &Chain,
     path: &Path,
@@ -108,7 +127,7 @@ fn draw_behind(
         ≡ buffer.old.items ++ samples_by filter chain.now.base chain.now.tile path.now picture) }
 {
     match filter {
-        Filtering::Nearest => draw_plain_behind(chain, path, picture, buffer),
+        Filtering::Nearest => draw_plain_behind(rt, threads, chain, path, picture, buffer),
         Filtering::Bilinear => draw_plain_blend_behind(chain, path, picture, buffer),
     }
 }

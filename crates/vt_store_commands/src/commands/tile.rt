@@ -15,6 +15,7 @@ ghost use Rattle.vt_inputs.specs.Tasks.{Ends};
 ghost use Rattle.vt_store_commands.specs.commands.Tile.{tile_task, made_store, flaw_of_pages, IsTooMany};
 
 use std::alloc::Global;
+use std::thread::Threads;
 use vt_inputs::{Flaw, Refusal, open_texture, outside_error, put_store_line};
 use vt_mip::StripChain;
 use vt_outside::{Folder, OutsideError, Sink};
@@ -25,7 +26,8 @@ use vt_words::TileWords;
 
 /// Opens the texture and looks its samples over, writes the store of its mip chain while it is read by strips, and puts the store's
 /// line.
-pub fn tile<'a, D: Folder, O: Sink>(
+pub fn tile<'a, Rt: Threads + Sync, D: Folder, O: Sink>(
+    rt: &Rt,
     alloc: Global,
     words: &TileWords<'a>,
     folder: &mut D,
@@ -36,7 +38,7 @@ pub fn tile<'a, D: Folder, O: Sink>(
 {
     let (reader, geometry) = open_pages(alloc, words.texture, words.tile, folder)?;
     let depth = reader.depth();
-    write_store(alloc, reader, &geometry, words.store, folder)?;
+    write_store(rt, alloc, reader, &geometry, words.store, folder)?;
     put_store_line(out, &geometry, depth)?;
     Ok(())
 }
@@ -91,7 +93,8 @@ fn flaw_of_pages(error: PagesError) -> Flaw
 }
 
 // Makes the name hold the store of the texture's mip chain, and closes the texture's file.
-fn write_store<D: Folder>(
+fn write_store<Rt: Threads + Sync, D: Folder>(
+    rt: &Rt,
     alloc: Global,
     reader: StripReader<D::File>,
     geometry: &Geometry,
@@ -105,7 +108,7 @@ fn write_store<D: Folder>(
         (AreStrips reader.header geometry.now.tile) name.now (passage D.Folder folder.old folder.new) result }
 {
     match StripChain::new(alloc, reader, geometry.tile()) {
-        Ok(chain) => write_chain(alloc, chain, geometry, name, folder),
+        Ok(chain) => write_chain(rt, alloc, chain, geometry, name, folder),
         Err((file, _)) => {
             folder.close(file);
             Err(OutsideError::NoMemory)
@@ -114,7 +117,8 @@ fn write_store<D: Folder>(
 }
 
 // Makes the name hold the store of a chain, and closes its file.
-fn write_chain<D: Folder>(
+fn write_chain<Rt: Threads + Sync, D: Folder>(
+    rt: &Rt,
     alloc: Global,
     mut chain: StripChain<D::File>,
     geometry: &Geometry,

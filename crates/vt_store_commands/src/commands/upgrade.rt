@@ -10,6 +10,7 @@ ghost use Rattle.vt_inputs.specs.Tasks.{Ends};
 ghost use Rattle.vt_store_commands.specs.commands.Upgrade.{upgrade_task, upgraded_file};
 
 use std::alloc::Global;
+use std::thread::Threads;
 use vt_inputs::{Flaw, Refusal, open_store, outside_error, put_store_line};
 use vt_outside::{Folder, OutsideError, Sink};
 use vt_store::widen_store;
@@ -17,7 +18,8 @@ use vt_tiles::Store;
 use vt_words::UpgradeWords;
 
 /// Opens the store, writes the new one, and puts the new one's line.
-pub fn upgrade<'a, D: Folder, O: Sink>(
+pub fn upgrade<'a, Rt: Threads + Sync, D: Folder, O: Sink>(
+    rt: &Rt,
     alloc: Global,
     words: &UpgradeWords<'a>,
     folder: &mut D,
@@ -27,7 +29,7 @@ pub fn upgrade<'a, D: Folder, O: Sink>(
 {
     let store = open_narrow(folder, words.store)?;
     let geometry = store.geometry();
-    write_wide(alloc, store, words.new_store, folder)?;
+    write_wide(rt, alloc, store, words.new_store, folder)?;
     put_store_line(out, &geometry, 2)?;
     Ok(())
 }
@@ -48,7 +50,8 @@ fn open_narrow<'a, D: Folder>(folder: &mut D, name: &'a str) -> Result<Store<D::
 }
 
 // Makes the name hold the store with two bytes a sample, and closes the store's file.
-fn write_wide<D: Folder>(
+fn write_wide<Rt: Threads + Sync, D: Folder>(
+    rt: &Rt,
     alloc: Global,
     mut store: Store<D::File>,
     name: &str,

@@ -4,13 +4,14 @@ use super::looks::{Look, refuses, sees};
 use super::readers::Reader;
 use crate::fixtures::{around, no_row_is_wrong};
 use std::alloc::Global;
+use std::thread::Threads;
 use vt_ppm::{PpmError, image_flaw};
 
 // The first of these bytes that are read as other samples than those beside them.
-fn misread(alloc: Global, rows: &[(&[u8], &[u8])]) -> Option<usize> {
+fn misread<Rt: Threads + Sync>(rt: &Rt, alloc: Global, rows: &[(&[u8], &[u8])]) -> Option<usize> {
     for i in 0..rows.len() {
         let (bytes, samples) = rows[i];
-        if !sees(alloc, bytes, Look::Samples(samples)) || image_flaw(bytes).is_some() {
+        if !sees(rt, alloc, bytes, Look::Samples(samples)) || image_flaw(bytes).is_some() {
             return Some(i);
         }
     }
@@ -18,15 +19,24 @@ fn misread(alloc: Global, rows: &[(&[u8], &[u8])]) -> Option<usize> {
 }
 
 // Whether bytes are refused so as an image.
-fn is_refused(alloc: Global, bytes: &[u8], flaw: Option<PpmError>) -> bool {
-    refuses(alloc, bytes, Reader::Image, flaw) && image_flaw(bytes) == flaw
+fn is_refused<Rt: Threads + Sync>(
+    rt: &Rt,
+    alloc: Global,
+    bytes: &[u8],
+    flaw: Option<PpmError>,
+) -> bool {
+    refuses(rt, alloc, bytes, Reader::Image, flaw) && image_flaw(bytes) == flaw
 }
 
 // The first of these bytes that are refused otherwise.
-fn misrefused(alloc: Global, rows: &[(&[u8], PpmError)]) -> Option<usize> {
+fn misrefused<Rt: Threads + Sync>(
+    rt: &Rt,
+    alloc: Global,
+    rows: &[(&[u8], PpmError)],
+) -> Option<usize> {
     for i in 0..rows.len() {
         let (bytes, flaw) = rows[i];
-        if !is_refused(alloc, bytes, Some(flaw)) {
+        if !is_refused(rt, alloc, bytes, Some(flaw)) {
             return Some(i);
         }
     }
@@ -104,28 +114,35 @@ fn each_foreign_texture_is_read_or_refused_with_its_first_flaw(rt: HostRuntime) 
             PpmError::SampleOver { at: 15 },
         ),
     ];
-    no_row_is_wrong(&rt, misread(rt.alloc(), &READ));
-    no_row_is_wrong(&rt, misrefused(rt.alloc(), &REFUSED));
+    no_row_is_wrong(&rt, misread(&rt, rt.alloc(), &READ));
+    no_row_is_wrong(&rt, misrefused(&rt, rt.alloc(), &REFUSED));
 }
 
 // Whether so many blanks behind a magic, and what follows them, are refused so as an image and as a header.
-fn are_refused(alloc: Global, count: usize, rest: &[u8], flaw: Option<PpmError>) -> bool {
+fn are_refused<Rt: Threads + Sync>(
+    rt: &Rt,
+    alloc: Global,
+    count: usize,
+    rest: &[u8],
+    flaw: Option<PpmError>,
+) -> bool {
     match around(alloc, b"P6", b' ', count, rest) {
         Ok(bytes) => {
-            is_refused(alloc, &bytes, flaw) && refuses(alloc, &bytes, Reader::Header, flaw)
+            is_refused(rt, alloc, &bytes, flaw) && refuses(rt, alloc, &bytes, Reader::Header, flaw)
         }
         Err(_) => false,
     }
 }
 
 // The first row of so many blanks and what follows them that is refused otherwise.
-fn misread_behind_blanks(
+fn misread_behind_blanks<Rt: Threads + Sync>(
+    rt: &Rt,
     alloc: Global,
     rows: &[(usize, &[u8], Option<PpmError>)],
 ) -> Option<usize> {
     for i in 0..rows.len() {
         let (count, rest, flaw) = rows[i];
-        if !are_refused(alloc, count, rest, flaw) {
+        if !are_refused(rt, alloc, count, rest, flaw) {
             return Some(i);
         }
     }
@@ -145,5 +162,5 @@ fn a_header_of_many_blanks_breaks_at_its_end_or_its_limit(rt: HostRuntime) {
         (65527, TEXEL, LIMIT),
         (70000, TEXEL, LIMIT),
     ];
-    no_row_is_wrong(&rt, misread_behind_blanks(rt.alloc(), &ROWS));
+    no_row_is_wrong(&rt, misread_behind_blanks(&rt, rt.alloc(), &ROWS));
 }

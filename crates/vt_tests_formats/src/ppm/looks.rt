@@ -3,6 +3,7 @@
 use super::readers::{Reader, Strip, gives, header_in, image_in, refusal_in};
 use crate::fixtures::folder_of;
 use std::alloc::Global;
+use std::thread::Threads;
 use vt_outside::{Fail, MemoryFolder};
 use vt_ppm::{Image, PpmError};
 
@@ -35,13 +36,14 @@ fn has_words(image: &Image, words: &[u64]) -> bool {
 }
 
 // Whether `t` holds an image of so many columns and rows and of this depth, whose first texels have these words.
-fn is_image(
+fn is_image<Rt: Threads + Sync>(
+    rt: &Rt,
     alloc: Global,
     folder: &mut MemoryFolder,
     size: (u32, u32, u32),
     words: &[u64],
 ) -> bool {
-    match image_in(alloc, folder) {
+    match image_in(rt, alloc, folder) {
         Ok(image) => {
             (image.width(), image.height(), image.depth()) == size && has_words(&image, words)
         }
@@ -50,8 +52,13 @@ fn is_image(
 }
 
 // Whether `t` holds an image of these samples.
-fn has_samples(alloc: Global, folder: &mut MemoryFolder, samples: &[u8]) -> bool {
-    match image_in(alloc, folder) {
+fn has_samples<Rt: Threads + Sync>(
+    rt: &Rt,
+    alloc: Global,
+    folder: &mut MemoryFolder,
+    samples: &[u8],
+) -> bool {
+    match image_in(rt, alloc, folder) {
         Ok(image) => {
             let are_same = image.samples() == samples;
             image.into_samples().len() == samples.len() && are_same
@@ -69,11 +76,16 @@ fn is_header(alloc: Global, folder: &mut MemoryFolder, width: u32, raster: u64) 
 }
 
 // Whether this is found in `t`.
-fn is_found(alloc: Global, folder: &mut MemoryFolder, look: Look) -> bool {
+fn is_found<Rt: Threads + Sync>(
+    rt: &Rt,
+    alloc: Global,
+    folder: &mut MemoryFolder,
+    look: Look,
+) -> bool {
     match look {
-        Look::Refusal(reader, refusal) => refusal_in(alloc, folder, reader) == refusal,
-        Look::Image(size, words) => is_image(alloc, folder, size, words),
-        Look::Samples(samples) => has_samples(alloc, folder, samples),
+        Look::Refusal(reader, refusal) => refusal_in(rt, alloc, folder, reader) == refusal,
+        Look::Image(size, words) => is_image(rt, alloc, folder, size, words),
+        Look::Samples(samples) => has_samples(rt, alloc, folder, samples),
         Look::Header(width, raster) => is_header(alloc, folder, width, raster),
         Look::Strips(depth, first, second) => gives(alloc, folder, depth, first, second),
     }
@@ -98,13 +110,14 @@ fn are_asked(folder: &MemoryFolder, places: &[(u64, u64)]) -> bool {
 }
 
 // Whether this is found in `t`, and where places are told, no others are asked for.
-fn is_found_in(
+fn is_found_in<Rt: Threads + Sync>(
+    rt: &Rt,
     alloc: Global,
     folder: &mut MemoryFolder,
     look: Look,
     places: Option<&[(u64, u64)]>,
 ) -> bool {
-    let is_found = is_found(alloc, folder, look);
+    let is_found = is_found(rt, alloc, folder, look);
     match places {
         Some(places) => is_found && are_asked(folder, places),
         None => is_found,
@@ -112,7 +125,8 @@ fn is_found_in(
 }
 
 /// Whether this is found in these bytes where these calls fail, and where places are told, as their starts and lengths, no others are read.
-pub fn finds(
+pub fn finds<Rt: Threads + Sync>(
+    rt: &Rt,
     alloc: Global,
     bytes: &[u8],
     calls: &[Fail],
@@ -120,31 +134,47 @@ pub fn finds(
     places: Option<&[(u64, u64)]>,
 ) -> bool {
     match folder_of(alloc, "t", bytes, calls) {
-        Ok(mut folder) => is_found_in(alloc, &mut folder, look, places),
+        Ok(mut folder) => is_found_in(rt, alloc, &mut folder, look, places),
         Err(_) => false,
     }
 }
 
 /// Whether this is found in these bytes.
-pub fn sees(alloc: Global, bytes: &[u8], look: Look) -> bool {
-    finds(alloc, bytes, &[], look, None)
+pub fn sees<Rt: Threads + Sync>(rt: &Rt, alloc: Global, bytes: &[u8], look: Look) -> bool {
+    finds(rt, alloc, bytes, &[], look, None)
 }
 
 /// Whether this is found in these bytes, and these are the starts and the lengths of all that is read for it.
-pub fn reads(alloc: Global, bytes: &[u8], look: Look, places: &[(u64, u64)]) -> bool {
-    finds(alloc, bytes, &[], look, Some(places))
+pub fn reads<Rt: Threads + Sync>(
+    rt: &Rt,
+    alloc: Global,
+    bytes: &[u8],
+    look: Look,
+    places: &[(u64, u64)],
+) -> bool {
+    finds(rt, alloc, bytes, &[], look, Some(places))
 }
 
 /// Whether a reader refuses these bytes so, or does not.
-pub fn refuses(alloc: Global, bytes: &[u8], reader: Reader, refusal: Option<PpmError>) -> bool {
-    sees(alloc, bytes, Look::Refusal(reader, refusal))
+pub fn refuses<Rt: Threads + Sync>(
+    rt: &Rt,
+    alloc: Global,
+    bytes: &[u8],
+    reader: Reader,
+    refusal: Option<PpmError>,
+) -> bool {
+    sees(rt, alloc, bytes, Look::Refusal(reader, refusal))
 }
 
 /// The first of these bytes that a reader refuses otherwise.
-pub fn misrefused(alloc: Global, rows: &[(&[u8], Reader, Option<PpmError>)]) -> Option<usize> {
+pub fn misrefused<Rt: Threads + Sync>(
+    rt: &Rt,
+    alloc: Global,
+    rows: &[(&[u8], Reader, Option<PpmError>)],
+) -> Option<usize> {
     for i in 0..rows.len() {
         let (bytes, reader, refusal) = rows[i];
-        if !refuses(alloc, bytes, reader, refusal) {
+        if !refuses(rt, alloc, bytes, reader, refusal) {
             return Some(i);
         }
     }
@@ -152,14 +182,22 @@ pub fn misrefused(alloc: Global, rows: &[(&[u8], Reader, Option<PpmError>)]) -> 
 }
 
 /// The first of these failing calls of which a reader tells otherwise.
-pub fn mistold(
+pub fn mistold<Rt: Threads + Sync>(
+    rt: &Rt,
     alloc: Global,
     bytes: &[u8],
     rows: &[(Fail, Reader, Option<PpmError>)],
 ) -> Option<usize> {
     for i in 0..rows.len() {
         let (call, reader, refusal) = rows[i];
-        if !finds(alloc, bytes, &[call], Look::Refusal(reader, refusal), None) {
+        if !finds(
+            rt,
+            alloc,
+            bytes,
+            &[call],
+            Look::Refusal(reader, refusal),
+            None,
+        ) {
             return Some(i);
         }
     }
@@ -167,10 +205,14 @@ pub fn mistold(
 }
 
 /// The first of these images that has other columns, rows or samples of another size, or first texels of other words.
-pub fn misseen(alloc: Global, rows: &[(&[u8], (u32, u32, u32), &[u64])]) -> Option<usize> {
+pub fn misseen<Rt: Threads + Sync>(
+    rt: &Rt,
+    alloc: Global,
+    rows: &[(&[u8], (u32, u32, u32), &[u64])],
+) -> Option<usize> {
     for i in 0..rows.len() {
         let (bytes, size, words) = rows[i];
-        if !sees(alloc, bytes, Look::Image(size, words)) {
+        if !sees(rt, alloc, bytes, Look::Image(size, words)) {
             return Some(i);
         }
     }

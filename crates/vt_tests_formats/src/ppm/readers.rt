@@ -2,6 +2,7 @@
 ghost use Rattle.std.specs.Prelude.{◌≡◌, true, IfOk, OnOk};
 
 use std::alloc::Global;
+use std::thread::Threads;
 use vt_outside::{Failed, Folder, MemoryFile, MemoryFolder};
 use vt_ppm::{Header, Image, PpmError, StripReader, read_header, read_image};
 
@@ -18,11 +19,15 @@ pub enum Reader {
 pub type Strip<'a> = (u32, u32, Option<&'a [u8]>);
 
 /// The image that `t` holds.
-pub fn image_in(alloc: Global, folder: &mut MemoryFolder) -> Result<Image, PpmError> {
+pub fn image_in<Rt: Threads + Sync>(
+    rt: &Rt,
+    alloc: Global,
+    folder: &mut MemoryFolder,
+) -> Result<Image, PpmError> {
     let Ok(mut file) = folder.open("t") else {
         return Err(PpmError::Failed);
     };
-    let image = read_image(alloc, &mut file);
+    let image = read_image(rt, alloc, &mut file);
     folder.close(file);
     image
 }
@@ -94,9 +99,14 @@ fn refusal_of(
 }
 
 /// Why a reader refuses what `t` holds.
-pub fn refusal_in(alloc: Global, folder: &mut MemoryFolder, reader: Reader) -> Option<PpmError> {
+pub fn refusal_in<Rt: Threads + Sync>(
+    rt: &Rt,
+    alloc: Global,
+    folder: &mut MemoryFolder,
+    reader: Reader,
+) -> Option<PpmError> {
     let answer = match reader {
-        Reader::Image => return image_in(alloc, folder).err(),
+        Reader::Image => return image_in(rt, alloc, folder).err(),
         Reader::Header => return header_in(alloc, folder).err(),
         Reader::Rows => opened_in(alloc, folder),
         Reader::Checked => checked_in(alloc, folder),

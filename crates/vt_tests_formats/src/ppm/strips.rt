@@ -4,15 +4,20 @@ use super::looks::{Look, finds, misrefused, mistold, reads, refuses, sees};
 use super::readers::Reader;
 use crate::fixtures::{around, no_row_is_wrong};
 use std::alloc::Global;
+use std::thread::Threads;
 use vt_outside::Fail;
 use vt_ppm::PpmError;
 
 // The first of these textures of two rows that has another depth or other rows; the second row is read first.
-fn misscaled(alloc: Global, rows: &[(&[u8], u32, &[u8], &[u8])]) -> Option<usize> {
+fn misscaled<Rt: Threads + Sync>(
+    rt: &Rt,
+    alloc: Global,
+    rows: &[(&[u8], u32, &[u8], &[u8])],
+) -> Option<usize> {
     for i in 0..rows.len() {
         let (bytes, depth, first, second) = rows[i];
         let look = Look::Strips(depth, (1, 1, Some(second)), (0, 1, Some(first)));
-        if !sees(alloc, bytes, look) {
+        if !sees(rt, alloc, bytes, look) {
             return Some(i);
         }
     }
@@ -37,7 +42,7 @@ fn rows_of_either_depth_are_scaled(rt: HostRuntime) {
         ),
         (b"P6 1 2 65535\nabcdefghijkl", 2, b"abcdef", b"ghijkl"),
     ];
-    no_row_is_wrong(&rt, misscaled(rt.alloc(), &TEXTURES));
+    no_row_is_wrong(&rt, misscaled(&rt, rt.alloc(), &TEXTURES));
 }
 
 // Two rows and then all three are read at once.
@@ -45,7 +50,15 @@ fn rows_of_either_depth_are_scaled(rt: HostRuntime) {
 fn several_rows_are_one_read(rt: HostRuntime) {
     const LOOK: Look = Look::Strips(1, (1, 2, Some(b"defghi")), (0, 3, Some(b"abcdefghi")));
     const PLACES: [(u64, u64); 3] = [(0, 29), (14, 6), (11, 9)];
-    assert!(rt; reads(rt.alloc(), b"P6 1 3 255\nabcdefghi and more", LOOK, &PLACES));
+    assert!(rt;
+        reads(
+            &rt,
+            rt.alloc(),
+            b"P6 1 3 255\nabcdefghi and more",
+            LOOK,
+            &PLACES
+        )
+    );
 }
 
 #[test]
@@ -88,7 +101,7 @@ fn a_texture_may_be_larger_than_an_image(rt: HostRuntime) {
         (b"P6 16385 1 255\n", Reader::Image, BAD_SIZE),
         (b"P6 16385 1 255\n", Reader::Rows, BAD_SIZE),
     ];
-    no_row_is_wrong(&rt, misrefused(rt.alloc(), &HEADERS));
+    no_row_is_wrong(&rt, misrefused(&rt, rt.alloc(), &HEADERS));
 }
 
 #[test]
@@ -96,8 +109,14 @@ fn a_header_may_have_larger_sides_than_an_image(rt: HostRuntime) {
     const BAD_SIZE: Option<PpmError> = Some(PpmError::BadSize);
     const HEADER: Look = Look::Header(16384, 15);
     assert!(rt;
-        sees(rt.alloc(), b"P6 16384 1 255\n", HEADER)
-            && refuses(rt.alloc(), b"P6 16385 1 255\n", Reader::Header, BAD_SIZE)
+        sees(&rt, rt.alloc(), b"P6 16384 1 255\n", HEADER)
+            && refuses(
+                &rt,
+                rt.alloc(),
+                b"P6 16385 1 255\n",
+                Reader::Header,
+                BAD_SIZE
+            )
     );
 }
 
@@ -130,7 +149,7 @@ fn the_first_sample_above_the_maximum_is_named(rt: HostRuntime) {
             Some(PpmError::Truncated { want: 6, have: 2 }),
         ),
     ];
-    no_row_is_wrong(&rt, misrefused(rt.alloc(), &TEXTURES));
+    no_row_is_wrong(&rt, misrefused(&rt, rt.alloc(), &TEXTURES));
 }
 
 #[test]
@@ -139,14 +158,24 @@ fn a_raster_is_looked_over_in_pieces(rt: HostRuntime) {
     let bytes = around(rt.alloc(), b"P6 16384 23 1\n", 1, 1130495, b"\x02").expect(&rt, "memory");
     let look = Look::Refusal(Reader::Checked, Some(PpmError::SampleOver { at: 1130509 }));
     let places = [(0, 65536), (14, 1081344), (1081358, 49152)];
-    assert!(rt; reads(rt.alloc(), &bytes, look, &places));
+    assert!(rt; reads(&rt, rt.alloc(), &bytes, look, &places));
 }
 
 // The first of these textures that is refused, or asked for other starts and lengths.
-fn misasked(alloc: Global, rows: &[(&[u8], &[(u64, u64)])]) -> Option<usize> {
+fn misasked<Rt: Threads + Sync>(
+    rt: &Rt,
+    alloc: Global,
+    rows: &[(&[u8], &[(u64, u64)])],
+) -> Option<usize> {
     for i in 0..rows.len() {
         let (bytes, places) = rows[i];
-        if !reads(alloc, bytes, Look::Refusal(Reader::Checked, None), places) {
+        if !reads(
+            rt,
+            alloc,
+            bytes,
+            Look::Refusal(Reader::Checked, None),
+            places,
+        ) {
             return Some(i);
         }
     }
@@ -161,7 +190,7 @@ fn a_raster_is_read_only_where_a_sample_may_be_over(rt: HostRuntime) {
         (b"P6 1 2 65535\nabcdefghijkl", &[(0, 25)]),
         (b"P6 1 2 65534\nabcdefghijkl", &[(0, 25), (13, 12)]),
     ];
-    no_row_is_wrong(&rt, misasked(rt.alloc(), &TEXTURES));
+    no_row_is_wrong(&rt, misasked(&rt, rt.alloc(), &TEXTURES));
 }
 
 // A texture of two rows.
@@ -188,6 +217,6 @@ fn each_failing_read_is_told_and_a_row_is_read_after_it(rt: HostRuntime) {
         (SECOND, Reader::Checked, FAILED),
     ];
     const LOOK: Look = Look::Strips(1, (0, 1, None), (1, 1, Some(b"\xff\x80\x00")));
-    no_row_is_wrong(&rt, mistold(rt.alloc(), TWO_ROWS, &ROWS));
-    assert!(rt; finds(rt.alloc(), TWO_ROWS, &[THIRD], LOOK, None));
+    no_row_is_wrong(&rt, mistold(&rt, rt.alloc(), TWO_ROWS, &ROWS));
+    assert!(rt; finds(&rt, rt.alloc(), TWO_ROWS, &[THIRD], LOOK, None));
 }

@@ -2,6 +2,7 @@
 
 use crate::fixtures::image_of;
 use std::alloc::Global;
+use std::thread::Threads;
 use vt_mip::Chain;
 use vt_outside::{Folder, MemoryFile, MemoryFolder};
 use vt_pages::Geometry;
@@ -65,7 +66,8 @@ pub struct Texture {
 }
 
 /// Makes the name `b` hold the store of a texture with tiles of side 2.
-pub fn written(
+pub fn written<Rt: Threads + Sync>(
+    rt: &Rt,
     alloc: Global,
     folder: &mut MemoryFolder,
     texture: &Texture,
@@ -77,7 +79,7 @@ pub fn written(
     let Ok(geometry) = Geometry::new(image.width(), image.height(), 2) else {
         return Err(StoreError::BadGeometry);
     };
-    let chain = Chain::build(alloc, image, 2)?;
+    let chain = Chain::build(rt, alloc, image, 2)?;
     write_store(alloc, &chain, &geometry, folder, "b")
 }
 

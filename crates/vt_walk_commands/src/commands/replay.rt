@@ -12,6 +12,7 @@ ghost use Rattle.vt_inputs.specs.Terms.{EndsBy};
 ghost use Rattle.vt_walk_commands.specs.commands.Replay.{under_by, replay_terms, RefusedBeside, IsAnswer, flaw_of_replay};
 
 use std::alloc::Global;
+use std::thread::Threads;
 use vt_camera::Path;
 use vt_filter::Nearest;
 use vt_inputs::{Flaw, Refusal, open_store, put_end, read_journal, read_path, refusal_of};
@@ -23,7 +24,8 @@ use vt_words::{Filtering, ReplayWords};
 
 /// Reads the path, opens the store and reads the journal, writes each picture of the journal under its name, and puts
 /// the end line.
-pub fn replay<'a, D: Folder, O: Sink>(
+pub fn replay<'a, Rt: Threads + Sync, D: Folder, O: Sink>(
+    rt: &Rt,
     alloc: Global,
     words: &ReplayWords<'a>,
     folder: &mut D,

@@ -126,12 +126,12 @@ fn try_out<'a, Rt: Threads + Wait + Sync, G: Gate + Sync>(
     let Ok(path) = make_path(alloc, number) else {
         return Err(Refusal::NoMemory);
     };
-    let Ok(chain) = make_chain(alloc, number) else {
+    let Ok(chain) = make_chain(rt, alloc, number) else {
         return Err(Refusal::NoMemory);
     };
     let mut folder = MemoryFolder::new(alloc, Fails::new(alloc));
     match walk_over(rt, alloc, &mut folder, &chain, &path, gate) {
-        Ok(walked) => compare(alloc, &folder, &chain, &path, walked),
+        Ok(walked) => compare(rt, alloc, &folder, &chain, &path, walked),
         Err(refusal) => Err(refusal),
     }
 }
@@ -163,12 +163,12 @@ fn path_text(number: u32) -> Line
 }
 
 // The mip chain of the texture of a number.
-fn make_chain(alloc: Global, number: u32) -> Result<Chain, NoMemory>
+fn make_chain<Rt: Threads + Sync>(rt: &Rt, alloc: Global, number: u32) -> Result<Chain, NoMemory>
     requires { number ≤ most_number }
     ensures { IfOk result (IsOfTrial number) }
 {
     let texture = make_texture(alloc, number)?;
-    Chain::build(alloc, texture, TILE)
+    Chain::build(rt, alloc, texture, TILE)
 }
 
 // The texture of a number.
@@ -277,7 +277,8 @@ fn make_store<D: Folder>(
 }
 
 // Compares the pictures of a walk with the plain ones.
-fn compare<'a>(
+fn compare<'a, Rt: Threads + Sync>(
+    rt: &Rt,
     alloc: Global,
     folder: &MemoryFolder,
     chain: &Chain,
@@ -287,7 +288,7 @@ fn compare<'a>(
     requires { chain.now.base.depth ≡ 1 }
     ensures { Compares walked result }
 {
-    let Ok(differ) = count_differing(alloc, folder, chain, path) else {
+    let Ok(differ) = count_differing(rt, alloc, folder, chain, path) else {
         return Err(Refusal::NoMemory);
     };
     if differ > 0 {
@@ -298,7 +299,8 @@ fn compare<'a>(
 
 // How many bytes of the pictures in a folder are other than those of the plain pictures; it stands at the end of its
 // type.
-fn count_differing(
+fn count_differing<Rt: Threads + Sync>(
+    rt: &Rt,
     alloc: Global,
     folder: &MemoryFolder,
     chain: &Chain,
@@ -310,14 +312,15 @@ fn count_differing(
 {
     let mut count: u64 = 0;
     for picture in 0..path.pictures() {
-        let differing = picture_differing(alloc, folder, chain, path, picture)?;
+        let differing = picture_differing(rt, alloc, folder, chain, path, picture)?;
         count = count.saturating_add(differing);
     }
     Ok(count)
 }
 
 // How many bytes of a picture in a folder are other than those of the plain picture; all, where it is missing.
-fn picture_differing(
+fn picture_differing<Rt: Threads + Sync>(
+    rt: &Rt,
     alloc: Global,
     folder: &MemoryFolder,
     chain: &Chain,
@@ -329,7 +332,7 @@ fn picture_differing(
     requires few { picture < four_digit_numbers }
     ensures { IfOk result (λ n. n ≡ differing_in (files_of folder.now) chain.now path.now picture) }
 {
-    let samples = draw_plain(alloc, chain, path, picture)?;
+    let samples = draw_plain(rt, alloc, chain, path, picture)?;
     let plain = encode(alloc, path.width(), path.height(), &samples)?;
     let name = picture_name(alloc, "picture", picture)?;
     match folder.bytes_of(name.as_str()) {

@@ -5,7 +5,7 @@ use Rattle.vt_draw.proofs.plain.draw_plain.Goals as goal
 
 pub returns-clause-size : goal.returns-clause-size
 unfolding plain_samples
-returns-clause-size c =
+returns-clause-size g c =
     let base = c.args.chain.now.base in
     let path = c.args.path.now in
     ap length (c.in_ok-draw_plain_behind.ensures

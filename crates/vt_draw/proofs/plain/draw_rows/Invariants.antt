@@ -1,7 +1,7 @@
-use Rattle.std.proofs.Common.{◌≡◌, ◌++◌}
-use Rattle.vt_draw.specs.Plain.{chain_of, first_rows}
+use Rattle.std.proofs.Common.{◌≡◌, ◌-◌, ◌*◌, ◌++◌, take}
+use Rattle.vt_draw.specs.Views.{rows_shown}
 use Rattle.vt_draw.proofs.plain.draw_rows.Given as goal
 
--- the rows so far were added
+-- the rows so far were written
 abbrev pub invariant-loop-y : goal.invariant-loop-y
-invariant-loop-y g l = l.samples.items ≡ l.fn.samples.items ++ first_rows g.row.DEPTH (chain_of l.chain.base) l.surface l.path l.camera l.y
+invariant-loop-y g l = rows_shown g.row.DEPTH l.view l.first ++ take (l.size * (l.y - l.first)) l.out ≡ rows_shown g.row.DEPTH l.view l.y

@@ -8,7 +8,7 @@ use Rattle.vt_walk_commands.specs.commands.Trial.{differing_in}
 use Rattle.vt_walk_commands.proofs.commands.trial.count_differing.Goals as goal
 
 pub loop-picture-preserved : goal.loop-picture-preserved
-loop-picture-preserved c =
+loop-picture-preserved g c =
     let f : ℕ → ℕ = differing_in (files_of c.args.folder.now) c.args.chain.now c.args.path.now in
     let k : ℕ = c.loop-picture.picture in
     let next : k + 1 ≡ suc k = omega arith in

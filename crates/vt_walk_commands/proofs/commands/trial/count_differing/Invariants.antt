@@ -6,4 +6,4 @@ use Rattle.vt_walk_commands.proofs.commands.trial.count_differing.Given as goal
 
 -- the pictures so far are counted
 abbrev pub invariant-loop-picture : goal.invariant-loop-picture
-invariant-loop-picture l = l.count ≡ added 0 (differing_together (files_of l.folder) l.chain l.path l.picture)
+invariant-loop-picture g l = l.count ≡ added 0 (differing_together (files_of l.folder) l.chain l.path l.picture)

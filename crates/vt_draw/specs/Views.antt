@@ -1,0 +1,28 @@
+-- What the rows of a plain picture are drawn of.
+use Rattle.std.specs.Prelude.{◌≡◌, ◌-◌, ◌*◌, ◌≤◌, ℕ, List}
+use Rattle.vt_definitions.specs.Depths.{IsDepth, texel_length}
+use Rattle.vt_definitions.specs.Limits.{most_levels}
+use Rattle.vt_camera.specs.Paths.{IsCamera}
+use Rattle.vt_camera.specs.Rows.{IsSurface}
+use Rattle.vt_draw.specs.declared.plain.View.{View}
+use Rattle.vt_draw.specs.Plain.{chain_of, surface_of, first_rows}
+
+-- a chain whose samples have d bytes as a surface of its own, and a camera
+pub record IsView (d : ℕ) (v : View) : Type 0 where
+  pub depth : IsDepth d
+  pub own : v.chain.now.base.depth ≡ d
+  pub surface : v.surface ≡ surface_of v.chain.now.base v.chain.now.tile
+  pub limits : IsSurface v.surface
+  pub levels : v.surface.levels ≤ most_levels
+  pub camera : IsCamera v.camera
+
+-- the bytes of so many rows from the top, as the camera shows the chain
+abbrev pub rows_shown : ℕ → View → ℕ → List ℕ
+rows_shown d v rows = first_rows d (chain_of v.chain.now.base) v.surface v.path.now v.camera rows
+
+-- so many bytes have room for the rows from one on to another, of those that the camera shows
+pub record IsRoomFor (d : ℕ) (v : View) (first end room : ℕ) : Type 0 where
+  pub view : IsView d v
+  pub order : first ≤ end
+  pub rows : end ≤ v.path.now.height
+  pub full : room ≡ texel_length d * v.path.now.width * (end - first)

@@ -1,0 +1,6 @@
+-- What a part of work has to be for a thread of its own.
+use Rattle.std.specs.Prelude.{ℕ}
+
+-- how many nanoseconds of work a thread is made for at least
+abbrev pub least_work : ℕ
+least_work = 100000
