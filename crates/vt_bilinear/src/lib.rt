@@ -1,9 +1,11 @@
-//! The machine that draws by bilinear filtering.
+//! Bilinear filtering through the cache: the machine over the shared words, and the replay of its journals.
 #![tactic(auto)]
 
+mod replay;
+
+pub use replay::replay_blend;
 use vt_pass::FilteredMachine;
 use vt_plain_bilinear::Bilinear;
 
-/// A machine over shared words, whose pixels are each a blend of four texels at one version. The rows are dealt, a row is
-/// drawn under one hold, and its run takes no memory and is always `Ok`.
+/// The machine whose pixels are blends of four texels. A row is drawn under one hold, so its blends are of one version.
 pub type BlendMachine<F> = FilteredMachine<F, Bilinear>;

@@ -13,11 +13,11 @@ ghost use Rattle.vt_walk_commands.specs.commands.Replay.{under_by, replay_terms,
 
 use std::alloc::Global;
 use std::thread::Threads;
+use vt_bilinear::replay_blend;
 use vt_camera::Path;
 use vt_filter::Nearest;
 use vt_inputs::{Flaw, Refusal, open_store, put_end, read_journal, read_path, refusal_of};
 use vt_outside::{Folder, OutsideError, Sink};
-use vt_plain_bilinear::Bilinear;
 use vt_replay::{ReplayError, replay_by};
 use vt_tiles::Store;
 use vt_words::{Filtering, ReplayWords};
@@ -98,9 +98,7 @@ fn play<Rt: Threads + Sync, D: Folder>(
         Filtering::Nearest => replay_by::<Rt, Nearest, D>(
             rt, alloc, folder, store, path, journal, prefix,
         ),
-        Filtering::Bilinear => {
-            replay_by::<Rt, Bilinear, D>(rt, alloc, folder, store, path, journal, prefix)
-        }
+        Filtering::Bilinear => { replay_blend(rt, alloc, folder, store, path, journal, prefix) }
     }
 }
 
