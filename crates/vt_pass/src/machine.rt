@@ -27,6 +27,7 @@ use vt_machine::{Crew, PassMachine, PassReport};
 use vt_outside::{File, Gate, Items, NoMemory};
 use vt_pages::Geometry;
 use vt_queue::{QueuePass, Request};
+use vt_rounds::answered;
 use vt_tiles::Stores;
 use vt_word_workers::{WordKit, WordSampler, WordShared, WordStreamer, new_parts};
 
@@ -209,7 +210,7 @@ impl<F: File + Send> PassMachine for WordMachine<F> {
             batch,
         );
         self.streamer = Some(streamer);
-        Ok(report)
+        answered(report)
     }
 
     fn journal(&self) -> &Journal {
