@@ -28,6 +28,7 @@ use vt_machine::{Crew, PassMachine, PassReport};
 use vt_outside::{File, Gate, Items, NoMemory};
 use vt_pages::Geometry;
 use vt_queue::{QueuePass, Request};
+use vt_rounds::answered;
 use vt_tiles::Stores;
 use vt_word_workers::{WordKit, WordSampler, WordShared, WordStreamer, new_parts};
 
@@ -212,7 +213,7 @@ impl<F: File + Send, P: Filter + Sync> PassMachine for FilteredMachine<F, P> {
             batch,
         );
         self.streamer = Some(streamer);
-        Ok(report)
+        answered(report)
     }
 
     fn journal(&self) -> &Journal {

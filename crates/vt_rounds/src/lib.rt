@@ -7,4 +7,4 @@ mod turns;
 
 pub use asks::{ask_batch, give_back};
 pub use rounds::rounds_are_passes;
-pub use turns::sampler_of;
+pub use turns::{answered, sampler_of};

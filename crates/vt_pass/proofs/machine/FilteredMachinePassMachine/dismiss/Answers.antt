@@ -21,7 +21,7 @@ returns g c =
     let own = c.args.streamer in
     let words = c.self.inside.shared.words in
     let w = c.finish-report.new.streamer in
-    let kit = c.finish-report.new.self in (
+    let kit = c.finish-report.new.self in rw c.answered.ensures (
       refl,
       λ b may. subst (λ (m : WordView _). Ends (drawing_of g.P.Filter) (kit_drawn g.P.Filter kit w) (IsIdleKit g.F.File words w kit) job (Ok c.finish-report.result)
           (kit_state g.F.File m.words b.streamer.streamer.writer.journal (kit_before m.kit b)) (kit_state g.F.File words w.writer.journal kit))
