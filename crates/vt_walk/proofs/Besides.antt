@@ -41,7 +41,8 @@ use Rattle.vt_walk.specs.Writing.{WritesFile}
 use Rattle.vt_walk.specs.Turns.{MayDraw, HasDrawn, StandsAt, StandsAfter, LeftBy}
 use Rattle.vt_walk.specs.Following.{StandsRan, StandsDrawn}
 use Rattle.vt_walk.proofs.Advancing.{may_prepare, is_job, read_at_most, read_ended}
-use Rattle.vt_walk.proofs.Ending.{rows_count, rows_full, room_left, stays, next_may, next_picture, picture_broke, line_broke}
+use Rattle.vt_walk.proofs.Ending.{rows_count, rows_full, stays, next_may, next_picture, picture_broke, line_broke}
+use Rattle.vt_walk.proofs.Going.{room_left}
 use Rattle.vt_walk.proofs.Passing.{may_draw, pass_broke}
 
 -- the same by an equal turn and an equal start

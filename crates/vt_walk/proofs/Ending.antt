@@ -1,12 +1,12 @@
 -- The turn after a pass.
-use Rattle.std.proofs.Common.{◌≡◌, ℕ, ◌+◌, ◌-◌, ◌<◌, ◌≤◌, ◌≢◌, ◌⊎◌, inl, inr, Bool, List, [], ◌∷◌, length, Option, refl, sym, ap, ◌∙◌, subst, take, arith}
+use Rattle.std.proofs.Common.{◌≡◌, ℕ, ◌+◌, ◌<◌, ◌≤◌, ◌≢◌, ◌⊎◌, inl, inr, Bool, List, [], ◌∷◌, length, Option, refl, sym, ap, ◌∙◌, subst, take, arith}
 use Rattle.std.specs.Prelude.{option_map, IsSome, IsTrue, ◌↔◌, All, slice_index_or, if◌then◌else◌}
 use Rattle.std.specs.List.{concat}
 use Rattle.vt_outside.specs.Counts.{Rose}
 use Rattle.vt_outside.specs.Files.{Files, Asked, with_bytes, gained}
 use Rattle.vt_outside.specs.declared.answers.OutsideError.{OutsideError}
 use Rattle.vt_outside.specs.declared.answers.OutsideError.TheVariants.{Failed, NoMemory}
-use Rattle.vt_pages.specs.Pages.{IsWithinLimits, pinned_of}
+use Rattle.vt_pages.specs.Pages.{IsWithinLimits}
 use Rattle.vt_ppm.specs.Picture.{picture_bytes}
 use Rattle.vt_words.specs.Names.{picture_name}
 use Rattle.vt_camera.specs.Paths.{PathView}
@@ -32,7 +32,7 @@ use Rattle.vt_turns.specs.Refusals.{refusal_by}
 use Rattle.vt_walk.specs.Fits.{WalkSetup, room_of, DoesNotFit, NeedsFrames}
 use Rattle.vt_walk.specs.Runs.{WalkPass, IsWalkSetup, IsRun, Finishes, GoesOn, plan_after, recency_after, planned_in, lost_in}
 use Rattle.vt_walk.specs.Logs.{passes_of, picture_line, wanted_in}
-use Rattle.vt_walk.specs.Walks.{WalkGiven, WalkNames, given_by, names_of}
+use Rattle.vt_walk.specs.Walks.{WalkGiven, WalkNames, given_by}
 use Rattle.vt_walk.specs.States.{WalkState}
 use Rattle.vt_walk.specs.Reads.{AreAskedFor, AreAskedAtMostFor, OnTold}
 use Rattle.vt_walk.specs.Written.{IsWritten}
@@ -41,9 +41,7 @@ use Rattle.vt_walk.specs.Causes.{HasBroken, IsCausedBy}
 use Rattle.vt_turns.specs.Tallies.{no_passes}
 use Rattle.vt_turns.specs.Reported.{next_turn}
 use Rattle.vt_walk.specs.Tallies.{tally_of, numbers_line}
-use Rattle.vt_turns.specs.Judging.{IsEnd, IsStoppedBy, MayGoOn}
-use Rattle.vt_walk.specs.Tours.{IsTour, given_of, tour_scene}
-use Rattle.vt_turns.specs.declared.tour.Tour.{Tour}
+use Rattle.vt_turns.specs.Judging.{IsEnd}
 use Rattle.vt_walk.specs.Turns.{IsTurn, MayDraw, StandsAt, StandsAfter, LeftBy}
 use Rattle.vt_walk.proofs.Asking.{losses_more}
 use Rattle.vt_walk.proofs.Asks.{with_open, pass_asks_most, pass_fails_most, faults_rise}
@@ -396,24 +394,3 @@ module _ (draws : Drawing)
           cause : (error : OutsideError) → (error ≡ Failed → Rose out_faults out_faults') → IsCausedBy drawn given first (later opened) (refusal_by error)
           cause NoMemory failed = tt
           cause Failed failed = inl (inl (let r = failed refl in let o = s.stands.out_faults in omega (arith, r, o)))
-
--- a settled picture has room
-pub room_left : (t : Tour) (p : Passed) → IsTour t → MayGoOn t p → t.mode ≡ Settled → p.outlook.needed ≤ t.settings.frames - pinned_of t.geometry.now t.settings.pinned
-room_left t p h goes_on settled = let fits = goes_on.fits settled in let pages = h.pages in omega (arith, fits, pages)
-
--- the walk stops after a pass, for its cause
-pub stopped : (draws : Drawing)
-    (drawn : PathView → ℕ → ℕ → ℕ → List ℕ → Type 0)
-    (law : (scene : Scene) (b : List ℕ) (m : Table) (i x y : ℕ) → IsWithinLimits scene.shape → IsStore b scene.shape scene.depth
-    → i < length scene.path.cameras → x < scene.path.width → y < scene.path.height → MapsNeeded scene.shape m (draws.needs scene i)
-    → draws.shows scene b m i x y ≡ draws.whole scene b i x y)
-    (t : Tour) (told : Option (List ℕ)) (number : ℕ) (p : Passed) (first was : WalkState) (m : MachineState) (v : RecencyView) → IsTour t
-    → StandsAfter drawn (given_of draws t told) number p first was m v → (e : WalkError) → IsStoppedBy t p e
-    → LeftBy drawn (given_of draws t told) first was e
-stopped draws drawn law t told number p first was m v tour s (walk_error.TooFewFrames frames needed) is = absurd is
-stopped draws drawn law t told number p first was m v tour s (walk_error.DoesNotFit picture wanted room) is =
-    no_room draws drawn law (tour_scene t) t.settings t.mode told (names_of t.names) number p first m v was s is.settled picture wanted room
-    is.picture_is is.wanted_are (let r = is.room_is in let pages = tour.pages in omega (arith, r, pages)) is.unfit
-stopped draws drawn law t told number p first was m v tour s walk_error.Failed is =
-    tile_lost draws drawn law (tour_scene t) t.settings t.mode told (names_of t.names) number p first m v was s is.0 is.1
-stopped draws drawn law t told number p first was m v tour s walk_error.NoMemory is = absurd is

@@ -22,6 +22,7 @@ pub mod Opened
 pub mod Placed
 pub mod Passing
 pub mod Ending
+pub mod Going
 pub mod Rounds
 pub mod Aheads
 pub mod Besides

@@ -6,7 +6,8 @@ use Rattle.vt_walk.specs.States.{walk_state}
 use Rattle.vt_walk.specs.Tours.{tour_scene}
 use Rattle.vt_walk.specs.Written.{IsDrawnBySome}
 use Rattle.vt_turns.specs.Judging.{IsEnd}
-use Rattle.vt_walk.proofs.Ending.{rows_count, rows_full, room_left, same_picture, next_picture, picture_broke, line_broke}
+use Rattle.vt_walk.proofs.Ending.{rows_count, rows_full, same_picture, next_picture, picture_broke, line_broke}
+use Rattle.vt_walk.proofs.Going.{room_left}
 use Rattle.vt_walk.proofs.turns.end_turn.Goals as goal
 
 pub returns-then-not-is_finished-clause-ended : goal.returns-then-not-is_finished-clause-ended

@@ -4,7 +4,7 @@ use Rattle.vt_walk.specs.States.{walk_state}
 use Rattle.vt_walk.specs.Tours.{given_of}
 use Rattle.vt_walk.specs.Turns.{LeftBy}
 use Rattle.vt_walk.specs.Written.{IsDrawnBySome}
-use Rattle.vt_walk.proofs.Ending.{stopped}
+use Rattle.vt_walk.proofs.Going.{stopped}
 use Rattle.vt_walk.proofs.turns.take_turn.Goals as goal
 
 pub tell_drawn-requires-clause-stands : goal.tell_drawn-requires-clause-stands
