@@ -14,6 +14,7 @@ use vt_plain_bilinear::{draw_plain_blend, draw_row_blend};
 // From the height of one texel: a place between the texels 1, 2, 5 and 6, which weigh 24576, 24576, 8192 and 8192, and one in the
 // last column and row, after which the texture begins anew.
 const BETWEEN: &[u8] = b"size 1 1\nfocal 1\nat 128 64 256 16384 0\n";
+
 const WRAPPED: &[u8] = b"size 1 1\nfocal 1\nat 640 -64 256 16384 0\n";
 
 // The path, if it has one picture of one pixel.
@@ -54,22 +55,13 @@ fn is_blended(alloc: Global, text: &[u8], least: u32, sample: u8, counted: &[u32
 
 #[test]
 fn a_pixel_is_the_blend_of_the_texels_about_its_place(rt: HostRuntime) {
-    holds(
-        &rt,
-        is_blended(rt.alloc(), BETWEEN, 0, 3, &[9, 9, 7, 7, 7]),
-    );
-    holds(
-        &rt,
-        is_blended(rt.alloc(), WRAPPED, 0, 5, &[8, 8, 8, 8, 7]),
-    );
+    holds(&rt, is_blended(rt.alloc(), BETWEEN, 0, 3, &[9, 9, 7, 7, 7]));
+    holds(&rt, is_blended(rt.alloc(), WRAPPED, 0, 5, &[8, 8, 8, 8, 7]));
 }
 
 #[test]
 fn each_texel_of_a_blend_is_served_by_an_ancestor(rt: HostRuntime) {
-    holds(
-        &rt,
-        is_blended(rt.alloc(), WRAPPED, 1, 6, &[8, 8, 8, 8, 7]),
-    );
+    holds(&rt, is_blended(rt.alloc(), WRAPPED, 1, 6, &[8, 8, 8, 8, 7]));
 }
 
 // The first sample of the plain picture by blends of the texture of four columns and rows.
