@@ -12,4 +12,3 @@ pub mod Rows
 pub mod Places
 pub mod Written
 pub mod Staging
-pub mod Trying
