@@ -5,6 +5,7 @@ ghost use Rattle.std.specs.Prelude.{◌≡◌, length, IfSome};
 use crate::draw::tables::Table;
 use crate::fixtures::{FOUR, holds, image_of};
 use std::alloc::Global;
+use std::thread::Threads;
 use vt_camera::{Path, parse_path};
 use vt_draw::Shot;
 use vt_mip::Chain;
@@ -65,16 +66,16 @@ fn each_texel_of_a_blend_is_served_by_an_ancestor(rt: HostRuntime) {
 }
 
 // The first sample of the plain picture by blends of the texture of four columns and rows.
-fn plain_sample(alloc: Global, text: &[u8]) -> Option<u8> {
+fn plain_sample<Rt: Threads + Sync>(rt: &Rt, alloc: Global, text: &[u8]) -> Option<u8> {
     let path = path_of(alloc, text)?;
     let image = image_of(alloc, 1, 4, 4, &FOUR)?;
-    let chain = Chain::build(alloc, image, 2).ok()?;
+    let chain = Chain::build(rt, alloc, image, 2).ok()?;
     let picture = draw_plain_blend(alloc, &chain, &path, 0).ok()?;
     picture.get(0).copied()
 }
 
 #[test]
 fn the_plain_picture_blends_the_chain(rt: HostRuntime) {
-    holds(&rt, plain_sample(rt.alloc(), BETWEEN) == Some(3));
-    holds(&rt, plain_sample(rt.alloc(), WRAPPED) == Some(5));
+    holds(&rt, plain_sample(&rt, rt.alloc(), BETWEEN) == Some(3));
+    holds(&rt, plain_sample(&rt, rt.alloc(), WRAPPED) == Some(5));
 }
