@@ -1,15 +1,13 @@
 -- Rows that were drawn over the tiles at hand: none, one, some and then others, and those of two parts.
-use Rattle.std.proofs.Common.{◌≡◌, ◌≢◌, ◌⊎◌, ℕ, ◌+◌, ◌-◌, ◌*◌, ◌<◌, ◌≤◌, inl, inr, Bool, true, false, List, ◌++◌, length, take, drop, set, get_or, refl, sym, ap, ◌∙◌, subst, length-drop, arith}
+use Rattle.std.proofs.Common.{◌≡◌, ◌≢◌, ◌⊎◌, ℕ, ◌+◌, ◌-◌, ◌*◌, ◌<◌, ◌≤◌, inl, inr, Bool, true, false, Option, List, ◌++◌, length, take, drop, set, get_or, refl, sym, ap, ◌∙◌, subst, length-drop, arith}
 use Rattle.std.specs.Prelude.{slice_set}
 use Rattle.std.proofs.lemmas.Bool.{cases_lt, false≢true}
 use Rattle.std.proofs.lemmas.List.{get_or_append_left, get_or-append_right, get_or-set_same, get_or-set_other, take-append-le, drop-append-le, drop-drop, drop_at}
 use Rattle.vt_definitions.specs.Depths.{texel_length}
 use Rattle.vt_draw.specs.declared.shots.Shot.{Shot}
 use Rattle.vt_journal.proofs.Versions.{same_page}
-use Rattle.vt_replay.specs.Sights.{row_of}
+use Rattle.vt_replay.specs.Sights.{SightView, row_of}
 use Rattle.vt_replay.specs.Trying.{IsLeft, IsDone, AreTried, MayTry}
-use Rattle.vt_replay.specs.declared.table.PageTable.{PageTable}
-use Rattle.vt_replay.specs.declared.tiles.Tiles.{Tiles}
 use Rattle.vt_replay.proofs.Places.{row_room}
 
 never_both : (left : List Bool) (k : ℕ) → IsLeft left k → IsDone left k → ⊥
@@ -74,20 +72,31 @@ pub stays_done : (line first k : ℕ) (shows : ℕ → List ℕ → Type 0) (lef
     → AreTried line first shows left after samples new → IsDone left k → IsDone after k
 stays_done line first k shows left after samples new tried done = (tried.kept k done).0
 
+-- rows were drawn of a store whose bytes are told, and then others, when its bytes were still the same
+pub tried_on : (line : ℕ) (shows : Option (List ℕ) → ℕ → List ℕ → Type 0) (told later : Option (List ℕ)) (left mid after : List Bool)
+    (samples some new : List ℕ) → later ≡ told → AreTried line 0 (shows told) left mid samples some → AreTried line 0 (shows later) mid after some new
+    → AreTried line 0 (shows told) left after samples new
+tried_on line shows told later left mid after samples some new same a b =
+    tried_then line 0 (shows told) left mid after samples some new a (subst (λ (o : Option (List ℕ)). AreTried line 0 (shows o) mid after some new) same b)
+
 -- rows may be drawn, so some of them may be, and the others
-module _ (shot : Shot) (table : PageTable) (tiles : Tiles) (first rows bytes : ℕ) (may : MayTry shot table tiles first rows bytes) where
-  pub may_front : (cut some : ℕ) → cut ≤ rows → some ≡ cut * (texel_length shot.depth * shot.path.now.width) → MayTry shot table tiles first cut some
+module _ (shot : Shot) (v : SightView) (first rows bytes : ℕ) (may : MayTry shot v first rows bytes) where
+  pub may_front : (cut some : ℕ) → cut ≤ rows → some ≡ cut * (texel_length shot.depth * shot.path.now.width) → MayTry shot v first cut some
   may_front cut some few room = record {
-    sight = may.sight;
+    lawful = may.lawful;
+    shape = may.shape;
+    depth = may.depth;
     picture = may.picture;
     inside = let a = may.inside in omega (arith, a, few);
     room = room;
   }
 
   pub may_behind : (next many some : ℕ) → next + many ≡ first + rows → some ≡ many * (texel_length shot.depth * shot.path.now.width)
-      → MayTry shot table tiles next many some
+      → MayTry shot v next many some
   may_behind next many some rest room = record {
-    sight = may.sight;
+    lawful = may.lawful;
+    shape = may.shape;
+    depth = may.depth;
     picture = may.picture;
     inside = let a = may.inside in omega (arith, a, rest);
     room = room;

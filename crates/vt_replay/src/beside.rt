@@ -8,11 +8,12 @@ ghost use Rattle.vt_pages.specs.Pages.{pages_of};
 ghost use Rattle.vt_journal.specs.Kept.{entries_of};
 ghost use Rattle.vt_shown.specs.Scenes.{scene_of};
 ghost use Rattle.vt_replay.specs.Playing.{IsReadOn, IsReady};
-ghost use Rattle.vt_replay.specs.Sights.{AreTiles};
-ghost use Rattle.vt_replay.specs.Trying.{ShowsRow, AreTried, MayTry, HasTried};
+ghost use Rattle.vt_replay.specs.Sights.{IsSight, AreTiles};
+ghost use Rattle.vt_replay.specs.Trying.{sight_of, ShowsRow, AreTried, MayTry, HasTried};
 
 use crate::draw::{Tried, bring_all, clear, try_line};
 use crate::noted::Gathered;
+use crate::sight::Sight;
 use crate::table::PageTable;
 use crate::tiles::Tiles;
 use std::alloc::Global;
@@ -106,8 +107,7 @@ pub(crate) fn parts_for<Rt: Threads>(
 
 // Draws row k of those from a first one on, if it is left to be drawn and not left out.
 fn try_next<P: Filter>(
-    table: &PageTable,
-    tiles: &Tiles,
+    sight: &Sight<'_>,
     shot: &Shot,
     first: u32,
     k: usize,
@@ -116,11 +116,11 @@ fn try_next<P: Filter>(
     samples: &mut [u8],
     counts: &mut [u32],
 )
-    requires may { MayTry shot.now table.now tiles.now first (length left.old) (length samples.old) }
+    requires may { MayTry shot.now sight.now first (length left.old) (length samples.old) }
     requires within { k < length left.old }
     requires pages { length counts.old ≡ pages_of shot.now.geometry.now }
     requires room { (p : ℕ) → p < length counts.old → slice_index counts.old p + 4 * shot.now.path.now.width < 2 ^ 32 }
-    ensures tried { HasTried P.under shot.now table.now tiles.now first left.old left.new samples.old samples.new }
+    ensures tried { HasTried P.under shot.now sight.now first left.old left.new samples.old samples.new }
     ensures counted { (p : ℕ) → p < length counts.new
         → slice_index counts.new p ≤ slice_index counts.old p + 4 * shot.now.path.now.width }
 {
@@ -132,15 +132,14 @@ fn try_next<P: Filter>(
     let line = texel_length(shot.depth) * shot.path.width() as usize;
     let at = k * line;
     let y = first + k as u32;
-    let tried = try_line::<P>(table, tiles, shot, y, &mut samples[at..at + line], counts);
+    let tried = try_line::<P>(sight, shot, y, &mut samples[at..at + line], counts);
     seen.note(&tried);
     left[k] = tried.missed;
 }
 
 // Draws the rows of a part that are left, as far as the tiles at hand go. The counts are scratch room.
 fn try_rows<P: Filter>(
-    table: &PageTable,
-    tiles: &Tiles,
+    sight: &Sight<'_>,
     shot: &Shot,
     first: u32,
     seen: &mut Seen,
@@ -148,9 +147,9 @@ fn try_rows<P: Filter>(
     samples: &mut [u8],
     counts: &mut [u32],
 )
-    requires may { MayTry shot.now table.now tiles.now first (length left.old) (length samples.old) }
+    requires may { MayTry shot.now sight.now first (length left.old) (length samples.old) }
     requires pages { length counts.old ≡ pages_of shot.now.geometry.now }
-    ensures { HasTried P.under shot.now table.now tiles.now first left.old left.new samples.old samples.new }
+    ensures { HasTried P.under shot.now sight.now first left.old left.new samples.old samples.new }
 {
     clear(counts);
     let width = shot.path.width();
@@ -158,38 +157,28 @@ fn try_rows<P: Filter>(
     // So no count comes near the end of its type.
     prove!(width <= 2048 && height <= 2048);
     for k in 0..left.len() {
-        try_next::<P>(table, tiles, shot, first, k, seen, left, samples, counts);
+        try_next::<P>(sight, shot, first, k, seen, left, samples, counts);
     }
 }
 
 // Draws the rows of a part with what one thread has. Each thread has a count for each page: where it had not, the rows were left.
 fn try_part<P: Filter>(
-    table: &PageTable,
-    tiles: &Tiles,
+    sight: &Sight<'_>,
     shot: &Shot,
     first: u32,
     part: &mut Part,
     left: &mut [bool],
     samples: &mut [u8],
 )
-    requires { MayTry shot.now table.now tiles.now first (length left.old) (length samples.old) }
-    ensures { HasTried P.under shot.now table.now tiles.now first left.old left.new samples.old samples.new }
+    requires { MayTry shot.now sight.now first (length left.old) (length samples.old) }
+    ensures { HasTried P.under shot.now sight.now first left.old left.new samples.old samples.new }
 {
     part.seen = Seen::new();
     let counts = part.counts.as_mut_slice();
-    if counts.len() != tiles.slots.len() {
+    if counts.len() != shot.geometry.page_count() as usize {
         return;
     }
-    try_rows::<P>(
-        table,
-        tiles,
-        shot,
-        first,
-        &mut part.seen,
-        left,
-        samples,
-        counts,
-    );
+    try_rows::<P>(sight, shot, first, &mut part.seen, left, samples, counts);
 }
 
 // How many rows are left.
@@ -223,10 +212,9 @@ fn place_behind(left: &[bool], count: usize) -> usize
 
 // Draws the rows that are left as far as the tiles at hand go, in so many parts, by halves, each with about as many of these rows. Where
 // no thread can be made, one part is drawn after the other.
-fn try_beside<Rt: Threads + Sync, P: Filter>(
+fn try_beside<Rt: Threads + Sync, P: Filter + Sync>(
     rt: &Rt,
-    table: &PageTable,
-    tiles: &Tiles,
+    sight: &Sight<'_>,
     shot: &Shot<'_>,
     first: u32,
     threads: usize,
@@ -234,12 +222,12 @@ fn try_beside<Rt: Threads + Sync, P: Filter>(
     left: &mut [bool],
     samples: &mut [u8],
 )
-    requires may { MayTry shot.now table.now tiles.now first (length left.old) (length samples.old) }
+    requires may { MayTry shot.now sight.now first (length left.old) (length samples.old) }
     requires threads { (1 ≤ threads) × (threads ≤ length parts.old) }
-    ensures tried { HasTried P.under shot.now table.now tiles.now first left.old left.new samples.old samples.new }
+    ensures tried { HasTried P.under shot.now sight.now first left.old left.new samples.old samples.new }
 {
     if threads < 2 {
-        try_part::<P>(table, tiles, shot, first, &mut parts[0], left, samples);
+        try_part::<P>(sight, shot, first, &mut parts[0], left, samples);
         return;
     }
     // From here on it is known how many rows a picture has at most.
@@ -255,22 +243,41 @@ fn try_beside<Rt: Threads + Sync, P: Filter>(
     join_mut(
         rt,
         &mut || -> ()
-            requires { IsSync Rt.row × (1 ≤ few) × (few ≤ length low_parts.now)
-                × MayTry shot.now table.now tiles.now first (length low_left.now) (length low.now) }
-            ensures { HasTried P.under shot.entry.now table.entry.now tiles.entry.now first low_left.entry.now low_left.exit.now
+            requires { IsSync Rt.row × IsSync P.row × (1 ≤ few) × (few ≤ length low_parts.now)
+                × MayTry shot.now sight.now first (length low_left.now) (length low.now) }
+            ensures { HasTried P.under shot.entry.now sight.entry.now first low_left.entry.now low_left.exit.now
                 low.entry.now low.exit.now }
-        { try_beside::<Rt, P>(rt, table, tiles, shot, first, few, low_parts, low_left, low) },
+        { try_beside::<Rt, P>(rt, sight, shot, first, few, low_parts, low_left, low) },
         &mut || -> ()
-            requires { IsSync Rt.row × (1 ≤ many) × (many ≤ length high_parts.now)
-                × MayTry shot.now table.now tiles.now next (length high_left.now) (length high.now) }
-            ensures { HasTried P.under shot.entry.now table.entry.now tiles.entry.now next high_left.entry.now
+            requires { IsSync Rt.row × IsSync P.row × (1 ≤ many) × (many ≤ length high_parts.now)
+                × MayTry shot.now sight.now next (length high_left.now) (length high.now) }
+            ensures { HasTried P.under shot.entry.now sight.entry.now next high_left.entry.now
                 high_left.exit.now high.entry.now high.exit.now }
-        {
-            try_beside::<Rt, P>(
-                rt, table, tiles, shot, next, many, high_parts, high_left, high,
-            )
-        },
+        { try_beside::<Rt, P>(rt, sight, shot, next, many, high_parts, high_left, high) },
     );
+}
+
+// Draws the rows of a picture that are left over a table and the tiles at hand, in so many parts.
+fn try_in_parts<Rt: Threads + Sync, P: Filter + Sync>(
+    rt: &Rt,
+    table: &PageTable,
+    tiles: &Tiles,
+    shot: &Shot<'_>,
+    threads: usize,
+    parts: &mut [Part],
+    left: &mut [bool],
+    samples: &mut [u8],
+)
+    requires sight { IsSight (sight_of shot.now.geometry.now shot.now.depth table.now tiles.now) }
+    requires picture { shot.now.picture < length shot.now.path.now.cameras }
+    requires rows { length left.old ≡ shot.now.path.now.height }
+    requires bytes { length samples.old ≡ shot.now.path.now.height * (texel_length shot.now.depth * shot.now.path.now.width) }
+    requires threads { (1 ≤ threads) × (threads ≤ length parts.old) }
+    ensures { HasTried P.under shot.now (sight_of shot.now.geometry.now shot.now.depth table.now tiles.now) 0
+        left.old left.new samples.old samples.new }
+{
+    let sight = Sight::new(shot.geometry, table, tiles, shot.depth);
+    try_beside::<Rt, P>(rt, &sight, shot, 0, threads, parts, left, samples);
 }
 
 // Makes the tiles that parts were drawn with the most recently used ones.
@@ -315,7 +322,7 @@ fn threads_for_rows(parts: &[Part], left: &[bool], width: u32) -> usize
 
 /// Draws rows of a picture that are left, over the table of a version, in parts beside one another, as long as they are worth more than one
 /// thread: the tiles that they missed are read, and then the rows are drawn again that missed them. Some rows may still be left.
-pub(crate) fn draw_beside<Rt: Threads + Sync, P: Filter, F: File>(
+pub(crate) fn draw_beside<Rt: Threads + Sync, P: Filter + Sync, F: File>(
     rt: &Rt,
     parts: &mut [Part],
     table: &PageTable,
@@ -345,7 +352,7 @@ pub(crate) fn draw_beside<Rt: Threads + Sync, P: Filter, F: File>(
         if threads < 2 {
             break;
         }
-        try_beside::<Rt, P>(rt, table, tiles, shot, 0, threads, parts, left, samples);
+        try_in_parts::<Rt, P>(rt, table, tiles, shot, threads, parts, left, samples);
         let drawn = &parts[..threads];
         touch_used(tiles, drawn);
         bring_missing(tiles, store, drawn)?;

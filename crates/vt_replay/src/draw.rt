@@ -28,8 +28,42 @@ pub(crate) struct Tried {
     pub missing: Noted,
 }
 
-/// Draws row `y` of a picture over a table and the tiles at hand. It is drawn where no tile was missed.
+/// Draws row `y` of a picture over a table and the tiles at hand, as a look-up over these sees them. It is drawn where no tile was missed.
 pub(crate) fn try_line<P: Filter>(
+    sight: &Sight<'_>,
+    shot: &Shot,
+    y: u32,
+    out: &mut [u8],
+    counts: &mut [u32],
+) -> Tried
+    requires depth { IsDepth shot.now.depth }
+    requires same_shape { sight.now.shape ≡ shot.now.geometry.now }
+    requires same_depth { sight.now.depth ≡ shot.now.depth }
+    requires picture { shot.now.picture < length shot.now.path.now.cameras }
+    requires within { y < shot.now.path.now.height }
+    requires bytes { length out.old ≡ texel_length shot.now.depth * shot.now.path.now.width }
+    requires pages { length counts.old ≡ pages_of shot.now.geometry.now }
+    requires room { (p : ℕ) → p < length counts.old → slice_index counts.old p + 4 * shot.now.path.now.width < 2 ^ 32 }
+    ensures shown { result.missed ≡ false → (told : Option (List ℕ))
+        → HoldsTiles shot.now.geometry.now shot.now.depth sight.now told
+        → ShowsRow P.under (scene_of shot.now.geometry.now shot.now.depth shot.now.path.now)
+        (entries_of sight.now.entries) told shot.now.picture y out.new }
+    ensures counted { (p : ℕ) → p < length counts.new
+        → slice_index counts.new p ≤ slice_index counts.old p + 4 * shot.now.path.now.width }
+{
+    // From here on it is known that the geometry keeps its limits.
+    let _side = shot.geometry.tile();
+    let mut own = sight.again();
+    P::draw_row(&mut own, shot, y, out, counts);
+    Tried {
+        missed: own.missed(),
+        used: own.used(),
+        missing: own.missing(),
+    }
+}
+
+// Draws row y of a picture over a table and the tiles at hand, by a look-up of its own.
+fn try_once<P: Filter>(
     table: &PageTable,
     tiles: &Tiles,
     shot: &Shot,
@@ -44,21 +78,15 @@ pub(crate) fn try_line<P: Filter>(
     requires pages { length counts.old ≡ pages_of shot.now.geometry.now }
     requires room { (p : ℕ) → p < length counts.old → slice_index counts.old p + 4 * shot.now.path.now.width < 2 ^ 32 }
     ensures shown { result.missed ≡ false → (told : Option (List ℕ))
-        → HoldsTiles shot.now.geometry.now shot.now.depth tiles.now told
+        → HoldsTiles shot.now.geometry.now shot.now.depth
+        (sight_of shot.now.geometry.now shot.now.depth table.now tiles.now) told
         → ShowsRow P.under (scene_of shot.now.geometry.now shot.now.depth shot.now.path.now)
         (entries_of table.now.entries.items) told shot.now.picture y out.new }
     ensures counted { (p : ℕ) → p < length counts.new
         → slice_index counts.new p ≤ slice_index counts.old p + 4 * shot.now.path.now.width }
 {
-    // From here on it is known that the geometry keeps its limits.
-    let _side = shot.geometry.tile();
-    let mut sight = Sight::new(shot.geometry, table, tiles, shot.depth);
-    P::draw_row(&mut sight, shot, y, out, counts);
-    Tried {
-        missed: sight.missed(),
-        used: sight.used(),
-        missing: sight.missing(),
-    }
+    let sight = Sight::new(shot.geometry, table, tiles, shot.depth);
+    try_line::<P>(&sight, shot, y, out, counts)
 }
 
 /// Brings the tiles of pages into the set.
@@ -136,7 +164,7 @@ fn draw_line<P: Filter, F: File>(
     ensures read { IsReadOn F.File store.old store.new }
 {
     for _round in 0..shot.path.width() + 1 {
-        let tried = try_line::<P>(table, tiles, shot, y, out, counts);
+        let tried = try_once::<P>(table, tiles, shot, y, out, counts);
         tiles.touch(&tried.used);
         if !tried.missed {
             return Ok(());

@@ -50,7 +50,7 @@ pub fn replay<Rt: Threads + Sync, D: Folder>(
 }
 
 /// Writes the pictures of a journal as `replay` does, their pixels made of texels by a filter.
-pub fn replay_by<Rt: Threads + Sync, P: Filter, D: Folder>(
+pub fn replay_by<Rt: Threads + Sync, P: Filter + Sync, D: Folder>(
     rt: &Rt,
     alloc: Global,
     folder: &mut D,
@@ -76,7 +76,7 @@ pub fn replay_by<Rt: Threads + Sync, P: Filter, D: Folder>(
 }
 
 // Judges a journal and plays it, over a store that stays open.
-fn replay_open<Rt: Threads + Sync, P: Filter, D: Folder>(
+fn replay_open<Rt: Threads + Sync, P: Filter + Sync, D: Folder>(
     rt: &Rt,
     alloc: Global,
     folder: &mut D,

@@ -109,7 +109,7 @@ fn first_stage<Rt: Threads>(
 }
 
 // Brings a table to a version, and draws the rows of a pass that name it.
-fn show_version<Rt: Threads + Sync, P: Filter, F: File>(
+fn show_version<Rt: Threads + Sync, P: Filter + Sync, F: File>(
     rt: &Rt,
     stage: &mut Stage,
     store: &mut Store<F>,
@@ -164,7 +164,7 @@ fn show_version<Rt: Threads + Sync, P: Filter, F: File>(
 }
 
 // Draws a pass of a picture: the table goes from version to version up to the last, and at each the rows that name it are drawn.
-fn show_pass<Rt: Threads + Sync, P: Filter, F: File>(
+fn show_pass<Rt: Threads + Sync, P: Filter + Sync, F: File>(
     rt: &Rt,
     stage: &mut Stage,
     store: &mut Store<F>,
@@ -202,7 +202,7 @@ fn show_pass<Rt: Threads + Sync, P: Filter, F: File>(
 }
 
 // Draws a pass of a picture and writes the picture.
-fn play_pass<Rt: Threads + Sync, P: Filter, D: Folder>(
+fn play_pass<Rt: Threads + Sync, P: Filter + Sync, D: Folder>(
     rt: &Rt,
     alloc: Global,
     folder: &mut D,
@@ -280,7 +280,7 @@ fn last_of(text: &JournalText, i: u32) -> u64
 }
 
 // Draws and writes the last pass of each picture, in the order of the pictures. Answers their number.
-fn play_passes<Rt: Threads + Sync, P: Filter, D: Folder>(
+fn play_passes<Rt: Threads + Sync, P: Filter + Sync, D: Folder>(
     rt: &Rt,
     alloc: Global,
     folder: &mut D,
@@ -338,7 +338,7 @@ fn play_passes<Rt: Threads + Sync, P: Filter, D: Folder>(
 }
 
 /// Draws and writes the last pass of each picture of a journal whose pictures are all in the path. Answers their number.
-pub(crate) fn play<Rt: Threads + Sync, P: Filter, D: Folder>(
+pub(crate) fn play<Rt: Threads + Sync, P: Filter + Sync, D: Folder>(
     rt: &Rt,
     alloc: Global,
     folder: &mut D,

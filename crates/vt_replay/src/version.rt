@@ -38,7 +38,7 @@ fn mark_rows(left: &mut [bool], rows: &[RowLine], version: u64)
 
 /// Draws the rows of a pass that name a version, over the table of that version, and reads the tiles that they need and the set has
 /// not: in parts beside one another where they are worth it. The counts are scratch room.
-pub(crate) fn draw_version<Rt: Threads + Sync, P: Filter, F: File>(
+pub(crate) fn draw_version<Rt: Threads + Sync, P: Filter + Sync, F: File>(
     rt: &Rt,
     parts: &mut [Part],
     table: &PageTable,

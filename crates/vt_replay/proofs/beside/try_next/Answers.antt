@@ -1,9 +1,8 @@
-use Rattle.std.proofs.Common.{◌≡◌, ℕ, ◌+◌, ◌-◌, ◌*◌, false, List, length, ap, ◌∙◌, arith}
+use Rattle.std.proofs.Common.{◌≡◌, ℕ, ◌+◌, ◌-◌, ◌*◌, List, length, ap, ◌∙◌, arith}
 use Rattle.vt_definitions.specs.Depths.{texel_length, texel_bytes}
 use Rattle.vt_journal.specs.Kept.{entries_of}
 use Rattle.vt_shown.specs.Scenes.{scene_of}
-use Rattle.vt_replay.specs.Sights.{row_of}
-use Rattle.vt_replay.specs.Trying.{ShowsRow, IsLeft}
+use Rattle.vt_replay.specs.Trying.{ShowsRow}
 use Rattle.vt_replay.proofs.Places.{row_room, row_written, row_other}
 use Rattle.vt_replay.proofs.Trying.{tried_none, tried_one}
 use Rattle.vt_replay.proofs.beside.try_next.Goals as goal
@@ -29,7 +28,7 @@ returns-clause-tried g c = λ told tiles.
     let written = row_written (texel_length shot.depth * shot.path.now.width) line c.args.k count (length c.args.left.now) c.args.samples.now new wide
     c.requires.within all full in
     tried_one (texel_length shot.depth * shot.path.now.width) c.args.first
-    (ShowsRow g.P.Filter.under (scene_of shot.geometry.now shot.depth shot.path.now) (entries_of c.args.table.now.entries.items) told shot.picture)
+    (ShowsRow g.P.Filter.under (scene_of shot.geometry.now shot.depth shot.path.now) (entries_of c.args.sight.now.entries) told shot.picture)
     c.args.k c.args.left.now c.args.samples.now _ c.try_line-tried.result.missed c.requires.within (c.is_due.ensures c.if-not-is_due.false)
     (λ none b is store x inside. ap (λ (t : List ℕ). texel_bytes shot.depth t x) written
     ∙ c.try_line-tried.ensures.shown none told tiles b is store x inside)

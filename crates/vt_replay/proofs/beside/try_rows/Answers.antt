@@ -1,5 +1,6 @@
-use Rattle.std.proofs.Common.{◌≡◌, ℕ, ◌+◌, ◌*◌, length, ap, ◌∙◌, arith}
+use Rattle.std.proofs.Common.{◌≡◌, ℕ, ◌+◌, ◌*◌, length, sym, ap, ◌∙◌, arith}
 use Rattle.std.proofs.lemmas.Nat.{mul-le}
+use Rattle.vt_definitions.specs.Depths.{texel_length}
 use Rattle.vt_replay.proofs.Trying.{may_front, tried_none, tried_then}
 use Rattle.vt_replay.proofs.beside.try_rows.Goals as goal
 
@@ -13,8 +14,9 @@ pub try_next-requires-clause-may : goal.try_next-requires-clause-may
 try_next-requires-clause-may g c =
     let left : length c.loop-k.left ≡ length c.args.left.now = omega arith in
     let samples : length c.loop-k.samples ≡ length c.args.samples.now = omega arith in
-    may_front c.args.shot.now c.args.table.now c.args.tiles.now c.args.first (length c.args.left.now) (length c.args.samples.now) c.requires.may
-    (length c.loop-k.left) (length c.loop-k.samples) (omega (arith, left)) (samples ∙ c.requires.may.room ∙ ap (λ (n : ℕ). n * _) (rw left))
+    may_front c.args.shot.now c.args.sight.now c.args.first (length c.args.left.now) (length c.args.samples.now) c.requires.may
+    (length c.loop-k.left) (length c.loop-k.samples) (omega (arith, left)) (samples ∙ c.requires.may.room
+    ∙ ap (λ (n : ℕ). n * (texel_length c.args.shot.now.depth * c.args.shot.now.path.now.width)) (sym left))
 
 pub try_next-requires-clause-room : goal.try_next-requires-clause-room
 try_next-requires-clause-room g c = λ p inside.

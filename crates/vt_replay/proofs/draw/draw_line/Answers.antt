@@ -1,18 +1,18 @@
 use Rattle.std.proofs.Common.{ℕ, List, Option, refl, subst, arith}
-use Rattle.vt_replay.specs.Trying.{HoldsTiles}
+use Rattle.vt_replay.specs.Trying.{sight_of, HoldsTiles}
 use Rattle.vt_replay.proofs.Reading.{read_then}
 use Rattle.vt_replay.proofs.Readying.{ready_after, ready_sight}
 use Rattle.vt_replay.proofs.Tiling.{tiles_under}
 use Rattle.vt_replay.proofs.draw.draw_line.Goals as goal
 
-pub try_line-tried-requires-clause-room : goal.try_line-tried-requires-clause-room
-try_line-tried-requires-clause-room g c = λ p inside.
+pub try_once-tried-requires-clause-room : goal.try_once-tried-requires-clause-room
+try_once-tried-requires-clause-room g c = λ p inside.
     let counted = c.loop-round.invariant.counted p inside in
     let room = c.requires.room p (omega arith) in
     omega (arith, counted, room)
 
-pub try_line-tried-requires-clause-sight : goal.try_line-tried-requires-clause-sight
-try_line-tried-requires-clause-sight g c =
+pub try_once-tried-requires-clause-sight : goal.try_once-tried-requires-clause-sight
+try_once-tried-requires-clause-sight g c =
     let shot = c.args.shot.now in
     let tiles = c.loop-round.tiles in
     ready_sight g.F.File shot.geometry.now shot.depth c.args.table.now.version tiles.size c.args.table.now.entries.items tiles.slots.items
@@ -51,5 +51,5 @@ pub returns-then-not-tried-clause-shown : goal.returns-then-not-tried-clause-sho
 returns-then-not-tried-clause-shown g c =
     let shot = c.args.shot.now in
     let loop = c.loop-round in
-    let held = subst (λ (o : Option (List ℕ)). HoldsTiles shot.geometry.now shot.depth loop.tiles o) loop.invariant.read.bytes loop.invariant.ready.tiles in
-    c.try_line-tried.ensures.shown c.if-not-tried.true (g.F.File.bytes c.args.store.now.file) held
+    let held = subst (λ (o : Option (List ℕ)). HoldsTiles shot.geometry.now shot.depth (sight_of shot.geometry.now shot.depth c.args.table.now loop.tiles) o) loop.invariant.read.bytes loop.invariant.ready.tiles in
+    c.try_once-tried.ensures.shown c.if-not-tried.true (g.F.File.bytes c.args.store.now.file) held

@@ -1,4 +1,5 @@
-use Rattle.std.proofs.Common.{◌≡◌, ◌∙◌, ℕ, List, Option, refl, ap, subst, sym, arith}
+use Rattle.std.proofs.Common.{◌≡◌, ◌∙◌, ℕ, false, List, Option, refl, ap, subst, sym, arith}
+use Rattle.vt_pages.specs.Shape.{Shape}
 use Rattle.vt_draw.specs.Shots.{shot_row}
 use Rattle.vt_journal.specs.Kept.{entries_of}
 use Rattle.vt_tiles.specs.Format.{stored}
@@ -6,7 +7,7 @@ use Rattle.vt_shown.specs.Scenes.{scene_of}
 use Rattle.vt_filter.specs.Evidence.{AreShown}
 use Rattle.vt_filter.proofs.Handed.{row_is_under}
 use Rattle.vt_replay.specs.Sights.{SightView, IsTrueOf, sight_base}
-use Rattle.vt_replay.specs.Trying.{sight_of, HoldsTiles}
+use Rattle.vt_replay.specs.Trying.{HoldsTiles}
 use Rattle.vt_replay.proofs.Sighted.{none_missed, true_sight}
 use Rattle.vt_replay.proofs.draw.try_line.Goals as goal
 
@@ -14,10 +15,13 @@ pub returns-clause-shown : goal.returns-clause-shown
 returns-clause-shown g c = λ none told tiles b is store.
     let shot = c.args.shot.now in
     let s = shot.geometry.now in
-    let t : SightView = sight_of s shot.depth c.args.table.now c.args.tiles.now in
-    let held = subst (λ (o : Option (List ℕ)). HoldsTiles s shot.depth c.args.tiles.now o) is tiles in
+    let base : SightView = c.args.sight.now in
+    let t : SightView = record base { shape = s; depth = shot.depth; missed = false } in
+    let held = subst (λ (o : Option (List ℕ)). HoldsTiles s shot.depth base o) is tiles in
     let v : SightView = c.draw_row.new.lookup in
-    let same : v ≡ t = sym (none_missed v (sym c.missed.ensures ∙ none)) ∙ c.draw_row.ensures.kept ∙ ap sight_base c.new-sight.ensures in
+    let begun : sight_base base ≡ t = ap (λ (r : Shape). record base { shape = r; missed = false }) c.requires.same_shape
+    ∙ ap (λ (n : ℕ). record base { shape = s; depth = n; missed = false }) c.requires.same_depth in
+    let same : v ≡ t = sym (none_missed v (sym c.missed.ensures ∙ none)) ∙ c.draw_row.ensures.kept ∙ ap sight_base c.again-own.ensures ∙ begun in
     let row = shot_row s shot.path.now shot.picture c.args.y in
     let shown = subst (λ (u : SightView). AreShown g.P.Filter.shown s shot.depth v.version (IsTrueOf u) row shot.path.now.width c.draw_row.new.out) same
     c.draw_row.ensures.drawn in
