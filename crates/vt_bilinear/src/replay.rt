@@ -7,6 +7,7 @@ ghost use Rattle.vt_replay.specs.Outcomes.{Leaves, IsClosed};
 ghost use Rattle.vt_plain_bilinear.specs.Shown.{blend_under};
 
 use std::alloc::Global;
+use std::thread::Threads;
 use vt_camera::Path;
 use vt_outside::Folder;
 use vt_plain_bilinear::Bilinear;
@@ -16,7 +17,8 @@ use vt_tiles::Store;
 /// Writes the pictures of a journal by bilinear filtering: that of the last pass of each, drawn from a store along the journal's path,
 /// each pixel the blend of the texels that serve the four about its place. A journal does not say by which filter its walk drew. All else,
 /// names, refusals and their causes, is as `vt_replay::replay` has it.
-pub fn replay_blend<D: Folder>(
+pub fn replay_blend<Rt: Threads + Sync, D: Folder>(
+    rt: &Rt,
     alloc: Global,
     folder: &mut D,
     store: Store<D::File>,
@@ -34,5 +36,5 @@ pub fn replay_blend<D: Folder>(
         (D.asked folder.old) (D.asked folder.new) }
     ensures faults { added (D.faults folder.old) (D.File.faults store.file) ≤ D.faults folder.new }
 {
-    replay_by::<Bilinear, D>(alloc, folder, store, path, journal, prefix)
+    replay_by::<Rt, Bilinear, D>(rt, alloc, folder, store, path, journal, prefix)
 }

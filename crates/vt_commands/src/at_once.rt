@@ -89,7 +89,7 @@ fn perform_at_once<'a, Rt: Threads + Sync, D: Folder, O: Sink>(
         Command::Info(words) => info(words, folder, out),
         Command::Gen(words) => generate(alloc, words, folder),
         Command::Upgrade(words) => upgrade(rt, alloc, words, folder, out),
-        Command::Replay(words) => replay(alloc, words, folder, out),
+        Command::Replay(words) => replay(rt, alloc, words, folder, out),
         Command::Walk(_) => unreachable!(),
         Command::Trial(_) => unreachable!(),
     }

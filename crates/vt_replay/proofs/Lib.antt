@@ -12,3 +12,4 @@ pub mod Rows
 pub mod Places
 pub mod Written
 pub mod Staging
+pub mod Trying

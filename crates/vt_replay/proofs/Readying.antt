@@ -1,10 +1,11 @@
 -- A table, a set of tiles and a store that are ready for the rows of a picture, after a call on the set.
-use Rattle.std.proofs.Common.{◌≡◌, ℕ, List, Option, sym, ◌∙◌, subst}
+use Rattle.std.proofs.Common.{◌≡◌, ℕ, false, List, Option, sym, ◌∙◌, subst}
+use Rattle.vt_definitions.specs.Depths.{IsDepth}
 use Rattle.vt_outside.specs.declared.outside.File.{Ghosts as FileMeanings}
 use Rattle.vt_pages.specs.Shape.{Shape}
 use Rattle.vt_tiles.specs.StoreViews.{StoreView}
 use Rattle.vt_replay.specs.Playing.{IsReadOn, IsReady}
-use Rattle.vt_replay.specs.Sights.{AreTiles}
+use Rattle.vt_replay.specs.Sights.{IsSight, AreTiles}
 
 -- tiles of the same bytes
 pub tiles_same : (s : Shape) (d size n : ℕ) (slots owners bytes more_slots more_owners more_bytes : List ℕ) (told : Option (List ℕ))
@@ -28,4 +29,28 @@ ready_after g s d entries size n slots owners bytes more_slots more_owners more_
   shape = read.shape ∙ h.shape;
   depth = read.depth ∙ h.depth;
   tiles = subst (λ (o : Option (List ℕ)). AreTiles s d n more_slots more_owners more_bytes o) (sym read.bytes) tiles;
+}
+
+-- so a look-up over them may begin
+pub ready_sight : {F : Type 0} (g : FileMeanings F) (s : Shape) (d version size : ℕ) (entries slots owners bytes : List ℕ) (store : StoreView F)
+    → IsDepth d → IsReady g s d entries size slots owners bytes store
+    → IsSight (record {
+      shape = s;
+      depth = d;
+      size = size;
+      version = version;
+      entries = entries;
+      slots = slots;
+      owners = owners;
+      bytes = bytes;
+      missed = false;
+    })
+ready_sight g s d version size entries slots owners bytes store lawful h = record {
+  lawful = lawful;
+  all_entries = h.all_entries;
+  root = h.root;
+  apart = h.apart;
+  size_is = h.tiles.size_is;
+  all_slots = h.tiles.all_slots;
+  all_bytes = h.tiles.all_bytes;
 }

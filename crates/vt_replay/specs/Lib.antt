@@ -3,3 +3,4 @@ pub mod Replayed
 pub mod Sights
 pub mod Playing
 pub mod Outcomes
+pub mod Trying

@@ -1,6 +1,7 @@
 //! Pictures from a journal: each picture of a walk drawn again from its store, its path and its journal, without the walk.
 #![tactic(auto)]
 
+mod beside;
 mod draw;
 mod error;
 mod judge;
@@ -12,6 +13,7 @@ mod sight;
 mod stream;
 mod table;
 mod tiles;
+mod version;
 
 pub use error::ReplayError;
 pub use laws::replay_is_one;

@@ -13,6 +13,7 @@ use crate::error::ReplayError;
 use crate::judge::judged;
 use crate::play::play;
 use std::alloc::Global;
+use std::thread::Threads;
 use vt_camera::Path;
 use vt_filter::{Filter, Nearest};
 use vt_outside::{Folder, OutsideError};
@@ -26,7 +27,8 @@ use vt_tiles::Store;
 /// not, before anything is written; `Failed` only where the folder's count of faults rose above what it was with that of the
 /// store's file; `NoMemory` where memory was refused, and where one row needs more tiles than 8,388,608 texels make, which no
 /// journal of a walk does. After the latter two some pictures are whole, and of the next a front part may be there.
-pub fn replay<D: Folder>(
+pub fn replay<Rt: Threads + Sync, D: Folder>(
+    rt: &Rt,
     alloc: Global,
     folder: &mut D,
     store: Store<D::File>,
@@ -44,11 +46,12 @@ pub fn replay<D: Folder>(
         (D.asked folder.old) (D.asked folder.new) }
     ensures faults { added (D.faults folder.old) (D.File.faults store.file) ≤ D.faults folder.new }
 {
-    replay_by::<Nearest, D>(alloc, folder, store, path, journal, prefix)
+    replay_by::<Rt, Nearest, D>(rt, alloc, folder, store, path, journal, prefix)
 }
 
 /// Writes the pictures of a journal as `replay` does, their pixels made of texels by a filter.
-pub fn replay_by<P: Filter, D: Folder>(
+pub fn replay_by<Rt: Threads + Sync, P: Filter + Sync, D: Folder>(
+    rt: &Rt,
     alloc: Global,
     folder: &mut D,
     store: Store<D::File>,
@@ -67,13 +70,14 @@ pub fn replay_by<P: Filter, D: Folder>(
     ensures faults { added (D.faults folder.old) (D.File.faults store.file) ≤ D.faults folder.new }
 {
     let mut store = store;
-    let result = replay_open::<P, D>(alloc, folder, &mut store, path, journal, prefix);
+    let result = replay_open::<Rt, P, D>(rt, alloc, folder, &mut store, path, journal, prefix);
     folder.close(store.into_file());
     result
 }
 
 // Judges a journal and plays it, over a store that stays open.
-fn replay_open<P: Filter, D: Folder>(
+fn replay_open<Rt: Threads + Sync, P: Filter + Sync, D: Folder>(
+    rt: &Rt,
     alloc: Global,
     folder: &mut D,
     store: &mut Store<D::File>,
@@ -92,7 +96,7 @@ fn replay_open<P: Filter, D: Folder>(
 {
     let geometry = store.geometry();
     let text = judged(alloc, &geometry, path, journal)?;
-    answer_of(play::<P, D>(alloc, folder, store, path, &text, prefix))
+    answer_of(play::<Rt, P, D>(rt, alloc, folder, store, path, &text, prefix))
 }
 
 // The answer of a replay, by that of its passes.

@@ -19,11 +19,13 @@ ghost use Rattle.vt_replay.specs.Playing.{IsReadOn, Follows, MayBePlayed, IsStag
 ghost use Rattle.vt_replay.specs.Sights.{row_of, AreTiles};
 ghost use Rattle.vt_replay.specs.Replayed.{replayed_rows, pictures_of, replay_file, replay_due};
 
-use crate::draw::draw_version;
+use crate::beside::{Part, parts_for};
 use crate::stream::slots_for;
 use crate::table::PageTable;
 use crate::tiles::Tiles;
+use crate::version::draw_version;
 use std::alloc::Global;
+use std::thread::Threads;
 use vt_camera::Path;
 use vt_definitions::texel_length;
 use vt_draw::Shot;
@@ -34,14 +36,15 @@ use vt_outside::{File, Folder, NoMemory, OutsideError};
 use vt_pages::Geometry;
 use vt_tiles::Store;
 
-/// The table that follows the journal, the tiles that are at hand, and the room to draw in: the samples of a picture and a count
-/// for each page.
+/// The table that follows the journal, the tiles that are at hand, and the room to draw in: the samples of a picture, a count for each page,
+/// and what threads draw with beside one another.
 #[derive(Drop)]
 pub(crate) struct Stage {
     pub table: PageTable,
     pub tiles: Tiles,
     pub samples: Vec<u8>,
     pub counts: Vec<u32>,
+    pub parts: Vec<Part>,
 }
 
 // The room to draw in, with a table and a set of tiles.
@@ -49,6 +52,7 @@ fn stage_of(
     alloc: Global,
     table: PageTable,
     tiles: Tiles,
+    parts: Vec<Part>,
     geometry: &Geometry,
     depth: u32,
     path: &Path,
@@ -72,11 +76,13 @@ fn stage_of(
         tiles,
         samples,
         counts,
+        parts,
     })
 }
 
 // What stands before the first pass: a table and a set of tiles that are empty, and the room to draw in.
-fn first_stage(
+fn first_stage<Rt: Threads>(
+    rt: &Rt,
     alloc: Global,
     geometry: &Geometry,
     depth: u32,
@@ -97,16 +103,18 @@ fn first_stage(
     let slots = slots_for(geometry, journal);
     let table = PageTable::new(alloc, geometry, journal)?;
     let tiles = Tiles::new(alloc, geometry, depth, slots)?;
-    let stage = stage_of(alloc, table, tiles, geometry, depth, path)?;
+    let parts = parts_for(rt, alloc, geometry, path)?;
+    let stage = stage_of(alloc, table, tiles, parts, geometry, depth, path)?;
     Ok(stage)
 }
 
 // Brings a table to a version, and draws the rows of a pass that name it.
-fn show_version<P: Filter, F: File>(
+fn show_version<Rt: Threads + Sync, P: Filter + Sync, F: File>(
+    rt: &Rt,
     stage: &mut Stage,
     store: &mut Store<F>,
     journal: &Journal,
-    shot: &Shot,
+    shot: &Shot<'_>,
     pass: &PassText,
     version: u64,
 ) -> Result<(), OutsideError>
@@ -139,7 +147,10 @@ fn show_version<P: Filter, F: File>(
     stage.table.advance(shot.geometry, journal, version);
     let samples = stage.samples.as_mut_slice();
     let counts = stage.counts.as_mut_slice();
-    draw_version::<P, F>(
+    let parts = stage.parts.as_mut_slice();
+    draw_version::<Rt, P, F>(
+        rt,
+        parts,
         &stage.table,
         &mut stage.tiles,
         store,
@@ -153,11 +164,12 @@ fn show_version<P: Filter, F: File>(
 }
 
 // Draws a pass of a picture: the table goes from version to version up to the last, and at each the rows that name it are drawn.
-fn show_pass<P: Filter, F: File>(
+fn show_pass<Rt: Threads + Sync, P: Filter + Sync, F: File>(
+    rt: &Rt,
     stage: &mut Stage,
     store: &mut Store<F>,
     journal: &Journal,
-    shot: &Shot,
+    shot: &Shot<'_>,
     pass: &PassText,
     last: u64,
 ) -> Result<(), OutsideError>
@@ -184,20 +196,21 @@ fn show_pass<P: Filter, F: File>(
 {
     let _newest = journal.version();
     for version in pass.start..last + 1 {
-        show_version::<P, F>(stage, store, journal, shot, pass, version)?;
+        show_version::<Rt, P, F>(rt, stage, store, journal, shot, pass, version)?;
     }
     Ok(())
 }
 
 // Draws a pass of a picture and writes the picture.
-fn play_pass<P: Filter, D: Folder>(
+fn play_pass<Rt: Threads + Sync, P: Filter + Sync, D: Folder>(
+    rt: &Rt,
     alloc: Global,
     folder: &mut D,
     prefix: &str,
     stage: &mut Stage,
     store: &mut Store<D::File>,
     journal: &Journal,
-    shot: &Shot,
+    shot: &Shot<'_>,
     pass: &PassText,
     last: u64,
 ) -> Result<(), OutsideError>
@@ -226,7 +239,7 @@ fn play_pass<P: Filter, D: Folder>(
         ⊎ Rose (D.File.faults store.old.file) (D.File.faults store.new.file) }
     ensures read { IsReadOn D.File.File store.old store.new }
 {
-    show_pass::<P, D::File>(stage, store, journal, shot, pass, last)?;
+    show_pass::<Rt, P, D::File>(rt, stage, store, journal, shot, pass, last)?;
     let pictures = shot.path.pictures();
     prove!(shot.picture < pictures);
     let picture = Picture {
@@ -267,7 +280,8 @@ fn last_of(text: &JournalText, i: u32) -> u64
 }
 
 // Draws and writes the last pass of each picture, in the order of the pictures. Answers their number.
-fn play_passes<P: Filter, D: Folder>(
+fn play_passes<Rt: Threads + Sync, P: Filter + Sync, D: Folder>(
+    rt: &Rt,
     alloc: Global,
     folder: &mut D,
     prefix: &str,
@@ -315,8 +329,8 @@ fn play_passes<P: Filter, D: Folder>(
         };
         let last = last_of(text, i);
         let journal = text.journal();
-        play_pass::<P, D>(
-            alloc, folder, prefix, stage, store, journal, &shot, pass, last,
+        play_pass::<Rt, P, D>(
+            rt, alloc, folder, prefix, stage, store, journal, &shot, pass, last,
         )?;
         done += 1;
     }
@@ -324,7 +338,8 @@ fn play_passes<P: Filter, D: Folder>(
 }
 
 /// Draws and writes the last pass of each picture of a journal whose pictures are all in the path. Answers their number.
-pub(crate) fn play<P: Filter, D: Folder>(
+pub(crate) fn play<Rt: Threads + Sync, P: Filter + Sync, D: Folder>(
+    rt: &Rt,
     alloc: Global,
     folder: &mut D,
     store: &mut Store<D::File>,
@@ -350,6 +365,6 @@ pub(crate) fn play<P: Filter, D: Folder>(
     // From here on it is known that the geometry keeps its limits.
     let _side = geometry.tile();
     let journal = text.journal();
-    let mut stage = first_stage(alloc, &geometry, depth, path, journal)?;
-    play_passes::<P, D>(alloc, folder, prefix, &mut stage, store, path, text)
+    let mut stage = first_stage(rt, alloc, &geometry, depth, path, journal)?;
+    play_passes::<Rt, P, D>(rt, alloc, folder, prefix, &mut stage, store, path, text)
 }

@@ -105,6 +105,23 @@ impl<'a> Sight<'a> {
         }
     }
 
+    /// A look-up over the same, which has missed no tile.
+    pub(crate) fn again(&self) -> Sight<'a>
+        ensures { result ≡ sight_base self.now }
+    {
+        Sight {
+            geometry: self.geometry,
+            table: self.table,
+            tiles: self.tiles,
+            depth: self.depth,
+            page: 0,
+            tile: None,
+            missed: false,
+            used: Noted::new(),
+            missing: Noted::new(),
+        }
+    }
+
     /// Whether a tile was missed.
     pub(crate) fn missed(&self) -> bool
         ensures { result ≡ self.now.missed }

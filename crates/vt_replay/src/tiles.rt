@@ -216,7 +216,7 @@ impl Tiles {
         Ok(())
     }
 
-    /// Makes the tiles of pages the most recently used ones. They still are where the same were used last.
+    /// Makes the tiles of a row's pages the most recently used ones. They still are where the same were used last.
     pub(crate) fn touch(&mut self, used: &Noted)
         ensures size { self.new.size ≡ self.old.size }
         ensures slots { self.new.slots.items ≡ self.old.slots.items }
@@ -226,10 +226,20 @@ impl Tiles {
         if used.pages() == self.last.pages() {
             return;
         }
-        for page in used.pages() {
+        self.touch_all(used.pages());
+        self.last = *used;
+    }
+
+    /// Makes the tiles of pages the most recently used ones.
+    pub(crate) fn touch_all(&mut self, pages: &[u32])
+        ensures size { self.new.size ≡ self.old.size }
+        ensures slots { self.new.slots.items ≡ self.old.slots.items }
+        ensures owners { self.new.owners.items ≡ self.old.owners.items }
+        ensures bytes { self.new.bytes.items ≡ self.old.bytes.items }
+    {
+        for page in pages {
             self.touch_page(*page);
         }
-        self.last = *used;
     }
 
     // Makes the slot of a page's tile the most recently used one, if the tile is at hand.

@@ -7,6 +7,7 @@ use crate::fixtures::{
 };
 use std::alloc::Global;
 use std::process::Abort;
+use std::thread::Threads;
 use vt_camera::Path;
 use vt_outside::{MemoryFolder, NoMemory, Place};
 use vt_replay::replay;
@@ -30,15 +31,15 @@ fn was_asked(folder: &MemoryFolder, asked: Option<&[Place]>) -> bool {
 }
 
 /// Replays a journal over the store of a folder: whether all came of it that was to come.
-pub fn replay_comes(
-    rt: &impl Abort,
+pub fn replay_comes<Rt: Abort + Threads + Sync>(
+    rt: &Rt,
     alloc: Global,
     folder: &mut MemoryFolder,
     path: &Path,
     case: &Replay<'_>,
 ) -> bool {
     let store = open_store(rt, folder, "s");
-    match replay(alloc, folder, store, path, case.journal, "f") {
+    match replay(rt, alloc, folder, store, path, case.journal, "f") {
         Ok(count) => {
             count as usize == case.pictures.len()
                 && pictures_stand(folder, case.pictures)

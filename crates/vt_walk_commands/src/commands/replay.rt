@@ -12,6 +12,7 @@ ghost use Rattle.vt_inputs.specs.Terms.{EndsBy};
 ghost use Rattle.vt_walk_commands.specs.commands.Replay.{under_by, replay_terms, RefusedBeside, IsAnswer, flaw_of_replay};
 
 use std::alloc::Global;
+use std::thread::Threads;
 use vt_bilinear::replay_blend;
 use vt_camera::Path;
 use vt_filter::Nearest;
@@ -23,7 +24,8 @@ use vt_words::{Filtering, ReplayWords};
 
 /// Reads the path, opens the store and reads the journal, writes each picture of the journal under its name, and puts
 /// the end line.
-pub fn replay<'a, D: Folder, O: Sink>(
+pub fn replay<'a, Rt: Threads + Sync, D: Folder, O: Sink>(
+    rt: &Rt,
     alloc: Global,
     words: &ReplayWords<'a>,
     folder: &mut D,
@@ -36,6 +38,7 @@ pub fn replay<'a, D: Folder, O: Sink>(
     let store = open_store(folder, words.store)?;
     let (store, text) = read_beside(alloc, folder, store, words.journal)?;
     let played = play(
+        rt,
         words.filter,
         alloc,
         folder,
@@ -72,7 +75,8 @@ fn read_beside<'a, D: Folder>(
 }
 
 // Draws the pictures of a journal by a filter, and closes the store.
-fn play<D: Folder>(
+fn play<Rt: Threads + Sync, D: Folder>(
+    rt: &Rt,
     filter: Filtering,
     alloc: Global,
     folder: &mut D,
@@ -91,8 +95,10 @@ fn play<D: Folder>(
         (D.asked folder.old) (D.asked folder.new) }
 {
     match filter {
-        Filtering::Nearest => replay_by::<Nearest, D>(alloc, folder, store, path, journal, prefix),
-        Filtering::Bilinear => replay_blend(alloc, folder, store, path, journal, prefix),
+        Filtering::Nearest => replay_by::<Rt, Nearest, D>(
+            rt, alloc, folder, store, path, journal, prefix,
+        ),
+        Filtering::Bilinear => { replay_blend(rt, alloc, folder, store, path, journal, prefix) }
     }
 }
 

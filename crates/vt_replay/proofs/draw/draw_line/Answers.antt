@@ -1,23 +1,22 @@
-use Rattle.std.proofs.Common.{refl, arith}
+use Rattle.std.proofs.Common.{ℕ, List, Option, refl, subst, arith}
+use Rattle.vt_replay.specs.Trying.{sight_of, HoldsTiles}
 use Rattle.vt_replay.proofs.Reading.{read_then}
-use Rattle.vt_replay.proofs.Readying.{ready_after}
+use Rattle.vt_replay.proofs.Readying.{ready_after, ready_sight}
 use Rattle.vt_replay.proofs.Tiling.{tiles_under}
 use Rattle.vt_replay.proofs.draw.draw_line.Goals as goal
 
-pub try_line-tried-requires-clause-room : goal.try_line-tried-requires-clause-room
-try_line-tried-requires-clause-room g c = λ p inside.
+pub try_once-tried-requires-clause-room : goal.try_once-tried-requires-clause-room
+try_once-tried-requires-clause-room g c = λ p inside.
     let counted = c.loop-round.invariant.counted p inside in
     let room = c.requires.room p (omega arith) in
     omega (arith, counted, room)
 
-pub try_line-tried-requires-clause-size : goal.try_line-tried-requires-clause-size
-try_line-tried-requires-clause-size g c = c.loop-round.invariant.ready.tiles.size_is
-
-pub try_line-tried-requires-clause-slots : goal.try_line-tried-requires-clause-slots
-try_line-tried-requires-clause-slots g c = c.loop-round.invariant.ready.tiles.all_slots
-
-pub try_line-tried-requires-clause-rooms : goal.try_line-tried-requires-clause-rooms
-try_line-tried-requires-clause-rooms g c = c.loop-round.invariant.ready.tiles.all_bytes
+pub try_once-tried-requires-clause-sight : goal.try_once-tried-requires-clause-sight
+try_once-tried-requires-clause-sight g c =
+    let shot = c.args.shot.now in
+    let tiles = c.loop-round.tiles in
+    ready_sight g.F.File shot.geometry.now shot.depth c.args.table.now.version tiles.size c.args.table.now.entries.items tiles.slots.items
+    tiles.owners.items tiles.bytes.items c.loop-round.store c.requires.depth c.loop-round.invariant.ready
 
 pub returns-in_err-bring_all-clause-read : goal.returns-in_err-bring_all-clause-read
 returns-in_err-bring_all-clause-read g c =
@@ -47,3 +46,10 @@ returns-clause-read g c = c.loop-round.invariant.read
 
 pub returns-then-not-tried-clause-read : goal.returns-then-not-tried-clause-read
 returns-then-not-tried-clause-read g c = c.loop-round.invariant.read
+
+pub returns-then-not-tried-clause-shown : goal.returns-then-not-tried-clause-shown
+returns-then-not-tried-clause-shown g c =
+    let shot = c.args.shot.now in
+    let loop = c.loop-round in
+    let held = subst (λ (o : Option (List ℕ)). HoldsTiles shot.geometry.now shot.depth (sight_of shot.geometry.now shot.depth c.args.table.now loop.tiles) o) loop.invariant.read.bytes loop.invariant.ready.tiles in
+    c.try_once-tried.ensures.shown c.if-not-tried.true (g.F.File.bytes c.args.store.now.file) held

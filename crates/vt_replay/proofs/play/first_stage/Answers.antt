@@ -4,10 +4,10 @@ use Rattle.vt_replay.proofs.Readying.{tiles_same}
 use Rattle.vt_replay.proofs.play.first_stage.Goals as goal
 
 pub returns-clause-first : goal.returns-clause-first
-returns-clause-first c = c.in_ok-stage.ensures.version ∙ c.in_ok-table.ensures.first
+returns-clause-first g c = c.in_ok-stage.ensures.version ∙ c.in_ok-table.ensures.first
 
 pub returns-clause-follows : goal.returns-clause-follows
-returns-clause-follows c =
+returns-clause-follows g c =
     let s = c.args.geometry.now in
     let js = c.args.journal.now.changes in
     let stage = c.in_ok-stage.stage in
@@ -16,7 +16,7 @@ returns-clause-follows c =
     (subst (λ (n : ℕ). Follows s js table.entries.items n) (sym c.in_ok-stage.ensures.version) c.in_ok-table.ensures.follows)
 
 pub returns-clause-tiles : goal.returns-clause-tiles
-returns-clause-tiles c = λ told.
+returns-clause-tiles g c = λ told.
     let tiles = c.in_ok-tiles.tiles in
     let new = c.in_ok-stage.stage.tiles in
     let did = c.in_ok-stage.ensures in
@@ -24,7 +24,7 @@ returns-clause-tiles c = λ told.
     new.slots.items new.owners.items new.bytes.items told did.size did.slots did.owners did.bytes (c.in_ok-tiles.ensures told)
 
 pub returns-clause-samples : goal.returns-clause-samples
-returns-clause-samples c = c.in_ok-stage.ensures.samples
+returns-clause-samples g c = c.in_ok-stage.ensures.samples
 
 pub returns-clause-counts : goal.returns-clause-counts
-returns-clause-counts c = c.in_ok-stage.ensures.counts
+returns-clause-counts g c = c.in_ok-stage.ensures.counts

@@ -22,8 +22,8 @@ returns-clause-shown g c = λ b told y row is named x inside.
     (length c.draw_version.new.samples) stage.samples.items) ≡ c.draw_version.new.samples =
     written_back stage.samples.len c.draw_version.new.samples stage.samples.items (omega arith) (omega arith) in
     let agrees : entries_of c.advance.new.self.entries.items ≡ at js c.args.version = c.advance.ensures.follows.agrees ∙ ap (at js) c.advance.ensures.there in
-    let shown = c.in_ok-draw_version.ensures.shown b told (c.requires.staged.store_is.each b told) y row
-    (ap (λ (rs : List RowLine). slice_get rs y) c.slice.ensures ∙ is) named in
+    let shown = c.in_ok-draw_version.ensures.shown y row (ap (λ (rs : List RowLine). slice_get rs y) c.slice.ensures ∙ is) named b told
+    (c.requires.staged.store_is.each b told) in
     let moved = subst (λ (m : Table). HasPixels shot.depth shot.path.now.width (λ k. g.P.Filter.under (stored b) scene m shot.picture k y)
     (row_of wide c.draw_version.new.samples y)) agrees shown in
     ap (λ (s : List ℕ). texel_bytes shot.depth (row_of wide s y) x) samples ∙ moved x inside

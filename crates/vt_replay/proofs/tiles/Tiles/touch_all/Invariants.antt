@@ -1,5 +1,5 @@
 use Rattle.std.proofs.Common.{◌≡◌}
-use Rattle.vt_replay.proofs.tiles.Tiles.touch.Given as goal
+use Rattle.vt_replay.proofs.tiles.Tiles.touch_all.Given as goal
 
 -- the tiles stay
 abbrev pub invariant-loop-page : goal.invariant-loop-page
