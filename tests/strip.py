@@ -3,6 +3,7 @@
 the same with the level of what each pixel shows in a colour.
 
 usage: strip.py strip NAME.png [PROGRAM [PICTURES]]   (crates/vtex/out/vtex and 0,1,2,6 where they are not given)
+       strip.py filters NAME.png [PROGRAM]            makes the two pictures near the ground, by the nearest texel and by bilinear filtering
        strip.py terrain NAME.ppm                      writes the texture that it looks at, a map of 2,048x2,048 texels that wraps around
        strip.py path NAME                             writes the path: twelve pictures from one camera
 
@@ -23,6 +24,7 @@ from stores import Path, Store, contents, row_shown
 TOP = os.path.dirname(os.path.dirname(os.path.abspath(__file__)))
 SIDE, REACH, GAP = 2048, 192, 4
 PATH = b"size 320 200\nfocal 100\n" + b"at 131072 131072 51200 11585 11585\n" * 12
+NEAR = b"size 320 200\nfocal 100\nat 131072 131072 8192 11585 11585\n"
 OPTIONS = ["--frames", "256", "--samplers", "1", "--loaders", "1", "--batch", "12"]
 COLOURS = [(255, 255, 204), (255, 217, 118), (254, 178, 76), (252, 78, 42), (177, 0, 38), (84, 39, 136)]
 GROUNDS = [(70, 30, 60, 110), (84, 44, 92, 150), (90, 214, 200, 150), (140, 80, 140, 60), (175, 60, 100, 50), (205, 130, 115, 100), (256, 240, 240, 245)]
@@ -119,5 +121,23 @@ def strip(name, program=os.path.join(TOP, "crates/vtex/out/vtex"), numbers="0,1,
         file.write(png(width, rows))
 
 
+def filters(name, program=os.path.join(TOP, "crates/vtex/out/vtex")):
+    name, program = os.path.abspath(name), os.path.abspath(program)
+    with tempfile.TemporaryDirectory() as folder:
+        os.chdir(folder)
+        terrain("terrain.ppm")
+        with open("near.path", "wb") as file:
+            file.write(NEAR)
+        pictures, begin = [], len(b"P6\n320 200\n255\n")
+        for filtering in ("nearest", "bilinear"):
+            subprocess.run([program, "plain", "terrain.ppm", "near.path", filtering, "--filter", filtering], check=True)
+            drawn = contents(filtering + "0000.ppm")
+            pictures.append([drawn[at : at + 960] for at in range(begin, len(drawn), 960)])
+        os.chdir(TOP)
+    rows = beside(pictures)
+    with open(name, "wb") as file:
+        file.write(png(len(rows[0]) // 3, rows))
+
+
 if __name__ == "__main__":
-    {"strip": strip, "terrain": terrain, "path": write_path}[sys.argv[1]](*sys.argv[2:])
+    {"strip": strip, "filters": filters, "terrain": terrain, "path": write_path}[sys.argv[1]](*sys.argv[2:])
