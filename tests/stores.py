@@ -52,16 +52,16 @@ class Geometry:
         row, column = divmod(page - self.levels[level][4], self.levels[level][2])
         return level, column, row
 
-    def line_of(self, page):
+    def ancestors_of(self, page):
         """The page, its parent and so on up to the root."""
         if page not in self.lines:
             level, column, row = self.name_of(page)
-            above = [] if page == self.root else self.line_of(self.index_of(level + 1, column // 2, row // 2))
+            above = [] if page == self.root else self.ancestors_of(self.index_of(level + 1, column // 2, row // 2))
             self.lines[page] = [page] + above
         return self.lines[page]
 
     def look_up(self, table, page):
-        return next(other for other in self.line_of(page) if other in table)
+        return next(other for other in self.ancestors_of(page) if other in table)
 
     def pinned(self, levels):
         """The pages of the last so many levels."""

@@ -34,7 +34,7 @@ class Walk:
 
     def needed(self, picture):
         """How many pages that are not pinned stand in the lines of the pages that a picture wants."""
-        pages = {page for want in self.wants(picture) for page in self.geometry.line_of(want)}
+        pages = {page for want in self.wants(picture) for page in self.geometry.ancestors_of(want)}
         return len(pages.difference(self.pinned))
 
     def fits(self, picture):
@@ -105,18 +105,18 @@ class Run:
 
     def stamp(self, entries, wants):
         for place, want in enumerate(wants):
-            for page in self.walk.geometry.line_of(want):
+            for page in self.walk.geometry.ancestors_of(want):
                 if page in self.table and page not in self.walk.pinned:
                     stamp = (self.passes, entries + len(wants) - 1 - place, self.walk.geometry.name_of(page)[0])
                     self.stamps[page] = max(stamp, self.stamps[page])
 
     def plan_for(self, wants):
-        line_of, missing = self.walk.geometry.line_of, {}
+        ancestors_of, missing = self.walk.geometry.ancestors_of, {}
         for want in wants:
             if want not in self.table:
-                line = line_of(want)
+                line = ancestors_of(want)
                 missing[line[line.index(self.walk.geometry.look_up(self.table, want)) - 1]] = True
-        kept = {page for want in wants for page in line_of(want)}.union(self.walk.pinned)
+        kept = {page for want in wants for page in ancestors_of(want)}.union(self.walk.pinned)
         free = sorted(set(range(self.walk.settings.frames)).difference(self.table.values()))
         victims = sorted(set(self.table).difference(kept), key=lambda page: self.stamps[page])
         places = [(frame, None) for frame in free] + [(self.table[page], page) for page in victims]

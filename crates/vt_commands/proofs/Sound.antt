@@ -1,10 +1,10 @@
--- What is known of the terms of every command.
+-- What is known of the specification of every command.
 use Rattle.std.proofs.Common.{[], List, refl, ap}
-use Rattle.vt_files.specs.Courses.{Course, FolderState, IsIdle}
-use Rattle.vt_inputs.specs.Inputs.{Input}
-use Rattle.vt_inputs.specs.Causes.{AsksInOrder}
-use Rattle.vt_inputs.specs.Tasks.{Task}
-use Rattle.vt_inputs.specs.Terms.{task_terms}
+use Rattle.vt_files.specs.Effects.{CallEffect, FolderState, IsIdle}
+use Rattle.vt_command_base.specs.Inputs.{Input}
+use Rattle.vt_command_base.specs.Causes.{AsksInOrder}
+use Rattle.vt_command_base.specs.Tasks.{Task}
+use Rattle.vt_command_base.specs.CommandSpecs.{task_spec}
 use Rattle.vt_store_commands.specs.commands.Plain.{plain_task}
 use Rattle.vt_store_commands.specs.commands.Tile.{tile_task}
 use Rattle.vt_store_commands.specs.commands.Info.{info_task}
@@ -13,16 +13,16 @@ use Rattle.vt_store_commands.specs.commands.Upgrade.{upgrade_task}
 use Rattle.vt_walk_commands.proofs.Sound.{AreSound, replay_sound, walk_sound, trial_sound}
 use Rattle.vt_words.specs.Commands.{CommandText, PlainCommand, TileCommand, InfoCommand, GenCommand, UpgradeCommand, ReplayCommand, WalkCommand, TrialCommand}
 use Rattle.vt_walk_commands.specs.Machines.{Machines, chosen}
-use Rattle.vt_commands.specs.commands.{terms_of}
+use Rattle.vt_commands.specs.commands.{spec_of}
 
 -- where nothing was asked, no input was
-asks_idle : (inputs : List Input) (c : Course) → IsIdle c → AsksInOrder inputs c.folder
+asks_idle : (inputs : List Input) (c : CallEffect) → IsIdle c → AsksInOrder inputs c.folder
 asks_idle inputs c idle = record { some = []; rest = inputs; split = refl; asked = ap (λ (s : FolderState). s.asked) idle.folder }
 
-task_sound : (task : Task) → AreSound (task_terms task)
+task_sound : (task : Task) → AreSound (task_spec task)
 task_sound task = record { one = λ contents a b x y. absurd x; idle = asks_idle task.inputs }
 
-pub sound : (m : Machines) (command : CommandText) → AreSound (terms_of m command)
+pub sound : (m : Machines) (command : CommandText) → AreSound (spec_of m command)
 sound m (PlainCommand words) = task_sound (plain_task words)
 sound m (TileCommand words) = task_sound (tile_task words)
 sound m (InfoCommand words) = task_sound (info_task words)

@@ -5,8 +5,8 @@ use Rattle.std.specs.Str.{bytes_eq}
 use Rattle.std.specs.declared.alloc.Global.{Global}
 use Rattle.std.proofs.lemmas.Bool.{false≢true}
 use Rattle.std.proofs.lemmas.Slice.Eq.{bytes_eq-Decides}
-use Rattle.vt_inputs.specs.Causes.{cause_status, IsFirstCause, AreHeld}
-use Rattle.vt_inputs.specs.Terms.{Terms, Hindrance, hindrance_status, DoneBy, LeftBy, IsHindered, HasFaultBy, HasBadInputBy}
+use Rattle.vt_command_base.specs.Causes.{cause_status, IsFirstCause, AreHeld}
+use Rattle.vt_command_base.specs.CommandSpecs.{CommandSpec, Conflict, conflict_status, DoneBy, LeftBySpec, IsInConflict, HasFaultBy, HasBadInputBy}
 use Rattle.vt_words.specs.Arguments.{texts}
 use Rattle.vt_words.specs.Plain.{plain_text}
 use Rattle.vt_words.specs.Tile.{tile_text}
@@ -18,9 +18,9 @@ use Rattle.vt_words.specs.Walk.{walk_text}
 use Rattle.vt_words.specs.Trial.{trial_text}
 use Rattle.vt_words.specs.Commands.{CommandText, PlainCommand, TileCommand, InfoCommand, GenCommand, UpgradeCommand, ReplayCommand, WalkCommand, TrialCommand, named_text}
 use Rattle.vt_walk_commands.specs.Machines.{Machines}
-use Rattle.vt_commands.specs.commands.{terms_of}
+use Rattle.vt_commands.specs.commands.{spec_of}
 use Rattle.vt_commands.specs.Waits.{is_waiting_name, may_wait, MayWait}
-use Rattle.vt_commands.specs.Runs.{Run, Asks, AsksNothing, RunBadInput, RunHindered, RunCaused, RunStopped, RunComplete, IsRun}
+use Rattle.vt_commands.specs.Runs.{Run, Asks, AsksNothing, RunBadInput, RunInConflict, RunCaused, RunStopped, RunComplete, IsRun}
 
 -- the first word says whether words may wait
 pub first_waits : (words : List (String Global)) (name : String Global) (text : List ℕ) → 1 ≤ length words → name ≡ get_or words 0 name
@@ -84,8 +84,8 @@ pub is_waiting : (words : List (List ℕ)) → may_wait words ≡ true → (comm
 is_waiting [] is command asks = absurd (false≢true is)
 is_waiting (name ∷ words) is command asks = named_waiting name (name ∷ words) command (one_of _ _ is) asks
 
--- what holds of the terms of a command that waits for nobody holds of them by any machine
-carried : (m n : Machines) (F : Terms → Type 0) (command : CommandText) → (MayWait command → ⊥) → F (terms_of m command) → F (terms_of n command)
+-- what holds of the specification of a command that waits for nobody holds of them by any machine
+carried : (m n : Machines) (F : CommandSpec → Type 0) (command : CommandText) → (MayWait command → ⊥) → F (spec_of m command) → F (spec_of n command)
 carried m n F (PlainCommand words) free x = x
 carried m n F (TileCommand words) free x = x
 carried m n F (InfoCommand words) free x = x
@@ -99,20 +99,20 @@ carried m n F (TrialCommand words) free x = absurd (free tt)
 abbrev pub by_others : Machines → Run → Run
 by_others machines run = record run { machines = machines }
 
-hindered_by : (n : Machines) (run : Run) (status : ℕ) → may_wait run.words ≡ false → RunHindered run status → RunHindered (by_others n run) status
-hindered_by n run status never h = record {
+in_conflict_by : (n : Machines) (run : Run) (status : ℕ) → may_wait run.words ≡ false → RunInConflict run status → RunInConflict (by_others n run) status
+in_conflict_by n run status never h = record {
   command = h.command;
   asks = h.asks;
-  hindrance = h.hindrance;
+  conflict = h.conflict;
   comes = h.comes;
-  met = carried run.machines n (λ terms. IsHindered terms run.course h.hindrance) h.command (is_at_once run.words never h.command h.asks) h.met;
+  met = carried run.machines n (λ spec. IsInConflict spec run.call_effect h.conflict) h.command (is_at_once run.words never h.command h.asks) h.met;
   told = h.told;
 }
 
-usage_by : (n : Machines) (run : Run) → may_wait run.words ≡ false → AsksNothing run.words ⊎ RunHindered run 2
-    → AsksNothing run.words ⊎ RunHindered (by_others n run) 2
+usage_by : (n : Machines) (run : Run) → may_wait run.words ≡ false → AsksNothing run.words ⊎ RunInConflict run 2
+    → AsksNothing run.words ⊎ RunInConflict (by_others n run) 2
 usage_by n run never (inl none) = inl none
-usage_by n run never (inr h) = inr (hindered_by n run 2 never h)
+usage_by n run never (inr h) = inr (in_conflict_by n run 2 never h)
 
 bad_input_by : (n : Machines) (run : Run) → may_wait run.words ≡ false → RunBadInput run → RunBadInput (by_others n run)
 bad_input_by n run never b = record {
@@ -120,26 +120,26 @@ bad_input_by n run never b = record {
   asks = b.asks;
   name = b.name;
   flaw = b.flaw;
-  bad = carried run.machines n (λ terms. HasBadInputBy terms run.course b.name b.flaw) b.command (is_at_once run.words never b.command b.asks) b.bad;
+  bad = carried run.machines n (λ spec. HasBadInputBy spec run.call_effect b.name b.flaw) b.command (is_at_once run.words never b.command b.asks) b.bad;
   told = b.told;
 }
 
 caused_by : (n : Machines) (run : Run) (status : ℕ) → may_wait run.words ≡ false → RunCaused run status → RunCaused (by_others n run) status
 caused_by n run status never r = λ p cause asks.
-    carried run.machines n (λ terms. (terms.failed run.course → ⊥) → IsFirstCause run.course.folder.before.files terms.inputs cause
+    carried run.machines n (λ spec. (spec.failed run.call_effect → ⊥) → IsFirstCause run.call_effect.folder.before.files spec.inputs cause
     → (status ≡ cause_status cause) ⊎ (status ≡ 1))
     p (is_at_once run.words never p asks) (λ none first. r p cause asks none first)
 
 stopped_by : (n : Machines) (run : Run) (status : ℕ) → may_wait run.words ≡ false → RunStopped run status → RunStopped (by_others n run) status
-stopped_by n run status never r = λ p contents hindrance asks.
-    carried run.machines n (λ terms. (terms.failed run.course → ⊥) → AreHeld run.course.folder.before.files terms.inputs contents
-    → terms.hinders contents hindrance → (status ≡ hindrance_status hindrance) ⊎ (status ≡ 1))
-    p (is_at_once run.words never p asks) (λ none held hinders. r p contents hindrance asks none held hinders)
+stopped_by n run status never r = λ p contents conflict asks.
+    carried run.machines n (λ spec. (spec.failed run.call_effect → ⊥) → AreHeld run.call_effect.folder.before.files spec.inputs contents
+    → spec.conflicts contents conflict → (status ≡ conflict_status conflict) ⊎ (status ≡ 1))
+    p (is_at_once run.words never p asks) (λ none held conflicts. r p contents conflict asks none held conflicts)
 
 complete_by : (n : Machines) (run : Run) (status : ℕ) → may_wait run.words ≡ false → RunComplete run status → RunComplete (by_others n run) status
 complete_by n run status never r = λ p contents asks.
-    carried run.machines n (λ terms. (terms.failed run.course → ⊥) → AreHeld run.course.folder.before.files terms.inputs contents
-    → ((hindrance : Hindrance) → terms.hinders contents hindrance → ⊥) → (status ≡ 0) ⊎ (status ≡ 1))
+    carried run.machines n (λ spec. (spec.failed run.call_effect → ⊥) → AreHeld run.call_effect.folder.before.files spec.inputs contents
+    → ((conflict : Conflict) → spec.conflicts contents conflict → ⊥) → (status ≡ 0) ⊎ (status ≡ 1))
     p (is_at_once run.words never p asks) (λ none held met. r p contents asks none held met)
 
 -- a run that waits for nobody is one by any machine
@@ -148,18 +148,18 @@ by_any n run status never r = record {
   statuses = r.statuses;
   done = λ s.
       let d = r.done s in
-      (d.0, d.1, carried run.machines n (λ terms. DoneBy terms run.course) d.0 (is_at_once run.words never d.0 d.1) d.2);
-  left = λ s p asks. carried run.machines n (λ terms. LeftBy terms run.course) p (is_at_once run.words never p asks) (r.left s p asks);
+      (d.0, d.1, carried run.machines n (λ spec. DoneBy spec run.call_effect) d.0 (is_at_once run.words never d.0 d.1) d.2);
+  left = λ s p asks. carried run.machines n (λ spec. LeftBySpec spec run.call_effect) p (is_at_once run.words never p asks) (r.left s p asks);
   untouched = r.untouched;
-  asked = λ p asks. carried run.machines n (λ terms. terms.asks run.course) p (is_at_once run.words never p asks) (r.asked p asks);
+  asked = λ p asks. carried run.machines n (λ spec. spec.asks run.call_effect) p (is_at_once run.words never p asks) (r.asked p asks);
   idle = r.idle;
   usage = λ s. usage_by n run never (r.usage s);
   no_command = r.no_command;
   fault = λ s.
       let f = r.fault s in
-      (f.0, f.1, carried run.machines n (λ terms. HasFaultBy terms run.course) f.0 (is_at_once run.words never f.0 f.1) f.2);
+      (f.0, f.1, carried run.machines n (λ spec. HasFaultBy spec run.call_effect) f.0 (is_at_once run.words never f.0 f.1) f.2);
   bad_input = λ s. bad_input_by n run never (r.bad_input s);
-  hindered = λ s. hindered_by n run 5 never (r.hindered s);
+  in_conflict = λ s. in_conflict_by n run 5 never (r.in_conflict s);
   caused = caused_by n run status never r.caused;
   stopped = stopped_by n run status never r.stopped;
   complete = complete_by n run status never r.complete;

@@ -3,29 +3,29 @@ use Rattle.std.specs.Prelude.{◌≡◌, ◌≢◌, ◌≤◌, ◌⊎◌, ℕ, L
 use Rattle.vt_outside.specs.declared.outside.Folder.{Ghosts as FolderMeanings}
 use Rattle.vt_outside.specs.declared.outside.Sink.{Ghosts as SinkMeanings}
 use Rattle.vt_print.specs.Places.{bad_input_line}
-use Rattle.vt_files.specs.Courses.{Course, Gain, course, gain, IsUntouched, IsIdle}
-use Rattle.vt_inputs.specs.Flaws.{flaw_place}
-use Rattle.vt_inputs.specs.Inputs.{Content}
-use Rattle.vt_inputs.specs.Lines.{memory_line, usage_line, fault_line}
-use Rattle.vt_inputs.specs.Refusals.{Told}
-use Rattle.vt_inputs.specs.Causes.{Cause, cause_status, IsFirstCause, AreHeld}
-use Rattle.vt_inputs.specs.Terms.{Hindrance, hindrance_status, hindrance_line, DoneBy, LeftBy, IsHindered, HasFaultBy, HasBadInputBy}
+use Rattle.vt_files.specs.Effects.{CallEffect, SinkEffect, call_effect, sink_effect, IsWithoutEffect, IsIdle}
+use Rattle.vt_command_base.specs.Flaws.{flaw_place}
+use Rattle.vt_command_base.specs.Inputs.{Content}
+use Rattle.vt_command_base.specs.Lines.{memory_line, usage_line, fault_line}
+use Rattle.vt_command_base.specs.Refusals.{Told}
+use Rattle.vt_command_base.specs.Causes.{Cause, cause_status, IsFirstCause, AreHeld}
+use Rattle.vt_command_base.specs.CommandSpecs.{Conflict, conflict_status, conflict_line, DoneBy, LeftBySpec, IsInConflict, HasFaultBy, HasBadInputBy}
 use Rattle.vt_words.specs.Commands.{CommandText, command_text}
 use Rattle.vt_walk_commands.specs.Machines.{Machines}
-use Rattle.vt_commands.specs.commands.{terms_of}
-use Rattle.vt_inputs.specs.declared.flaws.Flaw.{Flaw}
+use Rattle.vt_commands.specs.commands.{spec_of}
+use Rattle.vt_command_base.specs.declared.flaws.Flaw.{Flaw}
 
 -- a run: the kinds of machines by which it may walk, its words, the folder and the output before and after it, and the error output
 pub record Run : Type 1 where
   pub machines : Machines
   pub words : List (List ℕ)
-  pub course : Course
-  pub err : Gain
+  pub call_effect : CallEffect
+  pub err : SinkEffect
 
 -- the run with kinds of machines, words, and a folder, an output and an error output before and after it
 abbrev pub run_of : {D F O E : Type 0} → Machines → FolderMeanings D F → SinkMeanings O → SinkMeanings E → List (List ℕ) → D → D → O → O → E → E → Run
 run_of machines d o e words folder_old folder_new out_old out_new err_old err_new =
-    record { machines = machines; words = words; course = course d o folder_old folder_new out_old out_new; err = gain e err_old err_new }
+    record { machines = machines; words = words; call_effect = call_effect d o folder_old folder_new out_old out_new; err = sink_effect e err_old err_new }
 
 -- the words ask for a command
 abbrev pub Asks : List (List ℕ) → CommandText → Type 0
@@ -37,19 +37,19 @@ AsksNothing words = IsNone (command_text words)
 
 -- the words' command is done
 abbrev pub RunDone : Run → Type 0
-RunDone run = (command : CommandText) × Asks run.words command × DoneBy (terms_of run.machines command) run.course
+RunDone run = (command : CommandText) × Asks run.words command × DoneBy (spec_of run.machines command) run.call_effect
 
--- the words' command left a part of what is due
+-- the words' command left a part of what is expected
 abbrev pub RunLeft : Run → Type 0
-RunLeft run = (command : CommandText) → Asks run.words command → LeftBy (terms_of run.machines command) run.course
+RunLeft run = (command : CommandText) → Asks run.words command → LeftBySpec (spec_of run.machines command) run.call_effect
 
 -- nothing was asked but what the words' command asks
 abbrev pub RunAsked : Run → Type 0
-RunAsked run = (command : CommandText) → Asks run.words command → (terms_of run.machines command).asks run.course
+RunAsked run = (command : CommandText) → Asks run.words command → (spec_of run.machines command).asks run.call_effect
 
 -- a call failed, or the first cause among the inputs is a missing name
 abbrev pub RunFault : Run → Type 0
-RunFault run = (command : CommandText) × Asks run.words command × HasFaultBy (terms_of run.machines command) run.course
+RunFault run = (command : CommandText) × Asks run.words command × HasFaultBy (spec_of run.machines command) run.call_effect
 
 -- an input is refused for a flaw, and its line was told
 pub record RunBadInput (run : Run) : Type 0 where
@@ -57,54 +57,54 @@ pub record RunBadInput (run : Run) : Type 0 where
   pub asks : Asks run.words command
   pub name : List ℕ
   pub flaw : Flaw
-  pub bad : HasBadInputBy (terms_of run.machines command) run.course name flaw
+  pub bad : HasBadInputBy (spec_of run.machines command) run.call_effect name flaw
   pub told : Told (bad_input_line name (flaw_place flaw)) run.err
 
 -- something of this status stands in the way of what the inputs hold together, and its line was told
-pub record RunHindered (run : Run) (status : ℕ) : Type 0 where
+pub record RunInConflict (run : Run) (status : ℕ) : Type 0 where
   pub command : CommandText
   pub asks : Asks run.words command
-  pub hindrance : Hindrance
-  pub comes : hindrance_status hindrance ≡ status
-  pub met : IsHindered (terms_of run.machines command) run.course hindrance
-  pub told : Told (hindrance_line hindrance) run.err
+  pub conflict : Conflict
+  pub comes : conflict_status conflict ≡ status
+  pub met : IsInConflict (spec_of run.machines command) run.call_effect conflict
+  pub told : Told (conflict_line conflict) run.err
 
 -- where no call failed, the status is that of the first cause among the inputs, but for want of memory
 abbrev pub RunCaused : Run → ℕ → Type 0
-RunCaused run status = (command : CommandText) (cause : Cause) → Asks run.words command → ((terms_of run.machines command).failed run.course → ⊥)
-    → IsFirstCause run.course.folder.before.files (terms_of run.machines command).inputs cause → (status ≡ cause_status cause) ⊎ (status ≡ 1)
+RunCaused run status = (command : CommandText) (cause : Cause) → Asks run.words command → ((spec_of run.machines command).failed run.call_effect → ⊥)
+    → IsFirstCause run.call_effect.folder.before.files (spec_of run.machines command).inputs cause → (status ≡ cause_status cause) ⊎ (status ≡ 1)
 
 -- where no call failed and the inputs are accepted, the status is that of what stands in the way of what they hold
 abbrev pub RunStopped : Run → ℕ → Type 0
-RunStopped run status = (command : CommandText) (contents : List Content) (hindrance : Hindrance) → Asks run.words command
-    → ((terms_of run.machines command).failed run.course → ⊥)
-    → AreHeld run.course.folder.before.files (terms_of run.machines command).inputs contents
-    → (terms_of run.machines command).hinders contents hindrance → (status ≡ hindrance_status hindrance) ⊎ (status ≡ 1)
+RunStopped run status = (command : CommandText) (contents : List Content) (conflict : Conflict) → Asks run.words command
+    → ((spec_of run.machines command).failed run.call_effect → ⊥)
+    → AreHeld run.call_effect.folder.before.files (spec_of run.machines command).inputs contents
+    → (spec_of run.machines command).conflicts contents conflict → (status ≡ conflict_status conflict) ⊎ (status ≡ 1)
 
 -- and where nothing does, it is 0
 abbrev pub RunComplete : Run → ℕ → Type 0
 RunComplete run status = (command : CommandText) (contents : List Content) → Asks run.words command
-    → ((terms_of run.machines command).failed run.course → ⊥)
-    → AreHeld run.course.folder.before.files (terms_of run.machines command).inputs contents
-    → ((hindrance : Hindrance) → (terms_of run.machines command).hinders contents hindrance → ⊥) → (status ≡ 0) ⊎ (status ≡ 1)
+    → ((spec_of run.machines command).failed run.call_effect → ⊥)
+    → AreHeld run.call_effect.folder.before.files (spec_of run.machines command).inputs contents
+    → ((conflict : Conflict) → (spec_of run.machines command).conflicts contents conflict → ⊥) → (status ≡ 0) ⊎ (status ≡ 1)
 
 -- all that the top call says of a run that answered this status
 pub record IsRun (run : Run) (status : ℕ) : Type 0 where
   pub statuses : status ≤ 5
-  -- on status 0 all that is due stands, else a part of it, in its order
+  -- on status 0 all that is expected stands, else a part of it, in its order
   pub done : status ≡ 0 → RunDone run
   pub left : status ≢ 0 → RunLeft run
   -- words and inputs that are refused leave all as it was, whether the folder tells or not
-  pub untouched : (status ≡ 2) ⊎ (status ≡ 4) → IsUntouched run.course
+  pub untouched : (status ≡ 2) ⊎ (status ≡ 4) → IsWithoutEffect run.call_effect
   -- nothing but the command's inputs is read, and of words that are none of a command's the folder is not asked at all
   pub asked : RunAsked run
-  pub idle : AsksNothing run.words → IsIdle run.course
+  pub idle : AsksNothing run.words → IsIdle run.call_effect
   -- the causes of the refusals: the first among the inputs decides
-  pub usage : status ≡ 2 → AsksNothing run.words ⊎ RunHindered run 2
+  pub usage : status ≡ 2 → AsksNothing run.words ⊎ RunInConflict run 2
   pub no_command : AsksNothing run.words → (status ≡ 2) ⊎ (status ≡ 1)
   pub fault : status ≡ 3 → RunFault run
   pub bad_input : status ≡ 4 → RunBadInput run
-  pub hindered : status ≡ 5 → RunHindered run 5
+  pub in_conflict : status ≡ 5 → RunInConflict run 5
   -- where no call failed, the status is that of the first cause, and 0 where there is none; but memory may be wanting
   pub caused : RunCaused run status
   pub stopped : RunStopped run status

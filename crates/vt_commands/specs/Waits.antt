@@ -46,6 +46,6 @@ no_machine = record {
   drawn = λ path picture row version bytes. ⊥;
 }
 
--- with no machine: the terms of a command that waits for nobody are the same by any
+-- with no machine: the specification of a command that waits for nobody are the same by any
 abbrev pub no_machines : Machines
 no_machines = record { nearest = no_machine; bilinear = no_machine }

@@ -12,30 +12,30 @@ use Rattle.vt_words.specs.Commands.{
   TrialCommand,
   command_text,
 }
-use Rattle.vt_files.specs.Courses.{Course, IsIdle}
-use Rattle.vt_inputs.specs.Terms.{Terms, task_terms, EndsBy}
+use Rattle.vt_files.specs.Effects.{CallEffect, IsIdle}
+use Rattle.vt_command_base.specs.CommandSpecs.{CommandSpec, task_spec, EndsBy}
 use Rattle.vt_store_commands.specs.commands.Plain.{plain_task}
 use Rattle.vt_store_commands.specs.commands.Tile.{tile_task}
 use Rattle.vt_store_commands.specs.commands.Info.{info_task}
 use Rattle.vt_store_commands.specs.commands.Gen.{gen_task}
 use Rattle.vt_store_commands.specs.commands.Upgrade.{upgrade_task}
-use Rattle.vt_walk_commands.specs.commands.Replay.{replay_terms}
-use Rattle.vt_walk_commands.specs.commands.Walk.{walk_terms}
-use Rattle.vt_walk_commands.specs.commands.Trial.{trial_terms}
+use Rattle.vt_walk_commands.specs.commands.Replay.{replay_spec}
+use Rattle.vt_walk_commands.specs.commands.Walk.{walk_spec}
+use Rattle.vt_walk_commands.specs.commands.Trial.{trial_spec}
 use Rattle.vt_walk_commands.specs.Machines.{Machines, chosen}
-use Rattle.vt_inputs.specs.declared.refusal.Refusal.{Refusal}
-use Rattle.vt_inputs.specs.declared.refusal.Refusal.TheVariants.{NoMemory, Usage, Fault, Flawed, TooFewFrames, DoesNotFit}
+use Rattle.vt_command_base.specs.declared.refusal.Refusal.{Refusal}
+use Rattle.vt_command_base.specs.declared.refusal.Refusal.TheVariants.{NoMemory, Usage, Fault, Flawed, TooFewFrames, DoesNotFit}
 
--- the terms of a command by these machines
-abbrev pub terms_of : Machines → CommandText → Terms
-terms_of m (PlainCommand words) = task_terms (plain_task words)
-terms_of m (TileCommand words) = task_terms (tile_task words)
-terms_of m (InfoCommand words) = task_terms (info_task words)
-terms_of m (GenCommand words) = task_terms (gen_task words)
-terms_of m (UpgradeCommand words) = task_terms (upgrade_task words)
-terms_of m (ReplayCommand words) = replay_terms words
-terms_of m (WalkCommand words) = walk_terms (chosen m words) words
-terms_of m (TrialCommand words) = trial_terms words
+-- the specification of a command by these machines
+abbrev pub spec_of : Machines → CommandText → CommandSpec
+spec_of m (PlainCommand words) = task_spec (plain_task words)
+spec_of m (TileCommand words) = task_spec (tile_task words)
+spec_of m (InfoCommand words) = task_spec (info_task words)
+spec_of m (GenCommand words) = task_spec (gen_task words)
+spec_of m (UpgradeCommand words) = task_spec (upgrade_task words)
+spec_of m (ReplayCommand words) = replay_spec words
+spec_of m (WalkCommand words) = walk_spec (chosen m words) words
+spec_of m (TrialCommand words) = trial_spec words
 
 -- a refusal of words: they ask for nothing, or memory was wanting
 abbrev pub IsUnread : Option CommandText → Refusal → Type 0
@@ -47,17 +47,17 @@ IsUnread asked (TooFewFrames frames needed) = ⊥
 IsUnread asked (DoesNotFit picture wanted room) = ⊥
 
 -- the words were refused, and nothing was asked
-pub record IsRefused (words : List (List ℕ)) (c : Course) (refusal : Refusal) : Type 0 where
+pub record IsRefused (words : List (List ℕ)) (c : CallEffect) (refusal : Refusal) : Type 0 where
   pub unread : IsUnread (command_text words) refusal
   pub idle : IsIdle c
 
 -- the words are those of a command, which ended so
-pub record EndsCommand {T : Type 0} (m : Machines) (words : List (List ℕ)) (c : Course) (result : Result T Refusal) : Type 0 where
+pub record EndsCommand {T : Type 0} (m : Machines) (words : List (List ℕ)) (c : CallEffect) (result : Result T Refusal) : Type 0 where
   pub command : CommandText
   pub is : command_text words ≡ Some command
-  pub ends : EndsBy (terms_of m command) c result
+  pub ends : EndsBy (spec_of m command) c result
 
 -- how a run ends
-abbrev pub EndsRun : {T : Type 0} → Machines → List (List ℕ) → Course → Result T Refusal → Type 0
+abbrev pub EndsRun : {T : Type 0} → Machines → List (List ℕ) → CallEffect → Result T Refusal → Type 0
 EndsRun {T} m words c (Ok value) = EndsCommand {T = T} m words c (Ok value)
 EndsRun {T} m words c (Err refusal) = IsRefused words c refusal ⊎ EndsCommand {T = T} m words c (Err refusal)

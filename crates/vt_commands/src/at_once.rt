@@ -4,15 +4,15 @@
 ghost use Rattle.std.specs.Prelude.{◌≡◌, false};
 ghost use Rattle.vt_words.specs.Arguments.{texts};
 ghost use Rattle.vt_words.specs.Commands.{shown, IsLawful};
-ghost use Rattle.vt_files.specs.Courses.{course};
-ghost use Rattle.vt_inputs.specs.Terms.{EndsBy};
-ghost use Rattle.vt_commands.specs.commands.{terms_of, EndsRun};
+ghost use Rattle.vt_files.specs.Effects.{call_effect};
+ghost use Rattle.vt_command_base.specs.CommandSpecs.{EndsBy};
+ghost use Rattle.vt_commands.specs.commands.{spec_of, EndsRun};
 ghost use Rattle.vt_commands.specs.Waits.{is_waiting_name, may_wait, MayWait, no_machines};
 ghost use Rattle.vt_commands.specs.Runs.{run_of, IsRun};
 
 use std::alloc::Global;
 use std::thread::Threads;
-use vt_inputs::{Refusal, status_of, tell_end};
+use vt_command_base::{Refusal, status_of, tell_end};
 use vt_outside::{Folder, Sink};
 use vt_store_commands::{generate, info, plain, tile, upgrade};
 use vt_walk_commands::replay;
@@ -63,7 +63,7 @@ fn do_at_once<'a, Rt: Threads + Sync, D: Folder, O: Sink>(
     out: &mut O,
 ) -> Result<(), Refusal<'a>>
     requires { may_wait (texts words.now) ≡ false }
-    ensures { EndsRun no_machines (texts words.now) (course D.Folder O.Sink folder.old folder.new out.old out.new)
+    ensures { EndsRun no_machines (texts words.now) (call_effect D.Folder O.Sink folder.old folder.new out.old out.new)
         result }
 {
     let command = read_command(alloc, words)?;
@@ -80,8 +80,8 @@ fn perform_at_once<'a, Rt: Threads + Sync, D: Folder, O: Sink>(
 ) -> Result<(), Refusal<'a>>
     requires lawful { IsLawful command.now }
     requires at_once { MayWait (shown command.now) → ⊥ }
-    ensures { EndsBy (terms_of no_machines (shown command.now))
-        (course D.Folder O.Sink folder.old folder.new out.old out.new) result }
+    ensures { EndsBy (spec_of no_machines (shown command.now))
+        (call_effect D.Folder O.Sink folder.old folder.new out.old out.new) result }
 {
     match command {
         Command::Plain(words) => plain(rt, alloc, words, folder, out),

@@ -1,15 +1,15 @@
 //! The choice of the machine by which the words have a walk drawn: a machine is a type parameter, and an arm here.
 
 ghost use Rattle.vt_words.specs.Walk.{shown_walk, IsLawfulWalk};
-ghost use Rattle.vt_files.specs.Courses.{course};
-ghost use Rattle.vt_walk_commands.specs.commands.Walk.{walk_terms};
-ghost use Rattle.vt_inputs.specs.Terms.{EndsBy};
+ghost use Rattle.vt_files.specs.Effects.{call_effect};
+ghost use Rattle.vt_walk_commands.specs.commands.Walk.{walk_spec};
+ghost use Rattle.vt_command_base.specs.CommandSpecs.{EndsBy};
 ghost use Rattle.vt_walk_commands.specs.Machines.{machines_of, chosen};
 
 use std::alloc::Global;
 use std::sync::Wait;
 use std::thread::Threads;
-use vt_inputs::Refusal;
+use vt_command_base::Refusal;
 use vt_machine::PassMachine;
 use vt_outside::{Folder, Gate, Sink};
 use vt_walk_commands::walk;
@@ -35,8 +35,8 @@ pub fn walk_chosen<
     requires { IsLawfulWalk words.now }
     ensures { let machines = machines_of M.drawing M.drawn Blend.drawing Blend.drawn in
         let asked = shown_walk words.now in
-        EndsBy (walk_terms (chosen machines asked) asked)
-        (course D.Folder O.Sink folder.old folder.new out.old out.new) result }
+        EndsBy (walk_spec (chosen machines asked) asked)
+        (call_effect D.Folder O.Sink folder.old folder.new out.old out.new) result }
 {
     match words.filter {
         Filtering::Nearest => walk::<M, Rt, D, O, G>(rt, alloc, words, folder, out, gate),

@@ -4,10 +4,10 @@
 ghost use Rattle.std.specs.Prelude.{◌≡◌, true};
 ghost use Rattle.vt_words.specs.Arguments.{texts};
 ghost use Rattle.vt_words.specs.Commands.{shown, IsLawful};
-ghost use Rattle.vt_files.specs.Courses.{course};
+ghost use Rattle.vt_files.specs.Effects.{call_effect};
 ghost use Rattle.vt_walk_commands.specs.Machines.{machines_of};
-ghost use Rattle.vt_inputs.specs.Terms.{EndsBy};
-ghost use Rattle.vt_commands.specs.commands.{terms_of, EndsRun};
+ghost use Rattle.vt_command_base.specs.CommandSpecs.{EndsBy};
+ghost use Rattle.vt_commands.specs.commands.{spec_of, EndsRun};
 ghost use Rattle.vt_commands.specs.Waits.{may_wait, MayWait};
 ghost use Rattle.vt_commands.specs.Runs.{run_of, IsRun};
 
@@ -15,7 +15,7 @@ use crate::choice::walk_chosen;
 use std::alloc::Global;
 use std::sync::Wait;
 use std::thread::Threads;
-use vt_inputs::{Refusal, status_of, tell_end};
+use vt_command_base::{Refusal, status_of, tell_end};
 use vt_machine::PassMachine;
 use vt_outside::{Folder, Gate, Sink};
 use vt_walk_commands::trial;
@@ -67,7 +67,7 @@ fn do_waiting<
 ) -> Result<(), Refusal<'a>>
     requires { may_wait (texts words.now) ≡ true }
     ensures { EndsRun (machines_of M.drawing M.drawn Blend.drawing Blend.drawn) (texts words.now)
-        (course D.Folder O.Sink folder.old folder.new out.old out.new) result }
+        (call_effect D.Folder O.Sink folder.old folder.new out.old out.new) result }
 {
     let command = read_command(alloc, words)?;
     perform_waiting::<M, Blend, Rt, D, O, G>(rt, alloc, &command, folder, out, gate)
@@ -92,8 +92,8 @@ fn perform_waiting<
 ) -> Result<(), Refusal<'a>>
     requires lawful { IsLawful command.now }
     requires waits { MayWait (shown command.now) }
-    ensures { EndsBy (terms_of (machines_of M.drawing M.drawn Blend.drawing Blend.drawn) (shown command.now))
-        (course D.Folder O.Sink folder.old folder.new out.old out.new) result }
+    ensures { EndsBy (spec_of (machines_of M.drawing M.drawn Blend.drawing Blend.drawn) (shown command.now))
+        (call_effect D.Folder O.Sink folder.old folder.new out.old out.new) result }
 {
     match command {
         Command::Walk(words) => {

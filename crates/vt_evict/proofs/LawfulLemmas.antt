@@ -18,7 +18,7 @@ use Rattle.vt_pages.proofs.Steps.{step_root, step_below, step_up}
 use Rattle.vt_feedback.specs.declared.Wanted.{Wanted}
 use Rattle.vt_feedback.specs.Wants.{pages_wanted}
 use Rattle.vt_plan.specs.declared.batches.Planned.{Planned}
-use Rattle.vt_pages.specs.Lookups.{step_of}
+use Rattle.vt_pages.specs.Lookups.{next_finer_page}
 use Rattle.vt_evict.specs.Orders.{line_pages}
 use Rattle.vt_plan.specs.PageLists.{is_in}
 use Rattle.vt_evict.specs.Views.{RecencyView, IsTable, is_pinned, is_loose, is_held, frame_of, free_frames}
@@ -39,14 +39,14 @@ record IsGap (s : Shape) (m : ℕ → Bool) (p : ℕ) : Type 0 where
 
 step_from : (s : Shape) (m : ℕ → Bool) (p q : ℕ) → IsWithinLimits s → p < pages_of s → parent_of s p ≡ Some q
     → m p ≡ false
-    → (b : Bool) → m q ≡ b → (m q ≡ false → IsGap s m (step_of s m q)) → IsGap s m (step_of s m p)
+    → (b : Bool) → m q ≡ b → (m q ≡ false → IsGap s m (next_finer_page s m q)) → IsGap s m (next_finer_page s m p)
 step_from s m p q limits inside parent low true high rest =
     subst (IsGap s m) (step_below s m p q limits inside parent low high) (record { inside = inside; unmapped = low })
 step_from s m p q limits inside parent low false high rest = subst (IsGap s m) (step_up s m p q limits inside parent low high) (rest high)
 
--- the step of an unmapped page is unmapped
+-- the next finer page of an unmapped page is unmapped
 step_gap : (s : Shape) (m : ℕ → Bool) (up p : ℕ) → IsWithinLimits s → level_of s p + up + 1 ≡ levels_of s
-    → p < pages_of s → m p ≡ false → IsGap s m (step_of s m p)
+    → p < pages_of s → m p ≡ false → IsGap s m (next_finer_page s m p)
 step_gap s m zero p limits level inside low =
     subst (IsGap s m) (step_root s m p limits inside (parent_none s p (omega arith))) (record { inside = inside; unmapped = low })
 step_gap s m (suc up) p limits level inside low =
@@ -56,11 +56,11 @@ step_gap s m (suc up) p limits level inside low =
     step_from s m p q limits inside parent low (m q) refl (λ high. step_gap s m up q limits (omega (arith, h.level)) h.inside high)
 
 steps_gap : (s : Shape) (m : ℕ → Bool) (ps : List ℕ) → IsWithinLimits s → AllByRecursion (λ p. p < pages_of s) ps
-    → AllByRecursion (IsGap s m) (map (step_of s m) (filter (λ p. not (m p)) ps))
+    → AllByRecursion (IsGap s m) (map (next_finer_page s m) (filter (λ p. not (m p)) ps))
 steps_gap s m [] limits h = tt
 steps_gap s m (p ∷ ps) limits h = test (m p) refl (steps_gap s m ps limits h.1) where
-  test : (b : Bool) → m p ≡ b → AllByRecursion (IsGap s m) (map (step_of s m) (filter (λ p. not (m p)) ps))
-      → AllByRecursion (IsGap s m) (map (step_of s m) (cond (not b) (p ∷ filter (λ p. not (m p)) ps) (filter (λ p. not (m p)) ps)))
+  test : (b : Bool) → m p ≡ b → AllByRecursion (IsGap s m) (map (next_finer_page s m) (filter (λ p. not (m p)) ps))
+      → AllByRecursion (IsGap s m) (map (next_finer_page s m) (cond (not b) (p ∷ filter (λ p. not (m p)) ps) (filter (λ p. not (m p)) ps)))
   test true e rest = rest
   test false e rest = let below = level_below s p limits h.0 in (step_gap s m (levels_of s - 1 - level_of s p) p limits (omega arith) h.0 e, rest)
 

@@ -10,7 +10,7 @@ use Rattle.std.proofs.lemmas.Bool.Decides.{nat_tests}
 use Rattle.std.proofs.lemmas.List.Elements.{All-from_get_or, filter-append}
 use Rattle.std.proofs.lemmas.List.Folds.{list_any_none}
 use Rattle.vt_pages.specs.Shape.{Shape}
-use Rattle.vt_pages.specs.Pages.{levels_of, pages_of, index_of, IsWithinLimits, level_of, name_at, parent_name, parent_of, line_of}
+use Rattle.vt_pages.specs.Pages.{levels_of, pages_of, index_of, IsWithinLimits, level_of, name_at, parent_name, parent_of, ancestors_of}
 use Rattle.vt_pages.proofs.Lines.{parent_is, reaches_root}
 use Rattle.vt_pages.proofs.Parents.{parent_page, line-root, line-parent, parent_facts, root_facts, level_below, line_distinct}
 use Rattle.vt_evict.specs.Orders.{line_pages}
@@ -21,21 +21,21 @@ use Rattle.vt_plan.proofs.ListLemmas.{nat_eq_true, filter_same, is_in-each_once,
 use Rattle.vt_evict.proofs.WalkLemmas.{is_in-push, or_true, or_false}
 
 -- no page of a coarser page's line is this page
-pub not_above : (s : Shape) (p q : ℕ) → IsWithinLimits s → q < pages_of s → level_of s p < level_of s q → is_in (line_of s q) p ≡ false
+pub not_above : (s : Shape) (p q : ℕ) → IsWithinLimits s → q < pages_of s → level_of s p < level_of s q → is_in (ancestors_of s q) p ≡ false
 not_above s p q limits inside above =
     let line = reaches_root s q (omega (arith, limits.least_tile)) limits.least_width limits.least_height inside in
-    list_any_none (nat_eq p) (line_of s q) (All-from_get_or (λ x. nat_eq p x ≡ false) (line_of s q) 0
-    (λ i h. ne_eqb p (get_or (line_of s q) i 0) (λ e. let level = (line.levels i h).1 in let l : level_of s p ≡ level_of s
-    (get_or (line_of s q) i 0) = ap (level_of s) e in omega (arith, level, l))))
+    list_any_none (nat_eq p) (ancestors_of s q) (All-from_get_or (λ x. nat_eq p x ≡ false) (ancestors_of s q) 0
+    (λ i h. ne_eqb p (get_or (ancestors_of s q) i 0) (λ e. let level = (line.levels i h).1 in let l : level_of s p ≡ level_of s
+    (get_or (ancestors_of s q) i 0) = ap (level_of s) e in omega (arith, level, l))))
 
 -- a page of a line is one of the chain's
-pub line_below : (s : Shape) (q p : ℕ) → IsWithinLimits s → q < pages_of s → is_in (line_of s q) p ≡ true → p < pages_of s
+pub line_below : (s : Shape) (q p : ℕ) → IsWithinLimits s → q < pages_of s → is_in (ancestors_of s q) p ≡ true → p < pages_of s
 line_below s q p limits inside there = elim (cases_lt p (pages_of s)) [
   | inl below ↦ below
   | inr past ↦
       let line = reaches_root s q (omega (arith, limits.least_tile)) limits.least_width limits.least_height inside in
-      absurd (false≢true (sym (list_any_none (nat_eq p) (line_of s q) (All-from_get_or (λ x. nat_eq p x ≡ false) (line_of s q) 0
-      (λ i h. ne_eqb p (get_or (line_of s q) i 0) (λ e. omega (arith, e, (line.levels i h).0))))) ∙ there))
+      absurd (false≢true (sym (list_any_none (nat_eq p) (ancestors_of s q) (All-from_get_or (λ x. nat_eq p x ≡ false) (ancestors_of s q) 0
+      (λ i h. ne_eqb p (get_or (ancestors_of s q) i 0) (λ e. omega (arith, e, (line.levels i h).0))))) ∙ there))
 ]
 
 -- a list with a page that it lacked
@@ -45,7 +45,7 @@ with_new xs p e = ap (λ (b : Bool). cond b xs (xs ++ p ∷ [])) e
 -- a closed list that has a page has its line
 pub line_within : (s : Shape) (w : List ℕ) (up p : ℕ) → IsWithinLimits s → IsClosed s w → level_of s p + up + 1 ≡ levels_of s → p < pages_of s
     → is_in w p ≡ true
-    → AllByRecursion (λ r. is_in w r ≡ true) (line_of s p)
+    → AllByRecursion (λ r. is_in w r ≡ true) (ancestors_of s p)
 line_within s w zero p limits closed up inside there = rw (line-root s p limits inside (omega arith)) (there, tt)
 line_within s w (suc up) p limits closed e inside there =
     let more : level_of s p + 1 < levels_of s = omega arith in
@@ -58,7 +58,7 @@ line_within s w (suc up) p limits closed e inside there =
 
 -- the pages that a walk over the line of a page adds to a list
 abbrev pub walked_over : Shape → List ℕ → ℕ → List ℕ
-walked_over s w p = w ++ filter (λ r. not (is_in w r)) (reverse (line_of s p))
+walked_over s w p = w ++ filter (λ r. not (is_in w r)) (reverse (ancestors_of s p))
 
 reverse-cons : (x : ℕ) (xs : List ℕ) → reverse (x ∷ xs) ≡ reverse xs ++ x ∷ []
 reverse-cons x xs = reverse-append (x ∷ []) xs
@@ -71,8 +71,8 @@ pub over_none : (s : Shape) (w : List ℕ) (p : ℕ) → IsWithinLimits s → Is
 over_none s w p limits closed inside there =
     let below = level_below s p limits inside in
     let all = line_within s w (levels_of s - 1 - level_of s p) p limits closed (omega arith) inside there in
-    sym (ap (λ (l : List ℕ). w ++ l) (filter_none (λ r. not (is_in w r)) (reverse (line_of s p))
-    (by_recursion-reverse _ (line_of s p) (nots w (line_of s p) all)))
+    sym (ap (λ (l : List ℕ). w ++ l) (filter_none (λ r. not (is_in w r)) (reverse (ancestors_of s p))
+    (by_recursion-reverse _ (ancestors_of s p) (nots w (ancestors_of s p) all)))
     ∙ append-nil w)
 
 one : (w : List ℕ) (p : ℕ) → is_in w p ≡ false → filter (λ r. not (is_in w r)) (p ∷ []) ≡ p ∷ []
@@ -89,29 +89,29 @@ over_more s w v p q limits inside e new is =
     let t : ℕ → Bool = λ r. not (is_in w r) in
     ap (λ (l : List ℕ). l ++ p ∷ []) is ∙ append_assoc w _ _
     ∙ ap (λ (l : List ℕ). w ++ l) (
-    ap (λ (l : List ℕ). filter t (reverse (line_of s q)) ++ l) (sym (one w p new))
-    ∙ sym (filter-append t (reverse (line_of s q)) (p ∷ []))
-    ∙ ap (filter t) (sym (reverse-cons p (line_of s q)) ∙ ap reverse (sym h.line)))
+    ap (λ (l : List ℕ). filter t (reverse (ancestors_of s q)) ++ l) (sym (one w p new))
+    ∙ sym (filter-append t (reverse (ancestors_of s q)) (p ∷ []))
+    ∙ ap (filter t) (sym (reverse-cons p (ancestors_of s q)) ∙ ap reverse (sym h.line)))
 
 pub still_new : (s : Shape) (w : List ℕ) (p q : ℕ) → IsWithinLimits s → p < pages_of s → parent_of s p ≡ Some q → is_in w p ≡ false
     → is_in (walked_over s w q) p ≡ false
 still_new s w p q limits inside e new =
     let h = parent_facts s p q limits inside e in
-    let line : is_in (reverse (line_of s q)) p ≡ false = is_in-reverse (line_of s q) p ∙ not_above s p q limits h.inside (omega (arith, h.level)) in
-    is_in-more w (reverse (line_of s q)) p ∙ rw (new, line) refl
+    let line : is_in (reverse (ancestors_of s q)) p ≡ false = is_in-reverse (ancestors_of s q) p ∙ not_above s p q limits h.inside (omega (arith, h.level)) in
+    is_in-more w (reverse (ancestors_of s q)) p ∙ rw (new, line) refl
 
-first_in : (s : Shape) (q : ℕ) → IsWithinLimits s → q < pages_of s → is_in (line_of s q) q ≡ true
+first_in : (s : Shape) (q : ℕ) → IsWithinLimits s → q < pages_of s → is_in (ancestors_of s q) q ≡ true
 first_in s q limits inside = first (parent_of s q) refl where
   same : nat_eq q q ≡ true
   same = grind (arith, nat_tests)
 
-  first : (o : Option ℕ) → parent_of s q ≡ o → is_in (line_of s q) q ≡ true
+  first : (o : Option ℕ) → parent_of s q ≡ o → is_in (ancestors_of s q) q ≡ true
   first None e = rw (root_facts s q limits inside e, same) refl
   first (Some r) e = rw ((parent_facts s q r limits inside e).line, same) refl
 
 pub parent_in : (s : Shape) (w : List ℕ) (q : ℕ) → IsWithinLimits s → q < pages_of s → is_in (walked_over s w q) q ≡ true
 parent_in s w q limits inside =
-    is_in-more w (reverse (line_of s q)) q ∙ ap (λ (b : Bool). is_in w q || b) (is_in-reverse (line_of s q) q ∙ first_in s q limits inside)
+    is_in-more w (reverse (ancestors_of s q)) q ∙ ap (λ (b : Bool). is_in w q || b) (is_in-reverse (ancestors_of s q) q ∙ first_in s q limits inside)
     ∙ or_true (is_in w q)
 
 pub closed_push : (s : Shape) (w : List ℕ) (p : ℕ) → IsClosed s w → ((q : ℕ) → parent_of s p ≡ Some q → is_in w q ≡ true) → IsClosed s (w ++ p ∷ [])
@@ -126,16 +126,16 @@ closed_push s w p closed parent = record { parents = λ r q there e. is_in-push 
 pub line_pages-more : (s : Shape) (ps : List ℕ) (p : ℕ) → IsWithinLimits s → p < pages_of s → line_pages s (ps ++ p ∷ []) ≡ walked_over s (line_pages s ps) p
 unfolding line_pages
 line_pages-more s ps p limits inside =
-    let f : ℕ → List ℕ = λ q. reverse (line_of s q) in
+    let f : ℕ → List ℕ = λ q. reverse (ancestors_of s q) in
     let before : List ℕ = flat_map f ps in
-    let flat : flat_map f (ps ++ p ∷ []) ≡ flat_map f ps ++ reverse (line_of s p) =
-    flat_map-append f ps (p ∷ []) ∙ ap (λ (l : List ℕ). flat_map f ps ++ l) (append-nil (reverse (line_of s p))) in
-    let once : IsDistinct nat_eq (reverse (line_of s p)) =
-    IsDistinct-IsPermutation nat_eq nat_eq_swap (line_of s p) (reverse (line_of s p)) (IsPermutation-reverse (line_of s p)) (line_distinct s p limits inside) in
-    ap each_once flat ∙ each_once-append (flat_map f ps) (reverse (line_of s p))
+    let flat : flat_map f (ps ++ p ∷ []) ≡ flat_map f ps ++ reverse (ancestors_of s p) =
+    flat_map-append f ps (p ∷ []) ∙ ap (λ (l : List ℕ). flat_map f ps ++ l) (append-nil (reverse (ancestors_of s p))) in
+    let once : IsDistinct nat_eq (reverse (ancestors_of s p)) =
+    IsDistinct-IsPermutation nat_eq nat_eq_swap (ancestors_of s p) (reverse (ancestors_of s p)) (IsPermutation-reverse (ancestors_of s p)) (line_distinct s p limits inside) in
+    ap each_once flat ∙ each_once-append (flat_map f ps) (reverse (ancestors_of s p))
     ∙ ap (λ (l : List ℕ). each_once (flat_map f ps) ++ l) (
-    ap (filter (λ r. not (is_in (flat_map f ps) r))) (each_once-distinct (reverse (line_of s p)) once)
-    ∙ filter_same _ _ (reverse (line_of s p)) (λ r. ap not (sym (is_in-each_once (flat_map f ps) r))))
+    ap (filter (λ r. not (is_in (flat_map f ps) r))) (each_once-distinct (reverse (ancestors_of s p)) once)
+    ∙ filter_same _ _ (reverse (ancestors_of s p)) (λ r. ap not (sym (is_in-each_once (flat_map f ps) r))))
 
 pub line_pages-none : (s : Shape) → line_pages s [] ≡ []
 unfolding line_pages

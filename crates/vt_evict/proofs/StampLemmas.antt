@@ -8,7 +8,7 @@ use Rattle.std.proofs.lemmas.List.Folds.{list_any_at}
 use Rattle.std.proofs.lemmas.List.Kept.{AllPairs-filter}
 use Rattle.std.proofs.lemmas.List.Sums.{passes_at_first}
 use Rattle.vt_pages.specs.Shape.{Shape}
-use Rattle.vt_pages.specs.Pages.{level_of, line_of, pages_of, IsWithinLimits}
+use Rattle.vt_pages.specs.Pages.{level_of, ancestors_of, pages_of, IsWithinLimits}
 use Rattle.vt_feedback.specs.Wants.{pages_wanted}
 use Rattle.vt_evict.specs.Orders.{line_pages, put_first}
 use Rattle.vt_plan.specs.PageLists.{is_in}
@@ -72,7 +72,7 @@ want_touched x p t w =
     is_in-filter (is_loose x.after) (line_pages x.after.shape (pages_wanted x.wants)) p
     ∙ rw (
       in_lines x.after.shape (pages_wanted x.wants) p,
-      list_any_at (λ q. is_in (line_of x.after.shape q) p) (pages_wanted x.wants) w.at 0 w.in_line.inside w.in_line.in_line,
+      list_any_at (λ q. is_in (ancestors_of x.after.shape q) p) (pages_wanted x.wants) w.at 0 w.in_line.inside w.in_line.in_line,
       w.loose,
     ) refl
 
@@ -87,9 +87,9 @@ unfolding touched_pages
 touched_facts x p e =
     let both = and_parts (is_in (line_pages x.after.shape (pages_wanted x.wants)) p) (is_loose x.after p)
     (sym (is_in-filter (is_loose x.after) (line_pages x.after.shape (pages_wanted x.wants)) p) ∙ e) in
-    let some : list_any (λ q. is_in (line_of x.after.shape q) p) (pages_wanted x.wants) ≡ true =
+    let some : list_any (λ q. is_in (ancestors_of x.after.shape q) p) (pages_wanted x.wants) ≡ true =
     sym (in_lines x.after.shape (pages_wanted x.wants) p) ∙ both.0 in
-    let inside = first_inside (λ q. is_in (line_of x.after.shape q) p) (pages_wanted x.wants) some in
+    let inside = first_inside (λ q. is_in (ancestors_of x.after.shape q) p) (pages_wanted x.wants) some in
     record { loose = both.1; inside = inside; below = subst (λ (n : ℕ). first_place x p < n) (length-map x.wants (λ w. w.page)) inside }
 
 -- a touched page gets the stamp of the first wanted page whose line has it
@@ -99,7 +99,7 @@ touched_want x p e =
     let facts = touched_facts x p e in
     record {
       at = first_place x p;
-      in_line = record { inside = facts.inside; in_line = passes_at_first (λ q. is_in (line_of x.after.shape q) p) (pages_wanted x.wants) 0 facts.inside };
+      in_line = record { inside = facts.inside; in_line = passes_at_first (λ q. is_in (ancestors_of x.after.shape q) p) (pages_wanted x.wants) 0 facts.inside };
       loose = facts.loose;
       stamp = refl;
     }
@@ -146,7 +146,7 @@ touched_stamp v old new x p a g there e = cases greatest.0 where
     place = place_is other.stamp
 
     least : first ≤ other.at
-    least = first_before (λ q. is_in (line_of x.after.shape q) p) (pages_wanted x.wants) other.at 0 other.in_line.in_line
+    least = first_before (λ q. is_in (ancestors_of x.after.shape q) p) (pages_wanted x.wants) other.at 0 other.in_line.in_line
 
     among : (first < other.at) ⊎ (other.at ≤ first) → a ≡ by_want x p first
     among (inl less) = absurd (not_less (less_place a (by_want x p first) (pass_is other.stamp) (omega (arith, other.in_line.inside, wanted, place))))

@@ -8,7 +8,7 @@ use Rattle.std.proofs.lemmas.List.Folds.{list_any_at, Any-from_list_any}
 use Rattle.std.proofs.lemmas.List.Kept.{AllPairs-filter}
 use Rattle.std.proofs.lemmas.List.Sorted.{All-permutation, IsPermutation-reverse}
 use Rattle.vt_pages.specs.Shape.{Shape}
-use Rattle.vt_pages.specs.Pages.{line_of}
+use Rattle.vt_pages.specs.Pages.{ancestors_of}
 use Rattle.vt_feedback.specs.declared.Wanted.{Wanted}
 use Rattle.vt_feedback.specs.Wants.{pages_wanted}
 use Rattle.vt_feedback.proofs.OrderedLists.{ordered_are_one}
@@ -115,7 +115,7 @@ is_read_at x p j = not (slice_index_or x.lost j true) && nat_eq (slice_index_or 
 
 -- whether a page gets a stamp by the wanted page at a place
 is_wanted_at : Pass → ℕ → ℕ → Bool
-is_wanted_at x p i = is_in (line_of x.after.shape (slice_index (pages_wanted x.wants) i)) p && is_loose x.after p
+is_wanted_at x p i = is_in (ancestors_of x.after.shape (slice_index (pages_wanted x.wants) i)) p && is_loose x.after p
 
 entry_to : (x : Pass) (p : ℕ) (u : Stamp) → IsBelow (is_read_at x p) (by_entry x p) (length x.batch) u → IsByEntry x p u
 unfolding is_read_at
@@ -144,7 +144,7 @@ entry_back x p u e = record {
 want_to : (x : Pass) (p : ℕ) (u : Stamp) → IsBelow (is_wanted_at x p) (by_want x p) (length (pages_wanted x.wants)) u → IsByWant x p u
 unfolding is_wanted_at
 want_to x p u b =
-    let both = and_parts (is_in (line_of x.after.shape (slice_index (pages_wanted x.wants) b.at)) p) (is_loose x.after p) b.passes in
+    let both = and_parts (is_in (ancestors_of x.after.shape (slice_index (pages_wanted x.wants) b.at)) p) (is_loose x.after p) b.passes in
     record { at = b.at; in_line = record { inside = b.below; in_line = both.0 }; loose = both.1; stamp = b.is }
 
 want_back : (x : Pass) (p : ℕ) (u : Stamp) → IsByWant x p u → IsBelow (is_wanted_at x p) (by_want x p) (length (pages_wanted x.wants)) u
@@ -218,13 +218,13 @@ order_one stamps xs ys hx hy same =
     (λ p c. in_there ys p (sym (same p) ∙ there_in xs p c)) (λ p c. in_there xs p (same p ∙ there_in ys p c))
 
 lines_wanted : (s : Shape) (wants : List Wanted) (p : ℕ)
-    → list_any (λ q. is_in (line_of s q) p) (pages_wanted wants) ≡ list_any (λ w. is_in (line_of s w.page) p) wants
+    → list_any (λ q. is_in (ancestors_of s q) p) (pages_wanted wants) ≡ list_any (λ w. is_in (ancestors_of s w.page) p) wants
 lines_wanted s [] p = refl
-lines_wanted s (w ∷ wants) p = ap (λ (b : Bool). is_in (line_of s w.page) p || b) (lines_wanted s wants p)
+lines_wanted s (w ∷ wants) p = ap (λ (b : Bool). is_in (ancestors_of s w.page) p || b) (lines_wanted s wants p)
 
 -- which pages are candidates
 pub candidates_are : (v : RecencyView) (wants : List Wanted) (p : ℕ) → IsTable v
-    → is_in (candidates v wants) p ≡ (is_loose v p && not (list_any (λ w. is_in (line_of v.shape w.page) p) wants))
+    → is_in (candidates v wants) p ≡ (is_loose v p && not (list_any (λ w. is_in (ancestors_of v.shape w.page) p) wants))
 unfolding candidates
 candidates_are v wants p table =
     is_in-filter (λ p. not (is_in (line_pages v.shape (pages_wanted wants)) p)) (reverse v.order) p

@@ -2,7 +2,7 @@
 use Rattle.std.specs.Prelude.{ℕ, nat_eq, Bool, true, false, not, List, ◌∷◌, ◌++◌, reverse}
 use Rattle.std.specs.List.{filter, flat_map}
 use Rattle.vt_pages.specs.Shape.{Shape}
-use Rattle.vt_pages.specs.Pages.{line_of}
+use Rattle.vt_pages.specs.Pages.{ancestors_of}
 use Rattle.vt_plan.specs.PageLists.{is_in, each_once}
 
 -- some pages first, and then the others of a list in their order
@@ -11,7 +11,7 @@ put_first firsts order = firsts ++ filter (λ p. not (is_in firsts p)) order
 
 -- the pages that stand in the lines of some pages, each once: line after line, each from its coarsest page on
 unfoldable pub line_pages : Shape → List ℕ → List ℕ
-line_pages s pages = each_once (flat_map (λ p. reverse (line_of s p)) pages)
+line_pages s pages = each_once (flat_map (λ p. reverse (ancestors_of s p)) pages)
 
 -- a page at the front of an order that has it, or the order as it is
 abbrev pub promoted_if : Bool → ℕ → List ℕ → List ℕ

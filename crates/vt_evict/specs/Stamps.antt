@@ -2,7 +2,7 @@
 use Rattle.std.specs.Prelude.{◌≡◌, ℕ, ◌+◌, ◌-◌, ◌<◌, ◌==◌, ◌&&◌, ◌||◌, ◌⊎◌, nat_lt, Bool, true, false, Option, None, Some, List, length, slice_index, slice_index_or, IsSome}
 use Rattle.std.specs.List.{All, AllPairs}
 use Rattle.vt_pages.specs.Shape.{Shape}
-use Rattle.vt_pages.specs.Pages.{level_of, line_of}
+use Rattle.vt_pages.specs.Pages.{level_of, ancestors_of}
 use Rattle.vt_feedback.specs.declared.Wanted.{Wanted}
 use Rattle.vt_feedback.specs.Wants.{pages_wanted}
 use Rattle.vt_plan.specs.declared.batches.Planned.{Planned}
@@ -48,7 +48,7 @@ pub record IsReadAt (batch : List Planned) (lost : List Bool) (j p : ℕ) : Type
 -- a page stands in the line of the one at a place of a list
 pub record IsInLineAt (s : Shape) (pages : List ℕ) (i p : ℕ) : Type 0 where
   pub inside : i < length pages
-  pub in_line : is_in (line_of s (slice_index pages i)) p ≡ true
+  pub in_line : is_in (ancestors_of s (slice_index pages i)) p ≡ true
 
 -- the stamp of a page that was read: greater for an earlier entry
 pub record IsByEntry (x : Pass) (p : ℕ) (t : Stamp) : Type 0 where

@@ -3,7 +3,7 @@
 ghost use Rattle.std.specs.Prelude.{◌≡◌, ℕ, ◌+◌, ◌<◌, ◌&&◌, not, List, IsSome};
 ghost use Rattle.std.specs.List.{All, AllPairs, list_any};
 ghost use Rattle.vt_pages.specs.Shape.{Shape};
-ghost use Rattle.vt_pages.specs.Pages.{pages_of, line_of};
+ghost use Rattle.vt_pages.specs.Pages.{pages_of, ancestors_of};
 ghost use Rattle.vt_feedback.specs.declared.Wanted.{Wanted};
 ghost use Rattle.vt_plan.specs.PageLists.{is_in};
 ghost use Rattle.vt_evict.specs.Views.{RecencyView, IsTable, is_loose, touched, first_view};
@@ -42,7 +42,7 @@ pub fn stamps_give_one_order()
 /// The candidates of a plan are the unpinned mapped pages that stand in no line of a wanted page, by rising stamps.
 pub fn candidates_rise_by_stamps()
     ensures exact { (v : RecencyView) (wants : List Wanted) (p : ℕ) → IsTable v → is_in (candidates v wants) p
-        ≡ (is_loose v p && not (list_any (λ w. is_in (line_of v.shape w.page) p) wants)) }
+        ≡ (is_loose v p && not (list_any (λ w. is_in (ancestors_of v.shape w.page) p) wants)) }
     ensures stamped { (v : RecencyView) (wants : List Wanted) (stamps : Stamps) → IsByStamps stamps v.order
         → All (λ p. IsSome (stamps p)) (candidates v wants) }
     ensures rising { (v : RecencyView) (wants : List Wanted) (stamps : Stamps) → IsByStamps stamps v.order

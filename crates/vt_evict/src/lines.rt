@@ -2,7 +2,7 @@
 
 ghost use Rattle.std.specs.Prelude.{◌≡◌, ◌+◌, ◌<◌, false, not, [], ◌∷◌, ◌++◌, IfOk, IfSome, IfNone, OnOk, reverse};
 ghost use Rattle.std.specs.List.{filter, All};
-ghost use Rattle.vt_pages.specs.Pages.{IsWithinLimits, pages_of, line_of};
+ghost use Rattle.vt_pages.specs.Pages.{IsWithinLimits, pages_of, ancestors_of};
 ghost use Rattle.vt_feedback.specs.Wants.{pages_wanted};
 ghost use Rattle.vt_evict.specs.Orders.{line_pages};
 ghost use Rattle.vt_plan.specs.PageLists.{is_in};
@@ -82,7 +82,7 @@ fn walk_line(geometry: &Geometry, walk: &mut Walk, page: u32)
     ensures walk { IsWalk (pages_of geometry.now) walk.new.marks.items walk.new.walked }
     ensures closed { IsClosed geometry.now walk.new.walked.elements }
     ensures walked { walk.new.walked.elements
-        ≡ walk.old.walked.elements ++ filter (λ p. not (is_in walk.old.walked.elements p)) (reverse (line_of geometry.now page)) }
+        ≡ walk.old.walked.elements ++ filter (λ p. not (is_in walk.old.walked.elements p)) (reverse (ancestors_of geometry.now page)) }
 {
     let pages = geometry.page_count();
     if walk.is_marked(pages, page) {
@@ -119,7 +119,7 @@ fn add_line(geometry: &Geometry, pages: &mut IndexSet<u32>, page: u32) -> Result
     requires closed { IsClosed geometry.now pages.old.keys }
     ensures closed { OnOk result (IsClosed geometry.now pages.new.keys) }
     ensures added { OnOk result (pages.new.keys
-        ≡ pages.old.keys ++ filter (λ p. not (is_in pages.old.keys p)) (reverse (line_of geometry.now page))) }
+        ≡ pages.old.keys ++ filter (λ p. not (is_in pages.old.keys p)) (reverse (ancestors_of geometry.now page))) }
 {
     if pages.contains(&page) {
         return Ok(());

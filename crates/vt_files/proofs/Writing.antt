@@ -1,4 +1,4 @@
--- What is left of the files of a due, from what its writes did.
+-- What is left of the expected files, from what its writes did.
 use Rattle.std.proofs.Common.{◌≡◌, ◌⊎◌, ℕ, ◌≤◌, List, [], ◌∷◌, ◌++◌, Option, Some, None, Ok, Err, refl, sym, ap, subst, ◌∙◌, inl, inr, append_assoc, arith}
 use Rattle.std.specs.Prelude.{Result, OnOk, OnErr, OnSome, true, ◌+◌, ◌<◌, take, drop}
 use Rattle.std.specs.Option.{option_map, IsSome}
@@ -12,38 +12,38 @@ use Rattle.vt_outside.proofs.Changes.{told-bytes-appended}
 use Rattle.vt_outside.specs.declared.answers.OutsideError.{OutsideError}
 use Rattle.vt_outside.specs.declared.answers.OutsideError.TheVariants.{Failed, NoMemory}
 use Rattle.vt_outside.proofs.Refusing.{rose_later}
-use Rattle.vt_files.specs.Courses.{FolderState, Passage}
-use Rattle.vt_files.specs.Dues.{FileDue, with_files, IsFront, IsPart, FailsOnly, AsksNone, Writes}
-use Rattle.vt_files.specs.Pictures.{picture_due, pictures_due}
+use Rattle.vt_files.specs.Effects.{FolderState, FolderEffect}
+use Rattle.vt_files.specs.Expectations.{ExpectedFile, with_files, IsWrittenPrefix, IsPart, FailsOnly, AsksNone, Writes}
+use Rattle.vt_files.specs.Pictures.{expected_picture, expected_pictures}
 
 pub no_files : (told : Option Files) → told ≡ option_map (with_files []) told
 no_files None = refl
 no_files (Some files) = refl
 
-files_then : (xs ys : List FileDue) (files : Files) → with_files (xs ++ ys) files ≡ with_files ys (with_files xs files)
+files_then : (xs ys : List ExpectedFile) (files : Files) → with_files (xs ++ ys) files ≡ with_files ys (with_files xs files)
 files_then [] ys files = refl
 files_then (x ∷ xs) ys files = files_then xs ys (with_bytes x.name x.bytes files)
 
 -- files and then others are all of them
-pub told_then : (xs ys : List FileDue) (told : Option Files)
+pub told_then : (xs ys : List ExpectedFile) (told : Option Files)
     → option_map (with_files (xs ++ ys)) told ≡ option_map (with_files ys) (option_map (with_files xs) told)
 told_then xs ys None = refl
 told_then xs ys (Some files) = ap Some (files_then xs ys files)
 
-pub part_none : (due : List FileDue) (before after : Option Files) → after ≡ before → IsPart due before after
-part_none due before after same = record { whole = []; rest = due; split = refl; front = first due }
+pub part_none : (expected : List ExpectedFile) (before after : Option Files) → after ≡ before → IsPart expected before after
+part_none expected before after same = record { whole = []; rest = expected; split = refl; front = first expected }
   where
     mid : after ≡ option_map (with_files []) before
     mid = same ∙ no_files before
 
-    first : (files : List FileDue) → IsFront files (option_map (with_files []) before) after
+    first : (files : List ExpectedFile) → IsWrittenPrefix files (option_map (with_files []) before) after
     first [] = mid
     first (x ∷ xs) = inl mid
 
-pub part_whole : (due : List FileDue) (before after : Option Files) → after ≡ option_map (with_files due) before → IsPart due before after
-part_whole due before after is = record { whole = due; rest = []; split = sym (append-nil due); front = is }
+pub part_whole : (expected : List ExpectedFile) (before after : Option Files) → after ≡ option_map (with_files expected) before → IsPart expected before after
+part_whole expected before after is = record { whole = expected; rest = []; split = sym (append-nil expected); front = is }
 
-part_front : (file : FileDue) (before after : Option Files) (k : ℕ)
+part_front : (file : ExpectedFile) (before after : Option Files) (k : ℕ)
     → after ≡ option_map (with_bytes file.name (take k file.bytes)) before → IsPart (file ∷ []) before after
 part_front file before after k is = record {
   whole = [];
@@ -73,27 +73,27 @@ file_stopped name bytes before after Failed part asked faults failed =
 file_stopped name bytes before after NoMemory part asked faults failed =
     (record { asked = asked; faults = faults }, part_file name bytes before.files after.files part, tt)
 
-front_more : (xs ys : List FileDue) (before after : Option Files) → IsFront xs before after → IsFront (xs ++ ys) before after
+front_more : (xs ys : List ExpectedFile) (before after : Option Files) → IsWrittenPrefix xs before after → IsWrittenPrefix (xs ++ ys) before after
 front_more [] [] before after h = h
 front_more [] (y ∷ ys) before after h = inl h
 front_more (x ∷ xs) ys before after h = h
 
 -- a part of some files after others that are whole is a part of all
-part_later : (whole one rest : List FileDue) (before mid after : Option Files)
+part_later : (whole one rest : List ExpectedFile) (before mid after : Option Files)
     → mid ≡ option_map (with_files whole) before → IsPart one mid after → IsPart (whole ++ (one ++ rest)) before after
 part_later whole one rest before mid after is part = record {
   whole = whole ++ part.whole;
   rest = part.rest ++ rest;
-  split = ap (λ (files : List FileDue). whole ++ (files ++ rest)) part.split
-      ∙ ap (λ (files : List FileDue). whole ++ files) (append_assoc part.whole part.rest rest)
+  split = ap (λ (files : List ExpectedFile). whole ++ (files ++ rest)) part.split
+      ∙ ap (λ (files : List ExpectedFile). whole ++ files) (append_assoc part.whole part.rest rest)
       ∙ sym (append_assoc whole part.whole (part.rest ++ rest));
   front = front_more part.rest rest (option_map (with_files (whole ++ part.whole)) before) after
-      (subst (λ (told : Option Files). IsFront part.rest told after)
+      (subst (λ (told : Option Files). IsWrittenPrefix part.rest told after)
       (ap (option_map (with_files part.whole)) is ∙ sym (told_then whole part.whole before)) part.front);
 }
 
 -- nothing was written for want of memory
-pub unwritten : (files : List FileDue) (s : FolderState) → Writes {T = Unit {0}} files (record { before = s; after = s }) (Err NoMemory)
+pub unwritten : (files : List ExpectedFile) (s : FolderState) → Writes {T = Unit {0}} files (record { before = s; after = s }) (Err NoMemory)
 unwritten files s = (record { asked = refl; faults = omega arith }, part_none files s.files s.files refl, tt)
 
 asks_both : (before mid after : FolderState) → AsksNone (record { before = before; after = mid }) → AsksNone (record { before = mid; after = after })
@@ -124,7 +124,7 @@ fails_as Failed r rose is h = h is
 fails_as NoMemory r rose is h = tt
 
 -- a name was created, and what was appended to it
-pub appended : (file : FileDue) (before mid after : FolderState) (r : Result (Unit {0}) OutsideError)
+pub appended : (file : ExpectedFile) (before mid after : FolderState) (r : Result (Unit {0}) OutsideError)
     → mid.files ≡ option_map (with_bytes file.name []) before.files → AsksNone (record { before = before; after = mid })
     → AsksNone (record { before = mid; after = after })
     → OnOk r (after.files ≡ option_map (with_appended file.name file.bytes) mid.files)
@@ -144,7 +144,7 @@ appended file before mid after (Err error) made first then whole part failed = (
 )
 
 -- a file was written under a name and with bytes that are those of another
-pub written_as : (name bytes name_is bytes_is : List ℕ) (p : Passage) (r : Result (Unit {0}) OutsideError) → name ≡ name_is → bytes ≡ bytes_is
+pub written_as : (name bytes name_is bytes_is : List ℕ) (p : FolderEffect) (r : Result (Unit {0}) OutsideError) → name ≡ name_is → bytes ≡ bytes_is
     → Writes ((record { name = name; bytes = bytes }) ∷ []) p r → Writes ((record { name = name_is; bytes = bytes_is }) ∷ []) p r
 written_as name bytes name_is bytes_is p r a b h =
     subst (λ (n : List ℕ). Writes ((record { name = n; bytes = bytes_is }) ∷ []) p r) a
@@ -152,45 +152,45 @@ written_as name bytes name_is bytes_is p r a b h =
 
 -- a folder whose first pictures were written
 pub record HasPictures (prefix : List ℕ) (file : ℕ → List ℕ) (count : ℕ) (before after : FolderState) : Type 0 where
-  pub files : after.files ≡ option_map (with_files (pictures_due prefix file count)) before.files
+  pub files : after.files ≡ option_map (with_files (expected_pictures prefix file count)) before.files
   pub asks : AsksNone (record { before = before; after = after })
 
 pub no_pictures : (prefix : List ℕ) (file : ℕ → List ℕ) (s : FolderState) → HasPictures prefix file 0 s s
 no_pictures prefix file s = record { files = no_files s.files; asks = record { asked = refl; faults = omega arith } }
 
 pictures_more : (prefix : List ℕ) (file : ℕ → List ℕ) (count : ℕ)
-    → pictures_due prefix file (count + 1) ≡ pictures_due prefix file count ++ (picture_due prefix file count ∷ [])
-pictures_more prefix file count = map-range_with_len_more (picture_due prefix file) 0 count count (omega arith)
+    → expected_pictures prefix file (count + 1) ≡ expected_pictures prefix file count ++ (expected_picture prefix file count ∷ [])
+pictures_more prefix file count = map-range_with_len_more (expected_picture prefix file) 0 count count (omega arith)
 
 -- one more picture was written
 pub more_pictures : (prefix : List ℕ) (file : ℕ → List ℕ) (count : ℕ) (before mid after : FolderState)
-    → HasPictures prefix file count before mid → Writes {T = Unit {0}} (picture_due prefix file count ∷ []) (record { before = mid; after = after }) (Ok tt)
+    → HasPictures prefix file count before mid → Writes {T = Unit {0}} (expected_picture prefix file count ∷ []) (record { before = mid; after = after }) (Ok tt)
     → HasPictures prefix file (count + 1) before after
 more_pictures prefix file count before mid after h more = record {
   files = more.1
-      ∙ ap (option_map (with_files (picture_due prefix file count ∷ []))) h.files
-      ∙ sym (told_then (pictures_due prefix file count) (picture_due prefix file count ∷ []) before.files)
-      ∙ ap (λ (files : List FileDue). option_map (with_files files) before.files) (sym (pictures_more prefix file count));
+      ∙ ap (option_map (with_files (expected_picture prefix file count ∷ []))) h.files
+      ∙ sym (told_then (expected_pictures prefix file count) (expected_picture prefix file count ∷ []) before.files)
+      ∙ ap (λ (files : List ExpectedFile). option_map (with_files files) before.files) (sym (pictures_more prefix file count));
   asks = asks_both before mid after h.asks more.0;
 }
 
 pictures_split : (prefix : List ℕ) (file : ℕ → List ℕ) (count all : ℕ) → count < all
-    → pictures_due prefix file all ≡ pictures_due prefix file count ++ ((picture_due prefix file count ∷ []) ++ drop (count + 1) (pictures_due prefix file all))
+    → expected_pictures prefix file all ≡ expected_pictures prefix file count ++ ((expected_picture prefix file count ∷ []) ++ drop (count + 1) (expected_pictures prefix file all))
 pictures_split prefix file count all less =
-    let due = pictures_due prefix file all in
-    sym (take-append-drop (count + 1) due)
-    ∙ ap (λ (files : List FileDue). files ++ drop (count + 1) due)
-    (take-map-range_with_len (picture_due prefix file) 0 all (count + 1) (omega arith) ∙ pictures_more prefix file count)
-    ∙ append_assoc (pictures_due prefix file count) (picture_due prefix file count ∷ []) (drop (count + 1) due)
+    let expected = expected_pictures prefix file all in
+    sym (take-append-drop (count + 1) expected)
+    ∙ ap (λ (files : List ExpectedFile). files ++ drop (count + 1) expected)
+    (take-map-range_with_len (expected_picture prefix file) 0 all (count + 1) (omega arith) ∙ pictures_more prefix file count)
+    ∙ append_assoc (expected_pictures prefix file count) (expected_picture prefix file count ∷ []) (drop (count + 1) expected)
 
 -- the next picture was not written whole
 pub stopped_pictures : (prefix : List ℕ) (file : ℕ → List ℕ) (count all : ℕ) (before mid after : FolderState) (error : OutsideError) → count < all
-    → HasPictures prefix file count before mid → Writes {T = Unit {0}} (picture_due prefix file count ∷ []) (record { before = mid; after = after }) (Err error)
-    → Writes {T = Unit {0}} (pictures_due prefix file all) (record { before = before; after = after }) (Err error)
+    → HasPictures prefix file count before mid → Writes {T = Unit {0}} (expected_picture prefix file count ∷ []) (record { before = mid; after = after }) (Err error)
+    → Writes {T = Unit {0}} (expected_pictures prefix file all) (record { before = before; after = after }) (Err error)
 stopped_pictures prefix file count all before mid after error less h part = (
   asks_both before mid after h.asks part.0,
-  subst (λ (files : List FileDue). IsPart files before.files after.files) (sym (pictures_split prefix file count all less))
-      (part_later (pictures_due prefix file count) (picture_due prefix file count ∷ [])
-      (drop (count + 1) (pictures_due prefix file all)) before.files mid.files after.files h.files part.1),
+  subst (λ (files : List ExpectedFile). IsPart files before.files after.files) (sym (pictures_split prefix file count all less))
+      (part_later (expected_pictures prefix file count) (expected_picture prefix file count ∷ [])
+      (drop (count + 1) (expected_pictures prefix file all)) before.files mid.files after.files h.files part.1),
   fails_later before.faults mid.faults after.faults error h.asks.faults part.2,
 )

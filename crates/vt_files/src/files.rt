@@ -1,15 +1,15 @@
 //! Writing a file.
 
 ghost use Rattle.std.specs.Prelude.{[], ◌∷◌};
-ghost use Rattle.vt_files.specs.Courses.{passage};
-ghost use Rattle.vt_files.specs.Dues.{Writes};
+ghost use Rattle.vt_files.specs.Effects.{folder_effect};
+ghost use Rattle.vt_files.specs.Expectations.{Writes};
 
 use vt_outside::{Folder, OutsideError};
 
 /// Makes the name hold these bytes, by one creation and one append. After a refusal it holds what it held, or a front part of
 /// them; `Failed` comes only where the folder's count of faults rose.
 pub fn write_file<D: Folder>(folder: &mut D, name: &str, bytes: &[u8]) -> Result<(), OutsideError>
-    ensures { Writes ((record { name = name.now; bytes = bytes.now }) ∷ []) (passage D.Folder folder.old folder.new) result }
+    ensures { Writes ((record { name = name.now; bytes = bytes.now }) ∷ []) (folder_effect D.Folder folder.old folder.new) result }
 {
     folder.create(name)?;
     folder.append(name, bytes)

@@ -1,4 +1,4 @@
-//! The files that a call is to leave in a folder: what is due, how far it came, and the writing of a file and of a picture.
+//! The files that a call is to leave in a folder: what is expected, how far it came, and the writing of a file and of a picture.
 #![tactic(auto)]
 
 mod files;

@@ -4,9 +4,9 @@ ghost use Rattle.std.specs.Prelude.{◌≡◌, ◌*◌, ◌<◌, [], ◌∷◌, 
 ghost use Rattle.vt_definitions.specs.Depths.{IsDepth, texel_length};
 ghost use Rattle.vt_words.specs.Names.{four_digit_numbers};
 ghost use Rattle.vt_ppm.specs.Picture.{picture_bytes};
-ghost use Rattle.vt_files.specs.Courses.{passage};
-ghost use Rattle.vt_files.specs.Dues.{Writes};
-ghost use Rattle.vt_files.specs.Pictures.{picture_due};
+ghost use Rattle.vt_files.specs.Effects.{folder_effect};
+ghost use Rattle.vt_files.specs.Expectations.{Writes};
+ghost use Rattle.vt_files.specs.Pictures.{expected_picture};
 
 use crate::files::write_file;
 use std::alloc::Global;
@@ -40,9 +40,9 @@ pub fn write_picture<D: Folder>(
     requires few { number < four_digit_numbers }
     requires depth { IsDepth picture.now.depth }
     requires full { length picture.now.samples.now ≡ texel_length picture.now.depth * (picture.now.width * picture.now.height) }
-    ensures { Writes (picture_due prefix.now
+    ensures { Writes (expected_picture prefix.now
         (λ _. picture_bytes picture.now.depth picture.now.width picture.now.height picture.now.samples.now) number ∷ [])
-        (passage D.Folder folder.old folder.new) result }
+        (folder_effect D.Folder folder.old folder.new) result }
 {
     let bytes = encoded(alloc, picture)?;
     let name = picture_name(alloc, prefix, number)?;

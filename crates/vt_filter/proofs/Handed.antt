@@ -9,8 +9,8 @@ use Rattle.vt_pages.specs.Pages.{IsWithinLimits}
 use Rattle.vt_camera.specs.Rows.{RowView}
 use Rattle.vt_draw.specs.Lookups.{Note}
 use Rattle.vt_journal.specs.Changes.{Table}
-use Rattle.vt_shown.specs.Scenes.{Scene}
-use Rattle.vt_shown.specs.Replays.{scene_row, HasPixels}
+use Rattle.vt_pictures.specs.Scenes.{Scene}
+use Rattle.vt_pictures.specs.Replays.{scene_row, HasPixels}
 use Rattle.vt_filter.specs.Evidence.{IsBy, AreTrue, AreTrueNotes, AreShown}
 use Rattle.vt_filter.specs.FilterLaws.{IsUnder}
 

@@ -8,8 +8,8 @@ use Rattle.vt_camera.specs.Rows.{RowView}
 use Rattle.vt_draw.specs.Lookups.{Note}
 use Rattle.vt_draw.specs.Shots.{wants_in_rows}
 use Rattle.vt_journal.specs.Changes.{Table}
-use Rattle.vt_shown.specs.Scenes.{Scene}
-use Rattle.vt_shown.specs.Replays.{scene_row}
+use Rattle.vt_pictures.specs.Scenes.{Scene}
+use Rattle.vt_pictures.specs.Replays.{scene_row}
 use Rattle.vt_filter.specs.Evidence.{AreTrueNotes}
 
 -- by notes that are true of a table over a source, a pixel is that of the table

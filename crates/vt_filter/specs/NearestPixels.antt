@@ -5,7 +5,7 @@ use Rattle.std.proofs.lemmas.Option.{slice_get-get_or, same_Some}
 use Rattle.vt_definitions.specs.Depths.{word_bytes}
 use Rattle.vt_definitions.specs.Texels.{Source}
 use Rattle.vt_pages.specs.Shape.{Shape}
-use Rattle.vt_pages.specs.Pages.{pages_of, levels_of, level_of, line_of, ancestor_of, root_of, texel_page, IsWithinLimits}
+use Rattle.vt_pages.specs.Pages.{pages_of, levels_of, level_of, ancestors_of, ancestor_of, root_of, texel_page, IsWithinLimits}
 use Rattle.vt_pages.specs.Lookups.{lookup}
 use Rattle.vt_pages.specs.Laws.{ReachesRoot, IsInside}
 use Rattle.vt_pages.proofs.Lines.{reaches_root}
@@ -17,8 +17,8 @@ use Rattle.vt_draw.proofs.Places.{pixel_inside, place_inside, wanted_in_chain, w
 use Rattle.vt_journal.specs.Changes.{Table}
 use Rattle.vt_journal.specs.Lookups.{is_mapped, IsFirstMapped}
 use Rattle.vt_journal.proofs.Finding.{finest-lookup}
-use Rattle.vt_shown.specs.Scenes.{Scene}
-use Rattle.vt_shown.specs.Replays.{scene_row, shown_at, serving_page, pixel_under}
+use Rattle.vt_pictures.specs.Scenes.{Scene}
+use Rattle.vt_pictures.specs.Replays.{scene_row, shown_at, serving_page, pixel_under}
 use Rattle.vt_filter.specs.Evidence.{AreTrue}
 
 -- what was found for a page is the page that serves it
@@ -27,11 +27,11 @@ module _ (s : Shape) (source : Source) (m : Table) (version : ℕ) (says : Note 
   line : ReachesRoot s p
   line = let a = limits.least_tile in reaches_root s p (omega (arith, a)) limits.least_width limits.least_height inside
 
-  at_place : (k : ℕ) → level_of s p ≤ k → k < levels_of s → slice_get (line_of s p) (k - level_of s p) ≡ Some (ancestor_of s p k)
+  at_place : (k : ℕ) → level_of s p ≤ k → k < levels_of s → slice_get (ancestors_of s p) (k - level_of s p) ≡ Some (ancestor_of s p k)
   unfolding ancestor_of
-  at_place k low high = slice_get-get_or (line_of s p) (k - level_of s p) 0 (let e = line.one_a_level in omega (arith, e, low, high))
+  at_place k low high = slice_get-get_or (ancestors_of s p) (k - level_of s p) 0 (let e = line.one_a_level in omega (arith, e, low, high))
 
-  first : IsFirstMapped m (line_of s p) found.page
+  first : IsFirstMapped m (ancestors_of s p) found.page
   first = record {
     place = found.level - level_of s p;
     stands = at_place found.level finest.no_finer finest.level_inside ∙ ap Some (sym finest.page);
@@ -43,7 +43,7 @@ module _ (s : Shape) (source : Source) (m : Table) (version : ℕ) (says : Note 
         let top = finest.level_inside in
         let back : (level_of s p + k) - level_of s p ≡ k = omega arith in
         let there : Some q ≡ Some (ancestor_of s p (level_of s p + k)) =
-        sym is ∙ ap (slice_get (line_of s p)) (sym back) ∙ at_place (level_of s p + k) low (omega (arith, high, top)) in
+        sym is ∙ ap (slice_get (ancestors_of s p)) (sym back) ∙ at_place (level_of s p + k) low (omega (arith, high, top)) in
         ap m (same_Some q (ancestor_of s p (level_of s p + k)) there)
         ∙ are.unmapped (ancestor_of s p (level_of s p + k)) (finest.unmapped (level_of s p + k) low high);
   }

@@ -9,7 +9,7 @@ use Rattle.std.proofs.lemmas.List.FromFn.{length-range_with_len, get_or-range_wi
 use Rattle.std.proofs.lemmas.Option.{slice_get-get_or}
 use Rattle.vt_definitions.specs.Texels.{Source}
 use Rattle.vt_pages.specs.Shape.{Shape}
-use Rattle.vt_pages.specs.Pages.{pages_of, level_of, line_of, root_of, IsWithinLimits}
+use Rattle.vt_pages.specs.Pages.{pages_of, level_of, ancestors_of, root_of, IsWithinLimits}
 use Rattle.vt_pages.specs.Lookups.{lookup}
 use Rattle.vt_pages.specs.Laws.{ReachesRoot}
 use Rattle.vt_pages.proofs.Lines.{reaches_root}
@@ -21,8 +21,8 @@ use Rattle.vt_draw.proofs.Counts.{pixels-most}
 use Rattle.vt_journal.specs.Changes.{Table}
 use Rattle.vt_journal.specs.Lookups.{is_mapped, IsFirstMapped}
 use Rattle.vt_journal.proofs.Finding.{finest-lookup}
-use Rattle.vt_shown.specs.Scenes.{Scene}
-use Rattle.vt_shown.specs.Replays.{scene_row, shown_at, pixel_under, plain_pixel}
+use Rattle.vt_pictures.specs.Scenes.{Scene}
+use Rattle.vt_pictures.specs.Replays.{scene_row, shown_at, pixel_under, plain_pixel}
 use Rattle.vt_filter.specs.FilterLaws.{picture_wants}
 
 same_number : (p : ℕ) → (p == p) ≡ true
@@ -60,9 +60,9 @@ serves_itself s m p limits inside some = by_frame (m p) refl some where
   by_frame : (o : Option ℕ) → m p ≡ o → IsSome o → lookup s (is_mapped m) p ≡ Some p
   by_frame None is none = absurd (false≢true none)
   by_frame (Some frame) is one =
-      let first : IsFirstMapped m (line_of s p) p = record {
+      let first : IsFirstMapped m (ancestors_of s p) p = record {
         place = 0;
-        stands = slice_get-get_or (line_of s p) 0 0 (let e = line.one_a_level in let low = level_below s p limits inside in omega (arith, e, low))
+        stands = slice_get-get_or (ancestors_of s p) 0 0 (let e = line.one_a_level in let low = level_below s p limits inside in omega (arith, e, low))
             ∙ ap Some line.begins;
         frame = frame;
         mapped = is;

@@ -9,7 +9,7 @@ ghost use Rattle.vt_camera.specs.Rows.{RowView};
 ghost use Rattle.vt_draw.specs.Lookups.{Note};
 ghost use Rattle.vt_draw.specs.Shots.{shot_row};
 ghost use Rattle.vt_journal.specs.Changes.{Table};
-ghost use Rattle.vt_shown.specs.Scenes.{Scene};
+ghost use Rattle.vt_pictures.specs.Scenes.{Scene};
 ghost use Rattle.vt_filter.specs.Evidence.{AreShown, AreRaised};
 ghost use Rattle.vt_filter.specs.FilterLaws.{IsUnder, IsPlain, WantsFew};
 

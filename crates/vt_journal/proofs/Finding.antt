@@ -5,7 +5,7 @@ use Rattle.std.proofs.lemmas.Bool.{cases_lt, false≢true}
 use Rattle.std.proofs.lemmas.Option.{slice_get-get_or, slice_get_within, get_or_from_slice_get}
 use Rattle.std.proofs.lemmas.List.Sums.{position_or_len_is, fails_before_first, passes_at_first}
 use Rattle.vt_pages.specs.Shape.{Shape}
-use Rattle.vt_pages.specs.Pages.{line_of, root_of, level_of, levels_of}
+use Rattle.vt_pages.specs.Pages.{ancestors_of, root_of, level_of, levels_of}
 use Rattle.vt_pages.specs.Laws.{ReachesRoot}
 use Rattle.vt_pages.specs.Lookups.{pages_before, lookup}
 use Rattle.vt_journal.specs.declared.changes.Change.{Change}
@@ -51,11 +51,11 @@ first_is_found m ps a first =
 
 pub lookup-finest : (s : Shape) (m : Table) (p a : ℕ) → lookup s (is_mapped m) p ≡ Some a → IsFinest s m p a
 unfolding lookup
-lookup-finest s m p a e = found_is_first m (line_of s p) a e
+lookup-finest s m p a e = found_is_first m (ancestors_of s p) a e
 
 pub finest-lookup : (s : Shape) (m : Table) (p a : ℕ) → IsFinest s m p a → lookup s (is_mapped m) p ≡ Some a
 unfolding lookup
-finest-lookup s m p a first = first_is_found m (line_of s p) a first
+finest-lookup s m p a first = first_is_found m (ancestors_of s p) a first
 
 -- where the root is mapped, each page is found
 pub root_found : (s : Shape) (m : Table) (p f : ℕ) → ReachesRoot s p → level_of s p < levels_of s → m (root_of s) ≡ Some f
@@ -63,13 +63,13 @@ pub root_found : (s : Shape) (m : Table) (p f : ℕ) → ReachesRoot s p → lev
 unfolding lookup
 root_found s m p f line inside mapped =
     let root : ℕ = levels_of s - 1 - level_of s p in
-    let within : root < length (line_of s p) = omega (arith, line.one_a_level) in
-    let passes : is_mapped m (get_or (line_of s p) root 0) ≡ true = ap (is_mapped m) line.ends ∙ ap is_some mapped in
+    let within : root < length (ancestors_of s p) = omega (arith, line.one_a_level) in
+    let passes : is_mapped m (get_or (ancestors_of s p) root 0) ≡ true = ap (is_mapped m) line.ends ∙ ap is_some mapped in
     elim (cases_lt root (pages_before s (is_mapped m) p)) [
-      | inl early ↦ absurd (false≢true (sym (fails_before_first (is_mapped m) (line_of s p) root 0 early) ∙ passes))
+      | inl early ↦ absurd (false≢true (sym (fails_before_first (is_mapped m) (ancestors_of s p) root 0 early) ∙ passes))
       | inr late ↦ (
-        get_or (line_of s p) (pages_before s (is_mapped m) p) 0,
-        slice_get-get_or (line_of s p) (pages_before s (is_mapped m) p) 0 (omega arith),
+        get_or (ancestors_of s p) (pages_before s (is_mapped m) p) 0,
+        slice_get-get_or (ancestors_of s p) (pages_before s (is_mapped m) p) 0 (omega arith),
       )
     ]
 
@@ -84,9 +84,9 @@ changed_elsewhere m (Map page frame) q other = entry-other m page q (Some frame)
 changed_elsewhere m (Unmap page frame) q other = entry-other m page q None other
 
 -- a change of a page that is not in a page's line changes nothing of its look-up
-pub lookup_stays : (s : Shape) (m : Table) (c : Change) (p : ℕ) → IsAway (change_page c) (line_of s p)
+pub lookup_stays : (s : Shape) (m : Table) (c : Change) (p : ℕ) → IsAway (change_page c) (ancestors_of s p)
     → lookup s (is_mapped (changed m c)) p ≡ lookup s (is_mapped m) p
 unfolding lookup
 lookup_stays s m c p away =
-    ap (slice_get (line_of s p)) (same_place (is_mapped (changed m c)) (is_mapped m) (line_of s p)
+    ap (slice_get (ancestors_of s p)) (same_place (is_mapped (changed m c)) (is_mapped m) (ancestors_of s p)
     (λ k q is. ap is_some (changed_elsewhere m c q (away k q is))))

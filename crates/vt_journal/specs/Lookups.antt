@@ -1,7 +1,7 @@
 -- Which page stands in for a page that is not mapped (van Waveren 2012).
 use Rattle.std.specs.Prelude.{◌≡◌, ◌≢◌, ℕ, ◌<◌, Bool, is_some, Some, None, List, slice_get}
 use Rattle.vt_pages.specs.Shape.{Shape}
-use Rattle.vt_pages.specs.Pages.{line_of}
+use Rattle.vt_pages.specs.Pages.{ancestors_of}
 use Rattle.vt_journal.specs.declared.changes.Change.{Change}
 use Rattle.vt_journal.specs.declared.changes.Change.TheVariants.{Map, Unmap}
 use Rattle.vt_journal.specs.Changes.{Table}
@@ -20,7 +20,7 @@ pub record IsFirstMapped (m : Table) (ps : List ℕ) (a : ℕ) : Type 0 where
 
 -- the finest mapped page among a page and its ancestors (van Waveren 2012)
 abbrev pub IsFinest : Shape → Table → ℕ → ℕ → Type 0
-IsFinest s m p a = IsFirstMapped m (line_of s p) a
+IsFinest s m p a = IsFirstMapped m (ancestors_of s p) a
 
 -- the page that a change maps or unmaps
 abbrev pub change_page : Change → ℕ

@@ -3,7 +3,7 @@
 
 ghost use Rattle.std.specs.Prelude.{◌≡◌, ◌≢◌, ◌↔◌, ◌⊎◌, ℕ, ◌+◌, ◌-◌, ◌<◌, ◌≤◌, List, [], ◌∷◌, ◌++◌, length, Some, None, slice_get};
 ghost use Rattle.vt_pages.specs.Shape.{Shape};
-ghost use Rattle.vt_pages.specs.Pages.{pages_of, root_of, level_of, levels_of, line_of};
+ghost use Rattle.vt_pages.specs.Pages.{pages_of, root_of, level_of, levels_of, ancestors_of};
 ghost use Rattle.vt_pages.specs.Laws.{ReachesRoot};
 ghost use Rattle.vt_pages.specs.Lookups.{lookup};
 ghost use Rattle.vt_journal.specs.declared.changes.Change.{Change};
@@ -73,6 +73,6 @@ pub fn lookup_is_finest()
 
 /// A change of a page that is neither the page nor one of its ancestors leaves the look-up as it was.
 pub fn lookup_stays()
-    ensures { (s : Shape) (m : Table) (c : Change) (p : ℕ) → IsAway (change_page c) (line_of s p)
+    ensures { (s : Shape) (m : Table) (c : Change) (p : ℕ) → IsAway (change_page c) (ancestors_of s p)
         → lookup s (is_mapped (changed m c)) p ≡ lookup s (is_mapped m) p }
 {}

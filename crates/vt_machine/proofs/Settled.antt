@@ -14,10 +14,10 @@ use Rattle.vt_journal.specs.JournalText.{changes_of}
 use Rattle.vt_tiles.specs.StoreViews.{IsStore}
 use Rattle.vt_plan.specs.declared.batches.Planned.{Planned}
 use Rattle.vt_machine.specs.declared.crew.PassReport.{PassReport}
-use Rattle.vt_shown.specs.Scenes.{Scene}
+use Rattle.vt_pictures.specs.Scenes.{Scene}
 use Rattle.vt_workers.specs.Jobs.{Job}
 use Rattle.vt_machine.specs.Outcomes.{IsOutcome, pass_events}
-use Rattle.vt_shown.specs.Replays.{HasPixels, IsFull, IsPictureOf}
+use Rattle.vt_pictures.specs.Replays.{HasPixels, IsFull, IsPictureOf}
 use Rattle.vt_machine.specs.Drawings.{Drawing}
 use Rattle.vt_machine.specs.Machines.{Setup, MachineState}
 use Rattle.vt_machine.specs.Passes.{IsJobFor, MapsNeeded, Ran}

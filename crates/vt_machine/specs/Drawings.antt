@@ -5,7 +5,7 @@ use Rattle.vt_pages.specs.Shape.{Shape}
 use Rattle.vt_camera.specs.Rows.{RowView}
 use Rattle.vt_journal.specs.Changes.{Table}
 use Rattle.vt_tiles.specs.Format.{stored}
-use Rattle.vt_shown.specs.Scenes.{Scene}
+use Rattle.vt_pictures.specs.Scenes.{Scene}
 use Rattle.vt_filter.specs.declared.filters.Filter.{Ghosts as FilterMeanings}
 use Rattle.vt_filter.specs.FilterLaws.{picture_wants}
 

@@ -18,7 +18,7 @@ use Rattle.vt_machine.specs.Drawings.{Drawing}
 use Rattle.vt_machine.specs.Outcomes.{IsBatchFor, IsOutcome}
 use Rattle.vt_machine.specs.RowOrders.{AreRowsInOrder}
 use Rattle.vt_machine.specs.Requests.{FileState, AreReadFor, ArePartlyReadFor}
-use Rattle.vt_shown.specs.Replays.{IsFull, AreReplayed}
+use Rattle.vt_pictures.specs.Replays.{IsFull, AreReplayed}
 use Rattle.vt_machine.specs.Machines.{Setup, MachineState}
 
 -- the newest version of the journal maps the root

@@ -3,10 +3,10 @@ use Rattle.std.specs.Prelude.{◌≡◌, ℕ, ◌%◌, ◌<◌, Bool, IsTrue, So
 use Rattle.vt_journal.specs.declared.changes.RowLine.{RowLine}
 use Rattle.vt_journal.specs.Following.{AreRowsOf}
 
--- row y was drawn by one of so many samplers, and where rows are dealt by the one whose turn it is
+-- row y was drawn by one of so many samplers, and where rows are dealt by the one that it is dealt to
 pub record IsDrawnBy (dealt : Bool) (samplers y sampler : ℕ) : Type 0 where
   pub inside : sampler < samplers
-  pub turn : IsTrue dealt → sampler ≡ y % samplers
+  pub dealt_to : IsTrue dealt → sampler ≡ y % samplers
 
 -- the rows of a pass are in order: there is one for each row of the picture, drawn at a version of the pass; the versions of one sampler
 -- never fall from row to row; and each names its sampler

@@ -17,11 +17,11 @@ ghost use Rattle.vt_plan.specs.declared.batches.Planned.{Planned};
 ghost use Rattle.vt_tiles.specs.Format.{tile_start, tile_length};
 ghost use Rattle.vt_tiles.specs.StoreViews.{IsStore};
 ghost use Rattle.vt_machine.specs.declared.crew.PassReport.{PassReport as Report};
-ghost use Rattle.vt_shown.specs.Scenes.{Scene};
+ghost use Rattle.vt_pictures.specs.Scenes.{Scene};
 ghost use Rattle.vt_workers.specs.Jobs.{Job};
 ghost use Rattle.vt_machine.specs.Outcomes.{IsEntryFor, IsBatchFor, group_of, pass_events, IsOutcome};
 ghost use Rattle.vt_machine.specs.Requests.{FileState, AreReadFor};
-ghost use Rattle.vt_shown.specs.Replays.{IsPictureOf, pixel_under, plain_pixel};
+ghost use Rattle.vt_pictures.specs.Replays.{IsPictureOf, pixel_under, plain_pixel};
 ghost use Rattle.vt_machine.specs.Machines.{MachineState};
 ghost use Rattle.vt_machine.specs.Passes.{IsJobFor, MapsNeeded, Ran};
 

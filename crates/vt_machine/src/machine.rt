@@ -10,7 +10,7 @@ ghost use Rattle.vt_tiles.specs.StoreViews.{IsStore};
 ghost use Rattle.vt_plan.specs.declared.batches.Planned.{Planned};
 ghost use Rattle.vt_outside.specs.declared.answers.NoMemory.{NoMemory as Refusal};
 ghost use Rattle.vt_machine.specs.declared.crew.PassReport.{PassReport as Report};
-ghost use Rattle.vt_shown.specs.Scenes.{Scene};
+ghost use Rattle.vt_pictures.specs.Scenes.{Scene};
 ghost use Rattle.vt_machine.specs.Drawings.{Drawing};
 ghost use Rattle.vt_workers.specs.Jobs.{Job, job_of};
 ghost use Rattle.vt_machine.specs.Crews.{IsCrew, AreFrames};
@@ -80,13 +80,13 @@ pub trait PassMachine: Sized {
     ghost lent: { Self → Self.Shared };
 
     /// What it was and what it is once its workers were moved out, and what they are.
-    ghost mustered: { Self → Job → Self → List Self.Loader → List Self.Sampler → Self.Streamer → Type 0 };
+    ghost detached: { Self → Job → Self → List Self.Loader → List Self.Sampler → Self.Streamer → Type 0 };
 
     /// These workers may be moved back.
-    ghost may_dismiss: { Self → Job → List Self.Loader → List Self.Sampler → Self.Streamer → Type 0 };
+    ghost may_reattach: { Self → Job → List Self.Loader → List Self.Sampler → Self.Streamer → Type 0 };
 
     /// What it was without its workers, and what it is and answers once they were moved back.
-    ghost dismissed: { Self → Job → List Self.Loader → List Self.Sampler → Self.Streamer → Self
+    ghost reattached: { Self → Job → List Self.Loader → List Self.Sampler → Self.Streamer → Self
         → Result Report Refusal → Type 0 };
 
     /// Makes a machine as `make` does, with the stores of a list, which it leaves empty. After a refusal the list has
@@ -171,7 +171,7 @@ pub trait PassMachine: Sized {
         ensures refused { OnErr result (IsSpent (state self.old) (state self.new)) };
 
     /// Moves the workers out, that they may be at work while what they share is lent.
-    fn muster(
+    fn detach_workers(
         &mut self,
         shot: &Shot<'_>,
         batch: &Batch,
@@ -179,7 +179,7 @@ pub trait PassMachine: Sized {
         requires ready { is_ready self.old batch.now.elements }
         requires root { MapsRoot (state self.old) }
         requires job { IsJobFor (state self.old).setup (job_of shot.now batch.now.elements) }
-        ensures mustered { mustered self.old (job_of shot.now batch.now.elements)
+        ensures detached { detached self.old (job_of shot.now batch.now.elements)
             self.new result.0.elements result.1.elements result.2 }
         ensures loaders { AllReady (Self.Loader.ready (lent self.new) (job_of shot.now batch.now.elements))
             result.0.elements }
@@ -192,7 +192,7 @@ pub trait PassMachine: Sized {
         ensures { result.now ≡ lent self.now };
 
     /// Moves the workers back, does what they have left of the pass, and tells what the pass did.
-    fn dismiss<Rt: Threads + Wait + Sync, G: Gate + Sync>(
+    fn reattach_workers<Rt: Threads + Wait + Sync, G: Gate + Sync>(
         &mut self,
         rt: &Rt,
         loaders: Items<Self::Loader>,
@@ -202,9 +202,9 @@ pub trait PassMachine: Sized {
         batch: &Batch,
         gate: &G,
     ) -> Result<PassReport, NoMemory>
-        requires { may_dismiss self.old (job_of shot.now batch.now.elements)
+        requires { may_reattach self.old (job_of shot.now batch.now.elements)
             loaders.elements samplers.elements streamer }
-        ensures { dismissed self.old (job_of shot.now batch.now.elements)
+        ensures { reattached self.old (job_of shot.now batch.now.elements)
             loaders.elements samplers.elements streamer self.new result };
 
     /// Runs the pass that is prepared for this batch: draws the picture of the shot and streams the batch. It may wait.
@@ -224,7 +224,7 @@ pub trait PassMachine: Sized {
             (job_of shot.now batch.now.elements) result (state self.old) (state self.new) }
         ensures refused { OnErr result refuses }
     {
-        let (mut loaders, mut samplers, mut streamer) = self.muster(shot, batch);
+        let (mut loaders, mut samplers, mut streamer) = self.detach_workers(shot, batch);
         work_together(
             rt,
             loaders.slice_mut(),
@@ -235,7 +235,7 @@ pub trait PassMachine: Sized {
             batch.slice(),
             gate,
         );
-        self.dismiss(rt, loaders, samplers, streamer, shot, batch, gate)
+        self.reattach_workers(rt, loaders, samplers, streamer, shot, batch, gate)
     }
 
     /// The journal of the page table.
@@ -267,23 +267,23 @@ pub trait PassMachine: Sized {
     /// What the workers did leaves what can be moved back.
     ghost may_come_back: { (job : Job) (m n : Self) (a c : List Self.Loader) (e f : List Self.Sampler)
         (b d : Self.Streamer)
-        → is_ready m job.batch → MapsRoot (state m) → IsJobFor (state m).setup job → mustered m job n a e b
+        → is_ready m job.batch → MapsRoot (state m) → IsJobFor (state m).setup job → detached m job n a e b
         → length c ≡ length a → length f ≡ length e
         → AllDid (Self.Loader.did (lent n) job) a c → AllDid (Self.Sampler.did (lent n) job) e f
         → Self.Streamer.did (lent n) job b d
-        → may_dismiss n job c f d };
+        → may_reattach n job c f d };
 
     /// What the workers did is a pass, once they are moved back.
     ghost has_run: { (job : Job) (m n p : Self) (a c : List Self.Loader) (e f : List Self.Sampler)
         (b d : Self.Streamer) (r : Result Report Refusal)
-        → is_ready m job.batch → MapsRoot (state m) → IsJobFor (state m).setup job → mustered m job n a e b
+        → is_ready m job.batch → MapsRoot (state m) → IsJobFor (state m).setup job → detached m job n a e b
         → length c ≡ length a → length f ≡ length e
         → AllDid (Self.Loader.did (lent n) job) a c → AllDid (Self.Sampler.did (lent n) job) e f
         → Self.Streamer.did (lent n) job b d
-        → dismissed n job c f d p r
+        → reattached n job c f d p r
         → Ends drawing (drawn p) (is_idle p) job r (state m) (state p) };
 
     /// Where the pass was refused memory, that is so which may refuse it.
     ghost has_answered: { (job : Job) (n p : Self) (c : List Self.Loader) (f : List Self.Sampler) (d : Self.Streamer)
-        (r : Result Report Refusal) → dismissed n job c f d p r → OnErr r refuses };
+        (r : Result Report Refusal) → reattached n job c f d p r → OnErr r refuses };
 }

@@ -26,8 +26,8 @@ use Rattle.vt_table.proofs.TileWords.{word_is}
 use Rattle.vt_grace.specs.declared.views.WriterView.{WriterView}
 use Rattle.vt_grace.specs.Notes.{entry_number, IsTrueNote, IsTrueWord}
 use Rattle.vt_grace.specs.Sound.{IsSound}
-use Rattle.vt_shown.specs.Scenes.{Scene}
-use Rattle.vt_shown.specs.Replays.{HasPixels, AreReplayed}
+use Rattle.vt_pictures.specs.Scenes.{Scene}
+use Rattle.vt_pictures.specs.Replays.{HasPixels, AreReplayed}
 use Rattle.vt_noted.specs.Noted.{IsNotedBy}
 use Rattle.vt_noted.specs.Stored.{IsStored, AreStored}
 use Rattle.vt_noted.proofs.Brought.{brought}

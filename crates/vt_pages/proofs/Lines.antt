@@ -7,7 +7,7 @@ use Rattle.std.specs.Prelude.{◌==◌}
 use Rattle.vt_definitions.specs.Sides.{side}
 use Rattle.vt_pages.specs.declared.PageName.{PageName}
 use Rattle.vt_pages.specs.Shape.{Shape}
-use Rattle.vt_pages.specs.Pages.{columns_at, rows_at, pages_below, levels_of, pages_of, index_at, index_of, IsPage, IsPageAt, level_of, name_at, parent_name, parent_of, line_from, line_of, ancestor_of, root_of, texel_page}
+use Rattle.vt_pages.specs.Pages.{columns_at, rows_at, pages_below, levels_of, pages_of, index_at, index_of, IsPage, IsPageAt, level_of, name_at, parent_name, parent_of, ancestors_from, ancestors_of, ancestor_of, root_of, texel_page}
 use Rattle.vt_pages.specs.Laws.{ReachesRoot, PlacesNest, LinesFollowPlaces, IsInside}
 use Rattle.vt_pages.proofs.Counts.{columns_some, rows_some, columns_cover, rows_cover, last_columns, last_rows, pages_below-suc, levels_count}
 use Rattle.vt_pages.proofs.Names.{level_of-index, name_at-index, name_at_is_page, index_of-name_at, index_at_below, parent_is_page, same_name, index_at_is_page}
@@ -30,17 +30,17 @@ above_parent : (n : PageName) (i : ℕ) → above i (parent_name n) ≡ above (s
 unfolding above
 above_parent n i = same_name _ _ _ _ _ _ (omega arith) (halves n.col i) (halves n.row i)
 
-pub length-line_from : (s : Shape) (j : ℕ) (n : PageName) → length (line_from s j n) ≡ suc j
-unfolding line_from
-length-line_from s zero n = refl
-length-line_from s (suc j) n = ap suc (length-line_from s j (parent_name n))
+pub length-ancestors_from : (s : Shape) (j : ℕ) (n : PageName) → length (ancestors_from s j n) ≡ suc j
+unfolding ancestors_from
+length-ancestors_from s zero n = refl
+length-ancestors_from s (suc j) n = ap suc (length-ancestors_from s j (parent_name n))
 
-get_or-line_from : (s : Shape) (j i : ℕ) (n : PageName) → i ≤ j → get_or (line_from s j n) i 0 ≡ index_of s (above i n)
-unfolding line_from
-get_or-line_from s zero zero n h = ap (index_of s) (sym (above_none n))
-get_or-line_from s zero (suc i) n h = absurd (omega arith)
-get_or-line_from s (suc j) zero n h = ap (index_of s) (sym (above_none n))
-get_or-line_from s (suc j) (suc i) n h = get_or-line_from s j i (parent_name n) (omega arith) ∙ ap (index_of s) (above_parent n i)
+get_or-ancestors_from : (s : Shape) (j i : ℕ) (n : PageName) → i ≤ j → get_or (ancestors_from s j n) i 0 ≡ index_of s (above i n)
+unfolding ancestors_from
+get_or-ancestors_from s zero zero n h = ap (index_of s) (sym (above_none n))
+get_or-ancestors_from s zero (suc i) n h = absurd (omega arith)
+get_or-ancestors_from s (suc j) zero n h = ap (index_of s) (sym (above_none n))
+get_or-ancestors_from s (suc j) (suc i) n h = get_or-ancestors_from s j i (parent_name n) (omega arith) ∙ ap (index_of s) (above_parent n i)
 
 above_is_page : (s : Shape) (i : ℕ) (n : PageName) → 1 ≤ s.tile → IsPage s n → n.level + i < levels_of s → IsPage s (above i n)
 above_is_page s zero n some h within = subst (IsPage s) (sym (above_none n)) h
@@ -52,9 +52,9 @@ unfolding name_at
 name_at-level s p = refl
 
 -- the pages of a page's line
-pub line_at : (s : Shape) (p i : ℕ) → level_of s p + i < levels_of s → get_or (line_of s p) i 0 ≡ index_of s (above i (name_at s p))
-unfolding line_of
-line_at s p i within = get_or-line_from s (levels_of s - 1 - level_of s p) i (name_at s p) (omega arith)
+pub line_at : (s : Shape) (p i : ℕ) → level_of s p + i < levels_of s → get_or (ancestors_of s p) i 0 ≡ index_of s (above i (name_at s p))
+unfolding ancestors_of
+line_at s p i within = get_or-ancestors_from s (levels_of s - 1 - level_of s p) i (name_at s p) (omega arith)
 
 pub line_at_page : (s : Shape) (p i : ℕ) → 1 ≤ s.tile → 1 ≤ s.width → p < pages_of s → level_of s p + i < levels_of s → IsPage s (above i (name_at s p))
 line_at_page s p i some wide inside within =
@@ -125,9 +125,9 @@ root_last s some wide high =
 level_within : (s : Shape) (p : ℕ) → 1 ≤ s.tile → 1 ≤ s.width → p < pages_of s → level_of s p < levels_of s
 level_within s p some wide inside = rw name_at-level at (name_at_is_page s p some wide inside).level_inside
 
-length-line_of : (s : Shape) (p : ℕ) → level_of s p < levels_of s → length (line_of s p) + level_of s p ≡ levels_of s
-unfolding line_of
-length-line_of s p within = omega (arith, length-line_from s (levels_of s - 1 - level_of s p) (name_at s p))
+length-ancestors_of : (s : Shape) (p : ℕ) → level_of s p < levels_of s → length (ancestors_of s p) + level_of s p ≡ levels_of s
+unfolding ancestors_of
+length-ancestors_of s p within = omega (arith, length-ancestors_from s (levels_of s - 1 - level_of s p) (name_at s p))
 
 pub reaches_root : (s : Shape) (p : ℕ) → 1 ≤ s.tile → 1 ≤ s.width → 1 ≤ s.height → p < pages_of s → ReachesRoot s p
 reaches_root s p some wide high inside =
@@ -135,9 +135,9 @@ reaches_root s p some wide high inside =
     let up = levels_of s - 1 - level_of s p in
     let top : level_of s p + (levels_of s - 1 - level_of s p) < levels_of s = omega arith in
     record {
-      one_a_level = length-line_of s p within;
+      one_a_level = length-ancestors_of s p within;
       levels = λ i h.
-          let below : level_of s p + i < levels_of s = omega (arith, length-line_of s p within) in
+          let below : level_of s p + i < levels_of s = omega (arith, length-ancestors_of s p within) in
           let page = line_page s p i some wide inside below in
           (rw (line_at s p i below) page.inside, rw (line_at s p i below) page.level);
       begins = line_at s p 0 (omega arith) ∙ ap (index_of s) (above_none (name_at s p)) ∙ index_of-name_at s p some inside;

@@ -3,7 +3,7 @@ use Rattle.std.proofs.Common.{◌≡◌, ℕ, suc, ◌+◌, ◌-◌, ◌<◌, Bo
 use Rattle.std.specs.List.{position_or_len}
 use Rattle.vt_pages.specs.Shape.{Shape}
 use Rattle.vt_pages.specs.Pages.{IsWithinLimits, pages_of, parent_of}
-use Rattle.vt_pages.specs.Lookups.{step_of}
+use Rattle.vt_pages.specs.Lookups.{next_finer_page}
 use Rattle.vt_pages.proofs.Parents.{parent_facts, root_facts, line_begins}
 
 -- the step in a list that stands for a line
@@ -30,21 +30,21 @@ step_on m p q rest low high = rw (low, high) (down (position_or_len m rest)) whe
       let f : 1 + n - 1 ≡ n = omega arith in
       ap (λ (k : ℕ). get_or (p ∷ q ∷ rest) k 0) e ∙ ap (λ (k : ℕ). get_or (q ∷ rest) k 0) (sym f)
 
-pub step_root : (s : Shape) (m : ℕ → Bool) (p : ℕ) → IsWithinLimits s → p < pages_of s → parent_of s p ≡ None → p ≡ step_of s m p
-unfolding step_of line_step
+pub step_root : (s : Shape) (m : ℕ → Bool) (p : ℕ) → IsWithinLimits s → p < pages_of s → parent_of s p ≡ None → p ≡ next_finer_page s m p
+unfolding next_finer_page line_step
 step_root s m p limits inside e = sym (ap (line_step m) (root_facts s p limits inside e) ∙ step_one m p)
 
 pub step_below : (s : Shape) (m : ℕ → Bool) (p q : ℕ) → IsWithinLimits s → p < pages_of s → parent_of s p ≡ Some q → m p ≡ false → m q ≡ true
-    → p ≡ step_of s m p
-unfolding step_of line_step
+    → p ≡ next_finer_page s m p
+unfolding next_finer_page line_step
 step_below s m p q limits inside e low high =
     let h = parent_facts s p q limits inside e in
     let b = line_begins s q limits h.inside in
     sym (ap (line_step m) (h.line ∙ ap (λ (l : List ℕ). p ∷ l) b.1) ∙ step_here m p q b.0 low high)
 
 pub step_up : (s : Shape) (m : ℕ → Bool) (p q : ℕ) → IsWithinLimits s → p < pages_of s → parent_of s p ≡ Some q → m p ≡ false → m q ≡ false
-    → step_of s m q ≡ step_of s m p
-unfolding step_of line_step
+    → next_finer_page s m q ≡ next_finer_page s m p
+unfolding next_finer_page line_step
 step_up s m p q limits inside e low high =
     let h = parent_facts s p q limits inside e in
     let b = line_begins s q limits h.inside in

@@ -4,7 +4,7 @@ use Rattle.vt_definitions.specs.Sides.{side}
 use Rattle.vt_definitions.specs.Texels.{Source}
 use Rattle.vt_pages.specs.declared.PageName.{PageName}
 use Rattle.vt_pages.specs.Shape.{Shape}
-use Rattle.vt_pages.specs.Pages.{IsPage, index_of, name_at, level_of, levels_of, pages_of, parent_of, line_of, ancestor_of, root_of, texel_page, tile_words}
+use Rattle.vt_pages.specs.Pages.{IsPage, index_of, name_at, level_of, levels_of, pages_of, parent_of, ancestors_of, ancestor_of, root_of, texel_page, tile_words}
 
 -- names and indexes of pages undo each other
 pub record AreInverse (s : Shape) : Type 0 where
@@ -13,10 +13,10 @@ pub record AreInverse (s : Shape) : Type 0 where
 
 -- each page's line has one page a level and ends with the root (van Waveren 2012)
 pub record ReachesRoot (s : Shape) (p : ℕ) : Type 0 where
-  pub one_a_level : length (line_of s p) + level_of s p ≡ levels_of s
-  pub levels : (i : ℕ) → i < length (line_of s p) → (slice_index (line_of s p) i < pages_of s) × (level_of s (slice_index (line_of s p) i) ≡ level_of s p + i)
-  pub begins : slice_index (line_of s p) 0 ≡ p
-  pub ends : slice_index (line_of s p) (levels_of s - 1 - level_of s p) ≡ root_of s
+  pub one_a_level : length (ancestors_of s p) + level_of s p ≡ levels_of s
+  pub levels : (i : ℕ) → i < length (ancestors_of s p) → (slice_index (ancestors_of s p) i < pages_of s) × (level_of s (slice_index (ancestors_of s p) i) ≡ level_of s p + i)
+  pub begins : slice_index (ancestors_of s p) 0 ≡ p
+  pub ends : slice_index (ancestors_of s p) (levels_of s - 1 - level_of s p) ≡ root_of s
   pub root_is_last : root_of s + 1 ≡ pages_of s
 
 -- a texel lies inside a level (van Waveren 2012)

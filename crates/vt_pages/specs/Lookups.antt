@@ -1,17 +1,17 @@
--- The look-up of a page where not each page is mapped, and the step to be taken from it.
+-- The look-up of a page where not each page is mapped, and the next finer page to load for it.
 use Rattle.std.specs.Prelude.{ℕ, ◌-◌, Bool, Option, slice_get, slice_index}
 use Rattle.std.specs.List.{position_or_len}
 use Rattle.vt_pages.specs.Shape.{Shape}
-use Rattle.vt_pages.specs.Pages.{line_of}
+use Rattle.vt_pages.specs.Pages.{ancestors_of}
 
 -- how many pages of a page's line stand before the first that is mapped
 abbrev pub pages_before : Shape → (ℕ → Bool) → ℕ → ℕ
-pages_before s mapped p = position_or_len mapped (line_of s p)
+pages_before s mapped p = position_or_len mapped (ancestors_of s p)
 
 -- the look-up of a page: the first page of its line that is mapped, if there is one (van Waveren 2012)
 unfoldable pub lookup : Shape → (ℕ → Bool) → ℕ → Option ℕ
-lookup s mapped p = slice_get (line_of s p) (pages_before s mapped p)
+lookup s mapped p = slice_get (ancestors_of s p) (pages_before s mapped p)
 
--- the step of an unmapped page: the page of its line that stands just before its look-up
-unfoldable pub step_of : Shape → (ℕ → Bool) → ℕ → ℕ
-step_of s mapped p = slice_index (line_of s p) (pages_before s mapped p - 1)
+-- the next finer page to load for an unmapped page: the page of its ancestor chain that stands just before its look-up
+unfoldable pub next_finer_page : Shape → (ℕ → Bool) → ℕ → ℕ
+next_finer_page s mapped p = slice_index (ancestors_of s p) (pages_before s mapped p - 1)

@@ -75,17 +75,17 @@ unfoldable pub parent_of : Shape → ℕ → Option ℕ
 parent_of s p = if level_of s p + 1 == levels_of s then None else Some (index_of s (parent_name (name_at s p)))
 
 -- the indexes of a page and of so many pages above it, finest first (van Waveren 2012)
-unfoldable pub line_from : Shape → ℕ → PageName → List ℕ
-line_from s zero n = index_of s n ∷ []
-line_from s (suc above) n = index_of s n ∷ line_from s above (parent_name n)
+unfoldable pub ancestors_from : Shape → ℕ → PageName → List ℕ
+ancestors_from s zero n = index_of s n ∷ []
+ancestors_from s (suc above) n = index_of s n ∷ ancestors_from s above (parent_name n)
 
 -- the line of a page: the page and all its ancestors, finest first (van Waveren 2012)
-unfoldable pub line_of : Shape → ℕ → List ℕ
-line_of s p = line_from s (levels_of s - 1 - level_of s p) (name_at s p)
+unfoldable pub ancestors_of : Shape → ℕ → List ℕ
+ancestors_of s p = ancestors_from s (levels_of s - 1 - level_of s p) (name_at s p)
 
 -- the page of a page's line at a level (van Waveren 2012)
 unfoldable pub ancestor_of : Shape → ℕ → ℕ → ℕ
-ancestor_of s p k = slice_index (line_of s p) (k - level_of s p)
+ancestor_of s p k = slice_index (ancestors_of s p) (k - level_of s p)
 
 -- the root: the one page of the last level (van Waveren 2012)
 unfoldable pub root_of : Shape → ℕ

@@ -100,10 +100,10 @@ module _ {F : Type 0} (g : FileMeanings F) where
       (subst (λ (o : Option WordStreamer). MayPlace (kit_state g m.words (journal_by o) m.kit) page frame tile) there may) placed refused
 
   -- samplers that were moved out of a prepared machine may draw
-  pub muster_draws : (job : Job) (m : WordView F) (t : WordStreamer) (tasks : List WordSampler) → m.streamer ≡ Some t
+  pub detach_draws : (job : Job) (m : WordView F) (t : WordStreamer) (tasks : List WordSampler) → m.streamer ≡ Some t
       → IsReadyBy g m.words m.queues m.streamer m.kit job.batch → MapsRoot (word_state g m) → IsJobFor (word_state g m).setup job
       → tasks ≡ m.kit.samplers → AllReady (MayDraw m.words job.scene job.picture) tasks
-  muster_draws job m t tasks there ready root job_is same =
+  detach_draws job m t tasks there ready root job_is same =
       may_draw g job m.words m.queues t m.kit tasks (subst (λ (o : Option WordStreamer). IsReadyBy g m.words m.queues o m.kit job.batch) there ready)
       (subst (λ (o : Option WordStreamer). MapsRoot (kit_state g m.words (journal_by o) m.kit)) there root) job_is same
 

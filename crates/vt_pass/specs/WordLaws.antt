@@ -20,8 +20,8 @@ use Rattle.vt_machine.specs.declared.crew.PassReport.{PassReport}
 use Rattle.vt_machine.specs.Drawings.{Drawing, drawing_of}
 use Rattle.vt_machine.specs.Machines.{MachineState, files_of, told_by}
 use Rattle.vt_machine.specs.Passes.{IsJobFor, IsUntouched, Ran, Broke, Ends}
-use Rattle.vt_rounds.specs.BatchRounds.{Begun as Round}
-use Rattle.vt_rounds.specs.Sizes.{AreSized}
+use Rattle.vt_requests.specs.BatchRounds.{Begun as Round}
+use Rattle.vt_requests.specs.Sizes.{AreSized}
 use Rattle.vt_word_workers.specs.declared.workers.WordSampler.{WordSampler}
 use Rattle.vt_word_workers.specs.declared.workers.WordStreamer.{WordStreamer}
 use Rattle.vt_word_workers.specs.WordTasks.{HasDrawn, HasFed}
@@ -168,24 +168,24 @@ module _ {F P : Type 0} (g : FileMeanings F) (filter : FilterMeanings P) (words 
 
 module _ {F P : Type 0} (g : FileMeanings F) (filter : FilterMeanings P) (job : Job) (m n : WordView F) (a c : List (QueuedView F)) (e f : List WordSampler) (b d : WordStreamer)
     (ready : IsReadyBy g m.words m.queues m.streamer m.kit job.batch) (job_is : IsJobFor (word_state g m).setup job)
-    (mustered : IsMustered g m n a e b) (number : length c ≡ length a) (number_f : length f ≡ length e)
+    (detached : IsMustered g m n a e b) (number : length c ≡ length a) (number_f : length f ≡ length e)
     (did_load : AllDid (HasLoaded g n.queues) a c) (did_draw : AllDid (HasDrawn filter n.words job.scene job.picture) e f)
     (did_stream : HasFed n.words n.queues job.batch b d) where
   -- how the work began
   z : Begun F
-  z = begun g filter m.words m.queues mustered.was b d m.kit n.kit job a c e f mustered.out mustered.streamer_is
+  z = begun g filter m.words m.queues detached.was b d m.kit n.kit job a c e f detached.out detached.streamer_is
 
   -- it leaves what may be moved back
   may_finish : MayFinish g filter n.words n.queues n.kit job c f d z
   unfolding z
   may_finish = subst (λ (x : WordsValue × Queues). MayFinish g filter x.0 x.1 n.kit job c f d
-      (begun g filter m.words m.queues mustered.was b d m.kit n.kit job a c e f mustered.out mustered.streamer_is))
-      (λ i. (sym mustered.words i, sym mustered.queues i))
-      (kit_back g filter m.words m.queues mustered.was b d m.kit n.kit job a c e f mustered.out mustered.streamer_is
-      (subst (λ (x : Option WordStreamer). IsReadyBy g m.words m.queues x m.kit job.batch) mustered.there ready) job_is number number_f
-      (subst (λ (x : Queues). AllDid (HasLoaded g x) a c) mustered.queues did_load)
-      (subst (λ (x : WordsValue). AllDid (HasDrawn filter x job.scene job.picture) e f) mustered.words did_draw)
-      (subst (λ (x : WordsValue × Queues). HasFed x.0 x.1 job.batch b d) (λ i. (mustered.words i, mustered.queues i)) did_stream))
+      (begun g filter m.words m.queues detached.was b d m.kit n.kit job a c e f detached.out detached.streamer_is))
+      (λ i. (sym detached.words i, sym detached.queues i))
+      (kit_back g filter m.words m.queues detached.was b d m.kit n.kit job a c e f detached.out detached.streamer_is
+      (subst (λ (x : Option WordStreamer). IsReadyBy g m.words m.queues x m.kit job.batch) detached.there ready) job_is number number_f
+      (subst (λ (x : Queues). AllDid (HasLoaded g x) a c) detached.queues did_load)
+      (subst (λ (x : WordsValue). AllDid (HasDrawn filter x job.scene job.picture) e f) detached.words did_draw)
+      (subst (λ (x : WordsValue × Queues). HasFed x.0 x.1 job.batch b d) (λ i. (detached.words i, detached.queues i)) did_stream))
 
   -- the workers may be moved back into the kit from which they were moved out
   pub come_back : (z : Begun F) × MayFinish g filter n.words n.queues n.kit job c f d z
@@ -196,9 +196,9 @@ module _ {F P : Type 0} (g : FileMeanings F) (filter : FilterMeanings P) (job : 
   unfolding z
   before = subst (λ (x : WordsValue × Option WordStreamer). IsUntouched (kit_state g m.words (journal_by x.1) m.kit)
       (kit_state g x.0 b.streamer.writer.journal
-      (kit_before n.kit (begun g filter m.words m.queues mustered.was b d m.kit n.kit job a c e f mustered.out mustered.streamer_is))))
-      (λ i. (sym mustered.words i, sym mustered.there i))
-      (same_kit g filter m.words m.queues mustered.was b d m.kit n.kit job a c e f mustered.out mustered.streamer_is)
+      (kit_before n.kit (begun g filter m.words m.queues detached.was b d m.kit n.kit job a c e f detached.out detached.streamer_is))))
+      (λ i. (sym detached.words i, sym detached.there i))
+      (same_kit g filter m.words m.queues detached.was b d m.kit n.kit job a c e f detached.out detached.streamer_is)
 
   -- and then the machine has run the pass
   pub has_ended : (p : WordView F) (r : Result PassReport NoMemory) → WordFinishes g filter job r n c f d p → WordEnds g filter job r (word_state g m) p

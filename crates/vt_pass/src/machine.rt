@@ -28,7 +28,7 @@ use vt_machine::{Crew, PassMachine, PassReport};
 use vt_outside::{File, Gate, Items, NoMemory};
 use vt_pages::Geometry;
 use vt_queue::{QueuePass, Request};
-use vt_rounds::answered;
+use vt_requests::answered;
 use vt_tiles::Stores;
 use vt_word_workers::{WordKit, WordSampler, WordShared, WordStreamer, new_parts};
 
@@ -115,12 +115,12 @@ impl<F: File + Send, P: Filter + Sync> PassMachine for FilteredMachine<F, P> {
 
     ghost lent = { λ m. record { words = m.words; queues = m.queues; filter = record {} } };
 
-    ghost mustered = { λ m job n loaders samplers streamer. IsMustered F.File m n loaders samplers streamer };
+    ghost detached = { λ m job n loaders samplers streamer. IsMustered F.File m n loaders samplers streamer };
 
-    ghost may_dismiss = { λ n job loaders samplers streamer. (b : Begun F)
+    ghost may_reattach = { λ n job loaders samplers streamer. (b : Begun F)
         × MayFinish F.File P.Filter n.words n.queues n.kit job loaders samplers streamer b };
 
-    ghost dismissed = { λ n job loaders samplers streamer p result. IsOk result
+    ghost reattached = { λ n job loaders samplers streamer p result. IsOk result
         × WordFinishes F.File P.Filter job result n loaders samplers streamer p };
 
     fn make_from<Rt: Threads + Wait + Sync>(
@@ -166,7 +166,7 @@ impl<F: File + Send, P: Filter + Sync> PassMachine for FilteredMachine<F, P> {
         }
     }
 
-    fn muster(
+    fn detach_workers(
         &mut self,
         _shot: &Shot<'_>,
         _batch: &Batch,
@@ -174,7 +174,9 @@ impl<F: File + Send, P: Filter + Sync> PassMachine for FilteredMachine<F, P> {
         let own = mem::replace(&mut self.streamer, None);
         match own {
             Some(mut own) => {
-                let (loaders, samplers) = self.kit.muster(&self.shared.queues, &mut own.answers);
+                let (loaders, samplers) = self
+                    .kit
+                    .detach_workers(&self.shared.queues, &mut own.answers);
                 (loaders, samplers, own)
             }
             None => unreachable!(),
@@ -185,7 +187,7 @@ impl<F: File + Send, P: Filter + Sync> PassMachine for FilteredMachine<F, P> {
         &self.shared
     }
 
-    fn dismiss<Rt: Threads + Wait + Sync, G: Gate + Sync>(
+    fn reattach_workers<Rt: Threads + Wait + Sync, G: Gate + Sync>(
         &mut self,
         _rt: &Rt,
         loaders: Items<QueuedLoader<F>>,
@@ -243,11 +245,11 @@ impl<F: File + Send, P: Filter + Sync> PassMachine for FilteredMachine<F, P> {
     ghost shows_whole = { λ scene b m i x y limits store inside below_width below_height maps.
         P.is_plain (stored b) scene m i x y limits below_width below_height maps.root maps.needed_mapped };
 
-    ghost may_come_back = { λ job m n a c e f b d ready root job_is mustered lo sa did_lo did_sa did_st.
-        come_back F.File P.Filter.own job m n a c e f b d ready job_is mustered lo sa did_lo did_sa did_st };
+    ghost may_come_back = { λ job m n a c e f b d ready root job_is detached lo sa did_lo did_sa did_st.
+        come_back F.File P.Filter.own job m n a c e f b d ready job_is detached lo sa did_lo did_sa did_st };
 
-    ghost has_run = { λ job m n p a c e f b d r ready root job_is mustered lo sa did_lo did_sa did_st dismissed.
-        has_ended F.File P.Filter.own job m n a c e f b d ready job_is mustered lo sa did_lo did_sa did_st p r dismissed.1 };
+    ghost has_run = { λ job m n p a c e f b d r ready root job_is detached lo sa did_lo did_sa did_st reattached.
+        has_ended F.File P.Filter.own job m n a c e f b d ready job_is detached lo sa did_lo did_sa did_st p r reattached.1 };
 
-    ghost has_answered = { λ job n p c f d r dismissed. none_refused r dismissed.0 };
+    ghost has_answered = { λ job n p c f d r reattached. none_refused r reattached.0 };
 }

@@ -36,7 +36,7 @@ fn draw_and_stream<Rt: Threads + Wait + Sync, F: File + Send, P: Filter + Sync, 
         own.new.streamer kit.new }
     ensures idle { IsIdleKit F.File words.now own.new.streamer kit.new }
 {
-    let (mut loaders, mut samplers) = kit.muster(queues, &mut own.answers);
+    let (mut loaders, mut samplers) = kit.detach_workers(queues, &mut own.answers);
     let shared = LentShared::<P> {
         words,
         queues,

@@ -7,8 +7,8 @@ use Rattle.vt_pages.specs.Lookups.{lookup}
 use Rattle.vt_camera.specs.Rows.{row_level}
 use Rattle.vt_journal.specs.Changes.{Table}
 use Rattle.vt_journal.specs.Lookups.{is_mapped}
-use Rattle.vt_shown.specs.Scenes.{Scene}
-use Rattle.vt_shown.specs.Replays.{scene_row}
+use Rattle.vt_pictures.specs.Scenes.{Scene}
+use Rattle.vt_pictures.specs.Replays.{scene_row}
 use Rattle.vt_plain_bilinear.specs.Blends.{blend_bytes}
 
 -- the level of the page that serves a page under a table: the finest that it maps of the page and its ancestors; the root where none is

@@ -2,7 +2,7 @@
 use Rattle.std.specs.Prelude.{ℕ, nat_lt, Bool, not, List, map, slice_index}
 use Rattle.std.specs.List.{filter}
 use Rattle.vt_pages.specs.Shape.{Shape}
-use Rattle.vt_pages.specs.Lookups.{step_of}
+use Rattle.vt_pages.specs.Lookups.{next_finer_page}
 use Rattle.vt_plan.specs.PageLists.{each_once}
 
 -- a page has a frame
@@ -11,4 +11,4 @@ is_mapped entries p = nat_lt 0 (slice_index entries p)
 
 -- the steps of the unmapped ones of some pages, each once at its first place
 unfoldable pub missing_from : Shape → List ℕ → List ℕ → List ℕ
-missing_from s entries pages = each_once (map (step_of s (is_mapped entries)) (filter (λ p. not (is_mapped entries p)) pages))
+missing_from s entries pages = each_once (map (next_finer_page s (is_mapped entries)) (filter (λ p. not (is_mapped entries p)) pages))

@@ -5,7 +5,7 @@ ghost use Rattle.std.specs.List.{All, filter, range_with_len};
 ghost use Rattle.std.specs.Map.{keys_of};
 ghost use Rattle.vt_pages.specs.Pages.{IsWithinLimits, pages_of};
 ghost use Rattle.vt_feedback.specs.Wants.{pages_wanted};
-ghost use Rattle.vt_pages.specs.Lookups.{step_of as step_above};
+ghost use Rattle.vt_pages.specs.Lookups.{next_finer_page as step_above};
 ghost use Rattle.vt_plan.specs.PageLists.{is_in, with_page};
 ghost use Rattle.vt_plan.specs.Missing.{is_mapped, missing_from};
 ghost use Rattle.vt_plan.specs.Entries.{freed_at, taken_at, taken_with};
@@ -28,7 +28,7 @@ pub fn add_page(pages: &mut IndexSet<u32>, page: u32) -> Result<(), NoMemory>
 }
 
 // The page just before an unmapped page's look-up, in its line.
-fn step_of(geometry: &Geometry, entries: &[u32], page: u32) -> u32
+fn next_finer_page(geometry: &Geometry, entries: &[u32], page: u32) -> u32
     requires limits { IsWithinLimits geometry.now }
     requires inside { page < pages_of geometry.now }
     requires entries { length entries.now ≡ pages_of geometry.now }
@@ -41,14 +41,14 @@ fn step_of(geometry: &Geometry, entries: &[u32], page: u32) -> u32
             if entries[parent as usize] > 0 {
                 page
             } else {
-                step_of(geometry, entries, parent)
+                next_finer_page(geometry, entries, parent)
             }
         }
         None => page,
     }
 }
 
-// Asks for the step of a page that is unmapped, unless it was asked for.
+// Asks for the next finer page of a page that is unmapped, unless it was asked for.
 fn ask(
     geometry: &Geometry,
     entries: &[u32],
@@ -65,7 +65,7 @@ fn ask(
     if entries[page as usize] > 0 {
         return Ok(());
     }
-    add_page(missing, step_of(geometry, entries, page))
+    add_page(missing, next_finer_page(geometry, entries, page))
 }
 
 /// The steps of the unmapped pages of a wanted list, each once at its first place.

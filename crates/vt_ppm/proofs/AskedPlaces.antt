@@ -9,7 +9,7 @@ use Rattle.vt_ppm.specs.declared.error.PpmError.{PpmError}
 use Rattle.vt_ppm.specs.declared.error.PpmError.TheVariants.{NoMemory}
 use Rattle.vt_ppm.specs.Format.{depth_of}
 use Rattle.vt_ppm.specs.Flaws.{IsLawfulHeader}
-use Rattle.vt_ppm.specs.Reads.{IsFrontPlace, IsRasterPlace, Gains, AreHeaderPlaces, AreImagePlaces, AsksHeader, AsksImage, ReadsFront, ReadsRaster, NotesRead, IsFront}
+use Rattle.vt_ppm.specs.Reads.{IsFrontPlace, IsRasterPlace, Gains, AreHeaderPlaces, AreImagePlaces, AsksHeader, AsksImage, ReadsFront, ReadsRaster, NotesRead, IsImagePrefix}
 use Rattle.vt_ppm.proofs.TellingFiles.{header_told}
 
 gains_nothing : (o n : Option (List Place)) → n ≡ o → Gains o n []
@@ -54,7 +54,7 @@ module _ (t : Option (List ℕ)) (o p n : Option (List Place)) (len count : ℕ)
 
 -- the raster is asked for once the front was read
 module _ (t : Option (List ℕ)) (o p n : Option (List Place)) (len r w h m want : ℕ) (bytes : List ℕ) (front : ReadsFront t o p)
-    (is : IfSome t (λ b. IsFront b len bytes)) (few : length bytes ≡ min len header_limit) (header : IsLawfulHeader most_read_side bytes r w h m)
+    (is : IfSome t (λ b. IsImagePrefix b len bytes)) (few : length bytes ≡ min len header_limit) (header : IsLawfulHeader most_read_side bytes r w h m)
     (whole : want ≡ texel_length (depth_of m) * (w * h)) (enough : want ≤ len - r) where
   raster_place : (place : Place) → place.at ≡ r → place.len ≡ want → IsRasterPlace t place
   raster_place place ea el = record {
@@ -66,7 +66,7 @@ module _ (t : Option (List ℕ)) (o p n : Option (List Place)) (len r w h m want
     within = ends t is;
   }
     where
-      ends : (t : Option (List ℕ)) → IfSome t (λ b. IsFront b len bytes) → IfSome t (λ b. place.at + place.len ≤ length b)
+      ends : (t : Option (List ℕ)) → IfSome t (λ b. IsImagePrefix b len bytes) → IfSome t (λ b. place.at + place.len ≤ length b)
       ends None f = tt
       ends (Some b) f = omega (arith, f.len_is, ea, el, few, header.sized.header.within, enough)
 

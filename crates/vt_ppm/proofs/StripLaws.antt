@@ -13,7 +13,7 @@ use Rattle.vt_ppm.specs.declared.error.PpmError.TheVariants.{Failed}
 use Rattle.vt_ppm.specs.declared.header.Header.{Header}
 use Rattle.vt_ppm.specs.Format.{IsTexture, AreUpTo, depth_of, scaled}
 use Rattle.vt_ppm.specs.Flaws.{IsLawfulHeader, IsSampleOver}
-use Rattle.vt_ppm.specs.Reads.{IsFront}
+use Rattle.vt_ppm.specs.Reads.{IsImagePrefix}
 use Rattle.vt_ppm.specs.Samples.{AreScaledUpTo, IsFirstOver}
 use Rattle.vt_ppm.specs.Strips.{HasRaster, HasRasterIfTold, MayBeOver, HasSamplesIfTold, IsTextureIfTold, AreRowsUpTo, texture_of, sample_bytes, kept_samples, row_length, row_start, rows_of, RowsAsked, ChecksRows}
 use Rattle.vt_ppm.proofs.Rasters.{image_made}
@@ -198,13 +198,13 @@ rows_are h b xs out y count has few inside piece full kept scaling bytes =
     ∙ ap (λ m. take (count * row_length h) (drop m (sample_bytes d value n))) (sym from)
 
 -- the raster is there where the file has as many bytes behind the header
-pub raster_told : (told : Option (List ℕ)) (n : ℕ) (front : List ℕ) (h : Header) (want have : ℕ) → IfSome told (λ b. IsFront b n front)
+pub raster_told : (told : Option (List ℕ)) (n : ℕ) (front : List ℕ) (h : Header) (want have : ℕ) → IfSome told (λ b. IsImagePrefix b n front)
     → length front ≡ min n header_limit → IsLawfulHeader most_tiled_side front h.raster h.width h.height h.maximum
     → want ≡ texel_length (depth_of h.maximum) * (h.width * h.height) → have ≡ n - h.raster → want ≤ have → TellsBytes told → HasRasterIfTold told h
 raster_told told n front h want have is few header want_is have_is enough values =
-    record { each = λ b e. there b (subst TellsBytes e values) (subst (λ t. IfSome t (λ b. IsFront b n front)) e is) }
+    record { each = λ b e. there b (subst TellsBytes e values) (subst (λ t. IfSome t (λ b. IsImagePrefix b n front)) e is) }
   where
-    there : (b : List ℕ) → AreBytes b → IsFront b n front → HasRaster b h
+    there : (b : List ℕ) → AreBytes b → IsImagePrefix b n front → HasRaster b h
     there b are f =
         let whole : h.height * row_length h ≡ texel_length (depth_of h.maximum) * (h.width * h.height) = grind arith in
         record {

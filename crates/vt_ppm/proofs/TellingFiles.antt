@@ -9,32 +9,32 @@ use Rattle.vt_ppm.specs.declared.header.Header.{Header}
 use Rattle.vt_ppm.specs.Format.{IsImageUpTo, AreUpTo, depth_of}
 use Rattle.vt_ppm.specs.Image.{ImageView}
 use Rattle.vt_ppm.specs.Flaws.{IsLawfulHeader, IsFlawUpTo}
-use Rattle.vt_ppm.specs.Reads.{IsFront}
+use Rattle.vt_ppm.specs.Reads.{IsImagePrefix}
 use Rattle.vt_ppm.specs.Refusals.{IsOutsideRefusal, IsRasterRefusal}
 use Rattle.vt_ppm.specs.Samples.{IsOverAt, IsRasterImage}
 use Rattle.vt_ppm.proofs.Rasters.{head_is, lawful_header, flaw_of_head, image_is, sample_over, truncated}
 
 -- the front that was read is that of the file
 pub front_told : (o o1 : Option (List ℕ)) (front : List ℕ) (n : ℕ) → o1 ≡ o → IfSome o (λ b. n ≡ length b) → IfSome o1 (λ b. IsPiece b 0 front)
-    → length front ≡ min n header_limit → IfSome o (λ b. IsFront b n front)
+    → length front ≡ min n header_limit → IfSome o (λ b. IsImagePrefix b n front)
 front_told None o1 front n e told piece len = tt
 front_told (Some b) o1 front n e told piece len =
     let here : IsPiece b 0 front = subst (λ o. IfSome o (λ b. IsPiece b 0 front)) e piece in
     record { len_is = told; front_is = head_is b front n told (here.same ∙ ap (λ k. take k b) len) }
 
 -- what the front holds is so of the whole
-module _ (most : ℕ) (o : Option (List ℕ)) (n : ℕ) (front : List ℕ) (is : IfSome o (λ b. IsFront b n front)) where
+module _ (most : ℕ) (o : Option (List ℕ)) (n : ℕ) (front : List ℕ) (is : IfSome o (λ b. IsImagePrefix b n front)) where
   pub header_told : (r w h m : ℕ) → IsLawfulHeader most front r w h m → IfSome o (λ b. IsLawfulHeader most b r w h m)
   header_told r w h m l = told o is
     where
-      told : (o : Option (List ℕ)) → IfSome o (λ b. IsFront b n front) → IfSome o (λ b. IsLawfulHeader most b r w h m)
+      told : (o : Option (List ℕ)) → IfSome o (λ b. IsImagePrefix b n front) → IfSome o (λ b. IsLawfulHeader most b r w h m)
       told None f = tt
       told (Some b) f = lawful_header most b front f.front_is r w h m l
 
   pub flaw_told : (e : PpmError) → (IsRasterRefusal e → ⊥) → IsFlawUpTo most front e → IfSome o (λ b. IsFlawUpTo most b e)
   flaw_told e other flaw = told o is
     where
-      told : (o : Option (List ℕ)) → IfSome o (λ b. IsFront b n front) → IfSome o (λ b. IsFlawUpTo most b e)
+      told : (o : Option (List ℕ)) → IfSome o (λ b. IsImagePrefix b n front) → IfSome o (λ b. IsFlawUpTo most b e)
       told None f = tt
       told (Some b) f = flaw_of_head most b front f.front_is e other flaw
 
@@ -49,7 +49,7 @@ module _ (most : ℕ) (o : Option (List ℕ)) (n : ℕ) (front : List ℕ) (is :
   header_answer_told (Err e) l = tt
 
 -- what is found with the header of the front is so of the file
-module _ (most : ℕ) (o : Option (List ℕ)) (n r w h m : ℕ) (front : List ℕ) (is : IfSome o (λ b. IsFront b n front))
+module _ (most : ℕ) (o : Option (List ℕ)) (n r w h m : ℕ) (front : List ℕ) (is : IfSome o (λ b. IsImagePrefix b n front))
     (header : IsLawfulHeader most front r w h m) where
   told : IfSome o (λ b. IsLawfulHeader most b r w h m)
   told = header_told most o n front is r w h m header
@@ -59,7 +59,7 @@ module _ (most : ℕ) (o : Option (List ℕ)) (n r w h m : ℕ) (front : List �
       → IfSome o (λ b. IsFlawUpTo most b (Truncated want have))
   truncated_told want have few ew eh short = found o is told
     where
-      found : (o : Option (List ℕ)) → IfSome o (λ b. IsFront b n front) → IfSome o (λ b. IsLawfulHeader most b r w h m)
+      found : (o : Option (List ℕ)) → IfSome o (λ b. IsImagePrefix b n front) → IfSome o (λ b. IsLawfulHeader most b r w h m)
           → IfSome o (λ b. IsFlawUpTo most b (Truncated want have))
       found None f l = tt
       found (Some b) f l = truncated most b r w h m want have l ew (omega (arith, f.len_is, few, header.sized.header.within, eh)) short

@@ -91,6 +91,6 @@ NotesRead (Err NoMemory) at len before after = after ≡ before
 NotesRead (Err _) at len before after = after ≡ option_map (noted at len true) before
 
 -- the number of the bytes, and as many of the first ones as a header may have
-pub record IsFront (b : List ℕ) (len : ℕ) (front : List ℕ) : Type 0 where
+pub record IsImagePrefix (b : List ℕ) (len : ℕ) (front : List ℕ) : Type 0 where
   pub len_is : len ≡ length b
   pub front_is : front ≡ take header_limit b

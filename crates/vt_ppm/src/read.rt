@@ -5,7 +5,7 @@ ghost use Rattle.vt_outside.specs.Counts.{Rose};
 ghost use Rattle.vt_outside.specs.Files.{IsPiece, TellsBytes};
 ghost use Rattle.vt_ppm.specs.Format.{IsImage};
 ghost use Rattle.vt_ppm.specs.Flaws.{IsHeaderFlaw, IsImageFlaw, IsLawfulHeader};
-ghost use Rattle.vt_ppm.specs.Reads.{AsksHeader, AsksImage, AnswersOfHeader, AnswersOfImage, ReadsFront, NotesRead, IsFront};
+ghost use Rattle.vt_ppm.specs.Reads.{AsksHeader, AsksImage, AnswersOfHeader, AnswersOfImage, ReadsFront, NotesRead, IsImagePrefix};
 ghost use Rattle.vt_ppm.specs.Refusals.{IsOutsideRefusal, IsRasterRefusal, IsSampleRefusal};
 ghost use Rattle.vt_ppm.specs.Strips.{IsTextureHeader, HasRasterIfTold};
 
@@ -57,7 +57,7 @@ fn bytes_at<F: File>(
 // Reads the front of the file, after making room to note so many reads, of which this is one.
 fn front_of<F: File>(alloc: Global, file: &mut F, reads: u64) -> Result<Front, PpmError>
     requires { 1 ≤ reads }
-    ensures front { IfOk result (λ f. IfSome (F.bytes file.old) (λ b. IsFront b f.length f.bytes.items)) }
+    ensures front { IfOk result (λ f. IfSome (F.bytes file.old) (λ b. IsImagePrefix b f.length f.bytes.items)) }
     ensures values { OnOk result (TellsBytes (F.bytes file.old)) }
     ensures few { IfOk result (λ f. length f.bytes.items ≡ min f.length header_limit) }
     ensures refusals { IfErr result IsOutsideRefusal }

@@ -1,7 +1,7 @@
 pub mod Answering
 pub mod Passes
 pub mod Reading
-pub mod Sighted
+pub mod ReplayLookupLaws
 pub mod Climbing
 pub mod Tiling
 pub mod Readying

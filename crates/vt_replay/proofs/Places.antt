@@ -5,7 +5,7 @@ use Rattle.std.proofs.lemmas.Bool.{cases_lt}
 use Rattle.std.proofs.lemmas.Slice.{between-put_mid}
 use borrow.Rule.Slice.PartMut.{put_mid}
 use Rattle.vt_table.proofs.Rooms.{before_mid, behind_mid}
-use Rattle.vt_replay.specs.Sights.{row_of}
+use Rattle.vt_replay.specs.ReplayLookups.{row_of}
 
 pub row_room : (y height line room : ℕ) → y < height → room ≡ height * line → y * line + line ≤ room
 row_room y height line room low size = let m = mul-le (y + 1) line height line (omega (arith, low)) (omega arith) in omega (arith, size, m)

@@ -4,8 +4,8 @@ use Rattle.vt_definitions.specs.Depths.{IsDepth}
 use Rattle.vt_outside.specs.declared.outside.File.{Ghosts as FileMeanings}
 use Rattle.vt_pages.specs.Shape.{Shape}
 use Rattle.vt_tiles.specs.StoreViews.{StoreView}
-use Rattle.vt_replay.specs.Playing.{IsReadOn, IsReady}
-use Rattle.vt_replay.specs.Sights.{IsSight, AreTiles}
+use Rattle.vt_replay.specs.Playing.{IsReadOn, IsReplayReady}
+use Rattle.vt_replay.specs.ReplayLookups.{IsReplayLookup, AreTiles}
 
 -- tiles of the same bytes
 pub tiles_same : (s : Shape) (d size n : ℕ) (slots owners bytes more_slots more_owners more_bytes : List ℕ) (told : Option (List ℕ))
@@ -20,8 +20,8 @@ tiles_same s d size n slots owners bytes more_slots more_owners more_bytes told 
 -- the store was read on, and the set holds tiles of it
 pub ready_after : {F : Type 0} (g : FileMeanings F) (s : Shape) (d : ℕ) (entries : List ℕ) (size n : ℕ)
     (slots owners bytes more_slots more_owners more_bytes : List ℕ) (store after : StoreView F)
-    → IsReady g s d entries size slots owners bytes store → IsReadOn g store after
-    → AreTiles s d n more_slots more_owners more_bytes (g.bytes store.file) → IsReady g s d entries n more_slots more_owners more_bytes after
+    → IsReplayReady g s d entries size slots owners bytes store → IsReadOn g store after
+    → AreTiles s d n more_slots more_owners more_bytes (g.bytes store.file) → IsReplayReady g s d entries n more_slots more_owners more_bytes after
 ready_after g s d entries size n slots owners bytes more_slots more_owners more_bytes store after h read tiles = record {
   all_entries = h.all_entries;
   root = h.root;
@@ -32,9 +32,9 @@ ready_after g s d entries size n slots owners bytes more_slots more_owners more_
 }
 
 -- so a look-up over them may begin
-pub ready_sight : {F : Type 0} (g : FileMeanings F) (s : Shape) (d version size : ℕ) (entries slots owners bytes : List ℕ) (store : StoreView F)
-    → IsDepth d → IsReady g s d entries size slots owners bytes store
-    → IsSight (record {
+pub ready_replay_lookup : {F : Type 0} (g : FileMeanings F) (s : Shape) (d version size : ℕ) (entries slots owners bytes : List ℕ) (store : StoreView F)
+    → IsDepth d → IsReplayReady g s d entries size slots owners bytes store
+    → IsReplayLookup (record {
       shape = s;
       depth = d;
       size = size;
@@ -45,7 +45,7 @@ pub ready_sight : {F : Type 0} (g : FileMeanings F) (s : Shape) (d version size 
       bytes = bytes;
       missed = false;
     })
-ready_sight g s d version size entries slots owners bytes store lawful h = record {
+ready_replay_lookup g s d version size entries slots owners bytes store lawful h = record {
   lawful = lawful;
   all_entries = h.all_entries;
   root = h.root;

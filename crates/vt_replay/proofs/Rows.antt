@@ -10,9 +10,9 @@ use Rattle.vt_definitions.specs.Texels.{Source}
 use Rattle.vt_journal.specs.declared.changes.Change.{Change}
 use Rattle.vt_journal.specs.declared.changes.RowLine.{RowLine}
 use Rattle.vt_journal.specs.Changes.{at}
-use Rattle.vt_shown.specs.Scenes.{Scene}
-use Rattle.vt_shown.specs.Replays.{HasPixels, IsReplayOf}
-use Rattle.vt_replay.specs.Sights.{row_of}
+use Rattle.vt_pictures.specs.Scenes.{Scene}
+use Rattle.vt_pictures.specs.Replays.{HasPixels, IsReplayOf}
+use Rattle.vt_replay.specs.ReplayLookups.{row_of}
 use Rattle.vt_replay.specs.Replayed.{Under, version_of, replayed_row, replayed_rows}
 
 -- bytes are their pieces of so many bytes each, one after another

@@ -12,7 +12,7 @@ use Rattle.vt_journal.specs.Changes.{Table, with_entry}
 use Rattle.vt_journal.specs.Kept.{entry_of, entries_of}
 use Rattle.vt_journal.proofs.Versions.{same_page, entry-same, entry-other}
 use Rattle.vt_tiles.specs.Format.{tile_start, tile_length}
-use Rattle.vt_replay.specs.Sights.{row_of, AreTiles}
+use Rattle.vt_replay.specs.ReplayLookups.{row_of, AreTiles}
 
 -- numbers that are all 0 give no entry
 pub no_entries : (numbers : List ℕ) (n k : ℕ) → numbers ≡ replicate n 0 → entries_of numbers k ≡ None

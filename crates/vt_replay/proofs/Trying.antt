@@ -6,7 +6,7 @@ use Rattle.std.proofs.lemmas.List.{get_or_append_left, get_or-append_right, get_
 use Rattle.vt_definitions.specs.Depths.{texel_length}
 use Rattle.vt_draw.specs.declared.shots.Shot.{Shot}
 use Rattle.vt_journal.proofs.Versions.{same_page}
-use Rattle.vt_replay.specs.Sights.{SightView, row_of}
+use Rattle.vt_replay.specs.ReplayLookups.{ReplayLookupView, row_of}
 use Rattle.vt_replay.specs.Trying.{IsLeft, IsDone, AreTried, MayTry}
 use Rattle.vt_replay.proofs.Places.{row_room}
 
@@ -80,7 +80,7 @@ tried_on line shows told later left mid after samples some new same a b =
     tried_then line 0 (shows told) left mid after samples some new a (subst (λ (o : Option (List ℕ)). AreTried line 0 (shows o) mid after some new) same b)
 
 -- rows may be drawn, so some of them may be, and the others
-module _ (shot : Shot) (v : SightView) (first rows bytes : ℕ) (may : MayTry shot v first rows bytes) where
+module _ (shot : Shot) (v : ReplayLookupView) (first rows bytes : ℕ) (may : MayTry shot v first rows bytes) where
   pub may_front : (cut some : ℕ) → cut ≤ rows → some ≡ cut * (texel_length shot.depth * shot.path.now.width) → MayTry shot v first cut some
   may_front cut some few room = record {
     lawful = may.lawful;

@@ -13,13 +13,13 @@ use Rattle.vt_ppm.specs.Picture.{picture_bytes}
 use Rattle.vt_journal.specs.declared.changes.Change.{Change}
 use Rattle.vt_journal.specs.declared.changes.RowLine.{RowLine}
 use Rattle.vt_journal.specs.JournalText.{Pass}
-use Rattle.vt_files.specs.Courses.{FolderState, Passage}
-use Rattle.vt_files.specs.Dues.{FileDue, IsPart, AsksNone, Writes}
-use Rattle.vt_files.specs.Pictures.{picture_due, pictures_due}
+use Rattle.vt_files.specs.Effects.{FolderState, FolderEffect}
+use Rattle.vt_files.specs.Expectations.{ExpectedFile, IsPart, AsksNone, Writes}
+use Rattle.vt_files.specs.Pictures.{expected_picture, expected_pictures}
 use Rattle.vt_files.proofs.Writing.{HasPictures, more_pictures, stopped_pictures, part_none}
 use Rattle.vt_pages.specs.Shape.{Shape}
 use Rattle.vt_camera.specs.Paths.{PathView}
-use Rattle.vt_shown.specs.Scenes.{Scene, scene_of}
+use Rattle.vt_pictures.specs.Scenes.{Scene, scene_of}
 use Rattle.vt_replay.specs.Playing.{HasWritten, AreRowsWithin, ArePlayed}
 use Rattle.vt_replay.specs.Replayed.{Under, replayed_rows, lines_after, last_lines, pictures_after, pictures_of, replay_file}
 
@@ -30,20 +30,20 @@ written_back len new old full same =
     ap (λ (bs : List ℕ). take len (new ++ bs)) (drop_of_length-le old past)
     ∙ ap (take len) (append-nil new) ∙ ap (λ (n : ℕ). take n new) (sym full) ∙ take-length new
 
-pub has_written : {T : Type 0} (due : List FileDue) (p : Passage) (r : Result T OutsideError) → Writes due p r → HasWritten due p.before.files p.after.files r
-has_written due p (Ok x) h = h.1
-has_written due p (Err e) h = h.1
+pub has_written : {T : Type 0} (expected : List ExpectedFile) (p : FolderEffect) (r : Result T OutsideError) → Writes expected p r → HasWritten expected p.before.files p.after.files r
+has_written expected p (Ok x) h = h.1
+has_written expected p (Err e) h = h.1
 
 -- a picture of samples that are known was written
-pub samples_written : (prefix : List ℕ) (d width height number : ℕ) (given : List ℕ) (shown : ℕ → List ℕ) (p : Passage) (r : Result (Unit {0}) OutsideError)
-    → given ≡ shown number → Writes (picture_due prefix (λ _. picture_bytes d width height given) number ∷ []) p r
-    → HasWritten (picture_due prefix (λ picture. picture_bytes d width height (shown picture)) number ∷ []) p.before.files p.after.files r
+pub samples_written : (prefix : List ℕ) (d width height number : ℕ) (given : List ℕ) (shown : ℕ → List ℕ) (p : FolderEffect) (r : Result (Unit {0}) OutsideError)
+    → given ≡ shown number → Writes (expected_picture prefix (λ _. picture_bytes d width height given) number ∷ []) p r
+    → HasWritten (expected_picture prefix (λ picture. picture_bytes d width height (shown picture)) number ∷ []) p.before.files p.after.files r
 samples_written prefix d width height number given shown p r same h =
-    subst (λ (samples : List ℕ). HasWritten (picture_due prefix (λ _. picture_bytes d width height samples) number ∷ []) p.before.files p.after.files r) same
-    (has_written (picture_due prefix (λ _. picture_bytes d width height given) number ∷ []) p r h)
+    subst (λ (samples : List ℕ). HasWritten (expected_picture prefix (λ _. picture_bytes d width height samples) number ∷ []) p.before.files p.after.files r) same
+    (has_written (expected_picture prefix (λ _. picture_bytes d width height given) number ∷ []) p r h)
 
-pub nothing_written : (due : List FileDue) (told : Option Files) (e : OutsideError) → HasWritten {T = Unit {0}} due told told (Err e)
-nothing_written due told e = part_none due told told refl
+pub nothing_written : (expected : List ExpectedFile) (told : Option Files) (e : OutsideError) → HasWritten {T = Unit {0}} expected told told (Err e)
+nothing_written expected told e = part_none expected told told refl
 
 -- rows of passes among which the picture is not
 lines_stay : (lines : List RowLine) (ps : List Pass) (picture : ℕ) → ((i : ℕ) (q : Pass) → slice_get ps i ≡ Some q → q.picture ≢ picture)
@@ -150,27 +150,27 @@ picture_counted count ps height pinned last all i p is (suc n) size =
 -- one more picture was written
 pub one_more : (prefix : List ℕ) (file shown : ℕ → List ℕ) (count : ℕ) (before mid after : FolderState) → shown count ≡ file count
     → HasPictures prefix file count before mid → AsksNone (record { before = mid; after = after })
-    → HasWritten {T = Unit {0}} (picture_due prefix shown count ∷ []) mid.files after.files (Ok tt) → HasPictures prefix file (count + 1) before after
+    → HasWritten {T = Unit {0}} (expected_picture prefix shown count ∷ []) mid.files after.files (Ok tt) → HasPictures prefix file (count + 1) before after
 one_more prefix file shown count before mid after same h asks more =
     more_pictures prefix file count before mid after h (
       asks,
-      subst (λ (bytes : List ℕ). HasWritten {T = Unit {0}} (picture_due prefix (λ _. bytes) count ∷ []) mid.files after.files (Ok tt)) same more,
+      subst (λ (bytes : List ℕ). HasWritten {T = Unit {0}} (expected_picture prefix (λ _. bytes) count ∷ []) mid.files after.files (Ok tt)) same more,
     )
 
 -- the next picture was not written whole
 pub one_stopped : (prefix : List ℕ) (file shown : ℕ → List ℕ) (count all : ℕ) (before mid after : FolderState) (error : OutsideError)
     → count < all → shown count ≡ file count
     → HasPictures prefix file count before mid → AsksNone (record { before = mid; after = after })
-    → HasWritten {T = Unit {0}} (picture_due prefix shown count ∷ []) mid.files after.files (Err error)
-    → IsPart (pictures_due prefix file all) before.files after.files
+    → HasWritten {T = Unit {0}} (expected_picture prefix shown count ∷ []) mid.files after.files (Err error)
+    → IsPart (expected_pictures prefix file all) before.files after.files
 one_stopped prefix file shown count all before mid after error low same h asks part =
     (stopped_pictures prefix file count all before mid after NoMemory low h (
       asks,
-      subst (λ (bytes : List ℕ). IsPart (picture_due prefix (λ _. bytes) count ∷ []) mid.files after.files) same part,
+      subst (λ (bytes : List ℕ). IsPart (expected_picture prefix (λ _. bytes) count ∷ []) mid.files after.files) same part,
       tt,
     )).1
 
--- whose turn it is, by the pass at a place
+-- which picture comes next, by the pass at a place
 abbrev pub HasTurn : List Pass → ℕ → ℕ → ℕ → Type 0
 HasTurn passes i done version = MatchOption (slice_get passes i) (done ≡ pictures_of passes) (λ p. (done ≡ p.picture) × (version ≤ p.start))
 

@@ -1,6 +1,6 @@
 pub mod Flaws
 pub mod Replayed
-pub mod Sights
+pub mod ReplayLookups
 pub mod Playing
 pub mod Outcomes
 pub mod Trying

@@ -7,10 +7,10 @@ use Rattle.vt_pages.specs.Shape.{Shape}
 use Rattle.vt_camera.specs.Paths.{PathView}
 use Rattle.vt_journal.specs.JournalText.{Pass, Content, journal_text}
 use Rattle.vt_journal.specs.JournalFlaws.{IsLawful}
-use Rattle.vt_files.specs.Dues.{with_files, IsPart}
+use Rattle.vt_files.specs.Expectations.{with_files, IsPart}
 use Rattle.vt_replay.specs.Flaws.{IsFirstRefused}
 use Rattle.vt_tiles.specs.Places.{IsTilePlace}
-use Rattle.vt_replay.specs.Replayed.{Under, pictures_of, replay_due}
+use Rattle.vt_replay.specs.Replayed.{Under, pictures_of, expected_replay}
 use Rattle.vt_replay.specs.declared.error.ReplayError.{ReplayError}
 use Rattle.vt_replay.specs.declared.error.ReplayError.TheVariants.{BadJournal, Failed, NoMemory}
 
@@ -23,12 +23,12 @@ pub record IsReplayable (s : Shape) (path : PathView) (text : List ℕ) (content
 -- where the store tells its bytes, each picture of the journal has at its name the file of its replay, and all else is as before
 abbrev pub HoldsReplay : Under → Shape → ℕ → Option (List ℕ) → PathView → List ℕ → Content → Option Files → Option Files → Type 0
 HoldsReplay under s d told path prefix content before after =
-    (b : List ℕ) → told ≡ Some b → after ≡ option_map (with_files (replay_due under s d b path prefix content)) before
+    (b : List ℕ) → told ≡ Some b → after ≡ option_map (with_files (expected_replay under s d b path prefix content)) before
 
 -- where the store tells its bytes, a part of the pictures is there: some whole, and of the next at most a front part
 abbrev pub HoldsPart : Under → Shape → ℕ → Option (List ℕ) → PathView → List ℕ → Content → Option Files → Option Files → Type 0
 HoldsPart under s d told path prefix content before after =
-    (b : List ℕ) → told ≡ Some b → IsPart (replay_due under s d b path prefix content) before after
+    (b : List ℕ) → told ≡ Some b → IsPart (expected_replay under s d b path prefix content) before after
 
 -- nothing was written, or a part of what the journal is to leave
 abbrev pub Stopped : Under → Shape → ℕ → Option (List ℕ) → PathView → List ℕ → List ℕ → Option Files → Option Files → Type 0

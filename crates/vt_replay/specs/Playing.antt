@@ -14,8 +14,8 @@ use Rattle.vt_journal.specs.Kept.{entries_of, change_frame}
 use Rattle.vt_journal.specs.JournalText.{Pass}
 use Rattle.vt_tiles.specs.Places.{IsTilePlace}
 use Rattle.vt_tiles.specs.StoreViews.{StoreView, IsStoreIfTold}
-use Rattle.vt_files.specs.Dues.{FileDue, with_files, IsPart}
-use Rattle.vt_replay.specs.Sights.{AreTiles}
+use Rattle.vt_files.specs.Expectations.{ExpectedFile, with_files, IsPart}
+use Rattle.vt_replay.specs.ReplayLookups.{AreTiles}
 use Rattle.vt_outside.specs.Files.{Files}
 use Rattle.vt_outside.specs.declared.answers.OutsideError.{OutsideError}
 
@@ -48,7 +48,7 @@ pub record Follows (s : Shape) (changes : List Change) (entries : List ℕ) (ver
   pub apart : IsOneToOne (entries_of entries)
 
 -- a table that maps the root, a set of tiles and a store are ready for the rows of a picture: the set holds tiles of the store
-pub record IsReady {F : Type 0} (g : FileMeanings F) (s : Shape) (d : ℕ) (entries : List ℕ) (size : ℕ) (slots owners bytes : List ℕ)
+pub record IsReplayReady {F : Type 0} (g : FileMeanings F) (s : Shape) (d : ℕ) (entries : List ℕ) (size : ℕ) (slots owners bytes : List ℕ)
     (store : StoreView F) : Type 0 where
   pub all_entries : length entries ≡ pages_of s
   pub root : IsSome (entries_of entries (root_of s))
@@ -70,9 +70,9 @@ pub record IsStaged {F : Type 0} (g : FileMeanings F) (s : Shape) (d width heigh
   pub store_is : IsStoreIfTold (g.bytes store.file) s d
 
 -- the files came to be, or where the call was refused a part of them: some whole, and of the next at most a front part
-abbrev pub HasWritten : {T : Type 0} → List FileDue → Option Files → Option Files → Result T OutsideError → Type 0
-HasWritten due before after (Ok _) = after ≡ option_map (with_files due) before
-HasWritten due before after (Err _) = IsPart due before after
+abbrev pub HasWritten : {T : Type 0} → List ExpectedFile → Option Files → Option Files → Result T OutsideError → Type 0
+HasWritten expected before after (Ok _) = after ≡ option_map (with_files expected) before
+HasWritten expected before after (Err _) = IsPart expected before after
 
 -- the rows of a pass may be drawn: there is one for each row of a picture, and each has a version from the first to the last
 pub record AreRowsWithin (height first last : ℕ) (rows : List RowLine) : Type 0 where

@@ -10,9 +10,9 @@ use Rattle.vt_journal.specs.declared.changes.RowLine.{RowLine}
 use Rattle.vt_journal.specs.Changes.{Table, at}
 use Rattle.vt_journal.specs.JournalText.{Pass, Content, content_changes}
 use Rattle.vt_tiles.specs.Format.{stored}
-use Rattle.vt_files.specs.Dues.{FileDue}
-use Rattle.vt_files.specs.Pictures.{pictures_due}
-use Rattle.vt_shown.specs.Scenes.{Scene, scene_of}
+use Rattle.vt_files.specs.Expectations.{ExpectedFile}
+use Rattle.vt_files.specs.Pictures.{expected_pictures}
+use Rattle.vt_pictures.specs.Scenes.{Scene, scene_of}
 
 -- the version that the line of a row names
 abbrev pub version_of : List RowLine → ℕ → ℕ
@@ -59,6 +59,6 @@ replay_file under src scene changes passes i =
     picture_bytes scene.depth scene.path.width scene.path.height (replay_samples under src scene changes passes i)
 
 -- the files that the replay of a journal is to leave: each picture of its passes under its name, drawn from a store's bytes
-abbrev pub replay_due : Under → Shape → ℕ → List ℕ → PathView → List ℕ → Content → List FileDue
-replay_due under s d b path prefix content =
-    pictures_due prefix (replay_file under (stored b) (scene_of s d path) (content_changes s content) content.passes) (pictures_of content.passes)
+abbrev pub expected_replay : Under → Shape → ℕ → List ℕ → PathView → List ℕ → Content → List ExpectedFile
+expected_replay under s d b path prefix content =
+    expected_pictures prefix (replay_file under (stored b) (scene_of s d path) (content_changes s content) content.passes) (pictures_of content.passes)

@@ -7,16 +7,16 @@ use Rattle.vt_journal.specs.Changes.{Table}
 use Rattle.vt_journal.specs.Kept.{entries_of}
 use Rattle.vt_tiles.specs.Format.{stored}
 use Rattle.vt_tiles.specs.StoreViews.{IsStore}
-use Rattle.vt_shown.specs.Scenes.{Scene, scene_of}
-use Rattle.vt_shown.specs.Replays.{HasPixels}
+use Rattle.vt_pictures.specs.Scenes.{Scene, scene_of}
+use Rattle.vt_pictures.specs.Replays.{HasPixels}
 use Rattle.vt_replay.specs.Replayed.{Under}
-use Rattle.vt_replay.specs.Sights.{SightView, AreTiles, row_of}
+use Rattle.vt_replay.specs.ReplayLookups.{ReplayLookupView, AreTiles, row_of}
 use Rattle.vt_replay.specs.declared.table.PageTable.{PageTable}
 use Rattle.vt_replay.specs.declared.tiles.Tiles.{Tiles}
 
 -- what a look-up over a table and a set of tiles begins with
-abbrev pub sight_of : Shape → ℕ → PageTable → Tiles → SightView
-sight_of s d table tiles = record {
+abbrev pub replay_lookup_of : Shape → ℕ → PageTable → Tiles → ReplayLookupView
+replay_lookup_of s d table tiles = record {
   shape = s;
   depth = d;
   size = tiles.size;
@@ -29,7 +29,7 @@ sight_of s d table tiles = record {
 }
 
 -- the tiles that are looked at are those of the store whose bytes are told
-abbrev pub HoldsTiles : Shape → ℕ → SightView → Option (List ℕ) → Type 0
+abbrev pub HoldsTiles : Shape → ℕ → ReplayLookupView → Option (List ℕ) → Type 0
 HoldsTiles s d v told = AreTiles s d v.size v.slots v.owners v.bytes told
 
 -- bytes are those of row y of a picture under a page table, as a filter shows its pixels of the store whose bytes are told
@@ -52,7 +52,7 @@ pub record AreTried (line first : ℕ) (shows : ℕ → List ℕ → Type 0) (le
   pub drawn : (k : ℕ) → IsLeft left k → IsDone after k → shows (first + k) (row_of line new k)
 
 -- so many rows of a picture, from a first one on, may be drawn over what is looked at, into so many bytes
-pub record MayTry (shot : Shot) (v : SightView) (first rows bytes : ℕ) : Type 0 where
+pub record MayTry (shot : Shot) (v : ReplayLookupView) (first rows bytes : ℕ) : Type 0 where
   pub lawful : IsDepth shot.depth
   pub shape : v.shape ≡ shot.geometry.now
   pub depth : v.depth ≡ shot.depth
@@ -61,7 +61,7 @@ pub record MayTry (shot : Shot) (v : SightView) (first rows bytes : ℕ) : Type 
   pub room : bytes ≡ rows * (texel_length shot.depth * shot.path.now.width)
 
 -- such rows were drawn as far as the tiles at hand go, whatever store these are of
-abbrev pub HasTried : Under → Shot → SightView → ℕ → List Bool → List Bool → List ℕ → List ℕ → Type 0
+abbrev pub HasTried : Under → Shot → ReplayLookupView → ℕ → List Bool → List Bool → List ℕ → List ℕ → Type 0
 HasTried under shot v first left after samples new = (told : Option (List ℕ)) → HoldsTiles shot.geometry.now shot.depth v told
     → AreTried (texel_length shot.depth * shot.path.now.width) first
     (ShowsRow under (scene_of shot.geometry.now shot.depth shot.path.now) (entries_of v.entries) told shot.picture) left after samples new

@@ -6,14 +6,14 @@ ghost use Rattle.vt_definitions.specs.Depths.{IsDepth, texel_length};
 ghost use Rattle.vt_outside.specs.Counts.{Rose};
 ghost use Rattle.vt_pages.specs.Pages.{pages_of};
 ghost use Rattle.vt_journal.specs.Kept.{entries_of};
-ghost use Rattle.vt_shown.specs.Scenes.{scene_of};
-ghost use Rattle.vt_replay.specs.Playing.{IsReadOn, IsReady};
-ghost use Rattle.vt_replay.specs.Sights.{IsSight, AreTiles};
-ghost use Rattle.vt_replay.specs.Trying.{sight_of, ShowsRow, AreTried, MayTry, HasTried};
+ghost use Rattle.vt_pictures.specs.Scenes.{scene_of};
+ghost use Rattle.vt_replay.specs.Playing.{IsReadOn, IsReplayReady};
+ghost use Rattle.vt_replay.specs.ReplayLookups.{IsReplayLookup, AreTiles};
+ghost use Rattle.vt_replay.specs.Trying.{replay_lookup_of, ShowsRow, AreTried, MayTry, HasTried};
 
 use crate::draw::{Tried, bring_all, clear, try_line};
 use crate::noted::Gathered;
-use crate::sight::Sight;
+use crate::replay_lookup::ReplayLookup;
 use crate::table::PageTable;
 use crate::tiles::Tiles;
 use std::alloc::Global;
@@ -56,7 +56,7 @@ impl Seen {
     }
 
     // Whether the next row is drawn now: if it is left to be drawn, and not left out.
-    fn is_due(&mut self, left: bool) -> bool
+    fn is_expected(&mut self, left: bool) -> bool
         ensures { result ≡ true → left ≡ true }
     {
         if self.out > 0 {
@@ -107,7 +107,7 @@ pub(crate) fn parts_for<Rt: Threads>(
 
 // Draws row k of those from a first one on, if it is left to be drawn and not left out.
 fn try_next<P: Filter>(
-    sight: &Sight<'_>,
+    replay_lookup: &ReplayLookup<'_>,
     shot: &Shot,
     first: u32,
     k: usize,
@@ -116,15 +116,15 @@ fn try_next<P: Filter>(
     samples: &mut [u8],
     counts: &mut [u32],
 )
-    requires may { MayTry shot.now sight.now first (length left.old) (length samples.old) }
+    requires may { MayTry shot.now replay_lookup.now first (length left.old) (length samples.old) }
     requires within { k < length left.old }
     requires pages { length counts.old ≡ pages_of shot.now.geometry.now }
     requires room { (p : ℕ) → p < length counts.old → slice_index counts.old p + 4 * shot.now.path.now.width < 2 ^ 32 }
-    ensures tried { HasTried P.under shot.now sight.now first left.old left.new samples.old samples.new }
+    ensures tried { HasTried P.under shot.now replay_lookup.now first left.old left.new samples.old samples.new }
     ensures counted { (p : ℕ) → p < length counts.new
         → slice_index counts.new p ≤ slice_index counts.old p + 4 * shot.now.path.now.width }
 {
-    if !seen.is_due(left[k]) {
+    if !seen.is_expected(left[k]) {
         return;
     }
     // From here on it is known how many rows a picture has at most.
@@ -132,14 +132,14 @@ fn try_next<P: Filter>(
     let line = texel_length(shot.depth) * shot.path.width() as usize;
     let at = k * line;
     let y = first + k as u32;
-    let tried = try_line::<P>(sight, shot, y, &mut samples[at..at + line], counts);
+    let tried = try_line::<P>(replay_lookup, shot, y, &mut samples[at..at + line], counts);
     seen.note(&tried);
     left[k] = tried.missed;
 }
 
 // Draws the rows of a part that are left, as far as the tiles at hand go. The counts are scratch room.
 fn try_rows<P: Filter>(
-    sight: &Sight<'_>,
+    replay_lookup: &ReplayLookup<'_>,
     shot: &Shot,
     first: u32,
     seen: &mut Seen,
@@ -147,9 +147,9 @@ fn try_rows<P: Filter>(
     samples: &mut [u8],
     counts: &mut [u32],
 )
-    requires may { MayTry shot.now sight.now first (length left.old) (length samples.old) }
+    requires may { MayTry shot.now replay_lookup.now first (length left.old) (length samples.old) }
     requires pages { length counts.old ≡ pages_of shot.now.geometry.now }
-    ensures { HasTried P.under shot.now sight.now first left.old left.new samples.old samples.new }
+    ensures { HasTried P.under shot.now replay_lookup.now first left.old left.new samples.old samples.new }
 {
     clear(counts);
     let width = shot.path.width();
@@ -157,28 +157,36 @@ fn try_rows<P: Filter>(
     // So no count comes near the end of its type.
     prove!(width <= 2048 && height <= 2048);
     for k in 0..left.len() {
-        try_next::<P>(sight, shot, first, k, seen, left, samples, counts);
+        try_next::<P>(replay_lookup, shot, first, k, seen, left, samples, counts);
     }
 }
 
 // Draws the rows of a part with what one thread has. Each thread has a count for each page: where it had not, the rows were left.
 fn try_part<P: Filter>(
-    sight: &Sight<'_>,
+    replay_lookup: &ReplayLookup<'_>,
     shot: &Shot,
     first: u32,
     part: &mut Part,
     left: &mut [bool],
     samples: &mut [u8],
 )
-    requires { MayTry shot.now sight.now first (length left.old) (length samples.old) }
-    ensures { HasTried P.under shot.now sight.now first left.old left.new samples.old samples.new }
+    requires { MayTry shot.now replay_lookup.now first (length left.old) (length samples.old) }
+    ensures { HasTried P.under shot.now replay_lookup.now first left.old left.new samples.old samples.new }
 {
     part.seen = Seen::new();
     let counts = part.counts.as_mut_slice();
     if counts.len() != shot.geometry.page_count() as usize {
         return;
     }
-    try_rows::<P>(sight, shot, first, &mut part.seen, left, samples, counts);
+    try_rows::<P>(
+        replay_lookup,
+        shot,
+        first,
+        &mut part.seen,
+        left,
+        samples,
+        counts,
+    );
 }
 
 // How many rows are left.
@@ -214,7 +222,7 @@ fn place_behind(left: &[bool], count: usize) -> usize
 // no thread can be made, one part is drawn after the other.
 fn try_beside<Rt: Threads + Sync, P: Filter + Sync>(
     rt: &Rt,
-    sight: &Sight<'_>,
+    replay_lookup: &ReplayLookup<'_>,
     shot: &Shot<'_>,
     first: u32,
     threads: usize,
@@ -222,12 +230,12 @@ fn try_beside<Rt: Threads + Sync, P: Filter + Sync>(
     left: &mut [bool],
     samples: &mut [u8],
 )
-    requires may { MayTry shot.now sight.now first (length left.old) (length samples.old) }
+    requires may { MayTry shot.now replay_lookup.now first (length left.old) (length samples.old) }
     requires threads { (1 ≤ threads) × (threads ≤ length parts.old) }
-    ensures tried { HasTried P.under shot.now sight.now first left.old left.new samples.old samples.new }
+    ensures tried { HasTried P.under shot.now replay_lookup.now first left.old left.new samples.old samples.new }
 {
     if threads < 2 {
-        try_part::<P>(sight, shot, first, &mut parts[0], left, samples);
+        try_part::<P>(replay_lookup, shot, first, &mut parts[0], left, samples);
         return;
     }
     // From here on it is known how many rows a picture has at most.
@@ -244,16 +252,38 @@ fn try_beside<Rt: Threads + Sync, P: Filter + Sync>(
         rt,
         &mut || -> ()
             requires { IsSync Rt.row × IsSync P.row × (1 ≤ few) × (few ≤ length low_parts.now)
-                × MayTry shot.now sight.now first (length low_left.now) (length low.now) }
-            ensures { HasTried P.under shot.entry.now sight.entry.now first low_left.entry.now low_left.exit.now
+                × MayTry shot.now replay_lookup.now first (length low_left.now) (length low.now) }
+            ensures { HasTried P.under shot.entry.now replay_lookup.entry.now first low_left.entry.now low_left.exit.now
                 low.entry.now low.exit.now }
-        { try_beside::<Rt, P>(rt, sight, shot, first, few, low_parts, low_left, low) },
+        {
+            try_beside::<Rt, P>(
+                rt,
+                replay_lookup,
+                shot,
+                first,
+                few,
+                low_parts,
+                low_left,
+                low,
+            )
+        },
         &mut || -> ()
             requires { IsSync Rt.row × IsSync P.row × (1 ≤ many) × (many ≤ length high_parts.now)
-                × MayTry shot.now sight.now next (length high_left.now) (length high.now) }
-            ensures { HasTried P.under shot.entry.now sight.entry.now next high_left.entry.now
+                × MayTry shot.now replay_lookup.now next (length high_left.now) (length high.now) }
+            ensures { HasTried P.under shot.entry.now replay_lookup.entry.now next high_left.entry.now
                 high_left.exit.now high.entry.now high.exit.now }
-        { try_beside::<Rt, P>(rt, sight, shot, next, many, high_parts, high_left, high) },
+        {
+            try_beside::<Rt, P>(
+                rt,
+                replay_lookup,
+                shot,
+                next,
+                many,
+                high_parts,
+                high_left,
+                high,
+            )
+        },
     );
 }
 
@@ -268,16 +298,16 @@ fn try_in_parts<Rt: Threads + Sync, P: Filter + Sync>(
     left: &mut [bool],
     samples: &mut [u8],
 )
-    requires sight { IsSight (sight_of shot.now.geometry.now shot.now.depth table.now tiles.now) }
+    requires replay_lookup { IsReplayLookup (replay_lookup_of shot.now.geometry.now shot.now.depth table.now tiles.now) }
     requires picture { shot.now.picture < length shot.now.path.now.cameras }
     requires rows { length left.old ≡ shot.now.path.now.height }
     requires bytes { length samples.old ≡ shot.now.path.now.height * (texel_length shot.now.depth * shot.now.path.now.width) }
     requires threads { (1 ≤ threads) × (threads ≤ length parts.old) }
-    ensures { HasTried P.under shot.now (sight_of shot.now.geometry.now shot.now.depth table.now tiles.now) 0
+    ensures { HasTried P.under shot.now (replay_lookup_of shot.now.geometry.now shot.now.depth table.now tiles.now) 0
         left.old left.new samples.old samples.new }
 {
-    let sight = Sight::new(shot.geometry, table, tiles, shot.depth);
-    try_beside::<Rt, P>(rt, &sight, shot, 0, threads, parts, left, samples);
+    let replay_lookup = ReplayLookup::new(shot.geometry, table, tiles, shot.depth);
+    try_beside::<Rt, P>(rt, &replay_lookup, shot, 0, threads, parts, left, samples);
 }
 
 // Makes the tiles that parts were drawn with the most recently used ones.
@@ -336,9 +366,9 @@ pub(crate) fn draw_beside<Rt: Threads + Sync, P: Filter + Sync, F: File>(
     requires picture { shot.now.picture < length shot.now.path.now.cameras }
     requires rows { length left.old ≡ shot.now.path.now.height }
     requires bytes { length samples.old ≡ shot.now.path.now.height * (texel_length shot.now.depth * shot.now.path.now.width) }
-    requires ready { IsReady F.File shot.now.geometry.now shot.now.depth table.now.entries.items
+    requires ready { IsReplayReady F.File shot.now.geometry.now shot.now.depth table.now.entries.items
         tiles.old.size tiles.old.slots.items tiles.old.owners.items tiles.old.bytes.items store.old }
-    ensures ready { OnOk result (IsReady F.File shot.now.geometry.now shot.now.depth table.now.entries.items
+    ensures ready { OnOk result (IsReplayReady F.File shot.now.geometry.now shot.now.depth table.now.entries.items
         tiles.new.size tiles.new.slots.items tiles.new.owners.items tiles.new.bytes.items store.new) }
     ensures tried { OnOk result (AreTried (texel_length shot.now.depth * shot.now.path.now.width) 0
         (ShowsRow P.under (scene_of shot.now.geometry.now shot.now.depth shot.now.path.now)

@@ -5,13 +5,13 @@ ghost use Rattle.vt_definitions.specs.Depths.{IsDepth, texel_length};
 ghost use Rattle.vt_outside.specs.Counts.{Rose};
 ghost use Rattle.vt_pages.specs.Pages.{pages_of};
 ghost use Rattle.vt_journal.specs.Kept.{entries_of};
-ghost use Rattle.vt_shown.specs.Scenes.{scene_of};
-ghost use Rattle.vt_replay.specs.Playing.{IsReadOn, IsReady};
-ghost use Rattle.vt_replay.specs.Sights.{IsSight, row_of, AreTiles};
-ghost use Rattle.vt_replay.specs.Trying.{sight_of, HoldsTiles, ShowsRow, IsDone, AreTried};
+ghost use Rattle.vt_pictures.specs.Scenes.{scene_of};
+ghost use Rattle.vt_replay.specs.Playing.{IsReadOn, IsReplayReady};
+ghost use Rattle.vt_replay.specs.ReplayLookups.{IsReplayLookup, row_of, AreTiles};
+ghost use Rattle.vt_replay.specs.Trying.{replay_lookup_of, HoldsTiles, ShowsRow, IsDone, AreTried};
 
 use crate::noted::Noted;
-use crate::sight::Sight;
+use crate::replay_lookup::ReplayLookup;
 use crate::table::PageTable;
 use crate::tiles::Tiles;
 use vt_definitions::texel_length;
@@ -30,30 +30,30 @@ pub(crate) struct Tried {
 
 /// Draws row `y` of a picture over a table and the tiles at hand, as a look-up over these sees them. It is drawn where no tile was missed.
 pub(crate) fn try_line<P: Filter>(
-    sight: &Sight<'_>,
+    replay_lookup: &ReplayLookup<'_>,
     shot: &Shot,
     y: u32,
     out: &mut [u8],
     counts: &mut [u32],
 ) -> Tried
     requires depth { IsDepth shot.now.depth }
-    requires same_shape { sight.now.shape ≡ shot.now.geometry.now }
-    requires same_depth { sight.now.depth ≡ shot.now.depth }
+    requires same_shape { replay_lookup.now.shape ≡ shot.now.geometry.now }
+    requires same_depth { replay_lookup.now.depth ≡ shot.now.depth }
     requires picture { shot.now.picture < length shot.now.path.now.cameras }
     requires within { y < shot.now.path.now.height }
     requires bytes { length out.old ≡ texel_length shot.now.depth * shot.now.path.now.width }
     requires pages { length counts.old ≡ pages_of shot.now.geometry.now }
     requires room { (p : ℕ) → p < length counts.old → slice_index counts.old p + 4 * shot.now.path.now.width < 2 ^ 32 }
     ensures shown { result.missed ≡ false → (told : Option (List ℕ))
-        → HoldsTiles shot.now.geometry.now shot.now.depth sight.now told
+        → HoldsTiles shot.now.geometry.now shot.now.depth replay_lookup.now told
         → ShowsRow P.under (scene_of shot.now.geometry.now shot.now.depth shot.now.path.now)
-        (entries_of sight.now.entries) told shot.now.picture y out.new }
+        (entries_of replay_lookup.now.entries) told shot.now.picture y out.new }
     ensures counted { (p : ℕ) → p < length counts.new
         → slice_index counts.new p ≤ slice_index counts.old p + 4 * shot.now.path.now.width }
 {
     // From here on it is known that the geometry keeps its limits.
     let _side = shot.geometry.tile();
-    let mut own = sight.again();
+    let mut own = replay_lookup.again();
     P::draw_row(&mut own, shot, y, out, counts);
     Tried {
         missed: own.missed(),
@@ -71,7 +71,7 @@ fn try_once<P: Filter>(
     out: &mut [u8],
     counts: &mut [u32],
 ) -> Tried
-    requires sight { IsSight (sight_of shot.now.geometry.now shot.now.depth table.now tiles.now) }
+    requires replay_lookup { IsReplayLookup (replay_lookup_of shot.now.geometry.now shot.now.depth table.now tiles.now) }
     requires picture { shot.now.picture < length shot.now.path.now.cameras }
     requires within { y < shot.now.path.now.height }
     requires bytes { length out.old ≡ texel_length shot.now.depth * shot.now.path.now.width }
@@ -79,14 +79,14 @@ fn try_once<P: Filter>(
     requires room { (p : ℕ) → p < length counts.old → slice_index counts.old p + 4 * shot.now.path.now.width < 2 ^ 32 }
     ensures shown { result.missed ≡ false → (told : Option (List ℕ))
         → HoldsTiles shot.now.geometry.now shot.now.depth
-        (sight_of shot.now.geometry.now shot.now.depth table.now tiles.now) told
+        (replay_lookup_of shot.now.geometry.now shot.now.depth table.now tiles.now) told
         → ShowsRow P.under (scene_of shot.now.geometry.now shot.now.depth shot.now.path.now)
         (entries_of table.now.entries.items) told shot.now.picture y out.new }
     ensures counted { (p : ℕ) → p < length counts.new
         → slice_index counts.new p ≤ slice_index counts.old p + 4 * shot.now.path.now.width }
 {
-    let sight = Sight::new(shot.geometry, table, tiles, shot.depth);
-    try_line::<P>(&sight, shot, y, out, counts)
+    let replay_lookup = ReplayLookup::new(shot.geometry, table, tiles, shot.depth);
+    try_line::<P>(&replay_lookup, shot, y, out, counts)
 }
 
 /// Brings the tiles of pages into the set.
@@ -152,9 +152,9 @@ fn draw_line<P: Filter, F: File>(
     requires bytes { length out.old ≡ texel_length shot.now.depth * shot.now.path.now.width }
     requires pages { length counts.old ≡ pages_of shot.now.geometry.now }
     requires room { (p : ℕ) → p < length counts.old → slice_index counts.old p + 4 * shot.now.path.now.width < 2 ^ 32 }
-    requires ready { IsReady F.File shot.now.geometry.now shot.now.depth table.now.entries.items
+    requires ready { IsReplayReady F.File shot.now.geometry.now shot.now.depth table.now.entries.items
         tiles.old.size tiles.old.slots.items tiles.old.owners.items tiles.old.bytes.items store.old }
-    ensures ready { OnOk result (IsReady F.File shot.now.geometry.now shot.now.depth table.now.entries.items
+    ensures ready { OnOk result (IsReplayReady F.File shot.now.geometry.now shot.now.depth table.now.entries.items
         tiles.new.size tiles.new.slots.items tiles.new.owners.items tiles.new.bytes.items store.new) }
     ensures shown { OnOk result (ShowsRow P.under (scene_of shot.now.geometry.now shot.now.depth shot.now.path.now)
         (entries_of table.now.entries.items) (F.bytes store.old.file) shot.now.picture y out.new) }
@@ -191,9 +191,9 @@ fn draw_into<P: Filter, F: File>(
     requires bytes { length samples.old ≡ shot.now.path.now.height * (texel_length shot.now.depth * shot.now.path.now.width) }
     requires pages { length counts.old ≡ pages_of shot.now.geometry.now }
     requires room { (p : ℕ) → p < length counts.old → slice_index counts.old p + 4 * shot.now.path.now.width < 2 ^ 32 }
-    requires ready { IsReady F.File shot.now.geometry.now shot.now.depth table.now.entries.items
+    requires ready { IsReplayReady F.File shot.now.geometry.now shot.now.depth table.now.entries.items
         tiles.old.size tiles.old.slots.items tiles.old.owners.items tiles.old.bytes.items store.old }
-    ensures ready { OnOk result (IsReady F.File shot.now.geometry.now shot.now.depth table.now.entries.items
+    ensures ready { OnOk result (IsReplayReady F.File shot.now.geometry.now shot.now.depth table.now.entries.items
         tiles.new.size tiles.new.slots.items tiles.new.owners.items tiles.new.bytes.items store.new) }
     ensures shown { OnOk result (ShowsRow P.under (scene_of shot.now.geometry.now shot.now.depth shot.now.path.now)
         (entries_of table.now.entries.items) (F.bytes store.old.file) shot.now.picture y
@@ -237,9 +237,9 @@ fn draw_next<P: Filter, F: File>(
     requires bytes { length samples.old ≡ shot.now.path.now.height * (texel_length shot.now.depth * shot.now.path.now.width) }
     requires pages { length counts.old ≡ pages_of shot.now.geometry.now }
     requires room { (p : ℕ) → p < length counts.old → slice_index counts.old p + 4 * shot.now.path.now.width < 2 ^ 32 }
-    requires ready { IsReady F.File shot.now.geometry.now shot.now.depth table.now.entries.items
+    requires ready { IsReplayReady F.File shot.now.geometry.now shot.now.depth table.now.entries.items
         tiles.old.size tiles.old.slots.items tiles.old.owners.items tiles.old.bytes.items store.old }
-    ensures ready { OnOk result (IsReady F.File shot.now.geometry.now shot.now.depth table.now.entries.items
+    ensures ready { OnOk result (IsReplayReady F.File shot.now.geometry.now shot.now.depth table.now.entries.items
         tiles.new.size tiles.new.slots.items tiles.new.owners.items tiles.new.bytes.items store.new) }
     ensures tried { OnOk result (AreTried (texel_length shot.now.depth * shot.now.path.now.width) 0
         (ShowsRow P.under (scene_of shot.now.geometry.now shot.now.depth shot.now.path.now)
@@ -275,9 +275,9 @@ pub(crate) fn draw_left<P: Filter, F: File>(
     requires rows { length left.old ≡ shot.now.path.now.height }
     requires bytes { length samples.old ≡ shot.now.path.now.height * (texel_length shot.now.depth * shot.now.path.now.width) }
     requires pages { length counts.old ≡ pages_of shot.now.geometry.now }
-    requires ready { IsReady F.File shot.now.geometry.now shot.now.depth table.now.entries.items
+    requires ready { IsReplayReady F.File shot.now.geometry.now shot.now.depth table.now.entries.items
         tiles.old.size tiles.old.slots.items tiles.old.owners.items tiles.old.bytes.items store.old }
-    ensures ready { OnOk result (IsReady F.File shot.now.geometry.now shot.now.depth table.now.entries.items
+    ensures ready { OnOk result (IsReplayReady F.File shot.now.geometry.now shot.now.depth table.now.entries.items
         tiles.new.size tiles.new.slots.items tiles.new.owners.items tiles.new.bytes.items store.new) }
     ensures tried { OnOk result (AreTried (texel_length shot.now.depth * shot.now.path.now.width) 0
         (ShowsRow P.under (scene_of shot.now.geometry.now shot.now.depth shot.now.path.now)

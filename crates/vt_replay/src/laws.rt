@@ -4,8 +4,8 @@ ghost use Rattle.std.specs.Prelude.{◌≡◌, ℕ, List, length};
 ghost use Rattle.vt_definitions.specs.Texels.{Source};
 ghost use Rattle.vt_journal.specs.declared.changes.Change.{Change};
 ghost use Rattle.vt_journal.specs.declared.changes.RowLine.{RowLine};
-ghost use Rattle.vt_shown.specs.Scenes.{Scene};
-ghost use Rattle.vt_shown.specs.Replays.{IsReplayOf};
+ghost use Rattle.vt_pictures.specs.Scenes.{Scene};
+ghost use Rattle.vt_pictures.specs.Replays.{IsReplayOf};
 ghost use Rattle.vt_replay.specs.Replayed.{Under, replayed_rows};
 
 /// A pass of which there is a line for each row has one replay, however a filter shows pixels under a page table: samples that are

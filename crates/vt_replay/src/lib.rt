@@ -9,7 +9,7 @@ mod laws;
 mod noted;
 mod pictures;
 mod play;
-mod sight;
+mod replay_lookup;
 mod stream;
 mod table;
 mod tiles;

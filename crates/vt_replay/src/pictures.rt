@@ -2,9 +2,9 @@
 
 ghost use Rattle.std.specs.Prelude.{◌≡◌, ◌⊎◌, ◌≤◌, ℕ, length};
 ghost use Rattle.vt_outside.specs.Counts.{Rose, added};
-ghost use Rattle.vt_files.specs.Courses.{passage};
-ghost use Rattle.vt_files.specs.Dues.{AsksNone};
-ghost use Rattle.vt_shown.specs.Replays.{pixel_under};
+ghost use Rattle.vt_files.specs.Effects.{folder_effect};
+ghost use Rattle.vt_files.specs.Expectations.{AsksNone};
+ghost use Rattle.vt_pictures.specs.Replays.{pixel_under};
 ghost use Rattle.vt_replay.specs.Playing.{IsReadOn};
 ghost use Rattle.vt_replay.specs.Flaws.{IsFirstRefused};
 ghost use Rattle.vt_replay.specs.Outcomes.{Leaves, IsClosed, replay_answer};
@@ -91,7 +91,7 @@ fn replay_open<Rt: Threads + Sync, P: Filter + Sync, D: Folder>(
         → (result ≡ Err (ReplayError.BadJournal line)) ⊎ (result ≡ Err ReplayError.NoMemory) }
     ensures failed { result ≡ Err ReplayError.Failed → Rose (D.faults folder.old) (D.faults folder.new)
         ⊎ Rose (D.File.faults store.old.file) (D.File.faults store.new.file) }
-    ensures asks { AsksNone (passage D.Folder folder.old folder.new) }
+    ensures asks { AsksNone (folder_effect D.Folder folder.old folder.new) }
     ensures read { IsReadOn D.File.File store.old store.new }
 {
     let geometry = store.geometry();

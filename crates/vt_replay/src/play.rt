@@ -10,14 +10,14 @@ ghost use Rattle.vt_journal.specs.Changes.{at};
 ghost use Rattle.vt_journal.specs.JournalText.{Pass, content_changes};
 ghost use Rattle.vt_journal.specs.JournalFlaws.{IsLawful};
 ghost use Rattle.vt_tiles.specs.Format.{stored};
-ghost use Rattle.vt_files.specs.Courses.{passage};
-ghost use Rattle.vt_files.specs.Dues.{AsksNone};
-ghost use Rattle.vt_files.specs.Pictures.{picture_due, pictures_due};
-ghost use Rattle.vt_shown.specs.Scenes.{scene_of};
-ghost use Rattle.vt_shown.specs.Replays.{HasPixels};
+ghost use Rattle.vt_files.specs.Effects.{folder_effect};
+ghost use Rattle.vt_files.specs.Expectations.{AsksNone};
+ghost use Rattle.vt_files.specs.Pictures.{expected_picture, expected_pictures};
+ghost use Rattle.vt_pictures.specs.Scenes.{scene_of};
+ghost use Rattle.vt_pictures.specs.Replays.{HasPixels};
 ghost use Rattle.vt_replay.specs.Playing.{IsReadOn, Follows, MayBePlayed, IsStaged, AreRowsWithin, ArePlayed, HasWritten};
-ghost use Rattle.vt_replay.specs.Sights.{row_of, AreTiles};
-ghost use Rattle.vt_replay.specs.Replayed.{replayed_rows, pictures_of, replay_file, replay_due};
+ghost use Rattle.vt_replay.specs.ReplayLookups.{row_of, AreTiles};
+ghost use Rattle.vt_replay.specs.Replayed.{replayed_rows, pictures_of, replay_file, expected_replay};
 
 use crate::beside::{Part, parts_for};
 use crate::stream::slots_for;
@@ -229,9 +229,9 @@ fn play_pass<Rt: Threads + Sync, P: Filter + Sync, D: Folder>(
         journal.now.changes stage.new.table.entries.items stage.new.table.version stage.new.tiles.size stage.new.tiles.slots.items
         stage.new.tiles.owners.items stage.new.tiles.bytes.items stage.new.samples.items stage.new.counts.items store.new) }
     ensures there { OnOk result (stage.new.table.version ≡ last) }
-    ensures asks { AsksNone (passage D.Folder folder.old folder.new) }
+    ensures asks { AsksNone (folder_effect D.Folder folder.old folder.new) }
     ensures wrote { (b : List ℕ) → D.File.bytes store.old.file ≡ Some b
-        → HasWritten (picture_due prefix.now (λ picture. picture_bytes shot.now.depth shot.now.path.now.width
+        → HasWritten (expected_picture prefix.now (λ picture. picture_bytes shot.now.depth shot.now.path.now.width
         shot.now.path.now.height (replayed_rows P.under (stored b) (scene_of shot.now.geometry.now shot.now.depth shot.now.path.now)
         journal.now.changes pass.now.rows.elements picture shot.now.path.now.height)) shot.now.picture ∷ [])
         (D.files folder.old) (D.files folder.new) result }
@@ -302,9 +302,9 @@ fn play_passes<Rt: Threads + Sync, P: Filter + Sync, D: Folder>(
         → pass.picture < length path.now.cameras }
     requires first { stage.old.table.version ≡ 0 }
     ensures count { IfOk result (λ n. n ≡ pictures_of text.now.content.passes) }
-    ensures asks { AsksNone (passage D.Folder folder.old folder.new) }
+    ensures asks { AsksNone (folder_effect D.Folder folder.old folder.new) }
     ensures wrote { (b : List ℕ) → D.File.bytes store.old.file ≡ Some b
-        → HasWritten (pictures_due prefix.now (replay_file P.under (stored b) (scene_of store.old.shape store.old.depth path.now)
+        → HasWritten (expected_pictures prefix.now (replay_file P.under (stored b) (scene_of store.old.shape store.old.depth path.now)
         text.now.changes text.now.content.passes) (pictures_of text.now.content.passes))
         (D.files folder.old) (D.files folder.new) result }
     ensures failed { result ≡ Err OutsideError.Failed → Rose (D.faults folder.old) (D.faults folder.new)
@@ -352,9 +352,9 @@ pub(crate) fn play<Rt: Threads + Sync, P: Filter + Sync, D: Folder>(
     requires in_path { (i : ℕ) (pass : Pass) → slice_get text.now.content.passes i ≡ Some pass
         → pass.picture < length path.now.cameras }
     ensures count { IfOk result (λ n. n ≡ pictures_of text.now.content.passes) }
-    ensures asks { AsksNone (passage D.Folder folder.old folder.new) }
+    ensures asks { AsksNone (folder_effect D.Folder folder.old folder.new) }
     ensures wrote { (b : List ℕ) → D.File.bytes store.old.file ≡ Some b
-        → HasWritten (replay_due P.under store.old.shape store.old.depth b path.now prefix.now text.now.content)
+        → HasWritten (expected_replay P.under store.old.shape store.old.depth b path.now prefix.now text.now.content)
         (D.files folder.old) (D.files folder.new) result }
     ensures failed { result ≡ Err OutsideError.Failed → Rose (D.faults folder.old) (D.faults folder.new)
         ⊎ Rose (D.File.faults store.old.file) (D.File.faults store.new.file) }

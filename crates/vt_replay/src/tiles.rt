@@ -10,7 +10,7 @@ ghost use Rattle.vt_journal.specs.Changes.{with_entry};
 ghost use Rattle.vt_journal.specs.Kept.{entries_of};
 ghost use Rattle.vt_tiles.specs.Format.{tile_start, tile_length};
 ghost use Rattle.vt_replay.specs.Playing.{IsReadOn};
-ghost use Rattle.vt_replay.specs.Sights.{row_of, IsIn, IsHeld, IsTileOf, AreTiles};
+ghost use Rattle.vt_replay.specs.ReplayLookups.{row_of, IsIn, IsHeld, IsTileOf, AreTiles};
 
 use crate::noted::Noted;
 use lru::LruCache;

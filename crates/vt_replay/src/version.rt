@@ -6,9 +6,9 @@ ghost use Rattle.vt_outside.specs.Counts.{Rose};
 ghost use Rattle.vt_pages.specs.Pages.{pages_of};
 ghost use Rattle.vt_journal.specs.declared.changes.RowLine.{RowLine};
 ghost use Rattle.vt_journal.specs.Kept.{entries_of};
-ghost use Rattle.vt_shown.specs.Scenes.{scene_of};
-ghost use Rattle.vt_replay.specs.Playing.{IsReadOn, IsReady};
-ghost use Rattle.vt_replay.specs.Sights.{row_of};
+ghost use Rattle.vt_pictures.specs.Scenes.{scene_of};
+ghost use Rattle.vt_replay.specs.Playing.{IsReadOn, IsReplayReady};
+ghost use Rattle.vt_replay.specs.ReplayLookups.{row_of};
 ghost use Rattle.vt_replay.specs.Trying.{ShowsRow};
 
 use crate::beside::{Part, draw_beside};
@@ -55,9 +55,9 @@ pub(crate) fn draw_version<Rt: Threads + Sync, P: Filter + Sync, F: File>(
     requires rows { length rows.now ≡ shot.now.path.now.height }
     requires bytes { length samples.old ≡ shot.now.path.now.height * (texel_length shot.now.depth * shot.now.path.now.width) }
     requires pages { length counts.old ≡ pages_of shot.now.geometry.now }
-    requires ready { IsReady F.File shot.now.geometry.now shot.now.depth table.now.entries.items
+    requires ready { IsReplayReady F.File shot.now.geometry.now shot.now.depth table.now.entries.items
         tiles.old.size tiles.old.slots.items tiles.old.owners.items tiles.old.bytes.items store.old }
-    ensures ready { OnOk result (IsReady F.File shot.now.geometry.now shot.now.depth table.now.entries.items
+    ensures ready { OnOk result (IsReplayReady F.File shot.now.geometry.now shot.now.depth table.now.entries.items
         tiles.new.size tiles.new.slots.items tiles.new.owners.items tiles.new.bytes.items store.new) }
     ensures shown { OnOk result ((y : ℕ) (row : RowLine) → slice_get rows.now y ≡ Some row → row.version ≡ version
         → ShowsRow P.under (scene_of shot.now.geometry.now shot.now.depth shot.now.path.now)

@@ -7,7 +7,7 @@ use Rattle.vt_residency.specs.declared.places.Place.{Place}
 use Rattle.vt_residency.specs.Places.{IsPlaceOf}
 use Rattle.std.specs.List.{position_or_len}
 use Rattle.vt_pages.specs.Shape.{Shape}
-use Rattle.vt_pages.specs.Pages.{IsWithinLimits, level_of, levels_of, pages_of, parent_of, parent_name, index_of, name_at, root_of, line_of}
+use Rattle.vt_pages.specs.Pages.{IsWithinLimits, level_of, levels_of, pages_of, parent_of, parent_name, index_of, name_at, root_of, ancestors_of}
 use Rattle.vt_pages.specs.Lookups.{lookup}
 use Rattle.vt_pages.proofs.Parents.{IsParent, parent_facts, root_facts, line_begins}
 use Rattle.vt_pages.proofs.Lines.{parent_is, reaches_root}
@@ -82,7 +82,7 @@ pub found_some : (v : RecencyView) → IsTable v → (up p : ℕ) → level_of v
     → lookup v.shape (is_mapped v.entries) p ≡ None → ⊥
 found_some v h zero p level inside none =
     let r = reaches_root v.shape p (omega (arith, h.limits.least_tile)) h.limits.least_width h.limits.least_height inside in
-    let is : p ≡ root_of v.shape = sym r.begins ∙ ap (slice_index (line_of v.shape p)) (let e : 0 ≡ levels_of v.shape - 1 - level_of v.shape p = omega (arith, level) in e) ∙ r.ends in
+    let is : p ≡ root_of v.shape = sym r.begins ∙ ap (slice_index (ancestors_of v.shape p)) (let e : 0 ≡ levels_of v.shape - 1 - level_of v.shape p = omega (arith, level) in e) ∙ r.ends in
     let pinned : is_pinned v p ≡ true = le_true (pages_of v.shape) (p + v.pinned) (omega (arith, is, r.root_is_last, h.some_pinned)) in
     some_not_none p (sym (lookup_here v.shape (is_mapped v.entries) p h.limits inside (h.pinned_mapped p inside pinned)) ∙ none)
 found_some v h (suc up) p level inside none = step (is_mapped v.entries p) refl (found_some v h up q (omega (arith, facts.level, level)) facts.inside) where

@@ -17,19 +17,19 @@ use Rattle.vt_pages.specs.declared.PagesError.{PagesError}
 use Rattle.vt_pages.specs.declared.PagesError.TheVariants as pages_error
 use Rattle.vt_store.specs.StripStores.{StripsTried}
 use Rattle.vt_ppm.specs.StripPlaces.{strip_place, strip_places}
-use Rattle.vt_files.specs.Courses.{FolderState}
-use Rattle.vt_files.specs.Dues.{Writes}
-use Rattle.vt_inputs.specs.Inputs.{TiledTexture, TextureContent, AreStrips}
-use Rattle.vt_inputs.specs.OpenWrites.{WritesMade}
-use Rattle.vt_inputs.specs.Reads.{FileState, Took, OpensTexture, Closed, Refused, IsCausedBy}
-use Rattle.vt_store_commands.specs.commands.Tile.{flaw_of_pages, made_store, store_due, store_file, IsTooMany}
-use Rattle.vt_inputs.specs.declared.flaws.Flaw.{Flaw}
-use Rattle.vt_inputs.specs.declared.flaws.Flaw.TheVariants as flaws
-use Rattle.vt_inputs.specs.declared.refusal.Refusal.{Refusal}
-use Rattle.vt_inputs.specs.declared.refusal.Refusal.TheVariants.{NoMemory, Usage, Fault, Flawed, TooFewFrames, DoesNotFit}
-use Rattle.vt_inputs.proofs.OpenWriting.{read_first, due_written, due_stopped}
-use Rattle.vt_inputs.proofs.Reading.{gains_none}
-use Rattle.vt_inputs.proofs.Seeing.{texture_there, strips_asked}
+use Rattle.vt_files.specs.Effects.{FolderState}
+use Rattle.vt_files.specs.Expectations.{Writes}
+use Rattle.vt_command_base.specs.Inputs.{TiledTexture, TextureContent, AreStrips}
+use Rattle.vt_command_base.specs.OpenWrites.{WritesMade}
+use Rattle.vt_command_base.specs.Reads.{FileState, Took, OpensTexture, Closed, Refused, IsCausedBy}
+use Rattle.vt_store_commands.specs.commands.Tile.{flaw_of_pages, made_store, expected_store, store_file, IsTooMany}
+use Rattle.vt_command_base.specs.declared.flaws.Flaw.{Flaw}
+use Rattle.vt_command_base.specs.declared.flaws.Flaw.TheVariants as flaws
+use Rattle.vt_command_base.specs.declared.refusal.Refusal.{Refusal}
+use Rattle.vt_command_base.specs.declared.refusal.Refusal.TheVariants.{NoMemory, Usage, Fault, Flawed, TooFewFrames, DoesNotFit}
+use Rattle.vt_command_base.proofs.OpenWriting.{read_first, expected_written, expected_stopped}
+use Rattle.vt_command_base.proofs.Reading.{gains_none}
+use Rattle.vt_command_base.proofs.Seeing.{texture_there, strips_asked}
 
 -- a geometry is refused for too many pages
 IsMany : PagesError → Type 0
@@ -140,21 +140,21 @@ texture_took name new tile header file before opened after r few o w = record {
 pub store_written : (name new : List ℕ) (tile : ℕ) (header : Header) (file : FileState) (before opened after : FolderState)
     → OpensTexture name header file (record { before = before; after = opened })
     → WritesMade file (made_store header tile) (AreStrips header tile) new (record { before = opened; after = after }) (Ok tt)
-    → Writes {T = Unit {0}} (store_due new (texture_of header (unwrap_or file.bytes [])) tile).files
+    → Writes {T = Unit {0}} (expected_store new (texture_of header (unwrap_or file.bytes [])) tile).files
     (record { before = read_first before after; after = after }) (Ok tt)
 unfolding store_file
 store_written name new tile header file before opened after o w =
-    due_written (made_store header tile) (AreStrips header tile) new file before opened after o.tells o.files o.faults w
+    expected_written (made_store header tile) (AreStrips header tile) new file before opened after o.tells o.files o.faults w
 
 -- a front part of it was
 pub store_stopped : (name new : List ℕ) (tile : ℕ) (header : Header) (file : FileState) (before opened after : FolderState) (error : OutsideError)
     → OpensTexture name header file (record { before = before; after = opened })
     → WritesMade file (made_store header tile) (AreStrips header tile) new (record { before = opened; after = after }) (Err error)
-    → Writes {T = Unit {0}} (store_due new (texture_of header (unwrap_or file.bytes [])) tile).files
+    → Writes {T = Unit {0}} (expected_store new (texture_of header (unwrap_or file.bytes [])) tile).files
     (record { before = read_first before after; after = after }) (Err error)
 unfolding store_file
 store_stopped name new tile header file before opened after error o w =
-    due_stopped (made_store header tile) (AreStrips header tile) new file before opened after error o.tells o.files o.faults w
+    expected_stopped (made_store header tile) (AreStrips header tile) new file before opened after error o.tells o.files o.faults w
 
 -- the strips that were asked
 pub strips_tried : (header : Header) (tile : ℕ) (before after : Option (List Place)) → StripsTried header tile before after

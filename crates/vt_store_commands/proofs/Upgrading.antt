@@ -13,15 +13,15 @@ use Rattle.vt_tiles.specs.Places.{FrontAsked, PiecesAsked, pieces_of, piece_plac
 use Rattle.vt_tiles.specs.StoreViews.{IsStore}
 use Rattle.vt_tiles.specs.Made.{HoldsMade, HoldsMadeFront}
 use Rattle.vt_store.specs.Widening.{HoldsWidened, HoldsFront}
-use Rattle.vt_files.specs.Courses.{FolderState}
-use Rattle.vt_files.specs.Dues.{Writes}
-use Rattle.vt_inputs.specs.Inputs.{NarrowStore, NarrowContent, AsksPieces, ArePieces, header_places}
-use Rattle.vt_inputs.specs.HeldInputs.{Holds}
-use Rattle.vt_inputs.specs.OpenWrites.{WritesMade}
-use Rattle.vt_inputs.specs.Reads.{FileState, Took, OpensStore, Closed}
-use Rattle.vt_store_commands.specs.commands.Upgrade.{upgraded_file, wide_due}
-use Rattle.vt_inputs.proofs.OpenWriting.{read_first, made_written, made_stopped, due_written, due_stopped}
-use Rattle.vt_inputs.proofs.Reading.{placed}
+use Rattle.vt_files.specs.Effects.{FolderState}
+use Rattle.vt_files.specs.Expectations.{Writes}
+use Rattle.vt_command_base.specs.Inputs.{NarrowStore, NarrowContent, AsksPieces, ArePieces, header_places}
+use Rattle.vt_command_base.specs.HeldInputs.{Holds}
+use Rattle.vt_command_base.specs.OpenWrites.{WritesMade}
+use Rattle.vt_command_base.specs.Reads.{FileState, Took, OpensStore, Closed}
+use Rattle.vt_store_commands.specs.commands.Upgrade.{upgraded_file, expected_wide}
+use Rattle.vt_command_base.proofs.OpenWriting.{read_first, made_written, made_stopped, expected_written, expected_stopped}
+use Rattle.vt_command_base.proofs.Reading.{placed}
 
 -- the pieces that were asked
 front_of : (shape : Shape) (before after : Option (List Place)) → FrontAsked shape 1 before after
@@ -103,14 +103,14 @@ store_took name new shape depth file before opened after r is_narrow o w = recor
 pub new_written : (name new : List ℕ) (shape : Shape) (depth : ℕ) (file : FileState) (before opened after : FolderState)
     → OpensStore name shape depth file (record { before = before; after = opened })
     → WritesMade file (upgraded_file shape) (ArePieces shape) new (record { before = opened; after = after }) (Ok tt)
-    → Writes {T = Unit {0}} (wide_due new shape (unwrap_or file.bytes [])).files (record { before = read_first before after; after = after }) (Ok tt)
+    → Writes {T = Unit {0}} (expected_wide new shape (unwrap_or file.bytes [])).files (record { before = read_first before after; after = after }) (Ok tt)
 new_written name new shape depth file before opened after o w =
-    due_written (upgraded_file shape) (ArePieces shape) new file before opened after o.tells o.files o.faults w
+    expected_written (upgraded_file shape) (ArePieces shape) new file before opened after o.tells o.files o.faults w
 
 -- a front part of it was
 pub new_stopped : (name new : List ℕ) (shape : Shape) (depth : ℕ) (file : FileState) (before opened after : FolderState) (error : OutsideError)
     → OpensStore name shape depth file (record { before = before; after = opened })
     → WritesMade file (upgraded_file shape) (ArePieces shape) new (record { before = opened; after = after }) (Err error)
-    → Writes {T = Unit {0}} (wide_due new shape (unwrap_or file.bytes [])).files (record { before = read_first before after; after = after }) (Err error)
+    → Writes {T = Unit {0}} (expected_wide new shape (unwrap_or file.bytes [])).files (record { before = read_first before after; after = after }) (Err error)
 new_stopped name new shape depth file before opened after error o w =
-    due_stopped (upgraded_file shape) (ArePieces shape) new file before opened after error o.tells o.files o.faults w
+    expected_stopped (upgraded_file shape) (ArePieces shape) new file before opened after error o.tells o.files o.faults w

@@ -17,7 +17,7 @@ use Rattle.vt_load.specs.Readings.{is_lost}
 use Rattle.vt_streamer.specs.Views.{StreamerView}
 use Rattle.vt_machine.specs.Outcomes.{IsEntryFor, IsBatchFor, group_if}
 use Rattle.vt_machine.proofs.Streaming.{entry_stays}
-use Rattle.vt_rounds.specs.BatchRounds.{result_group, result_events, AreLossesOf}
+use Rattle.vt_requests.specs.BatchRounds.{result_group, result_events, AreLossesOf}
 use Rattle.vt_streaming.specs.declared.report.StreamReport.{StreamReport}
 use Rattle.vt_streaming.specs.Made.{HasMade, HasStreamed, result_contents, results_contents}
 use Rattle.vt_streaming.specs.Reports.{IsBlank, HasNoted, IsUnderWay}

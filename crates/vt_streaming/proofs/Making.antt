@@ -13,7 +13,7 @@ use Rattle.vt_streamer.specs.Looks.{HasLooked}
 use Rattle.vt_streamer.specs.Views.{StreamerView, table_of, IsStreamerOf}
 use Rattle.vt_grace.specs.declared.sizes.Sizes.{Sizes}
 use Rattle.vt_grace.specs.Values.{WordsValue}
-use Rattle.vt_rounds.specs.Streams.{Publishes}
+use Rattle.vt_requests.specs.Streams.{Publishes}
 use Rattle.vt_streaming.specs.Made.{HasMade, after_looks}
 
 pub made_none : (v : WriterView) → HasMade [] [] v v

@@ -9,7 +9,7 @@ use Rattle.vt_queue.specs.declared.items.Loaded.{Loaded}
 use Rattle.vt_load.specs.Readings.{is_lost}
 use Rattle.vt_streamer.specs.Fills.{words_in}
 use Rattle.vt_streamer.specs.Views.{StreamerView}
-use Rattle.vt_rounds.specs.BatchRounds.{result_events}
+use Rattle.vt_requests.specs.BatchRounds.{result_events}
 
 -- the changes of some events were published, with these contents, after looks at samplers and fills of frames
 pub record HasMade (events : List Event) (brought : List (List ℕ)) (v w : WriterView) : Type 0 where

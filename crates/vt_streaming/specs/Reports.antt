@@ -8,7 +8,7 @@ use Rattle.vt_queue.specs.declared.items.Loaded.{Loaded}
 use Rattle.vt_load.specs.Readings.{is_lost}
 use Rattle.vt_streamer.specs.Views.{StreamerView}
 use Rattle.vt_machine.specs.Outcomes.{IsEntryFor}
-use Rattle.vt_rounds.specs.BatchRounds.{result_group, result_events, AreLossesOf}
+use Rattle.vt_requests.specs.BatchRounds.{result_group, result_events, AreLossesOf}
 use Rattle.vt_streaming.specs.declared.report.StreamReport.{StreamReport}
 use Rattle.vt_streaming.specs.Made.{HasStreamed}
 

@@ -7,7 +7,7 @@ ghost use Rattle.vt_streamer.specs.Views.{IsStreamerOf};
 ghost use Rattle.vt_plan.specs.declared.batches.Planned.{Planned as Entry};
 ghost use Rattle.vt_load.specs.Readings.{is_lost};
 ghost use Rattle.vt_machine.specs.Outcomes.{IsEntryFor, group_of};
-ghost use Rattle.vt_rounds.specs.BatchRounds.{result_group};
+ghost use Rattle.vt_requests.specs.BatchRounds.{result_group};
 ghost use Rattle.vt_streaming.specs.Made.{HasMade, group_contents, result_contents};
 ghost use Rattle.vt_streaming.specs.Streams.{is_new, is_tile_length, is_wanted};
 ghost use Rattle.vt_streaming.specs.Reports.{HasNoted};

@@ -6,7 +6,7 @@ ghost use Rattle.vt_table.specs.Views.{IsTile};
 ghost use Rattle.vt_queue.specs.Queues.{view_of, splits_of, IsOf};
 ghost use Rattle.vt_streamer.specs.Views.{IsStreamerOf};
 ghost use Rattle.vt_machine.specs.Outcomes.{IsBatchFor};
-ghost use Rattle.vt_rounds.specs.BatchRounds.{result_events, AreLossesOf};
+ghost use Rattle.vt_requests.specs.BatchRounds.{result_events, AreLossesOf};
 ghost use Rattle.vt_streaming.specs.Made.{HasStreamed};
 ghost use Rattle.vt_streaming.specs.Streams.{Streams};
 ghost use Rattle.vt_streaming.specs.Reports.{IsBlank};

@@ -26,22 +26,22 @@ use Rattle.vt_outside.specs.Counts.{RoseTogetherBy}
 use Rattle.vt_outside.specs.declared.answers.NoMemory.{NoMemory}
 use Rattle.vt_machine.specs.Machines.{Setup, MachineState}
 use Rattle.vt_machine.specs.Passes.{MayPrepare, IsJobFor, Ran, Broke, Ends}
-use Rattle.vt_turns.specs.declared.turns.Outlook.{Outlook}
-use Rattle.vt_turns.specs.declared.tallies.Tally.{Tally}
-use Rattle.vt_turns.specs.declared.tour.Tour.{Tour}
-use Rattle.vt_turns.specs.declared.turns.Turn.{Turn}
-use Rattle.vt_turns.specs.declared.turns.Drawn.{Drawn}
+use Rattle.vt_walk_decisions.specs.declared.steps.Outlook.{Outlook}
+use Rattle.vt_walk_decisions.specs.declared.tallies.Tally.{Tally}
+use Rattle.vt_walk_decisions.specs.declared.input.WalkInput.{WalkInput}
+use Rattle.vt_walk_decisions.specs.declared.steps.WalkStep.{WalkStep}
+use Rattle.vt_walk_decisions.specs.declared.steps.Drawn.{Drawn}
 use Rattle.vt_walk.specs.Fits.{WalkSetup}
 use Rattle.vt_walk.specs.Runs.{WalkPass, IsWalkSetup, IsRun, pass_of, journal_after, recency_after}
-use Rattle.vt_turns.specs.Tallies.{is_load, is_loss, is_eviction}
+use Rattle.vt_walk_decisions.specs.Tallies.{is_load, is_loss, is_eviction}
 use Rattle.vt_walk.specs.Logs.{events_in, passes_of}
 use Rattle.vt_walk.specs.Outlooks.{IsOutlook}
-use Rattle.vt_turns.specs.Reported.{IsReported}
-use Rattle.vt_turns.specs.Tallies.{with_pass}
+use Rattle.vt_walk_decisions.specs.Reported.{IsReported}
+use Rattle.vt_walk_decisions.specs.Tallies.{with_pass}
 use Rattle.vt_walk.specs.Tallies.{tally_of}
-use Rattle.vt_walk.specs.Tours.{given_of, tour_scene, IsTour}
-use Rattle.vt_walk.specs.Turns.{MayDraw, HasDrawn}
-use Rattle.vt_walk.specs.Following.{HasRunTurn}
+use Rattle.vt_walk.specs.WalkInputs.{given_of, input_scene, IsWalkInput}
+use Rattle.vt_walk.specs.WalkSteps.{MayDraw, HasDrawnPass}
+use Rattle.vt_walk.specs.Following.{HasRunStep}
 use Rattle.vt_walk.specs.Written.{IsDrawnBySome}
 use Rattle.vt_walk.specs.Walks.{machine_of}
 use Rattle.vt_walk.proofs.Agreeing.{root_last}
@@ -153,122 +153,122 @@ read_partly s d batch losses old new each read = record {
   faults = subst (λ n. RoseTogetherBy n (counts_of old) (counts_of new)) (sym (count_lost batch losses each)) read.faults;
 }
 
--- the counts of a turn have room for a pass with these events
-pub record HasRoom (turn : Turn) (events : List Event) : Type 0 where
-  pub passes : turn.tally.passes + 1 < 2 ^ 32
-  pub loaded : turn.tally.loaded + length events < 2 ^ 64
-  pub lost : turn.tally.lost + length events < 2 ^ 64
-  pub evicted : turn.tally.evicted + length events < 2 ^ 64
-  pub reads : turn.reads + length turn.batch.elements < 2 ^ 64
+-- the counts of a step have room for a pass with these events
+pub record HasRoom (step : WalkStep) (events : List Event) : Type 0 where
+  pub passes : step.tally.passes + 1 < 2 ^ 32
+  pub loaded : step.tally.loaded + length events < 2 ^ 64
+  pub lost : step.tally.lost + length events < 2 ^ 64
+  pub evicted : step.tally.evicted + length events < 2 ^ 64
+  pub reads : step.reads + length step.batch.elements < 2 ^ 64
 
 module _ (draws : Drawing)
-    (t : Tour) (told : Option (List ℕ)) where
-  pub may_prepare : (run : List WalkPass) (number : ℕ) (turn : Turn) (m : MachineState) (v : RecencyView) → IsTour t → number < 4294967296
-      → MayDraw (given_of draws t told) run number turn m v → MayPrepare m turn.batch.elements
-  may_prepare run number turn m v tour below may =
+    (t : WalkInput) (told : Option (List ℕ)) where
+  pub may_prepare : (run : List WalkPass) (number : ℕ) (step : WalkStep) (m : MachineState) (v : RecencyView) → IsWalkInput t → number < 4294967296
+      → MayDraw (given_of draws t told) run number step m v → MayPrepare m step.batch.elements
+  may_prepare run number step m v input below may =
       let g = given_of draws t told in
       let h = may.given.setup in
       let kept = run_kept g.setup run h may.at_run.is_run in
-      let short = journal_short g.setup run tour.settings.crew.few_entries may.at_run.is_run in
-      let planned : length turn.batch.elements ≤ t.settings.crew.batch = omega (arith, ap length may.turn.batch, plan_most g.setup run) in
-      let early : length (journal_after g.setup run) ≤ last_start = omega (arith, short, may.turn.number_is, below, h.enough_frames, h.most_frames) in
-      prepare_of m (machine_of g) (journal_after g.setup run) turn.batch.elements may.at_run.setup may.at_run.journal (root_mapped g.setup run h may.at_run.is_run)
-      (batch_may_be_run g.setup run turn.batch.elements may.at_run.is_run kept may.turn.batch) planned early
+      let short = journal_short g.setup run input.settings.crew.few_entries may.at_run.is_run in
+      let planned : length step.batch.elements ≤ t.settings.crew.batch = omega (arith, ap length may.step.batch, plan_most g.setup run) in
+      let early : length (journal_after g.setup run) ≤ last_start = omega (arith, short, may.step.number_is, below, h.enough_frames, h.most_frames) in
+      prepare_of m (machine_of g) (journal_after g.setup run) step.batch.elements may.at_run.setup may.at_run.journal (root_mapped g.setup run h may.at_run.is_run)
+      (batch_may_be_run g.setup run step.batch.elements may.at_run.is_run kept may.step.batch) planned early
 
-  pub recency_shape : (run : List WalkPass) (number : ℕ) (turn : Turn) (m : MachineState) (v : RecencyView)
-      → MayDraw (given_of draws t told) run number turn m v → v.shape ≡ t.geometry.now
-  recency_shape run number turn m v may =
+  pub recency_shape : (run : List WalkPass) (number : ℕ) (step : WalkStep) (m : MachineState) (v : RecencyView)
+      → MayDraw (given_of draws t told) run number step m v → v.shape ≡ t.geometry.now
+  recency_shape run number step m v may =
       ap (λ (x : RecencyView). x.shape) may.at_run.recency
       ∙ (run_kept (given_of draws t told).setup run may.given.setup may.at_run.is_run).shape
 
-  pub turn_lawful : (run : List WalkPass) (number : ℕ) (turn : Turn) (m : MachineState) (v : RecencyView)
-      → MayDraw (given_of draws t told) run number turn m v → IsLawful v turn.batch.elements
-  turn_lawful run number turn m v may =
+  pub turn_lawful : (run : List WalkPass) (number : ℕ) (step : WalkStep) (m : MachineState) (v : RecencyView)
+      → MayDraw (given_of draws t told) run number step m v → IsLawful v step.batch.elements
+  turn_lawful run number step m v may =
       let w = (given_of draws t told).setup in
-      subst (λ (x : RecencyView). IsLawful x turn.batch.elements) (sym may.at_run.recency)
-      (batch_is_lawful w run turn.batch.elements may.at_run.is_run (run_kept w run may.given.setup may.at_run.is_run) may.turn.batch)
+      subst (λ (x : RecencyView). IsLawful x step.batch.elements) (sym may.at_run.recency)
+      (batch_is_lawful w run step.batch.elements may.at_run.is_run (run_kept w run may.given.setup may.at_run.is_run) may.step.batch)
 
-  pub has_room : (run : List WalkPass) (number : ℕ) (turn : Turn) (m : MachineState) (v : RecencyView) (losses : List Bool) (events : List Event)
-      → IsTour t → number < 4294967296
-      → MayDraw (given_of draws t told) run number turn m v → IsOutcome turn.batch.elements losses events → HasRoom turn events
-  has_room run number turn m v losses events tour below may outcome =
+  pub has_room : (run : List WalkPass) (number : ℕ) (step : WalkStep) (m : MachineState) (v : RecencyView) (losses : List Bool) (events : List Event)
+      → IsWalkInput t → number < 4294967296
+      → MayDraw (given_of draws t told) run number step m v → IsOutcome step.batch.elements losses events → HasRoom step events
+  has_room run number step m v losses events input below may outcome =
       let w = (given_of draws t told).setup in
       let h = may.given.setup in
-      let few = tour.settings.crew.few_entries in
+      let few = input.settings.crew.few_entries in
       let is_run = may.at_run.is_run in
-      let planned : length turn.batch.elements ≤ most_entries = omega (arith, ap length may.turn.batch, plan_most w run, few) in
-      let short : length events ≤ 8192 = omega (arith, planned, outcome_short turn.batch.elements losses events outcome) in
-      let count : turn.tally.passes ≡ length (passes_of turn.picture run) = ap (λ (x : Tally). x.passes) may.turn.tally in
-      let loaded : turn.tally.loaded ≡ events_in is_load (passes_of turn.picture run) = ap (λ (x : Tally). x.loaded) may.turn.tally in
-      let lost : turn.tally.lost ≡ events_in is_loss (passes_of turn.picture run) = ap (λ (x : Tally). x.lost) may.turn.tally in
-      let evicted : turn.tally.evicted ≡ events_in is_eviction (passes_of turn.picture run) = ap (λ (x : Tally). x.evicted) may.turn.tally in
+      let planned : length step.batch.elements ≤ most_entries = omega (arith, ap length may.step.batch, plan_most w run, few) in
+      let short : length events ≤ 8192 = omega (arith, planned, outcome_short step.batch.elements losses events outcome) in
+      let count : step.tally.passes ≡ length (passes_of step.picture run) = ap (λ (x : Tally). x.passes) may.step.tally in
+      let loaded : step.tally.loaded ≡ events_in is_load (passes_of step.picture run) = ap (λ (x : Tally). x.loaded) may.step.tally in
+      let lost : step.tally.lost ≡ events_in is_loss (passes_of step.picture run) = ap (λ (x : Tally). x.lost) may.step.tally in
+      let evicted : step.tally.evicted ≡ events_in is_eviction (passes_of step.picture run) = ap (λ (x : Tally). x.evicted) may.step.tally in
       record {
-        passes = omega (arith, count, passes_short turn.picture run, may.turn.number_is, below);
-        loaded = omega (arith, loaded, short, kinds_short is_load turn.picture run, kind_short w is_load run few is_run, may.turn.number_is, below);
-        lost = omega (arith, lost, short, kinds_short is_loss turn.picture run, kind_short w is_loss run few is_run, may.turn.number_is, below);
-        evicted = omega (arith, evicted, short, kinds_short is_eviction turn.picture run, kind_short w is_eviction run few is_run, may.turn.number_is, below);
-        reads = omega (arith, may.turn.reads, planned, reads_short w run few is_run, may.turn.number_is, below, h.enough_frames, h.most_frames);
+        passes = omega (arith, count, passes_short step.picture run, may.step.number_is, below);
+        loaded = omega (arith, loaded, short, kinds_short is_load step.picture run, kind_short w is_load run few is_run, may.step.number_is, below);
+        lost = omega (arith, lost, short, kinds_short is_loss step.picture run, kind_short w is_loss run few is_run, may.step.number_is, below);
+        evicted = omega (arith, evicted, short, kinds_short is_eviction step.picture run, kind_short w is_eviction run few is_run, may.step.number_is, below);
+        reads = omega (arith, may.step.reads, planned, reads_short w run few is_run, may.step.number_is, below, h.enough_frames, h.most_frames);
       }
 
-  -- the job of a turn is one for its machine
-  pub is_job : (run : List WalkPass) (number : ℕ) (turn : Turn) (m : MachineState) (v : RecencyView) → MayDraw (given_of draws t told) run number turn m v
-      → IsJobFor m.setup (record { scene = tour_scene t; picture = turn.picture; batch = turn.batch.elements })
-  is_job run number turn m v may =
-      let job : Job = record { scene = tour_scene t; picture = turn.picture; batch = turn.batch.elements } in
+  -- the job of a step is one for its machine
+  pub is_job : (run : List WalkPass) (number : ℕ) (step : WalkStep) (m : MachineState) (v : RecencyView) → MayDraw (given_of draws t told) run number step m v
+      → IsJobFor m.setup (record { scene = input_scene t; picture = step.picture; batch = step.batch.elements })
+  is_job run number step m v may =
+      let job : Job = record { scene = input_scene t; picture = step.picture; batch = step.batch.elements } in
       subst (λ (x : Setup). IsJobFor x job) (sym may.at_run.setup)
       (record { shape = refl; depth = refl; width = refl; height = refl; picture = may.more })
 
   -- a pass that was run was read for
-  pub read_at_most : (drawn : PathView → ℕ → ℕ → ℕ → List ℕ → Type 0) (run : List WalkPass) (number : ℕ) (turn : Turn)
+  pub read_at_most : (drawn : PathView → ℕ → ℕ → ℕ → List ℕ → Type 0) (run : List WalkPass) (number : ℕ) (step : WalkStep)
       (m after : MachineState) (v : RecencyView) (report : PassReport)
-      → MayDraw (given_of draws t told) run number turn m v
-      → Ran draws drawn (record { scene = tour_scene t; picture = turn.picture; batch = turn.batch.elements }) report m after
-      → ArePartlyReadFor t.geometry.now t.depth turn.batch.elements m.files after.files
-  read_at_most drawn run number turn m after v report may ran =
-      read_partly t.geometry.now t.depth turn.batch.elements report.losses.elements m.files after.files ran.outcome.told
-      (subst (λ (x : Setup). AreReadFor x.shape x.depth turn.batch.elements report.losses.elements m.files after.files) may.at_run.setup ran.read)
+      → MayDraw (given_of draws t told) run number step m v
+      → Ran draws drawn (record { scene = input_scene t; picture = step.picture; batch = step.batch.elements }) report m after
+      → ArePartlyReadFor t.geometry.now t.depth step.batch.elements m.files after.files
+  read_at_most drawn run number step m after v report may ran =
+      read_partly t.geometry.now t.depth step.batch.elements report.losses.elements m.files after.files ran.outcome.told
+      (subst (λ (x : Setup). AreReadFor x.shape x.depth step.batch.elements report.losses.elements m.files after.files) may.at_run.setup ran.read)
 
   -- so was one that was refused memory
-  pub read_broken : (run : List WalkPass) (number : ℕ) (turn : Turn) (m after : MachineState) (v : RecencyView)
-      → MayDraw (given_of draws t told) run number turn m v
-      → Broke (record { scene = tour_scene t; picture = turn.picture; batch = turn.batch.elements }) m after
-      → ArePartlyReadFor t.geometry.now t.depth turn.batch.elements m.files after.files
-  read_broken run number turn m after v may broke =
-      subst (λ (x : Setup). ArePartlyReadFor x.shape x.depth turn.batch.elements m.files after.files) may.at_run.setup broke.read
+  pub read_broken : (run : List WalkPass) (number : ℕ) (step : WalkStep) (m after : MachineState) (v : RecencyView)
+      → MayDraw (given_of draws t told) run number step m v
+      → Broke (record { scene = input_scene t; picture = step.picture; batch = step.batch.elements }) m after
+      → ArePartlyReadFor t.geometry.now t.depth step.batch.elements m.files after.files
+  read_broken run number step m after v may broke =
+      subst (λ (x : Setup). ArePartlyReadFor x.shape x.depth step.batch.elements m.files after.files) may.at_run.setup broke.read
 
   -- however its run ended
-  pub read_ended : (drawn : PathView → ℕ → ℕ → ℕ → List ℕ → Type 0) (idle : Type 0) (run : List WalkPass) (number : ℕ) (turn : Turn)
+  pub read_ended : (drawn : PathView → ℕ → ℕ → ℕ → List ℕ → Type 0) (idle : Type 0) (run : List WalkPass) (number : ℕ) (step : WalkStep)
       (m after : MachineState) (v : RecencyView) (result : Result PassReport NoMemory)
-      → MayDraw (given_of draws t told) run number turn m v
-      → Ends draws drawn idle (record { scene = tour_scene t; picture = turn.picture; batch = turn.batch.elements }) result m after
-      → ArePartlyReadFor t.geometry.now t.depth turn.batch.elements m.files after.files
-  read_ended drawn idle run number turn m after v (Ok report) may ends = read_at_most drawn run number turn m after v report may ends.ran
-  read_ended drawn idle run number turn m after v (Err refusal) may ends = read_broken run number turn m after v may ends.broke
+      → MayDraw (given_of draws t told) run number step m v
+      → Ends draws drawn idle (record { scene = input_scene t; picture = step.picture; batch = step.batch.elements }) result m after
+      → ArePartlyReadFor t.geometry.now t.depth step.batch.elements m.files after.files
+  read_ended drawn idle run number step m after v (Ok report) may ends = read_at_most drawn run number step m after v report may ends.ran
+  read_ended drawn idle run number step m after v (Err refusal) may ends = read_broken run number step m after v may ends.broke
 
-  pub has_drawn : (drawn : PathView → ℕ → ℕ → ℕ → List ℕ → Type 0) (run : List WalkPass) (number start : ℕ) (turn : Turn)
+  pub has_drawn : (drawn : PathView → ℕ → ℕ → ℕ → List ℕ → Type 0) (run : List WalkPass) (number start : ℕ) (step : WalkStep)
       (m after : MachineState)
       (v v' : RecencyView) (counts : List ℕ) (report : PassReport) (o : Outlook) (d : Drawn)
-      → HasRunTurn drawn (given_of draws t told) run number turn start report m after v
+      → HasRunStep drawn (given_of draws t told) run number step start report m after v
       → counts ≡ after.counts
-      → IsOutlook t.geometry.now (slice_index counts) t.settings.crew.batch v turn.batch.elements report.losses.elements v' o
-      → IsReported number turn start report o d → HasDrawn drawn
-      (given_of draws t told) run turn m after v' d
-  has_drawn drawn run number start turn m after v v' counts report o d made counts_are_its outlook reported =
+      → IsOutlook t.geometry.now (slice_index counts) t.settings.crew.batch v step.batch.elements report.losses.elements v' o
+      → IsReported number step start report o d → HasDrawnPass drawn
+      (given_of draws t told) run step m after v' d
+  has_drawn drawn run number start step m after v v' counts report o d made counts_are_its outlook reported =
       let may = made.may in
       let ran = made.ran in
       let g = given_of draws t told in
-      let job : Job = record { scene = tour_scene t; picture = turn.picture; batch = turn.batch.elements } in
+      let job : Job = record { scene = input_scene t; picture = step.picture; batch = step.batch.elements } in
       let setup : after.setup ≡ machine_of g = ran.setup ∙ may.at_run.setup in
       let pages : pages_of t.geometry.now ≡ pages_of after.setup.shape = ap (λ (x : Setup). pages_of x.shape) (sym setup) in
-      let same : (p : ℕ) → p < pages_of t.geometry.now → slice_index counts p ≡ draws.needs (tour_scene t) turn.picture p =
+      let same : (p : ℕ) → p < pages_of t.geometry.now → slice_index counts p ≡ draws.needs (input_scene t) step.picture p =
       λ p inside. ap (λ (x : List ℕ). slice_index x p) counts_are_its ∙ ran.picture.counts_are p (omega (arith, inside, pages)) in
-      let wanted = wants_for t.geometry.now (slice_index counts) (draws.needs (tour_scene t) turn.picture) outlook.wants same outlook.wanted in
-      let settles = subst (λ (x : RecencyView). IsSettled x (read_entries turn.batch.elements report.losses.elements) outlook.settled) may.at_run.recency
+      let wanted = wants_for t.geometry.now (slice_index counts) (draws.needs (input_scene t) step.picture) outlook.wants same outlook.wanted in
+      let settles = subst (λ (x : RecencyView). IsSettled x (read_entries step.batch.elements report.losses.elements) outlook.settled) may.at_run.recency
       outlook.settles in
       let pass : WalkPass = pass_of job report outlook.wants outlook.settled in
       let next = comes_next draws drawn g.setup run job report outlook.wants outlook.settled m after ran refl
       (ap (λ (x : Setup). x.crew.samplers) (sym may.at_run.setup))
-      (ap (λ (x : Setup). x.height) (sym may.at_run.setup)) may.at_run.journal may.turn.turn may.more may.turn.batch wanted settles in
+      (ap (λ (x : Setup). x.height) (sym may.at_run.setup)) may.at_run.journal may.step.step may.more may.step.batch wanted settles in
       record {
         pass = pass_of job report outlook.wants outlook.settled;
         next = next;
@@ -280,11 +280,11 @@ module _ (draws : Drawing)
           journal = journal_grown draws drawn g.setup run job report outlook.wants outlook.settled m after ran may.at_run.journal;
           recency = outlook.after_is;
         };
-        read = subst (λ (x : Setup). AreReadFor x.shape x.depth turn.batch.elements report.losses.elements m.files after.files) may.at_run.setup ran.read;
+        read = subst (λ (x : Setup). AreReadFor x.shape x.depth step.batch.elements report.losses.elements m.files after.files) may.at_run.setup ran.read;
         has_run = record { before = m; report = report; setup = may.at_run.setup; journal = may.at_run.journal; ran = ran; rows_are = refl };
         text = reported.text ∙ (λ i. record {
-          pass = may.turn.number_is i;
-          picture = turn.picture;
+          pass = may.step.number_is i;
+          picture = step.picture;
           start = (made.start_is ∙ ap length may.at_run.journal) i;
           events = report.events.elements;
           rows = report.rows.elements;
@@ -299,32 +299,32 @@ module _ (draws : Drawing)
               ∙ ap (λ (x : RecencyView). pages_needed x outlook.wants) outlook.after_is;
           plan = ap (λ (x : Outlook). x.plan.elements) reported.outlook ∙ outlook.plan_is
               ∙ ap (λ (x : RecencyView). plan_of x outlook.wants t.settings.crew.batch) outlook.after_is;
-          tally = reported.tally ∙ ap (with_pass report.events.elements) may.turn.tally ∙ tally_more (pass_of job report outlook.wants outlook.settled) run;
-          reads = reported.reads ∙ ap (λ n. n + length turn.batch.elements) may.turn.reads
+          tally = reported.tally ∙ ap (with_pass report.events.elements) may.step.tally ∙ tally_more (pass_of job report outlook.wants outlook.settled) run;
+          reads = reported.reads ∙ ap (λ n. n + length step.batch.elements) may.step.reads
               ∙ sym (reads_more g.setup (pass_of job report outlook.wants outlook.settled) run);
         };
       }
 
   -- the events that its text tells are in the chain
-  pub told_in_chain : (drawn : PathView → ℕ → ℕ → ℕ → List ℕ → Type 0) (run : List WalkPass) (number : ℕ) (turn : Turn) (m after : MachineState)
+  pub told_in_chain : (drawn : PathView → ℕ → ℕ → ℕ → List ℕ → Type 0) (run : List WalkPass) (number : ℕ) (step : WalkStep) (m after : MachineState)
       (v v' : RecencyView) (d : Drawn)
-      → MayDraw (given_of draws t told) run number turn m v
-      → HasDrawn drawn (given_of draws t told) run turn m after v' d
+      → MayDraw (given_of draws t told) run number step m v
+      → HasDrawnPass drawn (given_of draws t told) run step m after v' d
       → All (IsEventInChain t.geometry.now) d.text.events.elements
-  told_in_chain drawn run number turn m after v v' d may has =
+  told_in_chain drawn run number step m after v v' d may has =
       subst (All (IsEventInChain t.geometry.now)) (sym (ap (λ (x : Pass). x.events) has.text))
       (events_in_chain (given_of draws t told).setup run has.pass may.given.setup may.at_run.is_run has.next)
 
   -- there is room for the versions that its text tells
-  pub told_have_room : (drawn : PathView → ℕ → ℕ → ℕ → List ℕ → Type 0) (run : List WalkPass) (number : ℕ) (turn : Turn) (m after : MachineState)
+  pub told_have_room : (drawn : PathView → ℕ → ℕ → ℕ → List ℕ → Type 0) (run : List WalkPass) (number : ℕ) (step : WalkStep) (m after : MachineState)
       (v v' : RecencyView) (d : Drawn)
-      → IsTour t → number < 4294967296 → MayDraw (given_of draws t told) run number turn m v
-      → HasDrawn drawn (given_of draws t told) run turn m after v' d
+      → IsWalkInput t → number < 4294967296 → MayDraw (given_of draws t told) run number step m v
+      → HasDrawnPass drawn (given_of draws t told) run step m after v' d
       → d.text.start + length d.text.events.elements ≤ most_versions
-  told_have_room drawn run number turn m after v v' d tour below may has =
+  told_have_room drawn run number step m after v v' d input below may has =
       let w = (given_of draws t told).setup in
       let h = may.given.setup in
-      let few = tour.settings.crew.few_entries in
+      let few = input.settings.crew.few_entries in
       let start : d.text.start ≡ length (journal_after w run) = ap (λ (x : Pass). x.start) has.text in
       let count : length d.text.events.elements ≡ length has.pass.events = ap (λ (x : Pass). length x.events) has.text in
       omega (
@@ -333,7 +333,7 @@ module _ (draws : Drawing)
         count,
         events_short w run has.pass few has.next,
         journal_short w run few may.at_run.is_run,
-        may.turn.number_is,
+        may.step.number_is,
         below,
         h.enough_frames,
         h.most_frames,

@@ -6,30 +6,30 @@ use Rattle.vt_plan.specs.declared.batches.Planned.{Planned}
 use Rattle.vt_evict.specs.Views.{RecencyView}
 use Rattle.vt_machine.specs.Requests.{FileState, ArePartlyReadFor}
 use Rattle.vt_machine.specs.Machines.{MachineState}
-use Rattle.vt_turns.specs.declared.error.WalkError.TheVariants as walk_error
-use Rattle.vt_turns.specs.declared.turns.Turn.{Turn}
-use Rattle.vt_turns.specs.declared.turns.Drawn.{Drawn}
-use Rattle.vt_turns.specs.declared.turns.Next.{Next}
-use Rattle.vt_turns.specs.declared.turns.Next.TheVariants as next
-use Rattle.vt_walk.specs.declared.turns.Walked.{Walked}
+use Rattle.vt_walk_decisions.specs.declared.error.WalkError.TheVariants as walk_error
+use Rattle.vt_walk_decisions.specs.declared.steps.WalkStep.{WalkStep}
+use Rattle.vt_walk_decisions.specs.declared.steps.Drawn.{Drawn}
+use Rattle.vt_walk_decisions.specs.declared.steps.Next.{Next}
+use Rattle.vt_walk_decisions.specs.declared.steps.Next.TheVariants as next
+use Rattle.vt_walk.specs.declared.walk_steps.Walked.{Walked}
 use Rattle.vt_walk.specs.Counts.{HasCounts}
 use Rattle.vt_walk.specs.Runs.{WalkPass}
 use Rattle.vt_walk.specs.Walks.{WalkGiven}
 use Rattle.vt_walk.specs.States.{WalkState}
-use Rattle.vt_walk.specs.Turns.{StandsAt, HasDrawn, LeftBy}
-use Rattle.vt_walk.specs.Following.{MayTurn, DrawsNext, StandsEnd, StandsNext}
+use Rattle.vt_walk.specs.WalkSteps.{StandsAt, HasDrawnPass, LeftByRefusal}
+use Rattle.vt_walk.specs.Following.{MayStep, DrawsNext, StandsEnd, StandsNext}
 use Rattle.vt_walk.proofs.Advancing.{read_partly}
 use Rattle.vt_walk.proofs.Passing.{state_of, pass_broke}
 use Rattle.vt_walk.proofs.Rounds.{is_whole}
 
 module _ (drawn : PathView → ℕ → ℕ → ℕ → List ℕ → Type 0) (g : WalkGiven) (first : WalkState) where
-  -- it is the turn of the next pass, if there is one
-  pub may_turn : (number : ℕ) (t : Turn) (now : WalkState) (m : MachineState) (v : RecencyView) → (s : StandsAt drawn g number t first now m v)
-      → MayTurn g s.run number t m v
-  may_turn number t now m v s = record { given = s.given; at_run = s.at_run; turn = s.turn }
+  -- the next pass is at its step, if there is one
+  pub may_turn : (number : ℕ) (t : WalkStep) (now : WalkState) (m : MachineState) (v : RecencyView) → (s : StandsAt drawn g number t first now m v)
+      → MayStep g s.run number t m v
+  may_turn number t now m v s = record { given = s.given; at_run = s.at_run; step = s.step }
 
   -- a whole run stands
-  end_stands : (number reads : ℕ) (t : Turn) (now : WalkState) (m : MachineState) (v : RecencyView) → StandsAt drawn g number t first now m v
+  end_stands : (number reads : ℕ) (t : WalkStep) (now : WalkState) (m : MachineState) (v : RecencyView) → StandsAt drawn g number t first now m v
       → t.picture ≡ g.setup.pictures → reads ≡ t.reads → StandsEnd drawn g number reads first now
   end_stands number reads t now m v s all are = record {
     last = record {
@@ -37,19 +37,19 @@ module _ (drawn : PathView → ℕ → ℕ → ℕ → List ℕ → Type 0) (g :
       pictures = s.pictures;
       given = s.given;
       stands = s.stands;
-      whole = is_whole g.setup s.run t.picture s.stands.is_run s.turn.turn all;
+      whole = is_whole g.setup s.run t.picture s.stands.is_run s.step.step all;
       all = sym s.count ∙ all;
-      reads_are = are ∙ s.turn.reads;
+      reads_are = are ∙ s.step.reads;
     };
-    number_is = s.turn.number_is;
+    number_is = s.step.number_is;
   }
 
   -- the next pass was drawn, if there is one
-  pub next_stands : (number : ℕ) (t : Turn) (at : List FileState → WalkState) (m n : MachineState) (v u : RecencyView)
+  pub next_stands : (number : ℕ) (t : WalkStep) (at : List FileState → WalkState) (m n : MachineState) (v u : RecencyView)
       → (s : StandsAt drawn g number t first (at m.files) m v) → (x : Next) → DrawsNext drawn g s.run t m n u x
       → StandsNext drawn g number x first at n u
   next_stands number t at m n v u s (next.Pass d) is =
-      record { turn = t; before = m; recency = v; stands = s; more = is.0; has_drawn = is.1 }
+      record { step = t; before = m; recency = v; stands = s; more = is.0; has_drawn = is.1 }
   next_stands number t at m n v u s (next.End reads) is =
       subst (λ (x : MachineState). StandsEnd drawn g number reads first (at x.files)) (sym is.2)
       (end_stands number reads t (at m.files) m v s is.0 is.1)
@@ -66,7 +66,7 @@ module _ (drawn : PathView → ℕ → ℕ → ℕ → List ℕ → Type 0) (g :
   }
 
   -- a pass that was drawn was read for
-  drawn_read : (t : Turn) (m n : MachineState) (u : RecencyView) (run : List WalkPass) (d : Drawn) → HasDrawn drawn g run t m n u d
+  drawn_read : (t : WalkStep) (m n : MachineState) (u : RecencyView) (run : List WalkPass) (d : Drawn) → HasDrawnPass drawn g run t m n u d
       → ArePartlyReadFor g.scene.shape g.scene.depth t.batch.elements m.files n.files
   drawn_read t m n u run d h =
       subst (λ (batch : List Planned). ArePartlyReadFor g.scene.shape g.scene.depth batch m.files n.files) h.batch
@@ -76,10 +76,10 @@ module _ (drawn : PathView → ℕ → ℕ → ℕ → List ℕ → Type 0) (g :
   pub next_left : (number : ℕ) (x : Next) (store : List ℕ) (kept : FileState) (held : Option (List ℕ)) (out_faults : ℕ) (files : Option Files)
       (asked : Option Asked) (faults : ℕ) (m : MachineState) (v : RecencyView)
       → StandsNext drawn g number x first (λ opened. state_of files asked faults store (kept ∷ opened) held out_faults) m v
-      → LeftBy drawn g first (state_of files asked faults store (kept ∷ m.files) held out_faults) walk_error.NoMemory
+      → LeftByRefusal drawn g first (state_of files asked faults store (kept ∷ m.files) held out_faults) walk_error.NoMemory
   next_left number (next.Pass d) store kept held out_faults files asked faults m v s =
-      pass_broke drawn g number s.turn first store kept held out_faults files asked faults s.before m s.recency v s.stands s.more
-      (drawn_read s.turn s.before m v s.stands.run d s.has_drawn) walk_error.NoMemory refl
+      pass_broke drawn g number s.step first store kept held out_faults files asked faults s.before m s.recency v s.stands s.more
+      (drawn_read s.step s.before m v s.stands.run d s.has_drawn) walk_error.NoMemory refl
   next_left number (next.End reads) store kept held out_faults files asked faults m v s = (
     inr (record {
       run = s.last.run;

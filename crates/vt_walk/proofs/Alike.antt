@@ -9,8 +9,8 @@ use Rattle.vt_pages.specs.Shape.{Shape}
 use Rattle.vt_pages.specs.Pages.{pages_of}
 use Rattle.vt_tiles.specs.Format.{tile_start, tile_length}
 use Rattle.vt_plan.specs.declared.batches.Planned.{Planned}
-use Rattle.vt_turns.specs.declared.error.WalkError.{WalkError}
-use Rattle.vt_turns.specs.declared.error.WalkError.TheVariants.{TooFewFrames, DoesNotFit, Failed, NoMemory}
+use Rattle.vt_walk_decisions.specs.declared.error.WalkError.{WalkError}
+use Rattle.vt_walk_decisions.specs.declared.error.WalkError.TheVariants.{TooFewFrames, DoesNotFit, Failed, NoMemory}
 use Rattle.vt_words.specs.Names.{picture_name}
 use Rattle.vt_walk.specs.Runs.{WalkPass, plan_after, planned_in, lost_in}
 use Rattle.vt_walk.specs.Logs.{picture_line}
@@ -18,9 +18,9 @@ use Rattle.vt_walk.specs.Walks.{WalkGiven}
 use Rattle.vt_walk.specs.States.{WalkState}
 use Rattle.vt_walk.specs.Reads.{AreAskedFor, AreAskedAtMostFor, OnTold, lost_reads}
 use Rattle.vt_walk.specs.Standing.{Stands, Finished}
-use Rattle.vt_walk.specs.Leaving.{AsksNothing, AsksForNext, AsksAhead, LeftAtHead, IsFront, LeftInRun, Left}
+use Rattle.vt_walk.specs.Leaving.{AsksNothing, AsksForNext, AsksAhead, LeftAtHead, IsWalkPrefix, LeftInRun, Left}
 use Rattle.vt_walk.specs.Causes.{reads_lost, HasFailed, IsCausedBy}
-use Rattle.vt_walk.specs.Turns.{LeftBy}
+use Rattle.vt_walk.specs.WalkSteps.{LeftByRefusal}
 use Rattle.vt_walk.proofs.Asks.{told_twice}
 use Rattle.vt_walk.proofs.Placed.{same_sum}
 use Rattle.vt_walk.proofs.Closings.{AreSamePlaces, IsAlike}
@@ -137,7 +137,7 @@ module _ (drawn : PathView → ℕ → ℕ → ℕ → List ℕ → Type 0) (g :
       refl,
       record {
         asked = inr (record {
-          turn = next.turn;
+          step = next.step;
           of_path = next.of_path;
           asked = still_at_most g.scene.shape g.scene.depth 0 (plan_after g.setup run) before.asked mid.asked last.asked next.asked alike.asked;
         });
@@ -147,7 +147,7 @@ module _ (drawn : PathView → ℕ → ℕ → ℕ → List ℕ → Type 0) (g :
     )
 
   front_alike : (run : List WalkPass) (pictures : List (List ℕ)) (before : WalkState) → Stands drawn g run pictures first before
-      → IsFront drawn g run (length pictures) before mid → LeftInRun drawn g first last
+      → IsWalkPrefix drawn g run (length pictures) before mid → LeftInRun drawn g first last
   front_alike run pictures before s (inl (written, none)) = record {
     run = run;
     pictures = pictures;
@@ -161,7 +161,7 @@ module _ (drawn : PathView → ℕ → ℕ → ℕ → List ℕ → Type 0) (g :
     mid = before;
     stands = s;
     front = inr (inl (record {
-      turn = l.turn;
+      step = l.step;
       of_path = l.of_path;
       files = alike.files ∙ l.files;
       held = alike.held ∙ l.held;
@@ -295,7 +295,7 @@ module _ (drawn : PathView → ℕ → ℕ → ℕ → List ℕ → Type 0) (g :
   caused_alike NoMemory c = tt
 
   -- a walk ends as it did before the files were closed
-  pub ends_alike : {T : Type 0} (r : Result T WalkError) → MatchResult r (λ _. Finished drawn g first mid) (LeftBy drawn g first mid)
-      → MatchResult r (λ _. Finished drawn g first last) (LeftBy drawn g first last)
+  pub ends_alike : {T : Type 0} (r : Result T WalkError) → MatchResult r (λ _. Finished drawn g first mid) (LeftByRefusal drawn g first mid)
+      → MatchResult r (λ _. Finished drawn g first last) (LeftByRefusal drawn g first last)
   ends_alike (Ok x) f = finished_alike f
   ends_alike (Err error) l = (left_alike l.0, caused_alike error l.1)

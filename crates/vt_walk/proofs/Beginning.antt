@@ -26,17 +26,17 @@ use Rattle.vt_evict.specs.Views.{RecencyView, first_view}
 use Rattle.vt_machine.specs.Drawings.{Drawing}
 use Rattle.vt_machine.specs.Requests.{FileState, AllTell, counts_of}
 use Rattle.vt_machine.specs.Machines.{MachineState}
-use Rattle.vt_turns.specs.declared.error.WalkError.{WalkError}
-use Rattle.vt_turns.specs.declared.tour.Tour.{Tour}
-use Rattle.vt_turns.specs.Refusals.{refusal_by}
+use Rattle.vt_walk_decisions.specs.declared.error.WalkError.{WalkError}
+use Rattle.vt_walk_decisions.specs.declared.input.WalkInput.{WalkInput}
+use Rattle.vt_walk_decisions.specs.Refusals.{refusal_by}
 use Rattle.vt_walk.specs.Walks.{WalkGiven}
 use Rattle.vt_walk.specs.States.{WalkState, places_of}
 use Rattle.vt_walk.specs.Reads.{AreAskedFor, AreAskedAtMostFor, OnTold, lost_reads}
 use Rattle.vt_walk.specs.Placing.{with_pinned}
 use Rattle.vt_walk.specs.Beginnings.{IsBegun, AreTold}
 use Rattle.vt_walk.specs.Causes.{IsCausedBy, reads_lost}
-use Rattle.vt_walk.specs.Tours.{IsTour, given_of}
-use Rattle.vt_walk.specs.Turns.{IsGiven, StandsFirst, LeftBy}
+use Rattle.vt_walk.specs.WalkInputs.{IsWalkInput, given_of}
+use Rattle.vt_walk.specs.WalkSteps.{IsGiven, StandsFirst, LeftByRefusal}
 use Rattle.vt_walk.proofs.Asking.{count_both}
 use Rattle.vt_walk.proofs.Asks.{with_open, times_with, failed_with, asked_of, failed_of, sum-one, told_more}
 use Rattle.vt_walk.proofs.Failing.{has_broken}
@@ -44,9 +44,9 @@ use Rattle.vt_walk.proofs.Passing.{state_of}
 use Rattle.vt_walk.proofs.Steps.{gained_none}
 use Rattle.vt_walk.proofs.Telling.{run_is_pinned}
 
--- a tour whose frames are enough is a walk within its limits
+-- an input whose frames are enough is a walk within its limits
 pub is_given : (draws : Drawing)
-    (t : Tour) (told : Option (List ℕ)) → IsTour t → t.pinned ≤ t.settings.frames → IsStoreIfTold told t.geometry.now t.depth
+    (t : WalkInput) (told : Option (List ℕ)) → IsWalkInput t → t.pinned ≤ t.settings.frames → IsStoreIfTold told t.geometry.now t.depth
     → IsGiven (given_of draws t told)
 is_given draws t told h frames store = record {
   setup = record {
@@ -177,9 +177,9 @@ others_tell : (asked : Option Asked) (f : FileState) (files : List FileState) �
 others_tell asked f files told some = λ k d inside. told some (suc k) d (omega (arith, inside))
 
 module _ (draws : Drawing)
-    (drawn : PathView → ℕ → ℕ → ℕ → List ℕ → Type 0) (t : Tour) (told : Option (List ℕ)) (d : ℕ) (store : List ℕ) (kept now : FileState)
+    (drawn : PathView → ℕ → ℕ → ℕ → List ℕ → Type 0) (t : WalkInput) (told : Option (List ℕ)) (d : ℕ) (store : List ℕ) (kept now : FileState)
     (files : Option Files) (asked : Option Asked) (faults : ℕ) (m n : MachineState) (held : Option (List ℕ)) (out_faults : ℕ)
-    (tour : IsTour t) (frames : t.pinned ≤ t.settings.frames) (is_store : IsStoreIfTold told t.geometry.now d) (depth : d ≡ t.depth)
+    (input : IsWalkInput t) (frames : t.pinned ≤ t.settings.frames) (is_store : IsStoreIfTold told t.geometry.now d) (depth : d ≡ t.depth)
     (begins : IsBegun (given_of draws t told) m) (tells : AreTold asked (kept ∷ m.files)) where
   abbrev given : WalkGiven
   given = given_of draws t told
@@ -191,14 +191,14 @@ module _ (draws : Drawing)
   later new opened rose = state_of new opened rose store (now ∷ n.files) held out_faults
 
   pub walk_given : IsGiven given
-  walk_given = is_given draws t told tour frames (subst (IsStoreIfTold told t.geometry.now) depth is_store)
+  walk_given = is_given draws t told input frames (subst (IsStoreIfTold told t.geometry.now) depth is_store)
 
-  -- the pinned pages are those of the tour
+  -- the pinned pages are those of the input
   pub pages_pinned : (changes : List Change) → n ≡ with_pinned t.geometry.now t.pinned m → changes ≡ n.journal → Pinned t.geometry.now changes t.pinned
   pages_pinned changes placed are =
       let is : pinned_changes t.geometry.now given.setup.pinned ≡ changes =
-      ap (pinned_changes t.geometry.now) (sym tour.pages) ∙ sym (ap (λ (x : MachineState). x.journal) placed) ∙ sym are in
-      subst (λ k. Pinned t.geometry.now changes k) (sym tour.pages)
+      ap (pinned_changes t.geometry.now) (sym input.pages) ∙ sym (ap (λ (x : MachineState). x.journal) placed) ∙ sym are in
+      subst (λ k. Pinned t.geometry.now changes k) (sym input.pages)
       (subst (λ (js : List Change). Pinned t.geometry.now js given.setup.pinned) is (run_is_pinned given.setup [] walk_given.setup tt))
 
   more_faults : (rose : ℕ) → n.files ≡ m.files → kept.faults ≤ now.faults → faults ≤ rose
@@ -214,14 +214,14 @@ module _ (draws : Drawing)
       (with_open store (now ∷ fs) asked)) (sym same)
       (one_asks t.geometry.now t.depth given.setup.pinned store kept now m.files [] [] asked kept.asked now.asked refl refl
       (first_tells asked kept m.files tells)
-      (subst (λ k. OnTold (AreAskedFor t.geometry.now t.depth k [] []) kept.asked now.asked) tour.pages
+      (subst (λ k. OnTold (AreAskedFor t.geometry.now t.depth k [] []) kept.asked now.asked) input.pages
       (subst (λ k. OnTold (AreAskedFor t.geometry.now k t.pinned [] []) kept.asked now.asked) depth asks)))
 
   -- a pinned page could not be placed
   pub pinned_broke : n.files ≡ m.files → OnTold (AreAskedAtMostFor t.geometry.now d t.pinned []) kept.asked now.asked
       → OnTold (λ old new. lost_reads t.geometry.now d t.pinned new ≡ lost_reads t.geometry.now d t.pinned old) kept.asked now.asked
       → kept.faults ≤ now.faults → (error : OutsideError) (e : WalkError) → (error ≡ Failed → Rose kept.faults now.faults) → e ≡ refusal_by error
-      → LeftBy drawn given was (later files asked faults) e
+      → LeftByRefusal drawn given was (later files asked faults) e
   pinned_broke same asks lost grown error e failed is =
       let tell = first_tells asked kept m.files tells in
       let most : OnTold (AreAskedAtMostFor t.geometry.now t.depth given.setup.pinned []) (with_open store (kept ∷ m.files) asked)
@@ -229,7 +229,7 @@ module _ (draws : Drawing)
       subst (λ (fs : List FileState). OnTold (AreAskedAtMostFor t.geometry.now t.depth given.setup.pinned []) (with_open store (kept ∷ m.files) asked)
       (with_open store (now ∷ fs) asked)) (sym same)
       (one_asks_most t.geometry.now t.depth given.setup.pinned store kept now m.files [] asked kept.asked now.asked refl refl tell
-      (subst (λ k. OnTold (AreAskedAtMostFor t.geometry.now t.depth k []) kept.asked now.asked) tour.pages
+      (subst (λ k. OnTold (AreAskedAtMostFor t.geometry.now t.depth k []) kept.asked now.asked) input.pages
       (subst (λ k. OnTold (AreAskedAtMostFor t.geometry.now k t.pinned []) kept.asked now.asked) depth asks))) in (
         inl (record { files = inl refl; held = refl; asked = most; faults = more_faults faults same grown (omega arith); out_faults = omega arith }),
         subst (IsCausedBy drawn given was (later files asked faults)) (sym is) (cause error failed),
@@ -240,7 +240,7 @@ module _ (draws : Drawing)
             (with_open store (kept ∷ m.files) asked) (with_open store (now ∷ fs) asked)) (sym same)
             (one_loses t.geometry.now t.depth given.setup.pinned store kept now m.files asked kept.asked now.asked refl refl
             (first_tells asked kept m.files tells)
-            (subst (λ k. OnTold (λ old new. lost_reads t.geometry.now t.depth k new ≡ lost_reads t.geometry.now t.depth k old) kept.asked now.asked) tour.pages
+            (subst (λ k. OnTold (λ old new. lost_reads t.geometry.now t.depth k new ≡ lost_reads t.geometry.now t.depth k old) kept.asked now.asked) input.pages
             (subst (λ k. OnTold (λ old new. lost_reads t.geometry.now k t.pinned new ≡ lost_reads t.geometry.now k t.pinned old) kept.asked now.asked)
             depth lost))))
 
@@ -258,7 +258,7 @@ module _ (draws : Drawing)
       → kept.faults ≤ now.faults → (new ≡ files) ⊎ ((k : ℕ) ×
       (new ≡ option_map (with_bytes t.names.journal.now (take k (head_text t.geometry.now t.pinned))) files))
       → opened ≡ asked → faults ≤ rose → (error : OutsideError) (e : WalkError) → (error ≡ Failed → Rose faults rose) → e ≡ refusal_by error
-      → LeftBy drawn given was (later new opened rose) e
+      → LeftByRefusal drawn given was (later new opened rose) e
   head_broke new opened rose same asks grown part kept_asked risen error e failed is =
       let exact = asks_for same asks in
       let exactly : OnTold (AreAskedFor t.geometry.now t.depth given.setup.pinned [] []) (with_open store (kept ∷ m.files) asked)
@@ -267,7 +267,7 @@ module _ (draws : Drawing)
       (with_open store (now ∷ n.files) a)) (sym kept_asked) exact in (
         inl (record {
           files = subst (λ k. (new ≡ files) ⊎ ((j : ℕ) × (new ≡ option_map (with_bytes t.names.journal.now (take j (head_text t.geometry.now k)))
-              files))) tour.pages part;
+              files))) input.pages part;
           held = refl;
           asked = told_more (AreAskedFor t.geometry.now t.depth given.setup.pinned [] []) (AreAskedAtMostFor t.geometry.now t.depth given.setup.pinned [])
               (with_open store (kept ∷ m.files) asked) (with_open store (now ∷ n.files) opened) (λ x y a at len. omega (arith, a.asked at len)) exactly;
@@ -302,7 +302,7 @@ module _ (draws : Drawing)
           reached = refl;
           written = tt;
           files = λ apart. whole ∙ ap (λ (text : List ℕ). option_map (with_bytes t.names.journal.now text) files)
-              (ap (head_text t.geometry.now) tour.pages ∙ sym (append-nil (head_text t.geometry.now given.setup.pinned)));
+              (ap (head_text t.geometry.now) input.pages ∙ sym (append-nil (head_text t.geometry.now given.setup.pinned)));
           there = there;
           held = gained_none held;
           asked = subst (λ (a : Option Asked). OnTold (AreAskedFor t.geometry.now t.depth given.setup.pinned [] [])
@@ -313,8 +313,8 @@ module _ (draws : Drawing)
         at_run = record {
           is_run = tt;
           setup = ap (λ (x : MachineState). x.setup) placed ∙ begins.setup;
-          journal = ap (λ (x : MachineState). x.journal) placed ∙ ap (pinned_changes t.geometry.now) tour.pages;
-          recency = view ∙ ap (first_view t.geometry.now t.settings.frames) tour.pages;
+          journal = ap (λ (x : MachineState). x.journal) placed ∙ ap (pinned_changes t.geometry.now) input.pages;
+          recency = view ∙ ap (first_view t.geometry.now t.settings.frames) input.pages;
         };
         tell = λ some. subst AllTell (sym same) (others_tell asked kept m.files tells
             (folder_tells asked (subst (λ (a : Option Asked). IsSome (with_open store (now ∷ n.files) a)) kept_asked some)));

@@ -12,9 +12,9 @@ use Rattle.vt_outside.specs.declared.answers.OutsideError.TheVariants.{Failed as
 use Rattle.vt_outside.specs.declared.outside.Folder.{Ghosts as FolderMeanings}
 use Rattle.vt_camera.specs.Paths.{PathView}
 use Rattle.vt_machine.specs.Requests.{FileState, AreSameFiles, counts_of}
-use Rattle.vt_turns.specs.declared.error.WalkError.{WalkError}
-use Rattle.vt_turns.specs.declared.error.WalkError.TheVariants.{NoMemory}
-use Rattle.vt_turns.specs.Refusals.{refusal_by}
+use Rattle.vt_walk_decisions.specs.declared.error.WalkError.{WalkError}
+use Rattle.vt_walk_decisions.specs.declared.error.WalkError.TheVariants.{NoMemory}
+use Rattle.vt_walk_decisions.specs.Refusals.{refusal_by}
 use Rattle.vt_walk.specs.Walks.{WalkGiven}
 use Rattle.vt_walk.specs.States.{WalkState, AreOpen, places_of, walk_state}
 use Rattle.vt_walk.specs.Reads.{AreAskedAtMostFor, OnTold}
@@ -23,7 +23,7 @@ use Rattle.vt_walk.specs.Leaving.{Left}
 use Rattle.vt_walk.specs.Causes.{reads_lost, HasFailed, IsCausedBy}
 use Rattle.vt_walk.specs.Beginnings.{AreTold, IsSameFile}
 use Rattle.vt_walk.specs.Closing.{with_closed, AreOtherNamesAsBefore}
-use Rattle.vt_walk.specs.Turns.{LeftBy}
+use Rattle.vt_walk.specs.WalkSteps.{LeftByRefusal}
 use Rattle.vt_walk.proofs.Asks.{sum-one}
 use Rattle.vt_walk.proofs.Closings.{AreSamePlaces, IsAlike, alike_itself, closed_alike, same_open}
 use Rattle.vt_walk.proofs.Alike.{ends_alike}
@@ -95,7 +95,7 @@ module _ {D F : Type 0} (d : FolderMeanings D F) (name : List ℕ) where
   module _ (drawn : PathView → ℕ → ℕ → ℕ → List ℕ → Type 0) (g : WalkGiven) where
     -- how a walk ended between two states
     abbrev pub Ends : {T : Type 0} → Result T WalkError → WalkState → WalkState → Type 0
-    Ends r first now = MatchResult r (λ _. Finished drawn g first now) (LeftBy drawn g first now)
+    Ends r first now = MatchResult r (λ _. Finished drawn g first now) (LeftByRefusal drawn g first now)
 
     -- a walk whose machine's files are closed
     pub machine_closed : {T : Type 0} (r : Result T WalkError) (kept new : FileState) (opened left : List FileState) (old mid last : D) (held put : Option
@@ -130,7 +130,7 @@ module _ {D F : Type 0} (d : FolderMeanings D F) (name : List ℕ) where
     pub stores_closed : (kept : FileState) (opened : List FileState) (old last : D) (held : Option (List ℕ)) (o n : ℕ) → AreOpen n name (d.asked old) opened
         → places_of opened ≡ [] → sum (counts_of opened) ≡ 0 → d.asked last ≡ with_closed opened (d.asked old)
         → RoseBy (sum (counts_of opened)) (d.faults old) (d.faults last) → d.files last ≡ d.files old
-        → LeftBy drawn g (walk_state d name old (kept ∷ []) held o) (walk_state d name last (kept ∷ []) held o) NoMemory
+        → LeftByRefusal drawn g (walk_state d name old (kept ∷ []) held o) (walk_state d name last (kept ∷ []) held o) NoMemory
     stores_closed kept opened old last held o n are places counts closed rose files = (
       left_alike (walk_state d name old (kept ∷ []) held o) (walk_state d name last (kept ∷ []) held o)
           (subst (λ (first : WalkState). IsAlike first (walk_state d name last (kept ∷ []) held o)) (fresh_same kept opened old held o places counts)
@@ -183,7 +183,7 @@ module _ {D F : Type 0} (d : FolderMeanings D F) (name : List ℕ) where
     pub refused_first : (kept : FileState) (old new : D) (held : Option (List ℕ)) (o : ℕ) (refusal : OutsideError) → d.files new ≡ d.files old
         → d.asked new ≡ d.asked old
         → d.faults old ≤ d.faults new → (refusal ≡ Fault → Rose (d.faults old) (d.faults new))
-        → LeftBy drawn g (walk_state d name old (kept ∷ []) held o) (walk_state d name new (kept ∷ []) held o) (refusal_by refusal)
+        → LeftByRefusal drawn g (walk_state d name old (kept ∷ []) held o) (walk_state d name new (kept ∷ []) held o) (refusal_by refusal)
     refused_first kept old new held o refusal files asked faults failed = (left_alike first now alike, caused refusal failed) where
       first : WalkState
       first = walk_state d name old (kept ∷ []) held o

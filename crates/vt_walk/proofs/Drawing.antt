@@ -9,20 +9,20 @@ use Rattle.vt_journal.specs.declared.changes.Change.{Change}
 use Rattle.vt_journal.specs.declared.changes.RowLine.{RowLine}
 use Rattle.vt_journal.specs.Changes.{Table, newest}
 use Rattle.vt_tiles.specs.StoreViews.{IsStore}
-use Rattle.vt_shown.specs.Scenes.{Scene}
+use Rattle.vt_pictures.specs.Scenes.{Scene}
 use Rattle.vt_machine.specs.Drawings.{Drawing}
 use Rattle.vt_machine.specs.Machines.{Setup, MachineState}
-use Rattle.vt_shown.specs.Replays.{IsPictureOf}
+use Rattle.vt_pictures.specs.Replays.{IsPictureOf}
 use Rattle.vt_machine.specs.Passes.{IsPictured, IsJobFor, MapsNeeded}
 use Rattle.vt_machine.proofs.Settled.{settled}
-use Rattle.vt_turns.specs.declared.settings.Settings.{Settings}
-use Rattle.vt_turns.specs.declared.mode.Mode.{Mode}
-use Rattle.vt_turns.specs.declared.mode.Mode.TheVariants.{Settled}
+use Rattle.vt_walk_decisions.specs.declared.settings.Settings.{Settings}
+use Rattle.vt_walk_decisions.specs.declared.mode.Mode.{Mode}
+use Rattle.vt_walk_decisions.specs.declared.mode.Mode.TheVariants.{Settled}
 use Rattle.vt_walk.specs.Runs.{WalkPass, IsRun, IsFinished, GoesOn, Finishes, journal_after, plan_after}
 use Rattle.vt_walk.specs.Shown.{last_rows, IsRunPicture}
 use Rattle.vt_walk.specs.Walks.{WalkGiven, WalkNames, machine_of, given_by}
 use Rattle.vt_walk.specs.Written.{IsWritten}
-use Rattle.vt_walk.specs.Turns.{IsGiven, HasRun, job_for}
+use Rattle.vt_walk.specs.WalkSteps.{IsGiven, HasRun, job_for}
 use Rattle.vt_walk.proofs.Showing.{picture_drawn, rows_after, self_number}
 use Rattle.vt_walk.proofs.Wholeness.{finished_maps_needed}
 

@@ -2,15 +2,15 @@
 use Rattle.std.proofs.Common.{ℕ, ◌≤◌, inl, inr, List, ◌∷◌, Result, Ok, Err, arith}
 use Rattle.std.specs.Prelude.{MatchResult}
 use Rattle.vt_camera.specs.Paths.{PathView}
-use Rattle.vt_turns.specs.declared.error.WalkError.{WalkError}
-use Rattle.vt_turns.specs.declared.error.WalkError.TheVariants.{TooFewFrames, DoesNotFit, Failed, NoMemory}
+use Rattle.vt_walk_decisions.specs.declared.error.WalkError.{WalkError}
+use Rattle.vt_walk_decisions.specs.declared.error.WalkError.TheVariants.{TooFewFrames, DoesNotFit, Failed, NoMemory}
 use Rattle.vt_walk.specs.Runs.{WalkPass}
 use Rattle.vt_walk.specs.Walks.{WalkGiven}
 use Rattle.vt_walk.specs.States.{WalkState}
 use Rattle.vt_walk.specs.Standing.{Stands, Finished}
 use Rattle.vt_walk.specs.Leaving.{Left}
 use Rattle.vt_walk.specs.Causes.{HasFailed, IsCausedBy}
-use Rattle.vt_walk.specs.Turns.{LeftBy}
+use Rattle.vt_walk.specs.WalkSteps.{LeftByRefusal}
 
 module _ (drawn : PathView → ℕ → ℕ → ℕ → List ℕ → Type 0) (g : WalkGiven) (first now : WalkState) (fewer : ℕ) (few : fewer ≤ first.faults) where
   -- what stood before
@@ -96,7 +96,7 @@ module _ (drawn : PathView → ℕ → ℕ → ℕ → List ℕ → Type 0) (g :
   caused_from NoMemory c = tt
 
   -- a walk ended as it did
-  pub ends_from : {T : Type 0} (r : Result T WalkError) → MatchResult r (λ _. Finished drawn g first now) (LeftBy drawn g first now)
-      → MatchResult r (λ _. Finished drawn g earlier now) (LeftBy drawn g earlier now)
+  pub ends_from : {T : Type 0} (r : Result T WalkError) → MatchResult r (λ _. Finished drawn g first now) (LeftByRefusal drawn g first now)
+      → MatchResult r (λ _. Finished drawn g earlier now) (LeftByRefusal drawn g earlier now)
   ends_from (Ok x) f = finished_from f
   ends_from (Err error) l = (left_from l.0, caused_from error l.1)

@@ -1,4 +1,4 @@
--- The turn after a pass.
+-- The step after a pass.
 use Rattle.std.proofs.Common.{◌≡◌, ℕ, ◌+◌, ◌<◌, ◌≤◌, ◌≢◌, ◌⊎◌, inl, inr, Bool, List, [], ◌∷◌, length, Option, refl, sym, ap, ◌∙◌, subst, take, arith}
 use Rattle.std.specs.Prelude.{option_map, IsSome, IsTrue, ◌↔◌, All, slice_index_or, if◌then◌else◌}
 use Rattle.std.specs.List.{concat}
@@ -14,21 +14,21 @@ use Rattle.vt_journal.specs.Changes.{Table}
 use Rattle.vt_tiles.specs.StoreViews.{IsStore}
 use Rattle.vt_plan.specs.declared.batches.Planned.{Planned}
 use Rattle.vt_evict.specs.Views.{RecencyView, pages_needed}
-use Rattle.vt_shown.specs.Scenes.{Scene}
+use Rattle.vt_pictures.specs.Scenes.{Scene}
 use Rattle.vt_machine.specs.Drawings.{Drawing}
 use Rattle.vt_machine.specs.Outcomes.{lost_count}
 use Rattle.vt_machine.specs.Requests.{FileState, AllTell, ArePartlyReadFor, counts_of}
 use Rattle.vt_machine.specs.Machines.{Setup, MachineState}
-use Rattle.vt_shown.specs.Replays.{IsFull}
+use Rattle.vt_pictures.specs.Replays.{IsFull}
 use Rattle.vt_machine.specs.Passes.{MapsNeeded}
-use Rattle.vt_turns.specs.declared.error.WalkError.{WalkError}
-use Rattle.vt_turns.specs.declared.error.WalkError.TheVariants as walk_error
-use Rattle.vt_turns.specs.declared.mode.Mode.{Mode}
-use Rattle.vt_turns.specs.declared.mode.Mode.TheVariants.{Live, Settled}
-use Rattle.vt_turns.specs.declared.settings.Settings.{Settings}
-use Rattle.vt_turns.specs.declared.tallies.Tally.{Tally}
-use Rattle.vt_turns.specs.declared.turns.Passed.{Passed}
-use Rattle.vt_turns.specs.Refusals.{refusal_by}
+use Rattle.vt_walk_decisions.specs.declared.error.WalkError.{WalkError}
+use Rattle.vt_walk_decisions.specs.declared.error.WalkError.TheVariants as walk_error
+use Rattle.vt_walk_decisions.specs.declared.mode.Mode.{Mode}
+use Rattle.vt_walk_decisions.specs.declared.mode.Mode.TheVariants.{Live, Settled}
+use Rattle.vt_walk_decisions.specs.declared.settings.Settings.{Settings}
+use Rattle.vt_walk_decisions.specs.declared.tallies.Tally.{Tally}
+use Rattle.vt_walk_decisions.specs.declared.steps.Passed.{Passed}
+use Rattle.vt_walk_decisions.specs.Refusals.{refusal_by}
 use Rattle.vt_walk.specs.Fits.{WalkSetup, room_of, DoesNotFit, NeedsFrames}
 use Rattle.vt_walk.specs.Runs.{WalkPass, IsWalkSetup, IsRun, Finishes, GoesOn, plan_after, recency_after, planned_in, lost_in}
 use Rattle.vt_walk.specs.Logs.{passes_of, picture_line, wanted_in}
@@ -38,11 +38,11 @@ use Rattle.vt_walk.specs.Reads.{AreAskedFor, AreAskedAtMostFor, OnTold}
 use Rattle.vt_walk.specs.Written.{IsWritten}
 use Rattle.vt_walk.specs.Leaving.{Left, AsksAhead}
 use Rattle.vt_walk.specs.Causes.{HasBroken, IsCausedBy}
-use Rattle.vt_turns.specs.Tallies.{no_passes}
-use Rattle.vt_turns.specs.Reported.{next_turn}
+use Rattle.vt_walk_decisions.specs.Tallies.{no_passes}
+use Rattle.vt_walk_decisions.specs.Reported.{next_step}
 use Rattle.vt_walk.specs.Tallies.{tally_of, numbers_line}
-use Rattle.vt_turns.specs.Judging.{IsEnd}
-use Rattle.vt_walk.specs.Turns.{IsTurn, MayDraw, StandsAt, StandsAfter, LeftBy}
+use Rattle.vt_walk_decisions.specs.Judging.{IsEnd}
+use Rattle.vt_walk.specs.WalkSteps.{IsStep, MayDraw, StandsAt, StandsAfter, LeftByRefusal}
 use Rattle.vt_walk.proofs.Asking.{losses_more}
 use Rattle.vt_walk.proofs.Asks.{with_open, pass_asks_most, pass_fails_most, faults_rise}
 use Rattle.vt_walk.proofs.Drawing.{picture_written}
@@ -52,12 +52,12 @@ use Rattle.vt_walk.proofs.Passing.{state_of}
 use Rattle.vt_walk.proofs.Running.{run_kept}
 use Rattle.vt_walk.proofs.Showing.{other_number, self_number}
 use Rattle.vt_walk.proofs.Steps.{picture_told}
-use Rattle.vt_walk.proofs.Turning.{earlier_fit, unfit_first}
+use Rattle.vt_walk.proofs.Stepping.{earlier_fit, unfit_first}
 use Rattle.vt_walk.proofs.Wholeness.{needs_of}
 
 -- a run has no pass of a picture after its newest one's
 before_it : (w : WalkSetup) (p q : WalkPass) (run : List WalkPass) → IsRun w (p ∷ q ∷ run) → q.picture ≤ p.picture
-before_it w p q run is_run = either is_run.1.turn.1 where
+before_it w p q run is_run = either is_run.1.step.1 where
   either : {F : Type 0} → (F × (p.picture ≡ q.picture + 1)) ⊎ ((F → ⊥) × (p.picture ≡ q.picture)) → q.picture ≤ p.picture
   either (inl next) = omega (arith, next.1)
   either (inr same) = omega (arith, same.1)
@@ -141,9 +141,9 @@ module _ (draws : Drawing)
         given = s.given;
         stands = s.stands;
         at_run = s.at_run;
-        turn = record {
+        step = record {
           inside = let i = s.passed.inside in omega (arith, i, same);
-          turn = (goes was s none fits, inr (λ finished. unfinished (finish.1 finished), same));
+          step = (goes was s none fits, inr (λ finished. unfinished (finish.1 finished), same));
           batch = s.passed.plan;
           tally = s.passed.tally ∙ ap (λ k. tally_of (passes_of k (s.pass ∷ s.run))) (sym same);
           reads = s.passed.reads;
@@ -157,14 +157,14 @@ module _ (draws : Drawing)
   finished was s end =
       (end_of mode s.pass p.loads_nothing p.outlook.plan.elements (plan_after given.setup (s.pass ∷ s.run)) s.passed.loads_nothing s.passed.plan).0 end
 
-  -- it is the turn of the next picture's first pass
+  -- the next picture's first pass is next
   turn_is : (was : WalkState) (s : StandsAfter drawn given number p first was m v) → (mode ≡ Settled → p.lost ≡ 0)
       → (mode ≡ Settled → p.outlook.needed ≤ room_of given.setup) → IsEnd mode p.loads_nothing p.outlook.plan.elements
       → (t : Tally) → t ≡ no_passes
-      → IsTurn given (s.pass ∷ s.run) (number + 1) (record { picture = p.picture + 1; batch = p.outlook.plan; tally = t; reads = p.reads })
+      → IsStep given (s.pass ∷ s.run) (number + 1) (record { picture = p.picture + 1; batch = p.outlook.plan; tally = t; reads = p.reads })
   turn_is was s none fits end t empty = record {
     inside = let i = s.passed.inside in let e = s.passed.picture in omega (arith, i, e);
-    turn = (goes was s none fits, inl (finished was s end, ap (λ k. k + 1) s.passed.picture));
+    step = (goes was s none fits, inl (finished was s end, ap (λ k. k + 1) s.passed.picture));
     batch = s.passed.plan;
     tally = empty ∙ ap tally_of (sym (none_after given.setup s.pass s.run (p.picture + 1) s.at_run.is_run
         (let e = s.passed.picture in omega (arith, e))));
@@ -175,9 +175,9 @@ module _ (draws : Drawing)
   -- a machine may draw the next picture's first pass
   pub next_may : (was : WalkState) (s : StandsAfter drawn given number p first was m v) → (mode ≡ Settled → p.lost ≡ 0)
       → (mode ≡ Settled → p.outlook.needed ≤ room_of given.setup) → IsEnd mode p.loads_nothing p.outlook.plan.elements
-      → p.picture + 1 < length scene.path.cameras → MayDraw given (s.pass ∷ s.run) (number + 1) (next_turn p) m v
+      → p.picture + 1 < length scene.path.cameras → MayDraw given (s.pass ∷ s.run) (number + 1) (next_step p) m v
   next_may was s none fits end more =
-      record { given = s.given; at_run = s.at_run; turn = turn_is was s none fits end no_passes refl; more = more }
+      record { given = s.given; at_run = s.at_run; step = turn_is was s none fits end no_passes refl; more = more }
 
   -- the walk stops after the pass, of which all stands
   stops : (was : WalkState) → StandsAfter drawn given number p first was m v → Left drawn given first was
@@ -191,12 +191,12 @@ module _ (draws : Drawing)
 
   -- memory was refused after the pass
   pub stays : (was : WalkState) → StandsAfter drawn given number p first was m v → (e : WalkError) → e ≡ walk_error.NoMemory
-      → LeftBy drawn given first was e
+      → LeftByRefusal drawn given first was e
   stays was s e is = (stops was s, subst (IsCausedBy drawn given first was) (sym is) tt)
 
   -- a tile of a settled walk was lost
   pub tile_lost : (was : WalkState) → StandsAfter drawn given number p first was m v → mode ≡ Settled → 1 ≤ p.lost
-      → LeftBy drawn given first was walk_error.Failed
+      → LeftByRefusal drawn given first was walk_error.Failed
   tile_lost was s settled lost =
       let n = losses_more given.setup s.pass s.run s.at_run.is_run in
       let e = s.passed.lost in
@@ -216,7 +216,7 @@ module _ (draws : Drawing)
   -- the picture does not fit
   pub no_room : (was : WalkState) → StandsAfter drawn given number p first was m v → mode ≡ Settled → (picture wanted room : ℕ)
       → picture ≡ p.picture → wanted ≡ p.outlook.needed → room ≡ room_of given.setup → room < wanted
-      → LeftBy drawn given first was (walk_error.DoesNotFit picture wanted room)
+      → LeftByRefusal drawn given first was (walk_error.DoesNotFit picture wanted room)
   no_room was s settled picture wanted room of_picture are is over =
       let same : picture ≡ s.pass.picture = of_picture ∙ s.passed.picture in
       let pages : NeedsFrames given.setup s.pass.picture wanted =
@@ -279,7 +279,7 @@ module _ (draws : Drawing)
               ∙ ap (picture_line (s.pass ∷ s.run)) s.count))
               (ap (with_open store (kept ∷ m.files)) same) (omega (arith, risen)) out_risen;
           at_run = s.at_run;
-          turn = turn_is was s none fits end t empty;
+          step = turn_is was s none fits end t empty;
           tell = subst (λ (a : Option Asked). IsSome (with_open store (kept ∷ m.files) a) → AllTell m.files) (sym same) s.tell;
         }
 
@@ -321,7 +321,7 @@ module _ (draws : Drawing)
         let rise = faults_rise (length read.lost) faults kept.faults (counts_of m.files) (counts_of opened) read.faults in
         record {
           asked = inr (record {
-            turn = (goes was s none fits, inl (finished was s end, ap (λ k. k + 1) (sym s.count)));
+            step = (goes was s none fits, inl (finished was s end, ap (λ k. k + 1) (sym s.count)));
             of_path = omega (arith, more, picture);
             asked = subst (λ (a : Option Asked). OnTold (AreAskedAtMostFor scene.shape scene.depth 0 (plan_after given.setup (s.pass ∷ s.run))) was.asked
                 (with_open store (kept ∷ opened) a)) (sym same)
@@ -338,7 +338,7 @@ module _ (draws : Drawing)
         → (mode ≡ Settled → p.outlook.needed ≤ room_of given.setup) → IsEnd mode p.loads_nothing p.outlook.plan.elements
         → (files' ≡ files) ⊎ ((k : ℕ) × (files' ≡ option_map (with_bytes (picture_name names.prefix p.picture) (take k bytes)) files))
         → held' ≡ held → asked' ≡ asked → faults ≤ faults' → out_faults ≤ out_faults' → (error ≡ Failed → Rose faults faults') → e ≡ refusal_by error
-        → LeftBy drawn given first (later opened) e
+        → LeftByRefusal drawn given first (later opened) e
     picture_broke opened ahead error e s none fits end part line same risen out_risen failed is =
         let picture : p.picture ≡ length s.pictures = s.passed.picture ∙ s.count in (
           inr (record {
@@ -369,7 +369,7 @@ module _ (draws : Drawing)
         → files' ≡ option_map (with_bytes (picture_name names.prefix p.picture) bytes) files
         → (k : ℕ) × (held' ≡ option_map (gained (take k (numbers_line p.picture p.outlook.wanted p.tally))) held)
         → asked' ≡ asked → faults ≤ faults' → out_faults ≤ out_faults' → (error ≡ Failed → Rose out_faults out_faults') → e ≡ refusal_by error
-        → LeftBy drawn given first (later opened) e
+        → LeftByRefusal drawn given first (later opened) e
     line_broke opened ahead error e s none fits end written part same risen out_risen failed is =
         let picture : p.picture ≡ length s.pictures = s.passed.picture ∙ s.count in (
           inr (record {

@@ -42,10 +42,10 @@ events_append s pinned js (Lost p ∷ es) fs one more = (one.0, one.1, events_ap
 
 pub events_in_turn : (s : Shape) (pinned : ℕ) (js : List Change) (es : List Event) → AreInTurn js → AreEventsAfter s pinned js es
     → AreInTurn (js ++ changes_of es)
-events_in_turn s pinned js [] turn all = subst AreInTurn (sym (append-nil js)) turn
-events_in_turn s pinned js (Changed c ∷ es) turn all =
-    subst AreInTurn (append_assoc js (c ∷ []) (changes_of es)) (events_in_turn s pinned (js ++ c ∷ []) es (in_turn-more js c turn all.1) all.2)
-events_in_turn s pinned js (Lost p ∷ es) turn all = events_in_turn s pinned js es turn all.2
+events_in_turn s pinned js [] step all = subst AreInTurn (sym (append-nil js)) step
+events_in_turn s pinned js (Changed c ∷ es) step all =
+    subst AreInTurn (append_assoc js (c ∷ []) (changes_of es)) (events_in_turn s pinned (js ++ c ∷ []) es (in_turn-more js c step all.1) all.2)
+events_in_turn s pinned js (Lost p ∷ es) step all = events_in_turn s pinned js es step all.2
 
 unmapped_still : (m : Table) (page v frame : ℕ) → m page ≡ None → changed m (Unmap v frame) page ≡ None
 unmapped_still m page v frame none = pick (changed m (Unmap v frame) page) refl where
@@ -62,8 +62,8 @@ then_free m v frame one held q is = let was = mapped_after_unmap m v frame q fra
 group_follows : (s : Shape) (frames pinned : ℕ) (js : List Change) (e : Planned) (lost : Bool) → frames ≤ 65535 → AreInTurn js
     → IsEntryFor s frames (newest js) e
     → HasUnpinnedVictim s pinned e → AreEventsAfter s pinned js (group_of e lost)
-group_follows s frames pinned js e true few turn h unpinned = (h.page_inside, h.unmapped, tt)
-group_follows s frames pinned js e false few turn h unpinned = by_victim e.victim h.place unpinned where
+group_follows s frames pinned js e true few step h unpinned = (h.page_inside, h.unmapped, tt)
+group_follows s frames pinned js e false few step h unpinned = by_victim e.victim h.place unpinned where
   by_victim : (o : Option ℕ) → MatchOption o (IsFree (newest js) e.frame) (IsVictimOf s (newest js) e.frame)
       → MatchOption o (Unit {0}) (λ v. v + pinned < pages_of s)
       → AreEventsAfter s pinned js (victim_events o e.frame ++ Changed (Map e.page e.frame) ∷ [])
@@ -71,7 +71,7 @@ group_follows s frames pinned js e false few turn h unpinned = by_victim e.victi
   by_victim (Some v) is u =
       let after : newest (js ++ Unmap v e.frame ∷ []) ≡ changed (newest js) (Unmap v e.frame) = newest-more js (Unmap v e.frame) in
       let next : IsNext (changed (newest js) (Unmap v e.frame)) (Map e.page e.frame) =
-      (unmapped_still (newest js) e.page v e.frame h.unmapped, then_free (newest js) v e.frame (one_to_one js (length js) turn (omega arith)) is.mapped) in (
+      (unmapped_still (newest js) e.page v e.frame h.unmapped, then_free (newest js) v e.frame (one_to_one js (length js) step (omega arith)) is.mapped) in (
         (u, omega (arith, few, h.frame_inside)),
         is.mapped,
         ((h.page_inside, omega (arith, few, h.frame_inside)), subst (λ (m : Table). IsNext m (Map e.page e.frame)) (sym after) next, tt),
@@ -123,15 +123,15 @@ tickets_follow : (s : Shape) (frames pinned : ℕ) (js : List Change) (batch : L
     → AllPairs AreApart batch → IsDistinct nat_eq order → AllByRecursion (IsTicket s frames pinned (newest js) batch) order
     → AreEventsAfter s pinned js (pass_events batch losses order)
 unfolding IsDistinct
-tickets_follow s frames pinned js batch losses [] few turn apart once all = tt
-tickets_follow s frames pinned js batch losses (j ∷ order) few turn apart once all =
+tickets_follow s frames pinned js batch losses [] few step apart once all = tt
+tickets_follow s frames pinned js batch losses (j ∷ order) few step apart once all =
     let e = all.0.entry in
     let lost = slice_index_or losses j true in
     let group : group_at batch losses j ≡ group_of all.0.entry (slice_index_or losses j true) = ap
     (λ (o : Option Planned). group_if o (slice_index_or losses j true)) all.0.there in
-    let here = group_follows s frames pinned js e lost few turn all.0.lawful all.0.unpinned in
+    let here = group_follows s frames pinned js e lost few step all.0.lawful all.0.unpinned in
     let rest = tickets_follow s frames pinned (js ++ changes_of (group_of e lost)) batch losses order few
-    (events_in_turn s pinned js (group_of e lost) turn here) apart once.1
+    (events_in_turn s pinned js (group_of e lost) step here) apart once.1
     (tickets_stay s frames pinned js batch j e lost order apart all.0.there all.0.lawful once.0 all.1) in
     subst (λ (es : List Event). AreEventsAfter s pinned js (es ++ pass_events batch losses order)) (sym group)
     (events_append s pinned js (group_of e lost) (pass_events batch losses order) here rest)
@@ -158,11 +158,11 @@ each_ticket s frames pinned m batch (k ∷ order) lawful unpinned all = (
 pub outcome_follows : (s : Shape) (frames pinned : ℕ) (js : List Change) (batch : List Planned) (losses : List Bool) (events : List Event)
     → frames ≤ 65535 → AreInTurn js
     → IsBatchFor s frames (newest js) batch → All (HasUnpinnedVictim s pinned) batch → IsOutcome batch losses events → AreEventsAfter s pinned js events
-outcome_follows s frames pinned js batch losses events few turn lawful unpinned outcome =
+outcome_follows s frames pinned js batch losses events few step lawful unpinned outcome =
     let once = IsDistinct-IsPermutation nat_eq nat_eq_swap (range_with_len 0 (length batch)) outcome.order outcome.each_once (range_once 0 (length batch)) in
     let below = recursion_from_All (λ k. k < length batch) outcome.order
     (All-permutation (λ k. k < length batch) (range_with_len 0 (length batch)) outcome.order outcome.each_once
     (All-from_recursion (λ k. k < length batch) (range_with_len 0 (length batch)) (all_below 0 (length batch) (length batch) (omega arith)))) in
     subst (AreEventsAfter s pinned js) (sym outcome.groups)
-    (tickets_follow s frames pinned js batch losses outcome.order few turn lawful.apart once
+    (tickets_follow s frames pinned js batch losses outcome.order few step lawful.apart once
     (each_ticket s frames pinned (newest js) batch outcome.order lawful unpinned below))

@@ -7,7 +7,7 @@ use Rattle.vt_walk.specs.Walks.{WalkGiven}
 use Rattle.vt_walk.specs.States.{WalkState}
 use Rattle.vt_walk.specs.Reads.{AreAskedFor, OnTold}
 use Rattle.vt_walk.specs.Causes.{HasBroken, reads_lost}
-use Rattle.vt_walk.specs.Turns.{IsGiven}
+use Rattle.vt_walk.specs.WalkSteps.{IsGiven}
 use Rattle.vt_walk.proofs.Asking.{planned_both}
 use Rattle.vt_walk.proofs.Asks.{told_more, told_twice, faults_rise}
 use Rattle.vt_walk.proofs.LostReads.{FailsAtMostFor, lost_reads_most}

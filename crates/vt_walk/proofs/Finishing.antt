@@ -10,8 +10,8 @@ use Rattle.std.proofs.lemmas.List.FromFn.{length-range_with_len, length-map-rang
 use Rattle.std.proofs.lemmas.List.Sums.{length-filter}
 use Rattle.std.proofs.lemmas.Map.Made.{length-le_from_is_member}
 use Rattle.vt_pages.specs.Shape.{Shape}
-use Rattle.vt_pages.specs.Pages.{pages_of, line_of, level_of}
-use Rattle.vt_pages.specs.Lookups.{step_of}
+use Rattle.vt_pages.specs.Pages.{pages_of, ancestors_of, level_of}
+use Rattle.vt_pages.specs.Lookups.{next_finer_page}
 use Rattle.vt_pages.proofs.Parents.{line_begins}
 use Rattle.vt_feedback.specs.declared.Wanted.{Wanted}
 use Rattle.vt_feedback.specs.Wants.{pages_wanted, IsWants, is_before}
@@ -176,22 +176,22 @@ pub mapped_if_none : (v : RecencyView) (wants : List Wanted) (q p : ℕ) → IsT
     → p < pages_of v.shape → is_in (pages_wanted wants) p ≡ true → is_mapped v.entries p ≡ true
 unfolding missing_pages missing_from
 mapped_if_none v wants q p table some none fits inside wanted = pick (is_mapped v.entries p) refl (planned_none v wants q some none) where
-  own : is_in (line_of v.shape p) p ≡ true
+  own : is_in (ancestors_of v.shape p) p ≡ true
   own = let l = line_begins v.shape p table.limits inside in ap (λ (xs : List ℕ). is_in xs p) l.1 ∙ or_false (nat_eq p p) (is_in l.0 p) (self_eq p)
 
-  any : (ps : List ℕ) → is_in ps p ≡ true → list_any (λ r. is_in (line_of v.shape r) p) ps ≡ true
+  any : (ps : List ℕ) → is_in ps p ≡ true → list_any (λ r. is_in (ancestors_of v.shape r) p) ps ≡ true
   any [] there = there
   any (r ∷ ps) there = test (nat_eq p r) refl there (any ps) where
-    test : (b : Bool) → nat_eq p r ≡ b → (b || is_in ps p) ≡ true → (is_in ps p ≡ true → list_any (λ r. is_in (line_of v.shape r) p) ps ≡ true)
-        → (is_in (line_of v.shape r) p || list_any (λ r. is_in (line_of v.shape r) p) ps) ≡ true
-    test true same rest more = or_false _ _ (ap (λ k. is_in (line_of v.shape k) p) (sym (nat_eq_true p r same)) ∙ own)
+    test : (b : Bool) → nat_eq p r ≡ b → (b || is_in ps p) ≡ true → (is_in ps p ≡ true → list_any (λ r. is_in (ancestors_of v.shape r) p) ps ≡ true)
+        → (is_in (ancestors_of v.shape r) p || list_any (λ r. is_in (ancestors_of v.shape r) p) ps) ≡ true
+    test true same rest more = or_false _ _ (ap (λ k. is_in (ancestors_of v.shape k) p) (sym (nat_eq_true p r same)) ∙ own)
     test false other rest more = or_true _ _ (more rest)
 
-  pick : (b : Bool) → is_mapped v.entries p ≡ b → (each_once (map (step_of v.shape (is_mapped v.entries))
+  pick : (b : Bool) → is_mapped v.entries p ≡ b → (each_once (map (next_finer_page v.shape (is_mapped v.entries))
       (filter (λ p. not (is_mapped v.entries p)) (pages_wanted wants))) ≡ [])
       ⊎ ((free_frames v ≡ []) × (candidates v wants ≡ [])) → is_mapped v.entries p ≡ true
   pick true is why = is
-  pick false is (inl nothing) = in_none _ p (none_before (step_of v.shape (is_mapped v.entries)) _ nothing)
+  pick false is (inl nothing) = in_none _ p (none_before (next_finer_page v.shape (is_mapped v.entries)) _ nothing)
       (is_in-filter (λ p. not (is_mapped v.entries p)) (pages_wanted wants) p ∙ both _ _ wanted (ap not is))
   pick false is (inr full) = absurd (omega (
     arith,

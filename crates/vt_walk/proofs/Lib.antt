@@ -6,7 +6,7 @@ pub mod Telling
 pub mod Finishing
 pub mod Wholeness
 pub mod Showing
-pub mod Turning
+pub mod Stepping
 pub mod Asking
 pub mod Bounds
 pub mod Advancing
@@ -31,4 +31,4 @@ pub mod Closings
 pub mod Alike
 pub mod Concluding
 pub mod Earlier
-pub mod Touring
+pub mod WalkInputLaws

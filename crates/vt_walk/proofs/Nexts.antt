@@ -14,7 +14,7 @@ use Rattle.vt_machine.specs.RowOrders.{AreRowsInOrder}
 use Rattle.vt_machine.specs.Machines.{MachineState}
 use Rattle.vt_machine.specs.Passes.{Ran}
 use Rattle.vt_walk.specs.Fits.{WalkSetup}
-use Rattle.vt_walk.specs.Runs.{WalkPass, pass_of, journal_after, recency_after, plan_after, IsTurnOf, IsNextPass}
+use Rattle.vt_walk.specs.Runs.{WalkPass, pass_of, journal_after, recency_after, plan_after, IsStepOf, IsNextPass}
 
 module _ (draws : Drawing) (drawn : PathView → ℕ → ℕ → ℕ → List ℕ → Type 0) where
   pub journal_grown : (w : WalkSetup) (before : List WalkPass) (job : Job) (report : PassReport) (wants : List Wanted)
@@ -28,9 +28,9 @@ module _ (draws : Drawing) (drawn : PathView → ℕ → ℕ → ℕ → List �
       (settled : RecencyView) (s t : MachineState)
       → Ran draws drawn job report s t → w.dealt ≡ draws.dealt → w.samplers ≡ s.setup.crew.samplers → w.height ≡ s.setup.height
       → s.journal ≡ journal_after w before
-      → IsTurnOf w before job.picture → job.picture < w.pictures → job.batch ≡ plan_after w before → IsWants w.shape (w.needs job.picture) wants
+      → IsStepOf w before job.picture → job.picture < w.pictures → job.batch ≡ plan_after w before → IsWants w.shape (w.needs job.picture) wants
       → IsSettled (recency_after w before) (read_entries job.batch report.losses.elements) settled → IsNextPass w before (pass_of job report wants settled)
-  comes_next w before job report wants settled s t ran is_dealt samplers height journal turn inside planned wanted settles =
+  comes_next w before job report wants settled s t ran is_dealt samplers height journal step inside planned wanted settles =
       let grown = journal_grown w before job report wants settled s t ran journal in
       let a = subst (λ (d : Bool). AreRowsInOrder d s.setup.crew.samplers s.setup.height (length s.journal) (length t.journal) report.rows.elements)
       (sym is_dealt) ran.rows in
@@ -38,7 +38,7 @@ module _ (draws : Drawing) (drawn : PathView → ℕ → ℕ → ℕ → List �
       let c = subst (λ n. AreRowsInOrder w.dealt w.samplers n (length s.journal) (length t.journal) report.rows.elements) (sym height) b in
       let d = subst (λ (js : List Change). AreRowsInOrder w.dealt w.samplers w.height (length js) (length t.journal) report.rows.elements) journal c in
       record {
-        turn = turn;
+        step = step;
         of_path = inside;
         planned = planned;
         wanted = wanted;

@@ -13,17 +13,17 @@ use Rattle.vt_evict.specs.Views.{RecencyView}
 use Rattle.vt_machine.specs.Outcomes.{lost_count}
 use Rattle.vt_machine.specs.Requests.{FileState, AllTell, AreSameFiles, ArePartlyReadFor, counts_of}
 use Rattle.vt_machine.specs.Machines.{MachineState}
-use Rattle.vt_turns.specs.declared.error.WalkError.{WalkError}
-use Rattle.vt_turns.specs.declared.error.WalkError.TheVariants as walk_error
-use Rattle.vt_turns.specs.declared.turns.Turn.{Turn}
-use Rattle.vt_turns.specs.declared.turns.Drawn.{Drawn}
-use Rattle.vt_turns.specs.Refusals.{refusal_by}
-use Rattle.vt_walk.specs.Runs.{IsTurnOf, plan_after, planned_in, lost_in}
+use Rattle.vt_walk_decisions.specs.declared.error.WalkError.{WalkError}
+use Rattle.vt_walk_decisions.specs.declared.error.WalkError.TheVariants as walk_error
+use Rattle.vt_walk_decisions.specs.declared.steps.WalkStep.{WalkStep}
+use Rattle.vt_walk_decisions.specs.declared.steps.Drawn.{Drawn}
+use Rattle.vt_walk_decisions.specs.Refusals.{refusal_by}
+use Rattle.vt_walk.specs.Runs.{IsStepOf, plan_after, planned_in, lost_in}
 use Rattle.vt_walk.specs.Walks.{WalkGiven}
 use Rattle.vt_walk.specs.States.{WalkState}
 use Rattle.vt_walk.specs.Reads.{AreAskedAtMostFor, OnTold}
 use Rattle.vt_walk.specs.Causes.{HasBroken, IsCausedBy}
-use Rattle.vt_walk.specs.Turns.{StandsAt, StandsAfter, HasDrawn, MayDraw, LeftBy}
+use Rattle.vt_walk.specs.WalkSteps.{StandsAt, StandsAfter, HasDrawnPass, MayDraw, LeftByRefusal}
 use Rattle.vt_walk.proofs.Asking.{losses_more}
 use Rattle.vt_walk.proofs.Asks.{with_open, pass_asks, pass_asks_most, faults_rise}
 use Rattle.vt_walk.proofs.Steps.{pass_told, asked_more}
@@ -53,18 +53,18 @@ all_told (x ∷ xs) (y ∷ ys) same tell =
       pick head more zero d inside = is_told x.asked y.asked head (tell 0 d (omega arith))
       pick head more (suc k) d inside = more k d (omega (arith, inside))
 
--- a machine may take the turn
-pub may_draw : (drawn : PathView → ℕ → ℕ → ℕ → List ℕ → Type 0) (g : WalkGiven) (number : ℕ) (t : Turn) (first now : WalkState) (m : MachineState)
+-- a machine may take the step
+pub may_draw : (drawn : PathView → ℕ → ℕ → ℕ → List ℕ → Type 0) (g : WalkGiven) (number : ℕ) (t : WalkStep) (first now : WalkState) (m : MachineState)
     (v : RecencyView)
     → (s : StandsAt drawn g number t first now m v) → t.picture < g.setup.pictures → MayDraw g s.run number t m v
-may_draw drawn g number t first now m v s more = record { given = s.given; at_run = s.at_run; turn = s.turn; more = more }
+may_draw drawn g number t first now m v s more = record { given = s.given; at_run = s.at_run; step = s.step; more = more }
 
 -- files that tell their places still do
 pub still_tell : (old new : List FileState) → AreSameFiles old new → AllTell old → AllTell new
 still_tell old new same tell = all_told old new same.tell tell
 
 module _ (drawn : PathView → ℕ → ℕ → ℕ → List ℕ → Type 0)
-    (g : WalkGiven) (number : ℕ) (t : Turn) (first : WalkState) (store : List ℕ) (kept : FileState) (held : Option (List ℕ)) (out_faults : ℕ)
+    (g : WalkGiven) (number : ℕ) (t : WalkStep) (first : WalkState) (store : List ℕ) (kept : FileState) (held : Option (List ℕ)) (out_faults : ℕ)
     (files : Option Files) (asked : Option Asked) (faults : ℕ) (m n : MachineState) (v u : RecencyView) where
   abbrev was : WalkState
   was = state_of files asked faults store (kept ∷ m.files) held out_faults
@@ -74,7 +74,7 @@ module _ (drawn : PathView → ℕ → ℕ → ℕ → List ℕ → Type 0)
 
   -- the text of the pass stands whole
   stands_whole : (new : Option Files) (rose : ℕ) (d : Drawn) (s : StandsAt drawn g number t first was m v)
-      → HasDrawn drawn g s.run t m n u d
+      → HasDrawnPass drawn g s.run t m n u d
       → new ≡ option_map (with_appended g.names.journal (pass_text g.setup.shape (text_of d.text))) files
       → (IsThere files g.names.journal → IsThere new g.names.journal) → faults ≤ rose
       → StandsAfter drawn g number d.passed first (now new rose) n u
@@ -95,7 +95,7 @@ module _ (drawn : PathView → ℕ → ℕ → ℕ → List ℕ → Type 0)
         at_run = h.at_run;
         passed = h.passed;
         has_run = h.has_run;
-        number_is = s.turn.number_is;
+        number_is = s.step.number_is;
         tell = λ told. still_tell m.files n.files h.read.same (s.tell (still_told asked told));
       } where
         still_told : (asked : Option Asked) → IsSome (with_open store (kept ∷ n.files) asked) → IsSome (with_open store (kept ∷ m.files) asked)
@@ -103,7 +103,7 @@ module _ (drawn : PathView → ℕ → ℕ → ℕ → List ℕ → Type 0)
         still_told (Some places) told = refl
 
   pub pass_made : (new : Option Files) (later : Option Asked) (rose : ℕ) (d : Drawn) (s : StandsAt drawn g number t first was m v)
-      → HasDrawn drawn g s.run t m n u d
+      → HasDrawnPass drawn g s.run t m n u d
       → new ≡ option_map (with_appended g.names.journal (pass_text g.setup.shape (text_of d.text))) files
       → (IsThere files g.names.journal → IsThere new g.names.journal) → later ≡ asked → faults ≤ rose
       → StandsAfter drawn g number d.passed first (state_of new later rose store (kept ∷ n.files) held out_faults) n u
@@ -114,21 +114,21 @@ module _ (drawn : PathView → ℕ → ℕ → ℕ → List ℕ → Type 0)
   -- the pass could not be drawn, or not be planned after
   pub pass_broke : (s : StandsAt drawn g number t first was m v) → t.picture < g.setup.pictures
       → ArePartlyReadFor g.scene.shape g.scene.depth t.batch.elements m.files n.files
-      → (e : WalkError) → e ≡ walk_error.NoMemory → LeftBy drawn g first (now files faults) e
+      → (e : WalkError) → e ≡ walk_error.NoMemory → LeftByRefusal drawn g first (now files faults) e
   pass_broke s more read e is =
       let fault = faults_rise (length read.lost) faults kept.faults (counts_of m.files) (counts_of n.files) read.faults in
       let asks : OnTold (AreAskedAtMostFor g.scene.shape g.scene.depth 0 (plan_after g.setup s.run)) (with_open store (kept ∷ m.files) asked)
       (with_open store (kept ∷ n.files) asked) =
       subst (λ (batch : List Planned). OnTold (AreAskedAtMostFor g.scene.shape g.scene.depth 0 batch) (with_open store (kept ∷ m.files) asked)
       (with_open store (kept ∷ n.files) asked))
-      s.turn.batch (pass_asks_most g.scene.shape g.scene.depth t.batch.elements store kept m.files n.files asked s.tell read) in (
+      s.step.batch (pass_asks_most g.scene.shape g.scene.depth t.batch.elements store kept m.files n.files asked s.tell read) in (
         inr (record {
           run = s.run;
           pictures = s.pictures;
           mid = was;
           stands = s.stands;
           front = inr (inl (record {
-            turn = subst (IsTurnOf g.setup s.run) s.count s.turn.turn;
+            step = subst (IsStepOf g.setup s.run) s.count s.step.step;
             of_path = let c = s.count in omega (arith, c, more);
             files = refl;
             held = refl;
@@ -142,10 +142,10 @@ module _ (drawn : PathView → ℕ → ℕ → ℕ → List ℕ → Type 0)
 
   -- of the pass's text a front part stands
   text_left : (new : Option Files) (rose : ℕ) (d : Drawn) (error : OutsideError) (s : StandsAt drawn g number t first was m v)
-      → HasDrawn drawn g s.run t m n u d
+      → HasDrawnPass drawn g s.run t m n u d
       → (new ≡ files) ⊎ ((k : ℕ) × (new ≡ option_map (with_appended g.names.journal (take k (pass_text g.setup.shape (text_of d.text)))) files))
       → faults ≤ rose → (error ≡ Failed → IsThere files g.names.journal → Rose faults rose)
-      → LeftBy drawn g first (now new rose) (refusal_by error)
+      → LeftByRefusal drawn g first (now new rose) (refusal_by error)
   text_left new rose d error s h part risen failed =
       let count = h.picture ∙ s.count in
       let fault = faults_rise (lost_count h.pass.losses) faults kept.faults (counts_of m.files) (counts_of n.files) h.read.faults in
@@ -186,11 +186,11 @@ module _ (drawn : PathView → ℕ → ℕ → ℕ → List ℕ → Type 0)
             h.read.faults (failed refl s.stands.there)))
 
   pub text_broke : (new : Option Files) (later : Option Asked) (rose : ℕ) (d : Drawn) (error : OutsideError) (e : WalkError)
-      (s : StandsAt drawn g number t first was m v) → HasDrawn drawn g s.run t m n u d
+      (s : StandsAt drawn g number t first was m v) → HasDrawnPass drawn g s.run t m n u d
       → (new ≡ files) ⊎ ((k : ℕ) × (new ≡ option_map (with_appended g.names.journal (take k (pass_text g.setup.shape (text_of d.text)))) files))
       → later ≡ asked → faults ≤ rose → (error ≡ Failed → IsThere files g.names.journal → Rose faults rose) → e ≡ refusal_by error
-      → LeftBy drawn g first (state_of new later rose store (kept ∷ n.files) held out_faults) e
+      → LeftByRefusal drawn g first (state_of new later rose store (kept ∷ n.files) held out_faults) e
   text_broke new later rose d error e s h part same risen failed is =
-      subst (λ (x : WalkError). LeftBy drawn g first (state_of new later rose store (kept ∷ n.files) held out_faults) x) (sym is)
-      (subst (λ (a : Option Asked). LeftBy drawn g first (state_of new a rose store (kept ∷ n.files) held out_faults) (refusal_by error)) (sym same)
+      subst (λ (x : WalkError). LeftByRefusal drawn g first (state_of new later rose store (kept ∷ n.files) held out_faults) x) (sym is)
+      (subst (λ (a : Option Asked). LeftByRefusal drawn g first (state_of new a rose store (kept ∷ n.files) held out_faults) (refusal_by error)) (sym same)
       (text_left new rose d error s h part risen failed))

@@ -1,4 +1,4 @@
--- The first turn, the last one, and the end of a walk.
+-- The first step, the last one, and the end of a walk.
 use Rattle.std.proofs.Common.{◌≡◌, ℕ, ◌+◌, ◌<◌, ◌≤◌, ◌⊎◌, inl, inr, List, [], ◌∷◌, ◌++◌, length, Option, refl, sym, ap, ◌∙◌, subst, take, arith}
 use Rattle.std.specs.Prelude.{option_map}
 use Rattle.std.proofs.lemmas.Bool.{cases_lt}
@@ -9,28 +9,28 @@ use Rattle.vt_outside.specs.declared.answers.OutsideError.TheVariants.{Failed, N
 use Rattle.vt_camera.specs.Paths.{PathView}
 use Rattle.vt_evict.specs.Views.{RecencyView}
 use Rattle.vt_machine.specs.Machines.{MachineState}
-use Rattle.vt_turns.specs.declared.error.WalkError.{WalkError}
-use Rattle.vt_turns.specs.declared.turns.Turn.{Turn}
-use Rattle.vt_turns.specs.Refusals.{refusal_by}
-use Rattle.vt_turns.specs.declared.mode.Mode.{Mode}
-use Rattle.vt_turns.specs.declared.mode.Mode.TheVariants.{Settled}
+use Rattle.vt_walk_decisions.specs.declared.error.WalkError.{WalkError}
+use Rattle.vt_walk_decisions.specs.declared.steps.WalkStep.{WalkStep}
+use Rattle.vt_walk_decisions.specs.Refusals.{refusal_by}
+use Rattle.vt_walk_decisions.specs.declared.mode.Mode.{Mode}
+use Rattle.vt_walk_decisions.specs.declared.mode.Mode.TheVariants.{Settled}
 use Rattle.vt_walk.specs.Fits.{WalkSetup, Fits}
-use Rattle.vt_walk.specs.Runs.{WalkPass, IsRun, IsTurnOf, IsWhole, GoesOn}
+use Rattle.vt_walk.specs.Runs.{WalkPass, IsRun, IsStepOf, IsWhole, GoesOn}
 use Rattle.vt_walk.specs.Logs.{end_line, reads_of, picture_lines}
 use Rattle.vt_walk.specs.Walks.{WalkGiven}
 use Rattle.vt_walk.specs.States.{WalkState}
 use Rattle.vt_walk.specs.Standing.{Finished}
 use Rattle.vt_walk.specs.Causes.{IsCausedBy}
-use Rattle.vt_turns.specs.Tallies.{no_passes}
-use Rattle.vt_walk.specs.Turns.{StandsFirst, StandsAt, StandsLast, LeftBy}
+use Rattle.vt_walk_decisions.specs.Tallies.{no_passes}
+use Rattle.vt_walk.specs.WalkSteps.{StandsFirst, StandsAt, StandsLast, LeftByRefusal}
 use Rattle.vt_walk.proofs.Steps.{told_gained}
-use Rattle.vt_walk.proofs.Turning.{earlier_fit}
+use Rattle.vt_walk.proofs.Stepping.{earlier_fit}
 use Rattle.vt_walk.proofs.Telling.{run_is_legal, run_is_pinned}
 
 -- nothing more is to follow
-pub is_whole : (w : WalkSetup) (run : List WalkPass) (picture : ℕ) → IsRun w run → IsTurnOf w run picture → picture ≡ w.pictures → IsWhole w run
-is_whole w [] picture is_run turn all = sym all ∙ turn
-is_whole w (p ∷ run) picture is_run turn all = (turn.0, (either turn.1).0, (either turn.1).1) where
+pub is_whole : (w : WalkSetup) (run : List WalkPass) (picture : ℕ) → IsRun w run → IsStepOf w run picture → picture ≡ w.pictures → IsWhole w run
+is_whole w [] picture is_run step all = sym all ∙ step
+is_whole w (p ∷ run) picture is_run step all = (step.0, (either step.1).0, (either step.1).1) where
   either : {F : Type 0} → (F × (picture ≡ p.picture + 1)) ⊎ ((F → ⊥) × (picture ≡ p.picture)) → F × (p.picture + 1 ≡ w.pictures)
   either (inl next) = (next.0, sym next.1 ∙ all)
   either (inr same) = absurd (let inside = is_run.1.of_path in let e = same.1 in omega (arith, inside, e, all))
@@ -46,8 +46,8 @@ each_fits w (p ∷ run) settled is_run whole picture below = pick (cases_lt pict
       subst (Fits w) same (subst (λ (m : Mode). GoesOn m w p) settled whole.0).1
 
 module _ (drawn : PathView → ℕ → ℕ → ℕ → List ℕ → Type 0) (g : WalkGiven) (first now : WalkState) where
-  -- the first turn
-  pub first_at : (m : MachineState) (v : RecencyView) (t : Turn) → StandsFirst drawn g first now m v → t.picture ≡ 0 → t.batch.elements ≡ []
+  -- the first step
+  pub first_at : (m : MachineState) (v : RecencyView) (t : WalkStep) → StandsFirst drawn g first now m v → t.picture ≡ 0 → t.batch.elements ≡ []
       → t.tally ≡ no_passes
       → t.reads ≡ g.setup.pinned → StandsAt drawn g 1 t first now m v
   first_at m v t s picture batch tally reads = record {
@@ -57,9 +57,9 @@ module _ (drawn : PathView → ℕ → ℕ → ℕ → List ℕ → Type 0) (g :
     given = s.given;
     stands = s.stands;
     at_run = s.at_run;
-    turn = record {
+    step = record {
       inside = omega (arith, picture);
-      turn = picture;
+      step = picture;
       batch = batch;
       tally = tally;
       reads = omega (arith, reads);
@@ -101,7 +101,7 @@ module _ (drawn : PathView → ℕ → ℕ → ℕ → List ℕ → Type 0) (g :
   -- of the last line a front part stands
   pub last_broke : (reads pictures : ℕ) (held : Option (List ℕ)) (out_faults : ℕ) (error : OutsideError) (e : WalkError) → StandsLast drawn g reads first now
       → pictures ≡ g.setup.pictures → (k : ℕ) × (held ≡ option_map (gained (take k (end_line pictures reads))) now.held) → now.out_faults ≤ out_faults
-      → (error ≡ Failed → Rose now.out_faults out_faults) → e ≡ refusal_by error → LeftBy drawn g first (with_text held out_faults) e
+      → (error ≡ Failed → Rose now.out_faults out_faults) → e ≡ refusal_by error → LeftByRefusal drawn g first (with_text held out_faults) e
   last_broke reads pictures held out_faults error e s count part risen failed is = (
     inr (record {
       run = s.run;

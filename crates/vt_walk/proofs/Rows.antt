@@ -4,7 +4,7 @@ use Rattle.std.specs.Prelude.{All}
 use Rattle.std.specs.List.{AllByRecursion, concat}
 use Rattle.std.proofs.lemmas.List.Elements.{recursion_from_All}
 use Rattle.vt_definitions.specs.Depths.{texel_length}
-use Rattle.vt_shown.specs.Replays.{IsFull}
+use Rattle.vt_pictures.specs.Replays.{IsFull}
 
 joined : (m : ℕ) (rows : List (List ℕ)) → AllByRecursion (λ row. length row ≡ m) rows → length (concat rows) ≡ length rows * m
 joined m [] all = omega arith

@@ -113,7 +113,7 @@ head_in_turn w h = subst AreInTurn (append-nil (pinned_changes w.shape w.pinned)
 pub record IsKept (w : WalkSetup) (passes : List WalkPass) : Type 0 where
   pub table : IsTable (recency_after w passes)
   pub agrees : Agrees (recency_after w passes) (newest (journal_after w passes))
-  pub turn : AreInTurn (journal_after w passes)
+  pub step : AreInTurn (journal_after w passes)
   pub shape : (recency_after w passes).shape ≡ w.shape
   pub frames : (recency_after w passes).frames ≡ w.frames
   pub pinned : (recency_after w passes).pinned ≡ w.pinned
@@ -161,12 +161,12 @@ kept_more w p passes h run next kept =
     let laws = batch_is_lawful w passes p.batch run kept next.planned in
     let k = settled_agrees (recency_after w passes) p.settled (journal_after w passes) p.batch p.losses p.events kept.table kept.agrees laws
     next.outcome next.settles in
-    let follow = outcome_follows w.shape w.frames w.pinned (journal_after w passes) p.batch p.losses p.events h.most_frames kept.turn
+    let follow = outcome_follows w.shape w.frames w.pinned (journal_after w passes) p.batch p.losses p.events h.most_frames kept.step
     (batch_may_be_run w passes p.batch run kept next.planned) (unpinned_victims w (recency_after w passes) p.batch kept.shape kept.pinned laws) next.outcome in
     record {
       table = touched_table p.settled p.wants k.table;
       agrees = k.agrees;
-      turn = events_in_turn w.shape w.pinned (journal_after w passes) p.events kept.turn follow;
+      step = events_in_turn w.shape w.pinned (journal_after w passes) p.events kept.step follow;
       shape = next.settles.shape ∙ kept.shape;
       frames = next.settles.frames ∙ kept.frames;
       pinned = next.settles.pinned ∙ kept.pinned;
@@ -177,7 +177,7 @@ unfolding first_view
 kept_none w h = record {
   table = first_table w.shape w.frames w.pinned h.limits h.most_frames h.some_pinned h.enough_frames h.enough_pages;
   agrees = first_agrees w.shape w.frames w.pinned;
-  turn = head_in_turn w h;
+  step = head_in_turn w h;
   shape = refl;
   frames = refl;
   pinned = refl;

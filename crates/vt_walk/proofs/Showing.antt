@@ -12,7 +12,7 @@ use Rattle.vt_workers.specs.Jobs.{Job}
 use Rattle.vt_machine.specs.Drawings.{Drawing}
 use Rattle.vt_machine.specs.Machines.{MachineState}
 use Rattle.vt_machine.specs.Passes.{IsPictured}
-use Rattle.vt_shown.specs.Replays.{HasPixels}
+use Rattle.vt_pictures.specs.Replays.{HasPixels}
 use Rattle.vt_walk.specs.Fits.{WalkSetup}
 use Rattle.vt_walk.specs.Runs.{WalkPass, journal_after, IsRun}
 use Rattle.vt_walk.specs.Shown.{last_rows, IsRunPicture}

@@ -13,7 +13,7 @@ use Rattle.vt_journal.proofs.Versions.{legal-pinned}
 use Rattle.vt_journal.proofs.ByParts.{lawful_by_parts, content_pinned}
 use Rattle.vt_journal.proofs.Contents.{content_unique}
 use Rattle.vt_walk.specs.Fits.{WalkSetup}
-use Rattle.vt_walk.specs.Runs.{WalkPass, IsWalkSetup, journal_after, recency_after, IsTurnOf, IsNextPass, IsRun, told_of, passes_told, run_content, run_text}
+use Rattle.vt_walk.specs.Runs.{WalkPass, IsWalkSetup, journal_after, recency_after, IsStepOf, IsNextPass, IsRun, told_of, passes_told, run_content, run_text}
 use Rattle.vt_walk.proofs.Agreeing.{root_last}
 use Rattle.vt_walk.proofs.Eventing.{outcome_follows}
 use Rattle.vt_walk.proofs.Running.{run_kept, may_pin, unpinned_victims, batch_is_lawful, batch_may_be_run}
@@ -69,10 +69,10 @@ unfolding before_of last_picture
 told_picture w [] = refl
 told_picture w (p ∷ passes) = sym (last_picture-more 0 (passes_told w passes) (told_of w passes p))
 
-next_picture : (w : WalkSetup) (passes : List WalkPass) (picture : ℕ) → IsTurnOf w passes picture → IsNextPicture (length passes) (before_of passes) picture
+next_picture : (w : WalkSetup) (passes : List WalkPass) (picture : ℕ) → IsStepOf w passes picture → IsNextPicture (length passes) (before_of passes) picture
 unfolding before_of
-next_picture w [] picture turn = record { first = λ none. turn; later = λ some. absurd (omega (arith, some)) }
-next_picture w (p ∷ passes) picture turn = record { first = λ none. absurd (omega (arith, none)); later = λ some. either turn.1 } where
+next_picture w [] picture step = record { first = λ none. step; later = λ some. absurd (omega (arith, some)) }
+next_picture w (p ∷ passes) picture step = record { first = λ none. absurd (omega (arith, none)); later = λ some. either step.1 } where
   either : {F : Type 0} → (F × (picture ≡ p.picture + 1)) ⊎ ((F → ⊥) × (picture ≡ p.picture)) → (picture ≡ p.picture) ⊎ (picture ≡ p.picture + 1)
   either (inl next) = inr next.1
   either (inr same) = inl same.1
@@ -85,9 +85,9 @@ next_told w passes p h run next =
     let laws = batch_is_lawful w passes p.batch run kept next.planned in
     record {
       pass_is = refl;
-      picture_is = next_picture w passes p.picture next.turn;
+      picture_is = next_picture w passes p.picture next.step;
       start_is = refl;
-      events = outcome_follows w.shape w.frames w.pinned (journal_after w passes) p.batch p.losses p.events h.most_frames kept.turn
+      events = outcome_follows w.shape w.frames w.pinned (journal_after w passes) p.batch p.losses p.events h.most_frames kept.step
           (batch_may_be_run w passes p.batch run kept next.planned) (unpinned_victims w (recency_after w passes) p.batch kept.shape kept.pinned laws)
           next.outcome;
       rows = subst (λ n. AreRowsOf w.height (length (journal_after w passes)) n p.rows) (length-append (journal_after w passes) (changes_of p.events))
@@ -112,7 +112,7 @@ run_is_pinned w passes h run = subst (λ (js : List Change). Pinned w.shape js w
 
 pub run_is_legal : (w : WalkSetup) (passes : List WalkPass) → IsWalkSetup w → IsRun w passes → AreLegal w.shape (journal_after w passes)
 run_is_legal w passes h run = legal-pinned w.shape (journal_after w passes) w.pinned (root_last w.shape h.limits) h.some_pinned
-    (run_kept w passes h run).turn (run_is_pinned w passes h run)
+    (run_kept w passes h run).step (run_is_pinned w passes h run)
 
 pub text_grows : (w : WalkSetup) (p : WalkPass) (passes : List WalkPass) → run_text w (p ∷ passes) ≡ run_text w passes ++ pass_text w.shape (told_of w passes p)
 text_grows w p passes =

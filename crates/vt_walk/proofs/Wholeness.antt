@@ -18,8 +18,8 @@ use Rattle.vt_plan.specs.Missing.{is_mapped}
 use Rattle.vt_evict.proofs.SettleLemmas.{self_eq, contains_head}
 use Rattle.vt_machine.specs.Passes.{MapsNeeded}
 use Rattle.vt_machine.proofs.Settled.{no_events}
-use Rattle.vt_turns.specs.declared.mode.Mode.{Mode}
-use Rattle.vt_turns.specs.declared.mode.Mode.TheVariants.{Settled}
+use Rattle.vt_walk_decisions.specs.declared.mode.Mode.{Mode}
+use Rattle.vt_walk_decisions.specs.declared.mode.Mode.TheVariants.{Settled}
 use Rattle.vt_walk.specs.Fits.{WalkSetup, NeedsFrames, Fits, DoesNotFit}
 use Rattle.vt_walk.specs.Runs.{WalkPass, IsWalkSetup, journal_after, recency_after, plan_after, Finishes, IsFinished, GoesOn, IsRun}
 use Rattle.vt_walk.specs.Agreements.{entry_of}

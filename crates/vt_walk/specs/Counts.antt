@@ -1,6 +1,6 @@
 -- How much a walk took.
 use Rattle.std.specs.Prelude.{◌≡◌, List, length}
-use Rattle.vt_walk.specs.declared.turns.Walked.{Walked}
+use Rattle.vt_walk.specs.declared.walk_steps.Walked.{Walked}
 use Rattle.vt_walk.specs.Fits.{WalkSetup}
 use Rattle.vt_walk.specs.Runs.{WalkPass, IsRun, IsWhole}
 use Rattle.vt_walk.specs.Logs.{reads_of}

@@ -6,14 +6,14 @@ use Rattle.vt_machine.specs.declared.crew.PassReport.{PassReport}
 use Rattle.vt_machine.specs.Requests.{FileState}
 use Rattle.vt_machine.specs.Machines.{MachineState}
 use Rattle.vt_machine.specs.Passes.{Ran}
-use Rattle.vt_turns.specs.declared.turns.Turn.{Turn}
-use Rattle.vt_turns.specs.declared.turns.Drawn.{Drawn}
-use Rattle.vt_turns.specs.declared.turns.Next.{Next}
-use Rattle.vt_turns.specs.declared.turns.Next.TheVariants as next
+use Rattle.vt_walk_decisions.specs.declared.steps.WalkStep.{WalkStep}
+use Rattle.vt_walk_decisions.specs.declared.steps.Drawn.{Drawn}
+use Rattle.vt_walk_decisions.specs.declared.steps.Next.{Next}
+use Rattle.vt_walk_decisions.specs.declared.steps.Next.TheVariants as next
 use Rattle.vt_walk.specs.Runs.{WalkPass}
 use Rattle.vt_walk.specs.Walks.{WalkGiven}
 use Rattle.vt_walk.specs.States.{WalkState}
-use Rattle.vt_walk.specs.Turns.{IsGiven, IsAtRun, IsTurn, MayDraw, HasDrawn, StandsAt, StandsLast}
+use Rattle.vt_walk.specs.WalkSteps.{IsGiven, IsAtRun, IsStep, MayDraw, HasDrawnPass, StandsAt, StandsLast}
 
 -- what a pass began with: the store's bytes, where they are told, the run before it, and the machine
 pub record PassBefore : Type 0 where
@@ -21,41 +21,41 @@ pub record PassBefore : Type 0 where
   pub run : List WalkPass
   pub machine : MachineState
 
--- it is the turn of a run's next pass, or all pictures are finished
-pub record MayTurn (g : WalkGiven) (run : List WalkPass) (number : ℕ) (t : Turn) (m : MachineState) (v : RecencyView) : Type 0 where
+-- a step is that of a run's next pass, or all pictures are finished
+pub record MayStep (g : WalkGiven) (run : List WalkPass) (number : ℕ) (t : WalkStep) (m : MachineState) (v : RecencyView) : Type 0 where
   pub given : IsGiven g
   pub at_run : IsAtRun g run m v
-  pub turn : IsTurn g run number t
+  pub step : IsStep g run number t
 
--- a machine has run the pass whose turn it was, beginning at this version
-pub record HasRunTurn (drawn : PathView → ℕ → ℕ → ℕ → List ℕ → Type 0) (g : WalkGiven) (run : List WalkPass) (number : ℕ) (t : Turn) (start : ℕ)
+-- a machine has run the pass of a step, beginning at this version
+pub record HasRunStep (drawn : PathView → ℕ → ℕ → ℕ → List ℕ → Type 0) (g : WalkGiven) (run : List WalkPass) (number : ℕ) (t : WalkStep) (start : ℕ)
     (r : PassReport) (before after : MachineState) (v : RecencyView) : Type 0 where
   pub may : MayDraw g run number t before v
   pub start_is : start ≡ length before.journal
   pub ran : Ran g.draws drawn (record { scene = g.scene; picture = t.picture; batch = t.batch.elements }) r before after
 
--- the pass whose turn it was has been drawn, or all pictures are finished and nothing was done
-abbrev pub DrawsNext : (PathView → ℕ → ℕ → ℕ → List ℕ → Type 0) → WalkGiven → List WalkPass → Turn → MachineState → MachineState → RecencyView → Next
+-- the pass of a step has been drawn, or all pictures are finished and nothing was done
+abbrev pub DrawsNext : (PathView → ℕ → ℕ → ℕ → List ℕ → Type 0) → WalkGiven → List WalkPass → WalkStep → MachineState → MachineState → RecencyView → Next
     → Type 0
-DrawsNext drawn g run t before after v (next.Pass d) = (t.picture < g.setup.pictures) × HasDrawn drawn g run t before after v d
+DrawsNext drawn g run t before after v (next.Pass d) = (t.picture < g.setup.pictures) × HasDrawnPass drawn g run t before after v d
 DrawsNext drawn g run t before after v (next.End reads) = (t.picture ≡ g.setup.pictures) × (reads ≡ t.reads) × (after ≡ before)
 
 -- the beginning of a run stands whole, and its next pass has been run, with what stands by the files that are open
-pub record StandsRan (drawn : PathView → ℕ → ℕ → ℕ → List ℕ → Type 0) (g : WalkGiven) (number : ℕ) (t : Turn) (start : ℕ) (r : PassReport)
+pub record StandsRan (drawn : PathView → ℕ → ℕ → ℕ → List ℕ → Type 0) (g : WalkGiven) (number : ℕ) (t : WalkStep) (start : ℕ) (r : PassReport)
     (first : WalkState) (at : List FileState → WalkState) (m : MachineState) (v : RecencyView) : Type 0 where
   pub before : MachineState
   pub stands : StandsAt drawn g number t first (at before.files) before v
-  pub has_run : HasRunTurn drawn g stands.run number t start r before m v
+  pub has_run : HasRunStep drawn g stands.run number t start r before m v
 
 -- the beginning of a run stands whole, and its next pass has been drawn, and is to be told
 pub record StandsDrawn (drawn : PathView → ℕ → ℕ → ℕ → List ℕ → Type 0) (g : WalkGiven) (number : ℕ) (d : Drawn)
     (first : WalkState) (at : List FileState → WalkState) (m : MachineState) (v : RecencyView) : Type 0 where
-  pub turn : Turn
+  pub step : WalkStep
   pub before : MachineState
   pub recency : RecencyView
-  pub stands : StandsAt drawn g number turn first (at before.files) before recency
-  pub more : turn.picture < g.setup.pictures
-  pub has_drawn : HasDrawn drawn g stands.run turn before m v d
+  pub stands : StandsAt drawn g number step first (at before.files) before recency
+  pub more : step.picture < g.setup.pictures
+  pub has_drawn : HasDrawnPass drawn g stands.run step before m v d
 
 -- a whole run stands, and one more pass would have this number
 pub record StandsEnd (drawn : PathView → ℕ → ℕ → ℕ → List ℕ → Type 0) (g : WalkGiven) (number reads : ℕ) (first now : WalkState) : Type 0 where

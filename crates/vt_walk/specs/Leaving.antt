@@ -8,7 +8,7 @@ use Rattle.vt_journal.specs.JournalText.{head_text, pass_text}
 use Rattle.vt_machine.specs.Outcomes.{lost_count}
 use Rattle.vt_machine.specs.Requests.{lost_entries}
 use Rattle.vt_words.specs.Names.{picture_name}
-use Rattle.vt_walk.specs.Runs.{WalkPass, IsTurnOf, IsNextPass, IsFinished, IsWhole, plan_after, told_of}
+use Rattle.vt_walk.specs.Runs.{WalkPass, IsStepOf, IsNextPass, IsFinished, IsWhole, plan_after, told_of}
 use Rattle.vt_walk.specs.Logs.{picture_line, walk_end_line}
 use Rattle.vt_walk.specs.Walks.{WalkGiven}
 use Rattle.vt_walk.specs.States.{WalkState}
@@ -38,7 +38,7 @@ pub record LeftAtHead (g : WalkGiven) (first now : WalkState) : Type 0 where
 
 -- a pass by which the run goes on was under way: its tiles were asked for, each at most once, and nothing was written
 pub record LeftInPass (g : WalkGiven) (run : List WalkPass) (picture : ℕ) (before after : WalkState) : Type 0 where
-  pub turn : IsTurnOf g.setup run picture
+  pub step : IsStepOf g.setup run picture
   pub of_path : picture < g.setup.pictures
   pub files : after.files ≡ before.files
   pub held : after.held ≡ before.held
@@ -65,7 +65,7 @@ HasFinished g (p ∷ passes) picture = IsFinished g.setup p passes × (p.picture
 
 -- the next picture's first pass was under way: its tiles were asked for, each at most once
 pub record AsksForNext (g : WalkGiven) (run : List WalkPass) (picture : ℕ) (before after : Option (List Place)) : Type 0 where
-  pub turn : IsTurnOf g.setup run picture
+  pub step : IsStepOf g.setup run picture
   pub of_path : picture < g.setup.pictures
   pub asked : OnTold (AreAskedAtMostFor g.scene.shape g.scene.depth 0 (plan_after g.setup run)) before after
 
@@ -108,8 +108,8 @@ pub record LeftAtEnd (g : WalkGiven) (run : List WalkPass) (pictures : ℕ) (bef
   pub none : AsksNothing before after
 
 -- what stands of the step that was under way after a run's beginning with so many whole pictures: nothing, or a front part of one
-abbrev pub IsFront : (PathView → ℕ → ℕ → ℕ → List ℕ → Type 0) → WalkGiven → List WalkPass → ℕ → WalkState → WalkState → Type 0
-IsFront drawn g run pictures before after =
+abbrev pub IsWalkPrefix : (PathView → ℕ → ℕ → ℕ → List ℕ → Type 0) → WalkGiven → List WalkPass → ℕ → WalkState → WalkState → Type 0
+IsWalkPrefix drawn g run pictures before after =
     (WritesNothing before after × AsksNothing before after)
     ⊎ (LeftInPass g run pictures before after
     ⊎ (LeftInText g run pictures before after
@@ -123,7 +123,7 @@ pub record LeftInRun (drawn : PathView → ℕ → ℕ → ℕ → List ℕ → 
   pub pictures : List (List ℕ)
   pub mid : WalkState
   pub stands : Stands drawn g run pictures first mid
-  pub front : IsFront drawn g run (length pictures) mid now
+  pub front : IsWalkPrefix drawn g run (length pictures) mid now
 
 -- what a refused walk leaves
 abbrev pub Left : (PathView → ℕ → ℕ → ℕ → List ℕ → Type 0) → WalkGiven → WalkState → WalkState → Type 0

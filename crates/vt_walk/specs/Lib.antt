@@ -12,12 +12,12 @@ pub mod Writing
 pub mod Standing
 pub mod Leaving
 pub mod Causes
-pub mod Tours
+pub mod WalkInputs
 pub mod Closing
 pub mod Placing
 pub mod Outlooks
 pub mod Tallies
-pub mod Turns
+pub mod WalkSteps
 pub mod Following
 pub mod Courses
 pub mod Beginnings

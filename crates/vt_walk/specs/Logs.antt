@@ -3,7 +3,7 @@ use Rattle.std.specs.Prelude.{ℕ, ◌+◌, ◌==◌, Bool, List, [], ◌∷◌,
 use Rattle.std.specs.List.{filter, range_with_len}
 use Rattle.vt_text.specs.Numbers.{number_spelling}
 use Rattle.vt_journal.specs.declared.changes.Event.{Event}
-use Rattle.vt_turns.specs.Tallies.{is_load, is_loss, is_eviction}
+use Rattle.vt_walk_decisions.specs.Tallies.{is_load, is_loss, is_eviction}
 use Rattle.vt_walk.specs.Fits.{WalkSetup}
 use Rattle.vt_walk.specs.Runs.{WalkPass, planned_in}
 

@@ -7,7 +7,7 @@ use Rattle.vt_plan.specs.declared.batches.Planned.{Planned}
 use Rattle.vt_evict.specs.Views.{RecencyView, touched, pages_needed}
 use Rattle.vt_evict.specs.Batches.{IsSettled, read_entries}
 use Rattle.vt_evict.specs.Plans.{plan_of}
-use Rattle.vt_turns.specs.declared.turns.Outlook.{Outlook}
+use Rattle.vt_walk_decisions.specs.declared.steps.Outlook.{Outlook}
 
 -- the pages are settled by the entries of a batch that were not lost, those wanted are the most recent ones, and the plan is for them
 pub record IsOutlook (s : Shape) (pixels : ℕ → ℕ) (most : ℕ) (before : RecencyView) (batch : List Planned) (losses : List Bool)

@@ -17,8 +17,8 @@ use Rattle.vt_workers.specs.Jobs.{Job}
 use Rattle.vt_machine.specs.Outcomes.{IsOutcome, lost_count}
 use Rattle.vt_machine.specs.RowOrders.{AreRowsInOrder}
 use Rattle.vt_machine.specs.Requests.{lost_entries}
-use Rattle.vt_turns.specs.declared.mode.Mode.{Mode}
-use Rattle.vt_turns.specs.declared.mode.Mode.TheVariants.{Live, Settled}
+use Rattle.vt_walk_decisions.specs.declared.mode.Mode.{Mode}
+use Rattle.vt_walk_decisions.specs.declared.mode.Mode.TheVariants.{Live, Settled}
 use Rattle.vt_walk.specs.Fits.{WalkSetup, Fits}
 
 -- a pass: its picture, its batch and which entries were lost, its events and its rows, its picture's wanted list, and the table
@@ -90,14 +90,14 @@ abbrev pub IsPictureAfter : Type 0 → ℕ → ℕ → Type 0
 IsPictureAfter finished before picture = (finished × (picture ≡ before + 1)) ⊎ ((finished → ⊥) × (picture ≡ before))
 
 -- a picture's pass may come after passes
-abbrev pub IsTurnOf : WalkSetup → List WalkPass → ℕ → Type 0
-IsTurnOf w [] picture = picture ≡ 0
-IsTurnOf w (p ∷ passes) picture = GoesOn w.mode w p × IsPictureAfter (IsFinished w p passes) p.picture picture
+abbrev pub IsStepOf : WalkSetup → List WalkPass → ℕ → Type 0
+IsStepOf w [] picture = picture ≡ 0
+IsStepOf w (p ∷ passes) picture = GoesOn w.mode w p × IsPictureAfter (IsFinished w p passes) p.picture picture
 
--- a pass may come after passes: it has the picture whose turn it is and the batch that was planned (so a settled picture begins
+-- a pass may come after passes: it has the picture that is to be drawn next and the batch that was planned (so a settled picture begins
 -- with the empty batch: law pictures_come_in_turn), its events are an outcome of its batch, and its rows are in order
 pub record IsNextPass (w : WalkSetup) (before : List WalkPass) (p : WalkPass) : Type 0 where
-  pub turn : IsTurnOf w before p.picture
+  pub step : IsStepOf w before p.picture
   pub of_path : p.picture < w.pictures
   pub planned : p.batch ≡ plan_after w before
   pub wanted : IsWants w.shape (w.needs p.picture) p.wants

@@ -1,8 +1,8 @@
 -- What a walk has counted of a picture's passes.
 use Rattle.std.specs.Prelude.{ℕ, List, length}
-use Rattle.vt_turns.specs.declared.tallies.Tally.{Tally}
+use Rattle.vt_walk_decisions.specs.declared.tallies.Tally.{Tally}
 use Rattle.vt_walk.specs.Runs.{WalkPass}
-use Rattle.vt_turns.specs.Tallies.{is_load, is_loss, is_eviction}
+use Rattle.vt_walk_decisions.specs.Tallies.{is_load, is_loss, is_eviction}
 use Rattle.vt_walk.specs.Logs.{events_in, line_of_numbers}
 
 -- the tally of passes

@@ -2,11 +2,11 @@
 
 ghost use Rattle.std.specs.Prelude.{ℕ, ◌<◌, List, Option, length, IfOk, OnOk, OnErr};
 ghost use Rattle.vt_machine.specs.Requests.{AreSameFiles, ArePartlyReadFor};
-ghost use Rattle.vt_walk.specs.Tours.{given_of, IsTour};
+ghost use Rattle.vt_walk.specs.WalkInputs.{given_of, IsWalkInput};
 ghost use Rattle.vt_walk.specs.Runs.{WalkPass};
 ghost use Rattle.vt_walk.specs.Written.{IsDrawnBySome};
-ghost use Rattle.vt_walk.specs.Turns.{MayDraw, HasDrawn};
-ghost use Rattle.vt_walk.specs.Following.{PassBefore, MayTurn, HasRunTurn, DrawsNext};
+ghost use Rattle.vt_walk.specs.WalkSteps.{MayDraw, HasDrawnPass};
+ghost use Rattle.vt_walk.specs.Following.{PassBefore, MayStep, HasRunStep, DrawsNext};
 
 use crate::passes::{look_out, run_pass};
 use std::alloc::Global;
@@ -16,7 +16,7 @@ use vt_draw::Shot;
 use vt_evict::Recency;
 use vt_machine::{PassMachine, PassReport};
 use vt_outside::{Gate, NoMemory};
-use vt_turns::{Drawn, Next, Tour, Turn, drawn_of};
+use vt_walk_decisions::{Drawn, Next, WalkInput, WalkStep, drawn_of};
 
 /// Draws the next pass of a walk, streams its batch, and plans what comes after it; or does nothing where all pictures are finished.
 pub fn draw_next<Rt: Threads + Wait + Sync, M: PassMachine, G: Gate + Sync>(
@@ -24,29 +24,29 @@ pub fn draw_next<Rt: Threads + Wait + Sync, M: PassMachine, G: Gate + Sync>(
     alloc: Global,
     machine: &mut M,
     recency: &mut Recency,
-    tour: &Tour<'_>,
+    input: &WalkInput<'_>,
     number: u32,
-    turn: Turn,
+    step: WalkStep,
     gate: &G,
 ) -> Result<Next, NoMemory>
-    requires tour { IsTour tour.now }
+    requires input { IsWalkInput input.now }
     requires idle { M.is_idle machine.old }
-    requires may { (told : Option (List ℕ)) × (run : List WalkPass) × MayTurn
-        (given_of M.drawing tour.now told) run number turn (M.state machine.old) recency.old }
-    ensures next { (told : Option (List ℕ)) (run : List WalkPass) → MayTurn
-        (given_of M.drawing tour.now told) run number turn (M.state machine.old) recency.old
-        → IfOk result (DrawsNext (IsDrawnBySome M.drawn) (given_of M.drawing tour.now told) run turn
+    requires may { (told : Option (List ℕ)) × (run : List WalkPass) × MayStep
+        (given_of M.drawing input.now told) run number step (M.state machine.old) recency.old }
+    ensures next { (told : Option (List ℕ)) (run : List WalkPass) → MayStep
+        (given_of M.drawing input.now told) run number step (M.state machine.old) recency.old
+        → IfOk result (DrawsNext (IsDrawnBySome M.drawn) (given_of M.drawing input.now told) run step
         (M.state machine.old) (M.state machine.new) recency.new) }
-    ensures more { OnErr result (turn.picture < length tour.now.path.now.cameras) }
-    ensures refused { OnErr result (ArePartlyReadFor tour.now.geometry.now tour.now.depth turn.batch.elements
+    ensures more { OnErr result (step.picture < length input.now.path.now.cameras) }
+    ensures refused { OnErr result (ArePartlyReadFor input.now.geometry.now input.now.depth step.batch.elements
         (M.state machine.old).files (M.state machine.new).files) }
     ensures idle { OnOk result (M.is_idle machine.new) }
     ensures same { AreSameFiles (M.state machine.old).files (M.state machine.new).files }
 {
-    if turn.picture == tour.path.pictures() {
-        return Ok(Next::End(turn.reads));
+    if step.picture == input.path.pictures() {
+        return Ok(Next::End(step.reads));
     }
-    match draw_pass(rt, alloc, machine, recency, tour, number, turn, gate) {
+    match draw_pass(rt, alloc, machine, recency, input, number, step, gate) {
         Ok(drawn) => Ok(Next::Pass(drawn)),
         Err(refusal) => Err(refusal),
     }
@@ -58,33 +58,33 @@ fn draw_pass<Rt: Threads + Wait + Sync, M: PassMachine, G: Gate + Sync>(
     alloc: Global,
     machine: &mut M,
     recency: &mut Recency,
-    tour: &Tour<'_>,
+    input: &WalkInput<'_>,
     number: u32,
-    turn: Turn,
+    step: WalkStep,
     gate: &G,
 ) -> Result<Drawn, NoMemory>
-    requires tour { IsTour tour.now }
+    requires input { IsWalkInput input.now }
     requires idle { M.is_idle machine.old }
     requires may { (told : Option (List ℕ)) × (run : List WalkPass) × MayDraw
-        (given_of M.drawing tour.now told) run number turn (M.state machine.old) recency.old }
+        (given_of M.drawing input.now told) run number step (M.state machine.old) recency.old }
     ensures drawn { (told : Option (List ℕ)) (run : List WalkPass) → MayDraw
-        (given_of M.drawing tour.now told) run number turn (M.state machine.old) recency.old
-        → IfOk result (HasDrawn (IsDrawnBySome M.drawn) (given_of M.drawing tour.now told) run turn
+        (given_of M.drawing input.now told) run number step (M.state machine.old) recency.old
+        → IfOk result (HasDrawnPass (IsDrawnBySome M.drawn) (given_of M.drawing input.now told) run step
         (M.state machine.old) (M.state machine.new) recency.new) }
-    ensures refused { OnErr result (ArePartlyReadFor tour.now.geometry.now tour.now.depth turn.batch.elements
+    ensures refused { OnErr result (ArePartlyReadFor input.now.geometry.now input.now.depth step.batch.elements
         (M.state machine.old).files (M.state machine.new).files) }
     ensures idle { OnOk result (M.is_idle machine.new) }
     ensures same { AreSameFiles (M.state machine.old).files (M.state machine.new).files }
 {
     let shot = Shot {
-        geometry: tour.geometry,
-        path: tour.path,
-        picture: turn.picture,
-        depth: tour.depth,
+        geometry: input.geometry,
+        path: input.path,
+        picture: step.picture,
+        depth: input.depth,
     };
     let start = machine.journal().version();
-    let report = run_pass(rt, machine, &shot, &turn.batch, gate)?;
-    plan_on(alloc, machine, recency, tour, number, turn, start, report)
+    let report = run_pass(rt, machine, &shot, &step.batch, gate)?;
+    plan_on(alloc, machine, recency, input, number, step, start, report)
 }
 
 /// Plans what comes after a pass that was run, and began at this version.
@@ -92,30 +92,30 @@ pub fn plan_on<M: PassMachine>(
     alloc: Global,
     machine: &M,
     recency: &mut Recency,
-    tour: &Tour<'_>,
+    input: &WalkInput<'_>,
     number: u32,
-    turn: Turn,
+    step: WalkStep,
     start: u64,
     report: PassReport,
 ) -> Result<Drawn, NoMemory>
-    requires tour { IsTour tour.now }
+    requires input { IsWalkInput input.now }
     requires idle { M.is_idle machine.now }
-    requires ran { (b : PassBefore) × HasRunTurn (IsDrawnBySome M.drawn) (given_of M.drawing tour.now b.told) b.run
-        number turn start report b.machine (M.state machine.now) recency.old }
-    ensures { (b : PassBefore) → HasRunTurn (IsDrawnBySome M.drawn) (given_of M.drawing tour.now b.told) b.run
-        number turn start report b.machine (M.state machine.now) recency.old
-        → IfOk result (HasDrawn (IsDrawnBySome M.drawn) (given_of M.drawing tour.now b.told) b.run turn b.machine
+    requires ran { (b : PassBefore) × HasRunStep (IsDrawnBySome M.drawn) (given_of M.drawing input.now b.told) b.run
+        number step start report b.machine (M.state machine.now) recency.old }
+    ensures { (b : PassBefore) → HasRunStep (IsDrawnBySome M.drawn) (given_of M.drawing input.now b.told) b.run
+        number step start report b.machine (M.state machine.now) recency.old
+        → IfOk result (HasDrawnPass (IsDrawnBySome M.drawn) (given_of M.drawing input.now b.told) b.run step b.machine
         (M.state machine.now) recency.new) }
 {
-    let most = tour.settings.crew.batch;
+    let most = input.settings.crew.batch;
     let outlook = look_out(
         alloc,
-        tour.geometry,
+        input.geometry,
         machine.counts(),
         recency,
-        &turn.batch,
+        &step.batch,
         &report.losses,
         most,
     )?;
-    Ok(drawn_of(number, turn, start, report, outlook))
+    Ok(drawn_of(number, step, start, report, outlook))
 }

@@ -8,14 +8,14 @@ ghost use Rattle.vt_words.specs.Names.{picture_name};
 ghost use Rattle.vt_workers.specs.Jobs.{job_of};
 ghost use Rattle.vt_machine.specs.Passes.{MayPrepare, IsJobFor, Ends};
 ghost use Rattle.vt_machine.specs.Requests.{AreSameFiles};
-ghost use Rattle.vt_turns.specs.Judging.{MayGoOn, IsFollowed};
-ghost use Rattle.vt_turns.specs.Reported.{next_turn};
-ghost use Rattle.vt_walk.specs.Tours.{given_of, IsTour};
+ghost use Rattle.vt_walk_decisions.specs.Judging.{MayGoOn, IsFollowed};
+ghost use Rattle.vt_walk_decisions.specs.Reported.{next_step};
+ghost use Rattle.vt_walk.specs.WalkInputs.{given_of, IsWalkInput};
 ghost use Rattle.vt_walk.specs.Written.{IsDrawnBySome};
 ghost use Rattle.vt_walk.specs.Writing.{WritesFile};
-ghost use Rattle.vt_walk.specs.Turns.{WalkStart, StandsAfter, LeftBy};
+ghost use Rattle.vt_walk.specs.WalkSteps.{WalkStart, StandsAfter, LeftByRefusal};
 ghost use Rattle.vt_walk.specs.Following.{StandsRan, StandsNext};
-ghost use Rattle.vt_walk.specs.Courses.{state_by};
+ghost use Rattle.vt_walk.specs.WalkEffects.{state_by};
 
 use crate::advance::plan_on;
 use crate::files::write_whole;
@@ -28,7 +28,7 @@ use vt_draw::Shot;
 use vt_evict::{Batch, Recency};
 use vt_machine::{PassMachine, PassReport};
 use vt_outside::{Folder, Gate, NoMemory, OutsideError, Sink};
-use vt_turns::{Next, Passed, Tour, WalkError, turn_after};
+use vt_walk_decisions::{Next, Passed, WalkError, WalkInput, step_after};
 
 /// Draws the next picture's first pass while the one that was finished is written, and puts the line of that. Its bytes are made in the
 /// buffer before. After a refusal of the writing nothing is told of the pass: of it only reads are seen.
@@ -44,29 +44,29 @@ pub fn draw_beside<
     folder: &mut D,
     machine: &mut M,
     recency: &mut Recency,
-    tour: &Tour<'_>,
+    input: &WalkInput<'_>,
     number: u32,
     passed: Passed,
     buffer: &mut Vec<u8>,
     out: &mut O,
     gate: &G,
 ) -> Result<Next, WalkError>
-    requires tour { IsTour tour.now }
+    requires input { IsWalkInput input.now }
     requires idle { M.is_idle machine.old }
     requires few { number + 1 < 2 ^ 32 }
-    requires goes_on { MayGoOn tour.now passed }
-    requires followed { IsFollowed tour.now passed }
-    requires stands { (b : WalkStart) × StandsAfter (IsDrawnBySome M.drawn) (given_of M.drawing tour.now b.told) number
-        passed b.first (state_by D.Folder O.Sink tour.now.names.store.now folder.old out.old
+    requires goes_on { MayGoOn input.now passed }
+    requires followed { IsFollowed input.now passed }
+    requires stands { (b : WalkStart) × StandsAfter (IsDrawnBySome M.drawn) (given_of M.drawing input.now b.told) number
+        passed b.first (state_by D.Folder O.Sink input.now.names.store.now folder.old out.old
         (b.kept ∷ (M.state machine.old).files)) (M.state machine.old) recency.old }
     ensures taken { (b : WalkStart) → let some = IsDrawnBySome M.drawn in
-        let given = given_of M.drawing tour.now b.told in
-        let name = tour.now.names.store.now in
+        let given = given_of M.drawing input.now b.told in
+        let name = input.now.names.store.now in
         StandsAfter some given number passed b.first (state_by D.Folder O.Sink name folder.old out.old
         (b.kept ∷ (M.state machine.old).files)) (M.state machine.old) recency.old
         → MatchResult result (λ next. StandsNext some given (number + 1) next b.first
         (λ files. state_by D.Folder O.Sink name folder.new out.new (b.kept ∷ files)) (M.state machine.new) recency.new)
-        (LeftBy some given b.first (state_by D.Folder O.Sink name folder.new out.new
+        (LeftByRefusal some given b.first (state_by D.Folder O.Sink name folder.new out.new
         (b.kept ∷ (M.state machine.new).files))) }
     ensures idle { OnOk result (M.is_idle machine.new) }
     ensures same { AreSameFiles (M.state machine.old).files (M.state machine.new).files }
@@ -79,9 +79,9 @@ pub fn draw_beside<
         buffer,
         alloc,
         machine,
-        tour.depth,
-        tour.path,
-        tour.names.prefix,
+        input.depth,
+        input.path,
+        input.names.prefix,
         passed.picture,
     )?;
     let report = write_beside(
@@ -89,7 +89,7 @@ pub fn draw_beside<
         folder,
         machine,
         recency,
-        tour,
+        input,
         number,
         &passed,
         name.as_str(),
@@ -97,14 +97,14 @@ pub fn draw_beside<
         out,
         gate,
     )?;
-    let turn = turn_after(passed);
+    let step = step_after(passed);
     let drawn = plan_on(
         alloc,
         machine,
         recency,
-        tour,
+        input,
         number + 1,
-        turn,
+        step,
         start,
         report,
     )?;
@@ -123,7 +123,7 @@ fn write_beside<
     folder: &mut D,
     machine: &mut M,
     recency: &Recency,
-    tour: &Tour<'_>,
+    input: &WalkInput<'_>,
     number: u32,
     passed: &Passed,
     name: &str,
@@ -131,26 +131,26 @@ fn write_beside<
     out: &mut O,
     gate: &G,
 ) -> Result<PassReport, WalkError>
-    requires tour { IsTour tour.now }
+    requires input { IsWalkInput input.now }
     requires idle { M.is_idle machine.old }
     requires few { number + 1 < 2 ^ 32 }
-    requires goes_on { MayGoOn tour.now passed.now }
-    requires followed { IsFollowed tour.now passed.now }
-    requires name { name.now ≡ picture_name tour.now.names.prefix.now passed.now.picture }
-    requires bytes { bytes.now ≡ picture_bytes tour.now.depth tour.now.path.now.width tour.now.path.now.height
+    requires goes_on { MayGoOn input.now passed.now }
+    requires followed { IsFollowed input.now passed.now }
+    requires name { name.now ≡ picture_name input.now.names.prefix.now passed.now.picture }
+    requires bytes { bytes.now ≡ picture_bytes input.now.depth input.now.path.now.width input.now.path.now.height
         (concat (M.state machine.old).rows) }
-    requires stands { (b : WalkStart) × StandsAfter (IsDrawnBySome M.drawn) (given_of M.drawing tour.now b.told) number
-        passed.now b.first (state_by D.Folder O.Sink tour.now.names.store.now folder.old out.old
+    requires stands { (b : WalkStart) × StandsAfter (IsDrawnBySome M.drawn) (given_of M.drawing input.now b.told) number
+        passed.now b.first (state_by D.Folder O.Sink input.now.names.store.now folder.old out.old
         (b.kept ∷ (M.state machine.old).files)) (M.state machine.old) recency.now }
     ensures ran { (b : WalkStart) → let some = IsDrawnBySome M.drawn in
-        let given = given_of M.drawing tour.now b.told in
-        let name = tour.now.names.store.now in
+        let given = given_of M.drawing input.now b.told in
+        let name = input.now.names.store.now in
         StandsAfter some given number passed.now b.first (state_by D.Folder O.Sink name folder.old out.old
         (b.kept ∷ (M.state machine.old).files)) (M.state machine.old) recency.now
-        → MatchResult result (λ report. StandsRan some given (number + 1) (next_turn passed.now)
+        → MatchResult result (λ report. StandsRan some given (number + 1) (next_step passed.now)
         (length (M.state machine.old).journal) report b.first
         (λ files. state_by D.Folder O.Sink name folder.new out.new (b.kept ∷ files)) (M.state machine.new) recency.now)
-        (LeftBy some given b.first (state_by D.Folder O.Sink name folder.new out.new
+        (LeftByRefusal some given b.first (state_by D.Folder O.Sink name folder.new out.new
         (b.kept ∷ (M.state machine.new).files))) }
     ensures idle { OnOk result (M.is_idle machine.new) }
     ensures same { AreSameFiles (M.state machine.old).files (M.state machine.new).files }
@@ -161,10 +161,10 @@ fn write_beside<
     let _ = recency;
     let _ = number;
     let shot = Shot {
-        geometry: tour.geometry,
-        path: tour.path,
+        geometry: input.geometry,
+        path: input.path,
         picture: passed.picture + 1,
-        depth: tour.depth,
+        depth: input.depth,
     };
     let (ran, written) = run_and_write(
         rt,

@@ -8,11 +8,11 @@ mod loaders;
 mod passes;
 mod pictures;
 mod pinned;
-mod turns;
 mod uncounted;
 mod walk;
+mod walk_steps;
 
-pub use turns::Walked;
 pub use uncounted::walk_with;
-pub use vt_turns::{Mode, Names, Settings, WalkError};
+pub use vt_walk_decisions::{Mode, Names, Settings, WalkError};
 pub use walk::walk_counted;
+pub use walk_steps::Walked;

@@ -22,7 +22,7 @@ use vt_journal::{PassText, add_pass};
 use vt_machine::{PassMachine, PassReport};
 use vt_outside::{Folder, Gate, NoMemory, OutsideError};
 use vt_pages::Geometry;
-use vt_turns::Outlook;
+use vt_walk_decisions::Outlook;
 
 /// Prepares a pass for a batch and runs it.
 pub fn run_pass<Rt: Threads + Wait + Sync, M: PassMachine, G: Gate + Sync>(

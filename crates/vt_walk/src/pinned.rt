@@ -19,7 +19,7 @@ use vt_machine::PassMachine;
 use vt_outside::{File, OutsideError};
 use vt_pages::Geometry;
 use vt_tiles::{Store, tile_length};
-use vt_turns::pinned_page;
+use vt_walk_decisions::pinned_page;
 
 /// Reads the tile of each pinned page, the last so many pages, from the store in the order of their indexes, and
 /// places it: the first in frame 0, and each further one in the next frame (Mayer 2010).

@@ -5,7 +5,7 @@ ghost use Rattle.vt_outside.specs.Files.{bytes_at};
 ghost use Rattle.vt_pages.specs.Pages.{pinned_of};
 ghost use Rattle.vt_walk.specs.Walks.{given_to, AreSettings};
 ghost use Rattle.vt_walk.specs.States.{AreOpen};
-ghost use Rattle.vt_walk.specs.Courses.{walk_course, file_of, Walks};
+ghost use Rattle.vt_walk.specs.WalkEffects.{walk_effect, file_of, Walks};
 ghost use Rattle.vt_walk.specs.Closing.{AreOtherNamesAsBefore};
 
 use crate::walk::walk_counted;
@@ -16,7 +16,7 @@ use vt_camera::Path;
 use vt_machine::PassMachine;
 use vt_outside::{Folder, Gate, Sink};
 use vt_tiles::Store;
-use vt_turns::{Names, Settings, WalkError};
+use vt_walk_decisions::{Names, Settings, WalkError};
 
 /// Walks over all pictures of a path by a machine, live or settled.
 ///
@@ -56,7 +56,7 @@ pub fn walk_with<
     requires tells { is_some (D.File.bytes store.file) ≡ is_some (D.files folder.old) }
     requires opened { AreOpen 1 names.now.store.now (D.asked folder.old) (file_of D.File.File store) }
     ensures walked { Walks M.drawn (given_to M.drawing D.File.File store path.now names.now settings.now settled)
-        (walk_course D.Folder O.Sink names.now.store.now (file_of D.File.File store) [] folder.old folder.new out.old
+        (walk_effect D.Folder O.Sink names.now.store.now (file_of D.File.File store) [] folder.old folder.new out.old
         out.new) result }
     ensures few { let needed = pinned_of store.shape settings.now.pinned in settings.now.frames < needed
         → result ≡ Err (WalkError.TooFewFrames settings.now.frames needed) }

@@ -13,8 +13,8 @@ use Rattle.vt_pages.specs.Shape.{Shape}
 use Rattle.vt_camera.specs.Paths.{PathView}
 use Rattle.vt_tiles.specs.StoreViews.{IsStore, IsStoreIfTold}
 use Rattle.vt_journal.specs.JournalText.{Content as Journal}
-use Rattle.vt_files.specs.Courses.{FolderState, SinkState}
-use Rattle.vt_files.specs.Dues.{with_files, IsPart, FailsOnly, Puts}
+use Rattle.vt_files.specs.Effects.{FolderState, SinkState}
+use Rattle.vt_files.specs.Expectations.{with_files, IsPart, FailsOnly, Puts}
 use Rattle.vt_files.proofs.Writing.{part_whole}
 use Rattle.vt_replay.specs.Flaws.{IsFirstRefused}
 use Rattle.vt_tiles.specs.Places.{IsTilePlace}
@@ -22,20 +22,20 @@ use Rattle.vt_replay.specs.Outcomes.{HoldsReplay, HoldsPart, Stopped, Leaves, Is
 use Rattle.vt_replay.specs.declared.error.ReplayError.{ReplayError}
 use Rattle.vt_replay.specs.declared.error.ReplayError.TheVariants as replay
 use Rattle.vt_words.specs.Replay.{ReplayText}
-use Rattle.vt_inputs.specs.Lines.{end_line}
-use Rattle.vt_inputs.specs.Inputs.{Input, StoreInput, PathInput, PagedStore, JournalInput, PathContent, PagedContent, TextContent, header_places}
-use Rattle.vt_inputs.specs.HeldInputs.{Holds}
-use Rattle.vt_inputs.specs.Causes.{AreHeld, IsAskedOrNot, AreAskedOrNot}
-use Rattle.vt_inputs.specs.Reads.{FileState, OpensStore, Closed, Took, Refused, IsCausedBy, IsAsked}
-use Rattle.vt_inputs.specs.Refusals.{IsRefusalOf, cause_of}
-use Rattle.vt_inputs.specs.Terms.{FlawedBeside, LeftBy, IsRefusalBy, EndsBy}
-use Rattle.vt_walk_commands.specs.commands.Replay.{ReplayOf, under_by, contents_of, journal_due, replay_inputs, replay_closes, replay_terms}
+use Rattle.vt_command_base.specs.Lines.{end_line}
+use Rattle.vt_command_base.specs.Inputs.{Input, StoreInput, PathInput, PagedStore, JournalInput, PathContent, PagedContent, TextContent, header_places}
+use Rattle.vt_command_base.specs.HeldInputs.{Holds}
+use Rattle.vt_command_base.specs.Causes.{AreHeld, IsAskedOrNot, AreAskedOrNot}
+use Rattle.vt_command_base.specs.Reads.{FileState, OpensStore, Closed, Took, Refused, IsCausedBy, IsAsked}
+use Rattle.vt_command_base.specs.Refusals.{IsRefusalOf, cause_of}
+use Rattle.vt_command_base.specs.CommandSpecs.{FlawedBeside, LeftBySpec, IsRefusalBy, EndsBy}
+use Rattle.vt_walk_commands.specs.commands.Replay.{ReplayOf, under_by, contents_of, expected_journal, replay_inputs, replay_closes, replay_spec}
 use Rattle.vt_walk_commands.specs.commands.Replay.{RefusedBeside, IsAnswer, flaw_of_replay}
-use Rattle.vt_inputs.specs.declared.refusal.Refusal.{Refusal}
-use Rattle.vt_inputs.specs.declared.refusal.Refusal.TheVariants.{NoMemory, Usage, Fault, Flawed, TooFewFrames, DoesNotFit}
-use Rattle.vt_inputs.proofs.Ending.{refusal_at}
-use Rattle.vt_inputs.proofs.Opening.{closed_places}
-use Rattle.vt_inputs.proofs.Terming.{refused_by}
+use Rattle.vt_command_base.specs.declared.refusal.Refusal.{Refusal}
+use Rattle.vt_command_base.specs.declared.refusal.Refusal.TheVariants.{NoMemory, Usage, Fault, Flawed, TooFewFrames, DoesNotFit}
+use Rattle.vt_command_base.proofs.Ending.{refusal_at}
+use Rattle.vt_command_base.proofs.Opening.{closed_places}
+use Rattle.vt_command_base.proofs.TaskSpecs.{refused_by}
 
 paged_cause : (name : List ℕ) (refusal : Refusal) (before after : FolderState)
     → IsCausedBy (StoreInput name) (record { before = before; after = after }) refusal
@@ -173,13 +173,13 @@ no_tiles (Some places) = ap Some (sym (append-nil places))
 -- the path was refused
 pub path_refused : (words : ReplayText) (refusal : Refusal) (f0 f1 : FolderState) (out : SinkState)
     → Refused (PathInput words.path) refusal (record { before = f0; after = f1 })
-    → EndsBy {T = Unit {0}} (replay_terms words)
+    → EndsBy {T = Unit {0}} (replay_spec words)
     (record { folder = record { before = f0; after = f1 }; out = record { before = out; after = out } }) (Err refusal)
 path_refused words refusal f0 f1 out h = (
   (f1.asked, asked_or_not (PathInput words.path) f0.files f0 f1 refl h.asked, (f1.asked, inl refl, (f1.asked, inl refl, refl))),
   (
     inl (record { files = h.files; held = refl }),
-    refused_by (replay_terms words) _ refusal (λ rose. rose)
+    refused_by (replay_spec words) _ refusal (λ rose. rose)
         (refusal_at (replay_inputs words) [] [] (PathInput words.path) (PagedStore words.store ∷ JournalInput words.journal ∷ []) refusal
         f0 f0 f1 out refl (λ told. tt) refl (omega arith) h.files h.cause),
   ),
@@ -188,7 +188,7 @@ path_refused words refusal f0 f1 out h = (
 -- the store was refused
 pub store_refused : (words : ReplayText) (path : PathView) (refusal : Refusal) (f0 f1 f2 : FolderState) (out : SinkState)
     → ReadPath words path f0 f1 → Refused (StoreInput words.store) refusal (record { before = f1; after = f2 })
-    → EndsBy {T = Unit {0}} (replay_terms words)
+    → EndsBy {T = Unit {0}} (replay_spec words)
     (record { folder = record { before = f0; after = f2 }; out = record { before = out; after = out } }) (Err refusal)
 store_refused words path refusal f0 f1 f2 out p h = (
   (
@@ -198,7 +198,7 @@ store_refused words path refusal f0 f1 f2 out p h = (
   ),
   (
     inl (record { files = h.files ∙ p.files; held = refl }),
-    refused_by (replay_terms words) _ refusal (λ rose. rose)
+    refused_by (replay_spec words) _ refusal (λ rose. rose)
         (refusal_at (replay_inputs words) (PathInput words.path ∷ []) (PathContent path ∷ []) (PagedStore words.store) (JournalInput words.journal ∷ []) refusal
         f0 f1 f2 out refl (path_held words path f0 f1 p) p.files p.faults h.files (paged_cause words.store refusal f1 f2 h.cause)),
   ),
@@ -214,7 +214,7 @@ pub journal_refused : (words : ReplayText) (path : PathView) (shape : Shape) (de
     (f0 f1 f2 f4 : FolderState) (out : SinkState)
     → ReadPath words path f0 f1 → OpenedStore words shape depth file f1 f2
     → RefusedBeside words.journal refusal file (record { before = f2; after = f4 })
-    → EndsBy {T = Unit {0}} (replay_terms words)
+    → EndsBy {T = Unit {0}} (replay_spec words)
     (record { folder = record { before = f0; after = f4 }; out = record { before = out; after = out } }) (Err refusal)
 journal_refused words path shape depth file refusal f0 f1 f2 f4 out p o h =
     ended h.read.after
@@ -232,7 +232,7 @@ journal_refused words path shape depth file refusal f0 f1 f2 f4 out p o h =
 
     ended : (f3 : FolderState) → Refused (JournalInput words.journal) refusal (record { before = f2; after = f3 })
         → Closed file (record { before = f3; after = f4 })
-        → EndsBy {T = Unit {0}} (replay_terms words)
+        → EndsBy {T = Unit {0}} (replay_spec words)
         (record { folder = record { before = f0; after = f4 }; out = record { before = out; after = out } }) (Err refusal)
     ended f3 r c =
         let same : f2.files ≡ f0.files = o.files ∙ p.files in
@@ -255,7 +255,7 @@ journal_refused words path shape depth file refusal f0 f1 f2 f4 out p o h =
           ),
           (
             inl (record { files = c.files ∙ r.files ∙ same; held = refl }),
-            refused_by (replay_terms words) _ refusal (λ rose. rose)
+            refused_by (replay_spec words) _ refusal (λ rose. rose)
                 (refusal_at (replay_inputs words) (PathInput words.path ∷ PagedStore words.store ∷ [])
                 (PathContent path ∷ PagedContent shape depth (unwrap_or file.bytes []) ∷ []) (JournalInput words.journal) [] refusal
                 f0 f2 f4 out refl (two_held words path shape depth file f0 f1 f2 p o) same
@@ -303,26 +303,26 @@ bytes_told words path shape depth file text f0 f1 f2 f3 h told =
 replayed_files : (words : ReplayText) (path : PathView) (shape : Shape) (depth : ℕ) (file : FileState) (text : List ℕ)
     (f0 f1 f2 f3 f4 : FolderState) (journal : Journal) → HasInputs words path shape depth file text f0 f1 f2 f3
     → HoldsReplay (under_by words.filter) shape depth file.bytes path words.prefix journal f3.files f4.files → IsSome f0.files
-    → f4.files ≡ option_map (with_files (journal_due words (replay_of path shape depth file text) journal).files) f0.files
+    → f4.files ≡ option_map (with_files (expected_journal words (replay_of path shape depth file text) journal).files) f0.files
 replayed_files words path shape depth file text f0 f1 f2 f3 f4 journal h holds told =
-    let due = (journal_due words (replay_of path shape depth file text) journal).files in
+    let expected = (expected_journal words (replay_of path shape depth file text) journal).files in
     holds (unwrap_or file.bytes []) (bytes_told words path shape depth file text f0 f1 f2 f3 h told)
-    ∙ ap (option_map (with_files due)) (files_kept words path shape depth file text f0 f1 f2 f3 h)
+    ∙ ap (option_map (with_files expected)) (files_kept words path shape depth file text f0 f1 f2 f3 h)
 
 part_files : (words : ReplayText) (path : PathView) (shape : Shape) (depth : ℕ) (file : FileState) (text : List ℕ)
     (f0 f1 f2 f3 f4 : FolderState) (journal : Journal) → HasInputs words path shape depth file text f0 f1 f2 f3
     → HoldsPart (under_by words.filter) shape depth file.bytes path words.prefix journal f3.files f4.files → IsSome f0.files
-    → IsPart (journal_due words (replay_of path shape depth file text) journal).files f0.files f4.files
+    → IsPart (expected_journal words (replay_of path shape depth file text) journal).files f0.files f4.files
 part_files words path shape depth file text f0 f1 f2 f3 f4 journal h holds told =
-    let due = (journal_due words (replay_of path shape depth file text) journal).files in
-    subst (λ (files : Option Files). IsPart due files f4.files) (files_kept words path shape depth file text f0 f1 f2 f3 h)
+    let expected = (expected_journal words (replay_of path shape depth file text) journal).files in
+    subst (λ (files : Option Files). IsPart expected files f4.files) (files_kept words path shape depth file text f0 f1 f2 f3 h)
     (holds (unwrap_or file.bytes []) (bytes_told words path shape depth file text f0 f1 f2 f3 h told))
 
 -- what stands where the replay came to a stop
 left_stopped : (words : ReplayText) (path : PathView) (shape : Shape) (depth : ℕ) (file : FileState) (text : List ℕ)
     (f0 f1 f2 f3 f4 : FolderState) (out : SinkState) → HasInputs words path shape depth file text f0 f1 f2 f3
     → Stopped (under_by words.filter) shape depth file.bytes path text words.prefix f3.files f4.files
-    → LeftBy (replay_terms words) (record { folder = record { before = f0; after = f4 }; out = record { before = out; after = out } })
+    → LeftBySpec (replay_spec words) (record { folder = record { before = f0; after = f4 }; out = record { before = out; after = out } })
 left_stopped words path shape depth file text f0 f1 f2 f3 f4 out h (inl same) =
     inl (record { files = same ∙ files_kept words path shape depth file text f0 f1 f2 f3 h; held = refl })
 left_stopped words path shape depth file text f0 f1 f2 f3 f4 out h (inr s) =
@@ -351,7 +351,7 @@ replay_refused : (words : ReplayText) (path : PathView) (shape : Shape) (depth :
     → Leaves (under_by words.filter) shape depth file.bytes path text words.prefix f3.files f4.files (Err error)
     → (error ≡ replay.Failed → Rose (added f3.faults file.faults) f4.faults)
     → IsRefusalOf words.journal (flaw_of_replay error) refusal
-    → EndsBy {T = Unit {0}} (replay_terms words)
+    → EndsBy {T = Unit {0}} (replay_spec words)
     (record { folder = record { before = f0; after = f4 }; out = record { before = out; after = out } }) (Err refusal)
 replay_refused words path shape depth file text f0 f1 f2 f3 f4 out (replay.BadJournal line) (Flawed name flaw) h c left failed is =
     let of = replay_of path shape depth file text in
@@ -363,7 +363,7 @@ replay_refused words path shape depth file text f0 f1 f2 f3 f4 out (replay.BadJo
           contents = contents_of of;
           count = refl;
           held = all_held words path shape depth file text f0 f1 f2 f3 h;
-          hinders = record { of = of; are = refl; line = line; is = ap₂ FlawedBeside is.0 is.1; first = left.1 };
+          conflicts = record { of = of; are = refl; line = line; is = ap₂ FlawedBeside is.0 is.1; first = left.1 };
           stands = record { files = same; held = refl };
         }),
       ),
@@ -374,7 +374,7 @@ replay_refused words path shape depth file text f0 f1 f2 f3 f4 out (replay.BadJo
 replay_refused words path shape depth file text f0 f1 f2 f3 f4 out (replay.BadJournal line) (TooFewFrames frames needed) h c left failed is = absurd is
 replay_refused words path shape depth file text f0 f1 f2 f3 f4 out (replay.BadJournal line) (DoesNotFit picture wanted room) h c left failed is = absurd is
 replay_refused words path shape depth file text f0 f1 f2 f3 f4 out replay.Failed refusal h c left failed is =
-    subst (λ (r : Refusal). EndsBy {T = Unit {0}} (replay_terms words)
+    subst (λ (r : Refusal). EndsBy {T = Unit {0}} (replay_spec words)
     (record { folder = record { before = f0; after = f4 }; out = record { before = out; after = out } }) (Err r)) (sym is) (
       asks_all words path shape depth file text f0 f1 f2 f3 f4 h c,
       (
@@ -383,7 +383,7 @@ replay_refused words path shape depth file text f0 f1 f2 f3 f4 out replay.Failed
       ),
     )
 replay_refused words path shape depth file text f0 f1 f2 f3 f4 out replay.NoMemory refusal h c left failed is =
-    subst (λ (r : Refusal). EndsBy {T = Unit {0}} (replay_terms words)
+    subst (λ (r : Refusal). EndsBy {T = Unit {0}} (replay_spec words)
     (record { folder = record { before = f0; after = f4 }; out = record { before = out; after = out } }) (Err r)) (sym is) (
       asks_all words path shape depth file text f0 f1 f2 f3 f4 h c,
       (left_stopped words path shape depth file text f0 f1 f2 f3 f4 out h left, tt),
@@ -395,7 +395,7 @@ line_refused : (words : ReplayText) (path : PathView) (shape : Shape) (depth : �
     → HasInputs words path shape depth file text f0 f1 f2 f3 → IsClosed shape depth file.name file.asked f3.asked f4.asked
     → Leaves (under_by words.filter) shape depth file.bytes path text words.prefix f3.files f4.files (Ok count) → pictures ≡ count
     → Puts {T = Unit {0}} (end_line pictures) (record { before = out; after = shown }) (Err error)
-    → EndsBy {T = Unit {0}} (replay_terms words)
+    → EndsBy {T = Unit {0}} (replay_spec words)
     (record { folder = record { before = f0; after = f4 }; out = record { before = out; after = shown } }) (Err (cause_of error))
 line_refused words path shape depth file text f0 f1 f2 f3 f4 out shown count pictures error h c left same put =
     let of = replay_of path shape depth file text in
@@ -411,7 +411,7 @@ line_refused words path shape depth file text f0 f1 f2 f3 f4 out shown count pic
             are = refl;
             journal = left.0;
             has = left.1;
-            files = λ told. part_whole (journal_due words of left.0).files f0.files f4.files (all told);
+            files = λ told. part_whole (expected_journal words of left.0).files f0.files f4.files (all told);
             out = inr (
               all,
               (
@@ -426,7 +426,7 @@ line_refused words path shape depth file text f0 f1 f2 f3 f4 out shown count pic
     )
   where
     why : (e : OutsideError) → FailsOnly (Rose out.faults shown.faults) e
-        → IsRefusalBy (replay_terms words) (record { folder = record { before = f0; after = f4 }; out = record { before = out; after = shown } }) (cause_of e)
+        → IsRefusalBy (replay_spec words) (record { folder = record { before = f0; after = f4 }; out = record { before = out; after = shown } }) (cause_of e)
     why outside.Failed rose = inl (inr rose)
     why outside.NoMemory rose = tt
 
@@ -447,7 +447,7 @@ replay_done : (words : ReplayText) (path : PathView) (shape : Shape) (depth : �
     → Leaves (under_by words.filter) shape depth file.bytes path text words.prefix f3.files f4.files (Ok count)
     → ((line : ℕ) → IsFirstRefused shape path.height (length path.cameras) text line → ⊥) → pictures ≡ count
     → Puts {T = Unit {0}} (end_line pictures) (record { before = out; after = shown }) (Ok tt)
-    → EndsBy {T = Unit {0}} (replay_terms words)
+    → EndsBy {T = Unit {0}} (replay_spec words)
     (record { folder = record { before = f0; after = f4 }; out = record { before = out; after = shown } }) (Ok tt)
 replay_done words path shape depth file text f0 f1 f2 f3 f4 out shown count pictures h c left free same put =
     let of = replay_of path shape depth file text in (
@@ -456,7 +456,7 @@ replay_done words path shape depth file text f0 f1 f2 f3 f4 out shown count pict
         contents = contents_of of;
         count = refl;
         held = all_held words path shape depth file text f0 f1 f2 f3 h;
-        free = λ hindrance bad. free bad.line (same_first of bad.of bad.line bad.are bad.first);
+        free = λ conflict bad. free bad.line (same_first of bad.of bad.line bad.are bad.first);
         done = record {
           of = of;
           are = refl;
@@ -475,7 +475,7 @@ pub answer_refused : (words : ReplayText) (path : PathView) (shape : Shape) (dep
     → Leaves (under_by words.filter) shape depth file.bytes path text words.prefix f3.files f4.files played
     → (played ≡ Err replay.Failed → Rose (added f3.faults file.faults) f4.faults)
     → IsAnswer words.journal played (Err refusal)
-    → EndsBy {T = Unit {0}} (replay_terms words)
+    → EndsBy {T = Unit {0}} (replay_spec words)
     (record { folder = record { before = f0; after = f4 }; out = record { before = out; after = out } }) (Err refusal)
 answer_refused words path shape depth file text f0 f1 f2 f3 f4 out (Ok count) refusal h c left failed is = absurd is
 answer_refused words path shape depth file text f0 f1 f2 f3 f4 out (Err error) refusal h c left failed is =
@@ -486,7 +486,7 @@ pub answer_untold : (words : ReplayText) (path : PathView) (shape : Shape) (dept
     → HasInputs words path shape depth file text f0 f1 f2 f3 → IsClosed shape depth file.name file.asked f3.asked f4.asked
     → Leaves (under_by words.filter) shape depth file.bytes path text words.prefix f3.files f4.files played → IsAnswer words.journal played (Ok pictures)
     → Puts {T = Unit {0}} (end_line pictures) (record { before = out; after = shown }) (Err error)
-    → EndsBy {T = Unit {0}} (replay_terms words)
+    → EndsBy {T = Unit {0}} (replay_spec words)
     (record { folder = record { before = f0; after = f4 }; out = record { before = out; after = shown } }) (Err (cause_of error))
 answer_untold words path shape depth file text f0 f1 f2 f3 f4 out shown (Ok count) pictures error h c left is put =
     line_refused words path shape depth file text f0 f1 f2 f3 f4 out shown count pictures error h c left is put
@@ -499,7 +499,7 @@ pub answer_told : (words : ReplayText) (path : PathView) (shape : Shape) (depth 
     → ((line : ℕ) → IsFirstRefused shape path.height (length path.cameras) text line
     → (played ≡ Err (replay.BadJournal line)) ⊎ (played ≡ Err replay.NoMemory)) → IsAnswer words.journal played (Ok pictures)
     → Puts {T = Unit {0}} (end_line pictures) (record { before = out; after = shown }) (Ok tt)
-    → EndsBy {T = Unit {0}} (replay_terms words)
+    → EndsBy {T = Unit {0}} (replay_spec words)
     (record { folder = record { before = f0; after = f4 }; out = record { before = out; after = shown } }) (Ok tt)
 answer_told words path shape depth file text f0 f1 f2 f3 f4 out shown (Ok count) pictures h c left refused is put =
     replay_done words path shape depth file text f0 f1 f2 f3 f4 out shown count pictures h c left

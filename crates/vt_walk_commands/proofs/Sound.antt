@@ -1,33 +1,33 @@
--- What is known of the terms of the commands that walk or replay.
+-- What is known of the specification of the commands that walk or replay.
 use Rattle.std.proofs.Common.{◌≡◌, List, [], ◌∷◌, Option, refl, sym, ap, subst, ◌∙◌, inl, arith}
 use Rattle.vt_outside.specs.Files.{Files, Asked}
-use Rattle.vt_files.specs.Courses.{Course, FolderState, IsIdle}
-use Rattle.vt_inputs.specs.Inputs.{Input, Content}
-use Rattle.vt_inputs.specs.Causes.{AreAskedOrNot}
-use Rattle.vt_inputs.specs.Terms.{Terms, Hindrance, FlawedBeside, ManyTexels, FewFrames, LargePicture, hindrance_status}
+use Rattle.vt_files.specs.Effects.{CallEffect, FolderState, IsIdle}
+use Rattle.vt_command_base.specs.Inputs.{Input, Content}
+use Rattle.vt_command_base.specs.Causes.{AreAskedOrNot}
+use Rattle.vt_command_base.specs.CommandSpecs.{CommandSpec, Conflict, FlawedBeside, ManyTexels, FewFrames, LargePicture, conflict_status}
 use Rattle.vt_walk_commands.specs.Machines.{MachineKind}
-use Rattle.vt_walk_commands.specs.commands.Walk.{WalkOf, HindersWalk, StandsInWay, contents_of, walk_inputs, walk_terms}
-use Rattle.vt_walk_commands.specs.commands.Replay.{HasBadLine, replay_closes, replay_terms}
-use Rattle.vt_walk_commands.specs.commands.Trial.{HindersTrial, trial_terms}
+use Rattle.vt_walk_commands.specs.commands.Walk.{WalkOf, ConflictsInWalk, StandsInWay, contents_of, walk_inputs, walk_spec}
+use Rattle.vt_walk_commands.specs.commands.Replay.{HasBadLine, replay_closes, replay_spec}
+use Rattle.vt_walk_commands.specs.commands.Trial.{ConflictsInTrial, trial_spec}
 use Rattle.vt_words.specs.Replay.{ReplayText}
 use Rattle.vt_words.specs.Walk.{WalkText}
 use Rattle.vt_words.specs.Trial.{TrialText}
 
 -- whatever stands in the way of some contents has one status, and nothing is asked where all is as before
-pub record AreSound (terms : Terms) : Type 0 where
-  pub one : (contents : List Content) (a b : Hindrance) → terms.hinders contents a → terms.hinders contents b → hindrance_status a ≡ hindrance_status b
-  pub idle : (c : Course) → IsIdle c → terms.asks c
+pub record AreSound (spec : CommandSpec) : Type 0 where
+  pub one : (contents : List Content) (a b : Conflict) → spec.conflicts contents a → spec.conflicts contents b → conflict_status a ≡ conflict_status b
+  pub idle : (c : CallEffect) → IsIdle c → spec.asks c
 
-one_line : (words : ReplayText) (contents : List Content) (a b : Hindrance) → HasBadLine words contents a → HasBadLine words contents b
-    → hindrance_status a ≡ hindrance_status b
-one_line words contents a b x y = ap hindrance_status x.is ∙ sym (ap hindrance_status y.is)
+one_line : (words : ReplayText) (contents : List Content) (a b : Conflict) → HasBadLine words contents a → HasBadLine words contents b
+    → conflict_status a ≡ conflict_status b
+one_line words contents a b x y = ap conflict_status x.is ∙ sym (ap conflict_status y.is)
 
 -- where nothing was asked, no input was
 some_idle : (files : Option Files) (inputs : List Input) (asked : Option Asked) → AreAskedOrNot files inputs asked asked
 some_idle files [] asked = refl
 some_idle files (input ∷ inputs) asked = (asked, inl refl, some_idle files inputs asked)
 
-pub replay_sound : (words : ReplayText) → AreSound (replay_terms words)
+pub replay_sound : (words : ReplayText) → AreSound (replay_spec words)
 replay_sound words = record {
   one = one_line words;
   idle = λ c idle.
@@ -36,8 +36,8 @@ replay_sound words = record {
 }
 
 -- too many texels exclude the others
-one_stands : (m : MachineKind) (words : WalkText) (of : WalkOf) (a b : Hindrance) → StandsInWay m words of a → StandsInWay m words of b
-    → hindrance_status a ≡ hindrance_status b
+one_stands : (m : MachineKind) (words : WalkText) (of : WalkOf) (a b : Conflict) → StandsInWay m words of a → StandsInWay m words of b
+    → conflict_status a ≡ conflict_status b
 one_stands m words of (FlawedBeside name flaw) b x y = absurd x
 one_stands m words of a (FlawedBeside name flaw) x y = absurd y
 one_stands m words of ManyTexels ManyTexels x y = refl
@@ -58,12 +58,12 @@ same_of a b same =
     let depth : a.depth ≡ b.depth = cc in
     λ i. record { path = path i; shape = shape i; depth = depth i }
 
-walk_one : (m : MachineKind) (words : WalkText) (contents : List Content) (a b : Hindrance) → HindersWalk m words contents a → HindersWalk m words contents b
-    → hindrance_status a ≡ hindrance_status b
+walk_one : (m : MachineKind) (words : WalkText) (contents : List Content) (a b : Conflict) → ConflictsInWalk m words contents a → ConflictsInWalk m words contents b
+    → conflict_status a ≡ conflict_status b
 walk_one m words contents a b x y =
     one_stands m words x.of a b x.stands (subst (λ (o : WalkOf). StandsInWay m words o b) (same_of y.of x.of (sym y.are ∙ x.are)) y.stands)
 
-pub walk_sound : (m : MachineKind) (words : WalkText) → AreSound (walk_terms m words)
+pub walk_sound : (m : MachineKind) (words : WalkText) → AreSound (walk_spec m words)
 walk_sound m words = record {
   one = walk_one m words;
   idle = λ c idle.
@@ -72,8 +72,8 @@ walk_sound m words = record {
 }
 
 -- only a picture that does not fit may stand in the way of a trial
-trial_one : (words : TrialText) (contents : List Content) (a b : Hindrance) → HindersTrial words contents a → HindersTrial words contents b
-    → hindrance_status a ≡ hindrance_status b
+trial_one : (words : TrialText) (contents : List Content) (a b : Conflict) → ConflictsInTrial words contents a → ConflictsInTrial words contents b
+    → conflict_status a ≡ conflict_status b
 trial_one words contents (LargePicture picture wanted room) (LargePicture other more less) x y = refl
 trial_one words contents (FlawedBeside name flaw) b x y = absurd x
 trial_one words contents ManyTexels b x y = absurd x
@@ -82,5 +82,5 @@ trial_one words contents (LargePicture picture wanted room) (FlawedBeside name f
 trial_one words contents (LargePicture picture wanted room) ManyTexels x y = absurd y
 trial_one words contents (LargePicture picture wanted room) (FewFrames frames needed) x y = absurd y
 
-pub trial_sound : (words : TrialText) → AreSound (trial_terms words)
+pub trial_sound : (words : TrialText) → AreSound (trial_spec words)
 trial_sound words = record { one = trial_one words; idle = λ c idle. idle.folder }

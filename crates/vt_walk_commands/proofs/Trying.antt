@@ -19,21 +19,21 @@ use Rattle.vt_store.specs.ChainStores.{chain_store}
 use Rattle.vt_tiles.specs.StoreViews.{IsStore, IsStoreIfTold}
 use Rattle.vt_tiles.proofs.Stored.{stores_open}
 use Rattle.vt_machine.specs.Requests as Requests
-use Rattle.vt_walk.specs.declared.turns.Walked.{Walked}
+use Rattle.vt_walk.specs.declared.walk_steps.Walked.{Walked}
 use Rattle.vt_walk.specs.Walks.{AreSettings}
 use Rattle.vt_walk.specs.Counts.{HasCounts}
 use Rattle.vt_walk.specs.States.{AreOpen}
 use Rattle.vt_walk.proofs.Rounds.{each_fits}
 use Rattle.vt_walk.proofs.Wholeness.{fits_or_not}
 use Rattle.vt_words.specs.Trial.{TrialText}
-use Rattle.vt_files.specs.Courses.{FolderState, SinkState, Gain, IsUntouched}
-use Rattle.vt_files.specs.Dues.{FailsOnly, Puts}
-use Rattle.vt_inputs.specs.Terms.{Hindrance, FlawedBeside, ManyTexels, FewFrames, LargePicture, IsRefusalBy, EndsBy}
-use Rattle.vt_inputs.specs.Refusals.{cause_of}
-use Rattle.vt_walk_commands.specs.commands.Trial.{trial_shape, trial_path, trial_settings, trial_setup, trial_line, trial_terms, IsTrial, IsFirstUnfit, HindersTrial, IsWalkRefusal, IsTrialRefusal, Compares, TriesOut, beside}
+use Rattle.vt_files.specs.Effects.{FolderState, SinkState, SinkEffect, IsWithoutEffect}
+use Rattle.vt_files.specs.Expectations.{FailsOnly, Puts}
+use Rattle.vt_command_base.specs.CommandSpecs.{Conflict, FlawedBeside, ManyTexels, FewFrames, LargePicture, IsRefusalBy, EndsBy}
+use Rattle.vt_command_base.specs.Refusals.{cause_of}
+use Rattle.vt_walk_commands.specs.commands.Trial.{trial_shape, trial_path, trial_settings, trial_setup, trial_line, trial_spec, IsTrial, IsFirstUnfit, ConflictsInTrial, IsWalkRefusal, IsTrialRefusal, Compares, TriesOut, beside}
 use Rattle.vt_walk_commands.specs.declared.commands.trial.Tried.{Tried}
-use Rattle.vt_inputs.specs.declared.refusal.Refusal.{Refusal}
-use Rattle.vt_inputs.specs.declared.refusal.Refusal.TheVariants.{NoMemory, Usage, Fault, Flawed, TooFewFrames, DoesNotFit}
+use Rattle.vt_command_base.specs.declared.refusal.Refusal.{Refusal}
+use Rattle.vt_command_base.specs.declared.refusal.Refusal.TheVariants.{NoMemory, Usage, Fault, Flawed, TooFewFrames, DoesNotFit}
 
 -- a file that was just opened is one that is open
 pub fresh_open : (name : List ℕ) (asked : Option Asked) (file : Requests.FileState) → file.asked ≡ option_map (λ _. []) asked
@@ -63,7 +63,7 @@ settings_lawful s is = subst (λ (s : Shape). AreSettings s trial_settings) (sym
 })
 
 -- nothing stands in the way of a trial that was made
-free : (words : TrialText) (walked : Walked) → IsTrial words.number walked → (hindrance : Hindrance) → HindersTrial words [] hindrance → ⊥
+free : (words : TrialText) (walked : Walked) → IsTrial words.number walked → (conflict : Conflict) → ConflictsInTrial words [] conflict → ⊥
 free words walked t (FlawedBeside name flaw) h = h
 free words walked t ManyTexels h = h
 free words walked t (FewFrames frames needed) h = h
@@ -75,8 +75,8 @@ free words walked t (LargePicture picture wanted room) h =
     (each_fits (trial_setup t.path) t.counts.run refl t.counts.is_run t.counts.whole picture first.of_path) first.unfit
 
 -- the line was put
-pub tried : (words : TrialText) (walked : Walked) (differ : ℕ) (folder : FolderState) (out : Gain) → IsTrial words.number walked → differ ≡ 0
-    → Puts {T = Unit {0}} (trial_line words.number walked differ) out (Ok tt) → EndsBy {T = Unit {0}} (trial_terms words) (beside folder out) (Ok tt)
+pub tried : (words : TrialText) (walked : Walked) (differ : ℕ) (folder : FolderState) (out : SinkEffect) → IsTrial words.number walked → differ ≡ 0
+    → Puts {T = Unit {0}} (trial_line words.number walked differ) out (Ok tt) → EndsBy {T = Unit {0}} (trial_spec words) (beside folder out) (Ok tt)
 tried words walked differ folder out t none put = (
   refl,
   record {
@@ -94,9 +94,9 @@ tried words walked differ folder out t none put = (
 )
 
 -- a front part of it was
-pub tried_in_part : (words : TrialText) (walked : Walked) (differ : ℕ) (folder : FolderState) (out : Gain) (error : OutsideError)
+pub tried_in_part : (words : TrialText) (walked : Walked) (differ : ℕ) (folder : FolderState) (out : SinkEffect) (error : OutsideError)
     → IsTrial words.number walked → differ ≡ 0 → Puts {T = Unit {0}} (trial_line words.number walked differ) out (Err error)
-    → EndsBy {T = Unit {0}} (trial_terms words) (beside folder out) (Err (cause_of error))
+    → EndsBy {T = Unit {0}} (trial_spec words) (beside folder out) (Err (cause_of error))
 tried_in_part words walked differ folder out error t none put = (
   refl,
   (
@@ -115,17 +115,17 @@ tried_in_part words walked differ folder out error t none put = (
     cause error put.1,
   ),
 ) where
-  cause : (e : OutsideError) → FailsOnly (Rose out.before.faults out.after.faults) e → IsRefusalBy (trial_terms words) (beside folder out) (cause_of e)
+  cause : (e : OutsideError) → FailsOnly (Rose out.before.faults out.after.faults) e → IsRefusalBy (trial_spec words) (beside folder out) (cause_of e)
   cause outside.Failed rose = inl rose
   cause outside.NoMemory why = tt
 
-untouched : (folder : FolderState) (out : SinkState) → IsUntouched (beside folder (record { before = out; after = out }))
+untouched : (folder : FolderState) (out : SinkState) → IsWithoutEffect (beside folder (record { before = out; after = out }))
 untouched folder out = record { files = refl; held = refl }
 
 -- nothing was put
 untried : (words : TrialText) (folder : FolderState) (out : SinkState) (refusal : Refusal) → (path : PathView)
     → IsPathText (trial_path words.number) path → IsWalkRefusal path refusal
-    → EndsBy {T = Unit {0}} (trial_terms words) (beside folder (record { before = out; after = out })) (Err refusal)
+    → EndsBy {T = Unit {0}} (trial_spec words) (beside folder (record { before = out; after = out })) (Err refusal)
 untried words folder out NoMemory path is why = (refl, (inl (untouched folder out), tt))
 untried words folder out Usage path is why = absurd why
 untried words folder out Fault path is why = absurd why
@@ -139,7 +139,7 @@ untried words folder out (DoesNotFit picture wanted room) path is why = (
       contents = [];
       count = refl;
       held = λ told. tt;
-      hinders = record { path = path; is = is; first = why };
+      conflicts = record { path = path; is = is; first = why };
       stands = untouched folder out;
     },
   ),
@@ -160,9 +160,9 @@ bytes_written name bytes b o (Some files) after is held some =
 
 -- a trial was refused before its line
 pub refused : (words : TrialText) (folder : FolderState) (out : SinkState) (refusal : Refusal) → (refusal ≡ NoMemory) ⊎ IsTrialRefusal words.number refusal
-    → EndsBy {T = Unit {0}} (trial_terms words) (beside folder (record { before = out; after = out })) (Err refusal)
+    → EndsBy {T = Unit {0}} (trial_spec words) (beside folder (record { before = out; after = out })) (Err refusal)
 refused words folder out refusal (inl is) =
-    subst (λ (r : Refusal). EndsBy {T = Unit {0}} (trial_terms words) (beside folder (record { before = out; after = out })) (Err r)) (sym is)
+    subst (λ (r : Refusal). EndsBy {T = Unit {0}} (trial_spec words) (beside folder (record { before = out; after = out })) (Err r)) (sym is)
     (refl, (inl (untouched folder out), tt))
 refused words folder out refusal (inr why) = untried words folder out refusal why.0 why.1 why.2
 

@@ -11,19 +11,19 @@ use Rattle.vt_outside.specs.Files.{Files, Asked, bytes_at}
 use Rattle.vt_outside.specs.declared.place.Place.{Place}
 use Rattle.vt_pages.specs.Shape.{Shape}
 use Rattle.vt_camera.specs.Paths.{PathView}
-use Rattle.vt_files.specs.Courses.{FolderState, SinkState, Course, IsUntouched}
+use Rattle.vt_files.specs.Effects.{FolderState, SinkState, CallEffect, IsWithoutEffect}
 use Rattle.vt_machine.specs.Requests.{counts_of}
 use Rattle.vt_machine.specs.Requests
-use Rattle.vt_shown.specs.Scenes.{scene_of}
-use Rattle.vt_turns.specs.declared.error.WalkError.{WalkError}
-use Rattle.vt_turns.specs.declared.error.WalkError.TheVariants as walks
+use Rattle.vt_pictures.specs.Scenes.{scene_of}
+use Rattle.vt_walk_decisions.specs.declared.error.WalkError.{WalkError}
+use Rattle.vt_walk_decisions.specs.declared.error.WalkError.TheVariants as walks
 use Rattle.vt_walk.specs.Walks.{WalkGiven, given_by, mode_of}
 use Rattle.vt_walk.specs.Folders.{IsApart}
 use Rattle.vt_walk.specs.States.{WalkState, places_of}
 use Rattle.vt_walk.specs.Reads.{OnTold}
 use Rattle.vt_walk.specs.Standing.{Finished}
 use Rattle.vt_walk.specs.Causes.{IsCausedBy}
-use Rattle.vt_walk.specs.Turns.{LeftBy as WalkLeftBy}
+use Rattle.vt_walk.specs.Turns.{LeftByRefusal as WalkLeftBy}
 use Rattle.vt_walk.specs.Closing.{AreOtherNamesAsBefore}
 use Rattle.vt_walk.proofs.Closings.{AreSamePlaces, same_places, IsAlike}
 use Rattle.vt_walk.proofs.Alike.{ends_alike}
@@ -33,41 +33,41 @@ use Rattle.vt_words.specs.Names.{is_picture_name}
 use Rattle.vt_words.specs.Journals.{names_clash}
 use Rattle.vt_words.specs.Walk.{WalkText}
 use Rattle.vt_walk_commands.specs.Machines.{MachineKind}
-use Rattle.vt_inputs.specs.Inputs.{PathInput, StoreInput, PathContent, StoreContent, header_places}
-use Rattle.vt_inputs.specs.HeldInputs.{Holds}
-use Rattle.vt_inputs.specs.Causes.{AreHeld, AsksSome}
-use Rattle.vt_inputs.specs.Reads.{FileState, OpensStore, Closed, Took, Refused}
-use Rattle.vt_inputs.specs.Tasks.{HasRisen}
-use Rattle.vt_inputs.specs.Terms.{Hindrance, FlawedBeside, ManyTexels, FewFrames, LargePicture, IsRefusalBy, EndsBy}
-use Rattle.vt_walk_commands.specs.commands.Walk.{WalkOf, contents_of, settings_of, walk_names, walk_given, walk_first, walk_last, HasWalked, HasLeft, frame_texels, walk_pinned, StandsInWay, walk_inputs, WalkFailed, WalkAsks, IsAnswer, walk_terms, refusal_of_walk}
-use Rattle.vt_inputs.specs.declared.refusal.Refusal.{Refusal}
-use Rattle.vt_inputs.specs.declared.refusal.Refusal.TheVariants.{Usage}
-use Rattle.vt_inputs.proofs.Ending.{refusal_at}
-use Rattle.vt_inputs.proofs.Opening.{store_there, header_took}
+use Rattle.vt_command_base.specs.Inputs.{PathInput, StoreInput, PathContent, StoreContent, header_places}
+use Rattle.vt_command_base.specs.HeldInputs.{Holds}
+use Rattle.vt_command_base.specs.Causes.{AreHeld, AsksSome}
+use Rattle.vt_command_base.specs.Reads.{FileState, OpensStore, Closed, Took, Refused}
+use Rattle.vt_command_base.specs.Tasks.{HasRisen}
+use Rattle.vt_command_base.specs.CommandSpecs.{Conflict, FlawedBeside, ManyTexels, FewFrames, LargePicture, IsRefusalBy, EndsBy}
+use Rattle.vt_walk_commands.specs.commands.Walk.{WalkOf, contents_of, settings_of, walk_names, walk_given, walk_first, walk_last, HasWalked, HasLeft, frame_texels, walk_pinned, StandsInWay, walk_inputs, WalkFailed, WalkAsks, IsAnswer, walk_spec, refusal_of_walk}
+use Rattle.vt_command_base.specs.declared.refusal.Refusal.{Refusal}
+use Rattle.vt_command_base.specs.declared.refusal.Refusal.TheVariants.{Usage}
+use Rattle.vt_command_base.proofs.Ending.{refusal_at}
+use Rattle.vt_command_base.proofs.Opening.{store_there, header_took}
 use Rattle.vt_walk_commands.proofs.Replaying.{asked_in, asked_or_not}
 use Rattle.vt_walk_commands.proofs.Sound.{same_of}
-use Rattle.vt_inputs.proofs.Terming.{refused_by}
+use Rattle.vt_command_base.proofs.TaskSpecs.{refused_by}
 
--- a course by its folders and its outputs
-abbrev pub over : FolderState → FolderState → SinkState → SinkState → Course
+-- what a call did, by its folders and its outputs
+abbrev pub over : FolderState → FolderState → SinkState → SinkState → CallEffect
 over before after out shown = record { folder = record { before = before; after = after }; out = record { before = out; after = shown } }
 
 -- the count of faults rose, and only the inputs were asked
-risen_before : (m : MachineKind) (words : WalkText) (c : Course) → AsksSome (walk_inputs words) c.folder → HasRisen c → WalkFailed m words c
+risen_before : (m : MachineKind) (words : WalkText) (c : CallEffect) → AsksSome (walk_inputs words) c.folder → HasRisen c → WalkFailed m words c
 risen_before m words c asks (inl rose) = inr (inl (record { asks = asks; rose = rose }))
 risen_before m words c asks (inr rose) = inl rose
 
 -- the path was refused
 pub path_refused : (m : MachineKind) (words : WalkText) (refusal : Refusal) (f0 f1 : FolderState) (out : SinkState)
     → Refused (PathInput words.path) refusal (record { before = f0; after = f1 })
-    → EndsBy {T = Unit {0}} (walk_terms m words) (over f0 f1 out out) (Err refusal)
+    → EndsBy {T = Unit {0}} (walk_spec m words) (over f0 f1 out out) (Err refusal)
 path_refused m words refusal f0 f1 out h =
     let asks : AsksSome (walk_inputs words) (record { before = f0; after = f1 }) =
     (f1.asked, asked_or_not (PathInput words.path) f0.files f0 f1 refl h.asked, (f1.asked, inl refl, refl)) in (
       inl asks,
       (
         inl (record { files = h.files; held = refl }),
-        refused_by (walk_terms m words) (over f0 f1 out out) refusal (risen_before m words (over f0 f1 out out) asks)
+        refused_by (walk_spec m words) (over f0 f1 out out) refusal (risen_before m words (over f0 f1 out out) asks)
             (refusal_at (walk_inputs words) [] [] (PathInput words.path) (StoreInput words.store ∷ []) refusal
             f0 f0 f1 out refl (λ told. tt) refl (omega arith) h.files h.cause),
       ),
@@ -80,7 +80,7 @@ ReadPath words path f0 f1 = Took (PathInput words.path) (PathContent path) (reco
 -- the store was refused
 pub store_refused : (m : MachineKind) (words : WalkText) (path : PathView) (refusal : Refusal) (f0 f1 f2 : FolderState) (out : SinkState)
     → ReadPath words path f0 f1 → Refused (StoreInput words.store) refusal (record { before = f1; after = f2 })
-    → EndsBy {T = Unit {0}} (walk_terms m words) (over f0 f2 out out) (Err refusal)
+    → EndsBy {T = Unit {0}} (walk_spec m words) (over f0 f2 out out) (Err refusal)
 store_refused m words path refusal f0 f1 f2 out p h =
     let asks : AsksSome (walk_inputs words) (record { before = f0; after = f2 }) = (
       f1.asked,
@@ -90,7 +90,7 @@ store_refused m words path refusal f0 f1 f2 out p h =
       inl asks,
       (
         inl (record { files = h.files ∙ p.files; held = refl }),
-        refused_by (walk_terms m words) (over f0 f2 out out) refusal (risen_before m words (over f0 f2 out out) asks)
+        refused_by (walk_spec m words) (over f0 f2 out out) refusal (risen_before m words (over f0 f2 out out) asks)
             (refusal_at (walk_inputs words) (PathInput words.path ∷ []) (PathContent path ∷ []) (StoreInput words.store) [] refusal
             f0 f1 f2 out refl (λ told. (p.held told, tt)) p.files p.faults h.files h.cause),
       ),
@@ -113,10 +113,10 @@ both_held words of file f0 f1 f2 h told =
 -- the frames have too many texels, and the store was closed
 pub many_refused : (m : MachineKind) (words : WalkText) (of : WalkOf) (file : FileState) (f0 f1 f2 f3 : FolderState) (out : SinkState)
     → HasInputs words of file f0 f1 f2 → Closed file (record { before = f2; after = f3 }) → most_frame_texels < frame_texels words of
-    → EndsBy {T = Unit {0}} (walk_terms m words) (over f0 f3 out out) (Err Usage)
+    → EndsBy {T = Unit {0}} (walk_spec m words) (over f0 f3 out out) (Err Usage)
 many_refused m words of file f0 f1 f2 f3 out h closed many =
     let took = header_took words.store of.shape of.depth file f1 f2 f3 h.opened closed in
-    let same : IsUntouched (over f0 f3 out out) = record { files = took.files ∙ h.path_read.files; held = refl } in (
+    let same : IsWithoutEffect (over f0 f3 out out) = record { files = took.files ∙ h.path_read.files; held = refl } in (
       inl (
         f1.asked,
         asked_in (PathInput words.path) f0.files f0.files f0 f1 refl h.path_read.asked,
@@ -128,7 +128,7 @@ many_refused m words of file f0 f1 f2 f3 out h closed many =
           contents = contents_of of;
           count = refl;
           held = both_held words of file f0 f1 f2 h;
-          hinders = record { of = of; are = refl; stands = many };
+          conflicts = record { of = of; are = refl; stands = many };
           stands = same;
         },
       ),
@@ -240,21 +240,21 @@ asks_walk m words of file f0 f1 f2 f3 out shown h others stands = inr (record {
 })
 
 -- nothing stands in the way of a finished walk
-nothing_hinders : (m : MachineKind) (words : WalkText) (of : WalkOf) (files : Option Files) (first last : WalkState)
+no_conflict : (m : MachineKind) (words : WalkText) (of : WalkOf) (files : Option Files) (first last : WalkState)
     → frame_texels words of ≤ most_frame_texels → Finished m.drawn (walk_given m words of files) first last
-    → (hindrance : Hindrance) → StandsInWay m words of hindrance → ⊥
-nothing_hinders m words of files first last few f (FlawedBeside name flaw) h = h
-nothing_hinders m words of files first last few f ManyTexels h = omega (arith, few, h)
-nothing_hinders m words of files first last few f (FewFrames frames needed) h =
+    → (conflict : Conflict) → StandsInWay m words of conflict → ⊥
+no_conflict m words of files first last few f (FlawedBeside name flaw) h = h
+no_conflict m words of files first last few f ManyTexels h = omega (arith, few, h)
+no_conflict m words of files first last few f (FewFrames frames needed) h =
     let enough : walk_pinned words of ≤ words.frames = f.judged in
     let less : frames < needed = h.few in
     omega (arith, enough, less, h.frames_are, h.needed_are)
-nothing_hinders m words of files first last few f (LargePicture picture wanted room) h =
+no_conflict m words of files first last few f (LargePicture picture wanted room) h =
     fits_or_not (walk_given m words of files).setup picture wanted (f.fits h.settled picture h.of_path) h.unfit
 
 -- the walk is finished
 walk_done : (m : MachineKind) (words : WalkText) (of : WalkOf) (file : FileState) (f0 f1 f2 f3 : FolderState) (out shown : SinkState)
-    → WasMade m words of file f0 f1 f2 f3 out shown (Ok tt) → EndsBy {T = Unit {0}} (walk_terms m words) (over f0 f3 out shown) (Ok tt)
+    → WasMade m words of file f0 f1 f2 f3 out shown (Ok tt) → EndsBy {T = Unit {0}} (walk_spec m words) (over f0 f3 out shown) (Ok tt)
 walk_done m words of file f0 f1 f2 f3 out shown made =
     let h = made.inputs in
     let finished = from_inputs m words of file f0 f1 f2 f3 out shown (Ok tt) h made.came in
@@ -271,24 +271,24 @@ walk_done m words of file f0 f1 f2 f3 out shown made =
         contents = contents_of of;
         count = refl;
         held = both_held words of file f0 f1 f2 h;
-        free = λ hindrance x.
-            nothing_hinders m words of f0.files (walk_first words f1.asked (over f0 f3 out shown)) (walk_last words (over f0 f3 out shown))
-            made.few_texels finished hindrance (subst (λ (o : WalkOf). StandsInWay m words o hindrance) (sym (same_of of x.of x.are)) x.stands);
+        free = λ conflict x.
+            no_conflict m words of f0.files (walk_first words f1.asked (over f0 f3 out shown)) (walk_last words (over f0 f3 out shown))
+            made.few_texels finished conflict (subst (λ (o : WalkOf). StandsInWay m words o conflict) (sym (same_of of x.of x.are)) x.stands);
         done = walked;
       },
     )
 
--- why a walk was left, as the terms say it
+-- why a walk was left, as the specification says it
 why_left : (m : MachineKind) (words : WalkText) (of : WalkOf) (file : FileState) (f0 f1 f2 f3 : FolderState) (out shown : SinkState) (error : WalkError)
     → WasMade m words of file f0 f1 f2 f3 out shown (Err error)
     → IsCausedBy m.drawn (walk_given m words of f0.files) (walk_first words f1.asked (over f0 f3 out shown))
     (walk_last words (over f0 f3 out shown)) error
-    → IsRefusalBy (walk_terms m words) (over f0 f3 out shown) (refusal_of_walk error)
+    → IsRefusalBy (walk_spec m words) (over f0 f3 out shown) (refusal_of_walk error)
 why_left m words of file f0 f1 f2 f3 out shown (walks.TooFewFrames frames needed) made cause = record {
   contents = contents_of of;
   count = refl;
   held = both_held words of file f0 f1 f2 made.inputs;
-  hinders = record {
+  conflicts = record {
     of = of;
     are = refl;
     stands = record { few_texels = made.few_texels; frames_are = cause.frames_are; needed_are = cause.needed_are; few = cause.few };
@@ -299,7 +299,7 @@ why_left m words of file f0 f1 f2 f3 out shown (walks.DoesNotFit picture wanted 
   contents = contents_of of;
   count = refl;
   held = both_held words of file f0 f1 f2 made.inputs;
-  hinders = record {
+  conflicts = record {
     of = of;
     are = refl;
     stands = record {
@@ -350,7 +350,7 @@ why_left m words of file f0 f1 f2 f3 out shown walks.NoMemory made cause = tt
 -- the walk was left
 walk_left : (m : MachineKind) (words : WalkText) (of : WalkOf) (file : FileState) (f0 f1 f2 f3 : FolderState) (out shown : SinkState) (error : WalkError)
     → WasMade m words of file f0 f1 f2 f3 out shown (Err error)
-    → EndsBy {T = Unit {0}} (walk_terms m words) (over f0 f3 out shown) (Err (refusal_of_walk error))
+    → EndsBy {T = Unit {0}} (walk_spec m words) (over f0 f3 out shown) (Err (refusal_of_walk error))
 walk_left m words of file f0 f1 f2 f3 out shown error made =
     let h = made.inputs in
     let left = from_inputs m words of file f0 f1 f2 f3 out shown (Err error) h made.came in
@@ -397,10 +397,10 @@ names_apart words none =
 -- how a walk ends, by its answer
 pub walk_ends : (m : MachineKind) (words : WalkText) (of : WalkOf) (file : FileState) (f0 f1 f2 f3 : FolderState) (out shown : SinkState)
     (walked : Result (Unit {0}) WalkError) (r : Result (Unit {0}) Refusal) → WasMade m words of file f0 f1 f2 f3 out shown walked → IsAnswer walked r
-    → EndsBy {T = Unit {0}} (walk_terms m words) (over f0 f3 out shown) r
+    → EndsBy {T = Unit {0}} (walk_spec m words) (over f0 f3 out shown) r
 walk_ends m words of file f0 f1 f2 f3 out shown (Ok tt) r made is =
-    subst (λ (a : Result (Unit {0}) Refusal). EndsBy {T = Unit {0}} (walk_terms m words) (over f0 f3 out shown) a) (sym is)
+    subst (λ (a : Result (Unit {0}) Refusal). EndsBy {T = Unit {0}} (walk_spec m words) (over f0 f3 out shown) a) (sym is)
     (walk_done m words of file f0 f1 f2 f3 out shown made)
 walk_ends m words of file f0 f1 f2 f3 out shown (Err error) r made is =
-    subst (λ (a : Result (Unit {0}) Refusal). EndsBy {T = Unit {0}} (walk_terms m words) (over f0 f3 out shown) a) (sym is)
+    subst (λ (a : Result (Unit {0}) Refusal). EndsBy {T = Unit {0}} (walk_spec m words) (over f0 f3 out shown) a) (sym is)
     (walk_left m words of file f0 f1 f2 f3 out shown error made)

@@ -12,14 +12,14 @@ use Rattle.vt_evict.proofs.ListLemmas.{is_in-append, distinct-append}
 use Rattle.vt_plan.proofs.ListLemmas.{is_in-filter, filter_twice, filter_same, filter_all, all_true}
 use Rattle.vt_evict.proofs.SettleLemmas.{same_bool}
 use Rattle.vt_machine.specs.Outcomes.{lost_count}
-use Rattle.vt_turns.specs.declared.mode.Mode.{Mode}
-use Rattle.vt_turns.specs.declared.mode.Mode.TheVariants.{Settled}
+use Rattle.vt_walk_decisions.specs.declared.mode.Mode.{Mode}
+use Rattle.vt_walk_decisions.specs.declared.mode.Mode.TheVariants.{Settled}
 use Rattle.vt_walk.specs.Fits.{WalkSetup, Fits}
 use Rattle.vt_walk.specs.Runs.{WalkPass, IsWalkSetup, plan_after, Finishes, IsFinished, IsRun, planned_in}
 use Rattle.vt_walk.specs.Logs.{passes_of}
 use Rattle.vt_walk_laws.specs.PassCounts.{picture_pages, batch_pages, IsAtPictureEnd, IsFinishedPicture}
 use Rattle.vt_walk.proofs.Showing.{self_number}
-use Rattle.vt_walk.proofs.Turning.{settled_turn, first_turn}
+use Rattle.vt_walk.proofs.Stepping.{settled_step, first_step}
 use Rattle.vt_walk_laws.proofs.Frames.{first_true, second_true, not_true}
 use Rattle.vt_walk_laws.proofs.Loading.{to_load_after, IsLoading, loading, fits_of, done}
 
@@ -115,7 +115,7 @@ have_loaded w (p ∷ []) first before h mode run same none =
       once = more_once w p first before [] first before l refl n.left n.once;
     }
 have_loaded w (p ∷ q ∷ later) first before h mode run same none =
-    let goes = fits_of w q mode run.1.turn.0 in
+    let goes = fits_of w q mode run.1.step.0 in
     let n = have_loaded w (q ∷ later) first before h mode run.0 same.1 goes.0 in
     let l = loading w p q (later ++ first ∷ before) h mode run (same.0 ∙ sym same.1.0) none in
     record {
@@ -177,8 +177,8 @@ run_from w (p ∷ later) first before run = run_from w later first before run.0
 
 begins_empty : (w : WalkSetup) (first : WalkPass) (before : List WalkPass) → w.mode ≡ Settled → IsRun w (first ∷ before)
     → passes_of first.picture before ≡ [] → first.batch ≡ []
-begins_empty w first [] mode run none = (first_turn w first run).1
-begins_empty w first (q ∷ before) mode run none = settled_turn w first q before mode run (λ same.
+begins_empty w first [] mode run none = (first_step w first run).1
+begins_empty w first (q ∷ before) mode run none = settled_step w first q before mode run (λ same.
     let there : q ∷ passes_of first.picture before ≡ [] =
     sym (ap (λ (b : Bool). cond b (q ∷ passes_of first.picture before) (passes_of first.picture before))
     (same_true q.picture first.picture (sym same))) ∙ none in

@@ -14,8 +14,8 @@ use Rattle.std.proofs.lemmas.List.Sums.{length-filter}
 use Rattle.std.proofs.lemmas.Map.Keys.{IsDistinct-IsPermutation}
 use Rattle.std.proofs.lemmas.Map.Made.{length-le_from_is_member}
 use Rattle.vt_pages.specs.Shape.{Shape}
-use Rattle.vt_pages.specs.Pages.{levels_of, pages_of, line_of, level_of}
-use Rattle.vt_pages.specs.Lookups.{step_of}
+use Rattle.vt_pages.specs.Pages.{levels_of, pages_of, ancestors_of, level_of}
+use Rattle.vt_pages.specs.Lookups.{next_finer_page}
 use Rattle.vt_pages.proofs.Parents.{level_below}
 use Rattle.vt_feedback.specs.declared.Wanted.{Wanted}
 use Rattle.vt_feedback.specs.Wants.{pages_wanted}
@@ -71,7 +71,7 @@ from_map g (z ∷ zs) x there = pick (nat_eq x (g z)) refl there (from_map g zs 
   pick true same rest more = (z, or_left (nat_eq z z) (is_in zs z) (self_eq z), sym (nat_eq_true x (g z) same))
   pick false other rest more = let h = more rest in (h.0, or_right (nat_eq h.0 z) (is_in zs h.0) h.1, h.2)
 
--- a missing page is the step of an unmapped wanted page
+-- a missing page is the next finer page of an unmapped wanted page
 pub record IsMissing (v : RecencyView) (wants : List Wanted) (x : ℕ) : Type 0 where
   pub page : ℕ
   pub wanted : is_in (pages_wanted wants) page ≡ true
@@ -98,8 +98,8 @@ pub missing_is : (v : RecencyView) (wants : List Wanted) (x : ℕ) → IsTable v
 unfolding missing_pages missing_from
 missing_is v wants x table inside there =
     let t : ℕ → Bool = λ p. not (is_mapped v.entries p) in
-    let found = from_map (step_of v.shape (is_mapped v.entries)) (filter (λ p. not (is_mapped v.entries p)) (pages_wanted wants)) x
-    (sym (is_in-each_once (map (step_of v.shape (is_mapped v.entries)) (filter (λ p. not (is_mapped v.entries p)) (pages_wanted wants))) x) ∙ there) in
+    let found = from_map (next_finer_page v.shape (is_mapped v.entries)) (filter (λ p. not (is_mapped v.entries p)) (pages_wanted wants)) x
+    (sym (is_in-each_once (map (next_finer_page v.shape (is_mapped v.entries)) (filter (λ p. not (is_mapped v.entries p)) (pages_wanted wants))) x) ∙ there) in
     let parts = sym (is_in-filter (λ p. not (is_mapped v.entries p)) (pages_wanted wants) found.0) ∙ found.1 in
     let wanted : is_in (pages_wanted wants) found.0 ≡ true = first_true (is_in (pages_wanted wants) found.0) (not (is_mapped v.entries found.0)) parts in
     let low : is_mapped v.entries found.0 ≡ false = not_true (is_mapped v.entries found.0)
@@ -115,14 +115,14 @@ missing_is v wants x table inside there =
     }
 
 -- what stands in a wanted page's line stands in the lines
-pub in_wanted_lines : (s : Shape) (ps : List ℕ) (p x : ℕ) → is_in ps p ≡ true → is_in (line_of s p) x ≡ true → is_in (line_pages s ps) x ≡ true
+pub in_wanted_lines : (s : Shape) (ps : List ℕ) (p x : ℕ) → is_in ps p ≡ true → is_in (ancestors_of s p) x ≡ true → is_in (line_pages s ps) x ≡ true
 in_wanted_lines s ps p x there line = in_lines s ps x ∙ any ps there where
-  any : (qs : List ℕ) → is_in qs p ≡ true → list_any (λ q. is_in (line_of s q) x) qs ≡ true
+  any : (qs : List ℕ) → is_in qs p ≡ true → list_any (λ q. is_in (ancestors_of s q) x) qs ≡ true
   any [] h = h
   any (q ∷ qs) h = pick (nat_eq p q) refl h (any qs) where
-    pick : (b : Bool) → nat_eq p q ≡ b → (b || is_in qs p) ≡ true → (is_in qs p ≡ true → list_any (λ r. is_in (line_of s r) x) qs ≡ true)
-        → (is_in (line_of s q) x || list_any (λ r. is_in (line_of s r) x) qs) ≡ true
-    pick true same rest more = or_left _ _ (ap (λ k. is_in (line_of s k) x) (sym (nat_eq_true p q same)) ∙ line)
+    pick : (b : Bool) → nat_eq p q ≡ b → (b || is_in qs p) ≡ true → (is_in qs p ≡ true → list_any (λ r. is_in (ancestors_of s r) x) qs ≡ true)
+        → (is_in (ancestors_of s q) x || list_any (λ r. is_in (ancestors_of s r) x) qs) ≡ true
+    pick true same rest more = or_left _ _ (ap (λ k. is_in (ancestors_of s k) x) (sym (nat_eq_true p q same)) ∙ line)
     pick false other rest more = or_right _ _ (more rest)
 
 past : (xs : List ℕ) (k : ℕ) → length xs ≤ k → get_or xs k 0 ≡ 0
@@ -190,7 +190,7 @@ needed_pages v wants = filter (λ p. not (is_pinned v p)) (line_pages v.shape (p
 
 missing_needed : (v : RecencyView) (wants : List Wanted) (x : ℕ) → IsTable v → IsMissing v wants x → is_in (needed_pages v wants) x ≡ true
 missing_needed v wants x table h =
-    let line = front_in (is_mapped v.entries) (line_of v.shape h.page) x h.step.before in
+    let line = front_in (is_mapped v.entries) (ancestors_of v.shape h.page) x h.step.before in
     is_in-filter (λ p. not (is_pinned v p)) (line_pages v.shape (pages_wanted wants)) x
     ∙ both (in_lines_of v wants x) (not (is_pinned v x)) (in_wanted_lines v.shape (pages_wanted wants) h.page x h.wanted line.in_list)
     (ap not (unpinned (is_pinned v x) refl)) where
@@ -200,7 +200,7 @@ missing_needed v wants x table h =
 
 pub missing_distinct : (v : RecencyView) (wants : List Wanted) → IsDistinct nat_eq (missing_pages v wants)
 unfolding missing_pages missing_from
-missing_distinct v wants = each_once_distinct (map (step_of v.shape (is_mapped v.entries)) (filter (λ p. not (is_mapped v.entries p)) (pages_wanted wants)))
+missing_distinct v wants = each_once_distinct (map (next_finer_page v.shape (is_mapped v.entries)) (filter (λ p. not (is_mapped v.entries p)) (pages_wanted wants)))
 
 twice : (b : Bool) → b ≡ not (not b)
 twice true = refl

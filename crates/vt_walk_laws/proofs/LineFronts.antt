@@ -4,8 +4,8 @@ use Rattle.std.specs.List.{filter, flat_map, position_or_len}
 use Rattle.std.proofs.lemmas.Bool.{false≢true}
 use Rattle.std.proofs.lemmas.List.Elements.{filter-append}
 use Rattle.vt_pages.specs.Shape.{Shape}
-use Rattle.vt_pages.specs.Pages.{levels_of, pages_of, index_of, IsWithinLimits, level_of, name_at, parent_name, parent_of, line_of}
-use Rattle.vt_pages.specs.Lookups.{step_of}
+use Rattle.vt_pages.specs.Pages.{levels_of, pages_of, index_of, IsWithinLimits, level_of, name_at, parent_name, parent_of, ancestors_of}
+use Rattle.vt_pages.specs.Lookups.{next_finer_page}
 use Rattle.vt_pages.proofs.Lines.{parent_is, parent_none}
 use Rattle.vt_pages.proofs.Parents.{parent_facts, root_facts, line_begins}
 use Rattle.vt_pages.proofs.Steps.{step_root, step_below, step_up}
@@ -109,15 +109,15 @@ pub record IsStep (s : Shape) (m : ℕ → Bool) (p x : ℕ) : Type 0 where
   pub inside : x < pages_of s
   pub unmapped : m x ≡ false
   pub parent : (q : ℕ) → parent_of s x ≡ Some q → m q ≡ true
-  pub before : is_in (front m (line_of s p)) x ≡ true
+  pub before : is_in (front m (ancestors_of s p)) x ≡ true
 
-own : (s : Shape) (m : ℕ → Bool) (p : ℕ) → IsWithinLimits s → p < pages_of s → m p ≡ false → is_in (front m (line_of s p)) p ≡ true
+own : (s : Shape) (m : ℕ → Bool) (p : ℕ) → IsWithinLimits s → p < pages_of s → m p ≡ false → is_in (front m (ancestors_of s p)) p ≡ true
 own s m p limits inside low =
     let l = line_begins s p limits inside in
     ap (λ (k : List ℕ). is_in (front m k) p) l.1 ∙ ap (λ (k : List ℕ). is_in k p) (front_more m p l.0 low) ∙ in_head p (front m l.0)
 
-step_from : (s : Shape) (m : ℕ → Bool) (p q : ℕ) → IsWithinLimits s → p < pages_of s → m p ≡ false → parent_of s p ≡ Some q → line_of s p ≡ p ∷ line_of s q
-    → (b : Bool) → m q ≡ b → (m q ≡ false → IsStep s m q (step_of s m q)) → IsStep s m p (step_of s m p)
+step_from : (s : Shape) (m : ℕ → Bool) (p q : ℕ) → IsWithinLimits s → p < pages_of s → m p ≡ false → parent_of s p ≡ Some q → ancestors_of s p ≡ p ∷ ancestors_of s q
+    → (b : Bool) → m q ≡ b → (m q ≡ false → IsStep s m q (next_finer_page s m q)) → IsStep s m p (next_finer_page s m p)
 step_from s m p q limits inside low parent line true high rest = subst (IsStep s m p) (step_below s m p q limits inside parent low high) (record {
   inside = inside;
   unmapped = low;
@@ -130,13 +130,13 @@ step_from s m p q limits inside low parent line false high rest =
       inside = r.inside;
       unmapped = r.unmapped;
       parent = r.parent;
-      before = ap (λ (k : List ℕ). is_in (front m k) (step_of s m q)) line
-          ∙ ap (λ (k : List ℕ). is_in k (step_of s m q)) (front_more m p (line_of s q) low)
-          ∙ in_tail (step_of s m q) p (front m (line_of s q)) r.before;
+      before = ap (λ (k : List ℕ). is_in (front m k) (next_finer_page s m q)) line
+          ∙ ap (λ (k : List ℕ). is_in k (next_finer_page s m q)) (front_more m p (ancestors_of s q) low)
+          ∙ in_tail (next_finer_page s m q) p (front m (ancestors_of s q)) r.before;
     })
 
 pub step_is : (s : Shape) (m : ℕ → Bool) (up p : ℕ) → IsWithinLimits s → level_of s p + up + 1 ≡ levels_of s → p < pages_of s → m p ≡ false
-    → IsStep s m p (step_of s m p)
+    → IsStep s m p (next_finer_page s m p)
 step_is s m zero p limits level inside low =
     let none : parent_of s p ≡ None = parent_none s p (omega arith) in
     subst (IsStep s m p) (step_root s m p limits inside none) (record {
@@ -153,7 +153,7 @@ step_is s m (suc up) p limits level inside low =
 
 -- pages whose parents are mapped are steps of each line
 pub line_steps : (s : Shape) (m b : ℕ → Bool) (up p : ℕ) → IsWithinLimits s → level_of s p + up + 1 ≡ levels_of s → p < pages_of s
-    → ((x q : ℕ) → b x ≡ true → parent_of s x ≡ Some q → m q ≡ true) → AreSteps b m (line_of s p)
+    → ((x q : ℕ) → b x ≡ true → parent_of s x ≡ Some q → m q ≡ true) → AreSteps b m (ancestors_of s p)
 line_steps s m b zero p limits level inside high = subst (AreSteps b m) (sym (root_facts s p limits inside (parent_none s p (omega arith)))) (λ is. tt, tt)
 line_steps s m b (suc up) p limits level inside high =
     let q : ℕ = index_of s (parent_name (name_at s p)) in

@@ -13,8 +13,8 @@ use Rattle.vt_plan.specs.Missing.{is_mapped}
 use Rattle.vt_evict.specs.Batches.{IsSettledTable, read_entries}
 use Rattle.vt_evict.specs.Plans.{missing_pages, plan_of}
 use Rattle.vt_machine.specs.Outcomes.{lost_count}
-use Rattle.vt_turns.specs.declared.mode.Mode.{Mode}
-use Rattle.vt_turns.specs.declared.mode.Mode.TheVariants.{Settled}
+use Rattle.vt_walk_decisions.specs.declared.mode.Mode.{Mode}
+use Rattle.vt_walk_decisions.specs.declared.mode.Mode.TheVariants.{Settled}
 use Rattle.vt_walk.specs.Fits.{WalkSetup, Fits}
 use Rattle.vt_walk.specs.Runs.{WalkPass, IsWalkSetup, recency_after, plan_after, GoesOn, IsRun}
 use Rattle.vt_walk_laws.specs.PassCounts.{pages_to_load, most_before, mapped_after, batch_pages}
@@ -105,7 +105,7 @@ loading w p q rest h mode run same none =
     let v : RecencyView = recency_after w (q ∷ rest) in
     let u : RecencyView = recency_after w (p ∷ q ∷ rest) in
     let kept = run_kept w (q ∷ rest) h run.0 in
-    let goes = fits_of w q mode run.1.turn.0 in
+    let goes = fits_of w q mode run.1.step.0 in
     let f = fitting w q rest h run.0 goes.1 in
     let reads : read_entries p.batch p.losses ≡ plan_of (recency_after w (q ∷ rest)) q.wants w.most = read_all p.batch p.losses run.1.outcome.told
     none ∙ run.1.planned in

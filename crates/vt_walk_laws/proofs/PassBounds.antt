@@ -15,8 +15,8 @@ use Rattle.vt_plan.specs.PageLists.{is_in}
 use Rattle.vt_evict.proofs.ListLemmas.{each_once_distinct}
 use Rattle.vt_evict.proofs.SettleLemmas.{self_eq}
 use Rattle.vt_machine.specs.Outcomes.{lost_count}
-use Rattle.vt_turns.specs.declared.mode.Mode.{Mode}
-use Rattle.vt_turns.specs.declared.mode.Mode.TheVariants.{Settled}
+use Rattle.vt_walk_decisions.specs.declared.mode.Mode.{Mode}
+use Rattle.vt_walk_decisions.specs.declared.mode.Mode.TheVariants.{Settled}
 use Rattle.vt_walk.specs.Fits.{WalkSetup, Fits}
 use Rattle.vt_walk.specs.Runs.{WalkPass, IsWalkSetup, recency_after, plan_after, Finishes, IsFinished, IsPictureAfter, GoesOn, IsRun, planned_in}
 use Rattle.vt_walk.specs.Logs.{passes_of}
@@ -30,7 +30,7 @@ use Rattle.vt_walk_laws.proofs.Counted.{newest_of, loaded_of, end_of, picture_pa
 
 -- a pass after which a picture goes on did not finish it
 goes_unfinished : (w : WalkSetup) (p q : WalkPass) (rest : List WalkPass) → IsRun w (p ∷ q ∷ rest) → p.picture ≡ q.picture → IsFinished w q rest → ⊥
-goes_unfinished w p q rest run same is = pick run.1.turn.1 where
+goes_unfinished w p q rest run same is = pick run.1.step.1 where
   pick : IsPictureAfter (IsFinished w q rest) q.picture p.picture → ⊥
   pick (inl next) = absurd (omega (arith, next.1, same))
   pick (inr on) = on.0 is
@@ -71,7 +71,7 @@ stops : (w : WalkSetup) (p q : WalkPass) (rest : List WalkPass) → IsWalkSetup 
     → p.batch ≡ [] → IsFinished w p (q ∷ rest)
 stops w p q rest h mode run same goes empty =
     let g = fits_of w p mode goes in
-    let before = fits_of w q mode run.1.turn.0 in
+    let before = fits_of w q mode run.1.step.0 in
     let l = loading w p q rest h mode run same g.0 in
     let nothing : to_load_after w (q ∷ rest) q.wants ≡ [] = done w q rest h run.0 before.1 (sym run.1.planned ∙ empty) in
     let after : to_load_after w (p ∷ q ∷ rest) q.wants ≡ [] = l.left ∙ ap (filter (λ x. not (is_in (batch_pages p.batch) x))) nothing in
@@ -86,7 +86,7 @@ first_unfinished w (q ∷ later) p first before run same is = first_unfinished w
 
 first_goes : (w : WalkSetup) (later : List WalkPass) (p first : WalkPass) (before : List WalkPass) → w.mode ≡ Settled
     → IsRun w ((p ∷ later) ++ first ∷ before) → IsRun w (first ∷ before) × Fits w first.picture
-first_goes w [] p first before mode run = (run.0, (fits_of w first mode run.1.turn.0).1)
+first_goes w [] p first before mode run = (run.0, (fits_of w first mode run.1.step.0).1)
 first_goes w (q ∷ later) p first before mode run = first_goes w later q first before mode run.0
 
 pub one_pass : (w : WalkSetup) (later : List WalkPass) (first : WalkPass) (before : List WalkPass) → IsFinishedPicture w later first before
@@ -190,7 +190,7 @@ have_full w (p ∷ []) first before h mode run same load none =
     let m = more_full w p first before 0 0 0 (most_in_line w first before) first.wants l refl load.0 (omega arith) (omega arith) in
     record { full = m.0; entries = omega (arith, m.1, length-append p.batch []); wants = l.wants; shorter = m.2 }
 have_full w (p ∷ q ∷ later) first before h mode run same load none =
-    let goes = fits_of w q mode run.1.turn.0 in
+    let goes = fits_of w q mode run.1.step.0 in
     let n = have_full w (q ∷ later) first before h mode run.0 same.1 load.1 goes.0 in
     let l = loading w p q (later ++ first ∷ before) h mode run (same.0 ∙ sym same.1.0) none in
     let m = more_full w p q (later ++ first ∷ before) (length (q ∷ later)) (length (planned_in (q ∷ later))) n.full (most_in_line w first before)
@@ -207,20 +207,20 @@ all_load : (w : WalkSetup) (last : WalkPass) (later : List WalkPass) (first : Wa
 all_load w last [] first before h mode run same = tt
 all_load w last (p ∷ []) first before h mode run same = (
   some_entry p.batch (λ empty. goes_unfinished w last p (first ∷ before) run (same.0
-      ∙ sym same.1.0) (stops w p first before h mode run.0 same.1.0 run.1.turn.0 empty)),
+      ∙ sym same.1.0) (stops w p first before h mode run.0 same.1.0 run.1.step.0 empty)),
   tt,
 )
 all_load w last (p ∷ q ∷ later) first before h mode run same = (
   some_entry p.batch (λ empty. goes_unfinished w last p (q ∷ later ++ first ∷ before) run (same.0 ∙ sym same.1.0)
-      (stops w p q (later ++ first ∷ before) h mode run.0 (same.1.0 ∙ sym same.1.1.0) run.1.turn.0 empty)),
+      (stops w p q (later ++ first ∷ before) h mode run.0 (same.1.0 ∙ sym same.1.1.0) run.1.step.0 empty)),
   all_load w p (q ∷ later) first before h mode run.0 same.1,
 )
 
 newest_kept : (w : WalkSetup) (last : WalkPass) (later : List WalkPass) (first : WalkPass) (before : List WalkPass) → w.mode ≡ Settled
     → IsRun w (last ∷ later ++ first ∷ before)
     → lost_count (newest_of later first).losses ≡ 0
-newest_kept w last [] first before mode run = (fits_of w first mode run.1.turn.0).0
-newest_kept w last (p ∷ later) first before mode run = (fits_of w p mode run.1.turn.0).0
+newest_kept w last [] first before mode run = (fits_of w first mode run.1.step.0).0
+newest_kept w last (p ∷ later) first before mode run = (fits_of w p mode run.1.step.0).0
 
 pub few_passes : (w : WalkSetup) (later : List WalkPass) (first : WalkPass) (before : List WalkPass) → IsFinishedPicture w later first before
     → length (passes_of first.picture (later ++ first ∷ before)) ≤ 2 + length (picture_pages w first before) / w.most + most_in_line w first before

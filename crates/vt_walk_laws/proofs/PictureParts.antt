@@ -5,7 +5,7 @@ use Rattle.std.specs.Prelude.{IsSome}
 use Rattle.std.proofs.lemmas.Bool.{false≢true, cases_lt}
 use Rattle.std.proofs.lemmas.Bool.Decides.{nat_tests}
 use Rattle.vt_journal.specs.Changes.{newest}
-use Rattle.vt_turns.specs.declared.mode.Mode.TheVariants.{Settled}
+use Rattle.vt_walk_decisions.specs.declared.mode.Mode.TheVariants.{Settled}
 use Rattle.vt_walk.specs.Fits.{WalkSetup}
 use Rattle.vt_walk.specs.Runs.{WalkPass, IsWalkSetup, IsFinished, IsPictureAfter, GoesOn, IsRun, IsWhole, journal_after}
 use Rattle.vt_walk.specs.Logs.{passes_of}
@@ -22,7 +22,7 @@ skipped p passes k other = ap (λ (b : Bool). cond b (p ∷ passes_of k passes) 
 none_above : (w : WalkSetup) (q : WalkPass) (rest : List WalkPass) (k : ℕ) → IsRun w (q ∷ rest) → q.picture < k → passes_of k (q ∷ rest) ≡ []
 none_above w q [] k run below = skipped q [] k (λ same. absurd (omega (arith, same, below)))
 none_above w q (r ∷ rest) k run below =
-    skipped q (r ∷ rest) k (λ same. absurd (omega (arith, same, below))) ∙ none_above w r rest k run.0 (pick run.1.turn.1) where
+    skipped q (r ∷ rest) k (λ same. absurd (omega (arith, same, below))) ∙ none_above w r rest k run.0 (pick run.1.step.1) where
       pick : IsPictureAfter (IsFinished w r rest) r.picture q.picture → r.picture < k
       pick (inl next) = omega (arith, next.1, below)
       pick (inr on) = omega (arith, on.1, below)
@@ -39,7 +39,7 @@ record IsSplit (passes : List WalkPass) (picture : ℕ) : Type 0 where
 
 split : (w : WalkSetup) (p : WalkPass) (passes : List WalkPass) → IsRun w (p ∷ passes) → IsSplit (p ∷ passes) p.picture
 split w p [] run = record { later = []; first = p; before = []; whole = refl; number = refl; later_passes = tt; first_pass = refl }
-split w p (q ∷ rest) run = pick run.1.turn.1 (split w q rest run.0) where
+split w p (q ∷ rest) run = pick run.1.step.1 (split w q rest run.0) where
   pick : IsPictureAfter (IsFinished w q rest) q.picture p.picture → IsSplit (q ∷ rest) q.picture → IsSplit (p ∷ q ∷ rest) p.picture
   pick (inl next) s = record {
     later = [];
@@ -95,14 +95,14 @@ more_passes w p passes k other s = record {
 
 pub earlier_picture : (w : WalkSetup) (p : WalkPass) (passes : List WalkPass) (k : ℕ) → IsWalkSetup w → w.mode ≡ Settled → IsRun w (p ∷ passes) → k < p.picture
     → HasPicture w (p ∷ passes) k
-earlier_picture w p [] k h mode run below = absurd (let first = run.1.turn in omega (arith, first, below))
+earlier_picture w p [] k h mode run below = absurd (let first = run.1.step in omega (arith, first, below))
 earlier_picture w p (q ∷ rest) k h mode run below =
-    more_passes w p (q ∷ rest) k (λ same. absurd (omega (arith, same, below))) (pick run.1.turn.1 (earlier_picture w q rest k h mode run.0)) where
+    more_passes w p (q ∷ rest) k (λ same. absurd (omega (arith, same, below))) (pick run.1.step.1 (earlier_picture w q rest k h mode run.0)) where
       at : IsFinished w q rest → (k < q.picture → HasPicture w (q ∷ rest) k) → k ≤ q.picture → (k < q.picture) ⊎ (q.picture ≤ k) → HasPicture w (q ∷ rest) k
       at finished before most (inl earlier) = before earlier
       at finished before most (inr least) =
           let same : q.picture ≡ k = omega (arith, most, least) in
-          subst (HasPicture w (q ∷ rest)) same (newest_picture w q rest h mode run.0 run.1.turn.0 finished)
+          subst (HasPicture w (q ∷ rest)) same (newest_picture w q rest h mode run.0 run.1.step.0 finished)
 
       pick : IsPictureAfter (IsFinished w q rest) q.picture p.picture → (k < q.picture → HasPicture w (q ∷ rest) k) → HasPicture w (q ∷ rest) k
       pick (inl next) before = at next.0 before (omega (arith, next.1, below)) (cases_lt k q.picture)

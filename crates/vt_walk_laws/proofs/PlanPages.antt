@@ -8,8 +8,8 @@ use Rattle.std.proofs.lemmas.Bool.Decides.{nat_tests}
 use Rattle.std.proofs.lemmas.List.{take_more}
 use Rattle.std.proofs.lemmas.List.FromFn.{map-range_with_len_more}
 use Rattle.vt_pages.specs.Shape.{Shape}
-use Rattle.vt_pages.specs.Pages.{levels_of, pages_of, line_of, level_of, IsWithinLimits}
-use Rattle.vt_pages.specs.Lookups.{step_of, pages_before}
+use Rattle.vt_pages.specs.Pages.{levels_of, pages_of, ancestors_of, level_of, IsWithinLimits}
+use Rattle.vt_pages.specs.Lookups.{next_finer_page, pages_before}
 use Rattle.vt_pages.proofs.Parents.{level_below, line_begins}
 use Rattle.vt_feedback.specs.declared.Wanted.{Wanted}
 use Rattle.vt_feedback.specs.Wants.{pages_wanted}
@@ -178,7 +178,7 @@ pub front_after : (v u : RecencyView) (wants : List Wanted) (q p : ℕ) → IsTa
     (before_lookup v.shape (is_mapped v.entries) p)
 front_after v u wants q p table inside settled wanted =
     let below = level_below v.shape p table.limits (inside p wanted) in
-    front_loaded (is_mapped v.entries) (is_mapped u.entries) (is_in (batch_pages (plan_of v wants q))) (line_of v.shape p)
+    front_loaded (is_mapped v.entries) (is_mapped u.entries) (is_in (batch_pages (plan_of v wants q))) (ancestors_of v.shape p)
     (λ x there. mapped_by v u wants q x settled (in_wanted_lines v.shape (pages_wanted wants) p x wanted there))
     (line_steps v.shape (is_mapped v.entries) (is_in (batch_pages (plan_of v wants q))) (levels_of v.shape - 1 - level_of v.shape p) p table.limits
     (omega (arith, below)) (inside p wanted)
@@ -213,12 +213,12 @@ plan_to_load v wants q x table inside there =
 
 -- an unmapped wanted page has a step, which is missing
 pub step_missing : (v : RecencyView) (wants : List Wanted) (p : ℕ) → is_in (pages_wanted wants) p ≡ true → is_mapped v.entries p ≡ false
-    → is_in (missing_pages v wants) (step_of v.shape (is_mapped v.entries) p) ≡ true
+    → is_in (missing_pages v wants) (next_finer_page v.shape (is_mapped v.entries) p) ≡ true
 unfolding missing_pages missing_from
 step_missing v wants p wanted low =
-    is_in-each_once (map (step_of v.shape (is_mapped v.entries)) (filter (λ p. not (is_mapped v.entries p)) (pages_wanted wants)))
-    (step_of v.shape (is_mapped v.entries) p)
-    ∙ in_map (step_of v.shape (is_mapped v.entries)) (filter (λ p. not (is_mapped v.entries p)) (pages_wanted wants)) p
+    is_in-each_once (map (next_finer_page v.shape (is_mapped v.entries)) (filter (λ p. not (is_mapped v.entries p)) (pages_wanted wants)))
+    (next_finer_page v.shape (is_mapped v.entries) p)
+    ∙ in_map (next_finer_page v.shape (is_mapped v.entries)) (filter (λ p. not (is_mapped v.entries p)) (pages_wanted wants)) p
     (is_in-filter (λ p. not (is_mapped v.entries p)) (pages_wanted wants) p
     ∙ both (is_in (pages_wanted wants) p) (not (is_mapped v.entries p)) wanted (ap not low))
 
@@ -242,7 +242,7 @@ pub none_missing : (v : RecencyView) (wants : List Wanted) (p : ℕ) → missing
 none_missing v wants p none wanted = pick (is_mapped v.entries p) refl where
   pick : (b : Bool) → is_mapped v.entries p ≡ b → is_mapped v.entries p ≡ true
   pick true e = e
-  pick false e = absurd (false≢true (sym (ap (λ (l : List ℕ). is_in l (step_of v.shape (is_mapped v.entries) p)) none) ∙ step_missing v wants p wanted e))
+  pick false e = absurd (false≢true (sym (ap (λ (l : List ℕ). is_in l (next_finer_page v.shape (is_mapped v.entries) p)) none) ∙ step_missing v wants p wanted e))
 
 -- where nothing is missing, nothing is to be loaded
 pub missing_done : (v : RecencyView) (wants : List Wanted) → IsTable v → ArePages v wants → missing_pages v wants ≡ []
@@ -292,7 +292,7 @@ most_falls v u wants q table inside settled = most_least v.shape (is_mapped u.en
     let a = ap (λ (l : List ℕ). length l) (front_after v u wants q p table inside settled wanted) in
     let b = filter_fewer (λ x. not (is_in (batch_pages (plan_of v wants q)) x)) (before_lookup v.shape (is_mapped v.entries) p) in
     let c = most_each v.shape (is_mapped v.entries) (pages_wanted wants) p wanted in
-    omega (arith, a, b, c, length-front (is_mapped u.entries) (line_of v.shape p), length-front (is_mapped v.entries) (line_of v.shape p)))
+    omega (arith, a, b, c, length-front (is_mapped u.entries) (ancestors_of v.shape p), length-front (is_mapped v.entries) (ancestors_of v.shape p)))
 
 -- where all missing pages are loaded, each front that is not empty has one page fewer
 pub most_less : (v u : RecencyView) (wants : List Wanted) (q : ℕ) → IsTable v → ArePages v wants → IsSettledTable v.entries (plan_of v wants q) u.entries
@@ -316,7 +316,7 @@ most_less v u wants q table inside settled all some =
           let h = missing_is v wants x.0 table inside (plan_missing v wants q x.0 x.1) in
           let a = some_in (before_lookup v.shape (is_mapped v.entries) h.page) x.0 h.step.before in
           let c = most_each v.shape (is_mapped v.entries) (pages_wanted wants) h.page h.wanted in
-          omega (arith, a, c, length-front (is_mapped v.entries) (line_of v.shape h.page))
+          omega (arith, a, c, length-front (is_mapped v.entries) (ancestors_of v.shape h.page))
 
       loaded : (p : ℕ) → is_in (pages_wanted wants) p ≡ true → is_mapped v.entries p ≡ false
           → length (filter (λ x. not (is_in (batch_pages (plan_of v wants q)) x)) (before_lookup v.shape (is_mapped v.entries) p)) + 1 ≤ length
@@ -326,8 +326,8 @@ most_less v u wants q table inside settled all some =
           let h = step_is v.shape (is_mapped v.entries) (levels_of v.shape - 1 - level_of v.shape p) p table.limits (omega (arith, below))
           (inside p wanted) low in
           filter_less (λ x. not (is_in (batch_pages (plan_of v wants q)) x)) (before_lookup v.shape (is_mapped v.entries) p)
-          (step_of v.shape (is_mapped v.entries) p) h.before
-          (ap not (ap (λ (l : List ℕ). is_in l (step_of v.shape (is_mapped v.entries) p)) (plan_all v wants q all) ∙ step_missing v wants p wanted low))
+          (next_finer_page v.shape (is_mapped v.entries) p) h.before
+          (ap not (ap (λ (l : List ℕ). is_in l (next_finer_page v.shape (is_mapped v.entries) p)) (plan_all v wants q all) ∙ step_missing v wants p wanted low))
 
       each : (p : ℕ) → is_in (pages_wanted wants) p ≡ true
           → pages_before v.shape (is_mapped u.entries) p ≤ most_before v.shape (is_mapped v.entries) (pages_wanted wants) - 1
@@ -341,8 +341,8 @@ most_less v u wants q table inside settled all some =
         pick true high =
             let none = ap (λ (l : List ℕ). length l) (front_none v.shape (is_mapped v.entries) p table.limits (inside p wanted) high) in
             let b = filter_fewer (λ x. not (is_in (batch_pages (plan_of v wants q)) x)) (before_lookup v.shape (is_mapped v.entries) p) in
-            omega (arith, a, none, b, length-front (is_mapped u.entries) (line_of v.shape p))
+            omega (arith, a, none, b, length-front (is_mapped u.entries) (ancestors_of v.shape p))
         pick false low =
             let b = loaded p wanted low in
             let c = most_each v.shape (is_mapped v.entries) (pages_wanted wants) p wanted in
-            omega (arith, a, b, c, length-front (is_mapped u.entries) (line_of v.shape p), length-front (is_mapped v.entries) (line_of v.shape p))
+            omega (arith, a, b, c, length-front (is_mapped u.entries) (ancestors_of v.shape p), length-front (is_mapped v.entries) (ancestors_of v.shape p))

@@ -13,16 +13,16 @@ use Rattle.vt_pages.specs.Pages.{levels_of, pages_below, pages_of, index_at, roo
 use Rattle.vt_pages.proofs.Counts.{pages_below_le}
 use Rattle.vt_words.specs.Names.{picture_name}
 use Rattle.vt_tiles.specs.Format.{stored}
-use Rattle.vt_files.specs.Dues.{FileDue, with_files}
-use Rattle.vt_files.specs.Pictures.{picture_due, pictures_due}
+use Rattle.vt_files.specs.Expectations.{ExpectedFile, with_files}
+use Rattle.vt_files.specs.Pictures.{expected_picture, expected_pictures}
 use Rattle.vt_journal.specs.declared.changes.Change.{Change}
 use Rattle.vt_journal.specs.declared.changes.RowLine.{RowLine}
 use Rattle.vt_journal.specs.Changes.{Table}
 use Rattle.vt_journal.specs.JournalFlaws.{IsLawful}
 use Rattle.vt_journal.specs.JournalText.{Pass, Content, content_changes, journal_text}
 use Rattle.vt_journal.proofs.Contents.{content_unique}
-use Rattle.vt_shown.specs.Replays.{IsReplayOf}
-use Rattle.vt_shown.specs.Scenes.{Scene}
+use Rattle.vt_pictures.specs.Replays.{IsReplayOf}
+use Rattle.vt_pictures.specs.Scenes.{Scene}
 use Rattle.vt_walk.specs.Fits.{WalkSetup}
 use Rattle.vt_walk.specs.Folders.{with_pictures, with_walk, IsApart}
 use Rattle.vt_walk.specs.Runs.{WalkPass, IsWalkSetup, IsRun, IsWhole, IsPictureAfter, journal_after, told_of, passes_told, run_content, run_text}
@@ -30,8 +30,8 @@ use Rattle.vt_walk.specs.Shown.{last_rows, IsRunPicture}
 use Rattle.vt_walk.specs.Standing.{HasReached, Stands, Finished}
 use Rattle.vt_walk.specs.States.{WalkState}
 use Rattle.vt_machine.specs.Drawings.{Drawing}
-use Rattle.vt_turns.specs.declared.mode.Mode.{Mode}
-use Rattle.vt_turns.specs.declared.settings.Settings.{Settings}
+use Rattle.vt_walk_decisions.specs.declared.mode.Mode.{Mode}
+use Rattle.vt_walk_decisions.specs.declared.settings.Settings.{Settings}
 use Rattle.vt_walk.specs.Walks.{WalkGiven, WalkNames, AreSettings, walk_setup}
 use Rattle.vt_walk.proofs.Agreeing.{root_last}
 use Rattle.vt_walk.proofs.Apart.{other_name}
@@ -39,7 +39,7 @@ use Rattle.vt_walk.specs.Written.{IsWritten, AreWritten}
 use Rattle.vt_walk.proofs.Showing.{rows_after}
 use Rattle.vt_walk.proofs.Telling.{told_changes, run_is_lawful}
 use Rattle.vt_replay.specs.Outcomes.{IsReplayable}
-use Rattle.vt_replay.specs.Replayed.{Under, replayed_rows, lines_after, last_lines, pictures_after, pictures_of, replay_file, replay_due}
+use Rattle.vt_replay.specs.Replayed.{Under, replayed_rows, lines_after, last_lines, pictures_after, pictures_of, replay_file, expected_replay}
 use Rattle.vt_walk_laws.specs.Walked.{IsOfStore, named_pictures}
 use Rattle.vt_replay.proofs.Rows.{replay_is_one}
 
@@ -85,10 +85,10 @@ rows_full w (p ∷ []) picture run low = pick (p.picture == picture) refl where
   pick true same = ap length (rows_after true p [] picture same) ∙ run.1.in_order.of_picture.count
   pick false other =
       let count = count_told w p [] in
-      let first = run.1.turn in
+      let first = run.1.step in
       let same : p.picture ≡ picture = omega (arith, low, count, first) in
       absurd (grind (arith, same, other))
-rows_full w (p ∷ q ∷ passes) picture run low = pick (p.picture == picture) refl (turned run.1.turn.1) (rows_full w (q ∷ passes) picture run.0) where
+rows_full w (p ∷ q ∷ passes) picture run low = pick (p.picture == picture) refl (turned run.1.step.1) (rows_full w (q ∷ passes) picture run.0) where
   count : pictures_of (passes_told w (p ∷ q ∷ passes)) ≡ p.picture + 1
   count = count_told w p (q ∷ passes)
 
@@ -137,26 +137,26 @@ written_again under drawn g b run picture bytes store is_run low written =
 -- the pictures that were written, by their numbers
 named_again : (under : Under) (drawn : PathView → ℕ → ℕ → ℕ → List ℕ → Type 0) (g : WalkGiven) (b prefix : List ℕ) (run : List WalkPass) (pictures : List (List ℕ))
     → IsOfStore under g b → IsRun g.setup run → length pictures ≤ pictures_of (passes_told g.setup run) → AreWritten drawn g run pictures
-    → pictures_due prefix (replay_file under (stored b) g.scene (content_changes g.scene.shape (run_content g.setup run)) (passes_told g.setup run)) (length pictures)
+    → expected_pictures prefix (replay_file under (stored b) g.scene (content_changes g.scene.shape (run_content g.setup run)) (passes_told g.setup run)) (length pictures)
     ≡ named_pictures prefix pictures
 named_again under drawn g b prefix run [] store is_run most written = refl
 named_again under drawn g b prefix run (bytes ∷ pictures) store is_run most written =
     let file : ℕ → List ℕ = replay_file under (stored b) g.scene (content_changes g.scene.shape (run_content g.setup run)) (passes_told g.setup run) in
     let more : length (bytes ∷ pictures) ≡ length pictures + 1 = omega arith in
-    ap (pictures_due prefix file) more
-    ∙ map-range_with_len_more (picture_due prefix file) 0 (length pictures) (length pictures) (omega arith)
-    ∙ ap (λ (fs : List FileDue). fs ++ picture_due prefix file (length pictures) ∷ [])
+    ap (expected_pictures prefix file) more
+    ∙ map-range_with_len_more (expected_picture prefix file) 0 (length pictures) (length pictures) (omega arith)
+    ∙ ap (λ (fs : List ExpectedFile). fs ++ expected_picture prefix file (length pictures) ∷ [])
     (named_again under drawn g b prefix run pictures store is_run (omega (arith, most)) written.0)
-    ∙ ap (λ (bs : List ℕ). named_pictures prefix pictures ++ picture_due prefix (λ _. bs) (length pictures) ∷ [])
+    ∙ ap (λ (bs : List ℕ). named_pictures prefix pictures ++ expected_picture prefix (λ _. bs) (length pictures) ∷ [])
     (sym (written_again under drawn g b run (length pictures) bytes store is_run (omega (arith, most)) written.1))
 
 -- the files of the replay of a whole run are its pictures
-due_again : (under : Under) (drawn : PathView → ℕ → ℕ → ℕ → List ℕ → Type 0) (g : WalkGiven) (b prefix : List ℕ) (run : List WalkPass) (pictures : List (List ℕ))
+expected_again : (under : Under) (drawn : PathView → ℕ → ℕ → ℕ → List ℕ → Type 0) (g : WalkGiven) (b prefix : List ℕ) (run : List WalkPass) (pictures : List (List ℕ))
     → IsOfStore under g b → IsRun g.setup run → IsWhole g.setup run → length pictures ≡ g.setup.pictures → AreWritten drawn g run pictures
-    → replay_due under g.scene.shape g.scene.depth b g.scene.path prefix (run_content g.setup run) ≡ named_pictures prefix pictures
-due_again under drawn g b prefix run pictures store is_run whole all written =
+    → expected_replay under g.scene.shape g.scene.depth b g.scene.path prefix (run_content g.setup run) ≡ named_pictures prefix pictures
+expected_again under drawn g b prefix run pictures store is_run whole all written =
     let count : pictures_of (passes_told g.setup run) ≡ length pictures = count_whole g.setup run whole ∙ sym all in
-    ap (pictures_due prefix (replay_file under (stored b) g.scene (content_changes g.scene.shape (run_content g.setup run)) (passes_told g.setup run))) count
+    ap (expected_pictures prefix (replay_file under (stored b) g.scene (content_changes g.scene.shape (run_content g.setup run)) (passes_told g.setup run))) count
     ∙ named_again under drawn g b prefix run pictures store is_run (omega (arith, count)) written
 
 run_lawful : (under : Under) (g : WalkGiven) (b : List ℕ) (run : List WalkPass) → IsOfStore under g b → IsWalkSetup g.setup → IsRun g.setup run
@@ -206,16 +206,16 @@ pub count_read : (under : Under) (g : WalkGiven) (b : List ℕ) (run : List Walk
 count_read under g b run content store h is_run whole read =
     subst (λ (c : Content). pictures_of c.passes ≡ g.setup.pictures) (content_is under g b run content store h is_run read) (count_whole g.setup run whole)
 
-pub due_read : (under : Under) (drawn : PathView → ℕ → ℕ → ℕ → List ℕ → Type 0) (g : WalkGiven) (b prefix : List ℕ) (run : List WalkPass) (pictures : List (List ℕ))
+pub expected_read : (under : Under) (drawn : PathView → ℕ → ℕ → ℕ → List ℕ → Type 0) (g : WalkGiven) (b prefix : List ℕ) (run : List WalkPass) (pictures : List (List ℕ))
     (content : Content)
     → IsOfStore under g b → IsWalkSetup g.setup → IsRun g.setup run → IsWhole g.setup run → length pictures ≡ g.setup.pictures → AreWritten drawn g run pictures
     → IsReplayable g.scene.shape g.scene.path (run_text g.setup run) content
-    → replay_due under g.scene.shape g.scene.depth b g.scene.path prefix content ≡ named_pictures prefix pictures
-due_read under drawn g b prefix run pictures content store h is_run whole all written read =
-    subst (λ (c : Content). replay_due under g.scene.shape g.scene.depth b g.scene.path prefix c ≡ named_pictures prefix pictures)
-    (content_is under g b run content store h is_run read) (due_again under drawn g b prefix run pictures store is_run whole all written)
+    → expected_replay under g.scene.shape g.scene.depth b g.scene.path prefix content ≡ named_pictures prefix pictures
+expected_read under drawn g b prefix run pictures content store h is_run whole all written read =
+    subst (λ (c : Content). expected_replay under g.scene.shape g.scene.depth b g.scene.path prefix c ≡ named_pictures prefix pictures)
+    (content_is under g b run content store h is_run read) (expected_again under drawn g b prefix run pictures store is_run whole all written)
 
-file_last : (files : List FileDue) (file : FileDue) (before : Files)
+file_last : (files : List ExpectedFile) (file : ExpectedFile) (before : Files)
     → with_files (files ++ file ∷ []) before ≡ with_bytes file.name file.bytes (with_files files before)
 file_last [] file before = refl
 file_last (f ∷ files) file before = file_last files file (with_bytes f.name f.bytes before)
@@ -270,29 +270,29 @@ stand_again names text pictures before apart = fun_ext (λ q. pick q (held_after
       ∙ sym (ap (λ (b : Bool). if b then Some text else with_pictures names.prefix pictures before q) (other q h.0 h.1 (bytes_eq q names.journal) refl))
   pick q (inr h) = h walked
 
-told_again : (names : WalkNames) (text : List ℕ) (pictures : List (List ℕ)) (due : List FileDue) (first last : Option Files) → IsApart names
-    → due ≡ named_pictures names.prefix pictures → last ≡ option_map (with_walk names text pictures) first → option_map (with_files due) last ≡ last
-told_again names text pictures due None last apart is left = rw left refl
-told_again names text pictures due (Some files) last apart is left =
-    ap (λ (o : Option Files). option_map (with_files due) o) left
-    ∙ ap (λ (fs : List FileDue). Some (with_files fs (with_walk names text pictures files))) is
+told_again : (names : WalkNames) (text : List ℕ) (pictures : List (List ℕ)) (expected : List ExpectedFile) (first last : Option Files) → IsApart names
+    → expected ≡ named_pictures names.prefix pictures → last ≡ option_map (with_walk names text pictures) first → option_map (with_files expected) last ≡ last
+told_again names text pictures expected None last apart is left = rw left refl
+told_again names text pictures expected (Some files) last apart is left =
+    ap (λ (o : Option Files). option_map (with_files expected) o) left
+    ∙ ap (λ (fs : List ExpectedFile). Some (with_files fs (with_walk names text pictures files))) is
     ∙ ap Some (named_stand names.prefix pictures (with_walk names text pictures files) ∙ stand_again names text pictures files apart)
     ∙ sym left
 
 -- a replay in the folder of a finished walk leaves what it holds
 pub left_again : (under : Under) (drawn : PathView → ℕ → ℕ → ℕ → List ℕ → Type 0) (g : WalkGiven) (b : List ℕ) (first last : WalkState) (content : Content)
     → IsOfStore under g b → IsWalkSetup g.setup → (walk : Finished drawn g first last) → IsReplayable g.scene.shape g.scene.path (run_text g.setup walk.run) content
-    → IsApart g.names → option_map (with_files (replay_due under g.scene.shape g.scene.depth b g.scene.path g.names.prefix content)) last.files ≡ last.files
+    → IsApart g.names → option_map (with_files (expected_replay under g.scene.shape g.scene.depth b g.scene.path g.names.prefix content)) last.files ≡ last.files
 left_again under drawn g b first last content store h walk read apart =
-    told_again g.names (run_text g.setup walk.run) walk.pictures (replay_due under g.scene.shape g.scene.depth b g.scene.path g.names.prefix content)
+    told_again g.names (run_text g.setup walk.run) walk.pictures (expected_replay under g.scene.shape g.scene.depth b g.scene.path g.names.prefix content)
     first.files last.files apart
-    (due_read under drawn g b g.names.prefix walk.run walk.pictures content store h walk.is_run walk.whole walk.all walk.written read) (walk.files apart)
+    (expected_read under drawn g b g.names.prefix walk.run walk.pictures content store h walk.is_run walk.whole walk.all walk.written read) (walk.files apart)
 
 -- the pictures that stand of a run's beginning are those of the replay of its journal
 pub standing_again : (under : Under) (drawn : PathView → ℕ → ℕ → ℕ → List ℕ → Type 0) (g : WalkGiven) (b prefix : List ℕ) (run : List WalkPass) (pictures : List (List ℕ))
     (first now : WalkState)
     → IsOfStore under g b → Stands drawn g run pictures first now
-    → pictures_due prefix (replay_file under (stored b) g.scene (content_changes g.scene.shape (run_content g.setup run)) (passes_told g.setup run)) (length pictures)
+    → expected_pictures prefix (replay_file under (stored b) g.scene (content_changes g.scene.shape (run_content g.setup run)) (passes_told g.setup run)) (length pictures)
     ≡ named_pictures prefix pictures
 standing_again under drawn g b prefix run pictures first now store stands =
     named_again under drawn g b prefix run pictures store stands.is_run (reached_told g.setup run (length pictures) stands.reached) stands.written

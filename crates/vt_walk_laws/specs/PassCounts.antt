@@ -4,20 +4,20 @@
 use Rattle.std.specs.Prelude.{◌≡◌, ℕ, max, Bool, List, [], ◌∷◌, ◌++◌, map, take}
 use Rattle.std.specs.List.{flat_map, AllByRecursion}
 use Rattle.vt_pages.specs.Shape.{Shape}
-use Rattle.vt_pages.specs.Pages.{line_of}
+use Rattle.vt_pages.specs.Pages.{ancestors_of}
 use Rattle.vt_pages.specs.Lookups.{pages_before}
 use Rattle.vt_feedback.specs.Wants.{pages_wanted}
 use Rattle.vt_plan.specs.declared.batches.Planned.{Planned}
 use Rattle.vt_plan.specs.PageLists.{each_once}
 use Rattle.vt_plan.specs.Missing.{is_mapped}
-use Rattle.vt_turns.specs.declared.mode.Mode.TheVariants.{Settled}
+use Rattle.vt_walk_decisions.specs.declared.mode.Mode.TheVariants.{Settled}
 use Rattle.vt_walk.specs.Fits.{WalkSetup}
 use Rattle.vt_walk.specs.Runs.{WalkPass, IsWalkSetup, IsRun, IsFinished, GoesOn, recency_after}
 use Rattle.vt_walk.specs.Logs.{passes_of}
 
 -- the pages that stand before the look-up in a page's line
 abbrev pub before_lookup : Shape → (ℕ → Bool) → ℕ → List ℕ
-before_lookup s mapped p = take (pages_before s mapped p) (line_of s p)
+before_lookup s mapped p = take (pages_before s mapped p) (ancestors_of s p)
 
 -- the distinct pages that stand before the look-up in the line of one of some pages
 unfoldable pub pages_to_load : Shape → (ℕ → Bool) → List ℕ → List ℕ

@@ -2,7 +2,7 @@
 use Rattle.std.specs.Prelude.{◌≡◌, ℕ, List, [], ◌∷◌, ◌++◌, Some, length}
 use Rattle.vt_words.specs.Names.{picture_name}
 use Rattle.vt_tiles.specs.Format.{stored}
-use Rattle.vt_files.specs.Dues.{FileDue}
+use Rattle.vt_files.specs.Expectations.{ExpectedFile}
 use Rattle.vt_walk.specs.Walks.{WalkGiven}
 use Rattle.vt_replay.specs.Replayed.{Under}
 
@@ -16,7 +16,7 @@ pub record IsOfStore (under : Under) (g : WalkGiven) (b : List ℕ) : Type 0 whe
   pub shows : g.draws.shows g.scene b ≡ under (stored b) g.scene
 
 -- pictures, the newest first in the list, as files in the order of their numbers, each under its name
-abbrev pub named_pictures : List ℕ → List (List ℕ) → List FileDue
+abbrev pub named_pictures : List ℕ → List (List ℕ) → List ExpectedFile
 named_pictures prefix [] = []
 named_pictures prefix (bytes ∷ pictures) =
     named_pictures prefix pictures ++ record { name = picture_name prefix (length pictures); bytes = bytes } ∷ []

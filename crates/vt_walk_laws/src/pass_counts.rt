@@ -7,7 +7,7 @@ ghost use Rattle.vt_journal.specs.Changes.{newest};
 ghost use Rattle.vt_evict.specs.Plans.{missing_pages};
 ghost use Rattle.vt_plan.specs.PageLists.{is_in};
 ghost use Rattle.vt_feedback.specs.Wants.{pages_wanted};
-ghost use Rattle.vt_turns.specs.declared.mode.Mode.TheVariants.{Settled};
+ghost use Rattle.vt_walk_decisions.specs.declared.mode.Mode.TheVariants.{Settled};
 ghost use Rattle.vt_walk.specs.Fits.{WalkSetup, Fits};
 ghost use Rattle.vt_walk.specs.Runs.{WalkPass, IsWalkSetup, IsRun, IsWhole, IsFinished, GoesOn, journal_after, recency_after, plan_after, planned_in};
 ghost use Rattle.vt_walk.specs.Logs.{passes_of};

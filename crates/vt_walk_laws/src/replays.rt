@@ -5,13 +5,13 @@ ghost use Rattle.vt_outside.specs.Files.{Files};
 ghost use Rattle.vt_pages.specs.Pages.{pinned_of, IsWithinLimits};
 ghost use Rattle.vt_journal.specs.JournalText.{Content, content_changes};
 ghost use Rattle.vt_tiles.specs.Format.{stored};
-ghost use Rattle.vt_files.specs.Dues.{with_files};
-ghost use Rattle.vt_files.specs.Pictures.{pictures_due};
-ghost use Rattle.vt_shown.specs.Scenes.{Scene};
-ghost use Rattle.vt_shown.specs.Replays.{pixel_under};
+ghost use Rattle.vt_files.specs.Expectations.{with_files};
+ghost use Rattle.vt_files.specs.Pictures.{expected_pictures};
+ghost use Rattle.vt_pictures.specs.Scenes.{Scene};
+ghost use Rattle.vt_pictures.specs.Replays.{pixel_under};
 ghost use Rattle.vt_machine.specs.Nearest.{nearest};
-ghost use Rattle.vt_turns.specs.declared.mode.Mode.{Mode};
-ghost use Rattle.vt_turns.specs.declared.settings.Settings.{Settings};
+ghost use Rattle.vt_walk_decisions.specs.declared.mode.Mode.{Mode};
+ghost use Rattle.vt_walk_decisions.specs.declared.settings.Settings.{Settings};
 ghost use Rattle.vt_walk.specs.Fits.{WalkSetup};
 ghost use Rattle.vt_walk.specs.Folders.{with_pictures, IsApart};
 ghost use Rattle.vt_walk.specs.Runs.{WalkPass, IsWalkSetup, IsRun, IsWhole, passes_told, run_content, run_text};
@@ -21,7 +21,7 @@ ghost use Rattle.vt_walk.specs.States.{WalkState};
 ghost use Rattle.vt_walk.specs.Walks.{WalkGiven, WalkNames, AreSettings, given_by};
 ghost use Rattle.vt_walk.specs.Written.{IsDrawnBySome, IsWritten};
 ghost use Rattle.vt_replay.specs.Outcomes.{IsReplayable};
-ghost use Rattle.vt_replay.specs.Replayed.{Under, last_lines, pictures_of, replay_file, replay_due};
+ghost use Rattle.vt_replay.specs.Replayed.{Under, last_lines, pictures_of, replay_file, expected_replay};
 ghost use Rattle.vt_walk_laws.specs.Walked.{IsOfStore, named_pictures};
 
 use vt_machine::PassMachine;
@@ -57,7 +57,7 @@ pub fn replay_gives_what_stands<M: PassMachine>()
         → Stands (IsDrawnBySome M.drawn) g run pictures first now
         → let file = replay_file under (stored b) g.scene (content_changes g.scene.shape (run_content g.setup run))
         (passes_told g.setup run) in
-        pictures_due prefix file (length pictures) ≡ named_pictures prefix pictures }
+        expected_pictures prefix file (length pictures) ≡ named_pictures prefix pictures }
 {}
 
 /// The replay of the journal of a finished walk: its text is that of a lawful journal whose pictures are in the path,
@@ -72,18 +72,18 @@ pub fn replay_gives_the_walk<M: PassMachine>()
         → (walk : Finished (IsDrawnBySome M.drawn) g first last)
         → IsReplayable g.scene.shape g.scene.path (run_text g.setup walk.run) content
         → pictures_of content.passes ≡ g.setup.pictures }
-    ensures due { (under : Under) (g : WalkGiven) (b prefix : List ℕ) (first last : WalkState) (content : Content) → IsOfStore under g b
+    ensures expected { (under : Under) (g : WalkGiven) (b prefix : List ℕ) (first last : WalkState) (content : Content) → IsOfStore under g b
         → IsWalkSetup g.setup
         → (walk : Finished (IsDrawnBySome M.drawn) g first last)
         → IsReplayable g.scene.shape g.scene.path (run_text g.setup walk.run) content
-        → replay_due under g.scene.shape g.scene.depth b g.scene.path prefix content ≡ named_pictures prefix walk.pictures }
+        → expected_replay under g.scene.shape g.scene.depth b g.scene.path prefix content ≡ named_pictures prefix walk.pictures }
     ensures files { (prefix : List ℕ) (pictures : List (List ℕ)) (files : Files)
         → with_files (named_pictures prefix pictures) files ≡ with_pictures prefix pictures files }
     ensures again { (under : Under) (g : WalkGiven) (b : List ℕ) (first last : WalkState) (content : Content) → IsOfStore under g b
         → IsWalkSetup g.setup
         → (walk : Finished (IsDrawnBySome M.drawn) g first last)
         → IsReplayable g.scene.shape g.scene.path (run_text g.setup walk.run) content → IsApart g.names
-        → option_map (with_files (replay_due under g.scene.shape g.scene.depth b g.scene.path g.names.prefix content))
+        → option_map (with_files (expected_replay under g.scene.shape g.scene.depth b g.scene.path g.names.prefix content))
         last.files
         ≡ last.files }
 {}

@@ -20,10 +20,10 @@ ghost use Rattle.vt_machine.specs.Outcomes.{IsBatchFor, IsOutcome, lost_count};
 ghost use Rattle.vt_machine.specs.Requests.{times_planned, lost_entries};
 ghost use Rattle.vt_pages.specs.Shape.{Shape};
 ghost use Rattle.vt_machine.specs.Passes.{MapsNeeded, IsPictured, Ran};
-ghost use Rattle.vt_turns.specs.declared.mode.Mode.TheVariants.{Live, Settled};
+ghost use Rattle.vt_walk_decisions.specs.declared.mode.Mode.TheVariants.{Live, Settled};
 ghost use Rattle.vt_walk.specs.Fits.{WalkSetup, NeedsFrames, Fits, DoesNotFit};
 ghost use Rattle.vt_walk.specs.Runs.{WalkPass, IsWalkSetup, IsRun, IsWhole, GoesOn, IsFinished, journal_after, recency_after, plan_after, planned_in, lost_in};
-ghost use Rattle.vt_walk.specs.Runs.{told_of, run_content, run_text, pass_of, IsTurnOf, IsNextPass};
+ghost use Rattle.vt_walk.specs.Runs.{told_of, run_content, run_text, pass_of, IsStepOf, IsNextPass};
 ghost use Rattle.vt_walk.specs.Agreements.{Agrees};
 ghost use Rattle.vt_walk_laws.specs.Stamped.{AreStampsOf};
 ghost use Rattle.vt_walk.specs.Shown.{IsRunPicture};
@@ -198,14 +198,14 @@ pub fn run_places_add_up()
         → reads_of w (p ∷ passes) ≡ reads_of w passes + length p.batch }
 {}
 
-/// A pass that a machine ran is the next of the run, where its job has the picture whose turn it is and the batch
+/// A pass that a machine ran is the next of the run, where its job has the picture that is to be drawn next and the batch
 /// that was planned, and the recency was settled by it; and the machine's journal is then that of the longer run.
 pub fn ran_pass_comes_next<M: PassMachine>()
     ensures next { (m : M) (w : WalkSetup) (before : List WalkPass) (job : Job) (report : Report) (wants : List Wanted)
         (settled : RecencyView)
         (s t : MachineState) → Ran M.drawing (M.drawn m) job report s t → w.dealt ≡ M.drawing.dealt
         → w.samplers ≡ s.setup.crew.samplers
-        → w.height ≡ s.setup.height → s.journal ≡ journal_after w before → IsTurnOf w before job.picture
+        → w.height ≡ s.setup.height → s.journal ≡ journal_after w before → IsStepOf w before job.picture
         → job.picture < w.pictures
         → job.batch ≡ plan_after w before → IsWants w.shape (w.needs job.picture) wants
         → IsSettled (recency_after w before) (read_entries job.batch report.losses.elements) settled

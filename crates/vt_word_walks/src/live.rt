@@ -6,7 +6,7 @@ ghost use Rattle.vt_pages.specs.Pages.{pinned_of};
 ghost use Rattle.vt_machine.specs.Nearest.{nearest};
 ghost use Rattle.vt_walk.specs.Walks.{given_to, AreSettings};
 ghost use Rattle.vt_walk.specs.States.{AreOpen};
-ghost use Rattle.vt_walk.specs.Courses.{walk_course, file_of, Walks};
+ghost use Rattle.vt_walk.specs.WalkEffects.{walk_effect, file_of, Walks};
 ghost use Rattle.vt_walk.specs.Closing.{AreOtherNamesAsBefore};
 ghost use Rattle.vt_word_walks.specs.WordDrawn.{drawn_over};
 
@@ -39,7 +39,7 @@ pub fn walk_live<Rt: Threads + Wait + Sync, D: Folder, O: Sink, G: Gate + Sync>(
     requires tells { is_some (D.File.bytes store.file) ≡ is_some (D.files folder.old) }
     requires opened { AreOpen 1 names.now.store.now (D.asked folder.old) (file_of D.File.File store) }
     ensures walked { Walks (drawn_over ⟦<Nearest as Filter>⟧ D.File.File) (given_to nearest D.File.File store path.now names.now settings.now false)
-        (walk_course D.Folder O.Sink names.now.store.now (file_of D.File.File store) [] folder.old folder.new out.old
+        (walk_effect D.Folder O.Sink names.now.store.now (file_of D.File.File store) [] folder.old folder.new out.old
         out.new) result }
     ensures few { let needed = pinned_of store.shape settings.now.pinned in settings.now.frames < needed
         → result ≡ Err (WalkError.TooFewFrames settings.now.frames needed) }
@@ -70,7 +70,7 @@ pub fn walk_settled<Rt: Threads + Wait + Sync, D: Folder, O: Sink, G: Gate + Syn
     requires tells { is_some (D.File.bytes store.file) ≡ is_some (D.files folder.old) }
     requires opened { AreOpen 1 names.now.store.now (D.asked folder.old) (file_of D.File.File store) }
     ensures walked { Walks (drawn_over ⟦<Nearest as Filter>⟧ D.File.File) (given_to nearest D.File.File store path.now names.now settings.now true)
-        (walk_course D.Folder O.Sink names.now.store.now (file_of D.File.File store) [] folder.old folder.new out.old
+        (walk_effect D.Folder O.Sink names.now.store.now (file_of D.File.File store) [] folder.old folder.new out.old
         out.new) result }
     ensures few { let needed = pinned_of store.shape settings.now.pinned in settings.now.frames < needed
         → result ≡ Err (WalkError.TooFewFrames settings.now.frames needed) }

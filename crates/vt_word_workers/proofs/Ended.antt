@@ -150,7 +150,7 @@ module _ {F P : Type 0} (g : FileMeanings F) (filter : FilterMeanings P) (words 
   pub all_in : IsSound after → after.sizes.samplers ≡ k.crew.samplers → (n : ℕ) → is_out after n ≡ false
   all_in sound many n = none_out t.streamer.writer f (let a = sound.outs in let e = number_is in omega (arith, a, e, many)) own_pass n
 
-  -- a row of the picture, with the sampler whose turn it was
+  -- a row of the picture, with the sampler that it was dealt to
   pub record HasRow (y : ℕ) : Type 0 where
     pub task : WordSampler
     pub there : slice_get f (y % k.crew.samplers) ≡ Some task
@@ -228,7 +228,7 @@ module _ {F P : Type 0} (g : FileMeanings F) (filter : FilterMeanings P) (words 
           (λ i. (h.job_is.shape i, h.job_is.depth i)) (by.drawn.drawn y r.own));
       by = return_of by.drawn.pass.view;
       returned = was_back.returned;
-      turn = own_number (y % k.crew.samplers) r.task by;
+      dealt_to = own_number (y % k.crew.samplers) r.task by;
       held = held;
     }
 

@@ -15,7 +15,7 @@ use Rattle.vt_journal.specs.declared.changes.RowLine.{RowLine}
 use Rattle.vt_journal.specs.JournalText.{changes_of}
 use Rattle.vt_tiles.specs.Format.{stored, tile_length}
 use Rattle.vt_tiles.specs.StoreViews.{StoreView, IsStoreIfTold}
-use Rattle.vt_shown.specs.Replays.{IsFull, AreReplayed}
+use Rattle.vt_pictures.specs.Replays.{IsFull, AreReplayed}
 use Rattle.vt_filter.specs.declared.filters.Filter.{Ghosts as FilterMeanings}
 use Rattle.vt_filter.specs.FilterLaws.{IsUnder}
 use Rattle.vt_grace.specs.declared.views.WriterView.{WriterView}
@@ -41,8 +41,8 @@ use Rattle.vt_machine.specs.Requests.{AreReadFor}
 use Rattle.vt_machine.specs.Machines.{files_of, told_by, AreStoresFor}
 use Rattle.vt_machine.specs.Drawings.{drawing_of}
 use Rattle.vt_machine.specs.Passes.{IsPictured}
-use Rattle.vt_rounds.specs.BatchRounds.{result_events}
-use Rattle.vt_rounds.specs.Sizes.{AreSized}
+use Rattle.vt_requests.specs.BatchRounds.{result_events}
+use Rattle.vt_requests.specs.Sizes.{AreSized}
 use Rattle.vt_streaming.specs.Made.{HasStreamed, results_contents}
 use Rattle.vt_noted.specs.Stored.{AreStored}
 use Rattle.vt_noted.proofs.Growing.{stored_grow}

@@ -143,7 +143,7 @@ told_first g s d loaders (x ∷ xs) store are is known =
     let mine = subst (λ (y : StoreView _). IsStoreIfTold (g.bytes y.file) y.shape y.depth) (sym same) known in
     subst (λ (z : Shape × ℕ). IsStoreIfTold (g.bytes x.file) z.0 z.1) (λ i. (are.shapes 0 x (omega arith) i, are.depths 0 x (omega arith) i)) mine
 
--- a row is one of the rows of the sampler whose turn it is
+-- a row is one of the rows of the sampler that it is dealt to
 pub own_turn : {F : Type 0} (g : FileMeanings F) (k : KitView F) (y : ℕ) (task : WordSampler) → IsKit g k → y < k.height
     → slice_get k.samplers (y % k.crew.samplers) ≡ Some task → IsOwn task.sampler y
 own_turn g k y task kit inside at = let its = kit.samplers.each (y % k.crew.samplers) task at in record {
@@ -151,7 +151,7 @@ own_turn g k y task kit inside at = let its = kit.samplers.each (y % k.crew.samp
   own = ap (λ n. y % n) its.among ∙ sym its.number_is;
 }
 
--- a row is one of the rows of the sampler whose turn it is, where the samplers stand at the places of their numbers
+-- a row is one of the rows of the sampler that it is dealt to, where the samplers stand at the places of their numbers
 pub own_row : (s : Shape) (d width height samplers : ℕ) (tasks : List WordSampler) (y : ℕ) (task : WordSampler)
     → AreSamplersOf s d width height samplers tasks → y < height → slice_get tasks (y % samplers) ≡ Some task → IsOwn task.sampler y
 own_row s d width height samplers tasks y task are inside at = let its = are.each (y % samplers) task at in record {
@@ -159,7 +159,7 @@ own_row s d width height samplers tasks y task are inside at = let its = are.eac
   own = ap (λ n. y % n) its.among ∙ sym its.number_is;
 }
 
--- the sampler whose turn it is stands among them
+-- the sampler that it is dealt to stands among them
 pub turn_there : (samplers : ℕ) (tasks : List WordSampler) (y : ℕ) (d : WordSampler) → 1 ≤ samplers → length tasks ≡ samplers
     → slice_get tasks (y % samplers) ≡ Some (get_or tasks (y % samplers) d)
 turn_there samplers tasks y d some count = slice_get-get_or tasks (y % samplers) d (let low = mod_below y samplers some in omega (arith, low, count))

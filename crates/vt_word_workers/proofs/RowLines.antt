@@ -33,7 +33,7 @@ line_there samplers tasks height y line is =
     let z : 0 + y ≡ y = omega arith in
     (omega (arith, low, number), made_at (line_of samplers tasks) 0 height y line is ∙ ap (line_of samplers tasks) z)
 
--- the version of a row of the sampler whose turn it is
+-- the version of a row of the sampler that it is dealt to
 abbrev pub row_version : ℕ → List WordSampler → ℕ → ℕ
 row_version samplers tasks y = version_by (slice_get tasks (y % samplers)) y
 
@@ -62,7 +62,7 @@ lines_in_order samplers height start last tasks some few within rising = record 
   };
   drawn_by = λ y row at. let is = line_there samplers tasks height y row at in record {
     inside = (let e = ap (λ (l : RowLine). l.sampler) is.1 in let b = mod_below y samplers some in omega (arith, e, b));
-    turn = λ dealt. ap (λ (l : RowLine). l.sampler) is.1;
+    dealt_to = λ dealt. ap (λ (l : RowLine). l.sampler) is.1;
   };
 }
 

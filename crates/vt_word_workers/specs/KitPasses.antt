@@ -22,8 +22,8 @@ use Rattle.vt_machine.specs.declared.crew.PassReport.{PassReport}
 use Rattle.vt_machine.specs.Drawings.{drawing_of}
 use Rattle.vt_machine.specs.Machines.{told_by}
 use Rattle.vt_machine.specs.Passes.{IsJobFor, Ran}
-use Rattle.vt_rounds.specs.BatchRounds.{Begun as Round, IsEndedRound}
-use Rattle.vt_rounds.specs.Sizes.{AreSized}
+use Rattle.vt_requests.specs.BatchRounds.{Begun as Round, IsEndedRound}
+use Rattle.vt_requests.specs.Sizes.{AreSized}
 use Rattle.vt_noted.specs.Noted.{IsNotedBy}
 use Rattle.vt_word_workers.specs.declared.workers.WordSampler.{WordSampler}
 use Rattle.vt_word_workers.specs.declared.workers.WordStreamer.{WordStreamer}
@@ -38,7 +38,7 @@ pub record WasDrawn {P : Type 0} (filter : FilterMeanings P) (s : Shape) (d samp
   pub drawn : AreShown filter.shown s d version (IsNotedBy w) (shot_row s path i y) path.width bytes
   pub by : Returned
   pub returned : Contains w.returned by
-  pub turn : by.sampler ≡ y % samplers
+  pub dealt_to : by.sampler ≡ y % samplers
   pub held : Contains by.held version
 
 -- what the samplers of a kit have drawn up to now over the words of a streamer

@@ -22,7 +22,7 @@ use Rattle.vt_machine.specs.Crews.{IsCrew}
 use Rattle.vt_machine.specs.Outcomes.{IsBatchFor}
 use Rattle.vt_machine.specs.Machines.{Setup, MachineState, file_state, files_of, told_by, AreStoresFor}
 use Rattle.vt_loaders.specs.declared.queued.Queues.{Queues}
-use Rattle.vt_rounds.specs.Sizes.{AreSized}
+use Rattle.vt_requests.specs.Sizes.{AreSized}
 use Rattle.vt_streaming.specs.Reports.{IsBlank}
 use Rattle.vt_noted.specs.Stored.{AreStored}
 use Rattle.vt_word_workers.specs.declared.workers.WordSampler.{WordSampler}
@@ -54,7 +54,7 @@ abbrev pub version_by : Option WordSampler → ℕ → ℕ
 version_by None y = 0
 version_by (Some task) y = version_at task.sampler y
 
--- the bytes of row y of the last picture: those of the sampler whose turn it is
+-- the bytes of row y of the last picture: those of the sampler that it is dealt to
 abbrev pub kit_row : {F : Type 0} → KitView F → ℕ → List ℕ
 kit_row k y = row_by (slice_get k.samplers (y % k.crew.samplers)) y
 
@@ -62,7 +62,7 @@ kit_row k y = row_by (slice_get k.samplers (y % k.crew.samplers)) y
 abbrev pub kit_rows : {F : Type 0} → KitView F → List (List ℕ)
 kit_rows k = map (kit_row k) (range_with_len 0 k.height)
 
--- the line of a row: it was drawn by the sampler whose turn it is, at the version of that sampler's row
+-- the line of a row: it was drawn by the sampler that it is dealt to, at the version of that sampler's row
 abbrev pub line_of : ℕ → List WordSampler → ℕ → RowLine
 line_of samplers tasks y = record { row = y; sampler = y % samplers; version = version_by (slice_get tasks (y % samplers)) y }
 

@@ -15,8 +15,8 @@ use Rattle.vt_queue.specs.Queues.{view_of, splits_of, capacity_of}
 use Rattle.vt_loaders.specs.declared.queued.Queues.{Queues}
 use Rattle.vt_loaders.specs.QueuedLoaders.{QueuedView, AreOf, IsLoaderOf, AreSplitOff, stores_of, numbers_of}
 use Rattle.vt_machine.specs.declared.crew.Crew.{Crew}
-use Rattle.vt_rounds.specs.BatchRounds.{ArePut}
-use Rattle.vt_rounds.specs.Sizes.{AreSized}
+use Rattle.vt_requests.specs.BatchRounds.{ArePut}
+use Rattle.vt_requests.specs.Sizes.{AreSized}
 
 -- what the loaders of a pass are done with: the pass of the requests, room for the loaders and for their stores, and the buffers
 pub record RoundKitView (F : Type 0) : Type 0 where

@@ -17,7 +17,7 @@ ghost use Rattle.vt_workers.specs.Jobs.{job_of};
 ghost use Rattle.vt_machine.specs.Crews.{IsCrew, last_start};
 ghost use Rattle.vt_machine.specs.Outcomes.{IsBatchFor};
 ghost use Rattle.vt_machine.specs.Machines.{AreStoresFor};
-ghost use Rattle.vt_rounds.specs.Sizes.{AreSized};
+ghost use Rattle.vt_requests.specs.Sizes.{AreSized};
 ghost use Rattle.vt_streaming.specs.declared.report.StreamReport.{StreamReport as Told};
 ghost use Rattle.vt_word_workers.specs.declared.workers.WordStreamer.{WordStreamer as Own};
 ghost use Rattle.vt_word_workers.specs.RoundKits.{IsSetUp, IsAsked};
@@ -48,7 +48,7 @@ use vt_machine::{Crew, PassReport};
 use vt_outside::{File, Items, NoMemory};
 use vt_pages::Geometry;
 use vt_queue::{Loaded, QueuePass, Request};
-use vt_rounds::sampler_of;
+use vt_requests::sampler_of;
 use vt_sampler::Sampler;
 use vt_streamer::Streamer;
 use vt_streaming::StreamReport;
@@ -292,8 +292,8 @@ impl<F: File> WordKit<F> {
         requires inside { y < self.now.height }
         ensures { result.now ≡ kit_row self.now y }
     {
-        let turn = sampler_of(y, self.crew.samplers);
-        self.samplers.at(turn as usize).sampler.row(y)
+        let dealt_to = sampler_of(y, self.crew.samplers);
+        self.samplers.at(dealt_to as usize).sampler.row(y)
     }
 
     /// The samples of the last pass's picture: its rows from the top. It asks for their memory once.
@@ -311,7 +311,7 @@ impl<F: File> WordKit<F> {
     }
 
     /// Moves the workers out: a loader for each store, and the samplers.
-    pub fn muster(
+    pub fn detach_workers(
         &mut self,
         queues: &Queues,
         answers: &mut QueuePass<Loaded>,

@@ -13,7 +13,7 @@ ghost use Rattle.vt_queue.specs.Steps.{IsAtStep};
 ghost use Rattle.vt_queue.specs.Queues.{view_of, splits_of, IsOf, capacity_of};
 ghost use Rattle.vt_loaders.specs.QueuedLoaders.{AreOf, MayLoad, stores_of, asks_of, answers_of};
 ghost use Rattle.vt_machine.specs.declared.crew.Crew.{Crew as Hands};
-ghost use Rattle.vt_rounds.specs.Sizes.{AreSized};
+ghost use Rattle.vt_requests.specs.Sizes.{AreSized};
 ghost use Rattle.vt_streaming.specs.Reports.{IsBlank};
 ghost use Rattle.vt_word_workers.specs.RoundKits.{AreNew, HasPlaces, IsSetUp, IsAsked, IsDealt};
 
@@ -29,7 +29,7 @@ use vt_machine::Crew;
 use vt_outside::{Bytes, File, Items, NoMemory};
 use vt_plan::Planned;
 use vt_queue::{Loaded, QueuePass, Request, RequestQueue, ResultQueue};
-use vt_rounds::{ask_batch, give_back};
+use vt_requests::{ask_batch, give_back};
 use vt_streaming::StreamReport;
 use vt_tiles::Stores;
 

@@ -1,6 +1,6 @@
 //! What samplers and streamer of a pass over shared words do.
 
-ghost use Rattle.vt_shown.specs.Scenes.{scene_of};
+ghost use Rattle.vt_pictures.specs.Scenes.{scene_of};
 ghost use Rattle.vt_word_workers.specs.WordTasks.{MayDraw, HasDrawn, MayStream, HasFed};
 
 use crate::shared::WordShared;

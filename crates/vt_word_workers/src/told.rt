@@ -8,9 +8,9 @@ ghost use Rattle.vt_word_workers.specs.Kits.{AreSamplersOf, lines_of, counted_to
 use crate::workers::WordSampler;
 use vt_feedback::Counts;
 use vt_journal::{RowLine, RowLines};
-use vt_rounds::sampler_of;
+use vt_requests::sampler_of;
 
-/// Notes the lines of a picture's rows, each drawn by the sampler whose turn it is, at the version of that sampler's row.
+/// Notes the lines of a picture's rows, each drawn by the sampler that it is dealt to, at the version of that sampler's row.
 pub(crate) fn note_lines(rows: &mut RowLines, samplers: &[WordSampler], count: u32, height: u32)
     requires some { 1 ≤ count }
     requires samplers { (s : Shape) × (d : ℕ) × (width : ℕ) × AreSamplersOf s d width height count samplers.now }

@@ -3,7 +3,7 @@
 
 ghost use Rattle.std.specs.Prelude.{◌≡◌};
 ghost use Rattle.std.specs.IoError.{error_kind};
-ghost use Rattle.vt_inputs.specs.Refusals.{unread_refusal};
+ghost use Rattle.vt_command_base.specs.Refusals.{unread_refusal};
 
 use std::alloc::Global;
 use std::fs::File;
@@ -11,8 +11,8 @@ use std::io::ErrorKind;
 use std::process::ExitCode;
 use std::{env, io};
 use vt_bilinear::BlendMachine;
+use vt_command_base::Refusal;
 pub use vt_commands::run;
-use vt_inputs::Refusal;
 use vt_outside::{OpenGate, RealFile, RealFolder, RealSink};
 use vt_pass::WordMachine;
 

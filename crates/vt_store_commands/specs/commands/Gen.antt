@@ -3,10 +3,10 @@ use Rattle.std.specs.Prelude.{ℕ, ◌+◌, ◌*◌, ◌%◌, List, [], ◌∷�
 use Rattle.std.specs.List.{flat_map, range_with_len}
 use Rattle.vt_ppm.specs.Picture.{picture_bytes}
 use Rattle.vt_words.specs.Gen.{GenText}
-use Rattle.vt_files.specs.Courses.{Passage, Course, SinkState}
-use Rattle.vt_inputs.specs.Inputs.{Content}
-use Rattle.vt_files.specs.Dues.{FileDue, Due}
-use Rattle.vt_inputs.specs.Tasks.{Task}
+use Rattle.vt_files.specs.Effects.{FolderEffect, CallEffect, SinkState}
+use Rattle.vt_command_base.specs.Inputs.{Content}
+use Rattle.vt_files.specs.Expectations.{ExpectedFile, Expected}
+use Rattle.vt_command_base.specs.Tasks.{Task}
 
 -- the samples of the texel in a column and a row, each a remainder of 256
 abbrev pub made_texel : ℕ → ℕ → ℕ → List ℕ
@@ -25,17 +25,17 @@ abbrev pub made_file : ℕ → ℕ → ℕ → List ℕ
 made_file number width height = picture_bytes 1 width height (made_rows number width height)
 
 -- the one file that `gen` writes
-abbrev pub file_due : GenText → FileDue
-file_due words = record { name = words.name; bytes = made_file words.number words.width words.height }
+abbrev pub expected_file : GenText → ExpectedFile
+expected_file words = record { name = words.name; bytes = made_file words.number words.width words.height }
 
 -- `gen` puts no text
-abbrev pub gen_due : GenText → List Content → Due
-gen_due words contents = record { files = file_due words ∷ []; text = [] }
+abbrev pub expected_gen : GenText → List Content → Expected
+expected_gen words contents = record { files = expected_file words ∷ []; text = [] }
 
 -- `gen` reads nothing
 abbrev pub gen_task : GenText → Task
-gen_task words = record { inputs = []; due = gen_due words }
+gen_task words = record { inputs = []; expected = expected_gen words }
 
 -- a folder before and after, with an output that nothing was asked of
-abbrev pub quiet : Passage → SinkState → Course
+abbrev pub quiet : FolderEffect → SinkState → CallEffect
 quiet folder out = record { folder = folder; out = record { before = out; after = out } }

@@ -9,14 +9,14 @@ use Rattle.vt_pages.specs.declared.PagesError.{PagesError}
 use Rattle.vt_pages.specs.declared.PagesError.TheVariants as pages_error
 use Rattle.vt_store.specs.ChainStores.{texture_store}
 use Rattle.vt_words.specs.Tile.{TileText}
-use Rattle.vt_inputs.specs.Lines.{store_line}
-use Rattle.vt_inputs.specs.Inputs.{Content, TiledTexture, TextureContent, texture_shape}
-use Rattle.vt_files.specs.Dues.{Due}
-use Rattle.vt_inputs.specs.Tasks.{Task}
-use Rattle.vt_inputs.specs.declared.flaws.Flaw.{Flaw}
-use Rattle.vt_inputs.specs.declared.flaws.Flaw.TheVariants.{TooManyPages, BadSize}
-use Rattle.vt_inputs.specs.declared.refusal.Refusal.{Refusal}
-use Rattle.vt_inputs.specs.declared.refusal.Refusal.TheVariants.{Flawed}
+use Rattle.vt_command_base.specs.Lines.{store_line}
+use Rattle.vt_command_base.specs.Inputs.{Content, TiledTexture, TextureContent, texture_shape}
+use Rattle.vt_files.specs.Expectations.{Expected}
+use Rattle.vt_command_base.specs.Tasks.{Task}
+use Rattle.vt_command_base.specs.declared.flaws.Flaw.{Flaw}
+use Rattle.vt_command_base.specs.declared.flaws.Flaw.TheVariants.{TooManyPages, BadSize}
+use Rattle.vt_command_base.specs.declared.refusal.Refusal.{Refusal}
+use Rattle.vt_command_base.specs.declared.refusal.Refusal.TheVariants.{Flawed}
 
 -- the tile store of a texture's mip chain
 unfoldable pub store_file : ImageView → ℕ → List ℕ
@@ -27,15 +27,15 @@ abbrev pub made_store : Header → ℕ → List ℕ → List ℕ
 made_store header tile bytes = texture_store (texture_of header bytes) tile
 
 -- the texture's store, and its line
-abbrev pub store_due : List ℕ → ImageView → ℕ → Due
-store_due name texture tile = record {
+abbrev pub expected_store : List ℕ → ImageView → ℕ → Expected
+expected_store name texture tile = record {
   files = (record { name = name; bytes = store_file texture tile }) ∷ [];
   text = store_line (texture_shape texture tile) texture.depth;
 }
 
-abbrev pub tile_due : TileText → List Content → Due
-tile_due words (TextureContent texture ∷ []) = store_due words.store texture words.tile
-tile_due words other = record { files = []; text = [] }
+abbrev pub expected_tile : TileText → List Content → Expected
+expected_tile words (TextureContent texture ∷ []) = expected_store words.store texture words.tile
+expected_tile words other = record { files = []; text = [] }
 
 -- the flaw of a texture whose pages are refused
 abbrev pub flaw_of_pages : PagesError → Flaw
@@ -50,4 +50,4 @@ IsTooMany name shape _ = ⊥
 
 -- `tile` reads a texture that is to have few enough pages
 abbrev pub tile_task : TileText → Task
-tile_task words = record { inputs = TiledTexture words.texture words.tile ∷ []; due = tile_due words }
+tile_task words = record { inputs = TiledTexture words.texture words.tile ∷ []; expected = expected_tile words }

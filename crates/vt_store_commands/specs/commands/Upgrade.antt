@@ -4,26 +4,26 @@ use Rattle.vt_pages.specs.Shape.{Shape}
 use Rattle.vt_tiles.specs.Format.{store_bytes, stored}
 use Rattle.vt_store.specs.Widening.{widened}
 use Rattle.vt_words.specs.Upgrade.{UpgradeText}
-use Rattle.vt_inputs.specs.Lines.{store_line}
-use Rattle.vt_inputs.specs.Inputs.{Content, NarrowStore, NarrowContent}
-use Rattle.vt_files.specs.Dues.{Due}
-use Rattle.vt_inputs.specs.Tasks.{Task}
+use Rattle.vt_command_base.specs.Lines.{store_line}
+use Rattle.vt_command_base.specs.Inputs.{Content, NarrowStore, NarrowContent}
+use Rattle.vt_files.specs.Expectations.{Expected}
+use Rattle.vt_command_base.specs.Tasks.{Task}
 
 -- the store of the same pages whose samples are 257 times those of the bytes of a store of one-byte samples
 abbrev pub upgraded_file : Shape → List ℕ → List ℕ
 upgraded_file shape bytes = store_bytes shape 2 (widened (stored bytes))
 
 -- the new store, and its line
-abbrev pub wide_due : List ℕ → Shape → List ℕ → Due
-wide_due name shape bytes = record {
+abbrev pub expected_wide : List ℕ → Shape → List ℕ → Expected
+expected_wide name shape bytes = record {
   files = (record { name = name; bytes = upgraded_file shape bytes }) ∷ [];
   text = store_line shape 2;
 }
 
-abbrev pub upgrade_due : UpgradeText → List Content → Due
-upgrade_due words (NarrowContent shape bytes ∷ []) = wide_due words.new_store shape bytes
-upgrade_due words other = record { files = []; text = [] }
+abbrev pub expected_upgrade : UpgradeText → List Content → Expected
+expected_upgrade words (NarrowContent shape bytes ∷ []) = expected_wide words.new_store shape bytes
+expected_upgrade words other = record { files = []; text = [] }
 
 -- `upgrade` reads a store that is to have samples of one byte
 abbrev pub upgrade_task : UpgradeText → Task
-upgrade_task words = record { inputs = NarrowStore words.store ∷ []; due = upgrade_due words }
+upgrade_task words = record { inputs = NarrowStore words.store ∷ []; expected = expected_upgrade words }

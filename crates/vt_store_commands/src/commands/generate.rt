@@ -3,13 +3,13 @@
 ghost use Rattle.std.specs.Prelude.{◌≡◌, ◌+◌, ◌*◌, ◌%◌, ◌<◌, ◌≤◌, ◌++◌, ◌∷◌, [], length, take, IfOk, codes, decimal};
 ghost use Rattle.vt_definitions.specs.Limits.{most_read_side};
 ghost use Rattle.vt_words.specs.Gen.{IsLawfulGen, most_number, shown_gen};
-ghost use Rattle.vt_files.specs.Courses.{SinkState, passage};
-ghost use Rattle.vt_files.specs.Dues.{Writes};
-ghost use Rattle.vt_inputs.specs.Tasks.{Ends};
-ghost use Rattle.vt_store_commands.specs.commands.Gen.{made_texel, made_row, file_due, gen_task, quiet};
+ghost use Rattle.vt_files.specs.Effects.{SinkState, folder_effect};
+ghost use Rattle.vt_files.specs.Expectations.{Writes};
+ghost use Rattle.vt_command_base.specs.Tasks.{Ends};
+ghost use Rattle.vt_store_commands.specs.commands.Gen.{made_texel, made_row, expected_file, gen_task, quiet};
 
 use std::alloc::{AllocError, Global};
-use vt_inputs::Refusal;
+use vt_command_base::Refusal;
 use vt_outside::{Folder, OutsideError};
 use vt_words::GenWords;
 
@@ -23,7 +23,7 @@ pub fn generate<'a, D: Folder>(
     folder: &mut D,
 ) -> Result<(), Refusal<'a>>
     requires { IsLawfulGen words.now }
-    ensures { (out : SinkState) → Ends (gen_task (shown_gen words.now)) (quiet (passage D.Folder folder.old folder.new) out) result }
+    ensures { (out : SinkState) → Ends (gen_task (shown_gen words.now)) (quiet (folder_effect D.Folder folder.old folder.new) out) result }
 {
     write_texture(alloc, words, folder)?;
     Ok(())
@@ -36,7 +36,7 @@ fn write_texture<D: Folder>(
     folder: &mut D,
 ) -> Result<(), OutsideError>
     requires { IsLawfulGen words.now }
-    ensures { Writes (file_due (shown_gen words.now) ∷ []) (passage D.Folder folder.old folder.new) result }
+    ensures { Writes (expected_file (shown_gen words.now) ∷ []) (folder_effect D.Folder folder.old folder.new) result }
 {
     let header = header_of(alloc, words.width, words.height)?;
     let mut room = vec![in alloc; 0; 3 * words.width as usize]?;

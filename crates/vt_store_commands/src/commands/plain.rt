@@ -2,21 +2,21 @@
 
 ghost use Rattle.std.specs.Prelude.{◌≡◌, ◌<◌, [], ◌∷◌, ◌++◌, length, OnOk};
 ghost use Rattle.vt_definitions.specs.Tiles.{IsTileSide};
-ghost use Rattle.vt_files.specs.Courses.{course, passage};
+ghost use Rattle.vt_files.specs.Effects.{call_effect, folder_effect};
 ghost use Rattle.vt_words.specs.Names.{four_digit_numbers};
 ghost use Rattle.vt_words.specs.Plain.{shown_plain};
 ghost use Rattle.vt_store_commands.specs.Pictures.{plain_file, samples_by};
-ghost use Rattle.vt_files.specs.Dues.{Leaves, Writes};
-ghost use Rattle.vt_inputs.specs.Tasks.{Ends};
-ghost use Rattle.vt_files.specs.Pictures.{picture_due, pictures_due};
-ghost use Rattle.vt_store_commands.specs.commands.Plain.{plain_task, path_due};
+ghost use Rattle.vt_files.specs.Expectations.{Leaves, Writes};
+ghost use Rattle.vt_command_base.specs.Tasks.{Ends};
+ghost use Rattle.vt_files.specs.Pictures.{expected_picture, expected_pictures};
+ghost use Rattle.vt_store_commands.specs.commands.Plain.{plain_task, expected_path};
 
 use std::alloc::Global;
 use std::thread::Threads;
 use vt_camera::Path;
+use vt_command_base::{Refusal, put_end, read_path, read_texture};
 use vt_draw::{draw_plain_behind, drawing_threads};
 use vt_files::write_file;
-use vt_inputs::{Refusal, put_end, read_path, read_texture};
 use vt_mip::Chain;
 use vt_outside::{Folder, NoMemory, OutsideError, Sink};
 use vt_plain_bilinear::draw_plain_blend_behind;
@@ -32,7 +32,7 @@ pub fn plain<'a, Rt: Threads + Sync, D: Folder, O: Sink>(
     out: &mut O,
 ) -> Result<(), Refusal<'a>>
     requires { IsTileSide words.now.tile }
-    ensures { Ends (plain_task (shown_plain words.now)) (course D.Folder O.Sink folder.old folder.new out.old out.new) result }
+    ensures { Ends (plain_task (shown_plain words.now)) (call_effect D.Folder O.Sink folder.old folder.new out.old out.new) result }
 {
     let path = read_path(alloc, folder, words.path)?;
     let texture = read_texture(rt, alloc, folder, words.texture)?;
@@ -51,7 +51,7 @@ fn leave_pictures<Rt: Threads + Sync, D: Folder, O: Sink>(
     out: &mut O,
 ) -> Result<(), OutsideError>
     requires { IsTileSide words.now.tile }
-    ensures { Leaves (path_due (shown_plain words.now) texture path.now) (course D.Folder O.Sink folder.old folder.new out.old out.new) result }
+    ensures { Leaves (expected_path (shown_plain words.now) texture path.now) (call_effect D.Folder O.Sink folder.old folder.new out.old out.new) result }
 {
     let chain = Chain::build(rt, alloc, texture, words.tile)?;
     write_pictures(rt, alloc, &chain, path, words, folder)?;
@@ -67,9 +67,9 @@ fn write_pictures<Rt: Threads + Sync, D: Folder>(
     words: &PlainWords<'_>,
     folder: &mut D,
 ) -> Result<(), OutsideError>
-    ensures { Writes (pictures_due words.now.prefix.now
+    ensures { Writes (expected_pictures words.now.prefix.now
         (plain_file words.now.filter chain.now.base chain.now.tile path.now) (length path.now.cameras))
-        (passage D.Folder folder.old folder.new) result }
+        (folder_effect D.Folder folder.old folder.new) result }
 {
     let threads = drawing_threads(rt, path);
     let mut buffer = Vec::new(alloc);
@@ -103,8 +103,8 @@ fn write_picture<Rt: Threads + Sync, D: Folder>(
 ) -> Result<(), OutsideError>
     requires picture { picture < length path.now.cameras }
     requires few { picture < four_digit_numbers }
-    ensures { Writes (picture_due words.now.prefix.now (plain_file words.now.filter chain.now.base chain.now.tile path.now) picture ∷ [])
-        (passage D.Folder folder.old folder.new) result }
+    ensures { Writes (expected_picture words.now.prefix.now (plain_file words.now.filter chain.now.base chain.now.tile path.now) picture ∷ [])
+        (folder_effect D.Folder folder.old folder.new) result }
 {
     begin_picture(buffer, alloc, chain.depth(), path.width(), path.height())?;
     draw_behind(rt, threads, words.filter, chain, path, picture, buffer)?;

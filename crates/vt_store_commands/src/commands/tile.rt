@@ -6,17 +6,17 @@ ghost use Rattle.vt_ppm.specs.Strips.{IsTextureHeader};
 ghost use Rattle.vt_pages.specs.Shape.{shape_of};
 ghost use Rattle.vt_pages.specs.Pages.{refusal_of};
 ghost use Rattle.vt_store.specs.StripStores.{strip_shape};
-ghost use Rattle.vt_files.specs.Courses.{course, passage};
+ghost use Rattle.vt_files.specs.Effects.{call_effect, folder_effect};
 ghost use Rattle.vt_words.specs.Tile.{shown_tile};
-ghost use Rattle.vt_inputs.specs.Inputs.{TiledTexture, AreStrips};
-ghost use Rattle.vt_inputs.specs.OpenWrites.{WritesMade};
-ghost use Rattle.vt_inputs.specs.Reads.{file_state, OpensTexture, Refused};
-ghost use Rattle.vt_inputs.specs.Tasks.{Ends};
+ghost use Rattle.vt_command_base.specs.Inputs.{TiledTexture, AreStrips};
+ghost use Rattle.vt_command_base.specs.OpenWrites.{WritesMade};
+ghost use Rattle.vt_command_base.specs.Reads.{file_state, OpensTexture, Refused};
+ghost use Rattle.vt_command_base.specs.Tasks.{Ends};
 ghost use Rattle.vt_store_commands.specs.commands.Tile.{tile_task, made_store, flaw_of_pages, IsTooMany};
 
 use std::alloc::Global;
 use std::thread::Threads;
-use vt_inputs::{Flaw, Refusal, open_texture, outside_error, put_store_line};
+use vt_command_base::{Flaw, Refusal, open_texture, outside_error, put_store_line};
 use vt_mip::StripChain;
 use vt_outside::{Folder, OutsideError, Sink};
 use vt_pages::{Geometry, PagesError};
@@ -34,7 +34,7 @@ pub fn tile<'a, Rt: Threads + Sync, D: Folder, O: Sink>(
     out: &mut O,
 ) -> Result<(), Refusal<'a>>
     requires { IsTileSide words.now.tile }
-    ensures { Ends (tile_task (shown_tile words.now)) (course D.Folder O.Sink folder.old folder.new out.old out.new) result }
+    ensures { Ends (tile_task (shown_tile words.now)) (call_effect D.Folder O.Sink folder.old folder.new out.old out.new) result }
 {
     let (reader, geometry) = open_pages(alloc, words.texture, words.tile, folder)?;
     let depth = reader.depth();
@@ -51,11 +51,11 @@ fn open_pages<'a, D: Folder>(
     folder: &mut D,
 ) -> Result<(StripReader<D::File>, Geometry), Refusal<'a>>
     requires { IsTileSide tile }
-    ensures opens { IfOk result (λ o. OpensTexture name.now o.0.header (file_state D.File.File o.0.file) (passage D.Folder folder.old folder.new)) }
+    ensures opens { IfOk result (λ o. OpensTexture name.now o.0.header (file_state D.File.File o.0.file) (folder_effect D.Folder folder.old folder.new)) }
     ensures checked { IfOk result (λ o. o.0.checked ≡ true) }
     ensures shape { IfOk result (λ o. o.1 ≡ shape_of o.0.header.width o.0.header.height tile) }
     ensures few { IfOk result (λ o. refusal_of (shape_of o.0.header.width o.0.header.height tile) ≡ None) }
-    ensures refused { IfErr result (λ refusal. Refused (TiledTexture name.now tile) refusal (passage D.Folder folder.old folder.new)) }
+    ensures refused { IfErr result (λ refusal. Refused (TiledTexture name.now tile) refusal (folder_effect D.Folder folder.old folder.new)) }
 {
     let reader = open_texture(alloc, folder, name)?;
     match texture_geometry(reader.header(), name, tile) {
@@ -105,7 +105,7 @@ fn write_store<Rt: Threads + Sync, D: Folder>(
     requires shape { geometry.now ≡ shape_of reader.header.width reader.header.height geometry.now.tile }
     requires side { IsTileSide geometry.now.tile }
     ensures { WritesMade (file_state D.File.File reader.file) (made_store reader.header geometry.now.tile)
-        (AreStrips reader.header geometry.now.tile) name.now (passage D.Folder folder.old folder.new) result }
+        (AreStrips reader.header geometry.now.tile) name.now (folder_effect D.Folder folder.old folder.new) result }
 {
     match StripChain::new(alloc, reader, geometry.tile()) {
         Ok(chain) => write_chain(rt, alloc, chain, geometry, name, folder),
@@ -127,7 +127,7 @@ fn write_chain<Rt: Threads + Sync, D: Folder>(
 ) -> Result<(), OutsideError>
     requires { strip_shape chain ≡ geometry.now }
     ensures { WritesMade (file_state D.File.File chain.file) (made_store chain.header geometry.now.tile)
-        (AreStrips chain.header geometry.now.tile) name.now (passage D.Folder folder.old folder.new) result }
+        (AreStrips chain.header geometry.now.tile) name.now (folder_effect D.Folder folder.old folder.new) result }
 {
     let written = write_strips(rt, alloc, &mut chain, geometry, folder, name);
     folder.close(chain.into_file());

@@ -2,16 +2,16 @@
 
 ghost use Rattle.std.specs.Prelude.{◌≡◌, IfOk, IfErr};
 ghost use Rattle.vt_words.specs.Upgrade.{shown_upgrade};
-ghost use Rattle.vt_files.specs.Courses.{course, passage};
-ghost use Rattle.vt_inputs.specs.Inputs.{NarrowStore, ArePieces};
-ghost use Rattle.vt_inputs.specs.OpenWrites.{WritesMade};
-ghost use Rattle.vt_inputs.specs.Reads.{file_state, Refused, OpensStore};
-ghost use Rattle.vt_inputs.specs.Tasks.{Ends};
+ghost use Rattle.vt_files.specs.Effects.{call_effect, folder_effect};
+ghost use Rattle.vt_command_base.specs.Inputs.{NarrowStore, ArePieces};
+ghost use Rattle.vt_command_base.specs.OpenWrites.{WritesMade};
+ghost use Rattle.vt_command_base.specs.Reads.{file_state, Refused, OpensStore};
+ghost use Rattle.vt_command_base.specs.Tasks.{Ends};
 ghost use Rattle.vt_store_commands.specs.commands.Upgrade.{upgrade_task, upgraded_file};
 
 use std::alloc::Global;
 use std::thread::Threads;
-use vt_inputs::{Flaw, Refusal, open_store, outside_error, put_store_line};
+use vt_command_base::{Flaw, Refusal, open_store, outside_error, put_store_line};
 use vt_outside::{Folder, OutsideError, Sink};
 use vt_store::widen_store;
 use vt_tiles::Store;
@@ -25,7 +25,7 @@ pub fn upgrade<'a, Rt: Threads + Sync, D: Folder, O: Sink>(
     folder: &mut D,
     out: &mut O,
 ) -> Result<(), Refusal<'a>>
-    ensures { Ends (upgrade_task (shown_upgrade words.now)) (course D.Folder O.Sink folder.old folder.new out.old out.new) result }
+    ensures { Ends (upgrade_task (shown_upgrade words.now)) (call_effect D.Folder O.Sink folder.old folder.new out.old out.new) result }
 {
     let store = open_narrow(folder, words.store)?;
     let geometry = store.geometry();
@@ -38,8 +38,8 @@ pub fn upgrade<'a, Rt: Threads + Sync, D: Folder, O: Sink>(
 fn open_narrow<'a, D: Folder>(folder: &mut D, name: &'a str) -> Result<Store<D::File>, Refusal<'a>>
     ensures narrow { IfOk result (λ store. store.depth ≡ 1) }
     ensures opens { IfOk result (λ store. OpensStore name.now store.shape store.depth (file_state D.File.File store.file)
-        (passage D.Folder folder.old folder.new)) }
-    ensures refused { IfErr result (λ refusal. Refused (NarrowStore name.now) refusal (passage D.Folder folder.old folder.new)) }
+        (folder_effect D.Folder folder.old folder.new)) }
+    ensures refused { IfErr result (λ refusal. Refused (NarrowStore name.now) refusal (folder_effect D.Folder folder.old folder.new)) }
 {
     let store = open_store(folder, name)?;
     if store.depth() == 1 {
@@ -59,7 +59,7 @@ fn write_wide<Rt: Threads + Sync, D: Folder>(
 ) -> Result<(), OutsideError>
     requires { store.depth ≡ 1 }
     ensures { WritesMade (file_state D.File.File store.file) (upgraded_file store.shape) (ArePieces store.shape) name.now
-        (passage D.Folder folder.old folder.new) result }
+        (folder_effect D.Folder folder.old folder.new) result }
 {
     let written = widen_store(alloc, &mut store, folder, name);
     folder.close(store.into_file());

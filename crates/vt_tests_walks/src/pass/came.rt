@@ -6,7 +6,7 @@ use vt_machine::PassReport;
 use vt_outside::NoMemory;
 
 /// What is to come of a pass over one row, whose version is one from the least on.
-pub struct Due<'a> {
+pub struct Expected<'a> {
     pub events: &'a [Event],
     /// Of which entries of the batch the tile is lost.
     pub losses: &'a [bool],
@@ -18,31 +18,31 @@ pub struct Due<'a> {
 }
 
 // What the picture is to hold whose one row was drawn so.
-fn shown_by<'a>(due: &Due<'a>, rows: &[RowLine]) -> Option<&'a [u8]> {
+fn shown_by<'a>(expected: &Expected<'a>, rows: &[RowLine]) -> Option<&'a [u8]> {
     if rows.len() != 1 || rows[0].row != 0 || rows[0].sampler != 0 {
         return None;
     }
-    let above = rows[0].version.wrapping_sub(due.least);
-    due.shown.get(above as usize).copied()
+    let above = rows[0].version.wrapping_sub(expected.least);
+    expected.shown.get(above as usize).copied()
 }
 
 // Whether a picture was made, and is that of its row's version.
-fn is_shown(due: &Due<'_>, rows: &[RowLine], picture: Result<Vec<u8>, NoMemory>) -> bool {
+fn is_shown(expected: &Expected<'_>, rows: &[RowLine], picture: Result<Vec<u8>, NoMemory>) -> bool {
     match picture {
-        Ok(picture) => shown_by(due, rows) == Some(picture.as_slice()),
+        Ok(picture) => shown_by(expected, rows) == Some(picture.as_slice()),
         Err(_) => false,
     }
 }
 
 // Whether these pages are wanted.
-fn are_wanted(due: &Due<'_>, wanted: Result<Wants, NoMemory>) -> bool {
+fn are_wanted(expected: &Expected<'_>, wanted: Result<Wants, NoMemory>) -> bool {
     match wanted {
-        Ok(wanted) => wanted.slice() == due.wanted,
+        Ok(wanted) => wanted.slice() == expected.wanted,
         Err(_) => false,
     }
 }
 
-impl Due<'_> {
+impl Expected<'_> {
     /// Whether all came: what a pass told, its picture, and the pages that this wants.
     pub fn came(
         &self,

@@ -18,7 +18,7 @@ ghost use Rattle.vt_word_workers.specs.Kits.{kit_setup, IsIdleKit};
 
 use crate::cases::{Case, Deed, check};
 use crate::fixtures::{FOUR, HEADER, ONE_PICTURE, ROOT_TILE, TILE_0, TILE_2};
-use crate::pass::came::Due;
+use crate::pass::came::Expected;
 use crate::pass::stores::{close_all, one_store, open_with_root, root_page};
 use std::alloc::Global;
 use std::process::Abort;
@@ -92,7 +92,7 @@ fn runs<Rt: Threads + Wait + Sync, F: File + Send>(
     streamer: &mut Streamer,
     shot: &Shot<'_>,
     batch: &Batch,
-    due: &Due<'_>,
+    expected: &Expected<'_>,
 ) -> bool
     requires idle { IsIdleKit F.File words.now streamer.old kit.old.kit }
     requires lawful { IsBatchFor streamer.old.shape (length streamer.old.owners)
@@ -105,7 +105,7 @@ fn runs<Rt: Threads + Wait + Sync, F: File + Send>(
     match pass(rt, kit, words, streamer, shot, batch) {
         Some(report) => {
             let wanted = kit.counts().wanted(alloc, shot.geometry);
-            due.came(&report, kit.picture(alloc), wanted)
+            expected.came(&report, kit.picture(alloc), wanted)
         }
         None => false,
     }
@@ -132,7 +132,7 @@ fn two_pages(alloc: Global) -> Result<Batch, NoMemory>
 }
 
 // What is to come of the pass that loads page 0 and loses page 2.
-static LOADS_ONE: Due<'static> = Due {
+static LOADS_ONE: Expected<'static> = Expected {
     events: &[
         Event::Changed(Change::Map { page: 0, frame: 1 }),
         Event::Lost { page: 2 },
@@ -147,7 +147,7 @@ static LOADS_ONE: Due<'static> = Due {
 };
 
 // And of the pass after it, which loads nothing.
-static LOADS_NONE: Due<'static> = Due {
+static LOADS_NONE: Expected<'static> = Expected {
     events: &[],
     losses: &[],
     least: 2,

@@ -6,28 +6,28 @@ use Rattle.vt_outside.specs.declared.answers.OutsideError.TheVariants as outside
 use Rattle.vt_pages.specs.Shape.{Shape}
 use Rattle.vt_camera.specs.Paths.{PathView}
 use Rattle.vt_journal.specs.JournalText.{Content as Journal}
-use Rattle.vt_shown.specs.Replays.{pixel_under}
+use Rattle.vt_pictures.specs.Replays.{pixel_under}
 use Rattle.vt_plain_bilinear.specs.Shown.{blend_under}
-use Rattle.vt_files.specs.Courses.{Passage, Course}
-use Rattle.vt_files.specs.Dues.{Due, with_files, IsPart}
+use Rattle.vt_files.specs.Effects.{FolderEffect, CallEffect}
+use Rattle.vt_files.specs.Expectations.{Expected, with_files, IsPart}
 use Rattle.vt_replay.specs.Flaws.{IsFirstRefused}
 use Rattle.vt_replay.specs.Outcomes.{IsReplayable}
-use Rattle.vt_replay.specs.Replayed.{Under, replay_due, pictures_of}
+use Rattle.vt_replay.specs.Replayed.{Under, expected_replay, pictures_of}
 use Rattle.vt_replay.specs.declared.error.ReplayError.{ReplayError}
 use Rattle.vt_replay.specs.declared.error.ReplayError.TheVariants as replay
 use Rattle.vt_words.specs.Replay.{ReplayText}
 use Rattle.vt_words.specs.declared.filters.Filtering.{Filtering}
 use Rattle.vt_words.specs.declared.filters.Filtering.TheVariants.{Nearest, Bilinear}
-use Rattle.vt_inputs.specs.Lines.{end_line}
-use Rattle.vt_inputs.specs.Inputs.{Input, Content, PathInput, PagedStore, JournalInput, PathContent, PagedContent, TextContent}
-use Rattle.vt_inputs.specs.Causes.{AsksSome}
-use Rattle.vt_inputs.specs.Reads.{FileState, Refused, Closed}
-use Rattle.vt_inputs.specs.Refusals.{IsRefusalOf}
-use Rattle.vt_inputs.specs.Tasks.{HasRisen}
-use Rattle.vt_inputs.specs.Terms.{Terms, Hindrance, FlawedBeside}
-use Rattle.vt_inputs.specs.declared.flaws.Flaw.{Flaw}
-use Rattle.vt_inputs.specs.declared.flaws.Flaw.TheVariants.{BadLine}
-use Rattle.vt_inputs.specs.declared.refusal.Refusal.{Refusal}
+use Rattle.vt_command_base.specs.Lines.{end_line}
+use Rattle.vt_command_base.specs.Inputs.{Input, Content, PathInput, PagedStore, JournalInput, PathContent, PagedContent, TextContent}
+use Rattle.vt_command_base.specs.Causes.{AsksSome}
+use Rattle.vt_command_base.specs.Reads.{FileState, Refused, Closed}
+use Rattle.vt_command_base.specs.Refusals.{IsRefusalOf}
+use Rattle.vt_command_base.specs.Tasks.{HasRisen}
+use Rattle.vt_command_base.specs.CommandSpecs.{CommandSpec, Conflict, FlawedBeside}
+use Rattle.vt_command_base.specs.declared.flaws.Flaw.{Flaw}
+use Rattle.vt_command_base.specs.declared.flaws.Flaw.TheVariants.{BadLine}
+use Rattle.vt_command_base.specs.declared.refusal.Refusal.{Refusal}
 
 -- how a filter shows pixels under a page table
 abbrev pub under_by : Filtering → Under
@@ -47,42 +47,42 @@ abbrev pub contents_of : ReplayOf → List Content
 contents_of g = PathContent g.path ∷ PagedContent g.shape g.depth g.bytes ∷ TextContent g.text ∷ []
 
 -- the pictures of a journal, each the replay of its last pass by the words' filter, and the end line
-abbrev pub journal_due : ReplayText → ReplayOf → Journal → Due
-journal_due words g journal = record {
-  files = replay_due (under_by words.filter) g.shape g.depth g.bytes g.path words.prefix journal;
+abbrev pub expected_journal : ReplayText → ReplayOf → Journal → Expected
+expected_journal words g journal = record {
+  files = expected_replay (under_by words.filter) g.shape g.depth g.bytes g.path words.prefix journal;
   text = end_line (pictures_of journal.passes);
 }
 
 -- the text is that of a lawful journal whose pictures are all in the path; where the folder tells, each picture stands, and every other
 -- name holds what it held; and the output gained the end line
-pub record HasReplayed (words : ReplayText) (contents : List Content) (c : Course) : Type 0 where
+pub record HasReplayed (words : ReplayText) (contents : List Content) (c : CallEffect) : Type 0 where
   pub of : ReplayOf
   pub are : contents ≡ contents_of of
   pub journal : Journal
   pub has : IsReplayable of.shape of.path of.text journal
   pub files : IsSome c.folder.before.files
-      → c.folder.after.files ≡ option_map (with_files (journal_due words of journal).files) c.folder.before.files
-  pub out : c.out.after.held ≡ option_map (gained (journal_due words of journal).text) c.out.before.held
+      → c.folder.after.files ≡ option_map (with_files (expected_journal words of journal).files) c.folder.before.files
+  pub out : c.out.after.held ≡ option_map (gained (expected_journal words of journal).text) c.out.before.held
 
 -- the text is that of such a journal; where the folder tells, some of its pictures stand, and of the next one a front part; and the
 -- output gained a front part of the end line, and a byte of it only where all pictures stand
-pub record HasStopped (words : ReplayText) (contents : List Content) (c : Course) : Type 0 where
+pub record HasStopped (words : ReplayText) (contents : List Content) (c : CallEffect) : Type 0 where
   pub of : ReplayOf
   pub are : contents ≡ contents_of of
   pub journal : Journal
   pub has : IsReplayable of.shape of.path of.text journal
-  pub files : IsSome c.folder.before.files → IsPart (journal_due words of journal).files c.folder.before.files c.folder.after.files
+  pub files : IsSome c.folder.before.files → IsPart (expected_journal words of journal).files c.folder.before.files c.folder.after.files
   pub out : (c.out.after.held ≡ c.out.before.held)
       ⊎ ((IsSome c.folder.before.files
-      → c.folder.after.files ≡ option_map (with_files (journal_due words of journal).files) c.folder.before.files)
-      × ((k : ℕ) × (c.out.after.held ≡ option_map (gained (take k (journal_due words of journal).text)) c.out.before.held)))
+      → c.folder.after.files ≡ option_map (with_files (expected_journal words of journal).files) c.folder.before.files)
+      × ((k : ℕ) × (c.out.after.held ≡ option_map (gained (take k (expected_journal words of journal).text)) c.out.before.held)))
 
 -- a line of the journal is the first that is refused, or that names a picture that the path has not
-pub record HasBadLine (words : ReplayText) (contents : List Content) (hindrance : Hindrance) : Type 0 where
+pub record HasBadLine (words : ReplayText) (contents : List Content) (conflict : Conflict) : Type 0 where
   pub of : ReplayOf
   pub are : contents ≡ contents_of of
   pub line : ℕ
-  pub is : hindrance ≡ FlawedBeside words.journal (BadLine line)
+  pub is : conflict ≡ FlawedBeside words.journal (BadLine line)
   pub first : IsFirstRefused of.shape of.path.height (length of.path.cameras) of.text line
 
 -- `replay` reads the path, opens the store and reads the journal
@@ -93,12 +93,12 @@ replay_inputs words = PathInput words.path ∷ PagedStore words.store ∷ Journa
 abbrev pub replay_closes : ReplayText → List Input
 replay_closes words = PathInput words.path ∷ JournalInput words.journal ∷ PagedStore words.store ∷ []
 
--- the terms of `replay`
-abbrev pub replay_terms : ReplayText → Terms
-replay_terms words = record {
+-- the specification of `replay`
+abbrev pub replay_spec : ReplayText → CommandSpec
+replay_spec words = record {
   inputs = replay_inputs words;
   asks = λ c. AsksSome (replay_closes words) c.folder;
-  hinders = HasBadLine words;
+  conflicts = HasBadLine words;
   done = HasReplayed words;
   stopped = HasStopped words;
   unfit = λ contents picture c. ⊥;
@@ -106,8 +106,8 @@ replay_terms words = record {
 }
 
 -- the journal was refused beside an open store, which was closed
-pub record RefusedBeside (name : List ℕ) (refusal : Refusal) (store : FileState) (p : Passage) : Type 0 where
-  pub read : Passage
+pub record RefusedBeside (name : List ℕ) (refusal : Refusal) (store : FileState) (p : FolderEffect) : Type 0 where
+  pub read : FolderEffect
   pub begins : read.before ≡ p.before
   pub refused : Refused (JournalInput name) refusal read
   pub closed : Closed store (record { before = read.after; after = p.after })

@@ -11,25 +11,25 @@ use Rattle.vt_camera.specs.Paths.{PathView}
 use Rattle.vt_camera.specs.PathText.{IsPathText}
 use Rattle.vt_pages.specs.Shape.{Shape, shape_of}
 use Rattle.vt_draw.specs.Plain.{plain_samples}
-use Rattle.vt_shown.specs.Scenes.{scene_of}
+use Rattle.vt_pictures.specs.Scenes.{scene_of}
 use Rattle.vt_machine.specs.Nearest.{nearest}
-use Rattle.vt_turns.specs.declared.settings.Settings.{Settings}
-use Rattle.vt_turns.specs.declared.mode.Mode.TheVariants.{Settled}
-use Rattle.vt_turns.specs.declared.error.WalkError.{WalkError}
-use Rattle.vt_turns.specs.declared.error.WalkError.TheVariants as walks
-use Rattle.vt_walk.specs.declared.turns.Walked.{Walked}
+use Rattle.vt_walk_decisions.specs.declared.settings.Settings.{Settings}
+use Rattle.vt_walk_decisions.specs.declared.mode.Mode.TheVariants.{Settled}
+use Rattle.vt_walk_decisions.specs.declared.error.WalkError.{WalkError}
+use Rattle.vt_walk_decisions.specs.declared.error.WalkError.TheVariants as walks
+use Rattle.vt_walk.specs.declared.walk_steps.Walked.{Walked}
 use Rattle.vt_walk.specs.Fits.{WalkSetup, Fits, DoesNotFit as IsTooLarge, room_of}
 use Rattle.vt_walk.specs.Walks.{walk_setup}
 use Rattle.vt_walk.specs.Counts.{HasCounts}
 use Rattle.vt_words.specs.Trial.{TrialText}
 use Rattle.vt_words.specs.Names.{picture_name}
-use Rattle.vt_files.specs.Courses.{FolderState, Gain, Course, IsUntouched}
-use Rattle.vt_inputs.specs.Inputs.{Content}
-use Rattle.vt_inputs.specs.Terms.{Terms, Hindrance, FlawedBeside, ManyTexels, FewFrames, LargePicture}
+use Rattle.vt_files.specs.Effects.{FolderState, SinkEffect, CallEffect, IsWithoutEffect}
+use Rattle.vt_command_base.specs.Inputs.{Content}
+use Rattle.vt_command_base.specs.CommandSpecs.{CommandSpec, Conflict, FlawedBeside, ManyTexels, FewFrames, LargePicture}
 use Rattle.vt_store_commands.specs.commands.Gen.{made_rows}
 use Rattle.vt_walk_commands.specs.declared.commands.trial.Tried.{Tried}
-use Rattle.vt_inputs.specs.declared.refusal.Refusal.{Refusal}
-use Rattle.vt_inputs.specs.declared.refusal.Refusal.TheVariants.{NoMemory, Usage, Fault, Flawed, TooFewFrames, DoesNotFit}
+use Rattle.vt_command_base.specs.declared.refusal.Refusal.{Refusal}
+use Rattle.vt_command_base.specs.declared.refusal.Refusal.TheVariants.{NoMemory, Usage, Fault, Flawed, TooFewFrames, DoesNotFit}
 
 -- the side of the texture of a trial
 abbrev pub trial_side : ℕ
@@ -91,11 +91,11 @@ pub record IsUnfit (number picture wanted room : ℕ) : Type 0 where
   pub first : IsFirstUnfit (trial_setup path) picture wanted room
 
 -- this stands in the way of a trial
-abbrev pub HindersTrial : TrialText → List Content → Hindrance → Type 0
-HindersTrial words contents (FlawedBeside name flaw) = ⊥
-HindersTrial words contents ManyTexels = ⊥
-HindersTrial words contents (FewFrames frames needed) = ⊥
-HindersTrial words contents (LargePicture picture wanted room) = IsUnfit words.number picture wanted room
+abbrev pub ConflictsInTrial : TrialText → List Content → Conflict → Type 0
+ConflictsInTrial words contents (FlawedBeside name flaw) = ⊥
+ConflictsInTrial words contents ManyTexels = ⊥
+ConflictsInTrial words contents (FewFrames frames needed) = ⊥
+ConflictsInTrial words contents (LargePicture picture wanted room) = IsUnfit words.number picture wanted room
 
 -- the answer of the walk of a trial: its folder and its sink have no failing calls
 abbrev pub answer_of_trial : Result Walked WalkError → Result Walked Refusal
@@ -134,14 +134,14 @@ TriesOut number (Ok tried) = IsTrial number tried.walked × (tried.differ ≡ 0)
 TriesOut number (Err refusal) = (refusal ≡ NoMemory) ⊎ IsTrialRefusal number refusal
 
 -- the folder is as before, and the output gained the line, in which no byte differs
-pub record HasTried (words : TrialText) (contents : List Content) (c : Course) : Type 0 where
+pub record HasTried (words : TrialText) (contents : List Content) (c : CallEffect) : Type 0 where
   pub walked : Walked
   pub is : IsTrial words.number walked
   pub files : c.folder.after.files ≡ c.folder.before.files
   pub held : c.out.after.held ≡ option_map (gained (trial_line words.number walked 0)) c.out.before.held
 
 -- the folder is as before, and the output gained a front part of the line
-pub record HasTriedInPart (words : TrialText) (contents : List Content) (c : Course) : Type 0 where
+pub record HasTriedInPart (words : TrialText) (contents : List Content) (c : CallEffect) : Type 0 where
   pub walked : Walked
   pub is : IsTrial words.number walked
   pub files : c.folder.after.files ≡ c.folder.before.files
@@ -149,19 +149,19 @@ pub record HasTriedInPart (words : TrialText) (contents : List Content) (c : Cou
   pub held : c.out.after.held ≡ option_map (gained (take count (trial_line words.number walked 0))) c.out.before.held
 
 -- `trial` reads nothing and leaves the folder alone; only the output can fail
-abbrev pub trial_terms : TrialText → Terms
-trial_terms words = record {
+abbrev pub trial_spec : TrialText → CommandSpec
+trial_spec words = record {
   inputs = [];
   asks = λ c. c.folder.after ≡ c.folder.before;
-  hinders = HindersTrial words;
+  conflicts = ConflictsInTrial words;
   done = HasTried words;
   stopped = HasTriedInPart words;
-  unfit = λ contents picture c. IsUntouched c;
+  unfit = λ contents picture c. IsWithoutEffect c;
   failed = λ c. Rose c.out.before.faults c.out.after.faults;
 }
 
 -- an output before and after, with a folder of which nothing was asked
-abbrev pub beside : FolderState → Gain → Course
+abbrev pub beside : FolderState → SinkEffect → CallEffect
 beside folder out = record { folder = record { before = folder; after = folder }; out = out }
 
 -- at how many of the first n places two texts have other bytes

@@ -6,12 +6,12 @@ use Rattle.vt_outside.specs.Files.{Files, Asked, bytes_at}
 use Rattle.vt_pages.specs.Shape.{Shape}
 use Rattle.vt_pages.specs.Pages.{pinned_of}
 use Rattle.vt_camera.specs.Paths.{PathView}
-use Rattle.vt_shown.specs.Scenes.{scene_of}
-use Rattle.vt_files.specs.Courses.{Course}
-use Rattle.vt_turns.specs.declared.settings.Settings.{Settings}
-use Rattle.vt_turns.specs.declared.mode.Mode.TheVariants.{Settled}
-use Rattle.vt_turns.specs.declared.error.WalkError.{WalkError}
-use Rattle.vt_turns.specs.declared.error.WalkError.TheVariants as walks
+use Rattle.vt_pictures.specs.Scenes.{scene_of}
+use Rattle.vt_files.specs.Effects.{CallEffect}
+use Rattle.vt_walk_decisions.specs.declared.settings.Settings.{Settings}
+use Rattle.vt_walk_decisions.specs.declared.mode.Mode.TheVariants.{Settled}
+use Rattle.vt_walk_decisions.specs.declared.error.WalkError.{WalkError}
+use Rattle.vt_walk_decisions.specs.declared.error.WalkError.TheVariants as walks
 use Rattle.vt_walk.specs.Fits.{WalkSetup, Fits, DoesNotFit as IsTooLarge, room_of}
 use Rattle.vt_walk.specs.Walks.{WalkGiven, WalkNames, walk_setup, given_by, mode_of}
 use Rattle.vt_walk.specs.Folders.{IsApart}
@@ -22,11 +22,11 @@ use Rattle.vt_walk.specs.Causes.{HasUnfit, HasLost, reads_lost}
 use Rattle.vt_walk.specs.Closing.{AreOtherNamesAsBefore}
 use Rattle.vt_words.specs.Walk.{WalkText}
 use Rattle.vt_walk_commands.specs.Machines.{MachineKind}
-use Rattle.vt_inputs.specs.Inputs.{Input, Content, PathInput, StoreInput, PathContent, StoreContent, header_places}
-use Rattle.vt_inputs.specs.Causes.{AreHeld, IsAskedOrNot, AsksSome}
-use Rattle.vt_inputs.specs.Terms.{Terms, Hindrance, FlawedBeside, ManyTexels, FewFrames, LargePicture}
-use Rattle.vt_inputs.specs.declared.refusal.Refusal.{Refusal}
-use Rattle.vt_inputs.specs.declared.refusal.Refusal.TheVariants.{NoMemory, Fault, TooFewFrames, DoesNotFit}
+use Rattle.vt_command_base.specs.Inputs.{Input, Content, PathInput, StoreInput, PathContent, StoreContent, header_places}
+use Rattle.vt_command_base.specs.Causes.{AreHeld, IsAskedOrNot, AsksSome}
+use Rattle.vt_command_base.specs.CommandSpecs.{CommandSpec, Conflict, FlawedBeside, ManyTexels, FewFrames, LargePicture}
+use Rattle.vt_command_base.specs.declared.refusal.Refusal.{Refusal}
+use Rattle.vt_command_base.specs.declared.refusal.Refusal.TheVariants.{NoMemory, Fault, TooFewFrames, DoesNotFit}
 
 -- what a walk is of: a path, and a store by its header
 pub record WalkOf : Type 0 where
@@ -58,7 +58,7 @@ walk_given m words of files =
 
 -- what stood before a walk once its store was opened: of the store its header was asked, after these places; the count of faults has
 -- come at most to the end of its type
-abbrev pub walk_first : WalkText → Option Asked → Course → WalkState
+abbrev pub walk_first : WalkText → Option Asked → CallEffect → WalkState
 walk_first words read c = record {
   files = c.folder.before.files;
   held = c.out.before.held;
@@ -68,7 +68,7 @@ walk_first words read c = record {
 }
 
 -- what stands at the end
-abbrev pub walk_last : WalkText → Course → WalkState
+abbrev pub walk_last : WalkText → CallEffect → WalkState
 walk_last words c = record {
   files = c.folder.after.files;
   held = c.out.after.held;
@@ -78,7 +78,7 @@ walk_last words c = record {
 }
 
 -- the journal's name is no picture's; the path was asked, and then the walk was made whole: what it leaves stands between the opening of its store and the end
-pub record HasWalked (m : MachineKind) (words : WalkText) (contents : List Content) (c : Course) : Type 0 where
+pub record HasWalked (m : MachineKind) (words : WalkText) (contents : List Content) (c : CallEffect) : Type 0 where
   pub of : WalkOf
   pub are : contents ≡ contents_of of
   pub read : Option Asked
@@ -87,7 +87,7 @@ pub record HasWalked (m : MachineKind) (words : WalkText) (contents : List Conte
   pub finished : Finished m.drawn (walk_given m words of c.folder.before.files) (walk_first words read c) (walk_last words c)
 
 -- the journal's name is no picture's; the path was asked, and then the walk was left
-pub record HasLeft (m : MachineKind) (words : WalkText) (contents : List Content) (c : Course) : Type 0 where
+pub record HasLeft (m : MachineKind) (words : WalkText) (contents : List Content) (c : CallEffect) : Type 0 where
   pub of : WalkOf
   pub are : contents ≡ contents_of of
   pub read : Option Asked
@@ -96,7 +96,7 @@ pub record HasLeft (m : MachineKind) (words : WalkText) (contents : List Content
   pub left : Left m.drawn (walk_given m words of c.folder.before.files) (walk_first words read c) (walk_last words c)
 
 -- the journal's name is no picture's; a settled walk was left exactly after the first pass of a picture that does not fit, the first such
-pub record HasLeftAtUnfit (m : MachineKind) (words : WalkText) (contents : List Content) (picture : ℕ) (c : Course) : Type 0 where
+pub record HasLeftAtUnfit (m : MachineKind) (words : WalkText) (contents : List Content) (picture : ℕ) (c : CallEffect) : Type 0 where
   pub of : WalkOf
   pub are : contents ≡ contents_of of
   pub read : Option Asked
@@ -136,17 +136,17 @@ pub record HasLargePicture (m : MachineKind) (words : WalkText) (of : WalkOf) (p
   pub earlier : (i : ℕ) → i < picture → Fits (setup_for m words of) i
 
 -- this stands in the way of a walk
-abbrev pub StandsInWay : MachineKind → WalkText → WalkOf → Hindrance → Type 0
+abbrev pub StandsInWay : MachineKind → WalkText → WalkOf → Conflict → Type 0
 StandsInWay m words of (FlawedBeside name flaw) = ⊥
 StandsInWay m words of ManyTexels = most_frame_texels < frame_texels words of
 StandsInWay m words of (FewFrames frames needed) = HasFewFrames words of frames needed
 StandsInWay m words of (LargePicture picture wanted room) = HasLargePicture m words of picture wanted room
 
 -- this stands in the way of a walk over what the inputs hold
-pub record HindersWalk (m : MachineKind) (words : WalkText) (contents : List Content) (hindrance : Hindrance) : Type 0 where
+pub record ConflictsInWalk (m : MachineKind) (words : WalkText) (contents : List Content) (conflict : Conflict) : Type 0 where
   pub of : WalkOf
   pub are : contents ≡ contents_of of
-  pub stands : StandsInWay m words of hindrance
+  pub stands : StandsInWay m words of conflict
 
 -- `walk` reads the path, and opens the store for its header
 abbrev pub walk_inputs : WalkText → List Input
@@ -154,7 +154,7 @@ walk_inputs words = PathInput words.path ∷ StoreInput words.store ∷ []
 
 -- what stands is what a walk leaves, so that the store was asked for the header and the tiles of its passes; beside it the path was asked
 -- and no other name
-pub record AsksOfWalk (m : MachineKind) (words : WalkText) (c : Course) : Type 0 where
+pub record AsksOfWalk (m : MachineKind) (words : WalkText) (c : CallEffect) : Type 0 where
   pub read : Option Asked
   pub path : IsAskedOrNot c.folder.before.files (PathInput words.path) c.folder.before.asked read
   pub others : AreOtherNamesAsBefore words.store read c.folder.after.asked
@@ -163,16 +163,16 @@ pub record AsksOfWalk (m : MachineKind) (words : WalkText) (c : Course) : Type 0
   pub stands : HasWalked m words contents c ⊎ HasLeft m words contents c
 
 -- no more than the path and the header was asked, or what a walk asks
-abbrev pub WalkAsks : MachineKind → WalkText → Course → Type 0
+abbrev pub WalkAsks : MachineKind → WalkText → CallEffect → Type 0
 WalkAsks m words c = AsksSome (walk_inputs words) c.folder ⊎ AsksOfWalk m words c
 
 -- the folder's count rose, and no tile was asked
-pub record FailedBefore (words : WalkText) (c : Course) : Type 0 where
+pub record FailedBefore (words : WalkText) (c : CallEffect) : Type 0 where
   pub asks : AsksSome (walk_inputs words) c.folder
   pub rose : Rose c.folder.before.faults c.folder.after.faults
 
 -- the folder's count rose by more than the tiles of the unpinned pages of what the inputs hold that were lost
-pub record FailedInWalk (m : MachineKind) (words : WalkText) (c : Course) : Type 0 where
+pub record FailedInWalk (m : MachineKind) (words : WalkText) (c : CallEffect) : Type 0 where
   pub of : WalkOf
   pub held : IsSome c.folder.before.files → AreHeld c.folder.before.files (walk_inputs words) (contents_of of)
   pub read : Option Asked
@@ -181,7 +181,7 @@ pub record FailedInWalk (m : MachineKind) (words : WalkText) (c : Course) : Type
       RoseBy (reads_lost given (walk_first words read c).asked (walk_last words c).asked + 1) c.folder.before.faults c.folder.after.faults
 
 -- the walk is settled, and what stands of it ends with a pass that lost a tile, which the journal tells
-pub record LostInWalk (m : MachineKind) (words : WalkText) (c : Course) : Type 0 where
+pub record LostInWalk (m : MachineKind) (words : WalkText) (c : CallEffect) : Type 0 where
   pub of : WalkOf
   pub held : IsSome c.folder.before.files → AreHeld c.folder.before.files (walk_inputs words) (contents_of of)
   pub read : Option Asked
@@ -190,15 +190,15 @@ pub record LostInWalk (m : MachineKind) (words : WalkText) (c : Course) : Type 0
   pub rose : Rose c.folder.before.faults c.folder.after.faults
 
 -- a call failed that ends a walk
-abbrev pub WalkFailed : MachineKind → WalkText → Course → Type 0
+abbrev pub WalkFailed : MachineKind → WalkText → CallEffect → Type 0
 WalkFailed m words c = Rose c.out.before.faults c.out.after.faults ⊎ (FailedBefore words c ⊎ (FailedInWalk m words c ⊎ LostInWalk m words c))
 
--- the terms of `walk` by a machine
-abbrev pub walk_terms : MachineKind → WalkText → Terms
-walk_terms m words = record {
+-- the specification of `walk` by a machine
+abbrev pub walk_spec : MachineKind → WalkText → CommandSpec
+walk_spec m words = record {
   inputs = walk_inputs words;
   asks = WalkAsks m words;
-  hinders = HindersWalk m words;
+  conflicts = ConflictsInWalk m words;
   done = HasWalked m words;
   stopped = HasLeft m words;
   unfit = HasLeftAtUnfit m words;

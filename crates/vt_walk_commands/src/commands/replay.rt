@@ -2,21 +2,21 @@
 
 ghost use Rattle.std.specs.Prelude.{◌≡◌, ◌⊎◌, ℕ, length, IfOk, IfErr};
 ghost use Rattle.vt_outside.specs.Counts.{Rose, added};
-ghost use Rattle.vt_files.specs.Courses.{course, passage};
+ghost use Rattle.vt_files.specs.Effects.{call_effect, folder_effect};
 ghost use Rattle.vt_words.specs.Replay.{shown_replay};
 ghost use Rattle.vt_replay.specs.Flaws.{IsFirstRefused};
 ghost use Rattle.vt_replay.specs.Outcomes.{Leaves, IsClosed};
-ghost use Rattle.vt_inputs.specs.Inputs.{JournalInput, TextContent};
-ghost use Rattle.vt_inputs.specs.Reads.{file_state, Took};
-ghost use Rattle.vt_inputs.specs.Terms.{EndsBy};
-ghost use Rattle.vt_walk_commands.specs.commands.Replay.{under_by, replay_terms, RefusedBeside, IsAnswer, flaw_of_replay};
+ghost use Rattle.vt_command_base.specs.Inputs.{JournalInput, TextContent};
+ghost use Rattle.vt_command_base.specs.Reads.{file_state, Took};
+ghost use Rattle.vt_command_base.specs.CommandSpecs.{EndsBy};
+ghost use Rattle.vt_walk_commands.specs.commands.Replay.{under_by, replay_spec, RefusedBeside, IsAnswer, flaw_of_replay};
 
 use std::alloc::Global;
 use std::thread::Threads;
 use vt_bilinear::replay_blend;
 use vt_camera::Path;
+use vt_command_base::{Flaw, Refusal, open_store, put_end, read_journal, read_path, refusal_of};
 use vt_filter::Nearest;
-use vt_inputs::{Flaw, Refusal, open_store, put_end, read_journal, read_path, refusal_of};
 use vt_outside::{Folder, OutsideError, Sink};
 use vt_replay::{ReplayError, replay_by};
 use vt_tiles::Store;
@@ -31,8 +31,8 @@ pub fn replay<'a, Rt: Threads + Sync, D: Folder, O: Sink>(
     folder: &mut D,
     out: &mut O,
 ) -> Result<(), Refusal<'a>>
-    ensures { EndsBy (replay_terms (shown_replay words.now))
-        (course D.Folder O.Sink folder.old folder.new out.old out.new) result }
+    ensures { EndsBy (replay_spec (shown_replay words.now))
+        (call_effect D.Folder O.Sink folder.old folder.new out.old out.new) result }
 {
     let path = read_path(alloc, folder, words.path)?;
     let store = open_store(folder, words.store)?;
@@ -61,9 +61,9 @@ fn read_beside<'a, D: Folder>(
 ) -> Result<(Store<D::File>, Vec<u8>), Refusal<'a>>
     ensures same { IfOk result (λ read. read.0 ≡ store) }
     ensures took { IfOk result (λ read. Took (JournalInput name.now) (TextContent read.1.items)
-        (passage D.Folder folder.old folder.new)) }
+        (folder_effect D.Folder folder.old folder.new)) }
     ensures refused { IfErr result (λ refusal. RefusedBeside name.now refusal (file_state D.File.File store.file)
-        (passage D.Folder folder.old folder.new)) }
+        (folder_effect D.Folder folder.old folder.new)) }
 {
     match read_journal(alloc, folder, name) {
         Ok(text) => Ok((store, text)),

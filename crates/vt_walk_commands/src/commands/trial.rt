@@ -9,15 +9,15 @@ ghost use Rattle.vt_words.specs.Names.{four_digit_numbers};
 ghost use Rattle.vt_words.specs.Trial.{IsLawfulTrial, shown_trial};
 ghost use Rattle.vt_camera.specs.PathText.{IsPathText};
 ghost use Rattle.vt_pages.specs.Shape.{shape_of};
-ghost use Rattle.vt_files.specs.Courses.{FolderState, gain};
-ghost use Rattle.vt_files.specs.Dues.{Puts};
-ghost use Rattle.vt_inputs.specs.Terms.{EndsBy};
+ghost use Rattle.vt_files.specs.Effects.{FolderState, sink_effect};
+ghost use Rattle.vt_files.specs.Expectations.{Puts};
+ghost use Rattle.vt_command_base.specs.CommandSpecs.{EndsBy};
 ghost use Rattle.vt_walk_commands.specs.commands.Trial.{
   trial_shape,
   trial_texture,
   trial_path,
   trial_line,
-  trial_terms,
+  trial_spec,
   answer_of_trial,
   beside,
   TriesOut,
@@ -33,8 +33,8 @@ use std::alloc::Global;
 use std::sync::Wait;
 use std::thread::Threads;
 use vt_camera::{Path, parse_path};
+use vt_command_base::{Refusal, add};
 use vt_draw::draw_plain;
-use vt_inputs::{Refusal, add};
 use vt_machine::Crew;
 use vt_mip::Chain;
 use vt_outside::{Fails, Folder, Gate, MemoryFolder, MemorySink, NoMemory, OutsideError, Sink};
@@ -65,7 +65,7 @@ pub fn trial<'a, Rt: Threads + Wait + Sync, O: Sink, G: Gate + Sync>(
 ) -> Result<(), Refusal<'a>>
     requires { IsLawfulTrial words.now }
     ensures { (folder : FolderState)
-        → EndsBy (trial_terms (shown_trial words.now)) (beside folder (gain O.Sink out.old out.new)) result }
+        → EndsBy (trial_spec (shown_trial words.now)) (beside folder (sink_effect O.Sink out.old out.new)) result }
 {
     let number = words.number;
     match try_out(rt, alloc, number, gate) {
@@ -86,7 +86,7 @@ pub struct Tried {
 
 // Puts the line of a trial.
 fn put_trial_line<O: Sink>(out: &mut O, number: u32, tried: &Tried) -> Result<(), OutsideError>
-    ensures { Puts (trial_line number tried.now.walked tried.now.differ) (gain O.Sink out.old out.new) result }
+    ensures { Puts (trial_line number tried.now.walked tried.now.differ) (sink_effect O.Sink out.old out.new) result }
 {
     let line = line_of_trial(number, tried);
     out.put(line.bytes())

@@ -2,16 +2,16 @@
 
 ghost use Rattle.std.specs.Prelude.{◌≡◌, ◌<◌, ◌≤◌, ◌*◌, ◌↔◌, IsTrue};
 ghost use Rattle.vt_definitions.specs.Limits.{most_frames, most_frame_texels};
-ghost use Rattle.vt_files.specs.Courses.{course};
+ghost use Rattle.vt_files.specs.Effects.{call_effect};
 ghost use Rattle.vt_words.specs.Walk.{shown_walk, IsLawfulWalk};
 ghost use Rattle.vt_walk_commands.specs.Machines.{kind_of};
-ghost use Rattle.vt_inputs.specs.Terms.{EndsBy};
-ghost use Rattle.vt_walk_commands.specs.commands.Walk.{walk_terms, IsAnswer, refusal_of_walk};
+ghost use Rattle.vt_command_base.specs.CommandSpecs.{EndsBy};
+ghost use Rattle.vt_walk_commands.specs.commands.Walk.{walk_spec, IsAnswer, refusal_of_walk};
 
 use std::alloc::Global;
 use std::sync::Wait;
 use std::thread::Threads;
-use vt_inputs::{Refusal, open_store, read_path};
+use vt_command_base::{Refusal, open_store, read_path};
 use vt_machine::{Crew, PassMachine};
 use vt_outside::{Folder, Gate, Sink};
 use vt_pages::Geometry;
@@ -40,8 +40,8 @@ pub fn walk<
     gate: &G,
 ) -> Result<(), Refusal<'a>>
     requires { IsLawfulWalk words.now }
-    ensures { EndsBy (walk_terms (kind_of M.drawing M.drawn) (shown_walk words.now))
-        (course D.Folder O.Sink folder.old folder.new out.old out.new) result }
+    ensures { EndsBy (walk_spec (kind_of M.drawing M.drawn) (shown_walk words.now))
+        (call_effect D.Folder O.Sink folder.old folder.new out.old out.new) result }
 {
     let path = read_path(alloc, folder, words.path)?;
     let store = open_store(folder, words.store)?;

@@ -2,7 +2,7 @@ use Rattle.std.proofs.Common.{Err, ap, refl}
 use Rattle.std.proofs.lemmas.Result.{err_from_is_err_and}
 use Rattle.vt_words.specs.Arguments.{texts}
 use Rattle.vt_words.specs.Commands.{shown}
-use Rattle.vt_files.specs.Courses.{course}
+use Rattle.vt_files.specs.Effects.{call_effect}
 use Rattle.vt_commands.specs.Waits.{no_machines}
 use Rattle.vt_commands.proofs.Clauses.{runs_unread, runs_command}
 use Rattle.vt_commands.proofs.Waits.{is_at_once}
@@ -20,5 +20,5 @@ perform_at_once-requires-clause-at_once g c lives outlive = is_at_once (texts c.
 pub returns : goal.returns
 returns g c =
     runs_command no_machines _ (texts c.args.words.now)
-    (course g.D.Folder g.O.Sink c.args.folder.now c.perform_at_once.new.folder c.args.out.now c.perform_at_once.new.out)
+    (call_effect g.D.Folder g.O.Sink c.args.folder.now c.perform_at_once.new.folder c.args.out.now c.perform_at_once.new.out)
     c.perform_at_once.result (shown c.in_ok-command.command) c.in_ok-command.ensures.read c.perform_at_once.ensures

@@ -2,7 +2,7 @@ use Rattle.std.proofs.Common.{Err, ap, refl}
 use Rattle.std.proofs.lemmas.Result.{err_from_is_err_and}
 use Rattle.vt_words.specs.Arguments.{texts}
 use Rattle.vt_words.specs.Commands.{shown}
-use Rattle.vt_files.specs.Courses.{course}
+use Rattle.vt_files.specs.Effects.{call_effect}
 use Rattle.vt_walk_commands.specs.Machines.{machines_of}
 use Rattle.vt_commands.proofs.Clauses.{runs_unread, runs_command}
 use Rattle.vt_commands.proofs.Waits.{is_waiting}
@@ -20,5 +20,5 @@ perform_waiting-requires-clause-waits g c lives outlive = is_waiting (texts c.ar
 pub returns : goal.returns
 returns g c =
     runs_command (machines_of g.M.PassMachine.drawing g.M.PassMachine.drawn g.Blend.PassMachine.drawing g.Blend.PassMachine.drawn) _ (texts c.args.words.now)
-    (course g.D.Folder g.O.Sink c.args.folder.now c.perform_waiting.new.folder c.args.out.now c.perform_waiting.new.out)
+    (call_effect g.D.Folder g.O.Sink c.args.folder.now c.perform_waiting.new.folder c.args.out.now c.perform_waiting.new.out)
     c.perform_waiting.result (shown c.in_ok-command.command) c.in_ok-command.ensures.read c.perform_waiting.ensures

@@ -1,5 +1,5 @@
 use Rattle.std.proofs.Common.{[]}
-use Rattle.vt_files.specs.Courses.{folder_state}
+use Rattle.vt_files.specs.Effects.{folder_state}
 use Rattle.vt_files.proofs.Writing.{is_there, appended}
 use Rattle.vt_files.proofs.files.write_file.Goals as goal
 

@@ -2,7 +2,7 @@ use Rattle.std.proofs.Common.{◌≡◌, ◌∙◌}
 use Rattle.std.proofs.lemmas.Result.{err_from_is_err_and}
 use Rattle.vt_ppm.specs.Picture.{picture_bytes}
 use Rattle.vt_words.specs.Names.{picture_name}
-use Rattle.vt_files.specs.Courses.{folder_state, passage}
+use Rattle.vt_files.specs.Effects.{folder_state, folder_effect}
 use Rattle.vt_files.proofs.Writing.{unwritten, written_as}
 use Rattle.vt_files.proofs.pictures.write_picture.Goals as goal
 
@@ -24,4 +24,4 @@ returns g c =
     c.deref.ensures.value ∙ c.in_ok-bytes.ensures in
     written_as c.as_str.result.now c.deref.result.now (picture_name c.args.prefix.now c.args.number)
     (picture_bytes shown.depth shown.width shown.height shown.samples.now)
-    (passage g.D.Folder c.args.folder.now c.write_file.new.folder) c.write_file.result name file c.write_file.ensures
+    (folder_effect g.D.Folder c.args.folder.now c.write_file.new.folder) c.write_file.result name file c.write_file.ensures

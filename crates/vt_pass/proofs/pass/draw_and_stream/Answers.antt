@@ -17,15 +17,15 @@ use Rattle.vt_pass.proofs.pass.draw_and_stream.Goals as goal
 
 pub work_together-requires-clause-loaders : goal.work_together-requires-clause-loaders
 work_together-requires-clause-loaders g c κs within =
-    subst (λ (l : List (QueuedView _)). All (λ x. MayLoad g.F.File c.args.queues.now x) l) (sym c.slice_mut.ensures.value) c.muster-loaders.ensures.may
+    subst (λ (l : List (QueuedView _)). All (λ x. MayLoad g.F.File c.args.queues.now x) l) (sym c.slice_mut.ensures.value) c.detach_workers-loaders.ensures.may
 
 pub work_together-requires-clause-samplers : goal.work_together-requires-clause-samplers
 work_together-requires-clause-samplers g c κs within =
     let job = job_of c.args.shot.now c.args.batch.now.elements in
     let words = c.args.words.now in
     subst (AllReady (MayDraw words job.scene job.picture)) (sym c.slice_mut-2.ensures.value)
-    (may_draw g.F.File job words c.args.queues.now c.args.own.now c.args.kit.now c.muster-loaders.result.1.elements
-    c.requires.ready c.requires.root c.requires.job c.muster-loaders.ensures.out.moved)
+    (may_draw g.F.File job words c.args.queues.now c.args.own.now c.args.kit.now c.detach_workers-loaders.result.1.elements
+    c.requires.ready c.requires.root c.requires.job c.detach_workers-loaders.ensures.out.moved)
 
 pub finish-requires : goal.finish-requires
 finish-requires g c =
@@ -34,9 +34,9 @@ finish-requires g c =
     let words = c.args.words.now in
     let q = c.args.queues.now in
     let own = c.args.own.now in
-    let b : WordStreamer = record own { answers = c.muster-loaders.new.answers } in
-    let a = c.muster-loaders.result.0.elements in
-    let e = c.muster-loaders.result.1.elements in
+    let b : WordStreamer = record own { answers = c.detach_workers-loaders.new.answers } in
+    let a = c.detach_workers-loaders.result.0.elements in
+    let e = c.detach_workers-loaders.result.1.elements in
     let ws = c.work_together.new.loaders in
     let us = c.work_together.new.samplers in
     let d = c.work_together.new.streamer in
@@ -48,8 +48,8 @@ finish-requires g c =
     (ap with c.slice.ensures) e _ us
     c.slice_mut-2.ensures.value (search rules) c.work_together.ensures.samplers in
     let did_stream = subst (λ (l : List Planned). HasFed words q l b d) c.slice.ensures c.work_together.ensures.streamer in
-    lent_back g.F.File g.P.Filter words q own b d c.args.kit.now c.muster-loaders.new.self job a (refill (length a) a ws) e (refill (length e) e us)
-    c.muster-loaders.ensures.out refl c.requires.ready c.requires.job number
+    lent_back g.F.File g.P.Filter words q own b d c.args.kit.now c.detach_workers-loaders.new.self job a (refill (length a) a ws) e (refill (length e) e us)
+    c.detach_workers-loaders.ensures.out refl c.requires.ready c.requires.job number
     number_f did_load did_draw did_stream
 
 pub returns-clause-ran : goal.returns-clause-ran
@@ -59,9 +59,9 @@ returns-clause-ran g c =
     let words = c.args.words.now in
     let q = c.args.queues.now in
     let own = c.args.own.now in
-    let b : WordStreamer = record own { answers = c.muster-loaders.new.answers } in
-    let a = c.muster-loaders.result.0.elements in
-    let e = c.muster-loaders.result.1.elements in
+    let b : WordStreamer = record own { answers = c.detach_workers-loaders.new.answers } in
+    let a = c.detach_workers-loaders.result.0.elements in
+    let e = c.detach_workers-loaders.result.1.elements in
     let ws = c.work_together.new.loaders in
     let us = c.work_together.new.samplers in
     let d = c.work_together.new.streamer in
@@ -73,10 +73,10 @@ returns-clause-ran g c =
     (ap with c.slice.ensures) e _ us
     c.slice_mut-2.ensures.value (search rules) c.work_together.ensures.samplers in
     let did_stream = subst (λ (l : List Planned). HasFed words q l b d) c.slice.ensures c.work_together.ensures.streamer in
-    let back = lent_back g.F.File g.P.Filter words q own b d c.args.kit.now c.muster-loaders.new.self job a (refill (length a) a ws) e (refill (length e) e us)
-    c.muster-loaders.ensures.out refl c.requires.ready c.requires.job number
+    let back = lent_back g.F.File g.P.Filter words q own b d c.args.kit.now c.detach_workers-loaders.new.self job a (refill (length a) a ws) e (refill (length e) e us)
+    c.detach_workers-loaders.ensures.out refl c.requires.ready c.requires.job number
     number_f did_load did_draw did_stream in
-    lent_ran g.F.File g.P.Filter words q own b d c.args.kit.now c.muster-loaders.new.self job a (refill (length a) a ws) e (refill (length e) e us)
-    c.muster-loaders.ensures.out refl c.requires.ready c.requires.job number
+    lent_ran g.F.File g.P.Filter words q own b d c.args.kit.now c.detach_workers-loaders.new.self job a (refill (length a) a ws) e (refill (length e) e us)
+    c.detach_workers-loaders.ensures.out refl c.requires.ready c.requires.job number
     number_f did_load did_draw did_stream
     c.finish.result c.finish.new.streamer c.finish.new.self (c.finish.ensures.ran back.0 back.1)

@@ -1,7 +1,7 @@
 use Rattle.std.proofs.Common.{◌≡◌, ℕ, ◌+◌, ◌*◌, ◌≤◌, length, refl, sym, ap, ◌∙◌, arith, rules}
 use Rattle.vt_definitions.specs.Depths.{texel_length}
 use Rattle.vt_journal.specs.Kept.{entries_of}
-use Rattle.vt_shown.specs.Scenes.{scene_of}
+use Rattle.vt_pictures.specs.Scenes.{scene_of}
 use Rattle.vt_replay.specs.Trying.{ShowsRow, MayTry, HasTried}
 use Rattle.vt_replay.proofs.Trying.{may_front, may_behind, tried_both}
 use Rattle.vt_replay.proofs.beside.+fn-try_beside-join_mut+arg2+fn-try_beside-join_mut+arg3+try_beside.Goals as goal
@@ -26,11 +26,11 @@ join_mut-requires-after_bounds g t c κs within =
     c.split_at_mut-low.ensures.front_len ∙ ap (λ (n : ℕ). n * line) (sym front_is) ∙ ap (λ (w : ℕ). front * w) (sym wide) in
     let back_is : back_bytes ≡ back * line = omega (arith, c.split_at_mut-low.ensures.back_len, all, product) in
     let back_room : back_bytes ≡ back * (texel_length shot.depth * shot.path.now.width) = back_is ∙ ap (λ (w : ℕ). back * w) (sym wide) in
-    let low : MayTry shot c.args.sight.now c.args.first front front_bytes =
-    may_front shot c.args.sight.now c.args.first rows (length c.args.samples.now) c.requires.may front front_bytes
+    let low : MayTry shot c.args.replay_lookup.now c.args.first front front_bytes =
+    may_front shot c.args.replay_lookup.now c.args.first rows (length c.args.samples.now) c.requires.may front front_bytes
     (omega (arith, front_is, few)) front_room in
-    let high : MayTry shot c.args.sight.now (c.args.first + cut) back back_bytes =
-    may_behind shot c.args.sight.now c.args.first rows (length c.args.samples.now) c.requires.may (c.args.first + cut) back back_bytes
+    let high : MayTry shot c.args.replay_lookup.now (c.args.first + cut) back back_bytes =
+    may_behind shot c.args.replay_lookup.now c.args.first rows (length c.args.samples.now) c.requires.may (c.args.first + cut) back back_bytes
     (omega (arith, parts)) back_room in
     let some = c.if-threads-lt2.false in
     let some_parts = c.requires.threads in
@@ -46,9 +46,9 @@ returns g t c =
     let high_names = c.join_mut.ensures.1.met.0 in
     let high_left_is = c.high_left-1.given.1.1 (search rules) in
     let high_is = c.high-1.given.1.1 (search rules) in
-    let low : HasTried g.P.Filter.under c.args.shot.now c.args.sight.now c.args.first c.split_at_mut-low_left.result.0.now
+    let low : HasTried g.P.Filter.under c.args.shot.now c.args.replay_lookup.now c.args.first c.split_at_mut-low_left.result.0.now
     c.low_left-1.given.0 c.split_at_mut-low.result.0.now c.low-1.given.0 = rw (low_left_is, low_is) c.join_mut.ensures.0.met.1 in
-    let high : HasTried g.P.Filter.under c.args.shot.now c.args.sight.now (c.args.first + c.place_behind-cut.result)
+    let high : HasTried g.P.Filter.under c.args.shot.now c.args.replay_lookup.now (c.args.first + c.place_behind-cut.result)
     c.split_at_mut-low_left.result.1.now c.high_left-1.given.0 c.split_at_mut-low.result.1.now c.high-1.given.0 = rw (high_left_is, high_is) c.join_mut.ensures.1.met.1 in
     let same : length c.low_left-1.given.0 ≡ length c.split_at_mut-low_left.result.0.now = search rules in
     let full : length c.low-1.given.0 ≡ length c.split_at_mut-low.result.0.now = search rules in
@@ -60,7 +60,7 @@ returns g t c =
     c.split_at_mut-low.ensures.front_len ∙ ap (λ (w : ℕ). cut * w) (sym wide) in
     record {
       tried = λ told held. tried_both (texel_length shot.depth * shot.path.now.width) c.args.first (c.args.first + cut) cut
-          (ShowsRow g.P.Filter.under (scene_of shot.geometry.now shot.depth shot.path.now) (entries_of c.args.sight.now.entries) told shot.picture)
+          (ShowsRow g.P.Filter.under (scene_of shot.geometry.now shot.depth shot.path.now) (entries_of c.args.replay_lookup.now.entries) told shot.picture)
           c.split_at_mut-low_left.result.0.now c.split_at_mut-low_left.result.1.now c.low_left-1.given.0 c.high_left-1.given.0
           c.split_at_mut-low.result.0.now c.split_at_mut-low.result.1.now c.low-1.given.0 c.high-1.given.0
           c.split_at_mut-low_left.ensures.front_len bytes same full refl (low told held) (high told held) c.args.left.now c.args.samples.now

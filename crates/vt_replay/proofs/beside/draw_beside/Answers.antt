@@ -1,8 +1,8 @@
 use Rattle.std.proofs.Common.{ℕ, List, Option, refl, sym, subst}
-use Rattle.vt_replay.specs.Sights.{IsSight}
-use Rattle.vt_replay.specs.Trying.{sight_of, HoldsTiles}
+use Rattle.vt_replay.specs.ReplayLookups.{IsReplayLookup}
+use Rattle.vt_replay.specs.Trying.{replay_lookup_of, HoldsTiles}
 use Rattle.vt_replay.proofs.Reading.{read_none, read_then}
-use Rattle.vt_replay.proofs.Readying.{ready_after, ready_sight, tiles_same}
+use Rattle.vt_replay.proofs.Readying.{ready_after, ready_replay_lookup, tiles_same}
 use Rattle.vt_replay.proofs.Tiling.{tiles_under}
 use Rattle.vt_replay.proofs.Trying.{tried_none, tried_then}
 use Rattle.vt_replay.proofs.beside.draw_beside.Goals as goal
@@ -14,14 +14,14 @@ loop-round-init g c = record {
   read = read_none g.F.File c.args.store.now;
 }
 
-pub try_in_parts-requires-clause-sight : goal.try_in_parts-requires-clause-sight
-try_in_parts-requires-clause-sight g c =
+pub try_in_parts-requires-clause-replay_lookup : goal.try_in_parts-requires-clause-replay_lookup
+try_in_parts-requires-clause-replay_lookup g c =
     let shot = c.args.shot.now in
     let table = c.args.table.now in
     let tiles = c.loop-round.tiles in
-    let sight : IsSight (sight_of shot.geometry.now shot.depth table tiles) = ready_sight g.F.File shot.geometry.now shot.depth table.version tiles.size
+    let replay_lookup : IsReplayLookup (replay_lookup_of shot.geometry.now shot.depth table tiles) = ready_replay_lookup g.F.File shot.geometry.now shot.depth table.version tiles.size
     table.entries.items tiles.slots.items tiles.owners.items tiles.bytes.items c.loop-round.store c.requires.depth c.loop-round.invariant.ready in
-    λ _ _. sight
+    λ _ _. replay_lookup
 
 pub bring_missing-requires : goal.bring_missing-requires
 bring_missing-requires g c =
@@ -54,7 +54,7 @@ loop-round-preserved g c =
     let read = c.bring_missing.ensures.read in
     let tiles = tiles_under s loop.store.shape d loop.store.depth new.size new.slots.items new.owners.items new.bytes.items told told
     ready.shape ready.depth refl c.in_ok-bring_missing.ensures.tiles in
-    let held = subst (λ (o : Option (List ℕ)). HoldsTiles s d (sight_of s d c.args.table.now loop.tiles) o) loop.invariant.read.bytes ready.tiles in
+    let held = subst (λ (o : Option (List ℕ)). HoldsTiles s d (replay_lookup_of s d c.args.table.now loop.tiles) o) loop.invariant.read.bytes ready.tiles in
     record {
       ready = ready_after g.F.File s d c.args.table.now.entries.items loop.tiles.size new.size loop.tiles.slots.items loop.tiles.owners.items
           loop.tiles.bytes.items new.slots.items new.owners.items new.bytes.items loop.store c.bring_missing.new.store ready read tiles;

@@ -1,15 +1,15 @@
 use Rattle.std.proofs.Common.{◌*◌}
 use Rattle.vt_definitions.specs.Depths.{texel_length}
 use Rattle.vt_journal.specs.Kept.{entries_of}
-use Rattle.vt_shown.specs.Scenes.{scene_of}
-use Rattle.vt_replay.specs.Playing.{IsReadOn, IsReady}
+use Rattle.vt_pictures.specs.Scenes.{scene_of}
+use Rattle.vt_replay.specs.Playing.{IsReadOn, IsReplayReady}
 use Rattle.vt_replay.specs.Trying.{ShowsRow, AreTried}
 use Rattle.vt_replay.proofs.beside.draw_beside.Given as goal
 
 -- some rows were drawn, and all is ready for the others
 abbrev pub invariant-loop-round : goal.invariant-loop-round
 invariant-loop-round g l = record {
-  ready : IsReady g.F.File l.shot.geometry.now l.shot.depth l.table.entries.items l.tiles.size l.tiles.slots.items l.tiles.owners.items
+  ready : IsReplayReady g.F.File l.shot.geometry.now l.shot.depth l.table.entries.items l.tiles.size l.tiles.slots.items l.tiles.owners.items
       l.tiles.bytes.items l.store;
   tried : AreTried (texel_length l.shot.depth * l.shot.path.now.width) 0
       (ShowsRow g.P.Filter.under (scene_of l.shot.geometry.now l.shot.depth l.shot.path.now) (entries_of l.table.entries.items)

@@ -14,7 +14,7 @@ pub try_next-requires-clause-may : goal.try_next-requires-clause-may
 try_next-requires-clause-may g c =
     let left : length c.loop-k.left ≡ length c.args.left.now = omega arith in
     let samples : length c.loop-k.samples ≡ length c.args.samples.now = omega arith in
-    may_front c.args.shot.now c.args.sight.now c.args.first (length c.args.left.now) (length c.args.samples.now) c.requires.may
+    may_front c.args.shot.now c.args.replay_lookup.now c.args.first (length c.args.left.now) (length c.args.samples.now) c.requires.may
     (length c.loop-k.left) (length c.loop-k.samples) (omega (arith, left)) (samples ∙ c.requires.may.room
     ∙ ap (λ (n : ℕ). n * (texel_length c.args.shot.now.depth * c.args.shot.now.path.now.width)) (sym left))
 

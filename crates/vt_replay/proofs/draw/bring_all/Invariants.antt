@@ -1,5 +1,5 @@
 use Rattle.vt_replay.specs.Playing.{IsReadOn}
-use Rattle.vt_replay.specs.Sights.{AreTiles}
+use Rattle.vt_replay.specs.ReplayLookups.{AreTiles}
 use Rattle.vt_replay.proofs.draw.bring_all.Given as goal
 
 -- the set holds tiles of the store

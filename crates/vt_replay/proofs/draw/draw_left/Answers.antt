@@ -4,7 +4,7 @@ use Rattle.std.proofs.lemmas.List.{get_or_past}
 use Rattle.std.proofs.lemmas.Nat.{mul-le}
 use Rattle.vt_definitions.specs.Depths.{texel_length}
 use Rattle.vt_journal.specs.Kept.{entries_of}
-use Rattle.vt_shown.specs.Scenes.{scene_of}
+use Rattle.vt_pictures.specs.Scenes.{scene_of}
 use Rattle.vt_replay.specs.Trying.{ShowsRow, IsDone, AreTried}
 use Rattle.vt_replay.proofs.Reading.{read_none, read_then}
 use Rattle.vt_replay.proofs.Trying.{tried_none, tried_then, stays_done}

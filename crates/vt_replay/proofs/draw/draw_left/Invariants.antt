@@ -2,8 +2,8 @@ use Rattle.std.proofs.Common.{ℕ, ◌*◌, ◌<◌, ◌≤◌, length}
 use Rattle.std.specs.Prelude.{slice_index}
 use Rattle.vt_definitions.specs.Depths.{texel_length}
 use Rattle.vt_journal.specs.Kept.{entries_of}
-use Rattle.vt_shown.specs.Scenes.{scene_of}
-use Rattle.vt_replay.specs.Playing.{IsReadOn, IsReady}
+use Rattle.vt_pictures.specs.Scenes.{scene_of}
+use Rattle.vt_replay.specs.Playing.{IsReadOn, IsReplayReady}
 use Rattle.vt_replay.specs.Trying.{ShowsRow, IsDone, AreTried}
 use Rattle.vt_replay.proofs.draw.draw_left.Given as goal
 
@@ -11,7 +11,7 @@ use Rattle.vt_replay.proofs.draw.draw_left.Given as goal
 abbrev pub invariant-loop-y : goal.invariant-loop-y
 invariant-loop-y g l = record {
   counted : (p : ℕ) → p < length l.counts → slice_index l.counts p ≤ l.y * (4 * l.shot.path.now.width);
-  ready : IsReady g.F.File l.shot.geometry.now l.shot.depth l.table.entries.items l.tiles.size l.tiles.slots.items l.tiles.owners.items
+  ready : IsReplayReady g.F.File l.shot.geometry.now l.shot.depth l.table.entries.items l.tiles.size l.tiles.slots.items l.tiles.owners.items
       l.tiles.bytes.items l.store;
   tried : AreTried (texel_length l.shot.depth * l.shot.path.now.width) 0
       (ShowsRow g.P.Filter.under (scene_of l.shot.geometry.now l.shot.depth l.shot.path.now) (entries_of l.table.entries.items)

@@ -1,7 +1,7 @@
 use Rattle.std.proofs.Common.{ℕ, List, Option, refl, subst, arith}
-use Rattle.vt_replay.specs.Trying.{sight_of, HoldsTiles}
+use Rattle.vt_replay.specs.Trying.{replay_lookup_of, HoldsTiles}
 use Rattle.vt_replay.proofs.Reading.{read_then}
-use Rattle.vt_replay.proofs.Readying.{ready_after, ready_sight}
+use Rattle.vt_replay.proofs.Readying.{ready_after, ready_replay_lookup}
 use Rattle.vt_replay.proofs.Tiling.{tiles_under}
 use Rattle.vt_replay.proofs.draw.draw_line.Goals as goal
 
@@ -11,11 +11,11 @@ try_once-tried-requires-clause-room g c = λ p inside.
     let room = c.requires.room p (omega arith) in
     omega (arith, counted, room)
 
-pub try_once-tried-requires-clause-sight : goal.try_once-tried-requires-clause-sight
-try_once-tried-requires-clause-sight g c =
+pub try_once-tried-requires-clause-replay_lookup : goal.try_once-tried-requires-clause-replay_lookup
+try_once-tried-requires-clause-replay_lookup g c =
     let shot = c.args.shot.now in
     let tiles = c.loop-round.tiles in
-    ready_sight g.F.File shot.geometry.now shot.depth c.args.table.now.version tiles.size c.args.table.now.entries.items tiles.slots.items
+    ready_replay_lookup g.F.File shot.geometry.now shot.depth c.args.table.now.version tiles.size c.args.table.now.entries.items tiles.slots.items
     tiles.owners.items tiles.bytes.items c.loop-round.store c.requires.depth c.loop-round.invariant.ready
 
 pub returns-in_err-bring_all-clause-read : goal.returns-in_err-bring_all-clause-read
@@ -51,5 +51,5 @@ pub returns-then-not-tried-clause-shown : goal.returns-then-not-tried-clause-sho
 returns-then-not-tried-clause-shown g c =
     let shot = c.args.shot.now in
     let loop = c.loop-round in
-    let held = subst (λ (o : Option (List ℕ)). HoldsTiles shot.geometry.now shot.depth (sight_of shot.geometry.now shot.depth c.args.table.now loop.tiles) o) loop.invariant.read.bytes loop.invariant.ready.tiles in
+    let held = subst (λ (o : Option (List ℕ)). HoldsTiles shot.geometry.now shot.depth (replay_lookup_of shot.geometry.now shot.depth c.args.table.now loop.tiles) o) loop.invariant.read.bytes loop.invariant.ready.tiles in
     c.try_once-tried.ensures.shown c.if-not-tried.true (g.F.File.bytes c.args.store.now.file) held

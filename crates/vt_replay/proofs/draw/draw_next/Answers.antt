@@ -1,7 +1,7 @@
 use Rattle.std.proofs.Common.{◌*◌, ◌<◌, length, arith}
 use Rattle.vt_definitions.specs.Depths.{texel_length}
 use Rattle.vt_journal.specs.Kept.{entries_of}
-use Rattle.vt_shown.specs.Scenes.{scene_of}
+use Rattle.vt_pictures.specs.Scenes.{scene_of}
 use Rattle.vt_replay.specs.Trying.{ShowsRow, IsLeft}
 use Rattle.vt_replay.proofs.Reading.{read_none}
 use Rattle.vt_replay.proofs.Trying.{tried_none, tried_here}

@@ -1,14 +1,14 @@
 use Rattle.std.proofs.Common.{sym, subst}
 use Rattle.vt_journal.specs.Kept.{entries_of}
-use Rattle.vt_shown.specs.Scenes.{scene_of}
-use Rattle.vt_replay.specs.Sights.{SightView}
+use Rattle.vt_pictures.specs.Scenes.{scene_of}
+use Rattle.vt_replay.specs.ReplayLookups.{ReplayLookupView}
 use Rattle.vt_replay.specs.Trying.{HoldsTiles, ShowsRow}
 use Rattle.vt_replay.proofs.draw.try_once.Goals as goal
 
 pub returns-clause-shown : goal.returns-clause-shown
 returns-clause-shown g c = λ none told tiles.
     let shot = c.args.shot.now in
-    let same = c.new-sight.ensures in
-    subst (λ (v : SightView). ShowsRow g.P.Filter.under (scene_of shot.geometry.now shot.depth shot.path.now) (entries_of v.entries) told shot.picture
+    let same = c.new-replay_lookup.ensures in
+    subst (λ (v : ReplayLookupView). ShowsRow g.P.Filter.under (scene_of shot.geometry.now shot.depth shot.path.now) (entries_of v.entries) told shot.picture
     c.args.y c.try_line.new.out) same
-    (c.try_line.ensures.shown none told (subst (λ (v : SightView). HoldsTiles shot.geometry.now shot.depth v told) (sym same) tiles))
+    (c.try_line.ensures.shown none told (subst (λ (v : ReplayLookupView). HoldsTiles shot.geometry.now shot.depth v told) (sym same) tiles))

@@ -4,8 +4,8 @@ use Rattle.vt_pages.specs.Pages.{root_of, IsWithinLimits}
 use Rattle.vt_journal.specs.declared.changes.Change.{Change}
 use Rattle.vt_journal.specs.Changes.{at}
 use Rattle.vt_tiles.specs.Format.{stored}
-use Rattle.vt_files.specs.Pictures.{pictures_due}
-use Rattle.vt_shown.specs.Scenes.{scene_of}
+use Rattle.vt_files.specs.Pictures.{expected_pictures}
+use Rattle.vt_pictures.specs.Scenes.{scene_of}
 use Rattle.vt_replay.specs.Playing.{MayBePlayed, ArePlayed, HasWritten}
 use Rattle.vt_replay.specs.Replayed.{replay_file, pictures_of}
 use Rattle.vt_replay.proofs.Passes.{may_be_played, root_mapped, are_played}
@@ -81,5 +81,5 @@ returns-clause-wrote g c = λ b told.
     let after = g.D.Folder.files c.play_passes.new.folder in
     let r = c.play_passes.result in
     let wrote = c.play_passes.ensures.wrote b told in
-    subst (λ (l : List Change). HasWritten (pictures_due c.args.prefix.now (replay_file g.P.Filter.under (stored b) (scene_of s d path)
+    subst (λ (l : List Change). HasWritten (expected_pictures c.args.prefix.now (replay_file g.P.Filter.under (stored b) (scene_of s d path)
     l content.passes) (pictures_of content.passes)) before after r) c.requires.changes wrote

@@ -2,10 +2,10 @@ use Rattle.std.proofs.Common.{ℕ, List, [], ◌∷◌, ◌∙◌, subst, refl, 
 use Rattle.std.proofs.lemmas.Result.{err_from_is_err_and}
 use Rattle.vt_ppm.specs.Picture.{picture_bytes}
 use Rattle.vt_tiles.specs.Format.{stored}
-use Rattle.vt_files.specs.Courses.{passage}
-use Rattle.vt_files.specs.Dues.{Writes}
-use Rattle.vt_files.specs.Pictures.{picture_due}
-use Rattle.vt_shown.specs.Scenes.{scene_of}
+use Rattle.vt_files.specs.Effects.{folder_effect}
+use Rattle.vt_files.specs.Expectations.{Writes}
+use Rattle.vt_files.specs.Pictures.{expected_picture}
+use Rattle.vt_pictures.specs.Scenes.{scene_of}
 use Rattle.vt_replay.specs.Replayed.{replayed_rows}
 use Rattle.vt_replay.proofs.Written.{nothing_written, samples_written}
 use Rattle.vt_outside.proofs.Untold.{OnOk-all}
@@ -21,11 +21,11 @@ returns-clause-wrote g c = λ b told.
     let shot = c.args.shot.now in
     let shown : ℕ → List ℕ = λ (picture : ℕ). replayed_rows g.P.Filter.under (stored b) (scene_of shot.geometry.now shot.depth shot.path.now)
     c.args.journal.now.changes c.args.pass.now.rows.elements picture shot.path.now.height in
-    let p = passage g.D.Folder c.args.folder.now c.write_picture.new.folder in
-    let moved = subst (λ (w : ℕ). Writes (picture_due c.args.prefix.now
+    let p = folder_effect g.D.Folder c.args.folder.now c.write_picture.new.folder in
+    let moved = subst (λ (w : ℕ). Writes (expected_picture c.args.prefix.now
     (λ _. picture_bytes shot.depth w c.height.result c.as_slice.result.now) shot.picture ∷ []) p c.write_picture.result)
     c.width.ensures.value c.write_picture.ensures in
-    let again = subst (λ (h : ℕ). Writes (picture_due c.args.prefix.now
+    let again = subst (λ (h : ℕ). Writes (expected_picture c.args.prefix.now
     (λ _. picture_bytes shot.depth shot.path.now.width h c.as_slice.result.now) shot.picture ∷ []) p c.write_picture.result)
     c.height.ensures.value moved in
     samples_written c.args.prefix.now shot.depth shot.path.now.width shot.path.now.height shot.picture c.as_slice.result.now shown p c.write_picture.result

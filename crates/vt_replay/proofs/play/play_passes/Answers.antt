@@ -7,11 +7,11 @@ use Rattle.vt_journal.specs.declared.changes.Change.{Change}
 use Rattle.vt_journal.specs.JournalText.{Pass}
 use Rattle.vt_journal.specs.Passes.{pass_of}
 use Rattle.vt_tiles.specs.Format.{stored}
-use Rattle.vt_files.specs.Courses.{folder_state}
-use Rattle.vt_files.specs.Dues.{with_files}
-use Rattle.vt_files.specs.Pictures.{pictures_due}
+use Rattle.vt_files.specs.Effects.{folder_state}
+use Rattle.vt_files.specs.Expectations.{with_files}
+use Rattle.vt_files.specs.Pictures.{expected_pictures}
 use Rattle.vt_files.proofs.Writing.{HasPictures, no_pictures}
-use Rattle.vt_shown.specs.Scenes.{scene_of}
+use Rattle.vt_pictures.specs.Scenes.{scene_of}
 use Rattle.vt_replay.specs.Playing.{AreRowsWithin}
 use Rattle.vt_replay.specs.Replayed.{replayed_rows, pictures_of, replay_file}
 use Rattle.vt_replay.proofs.Reading.{read_none, read_then}
@@ -161,7 +161,7 @@ returns-clause-wrote g c = λ b told.
     (slice_get_past passes c.loop-i.i past) c.loop-i.invariant.turn in
     let file : ℕ → List ℕ = replay_file g.P.Filter.under (stored b) (scene_of c.args.store.now.shape c.args.store.now.depth c.args.path.now) c.args.text.now.changes passes in
     (c.loop-i.invariant.files b told).files
-    ∙ ap (λ (n : ℕ). option_map (with_files (pictures_due c.args.prefix.now file n)) (g.D.Folder.files c.args.folder.now)) count
+    ∙ ap (λ (n : ℕ). option_map (with_files (expected_pictures c.args.prefix.now file n)) (g.D.Folder.files c.args.folder.now)) count
 
 pub returns-in_err-play_pass-clause-asks : goal.returns-in_err-play_pass-clause-asks
 returns-in_err-play_pass-clause-asks g c =

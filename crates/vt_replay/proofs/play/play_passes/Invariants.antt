@@ -1,10 +1,10 @@
 use Rattle.std.proofs.Common.{◌≡◌, ℕ, ◌≤◌, List, Some}
 use Rattle.std.specs.Prelude.{slice_get, MatchOption}
 use Rattle.vt_tiles.specs.Format.{stored}
-use Rattle.vt_files.specs.Courses.{folder_state, passage}
-use Rattle.vt_files.specs.Dues.{AsksNone}
+use Rattle.vt_files.specs.Effects.{folder_state, folder_effect}
+use Rattle.vt_files.specs.Expectations.{AsksNone}
 use Rattle.vt_files.proofs.Writing.{HasPictures}
-use Rattle.vt_shown.specs.Scenes.{scene_of}
+use Rattle.vt_pictures.specs.Scenes.{scene_of}
 use Rattle.vt_replay.specs.Playing.{IsReadOn, IsStaged}
 use Rattle.vt_replay.specs.Replayed.{pictures_of, replay_file}
 use Rattle.vt_replay.proofs.play.play_passes.Given as goal
@@ -17,7 +17,7 @@ invariant-loop-i g l = record {
       l.stage.tiles.bytes.items l.stage.samples.items l.stage.counts.items l.store;
   turn : MatchOption (slice_get l.text.content.passes l.i) (l.done ≡ pictures_of l.text.content.passes)
       (λ p. (l.done ≡ p.picture) × (l.stage.table.version ≤ p.start));
-  asks : AsksNone (passage g.D.Folder l.fn.folder l.folder);
+  asks : AsksNone (folder_effect g.D.Folder l.fn.folder l.folder);
   files : (b : List ℕ) → g.D.File.File.bytes l.fn.store.file ≡ Some b
       → HasPictures l.prefix (replay_file g.P.Filter.under (stored b) (scene_of l.fn.store.shape l.fn.store.depth l.path) l.text.changes l.text.content.passes) l.done
       (folder_state g.D.Folder l.fn.folder) (folder_state g.D.Folder l.folder);

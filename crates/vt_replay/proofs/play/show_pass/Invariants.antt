@@ -4,10 +4,10 @@ use Rattle.vt_definitions.specs.Depths.{texel_length}
 use Rattle.vt_journal.specs.declared.changes.RowLine.{RowLine}
 use Rattle.vt_journal.specs.Changes.{at}
 use Rattle.vt_tiles.specs.Format.{stored}
-use Rattle.vt_shown.specs.Scenes.{scene_of}
-use Rattle.vt_shown.specs.Replays.{HasPixels}
+use Rattle.vt_pictures.specs.Scenes.{scene_of}
+use Rattle.vt_pictures.specs.Replays.{HasPixels}
 use Rattle.vt_replay.specs.Playing.{IsReadOn, IsStaged}
-use Rattle.vt_replay.specs.Sights.{row_of}
+use Rattle.vt_replay.specs.ReplayLookups.{row_of}
 use Rattle.vt_replay.proofs.play.show_pass.Given as goal
 
 -- the rows of the versions so far are drawn

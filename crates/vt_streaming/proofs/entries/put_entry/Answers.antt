@@ -8,7 +8,7 @@ use Rattle.vt_table.specs.Views.{IsTile}
 use Rattle.vt_streamer.specs.Fills.{words_in}
 use Rattle.vt_streamer.specs.Views.{table_of}
 use Rattle.vt_machine.specs.Outcomes.{victim_events}
-use Rattle.vt_rounds.proofs.Entries.{still_unmapped, then_free}
+use Rattle.vt_requests.proofs.Entries.{still_unmapped, then_free}
 use Rattle.vt_streaming.specs.Made.{HasMade}
 use Rattle.vt_streaming.proofs.Making.{made_both, publishes, as_many_frames}
 use Rattle.vt_streaming.proofs.entries.put_entry.Goals as goal

@@ -3,20 +3,20 @@ use Rattle.std.proofs.lemmas.Result.{err_from_is_err_and}
 use Rattle.std.specs.Prelude.{length}
 use Rattle.vt_journal.specs.declared.changes.Change.{Change}
 use Rattle.vt_outside.proofs.Untold.{OnErr-all}
-use Rattle.vt_walk.specs.Tours.{tour_scene}
+use Rattle.vt_walk.specs.WalkInputs.{input_scene}
 use Rattle.vt_walk.proofs.Advancing.{may_prepare, is_job, read_at_most, read_broken, ran_by_some}
 use Rattle.vt_walk.proofs.advance.draw_pass.Goals as goal
 
 pub run_pass-requires-clause-may : goal.run_pass-requires-clause-may
 run_pass-requires-clause-may g c κs within = may_prepare g.M.PassMachine.drawing
-    c.args.tour.now c.requires.may.0
-    c.requires.may.1 c.args.number c.args.turn (g.M.PassMachine.state c.args.machine.now) c.args.recency.now c.requires.tour c.ranges.number.fits
+    c.args.input.now c.requires.may.0
+    c.requires.may.1 c.args.number c.args.step (g.M.PassMachine.state c.args.machine.now) c.args.recency.now c.requires.input c.ranges.number.fits
     c.requires.may.2
 
 pub run_pass-requires-clause-job : goal.run_pass-requires-clause-job
 run_pass-requires-clause-job g c κs within = is_job g.M.PassMachine.drawing
-    c.args.tour.now c.requires.may.0
-    c.requires.may.1 c.args.number c.args.turn (g.M.PassMachine.state c.args.machine.now) c.args.recency.now c.requires.may.2
+    c.args.input.now c.requires.may.0
+    c.requires.may.1 c.args.number c.args.step (g.M.PassMachine.state c.args.machine.now) c.args.recency.now c.requires.may.2
 
 pub plan_on-requires-clause-ran : goal.plan_on-requires-clause-ran
 plan_on-requires-clause-ran g c κs within = (
@@ -25,7 +25,7 @@ plan_on-requires-clause-ran g c κs within = (
     may = c.requires.may.2;
     start_is = c.version-start.ensures.version ∙ ap (λ (x : List Change). length x) c.journal.ensures;
     ran = ran_by_some g.M.PassMachine.drawing g.M.PassMachine.drawn c.run_pass.new.machine
-        (record { scene = tour_scene c.args.tour.now; picture = c.args.turn.picture; batch = c.args.turn.batch.elements })
+        (record { scene = input_scene c.args.input.now; picture = c.args.step.picture; batch = c.args.step.batch.elements })
         c.in_ok-report.report (g.M.PassMachine.state c.args.machine.now) (g.M.PassMachine.state c.run_pass.new.machine) c.in_ok-report.ensures.ran;
   },
 )
@@ -33,8 +33,8 @@ plan_on-requires-clause-ran g c κs within = (
 pub returns-in_err-report-clause-refused : goal.returns-in_err-report-clause-refused
 returns-in_err-report-clause-refused g c =
     let p = err_from_is_err_and c.from_residual.result c.from_residual.ensures.1 in
-    rw p.1 (read_broken g.M.PassMachine.drawing c.args.tour.now c.requires.may.0
-    c.requires.may.1 c.args.number c.args.turn (g.M.PassMachine.state c.args.machine.now) (g.M.PassMachine.state c.run_pass.new.machine)
+    rw p.1 (read_broken g.M.PassMachine.drawing c.args.input.now c.requires.may.0
+    c.requires.may.1 c.args.number c.args.step (g.M.PassMachine.state c.args.machine.now) (g.M.PassMachine.state c.run_pass.new.machine)
     c.args.recency.now c.requires.may.2 c.in_err-report.ensures.broke)
 
 pub returns-clause-drawn : goal.returns-clause-drawn
@@ -44,11 +44,11 @@ returns-clause-drawn g c = λ told run may. c.plan_on.ensures
       may = may;
       start_is = c.version-start.ensures.version ∙ ap (λ (x : List Change). length x) c.journal.ensures;
       ran = ran_by_some g.M.PassMachine.drawing g.M.PassMachine.drawn c.run_pass.new.machine
-          (record { scene = tour_scene c.args.tour.now; picture = c.args.turn.picture; batch = c.args.turn.batch.elements })
+          (record { scene = input_scene c.args.input.now; picture = c.args.step.picture; batch = c.args.step.batch.elements })
           c.in_ok-report.report (g.M.PassMachine.state c.args.machine.now) (g.M.PassMachine.state c.run_pass.new.machine) c.in_ok-report.ensures.ran;
     })
 
 pub returns-clause-refused : goal.returns-clause-refused
-returns-clause-refused g c = OnErr-all c.plan_on.result _ (read_at_most g.M.PassMachine.drawing c.args.tour.now c.requires.may.0
-    (g.M.PassMachine.drawn c.run_pass.new.machine) c.requires.may.1 c.args.number c.args.turn (g.M.PassMachine.state c.args.machine.now)
+returns-clause-refused g c = OnErr-all c.plan_on.result _ (read_at_most g.M.PassMachine.drawing c.args.input.now c.requires.may.0
+    (g.M.PassMachine.drawn c.run_pass.new.machine) c.requires.may.1 c.args.number c.args.step (g.M.PassMachine.state c.args.machine.now)
     (g.M.PassMachine.state c.run_pass.new.machine) c.args.recency.now c.in_ok-report.report c.requires.may.2 c.in_ok-report.ensures.ran)

@@ -5,7 +5,7 @@ use Rattle.vt_outside.specs.declared.answers.NoMemory.{NoMemory as Refusal}
 use Rattle.vt_machine.specs.declared.crew.PassReport.{PassReport}
 use Rattle.vt_machine.specs.Passes.{Ends}
 use Rattle.vt_walk.specs.States.{walk_state}
-use Rattle.vt_walk.specs.Tours.{tour_scene}
+use Rattle.vt_walk.specs.WalkInputs.{input_scene}
 use Rattle.vt_walk.specs.Written.{IsDrawnBySome}
 use Rattle.vt_walk.proofs.Advancing.{ran_by_some}
 use Rattle.vt_walk.proofs.Besides.{may_prepare_next, is_next_job, next_read, picture_left, line_left, pass_left, pass_ran}
@@ -14,30 +14,30 @@ use Rattle.vt_walk.proofs.beside.write_beside.Goals as goal
 pub run_and_write-ran-requires-clause-may : goal.run_and_write-ran-requires-clause-may
 run_and_write-ran-requires-clause-may g c κs within =
     let b = c.requires.stands.0 in
-    may_prepare_next g.M.PassMachine.drawing (IsDrawnBySome g.M.PassMachine.drawn) (g.met.M.PassMachine g.world.𝓛 g.world.𝓜 g.world.𝓡 ((λ s x. x), (λ x. x), (λ x. x), λ x. x)).shows_whole c.args.tour.now b.told c.args.number c.args.passed.now b.first
-    (g.M.PassMachine.state c.args.machine.now) c.args.recency.now c.requires.tour c.requires.goes_on c.requires.followed
-    (walk_state g.D.Folder c.args.tour.now.names.store.now c.args.folder.now (b.kept ∷ (g.M.PassMachine.state c.args.machine.now).files)
+    may_prepare_next g.M.PassMachine.drawing (IsDrawnBySome g.M.PassMachine.drawn) (g.met.M.PassMachine g.world.𝓛 g.world.𝓜 g.world.𝓡 ((λ s x. x), (λ x. x), (λ x. x), λ x. x)).shows_whole c.args.input.now b.told c.args.number c.args.passed.now b.first
+    (g.M.PassMachine.state c.args.machine.now) c.args.recency.now c.requires.input c.requires.goes_on c.requires.followed
+    (walk_state g.D.Folder c.args.input.now.names.store.now c.args.folder.now (b.kept ∷ (g.M.PassMachine.state c.args.machine.now).files)
     (g.O.Sink.held c.args.out.now) (g.O.Sink.faults c.args.out.now)) c.requires.stands.1 c.requires.few
 
 pub run_and_write-ran-requires-clause-job : goal.run_and_write-ran-requires-clause-job
 run_and_write-ran-requires-clause-job g c κs within =
     let b = c.requires.stands.0 in
-    is_next_job g.M.PassMachine.drawing (IsDrawnBySome g.M.PassMachine.drawn) (g.met.M.PassMachine g.world.𝓛 g.world.𝓜 g.world.𝓡 ((λ s x. x), (λ x. x), (λ x. x), λ x. x)).shows_whole c.args.tour.now b.told c.args.number c.args.passed.now b.first
-    (g.M.PassMachine.state c.args.machine.now) c.args.recency.now c.requires.tour c.requires.goes_on c.requires.followed
-    (walk_state g.D.Folder c.args.tour.now.names.store.now c.args.folder.now (b.kept ∷ (g.M.PassMachine.state c.args.machine.now).files)
+    is_next_job g.M.PassMachine.drawing (IsDrawnBySome g.M.PassMachine.drawn) (g.met.M.PassMachine g.world.𝓛 g.world.𝓜 g.world.𝓡 ((λ s x. x), (λ x. x), (λ x. x), λ x. x)).shows_whole c.args.input.now b.told c.args.number c.args.passed.now b.first
+    (g.M.PassMachine.state c.args.machine.now) c.args.recency.now c.requires.input c.requires.goes_on c.requires.followed
+    (walk_state g.D.Folder c.args.input.now.names.store.now c.args.folder.now (b.kept ∷ (g.M.PassMachine.state c.args.machine.now).files)
     (g.O.Sink.held c.args.out.now) (g.O.Sink.faults c.args.out.now)) c.requires.stands.1
 
 pub returns-in_err-written-clause-ran : goal.returns-in_err-written-clause-ran
 returns-in_err-written-clause-ran g c =
     let p = err_from_is_err_and c.from_residual.result c.from_residual.ensures.1 in
-    λ b at. rw p.1 (picture_left g.M.PassMachine.drawing (IsDrawnBySome g.M.PassMachine.drawn) (g.met.M.PassMachine g.world.𝓛 g.world.𝓜 g.world.𝓡 ((λ s x. x), (λ x. x), (λ x. x), λ x. x)).shows_whole c.args.tour.now b.told c.args.number c.args.passed.now b.first
-    (g.M.PassMachine.state c.args.machine.now) c.args.recency.now c.requires.tour c.requires.goes_on c.requires.followed
-    g.D.Folder c.args.tour.now.names.store.now b.kept (g.O.Sink.held c.args.out.now) (g.O.Sink.faults c.args.out.now) c.args.folder.now
+    λ b at. rw p.1 (picture_left g.M.PassMachine.drawing (IsDrawnBySome g.M.PassMachine.drawn) (g.met.M.PassMachine g.world.𝓛 g.world.𝓜 g.world.𝓡 ((λ s x. x), (λ x. x), (λ x. x), λ x. x)).shows_whole c.args.input.now b.told c.args.number c.args.passed.now b.first
+    (g.M.PassMachine.state c.args.machine.now) c.args.recency.now c.requires.input c.requires.goes_on c.requires.followed
+    g.D.Folder c.args.input.now.names.store.now b.kept (g.O.Sink.held c.args.out.now) (g.O.Sink.faults c.args.out.now) c.args.folder.now
     c.run_and_write-ran.new.folder c.args.name.now c.args.bytes.now c.run_and_write-ran.result.1 (g.M.PassMachine.state c.run_and_write-ran.new.machine)
     c.requires.name c.requires.bytes c.run_and_write-ran.ensures.written
-    (next_read g.M.PassMachine.drawing (IsDrawnBySome g.M.PassMachine.drawn) (g.met.M.PassMachine g.world.𝓛 g.world.𝓜 g.world.𝓡 ((λ s x. x), (λ x. x), (λ x. x), λ x. x)).shows_whole c.args.tour.now b.told c.args.number c.args.passed.now b.first
-    (g.M.PassMachine.state c.args.machine.now) c.args.recency.now c.requires.tour c.requires.goes_on c.requires.followed
-    (walk_state g.D.Folder c.args.tour.now.names.store.now c.args.folder.now (b.kept ∷ (g.M.PassMachine.state c.args.machine.now).files)
+    (next_read g.M.PassMachine.drawing (IsDrawnBySome g.M.PassMachine.drawn) (g.met.M.PassMachine g.world.𝓛 g.world.𝓜 g.world.𝓡 ((λ s x. x), (λ x. x), (λ x. x), λ x. x)).shows_whole c.args.input.now b.told c.args.number c.args.passed.now b.first
+    (g.M.PassMachine.state c.args.machine.now) c.args.recency.now c.requires.input c.requires.goes_on c.requires.followed
+    (walk_state g.D.Folder c.args.input.now.names.store.now c.args.folder.now (b.kept ∷ (g.M.PassMachine.state c.args.machine.now).files)
     (g.O.Sink.held c.args.out.now) (g.O.Sink.faults c.args.out.now)) at
     (g.M.PassMachine.drawn c.run_and_write-ran.new.machine) (g.M.PassMachine.is_idle c.run_and_write-ran.new.machine) (g.M.PassMachine.state c.run_and_write-ran.new.machine) c.run_and_write-ran.result.0
     c.run_and_write-ran.ensures.ran) at _ p.0 c.in_err-written.was p.2)
@@ -45,14 +45,14 @@ returns-in_err-written-clause-ran g c =
 pub returns-in_err-put_picture_line-clause-ran : goal.returns-in_err-put_picture_line-clause-ran
 returns-in_err-put_picture_line-clause-ran g c =
     let p = err_from_is_err_and c.from_residual-in_err-put_picture_line.result c.from_residual-in_err-put_picture_line.ensures.1 in
-    λ b at. rw p.1 (line_left g.M.PassMachine.drawing (IsDrawnBySome g.M.PassMachine.drawn) (g.met.M.PassMachine g.world.𝓛 g.world.𝓜 g.world.𝓡 ((λ s x. x), (λ x. x), (λ x. x), λ x. x)).shows_whole c.args.tour.now b.told c.args.number c.args.passed.now b.first
-    (g.M.PassMachine.state c.args.machine.now) c.args.recency.now c.requires.tour c.requires.goes_on c.requires.followed
-    g.D.Folder c.args.tour.now.names.store.now b.kept (g.O.Sink.held c.args.out.now) (g.O.Sink.faults c.args.out.now) c.args.folder.now
+    λ b at. rw p.1 (line_left g.M.PassMachine.drawing (IsDrawnBySome g.M.PassMachine.drawn) (g.met.M.PassMachine g.world.𝓛 g.world.𝓜 g.world.𝓡 ((λ s x. x), (λ x. x), (λ x. x), λ x. x)).shows_whole c.args.input.now b.told c.args.number c.args.passed.now b.first
+    (g.M.PassMachine.state c.args.machine.now) c.args.recency.now c.requires.input c.requires.goes_on c.requires.followed
+    g.D.Folder c.args.input.now.names.store.now b.kept (g.O.Sink.held c.args.out.now) (g.O.Sink.faults c.args.out.now) c.args.folder.now
     c.run_and_write-ran.new.folder c.args.name.now c.args.bytes.now c.run_and_write-ran.result.1 (g.M.PassMachine.state c.run_and_write-ran.new.machine)
     c.requires.name c.requires.bytes c.run_and_write-ran.ensures.written
-    (next_read g.M.PassMachine.drawing (IsDrawnBySome g.M.PassMachine.drawn) (g.met.M.PassMachine g.world.𝓛 g.world.𝓜 g.world.𝓡 ((λ s x. x), (λ x. x), (λ x. x), λ x. x)).shows_whole c.args.tour.now b.told c.args.number c.args.passed.now b.first
-    (g.M.PassMachine.state c.args.machine.now) c.args.recency.now c.requires.tour c.requires.goes_on c.requires.followed
-    (walk_state g.D.Folder c.args.tour.now.names.store.now c.args.folder.now (b.kept ∷ (g.M.PassMachine.state c.args.machine.now).files)
+    (next_read g.M.PassMachine.drawing (IsDrawnBySome g.M.PassMachine.drawn) (g.met.M.PassMachine g.world.𝓛 g.world.𝓜 g.world.𝓡 ((λ s x. x), (λ x. x), (λ x. x), λ x. x)).shows_whole c.args.input.now b.told c.args.number c.args.passed.now b.first
+    (g.M.PassMachine.state c.args.machine.now) c.args.recency.now c.requires.input c.requires.goes_on c.requires.followed
+    (walk_state g.D.Folder c.args.input.now.names.store.now c.args.folder.now (b.kept ∷ (g.M.PassMachine.state c.args.machine.now).files)
     (g.O.Sink.held c.args.out.now) (g.O.Sink.faults c.args.out.now)) at
     (g.M.PassMachine.drawn c.run_and_write-ran.new.machine) (g.M.PassMachine.is_idle c.run_and_write-ran.new.machine) (g.M.PassMachine.state c.run_and_write-ran.new.machine) c.run_and_write-ran.result.0
     c.run_and_write-ran.ensures.ran) at _ c.in_ok-written.was (g.O.Sink.held c.put_picture_line.new.out) (g.O.Sink.faults c.put_picture_line.new.out)
@@ -62,14 +62,14 @@ returns-in_err-put_picture_line-clause-ran g c =
 pub returns-in_err-report-clause-ran : goal.returns-in_err-report-clause-ran
 returns-in_err-report-clause-ran g c =
     let p = err_from_is_err_and c.from_residual-in_err-report.result c.from_residual-in_err-report.ensures.1 in
-    λ b at. rw p.1 (pass_left g.M.PassMachine.drawing (IsDrawnBySome g.M.PassMachine.drawn) (g.met.M.PassMachine g.world.𝓛 g.world.𝓜 g.world.𝓡 ((λ s x. x), (λ x. x), (λ x. x), λ x. x)).shows_whole c.args.tour.now b.told c.args.number c.args.passed.now b.first
-    (g.M.PassMachine.state c.args.machine.now) c.args.recency.now c.requires.tour c.requires.goes_on c.requires.followed
-    g.D.Folder c.args.tour.now.names.store.now b.kept (g.O.Sink.held c.args.out.now) (g.O.Sink.faults c.args.out.now) c.args.folder.now
+    λ b at. rw p.1 (pass_left g.M.PassMachine.drawing (IsDrawnBySome g.M.PassMachine.drawn) (g.met.M.PassMachine g.world.𝓛 g.world.𝓜 g.world.𝓡 ((λ s x. x), (λ x. x), (λ x. x), λ x. x)).shows_whole c.args.input.now b.told c.args.number c.args.passed.now b.first
+    (g.M.PassMachine.state c.args.machine.now) c.args.recency.now c.requires.input c.requires.goes_on c.requires.followed
+    g.D.Folder c.args.input.now.names.store.now b.kept (g.O.Sink.held c.args.out.now) (g.O.Sink.faults c.args.out.now) c.args.folder.now
     c.run_and_write-ran.new.folder c.args.name.now c.args.bytes.now c.run_and_write-ran.result.1 (g.M.PassMachine.state c.run_and_write-ran.new.machine)
     c.requires.name c.requires.bytes c.run_and_write-ran.ensures.written
-    (next_read g.M.PassMachine.drawing (IsDrawnBySome g.M.PassMachine.drawn) (g.met.M.PassMachine g.world.𝓛 g.world.𝓜 g.world.𝓡 ((λ s x. x), (λ x. x), (λ x. x), λ x. x)).shows_whole c.args.tour.now b.told c.args.number c.args.passed.now b.first
-    (g.M.PassMachine.state c.args.machine.now) c.args.recency.now c.requires.tour c.requires.goes_on c.requires.followed
-    (walk_state g.D.Folder c.args.tour.now.names.store.now c.args.folder.now (b.kept ∷ (g.M.PassMachine.state c.args.machine.now).files)
+    (next_read g.M.PassMachine.drawing (IsDrawnBySome g.M.PassMachine.drawn) (g.met.M.PassMachine g.world.𝓛 g.world.𝓜 g.world.𝓡 ((λ s x. x), (λ x. x), (λ x. x), λ x. x)).shows_whole c.args.input.now b.told c.args.number c.args.passed.now b.first
+    (g.M.PassMachine.state c.args.machine.now) c.args.recency.now c.requires.input c.requires.goes_on c.requires.followed
+    (walk_state g.D.Folder c.args.input.now.names.store.now c.args.folder.now (b.kept ∷ (g.M.PassMachine.state c.args.machine.now).files)
     (g.O.Sink.held c.args.out.now) (g.O.Sink.faults c.args.out.now)) at
     (g.M.PassMachine.drawn c.run_and_write-ran.new.machine) (g.M.PassMachine.is_idle c.run_and_write-ran.new.machine) (g.M.PassMachine.state c.run_and_write-ran.new.machine) c.run_and_write-ran.result.0
     c.run_and_write-ran.ensures.ran) at _ c.in_ok-written.was (g.O.Sink.held c.put_picture_line.new.out) (g.O.Sink.faults c.put_picture_line.new.out)
@@ -78,26 +78,26 @@ returns-in_err-report-clause-ran g c =
 pub returns-clause-ran : goal.returns-clause-ran
 returns-clause-ran g c =
     let ends : Ends g.M.PassMachine.drawing (g.M.PassMachine.drawn c.run_and_write-ran.new.machine) (g.M.PassMachine.is_idle c.run_and_write-ran.new.machine)
-    (record { scene = tour_scene c.args.tour.now; picture = c.args.passed.now.picture + 1; batch = c.args.passed.now.outlook.plan.elements })
+    (record { scene = input_scene c.args.input.now; picture = c.args.passed.now.picture + 1; batch = c.args.passed.now.outlook.plan.elements })
     (Ok c.in_ok-report.report) (g.M.PassMachine.state c.args.machine.now) (g.M.PassMachine.state c.run_and_write-ran.new.machine) =
     subst (λ (r : Result PassReport Refusal). Ends g.M.PassMachine.drawing (g.M.PassMachine.drawn c.run_and_write-ran.new.machine)
     (g.M.PassMachine.is_idle c.run_and_write-ran.new.machine)
-    (record { scene = tour_scene c.args.tour.now; picture = c.args.passed.now.picture + 1; batch = c.args.passed.now.outlook.plan.elements })
+    (record { scene = input_scene c.args.input.now; picture = c.args.passed.now.picture + 1; batch = c.args.passed.now.outlook.plan.elements })
     r (g.M.PassMachine.state c.args.machine.now) (g.M.PassMachine.state c.run_and_write-ran.new.machine)) c.in_ok-report.was c.run_and_write-ran.ensures.ran in
-    λ b at. pass_ran g.M.PassMachine.drawing (IsDrawnBySome g.M.PassMachine.drawn) (g.met.M.PassMachine g.world.𝓛 g.world.𝓜 g.world.𝓡 ((λ s x. x), (λ x. x), (λ x. x), λ x. x)).shows_whole c.args.tour.now b.told c.args.number c.args.passed.now b.first
-    (g.M.PassMachine.state c.args.machine.now) c.args.recency.now c.requires.tour c.requires.goes_on c.requires.followed
-    g.D.Folder c.args.tour.now.names.store.now b.kept (g.O.Sink.held c.args.out.now) (g.O.Sink.faults c.args.out.now) c.args.folder.now
+    λ b at. pass_ran g.M.PassMachine.drawing (IsDrawnBySome g.M.PassMachine.drawn) (g.met.M.PassMachine g.world.𝓛 g.world.𝓜 g.world.𝓡 ((λ s x. x), (λ x. x), (λ x. x), λ x. x)).shows_whole c.args.input.now b.told c.args.number c.args.passed.now b.first
+    (g.M.PassMachine.state c.args.machine.now) c.args.recency.now c.requires.input c.requires.goes_on c.requires.followed
+    g.D.Folder c.args.input.now.names.store.now b.kept (g.O.Sink.held c.args.out.now) (g.O.Sink.faults c.args.out.now) c.args.folder.now
     c.run_and_write-ran.new.folder c.args.name.now c.args.bytes.now c.run_and_write-ran.result.1 (g.M.PassMachine.state c.run_and_write-ran.new.machine)
     c.requires.name c.requires.bytes c.run_and_write-ran.ensures.written
-    (next_read g.M.PassMachine.drawing (IsDrawnBySome g.M.PassMachine.drawn) (g.met.M.PassMachine g.world.𝓛 g.world.𝓜 g.world.𝓡 ((λ s x. x), (λ x. x), (λ x. x), λ x. x)).shows_whole c.args.tour.now b.told c.args.number c.args.passed.now b.first
-    (g.M.PassMachine.state c.args.machine.now) c.args.recency.now c.requires.tour c.requires.goes_on c.requires.followed
-    (walk_state g.D.Folder c.args.tour.now.names.store.now c.args.folder.now (b.kept ∷ (g.M.PassMachine.state c.args.machine.now).files)
+    (next_read g.M.PassMachine.drawing (IsDrawnBySome g.M.PassMachine.drawn) (g.met.M.PassMachine g.world.𝓛 g.world.𝓜 g.world.𝓡 ((λ s x. x), (λ x. x), (λ x. x), λ x. x)).shows_whole c.args.input.now b.told c.args.number c.args.passed.now b.first
+    (g.M.PassMachine.state c.args.machine.now) c.args.recency.now c.requires.input c.requires.goes_on c.requires.followed
+    (walk_state g.D.Folder c.args.input.now.names.store.now c.args.folder.now (b.kept ∷ (g.M.PassMachine.state c.args.machine.now).files)
     (g.O.Sink.held c.args.out.now) (g.O.Sink.faults c.args.out.now)) at
     (g.M.PassMachine.drawn c.run_and_write-ran.new.machine) (g.M.PassMachine.is_idle c.run_and_write-ran.new.machine) (g.M.PassMachine.state c.run_and_write-ran.new.machine) c.run_and_write-ran.result.0
     c.run_and_write-ran.ensures.ran) at _ c.in_ok-written.was (g.O.Sink.held c.put_picture_line.new.out) (g.O.Sink.faults c.put_picture_line.new.out)
     c.in_ok-put_picture_line.ensures.whole c.in_ok-put_picture_line.ensures.faults c.in_ok-report.report
     (ran_by_some g.M.PassMachine.drawing g.M.PassMachine.drawn c.run_and_write-ran.new.machine
-    (record { scene = tour_scene c.args.tour.now; picture = c.args.passed.now.picture + 1; batch = c.args.passed.now.outlook.plan.elements })
+    (record { scene = input_scene c.args.input.now; picture = c.args.passed.now.picture + 1; batch = c.args.passed.now.outlook.plan.elements })
     c.in_ok-report.report (g.M.PassMachine.state c.args.machine.now) (g.M.PassMachine.state c.run_and_write-ran.new.machine) ends.ran)
 
 pub returns-in_err-written-clause-asked : goal.returns-in_err-written-clause-asked
@@ -112,9 +112,9 @@ returns-in_err-written-clause-out_faults g c = omega arith
 pub returns-in_err-written-clause-same : goal.returns-in_err-written-clause-same
 returns-in_err-written-clause-same g c =
     let b = c.requires.stands.0 in
-    (next_read g.M.PassMachine.drawing (IsDrawnBySome g.M.PassMachine.drawn) (g.met.M.PassMachine g.world.𝓛 g.world.𝓜 g.world.𝓡 ((λ s x. x), (λ x. x), (λ x. x), λ x. x)).shows_whole c.args.tour.now b.told c.args.number c.args.passed.now b.first
-    (g.M.PassMachine.state c.args.machine.now) c.args.recency.now c.requires.tour c.requires.goes_on c.requires.followed
-    (walk_state g.D.Folder c.args.tour.now.names.store.now c.args.folder.now (b.kept ∷ (g.M.PassMachine.state c.args.machine.now).files)
+    (next_read g.M.PassMachine.drawing (IsDrawnBySome g.M.PassMachine.drawn) (g.met.M.PassMachine g.world.𝓛 g.world.𝓜 g.world.𝓡 ((λ s x. x), (λ x. x), (λ x. x), λ x. x)).shows_whole c.args.input.now b.told c.args.number c.args.passed.now b.first
+    (g.M.PassMachine.state c.args.machine.now) c.args.recency.now c.requires.input c.requires.goes_on c.requires.followed
+    (walk_state g.D.Folder c.args.input.now.names.store.now c.args.folder.now (b.kept ∷ (g.M.PassMachine.state c.args.machine.now).files)
     (g.O.Sink.held c.args.out.now) (g.O.Sink.faults c.args.out.now)) c.requires.stands.1
     (g.M.PassMachine.drawn c.run_and_write-ran.new.machine) (g.M.PassMachine.is_idle c.run_and_write-ran.new.machine)
     (g.M.PassMachine.state c.run_and_write-ran.new.machine) c.run_and_write-ran.result.0 c.run_and_write-ran.ensures.ran).same
@@ -131,9 +131,9 @@ returns-in_err-put_picture_line-clause-out_faults g c = c.put_picture_line.ensur
 pub returns-in_err-put_picture_line-clause-same : goal.returns-in_err-put_picture_line-clause-same
 returns-in_err-put_picture_line-clause-same g c =
     let b = c.requires.stands.0 in
-    (next_read g.M.PassMachine.drawing (IsDrawnBySome g.M.PassMachine.drawn) (g.met.M.PassMachine g.world.𝓛 g.world.𝓜 g.world.𝓡 ((λ s x. x), (λ x. x), (λ x. x), λ x. x)).shows_whole c.args.tour.now b.told c.args.number c.args.passed.now b.first
-    (g.M.PassMachine.state c.args.machine.now) c.args.recency.now c.requires.tour c.requires.goes_on c.requires.followed
-    (walk_state g.D.Folder c.args.tour.now.names.store.now c.args.folder.now (b.kept ∷ (g.M.PassMachine.state c.args.machine.now).files)
+    (next_read g.M.PassMachine.drawing (IsDrawnBySome g.M.PassMachine.drawn) (g.met.M.PassMachine g.world.𝓛 g.world.𝓜 g.world.𝓡 ((λ s x. x), (λ x. x), (λ x. x), λ x. x)).shows_whole c.args.input.now b.told c.args.number c.args.passed.now b.first
+    (g.M.PassMachine.state c.args.machine.now) c.args.recency.now c.requires.input c.requires.goes_on c.requires.followed
+    (walk_state g.D.Folder c.args.input.now.names.store.now c.args.folder.now (b.kept ∷ (g.M.PassMachine.state c.args.machine.now).files)
     (g.O.Sink.held c.args.out.now) (g.O.Sink.faults c.args.out.now)) c.requires.stands.1
     (g.M.PassMachine.drawn c.run_and_write-ran.new.machine) (g.M.PassMachine.is_idle c.run_and_write-ran.new.machine)
     (g.M.PassMachine.state c.run_and_write-ran.new.machine) c.run_and_write-ran.result.0 c.run_and_write-ran.ensures.ran).same
@@ -150,9 +150,9 @@ returns-in_err-report-clause-out_faults g c = c.put_picture_line.ensures.faults
 pub returns-in_err-report-clause-same : goal.returns-in_err-report-clause-same
 returns-in_err-report-clause-same g c =
     let b = c.requires.stands.0 in
-    (next_read g.M.PassMachine.drawing (IsDrawnBySome g.M.PassMachine.drawn) (g.met.M.PassMachine g.world.𝓛 g.world.𝓜 g.world.𝓡 ((λ s x. x), (λ x. x), (λ x. x), λ x. x)).shows_whole c.args.tour.now b.told c.args.number c.args.passed.now b.first
-    (g.M.PassMachine.state c.args.machine.now) c.args.recency.now c.requires.tour c.requires.goes_on c.requires.followed
-    (walk_state g.D.Folder c.args.tour.now.names.store.now c.args.folder.now (b.kept ∷ (g.M.PassMachine.state c.args.machine.now).files)
+    (next_read g.M.PassMachine.drawing (IsDrawnBySome g.M.PassMachine.drawn) (g.met.M.PassMachine g.world.𝓛 g.world.𝓜 g.world.𝓡 ((λ s x. x), (λ x. x), (λ x. x), λ x. x)).shows_whole c.args.input.now b.told c.args.number c.args.passed.now b.first
+    (g.M.PassMachine.state c.args.machine.now) c.args.recency.now c.requires.input c.requires.goes_on c.requires.followed
+    (walk_state g.D.Folder c.args.input.now.names.store.now c.args.folder.now (b.kept ∷ (g.M.PassMachine.state c.args.machine.now).files)
     (g.O.Sink.held c.args.out.now) (g.O.Sink.faults c.args.out.now)) c.requires.stands.1
     (g.M.PassMachine.drawn c.run_and_write-ran.new.machine) (g.M.PassMachine.is_idle c.run_and_write-ran.new.machine)
     (g.M.PassMachine.state c.run_and_write-ran.new.machine) c.run_and_write-ran.result.0 c.run_and_write-ran.ensures.ran).same
@@ -169,9 +169,9 @@ returns-clause-out_faults g c = c.put_picture_line.ensures.faults
 pub returns-clause-same : goal.returns-clause-same
 returns-clause-same g c =
     let b = c.requires.stands.0 in
-    (next_read g.M.PassMachine.drawing (IsDrawnBySome g.M.PassMachine.drawn) (g.met.M.PassMachine g.world.𝓛 g.world.𝓜 g.world.𝓡 ((λ s x. x), (λ x. x), (λ x. x), λ x. x)).shows_whole c.args.tour.now b.told c.args.number c.args.passed.now b.first
-    (g.M.PassMachine.state c.args.machine.now) c.args.recency.now c.requires.tour c.requires.goes_on c.requires.followed
-    (walk_state g.D.Folder c.args.tour.now.names.store.now c.args.folder.now (b.kept ∷ (g.M.PassMachine.state c.args.machine.now).files)
+    (next_read g.M.PassMachine.drawing (IsDrawnBySome g.M.PassMachine.drawn) (g.met.M.PassMachine g.world.𝓛 g.world.𝓜 g.world.𝓡 ((λ s x. x), (λ x. x), (λ x. x), λ x. x)).shows_whole c.args.input.now b.told c.args.number c.args.passed.now b.first
+    (g.M.PassMachine.state c.args.machine.now) c.args.recency.now c.requires.input c.requires.goes_on c.requires.followed
+    (walk_state g.D.Folder c.args.input.now.names.store.now c.args.folder.now (b.kept ∷ (g.M.PassMachine.state c.args.machine.now).files)
     (g.O.Sink.held c.args.out.now) (g.O.Sink.faults c.args.out.now)) c.requires.stands.1
     (g.M.PassMachine.drawn c.run_and_write-ran.new.machine) (g.M.PassMachine.is_idle c.run_and_write-ran.new.machine)
     (g.M.PassMachine.state c.run_and_write-ran.new.machine) c.run_and_write-ran.result.0 c.run_and_write-ran.ensures.ran).same

@@ -11,12 +11,12 @@ pub returns-in_err-place_pinned-clause-begun : goal.returns-in_err-place_pinned-
 returns-in_err-place_pinned-clause-begun g c =
     let p = err_from_is_err_and c.from_residual.result c.from_residual.ensures.1 in
     λ held out_faults. rw p.1 (pinned_broke g.M.PassMachine.drawing
-    (IsDrawnBySome g.M.PassMachine.drawn) c.args.tour.now
-    (g.D.File.File.bytes c.args.store.now.file) c.args.store.now.depth c.args.tour.now.names.store.now
+    (IsDrawnBySome g.M.PassMachine.drawn) c.args.input.now
+    (g.D.File.File.bytes c.args.store.now.file) c.args.store.now.depth c.args.input.now.names.store.now
     (file_state g.D.File.File c.args.store.now.file) (file_state g.D.File.File c.place_pinned.new.store.file)
     (g.D.Folder.files c.args.folder.now) (g.D.Folder.asked c.args.folder.now) (g.D.Folder.faults c.args.folder.now)
     (g.M.PassMachine.state c.args.machine.now) (g.M.PassMachine.state c.place_pinned.new.machine)
-    held out_faults c.requires.tour c.requires.enough_frames (subst
+    held out_faults c.requires.input c.requires.enough_frames (subst
     (λ s. IsStoreIfTold (g.D.File.File.bytes c.args.store.now.file) s c.args.store.now.depth) c.requires.shape c.requires.store) c.requires.depth
     c.requires.begins c.requires.tell
     c.in_err-place_pinned.ensures.files c.in_err-place_pinned.ensures.part c.in_err-place_pinned.ensures.lost c.in_err-place_pinned.ensures.faults
@@ -26,12 +26,12 @@ pub returns-in_err-recency-clause-begun : goal.returns-in_err-recency-clause-beg
 returns-in_err-recency-clause-begun g c =
     let p = err_from_is_err_and c.from_residual-in_err-recency.result c.from_residual-in_err-recency.ensures.1 in
     λ held out_faults. rw p.1 (head_broke g.M.PassMachine.drawing
-    (IsDrawnBySome g.M.PassMachine.drawn) c.args.tour.now
-    (g.D.File.File.bytes c.args.store.now.file) c.args.store.now.depth c.args.tour.now.names.store.now
+    (IsDrawnBySome g.M.PassMachine.drawn) c.args.input.now
+    (g.D.File.File.bytes c.args.store.now.file) c.args.store.now.depth c.args.input.now.names.store.now
     (file_state g.D.File.File c.args.store.now.file) (file_state g.D.File.File c.place_pinned.new.store.file)
     (g.D.Folder.files c.args.folder.now) (g.D.Folder.asked c.args.folder.now) (g.D.Folder.faults c.args.folder.now)
     (g.M.PassMachine.state c.args.machine.now) (g.M.PassMachine.state c.place_pinned.new.machine)
-    held out_faults c.requires.tour c.requires.enough_frames (subst
+    held out_faults c.requires.input c.requires.enough_frames (subst
     (λ s. IsStoreIfTold (g.D.File.File.bytes c.args.store.now.file) s c.args.store.now.depth) c.requires.shape c.requires.store) c.requires.depth
     c.requires.begins c.requires.tell
     (g.D.Folder.files c.args.folder.now) (g.D.Folder.asked c.args.folder.now) (g.D.Folder.faults c.args.folder.now)
@@ -40,12 +40,12 @@ returns-in_err-recency-clause-begun g c =
 
 pub begin_journal-requires-after_bounds : goal.begin_journal-requires-after_bounds
 begin_journal-requires-after_bounds g c κs within =
-    pages_pinned g.M.PassMachine.drawing (IsDrawnBySome g.M.PassMachine.drawn) c.args.tour.now
-    (g.D.File.File.bytes c.args.store.now.file) c.args.store.now.depth c.args.tour.now.names.store.now
+    pages_pinned g.M.PassMachine.drawing (IsDrawnBySome g.M.PassMachine.drawn) c.args.input.now
+    (g.D.File.File.bytes c.args.store.now.file) c.args.store.now.depth c.args.input.now.names.store.now
     (file_state g.D.File.File c.args.store.now.file) (file_state g.D.File.File c.place_pinned.new.store.file)
     (g.D.Folder.files c.args.folder.now) (g.D.Folder.asked c.args.folder.now) (g.D.Folder.faults c.args.folder.now)
     (g.M.PassMachine.state c.args.machine.now) (g.M.PassMachine.state c.place_pinned.new.machine)
-    None 0 c.requires.tour c.requires.enough_frames (subst (λ s. IsStoreIfTold (g.D.File.File.bytes c.args.store.now.file) s c.args.store.now.depth)
+    None 0 c.requires.input c.requires.enough_frames (subst (λ s. IsStoreIfTold (g.D.File.File.bytes c.args.store.now.file) s c.args.store.now.depth)
     c.requires.shape c.requires.store) c.requires.depth c.requires.begins c.requires.tell c.journal.result.now.changes
     c.in_ok-place_pinned.ensures.placed c.journal.ensures
 
@@ -53,12 +53,12 @@ pub returns-in_err-begin_journal-clause-begun : goal.returns-in_err-begin_journa
 returns-in_err-begin_journal-clause-begun g c =
     let p = err_from_is_err_and c.from_residual-in_err-begin_journal.result c.from_residual-in_err-begin_journal.ensures.1 in
     λ held out_faults. rw p.1 (head_broke g.M.PassMachine.drawing
-    (IsDrawnBySome g.M.PassMachine.drawn) c.args.tour.now
-    (g.D.File.File.bytes c.args.store.now.file) c.args.store.now.depth c.args.tour.now.names.store.now
+    (IsDrawnBySome g.M.PassMachine.drawn) c.args.input.now
+    (g.D.File.File.bytes c.args.store.now.file) c.args.store.now.depth c.args.input.now.names.store.now
     (file_state g.D.File.File c.args.store.now.file) (file_state g.D.File.File c.place_pinned.new.store.file)
     (g.D.Folder.files c.args.folder.now) (g.D.Folder.asked c.args.folder.now) (g.D.Folder.faults c.args.folder.now)
     (g.M.PassMachine.state c.args.machine.now) (g.M.PassMachine.state c.place_pinned.new.machine)
-    held out_faults c.requires.tour c.requires.enough_frames (subst
+    held out_faults c.requires.input c.requires.enough_frames (subst
     (λ s. IsStoreIfTold (g.D.File.File.bytes c.args.store.now.file) s c.args.store.now.depth) c.requires.shape c.requires.store) c.requires.depth
     c.requires.begins c.requires.tell
     (g.D.Folder.files c.begin_journal.new.folder) (g.D.Folder.asked c.begin_journal.new.folder) (g.D.Folder.faults c.begin_journal.new.folder)
@@ -67,12 +67,12 @@ returns-in_err-begin_journal-clause-begun g c =
 
 pub returns-clause-begun : goal.returns-clause-begun
 returns-clause-begun g c = λ held out_faults. head_stands g.M.PassMachine.drawing
-    (IsDrawnBySome g.M.PassMachine.drawn) c.args.tour.now
-    (g.D.File.File.bytes c.args.store.now.file) c.args.store.now.depth c.args.tour.now.names.store.now
+    (IsDrawnBySome g.M.PassMachine.drawn) c.args.input.now
+    (g.D.File.File.bytes c.args.store.now.file) c.args.store.now.depth c.args.input.now.names.store.now
     (file_state g.D.File.File c.args.store.now.file) (file_state g.D.File.File c.place_pinned.new.store.file)
     (g.D.Folder.files c.args.folder.now) (g.D.Folder.asked c.args.folder.now) (g.D.Folder.faults c.args.folder.now)
     (g.M.PassMachine.state c.args.machine.now) (g.M.PassMachine.state c.place_pinned.new.machine)
-    held out_faults c.requires.tour c.requires.enough_frames (subst
+    held out_faults c.requires.input c.requires.enough_frames (subst
     (λ s. IsStoreIfTold (g.D.File.File.bytes c.args.store.now.file) s c.args.store.now.depth) c.requires.shape c.requires.store) c.requires.depth
     c.requires.begins c.requires.tell
     (g.D.Folder.files c.begin_journal.new.folder) (g.D.Folder.asked c.begin_journal.new.folder) (g.D.Folder.faults c.begin_journal.new.folder)

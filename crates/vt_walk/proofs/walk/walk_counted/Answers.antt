@@ -6,22 +6,22 @@ use Rattle.vt_outside.specs.Counts.{added}
 use Rattle.vt_outside.specs.Files.{with_places}
 use Rattle.vt_pages.specs.Shape.{Shape}
 use Rattle.vt_pages.specs.Pages.{pinned_of}
-use Rattle.vt_shown.specs.Scenes.{scene_of}
+use Rattle.vt_pictures.specs.Scenes.{scene_of}
 use Rattle.vt_machine.specs.Machines.{file_state}
-use Rattle.vt_turns.specs.declared.error.WalkError.TheVariants.{TooFewFrames}
-use Rattle.vt_turns.specs.declared.mode.Mode.{Mode}
+use Rattle.vt_walk_decisions.specs.declared.error.WalkError.TheVariants.{TooFewFrames}
+use Rattle.vt_walk_decisions.specs.declared.mode.Mode.{Mode}
 use Rattle.vt_walk.specs.Walks.{WalkGiven, given_by, mode_of, names_of, AreSettings}
 use Rattle.vt_walk.specs.States.{walk_state}
 use Rattle.vt_walk.specs.Standing.{Finished}
-use Rattle.vt_walk.specs.Turns.{LeftBy}
+use Rattle.vt_walk.specs.WalkSteps.{LeftByRefusal}
 use Rattle.vt_walk.specs.Written.{IsDrawnBySome}
 use Rattle.vt_walk.proofs.Closings.{others_closed}
 use Rattle.vt_walk.proofs.Concluding.{others_chain, store_closed}
-use Rattle.vt_walk.proofs.Touring.{some_pinned}
+use Rattle.vt_walk.proofs.WalkInputLaws.{some_pinned}
 use Rattle.vt_walk.proofs.walk.walk_counted.Goals as goal
 
-pub walk_store-walked-requires-clause-tour : goal.walk_store-walked-requires-clause-tour
-walk_store-walked-requires-clause-tour g c κs within =
+pub walk_store-walked-requires-clause-input : goal.walk_store-walked-requires-clause-input
+walk_store-walked-requires-clause-input g c κs within =
     let settings = subst (λ (s : Shape). AreSettings s c.args.settings.now) (sym c.geometry-geometry.ensures.shape) c.requires.settings in
     record {
       limits = c.page_count.ensures.limits;
@@ -52,7 +52,7 @@ returns-clause-walked g c =
     (g.D.Folder.asked c.walk_store-walked.new.folder)) c.into_file.ensures c.close.ensures.asked in
     let faults = subst (λ f. g.D.Folder.faults c.close.new.self ≡ added (g.D.Folder.faults c.walk_store-walked.new.folder)
     (g.D.File.File.faults f)) c.into_file.ensures c.close.ensures.faults in
-    subst (λ (walk : WalkGiven). MatchResult c.walk_store-walked.result (λ _. Finished drawn walk first last) (LeftBy drawn walk first last)) same
+    subst (λ (walk : WalkGiven). MatchResult c.walk_store-walked.result (λ _. Finished drawn walk first last) (LeftByRefusal drawn walk first last)) same
     (store_closed g.D.Folder name drawn (given c.geometry-geometry.result c.depth.result c.mode_of.result) c.walk_store-walked.result first
     (file_state g.D.File.File c.walk_store-walked.new.store.file) c.walk_store-walked.new.folder c.close.new.self
     (g.O.Sink.held c.walk_store-walked.new.out) (g.O.Sink.faults c.walk_store-walked.new.out) c.walk_store-walked.ensures.opened

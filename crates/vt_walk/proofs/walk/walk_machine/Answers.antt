@@ -6,7 +6,7 @@ use Rattle.vt_outside.specs.Files.{Asked}
 use Rattle.vt_machine.specs.Machines.{file_state, files_of}
 use Rattle.vt_walk.specs.States.{AreOpen}
 use Rattle.vt_walk.specs.Closing.{with_closed, AreOtherNamesAsBefore}
-use Rattle.vt_walk.specs.Tours.{given_of}
+use Rattle.vt_walk.specs.WalkInputs.{given_of}
 use Rattle.vt_walk.specs.Written.{IsDrawnBySome}
 use Rattle.vt_walk.proofs.Closings.{closed_tells, others_closed, same_open}
 use Rattle.vt_walk.proofs.Concluding.{open_told, one_open, machine_closed}
@@ -14,7 +14,7 @@ use Rattle.vt_walk.proofs.walk.walk_machine.Goals as goal
 
 pub walk_all-walked-requires-clause-tell : goal.walk_all-walked-requires-clause-tell
 walk_all-walked-requires-clause-tell g c κs within =
-    open_told 1 c.args.tour.now.settings.crew.loaders c.args.tour.now.names.store.now (g.D.Folder.asked c.args.folder.now)
+    open_told 1 c.args.input.now.settings.crew.loaders c.args.input.now.names.store.now (g.D.Folder.asked c.args.folder.now)
     (file_state g.D.File.File c.args.store.now.file) (g.M.PassMachine.state c.args.machine).files c.requires.opened c.requires.loaders
 
 pub returns-clause-walked : goal.returns-clause-walked
@@ -22,11 +22,11 @@ returns-clause-walked g c =
     let left = (g.M.PassMachine.state c.walk_all-walked.new.machine).files in
     let mid = c.walk_all-walked.new.folder in
     let last = c.close_stores.new.folder in
-    machine_closed g.D.Folder c.args.tour.now.names.store.now (IsDrawnBySome g.M.PassMachine.drawn)
-    (given_of g.M.PassMachine.drawing c.args.tour.now
+    machine_closed g.D.Folder c.args.input.now.names.store.now (IsDrawnBySome g.M.PassMachine.drawn)
+    (given_of g.M.PassMachine.drawing c.args.input.now
     (g.D.File.File.bytes c.args.store.now.file))
     c.walk_all-walked.result (file_state g.D.File.File c.args.store.now.file) (file_state g.D.File.File c.walk_all-walked.new.store.file)
-    (g.M.PassMachine.state c.args.machine).files left c.args.folder.now mid last _ _ _ _ c.args.tour.now.settings.crew.loaders
+    (g.M.PassMachine.state c.args.machine).files left c.args.folder.now mid last _ _ _ _ c.args.input.now.settings.crew.loaders
     c.requires.loaders c.requires.no_places c.requires.no_faults c.walk_all-walked.ensures.same c.walk_all-walked.ensures.asked
     (c.close_stores.ensures.asked ∙ ap (λ (fs : List FileState). with_closed fs (g.D.Folder.asked mid)) c.end.ensures)
     (subst (λ (fs : List FileState). RoseBy (sum (counts_of fs)) (g.D.Folder.faults mid) (g.D.Folder.faults last)) c.end.ensures c.close_stores.ensures.rose)
@@ -35,8 +35,8 @@ returns-clause-walked g c =
 pub returns-clause-others : goal.returns-clause-others
 returns-clause-others g c =
     let left = (g.M.PassMachine.state c.walk_all-walked.new.machine).files in
-    let name = c.args.tour.now.names.store.now in
-    let loaders = c.args.tour.now.settings.crew.loaders in
+    let name = c.args.input.now.names.store.now in
+    let loaders = c.args.input.now.settings.crew.loaders in
     let old = g.D.Folder.asked c.args.folder.now in
     let mid = g.D.Folder.asked c.walk_all-walked.new.folder in
     let last = g.D.Folder.asked c.close_stores.new.folder in
@@ -54,7 +54,7 @@ returns-clause-opened g c =
     ap (λ (a : Option Asked). is_some a) c.close_stores.ensures.asked
     ∙ closed_tells (files_of g.D.File.File c.end.result.elements) (g.D.Folder.asked c.walk_all-walked.new.folder)
     ∙ ap (λ (a : Option Asked). is_some a) c.walk_all-walked.ensures.asked in
-    one_open 1 c.args.tour.now.names.store.now (g.D.Folder.asked c.args.folder.now) (g.D.Folder.asked c.close_stores.new.folder)
+    one_open 1 c.args.input.now.names.store.now (g.D.Folder.asked c.args.folder.now) (g.D.Folder.asked c.close_stores.new.folder)
     (file_state g.D.File.File c.args.store.now.file) (file_state g.D.File.File c.walk_all-walked.new.store.file) c.requires.opened
     c.walk_all-walked.ensures.store tell
 

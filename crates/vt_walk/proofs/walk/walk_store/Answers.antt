@@ -1,24 +1,24 @@
 use Rattle.std.proofs.Common.{[], ◌∷◌, ◌<◌, ◌≤◌, Err, refl, ap, sym, subst, rules, arith}
 use Rattle.std.specs.Prelude.{MatchBool}
 use Rattle.vt_machine.specs.Machines.{file_state}
-use Rattle.vt_turns.specs.declared.error.WalkError.{WalkError}
+use Rattle.vt_walk_decisions.specs.declared.error.WalkError.{WalkError}
 use Rattle.vt_walk.specs.States.{walk_state}
-use Rattle.vt_walk.specs.Tours.{given_of}
-use Rattle.vt_walk.specs.Turns.{LeftBy}
+use Rattle.vt_walk.specs.WalkInputs.{given_of}
+use Rattle.vt_walk.specs.WalkSteps.{LeftByRefusal}
 use Rattle.vt_walk.specs.Written.{IsDrawnBySome}
 use Rattle.vt_walk.proofs.Concluding.{told_there, opened_first, refused_first}
 use Rattle.vt_walk.proofs.walk.walk_store.Goals as goal
 
 pub open_loaders-requires-clause-there : goal.open_loaders-requires-clause-there
 open_loaders-requires-clause-there g c κs within =
-    told_there (g.D.Folder.files c.args.folder.now) c.args.tour.now.names.store.now
+    told_there (g.D.Folder.files c.args.folder.now) c.args.input.now.names.store.now
     (g.D.File.File.bytes c.args.store.now.file) c.requires.bytes c.requires.tells
 
 pub returns-in-Ok-clause-walked : goal.returns-in-Ok-clause-walked
 returns-in-Ok-clause-walked g c =
-    let name = c.args.tour.now.names.store.now in
+    let name = c.args.input.now.names.store.now in
     opened_first g.D.Folder name (IsDrawnBySome g.M.PassMachine.drawn)
-    (given_of g.M.PassMachine.drawing c.args.tour.now
+    (given_of g.M.PassMachine.drawing c.args.input.now
     (g.D.File.File.bytes c.args.store.now.file))
     c.walk_stores.result (file_state g.D.File.File c.args.store.now.file) c.args.folder.now c.open_loaders.new.folder (g.O.Sink.held c.args.out.now)
     (g.O.Sink.faults c.args.out.now)
@@ -29,14 +29,14 @@ returns-in-Ok-clause-walked g c =
 pub returns-in-Err-clause-walked : goal.returns-in-Err-clause-walked
 returns-in-Err-clause-walked g c =
     let drawn = IsDrawnBySome g.M.PassMachine.drawn in
-    let given = given_of g.M.PassMachine.drawing c.args.tour.now
+    let given = given_of g.M.PassMachine.drawing c.args.input.now
     (g.D.File.File.bytes c.args.store.now.file) in
-    let name = c.args.tour.now.names.store.now in
+    let name = c.args.input.now.names.store.now in
     let kept = file_state g.D.File.File c.args.store.now.file in
     let held = g.O.Sink.held c.args.out.now in
     let faults = g.O.Sink.faults c.args.out.now in
     subst
-    (λ (e : WalkError). LeftBy drawn given (walk_state g.D.Folder name c.args.folder.now (kept ∷ []) held faults)
+    (λ (e : WalkError). LeftByRefusal drawn given (walk_state g.D.Folder name c.args.folder.now (kept ∷ []) held faults)
     (walk_state g.D.Folder name c.open_loaders.new.folder (kept ∷ []) held faults) e)
     (sym c.into.ensures)
     (refused_first g.D.Folder name drawn given kept c.args.folder.now c.open_loaders.new.folder held faults c.in-Err.refusal
@@ -47,9 +47,9 @@ returns-then-has_too_few_frames-clause-walked g c = (
   search rules,
   record {
     frames_are = refl;
-    needed_are = c.requires.tour.pages;
-    few = subst (λ b. MatchBool b (c.args.tour.now.settings.frames < c.args.tour.now.pinned)
-        (c.args.tour.now.pinned ≤ c.args.tour.now.settings.frames)) c.if-has_too_few_frames.true c.has_too_few_frames.ensures;
+    needed_are = c.requires.input.pages;
+    few = subst (λ b. MatchBool b (c.args.input.now.settings.frames < c.args.input.now.pinned)
+        (c.args.input.now.pinned ≤ c.args.input.now.settings.frames)) c.if-has_too_few_frames.true c.has_too_few_frames.ensures;
     none = record { files = refl; held = refl };
   },
 )

@@ -4,11 +4,11 @@ use Rattle.vt_outside.specs.Counts.{RoseBy}
 use Rattle.vt_outside.specs.Files.{Asked}
 use Rattle.vt_machine.specs.Requests.{FileState, counts_of}
 use Rattle.vt_machine.specs.Machines.{file_state, files_of, setup_of}
-use Rattle.vt_turns.specs.declared.error.WalkError.{WalkError}
+use Rattle.vt_walk_decisions.specs.declared.error.WalkError.{WalkError}
 use Rattle.vt_walk.specs.States.{AreOpen, places_of, walk_state}
 use Rattle.vt_walk.specs.Closing.{with_closed}
-use Rattle.vt_walk.specs.Tours.{given_of}
-use Rattle.vt_walk.specs.Turns.{LeftBy}
+use Rattle.vt_walk.specs.WalkInputs.{given_of}
+use Rattle.vt_walk.specs.WalkSteps.{LeftByRefusal}
 use Rattle.vt_walk.specs.Written.{IsDrawnBySome}
 use Rattle.vt_walk.proofs.Closings.{closed_tells, others_closed}
 use Rattle.vt_walk.proofs.Concluding.{one_open, stores_closed}
@@ -17,8 +17,8 @@ use Rattle.vt_walk.proofs.walk.walk_stores.Goals as goal
 pub walk_machine-requires-clause-begins : goal.walk_machine-requires-clause-begins
 walk_machine-requires-clause-begins g c κs within = record {
   setup = c.in-Ok.ensures.begins.setup
-      ∙ ap (λ (told : Option (List ℕ)). setup_of c.args.tour.now.geometry.now c.args.tour.now.depth c.args.tour.now.path.now
-      c.args.tour.now.settings.frames c.args.tour.now.settings.crew told)
+      ∙ ap (λ (told : Option (List ℕ)). setup_of c.args.input.now.geometry.now c.args.input.now.depth c.args.input.now.path.now
+      c.args.input.now.settings.frames c.args.input.now.settings.crew told)
       c.requires.stores.told_is;
   journal = c.in-Ok.ensures.begins.journal;
 }
@@ -33,25 +33,25 @@ walk_machine-requires-clause-no_places g c κs within =
 
 pub walk_machine-requires-clause-loaders : goal.walk_machine-requires-clause-loaders
 walk_machine-requires-clause-loaders g c κs within =
-    subst (λ (fs : List FileState). AreOpen c.args.tour.now.settings.crew.loaders c.args.tour.now.names.store.now (g.D.Folder.asked c.args.folder.now) fs)
+    subst (λ (fs : List FileState). AreOpen c.args.input.now.settings.crew.loaders c.args.input.now.names.store.now (g.D.Folder.asked c.args.folder.now) fs)
     (sym c.in-Ok.ensures.begins.files_are) c.requires.stores.opened
 
 pub returns-in-Err-clause-walked : goal.returns-in-Err-clause-walked
 returns-in-Err-clause-walked g c =
     let drawn = IsDrawnBySome g.M.PassMachine.drawn in
-    let given = given_of g.M.PassMachine.drawing c.args.tour.now
+    let given = given_of g.M.PassMachine.drawing c.args.input.now
     (g.D.File.File.bytes c.args.store.now.file) in
-    let name = c.args.tour.now.names.store.now in
+    let name = c.args.input.now.names.store.now in
     let kept = file_state g.D.File.File c.args.store.now.file in
     let opened = files_of g.D.File.File c.args.stores.elements in
     let held = g.O.Sink.held c.args.out.now in
     let faults = g.O.Sink.faults c.args.out.now in
     let old = c.args.folder.now in
     let last = c.close_stores.new.folder in
-    subst (λ (e : WalkError). LeftBy drawn given (walk_state g.D.Folder name old (kept ∷ []) held faults) (walk_state g.D.Folder name last
+    subst (λ (e : WalkError). LeftByRefusal drawn given (walk_state g.D.Folder name old (kept ∷ []) held faults) (walk_state g.D.Folder name last
     (kept ∷ []) held faults) e)
     (sym c.into.ensures)
-    (stores_closed g.D.Folder name drawn given kept opened old last held faults c.args.tour.now.settings.crew.loaders
+    (stores_closed g.D.Folder name drawn given kept opened old last held faults c.args.input.now.settings.crew.loaders
     c.requires.stores.opened c.requires.stores.no_places c.requires.stores.no_faults
     (c.close_stores.ensures.asked ∙ ap (λ (fs : List FileState). with_closed fs (g.D.Folder.asked old)) c.in-Err.ensures.refused)
     (subst (λ (fs : List FileState). RoseBy (sum (counts_of fs)) (g.D.Folder.faults old)
@@ -64,12 +64,12 @@ returns-in-Err-clause-opened g c =
     ap (λ (a : Option Asked). is_some a) c.close_stores.ensures.asked
     ∙ closed_tells (files_of g.D.File.File c.in-Err.stores.elements) (g.D.Folder.asked c.args.folder.now) in
     let kept = file_state g.D.File.File c.args.store.now.file in
-    one_open 1 c.args.tour.now.names.store.now (g.D.Folder.asked c.args.folder.now) (g.D.Folder.asked c.close_stores.new.folder) kept kept
+    one_open 1 c.args.input.now.names.store.now (g.D.Folder.asked c.args.folder.now) (g.D.Folder.asked c.close_stores.new.folder) kept kept
     c.requires.opened (record { name = refl; tell = refl }) tell
 
 pub returns-in-Err-clause-others : goal.returns-in-Err-clause-others
 returns-in-Err-clause-others g c =
-    others_closed c.args.tour.now.names.store.now c.args.tour.now.settings.crew.loaders (files_of g.D.File.File c.args.stores.elements)
+    others_closed c.args.input.now.names.store.now c.args.input.now.settings.crew.loaders (files_of g.D.File.File c.args.stores.elements)
     (g.D.Folder.asked c.args.folder.now) (g.D.Folder.asked c.close_stores.new.folder) c.requires.stores.opened
     (c.close_stores.ensures.asked ∙ ap (λ (fs : List FileState). with_closed fs (g.D.Folder.asked c.args.folder.now)) c.in-Err.ensures.refused)
 

@@ -7,28 +7,28 @@ use Rattle.vt_machine.proofs.machine.PassMachine.run.Goals as goal
 pub work_together-requires-clause-loaders : goal.work_together-requires-clause-loaders
 work_together-requires-clause-loaders g c κs within =
     all_ready g.Self.Loader.Task.ready _ _ _ _ c.shared.ensures (ap (λ (batch : List Planned). job_of c.args.shot.now batch) c.slice.ensures)
-    c.muster-loaders.result.0.elements _ c.slice_mut.ensures.value c.muster-loaders.ensures.loaders
+    c.detach_workers-loaders.result.0.elements _ c.slice_mut.ensures.value c.detach_workers-loaders.ensures.loaders
 
 pub work_together-requires-clause-samplers : goal.work_together-requires-clause-samplers
 work_together-requires-clause-samplers g c κs within =
     all_ready g.Self.Sampler.Task.ready _ _ _ _ c.shared.ensures (ap (λ (batch : List Planned). job_of c.args.shot.now batch) c.slice.ensures)
-    c.muster-loaders.result.1.elements _ c.slice_mut-2.ensures.value c.muster-loaders.ensures.samplers
+    c.detach_workers-loaders.result.1.elements _ c.slice_mut-2.ensures.value c.detach_workers-loaders.ensures.samplers
 
 pub work_together-requires-clause-streamer : goal.work_together-requires-clause-streamer
 work_together-requires-clause-streamer g c κs within =
     one_ready g.Self.Streamer.Task.ready _ _ _ _ c.shared.ensures (ap (λ (batch : List Planned). job_of c.args.shot.now batch) c.slice.ensures)
-    c.muster-loaders.result.2 c.muster-loaders.ensures.streamer
+    c.detach_workers-loaders.result.2 c.detach_workers-loaders.ensures.streamer
 
-pub dismiss-requires : goal.dismiss-requires
-dismiss-requires g c =
+pub reattach_workers-requires : goal.reattach_workers-requires
+reattach_workers-requires g c =
     let shot = c.args.shot.now in
     let with = λ (batch : List Planned). job_of shot batch in
-    let out = c.muster-loaders.result in
+    let out = c.detach_workers-loaders.result in
     let done = c.work_together in
     let same = ap with c.slice.ensures in
-    g.met.Self.PassMachine.may_come_back (with c.args.batch.now.elements) c.args.self.now c.muster-loaders.new.self
+    g.met.Self.PassMachine.may_come_back (with c.args.batch.now.elements) c.args.self.now c.detach_workers-loaders.new.self
     out.0.elements _ out.1.elements _ out.2 done.new.streamer
-    c.requires.ready c.requires.root c.requires.job c.muster-loaders.ensures.mustered
+    c.requires.ready c.requires.root c.requires.job c.detach_workers-loaders.ensures.detached
     (same_number out.0.elements _ done.new.loaders c.slice_mut.ensures.value (search rules))
     (same_number out.1.elements _ done.new.samplers c.slice_mut-2.ensures.value (search rules))
     (all_did g.Self.Loader.Task.did _ _ _ _ c.shared.ensures same out.0.elements _ done.new.loaders c.slice_mut.ensures.value (search rules)
@@ -41,20 +41,20 @@ pub returns-clause-ends : goal.returns-clause-ends
 returns-clause-ends g c =
     let shot = c.args.shot.now in
     let with = λ (batch : List Planned). job_of shot batch in
-    let out = c.muster-loaders.result in
+    let out = c.detach_workers-loaders.result in
     let done = c.work_together in
     let same = ap with c.slice.ensures in
-    g.met.Self.PassMachine.has_run (with c.args.batch.now.elements) c.args.self.now c.muster-loaders.new.self c.dismiss.new.self
-    out.0.elements _ out.1.elements _ out.2 done.new.streamer c.dismiss.result
-    c.requires.ready c.requires.root c.requires.job c.muster-loaders.ensures.mustered
+    g.met.Self.PassMachine.has_run (with c.args.batch.now.elements) c.args.self.now c.detach_workers-loaders.new.self c.reattach_workers.new.self
+    out.0.elements _ out.1.elements _ out.2 done.new.streamer c.reattach_workers.result
+    c.requires.ready c.requires.root c.requires.job c.detach_workers-loaders.ensures.detached
     (same_number out.0.elements _ done.new.loaders c.slice_mut.ensures.value (search rules))
     (same_number out.1.elements _ done.new.samplers c.slice_mut-2.ensures.value (search rules))
     (all_did g.Self.Loader.Task.did _ _ _ _ c.shared.ensures same out.0.elements _ done.new.loaders c.slice_mut.ensures.value (search rules)
     done.ensures.loaders)
     (all_did g.Self.Sampler.Task.did _ _ _ _ c.shared.ensures same out.1.elements _ done.new.samplers c.slice_mut-2.ensures.value (search rules)
     done.ensures.samplers)
-    (one_did g.Self.Streamer.Task.did _ _ _ _ c.shared.ensures same out.2 done.new.streamer done.ensures.streamer) c.dismiss.ensures
+    (one_did g.Self.Streamer.Task.did _ _ _ _ c.shared.ensures same out.2 done.new.streamer done.ensures.streamer) c.reattach_workers.ensures
 
 pub returns-clause-refused : goal.returns-clause-refused
 returns-clause-refused g c =
-    g.met.Self.PassMachine.has_answered (job_of c.args.shot.now c.args.batch.now.elements) _ _ _ _ _ c.dismiss.result c.dismiss.ensures
+    g.met.Self.PassMachine.has_answered (job_of c.args.shot.now c.args.batch.now.elements) _ _ _ _ _ c.reattach_workers.result c.reattach_workers.ensures

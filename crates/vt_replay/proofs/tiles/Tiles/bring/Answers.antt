@@ -1,7 +1,7 @@
 use Rattle.std.proofs.Common.{◌≡◌, ℕ, ◌++◌, List, Some, length, take, drop, ap, ◌∙◌, arith}
 use Rattle.vt_journal.specs.Changes.{with_entry}
 use Rattle.vt_journal.specs.Kept.{entries_of}
-use Rattle.vt_replay.specs.Sights.{row_of}
+use Rattle.vt_replay.specs.ReplayLookups.{row_of}
 use Rattle.vt_replay.proofs.Tiling.{tiles_more}
 use Rattle.vt_replay.proofs.Written.{written_back}
 use Rattle.vt_replay.proofs.Reading.{read_none}

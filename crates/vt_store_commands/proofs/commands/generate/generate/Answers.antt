@@ -4,10 +4,10 @@ use Rattle.std.proofs.lemmas.List.{append-nil}
 use Rattle.std.proofs.lemmas.Result.{err_from_is_err_and}
 use Rattle.vt_outside.specs.Files.{gained}
 use Rattle.vt_words.specs.Gen.{shown_gen}
-use Rattle.vt_files.specs.Courses.{folder_state}
-use Rattle.vt_store_commands.specs.commands.Gen.{gen_due, gen_task}
-use Rattle.vt_inputs.proofs.Ending.{read_none, ends_done, ends_stopped}
-use Rattle.vt_inputs.proofs.Leaving.{left_writing, left_putting}
+use Rattle.vt_files.specs.Effects.{folder_state}
+use Rattle.vt_store_commands.specs.commands.Gen.{expected_gen, gen_task}
+use Rattle.vt_command_base.proofs.Ending.{read_none, ends_done, ends_stopped}
+use Rattle.vt_command_base.proofs.Leaving.{left_writing, left_putting}
 use Rattle.vt_store_commands.proofs.commands.generate.generate.Goals as goal
 
 nothing_gained : (held : Option (List ℕ)) → held ≡ option_map (gained []) held
@@ -21,7 +21,7 @@ returns-in_err-write_texture g c = λ out.
     let before = folder_state g.D.Folder c.args.folder.now in
     let after = folder_state g.D.Folder c.write_texture.new.folder in
     rw (p.1, p.2) (ends_stopped (gen_task words) [] before before after out out c.in_err-write_texture.field-0.0 (read_none before)
-    (left_writing (gen_due words []) before after out c.in_err-write_texture.field-0.0 c.in_err-write_texture.ensures))
+    (left_writing (expected_gen words []) before after out c.in_err-write_texture.field-0.0 c.in_err-write_texture.ensures))
 
 pub returns : goal.returns
 returns g c = λ out.
@@ -29,4 +29,4 @@ returns g c = λ out.
     let before = folder_state g.D.Folder c.args.folder.now in
     let after = folder_state g.D.Folder c.write_texture.new.folder in
     ends_done (gen_task words) [] before before after out out (read_none before)
-    (left_putting (gen_due words []) before after out out (Ok tt) c.in_ok-write_texture.ensures (nothing_gained out.held))
+    (left_putting (expected_gen words []) before after out out (Ok tt) c.in_ok-write_texture.ensures (nothing_gained out.held))

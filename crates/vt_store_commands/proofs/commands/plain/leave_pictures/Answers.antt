@@ -2,20 +2,20 @@ use Rattle.std.proofs.Common.{ℕ, Ok, Err, subst, length}
 use Rattle.std.proofs.lemmas.Result.{err_from_is_err_and}
 use Rattle.vt_mip.specs.Chains.{ChainView}
 use Rattle.vt_words.specs.Plain.{shown_plain}
-use Rattle.vt_files.specs.Courses.{folder_state, sink_state, passage, gain}
-use Rattle.vt_inputs.specs.Lines.{end_line}
+use Rattle.vt_files.specs.Effects.{folder_state, sink_state, folder_effect, sink_effect}
+use Rattle.vt_command_base.specs.Lines.{end_line}
 use Rattle.vt_store_commands.specs.Pictures.{plain_file}
-use Rattle.vt_files.specs.Dues.{Writes, Puts}
-use Rattle.vt_files.specs.Pictures.{pictures_due}
-use Rattle.vt_store_commands.specs.commands.Plain.{path_due}
-use Rattle.vt_inputs.proofs.Leaving.{unleft, left_writing, left_putting}
+use Rattle.vt_files.specs.Expectations.{Writes, Puts}
+use Rattle.vt_files.specs.Pictures.{expected_pictures}
+use Rattle.vt_store_commands.specs.commands.Plain.{expected_path}
+use Rattle.vt_command_base.proofs.Leaving.{unleft, left_writing, left_putting}
 use Rattle.vt_store_commands.proofs.commands.plain.leave_pictures.Goals as goal
 
 pub returns-in_err-chain : goal.returns-in_err-chain
 returns-in_err-chain g c =
     let p = err_from_is_err_and c.from_residual.result c.from_residual.ensures.1 in
     let words = shown_plain c.args.words.now in
-    rw (p.1, p.2) (unleft (path_due words c.args.texture c.args.path.now)
+    rw (p.1, p.2) (unleft (expected_path words c.args.texture c.args.path.now)
     (folder_state g.D.Folder c.args.folder.now) (sink_state g.O.Sink c.args.out.now))
 
 pub returns-in_err-write_pictures : goal.returns-in_err-write_pictures
@@ -23,18 +23,18 @@ returns-in_err-write_pictures g c =
     let p = err_from_is_err_and c.from_residual-in_err-write_pictures.result c.from_residual-in_err-write_pictures.ensures.1 in
     let words = shown_plain c.args.words.now in
     let path = c.args.path.now in
-    rw (p.1, p.2) (left_writing (path_due words c.args.texture path) (folder_state g.D.Folder c.args.folder.now)
+    rw (p.1, p.2) (left_writing (expected_path words c.args.texture path) (folder_state g.D.Folder c.args.folder.now)
     (folder_state g.D.Folder c.write_pictures.new.folder) (sink_state g.O.Sink c.args.out.now) c.in_err-write_pictures.field-0.0
-    (subst (λ (ch : ChainView). Writes {T = Unit {0}} (pictures_due words.prefix (plain_file words.filter ch.base ch.tile path) (length path.cameras))
-    (passage g.D.Folder c.args.folder.now c.write_pictures.new.folder)
+    (subst (λ (ch : ChainView). Writes {T = Unit {0}} (expected_pictures words.prefix (plain_file words.filter ch.base ch.tile path) (length path.cameras))
+    (folder_effect g.D.Folder c.args.folder.now c.write_pictures.new.folder)
     (Err c.in_err-write_pictures.field-0.0)) c.in_ok-chain.ensures c.in_err-write_pictures.ensures))
 
 pub returns : goal.returns
 returns g c =
     let words = shown_plain c.args.words.now in
     let path = c.args.path.now in
-    left_putting (path_due words c.args.texture path) (folder_state g.D.Folder c.args.folder.now)
+    left_putting (expected_path words c.args.texture path) (folder_state g.D.Folder c.args.folder.now)
     (folder_state g.D.Folder c.write_pictures.new.folder) (sink_state g.O.Sink c.args.out.now) (sink_state g.O.Sink c.put_end.new.out) c.put_end.result
-    (subst (λ (ch : ChainView). Writes {T = Unit {0}} (pictures_due words.prefix (plain_file words.filter ch.base ch.tile path) (length path.cameras))
-    (passage g.D.Folder c.args.folder.now c.write_pictures.new.folder) (Ok tt)) c.in_ok-chain.ensures c.in_ok-write_pictures.ensures)
-    (subst (λ (n : ℕ). Puts (end_line n) (gain g.O.Sink c.args.out.now c.put_end.new.out) c.put_end.result) c.pictures.ensures.value c.put_end.ensures)
+    (subst (λ (ch : ChainView). Writes {T = Unit {0}} (expected_pictures words.prefix (plain_file words.filter ch.base ch.tile path) (length path.cameras))
+    (folder_effect g.D.Folder c.args.folder.now c.write_pictures.new.folder) (Ok tt)) c.in_ok-chain.ensures c.in_ok-write_pictures.ensures)
+    (subst (λ (n : ℕ). Puts (end_line n) (sink_effect g.O.Sink c.args.out.now c.put_end.new.out) c.put_end.result) c.pictures.ensures.value c.put_end.ensures)

@@ -1,6 +1,6 @@
 use Rattle.std.proofs.Common.{◌≡◌, ◌∙◌}
 use Rattle.std.proofs.lemmas.Result.{err_from_is_err_and}
-use Rattle.vt_files.specs.Courses.{folder_state, passage}
+use Rattle.vt_files.specs.Effects.{folder_state, folder_effect}
 use Rattle.vt_words.specs.Names.{picture_name}
 use Rattle.vt_store_commands.specs.Pictures.{plain_file}
 use Rattle.vt_store_commands.proofs.Drawing.{file_is}
@@ -34,4 +34,4 @@ returns g c =
     c.begin_picture.new.bytes.items c.deref.ensures.value c.in_ok-draw_behind.ensures c.in_ok-begin_picture.ensures c.depth.ensures.value
     c.width.ensures.value c.height.ensures.value in
     written_as c.as_str.result.now c.deref.result.now (picture_name words.prefix.now c.args.picture) (plain_file words.filter base tile path c.args.picture)
-    (passage g.D.Folder c.args.folder.now c.write_file.new.folder) c.write_file.result name file c.write_file.ensures
+    (folder_effect g.D.Folder c.args.folder.now c.write_file.new.folder) c.write_file.result name file c.write_file.ensures

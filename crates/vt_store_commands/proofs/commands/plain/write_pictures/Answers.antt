@@ -1,10 +1,10 @@
 use Rattle.std.proofs.Common.{◌≡◌, ◌<◌, ℕ, ap, ◌∙◌, length, arith}
 use Rattle.std.specs.Option.{option_map}
 use Rattle.std.proofs.lemmas.Result.{err_from_is_err_and}
-use Rattle.vt_files.specs.Courses.{folder_state}
+use Rattle.vt_files.specs.Effects.{folder_state}
 use Rattle.vt_store_commands.specs.Pictures.{plain_file}
-use Rattle.vt_files.specs.Dues.{with_files}
-use Rattle.vt_files.specs.Pictures.{pictures_due}
+use Rattle.vt_files.specs.Expectations.{with_files}
+use Rattle.vt_files.specs.Pictures.{expected_pictures}
 use Rattle.vt_files.proofs.Writing.{no_pictures, more_pictures, stopped_pictures}
 use Rattle.vt_store_commands.proofs.commands.plain.write_pictures.Goals as goal
 
@@ -34,6 +34,6 @@ returns g c =
     omega (arith, c.loop-picture-test.false, c.loop-picture.auto.picture-end, c.pictures-picture-end.ensures.value) in (
       c.loop-picture.invariant.asks,
       c.loop-picture.invariant.files
-          ∙ ap (λ (n : ℕ). option_map (with_files (pictures_due c.args.words.now.prefix.now (plain_file c.args.words.now.filter c.args.chain.now.base c.args.chain.now.tile path) n))
+          ∙ ap (λ (n : ℕ). option_map (with_files (expected_pictures c.args.words.now.prefix.now (plain_file c.args.words.now.filter c.args.chain.now.base c.args.chain.now.tile path) n))
           (g.D.Folder.files c.args.folder.now)) all,
     )

@@ -1,4 +1,4 @@
-use Rattle.vt_files.specs.Courses.{folder_state}
+use Rattle.vt_files.specs.Effects.{folder_state}
 use Rattle.vt_store_commands.specs.Pictures.{plain_file}
 use Rattle.vt_files.proofs.Writing.{HasPictures}
 use Rattle.vt_store_commands.proofs.commands.plain.write_pictures.Given as goal

@@ -4,16 +4,16 @@ use Rattle.std.proofs.lemmas.Result.{err_from_is_err_and}
 use Rattle.vt_pages.specs.Shape.{Shape}
 use Rattle.vt_ppm.specs.Strips.{texture_of}
 use Rattle.vt_words.specs.Tile.{shown_tile}
-use Rattle.vt_files.specs.Courses.{folder_state, sink_state}
-use Rattle.vt_inputs.specs.Lines.{store_line}
-use Rattle.vt_inputs.specs.Inputs.{TiledTexture, TextureContent, AreStrips}
-use Rattle.vt_inputs.specs.OpenWrites.{WritesMade}
-use Rattle.vt_inputs.specs.Reads.{file_state}
-use Rattle.vt_files.specs.Dues.{Puts}
-use Rattle.vt_store_commands.specs.commands.Tile.{tile_task, made_store, store_due}
-use Rattle.vt_inputs.proofs.Ending.{read_none, read_more, ends_refused, ends_done, ends_stopped}
-use Rattle.vt_inputs.proofs.Leaving.{left_writing, left_putting}
-use Rattle.vt_inputs.proofs.OpenWriting.{read_first}
+use Rattle.vt_files.specs.Effects.{folder_state, sink_state}
+use Rattle.vt_command_base.specs.Lines.{store_line}
+use Rattle.vt_command_base.specs.Inputs.{TiledTexture, TextureContent, AreStrips}
+use Rattle.vt_command_base.specs.OpenWrites.{WritesMade}
+use Rattle.vt_command_base.specs.Reads.{file_state}
+use Rattle.vt_files.specs.Expectations.{Puts}
+use Rattle.vt_store_commands.specs.commands.Tile.{tile_task, made_store, expected_store}
+use Rattle.vt_command_base.proofs.Ending.{read_none, read_more, ends_refused, ends_done, ends_stopped}
+use Rattle.vt_command_base.proofs.Leaving.{left_writing, left_putting}
+use Rattle.vt_command_base.proofs.OpenWriting.{read_first}
 use Rattle.vt_store_commands.proofs.Tiling.{texture_took, store_written, store_stopped}
 use Rattle.vt_store_commands.proofs.commands.tile.tile.Goals as goal
 
@@ -44,7 +44,7 @@ returns-in_err-write_store g c =
     rw (p.1, p.2) (ends_stopped (tile_task words) (TextureContent texture ∷ []) before (read_first before after) after out out error
     (read_more [] [] (TiledTexture words.texture words.tile) (TextureContent texture) before before (read_first before after) (read_none before)
     (texture_took words.texture words.store words.tile header file before opened after (Err error) c.in_ok-reader.ensures.few o w))
-    (left_writing (store_due words.store texture words.tile) (read_first before after) after out error
+    (left_writing (expected_store words.store texture words.tile) (read_first before after) after out error
     (store_stopped words.texture words.store words.tile header file before opened after error o w)))
 
 pub returns-in_err-put_store_line : goal.returns-in_err-put_store_line
@@ -70,7 +70,7 @@ returns-in_err-put_store_line g c =
     rw (p.1, p.2) (ends_stopped (tile_task words) (TextureContent texture ∷ []) before (read_first before after) after out shown error
     (read_more [] [] (TiledTexture words.texture words.tile) (TextureContent texture) before before (read_first before after) (read_none before)
     (texture_took words.texture words.store words.tile header file before opened after (Ok tt) c.in_ok-reader.ensures.few o w))
-    (left_putting (store_due words.store texture words.tile) (read_first before after) after out shown (Err error)
+    (left_putting (expected_store words.store texture words.tile) (read_first before after) after out shown (Err error)
     (store_written words.texture words.store words.tile header file before opened after o w) puts))
 
 pub returns : goal.returns
@@ -94,5 +94,5 @@ returns g c =
     ends_done (tile_task words) (TextureContent texture ∷ []) before (read_first before after) after out shown
     (read_more [] [] (TiledTexture words.texture words.tile) (TextureContent texture) before before (read_first before after) (read_none before)
     (texture_took words.texture words.store words.tile header file before opened after (Ok tt) c.in_ok-reader.ensures.few o w))
-    (left_putting (store_due words.store texture words.tile) (read_first before after) after out shown (Ok tt)
+    (left_putting (expected_store words.store texture words.tile) (read_first before after) after out shown (Ok tt)
     (store_written words.texture words.store words.tile header file before opened after o w) puts)

@@ -1,14 +1,14 @@
 use Rattle.std.proofs.Common.{refl, ◌∙◌}
 use Rattle.std.proofs.lemmas.Result.{err_from_is_err_and}
-use Rattle.vt_files.specs.Courses.{folder_state, passage}
-use Rattle.vt_inputs.specs.Reads.{file_state, Closed}
-use Rattle.vt_inputs.proofs.Opening.{narrow_refused, wide_refused}
+use Rattle.vt_files.specs.Effects.{folder_state, folder_effect}
+use Rattle.vt_command_base.specs.Reads.{file_state, Closed}
+use Rattle.vt_command_base.proofs.Opening.{narrow_refused, wide_refused}
 use Rattle.vt_store_commands.proofs.commands.upgrade.open_narrow.Goals as goal
 
 pub returns-in_err-store-clause-refused : goal.returns-in_err-store-clause-refused
 returns-in_err-store-clause-refused g c =
     let p = err_from_is_err_and c.from_residual.result c.from_residual.ensures.1 in
-    rw (p.1, p.2) (narrow_refused c.args.name.now c.in_err-store.field-0.0 (passage g.D.Folder c.args.folder.now c.open_store.new.folder)
+    rw (p.1, p.2) (narrow_refused c.args.name.now c.in_err-store.field-0.0 (folder_effect g.D.Folder c.args.folder.now c.open_store.new.folder)
     c.in_err-store.ensures.refused)
 
 pub returns-clause-refused : goal.returns-clause-refused

@@ -3,15 +3,15 @@ use Rattle.std.specs.Option.{unwrap_or}
 use Rattle.std.proofs.lemmas.Result.{err_from_is_err_and}
 use Rattle.vt_pages.specs.Shape.{Shape}
 use Rattle.vt_words.specs.Upgrade.{shown_upgrade}
-use Rattle.vt_files.specs.Courses.{folder_state, sink_state, gain}
-use Rattle.vt_inputs.specs.Lines.{store_line}
-use Rattle.vt_inputs.specs.Inputs.{NarrowStore, NarrowContent}
-use Rattle.vt_inputs.specs.Reads.{file_state}
-use Rattle.vt_files.specs.Dues.{Puts}
-use Rattle.vt_store_commands.specs.commands.Upgrade.{upgrade_task, wide_due}
-use Rattle.vt_inputs.proofs.Ending.{read_none, read_more, ends_refused, ends_done, ends_stopped}
-use Rattle.vt_inputs.proofs.Leaving.{left_writing, left_putting}
-use Rattle.vt_inputs.proofs.OpenWriting.{read_first}
+use Rattle.vt_files.specs.Effects.{folder_state, sink_state, sink_effect}
+use Rattle.vt_command_base.specs.Lines.{store_line}
+use Rattle.vt_command_base.specs.Inputs.{NarrowStore, NarrowContent}
+use Rattle.vt_command_base.specs.Reads.{file_state}
+use Rattle.vt_files.specs.Expectations.{Puts}
+use Rattle.vt_store_commands.specs.commands.Upgrade.{upgrade_task, expected_wide}
+use Rattle.vt_command_base.proofs.Ending.{read_none, read_more, ends_refused, ends_done, ends_stopped}
+use Rattle.vt_command_base.proofs.Leaving.{left_writing, left_putting}
+use Rattle.vt_command_base.proofs.OpenWriting.{read_first}
 use Rattle.vt_store_commands.proofs.Upgrading.{store_took, new_written, new_stopped}
 use Rattle.vt_store_commands.proofs.commands.upgrade.upgrade.Goals as goal
 
@@ -42,7 +42,7 @@ returns-in_err-write_wide g c =
     rw (p.1, p.2) (ends_stopped (upgrade_task words) (NarrowContent store.shape bytes ∷ []) before (read_first before after) after out out error
     (read_more [] [] (NarrowStore words.store) (NarrowContent store.shape bytes) before before (read_first before after) (read_none before)
     (store_took words.store words.new_store store.shape store.depth file before opened after (Err error) narrow o w))
-    (left_writing (wide_due words.new_store store.shape bytes) (read_first before after) after out error
+    (left_writing (expected_wide words.new_store store.shape bytes) (read_first before after) after out error
     (new_stopped words.store words.new_store store.shape store.depth file before opened after error o w)))
 
 pub returns-in_err-put_store_line : goal.returns-in_err-put_store_line
@@ -61,12 +61,12 @@ returns-in_err-put_store_line g c =
     let o = c.in_ok-store.ensures.opens in
     let narrow = c.in_ok-store.ensures.narrow in
     let w = c.in_ok-write_wide.ensures in
-    let puts = subst (λ (s : Shape). Puts {T = Unit {0}} (store_line s 2) (gain g.O.Sink c.args.out.now c.put_store_line.new.out) (Err error))
+    let puts = subst (λ (s : Shape). Puts {T = Unit {0}} (store_line s 2) (sink_effect g.O.Sink c.args.out.now c.put_store_line.new.out) (Err error))
     c.geometry-geometry.ensures.shape c.in_err-put_store_line.ensures in
     rw (p.1, p.2) (ends_stopped (upgrade_task words) (NarrowContent store.shape bytes ∷ []) before (read_first before after) after out shown error
     (read_more [] [] (NarrowStore words.store) (NarrowContent store.shape bytes) before before (read_first before after) (read_none before)
     (store_took words.store words.new_store store.shape store.depth file before opened after (Ok tt) narrow o w))
-    (left_putting (wide_due words.new_store store.shape bytes) (read_first before after) after out shown (Err error)
+    (left_putting (expected_wide words.new_store store.shape bytes) (read_first before after) after out shown (Err error)
     (new_written words.store words.new_store store.shape store.depth file before opened after o w) puts))
 
 pub returns : goal.returns
@@ -83,10 +83,10 @@ returns g c =
     let o = c.in_ok-store.ensures.opens in
     let narrow = c.in_ok-store.ensures.narrow in
     let w = c.in_ok-write_wide.ensures in
-    let puts = subst (λ (s : Shape). Puts {T = Unit {0}} (store_line s 2) (gain g.O.Sink c.args.out.now c.put_store_line.new.out) (Ok tt))
+    let puts = subst (λ (s : Shape). Puts {T = Unit {0}} (store_line s 2) (sink_effect g.O.Sink c.args.out.now c.put_store_line.new.out) (Ok tt))
     c.geometry-geometry.ensures.shape c.in_ok-put_store_line.ensures in
     ends_done (upgrade_task words) (NarrowContent store.shape bytes ∷ []) before (read_first before after) after out shown
     (read_more [] [] (NarrowStore words.store) (NarrowContent store.shape bytes) before before (read_first before after) (read_none before)
     (store_took words.store words.new_store store.shape store.depth file before opened after (Ok tt) narrow o w))
-    (left_putting (wide_due words.new_store store.shape bytes) (read_first before after) after out shown (Ok tt)
+    (left_putting (expected_wide words.new_store store.shape bytes) (read_first before after) after out shown (Ok tt)
     (new_written words.store words.new_store store.shape store.depth file before opened after o w) puts)

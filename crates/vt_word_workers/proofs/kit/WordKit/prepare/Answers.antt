@@ -4,7 +4,7 @@ use Rattle.vt_pages.specs.Shape.{Shape}
 use Rattle.vt_machine.specs.Crews.{IsCrew}
 use Rattle.std.specs.Prelude.{All}
 use Rattle.vt_tiles.specs.Format.{tile_length}
-use Rattle.vt_rounds.specs.Sizes.{AreSized}
+use Rattle.vt_requests.specs.Sizes.{AreSized}
 use Rattle.vt_streaming.specs.Reports.{IsBlank}
 use Rattle.vt_word_workers.specs.RoundKits.{RoundKitView, IsSetUp}
 use Rattle.vt_word_workers.specs.Kits.{KitView}

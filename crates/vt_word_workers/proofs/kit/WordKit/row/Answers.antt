@@ -8,9 +8,9 @@ use Rattle.vt_word_workers.proofs.kit.WordKit.row.Goals as goal
 pub row-requires : goal.row-requires
 row-requires g c = own_turn g.F.File c.args.self.now c.args.y c.at.result.now c.requires.kit c.requires.inside
     (ap (λ (k : KitView _). slice_get k.samplers (c.args.y % k.crew.samplers)) (sym c.self.view_is)
-    ∙ ap (slice_get _) (sym c.sampler_of-turn.ensures) ∙ c.at.ensures)
+    ∙ ap (slice_get _) (sym c.sampler_of-dealt_to.ensures) ∙ c.at.ensures)
 
 pub returns : goal.returns
 returns g c = c.row.ensures.bytes ∙ ap (λ (o : Option WordSampler). row_by o c.args.y)
     (sym (ap (λ (k : KitView _). slice_get k.samplers (c.args.y % k.crew.samplers)) (sym c.self.view_is)
-    ∙ ap (slice_get _) (sym c.sampler_of-turn.ensures) ∙ c.at.ensures))
+    ∙ ap (slice_get _) (sym c.sampler_of-dealt_to.ensures) ∙ c.at.ensures))

@@ -1,5 +1,5 @@
 use Rattle.std.proofs.Common.{◌+◌, ◌∙◌, ap, length, subst, sym}
-use Rattle.vt_rounds.specs.Sizes.{AreSized}
+use Rattle.vt_requests.specs.Sizes.{AreSized}
 use Rattle.vt_word_workers.specs.RoundKits.{RoundKitView}
 use Rattle.vt_word_workers.proofs.round.RoundKit.keep.Goals as goal
 

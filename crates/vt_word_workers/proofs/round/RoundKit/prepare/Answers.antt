@@ -1,7 +1,7 @@
 use Rattle.std.proofs.Common.{sym, subst, length}
 use Rattle.vt_queue.specs.declared.items.Request.{Request}
 use Rattle.vt_queue.specs.declared.queue.QueuePass.{QueuePass}
-use Rattle.vt_rounds.specs.Sizes.{AreSized}
+use Rattle.vt_requests.specs.Sizes.{AreSized}
 use Rattle.vt_word_workers.specs.RoundKits.{RoundKitView, AreNew}
 use Rattle.vt_word_workers.proofs.Rooms.{on_ok}
 use Rattle.vt_word_workers.proofs.round.RoundKit.prepare.Goals as goal

@@ -1,0 +1,20 @@
+use Rattle.std.proofs.Common.{Err, refl}
+use Rattle.std.proofs.lemmas.Result.{err_from_is_err_and}
+use Rattle.vt_files.specs.Effects.{folder_state}
+use Rattle.vt_command_base.specs.Inputs.{Content, TiledTexture}
+use Rattle.vt_command_base.specs.Reads.{visit}
+use Rattle.vt_command_base.proofs.Reading.{closed}
+use Rattle.vt_command_base.proofs.input.open_texture.Goals as goal
+
+pub returns-in_err-file-clause-refused : goal.returns-in_err-file-clause-refused
+returns-in_err-file-clause-refused g c = λ tile.
+    let p = err_from_is_err_and c.from_residual.result c.from_residual.ensures.1 in
+    rw (p.1, p.2) (c.in_err-file.ensures.refused (TiledTexture c.args.name.now tile) refl)
+
+pub returns-in-Err-clause-refused : goal.returns-in-Err-clause-refused
+returns-in-Err-clause-refused g c = λ tile.
+    closed (TiledTexture c.args.name.now tile) (λ (x : Content). x) (folder_state g.D.Folder c.args.folder.now)
+    (folder_state g.D.Folder c.open_input.new.folder)
+    (folder_state g.D.Folder c.close.new.self) (visit g.D.File.File c.in_ok-file.file c.in-Err.file) (Err c.in-Err.refusal)
+    c.in_ok-file.ensures.opened (c.in-Err.ensures.tried tile) (c.in-Err.ensures.caused tile)
+    (record { files = c.close.ensures.files; asked = c.close.ensures.asked; kept = c.close.ensures.kept; faults = c.close.ensures.faults })

@@ -1,0 +1,10 @@
+pub mod Lines
+pub mod Flaws
+pub mod Refusals
+pub mod Inputs
+pub mod HeldInputs
+pub mod Causes
+pub mod Reads
+pub mod OpenWrites
+pub mod Tasks
+pub mod CommandSpec

@@ -1,0 +1,34 @@
+use Rattle.std.proofs.Common.{Ok, refl, sym, subst}
+use Rattle.vt_workers.specs.Jobs.{job_of}
+use Rattle.vt_machine.specs.Drawings.{drawing_of}
+use Rattle.vt_machine.specs.Passes.{Ends}
+use Rattle.vt_word_workers.specs.Kits.{kit_state, IsIdleKit}
+use Rattle.vt_word_workers.specs.KitPasses.{Begun, MayFinish, kit_before, kit_drawn}
+use Rattle.vt_pass.specs.WordMachines.{WordView}
+use Rattle.vt_pass.proofs.machine.FilteredMachinePassMachine.reattach_workers.Goals as goal
+
+pub finish-report-requires : goal.finish-report-requires
+finish-report-requires g c =
+    let job = job_of c.args.shot.now c.args.batch.now.elements in
+    subst (λ (m : WordView _). (b : Begun _) × MayFinish g.F.File g.P.Filter m.words m.queues m.kit job c.args.loaders.elements c.args.samplers.elements c.args.streamer b)
+    (sym c.self.view_is) c.requires
+
+pub returns : goal.returns
+returns g c =
+    let job = job_of c.args.shot.now c.args.batch.now.elements in
+    let loaders = c.args.loaders.elements in
+    let samplers = c.args.samplers.elements in
+    let own = c.args.streamer in
+    let words = c.self.inside.shared.words in
+    let w = c.finish-report.new.streamer in
+    let kit = c.finish-report.new.self in rw c.answered.ensures (
+      refl,
+      λ b may. subst (λ (m : WordView _). Ends (drawing_of g.P.Filter) (kit_drawn g.P.Filter kit w) (IsIdleKit g.F.File words w kit) job (Ok c.finish-report.result)
+          (kit_state g.F.File m.words b.streamer.streamer.writer.journal (kit_before m.kit b)) (kit_state g.F.File words w.writer.journal kit))
+          c.self.view_is (record {
+            ran = (c.finish-report.ensures.ran b
+                (subst (λ (m : WordView _). MayFinish g.F.File g.P.Filter m.words m.queues m.kit job loaders samplers own b) (sym c.self.view_is) may)).ran;
+            goes_on = c.finish-report.ensures.idle;
+            broke = tt;
+          }),
+    )

@@ -1,9 +1,0 @@
--- The refusal of a walk by what the outside refused.
-use Rattle.vt_outside.specs.declared.answers.OutsideError.{OutsideError}
-use Rattle.vt_outside.specs.declared.answers.OutsideError.TheVariants.{Failed, NoMemory}
-use Rattle.vt_turns.specs.declared.error.WalkError.{WalkError}
-use Rattle.vt_turns.specs.declared.error.WalkError.TheVariants as walk_error
-
-abbrev pub refusal_by : OutsideError → WalkError
-refusal_by Failed = walk_error.Failed
-refusal_by NoMemory = walk_error.NoMemory

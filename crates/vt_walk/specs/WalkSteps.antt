@@ -1,0 +1,157 @@
+-- A walk between two passes, and after a pass.
+use Rattle.std.specs.Prelude.{◌≡◌, ℕ, ◌+◌, ◌<◌, ◌≤◌, IsTrue, ◌↔◌, List, [], ◌∷◌, length, Option, IsSome}
+use Rattle.vt_definitions.specs.Depths.{IsDepth}
+use Rattle.vt_pages.specs.Pages.{IsWithinLimits}
+use Rattle.vt_tiles.specs.StoreViews.{IsStoreIfTold}
+use Rattle.vt_camera.specs.Paths.{PathView}
+use Rattle.vt_journal.specs.Passes.{pass_of as text_of}
+use Rattle.vt_evict.specs.Views.{RecencyView, pages_needed}
+use Rattle.vt_machine.specs.declared.crew.PassReport.{PassReport}
+use Rattle.vt_workers.specs.Jobs.{Job}
+use Rattle.vt_machine.specs.Requests.{FileState, AllTell, AreReadFor}
+use Rattle.vt_machine.specs.Outcomes.{lost_count}
+use Rattle.vt_machine.specs.Machines.{MachineState}
+use Rattle.vt_machine.specs.Passes.{Ran}
+use Rattle.vt_walk_decisions.specs.declared.error.WalkError.{WalkError}
+use Rattle.vt_walk_decisions.specs.declared.steps.WalkStep.{WalkStep}
+use Rattle.vt_walk_decisions.specs.declared.steps.Passed.{Passed}
+use Rattle.vt_walk_decisions.specs.declared.steps.Drawn.{Drawn}
+use Rattle.vt_walk.specs.Runs.{WalkPass, IsWalkSetup, IsRun, IsStepOf, IsNextPass, IsWhole, journal_after, recency_after, plan_after, told_of}
+use Rattle.vt_walk.specs.Logs.{passes_of, reads_of}
+use Rattle.vt_walk.specs.Walks.{WalkGiven, machine_of}
+use Rattle.vt_walk.specs.States.{WalkState}
+use Rattle.vt_walk.specs.Standing.{Stands}
+use Rattle.vt_walk.specs.Leaving.{Left}
+use Rattle.vt_walk.specs.Causes.{IsCausedBy}
+use Rattle.vt_walk.specs.Tallies.{tally_of}
+
+-- a walk is within its limits, and its bytes, where they are told, are a store
+pub record IsGiven (g : WalkGiven) : Type 0 where
+  pub setup : IsWalkSetup g.setup
+  pub limits : IsWithinLimits g.scene.shape
+  pub store : IsStoreIfTold g.told g.scene.shape g.scene.depth
+  pub depth : IsDepth g.scene.depth
+
+-- what a walk began with: the store's bytes, where they are told, the store's file, and what stood
+pub record WalkStart : Type 0 where
+  pub told : Option (List ℕ)
+  pub kept : FileState
+  pub first : WalkState
+
+-- what a pass began with: what its walk did, and what was put before it
+pub record PassStart : Type 0 where
+  pub start : WalkStart
+  pub held : Option (List ℕ)
+  pub out_faults : ℕ
+
+-- a machine and the recency of its pages are as a run has left them
+pub record IsAtRun (g : WalkGiven) (run : List WalkPass) (m : MachineState) (v : RecencyView) : Type 0 where
+  pub is_run : IsRun g.setup run
+  pub setup : m.setup ≡ machine_of g
+  pub journal : m.journal ≡ journal_after g.setup run
+  pub recency : v ≡ recency_after g.setup run
+
+-- a step is that of a run's next pass, or nothing more is to follow: the picture and the batch are those of this pass, and its number,
+-- the picture's tally and the number of tiles that were asked for are those of the run
+pub record IsStep (g : WalkGiven) (run : List WalkPass) (number : ℕ) (t : WalkStep) : Type 0 where
+  pub inside : t.picture ≤ g.setup.pictures
+  pub step : IsStepOf g.setup run t.picture
+  pub batch : t.batch.elements ≡ plan_after g.setup run
+  pub tally : t.tally ≡ tally_of (passes_of t.picture run)
+  pub reads : t.reads ≡ reads_of g.setup run
+  pub number_is : number ≡ length run + 1
+
+-- a machine may take a step
+pub record MayDraw (g : WalkGiven) (run : List WalkPass) (number : ℕ) (t : WalkStep) (m : MachineState) (v : RecencyView) : Type 0 where
+  pub given : IsGiven g
+  pub at_run : IsAtRun g run m v
+  pub step : IsStep g run number t
+  pub more : t.picture < g.setup.pictures
+
+-- what was counted of a pass that comes after a run
+pub record IsPassed (g : WalkGiven) (run : List WalkPass) (pass : WalkPass) (p : Passed) : Type 0 where
+  pub picture : p.picture ≡ pass.picture
+  pub inside : pass.picture < g.setup.pictures
+  pub loads_nothing : IsTrue p.loads_nothing ↔ (pass.batch ≡ [])
+  pub lost : p.lost ≡ lost_count pass.losses
+  pub wanted : p.outlook.wanted ≡ length pass.wants
+  pub needed : p.outlook.needed ≡ pages_needed (recency_after g.setup (pass ∷ run)) pass.wants
+  pub plan : p.outlook.plan.elements ≡ plan_after g.setup (pass ∷ run)
+  pub tally : p.tally ≡ tally_of (passes_of pass.picture (pass ∷ run))
+  pub reads : p.reads ≡ reads_of g.setup (pass ∷ run)
+
+-- the job of a pass of a walk
+abbrev pub job_for : WalkGiven → WalkPass → Job
+job_for g pass = record { scene = g.scene; picture = pass.picture; batch = pass.batch }
+
+-- a machine has run a pass that comes after a run
+pub record HasRun (drawn : PathView → ℕ → ℕ → ℕ → List ℕ → Type 0) (g : WalkGiven) (run : List WalkPass) (pass : WalkPass)
+    (m : MachineState) : Type 0 where
+  pub before : MachineState
+  pub report : PassReport
+  pub setup : before.setup ≡ machine_of g
+  pub journal : before.journal ≡ journal_after g.setup run
+  pub ran : Ran g.draws drawn (job_for g pass) report before m
+  pub rows_are : report.rows.elements ≡ pass.rows
+
+-- a machine has drawn the next pass of a run, and streamed its batch
+pub record HasDrawnPass (drawn : PathView → ℕ → ℕ → ℕ → List ℕ → Type 0) (g : WalkGiven) (run : List WalkPass) (t : WalkStep)
+    (before after : MachineState) (v : RecencyView) (d : Drawn) : Type 0 where
+  pub pass : WalkPass
+  pub next : IsNextPass g.setup run pass
+  pub picture : pass.picture ≡ t.picture
+  pub batch : pass.batch ≡ t.batch.elements
+  pub at_run : IsAtRun g (pass ∷ run) after v
+  pub read : AreReadFor g.scene.shape g.scene.depth pass.batch pass.losses before.files after.files
+  pub has_run : HasRun drawn g run pass after
+  pub text : text_of d.text ≡ told_of g.setup run pass
+  pub passed : IsPassed g run pass d.passed
+
+-- the beginning of a run stands whole, and the step is that of its next pass
+pub record StandsAt (drawn : PathView → ℕ → ℕ → ℕ → List ℕ → Type 0) (g : WalkGiven) (number : ℕ) (t : WalkStep) (first now : WalkState)
+    (m : MachineState) (v : RecencyView) : Type 0 where
+  pub run : List WalkPass
+  pub pictures : List (List ℕ)
+  pub count : t.picture ≡ length pictures
+  pub given : IsGiven g
+  pub stands : Stands drawn g run pictures first now
+  pub at_run : IsAtRun g run m v
+  pub step : IsStep g run number t
+  pub tell : IsSome now.asked → AllTell m.files
+
+-- the beginning of a run stands whole, and its newest pass has just been made
+pub record StandsAfter (drawn : PathView → ℕ → ℕ → ℕ → List ℕ → Type 0) (g : WalkGiven) (number : ℕ) (p : Passed)
+    (first now : WalkState) (m : MachineState) (v : RecencyView) : Type 0 where
+  pub run : List WalkPass
+  pub pass : WalkPass
+  pub pictures : List (List ℕ)
+  pub count : pass.picture ≡ length pictures
+  pub given : IsGiven g
+  pub stands : Stands drawn g (pass ∷ run) pictures first now
+  pub at_run : IsAtRun g (pass ∷ run) m v
+  pub passed : IsPassed g run pass p
+  pub has_run : HasRun drawn g run pass m
+  pub number_is : number ≡ length run + 1
+  pub tell : IsSome now.asked → AllTell m.files
+
+-- a run has begun: nothing but the journal's head stands
+pub record StandsFirst (drawn : PathView → ℕ → ℕ → ℕ → List ℕ
+    → Type 0) (g : WalkGiven) (first now : WalkState) (m : MachineState) (v : RecencyView) : Type 0 where
+  pub given : IsGiven g
+  pub stands : Stands drawn g [] [] first now
+  pub at_run : IsAtRun g [] m v
+  pub tell : IsSome now.asked → AllTell m.files
+
+-- a whole run stands, in which so many tiles were asked for
+pub record StandsLast (drawn : PathView → ℕ → ℕ → ℕ → List ℕ → Type 0) (g : WalkGiven) (reads : ℕ) (first now : WalkState) : Type 0 where
+  pub run : List WalkPass
+  pub pictures : List (List ℕ)
+  pub given : IsGiven g
+  pub stands : Stands drawn g run pictures first now
+  pub whole : IsWhole g.setup run
+  pub all : length pictures ≡ g.setup.pictures
+  pub reads_are : reads ≡ reads_of g.setup run
+
+-- a refused walk has left what it may, for its cause
+abbrev pub LeftByRefusal : (PathView → ℕ → ℕ → ℕ → List ℕ → Type 0) → WalkGiven → WalkState → WalkState → WalkError → Type 0
+LeftByRefusal drawn g first now error = Left drawn g first now × IsCausedBy drawn g first now error

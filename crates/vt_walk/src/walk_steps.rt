@@ -1,0 +1,342 @@
+//! Pass after pass.
+
+ghost use Rattle.std.specs.Prelude.{◌≡◌, ◌+◌, ◌<◌, ◌≤◌, ◌^◌, ◌∷◌, MatchResult, OnOk, IfOk};
+ghost use Rattle.vt_machine.specs.Requests.{AreSameFiles};
+ghost use Rattle.vt_walk.specs.States.{walk_state};
+ghost use Rattle.vt_walk.specs.WalkInputs.{given_of, setup_of_input, IsWalkInput};
+ghost use Rattle.vt_walk.specs.Standing.{Finished};
+ghost use Rattle.vt_walk.specs.Written.{IsDrawnBySome};
+ghost use Rattle.vt_walk.specs.WalkSteps.{WalkStart, PassStart, StandsFirst, StandsAt, StandsAfter, StandsLast, LeftByRefusal};
+ghost use Rattle.vt_walk.specs.Following.{StandsDrawn, StandsNext};
+ghost use Rattle.vt_walk.specs.WalkEffects.{state_by};
+ghost use Rattle.vt_walk.specs.Counts.{HasCounts};
+ghost use Rattle.vt_walk_decisions.specs.Judging.{MayGoOn};
+
+use crate::advance::draw_next;
+use crate::beside::draw_beside;
+use crate::passes::tell_pass;
+use crate::pictures::{put_end_line, put_picture_line, write_picture};
+use std::alloc::Global;
+use std::sync::Wait;
+use std::thread::Threads;
+use vt_evict::{Batch, Recency};
+use vt_machine::PassMachine;
+use vt_outside::{Folder, Gate, Sink};
+use vt_walk_decisions::{
+    Drawn, Next, Outlook, Passed, Tally, WalkError, WalkInput, WalkStep, is_finished,
+    is_written_beside, judge,
+};
+
+/// How much a walk took.
+#[derive(Clone, Copy)]
+pub struct Walked {
+    /// The number of passes of all pictures.
+    pub passes: u32,
+    /// How many tiles were asked for.
+    pub reads: u64,
+}
+
+/// Takes steps until all pictures are finished, and puts the last line. The text of each pass is made in the buffer.
+pub fn walk_on<
+    Rt: Threads + Wait + Sync,
+    M: PassMachine + Send,
+    D: Folder,
+    O: Sink,
+    G: Gate + Sync,
+>(
+    rt: &Rt,
+    alloc: Global,
+    folder: &mut D,
+    machine: &mut M,
+    recency: &mut Recency,
+    input: &WalkInput<'_>,
+    buffer: &mut Vec<u8>,
+    out: &mut O,
+    gate: &G,
+) -> Result<Walked, WalkError>
+    requires input { IsWalkInput input.now }
+    requires enough_frames { input.now.pinned ≤ input.now.settings.frames }
+    requires idle { M.is_idle machine.old }
+    requires stands { (b : WalkStart) × StandsFirst (IsDrawnBySome M.drawn) (given_of M.drawing input.now b.told) b.first
+        (state_by D.Folder O.Sink input.now.names.store.now folder.old out.old (b.kept ∷ (M.state machine.old).files))
+        (M.state machine.old) recency.old }
+    ensures walked { (b : WalkStart) → let drawn = IsDrawnBySome M.drawn in
+        let given = given_of M.drawing input.now b.told in
+        let name = input.now.names.store.now in
+        let before = state_by D.Folder O.Sink name folder.old out.old (b.kept ∷ (M.state machine.old).files) in
+        let after = state_by D.Folder O.Sink name folder.new out.new (b.kept ∷ (M.state machine.new).files) in
+        StandsFirst drawn given b.first before (M.state machine.old) recency.old
+        → MatchResult result (λ _. Finished drawn given b.first after) (LeftByRefusal drawn given b.first after) }
+    ensures counted { IfOk result (HasCounts (setup_of_input M.drawing input.now)) }
+    ensures same { AreSameFiles (M.state machine.old).files (M.state machine.new).files }
+    ensures asked { D.asked folder.new ≡ D.asked folder.old }
+    ensures faults { D.faults folder.old ≤ D.faults folder.new }
+    ensures out_faults { O.faults out.old ≤ O.faults out.new }
+{
+    let took = take_steps(
+        rt, alloc, folder, machine, recency, input, buffer, out, gate,
+    )?;
+    put_end_line(out, input.path.pictures(), took.reads)?;
+    Ok(took)
+}
+
+// Takes steps until all pictures are finished, and answers how much they took. Each pass is drawn in the step before it is told.
+fn take_steps<Rt: Threads + Wait + Sync, M: PassMachine + Send, D: Folder, O: Sink, G: Gate + Sync>(
+    rt: &Rt,
+    alloc: Global,
+    folder: &mut D,
+    machine: &mut M,
+    recency: &mut Recency,
+    input: &WalkInput<'_>,
+    buffer: &mut Vec<u8>,
+    out: &mut O,
+    gate: &G,
+) -> Result<Walked, WalkError>
+    requires input { IsWalkInput input.now }
+    requires enough_frames { input.now.pinned ≤ input.now.settings.frames }
+    requires idle { M.is_idle machine.old }
+    requires stands { (b : WalkStart) × StandsFirst (IsDrawnBySome M.drawn) (given_of M.drawing input.now b.told) b.first
+        (state_by D.Folder O.Sink input.now.names.store.now folder.old out.old (b.kept ∷ (M.state machine.old).files))
+        (M.state machine.old) recency.old }
+    ensures walked { (b : WalkStart) → let drawn = IsDrawnBySome M.drawn in
+        let given = given_of M.drawing input.now b.told in
+        let name = input.now.names.store.now in
+        let before = state_by D.Folder O.Sink name folder.old out.old (b.kept ∷ (M.state machine.old).files) in
+        let after = state_by D.Folder O.Sink name folder.new out.new (b.kept ∷ (M.state machine.new).files) in
+        StandsFirst drawn given b.first before (M.state machine.old) recency.old
+        → MatchResult result (λ walked. StandsLast drawn given walked.reads b.first after)
+        (LeftByRefusal drawn given b.first after) }
+    ensures counted { IfOk result (HasCounts (setup_of_input M.drawing input.now)) }
+    ensures same { AreSameFiles (M.state machine.old).files (M.state machine.new).files }
+    ensures asked { D.asked folder.new ≡ D.asked folder.old }
+    ensures faults { D.faults folder.old ≤ D.faults folder.new }
+    ensures out_faults { O.faults out.old ≤ O.faults out.new }
+{
+    let step = WalkStep {
+        picture: 0,
+        batch: Batch::new(alloc),
+        tally: Tally::new(),
+        reads: input.pinned as u64,
+    };
+    let mut next = draw_next(rt, alloc, machine, recency, input, 1, step, gate)?;
+    for number in 1..u32::MAX {
+        match next {
+            Next::End(reads) => {
+                return Ok(Walked {
+                    passes: number - 1,
+                    reads,
+                });
+            }
+            Next::Pass(drawn) => {
+                next = take_step(
+                    rt, alloc, folder, machine, recency, input, number, drawn, buffer, out, gate,
+                )?;
+            }
+        }
+    }
+    Err(WalkError::NoMemory)
+}
+
+// Tells a pass that was drawn, writes the picture that it finishes, and draws the next pass. The pass's text is made in the buffer.
+fn take_step<Rt: Threads + Wait + Sync, M: PassMachine + Send, D: Folder, O: Sink, G: Gate + Sync>(
+    rt: &Rt,
+    alloc: Global,
+    folder: &mut D,
+    machine: &mut M,
+    recency: &mut Recency,
+    input: &WalkInput<'_>,
+    number: u32,
+    drawn: Drawn,
+    buffer: &mut Vec<u8>,
+    out: &mut O,
+    gate: &G,
+) -> Result<Next, WalkError>
+    requires input { IsWalkInput input.now }
+    requires enough_frames { input.now.pinned ≤ input.now.settings.frames }
+    requires idle { M.is_idle machine.old }
+    requires few { number + 1 < 2 ^ 32 }
+    requires stands { (b : WalkStart) × StandsDrawn (IsDrawnBySome M.drawn) (given_of M.drawing input.now b.told) number
+        drawn b.first (λ files. state_by D.Folder O.Sink input.now.names.store.now folder.old out.old (b.kept ∷ files))
+        (M.state machine.old) recency.old }
+    ensures taken { (b : WalkStart) → let some = IsDrawnBySome M.drawn in
+        let given = given_of M.drawing input.now b.told in
+        let name = input.now.names.store.now in
+        StandsDrawn some given number drawn b.first (λ files. state_by D.Folder O.Sink name folder.old out.old
+        (b.kept ∷ files)) (M.state machine.old) recency.old
+        → MatchResult result (λ next. StandsNext some given (number + 1) next b.first
+        (λ files. state_by D.Folder O.Sink name folder.new out.new (b.kept ∷ files)) (M.state machine.new) recency.new)
+        (LeftByRefusal some given b.first (state_by D.Folder O.Sink name folder.new out.new
+        (b.kept ∷ (M.state machine.new).files))) }
+    ensures idle { OnOk result (M.is_idle machine.new) }
+    ensures same { AreSameFiles (M.state machine.old).files (M.state machine.new).files }
+    ensures asked { D.asked folder.new ≡ D.asked folder.old }
+    ensures faults { D.faults folder.old ≤ D.faults folder.new }
+    ensures out_faults { O.faults out.old ≤ O.faults out.new }
+{
+    let passed = tell_drawn(buffer, folder, machine, recency, input, number, drawn)?;
+    judge(input, &passed)?;
+    go_on(
+        rt, alloc, folder, machine, recency, input, number, passed, buffer, out, gate,
+    )
+}
+
+// Tells a pass that was drawn to the journal, by a text that is made in the buffer.
+fn tell_drawn<M: PassMachine, D: Folder>(
+    buffer: &mut Vec<u8>,
+    folder: &mut D,
+    machine: &M,
+    recency: &Recency,
+    input: &WalkInput<'_>,
+    number: u32,
+    drawn: Drawn,
+) -> Result<Passed, WalkError>
+    requires input { IsWalkInput input.now }
+    requires stands { (b : PassStart) × StandsDrawn (IsDrawnBySome M.drawn)
+        (given_of M.drawing input.now b.start.told) number drawn b.start.first
+        (λ files. walk_state D.Folder input.now.names.store.now folder.old (b.start.kept ∷ files) b.held b.out_faults)
+        (M.state machine.now) recency.now }
+    ensures told { (b : PassStart) → let some = IsDrawnBySome M.drawn in
+        let given = given_of M.drawing input.now b.start.told in
+        let name = input.now.names.store.now in
+        let after = walk_state D.Folder name folder.new (b.start.kept ∷ (M.state machine.now).files) b.held
+        b.out_faults in
+        StandsDrawn some given number drawn b.start.first (λ files. walk_state D.Folder name folder.old
+        (b.start.kept ∷ files) b.held b.out_faults) (M.state machine.now) recency.now
+        → MatchResult result (λ passed. StandsAfter some given number passed b.start.first after (M.state machine.now)
+        recency.now) (LeftByRefusal some given b.start.first after) }
+    ensures asked { D.asked folder.new ≡ D.asked folder.old }
+    ensures faults { D.faults folder.old ≤ D.faults folder.new }
+{
+    let _ = machine;
+    let _ = recency;
+    let _ = number;
+    tell_pass(
+        buffer,
+        folder,
+        input.names.journal,
+        input.geometry,
+        &drawn.text,
+    )?;
+    Ok(drawn.passed)
+}
+
+// Writes the picture that a pass has finished, and its line, and draws the next pass: meanwhile, where that is worth it.
+fn go_on<Rt: Threads + Wait + Sync, M: PassMachine + Send, D: Folder, O: Sink, G: Gate + Sync>(
+    rt: &Rt,
+    alloc: Global,
+    folder: &mut D,
+    machine: &mut M,
+    recency: &mut Recency,
+    input: &WalkInput<'_>,
+    number: u32,
+    passed: Passed,
+    buffer: &mut Vec<u8>,
+    out: &mut O,
+    gate: &G,
+) -> Result<Next, WalkError>
+    requires input { IsWalkInput input.now }
+    requires idle { M.is_idle machine.old }
+    requires few { number + 1 < 2 ^ 32 }
+    requires goes_on { MayGoOn input.now passed }
+    requires stands { (b : WalkStart) × StandsAfter (IsDrawnBySome M.drawn) (given_of M.drawing input.now b.told) number
+        passed b.first (state_by D.Folder O.Sink input.now.names.store.now folder.old out.old
+        (b.kept ∷ (M.state machine.old).files)) (M.state machine.old) recency.old }
+    ensures taken { (b : WalkStart) → let some = IsDrawnBySome M.drawn in
+        let given = given_of M.drawing input.now b.told in
+        let name = input.now.names.store.now in
+        StandsAfter some given number passed b.first (state_by D.Folder O.Sink name folder.old out.old
+        (b.kept ∷ (M.state machine.old).files)) (M.state machine.old) recency.old
+        → MatchResult result (λ next. StandsNext some given (number + 1) next b.first
+        (λ files. state_by D.Folder O.Sink name folder.new out.new (b.kept ∷ files)) (M.state machine.new) recency.new)
+        (LeftByRefusal some given b.first (state_by D.Folder O.Sink name folder.new out.new
+        (b.kept ∷ (M.state machine.new).files))) }
+    ensures idle { OnOk result (M.is_idle machine.new) }
+    ensures same { AreSameFiles (M.state machine.old).files (M.state machine.new).files }
+    ensures asked { D.asked folder.new ≡ D.asked folder.old }
+    ensures faults { D.faults folder.old ≤ D.faults folder.new }
+    ensures out_faults { O.faults out.old ≤ O.faults out.new }
+{
+    if is_written_beside(input, &passed) {
+        return draw_beside(
+            rt, alloc, folder, machine, recency, input, number, passed, buffer, out, gate,
+        );
+    }
+    let step = end_step(
+        buffer, alloc, folder, machine, recency, input, number, passed, out,
+    )?;
+    let next = draw_next(rt, alloc, machine, recency, input, number + 1, step, gate)?;
+    Ok(next)
+}
+
+// Writes the picture that a pass has finished, and its line, or leaves it to the next pass.
+fn end_step<M: PassMachine, D: Folder, O: Sink>(
+    buffer: &mut Vec<u8>,
+    alloc: Global,
+    folder: &mut D,
+    machine: &M,
+    recency: &Recency,
+    input: &WalkInput<'_>,
+    number: u32,
+    passed: Passed,
+    out: &mut O,
+) -> Result<WalkStep, WalkError>
+    requires input { IsWalkInput input.now }
+    requires idle { M.is_idle machine.now }
+    requires goes_on { MayGoOn input.now passed }
+    requires stands { (b : WalkStart) × StandsAfter (IsDrawnBySome M.drawn)
+        (given_of M.drawing input.now b.told) number passed b.first
+        (state_by D.Folder O.Sink input.now.names.store.now folder.old out.old (b.kept ∷ (M.state machine.now).files))
+        (M.state machine.now) recency.now }
+    ensures ended { (b : WalkStart) → let drawn = IsDrawnBySome M.drawn in
+        let given = given_of M.drawing input.now b.told in
+        let name = input.now.names.store.now in
+        let before = state_by D.Folder O.Sink name folder.old out.old (b.kept ∷ (M.state machine.now).files) in
+        let after = state_by D.Folder O.Sink name folder.new out.new (b.kept ∷ (M.state machine.now).files) in
+        StandsAfter drawn given number passed b.first before (M.state machine.now) recency.now
+        → MatchResult result (λ next. StandsAt drawn given (number + 1) next b.first after
+        (M.state machine.now) recency.now)
+        (LeftByRefusal drawn given b.first after) }
+    ensures asked { D.asked folder.new ≡ D.asked folder.old }
+    ensures faults { D.faults folder.old ≤ D.faults folder.new }
+    ensures out_faults { O.faults out.old ≤ O.faults out.new }
+{
+    let _ = recency;
+    let Passed {
+        picture,
+        loads_nothing,
+        lost: _,
+        outlook,
+        tally,
+        reads,
+    } = passed;
+    let Outlook {
+        wanted,
+        needed: _,
+        plan,
+    } = outlook;
+    if !is_finished(input.mode, loads_nothing, &plan) {
+        return Ok(WalkStep {
+            picture,
+            batch: plan,
+            tally,
+            reads,
+        });
+    }
+    write_picture(
+        buffer,
+        alloc,
+        folder,
+        machine,
+        input.depth,
+        input.path,
+        input.names.prefix,
+        picture,
+    )?;
+    put_picture_line(out, picture, wanted, &tally)?;
+    Ok(WalkStep {
+        picture: picture + 1,
+        batch: plan,
+        tally: Tally::new(),
+        reads,
+    })
+}
