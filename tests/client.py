@@ -106,15 +106,23 @@ def table_at(changes, version):
     return table
 
 
-def main(store_name, path_name, journal_name, prefix, filtering="nearest"):
+def pictures_of(store_name, path_name, journal_name, filtering="nearest"):
+    """The bytes of each picture's file, in their order."""
     store, path = Store(store_name), Path(path_name)
     changes, passes = read_journal(store, journal_name)
     for picture, versions in passes.items():
         tables = {version: table_at(changes, version) for version in set(versions)}
         rows = [path.row(store, tables[version], picture, y, filtering == "bilinear") for y, version in enumerate(versions)]
-        with open("%s%04d.ppm" % (prefix, picture), "wb") as file:
-            file.write(b"P6\n%d %d\n%d\n" % (path.width, path.height, 256**store.depth - 1) + b"".join(rows))
-    print("end pictures %d" % len(passes))
+        yield b"P6\n%d %d\n%d\n" % (path.width, path.height, 256**store.depth - 1) + b"".join(rows)
+
+
+def main(store_name, path_name, journal_name, prefix, filtering="nearest"):
+    count = 0
+    for picture in pictures_of(store_name, path_name, journal_name, filtering):
+        with open("%s%04d.ppm" % (prefix, count), "wb") as file:
+            file.write(picture)
+        count += 1
+    print("end pictures %d" % count)
 
 
 if __name__ == "__main__":

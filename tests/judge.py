@@ -171,7 +171,7 @@ def flaws_of_status(due, left, doubt):
         return ["status %s, and %s is due" % (left.status, status)]
     line = line if left.status == status else LINES[left.status]
     is_line = left.error in (None, line) or (doubt.cut and left.status != 0 and line.startswith(left.error))
-    return [] if is_line else ["error line %r" % left.error]
+    return [] if is_line else ["error line %r, and %r is due" % (left.error, line)]
 
 
 def flaws_of_walk(store_name, path_name, settings, left, doubt):

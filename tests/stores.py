@@ -19,8 +19,8 @@ def number_of(field, least, most):
 
 
 def contents(name):
-    """What a file holds, or None where there is none."""
-    if not os.path.exists(name):
+    """What a file holds, or None where there is none, or a folder in its place."""
+    if not os.path.exists(name) or os.path.isdir(name):
         return None
     with open(name, "rb") as file:
         return file.read()

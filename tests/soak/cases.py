@@ -1,6 +1,8 @@
 """Random commands with their inputs, and what is due of each by docs/FORMATS.md."""
+import os
 import random
 import re
+import shutil
 
 from judge import FAULT, LINES, flaws_of_due, flaws_of_walk
 from journals import Journal, replay
@@ -14,6 +16,8 @@ BOUNDS = {"--frames": 65535, "--samplers": 64, "--loaders": 16, "--batch": 4096,
 
 class Inputs:
     """Makes the bytes of textures, paths, stores and journals, lawful ones and some that are not."""
+
+    tiles_of_stores = TILES[:5]
 
     def __init__(self, seed):
         self.random, self.damages = random.Random(seed), []
@@ -75,7 +79,7 @@ class Inputs:
         return text
 
     def store(self):
-        tile, image = self.random.choice(TILES[:5]), read_image(self.texture())
+        tile, image = self.random.choice(self.tiles_of_stores), read_image(self.texture())
         if self.is_one_in(3):
             shape = Geometry(self.side(), self.side(), tile)
             depth = self.random.choice([1, 2])
@@ -122,6 +126,23 @@ class Case:
 
     def writes(self, name):
         return re.fullmatch(self.written, name) is not None
+
+    def fill(self):
+        """Makes the folder hold the inputs and nothing else. An input of no bytes at all, None, is a folder."""
+        for name in os.listdir("."):
+            shutil.rmtree(name) if os.path.isdir(name) else os.remove(name)
+        for name, data in self.inputs.items():
+            if data is None:
+                os.mkdir(name)
+                continue
+            with open(name, "wb") as file:
+                file.write(data)
+
+    def changed(self):
+        """What is wrong with the names that the command does not write."""
+        names = [name for name, data in self.inputs.items() if not os.path.exists(name) or contents(name) != data]
+        names += [name for name in os.listdir(".") if name not in self.inputs and not self.writes(name)]
+        return ["%s is not as before" % name for name in names]
 
     def flaws(self, left, doubt):
         refusal, due, line = self.due()

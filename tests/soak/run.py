@@ -53,16 +53,9 @@ class Soak:
         os.mkdir(self.folder)
         os.chdir(self.folder)
 
-    def fill(self, case):
-        for name in os.listdir("."):
-            os.remove(name)
-        for name, data in case.inputs.items():
-            with open(name, "wb") as file:
-                file.write(data)
-
     def flaws(self, case, kind, at):
         """What is wrong with what the case leaves where this call of the kind fails, or none with 0."""
-        self.fill(case)
+        case.fill()
         try:
             left, _, reads = self.failing.run(case.words, kind, at)
         except subprocess.TimeoutExpired:
@@ -70,9 +63,7 @@ class Soak:
         doubt = doubt_of(kind) if at else Doubt()
         if at and case.settings and contents("s.vts"):
             doubt = doubt_of_walk(kind, reads, "s.vts", case.settings)
-        changed = [name for name, data in case.inputs.items() if contents(name) != data]
-        changed += [name for name in os.listdir(".") if name not in case.inputs and not case.writes(name)]
-        found = ["%s is not as before" % name for name in changed] + case.flaws(left, doubt)
+        found = case.changed() + case.flaws(left, doubt)
         if found or not case.settings or (at and kind == "short_read"):
             return found
         return flaws_of_reads(reads, "s.vts", "p.path", case.settings, left)
@@ -91,7 +82,7 @@ class Soak:
         case, chance = case_of(seed, self.commands), random.Random("call %d" % seed)
         kind, at = chance.choice(list(KINDS)), 0
         if chance.randrange(3) == 0:
-            self.fill(case)
+            case.fill()
             calls = self.failing.run(case.words, kind, 0)[1]
             at = chance.randint(1, calls) if calls else 0
         flaws = self.flaws(case, kind, at)
