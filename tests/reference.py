@@ -26,7 +26,7 @@ from journals import Journal, replay
 from judge import Doubt, Left, ending_of, flaws_of_walk, refusal_of
 from rows import wrong_rows
 from stores import BILINEAR, NEAREST, Flaw, Path, Store, contents
-from textures import MOST_TILED_SIDE, chain_of, generated, made, noise, picture_of, read_image, sample_bytes, store_of, texel_of, upgraded
+from textures import MOST_TILED_SIDE, chain_of, generated, has_texels, made, noise, picture_of, read_image, store_of, upgraded
 from walks import Settings, Still, Walk, trial, walked
 
 DEFAULTS = {"frames": 64, "samplers": 4, "loaders": 3, "batch": 64, "pinned": 1, "status": 0, "lost": None}
@@ -69,11 +69,7 @@ def write_store(name, data):
 
 def read_back(texture, store_name):
     store, (depth, rows) = Store(contents(store_name)), read_image(contents(texture), MOST_TILED_SIDE)
-    assert store.depth == depth
-    for k, level in enumerate(chain_of(rows, store.geometry.tile)):
-        for y, line in enumerate(level):
-            for x in range(len(line) // 3):
-                assert texel_of(store, k, x, y) == sample_bytes(depth, line[3 * x : 3 * x + 3]), (k, x, y)
+    sys.exit(0 if has_texels(store, depth, chain_of(rows, store.geometry.tile)) else "a texel is another one")
 
 
 def upgrade(store, new):

@@ -154,6 +154,13 @@ def texel_of(store, level, x, y):
     return store.data[at : at + 3 * store.depth]
 
 
+def has_texels(store, depth, levels):
+    """A store has each texel of each level of a chain, each at its own place."""
+    places = ((k, x, y) for k, level in enumerate(levels) for y, row in enumerate(level) for x in range(len(row) // 3))
+    texels = ((k, x, y, levels[k][y][3 * x : 3 * x + 3]) for k, x, y in places)
+    return store.depth == depth and all(texel_of(store, k, x, y) == sample_bytes(depth, texel) for k, x, y, texel in texels)
+
+
 def upgraded(store):
     """The bytes of the store of two bytes a sample that a store of one byte makes."""
     if store.depth != 1:

@@ -3,7 +3,8 @@
 
     python3 tests/measure/gate.py run LOG      runs `rt ci` at the top of the repository; LOG gets what it prints, and a line of
                                                time for each check
-    python3 tests/measure/gate.py table LOG    prints the table of such a log, the sums, and the longest chain of crates
+    python3 tests/measure/gate.py table LOG    prints the table of such a log, the sums, and the longest chain of crates; crates that
+                                               take less than a fortieth stand in one row, and with `all` behind LOG in their own
 
 Nothing else is to be at work on the machine. The checks are watched twice a second, so a figure may lack half a second. The check of
 a crate's first must-fail edit proves the whole crate a second time: of its time what is above the mean of the other edits counts as
@@ -176,16 +177,31 @@ def longest_chain(checks, libraries):
     return max((chain(it) for it in libraries), key=lambda it: it[0])
 
 
-def show(log):
+def sum_of(rows):
+    return [sum(row[i] for row in rows) for i in range(5)]
+
+
+def say_row(title, row):
+    proof, again, edits, tests, count = row
+    number = lambda it: f"{it:.0f}" if it >= 0.5 else ""
+    tried = f"{number(edits)} ({count})" if count else ""
+    print(f"| {title} | {number(proof)} | {number(again)} | {tried} | {number(tests)} | {sum(row[:4]):.0f} |")
+
+
+def show(log, least=0.025):
+    """The table of a log; crates that take less than this part of the whole stand in one row."""
     checks, (seconds, spent) = read(log)
     rows = rows_of(checks)
-    number = lambda it: f"{it:.0f}" if it >= 0.5 else ""
+    whole = sum_of(rows.values())
+    small = {crate for crate, row in rows.items() if sum(row[:4]) < least * sum(whole[:4])}
     print("| crate | proof | again for edits | edits | tests | together |\n|---|---|---|---|---|---|")
-    for crate, (proof, again, edits, tests, count) in sorted(rows.items(), key=lambda it: -sum(it[1][:4])):
-        tried = f"{number(edits)} ({count})" if count else ""
-        print(f"| {crate} | {number(proof)} | {number(again)} | {tried} | {number(tests)} | {proof + again + edits + tests:.0f} |")
-    sums = [sum(row[i] for row in rows.values()) for i in range(5)]
-    print(f"| all | {sums[0]:.0f} | {sums[1]:.0f} | {sums[2]:.0f} ({sums[4]}) | {sums[3]:.0f} | {sum(sums[:4]):.0f} |\n")
+    for crate, row in sorted(rows.items(), key=lambda it: -sum(it[1][:4])):
+        if crate not in small:
+            say_row(crate, row)
+    if small:
+        say_row(f"{len(small)} others", sum_of(rows[crate] for crate in small))
+    say_row("all", whole)
+    print()
     print(f"The gate took {seconds / 60:.1f} minutes and {spent:.0f} processor seconds, those of what is run and linked among them.")
     together, chain = longest_chain(checks, below("crates.txt"))
     print(f"The longest chain takes {together:.0f} seconds: " + ", ".join(f"{crate} {took:.0f}" for crate, took in chain) + ".")
@@ -194,8 +210,8 @@ def show(log):
 def main(words):
     if len(words) == 2 and words[0] == "run":
         return run(words[1])
-    if len(words) == 2 and words[0] == "table":
-        show(words[1])
+    if len(words) in (2, 3) and words[0] == "table" and words[2:] in ([], ["all"]):
+        show(words[1], 0 if words[2:] else 0.025)
         return 0
     print(__doc__, end="", file=sys.stderr)
     return 2

@@ -2,11 +2,15 @@
 """Measures the program's commands over growing inputs and prints the tables of docs/PERFORMANCE.md; by hand, on a machine that does nothing else.
 
 usage: run.py [PROGRAM] [--sweeps tile,walk-batch,..] [--rounds 5] [--most 8192] [--beside OTHER] [--words 'tile: --threads 1']..
+       run.py [PROGRAM] --summary [--rounds 9] [--beside OTHER]
 
 Each row is a run of a command: the medians of its seconds and of the processors' seconds, and the most memory that it held. With --beside
 another program is run in turn with it on the same words, and with those that --words gives it for a command; its seconds and how many times
 as long the first one takes stand behind, and OTHER BYTES where both do not leave the same pictures or store. A program that answers another
-status than 0 has a dash. Textures have sides of up to --most. It wants gcc.
+status than 0 has a dash. Textures have sides of up to --most. All files stand in memory, in /dev/shm where there is one. It wants gcc.
+
+--summary prints the first two tables of the page: what each command costs over textures of two sides, and walks by several crews. There both
+programs choose their own numbers of threads for all that is no walk, and bytes are compared once, where a walk is settled.
 """
 import argparse
 import glob
@@ -113,15 +117,16 @@ def replay_words(inputs, side, pictures):
     return ["replay", store, path, inputs.journal(store, path), "f"]
 
 
-def run(program, words):
-    """The seconds, the processors' seconds, the mebibytes and a digest of the pictures or the store of a run, or None where its status is not 0."""
+def run(program, words, is_compared=True):
+    """The seconds, the processors' seconds, the mebibytes and a digest of the pictures or the store of a run, or None where its status is not 0.
+    The digest is None where nothing is to be compared."""
     for name in [name for pattern in WRITTEN for name in glob.glob(pattern)]:
         os.remove(name)
     subprocess.run(["./timed", "figures", program, *words], check=True, stdout=subprocess.DEVNULL, stderr=subprocess.DEVNULL)
     with open("figures") as file:
         *figures, status = file.read().split()
     seconds, busy, kibibytes = map(float, figures)
-    return (seconds, busy, kibibytes / 1024, digest()) if status == "0" else None
+    return (seconds, busy, kibibytes / 1024, digest() if is_compared else None) if status == "0" else None
 
 
 def digest():
@@ -133,42 +138,126 @@ def digest():
     return found.hexdigest()
 
 
+def measured(programs, rounds, compared):
+    """The medians of the figures of each program, or None where its status is not 0, from so many runs of each in turn; and whether all that was
+    compared, in the first so many rounds, is the same."""
+    runs = [[] for _ in programs]
+    for number in range(rounds):
+        for found, (program, words) in zip(runs, programs):
+            found.append(run(program, words, number < compared))
+    middles = [None if None in found else [statistics.median(column) for column in list(zip(*found))[:3]] for found in runs]
+    return middles, len({figures[3] for found in runs for figures in found if figures and figures[3]}) < 2
+
+
 def row(title, programs, rounds):
     """A row of a table, from so many runs of each program in turn."""
-    runs = [[] for _ in programs]
-    for _ in range(rounds):
-        for found, (program, words) in zip(runs, programs):
-            found.append(run(program, words))
-    middles = [None if None in found else [statistics.median(column) for column in list(zip(*found))[:3]] for found in runs]
+    middles, is_same = measured(programs, rounds, rounds)
     cells = ["%.3f | %.3f | %.0f" % tuple(middle) if middle else "- | - | -" for middle in middles[:1]]
     cells += ["%.3f" % middle[0] if middle else "-" for middle in middles[1:]]
     if len(middles) == 2:
         cells.append("%.2f" % (middles[0][0] / middles[1][0]) if None not in middles else "-")
-    digests = {figures[3] for found in runs for figures in found if figures}
-    print("| %s%s | %s |" % (title, "" if len(digests) < 2 else ", OTHER BYTES", " | ".join(cells)), flush=True)
+    print("| %s%s | %s |" % (title, "" if is_same else ", OTHER BYTES", " | ".join(cells)), flush=True)
+
+
+SIDES, CREWS = (2048, 8192), ((1, 1), (2, 1), (4, 3), (8, 4))
+# The sides of the pictures, how many there are, and the frames over each side of a texture: for the largest as many as settled pictures want.
+SIZES = ((64, 48, 60, (256, 256)), (320, 200, 60, (256, 256)), (1920, 1080, 20, (1024, 2048)))
+
+
+def summary_of(inputs):
+    """The rows of the first table: a command, its words over a texture of a side, and what it grows with."""
+    plain = lambda path, *more: lambda n: ["plain", inputs.texture(n), path, "f", *more]
+    live = lambda n: [word for word in walk_words(inputs, store=inputs.store(n)) if word != "--settled"]
+    settled = lambda *more: lambda n: walk_words(inputs, store=inputs.store(n)) + list(more)
+    both = "the texture's texels, and the pictures' pixels"
+    return [
+        ("`gen`", lambda n: ["gen", "7", str(n), str(n), "w.ppm"], "texels"),
+        ("`tile`", lambda n: ["tile", inputs.texture(n), "w.vts"], "texels"),
+        ("`tile`, two bytes a sample", lambda n: ["tile", inputs.wide_texture(n), "w.vts"], "texels"),
+        ("`info`", lambda n: ["info", inputs.store(n)], "nothing"),
+        ("`upgrade`", lambda n: ["upgrade", inputs.store(n), "w.vts"], "the store's bytes"),
+        ("`plain`, a picture of 2048x2048", plain(inputs.path(2048, 2048, 1)), both),
+        ("`plain`, 60 pictures of 320x200", plain(inputs.path()), both),
+        ("the same, `--filter bilinear`", plain(inputs.path(), "--filter", "bilinear"), both),
+        ("`walk`, live, the same pictures", live, "frames, and the pixels of all passes"),
+        ("`walk --settled`", settled(), "frames, and the pixels of all passes"),
+        ("the same, `--filter bilinear`", settled("--filter", "bilinear"), "frames, and the pixels of all passes"),
+        ("`replay` of a settled walk", lambda n: replay_words(inputs, n, 60), "pixels, and the journal's lines"),
+        ("`trial 7`", lambda n: ["trial", "7"] if n == 2048 else None, "nothing"),
+    ]
+
+
+def ratios(middles):
+    """How many times as long the first of two programs takes, by seconds and by processor seconds."""
+    if len(middles) < 2 or None in middles:
+        return "-"
+    return "%.2f (%.2f)" % tuple(a / b if b else float("nan") for a, b in zip(middles[0][:2], middles[1][:2]))
+
+
+def print_commands(inputs, programs, rounds):
+    head = ["command"] + ["side %s: ms | processor ms | MiB" % format(side, ",") for side in SIDES]
+    head += ["times plain Rust at %s" % format(side, ",") for side in SIDES] + ["grows with"]
+    print("| %s |\n|%s" % (" | ".join(head), "---|" * (len(head) + 2 * len(SIDES))))
+    for title, words_of, grows in summary_of(inputs):
+        cells, beside = [], []
+        for side in SIDES:
+            words = words_of(side)
+            if words is None:
+                cells.append("| |")
+                beside.append("")
+                continue
+            beside_it = programs[:1] if "--filter" in words else programs
+            middles, is_same = measured([(program, words) for program in beside_it], rounds, int(words[0] != "walk" or "--settled" in words))
+            first = middles[0]
+            cells.append("%.1f | %.1f | %.0f" % (1000 * first[0], 1000 * first[1], first[2]) if first else "- | - | -")
+            beside.append(ratios(middles) + ("" if is_same else " OTHER BYTES"))
+        print("| %s | %s | %s |" % (title, " | ".join(cells + beside), grows), flush=True)
+
+
+def print_walks(inputs, programs, rounds):
+    print("\n| side | pictures | walk | %s |\n|%s" % (" | ".join("%d/%d" % crew for crew in CREWS), "---|" * (3 + len(CREWS))))
+    for at, side in enumerate(SIDES):
+        for width, height, pictures, frames in SIZES:
+            for kind in ("live", "settled"):
+                cells = []
+                for samplers, loaders in CREWS:
+                    options = ("--frames", frames[at], "--samplers", samplers, "--loaders", loaders)
+                    words = walk_words(inputs, *options, store=inputs.store(side), path=inputs.path(width, height, pictures))
+                    words = [word for word in words if kind == "settled" or word != "--settled"]
+                    middles, is_same = measured([(program, words) for program in programs], rounds, int(kind == "settled"))
+                    cell = "%.1f ms" % (1000 * middles[0][0]) if middles[0] else "-"
+                    cells.append(cell + (": " + ratios(middles) if len(programs) > 1 else "") + ("" if is_same else " OTHER BYTES"))
+                print("| %s | %d of %dx%d | %s | %s |" % (format(side, ","), pictures, width, height, kind, " | ".join(cells)), flush=True)
 
 
 def main():
     parser = argparse.ArgumentParser()
     parser.add_argument("program", nargs="?", default=os.path.join(TOP, "crates/vtex/out/vtex"))
     parser.add_argument("--sweeps")
-    parser.add_argument("--rounds", type=int, default=5)
+    parser.add_argument("--summary", action="store_true")
+    parser.add_argument("--rounds", type=int)
     parser.add_argument("--most", type=int, default=8192)
     parser.add_argument("--beside")
     parser.add_argument("--words", action="append", default=[])
     asked = parser.parse_args()
     program, beside = os.path.abspath(asked.program), asked.beside and os.path.abspath(asked.beside)
     more = {command.strip(): shlex.split(words) for command, words in (text.split(":", 1) for text in asked.words)}
-    with tempfile.TemporaryDirectory() as folder:
+    rounds = asked.rounds or (9 if asked.summary else 5)
+    with tempfile.TemporaryDirectory(dir="/dev/shm" if os.path.isdir("/dev/shm") else None) as folder:
         os.chdir(folder)
         subprocess.run(["gcc", "-O1", os.path.join(HERE, "timed.c"), "-o", "timed"], check=True)
-        sweeps = sweeps_of(Inputs(program), [side for side in (1024, 2048, 4096, 8192) if side <= asked.most])
-        for sweep in asked.sweeps.split(",") if asked.sweeps else sweeps:
+        inputs = Inputs(program)
+        if asked.summary:
+            programs = [program] + ([beside] if beside else [])
+            print_commands(inputs, programs, rounds)
+            print_walks(inputs, programs, rounds)
+        sweeps = {} if asked.summary else sweeps_of(inputs, [side for side in (1024, 2048, 4096, 8192) if side <= asked.most])
+        for sweep in asked.sweeps.split(",") if asked.sweeps and sweeps else sweeps:
             head = ["seconds", "processor seconds", "MiB"] + (["the other's seconds", "times"] if beside else [])
             print("\n| %s | %s |\n|%s" % (sweep, " | ".join(head), "---|" * (len(head) + 1)))
             for title, words_of in sweeps[sweep]:
                 words = words_of()
-                row(title, [(program, words)] + ([(beside, words + more.get(words[0], []))] if beside else []), asked.rounds)
+                row(title, [(program, words)] + ([(beside, words + more.get(words[0], []))] if beside else []), rounds)
         os.chdir(TOP)
 
 
