@@ -414,6 +414,7 @@ check_walk() {
   walks_over "an odd texture" walk.ppm 8 walk.path --frames 400 --samplers 7 --loaders 3 --batch 5
   walks_over "an odd texture" walk.ppm 16 walk.path --frames 130 --samplers 1 --loaders 1 --batch 64 --pinned 2
   walks_over "an odd texture" walk.ppm 16 walk.path --frames 150 --samplers 64 --loaders 16 --batch 1 --pinned 16
+  walks_over "an odd texture" walk.ppm 8 walk.path --frames 400 --samplers 5 --loaders 2 --batch 7 --rows shared
   walks_over "a wide texture" wide.ppm 32 walk.path --frames 70 --samplers 2 --loaders 5 --batch 3
   walks_over "a small texture" small.ppm 2 walk.path --frames 9 --batch 2
   "$program" gen 7 2048 2048 large.ppm
@@ -424,7 +425,7 @@ check_walk() {
   if has replay; then replay_of "walk of an upgraded store" wide.vts large.path wide; fi
   rm -f wide[0-9][0-9][0-9][0-9].ppm
   "$program" walk large.vts large.path short --settled > got.log && [ -s journal.txt ] && "$program" walk large.vts large.path long --settled \
-    --frames 64 --samplers 4 --loaders 3 --batch 64 --pinned 1 --journal long.txt > want.log && cmp -s want.log got.log && same_pictures short long
+    --frames 64 --samplers 4 --loaders 3 --batch 64 --pinned 1 --rows dealt --filter nearest --journal long.txt > want.log && cmp -s want.log got.log && same_pictures short long
   say $? "walk with no option"
   rm -f {short,long}[0-9][0-9][0-9][0-9].ppm
   while IFS='|' read -r words answer line; do
@@ -441,6 +442,8 @@ g4.vts a.path no --journal no.txt --frames 65536|2|$usage
 g4.vts a.path no --journal no.txt --frames 04|2|$usage
 g4.vts a.path no --journal no.txt --settled --settled|2|$usage
 g4.vts a.path no --journal no.txt --tile 2|2|$usage
+g4.vts a.path no --journal no.txt --rows taken|2|$usage
+g4.vts a.path no --journal no.txt --rows shared --filter bilinear|2|$usage
 g4.vts a.path|2|$usage
 g4.vts a.path no --journal g4.vts|2|$usage
 g4.vts a.path no --journal a.path|2|$usage
