@@ -409,8 +409,8 @@ def any_order(rows):
         rows.is_true(status == 5 or not said, "any order %d, cut: %s" % (seed, said))
 
 
-WORKED = [single_texel, starved_walk, blends, lost_tile, other_lines, no_tile_lost, one_settled, shared_rows, shared_versions, one_batch, coarse_to_fine, failing_calls, replays, foreign_journals]
-WORKED += [failing_creations, held_version, large_walk, any_order]
+WORKED = [single_texel, starved_walk, blends, lost_tile, other_lines, no_tile_lost, one_settled, shared_rows, shared_versions, one_batch, coarse_to_fine]
+WORKED += [failing_calls, replays, foreign_journals, failing_creations, held_version, large_walk, any_order]
 
 
 def wrong_rows():
