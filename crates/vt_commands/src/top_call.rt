@@ -50,7 +50,9 @@ pub fn run<
         D.Folder O.Sink E.Sink (texts words.now) folder.old folder.new out.old out.new err.old err.new) result }
 {
     if may_wait(words) {
-        return run_waiting::<M, Steal, Blend, Rt, D, O, E, G>(rt, alloc, words, folder, out, err, gate);
+        return run_waiting::<M, Steal, Blend, Rt, D, O, E, G>(
+            rt, alloc, words, folder, out, err, gate,
+        );
     }
     run_at_once(rt, alloc, words, folder, out, err)
 }
