@@ -53,6 +53,10 @@ class Lines:
     def __init__(self, text):
         self.lines, self.taken = re.findall(rb"[^\n]*\n|[^\n]+", text), 0
 
+    def next(self):
+        """The next line, or nothing at the end."""
+        return b"".join(self.lines[self.taken : self.taken + 1])
+
     def take(self, lawful):
         """The next line's place among the lawful ones."""
         if self.taken == len(self.lines):
@@ -64,6 +68,12 @@ class Lines:
         if self.taken + 1 == len(self.lines) and any(other.startswith(line) for other in lawful):
             raise Ended
         raise Wrong("journal: line %d may not come next" % (self.taken + 1))
+
+
+def named(line, samplers):
+    """Of the samplers that may draw a row the one that its line names, or all where it names none of them."""
+    field = line.split(b" ")[2:3]
+    return [sampler for sampler in samplers if [b"%d" % sampler] == field] or samplers
 
 
 class Follower:
@@ -103,12 +113,13 @@ class Follower:
         return losses, version
 
     def rows(self, newest):
-        """Takes the lines of all rows, each at a version of the pass that is none that its sampler left behind."""
-        floors = {}
+        """Takes the lines of all rows, each by a sampler that may draw it, at a version of the pass that is none that its sampler left behind."""
+        floors, settings = {}, self.run.walk.settings
         for y in range(self.run.walk.path.height):
-            sampler = y % self.run.walk.settings.samplers
-            least = floors.get(sampler, self.run.version)
-            floors[sampler] = least + self.lines.take(self.run.row_line(y, v) for v in range(least, newest + 1))
+            samplers = named(self.lines.next(), settings.samplers_of(y))
+            lawful = [(s, version) for s in samplers for version in range(floors.get(s, self.run.version), newest + 1)]
+            sampler, version = lawful[self.lines.take(self.run.row_line(y, *row) for row in lawful)]
+            floors[sampler] = version
 
     def is_over(self):
         """The run that the journal tells is whole."""
@@ -147,6 +158,8 @@ def followed(walk, journal):
 
 def refusal_of(store_name, path_name, settings):
     """The status and line of the first cause in path, store and settings, or None for the status, with the store and the path."""
+    if not settings.go_together():
+        return 2, LINES[2], None, None
     try:
         name, data = path_name, contents(path_name)
         path = Path(data, settings.filtering) if data is not None else None

@@ -1,16 +1,18 @@
 """Worked rows: walks, journals and replays of small textures whose results were found by hand, against the modules beside this one."""
 import os
 import tempfile
+from itertools import product
 
 from journals import Journal, replay
-from judge import Doubt, Left, flaws_of_walk
+from judge import LINES, Doubt, Left, flaws_of_walk
 from stores import BILINEAR, Flaw, Geometry, Path, Store, plain_picture
 from textures import chain_of, picture_of
-from walks import Settings, Shuffled, Still, Walk, trial, walked
+from walks import DEALT, SHARED, Settings, Shuffled, Still, Walk, trial, walked
 
 FIRST = b"size 2 1\nfocal 1\nat 0 0 256 16384 0\n"
 FOUR = b"size 2 1\nfocal 1\n" + b"at 0 0 256 16384 0\n" * 2 + b"at 512 0 256 16384 0\n" * 2
 FOUR_TEXELS = [0, 1, 4, 5, 2, 3, 6, 7, 8, 9, 12, 13, 10, 11, 14, 15, 3, 5, 11, 13]
+FOUR_ROWS = b"size 2 4\nfocal 1\nat 0 0 1024 16384 0\n"
 WRAPPED = b"size 1 1\nfocal 1\nat 640 -64 256 16384 0\n"
 LOST = b"""map 1 1 0 0 0
 pass 1 picture 0 start 1
@@ -226,6 +228,42 @@ def one_settled(rows):
     rows.refusal("one picture settled that does not fit", FOUR_STORE, FIRST, settings, 5, line, journal, b"", [])
 
 
+def shared_rows(rows):
+    """Walks whose samplers share the rows: any of them may draw a row, at a version that is none that it left behind."""
+    log, picture = b"picture 0 passes 4 wanted 2 loaded 2 lost 0 evicted 0\nend pictures 1 reads 3\n", [grey([0x0D, 0x01])]
+    for samplers in (1, 2, 7):
+        settings = Settings(frames=3, samplers=samplers, batch=1, settled=True, scheduling=SHARED)
+        rows.walk("one picture settled, shared rows", FOUR_STORE, FIRST, settings, filled(ONE_SETTLED, 1, 2), log, picture)
+    log = b"picture 0 passes 1 wanted 3 loaded 0 lost 0 evicted 0\nend pictures 1 reads 1\n"
+    picture = b"P6\n2 4\n255\n" + bytes(sample for sample in (11, 11, 13, 5, 11, 3, 11, 3) for _ in range(3))
+    rows.walk("four shared rows", FOUR_STORE, FOUR_ROWS, Settings(frames=1, samplers=2, scheduling=SHARED), None, log, [picture])
+    for drew in ((0, 1, 1, 1), (1, 0, 0, 0), (1, 1, 1, 1), (0, 1, 0, 1), (0, 1, 2, 1), (0, 0, 0, 64)):
+        text = HEAD + ONE_PASS + b"".join(b"row %d %d 1\n" % (y, sampler) for y, sampler in enumerate(drew))
+        for name, scheduling in (("shared", SHARED), ("dealt", DEALT)):
+            settings = Settings(frames=1, samplers=2, scheduling=scheduling)
+            said = rows.judged(FOUR_STORE, FOUR_ROWS, settings, 0, log, b"", text, [picture])
+            lawful = max(drew) < 2 and (scheduling == SHARED or drew == (0, 1, 0, 1))
+            rows.is_true((not said) == lawful, "four %s rows by %s: %s" % (name, drew, said))
+
+
+def shared_versions(rows):
+    """Two rows of a pass that loads two pages, by two samplers that share them: each sampler and each version in turn."""
+    path, settings = b"size 2 2\nfocal 1\n" + b"at 0 0 512 16384 0\n" * 2, Settings(frames=3, samplers=2, scheduling=SHARED)
+    store = Store(FOUR_STORE)
+    text, run = walked(Walk(store.geometry, Path(path), settings), Still())
+    front, log, start = b"".join(text.splitlines(True)[:-2]), run.log + run.end_line(), run.version - 2
+    rows.is_true(front.endswith(b"map %d 0 0 1 2\n" % run.version), "shared versions: two pages are loaded")
+    for s, v, other, w in product(range(3), range(start - 1, start + 4), range(3), range(start - 1, start + 4)):
+        journal, drawn = front + b"row 0 %d %d\nrow 1 %d %d\n" % (s, v, other, w), []
+        lawful = max(s, other) < 2 and start <= min(v, w) and max(v, w) <= start + 2 and (s != other or v <= w)
+        if lawful:
+            drawn = replay(store, Path(path), Journal(store.geometry, 2, journal))
+        said = rows.judged(FOUR_STORE, path, settings, 0, log, b"", journal, drawn)
+        rows.is_true((not said) == lawful, "shared versions %s: %s" % ((s, v, other, w), said))
+    both = Settings(filtering=BILINEAR, scheduling=SHARED)
+    rows.refusal("shared rows beside blends", FOUR_STORE, FIRST, both, 2, LINES[2], None, b"", [])
+
+
 def one_batch(rows):
     log = b"picture 0 passes 3 wanted 2 loaded 2 lost 0 evicted 0\nend pictures 1 reads 3\n"
     settings = Settings(frames=3, samplers=1, batch=2, settled=True)
@@ -359,7 +397,8 @@ def any_order(rows):
     store = Store(EIGHT_STORE)
     path = b"size 5 4\nfocal 3\nat 100 -77 3000 11585 -11585\nto 3 2000 300 700 16384 0\n"
     for seed in range(30):
-        settings = Settings(frames=12 + seed % 10, samplers=1 + seed % 5, batch=1 + seed % 6, pinned=1 + seed % 2, settled=seed % 3 == 0)
+        numbers = {"frames": 12 + seed % 10, "samplers": 1 + seed % 5, "batch": 1 + seed % 6, "pinned": 1 + seed % 2}
+        settings = Settings(**numbers, settled=seed % 3 == 0, scheduling=SHARED if seed % 7 < 3 else DEALT)
         text, run = walked(Walk(store.geometry, Path(path), settings), Shuffled(seed), (3, 7) if not settings.settled else ())
         drawn = replay(store, Path(path), Journal(store.geometry, 4, text, 4))[: run.picture]
         log, status = (run.log + run.end_line(), 0) if run.is_whole() else (run.log, 5)
@@ -370,8 +409,8 @@ def any_order(rows):
         rows.is_true(status == 5 or not said, "any order %d, cut: %s" % (seed, said))
 
 
-WORKED = [single_texel, starved_walk, blends, lost_tile, other_lines, no_tile_lost, one_settled, one_batch, coarse_to_fine, failing_calls, replays, foreign_journals]
-WORKED += [failing_creations, held_version, large_walk, any_order]
+WORKED = [single_texel, starved_walk, blends, lost_tile, other_lines, no_tile_lost, one_settled, shared_rows, shared_versions, one_batch, coarse_to_fine]
+WORKED += [failing_calls, replays, foreign_journals, failing_creations, held_version, large_walk, any_order]
 
 
 def wrong_rows():

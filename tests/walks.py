@@ -4,12 +4,21 @@ import random
 from stores import NEAREST, Geometry, Path
 
 MOST_FRAME_TEXELS = 8388608
+DEALT, SHARED = "dealt", "shared"
 
 
 class Settings:
-    def __init__(self, frames=64, samplers=4, batch=64, pinned=1, settled=False, filtering=NEAREST):
+    def __init__(self, frames=64, samplers=4, batch=64, pinned=1, settled=False, filtering=NEAREST, scheduling=DEALT):
         self.frames, self.samplers, self.batch, self.pinned, self.settled = frames, samplers, batch, pinned, settled
-        self.filtering = filtering
+        self.filtering, self.scheduling = filtering, scheduling
+
+    def go_together(self):
+        """Of the options that ask for another machine at most one is given."""
+        return self.filtering == NEAREST or self.scheduling == DEALT
+
+    def samplers_of(self, y):
+        """The samplers that may draw a row."""
+        return range(self.samplers) if self.scheduling == SHARED else [y % self.samplers]
 
 
 class Entry:
@@ -67,8 +76,8 @@ class Run:
     def begin_line(self):
         return b"pass %d picture %d start %d\n" % (self.passes + 1, self.picture, self.version)
 
-    def row_line(self, y, version):
-        return b"row %d %d %d\n" % (y, y % self.walk.settings.samplers, version)
+    def row_line(self, y, sampler, version):
+        return b"row %d %d %d\n" % (y, sampler, version)
 
     def lost_line(self, entry):
         return b"lost %d %d %d\n" % self.walk.geometry.name_of(entry.page)
@@ -141,18 +150,24 @@ class Still:
     def order(self, entries):
         return range(entries)
 
+    def sampler(self, samplers):
+        return samplers[0]
+
     def version(self, least, most):
         return least
 
 
 class Shuffled:
-    """How passes may go: pages come in any order, and rows are drawn at any versions that do not fall."""
+    """How passes may go: pages come in any order, and rows are drawn by any samplers that may, at any versions that do not fall."""
 
     def __init__(self, seed):
         self.random = random.Random(seed)
 
     def order(self, entries):
         return self.random.sample(range(entries), entries)
+
+    def sampler(self, samplers):
+        return self.random.choice(samplers)
 
     def version(self, least, most):
         return self.random.choice([least, least, self.random.randint(least, most)])
@@ -173,9 +188,9 @@ def walked(walk, way, lost=()):
             text += b"".join(lines)
         floors = {}
         for y in range(walk.path.height):
-            sampler = y % walk.settings.samplers
+            sampler = way.sampler(walk.settings.samplers_of(y))
             floors[sampler] = way.version(floors.get(sampler, run.version), version)
-            text += run.row_line(y, floors[sampler])
+            text += run.row_line(y, sampler, floors[sampler])
         run.settle(losses)
     return text, run
 

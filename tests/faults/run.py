@@ -19,10 +19,10 @@ sys.path.insert(0, os.path.join(top, "tests"))
 
 from failing import KINDS, Failing, doubt_of, doubt_of_walk, flaws_of_reads
 from judge import flaws_of_due, flaws_of_walk
-from rows import EIGHT_STORE, FIRST, FOUR, FOUR_STORE, LOST, WRAPPED, filled, grey, pixel
+from rows import EIGHT_STORE, FIRST, FOUR, FOUR_ROWS, FOUR_STORE, LOST, WRAPPED, filled, grey, pixel
 from stores import contents
 from stores import BILINEAR
-from walks import Settings
+from walks import SHARED, Settings
 
 TEXELS = FOUR_STORE[16::3]
 SCALED = (0, 17, 68, 85, 34, 51, 102, 119, 136, 153, 204, 221, 170, 187, 238, 255, 43, 77, 179, 213)
@@ -36,6 +36,7 @@ INPUTS = {
     "g15.ppm": b"P6\n4 4\n15\n" + b"".join(bytes([n] * 3) for n in range(16)),
     "a.path": FIRST,
     "four.path": FOUR,
+    "rows.path": FOUR_ROWS + FOUR_ROWS.splitlines(True)[-1],
     "s.vts": FOUR_STORE,
     "e.vts": EIGHT_STORE,
     "wide.vts": WIDE,
@@ -91,6 +92,7 @@ JOBS = [
     WalkJob("s.vts", "four.path", "--frames 4 --samplers 2 --loaders 3 --batch 2", Settings(4, 2, 2)),
     WalkJob("e.vts", "a.path", "--frames 5 --samplers 7 --loaders 2 --settled", Settings(5, 7, 64, 1, True)),
     WalkJob("s.vts", "a.path", "--frames 5 --samplers 2 --loaders 2 --settled --filter bilinear", Settings(5, 2, 64, 1, True, BILINEAR)),
+    WalkJob("s.vts", "rows.path", "--frames 4 --samplers 3 --loaders 2 --batch 2 --rows shared", Settings(4, 3, 2, scheduling=SHARED)),
     WalkJob("wide.vts", "a.path", "--frames 3 --samplers 2 --loaders 1 --settled", Settings(3, 2, 64, 1, True)),
     Job(["replay", "s.vts", "four.path", "j.txt", "f"], PICTURES, b"end pictures 4\n"),
     Job(["plain", "g4.ppm", "b.path", "f", "--tile", "2", "--filter", "bilinear"], [("f0000.ppm", BLEND)], b"end pictures 1\n"),

@@ -8,7 +8,7 @@ from judge import FAULT, LINES, flaws_of_due, flaws_of_walk
 from journals import Journal, replay
 from stores import BILINEAR, NEAREST, Flaw, Geometry, Path, Store, contents
 from textures import MOST_TILED_SIDE, chain_of, generated, picture_of, read_image, sample_bytes, store_of, upgraded
-from walks import Settings, Shuffled, Walk, trial, walked
+from walks import DEALT, SHARED, Settings, Shuffled, Walk, trial, walked
 
 TILES = [2, 4, 8, 16, 32, 64, 128]
 BOUNDS = {"--frames": 65535, "--samplers": 64, "--loaders": 16, "--batch": 4096, "--pinned": 16}
@@ -27,6 +27,10 @@ class Inputs:
 
     def filtering(self):
         return self.random.choice([NEAREST, NEAREST, BILINEAR])
+
+    def scheduling(self, filtering):
+        """Shared rows go with the nearest texel alone; now and then they are asked for beside blends."""
+        return SHARED if self.is_one_in(3 if filtering == NEAREST else 20) else DEALT
 
     def side(self):
         return self.random.choice([1, 2, 3, self.random.randint(1, 40), self.random.randint(1, 40), self.random.randint(1, 150)])
@@ -90,7 +94,8 @@ class Inputs:
     def settings(self, store, path):
         """Mostly as many frames as the pictures need, or a few more or less, and small numbers of the others; else any numbers."""
         small = [self.random.choice([1, 2, 3, 7, self.random.randint(1, most)]) for most in (64, 4096, 16)]
-        settings = Settings(store.geometry.pages, *small, settled=self.is_one_in(2), filtering=path.filtering)
+        machine = path.filtering, self.scheduling(path.filtering)
+        settings = Settings(store.geometry.pages, *small, self.is_one_in(2), *machine)
         if self.is_one_in(4):
             settings.frames = self.random.randint(1, 65535)
             return settings
@@ -113,8 +118,12 @@ def filter_words(filtering):
     return [] if filtering == NEAREST else ["--filter", filtering]
 
 
-def kind_of(filtering):
-    return "" if filtering == NEAREST else " by blends"
+def machine_words(settings):
+    return filter_words(settings.filtering) + ([] if settings.scheduling == DEALT else ["--rows", settings.scheduling])
+
+
+def kind_of(filtering, scheduling=DEALT):
+    return ("" if filtering == NEAREST else " by blends") + ("" if scheduling == DEALT else " by shared rows")
 
 
 class Case:
@@ -154,8 +163,8 @@ class WalkCase(Case):
         words = ["walk", "s.vts", "p.path", "f", "--journal", "j.txt", "--loaders", str(loaders)]
         for option in ("frames", "samplers", "batch", "pinned"):
             words += ["--" + option, str(getattr(settings, option))]
-        kind = ("settled walk" if settings.settled else "live walk") + kind_of(settings.filtering)
-        super().__init__(kind, words + filter_words(settings.filtering) + ["--settled"] * settings.settled, inputs, None, r"j\.txt|f[0-9]{4}\.ppm")
+        kind = ("settled walk" if settings.settled else "live walk") + kind_of(settings.filtering, settings.scheduling)
+        super().__init__(kind, words + machine_words(settings) + ["--settled"] * settings.settled, inputs, None, r"j\.txt|f[0-9]{4}\.ppm")
         self.settings = settings
 
     def flaws(self, left, doubt):

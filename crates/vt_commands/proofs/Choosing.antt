@@ -2,14 +2,14 @@
 use Rattle.std.proofs.Common.{◌≡◌, sym, subst}
 use Rattle.std.specs.Prelude.{Result}
 use Rattle.vt_words.specs.Walk.{WalkText}
-use Rattle.vt_words.specs.declared.filters.Filtering.{Filtering}
+use Rattle.vt_words.specs.declared.machines.MachineChoice.{MachineChoice}
 use Rattle.vt_files.specs.Effects.{CallEffect}
 use Rattle.vt_command_base.specs.CommandSpecs.{EndsBy}
 use Rattle.vt_command_base.specs.declared.refusal.Refusal.{Refusal}
 use Rattle.vt_walk_commands.specs.commands.Walk.{walk_spec}
 use Rattle.vt_walk_commands.specs.Machines.{Machines, kind_by, chosen}
 
--- a walk by the kind that draws by the words' filter is one by the kind that the words choose
-pub by_filter : (machines : Machines) (words : WalkText) (filter : Filtering) (c : CallEffect) (r : Result (Unit {0}) Refusal) → words.filter ≡ filter
-    → EndsBy (walk_spec (kind_by machines filter) words) c r → EndsBy (walk_spec (chosen machines words) words) c r
-by_filter machines words filter c r is ends = subst (λ (f : Filtering). EndsBy (walk_spec (kind_by machines f) words) c r) (sym is) ends
+-- a walk by the kind of the words' choice is one by the kind that the words choose
+pub by_choice : (machines : Machines) (words : WalkText) (choice : MachineChoice) (c : CallEffect) (r : Result (Unit {0}) Refusal)
+    → words.machine ≡ choice → EndsBy (walk_spec (kind_by machines choice) words) c r → EndsBy (walk_spec (chosen machines words) words) c r
+by_choice machines words choice c r is ends = subst (λ (m : MachineChoice). EndsBy (walk_spec (kind_by machines m) words) c r) (sym is) ends

@@ -48,4 +48,4 @@ no_machine = record {
 
 -- with no machine: the specification of a command that waits for nobody are the same by any
 abbrev pub no_machines : Machines
-no_machines = record { nearest = no_machine; bilinear = no_machine }
+no_machines = record { standard = no_machine; shared_rows = no_machine; bilinear = no_machine }

@@ -13,12 +13,13 @@ use vt_command_base::Refusal;
 use vt_machine::PassMachine;
 use vt_outside::{Folder, Gate, Sink};
 use vt_walk_commands::walk;
-use vt_words::{Filtering, WalkWords};
+use vt_words::{MachineChoice, WalkWords};
 
 /// Walks by the machine that the words choose.
 pub fn walk_chosen<
     'a,
     M: PassMachine<File = D::File> + Send,
+    Steal: PassMachine<File = D::File> + Send,
     Blend: PassMachine<File = D::File> + Send,
     Rt: Threads + Wait + Sync,
     D: Folder,
@@ -33,13 +34,16 @@ pub fn walk_chosen<
     gate: &G,
 ) -> Result<(), Refusal<'a>>
     requires { IsLawfulWalk words.now }
-    ensures { let machines = machines_of M.drawing M.drawn Blend.drawing Blend.drawn in
+    ensures { let machines = machines_of M.drawing M.drawn Steal.drawing Steal.drawn Blend.drawing Blend.drawn in
         let asked = shown_walk words.now in
         EndsBy (walk_spec (chosen machines asked) asked)
         (call_effect D.Folder O.Sink folder.old folder.new out.old out.new) result }
 {
-    match words.filter {
-        Filtering::Nearest => walk::<M, Rt, D, O, G>(rt, alloc, words, folder, out, gate),
-        Filtering::Bilinear => walk::<Blend, Rt, D, O, G>(rt, alloc, words, folder, out, gate),
+    match words.machine {
+        MachineChoice::Standard => walk::<M, Rt, D, O, G>(rt, alloc, words, folder, out, gate),
+        MachineChoice::SharedRows => {
+            walk::<Steal, Rt, D, O, G>(rt, alloc, words, folder, out, gate)
+        }
+        MachineChoice::Bilinear => walk::<Blend, Rt, D, O, G>(rt, alloc, words, folder, out, gate),
     }
 }

@@ -24,6 +24,7 @@ use vt_words::{Command, read_command};
 /// Does what `run` does, where the words are those of a command that may wait.
 pub fn run_waiting<
     M: PassMachine<File = D::File> + Send,
+    Steal: PassMachine<File = D::File> + Send,
     Blend: PassMachine<File = D::File> + Send,
     Rt: Threads + Wait + Sync,
     D: Folder,
@@ -40,10 +41,10 @@ pub fn run_waiting<
     gate: &G,
 ) -> u8
     requires { may_wait (texts words.now) ≡ true }
-    ensures { IsRun (run_of (machines_of M.drawing M.drawn Blend.drawing Blend.drawn) D.Folder O.Sink E.Sink
-        (texts words.now) folder.old folder.new out.old out.new err.old err.new) result }
+    ensures { IsRun (run_of (machines_of M.drawing M.drawn Steal.drawing Steal.drawn Blend.drawing Blend.drawn)
+        D.Folder O.Sink E.Sink (texts words.now) folder.old folder.new out.old out.new err.old err.new) result }
 {
-    let end = do_waiting::<M, Blend, Rt, D, O, G>(rt, alloc, words, folder, out, gate);
+    let end = do_waiting::<M, Steal, Blend, Rt, D, O, G>(rt, alloc, words, folder, out, gate);
     tell_end(&end, err);
     status_of(&end)
 }
@@ -52,6 +53,7 @@ pub fn run_waiting<
 fn do_waiting<
     'a,
     M: PassMachine<File = D::File> + Send,
+    Steal: PassMachine<File = D::File> + Send,
     Blend: PassMachine<File = D::File> + Send,
     Rt: Threads + Wait + Sync,
     D: Folder,
@@ -66,17 +68,18 @@ fn do_waiting<
     gate: &G,
 ) -> Result<(), Refusal<'a>>
     requires { may_wait (texts words.now) ≡ true }
-    ensures { EndsRun (machines_of M.drawing M.drawn Blend.drawing Blend.drawn) (texts words.now)
-        (call_effect D.Folder O.Sink folder.old folder.new out.old out.new) result }
+    ensures { EndsRun (machines_of M.drawing M.drawn Steal.drawing Steal.drawn Blend.drawing Blend.drawn)
+        (texts words.now) (call_effect D.Folder O.Sink folder.old folder.new out.old out.new) result }
 {
     let command = read_command(alloc, words)?;
-    perform_waiting::<M, Blend, Rt, D, O, G>(rt, alloc, &command, folder, out, gate)
+    perform_waiting::<M, Steal, Blend, Rt, D, O, G>(rt, alloc, &command, folder, out, gate)
 }
 
 // Does a command.
 fn perform_waiting<
     'a,
     M: PassMachine<File = D::File> + Send,
+    Steal: PassMachine<File = D::File> + Send,
     Blend: PassMachine<File = D::File> + Send,
     Rt: Threads + Wait + Sync,
     D: Folder,
@@ -92,12 +95,12 @@ fn perform_waiting<
 ) -> Result<(), Refusal<'a>>
     requires lawful { IsLawful command.now }
     requires waits { MayWait (shown command.now) }
-    ensures { EndsBy (spec_of (machines_of M.drawing M.drawn Blend.drawing Blend.drawn) (shown command.now))
-        (call_effect D.Folder O.Sink folder.old folder.new out.old out.new) result }
+    ensures { EndsBy (spec_of (machines_of M.drawing M.drawn Steal.drawing Steal.drawn Blend.drawing Blend.drawn)
+        (shown command.now)) (call_effect D.Folder O.Sink folder.old folder.new out.old out.new) result }
 {
     match command {
         Command::Walk(words) => {
-            walk_chosen::<M, Blend, Rt, D, O, G>(rt, alloc, words, folder, out, gate)
+            walk_chosen::<M, Steal, Blend, Rt, D, O, G>(rt, alloc, words, folder, out, gate)
         }
         Command::Trial(words) => trial(rt, alloc, words, out, gate),
         Command::Plain(_)

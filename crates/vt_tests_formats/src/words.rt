@@ -8,8 +8,8 @@ use std::process::Abort;
 use vt_text::lines::field;
 use vt_text::numbers::decimal;
 use vt_words::{
-    Command, Filtering, GenWords, PlainWords, ReplayWords, TileWords, WalkWords, WordsError,
-    is_picture_name, picture_name, read_command,
+    Command, Filtering, GenWords, MachineChoice, PlainWords, ReplayWords, TileWords, WalkWords,
+    WordsError, is_picture_name, picture_name, read_command,
 };
 
 // Whether the fields of a text from one on are these words.
@@ -81,12 +81,15 @@ fn is_of_words(text: &[u8], words: &[&str]) -> bool {
     is_told(text, words, &[], &[])
 }
 
-// What is told of a walk last: that it is settled, and its filter.
-fn told_last(settled: bool, filter: Filtering) -> &'static [&'static str] {
-    match (settled, filter) {
-        (true, Filtering::Bilinear) => &["settled", "bilinear"],
-        (true, Filtering::Nearest) => &["settled"],
-        (false, _) => told_of(filter),
+// What is told of a walk last: that it is settled, and its machine, of which nothing where it is the standard one.
+fn told_last(settled: bool, machine: MachineChoice) -> &'static [&'static str] {
+    match (settled, machine) {
+        (true, MachineChoice::Standard) => &["settled"],
+        (true, MachineChoice::SharedRows) => &["settled", "shared"],
+        (true, MachineChoice::Bilinear) => &["settled", "bilinear"],
+        (false, MachineChoice::Standard) => &[],
+        (false, MachineChoice::SharedRows) => &["shared"],
+        (false, MachineChoice::Bilinear) => &["bilinear"],
     }
 }
 
@@ -100,7 +103,8 @@ fn is_walk(text: &[u8], read: &WalkWords<'_>) -> bool {
         read.batch,
         read.pinned,
     ];
-    is_told(text, &words, &numbers, told_last(read.settled, read.filter))
+    let last = told_last(read.settled, read.machine);
+    is_told(text, &words, &numbers, last)
 }
 
 // Whether a text tells a command and its values.

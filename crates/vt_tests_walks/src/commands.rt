@@ -14,6 +14,7 @@ mod replay_rows;
 mod replays;
 mod rows;
 mod runs;
+mod shared_rows;
 mod stores;
 mod trials;
 mod walk_rows;

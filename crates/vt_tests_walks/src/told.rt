@@ -1,7 +1,7 @@
-//! Journals of walks whose rows may be drawn at several versions.
+//! Journals of walks whose rows may be drawn at several versions, or by several samplers.
 
-/// The text of a journal whose versions are below 10. Each `?` in it is the version of a row, which is one from the first number to
-/// the second of the pair in its turn.
+/// The text of a journal whose versions are below 10. Each `?` in it is the version of a row, or its sampler, which is one from the
+/// first number to the second of the pair in its turn.
 #[derive(Clone, Copy)]
 pub struct Told<'a> {
     pub text: &'a [u8],

@@ -4,8 +4,8 @@ use Rattle.vt_camera.specs.Paths.{PathView}
 use Rattle.vt_machine.specs.Drawings.{Drawing}
 use Rattle.vt_walk.specs.Written.{IsDrawnBySome}
 use Rattle.vt_words.specs.Walk.{WalkText}
-use Rattle.vt_words.specs.declared.filters.Filtering.{Filtering}
-use Rattle.vt_words.specs.declared.filters.Filtering.TheVariants.{Nearest, Bilinear}
+use Rattle.vt_words.specs.declared.machines.MachineChoice.{MachineChoice}
+use Rattle.vt_words.specs.declared.machines.MachineChoice.TheVariants.{Standard, SharedRows, Bilinear}
 
 -- a kind of machines: how they draw, and the bytes of a row as one of them has drawn it
 pub record MachineKind : Type 1 where
@@ -21,18 +21,24 @@ kind_of draws drawn = record { draws = draws; drawn = IsDrawnBySome drawn }
 
 -- the kinds of machines that a run is given, one for each choice that its words have
 pub record Machines : Type 1 where
-  pub nearest : MachineKind
+  pub standard : MachineKind
+  pub shared_rows : MachineKind
   pub bilinear : MachineKind
 
 -- the kinds of the machines of these types
-abbrev pub machines_of : {M Blend : Type 0} → Drawing → DrawnBy M → Drawing → DrawnBy Blend → Machines
-machines_of draws drawn blends blended = record { nearest = kind_of draws drawn; bilinear = kind_of blends blended }
+abbrev pub machines_of : {M Steal Blend : Type 0} → Drawing → DrawnBy M → Drawing → DrawnBy Steal → Drawing → DrawnBy Blend → Machines
+machines_of draws drawn steals stolen blends blended = record {
+  standard = kind_of draws drawn;
+  shared_rows = kind_of steals stolen;
+  bilinear = kind_of blends blended;
+}
 
--- the kind that draws by a filter
-abbrev pub kind_by : Machines → Filtering → MachineKind
-kind_by machines Nearest = machines.nearest
+-- the kind of a choice
+abbrev pub kind_by : Machines → MachineChoice → MachineKind
+kind_by machines Standard = machines.standard
+kind_by machines SharedRows = machines.shared_rows
 kind_by machines Bilinear = machines.bilinear
 
 -- the kind that the words of a walk choose
 abbrev pub chosen : Machines → WalkText → MachineKind
-chosen machines words = kind_by machines words.filter
+chosen machines words = kind_by machines words.machine

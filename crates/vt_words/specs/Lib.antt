@@ -2,6 +2,7 @@ pub mod Arguments
 pub mod Numbers
 pub mod Names
 pub mod Filters
+pub mod Machines
 pub mod Journals
 pub mod Plain
 pub mod Tile

@@ -3,17 +3,18 @@ use Rattle.std.specs.Prelude.{◌≡◌, ℕ, List, [], ◌∷◌, Option, Some,
 use Rattle.clap.specs.Words.{App, Row, Rule, Text, first_of}
 use Rattle.vt_definitions.specs.Limits.{most_frames, most_samplers, most_loaders, most_entries}
 use Rattle.vt_words.specs.Arguments.{app, word, option, flag, found, given, is_set}
-use Rattle.vt_words.specs.Filters.{filter_option, filter_of}
+use Rattle.vt_words.specs.Filters.{filter_option}
 use Rattle.vt_words.specs.Journals.{names_clash}
+use Rattle.vt_words.specs.Machines.{rows_option, machine_of}
 use Rattle.vt_words.specs.Numbers.{number_of, IsBetween}
-use Rattle.vt_words.specs.declared.filters.Filtering.{Filtering}
+use Rattle.vt_words.specs.declared.machines.MachineChoice.{MachineChoice}
 use Rattle.vt_words.specs.declared.walk.WalkWords.{WalkWords}
 
 -- how many levels may be asked to be pinned at most
 abbrev pub most_pinned_levels : ℕ
 most_pinned_levels = 16
 
--- the words as names, numbers, a filter and a flag
+-- the words as names, numbers, a machine and a flag
 pub record WalkText : Type 0 where
   pub store : Text
   pub path : Text
@@ -24,7 +25,7 @@ pub record WalkText : Type 0 where
   pub batch : ℕ
   pub pinned : ℕ
   pub journal : Text
-  pub filter : Filtering
+  pub machine : MachineChoice
   pub settled : Bool
 
 -- its arguments
@@ -33,12 +34,12 @@ walk_rules =
     word (codes "store") ∷ word (codes "path") ∷ word (codes "prefix")
     ∷ option (codes "frames") (codes "64") ∷ option (codes "samplers") (codes "4") ∷ option (codes "loaders") (codes "3")
     ∷ option (codes "batch") (codes "64") ∷ option (codes "pinned") (codes "1") ∷ option (codes "journal") (codes "journal.txt")
-    ∷ filter_option ∷ flag (codes "settled") ∷ []
+    ∷ rows_option ∷ filter_option ∷ flag (codes "settled") ∷ []
 
 abbrev pub walk_app : App
 walk_app = app (codes "walk") walk_rules
 
--- what the rows say; nothing where a number or the filter is not lawful or names clash
+-- what the rows say; nothing where a number is not lawful, the options ask for no machine, or names clash
 abbrev pub walk_values : List Row → Option WalkText
 walk_values rows =
     given (first_of (codes "store") rows) (λ store.
@@ -50,7 +51,7 @@ walk_values rows =
     given (number_of (codes "batch") 1 most_entries rows) (λ batch.
     given (number_of (codes "pinned") 1 most_pinned_levels rows) (λ pinned.
     given (first_of (codes "journal") rows) (λ journal.
-    given (filter_of rows) (λ filter.
+    given (machine_of rows) (λ machine.
     if names_clash store path journal prefix then None else Some (record {
       store = store;
       path = path;
@@ -61,7 +62,7 @@ walk_values rows =
       batch = batch;
       pinned = pinned;
       journal = journal;
-      filter = filter;
+      machine = machine;
       settled = is_set (codes "settled") rows;
     })))))))))))
 
@@ -81,7 +82,7 @@ shown_walk words = record {
   batch = words.batch;
   pinned = words.pinned;
   journal = words.journal.now;
-  filter = words.filter;
+  machine = words.machine;
   settled = words.settled;
 }
 

@@ -8,7 +8,7 @@ ghost use Rattle.vt_words.specs.Walk.{walk_rules, walk_app, walk_values};
 
 use crate::arguments::{Argument, is_set, text};
 use crate::command::Command;
-use crate::filters::{Filtering, filter_of};
+use crate::machines::{MachineChoice, machine_of};
 use crate::names::names_clash;
 use crate::numbers::number_of;
 use clap::ArgMatches;
@@ -50,8 +50,8 @@ pub struct WalkWords<'a> {
     pub pinned: u32,
     /// The journal's name.
     pub journal: &'a str,
-    /// How the pixels are made of texels.
-    pub filter: Filtering,
+    /// By which machine it draws.
+    pub machine: MachineChoice,
     /// Whether a picture is drawn until nothing is missing.
     pub settled: bool,
 }
@@ -71,6 +71,7 @@ pub fn walk_rows<'a>() -> &'a [Argument<'a>]
         Argument::Option("batch", "64"),
         Argument::Option("pinned", "1"),
         Argument::Option("journal", "journal.txt"),
+        Argument::Option("rows", "dealt"),
         Argument::Option("filter", "nearest"),
         Argument::Flag("settled"),
     ]
@@ -90,7 +91,7 @@ pub fn walk_values<'a>(matches: &ArgMatches<'a>) -> Option<Command<'a>>
     let batch = number_of(matches, "batch", 1, MOST_ENTRIES)?;
     let pinned = number_of(matches, "pinned", 1, MOST_PINNED_LEVELS)?;
     let journal = text(matches, "journal")?;
-    let filter = filter_of(matches)?;
+    let machine = machine_of(matches)?;
     if names_clash(store, path, journal, prefix) {
         return None;
     }
@@ -104,7 +105,7 @@ pub fn walk_values<'a>(matches: &ArgMatches<'a>) -> Option<Command<'a>>
         batch,
         pinned,
         journal,
-        filter,
+        machine,
         settled: is_set(matches, "settled"),
     }))
 }

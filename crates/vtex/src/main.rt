@@ -48,7 +48,16 @@ fn main(rt: HostRuntime) -> ExitCode {
     };
     let mut folder = RealFolder::new(&rt);
     let mut out = RealSink::new(rt.stdout());
-    let status = run::<WordMachine<RealFile<File>>, BlendMachine<RealFile<File>>, _, _, _, _, _>(
+    let status = run::<
+        WordMachine<RealFile<File>>,
+        WordMachine<RealFile<File>>,
+        BlendMachine<RealFile<File>>,
+        _,
+        _,
+        _,
+        _,
+        _,
+    >(
         &rt,
         alloc,
         words.as_slice(),

@@ -174,6 +174,45 @@ fn the_filter_is_one_of_two_and_else_the_nearest(rt: HostRuntime) {
 }
 
 #[test]
+fn rows_are_dealt_or_shared_and_go_shared_with_the_nearest_filter_alone(rt: HostRuntime) {
+    const CASES: [(&str, &str); 17] = [
+        (
+            "vtex walk s p x --rows shared",
+            "walk s p x journal.txt 64 4 3 64 1 shared",
+        ),
+        (
+            "vtex walk --rows=shared s p x --settled",
+            "walk s p x journal.txt 64 4 3 64 1 settled shared",
+        ),
+        (
+            "vtex walk s p x --rows dealt",
+            "walk s p x journal.txt 64 4 3 64 1",
+        ),
+        (
+            "vtex walk s p x --filter nearest --rows shared",
+            "walk s p x journal.txt 64 4 3 64 1 shared",
+        ),
+        (
+            "vtex walk s p x --rows dealt --filter bilinear",
+            "walk s p x journal.txt 64 4 3 64 1 bilinear",
+        ),
+        ("vtex walk s p x --rows shared --filter bilinear", "usage"),
+        ("vtex walk s p x --filter=bilinear --rows=shared", "usage"),
+        ("vtex walk s p x --rows stolen", "usage"),
+        ("vtex walk s p x --rows Shared", "usage"),
+        ("vtex walk s p x --rows=", "usage"),
+        ("vtex walk s p x --rows", "usage"),
+        ("vtex walk s p x --rows shared --rows shared", "usage"),
+        ("vtex walk s p x --row shared", "usage"),
+        ("vtex plain t p x --rows shared", "usage"),
+        ("vtex replay s p j x --rows shared", "usage"),
+        ("vtex tile t s --rows dealt", "usage"),
+        ("vtex trial 7 --rows shared", "usage"),
+    ];
+    are_read(&rt, rt.alloc(), &CASES);
+}
+
+#[test]
 fn trial_has_a_number_of_sixteen_bits(rt: HostRuntime) {
     const CASES: [(&str, &str); 8] = [
         ("vtex trial 0", "trial 0"),

@@ -89,7 +89,16 @@ fn play_words(
     words: &[String],
     scene: &mut Scene,
 ) -> u8 {
-    run::<WordMachine<MemoryFile>, BlendMachine<MemoryFile>, _, _, _, _, _>(
+    run::<
+        WordMachine<MemoryFile>,
+        WordMachine<MemoryFile>,
+        BlendMachine<MemoryFile>,
+        _,
+        _,
+        _,
+        _,
+        _,
+    >(
         rt,
         alloc,
         words,
