@@ -1,15 +1,10 @@
 pub mod Arguments
+pub mod Reading
 pub mod Numbers
 pub mod Names
 pub mod Filters
 pub mod Journals
-pub mod Plain
-pub mod Tile
-pub mod Info
-pub mod Gen
-pub mod Upgrade
-pub mod Walk
 pub mod Replay
+pub mod Walk
 pub mod Trial
 pub mod Commands
-pub mod Kinds
