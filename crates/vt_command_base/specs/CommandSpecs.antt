@@ -117,3 +117,7 @@ ComesToBy spec c (Err refusal) = LeftBySpec spec c × IsRefusalBy spec c refusal
 -- a command asked what it may ask, and came to this
 abbrev pub EndsBy : {T : Type 0} → CommandSpec → CallEffect → Result T Refusal → Type 0
 EndsBy spec c result = spec.asks c × ComesToBy spec c result
+
+-- it ended as its task says
+abbrev pub Ends : {T : Type 0} → Task → CallEffect → Result T Refusal → Type 0
+Ends task c result = EndsBy (task_spec task) c result

@@ -23,7 +23,7 @@ use Rattle.vt_walk.specs.States.{WalkState, places_of}
 use Rattle.vt_walk.specs.Reads.{OnTold}
 use Rattle.vt_walk.specs.Standing.{Finished}
 use Rattle.vt_walk.specs.Causes.{IsCausedBy}
-use Rattle.vt_walk.specs.Turns.{LeftByRefusal as WalkLeftBy}
+use Rattle.vt_walk.specs.WalkSteps.{LeftByRefusal as WalkLeftBy}
 use Rattle.vt_walk.specs.Closing.{AreOtherNamesAsBefore}
 use Rattle.vt_walk.proofs.Closings.{AreSamePlaces, same_places, IsAlike}
 use Rattle.vt_walk.proofs.Alike.{ends_alike}

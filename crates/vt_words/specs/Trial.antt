@@ -1,6 +1,6 @@
 -- The word of `trial`.
 use Rattle.std.specs.Prelude.{ℕ, List, [], ◌∷◌, Option, Some, codes}
-use Rattle.clap.specs.Words.{Row, Rule, Text}
+use Rattle.clap.specs.Words.{Row, Rule}
 use Rattle.vt_words.specs.Arguments.{word, given}
 use Rattle.vt_words.specs.Numbers.{most_number, number_of, IsBetween}
 use Rattle.vt_words.specs.declared.trial.TrialWords.{TrialWords}

@@ -9,7 +9,7 @@ ghost use Rattle.vt_words.specs.Numbers.{most_number};
 ghost use Rattle.vt_definitions.specs.Limits.{most_read_side};
 ghost use Rattle.vt_files.specs.Effects.{SinkState, folder_effect};
 ghost use Rattle.vt_files.specs.Expectations.{Writes};
-ghost use Rattle.vt_command_base.specs.Tasks.{Ends};
+ghost use Rattle.vt_command_base.specs.CommandSpecs.{Ends};
 
 use clap::ArgMatches;
 use crate::commands::StoreCommand;

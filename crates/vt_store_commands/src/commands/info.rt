@@ -6,7 +6,7 @@ ghost use Rattle.vt_words.specs.Arguments.{rule_for, are_simple};
 ghost use Rattle.vt_store_commands.specs.commands.{InfoCommand, shown_store, IsLawfulStore};
 ghost use Rattle.vt_store_commands.specs.commands.Info.{info_rules, info_values, shown_info, info_task};
 ghost use Rattle.vt_files.specs.Effects.{call_effect};
-ghost use Rattle.vt_command_base.specs.Tasks.{Ends};
+ghost use Rattle.vt_command_base.specs.CommandSpecs.{Ends};
 
 use clap::ArgMatches;
 use crate::commands::StoreCommand;

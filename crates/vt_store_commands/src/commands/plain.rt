@@ -10,7 +10,7 @@ ghost use Rattle.vt_files.specs.Effects.{call_effect, folder_effect};
 ghost use Rattle.vt_words.specs.Names.{four_digit_numbers};
 ghost use Rattle.vt_store_commands.specs.Pictures.{plain_file, samples_by};
 ghost use Rattle.vt_files.specs.Expectations.{Leaves, Writes};
-ghost use Rattle.vt_command_base.specs.Tasks.{Ends};
+ghost use Rattle.vt_command_base.specs.CommandSpecs.{Ends};
 ghost use Rattle.vt_files.specs.Pictures.{expected_picture, expected_pictures};
 
 use clap::ArgMatches;

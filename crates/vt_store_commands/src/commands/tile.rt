@@ -14,7 +14,7 @@ ghost use Rattle.vt_files.specs.Effects.{call_effect, folder_effect};
 ghost use Rattle.vt_command_base.specs.Inputs.{TiledTexture, AreStrips};
 ghost use Rattle.vt_command_base.specs.OpenWrites.{WritesMade};
 ghost use Rattle.vt_command_base.specs.Reads.{file_state, OpensTexture, Refused};
-ghost use Rattle.vt_command_base.specs.Tasks.{Ends};
+ghost use Rattle.vt_command_base.specs.CommandSpecs.{Ends};
 
 use clap::ArgMatches;
 use crate::commands::StoreCommand;
