@@ -16,7 +16,7 @@ use Rattle.vt_words.specs.declared.command.WalkingKind.{WalkingKind}
 use Rattle.vt_words.specs.declared.command.WalkingKind.TheVariants as kind
 use Rattle.clap.specs.Words.{Row}
 use Rattle.vt_store_commands.specs.commands.{store_text}
-use Rattle.vt_commands.specs.Words.{CommandText, OfStore, OfWalk, is_walking_name, named_text}
+use Rattle.vt_commands.specs.Words.{CommandText, OfStore, OfWalk, named_text}
 use Rattle.vt_walk_commands.specs.Machines.{Machines}
 use Rattle.vt_commands.specs.commands.{spec_of}
 use Rattle.vt_commands.specs.Waits.{is_waiting_name, may_wait, MayWait}

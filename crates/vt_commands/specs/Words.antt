@@ -1,5 +1,5 @@
 -- The commands by their words.
-use Rattle.std.specs.Prelude.{ℕ, List, [], ◌∷◌, Option, Some, None, is_some, option_map, Bool, if◌then◌else◌}
+use Rattle.std.specs.Prelude.{ℕ, List, [], ◌∷◌, Option, None, is_some, option_map, Bool, if◌then◌else◌}
 use Rattle.vt_words.specs.Commands.{WalkingText, ReplayCommand, WalkCommand, TrialCommand, walking_kind_of, walking_text}
 use Rattle.vt_words.specs.Replay.{shown_replay, IsLawfulReplay}
 use Rattle.vt_words.specs.Walk.{shown_walk, IsLawfulWalk}

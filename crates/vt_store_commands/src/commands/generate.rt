@@ -11,8 +11,8 @@ ghost use Rattle.vt_files.specs.Effects.{SinkState, folder_effect};
 ghost use Rattle.vt_files.specs.Expectations.{Writes};
 ghost use Rattle.vt_command_base.specs.CommandSpecs.{Ends};
 
-use clap::ArgMatches;
 use crate::commands::StoreCommand;
+use clap::ArgMatches;
 use std::alloc::{AllocError, Global};
 use vt_command_base::Refusal;
 use vt_outside::{Folder, OutsideError};

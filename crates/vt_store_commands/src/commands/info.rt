@@ -8,8 +8,8 @@ ghost use Rattle.vt_store_commands.specs.commands.Info.{info_rules, info_values,
 ghost use Rattle.vt_files.specs.Effects.{call_effect};
 ghost use Rattle.vt_command_base.specs.CommandSpecs.{Ends};
 
-use clap::ArgMatches;
 use crate::commands::StoreCommand;
+use clap::ArgMatches;
 use vt_command_base::{Refusal, put_store_line, read_store_header};
 use vt_outside::{Folder, Sink};
 use vt_words::arguments::{Argument, text};

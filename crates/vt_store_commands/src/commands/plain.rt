@@ -13,8 +13,8 @@ ghost use Rattle.vt_files.specs.Expectations.{Leaves, Writes};
 ghost use Rattle.vt_command_base.specs.CommandSpecs.{Ends};
 ghost use Rattle.vt_files.specs.Pictures.{expected_picture, expected_pictures};
 
-use clap::ArgMatches;
 use crate::commands::StoreCommand;
+use clap::ArgMatches;
 use std::alloc::Global;
 use std::thread::Threads;
 use vt_camera::Path;
@@ -25,10 +25,10 @@ use vt_mip::Chain;
 use vt_outside::{Folder, NoMemory, OutsideError, Sink};
 use vt_plain_bilinear::draw_plain_blend_behind;
 use vt_ppm::{Image, begin_picture};
-use vt_words::{Filtering, is_picture_name, picture_name};
 use vt_words::arguments::{Argument, text};
 use vt_words::filters::filter_of;
 use vt_words::numbers::side_of;
+use vt_words::{Filtering, is_picture_name, picture_name};
 
 /// The words of `plain`.
 #[derive(Clone, Copy)]

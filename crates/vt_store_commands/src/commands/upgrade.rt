@@ -11,8 +11,8 @@ ghost use Rattle.vt_command_base.specs.OpenWrites.{WritesMade};
 ghost use Rattle.vt_command_base.specs.Reads.{file_state, Refused, OpensStore};
 ghost use Rattle.vt_command_base.specs.CommandSpecs.{Ends};
 
-use clap::ArgMatches;
 use crate::commands::StoreCommand;
+use clap::ArgMatches;
 use std::alloc::Global;
 use std::thread::Threads;
 use vt_command_base::{Flaw, Refusal, open_store, outside_error, put_store_line};
