@@ -38,8 +38,10 @@ use Rattle.vt_command_base.specs.HeldInputs.{Holds, HasFlaw, IsMissing}
 use Rattle.vt_command_base.specs.Causes.{Cause, MissingName, FlawedInput, HasCause, AreHeld, IsFirstCause, AreAsked, AsksInOrder}
 use Rattle.vt_command_base.specs.Reads.{Took, Refused, IsAsked, IsCausedBy}
 use Rattle.vt_files.specs.Expectations.{Expected, IsPart, Stopped, FailsOnly, Leaves, with_files}
-use Rattle.vt_command_base.specs.Tasks.{Task, IsRefusal, Ends}
+use Rattle.vt_command_base.specs.Tasks.{Task, IsRefusal}
+use Rattle.vt_command_base.specs.CommandSpecs.{task_spec, Ends}
 use Rattle.vt_command_base.specs.Refusals.{cause_of}
+use Rattle.vt_command_base.proofs.TaskSpecs.{refused_by}
 use Rattle.vt_command_base.specs.declared.refusal.Refusal.{Refusal}
 use Rattle.vt_command_base.specs.declared.refusal.Refusal.TheVariants.{NoMemory, Usage, Fault, Flawed, TooFewFrames, DoesNotFit}
 
@@ -162,7 +164,9 @@ ends_refused task inputs contents input rest refusal before mid after out split 
   asks_refused task inputs input rest refusal before mid after split h.asked h.files refused,
   (
     inl (record { files = refused.files ∙ h.files; held = refl }),
-    refusal_at task.inputs inputs contents input rest refusal before mid after out split h.held h.files h.faults refused.files refused.cause,
+    refused_by (task_spec task) (record { folder = record { before = before; after = after }; out = record { before = out; after = out } }) refusal
+        (λ rose. rose)
+        (refusal_at task.inputs inputs contents input rest refusal before mid after out split h.held h.files h.faults refused.files refused.cause),
   ),
 )
 
@@ -187,6 +191,7 @@ ends_done task contents before mid after out shown h left = (
     contents = contents;
     count = h.count;
     held = h.held;
+    free = λ conflict x. x;
     done = record { files = left.1.files ∙ ap (option_map (with_files (task.expected contents).files)) h.files; out = left.1.out };
   },
 )
@@ -225,6 +230,7 @@ ends_stopped task contents before mid after out shown error h left = (
       held = h.held;
       stopped = stopped_from (task.expected contents) before mid after out shown h.files left.1;
     }),
-    cause_left task before mid after out shown error h.faults left.2,
+    refused_by (task_spec task) (record { folder = record { before = before; after = after }; out = record { before = out; after = shown } })
+        (cause_of error) (λ rose. rose) (cause_left task before mid after out shown error h.faults left.2),
   ),
 )

@@ -3,7 +3,7 @@ use Rattle.std.specs.Prelude.{◌≡◌, ◌⊎◌, ℕ, List, length, Result, O
 use Rattle.vt_print.specs.Places.{bad_input_line}
 use Rattle.vt_files.specs.Effects.{CallEffect, IsWithoutEffect}
 use Rattle.vt_command_base.specs.Flaws.{flaw_place}
-use Rattle.vt_command_base.specs.Lines.{usage_line, frames_line, unfit_line}
+use Rattle.vt_command_base.specs.Lines.{frames_line, unfit_line}
 use Rattle.vt_command_base.specs.Inputs.{Input, Content}
 use Rattle.vt_command_base.specs.Causes.{MissingName, AreHeld, IsFirstCause, AsksInOrder}
 use Rattle.vt_files.specs.Expectations.{Done, Stopped}
@@ -27,12 +27,12 @@ conflict_status ManyTexels = 2
 conflict_status (FewFrames frames needed) = 5
 conflict_status (LargePicture picture wanted room) = 5
 
--- the line that tells it
-abbrev pub conflict_line : Conflict → List ℕ
-conflict_line (FlawedBeside name flaw) = bad_input_line name (flaw_place flaw)
-conflict_line ManyTexels = usage_line
-conflict_line (FewFrames frames needed) = frames_line frames needed
-conflict_line (LargePicture picture wanted room) = unfit_line picture wanted room
+-- the line that tells it, by the line of usage
+abbrev pub conflict_line : List ℕ → Conflict → List ℕ
+conflict_line usage (FlawedBeside name flaw) = bad_input_line name (flaw_place flaw)
+conflict_line usage ManyTexels = usage
+conflict_line usage (FewFrames frames needed) = frames_line frames needed
+conflict_line usage (LargePicture picture wanted room) = unfit_line picture wanted room
 
 -- the inputs in the order in which they are read, and what is asked of them; what stands in the way of what they hold; what stands of a
 -- command that is done, of one that came to a stop, and where a picture wanted more pages than there is room for; and what counts as a
@@ -117,3 +117,7 @@ ComesToBy spec c (Err refusal) = LeftBySpec spec c × IsRefusalBy spec c refusal
 -- a command asked what it may ask, and came to this
 abbrev pub EndsBy : {T : Type 0} → CommandSpec → CallEffect → Result T Refusal → Type 0
 EndsBy spec c result = spec.asks c × ComesToBy spec c result
+
+-- it ended as its task says
+abbrev pub Ends : {T : Type 0} → Task → CallEffect → Result T Refusal → Type 0
+Ends task c result = EndsBy (task_spec task) c result

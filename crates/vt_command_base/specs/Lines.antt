@@ -17,12 +17,9 @@ store_line s d =
     ++ codes " levels " ++ number_spelling (levels_of s) ++ codes " pages " ++ number_spelling (pages_of s)
     ++ codes " bytes " ++ number_spelling (store_length s d) ++ codes "\n"
 
--- the lines on the error output
+-- the lines on the error output; that of usage names the commands, and stands with them
 abbrev pub memory_line : List ℕ
 memory_line = codes "vtex: out of memory\n"
-
-abbrev pub usage_line : List ℕ
-usage_line = codes "vtex: usage: vtex COMMAND ARGUMENTS (plain, tile, info, walk, replay, gen, trial, upgrade)\n"
 
 abbrev pub fault_line : List ℕ
 fault_line = codes "vtex: fault on files or output\n"

@@ -9,7 +9,7 @@ use Rattle.vt_print.specs.Telling.{Tells}
 use Rattle.vt_words.specs.declared.arguments.WordsError.{WordsError}
 use Rattle.vt_words.specs.declared.arguments.WordsError.TheVariants as words
 use Rattle.vt_files.specs.Effects.{SinkEffect}
-use Rattle.vt_command_base.specs.Lines.{memory_line, usage_line, fault_line, frames_line, unfit_line}
+use Rattle.vt_command_base.specs.Lines.{memory_line, fault_line, frames_line, unfit_line}
 use Rattle.vt_command_base.specs.Flaws.{flaw_place}
 use Rattle.vt_command_base.specs.declared.flaws.Flaw.{Flaw}
 use Rattle.vt_command_base.specs.declared.refusal.Refusal.{Refusal}
@@ -45,23 +45,23 @@ abbrev pub status_of : {T : Type 0} → Result T Refusal → ℕ
 status_of (Ok value) = 0
 status_of (Err refusal) = refusal_status refusal
 
--- the line of a refusal on the error output
-abbrev pub refusal_line : Refusal → List ℕ
-refusal_line NoMemory = memory_line
-refusal_line Usage = usage_line
-refusal_line Fault = fault_line
-refusal_line (Flawed name flaw) = bad_input_line name.now (flaw_place flaw)
-refusal_line (TooFewFrames frames needed) = frames_line frames needed
-refusal_line (DoesNotFit picture wanted room) = unfit_line picture wanted room
+-- the line of a refusal on the error output, by the line of usage
+abbrev pub refusal_line : List ℕ → Refusal → List ℕ
+refusal_line usage NoMemory = memory_line
+refusal_line usage Usage = usage
+refusal_line usage Fault = fault_line
+refusal_line usage (Flawed name flaw) = bad_input_line name.now (flaw_place flaw)
+refusal_line usage (TooFewFrames frames needed) = frames_line frames needed
+refusal_line usage (DoesNotFit picture wanted room) = unfit_line picture wanted room
 
 -- the text was put on the error output, or a front part of it where a put was refused
 abbrev pub Told : List ℕ → SinkEffect → Type 0
 Told text g = Tells text g.before.held g.after.held g.before.faults g.after.faults g.before.refusals g.after.refusals
 
 -- of a command that is done nothing is told, and of a refusal its line
-abbrev pub EndTold : {T : Type 0} → Result T Refusal → SinkEffect → Type 0
-EndTold (Ok _) g = g.after ≡ g.before
-EndTold (Err refusal) g = Told (refusal_line refusal) g
+abbrev pub EndTold : {T : Type 0} → List ℕ → Result T Refusal → SinkEffect → Type 0
+EndTold usage (Ok _) g = g.after ≡ g.before
+EndTold usage (Err refusal) g = Told (refusal_line usage refusal) g
 
 -- the refusal where the words could not be read: a word that is no text is none of a command's
 abbrev pub unread_refusal : ErrorKind → Refusal

@@ -90,16 +90,14 @@ impl Refusal<'_> {
         }
     }
 
-    /// Puts the line of the refusal; the first put that is refused ends it. It takes no memory of its own.
-    pub fn tell<E: Sink>(&self, err: &mut E)
-        ensures { Told (refusal_line self.now) (sink_effect E.Sink err.old err.new) }
+    /// Puts the line of the refusal, of words that are none of a command's the line of usage; the first put that is
+    /// refused ends it. It takes no memory of its own.
+    pub fn tell<E: Sink>(&self, usage: &[u8], err: &mut E)
+        ensures { Told (refusal_line usage.now self.now) (sink_effect E.Sink err.old err.new) }
     {
         match self {
             Refusal::NoMemory => tell_words(err, b"vtex: out of memory\n"),
-            Refusal::Usage => tell_words(
-                err,
-                b"vtex: usage: vtex COMMAND ARGUMENTS (plain, tile, info, walk, replay, gen, trial, upgrade)\n",
-            ),
+            Refusal::Usage => tell_words(err, usage),
             Refusal::Fault => tell_words(err, b"vtex: fault on files or output\n"),
             Refusal::Flawed(name, flaw) => tell_bad_input(err, name, &flaw.place()),
             Refusal::TooFewFrames { frames, needed } => tell_frames(err, *frames, *needed),
@@ -157,12 +155,12 @@ pub fn status_of(end: &Result<(), Refusal<'_>>) -> u8
     }
 }
 
-/// Tells why a command was refused; of one that is done it tells nothing.
-pub fn tell_end<E: Sink>(end: &Result<(), Refusal<'_>>, err: &mut E)
-    ensures { EndTold end.now (sink_effect E.Sink err.old err.new) }
+/// Tells why a command was refused, by the line of usage; of one that is done it tells nothing.
+pub fn tell_end<E: Sink>(end: &Result<(), Refusal<'_>>, usage: &[u8], err: &mut E)
+    ensures { EndTold usage.now end.now (sink_effect E.Sink err.old err.new) }
 {
     match end {
         Ok(()) => {}
-        Err(refusal) => refusal.tell(err),
+        Err(refusal) => refusal.tell(usage, err),
     }
 }

@@ -8,12 +8,13 @@ use Rattle.vt_command_base.specs.Inputs.{Input, Content}
 use Rattle.vt_command_base.specs.Causes.{Cause, MissingName, FlawedInput, cause_status, IsFirstCause, AreHeld, AreAccepted}
 use Rattle.vt_command_base.specs.Tasks.{HasBadInput}
 use Rattle.vt_command_base.specs.CommandSpecs.{CommandSpec, Conflict, FlawedBeside, ManyTexels, FewFrames, LargePicture, conflict_status, IsInConflict, HasFaultBy, HasBadInputBy, EndsBy}
-use Rattle.vt_command_base.specs.Lines.{memory_line, usage_line, fault_line}
+use Rattle.vt_command_base.specs.Lines.{memory_line, fault_line}
 use Rattle.vt_command_base.specs.Refusals.{status_of, Told, EndTold, refusal_of_words}
 use Rattle.vt_commands.specs.Runs.{Run, Asks, AsksNothing, RunDone, RunLeft, RunAsked, RunFault, RunBadInput, RunInConflict, RunCaused, RunStopped, RunComplete, IsRun}
-use Rattle.vt_words.specs.Commands.{CommandText, command_text}
+use Rattle.vt_commands.specs.Words.{CommandText, command_text}
 use Rattle.vt_words.specs.declared.arguments.WordsError.{WordsError}
 use Rattle.vt_words.specs.declared.arguments.WordsError.TheVariants as words_error
+use Rattle.vt_store_commands.specs.commands.{usage_line}
 use Rattle.vt_walk_commands.specs.Machines.{Machines}
 use Rattle.vt_commands.specs.commands.{spec_of, IsUnread, EndsCommand, EndsRun}
 use Rattle.vt_command_base.specs.declared.flaws.Flaw.{Flaw}
@@ -81,7 +82,7 @@ idle_of m T words c (Ok t) h none = absurd (asks_none words h.command h.is none)
 idle_of m T words c (Err refusal) (inl h) none = h.idle
 idle_of m T words c (Err refusal) (inr h) none = absurd (asks_none words h.command h.is none)
 
-usage_of : (run : Run) (T : Type 0) (r : Result T Refusal) → EndsRun run.machines run.words run.call_effect r → EndTold r run.err
+usage_of : (run : Run) (T : Type 0) (r : Result T Refusal) → EndsRun run.machines run.words run.call_effect r → EndTold usage_line r run.err
     → status_of r ≡ 2 → AsksNothing run.words ⊎ RunInConflict run 2
 usage_of run T (Ok t) h told s = absurd (omega (arith, s))
 usage_of run T (Err NoMemory) h told s = absurd (omega (arith, s))
@@ -271,7 +272,7 @@ small_of T (Err (TooFewFrames frames needed)) = omega arith
 small_of T (Err (DoesNotFit picture wanted room)) = omega arith
 
 bad_input_of : (run : Run) (T : Type 0) (r : Result T Refusal) → EndsRun run.machines run.words run.call_effect r
-    → EndTold r run.err → status_of r ≡ 4
+    → EndTold usage_line r run.err → status_of r ≡ 4
     → RunBadInput run
 bad_input_of run T (Ok t) h told s = absurd (omega (arith, s))
 bad_input_of run T (Err NoMemory) h told s = absurd (omega (arith, s))
@@ -283,7 +284,7 @@ bad_input_of run T (Err (Flawed name flaw)) (inl h) told s = absurd h.unread
 bad_input_of run T (Err (Flawed name flaw))
     (inr h) told s = record { command = h.command; asks = h.is; name = name.now; flaw = flaw; bad = h.ends.1.1; told = told }
 
-silent_of : (T : Type 0) (r : Result T Refusal) (err : SinkEffect) → EndTold r err → status_of r ≡ 0 → err.after.held ≡ err.before.held
+silent_of : (T : Type 0) (r : Result T Refusal) (err : SinkEffect) → EndTold usage_line r err → status_of r ≡ 0 → err.after.held ≡ err.before.held
 silent_of T (Ok t) err told s = ap (λ (s : SinkState). s.held) told
 silent_of T (Err NoMemory) err told s = absurd (omega (arith, s))
 silent_of T (Err Usage) err told s = absurd (omega (arith, s))
@@ -292,7 +293,7 @@ silent_of T (Err (Flawed name flaw)) err told s = absurd (omega (arith, s))
 silent_of T (Err (TooFewFrames frames needed)) err told s = absurd (omega (arith, s))
 silent_of T (Err (DoesNotFit picture wanted room)) err told s = absurd (omega (arith, s))
 
-memory_told_of : (T : Type 0) (r : Result T Refusal) (err : SinkEffect) → EndTold r err → status_of r ≡ 1 → Told memory_line err
+memory_told_of : (T : Type 0) (r : Result T Refusal) (err : SinkEffect) → EndTold usage_line r err → status_of r ≡ 1 → Told memory_line err
 memory_told_of T (Ok t) err told s = absurd (omega (arith, s))
 memory_told_of T (Err NoMemory) err told s = told
 memory_told_of T (Err Usage) err told s = absurd (omega (arith, s))
@@ -301,7 +302,7 @@ memory_told_of T (Err (Flawed name flaw)) err told s = absurd (omega (arith, s))
 memory_told_of T (Err (TooFewFrames frames needed)) err told s = absurd (omega (arith, s))
 memory_told_of T (Err (DoesNotFit picture wanted room)) err told s = absurd (omega (arith, s))
 
-usage_told_of : (T : Type 0) (r : Result T Refusal) (err : SinkEffect) → EndTold r err → status_of r ≡ 2 → Told usage_line err
+usage_told_of : (T : Type 0) (r : Result T Refusal) (err : SinkEffect) → EndTold usage_line r err → status_of r ≡ 2 → Told usage_line err
 usage_told_of T (Ok t) err told s = absurd (omega (arith, s))
 usage_told_of T (Err NoMemory) err told s = absurd (omega (arith, s))
 usage_told_of T (Err Usage) err told s = told
@@ -310,7 +311,7 @@ usage_told_of T (Err (Flawed name flaw)) err told s = absurd (omega (arith, s))
 usage_told_of T (Err (TooFewFrames frames needed)) err told s = absurd (omega (arith, s))
 usage_told_of T (Err (DoesNotFit picture wanted room)) err told s = absurd (omega (arith, s))
 
-fault_told_of : (T : Type 0) (r : Result T Refusal) (err : SinkEffect) → EndTold r err → status_of r ≡ 3 → Told fault_line err
+fault_told_of : (T : Type 0) (r : Result T Refusal) (err : SinkEffect) → EndTold usage_line r err → status_of r ≡ 3 → Told fault_line err
 fault_told_of T (Ok t) err told s = absurd (omega (arith, s))
 fault_told_of T (Err NoMemory) err told s = absurd (omega (arith, s))
 fault_told_of T (Err Usage) err told s = absurd (omega (arith, s))
@@ -319,7 +320,7 @@ fault_told_of T (Err (Flawed name flaw)) err told s = absurd (omega (arith, s))
 fault_told_of T (Err (TooFewFrames frames needed)) err told s = absurd (omega (arith, s))
 fault_told_of T (Err (DoesNotFit picture wanted room)) err told s = absurd (omega (arith, s))
 
-in_conflict_of : (run : Run) (T : Type 0) (r : Result T Refusal) → EndsRun run.machines run.words run.call_effect r → EndTold r run.err
+in_conflict_of : (run : Run) (T : Type 0) (r : Result T Refusal) → EndsRun run.machines run.words run.call_effect r → EndTold usage_line r run.err
     → status_of r ≡ 5 → RunInConflict run 5
 in_conflict_of run T (Ok t) h told s = absurd (omega (arith, s))
 in_conflict_of run T (Err NoMemory) h told s = absurd (omega (arith, s))
@@ -334,7 +335,7 @@ in_conflict_of run T (Err (DoesNotFit picture wanted room)) (inr h) told s =
     record { command = h.command; asks = h.is; conflict = LargePicture picture wanted room; comes = refl; met = h.ends.1.1; told = told }
 
 -- all clauses
-pub is_run : (run : Run) (T : Type 0) (r : Result T Refusal) → EndsRun run.machines run.words run.call_effect r → EndTold r run.err → IsRun run (status_of r)
+pub is_run : (run : Run) (T : Type 0) (r : Result T Refusal) → EndsRun run.machines run.words run.call_effect r → EndTold usage_line r run.err → IsRun run (status_of r)
 is_run run T r h told = record {
   statuses = small_of T r;
   done = done_of run T r h;

@@ -5,13 +5,10 @@ use Rattle.vt_command_base.specs.Inputs.{Input}
 use Rattle.vt_command_base.specs.Causes.{AsksInOrder}
 use Rattle.vt_command_base.specs.Tasks.{Task}
 use Rattle.vt_command_base.specs.CommandSpecs.{task_spec}
-use Rattle.vt_store_commands.specs.commands.Plain.{plain_task}
-use Rattle.vt_store_commands.specs.commands.Tile.{tile_task}
-use Rattle.vt_store_commands.specs.commands.Info.{info_task}
-use Rattle.vt_store_commands.specs.commands.Gen.{gen_task}
-use Rattle.vt_store_commands.specs.commands.Upgrade.{upgrade_task}
+use Rattle.vt_store_commands.specs.commands.{store_task}
 use Rattle.vt_walk_commands.proofs.Sound.{AreSound, replay_sound, walk_sound, trial_sound}
-use Rattle.vt_words.specs.Commands.{CommandText, PlainCommand, TileCommand, InfoCommand, GenCommand, UpgradeCommand, ReplayCommand, WalkCommand, TrialCommand}
+use Rattle.vt_words.specs.Commands.{ReplayCommand, WalkCommand, TrialCommand}
+use Rattle.vt_commands.specs.Words.{CommandText, OfStore, OfWalk}
 use Rattle.vt_walk_commands.specs.Machines.{Machines, chosen}
 use Rattle.vt_commands.specs.commands.{spec_of}
 
@@ -23,11 +20,7 @@ task_sound : (task : Task) → AreSound (task_spec task)
 task_sound task = record { one = λ contents a b x y. absurd x; idle = asks_idle task.inputs }
 
 pub sound : (m : Machines) (command : CommandText) → AreSound (spec_of m command)
-sound m (PlainCommand words) = task_sound (plain_task words)
-sound m (TileCommand words) = task_sound (tile_task words)
-sound m (InfoCommand words) = task_sound (info_task words)
-sound m (GenCommand words) = task_sound (gen_task words)
-sound m (UpgradeCommand words) = task_sound (upgrade_task words)
-sound m (ReplayCommand words) = replay_sound words
-sound m (WalkCommand words) = walk_sound (chosen m words) words
-sound m (TrialCommand words) = trial_sound words
+sound m (OfStore asked) = task_sound (store_task asked)
+sound m (OfWalk (ReplayCommand words)) = replay_sound words
+sound m (OfWalk (WalkCommand words)) = walk_sound (chosen m words) words
+sound m (OfWalk (TrialCommand words)) = trial_sound words

@@ -7,16 +7,16 @@ use Rattle.std.proofs.lemmas.Bool.{false≢true}
 use Rattle.std.proofs.lemmas.Slice.Eq.{bytes_eq-Decides}
 use Rattle.vt_command_base.specs.Causes.{cause_status, IsFirstCause, AreHeld}
 use Rattle.vt_command_base.specs.CommandSpecs.{CommandSpec, Conflict, conflict_status, DoneBy, LeftBySpec, IsInConflict, HasFaultBy, HasBadInputBy}
-use Rattle.vt_words.specs.Arguments.{texts}
-use Rattle.vt_words.specs.Plain.{plain_text}
-use Rattle.vt_words.specs.Tile.{tile_text}
-use Rattle.vt_words.specs.Info.{info_text}
-use Rattle.vt_words.specs.Gen.{gen_text}
-use Rattle.vt_words.specs.Upgrade.{upgrade_text}
-use Rattle.vt_words.specs.Replay.{replay_text}
-use Rattle.vt_words.specs.Walk.{walk_text}
-use Rattle.vt_words.specs.Trial.{trial_text}
-use Rattle.vt_words.specs.Commands.{CommandText, PlainCommand, TileCommand, InfoCommand, GenCommand, UpgradeCommand, ReplayCommand, WalkCommand, TrialCommand, named_text}
+use Rattle.vt_words.specs.Arguments.{app, found, given, texts}
+use Rattle.vt_words.specs.Replay.{replay_values}
+use Rattle.vt_words.specs.Walk.{walk_rules, walk_values}
+use Rattle.vt_words.specs.Trial.{trial_rules, trial_values}
+use Rattle.vt_words.specs.Commands.{WalkingText, ReplayCommand, WalkCommand, TrialCommand, walking_kind_of, rules_of, values_for, walking_text}
+use Rattle.vt_words.specs.declared.command.WalkingKind.{WalkingKind}
+use Rattle.vt_words.specs.declared.command.WalkingKind.TheVariants as kind
+use Rattle.clap.specs.Words.{Row}
+use Rattle.vt_store_commands.specs.commands.{store_text}
+use Rattle.vt_commands.specs.Words.{CommandText, OfStore, OfWalk, named_text}
 use Rattle.vt_walk_commands.specs.Machines.{Machines}
 use Rattle.vt_commands.specs.commands.{spec_of}
 use Rattle.vt_commands.specs.Waits.{is_waiting_name, may_wait, MayWait}
@@ -33,33 +33,50 @@ abbrev IsFree : CommandText → Type 0
 IsFree command = MayWait command → ⊥
 
 -- one of two, whichever the test picks
-picked : (P : CommandText → Type 0) (p : CommandText) (b : Bool) (this rest : Option CommandText) → (b ≡ true → this ≡ Some p → P p)
-    → (rest ≡ Some p → P p) → (if b then this else rest) ≡ Some p → P p
-picked P p true this rest here there is = here refl is
+picked : (P : CommandText → Type 0) (p : CommandText) (b : Bool) (this rest : Option CommandText) → (this ≡ Some p → P p) → (rest ≡ Some p → P p)
+    → (if b then this else rest) ≡ Some p → P p
+picked P p true this rest here there is = here is
 picked P p false this rest here there is = there is
 
-made : {A : Type 0} (P : CommandText → Type 0) (p : CommandText) (make : A → CommandText) (value : Option A) → ((a : A) → P (make a))
+made : {A B : Type 0} (P : B → Type 0) (p : B) (make : A → B) (value : Option A) → ((a : A) → value ≡ Some a → P (make a))
     → option_map make value ≡ Some p → P p
 made P p make None all is = absurd (false≢true (ap is_some is))
-made P p make (Some a) all is = let same : make a ≡ p = cc in subst P same (all a)
+made P p make (Some a) all is = let same : make a ≡ p = cc in subst P same (all a refl)
+
+-- what follows from a value that is there
+then_by : {A B : Type 0} (P : B → Type 0) (p : B) (value : Option A) (next : A → Option B) → ((a : A) → value ≡ Some a → next a ≡ Some p → P p)
+    → given value next ≡ Some p → P p
+then_by P p None next all is = absurd (false≢true (ap is_some is))
+then_by P p (Some a) next all is = all a refl is
+
+-- a name that is neither of the two is that of no other kind
+kind_free : (replay walk trial : Bool) (it : WalkingKind) → walk ≡ false → trial ≡ false
+    → (if replay then Some kind.Replay else (if walk then Some kind.Walk else (if trial then Some kind.Trial else None))) ≡ Some it → it ≡ kind.Replay
+kind_free true walk trial it w t is = cc
+kind_free false true trial it w t is = absurd (false≢true (sym w))
+kind_free false false true it w t is = absurd (false≢true (sym t))
+kind_free false false false it w t is = absurd (false≢true (ap is_some is))
+
+values_free : (it : WalkingKind) (rows : List Row) (q : WalkingText) → it ≡ kind.Replay → values_for it rows ≡ Some q → IsFree (OfWalk q)
+values_free kind.Replay rows q is asks = made (λ (q : WalkingText). IsFree (OfWalk q)) q ReplayCommand (replay_values rows) (λ a has x. x) asks
+values_free kind.Walk rows q is asks = let no : ⊥ = cc in absurd no
+values_free kind.Trial rows q is asks = let no : ⊥ = cc in absurd no
 
 -- what the words of a command of another name ask for
-named_free : (name : List ℕ) (words : List (List ℕ)) (p : CommandText) → (bytes_eq name (codes "walk") ≡ true → ⊥)
-    → (bytes_eq name (codes "trial") ≡ true → ⊥) → named_text name words ≡ Some p → IsFree p
+named_free : (name : List ℕ) (words : List (List ℕ)) (p : CommandText) → bytes_eq name (codes "walk") ≡ false → bytes_eq name (codes "trial") ≡ false
+    → named_text name words ≡ Some p → IsFree p
 named_free name words p walk trial =
-    picked IsFree p _ _ _ (λ is. made IsFree p PlainCommand (plain_text words) (λ a x. x))
-    (picked IsFree p _ _ _ (λ is. made IsFree p TileCommand (tile_text words) (λ a x. x))
-    (picked IsFree p _ _ _ (λ is. made IsFree p InfoCommand (info_text words) (λ a x. x))
-    (picked IsFree p _ _ _ (λ is. made IsFree p GenCommand (gen_text words) (λ a x. x))
-    (picked IsFree p _ _ _ (λ is. made IsFree p UpgradeCommand (upgrade_text words) (λ a x. x))
-    (picked IsFree p _ _ _ (λ is. made IsFree p ReplayCommand (replay_text words) (λ a x. x))
-    (picked IsFree p _ _ _ (λ is. absurd (walk is))
-    (picked IsFree p _ _ _ (λ is. absurd (trial is)) (λ is. absurd (false≢true (ap is_some is))))))))))
+    picked IsFree p _ _ _
+    (made IsFree p OfWalk (walking_text name words) (λ q asks.
+    then_by (λ (q : WalkingText). IsFree (OfWalk q)) q (walking_kind_of name) _ (λ it is rest.
+    then_by (λ (q : WalkingText). IsFree (OfWalk q)) q (found (app name (rules_of it)) words) (values_for it) (λ rows has values.
+    values_free it rows q (kind_free _ _ _ it walk trial is) values) rest) asks))
+    (made IsFree p OfStore (store_text name words) (λ a has x. x))
 
-neither : (a b : Bool) → (a || b) ≡ false → (a ≡ true → ⊥) × (b ≡ true → ⊥)
+neither : (a b : Bool) → (a || b) ≡ false → (a ≡ false) × (b ≡ false)
 neither true b never = absurd (false≢true (sym never))
 neither false true never = absurd (false≢true (sym never))
-neither false false never = (λ is. false≢true is, λ is. false≢true is)
+neither false false never = (refl, refl)
 
 one_of : (a b : Bool) → (a || b) ≡ true → (a ≡ true) ⊎ (b ≡ true)
 one_of true b is = inl refl
@@ -71,29 +88,35 @@ is_at_once [] never command asks = absurd (false≢true (ap is_some asks))
 is_at_once (name ∷ words) never command asks = let other = neither _ _ never in named_free name (name ∷ words) command other.0 other.1 asks
 
 -- what the words of these two names ask for
+walk_waits : (words : List (List ℕ)) (p : CommandText) → named_text (codes "walk") words ≡ Some p → MayWait p
+walk_waits words p =
+    made MayWait p OfWalk (walking_text (codes "walk") words) (λ q asks.
+    then_by (λ (q : WalkingText). MayWait (OfWalk q)) q (found (app (codes "walk") walk_rules) words) (values_for kind.Walk) (λ rows has values.
+    made (λ (q : WalkingText). MayWait (OfWalk q)) q WalkCommand (walk_values rows) (λ a is. tt) values) asks)
+
+trial_waits : (words : List (List ℕ)) (p : CommandText) → named_text (codes "trial") words ≡ Some p → MayWait p
+trial_waits words p =
+    made MayWait p OfWalk (walking_text (codes "trial") words) (λ q asks.
+    then_by (λ (q : WalkingText). MayWait (OfWalk q)) q (found (app (codes "trial") trial_rules) words) (values_for kind.Trial) (λ rows has values.
+    made (λ (q : WalkingText). MayWait (OfWalk q)) q TrialCommand (trial_values rows) (λ a is. tt) values) asks)
+
 named_waiting : (name : List ℕ) (words : List (List ℕ)) (p : CommandText) → (bytes_eq name (codes "walk") ≡ true) ⊎ (bytes_eq name (codes "trial") ≡ true)
     → named_text name words ≡ Some p → MayWait p
 named_waiting name words p (inl is) asks =
-    made MayWait p WalkCommand (walk_text words) (λ a. tt)
-    (subst (λ (n : List ℕ). named_text n words ≡ Some p) ((bytes_eq-Decides name (codes "walk")).0 is) asks)
+    walk_waits words p (subst (λ (n : List ℕ). named_text n words ≡ Some p) ((bytes_eq-Decides name (codes "walk")).0 is) asks)
 named_waiting name words p (inr is) asks =
-    made MayWait p TrialCommand (trial_text words) (λ a. tt)
-    (subst (λ (n : List ℕ). named_text n words ≡ Some p) ((bytes_eq-Decides name (codes "trial")).0 is) asks)
+    trial_waits words p (subst (λ (n : List ℕ). named_text n words ≡ Some p) ((bytes_eq-Decides name (codes "trial")).0 is) asks)
 
 pub is_waiting : (words : List (List ℕ)) → may_wait words ≡ true → (command : CommandText) → Asks words command → MayWait command
 is_waiting [] is command asks = absurd (false≢true is)
 is_waiting (name ∷ words) is command asks = named_waiting name (name ∷ words) command (one_of _ _ is) asks
 
--- what holds of the specification of a command that waits for nobody holds of them by any machine
+-- what holds of the specification of a command that waits for nobody holds of it by any machine
 carried : (m n : Machines) (F : CommandSpec → Type 0) (command : CommandText) → (MayWait command → ⊥) → F (spec_of m command) → F (spec_of n command)
-carried m n F (PlainCommand words) free x = x
-carried m n F (TileCommand words) free x = x
-carried m n F (InfoCommand words) free x = x
-carried m n F (GenCommand words) free x = x
-carried m n F (UpgradeCommand words) free x = x
-carried m n F (ReplayCommand words) free x = x
-carried m n F (WalkCommand words) free x = absurd (free tt)
-carried m n F (TrialCommand words) free x = absurd (free tt)
+carried m n F (OfStore asked) free x = x
+carried m n F (OfWalk (ReplayCommand words)) free x = x
+carried m n F (OfWalk (WalkCommand words)) free x = absurd (free tt)
+carried m n F (OfWalk (TrialCommand words)) free x = absurd (free tt)
 
 -- the same run by other machines
 abbrev pub by_others : Machines → Run → Run

@@ -1,3 +1,4 @@
+pub mod Words
 pub mod commands
 pub mod Waits
 pub mod Runs

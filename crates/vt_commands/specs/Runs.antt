@@ -6,11 +6,12 @@ use Rattle.vt_print.specs.Places.{bad_input_line}
 use Rattle.vt_files.specs.Effects.{CallEffect, SinkEffect, call_effect, sink_effect, IsWithoutEffect, IsIdle}
 use Rattle.vt_command_base.specs.Flaws.{flaw_place}
 use Rattle.vt_command_base.specs.Inputs.{Content}
-use Rattle.vt_command_base.specs.Lines.{memory_line, usage_line, fault_line}
+use Rattle.vt_command_base.specs.Lines.{memory_line, fault_line}
 use Rattle.vt_command_base.specs.Refusals.{Told}
 use Rattle.vt_command_base.specs.Causes.{Cause, cause_status, IsFirstCause, AreHeld}
 use Rattle.vt_command_base.specs.CommandSpecs.{Conflict, conflict_status, conflict_line, DoneBy, LeftBySpec, IsInConflict, HasFaultBy, HasBadInputBy}
-use Rattle.vt_words.specs.Commands.{CommandText, command_text}
+use Rattle.vt_commands.specs.Words.{CommandText, command_text}
+use Rattle.vt_store_commands.specs.commands.{usage_line}
 use Rattle.vt_walk_commands.specs.Machines.{Machines}
 use Rattle.vt_commands.specs.commands.{spec_of}
 use Rattle.vt_command_base.specs.declared.flaws.Flaw.{Flaw}
@@ -67,7 +68,7 @@ pub record RunInConflict (run : Run) (status : ℕ) : Type 0 where
   pub conflict : Conflict
   pub comes : conflict_status conflict ≡ status
   pub met : IsInConflict (spec_of run.machines command) run.call_effect conflict
-  pub told : Told (conflict_line conflict) run.err
+  pub told : Told (conflict_line usage_line conflict) run.err
 
 -- where no call failed, the status is that of the first cause among the inputs, but for want of memory
 abbrev pub RunCaused : Run → ℕ → Type 0

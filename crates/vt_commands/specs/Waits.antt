@@ -1,17 +1,8 @@
 -- Which commands may wait for other threads: `walk` and `trial`.
 use Rattle.std.specs.Prelude.{ℕ, List, [], ◌∷◌, Bool, false, ◌||◌, codes}
 use Rattle.std.specs.Str.{bytes_eq}
-use Rattle.vt_words.specs.Commands.{
-  CommandText,
-  PlainCommand,
-  TileCommand,
-  InfoCommand,
-  GenCommand,
-  UpgradeCommand,
-  ReplayCommand,
-  WalkCommand,
-  TrialCommand,
-}
+use Rattle.vt_words.specs.Commands.{ReplayCommand, WalkCommand, TrialCommand}
+use Rattle.vt_commands.specs.Words.{CommandText, OfStore, OfWalk}
 use Rattle.vt_walk_commands.specs.Machines.{MachineKind, Machines}
 
 -- the name is that of a command that may wait
@@ -25,14 +16,10 @@ may_wait (name ∷ words) = is_waiting_name name
 
 -- the command may wait
 abbrev pub MayWait : CommandText → Type 0
-MayWait (PlainCommand words) = ⊥
-MayWait (TileCommand words) = ⊥
-MayWait (InfoCommand words) = ⊥
-MayWait (GenCommand words) = ⊥
-MayWait (UpgradeCommand words) = ⊥
-MayWait (ReplayCommand words) = ⊥
-MayWait (WalkCommand words) = Unit {0}
-MayWait (TrialCommand words) = Unit {0}
+MayWait (OfStore asked) = ⊥
+MayWait (OfWalk (ReplayCommand words)) = ⊥
+MayWait (OfWalk (WalkCommand words)) = Unit {0}
+MayWait (OfWalk (TrialCommand words)) = Unit {0}
 
 -- of no machine
 abbrev pub no_machine : MachineKind
@@ -46,6 +33,6 @@ no_machine = record {
   drawn = λ path picture row version bytes. ⊥;
 }
 
--- with no machine: the specification of a command that waits for nobody are the same by any
+-- with no machine: the specification of a command that waits for nobody is the same by any
 abbrev pub no_machines : Machines
 no_machines = record { standard = no_machine; shared_rows = no_machine; bilinear = no_machine }

@@ -1,24 +1,10 @@
 -- The commands: what each has to do, and how a run ends.
 use Rattle.std.specs.Prelude.{◌≡◌, ◌⊎◌, ℕ, List, Option, Some, IsNone, Result, Ok, Err}
-use Rattle.vt_words.specs.Commands.{
-  CommandText,
-  PlainCommand,
-  TileCommand,
-  InfoCommand,
-  GenCommand,
-  UpgradeCommand,
-  ReplayCommand,
-  WalkCommand,
-  TrialCommand,
-  command_text,
-}
+use Rattle.vt_words.specs.Commands.{ReplayCommand, WalkCommand, TrialCommand}
+use Rattle.vt_commands.specs.Words.{CommandText, OfStore, OfWalk, command_text}
 use Rattle.vt_files.specs.Effects.{CallEffect, IsIdle}
-use Rattle.vt_command_base.specs.CommandSpecs.{CommandSpec, task_spec, EndsBy}
-use Rattle.vt_store_commands.specs.commands.Plain.{plain_task}
-use Rattle.vt_store_commands.specs.commands.Tile.{tile_task}
-use Rattle.vt_store_commands.specs.commands.Info.{info_task}
-use Rattle.vt_store_commands.specs.commands.Gen.{gen_task}
-use Rattle.vt_store_commands.specs.commands.Upgrade.{upgrade_task}
+use Rattle.vt_command_base.specs.CommandSpecs.{CommandSpec, EndsBy}
+use Rattle.vt_store_commands.specs.commands.{store_spec}
 use Rattle.vt_walk_commands.specs.commands.Replay.{replay_spec}
 use Rattle.vt_walk_commands.specs.commands.Walk.{walk_spec}
 use Rattle.vt_walk_commands.specs.commands.Trial.{trial_spec}
@@ -28,14 +14,10 @@ use Rattle.vt_command_base.specs.declared.refusal.Refusal.TheVariants.{NoMemory,
 
 -- the specification of a command by these machines
 abbrev pub spec_of : Machines → CommandText → CommandSpec
-spec_of m (PlainCommand words) = task_spec (plain_task words)
-spec_of m (TileCommand words) = task_spec (tile_task words)
-spec_of m (InfoCommand words) = task_spec (info_task words)
-spec_of m (GenCommand words) = task_spec (gen_task words)
-spec_of m (UpgradeCommand words) = task_spec (upgrade_task words)
-spec_of m (ReplayCommand words) = replay_spec words
-spec_of m (WalkCommand words) = walk_spec (chosen m words) words
-spec_of m (TrialCommand words) = trial_spec words
+spec_of m (OfStore asked) = store_spec asked
+spec_of m (OfWalk (ReplayCommand words)) = replay_spec words
+spec_of m (OfWalk (WalkCommand words)) = walk_spec (chosen m words) words
+spec_of m (OfWalk (TrialCommand words)) = trial_spec words
 
 -- a refusal of words: they ask for nothing, or memory was wanting
 abbrev pub IsUnread : Option CommandText → Refusal → Type 0

@@ -1,22 +1,21 @@
-//! The commands that wait for nobody: all but `walk` and `trial`. A command is a file of vt_store_commands or
-//! vt_walk_commands, and a line in the `match` here.
+//! The commands that wait for nobody: all but `walk` and `trial`.
 
 ghost use Rattle.std.specs.Prelude.{◌≡◌, false};
 ghost use Rattle.vt_words.specs.Arguments.{texts};
-ghost use Rattle.vt_words.specs.Commands.{shown, IsLawful};
+ghost use Rattle.vt_commands.specs.Words.{shown, IsLawful};
 ghost use Rattle.vt_files.specs.Effects.{call_effect};
 ghost use Rattle.vt_command_base.specs.CommandSpecs.{EndsBy};
 ghost use Rattle.vt_commands.specs.commands.{spec_of, EndsRun};
 ghost use Rattle.vt_commands.specs.Waits.{is_waiting_name, may_wait, MayWait, no_machines};
 ghost use Rattle.vt_commands.specs.Runs.{run_of, IsRun};
 
+use crate::command::{Command, read_command};
 use std::alloc::Global;
 use std::thread::Threads;
 use vt_command_base::{Refusal, status_of, tell_end};
 use vt_outside::{Folder, Sink};
-use vt_store_commands::{generate, info, plain, tile, upgrade};
+use vt_store_commands::commands::{perform_store_command, usage_line};
 use vt_walk_commands::replay;
-use vt_words::{Command, read_command};
 
 /// Whether the words may be those of a command that waits: the first one is `walk` or `trial`.
 pub fn may_wait(words: &[String]) -> bool
@@ -50,7 +49,7 @@ pub fn run_at_once<Rt: Threads + Sync, D: Folder, O: Sink, E: Sink>(
         err.new) result }
 {
     let end = do_at_once(rt, alloc, words, folder, out);
-    tell_end(&end, err);
+    tell_end(&end, usage_line(), err);
     status_of(&end)
 }
 
@@ -84,11 +83,7 @@ fn perform_at_once<'a, Rt: Threads + Sync, D: Folder, O: Sink>(
         (call_effect D.Folder O.Sink folder.old folder.new out.old out.new) result }
 {
     match command {
-        Command::Plain(words) => plain(rt, alloc, words, folder, out),
-        Command::Tile(words) => tile(rt, alloc, words, folder, out),
-        Command::Info(words) => info(words, folder, out),
-        Command::Gen(words) => generate(alloc, words, folder),
-        Command::Upgrade(words) => upgrade(rt, alloc, words, folder, out),
+        Command::Store(store) => perform_store_command(rt, alloc, store, folder, out),
         Command::Replay(words) => replay(rt, alloc, words, folder, out),
         Command::Walk(_) => unreachable!(),
         Command::Trial(_) => unreachable!(),

@@ -3,8 +3,11 @@
 
 mod at_once;
 mod choice;
+mod command;
 mod top_call;
 mod waiting;
 
 pub use at_once::{may_wait, run_at_once};
+pub use command::{Command, read_command};
 pub use top_call::run;
+pub use vt_store_commands::commands::usage_line;

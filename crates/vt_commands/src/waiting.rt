@@ -1,9 +1,8 @@
-//! The commands that may wait for other threads: `walk` and `trial`. A command is a file of vt_walk_commands, and a
-//! line in the `match` here.
+//! The commands that may wait for other threads: `walk` and `trial`.
 
 ghost use Rattle.std.specs.Prelude.{◌≡◌, true};
 ghost use Rattle.vt_words.specs.Arguments.{texts};
-ghost use Rattle.vt_words.specs.Commands.{shown, IsLawful};
+ghost use Rattle.vt_commands.specs.Words.{shown, IsLawful};
 ghost use Rattle.vt_files.specs.Effects.{call_effect};
 ghost use Rattle.vt_walk_commands.specs.Machines.{machines_of};
 ghost use Rattle.vt_command_base.specs.CommandSpecs.{EndsBy};
@@ -12,14 +11,15 @@ ghost use Rattle.vt_commands.specs.Waits.{may_wait, MayWait};
 ghost use Rattle.vt_commands.specs.Runs.{run_of, IsRun};
 
 use crate::choice::walk_chosen;
+use crate::command::{Command, read_command};
 use std::alloc::Global;
 use std::sync::Wait;
 use std::thread::Threads;
 use vt_command_base::{Refusal, status_of, tell_end};
 use vt_machine::PassMachine;
 use vt_outside::{Folder, Gate, Sink};
+use vt_store_commands::commands::usage_line;
 use vt_walk_commands::trial;
-use vt_words::{Command, read_command};
 
 /// Does what `run` does, where the words are those of a command that may wait.
 pub fn run_waiting<
@@ -45,7 +45,7 @@ pub fn run_waiting<
         D.Folder O.Sink E.Sink (texts words.now) folder.old folder.new out.old out.new err.old err.new) result }
 {
     let end = do_waiting::<M, Steal, Blend, Rt, D, O, G>(rt, alloc, words, folder, out, gate);
-    tell_end(&end, err);
+    tell_end(&end, usage_line(), err);
     status_of(&end)
 }
 
@@ -103,11 +103,6 @@ fn perform_waiting<
             walk_chosen::<M, Steal, Blend, Rt, D, O, G>(rt, alloc, words, folder, out, gate)
         }
         Command::Trial(words) => trial(rt, alloc, words, out, gate),
-        Command::Plain(_)
-        | Command::Tile(_)
-        | Command::Info(_)
-        | Command::Gen(_)
-        | Command::Upgrade(_)
-        | Command::Replay(_) => unreachable!(),
+        Command::Store(_) | Command::Replay(_) => unreachable!(),
     }
 }

@@ -18,5 +18,3 @@ mod ppm;
 mod print;
 #[cfg(test)]
 mod text;
-#[cfg(test)]
-mod words;

@@ -1,5 +1,5 @@
-//! The tests of the crates that make mip chains and tile stores, and of drawing over them. It holds nothing else, and
-//! nothing stands on it: a crate with tests is proved twice, and this one costs nothing beside them.
+//! The tests of the crates that make mip chains and tile stores, of drawing over them, and of reading words. It holds
+//! nothing else, and nothing stands on it: a crate with tests is proved twice, and this one costs nothing beside them.
 #![tactic(auto)]
 
 #[cfg(test)]
@@ -10,3 +10,5 @@ mod fixtures;
 mod mip;
 #[cfg(test)]
 mod store;
+#[cfg(test)]
+mod words;

@@ -35,7 +35,7 @@ pub record Stands (drawn : PathView → ℕ → ℕ → ℕ → List ℕ → Typ
 
 -- a finished walk: the run is whole, there are frames for the pinned pages and, in a settled walk, for each picture's, the journal is
 -- legal and keeps the pinned pages, all pictures are whole, journal and output have
--- all their text, and the store was asked for the run's tiles alone, each once, and only the lost ones were counted as faults
+-- all their text, the store was asked for the run's tiles alone, each once, and the folder's count rose at least by the lost ones
 pub record Finished (drawn : PathView → ℕ → ℕ → ℕ → List ℕ → Type 0) (g : WalkGiven) (first now : WalkState) : Type 0 where
   pub run : List WalkPass
   pub is_run : IsRun g.setup run

@@ -18,7 +18,7 @@ ghost use Rattle.vt_walk.specs.Following.{StandsRan, StandsNext};
 ghost use Rattle.vt_walk.specs.WalkEffects.{state_by};
 
 use crate::advance::plan_on;
-use crate::files::write_whole;
+use crate::files::write_file;
 use crate::passes::run_pass;
 use crate::pictures::{make_picture, put_picture_line};
 use std::alloc::Global;
@@ -212,6 +212,6 @@ fn run_and_write<Rt: Threads + Wait + Sync, M: PassMachine + Send, D: Folder, G:
         { run_pass(rt, machine, shot, batch, gate) },
         &mut || -> Result<(), OutsideError>
             ensures { WritesFile D.Folder name.entry.now bytes.entry.now result folder.entry.now folder.exit.now }
-        { write_whole(folder, name, bytes) },
+        { write_file(folder, name, bytes) },
     )
 }

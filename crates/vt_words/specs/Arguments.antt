@@ -3,7 +3,7 @@ use Rattle.std.specs.Prelude.{List, [], ◌∷◌, Option, Some, None, option_an
 use Rattle.std.specs.Option.{option_map_or}
 use Rattle.std.specs.Str.{bytes_eq}
 use Rattle.std.specs.declared.alloc.Global.{Global}
-use Rattle.clap.specs.Words.{App, Row, Rule, Text, new_app, new_rule, fault_of, matches_of, first_of}
+use Rattle.clap.specs.Words.{App, Row, Rule, Text, new_app, new_rule, fault_of, matches_of, first_of, is_simple_and_free}
 use Rattle.clap.specs.Simple.{on_top}
 use Rattle.clap.specs.Walk.{is_empty}
 use Rattle.clap.specs.declared.builder.action.ArgAction.TheVariants.{SetTrue}
@@ -31,6 +31,10 @@ rule_for (argument.Flag id) = flag id.now
 -- the simple command of a name and its rules, with help and version switched off
 abbrev pub app : Text → List Rule → App
 app name rules = on_top (λ s. record s { rules = rules; disable_help_flag = true; disable_version_flag = true }) (new_app name)
+
+-- a command of these rules, whatever its name, is one of which `clap` says what it finds
+abbrev pub are_simple : List Rule → Bool
+are_simple rules = is_simple_and_free (app [] rules)
 
 -- the rows that `clap` finds in the words, of which the first is the command's name; none where it refuses them
 abbrev pub found : App → List Text → Option (List Row)

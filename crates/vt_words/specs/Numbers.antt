@@ -8,6 +8,10 @@ use Rattle.vt_definitions.specs.Tiles.{is_tile_side}
 use Rattle.vt_text.specs.Numbers.{number_spelling}
 use Rattle.vt_words.specs.Arguments.{given}
 
+-- the greatest number of a texture that is made from one
+abbrev pub most_number : ℕ
+most_number = 65535
+
 -- the number that the text spells, if it is within the bounds, which are included
 unfoldable pub number_between : ℕ → ℕ → Text → Option ℕ
 number_between least most text =

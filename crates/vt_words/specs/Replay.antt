@@ -1,7 +1,7 @@
 -- The words of `replay`.
 use Rattle.std.specs.Prelude.{◌≡◌, List, [], ◌∷◌, Option, Some, None, false, codes, if◌then◌else◌}
-use Rattle.clap.specs.Words.{App, Row, Rule, Text, first_of}
-use Rattle.vt_words.specs.Arguments.{app, word, found, given}
+use Rattle.clap.specs.Words.{Row, Rule, Text, first_of}
+use Rattle.vt_words.specs.Arguments.{word, given}
 use Rattle.vt_words.specs.Filters.{filter_option, filter_of}
 use Rattle.vt_words.specs.Journals.{names_clash}
 use Rattle.vt_words.specs.declared.filters.Filtering.{Filtering}
@@ -19,9 +19,6 @@ pub record ReplayText : Type 0 where
 unfoldable pub replay_rules : List Rule
 replay_rules = word (codes "store") ∷ word (codes "path") ∷ word (codes "journal") ∷ word (codes "prefix") ∷ filter_option ∷ []
 
-abbrev pub replay_app : App
-replay_app = app (codes "replay") replay_rules
-
 -- what the rows say; nothing where the filter is not lawful or names clash
 abbrev pub replay_values : List Row → Option ReplayText
 replay_values rows =
@@ -32,10 +29,6 @@ replay_values rows =
     given (filter_of rows) (λ filter.
     if names_clash store path journal prefix then None
     else Some (record { store = store; path = path; journal = journal; prefix = prefix; filter = filter }))))))
-
--- what the words of `replay`, its name the first, ask for
-abbrev pub replay_text : List Text → Option ReplayText
-replay_text words = given (found replay_app words) replay_values
 
 -- the words without where they lie in memory
 abbrev pub shown_replay : ReplayWords → ReplayText

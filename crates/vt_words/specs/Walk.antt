@@ -1,8 +1,8 @@
 -- The words of `walk`.
 use Rattle.std.specs.Prelude.{◌≡◌, ℕ, List, [], ◌∷◌, Option, Some, None, Bool, false, codes, if◌then◌else◌}
-use Rattle.clap.specs.Words.{App, Row, Rule, Text, first_of}
+use Rattle.clap.specs.Words.{Row, Rule, Text, first_of}
 use Rattle.vt_definitions.specs.Limits.{most_frames, most_samplers, most_loaders, most_entries}
-use Rattle.vt_words.specs.Arguments.{app, word, option, flag, found, given, is_set}
+use Rattle.vt_words.specs.Arguments.{word, option, flag, given, is_set}
 use Rattle.vt_words.specs.Filters.{filter_option}
 use Rattle.vt_words.specs.Journals.{names_clash}
 use Rattle.vt_words.specs.Machines.{rows_option, machine_of}
@@ -36,9 +36,6 @@ walk_rules =
     ∷ option (codes "batch") (codes "64") ∷ option (codes "pinned") (codes "1") ∷ option (codes "journal") (codes "journal.txt")
     ∷ rows_option ∷ filter_option ∷ flag (codes "settled") ∷ []
 
-abbrev pub walk_app : App
-walk_app = app (codes "walk") walk_rules
-
 -- what the rows say; nothing where a number is not lawful, the options ask for no machine, or names clash
 abbrev pub walk_values : List Row → Option WalkText
 walk_values rows =
@@ -65,10 +62,6 @@ walk_values rows =
       machine = machine;
       settled = is_set (codes "settled") rows;
     })))))))))))
-
--- what the words of `walk`, its name the first, ask for
-abbrev pub walk_text : List Text → Option WalkText
-walk_text words = given (found walk_app words) walk_values
 
 -- the words without where they lie in memory
 abbrev pub shown_walk : WalkWords → WalkText

@@ -97,7 +97,7 @@ fn argument_of<'a>(alloc: Global, row: Argument<'a>) -> Arg<'a>
 
 /// The text of an argument.
 pub fn text<'a>(matches: &ArgMatches<'a>, id: &str) -> Option<&'a str>
-    ensures { option_map (λ s. s.now) result ≡ first_of id.now (rows_of (found_of matches.now)) }
+    ensures { first_of id.now (rows_of (found_of matches.now)) ≡ option_map (λ s. s.now) result }
 {
     matches.get_str(id)
 }

@@ -1,13 +1,13 @@
 //! The words of `replay`.
 
 ghost use Rattle.std.specs.Prelude.{◌≡◌, true, IfSome, map, option_map};
-ghost use Rattle.clap.specs.Words.{rows_of, found_of, is_simple_and_free};
-ghost use Rattle.vt_words.specs.Arguments.{rule_for};
-ghost use Rattle.vt_words.specs.Commands.{ReplayCommand, shown, IsLawful};
-ghost use Rattle.vt_words.specs.Replay.{replay_rules, replay_app, replay_values};
+ghost use Rattle.clap.specs.Words.{rows_of, found_of};
+ghost use Rattle.vt_words.specs.Arguments.{rule_for, are_simple};
+ghost use Rattle.vt_words.specs.Commands.{ReplayCommand, shown_walking, IsLawfulWalking};
+ghost use Rattle.vt_words.specs.Replay.{replay_rules, replay_values};
 
 use crate::arguments::{Argument, text};
-use crate::command::Command;
+use crate::command::WalkingCommand;
 use crate::filters::{Filtering, filter_of};
 use crate::names::names_clash;
 use clap::ArgMatches;
@@ -29,9 +29,10 @@ pub struct ReplayWords<'a> {
 }
 
 /// The arguments of `replay`.
+#[tactic(auto, unfolding(crate::specs::Replay::replay_rules))]
 pub fn replay_rows<'a>() -> &'a [Argument<'a>]
     ensures rules { map rule_for result.now ≡ replay_rules }
-    ensures simple { is_simple_and_free replay_app ≡ true }
+    ensures simple { are_simple replay_rules ≡ true }
 {
     &[
         Argument::Word("store"),
@@ -43,9 +44,9 @@ pub fn replay_rows<'a>() -> &'a [Argument<'a>]
 }
 
 /// What the values of its arguments ask for.
-pub fn replay_values<'a>(matches: &ArgMatches<'a>) -> Option<Command<'a>>
-    ensures read { option_map shown result ≡ option_map ReplayCommand (replay_values (rows_of (found_of matches.now))) }
-    ensures lawful { IfSome result IsLawful }
+pub fn replay_values<'a>(matches: &ArgMatches<'a>) -> Option<WalkingCommand<'a>>
+    ensures read { option_map shown_walking result ≡ option_map ReplayCommand (replay_values (rows_of (found_of matches.now))) }
+    ensures lawful { IfSome result IsLawfulWalking }
 {
     let store = text(matches, "store")?;
     let path = text(matches, "path")?;
@@ -55,7 +56,7 @@ pub fn replay_values<'a>(matches: &ArgMatches<'a>) -> Option<Command<'a>>
     if names_clash(store, path, journal, prefix) {
         return None;
     }
-    Some(Command::Replay(ReplayWords {
+    Some(WalkingCommand::Replay(ReplayWords {
         store,
         path,
         journal,

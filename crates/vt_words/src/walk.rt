@@ -1,13 +1,13 @@
 //! The words of `walk`.
 
 ghost use Rattle.std.specs.Prelude.{◌≡◌, true, IfSome, map, option_map};
-ghost use Rattle.clap.specs.Words.{rows_of, found_of, is_simple_and_free};
-ghost use Rattle.vt_words.specs.Arguments.{rule_for};
-ghost use Rattle.vt_words.specs.Commands.{WalkCommand, shown, IsLawful};
-ghost use Rattle.vt_words.specs.Walk.{walk_rules, walk_app, walk_values};
+ghost use Rattle.clap.specs.Words.{rows_of, found_of};
+ghost use Rattle.vt_words.specs.Arguments.{rule_for, are_simple};
+ghost use Rattle.vt_words.specs.Commands.{WalkCommand, shown_walking, IsLawfulWalking};
+ghost use Rattle.vt_words.specs.Walk.{walk_rules, walk_values};
 
 use crate::arguments::{Argument, is_set, text};
-use crate::command::Command;
+use crate::command::WalkingCommand;
 use crate::machines::{MachineChoice, machine_of};
 use crate::names::names_clash;
 use crate::numbers::number_of;
@@ -57,9 +57,10 @@ pub struct WalkWords<'a> {
 }
 
 /// The arguments of `walk`.
+#[tactic(auto, unfolding(crate::specs::Walk::walk_rules))]
 pub fn walk_rows<'a>() -> &'a [Argument<'a>]
     ensures rules { map rule_for result.now ≡ walk_rules }
-    ensures simple { is_simple_and_free walk_app ≡ true }
+    ensures simple { are_simple walk_rules ≡ true }
 {
     &[
         Argument::Word("store"),
@@ -78,9 +79,9 @@ pub fn walk_rows<'a>() -> &'a [Argument<'a>]
 }
 
 /// What the values of its arguments ask for.
-pub fn walk_values<'a>(matches: &ArgMatches<'a>) -> Option<Command<'a>>
-    ensures read { option_map shown result ≡ option_map WalkCommand (walk_values (rows_of (found_of matches.now))) }
-    ensures lawful { IfSome result IsLawful }
+pub fn walk_values<'a>(matches: &ArgMatches<'a>) -> Option<WalkingCommand<'a>>
+    ensures read { option_map shown_walking result ≡ option_map WalkCommand (walk_values (rows_of (found_of matches.now))) }
+    ensures lawful { IfSome result IsLawfulWalking }
 {
     let store = text(matches, "store")?;
     let path = text(matches, "path")?;
@@ -95,7 +96,7 @@ pub fn walk_values<'a>(matches: &ArgMatches<'a>) -> Option<Command<'a>>
     if names_clash(store, path, journal, prefix) {
         return None;
     }
-    Some(Command::Walk(WalkWords {
+    Some(WalkingCommand::Walk(WalkWords {
         store,
         path,
         prefix,

@@ -13,6 +13,7 @@ use std::{env, io};
 use vt_bilinear::BlendMachine;
 use vt_command_base::Refusal;
 pub use vt_commands::run;
+use vt_commands::usage_line;
 use vt_outside::{OpenGate, RealFile, RealFolder, RealSink};
 use vt_pass::WordMachine;
 
@@ -42,7 +43,7 @@ fn main(rt: HostRuntime) -> ExitCode {
         Ok(words) => words,
         Err(error) => {
             let refusal = unread(&error);
-            refusal.tell(&mut err);
+            refusal.tell(usage_line(), &mut err);
             return ExitCode::from(refusal.status());
         }
     };

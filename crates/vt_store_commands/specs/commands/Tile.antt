@@ -1,5 +1,10 @@
 -- The command `tile`: the tile store of a texture's mip chain.
-use Rattle.std.specs.Prelude.{◌≡◌, ℕ, List, [], ◌∷◌, Some}
+use Rattle.std.specs.Prelude.{ℕ, List, [], ◌∷◌, Option, Some, None, codes, if◌then◌else◌, ◌≡◌}
+use Rattle.std.specs.Str.{bytes_eq}
+use Rattle.clap.specs.Words.{Row, Rule, Text, first_of}
+use Rattle.vt_words.specs.Arguments.{word, option, given}
+use Rattle.vt_words.specs.Numbers.{side_of}
+use Rattle.vt_store_commands.specs.declared.commands.tile.TileWords.{TileWords}
 use Rattle.vt_ppm.specs.Image.{ImageView}
 use Rattle.vt_ppm.specs.Strips.{texture_of}
 use Rattle.vt_ppm.specs.declared.header.Header.{Header}
@@ -8,7 +13,6 @@ use Rattle.vt_pages.specs.Pages.{refusal_of}
 use Rattle.vt_pages.specs.declared.PagesError.{PagesError}
 use Rattle.vt_pages.specs.declared.PagesError.TheVariants as pages_error
 use Rattle.vt_store.specs.ChainStores.{texture_store}
-use Rattle.vt_words.specs.Tile.{TileText}
 use Rattle.vt_command_base.specs.Lines.{store_line}
 use Rattle.vt_command_base.specs.Inputs.{Content, TiledTexture, TextureContent, texture_shape}
 use Rattle.vt_files.specs.Expectations.{Expected}
@@ -17,6 +21,28 @@ use Rattle.vt_command_base.specs.declared.flaws.Flaw.{Flaw}
 use Rattle.vt_command_base.specs.declared.flaws.Flaw.TheVariants.{TooManyPages, BadSize}
 use Rattle.vt_command_base.specs.declared.refusal.Refusal.{Refusal}
 use Rattle.vt_command_base.specs.declared.refusal.Refusal.TheVariants.{Flawed}
+
+-- the words as names and a number
+pub record TileText : Type 0 where
+  pub texture : Text
+  pub store : Text
+  pub tile : ℕ
+
+-- its arguments
+unfoldable pub tile_rules : List Rule
+tile_rules = word (codes "texture") ∷ word (codes "store") ∷ option (codes "tile") (codes "64") ∷ []
+
+-- what the rows say; nothing where the side is not lawful or the name that is written is the one that is read
+abbrev pub tile_values : List Row → Option TileText
+tile_values rows =
+    given (first_of (codes "texture") rows) (λ texture.
+    given (first_of (codes "store") rows) (λ store.
+    given (side_of (codes "tile") rows) (λ tile.
+    if bytes_eq store texture then None else Some (record { texture = texture; store = store; tile = tile }))))
+
+-- the words without where they lie in memory
+abbrev pub shown_tile : TileWords → TileText
+shown_tile words = record { texture = words.texture.now; store = words.store.now; tile = words.tile }
 
 -- the tile store of a texture's mip chain
 unfoldable pub store_file : ImageView → ℕ → List ℕ

@@ -1,13 +1,36 @@
 -- The command `upgrade`: the store of two-byte samples that is made of one of one-byte samples.
-use Rattle.std.specs.Prelude.{ℕ, List, [], ◌∷◌}
+use Rattle.std.specs.Prelude.{List, [], ◌∷◌, Option, Some, None, codes, if◌then◌else◌, ℕ}
+use Rattle.std.specs.Str.{bytes_eq}
+use Rattle.clap.specs.Words.{Row, Rule, Text, first_of}
+use Rattle.vt_words.specs.Arguments.{word, given}
+use Rattle.vt_store_commands.specs.declared.commands.upgrade.UpgradeWords.{UpgradeWords}
 use Rattle.vt_pages.specs.Shape.{Shape}
 use Rattle.vt_tiles.specs.Format.{store_bytes, stored}
 use Rattle.vt_store.specs.Widening.{widened}
-use Rattle.vt_words.specs.Upgrade.{UpgradeText}
 use Rattle.vt_command_base.specs.Lines.{store_line}
 use Rattle.vt_command_base.specs.Inputs.{Content, NarrowStore, NarrowContent}
 use Rattle.vt_files.specs.Expectations.{Expected}
 use Rattle.vt_command_base.specs.Tasks.{Task}
+
+-- the words as names
+pub record UpgradeText : Type 0 where
+  pub store : Text
+  pub new_store : Text
+
+-- its arguments
+unfoldable pub upgrade_rules : List Rule
+upgrade_rules = word (codes "store") ∷ word (codes "new_store") ∷ []
+
+-- what the rows say; nothing where the name that is written is the one that is read
+abbrev pub upgrade_values : List Row → Option UpgradeText
+upgrade_values rows =
+    given (first_of (codes "store") rows) (λ store.
+    given (first_of (codes "new_store") rows) (λ new_store.
+    if bytes_eq new_store store then None else Some (record { store = store; new_store = new_store })))
+
+-- the words without where they lie in memory
+abbrev pub shown_upgrade : UpgradeWords → UpgradeText
+shown_upgrade words = record { store = words.store.now; new_store = words.new_store.now }
 
 -- the store of the same pages whose samples are 257 times those of the bytes of a store of one-byte samples
 abbrev pub upgraded_file : Shape → List ℕ → List ℕ

@@ -1,17 +1,70 @@
 //! The command `gen`: a texture that is made from a number.
 
-ghost use Rattle.std.specs.Prelude.{◌≡◌, ◌+◌, ◌*◌, ◌%◌, ◌<◌, ◌≤◌, ◌++◌, ◌∷◌, [], length, take, IfOk, codes, decimal};
+ghost use Rattle.std.specs.Prelude.{◌≡◌, true, IfSome, map, option_map, ◌+◌, ◌*◌, ◌%◌, ◌<◌, ◌≤◌, ◌++◌, ◌∷◌, [], length, take, IfOk, codes, decimal};
+ghost use Rattle.clap.specs.Words.{rows_of, found_of};
+ghost use Rattle.vt_words.specs.Arguments.{rule_for, are_simple};
+ghost use Rattle.vt_store_commands.specs.commands.{GenCommand, shown_store, IsLawfulStore};
+ghost use Rattle.vt_store_commands.specs.commands.Gen.{gen_rules, gen_values, IsLawfulGen, shown_gen, made_texel, made_row, expected_file, gen_task, quiet};
+ghost use Rattle.vt_words.specs.Numbers.{most_number};
 ghost use Rattle.vt_definitions.specs.Limits.{most_read_side};
-ghost use Rattle.vt_words.specs.Gen.{IsLawfulGen, most_number, shown_gen};
 ghost use Rattle.vt_files.specs.Effects.{SinkState, folder_effect};
 ghost use Rattle.vt_files.specs.Expectations.{Writes};
-ghost use Rattle.vt_command_base.specs.Tasks.{Ends};
-ghost use Rattle.vt_store_commands.specs.commands.Gen.{made_texel, made_row, expected_file, gen_task, quiet};
+ghost use Rattle.vt_command_base.specs.CommandSpecs.{Ends};
 
+use crate::commands::StoreCommand;
+use clap::ArgMatches;
 use std::alloc::{AllocError, Global};
 use vt_command_base::Refusal;
 use vt_outside::{Folder, OutsideError};
-use vt_words::GenWords;
+use vt_words::arguments::{Argument, text};
+use vt_words::numbers::{MOST_NUMBER, number_of};
+
+// The largest side of such a texture.
+const MOST_SIDE: u32 = 8192;
+
+/// The words of `gen`.
+#[derive(Clone, Copy)]
+pub struct GenWords<'a> {
+    /// Which texture it is, at most 65,535.
+    pub number: u32,
+    /// The texture's width in texels, from 1 to 8,192.
+    pub width: u32,
+    /// The texture's height in texels, from 1 to 8,192.
+    pub height: u32,
+    /// The texture's name.
+    pub name: &'a str,
+}
+
+/// The arguments of `gen`.
+#[tactic(auto, unfolding(crate::specs::commands::Gen::gen_rules))]
+pub fn gen_rows<'a>() -> &'a [Argument<'a>]
+    ensures rules { map rule_for result.now ≡ gen_rules }
+    ensures simple { are_simple gen_rules ≡ true }
+{
+    &[
+        Argument::Word("number"),
+        Argument::Word("width"),
+        Argument::Word("height"),
+        Argument::Word("name"),
+    ]
+}
+
+/// What the values of its arguments ask for.
+pub fn gen_values<'a>(matches: &ArgMatches<'a>) -> Option<StoreCommand<'a>>
+    ensures read { option_map shown_store result ≡ option_map GenCommand (gen_values (rows_of (found_of matches.now))) }
+    ensures lawful { IfSome result IsLawfulStore }
+{
+    let number = number_of(matches, "number", 0, MOST_NUMBER)?;
+    let width = number_of(matches, "width", 1, MOST_SIDE)?;
+    let height = number_of(matches, "height", 1, MOST_SIDE)?;
+    let name = text(matches, "name")?;
+    Some(StoreCommand::Gen(GenWords {
+        number,
+        width,
+        height,
+        name,
+    }))
+}
 
 // The greatest sample of a texture that is made.
 const GREATEST: u32 = 255;

@@ -1,16 +1,20 @@
 //! The command `plain`: the plain picture of each camera of a path over a texture.
 
-ghost use Rattle.std.specs.Prelude.{◌≡◌, ◌<◌, [], ◌∷◌, ◌++◌, length, OnOk};
+ghost use Rattle.std.specs.Prelude.{◌≡◌, true, IfSome, map, option_map, ◌<◌, [], ◌∷◌, ◌++◌, length, OnOk};
+ghost use Rattle.clap.specs.Words.{rows_of, found_of};
+ghost use Rattle.vt_words.specs.Arguments.{rule_for, are_simple};
+ghost use Rattle.vt_store_commands.specs.commands.{PlainCommand, shown_store, IsLawfulStore};
+ghost use Rattle.vt_store_commands.specs.commands.Plain.{plain_rules, plain_clash, plain_values, shown_plain, plain_task, expected_path};
 ghost use Rattle.vt_definitions.specs.Tiles.{IsTileSide};
 ghost use Rattle.vt_files.specs.Effects.{call_effect, folder_effect};
 ghost use Rattle.vt_words.specs.Names.{four_digit_numbers};
-ghost use Rattle.vt_words.specs.Plain.{shown_plain};
 ghost use Rattle.vt_store_commands.specs.Pictures.{plain_file, samples_by};
 ghost use Rattle.vt_files.specs.Expectations.{Leaves, Writes};
-ghost use Rattle.vt_command_base.specs.Tasks.{Ends};
+ghost use Rattle.vt_command_base.specs.CommandSpecs.{Ends};
 ghost use Rattle.vt_files.specs.Pictures.{expected_picture, expected_pictures};
-ghost use Rattle.vt_store_commands.specs.commands.Plain.{plain_task, expected_path};
 
+use crate::commands::StoreCommand;
+use clap::ArgMatches;
 use std::alloc::Global;
 use std::thread::Threads;
 use vt_camera::Path;
@@ -21,7 +25,68 @@ use vt_mip::Chain;
 use vt_outside::{Folder, NoMemory, OutsideError, Sink};
 use vt_plain_bilinear::draw_plain_blend_behind;
 use vt_ppm::{Image, begin_picture};
-use vt_words::{Filtering, PlainWords, picture_name};
+use vt_words::arguments::{Argument, text};
+use vt_words::filters::filter_of;
+use vt_words::numbers::side_of;
+use vt_words::{Filtering, is_picture_name, picture_name};
+
+/// The words of `plain`.
+#[derive(Clone, Copy)]
+pub struct PlainWords<'a> {
+    /// The texture's name.
+    pub texture: &'a str,
+    /// The path's name.
+    pub path: &'a str,
+    /// What the pictures' names begin with; neither the texture's name nor the path's is that of a picture.
+    pub prefix: &'a str,
+    /// The tile side, one of 2, 4, 8, 16, 32, 64 and 128.
+    pub tile: u32,
+    /// How the pixels are made of texels.
+    pub filter: Filtering,
+}
+
+/// The arguments of `plain`.
+#[tactic(auto, unfolding(crate::specs::commands::Plain::plain_rules))]
+pub fn plain_rows<'a>() -> &'a [Argument<'a>]
+    ensures rules { map rule_for result.now ≡ plain_rules }
+    ensures simple { are_simple plain_rules ≡ true }
+{
+    &[
+        Argument::Word("texture"),
+        Argument::Word("path"),
+        Argument::Word("prefix"),
+        Argument::Option("tile", "64"),
+        Argument::Option("filter", "nearest"),
+    ]
+}
+
+/// What the values of its arguments ask for.
+pub fn plain_values<'a>(matches: &ArgMatches<'a>) -> Option<StoreCommand<'a>>
+    ensures read { option_map shown_store result ≡ option_map PlainCommand (plain_values (rows_of (found_of matches.now))) }
+    ensures lawful { IfSome result IsLawfulStore }
+{
+    let texture = text(matches, "texture")?;
+    let path = text(matches, "path")?;
+    let prefix = text(matches, "prefix")?;
+    let tile = side_of(matches, "tile")?;
+    let filter = filter_of(matches)?;
+    if plain_clash(texture, path, prefix) {
+        return None;
+    }
+    Some(StoreCommand::Plain(PlainWords {
+        texture,
+        path,
+        prefix,
+        tile,
+        filter,
+    }))
+}
+
+fn plain_clash(texture: &str, path: &str, prefix: &str) -> bool
+    ensures { result ≡ plain_clash texture.now path.now prefix.now }
+{
+    is_picture_name(prefix, texture) || is_picture_name(prefix, path)
+}
 
 /// Reads the path and then the texture, writes the plain picture of each camera under its name, and puts the end line.
 pub fn plain<'a, Rt: Threads + Sync, D: Folder, O: Sink>(

@@ -1,19 +1,23 @@
 //! The command `tile`: the tile store of a texture's mip chain, of which the texture is read by strips.
 
-ghost use Rattle.std.specs.Prelude.{◌≡◌, None, true, IfOk, IfErr};
+ghost use Rattle.std.specs.Prelude.{◌≡◌, true, IfSome, map, option_map, None, IfOk, IfErr};
+ghost use Rattle.clap.specs.Words.{rows_of, found_of};
+ghost use Rattle.vt_words.specs.Arguments.{rule_for, are_simple};
+ghost use Rattle.vt_store_commands.specs.commands.{TileCommand, shown_store, IsLawfulStore};
+ghost use Rattle.vt_store_commands.specs.commands.Tile.{tile_rules, tile_values, shown_tile, tile_task, made_store, flaw_of_pages, IsTooMany};
 ghost use Rattle.vt_definitions.specs.Tiles.{IsTileSide};
 ghost use Rattle.vt_ppm.specs.Strips.{IsTextureHeader};
 ghost use Rattle.vt_pages.specs.Shape.{shape_of};
 ghost use Rattle.vt_pages.specs.Pages.{refusal_of};
 ghost use Rattle.vt_store.specs.StripStores.{strip_shape};
 ghost use Rattle.vt_files.specs.Effects.{call_effect, folder_effect};
-ghost use Rattle.vt_words.specs.Tile.{shown_tile};
 ghost use Rattle.vt_command_base.specs.Inputs.{TiledTexture, AreStrips};
 ghost use Rattle.vt_command_base.specs.OpenWrites.{WritesMade};
 ghost use Rattle.vt_command_base.specs.Reads.{file_state, OpensTexture, Refused};
-ghost use Rattle.vt_command_base.specs.Tasks.{Ends};
-ghost use Rattle.vt_store_commands.specs.commands.Tile.{tile_task, made_store, flaw_of_pages, IsTooMany};
+ghost use Rattle.vt_command_base.specs.CommandSpecs.{Ends};
 
+use crate::commands::StoreCommand;
+use clap::ArgMatches;
 use std::alloc::Global;
 use std::thread::Threads;
 use vt_command_base::{Flaw, Refusal, open_texture, outside_error, put_store_line};
@@ -22,7 +26,50 @@ use vt_outside::{Folder, OutsideError, Sink};
 use vt_pages::{Geometry, PagesError};
 use vt_ppm::{Header, StripReader};
 use vt_store::write_strips;
-use vt_words::TileWords;
+use vt_words::arguments::{Argument, text};
+use vt_words::numbers::side_of;
+
+/// The words of `tile`.
+#[derive(Clone, Copy)]
+pub struct TileWords<'a> {
+    /// The texture's name.
+    pub texture: &'a str,
+    /// The store's name, which is another.
+    pub store: &'a str,
+    /// The tile side, one of 2, 4, 8, 16, 32, 64 and 128.
+    pub tile: u32,
+}
+
+/// The arguments of `tile`.
+#[tactic(auto, unfolding(crate::specs::commands::Tile::tile_rules))]
+pub fn tile_rows<'a>() -> &'a [Argument<'a>]
+    ensures rules { map rule_for result.now ≡ tile_rules }
+    ensures simple { are_simple tile_rules ≡ true }
+{
+    &[
+        Argument::Word("texture"),
+        Argument::Word("store"),
+        Argument::Option("tile", "64"),
+    ]
+}
+
+/// What the values of its arguments ask for.
+pub fn tile_values<'a>(matches: &ArgMatches<'a>) -> Option<StoreCommand<'a>>
+    ensures read { option_map shown_store result ≡ option_map TileCommand (tile_values (rows_of (found_of matches.now))) }
+    ensures lawful { IfSome result IsLawfulStore }
+{
+    let texture = text(matches, "texture")?;
+    let store = text(matches, "store")?;
+    let tile = side_of(matches, "tile")?;
+    if store == texture {
+        return None;
+    }
+    Some(StoreCommand::Tile(TileWords {
+        texture,
+        store,
+        tile,
+    }))
+}
 
 /// Opens the texture and looks its samples over, writes the store of its mip chain while it is read by strips, and puts the store's
 /// line.

@@ -1,21 +1,56 @@
 //! The command `upgrade`: the store of two-byte samples that is made of one of one-byte samples.
 
-ghost use Rattle.std.specs.Prelude.{◌≡◌, IfOk, IfErr};
-ghost use Rattle.vt_words.specs.Upgrade.{shown_upgrade};
+ghost use Rattle.std.specs.Prelude.{◌≡◌, true, IfSome, map, option_map, IfOk, IfErr};
+ghost use Rattle.clap.specs.Words.{rows_of, found_of};
+ghost use Rattle.vt_words.specs.Arguments.{rule_for, are_simple};
+ghost use Rattle.vt_store_commands.specs.commands.{UpgradeCommand, shown_store, IsLawfulStore};
+ghost use Rattle.vt_store_commands.specs.commands.Upgrade.{upgrade_rules, upgrade_values, shown_upgrade, upgrade_task, upgraded_file};
 ghost use Rattle.vt_files.specs.Effects.{call_effect, folder_effect};
 ghost use Rattle.vt_command_base.specs.Inputs.{NarrowStore, ArePieces};
 ghost use Rattle.vt_command_base.specs.OpenWrites.{WritesMade};
 ghost use Rattle.vt_command_base.specs.Reads.{file_state, Refused, OpensStore};
-ghost use Rattle.vt_command_base.specs.Tasks.{Ends};
-ghost use Rattle.vt_store_commands.specs.commands.Upgrade.{upgrade_task, upgraded_file};
+ghost use Rattle.vt_command_base.specs.CommandSpecs.{Ends};
 
+use crate::commands::StoreCommand;
+use clap::ArgMatches;
 use std::alloc::Global;
 use std::thread::Threads;
 use vt_command_base::{Flaw, Refusal, open_store, outside_error, put_store_line};
 use vt_outside::{Folder, OutsideError, Sink};
 use vt_store::widen_store;
 use vt_tiles::Store;
-use vt_words::UpgradeWords;
+use vt_words::arguments::{Argument, text};
+
+/// The words of `upgrade`.
+#[derive(Clone, Copy)]
+pub struct UpgradeWords<'a> {
+    /// The store's name.
+    pub store: &'a str,
+    /// The new store's name, which is another.
+    pub new_store: &'a str,
+}
+
+/// The arguments of `upgrade`.
+#[tactic(auto, unfolding(crate::specs::commands::Upgrade::upgrade_rules))]
+pub fn upgrade_rows<'a>() -> &'a [Argument<'a>]
+    ensures rules { map rule_for result.now ≡ upgrade_rules }
+    ensures simple { are_simple upgrade_rules ≡ true }
+{
+    &[Argument::Word("store"), Argument::Word("new_store")]
+}
+
+/// What the values of its arguments ask for.
+pub fn upgrade_values<'a>(matches: &ArgMatches<'a>) -> Option<StoreCommand<'a>>
+    ensures read { option_map shown_store result ≡ option_map UpgradeCommand (upgrade_values (rows_of (found_of matches.now))) }
+    ensures lawful { IfSome result IsLawfulStore }
+{
+    let store = text(matches, "store")?;
+    let new_store = text(matches, "new_store")?;
+    if new_store == store {
+        return None;
+    }
+    Some(StoreCommand::Upgrade(UpgradeWords { store, new_store }))
+}
 
 /// Opens the store, writes the new one, and puts the new one's line.
 pub fn upgrade<'a, Rt: Threads + Sync, D: Folder, O: Sink>(

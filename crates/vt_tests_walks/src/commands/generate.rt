@@ -1,9 +1,11 @@
-// Runs of `gen`, and of a command whose option is left out.
+// Runs of `gen`, of a command whose option is left out, and of no words.
 use super::files::{FAULT, G4, PATH, USAGE};
 use super::rows::Held::{All, Front};
 use super::rows::{Row, hold};
 use std::test::*;
+use vt_commands::{Command, read_command};
 use vt_outside::Fail;
+use vt_words::WordsError;
 
 // The texture of number 1 with sides of two texels.
 const MADE: &[u8] = b"P6\n2 2\n255\n\x01\x03\x07\x02\x03\x07\x01\x04\x07\x02\x04\x08";
@@ -137,4 +139,17 @@ static NO_TILE_SIDE: [Row<'static>; 1] = [Row {
 #[test]
 fn the_tile_side_may_be_left_out(rt: HostRuntime) {
     hold(&rt, rt.alloc(), &NO_TILE_SIDE);
+}
+
+// Whether words were read as those of no command.
+fn is_usage(read: &Result<Command<'_>, WordsError>) -> bool {
+    match read {
+        Ok(_) => false,
+        Err(refusal) => *refusal == WordsError::Usage,
+    }
+}
+
+#[test]
+fn no_words_are_no_command(rt: HostRuntime) {
+    assert!(rt; is_usage(&read_command(rt.alloc(), &[])));
 }

@@ -4,7 +4,7 @@ ghost use Rattle.std.specs.Prelude.{◌≡◌, ◌<◌, ◌≤◌, [], length, i
 ghost use Rattle.vt_outside.specs.Counts.{added};
 ghost use Rattle.vt_outside.specs.Files.{bytes_at};
 ghost use Rattle.vt_outside.specs.MemoryFolder.{files_of};
-ghost use Rattle.vt_words.specs.Gen.{most_number};
+ghost use Rattle.vt_words.specs.Numbers.{most_number};
 ghost use Rattle.vt_words.specs.Names.{four_digit_numbers};
 ghost use Rattle.vt_words.specs.Trial.{IsLawfulTrial, shown_trial};
 ghost use Rattle.vt_camera.specs.PathText.{IsPathText};
@@ -43,7 +43,7 @@ use vt_pass::WordMachine;
 use vt_ppm::{Image, encode};
 use vt_print::Line;
 use vt_store::write_store;
-use vt_store_commands::make_row;
+use vt_store_commands::commands::generate::make_row;
 use vt_tiles::Store;
 use vt_walk::{Names, Settings, WalkError, Walked, walk_counted};
 use vt_words::{TrialWords, picture_name};

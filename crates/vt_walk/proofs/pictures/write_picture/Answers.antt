@@ -12,10 +12,10 @@ pub returns-in_err-name-clause-part : goal.returns-in_err-name-clause-part
 returns-in_err-name-clause-part g c = OnErr-all c.from_residual.result _ (inl refl)
 
 pub returns-clause-asked : goal.returns-clause-asked
-returns-clause-asked g c = c.write_file.ensures.asked
+returns-clause-asked g c = c.write_file.ensures.written.asked
 
 pub returns-clause-faults : goal.returns-clause-faults
-returns-clause-faults g c = c.write_file.ensures.faults
+returns-clause-faults g c = c.write_file.ensures.written.faults
 
 pub returns-clause-failed : goal.returns-clause-failed
-returns-clause-failed g c = c.write_file.ensures.failed
+returns-clause-failed g c = c.write_file.ensures.written.failed

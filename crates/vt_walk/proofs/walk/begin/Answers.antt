@@ -62,8 +62,8 @@ returns-in_err-begin_journal-clause-begun g c =
     (λ s. IsStoreIfTold (g.D.File.File.bytes c.args.store.now.file) s c.args.store.now.depth) c.requires.shape c.requires.store) c.requires.depth
     c.requires.begins c.requires.tell
     (g.D.Folder.files c.begin_journal.new.folder) (g.D.Folder.asked c.begin_journal.new.folder) (g.D.Folder.faults c.begin_journal.new.folder)
-    c.in_ok-place_pinned.ensures.files c.in_ok-place_pinned.ensures.asked c.in_ok-place_pinned.ensures.faults c.in_err-begin_journal.ensures.part
-    c.in_err-begin_journal.ensures.asked c.in_err-begin_journal.ensures.faults _ p.0 (λ is. c.in_err-begin_journal.ensures.failed (ap Err is)) p.2)
+    c.in_ok-place_pinned.ensures.files c.in_ok-place_pinned.ensures.asked c.in_ok-place_pinned.ensures.faults c.in_err-begin_journal.ensures.written.part
+    c.in_err-begin_journal.ensures.written.asked c.in_err-begin_journal.ensures.written.faults _ p.0 (λ is. c.in_err-begin_journal.ensures.written.failed (ap Err is)) p.2)
 
 pub returns-clause-begun : goal.returns-clause-begun
 returns-clause-begun g c = λ held out_faults. head_stands g.M.PassMachine.drawing
@@ -77,8 +77,8 @@ returns-clause-begun g c = λ held out_faults. head_stands g.M.PassMachine.drawi
     c.requires.begins c.requires.tell
     (g.D.Folder.files c.begin_journal.new.folder) (g.D.Folder.asked c.begin_journal.new.folder) (g.D.Folder.faults c.begin_journal.new.folder)
     c.in_ok-recency.recency
-    c.in_ok-place_pinned.ensures.placed c.in_ok-place_pinned.ensures.asked c.in_ok-place_pinned.ensures.faults c.in_ok-begin_journal.ensures.whole
-    c.in_ok-begin_journal.ensures.there c.in_ok-begin_journal.ensures.asked c.in_ok-begin_journal.ensures.faults c.in_ok-recency.ensures.first
+    c.in_ok-place_pinned.ensures.placed c.in_ok-place_pinned.ensures.asked c.in_ok-place_pinned.ensures.faults c.in_ok-begin_journal.ensures.written.whole
+    c.in_ok-begin_journal.ensures.there c.in_ok-begin_journal.ensures.written.asked c.in_ok-begin_journal.ensures.written.faults c.in_ok-recency.ensures.first
 
 pub returns-in_err-place_pinned-clause-files : goal.returns-in_err-place_pinned-clause-files
 returns-in_err-place_pinned-clause-files g c = c.place_pinned.ensures.files
@@ -102,19 +102,19 @@ pub returns-in_err-begin_journal-clause-files : goal.returns-in_err-begin_journa
 returns-in_err-begin_journal-clause-files g c = c.place_pinned.ensures.files
 
 pub returns-in_err-begin_journal-clause-asked : goal.returns-in_err-begin_journal-clause-asked
-returns-in_err-begin_journal-clause-asked g c = c.begin_journal.ensures.asked
+returns-in_err-begin_journal-clause-asked g c = c.begin_journal.ensures.written.asked
 
 pub returns-in_err-begin_journal-clause-faults : goal.returns-in_err-begin_journal-clause-faults
-returns-in_err-begin_journal-clause-faults g c = c.begin_journal.ensures.faults
+returns-in_err-begin_journal-clause-faults g c = c.begin_journal.ensures.written.faults
 
 pub returns-clause-files : goal.returns-clause-files
 returns-clause-files g c = c.place_pinned.ensures.files
 
 pub returns-clause-asked : goal.returns-clause-asked
-returns-clause-asked g c = c.begin_journal.ensures.asked
+returns-clause-asked g c = c.begin_journal.ensures.written.asked
 
 pub returns-clause-faults : goal.returns-clause-faults
-returns-clause-faults g c = c.begin_journal.ensures.faults
+returns-clause-faults g c = c.begin_journal.ensures.written.faults
 
 pub returns-clause-idle : goal.returns-clause-idle
 returns-clause-idle g c = c.in_ok-place_pinned.ensures.idle

@@ -3,8 +3,7 @@ use Rattle.std.proofs.lemmas.Result.{err_from_is_err_and}
 use Rattle.vt_files.specs.Effects.{folder_state, sink_state}
 use Rattle.vt_command_base.specs.Lines.{store_line}
 use Rattle.vt_command_base.specs.Inputs.{StoreInput, StoreContent}
-use Rattle.vt_words.specs.Info.{shown_info}
-use Rattle.vt_store_commands.specs.commands.Info.{info_task}
+use Rattle.vt_store_commands.specs.commands.Info.{shown_info, info_task}
 use Rattle.vt_command_base.proofs.Ending.{read_none, read_more, ends_refused, ends_done, ends_stopped}
 use Rattle.vt_command_base.proofs.Leaving.{left_text}
 use Rattle.vt_store_commands.proofs.commands.info.info.Goals as goal

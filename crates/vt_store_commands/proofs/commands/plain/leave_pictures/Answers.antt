@@ -1,13 +1,12 @@
 use Rattle.std.proofs.Common.{ℕ, Ok, Err, subst, length}
 use Rattle.std.proofs.lemmas.Result.{err_from_is_err_and}
 use Rattle.vt_mip.specs.Chains.{ChainView}
-use Rattle.vt_words.specs.Plain.{shown_plain}
+use Rattle.vt_store_commands.specs.commands.Plain.{shown_plain, expected_path}
 use Rattle.vt_files.specs.Effects.{folder_state, sink_state, folder_effect, sink_effect}
 use Rattle.vt_command_base.specs.Lines.{end_line}
 use Rattle.vt_store_commands.specs.Pictures.{plain_file}
 use Rattle.vt_files.specs.Expectations.{Writes, Puts}
 use Rattle.vt_files.specs.Pictures.{expected_pictures}
-use Rattle.vt_store_commands.specs.commands.Plain.{expected_path}
 use Rattle.vt_command_base.proofs.Leaving.{unleft, left_writing, left_putting}
 use Rattle.vt_store_commands.proofs.commands.plain.leave_pictures.Goals as goal
 

@@ -2,8 +2,7 @@ use Rattle.std.proofs.Common.{[], ◌∷◌, refl}
 use Rattle.std.proofs.lemmas.Result.{err_from_is_err_and}
 use Rattle.vt_files.specs.Effects.{folder_state, sink_state}
 use Rattle.vt_command_base.specs.Inputs.{PathInput, TextureInput, PathContent, TextureContent}
-use Rattle.vt_words.specs.Plain.{shown_plain}
-use Rattle.vt_store_commands.specs.commands.Plain.{plain_task}
+use Rattle.vt_store_commands.specs.commands.Plain.{shown_plain, plain_task}
 use Rattle.vt_command_base.proofs.Ending.{read_none, read_more, ends_refused, ends_done, ends_stopped}
 use Rattle.vt_store_commands.proofs.commands.plain.plain.Goals as goal
 

@@ -1,4 +1,0 @@
-use Rattle.vt_words.proofs.info.info_values.Goals as goal
-
-pub returns-clause-read : goal.returns-clause-read
-returns-clause-read c = rw (← c.in_ok-store.ensures)

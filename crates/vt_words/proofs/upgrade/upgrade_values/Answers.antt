@@ -1,7 +1,0 @@
-use Rattle.vt_words.proofs.upgrade.upgrade_values.Goals as goal
-
-pub returns-then-eq-clause-read : goal.returns-then-eq-clause-read
-returns-then-eq-clause-read c = rw (← c.in_ok-store.ensures, ← c.in_ok-new_store.ensures, ← c.eq.ensures, c.if-eq.true)
-
-pub returns-clause-read : goal.returns-clause-read
-returns-clause-read c = rw (← c.in_ok-store.ensures, ← c.in_ok-new_store.ensures, ← c.eq.ensures, c.if-eq.false)
