@@ -24,7 +24,7 @@ use Rattle.vt_machine.specs.Machines.{told_by}
 use Rattle.vt_machine.specs.Passes.{MapsRoot, MayPlace, IsJobFor, IsUntouched, IsSpent}
 use Rattle.vt_noted.specs.Stored.{AreStored}
 use Rattle.vt_noted.proofs.Growing.{stored_grow}
-use Rattle.vt_word_workers.specs.declared.workers.WordSampler.{WordSampler}
+use Rattle.vt_word_workers.specs.WordSamplers.{WordSampler}
 use Rattle.vt_word_workers.specs.declared.workers.WordStreamer.{WordStreamer}
 use Rattle.vt_word_workers.specs.WordTasks.{MayDraw}
 use Rattle.vt_pass.specs.Placed.{HasPlaced}

@@ -14,7 +14,7 @@ use Rattle.vt_workers.specs.All.{AllDid}
 use Rattle.vt_machine.specs.declared.crew.PassReport.{PassReport}
 use Rattle.vt_machine.specs.Drawings.{drawing_of}
 use Rattle.vt_machine.specs.Passes.{MapsRoot, IsJobFor, IsUntouched}
-use Rattle.vt_word_workers.specs.declared.workers.WordSampler.{WordSampler}
+use Rattle.vt_word_workers.specs.WordSamplers.{WordSampler}
 use Rattle.vt_word_workers.specs.declared.workers.WordStreamer.{WordStreamer}
 use Rattle.vt_word_workers.specs.WordTasks.{HasDrawn, HasFed}
 use Rattle.vt_word_workers.specs.GivenPasses.{HasGiven}

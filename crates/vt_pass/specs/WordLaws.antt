@@ -22,7 +22,7 @@ use Rattle.vt_machine.specs.Machines.{MachineState, files_of, told_by}
 use Rattle.vt_machine.specs.Passes.{IsJobFor, IsUntouched, Ran, Broke, Ends}
 use Rattle.vt_requests.specs.BatchRounds.{Begun as Round}
 use Rattle.vt_requests.specs.Sizes.{AreSized}
-use Rattle.vt_word_workers.specs.declared.workers.WordSampler.{WordSampler}
+use Rattle.vt_word_workers.specs.WordSamplers.{WordSampler}
 use Rattle.vt_word_workers.specs.declared.workers.WordStreamer.{WordStreamer}
 use Rattle.vt_word_workers.specs.WordTasks.{HasDrawn, HasFed}
 use Rattle.vt_word_workers.specs.RoundKits.{IsDealt}

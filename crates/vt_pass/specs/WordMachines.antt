@@ -14,7 +14,7 @@ use Rattle.vt_machine.specs.declared.crew.PassReport.{PassReport}
 use Rattle.vt_machine.specs.Drawings.{drawing_of}
 use Rattle.vt_machine.specs.Machines.{MachineState}
 use Rattle.vt_machine.specs.Passes.{Ends}
-use Rattle.vt_word_workers.specs.declared.workers.WordSampler.{WordSampler}
+use Rattle.vt_word_workers.specs.WordSamplers.{WordSampler}
 use Rattle.vt_word_workers.specs.declared.workers.WordStreamer.{WordStreamer}
 use Rattle.vt_word_workers.specs.Kits.{KitView, kit_state, IsIdleKit, IsReadyKit}
 use Rattle.vt_word_workers.specs.KitPasses.{kit_drawn, AreOut, Begun, kit_before, MayFinish}

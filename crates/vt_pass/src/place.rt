@@ -54,7 +54,7 @@ fn publish_at_once(words: &Words, streamer: &mut Streamer, change: Change)
 
 /// Fills a free frame with the tile of an unmapped page, and maps the page to it, while no sampler has a pass. After a
 /// refusal nothing changed.
-pub(crate) fn place_page(
+pub fn place_page(
     words: &Words,
     streamer: &mut Streamer,
     page: u32,

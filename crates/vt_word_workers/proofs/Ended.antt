@@ -30,7 +30,7 @@ use Rattle.vt_noted.specs.Noted.{IsNotedBy}
 use Rattle.vt_loaders.specs.declared.queued.Queues.{Queues}
 use Rattle.vt_loaders.specs.QueuedLoaders.{QueuedView}
 use Rattle.vt_workers.specs.Jobs.{Job}
-use Rattle.vt_word_workers.specs.declared.workers.WordSampler.{WordSampler}
+use Rattle.vt_word_workers.specs.WordSamplers.{WordSampler}
 use Rattle.vt_word_workers.specs.declared.workers.WordStreamer.{WordStreamer}
 use Rattle.vt_word_workers.specs.GivenPasses.{HasNewPass, ArePassesOf, all_returned, without_pass, without_passes}
 use Rattle.vt_word_workers.specs.WordTasks.{HasDrawn}

@@ -47,7 +47,7 @@ use Rattle.vt_streaming.specs.Made.{HasStreamed, results_contents}
 use Rattle.vt_noted.specs.Stored.{AreStored}
 use Rattle.vt_noted.proofs.Growing.{stored_grow}
 use Rattle.vt_noted.proofs.Replayed.{picture_replayed}
-use Rattle.vt_word_workers.specs.declared.workers.WordSampler.{WordSampler}
+use Rattle.vt_word_workers.specs.WordSamplers.{WordSampler}
 use Rattle.vt_word_workers.specs.declared.workers.WordStreamer.{WordStreamer}
 use Rattle.vt_word_workers.specs.GivenPasses.{all_returned, without_passes}
 use Rattle.vt_word_workers.specs.RoundKits.{RoundKitView}

@@ -24,7 +24,7 @@ use Rattle.vt_workers.specs.Jobs.{Job}
 use Rattle.vt_workers.proofs.Lent.{refilled}
 use Rattle.vt_machine.specs.declared.crew.PassReport.{PassReport}
 use Rattle.vt_requests.specs.Sizes.{AreSized}
-use Rattle.vt_word_workers.specs.declared.workers.WordSampler.{WordSampler}
+use Rattle.vt_word_workers.specs.WordSamplers.{WordSampler}
 use Rattle.vt_word_workers.specs.declared.workers.WordStreamer.{WordStreamer}
 use Rattle.vt_word_workers.specs.GivenPasses.{all_returned, without_pass, without_passes}
 use Rattle.vt_word_workers.specs.RoundKits.{RoundKitView}

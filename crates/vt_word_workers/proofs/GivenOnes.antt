@@ -17,22 +17,23 @@ use Rattle.vt_queue.specs.declared.queue.QueuePass.{QueuePass}
 use Rattle.vt_queue.specs.declared.items.Loaded.{Loaded}
 use Rattle.vt_loaders.specs.declared.queued.Queues.{Queues}
 use Rattle.vt_streaming.specs.declared.report.StreamReport.{StreamReport}
-use Rattle.vt_word_workers.specs.declared.workers.WordSampler.{WordSampler}
+use Rattle.vt_word_workers.specs.declared.workers.WithPass.{WithPass}
+use Rattle.vt_word_workers.specs.WordSamplers.{WordSampler}
 use Rattle.vt_word_workers.specs.GivenPasses.{HasNewPass, HaveNewPasses, HasGiven, AreSameSamplers}
 use Rattle.vt_word_workers.specs.Kits.{KitView, IsSamplerOf, AreSamplersOf, IsAskedKit, IsReadyKit}
 
-pub same_samplers : (tasks : List WordSampler) → AreSameSamplers tasks tasks
+pub same_samplers : {W : Type 0} → (tasks : List (WithPass W)) → AreSameSamplers tasks tasks
 same_samplers tasks = record { number = refl; each = λ n d inside. refl }
 
-module _ (words : WordsValue) (v : WriterView) where
+module _ {W : Type 0} (words : WordsValue) (v : WriterView) where
   -- the first of some samplers were given their passes
-  pub record HaveGiven (n : ℕ) (w : WriterView) (before after : List WordSampler) : Type 0 where
+  pub record HaveGiven (n : ℕ) (w : WriterView) (before after : List (WithPass W)) : Type 0 where
     pub given : HasGiven v w
     pub later : (k : ℕ) → n ≤ k → is_out w k ≡ false
     pub same : AreSameSamplers before after
-    pub first : (k : ℕ) (d : WordSampler) → k < n → HasNewPass words v k (get_or after k d)
+    pub first : (k : ℕ) (d : WithPass W) → k < n → HasNewPass words v k (get_or after k d)
 
-  pub given_none : (tasks : List WordSampler) → ((k : ℕ) → is_out v k ≡ false) → HaveGiven 0 v tasks tasks
+  pub given_none : (tasks : List (WithPass W)) → ((k : ℕ) → is_out v k ≡ false) → HaveGiven 0 v tasks tasks
   given_none tasks absent = record {
     given = record { rest = refl };
     later = λ k low. absent k;
@@ -40,7 +41,7 @@ module _ (words : WordsValue) (v : WriterView) where
     first = λ k d none. absurd (omega (arith, none));
   }
 
-  pub given_more : (n : ℕ) (w : WriterView) (before after : List WordSampler) (now : WordSampler) (pass : PassValue) → HaveGiven n w before after
+  pub given_more : (n : ℕ) (w : WriterView) (before after : List (WithPass W)) (now : WithPass W) (pass : PassValue) → HaveGiven n w before after
       → n < length after → now.sampler ≡ (get_or after n now).sampler → now.pass ≡ Some pass → IsPassOf words pass → pass.view ≡ new_pass w n
       → HaveGiven (n + 1) (after_giving (after_look w n 0) n) before (slice_set after n now)
   given_more n w before after now pass h inside sampler has of view = record {
@@ -60,8 +61,8 @@ module _ (words : WordsValue) (v : WriterView) where
           let number = h.same.number in
           let here : get_or (slice_set after n now) k d ≡ now = ap (λ i. get_or (slice_set after n now) i d) same ∙ get_or-set_same after n now d inside in
           let was : get_or after n now ≡ get_or after k d = get_or_default after n now d inside ∙ ap (λ i. get_or after i d) (sym same) in
-          ap (λ (t : WordSampler). t.sampler) here ∙ sampler ∙ ap (λ (t : WordSampler). t.sampler) was ∙ h.same.each k d low)
-          (λ (other : k ≢ n). ap (λ (t : WordSampler). t.sampler) (get_or-set_other after n k now d other) ∙ h.same.each k d low)
+          ap (λ (t : WithPass _). t.sampler) here ∙ sampler ∙ ap (λ (t : WithPass _). t.sampler) was ∙ h.same.each k d low)
+          (λ (other : k ≢ n). ap (λ (t : WithPass _). t.sampler) (get_or-set_other after n k now d other) ∙ h.same.each k d low)
           (cases_eq k n);
     };
     first = λ k d low. ⊎_elim
@@ -74,7 +75,7 @@ module _ (words : WordsValue) (v : WriterView) where
     new : HasNewPass words v n now
     new = record { pass = pass; has = has; of = of; view = view ∙ ap (λ (x : WriterView). new_pass x n) h.given.rest }
 
-  pub given_all : (n : ℕ) (w : WriterView) (before after : List WordSampler) → HaveGiven n w before after → length after ≤ n
+  pub given_all : (n : ℕ) (w : WriterView) (before after : List (WithPass W)) → HaveGiven n w before after → length after ≤ n
       → HaveNewPasses words v after
   given_all n w before after h all k task is =
       let low = slice_get_within after k task is in

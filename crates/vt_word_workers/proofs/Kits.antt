@@ -22,7 +22,7 @@ use Rattle.vt_lookup.specs.Notes.{Fits}
 use Rattle.vt_machine.specs.Machines.{told_by, AreStoresFor}
 use Rattle.vt_camera.specs.Paths.{PathView}
 use Rattle.vt_loaders.specs.declared.queued.Queues.{Queues}
-use Rattle.vt_word_workers.specs.declared.workers.WordSampler.{WordSampler}
+use Rattle.vt_word_workers.specs.WordSamplers.{WordSampler}
 use Rattle.vt_workers.specs.Jobs.{Job}
 use Rattle.vt_workers.specs.All.{AllReady}
 use Rattle.vt_word_workers.specs.declared.workers.WordStreamer.{WordStreamer}

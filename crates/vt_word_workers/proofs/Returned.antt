@@ -12,7 +12,7 @@ use Rattle.vt_grace.specs.Values.{PassValue}
 use Rattle.vt_lookup.specs.Notes.{IsNotedIn}
 use Rattle.vt_noted.specs.Noted.{IsAmong, IsNotedBy, HasNoted, HasNotesOf}
 use Rattle.vt_noted.proofs.Handed.{noted_by, notes_alike, pass_noted, notes_stay, noted_onward}
-use Rattle.vt_word_workers.specs.declared.workers.WordSampler.{WordSampler}
+use Rattle.vt_word_workers.specs.declared.workers.WithPass.{WithPass}
 use Rattle.vt_word_workers.specs.GivenPasses.{after_pass, all_returned}
 
 -- what holds of each element of a list holds of one that it contains
@@ -24,7 +24,7 @@ journal_once : (w : WriterView) (o : Option PassValue) → (after_pass w o).jour
 journal_once w None = refl
 journal_once w (Some pass) = refl
 
-pub journal_stays : (w : WriterView) (tasks : List WordSampler) → (all_returned w tasks).journal ≡ w.journal
+pub journal_stays : {W : Type 0} → (w : WriterView) (tasks : List (WithPass W)) → (all_returned w tasks).journal ≡ w.journal
 journal_stays w [] = refl
 journal_stays w (t ∷ ts) = journal_stays (after_pass w t.pass) ts ∙ journal_once w t.pass
 
@@ -32,7 +32,7 @@ contents_once : (w : WriterView) (o : Option PassValue) → (after_pass w o).con
 contents_once w None = refl
 contents_once w (Some pass) = refl
 
-pub contents_stay : (w : WriterView) (tasks : List WordSampler) → (all_returned w tasks).contents ≡ w.contents
+pub contents_stay : {W : Type 0} → (w : WriterView) (tasks : List (WithPass W)) → (all_returned w tasks).contents ≡ w.contents
 contents_stay w [] = refl
 contents_stay w (t ∷ ts) = contents_stay (after_pass w t.pass) ts ∙ contents_once w t.pass
 
@@ -41,7 +41,7 @@ notes_once : (w : WriterView) (o : Option PassValue) → HasNotesOf (after_pass 
 notes_once w None = notes_alike w w refl refl
 notes_once w (Some pass) = notes_stay w pass.view
 
-notes_kept : (w : WriterView) (tasks : List WordSampler) → HasNotesOf (all_returned w tasks) w
+notes_kept : {W : Type 0} → (w : WriterView) (tasks : List (WithPass W)) → HasNotesOf (all_returned w tasks) w
 notes_kept w [] = notes_alike w w refl refl
 notes_kept w (t ∷ ts) = noted_onward (after_pass w t.pass) (all_returned (after_pass w t.pass) ts) w.notes w.word_notes (notes_once w t.pass)
     (notes_kept (after_pass w t.pass) ts)
@@ -55,11 +55,11 @@ pub record WasReturned (w : WriterView) (p : PassView) : Type 0 where
   pub noted : HasNoted w p.notes p.word_notes
   pub returned : Contains w.returned (return_of p)
 
-noted_back : (w : WriterView) (tasks : List WordSampler) (n : ℕ) (task : WordSampler) (pass : PassValue) → slice_get tasks n ≡ Some task
+noted_back : {W : Type 0} → (w : WriterView) (tasks : List (WithPass W)) (n : ℕ) (task : WithPass W) (pass : PassValue) → slice_get tasks n ≡ Some task
     → task.pass ≡ Some pass → HasNoted (all_returned w tasks) pass.view.notes pass.view.word_notes
 noted_back w [] n task pass is has = absurd (none-some task is)
 noted_back w (t ∷ ts) zero task pass is has =
-    let same : t.pass ≡ Some pass = ap (λ (x : WordSampler). x.pass) (same_Some t task is) ∙ has in
+    let same : t.pass ≡ Some pass = ap (λ (x : WithPass _). x.pass) (same_Some t task is) ∙ has in
     noted_onward (after_pass w t.pass) (all_returned (after_pass w t.pass) ts) pass.view.notes pass.view.word_notes
     (subst (λ (o : Option PassValue). HasNoted (after_pass w o) pass.view.notes pass.view.word_notes) (sym same) (pass_noted w pass.view))
     (notes_kept (after_pass w t.pass) ts)
@@ -75,25 +75,25 @@ unfolding once
 one_back w None = refl
 one_back w (Some pass) = refl
 
-pub record HaveReturned (w : WriterView) (tasks : List WordSampler) : Type 0 where
+pub record HaveReturned {W : Type 0} (w : WriterView) (tasks : List (WithPass W)) : Type 0 where
   pub more : List Returned
   pub returned : (all_returned w tasks).returned ≡ more ++ w.returned
-  pub each : (n : ℕ) (task : WordSampler) (pass : PassValue) → slice_get tasks n ≡ Some task → task.pass ≡ Some pass → Contains more (return_of pass.view)
+  pub each : (n : ℕ) (task : WithPass W) (pass : PassValue) → slice_get tasks n ≡ Some task → task.pass ≡ Some pass → Contains more (return_of pass.view)
 
 first : (o : Option PassValue) (pass : PassValue) → o ≡ Some pass → Contains (once o) (return_of pass.view)
 unfolding once
 first o pass has = subst (λ p. Contains (once p) (return_of pass.view)) (sym has) (0, omega arith, refl)
 
-each_of : (t : WordSampler) (ts : List WordSampler) (one more : List Returned)
+each_of : {W : Type 0} → (t : WithPass W) (ts : List (WithPass W)) (one more : List Returned)
     → ((pass : PassValue) → t.pass ≡ Some pass → Contains one (return_of pass.view))
-    → ((n : ℕ) (task : WordSampler) (pass : PassValue) → slice_get ts n ≡ Some task → task.pass ≡ Some pass → Contains more (return_of pass.view))
-    → (n : ℕ) (task : WordSampler) (pass : PassValue) → slice_get (t ∷ ts) n ≡ Some task → task.pass ≡ Some pass
+    → ((n : ℕ) (task : WithPass W) (pass : PassValue) → slice_get ts n ≡ Some task → task.pass ≡ Some pass → Contains more (return_of pass.view))
+    → (n : ℕ) (task : WithPass W) (pass : PassValue) → slice_get (t ∷ ts) n ≡ Some task → task.pass ≡ Some pass
     → Contains (more ++ one) (return_of pass.view)
 each_of t ts one more now later zero task pass is has =
-    Contains-append_right more one (return_of pass.view) (now pass (ap (λ (x : WordSampler). x.pass) (same_Some t task is) ∙ has))
+    Contains-append_right more one (return_of pass.view) (now pass (ap (λ (x : WithPass _). x.pass) (same_Some t task is) ∙ has))
 each_of t ts one more now later (suc n) task pass is has = Contains-append_left more one (return_of pass.view) (later n task pass is has)
 
-pub have_returned : (w : WriterView) (tasks : List WordSampler) → HaveReturned w tasks
+pub have_returned : {W : Type 0} → (w : WriterView) (tasks : List (WithPass W)) → HaveReturned w tasks
 have_returned w [] = record { more = []; returned = refl; each = λ n task pass is has. absurd (none-some task is) }
 have_returned w (t ∷ ts) =
     let rest = have_returned (after_pass w t.pass) ts in
@@ -103,7 +103,7 @@ have_returned w (t ∷ ts) =
       each = each_of t ts (once t.pass) rest.more (λ pass has. first t.pass pass has) rest.each;
     }
 
-pub was_returned : (w : WriterView) (tasks : List WordSampler) (n : ℕ) (task : WordSampler) (pass : PassValue) → slice_get tasks n ≡ Some task
+pub was_returned : {W : Type 0} → (w : WriterView) (tasks : List (WithPass W)) (n : ℕ) (task : WithPass W) (pass : PassValue) → slice_get tasks n ≡ Some task
     → task.pass ≡ Some pass → WasReturned (all_returned w tasks) pass.view
 was_returned w tasks n task pass is has = let all = have_returned w tasks in record {
   noted = noted_back w tasks n task pass is has;
@@ -136,15 +136,15 @@ in_once : (w : WriterView) (o : Option PassValue) (n : ℕ) → is_out w n ≡ f
 in_once w None n h = h
 in_once w (Some pass) n h = set_in w.out pass.view.sampler n h
 
-stays_in : (w : WriterView) (tasks : List WordSampler) (n : ℕ) → is_out w n ≡ false → is_out (all_returned w tasks) n ≡ false
+stays_in : {W : Type 0} → (w : WriterView) (tasks : List (WithPass W)) (n : ℕ) → is_out w n ≡ false → is_out (all_returned w tasks) n ≡ false
 stays_in w [] n h = h
 stays_in w (t ∷ ts) n h = stays_in (after_pass w t.pass) ts n (in_once w t.pass n h)
 
-comes_in : (w : WriterView) (tasks : List WordSampler) (n : ℕ) (task : WordSampler) (pass : PassValue) → slice_get tasks n ≡ Some task
+comes_in : {W : Type 0} → (w : WriterView) (tasks : List (WithPass W)) (n : ℕ) (task : WithPass W) (pass : PassValue) → slice_get tasks n ≡ Some task
     → task.pass ≡ Some pass → is_out (all_returned w tasks) pass.view.sampler ≡ false
 comes_in w [] n task pass is has = absurd (none-some task is)
 comes_in w (t ∷ ts) zero task pass is has =
-    let same : t.pass ≡ Some pass = ap (λ (x : WordSampler). x.pass) (same_Some t task is) ∙ has in
+    let same : t.pass ≡ Some pass = ap (λ (x : WithPass _). x.pass) (same_Some t task is) ∙ has in
     stays_in (after_pass w t.pass) ts pass.view.sampler
     (subst (λ (o : Option PassValue). is_out (after_pass w o) pass.view.sampler ≡ false) (sym same) (set_here w.out pass.view.sampler))
 comes_in w (t ∷ ts) (suc n) task pass is has = comes_in (after_pass w t.pass) ts n task pass is has
@@ -155,14 +155,14 @@ past_end (b ∷ l) zero le = absurd (omega (arith, le))
 past_end (b ∷ l) (suc n) le = past_end l n (omega (arith, le))
 
 -- the pass of a sampler is there, and is its own
-pub record HasOwnPass (number : ℕ) (task : WordSampler) : Type 0 where
+pub record HasOwnPass {W : Type 0} (number : ℕ) (task : WithPass W) : Type 0 where
   pub pass : PassValue
   pub has : task.pass ≡ Some pass
   pub own : pass.view.sampler ≡ number
 
 -- where each of as many samplers as there are has its own pass, none has one after
-pub none_out : (w : WriterView) (tasks : List WordSampler) → length (all_returned w tasks).out ≤ length tasks
-    → ((n : ℕ) (task : WordSampler) → slice_get tasks n ≡ Some task → HasOwnPass n task) → (n : ℕ) → is_out (all_returned w tasks) n ≡ false
+pub none_out : {W : Type 0} → (w : WriterView) (tasks : List (WithPass W)) → length (all_returned w tasks).out ≤ length tasks
+    → ((n : ℕ) (task : WithPass W) → slice_get tasks n ≡ Some task → HasOwnPass n task) → (n : ℕ) → is_out (all_returned w tasks) n ≡ false
 none_out w tasks few own n = elim ((slice_get_cases tasks n).1) [
   | inl at ↦ let its = own n at.0 at.2 in
       subst (λ m. is_out (all_returned w tasks) m ≡ false) its.own (comes_in w tasks n at.0 its.pass at.2 its.has)

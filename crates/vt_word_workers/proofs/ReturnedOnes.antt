@@ -4,20 +4,20 @@ use Rattle.std.specs.Prelude.{slice_set}
 use Rattle.std.proofs.lemmas.List.{take_more, length-map, length-append, length-drop, length-take-le, get_or-drop, get_or-append_right, get_or_default}
 use Rattle.std.proofs.lemmas.List.Edits.{map_over_more}
 use Rattle.vt_grace.specs.declared.views.WriterView.{WriterView}
-use Rattle.vt_word_workers.specs.declared.workers.WordSampler.{WordSampler}
+use Rattle.vt_word_workers.specs.declared.workers.WithPass.{WithPass}
 use Rattle.vt_streamer.specs.Views.{StreamerView}
 use Rattle.vt_word_workers.specs.GivenPasses.{after_pass, all_returned, without_pass}
 
-pub returned_append : (w : WriterView) (xs ys : List WordSampler) → all_returned w (xs ++ ys) ≡ all_returned (all_returned w xs) ys
+pub returned_append : {W : Type 0} → (w : WriterView) (xs ys : List (WithPass W)) → all_returned w (xs ++ ys) ≡ all_returned (all_returned w xs) ys
 returned_append w [] ys = refl
 returned_append w (x ∷ xs) ys = returned_append (after_pass w x.pass) xs ys
 
 -- one pass more
-pub returned_more : (w : WriterView) (tasks : List WordSampler) (i : ℕ) (d : WordSampler) → i < length tasks
+pub returned_more : {W : Type 0} → (w : WriterView) (tasks : List (WithPass W)) (i : ℕ) (d : WithPass W) → i < length tasks
     → all_returned w (take (i + 1) tasks) ≡ after_pass (all_returned w (take i tasks)) (get_or tasks i d).pass
 returned_more w tasks i d inside = ap (all_returned w) (take_more tasks i d inside) ∙ returned_append w (take i tasks) (get_or tasks i d ∷ [])
 
-module _ (xs ys : List WordSampler) (i : ℕ) (d : WordSampler) (inside : i < length xs) (are : ys ≡ map without_pass (take i xs) ++ drop i xs) where
+module _ {W : Type 0} (xs ys : List (WithPass W)) (i : ℕ) (d : WithPass W) (inside : i < length xs) (are : ys ≡ map without_pass (take i xs) ++ drop i xs) where
   -- the sampler that is next is as it was
   next_is : get_or ys i d ≡ get_or xs i d
   next_is =
@@ -37,5 +37,5 @@ module _ (xs ys : List WordSampler) (i : ℕ) (d : WordSampler) (inside : i < le
   pub returned_step : (s t : StreamerView) → t ≡ record s { writer = all_returned s.writer (take i xs) }
       → record t { writer = after_pass t.writer (get_or ys i d).pass } ≡ record s { writer = all_returned s.writer (take (i + 1) xs) }
   returned_step s t e = ap (λ (x : StreamerView). record x { writer = after_pass x.writer (get_or ys i d).pass }) e
-      ∙ ap (λ (w : WriterView). record s { writer = w }) (ap (λ (x : WordSampler). after_pass (all_returned s.writer (take i xs)) x.pass) next_is
+      ∙ ap (λ (w : WriterView). record s { writer = w }) (ap (λ (x : WithPass _). after_pass (all_returned s.writer (take i xs)) x.pass) next_is
       ∙ sym (returned_more s.writer xs i d inside))

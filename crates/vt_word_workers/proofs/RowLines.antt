@@ -15,7 +15,7 @@ use Rattle.vt_journal.specs.declared.changes.RowLine.{RowLine}
 use Rattle.vt_sampler.specs.Samplers.{own_rows}
 use Rattle.vt_sampler.proofs.Sharing.{rows_shared}
 use Rattle.vt_machine.specs.RowOrders.{AreRowsInOrder}
-use Rattle.vt_word_workers.specs.declared.workers.WordSampler.{WordSampler}
+use Rattle.vt_word_workers.specs.WordSamplers.{WordSampler}
 use Rattle.vt_word_workers.specs.Kits.{version_by, line_of, lines_of, counted_together}
 
 -- what stands at a place of a list that is made place by place

@@ -25,7 +25,7 @@ use Rattle.vt_machine.specs.Passes.{IsJobFor, Ran}
 use Rattle.vt_requests.specs.BatchRounds.{Begun as Round, IsEndedRound}
 use Rattle.vt_requests.specs.Sizes.{AreSized}
 use Rattle.vt_noted.specs.Noted.{IsNotedBy}
-use Rattle.vt_word_workers.specs.declared.workers.WordSampler.{WordSampler}
+use Rattle.vt_word_workers.specs.WordSamplers.{WordSampler}
 use Rattle.vt_word_workers.specs.declared.workers.WordStreamer.{WordStreamer}
 use Rattle.vt_word_workers.specs.WordTasks.{HasDrawn, HasFed}
 use Rattle.vt_word_workers.specs.RoundKits.{IsDealt}

@@ -25,7 +25,7 @@ use Rattle.vt_loaders.specs.declared.queued.Queues.{Queues}
 use Rattle.vt_requests.specs.Sizes.{AreSized}
 use Rattle.vt_streaming.specs.Reports.{IsBlank}
 use Rattle.vt_noted.specs.Stored.{AreStored}
-use Rattle.vt_word_workers.specs.declared.workers.WordSampler.{WordSampler}
+use Rattle.vt_word_workers.specs.WordSamplers.{WordSampler}
 use Rattle.vt_word_workers.specs.declared.workers.WordStreamer.{WordStreamer}
 use Rattle.vt_word_workers.specs.RoundKits.{RoundKitView, IsSetUp, IsAsked}
 use Rattle.vt_word_workers.specs.GivenPasses.{HaveNewPasses}

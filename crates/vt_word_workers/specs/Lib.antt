@@ -1,3 +1,4 @@
+pub mod WordSamplers
 pub mod WordTasks
 pub mod RoundKits
 pub mod GivenPasses

@@ -19,7 +19,7 @@ use Rattle.vt_streamer.specs.Views.{IsStreamerOf}
 use Rattle.vt_streaming.specs.Made.{HasStreamed}
 use Rattle.vt_streaming.specs.Streams.{Streams}
 use Rattle.vt_streaming.specs.Reports.{IsBlank}
-use Rattle.vt_word_workers.specs.declared.workers.WordSampler.{WordSampler}
+use Rattle.vt_word_workers.specs.WordSamplers.{WordSampler}
 use Rattle.vt_word_workers.specs.declared.workers.WordStreamer.{WordStreamer}
 
 -- a sampler may draw a picture of a scene over words: it is made for it, and has a pass that was given at a version that maps the root

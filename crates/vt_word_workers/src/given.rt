@@ -6,13 +6,13 @@ ghost use Rattle.vt_grace.specs.Tokens.{IsPassOf};
 ghost use Rattle.vt_streamer.specs.Views.{IsStreamerOf};
 ghost use Rattle.vt_word_workers.specs.GivenPasses.{HaveNewPasses, HasGiven, AreSameSamplers, ArePassesOf, after_pass, all_returned, without_passes};
 
-use crate::workers::WordSampler;
+use crate::workers::WithPass;
 use std::mem;
 use vt_grace::Words;
 use vt_streamer::Streamer;
 
 /// Gives each sampler its pass. None has one.
-pub(crate) fn give_passes(words: &Words, streamer: &mut Streamer, tasks: &mut [WordSampler])
+pub fn give_passes<W>(words: &Words, streamer: &mut Streamer, tasks: &mut [WithPass<W>])
     requires of { IsStreamerOf words.now streamer.old }
     requires count { length tasks.old ≡ words.now.sizes.samplers }
     requires absent { (n : ℕ) → is_out streamer.old.writer n ≡ false }
@@ -28,7 +28,7 @@ pub(crate) fn give_passes(words: &Words, streamer: &mut Streamer, tasks: &mut [W
 }
 
 // Takes the pass of a sampler back, if it has one.
-fn return_pass(words: &Words, streamer: &mut Streamer, task: &mut WordSampler)
+fn return_pass<W>(words: &Words, streamer: &mut Streamer, task: &mut WithPass<W>)
     requires of { IsStreamerOf words.now streamer.old }
     requires pass { IfSome task.old.pass (IsPassOf words.now) }
     ensures of { IsStreamerOf words.now streamer.new }
@@ -43,7 +43,7 @@ fn return_pass(words: &Words, streamer: &mut Streamer, task: &mut WordSampler)
 }
 
 /// Takes the passes of samplers back.
-pub(crate) fn return_passes(words: &Words, streamer: &mut Streamer, tasks: &mut [WordSampler])
+pub fn return_passes<W>(words: &Words, streamer: &mut Streamer, tasks: &mut [WithPass<W>])
     requires of { IsStreamerOf words.now streamer.old }
     requires passes { ArePassesOf words.now tasks.old }
     ensures of { IsStreamerOf words.now streamer.new }

@@ -29,7 +29,7 @@ use crate::given::{give_passes, return_passes};
 use crate::room::{reserve_reads, with_room};
 use crate::round::{RoundKit, blank_report};
 use crate::told::{count_together, note_lines};
-use crate::workers::WordSampler;
+use crate::workers::{WithPass, WordSampler};
 use std::alloc::Global;
 use std::marker::Model;
 use std::mem;
@@ -107,7 +107,7 @@ fn samplers_for(
     samplers.reserve(u64::from(count))?;
     for number in 0..count {
         let sampler = Sampler::new(alloc, number, count, path, geometry, depth)?;
-        samplers.push(WordSampler {
+        samplers.push(WithPass {
             sampler,
             pass: None,
         });

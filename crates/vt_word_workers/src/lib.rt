@@ -12,8 +12,12 @@ mod tasks;
 mod told;
 mod workers;
 
+pub use given::{give_passes, return_passes};
 pub use kit::WordKit;
 pub use lent::LentShared;
 pub use parts::new_parts;
+pub use room::{reserve_reads, with_room};
+pub use round::{RoundKit, blank_report, new_queues};
 pub use shared::WordShared;
-pub use workers::{WordSampler, WordStreamer};
+pub use tasks::stream_own;
+pub use workers::{WithPass, WordSampler, WordStreamer};

@@ -59,7 +59,7 @@ impl<F: File> Model for RoundKit<F> {
 }
 
 /// New queues with room for so many items, and their passes.
-pub(crate) fn new_queues(
+pub fn new_queues(
     alloc: Global,
     capacity: u32,
 ) -> Result<(Queues, QueuePass<Request>, QueuePass<Loaded>), NoMemory>
@@ -85,7 +85,7 @@ fn none_of(alloc: Global, entries: u64) -> Result<Losses, NoMemory>
 }
 
 /// What streaming so many entries is to tell: nothing yet.
-pub(crate) fn blank_report(alloc: Global, entries: u64) -> Result<StreamReport, NoMemory>
+pub fn blank_report(alloc: Global, entries: u64) -> Result<StreamReport, NoMemory>
     requires few { entries ≤ most_entries }
     ensures blank { IfOk result (IsBlank entries) }
     ensures no_events { IfOk result (λ report. report.events.elements ≡ []) }
@@ -125,7 +125,7 @@ fn make_buffers(
 
 impl<F: File> RoundKit<F> {
     /// The kit with this pass of requests, which has no buffers.
-    pub(crate) fn new(alloc: Global, asks: QueuePass<Request>) -> RoundKit<F>
+    pub fn new(alloc: Global, asks: QueuePass<Request>) -> RoundKit<F>
         ensures { result.buffers.elements ≡ [] }
     {
         RoundKit {
@@ -138,7 +138,7 @@ impl<F: File> RoundKit<F> {
     }
 
     /// Ends the kit.
-    pub(crate) fn end(self) {
+    pub fn end(self) {
         let RoundKit {
             alloc: _,
             asks: _,
@@ -179,7 +179,7 @@ impl<F: File> RoundKit<F> {
     }
 
     /// Makes new queues, and room for all that a batch of so many entries needs later. The buffers have a tile's length.
-    pub(crate) fn prepare(
+    pub fn prepare(
         &mut self,
         queues: &mut Queues,
         answers: &mut QueuePass<Loaded>,
@@ -196,7 +196,7 @@ impl<F: File> RoundKit<F> {
     }
 
     /// Puts a request for each entry of a batch into the queues, which are new.
-    pub(crate) fn ask<Rt: Threads + Wait>(&mut self, rt: &Rt, queues: &Queues, batch: &[Planned])
+    pub fn ask<Rt: Threads + Wait>(&mut self, rt: &Rt, queues: &Queues, batch: &[Planned])
         requires of { IsOf queues.now.requests self.old.asks }
         requires new { view_of self.old.asks ≡ first_view }
         requires room { length batch.now ≤ capacity_of queues.now.requests }
@@ -216,7 +216,7 @@ impl<F: File> RoundKit<F> {
     }
 
     /// Makes a loader of each store, with its passes of the queues.
-    pub(crate) fn deal(
+    pub fn deal(
         &mut self,
         queues: &Queues,
         answers: &mut QueuePass<Loaded>,
@@ -247,7 +247,7 @@ impl<F: File> RoundKit<F> {
 
     /// Makes the passes of loaders that have ended one with those of the requests and of the results, and hands their
     /// stores back.
-    pub(crate) fn end_round(
+    pub fn end_round(
         &mut self,
         queues: &Queues,
         answers: &mut QueuePass<Loaded>,
@@ -270,7 +270,7 @@ impl<F: File> RoundKit<F> {
     }
 
     /// Has the buffers of results back, of which none is left.
-    pub(crate) fn keep(&mut self, results: &mut Items<Loaded>)
+    pub fn keep(&mut self, results: &mut Items<Loaded>)
         requires { length results.old.elements ≤ self.old.buffers.spare }
         ensures none { results.new.elements ≡ [] }
         ensures count { length self.new.buffers.elements

@@ -35,8 +35,8 @@ pub(crate) fn draw_own<P: Filter, G: Gate>(
     }
 }
 
-// Lets the streamer stream the batch.
-pub(crate) fn stream_own<Rt: Threads + Wait, G: Gate>(
+/// Lets the streamer stream the batch. It may wait.
+pub fn stream_own<Rt: Threads + Wait, G: Gate>(
     rt: &Rt,
     task: &mut WordStreamer,
     words: &Words,

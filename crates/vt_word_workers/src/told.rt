@@ -2,7 +2,7 @@
 
 ghost use Rattle.std.specs.Prelude.{◌≡◌, ℕ, ◌^◌, ◌<◌, ◌≤◌, [], length, slice_index, slice_index_or};
 ghost use Rattle.vt_pages.specs.Shape.{Shape};
-ghost use Rattle.vt_word_workers.specs.declared.workers.WordSampler.{WordSampler as Task};
+ghost use Rattle.vt_word_workers.specs.WordSamplers.{WordSampler as Task};
 ghost use Rattle.vt_word_workers.specs.Kits.{AreSamplersOf, lines_of, counted_together};
 
 use crate::workers::WordSampler;

@@ -6,14 +6,17 @@ use vt_sampler::Sampler;
 use vt_streamer::Streamer;
 use vt_streaming::StreamReport;
 
-/// A sampler with its pass of the words, which it has while a pass is run.
+/// A sampler of any kind with its pass of the words, which it has while a pass is run.
 #[derive(Drop)]
-pub struct WordSampler {
+pub struct WithPass<W> {
     /// The sampler.
-    pub sampler: Sampler,
+    pub sampler: W,
     /// Its pass.
     pub pass: Option<Pass>,
 }
+
+/// A sampler to which rows are dealt, with its pass of the words.
+pub type WordSampler = WithPass<Sampler>;
 
 /// The streamer of the words, with the pass by which it takes results, and what it tells of the batch.
 #[derive(Drop)]

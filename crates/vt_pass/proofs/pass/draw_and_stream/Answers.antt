@@ -8,7 +8,7 @@ use Rattle.vt_loaders.specs.QueuedLoaders.{QueuedView, MayLoad, HasLoaded}
 use Rattle.vt_workers.specs.All.{AllReady}
 use Rattle.vt_workers.specs.Jobs.{Job, job_of}
 use Rattle.vt_workers.proofs.Lent.{same_number, all_did}
-use Rattle.vt_word_workers.specs.declared.workers.WordSampler.{WordSampler}
+use Rattle.vt_word_workers.specs.WordSamplers.{WordSampler}
 use Rattle.vt_word_workers.specs.declared.workers.WordStreamer.{WordStreamer}
 use Rattle.vt_word_workers.specs.WordTasks.{MayDraw, HasDrawn, HasFed}
 use Rattle.vt_word_workers.proofs.Kits.{may_draw}

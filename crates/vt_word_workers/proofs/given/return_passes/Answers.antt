@@ -4,7 +4,7 @@ use Rattle.vt_word_workers.proofs.ReturnedOnes.{tasks_step, returned_step}
 use Rattle.vt_word_workers.proofs.given.return_passes.Goals as goal
 
 pub loop-i-preserved : goal.loop-i-preserved
-loop-i-preserved c =
+loop-i-preserved g c =
     let i = c.loop-i.i in
     let xs = c.args.tasks.now in
     let ys = c.loop-i.tasks in

@@ -1,6 +1,6 @@
 use Rattle.std.proofs.Common.{◌≡◌, ℕ, ◌<◌, ◌≤◌, ◌^◌, List, length, ap, sym, ◌∙◌, subst}
 use Rattle.std.specs.Prelude.{slice_index_or}
-use Rattle.vt_word_workers.specs.declared.workers.WordSampler.{WordSampler}
+use Rattle.vt_word_workers.specs.WordSamplers.{WordSampler}
 use Rattle.vt_word_workers.specs.Kits.{KitView, AreSamplersOf, lines_of, counted_together}
 use Rattle.vt_word_workers.proofs.Kits.{counts_fit}
 use Rattle.vt_word_workers.proofs.kit.WordKit.tell.Goals as goal

@@ -1,0 +1,216 @@
+-- A pass of the machine whose samplers share rows, by what its loaders and its samplers left.
+use Rattle.std.proofs.Common.{◌≡◌, ℕ, ◌<◌, false, List, [], length, get_or, Some, Ok, sym, ap, ◌∙◌, subst, arith}
+use Rattle.std.specs.Prelude.{slice_get, All, IfSome}
+use Rattle.std.proofs.lemmas.Bool.{false≢true}
+use Rattle.std.proofs.lemmas.List.{length-map, get_or-map}
+use Rattle.std.proofs.lemmas.List.Elements.{All-map}
+use Rattle.std.proofs.lemmas.Option.{slice_get_within, slice_get-get_or, get_or_from_slice_get}
+use Rattle.vt_outside.specs.declared.outside.File.{Ghosts as FileMeanings}
+use Rattle.vt_pages.specs.Shape.{Shape}
+use Rattle.vt_pages.specs.Pages.{pages_of, IsWithinLimits}
+use Rattle.vt_draw.specs.Shots.{shot_row}
+use Rattle.vt_journal.specs.declared.changes.Change.{Change}
+use Rattle.vt_journal.specs.declared.changes.RowLine.{RowLine}
+use Rattle.vt_filter.specs.declared.filters.Filter.{Ghosts as FilterMeanings}
+use Rattle.vt_filter.specs.Evidence.{AreShown}
+use Rattle.vt_filter.specs.FilterLaws.{IsUnder}
+use Rattle.vt_tiles.specs.Format.{stored}
+use Rattle.vt_pictures.specs.Replays.{IsFull, AreReplayed}
+use Rattle.vt_grace.specs.Values.{WordsValue}
+use Rattle.vt_streamer.specs.Views.{StreamerView}
+use Rattle.vt_loaders.specs.declared.queued.Queues.{Queues}
+use Rattle.vt_loaders.specs.QueuedLoaders.{QueuedView}
+use Rattle.vt_workers.specs.Jobs.{Job}
+use Rattle.vt_machine.specs.declared.crew.PassReport.{PassReport}
+use Rattle.vt_machine.specs.RowOrders.{AreRowsInOrder}
+use Rattle.vt_machine.specs.Machines.{told_by}
+use Rattle.vt_machine.specs.Passes.{IsPictured, Ends}
+use Rattle.vt_noted.specs.Noted.{IsNotedBy}
+use Rattle.vt_noted.specs.Stored.{AreStored}
+use Rattle.vt_noted.proofs.Replayed.{picture_replayed}
+use Rattle.vt_word_workers.specs.declared.workers.WordStreamer.{WordStreamer}
+use Rattle.vt_word_workers.proofs.Returned.{journal_stays, contents_stay}
+use Rattle.vt_shared_rows.specs.declared.bag.RowJob.{RowJob}
+use Rattle.vt_shared_rows.specs.declared.bag.RowBag.{RowBag}
+use Rattle.vt_steal.specs.declared.row_kit.RowKit.{RowKit}
+use Rattle.vt_steal.specs.StreamKits.{StreamKitView, stream_before}
+use Rattle.vt_steal.specs.RowTasks.{RowTask}
+use Rattle.vt_steal.specs.RowEnds.{line_of, bytes_of, WasShared}
+use Rattle.vt_steal.specs.SharingMachines.{sharing_of, state_by, drawn_by, Agree, IsIdleSharing, Begun, MayFinish, HasFinished}
+use Rattle.vt_steal.proofs.Lists.{made_of}
+
+module _ {F P : Type 0} (g : FileMeanings F) (filter : FilterMeanings P) (law : IsUnder filter.shown filter.under) (words : WordsValue) (q : Queues)
+    (bag : RowBag) (k l : StreamKitView F) (r s : RowKit) (job : Job) (report : PassReport) (c : List (QueuedView F)) (f : List RowTask)
+    (t d : WordStreamer) (b : Begun F) (may : MayFinish g filter words q bag k r job c f t b)
+    (done : HasFinished g filter words k l r s job report f t.streamer d.streamer b) where
+  abbrev w : StreamerView
+  w = d.streamer
+
+  abbrev start : List Change
+  start = b.stream.streamer.streamer.writer.journal
+
+  jobs : List RowJob
+  jobs = s.drawn.elements
+
+  same_shape : l.shape ≡ k.shape
+  same_shape = ap (λ (x : StreamKitView F). x.shape) done.stream.rest
+
+  same_depth : l.depth ≡ k.depth
+  same_depth = ap (λ (x : StreamKitView F). x.depth) done.stream.rest
+
+  same_samplers : l.crew.samplers ≡ k.crew.samplers
+  same_samplers = ap (λ (x : StreamKitView F). x.crew.samplers) done.stream.rest
+
+  journal_same : w.writer.journal ≡ t.streamer.writer.journal
+  journal_same = ap (λ (x : StreamerView). x.writer.journal) done.rows.back ∙ journal_stays t.streamer.writer f
+
+  contents_same : w.writer.contents ≡ t.streamer.writer.contents
+  contents_same = ap (λ (x : StreamerView). x.writer.contents) done.rows.back ∙ contents_stay t.streamer.writer f
+
+  agree : Agree l s
+  agree = record {
+    shape = ap (λ (x : RowKit). x.geometry) done.rows.rest ∙ may.agree.shape ∙ sym same_shape;
+    depth = ap (λ (x : RowKit). x.depth) done.rows.rest ∙ may.agree.depth ∙ sym same_depth;
+    count = ap (λ (x : RowKit). x.count) done.rows.rest ∙ may.agree.count ∙ sym same_samplers;
+  }
+
+  stored_after : AreStored l.shape l.depth (told_by g l.stores) w.writer.journal w.writer.contents
+  stored_after = subst (λ (z : Shape × ℕ × List Change × List (List ℕ)). AreStored z.0 z.1 (told_by g l.stores) z.2 z.3)
+      (λ i. (sym same_shape i, sym same_depth i, sym journal_same i, sym contents_same i)) done.stream.stored
+
+  -- the machine can go on
+  pub goes_on : IsIdleSharing g words w l s
+  goes_on = record {
+    fit = record {
+      of = done.rows.of;
+      shape = ap (λ (x : StreamerView). x.shape) done.rows.back ∙ may.stream.fed.shape ∙ may.stream.fit.shape ∙ sym same_shape;
+      samplers = may.stream.fit.samplers ∙ sym same_samplers;
+      stored = stored_after;
+      kit = done.stream.kit;
+    };
+    all_in = done.rows.all_in;
+    rows = done.rows.idle;
+    agree = agree;
+  }
+
+  -- a line is that of the row at its place
+  line_there : (y : ℕ) (line : RowLine) → slice_get report.rows.elements y ≡ Some line → (j : RowJob) × (slice_get jobs y ≡ Some j) × (line_of j ≡ line)
+  unfolding jobs
+  line_there y line is = made_of line_of s.drawn.elements y line (sym (ap (λ (x : List RowLine). slice_get x y) done.rows.lines_are) ∙ is)
+
+  height_is : s.height ≡ r.height
+  height_is = ap (λ (x : RowKit). x.height) done.rows.rest
+
+  in_order : AreRowsInOrder false k.crew.samplers r.height (length start) (length w.writer.journal) report.rows.elements
+  unfolding jobs
+  in_order = record {
+    of_picture = record {
+      count = ap length done.rows.lines_are ∙ length-map s.drawn.elements line_of ∙ done.rows.idle.rows.number ∙ height_is;
+      each = λ y line is.
+          let x = line_there y line is in
+          let its = done.rows.each y x.0 x.1 in
+          let place = (done.rows.idle.rows.each y x.0 x.1).0 in
+          record {
+            place = sym (ap (λ (z : RowLine). z.row) x.2) ∙ place;
+            sampler = (let a = ap (λ (z : RowLine). z.sampler) x.2 in let n = its.among in let few = may.rows.shared.kit.few in omega (arith, a, n, few));
+            from = (let a = ap (λ (z : RowLine). z.version) x.2 in let n = its.from in omega (arith, a, n));
+            to = (let a = ap (λ (z : RowLine). z.version) x.2 in let n = its.to in omega (arith, a, n));
+          };
+      rise = λ i j before line below at_i at_j same.
+          let x = line_there i before at_i in
+          let y = line_there j line at_j in
+          let v = ap (λ (z : RowLine). z.version) x.2 in
+          let u = ap (λ (z : RowLine). z.version) y.2 in
+          let up = done.rows.rising i j x.0 y.0 below x.1 y.1
+          (ap (λ (z : RowLine). z.sampler) x.2 ∙ same ∙ sym (ap (λ (z : RowLine). z.sampler) y.2)) in
+          omega (arith, v, u, up);
+    };
+    drawn_by = λ y line is.
+        let x = line_there y line is in
+        let its = done.rows.each y x.0 x.1 in
+        record {
+          inside = (let a = ap (λ (z : RowLine). z.sampler) x.2 in let n = its.among in let count = may.agree.count in omega (arith, a, n, count));
+          dealt_to = λ dealt. absurd (false≢true dealt);
+        };
+  }
+
+  from_draws : (y : ℕ) (line : RowLine) → slice_get report.rows.elements y ≡ Some line
+      → WasShared filter s.geometry s.depth s.count w.writer job.scene.path job.picture y line.version (get_or (bytes_of s.drawn.elements) y [])
+  unfolding jobs
+  from_draws y line is =
+      let x = line_there y line is in
+      let low = slice_get_within s.drawn.elements y x.0 x.1 in
+      let its = done.rows.each y x.0 x.1 in
+      let bytes : get_or (bytes_of s.drawn.elements) y [] ≡ x.0.samples.elements =
+      get_or-map (λ (j : RowJob). j.samples.elements) s.drawn.elements y x.0 [] low
+      ∙ ap (λ (j : RowJob). j.samples.elements) (get_or_from_slice_get s.drawn.elements y x.0 x.0 x.1) in
+      subst (λ (z : Shape × ℕ × ℕ × ℕ × List ℕ). WasShared filter z.0 z.1 z.2 w.writer job.scene.path job.picture y z.3 z.4)
+      (λ i. (
+        (sym (ap (λ (v : RowKit). v.geometry) done.rows.rest)) i,
+        (sym (ap (λ (v : RowKit). v.depth) done.rows.rest)) i,
+        (sym (ap (λ (v : RowKit). v.count) done.rows.rest)) i,
+        (ap (λ (v : RowLine). v.version) x.2) i,
+        sym bytes i,
+      )) its.drawn
+
+  rows_full : All (IsFull l.depth s.width) (bytes_of s.drawn.elements)
+  rows_full = All-map (IsFull l.depth s.width) (λ (j : RowJob). j.samples.elements) s.drawn.elements
+      (λ y e inside. subst (λ (n : ℕ). IsFull n s.width (get_or s.drawn.elements y e).samples.elements) agree.depth
+      (done.rows.idle.rows.each y (get_or s.drawn.elements y e) (slice_get-get_or s.drawn.elements y e inside)).1)
+
+  limits : IsWithinLimits l.shape
+  limits = subst IsWithinLimits goes_on.fit.shape goes_on.fit.of.lawful.limits
+
+  job_shape : job.scene.shape ≡ l.shape
+  job_shape = may.rows.shape ∙ may.agree.shape ∙ sym same_shape
+
+  job_depth : job.scene.depth ≡ l.depth
+  job_depth = may.rows.depth ∙ may.agree.depth ∙ sym same_depth
+
+  job_width : job.scene.path.width ≡ s.width
+  job_width = may.rows.width ∙ sym (ap (λ (x : RowKit). x.width) done.rows.rest)
+
+  replayed : IfSome (told_by g l.stores)
+      (λ bytes. AreReplayed l.depth s.width (λ m x y. filter.under (stored bytes) job.scene m job.picture x y) w.writer.journal report.rows.elements
+      (bytes_of s.drawn.elements))
+  replayed = subst (λ (n : ℕ). IfSome (told_by g l.stores)
+      (λ bytes. AreReplayed l.depth n (λ m x y. filter.under (stored bytes) job.scene m job.picture x y) w.writer.journal report.rows.elements
+      (bytes_of s.drawn.elements))) job_width
+      (picture_replayed filter.shown filter.under law w.writer l.shape l.depth (told_by g l.stores) job.scene job.picture job.scene.path.width
+      report.rows.elements (bytes_of s.drawn.elements) done.rows.of.sound limits done.stream.kit.told stored_after job_shape job_depth
+      (λ y line is. subst (λ (z : Shape × ℕ). AreShown filter.shown z.0 z.1 line.version (IsNotedBy w.writer) (shot_row z.0 job.scene.path job.picture y)
+      job.scene.path.width (get_or (bytes_of s.drawn.elements) y [])) (λ i. (agree.shape i, agree.depth i)) (from_draws y line is).drawn))
+
+  pictured : IsPictured (sharing_of filter) (drawn_by filter s (Some d)) job report.rows.elements (state_by g words w.writer.journal l s)
+  pictured = record {
+    count = length-map s.drawn.elements (λ (j : RowJob). j.samples.elements) ∙ done.rows.idle.rows.number;
+    full = rows_full;
+    replayed = replayed;
+    from_draws = from_draws;
+    all_counts = done.rows.idle.kit.counts ∙ ap (λ x. pages_of x) agree.shape;
+    counts_are = λ p inside. done.rows.counted p (subst (λ x. p < pages_of x) (same_shape ∙ sym may.agree.shape) inside);
+  }
+
+  -- and what was done is a pass
+  pub finished : Ends (sharing_of filter) (drawn_by filter s (Some d)) (IsIdleSharing g words w l s) job (Ok report)
+      (state_by g words start (stream_before k b.stream) r) (state_by g words w.writer.journal l s)
+  finished = record {
+    ran = record {
+      setup = λ i. record {
+        shape = same_shape i;
+        depth = same_depth i;
+        width = (ap (λ (x : RowKit). x.width) done.rows.rest) i;
+        height = height_is i;
+        frames = words.sizes.frames;
+        crew = (ap (λ (x : StreamKitView F). x.crew) done.stream.rest) i;
+        bytes = done.stream.told i;
+      };
+      outcome = done.stream.outcome;
+      journal = journal_same ∙ done.stream.journal;
+      rows = in_order;
+      read = done.stream.read;
+      picture = pictured;
+    };
+    goes_on = goes_on;
+    broke = tt;
+  }

@@ -1,0 +1,184 @@
+-- The machine between its passes: made, with a page placed, prepared, and with its workers moved out.
+use Rattle.std.proofs.Common.{◌≡◌, ℕ, zero, suc, false, true, List, [], ◌∷◌, get_or, Option, Some, refl, sym, ap, ◌∙◌, subst, replicate, arith}
+use Rattle.std.specs.Prelude.{slice_index_or, IfSome, Result, Ok, Err, OnOk, OnErr}
+use Rattle.std.proofs.lemmas.Option.{none-some, same_Some, slice_get-get_or}
+use Rattle.vt_definitions.specs.Depths.{IsDepth}
+use Rattle.vt_outside.specs.declared.outside.File.{Ghosts as FileMeanings}
+use Rattle.vt_outside.specs.declared.answers.NoMemory.{NoMemory}
+use Rattle.vt_outside.specs.Files.{IsPiece}
+use Rattle.vt_pages.specs.Shape.{Shape}
+use Rattle.vt_pages.specs.Pages.{pages_of, root_of}
+use Rattle.vt_journal.specs.declared.changes.Change.{Change}
+use Rattle.vt_journal.specs.declared.changes.Change.TheVariants.{Map}
+use Rattle.vt_journal.specs.Changes.{newest}
+use Rattle.vt_journal.specs.Lookups.{change_page, is_mapped}
+use Rattle.vt_tiles.specs.Format.{tile_start}
+use Rattle.vt_grace.specs.declared.sizes.Sizes.{Sizes}
+use Rattle.vt_grace.specs.declared.views.PassView.{PassView}
+use Rattle.vt_grace.specs.declared.views.WriterView.{WriterView}
+use Rattle.vt_grace.specs.Sizes.{sizes_of}
+use Rattle.vt_grace.specs.WriterViews.{first_writer, is_out}
+use Rattle.vt_grace.specs.Values.{WordsValue}
+use Rattle.vt_lookup.specs.Notes.{Fits}
+use Rattle.vt_streamer.specs.Fills.{words_in}
+use Rattle.vt_streamer.specs.Views.{StreamerView, IsStreamerOf}
+use Rattle.vt_workers.specs.Jobs.{Job}
+use Rattle.vt_workers.specs.All.{AllReady}
+use Rattle.vt_loaders.specs.declared.queued.Queues.{Queues}
+use Rattle.vt_machine.specs.declared.crew.Crew.{Crew}
+use Rattle.vt_machine.specs.Machines.{told_by}
+use Rattle.vt_machine.specs.Passes.{MapsRoot, MayPlace, IsJobFor, IsUntouched, IsSpent}
+use Rattle.vt_noted.specs.Stored.{AreStored}
+use Rattle.vt_noted.proofs.Growing.{stored_grow}
+use Rattle.vt_word_workers.specs.declared.workers.WordStreamer.{WordStreamer}
+use Rattle.vt_word_workers.specs.Kits.{AreAllIn}
+use Rattle.vt_word_workers.proofs.Rooms.{told_same, files_same}
+use Rattle.vt_pass.specs.Placed.{HasPlaced}
+use Rattle.vt_shared_rows.specs.declared.bag.RowBag.{RowBag}
+use Rattle.vt_steal.specs.declared.row_kit.RowKit.{RowKit}
+use Rattle.vt_steal.specs.StreamKits.{StreamKitView, IsStreamKit, IsSameStream}
+use Rattle.vt_steal.specs.RowTasks.{RowTask, MayDrawShared}
+use Rattle.vt_steal.specs.RowKits.{IsIdleRows}
+use Rattle.vt_steal.specs.SharingMachines.{SharingView, sharing_setup, sharing_state, state_by, journal_by, IsIdleSharing, IsReadySharing, IsIdleBy, IsReadyBy}
+use Rattle.vt_steal.proofs.Lists.{made_at}
+use Rattle.vt_steal.proofs.StreamRooms.{fit_still, same_stream}
+
+-- no pass of the first writer is out
+none_out : (m n : ℕ) → get_or (replicate m false) n false ≡ false
+none_out zero n = refl
+none_out (suc m) zero = refl
+none_out (suc m) (suc n) = none_out m n
+
+module _ {F : Type 0} (g : FileMeanings F) where
+  -- a machine that was made is idle
+  pub idle_made : (s : Shape) (frames : ℕ) (crew : Crew) (words : WordsValue) (v : StreamerView) (k : StreamKitView F) (r : RowKit) → IsStreamerOf words v
+      → words.sizes ≡ sizes_of s frames crew.samplers → v.shape ≡ s → v.writer ≡ first_writer (sizes_of s frames crew.samplers)
+      → IsStreamKit g k → k.shape ≡ s → k.crew ≡ crew → IsIdleRows r → r.geometry ≡ s → r.depth ≡ k.depth → r.count ≡ crew.samplers
+      → IsIdleSharing g words v k r
+  idle_made s frames crew words v k r of sizes shape writer kit same crew_is rows geometry depth count = record {
+    fit = record {
+      of = of;
+      shape = shape ∙ sym same;
+      samplers = ap (λ (z : Sizes). z.samplers) sizes ∙ ap (λ (c : Crew). c.samplers) (sym crew_is);
+      stored = subst (λ (w : WriterView). AreStored k.shape k.depth (told_by g k.stores) w.journal w.contents) (sym writer)
+          (λ j page frame is. absurd (none-some (Map page frame) is));
+      kit = kit;
+    };
+    all_in = λ n. ap (λ (w : WriterView). is_out w n) writer ∙ none_out crew.samplers n;
+    rows = rows;
+    agree = record { shape = geometry ∙ sym same; depth = depth; count = count ∙ ap (λ (c : Crew). c.samplers) (sym crew_is) };
+  }
+
+  -- a machine in which a page was placed, or that was refused memory for it, is idle
+  pub idle_placed : (words : WordsValue) (v w : StreamerView) (k : StreamKitView F) (r : RowKit) (page frame : ℕ) (tile : List ℕ)
+      (o : Result (Unit {0}) NoMemory) → IsIdleSharing g words v k r → IsStreamerOf words w
+      → MayPlace (state_by g words v.writer.journal k r) page frame tile
+      → OnOk o (HasPlaced v w page frame tile) → OnErr o (w ≡ record v { spare = w.spare }) → IsIdleSharing g words w k r
+  idle_placed words v w k r page frame tile (Ok x) idle of may placed refused = record {
+    fit = record {
+      of = of;
+      shape = placed.shape ∙ idle.fit.shape;
+      samplers = idle.fit.samplers;
+      stored = subst (λ (x : List Change × List (List ℕ)). AreStored k.shape k.depth (told_by g k.stores) x.0 x.1)
+          (λ i. (sym placed.journal i, sym placed.contents i))
+          (stored_grow k.shape k.depth (told_by g k.stores) v.writer.journal (Map page frame ∷ []) v.writer.contents (words_in v.shape tile ∷ [])
+          idle.fit.of.sound.contents idle.fit.stored one);
+      kit = idle.fit.kit;
+    };
+    all_in = λ n. ap (λ o. slice_index_or o n false) placed.out ∙ idle.all_in n;
+    rows = idle.rows;
+    agree = idle.agree;
+  } where
+    one : AreStored k.shape k.depth (told_by g k.stores) (Map page frame ∷ []) (words_in v.shape tile ∷ [])
+    one zero p f is =
+        let page_is : page ≡ p = ap change_page (same_Some (Map page frame) (Map p f) is) in
+        record {
+          tile = tile;
+          size = may.size;
+          of_store = subst (λ q. IfSome (told_by g k.stores) (λ b. IsPiece b (tile_start k.shape k.depth q) tile)) page_is may.of_store;
+          words = ap (λ s. words_in s tile) idle.fit.shape;
+        }
+    one (suc j) p f is = absurd (none-some (Map p f) is)
+  idle_placed words v w k r page frame tile (Err e) idle of may placed refused = record {
+    fit = fit_still g words v w k k refused (same_stream g k) idle.fit idle.fit.kit.buffers;
+    all_in = subst AreAllIn (sym refused) idle.all_in;
+    rows = idle.rows;
+    agree = idle.agree;
+  }
+
+  pub machine_placed : (m : SharingView F) (t : WordStreamer) (w : StreamerView) (page frame : ℕ) (tile : List ℕ) (o : Result (Unit {0}) NoMemory)
+      → m.streamer ≡ Some t → IsIdleBy g m.words m.streamer m.streams m.rows → IsStreamerOf m.words w → MayPlace (sharing_state g m) page frame tile
+      → OnOk o (HasPlaced t.streamer w page frame tile) → OnErr o (w ≡ record t.streamer { spare = w.spare })
+      → IsIdleSharing g m.words w m.streams m.rows
+  machine_placed m t w page frame tile o there idle of may placed refused =
+      idle_placed m.words t.streamer w m.streams m.rows page frame tile o
+      (subst (λ (x : Option WordStreamer). IsIdleBy g m.words x m.streams m.rows) there idle) of
+      (subst (λ (x : Option WordStreamer). MayPlace (state_by g m.words (journal_by x) m.streams m.rows) page frame tile) there may) placed refused
+
+  -- samplers that are moved out of a prepared machine may draw
+  may_draw : (job : Job) (words : WordsValue) (q : Queues) (bag : RowBag) (t : WordStreamer) (k : StreamKitView F) (r : RowKit) (tasks : List RowTask)
+      → IsReadySharing g words q bag t k r job.batch → MapsRoot (state_by g words t.streamer.writer.journal k r) → IsJobFor (sharing_setup g words k r) job
+      → tasks ≡ r.tasks.elements → AllReady (MayDrawShared words bag job.scene job.picture) tasks
+  may_draw job words q bag t k r tasks ready root job_is same = subst (AllReady (MayDrawShared words bag job.scene job.picture)) (sym same)
+      (λ n d inside.
+      let fit = ready.streams.fit in
+      let task : RowTask = get_or r.tasks.elements n d in
+      let there = slice_get-get_or r.tasks.elements n d inside in
+      let sampler = made_at (λ (x : RowTask). x.sampler) r.tasks.elements n task there in
+      let its = ready.rows.kit.samplers_are.each n task.sampler sampler in
+      let new = ready.rows.shared.each n task.sampler sampler in
+      let has = ready.passes n task there in
+      let is : t.streamer.writer.sizes.root ≡ root_of k.shape = ap (λ (z : Sizes). z.root) fit.of.seen ∙ ap (λ (z : Sizes). z.root) fit.of.sizes
+      ∙ ap root_of fit.shape in
+      record {
+        share = record {
+          pass = new.pass;
+          has = new.has;
+          of = new.of;
+          none = its.none;
+          room = (let a = new.room in let b = job_is.height in omega (arith, a, b));
+          pages = its.pages ∙ ap (λ s. pages_of s) (ready.agree.shape ∙ sym job_is.shape);
+        };
+        depth = subst IsDepth (ready.agree.depth ∙ sym job_is.depth) ready.rows.kit.depth;
+        picture_is = job_is.picture;
+        fits = subst (λ s. Fits s words.sizes) (fit.shape ∙ sym job_is.shape) (record {
+          pages = ap (λ (z : Sizes). z.pages) fit.of.sizes;
+          texels = ap (λ (z : Sizes). z.texels) fit.of.sizes;
+          root = ap (λ (z : Sizes). z.root) fit.of.sizes;
+        });
+        pass = has.pass;
+        has = has.has;
+        of = has.of;
+        rooted = ap (λ (p : PassView). p.rooted) has.view
+            ∙ subst (λ z. is_mapped (newest t.streamer.writer.journal) z ≡ true) (sym is) root;
+      })
+
+  pub detach_draws : (job : Job) (m : SharingView F) (t : WordStreamer) (tasks : List RowTask) → m.streamer ≡ Some t
+      → IsReadyBy g m.words m.queues m.bag m.streamer m.streams m.rows job.batch → MapsRoot (sharing_state g m) → IsJobFor (sharing_state g m).setup job
+      → tasks ≡ m.rows.tasks.elements → AllReady (MayDrawShared m.words m.bag job.scene job.picture) tasks
+  detach_draws job m t tasks there ready root job_is same =
+      may_draw job m.words m.queues m.bag t m.streams m.rows tasks
+      (subst (λ (x : Option WordStreamer). IsReadyBy g m.words m.queues m.bag x m.streams m.rows job.batch) there ready)
+      (subst (λ (x : Option WordStreamer). MapsRoot (state_by g m.words (journal_by x) m.streams m.rows)) there root) job_is same
+
+  -- a machine that was prepared, or was refused memory for it, is what it was but for its rows and its rooms
+  module _ (m : SharingView F) (t u : WordStreamer) (words : WordsValue) (k : StreamKitView F) (r : RowKit) (there : m.streamer ≡ Some t)
+      (words_are : words ≡ m.words) (journal : u.streamer.writer.journal ≡ t.streamer.writer.journal) (same : IsSameStream g m.streams k)
+      (sides : (r.width ≡ m.rows.width) × (r.height ≡ m.rows.height)) where
+    pub machine_untouched : IsUntouched (sharing_state g m) (state_by g words u.streamer.writer.journal k r)
+    machine_untouched = record {
+      setup = λ i. record {
+        shape = same.shape i;
+        depth = same.depth i;
+        width = sides.0 i;
+        height = sides.1 i;
+        frames = (words_are i).sizes.frames;
+        crew = same.crew i;
+        bytes = told_same g m.streams.stores k.stores same.stores i;
+      };
+      files = files_same g m.streams.stores k.stores same.stores;
+      journal = journal ∙ ap journal_by (sym there);
+    }
+
+    pub machine_spent : IsSpent (sharing_state g m) (state_by g words u.streamer.writer.journal k r)
+    machine_spent = record { setup = machine_untouched.setup; files = machine_untouched.files }

@@ -1,0 +1,13 @@
+pub mod Lists
+pub mod Making
+pub mod Equipping
+pub mod Placement
+pub mod Giving
+pub mod KeptRows
+pub mod EndedRows
+pub mod StreamRooms
+pub mod StreamEnd
+pub mod Finishing
+pub mod Preparing
+pub mod RowsEnding
+pub mod Idle

@@ -1,0 +1,96 @@
+-- What the calls that end a pass whose rows were shared leave.
+use Rattle.std.proofs.Common.{◌≡◌, ℕ, ◌^◌, ◌<◌, List, [], length, map, refl, sym, ap, ◌∙◌, subst}
+use Rattle.std.specs.Prelude.{slice_index}
+use Rattle.std.specs.List.{refill}
+use Rattle.std.proofs.lemmas.List.{length-map}
+use Rattle.vt_outside.specs.Lists.{ListView}
+use Rattle.vt_journal.specs.declared.changes.RowLine.{RowLine}
+use Rattle.vt_filter.specs.declared.filters.Filter.{Ghosts as FilterMeanings}
+use Rattle.vt_filter.specs.FilterLaws.{WantsFew}
+use Rattle.vt_grace.specs.declared.sizes.Sizes.{Sizes}
+use Rattle.vt_grace.specs.declared.views.WriterView.{WriterView}
+use Rattle.vt_grace.specs.Sound.{IsSound}
+use Rattle.vt_grace.specs.Values.{WordsValue}
+use Rattle.vt_grace.specs.WriterViews.{is_out}
+use Rattle.vt_streamer.specs.Views.{StreamerView, IsStreamerOf}
+use Rattle.vt_pictures.specs.Scenes.{Scene}
+use Rattle.vt_queue.specs.declared.views.PassView.{PassView}
+use Rattle.vt_queue.specs.Steps.{IsAtStep}
+use Rattle.vt_word_workers.specs.GivenPasses.{all_returned, without_passes}
+use Rattle.vt_word_workers.proofs.Returned.{have_returned}
+use Rattle.vt_shared_rows.specs.declared.bag.RowJob.{RowJob}
+use Rattle.vt_shared_rows.specs.declared.bag.RowBag.{RowBag}
+use Rattle.vt_shared_rows.specs.declared.bag.BagPass.{BagPass}
+use Rattle.vt_shared_rows.specs.Bags.{view_of}
+use Rattle.vt_shared_rows.proofs.Keepers.{refilled}
+use Rattle.vt_steal.specs.declared.row_kit.RowKit.{RowKit}
+use Rattle.vt_steal.specs.RowTasks.{RowTask}
+use Rattle.vt_steal.specs.RowKits.{samplers_of, AreRowSamplers}
+use Rattle.vt_steal.specs.RowEnds.{kept_rows, lines_of, MayEndRows, IsRowOfPass, HasEndedRows}
+use Rattle.vt_steal.specs.Placing.{ArePlaced, counted_by, all_rows_joined, ended_task}
+use Rattle.vt_steal.proofs.EndedRows.{returned_ended, counted_ended, samplers_stay, all_in, each_once, counted, counts_low, rows_of_pass, in_place, rising}
+
+-- samplers that were lent to have their rows taken
+pub tasks_ended : (f lent ws : List RowTask) → lent ≡ f → ws ≡ map ended_task lent → refill (length f) f ws ≡ map ended_task f
+tasks_ended f lent ws same are =
+    let all : ws ≡ map ended_task f = are ∙ ap (map ended_task) same in
+    refilled f ws (ap length all ∙ length-map f ended_task) ∙ all
+
+module _ {P : Type 0} (filter : FilterMeanings P) (words : WordsValue) (bag : RowBag) (k : RowKit) (scene : Scene) (picture : ℕ)
+    (start : WriterView) (t : StreamerView) (e f : List RowTask) (h : MayEndRows filter words bag k scene picture start t e f)
+    (lent : List RowTask) (lent_is : lent ≡ f) (joined : PassView RowJob) (joined_is : joined ≡ all_rows_joined (view_of k.rows) (samplers_of lent))
+    (empty : IsAtStep joined []) where
+  pub is_empty : IsAtStep (all_rows_joined (view_of k.rows) (samplers_of f)) []
+  is_empty = subst (λ (v : PassView RowJob). IsAtStep v [])
+      (joined_is ∙ ap (λ (l : List RowTask). all_rows_joined (view_of k.rows) (samplers_of l)) lent_is) empty
+
+  pub low_counts : WantsFew filter.wants → (p : ℕ) → p < length k.counts → counted_by (map ended_task f) p < 2 ^ 32
+  low_counts most p inside = subst (λ (n : ℕ). n < 2 ^ 32) (sym (counted_ended f p))
+      (counts_low filter words bag k scene picture start t e f h is_empty most p (subst (λ (n : ℕ). p < n) h.shared.kit.counts inside))
+
+  pub ended_rows : (jobs us : List RowJob) → jobs ≡ k.drawn.elements → ArePlaced (kept_rows (samplers_of lent)) jobs us
+      → (w : StreamerView) → IsStreamerOf words w → w ≡ record t { writer = all_returned t.writer (map ended_task f) }
+      → (counts : List ℕ) → length counts ≡ length k.counts
+      → ((p : ℕ) → p < length k.counts → slice_index counts p ≡ counted_by (map ended_task f) p)
+      → (tasks : ListView RowTask) (drawn : ListView RowJob) (rest : ListView RowLine) (rows : BagPass)
+      → tasks.elements ≡ without_passes (map ended_task f) → drawn.elements ≡ us
+      → (lines : List RowLine) → lines ≡ lines_of drawn.elements
+      → HasEndedRows filter words k (record k { tasks = tasks; drawn = drawn; lines = rest; counts = counts; rows = rows }) scene picture start t w f lines
+  ended_rows jobs us jobs_are placed w of returned counts number sums tasks drawn rest rows tasks_are drawn_are lines lines_are =
+      let placed_is : ArePlaced (kept_rows (samplers_of f)) k.drawn.elements drawn.elements =
+      subst (λ (z : List RowTask × List RowJob × List RowJob). ArePlaced (kept_rows (samplers_of z.0)) z.1 z.2)
+      (λ i. (lent_is i, jobs_are i, sym drawn_are i)) placed in
+      let back : w ≡ record t { writer = all_returned t.writer f } = returned ∙ ap (λ (x : WriterView). record t { writer = x }) (returned_ended t.writer f) in
+      let writer : w.writer ≡ all_returned t.writer f = ap (λ (x : StreamerView). x.writer) back in
+      let sound : IsSound (all_returned t.writer f) = subst IsSound writer of.sound in
+      let many : (all_returned t.writer f).sizes.samplers ≡ k.count =
+      sym (ap (λ (x : WriterView). x.sizes.samplers) writer) ∙ ap (λ (z : Sizes). z.samplers) of.seen ∙ h.samplers in
+      let all = have_returned t.writer f in
+      record {
+        rest = refl;
+        idle = record {
+          kit = record {
+            some = h.shared.kit.some;
+            few = h.shared.kit.few;
+            depth = h.shared.kit.depth;
+            sides = h.shared.kit.sides;
+            samplers_are = subst (λ (l : List RowTask). AreRowSamplers k.geometry k.count (samplers_of l)) (sym tasks_are)
+                (samplers_stay filter words bag k scene picture start t e f h);
+            counts = number ∙ h.shared.kit.counts;
+            number = (in_place filter words bag k scene picture start t e f h is_empty drawn.elements placed_is).number;
+          };
+          rows = in_place filter words bag k scene picture start t e f h is_empty drawn.elements placed_is;
+        };
+        back = back;
+        of = of;
+        all_in = λ n. ap (λ (x : WriterView). is_out x n) writer ∙ all_in filter words bag k scene picture start t e f h sound many n;
+        lines_are = lines_are;
+        returned = all.more;
+        returned_are = ap (λ (x : WriterView). x.returned) writer ∙ all.returned;
+        each = λ y job is. subst (λ (x : WriterView). IsRowOfPass filter k scene picture start x all.more y job) (sym writer)
+            (rows_of_pass filter words bag k scene picture start t e f h is_empty drawn.elements placed_is sound y job is);
+        rising = rising filter words bag k scene picture start t e f h is_empty drawn.elements placed_is;
+        counted = λ p inside. sums p (subst (λ (n : ℕ). p < n) (sym h.shared.kit.counts) inside) ∙ counted_ended f p
+            ∙ counted filter words bag k scene picture start t e f h is_empty p inside;
+        once = each_once filter words bag k scene picture start t e f h is_empty;
+      }

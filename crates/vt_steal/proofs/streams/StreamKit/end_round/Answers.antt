@@ -1,0 +1,27 @@
+use Rattle.std.proofs.Common.{refl, ap, sym, ◌∙◌, subst}
+use Rattle.vt_word_workers.specs.declared.workers.WordStreamer.{WordStreamer}
+use Rattle.vt_steal.specs.StreamKits.{StreamKitView, MayEndStream, HasEndedStream}
+use Rattle.vt_steal.proofs.StreamEnd.{ended_stream}
+use Rattle.vt_steal.proofs.streams.StreamKit.end_round.Goals as goal
+
+pub returns : goal.returns
+returns g c = λ w v batch b given.
+    let q = c.args.queues.now in
+    let t : WordStreamer = record { streamer = v; answers = c.args.answers.now; report = c.args.report.now } in
+    let k : StreamKitView _ = record {
+      shape = c.self.inside.geometry;
+      depth = c.self.inside.depth;
+      crew = c.self.inside.crew;
+      stores = c.self.inside.stores.elements;
+      round = c.self.inside.round;
+    } in
+    let may = subst (λ (x : StreamKitView _). MayEndStream g.F.File w q x batch c.args.loaders.elements t b) (sym c.self.view_is) given in
+    let e = c.end_round-stores in
+    let l : StreamKitView _ = record k { stores = c.replace.new.dest.elements; round = c.keep.new.self } in
+    subst (λ (x : StreamKitView _). HasEndedStream g.F.File x l batch c.replace-losses.result.elements c.replace-events.result.elements b v.writer)
+    c.self.view_is
+    (ended_stream g.F.File w q k batch c.args.loaders.elements t b may _ _ e.ensures.asks e.ensures.answers e.ensures.asks_at_step
+    e.ensures.answers_at_step l c.replace.new.dest.elements c.keep.new.self e.new.self refl
+    (ap (λ x. x.elements) c.replace.ensures.after ∙ e.ensures.stores)
+    e.ensures.buffers c.keep.ensures.sizes c.replace-losses.result.elements c.replace-events.result.elements
+    (ap (λ x. x.elements) c.replace-losses.ensures.value) (ap (λ x. x.elements) c.replace-events.ensures.value))

@@ -1,0 +1,218 @@
+-- What the workers of the machine whose samplers share rows did is a pass, once they are moved back.
+use Rattle.std.specs.Prelude.{◌≡◌, ℕ, ◌≤◌, Option, List, length, Result, IsOk, OnErr}
+use Rattle.std.proofs.Common.{refl, subst, sym, ap, ◌∙◌, arith}
+use Rattle.std.proofs.lemmas.List.{length-reverse, length-map}
+use Rattle.vt_outside.specs.Lists.{ListView}
+use Rattle.vt_outside.specs.declared.outside.File.{Ghosts as FileMeanings}
+use Rattle.vt_outside.specs.declared.answers.NoMemory.{NoMemory}
+use Rattle.vt_filter.specs.declared.filters.Filter.{Ghosts as FilterMeanings}
+use Rattle.vt_tiles.specs.Format.{tile_length}
+use Rattle.vt_tiles.specs.StoreViews.{StoreView}
+use Rattle.vt_grace.specs.Values.{WordsValue}
+use Rattle.vt_plan.specs.declared.batches.Planned.{Planned}
+use Rattle.vt_queue.specs.Queues.{view_of}
+use Rattle.vt_loaders.specs.declared.queued.Queues.{Queues}
+use Rattle.vt_loaders.specs.QueuedLoaders.{QueuedView, HasLoaded, stores_of}
+use Rattle.vt_workers.specs.Jobs.{Job}
+use Rattle.vt_workers.specs.All.{AllDid}
+use Rattle.vt_machine.specs.declared.crew.PassReport.{PassReport}
+use Rattle.vt_machine.specs.Machines.{files_of, told_by}
+use Rattle.vt_machine.specs.Passes.{IsJobFor, IsUntouched}
+use Rattle.vt_requests.specs.BatchRounds.{Begun as Round}
+use Rattle.vt_requests.specs.Sizes.{AreSized}
+use Rattle.vt_word_workers.specs.declared.workers.WordStreamer.{WordStreamer}
+use Rattle.vt_word_workers.specs.WordTasks.{HasFed}
+use Rattle.vt_word_workers.specs.RoundKits.{IsDealt}
+use Rattle.vt_word_workers.specs.GivenPasses.{HaveNewPasses}
+use Rattle.vt_pass.specs.WordLaws.{ends_after}
+use Rattle.vt_pass.specs.WordLaws as word_laws
+use Rattle.vt_shared_rows.specs.declared.bag.RowBag.{RowBag}
+use Rattle.vt_steal.specs.declared.row_kit.RowKit.{RowKit}
+use Rattle.vt_steal.specs.StreamKits.{StreamKitView, IsFitStream, IsAskedStream, AreLoadersOut, StreamBegun, stream_before, MayEndStream}
+use Rattle.vt_steal.specs.RowTasks.{RowTask, HasDrawnShared}
+use Rattle.vt_steal.specs.RowKits.{samplers_of, IsSharedKit}
+use Rattle.vt_steal.specs.RowEnds.{MayEndRows}
+use Rattle.vt_steal.specs.SharingMachines.{SharingView, sharing_of, sharing_setup, sharing_state, state_by, journal_by, drawn_by, IsReadySharing, IsReadyBy, IsIdleBy, AreOut, Begun, MayFinish, SharingEnds, SharingFinishes}
+
+-- a pass that was run refused nothing
+pub none_refused : (r : Result PassReport NoMemory) → IsOk r → OnErr r ⊥
+none_refused r ok = word_laws.none_refused r ok
+
+-- the loaders were moved out of a kit whose streamer is there
+module _ {F : Type 0} (g : FileMeanings F) (words : WordsValue) (q : Queues) (was b d : WordStreamer) (k l : StreamKitView F) (batch : List Planned)
+    (a c : List (QueuedView F)) (out : AreLoadersOut g q k l was.answers b.answers a) (streamer_is : b ≡ record was { answers = b.answers })
+    (ready : IsAskedStream g words q was k batch) (number : length c ≡ length a) (did_load : AllDid (HasLoaded g q) a c)
+    (did_stream : HasFed words q batch b d) where
+  -- a loader was made of each store
+  dealt : IsDealt g q k.round l.round was.answers b.answers k.stores a
+  dealt = out.dealt
+
+  -- how the round of the loaders began
+  pub round : Round F
+  round = record {
+    asks = view_of k.round.asks;
+    answers = view_of was.answers;
+    first = a;
+    depth = k.depth;
+    told = told_by g k.stores;
+  }
+
+  -- how streaming began
+  unfoldable pub stream_begun : StreamBegun F
+  stream_begun = record { round = round; streamer = b }
+
+  number_is : length a ≡ length k.stores
+  number_is = sym (length-reverse (stores_of a) ∙ length-map a (λ (x : QueuedView F). x.loader.store)) ∙ ap length dealt.stores_are
+
+  sizes : AreSized (tile_length k.shape k.depth) l.round.buffers.elements
+  sizes = subst (λ (x : ListView (ListView ℕ)). AreSized (tile_length k.shape k.depth) x.elements) (sym dealt.buffers) ready.fit.kit.buffers
+
+  -- they may be taken back
+  pub stream_back : MayEndStream g words q l batch c d stream_begun
+  unfolding stream_begun round
+  stream_back = subst (λ (x : StreamKitView F). MayEndStream g words q x batch c d stream_begun) (sym out.rest) (record {
+    fit = subst (λ (x : List (StoreView F)). IsFitStream g words b.streamer (record k { stores = x; round = l.round })) (sym dealt.stores_are)
+        (subst (λ (x : WordStreamer). IsFitStream g words x.streamer (record k { round = l.round })) (sym streamer_is) (record {
+          of = ready.fit.of;
+          shape = ready.fit.shape;
+          samplers = ready.fit.samplers;
+          stored = ready.fit.stored;
+          kit = record {
+            crew = ready.fit.kit.crew;
+            depth = ready.fit.kit.depth;
+            stores = ready.fit.kit.stores;
+            told = ready.fit.kit.told;
+            buffers = sizes;
+          };
+        }));
+    no_events = ap (λ (x : WordStreamer). x.report.events.elements) streamer_is ∙ ready.room.no_events;
+    fed = did_stream;
+    ended = record {
+      asked = ready.queued.put;
+      answers_all = ap (λ w. w.shares) ready.queued.no_answers;
+      no_results = ap (λ w. w.put) ready.queued.no_answers;
+      no_answers = ap (λ w. w.took) ready.queued.no_answers;
+      split = dealt.split;
+      depth_is = ready.fit.kit.depth;
+      loaders = dealt.of k.shape k.depth (told_by g k.stores) (λ j x inside. let are = ready.fit.kit.stores in
+          (are.shapes j x inside, are.depths j x inside, are.told j x inside));
+      number = number;
+      loaded = did_load;
+    };
+    depth_is = refl;
+    told_is = ap (told_by g) (sym dealt.stores_are);
+    no_stores = refl;
+    passes = record { requests = dealt.passes.requests; results = did_stream.answers };
+    loaders_of = λ j x inside. (did_load j x (omega (arith, number, inside))).passes;
+    some = (let x = ready.fit.kit.crew.some_loader in let y = ready.fit.kit.stores.count in let z = number_is in omega (arith, x, y, z, number));
+    stores_room = (let x = dealt.room in omega (arith, x, number));
+    buffers = subst (λ (x : ListView (ListView ℕ)). length batch ≤ x.spare) (sym dealt.buffers) ready.queued.buffers;
+    sizes = sizes;
+  })
+
+-- the samplers were moved out of a kit
+module _ {F P : Type 0} (g : FileMeanings F) (filter : FilterMeanings P) (words : WordsValue) (q : Queues) (bag : RowBag) (was b d : WordStreamer)
+    (k : StreamKitView F) (r s : RowKit) (job : Job) (e f : List RowTask) (streamer_is : b ≡ record was { answers = b.answers })
+    (ready : IsReadySharing g words q bag was k r job.batch) (job_is : IsJobFor (sharing_setup g words k r) job)
+    (tasks_are : e ≡ r.tasks.elements) (rows_are : s ≡ record r { tasks = s.tasks }) (number_f : length f ≡ length e)
+    (did_draw : AllDid (HasDrawnShared filter words bag job.scene job.picture) e f) (did_stream : HasFed words q job.batch b d) where
+  pub rows_back : MayEndRows filter words bag s job.scene job.picture b.streamer.writer d.streamer e f
+  rows_back = subst (λ (x : RowKit). MayEndRows filter words bag x job.scene job.picture b.streamer.writer d.streamer e f) (sym rows_are) (record {
+    shared = subst (λ (x : List RowTask). IsSharedKit bag (record r { tasks = s.tasks }) (samplers_of x)) (sym tasks_are) (record {
+      kit = record {
+        some = ready.rows.kit.some;
+        few = ready.rows.kit.few;
+        depth = ready.rows.kit.depth;
+        sides = ready.rows.kit.sides;
+        samplers_are = ready.rows.kit.samplers_are;
+        counts = ready.rows.kit.counts;
+        number = ready.rows.kit.number;
+      };
+      shared = ready.rows.shared;
+      lines = record { no_lines = ready.rows.lines.no_lines; room = ready.rows.lines.room };
+    });
+    shape = job_is.shape ∙ sym ready.agree.shape;
+    depth = job_is.depth ∙ sym ready.agree.depth;
+    width = job_is.width;
+    height = job_is.height;
+    passes = subst (λ (x : List RowTask × WordStreamer). HaveNewPasses words x.1.streamer.writer x.0) (λ i. (sym tasks_are i, sym streamer_is i))
+        ready.passes;
+    number = number_f;
+    drawn = did_draw;
+    samplers = ready.streams.fit.samplers ∙ sym ready.agree.count;
+    of = did_stream.streamer;
+  })
+
+module _ {F P : Type 0} (g : FileMeanings F) (filter : FilterMeanings P) (job : Job) (m n : SharingView F) (a c : List (QueuedView F))
+    (e f : List RowTask) (b d : WordStreamer) (ready : IsReadyBy g m.words m.queues m.bag m.streamer m.streams m.rows job.batch)
+    (job_is : IsJobFor (sharing_state g m).setup job) (detached : AreOut g m n a e b) (number : length c ≡ length a) (number_f : length f ≡ length e)
+    (did_load : AllDid (HasLoaded g n.queues) a c) (did_draw : AllDid (HasDrawnShared filter n.words n.bag job.scene job.picture) e f)
+    (did_stream : HasFed n.words n.queues job.batch b d) where
+  was_ready : IsReadySharing g m.words m.queues m.bag detached.was m.streams m.rows job.batch
+  was_ready = subst (λ (x : Option WordStreamer). IsReadyBy g m.words m.queues m.bag x m.streams m.rows job.batch) detached.there ready
+
+  has_loaded : AllDid (HasLoaded g m.queues) a c
+  has_loaded = subst (λ (x : Queues). AllDid (HasLoaded g x) a c) detached.queues did_load
+
+  has_drawn : AllDid (HasDrawnShared filter m.words m.bag job.scene job.picture) e f
+  has_drawn = subst (λ (x : WordsValue × RowBag). AllDid (HasDrawnShared filter x.0 x.1 job.scene job.picture) e f)
+      (λ i. (detached.words i, detached.bag i)) did_draw
+
+  has_fed : HasFed m.words m.queues job.batch b d
+  has_fed = subst (λ (x : WordsValue × Queues). HasFed x.0 x.1 job.batch b d) (λ i. (detached.words i, detached.queues i)) did_stream
+
+  -- how the work began
+  z : Begun F
+  z = record {
+    stream = stream_begun g m.words m.queues detached.was b d m.streams n.streams job.batch a c detached.loaders_out detached.streamer_is was_ready.streams
+        number has_loaded has_fed;
+    tasks = e;
+  }
+
+  -- it leaves what may be moved back
+  may_finish : MayFinish g filter n.words n.queues n.bag n.streams n.rows job c f d z
+  unfolding z stream_begun
+  may_finish = subst (λ (x : WordsValue × Queues × RowBag). MayFinish g filter x.0 x.1 x.2 n.streams n.rows job c f d z)
+      (λ i. (sym detached.words i, sym detached.queues i, sym detached.bag i)) (record {
+        stream = stream_back g m.words m.queues detached.was b d m.streams n.streams job.batch a c detached.loaders_out detached.streamer_is
+            was_ready.streams number has_loaded has_fed;
+        rows = rows_back g filter m.words m.queues m.bag detached.was b d m.streams m.rows n.rows job e f detached.streamer_is was_ready job_is
+            detached.tasks_are detached.rows number_f has_drawn has_fed;
+        agree = record {
+          shape = ap (λ (x : RowKit). x.geometry) detached.rows ∙ was_ready.agree.shape ∙ sym (ap (λ (x : StreamKitView F). x.shape) detached.loaders_out.rest);
+          depth = ap (λ (x : RowKit). x.depth) detached.rows ∙ was_ready.agree.depth ∙ sym (ap (λ (x : StreamKitView F). x.depth) detached.loaders_out.rest);
+          count = ap (λ (x : RowKit). x.count) detached.rows ∙ was_ready.agree.count
+              ∙ sym (ap (λ (x : StreamKitView F). x.crew.samplers) detached.loaders_out.rest);
+        };
+      })
+
+  pub come_back : (y : Begun F) × MayFinish g filter n.words n.queues n.bag n.streams n.rows job c f d y
+  come_back = (z, may_finish)
+
+  -- and it began with what the machine was
+  before : IsUntouched (sharing_state g m) (state_by g n.words b.streamer.writer.journal (stream_before n.streams z.stream) n.rows)
+  unfolding z stream_begun round
+  before =
+      let out = detached.loaders_out in
+      let stores = out.dealt.stores_are in
+      record {
+        setup = λ i. record {
+          shape = (ap (λ (x : StreamKitView F). x.shape) out.rest) i;
+          depth = (ap (λ (x : StreamKitView F). x.depth) out.rest) i;
+          width = (ap (λ (x : RowKit). x.width) detached.rows) i;
+          height = (ap (λ (x : RowKit). x.height) detached.rows) i;
+          frames = (detached.words i).sizes.frames;
+          crew = (ap (λ (x : StreamKitView F). x.crew) out.rest) i;
+          bytes = told_by g (stores i);
+        };
+        files = ap (files_of g) stores;
+        journal = ap (λ (x : WordStreamer). x.streamer.writer.journal) detached.streamer_is ∙ sym (ap journal_by detached.there);
+      }
+
+  -- and then the machine has run the pass
+  pub has_ended : (p : SharingView F) (r : Result PassReport NoMemory) → SharingFinishes g filter job r n c f d p
+      → SharingEnds g filter job r (sharing_state g m) p
+  unfolding z stream_begun
+  has_ended p r done = ends_after (sharing_of filter) (drawn_by filter p.rows p.streamer) job (sharing_state g m)
+      (state_by g n.words b.streamer.writer.journal (stream_before n.streams z.stream) n.rows) (sharing_state g p) before
+      (IsIdleBy g p.words p.streamer p.streams p.rows) r (done z may_finish)

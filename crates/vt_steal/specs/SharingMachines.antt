@@ -1,0 +1,150 @@
+-- The machine whose samplers share the rows of each picture.
+use Rattle.std.specs.Prelude.{◌≡◌, ℕ, false, Option, None, Some, List, [], Result}
+use Rattle.vt_outside.specs.declared.outside.File.{Ghosts as FileMeanings}
+use Rattle.vt_outside.specs.declared.answers.NoMemory.{NoMemory}
+use Rattle.vt_camera.specs.Paths.{PathView}
+use Rattle.vt_filter.specs.declared.filters.Filter.{Ghosts as FilterMeanings}
+use Rattle.vt_journal.specs.declared.changes.Change.{Change}
+use Rattle.vt_grace.specs.Values.{WordsValue}
+use Rattle.vt_streamer.specs.Views.{StreamerView}
+use Rattle.vt_plan.specs.declared.batches.Planned.{Planned}
+use Rattle.vt_loaders.specs.declared.queued.Queues.{Queues}
+use Rattle.vt_loaders.specs.QueuedLoaders.{QueuedView}
+use Rattle.vt_workers.specs.Jobs.{Job}
+use Rattle.vt_machine.specs.declared.crew.PassReport.{PassReport}
+use Rattle.vt_machine.specs.Drawings.{Drawing, drawing_of}
+use Rattle.vt_machine.specs.Machines.{Setup, MachineState, files_of, told_by}
+use Rattle.vt_machine.specs.Passes.{Ends}
+use Rattle.vt_word_workers.specs.declared.workers.WordStreamer.{WordStreamer}
+use Rattle.vt_word_workers.specs.GivenPasses.{HaveNewPasses}
+use Rattle.vt_word_workers.specs.Kits.{AreAllIn}
+use Rattle.vt_shared_rows.specs.declared.bag.RowBag.{RowBag}
+use Rattle.vt_steal.specs.declared.row_kit.RowKit.{RowKit}
+use Rattle.vt_steal.specs.StreamKits.{StreamKitView, IsFitStream, IsAskedStream, AreLoadersOut, StreamBegun, stream_before, MayEndStream, HasEndedStream}
+use Rattle.vt_steal.specs.RowTasks.{RowTask}
+use Rattle.vt_steal.specs.RowKits.{samplers_of, IsIdleRows, IsSharedKit}
+use Rattle.vt_steal.specs.RowEnds.{bytes_of, WasShared, MayEndRows, HasEndedRows}
+
+-- a machine: its words, its queues, its bag of rows, its streamer, which is out while a pass is run, and what streaming and drawing are done with
+pub record SharingView (F : Type 0) : Type 0 where
+  pub words : WordsValue
+  pub queues : Queues
+  pub bag : RowBag
+  pub streamer : Option WordStreamer
+  pub streams : StreamKitView F
+  pub rows : RowKit
+
+-- rows are shared, and pixels are made as a filter makes them
+abbrev pub sharing_of : {P : Type 0} → FilterMeanings P → Drawing
+sharing_of f = record (drawing_of f) { dealt = false }
+
+-- the journal of a streamer, if it is there
+abbrev pub journal_by : Option WordStreamer → List Change
+journal_by None = []
+journal_by (Some t) = t.streamer.writer.journal
+
+-- what a machine was made for
+abbrev pub sharing_setup : {F : Type 0} → FileMeanings F → WordsValue → StreamKitView F → RowKit → Setup
+sharing_setup g words k r = record {
+  shape = k.shape;
+  depth = k.depth;
+  width = r.width;
+  height = r.height;
+  frames = words.sizes.frames;
+  crew = k.crew;
+  bytes = told_by g k.stores;
+}
+
+-- what a machine of a journal is
+abbrev pub state_by : {F : Type 0} → FileMeanings F → WordsValue → List Change → StreamKitView F → RowKit → MachineState
+state_by g words journal k r = record {
+  setup = sharing_setup g words k r;
+  files = files_of g k.stores;
+  journal = journal;
+  rows = bytes_of r.drawn.elements;
+  counts = r.counts;
+}
+
+-- what a machine is at present
+abbrev pub sharing_state : {F : Type 0} → FileMeanings F → SharingView F → MachineState
+sharing_state g m = state_by g m.words (journal_by m.streamer) m.streams m.rows
+
+-- both parts were made for one texture and one crew
+pub record Agree {F : Type 0} (k : StreamKitView F) (r : RowKit) : Type 0 where
+  pub shape : r.geometry ≡ k.shape
+  pub depth : r.depth ≡ k.depth
+  pub count : r.count ≡ k.crew.samplers
+
+-- no sampler has a pass, and none is prepared
+pub record IsIdleSharing {F : Type 0} (g : FileMeanings F) (words : WordsValue) (v : StreamerView) (k : StreamKitView F) (r : RowKit) : Type 0 where
+  pub fit : IsFitStream g words v k
+  pub all_in : AreAllIn v
+  pub rows : IsIdleRows r
+  pub agree : Agree k r
+
+-- a pass is prepared for a batch
+pub record IsReadySharing {F : Type 0} (g : FileMeanings F) (words : WordsValue) (q : Queues) (bag : RowBag) (t : WordStreamer)
+    (k : StreamKitView F) (r : RowKit) (batch : List Planned) : Type 0 where
+  pub streams : IsAskedStream g words q t k batch
+  pub rows : IsSharedKit bag r (samplers_of r.tasks.elements)
+  pub passes : HaveNewPasses words t.streamer.writer r.tasks.elements
+  pub agree : Agree k r
+
+-- so with a streamer that may be out
+abbrev pub IsIdleBy : {F : Type 0} → FileMeanings F → WordsValue → Option WordStreamer → StreamKitView F → RowKit → Type 0
+IsIdleBy g words None k r = ⊥
+IsIdleBy g words (Some t) k r = IsIdleSharing g words t.streamer k r
+
+abbrev pub IsReadyBy : {F : Type 0} → FileMeanings F → WordsValue → Queues → RowBag → Option WordStreamer → StreamKitView F → RowKit
+    → List Planned → Type 0
+IsReadyBy g words q bag None k r batch = ⊥
+IsReadyBy g words q bag (Some t) k r batch = IsReadySharing g words q bag t k r batch
+
+-- what samplers have drawn up to now over the words of a streamer
+abbrev pub drawn_by : {P : Type 0} → FilterMeanings P → RowKit → Option WordStreamer → PathView → ℕ → ℕ → ℕ → List ℕ → Type 0
+drawn_by filter r None path i y version bytes = ⊥
+drawn_by filter r (Some t) path i y version bytes = WasShared filter r.geometry r.depth r.count t.streamer.writer path i y version bytes
+
+-- the workers were moved out of a machine
+pub record AreOut {F : Type 0} (g : FileMeanings F) (m n : SharingView F) (loaders : List (QueuedView F)) (tasks : List RowTask)
+    (streamer : WordStreamer) : Type 0 where
+  pub words : n.words ≡ m.words
+  pub queues : n.queues ≡ m.queues
+  pub bag : n.bag ≡ m.bag
+  pub was : WordStreamer
+  pub there : m.streamer ≡ Some was
+  pub streamer_is : streamer ≡ record was { answers = streamer.answers }
+  pub loaders_out : AreLoadersOut g m.queues m.streams n.streams was.answers streamer.answers loaders
+  pub tasks_are : tasks ≡ m.rows.tasks.elements
+  pub rows : n.rows ≡ record m.rows { tasks = n.rows.tasks }
+
+-- how the work of a pass began: its streaming, and the samplers
+pub record Begun (F : Type 0) : Type 0 where
+  pub stream : StreamBegun F
+  pub tasks : List RowTask
+
+-- workers may be moved back into a machine
+pub record MayFinish {F P : Type 0} (g : FileMeanings F) (filter : FilterMeanings P) (words : WordsValue) (q : Queues) (bag : RowBag)
+    (k : StreamKitView F) (r : RowKit) (job : Job) (loaders : List (QueuedView F)) (tasks : List RowTask) (t : WordStreamer) (b : Begun F)
+    : Type 0 where
+  pub stream : MayEndStream g words q k job.batch loaders t b.stream
+  pub rows : MayEndRows filter words bag r job.scene job.picture b.stream.streamer.streamer.writer t.streamer b.tasks tasks
+  pub agree : Agree k r
+
+-- the loaders and the samplers were taken back, by the streamer before and after
+pub record HasFinished {F P : Type 0} (g : FileMeanings F) (filter : FilterMeanings P) (words : WordsValue) (k l : StreamKitView F) (r s : RowKit)
+    (job : Job) (report : PassReport) (tasks : List RowTask) (t u : StreamerView) (b : Begun F) : Type 0 where
+  pub stream : HasEndedStream g k l job.batch report.losses.elements report.events.elements b.stream t.writer
+  pub rows : HasEndedRows filter words r s job.scene job.picture b.stream.streamer.streamer.writer t u tasks report.rows.elements
+
+-- how a pass of a machine ends
+abbrev pub SharingEnds : {F P : Type 0} → FileMeanings F → FilterMeanings P → Job → Result PassReport NoMemory → MachineState → SharingView F → Type 0
+SharingEnds g filter job result before p = Ends (sharing_of filter) (drawn_by filter p.rows p.streamer)
+    (IsIdleBy g p.words p.streamer p.streams p.rows) job result before (sharing_state g p)
+
+-- however the work began, what was done is a pass
+abbrev pub SharingFinishes : {F P : Type 0} → FileMeanings F → FilterMeanings P → Job → Result PassReport NoMemory → SharingView F → List (QueuedView F)
+    → List RowTask → WordStreamer → SharingView F → Type 0
+SharingFinishes g filter job result n loaders tasks t p = (b : Begun _)
+    → MayFinish g filter n.words n.queues n.bag n.streams n.rows job loaders tasks t b
+    → SharingEnds g filter job result (state_by g n.words b.stream.streamer.streamer.writer.journal (stream_before n.streams b.stream) n.rows) p

@@ -1,0 +1,17 @@
+//! The machine whose samplers share the rows of each picture: each takes the next row from one bag when it has drawn the last, so that a slow
+//! row holds up no other sampler's rows. Its batch is streamed meanwhile.
+#![tactic(auto)]
+
+mod ending;
+mod machine;
+mod passes;
+mod row_kit;
+mod shared;
+mod sharing;
+mod streams;
+
+pub use machine::{SharingMachine, StealMachine};
+pub use row_kit::{RowKit, RowTask};
+pub use shared::SharingShared;
+pub use streams::StreamKit;
+pub use vt_shared_rows::{BagPass, RowBag, RowJob, RowSampler};

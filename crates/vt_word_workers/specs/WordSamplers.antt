@@ -1,0 +1,7 @@
+-- A sampler to which rows are dealt, with its pass of the words.
+use Rattle.vt_sampler.specs.Samplers.{SamplerView}
+use Rattle.vt_word_workers.specs.declared.workers.WithPass.{WithPass}
+
+-- the sampler, and its pass while a pass is run
+abbrev pub WordSampler : Type 0
+WordSampler = WithPass SamplerView
