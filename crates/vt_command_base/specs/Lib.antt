@@ -7,4 +7,4 @@ pub mod Causes
 pub mod Reads
 pub mod OpenWrites
 pub mod Tasks
-pub mod CommandSpec
+pub mod CommandSpecs

@@ -1,3 +1,3 @@
-pub mod Courses
+pub mod Effects
 pub mod Expectations
 pub mod Pictures

@@ -19,7 +19,7 @@ pub mod Outlooks
 pub mod Tallies
 pub mod WalkSteps
 pub mod Following
-pub mod Courses
+pub mod WalkEffects
 pub mod Beginnings
 pub mod Opening
 pub mod Counts

@@ -1,10 +1,10 @@
 use Rattle.std.proofs.Common.{◌≡◌, ℕ, List, [], ◌++◌, ap, ◌∙◌}
 use Rattle.std.specs.Prelude.{codes}
 use Rattle.vt_text.specs.Numbers.{number_spelling}
-use Rattle.vt_files.specs.Courses.{gain}
-use Rattle.vt_inputs.specs.Lines.{end_line}
-use Rattle.vt_inputs.proofs.Putting.{three_pieces, pieces_put}
-use Rattle.vt_inputs.proofs.output.put_end.Goals as goal
+use Rattle.vt_files.specs.Effects.{sink_effect}
+use Rattle.vt_command_base.specs.Lines.{end_line}
+use Rattle.vt_command_base.proofs.Putting.{three_pieces, pieces_put}
+use Rattle.vt_command_base.proofs.output.put_end.Goals as goal
 
 pub returns : goal.returns
 returns g c =
@@ -14,4 +14,4 @@ returns g c =
     ∙ ap (λ (t : List ℕ). t ++ number_spelling c.args.pictures) c.new-number.ensures) c.as_slice-2.ensures in
     let p = c.put_pieces.ensures in
     pieces_put (c.as_slice.result.now ++ (c.bytes.result.now ++ (c.as_slice-2.result.now ++ []))) (end_line c.args.pictures)
-    (gain g.O.Sink c.args.out.now c.put_pieces.new.sink) c.put_pieces.result e p.whole p.part p.failed
+    (sink_effect g.O.Sink c.args.out.now c.put_pieces.new.sink) c.put_pieces.result e p.whole p.part p.failed
