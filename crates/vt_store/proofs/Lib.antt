@@ -13,3 +13,4 @@ pub mod StripSteps
 pub mod StripLevels
 mod LevelRows
 mod LevelChain
+mod WideParts
