@@ -2,6 +2,8 @@
 #![tactic(auto)]
 
 mod commands;
+mod plain_files;
+mod plain_groups;
 
 pub use commands::generate::{generate, make_row};
 pub use commands::info::info;
