@@ -13,4 +13,3 @@ pub mod StripSteps
 pub mod StripLevels
 mod LevelRows
 mod LevelChain
-mod WideParts

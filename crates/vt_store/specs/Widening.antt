@@ -1,12 +1,10 @@
 -- The store of two-byte samples that is made of one of one-byte samples.
-use Rattle.std.specs.Prelude.{◌≡◌, ℕ, ◌+◌, ◌-◌, ◌*◌, ◌<◌, ◌≤◌, List, [], ◌∷◌, take, min, Option, Some, option_map}
+use Rattle.std.specs.Prelude.{◌≡◌, ℕ, ◌+◌, ◌-◌, ◌*◌, ◌<◌, List, [], ◌∷◌, take, min, Option, Some, option_map}
 use Rattle.vt_definitions.specs.Depths.{word_of, red_of, green_of, blue_of}
 use Rattle.vt_definitions.specs.Texels.{Source}
-use Rattle.vt_outside.specs.Files.{Files, IsPiece, with_bytes, with_appended}
+use Rattle.vt_outside.specs.Files.{Files, with_bytes, with_appended}
 use Rattle.vt_pages.specs.Shape.{Shape}
-use Rattle.vt_pages.specs.Pages.{pages_of}
-use Rattle.vt_tiles.specs.Format.{store_bytes, stored, tile_length, tile_start, tiles_bytes}
-use Rattle.vt_tiles.specs.StoreViews.{IsStore}
+use Rattle.vt_tiles.specs.Format.{store_bytes, stored, tiles_bytes}
 use Rattle.vt_tiles.specs.TileLines.{piece_at}
 
 -- so many times a sample of one byte is the sample of two bytes that stands for the same light: 255 becomes 65535
@@ -63,14 +61,3 @@ pub record IsWideLine (texels : List ℕ) (columns count : ℕ) (out : List ℕ)
 pub record HasWideLines (tile : List ℕ) (side columns rows lines : ℕ) (out : List ℕ) : Type 0 where
   pub each : (line x : ℕ) → line < lines → x < side
       → piece_at 6 out (line * side + x) ≡ doubled (piece_at 3 tile (min line (rows - 1) * side + min x (columns - 1)))
-
--- so many bytes are those of the tiles of so many pages from one on with one byte a sample, and so many have room for them with two
-pub record AreWideSizes (s : Shape) (first count narrow wide : ℕ) : Type 0 where
-  pub pages : first + count ≤ pages_of s
-  pub tiles : narrow ≡ count * tile_length s 1
-  pub room : wide ≡ count * tile_length s 2
-
--- the tiles of so many pages from one on with two bytes a sample, made of those of a store
-abbrev pub WidensTiles : Shape → ℕ → ℕ → List ℕ → List ℕ → Type 0
-WidensTiles s first count narrow wide =
-    (b : List ℕ) → IsStore b s 1 → IsPiece b (tile_start s 1 first) narrow → wide ≡ tiles_bytes s 2 (widened (stored b)) first count

@@ -1,6 +1,5 @@
 //! Making a store of two-byte samples of one of one-byte samples.
-ghost use Rattle.std.specs.Prelude.{◌≡◌, ℕ, ◌+◌, ◌-◌, ◌*◌, ◌≤◌, ◌⊎◌, true, false, List, length, IfOk, IfErr, OnOk, OnErr, IsErrOf};
-ghost use Rattle.std.specs.Thread.{IsSync};
+ghost use Rattle.std.specs.Prelude.{◌≡◌, ℕ, ◌+◌, ◌*◌, ◌≤◌, ◌⊎◌, true, false, List, length, IfOk, IfErr, OnOk, OnErr, IsErrOf};
 ghost use Rattle.vt_definitions.specs.Limits.{most_tile_side};
 ghost use Rattle.vt_outside.specs.Counts.{Rose};
 ghost use Rattle.vt_outside.specs.Files.{IsPiece, IsThere};
@@ -9,14 +8,12 @@ ghost use Rattle.vt_tiles.specs.Format.{stored, tile_length, tile_start, tiles_b
 ghost use Rattle.vt_tiles.specs.Places.{TilesAsked, PiecesAsked, FrontAsked, pieces_of};
 ghost use Rattle.vt_tiles.specs.Refusals.{IsOutsideRefusal};
 ghost use Rattle.vt_tiles.specs.StoreViews.{IsStore};
-ghost use Rattle.vt_store.specs.Widening.{HoldsWidened, HoldsFront, GainsTiles, GainsFront, IsWideLine, HasWideLines, AreWideSizes, WidensTiles, widened};
+ghost use Rattle.vt_store.specs.Widening.{HoldsWidened, HoldsFront, GainsTiles, GainsFront, IsWideLine, HasWideLines, widened};
 
 use crate::write::{begin_store, longest_row, size_inside, tile_columns};
 use std::alloc::Global;
-use std::thread::{Threads, join_mut};
 use vt_outside::{Folder, NoMemory};
 use vt_pages::Geometry;
-use vt_parts::{processors, share, threads_for};
 use vt_tiles::{Store, StoreError, double_bytes, put_span, tile_length};
 
 // How many bytes the longest line of a tile of one-byte samples has.
@@ -80,85 +77,8 @@ fn widen_tiles(wide: &mut [u8], narrow: &[u8], geometry: &Geometry, first: u32, 
     }
 }
 
-// Writes the tiles of so many pages from one on with two bytes a sample from those with one byte, in so many threads, each of which writes tiles of
-// its own.
-#[cycle(parts)]
-fn widen_in_parts<Rt: Threads + Sync>(
-    rt: &Rt,
-    threads: usize,
-    wide: &mut [u8],
-    narrow: &[u8],
-    geometry: &Geometry,
-    first: u32,
-    count: u32,
-)
-    requires { AreWideSizes geometry.now first count (length narrow.now) (length wide.old) }
-    ensures { WidensTiles geometry.now first count narrow.now wide.new }
-{
-    if threads < 2 {
-        widen_tiles(wide, narrow, geometry, first, count);
-        return;
-    }
-    let few = threads / 2;
-    let part = share(count as usize, threads, few) as u32;
-    let (front, back) = wide.split_at_mut(part as usize * tile_length(geometry, 2));
-    let (upper, lower) = narrow.split_at(part as usize * tile_length(geometry, 1));
-    widen_both(
-        rt,
-        few,
-        threads - few,
-        front,
-        upper,
-        back,
-        lower,
-        geometry,
-        first,
-        part,
-        count,
-    );
-}
-
-// Writes the first tiles in `few` threads, and at once the others, in `many`. A function of its own, so that what the closures ask is what it is
-// given.
-#[cycle(parts)]
-fn widen_both<Rt: Threads + Sync>(
-    rt: &Rt,
-    few: usize,
-    many: usize,
-    front: &mut [u8],
-    upper: &[u8],
-    back: &mut [u8],
-    lower: &[u8],
-    geometry: &Geometry,
-    first: u32,
-    part: u32,
-    count: u32,
-)
-    requires some { (1 ≤ few) × (1 ≤ many) }
-    requires part { part ≤ count }
-    requires front { AreWideSizes geometry.now first part (length upper.now) (length front.old) }
-    requires back { AreWideSizes geometry.now (first + part) (count - part) (length lower.now) (length back.old) }
-    ensures front { WidensTiles geometry.now first part upper.now front.new }
-    ensures back { WidensTiles geometry.now (first + part) (count - part) lower.now back.new }
-{
-    let _ = geometry.tile();
-    let behind = first + part;
-    let rest = count - part;
-    let mut above = ||
-        requires { IsSync Rt.row × AreWideSizes geometry.now first part (length upper.now) (length front.now) }
-        ensures { WidensTiles geometry.entry.now first part upper.entry.now front.exit.now }
-    { widen_in_parts(rt, few, front, upper, geometry, first, part) };
-    let mut below = ||
-        requires { IsSync Rt.row × AreWideSizes geometry.now behind rest (length lower.now) (length back.now) }
-        ensures { WidensTiles geometry.entry.now behind rest lower.entry.now back.exit.now }
-    { widen_in_parts(rt, many, back, lower, geometry, behind, rest) };
-    join_mut(rt, &mut above, &mut below);
-}
-
 // Reads the tiles of so many pages from one on, and adds them with two bytes a sample to the name's bytes.
-fn widen_piece<Rt: Threads + Sync, D: Folder>(
-    rt: &Rt,
-    threads: usize,
+fn widen_piece<D: Folder>(
     store: &mut Store<D::File>,
     folder: &mut D,
     name: &str,
@@ -191,14 +111,9 @@ fn widen_piece<Rt: Threads + Sync, D: Folder>(
     ensures faults { D.faults folder.old ≤ D.faults folder.new }
 {
     store.read_tiles(first, count, narrow)?;
-    widen_in_parts(rt, threads, wide, narrow, &store.geometry(), first, count);
+    widen_tiles(wide, narrow, &store.geometry(), first, count);
     folder.append(name, wide)?;
     Ok(())
-}
-
-// How many threads are to widen the tiles of the widest level that lie side by side: it takes one about a nanosecond a byte that is made.
-fn threads_for_piece<Rt: Threads>(rt: &Rt, geometry: &Geometry) -> usize {
-    threads_for(processors(rt), longest_row(geometry, 2) as u64)
 }
 
 // Room for the tiles of the widest level that lie side by side: of one byte a sample, and of two.
@@ -215,11 +130,10 @@ fn piece_rooms(alloc: Global, geometry: &Geometry) -> Result<(Vec<u8>, Vec<u8>),
 /// byte: so 255, the greatest, becomes 65,535. Past a level's edge its last texels stand again, whatever the old store has there.
 ///
 /// It reads the old store's tiles in pieces of as many as the widest level has side by side, each once and in order, and
-/// appends the new tiles alike; a piece is widened in as many threads as it is worth. `Failed` comes only where the folder's count of faults rose or the file's, and `NoMemory` where
+/// appends the new tiles alike. `Failed` comes only where the folder's count of faults rose or the file's, and `NoMemory` where
 /// memory was refused; then the name holds a front part of the new store, or is as before, and a front part of the old store's
 /// pieces was read. No other refusal comes.
-pub fn widen_store<Rt: Threads + Sync, D: Folder>(
-    rt: &Rt,
+pub fn widen_store<D: Folder>(
     alloc: Global,
     store: &mut Store<D::File>,
     folder: &mut D,
@@ -247,7 +161,6 @@ pub fn widen_store<Rt: Threads + Sync, D: Folder>(
     let step = tile_columns(&geometry, 0);
     let pages = geometry.page_count();
     let pieces = (pages + step - 1) / step;
-    let threads = threads_for_piece(rt, &geometry);
     store.reserve(pieces as u64)?;
     let (mut narrow_room, mut wide_room) = piece_rooms(alloc, &geometry)?;
     let narrow = narrow_room.as_mut_slice();
@@ -259,8 +172,6 @@ pub fn widen_store<Rt: Threads + Sync, D: Folder>(
         let read = count as usize * tile_length(&geometry, 1);
         let made = count as usize * tile_length(&geometry, 2);
         widen_piece(
-            rt,
-            threads,
             store,
             folder,
             name,

@@ -1,15 +1,14 @@
 -- Files that stand one behind the other in a room.
 use Rattle.std.proofs.Common.{◌≡◌, ℕ, ◌+◌, ◌-◌, ◌*◌, ◌<◌, ◌≤◌, List, [], ◌++◌, length, take, drop, refl, sym, ap, subst, ◌∙◌, append_assoc, length-append, take-append-drop, inl, inr, arith, codes, decimal}
 use Rattle.std.specs.List.{flat_map, range_with_len}
-use Rattle.std.proofs.lemmas.List.{append-nil, take_at, drop_at, take_all}
+use Rattle.std.proofs.lemmas.List.{append-nil, take_at, drop_at}
 use Rattle.std.proofs.lemmas.Nat.{mul-le, column_fits}
 use Rattle.std.proofs.lemmas.Fmt.{length-decimal-le}
 use borrow.Rule.Slice.PartMut.{put_mid}
 use Rattle.vt_definitions.specs.Depths.{IsDepth, texel_length, greatest_sample}
 use Rattle.vt_camera.specs.Paths.{PathView}
 use Rattle.vt_ppm.specs.Image.{ImageView}
-use Rattle.vt_ppm.specs.Picture.{picture_header, picture_bytes}
-use Rattle.vt_mip.specs.Chains.{chain}
+use Rattle.vt_ppm.specs.Picture.{picture_header}
 use Rattle.vt_draw.specs.Plain.{chain_of, surface_of, camera_at, plain_samples}
 use Rattle.vt_draw.proofs.Drawn.{length-first_rows}
 use Rattle.vt_draw.proofs.PartsDrawn.{row_put}
@@ -18,7 +17,7 @@ use Rattle.vt_plain_bilinear.proofs.PlainBlends.{length-rows}
 use Rattle.vt_words.specs.declared.filters.Filtering.{Filtering}
 use Rattle.vt_words.specs.declared.filters.Filtering.TheVariants.{Nearest, Bilinear}
 use Rattle.vt_tiles.proofs.Spans.{span_add, span_length}
-use Rattle.vt_store_commands.specs.Pictures.{plain_file, samples_by}
+use Rattle.vt_store_commands.specs.Pictures.{samples_by}
 use Rattle.vt_store_commands.specs.declared.plain_files.PlainPictures.{PlainPictures}
 use Rattle.vt_store_commands.specs.PlainFiles.{file_of, files_between, file_size, HasHeader, IsRoomForFiles, HasRoom, HoldsFiles}
 use Rattle.vt_store_commands.proofs.Drawing.{file_is}

@@ -259,16 +259,10 @@ fn a_fault_leaves_a_front_part_of_the_store(rt: HostRuntime) {
 }
 
 // Whether a store is widened to that one and is still held, and was asked for these places and no others.
-fn is_widened<Rt: Threads + Sync>(
-    rt: &Rt,
-    alloc: Global,
-    bytes: &[u8],
-    want: &Made,
-    places: &[Place],
-) -> bool {
+fn is_widened(alloc: Global, bytes: &[u8], want: &Made, places: &[Place]) -> bool {
     match folder_of(alloc, &[], bytes) {
         Some(mut folder) => {
-            widened(rt, alloc, &mut folder).is_ok()
+            widened(alloc, &mut folder).is_ok()
                 && folder.was_asked("a", places)
                 && is_made(&mut folder, want)
                 && folder.holds("a", bytes)
@@ -287,20 +281,14 @@ const WIDE_MADE: Made = Made {
 #[test]
 fn a_widened_store_has_each_sample_times_257(rt: HostRuntime) {
     let places = [HEADER, place(16, 24), place(40, 24), place(64, 12)];
-    holds(
-        &rt,
-        is_widened(&rt, rt.alloc(), &STORE_G4, &WIDE_MADE, &places),
-    );
+    holds(&rt, is_widened(rt.alloc(), &STORE_G4, &WIDE_MADE, &places));
     holds(&rt, WIDE_G4[22..28] == [1, 1, 1, 1, 1, 1]);
 }
 
 #[test]
 fn a_store_is_widened_in_pieces_that_are_read_once(rt: HostRuntime) {
     let places = [HEADER, place(16, 24), place(40, 24), place(64, 12)];
-    holds(
-        &rt,
-        is_widened(&rt, rt.alloc(), &STORE_G4, &WIDE_MADE, &places),
-    );
+    holds(&rt, is_widened(rt.alloc(), &STORE_G4, &WIDE_MADE, &places));
 }
 
 #[test]
@@ -319,7 +307,7 @@ fn a_widened_store_has_the_last_texel_past_the_edge_whatever_stood_there(rt: Hos
         places: &[HEADER],
     };
     let places = [HEADER, place(16, 12)];
-    holds(&rt, is_widened(&rt, rt.alloc(), &NARROW, &MADE, &places));
+    holds(&rt, is_widened(rt.alloc(), &NARROW, &MADE, &places));
 }
 
 // Whether `b` holds so many bytes of the wide store, or is not there where there is no number.
@@ -331,15 +319,10 @@ fn is_left(folder: &MemoryFolder, left: Option<usize>) -> bool {
 }
 
 // Whether a widening of the store of G4 fails where a call does, and leaves so much.
-fn leaves<Rt: Threads + Sync>(
-    rt: &Rt,
-    alloc: Global,
-    call: Fail,
-    left: Option<usize>,
-) -> bool {
+fn leaves(alloc: Global, call: Fail, left: Option<usize>) -> bool {
     match folder_of(alloc, &[call], &STORE_G4) {
         Some(mut folder) => {
-            has_failed(widened(rt, alloc, &mut folder))
+            has_failed(widened(alloc, &mut folder))
                 && is_left(&folder, left)
                 && folder.holds("a", &STORE_G4)
         }
@@ -378,7 +361,7 @@ fn each_fault_of_a_widening_leaves_a_front_part(rt: HostRuntime) {
         (Fail::Create(0), None),
     ];
     for (call, left) in &ROWS {
-        holds(&rt, leaves(&rt, rt.alloc(), *call, *left));
+        holds(&rt, leaves(rt.alloc(), *call, *left));
     }
 }
 

@@ -61,7 +61,7 @@ fn write_wide<Rt: Threads + Sync, D: Folder>(
     ensures { WritesMade (file_state D.File.File store.file) (upgraded_file store.shape) (ArePieces store.shape) name.now
         (folder_effect D.Folder folder.old folder.new) result }
 {
-    let written = widen_store(rt, alloc, &mut store, folder, name);
+    let written = widen_store(alloc, &mut store, folder, name);
     folder.close(store.into_file());
     match written {
         Ok(()) => Ok(()),

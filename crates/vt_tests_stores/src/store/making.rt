@@ -84,16 +84,12 @@ pub fn written<Rt: Threads + Sync>(
 }
 
 /// Makes the name `b` hold the store of two-byte samples that is made of the store of one-byte samples that `a` holds.
-pub fn widened<Rt: Threads + Sync>(
-    rt: &Rt,
-    alloc: Global,
-    folder: &mut MemoryFolder,
-) -> Result<(), StoreError> {
+pub fn widened(alloc: Global, folder: &mut MemoryFolder) -> Result<(), StoreError> {
     let Some(mut store) = store_in(folder, "a") else {
         return Err(StoreError::BadMagic);
     };
     let answer = if store.depth() == 1 {
-        widen_store(rt, alloc, &mut store, folder, "b")
+        widen_store(alloc, &mut store, folder, "b")
     } else {
         Err(StoreError::BadGeometry)
     };

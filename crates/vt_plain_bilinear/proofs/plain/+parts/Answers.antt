@@ -1,4 +1,4 @@
-use Rattle.std.proofs.Common.{◌≡◌, ℕ, ◌+◌, ◌-◌, ◌*◌, ◌≤◌, length, ap, ap₂, ◌∙◌, arith}
+use Rattle.std.proofs.Common.{◌≡◌, ℕ, ◌+◌, ◌-◌, ◌*◌, length, ap, ap₂, ◌∙◌, arith}
 use Rattle.vt_definitions.specs.Depths.{texel_length}
 use Rattle.vt_plain_bilinear.specs.BlendViews.{rows_blended}
 use Rattle.vt_draw.proofs.PartsDrawn.{both_drawn}

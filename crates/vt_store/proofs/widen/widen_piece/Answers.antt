@@ -12,23 +12,23 @@ use Rattle.vt_store.proofs.widen.widen_piece.Goals as goal
 
 pub returns-in_err-append-clause-part : goal.returns-in_err-append-clause-part
 returns-in_err-append-clause-part g c = OnErr-all _ _ (inr (record {
-  tiles = c.widen_in_parts.new.wide;
+  tiles = c.widen_tiles.new.wide;
   part = c.in_err-append.ensures.part.0;
   held = c.in_err-append.ensures.part.1;
   same = told_tiles (g.D.File.File.bytes c.args.store.now.file) (g.D.File.File.bytes c.read_tiles.new.self.file) c.args.store.now.shape
       c.read_tiles.new.self.shape c.geometry.result c.args.store.now.depth c.read_tiles.new.self.depth c.args.first c.args.count
-      c.read_tiles.new.buf c.widen_in_parts.new.wide c.read_tiles.ensures.bytes c.read_tiles.ensures.shape c.geometry.ensures.shape
-      c.read_tiles.ensures.depth c.requires.depth c.geometry.ensures.store c.in_ok-read_tiles.ensures.tiles c.widen_in_parts.ensures;
+      c.read_tiles.new.buf c.widen_tiles.new.wide c.read_tiles.ensures.bytes c.read_tiles.ensures.shape c.geometry.ensures.shape
+      c.read_tiles.ensures.depth c.requires.depth c.geometry.ensures.store c.in_ok-read_tiles.ensures.tiles c.widen_tiles.ensures;
 }))
 
 pub returns-clause-gained : goal.returns-clause-gained
 returns-clause-gained g c = record {
-  tiles = c.widen_in_parts.new.wide;
+  tiles = c.widen_tiles.new.wide;
   held = c.in_ok-append.ensures.files;
   same = told_tiles (g.D.File.File.bytes c.args.store.now.file) (g.D.File.File.bytes c.read_tiles.new.self.file) c.args.store.now.shape
       c.read_tiles.new.self.shape c.geometry.result c.args.store.now.depth c.read_tiles.new.self.depth c.args.first c.args.count
-      c.read_tiles.new.buf c.widen_in_parts.new.wide c.read_tiles.ensures.bytes c.read_tiles.ensures.shape c.geometry.ensures.shape
-      c.read_tiles.ensures.depth c.requires.depth c.geometry.ensures.store c.in_ok-read_tiles.ensures.tiles c.widen_in_parts.ensures;
+      c.read_tiles.new.buf c.widen_tiles.new.wide c.read_tiles.ensures.bytes c.read_tiles.ensures.shape c.geometry.ensures.shape
+      c.read_tiles.ensures.depth c.requires.depth c.geometry.ensures.store c.in_ok-read_tiles.ensures.tiles c.widen_tiles.ensures;
 }
 
 pub returns-in_err-read_tiles-clause-gained : goal.returns-in_err-read_tiles-clause-gained
@@ -139,13 +139,18 @@ pub read_tiles-requires-clause-size : goal.read_tiles-requires-clause-size
 read_tiles-requires-clause-size g c =
     c.requires.narrow ∙ ap (λ (d : ℕ). c.args.count * tile_length c.args.store.now.shape d) (sym c.requires.depth)
 
-pub widen_in_parts-requires-after_bounds : goal.widen_in_parts-requires-after_bounds
-widen_in_parts-requires-after_bounds g c κs within = record {
-  pages = omega (arith, c.requires.pages, ap pages_of (c.geometry.ensures.shape ∙ c.read_tiles.ensures.shape));
-  tiles = c.read_tiles.auto.buf ∙ c.requires.narrow
-      ∙ ap (λ (s : Shape). c.args.count * tile_length s 1) (sym (c.geometry.ensures.shape ∙ c.read_tiles.ensures.shape));
-  room = c.requires.wide ∙ ap (λ (s : Shape). c.args.count * tile_length s 2) (sym (c.geometry.ensures.shape ∙ c.read_tiles.ensures.shape));
-}
+pub widen_tiles-requires-clause-pages : goal.widen_tiles-requires-clause-pages
+widen_tiles-requires-clause-pages g c =
+    omega (arith, c.requires.pages, ap pages_of (c.geometry.ensures.shape ∙ c.read_tiles.ensures.shape))
+
+pub widen_tiles-requires-clause-room : goal.widen_tiles-requires-clause-room
+widen_tiles-requires-clause-room g c =
+    c.requires.wide ∙ ap (λ (s : Shape). c.args.count * tile_length s 2) (sym (c.geometry.ensures.shape ∙ c.read_tiles.ensures.shape))
+
+pub widen_tiles-requires-clause-tiles : goal.widen_tiles-requires-clause-tiles
+widen_tiles-requires-clause-tiles g c =
+    c.read_tiles.auto.buf ∙ c.requires.narrow
+    ∙ ap (λ (s : Shape). c.args.count * tile_length s 1) (sym (c.geometry.ensures.shape ∙ c.read_tiles.ensures.shape))
 
 pub returns-clause-part : goal.returns-clause-part
 returns-clause-part g c = tt

@@ -1,4 +1,4 @@
-use Rattle.std.proofs.Common.{◌≡◌, ℕ, ◌+◌, ◌-◌, ◌*◌, ◌≤◌, List, ◌++◌, length, ap, ap₂, sym, ◌∙◌, arith}
+use Rattle.std.proofs.Common.{ℕ, ◌+◌, ◌-◌, ◌*◌, List, ◌++◌, length, ap, ap₂, sym, ◌∙◌, arith}
 use Rattle.vt_store_commands.specs.PlainFiles.{file_of}
 use Rattle.vt_store_commands.proofs.PlainFiles.{between_split, upper_room, lower_room}
 use Rattle.vt_store_commands.proofs.plain_files.+files.Goals as goal

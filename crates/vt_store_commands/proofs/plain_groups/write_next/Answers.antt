@@ -1,4 +1,4 @@
-use Rattle.std.proofs.Common.{◌≡◌, ℕ, List, sym, subst, ◌∙◌}
+use Rattle.std.proofs.Common.{ℕ, List, sym, subst, ◌∙◌}
 use Rattle.std.proofs.lemmas.List.{with_items_is}
 use Rattle.vt_store_commands.specs.PlainFiles.{HoldsFiles, HasRoom}
 use Rattle.vt_store_commands.proofs.plain_groups.write_next.Goals as goal
