@@ -1,6 +1,6 @@
 -- Rows that are drawn behind those above them.
 use Rattle.std.proofs.Common.{◌≡◌, ℕ, ◌+◌, ◌-◌, ◌*◌, ◌<◌, ◌≤◌, List, [], ◌++◌, length, take, refl, sym, ap, ◌∙◌, append_assoc, arith}
-use Rattle.std.proofs.lemmas.List.{append-nil, length-take-le, take_all, take_at}
+use Rattle.std.proofs.lemmas.List.{append-nil, length-take-le, take_all}
 use Rattle.std.proofs.lemmas.Nat.{column_fits}
 use Rattle.std.proofs.Math.Seq.{take-append_seam, take-append-add}
 use borrow.Rule.Slice.PartMut.{put_mid, post_of}
@@ -16,7 +16,7 @@ use Rattle.vt_draw.specs.Views.{IsRoomFor}
 use Rattle.vt_draw.proofs.Drawn.{row_added}
 
 -- a row that was written stands behind what stood before its place
-row_put : (out drawn : List ℕ) (at k size : ℕ) → length drawn ≡ size → at ≤ length out → take (at + size) (put_mid at k out drawn) ≡ take at out ++ drawn
+pub row_put : (out drawn : List ℕ) (at k size : ℕ) → length drawn ≡ size → at ≤ length out → take (at + size) (put_mid at k out drawn) ≡ take at out ++ drawn
 row_put out drawn at k size full fits =
     let front : length (take at out) ≡ at = length-take-le at out fits in
     ap (λ (n : ℕ). take n (put_mid at k out drawn)) (let s : at + size ≡ length (take at out) + length drawn = omega (arith, front, full) in s)
@@ -67,17 +67,12 @@ pub first_rows_begin : (d : ℕ) (source : Source) (surface : Surface) (path : P
 unfolding first_rows
 first_rows_begin d source surface path camera = refl
 
--- what a buffer held stands in front of its room
-pub held_before : (held n : ℕ) (old rest : List ℕ) → length old ≡ held → take held (take (held + n) old ++ rest) ≡ old
-held_before held n old rest full =
-    ap (λ (l : List ℕ). take held (l ++ rest)) (take_all (held + n) old (omega (arith, full))) ∙ take_at old rest held full
-
 -- all rows of a picture
 pub all_drawn : (above below out : List ℕ) → above ≡ [] → above ++ out ≡ below → out ≡ below
 all_drawn above below out none drawn = ap (λ (t : List ℕ). t ++ out) (sym none) ∙ drawn
 
 -- room in two parts
-room_apart : (size first middle end : ℕ) → first ≤ middle → middle ≤ end → size * (end - first) ≡ size * (middle - first) + size * (end - middle)
+pub room_apart : (size first middle end : ℕ) → first ≤ middle → middle ≤ end → size * (end - first) ≡ size * (middle - first) + size * (end - middle)
 room_apart size first middle end p q =
     ap (λ (n : ℕ). size * n) (let s : end - first ≡ middle - first + (end - middle) = omega (arith, p, q) in s) ∙ apart size (middle - first) (end - middle)
   where

@@ -1,6 +1,6 @@
 //! Drawing the plain picture.
 
-ghost use Rattle.std.specs.Prelude.{◌≡◌, ◌+◌, ◌*◌, ◌<◌, ◌≤◌, ◌++◌, length, take, IfOk, OnOk};
+ghost use Rattle.std.specs.Prelude.{◌≡◌, ◌+◌, ◌*◌, ◌<◌, ◌≤◌, ◌++◌, length, take, IfOk};
 ghost use Rattle.std.specs.Thread.{IsSync};
 ghost use Rattle.vt_definitions.specs.Depths.{IsDepth, texel_length, texel_bytes};
 ghost use Rattle.vt_definitions.specs.Limits.{most_levels};
@@ -16,8 +16,8 @@ use vt_mip::Chain;
 use vt_outside::NoMemory;
 use vt_parts::{processors, share, threads_for};
 
-// How many nanoseconds it takes to draw a pixel, about.
-const PIXEL_TIME: u64 = 5;
+/// How many nanoseconds it takes to draw a pixel, about: 3.5 were measured.
+pub const DRAWING_TIME: u64 = 4;
 
 /// Draws the plain picture with this number of a path, row by row from the top: three samples a pixel, each of as many bytes as
 /// the chain's samples have, the most significant first. A pixel shows what the level of its row has at the pixel's place
@@ -34,40 +34,33 @@ pub fn draw_plain<Rt: Threads + Sync>(
     ensures size { IfOk result (λ samples.
         length samples.items ≡ texel_length chain.now.base.depth * (path.now.width * path.now.height)) }
 {
-    let mut samples = Vec::new(alloc);
-    let threads = drawing_threads(rt, path);
-    draw_plain_behind(rt, threads, chain, path, picture, &mut samples)?;
+    let size = texel_length(chain.depth()) * path.width() as usize * path.height() as usize;
+    let mut samples = vec![in alloc; 0u8; size]?;
+    let threads = threads_for(
+        processors(rt),
+        DRAWING_TIME * path.width() as u64 * path.height() as u64,
+    );
+    draw_plain_into(rt, threads, chain, path, picture, samples.as_mut_slice());
     Ok(samples)
 }
 
-/// How many threads are to draw a picture of a path: a picture of 320x200 is worth two or three. The system is asked for its processors, so a
-/// command asks once for all its pictures.
-pub fn drawing_threads<Rt: Threads>(rt: &Rt, path: &Path) -> usize
-    ensures { 1 ≤ result }
-{
-    threads_for(
-        processors(rt),
-        PIXEL_TIME * path.width() as u64 * path.height() as u64,
-    )
-}
-
-/// Draws the plain picture as `draw_plain` does, in so many threads, behind what a buffer holds, as the header of the picture's file. So one
-/// buffer can serve one picture after the other. After want of memory the buffer may hold anything.
-pub fn draw_plain_behind<Rt: Threads + Sync>(
+/// Draws the plain picture as `draw_plain` does into room for its bytes, in so many threads. It takes no memory and refuses nothing.
+pub fn draw_plain_into<Rt: Threads + Sync>(
     rt: &Rt,
     threads: usize,
     chain: &Chain,
     path: &Path,
     picture: u32,
-    bytes: &mut Vec<u8>,
-) -> Result<(), NoMemory>
-    requires { picture < length path.now.cameras }
-    ensures { OnOk result (bytes.new.items ≡ bytes.old.items ++ plain_samples chain.now.base chain.now.tile path.now picture) }
+    out: &mut [u8],
+)
+    requires picture { picture < length path.now.cameras }
+    requires room { length out.old ≡ texel_length chain.now.base.depth * (path.now.width * path.now.height) }
+    ensures { out.new ≡ plain_samples chain.now.base chain.now.tile path.now picture }
 {
     if chain.depth() == 1 {
-        draw_picture::<Rt, 1>(rt, threads, chain, path, picture, bytes)
+        draw_picture::<Rt, 1>(rt, threads, chain, path, picture, out);
     } else {
-        draw_picture::<Rt, 2>(rt, threads, chain, path, picture, bytes)
+        draw_picture::<Rt, 2>(rt, threads, chain, path, picture, out);
     }
 }
 
@@ -80,19 +73,20 @@ struct View<'a> {
     surface: Surface,
 }
 
-// Draws the plain picture of a chain whose samples have DEPTH bytes behind what a buffer holds.
+// Draws the plain picture of a chain whose samples have DEPTH bytes.
 fn draw_picture<Rt: Threads + Sync, const DEPTH: u32>(
     rt: &Rt,
     threads: usize,
     chain: &Chain,
     path: &Path,
     picture: u32,
-    bytes: &mut Vec<u8>,
-) -> Result<(), NoMemory>
+    out: &mut [u8],
+)
     requires depth { IsDepth DEPTH }
     requires own { chain.now.base.depth ≡ DEPTH }
     requires picture { picture < length path.now.cameras }
-    ensures { OnOk result (bytes.new.items ≡ bytes.old.items ++ plain_samples chain.now.base chain.now.tile path.now picture) }
+    requires room { length out.old ≡ texel_length chain.now.base.depth * (path.now.width * path.now.height) }
+    ensures { out.new ≡ plain_samples chain.now.base chain.now.tile path.now picture }
 {
     let view = View {
         chain,
@@ -100,11 +94,7 @@ fn draw_picture<Rt: Threads + Sync, const DEPTH: u32>(
         camera: path.camera(picture),
         surface: surface_of(chain),
     };
-    let held = bytes.len();
-    let size = texel_length(DEPTH) * path.width() as usize * path.height() as usize;
-    bytes.resize(held + size, 0)?;
-    draw_behind::<Rt, DEPTH>(rt, threads, &view, held, bytes.as_mut_slice());
-    Ok(())
+    draw_all::<Rt, DEPTH>(rt, threads, &view, out);
 }
 
 /// The surface that a chain is to a camera.
@@ -122,21 +112,19 @@ pub fn surface_of(chain: &Chain) -> Surface
     }
 }
 
-// Writes the bytes of all rows behind so many others.
-fn draw_behind<Rt: Threads + Sync, const DEPTH: u32>(
+// Writes the bytes of all rows.
+fn draw_all<Rt: Threads + Sync, const DEPTH: u32>(
     rt: &Rt,
     threads: usize,
     view: &View<'_>,
-    held: usize,
-    bytes: &mut [u8],
+    out: &mut [u8],
 )
     requires view { IsView DEPTH view.now }
-    requires room { length bytes.old ≡ held + texel_length DEPTH * (view.now.path.now.width * view.now.path.now.height) }
-    ensures { bytes.new ≡ take held bytes.old ++ rows_shown DEPTH view.now view.now.path.now.height }
+    requires room { length out.old ≡ texel_length DEPTH * (view.now.path.now.width * view.now.path.now.height) }
+    ensures { out.new ≡ rows_shown DEPTH view.now view.now.path.now.height }
 {
     let height = view.path.height();
-    let (_, samples) = bytes.split_at_mut(held);
-    draw_in_parts::<Rt, DEPTH>(rt, threads, view, 0, height, samples);
+    draw_in_parts::<Rt, DEPTH>(rt, threads, view, 0, height, out);
 }
 
 // Writes the bytes of the rows from one on to another, in so many threads, each of which writes rows of its own.

@@ -8,9 +8,10 @@ ghost use Rattle.vt_ppm.specs.Image.{ImageView, IsLawfulImage};
 ghost use Rattle.vt_mip.specs.Halves.{IsHalf, IsHalvedRaster};
 ghost use Rattle.vt_mip.specs.TakenRows.{HalvesFront};
 
-use crate::halving::halve_raster;
+use crate::halving::halve_in_threads;
 use std::alloc::Global;
 use std::marker::Model;
+use std::thread::Threads;
 use vt_definitions::texel_length;
 use vt_outside::NoMemory;
 use vt_ppm::Image;
@@ -35,8 +36,10 @@ impl Model for Halving {
     ghost invariant = { λ h. IsHalving (record { depth = h.depth; width = h.width; height = h.height; taken = h.taken; samples = h.samples.items }) };
 }
 
-// Halves so many rows that follow those that were taken, and writes what they make behind the rows of level 1 that are made.
-fn halve_behind(
+// Halves so many rows that follow those that were taken, in so many threads, and writes what they make behind the rows of level 1 that are made.
+fn halve_behind<Rt: Threads + Sync>(
+    rt: &Rt,
+    threads: usize,
     depth: u32,
     width: usize,
     height: usize,
@@ -62,7 +65,15 @@ fn halve_behind(
     let half_row = texel_length(depth) * ((width + 1) / 2);
     let from = half_row * (taken / 2);
     let made = half_row * ((count + 1) / 2);
-    halve_raster(depth, width, count, rows, &mut samples[from..from + made]);
+    halve_in_threads(
+        rt,
+        threads,
+        depth,
+        width,
+        count,
+        rows,
+        &mut samples[from..from + made],
+    );
 }
 
 impl Halving {
@@ -93,9 +104,9 @@ impl Halving {
         })
     }
 
-    /// Takes so many rows of the texture's samples, those behind the rows that were taken. Two rows make one of level 1, and an odd
-    /// last row counts twice: so an even number is taken at a time, but at the end.
-    pub fn take(&mut self, rows: &[u8], count: u32)
+    /// Takes so many rows of the texture's samples, those behind the rows that were taken, and halves them in so many threads. Two rows make
+    /// one of level 1, and an odd last row counts twice: so an even number is taken at a time, but at the end.
+    pub fn take<Rt: Threads + Sync>(&mut self, rt: &Rt, threads: usize, rows: &[u8], count: u32)
         requires some { 1 ≤ count }
         requires inside { self.old.taken + count ≤ self.old.height }
         requires even { self.old.taken % 2 ≡ 0 }
@@ -109,6 +120,8 @@ impl Halving {
             → IsPiece p.samples (texel_length p.depth * (p.width * self.old.taken)) rows.now → HalvesFront p self.new }
     {
         halve_behind(
+            rt,
+            threads,
             self.depth,
             self.width as usize,
             self.height as usize,

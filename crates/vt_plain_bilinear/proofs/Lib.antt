@@ -5,3 +5,4 @@ pub mod Counts
 pub mod Kept
 pub mod Evidence
 pub mod DrawnBlends
+pub mod PartsBlended

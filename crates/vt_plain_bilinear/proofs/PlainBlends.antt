@@ -27,11 +27,6 @@ pub row_is : (d : ℕ) (source : Source) (row : RowView) (columns : ℕ) (bytes 
 unfolding row_blends
 row_is d source row columns bytes full each = joined d bytes (λ (x : ℕ). blend_bytes d row x (source (row_level row))) columns full each
 
-pub rows-none : (d : ℕ) (source : Source) (surface : Surface) (path : PathView) (camera : Camera) (held : List ℕ)
-    → held ≡ held ++ first_blended_rows d source surface path camera 0
-unfolding first_blended_rows
-rows-none d source surface path camera held = sym (append-nil held)
-
 -- one row more
 one_more : (f : ℕ → List ℕ) (n : ℕ) → flat_map f (range_with_len 0 n) ++ f n ≡ flat_map f (range_with_len 0 (n + 1))
 one_more f n =

@@ -6,3 +6,4 @@ pub mod Shown
 pub mod Inside
 pub mod BlendUnder
 pub mod BlendPlain
+pub mod BlendViews

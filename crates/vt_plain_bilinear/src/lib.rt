@@ -10,5 +10,5 @@ mod rows;
 mod served;
 
 pub use filter::Bilinear;
-pub use plain::{draw_plain_blend, draw_plain_blend_behind};
+pub use plain::{BLENDING_TIME, draw_plain_blend, draw_plain_blend_into};
 pub use rows::draw_row_blend;

@@ -1,31 +1,34 @@
 //! Drawing the plain picture by blends.
 
-ghost use Rattle.std.specs.Prelude.{◌≡◌, ◌+◌, ◌*◌, ◌<◌, ◌≤◌, ◌++◌, length, IfOk, OnOk};
+ghost use Rattle.std.specs.Prelude.{◌≡◌, ◌+◌, ◌*◌, ◌<◌, ◌≤◌, ◌++◌, length, IfOk};
+ghost use Rattle.std.specs.Thread.{IsSync};
 ghost use Rattle.vt_definitions.specs.Depths.{IsDepth, texel_length, word_at};
 ghost use Rattle.vt_definitions.specs.Limits.{most_levels, most_read_side};
-ghost use Rattle.vt_camera.specs.Paths.{IsCamera};
-ghost use Rattle.vt_camera.specs.Rows.{IsSurface};
 ghost use Rattle.vt_draw.specs.Plain.{chain_of, surface_of};
 ghost use Rattle.vt_plain_bilinear.specs.Corners.{AreInside};
 ghost use Rattle.vt_plain_bilinear.specs.Blends.{texels_of};
-ghost use Rattle.vt_plain_bilinear.specs.Plain.{row_blends, first_blended_rows, plain_blends};
+ghost use Rattle.vt_plain_bilinear.specs.Plain.{row_blends, plain_blends};
+ghost use Rattle.vt_plain_bilinear.specs.BlendViews.{IsBlendView, IsBlendRoom, rows_blended};
 
 use crate::blends::{Texels, blend_words};
 use crate::corners::{Corners, corners_of, weights_of};
-use std::alloc::{AllocError, Global};
+use std::alloc::Global;
+use std::thread::{Threads, join_mut};
 use vt_camera::{Camera, Path, Row, Surface};
 use vt_definitions::{put_word, texel_length, texels_with_bytes_have_words, word_at};
 use vt_draw::surface_of;
 use vt_mip::{Chain, chain_words_are_small, texture_samples_are_bytes};
 use vt_outside::NoMemory;
+use vt_parts::{processors, share, threads_for};
 
-// How many bytes the longest row of a picture has.
-const MOST_ROW_SIZE: usize = 12288;
+/// How many nanoseconds it takes to blend a pixel, about: 12.7 were measured.
+pub const BLENDING_TIME: u64 = 13;
 
 /// Draws the plain picture with this number of a path by bilinear filtering, row by row from the top: three samples a pixel, each of as
 /// many bytes as the chain's samples have, the most significant first. A pixel is the blend of the four texels about its place, of the
 /// level of its row.
-pub fn draw_plain_blend(
+pub fn draw_plain_blend<Rt: Threads + Sync>(
+    rt: &Rt,
     alloc: Global,
     chain: &Chain,
     path: &Path,
@@ -36,76 +39,162 @@ pub fn draw_plain_blend(
     ensures size { IfOk result (λ samples.
         length samples.items ≡ texel_length chain.now.base.depth * (path.now.width * path.now.height)) }
 {
-    let mut samples = Vec::new(alloc);
-    draw_plain_blend_behind(chain, path, picture, &mut samples)?;
+    let size = texel_length(chain.depth()) * path.width() as usize * path.height() as usize;
+    let mut samples = vec![in alloc; 0u8; size]?;
+    let threads = threads_for(
+        processors(rt),
+        BLENDING_TIME * path.width() as u64 * path.height() as u64,
+    );
+    draw_plain_blend_into(rt, threads, chain, path, picture, samples.as_mut_slice());
     Ok(samples)
 }
 
-/// Draws the plain picture as `draw_plain_blend` does, behind what a buffer holds, as the header of the picture's file. So one buffer
-/// can serve one picture after the other. After want of memory the buffer may hold anything.
-pub fn draw_plain_blend_behind(
+/// Draws the plain picture as `draw_plain_blend` does into room for its bytes, in so many threads. It takes no memory and refuses
+/// nothing.
+pub fn draw_plain_blend_into<Rt: Threads + Sync>(
+    rt: &Rt,
+    threads: usize,
     chain: &Chain,
     path: &Path,
     picture: u32,
-    bytes: &mut Vec<u8>,
-) -> Result<(), NoMemory>
-    requires { picture < length path.now.cameras }
-    ensures { OnOk result (bytes.new.items ≡ bytes.old.items ++ plain_blends chain.now.base chain.now.tile path.now picture) }
+    out: &mut [u8],
+)
+    requires picture { picture < length path.now.cameras }
+    requires room { length out.old ≡ texel_length chain.now.base.depth * (path.now.width * path.now.height) }
+    ensures { out.new ≡ plain_blends chain.now.base chain.now.tile path.now picture }
 {
     if chain.depth() == 1 {
-        blend_picture::<1>(chain, path, picture, bytes)
+        blend_picture::<Rt, 1>(rt, threads, chain, path, picture, out);
     } else {
-        blend_picture::<2>(chain, path, picture, bytes)
+        blend_picture::<Rt, 2>(rt, threads, chain, path, picture, out);
     }
 }
 
-// Draws the plain picture of a chain whose samples have DEPTH bytes behind what a buffer holds.
-fn blend_picture<const DEPTH: u32>(
+// What the rows of a picture are blended of: a chain, a path, the picture's camera, and the chain as a surface to it.
+#[derive(Clone, Copy)]
+struct BlendView<'a> {
+    chain: &'a Chain,
+    path: &'a Path,
+    camera: Camera,
+    surface: Surface,
+}
+
+// Draws the plain picture of a chain whose samples have DEPTH bytes.
+fn blend_picture<Rt: Threads + Sync, const DEPTH: u32>(
+    rt: &Rt,
+    threads: usize,
     chain: &Chain,
     path: &Path,
     picture: u32,
-    bytes: &mut Vec<u8>,
-) -> Result<(), NoMemory>
+    out: &mut [u8],
+)
     requires depth { IsDepth DEPTH }
     requires own { chain.now.base.depth ≡ DEPTH }
     requires picture { picture < length path.now.cameras }
-    ensures { OnOk result (bytes.new.items ≡ bytes.old.items ++ plain_blends chain.now.base chain.now.tile path.now picture) }
+    requires room { length out.old ≡ texel_length chain.now.base.depth * (path.now.width * path.now.height) }
+    ensures { out.new ≡ plain_blends chain.now.base chain.now.tile path.now picture }
 {
-    let surface = surface_of(chain);
-    let camera = path.camera(picture);
-    let row_size = texel_length(DEPTH) * path.width() as usize;
-    bytes.reserve(row_size * path.height() as usize)?;
-    let mut row_samples = [0; MOST_ROW_SIZE];
-    let row_samples = &mut row_samples[..row_size];
-    blend_rows::<DEPTH>(chain, path, &camera, &surface, row_samples, bytes)?;
-    Ok(())
+    let view = BlendView {
+        chain,
+        path,
+        camera: path.camera(picture),
+        surface: surface_of(chain),
+    };
+    blend_all::<Rt, DEPTH>(rt, threads, &view, out);
 }
 
-// Adds the bytes of all rows of the picture that a camera takes, each by way of a row's room.
-fn blend_rows<const DEPTH: u32>(
-    chain: &Chain,
-    path: &Path,
-    camera: &Camera,
-    surface: &Surface,
-    row_samples: &mut [u8],
-    samples: &mut Vec<u8>,
-) -> Result<(), AllocError>
-    requires depth { IsDepth DEPTH }
-    requires own { chain.now.base.depth ≡ DEPTH }
-    requires surface { surface.now ≡ surface_of chain.now.base chain.now.tile }
-    requires limits { IsSurface surface.now }
-    requires camera { IsCamera camera.now }
-    requires levels { surface.now.levels ≤ most_levels }
-    requires room { length row_samples.old ≡ texel_length DEPTH * path.now.width }
-    ensures { OnOk result (samples.new.items
-        ≡ samples.old.items ++ first_blended_rows DEPTH (chain_of chain.now.base) surface.now path.now camera.now path.now.height) }
+// Writes the bytes of all rows.
+fn blend_all<Rt: Threads + Sync, const DEPTH: u32>(
+    rt: &Rt,
+    threads: usize,
+    view: &BlendView<'_>,
+    out: &mut [u8],
+)
+    requires view { IsBlendView DEPTH view.now }
+    requires room { length out.old ≡ texel_length DEPTH * (view.now.path.now.width * view.now.path.now.height) }
+    ensures { out.new ≡ rows_blended DEPTH view.now view.now.path.now.height }
 {
-    for y in 0..path.height() {
-        let row = Row::of(path, camera, y, surface);
-        blend_row::<DEPTH>(chain, row, path.width(), row_samples);
-        samples.extend_from_slice(row_samples)?;
+    let height = view.path.height();
+    blend_in_parts::<Rt, DEPTH>(rt, threads, view, 0, height, out);
+}
+
+// Writes the bytes of the rows from one on to another, in so many threads, each of which writes rows of its own.
+#[cycle(parts)]
+fn blend_in_parts<Rt: Threads + Sync, const DEPTH: u32>(
+    rt: &Rt,
+    threads: usize,
+    view: &BlendView<'_>,
+    first: u32,
+    end: u32,
+    out: &mut [u8],
+)
+    requires { IsBlendRoom DEPTH view.now first end (length out.old) }
+    ensures { rows_blended DEPTH view.now first ++ out.new ≡ rows_blended DEPTH view.now end }
+{
+    if threads < 2 {
+        blend_rows::<DEPTH>(view, first, end, out);
+        return;
     }
-    Ok(())
+    let few = threads / 2;
+    let middle = first + share((end - first) as usize, threads, few) as u32;
+    let size = texel_length(DEPTH) * view.path.width() as usize;
+    let (front, back) = out.split_at_mut(size * (middle - first) as usize);
+    blend_both::<Rt, DEPTH>(
+        rt,
+        few,
+        threads - few,
+        view,
+        first,
+        middle,
+        end,
+        front,
+        back,
+    );
+}
+
+// Writes the rows above the middle one, in `few` threads, and at once the others, in `many`. A function of its own, so that what the
+// closures ask is what it is given.
+#[cycle(parts)]
+fn blend_both<Rt: Threads + Sync, const DEPTH: u32>(
+    rt: &Rt,
+    few: usize,
+    many: usize,
+    view: &BlendView<'_>,
+    first: u32,
+    middle: u32,
+    end: u32,
+    front: &mut [u8],
+    back: &mut [u8],
+)
+    requires some { (1 ≤ few) × (1 ≤ many) }
+    requires front { IsBlendRoom DEPTH view.now first middle (length front.old) }
+    requires back { IsBlendRoom DEPTH view.now middle end (length back.old) }
+    ensures front { rows_blended DEPTH view.now first ++ front.new ≡ rows_blended DEPTH view.now middle }
+    ensures back { rows_blended DEPTH view.now middle ++ back.new ≡ rows_blended DEPTH view.now end }
+{
+    let mut above = ||
+        requires { IsSync Rt.row × IsBlendRoom DEPTH view.now first middle (length front.now) }
+        ensures { rows_blended DEPTH view.entry.now first ++ front.exit.now ≡ rows_blended DEPTH view.entry.now middle }
+    { blend_in_parts::<Rt, DEPTH>(rt, few, view, first, middle, front) };
+    let mut below = ||
+        requires { IsSync Rt.row × IsBlendRoom DEPTH view.now middle end (length back.now) }
+        ensures { rows_blended DEPTH view.entry.now middle ++ back.exit.now ≡ rows_blended DEPTH view.entry.now end }
+    { blend_in_parts::<Rt, DEPTH>(rt, many, view, middle, end, back) };
+    join_mut(rt, &mut above, &mut below);
+}
+
+// Writes the bytes of the rows from one on to another.
+fn blend_rows<const DEPTH: u32>(view: &BlendView<'_>, first: u32, end: u32, out: &mut [u8])
+    requires { IsBlendRoom DEPTH view.now first end (length out.old) }
+    ensures { rows_blended DEPTH view.now first ++ out.new ≡ rows_blended DEPTH view.now end }
+{
+    let columns = view.path.width();
+    let size = texel_length(DEPTH) * columns as usize;
+    for y in first..end {
+        let row = Row::of(view.path, &view.camera, y, &view.surface);
+        let at = size * (y - first) as usize;
+        blend_row::<DEPTH>(view.chain, row, columns, &mut out[at..at + size]);
+    }
 }
 
 // Writes the bytes of a row of so many pixels. It takes the row by value, for then no write can be one to the row's numbers.

@@ -14,6 +14,7 @@ mod stream;
 mod table;
 mod tiles;
 mod version;
+mod writing;
 
 pub use error::ReplayError;
 pub use laws::replay_is_one;

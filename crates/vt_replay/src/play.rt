@@ -24,12 +24,13 @@ use crate::stream::slots_for;
 use crate::table::PageTable;
 use crate::tiles::Tiles;
 use crate::version::draw_version;
+use crate::writing::write_picture;
 use std::alloc::Global;
 use std::thread::Threads;
 use vt_camera::Path;
 use vt_definitions::texel_length;
 use vt_draw::Shot;
-use vt_files::{Picture, write_picture};
+use vt_files::Picture;
 use vt_filter::Filter;
 use vt_journal::{Journal, JournalText, PassText};
 use vt_outside::{File, Folder, NoMemory, OutsideError};
@@ -201,10 +202,11 @@ fn show_pass<Rt: Threads + Sync, P: Filter + Sync, F: File>(
     Ok(())
 }
 
-// Draws a pass of a picture and writes the picture.
+// Draws a pass of a picture and writes the picture, with its bytes made in a buffer.
 fn play_pass<Rt: Threads + Sync, P: Filter + Sync, D: Folder>(
     rt: &Rt,
     alloc: Global,
+    buffer: &mut Vec<u8>,
     folder: &mut D,
     prefix: &str,
     stage: &mut Stage,
@@ -248,7 +250,7 @@ fn play_pass<Rt: Threads + Sync, P: Filter + Sync, D: Folder>(
         height: shot.path.height(),
         samples: stage.samples.as_slice(),
     };
-    write_picture(alloc, folder, prefix, shot.picture, &picture)
+    write_picture(buffer, alloc, folder, prefix, shot.picture, &picture)
 }
 
 // Whether a pass is the last of its picture.
@@ -279,10 +281,11 @@ fn last_of(text: &JournalText, i: u32) -> u64
     }
 }
 
-// Draws and writes the last pass of each picture, in the order of the pictures. Answers their number.
+// Draws and writes the last pass of each picture, in the order of the pictures, by way of one buffer. Answers their number.
 fn play_passes<Rt: Threads + Sync, P: Filter + Sync, D: Folder>(
     rt: &Rt,
     alloc: Global,
+    buffer: &mut Vec<u8>,
     folder: &mut D,
     prefix: &str,
     stage: &mut Stage,
@@ -330,7 +333,7 @@ fn play_passes<Rt: Threads + Sync, P: Filter + Sync, D: Folder>(
         let last = last_of(text, i);
         let journal = text.journal();
         play_pass::<Rt, P, D>(
-            rt, alloc, folder, prefix, stage, store, journal, &shot, pass, last,
+            rt, alloc, buffer, folder, prefix, stage, store, journal, &shot, pass, last,
         )?;
         done += 1;
     }
@@ -366,5 +369,16 @@ pub(crate) fn play<Rt: Threads + Sync, P: Filter + Sync, D: Folder>(
     let _side = geometry.tile();
     let journal = text.journal();
     let mut stage = first_stage(rt, alloc, &geometry, depth, path, journal)?;
-    play_passes::<Rt, P, D>(rt, alloc, folder, prefix, &mut stage, store, path, text)
+    let mut buffer = Vec::new(alloc);
+    play_passes::<Rt, P, D>(
+        rt,
+        alloc,
+        &mut buffer,
+        folder,
+        prefix,
+        &mut stage,
+        store,
+        path,
+        text,
+    )
 }

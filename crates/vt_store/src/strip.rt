@@ -1,5 +1,6 @@
 //! A strip of a texture: as many whole rows as a tile has, of which a row of tiles and rows of level 1 are made.
 ghost use Rattle.std.specs.Prelude.{◌≡◌, ◌⊎◌, ◌+◌, ◌*◌, ◌%◌, ◌<◌, ◌≤◌, length};
+ghost use Rattle.std.specs.Thread.{IsSync};
 ghost use Rattle.vt_definitions.specs.Depths.{IsDepth, texel_length};
 ghost use Rattle.vt_definitions.specs.Texels.{Source};
 ghost use Rattle.vt_outside.specs.Files.{IsPiece};
@@ -20,7 +21,8 @@ use vt_mip::{Halving, StripChain};
 use vt_outside::{Failed, File};
 use vt_pages::Geometry;
 
-// Halves the rows of a strip into level 1, and makes of them its row of tiles: the one beside the other, where three threads are at work.
+// Halves the rows of a strip into level 1, and makes of them its row of tiles: the one beside the other, where three threads are at work, of
+// which one adds another row of tiles. With more, the rows are halved in several.
 fn halve_and_cut<Rt: Threads + Sync>(
     rt: &Rt,
     threads: usize,
@@ -52,21 +54,22 @@ fn halve_and_cut<Rt: Threads + Sync>(
     ensures tiles { (src : Source) → HasTileRows geometry.now depth src first rows.now → tiles.new ≡ tiles_bytes geometry.now depth src first columns }
 {
     if threads < 3 {
-        half.take(rows, count);
+        half.take(rt, 1, rows, count);
         put_tiles(tiles, rows, depth, geometry, first, columns);
         return;
     }
+    let halvers = threads - 2;
     join_mut(
         rt,
         &mut || -> ()
-            requires { (1 ≤ count) × (half.now.taken + count ≤ half.now.height) × (half.now.taken % 2 ≡ 0)
+            requires { IsSync Rt.row × (1 ≤ count) × (half.now.taken + count ≤ half.now.height) × (half.now.taken % 2 ≡ 0)
                 × ((count % 2 ≡ 0) ⊎ (half.now.taken + count ≡ half.now.height))
                 × (length rows.now ≡ texel_length half.now.depth * (half.now.width * count)) }
             ensures { (half.exit.now.taken ≡ half.entry.now.taken + count) × (half.exit.now.depth ≡ half.entry.now.depth)
                 × (half.exit.now.width ≡ half.entry.now.width) × (half.exit.now.height ≡ half.entry.now.height)
                 × ((p : ImageView) → HalvesFront p half.entry.now
                 → IsPiece p.samples (texel_length p.depth * (p.width * half.entry.now.taken)) rows.entry.now → HalvesFront p half.exit.now) }
-        { half.take(rows, count) },
+        { half.take(rt, halvers, rows, count) },
         &mut || -> ()
             requires { IsDepth depth × (first < pages_of geometry.now)
                 × ((name_at geometry.now first).col + columns ≤ columns_at geometry.now (name_at geometry.now first).level)
@@ -118,7 +121,7 @@ fn read_strip<Rt: Threads + Sync, F: File>(
 }
 
 /// Reads a strip, halves its rows into level 1, and makes its row of tiles. The rooms are as long as the longest strip and as a row of
-/// tiles of level 0. With three threads the rows are halved in one of their own. It makes one read and takes no memory. `Failed` comes only where the file's count of faults rose.
+/// tiles of level 0. With three threads the rows are halved in one of their own, with more in several. It makes one read and takes no memory. `Failed` comes only where the file's count of faults rose.
 pub(crate) fn make_strip<Rt: Threads + Sync, F: File>(
     rt: &Rt,
     threads: usize,

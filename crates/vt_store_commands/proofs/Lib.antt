@@ -2,3 +2,5 @@ pub mod Drawing
 pub mod Tiling
 pub mod Making
 pub mod Upgrading
+pub mod PlainFiles
+pub mod PlainGroups

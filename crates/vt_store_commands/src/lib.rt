@@ -2,3 +2,5 @@
 #![tactic(auto)]
 
 pub mod commands;
+mod plain_files;
+mod plain_groups;

@@ -1,34 +1,32 @@
 //! The command `plain`: the plain picture of each camera of a path over a texture.
 
-ghost use Rattle.std.specs.Prelude.{◌≡◌, true, IfSome, map, option_map, ◌<◌, [], ◌∷◌, ◌++◌, length, OnOk};
+ghost use Rattle.std.specs.Prelude.{◌≡◌, true, IfSome, map, option_map, length};
 ghost use Rattle.clap.specs.Words.{rows_of, found_of};
 ghost use Rattle.vt_words.specs.Arguments.{rule_for, are_simple};
 ghost use Rattle.vt_store_commands.specs.commands.{PlainCommand, shown_store, IsLawfulStore};
 ghost use Rattle.vt_store_commands.specs.commands.Plain.{plain_rules, plain_clash, plain_values, shown_plain, plain_task, expected_path};
 ghost use Rattle.vt_definitions.specs.Tiles.{IsTileSide};
 ghost use Rattle.vt_files.specs.Effects.{call_effect, folder_effect};
-ghost use Rattle.vt_words.specs.Names.{four_digit_numbers};
-ghost use Rattle.vt_store_commands.specs.Pictures.{plain_file, samples_by};
+ghost use Rattle.vt_store_commands.specs.Pictures.{plain_file};
 ghost use Rattle.vt_files.specs.Expectations.{Leaves, Writes};
 ghost use Rattle.vt_command_base.specs.CommandSpecs.{Ends};
-ghost use Rattle.vt_files.specs.Pictures.{expected_picture, expected_pictures};
+ghost use Rattle.vt_files.specs.Pictures.{expected_pictures};
 
 use crate::commands::StoreCommand;
+use crate::plain_files::PlainPictures;
+use crate::plain_groups::write_pictures;
 use clap::ArgMatches;
 use std::alloc::Global;
 use std::thread::Threads;
 use vt_camera::Path;
 use vt_command_base::{Refusal, put_end, read_path, read_texture};
-use vt_draw::{draw_plain_behind, drawing_threads};
-use vt_files::write_file;
 use vt_mip::Chain;
-use vt_outside::{Folder, NoMemory, OutsideError, Sink};
-use vt_plain_bilinear::draw_plain_blend_behind;
+use vt_outside::{Folder, OutsideError, Sink};
 use vt_ppm::{Image, begin_picture};
 use vt_words::arguments::{Argument, text};
 use vt_words::filters::filter_of;
 use vt_words::numbers::side_of;
-use vt_words::{Filtering, is_picture_name, picture_name};
+use vt_words::{Filtering, is_picture_name};
 
 /// The words of `plain`.
 #[derive(Clone, Copy)]
@@ -119,12 +117,12 @@ fn leave_pictures<Rt: Threads + Sync, D: Folder, O: Sink>(
     ensures { Leaves (expected_path (shown_plain words.now) texture path.now) (call_effect D.Folder O.Sink folder.old folder.new out.old out.new) result }
 {
     let chain = Chain::build(rt, alloc, texture, words.tile)?;
-    write_pictures(rt, alloc, &chain, path, words, folder)?;
+    write_all(rt, alloc, &chain, path, words, folder)?;
     put_end(out, path.pictures())
 }
 
-// Writes all pictures of the path, in the order of their numbers, each made in the same buffer.
-fn write_pictures<Rt: Threads + Sync, D: Folder>(
+// Writes all pictures of the path, in the order of their numbers.
+fn write_all<Rt: Threads + Sync, D: Folder>(
     rt: &Rt,
     alloc: Global,
     chain: &Chain,
@@ -136,63 +134,19 @@ fn write_pictures<Rt: Threads + Sync, D: Folder>(
         (plain_file words.now.filter chain.now.base chain.now.tile path.now) (length path.now.cameras))
         (folder_effect D.Folder folder.old folder.new) result }
 {
-    let threads = drawing_threads(rt, path);
-    let mut buffer = Vec::new(alloc);
-    for picture in 0..path.pictures() {
-        write_picture(
-            rt,
-            threads,
-            &mut buffer,
-            alloc,
-            chain,
-            path,
-            picture,
-            words,
-            folder,
-        )?;
-    }
-    Ok(())
-}
-
-// Draws a picture behind its header in the buffer, in so many threads, and writes it under its name.
-fn write_picture<Rt: Threads + Sync, D: Folder>(
-    rt: &Rt,
-    threads: usize,
-    buffer: &mut Vec<u8>,
-    alloc: Global,
-    chain: &Chain,
-    path: &Path,
-    picture: u32,
-    words: &PlainWords<'_>,
-    folder: &mut D,
-) -> Result<(), OutsideError>
-    requires picture { picture < length path.now.cameras }
-    requires few { picture < four_digit_numbers }
-    ensures { Writes (expected_picture words.now.prefix.now (plain_file words.now.filter chain.now.base chain.now.tile path.now) picture ∷ [])
-        (folder_effect D.Folder folder.old folder.new) result }
-{
-    begin_picture(buffer, alloc, chain.depth(), path.width(), path.height())?;
-    draw_behind(rt, threads, words.filter, chain, path, picture, buffer)?;
-    let name = picture_name(alloc, words.prefix, picture)?;
-    write_file(folder, name.as_str(), buffer)
-}
-
-// Draws a picture by a filter behind what the buffer holds, in so many threads where each pixel is one texel.
-fn draw_behind<Rt: Threads + Sync>(
-    rt: &Rt,
-    threads: usize,
-    filter: Filtering,
-    chain: &Chain,
-    path: &Path,
-    picture: u32,
-    buffer: &mut Vec<u8>,
-) -> Result<(), NoMemory>
-    requires { picture < length path.now.cameras }
-    ensures { OnOk result (buffer.new.items
-        ≡ buffer.old.items ++ samples_by filter chain.now.base chain.now.tile path.now picture) }
-{
-    match filter {
-        Filtering::Nearest => draw_plain_behind(rt, threads, chain, path, picture, buffer),
-        Filtering::Bilinear => draw_plain_blend_behind(chain, path, picture, buffer),
-    }
+    let mut header = Vec::new(alloc);
+    begin_picture(
+        &mut header,
+        alloc,
+        chain.depth(),
+        path.width(),
+        path.height(),
+    )?;
+    let pictures = PlainPictures {
+        chain,
+        path,
+        filter: words.filter,
+        header: header.as_slice(),
+    };
+    write_pictures(rt, alloc, &pictures, words.prefix, folder)
 }

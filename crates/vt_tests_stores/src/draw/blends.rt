@@ -70,7 +70,7 @@ fn plain_sample<Rt: Threads + Sync>(rt: &Rt, alloc: Global, text: &[u8]) -> Opti
     let path = path_of(alloc, text)?;
     let image = image_of(alloc, 1, 4, 4, &FOUR)?;
     let chain = Chain::build(rt, alloc, image, 2).ok()?;
-    let picture = draw_plain_blend(alloc, &chain, &path, 0).ok()?;
+    let picture = draw_plain_blend(rt, alloc, &chain, &path, 0).ok()?;
     picture.get(0).copied()
 }
 

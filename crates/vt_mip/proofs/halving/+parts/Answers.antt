@@ -1,4 +1,4 @@
-use Rattle.std.proofs.Common.{◌≡◌, ℕ, ◌+◌, ◌-◌, ◌*◌, ◌/◌, ◌<◌, ◌≤◌, length, refl, sym, ap, ◌∙◌, arith}
+use Rattle.std.proofs.Common.{ℕ, ◌+◌, ◌-◌, ◌*◌, ◌/◌, length, refl, ap, ◌∙◌, arith}
 use Rattle.vt_mip.proofs.RasterParts.{upper_sizes, lower_sizes, in_parts, both_halved}
 use Rattle.vt_mip.proofs.halving.+parts.Goals as goal
 

@@ -11,8 +11,8 @@ half_end w h taken count d z space inside even room e =
     half_room (z * ((w + 1) / 2)) taken count h space inside even
     (room ∙ ap (λ (q : ℕ). q * ((w + 1) / 2 * ((h + 1) / 2))) (sym e) ∙ omega arith)
 
-pub slice_bounds-halve_raster-end : goal.slice_bounds-halve_raster-end
-slice_bounds-halve_raster-end c =
+pub slice_bounds-halve_in_threads-end : goal.slice_bounds-halve_in_threads-end
+slice_bounds-halve_in_threads-end g c =
     let w : ℕ = c.args.width in
     let z : ℕ = c.texel_length.result in
     let room : z * ((w + 1) / 2) * (c.args.taken / 2) + z * ((w + 1) / 2) * ((c.args.count + 1) / 2) ≤ length c.args.samples.now =
@@ -23,7 +23,7 @@ slice_bounds-halve_raster-end c =
     omega (arith, room)
 
 pub returns : goal.returns
-returns c = λ source piece before.
+returns g c = λ source piece before.
     let w : ℕ = c.args.width in
     let z : ℕ = c.texel_length.result in
     let room : z * ((w + 1) / 2) * (c.args.taken / 2) + z * ((w + 1) / 2) * ((c.args.count + 1) / 2) ≤ length c.args.samples.now =
@@ -31,33 +31,33 @@ returns c = λ source piece before.
     (length c.args.samples.now) c.requires.inside c.requires.even
     (c.requires.room
     ∙ ap (λ (q : ℕ). q * ((w + 1) / 2 * ((c.args.height + 1) / 2))) (sym c.texel_length.ensures.value) ∙ omega arith) in
-    rows_taken c.args.depth w c.args.height c.args.taken c.args.count z _ _ source c.args.rows.now c.args.samples.now c.halve_raster.new.out
+    rows_taken c.args.depth w c.args.height c.args.taken c.args.count z _ _ source c.args.rows.now c.args.samples.now c.halve_in_threads.new.out
     c.requires.some_columns c.requires.some c.requires.inside c.requires.even c.requires.pairs c.requires.whole c.texel_length.ensures.value
-    refl (omega (arith, room)) (omega arith) c.halve_raster.ensures piece before
+    refl (omega (arith, room)) (omega arith) c.halve_in_threads.ensures piece before
 
-pub halve_raster-requires-clause-depth : goal.halve_raster-requires-clause-depth
-halve_raster-requires-clause-depth c = c.requires.depth
+pub halve_in_threads-requires-clause-depth : goal.halve_in_threads-requires-clause-depth
+halve_in_threads-requires-clause-depth g c κs within = c.requires.depth
 
-pub halve_raster-requires-clause-few_columns : goal.halve_raster-requires-clause-few_columns
-halve_raster-requires-clause-few_columns c = c.requires.few_columns
+pub halve_in_threads-requires-clause-few_columns : goal.halve_in_threads-requires-clause-few_columns
+halve_in_threads-requires-clause-few_columns g c κs within = c.requires.few_columns
 
-pub halve_raster-requires-clause-some_columns : goal.halve_raster-requires-clause-some_columns
-halve_raster-requires-clause-some_columns c = c.requires.some_columns
+pub halve_in_threads-requires-clause-some_columns : goal.halve_in_threads-requires-clause-some_columns
+halve_in_threads-requires-clause-some_columns g c κs within = c.requires.some_columns
 
-pub halve_raster-requires-clause-some_rows : goal.halve_raster-requires-clause-some_rows
-halve_raster-requires-clause-some_rows c = c.requires.some
+pub halve_in_threads-requires-clause-some_rows : goal.halve_in_threads-requires-clause-some_rows
+halve_in_threads-requires-clause-some_rows g c κs within = c.requires.some
 
-pub halve_raster-requires-clause-few_rows : goal.halve_raster-requires-clause-few_rows
-halve_raster-requires-clause-few_rows c = omega (arith, c.requires.inside, c.requires.few_rows)
+pub halve_in_threads-requires-clause-few_rows : goal.halve_in_threads-requires-clause-few_rows
+halve_in_threads-requires-clause-few_rows g c κs within = omega (arith, c.requires.inside, c.requires.few_rows)
 
-pub halve_raster-requires-clause-source : goal.halve_raster-requires-clause-source
-halve_raster-requires-clause-source c = c.requires.whole
+pub halve_in_threads-requires-clause-source : goal.halve_in_threads-requires-clause-source
+halve_in_threads-requires-clause-source g c κs within = c.requires.whole
 
 pub overflow_mul-half_row : goal.overflow_mul-half_row
-overflow_mul-half_row c = omega (arith, row_small c.texel_length.result ((c.args.width + 1) / 2) c.texel_length.ensures.few (omega arith))
+overflow_mul-half_row g c = omega (arith, row_small c.texel_length.result ((c.args.width + 1) / 2) c.texel_length.ensures.few (omega arith))
 
 pub overflow_mul-from : goal.overflow_mul-from
-overflow_mul-from c = omega (
+overflow_mul-from g c = omega (
   arith,
   half_end c.args.width c.args.height c.args.taken c.args.count c.args.depth c.texel_length.result (length c.args.samples.now)
       c.requires.inside c.requires.even c.requires.room c.texel_length.ensures.value,
@@ -65,7 +65,7 @@ overflow_mul-from c = omega (
 )
 
 pub overflow_add-from : goal.overflow_add-from
-overflow_add-from c = omega (
+overflow_add-from g c = omega (
   arith,
   half_end c.args.width c.args.height c.args.taken c.args.count c.args.depth c.texel_length.result (length c.args.samples.now)
       c.requires.inside c.requires.even c.requires.room c.texel_length.ensures.value,
@@ -73,7 +73,7 @@ overflow_add-from c = omega (
 )
 
 pub overflow_mul-made : goal.overflow_mul-made
-overflow_mul-made c = omega (
+overflow_mul-made g c = omega (
   arith,
   half_end c.args.width c.args.height c.args.taken c.args.count c.args.depth c.texel_length.result (length c.args.samples.now)
       c.requires.inside c.requires.even c.requires.room c.texel_length.ensures.value,

@@ -8,7 +8,7 @@ use Rattle.vt_mip.proofs.TakenRows.{front_grows}
 use Rattle.vt_mip.proofs.taken_rows.Halving.take.Goals as goal
 
 pub returns-clause-halves : goal.returns-clause-halves
-returns-clause-halves c = λ p before piece.
+returns-clause-halves g c = λ p before piece.
     let h = c.self.inside in
     let view_of : List ℕ → ℕ → HalvingView = λ l n. record { depth = h.depth; width = h.width; height = h.height; taken = n; samples = l } in
     let Piece : HalvingView → Type 0 = λ a. IsPiece p.samples (texel_length p.depth * (p.width * a.taken)) c.args.rows.now in
@@ -22,7 +22,7 @@ returns-clause-halves c = λ p before piece.
     (subst (HalvesFront p) (sym c.self.view_is) before) (subst Piece (sym c.self.view_is) piece))
 
 pub invariant_of-self : goal.invariant_of-self
-invariant_of-self c =
+invariant_of-self g c =
     let h = c.self.inside in
     let i = c.self.invariant in
     let made = with_items_is h.samples c.halve_behind.new.samples (c.halve_behind.auto.samples ∙ c.as_mut_slice.ensures.len) in

@@ -17,23 +17,23 @@ returns-in_err-chain g c =
     rw (p.1, p.2) (unleft (expected_path words c.args.texture c.args.path.now)
     (folder_state g.D.Folder c.args.folder.now) (sink_state g.O.Sink c.args.out.now))
 
-pub returns-in_err-write_pictures : goal.returns-in_err-write_pictures
-returns-in_err-write_pictures g c =
-    let p = err_from_is_err_and c.from_residual-in_err-write_pictures.result c.from_residual-in_err-write_pictures.ensures.1 in
+pub returns-in_err-write_all : goal.returns-in_err-write_all
+returns-in_err-write_all g c =
+    let p = err_from_is_err_and c.from_residual-in_err-write_all.result c.from_residual-in_err-write_all.ensures.1 in
     let words = shown_plain c.args.words.now in
     let path = c.args.path.now in
     rw (p.1, p.2) (left_writing (expected_path words c.args.texture path) (folder_state g.D.Folder c.args.folder.now)
-    (folder_state g.D.Folder c.write_pictures.new.folder) (sink_state g.O.Sink c.args.out.now) c.in_err-write_pictures.field-0.0
+    (folder_state g.D.Folder c.write_all.new.folder) (sink_state g.O.Sink c.args.out.now) c.in_err-write_all.field-0.0
     (subst (λ (ch : ChainView). Writes {T = Unit {0}} (expected_pictures words.prefix (plain_file words.filter ch.base ch.tile path) (length path.cameras))
-    (folder_effect g.D.Folder c.args.folder.now c.write_pictures.new.folder)
-    (Err c.in_err-write_pictures.field-0.0)) c.in_ok-chain.ensures c.in_err-write_pictures.ensures))
+    (folder_effect g.D.Folder c.args.folder.now c.write_all.new.folder)
+    (Err c.in_err-write_all.field-0.0)) c.in_ok-chain.ensures c.in_err-write_all.ensures))
 
 pub returns : goal.returns
 returns g c =
     let words = shown_plain c.args.words.now in
     let path = c.args.path.now in
     left_putting (expected_path words c.args.texture path) (folder_state g.D.Folder c.args.folder.now)
-    (folder_state g.D.Folder c.write_pictures.new.folder) (sink_state g.O.Sink c.args.out.now) (sink_state g.O.Sink c.put_end.new.out) c.put_end.result
+    (folder_state g.D.Folder c.write_all.new.folder) (sink_state g.O.Sink c.args.out.now) (sink_state g.O.Sink c.put_end.new.out) c.put_end.result
     (subst (λ (ch : ChainView). Writes {T = Unit {0}} (expected_pictures words.prefix (plain_file words.filter ch.base ch.tile path) (length path.cameras))
-    (folder_effect g.D.Folder c.args.folder.now c.write_pictures.new.folder) (Ok tt)) c.in_ok-chain.ensures c.in_ok-write_pictures.ensures)
+    (folder_effect g.D.Folder c.args.folder.now c.write_all.new.folder) (Ok tt)) c.in_ok-chain.ensures c.in_ok-write_all.ensures)
     (subst (λ (n : ℕ). Puts (end_line n) (sink_effect g.O.Sink c.args.out.now c.put_end.new.out) c.put_end.result) c.pictures.ensures.value c.put_end.ensures)

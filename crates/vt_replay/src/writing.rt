@@ -1,0 +1,44 @@
+//! Writing a picture by way of a buffer that serves one picture after the other.
+
+ghost use Rattle.std.specs.Prelude.{◌≡◌, ◌*◌, ◌<◌, [], ◌∷◌, length};
+ghost use Rattle.vt_definitions.specs.Depths.{IsDepth, texel_length};
+ghost use Rattle.vt_words.specs.Names.{four_digit_numbers};
+ghost use Rattle.vt_ppm.specs.Picture.{picture_bytes};
+ghost use Rattle.vt_files.specs.Effects.{folder_effect};
+ghost use Rattle.vt_files.specs.Expectations.{Writes};
+ghost use Rattle.vt_files.specs.Pictures.{expected_picture};
+
+use std::alloc::Global;
+use vt_files::{Picture, write_file};
+use vt_outside::{Folder, OutsideError};
+use vt_ppm::encode_into;
+use vt_words::picture_name;
+
+/// Writes a picture under its name, as `vt_files::write_picture` does, with its bytes made in a buffer, so that memory is taken for the
+/// first picture alone. The buffer may hold anything before and after.
+pub(crate) fn write_picture<D: Folder>(
+    buffer: &mut Vec<u8>,
+    alloc: Global,
+    folder: &mut D,
+    prefix: &str,
+    number: u32,
+    picture: &Picture,
+) -> Result<(), OutsideError>
+    requires few { number < four_digit_numbers }
+    requires depth { IsDepth picture.now.depth }
+    requires full { length picture.now.samples.now ≡ texel_length picture.now.depth * (picture.now.width * picture.now.height) }
+    ensures { Writes (expected_picture prefix.now
+        (λ _. picture_bytes picture.now.depth picture.now.width picture.now.height picture.now.samples.now) number ∷ [])
+        (folder_effect D.Folder folder.old folder.new) result }
+{
+    encode_into(
+        buffer,
+        alloc,
+        picture.depth,
+        picture.width,
+        picture.height,
+        picture.samples,
+    )?;
+    let name = picture_name(alloc, prefix, number)?;
+    write_file(folder, name.as_str(), buffer)
+}
