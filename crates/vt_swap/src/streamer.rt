@@ -17,7 +17,7 @@ use std::marker::Model;
 use std::mem;
 use std::sync::Wait;
 use vt_journal::{Change, Journal};
-use vt_outside::NoMemory;
+use vt_outside::{Gate, NoMemory, Point};
 
 /// The writer of a page cache: it changes the page table, and fills frames with tiles. Contracts see what it has done, the
 /// journal of the page table, and whether it was refused memory in mid-step, after which it refuses all that is asked.
@@ -156,9 +156,9 @@ impl SwapStreamer {
 
     /// Brings a page into a frame: unmaps the page that is mapped to the frame, if there is one, and maps the other page once the frame
     /// has its tile. The frame is written only after the unmap was published. Where it is refused memory, the page table may have
-    /// been changed in part.
+    /// been changed in part. The gate is told of each version once it was published.
     #[tactic(auto, using(crate::proofs::Bringing::brought_free))]
-    pub fn bring<R: Wait>(
+    pub fn bring<R: Wait, G: Gate>(
         &mut self,
         rt: &R,
         slots: &[Slot],
@@ -168,6 +168,7 @@ impl SwapStreamer {
         tile: &[u8],
         depth: u32,
         texels: u32,
+        gate: &G,
     ) -> Result<(), NoMemory>
         requires slots { AreSlotsOf self.old.book slots.now }
         requires inside { frame < length slots.now }
@@ -181,14 +182,49 @@ impl SwapStreamer {
         ensures book { self.new.book ≡ self.old.book }
     {
         match victim {
-            Some(victim) => self.replace(rt, slots, page, frame, victim, tile, depth, texels),
-            None => self.map(rt, slots, page, frame, tile, depth, texels),
+            Some(victim) => self.replace(rt, slots, page, frame, victim, tile, depth, texels, gate),
+            None => self.map_and_tell(rt, slots, page, frame, tile, depth, texels, gate),
         }
+    }
+
+    // Tells a gate of the newest version.
+    fn tell<G: Gate>(&self, gate: &G) {
+        gate.at(Point::Published {
+            version: self.journal.version(),
+        });
+    }
+
+    // Maps a page as `map` does, and tells the gate.
+    fn map_and_tell<R: Wait, G: Gate>(
+        &mut self,
+        rt: &R,
+        slots: &[Slot],
+        page: u32,
+        frame: u32,
+        tile: &[u8],
+        depth: u32,
+        texels: u32,
+        gate: &G,
+    ) -> Result<(), NoMemory>
+        requires slots { AreSlotsOf self.old.book slots.now }
+        requires inside { frame < length slots.now }
+        requires small { frame + 1 < 2 ^ 32 }
+        requires next { IsNext (newest self.old.journal) (Map page frame) }
+        requires early { length self.old.journal + 1 ≤ most_versions }
+        requires depth { IsDepth depth }
+        requires full { length tile.now ≡ texel_length depth * texels }
+        ensures mapped { OnOk result (HasMapped depth texels tile.now self.old self.new page frame) }
+        ensures goes_on { OnOk result (self.new.broken ≡ false) }
+        ensures refused { OnErr result (IsRefused self.old self.new) }
+    {
+        self.map(rt, slots, page, frame, tile, depth, texels)?;
+        self.tell(gate);
+        Ok(())
     }
 
     // Unmaps a page from a frame, and then maps another to it, which has its tile by then.
     #[tactic(auto, using(crate::proofs::Bringing::brought_after))]
-    fn replace<R: Wait>(
+    fn replace<R: Wait, G: Gate>(
         &mut self,
         rt: &R,
         slots: &[Slot],
@@ -198,6 +234,7 @@ impl SwapStreamer {
         tile: &[u8],
         depth: u32,
         texels: u32,
+        gate: &G,
     ) -> Result<(), NoMemory>
         requires slots { AreSlotsOf self.old.book slots.now }
         requires inside { frame < length slots.now }
@@ -212,7 +249,8 @@ impl SwapStreamer {
     {
         let _version = self.journal.version();
         self.unmap(rt, victim, frame)?;
-        self.map(rt, slots, page, frame, tile, depth, texels)
+        self.tell(gate);
+        self.map_and_tell(rt, slots, page, frame, tile, depth, texels, gate)
     }
 
     /// Ends the writer. It waits for readers.
