@@ -1,4 +1,4 @@
-//! A page cache whose newest page table is published in two copies (Ramalhete and Correia 2015), and whose frames have rights
+//! A page cache whose newest page table is published in two copies, and whose frames have rights
 //! to read and to write.
 //!
 //! The writer notes what it does in a log before it does it: each change of the table, and each tile that it puts into a frame.
