@@ -1,0 +1,47 @@
+-- Versions that are entered one after the other.
+use Rattle.std.proofs.Common.{◌≡◌, ℕ, ◌≤◌, List, [], ◌∷◌, ◌++◌, refl, sym, ap, ◌∙◌, subst, append_assoc}
+use Rattle.std.specs.Prelude.{All}
+use Rattle.std.proofs.lemmas.List.Elements.{All-tail}
+use mathlib.Core.List.{IsPrefix}
+use Rattle.vt_swap.specs.declared.records.LogRecord.{LogRecord}
+use Rattle.vt_swap.specs.Readers.{ReaderView, HasEnteredMore, WasEntered}
+use Rattle.vt_swap.proofs.Prefixes.{prefix_self, prefix_trans}
+
+-- what is so of each element is so of those behind a front
+pub all_behind : {X : Type 0} (P : X → Type 0) (xs ys : List X) → All P (xs ++ ys) → All P ys
+all_behind P [] ys all = all
+all_behind P (x ∷ xs) ys all = all_behind P xs ys (All-tail P x (xs ++ ys) all)
+
+pub entered_none : (r : ReaderView) → HasEnteredMore r r []
+entered_none r = record { book = refl; log = prefix_self r.log; entered = refl }
+
+pub entered_then : (r q s : ReaderView) (more : List ℕ) (version : ℕ) → HasEnteredMore r q more → HasEnteredMore q s (version ∷ [])
+    → HasEnteredMore r s (version ∷ more)
+entered_then r q s more version one two = record {
+  book = two.book ∙ one.book;
+  log = prefix_trans r.log q.log s.log one.log two.log;
+  entered = two.entered ∙ ap (λ (l : List ℕ). version ∷ l) one.entered;
+}
+
+-- the version that was entered last, after others
+pub was_entered : (r q s : ReaderView) (more : List ℕ) (version : ℕ) → HasEnteredMore r q more → HasEnteredMore q s (version ∷ [])
+    → All (λ (u : ℕ). u ≤ version) q.entered → WasEntered r s version
+was_entered r q s more version one two later = record {
+  before = more;
+  more = entered_then r q s more version one two;
+  later = all_behind (λ (u : ℕ). u ≤ version) more r.entered (subst (λ (l : List ℕ). All (λ (u : ℕ). u ≤ version) l) one.entered later);
+}
+
+-- versions were entered before
+pub was_later : (r q s : ReaderView) (more : List ℕ) (version : ℕ) → HasEnteredMore r q more → WasEntered q s version → WasEntered r s version
+was_later r q s more version one two = record {
+  before = two.before ++ more;
+  more = record {
+    book = two.more.book ∙ one.book;
+    log = prefix_trans r.log q.log s.log one.log two.more.log;
+    entered =
+        two.more.entered ∙ ap (λ (l : List ℕ). version ∷ (two.before ++ l)) one.entered
+        ∙ ap (λ (l : List ℕ). version ∷ l) (sym (append_assoc two.before more r.entered));
+  };
+  later = all_behind (λ (u : ℕ). u ≤ version) more r.entered (subst (λ (l : List ℕ). All (λ (u : ℕ). u ≤ version) l) one.entered two.later);
+}

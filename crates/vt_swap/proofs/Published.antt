@@ -1,0 +1,84 @@
+-- What is noted and published.
+use Rattle.std.proofs.Common.{◌≡◌, ℕ, ◌+◌, ◌<◌, ◌≤◌, ◌^◌, Bool, true, false, Option, Some, None, List, [], ◌∷◌, ◌++◌, length, refl, sym, ap, ◌∙◌, subst, arith, length-append, append_assoc}
+use Rattle.std.specs.Prelude.{IfSome, Result, Ok, Err, MatchResult}
+use Rattle.vt_definitions.specs.Limits.{most_versions}
+use Rattle.vt_journal.specs.declared.changes.Change.{Change}
+use Rattle.vt_journal.specs.declared.changes.Change.TheVariants.{Map}
+use Rattle.vt_journal.specs.Changes.{newest, IsNext}
+use Rattle.vt_journal.specs.Kept.{change_frame}
+use Rattle.vt_swap.specs.declared.records.LogRecord.{LogRecord}
+use Rattle.vt_swap.specs.declared.records.LogRecord.TheVariants.{Changed, Filled}
+use Rattle.vt_swap.specs.declared.log.Front.{Front}
+use Rattle.vt_swap.specs.declared.table.NewestTable.{NewestTable}
+use Rattle.vt_swap.specs.declared.table.Operation.{Operation}
+use Rattle.vt_swap.specs.declared.rule.Known.{Known}
+use Rattle.vt_swap.specs.Logs.{changes_in, MayFollow, IsFilledLast}
+use Rattle.vt_swap.specs.Tables.{journal_of, AreOfOneLog, IsPublished, MayPublish}
+use Rattle.vt_swap.specs.Rules.{KnowsLog}
+use Rattle.vt_swap.proofs.Lawful.{changes-append, changes-filled}
+
+-- what is so of a value, if there is one
+pub if_some_on : {X : Type 0} (o : Option X) (P Q : X → Type 0) → ((x : X) → P x → Q x) → IfSome o P → IfSome o Q
+if_some_on None P Q on h = h
+if_some_on (Some x) P Q on h = on x h
+
+-- the journal once a change was noted
+pub journal_noted : (old new : Front) (change : Change) → new.seen.log ≡ old.seen.log ++ Changed change ∷ []
+    → journal_of new ≡ journal_of old ++ change ∷ []
+journal_noted old new change is = ap changes_in is ∙ changes-append old.seen.log (Changed change ∷ [])
+
+-- and once a frame was filled
+pub journal_filled : (old new : Front) (frame page : ℕ) (words : List ℕ) → new.seen.log ≡ old.seen.log ++ Filled frame page words ∷ []
+    → journal_of new ≡ journal_of old
+journal_filled old new frame page words is = ap changes_in is ∙ changes-filled old.seen.log frame page words
+
+-- a change that was noted may be published
+pub may_publish : (t : NewestTable) (pending : List Operation) (change : Change) (old new : Front) → IsPublished t pending old → AreOfOneLog new old
+    → new.seen.log ≡ old.seen.log ++ Changed change ∷ [] → length (journal_of old) + 1 ≤ most_versions → change_frame change + 1 < 2 ^ 32
+    → MayPublish t pending change new
+may_publish t pending change old new published book log early frame =
+    let journal = journal_noted old new change log in
+    record {
+      book = published.book ∙ sym book;
+      none = published.none;
+      journal = journal ∙ ap (λ (js : List Change). js ++ change ∷ []) (sym published.journal);
+      early = omega (arith, early, ap length journal, length-append (journal_of old) (change ∷ []));
+      frame = frame;
+    }
+
+-- all is published still once a frame was filled
+pub published_filled : (t : NewestTable) (pending : List Operation) (old new : Front) (frame page : ℕ) (words : List ℕ) → IsPublished t pending old
+    → AreOfOneLog new old → new.seen.log ≡ old.seen.log ++ Filled frame page words ∷ [] → IsPublished t pending new
+published_filled t pending old new frame page words published book log = record {
+  book = published.book ∙ sym book;
+  journal = published.journal ∙ sym (journal_filled old new frame page words log);
+  none = published.none;
+}
+
+-- a page may be mapped next after its frame was filled
+pub may_map : (old new : Front) (frame page : ℕ) (words : List ℕ) → new.seen.log ≡ old.seen.log ++ Filled frame page words ∷ []
+    → IsNext (newest (journal_of old)) (Map page frame) → MayFollow new.seen.log (Changed (Map page frame))
+may_map old new frame page words log next = (
+  subst (λ (js : List Change). IsNext (newest js) (Map page frame)) (sym (journal_filled old new frame page words log)) next,
+  record { before = old.seen.log; words = words; last = log },
+)
+
+-- a fill and a map behind a log
+pub log_mapped : (old filled new : List LogRecord) (frame page : ℕ) (words : List ℕ) → filled ≡ old ++ Filled frame page words ∷ []
+    → new ≡ filled ++ Changed (Map page frame) ∷ [] → new ≡ old ++ Filled frame page words ∷ Changed (Map page frame) ∷ []
+log_mapped old filled new frame page words one two =
+    two ∙ ap (λ (l : List LogRecord). l ++ Changed (Map page frame) ∷ []) one
+    ∙ append_assoc old (Filled frame page words ∷ []) (Changed (Map page frame) ∷ [])
+
+-- who published knows which log it is
+pub knows_published : (v w : Known) (y : NewestTable) (front : Front) → w ≡ record v { front = Some y.front } → y.front ≡ front → KnowsLog w front
+knows_published v w y front is same = record {
+  other = y.front;
+  has = ap (λ (k : Known). k.front) is;
+  one_log = ap (λ (f : Front). f.seen.book) same;
+}
+
+-- what is so where a call succeeded
+pub when_ok : {T E : Type 0} (r : Result T E) (P Q : Type 0) (x : T) → r ≡ Ok x → MatchResult r (λ y. P) (λ e. Q) → P
+when_ok (Ok y) P Q x is h = h
+when_ok (Err e) P Q x is h = absurd (cc)

@@ -1,0 +1,42 @@
+use Rattle.std.proofs.Common.{◌≡◌, ℕ, List, [], ◌∷◌, sym, ap, ◌∙◌, subst}
+use Rattle.left_right.specs.Sides.{view}
+use Rattle.vt_draw.specs.Shots.{shot_row}
+use Rattle.vt_filter.specs.Evidence.{AreShown}
+use Rattle.vt_swap.specs.declared.table.NewestTable.{NewestTable}
+use Rattle.vt_swap.specs.declared.rule.Known.{Known}
+use Rattle.vt_swap.specs.Notes.{IsSaidBy}
+use Rattle.vt_swap.specs.Readers.{ReaderView, HasEnteredMore}
+use Rattle.vt_swap.proofs.Prefixes.{prefix_trans}
+use Rattle.vt_swap.proofs.reader.try_row.Goals as goal
+
+pub invariant_of-result : goal.invariant_of-result
+invariant_of-result g c =
+    let k = c.enter-reading.ensures.entered.knows in
+    record {
+      other = k.other;
+      has = ap (λ (v : Known). v.front) c.leave-reader.ensures.1 ∙ k.has;
+      one_log = k.one_log ∙ sym c.draw_under-failed.ensures.book;
+    }
+
+pub returns-clause-entered : goal.returns-clause-entered
+returns-clause-entered g c =
+    let after : ReaderView = record {
+      book = c.draw_under-failed.new.front.seen.book;
+      log = c.draw_under-failed.new.front.seen.log;
+      entered = (view c.leave-reader.result.place).entered;
+    } in
+    subst (λ (r : ReaderView). HasEnteredMore r after (c.get.result.now.version ∷ [])) c.reader.view_is
+    (record {
+      book = c.draw_under-failed.ensures.book ∙ c.enter-reading.ensures.book;
+      log = prefix_trans _ _ _ c.enter-reading.ensures.seen c.draw_under-failed.ensures.later;
+      entered =
+          ap (λ (v : Known). v.entered) (c.leave-reader.ensures.1 ∙ c.enter-reading.ensures.noted)
+          ∙ ap (λ (t : NewestTable). t.version ∷ (view c.reader.inside.reader.place).entered) (sym c.get.ensures);
+    })
+
+pub returns-clause-drawn : goal.returns-clause-drawn
+returns-clause-drawn g c none =
+    let row = shot_row c.args.shot.now.geometry.now c.args.shot.now.path.now c.args.shot.now.picture c.args.y in
+    subst (λ (t : NewestTable). AreShown g.P.Filter.shown c.args.shot.now.geometry.now c.args.shot.now.depth t.version
+    (IsSaidBy c.draw_under-failed.new.front.seen.log) row c.args.shot.now.path.now.width c.draw_under-failed.new.out)
+    (c.get-2.ensures ∙ sym c.get.ensures) (c.draw_under-failed.ensures.drawn none)

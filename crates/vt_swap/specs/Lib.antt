@@ -1,0 +1,10 @@
+pub mod Logs
+pub mod Heads
+pub mod Entries
+pub mod Tables
+pub mod Rules
+pub mod Slots
+pub mod Notes
+pub mod Readers
+pub mod Streamers
+pub mod Making

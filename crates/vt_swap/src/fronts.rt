@@ -1,0 +1,114 @@
+//! What is seen of the log, and how its writer adds to it.
+
+ghost use Rattle.std.specs.Prelude.{◌≡◌, ◌<◌, ◌^◌, ◌∷◌, ◌++◌, [], None, length, IsTrue, MatchBool};
+ghost use mathlib.Core.List.{IsPrefix};
+ghost use Rattle.vt_swap.specs.declared.records.LogRecord.TheVariants.{Changed, Filled};
+ghost use Rattle.vt_swap.specs.Logs.{IsLawful, MayFollow};
+ghost use Rattle.vt_swap.specs.Heads.{IsHeadOf};
+
+use crate::log::{Add, Front, Head, Law, Nothing};
+use crate::records::{LogRecord, Tile};
+use logbook::{Offer, Seen, Start, Word};
+use vt_journal::Change;
+
+/// A log with no records: the word of its length, and what is seen of it.
+#[tactic(auto, using(crate::proofs::Lawful::lawful_none))]
+pub(crate) fn open_log() -> (Head, Front)
+    ensures of { IsHeadOf result.0 result.1 }
+    ensures empty { result.1.seen.log ≡ [] }
+{
+    let (seen, mut first, _second) = Seen::open(Start::alone(), 0, 0);
+    let word = Word::tracked(0, &mut first);
+    (Head { word }, Front { count: 0, seen })
+}
+
+/// Each record of what was seen could come after those before it.
+pub(crate) fn is_lawful(front: &Front)
+    ensures { IsLawful front.now.seen.log }
+{
+    let mut more = front.seen.again();
+    more.learn(&front.seen);
+}
+
+/// The same beginning.
+pub(crate) fn again(front: &Front) -> Front
+    ensures { result ≡ front.now }
+{
+    Front {
+        count: front.count,
+        seen: front.seen.again(),
+    }
+}
+
+// Adds the record that an offer asks for to all that was seen, and says whether it did. It did not where the log is longer.
+fn add(head: &Head, front: &mut Front, offer: Offer<LogRecord, u64, Law, Nothing>) -> bool
+    requires of { IsHeadOf head.now front.old }
+    requires names { offer.names ≡ front.old.seen.names }
+    requires new { offer.state ≡ None }
+    requires may { MayFollow front.old.seen.log offer.ask }
+    requires room { length front.old.seen.log < 2 ^ 62 }
+    ensures of { IsHeadOf head.now front.new }
+    ensures book { front.new.seen.book ≡ front.old.seen.book }
+    ensures added { IsTrue result → front.new.seen.log ≡ front.old.seen.log ++ offer.ask ∷ [] }
+{
+    let mut offer = offer;
+    let mut pen = front.seen.no_pen();
+    let count = front.count;
+    let found = head
+        .word
+        .compare_exchange::<Add, Nothing>(count, count + 1, &mut front.seen, &mut offer, &mut pen);
+    front.count = if found == count { count + 1 } else { found };
+    found == count
+}
+
+/// Notes a change of the page table, which may come next, and says whether it did.
+pub(crate) fn note_change(head: &Head, front: &mut Front, change: Change) -> bool
+    requires of { IsHeadOf head.now front.old }
+    requires may { MayFollow front.old.seen.log (Changed change) }
+    requires room { length front.old.seen.log < 2 ^ 62 }
+    ensures of { IsHeadOf head.now front.new }
+    ensures book { front.new.seen.book ≡ front.old.seen.book }
+    ensures added { IsTrue result → front.new.seen.log ≡ front.old.seen.log ++ Changed change ∷ [] }
+{
+    let offer: Offer<LogRecord, u64, Law, Nothing> = front
+        .seen
+        .plain::<Nothing, Change, Add>(&change);
+    add(head, front, offer)
+}
+
+/// Notes that a frame is filled, which is free, and says whether it did.
+pub(crate) fn note_tile(head: &Head, front: &mut Front, tile: &Tile) -> bool
+    requires of { IsHeadOf head.now front.old }
+    requires may { MayFollow front.old.seen.log (Filled tile.now.frame tile.now.page tile.now.words.items) }
+    requires room { length front.old.seen.log < 2 ^ 62 }
+    ensures of { IsHeadOf head.now front.new }
+    ensures book { front.new.seen.book ≡ front.old.seen.book }
+    ensures added { IsTrue result → front.new.seen.log
+        ≡ front.old.seen.log ++ Filled tile.now.frame tile.now.page tile.now.words.items ∷ [] }
+{
+    let offer: Offer<LogRecord, u64, Law, Nothing> = front.seen.plain::<Nothing, Tile, Add>(tile);
+    add(head, front, offer)
+}
+
+/// Which of two beginnings of one log is the shorter: it is a beginning of the other.
+pub(crate) fn is_behind(one: &Front, other: &Front) -> bool
+    requires { other.now.seen.book ≡ one.now.seen.book }
+    ensures { MatchBool result (IsPrefix one.now.seen.log other.now.seen.log) (IsPrefix other.now.seen.log one.now.seen.log) }
+{
+    let mut both = one.seen.again();
+    both.learn(&other.seen);
+    one.count <= other.count
+}
+
+/// Learns what another beginning of the log has.
+#[tactic(auto, using(crate::proofs::Prefixes::prefix_self))]
+pub(crate) fn learn(mine: &mut Front, other: &Front)
+    requires { other.now.seen.book ≡ mine.old.seen.book }
+    ensures book { mine.new.seen.book ≡ mine.old.seen.book }
+    ensures mine { IsPrefix mine.old.seen.log mine.new.seen.log }
+    ensures other { IsPrefix other.now.seen.log mine.new.seen.log }
+{
+    if is_behind(mine, other) {
+        *mine = again(other);
+    }
+}

@@ -1,0 +1,270 @@
+//! The look-up in a version that was entered.
+
+ghost use Rattle.std.specs.Prelude.{◌≡◌, ◌+◌, ◌<◌, ◌≤◌, false, IfSome, length};
+ghost use mathlib.Core.List.{IsPrefix};
+ghost use Rattle.vt_pages.specs.Pages.{pages_of, level_of, levels_of, ancestor_of};
+ghost use Rattle.vt_draw.specs.Lookups.{IsFinest};
+ghost use Rattle.vt_swap.specs.Tables.{IsTable};
+ghost use Rattle.vt_swap.specs.Slots.{AreSlotsOf, IsSlotOf};
+ghost use Rattle.logbook.specs.Pages.{Book};
+ghost use Rattle.vt_swap.specs.Notes.{HasWord, IsEntry, IsSaidBy};
+ghost use Rattle.vt_swap.specs.Readers.{LookupView, IsSaidIn, lookup_base};
+
+use crate::frame::{Frame, Slot};
+use crate::log::Front;
+use crate::slots::{right_to_read, word_in_hand};
+use crate::table::NewestTable;
+use counted_slot::Claim;
+use std::marker::Model;
+use std::mem;
+use vt_draw::{Found, Lookup, place_of};
+use vt_pages::Geometry;
+
+/// A look-up of pages in a version of the page table that was entered. It has the right to read one frame at a time: that of the
+/// texel it read last. Where a frame does not have the tile of the page that the table maps to it, the check is noted as failed, and
+/// from then on nothing that it tells means anything.
+pub(crate) struct SwapLookup<'a> {
+    table: &'a NewestTable,
+    front: Front,
+    slots: &'a [Slot],
+    geometry: &'a Geometry,
+    held: Option<Claim<'a, Frame>>,
+    // The frame that may be read, if one may.
+    slot: u32,
+    failed: bool,
+}
+
+impl<'a> Model for SwapLookup<'a> {
+    ghost use Rattle.std.specs.Prelude.{◌≡◌, IfSome};
+    ghost use Rattle.vt_swap.specs.Slots.{IsSlotOf};
+    ghost use Rattle.vt_swap.specs.Readers.{LookupView, IsLookup};
+
+    ghost Value = { LookupView };
+
+    ghost view = { λ l. record {
+      shape = l.geometry.now;
+      table = l.table.now;
+      slots = l.slots.now;
+      book = l.front.seen.book;
+      log = l.front.seen.log;
+      slot = l.slot;
+      failed = l.failed;
+    } };
+
+    ghost invariant = { λ l. IsLookup (record {
+      shape = l.geometry.now;
+      table = l.table.now;
+      slots = l.slots.now;
+      book = l.front.seen.book;
+      log = l.front.seen.log;
+      slot = l.slot;
+      failed = l.failed;
+    }) × IfSome l.held (λ claim. (claim.right ≡ 1) × IsSlotOf l.front.seen.book l.slot claim.tag) };
+}
+
+impl<'a> SwapLookup<'a> {
+    /// The look-up in a version that was entered, by what was seen of the log.
+    pub(crate) fn new(
+        table: &'a NewestTable,
+        front: Front,
+        slots: &'a [Slot],
+        geometry: &'a Geometry,
+    ) -> SwapLookup<'a>
+        requires table { IsTable table.now }
+        requires seen { IsPrefix table.now.front.seen.log front.seen.log }
+        requires slots { AreSlotsOf front.seen.book slots.now }
+        ensures { result ≡ record {
+          shape = geometry.now;
+          table = table.now;
+          slots = slots.now;
+          book = front.seen.book;
+          log = front.seen.log;
+          slot = 0;
+          failed = false;
+        } }
+    {
+        SwapLookup {
+            table,
+            front,
+            slots,
+            geometry,
+            held: None,
+            slot: 0,
+            failed: false,
+        }
+    }
+
+    /// Gives the right in hand back, and tells what was seen of the log and whether a check failed.
+    pub(crate) fn end(self) -> (Front, bool)
+        ensures front { (result.0.seen.log ≡ self.entry.log) × (result.0.seen.book ≡ self.entry.book) }
+        ensures failed { result.1 ≡ self.entry.failed }
+    {
+        let SwapLookup {
+            table: _,
+            front,
+            slots: _,
+            geometry: _,
+            held,
+            slot: _,
+            failed,
+        } = self;
+        give_back(held);
+        (front, failed)
+    }
+
+    // The finest page that the version maps of a page and its ancestors, if it maps one.
+    fn find_mapped(&self, page: u32) -> Option<Found>
+        requires { page < pages_of self.now.shape }
+        ensures { IfSome result (IsFinest self.now.shape self.now.table.version (IsSaidIn self.now) page) }
+    {
+        finest_mapped(self.table, self.geometry, page)
+    }
+
+    // Takes the right to read a frame, in the place of the one in hand, which it gives back.
+    fn take_right(&mut self, frame: u32)
+        ensures { self.new ≡ record self.old { slot = frame } }
+    {
+        let held = mem::replace(&mut self.held, None);
+        give_back(held);
+        self.slot = frame;
+        let right = right_to_frame(self.slots, frame);
+        let nothing = mem::replace(&mut self.held, right);
+        match nothing {
+            None => {}
+            Some(_) => unreachable!(),
+        }
+    }
+
+    // Has the right to read a frame in hand, which is mostly there.
+    #[inline(always)]
+    fn reach(&mut self, frame: u32)
+        ensures { self.new ≡ record self.old { slot = frame } }
+    {
+        if frame != self.slot || self.held.is_none() {
+            self.take_right(frame);
+        }
+    }
+
+    // The word at a place of the tile of a page, where the frame in hand has it; else the check failed.
+    #[inline(always)]
+    fn word(&mut self, page: u32, place: u32) -> u64
+        ensures word { self.new.failed ≡ false → HasWord self.new.log self.new.slot page place result }
+        ensures later { IsPrefix self.old.log self.new.log }
+        ensures failed { self.new.failed ≡ false → self.old.failed ≡ false }
+        ensures rest { self.new ≡ record self.old { log = self.new.log; failed = self.new.failed } }
+    {
+        match word_in_hand(&self.held, &mut self.front, self.slot, page, place) {
+            Some(word) => word,
+            None => {
+                self.failed = true;
+                0
+            }
+        }
+    }
+}
+
+// Gives a right back, if there is one.
+fn give_back(held: Option<Claim<'_, Frame>>)
+    requires { IfSome held (λ claim. claim.right ≡ 1) }
+{
+    match held {
+        Some(claim) => {
+            claim.leave();
+        }
+        None => {}
+    }
+}
+
+// The right to read a frame, if there is such a frame, and it has a tile that nobody is writing.
+fn right_to_frame<'a>(slots: &'a [Slot], frame: u32) -> Option<Claim<'a, Frame>>
+    ensures { (book : Book) → AreSlotsOf book slots.now
+        → IfSome result (λ claim. (claim.right ≡ 1) × IsSlotOf book frame claim.tag) }
+{
+    let place = frame as usize;
+    if place >= slots.len() {
+        return None;
+    }
+    right_to_read(&slots[place])
+}
+
+// The finest page that a version maps of a page and its ancestors, if it maps one. It is called once for a run of pixels, and keeps out of
+// their loop.
+#[inline(never)]
+fn finest_mapped(table: &NewestTable, geometry: &Geometry, page: u32) -> Option<Found>
+    requires table { IsTable table.now }
+    requires page { page < pages_of geometry.now }
+    ensures { IfSome result (IsFinest geometry.now table.now.version (IsSaidBy table.now.front.seen.log) page) }
+{
+    let name = geometry.page_at(page);
+    for level in name.level..geometry.levels() {
+        let ancestor = geometry.ancestor_at(page, level);
+        let entry = entry_of(table, ancestor)?;
+        if entry != 0 {
+            return Some(Found {
+                page: ancestor,
+                level,
+                slot: entry - 1,
+            });
+        }
+    }
+    None
+}
+
+/// The entry of a page, if the table has one.
+#[inline(always)]
+pub(crate) fn entry_of(table: &NewestTable, page: u32) -> Option<u32>
+    requires { IsTable table.now }
+    ensures { IfSome result (IsEntry table.now.front.seen.log table.now.version page) }
+{
+    let place = page as usize;
+    if place >= table.entries.len() {
+        return None;
+    }
+    Some(table.entries[place])
+}
+
+// A page as if it had been found.
+fn page_itself(geometry: &Geometry, page: u32) -> Found
+    requires page { page < pages_of geometry.now }
+    ensures level { (level_of geometry.now page ≤ result.level) × (result.level < levels_of geometry.now) }
+    ensures page { result.page ≡ ancestor_of geometry.now page result.level }
+    ensures own { result.level ≡ level_of geometry.now result.page }
+    ensures least { result.level ≤ level_of geometry.now page }
+{
+    let level = geometry.page_at(page).level;
+    Found {
+        page: geometry.ancestor_at(page, level),
+        level,
+        slot: 0,
+    }
+}
+
+impl Lookup for SwapLookup<'_> {
+    ghost shape = { λ v. v.shape };
+
+    ghost version = { λ v. v.table.version };
+
+    ghost says = { IsSaidIn };
+
+    ghost Kept = { LookupView };
+
+    ghost kept = { lookup_base };
+
+    #[inline]
+    fn find(&mut self, page: u32) -> Found {
+        match self.find_mapped(page) {
+            Some(found) => found,
+            None => {
+                self.failed = true;
+                page_itself(self.geometry, page)
+            }
+        }
+    }
+
+    #[inline(always)]
+    fn texel(&mut self, found: &Found, x: u32, y: u32) -> u64 {
+        let place = place_of(self.geometry, x, y);
+        self.reach(found.slot);
+        self.word(found.page, place)
+    }
+}

@@ -1,0 +1,204 @@
+//! A reader of a page cache.
+
+ghost use Rattle.std.specs.Prelude.{◌≡◌, ℕ, ◌+◌, ◌*◌, ◌<◌, ◌≤◌, ◌^◌, [], ◌∷◌, false, length, slice_index, All, IfSome, IsTrue};
+ghost use mathlib.Core.List.{IsPrefix};
+ghost use Rattle.vt_definitions.specs.Depths.{IsDepth, texel_length};
+ghost use Rattle.vt_pages.specs.Pages.{pages_of};
+ghost use Rattle.vt_draw.specs.Shots.{shot_row};
+ghost use Rattle.vt_filter.specs.Evidence.{AreShown, AreRaised};
+ghost use Rattle.vt_swap.specs.Logs.{IsLawful};
+ghost use Rattle.vt_swap.specs.Slots.{AreSlotsOf};
+ghost use Rattle.vt_swap.specs.Notes.{IsEntry, IsSaidBy};
+ghost use Rattle.vt_swap.specs.Readers.{HasEnteredMore, WasEntered};
+
+use crate::drawing::draw_under;
+use crate::entered::{LeftRightReader, enter};
+use crate::frame::Slot;
+use crate::fronts::{is_behind, is_lawful};
+use crate::log::Front;
+use crate::lookup::entry_of;
+use crate::streamer::SwapStreamer;
+use std::marker::Model;
+use std::sync::Wait;
+use std::thread;
+use vt_draw::Shot;
+use vt_filter::Filter;
+use vt_outside::{Gate, Point};
+
+/// A reader of the newest page table and of the frames, as a sampler has it. Contracts see which log it is, what the reader has
+/// seen of it, and which versions it entered, the newest first.
+#[derive(Drop)]
+pub struct TableReader {
+    pub(crate) reader: LeftRightReader,
+    pub(crate) front: Front,
+}
+
+impl Model for TableReader {
+    ghost use Rattle.left_right.specs.Sides.{view as known_by};
+    ghost use Rattle.vt_swap.specs.Rules.{KnowsLog};
+    ghost use Rattle.vt_swap.specs.Readers.{ReaderView};
+
+    ghost Value = { ReaderView };
+
+    ghost view = { λ r. record { book = r.front.seen.book; log = r.front.seen.log; entered = (known_by r.reader.place).entered } };
+
+    ghost invariant = { λ r. KnowsLog (known_by r.reader.place) r.front };
+}
+
+impl TableReader {
+    /// Whether what it has seen of the log is a beginning of what the writer has done.
+    pub fn is_told_by(&self, writer: &SwapStreamer) -> bool
+        requires { self.now.book ≡ writer.now.book }
+        ensures { IsTrue result → IsPrefix self.now.log writer.now.log }
+    {
+        is_behind(&self.front, &writer.front)
+    }
+
+    /// What it has seen of the log is lawful: each record could come after those before it.
+    pub fn saw_lawful_log(&self)
+        ensures { IsLawful self.now.log }
+    {
+        is_lawful(&self.front);
+    }
+
+    /// The entry of a page in the version that was published last, which is 0 where the page is not mapped and else 1 more than its
+    /// frame; `None` where the table has no such page. It tells that version.
+    pub fn entry<R: Wait>(self, rt: &R, page: u32) -> (TableReader, u64, Option<u32>)
+        ensures entered { WasEntered self result.0 result.1 }
+        ensures entry { IfSome result.2 (IsEntry result.0.log result.1 page) }
+    {
+        let TableReader { reader, mut front } = self;
+        let reading = enter(rt, reader, &mut front);
+        let version = reading.get().version;
+        let entry = entry_of(reading.get(), page);
+        let reader = reading.leave();
+        (TableReader { reader, front }, version, entry)
+    }
+
+    /// Draws row `y` of a picture by a filter for a sampler, in a version of the page table that it enters, and tells that version. It
+    /// enters anew, and draws the row anew, each time a frame did not have the tile of the page that the version maps to it. So it may
+    /// wait.
+    ///
+    /// `y` is below the picture's height, `out` has three samples a column of the shot's depth, and `counts` has a number for each
+    /// page, each of which can rise by four times the picture's width; they are raised once. `spare` has as many numbers, which
+    /// mean nothing. The gate is told of the row each time after a version was entered, and before the first look-up. It takes no
+    /// memory and refuses nothing.
+    pub fn draw_row<P: Filter, G: Gate, R: Wait>(
+        self,
+        rt: &R,
+        slots: &[Slot],
+        shot: &Shot,
+        sampler: u32,
+        y: u32,
+        gate: &G,
+        out: &mut [u8],
+        counts: &mut [u32],
+        spare: &mut [u32],
+    ) -> (TableReader, u64)
+        requires slots { AreSlotsOf self.book slots.now }
+        requires depth { IsDepth shot.now.depth }
+        requires picture { shot.now.picture < length shot.now.path.now.cameras }
+        requires within { y < shot.now.path.now.height }
+        requires bytes { length out.old ≡ texel_length shot.now.depth * shot.now.path.now.width }
+        requires pages { length counts.old ≡ pages_of shot.now.geometry.now }
+        requires spares { length spare.old ≡ pages_of shot.now.geometry.now }
+        requires room { (p : ℕ) → p < length counts.old → slice_index counts.old p + 4 * shot.now.path.now.width < 2 ^ 32 }
+        ensures entered { WasEntered self result.0 result.1 }
+        ensures drawn { let row = shot_row shot.now.geometry.now shot.now.path.now shot.now.picture y in
+            AreShown P.shown shot.now.geometry.now shot.now.depth result.1 (IsSaidBy result.0.log) row
+            shot.now.path.now.width out.new }
+        ensures counted { let row = shot_row shot.now.geometry.now shot.now.path.now shot.now.picture y in
+            AreRaised P.wants shot.now.geometry.now row shot.now.path.now.width counts.old counts.new }
+    {
+        let (reader, version, failed) = try_row::<P, G, R>(
+            rt, self, slots, shot, sampler, y, gate, out, counts,
+        );
+        if !failed {
+            return (reader, version);
+        }
+        draw_again::<P, G, R>(rt, reader, slots, shot, sampler, y, gate, out, spare)
+    }
+}
+
+// Enters a version and draws a row in it; tells the version, and whether a check of a frame failed, so that the row means nothing.
+fn try_row<P: Filter, G: Gate, R: Wait>(
+    rt: &R,
+    reader: TableReader,
+    slots: &[Slot],
+    shot: &Shot,
+    sampler: u32,
+    y: u32,
+    gate: &G,
+    out: &mut [u8],
+    counts: &mut [u32],
+) -> (TableReader, u64, bool)
+    requires slots { AreSlotsOf reader.book slots.now }
+    requires depth { IsDepth shot.now.depth }
+    requires picture { shot.now.picture < length shot.now.path.now.cameras }
+    requires within { y < shot.now.path.now.height }
+    requires bytes { length out.old ≡ texel_length shot.now.depth * shot.now.path.now.width }
+    requires pages { length counts.old ≡ pages_of shot.now.geometry.now }
+    requires room { (p : ℕ) → p < length counts.old → slice_index counts.old p + 4 * shot.now.path.now.width < 2 ^ 32 }
+    ensures entered { HasEnteredMore reader result.0 (result.1 ∷ []) }
+    ensures later { All (λ u. u ≤ result.1) reader.entered }
+    ensures drawn { result.2 ≡ false
+        → let row = shot_row shot.now.geometry.now shot.now.path.now shot.now.picture y in
+        AreShown P.shown shot.now.geometry.now shot.now.depth result.1 (IsSaidBy result.0.log) row
+        shot.now.path.now.width out.new }
+    ensures counted { let row = shot_row shot.now.geometry.now shot.now.path.now shot.now.picture y in
+        AreRaised P.wants shot.now.geometry.now row shot.now.path.now.width counts.old counts.new }
+{
+    let TableReader { reader, mut front } = reader;
+    let reading = enter(rt, reader, &mut front);
+    gate.at(Point::Row { sampler, row: y });
+    let version = reading.get().version;
+    let failed = draw_under::<P>(reading.get(), &mut front, slots, shot, y, out, counts);
+    let reader = reading.leave();
+    (TableReader { reader, front }, version, failed)
+}
+
+// Draws a row until no check of a frame failed.
+fn draw_again<P: Filter, G: Gate, R: Wait>(
+    rt: &R,
+    reader: TableReader,
+    slots: &[Slot],
+    shot: &Shot,
+    sampler: u32,
+    y: u32,
+    gate: &G,
+    out: &mut [u8],
+    spare: &mut [u32],
+) -> (TableReader, u64)
+    requires slots { AreSlotsOf reader.book slots.now }
+    requires depth { IsDepth shot.now.depth }
+    requires picture { shot.now.picture < length shot.now.path.now.cameras }
+    requires within { y < shot.now.path.now.height }
+    requires bytes { length out.old ≡ texel_length shot.now.depth * shot.now.path.now.width }
+    requires spares { length spare.old ≡ pages_of shot.now.geometry.now }
+    ensures entered { WasEntered reader result.0 result.1 }
+    ensures drawn { let row = shot_row shot.now.geometry.now shot.now.path.now shot.now.picture y in
+        AreShown P.shown shot.now.geometry.now shot.now.depth result.1 (IsSaidBy result.0.log) row
+        shot.now.path.now.width out.new }
+{
+    let mut reader = reader;
+    for _ in rt.forever() {
+        thread::yield_now();
+        clear(spare);
+        let _width = shot.path.width();
+        let (back, version, failed) = try_row::<P, G, R>(
+            rt, reader, slots, shot, sampler, y, gate, out, spare,
+        );
+        reader = back;
+        if !failed {
+            return (reader, version);
+        }
+    }
+    unreachable!()
+}
+
+// Sets the count of each page to 0.
+fn clear(counts: &mut [u32])
+    ensures { (p : ℕ) → p < length counts.new → slice_index counts.new p ≡ 0 }
+{
+    counts.fill(0);
+}

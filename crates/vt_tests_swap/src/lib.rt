@@ -1,0 +1,5 @@
+//! The tests of the page cache whose table is published in two copies. It holds nothing else, and nothing stands on it.
+#![tactic(auto)]
+
+#[cfg(test)]
+mod small;
