@@ -1,6 +1,6 @@
 //! Level 1 of a texture that is not in memory, made while its rows come.
 
-ghost use Rattle.std.specs.Prelude.{◌≡◌, ℕ, ◌+◌, ◌*◌, ◌/◌, ◌%◌, ◌≤◌, ◌⊎◌, List, length, IfOk};
+ghost use Rattle.std.specs.Prelude.{◌≡◌, ℕ, ◌+◌, ◌*◌, ◌/◌, ◌%◌, ◌≤◌, ◌⊎◌, ◌++◌, List, length, vec_len, vec_capacity, IfOk};
 ghost use Rattle.vt_definitions.specs.Depths.{IsDepth, texel_length};
 ghost use Rattle.vt_definitions.specs.Limits.{most_tiled_side};
 ghost use Rattle.vt_outside.specs.Files.{IsPiece};
@@ -16,7 +16,8 @@ use vt_definitions::texel_length;
 use vt_outside::NoMemory;
 use vt_ppm::Image;
 
-/// Level 1 of a texture as far as the texture's rows were taken, in order from the top.
+/// Level 1 of a texture as far as the texture's rows were taken, in order from the top. Room for all of it is asked for at once, but it is
+/// written row by row: so nobody waits until a large level is full of zeros.
 #[derive(Drop)]
 pub struct Halving {
     depth: u32,
@@ -27,13 +28,39 @@ pub struct Halving {
 }
 
 impl Model for Halving {
+    ghost use Rattle.std.specs.Prelude.{vec_capacity};
     ghost use Rattle.vt_mip.specs.TakenRows.{HalvingView, IsHalving};
 
     ghost Value = { HalvingView };
 
     ghost view = { λ h. record { depth = h.depth; width = h.width; height = h.height; taken = h.taken; samples = h.samples.items } };
 
-    ghost invariant = { λ h. IsHalving (record { depth = h.depth; width = h.width; height = h.height; taken = h.taken; samples = h.samples.items }) };
+    ghost invariant = { λ h. IsHalving (record { depth = h.depth; width = h.width; height = h.height; taken = h.taken; samples = h.samples.items })
+        (vec_capacity h.samples) };
+}
+
+// How many bytes the rows of level 1 have that so many rows of a texture make.
+fn half_size(depth: u32, width: usize, rows: usize) -> usize
+    requires depth { IsDepth depth }
+    requires few_columns { width ≤ most_tiled_side }
+    requires few_rows { rows ≤ most_tiled_side }
+    ensures { result ≡ texel_length depth * ((width + 1) / 2 * ((rows + 1) / 2)) }
+{
+    texel_length(depth) * ((width + 1) / 2 * ((rows + 1) / 2))
+}
+
+// Makes a list longer, within the room that it has.
+fn lengthen(samples: &mut Vec<u8>, size: usize)
+    requires longer { vec_len samples.old ≤ size }
+    requires room { size ≤ vec_capacity samples.old }
+    ensures front { (rest : List ℕ) × (samples.new.items ≡ samples.old.items ++ rest) }
+    ensures length { length samples.new.items ≡ size }
+    ensures room { vec_capacity samples.old ≤ vec_capacity samples.new }
+{
+    match samples.resize(size, 0) {
+        Ok(()) => {}
+        Err(_) => unreachable!(),
+    }
 }
 
 // Halves so many rows that follow those that were taken, in so many threads, and writes what they make behind the rows of level 1 that are made.
@@ -57,7 +84,7 @@ fn halve_behind<Rt: Threads + Sync>(
     requires even { taken % 2 ≡ 0 }
     requires pairs { (count % 2 ≡ 0) ⊎ (taken + count ≡ height) }
     requires whole { length rows.now ≡ texel_length depth * (width * count) }
-    requires room { length samples.old ≡ texel_length depth * ((width + 1) / 2 * ((height + 1) / 2)) }
+    requires room { length samples.old ≡ texel_length depth * ((width + 1) / 2 * ((taken + count + 1) / 2)) }
     ensures { (source : List ℕ) → IsPiece source (texel_length depth * (width * taken)) rows.now
         → IsHalvedRaster depth source width height ((taken + 1) / 2) samples.old
         → IsHalvedRaster depth source width height ((taken + count + 1) / 2) samples.new }
@@ -91,10 +118,8 @@ impl Halving {
         ensures height { IfOk result (λ h. h.height ≡ height) }
         ensures begun { IfOk result (λ h. (p : ImageView) → p.depth ≡ depth → p.width ≡ width → p.height ≡ height → HalvesFront p h) }
     {
-        let half_width = (width as usize + 1) / 2;
-        let half_height = (height as usize + 1) / 2;
-        let size = texel_length(depth) * (half_width * half_height);
-        let samples = vec![in alloc; 0u8; size]?;
+        let mut samples = Vec::new(alloc);
+        samples.reserve(half_size(depth, width as usize, height as usize))?;
         Ok(Halving {
             depth,
             width,
@@ -119,13 +144,16 @@ impl Halving {
         ensures halves { (p : ImageView) → HalvesFront p self.old
             → IsPiece p.samples (texel_length p.depth * (p.width * self.old.taken)) rows.now → HalvesFront p self.new }
     {
+        let taken = self.taken as usize;
+        let size = half_size(self.depth, self.width as usize, taken + count as usize);
+        lengthen(&mut self.samples, size);
         halve_behind(
             rt,
             threads,
             self.depth,
             self.width as usize,
             self.height as usize,
-            self.taken as usize,
+            taken,
             rows,
             count as usize,
             self.samples.as_mut_slice(),
