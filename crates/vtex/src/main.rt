@@ -16,6 +16,7 @@ pub use vt_commands::run;
 use vt_commands::usage_line;
 use vt_outside::{OpenGate, RealFile, RealFolder, RealSink};
 use vt_pass::WordMachine;
+use vt_steal::StealMachine;
 
 // The words after the program's name.
 fn words_of(rt: &HostRuntime, alloc: Global) -> io::Result<Vec<String>> {
@@ -51,7 +52,7 @@ fn main(rt: HostRuntime) -> ExitCode {
     let mut out = RealSink::new(rt.stdout());
     let status = run::<
         WordMachine<RealFile<File>>,
-        WordMachine<RealFile<File>>,
+        StealMachine<RealFile<File>>,
         BlendMachine<RealFile<File>>,
         _,
         _,

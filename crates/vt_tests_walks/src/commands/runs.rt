@@ -8,6 +8,7 @@ use vt_bilinear::BlendMachine;
 use vt_commands::run;
 use vt_outside::{Fail, Fails, MemoryFile, MemoryFolder, MemorySink, NoMemory};
 use vt_pass::WordMachine;
+use vt_steal::StealMachine;
 
 /// What commands run over: a folder in memory, the output and the error output, and the gate of their workers.
 #[derive(Drop)]
@@ -91,7 +92,7 @@ fn play_words(
 ) -> u8 {
     run::<
         WordMachine<MemoryFile>,
-        WordMachine<MemoryFile>,
+        StealMachine<MemoryFile>,
         BlendMachine<MemoryFile>,
         _,
         _,
