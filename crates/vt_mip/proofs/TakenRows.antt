@@ -1,10 +1,10 @@
 -- Rows that are halved as they come.
-use Rattle.std.proofs.Common.{◌≡◌, ℕ, inl, inr, ◌+◌, ◌-◌, ◌*◌, ◌/◌, ◌%◌, ◌<◌, ◌≤◌, ◌⊎◌, List, ◌++◌, length, take, drop, refl, sym, ap, ◌∙◌, subst, arith}
-use Rattle.std.proofs.lemmas.List.{take_at}
+use Rattle.std.proofs.Common.{◌≡◌, ℕ, inl, inr, ◌+◌, ◌-◌, ◌*◌, ◌/◌, ◌%◌, ◌<◌, ◌≤◌, ◌⊎◌, List, ◌++◌, length, take, drop, sym, ap, ◌∙◌, subst, arith}
+use Rattle.std.proofs.lemmas.List.{take-append-le}
 use Rattle.std.proofs.lemmas.Nat.{mul-add-lt}
 use Rattle.std.proofs.Math.Nat.{mul-le-mul_left}
 use borrow.Rule.Slice.PartMut.{put_mid}
-use Rattle.vt_definitions.specs.Depths.{texel_length}
+use Rattle.vt_definitions.specs.Depths.{sample_at, texel_length}
 use Rattle.vt_outside.specs.Files.{IsPiece}
 use Rattle.vt_ppm.specs.Image.{ImageView}
 use Rattle.vt_box_filter.specs.Boxes.{clamped}
@@ -97,18 +97,25 @@ rows_taken d w h t c z from m source rows old new wide some inside even pairs wh
       pairs_there (inr e) = inr (omega arith)
 
 -- the rows of level 1 that are made stay so where others are put behind them
-pub longer_raster : (d w h n : ℕ) (source old rest new : List ℕ) → length old ≡ texel_length d * ((w + 1) / 2 * n) → new ≡ old ++ rest
+pub longer_raster : (d w h n : ℕ) (source old rest new : List ℕ) → texel_length d * ((w + 1) / 2 * n) ≤ length old → new ≡ old ++ rest
     → IsHalvedRaster d source w h n old → IsHalvedRaster d source w h n new
-longer_raster d w h n source old rest new full is before = record { each = λ x y c p q r. sym (same x y c p q r) ∙ before.each x y c p q r } where
-  cut : old ≡ take (length old) (drop 0 new)
-  cut = sym (ap (take (length old)) is ∙ take_at old rest (length old) refl)
+longer_raster d w h n source old rest new made is before = record { each = λ x y c p q r. sym (same x y c p q r) ∙ before.each x y c p q r } where
+  v : ℕ
+  v = (w + 1) / 2
+
+  m : ℕ
+  m = texel_length d * (v * n)
+
+  front : take m (drop 0 new) ≡ take m (drop 0 old)
+  front = ap (take m) is ∙ take-append-le m old rest made
 
   same : (x y c : ℕ) → x < (w + 1) / 2 → y < n → c < 3 → raster_sample d old ((w + 1) / 2) x y c ≡ raster_sample d new ((w + 1) / 2) x y c
   same x y c p q r =
-      let v : ℕ = (w + 1) / 2 in
-      ap (λ l. raster_sample d l v x y c) cut
-      ∙ cut_sample d new 0 (3 * v * n) 0 (length old) (3 * (y * v + x) + c) (3 * (y * v + x) + c) (omega arith) (full ∙ omega arith)
-      (omega (arith, mul-add-lt y v x n q p)) (omega arith)
+      let i : ℕ = 3 * (y * v + x) + c in
+      let low : i < 3 * v * n = omega (arith, mul-add-lt y v x n q p) in
+      sym (cut_sample d old 0 (3 * v * n) 0 m i i (omega arith) (omega arith) low (omega arith))
+      ∙ ap (λ l. sample_at d l i) (sym front)
+      ∙ cut_sample d new 0 (3 * v * n) 0 m i i (omega arith) (omega arith) low (omega arith)
 
 -- fewer rows of a texture make no more of level 1
 pub fewer_rows : (d w t h : ℕ) → t ≤ h → texel_length d * ((w + 1) / 2 * ((t + 1) / 2)) ≤ texel_length d * ((w + 1) / 2 * ((h + 1) / 2))

@@ -13,8 +13,8 @@ pub record HalvingView : Type 0 where
   pub taken : ℕ
   pub samples : List ℕ
 
--- the texture has texels, no more than one that is cut into tiles; the samples are those of the rows that are made, and so many bytes have room for
--- all of level 1
+-- the texture has texels, no more than one that is cut into tiles; the samples are those of the rows that are made, and maybe room for further ones,
+-- and so many bytes have room for all of level 1
 pub record IsHalving (v : HalvingView) (room : ℕ) : Type 0 where
   pub depth : IsDepth v.depth
   pub some_columns : 1 ≤ v.width
@@ -22,7 +22,8 @@ pub record IsHalving (v : HalvingView) (room : ℕ) : Type 0 where
   pub some_rows : 1 ≤ v.height
   pub few_rows : v.height ≤ most_tiled_side
   pub few : v.taken ≤ v.height
-  pub full : length v.samples ≡ texel_length v.depth * ((v.width + 1) / 2 * ((v.taken + 1) / 2))
+  pub made : texel_length v.depth * ((v.width + 1) / 2 * ((v.taken + 1) / 2)) ≤ length v.samples
+  pub within : length v.samples ≤ texel_length v.depth * ((v.width + 1) / 2 * ((v.height + 1) / 2))
   pub fits : texel_length v.depth * ((v.width + 1) / 2 * ((v.height + 1) / 2)) ≤ room
 
 -- the rows that were taken are the first of an image, and they are halved

@@ -49,14 +49,17 @@ fn half_size(depth: u32, width: usize, rows: usize) -> usize
     texel_length(depth) * ((width + 1) / 2 * ((rows + 1) / 2))
 }
 
-// Makes a list longer, within the room that it has.
+// Makes a list so long, within the room that it has, where it is shorter.
 fn lengthen(samples: &mut Vec<u8>, size: usize)
-    requires longer { vec_len samples.old ≤ size }
     requires room { size ≤ vec_capacity samples.old }
     ensures front { (rest : List ℕ) × (samples.new.items ≡ samples.old.items ++ rest) }
-    ensures length { length samples.new.items ≡ size }
+    ensures long { size ≤ length samples.new.items }
+    ensures within { (most : ℕ) → size ≤ most → length samples.old.items ≤ most → length samples.new.items ≤ most }
     ensures room { vec_capacity samples.old ≤ vec_capacity samples.new }
 {
+    if size <= samples.len() {
+        return;
+    }
     match samples.resize(size, 0) {
         Ok(()) => {}
         Err(_) => unreachable!(),
@@ -84,7 +87,7 @@ fn halve_behind<Rt: Threads + Sync>(
     requires even { taken % 2 ≡ 0 }
     requires pairs { (count % 2 ≡ 0) ⊎ (taken + count ≡ height) }
     requires whole { length rows.now ≡ texel_length depth * (width * count) }
-    requires room { length samples.old ≡ texel_length depth * ((width + 1) / 2 * ((taken + count + 1) / 2)) }
+    requires room { texel_length depth * ((width + 1) / 2 * ((taken + count + 1) / 2)) ≤ length samples.old }
     ensures { (source : List ℕ) → IsPiece source (texel_length depth * (width * taken)) rows.now
         → IsHalvedRaster depth source width height ((taken + 1) / 2) samples.old
         → IsHalvedRaster depth source width height ((taken + count + 1) / 2) samples.new }
@@ -127,6 +130,24 @@ impl Halving {
             taken: 0,
             samples,
         })
+    }
+
+    /// Writes the room into which so many rows more will be halved, which `take` does else: what was never written takes the system longer than
+    /// halving does.
+    pub fn make_room(&mut self, count: u32)
+        requires inside { self.old.taken + count ≤ self.old.height }
+        ensures taken { self.new.taken ≡ self.old.taken }
+        ensures depth { self.new.depth ≡ self.old.depth }
+        ensures width { self.new.width ≡ self.old.width }
+        ensures height { self.new.height ≡ self.old.height }
+        ensures halves { (p : ImageView) → HalvesFront p self.old → HalvesFront p self.new }
+    {
+        let size = half_size(
+            self.depth,
+            self.width as usize,
+            self.taken as usize + count as usize,
+        );
+        lengthen(&mut self.samples, size);
     }
 
     /// Takes so many rows of the texture's samples, those behind the rows that were taken, and halves them in so many threads. Two rows make

@@ -16,10 +16,8 @@ slice_bounds-halve_in_threads-end g c =
     let w : ℕ = c.args.width in
     let z : ℕ = c.texel_length.result in
     let room : z * ((w + 1) / 2) * (c.args.taken / 2) + z * ((w + 1) / 2) * ((c.args.count + 1) / 2) ≤ length c.args.samples.now =
-    half_room (z * ((w + 1) / 2)) c.args.taken c.args.count (c.args.taken + c.args.count)
-    (length c.args.samples.now) (omega arith) c.requires.even
-    (c.requires.room
-    ∙ ap (λ (q : ℕ). q * ((w + 1) / 2 * ((c.args.taken + c.args.count + 1) / 2))) (sym c.texel_length.ensures.value) ∙ omega arith) in
+    (let end = half_end w (c.args.taken + c.args.count) c.args.taken c.args.count c.args.depth z _ (omega arith) c.requires.even refl
+    c.texel_length.ensures.value in omega (arith, end, c.requires.room)) in
     omega (arith, room)
 
 pub returns : goal.returns
@@ -27,10 +25,8 @@ returns g c = λ source piece before.
     let w : ℕ = c.args.width in
     let z : ℕ = c.texel_length.result in
     let room : z * ((w + 1) / 2) * (c.args.taken / 2) + z * ((w + 1) / 2) * ((c.args.count + 1) / 2) ≤ length c.args.samples.now =
-    half_room (z * ((w + 1) / 2)) c.args.taken c.args.count (c.args.taken + c.args.count)
-    (length c.args.samples.now) (omega arith) c.requires.even
-    (c.requires.room
-    ∙ ap (λ (q : ℕ). q * ((w + 1) / 2 * ((c.args.taken + c.args.count + 1) / 2))) (sym c.texel_length.ensures.value) ∙ omega arith) in
+    (let end = half_end w (c.args.taken + c.args.count) c.args.taken c.args.count c.args.depth z _ (omega arith) c.requires.even refl
+    c.texel_length.ensures.value in omega (arith, end, c.requires.room)) in
     rows_taken c.args.depth w c.args.height c.args.taken c.args.count z _ _ source c.args.rows.now c.args.samples.now c.halve_in_threads.new.out
     c.requires.some_columns c.requires.some c.requires.inside c.requires.even c.requires.pairs c.requires.whole c.texel_length.ensures.value
     refl (omega (arith, room)) (omega arith) c.halve_in_threads.ensures piece before
@@ -59,26 +55,26 @@ overflow_mul-half_row g c = omega (arith, row_small c.texel_length.result ((c.ar
 pub overflow_mul-from : goal.overflow_mul-from
 overflow_mul-from g c = omega (
   arith,
-  half_end c.args.width (c.args.taken + c.args.count) c.args.taken c.args.count c.args.depth c.texel_length.result (length c.args.samples.now)
-      (omega arith) c.requires.even c.requires.room c.texel_length.ensures.value,
+  half_end c.args.width (c.args.taken + c.args.count) c.args.taken c.args.count c.args.depth c.texel_length.result _
+      (omega arith) c.requires.even refl c.texel_length.ensures.value,
   raster_small c.args.depth ((c.args.width + 1) / 2) ((c.args.taken + c.args.count + 1) / 2) _ c.requires.depth (omega arith)
-      (omega (arith, c.requires.inside, c.requires.few_rows)) c.requires.room,
+      (omega (arith, c.requires.inside, c.requires.few_rows)) refl,
 )
 
 pub overflow_add-from : goal.overflow_add-from
 overflow_add-from g c = omega (
   arith,
-  half_end c.args.width (c.args.taken + c.args.count) c.args.taken c.args.count c.args.depth c.texel_length.result (length c.args.samples.now)
-      (omega arith) c.requires.even c.requires.room c.texel_length.ensures.value,
+  half_end c.args.width (c.args.taken + c.args.count) c.args.taken c.args.count c.args.depth c.texel_length.result _
+      (omega arith) c.requires.even refl c.texel_length.ensures.value,
   raster_small c.args.depth ((c.args.width + 1) / 2) ((c.args.taken + c.args.count + 1) / 2) _ c.requires.depth (omega arith)
-      (omega (arith, c.requires.inside, c.requires.few_rows)) c.requires.room,
+      (omega (arith, c.requires.inside, c.requires.few_rows)) refl,
 )
 
 pub overflow_mul-made : goal.overflow_mul-made
 overflow_mul-made g c = omega (
   arith,
-  half_end c.args.width (c.args.taken + c.args.count) c.args.taken c.args.count c.args.depth c.texel_length.result (length c.args.samples.now)
-      (omega arith) c.requires.even c.requires.room c.texel_length.ensures.value,
+  half_end c.args.width (c.args.taken + c.args.count) c.args.taken c.args.count c.args.depth c.texel_length.result _
+      (omega arith) c.requires.even refl c.texel_length.ensures.value,
   raster_small c.args.depth ((c.args.width + 1) / 2) ((c.args.taken + c.args.count + 1) / 2) _ c.requires.depth (omega arith)
-      (omega (arith, c.requires.inside, c.requires.few_rows)) c.requires.room,
+      (omega (arith, c.requires.inside, c.requires.few_rows)) refl,
 )

@@ -1,7 +1,7 @@
 use Rattle.std.proofs.Common.{◌≡◌, ℕ, ◌+◌, ◌*◌, ◌/◌, ◌≤◌, List, length, ap, ◌∙◌, subst, sym, refl, arith}
-use Rattle.std.specs.Prelude.{vec_capacity}
+use Rattle.std.specs.Vec.{with_items}
 use Rattle.std.proofs.lemmas.List.{with_items_is}
-use Rattle.vt_definitions.specs.Depths.{IsDepth, texel_length}
+use Rattle.vt_definitions.specs.Depths.{texel_length}
 use Rattle.vt_outside.specs.Files.{IsPiece}
 use Rattle.vt_mip.specs.Halves.{IsHalvedRaster}
 use Rattle.vt_mip.specs.TakenRows.{HalvingView, HalvesFront}
@@ -21,7 +21,7 @@ returns-clause-halves g c = λ p before piece.
     refl refl refl refl
     (λ source there half. c.halve_behind.ensures source there
     (subst (Half ((h.taken + 1) / 2) source) (sym c.as_mut_slice.ensures.value)
-    (longer_raster h.depth h.width h.height ((h.taken + 1) / 2) source h.samples.items c.lengthen.ensures.front.0 grown.items c.self.invariant.full
+    (longer_raster h.depth h.width h.height ((h.taken + 1) / 2) source h.samples.items c.lengthen.ensures.front.0 grown.items c.self.invariant.made
     c.lengthen.ensures.front.1 half)))
     (subst (HalvesFront p) (sym c.self.view_is) before) (subst Piece (sym c.self.view_is) piece))
 
@@ -38,7 +38,19 @@ invariant_of-self g c =
       some_rows = i.some_rows;
       few_rows = i.few_rows;
       few = subst (λ (v : HalvingView). v.taken + c.args.count ≤ v.height) (sym c.self.view_is) c.requires.inside;
-      full = ap length made ∙ c.halve_behind.auto.samples ∙ ap length c.as_mut_slice.ensures.value ∙ c.lengthen.ensures.length ∙ c.half_size-size.ensures;
+      made = (let long : length (with_items grown c.halve_behind.new.samples).items ≡ length grown.items =
+          ap length made ∙ c.halve_behind.auto.samples ∙ ap length c.as_mut_slice.ensures.value in
+          omega (arith, long, c.lengthen.ensures.long, c.half_size-size.ensures));
+      within = (let long : length (with_items grown c.halve_behind.new.samples).items ≡ length grown.items =
+          ap length made ∙ c.halve_behind.auto.samples ∙ ap length c.as_mut_slice.ensures.value in
+          let most = c.lengthen.ensures.within (texel_length h.depth * ((h.width + 1) / 2 * ((h.height + 1) / 2)))
+          (omega (
+            arith,
+            c.half_size-size.ensures,
+            fewer_rows h.depth h.width (h.taken + c.args.count) h.height
+                (subst (λ (v : HalvingView). v.taken + c.args.count ≤ v.height) (sym c.self.view_is) c.requires.inside),
+          )) i.within in
+          omega (arith, long, most));
       fits = omega (arith, i.fits, c.lengthen.ensures.room);
     }
 
@@ -53,13 +65,13 @@ half_size-size-requires-clause-few_rows g c =
     let few = subst (λ (v : HalvingView). v.taken + c.args.count ≤ v.height) (sym c.self.view_is) c.requires.inside in
     omega (arith, few, c.self.invariant.few_rows)
 
-pub lengthen-requires-clause-longer : goal.lengthen-requires-clause-longer
-lengthen-requires-clause-longer g c =
-    let h = c.self.inside in
-    omega (arith, c.self.invariant.full, c.half_size-size.ensures, fewer_rows h.depth h.width h.taken (h.taken + c.args.count) (omega arith))
-
-pub lengthen-requires-clause-room : goal.lengthen-requires-clause-room
-lengthen-requires-clause-room g c =
+pub lengthen-requires : goal.lengthen-requires
+lengthen-requires g c =
     let h = c.self.inside in
     let few = subst (λ (v : HalvingView). v.taken + c.args.count ≤ v.height) (sym c.self.view_is) c.requires.inside in
     omega (arith, c.half_size-size.ensures, fewer_rows h.depth h.width (h.taken + c.args.count) h.height few, c.self.invariant.fits)
+
+pub halve_behind-requires-clause-room : goal.halve_behind-requires-clause-room
+halve_behind-requires-clause-room g c κs within =
+    let long : length c.as_mut_slice.result.now ≡ length c.lengthen.new.samples.items = ap length c.as_mut_slice.ensures.value in
+    omega (arith, long, c.lengthen.ensures.long, c.half_size-size.ensures)
