@@ -1,5 +1,5 @@
 -- What passes of a bag took is what was put.
-use Rattle.std.proofs.Common.{subst, ◌≡◌, ℕ, ◌<◌, inl, inr, List, [], ◌∷◌, ◌++◌, get_or, ap, sym, ◌∙◌, append_assoc, arith}
+use Rattle.std.proofs.Common.{subst, ◌≡◌, ℕ, ◌+◌, ◌<◌, ◌≤◌, length, inl, inr, List, [], ◌∷◌, ◌++◌, get_or, ap, sym, ◌∙◌, append_assoc, length-append, arith}
 use Rattle.std.specs.Prelude.{IsPermutation, All, Contains, AllPairs}
 use Rattle.std.specs.List.{range_with_len}
 use Rattle.std.proofs.lemmas.List.{map-append}
@@ -13,7 +13,7 @@ use Rattle.vt_queue.specs.Steps.{IsAtStep, Takes}
 use Rattle.vt_queue.proofs.Gathered.{shuffled_as, append_nil, all_cut}
 use Rattle.vt_queue.proofs.OrderLemmas.{order_of, items_as_put, taken_first}
 use Rattle.vt_shared_rows.specs.declared.bag.RowJob.{RowJob}
-use Rattle.vt_shared_rows.specs.SharedRows.{rows_of, FitsRow, AreRowsPut, Rise, Took, HasTaken, EndsTaking}
+use Rattle.vt_shared_rows.specs.SharedRows.{rows_of, FitsRow, AreRowsPut, Rise, Took, HasTaken, HasEnded, EndsTaking}
 
 -- a pass with all shares, where none is left
 module _ (height line : ℕ) (v : PassView RowJob) (whole : v.shares ≡ all_shares) (empty : IsAtStep v []) (put : AreRowsPut height line v.put) where
@@ -85,19 +85,31 @@ module _ (height line : ℕ) where
         ∙ sym (ap rows_of (items_push h.got t.place job) ∙ rows_push (items_of h.got) job);
   }
 
+  pub taken_number : (n : ℕ) (v w x : PassView RowJob) (kept : List RowJob) (job drawn : RowJob) (h : HasTaken height line v w kept) (t : Takes w job x)
+      (same : drawn.row ≡ job.row) → n ≤ length h.got → n + 1 ≤ length (taken_more v w x kept job drawn h t same).got
+  unfolding taken_more
+  taken_number n v w x kept job drawn h t same low = (let e = length-append h.got ((t.place, job) ∷ []) in omega (arith, e, low))
+
   -- what is no row of the picture was taken
   taken_else : (v w x : PassView RowJob) (kept : List RowJob) (job : RowJob) → HasTaken height line v w kept → Takes w job x
-      → (FitsRow height line job → ⊥) → HasTaken height line v x kept
-  taken_else v w x kept job h t none = record {
-    got = h.got ++ (t.place, job) ∷ [];
-    is = took_more v w x h.got job h.is t;
-    rise = rise_more v w x h.got job h.is h.rise t;
-    exact = λ fit.
-        let cut = all_cut (FitsRow height line) (items_of h.got) (job ∷ []) (subst (All (FitsRow height line)) (items_push h.got t.place job) fit) in
-        absurd (none (cut.1 0 job (omega arith)));
-  }
+      → (FitsRow height line job → ⊥) → (t : HasTaken height line v x kept) × HasEnded height line v x kept t
+  taken_else v w x kept job h t none =
+      let got = h.got ++ (t.place, job) ∷ [] in
+      let unfit : All (FitsRow height line) (items_of got) → ⊥ = λ fit.
+      let cut = all_cut (FitsRow height line) (items_of h.got) (job ∷ []) (subst (All (FitsRow height line)) (items_push h.got t.place job) fit) in
+      none (cut.1 0 job (omega arith)) in (
+        record {
+          got = got;
+          is = took_more v w x h.got job h.is t;
+          rise = rise_more v w x h.got job h.is h.rise t;
+          exact = λ fit. absurd (unfit fit);
+        },
+        inr (inr unfit),
+      )
 
   pub taken_ends : (v w x : PassView RowJob) (kept : List RowJob) → HasTaken height line v w kept → EndsTaking height line w x
-      → HasTaken height line v x kept
-  taken_ends v w x kept h (inl same) = subst (λ (u : PassView RowJob). HasTaken height line v u kept) (sym same) h
+      → (t : HasTaken height line v x kept) × HasEnded height line v x kept t
+  taken_ends v w x kept h (inl none) =
+      subst (λ (u : PassView RowJob). (t : HasTaken height line v u kept) × HasEnded height line v u kept t) (sym none.0)
+      (h, inl (subst (λ (u : PassView RowJob). IsAtStep u []) none.0 none.1))
   taken_ends v w x kept h (inr other) = taken_else v w x kept other.0 h other.1 other.2

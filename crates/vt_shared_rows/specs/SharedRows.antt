@@ -14,7 +14,7 @@ use Rattle.vt_sampler.specs.Samplers.{row_length}
 use Rattle.vt_queue.specs.declared.views.PassView.{PassView}
 use Rattle.vt_queue.specs.PassViews.{pass_view}
 use Rattle.vt_queue.specs.Orders.{items_of}
-use Rattle.vt_queue.specs.Steps.{Takes}
+use Rattle.vt_queue.specs.Steps.{IsAtStep, Takes}
 use Rattle.vt_shared_rows.specs.declared.bag.RowJob.{RowJob}
 use Rattle.vt_shared_rows.specs.declared.bag.RowBag.{RowBag}
 use Rattle.vt_shared_rows.specs.declared.bag.BagPass.{BagPass}
@@ -50,9 +50,13 @@ pub record HasTaken (height line : ℕ) (v w : PassView RowJob) (kept : List Row
   pub rise : Rise got
   pub exact : All (FitsRow height line) (items_of got) → rows_of kept ≡ rows_of (items_of got)
 
--- a pass took nothing, or what is no row of the picture
+-- a pass took nothing, for nothing was left; or it took what is no row of the picture
 abbrev pub EndsTaking : ℕ → ℕ → PassView RowJob → PassView RowJob → Type 0
-EndsTaking height line v w = (w ≡ v) ⊎ ((job : RowJob) × Takes v job w × (FitsRow height line job → ⊥))
+EndsTaking height line v w = ((w ≡ v) × IsAtStep w []) ⊎ ((job : RowJob) × Takes v job w × (FitsRow height line job → ⊥))
+
+-- a pass goes on until nothing is left, or until it took as many rows as the picture has, or what is no row of it
+abbrev pub HasEnded : (height line : ℕ) (v w : PassView RowJob) (kept : List RowJob) → HasTaken height line v w kept → Type 0
+HasEnded height line v w kept taken = IsAtStep w [] ⊎ (height ≤ length taken.got) ⊎ (All (FitsRow height line) (items_of taken.got) → ⊥)
 
 -- a row that a sampler of this number keeps: it was drawn by a filter, by what the sampler's pass noted between two views, at a version that it
 -- came to hold meanwhile
@@ -88,6 +92,7 @@ pub record HasShared {P : Type 0} (filter : FilterMeanings P) (bag : RowBag) (s 
   pub has : b.rows ≡ Some after
   pub of : IsOf bag after
   pub taken : HasTaken path.height (row_length d path.width) (view_of before) (view_of after) b.kept.elements
+  pub ended : HasEnded path.height (row_length d path.width) (view_of before) (view_of after) b.kept.elements taken
   pub drawn : All (IsKeptRow filter s d path picture a.sampler p q) b.kept.elements
   pub rising : VersionsRise b.kept.elements
   pub counted : (n : ℕ) → n < length b.counts.items

@@ -12,7 +12,7 @@ ghost use Rattle.vt_lookup.specs.Notes.{Fits, IsNotedIn, HasHeldMore};
 ghost use Rattle.vt_sampler.specs.Samplers.{row_length};
 ghost use Rattle.vt_queue.specs.Steps.{Takes};
 ghost use Rattle.vt_shared_rows.specs.Bags.{view_of, IsOf};
-ghost use Rattle.vt_shared_rows.specs.SharedRows.{FitsRow, EndsTaking, HasTaken, IsKeptRow, VersionsRise, rows_of};
+ghost use Rattle.vt_shared_rows.specs.SharedRows.{FitsRow, EndsTaking, HasTaken, HasEnded, IsKeptRow, VersionsRise, rows_of};
 
 use crate::bag::{BagPass, RowBag, RowJob};
 use std::sync::Wait;
@@ -127,8 +127,9 @@ pub(crate) fn draw_rows<Rt: Wait, P: Filter, G: Gate>(
     ensures bag { IsOf bag.now own.new }
     ensures of { IsPassOf words.now result }
     ensures pass { (more : List ℕ) × HasHeldMore pass.view result.view more }
-    ensures taken { HasTaken shot.now.path.now.height (row_length shot.now.depth shot.now.path.now.width) (view_of own.old)
-        (view_of own.new) kept.new.elements }
+    ensures taken { (taken : HasTaken shot.now.path.now.height (row_length shot.now.depth shot.now.path.now.width) (view_of own.old)
+        (view_of own.new) kept.new.elements) × HasEnded shot.now.path.now.height (row_length shot.now.depth shot.now.path.now.width)
+        (view_of own.old) (view_of own.new) kept.new.elements taken }
     ensures drawn { All (IsKeptRow P.Filter shot.now.geometry.now shot.now.depth shot.now.path.now shot.now.picture sampler
         pass.view result.view) kept.new.elements }
     ensures rising { VersionsRise kept.new.elements }

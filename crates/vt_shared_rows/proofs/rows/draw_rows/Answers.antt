@@ -1,4 +1,4 @@
-use Rattle.std.proofs.Common.{◌≡◌, ℕ, ◌+◌, ◌*◌, ◌<◌, ◌≤◌, List, [], ◌∷◌, ◌++◌, length, sym, ap, ◌∙◌, subst, arith}
+use Rattle.std.proofs.Common.{inl, inr, ◌≡◌, ℕ, ◌+◌, ◌*◌, ◌<◌, ◌≤◌, List, [], ◌∷◌, ◌++◌, length, sym, ap, ◌∙◌, subst, arith}
 use Rattle.std.specs.Prelude.{All}
 use Rattle.std.proofs.lemmas.Nat.{mul-le}
 use Rattle.std.proofs.lemmas.List.{length_push}
@@ -10,7 +10,7 @@ use Rattle.vt_sampler.proofs.Sharing.{wants-none, wants-push}
 use Rattle.vt_shared_rows.specs.declared.bag.RowJob.{RowJob}
 use Rattle.vt_shared_rows.specs.Bags.{view_of}
 use Rattle.vt_shared_rows.specs.SharedRows.{HasTaken, IsKeptRow, VersionsRise, rows_of}
-use Rattle.vt_shared_rows.proofs.Taken.{rows_push, taken_none, taken_more, taken_ends}
+use Rattle.vt_shared_rows.proofs.Taken.{rows_push, taken_none, taken_more, taken_number, taken_ends}
 use Rattle.vt_shared_rows.proofs.Keepers.{wants_most, rows_number, kept_more, versions_more}
 use Rattle.vt_shared_rows.proofs.rows.draw_rows.Goals as goal
 
@@ -27,7 +27,7 @@ loop-init g c =
       bag = c.requires.bag;
       of = c.requires.of;
       pass = ([], none_held first);
-      taken = taken_none path.height (row_length d path.width) (view_of c.args.own.now) kept none;
+      taken = (taken_none path.height (row_length d path.width) (view_of c.args.own.now) kept none, omega arith);
       drawn = subst (λ (l : List RowJob). All (IsKeptRow g.P.Filter s d path picture c.args.sampler first first) l) (sym none)
           (All-nil (IsKeptRow g.P.Filter s d path picture c.args.sampler first first));
       rising = λ i j e low inside. absurd (let n = ap length none in omega (arith, inside, n));
@@ -41,7 +41,7 @@ pub returns-in_default-clause-taken : goal.returns-in_default-clause-taken
 returns-in_default-clause-taken g c =
     let path = c.args.shot.now.path.now in
     taken_ends path.height (row_length c.args.shot.now.depth path.width) (view_of c.args.own.now) (view_of c.loop.own) (view_of c.take_row.new.own)
-    c.loop.kept.elements c.loop.invariant.taken c.in_default.ensures.none
+    c.loop.kept.elements c.loop.invariant.taken.0 c.in_default.ensures.none
 
 pub draw_row_of-next-requires-clause-room : goal.draw_row_of-next-requires-clause-room
 draw_row_of-next-requires-clause-room g c p inside =
@@ -79,9 +79,13 @@ loop-preserved g c =
       bag = c.in-Some.ensures.of;
       of = e.of;
       pass = (now.version ∷ i.pass.0, held_then first c.loop.pass.view c.draw_row_of-next.result.0.view i.pass.0 now.version i.pass.1 e.more);
-      taken = subst (λ (l : List RowJob). HasTaken path.height (row_length d path.width) (view_of c.args.own.now) (view_of c.take_row.new.own) l) (sym all)
-          (taken_more path.height (row_length d path.width) (view_of c.args.own.now) (view_of c.loop.own) (view_of c.take_row.new.own) kept job now i.taken
-          c.in-Some.ensures.some.0 e.row);
+      taken = subst (λ (l : List RowJob). (t : HasTaken path.height (row_length d path.width) (view_of c.args.own.now) (view_of c.take_row.new.own) l)
+          × (c.loop.counter + 1 ≤ length t.got)) (sym all) (
+            taken_more path.height (row_length d path.width) (view_of c.args.own.now) (view_of c.loop.own) (view_of c.take_row.new.own) kept job now
+                i.taken.0 c.in-Some.ensures.some.0 e.row,
+            taken_number path.height (row_length d path.width) c.loop.counter (view_of c.args.own.now) (view_of c.loop.own)
+                (view_of c.take_row.new.own) kept job now i.taken.0 c.in-Some.ensures.some.0 e.row i.taken.1,
+          );
       drawn = subst (λ (l : List RowJob). All (IsKeptRow g.P.Filter s d path picture c.args.sampler first c.draw_row_of-next.result.0.view) l) (sym all)
           (kept_more g.P.Filter s d path picture c.args.sampler first c.loop.pass.view c.draw_row_of-next.result.0.view i.pass.0 i.pass.1 kept now e.more
           e.later e.given i.drawn e.fits e.by e.drawn);
@@ -98,3 +102,9 @@ loop-preserved g c =
       spare = (let a = i.spare in let b = c.push.ensures.spare in omega (arith, a, b));
       few = (let a = i.few in let b = ap length all ∙ length_push kept now in omega (arith, a, b));
     }
+
+pub returns-clause-taken : goal.returns-clause-taken
+returns-clause-taken g c =
+    let all : c.args.shot.now.path.now.height ≤ length c.loop.invariant.taken.0.got =
+    (let a = c.loop.invariant.taken.1 in let b = c.loop-test.false in let e = c.height-end.ensures.value in omega (arith, a, b, e)) in
+    (c.loop.invariant.taken.0, inr (inl all))

@@ -14,7 +14,8 @@ invariant-loop g l = record {
   bag : IsOf l.bag l.own;
   of : IsPassOf l.words l.pass;
   pass : (more : List ℕ) × HasHeldMore l.fn.pass.view l.pass.view more;
-  taken : HasTaken l.shot.path.now.height (row_length l.shot.depth l.shot.path.now.width) (view_of l.fn.own) (view_of l.own) l.kept.elements;
+  taken : (taken : HasTaken l.shot.path.now.height (row_length l.shot.depth l.shot.path.now.width) (view_of l.fn.own) (view_of l.own) l.kept.elements)
+      × (l.counter ≤ length taken.got);
   drawn : All (IsKeptRow g.P.Filter l.shot.geometry.now l.shot.depth l.shot.path.now l.shot.picture l.sampler l.fn.pass.view l.pass.view)
       l.kept.elements;
   rising : VersionsRise l.kept.elements;
