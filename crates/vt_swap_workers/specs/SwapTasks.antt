@@ -1,0 +1,80 @@
+-- What the samplers and the streamer of a pass over a page cache ask and leave.
+use Rattle.std.specs.Prelude.{◌≡◌, ℕ, ◌+◌, ◌*◌, ◌^◌, ◌<◌, ◌≤◌, ◌++◌, false, Some, List, length, slice_index}
+use Rattle.vt_definitions.specs.Depths.{IsDepth}
+use Rattle.vt_definitions.specs.Limits.{most_frames, most_versions}
+use Rattle.vt_draw.specs.Shots.{shot_row, wants_in_rows}
+use Rattle.vt_journal.specs.Changes.{newest}
+use Rattle.vt_sampler.specs.Samplers.{IsOwn, IsFor, own_rows, row_at, row_length, version_at}
+use Rattle.vt_pictures.specs.Scenes.{Scene}
+use Rattle.vt_filter.specs.declared.filters.Filter.{Ghosts as FilterMeanings}
+use Rattle.vt_filter.specs.Evidence.{AreShown}
+use Rattle.vt_plan.specs.declared.batches.Planned.{Planned}
+use Rattle.vt_machine.specs.Outcomes.{IsBatchFor}
+use Rattle.vt_queue.specs.Queues.{view_of, splits_of, IsOf}
+use Rattle.vt_loaders.specs.declared.queued.Queues.{Queues}
+use Rattle.vt_requests.specs.BatchRounds.{result_events, AreLossesOf}
+use Rattle.vt_streaming.specs.Streams.{Streams}
+use Rattle.vt_streaming.specs.Reports.{IsBlank}
+use Rattle.vt_swap.specs.declared.frame.FrameKey.{FrameKey}
+use Rattle.vt_swap.specs.Slots.{AreSlotsOf}
+use Rattle.vt_swap.specs.Notes.{IsSaidBy}
+use Rattle.vt_swap.specs.Readers.{ReaderView, HasEnteredMore}
+use Rattle.vt_swap_sampler.specs.Entered.{WasEnteredBetween}
+use Rattle.vt_swap_streaming.specs.Brought.{HasStreamed}
+use Rattle.vt_swap_workers.specs.declared.workers.SwapDrawer.{SwapDrawer}
+use Rattle.vt_swap_workers.specs.declared.workers.SwapFeeder.{SwapFeeder}
+
+-- a sampler may draw a picture of a scene over the slots of frames: it is made for it, and has a reader of the same log
+pub record MayDraw (slots : List FrameKey) (scene : Scene) (picture : ℕ) (a : SwapDrawer) : Type 0 where
+  pub for_it : IsFor a.sampler scene.shape scene.path scene.depth
+  pub picture_is : picture < length scene.path.cameras
+  pub reader : ReaderView
+  pub has : a.reader ≡ Some reader
+  pub slots_are : AreSlotsOf reader.book slots
+
+-- a sampler has drawn its rows of a picture of a scene by a filter, by what its reader saw of the log, each at a version that the reader entered
+-- meanwhile; these never fall from row to row; and it has counted the texels that the rows want
+pub record HasDrawn {P : Type 0} (filter : FilterMeanings P) (scene : Scene) (picture : ℕ) (a b : SwapDrawer) : Type 0 where
+  pub number : b.sampler.sampler ≡ a.sampler.sampler
+  pub among : b.sampler.samplers ≡ a.sampler.samplers
+  pub for_it : IsFor b.sampler scene.shape scene.path scene.depth
+  pub before : ReaderView
+  pub had : a.reader ≡ Some before
+  pub reader : ReaderView
+  pub has : b.reader ≡ Some reader
+  pub more : List ℕ
+  pub entered_more : HasEnteredMore before reader more
+  pub drawn : (y : ℕ) → IsOwn b.sampler y → AreShown filter.shown scene.shape scene.depth (version_at b.sampler y) (IsSaidBy reader.log)
+      (shot_row scene.shape scene.path picture y) scene.path.width (row_at b.sampler y)
+  pub full : (y : ℕ) → IsOwn b.sampler y → length (row_at b.sampler y) ≡ row_length scene.depth scene.path.width
+  pub entered : (y : ℕ) → IsOwn b.sampler y → WasEnteredBetween before reader (version_at b.sampler y)
+  pub rising : (y z : ℕ) → IsOwn b.sampler y → IsOwn b.sampler z → y ≤ z → version_at b.sampler y ≤ version_at b.sampler z
+  pub counted : (p : ℕ) → p < length b.sampler.counts
+      → slice_index b.sampler.counts p ≡ wants_in_rows filter.wants scene.shape scene.path picture
+      (own_rows b.sampler.sampler b.sampler.samplers b.sampler.height) p
+
+-- the streamer may stream a batch: the slots tell of its log, its pass is one of the results, the batch is lawful for the newest version, and there
+-- is room for what is told
+pub record MayStream (slots : List FrameKey) (q : Queues) (batch : List Planned) (a : SwapFeeder) : Type 0 where
+  pub slots_are : AreSlotsOf a.streamer.book slots
+  pub few_frames : length slots ≤ most_frames
+  pub depth_is : IsDepth a.depth
+  pub answers : IsOf q.results a.answers
+  pub lawful : IsBatchFor a.geometry (length slots) (newest a.streamer.journal) batch
+  pub few : length batch < 2 ^ 32
+  pub early : length a.streamer.journal + 2 * length batch ≤ most_versions
+  pub report : IsBlank (length batch) a.report
+
+-- the streamer has streamed a batch: it took a result for each entry; and where it was not refused memory, it published the changes of these, and
+-- told of each
+pub record HasFed (q : Queues) (batch : List Planned) (a b : SwapFeeder) : Type 0 where
+  pub book : b.streamer.book ≡ a.streamer.book
+  pub geometry : b.geometry ≡ a.geometry
+  pub depth : b.depth ≡ a.depth
+  pub answers : IsOf q.results b.answers
+  pub splits : splits_of b.answers ≡ splits_of a.answers
+  pub took : Streams (length batch) (view_of a.answers) (view_of b.answers) b.report.taken.elements b.report.results.elements
+  pub all : length b.report.results.elements ≡ length batch
+  pub losses : AreLossesOf batch b.report.results.elements b.report.losses.elements
+  pub streamed : b.refused ≡ false → HasStreamed a.depth (a.geometry.tile * a.geometry.tile) batch b.report.results.elements a.streamer b.streamer
+  pub events : b.refused ≡ false → b.report.events.elements ≡ a.report.events.elements ++ result_events batch b.report.results.elements

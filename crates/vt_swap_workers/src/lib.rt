@@ -1,0 +1,10 @@
+//! The workers of a pass over a page cache with a swapped table: samplers, loaders and the streamer.
+#![tactic(auto)]
+
+mod shared;
+mod tasks;
+mod workers;
+
+pub use shared::SwapShared;
+pub use tasks::may_be_sent;
+pub use workers::{SwapDrawer, SwapFeeder};

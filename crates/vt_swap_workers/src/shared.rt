@@ -1,0 +1,42 @@
+//! What the workers of a pass over a page cache have in common.
+
+use std::marker::PhantomData;
+use std::sync::Wait;
+use std::thread::Threads;
+use vt_draw::Shot;
+use vt_filter::Filter;
+use vt_loaders::{QueuedLoader, Queues};
+use vt_outside::{File, Gate, Items};
+use vt_plan::Planned;
+use vt_swap::Slot;
+use vt_workers::Task;
+
+/// What the workers of a pass over a page cache have in common.
+#[derive(Drop)]
+pub struct SwapShared<P: Filter> {
+    /// The slots of the frames.
+    pub slots: Items<Slot>,
+    /// The queues of the requests and of the results.
+    pub queues: Queues,
+    /// The filter by which the samplers draw.
+    pub filter: PhantomData<P>,
+}
+
+impl<F: File, P: Filter + Sync> Task<SwapShared<P>> for QueuedLoader<F> {
+    ghost use Rattle.vt_loaders.specs.QueuedLoaders.{MayLoad, HasLoaded};
+
+    ghost ready = { λ shared job loader. MayLoad F.File shared.queues loader };
+
+    ghost did = { λ shared job before after. HasLoaded F.File shared.queues before after };
+
+    fn work<Rt: Threads + Wait, G: Gate>(
+        &mut self,
+        rt: &Rt,
+        shared: &SwapShared<P>,
+        _shot: &Shot<'_>,
+        _batch: &[Planned],
+        gate: &G,
+    ) {
+        self.run(rt, &shared.queues, gate);
+    }
+}

@@ -1,0 +1,117 @@
+//! What samplers and streamer of a pass over a page cache do.
+
+ghost use Rattle.vt_pictures.specs.Scenes.{scene_of};
+ghost use Rattle.vt_swap_workers.specs.SwapTasks.{MayDraw, HasDrawn, MayStream, HasFed};
+
+use crate::shared::SwapShared;
+use crate::workers::{SwapDrawer, SwapFeeder};
+use std::mem;
+use std::sync::Wait;
+use std::thread::Threads;
+use vt_draw::Shot;
+use vt_filter::Filter;
+use vt_loaders::Queues;
+use vt_outside::Gate;
+use vt_plan::Planned;
+use vt_swap::Slot;
+use vt_swap_streaming::stream_swapped;
+use vt_workers::Task;
+
+// Lets a sampler draw its rows by a filter with its reader, which it has back afterwards.
+fn draw_own<P: Filter, G: Gate, Rt: Wait>(
+    rt: &Rt,
+    task: &mut SwapDrawer,
+    shot: &Shot<'_>,
+    slots: &[Slot],
+    gate: &G,
+)
+    requires { MayDraw slots.now (scene_of shot.now.geometry.now shot.now.depth shot.now.path.now) shot.now.picture task.old }
+    ensures { HasDrawn P.Filter (scene_of shot.now.geometry.now shot.now.depth shot.now.path.now) shot.now.picture
+        task.old task.new }
+{
+    let reader = mem::replace(&mut task.reader, None);
+    match reader {
+        Some(reader) => {
+            task.reader = Some(
+                task.sampler
+                    .draw_by::<P, G, Rt>(rt, shot, slots, reader, gate),
+            );
+        }
+        None => unreachable!(),
+    }
+}
+
+// Lets the streamer stream the batch.
+fn stream_own<Rt: Threads + Wait, G: Gate>(
+    rt: &Rt,
+    task: &mut SwapFeeder,
+    slots: &[Slot],
+    queues: &Queues,
+    batch: &[Planned],
+    gate: &G,
+)
+    requires { MayStream slots.now queues.now batch.now task.old }
+    ensures { HasFed queues.now batch.now task.old task.new }
+{
+    task.refused = stream_swapped(
+        rt,
+        slots,
+        &mut task.streamer,
+        &task.geometry,
+        task.depth,
+        &queues.results,
+        &mut task.answers,
+        batch,
+        &mut task.report,
+        gate,
+    );
+}
+
+impl<P: Filter + Sync> Task<SwapShared<P>> for SwapDrawer {
+    ghost ready = { λ shared job task. MayDraw shared.slots.elements job.scene job.picture task };
+
+    ghost did = { λ shared job before after. HasDrawn P.Filter job.scene job.picture before after };
+
+    fn work<Rt: Threads + Wait, G: Gate>(
+        &mut self,
+        rt: &Rt,
+        shared: &SwapShared<P>,
+        shot: &Shot<'_>,
+        _batch: &[Planned],
+        gate: &G,
+    ) {
+        draw_own::<P, G, Rt>(rt, self, shot, shared.slots.slice(), gate);
+    }
+}
+
+impl<P: Filter + Sync> Task<SwapShared<P>> for SwapFeeder {
+    ghost ready = { λ shared job task. MayStream shared.slots.elements shared.queues job.batch task };
+
+    ghost did = { λ shared job before after. HasFed shared.queues job.batch before after };
+
+    fn work<Rt: Threads + Wait, G: Gate>(
+        &mut self,
+        rt: &Rt,
+        shared: &SwapShared<P>,
+        _shot: &Shot<'_>,
+        batch: &[Planned],
+        gate: &G,
+    ) {
+        stream_own(rt, self, shared.slots.slice(), &shared.queues, batch, gate);
+    }
+}
+
+fn needs_send<T: Send>(_value: &T) {}
+
+fn needs_sync<T: Sync>(_value: &T) {}
+
+/// The workers of a pass may go to threads of their own, and what they have in common may be lent to these.
+pub fn may_be_sent<P: Filter + Sync>(
+    shared: &SwapShared<P>,
+    drawer: &SwapDrawer,
+    feeder: &SwapFeeder,
+) {
+    needs_sync(shared);
+    needs_send(drawer);
+    needs_send(feeder);
+}
