@@ -1,7 +1,7 @@
 //! The rows of a picture that samplers share: they lie in a bag, from which each sampler takes the next one when it has drawn the last.
 //!
-//! The bag is an injector of `crossbeam_deque` under the rule of the queues. Once all passes of a bag are one again, it is known that what
-//! was taken and what is left are what was put, each as often; and the rows that one pass took rise, where they were put in order.
+//! The bag is an injector of `crossbeam_deque` under the rule of the queues. Where all passes of a bag are one again, every row that was put
+//! is either still in the bag or was taken once, and no other row was; and the rows that one pass took rise, where they were put in order.
 #![tactic(auto)]
 
 mod bag;

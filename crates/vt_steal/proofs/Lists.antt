@@ -36,11 +36,7 @@ same_by_place (x ∷ xs) (y ∷ ys) number each =
     let rest = same_by_place xs ys (omega (arith, number)) (λ n d inside. each (suc n) d (omega (arith, inside))) in
     λ i. first i ∷ rest i
 
--- an element at a place is an element
-pub contained_at : {X : Type 0} (xs : List X) (n : ℕ) (x : X) → slice_get xs n ≡ Some x → Contains xs x
-contained_at xs n x is = (n, slice_get_within xs n x is, get_or_from_slice_get xs n x x is)
-
--- and has a place
+-- an element has a place
 pub place_of : {X : Type 0} (xs : List X) (x : X) → Contains xs x → (n : ℕ) × (slice_get xs n ≡ Some x)
 place_of xs x has = (has.0, slice_get-get_or xs has.0 x has.1 ∙ ap Some has.2)
 

@@ -107,7 +107,8 @@ impl RowKit {
         _shot: &Shot<'_>,
     ) -> RowLines
         requires { (start : Writer) × (before : List Task) × MayEndRows P.Filter words.now bag.now self.old
-            (scene_of _shot.now.geometry.now _shot.now.depth _shot.now.path.now) _shot.now.picture start streamer.old before tasks.elements }
+            (scene_of _shot.now.geometry.now _shot.now.depth _shot.now.path.now) _shot.now.picture start
+            streamer.old before tasks.elements }
         ensures { (start : Writer) (before : List Task) → MayEndRows P.Filter words.now bag.now self.old
             (scene_of _shot.now.geometry.now _shot.now.depth _shot.now.path.now) _shot.now.picture start streamer.old before tasks.elements
             → HasEndedRows P.Filter words.now self.old self.new

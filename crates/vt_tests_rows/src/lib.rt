@@ -1,0 +1,8 @@
+//! The tests of rows that samplers share: of their bag, and of walks by the machine that shares them. It holds nothing else, and nothing
+//! stands on it.
+#![tactic(auto)]
+
+#[cfg(test)]
+mod bag;
+#[cfg(test)]
+mod walks;

@@ -1,0 +1,181 @@
+//! Walks by the machine whose samplers share rows, over a store in memory.
+
+ghost use Rattle.std.specs.Prelude.{◌≡◌, [], ◌∷◌, is_some};
+ghost use Rattle.std.specs.Bool.{OnTrue};
+ghost use Rattle.vt_outside.specs.Files.{bytes_at};
+ghost use Rattle.vt_machine.specs.Machines.{file_state};
+ghost use Rattle.vt_walk.specs.Walks.{AreSettings};
+ghost use Rattle.vt_walk.specs.States.{AreOpen};
+
+use std::alloc::Global;
+use std::process::Abort;
+use std::sync::Wait;
+use std::thread::Threads;
+use vt_camera::{Path, parse_path};
+use vt_machine::Crew;
+use vt_outside::{Fails, Folder, Gate, MemoryFile, MemoryFolder, MemorySink, OpenGate};
+use vt_pages::Geometry;
+use vt_steal::StealMachine;
+use vt_tiles::Store;
+use vt_walk::{Names, Settings, walk_with};
+
+// The store, with tiles of side 2, of the texture of 4x4 texels whose texel (x, y) is 4y+x in each channel: its header, and the tiles of four
+// pages and of the root.
+static FOUR: [u8; 76] = [
+    0x56, 0x54, 0x53, 0x31, 0, 0, 0, 4, 0, 0, 0, 4, 0, 0, 0, 2, 0, 0, 0, 1, 1, 1, 4, 4, 4, 5, 5, 5,
+    2, 2, 2, 3, 3, 3, 6, 6, 6, 7, 7, 7, 8, 8, 8, 9, 9, 9, 12, 12, 12, 13, 13, 13, 10, 10, 10, 11,
+    11, 11, 14, 14, 14, 15, 15, 15, 3, 3, 3, 5, 5, 5, 11, 11, 11, 13, 13, 13,
+];
+
+/// A walk over that store, and what is to come of it.
+#[derive(Clone, Copy)]
+struct Case<'a> {
+    path: &'a [u8],
+    settings: Settings,
+    settled: bool,
+    log: &'a [u8],
+    picture: &'a [u8],
+}
+
+// Opens the store of a folder, after its path, as the program does.
+fn open_after_path<D: Folder>(rt: &impl Abort, folder: &mut D, name: &str) -> Store<D::File>
+    ensures bytes { D.File.bytes result.file ≡ bytes_at (D.files folder.new) name.now }
+    ensures tells { is_some (D.File.bytes result.file) ≡ is_some (D.files folder.new) }
+    ensures opened { AreOpen 1 name.now (D.asked folder.new) (file_state D.File.File result.file ∷ []) }
+{
+    let Ok(path) = folder.open("p") else {
+        panic!(rt; "no path");
+    };
+    folder.close(path);
+    let Ok(file) = folder.open(name) else {
+        panic!(rt; "no file");
+    };
+    match Store::open(file) {
+        Ok(store) => store,
+        Err((file, _)) => {
+            folder.close(file);
+            panic!(rt; "no store");
+        }
+    }
+}
+
+// Whether settings are within their limits, for tiles of the side 2.
+fn are_lawful(geometry: &Geometry, settings: &Settings) -> bool
+    ensures { OnTrue result (AreSettings geometry.now settings.now) }
+{
+    geometry.tile() == 2
+        && 1 <= settings.frames
+        && settings.frames <= 65535
+        && 1 <= settings.pinned
+        && 1 <= settings.crew.samplers
+        && settings.crew.samplers <= 64
+        && 1 <= settings.crew.loaders
+        && settings.crew.loaders <= 16
+        && 1 <= settings.crew.batch
+        && settings.crew.batch <= 4096
+}
+
+// Whether the walk of a case over the store of a folder succeeds.
+fn is_walked<Rt: Abort + Threads + Wait + Sync, G: Gate + Sync>(
+    rt: &Rt,
+    alloc: Global,
+    folder: &mut MemoryFolder,
+    path: &Path,
+    case: &Case<'_>,
+    out: &mut MemorySink,
+    gate: &G,
+) -> bool {
+    let names = Names {
+        store: "s",
+        prefix: "f",
+        journal: "j",
+    };
+    let store = open_after_path(rt, folder, names.store);
+    let lawful = are_lawful(&store.geometry(), &case.settings);
+    assert!(rt; lawful);
+    walk_with::<Rt, StealMachine<MemoryFile>, MemoryFolder, MemorySink, G>(
+        rt,
+        alloc,
+        folder,
+        store,
+        path,
+        &names,
+        &case.settings,
+        case.settled,
+        out,
+        gate,
+    )
+    .is_ok()
+}
+
+// Whether all comes of the walk of a case that is to come of it, in a folder of no names.
+fn comes<Rt: Abort + Threads + Wait + Sync, G: Gate + Sync>(
+    rt: &Rt,
+    alloc: Global,
+    folder: &mut MemoryFolder,
+    case: &Case<'_>,
+    gate: &G,
+) -> bool {
+    let laid = folder.add("s", &FOUR).is_ok() && folder.add("p", case.path).is_ok();
+    let mut out = MemorySink::new(alloc, Fails::new(alloc));
+    match parse_path(alloc, case.path) {
+        Ok(path) => {
+            laid && is_walked(rt, alloc, folder, &path, case, &mut out, gate)
+                && out.bytes() == case.log
+                && folder.holds("f0000.ppm", case.picture)
+        }
+        Err(_) => false,
+    }
+}
+
+const SETTINGS: Settings = Settings {
+    frames: 3,
+    pinned: 1,
+    crew: Crew {
+        samplers: 1,
+        loaders: 1,
+        batch: 1,
+    },
+};
+
+const BY_ONE: Case<'_> = Case {
+    path: b"size 2 1\nfocal 1\nat 0 0 256 16384 0\n",
+    settings: SETTINGS,
+    settled: true,
+    log: b"picture 0 passes 4 wanted 2 loaded 2 lost 0 evicted 0\nend pictures 1 reads 3\n",
+    picture: b"P6\n2 1\n255\n\x0d\x0d\x0d\x01\x01\x01",
+};
+
+const BY_TWO: Case<'_> = Case {
+    settings: Settings {
+        crew: Crew {
+            samplers: 2,
+            loaders: 1,
+            batch: 1,
+        },
+        ..SETTINGS
+    },
+    ..BY_ONE
+};
+
+const BY_SEVEN: Case<'_> = Case {
+    settings: Settings {
+        crew: Crew {
+            samplers: 7,
+            loaders: 3,
+            batch: 1,
+        },
+        ..SETTINGS
+    },
+    ..BY_ONE
+};
+
+static CREWS: [Case<'_>; 3] = [BY_ONE, BY_TWO, BY_SEVEN];
+
+#[test]
+fn a_settled_picture_is_the_same_by_any_number_of_samplers(rt: HostRuntime) {
+    for i in 0..CREWS.len() {
+        let mut folder = MemoryFolder::new(rt.alloc(), Fails::new(rt.alloc()));
+        assert!(&rt; comes(&rt, rt.alloc(), &mut folder, &CREWS[i], &OpenGate));
+    }
+}
