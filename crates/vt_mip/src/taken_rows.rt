@@ -16,8 +16,8 @@ use vt_definitions::texel_length;
 use vt_outside::NoMemory;
 use vt_ppm::Image;
 
-/// Level 1 of a texture as far as the texture's rows were taken, in order from the top. Room for all of it is asked for at once, but it is
-/// written row by row: so nobody waits until a large level is full of zeros.
+/// Level 1 of a texture as far as the texture's rows were taken, in order from the top. Room for all of it is taken at once, but it is written
+/// row by row: so nobody waits until a large level is full of zeros.
 #[derive(Drop)]
 pub struct Halving {
     depth: u32,
@@ -132,8 +132,8 @@ impl Halving {
         })
     }
 
-    /// Writes the room into which so many rows more will be halved, which `take` does else: what was never written takes the system longer than
-    /// halving does.
+    /// Makes the room into which so many further rows will be halved. `take` makes what is missing of it; made beforehand, it can be made beside
+    /// something else.
     pub fn make_room(&mut self, count: u32)
         requires inside { self.old.taken + count ≤ self.old.height }
         ensures taken { self.new.taken ≡ self.old.taken }
