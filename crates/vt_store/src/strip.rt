@@ -1,13 +1,14 @@
 //! A strip of a texture: as many whole rows as a tile has, of which a row of tiles and rows of level 1 are made.
-ghost use Rattle.std.specs.Prelude.{◌≡◌, ◌⊎◌, ◌+◌, ◌*◌, ◌%◌, ◌<◌, ◌≤◌, length};
+ghost use Rattle.std.specs.Prelude.{◌≡◌, ◌⊎◌, ◌+◌, ◌*◌, ◌%◌, ◌<◌, ◌≤◌, length, IfSome, OnOk, IsErr, is_err};
 ghost use Rattle.std.specs.Thread.{IsSync};
 ghost use Rattle.vt_definitions.specs.Depths.{IsDepth, texel_length};
 ghost use Rattle.vt_definitions.specs.Texels.{Source};
+ghost use Rattle.vt_outside.specs.Counts.{Rose};
 ghost use Rattle.vt_outside.specs.Files.{IsPiece};
 ghost use Rattle.vt_ppm.specs.Format.{depth_of};
 ghost use Rattle.vt_ppm.specs.StripPlaces.{strip_rows};
 ghost use Rattle.vt_ppm.specs.Image.{ImageView};
-ghost use Rattle.vt_ppm.specs.Strips.{row_length};
+ghost use Rattle.vt_ppm.specs.Strips.{row_length, rows_of, IsTextureIfTold, RowsAsked};
 ghost use Rattle.vt_mip.specs.TakenRows.{HalvesFront};
 ghost use Rattle.vt_pages.specs.Pages.{columns_at, name_at, pages_of};
 ghost use Rattle.vt_tiles.specs.Format.{tile_length, tiles_bytes};
@@ -81,6 +82,65 @@ fn halve_and_cut<Rt: Threads + Sync>(
     );
 }
 
+// Reads rows of a texture, and makes room for their half: meanwhile, where three threads are at work, or else it is made when they are halved.
+fn read_rows<Rt: Threads + Sync, F: File>(
+    rt: &Rt,
+    threads: usize,
+    chain: &mut StripChain<F>,
+    y: u32,
+    count: u32,
+    rows: &mut [u8],
+    half: &mut Halving,
+) -> Result<(), Failed>
+    requires spare { 1 ≤ F.spare chain.old.file }
+    requires inside { y + count ≤ chain.old.header.height }
+    requires size { length rows.old ≡ count * row_length chain.old.header }
+    requires room { half.old.taken + count ≤ half.old.height }
+    ensures rows { OnOk result (IfSome (F.bytes chain.old.file) (λ b. rows.new ≡ rows_of chain.old.header b y count)) }
+    ensures texture { IsTextureIfTold (F.bytes chain.old.file) chain.old.header }
+    ensures failed { IsErr result → Rose (F.faults chain.old.file) (F.faults chain.new.file) }
+    ensures asked { RowsAsked chain.old.header y count (is_err result) (F.asked chain.old.file) (F.asked chain.new.file) }
+    ensures spare { F.spare chain.old.file ≤ F.spare chain.new.file + 1 }
+    ensures bytes { F.bytes chain.new.file ≡ F.bytes chain.old.file }
+    ensures name { F.name chain.new.file ≡ F.name chain.old.file }
+    ensures faults { F.faults chain.old.file ≤ F.faults chain.new.file }
+    ensures header { chain.new.header ≡ chain.old.header }
+    ensures tile { chain.new.tile ≡ chain.old.tile }
+    ensures taken { half.new.taken ≡ half.old.taken }
+    ensures depth { half.new.depth ≡ half.old.depth }
+    ensures width { half.new.width ≡ half.old.width }
+    ensures height { half.new.height ≡ half.old.height }
+    ensures halves { (p : ImageView) → HalvesFront p half.old → HalvesFront p half.new }
+{
+    if threads < 3 {
+        return chain.rows(y, count, rows);
+    }
+    // A number for each closure, since a borrow that two closures share has no proof here.
+    let more = count;
+    let (_, read) = join_mut(
+        rt,
+        &mut || -> ()
+            requires { half.now.taken + more ≤ half.now.height }
+            ensures { (half.exit.now.taken ≡ half.entry.now.taken) × (half.exit.now.depth ≡ half.entry.now.depth)
+                × (half.exit.now.width ≡ half.entry.now.width) × (half.exit.now.height ≡ half.entry.now.height)
+                × ((p : ImageView) → HalvesFront p half.entry.now → HalvesFront p half.exit.now) }
+        { half.make_room(more) },
+        &mut || -> Result<(), Failed>
+            requires { (1 ≤ F.spare chain.now.file) × (y + count ≤ chain.now.header.height)
+                × (length rows.now ≡ count * row_length chain.now.header) }
+            ensures { OnOk result (IfSome (F.bytes chain.entry.now.file) (λ b. rows.exit.now ≡ rows_of chain.entry.now.header b y count))
+                × IsTextureIfTold (F.bytes chain.entry.now.file) chain.entry.now.header
+                × (IsErr result → Rose (F.faults chain.entry.now.file) (F.faults chain.exit.now.file))
+                × RowsAsked chain.entry.now.header y count (is_err result) (F.asked chain.entry.now.file) (F.asked chain.exit.now.file)
+                × (F.spare chain.entry.now.file ≤ F.spare chain.exit.now.file + 1)
+                × (F.bytes chain.exit.now.file ≡ F.bytes chain.entry.now.file) × (F.name chain.exit.now.file ≡ F.name chain.entry.now.file)
+                × (F.faults chain.entry.now.file ≤ F.faults chain.exit.now.file)
+                × (chain.exit.now.header ≡ chain.entry.now.header) × (chain.exit.now.tile ≡ chain.entry.now.tile) }
+        { chain.rows(y, count, rows) },
+    );
+    read
+}
+
 // Reads a strip into a buffer of its length, halves its rows into level 1, and makes its row of tiles.
 fn read_strip<Rt: Threads + Sync, F: File>(
     rt: &Rt,
@@ -104,7 +164,7 @@ fn read_strip<Rt: Threads + Sync, F: File>(
     let count = side.min(geometry.height() - y);
     let columns = tile_columns(geometry, 0);
     let depth = chain.depth();
-    chain.rows(y, count, rows)?;
+    read_rows(rt, threads, chain, y, count, rows, half)?;
     halve_and_cut(
         rt,
         threads,
