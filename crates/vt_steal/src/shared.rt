@@ -77,6 +77,9 @@ impl<F: File, P: Filter + Sync> Task<SharingShared<P>> for QueuedLoader<F> {
 }
 
 impl<P: Filter + Sync> Task<SharingShared<P>> for RowTask {
+    // So that a sampler whose row is slow holds up no other.
+    const ALONE: bool = true;
+
     ghost ready = { λ shared job task. MayDrawShared shared.words shared.bag job.scene job.picture task };
 
     ghost did = { λ shared job before after. HasDrawnShared P.Filter shared.words shared.bag job.scene job.picture before after };

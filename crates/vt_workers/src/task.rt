@@ -10,6 +10,9 @@ use vt_plan::Planned;
 
 /// A part of a pass that one worker does: it changes itself alone, and reads what it shares with the other workers, an `S`.
 pub trait Task<S: Sync> {
+    /// Whether each of several samplers has a thread of its own, however small the picture is.
+    const ALONE: bool = false;
+
     /// It may begin, on what is shared and for the pass's job.
     ghost ready: { S → Job → Self → Type 0 };
 

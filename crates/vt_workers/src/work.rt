@@ -41,7 +41,7 @@ pub fn work_together<
     if batch.is_empty() {
         load_and_stream(rt, loaders, streamer, shared, shot, batch, gate);
         draw_all(rt, samplers, shared, shot, batch, gate);
-    } else if samplers.len() == 1 || sampler_threads(shot) == 1 {
+    } else if samplers.len() == 1 || threads_of::<S, M>(samplers, shot) == 1 {
         draw_here(rt, loaders, samplers, streamer, shared, shot, batch, gate);
     } else {
         stream_here(rt, loaders, samplers, streamer, shared, shot, batch, gate);
@@ -191,7 +191,16 @@ fn load_and_stream<
     );
 }
 
-// All samplers, which share threads where the picture is small.
+// In how many threads samplers are at work.
+fn threads_of<S: Sync, M: Task<S>>(samplers: &[M], shot: &Shot<'_>) -> usize {
+    if M::ALONE {
+        samplers.len()
+    } else {
+        sampler_threads(shot)
+    }
+}
+
+// All samplers, which share threads where the picture is small, unless each has one of its own.
 fn draw_all<Rt: Threads + Wait + Sync, S: Sync, M: Task<S> + Send, G: Gate + Sync>(
     rt: &Rt,
     samplers: &mut [M],
@@ -203,15 +212,8 @@ fn draw_all<Rt: Threads + Wait + Sync, S: Sync, M: Task<S> + Send, G: Gate + Syn
     requires { AllReady (M.ready shared.now (job_of shot.now batch.now)) samplers.old }
     ensures { AllDid (M.did shared.now (job_of shot.now batch.now)) samplers.old samplers.new }
 {
-    work_all(
-        rt,
-        sampler_threads(shot),
-        samplers,
-        shared,
-        shot,
-        batch,
-        gate,
-    );
+    let threads = threads_of::<S, M>(samplers, shot);
+    work_all(rt, threads, samplers, shared, shot, batch, gate);
 }
 
 // All tasks of a list, by halves, in so many threads.
