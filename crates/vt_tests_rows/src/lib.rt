@@ -5,4 +5,6 @@
 #[cfg(test)]
 mod bag;
 #[cfg(test)]
+mod gates;
+#[cfg(test)]
 mod walks;

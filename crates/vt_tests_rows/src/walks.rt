@@ -7,6 +7,7 @@ ghost use Rattle.vt_machine.specs.Machines.{file_state};
 ghost use Rattle.vt_walk.specs.Walks.{AreSettings};
 ghost use Rattle.vt_walk.specs.States.{AreOpen};
 
+use crate::gates::FirstAndFourth;
 use std::alloc::Global;
 use std::process::Abort;
 use std::sync::Wait;
@@ -178,4 +179,28 @@ fn a_settled_picture_is_the_same_by_any_number_of_samplers(rt: HostRuntime) {
         let mut folder = MemoryFolder::new(rt.alloc(), Fails::new(rt.alloc()));
         assert!(&rt; comes(&rt, rt.alloc(), &mut folder, &CREWS[i], &OpenGate));
     }
+}
+
+const FOUR_ROWS: Case<'_> = Case {
+    path: b"size 2 4\nfocal 1\nat 0 0 1024 16384 0\n",
+    settings: Settings {
+        frames: 1,
+        crew: Crew {
+            samplers: 2,
+            loaders: 1,
+            batch: 64,
+        },
+        ..SETTINGS
+    },
+    settled: false,
+    log: b"picture 0 passes 1 wanted 3 loaded 0 lost 0 evicted 0\nend pictures 1 reads 1\n",
+    picture: b"P6\n2 4\n255\n\x0b\x0b\x0b\x0b\x0b\x0b\x0d\x0d\x0d\x05\x05\x05\x0b\x0b\x0b\x03\x03\x03\x0b\x0b\x0b\x03\x03\x03",
+};
+
+#[test]
+fn a_sampler_draws_three_rows_while_another_waits(rt: HostRuntime) {
+    let gate = FirstAndFourth::new();
+    let mut folder = MemoryFolder::new(rt.alloc(), Fails::new(rt.alloc()));
+    assert!(&rt; comes(&rt, rt.alloc(), &mut folder, &FOUR_ROWS, &gate));
+    assert!(&rt; gate.came());
 }
