@@ -1,6 +1,6 @@
 //! A reader of a page cache.
 
-ghost use Rattle.std.specs.Prelude.{◌≡◌, ℕ, ◌+◌, ◌*◌, ◌<◌, ◌≤◌, ◌^◌, [], ◌∷◌, false, length, slice_index, All, IfSome, IsTrue};
+ghost use Rattle.std.specs.Prelude.{◌≡◌, ℕ, ◌+◌, ◌*◌, ◌<◌, ◌≤◌, ◌^◌, [], ◌∷◌, false, length, slice_index, All, IfSome, MatchBool};
 ghost use mathlib.Core.List.{IsPrefix};
 ghost use Rattle.vt_definitions.specs.Depths.{IsDepth, texel_length};
 ghost use Rattle.vt_pages.specs.Pages.{pages_of};
@@ -49,7 +49,7 @@ impl TableReader {
     /// Whether what it has seen of the log is a beginning of what the writer has done.
     pub fn is_told_by(&self, writer: &SwapStreamer) -> bool
         requires { self.now.book ≡ writer.now.book }
-        ensures { IsTrue result → IsPrefix self.now.log writer.now.log }
+        ensures { MatchBool result (IsPrefix self.now.log writer.now.log) (IsPrefix writer.now.log self.now.log) }
     {
         is_behind(&self.front, &writer.front)
     }
