@@ -5,7 +5,7 @@ usage: run.py [--cases N] [--workers N] [--seed N] [--only COMMAND..] [--limit S
 
 (1,000 cases, one worker, a new seed, all commands that read files, 10 seconds and crates/vtex/out/vtex where they are not given)
 
-Outside the gate. A case is a command of ../soak/cases.py with small lawful inputs, of which mostly one is mutated by the parts of its grammar (mutations.py):
+The gate tries 300 cases. A case is a command of ../soak/cases.py with small lawful inputs, of which mostly one is mutated by the parts of its grammar (mutations.py):
 numbers at bounds and beyond words of 32 and 64 bits, other spellings, gaps and separators, fields and lines left out, repeated, exchanged or taken from
 elsewhere, journals that are counted anew after that, rasters and tiles cut short, bytes changed, other files in their place. Each run has to end within the
 limit with the status, the line and the files that docs/FORMATS.md says by stores.py, textures.py, journals.py, walks.py and judge.py; where it succeeds and has
