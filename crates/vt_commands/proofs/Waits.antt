@@ -1,4 +1,4 @@
--- Which words may wait, and that the clauses of a run that waits for nobody are the same by any machine.
+-- Which words may wait, and that the clauses of a run that does not wait are the same by any machine.
 use Rattle.std.proofs.Common.{◌≡◌, ◌≤◌, ◌⊎◌, ℕ, List, [], ◌∷◌, length, get_or, Option, Some, None, Bool, true, false, ◌||◌, refl, sym, ap, subst, ◌∙◌, inl, inr, arith}
 use Rattle.std.specs.Prelude.{String, string_bytes, is_some, option_map, codes, if◌then◌else◌}
 use Rattle.std.specs.Str.{bytes_eq}
@@ -28,7 +28,7 @@ pub first_waits : (words : List (String Global)) (name : String Global) (text : 
 first_waits [] name text some is shows = absurd (let no : ⊥ = omega arith in no)
 first_waits (word ∷ rest) name text some is shows = ap is_waiting_name (shows ∙ ap string_bytes is)
 
--- the command waits for nobody
+-- the command does not wait
 abbrev IsFree : CommandText → Type 0
 IsFree command = MayWait command → ⊥
 
@@ -111,7 +111,7 @@ pub is_waiting : (words : List (List ℕ)) → may_wait words ≡ true → (comm
 is_waiting [] is command asks = absurd (false≢true is)
 is_waiting (name ∷ words) is command asks = named_waiting name (name ∷ words) command (one_of _ _ is) asks
 
--- what holds of the specification of a command that waits for nobody holds of it by any machine
+-- what holds of the specification of a command that does not wait holds of it by any machine
 carried : (m n : Machines) (F : CommandSpec → Type 0) (command : CommandText) → (MayWait command → ⊥) → F (spec_of m command) → F (spec_of n command)
 carried m n F (OfStore asked) free x = x
 carried m n F (OfWalk (ReplayCommand words)) free x = x
@@ -165,7 +165,7 @@ complete_by n run status never r = λ p contents asks.
     → ((conflict : Conflict) → spec.conflicts contents conflict → ⊥) → (status ≡ 0) ⊎ (status ≡ 1))
     p (is_at_once run.words never p asks) (λ none held met. r p contents asks none held met)
 
--- a run that waits for nobody is one by any machine
+-- a run that does not wait is one by any machine
 pub by_any : (n : Machines) (run : Run) (status : ℕ) → may_wait run.words ≡ false → IsRun run status → IsRun (by_others n run) status
 by_any n run status never r = record {
   statuses = r.statuses;

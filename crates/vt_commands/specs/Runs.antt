@@ -92,10 +92,10 @@ RunComplete run status = (command : CommandText) (contents : List Content) → A
 -- all that the top call says of a run that answered this status
 pub record IsRun (run : Run) (status : ℕ) : Type 0 where
   pub statuses : status ≤ 5
-  -- on status 0 all that is expected stands, else a part of it, in its order
+  -- on status 0 all that is expected is there, else a part of it, in its order
   pub done : status ≡ 0 → RunDone run
   pub left : status ≢ 0 → RunLeft run
-  -- words and inputs that are refused leave all as it was, whether the folder tells or not
+  -- words and inputs that are refused leave all as it was, whether or not the folder's content is known
   pub untouched : (status ≡ 2) ⊎ (status ≡ 4) → IsWithoutEffect run.call_effect
   -- nothing but the command's inputs is read, and of words that are none of a command's the folder is not asked at all
   pub asked : RunAsked run
@@ -110,7 +110,7 @@ pub record IsRun (run : Run) (status : ℕ) : Type 0 where
   pub caused : RunCaused run status
   pub stopped : RunStopped run status
   pub complete : RunComplete run status
-  -- the line on the error output, or a front part of it where a put on it was refused
+  -- the line on the error output, or a prefix of it where a put on it was refused
   pub silent : status ≡ 0 → run.err.after.held ≡ run.err.before.held
   pub memory_told : status ≡ 1 → Told memory_line run.err
   pub usage_told : status ≡ 2 → Told usage_line run.err

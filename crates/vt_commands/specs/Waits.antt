@@ -33,6 +33,6 @@ no_machine = record {
   drawn = λ path picture row version bytes. ⊥;
 }
 
--- with no machine: the specification of a command that waits for nobody is the same by any
+-- with no machine: the specification of a command that does not wait is the same by any
 abbrev pub no_machines : Machines
 no_machines = record { standard = no_machine; shared_rows = no_machine; bilinear = no_machine }

@@ -1,4 +1,4 @@
-//! The commands that wait for nobody: all but `walk` and `trial`.
+//! The commands that do not wait: all but `walk` and `trial`.
 
 ghost use Rattle.std.specs.Prelude.{◌≡◌, false};
 ghost use Rattle.vt_words.specs.Arguments.{texts};
@@ -34,7 +34,7 @@ fn is_waiting_name(name: &str) -> bool
 }
 
 /// Does what `run` does, where the words are not those of a command that may wait: it joins each thread that it starts and waits
-/// for nobody else, so it returns whatever bytes, places and faults come.
+/// for no other, so it returns whatever bytes, places and faults come.
 pub fn run_at_once<Rt: Threads + Sync, D: Folder, O: Sink, E: Sink>(
     rt: &Rt,
     alloc: Global,

@@ -1,4 +1,4 @@
-//! The top call, which does any command that words ask for, and the part of it that waits for nobody.
+//! The top call, which does any command that words ask for, and the part of it that does not wait.
 #![tactic(auto)]
 
 mod at_once;

@@ -26,7 +26,7 @@ use vt_outside::{Folder, Gate, Sink};
 /// that are made from a number, and tells how many passes and reads it took. `walk` and `trial` may wait; any other
 /// words are handed to `run_at_once`.
 ///
-/// The contract is the record `IsRun` of `specs/Runs.antt`, with a field for each promise: what stands, what was
+/// The contract is the record `IsRun` of `specs/Runs.antt`, with a field for each promise: what was left, what was
 /// asked, the cause of each status, and the line on the error output.
 pub fn run<
     M: PassMachine<File = D::File> + Send,

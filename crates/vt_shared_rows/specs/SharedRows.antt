@@ -59,7 +59,7 @@ abbrev pub HasEnded : (height line : ℕ) (v w : PassView RowJob) (kept : List R
 HasEnded height line v w kept taken = IsAtStep w [] ⊎ (height ≤ length taken.got) ⊎ (All (FitsRow height line) (items_of taken.got) → ⊥)
 
 -- a row that a sampler of this number keeps: it was drawn by a filter, by what the sampler's pass noted between two views, at a version that it
--- came to hold meanwhile
+-- has held meanwhile
 pub record IsKeptRow {P : Type 0} (filter : FilterMeanings P) (s : Shape) (d : ℕ) (path : PathView) (picture number : ℕ) (p q : WordsPass)
     (job : RowJob) : Type 0 where
   pub fits : FitsRow path.height (row_length d path.width) job
@@ -80,7 +80,7 @@ pub record MayShare (bag : RowBag) (s : Shape) (path : PathView) (a : RowSampler
   pub room : path.height ≤ a.kept.spare
   pub pages : length a.counts.items ≡ pages_of s
 
--- a sampler has taken rows from a bag, and keeps them in that order, each drawn at a version that its pass of the words came to hold meanwhile;
+-- a sampler has taken rows from a bag, and keeps them in that order, each drawn at a version that its pass of the words has held meanwhile;
 -- these never fall from row to row; and it has counted the texels that they want
 pub record HasShared {P : Type 0} (filter : FilterMeanings P) (bag : RowBag) (s : Shape) (d : ℕ) (path : PathView) (picture : ℕ)
     (p q : WordsPass) (a b : RowSampler) : Type 0 where

@@ -41,7 +41,7 @@ pub struct BagPass {
     pub(crate) splits: u64,
 }
 
-/// The rule of a bag is that of a queue: all that was put stands in one order, and what was taken is its front.
+/// The rule of a bag is that of a queue: all that was put is in one order, and what was taken is its front.
 pub struct OneOrder;
 
 impl Protocol<RowJob, PassView<RowJob>> for OneOrder {

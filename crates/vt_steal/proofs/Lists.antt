@@ -1,4 +1,4 @@
--- What stands at the places of lists that are made of others.
+-- What is at the places of lists that are made of others.
 use Rattle.std.proofs.Common.{◌≡◌, ℕ, zero, suc, ◌+◌, ◌-◌, ◌<◌, List, [], ◌∷◌, ◌++◌, length, get_or, map, take, drop, Some, refl, ap, ◌∙◌, arith}
 use Rattle.std.specs.Prelude.{slice_get, slice_set, Contains}
 use Rattle.std.proofs.lemmas.List.{length-map, length-append, length-drop, length-take-le, get_or-drop, get_or-append_right, get_or_default}
@@ -6,7 +6,7 @@ use Rattle.std.proofs.lemmas.List.Edits.{map_over_more}
 use Rattle.std.proofs.lemmas.Option.{none-some, same_Some, slice_get_within, slice_get-get_or, get_or_from_slice_get}
 
 module _ {X Y : Type 0} (f : X → Y) where
-  -- what stands at a place of what a function makes of a list
+  -- what is at a place of what a function makes of a list
   pub made_of : (xs : List X) (n : ℕ) (y : Y) → slice_get (map f xs) n ≡ Some y → (x : X) × (slice_get xs n ≡ Some x) × (f x ≡ y)
   made_of [] n y is = absurd (none-some y is)
   made_of (x ∷ xs) zero y is = (x, refl, same_Some (f x) y is)

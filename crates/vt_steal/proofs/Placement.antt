@@ -19,7 +19,7 @@ placed_none old = record {
   each = λ y d inside. inl (refl, λ job has. absurd (let low = has.1 in omega (arith, low)));
 }
 
--- one row more, which stood before the others
+-- one row more, which was before the others
 pub placed_one : (rows old mid : List RowJob) (job : RowJob) → ArePlaced rows old mid → job.row < length old
     → ArePlaced (job ∷ rows) old (slice_set mid job.row job)
 placed_one rows old mid job h inside = record {

@@ -13,7 +13,7 @@ use Rattle.vt_steal.specs.RowTasks.{RowTask}
 abbrev pub IsInside : ℕ → RowJob → Type 0
 IsInside height job = job.row < height
 
--- at a place stands one of these rows, which has its number; or, where none has it, what stood there
+-- at a place is one of these rows, which has its number; or, where none has it, what was there
 abbrev pub IsPlacedAt : List RowJob → ℕ → RowJob → RowJob → Type 0
 IsPlacedAt jobs y old new = ((new ≡ old) × ((job : RowJob) → Contains jobs job → job.row ≢ y)) ⊎ (Contains jobs new × (new.row ≡ y))
 

@@ -1,4 +1,4 @@
--- What the samplers that share the rows of pictures are done with.
+-- What the samplers that share the rows of pictures work with.
 use Rattle.std.specs.Prelude.{◌≡◌, ℕ, ◌+◌, ◌<◌, ◌≤◌, Option, Some, None, List, [], ◌∷◌, length, map, take, slice_get, slice_index_or}
 use Rattle.vt_definitions.specs.Limits.{most_samplers}
 use Rattle.vt_definitions.specs.Depths.{IsDepth}

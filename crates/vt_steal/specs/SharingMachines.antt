@@ -25,7 +25,7 @@ use Rattle.vt_steal.specs.RowTasks.{RowTask}
 use Rattle.vt_steal.specs.RowKits.{samplers_of, IsIdleRows, IsSharedKit}
 use Rattle.vt_steal.specs.RowEnds.{bytes_of, WasShared, MayEndRows, HasEndedRows}
 
--- a machine: its words, its queues, its bag of rows, its streamer, which is out while a pass is run, and what streaming and drawing are done with
+-- a machine: its words, its queues, its bag of rows, its streamer, which is out while a pass is run, and what streaming and drawing use
 pub record SharingView (F : Type 0) : Type 0 where
   pub words : WordsValue
   pub queues : Queues

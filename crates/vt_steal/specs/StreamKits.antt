@@ -1,4 +1,4 @@
--- What the loaders and the streamer of a pass over shared words are done with, whoever draws meanwhile.
+-- What the loaders and the streamer of a pass over shared words work with, however it is drawn.
 use Rattle.std.specs.Prelude.{◌≡◌, ℕ, ◌≤◌, Bool, List, [], ◌++◌, length, reverse, All}
 use Rattle.vt_definitions.specs.Depths.{IsDepth}
 use Rattle.vt_outside.specs.declared.outside.File.{Ghosts as FileMeanings}
@@ -30,7 +30,7 @@ use Rattle.vt_word_workers.specs.RoundKits.{RoundKitView, IsSetUp, IsAsked, IsDe
 use Rattle.vt_word_workers.specs.WordTasks.{HasFed}
 use Rattle.vt_word_workers.specs.Kits.{HasStreamerRoom, AreSameStores}
 
--- how the texture is cut into pages, how many bytes its samples have, the crew, the loaders' stores, and what the loaders are done with
+-- how the texture is cut into pages, how many bytes its samples have, the crew, the loaders' stores, and what the loaders work with
 pub record StreamKitView (F : Type 0) : Type 0 where
   pub shape : Shape
   pub depth : ℕ
@@ -72,7 +72,7 @@ IsPreparedStream g words q t k batch = IsStreamFor g words t k batch (IsSetUp q 
 abbrev pub IsAskedStream : {F : Type 0} → FileMeanings F → WordsValue → Queues → WordStreamer → StreamKitView F → List Planned → Type 0
 IsAskedStream g words q t k batch = IsStreamFor g words t k batch (IsAsked q k.round t.answers k.shape k.depth k.crew batch)
 
--- a kit is the same but for the room of its stores, and for what its loaders are done with
+-- a kit is the same but for the room of its stores, and for what its loaders work with
 pub record IsSameStream {F : Type 0} (g : FileMeanings F) (before after : StreamKitView F) : Type 0 where
   pub shape : after.shape ≡ before.shape
   pub depth : after.depth ≡ before.depth

@@ -1,4 +1,4 @@
-//! What the samplers that share the rows of pictures are done with.
+//! What the samplers that share the rows of pictures work with.
 
 ghost use Rattle.std.specs.Prelude.{◌≡◌, ◌≤◌, IfOk, OnOk, length};
 ghost use Rattle.std.specs.List.{concat};
@@ -22,7 +22,7 @@ use vt_word_workers::WithPass;
 /// A sampler that shares rows, with its pass of the words.
 pub type RowTask = WithPass<RowSampler>;
 
-/// What the samplers that share the rows of pictures are done with: the samplers, the rows of the last picture, and room for what a pass
+/// What the samplers that share the rows of pictures work with: the samplers, the rows of the last picture, and room for what a pass
 /// tells of them.
 #[derive(Drop)]
 pub struct RowKit {

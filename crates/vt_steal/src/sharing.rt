@@ -20,7 +20,7 @@ use vt_shared_rows::{BagPass, RowBag, RowJob};
 use vt_streamer::Streamer;
 use vt_word_workers::{give_passes, with_room};
 
-// What stands in the place of a row that lies in a bag.
+// What is in the place of a row that lies in a bag.
 fn no_row(alloc: Global) -> RowJob {
     RowJob {
         row: 0,

@@ -1,4 +1,4 @@
-//! What the loaders and the streamer of a pass over shared words are done with, whoever draws meanwhile.
+//! What the loaders and the streamer of a pass over shared words work with, however it is drawn.
 
 ghost use Rattle.std.specs.Prelude.{◌≡◌, ◌≤◌, List, All, OnOk, length};
 ghost use Rattle.vt_definitions.specs.Depths.{IsDepth};
@@ -33,7 +33,7 @@ use vt_streaming::StreamReport;
 use vt_tiles::{Stores, tile_length};
 use vt_word_workers::{RoundKit, blank_report, reserve_reads};
 
-/// What the loaders and the streamer of a pass are done with but for the queues and the streamer: the loaders' stores, and what the loaders
+/// What the loaders and the streamer of a pass work with but for the queues and the streamer: the loaders' stores, and what the loaders
 /// are made with. Contracts see all of these.
 pub struct StreamKit<F: File> {
     alloc: Global,

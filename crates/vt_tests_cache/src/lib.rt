@@ -1,5 +1,5 @@
 //! The tests of the crates that make the cache, from the journal and the counts of wanted pages to the loaders of tiles. It holds nothing
-//! else, and nothing stands on it: a crate with tests is proved twice, and this one costs nothing beside them.
+//! else, and nothing depends on it: a crate with tests is proved twice, and this one costs nothing beside them.
 #![tactic(auto)]
 
 #[cfg(test)]

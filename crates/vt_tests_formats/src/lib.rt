@@ -1,4 +1,4 @@
-//! The tests of the crates that read and write texts and files, by hand-made rows. It holds nothing else, and nothing stands on it:
+//! The tests of the crates that read and write texts and files, by hand-made rows. It holds nothing else, and nothing depends on it:
 //! a crate with tests is proved twice, and this one costs nothing beside them.
 #![tactic(auto)]
 

@@ -1,5 +1,5 @@
 //! The tests of the crates that make mip chains and tile stores, of drawing over them, and of reading words. It holds
-//! nothing else, and nothing stands on it: a crate with tests is proved twice, and this one costs nothing beside them.
+//! nothing else, and nothing depends on it: a crate with tests is proved twice, and this one costs nothing beside them.
 #![tactic(auto)]
 
 #[cfg(test)]

@@ -1,4 +1,4 @@
-//! The tests of the page cache whose table is published in two copies. It holds nothing else, and nothing stands on it.
+//! The tests of the page cache whose table is published in two copies. It holds nothing else, and nothing depends on it.
 #![tactic(auto)]
 
 #[cfg(test)]

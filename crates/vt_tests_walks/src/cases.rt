@@ -1,4 +1,4 @@
-//! Tables of cases: what stands in a folder in memory before, what is done, and what is to come of it.
+//! Tables of cases: what a folder in memory holds before, what is done, and what is to result.
 
 use crate::pass::kits::passes_come;
 use crate::replay::{Replay, replay_comes};

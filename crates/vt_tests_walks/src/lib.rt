@@ -1,5 +1,5 @@
 //! The tests of the crates that run passes, walks and replays, and of whole commands, over stores and folders in memory. It holds
-//! nothing else, and nothing stands on it: a crate with tests is proved twice, and one above the top call pays a minute or two for the
+//! nothing else, and nothing depends on it: a crate with tests is proved twice, and one above the top call pays a minute or two for the
 //! loading and linking of all below it.
 #![tactic(auto)]
 

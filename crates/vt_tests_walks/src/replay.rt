@@ -12,7 +12,7 @@ use vt_camera::Path;
 use vt_outside::{MemoryFolder, NoMemory, Place};
 use vt_replay::replay;
 
-/// A replay of a journal, and what is to stand after it.
+/// A replay of a journal, and what is to be there after it.
 #[derive(Clone, Copy)]
 pub struct Replay<'a> {
     pub journal: &'a [u8],

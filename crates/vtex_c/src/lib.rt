@@ -1,4 +1,4 @@
-//! The page cache for engines in C and C++: the geometry of pages, where their tiles stand in a store, which pages have frames and
+//! The page cache for engines in C and C++: the geometry of pages, where their tiles are in a store, which pages have frames and
 //! which are loaded next. The calls are described in `include/vtex.h`.
 #![tactic(auto)]
 
@@ -181,7 +181,7 @@ pub extern "C" fn vtex_store_open(head: &[u8], have: u64, store: &mut VtexStore)
     open_store(head, have, store)
 }
 
-/// Where the tile of a page stands in a store.
+/// Where the tile of a page is in a store.
 #[unsafe(no_mangle)]
 pub extern "C" fn vtex_store_tile(store: &VtexStore, page: u32, range: &mut VtexRange) -> u32
     ensures { IsTileFound store.now page range.old result range.new }

@@ -38,7 +38,7 @@ fn answer_to(have: u64) -> Answer {
     }
 }
 
-// Whether each front part of the store of G4 is answered so.
+// Whether each prefix of the store of G4 is answered so.
 fn cuts_are_answered(alloc: Global) -> bool {
     for have in 0..76 {
         if !is_answered(alloc, &STORE_G4[..have], answer_to(have as u64)) {

@@ -102,7 +102,7 @@ fn has_pictures(scene: &Scene, flight: &Flight<'_>, journal: &[u8]) -> bool {
     true
 }
 
-// Its journal and its pictures stand.
+// Its journal and its pictures are there.
 fn has_flown(scene: &Scene, flight: &Flight<'_>) -> bool {
     match scene.folder.bytes_of("j.txt") {
         Some(journal) => flight.told.is(journal) && has_pictures(scene, flight, journal),

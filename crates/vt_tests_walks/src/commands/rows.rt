@@ -1,4 +1,4 @@
-// Rows of runs, and what stands after each. A test is a static table of rows and a call or two, since each step of a function is proved, and a table has
+// Rows of runs, and what is left after each. A test is a static table of rows and a call or two, since each step of a function is proved, and a table has
 // none.
 
 use super::runs::{Scene, play};
@@ -140,7 +140,7 @@ fn has_pictures(folder: &MemoryFolder, pictures: &[&[u8]]) -> bool {
     true
 }
 
-/// What a row says stands, but for the pictures.
+/// What a row says that a run leaves, but for the pictures.
 pub(super) fn stands_beside(scene: &Scene, row: &Row<'_>) -> bool {
     has_left(&scene.folder, row.left)
         && has_kept(&scene.folder, row)
@@ -148,7 +148,7 @@ pub(super) fn stands_beside(scene: &Scene, row: &Row<'_>) -> bool {
         && scene.printed(row.out, row.err)
 }
 
-// What a row says stands.
+// What a row says that a run leaves.
 fn stands(scene: &Scene, row: &Row<'_>) -> bool {
     has_pictures(&scene.folder, row.pictures) && stands_beside(scene, row)
 }

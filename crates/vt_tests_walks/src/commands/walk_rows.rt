@@ -263,7 +263,7 @@ pub(super) const SETTLED_FOUR: Row<'static> = Row {
     err: b"",
 };
 
-// The pages 16 and 18 stand above the wanted pages 0 and 12.
+// The pages 16 and 18 are above the wanted pages 0 and 12.
 pub(super) const COARSE_TO_FINE: Row<'static> = Row {
     words: "walk s.vts a.path f --frames 5 --samplers 1 --loaders 1 --batch 64 --journal j.txt --settled",
     files: &[("s.vts", All(EIGHT_STORE)), ("a.path", All(PATH))],

@@ -1,4 +1,4 @@
-// What stands after each call of a walk that fails.
+// What is left after each call of a walk that fails.
 use super::files::{FAULT, PICTURE};
 use super::replay_rows::OVER_G4;
 use super::rows::Held::{All, Begun, Journal};
@@ -28,7 +28,7 @@ const STOPS_AMID: Row<'static> = Row {
     ..STOPS
 };
 
-// Calls that fail, with what stands then. One that fails to add bytes leaves the first half of them.
+// Calls that fail, with what is left then. One that fails to add bytes leaves the first half of them.
 static STOPPED: [Row<'static>; 18] = [
     Row {
         fail: Some(Fail::Open(0)),

@@ -223,7 +223,7 @@ static TOO_MANY_FRAMES: Row<'static> = Row {
     ..TILES
 };
 
-// Walks of one store are refused with a frame too many, and done with as many as may be.
+// Walks of one store are refused with a frame too many, and finished with as many as may be.
 fn frames_hold(rt: &(impl Threads + Wait + Sync), alloc: Global, scene: &mut Scene) -> bool {
     leaves_in(rt, alloc, &TILED, scene)
         && leaves_in(rt, alloc, &TOO_MANY_FRAMES, scene)

@@ -1,4 +1,4 @@
-//! Walks in a folder in memory, and what is to stand after them.
+//! Walks in a folder in memory, and what is to be there after them.
 
 ghost use Rattle.std.specs.Prelude.{◌≡◌, [], ◌∷◌, is_some};
 ghost use Rattle.std.specs.Bool.{OnTrue};
@@ -20,7 +20,7 @@ use vt_tiles::Store;
 use vt_walk::{Mode, Names, Settings, WalkError};
 use vt_word_walks::{walk_live, walk_settled};
 
-/// A walk, and what is to stand after it. In the folder opening 0 is the path's, opening 1 the store's, and the loaders' follow.
+/// A walk, and what is to be there after it. In the folder opening 0 is the path's, opening 1 the store's, and the loaders' follow.
 #[derive(Clone, Copy)]
 pub struct Walk<'a> {
     pub settings: Settings,
@@ -101,7 +101,7 @@ fn has_journal(folder: &MemoryFolder, journal: Option<Told<'_>>) -> bool {
     }
 }
 
-// Whether a folder holds what is to stand after a walk.
+// Whether a folder holds what is to be there after a walk.
 fn is_left(folder: &MemoryFolder, walk: &Walk<'_>) -> bool {
     has_journal(folder, walk.journal) && pictures_stand(folder, walk.pictures)
 }

@@ -49,7 +49,7 @@ fn play(words: &Words, streamer: &mut Streamer) -> bool
     is_done
 }
 
-// Whether the rounds on a new table come to the version that they make.
+// Whether the rounds on a new table reach the version that they make.
 fn is_all_played(alloc: Global) -> bool {
     let Ok(geometry) = Geometry::new(4, 4, 2) else {
         return false;

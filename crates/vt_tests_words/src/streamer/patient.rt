@@ -10,7 +10,7 @@ use vt_streamer::Streamer;
 // How often a call that waits for the sampler is made again.
 const TRIES: u64 = 10_000_000_000;
 
-/// Whether a page came to be mapped to a frame, with a tile that is filled in.
+/// Whether a page was mapped to a frame, with a tile that is filled in.
 pub(crate) fn comes_in(
     words: &Words,
     streamer: &mut Streamer,
@@ -35,7 +35,7 @@ pub(crate) fn comes_in(
     false
 }
 
-/// Whether a page came to be unmapped.
+/// Whether a page was unmapped.
 pub(crate) fn goes_out(words: &Words, streamer: &mut Streamer, page: u32, frame: u32) -> bool
     requires small { IsSmall words.now 3 streamer.old }
     requires page { page < 4 }

@@ -73,7 +73,7 @@ fn is_reserved(streamer: &mut Streamer) -> bool
     streamer.reserve(1).is_ok()
 }
 
-/// What freeing a frame comes to, if no page is mapped to it.
+/// The result of freeing a frame, if no page is mapped to it.
 pub(crate) fn freed(
     words: &Words,
     streamer: &mut Streamer,
@@ -90,7 +90,7 @@ pub(crate) fn freed(
     Some(streamer.try_free(words, frame))
 }
 
-/// What mapping a page to a frame comes to, with a tile that is filled in, if both are free.
+/// The result of mapping a page to a frame, with a tile that is filled in, if both are free.
 pub(crate) fn mapped(
     words: &Words,
     streamer: &mut Streamer,
@@ -119,7 +119,7 @@ pub(crate) fn mapped(
     Some(streamer.try_publish(words, Change::Map { page, frame }))
 }
 
-/// What unmapping a page that is not the root comes to, if it is mapped to the frame.
+/// The result of unmapping a page that is not the root, if it is mapped to the frame.
 pub(crate) fn unmapped(
     words: &Words,
     streamer: &mut Streamer,
