@@ -10,7 +10,7 @@ use Rattle.vt_camera.specs.PathText.{camera_fields, way_fields}
 use Rattle.vt_camera.specs.PathFlaws.{IsFocalLine}
 use Rattle.vt_camera.specs.PathReading.{AreNumbersAt, IsNaturalAt}
 
--- a list by what stands at its places
+-- a list by what is at its places
 pub list_of_two : (xs : List (List ℕ)) (a b : List ℕ) → slice_get xs 0 ≡ Some a → slice_get xs 1 ≡ Some b → slice_get xs 2 ≡ None → xs ≡ a ∷ b ∷ []
 list_of_two [] a b e f g = cc
 list_of_two (x ∷ []) a b e f g = cc
@@ -97,7 +97,7 @@ camera_read line i u v h c s (wu, eu) (wv, ev) (wh, eh) (wc, ec) (ws, es) =
       record { u = eu; v = ev; h = eh; c = ec; s = es },
     )
 
--- the fields of a line whose numbers stand from its second field on
+-- the fields of a line whose numbers are from its second field on
 pub camera_line : (line : List ℕ) (camera : Camera) → slice_get (fields_of line) 0 ≡ Some (codes "at")
     → slice_get (fields_of line) 6 ≡ None → AreNumbersAt line 1 camera → fields_of line ≡ camera_fields camera
 camera_line line camera word end n =

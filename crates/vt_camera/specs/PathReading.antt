@@ -21,7 +21,7 @@ abbrev pub IsIntegerAt : List ℕ → ℕ → ℤ → ℤ → Option ℤ → Typ
 IsIntegerAt line i least most found = MatchOption found ((z : ℤ) → IsWithin least most z → slice_get (fields_of line) i ≢ Some (spelling z))
     (λ z. IsWithin least most z × (slice_get (fields_of line) i ≡ Some (spelling z)))
 
--- a camera's numbers stand in a line from a field on
+-- a camera's numbers are in a line from a field on
 pub record AreNumbersAt (line : List ℕ) (i : ℕ) (camera : Camera) : Type 0 where
   pub u : slice_get (fields_of line) i ≡ Some (spelling camera.u)
   pub v : slice_get (fields_of line) (i + 1) ≡ Some (spelling camera.v)

@@ -22,7 +22,7 @@ pub record IsSurface (surface : Surface) : Type 0 where
 abbrev pub floor_div : ℤ → ℕ → ℤ
 floor_div z n = int_div_euclid z (pos n)
 
--- where z comes to lie on a ring of n places, of which the first is 0
+-- the place of z on a ring of n places, of which the first is 0
 abbrev pub ring_place : ℤ → ℕ → ℕ
 ring_place z n = unsigned_abs (int_rem_euclid z (pos n))
 

@@ -39,7 +39,7 @@ const MOST_PICTURES: u32 = 9999;
 /// Why a text was not read as a path. Lines count from 1.
 #[derive(Clone, Copy, Debug, PartialEq, Eq, Error)]
 pub enum PathError {
-    /// The line has none of the forms that it may have where it stands, or the text ends before it.
+    /// The line has none of the forms that it may have there, or the text ends before it.
     #[error("bad line {line}")]
     BadLine { line: u32 },
     /// The line goes on from a key, and there is none before it.
@@ -139,7 +139,7 @@ fn read_focal(line: &[u8]) -> Option<u32>
     natural_at(line, 1, MOST_FOCAL)
 }
 
-// The camera whose numbers stand in a line from field `i` on.
+// The camera whose numbers are in a line from field `i` on.
 fn camera_at(line: &[u8], i: usize) -> Option<Camera>
     requires { i ≤ 2 }
     ensures { MatchOption result ((camera : Camera) → IsCamera camera → ¬ AreNumbersAt line.now i camera)

@@ -26,7 +26,7 @@ one_status files input (FlawedInput x e) (FlawedInput y f) g h = refl
 one_status files input (MissingName x) (FlawedInput y f) g h = absurd (there_not_missing files input h.1.bytes h.1.there g.1)
 one_status files input (FlawedInput x e) (MissingName y) g h = absurd (there_not_missing files input g.1.bytes g.1.there h.1)
 
--- all first causes come to one status
+-- all first causes have one status
 pub first_status : (files : Option Files) (inputs : List Input) (a b : Cause) → IsFirstCause files inputs a
     → IsFirstCause files inputs b → cause_status a ≡ cause_status b
 first_status files [] a b g h = absurd g

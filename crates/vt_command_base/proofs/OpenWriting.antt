@@ -50,7 +50,7 @@ rise : (b m a z n : ℕ) → b ≤ m → m ≤ a → a ≡ added m n → Rose b 
 rise b m a z n le more sum (inl rose) = omega (arith, le, more, rose)
 rise b m a z n le more sum (inr rose) = omega (arith, le, more, sum, rose)
 
--- a front part of it was written, and the file closed
+-- a prefix of it was written, and the file closed
 pub made_stopped : (made : List ℕ → List ℕ) (Are : List Place → Type 0) (name : List ℕ) (before mid after : FolderState) (old new : FileState)
     (places : List Place) (error : OutsideError)
     → (mid.files ≡ before.files) ⊎ HoldsMadeFront old.bytes made name before.files mid.files → Are places
@@ -97,7 +97,7 @@ expected_written made Are name file before opened after tells same first w =
     (subst (λ (files : Option Files). HoldsMade file.bytes made name files after.files) same w.whole))
     refl (let more : opened.faults ≤ after.faults = w.faults in omega (arith, first, more))
 
--- a front part of it was
+-- a prefix of it was
 pub expected_stopped : (made : List ℕ → List ℕ) (Are : List Place → Type 0) (name : List ℕ) (file : FileState) (before opened after : FolderState)
     (error : OutsideError)
     → is_some file.bytes ≡ is_some before.files → opened.files ≡ before.files → before.faults ≤ opened.faults

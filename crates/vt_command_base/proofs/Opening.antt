@@ -63,7 +63,7 @@ held_store : (name : List ℕ) (shape : Shape) (depth : ℕ) (o : Option (List �
 held_store name shape depth None files same tells is told = absurd (false≢true (tells ∙ told))
 held_store name shape depth (Some b) files same tells is told = (b, sym same, is b refl)
 
--- what a folder that tells holds of a store that was opened
+-- what a folder of known content holds of a store that was opened
 pub store_there : (name : List ℕ) (shape : Shape) (depth : ℕ) (file : FileState) (p : FolderEffect) → OpensStore name shape depth file p
     → IsSome p.before.files → (bytes : List ℕ) × (bytes_at p.before.files name ≡ Some bytes) × IsStore bytes shape depth
 store_there name shape depth file p o told = held_store name shape depth file.bytes p.before.files o.bytes o.tells o.is.each told

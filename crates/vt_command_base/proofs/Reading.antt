@@ -1,4 +1,4 @@
--- What a reader answers, from what its open file came to.
+-- What a reader answers, by how the reading of its open file ended.
 use Rattle.std.proofs.Common.{◌≡◌, ◌⊎◌, ℕ, ◌≤◌, List, [], ◌++◌, Option, Some, None, Ok, Err, true, false, refl, sym, ap, subst, ◌∙◌, inl, inr, arith}
 use Rattle.std.specs.Prelude.{Result, OnSome, Bool, length, min}
 use Rattle.std.specs.Option.{option_map, IsSome, is_some, IfSome}

@@ -111,7 +111,7 @@ texture_held : (name : List ℕ) (header : Header) (o : Option (List ℕ)) (file
 texture_held name header None files same tells is told = absurd (false≢true (tells ∙ told))
 texture_held name header (Some b) files same tells is told = (b, refl, sym same, is b refl)
 
--- what a folder that tells holds of a texture that was opened
+-- what a folder of known content holds of a texture that was opened
 pub texture_there : (name : List ℕ) (header : Header) (file : FileState) (p : FolderEffect) → OpensTexture name header file p → IsSome p.before.files
     → (b : List ℕ) × (file.bytes ≡ Some b) × (bytes_at p.before.files name ≡ Some b) × IsTexture b (texture_of header b)
 texture_there name header file p o told = texture_held name header file.bytes p.before.files o.bytes o.tells o.is.each told

@@ -12,7 +12,7 @@ pub data Cause : Type 0 where
   MissingName : List ℕ → Cause
   FlawedInput : List ℕ → Flaw → Cause
 
--- the status that a cause comes to
+-- the status of a cause
 abbrev pub cause_status : Cause → ℕ
 cause_status (MissingName name) = 3
 cause_status (FlawedInput name flaw) = 4
@@ -37,7 +37,7 @@ abbrev pub IsFirstCause : Option Files → List Input → Cause → Type 0
 IsFirstCause files [] cause = ⊥
 IsFirstCause files (input ∷ inputs) cause = HasCause files input cause ⊎ (IsAccepted files input × IsFirstCause files inputs cause)
 
--- each input was asked in its turn for places that it may be asked for, and no other name was
+-- each input was asked in order for places that it may be asked for, and no other name was
 abbrev pub AreAsked : Option Files → List Input → Option Asked → Option Asked → Type 0
 AreAsked files [] before after = after ≡ before
 AreAsked files (input ∷ inputs) before after =

@@ -20,22 +20,22 @@ pub data Conflict : Type 0 where
   FewFrames : ℕ → ℕ → Conflict
   LargePicture : ℕ → ℕ → ℕ → Conflict
 
--- the status that a conflict comes to
+-- the status of a conflict
 abbrev pub conflict_status : Conflict → ℕ
 conflict_status (FlawedBeside name flaw) = 4
 conflict_status ManyTexels = 2
 conflict_status (FewFrames frames needed) = 5
 conflict_status (LargePicture picture wanted room) = 5
 
--- the line that tells it, by the line of usage
+-- its line, by the line of usage
 abbrev pub conflict_line : List ℕ → Conflict → List ℕ
 conflict_line usage (FlawedBeside name flaw) = bad_input_line name (flaw_place flaw)
 conflict_line usage ManyTexels = usage
 conflict_line usage (FewFrames frames needed) = frames_line frames needed
 conflict_line usage (LargePicture picture wanted room) = unfit_line picture wanted room
 
--- the inputs in the order in which they are read, and what is asked of them; what stands in the way of what they hold; what stands of a
--- command that is done, of one that came to a stop, and where a picture wanted more pages than there is room for; and what counts as a
+-- the inputs in the order in which they are read, and what is asked of them; what stands in the way of what they hold; what is left of a
+-- command that is done, of one that was stopped, and where a picture wanted more pages than there is room for; and what counts as a
 -- failed call
 pub record CommandSpec : Type 1 where
   pub inputs : List Input
@@ -58,7 +58,7 @@ task_spec task = record {
   failed = HasRisen;
 }
 
--- the inputs are accepted, as far as that is told, nothing stands in the way of what they hold, and what is expected of them stands
+-- the inputs are accepted, as far as that is told, nothing stands in the way of what they hold, and what is expected of them is there
 pub record DoneBy (spec : CommandSpec) (c : CallEffect) : Type 0 where
   pub contents : List Content
   pub count : length contents ≡ length spec.inputs
@@ -66,18 +66,18 @@ pub record DoneBy (spec : CommandSpec) (c : CallEffect) : Type 0 where
   pub free : (conflict : Conflict) → spec.conflicts contents conflict → ⊥
   pub done : spec.done contents c
 
--- the inputs are accepted, and what is expected of them came to a stop
+-- the inputs are accepted, and the command was stopped on the way
 pub record StoppedBy (spec : CommandSpec) (c : CallEffect) : Type 0 where
   pub contents : List Content
   pub count : length contents ≡ length spec.inputs
   pub held : IsSome c.folder.before.files → AreHeld c.folder.before.files spec.inputs contents
   pub stopped : spec.stopped contents c
 
--- nothing was written, or what is expected came to a stop
+-- nothing was written, or the command was stopped on the way
 abbrev pub LeftBySpec : CommandSpec → CallEffect → Type 0
 LeftBySpec spec c = IsWithoutEffect c ⊎ StoppedBy spec c
 
--- what stands where a conflict was met
+-- what is left where a conflict was met
 abbrev pub StandsAt : CommandSpec → List Content → Conflict → CallEffect → Type 0
 StandsAt spec contents (FlawedBeside name flaw) c = IsWithoutEffect c
 StandsAt spec contents ManyTexels c = IsWithoutEffect c
@@ -109,12 +109,12 @@ IsRefusalBy spec c (Flawed name flaw) = HasBadInputBy spec c name.now flaw
 IsRefusalBy spec c (TooFewFrames frames needed) = IsInConflict spec c (FewFrames frames needed)
 IsRefusalBy spec c (DoesNotFit picture wanted room) = IsInConflict spec c (LargePicture picture wanted room)
 
--- what a command came to
+-- how a command ended
 abbrev pub ComesToBy : {T : Type 0} → CommandSpec → CallEffect → Result T Refusal → Type 0
 ComesToBy spec c (Ok _) = DoneBy spec c
 ComesToBy spec c (Err refusal) = LeftBySpec spec c × IsRefusalBy spec c refusal
 
--- a command asked what it may ask, and came to this
+-- a command asked what it may ask, and ended so
 abbrev pub EndsBy : {T : Type 0} → CommandSpec → CallEffect → Result T Refusal → Type 0
 EndsBy spec c result = spec.asks c × ComesToBy spec c result
 

@@ -153,7 +153,7 @@ AsksTiles told places = AsksHeader told places
     ⊎ ((shape : Shape) × (depth : ℕ) × (tiles : List Place) × IsStoreIfTold told shape depth × All (IsTilePlace shape depth) tiles
     × (places ≡ header_places ++ tiles))
 
--- the places of a texture that was looked over, with what came of it: a front part that holds its header, and then, behind whatever places
+-- the places of a texture that was looked over, with what came of it: a prefix that holds its header, and then, behind whatever places
 -- were asked before, those of the rows that were looked over, which are none where no sample may be above the maximum
 pub record AreSeenPlaces (told : Option (List ℕ)) (header : Header) (answer : Result (Unit {0}) PpmError) (places : List Place) : Type 0 where
   pub front : Place
@@ -179,7 +179,7 @@ AsksStrips tile told places = AreHeaderPlaces told places
     ⊎ ((header : Header) × (seen : List Place) × (strips : List Place) × AreSeenPlaces told header (Ok tt) seen × AreStrips header tile strips
     × (places ≡ seen ++ strips)))
 
--- the places that may be asked of an input whose bytes may be told: of a texture a front part that holds its header, and then its raster,
+-- the places that may be asked of an input whose bytes may be told: of a texture a prefix that holds its header, and then its raster,
 -- at once, or by rows if it is cut into tiles
 abbrev pub MayAsk : Input → Option (List ℕ) → List Place → Type 0
 MayAsk (PathInput name) = AsksWhole

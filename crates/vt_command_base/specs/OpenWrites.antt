@@ -9,7 +9,7 @@ use Rattle.vt_tiles.specs.Made.{HoldsMade, HoldsMadeFront}
 use Rattle.vt_files.specs.Effects.{FolderEffect}
 use Rattle.vt_command_base.specs.Reads.{FileState}
 
--- the name came to hold what the bytes of an open file make, or a front part of it; the file was asked for such places, and closed
+-- the name holds what the bytes of an open file make, or a prefix of it; the file was asked for such places, and closed
 pub record WritesMade (file : FileState) (made : List ℕ → List ℕ) (Are : List Place → Type 0) (name : List ℕ) (p : FolderEffect)
     (result : Result (Unit {0}) OutsideError) : Type 0 where
   pub whole : OnOk result (HoldsMade file.bytes made name p.before.files p.after.files)

@@ -1,4 +1,4 @@
--- What reading one input comes to.
+-- How the reading of one input ends.
 use Rattle.std.specs.Prelude.{◌≡◌, ◌⊎◌, ℕ, ◌≤◌, List, [], ◌++◌, Option, Some, option_map, Result, Ok, Err, IsSome, is_some, IfSome, OnSome}
 use Rattle.vt_outside.specs.Counts.{Rose, added}
 use Rattle.vt_outside.specs.Files.{bytes_at, with_places}
@@ -136,7 +136,7 @@ pub record LooksOver (header : Header) (answer : Result (Unit {0}) PpmError) (be
 abbrev pub MayLookOver : Header → Option (List Place) → Option (List Place) → Type 0
 MayLookOver header before after = (after ≡ before) ⊎ ((answer : Result (Unit {0}) PpmError) × LooksOver header answer before after)
 
--- a file that tells its places was asked for those of a texture that is to be looked over, with what came of it
+-- a file whose places are known was asked for those of a texture that is to be looked over, with what came of it
 pub record SeesTexture (told : Option (List ℕ)) (header : Header) (answer : Result (Unit {0}) PpmError) (before after : Option (List Place)) : Type 0 where
   pub each : (old : List Place) → before ≡ Some old
       → (places : List Place) × AreSeenPlaces told header answer places × (after ≡ Some (old ++ places))

@@ -54,7 +54,7 @@ refusal_line usage (Flawed name flaw) = bad_input_line name.now (flaw_place flaw
 refusal_line usage (TooFewFrames frames needed) = frames_line frames needed
 refusal_line usage (DoesNotFit picture wanted room) = unfit_line picture wanted room
 
--- the text was put on the error output, or a front part of it where a put was refused
+-- the text was put on the error output, or a prefix of it where a put was refused
 abbrev pub Told : List ℕ → SinkEffect → Type 0
 Told text g = Tells text g.before.held g.after.held g.before.faults g.after.faults g.before.refusals g.after.refusals
 

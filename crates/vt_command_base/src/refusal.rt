@@ -155,7 +155,7 @@ pub fn status_of(end: &Result<(), Refusal<'_>>) -> u8
     }
 }
 
-/// Tells why a command was refused, by the line of usage; of one that is done it tells nothing.
+/// Prints why a command was refused, by the line of usage; of one that is done it prints nothing.
 pub fn tell_end<E: Sink>(end: &Result<(), Refusal<'_>>, usage: &[u8], err: &mut E)
     ensures { EndTold usage.now end.now (sink_effect E.Sink err.old err.new) }
 {

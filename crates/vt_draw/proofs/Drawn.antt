@@ -81,7 +81,7 @@ length-bytes_from : (bytes : List ℕ) (at n : ℕ) → length (bytes_from bytes
 length-bytes_from bytes at zero = refl
 length-bytes_from bytes at (suc n) = omega (arith, length-bytes_from bytes (at + 1) n)
 
--- a texel that was copied stands behind what stood before its place
+-- a texel that was copied is behind what was there before its place
 pub copied : (d : ℕ) (texels out copy : List ℕ) (r texel x from to m k : ℕ) → r ≡ 3 * d → from ≡ r * texel → to ≡ r * x → m ≡ r
     → 3 * d * texel + 3 * d ≤ length texels → 3 * d * x + 3 * d ≤ length out → copy ≡ take m (drop from texels)
     → take (3 * d * x + 3 * d) (put_mid to k out copy) ≡ take (3 * d * x) out ++ texel_bytes d texels texel

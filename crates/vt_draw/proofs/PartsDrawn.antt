@@ -15,7 +15,7 @@ use Rattle.vt_draw.specs.Plain.{row_samples, first_rows}
 use Rattle.vt_draw.specs.Views.{IsRoomFor}
 use Rattle.vt_draw.proofs.Drawn.{row_added}
 
--- a row that was written stands behind what stood before its place
+-- a row that was written is behind what was there before its place
 pub row_put : (out drawn : List ℕ) (at k size : ℕ) → length drawn ≡ size → at ≤ length out → take (at + size) (put_mid at k out drawn) ≡ take at out ++ drawn
 row_put out drawn at k size full fits =
     let front : length (take at out) ≡ at = length-take-le at out fits in

@@ -8,7 +8,7 @@ ghost use Rattle.vt_draw.specs.Lookups.{Note, EntryNote, WordNote, IsFinest, pla
 
 use vt_pages::Geometry;
 
-/// What a look-up found for a page: a page of its line, and where its texels stand.
+/// What a look-up found for a page: a page of its line, and where its texels are.
 #[derive(Clone, Copy, Debug, PartialEq, Eq)]
 pub struct Found {
     /// The index of the page that was found: the page looked up, or one of its ancestors.
@@ -31,10 +31,10 @@ pub trait Lookup {
     /// Whether it stands for a note. What it says once it says after each later call.
     ghost says: { Self → Note → Type 0 };
 
-    /// What the look-up stands on besides, as the table that it reads.
+    /// What else the look-up rests on, as the table that it reads.
     ghost Kept: { Type 0 } = { Unit {0} };
 
-    /// What this look-up stands on. No call changes it.
+    /// What this look-up rests on. No call changes it.
     ghost kept: { Self → Self.Kept };
 
     /// Answers the finest mapped page among a page and its ancestors; `page` is below the page count.

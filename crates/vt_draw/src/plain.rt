@@ -227,7 +227,7 @@ fn draw_plain_row<const DEPTH: u32>(chain: &Chain, row: Row, columns: u32, out: 
     }
 }
 
-// Copies a texel behind those that stand before its place.
+// Copies a texel behind those that are before its place.
 #[inline(always)]
 fn put_texel<const DEPTH: u32>(texels: &[u8], texel: usize, out: &mut [u8], x: usize)
     requires depth { IsDepth DEPTH }

@@ -234,7 +234,7 @@ freed_frame : (v : RecencyView) (wants : List Wanted) (j : ℕ) → j < length (
     → slice_index (frames_given v wants) j ≡ slice_index (free_frames v) j
 freed_frame v wants j below = get_or_append_left (free_frames v) (map (frame_of v.entries) (candidates v wants)) 0 j below
 
--- no frame stands in two entries
+-- no frame is in two entries
 frames_apart : (v : RecencyView) (wants : List Wanted) (i j : ℕ) → IsTable v → i < j
     → j < length (free_frames v) + length (candidates v wants)
     → slice_index (frames_given v wants) i ≢ slice_index (frames_given v wants) j

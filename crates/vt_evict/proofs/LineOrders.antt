@@ -21,15 +21,15 @@ use Rattle.vt_evict.proofs.PairLemmas.{pairs_append, pairs_reverse, all_in, not_
 abbrev pub first_of : Shape → List ℕ → ℕ → ℕ
 first_of s ps p = position_or_len (λ q. is_in (ancestors_of s q) p) ps
 
--- a page stands in an earlier line than another, or in the same one and is coarser
+-- a page is in an earlier line than another, or in the same one and is coarser
 abbrev pub IsEarlier : Shape → (ℕ → ℕ) → ℕ → ℕ → Type 0
 IsEarlier s f p q = (f p < f q) ⊎ ((f p ≡ f q) × (level_of s q < level_of s p))
 
--- a page does not stand in the line of another
+-- a page is not in the line of another
 abbrev is_off : Shape → ℕ → ℕ → Bool
 is_off s p r = not (is_in (reverse (ancestors_of s p)) r)
 
--- which pages stand in lines
+-- which pages are in lines
 pub in_lines : (s : Shape) (ps : List ℕ) (p : ℕ) → is_in (line_pages s ps) p ≡ list_any (λ q. is_in (ancestors_of s q) p) ps
 unfolding line_pages
 in_lines s ps p = is_in-each_once (flat_map (λ q. reverse (ancestors_of s q)) ps) p ∙ each ps where

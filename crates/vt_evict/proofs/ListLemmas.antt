@@ -102,7 +102,7 @@ room_for n x xs inside new distinct below =
       under q true e h = rw (nat_eq_true q x e) inside
       under q false e h = below q h
 
--- one page more at the front of those that stand first
+-- one page more at the front of those that are first
 pub put_first-more : (x : ℕ) (xs order : List ℕ) → is_in xs x ≡ false → put_first (x ∷ xs) order ≡ x ∷ filter (λ y. not (nat_eq x y)) (put_first xs order)
 unfolding put_first
 put_first-more x xs order new = ap (λ (l : List ℕ). x ∷ l) (sym (

@@ -47,7 +47,7 @@ keys-promoted page es h there =
     ∙ ap (λ (k : ℕ). k ∷ keys_of (remove_entry (nat_eq page) es)) is
     ∙ ap (λ (l : List ℕ). page ∷ l) (keys-remove page es h)
 
--- what stands before and after a place of a list
+-- what is before and after a place of a list
 pub record IsBack (all before : List ℕ) (page : ℕ) (rest : List ℕ) : Type 0 where
   pub now : before ++ drop (length before) all ≡ all
   pub next : drop (length before) all ≡ page ∷ rest
@@ -85,7 +85,7 @@ put_back ok page rest order new = step (ok page) refl where
   step true e = sym (put_first-more page (filter ok rest) order absent)
   step false e = refl
 
--- a page of the order that is not put first stands behind those that are
+-- a page of the order that is not put first is behind those that are
 pub still_in : (xs order : List ℕ) (page : ℕ) → is_in xs page ≡ false → is_in order page ≡ true → is_in (put_first xs order) page ≡ true
 unfolding put_first
 still_in xs order page new there =

@@ -1,4 +1,4 @@
--- Lists of which each element stands in a relation to each later one.
+-- Lists of which each element is in a relation to each later one.
 use Rattle.std.proofs.Common.{◌≡◌, ℕ, suc, ◌<◌, ◌≤◌, Bool, true, false, not, nat_eq, List, [], ◌∷◌, ◌++◌, length, reverse, get_or, inl, inr, refl, sym, ◌∙◌, subst, arith}
 use Rattle.std.specs.List.{All, AllPairs, list_any, position_or_len}
 use Rattle.std.proofs.lemmas.Bool.{false≢true, cases_lt}
@@ -34,7 +34,7 @@ pub not_true : (b : Bool) → not b ≡ true → b ≡ false
 not_true true e = absurd (false≢true e)
 not_true false e = refl
 
--- where an element passes, the first that does stands inside
+-- where an element passes, the first that does is inside
 pub first_inside : (t : ℕ → Bool) (xs : List ℕ) → list_any t xs ≡ true → position_or_len t xs < length xs
 first_inside t xs e = elim (cases_lt (position_or_len t xs) (length xs)) [
   | inl below ↦ below
@@ -44,7 +44,7 @@ first_inside t xs e = elim (cases_lt (position_or_len t xs) (length xs)) [
       absurd (false≢true (sym fails ∙ subst (λ (y : ℕ). t y ≡ true) (sym found.3) found.4))
 ]
 
--- an element that passes stands at the first one's place or behind it
+-- an element that passes is at the first one's place or behind it
 pub first_before : (t : ℕ → Bool) (xs : List ℕ) (k d : ℕ) → t (get_or xs k d) ≡ true → position_or_len t xs ≤ k
 first_before t xs k d e = elim (cases_lt k (position_or_len t xs)) [
   | inl below ↦ absurd (false≢true (sym (fails_before_first t xs k d below) ∙ e))

@@ -76,7 +76,7 @@ want_touched x p t w =
       w.loose,
     ) refl
 
--- a touched page is loose, and the first wanted page whose line has it stands in the list
+-- a touched page is loose, and the first wanted page whose line has it is in the list
 record IsTouched (x : Pass) (p : ℕ) : Type 0 where
   loose : is_loose x.after p ≡ true
   inside : first_place x p < length (pages_wanted x.wants)

@@ -21,7 +21,7 @@ pub record IsLawfulEntry (v : RecencyView) (e : Planned) : Type 0 where
   pub frame_inside : e.frame < v.frames
   pub place : MatchOption e.victim (IsFree v.entries e.frame) (IsVictim v e.frame)
 
--- a batch is lawful for a table: each entry is, and no page and no frame stands in two
+-- a batch is lawful for a table: each entry is, and no page and no frame is in two
 pub record IsLawful (v : RecencyView) (batch : List Planned) : Type 0 where
   pub each : All (IsLawfulEntry v) batch
   pub apart : AllPairs (λ a b. (a.page ≢ b.page) × (a.frame ≢ b.frame)) batch

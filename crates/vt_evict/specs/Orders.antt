@@ -9,7 +9,7 @@ use Rattle.vt_plan.specs.PageLists.{is_in, each_once}
 unfoldable pub put_first : List ℕ → List ℕ → List ℕ
 put_first firsts order = firsts ++ filter (λ p. not (is_in firsts p)) order
 
--- the pages that stand in the lines of some pages, each once: line after line, each from its coarsest page on
+-- the pages that are in the lines of some pages, each once: line after line, each from its coarsest page on
 unfoldable pub line_pages : Shape → List ℕ → List ℕ
 line_pages s pages = each_once (flat_map (λ p. reverse (ancestors_of s p)) pages)
 

@@ -45,7 +45,7 @@ pub record IsReadAt (batch : List Planned) (lost : List Bool) (j p : ℕ) : Type
   pub read : slice_index_or lost j true ≡ false
   pub page : (d : Planned) → (slice_index_or batch j d).page ≡ p
 
--- a page stands in the line of the one at a place of a list
+-- a page is in the line of the one at a place of a list
 pub record IsInLineAt (s : Shape) (pages : List ℕ) (i p : ℕ) : Type 0 where
   pub inside : i < length pages
   pub in_line : is_in (ancestors_of s (slice_index pages i)) p ≡ true

@@ -51,7 +51,7 @@ touched_pages v wants = filter (is_loose v) (line_pages v.shape (pages_wanted wa
 abbrev pub touched : RecencyView → List Wanted → RecencyView
 touched v wants = record v { order = put_first (touched_pages v wants) v.order }
 
--- how many unpinned pages stand in the lines of a wanted list
+-- how many unpinned pages are in the lines of a wanted list
 unfoldable pub pages_needed : RecencyView → List Wanted → ℕ
 pages_needed v wants = count_by (λ p. not (is_pinned v p)) (line_pages v.shape (pages_wanted wants))
 

@@ -39,7 +39,7 @@ pub fn stamps_give_one_order()
         → ((p : ℕ) → is_in xs p ≡ is_in ys p) → xs ≡ ys }
 {}
 
-/// The candidates of a plan are the unpinned mapped pages that stand in no line of a wanted page, by rising stamps.
+/// The candidates of a plan are the unpinned mapped pages that are in no line of a wanted page, by rising stamps.
 pub fn candidates_rise_by_stamps()
     ensures exact { (v : RecencyView) (wants : List Wanted) (p : ℕ) → IsTable v → is_in (candidates v wants) p
         ≡ (is_loose v p && not (list_any (λ w. is_in (ancestors_of v.shape w.page) p) wants)) }

@@ -1,4 +1,4 @@
-//! The pages that stand in the lines of wanted pages.
+//! The pages that are in the lines of wanted pages.
 
 ghost use Rattle.std.specs.Prelude.{◌≡◌, ◌+◌, ◌<◌, false, not, [], ◌∷◌, ◌++◌, IfOk, IfSome, IfNone, OnOk, reverse};
 ghost use Rattle.std.specs.List.{filter, All};
@@ -133,7 +133,7 @@ fn add_line(geometry: &Geometry, pages: &mut IndexSet<u32>, page: u32) -> Result
     }
 }
 
-/// The pages that stand in the lines of a wanted list, each once: line after line, each from its coarsest page on. They are
+/// The pages that are in the lines of a wanted list, each once: line after line, each from its coarsest page on. They are
 /// gathered in a set of their own, since a plan only reads the table and cannot use its marks.
 pub fn lines_of(
     alloc: Global,

@@ -184,7 +184,7 @@ impl Recency {
     }
 
     /// The plan for a wanted list, with at most `q` entries: the missing pages, of which each is the coarsest unmapped page
-    /// below a wanted page's look-up, get the free frames and then those of the least recent pages that stand in no line of
+    /// below a wanted page's look-up, get the free frames and then those of the least recent pages that are in no line of
     /// a wanted page.
     pub fn plan(&self, alloc: Global, wants: &Wants, q: u32) -> Result<Batch, NoMemory>
         requires { All (λ w. w.page < pages_of self.now.shape) wants.now.elements }
@@ -215,7 +215,7 @@ impl Recency {
         Ok(batch)
     }
 
-    // Gives missing pages the frames of the least recent pages that stand in no line of a wanted page, up to `most` entries.
+    // Gives missing pages the frames of the least recent pages that are in no line of a wanted page, up to `most` entries.
     fn put_taken(
         &self,
         alloc: Global,
@@ -238,7 +238,7 @@ impl Recency {
         Ok(())
     }
 
-    /// How many unpinned pages stand in the lines of a wanted list.
+    /// How many unpinned pages are in the lines of a wanted list.
     pub fn needed(&self, alloc: Global, wants: &Wants) -> Result<u32, NoMemory>
         requires { All (λ w. w.page < pages_of self.now.shape) wants.now.elements }
         ensures { IfOk result (λ n. n ≡ pages_needed self.now wants.now.elements) }

@@ -19,7 +19,7 @@ module _ {X : Type 0} (R : X → X → Type 0) (one_way : (x y : X) → R x y �
   has_tail : (x : X) (xs : List X) (y : X) → Contains xs y → Contains (x ∷ xs) y
   has_tail x xs y there = (suc there.0, omega (arith, there.1), there.2)
 
-  -- an element of the tail is not the head, which stands before it
+  -- an element of the tail is not the head, which is before it
   in_tail : (x : X) (xs ys : List X) → AllPairs R (x ∷ xs) → ((y : X) → Contains (x ∷ xs) y → Contains (x ∷ ys) y) → (y : X) → Contains xs y → Contains ys y
   in_tail x xs ys h covers y there = elim (head_or_tail x ys y (covers y (has_tail x xs y there))) [
     | inl same ↦ let before : R x y = head_before x xs h y there in absurd (one_way x x (subst (R x) (sym same) before) (subst (R x) (sym same) before))

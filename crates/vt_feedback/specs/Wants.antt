@@ -9,7 +9,7 @@ use Rattle.vt_feedback.specs.declared.Wanted.{Wanted}
 abbrev pub pages_wanted : List Wanted → List ℕ
 pages_wanted wants = map (λ w. w.page) wants
 
--- no page stands twice in a wanted list
+-- no page is twice in a wanted list
 abbrev pub WantsOnce : List Wanted → Type 0
 WantsOnce wants = IsDistinct nat_eq (pages_wanted wants)
 

@@ -58,7 +58,7 @@ part_file : (name bytes : List ℕ) (before after : Option Files)
 part_file name bytes before after (inl same) = part_none ((record { name = name; bytes = bytes }) ∷ []) before after same
 part_file name bytes before after (inr part) = part_front (record { name = name; bytes = bytes }) before after part.0 part.1
 
--- one file was written, or a front part of it
+-- one file was written, or a prefix of it
 pub file_written : (name bytes : List ℕ) (before after : FolderState)
     → after.files ≡ option_map (with_bytes name bytes) before.files → after.asked ≡ before.asked → before.faults ≤ after.faults
     → Writes {T = Unit {0}} ((record { name = name; bytes = bytes }) ∷ []) (record { before = before; after = after }) (Ok tt)

@@ -1,4 +1,4 @@
--- What stood before and after a call: of a folder, and of a sink.
+-- What was there before and after a call: of a folder, and of a sink.
 use Rattle.std.specs.Prelude.{◌≡◌, ℕ, List, Option}
 use Rattle.vt_outside.specs.Files.{Files, Asked}
 use Rattle.vt_outside.specs.declared.outside.Folder.{Ghosts as FolderMeanings}

@@ -16,7 +16,7 @@ pub record Expected : Type 0 where
   pub files : List ExpectedFile
   pub text : List ℕ
 
--- the folder with these files, each written in its turn
+-- the folder with these files, each written in order
 abbrev pub with_files : List ExpectedFile → Files → Files
 with_files [] files = files
 with_files (file ∷ rest) files = with_files rest (with_bytes file.name file.bytes files)
@@ -26,20 +26,20 @@ pub record Done (expected : Expected) (c : CallEffect) : Type 0 where
   pub files : c.folder.after.files ≡ option_map (with_files expected.files) c.folder.before.files
   pub out : c.out.after.held ≡ option_map (gained expected.text) c.out.before.held
 
--- of the first of the files a front part may stand
+-- the first of the files may hold a prefix of its bytes
 abbrev pub IsWrittenPrefix : List ExpectedFile → Option Files → Option Files → Type 0
 IsWrittenPrefix [] before after = after ≡ before
 IsWrittenPrefix (file ∷ rest) before after =
     (after ≡ before) ⊎ ((k : ℕ) × (after ≡ option_map (with_bytes file.name (take k file.bytes)) before))
 
--- some files are whole, of the next one a front part may stand, and every other name holds what it held
+-- some files are whole, the next one may hold a prefix of its bytes, and every other name holds what it held
 pub record IsPart (files : List ExpectedFile) (before after : Option Files) : Type 0 where
   pub whole : List ExpectedFile
   pub rest : List ExpectedFile
   pub split : files ≡ whole ++ rest
   pub front : IsWrittenPrefix rest (option_map (with_files whole) before) after
 
--- the files came to be so far, and the output gained a front part of the text, and a byte of it only where all files are whole
+-- the files exist so far, and the output gained a prefix of the text, and a byte of it only where all files are whole
 pub record Stopped (expected : Expected) (c : CallEffect) : Type 0 where
   pub files : IsPart expected.files c.folder.before.files c.folder.after.files
   pub out : (c.out.after.held ≡ c.out.before.held)
@@ -61,7 +61,7 @@ abbrev pub Writes : {T : Type 0} → List ExpectedFile → FolderEffect → Resu
 Writes files p (Ok _) = AsksNone p × (p.after.files ≡ option_map (with_files files) p.before.files)
 Writes files p (Err error) = AsksNone p × IsPart files p.before.files p.after.files × FailsOnly (Rose p.before.faults p.after.faults) error
 
--- the text was put, or a front part of it
+-- the text was put, or a prefix of it
 abbrev pub Puts : {T : Type 0} → List ℕ → SinkEffect → Result T OutsideError → Type 0
 Puts text g (Ok _) = g.after.held ≡ option_map (gained text) g.before.held
 Puts text g (Err error) = ((k : ℕ) × (g.after.held ≡ option_map (gained (take k text)) g.before.held)) × FailsOnly (Rose g.before.faults g.after.faults) error

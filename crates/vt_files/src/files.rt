@@ -6,7 +6,7 @@ ghost use Rattle.vt_files.specs.Expectations.{Writes};
 
 use vt_outside::{Folder, OutsideError};
 
-/// Makes the name hold these bytes, by one creation and one append. After a refusal it holds what it held, or a front part of
+/// Makes the name hold these bytes, by one creation and one append. After a refusal it holds what it held, or a prefix of
 /// them; `Failed` comes only where the folder's count of faults rose.
 pub fn write_file<D: Folder>(folder: &mut D, name: &str, bytes: &[u8]) -> Result<(), OutsideError>
     ensures { Writes ((record { name = name.now; bytes = bytes.now }) ∷ []) (folder_effect D.Folder folder.old folder.new) result }

@@ -28,7 +28,7 @@ pub struct Picture<'a> {
 }
 
 /// Writes a picture under its name: the prefix, its number, which is below ten thousand, in four digits, and `.ppm`. After a
-/// refusal the name holds what it held, or a front part of the picture's bytes; `Failed` comes only where the folder's count of
+/// refusal the name holds what it held, or a prefix of the picture's bytes; `Failed` comes only where the folder's count of
 /// faults rose.
 pub fn write_picture<D: Folder>(
     alloc: Global,

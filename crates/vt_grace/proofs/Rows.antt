@@ -1,4 +1,4 @@
--- Where entries stand.
+-- Where entries are.
 use Rattle.vt_grace.specs.declared.sizes.Sizes.{Sizes}
 use Rattle.vt_grace.specs.Places.{texel_word}
 use Rattle.std.proofs.Common.{◌≡◌, ◌≢◌, ℕ, suc, ◌+◌, ◌*◌, ◌<◌, ◌≤◌, ap, arith, mul-le-mul_right, suc-mul}

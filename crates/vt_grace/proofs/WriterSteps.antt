@@ -178,7 +178,7 @@ learns key slots id i me w is = writer_allows key slots id i (λ n. n) me w (lea
   ),
 ))
 
--- the bank of the newest version stands, and those of the versions before it stand as before
+-- the bank of the newest version is there, and those of the versions before it are as before
 next_window : (w : WriterView) (change : Change) → Stands w.sizes w.entries (changed (newest w.journal) change) (bank_of (version_of w + 1))
     → ((v : ℕ) → IsInWindow w v → Stands w.sizes w.entries (at w.journal v) (bank_of v))
     → (v : ℕ) → IsInWindow (after_change w change) v → Stands w.sizes w.entries (at (w.journal ++ change ∷ []) v) (bank_of v)
@@ -265,7 +265,7 @@ publishes key slots id v me w change is newest_is room asked = writer_allows key
       ),
     ))
 
--- an entry of the next bank leaves each version of the window as it stands
+-- an entry of the next bank leaves each version of the window as it is
 other_banks : (w : WriterView) (page entry : ℕ) → page < w.sizes.pages → MayWriteNext w → ((v : ℕ) → IsInWindow w v → Stands w.sizes w.entries (at w.journal v) (bank_of v))
     → (v : ℕ) → IsInWindow w v → Stands w.sizes (set w.entries (entry_place w.sizes (bank_of (version_of w + 1)) page) entry) (at w.journal v) (bank_of v)
 other_banks w page entry inside may before v inw q low =

@@ -11,7 +11,7 @@ use Rattle.vt_grace.specs.Places.{entry_place, texel_place, bank_of}
 use Rattle.vt_grace.specs.WriterViews.{version_of, floor_of}
 use Rattle.vt_grace.specs.Notes.{entry_number}
 
--- a bank stands as a table says
+-- a bank is as a table says
 abbrev pub Stands : Sizes → List ℕ → Table → ℕ → Type 0
 Stands z entries m bank = (page : ℕ) → page < z.pages → slice_index entries (entry_place z bank page) ≡ entry_number (m page)
 
@@ -32,7 +32,7 @@ MayWriteNext w = (k : ℕ) → k < w.sizes.samplers → version_of w ≤ floor_o
 abbrev pub MayFill : WriterView → ℕ → Type 0
 MayFill w frame = (v : ℕ) → IsInWindow w v → (page : ℕ) → at w.journal v page ≢ Some frame
 
--- the change is legal next, and the bank of the next version stands as it says
+-- the change is legal next, and the bank of the next version is as it says
 pub record MayPublish (w : WriterView) (change : Change) : Type 0 where
   pub page : change_page change < w.sizes.pages
   pub next : IsNextKeeping w.sizes.root (newest w.journal) change

@@ -19,7 +19,7 @@ at_stage stage p = record p { stage = stage }
 abbrev pub idle : PassView → PassView
 idle p = at_stage Idle p
 
--- a pass that came to hold a version
+-- a pass that has taken hold of a version
 abbrev pub holding : ℕ → PassView → PassView
 holding u p = record p { stage = Holding (hint_of p.stage) u; held = u ∷ p.held }
 

@@ -1,4 +1,4 @@
--- What stands in a seat at the table: the view of the writer or of a pass.
+-- What is in a seat at the table: the view of the writer or of a pass.
 use Rattle.std.specs.Prelude.{◌≡◌, []}
 use Rattle.atomic_table.specs.Table.{Me}
 use Rattle.atomic_table.specs.declared.shared.Seat.{Seat}

@@ -1,7 +1,7 @@
 //! A page table of shared words, with one writer and readers that never wait.
 //!
 //! The words are the newest version, an announcement for each sampler, four banks of entries, and the texels of all frames.
-//! A version stands in the bank that its number has modulo 4. A sampler holds a version while it reads; the writer publishes
+//! A version is in the bank that its number has modulo 4. A sampler holds a version while it reads; the writer publishes
 //! versions, and writes a bank or a frame only while no version that a sampler may still hold needs it.
 #![tactic(auto)]
 

@@ -86,7 +86,7 @@ impl Held {
         shared.load::<ReadWord>(&mut self.seat, word)
     }
 
-    /// The same where the index of the frame's first word is at hand, which is read once for many places.
+    /// The same where the index of the frame's first word is known, which is read once for many places.
     #[inline(always)]
     pub fn word_from(&mut self, words: &Words, start: usize, frame: u32, place: u32) -> u64
         requires of { IsHeldOf words.now self.old }

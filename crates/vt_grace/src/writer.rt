@@ -68,7 +68,7 @@ impl WriterSeat {
         shared.store::<FillWord>(&mut self.seat, at, word);
     }
 
-    /// Publishes the next version, which a change makes: the change is legal next, and the bank of the next version stands as it says.
+    /// Publishes the next version, which a change makes: the change is legal next, and the bank of the next version is as it says.
     pub fn publish(&mut self, words: &Words, change: Change)
         requires of { IsWriterOf words.now self.old }
         requires asked { MayPublish self.old.view change }

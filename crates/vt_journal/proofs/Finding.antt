@@ -22,7 +22,7 @@ no_entry : (o : Option ℕ) → is_some o ≡ false → o ≡ None
 no_entry None e = refl
 no_entry (Some f) e = absurd (false≢true (sym e))
 
--- what stands at the first place that passes
+-- what is at the first place that passes
 found_is_first : (m : Table) (ps : List ℕ) (a : ℕ) → slice_get ps (position_or_len (is_mapped m) ps) ≡ Some a
     → IsFirstMapped m ps a
 found_is_first m ps a e =

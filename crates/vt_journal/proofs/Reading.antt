@@ -40,7 +40,7 @@ name_is_short s page limits inside =
       row = omega (arith, is.row_inside, rows_most s (name_at s page).level 16384 tile (omega arith) limits.most_height);
     }
 
--- a page that stands in a line has the name that was read
+-- a page that is in a line has the name that was read
 pub name_read : (s : Shape) (line : List ℕ) (i page level col row : ℕ) → StandsAt s line i page
     → slice_get (fields_of line) i ≡ Some (number_spelling level) → slice_get (fields_of line) (i + 1) ≡ Some (number_spelling col)
     → slice_get (fields_of line) (i + 2) ≡ Some (number_spelling row)
@@ -51,7 +51,7 @@ name_read s line i page level col row at l c r =
     (same_number (slice_get (fields_of line) (i + 1)) (name_at s page).col col at.col c)
     (same_number (slice_get (fields_of line) (i + 2)) (name_at s page).row row at.row r)
 
--- a list by what stands at its places
+-- a list by what is at its places
 pub list_of_three : (xs : List (List ℕ)) (a b c : List ℕ) → slice_get xs 0 ≡ Some a → slice_get xs 1 ≡ Some b
     → slice_get xs 2 ≡ Some c → slice_get xs 3 ≡ None → xs ≡ a ∷ b ∷ c ∷ []
 list_of_three [] a b c e f g h = cc

@@ -32,7 +32,7 @@ abbrev pub pinned_by : Shape → List Change → ℕ
 pinned_by s [] = 0
 pinned_by s (change ∷ changes) = pages_of s - change_page change
 
--- the line of a map stands in the head: the first may map any page, a further one maps the next, and the frames are 0, 1 and so on
+-- the line of a map is in the head: the first may map any page, a further one maps the next, and the frames are 0, 1 and so on
 pub record IsInHead (s : Shape) (r : Reading) (page frame : ℕ) : Type 0 where
   pub no_pass : r.passes ≡ 0
   pub next_frame : frame ≡ length r.changes
@@ -42,7 +42,7 @@ pub record IsInHead (s : Shape) (r : Reading) (page frame : ℕ) : Type 0 where
 abbrev pub IsBeforeRows : Reading → Type 0
 IsBeforeRows r = (1 ≤ r.passes) × (r.rows ≡ [])
 
--- the change may stand there: page and frame are within their bounds, and an unmapped page is not pinned
+-- the change may be there: page and frame are within their bounds, and an unmapped page is not pinned
 abbrev pub IsPlaced : Shape → Reading → Change → Type 0
 IsPlaced s r (Map page frame) = (page < pages_of s) × (frame < most_frames) × (IsInHead s r page frame ⊎ IsBeforeRows r)
 IsPlaced s r (Unmap page frame) =

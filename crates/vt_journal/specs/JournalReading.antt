@@ -27,7 +27,7 @@ abbrev pub IsNumberAt : List ℕ → ℕ → ℕ → Option ℕ → Type 0
 IsNumberAt line i most found = MatchOption found ((n : ℕ) → n ≤ most → slice_get (fields_of line) i ≢ Some (number_spelling n))
     (λ n. (n ≤ most) × (slice_get (fields_of line) i ≡ Some (number_spelling n)))
 
--- a page stands in a line from a field on
+-- a page is in a line from a field on
 pub record StandsAt (s : Shape) (line : List ℕ) (i page : ℕ) : Type 0 where
   pub inside : page < pages_of s
   pub level : slice_get (fields_of line) i ≡ Some (number_spelling (name_at s page).level)
@@ -74,7 +74,7 @@ pub record IsCursor (text : List ℕ) (at number : ℕ) : Type 0 where
   pub within : at ≤ length text
   pub few : number ≤ at + 1
 
--- a line stands at a place, and another place comes after it
+-- a line is at a place, and another place comes after it
 pub record IsLineRead (s : Shape) (text : List ℕ) (at number : ℕ) (line : Line) (next_at next_number : ℕ) : Type 0 where
   pub bytes : List ℕ
   pub says : Says s bytes line
@@ -83,12 +83,12 @@ pub record IsLineRead (s : Shape) (text : List ℕ) (at number : ℕ) (line : Li
   pub forward : at < next_at
   pub cursor : IsCursor text next_at next_number
 
--- no line stands at a place that the reader knows
+-- no line is at a place that the reader knows
 abbrev pub IsNoLine : Shape → List ℕ → ℕ → Type 0
 IsNoLine s text at = (line : Line) (bytes next : List ℕ) (rest : List (List ℕ))
     → lines_of (drop at text) ≡ bytes ∷ next ∷ rest → ¬ Says s bytes line
 
--- lines that may come after what was told stand from one place to another
+-- lines that may come after what was told are from one place to another
 pub record Advances (s : Shape) (height : ℕ) (text : List ℕ) (r : Reading) (at number : ℕ) (lines : List Line) (next_at next_number : ℕ) : Type 0 where
   pub spelled : lines_of (drop at text) ≡ map (line_bytes s) lines ++ lines_of (drop next_at text)
   pub admitted : AreAdmitted s height r lines
@@ -169,7 +169,7 @@ IsNoEvent (Makes version change) = ⊥
 IsNoEvent (Loses page) = ⊥
 IsNoEvent (Draws row) = Unit {0}
 
--- no line that says an event stands at a place
+-- no line that says an event is at a place
 abbrev pub IsNoEventAt : Shape → List ℕ → ℕ → Type 0
 IsNoEventAt s text at = (line : Line) (bytes : List ℕ) (rest : List (List ℕ))
     → lines_of (drop at text) ≡ bytes ∷ rest → rest ≢ [] → Says s bytes line → IsNoEvent line

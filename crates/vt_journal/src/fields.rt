@@ -69,7 +69,7 @@ fn is_page(geometry: &Geometry, name: &PageName) -> bool
     is_on_side(name.row, geometry.tile(), height)
 }
 
-/// The page whose level, column and row stand in a line from field `i` on, if there is one.
+/// The page whose level, column and row are in a line from field `i` on, if there is one.
 pub fn page_at(geometry: &Geometry, line: &[u8], i: usize) -> Option<u32>
     requires { i ≤ 2 }
     ensures { MatchOption result ((page : ℕ) → ¬ StandsAt geometry.now line.now i page) (StandsAt geometry.now line.now i) }

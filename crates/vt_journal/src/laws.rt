@@ -1,4 +1,4 @@
-//! Laws of the versions and of look-ups, for whoever keeps a page table beside a journal: each is the contract of a
+//! Laws of the versions and of look-ups, for code that keeps a page table beside a journal: each is the contract of a
 //! function that does nothing.
 
 ghost use Rattle.std.specs.Prelude.{◌≡◌, ◌≢◌, ◌↔◌, ◌⊎◌, ℕ, ◌+◌, ◌-◌, ◌<◌, ◌≤◌, List, [], ◌∷◌, ◌++◌, length, Some, None, slice_get};

@@ -60,7 +60,7 @@ fn add_page(text: &mut Vec<u8>, geometry: &Geometry, page: u32) -> Result<(), No
     add_number(text, u64::from(name.row))
 }
 
-// Appends what stands in a line behind its first word, for a change that makes a version.
+// Appends what is in a line behind its first word, for a change that makes a version.
 fn add_pair(
     text: &mut Vec<u8>,
     geometry: &Geometry,
@@ -78,7 +78,7 @@ fn add_pair(
     add_number(text, u64::from(frame))
 }
 
-// Appends what stands in the line of a change before its line feed.
+// Appends what is in the line of a change before its line feed.
 fn add_change(
     text: &mut Vec<u8>,
     geometry: &Geometry,
@@ -207,7 +207,7 @@ fn add_rows(text: &mut Vec<u8>, geometry: &Geometry, rows: &[RowLine]) -> Result
 }
 
 /// Appends the text of a pass: the line that begins it, a line for each event, and a line for each row. `start` and the number
-/// of events together are at most 2^62. The old text is a front part of what stands, also after want of memory.
+/// of events together are at most 2^62. The old text is a prefix of the new one, also after want of memory.
 pub fn add_pass(text: &mut Vec<u8>, geometry: &Geometry, pass: &PassText) -> Result<(), NoMemory>
     requires pages { All (IsEventInChain geometry.now) pass.now.events.elements }
     requires room { pass.now.start + length pass.now.events.elements ≤ most_versions }

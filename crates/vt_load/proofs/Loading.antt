@@ -18,7 +18,7 @@ use Rattle.vt_queue.proofs.Gathered.{append_nil}
 use Rattle.vt_load.specs.Readings.{is_readable, IsReading, AreReadings}
 use Rattle.vt_load.specs.Loads.{Answers, Loads}
 
--- What was written into a buffer's lent bytes stands in the buffer.
+-- What was written into a buffer's lent bytes is in the buffer.
 pub lent_back : (xs ws : List ℕ) → length ws ≡ length xs → refill (length xs) xs ws ≡ ws
 lent_back xs ws e = ap (λ (n : ℕ). take n (ws ++ drop (length ws) xs)) (sym e) ∙ take-append_seam ws (drop (length ws) xs)
 

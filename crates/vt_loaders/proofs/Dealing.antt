@@ -83,7 +83,7 @@ module _ {F : Type 0} where
       no_answers = ap (λ (z : PassView Loaded). z.took) q.knows;
     }
 
-  -- The store of the last loader that was made stands before those of the ones made before it.
+  -- The store of the last loader that was made is before those of the ones made before it.
   pub order_more : (stores rest init : List (StoreView F)) (loaders more : List (QueuedView F)) (x : StoreView F) (l : QueuedView F)
       → stores ≡ rest ++ x ∷ [] → more ≡ loaders ++ l ∷ [] → l.loader.store ≡ x → stores ++ reverse (stores_of loaders) ≡ init
       → rest ++ reverse (stores_of more) ≡ init

@@ -35,7 +35,7 @@ pub record LookupValue : Type 0 where
   pub words : WordsValue
   pub held : HeldValue
 
--- what a look-up stands on: the words, and the hold without its notes
+-- what a look-up rests on: the words, and the hold without its notes
 pub record LookupBase : Type 0 where
   pub words : WordsValue
   pub held : HeldValue
@@ -44,6 +44,6 @@ pub record LookupBase : Type 0 where
 abbrev pub without_notes : HeldValue → HeldValue
 without_notes h = record h { view = record h.view { notes = []; word_notes = [] } }
 
--- what this look-up stands on
+-- what this look-up rests on
 abbrev pub base_of : LookupValue → LookupBase
 base_of v = record { words = v.words; held = without_notes v.held }

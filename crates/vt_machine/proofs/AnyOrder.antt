@@ -104,7 +104,7 @@ exists_of test (x ∷ xs) e = pick (test x) refl (exists_of test xs) e where
   pick true is more rest = (x, is)
   pick false is more rest = more rest
 
--- how a page that an entry changes stands in the table before
+-- how a page that an entry changes is in the table before
 Standing : Table → Planned → ℕ → Type 0
 Standing m e p = ((p ≡ e.page) × (m p ≡ None)) ⊎ (m p ≡ Some e.frame)
 

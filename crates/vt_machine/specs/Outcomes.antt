@@ -21,7 +21,7 @@ pub record IsEntryFor (s : Shape) (frames : ℕ) (m : Table) (e : Planned) : Typ
   pub frame_inside : e.frame < frames
   pub place : MatchOption e.victim (IsFree m e.frame) (IsVictimOf s m e.frame)
 
--- a batch is lawful for a table: each entry is, and no page and no frame stands in two
+-- a batch is lawful for a table: each entry is, and no page and no frame is in two
 pub record IsBatchFor (s : Shape) (frames : ℕ) (m : Table) (batch : List Planned) : Type 0 where
   pub each : All (IsEntryFor s frames m) batch
   pub apart : AllPairs (λ a b. (a.page ≢ b.page) × (a.frame ≢ b.frame)) batch

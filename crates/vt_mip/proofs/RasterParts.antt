@@ -11,7 +11,7 @@ use Rattle.vt_mip.proofs.Rasters.{clamped_below}
 use Rattle.vt_box_filter.proofs.PartSamples.{box_same}
 use Rattle.vt_ppm.proofs.SampleParts.{sample_before, sample_behind}
 
--- a sample of a raster stands among those of so many rows
+-- a sample of a raster is among those of so many rows
 among : (w x y c rows : ℕ) → x < w → y < rows → c < 3 → 3 * (y * w + x) + c < 3 * (w * rows)
 among w x y c rows p q r = omega (arith, mul-add-lt y w x rows q p)
 

@@ -6,7 +6,7 @@ use Rattle.vt_ppm.specs.Image.{ImageView, IsLawfulImage}
 use Rattle.vt_mip.specs.Halves.{IsHalvedRaster}
 use Rattle.vt_mip.specs.TakenRows.{HalvingView}
 
--- the first n pairs of rows of a raster are halved, and stand in front; the rows behind those pairs are as they were
+-- the first n pairs of rows of a raster are halved, and are in front; the rows behind those pairs are as they were
 pub record IsShrunk (d : ℕ) (source : List ℕ) (w h n : ℕ) (samples : List ℕ) : Type 0 where
   pub halved : IsHalvedRaster d source w h n samples
   pub rest : drop (d * (3 * w * (2 * n))) samples ≡ drop (d * (3 * w * (2 * n))) source

@@ -274,7 +274,7 @@ impl<F: File> StripChain<F> {
     /// of the texture that lies under it, from row `y * 2^level` on, once and in order, halves them level by level, and takes no
     /// memory.
     ///
-    /// `Failed` comes only where the file's count of faults rose; then a front part of those rows was read, each once, and no
+    /// `Failed` comes only where the file's count of faults rose; then a prefix of those rows was read, each once, and no
     /// read follows the failed one.
     pub fn row(&mut self, level: u32, y: u32, out: &mut [u8]) -> Result<(), Failed>
         requires level { level < level_count self.old.header.width self.old.header.height self.old.tile }

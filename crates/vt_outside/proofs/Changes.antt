@@ -1,4 +1,4 @@
--- What several changes of a folder's files in a row come to.
+-- Several changes of a folder's files in a row.
 use Rattle.std.proofs.Common.{◌≡◌, ℕ, ◌≤◌, ◌+◌, min, true, false, List, ◌++◌, length, take, Option, Some, None, refl, ap, sym, ◌∙◌, arith}
 use Rattle.std.proofs.lemmas.List.{take_min, take-append-le}
 use Rattle.std.proofs.Math.Seq.{take-append-add}
@@ -20,11 +20,11 @@ pub told-bytes-appended : (n s t : List ℕ) (o : Option Files)
 told-bytes-appended n s t None = refl
 told-bytes-appended n s t (Some f) = ap Some (with_appended-with_bytes n s t f)
 
--- the whole of one piece and a front part of the next is a front part of both
+-- the whole of one piece and a prefix of the next is a prefix of both
 pub front_of_two : (s t : List ℕ) (k : ℕ) → s ++ take k t ≡ take (length s + k) (s ++ t)
 front_of_two s t k = sym (take-append-add s t k)
 
--- a front part of the first of two pieces is one of both
+-- a prefix of the first of two pieces is one of both
 pub front_of_first : (s t : List ℕ) (k : ℕ) → (m : ℕ) × (take k s ≡ take m (s ++ t))
 front_of_first s t k =
     let n = min k (length s) in

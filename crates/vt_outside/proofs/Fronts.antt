@@ -8,7 +8,7 @@ use Rattle.std.proofs.Math.Seq.{take-append_seam}
 use Rattle.std.specs.Io.KnownBytes.{Appends, Keeps}
 use Rattle.std.proofs.KnownBytes.{Appends-trans, Appends-kept}
 
--- a front part of all, by its length
+-- a prefix of all, by its length
 pub front_part : (a b : Option (List ℕ)) (all done rest : List ℕ) → all ≡ done ++ rest → Appends a b done → (k : ℕ) × Appends a b (take k all)
 front_part a b all done rest split appended =
     (length done, subst (Appends a b) (sym (ap (take (length done)) split ∙ take-append_seam done rest)) appended)
@@ -17,13 +17,13 @@ front_part a b all done rest split appended =
 pub longer_front : (all done rest : List ℕ) (n : ℕ) → all ≡ done ++ rest → all ≡ (done ++ take n rest) ++ drop n rest
 longer_front all done rest n split = split ∙ ap (λ l. done ++ l) (sym (take-append-drop n rest)) ∙ sym (append_assoc done (take n rest) (drop n rest))
 
--- a longer front part of all
+-- a longer prefix of all
 pub longer_part : (a b c : Option (List ℕ)) (all done rest : List ℕ) (n : ℕ) → all ≡ done ++ rest → Appends a b done
     → Appends b c (take n rest) → (k : ℕ) × Appends a c (take k all)
 longer_part a b c all done rest n split first next =
     front_part a c all (done ++ take n rest) (drop n rest) (longer_front all done rest n split) (Appends-trans a b c done (take n rest) first next)
 
--- a front part that stayed
+-- a prefix that stayed
 pub kept_part : (a b c : Option (List ℕ)) (all done rest : List ℕ) → all ≡ done ++ rest → Appends a b done → Keeps b c → (k : ℕ) × Appends a c (take k all)
 kept_part a b c all done rest split first kept = front_part a c all done rest split (Appends-kept a b c done first kept)
 
@@ -43,7 +43,7 @@ slice_range-put_mid a k n xs ys within fits =
     ap (take ((a + n) - a)) (drop_at (take a xs) (ys ++ after) a (length-take-le a xs within))
     ∙ ap (λ m. take m (ys ++ after)) same ∙ take-append-le n ys after fits
 
--- what stands at the front of a buffer stays there where a part behind it is written
+-- what is at the front of a buffer stays there where a part behind it is written
 pub kept_front : (a k : ℕ) (buf part : List ℕ) → a ≤ length buf → take a (put_mid a k buf part) ≡ take a buf
 kept_front a k buf part within = take-put_mid_below _ _ _ _ _ (le_refl _) within
 

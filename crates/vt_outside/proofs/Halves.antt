@@ -18,7 +18,7 @@ appended_none name f =
     fun_ext (λ q. elim (bytes_eq q name) as (λ b. (if b then option_map (λ h. h ++ []) (f q) else f q) ≡ f q)
     [ true ↦ none_more (f q) | false ↦ refl ])
 
--- half of the bytes, or none of them, is a front part of them
+-- half of the bytes, or none of them, is a prefix of them
 pub part_of_half : {T : Type 0} (r : Result T OutsideError) (name bytes : List ℕ) (old new : Files)
     → (IsErrOf r Failed → new ≡ with_appended name (take (length bytes / 2) bytes) old) → (IsErrOf r NoMemory → new ≡ old)
     → OnErr r ((k : ℕ) × (Some new ≡ option_map (with_appended name (take k bytes)) (Some old)))

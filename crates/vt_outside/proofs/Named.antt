@@ -1,4 +1,4 @@
--- What a name holds in a map from names to bytes after another came to be in it.
+-- What a name holds in a map from names to bytes after another was added.
 use Rattle.std.proofs.Common.{◌≡◌, ℕ, Bool, true, false, List, Option, Some, refl, sym, ap, ◌∙◌}
 use Rattle.std.specs.Prelude.{option_map, if◌then◌else◌, Vec}
 use Rattle.std.specs.Str.{bytes_eq}

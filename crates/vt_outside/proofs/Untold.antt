@@ -1,4 +1,4 @@
--- What the clauses on a folder that tells nothing come to.
+-- What the clauses on a folder of unknown content say.
 use Rattle.std.proofs.Common.{◌≡◌, ℕ, Bool, true, false, refl, arith, Ok, Err}
 use Rattle.std.specs.Prelude.{Result, IfOk, OnOk, OnErr, IsErrOf, is_err, if◌then◌else◌}
 use Rattle.vt_outside.specs.Counts.{Rose}

@@ -10,7 +10,7 @@ count_end = 2 ^ 64 - 1
 abbrev pub added : ℕ → ℕ → ℕ
 added count more = min (count + more) count_end
 
--- the count rose by at least so many, or has come to the end of its type
+-- the count rose by at least so many, or has reached the end of its type
 abbrev pub RoseBy : ℕ → ℕ → ℕ → Type 0
 RoseBy n before after = added before n ≤ after
 
@@ -18,6 +18,6 @@ RoseBy n before after = added before n ≤ after
 abbrev pub Rose : ℕ → ℕ → Type 0
 Rose = RoseBy 1
 
--- several counts rose together by at least so many: their sum is so much greater, or one of them has come to the end of its type
+-- several counts rose together by at least so many: their sum is so much greater, or one of them has reached the end of its type
 abbrev pub RoseTogetherBy : ℕ → List ℕ → List ℕ → Type 0
 RoseTogetherBy n before after = (sum before + n ≤ sum after) ⊎ IsTrue (list_any (nat_le count_end) after)

@@ -27,7 +27,7 @@ TellsBytes told = IfSome told (λ bytes. All (λ byte. byte < 256) bytes)
 abbrev pub HasPlace : Option (List ℕ) → ℕ → ℕ → Type 0
 HasPlace told at len = IfSome told (λ bytes. at + len ≤ length bytes)
 
--- piece is what stands in the bytes from a place on, and does not pass their end
+-- piece is what is in the bytes from a place on, and does not pass their end
 pub record IsPiece (bytes : List ℕ) (at : ℕ) (piece : List ℕ) : Type 0 where
   pub within : at + length piece ≤ length bytes
   pub same : piece ≡ take (length piece) (drop at bytes)

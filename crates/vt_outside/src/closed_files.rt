@@ -59,7 +59,7 @@ pub fn place_in(closed: &ClosedFiles, name: &str, i: usize) -> Result<Place, usi
     }
 }
 
-// The place of that number, where so many stand before the list.
+// The place of that number, where so many are before the list.
 fn place_at(places: &[Place], i: usize, before: usize) -> Result<Place, usize>
     requires { before ≤ i }
     ensures { MatchResult result

@@ -53,7 +53,7 @@ impl<W: Write> Sink for RealSink<W> {
     }
 }
 
-/// Writes until all the bytes are written; no, after a front part of them, where a write fails or takes none.
+/// Writes until all the bytes are written; no, after a prefix of them, where a write fails or takes none.
 pub fn is_written<W: Write>(writer: &mut W, bytes: &[u8]) -> bool
     ensures written { OnTrue result (Appends (W.contents writer.old) (W.contents writer.new) bytes.now) }
     ensures part { (k : ℕ) × Appends (W.contents writer.old) (W.contents writer.new) (take k bytes.now) }

@@ -103,7 +103,7 @@ line_rises s p limits inside =
     let second = (line.levels j within).1 in
     rw (one, two) (omega (arith, first, second))
 
--- no page stands twice in a line
+-- no page is twice in a line
 pub line_distinct : (s : Shape) (p : ℕ) → IsWithinLimits s → p < pages_of s → IsDistinct nat_eq (ancestors_of s p)
 line_distinct s p limits inside =
     let line = reaches_root s p (omega (arith, limits.least_tile)) limits.least_width limits.least_height inside in

@@ -4,7 +4,7 @@ use Rattle.std.specs.List.{position_or_len}
 use Rattle.vt_pages.specs.Shape.{Shape}
 use Rattle.vt_pages.specs.Pages.{ancestors_of}
 
--- how many pages of a page's line stand before the first that is mapped
+-- how many pages of a page's line are before the first that is mapped
 abbrev pub pages_before : Shape → (ℕ → Bool) → ℕ → ℕ
 pages_before s mapped p = position_or_len mapped (ancestors_of s p)
 
@@ -12,6 +12,6 @@ pages_before s mapped p = position_or_len mapped (ancestors_of s p)
 unfoldable pub lookup : Shape → (ℕ → Bool) → ℕ → Option ℕ
 lookup s mapped p = slice_get (ancestors_of s p) (pages_before s mapped p)
 
--- the next finer page to load for an unmapped page: the page of its ancestor chain that stands just before its look-up
+-- the next finer page to load for an unmapped page: the page of its ancestor chain that is just before its look-up
 unfoldable pub next_finer_page : Shape → (ℕ → Bool) → ℕ → ℕ
 next_finer_page s mapped p = slice_index (ancestors_of s p) (pages_before s mapped p - 1)

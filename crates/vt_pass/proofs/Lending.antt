@@ -49,7 +49,7 @@ module _ {F : Type 0} (g : FileMeanings F) (words : WordsValue) (t : WordStreame
   journal : v.writer.journal ≡ t.streamer.writer.journal
   journal = ap (λ (x : WriterView). x.journal) given.rest
 
-  -- a kit that has asked and given its passes is the same but for what its pictures and its loaders are done with
+  -- a kit that has asked and given its passes is the same but for what its pictures and its loaders use
   given_is : m ≡ record k { samplers = m.samplers; round = l.round }
   given_is = rest ∙ ap (λ (x : KitView F). record x { samplers = m.samplers }) asked
 

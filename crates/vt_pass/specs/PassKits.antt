@@ -10,7 +10,7 @@ use Rattle.vt_loaders.specs.declared.queued.Queues.{Queues}
 use Rattle.vt_streaming.specs.declared.report.StreamReport.{StreamReport}
 use Rattle.vt_word_workers.specs.Kits.{KitView, IsPreparedKit}
 
--- its queues, the pass by which the streamer takes results, what the streamer tells, and what else a pass is done with
+-- its queues, the pass by which the streamer takes results, what the streamer tells, and what else a pass uses
 pub record PassKitView (F : Type 0) : Type 0 where
   pub queues : Queues
   pub answers : QueuePass Loaded

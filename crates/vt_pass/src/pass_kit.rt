@@ -33,11 +33,11 @@ use vt_streamer::Streamer;
 use vt_tiles::Stores;
 use vt_word_workers::{WordKit, WordShared, WordStreamer, new_parts};
 
-/// What a pass over shared words is done with, where the caller holds the words and their streamer: the samplers, the
+/// What a pass over shared words uses, where the caller holds the words and their streamer: the samplers, the
 /// loaders' stores, the queues, and room for what the pass tells. Contracts see the queues and the rest.
 pub struct PassKit<F: File> {
     queues: Queues,
-    // The streamer stands in it while a pass is run, and else a spare one of one frame.
+    // The streamer is in it while a pass is run, and else a spare one of one frame.
     own: WordStreamer,
     kit: WordKit<F>,
 }

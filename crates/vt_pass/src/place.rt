@@ -17,7 +17,7 @@ use vt_journal::Change;
 use vt_outside::NoMemory;
 use vt_streamer::Streamer;
 
-// Frees a frame that no page is mapped to, for which nobody is waited.
+// Frees a frame that no page is mapped to, for which it waits for no sampler.
 fn free_at_once(words: &Words, streamer: &mut Streamer, frame: u32)
     requires of { IsStreamerOf words.now streamer.old }
     requires all_in { AreAllIn streamer.old }
@@ -34,7 +34,7 @@ fn free_at_once(words: &Words, streamer: &mut Streamer, frame: u32)
     }
 }
 
-// Publishes a change, for which nobody is waited.
+// Publishes a change, for which it waits for no sampler.
 fn publish_at_once(words: &Words, streamer: &mut Streamer, change: Change)
     requires of { IsStreamerOf words.now streamer.old }
     requires all_in { AreAllIn streamer.old }

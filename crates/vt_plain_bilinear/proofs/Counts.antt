@@ -1,4 +1,4 @@
--- How many texels of a row's pixels stand in a page.
+-- How many texels of a row's pixels are in a page.
 use Rattle.std.proofs.Common.{◌≡◌, ℕ, ◌+◌, ◌*◌, ◌^◌, ◌<◌, ◌≤◌, Bool, true, false, List, length, slice_index, refl, ap, arith}
 use Rattle.std.specs.Prelude.{◌==◌, if◌then◌else◌}
 use Rattle.vt_pages.specs.Shape.{Shape}

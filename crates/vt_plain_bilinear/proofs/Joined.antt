@@ -6,7 +6,7 @@ use Rattle.std.proofs.lemmas.List.{length-append, drop_all}
 use Rattle.vt_definitions.specs.Depths.{word_bytes, red_of, green_of, blue_of, bytes_from, texel_bytes}
 use Rattle.vt_definitions.specs.Numbers.{number_bytes}
 
--- what stands from a place on are so many bytes, and what stands behind them
+-- what is from a place on are so many bytes, and what is behind them
 cut : (bytes : List ℕ) (from n : ℕ) → from + n ≤ length bytes → drop from bytes ≡ bytes_from bytes from n ++ drop (from + n) bytes
 cut bytes from zero room = ap (λ (i : ℕ). drop i bytes) (let e : from ≡ from + 0 = omega arith in e)
 cut bytes from (suc n) room =

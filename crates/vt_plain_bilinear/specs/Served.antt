@@ -15,7 +15,7 @@ use Rattle.vt_plain_bilinear.specs.declared.served.Memo.{Memo}
 use Rattle.vt_plain_bilinear.specs.Corners.{corners_of, weights_of}
 use Rattle.vt_plain_bilinear.specs.Blends.{blended_word}
 
--- a look-up looks at the same pages and version as before, stands on the same, and says no less
+-- a look-up looks at the same pages and version as before, rests on the same, and says no less
 pub record GoesOn {A : Type 0} (s : Shape) (v : ℕ) (says : Note → Type 0) (a : A) (t : Shape) (w : ℕ) (tells : Note → Type 0) (b : A) : Type 0 where
   pub shape : t ≡ s
   pub version : w ≡ v
@@ -63,11 +63,11 @@ pages_about s k at = record {
 unfoldable pub times_among : Pages → ℕ → ℕ
 times_among pages p = run_of pages.first 1 p + run_of pages.second 1 p + run_of pages.third 1 p + run_of pages.fourth 1 p
 
--- how many of the four texels of each of the first n pixels of a row stand in page p (Mayer 2010)
+-- how many of the four texels of each of the first n pixels of a row are in page p (Mayer 2010)
 unfoldable pub texels_wanting : Shape → RowView → ℕ → ℕ → ℕ
 texels_wanting s row n p = sum_by (λ x. times_among (pages_about s (row_level row) (corners_of row x)) p) (range_with_len 0 n)
 
--- each page's count was raised by how many texels of the first n pixels of a row stand in the page
+-- each page's count was raised by how many texels of the first n pixels of a row are in the page
 abbrev pub AreTexelsCounted : Shape → RowView → ℕ → List ℕ → List ℕ → Type 0
 AreTexelsCounted s row n old new = (p : ℕ) → p < length new → slice_index new p ≡ slice_index old p + texels_wanting s row n p
 

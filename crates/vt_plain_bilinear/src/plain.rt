@@ -225,7 +225,7 @@ fn blend_row<const DEPTH: u32>(chain: &Chain, row: Row, columns: u32, out: &mut 
     }
 }
 
-// The words at some corners of a level whose texels stand row by row, in so many columns and rows.
+// The words at some corners of a level whose texels are row by row, in so many columns and rows.
 #[inline(always)]
 fn texels_about<const DEPTH: u32>(texels: &[u8], columns: u32, rows: u32, at: &Corners) -> Texels
     requires depth { IsDepth DEPTH }

@@ -67,7 +67,7 @@ fn add_texels(counts: &mut [u32], page: u32, many: u32)
     counts[page as usize] += many;
 }
 
-// Counts the four texels of a pixel that stand in one page: one that wants the page of the pixel before it makes that page's run longer,
+// Counts the four texels of a pixel that are in one page: one that wants the page of the pixel before it makes that page's run longer,
 // and any other begins a run.
 #[inline(always)]
 fn count_together(counts: &mut [u32], before: u32, run: u32, page: u32) -> u32

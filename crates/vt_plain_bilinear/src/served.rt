@@ -183,7 +183,7 @@ pub(crate) fn words_by<K: Lookup>(
     }
 }
 
-// The words at some corners of a level that stand in several pages. Few pixels have such, and so it keeps out of their loop.
+// The words at some corners of a level that are in several pages. Few pixels have such, and so it keeps out of their loop.
 #[inline(never)]
 pub(crate) fn words_apart<K: Lookup>(
     lookup: &mut K,

@@ -40,7 +40,7 @@ missing-more s entries ps p =
       test false = ap each_once (map-append (next_finer_page s (is_mapped entries)) (filter (λ q. not (is_mapped entries q)) ps) (p ∷ []))
           ∙ once_more (map (next_finer_page s (is_mapped entries)) (filter (λ q. not (is_mapped entries q)) ps)) (next_finer_page s (is_mapped entries) p)
 
--- what stands at a place of a list whose rest is known
+-- what is at a place of a list whose rest is known
 pub rest_at : (all : List ℕ) (k x : ℕ) (rest : List ℕ) → drop k all ≡ x ∷ rest → (k < length all) × (slice_index all k ≡ x) × (drop (k + 1) all ≡ rest)
 rest_at all k x rest e = (
   inside,

@@ -2,7 +2,7 @@
 use Rattle.std.specs.Prelude.{ℕ, nat_eq, Bool, not, if◌then◌else◌, List, [], ◌∷◌, ◌++◌}
 use Rattle.std.specs.List.{filter, list_any}
 
--- whether a page stands in a list
+-- whether a page is in a list
 abbrev pub is_in : List ℕ → ℕ → Bool
 is_in xs p = list_any (nat_eq p) xs
 

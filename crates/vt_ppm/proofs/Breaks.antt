@@ -81,7 +81,7 @@ then_begins K b g = record {
   next = record { text = g.next.rest; rest = g.rest; spelt = refl; next = g.next.next };
 }
 
--- where no field and white space can stand, no field and one of a spaced kind can
+-- where no field and white space can be, no field and one of a spaced kind can
 pub field_breaks : (K : List ℕ → Type 0) (b : List ℕ) (at : ℕ) (sample : List ℕ) → AreSpaced K → K sample → IsBrokenField b at → Breaks (IsFieldThen K) b at
 field_breaks K b at sample spaced some broken = record {
   within = broken.within;

@@ -1,4 +1,4 @@
--- The field in front, and where none can stand.
+-- The field in front, and where none can be.
 use Rattle.std.proofs.Common.{◌≡◌, ◌≢◌, ◌⊎◌, inl, inr, ℕ, zero, suc, ◌+◌, ◌<◌, ◌≤◌, true, false, List, [], ◌∷◌, ◌++◌, length, get_or, take, drop, refl, sym, ap, ◌∙◌, subst, arith, append_assoc, length-append, length-drop, codes}
 use Rattle.std.specs.List.{list_all, prefix_len}
 use Rattle.std.specs.Char.{is_ascii_digit}
@@ -31,7 +31,7 @@ field_of g ds gap some few all = record {
 gap_begins : (g : List ℕ) → IsGap g → IsFieldFront g
 gap_begins g gap = record { rest = codes "1"; value = digits_value 10 (codes "1"); field = field_of g (codes "1") gap (omega arith) (omega arith) refl }
 
--- where the bytes go on, no field and white space stand in front only if they can stand behind one byte more
+-- where the bytes go on, no field and white space are in front only if they can be behind one byte more
 broken_by : (b : List ℕ) (at : ℕ) → at < length b → IsFieldFront (take at b) → ((rest : List ℕ) → IsFieldAhead (take (at + 1) b ++ rest) → ⊥)
     → IsBrokenField b at
 broken_by b at within front never = record {

@@ -10,7 +10,7 @@ use Rattle.vt_ppm.proofs.Gaps.{white_is_gap}
 use Rattle.vt_ppm.proofs.Fields.{field_of}
 use Rattle.vt_ppm.proofs.Breaks.{IsFieldThen, IsSpace, Begins, Breaks, AreSpaced, space_is_spaced, then_is_spaced, field_breaks, rest_breaks, space_breaks}
 
--- what stands behind the second field, behind the first one, and behind `P6`
+-- what is behind the second field, behind the first one, and behind `P6`
 abbrev pub IsLast : List ℕ → Type 0
 IsLast = IsFieldThen IsSpace
 

@@ -49,7 +49,7 @@ gap_before_digits g h (d ∷ ds) (f ∷ es) s t i j some many hd he e =
 pub field_parts : (f x : List ℕ) (v : ℕ) (i : IsField f v) → f ++ x ≡ i.gap ++ (i.digits ++ x)
 field_parts f x v i = ap (λ xs. xs ++ x) i.spelt ∙ append_assoc i.gap i.digits x
 
--- the gap of a field is the gap before any digits that stand there
+-- the gap of a field is the gap before any digits that are there
 pub gap_of_field : (f x g ds s : List ℕ) (v : ℕ) (i : IsField f v) → IsGap g → 1 ≤ length ds → IsTrue (list_all is_ascii_digit ds)
     → f ++ x ≡ g ++ (ds ++ s) → i.gap ≡ g
 gap_of_field f x g ds s v i j some all e =

@@ -137,7 +137,7 @@ notes_none {T} (Err x) at len places is = subst (λ y. NotesRead {T = T} (Err y)
 pub outside_no_raster : (e : PpmError) → IsOutsideRefusal e → IsRasterRefusal e → ⊥
 outside_no_raster = outside_is (λ e. IsRasterRefusal e → ⊥) (λ never. never) (λ never. never)
 
--- an answer that tells a flaw of bytes is no fault
+-- an answer that names a flaw of bytes is no fault
 pub flaw_answer_no_fault : {T : Type 0} (q : Result T PpmError) (most : ℕ) (b : List ℕ) (P : Type 0) → IfErr q (λ e. IsFlawUpTo most b e)
     → IsErrOf q Failed → P
 flaw_answer_no_fault (Ok x) most b P flaw failed = let none : ⊥ = cc in absurd none

@@ -55,7 +55,7 @@ samples_of_texels d n = grind arith
 pub samples_full : (d n len count : ℕ) → len ≡ texel_length d * n → count ≡ 3 * n → len ≡ d * count
 samples_full d n len count e f = e ∙ samples_of_texels d n ∙ ap (λ k. d * k) (sym f)
 
--- the bytes of a sample that stands among so many texels
+-- the bytes of a sample that is among so many texels
 pub sample_room : (d n k : ℕ) → IsDepth d → n < 3 * k → d * n + d ≤ texel_length d * k
 sample_room d n k depth less = by_depth (λ d. d * n + d ≤ texel_length d * k) (omega (arith, less)) (omega (arith, less)) d depth
 

@@ -23,7 +23,7 @@ header_parts : (xs ys zs : List ℕ) → codes "P6\n" ++ xs ++ codes " " ++ ys +
     ((10 ∷ xs) ++ ((32 ∷ ys) ++ ((10 ∷ zs) ++ (10 ∷ []))))
 header_parts xs ys zs = simp append_assoc
 
--- a list of seven parts stands before another
+-- a list of seven parts is before another
 parts_before : (a b c d e f g xs : List ℕ) → a ++ b ++ c ++ d ++ e ++ f ++ g ++ xs ≡ (a ++ b ++ c ++ d ++ e ++ f ++ g) ++ (xs ++ [])
 parts_before a b c d e f g xs = simp (append_assoc, append-nil)
 

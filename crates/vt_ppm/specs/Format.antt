@@ -46,7 +46,7 @@ pub record IsComment (text : List ℕ) : Type 0 where
   pub one_line : IsTrue (list_all (λ c. not (is_line_end c)) remark)
   pub ended : IsTrue (is_line_end ending)
 
--- what may stand in a gap after its first byte: a white space byte, or a comment
+-- what may be in a gap after its first byte: a white space byte, or a comment
 abbrev pub IsGapPart : List ℕ → Type 0
 IsGapPart text = ((c : ℕ) × (text ≡ c ∷ []) × IsTrue (is_white c)) ⊎ IsComment text
 
@@ -84,7 +84,7 @@ pub record IsHeader (text : List ℕ) (width height maximum : ℕ) : Type 0 wher
   pub maximum_field : IsField third maximum
   pub white : IsTrue (is_white space)
 
--- the bytes begin with a header, after which the raster would stand (the Netpbm manual's P6 page)
+-- the bytes begin with a header, after which the raster would be (the Netpbm manual's P6 page)
 pub record HasHeader (b : List ℕ) (raster width height maximum : ℕ) : Type 0 where
   pub within : raster ≤ length b
   pub early : raster ≤ header_limit

@@ -45,14 +45,14 @@ pub record IsFieldAhead (b : List ℕ) : Type 0 where
   pub field : IsField text value
   pub white : IsTrue (is_white space)
 
--- no field and white space byte stand in front, and byte `at` is the first with which none can
+-- no field and white space byte are in front, and byte `at` is the first with which none can
 pub record IsBrokenField (b : List ℕ) (at : ℕ) : Type 0 where
   pub within : at ≤ length b
   pub none : IsFieldAhead b → ⊥
   pub front : IsFieldFront (take at b)
   pub breaks : (at ≡ length b) ⊎ ((at < length b) × ((rest : List ℕ) → IsFieldAhead (take (at + 1) b ++ rest) → ⊥))
 
--- a field stands from one place to another, and no digit follows
+-- a field reaches from one place to another, and no digit follows
 pub record IsFieldAt (b : List ℕ) (from end value : ℕ) : Type 0 where
   pub len : ℕ
   pub end_is : end ≡ from + len

@@ -2,7 +2,7 @@
 use Rattle.std.specs.Prelude.{ℕ, List, ◌++◌, codes, decimal}
 use Rattle.vt_definitions.specs.Depths.{greatest_sample}
 
--- what stands before the samples: `P6`, the sides and the greatest sample with single blanks and line feeds between (the Netpbm
+-- what is before the samples: `P6`, the sides and the greatest sample with single blanks and line feeds between (the Netpbm
 -- manual's P6 page)
 abbrev pub picture_header : ℕ → ℕ → ℕ → List ℕ
 picture_header depth width height =

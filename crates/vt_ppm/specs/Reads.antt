@@ -15,7 +15,7 @@ pub record IsFrontPlace (told : Option (List ℕ)) (place : Place) : Type 0 wher
   pub few : place.len ≤ header_limit
   pub within : IfSome told (λ b. place.len ≤ length b)
 
--- where the raster stands: behind the header, so many bytes as it has, all of which are there
+-- where the raster is: behind the header, so many bytes as it has, all of which are there
 pub record IsRasterPlace (told : Option (List ℕ)) (place : Place) : Type 0 where
   pub width : ℕ
   pub height : ℕ

@@ -125,7 +125,7 @@ PiecesFailed h n before after =
     after ≡ option_map (λ places. places ++ (piece_places h n ++ piece_place h true n ∷ [])) before
 
 -- what is asked to look so many rows over from one on, by the answer: their place, whose read failed or did not; and a sample above the
--- maximum stands in it
+-- maximum is in it
 abbrev pub ChecksRows : Header → ℕ → ℕ → {T : Type 0} → Result T PpmError → Option (List Place) → Option (List Place) → Type 0
 ChecksRows h y count (Ok _) before after = RowsAsked h y count false before after
 ChecksRows h y count (Err (SampleOver at)) before after = (at < row_start h (y + count)) × RowsAsked h y count false before after

@@ -111,7 +111,7 @@ fn number_of(digits: &[u8]) -> u64
     value
 }
 
-/// The field from a place on; or the first byte with which no field and white space can stand there, which is the length
+/// The field from a place on; or the first byte with which no field and white space can be there, which is the length
 /// where the bytes end too soon.
 pub fn field_at(bytes: &[u8], from: usize) -> Result<Field, usize>
     requires { from ≤ length bytes.now }

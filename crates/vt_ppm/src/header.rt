@@ -54,7 +54,7 @@ fn has_magic(bytes: &[u8]) -> bool
     bytes.len() >= 2 && bytes[0] == b'P' && bytes[1] == b'6'
 }
 
-// The header in front; or the first byte with which none can stand there, which is the length where the bytes end too
+// The header in front; or the first byte with which none can be there, which is the length where the bytes end too
 // soon.
 fn first_header(head: &[u8]) -> Result<Spelled, usize>
     requires few { length head.now ≤ header_limit }

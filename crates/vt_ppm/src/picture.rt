@@ -46,7 +46,7 @@ fn picture(
     Ok(bytes)
 }
 
-// What stands before the samples of a picture.
+// What is before the samples of a picture.
 fn header(alloc: Global, depth: u32, width: u32, height: u32) -> Result<Vec<u8>, NoMemory>
     requires { IsDepth depth }
     ensures { IfOk result (λ bytes. bytes.items ≡ picture_header depth width height) }
@@ -55,7 +55,7 @@ fn header(alloc: Global, depth: u32, width: u32, height: u32) -> Result<Vec<u8>,
     Ok(format!(in alloc; "P6\n{width} {height}\n{maximum}\n")?.into_bytes())
 }
 
-/// Makes a buffer hold what stands before the samples of a picture, each of `depth` bytes, 1 or 2, so that the samples can be added
+/// Makes a buffer hold what is before the samples of a picture, each of `depth` bytes, 1 or 2, so that the samples can be added
 /// behind it. After want of memory it may hold anything.
 pub fn begin_picture(
     bytes: &mut Vec<u8>,

@@ -1,4 +1,4 @@
-//! Where the rows of a texture stand in its file.
+//! Where the rows of a texture are in its file.
 ghost use Rattle.std.specs.Prelude.{◌≡◌, ◌+◌, ◌*◌, ◌≤◌, MatchBool};
 ghost use Rattle.vt_definitions.specs.Limits.{header_limit, most_tiled_side};
 ghost use Rattle.vt_ppm.specs.Strips.{IsTextureHeader, MayBeOver, row_length, row_start, piece_rows, pieces_of};

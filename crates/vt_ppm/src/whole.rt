@@ -1,4 +1,4 @@
-//! Bytes that are all at hand are looked over.
+//! Bytes in memory are looked over.
 ghost use Rattle.std.specs.Prelude.{IfSome, IfNone};
 ghost use Rattle.vt_ppm.specs.Format.{IsImage};
 ghost use Rattle.vt_ppm.specs.Flaws.{IsImageFlaw};
@@ -8,7 +8,7 @@ use crate::PpmError;
 use crate::header::{HEADER_LIMIT, MOST_READ_SIDE, lawful_header, raster_length};
 use crate::raster::over_at;
 
-/// The first flaw of bytes that are all at hand, and none where they spell an image. It takes no memory.
+/// The first flaw of bytes in memory, and none where they spell an image. It takes no memory.
 pub fn image_flaw(bytes: &[u8]) -> Option<PpmError>
     ensures none { IfNone result ((p : ImageView) × IsImage bytes.now p) }
     ensures some { IfSome result (λ e. IsImageFlaw bytes.now e) }

@@ -25,7 +25,7 @@ whole pieces i d inside = (
       ∙ ap (λ (ps : List (Bor (List ℕ))). joined (take i pieces) ++ joined ps) (drop-cons pieces i d inside),
 )
 
--- a front part of the next piece after the first ones is a front part of the whole
+-- a prefix of the next piece after the first ones is a prefix of the whole
 pub part_of_joined : (pieces : List (Bor (List ℕ))) (i : ℕ) (d : Bor (List ℕ)) (k : ℕ) → i < length pieces
     → (j : ℕ) × (joined (take i pieces) ++ take k (get_or pieces i d).now ≡ take j (joined pieces))
 part_of_joined pieces i d k inside =

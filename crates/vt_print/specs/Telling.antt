@@ -3,7 +3,7 @@ use Rattle.std.specs.Prelude.{◌≡◌, ◌⊎◌, ℕ, List, take, Option, opt
 use Rattle.vt_outside.specs.Counts.{Rose}
 use Rattle.vt_outside.specs.Files.{gained}
 
--- a sink gained the text, or a front part of it where one of its counts rose
+-- a sink gained the text, or a prefix of it where one of its counts rose
 abbrev pub Tells : List ℕ → Option (List ℕ) → Option (List ℕ) → ℕ → ℕ → ℕ → ℕ → Type 0
 Tells text before after faults_before faults_after refusals_before refusals_after =
     (after ≡ option_map (gained text) before)

@@ -8,7 +8,7 @@ ghost use Rattle.vt_print.specs.Telling.{Tells};
 
 use vt_outside::{OutsideError, Sink};
 
-/// Puts the pieces one after another, without those that have no bytes. The first that is refused ends it: then a front part of
+/// Puts the pieces one after another, without those that have no bytes. The first that is refused ends it: then a prefix of
 /// the whole was put.
 pub fn put_pieces<S: Sink>(sink: &mut S, pieces: &[&[u8]]) -> Result<(), OutsideError>
     ensures whole { OnOk result (S.held sink.new ≡ option_map (gained (joined pieces.now)) (S.held sink.old)) }

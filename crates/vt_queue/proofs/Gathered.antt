@@ -49,7 +49,7 @@ module _ {X Y : Type 0} (f : X → List Y) where
   gathered_same views port v w at e = IsPermutation-trans _ _ _ (shuffled_as _ _ (sym (append_nil _)))
       (gathered_more views port v w [] at (e ∙ sym (append_nil (f v))))
 
-  -- One view has nothing any more: what it had stood among what all had.
+  -- One view has nothing any more: what it had was among what all had.
   pub gathered_less : (views : List X) (port : ℕ) (v w : X) → get_elem? views port ≡ some v → f w ≡ []
       → IsPermutation (gathered f views) (gathered f (set views port w) ++ f v)
   gathered_less [] port v w at e = absurd (some-ne-none v (sym at))

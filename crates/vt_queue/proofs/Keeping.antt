@@ -24,7 +24,7 @@ module _ {I : Type 0} where
   busy : (v : PassView I) → 0 < v.shares → IsIdle v
   busy v live = record { puts = λ none. absurd (omega (arith, none, live)); takes = λ none. absurd (omega (arith, none, live)) }
 
-  -- What a view has stands in the order of all.
+  -- What a view has is in the order of all.
   own : (f : PassView I → List (ℕ × I)) (order : List I) (views : List (PassView I)) (port : ℕ) (v : PassView I)
       → IsPermutation (placed 0 order) (gathered f views) → get_elem? views port ≡ some v → All (Contains (placed 0 order)) (f v)
   own f order views port v moved at = let In : ℕ × I → Type 0 = Contains (placed 0 order) in
@@ -63,7 +63,7 @@ module _ {I : Type 0} where
   longer a b more e v h = All-weaker (Contains (placed 0 a)) (Contains (placed 0 b))
       (λ y c. subst (λ l. Contains l y) (sym e) (Contains-append_left (placed 0 a) more y c)) v.known h
 
-  -- A view that knows the same may stand in the place of another.
+  -- A view that knows the same may be in the place of another.
   still_right : (order : List I) (views : List (PassView I)) (port : ℕ) (v w : PassView I) → get_elem? views port ≡ some v
       → w.known ≡ v.known
       → All (KnowsRight order) views → All (KnowsRight order) (set views port w)

@@ -33,7 +33,7 @@ module _ {I : Type 0} where
   read_at [] x xs = refl
   read_at (y ∷ front) x xs = read_at front x xs
 
-  -- Each entry's item stands at its place.
+  -- Each entry's item is at its place.
   placed_read : (front xs : List I) → All (λ (e : ℕ × I). get_elem? (front ++ xs) e.0 ≡ some e.1) (placed (length front) xs)
   placed_read front [] = All-nil (λ e. get_elem? (front ++ []) e.0 ≡ some e.1)
   placed_read front (x ∷ xs) =

@@ -9,7 +9,7 @@ pub record IsIdle {I : Type 0} (v : PassView I) : Type 0 where
   pub puts : v.shares ≡ 0 → v.put ≡ []
   pub takes : v.shares ≡ 0 → v.took ≡ []
 
--- What it knows stands in the order.
+-- What it knows is in the order.
 abbrev pub KnowsRight : {I : Type 0} → List I → PassView I → Type 0
 KnowsRight order v = All (Contains (placed 0 order)) v.known
 

@@ -4,7 +4,7 @@ use Rattle.vt_queue.specs.declared.views.PassView.{PassView}
 use Rattle.vt_queue.specs.PassViews.{pass_view, all_shares}
 use Rattle.vt_queue.specs.Orders.{placed}
 
--- At a step at which these items are left in the queue, others were taken before: what the pass knows and put stands in the
+-- At a step at which these items are left in the queue, others were taken before: what the pass knows and put is in the
 -- order of both, what it took is among those taken, and if it is whole, that is all that was put and taken.
 pub record IsAtStep {I : Type 0} (v : PassView I) (left : List I) : Type 0 where
   pub gone : List I
@@ -15,7 +15,7 @@ pub record IsAtStep {I : Type 0} (v : PassView I) (left : List I) : Type 0 where
   pub all_puts : v.shares ≡ all_shares → IsPermutation (placed 0 (gone ++ left)) v.put
   pub all_takes : v.shares ≡ all_shares → IsPermutation (placed 0 gone) v.took
 
--- One more item was put: it stands last in the queue, and behind all that the pass knew and had put.
+-- One more item was put: it is last in the queue, and behind all that the pass knew and had put.
 pub record Puts {I : Type 0} (v : PassView I) (x : I) (w : PassView I) : Type 0 where
   pub place : ℕ
   pub is : w ≡ pass_view v.shares v.known (v.put ++ (place, x) ∷ []) v.took
@@ -25,7 +25,7 @@ pub record Puts {I : Type 0} (v : PassView I) (x : I) (w : PassView I) : Type 0 
   pub at_step : IsAtStep w (ahead ++ x ∷ [])
   pub at_end : place ≡ length (at_step.gone ++ ahead)
 
--- One more item was taken: it stood first in the queue, and behind all that the pass had taken.
+-- One more item was taken: it was first in the queue, and behind all that the pass had taken.
 pub record Takes {I : Type 0} (v : PassView I) (x : I) (w : PassView I) : Type 0 where
   pub place : ℕ
   pub is : w ≡ pass_view v.shares v.known v.put (v.took ++ (place, x) ∷ [])

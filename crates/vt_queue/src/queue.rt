@@ -22,7 +22,7 @@ pub struct QueuePass<I> {
     pub(crate) splits: u64,
 }
 
-/// The rule of a queue: all that was put stands in one order, and what was taken is its front.
+/// The rule of a queue: all that was put is in one order, and what was taken is its front.
 pub struct OneOrder;
 
 impl<I> Protocol<I, PassView<I>> for OneOrder {

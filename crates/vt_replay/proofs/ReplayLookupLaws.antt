@@ -55,7 +55,7 @@ row_full y rows line bytes low all =
     let room = row_room y rows line (length bytes) low all in
     length-between bytes (y * line) (y * line + line) (omega (arith, room)) ∙ omega arith
 
--- what a look-up that missed no tile says is true of its page table over the store whose tiles are at hand
+-- what a look-up that missed no tile says is true of its page table over the store whose tiles are loaded
 pub true_replay_lookup : (t : ReplayLookupView) (b : List ℕ) (version : ℕ) → t.missed ≡ false → IsStore b t.shape t.depth
     → AreTiles t.shape t.depth t.size t.slots t.owners t.bytes (Some b)
     → AreTrue t.shape (stored b) (entries_of t.entries) version (IsTrueOf t)

@@ -1,4 +1,4 @@
--- Rows that were drawn over the tiles at hand: none, one, some and then others, and those of two parts.
+-- Rows that were drawn over the loaded tiles: none, one, some and then others, and those of two parts.
 use Rattle.std.proofs.Common.{◌≡◌, ◌≢◌, ◌⊎◌, ℕ, ◌+◌, ◌-◌, ◌*◌, ◌<◌, ◌≤◌, inl, inr, Bool, true, false, Option, List, ◌++◌, length, take, drop, set, get_or, refl, sym, ap, ◌∙◌, subst, length-drop, arith}
 use Rattle.std.specs.Prelude.{slice_set}
 use Rattle.std.proofs.lemmas.Bool.{cases_lt, false≢true}

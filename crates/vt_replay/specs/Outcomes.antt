@@ -25,7 +25,7 @@ abbrev pub HoldsReplay : Under → Shape → ℕ → Option (List ℕ) → PathV
 HoldsReplay under s d told path prefix content before after =
     (b : List ℕ) → told ≡ Some b → after ≡ option_map (with_files (expected_replay under s d b path prefix content)) before
 
--- where the store tells its bytes, a part of the pictures is there: some whole, and of the next at most a front part
+-- where the store tells its bytes, a part of the pictures is there: some whole, and of the next at most a prefix
 abbrev pub HoldsPart : Under → Shape → ℕ → Option (List ℕ) → PathView → List ℕ → Content → Option Files → Option Files → Type 0
 HoldsPart under s d told path prefix content before after =
     (b : List ℕ) → told ≡ Some b → IsPart (expected_replay under s d b path prefix content) before after

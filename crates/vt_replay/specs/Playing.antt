@@ -69,7 +69,7 @@ pub record IsStaged {F : Type 0} (g : FileMeanings F) (s : Shape) (d width heigh
   pub counts_size : length counts ≡ pages_of s
   pub store_is : IsStoreIfTold (g.bytes store.file) s d
 
--- the files came to be, or where the call was refused a part of them: some whole, and of the next at most a front part
+-- the files exist, or where the call was refused a part of them: some whole, and of the next at most a prefix
 abbrev pub HasWritten : {T : Type 0} → List ExpectedFile → Option Files → Option Files → Result T OutsideError → Type 0
 HasWritten expected before after (Ok _) = after ≡ option_map (with_files expected) before
 HasWritten expected before after (Err _) = IsPart expected before after

@@ -73,7 +73,7 @@ abbrev pub entry_number : Option ℕ → ℕ
 entry_number None = 0
 entry_number (Some frame) = frame + 1
 
--- the tile of a page is at hand and has a word at a place
+-- the tile of a page is loaded and has a word at a place
 abbrev pub HasWord : ReplayLookupView → ℕ → ℕ → ℕ → Type 0
 HasWord v page place word = (slot : ℕ) × IsIn v.slots v.owners page slot × (word ≡ word_at v.depth (row_of v.size v.bytes slot) place)
 

@@ -1,4 +1,4 @@
--- Rows of a picture that are drawn over the tiles at hand, some of them at once.
+-- Rows of a picture that are drawn over the loaded tiles, some of them at once.
 use Rattle.std.specs.Prelude.{◌≡◌, ℕ, ◌+◌, ◌*◌, ◌<◌, ◌≤◌, Bool, true, false, Option, Some, List, length, slice_index_or}
 use Rattle.vt_definitions.specs.Depths.{IsDepth, texel_length}
 use Rattle.vt_pages.specs.Shape.{Shape}
@@ -60,7 +60,7 @@ pub record MayTry (shot : Shot) (v : ReplayLookupView) (first rows bytes : ℕ) 
   pub inside : first + rows ≤ shot.path.now.height
   pub room : bytes ≡ rows * (texel_length shot.depth * shot.path.now.width)
 
--- such rows were drawn as far as the tiles at hand go, whatever store these are of
+-- such rows were drawn as far as the loaded tiles go, whatever store these are of
 abbrev pub HasTried : Under → Shot → ReplayLookupView → ℕ → List Bool → List Bool → List ℕ → List ℕ → Type 0
 HasTried under shot v first left after samples new = (told : Option (List ℕ)) → HoldsTiles shot.geometry.now shot.depth v told
     → AreTried (texel_length shot.depth * shot.path.now.width) first

@@ -1,4 +1,4 @@
-//! The rows of a version in parts, drawn beside one another over the tiles at hand.
+//! The rows of a version in parts, drawn beside one another over the loaded tiles.
 
 ghost use Rattle.std.specs.Prelude.{◌≡◌, ℕ, true, ◌+◌, ◌*◌, ◌<◌, ◌≤◌, ◌^◌, Bool, List, Option, length, slice_index, OnOk};
 ghost use Rattle.std.specs.Thread.{IsSync};
@@ -137,7 +137,7 @@ fn try_next<P: Filter>(
     left[k] = tried.missed;
 }
 
-// Draws the rows of a part that are left, as far as the tiles at hand go. The counts are scratch room.
+// Draws the rows of a part that are left, as far as the loaded tiles go. The counts are scratch room.
 fn try_rows<P: Filter>(
     replay_lookup: &ReplayLookup<'_>,
     shot: &Shot,
@@ -218,7 +218,7 @@ fn place_behind(left: &[bool], count: usize) -> usize
     left.len()
 }
 
-// Draws the rows that are left as far as the tiles at hand go, in so many parts, by halves, each with about as many of these rows. Where
+// Draws the rows that are left as far as the loaded tiles go, in so many parts, by halves, each with about as many of these rows. Where
 // no thread can be made, one part is drawn after the other.
 fn try_beside<Rt: Threads + Sync, P: Filter + Sync>(
     rt: &Rt,
@@ -287,7 +287,7 @@ fn try_beside<Rt: Threads + Sync, P: Filter + Sync>(
     );
 }
 
-// Draws the rows of a picture that are left over a table and the tiles at hand, in so many parts.
+// Draws the rows of a picture that are left over a table and the loaded tiles, in so many parts.
 fn try_in_parts<Rt: Threads + Sync, P: Filter + Sync>(
     rt: &Rt,
     table: &PageTable,

@@ -1,4 +1,4 @@
-//! Rows of a picture, each drawn over the page table of its version and the tiles that are at hand, which are read as a row needs them.
+//! Rows of a picture, each drawn over the page table of its version and the loaded tiles, which are read as a row needs them.
 
 ghost use Rattle.std.specs.Prelude.{◌≡◌, ◌≢◌, ℕ, ◌+◌, ◌*◌, ◌<◌, ◌≤◌, ◌^◌, false, Bool, List, Option, length, slice_index, OnOk};
 ghost use Rattle.vt_definitions.specs.Depths.{IsDepth, texel_length};
@@ -20,7 +20,7 @@ use vt_filter::Filter;
 use vt_outside::{File, OutsideError};
 use vt_tiles::Store;
 
-/// What came of a row that was drawn over the tiles at hand: whether one was missed, and which pages were used and which missing.
+/// What came of a row that was drawn over the loaded tiles: whether one was missed, and which pages were used and which missing.
 #[derive(Clone, Copy)]
 pub(crate) struct Tried {
     pub missed: bool,
@@ -28,7 +28,7 @@ pub(crate) struct Tried {
     pub missing: Noted,
 }
 
-/// Draws row `y` of a picture over a table and the tiles at hand, as a look-up over these sees them. It is drawn where no tile was missed.
+/// Draws row `y` of a picture over a table and the loaded tiles, as a look-up over these sees them. It is drawn where no tile was missed.
 pub(crate) fn try_line<P: Filter>(
     replay_lookup: &ReplayLookup<'_>,
     shot: &Shot,
@@ -62,7 +62,7 @@ pub(crate) fn try_line<P: Filter>(
     }
 }
 
-// Draws row y of a picture over a table and the tiles at hand, by a look-up of its own.
+// Draws row y of a picture over a table and the loaded tiles, by a look-up of its own.
 fn try_once<P: Filter>(
     table: &PageTable,
     tiles: &Tiles,
@@ -136,7 +136,7 @@ pub(crate) fn clear(counts: &mut [u32])
 }
 
 // Draws row y of a picture over a table: anew each time that it missed tiles, after these were read. Each time one tile more that
-// the row needs is at hand, so as many times as it has pixels are enough, but where the set has no room for all that it needs.
+// the row needs is loaded, so as many times as it has pixels are enough, but where the set has no room for all that it needs.
 fn draw_line<P: Filter, F: File>(
     table: &PageTable,
     tiles: &mut Tiles,

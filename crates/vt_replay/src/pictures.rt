@@ -26,7 +26,7 @@ use vt_tiles::Store;
 /// `BadJournal` comes exactly for the first line that the journal's reader refuses or that names a picture that the path has
 /// not, before anything is written; `Failed` only where the folder's count of faults rose above what it was with that of the
 /// store's file; `NoMemory` where memory was refused, and where one row needs more tiles than 8,388,608 texels make, which no
-/// journal of a walk does. After the latter two some pictures are whole, and of the next a front part may be there.
+/// journal of a walk does. After the latter two some pictures are whole, and of the next a prefix may be there.
 pub fn replay<Rt: Threads + Sync, D: Folder>(
     rt: &Rt,
     alloc: Global,

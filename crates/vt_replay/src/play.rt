@@ -37,7 +37,7 @@ use vt_outside::{File, Folder, NoMemory, OutsideError};
 use vt_pages::Geometry;
 use vt_tiles::Store;
 
-/// The table that follows the journal, the tiles that are at hand, and the room to draw in: the samples of a picture, a count for each page,
+/// The table that follows the journal, the loaded tiles, and the room to draw in: the samples of a picture, a count for each page,
 /// and what threads draw with beside one another.
 #[derive(Drop)]
 pub(crate) struct Stage {
@@ -81,7 +81,7 @@ fn stage_of(
     })
 }
 
-// What stands before the first pass: a table and a set of tiles that are empty, and the room to draw in.
+// What is there before the first pass: a table and a set of tiles that are empty, and the room to draw in.
 fn first_stage<Rt: Threads>(
     rt: &Rt,
     alloc: Global,

@@ -16,7 +16,7 @@ use vt_definitions::word_in;
 use vt_draw::{Found, Lookup, place_of};
 use vt_pages::Geometry;
 
-/// A look-up of pages in a page table, which maps the root, over the tiles that are at hand. A page whose tile is not there is
+/// A look-up of pages in a page table, which maps the root, over the loaded tiles. A page whose tile is not there is
 /// noted, and what is told of its texels means nothing (van Waveren 2012). Contracts see what is looked at, and whether a tile was
 /// missed.
 #[derive(Drop)]
@@ -25,7 +25,7 @@ pub(crate) struct ReplayLookup<'a> {
     table: &'a PageTable,
     tiles: &'a Tiles,
     depth: u32,
-    // The page that was found last, and its tile, if it was at hand.
+    // The page that was found last, and its tile, if it was loaded.
     page: u32,
     tile: Option<&'a [u8]>,
     missed: bool,
@@ -129,7 +129,7 @@ impl<'a> ReplayLookup<'a> {
         self.missed
     }
 
-    /// The pages whose tiles were at hand.
+    /// The pages whose tiles were loaded.
     pub(crate) fn used(&self) -> Noted {
         self.used
     }
@@ -141,7 +141,7 @@ impl<'a> ReplayLookup<'a> {
 }
 
 impl ReplayLookup<'_> {
-    // The word at a place of the tile of a page. It means nothing where the tile is not at hand.
+    // The word at a place of the tile of a page. It means nothing where the tile is not loaded.
     #[inline(always)]
     fn word_of(&self, page: u32, place: u32) -> u64
         requires { place < self.now.shape.tile * self.now.shape.tile }
@@ -154,7 +154,7 @@ impl ReplayLookup<'_> {
         }
     }
 
-    // The word at a place of the tile of a page that was not found last, or 0 where that is not at hand.
+    // The word at a place of the tile of a page that was not found last, or 0 where that is not loaded.
     fn far_word(&self, page: u32, place: u32) -> u64
         requires { place < self.now.shape.tile * self.now.shape.tile }
         ensures { (slot : ℕ) → IsIn self.now.slots self.now.owners page slot

@@ -1,4 +1,4 @@
-//! How many tiles a replay keeps at hand.
+//! How many tiles a replay keeps loaded.
 
 ghost use Rattle.std.specs.Prelude.{◌*◌, ◌≤◌};
 ghost use Rattle.vt_definitions.specs.Limits.{most_frame_texels};
@@ -6,7 +6,7 @@ ghost use Rattle.vt_definitions.specs.Limits.{most_frame_texels};
 use vt_journal::{Change, Journal};
 use vt_pages::Geometry;
 
-// How many texels the tiles at hand have together at most: those of the frames of a walk.
+// How many texels the loaded tiles have together at most: those of the frames of a walk.
 const MOST_TEXELS: u32 = 8_388_608;
 
 const _LIMIT: () = prove!(MOST_TEXELS == 8_388_608);

@@ -65,7 +65,7 @@ impl Tiles {
         })
     }
 
-    /// The slot of a page's tile, if it is at hand.
+    /// The slot of a page's tile, if it is loaded.
     #[inline]
     pub(crate) fn slot_of(&self, page: u32) -> Option<u32>
         ensures slot { MatchOption result (IsHeld self.now.slots.items self.now.owners.items page → ⊥)
@@ -79,7 +79,7 @@ impl Tiles {
         }
     }
 
-    /// A page's tile, if it is at hand.
+    /// A page's tile, if it is loaded.
     #[inline]
     pub(crate) fn tile_of(&self, page: u32) -> Option<&[u8]>
         requires { length self.now.bytes.items ≡ length self.now.owners.items * self.now.size }
@@ -242,7 +242,7 @@ impl Tiles {
         }
     }
 
-    // Makes the slot of a page's tile the most recently used one, if the tile is at hand.
+    // Makes the slot of a page's tile the most recently used one, if the tile is loaded.
     fn touch_page(&mut self, page: u32)
         ensures size { self.new.size ≡ self.old.size }
         ensures slots { self.new.slots.items ≡ self.old.slots.items }

@@ -6,7 +6,7 @@ use Rattle.std.proofs.lemmas.Bool.{false≢true}
 use Rattle.vt_plan.specs.PageLists.{is_in}
 use Rattle.vt_plan.proofs.ListLemmas.{nat_eq_true}
 
--- a page that stands in a list stands at a place of it
+-- a page that is in a list is at a place of it
 pub in_found : (xs : List ℕ) (p : ℕ) → is_in xs p ≡ true → (k : ℕ) × (k < length xs) × (slice_index xs k ≡ p)
 in_found [] p e = absurd (false≢true e)
 in_found (x ∷ xs) p e = step (nat_eq p x) refl e (in_found xs p) where

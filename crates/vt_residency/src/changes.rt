@@ -38,7 +38,7 @@ pub fn change_count(loads: &[Planned]) -> usize
     count
 }
 
-// Writes the changes of a load behind those that stand at the front of a list.
+// Writes the changes of a load behind those that are at the front of a list.
 fn put(load: &Planned, out: &mut [Change], from: usize)
     requires { from + length (changes_of load.now) ≤ length out.old }
     ensures changes { take (from + length (changes_of load.now)) out.new ≡ take from out.old ++ changes_of load.now }

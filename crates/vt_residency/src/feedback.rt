@@ -53,7 +53,7 @@ pub fn add_counts(tally: &mut Tally, pages: u32, pixels: &[u32])
     }
 }
 
-/// Adds a list of pages with numbers of pixels to a tally of no pixel. A page may stand in it several times.
+/// Adds a list of pages with numbers of pixels to a tally of no pixel. A page may be in it several times.
 pub fn add_listed(tally: &mut Tally, pages: u32, list: &[Listed])
     requires tally { IsTally pages tally.old.counts.items tally.old.pages }
     requires none { tally.old.pages.elements ≡ [] }

@@ -10,7 +10,7 @@ use borrow.Rule.Slice.PartMut.{put_mid}
 use Rattle.vt_sampler.specs.Samplers.{row_in}
 use Rattle.vt_sampler.proofs.Quotients.{quotient_before, apart}
 
--- what stands before a piece that is written
+-- what is before a piece that is written
 before_mid : (at k : ℕ) (xs ys : List ℕ) (i j : ℕ) → at ≤ length xs → i ≤ j → j ≤ at
     → slice_range (put_mid at k xs ys) i j ≡ slice_range xs i j
 before_mid at k xs ys i j room low high =

@@ -7,7 +7,7 @@ use Rattle.vt_camera.specs.Paths.{PathView}
 use Rattle.vt_words.specs.declared.filters.Filtering.{Filtering}
 use Rattle.vt_store_commands.specs.Pictures.{plain_file, samples_by}
 
--- the parts of a header stand before samples
+-- the parts of a header are before samples
 header_before : (xs ys zs samples : List ℕ) → (codes "P6\n" ++ xs ++ codes " " ++ ys ++ codes "\n" ++ zs ++ codes "\n") ++ samples
     ≡ codes "P6\n" ++ xs ++ codes " " ++ ys ++ codes "\n" ++ zs ++ codes "\n" ++ samples
 header_before xs ys zs samples = simp append_assoc

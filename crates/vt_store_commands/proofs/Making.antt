@@ -90,7 +90,7 @@ header_whole f0 f1 f2 name header number w h is held added =
     added ∙ ap (option_map (with_appended name header)) held ∙ told-bytes-appended name [] header f0
     ∙ ap (λ (l : List ℕ). option_map (with_bytes name l) f0) (is ∙ front_none number w h)
 
--- a front part of it was
+-- a prefix of it was
 pub header_part : (f0 f1 f2 : Option Files) (name header : List ℕ) (number w h : ℕ) → header ≡ picture_bytes 1 w h []
     → f1 ≡ option_map (with_bytes name []) f0 → (k : ℕ) × (f2 ≡ option_map (with_appended name (take k header)) f1)
     → (j : ℕ) × (f2 ≡ option_map (with_bytes name (take j (made_file number w h))) f0)
@@ -107,7 +107,7 @@ row_whole f0 f1 f2 name row number w h y is held added =
     ∙ ap (λ (l : List ℕ). option_map (with_bytes name l) f0)
     (ap (λ (l : List ℕ). made_front number w h y ++ l) is ∙ front_more number w h y)
 
--- a front part of it was
+-- a prefix of it was
 pub row_part : (f0 f1 f2 : Option Files) (name row : List ℕ) (number w h y : ℕ) → y < h → row ≡ made_row number y w
     → f1 ≡ option_map (with_bytes name (made_front number w h y)) f0
     → (k : ℕ) × (f2 ≡ option_map (with_appended name (take k row)) f1)

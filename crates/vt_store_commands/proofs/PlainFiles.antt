@@ -1,4 +1,4 @@
--- Files that stand one behind the other in a room.
+-- Files that lie one behind the other in a room.
 use Rattle.std.proofs.Common.{◌≡◌, ℕ, ◌+◌, ◌-◌, ◌*◌, ◌<◌, ◌≤◌, List, [], ◌++◌, length, take, drop, refl, sym, ap, subst, ◌∙◌, append_assoc, length-append, take-append-drop, inl, inr, arith, codes, decimal}
 use Rattle.std.specs.List.{flat_map, range_with_len}
 use Rattle.std.proofs.lemmas.List.{append-nil, take_at, drop_at}
@@ -136,7 +136,7 @@ module _ (file : ℕ → List ℕ) where
         ∙ ap (take m) (drop_at before (file picture ++ (after ++ rest)) (size * (picture - first)) (between_length first picture))
         ∙ take_at (file picture) (after ++ rest) m (each picture ∙ sym is)
 
-    -- one file more stands in a room
+    -- one file more is in a room
     pub file_put : (first picture k : ℕ) (out drawn : List ℕ) → first ≤ picture → size * (picture - first) ≤ length out → drawn ≡ file picture
         → take (size * (picture - first)) out ≡ files_between file first picture
         → take (size * (picture + 1 - first)) (put_mid (size * (picture - first)) k out drawn) ≡ files_between file first (picture + 1)
@@ -195,7 +195,7 @@ holds_front p first end n front rest room space same made is = record {
       ∙ take_at (files_between (file_of p) first end) rest (file_size p * (end - first)) (between_length (file_of p) (file_size p) (length-file p space.has) first end);
 }
 
--- a room that holds files, as the files and what stands behind them
+-- a room that holds files, as the files and what is behind them
 pub held_parts : (p : PlainPictures) (first end : ℕ) (room : List ℕ) → HoldsFiles p first end room
     → room ≡ files_between (file_of p) first end ++ drop (file_size p * (end - first)) room
 held_parts p first end room holds =

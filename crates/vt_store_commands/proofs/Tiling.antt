@@ -146,7 +146,7 @@ unfolding store_file
 store_written name new tile header file before opened after o w =
     expected_written (made_store header tile) (AreStrips header tile) new file before opened after o.tells o.files o.faults w
 
--- a front part of it was
+-- a prefix of it was
 pub store_stopped : (name new : List ℕ) (tile : ℕ) (header : Header) (file : FileState) (before opened after : FolderState) (error : OutsideError)
     → OpensTexture name header file (record { before = before; after = opened })
     → WritesMade file (made_store header tile) (AreStrips header tile) new (record { before = opened; after = after }) (Err error)

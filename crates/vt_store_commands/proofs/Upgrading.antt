@@ -50,7 +50,7 @@ wide_written shape name before mid after old new h asked same none faults c =
     made_written (upgraded_file shape) (ArePieces shape) name before mid after old new (piece_places shape 1 (pieces_of shape))
     (made_whole old.bytes shape name before.files mid.files h) (pieces_of shape, omega arith, inl refl) asked same none faults c
 
--- a front part of it was written, and the file closed
+-- a prefix of it was written, and the file closed
 pub wide_stopped : (shape : Shape) (name : List ℕ) (before mid after : FolderState) (old new : FileState) (error : OutsideError)
     → (mid.files ≡ before.files) ⊎ HoldsFront old.bytes shape name before.files mid.files → FrontAsked shape 1 old.asked new.asked
     → (error ≡ Failed → Rose before.faults mid.faults ⊎ Rose old.faults new.faults)
@@ -107,7 +107,7 @@ pub new_written : (name new : List ℕ) (shape : Shape) (depth : ℕ) (file : Fi
 new_written name new shape depth file before opened after o w =
     expected_written (upgraded_file shape) (ArePieces shape) new file before opened after o.tells o.files o.faults w
 
--- a front part of it was
+-- a prefix of it was
 pub new_stopped : (name new : List ℕ) (shape : Shape) (depth : ℕ) (file : FileState) (before opened after : FolderState) (error : OutsideError)
     → OpensStore name shape depth file (record { before = before; after = opened })
     → WritesMade file (upgraded_file shape) (ArePieces shape) new (record { before = opened; after = after }) (Err error)

@@ -26,7 +26,7 @@ elsewhere : (m : Table) (c : Change) (q : ℕ) → q ≢ change_page c → m q �
 elsewhere m (Map p f) q other = sym (entry-other m p q (Some f) other)
 elsewhere m (Unmap p f) q other = sym (entry-other m p q None other)
 
--- a bank that stands as a table, with the entry of a change, stands as the table after it
+-- a bank that is as a table, with the entry of a change, is as the table after it
 pub advanced : (z : Sizes) (entries : List ℕ) (m : Table) (bank : ℕ) (c : Change) → change_page c < z.pages → length entries ≡ 4 * z.pages → bank < 4 → Stands z entries m bank
     → Stands z (set entries (entry_place z bank (change_page c)) (new_entry c)) (changed m c) bank
 advanced z entries m bank c inside long low before q within = dite (ℕ_discrete q (change_page c))
@@ -72,7 +72,7 @@ pub lead_step : (z : Sizes) (v w w' : WriterView) (js : List Change) (i : ℕ) (
 lead_step z v w w' js i c sizes before after here inside long stands =
     subst (λ (m : Table). Stands z w'.entries m (bank_of (version_of v + 1))) (next_table js i c here) (lead_any z v w w' (at js i) c sizes before after inside long stands)
 
--- what publishing asks, once the bank of the next version stands
+-- what publishing asks, once the bank of the next version is written
 pub asked_for : (z : Sizes) (v w : WriterView) (js : List Change) (c : Change) → w.sizes ≡ z → w.journal ≡ js → version_of w ≡ version_of v → change_page c < z.pages
     → IsNextKeeping z.root (newest js) c → Stands z w.entries (changed (newest js) c) (bank_of (version_of v + 1)) → MayPublish w c
 asked_for z v w js c sizes journal version inside next stands = record {

@@ -1,4 +1,4 @@
-//! The bank of the next version is led on, change by change, from the version that it had to the next one.
+//! The bank of the next version is made, change by change, from the version that it had to the next one.
 
 ghost use Rattle.std.specs.Prelude.{◌≡◌, ℕ, ◌+◌, ◌≤◌, ◌<◌, length};
 ghost use Rattle.vt_definitions.specs.Limits.{most_versions};

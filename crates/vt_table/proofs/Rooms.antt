@@ -10,7 +10,7 @@ use borrow.Rule.Slice.PartMut.{put_mid}
 use Rattle.vt_definitions.specs.Depths.{texel_length}
 use Rattle.vt_table.specs.Kept.{room_of, tile_in, tiles_in}
 
--- what stands before a piece that is written
+-- what is before a piece that is written
 pub before_mid : (at k : ℕ) (xs ys : List ℕ) (i j : ℕ) → at ≤ length xs → i ≤ j → j ≤ at → slice_range (put_mid at k xs ys) i j ≡ slice_range xs i j
 before_mid at k xs ys i j room low high =
     let e : i + (j - i) ≡ j = omega arith in

@@ -1,4 +1,4 @@
-//! A page table that changes only between draws: which page stands in which frame, and the tiles of the frames.
+//! A page table that changes only between draws: which page is in which frame, and the tiles of the frames.
 #![tactic(auto)]
 
 mod laws;

@@ -84,7 +84,7 @@ spelling-above_zero c cs all some =
     ap number_spelling e ∙ spelling_above (number_from_digits 10 (map digit_value (c ∷ cs))) more
     ∙ ap (map (λ d. 48 + d)) (digits_of_number (digit_value c) (map digit_value cs) some below) ∙ bytes_of_values (c ∷ cs) all
 
--- a byte whose digit is 0 stands alone
+-- a byte whose digit is 0 is alone
 spelling-one_zero : (c : ℕ) (cs : List ℕ) → IsPlainNumeral (c ∷ cs) → digit_value c ≡ 0 → number_spelling (digits_value 10 (c ∷ cs)) ≡ c ∷ cs
 spelling-one_zero c [] plain none =
     let e : c ≡ 48 = sym (byte_of_value c plain.1.0) ∙ ap (λ d. 48 + d) none in

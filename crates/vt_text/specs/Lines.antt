@@ -19,7 +19,7 @@ lines_of text = parts_of line_feed text
 abbrev pub text_of : List (List (List ℕ)) → List ℕ
 text_of lines = flat_map (λ fields. join_with_byte blank fields ++ line_feed ∷ []) lines
 
--- the byte does not stand from one place up to another, which is left out
+-- the byte does not occur from one place up to another, which is left out
 abbrev pub IsAbsentBetween : ℕ → List ℕ → ℕ → ℕ → Type 0
 IsAbsentBetween byte bs low high = (k : ℕ) → low ≤ k → k < high → slice_index bs k ≢ byte
 

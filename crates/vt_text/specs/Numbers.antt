@@ -8,7 +8,7 @@ unfoldable pub number_spelling : ℕ → List ℕ
 number_spelling zero = 48 ∷ []
 number_spelling (suc n) = map (λ d. 48 + d) (digits_of 10 (suc n))
 
--- the spelling of an integer: a `-` stands before the digits of a negative one
+-- the spelling of an integer: a `-` is before the digits of a negative one
 abbrev pub spelling : ℤ → List ℕ
 spelling (pos n) = number_spelling n
 spelling (negsuc n) = 45 ∷ number_spelling (suc n)

@@ -95,7 +95,7 @@ asks_nothing told (Err x) a0 a1 is same = subst (λ (e : StoreError). OpenerAsks
 tiles_below : (p count n t : ℕ) → p + count ≤ n → p * t + count * t ≤ n * t
 tiles_below p count n t h = let e : p * t + count * t ≡ (p + count) * t = omega arith in rw e (mul-le (p + count) t n t h (omega arith))
 
--- the tiles of some pages stand inside a store
+-- the tiles of some pages are inside a store
 pub tiles_inside : (told : Option (List ℕ)) (s : Shape) (d p count n : ℕ) → IsStoreIfTold told s d → p + count ≤ pages_of s
     → n ≡ count * tile_length s d → IfSome told (λ b. tile_start s d p + n ≤ length b)
 tiles_inside None s d p count n store h e = tt

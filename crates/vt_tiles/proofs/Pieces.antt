@@ -40,7 +40,7 @@ pub bytes_of_drop : (xs : List ℕ) (k a n : ℕ) → bytes_from (drop k xs) a n
 bytes_of_drop xs k a n = bytes_same (drop k xs) xs a (k + a) n
     (λ c h. get_or-drop k xs (a + c) 0 ∙ moved xs (k + (a + c)) (k + a + c) (omega arith))
 
--- and of a front part
+-- and of a prefix
 pub bytes_of_take : (xs : List ℕ) (m a n : ℕ) → a + n ≤ m → bytes_from (take m xs) a n ≡ bytes_from xs a n
 bytes_of_take xs m a n room = bytes_same (take m xs) xs a a n (λ c h. get_or-take m xs (a + c) 0 (omega arith))
 

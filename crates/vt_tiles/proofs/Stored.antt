@@ -74,7 +74,7 @@ length-store s d src depth = omega (
   tiles_bytes_length s d src 0 (pages_of s) depth,
 )
 
--- the texels of a store stand behind its header
+-- the texels of a store are behind its header
 store_texels : (s : Shape) (d : ℕ) (src : Source) → IsDepth d → drop header_length (store_bytes s d src) ≡ tiles_bytes s d src 0 (pages_of s)
 unfolding store_bytes
 store_texels s d src depth =

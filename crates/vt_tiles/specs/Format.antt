@@ -61,7 +61,7 @@ store_bytes s d src = header_bytes s d ++ tiles_bytes s d src 0 (pages_of s)
 unfoldable pub header_shape : List ℕ → Shape
 header_shape b = shape_of (number_from b 4 4) (number_from b 8 4) (number_from b 12 4)
 
--- the first flaw of a store of so many bytes, of which at least the header is at hand
+-- the first flaw of a store of so many bytes, of which at least the header is known
 unfoldable pub flaw_of : List ℕ → ℕ → Option StoreError
 flaw_of head n =
     if not (has_magic head) then Some BadMagic

@@ -63,7 +63,7 @@ piece_places s d n = map (piece_place s d false) (range_with_len 0 n)
 abbrev pub PiecesAsked : Shape → ℕ → ℕ → Option (List Place) → Option (List Place) → Type 0
 PiecesAsked s d n before after = after ≡ option_map (λ places. places ++ piece_places s d n) before
 
--- a front part of all pieces was asked, of which at most the last read failed
+-- a prefix of all pieces was asked, of which at most the last read failed
 pub record FrontAsked (s : Shape) (d : ℕ) (before after : Option (List Place)) : Type 0 where
   pub count : ℕ
   pub few : count ≤ pieces_of s

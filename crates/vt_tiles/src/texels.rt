@@ -18,7 +18,7 @@ fn fill_texels(out: &mut [u8], texel: &[u8])
     }
 }
 
-/// Writes the texels of a row, of `size` bytes each, from byte `at` on; past the row's end its last texel stands again.
+/// Writes the texels of a row, of `size` bytes each, from byte `at` on; past the row's end its last texel is repeated.
 pub fn put_span(out: &mut [u8], row: &[u8], at: usize, size: usize)
     requires some { 1 ≤ size }
     requires inside { at + size ≤ length row.now }
@@ -42,7 +42,7 @@ pub fn double_bytes(out: &mut [u8], bytes: &[u8])
     }
 }
 
-/// How many rows of texels of its level stand above the tile of the page with a name.
+/// How many rows of texels of its level are above the tile of the page with a name.
 pub fn rows_above(geometry: &Geometry, name: PageName) -> usize
     requires { IsPage geometry.now name }
     ensures value { result ≡ name.row * geometry.now.tile }

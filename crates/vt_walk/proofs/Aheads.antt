@@ -28,7 +28,7 @@ module _ (drawn : PathView → ℕ → ℕ → ℕ → List ℕ → Type 0) (g :
       → MayStep g s.run number t m v
   may_turn number t now m v s = record { given = s.given; at_run = s.at_run; step = s.step }
 
-  -- a whole run stands
+  -- a run is whole
   end_stands : (number reads : ℕ) (t : WalkStep) (now : WalkState) (m : MachineState) (v : RecencyView) → StandsAt drawn g number t first now m v
       → t.picture ≡ g.setup.pictures → reads ≡ t.reads → StandsEnd drawn g number reads first now
   end_stands number reads t now m v s all are = record {

@@ -82,7 +82,7 @@ module _ (drawn : PathView → ℕ → ℕ → ℕ → List ℕ → Type 0) (g :
     out_faults = let most = l.out_faults in let same = alike.out_faults in omega (arith, most, same);
   }
 
-  -- what stood in the middle, with the places that were asked at the end
+  -- what was there in the middle, with the places that were asked at the end
   abbrev middle : WalkState → WalkState
   middle before = record before { asked = last.asked }
 
@@ -108,7 +108,7 @@ module _ (drawn : PathView → ℕ → ℕ → ℕ → List ℕ → Type 0) (g :
     out_faults = s.out_faults;
   }
 
-  -- what stood before a picture was written, with the places that were asked at the end, unless a pass was under way
+  -- what was there before a picture was written, with the places that were asked at the end, unless a pass was under way
   shifted : (run : List WalkPass) (pictures : List (List ℕ)) (before : WalkState) → Stands drawn g run pictures first before
       → AsksAhead g run (length pictures) before mid
       → (at : WalkState) × Stands drawn g run pictures first at × (at.files ≡ before.files) × (at.held ≡ before.held)

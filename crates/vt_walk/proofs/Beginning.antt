@@ -287,7 +287,7 @@ module _ (draws : Drawing)
             inl (has_broken given [] [] was (later new opened rose) walk_given exactly
             (omega (arith, sum-one kept.faults (counts_of m.files), sum-one now.faults (counts_of n.files), same_sum, rises, grown)))
 
-  -- the journal's head stands
+  -- the journal's head is there
   pub head_stands : (new : Option Files) (opened : Option Asked) (rose : ℕ) (v : RecencyView) → n ≡ with_pinned t.geometry.now t.pinned m
       → OnTold (AreAskedFor t.geometry.now d t.pinned [] []) kept.asked now.asked → kept.faults ≤ now.faults
       → new ≡ option_map (with_bytes t.names.journal.now (head_text t.geometry.now t.pinned)) files → IsThere new t.names.journal.now

@@ -1,4 +1,4 @@
--- Closing files leaves what stands of a walk as it was.
+-- Closing files leaves what a walk has left as it was.
 use Rattle.std.proofs.Common.{◌≡◌, ℕ, zero, suc, ◌+◌, ◌≤◌, Bool, true, false, ◌&&◌, List, [], ◌∷◌, ◌++◌, map, sum, Option, Some, None, refl, sym, ap, ◌∙◌, subst, arith}
 use Rattle.std.specs.Prelude.{is_some, option_map, unwrap_or, replicate, count_by, if◌then◌else◌}
 use Rattle.std.specs.List.{AllByRecursion}
@@ -22,7 +22,7 @@ pub record AreSamePlaces (before after : List Place) : Type 0 where
   pub asked : (at len : ℕ) → times_asked at len after ≡ times_asked at len before
   pub failed : (at len : ℕ) → times_failed at len after ≡ times_failed at len before
 
--- the same stands, and only the count of the folder may have risen
+-- the same is there, and only the count of the folder may have risen
 pub record IsAlike (before after : WalkState) : Type 0 where
   pub files : after.files ≡ before.files
   pub held : after.held ≡ before.held
@@ -136,7 +136,7 @@ places_closed name n front opened (Some asked) after are is =
         count_both t (places_of front) (places_of opened),
       )
 
--- what stands after files of the store's name were closed is what stood while they were open
+-- what is there after files of the store's name were closed is what was there while they were open
 pub closed_alike : {D F : Type 0} (d : FolderMeanings D F) (name : List ℕ) (n : ℕ) (front opened : List FileState) (before after : D) (held : Option
     (List ℕ)) (out_faults : ℕ)
     → AreOpen n name (d.asked before) opened → d.asked after ≡ with_closed opened (d.asked before)

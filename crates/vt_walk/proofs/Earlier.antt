@@ -13,7 +13,7 @@ use Rattle.vt_walk.specs.Causes.{HasFailed, IsCausedBy}
 use Rattle.vt_walk.specs.WalkSteps.{LeftByRefusal}
 
 module _ (drawn : PathView → ℕ → ℕ → ℕ → List ℕ → Type 0) (g : WalkGiven) (first now : WalkState) (fewer : ℕ) (few : fewer ≤ first.faults) where
-  -- what stood before
+  -- what was there before
   abbrev earlier : WalkState
   earlier = record first { faults = fewer }
 

@@ -179,7 +179,7 @@ module _ (draws : Drawing)
   next_may was s none fits end more =
       record { given = s.given; at_run = s.at_run; step = turn_is was s none fits end no_passes refl; more = more }
 
-  -- the walk stops after the pass, of which all stands
+  -- the walk stops after the pass, of which all is there
   stops : (was : WalkState) → StandsAfter drawn given number p first was m v → Left drawn given first was
   stops was s = inr (record {
     run = s.pass ∷ s.run;
@@ -283,7 +283,7 @@ module _ (draws : Drawing)
           tell = subst (λ (a : Option Asked). IsSome (with_open store (kept ∷ m.files) a) → AllTell m.files) (sym same) s.tell;
         }
 
-    -- what stands then, with the files that are open
+    -- what is there then, with the files that are open
     abbrev later : List FileState → WalkState
     later opened = state_of files' asked' faults' store (kept ∷ opened) held' out_faults'
 
@@ -332,7 +332,7 @@ module _ (draws : Drawing)
           out_faults = out_risen;
         }
 
-    -- of the picture a front part stands
+    -- a prefix of the picture is there
     pub picture_broke : (opened : List FileState) → AreAhead opened → (error : OutsideError) (e : WalkError) (s : StandsAfter drawn given number p first was m v)
         → (mode ≡ Settled → p.lost ≡ 0)
         → (mode ≡ Settled → p.outlook.needed ≤ room_of given.setup) → IsEnd mode p.loads_nothing p.outlook.plan.elements
@@ -362,7 +362,7 @@ module _ (draws : Drawing)
           cause NoMemory failed = tt
           cause Failed failed = inl (fails s same (failed refl) opened ahead)
 
-    -- of the line a front part stands
+    -- a prefix of the line was put
     pub line_broke : (opened : List FileState) → AreAhead opened → (error : OutsideError) (e : WalkError) (s : StandsAfter drawn given number p first was m v)
         → (mode ≡ Settled → p.lost ≡ 0)
         → (mode ≡ Settled → p.outlook.needed ≤ room_of given.setup) → IsEnd mode p.loads_nothing p.outlook.plan.elements

@@ -72,7 +72,7 @@ module _ (drawn : PathView → ℕ → ℕ → ℕ → List ℕ → Type 0)
   abbrev now : Option Files → ℕ → WalkState
   now new rose = state_of new asked rose store (kept ∷ n.files) held out_faults
 
-  -- the text of the pass stands whole
+  -- the text of the pass is whole
   stands_whole : (new : Option Files) (rose : ℕ) (d : Drawn) (s : StandsAt drawn g number t first was m v)
       → HasDrawnPass drawn g s.run t m n u d
       → new ≡ option_map (with_appended g.names.journal (pass_text g.setup.shape (text_of d.text))) files
@@ -140,7 +140,7 @@ module _ (drawn : PathView → ℕ → ℕ → ℕ → List ℕ → Type 0)
         subst (IsCausedBy drawn g first (now files faults)) (sym is) tt,
       )
 
-  -- of the pass's text a front part stands
+  -- a prefix of the pass's text is there
   text_left : (new : Option Files) (rose : ℕ) (d : Drawn) (error : OutsideError) (s : StandsAt drawn g number t first was m v)
       → HasDrawnPass drawn g s.run t m n u d
       → (new ≡ files) ⊎ ((k : ℕ) × (new ≡ option_map (with_appended g.names.journal (take k (pass_text g.setup.shape (text_of d.text)))) files))

@@ -98,7 +98,7 @@ module _ (drawn : PathView → ℕ → ℕ → ℕ → List ℕ → Type 0) (g :
     faults = s.stands.faults;
   }
 
-  -- of the last line a front part stands
+  -- the output ends with a prefix of the last line
   pub last_broke : (reads pictures : ℕ) (held : Option (List ℕ)) (out_faults : ℕ) (error : OutsideError) (e : WalkError) → StandsLast drawn g reads first now
       → pictures ≡ g.setup.pictures → (k : ℕ) × (held ≡ option_map (gained (take k (end_line pictures reads))) now.held) → now.out_faults ≤ out_faults
       → (error ≡ Failed → Rose now.out_faults out_faults) → e ≡ refusal_by error → LeftByRefusal drawn g first (with_text held out_faults) e

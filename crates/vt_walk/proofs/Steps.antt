@@ -1,4 +1,4 @@
--- One step more of what stands.
+-- One step more of what is left.
 use Rattle.std.proofs.Common.{◌≡◌, ℕ, suc, ◌+◌, ◌≤◌, ◌≢◌, inl, inr, false, List, [], ◌∷◌, ◌++◌, length, Option, Some, None, refl, sym, ap, ◌∙◌, subst, append_assoc, arith}
 use Rattle.std.specs.Prelude.{option_map, flat_map, IfSome}
 use Rattle.std.specs.List.{range_with_len}

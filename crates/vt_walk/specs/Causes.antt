@@ -26,7 +26,7 @@ reads_lost g _ _ = 0
 abbrev pub HasBroken : WalkGiven → WalkState → WalkState → Type 0
 HasBroken g first now = Rose first.out_faults now.out_faults ⊎ RoseBy (reads_lost g first.asked now.asked + 1) first.faults now.faults
 
--- a settled walk lost a tile: what stands is the beginning of a run that ends with the pass that lost it, so the journal tells that pass,
+-- a settled walk lost a tile: what is left is the beginning of a run that ends with the pass that lost it, so the journal tells that pass,
 -- and nothing else
 pub record HasLost (drawn : PathView → ℕ → ℕ → ℕ → List ℕ → Type 0) (g : WalkGiven) (first now : WalkState) : Type 0 where
   pub settled : g.setup.mode ≡ Settled
@@ -48,7 +48,7 @@ pub record HasTooFewFrames (g : WalkGiven) (frames needed : ℕ) (first now : Wa
   pub few : frames < needed
   pub none : WritesNothing first now
 
--- a picture of a settled walk does not fit, and each before it does: what stands is the beginning of a run that ends with the picture's
+-- a picture of a settled walk does not fit, and each before it does: what is left is the beginning of a run that ends with the picture's
 -- first pass, the pictures before it and their lines, and nothing else
 pub record HasUnfit (drawn : PathView → ℕ → ℕ → ℕ → List ℕ → Type 0) (g : WalkGiven) (picture needed room : ℕ) (first now : WalkState) : Type 0 where
   pub settled : g.setup.mode ≡ Settled

@@ -25,7 +25,7 @@ pub record WalkSetup : Type 0 where
 abbrev pub room_of : WalkSetup → ℕ
 room_of w = w.frames - w.pinned
 
--- so many distinct unpinned pages stand in the lines of the pages that a picture wants
+-- so many distinct unpinned pages are in the lines of the pages that a picture wants
 pub record NeedsFrames (w : WalkSetup) (picture needed : ℕ) : Type 0 where
   pub wants : List Wanted
   pub wanted : IsWants w.shape (w.needs picture) wants

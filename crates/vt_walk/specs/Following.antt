@@ -40,14 +40,14 @@ abbrev pub DrawsNext : (PathView → ℕ → ℕ → ℕ → List ℕ → Type 0
 DrawsNext drawn g run t before after v (next.Pass d) = (t.picture < g.setup.pictures) × HasDrawnPass drawn g run t before after v d
 DrawsNext drawn g run t before after v (next.End reads) = (t.picture ≡ g.setup.pictures) × (reads ≡ t.reads) × (after ≡ before)
 
--- the beginning of a run stands whole, and its next pass has been run, with what stands by the files that are open
+-- the beginning of a run is whole, and its next pass has been run, with what is there by the files that are open
 pub record StandsRan (drawn : PathView → ℕ → ℕ → ℕ → List ℕ → Type 0) (g : WalkGiven) (number : ℕ) (t : WalkStep) (start : ℕ) (r : PassReport)
     (first : WalkState) (at : List FileState → WalkState) (m : MachineState) (v : RecencyView) : Type 0 where
   pub before : MachineState
   pub stands : StandsAt drawn g number t first (at before.files) before v
   pub has_run : HasRunStep drawn g stands.run number t start r before m v
 
--- the beginning of a run stands whole, and its next pass has been drawn, and is to be told
+-- the beginning of a run is whole, and its next pass has been drawn, and is to be told
 pub record StandsDrawn (drawn : PathView → ℕ → ℕ → ℕ → List ℕ → Type 0) (g : WalkGiven) (number : ℕ) (d : Drawn)
     (first : WalkState) (at : List FileState → WalkState) (m : MachineState) (v : RecencyView) : Type 0 where
   pub step : WalkStep
@@ -57,12 +57,12 @@ pub record StandsDrawn (drawn : PathView → ℕ → ℕ → ℕ → List ℕ �
   pub more : step.picture < g.setup.pictures
   pub has_drawn : HasDrawnPass drawn g stands.run step before m v d
 
--- a whole run stands, and one more pass would have this number
+-- a run is whole, and one more pass would have this number
 pub record StandsEnd (drawn : PathView → ℕ → ℕ → ℕ → List ℕ → Type 0) (g : WalkGiven) (number reads : ℕ) (first now : WalkState) : Type 0 where
   pub last : StandsLast drawn g reads first now
   pub number_is : number ≡ length last.run + 1
 
--- the beginning of a run stands whole, and its next pass has been drawn; or the run is whole
+-- the beginning of a run is whole, and its next pass has been drawn; or the run is whole
 abbrev pub StandsNext : (PathView → ℕ → ℕ → ℕ → List ℕ → Type 0) → WalkGiven → ℕ → Next → WalkState → (List FileState → WalkState) → MachineState
     → RecencyView → Type 0
 StandsNext drawn g number (next.Pass d) first at m v = StandsDrawn drawn g number d first at m v

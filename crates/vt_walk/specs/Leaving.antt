@@ -1,4 +1,4 @@
--- What a refused walk leaves: the beginning of a run whole, and of the step that was under way a front part.
+-- What a refused walk leaves: the beginning of a run, whole, and a prefix of the step that was under way.
 use Rattle.std.specs.Prelude.{◌≡◌, ◌⊎◌, ℕ, ◌+◌, ◌<◌, ◌≤◌, Option, List, [], ◌∷◌, length, take, option_map}
 use Rattle.vt_outside.specs.Counts.{RoseBy}
 use Rattle.vt_outside.specs.Files.{with_bytes, with_appended, gained}
@@ -27,7 +27,7 @@ pub record WritesNothing (before after : WalkState) : Type 0 where
   pub files : after.files ≡ before.files
   pub held : after.held ≡ before.held
 
--- of the journal's head a front part stands, or the journal's name is as before; and some pinned pages were asked for at most
+-- the journal has a prefix of its head, or its name is as before; and some pinned pages were asked for at most
 pub record LeftAtHead (g : WalkGiven) (first now : WalkState) : Type 0 where
   pub files : (now.files ≡ first.files)
       ⊎ ((k : ℕ) × (now.files ≡ option_map (with_bytes g.names.journal (take k (head_text g.setup.shape g.setup.pinned))) first.files))
@@ -46,7 +46,7 @@ pub record LeftInPass (g : WalkGiven) (run : List WalkPass) (picture : ℕ) (bef
   pub faults : before.faults ≤ after.faults
   pub out_faults : before.out_faults ≤ after.out_faults
 
--- a pass by which the run goes on was run, and a front part of its text stands
+-- a pass by which the run goes on was run, and the journal ends with a prefix of its text
 pub record LeftInText (g : WalkGiven) (run : List WalkPass) (picture : ℕ) (before after : WalkState) : Type 0 where
   pub next : WalkPass
   pub comes_next : IsNextPass g.setup run next
@@ -76,7 +76,7 @@ pub record AsksAhead (g : WalkGiven) (run : List WalkPass) (picture : ℕ) (befo
   pub faults : before.faults ≤ after.faults
   pub out_faults : before.out_faults ≤ after.out_faults
 
--- of a finished picture a front part stands, or its name is as before
+-- the name of a finished picture holds a prefix of it, or is as before
 pub record LeftInPicture (drawn : PathView → ℕ → ℕ → ℕ → List ℕ → Type 0) (g : WalkGiven) (run : List WalkPass) (picture : ℕ)
     (before after : WalkState) : Type 0 where
   pub finished : HasFinished g run picture
@@ -87,7 +87,7 @@ pub record LeftInPicture (drawn : PathView → ℕ → ℕ → ℕ → List ℕ 
   pub held : after.held ≡ before.held
   pub ahead : AsksAhead g run picture before after
 
--- a finished picture is whole, and of its line a front part stands
+-- a finished picture is whole, and the output ends with a prefix of its line
 pub record LeftInLine (drawn : PathView → ℕ → ℕ → ℕ → List ℕ → Type 0) (g : WalkGiven) (run : List WalkPass) (picture : ℕ)
     (before after : WalkState) : Type 0 where
   pub finished : HasFinished g run picture
@@ -98,7 +98,7 @@ pub record LeftInLine (drawn : PathView → ℕ → ℕ → ℕ → List ℕ →
   pub held : after.held ≡ option_map (gained (take count (picture_line run picture))) before.held
   pub ahead : AsksAhead g run picture before after
 
--- the run is whole, and of the last line a front part stands
+-- the run is whole, and the output ends with a prefix of the last line
 pub record LeftAtEnd (g : WalkGiven) (run : List WalkPass) (pictures : ℕ) (before after : WalkState) : Type 0 where
   pub whole : IsWhole g.setup run
   pub all : pictures ≡ g.setup.pictures
@@ -107,7 +107,7 @@ pub record LeftAtEnd (g : WalkGiven) (run : List WalkPass) (pictures : ℕ) (bef
   pub held : after.held ≡ option_map (gained (take count (walk_end_line g.setup run))) before.held
   pub none : AsksNothing before after
 
--- what stands of the step that was under way after a run's beginning with so many whole pictures: nothing, or a front part of one
+-- what is left of the step that was under way after a run's beginning with so many whole pictures: nothing, or a prefix of a step
 abbrev pub IsWalkPrefix : (PathView → ℕ → ℕ → ℕ → List ℕ → Type 0) → WalkGiven → List WalkPass → ℕ → WalkState → WalkState → Type 0
 IsWalkPrefix drawn g run pictures before after =
     (WritesNothing before after × AsksNothing before after)
@@ -117,7 +117,7 @@ IsWalkPrefix drawn g run pictures before after =
     ⊎ (LeftInLine drawn g run pictures before after
     ⊎ LeftAtEnd g run pictures before after))))
 
--- the beginning of a run stands whole, and of the step that was under way a front part
+-- the beginning of a run is whole, and of the step that was under way there is a prefix
 pub record LeftInRun (drawn : PathView → ℕ → ℕ → ℕ → List ℕ → Type 0) (g : WalkGiven) (first now : WalkState) : Type 0 where
   pub run : List WalkPass
   pub pictures : List (List ℕ)

@@ -1,4 +1,4 @@
--- What placing the pinned pages comes to.
+-- How placing the pinned pages ends.
 use Rattle.std.specs.Prelude.{◌≡◌, ◌-◌, ℕ, Bool, false, List, map, Option, option_map, ◌++◌}
 use Rattle.std.specs.List.{range_with_len}
 use Rattle.vt_outside.specs.declared.place.Place.{Place}

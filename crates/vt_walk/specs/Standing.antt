@@ -1,4 +1,4 @@
--- What stands whole of a run's beginning, and what stands of a finished one.
+-- What a run's beginning has left, and what a finished one has left.
 use Rattle.std.specs.Prelude.{◌≡◌, ◌⊎◌, ℕ, ◌+◌, ◌<◌, ◌≤◌, List, [], ◌∷◌, length, option_map}
 use Rattle.vt_outside.specs.Counts.{RoseBy}
 use Rattle.vt_outside.specs.Files.{gained, IsThere}
@@ -14,12 +14,12 @@ use Rattle.vt_walk.specs.States.{WalkState}
 use Rattle.vt_walk.specs.Reads.{AreAskedFor, OnTold}
 use Rattle.vt_walk.specs.Written.{AreWritten}
 
--- a run has come to a picture: all pictures before it are finished, and it has no pass of a later one
+-- a run has reached a picture: all pictures before it are finished, and it has no pass of a later one
 abbrev pub HasReached : WalkSetup → List WalkPass → ℕ → Type 0
 HasReached w [] picture = picture ≡ 0
 HasReached w (p ∷ passes) picture = (picture ≡ p.picture) ⊎ (IsFinished w p passes × (picture ≡ p.picture + 1))
 
--- the beginning of a run stands whole: the journal has its text and the output the lines of the pictures that it has finished, these
+-- the beginning of a run is whole: the journal has its text and the output the lines of the pictures that it has finished, these
 -- pictures are whole, and the store was asked for its tiles alone, each once
 pub record Stands (drawn : PathView → ℕ → ℕ → ℕ → List ℕ → Type 0) (g : WalkGiven) (run : List WalkPass) (pictures : List (List ℕ))
     (first now : WalkState) : Type 0 where

@@ -1,4 +1,4 @@
--- What stands of a walk at a time.
+-- What a walk has left at a time.
 use Rattle.std.specs.Prelude.{◌≡◌, ℕ, ◌++◌, List, [], sum, replicate, map, flat_map, Option, IsSome, is_some, option_map, unwrap_or}
 use Rattle.vt_outside.specs.Counts.{added}
 use Rattle.vt_outside.specs.Files.{Files, Asked}

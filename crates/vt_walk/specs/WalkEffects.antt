@@ -1,4 +1,4 @@
--- What stood before and after a walk, and how it went.
+-- What was there before and after a walk, and how it went.
 use Rattle.std.specs.Prelude.{ℕ, List, [], ◌∷◌, Result, MatchResult}
 use Rattle.vt_outside.specs.declared.outside.File.{Ghosts as FileMeanings}
 use Rattle.vt_outside.specs.declared.outside.Folder.{Ghosts as FolderMeanings}
@@ -14,7 +14,7 @@ use Rattle.vt_walk.specs.Standing.{Finished}
 use Rattle.vt_walk.specs.WalkSteps.{LeftByRefusal}
 use Rattle.vt_walk.specs.Written.{IsDrawnBySome}
 
--- what stood before a walk, and what stands after it
+-- what was there before a walk, and what is there after it
 pub record WalkEffect : Type 0 where
   pub first : WalkState
   pub last : WalkState

@@ -32,7 +32,7 @@ pub record IsGiven (g : WalkGiven) : Type 0 where
   pub store : IsStoreIfTold g.told g.scene.shape g.scene.depth
   pub depth : IsDepth g.scene.depth
 
--- what a walk began with: the store's bytes, where they are told, the store's file, and what stood
+-- what a walk began with: the store's bytes, where they are told, the store's file, and what was there
 pub record WalkStart : Type 0 where
   pub told : Option (List ℕ)
   pub kept : FileState
@@ -107,7 +107,7 @@ pub record HasDrawnPass (drawn : PathView → ℕ → ℕ → ℕ → List ℕ �
   pub text : text_of d.text ≡ told_of g.setup run pass
   pub passed : IsPassed g run pass d.passed
 
--- the beginning of a run stands whole, and the step is that of its next pass
+-- the beginning of a run is whole, and the step is that of its next pass
 pub record StandsAt (drawn : PathView → ℕ → ℕ → ℕ → List ℕ → Type 0) (g : WalkGiven) (number : ℕ) (t : WalkStep) (first now : WalkState)
     (m : MachineState) (v : RecencyView) : Type 0 where
   pub run : List WalkPass
@@ -119,7 +119,7 @@ pub record StandsAt (drawn : PathView → ℕ → ℕ → ℕ → List ℕ → T
   pub step : IsStep g run number t
   pub tell : IsSome now.asked → AllTell m.files
 
--- the beginning of a run stands whole, and its newest pass has just been made
+-- the beginning of a run is whole, and its newest pass has just been made
 pub record StandsAfter (drawn : PathView → ℕ → ℕ → ℕ → List ℕ → Type 0) (g : WalkGiven) (number : ℕ) (p : Passed)
     (first now : WalkState) (m : MachineState) (v : RecencyView) : Type 0 where
   pub run : List WalkPass
@@ -134,7 +134,7 @@ pub record StandsAfter (drawn : PathView → ℕ → ℕ → ℕ → List ℕ �
   pub number_is : number ≡ length run + 1
   pub tell : IsSome now.asked → AllTell m.files
 
--- a run has begun: nothing but the journal's head stands
+-- a run has begun: nothing but the journal's head is there
 pub record StandsFirst (drawn : PathView → ℕ → ℕ → ℕ → List ℕ
     → Type 0) (g : WalkGiven) (first now : WalkState) (m : MachineState) (v : RecencyView) : Type 0 where
   pub given : IsGiven g
@@ -142,7 +142,7 @@ pub record StandsFirst (drawn : PathView → ℕ → ℕ → ℕ → List ℕ
   pub at_run : IsAtRun g [] m v
   pub tell : IsSome now.asked → AllTell m.files
 
--- a whole run stands, in which so many tiles were asked for
+-- a run is whole, in which so many tiles were asked for
 pub record StandsLast (drawn : PathView → ℕ → ℕ → ℕ → List ℕ → Type 0) (g : WalkGiven) (reads : ℕ) (first now : WalkState) : Type 0 where
   pub run : List WalkPass
   pub pictures : List (List ℕ)

@@ -6,7 +6,7 @@ use Rattle.vt_outside.specs.declared.answers.OutsideError.{OutsideError}
 use Rattle.vt_outside.specs.declared.answers.OutsideError.TheVariants.{Failed}
 use Rattle.vt_outside.specs.declared.outside.Folder.{Ghosts as FolderMeanings}
 
--- a name holds these bytes; or it is as before, or holds a front part of them, for a cause. Nothing was asked
+-- a name holds these bytes; or it is as before, or holds a prefix of them, for a cause. Nothing was asked
 pub record WritesFile {D F T : Type 0} (d : FolderMeanings D F) (name bytes : List ℕ) (result : Result T OutsideError) (before after : D) : Type 0 where
   pub whole : OnOk result (d.files after ≡ option_map (with_bytes name bytes) (d.files before))
   pub part : OnErr result ((d.files after ≡ d.files before) ⊎ ((k : ℕ) × (d.files after ≡ option_map (with_bytes name (take k bytes)) (d.files before))))

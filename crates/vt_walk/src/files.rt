@@ -12,7 +12,7 @@ use vt_outside::{Folder, OutsideError};
 use vt_pages::Geometry;
 
 /// Makes the name hold these bytes, by one creation and one append. After a refusal the name is as before, or holds a
-/// front part of the bytes.
+/// prefix of the bytes.
 pub fn write_file<D: Folder>(folder: &mut D, name: &str, bytes: &[u8]) -> Result<(), OutsideError>
     ensures written { WritesFile D.Folder name.now bytes.now result folder.old folder.new }
     ensures there { OnOk result (IsThere (D.files folder.new) name.now) }
@@ -22,7 +22,7 @@ pub fn write_file<D: Folder>(folder: &mut D, name: &str, bytes: &[u8]) -> Result
 }
 
 /// Begins a journal: makes the name hold the text of the pinned pages. After a refusal the name is as before, or
-/// holds a front part of that text.
+/// holds a prefix of that text.
 pub fn begin_journal<D: Folder>(
     alloc: Global,
     folder: &mut D,

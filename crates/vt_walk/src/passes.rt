@@ -82,7 +82,7 @@ fn make_text(buffer: &mut Vec<u8>, geometry: &Geometry, pass: &PassText) -> Resu
     add_pass(buffer, geometry, pass)
 }
 
-/// Adds the text of a pass, which is made in a buffer, to the journal, in one call. After a refusal a front part of
+/// Adds the text of a pass, which is made in a buffer, to the journal, in one call. After a refusal a prefix of
 /// it was added.
 pub fn tell_pass<D: Folder>(
     buffer: &mut Vec<u8>,

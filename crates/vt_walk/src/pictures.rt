@@ -23,7 +23,7 @@ use vt_walk_decisions::Tally;
 use vt_words::picture_name;
 
 /// Writes the picture of a machine's last pass under its name, by one creation and one append. After a refusal the
-/// name is as before, or holds a front part of its bytes. These are made in the buffer.
+/// name is as before, or holds a prefix of its bytes. These are made in the buffer.
 pub fn write_picture<D: Folder, M: PassMachine>(
     buffer: &mut Vec<u8>,
     alloc: Global,
@@ -80,7 +80,7 @@ pub fn make_picture<M: PassMachine>(
 }
 
 /// Puts the line of a picture with this tally, of whose pages so many are wanted, in one call. After a refusal a
-/// front part of it was put.
+/// prefix of it was put.
 pub fn put_picture_line<O: Sink>(
     out: &mut O,
     picture: u32,
@@ -124,7 +124,7 @@ fn add(line: &mut Line, words: &[u8], number: u64)
     line.number(number);
 }
 
-/// Puts the last line, of so many pictures and reads, in one call. After a refusal a front part of it was put.
+/// Puts the last line, of so many pictures and reads, in one call. After a refusal a prefix of it was put.
 pub fn put_end_line<O: Sink>(out: &mut O, pictures: u32, reads: u64) -> Result<(), OutsideError>
     ensures whole { OnOk result (O.held out.new ≡ option_map (gained (end_line pictures reads)) (O.held out.old)) }
     ensures part { OnErr result ((k : ℕ) × (O.held out.new ≡ option_map (gained (take k (end_line pictures reads)))

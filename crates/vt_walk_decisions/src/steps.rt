@@ -60,7 +60,7 @@ pub enum Next {
 pub struct Outlook {
     /// How many pages its picture wants.
     pub wanted: u64,
-    /// How many unpinned pages stand in the lines of these.
+    /// How many unpinned pages are in the lines of these.
     pub needed: u32,
     /// What is planned next.
     pub plan: Batch,

@@ -114,7 +114,7 @@ missing_is v wants x table inside there =
           (step_is v.shape (is_mapped v.entries) (levels_of v.shape - 1 - level_of v.shape found.0) found.0 table.limits (omega (arith, below)) page low);
     }
 
--- what stands in a wanted page's line stands in the lines
+-- what is in a wanted page's line is in the lines
 pub in_wanted_lines : (s : Shape) (ps : List ℕ) (p x : ℕ) → is_in ps p ≡ true → is_in (ancestors_of s p) x ≡ true → is_in (line_pages s ps) x ≡ true
 in_wanted_lines s ps p x there line = in_lines s ps x ∙ any ps there where
   any : (qs : List ℕ) → is_in qs p ≡ true → list_any (λ q. is_in (ancestors_of s q) x) qs ≡ true
@@ -181,7 +181,7 @@ frames_held v table =
             (subst (λ g. is_in (map (frame_of v.entries) (pins_of v ++ v.order)) g ≡ true) same (in_map (frame_of v.entries) (pins_of v
             ++ v.order) p.0 (holder_in v p.0 f table p.1)))
 
--- the pages of a list that stand in the lines of wanted pages
+-- the pages of a list that are in the lines of wanted pages
 abbrev in_lines_of : RecencyView → List Wanted → ℕ → Bool
 in_lines_of v wants p = is_in (line_pages v.shape (pages_wanted wants)) p
 

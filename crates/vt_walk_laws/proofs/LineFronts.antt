@@ -74,7 +74,7 @@ abbrev IsNextMapped : (ℕ → Bool) → List ℕ → Type 0
 IsNextMapped m [] = Unit {0}
 IsNextMapped m (y ∷ l) = m y ≡ true
 
--- each page of a list that is to be loaded stands just before a mapped one, or at the end
+-- each page of a list that is to be loaded is just before a mapped one, or at the end
 abbrev pub AreSteps : (ℕ → Bool) → (ℕ → Bool) → List ℕ → Type 0
 AreSteps b m [] = Unit {0}
 AreSteps b m (x ∷ l) = (b x ≡ true → IsNextMapped m l) × AreSteps b m l

@@ -103,7 +103,7 @@ plan_all v wants q enough =
       at_least : (n : ℕ) (xs : List ℕ) → length (batch_pages (plan_of v wants q)) ≡ length (take n xs) → length (missing_pages v wants) ≤ n
       at_least n xs e = omega (arith, enough, length-pages (plan_of v wants q), e, few n xs)
 
--- no victim of a plan stands in a line of a wanted page
+-- no victim of a plan is in a line of a wanted page
 off_lines : (v : RecencyView) (wants : List Wanted) (x : ℕ) → is_in (line_pages v.shape (pages_wanted wants)) x ≡ true → is_in (candidates v wants) x ≡ false
 unfolding candidates
 off_lines v wants x line = pick (is_in (candidates v wants) x) refl where

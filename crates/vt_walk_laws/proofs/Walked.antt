@@ -288,7 +288,7 @@ left_again under drawn g b first last content store h walk read apart =
     first.files last.files apart
     (expected_read under drawn g b g.names.prefix walk.run walk.pictures content store h walk.is_run walk.whole walk.all walk.written read) (walk.files apart)
 
--- the pictures that stand of a run's beginning are those of the replay of its journal
+-- the pictures of a run's beginning are those of the replay of its journal
 pub standing_again : (under : Under) (drawn : PathView → ℕ → ℕ → ℕ → List ℕ → Type 0) (g : WalkGiven) (b prefix : List ℕ) (run : List WalkPass) (pictures : List (List ℕ))
     (first now : WalkState)
     → IsOfStore under g b → Stands drawn g run pictures first now

@@ -1,4 +1,4 @@
--- How many passes a settled picture has: which pages it loads, and how many of them stand in one line.
+-- How many passes a settled picture has: which pages it loads, and how many of them are in one line.
 -- By hand: a texture of 8 by 8 in tiles of 2 has the pages 0 to 15, 16 to 19 and the pinned root 20. A picture that wants 0 and 12,
 -- whose lines are 0 16 20 and 12 18 20, loads 0, 16, 12 and 18, two in one line: 3 or 4 passes by batches of 64, 6 to 8 one by one.
 use Rattle.std.specs.Prelude.{◌≡◌, ℕ, max, Bool, List, [], ◌∷◌, ◌++◌, map, take}
@@ -15,15 +15,15 @@ use Rattle.vt_walk.specs.Fits.{WalkSetup}
 use Rattle.vt_walk.specs.Runs.{WalkPass, IsWalkSetup, IsRun, IsFinished, GoesOn, recency_after}
 use Rattle.vt_walk.specs.Logs.{passes_of}
 
--- the pages that stand before the look-up in a page's line
+-- the pages that are before the look-up in a page's line
 abbrev pub before_lookup : Shape → (ℕ → Bool) → ℕ → List ℕ
 before_lookup s mapped p = take (pages_before s mapped p) (ancestors_of s p)
 
--- the distinct pages that stand before the look-up in the line of one of some pages
+-- the distinct pages that are before the look-up in the line of one of some pages
 unfoldable pub pages_to_load : Shape → (ℕ → Bool) → List ℕ → List ℕ
 pages_to_load s mapped pages = each_once (flat_map (before_lookup s mapped) pages)
 
--- the greatest number of pages that stand before the look-up in the line of one of some pages
+-- the greatest number of pages that are before the look-up in the line of one of some pages
 abbrev pub most_before : Shape → (ℕ → Bool) → List ℕ → ℕ
 most_before s mapped [] = 0
 most_before s mapped (p ∷ pages) = max (pages_before s mapped p) (most_before s mapped pages)

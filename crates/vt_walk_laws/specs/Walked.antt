@@ -6,7 +6,7 @@ use Rattle.vt_files.specs.Expectations.{ExpectedFile}
 use Rattle.vt_walk.specs.Walks.{WalkGiven}
 use Rattle.vt_replay.specs.Replayed.{Under}
 
--- a walk is of a store that tells these bytes: its numbers are those of its scene, and each pixel is what a filter shows of the store under a
+-- a walk is of a store of these known bytes: its numbers are those of its scene, and each pixel is what a filter shows of the store under a
 -- page table (van Waveren 2012)
 pub record IsOfStore (under : Under) (g : WalkGiven) (b : List ℕ) : Type 0 where
   pub shape : g.setup.shape ≡ g.scene.shape

@@ -43,7 +43,7 @@ pub fn fitting_plan_is_full()
         (missing_pages (recency_after w (p ∷ passes)) p.wants)) }
 {}
 
-/// The batches of a finished picture of a settled run together have exactly the pages that stand before the look-up
+/// The batches of a finished picture of a settled run together have exactly the pages that are before the look-up
 /// in the lines of its wanted pages after its first pass, each once.
 pub fn picture_loads_each_page_once()
     ensures exact { (w : WalkSetup) (later : List WalkPass) (first : WalkPass) (before : List WalkPass) (page : ℕ)

@@ -27,7 +27,7 @@ ghost use Rattle.vt_walk_laws.specs.Walked.{IsOfStore, named_pictures};
 use vt_machine::PassMachine;
 
 /// The journal of a run tells of each picture the rows of its last pass, and it tells of as many pictures as the run
-/// has come to: of all, where the run is whole.
+/// has reached: of all, where the run is whole.
 pub fn journal_tells_its_run()
     ensures rows { (w : WalkSetup) (run : List WalkPass) (picture : ℕ)
         → last_lines (passes_told w run) picture ≡ last_rows run picture }
@@ -48,7 +48,7 @@ pub fn replay_gives_the_written_picture<M: PassMachine>()
         (passes_told g.setup run) picture }
 {}
 
-/// While a walk goes on, and where it was refused, the pictures that stand are those of the replay of the passes that
+/// While a walk goes on, and where it was refused, the pictures written so far are those of the replay of the passes that
 /// its journal tells by then.
 pub fn replay_gives_what_stands<M: PassMachine>()
     ensures { (under : Under) (g : WalkGiven) (b prefix : List ℕ) (run : List WalkPass) (pictures : List (List ℕ))

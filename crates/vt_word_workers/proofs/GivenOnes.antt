@@ -81,7 +81,7 @@ module _ {W : Type 0} (words : WordsValue) (v : WriterView) where
       let low = slice_get_within after k task is in
       subst (HasNewPass words v k) (get_or_from_slice_get after k task task is) (h.first k task (omega (arith, low, all)))
 
--- samplers that are the same but for their passes stand at the places of their numbers as before
+-- samplers that are the same but for their passes are at the places of their numbers as before
 pub samplers_same : (s : Shape) (d width height samplers : ℕ) (before after : List WordSampler) → AreSameSamplers before after
     → AreSamplersOf s d width height samplers before → AreSamplersOf s d width height samplers after
 samplers_same s d width height samplers before after same are = record {

@@ -151,7 +151,7 @@ own_turn g k y task kit inside at = let its = kit.samplers.each (y % k.crew.samp
   own = ap (λ n. y % n) its.among ∙ sym its.number_is;
 }
 
--- a row is one of the rows of the sampler that it is dealt to, where the samplers stand at the places of their numbers
+-- a row is one of the rows of the sampler that it is dealt to, where the samplers are at the places of their numbers
 pub own_row : (s : Shape) (d width height samplers : ℕ) (tasks : List WordSampler) (y : ℕ) (task : WordSampler)
     → AreSamplersOf s d width height samplers tasks → y < height → slice_get tasks (y % samplers) ≡ Some task → IsOwn task.sampler y
 own_row s d width height samplers tasks y task are inside at = let its = are.each (y % samplers) task at in record {
@@ -159,7 +159,7 @@ own_row s d width height samplers tasks y task are inside at = let its = are.eac
   own = ap (λ n. y % n) its.among ∙ sym its.number_is;
 }
 
--- the sampler that it is dealt to stands among them
+-- the sampler that it is dealt to is among them
 pub turn_there : (samplers : ℕ) (tasks : List WordSampler) (y : ℕ) (d : WordSampler) → 1 ≤ samplers → length tasks ≡ samplers
     → slice_get tasks (y % samplers) ≡ Some (get_or tasks (y % samplers) d)
 turn_there samplers tasks y d some count = slice_get-get_or tasks (y % samplers) d (let low = mod_below y samplers some in omega (arith, low, count))

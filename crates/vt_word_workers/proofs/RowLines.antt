@@ -18,7 +18,7 @@ use Rattle.vt_machine.specs.RowOrders.{AreRowsInOrder}
 use Rattle.vt_word_workers.specs.WordSamplers.{WordSampler}
 use Rattle.vt_word_workers.specs.Kits.{version_by, line_of, lines_of, counted_together}
 
--- what stands at a place of a list that is made place by place
+-- what is at a place of a list that is made place by place
 made_at : {A : Type 0} (f : ℕ → A) (a n y : ℕ) (x : A) → slice_get (map f (range_with_len a n)) y ≡ Some x → x ≡ f (a + y)
 made_at f a zero y x e = absurd (none-some x e)
 made_at f a (suc n) zero x e = let z : a ≡ a + 0 = omega arith in sym (same_Some (f a) x e) ∙ ap f z

@@ -1,4 +1,4 @@
--- What a pass over shared words is done with, and what holds of it.
+-- What a pass over shared words uses, and what holds of it.
 use Rattle.std.specs.Prelude.{◌≡◌, ℕ, ◌*◌, ◌%◌, ◌<◌, ◌≤◌, false, Option, None, Some, List, [], length, map, slice_get, slice_index, slice_index_or, sum_by, All}
 use Rattle.std.specs.List.{range_with_len}
 use Rattle.vt_definitions.specs.Depths.{IsDepth}
@@ -31,7 +31,7 @@ use Rattle.vt_word_workers.specs.RoundKits.{RoundKitView, IsSetUp, IsAsked}
 use Rattle.vt_word_workers.specs.GivenPasses.{HaveNewPasses}
 
 -- a kit: how the texture is cut into pages, how many bytes its samples have, the sides of the pictures, the crew; the samplers and the
--- loaders' stores; how many texels the last picture needs of each page; the list that the next pass fills; and what its loaders are done with
+-- loaders' stores; how many texels the last picture needs of each page; the list that the next pass fills; and what its loaders work with
 pub record KitView (F : Type 0) : Type 0 where
   pub shape : Shape
   pub depth : ℕ
@@ -199,7 +199,7 @@ pub record AreSameStores {F : Type 0} (g : FileMeanings F) (before after : List 
   pub number : length after ≡ length before
   pub each : (k : ℕ) (d : StoreView F) → k < length before → IsSameStore g (slice_index_or before k d) (slice_index_or after k d)
 
--- a kit is the same but for the room of its lists and its stores, and for what its loaders are done with
+-- a kit is the same but for the room of its lists and its stores, and for what its loaders work with
 pub record IsSameKit {F : Type 0} (g : FileMeanings F) (before after : KitView F) : Type 0 where
   pub shape : after.shape ≡ before.shape
   pub depth : after.depth ≡ before.depth

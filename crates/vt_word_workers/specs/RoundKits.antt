@@ -1,4 +1,4 @@
--- What the loaders of a pass are done with, whose results are taken while they work.
+-- The requests, stores and buffers of a pass's loaders, whose results are taken while they work.
 use Rattle.std.specs.Prelude.{◌≡◌, ℕ, ◌+◌, ◌≤◌, Option, List, [], length, reverse, All}
 use Rattle.std.specs.List.{range_with_len}
 use Rattle.vt_outside.specs.Lists.{ListView}
@@ -18,7 +18,7 @@ use Rattle.vt_machine.specs.declared.crew.Crew.{Crew}
 use Rattle.vt_requests.specs.BatchRounds.{ArePut}
 use Rattle.vt_requests.specs.Sizes.{AreSized}
 
--- what the loaders of a pass are done with: the pass of the requests, room for the loaders and for their stores, and the buffers
+-- what the loaders of a pass work with: the pass of the requests, room for the loaders and for their stores, and the buffers
 pub record RoundKitView (F : Type 0) : Type 0 where
   pub asks : QueuePass Request
   pub loaders : ListView (QueuedView F)

@@ -33,7 +33,7 @@ pub record MayDraw (words : WordsValue) (scene : Scene) (picture : ℕ) (a : Wor
   pub rooted : pass.view.rooted ≡ true
   pub own : pass.view.sampler ≡ a.sampler.sampler
 
--- a sampler has drawn its rows of a picture of a scene by a filter over words, by what its pass noted, each at a version that the pass came to
+-- a sampler has drawn its rows of a picture of a scene by a filter over words, by what its pass noted, each at a version that the pass held
 -- hold meanwhile; these never fall from row to row; and it has counted the texels that the rows want
 pub record HasDrawn {P : Type 0} (filter : FilterMeanings P) (words : WordsValue) (scene : Scene) (picture : ℕ) (a b : WordSampler) : Type 0 where
   pub number : b.sampler.sampler ≡ a.sampler.sampler

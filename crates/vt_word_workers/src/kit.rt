@@ -1,4 +1,4 @@
-//! What a pass over shared words is done with.
+//! What a pass over shared words uses.
 
 ghost use Rattle.std.specs.Prelude.{◌≡◌, ℕ, ◌^◌, ◌<◌, ◌≤◌, OnOk, List, [], length, slice_index, IfOk, IfErr, All};
 ghost use Rattle.std.specs.List.{concat};
@@ -54,7 +54,7 @@ use vt_streamer::Streamer;
 use vt_streaming::StreamReport;
 use vt_tiles::{Stores, tile_length};
 
-/// What a pass over shared words is done with but for the queues and the streamer: the samplers, the loaders' stores,
+/// What a pass over shared words uses but for the queues and the streamer: the samplers, the loaders' stores,
 /// and room for what the pass tells. Contracts see all of these.
 pub struct WordKit<F: File> {
     alloc: Global,

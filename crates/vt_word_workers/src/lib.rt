@@ -1,4 +1,4 @@
-//! The workers of a pass over shared words, and what they are done with: its batch is streamed while its picture is drawn.
+//! The workers of a pass over shared words, and what they work with: its batch is streamed while its picture is drawn.
 #![tactic(auto)]
 
 mod given;

@@ -1,4 +1,4 @@
-//! What the loaders of a pass are done with, whose results are taken while they work.
+//! The requests, stores and buffers of a pass's loaders, whose results are taken while they work.
 
 ghost use Rattle.std.specs.Prelude.{◌≡◌, ℕ, ◌^◌, ◌+◌, ◌<◌, ◌≤◌, false, [], List, length, reverse, All, IfOk, OnOk};
 ghost use Rattle.vt_definitions.specs.Limits.{most_entries, most_loaders};
@@ -33,7 +33,7 @@ use vt_requests::{ask_batch, give_back};
 use vt_streaming::StreamReport;
 use vt_tiles::Stores;
 
-/// What the loaders of a pass are done with: the pass of the requests, and room for the loaders, their stores and the
+/// What the loaders of a pass work with: the pass of the requests, and room for the loaders, their stores and the
 /// buffers. Contracts see all of these.
 pub struct RoundKit<F: File> {
     alloc: Global,

@@ -1,6 +1,6 @@
 //! In how many threads the workers of a pass are at work.
 //!
-//! To make a thread and to join it takes 25 to 60 microseconds. A pixel takes 4 to 5 nanoseconds, and a tile that the system has at hand is read
+//! To make a thread and to join it takes 25 to 60 microseconds. A pixel takes 4 to 5 nanoseconds, and a tile in the system's cache is read
 //! in some 10 microseconds, but one that it has not may take milliseconds. So samplers share a thread where each would have few pixels, and a
 //! loader has one wherever there is a request for it.
 

@@ -42,7 +42,7 @@ pub fn bad(number: u64) -> JournalError
     }
 }
 
-/// The line at a place, if one stands there.
+/// The line at a place, if one is there.
 pub fn read_line(source: &Source, cursor: Cursor) -> Option<LineRead>
     requires { IsCursor source.now.text.now cursor.at cursor.number }
     ensures { MatchOption result (IsNoLine source.now.geometry.now source.now.text.now cursor.at)

@@ -123,7 +123,7 @@ pub fn make_row(number: u32, y: u32, columns: u32, row: &mut [u8])
     }
 }
 
-// Writes the samples of a texel behind those that stand before its place.
+// Writes the samples of a texel behind those that are before its place.
 #[inline(always)]
 fn put_texel(number: u32, x: u32, y: u32, row: &mut [u8])
     requires room { 3 * x + 3 ≤ length row.old }

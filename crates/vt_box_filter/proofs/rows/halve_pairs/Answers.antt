@@ -3,7 +3,7 @@ use Rattle.std.proofs.Common.{ℕ, ◌+◌, ◌*◌, ◌/◌, ◌<◌, ◌≤◌
 use Rattle.std.proofs.Math.Nat.{mul-le-mul_left}
 use Rattle.vt_box_filter.proofs.rows.halve_pairs.Goals as goal
 
--- a pair of columns stands inside a row
+-- a pair of columns is inside a row
 pair_inside : (d w x : ℕ) → x < w / 2 → 3 * d * (2 * (x + 1)) ≤ 3 * d * w
 pair_inside d w x inside = mul-le-mul_left (3 * d) (omega arith)
 

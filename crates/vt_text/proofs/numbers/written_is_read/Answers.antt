@@ -3,7 +3,7 @@ use Rattle.std.proofs.lemmas.List.{append_assoc, drop_at, take_at, length-take}
 use Rattle.std.proofs.lemmas.Int.{ints}
 use Rattle.vt_text.proofs.numbers.written_is_read.Goals as goal
 
--- what stands between two pieces, the first of which has its length
+-- what is between two pieces, the first of which has its length
 between_pieces : (at end : ℕ) (xs ws new : List ℕ) → at ≤ length xs → end ≡ at + length ws
     → new ≡ take at xs ++ ws ++ drop end xs → take (end - at) (drop at new) ≡ ws
 between_pieces at end xs ws new fits is written =
