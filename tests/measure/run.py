@@ -3,6 +3,7 @@
 
 usage: run.py [PROGRAM] [--sweeps tile,walk-batch,..] [--rounds 5] [--most 8192] [--beside OTHER] [--words 'tile: --threads 1']..
        run.py [PROGRAM] --summary [--rounds 9] [--beside OTHER]
+       run.py [PROGRAM] --foreign [walk,tile] [--rounds 9] [--beside OTHER]
 
 Each row is a run of a command: the medians of its seconds and of the processors' seconds, and the most memory that it held. With --beside
 another program is run in turn with it on the same words, and with those that --words gives it for a command; its seconds and how many times
@@ -11,25 +12,49 @@ status than 0 has a dash. Textures have sides of up to --most. All files stand i
 
 --summary prints the first two tables of the page: what each command costs over textures of two sides, and walks by several crews. There both
 programs choose their own numbers of threads for all that is no walk, and bytes are compared once, where a walk is settled.
+
+--foreign measures libraries of others in turn with both programs: settled walks beside OpenImageIO's ImageCache (image_cache.cpp, which wants g++,
+maketx and libopenimageio-dev), from its `main` on, and `tile` beside libvips (`vips`). The first rows, with next to nothing to do, are what a start
+takes.
 """
 import argparse
 import glob
 import hashlib
 import os
 import shlex
+import shutil
 import statistics
 import subprocess
+import sys
 import tempfile
 
 HERE = os.path.dirname(os.path.abspath(__file__))
 TOP = os.path.dirname(os.path.dirname(HERE))
-WRITTEN = ["w.vts", "w.ppm", "w.txt", "f????.ppm"]
+sys.path.insert(0, os.path.join(TOP, "tests"))
+
+from stores import Store, contents
+
+COMPARED = ["w.vts", "w.tif", "w.ppm", "f????.ppm"]
+WRITTEN = COMPARED + ["w.txt", "w.own"]
+MOST_GENERATED_SIDE = 8192
 
 
 def path_of(width, height, pictures):
     """Flies over one texture of 1,024 texels in so many pictures, with levels as far apart at any size."""
     text = "size %d %d\nfocal %d\nat 1792 0 204800 16384 0\n" % (width, height, min(height // 2, 4096))
     return text + ("to %d 263936 0 204800 16384 0\n" % (pictures - 1) if pictures > 1 else "")
+
+
+def levels_of(store):
+    """The levels of a store of one byte a sample, each as the bytes of a picture."""
+    line = 3 * store.geometry.tile
+    for width, height, columns, rows, first in store.geometry.levels:
+        lines = []
+        for row in range(rows):
+            begin = 16 + store.tile_bytes * (first + row * columns)
+            tiles = [store.data[at : at + store.tile_bytes] for at in range(begin, begin + columns * store.tile_bytes, store.tile_bytes)]
+            lines += [b"".join(tile[at : at + line] for tile in tiles)[: 3 * width] for at in range(0, store.tile_bytes, line)]
+        yield b"P6\n%d %d\n255\n" % (width, height) + b"".join(lines[:height])
 
 
 class Inputs:
@@ -44,7 +69,18 @@ class Inputs:
         return name
 
     def texture(self, side):
-        return self.make("t%d.ppm" % side, "gen", "7", str(side), str(side), "t%d.ppm" % side)
+        name = "t%d.ppm" % side
+        return self.make(name, "gen", "7", str(side), str(side), name) if side <= MOST_GENERATED_SIDE else self.fourfold(side, name)
+
+    def fourfold(self, side, name):
+        """A texture of four times one of half its side."""
+        if not os.path.exists(name):
+            with open(self.texture(side // 2), "rb") as file, open(name, "wb") as large:
+                raster = file.read()[-3 * (side // 2) ** 2 :]
+                large.write(b"P6\n%d %d\n255\n" % (side, side))
+                for _ in range(2):
+                    large.writelines(2 * raster[at : at + 3 * side // 2] for at in range(0, len(raster), 3 * side // 2))
+        return name
 
     def wide_texture(self, side):
         """The same with two bytes a sample, each its byte twice."""
@@ -62,6 +98,20 @@ class Inputs:
 
     def wide_store(self, side):
         return self.make("d%d.vts" % side, "upgrade", self.store(side), "d%d.vts" % side)
+
+    def mip_mapped(self, side):
+        """A tiled TIFF of the levels of a store. They are given to maketx, since its own box filter does not round each level to bytes."""
+        name, levels = "m%d.tif" % side, []
+        if not os.path.exists(name):
+            for number, picture in enumerate(levels_of(Store(contents(self.store(side))))):
+                levels.append("level%d.ppm" % number)
+                with open(levels[-1], "wb") as file:
+                    file.write(picture)
+            words = "maketx --format tiff --compression none --tile 64 64 -o".split() + [name, levels[0]]
+            subprocess.run(words + [word for level in levels[1:] for word in ("--mipimage", level)], check=True, stdout=subprocess.DEVNULL)
+            for level in levels:
+                os.remove(level)
+        return name
 
     def path(self, width=320, height=200, pictures=60):
         name = "p%dx%dx%d.path" % (width, height, pictures)
@@ -119,20 +169,23 @@ def replay_words(inputs, side, pictures):
 
 def run(program, words, is_compared=True):
     """The seconds, the processors' seconds, the mebibytes and a digest of the pictures or the store of a run, or None where its status is not 0.
-    The digest is None where nothing is to be compared."""
+    The digest is None where nothing is to be compared. A program that writes its own seconds to w.own is taken at its word."""
     for name in [name for pattern in WRITTEN for name in glob.glob(pattern)]:
         os.remove(name)
     subprocess.run(["./timed", "figures", program, *words], check=True, stdout=subprocess.DEVNULL, stderr=subprocess.DEVNULL)
     with open("figures") as file:
         *figures, status = file.read().split()
+    if status == "0" and os.path.exists("w.own"):
+        with open("w.own") as file:
+            figures[:2] = file.read().split()
     seconds, busy, kibibytes = map(float, figures)
     return (seconds, busy, kibibytes / 1024, digest() if is_compared else None) if status == "0" else None
 
 
 def digest():
-    """What stands in the names that were written, but the journal's."""
+    """What stands in the names that are compared."""
     found = hashlib.sha256()
-    for name in sorted(name for pattern in WRITTEN if pattern != "w.txt" for name in glob.glob(pattern)):
+    for name in sorted(name for pattern in COMPARED for name in glob.glob(pattern)):
         with open(name, "rb") as file:
             found.update(name.encode() + hashlib.sha256(file.read()).digest())
     return found.hexdigest()
@@ -230,11 +283,67 @@ def print_walks(inputs, programs, rounds):
                 print("| %s | %d of %dx%d | %s | %s |" % (format(side, ","), pictures, width, height, kind, " | ".join(cells)), flush=True)
 
 
+def cells_of(middles):
+    """The figures of each program, and how many times as long the first one takes as each other one."""
+    cells = ["%.1f (%.1f), %.0f MiB" % (1000 * middle[0], 1000 * middle[1], middle[2]) if middle else "-" for middle in middles]
+    return " | ".join(cells + [ratios([middles[0], other]) for other in middles[1:]])
+
+
+def print_foreign(words, names):
+    columns = [*words, *("%s: ms (processor ms), MiB" % name for name in names), *("times %s" % name for name in names[1:])]
+    print("\n| %s |\n|%s" % (" | ".join(columns), "---|" * len(columns)))
+
+
+def print_image_cache(inputs, programs, names, rounds):
+    """Settled walks beside ImageCache, which has a thread for each sampler, and as much memory for tiles as their texels take in all frames."""
+    libraries = ["-lOpenImageIO", "-lOpenImageIO_Util", "-pthread"]
+    subprocess.run(["g++", "-std=c++20", "-O2", os.path.join(HERE, "image_cache.cpp"), "-o", "image_cache", *libraries], check=True)
+    print_foreign(["side", "pictures", "crew"], names + ["ImageCache"])
+    for at, side in enumerate(SIDES):
+        for width, height, pictures, frames in ((2, 2, 1, (256, 256)), *SIZES[1:]):
+            for samplers, loaders in ((1, 1), (4, 3)):
+                path = inputs.path(width, height, pictures)
+                options = ("--frames", frames[at], "--samplers", samplers, "--loaders", loaders)
+                words = walk_words(inputs, *options, store=inputs.store(side), path=path)
+                foreign = [inputs.mip_mapped(side), path, "f", str(samplers), str(frames[at] * 3 * 64 * 64 / 2**20), "w.own"]
+                middles, is_same = measured([(program, words) for program in programs] + [("./image_cache", foreign)], rounds, 1)
+                title = "%s | %d of %dx%d | %d/%d" % (format(side, ","), pictures, width, height, samplers, loaders)
+                print("| %s | %s%s |" % (title, cells_of(middles), "" if is_same else " OTHER BYTES"), flush=True)
+
+
+def print_vips(inputs, programs, names, rounds):
+    """`tile` beside libvips, on all processors and on one."""
+    print_foreign(["side", "processors"], names + ["libvips"])
+    every = len(os.sched_getaffinity(0))
+    for side in (64, 2048, 8192, 16384):
+        for processors in (every, 1):
+            tile = ["tile", inputs.texture(side), "w.vts"]
+            save = ["tiffsave", inputs.texture(side), "w.tif", *"--tile --pyramid --tile-width 64 --tile-height 64".split()]
+            runs = [(program, tile + number * ["--threads", str(processors)]) for number, program in enumerate(programs)]
+            runs.append((shutil.which("vips"), save + ["--vips-concurrency=%d" % processors]))
+            if processors < every:
+                runs = [(shutil.which("taskset"), ["-c", "0", program, *words]) for program, words in runs]
+            middles, _ = measured(runs, rounds, 0)
+            print("| %s | %d | %s |" % (format(side, ","), processors, cells_of(middles)), flush=True)
+        print_other_levels(inputs.store(side))
+
+
+def print_other_levels(store):
+    """Says which levels of the image that libvips wrote last are not those of a store."""
+    for number, picture in enumerate(levels_of(Store(contents(store)))):
+        subprocess.run(["vips", "copy", "w.tif[page=%d]" % number, "level.ppm"], check=True)
+        raster = contents("level.ppm")[-(len(picture) - picture.index(b"\n255\n") - 5) :]
+        if not picture.endswith(raster):
+            print("OTHER TEXELS in level %d of %s" % (number, store), flush=True)
+    os.remove("level.ppm")
+
+
 def main():
     parser = argparse.ArgumentParser()
     parser.add_argument("program", nargs="?", default=os.path.join(TOP, "crates/vtex/out/vtex"))
     parser.add_argument("--sweeps")
     parser.add_argument("--summary", action="store_true")
+    parser.add_argument("--foreign", nargs="?", const="walk,tile")
     parser.add_argument("--rounds", type=int)
     parser.add_argument("--most", type=int, default=8192)
     parser.add_argument("--beside")
@@ -242,16 +351,21 @@ def main():
     asked = parser.parse_args()
     program, beside = os.path.abspath(asked.program), asked.beside and os.path.abspath(asked.beside)
     more = {command.strip(): shlex.split(words) for command, words in (text.split(":", 1) for text in asked.words)}
-    rounds = asked.rounds or (9 if asked.summary else 5)
+    rounds = asked.rounds or (9 if asked.summary or asked.foreign else 5)
     with tempfile.TemporaryDirectory(dir="/dev/shm" if os.path.isdir("/dev/shm") else None) as folder:
         os.chdir(folder)
+        os.environ["TMPDIR"] = folder
         subprocess.run(["gcc", "-O1", os.path.join(HERE, "timed.c"), "-o", "timed"], check=True)
         inputs = Inputs(program)
+        programs, names = ([program, beside], ["vtex", "plain Rust"]) if beside else ([program], ["vtex"])
         if asked.summary:
-            programs = [program] + ([beside] if beside else [])
             print_commands(inputs, programs, rounds)
             print_walks(inputs, programs, rounds)
-        sweeps = {} if asked.summary else sweeps_of(inputs, [side for side in (1024, 2048, 4096, 8192) if side <= asked.most])
+        if asked.foreign and "walk" in asked.foreign:
+            print_image_cache(inputs, programs, names, rounds)
+        if asked.foreign and "tile" in asked.foreign:
+            print_vips(inputs, programs, names, rounds)
+        sweeps = {} if asked.summary or asked.foreign else sweeps_of(inputs, [side for side in (1024, 2048, 4096, 8192) if side <= asked.most])
         for sweep in asked.sweeps.split(",") if asked.sweeps and sweeps else sweeps:
             head = ["seconds", "processor seconds", "MiB"] + (["the other's seconds", "times"] if beside else [])
             print("\n| %s | %s |\n|%s" % (sweep, " | ".join(head), "---|" * (len(head) + 1)))
