@@ -2,9 +2,7 @@
 
 ghost use Rattle.std.specs.Prelude.{◌≡◌};
 ghost use Rattle.clap.specs.Words.{rows_of, found_of};
-ghost use Rattle.vt_words.specs.Machines.{
-    table_named, table_of, scheduling_named, scheduling_of, machine_for, machine_of,
-};
+ghost use Rattle.vt_words.specs.Machines.{table_named, table_of, scheduling_named, scheduling_of, machine_for, machine_of};
 
 use crate::arguments::text;
 use crate::filters::{Filtering, filter_of};
@@ -52,11 +50,7 @@ pub fn machine_of(matches: &ArgMatches<'_>) -> Option<MachineChoice>
 }
 
 // The machine for these values, if at most one of them is not its option's default.
-fn machine_for(
-    table: TableForm,
-    scheduling: Scheduling,
-    filter: Filtering,
-) -> Option<MachineChoice>
+fn machine_for(table: TableForm, scheduling: Scheduling, filter: Filtering) -> Option<MachineChoice>
     ensures { result ≡ machine_for table scheduling filter }
 {
     match (table, scheduling, filter) {
