@@ -2,7 +2,7 @@
 use super::files::USAGE;
 use super::flights::{Flight, fly_all, walk_all};
 use super::rows::{Row, hold};
-use super::walk_rows::{REUSED, SETTLED, TALL};
+use super::walk_rows::{REUSED, REUSED_ROW, SETTLED, TALL};
 use std::test::*;
 
 static WALKS: [Row<'static>; 4] = [
@@ -28,7 +28,7 @@ static WALKS: [Row<'static>; 4] = [
 static FLIGHTS: [Flight<'static>; 1] = [Flight {
     row: Row {
         words: "walk s.vts a.path f --frames 3 --samplers 1 --loaders 1 --batch 64 --journal j.txt --table swap",
-        ..REUSED.row
+        ..REUSED_ROW
     },
     ..REUSED
 }];
