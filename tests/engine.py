@@ -120,11 +120,12 @@ def walk(number, row, program):
         say(contents("got.txt") == contents("want.txt"), what + "changes")
         say(pictures("got.", count) == pictures("want.", count), what + "pictures")
     if program and "--lost" not in options:
-        walk_of_program(number, program, store, path, options + crew, count, wanted.stdout)
+        for table in ("words", "swap"):
+            walk_of_program(number, program, store, path, options + crew + ["--table", table], count, wanted.stdout)
 
 
 def walk_of_program(number, program, store, path, options, count, log):
-    what = "walk %d by vtex: " % number
+    what = "walk %d by vtex, %s: " % (number, options[-1])
     ran = run(program, "walk", store, path, "prog.", "--journal", "prog.txt", *options)
     say(ran.returncode == 0 and ran.stdout == log, what + "counts")
     journal = at_starts(contents("prog.txt"))

@@ -193,10 +193,11 @@ WALKS = [
     (*ODD, 16, WALK_PATH, "--frames 130 --samplers 1 --loaders 1 --batch 64 --pinned 2"),
     (*ODD, 16, WALK_PATH, "--frames 150 --samplers 64 --loaders 16 --batch 1 --pinned 16"),
     (*ODD, 8, WALK_PATH, "--frames 400 --samplers 5 --loaders 2 --batch 7 --rows shared"),
+    (*ODD, 8, WALK_PATH, "--frames 400 --samplers 5 --loaders 2 --batch 7 --table swap"),
     ("a wide texture", (130, 257, 5, 65535), 32, WALK_PATH, "--frames 70 --samplers 2 --loaders 5 --batch 3"),
     ("a small texture", (5, 3, 6, 255), 2, WALK_PATH, "--frames 9 --batch 2"),
 ]
-DEFAULTS = "--frames 64 --samplers 4 --loaders 3 --batch 64 --pinned 1 --rows dealt --filter nearest --journal long.txt"
+DEFAULTS = "--frames 64 --samplers 4 --loaders 3 --batch 64 --pinned 1 --table words --rows dealt --filter nearest --journal long.txt"
 
 # Words that are refused, the status and the line.
 REFUSALS = [
@@ -222,6 +223,9 @@ REFUSALS = [
     ("walk g4.vts a.path no --tile 2", 2, USAGE),
     ("walk g4.vts a.path no --rows taken", 2, USAGE),
     ("walk g4.vts a.path no --rows shared --filter bilinear", 2, USAGE),
+    ("walk g4.vts a.path no --table other", 2, USAGE),
+    ("walk g4.vts a.path no --table swap --rows shared", 2, USAGE),
+    ("walk g4.vts a.path no --table swap --filter bilinear", 2, USAGE),
     ("walk g4.vts a.path", 2, USAGE),
     ("walk g4.vts a.path no --journal g4.vts", 2, USAGE),
     ("walk g4.vts a.path no --journal a.path", 2, USAGE),

@@ -27,7 +27,7 @@ from judge import Doubt, Left, ending_of, flaws_of_walk, refusal_of
 from rows import wrong_rows
 from stores import BILINEAR, NEAREST, Flaw, Path, Store, contents
 from textures import MOST_TILED_SIDE, chain_of, generated, has_texels, made, noise, picture_of, read_image, store_of, upgraded
-from walks import DEALT, SHARED, Settings, Still, Walk, trial, walked
+from walks import DEALT, SHARED, SWAP, WORDS, Settings, Still, Walk, trial, walked
 
 DEFAULTS = {"frames": 64, "samplers": 4, "loaders": 3, "batch": 64, "pinned": 1, "status": 0, "lost": None}
 
@@ -99,9 +99,10 @@ def walk_words(words):
     parser.add_argument("--live", action="store_false", dest="settled")
     parser.add_argument("--filter", choices=[NEAREST, BILINEAR], default=NEAREST)
     parser.add_argument("--rows", choices=[DEALT, SHARED], default=DEALT)
+    parser.add_argument("--table", choices=[WORDS, SWAP], default=WORDS)
     parser.add_argument("--error")
     found = parser.parse_intermixed_args(words)
-    return found, Settings(found.frames, found.samplers, found.batch, found.pinned, found.settled, found.filter, found.rows)
+    return found, Settings(found.frames, found.samplers, found.batch, found.pinned, found.settled, found.filter, found.rows, found.table)
 
 
 def walk(*words):

@@ -7,7 +7,7 @@ from journals import Journal, replay
 from judge import LINES, Doubt, Left, flaws_of_walk
 from stores import BILINEAR, Flaw, Geometry, Path, Store, plain_picture
 from textures import chain_of, picture_of
-from walks import DEALT, SHARED, Settings, Shuffled, Still, Walk, trial, walked
+from walks import DEALT, SHARED, SWAP, Settings, Shuffled, Still, Walk, trial, walked
 
 FIRST = b"size 2 1\nfocal 1\nat 0 0 256 16384 0\n"
 FOUR = b"size 2 1\nfocal 1\n" + b"at 0 0 256 16384 0\n" * 2 + b"at 512 0 256 16384 0\n" * 2
@@ -260,8 +260,19 @@ def shared_versions(rows):
             drawn = replay(store, Path(path), Journal(store.geometry, 2, journal))
         said = rows.judged(FOUR_STORE, path, settings, 0, log, b"", journal, drawn)
         rows.is_true((not said) == lawful, "shared versions %s: %s" % ((s, v, other, w), said))
-    both = Settings(filtering=BILINEAR, scheduling=SHARED)
-    rows.refusal("shared rows beside blends", FOUR_STORE, FIRST, both, 2, LINES[2], None, b"", [])
+
+
+def swapped_table(rows):
+    """A walk over the swapped table leaves what one over words does; and no two options that ask for another machine go together."""
+    log, picture = b"picture 0 passes 4 wanted 2 loaded 2 lost 0 evicted 0\nend pictures 1 reads 3\n", [grey([0x0D, 0x01])]
+    for samplers in (1, 2, 7):
+        settings = Settings(frames=3, samplers=samplers, batch=1, settled=True, table=SWAP)
+        rows.walk("one picture settled, swapped table", FOUR_STORE, FIRST, settings, filled(ONE_SETTLED, 1, 2), log, picture)
+    other = {"filtering": BILINEAR, "scheduling": SHARED, "table": SWAP}
+    for left_out in other:
+        both = Settings(**{option: value for option, value in other.items() if option != left_out})
+        rows.refusal("two machines, without another %s" % left_out, FOUR_STORE, FIRST, both, 2, LINES[2], None, b"", [])
+    rows.refusal("three machines", FOUR_STORE, FIRST, Settings(**other), 2, LINES[2], None, b"", [])
 
 
 def one_batch(rows):
@@ -409,8 +420,8 @@ def any_order(rows):
         rows.is_true(status == 5 or not said, "any order %d, cut: %s" % (seed, said))
 
 
-WORKED = [single_texel, starved_walk, blends, lost_tile, other_lines, no_tile_lost, one_settled, shared_rows, shared_versions, one_batch, coarse_to_fine]
-WORKED += [failing_calls, replays, foreign_journals, failing_creations, held_version, large_walk, any_order]
+WORKED = [single_texel, starved_walk, blends, lost_tile, other_lines, no_tile_lost, one_settled, shared_rows, shared_versions, swapped_table, one_batch]
+WORKED += [coarse_to_fine, failing_calls, replays, foreign_journals, failing_creations, held_version, large_walk, any_order]
 
 
 def wrong_rows():

@@ -22,7 +22,7 @@ from judge import flaws_of_due, flaws_of_walk
 from rows import EIGHT_STORE, FIRST, FOUR, FOUR_ROWS, FOUR_STORE, LOST, WRAPPED, filled, grey, pixel
 from stores import contents
 from stores import BILINEAR
-from walks import SHARED, Settings
+from walks import SHARED, SWAP, Settings
 
 TEXELS = FOUR_STORE[16::3]
 SCALED = (0, 17, 68, 85, 34, 51, 102, 119, 136, 153, 204, 221, 170, 187, 238, 255, 43, 77, 179, 213)
@@ -93,6 +93,8 @@ JOBS = [
     WalkJob("e.vts", "a.path", "--frames 5 --samplers 7 --loaders 2 --settled", Settings(5, 7, 64, 1, True)),
     WalkJob("s.vts", "a.path", "--frames 5 --samplers 2 --loaders 2 --settled --filter bilinear", Settings(5, 2, 64, 1, True, BILINEAR)),
     WalkJob("s.vts", "rows.path", "--frames 4 --samplers 3 --loaders 2 --batch 2 --rows shared", Settings(4, 3, 2, scheduling=SHARED)),
+    WalkJob("s.vts", "four.path", "--frames 3 --samplers 2 --loaders 2 --batch 2 --table swap", Settings(3, 2, 2, table=SWAP)),
+    WalkJob("s.vts", "a.path", "--frames 3 --samplers 2 --loaders 1 --batch 1 --settled --table swap", Settings(3, 2, 1, 1, True, table=SWAP)),
     WalkJob("wide.vts", "a.path", "--frames 3 --samplers 2 --loaders 1 --settled", Settings(3, 2, 64, 1, True)),
     Job(["replay", "s.vts", "four.path", "j.txt", "f"], PICTURES, b"end pictures 4\n"),
     Job(["plain", "g4.ppm", "b.path", "f", "--tile", "2", "--filter", "bilinear"], [("f0000.ppm", BLEND)], b"end pictures 1\n"),

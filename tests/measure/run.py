@@ -27,6 +27,7 @@ import statistics
 import subprocess
 import sys
 import tempfile
+from itertools import product
 
 HERE = os.path.dirname(os.path.abspath(__file__))
 TOP = os.path.dirname(os.path.dirname(HERE))
@@ -135,6 +136,17 @@ def walk_words(inputs, *options, store=None, path=None):
     return words + [word for option in crew.items() for word in option]
 
 
+def tables_of(inputs, side):
+    """Walks over words and over the swapped table, a title and the words of each."""
+    rows = []
+    for kind, (samplers, loaders), table in product(("live", "settled"), ((1, 1), (4, 3)), ("words", "swap")):
+        options = ("--samplers", samplers, "--loaders", loaders, "--table", table)
+        words = lambda options=options: walk_words(inputs, *options, store=inputs.store(side))
+        live = lambda words=words: [word for word in words() if word != "--settled"]
+        rows.append(("%s, %d/%d, %s" % (kind, samplers, loaders, table), words if kind == "settled" else live))
+    return rows
+
+
 def sweeps_of(inputs, sides):
     """The rows of each sweep: a title, and the words, which are made when the row is run."""
     sizes = [(160, 100), (320, 200), (640, 400), (1280, 800), (2048, 2048)]
@@ -157,6 +169,7 @@ def sweeps_of(inputs, sides):
         "walk-frames": by("frames", (64, 128, 256, 512, 1024), "--frames"),
         "walk-batch": by("pages a batch", (1, 4, 16, 64, 256), "--batch"),
         "walk-wide": [("two bytes a sample", lambda: walk_words(inputs, store=inputs.wide_store(side)))],
+        "walk-table": tables_of(inputs, side),
         "replay": [("%d pictures" % n, lambda n=n: replay_words(inputs, side, n)) for n in (15, 60, 240)],
         "trial": [("trial 7", lambda: ["trial", "7"])],
     }
@@ -235,6 +248,7 @@ def summary_of(inputs):
         ("`walk`, live, the same pictures", live, "frames, and the pixels of all passes"),
         ("`walk --settled`", settled(), "frames, and the pixels of all passes"),
         ("the same, `--filter bilinear`", settled("--filter", "bilinear"), "frames, and the pixels of all passes"),
+        ("`walk --settled --table swap`", settled("--table", "swap"), "frames, and the pixels of all passes"),
         ("`replay` of a settled walk", lambda n: replay_words(inputs, n, 60), "pixels, and the journal's lines"),
         ("`trial 7`", lambda n: ["trial", "7"] if n == 2048 else None, "nothing"),
     ]
@@ -259,7 +273,7 @@ def print_commands(inputs, programs, rounds):
                 cells.append("| |")
                 beside.append("")
                 continue
-            beside_it = programs[:1] if "--filter" in words else programs
+            beside_it = programs[:1] if "--filter" in words or "--table" in words else programs
             middles, is_same = measured([(program, words) for program in beside_it], rounds, int(words[0] != "walk" or "--settled" in words))
             first = middles[0]
             cells.append("%.1f | %.1f | %.0f" % (1000 * first[0], 1000 * first[1], first[2]) if first else "- | - | -")

@@ -35,4 +35,4 @@ no_machine = record {
 
 -- with no machine: the specification of a command that does not wait is the same by any
 abbrev pub no_machines : Machines
-no_machines = record { standard = no_machine; shared_rows = no_machine; bilinear = no_machine }
+no_machines = record { standard = no_machine; swapped_table = no_machine; shared_rows = no_machine; bilinear = no_machine }

@@ -19,6 +19,7 @@ use vt_words::{MachineChoice, WalkWords};
 pub fn walk_chosen<
     'a,
     M: PassMachine<File = D::File> + Send,
+    Swap: PassMachine<File = D::File> + Send,
     Steal: PassMachine<File = D::File> + Send,
     Blend: PassMachine<File = D::File> + Send,
     Rt: Threads + Wait + Sync,
@@ -34,13 +35,16 @@ pub fn walk_chosen<
     gate: &G,
 ) -> Result<(), Refusal<'a>>
     requires { IsLawfulWalk words.now }
-    ensures { let machines = machines_of M.drawing M.drawn Steal.drawing Steal.drawn Blend.drawing Blend.drawn in
+    ensures { let machines = machines_of M.drawing M.drawn Swap.drawing Swap.drawn Steal.drawing Steal.drawn Blend.drawing Blend.drawn in
         let asked = shown_walk words.now in
         EndsBy (walk_spec (chosen machines asked) asked)
         (call_effect D.Folder O.Sink folder.old folder.new out.old out.new) result }
 {
     match words.machine {
         MachineChoice::Standard => walk::<M, Rt, D, O, G>(rt, alloc, words, folder, out, gate),
+        MachineChoice::SwappedTable => {
+            walk::<Swap, Rt, D, O, G>(rt, alloc, words, folder, out, gate)
+        }
         MachineChoice::SharedRows => {
             walk::<Steal, Rt, D, O, G>(rt, alloc, words, folder, out, gate)
         }

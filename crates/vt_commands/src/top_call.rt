@@ -21,15 +21,16 @@ use vt_outside::{Folder, Gate, Sink};
 /// `upgrade` reads a tile store of one-byte samples and writes the one of two-byte samples that it makes; `replay`
 /// reads a path, a store and a journal, and writes the replay of each picture of the journal; `walk` reads a path and
 /// opens a store, and writes a journal and each picture of the path as a machine draws it while it streams the tiles
-/// of the store: one of type `M`, or of type `Steal` where the words ask for shared rows, or of type `Blend` where they
-/// ask for bilinear filtering, whichever machines these are; `trial` walks settled in memory over a texture and a path
-/// that are made from a number, and tells how many passes and reads it took. `walk` and `trial` may wait; any other
-/// words are handed to `run_at_once`.
+/// of the store: one of type `M`, or of type `Swap` where the words ask for the swapped table, of type `Steal` where they
+/// ask for shared rows, of type `Blend` where they ask for bilinear filtering, whichever machines these are; `trial` walks
+/// settled in memory over a texture and a path that are made from a number, and tells how many passes and reads it took.
+/// `walk` and `trial` may wait; any other words are handed to `run_at_once`.
 ///
 /// The contract is the record `IsRun` of `specs/Runs.antt`, with a field for each promise: what was left, what was
 /// asked, the cause of each status, and the line on the error output.
 pub fn run<
     M: PassMachine<File = D::File> + Send,
+    Swap: PassMachine<File = D::File> + Send,
     Steal: PassMachine<File = D::File> + Send,
     Blend: PassMachine<File = D::File> + Send,
     Rt: Threads + Wait + Sync,
@@ -46,11 +47,11 @@ pub fn run<
     err: &mut E,
     gate: &G,
 ) -> u8
-    ensures { IsRun (run_of (machines_of M.drawing M.drawn Steal.drawing Steal.drawn Blend.drawing Blend.drawn)
+    ensures { IsRun (run_of (machines_of M.drawing M.drawn Swap.drawing Swap.drawn Steal.drawing Steal.drawn Blend.drawing Blend.drawn)
         D.Folder O.Sink E.Sink (texts words.now) folder.old folder.new out.old out.new err.old err.new) result }
 {
     if may_wait(words) {
-        return run_waiting::<M, Steal, Blend, Rt, D, O, E, G>(
+        return run_waiting::<M, Swap, Steal, Blend, Rt, D, O, E, G>(
             rt, alloc, words, folder, out, err, gate,
         );
     }

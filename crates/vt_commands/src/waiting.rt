@@ -24,6 +24,7 @@ use vt_walk_commands::trial;
 /// Does what `run` does, where the words are those of a command that may wait.
 pub fn run_waiting<
     M: PassMachine<File = D::File> + Send,
+    Swap: PassMachine<File = D::File> + Send,
     Steal: PassMachine<File = D::File> + Send,
     Blend: PassMachine<File = D::File> + Send,
     Rt: Threads + Wait + Sync,
@@ -41,10 +42,10 @@ pub fn run_waiting<
     gate: &G,
 ) -> u8
     requires { may_wait (texts words.now) ≡ true }
-    ensures { IsRun (run_of (machines_of M.drawing M.drawn Steal.drawing Steal.drawn Blend.drawing Blend.drawn)
+    ensures { IsRun (run_of (machines_of M.drawing M.drawn Swap.drawing Swap.drawn Steal.drawing Steal.drawn Blend.drawing Blend.drawn)
         D.Folder O.Sink E.Sink (texts words.now) folder.old folder.new out.old out.new err.old err.new) result }
 {
-    let end = do_waiting::<M, Steal, Blend, Rt, D, O, G>(rt, alloc, words, folder, out, gate);
+    let end = do_waiting::<M, Swap, Steal, Blend, Rt, D, O, G>(rt, alloc, words, folder, out, gate);
     tell_end(&end, usage_line(), err);
     status_of(&end)
 }
@@ -53,6 +54,7 @@ pub fn run_waiting<
 fn do_waiting<
     'a,
     M: PassMachine<File = D::File> + Send,
+    Swap: PassMachine<File = D::File> + Send,
     Steal: PassMachine<File = D::File> + Send,
     Blend: PassMachine<File = D::File> + Send,
     Rt: Threads + Wait + Sync,
@@ -68,17 +70,18 @@ fn do_waiting<
     gate: &G,
 ) -> Result<(), Refusal<'a>>
     requires { may_wait (texts words.now) ≡ true }
-    ensures { EndsRun (machines_of M.drawing M.drawn Steal.drawing Steal.drawn Blend.drawing Blend.drawn)
+    ensures { EndsRun (machines_of M.drawing M.drawn Swap.drawing Swap.drawn Steal.drawing Steal.drawn Blend.drawing Blend.drawn)
         (texts words.now) (call_effect D.Folder O.Sink folder.old folder.new out.old out.new) result }
 {
     let command = read_command(alloc, words)?;
-    perform_waiting::<M, Steal, Blend, Rt, D, O, G>(rt, alloc, &command, folder, out, gate)
+    perform_waiting::<M, Swap, Steal, Blend, Rt, D, O, G>(rt, alloc, &command, folder, out, gate)
 }
 
 // Does a command.
 fn perform_waiting<
     'a,
     M: PassMachine<File = D::File> + Send,
+    Swap: PassMachine<File = D::File> + Send,
     Steal: PassMachine<File = D::File> + Send,
     Blend: PassMachine<File = D::File> + Send,
     Rt: Threads + Wait + Sync,
@@ -95,12 +98,12 @@ fn perform_waiting<
 ) -> Result<(), Refusal<'a>>
     requires lawful { IsLawful command.now }
     requires waits { MayWait (shown command.now) }
-    ensures { EndsBy (spec_of (machines_of M.drawing M.drawn Steal.drawing Steal.drawn Blend.drawing Blend.drawn)
+    ensures { EndsBy (spec_of (machines_of M.drawing M.drawn Swap.drawing Swap.drawn Steal.drawing Steal.drawn Blend.drawing Blend.drawn)
         (shown command.now)) (call_effect D.Folder O.Sink folder.old folder.new out.old out.new) result }
 {
     match command {
         Command::Walk(words) => {
-            walk_chosen::<M, Steal, Blend, Rt, D, O, G>(rt, alloc, words, folder, out, gate)
+            walk_chosen::<M, Swap, Steal, Blend, Rt, D, O, G>(rt, alloc, words, folder, out, gate)
         }
         Command::Trial(words) => trial(rt, alloc, words, out, gate),
         Command::Store(_) | Command::Replay(_) => unreachable!(),

@@ -89,9 +89,11 @@ fn is_of_words(text: &[u8], words: &[&str]) -> bool {
 fn told_last(settled: bool, machine: MachineChoice) -> &'static [&'static str] {
     match (settled, machine) {
         (true, MachineChoice::Standard) => &["settled"],
+        (true, MachineChoice::SwappedTable) => &["settled", "swapped"],
         (true, MachineChoice::SharedRows) => &["settled", "shared"],
         (true, MachineChoice::Bilinear) => &["settled", "bilinear"],
         (false, MachineChoice::Standard) => &[],
+        (false, MachineChoice::SwappedTable) => &["swapped"],
         (false, MachineChoice::SharedRows) => &["shared"],
         (false, MachineChoice::Bilinear) => &["bilinear"],
     }

@@ -16,6 +16,7 @@ mod rows;
 mod runs;
 mod shared_rows;
 mod stores;
+mod swapped_table;
 mod trials;
 mod walk_rows;
 mod walk_stops;

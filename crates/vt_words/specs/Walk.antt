@@ -5,7 +5,7 @@ use Rattle.vt_definitions.specs.Limits.{most_frames, most_samplers, most_loaders
 use Rattle.vt_words.specs.Arguments.{word, option, flag, given, is_set}
 use Rattle.vt_words.specs.Filters.{filter_option}
 use Rattle.vt_words.specs.Journals.{names_clash}
-use Rattle.vt_words.specs.Machines.{rows_option, machine_of}
+use Rattle.vt_words.specs.Machines.{table_option, rows_option, machine_of}
 use Rattle.vt_words.specs.Numbers.{number_of, IsBetween}
 use Rattle.vt_words.specs.declared.machines.MachineChoice.{MachineChoice}
 use Rattle.vt_words.specs.declared.walk.WalkWords.{WalkWords}
@@ -34,7 +34,7 @@ walk_rules =
     word (codes "store") ∷ word (codes "path") ∷ word (codes "prefix")
     ∷ option (codes "frames") (codes "64") ∷ option (codes "samplers") (codes "4") ∷ option (codes "loaders") (codes "3")
     ∷ option (codes "batch") (codes "64") ∷ option (codes "pinned") (codes "1") ∷ option (codes "journal") (codes "journal.txt")
-    ∷ rows_option ∷ filter_option ∷ flag (codes "settled") ∷ []
+    ∷ table_option ∷ rows_option ∷ filter_option ∷ flag (codes "settled") ∷ []
 
 -- what the rows say; nothing where a number is not lawful, the options ask for no machine, or names clash
 abbrev pub walk_values : List Row → Option WalkText

@@ -72,6 +72,7 @@ pub fn walk_rows<'a>() -> &'a [Argument<'a>]
         Argument::Option("batch", "64"),
         Argument::Option("pinned", "1"),
         Argument::Option("journal", "journal.txt"),
+        Argument::Option("table", "words"),
         Argument::Option("rows", "dealt"),
         Argument::Option("filter", "nearest"),
         Argument::Flag("settled"),

@@ -17,6 +17,7 @@ use vt_commands::usage_line;
 use vt_outside::{OpenGate, RealFile, RealFolder, RealSink};
 use vt_pass::WordMachine;
 use vt_steal::StealMachine;
+use vt_swap_machine::SwapMachine;
 
 // The words after the program's name.
 fn words_of(rt: &HostRuntime, alloc: Global) -> io::Result<Vec<String>> {
@@ -52,6 +53,7 @@ fn main(rt: HostRuntime) -> ExitCode {
     let mut out = RealSink::new(rt.stdout());
     let status = run::<
         WordMachine<RealFile<File>>,
+        SwapMachine<RealFile<File>>,
         StealMachine<RealFile<File>>,
         BlendMachine<RealFile<File>>,
         _,

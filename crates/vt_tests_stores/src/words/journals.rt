@@ -213,6 +213,51 @@ fn rows_are_dealt_or_shared_and_go_shared_with_the_nearest_filter_alone(rt: Host
 }
 
 #[test]
+fn the_table_is_words_or_swapped_and_goes_swapped_with_defaults_alone(rt: HostRuntime) {
+    const CASES: [(&str, &str); 17] = [
+        (
+            "vtex walk s p x --table swap",
+            "walk s p x journal.txt 64 4 3 64 1 swapped",
+        ),
+        (
+            "vtex walk --table=swap s p x --settled",
+            "walk s p x journal.txt 64 4 3 64 1 settled swapped",
+        ),
+        (
+            "vtex walk s p x --table words",
+            "walk s p x journal.txt 64 4 3 64 1",
+        ),
+        (
+            "vtex walk s p x --rows dealt --filter nearest --table swap",
+            "walk s p x journal.txt 64 4 3 64 1 swapped",
+        ),
+        (
+            "vtex walk s p x --table words --rows shared",
+            "walk s p x journal.txt 64 4 3 64 1 shared",
+        ),
+        (
+            "vtex walk s p x --table words --filter bilinear",
+            "walk s p x journal.txt 64 4 3 64 1 bilinear",
+        ),
+        ("vtex walk s p x --table swap --rows shared", "usage"),
+        ("vtex walk s p x --filter=bilinear --table=swap", "usage"),
+        (
+            "vtex walk s p x --table swap --rows shared --filter bilinear",
+            "usage",
+        ),
+        ("vtex walk s p x --table other", "usage"),
+        ("vtex walk s p x --table Swap", "usage"),
+        ("vtex walk s p x --table=", "usage"),
+        ("vtex walk s p x --table", "usage"),
+        ("vtex walk s p x --table swap --table swap", "usage"),
+        ("vtex walk s p x --tabl swap", "usage"),
+        ("vtex replay s p j x --table swap", "usage"),
+        ("vtex trial 7 --table words", "usage"),
+    ];
+    are_read(&rt, rt.alloc(), &CASES);
+}
+
+#[test]
 fn trial_has_a_number_of_sixteen_bits(rt: HostRuntime) {
     const CASES: [(&str, &str); 8] = [
         ("vtex trial 0", "trial 0"),

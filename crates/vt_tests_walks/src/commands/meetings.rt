@@ -24,15 +24,24 @@ fn meets(
 }
 
 // Two loaders read two tiles. Which of them comes first is open, so the journal is not looked at.
-static OVERTAKEN: Row<'static> = Row {
-    words: "walk s.vts a.path f --frames 3 --samplers 1 --loaders 2 --batch 2 --journal j.txt --settled",
-    left: &[],
-    ..BATCH_OF_TWO
-};
+static OVERTAKEN: [Row<'static>; 2] = [
+    Row {
+        words: "walk s.vts a.path f --frames 3 --samplers 1 --loaders 2 --batch 2 --journal j.txt --settled",
+        left: &[],
+        ..BATCH_OF_TWO
+    },
+    Row {
+        words: "walk s.vts a.path f --frames 3 --samplers 1 --loaders 2 --batch 2 --journal j.txt --settled --table swap",
+        left: &[],
+        ..BATCH_OF_TWO
+    },
+];
 
 #[test]
 fn a_read_may_overtake_another(rt: HostRuntime) {
-    assert!(rt; meets(&rt, rt.alloc(), &OVERTAKEN, Meeting::Reads));
+    for i in 0..OVERTAKEN.len() {
+        assert!(rt; meets(&rt, rt.alloc(), &OVERTAKEN[i], Meeting::Reads), "row {i}");
+    }
 }
 
 // The row of the fourth picture holds version 3 when version 4 is published, and is drawn by it.

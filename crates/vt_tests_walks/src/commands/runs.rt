@@ -9,6 +9,7 @@ use vt_commands::run;
 use vt_outside::{Fail, Fails, MemoryFile, MemoryFolder, MemorySink, NoMemory};
 use vt_pass::WordMachine;
 use vt_steal::StealMachine;
+use vt_swap_machine::SwapMachine;
 
 /// What commands run over: a folder in memory, the output and the error output, and the gate of their workers.
 #[derive(Drop)]
@@ -92,6 +93,7 @@ fn play_words(
 ) -> u8 {
     run::<
         WordMachine<MemoryFile>,
+        SwapMachine<MemoryFile>,
         StealMachine<MemoryFile>,
         BlendMachine<MemoryFile>,
         _,

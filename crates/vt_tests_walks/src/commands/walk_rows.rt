@@ -137,23 +137,25 @@ pub(super) const TALL: Row<'static> = Row {
     err: b"",
 };
 
+pub(super) const REUSED_ROW: Row<'static> = Row {
+    words: "walk s.vts a.path f --frames 3 --samplers 1 --loaders 1 --batch 64 --journal j.txt",
+    files: &[("s.vts", All(G4_STORE)), ("a.path", All(FOUR_PICTURES))],
+    fail: None,
+    err_fail: None,
+    status: 0,
+    left: &[],
+    missing: &["journal.txt"],
+    pictures: &[],
+    out: b"picture 0 passes 1 wanted 2 loaded 0 lost 0 evicted 0\n\
+        picture 1 passes 1 wanted 2 loaded 2 lost 0 evicted 0\n\
+        picture 2 passes 1 wanted 2 loaded 0 lost 0 evicted 0\n\
+        picture 3 passes 1 wanted 2 loaded 2 lost 0 evicted 2\nend pictures 4 reads 5\n",
+    err: b"",
+};
+
 // Both pages of the first place are replaced by those of the other. Page 2 is the less recent one.
 pub(super) const REUSED: Flight<'static> = Flight {
-    row: Row {
-        words: "walk s.vts a.path f --frames 3 --samplers 1 --loaders 1 --batch 64 --journal j.txt",
-        files: &[("s.vts", All(G4_STORE)), ("a.path", All(FOUR_PICTURES))],
-        fail: None,
-        err_fail: None,
-        status: 0,
-        left: &[],
-        missing: &["journal.txt"],
-        pictures: &[],
-        out: b"picture 0 passes 1 wanted 2 loaded 0 lost 0 evicted 0\n\
-            picture 1 passes 1 wanted 2 loaded 2 lost 0 evicted 0\n\
-            picture 2 passes 1 wanted 2 loaded 0 lost 0 evicted 0\n\
-            picture 3 passes 1 wanted 2 loaded 2 lost 0 evicted 2\nend pictures 4 reads 5\n",
-        err: b"",
-    },
+    row: REUSED_ROW,
     told: Told {
         text: REUSED_TEXT,
         versions: &[(1, 1), (1, 3), (3, 3), (3, 7)],

@@ -11,8 +11,8 @@ use Rattle.vt_commands.proofs.waiting.do_waiting.Goals as goal
 pub returns-in_err-command : goal.returns-in_err-command
 returns-in_err-command g c =
     let p = err_from_is_err_and c.from_residual.result c.from_residual.ensures.1 in
-    rw (p.1, p.2) (runs_unread (machines_of g.M.PassMachine.drawing g.M.PassMachine.drawn g.Steal.PassMachine.drawing g.Steal.PassMachine.drawn
-    g.Blend.PassMachine.drawing g.Blend.PassMachine.drawn) _ (texts c.args.words.now) _
+    rw (p.1, p.2) (runs_unread (machines_of g.M.PassMachine.drawing g.M.PassMachine.drawn g.Swap.PassMachine.drawing g.Swap.PassMachine.drawn
+    g.Steal.PassMachine.drawing g.Steal.PassMachine.drawn g.Blend.PassMachine.drawing g.Blend.PassMachine.drawn) _ (texts c.args.words.now) _
     c.in_err-command.field-0.0 (record { folder = refl; out = refl }) (λ is. c.in_err-command.ensures.usage (ap Err is)))
 
 pub perform_waiting-requires-clause-waits : goal.perform_waiting-requires-clause-waits
@@ -20,7 +20,7 @@ perform_waiting-requires-clause-waits g c lives outlive = is_waiting (texts c.ar
 
 pub returns : goal.returns
 returns g c =
-    runs_command (machines_of g.M.PassMachine.drawing g.M.PassMachine.drawn g.Steal.PassMachine.drawing g.Steal.PassMachine.drawn
-    g.Blend.PassMachine.drawing g.Blend.PassMachine.drawn) _ (texts c.args.words.now)
+    runs_command (machines_of g.M.PassMachine.drawing g.M.PassMachine.drawn g.Swap.PassMachine.drawing g.Swap.PassMachine.drawn
+    g.Steal.PassMachine.drawing g.Steal.PassMachine.drawn g.Blend.PassMachine.drawing g.Blend.PassMachine.drawn) _ (texts c.args.words.now)
     (call_effect g.D.Folder g.O.Sink c.args.folder.now c.perform_waiting.new.folder c.args.out.now c.perform_waiting.new.out)
     c.perform_waiting.result (shown c.in_ok-command.command) c.in_ok-command.ensures.read c.perform_waiting.ensures

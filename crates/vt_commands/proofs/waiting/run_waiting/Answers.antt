@@ -9,8 +9,8 @@ use Rattle.vt_commands.proofs.waiting.run_waiting.Goals as goal
 
 pub returns : goal.returns
 returns g c =
-    rw c.status_of.ensures (is_run (run_of (machines_of g.M.PassMachine.drawing g.M.PassMachine.drawn g.Steal.PassMachine.drawing g.Steal.PassMachine.drawn
-    g.Blend.PassMachine.drawing g.Blend.PassMachine.drawn) g.D.Folder g.O.Sink g.E.Sink
+    rw c.status_of.ensures (is_run (run_of (machines_of g.M.PassMachine.drawing g.M.PassMachine.drawn g.Swap.PassMachine.drawing g.Swap.PassMachine.drawn
+    g.Steal.PassMachine.drawing g.Steal.PassMachine.drawn g.Blend.PassMachine.drawing g.Blend.PassMachine.drawn) g.D.Folder g.O.Sink g.E.Sink
     (texts c.args.words.now) c.args.folder.now c.do_waiting-end.new.folder c.args.out.now c.do_waiting-end.new.out
     c.args.err.now c.tell_end.new.err) _ c.do_waiting-end.result c.do_waiting-end.ensures
     (subst (λ (usage : List ℕ). EndTold usage c.do_waiting-end.result (sink_effect g.E.Sink c.args.err.now c.tell_end.new.err))
