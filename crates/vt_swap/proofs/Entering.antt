@@ -1,11 +1,15 @@
 -- Versions that are entered one after the other.
-use Rattle.std.proofs.Common.{◌≡◌, ℕ, ◌≤◌, List, [], ◌∷◌, ◌++◌, refl, sym, ap, ◌∙◌, subst, append_assoc}
+use Rattle.std.proofs.Common.{◌≡◌, ℕ, ◌≤◌, List, [], ◌∷◌, ◌++◌, length, refl, sym, ap, ◌∙◌, subst, arith, append_assoc}
 use Rattle.std.specs.Prelude.{All}
 use Rattle.std.proofs.lemmas.List.Elements.{All-tail}
 use mathlib.Core.List.{IsPrefix}
 use Rattle.vt_swap.specs.declared.records.LogRecord.{LogRecord}
+use Rattle.vt_swap.specs.declared.table.NewestTable.{NewestTable}
+use Rattle.vt_swap.specs.Logs.{changes_in}
+use Rattle.vt_swap.specs.Tables.{IsTable}
 use Rattle.vt_swap.specs.Readers.{ReaderView, HasEnteredMore, WasEntered}
-use Rattle.vt_swap.proofs.Prefixes.{prefix_self, prefix_trans}
+use Rattle.vt_swap.proofs.Prefixes.{prefix_self, prefix_trans, prefix_length}
+use Rattle.vt_swap.proofs.Lawful.{changes_prefix}
 
 -- what is so of each element is so of those behind a front
 pub all_behind : {X : Type 0} (P : X → Type 0) (xs ys : List X) → All P (xs ++ ys) → All P ys
@@ -25,11 +29,12 @@ entered_then r q s more version one two = record {
 
 -- the version that was entered last, after others
 pub was_entered : (r q s : ReaderView) (more : List ℕ) (version : ℕ) → HasEnteredMore r q more → HasEnteredMore q s (version ∷ [])
-    → All (λ (u : ℕ). u ≤ version) q.entered → WasEntered r s version
-was_entered r q s more version one two later = record {
+    → All (λ (u : ℕ). u ≤ version) q.entered → version ≤ length (changes_in s.log) → WasEntered r s version
+was_entered r q s more version one two later known = record {
   before = more;
   more = entered_then r q s more version one two;
   later = all_behind (λ (u : ℕ). u ≤ version) more r.entered (subst (λ (l : List ℕ). All (λ (u : ℕ). u ≤ version) l) one.entered later);
+  known = known;
 }
 
 -- versions were entered before
@@ -44,4 +49,14 @@ was_later r q s more version one two = record {
         ∙ ap (λ (l : List ℕ). version ∷ l) (sym (append_assoc two.before more r.entered));
   };
   later = all_behind (λ (u : ℕ). u ≤ version) more r.entered (subst (λ (l : List ℕ). All (λ (u : ℕ). u ≤ version) l) one.entered two.later);
+  known = two.known;
 }
+
+-- the version of a table is one of the journal that a log tells which goes on where the table's ends
+pub version_known : (t : NewestTable) (log : List LogRecord) → IsTable t → IsPrefix t.front.seen.log log → t.version ≤ length (changes_in log)
+version_known t log table seen =
+    omega (arith, table.version_is, prefix_length (changes_in t.front.seen.log) (changes_in log) (changes_prefix t.front.seen.log log seen))
+
+-- so many changes a longer log has at least
+pub known_on : (rs ss : List LogRecord) (version : ℕ) → IsPrefix rs ss → version ≤ length (changes_in rs) → version ≤ length (changes_in ss)
+known_on rs ss version pre known = omega (arith, known, prefix_length (changes_in rs) (changes_in ss) (changes_prefix rs ss pre))

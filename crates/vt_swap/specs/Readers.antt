@@ -1,5 +1,5 @@
 -- What a reader of the page table has seen, and a look-up in a version that it entered.
-use Rattle.std.specs.Prelude.{◌≡◌, ℕ, ◌≤◌, Bool, false, List, [], ◌∷◌, ◌++◌, All}
+use Rattle.std.specs.Prelude.{◌≡◌, ℕ, ◌≤◌, Bool, false, List, [], ◌∷◌, ◌++◌, length, All}
 use mathlib.Core.List.{IsPrefix}
 use Rattle.logbook.specs.Pages.{Book}
 use Rattle.vt_pages.specs.Shape.{Shape}
@@ -9,6 +9,7 @@ use Rattle.vt_swap.specs.declared.log.Front.{Front}
 use Rattle.vt_swap.specs.declared.table.NewestTable.{NewestTable}
 use Rattle.vt_swap.specs.declared.rule.Known.{Known}
 use Rattle.vt_swap.specs.declared.frame.FrameKey.{FrameKey}
+use Rattle.vt_swap.specs.Logs.{changes_in}
 use Rattle.vt_swap.specs.Tables.{IsTable, AreOfOneLog}
 use Rattle.vt_swap.specs.Rules.{KnowsLog}
 use Rattle.vt_swap.specs.Slots.{AreSlotsOf}
@@ -26,11 +27,12 @@ pub record HasEnteredMore (r q : ReaderView) (more : List ℕ) : Type 0 where
   pub log : IsPrefix r.log q.log
   pub entered : q.entered ≡ more ++ r.entered
 
--- a version was entered in between, the last of all, and no later one before
+-- a version was entered in between, the last of all, and no later one before; it is one of the journal, as far as that was seen
 pub record WasEntered (r q : ReaderView) (version : ℕ) : Type 0 where
   pub before : List ℕ
   pub more : HasEnteredMore r q (version ∷ before)
   pub later : All (λ u. u ≤ version) r.entered
+  pub known : version ≤ length (changes_in q.log)
 
 -- a version is being read: it is that of its journal, which was seen
 pub record IsEntered (k : Known) (t : NewestTable) (front : Front) : Type 0 where

@@ -6,7 +6,7 @@ ghost use Rattle.vt_definitions.specs.Depths.{IsDepth, texel_length};
 ghost use Rattle.vt_pages.specs.Pages.{pages_of};
 ghost use Rattle.vt_draw.specs.Shots.{shot_row};
 ghost use Rattle.vt_filter.specs.Evidence.{AreShown, AreRaised};
-ghost use Rattle.vt_swap.specs.Logs.{IsLawful};
+ghost use Rattle.vt_swap.specs.Logs.{changes_in, IsLawful};
 ghost use Rattle.vt_swap.specs.Slots.{AreSlotsOf};
 ghost use Rattle.vt_swap.specs.Notes.{IsEntry, IsSaidBy};
 ghost use Rattle.vt_swap.specs.Readers.{HasEnteredMore, WasEntered};
@@ -141,6 +141,7 @@ fn try_row<P: Filter, G: Gate, R: Wait>(
     requires room { (p : ℕ) → p < length counts.old → slice_index counts.old p + 4 * shot.now.path.now.width < 2 ^ 32 }
     ensures entered { HasEnteredMore reader result.0 (result.1 ∷ []) }
     ensures later { All (λ u. u ≤ result.1) reader.entered }
+    ensures known { result.1 ≤ length (changes_in result.0.log) }
     ensures drawn { result.2 ≡ false
         → let row = shot_row shot.now.geometry.now shot.now.path.now shot.now.picture y in
         AreShown P.shown shot.now.geometry.now shot.now.depth result.1 (IsSaidBy result.0.log) row

@@ -7,9 +7,11 @@ ghost use Rattle.vt_journal.specs.declared.changes.Change.TheVariants.{Map, Unma
 ghost use Rattle.vt_journal.specs.Changes.{newest, IsNext};
 ghost use Rattle.vt_swap.specs.declared.records.LogRecord.TheVariants.{Changed, Filled};
 ghost use Rattle.vt_swap.specs.Slots.{AreSlotsOf, IsSlotOf};
-ghost use Rattle.vt_swap.specs.Streamers.{HasUnmapped, HasMapped, HasBrought, IsRefused, MayBring};
+ghost use Rattle.vt_swap.specs.Logs.{IsLawful};
+ghost use Rattle.vt_swap.specs.Streamers.{IsWhole, HasUnmapped, HasMapped, HasBrought, IsRefused, MayBring};
 
 use crate::frame::Slot;
+use crate::fronts::is_lawful;
 use crate::log::{Front, Head};
 use crate::publishing::{TableWriter, fill_and_map, lay_out, note_and_publish};
 use std::alloc::Global;
@@ -59,6 +61,17 @@ impl SwapStreamer {
         ensures { result.now.changes ≡ self.now.journal }
     {
         &self.journal
+    }
+
+    /// Whether it was refused memory in mid-step. What it has done is lawful, and its journal is that of its log unless it was
+    /// refused.
+    pub fn is_broken(&self) -> bool
+        ensures broken { result ≡ self.now.broken }
+        ensures lawful { IsLawful self.now.log }
+        ensures whole { IsWhole self.now }
+    {
+        is_lawful(&self.front);
+        self.broken
     }
 
     /// Unmaps a page, which is mapped to the frame: readers who enter from then on do not find it. It waits for readers of the table

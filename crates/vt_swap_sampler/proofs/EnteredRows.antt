@@ -4,7 +4,7 @@ use Rattle.std.specs.Prelude.{All, Contains}
 use Rattle.std.proofs.lemmas.List.Elements.{All-contains, Contains-append_left, Contains-append_right}
 use Rattle.vt_swap.specs.Readers.{ReaderView, HasEnteredMore, WasEntered}
 use Rattle.vt_swap.proofs.Prefixes.{prefix_trans}
-use Rattle.vt_swap.proofs.Entering.{all_behind}
+use Rattle.vt_swap.proofs.Entering.{all_behind, known_on}
 use Rattle.vt_swap_sampler.specs.Entered.{WasEnteredBetween}
 
 -- a reader that entered more, and then more
@@ -22,6 +22,7 @@ was_entered_then r q s then u two was = record {
   entered = two.entered ∙ ap (λ (l : List ℕ). then ++ l) was.entered ∙ sym (append_assoc then was.more r.entered);
   among = Contains-append_right then was.more u was.among;
   later = was.later;
+  known = known_on q.log s.log u two.log was.known;
 }
 
 -- and what is entered now is entered
@@ -31,6 +32,7 @@ was_entered_now r q s more v one two = record {
   entered = two.more.entered ∙ ap (λ (l : List ℕ). (v ∷ two.before) ++ l) one.entered ∙ sym (append_assoc (v ∷ two.before) more r.entered);
   among = Contains-append_left (v ∷ two.before) more v (0, omega arith, refl);
   later = all_behind (λ (u : ℕ). u ≤ v) more r.entered (subst (λ (l : List ℕ). All (λ (u : ℕ). u ≤ v) l) one.entered two.later);
+  known = two.known;
 }
 
 -- what was entered is not above a version that is not below any that was entered

@@ -1,4 +1,4 @@
-//! Walks by the machine whose samplers share rows, over a store in memory.
+//! Walks by the machine whose samplers share rows, and by the one over a swapped page table, over a store in memory.
 
 ghost use Rattle.std.specs.Prelude.{◌≡◌, [], ◌∷◌, is_some};
 ghost use Rattle.std.specs.Bool.{OnTrue};
@@ -7,16 +7,17 @@ ghost use Rattle.vt_machine.specs.Machines.{file_state};
 ghost use Rattle.vt_walk.specs.Walks.{AreSettings};
 ghost use Rattle.vt_walk.specs.States.{AreOpen};
 
-use crate::gates::FirstAndFourth;
+use crate::gates::FirstAndLater;
 use std::alloc::Global;
 use std::process::Abort;
 use std::sync::Wait;
 use std::thread::Threads;
 use vt_camera::{Path, parse_path};
-use vt_machine::Crew;
+use vt_machine::{Crew, PassMachine};
 use vt_outside::{Fails, Folder, Gate, MemoryFile, MemoryFolder, MemorySink, OpenGate};
 use vt_pages::Geometry;
 use vt_steal::StealMachine;
+use vt_swap_machine::SwapMachine;
 use vt_tiles::Store;
 use vt_walk::{Names, Settings, walk_with};
 
@@ -37,6 +38,10 @@ struct Case<'a> {
     log: &'a [u8],
     picture: &'a [u8],
 }
+
+type Steal = StealMachine<MemoryFile>;
+
+type Swap = SwapMachine<MemoryFile>;
 
 // Opens the store of a folder, after its path, as the program does.
 fn open_after_path<D: Folder>(rt: &impl Abort, folder: &mut D, name: &str) -> Store<D::File>
@@ -76,8 +81,12 @@ fn are_lawful(geometry: &Geometry, settings: &Settings) -> bool
         && settings.crew.batch <= 4096
 }
 
-// Whether the walk of a case over the store of a folder succeeds.
-fn is_walked<Rt: Abort + Threads + Wait + Sync, G: Gate + Sync>(
+// Whether the walk of a case by a machine over the store of a folder succeeds.
+fn is_walked<
+    Rt: Abort + Threads + Wait + Sync,
+    M: PassMachine<File = MemoryFile> + Send,
+    G: Gate + Sync,
+>(
     rt: &Rt,
     alloc: Global,
     folder: &mut MemoryFolder,
@@ -94,7 +103,7 @@ fn is_walked<Rt: Abort + Threads + Wait + Sync, G: Gate + Sync>(
     let store = open_after_path(rt, folder, names.store);
     let lawful = are_lawful(&store.geometry(), &case.settings);
     assert!(rt; lawful);
-    walk_with::<Rt, StealMachine<MemoryFile>, MemoryFolder, MemorySink, G>(
+    walk_with::<Rt, M, MemoryFolder, MemorySink, G>(
         rt,
         alloc,
         folder,
@@ -109,19 +118,17 @@ fn is_walked<Rt: Abort + Threads + Wait + Sync, G: Gate + Sync>(
     .is_ok()
 }
 
-// Whether all comes of the walk of a case that is to come of it, in a folder of no names.
-fn comes<Rt: Abort + Threads + Wait + Sync, G: Gate + Sync>(
-    rt: &Rt,
-    alloc: Global,
-    folder: &mut MemoryFolder,
-    case: &Case<'_>,
-    gate: &G,
-) -> bool {
+// Whether all comes of the walk of a case by a machine that is to come of it, in a folder of no names.
+fn comes<
+    Rt: Abort + Threads + Wait + Sync,
+    M: PassMachine<File = MemoryFile> + Send,
+    G: Gate + Sync,
+>(rt: &Rt, alloc: Global, folder: &mut MemoryFolder, case: &Case<'_>, gate: &G) -> bool {
     let laid = folder.add("s", &FOUR).is_ok() && folder.add("p", case.path).is_ok();
     let mut out = MemorySink::new(alloc, Fails::new(alloc));
     match parse_path(alloc, case.path) {
         Ok(path) => {
-            laid && is_walked(rt, alloc, folder, &path, case, &mut out, gate)
+            laid && is_walked::<Rt, M, G>(rt, alloc, folder, &path, case, &mut out, gate)
                 && out.bytes() == case.log
                 && folder.holds("f0000.ppm", case.picture)
         }
@@ -173,12 +180,28 @@ const BY_SEVEN: Case<'_> = Case {
 
 static CREWS: [Case<'_>; 3] = [BY_ONE, BY_TWO, BY_SEVEN];
 
+// Whether all comes of each crew's walk by a machine.
+fn comes_by_any_crew<Rt: Abort + Threads + Wait + Sync, M: PassMachine<File = MemoryFile> + Send>(
+    rt: &Rt,
+    alloc: Global,
+) -> bool {
+    for i in 0..CREWS.len() {
+        let mut folder = MemoryFolder::new(alloc, Fails::new(alloc));
+        if !comes::<Rt, M, OpenGate>(rt, alloc, &mut folder, &CREWS[i], &OpenGate) {
+            return false;
+        }
+    }
+    true
+}
+
 #[test]
 fn a_settled_picture_is_the_same_by_any_number_of_samplers(rt: HostRuntime) {
-    for i in 0..CREWS.len() {
-        let mut folder = MemoryFolder::new(rt.alloc(), Fails::new(rt.alloc()));
-        assert!(&rt; comes(&rt, rt.alloc(), &mut folder, &CREWS[i], &OpenGate));
-    }
+    assert!(&rt; comes_by_any_crew::<HostRuntime, Steal>(&rt, rt.alloc()));
+}
+
+#[test]
+fn a_settled_picture_is_the_same_over_a_swapped_table(rt: HostRuntime) {
+    assert!(&rt; comes_by_any_crew::<HostRuntime, Swap>(&rt, rt.alloc()));
 }
 
 const FOUR_ROWS: Case<'_> = Case {
@@ -199,8 +222,46 @@ const FOUR_ROWS: Case<'_> = Case {
 
 #[test]
 fn a_sampler_draws_three_rows_while_another_waits(rt: HostRuntime) {
-    let gate = FirstAndFourth::new();
+    let gate = FirstAndLater::new(4);
     let mut folder = MemoryFolder::new(rt.alloc(), Fails::new(rt.alloc()));
-    assert!(&rt; comes(&rt, rt.alloc(), &mut folder, &FOUR_ROWS, &gate));
+    assert!(&rt;
+        comes::<HostRuntime, Steal, FirstAndLater>(&rt, rt.alloc(), &mut folder, &FOUR_ROWS, &gate)
+    );
+    assert!(&rt; gate.came());
+}
+
+const HEADER: &[u8] = b"P6\n128 128\n255\n";
+
+// All pixels are of the texel (1, 1), and a picture of so many is drawn by two threads.
+const ONE_TEXEL: Case<'_> = Case {
+    path: b"size 128 128\nfocal 1\nat 384 384 1 16384 0\n",
+    settings: Settings {
+        crew: Crew {
+            samplers: 2,
+            loaders: 1,
+            batch: 64,
+        },
+        ..SETTINGS
+    },
+    settled: true,
+    log: b"picture 0 passes 3 wanted 1 loaded 1 lost 0 evicted 0\nend pictures 1 reads 2\n",
+    picture: HEADER,
+};
+
+#[test]
+fn a_sampler_enters_the_swapped_table_while_another_has(rt: HostRuntime) {
+    let gate = FirstAndLater::new(2);
+    let mut folder = MemoryFolder::new(rt.alloc(), Fails::new(rt.alloc()));
+    let Ok(mut picture) = Vec::from_elem(rt.alloc(), 5, HEADER.len() + 128 * 128 * 3) else {
+        panic!(&rt; "no memory");
+    };
+    picture[..HEADER.len()].copy_from_slice(HEADER);
+    let case = Case {
+        picture: picture.as_slice(),
+        ..ONE_TEXEL
+    };
+    assert!(&rt;
+        comes::<HostRuntime, Swap, FirstAndLater>(&rt, rt.alloc(), &mut folder, &case, &gate)
+    );
     assert!(&rt; gate.came());
 }

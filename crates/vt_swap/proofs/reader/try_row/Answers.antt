@@ -1,12 +1,14 @@
-use Rattle.std.proofs.Common.{◌≡◌, ℕ, List, [], ◌∷◌, sym, ap, ◌∙◌, subst}
+use Rattle.std.proofs.Common.{◌≡◌, ℕ, ◌≤◌, List, [], ◌∷◌, length, sym, ap, ◌∙◌, subst}
 use Rattle.left_right.specs.Sides.{view}
 use Rattle.vt_draw.specs.Shots.{shot_row}
 use Rattle.vt_filter.specs.Evidence.{AreShown}
 use Rattle.vt_swap.specs.declared.table.NewestTable.{NewestTable}
 use Rattle.vt_swap.specs.declared.rule.Known.{Known}
+use Rattle.vt_swap.specs.Logs.{changes_in}
 use Rattle.vt_swap.specs.Notes.{IsSaidBy}
 use Rattle.vt_swap.specs.Readers.{ReaderView, HasEnteredMore}
 use Rattle.vt_swap.proofs.Prefixes.{prefix_trans}
+use Rattle.vt_swap.proofs.Entering.{version_known}
 use Rattle.vt_swap.proofs.reader.try_row.Goals as goal
 
 pub invariant_of-result : goal.invariant_of-result
@@ -33,6 +35,13 @@ returns-clause-entered g c =
           ap (λ (v : Known). v.entered) (c.leave-reader.ensures.1 ∙ c.enter-reading.ensures.noted)
           ∙ ap (λ (t : NewestTable). t.version ∷ (view c.reader.inside.reader.place).entered) (sym c.get.ensures);
     })
+
+pub returns-clause-known : goal.returns-clause-known
+returns-clause-known g c =
+    let entered = c.enter-reading.ensures.entered in
+    let log = c.draw_under-failed.new.front.seen.log in
+    subst (λ (t : NewestTable). t.version ≤ length (changes_in log)) (sym c.get.ensures)
+    (version_known c.enter-reading.result.part.value log entered.table (prefix_trans _ _ _ entered.seen c.draw_under-failed.ensures.later))
 
 pub returns-clause-drawn : goal.returns-clause-drawn
 returns-clause-drawn g c none =

@@ -1,0 +1,2 @@
+pub mod StreamRooms
+pub mod StreamEnd

@@ -1,0 +1,229 @@
+-- The samplers of a kit, one after another.
+use Rattle.std.proofs.Common.{◌≡◌, ◌≢◌, ℕ, suc, ◌+◌, ◌%◌, ◌<◌, ◌≤◌, ⊎_elim, List, [], ◌∷◌, ◌++◌, length, get_or, take, Option, Some, None, refl, sym, ap, ◌∙◌, subst, arith}
+use Rattle.std.specs.Prelude.{slice_get, slice_index, slice_set, map, All, IfSome, IfNone, Contains}
+use Rattle.std.specs.List.{range_with_len, concat}
+use Rattle.std.proofs.lemmas.Bool.{cases_eq}
+use Rattle.std.proofs.lemmas.List.{length-append, length-set, get_or-set_same, get_or-set_other, get_or_default, take_more}
+use Rattle.std.proofs.lemmas.List.Elements.{All-push, All-pop, Contains-append_left}
+use Rattle.std.proofs.lemmas.List.FromFn.{map-range_with_len_more}
+use Rattle.std.proofs.lemmas.List.Sums.{sum_by_push, sum_by-take-le}
+use Rattle.std.proofs.lemmas.Nat.{mod_below}
+use Rattle.std.proofs.lemmas.Option.{none-some, slice_get_within, slice_get-get_or, get_or_from_slice_get}
+use Rattle.logbook.specs.Pages.{Book}
+use Rattle.vt_outside.specs.Lists.{ListView}
+use Rattle.vt_pages.specs.Shape.{Shape}
+use Rattle.vt_pages.specs.Pages.{pages_of}
+use Rattle.vt_journal.specs.declared.changes.RowLine.{RowLine}
+use Rattle.vt_sampler.specs.Samplers.{SamplerView, IsOwn, version_at}
+use Rattle.vt_workers.specs.All.{AllDid}
+use Rattle.vt_workers.proofs.Lent.{refilled}
+use Rattle.vt_swap.specs.Readers.{ReaderView, WasEntered}
+use Rattle.vt_swap.specs.Making.{IsNewReader}
+use Rattle.vt_swap_workers.specs.declared.workers.SwapDrawer.{SwapDrawer}
+use Rattle.vt_word_workers.specs.Kits.{IsSamplerOf}
+use Rattle.vt_word_workers.proofs.Kits.{each_more}
+use Rattle.vt_swap_machine.specs.declared.draw_kit.DrawKit.{DrawKit}
+use Rattle.vt_swap_machine.specs.DrawKits.{AreDrawers, HasReader, HasSeen, Sees, IsDrawKit, IsIdleDraw, IsReadyDraw, version_by, line_of, lines_of, counted_together}
+
+module _ (s : Shape) (d width height samplers : ℕ) where
+  -- the samplers of the first numbers
+  pub record AreFirst (n : ℕ) (tasks : List SwapDrawer) : Type 0 where
+    pub count : length tasks ≡ n
+    pub each : (k : ℕ) (task : SwapDrawer) → slice_get tasks k ≡ Some task → IsSamplerOf s d width height samplers k task.sampler
+
+  pub first_none : AreFirst 0 []
+  first_none = record { count = refl; each = λ k task e. absurd (none-some task e) }
+
+  pub first_more : (n : ℕ) (tasks : List SwapDrawer) (v : SamplerView) (r : Option ReaderView) → AreFirst n tasks
+      → IsSamplerOf s d width height samplers n v → AreFirst (n + 1) (tasks ++ record { sampler = v; reader = r } ∷ [])
+  first_more n tasks v r h new = record {
+    count = length-append tasks (record { sampler = v; reader = r } ∷ []) ∙ ap (λ k. k + 1) h.count;
+    each = each_more (λ k task. IsSamplerOf s d width height samplers k task.sampler) tasks (record { sampler = v; reader = r }) h.each
+        (subst (λ k. IsSamplerOf s d width height samplers k v) (sym h.count) new);
+  }
+
+  pub all_first : (tasks : List SwapDrawer) → AreFirst samplers tasks → AreDrawers s d width height samplers tasks
+  all_first tasks h = record { count = h.count; each = h.each }
+
+-- a reader was taken off the end of a list
+pub record IsTaken (book : Book) (old new : List ReaderView) (o : Option ReaderView) : Type 0 where
+  pub fewer : length new + 1 ≡ length old
+  pub rest : All (IsNewReader book) new
+  pub reader : ReaderView
+  pub is : o ≡ Some reader
+  pub of : reader.book ≡ book
+
+pub taken : (book : Book) (o : Option ReaderView) (old new : ListView ReaderView) → IfNone o ((old.elements ≡ []) × (new ≡ old))
+    → IfSome o (λ r. old.elements ≡ new.elements ++ r ∷ []) → 1 ≤ length old.elements → All (IsNewReader book) old.elements
+    → IsTaken book old.elements new.elements o
+taken book None old new none some enough all = absurd (let e = ap length none.0 in omega (arith, e, enough))
+taken book (Some r) old new none some enough all =
+    let parts = All-pop (IsNewReader book) old.elements new.elements (Some r) some all in
+    record {
+      fewer = sym (ap length some ∙ length-append new.elements (r ∷ []));
+      rest = parts.0;
+      reader = r;
+      is = refl;
+      of = ap (λ (x : ReaderView). x.book) parts.1;
+    }
+
+pub fewer : (o : Option ReaderView) (old new : ListView ReaderView) → IfNone o ((old.elements ≡ []) × (new ≡ old))
+    → IfSome o (λ r. old.elements ≡ new.elements ++ r ∷ []) → 1 ≤ length old.elements → length new.elements + 1 ≡ length old.elements
+fewer None old new none some enough = absurd (let e = ap length none.0 in omega (arith, e, enough))
+fewer (Some r) old new none some enough = sym (ap length some ∙ length-append new.elements (r ∷ []))
+
+pub readers_more : (book : Book) (tasks : List SwapDrawer) (v : SamplerView) (o : Option ReaderView) (old new : List ReaderView)
+    → All (HasReader book) tasks → IsTaken book old new o → All (HasReader book) (tasks ++ record { sampler = v; reader = o } ∷ [])
+readers_more book tasks v o old new all took = All-push (HasReader book) tasks (record { sampler = v; reader = o }) all
+    (record { reader = took.reader; has = took.is; of = took.of })
+
+-- Readers that come to see a version, one after another.
+-- the first n of some samplers have seen a version that is not before this one, and the others are as they were
+pub record AreSeeing (start n : ℕ) (before after : List SwapDrawer) : Type 0 where
+  pub number : length after ≡ length before
+  pub first : (k : ℕ) (d : SwapDrawer) → k < n → k < length before → Sees start (get_or before k d) (get_or after k d)
+  pub rest : (k : ℕ) (d : SwapDrawer) → n ≤ k → k < length before → get_or after k d ≡ get_or before k d
+
+pub seeing_none : (start : ℕ) (tasks : List SwapDrawer) → AreSeeing start 0 tasks tasks
+seeing_none start tasks = record {
+  number = refl;
+  first = λ k d none. absurd (omega (arith, none));
+  rest = λ k d low inside. refl;
+}
+
+pub seeing_more : (start n : ℕ) (before after : List SwapDrawer) (was now : SwapDrawer) → AreSeeing start n before after → n < length before
+    → was ≡ get_or after n was → Sees start was now → AreSeeing start (n + 1) before (slice_set after n now)
+seeing_more start n before after was now h inside is sees =
+    let number = h.number in
+    let low : n < length after = omega (arith, inside, number) in
+    record {
+      number = length-set after n now ∙ h.number;
+      first = λ k d below within. ⊎_elim
+          (λ (same : k ≡ n).
+          let here : get_or (slice_set after n now) k d ≡ now = ap (λ i. get_or (slice_set after n now) i d) same ∙ get_or-set_same after n now d low in
+          let old : get_or before k d ≡ was = sym (h.rest n d (omega arith) inside ∙ ap (λ i. get_or before i d) (sym same))
+          ∙ get_or_default after n d was low ∙ sym is in
+          subst (λ (z : SwapDrawer × SwapDrawer). Sees start z.0 z.1) (λ i. (sym old i, sym here i)) sees)
+          (λ (other : k ≢ n). subst (Sees start (get_or before k d)) (sym (get_or-set_other after n k now d other))
+          (h.first k d (omega (arith, below, other)) within))
+          (cases_eq k n);
+      rest = λ k d above within.
+          let other : k ≢ n = (λ same. absurd (omega (arith, same, above))) in
+          get_or-set_other after n k now d other ∙ h.rest k d (omega (arith, above)) within;
+    }
+
+-- a sampler that is still to see has its reader
+pub still_has : (book : Book) (start n : ℕ) (before after : List SwapDrawer) (was : SwapDrawer) → AreSeeing start n before after → n < length before
+    → was ≡ get_or after n was → All (HasReader book) before → HasReader book was
+still_has book start n before after was h inside is all =
+    subst (HasReader book) (sym (is ∙ h.rest n was (omega arith) inside)) (all n was inside)
+
+pub all_seeing : (start : ℕ) (before after : List SwapDrawer) → AreSeeing start (length before) before after → AllDid (Sees start) before after
+all_seeing start before after h k d inside = h.first k d inside inside
+
+-- a reader that entered a version, or a later one, has seen it
+pub reader_sees : (start : ℕ) (v : SamplerView) (r q : ReaderView) (was : SwapDrawer) → was.sampler ≡ v → was.reader ≡ Some r
+    → (version : ℕ) × (start ≤ version) × WasEntered r q version → Sees start was (record { sampler = v; reader = Some q })
+reader_sees start v r q was sampler had seen = record {
+  sampler = sym sampler;
+  seen = λ book has.
+      let same : has.reader ≡ r = some_is has.reader r (sym has.has ∙ had) in
+      record {
+        reader = q;
+        has = refl;
+        of = seen.2.more.book ∙ ap (λ (x : ReaderView). x.book) (sym same) ∙ has.of;
+        version = seen.0;
+        entered = subst (λ (l : List ℕ). Contains l seen.0) (sym seen.2.more.entered)
+            (Contains-append_left (seen.0 ∷ seen.2.before) r.entered seen.0 (0, omega arith, refl));
+        late = seen.1;
+      };
+} where
+  some_is : (x y : ReaderView) → Some x ≡ Some y → x ≡ y
+  some_is x y e = cc e
+
+module _ (start : ℕ) (before after : List SwapDrawer) (number : length after ≡ length before) (sees : AllDid (Sees start) before after) where
+  -- samplers that came to see a version are the same samplers
+  pub still_drawers : (s : Shape) (d width height samplers : ℕ) → AreDrawers s d width height samplers before
+      → AreDrawers s d width height samplers after
+  still_drawers s d width height samplers are = record {
+    count = number ∙ are.count;
+    each = λ n task is.
+        let low : n < length before = (let w = slice_get_within after n task is in omega (arith, w, number)) in
+        let now : get_or after n task ≡ task = get_or_from_slice_get after n task task is in
+        let same : task.sampler ≡ (get_or before n task).sampler = ap (λ (x : SwapDrawer). x.sampler) (sym now) ∙ (sees n task low).sampler in
+        subst (IsSamplerOf s d width height samplers n) (sym same)
+        (are.each n (get_or before n task) (slice_get-get_or before n task low));
+  }
+
+  pub have_seen : (book : Book) → All (HasReader book) before → All (HasSeen book start) after
+  have_seen book all k d inside =
+      let low : k < length before = omega (arith, inside, number) in
+      (sees k d low).seen book (all k d low)
+
+-- a kit that was prepared
+pub ready_draw : (book : Book) (start : ℕ) (k : DrawKit) (lent ws : List SwapDrawer) (lines : ListView RowLine) → lent ≡ k.tasks.elements
+    → length ws ≡ length lent → AllDid (Sees start) lent ws → IsIdleDraw book k → lines.elements ≡ [] → k.height ≤ lines.spare
+    → (l : DrawKit) → l ≡ record k { tasks = l.tasks; lines = lines } → l.tasks.elements ≡ ws → IsReadyDraw book start l l.tasks.elements
+ready_draw book start k lent ws lines lent_is number sees idle empty room l rest back =
+    let on : AllDid (Sees start) k.tasks.elements ws = subst (λ (x : List SwapDrawer). AllDid (Sees start) x ws) lent_is sees in
+    let many : length ws ≡ length k.tasks.elements = number ∙ ap length lent_is in
+    subst (λ (x : DrawKit). IsReadyDraw book start x l.tasks.elements) (sym rest)
+    (subst (λ (x : List SwapDrawer). IsReadyDraw book start (record k { tasks = l.tasks; lines = lines }) x) (sym back) (record {
+      kit = record {
+        some = idle.kit.some;
+        few = idle.kit.few;
+        depth = idle.kit.depth;
+        sides = idle.kit.sides;
+        samplers = still_drawers start k.tasks.elements ws many on k.geometry k.depth k.width k.height k.count idle.kit.samplers;
+        counts = idle.kit.counts;
+      };
+      readers = have_seen start k.tasks.elements ws many on book idle.readers;
+      lines = record { no_lines = empty; room = room };
+    }))
+
+-- the line of one row more
+pub lines_more : (samplers : ℕ) (tasks : List SwapDrawer) (row : ℕ) → lines_of samplers tasks (row + 1) ≡ lines_of samplers tasks row
+    ++ line_of samplers tasks row ∷ []
+lines_more samplers tasks row = let z : 0 + row ≡ row = omega arith in map-range_with_len_more (line_of samplers tasks) 0 row row z
+
+-- the counts of one sampler more
+pub counted_more : (tasks : List SwapDrawer) (i p : ℕ) (d : SwapDrawer) → i < length tasks
+    → counted_together (take (i + 1) tasks) p ≡ counted_together (take i tasks) p + slice_index (get_or tasks i d).sampler.counts p
+counted_more tasks i p d inside = ap (λ l. counted_together l p) (take_more tasks i d inside)
+    ∙ sum_by_push (λ (task : SwapDrawer). slice_index task.sampler.counts p) (take i tasks) (get_or tasks i d)
+
+pub counted_below : (tasks : List SwapDrawer) (i p : ℕ) → counted_together (take i tasks) p ≤ counted_together tasks p
+counted_below tasks i p = sum_by-take-le (λ (task : SwapDrawer). slice_index task.sampler.counts p) tasks i
+
+-- a row is one of the rows of the sampler that it is dealt to, where the samplers stand at the places of their numbers
+pub own_row : (s : Shape) (d width height samplers : ℕ) (tasks : List SwapDrawer) (y : ℕ) (task : SwapDrawer)
+    → AreDrawers s d width height samplers tasks → y < height → slice_get tasks (y % samplers) ≡ Some task → IsOwn task.sampler y
+own_row s d width height samplers tasks y task are inside at = let its = are.each (y % samplers) task at in record {
+  inside = subst (λ h. y < h) (sym its.height_is) inside;
+  own = ap (λ n. y % n) its.among ∙ sym its.number_is;
+}
+
+-- the sampler that it is dealt to stands among them
+pub turn_there : (samplers : ℕ) (tasks : List SwapDrawer) (y : ℕ) (d : SwapDrawer) → 1 ≤ samplers → length tasks ≡ samplers
+    → slice_get tasks (y % samplers) ≡ Some (get_or tasks (y % samplers) d)
+turn_there samplers tasks y d some count = slice_get-get_or tasks (y % samplers) d (let low = mod_below y samplers some in omega (arith, low, count))
+
+pub own_here : (s : Shape) (d width height samplers : ℕ) (tasks : List SwapDrawer) (y sampler : ℕ) (e : SwapDrawer)
+    → AreDrawers s d width height samplers tasks → 1 ≤ samplers → y < height → sampler ≡ y % samplers → IsOwn (get_or tasks sampler e).sampler y
+own_here s d width height samplers tasks y sampler e are some inside turn = subst (λ n. IsOwn (get_or tasks n e).sampler y) (sym turn)
+    (own_row s d width height samplers tasks y (get_or tasks (y % samplers) e) are inside (turn_there samplers tasks y e some are.count))
+
+-- what is noted of a row is its line
+pub line_is : (samplers : ℕ) (tasks : List SwapDrawer) (y sampler version : ℕ) (e : SwapDrawer) → 1 ≤ samplers → length tasks ≡ samplers
+    → sampler ≡ y % samplers → version ≡ version_at (get_or tasks sampler e).sampler y
+    → record { row = y; sampler = sampler; version = version } ≡ line_of samplers tasks y
+line_is samplers tasks y sampler version e some count turn is =
+    let at : version ≡ version_by (slice_get tasks (y % samplers)) y = is ∙ ap (λ n. version_at (get_or tasks n e).sampler y) turn
+    ∙ ap (λ o. version_by o y) (sym (turn_there samplers tasks y e some count)) in
+    λ i. record { row = y; sampler = turn i; version = at i }
+
+-- each sampler counts the pages of the texture
+pub counts_fit : (s : Shape) (d width height samplers : ℕ) (tasks : List SwapDrawer) (counts : List ℕ) → AreDrawers s d width height samplers tasks
+    → length counts ≡ pages_of s → (k : ℕ) (e : SwapDrawer) → k < length tasks → length (get_or tasks k e).sampler.counts ≡ length counts
+counts_fit s d width height samplers tasks counts are all k e inside =
+    (are.each k (get_or tasks k e) (slice_get-get_or tasks k e inside)).pages ∙ sym all

@@ -1,0 +1,16 @@
+use Rattle.std.proofs.Common.{◌≡◌, ◌+◌, ◌≤◌, length}
+use Rattle.std.specs.Prelude.{All}
+use Rattle.logbook.specs.Pages.{Book}
+use Rattle.vt_swap.specs.Making.{IsNewReader}
+use Rattle.vt_swap_machine.specs.DrawKits.{HasReader}
+use Rattle.vt_swap_machine.proofs.Drawers.{AreFirst}
+use Rattle.vt_swap_machine.proofs.draw_kit.new_tasks.Given as goal
+
+abbrev pub invariant-loop-number : goal.invariant-loop-number
+invariant-loop-number l = record {
+  first : AreFirst l.geometry l.depth l.path.width l.path.height l.count l.number l.tasks.elements;
+  spare : l.count ≤ l.number + l.tasks.spare;
+  left : length l.readers.elements + l.number ≡ l.count;
+  readers : (book : Book) → All (IsNewReader book) l.fn.readers.elements
+      → All (IsNewReader book) l.readers.elements × All (HasReader book) l.tasks.elements;
+}

@@ -1,0 +1,10 @@
+use Rattle.std.proofs.Common.{refl, sym, ap, ◌∙◌}
+use Rattle.vt_swap_machine.proofs.Idle.{idle_made}
+use Rattle.vt_swap_machine.proofs.machine.SwappedMachinePassMachine.make_from.Goals as goal
+
+pub returns-clause-idle : goal.returns-clause-idle
+returns-clause-idle g c =
+    let made = c.in_ok-streamer.ensures in
+    let kit = c.new-streams.ensures in
+    idle_made g.F.File _ _ c.new-streams.result _ c.args.geometry.now c.args.depth c.args.frames c.args.crew.now made.streamer made.slots made.frames
+    c.requires.frames.few c.cache_for.ensures.limits refl refl kit.kit kit.shape kit.depth kit.crew made.kit made.readers made.geometry made.depth made.count

@@ -1,0 +1,32 @@
+use Rattle.std.proofs.Common.{Option, Some, refl, sym, ap, ◌∙◌, subst}
+use Rattle.vt_workers.specs.Jobs.{job_of}
+use Rattle.vt_machine.specs.Drawings.{drawing_of}
+use Rattle.vt_machine.specs.Passes.{Ends}
+use Rattle.vt_stream_kit.specs.StreamKits.{stream_before}
+use Rattle.vt_swap_workers.specs.declared.workers.SwapFeeder.{SwapFeeder}
+use Rattle.vt_swap_machine.specs.SwapMachines.{SwapView, MayFinish, state_by, journal_by, drawn_by, IsIdleSwap, IsIdleBy}
+use Rattle.vt_swap_machine.proofs.Finishing.{at_none, finished}
+use Rattle.vt_swap_machine.proofs.machine.SwappedMachinePassMachine.reattach_workers.Goals as goal
+
+pub returns : goal.returns
+returns g c = λ b given.
+    let job = job_of c.args.shot.now c.args.batch.now.elements in
+    let loaders = c.args.loaders.elements in
+    let tasks = c.args.samplers in
+    let own = c.args.streamer in
+    let e = c.end_pass-report.ensures in
+    let now = c.end_pass-report.new.own in
+    let slots = c.self.inside.shared.slots in
+    let l = c.end_pass-report.new.streams in
+    let s = c.end_pass-report.new.drawers in
+    let may = subst (λ (m : SwapView _). MayFinish g.F.File g.P.Filter m.slots m.queues m.feeder m.streams m.drawers job loaders tasks.elements own b)
+    (sym c.self.view_is) given in
+    subst (λ (x : Option SwapFeeder). Ends (drawing_of g.P.Filter) (drawn_by g.P.Filter s x) (IsIdleBy g.F.File slots x l s) job
+    c.end_pass-report.result (state_by g.F.File c.args.self.now.slots b.feeder.streamer.journal (stream_before c.args.self.now.streams b.stream)
+    c.args.self.now.drawers) (state_by g.F.File slots (journal_by x) l s)) (sym c.replace-gone.ensures.after)
+    (subst (λ (m : SwapView _). Ends (drawing_of g.P.Filter) (drawn_by g.P.Filter s (Some now)) (IsIdleSwap g.F.File slots now l s) job
+    c.end_pass-report.result (state_by g.F.File m.slots b.feeder.streamer.journal (stream_before m.streams b.stream) m.drawers)
+    (state_by g.F.File slots now.streamer.journal l s)) c.self.view_is
+    (finished g.F.File g.P.Filter g.met.P.Filter.is_under slots _ _ _ l _ s job loaders tasks own now b may
+    (e.ended b (at_none g.F.File g.P.Filter slots _ _ _ _ job loaders tasks.elements own b may)) e.own e.drawers
+    c.end_pass-report.result e.told e.events e.losses))

@@ -1,0 +1,24 @@
+use Rattle.std.proofs.Common.{◌≡◌, ◌<◌, length, get_or, refl, sym, ap, ◌∙◌, subst, rules}
+use Rattle.std.specs.Prelude.{All}
+use Rattle.vt_pages.specs.Shape.{Shape}
+use Rattle.vt_pages.specs.Pages.{pages_of}
+use Rattle.vt_swap_machine.specs.DrawKits.{IsReadyDraw}
+use Rattle.vt_swap_machine.proofs.Idle.{ready_once}
+use Rattle.vt_swap_machine.proofs.passes.prepare_pass.Goals as goal
+
+pub ask-requires : goal.ask-requires
+ask-requires g c = record {
+  prepared = (_, _, c.in_ok-prepare.ensures.prepared);
+  inside = λ j e low. subst (λ (s : Shape). (get_or c.args.batch.now.elements j e).page < pages_of s)
+      (c.requires.idle.fit.shape ∙ sym c.prepare.ensures.same.shape) (c.requires.lawful.each j e low).page_inside;
+}
+
+pub returns-clause-ready : goal.returns-clause-ready
+returns-clause-ready g c =
+    let idle = c.requires.idle in
+    let asked = c.ask.ensures.asked _ _ c.in_ok-prepare.ensures.prepared in
+    let s = c.prepare-2.new.self in
+    let draw = c.in_ok-prepare-2.ensures.ready _ idle.draw in
+    ready_once g.F.File _ _ c.args.own.now _ c.args.streams.now c.prepare.new.self c.ask.new.self c.args.drawers.now s c.args.batch.now.elements idle
+    (search rules) c.requires.lawful c.requires.few c.requires.early refl c.prepare.ensures.same c.ask.ensures.rest asked
+    (subst (λ n. IsReadyDraw c.args.own.now.streamer.book n s s.tasks.elements) (search rules) draw) c.prepare-2.ensures.rest

@@ -1,0 +1,22 @@
+use Rattle.std.proofs.Common.{◌≡◌, ◌≢◌, ◌<◌, ⊎_elim, length, get_or, sym, ◌∙◌, subst, arith, rules}
+use Rattle.std.proofs.lemmas.Bool.{cases_eq}
+use Rattle.std.proofs.lemmas.List.{get_or_default}
+use Rattle.vt_swap_machine.specs.DrawKits.{IsToldBy}
+use Rattle.vt_swap_machine.proofs.told.are_told.Goals as goal
+
+pub loop-i-preserved : goal.loop-i-preserved
+loop-i-preserved c =
+    let xs = c.args.tasks.now in
+    let i = c.loop-i.i in
+    let log = c.args.streamer.now.log in
+    record {
+      told = λ k d below inside. ⊎_elim
+          (λ (same : k ≡ i). subst (λ n. IsToldBy log (get_or xs n d)) (sym same)
+          (subst (IsToldBy log) (c.index-tasks-i.is ∙ get_or_default xs i c.index-tasks-i.result d (search rules)) (c.is_told_by.ensures (search rules))))
+          (λ (other : k ≢ i). c.loop-i.invariant.told k d (omega (arith, below, other)) inside)
+          (cases_eq k i);
+    }
+
+pub returns : goal.returns
+returns c = λ yes. λ k d inside. c.loop-i.invariant.told k d
+    (let low = c.loop-i.auto.i-end in let high = c.loop-i-test.false in omega (arith, low, high, inside)) inside

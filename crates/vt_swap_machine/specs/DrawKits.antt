@@ -1,0 +1,103 @@
+-- What the samplers of a pass over a page cache are done with, and what holds of it.
+use Rattle.std.specs.Prelude.{◌≡◌, ℕ, ◌%◌, ◌≤◌, Option, None, Some, List, [], length, map, slice_get, slice_index, sum_by, All, Contains}
+use Rattle.std.specs.List.{range_with_len}
+use mathlib.Core.List.{IsPrefix}
+use Rattle.logbook.specs.Pages.{Book}
+use Rattle.vt_definitions.specs.Depths.{IsDepth}
+use Rattle.vt_definitions.specs.Limits.{most_samplers}
+use Rattle.vt_pages.specs.Shape.{Shape}
+use Rattle.vt_pages.specs.Pages.{pages_of}
+use Rattle.vt_camera.specs.Paths.{ArePictureSides}
+use Rattle.vt_journal.specs.declared.changes.RowLine.{RowLine}
+use Rattle.vt_sampler.specs.Samplers.{row_at, version_at}
+use Rattle.vt_swap.specs.declared.records.LogRecord.{LogRecord}
+use Rattle.vt_swap.specs.Readers.{ReaderView}
+use Rattle.vt_swap_workers.specs.declared.workers.SwapDrawer.{SwapDrawer}
+use Rattle.vt_word_workers.specs.Kits.{IsSamplerOf}
+use Rattle.vt_swap_machine.specs.declared.draw_kit.DrawKit.{DrawKit}
+
+-- the bytes of a row of a sampler, if it is there
+abbrev pub row_by : Option SwapDrawer → ℕ → List ℕ
+row_by None y = []
+row_by (Some task) y = row_at task.sampler y
+
+-- the version of a row of a sampler, if it is there
+abbrev pub version_by : Option SwapDrawer → ℕ → ℕ
+version_by None y = 0
+version_by (Some task) y = version_at task.sampler y
+
+-- the bytes of row y of the last picture: those of the sampler that it is dealt to
+abbrev pub drawn_row : DrawKit → ℕ → List ℕ
+drawn_row k y = row_by (slice_get k.tasks.elements (y % k.count)) y
+
+-- the rows of the last picture, from the top
+abbrev pub drawn_rows : DrawKit → List (List ℕ)
+drawn_rows k = map (drawn_row k) (range_with_len 0 k.height)
+
+-- the line of a row: it was drawn by the sampler that it is dealt to, at the version of that sampler's row
+abbrev pub line_of : ℕ → List SwapDrawer → ℕ → RowLine
+line_of samplers tasks y = record { row = y; sampler = y % samplers; version = version_by (slice_get tasks (y % samplers)) y }
+
+-- the lines of the rows of a picture, from the top
+abbrev pub lines_of : ℕ → List SwapDrawer → ℕ → List RowLine
+lines_of samplers tasks height = map (line_of samplers tasks) (range_with_len 0 height)
+
+-- how many texels samplers have counted together for a page
+abbrev pub counted_together : List SwapDrawer → ℕ → ℕ
+counted_together tasks p = sum_by (λ task. slice_index task.sampler.counts p) tasks
+
+-- there are so many samplers, each at the place of its number
+pub record AreDrawers (s : Shape) (d width height samplers : ℕ) (tasks : List SwapDrawer) : Type 0 where
+  pub count : length tasks ≡ samplers
+  pub each : (n : ℕ) (task : SwapDrawer) → slice_get tasks n ≡ Some task → IsSamplerOf s d width height samplers n task.sampler
+
+-- a sampler has a reader of this log
+pub record HasReader (book : Book) (a : SwapDrawer) : Type 0 where
+  pub reader : ReaderView
+  pub has : a.reader ≡ Some reader
+  pub of : reader.book ≡ book
+
+-- and the reader has entered a version that is not before this one
+pub record HasSeen (book : Book) (start : ℕ) (a : SwapDrawer) : Type 0 where
+  pub reader : ReaderView
+  pub has : a.reader ≡ Some reader
+  pub of : reader.book ≡ book
+  pub version : ℕ
+  pub entered : Contains reader.entered version
+  pub late : start ≤ version
+
+-- a reader came to see such a version, and the sampler is as it was
+pub record Sees (start : ℕ) (a b : SwapDrawer) : Type 0 where
+  pub sampler : b.sampler ≡ a.sampler
+  pub seen : (book : Book) → HasReader book a → HasSeen book start b
+
+-- what the reader of a sampler has seen of a log is a beginning of this
+pub record IsToldBy (log : List LogRecord) (a : SwapDrawer) : Type 0 where
+  pub reader : ReaderView
+  pub has : a.reader ≡ Some reader
+  pub seen : IsPrefix reader.log log
+
+-- what holds of a kit whose samplers are these
+pub record IsDrawKit (k : DrawKit) (tasks : List SwapDrawer) : Type 0 where
+  pub some : 1 ≤ k.count
+  pub few : k.count ≤ most_samplers
+  pub depth : IsDepth k.depth
+  pub sides : ArePictureSides k.width k.height
+  pub samplers : AreDrawers k.geometry k.depth k.width k.height k.count tasks
+  pub counts : length k.counts ≡ pages_of k.geometry
+
+-- between passes each sampler has its reader
+pub record IsIdleDraw (book : Book) (k : DrawKit) : Type 0 where
+  pub kit : IsDrawKit k k.tasks.elements
+  pub readers : All (HasReader book) k.tasks.elements
+
+-- a kit has room for the lines of a picture's rows
+pub record HasLineRoom (k : DrawKit) : Type 0 where
+  pub no_lines : k.lines.elements ≡ []
+  pub room : k.height ≤ k.lines.spare
+
+-- a pass is prepared that starts at a version: none of its rows can be drawn in an earlier one
+pub record IsReadyDraw (book : Book) (start : ℕ) (k : DrawKit) (tasks : List SwapDrawer) : Type 0 where
+  pub kit : IsDrawKit k tasks
+  pub readers : All (HasSeen book start) tasks
+  pub lines : HasLineRoom k

@@ -1,0 +1,4 @@
+pub mod DrawKits
+pub mod SwapPasses
+pub mod SwapMachines
+pub mod SwapLaws

@@ -1,0 +1,57 @@
+-- A pass over a page cache, by what its workers did.
+use Rattle.std.specs.Prelude.{◌≡◌, ℕ, ◌%◌, ◌<◌, false, Some, List, [], length, slice_get, slice_index, All, Contains}
+use Rattle.logbook.specs.Pages.{Book}
+use Rattle.vt_camera.specs.Paths.{PathView}
+use Rattle.vt_pages.specs.Shape.{Shape}
+use Rattle.vt_draw.specs.Shots.{shot_row}
+use Rattle.vt_filter.specs.declared.filters.Filter.{Ghosts as FilterMeanings}
+use Rattle.vt_filter.specs.Evidence.{AreShown}
+use Rattle.vt_journal.specs.declared.changes.RowLine.{RowLine}
+use Rattle.vt_pictures.specs.Scenes.{Scene}
+use Rattle.vt_workers.specs.All.{AllDid}
+use Rattle.vt_swap.specs.Logs.{changes_in, IsLawful}
+use Rattle.vt_swap.specs.Notes.{IsSaidBy}
+use Rattle.vt_swap.specs.Readers.{ReaderView}
+use Rattle.vt_swap.specs.Streamers.{StreamerView}
+use Rattle.vt_swap_workers.specs.declared.workers.SwapDrawer.{SwapDrawer}
+use Rattle.vt_swap_workers.specs.declared.workers.SwapFeeder.{SwapFeeder}
+use Rattle.vt_swap_workers.specs.SwapTasks.{HasDrawn}
+use Rattle.vt_swap_machine.specs.declared.draw_kit.DrawKit.{DrawKit}
+use Rattle.vt_swap_machine.specs.DrawKits.{IsReadyDraw, IsToldBy, lines_of, counted_together}
+
+-- a row of a picture was drawn by a filter at a version by what a streamer's log says, and the version is one that the reader of its sampler entered
+pub record WasDrawn {P : Type 0} (filter : FilterMeanings P) (s : Shape) (d samplers : ℕ) (v : StreamerView) (tasks : List SwapDrawer)
+    (path : PathView) (i y version : ℕ) (bytes : List ℕ) : Type 0 where
+  pub drawn : AreShown filter.shown s d version (IsSaidBy v.log) (shot_row s path i y) path.width bytes
+  pub by : SwapDrawer
+  pub dealt_to : slice_get tasks (y % samplers) ≡ Some by
+  pub reader : ReaderView
+  pub has : by.reader ≡ Some reader
+  pub of : reader.book ≡ v.book
+  pub entered : Contains reader.entered version
+
+-- a streamer was refused no memory: what it has done is lawful, and its journal is that of its log
+pub record IsIntact (t : SwapFeeder) : Type 0 where
+  pub not_refused : t.refused ≡ false
+  pub goes_on : t.streamer.broken ≡ false
+  pub lawful : IsLawful t.streamer.log
+  pub journal : changes_in t.streamer.log ≡ t.streamer.journal
+
+-- samplers have drawn a picture of a scene, whose readers saw a version that is not before the start of the pass
+pub record MayEndDraw {P : Type 0} (filter : FilterMeanings P) (k : DrawKit) (scene : Scene) (picture : ℕ) (book : Book) (start : ℕ)
+    (before after : List SwapDrawer) : Type 0 where
+  pub ready : IsReadyDraw book start k before
+  pub shape : scene.shape ≡ k.geometry
+  pub depth : scene.depth ≡ k.depth
+  pub width : scene.path.width ≡ k.width
+  pub height : scene.path.height ≡ k.height
+  pub number : length after ≡ length before
+  pub drawn : AllDid (HasDrawn filter scene picture) before after
+
+-- the samplers were moved back, and it was told by whom each row was drawn
+pub record HasTold (k l : DrawKit) (tasks : List SwapDrawer) (t : SwapFeeder) (lines : List RowLine) : Type 0 where
+  pub lines_are : lines ≡ lines_of k.count tasks k.height
+  pub number : length l.counts ≡ length k.counts
+  pub sums : (p : ℕ) → p < length k.counts → slice_index l.counts p ≡ counted_together tasks p
+  pub readers : All (IsToldBy t.streamer.log) tasks
+  pub whole : IsIntact t

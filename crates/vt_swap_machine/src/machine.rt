@@ -1,0 +1,266 @@
+//! The machine over a page cache whose page table lies in two copies.
+
+ghost use Rattle.std.specs.Prelude.{◌≡◌, [], IfOk, OnOk, OnErr};
+ghost use Rattle.vt_definitions.specs.Depths.{IsDepth};
+ghost use Rattle.vt_machine.specs.Crews.{IsCrew, AreFrames};
+ghost use Rattle.vt_machine.specs.Drawings.{drawing_of};
+ghost use Rattle.vt_machine.specs.Machines.{AreStoresFor};
+ghost use Rattle.vt_workers.specs.Jobs.{job_of};
+ghost use Rattle.vt_swap_machine.specs.SwapMachines.{SwapView, swap_state, IsIdleBy, IsReadyBy, drawn_by, AreOut, Begun, MayFinish, SwapFinishes};
+
+use crate::draw_kit::DrawKit;
+use crate::passes::{cache_for, end_feeder, end_pass, place_page, prepare_pass};
+use std::alloc::Global;
+use std::marker::{Model, PhantomData};
+use std::mem;
+use std::sync::Wait;
+use std::thread::Threads;
+use vt_camera::Path;
+use vt_draw::Shot;
+use vt_evict::Batch;
+use vt_feedback::Counts;
+use vt_filter::{Filter, Nearest};
+use vt_journal::Journal;
+use vt_loaders::QueuedLoader;
+use vt_machine::{Crew, PassMachine, PassReport};
+use vt_outside::{File, Gate, Items, NoMemory};
+use vt_pages::Geometry;
+use vt_stream_kit::StreamKit;
+use vt_swap_workers::{SwapDrawer, SwapFeeder, SwapShared};
+use vt_tiles::Stores;
+use vt_word_workers::{blank_report, new_queues};
+
+/// A machine that draws the rows of a picture by a filter, each in the version of the page table that its sampler enters for it, where a
+/// row is drawn anew when a frame does not have the tile that the version says; and that streams the batch at the same time. The table lies
+/// in two copies, and a frame is written once nobody reads it.
+pub struct SwappedMachine<F: File, P: Filter> {
+    shared: SwapShared<P>,
+    // It is out while a pass is run.
+    feeder: Option<SwapFeeder>,
+    streams: StreamKit<F>,
+    drawers: DrawKit,
+}
+
+/// The machine over such a page cache that draws each pixel of one texel.
+pub type SwapMachine<F> = SwappedMachine<F, Nearest>;
+
+impl<F: File, P: Filter> Model for SwappedMachine<F, P> {
+    ghost use Rattle.vt_swap_machine.specs.SwapMachines.{SwapView};
+
+    ghost Value = { SwapView F };
+
+    ghost view = { λ m. record {
+      slots = m.shared.slots;
+      queues = m.shared.queues;
+      feeder = m.feeder;
+      streams = m.streams;
+      drawers = m.drawers;
+    } };
+}
+
+impl<F: File + Send, P: Filter + Sync> PassMachine for SwappedMachine<F, P> {
+    ghost use Rattle.std.specs.Prelude.{None};
+    ghost use Rattle.vt_tiles.specs.Format.{stored};
+    ghost use Rattle.vt_swap_machine.specs.SwapLaws.{come_back, has_ended, may_refuse};
+
+    type File = F;
+
+    type Shared = SwapShared<P>;
+
+    type Loader = QueuedLoader<F>;
+
+    type Sampler = SwapDrawer;
+
+    type Streamer = SwapFeeder;
+
+    const DEALT: bool = true;
+
+    ghost drawing = { drawing_of P.Filter };
+
+    ghost state = { λ m. swap_state F.File m };
+
+    ghost is_idle = { λ m. IsIdleBy F.File m.slots m.feeder m.streams m.drawers };
+
+    ghost is_ready = { λ m batch. IsReadyBy F.File m.slots m.queues m.feeder m.streams m.drawers batch };
+
+    ghost drawn = { λ m. drawn_by P.Filter m.drawers m.feeder };
+
+    ghost refuses = { Unit {0} };
+
+    ghost lent = { λ m. record { slots = m.slots; queues = m.queues; filter = record {} } };
+
+    ghost detached = { λ m job n loaders samplers streamer. AreOut F.File m n loaders samplers streamer };
+
+    ghost may_reattach = { λ n job loaders samplers streamer. (b : Begun F)
+        × MayFinish F.File P.Filter n.slots n.queues n.feeder n.streams n.drawers job loaders samplers streamer b };
+
+    ghost reattached = { λ n job loaders samplers streamer p result.
+        SwapFinishes F.File P.Filter job result n loaders samplers streamer p };
+
+    fn make_from<Rt: Threads + Wait + Sync>(
+        rt: &Rt,
+        alloc: Global,
+        geometry: &Geometry,
+        path: &Path,
+        frames: u32,
+        crew: &Crew,
+        depth: u32,
+        stores: &mut Stores<Self::File>,
+    ) -> Result<Self, NoMemory> {
+        let (queues, asks, answers) = new_queues(alloc, 1)?;
+        let report = blank_report(alloc, 0)?;
+        let (streamer, slots, drawers) = cache_for(
+            rt,
+            alloc,
+            geometry,
+            path,
+            frames,
+            crew.samplers,
+            depth,
+        )?;
+        let held = mem::replace(stores, Items::new(alloc));
+        let streams = StreamKit::new(alloc, geometry, crew, depth, asks, held);
+        let feeder = SwapFeeder {
+            streamer,
+            geometry: *geometry,
+            depth,
+            answers,
+            report,
+            refused: false,
+        };
+        Ok(SwappedMachine {
+            shared: SwapShared {
+                slots,
+                queues,
+                filter: PhantomData,
+            },
+            feeder: Some(feeder),
+            streams,
+            drawers,
+        })
+    }
+
+    fn place<Rt: Threads + Wait + Sync>(
+        &mut self,
+        rt: &Rt,
+        page: u32,
+        frame: u32,
+        tile: &[u8],
+    ) -> Result<(), NoMemory> {
+        match &mut self.feeder {
+            Some(own) => place_page(rt, self.shared.slots.slice(), own, page, frame, tile),
+            None => unreachable!(),
+        }
+    }
+
+    fn prepare<Rt: Threads + Wait + Sync>(
+        &mut self,
+        rt: &Rt,
+        batch: &Batch,
+    ) -> Result<(), NoMemory> {
+        match &mut self.feeder {
+            Some(own) => prepare_pass(
+                rt,
+                &mut self.shared,
+                own,
+                &mut self.streams,
+                &mut self.drawers,
+                batch,
+            ),
+            None => unreachable!(),
+        }
+    }
+
+    fn detach_workers(
+        &mut self,
+        _shot: &Shot<'_>,
+        _batch: &Batch,
+    ) -> (Items<QueuedLoader<F>>, Items<SwapDrawer>, SwapFeeder) {
+        let own = mem::replace(&mut self.feeder, None);
+        match own {
+            Some(mut own) => {
+                let loaders = self.streams.detach(&self.shared.queues, &mut own.answers);
+                let tasks = self.drawers.detach();
+                (loaders, tasks, own)
+            }
+            None => unreachable!(),
+        }
+    }
+
+    fn shared(&self) -> &SwapShared<P> {
+        &self.shared
+    }
+
+    fn reattach_workers<Rt: Threads + Wait + Sync, G: Gate + Sync>(
+        &mut self,
+        _rt: &Rt,
+        loaders: Items<QueuedLoader<F>>,
+        samplers: Items<SwapDrawer>,
+        mut streamer: SwapFeeder,
+        shot: &Shot<'_>,
+        batch: &Batch,
+        _gate: &G,
+    ) -> Result<PassReport, NoMemory>
+        requires { (b : Begun F) × MayFinish F.File P.Filter self.old.slots self.old.queues self.old.feeder self.old.streams self.old.drawers
+            (job_of shot.now batch.now.elements) loaders.elements samplers.elements streamer b }
+        ensures { SwapFinishes F.File P.Filter (job_of shot.now batch.now.elements) result
+            self.old loaders.elements samplers.elements streamer self.new }
+    {
+        let report = end_pass::<F, P>(
+            &self.shared,
+            &mut self.streams,
+            &mut self.drawers,
+            loaders,
+            samplers,
+            &mut streamer,
+            shot,
+            batch,
+        );
+        let gone = mem::replace(&mut self.feeder, Some(streamer));
+        match gone {
+            None => {}
+            Some(_) => unreachable!(),
+        }
+        report
+    }
+
+    fn journal(&self) -> &Journal {
+        match &self.feeder {
+            Some(own) => own.streamer.journal(),
+            None => unreachable!(),
+        }
+    }
+
+    fn counts(&self) -> &Counts {
+        self.drawers.counts()
+    }
+
+    fn picture(&self, alloc: Global) -> Result<Vec<u8>, NoMemory> {
+        self.drawers.picture(alloc)
+    }
+
+    fn end<Rt: Threads + Wait + Sync>(self, rt: &Rt) -> Stores<Self::File> {
+        let SwappedMachine {
+            shared: _,
+            feeder,
+            streams,
+            drawers: _,
+        } = self;
+        match feeder {
+            Some(own) => end_feeder(rt, own),
+            None => {}
+        }
+        streams.end()
+    }
+
+    ghost shows_whole = { λ scene b m i x y limits store inside below_width below_height maps.
+        P.is_plain (stored b) scene m i x y limits below_width below_height maps.root maps.needed_mapped };
+
+    ghost may_come_back = { λ job m n a c e f b d ready root job_is detached lo sa did_lo did_sa did_st.
+        come_back F.File P.Filter.own job m n a c e f b d ready job_is detached lo sa did_lo did_sa did_st };
+
+    ghost has_run = { λ job m n p a c e f b d r ready root job_is detached lo sa did_lo did_sa did_st reattached.
+        has_ended F.File P.Filter.own job m n a c e f b d ready job_is detached lo sa did_lo did_sa did_st p r reattached };
+
+    ghost has_answered = { λ job n p c f d r reattached. may_refuse r };
+}

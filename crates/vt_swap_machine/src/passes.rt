@@ -1,0 +1,183 @@
+//! What the machine over a page cache does between and around its passes.
+
+ghost use Rattle.std.specs.Prelude.{◌≡◌, ◌<◌, ◌≤◌, ◌*◌, false, None, All, IfOk, OnOk, OnErr, length};
+ghost use Rattle.vt_definitions.specs.Depths.{IsDepth};
+ghost use Rattle.vt_definitions.specs.Limits.{most_frames, most_samplers};
+ghost use Rattle.vt_pages.specs.Pages.{IsWithinLimits};
+ghost use Rattle.vt_journal.specs.declared.changes.Change.TheVariants.{Map};
+ghost use Rattle.vt_journal.specs.Changes.{newest, IsNext};
+ghost use Rattle.vt_tiles.specs.Format.{tile_length};
+ghost use Rattle.vt_machine.specs.Crews.{last_start};
+ghost use Rattle.vt_machine.specs.Outcomes.{IsBatchFor};
+ghost use Rattle.vt_workers.specs.Jobs.{job_of};
+ghost use Rattle.vt_swap.specs.Slots.{AreSlotsOf};
+ghost use Rattle.vt_swap.specs.Streamers.{HasMapped, IsRefused};
+ghost use Rattle.vt_swap.specs.Making.{IsNewStreamer};
+ghost use Rattle.vt_stream_kit.specs.StreamKits.{IsSameStream, HasEndedStream};
+ghost use Rattle.vt_swap_machine.specs.DrawKits.{HasReader, IsDrawKit};
+ghost use Rattle.vt_swap_machine.specs.SwapPasses.{HasTold};
+ghost use Rattle.vt_swap_machine.specs.SwapMachines.{IsIdleSwap, IsReadySwap, Begun, MayFinish};
+
+use crate::draw_kit::DrawKit;
+use std::alloc::Global;
+use std::sync::Wait;
+use std::thread::Threads;
+use vt_camera::Path;
+use vt_draw::Shot;
+use vt_evict::Batch;
+use vt_filter::Filter;
+use vt_loaders::QueuedLoader;
+use vt_machine::PassReport;
+use vt_outside::{File, Items, NoMemory};
+use vt_pages::Geometry;
+use vt_stream_kit::StreamKit;
+use vt_swap::{Slot, SwapStreamer, new_cache};
+use vt_swap_workers::{SwapDrawer, SwapFeeder, SwapShared};
+
+/// A page cache that maps nothing: its streamer, a slot for each frame, and what samplers with its readers are done with. It may wait.
+pub(crate) fn cache_for<R: Wait>(
+    rt: &R,
+    alloc: Global,
+    geometry: &Geometry,
+    path: &Path,
+    frames: u32,
+    samplers: u32,
+    depth: u32,
+) -> Result<(SwapStreamer, Items<Slot>, DrawKit), NoMemory>
+    requires some { 1 ≤ samplers }
+    requires few { samplers ≤ most_samplers }
+    requires depth { IsDepth depth }
+    ensures streamer { IfOk result (λ made. IsNewStreamer made.0) }
+    ensures slots { IfOk result (λ made. AreSlotsOf made.0.book made.1.elements) }
+    ensures frames { IfOk result (λ made. length made.1.elements ≡ frames) }
+    ensures kit { IfOk result (λ made. IsDrawKit made.2 made.2.tasks.elements) }
+    ensures readers { IfOk result (λ made. All (HasReader made.0.book) made.2.tasks.elements) }
+    ensures geometry { IfOk result (λ made. made.2.geometry ≡ geometry.now) }
+    ensures depth { IfOk result (λ made. made.2.depth ≡ depth) }
+    ensures width { IfOk result (λ made. made.2.width ≡ path.now.width) }
+    ensures height { IfOk result (λ made. made.2.height ≡ path.now.height) }
+    ensures count { IfOk result (λ made. made.2.count ≡ samplers) }
+    ensures limits { IsWithinLimits geometry.now }
+{
+    let pages = geometry.page_count();
+    let (streamer, slots, readers) = new_cache(rt, alloc, pages, frames, samplers)?;
+    match DrawKit::new(alloc, geometry, path, samplers, depth, readers) {
+        Ok(drawers) => Ok((streamer, slots, drawers)),
+        Err(refusal) => {
+            streamer.end(rt);
+            Err(refusal)
+        }
+    }
+}
+
+/// Ends a streamer. It may wait.
+pub(crate) fn end_feeder<R: Wait>(rt: &R, own: SwapFeeder) {
+    let SwapFeeder {
+        streamer,
+        geometry: _,
+        depth: _,
+        answers: _,
+        report: _,
+        refused: _,
+    } = own;
+    streamer.end(rt);
+}
+
+/// Fills a free frame with the tile of a page, and maps the page to it. It may wait. After a refusal the journal is as it was.
+pub(crate) fn place_page<R: Wait>(
+    rt: &R,
+    slots: &[Slot],
+    own: &mut SwapFeeder,
+    page: u32,
+    frame: u32,
+    tile: &[u8],
+) -> Result<(), NoMemory>
+    requires slots { AreSlotsOf own.old.streamer.book slots.now }
+    requires few { length slots.now ≤ most_frames }
+    requires inside { frame < length slots.now }
+    requires next { IsNext (newest own.old.streamer.journal) (Map page frame) }
+    requires early { length own.old.streamer.journal ≤ last_start }
+    requires depth { IsDepth own.old.depth }
+    requires full { length tile.now ≡ tile_length own.old.geometry own.old.depth }
+    ensures placed { OnOk result (HasMapped own.old.depth (own.old.geometry.tile * own.old.geometry.tile) tile.now
+        own.old.streamer own.new.streamer page frame) }
+    ensures went_on { OnOk result (own.old.streamer.broken ≡ false) }
+    ensures refused { OnErr result (IsRefused own.old.streamer own.new.streamer) }
+    ensures still { OnErr result (own.new.streamer.broken ≡ false → own.old.streamer.broken ≡ false) }
+    ensures rest { own.new ≡ record own.old { streamer = own.new.streamer } }
+{
+    if own.streamer.is_broken() {
+        return Err(NoMemory);
+    }
+    let side = own.geometry.tile();
+    own.streamer
+        .map(rt, slots, page, frame, tile, own.depth, side * side)
+}
+
+/// Makes room for a pass that streams a batch, lets the readers see the newest version, and puts the requests into new queues. It may wait.
+pub(crate) fn prepare_pass<Rt: Threads + Wait, F: File, P: Filter>(
+    rt: &Rt,
+    shared: &mut SwapShared<P>,
+    own: &mut SwapFeeder,
+    streams: &mut StreamKit<F>,
+    drawers: &mut DrawKit,
+    batch: &Batch,
+) -> Result<(), NoMemory>
+    requires idle { IsIdleSwap F.File shared.old.slots own.old streams.old drawers.old }
+    requires lawful { IsBatchFor own.old.geometry (length shared.old.slots.elements) (newest own.old.streamer.journal) batch.now.elements }
+    requires few { length batch.now.elements ≤ streams.old.crew.batch }
+    requires early { length own.old.streamer.journal ≤ last_start }
+    ensures ready { OnOk result (IsReadySwap F.File shared.new.slots shared.new.queues own.new streams.new drawers.new batch.now.elements) }
+    ensures slots { shared.new.slots ≡ shared.old.slots }
+    ensures streamer { own.new.streamer ≡ own.old.streamer }
+    ensures streams { IsSameStream F.File streams.old streams.new }
+    ensures sides { (drawers.new.width ≡ drawers.old.width) × (drawers.new.height ≡ drawers.old.height) }
+{
+    if own.streamer.is_broken() {
+        return Err(NoMemory);
+    }
+    streams.prepare(&mut shared.queues, &mut own.answers, &mut own.report, batch)?;
+    drawers.prepare(rt, own.streamer.journal().version())?;
+    streams.ask(rt, &shared.queues, batch);
+    Ok(())
+}
+
+/// Ends the round of the loaders, moves the samplers back, and tells what the pass did, if memory was not refused.
+pub(crate) fn end_pass<F: File, P: Filter>(
+    shared: &SwapShared<P>,
+    streams: &mut StreamKit<F>,
+    drawers: &mut DrawKit,
+    loaders: Items<QueuedLoader<F>>,
+    samplers: Items<SwapDrawer>,
+    own: &mut SwapFeeder,
+    shot: &Shot<'_>,
+    batch: &Batch,
+) -> Result<PassReport, NoMemory>
+    requires { (b : Begun F) × MayFinish F.File P.Filter shared.now.slots shared.now.queues None streams.old drawers.old
+        (job_of shot.now batch.now.elements) loaders.elements samplers.elements own.old b }
+    ensures ended { (b : Begun F) → MayFinish F.File P.Filter shared.now.slots shared.now.queues None streams.old drawers.old
+        (job_of shot.now batch.now.elements) loaders.elements samplers.elements own.old b
+        → HasEndedStream F.File streams.old streams.new batch.now.elements own.old.report b.stream }
+    ensures own { own.new ≡ record own.old { answers = own.new.answers; report = own.new.report } }
+    ensures drawers { drawers.new ≡ record drawers.old {
+      tasks = samplers;
+      counts = drawers.new.counts;
+      lines = drawers.new.lines;
+    } }
+    ensures told { IfOk result (λ report. HasTold drawers.old drawers.new samplers.elements own.old report.rows.elements) }
+    ensures events { IfOk result (λ report. report.events.elements ≡ own.old.report.events.elements) }
+    ensures losses { IfOk result (λ report. report.losses.elements ≡ own.old.report.losses.elements) }
+{
+    let (events, losses) = streams.end_round(
+        &shared.queues,
+        loaders,
+        &mut own.answers,
+        &mut own.report,
+    );
+    let rows = drawers.finish(samplers, own)?;
+    Ok(PassReport {
+        rows,
+        events,
+        losses,
+    })
+}

@@ -1,0 +1,86 @@
+//! What a pass over a page cache tells of its samplers.
+
+ghost use Rattle.std.specs.Prelude.{◌≡◌, ℕ, ◌^◌, ◌<◌, ◌≤◌, [], All, IsTrue, length, slice_index, slice_index_or};
+ghost use Rattle.vt_pages.specs.Shape.{Shape};
+ghost use Rattle.logbook.specs.Pages.{Book};
+ghost use Rattle.vt_swap_workers.specs.declared.workers.SwapDrawer.{SwapDrawer as Task};
+ghost use Rattle.vt_swap_machine.specs.DrawKits.{AreDrawers, HasReader, IsToldBy, lines_of, counted_together};
+ghost use Rattle.vt_swap_machine.specs.SwapPasses.{IsIntact};
+
+use vt_feedback::Counts;
+use vt_journal::{RowLine, RowLines};
+use vt_requests::sampler_of;
+use vt_swap::SwapStreamer;
+use vt_swap_workers::{SwapDrawer, SwapFeeder};
+
+// Whether the reader of a sampler has seen no more of the log than the streamer did.
+fn is_told_by(task: &SwapDrawer, streamer: &SwapStreamer) -> bool
+    requires { HasReader streamer.now.book task.now }
+    ensures { IsTrue result → IsToldBy streamer.now.log task.now }
+{
+    match &task.reader {
+        Some(reader) => reader.is_told_by(streamer),
+        None => unreachable!(),
+    }
+}
+
+// The same for the readers of all samplers.
+fn are_told(tasks: &[SwapDrawer], streamer: &SwapStreamer) -> bool
+    requires { All (HasReader streamer.now.book) tasks.now }
+    ensures { IsTrue result → All (IsToldBy streamer.now.log) tasks.now }
+{
+    for i in 0..tasks.len() {
+        if !is_told_by(&tasks[i], streamer) {
+            return false;
+        }
+    }
+    true
+}
+
+/// Whether the streamer was refused no memory, and the readers of samplers have seen no more of the log than it did.
+pub(crate) fn is_told(tasks: &[SwapDrawer], own: &SwapFeeder) -> bool
+    requires { All (HasReader own.now.streamer.book) tasks.now }
+    ensures readers { IsTrue result → All (IsToldBy own.now.streamer.log) tasks.now }
+    ensures whole { IsTrue result → IsIntact own.now }
+{
+    if own.refused {
+        return false;
+    }
+    if own.streamer.is_broken() {
+        return false;
+    }
+    are_told(tasks, &own.streamer)
+}
+
+/// Notes the lines of a picture's rows, each drawn by the sampler that it is dealt to, at the version of that sampler's row.
+pub(crate) fn note_lines(rows: &mut RowLines, tasks: &[SwapDrawer], count: u32, height: u32)
+    requires some { 1 ≤ count }
+    requires samplers { (s : Shape) × (d : ℕ) × (width : ℕ) × AreDrawers s d width height count tasks.now }
+    requires none { rows.old.elements ≡ [] }
+    requires room { height ≤ rows.old.spare }
+    ensures { rows.new.elements ≡ lines_of count tasks.now height }
+{
+    for row in 0..height {
+        let sampler = sampler_of(row, count);
+        let version = tasks[sampler as usize].sampler.version(row);
+        rows.push(RowLine {
+            row,
+            sampler,
+            version,
+        });
+    }
+}
+
+/// Puts what samplers have counted together in the place of counts.
+pub(crate) fn count_together(counts: &mut Counts, tasks: &[SwapDrawer])
+    requires lengths { (k : ℕ) (d : Task) → k < length tasks.now
+        → length (slice_index_or tasks.now k d).sampler.counts ≡ length counts.old }
+    requires room { (p : ℕ) → p < length counts.old → counted_together tasks.now p < 2 ^ 32 }
+    ensures length { length counts.new ≡ length counts.old }
+    ensures sums { (p : ℕ) → p < length counts.old → slice_index counts.new p ≡ counted_together tasks.now p }
+{
+    counts.clear();
+    for i in 0..tasks.len() {
+        counts.merge(tasks[i].sampler.counts());
+    }
+}
