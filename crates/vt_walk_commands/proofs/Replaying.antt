@@ -299,7 +299,7 @@ bytes_told : (words : ReplayText) (path : PathView) (shape : Shape) (depth : ℕ
 bytes_told words path shape depth file text f0 f1 f2 f3 h told =
     told_bytes file.bytes f1.files h.opened.tells (subst IsSome (sym h.path_read.files) told)
 
--- the pictures of the journal stand
+-- the pictures of the journal are there
 replayed_files : (words : ReplayText) (path : PathView) (shape : Shape) (depth : ℕ) (file : FileState) (text : List ℕ)
     (f0 f1 f2 f3 f4 : FolderState) (journal : Journal) → HasInputs words path shape depth file text f0 f1 f2 f3
     → HoldsReplay (under_by words.filter) shape depth file.bytes path words.prefix journal f3.files f4.files → IsSome f0.files
@@ -318,7 +318,7 @@ part_files words path shape depth file text f0 f1 f2 f3 f4 journal h holds told 
     subst (λ (files : Option Files). IsPart expected files f4.files) (files_kept words path shape depth file text f0 f1 f2 f3 h)
     (holds (unwrap_or file.bytes []) (bytes_told words path shape depth file text f0 f1 f2 f3 h told))
 
--- what stands where the replay came to a stop
+-- what is left where the replay was stopped
 left_stopped : (words : ReplayText) (path : PathView) (shape : Shape) (depth : ℕ) (file : FileState) (text : List ℕ)
     (f0 f1 f2 f3 f4 : FolderState) (out : SinkState) → HasInputs words path shape depth file text f0 f1 f2 f3
     → Stopped (under_by words.filter) shape depth file.bytes path text words.prefix f3.files f4.files
@@ -389,7 +389,7 @@ replay_refused words path shape depth file text f0 f1 f2 f3 f4 out replay.NoMemo
       (left_stopped words path shape depth file text f0 f1 f2 f3 f4 out h left, tt),
     )
 
--- the pictures stand, and what came of the end line
+-- the pictures are there, and what was put of the end line
 line_refused : (words : ReplayText) (path : PathView) (shape : Shape) (depth : ℕ) (file : FileState) (text : List ℕ)
     (f0 f1 f2 f3 f4 : FolderState) (out shown : SinkState) (count pictures : ℕ) (error : OutsideError)
     → HasInputs words path shape depth file text f0 f1 f2 f3 → IsClosed shape depth file.name file.asked f3.asked f4.asked

@@ -1,4 +1,4 @@
--- What a trial comes to.
+-- How a trial ends.
 use Rattle.std.proofs.Common.{◌≡◌, ℕ, ◌⊎◌, List, [], ◌∷◌, take, Option, Some, None, true, Result, Ok, Err, refl, sym, ap, subst, ◌∙◌, inl, inr, arith}
 use Rattle.std.specs.Prelude.{OnSome, is_some, option_map}
 use Rattle.std.specs.Str.{bytes_eq}
@@ -93,7 +93,7 @@ tried words walked differ folder out t none put = (
   },
 )
 
--- a front part of it was
+-- a prefix of it was
 pub tried_in_part : (words : TrialText) (walked : Walked) (differ : ℕ) (folder : FolderState) (out : SinkEffect) (error : OutsideError)
     → IsTrial words.number walked → differ ≡ 0 → Puts {T = Unit {0}} (trial_line words.number walked differ) out (Err error)
     → EndsBy {T = Unit {0}} (trial_spec words) (beside folder out) (Err (cause_of error))

@@ -144,7 +144,7 @@ given_told m words of told =
     given_by m.draws (scene_of of.shape of.depth of.path) (settings_of words) (mode_of words.settled)
     told (walk_names words)
 
--- what stood before a walk, with the store's file that is open
+-- what was there before a walk, with the store's file that is open
 abbrev pub began : WalkText → FileState → FolderState → SinkState → WalkState
 began words file f out = record {
   files = f.files;
@@ -164,7 +164,7 @@ ended words f out = record {
   asked = option_map (λ (asked : Asked). asked words.store ++ places_of []) f.asked;
 }
 
--- what a walk came to
+-- how a walk ended
 abbrev pub CameTo : MachineKind → WalkGiven → WalkState → WalkState → Result (Unit {0}) WalkError → Type 0
 CameTo m g first last r = MatchResult r (λ _. Finished m.drawn g first last) (WalkLeftBy m.drawn g first last)
 
@@ -181,7 +181,7 @@ none_open store None = tt
 none_open store (Some a) =
     subst (λ (places : List Place). OnTold AreSamePlaces (Some places) (Some (a store))) (sym (append-nil (a store))) (same_places (Some (a store)))
 
--- what a walk came to, from when its inputs were read
+-- how a walk ended, from when its inputs were read
 from_inputs : (m : MachineKind) (words : WalkText) (of : WalkOf) (file : FileState) (f0 f1 f2 f3 : FolderState) (out shown : SinkState)
     (r : Result (Unit {0}) WalkError) → HasInputs words of file f0 f1 f2
     → CameTo m (given_told m words of file.bytes) (began words file f2 out) (ended words f3 shown) r

@@ -10,7 +10,7 @@ use Rattle.clap.specs.declared.builder.action.ArgAction.TheVariants.{SetTrue}
 use Rattle.vt_words.specs.declared.arguments.Argument.{Argument}
 use Rattle.vt_words.specs.declared.arguments.Argument.TheVariants as argument
 
--- a word that is required; such words stand in the order of the rows
+-- a word that is required; such words are in the order of the rows
 abbrev pub word : Text → Rule
 word id = record (new_rule id) { required = true }
 

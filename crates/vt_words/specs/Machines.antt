@@ -28,7 +28,7 @@ table_named name =
 abbrev pub table_of : List Row → Option TableForm
 table_of rows = given (first_of (codes "table") rows) table_named
 
--- the option that says how the rows of a picture come to the samplers: they are dealt where it is not given
+-- the option that says how the rows of a picture are given to the samplers: they are dealt where it is not given
 abbrev pub rows_option : Rule
 rows_option = option (codes "rows") (codes "dealt")
 

@@ -13,11 +13,11 @@ use clap::ArgMatches;
 pub enum TableForm {
     /// As words that are read and written one by one.
     Words,
-    /// As a table that lies twice, of which readers take the copy that is shown.
+    /// As a table that is held twice, of which readers take the copy that is shown.
     Swapped,
 }
 
-/// How the rows of a picture come to the samplers.
+/// How the rows of a picture are given to the samplers.
 #[derive(Clone, Copy)]
 pub enum Scheduling {
     /// They are dealt to the samplers beforehand.
@@ -31,7 +31,7 @@ pub enum Scheduling {
 pub enum MachineChoice {
     /// Table and frames are words, rows are dealt to the samplers, and each pixel is one texel.
     Standard,
-    /// The table lies twice.
+    /// The table is held twice.
     SwappedTable,
     /// The samplers share the rows.
     SharedRows,

@@ -53,7 +53,7 @@ expected_journal words g journal = record {
   text = end_line (pictures_of journal.passes);
 }
 
--- the text is that of a lawful journal whose pictures are all in the path; where the folder tells, each picture stands, and every other
+-- the text is that of a lawful journal whose pictures are all in the path; where contents are known, each picture is there, and every other
 -- name holds what it held; and the output gained the end line
 pub record HasReplayed (words : ReplayText) (contents : List Content) (c : CallEffect) : Type 0 where
   pub of : ReplayOf
@@ -64,8 +64,8 @@ pub record HasReplayed (words : ReplayText) (contents : List Content) (c : CallE
       → c.folder.after.files ≡ option_map (with_files (expected_journal words of journal).files) c.folder.before.files
   pub out : c.out.after.held ≡ option_map (gained (expected_journal words of journal).text) c.out.before.held
 
--- the text is that of such a journal; where the folder tells, some of its pictures stand, and of the next one a front part; and the
--- output gained a front part of the end line, and a byte of it only where all pictures stand
+-- the text is that of such a journal; where contents are known, some of its pictures are there, and of the next one a prefix; and the
+-- output gained a prefix of the end line, and a byte of it only where all pictures are there
 pub record HasStopped (words : ReplayText) (contents : List Content) (c : CallEffect) : Type 0 where
   pub of : ReplayOf
   pub are : contents ≡ contents_of of

@@ -140,7 +140,7 @@ pub record HasTried (words : TrialText) (contents : List Content) (c : CallEffec
   pub files : c.folder.after.files ≡ c.folder.before.files
   pub held : c.out.after.held ≡ option_map (gained (trial_line words.number walked 0)) c.out.before.held
 
--- the folder is as before, and the output gained a front part of the line
+-- the folder is as before, and the output gained a prefix of the line
 pub record HasTriedInPart (words : TrialText) (contents : List Content) (c : CallEffect) : Type 0 where
   pub walked : Walked
   pub is : IsTrial words.number walked

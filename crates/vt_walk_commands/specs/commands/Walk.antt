@@ -56,8 +56,8 @@ walk_given m words of files =
     given_by m.draws (scene_of of.shape of.depth of.path) (settings_of words) (mode_of words.settled)
     (bytes_at files words.store) (walk_names words)
 
--- what stood before a walk once its store was opened: of the store its header was asked, after these places; the count of faults has
--- come at most to the end of its type
+-- what was there before a walk once its store was opened: of the store its header was asked, after these places; the count of faults has
+-- reached at most the end of its type
 abbrev pub walk_first : WalkText → Option Asked → CallEffect → WalkState
 walk_first words read c = record {
   files = c.folder.before.files;
@@ -67,7 +67,7 @@ walk_first words read c = record {
   asked = option_map (λ (asked : Asked). asked words.store ++ header_places) read;
 }
 
--- what stands at the end
+-- what is there at the end
 abbrev pub walk_last : WalkText → CallEffect → WalkState
 walk_last words c = record {
   files = c.folder.after.files;
@@ -77,7 +77,7 @@ walk_last words c = record {
   asked = option_map (λ (asked : Asked). asked words.store) c.folder.after.asked;
 }
 
--- the journal's name is no picture's; the path was asked, and then the walk was made whole: what it leaves stands between the opening of its store and the end
+-- the journal's name is no picture's; the path was asked, and then the walk was made whole: what it leaves lies between the opening of its store and the end
 pub record HasWalked (m : MachineKind) (words : WalkText) (contents : List Content) (c : CallEffect) : Type 0 where
   pub of : WalkOf
   pub are : contents ≡ contents_of of
@@ -152,7 +152,7 @@ pub record ConflictsInWalk (m : MachineKind) (words : WalkText) (contents : List
 abbrev pub walk_inputs : WalkText → List Input
 walk_inputs words = PathInput words.path ∷ StoreInput words.store ∷ []
 
--- what stands is what a walk leaves, so that the store was asked for the header and the tiles of its passes; beside it the path was asked
+-- what is there is what a walk leaves, so that the store was asked for the header and the tiles of its passes; beside it the path was asked
 -- and no other name
 pub record AsksOfWalk (m : MachineKind) (words : WalkText) (c : CallEffect) : Type 0 where
   pub read : Option Asked
@@ -180,7 +180,7 @@ pub record FailedInWalk (m : MachineKind) (words : WalkText) (c : CallEffect) : 
   pub rose : let given = walk_given m words of c.folder.before.files in
       RoseBy (reads_lost given (walk_first words read c).asked (walk_last words c).asked + 1) c.folder.before.faults c.folder.after.faults
 
--- the walk is settled, and what stands of it ends with a pass that lost a tile, which the journal tells
+-- the walk is settled, and what it left ends with a pass that lost a tile, which the journal tells
 pub record LostInWalk (m : MachineKind) (words : WalkText) (c : CallEffect) : Type 0 where
   pub of : WalkOf
   pub held : IsSome c.folder.before.files → AreHeld c.folder.before.files (walk_inputs words) (contents_of of)

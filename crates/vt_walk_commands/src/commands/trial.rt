@@ -297,7 +297,7 @@ fn compare<'a, Rt: Threads + Sync>(
     Ok(Tried { walked, differ })
 }
 
-// How many bytes of the pictures in a folder are other than those of the plain pictures; it stands at the end of its
+// How many bytes of the pictures in a folder are other than those of the plain pictures; it is at the end of its
 // type.
 fn count_differing<Rt: Threads + Sync>(
     rt: &Rt,
