@@ -26,18 +26,18 @@ KINDS = {
     "all threads": ("thread", True, set()),
     "stop": ("stop", False, set()),
 }
-# How long a run may take, and how long all its threads may run together, in seconds.
-LIMIT, BUSY = 300, 60
+# How long a run may take, and how long its threads may be at work together, in seconds.
+LIMIT, BUSY = 120, 60
 
 
 class Failing:
-    def __init__(self, program, scratch):
+    def __init__(self, program, scratch, limit=LIMIT):
         library, source = os.path.join(scratch, "faults.so"), os.path.join(os.path.dirname(os.path.abspath(__file__)), "faults.c")
         if not os.path.exists(library):
             built = "%s.%d" % (library, os.getpid())
             subprocess.run(["gcc", "-shared", "-fPIC", "-O1", source, "-o", built, "-ldl", "-lpthread"], check=True)
             os.rename(built, library)
-        self.program = program
+        self.program, self.limit = program, limit
         self.seen, self.reads = (os.path.join(scratch, "%s.%d" % (name, os.getpid())) for name in ("seen", "reads"))
         self.environment = dict(os.environ, LD_PRELOAD=library, FAULT_SEEN=self.seen, FAULT_READS=self.reads)
         # How many allocations the program asked for in the last run while a thread of its own ran.
@@ -56,18 +56,18 @@ class Failing:
             calls, self.grown = map(int, seen.read().split())
             return left, calls, [Read(line) for line in reads]
 
-    def limit(self):
+    def begin(self):
         resource.setrlimit(resource.RLIMIT_CPU, (BUSY, BUSY))
         if self.processors:
             os.sched_setaffinity(0, self.processors)
 
     def ended(self, command, environment):
         """What a command left that goes on whenever it was stopped. One that comes to no end raises TimeoutExpired."""
-        with subprocess.Popen(command, env=environment, stdout=subprocess.PIPE, stderr=subprocess.PIPE, preexec_fn=self.limit) as process:
+        with subprocess.Popen(command, env=environment, stdout=subprocess.PIPE, stderr=subprocess.PIPE, preexec_fn=self.begin) as process:
             if environment["FAULT_KIND"] == "stop":
-                go_on(process)
+                go_on(process, self.limit)
             try:
-                out, error = process.communicate(timeout=LIMIT)
+                out, error = process.communicate(timeout=self.limit)
             except subprocess.TimeoutExpired:
                 process.kill()
                 raise
@@ -76,9 +76,9 @@ class Failing:
         return Left(process.returncode, out, error)
 
 
-def go_on(process):
+def go_on(process, limit):
     """Lets a process go on where it was stopped, some milliseconds later, up to its end."""
-    end = time.monotonic() + LIMIT
+    end = time.monotonic() + limit
     while time.monotonic() < end:
         told = os.waitid(os.P_PID, process.pid, os.WSTOPPED | os.WEXITED | os.WNOWAIT | os.WNOHANG)
         if told is None:

@@ -1,7 +1,9 @@
 #!/usr/bin/env python3
 """Lets each call of a kind on the system fail in turn, for each command and each machine of `walk`, over small textures, stores, paths and journals.
 
-usage: run.py [--program PROGRAM] [--workers N] [--only COMMAND..]     (crates/vtex/out/vtex, one worker for each processor and all commands; it wants gcc)
+usage: run.py [--program PROGRAM] [--workers N] [--only WORD..] [--without WORD..]
+
+(crates/vtex/out/vtex, a worker for each processor, and all commands, else those that have one of these words; it wants gcc)
 
 Outside the gate. The kinds are those of failing.py: an allocation that is refused, or it and all later ones; an opening, a read or a write that fails,
 or it and all later ones; a read that fails late, while other threads go on; a read or a write that comes short; a thread that cannot be made, or it and all
@@ -10,7 +12,7 @@ closed, and over a file system that is full after so many bytes of a file.
 
 Each run is judged by ../judge.py: its status and error line have their cause, and what stands is what docs/FORMATS.md says of that status. A read that fails
 is told by its file and place, so that a page that a live walk loses gives status 0, and any other read that fails does not. A walk asks its store for nothing
-but what it is due to read, and for nothing twice, and it asks for no memory while its workers run.
+but what it is due to read, and for nothing twice. Over the table of words it asks for no memory while its workers run.
 """
 import argparse
 import os
@@ -32,7 +34,7 @@ from failing import KINDS, LIMIT, Failing, doubt_of, doubt_of_walk, flaws_of_rea
 from judge import Doubt, Left, flaws_of_due, flaws_of_walk
 from rows import EIGHT_STORE, FIRST, FOUR, FOUR_ROWS, FOUR_STORE, LOST, WRAPPED, filled, grey, pixel
 from stores import BILINEAR, NEAREST, contents
-from walks import DEALT, SHARED, Settings
+from walks import DEALT, SHARED, SWAP, WORDS, Settings
 
 TEXELS = FOUR_STORE[16::3]
 SCALED = (0, 17, 68, 85, 34, 51, 102, 119, 136, 153, 204, 221, 170, 187, 238, 255, 43, 77, 179, 213)
@@ -99,18 +101,23 @@ class WalkJob:
 
     def flaws_of_calls(self, kind, left, reads, grown):
         found = [] if kind == "short read" else flaws_of_reads(reads, self.store, self.path, self.settings, left)
-        return found + (["%d allocations while workers run" % grown] if grown else [])
+        return found + (["%d allocations while workers run" % grown] if grown and self.settings.table == WORDS else [])
 
 
-# The machines of `walk`: the options that ask for one, and by which filter and by which samplers its rows are drawn.
-MACHINES = [("", NEAREST, DEALT), ("--rows shared", NEAREST, SHARED), ("--filter bilinear", BILINEAR, DEALT)]
+# The machines of `walk`: the options that ask for one, by which filter and by which samplers its rows are drawn, and over which table.
+MACHINES = [
+    ("", NEAREST, DEALT, WORDS),
+    ("--rows shared", NEAREST, SHARED, WORDS),
+    ("--filter bilinear", BILINEAR, DEALT, WORDS),
+    ("--table swap", NEAREST, DEALT, SWAP),
+]
 CREWS = [(1, 1), (4, 3)]
 
 
-def walks_of(options, filtering, scheduling, samplers, loaders):
+def walks_of(options, filtering, scheduling, table, samplers, loaders):
     """A live walk and a settled one by a machine and a crew. A blend wants the pages of all its texels."""
-    live = Settings(4, samplers, 2, 1, False, filtering, scheduling)
-    settled = Settings(3 if filtering == NEAREST else 5, samplers, 1, 1, True, filtering, scheduling)
+    live = Settings(4, samplers, 2, 1, False, filtering, scheduling, table)
+    settled = Settings(3 if filtering == NEAREST else 5, samplers, 1, 1, True, filtering, scheduling, table)
     return [WalkJob("s.vts", "rows.path", live, loaders, options), WalkJob("s.vts", "a.path", settled, loaders, options)]
 
 
@@ -251,9 +258,11 @@ def main():
     parser.add_argument("--program", default=os.path.join(top, "crates/vtex/out/vtex"))
     parser.add_argument("--workers", type=int, default=os.cpu_count())
     parser.add_argument("--only", nargs="+")
+    parser.add_argument("--without", nargs="+", default=[])
     options, begun = parser.parse_args(), time.monotonic()
     kinds = [*KINDS, *OUTPUTS, FULL_FILES]
-    tasks = [(number, kind) for number, job in enumerate(JOBS) for kind in kinds if not options.only or job.words[0] in options.only]
+    only, without = set(options.only or [job.words[0] for job in JOBS]), set(options.without)
+    tasks = [(number, kind) for number, job in enumerate(JOBS) if only.intersection(job.words) and not without.intersection(job.words) for kind in kinds]
     by_kind, wrong = {kind: Counter() for kind in kinds}, []
     with tempfile.TemporaryDirectory() as scratch:
         Failing(os.path.abspath(options.program), scratch)
