@@ -94,10 +94,7 @@ class Soak:
     def flaws(self, case, kind, at):
         """What is wrong with what the case leaves where this call of the kind fails, or none with 0."""
         case.fill()
-        try:
-            left, _, reads = self.failing.run(case.words, kind, at)
-        except subprocess.TimeoutExpired as expired:
-            return ["no end within %s seconds" % expired.timeout]
+        left, _, reads = self.failing.run(case.words, kind, at)
         doubt = doubt_of(kind) if at else Doubt()
         if at and case.settings and contents("s.vts"):
             doubt = doubt_of_walk(kind, reads, "s.vts", case.settings)
@@ -128,11 +125,14 @@ class Soak:
         own = sorted(os.sched_getaffinity(0))
         self.failing.processors = chance.sample(own, min(processors, len(own)))
         with Busy(loops * len(own)):
-            if chance.randrange(3) == 0:
-                case.fill()
-                calls = self.failing.run(case.words, kind, 0)[1]
-                at = chance.randint(1, calls) if calls else 0
-            flaws = self.flaws(case, kind, at)
+            try:
+                if chance.randrange(3) == 0:
+                    case.fill()
+                    calls = self.failing.run(case.words, kind, 0)[1]
+                    at = chance.randint(1, calls) if calls else 0
+                flaws = self.flaws(case, kind, at)
+            except subprocess.TimeoutExpired as expired:
+                flaws = ["no end within %s seconds" % expired.timeout]
         self.kinds[case.kind + (", a call fails" if at else "")] += 1
         self.calls.update([kind] if at else [])
         self.conditions[condition] += 1
