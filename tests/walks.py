@@ -5,17 +5,16 @@ from stores import NEAREST, Geometry, Path
 
 MOST_FRAME_TEXELS = 8388608
 DEALT, SHARED = "dealt", "shared"
-WORDS, SWAP = "words", "swap"
 
 
 class Settings:
-    def __init__(self, frames=64, samplers=4, batch=64, pinned=1, settled=False, filtering=NEAREST, scheduling=DEALT, table=WORDS):
+    def __init__(self, frames=64, samplers=4, batch=64, pinned=1, settled=False, filtering=NEAREST, scheduling=DEALT):
         self.frames, self.samplers, self.batch, self.pinned, self.settled = frames, samplers, batch, pinned, settled
-        self.filtering, self.scheduling, self.table = filtering, scheduling, table
+        self.filtering, self.scheduling = filtering, scheduling
 
     def go_together(self):
         """Of the options that ask for another machine at most one is given."""
-        return (self.filtering != NEAREST) + (self.scheduling != DEALT) + (self.table != WORDS) < 2
+        return self.filtering == NEAREST or self.scheduling == DEALT
 
     def samplers_of(self, y):
         """The samplers that may draw a row."""

@@ -12,7 +12,7 @@ closed, and over a file system that is full after so many bytes of a file.
 
 Each run is judged by ../judge.py: its status and error line have their cause, and what stands is what docs/FORMATS.md says of that status. A read that fails
 is told by its file and place, so that a page that a live walk loses gives status 0, and any other read that fails does not. A walk asks its store for nothing
-but what it is due to read, and for nothing twice. Over the table of words it asks for no memory while its workers run.
+but what it is due to read, and for nothing twice, and it asks for no memory while its workers run.
 """
 import argparse
 import os
@@ -33,8 +33,8 @@ sys.path.insert(0, os.path.join(top, "tests"))
 from failing import KINDS, LIMIT, Failing, doubt_of, doubt_of_walk, flaws_of_reads
 from judge import Doubt, Left, flaws_of_due, flaws_of_walk
 from rows import EIGHT_STORE, FIRST, FOUR, FOUR_ROWS, FOUR_STORE, LOST, WRAPPED, filled, grey, pixel
-from stores import BILINEAR, NEAREST, contents
-from walks import DEALT, SHARED, SWAP, WORDS, Settings
+from stores import BILINEAR, contents
+from walks import SHARED, Settings
 
 TEXELS = FOUR_STORE[16::3]
 SCALED = (0, 17, 68, 85, 34, 51, 102, 119, 136, 153, 204, 221, 170, 187, 238, 255, 43, 77, 179, 213)
@@ -83,8 +83,8 @@ class WalkJob:
 
     prints = True
 
-    def __init__(self, store, path, settings, loaders, options=""):
-        self.store, self.path, self.settings = store, path, settings
+    def __init__(self, store, path, settings, loaders, options="", grows=False):
+        self.store, self.path, self.settings, self.grows = store, path, settings, grows
         self.words = ["walk", store, path, "f", "--journal", "w.txt", "--loaders", str(loaders)]
         for option in ("frames", "samplers", "batch"):
             self.words += ["--" + option, str(getattr(settings, option))]
@@ -101,24 +101,23 @@ class WalkJob:
 
     def flaws_of_calls(self, kind, left, reads, grown):
         found = [] if kind == "short read" else flaws_of_reads(reads, self.store, self.path, self.settings, left)
-        return found + (["%d allocations while workers run" % grown] if grown and self.settings.table == WORDS else [])
+        return found + (["%d allocations while workers run" % grown] if grown and not self.grows else [])
 
 
-# The machines of `walk`: the options that ask for one, by which filter and by which samplers its rows are drawn, and over which table.
+# The machines of `walk`: the options that ask for one, what of its settings is another than the default, and whether a pass of it may ask for memory.
 MACHINES = [
-    ("", NEAREST, DEALT, WORDS),
-    ("--rows shared", NEAREST, SHARED, WORDS),
-    ("--filter bilinear", BILINEAR, DEALT, WORDS),
-    ("--table swap", NEAREST, DEALT, SWAP),
+    ("", {}, False),
+    ("--rows shared", {"scheduling": SHARED}, False),
+    ("--filter bilinear", {"filtering": BILINEAR}, False),
 ]
 CREWS = [(1, 1), (4, 3)]
 
 
-def walks_of(options, filtering, scheduling, table, samplers, loaders):
+def walks_of(options, machine, grows, samplers, loaders):
     """A live walk and a settled one by a machine and a crew. A blend wants the pages of all its texels."""
-    live = Settings(4, samplers, 2, 1, False, filtering, scheduling, table)
-    settled = Settings(3 if filtering == NEAREST else 5, samplers, 1, 1, True, filtering, scheduling, table)
-    return [WalkJob("s.vts", "rows.path", live, loaders, options), WalkJob("s.vts", "a.path", settled, loaders, options)]
+    live = Settings(4, samplers, 2, **machine)
+    settled = Settings(5 if live.filtering == BILINEAR else 3, samplers, 1, settled=True, **machine)
+    return [WalkJob("s.vts", "rows.path", live, loaders, options, grows), WalkJob("s.vts", "a.path", settled, loaders, options, grows)]
 
 
 PICTURES = [("f%04d.ppm" % k, grey(samples)) for k, samples in enumerate([(0x0B, 0x03), (0x0B, 0x01), (0x0D, 0x05), (0x0D, 0x05)])]

@@ -8,7 +8,7 @@ from judge import FAULT, LINES, flaws_of_due, flaws_of_walk
 from journals import Journal, replay
 from stores import BILINEAR, NEAREST, Flaw, Geometry, Path, Store, contents
 from textures import MOST_TILED_SIDE, chain_of, generated, picture_of, read_image, sample_bytes, store_of, upgraded
-from walks import DEALT, SHARED, SWAP, WORDS, Settings, Shuffled, Walk, trial, walked
+from walks import DEALT, SHARED, Settings, Shuffled, Walk, trial, walked
 
 TILES = [2, 4, 8, 16, 32, 64, 128]
 BOUNDS = {"--frames": 65535, "--samplers": 64, "--loaders": 16, "--batch": 4096, "--pinned": 16}
@@ -28,11 +28,9 @@ class Inputs:
     def filtering(self):
         return self.random.choice([NEAREST, NEAREST, BILINEAR])
 
-    def machine(self, filtering):
-        """A filter, a scheduling and a table, of which one is not the default, or none; now and then two are."""
-        scheduling = SHARED if self.is_one_in(3 if filtering == NEAREST else 20) else DEALT
-        table = SWAP if self.is_one_in(2 if (filtering, scheduling) == (NEAREST, DEALT) else 20) else WORDS
-        return filtering, scheduling, table
+    def scheduling(self, filtering):
+        """Shared rows go with the nearest texel alone; now and then they are asked for beside blends."""
+        return SHARED if self.is_one_in(3 if filtering == NEAREST else 20) else DEALT
 
     def side(self):
         return self.random.choice([1, 2, 3, self.random.randint(1, 40), self.random.randint(1, 40), self.random.randint(1, 150)])
@@ -96,7 +94,8 @@ class Inputs:
     def settings(self, store, path):
         """Mostly as many frames as the pictures need, or a few more or less, and small numbers of the others; else any numbers."""
         small = [self.random.choice([1, 2, 3, 7, self.random.randint(1, most)]) for most in (64, 4096, 16)]
-        settings = Settings(store.geometry.pages, *small, self.is_one_in(2), *self.machine(path.filtering))
+        machine = path.filtering, self.scheduling(path.filtering)
+        settings = Settings(store.geometry.pages, *small, self.is_one_in(2), *machine)
         if self.is_one_in(4):
             settings.frames = self.random.randint(1, 65535)
             return settings
@@ -120,13 +119,11 @@ def filter_words(filtering):
 
 
 def machine_words(settings):
-    scheduling = [] if settings.scheduling == DEALT else ["--rows", settings.scheduling]
-    return filter_words(settings.filtering) + scheduling + ([] if settings.table == WORDS else ["--table", settings.table])
+    return filter_words(settings.filtering) + ([] if settings.scheduling == DEALT else ["--rows", settings.scheduling])
 
 
-def kind_of(filtering, scheduling=DEALT, table=WORDS):
-    is_other = ((filtering != NEAREST, " by blends"), (scheduling != DEALT, " by shared rows"), (table != WORDS, " over the swapped table"))
-    return "".join(title for said, title in is_other if said)
+def kind_of(filtering, scheduling=DEALT):
+    return ("" if filtering == NEAREST else " by blends") + ("" if scheduling == DEALT else " by shared rows")
 
 
 class Case:
@@ -166,7 +163,7 @@ class WalkCase(Case):
         words = ["walk", "s.vts", "p.path", "f", "--journal", "j.txt", "--loaders", str(loaders)]
         for option in ("frames", "samplers", "batch", "pinned"):
             words += ["--" + option, str(getattr(settings, option))]
-        kind = ("settled walk" if settings.settled else "live walk") + kind_of(settings.filtering, settings.scheduling, settings.table)
+        kind = ("settled walk" if settings.settled else "live walk") + kind_of(settings.filtering, settings.scheduling)
         super().__init__(kind, words + machine_words(settings) + ["--settled"] * settings.settled, inputs, None, r"j\.txt|f[0-9]{4}\.ppm")
         self.settings = settings
 
