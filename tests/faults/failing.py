@@ -22,6 +22,8 @@ KINDS = {
     "all writes": ("write", True, {3}),
     "short read": ("short_read", False, set()),
     "short write": ("short_write", False, set()),
+    "broken read": ("broken_read", False, set()),
+    "broken write": ("broken_write", False, set()),
     "thread": ("thread", False, set()),
     "all threads": ("thread", True, set()),
     "stop": ("stop", False, set()),

@@ -1,8 +1,9 @@
 // Loaded before the C library: lets one call of a kind fail, come short, or stop the program, by its number.
-// FAULT_KIND is alloc, open, read, late_read, write, thread, short_read, short_write or stop; FAULT_AT counts from 1. With FAULT_ON each later call
-// of the kind fails too. FAULT_SLOW is the most microseconds that a read, a write or an open waits before it begins.
-// FAULT_SEEN names a file for two numbers: of the calls of the kind, and of the allocations that the program itself asked for while a thread
-// of its own ran. FAULT_READS names one for a line of each read: its place, its length, whether it failed, and the name of its file.
+// FAULT_KIND is alloc, open, seek, stat, read, late_read, write, thread, short_read, short_write, broken_read, broken_write (by a signal) or stop;
+// FAULT_AT counts from 1. With FAULT_ON each later call of the kind fails too. FAULT_SLOW is the most microseconds that a read, a write or an
+// open waits before it begins.
+// FAULT_SEEN names a file for two numbers: of the calls of the kind, and of the allocations that the program itself asked for while a thread of
+// its own ran. FAULT_READS names one for a line of each read: its place, its length, whether it failed, and the name of its file.
 #define _GNU_SOURCE
 #include <dlfcn.h>
 #include <errno.h>
@@ -159,6 +160,10 @@ static void note(int file, size_t length, int failed) {
 ssize_t read(int file, void *buffer, size_t n) {
     ssize_t (*real)(int, void *, size_t) = dlsym(RTLD_NEXT, "read");
     stop_or_wait();
+    if (hit("broken_read")) {
+        errno = EINTR;
+        return -1;
+    }
     int is_late = hit("late_read"), fails = hit("read") || is_late;
     note(file, n, fails);
     if (is_late) wait_for(3000);
@@ -172,14 +177,24 @@ ssize_t read(int file, void *buffer, size_t n) {
 ssize_t write(int file, const void *buffer, size_t n) {
     ssize_t (*real)(int, const void *, size_t) = dlsym(RTLD_NEXT, "write");
     stop_or_wait();
-    if (hit("write")) { errno = EIO; return -1; }
+    if (hit("write")) {
+        errno = EIO;
+        return -1;
+    }
+    if (hit("broken_write")) {
+        errno = EINTR;
+        return -1;
+    }
     return real(file, buffer, hit("short_write") && n > 1 ? n / 2 : n);
 }
 
 static int opened(const char *call, const char *name, int flags, int mode) {
     int (*real)(const char *, int, ...) = dlsym(RTLD_NEXT, call);
     stop_or_wait();
-    if (hit("open")) { errno = EIO; return -1; }
+    if (hit("open")) {
+        errno = EIO;
+        return -1;
+    }
     return real(name, flags, mode);
 }
 
