@@ -15,6 +15,8 @@ KINDS = {
     "alloc": ("alloc", False, {1}),
     "all allocs": ("alloc", True, {1}),
     "open": ("open", False, {3}),
+    "seek": ("seek", False, {3}),
+    "stat": ("stat", False, {3}),
     "read": ("read", False, {3}),
     "late read": ("late_read", False, {3}),
     "all reads": ("read", True, {3}),
@@ -28,6 +30,8 @@ KINDS = {
     "all threads": ("thread", True, set()),
     "stop": ("stop", False, set()),
 }
+# Kinds after which the reads that are noted do not tell what was asked.
+UNTOLD = {"short read", "seek"}
 # How long a run may take, and how long its threads may be at work together, in seconds.
 LIMIT, BUSY = 120, 60
 
@@ -106,7 +110,9 @@ def doubt_of(kind):
 
 
 def doubt_of_walk(kind, reads, store_name, settings):
-    """A failed read of a tile that is not pinned loses its page, and is no other cause."""
+    """A failed read of a tile that is not pinned loses its page, and is no other cause. Where a seek of a read fails, no read is noted."""
+    if kind == "seek":
+        return Doubt(KINDS[kind][2], 1)
     try:
         store = Store(contents(store_name))
     except Flaw:

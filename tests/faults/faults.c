@@ -16,6 +16,7 @@
 #include <stdio.h>
 #include <stdlib.h>
 #include <string.h>
+#include <sys/stat.h>
 #include <sys/syscall.h>
 #include <time.h>
 #include <unistd.h>
@@ -149,7 +150,7 @@ static void note(int file, size_t length, int failed) {
     snprintf(link, sizeof link, "/proc/self/fd/%d", file);
     ssize_t size = readlink(link, target, sizeof target - 1);
     target[size < 0 ? 0 : size] = 0;
-    size = snprintf(text, sizeof text, "%ld %zu %d %s\n", (long)lseek(file, 0, SEEK_CUR), length, failed, target);
+    size = snprintf(text, sizeof text, "%ld %zu %d %s\n", (long)syscall(SYS_lseek, file, 0, SEEK_CUR), length, failed, target);
     int (*real_open)(const char *, int, ...) = dlsym(RTLD_NEXT, "open");
     ssize_t (*real_write)(int, const void *, size_t) = dlsym(RTLD_NEXT, "write");
     int notes = real_open(name, O_WRONLY | O_CREAT | O_APPEND, 0644);
@@ -186,6 +187,22 @@ ssize_t write(int file, const void *buffer, size_t n) {
         return -1;
     }
     return real(file, buffer, hit("short_write") && n > 1 ? n / 2 : n);
+}
+
+off_t lseek(int file, off_t at, int whence) {
+    if (hit("seek")) {
+        errno = EIO;
+        return -1;
+    }
+    return syscall(SYS_lseek, file, at, whence);
+}
+
+int statx(int folder, const char *name, int flags, unsigned mask, struct statx *told) {
+    if (hit("stat")) {
+        errno = EIO;
+        return -1;
+    }
+    return syscall(SYS_statx, folder, name, flags, mask, told);
 }
 
 static int opened(const char *call, const char *name, int flags, int mode) {

@@ -5,7 +5,7 @@ usage: run.py [--program PROGRAM] [--workers N] [--only WORD..] [--without WORD.
 
 (crates/vtex/out/vtex, a worker for each processor, and all commands, else those that have one of these words; it wants gcc)
 
-Outside the gate. The kinds are those of failing.py: an allocation that is refused, or it and all later ones; an opening, a read or a write that fails,
+Outside the gate. The kinds are those of failing.py: an allocation that is refused, or it and all later ones; an opening, a seek, a length, a read or a write that fails,
 or it and all later ones; a read that fails late, while other threads go on; a read or a write that comes short; a thread that cannot be made, or it and all
 later ones; and a call at which the program is stopped, to go on some milliseconds later. Beside them each command runs with outputs that are full or
 closed, and over a file system that is full after so many bytes of a file.
@@ -30,7 +30,7 @@ here = os.path.dirname(os.path.abspath(__file__))
 top = os.path.dirname(os.path.dirname(here))
 sys.path.insert(0, os.path.join(top, "tests"))
 
-from failing import KINDS, LIMIT, Failing, doubt_of, doubt_of_walk, flaws_of_reads
+from failing import KINDS, LIMIT, UNTOLD, Failing, doubt_of, doubt_of_walk, flaws_of_reads
 from judge import Doubt, Left, flaws_of_due, flaws_of_walk
 from rows import EIGHT_STORE, FIRST, FOUR, FOUR_ROWS, FOUR_STORE, LOST, WRAPPED, filled, grey, pixel
 from stores import BILINEAR, contents
@@ -100,7 +100,7 @@ class WalkJob:
         return doubt_of_walk(kind, reads, self.store, self.settings)
 
     def flaws_of_calls(self, kind, left, reads, grown):
-        found = [] if kind == "short read" else flaws_of_reads(reads, self.store, self.path, self.settings, left)
+        found = [] if kind in UNTOLD else flaws_of_reads(reads, self.store, self.path, self.settings, left)
         return found + (["%d allocations while workers run" % grown] if grown and not self.grows else [])
 
 

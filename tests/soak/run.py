@@ -32,7 +32,7 @@ top = os.path.dirname(os.path.dirname(here))
 sys.path[:0] = [os.path.join(top, "tests"), os.path.join(top, "tests", "faults")]
 
 from cases import MAKERS, case_of
-from failing import KINDS, Failing, doubt_of, doubt_of_walk, flaws_of_reads
+from failing import KINDS, UNTOLD, Failing, doubt_of, doubt_of_walk, flaws_of_reads
 from judge import Doubt
 from stores import contents
 
@@ -100,7 +100,7 @@ class Soak:
             doubt = doubt_of_walk(kind, reads, "s.vts", case.settings)
         try:
             found = case.changed() + case.flaws(left, doubt)
-            if found or not case.settings or (at and kind == "short read"):
+            if found or not case.settings or (at and kind in UNTOLD):
                 return found
             return flaws_of_reads(reads, "s.vts", "p.path", case.settings, left)
         except Exception:
