@@ -3,7 +3,7 @@
 // FAULT_AT counts from 1. With FAULT_ON each later call of the kind fails too. FAULT_SLOW is the most microseconds that a read, a write or an
 // open waits before it begins.
 // FAULT_SEEN names a file for two numbers: of the calls of the kind, and of the allocations that the program itself asked for while a thread of
-// its own ran. FAULT_READS names one for a line of each read: its place, its length, whether it failed, and the name of its file.
+// its own ran, but for one for each thread that it made. FAULT_READS names one for a line of each read: its place, its length, whether it failed, and the name of its file.
 #define _GNU_SOURCE
 #include <dlfcn.h>
 #include <errno.h>
@@ -22,6 +22,8 @@
 #include <unistd.h>
 
 static int ready, seen, at, on, slow, running, grown;
+// Whether the last allocation of this thread was counted among the grown.
+static __thread int is_counted;
 static uintptr_t text_begin, text_end;
 static const char *kind;
 
@@ -83,8 +85,10 @@ extern void __libc_free(void *);
 
 // What the C library itself asks for, as the place of a thread, it wants refused with this errno.
 static int refused(const void *caller) {
-    if (__atomic_load_n(&running, __ATOMIC_SEQ_CST) && (uintptr_t)caller >= text_begin && (uintptr_t)caller < text_end)
-        __atomic_add_fetch(&grown, 1, __ATOMIC_SEQ_CST);
+    if ((uintptr_t)caller >= text_begin && (uintptr_t)caller < text_end) {
+        is_counted = __atomic_load_n(&running, __ATOMIC_SEQ_CST) > 0;
+        __atomic_add_fetch(&grown, is_counted, __ATOMIC_SEQ_CST);
+    }
     if (!hit("alloc")) return 0;
     errno = ENOMEM;
     return 1;
@@ -117,6 +121,9 @@ static void *run_counted(void *given) {
 
 int pthread_create(pthread_t *thread, const pthread_attr_t *how, void *(*run)(void *), void *with) {
     int (*real)(pthread_t *, const pthread_attr_t *, void *(*)(void *), void *) = dlsym(RTLD_NEXT, "pthread_create");
+    // The last allocation was for this thread.
+    __atomic_sub_fetch(&grown, is_counted, __ATOMIC_SEQ_CST);
+    is_counted = 0;
     if (hit("thread")) return EAGAIN;
     struct work *work = __libc_malloc(sizeof *work);
     if (!work) return EAGAIN;

@@ -12,7 +12,7 @@ closed, and over a file system that is full after so many bytes of a file.
 
 Each run is judged by ../judge.py: its status and error line have their cause, and what stands is what docs/FORMATS.md says of that status. A read that fails
 is told by its file and place, so that a page that a live walk loses gives status 0, and any other read that fails does not. A walk asks its store for nothing
-but what it is due to read, and for nothing twice, and it asks for no memory while its workers run.
+but what it is due to read, and for nothing twice, and while its workers run it asks for no memory but what a new thread takes.
 """
 import argparse
 import os
@@ -208,7 +208,11 @@ class Worker:
         calls = self.failing.run(job.words, kind, 0)[1]
         for at in range(1, calls + 1):
             self.fill()
-            left, _, reads = self.failing.run(job.words, kind, at)
+            try:
+                left, _, reads = self.failing.run(job.words, kind, at)
+            except subprocess.TimeoutExpired as expired:
+                yield at, "none", ["no end within %s seconds" % expired.timeout]
+                continue
             flaws = self.changed(job) + job.flaws(left, job.doubt_of(kind, reads))
             yield at, left.status, flaws or job.flaws_of_calls(kind, left, reads, self.failing.grown)
 
@@ -249,7 +253,7 @@ def try_all(task):
 
 
 def counted(statuses):
-    return ", ".join("status %s: %d" % pair for pair in sorted(statuses.items()))
+    return ", ".join("status %s: %d" % pair for pair in sorted(statuses.items(), key=str))
 
 
 def main():
@@ -262,19 +266,21 @@ def main():
     kinds = [*KINDS, *OUTPUTS, FULL_FILES]
     only, without = set(options.only or [job.words[0] for job in JOBS]), set(options.without)
     tasks = [(number, kind) for number, job in enumerate(JOBS) if only.intersection(job.words) and not without.intersection(job.words) for kind in kinds]
-    by_kind, wrong = {kind: Counter() for kind in kinds}, []
+    by_kind, wrong = {kind: Counter() for kind in kinds}, 0
     with tempfile.TemporaryDirectory() as scratch:
         Failing(os.path.abspath(options.program), scratch)
         with Pool(options.workers, begin, (os.path.abspath(options.program), scratch)) as pool:
             for words, kind, statuses, found in pool.imap(try_all, tasks):
                 print("%s, %s: %s" % (" ".join(words), kind, counted(statuses) or "no such call"), flush=True)
                 by_kind[kind].update(statuses)
-                wrong += found
+                wrong += len(found)
+                for text in found:
+                    print("wrong: " + text, flush=True)
     for kind, statuses in by_kind.items():
         print("all commands, %s: %d runs, %s" % (kind, sum(statuses.values()), counted(statuses)))
     total = sum(by_kind.values(), Counter())
     print("all runs: %s" % counted(total))
-    print("\n".join(wrong + ["%d passed, %d failed, in %d seconds" % (sum(total.values()) - len(wrong), len(wrong), time.monotonic() - begun)]))
+    print("%d passed, %d failed, in %d seconds" % (sum(total.values()) - wrong, wrong, time.monotonic() - begun))
     return 1 if wrong else 0
 
 
