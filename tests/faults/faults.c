@@ -1,37 +1,70 @@
-// Loaded before the C library: lets one call of a kind fail, or come short, by its number.
-// FAULT_KIND is alloc, read, write, open or short_read, short_write; FAULT_AT counts from 1. FAULT_SEEN names a file for the number of
-// calls of that kind, and FAULT_READS one for a line of each read: its place, its length, whether it failed, and the name of its file.
+// Loaded before the C library: lets one call of a kind fail, come short, or stop the program, by its number.
+// FAULT_KIND is alloc, open, seek, stat, read, late_read, write, thread, short_read, short_write, broken_read, broken_write (by a signal) or stop;
+// FAULT_AT counts from 1. With FAULT_ON each later call of the kind fails too. FAULT_SLOW is the most microseconds that a read, a write or an
+// open waits before it begins.
+// FAULT_SEEN names a file for two numbers: of the calls of the kind, and of the allocations that the program itself asked for while a thread of
+// its own ran, but for one for each thread that it made. FAULT_READS names one for a line of each read: its place, its length, whether it failed, and the name of its file.
 #define _GNU_SOURCE
 #include <dlfcn.h>
 #include <errno.h>
 #include <fcntl.h>
+#include <link.h>
+#include <pthread.h>
+#include <signal.h>
 #include <stdarg.h>
+#include <stdint.h>
 #include <stdio.h>
 #include <stdlib.h>
 #include <string.h>
+#include <sys/stat.h>
 #include <sys/syscall.h>
+#include <time.h>
 #include <unistd.h>
 
-static int ready, seen, at;
+static int ready, seen, at, on, slow, running, grown;
+// Whether the last allocation of this thread was counted among the grown.
+static __thread int is_counted;
+static uintptr_t text_begin, text_end;
 static const char *kind;
+
+static int number_of(const char *name) {
+    const char *number = getenv(name);
+    return number ? atoi(number) : 0;
+}
 
 static int hit(const char *name) {
     if (!__atomic_load_n(&ready, __ATOMIC_ACQUIRE)) {
         kind = getenv("FAULT_KIND");
-        const char *number = getenv("FAULT_AT");
-        at = number ? atoi(number) : 0;
+        at = number_of("FAULT_AT");
+        on = number_of("FAULT_ON");
+        slow = number_of("FAULT_SLOW");
         __atomic_store_n(&ready, 1, __ATOMIC_RELEASE);
     }
-    return kind && strcmp(kind, name) == 0 && __atomic_add_fetch(&seen, 1, __ATOMIC_SEQ_CST) == at;
+    if (!kind || strcmp(kind, name) != 0) return 0;
+    int number = __atomic_add_fetch(&seen, 1, __ATOMIC_SEQ_CST);
+    return number == at || (on && at && number > at);
 }
+
+// The code of the program itself, which is the first object.
+static int find_text(struct dl_phdr_info *object, size_t size, void *data) {
+    for (int i = 0; i < object->dlpi_phnum; i++) {
+        const ElfW(Phdr) *part = &object->dlpi_phdr[i];
+        if (part->p_type != PT_LOAD || !(part->p_flags & PF_X)) continue;
+        text_begin = object->dlpi_addr + part->p_vaddr;
+        text_end = text_begin + part->p_memsz;
+    }
+    return 1;
+}
+
+__attribute__((constructor)) static void begin(void) { dl_iterate_phdr(find_text, NULL); }
 
 __attribute__((destructor)) static void tell(void) {
     const char *name = getenv("FAULT_SEEN");
     if (!name) return;
     int (*real_open)(const char *, int, ...) = dlsym(RTLD_NEXT, "open");
     int file = real_open(name, O_WRONLY | O_CREAT | O_TRUNC, 0644);
-    char text[16];
-    int size = snprintf(text, sizeof text, "%d\n", seen);
+    char text[32];
+    int size = snprintf(text, sizeof text, "%d %d\n", seen, grown);
     ssize_t (*real_write)(int, const void *, size_t) = dlsym(RTLD_NEXT, "write");
     if (real_write(file, text, size) < 0) return;
     close(file);
@@ -48,23 +81,73 @@ extern void *__libc_malloc(size_t);
 extern void *__libc_calloc(size_t, size_t);
 extern void *__libc_realloc(void *, size_t);
 extern void *__libc_memalign(size_t, size_t);
+extern void __libc_free(void *);
 
 // What the C library itself asks for, as the place of a thread, it wants refused with this errno.
-static int refused(void) {
+static int refused(const void *caller) {
+    if ((uintptr_t)caller >= text_begin && (uintptr_t)caller < text_end) {
+        is_counted = __atomic_load_n(&running, __ATOMIC_SEQ_CST) > 0;
+        __atomic_add_fetch(&grown, is_counted, __ATOMIC_SEQ_CST);
+    }
     if (!hit("alloc")) return 0;
     errno = ENOMEM;
     return 1;
 }
 
-void *malloc(size_t n) { return refused() ? NULL : __libc_malloc(n); }
-void *calloc(size_t n, size_t m) { return refused() ? NULL : __libc_calloc(n, m); }
-void *realloc(void *p, size_t n) { return refused() ? NULL : __libc_realloc(p, n); }
-void *aligned_alloc(size_t a, size_t n) { return refused() ? NULL : __libc_memalign(a, n); }
+#define REFUSED refused(__builtin_return_address(0))
+void *malloc(size_t n) { return REFUSED ? NULL : __libc_malloc(n); }
+void *calloc(size_t n, size_t m) { return REFUSED ? NULL : __libc_calloc(n, m); }
+void *realloc(void *p, size_t n) { return REFUSED ? NULL : __libc_realloc(p, n); }
+void *aligned_alloc(size_t a, size_t n) { return REFUSED ? NULL : __libc_memalign(a, n); }
 
 int posix_memalign(void **out, size_t a, size_t n) {
-    if (hit("alloc")) return ENOMEM;
+    if (REFUSED) return ENOMEM;
     *out = __libc_memalign(a, n);
     return *out ? 0 : ENOMEM;
+}
+
+struct work {
+    void *(*run)(void *);
+    void *with;
+};
+
+static void *run_counted(void *given) {
+    struct work work = *(struct work *)given;
+    __libc_free(given);
+    void *result = work.run(work.with);
+    __atomic_sub_fetch(&running, 1, __ATOMIC_SEQ_CST);
+    return result;
+}
+
+int pthread_create(pthread_t *thread, const pthread_attr_t *how, void *(*run)(void *), void *with) {
+    int (*real)(pthread_t *, const pthread_attr_t *, void *(*)(void *), void *) = dlsym(RTLD_NEXT, "pthread_create");
+    // The last allocation was for this thread.
+    __atomic_sub_fetch(&grown, is_counted, __ATOMIC_SEQ_CST);
+    is_counted = 0;
+    if (hit("thread")) return EAGAIN;
+    struct work *work = __libc_malloc(sizeof *work);
+    if (!work) return EAGAIN;
+    *work = (struct work){run, with};
+    __atomic_add_fetch(&running, 1, __ATOMIC_SEQ_CST);
+    int refusal = real(thread, how, run_counted, work);
+    if (refusal) {
+        __atomic_sub_fetch(&running, 1, __ATOMIC_SEQ_CST);
+        __libc_free(work);
+    }
+    return refusal;
+}
+
+static void wait_for(long microseconds) {
+    struct timespec time = {microseconds / 1000000, microseconds % 1000000 * 1000};
+    nanosleep(&time, NULL);
+}
+
+static void stop_or_wait(void) {
+    if (hit("stop")) kill(getpid(), SIGSTOP);
+    if (!slow) return;
+    struct timespec now;
+    clock_gettime(CLOCK_MONOTONIC, &now);
+    wait_for(now.tv_nsec / 100 % slow);
 }
 
 static void note(int file, size_t length, int failed) {
@@ -74,7 +157,7 @@ static void note(int file, size_t length, int failed) {
     snprintf(link, sizeof link, "/proc/self/fd/%d", file);
     ssize_t size = readlink(link, target, sizeof target - 1);
     target[size < 0 ? 0 : size] = 0;
-    size = snprintf(text, sizeof text, "%ld %zu %d %s\n", (long)lseek(file, 0, SEEK_CUR), length, failed, target);
+    size = snprintf(text, sizeof text, "%ld %zu %d %s\n", (long)syscall(SYS_lseek, file, 0, SEEK_CUR), length, failed, target);
     int (*real_open)(const char *, int, ...) = dlsym(RTLD_NEXT, "open");
     ssize_t (*real_write)(int, const void *, size_t) = dlsym(RTLD_NEXT, "write");
     int notes = real_open(name, O_WRONLY | O_CREAT | O_APPEND, 0644);
@@ -84,8 +167,14 @@ static void note(int file, size_t length, int failed) {
 
 ssize_t read(int file, void *buffer, size_t n) {
     ssize_t (*real)(int, void *, size_t) = dlsym(RTLD_NEXT, "read");
-    int fails = hit("read");
+    stop_or_wait();
+    if (hit("broken_read")) {
+        errno = EINTR;
+        return -1;
+    }
+    int is_late = hit("late_read"), fails = hit("read") || is_late;
     note(file, n, fails);
+    if (is_late) wait_for(3000);
     if (fails) {
         errno = EIO;
         return -1;
@@ -95,13 +184,41 @@ ssize_t read(int file, void *buffer, size_t n) {
 
 ssize_t write(int file, const void *buffer, size_t n) {
     ssize_t (*real)(int, const void *, size_t) = dlsym(RTLD_NEXT, "write");
-    if (hit("write")) { errno = EIO; return -1; }
+    stop_or_wait();
+    if (hit("write")) {
+        errno = EIO;
+        return -1;
+    }
+    if (hit("broken_write")) {
+        errno = EINTR;
+        return -1;
+    }
     return real(file, buffer, hit("short_write") && n > 1 ? n / 2 : n);
+}
+
+off_t lseek(int file, off_t at, int whence) {
+    if (hit("seek")) {
+        errno = EIO;
+        return -1;
+    }
+    return syscall(SYS_lseek, file, at, whence);
+}
+
+int statx(int folder, const char *name, int flags, unsigned mask, struct statx *told) {
+    if (hit("stat")) {
+        errno = EIO;
+        return -1;
+    }
+    return syscall(SYS_statx, folder, name, flags, mask, told);
 }
 
 static int opened(const char *call, const char *name, int flags, int mode) {
     int (*real)(const char *, int, ...) = dlsym(RTLD_NEXT, call);
-    if (hit("open")) { errno = EIO; return -1; }
+    stop_or_wait();
+    if (hit("open")) {
+        errno = EIO;
+        return -1;
+    }
     return real(name, flags, mode);
 }
 

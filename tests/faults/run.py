@@ -1,27 +1,39 @@
 #!/usr/bin/env python3
-"""Makes each allocation, open, read and write of a run fail in turn, and each read and write come short: of each command but `trial`, over small
-textures, stores, paths and journals.
+"""Lets each call of a kind on the system fail in turn, for each command and each machine of `walk`, over small textures, stores, paths and journals.
 
-usage: run.py [PROGRAM [COMMAND..]]     (crates/vtex/out/vtex and all commands where none is given; it wants gcc)
+usage: run.py [--program PROGRAM] [--workers N] [--only WORD..] [--without WORD..]
 
-Outside the gate. Each run is judged by ../judge.py: its status and error line have their cause, and what stands is what docs/FORMATS.md says of that
-status. A read that fails is told by its file and place, so that a page that a live walk loses gives status 0, and any other read that fails does not.
-A walk asks its store for nothing but what it is due to read, and for nothing twice.
+(crates/vtex/out/vtex, a worker for each processor, and all commands, else those that have one of these words; it wants gcc)
+
+Outside the gate. The kinds are those of failing.py: an allocation that is refused, or it and all later ones; an opening, a seek, a length, a read or a write that fails,
+or it and all later ones; a read that fails late, while other threads go on; a read or a write that comes short; a thread that cannot be made, or it and all
+later ones; and a call at which the program is stopped, to go on some milliseconds later. Beside them each command runs with outputs that are full or
+closed, and over a file system that is full after so many bytes of a file.
+
+Each run is judged by ../judge.py: its status and error line have their cause, and what stands is what docs/FORMATS.md says of that status. A read that fails
+is told by its file and place, so that a page that a live walk loses gives status 0, and any other read that fails does not. A walk asks its store for nothing
+but what it is due to read, and for nothing twice, and while its workers run it asks for no memory but what a new thread takes.
 """
+import argparse
 import os
 import re
+import resource
+import signal
+import subprocess
 import sys
 import tempfile
+import time
+from collections import Counter
+from multiprocessing import Pool
 
 here = os.path.dirname(os.path.abspath(__file__))
 top = os.path.dirname(os.path.dirname(here))
 sys.path.insert(0, os.path.join(top, "tests"))
 
-from failing import KINDS, Failing, doubt_of, doubt_of_walk, flaws_of_reads
-from judge import flaws_of_due, flaws_of_walk
+from failing import KINDS, LIMIT, UNTOLD, Failing, doubt_of, doubt_of_walk, flaws_of_reads
+from judge import Doubt, Left, flaws_of_due, flaws_of_walk
 from rows import EIGHT_STORE, FIRST, FOUR, FOUR_ROWS, FOUR_STORE, LOST, WRAPPED, filled, grey, pixel
-from stores import contents
-from stores import BILINEAR
+from stores import BILINEAR, contents
 from walks import SHARED, SWAP, Settings
 
 TEXELS = FOUR_STORE[16::3]
@@ -50,32 +62,63 @@ class Job:
     """A command that writes these names with their bytes, in their order, and prints a line."""
 
     def __init__(self, words, due, line):
-        self.words, self.due, self.line = words, due, line
+        self.words, self.due, self.line, self.prints = words, due, line, bool(line)
 
     def writes(self, name):
         return name in dict(self.due)
 
-    def flaws(self, left, kind, reads):
+    def flaws(self, left, doubt):
         held = {name: contents(name) for name, _ in self.due}
-        return flaws_of_due(self.due, self.line, (0, b""), left, held, doubt_of(kind))
+        return flaws_of_due(self.due, self.line, (0, b""), left, held, doubt)
+
+    def doubt_of(self, kind, reads):
+        return doubt_of(kind)
+
+    def flaws_of_calls(self, kind, left, reads, grown):
+        return []
 
 
 class WalkJob:
     """A walk over a store along a path. A page that it loads may be lost, by a failed read of its tile in the store."""
 
-    def __init__(self, store, path, options, settings):
-        self.words, self.settings = ["walk", store, path, "f", "--journal", "w.txt"] + options.split(), settings
-        self.store, self.path = store, path
+    prints = True
+
+    def __init__(self, store, path, settings, loaders, options="", grows=False):
+        self.store, self.path, self.settings, self.grows = store, path, settings, grows
+        self.words = ["walk", store, path, "f", "--journal", "w.txt", "--loaders", str(loaders)]
+        for option in ("frames", "samplers", "batch"):
+            self.words += ["--" + option, str(getattr(settings, option))]
+        self.words += ["--settled"] * settings.settled + options.split()
 
     def writes(self, name):
         return name == "w.txt" or re.fullmatch("f[0-9]{4}.ppm", name)
 
-    def flaws(self, left, kind, reads):
-        doubt, left = doubt_of_walk(kind, reads, self.store, self.settings), left.with_walk(contents("w.txt"), "f")
-        found = flaws_of_walk(self.store, self.path, self.settings, left, doubt)
-        if found or kind == "short_read":
-            return found
-        return flaws_of_reads(reads, self.store, self.path, self.settings, left)
+    def flaws(self, left, doubt):
+        return flaws_of_walk(self.store, self.path, self.settings, left.with_walk(contents("w.txt"), "f"), doubt)
+
+    def doubt_of(self, kind, reads):
+        return doubt_of_walk(kind, reads, self.store, self.settings)
+
+    def flaws_of_calls(self, kind, left, reads, grown):
+        found = [] if kind in UNTOLD else flaws_of_reads(reads, self.store, self.path, self.settings, left)
+        return found + (["%d allocations while workers run" % grown] if grown and not self.grows else [])
+
+
+# The machines of `walk`: the options that ask for one, what of its settings is another than the default, and whether a pass of it may ask for memory.
+MACHINES = [
+    ("", {}, False),
+    ("--rows shared", {"scheduling": SHARED}, False),
+    ("--filter bilinear", {"filtering": BILINEAR}, False),
+    ("--table swap", {"table": SWAP}, True),
+]
+CREWS = [(1, 1), (4, 3)]
+
+
+def walks_of(options, machine, grows, samplers, loaders):
+    """A live walk and a settled one by a machine and a crew. A blend wants the pages of all its texels."""
+    live = Settings(4, samplers, 2, **machine)
+    settled = Settings(5 if live.filtering == BILINEAR else 3, samplers, 1, settled=True, **machine)
+    return [WalkJob("s.vts", "rows.path", live, loaders, options, grows), WalkJob("s.vts", "a.path", settled, loaders, options, grows)]
 
 
 PICTURES = [("f%04d.ppm" % k, grey(samples)) for k, samples in enumerate([(0x0B, 0x03), (0x0B, 0x01), (0x0D, 0x05), (0x0D, 0x05)])]
@@ -86,62 +129,159 @@ JOBS = [
     Job(["info", "s.vts"], [], TOLD),
     Job(["gen", "1", "2", "2", "g.ppm"], [("g.ppm", MADE)], b""),
     Job(["upgrade", "s.vts", "w.vts"], [("w.vts", WIDE)], TOLD.replace(b"76", b"136")),
-    WalkJob("s.vts", "four.path", "--frames 3 --samplers 1 --loaders 1", Settings(frames=3, samplers=1)),
-    WalkJob("s.vts", "a.path", "--frames 3 --samplers 1 --loaders 1 --batch 1 --settled", Settings(3, 1, 1, 1, True)),
-    WalkJob("s.vts", "a.path", "--frames 2 --samplers 1 --loaders 1 --batch 1 --settled", Settings(2, 1, 1, 1, True)),
-    WalkJob("s.vts", "four.path", "--frames 4 --samplers 2 --loaders 3 --batch 2", Settings(4, 2, 2)),
-    WalkJob("e.vts", "a.path", "--frames 5 --samplers 7 --loaders 2 --settled", Settings(5, 7, 64, 1, True)),
-    WalkJob("s.vts", "a.path", "--frames 5 --samplers 2 --loaders 2 --settled --filter bilinear", Settings(5, 2, 64, 1, True, BILINEAR)),
-    WalkJob("s.vts", "rows.path", "--frames 4 --samplers 3 --loaders 2 --batch 2 --rows shared", Settings(4, 3, 2, scheduling=SHARED)),
-    WalkJob("s.vts", "four.path", "--frames 3 --samplers 2 --loaders 2 --batch 2 --table swap", Settings(3, 2, 2, table=SWAP)),
-    WalkJob("s.vts", "a.path", "--frames 3 --samplers 2 --loaders 1 --batch 1 --settled --table swap", Settings(3, 2, 1, 1, True, table=SWAP)),
-    WalkJob("wide.vts", "a.path", "--frames 3 --samplers 2 --loaders 1 --settled", Settings(3, 2, 64, 1, True)),
     Job(["replay", "s.vts", "four.path", "j.txt", "f"], PICTURES, b"end pictures 4\n"),
     Job(["plain", "g4.ppm", "b.path", "f", "--tile", "2", "--filter", "bilinear"], [("f0000.ppm", BLEND)], b"end pictures 1\n"),
     Job(["replay", "s.vts", "b.path", "b.txt", "f", "--filter", "bilinear"], [("f0000.ppm", COARSE_BLEND)], b"end pictures 1\n"),
+    WalkJob("s.vts", "four.path", Settings(3, 1), 1),
+    WalkJob("s.vts", "a.path", Settings(2, 1, 1, 1, True), 1),
+    WalkJob("s.vts", "four.path", Settings(4, 2, 2), 3),
+    WalkJob("e.vts", "a.path", Settings(5, 7, 64, 1, True), 2),
+    WalkJob("wide.vts", "a.path", Settings(3, 2, 64, 1, True), 1),
 ]
+JOBS += [job for machine in MACHINES for crew in CREWS for job in walks_of(*machine, *crew)]
 
 
-def run(failing, job, kind, at):
-    """The job in a folder that holds the inputs and nothing else."""
-    for name in os.listdir("."):
-        os.remove(name)
-    for name, data in INPUTS.items():
-        with open(name, "wb") as file:
-            file.write(data)
-    return failing.run(job.words, kind, at)
+def full():
+    return open("/dev/full", "wb")
 
 
-def flaws_of(job, kind, left, reads):
-    changed = [name for name, data in INPUTS.items() if contents(name) != data]
-    changed += [name for name in os.listdir(".") if name not in INPUTS and not job.writes(name)]
-    return ["%s is not as before" % name for name in changed] + job.flaws(left, kind, reads)
+def closed_pipe():
+    """A pipe that nobody reads."""
+    reads, writes = os.pipe()
+    os.close(reads)
+    return os.fdopen(writes, "wb")
 
 
-def try_all(failing, job, kind):
-    """How many runs were judged lawful, and what was wrong with the others."""
-    calls, statuses, wrong = run(failing, job, kind, 0)[1], {}, []
-    for at in range(1, calls + 1):
-        left, _, reads = run(failing, job, kind, at)
-        statuses[left.status] = statuses.get(left.status, 0) + 1
-        wrong += ["%s, %s %d: %s" % (" ".join(job.words), kind, at, flaw) for flaw in flaws_of(job, kind, left, reads)[:1]]
-    print("%s, %s: %d calls, runs by status %s" % (" ".join(job.words), kind, calls, dict(sorted(statuses.items()))))
-    return calls - len(wrong), wrong
+# What the output and the error output may be. None is a pipe that is read.
+OUTPUTS = {
+    "full output": (full, None),
+    "full outputs": (full, full),
+    "closed output": (closed_pipe, None),
+    "closed outputs": (closed_pipe, closed_pipe),
+}
+FULL_FILES = "full files"
+
+
+def ended(command, out=None, error=None, before=None):
+    """What a command left."""
+    given = [subprocess.PIPE if make is None else make() for make in (out, error)]
+    done = subprocess.run(command, stdin=subprocess.DEVNULL, stdout=given[0], stderr=given[1], timeout=LIMIT, preexec_fn=before)
+    for output in given:
+        if output != subprocess.PIPE:
+            output.close()
+    return Left(done.returncode, done.stdout or b"", done.stderr if error is None else None)
+
+
+def full_after(size):
+    """Lets no file have more bytes."""
+
+    def limit():
+        signal.signal(signal.SIGXFSZ, signal.SIG_IGN)
+        resource.setrlimit(resource.RLIMIT_FSIZE, (size, size))
+
+    return limit
+
+
+class Worker:
+    """Runs jobs in a folder of its own."""
+
+    def __init__(self, program, scratch):
+        self.program, self.failing = program, Failing(program, scratch)
+        os.chdir(tempfile.mkdtemp(dir=scratch))
+
+    def fill(self):
+        """Makes the folder hold the inputs and nothing else."""
+        for name in os.listdir("."):
+            os.remove(name)
+        for name, data in INPUTS.items():
+            with open(name, "wb") as file:
+                file.write(data)
+
+    def changed(self, job):
+        """What is wrong with the names that a job does not write."""
+        names = [name for name, data in INPUTS.items() if contents(name) != data]
+        names += [name for name in os.listdir(".") if name not in INPUTS and not job.writes(name)]
+        return ["%s is not as before" % name for name in names]
+
+    def try_calls(self, job, kind):
+        """Each call of a kind in turn: the status of each run, and what is wrong with it."""
+        self.fill()
+        calls = self.failing.run(job.words, kind, 0)[1]
+        for at in range(1, calls + 1):
+            self.fill()
+            try:
+                left, _, reads = self.failing.run(job.words, kind, at)
+            except subprocess.TimeoutExpired as expired:
+                yield at, "none", ["no end within %s seconds" % expired.timeout]
+                continue
+            flaws = self.changed(job) + job.flaws(left, job.doubt_of(kind, reads))
+            yield at, left.status, flaws or job.flaws_of_calls(kind, left, reads, self.failing.grown)
+
+    def try_outputs(self, job, kind):
+        """The same for outputs that take nothing. A command that prints does not end well then."""
+        self.fill()
+        left = ended([self.program, *job.words], *OUTPUTS[kind])
+        flaws = self.changed(job) + job.flaws(left, Doubt({3} if job.prints else ()))
+        yield 1, left.status, flaws + (["it ends well"] if job.prints and left.status == 0 else [])
+
+    def try_files(self, job, kind):
+        """The same for a file system that takes so many bytes of a file, from none to those that the files want."""
+        size, status = 0, None
+        while status != 0 and size < 1000:
+            self.fill()
+            left = ended([self.program, *job.words], before=full_after(size))
+            yield size, left.status, self.changed(job) + job.flaws(left, Doubt({3}))
+            size, status = size + 1, 0 if left.status in (0, 5) else left.status
+
+    def try_all(self, job, kind):
+        """The number of runs by status, and a text for each that is wrong."""
+        way = self.try_files if kind == FULL_FILES else self.try_outputs if kind in OUTPUTS else self.try_calls
+        statuses, wrong = Counter(), []
+        for at, status, flaws in way(job, kind):
+            statuses[status] += 1
+            wrong += ["%s, %s %d: %s" % (" ".join(job.words), kind, at, flaw) for flaw in flaws[:1]]
+        return job.words, kind, statuses, wrong
+
+
+def begin(*arguments):
+    global worker
+    worker = Worker(*arguments)
+
+
+def try_all(task):
+    number, kind = task
+    return worker.try_all(JOBS[number], kind)
+
+
+def counted(statuses):
+    return ", ".join("status %s: %d" % pair for pair in sorted(statuses.items(), key=str))
 
 
 def main():
-    program = os.path.abspath(sys.argv[1]) if len(sys.argv) > 1 else os.path.join(top, "crates/vtex/out/vtex")
-    passed, wrong = 0, []
+    parser = argparse.ArgumentParser()
+    parser.add_argument("--program", default=os.path.join(top, "crates/vtex/out/vtex"))
+    parser.add_argument("--workers", type=int, default=os.cpu_count())
+    parser.add_argument("--only", nargs="+")
+    parser.add_argument("--without", nargs="+", default=[])
+    options, begun = parser.parse_args(), time.monotonic()
+    kinds = [*KINDS, *OUTPUTS, FULL_FILES]
+    only, without = set(options.only or [job.words[0] for job in JOBS]), set(options.without)
+    tasks = [(number, kind) for number, job in enumerate(JOBS) if only.intersection(job.words) and not without.intersection(job.words) for kind in kinds]
+    by_kind, wrong = {kind: Counter() for kind in kinds}, 0
     with tempfile.TemporaryDirectory() as scratch:
-        failing, folder = Failing(program, scratch), os.path.join(scratch, "folder")
-        os.mkdir(folder)
-        os.chdir(folder)
-        for job in JOBS:
-            for kind in KINDS if len(sys.argv) < 3 or job.words[0] in sys.argv[2:] else ():
-                lawful, unlawful = try_all(failing, job, kind)
-                passed, wrong = passed + lawful, wrong + unlawful
-        os.chdir(top)
-    print("\n".join(wrong + ["%d passed, %d failed" % (passed, len(wrong))]))
+        Failing(os.path.abspath(options.program), scratch)
+        with Pool(options.workers, begin, (os.path.abspath(options.program), scratch)) as pool:
+            for words, kind, statuses, found in pool.imap(try_all, tasks):
+                print("%s, %s: %s" % (" ".join(words), kind, counted(statuses) or "no such call"), flush=True)
+                by_kind[kind].update(statuses)
+                wrong += len(found)
+                for text in found:
+                    print("wrong: " + text, flush=True)
+    for kind, statuses in by_kind.items():
+        print("all commands, %s: %d runs, %s" % (kind, sum(statuses.values()), counted(statuses)))
+    total = sum(by_kind.values(), Counter())
+    print("all runs: %s" % counted(total))
+    print("%d passed, %d failed, in %d seconds" % (sum(total.values()) - wrong, wrong, time.monotonic() - begun))
     return 1 if wrong else 0
 
 

@@ -2,6 +2,7 @@
 ghost use Rattle.std.specs.Prelude.{◌<◌};
 ghost use Rattle.vt_words.specs.Names.{four_digit_numbers};
 
+use super::files::FAULT;
 use super::rows::Held::All;
 use super::rows::adds;
 use super::runs::{Scene, play};
@@ -9,7 +10,7 @@ use std::alloc::Global;
 use std::sync::Wait;
 use std::test::*;
 use std::thread::Threads;
-use vt_outside::MemoryFolder;
+use vt_outside::{Fail, MemoryFolder};
 use vt_words::picture_name;
 
 // The path of `trial 7`: 60 pictures along a texture of 2048 texels a side.
@@ -145,9 +146,81 @@ fn walks_far(rt: &(impl Threads + Wait + Sync), alloc: Global, scene: &mut Scene
         && are_plain(alloc, &scene.folder)
 }
 
+// The walk again, whose picture 30 cannot be created: the call of `create` of number 31, after those of its journal and of 30 pictures.
+const REFUSED: Fail = Fail::Create(31);
+
+// The place of its log in what the runs print: the lines of the pictures 0 to 29.
+const LOG: (usize, usize) = (59, 1730);
+
+// What its words are in the runs.
+const WALK: usize = 2;
+
+// It has put the lines of the pictures that stand.
+fn has_told(scene: &Scene) -> bool {
+    let (start, end) = LOG;
+    start <= end && end <= PRINTED.len() && scene.printed(&PRINTED[start..end], FAULT)
+}
+
+// A picture is the plain one of another scene where it is due, and else is not there.
+fn is_as_due(
+    alloc: Global,
+    scene: &Scene,
+    prefix: &str,
+    plain: &Scene,
+    picture: u32,
+    due: bool,
+) -> bool
+    requires { picture < four_digit_numbers }
+{
+    let held = picture_of(alloc, &scene.folder, prefix, picture);
+    if due {
+        held.is_some() && held == picture_of(alloc, &plain.folder, "p", picture)
+    } else {
+        held.is_none()
+    }
+}
+
+// The pictures 0 to 29 stand, and its journal is replayed to these and to picture 30.
+fn stands_up_to(alloc: Global, scene: &Scene, plain: &Scene) -> bool {
+    for picture in 0..60 {
+        if !is_as_due(alloc, scene, "f", plain, picture, picture < 30) {
+            return false;
+        }
+        if !is_as_due(alloc, scene, "r", plain, picture, picture < 31) {
+            return false;
+        }
+    }
+    true
+}
+
+// The walk in a scene of its own, with the store of another.
+fn stops_in(
+    rt: &(impl Threads + Wait + Sync),
+    alloc: Global,
+    plain: &Scene,
+    scene: &mut Scene,
+) -> bool {
+    let store = plain.folder.bytes_of("s.vts").unwrap_or(b"");
+    scene.folder.add("s.vts", store).is_ok()
+        && scene.folder.add("a.path", LONG_PATH).is_ok()
+        && play(rt, alloc, RUNS[WALK], scene) == 3
+        && has_told(scene)
+        && play(rt, alloc, RUNS[WALK + 2], scene) == 0
+        && stands_up_to(alloc, scene, plain)
+}
+
+// It ends where the picture is not created.
+fn stops(rt: &(impl Threads + Wait + Sync), alloc: Global, plain: &Scene) -> bool {
+    match Scene::failing(alloc, Some(REFUSED), None) {
+        Ok(mut scene) => stops_in(rt, alloc, plain, &mut scene),
+        Err(_) => false,
+    }
+}
+
 #[test]
-fn a_settled_walk_over_many_pages_draws_the_plain_pictures_and_is_replayed(rt: HostRuntime) {
+fn a_settled_walk_over_many_pages_draws_the_plain_pictures_up_to_a_creation_that_fails(rt: HostRuntime) {
     let alloc = rt.alloc();
     let mut scene = Scene::new(alloc);
     assert!(rt; walks_far(&rt, alloc, &mut scene));
+    assert!(rt; stops(&rt, alloc, &scene));
 }

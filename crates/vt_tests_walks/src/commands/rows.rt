@@ -19,8 +19,6 @@ pub enum Held<'a> {
     Front(&'a [u8], usize),
     /// A journal of this text.
     Journal(Told<'a>),
-    /// The first so many bytes of one.
-    Begun(Told<'a>, usize),
 }
 
 /// A run, and what it leaves.
@@ -66,7 +64,6 @@ fn bytes_of<'a>(held: &Held<'a>) -> &'a [u8] {
             }
         }
         Held::Journal(told) => told.text,
-        Held::Begun(told, _) => told.text,
     }
 }
 
@@ -84,7 +81,6 @@ pub fn adds(folder: &mut MemoryFolder, files: &[(&str, Held<'_>)]) -> bool {
 fn is_held(folder: &MemoryFolder, name: &str, held: &Held<'_>) -> bool {
     match (held, folder.bytes_of(name)) {
         (Held::Journal(told), Some(bytes)) => told.is(bytes),
-        (Held::Begun(told, count), Some(bytes)) => told.begins(bytes, *count),
         (_, Some(bytes)) => bytes == bytes_of(held),
         (_, None) => false,
     }

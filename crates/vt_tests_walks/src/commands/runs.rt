@@ -21,14 +21,24 @@ pub struct Scene {
 }
 
 impl Scene {
-    /// An empty folder and empty outputs, on which no call fails, and a gate at which nobody waits.
-    pub fn new(alloc: Global) -> Scene {
+    // An empty folder and empty outputs with these calls that fail, and a gate at which nobody waits.
+    fn with_fails(alloc: Global, on_folder: Fails, on_out: Fails, on_err: Fails) -> Scene {
         Scene {
-            folder: MemoryFolder::new(alloc, Fails::new(alloc)),
-            out: MemorySink::new(alloc, Fails::new(alloc)),
-            err: MemorySink::new(alloc, Fails::new(alloc)),
+            folder: MemoryFolder::new(alloc, on_folder),
+            out: MemorySink::new(alloc, on_out),
+            err: MemorySink::new(alloc, on_err),
             gate: Meetings::new(Meeting::Nobody),
         }
+    }
+
+    /// An empty folder and empty outputs, on which no call fails, and a gate at which nobody waits.
+    pub fn new(alloc: Global) -> Scene {
+        Scene::with_fails(
+            alloc,
+            Fails::new(alloc),
+            Fails::new(alloc),
+            Fails::new(alloc),
+        )
     }
 
     /// The same with one call that fails, if there is one, on the folder or the output, and one on the error output.
@@ -40,12 +50,14 @@ impl Scene {
         let on_folder = one_fail(alloc, fail)?;
         let on_out = one_fail(alloc, fail)?;
         let on_err = one_fail(alloc, err_fail)?;
-        Ok(Scene {
-            folder: MemoryFolder::new(alloc, on_folder),
-            out: MemorySink::new(alloc, on_out),
-            err: MemorySink::new(alloc, on_err),
-            gate: Meetings::new(Meeting::Nobody),
-        })
+        Ok(Scene::with_fails(alloc, on_folder, on_out, on_err))
+    }
+
+    /// The same with several calls that fail on the folder or the output.
+    pub fn failing_each(alloc: Global, fails: &[Fail]) -> Result<Scene, NoMemory> {
+        let on_folder = Fails::from_slice(alloc, fails)?;
+        let on_out = Fails::from_slice(alloc, fails)?;
+        Ok(Scene::with_fails(alloc, on_folder, on_out, Fails::new(alloc)))
     }
 
     /// The output and the error output hold these bytes.
