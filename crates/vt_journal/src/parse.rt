@@ -23,7 +23,7 @@ use vt_pages::Geometry;
 /// Why a text was not read as a journal. Lines count from 1.
 #[derive(Clone, Copy, Debug, PartialEq, Eq, Error)]
 pub enum JournalError {
-    /// The line may not be where it is, or the text ends before it.
+    /// The line is not allowed there, or the text ends before it.
     #[error("bad line {line}")]
     BadLine { line: u32 },
     /// There was no memory for what the text tells.

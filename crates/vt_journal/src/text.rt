@@ -88,7 +88,7 @@ impl JournalText {
 /// Reads the text of a journal, for the pages of a geometry and pictures of a height.
 ///
 /// The lines of the pinned pages come first, and then those of each pass: the line that begins it, its events, and one
-/// line for each row. `BadLine` comes exactly for the first line that may not be where it is, or that is missing;
+/// line for each row. `BadLine` comes exactly for the first line that is not allowed there, or that is missing;
 /// `NoMemory` where there is no memory for what the text tells, or where it tells more than 2^32 - 3 passes.
 pub fn parse_journal(
     alloc: Global,

@@ -99,7 +99,7 @@ pub trait Folder {
         ensures asked { asked self.new ≡ asked self.old }
         ensures faults { faults self.old ≤ faults self.new };
 
-    /// Adds the bytes to the name's. After a refusal a prefix of them was added.
+    /// Appends the bytes to what the name holds. A refused call may have appended a prefix of them.
     fn append(&mut self, name: &str, bytes: &[u8]) -> Result<(), OutsideError>
         ensures files { OnOk result (files self.new ≡ option_map (with_appended name.now bytes.now) (files self.old)) }
         ensures there { OnOk result (IsThere (files self.old) name.now) }
@@ -120,7 +120,7 @@ pub trait Sink {
     /// How many puts it has refused for memory.
     ghost refusals: { Self → ℕ };
 
-    /// Adds the bytes. After a refusal a prefix of them was added.
+    /// Appends the bytes. A refused call may have appended a prefix of them.
     fn put(&mut self, bytes: &[u8]) -> Result<(), OutsideError>
         ensures held { OnOk result (held self.new ≡ option_map (gained bytes.now) (held self.old)) }
         ensures part { OnErr result ((k : ℕ) × (held self.new ≡ option_map (gained (take k bytes.now)) (held self.old))) }

@@ -1,4 +1,4 @@
--- One step of writing a store: what it comes to.
+-- One step of writing a store: how it ends.
 use Rattle.std.proofs.Common.{◌≡◌, ℕ, inl, inr, Option, List, length, take, refl, sym, ap, ◌∙◌, subst, Ok, Err}
 use Rattle.std.proofs.Math.Seq.{take-length}
 use Rattle.std.specs.Prelude.{option_map, Result, OnOk, OnErr, IsErrOf}
@@ -12,7 +12,7 @@ use Rattle.vt_tiles.specs.declared.error.StoreError.TheVariants.{Failed}
 use Rattle.vt_tiles.specs.Refusals.{IsOutsideRefusal, refusal_by}
 use Rattle.vt_store.specs.Steps.{Makes, AddsFront, Adds, Steps}
 
--- what an append comes to
+-- how an append ends
 pub adds_of : {T : Type 0} (n tiles : List ℕ) (f g : Option Files) (m k : ℕ) (r : Result T OutsideError)
     → OnOk r (g ≡ option_map (with_appended n tiles) f) → OnErr r ((p : ℕ) × (g ≡ option_map (with_appended n (take p tiles)) f))
     → (IsErrOf r outside_error.Failed → IsThere f n → Rose m k) → Adds n tiles f g m k r
@@ -64,7 +64,7 @@ pub error_is : {T : Type 0} (q : Result T StoreError) (e f : StoreError) → IsE
 error_is (Ok x) e f is failed = absurd is
 error_is (Err x) e f is failed = cc
 
--- a front part of bytes that were lent
+-- a prefix of bytes that were lent
 pub front_in : (n bytes bytes' : List ℕ) (f g : Option Files) (m k : ℕ) (e : OutsideError) → bytes ≡ bytes' → AddsFront n bytes f g m k e
     → AddsFront n bytes' f g m k e
 front_in n bytes bytes' f g m k e lent adds = subst (λ (l : List ℕ). AddsFront n l f g m k e) lent adds

@@ -1,4 +1,4 @@
--- The steps of writing a store by strips: what one comes to, and what stands after some.
+-- The steps of writing a store by strips: how one ends, and what is left after some.
 use Rattle.std.proofs.Common.{◌≡◌, ℕ, ◌+◌, ◌-◌, ◌*◌, ◌<◌, ◌≤◌, inl, inr, Bool, Option, Some, List, take, min, refl, sym, ap, ◌∙◌, subst, arith, Ok, Err}
 use Rattle.std.proofs.lemmas.Nat.{le-div}
 use Rattle.std.specs.Prelude.{option_map, Result}
@@ -75,7 +75,7 @@ module _ (s : Shape) (n : List ℕ) (a : StripsState) (first : IsNextStrip s 0 a
   all_strips : strips_of a.header s.tile ≡ rows_at s 0
   all_strips = strips_are s a.header.height s.tile high refl
 
-  -- a front part of the store, as callers see it
+  -- a prefix of the store, as callers see it
   seen : (before g : Option Files) → HoldsMadeFront a.told (store_made s a.header) n before g → HoldsMadeFront a.told (state_store a) n before g
   seen before g holds = subst (λ (z : Shape). HoldsMadeFront a.told (store_made z a.header) n before g) (sym first.shape) holds
 

@@ -119,7 +119,7 @@ made_part told told' s h h' i n f0 f1 f2 et eh inside holds (inr gains) =
     made_front told s h i n f0 f1 f2 inside holds (subst (λ (z : Header). GainsMadeFront told (strip_tiles s z i) n f1 f2) eh
     (subst (λ (t : Option (List ℕ)). GainsMadeFront t (strip_tiles s h' i) n f1 f2) et gains))
 
--- a front part of the header
+-- a prefix of the header
 pub made_header : (told : Option (List ℕ)) (s : Shape) (h : Header) (d : ℕ) (n : List ℕ) (f0 f1 : Option Files) → d ≡ depth_of h.maximum
     → (f1 ≡ f0) ⊎ ((k : ℕ) × (f1 ≡ option_map (with_bytes n (take k (header_bytes s d))) f0))
     → (f1 ≡ f0) ⊎ HoldsMadeFront told (store_made s h) n f0 f1

@@ -52,7 +52,7 @@ kept_part f0 f1 n s d src p h held = (
       ∙ take-append_seam (front_bytes s d src p) (tiles_bytes s d src p (pages_of s - p)))),
 )
 
--- a part of more bytes behind those that the name holds is a front part of all
+-- a part of more bytes behind those that the name holds is a prefix of all
 pub longer_part : (f0 f1 f2 : Option Files) (n whole done more rest : List ℕ) (k : ℕ) → whole ≡ (done ++ more) ++ rest
     → f1 ≡ option_map (with_bytes n done) f0 → f2 ≡ option_map (with_appended n (take k more)) f1
     → (j : ℕ) × (f2 ≡ option_map (with_bytes n (take j whole)) f0)
@@ -63,7 +63,7 @@ longer_part f0 f1 f2 n whole done more rest k split held added =
           ∙ ap (λ l. option_map (with_bytes n l) f0) (front_of_two done more k ∙ front.1 ∙ ap (take front.0) (sym split)),
     )
 
--- a front part of the header is one of the store
+-- a prefix of the header is one of the store
 pub header_of_store : (f0 f1 : Option Files) (n : List ℕ) (s : Shape) (e d : ℕ) (src : Source) → e ≡ d
     → (f1 ≡ f0) ⊎ ((k : ℕ) × (f1 ≡ option_map (with_bytes n (take k (header_bytes s e))) f0))
     → (f1 ≡ f0) ⊎ ((k : ℕ) × (f1 ≡ option_map (with_bytes n (take k (store_bytes s d src))) f0))

@@ -40,12 +40,12 @@ pub record IsLevelOf (src : Source) (k : ℕ) (p : ImageView) (v : HalvingView) 
   pub lawful : IsLawfulImage p
   pub bytes : AreBytes p.samples
 
--- behind whatever bytes the name held, it came to hold the tiles of the pages from one on to another
+-- behind whatever bytes the name held, it holds the tiles of the pages from one on to another
 pub record AddsPages (s : Shape) (d : ℕ) (src : Source) (first end : ℕ) (name : List ℕ) (old new : Option Files) : Type 0 where
   pub held : (before : Option Files) (done : List ℕ) → old ≡ option_map (with_bytes name done) before
       → new ≡ option_map (with_bytes name (done ++ tiles_bytes s d src first (end - first))) before
 
--- or a front part of the tiles of all pages from one on
+-- or a prefix of the tiles of all pages from one on
 pub record AddsPart (s : Shape) (d : ℕ) (src : Source) (first : ℕ) (name : List ℕ) (old new : Option Files) : Type 0 where
   pub part : ℕ
   pub held : (before : Option Files) (done : List ℕ) → old ≡ option_map (with_bytes name done) before

@@ -13,13 +13,13 @@ abbrev pub Makes : {T E : Type 0} → Type 0 → Type 0 → Result T E → Type 
 Makes made lost (Ok _) = made
 Makes made lost (Err _) = lost
 
--- a front part of the bytes was added to the name, and the call failed only where the count rose
+-- a prefix of the bytes was added to the name, and the call failed only where the count rose
 pub record AddsFront (name bytes : List ℕ) (before after : Option Files) (faults_before faults_after : ℕ) (e : OutsideError) : Type 0 where
   pub part : ℕ
   pub held : after ≡ option_map (with_appended name (take part bytes)) before
   pub rose : e ≡ outside_error.Failed → IsThere before name → Rose faults_before faults_after
 
--- the bytes were added to the name, or a front part of them
+-- the bytes were added to the name, or a prefix of them
 abbrev pub Adds : {T : Type 0} → List ℕ → List ℕ → Option Files → Option Files → ℕ → ℕ → Result T OutsideError → Type 0
 Adds name bytes before after faults_before faults_after (Ok _) = after ≡ option_map (with_appended name bytes) before
 Adds name bytes before after faults_before faults_after (Err e) = AddsFront name bytes before after faults_before faults_after e
@@ -29,7 +29,7 @@ pub record StepDone (next : Type 0) (name bytes : List ℕ) (before after : Opti
   pub added : after ≡ option_map (with_appended name bytes) before
   pub made : next
 
--- a front part of the bytes was added, and some of the file was read. The step failed only where one of the counts rose
+-- a prefix of the bytes was added, and some of the file was read. The step failed only where one of the counts rose
 pub record StepStopped (tried risen : Type 0) (name bytes : List ℕ) (before after : Option Files) (faults_before faults_after : ℕ) (e : StoreError) : Type 0 where
   pub part : ℕ
   pub held : after ≡ option_map (with_appended name (take part bytes)) before

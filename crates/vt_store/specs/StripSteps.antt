@@ -112,7 +112,7 @@ pub record StripsDone (s : Shape) (name : List ℕ) (a b : StripsState) (f g : O
   pub half_width : b.half.width ≡ a.half.width
   pub half_height : b.half.height ≡ a.half.height
 
--- a front part of the store stands, and a front part of the strips was read
+-- the name holds a prefix of the store, and a prefix of the strips was read
 pub record StripsStopped (s : Shape) (name : List ℕ) (a b : StripsState) (f g : Option Files) (m n : ℕ) (e : StoreError) : Type 0 where
   pub part : (before : Option Files) → HoldsMade a.told (strip_front s a.header 0) name before f
       → HoldsMadeFront a.told (state_store a) name before g

@@ -35,7 +35,7 @@ strip_tiles s h i b = tiles_bytes s (depth_of h.maximum) (texture_texel h b) (i 
 abbrev pub StripsAsked : Header → ℕ → ℕ → Option (List Place) → Option (List Place) → Type 0
 StripsAsked h t n before after = after ≡ option_map (λ places. places ++ strip_places h t n) before
 
--- a front part of all strips was asked, of which at most the last read failed
+-- a prefix of all strips was asked, of which at most the last read failed
 pub record StripsTried (h : Header) (t : ℕ) (before after : Option (List Place)) : Type 0 where
   pub count : ℕ
   pub few : count ≤ strips_of h t

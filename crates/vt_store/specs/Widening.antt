@@ -23,13 +23,13 @@ widened src k x y = widened_word (src k x y)
 abbrev pub widened_store : Shape → List ℕ → List ℕ
 widened_store s b = store_bytes s 2 (widened (stored b))
 
--- the name came to hold the widened store, where the bytes of the old one are told, and every other name what it held
+-- the name holds the widened store, where the bytes of the old one are told, and every other name what it held
 pub record HoldsWidened (told : Option (List ℕ)) (s : Shape) (name : List ℕ) (before after : Option Files) : Type 0 where
   pub written : List ℕ
   pub held : after ≡ option_map (with_bytes name written) before
   pub same : (b : List ℕ) → told ≡ Some b → written ≡ widened_store s b
 
--- the name came to hold a front part of it
+-- the name holds a prefix of it
 pub record HoldsFront (told : Option (List ℕ)) (s : Shape) (name : List ℕ) (before after : Option Files) : Type 0 where
   pub written : List ℕ
   pub held : after ≡ option_map (with_bytes name written) before
@@ -41,7 +41,7 @@ pub record GainsTiles (told : Option (List ℕ)) (s : Shape) (first count : ℕ)
   pub held : after ≡ option_map (with_appended name tiles) before
   pub same : (b : List ℕ) → told ≡ Some b → tiles ≡ tiles_bytes s 2 (widened (stored b)) first count
 
--- the name gained a front part of them
+-- the name gained a prefix of them
 pub record GainsFront (told : Option (List ℕ)) (s : Shape) (first count : ℕ) (name : List ℕ) (before after : Option Files) : Type 0 where
   pub tiles : List ℕ
   pub part : ℕ
@@ -57,7 +57,7 @@ doubled (byte ∷ rest) = byte ∷ byte ∷ doubled rest
 pub record IsWideLine (texels : List ℕ) (columns count : ℕ) (out : List ℕ) : Type 0 where
   pub each : (x : ℕ) → x < count → piece_at 6 out x ≡ doubled (piece_at 3 texels (min x (columns - 1)))
 
--- the first lines of a tile of one-byte samples as lines of two-byte samples: past so many columns and rows the last one stands again
+-- the first lines of a tile of one-byte samples as lines of two-byte samples: past so many columns and rows the last one is repeated
 pub record HasWideLines (tile : List ℕ) (side columns rows lines : ℕ) (out : List ℕ) : Type 0 where
   pub each : (line x : ℕ) → line < lines → x < side
       → piece_at 6 out (line * side + x) ≡ doubled (piece_at 3 tile (min line (rows - 1) * side + min x (columns - 1)))

@@ -34,7 +34,7 @@ pub(crate) fn tile_rooms(
     Ok((front, back))
 }
 
-/// Adds a row of tiles to the name. After a refusal a front part of it was added.
+/// Adds a row of tiles to the name. After a refusal a prefix of it was added.
 pub(crate) fn add_row<D: Folder>(
     folder: &mut D,
     name: &str,
@@ -151,7 +151,7 @@ fn step_at_once<Rt: Threads + Sync, F: File + Send, D: Folder>(
 }
 
 /// Adds the row of tiles in `front` to the name, and makes there that of a strip: meanwhile, where `back` has room for a row, or else after
-/// it. `Failed` comes only where the folder's count of faults rose or the file's; then a front part of the row was added, and the strip may have
+/// it. `Failed` comes only where the folder's count of faults rose or the file's; then a prefix of the row was added, and the strip may have
 /// been read.
 pub(crate) fn write_next<Rt: Threads + Sync, F: File + Send, D: Folder>(
     rt: &Rt,

@@ -193,7 +193,7 @@ fn write_in_room<Rt: Threads + Sync, F: File + Send, D: Folder>(
 /// processors are there and rows of tiles are long enough, one is added while the next is made: so a strip may be read before the tiles
 /// of the one above it stand. `Failed` comes
 /// only where the folder's count of faults rose or the file's, and `NoMemory` where memory was refused; then the name holds a front
-/// part of the store, or is as before where it was not created, and a front part of the strips was read. No other refusal comes.
+/// part of the store, or is as before where it was not created, and a prefix of the strips was read. No other refusal comes.
 pub fn write_strips<Rt: Threads + Sync, F: File + Send, D: Folder>(
     rt: &Rt,
     alloc: Global,

@@ -34,7 +34,7 @@ fn widen_line(out: &mut [u8], texels: &[u8], count: usize)
 }
 
 // Writes a tile of two bytes a sample from one of one byte, of which so many columns and rows lie inside the level: past them
-// the last one stands again.
+// the last one is repeated.
 fn widen_tile(out: &mut [u8], tile: &[u8], side: usize, columns: usize, rows: usize)
     requires room { length out.old ≡ 6 * (side * side) }
     requires tile { length tile.now ≡ 3 * (side * side) }
@@ -127,11 +127,11 @@ fn piece_rooms(alloc: Global, geometry: &Geometry) -> Result<(Vec<u8>, Vec<u8>),
 }
 
 /// Makes the name hold the store of the same pages whose samples have two bytes, each 257 times the old store's sample of one
-/// byte: so 255, the greatest, becomes 65,535. Past a level's edge its last texels stand again, whatever the old store has there.
+/// byte: so 255, the greatest, becomes 65,535. Past a level's edge its last texels are repeated, whatever the old store has there.
 ///
 /// It reads the old store's tiles in pieces of as many as the widest level has side by side, each once and in order, and
 /// appends the new tiles alike. `Failed` comes only where the folder's count of faults rose or the file's, and `NoMemory` where
-/// memory was refused; then the name holds a front part of the new store, or is as before, and a front part of the old store's
+/// memory was refused; then the name holds a prefix of the new store, or is as before, and a prefix of the old store's
 /// pieces was read. No other refusal comes.
 pub fn widen_store<D: Folder>(
     alloc: Global,

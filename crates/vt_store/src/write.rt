@@ -67,7 +67,7 @@ pub(crate) fn size_inside(geometry: &Geometry, page: u32) -> (usize, usize)
 }
 
 /// Writes the tiles of so many pages of a row of tiles, side by side, from the rows of texels of their level on which the row of
-/// tiles lies, of samples of `depth` bytes, 1 or 2. Past the level's edge its last column and its last row stand again.
+/// tiles lies, of samples of `depth` bytes, 1 or 2. Past the level's edge its last column and its last row are repeated.
 pub(crate) fn put_tiles(
     tiles: &mut [u8],
     rows: &[u8],
@@ -142,7 +142,7 @@ pub(crate) fn threads_for_row(processors: usize, bytes: usize) -> usize {
 }
 
 /// Makes the name hold the header of a store whose samples have `depth` bytes, 1 or 2, in two calls of the folder. After a
-/// refusal it holds a front part of the header, or is as before where it was not created.
+/// refusal it holds a prefix of the header, or is as before where it was not created.
 pub fn begin_store<D: Folder>(
     geometry: &Geometry,
     depth: u32,
@@ -234,7 +234,7 @@ fn write_rows<D: Folder>(
 /// appends the header and then one row of tiles after the other. The store has the chain's depth.
 ///
 /// `Failed` comes only where the folder's count of faults rose, and `NoMemory` where memory was refused; then the name holds
-/// a front part of the store, or is as before where it was not created. No other refusal comes.
+/// a prefix of the store, or is as before where it was not created. No other refusal comes.
 pub fn write_store<D: Folder>(
     alloc: Global,
     chain: &Chain,

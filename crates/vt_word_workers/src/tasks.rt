@@ -17,7 +17,7 @@ use vt_plan::Planned;
 use vt_streaming::stream_batch;
 use vt_workers::Task;
 
-// Lets a sampler draw its rows by a filter with its pass, which it has back afterwards.
+/// Lets a sampler draw its rows by a filter with its pass, which it has back afterwards.
 pub(crate) fn draw_own<P: Filter, G: Gate>(
     task: &mut WordSampler,
     shot: &Shot<'_>,
