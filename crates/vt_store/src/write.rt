@@ -135,10 +135,10 @@ pub fn longest_row(geometry: &Geometry, depth: u32) -> usize
     tile_columns(geometry, 0) as usize * tile_length(geometry, depth)
 }
 
-/// How many threads are to make rows of tiles of so many bytes, and one of them to add them to a name meanwhile: it takes one about two thirds of a
-/// nanosecond a byte to make them, and half of that to add them.
+/// How many threads are to make rows of tiles of so many bytes and to add them to a name, which one of them does: a byte takes one thread about two
+/// thirds of a nanosecond to make, and a third to add.
 pub(crate) fn threads_for_row(processors: usize, bytes: usize) -> usize {
-    threads_for(processors, bytes as u64 / 3 * 2)
+    threads_for(processors, bytes as u64)
 }
 
 /// Makes the name hold the header of a store whose samples have `depth` bytes, 1 or 2, in two calls of the folder. After a
