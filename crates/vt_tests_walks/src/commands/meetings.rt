@@ -40,7 +40,10 @@ static OVERTAKEN: [Row<'static>; 2] = [
 #[test]
 fn a_read_may_overtake_another(rt: HostRuntime) {
     for i in 0..OVERTAKEN.len() {
-        assert!(rt; meets(&rt, rt.alloc(), &OVERTAKEN[i], Meeting::Reads), "row {i}");
+        assert!(rt;
+            meets(&rt, rt.alloc(), &OVERTAKEN[i], Meeting::Reads),
+            "row {i}"
+        );
     }
 }
 
