@@ -1,5 +1,5 @@
 -- What gets room for the loaders of a batch: their kit.
-use Rattle.std.proofs.Common.{◌≡◌, ℕ, ◌<◌, ◌≤◌, List, [], length, get_or, Option, refl, sym, ap, ◌∙◌, subst}
+use Rattle.std.proofs.Common.{◌≡◌, ℕ, ◌≤◌, List, [], length, Option, refl, sym, subst}
 use Rattle.std.specs.Prelude.{All}
 use Rattle.vt_outside.specs.declared.outside.File.{Ghosts as FileMeanings}
 use Rattle.vt_definitions.specs.Depths.{IsDepth}
@@ -12,7 +12,7 @@ use Rattle.vt_queue.specs.declared.items.Loaded.{Loaded}
 use Rattle.vt_loaders.specs.declared.queued.Queues.{Queues}
 use Rattle.vt_machine.specs.declared.crew.Crew.{Crew}
 use Rattle.vt_machine.specs.Crews.{IsCrew}
-use Rattle.vt_machine.specs.Machines.{told_by, AreStoresFor}
+use Rattle.vt_machine.specs.Machines.{AreStoresFor}
 use Rattle.vt_streaming.specs.declared.report.StreamReport.{StreamReport}
 use Rattle.vt_streaming.specs.Reports.{IsBlank}
 use Rattle.vt_word_workers.specs.RoundKits.{IsSetUp, IsAsked}

@@ -1,5 +1,5 @@
 -- What the loaders of a pass are done with, whoever streams their results.
-use Rattle.std.specs.Prelude.{◌≡◌, ℕ, ◌≤◌, Bool, List, [], length, reverse, All}
+use Rattle.std.specs.Prelude.{◌≡◌, ℕ, ◌≤◌, List, [], length, reverse, All}
 use Rattle.vt_definitions.specs.Depths.{IsDepth}
 use Rattle.vt_outside.specs.declared.outside.File.{Ghosts as FileMeanings}
 use Rattle.vt_pages.specs.Shape.{Shape}

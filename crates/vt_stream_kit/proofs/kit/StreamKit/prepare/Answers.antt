@@ -1,4 +1,4 @@
-use Rattle.std.proofs.Common.{ℕ, ◌≤◌, arith, subst, sym}
+use Rattle.std.proofs.Common.{ℕ, ◌≤◌, subst, sym}
 use Rattle.std.specs.Prelude.{All}
 use Rattle.vt_definitions.specs.Depths.{IsDepth}
 use Rattle.vt_pages.specs.Shape.{Shape}
