@@ -1,7 +1,6 @@
 -- The samplers of a kit, one after another.
-use Rattle.std.proofs.Common.{◌≡◌, ◌≢◌, ℕ, suc, ◌+◌, ◌%◌, ◌<◌, ◌≤◌, ⊎_elim, List, [], ◌∷◌, ◌++◌, length, get_or, take, Option, Some, None, refl, sym, ap, ◌∙◌, subst, arith}
-use Rattle.std.specs.Prelude.{slice_get, slice_index, slice_set, map, All, IfSome, IfNone, Contains}
-use Rattle.std.specs.List.{range_with_len, concat}
+use Rattle.std.proofs.Common.{◌≡◌, ◌≢◌, ℕ, ◌+◌, ◌%◌, ◌<◌, ◌≤◌, ⊎_elim, List, [], ◌∷◌, ◌++◌, length, get_or, take, Option, Some, None, refl, sym, ap, ◌∙◌, subst, arith}
+use Rattle.std.specs.Prelude.{slice_get, slice_index, slice_set, All, IfSome, IfNone, Contains}
 use Rattle.std.proofs.lemmas.Bool.{cases_eq}
 use Rattle.std.proofs.lemmas.List.{length-append, length-set, get_or-set_same, get_or-set_other, get_or_default, take_more}
 use Rattle.std.proofs.lemmas.List.Elements.{All-push, All-pop, Contains-append_left}
@@ -16,14 +15,13 @@ use Rattle.vt_pages.specs.Pages.{pages_of}
 use Rattle.vt_journal.specs.declared.changes.RowLine.{RowLine}
 use Rattle.vt_sampler.specs.Samplers.{SamplerView, IsOwn, version_at}
 use Rattle.vt_workers.specs.All.{AllDid}
-use Rattle.vt_workers.proofs.Lent.{refilled}
 use Rattle.vt_swap.specs.Readers.{ReaderView, WasEntered}
 use Rattle.vt_swap.specs.Making.{IsNewReader}
 use Rattle.vt_swap_workers.specs.declared.workers.SwapDrawer.{SwapDrawer}
 use Rattle.vt_word_workers.specs.Kits.{IsSamplerOf}
 use Rattle.vt_word_workers.proofs.Kits.{each_more}
 use Rattle.vt_swap_machine.specs.declared.draw_kit.DrawKit.{DrawKit}
-use Rattle.vt_swap_machine.specs.DrawKits.{AreDrawers, HasReader, HasSeen, Sees, IsDrawKit, IsIdleDraw, IsReadyDraw, version_by, line_of, lines_of, counted_together}
+use Rattle.vt_swap_machine.specs.DrawKits.{AreDrawers, HasReader, HasSeen, Sees, IsIdleDraw, IsReadyDraw, version_by, line_of, lines_of, counted_together}
 
 module _ (s : Shape) (d width height samplers : ℕ) where
   -- the samplers of the first numbers

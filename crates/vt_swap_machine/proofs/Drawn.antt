@@ -17,7 +17,6 @@ use Rattle.vt_filter.proofs.Handed.{shown_by_more}
 use Rattle.vt_sampler.specs.Samplers.{IsOwn, own_rows, row_at, row_length, version_at}
 use Rattle.vt_sampler.proofs.Sharing.{picture_few}
 use Rattle.vt_pictures.specs.Scenes.{Scene}
-use Rattle.vt_swap.specs.declared.records.LogRecord.{LogRecord}
 use Rattle.vt_swap.specs.Logs.{changes_in}
 use Rattle.vt_swap.specs.Notes.{IsSaidBy}
 use Rattle.vt_swap.specs.Readers.{ReaderView}
@@ -28,7 +27,7 @@ use Rattle.vt_swap_workers.specs.declared.workers.SwapDrawer.{SwapDrawer}
 use Rattle.vt_swap_workers.specs.SwapTasks.{HasDrawn}
 use Rattle.vt_word_workers.specs.Kits.{IsSamplerOf}
 use Rattle.vt_swap_machine.specs.declared.draw_kit.DrawKit.{DrawKit}
-use Rattle.vt_swap_machine.specs.DrawKits.{AreDrawers, HasReader, HasSeen, IsToldBy, IsDrawKit, row_by, version_by, counted_together}
+use Rattle.vt_swap_machine.specs.DrawKits.{AreDrawers, HasReader, HasSeen, IsToldBy, row_by, version_by, counted_together}
 use Rattle.vt_swap_machine.specs.SwapPasses.{WasDrawn, MayEndDraw}
 use Rattle.vt_swap_machine.proofs.RowLines.{row_version, counted_is_wanted}
 

@@ -1,16 +1,10 @@
 -- What is told of the rows once the samplers are moved back.
-use Rattle.std.proofs.Common.{◌≡◌, ℕ, ◌<◌, List, length, sym, ap, ◌∙◌, subst}
-use Rattle.std.specs.Prelude.{slice_index, All, Result, Ok, Err, IfOk}
-use Rattle.vt_outside.specs.Lists.{ListView}
-use Rattle.vt_outside.specs.declared.answers.NoMemory.{NoMemory}
+use Rattle.std.proofs.Common.{◌≡◌, List, subst}
 use Rattle.vt_journal.specs.declared.changes.RowLine.{RowLine}
-use Rattle.vt_queue.specs.declared.queue.QueuePass.{QueuePass}
-use Rattle.vt_queue.specs.declared.items.Loaded.{Loaded}
-use Rattle.vt_streaming.specs.declared.report.StreamReport.{StreamReport}
 use Rattle.vt_swap_workers.specs.declared.workers.SwapDrawer.{SwapDrawer}
 use Rattle.vt_swap_workers.specs.declared.workers.SwapFeeder.{SwapFeeder}
 use Rattle.vt_swap_machine.specs.declared.draw_kit.DrawKit.{DrawKit}
-use Rattle.vt_swap_machine.specs.SwapPasses.{IsIntact, HasTold}
+use Rattle.vt_swap_machine.specs.SwapPasses.{HasTold}
 
 -- it is told of a streamer whose report was taken as of the streamer before
 pub told_before : (k l : DrawKit) (tasks : List SwapDrawer) (t u : SwapFeeder) (lines : List RowLine)

@@ -1,6 +1,6 @@
 -- Frames that are filled while pages are placed and batches streamed are filled with tiles of the store.
-use Rattle.std.proofs.Common.{◌≡◌, ℕ, zero, suc, ◌*◌, false, List, [], ◌∷◌, ◌++◌, length, Option, Some, None, refl, sym, ap, ◌∙◌, subst, arith}
-use Rattle.std.specs.Prelude.{slice_get, All, IfSome}
+use Rattle.std.proofs.Common.{◌≡◌, ℕ, zero, suc, ◌*◌, false, List, [], ◌∷◌, length, Option, refl, sym, ◌∙◌, subst}
+use Rattle.std.specs.Prelude.{All, IfSome}
 use Rattle.std.proofs.lemmas.Bool.{false≢true}
 use Rattle.std.proofs.lemmas.List.Elements.{All-contains}
 use Rattle.std.proofs.lemmas.Option.{none-some, same_Some}
@@ -14,12 +14,12 @@ use Rattle.vt_queue.specs.declared.items.Outcome.{Outcome}
 use Rattle.vt_queue.specs.declared.items.Outcome.TheVariants.{Read, Lost}
 use Rattle.vt_load.specs.Readings.{is_lost}
 use Rattle.vt_loaders.specs.Results.{IsGood}
-use Rattle.vt_requests.specs.BatchRounds.{page_if, IsResultOf}
+use Rattle.vt_requests.specs.BatchRounds.{IsResultOf}
 use Rattle.vt_swap.specs.declared.records.LogRecord.{LogRecord}
 use Rattle.vt_swap.specs.declared.records.LogRecord.TheVariants.{Changed, Filled}
 use Rattle.vt_swap.specs.Notes.{AreWordsOf}
 use Rattle.vt_swap.specs.Streamers.{StreamerView, HasMapped}
-use Rattle.vt_swap_noted.specs.Filled.{IsStoredTile, AreStoredFills}
+use Rattle.vt_swap_noted.specs.Filled.{AreStoredFills}
 use Rattle.vt_swap_noted.proofs.Adding.{fills_grow}
 use Rattle.vt_swap_streaming.specs.Brought.{AreFillsOf}
 

@@ -1,6 +1,6 @@
 -- A pass of the machine over a page cache, by what its loaders and its samplers left.
-use Rattle.std.proofs.Common.{◌≡◌, ℕ, ◌+◌, ◌*◌, ◌<◌, ◌≤◌, ◌++◌, true, false, Bool, List, [], length, get_or, Option, Some, None, refl, sym, ap, ◌∙◌, subst, arith}
-use Rattle.std.specs.Prelude.{slice_get, All, IfSome, Result, Ok, Err, IfOk, OnOk, OnErr}
+use Rattle.std.proofs.Common.{◌≡◌, ℕ, ◌+◌, ◌*◌, ◌<◌, ◌++◌, true, Bool, List, [], length, get_or, Option, Some, None, sym, ap, ◌∙◌, subst, arith}
+use Rattle.std.specs.Prelude.{slice_get, All, IfSome, Result, Ok, Err, IfOk}
 use Rattle.std.proofs.lemmas.List.FromFn.{length-map-range_with_len, get_or-map-range_with_len}
 use Rattle.vt_outside.specs.Lists.{ListView}
 use Rattle.vt_outside.specs.declared.outside.File.{Ghosts as FileMeanings}
@@ -24,12 +24,10 @@ use Rattle.vt_machine.specs.Drawings.{drawing_of}
 use Rattle.vt_machine.specs.Machines.{MachineState, files_of, told_by}
 use Rattle.vt_machine.specs.Outcomes.{IsOutcome}
 use Rattle.vt_machine.specs.RowOrders.{AreRowsInOrder}
-use Rattle.vt_machine.specs.Requests.{AreReadFor, FileState}
+use Rattle.vt_machine.specs.Requests.{AreReadFor}
 use Rattle.vt_machine.specs.Passes.{IsPictured, Ran, Broke, Ends}
 use Rattle.vt_requests.specs.BatchRounds.{result_events}
 use Rattle.vt_swap.specs.declared.frame.FrameKey.{FrameKey}
-use Rattle.vt_swap.specs.declared.records.LogRecord.{LogRecord}
-use Rattle.vt_swap.specs.Logs.{changes_in}
 use Rattle.vt_swap.specs.Slots.{AreSlotsOf}
 use Rattle.vt_swap.specs.Streamers.{StreamerView}
 use Rattle.vt_swap_noted.specs.Filled.{AreStoredFills}

@@ -1,33 +1,28 @@
 -- The machine between its passes: made, with a page placed, prepared, and with its workers moved out.
-use Rattle.std.proofs.Common.{◌≡◌, ℕ, ◌+◌, ◌*◌, ◌<◌, ◌≤◌, false, List, [], length, get_or, Option, Some, refl, sym, ap, ◌∙◌, subst, arith}
+use Rattle.std.proofs.Common.{◌≡◌, ℕ, ◌*◌, ◌≤◌, false, List, length, get_or, Option, Some, sym, ap, ◌∙◌, subst, arith}
 use Rattle.std.specs.Prelude.{All, Result, Ok, Err, OnOk, OnErr}
 use Rattle.std.proofs.lemmas.Option.{none-some, slice_get-get_or}
 use Rattle.logbook.specs.Pages.{Book}
 use Rattle.vt_definitions.specs.Depths.{IsDepth}
-use Rattle.vt_definitions.specs.Limits.{most_frames, most_versions}
+use Rattle.vt_definitions.specs.Limits.{most_frames}
 use Rattle.vt_outside.specs.Lists.{ListView}
 use Rattle.vt_outside.specs.declared.outside.File.{Ghosts as FileMeanings}
 use Rattle.vt_outside.specs.declared.answers.NoMemory.{NoMemory}
 use Rattle.vt_pages.specs.Shape.{Shape}
 use Rattle.vt_pages.specs.Pages.{pages_of, IsWithinLimits}
 use Rattle.vt_journal.specs.Changes.{newest}
-use Rattle.vt_tiles.specs.Format.{tile_length}
 use Rattle.vt_plan.specs.declared.batches.Planned.{Planned}
-use Rattle.vt_queue.specs.declared.queue.QueuePass.{QueuePass}
-use Rattle.vt_queue.specs.declared.items.Loaded.{Loaded}
 use Rattle.vt_queue.specs.Queues.{IsOf}
 use Rattle.vt_loaders.specs.declared.queued.Queues.{Queues}
 use Rattle.vt_workers.specs.Jobs.{Job}
 use Rattle.vt_workers.specs.All.{AllReady}
 use Rattle.vt_machine.specs.declared.crew.Crew.{Crew}
-use Rattle.vt_machine.specs.Crews.{IsCrew, AreFrames, last_start}
+use Rattle.vt_machine.specs.Crews.{last_start}
 use Rattle.vt_machine.specs.Machines.{told_by}
 use Rattle.vt_machine.specs.Outcomes.{IsBatchFor}
 use Rattle.vt_machine.specs.Passes.{MayPlace, IsJobFor, IsUntouched, IsSpent}
-use Rattle.vt_streaming.specs.declared.report.StreamReport.{StreamReport}
 use Rattle.vt_word_workers.proofs.Rooms.{told_same, files_same}
 use Rattle.vt_swap.specs.declared.frame.FrameKey.{FrameKey}
-use Rattle.vt_swap.specs.declared.records.LogRecord.{LogRecord}
 use Rattle.vt_swap.specs.declared.records.LogRecord.TheVariants.{Filled}
 use Rattle.vt_swap.specs.Slots.{AreSlotsOf}
 use Rattle.vt_swap.specs.Streamers.{StreamerView, HasMapped, IsRefused}
@@ -38,8 +33,8 @@ use Rattle.vt_swap_workers.specs.declared.workers.SwapFeeder.{SwapFeeder}
 use Rattle.vt_swap_workers.specs.SwapTasks.{MayDraw, MayStream}
 use Rattle.vt_stream_kit.specs.StreamKits.{StreamKitView, IsStreamKit, IsSameStream, IsAskedStream}
 use Rattle.vt_swap_machine.specs.declared.draw_kit.DrawKit.{DrawKit}
-use Rattle.vt_swap_machine.specs.DrawKits.{HasReader, IsDrawKit, IsIdleDraw, IsReadyDraw}
-use Rattle.vt_swap_machine.specs.SwapMachines.{SwapView, swap_setup, swap_state, state_by, journal_by, Agree, IsFitFeeder, IsIdleSwap, IsReadySwap, IsIdleBy, IsReadyBy}
+use Rattle.vt_swap_machine.specs.DrawKits.{HasReader, IsDrawKit, IsReadyDraw}
+use Rattle.vt_swap_machine.specs.SwapMachines.{SwapView, swap_state, state_by, journal_by, IsFitFeeder, IsIdleSwap, IsReadySwap, IsIdleBy, IsReadyBy}
 use Rattle.vt_swap_machine.proofs.Fills.{placed_stored}
 
 module _ {F : Type 0} (g : FileMeanings F) where

@@ -27,7 +27,7 @@ use Rattle.vt_swap_workers.specs.declared.workers.SwapFeeder.{SwapFeeder}
 use Rattle.vt_swap_workers.specs.SwapTasks.{HasDrawn, HasFed}
 use Rattle.vt_stream_kit.specs.StreamKits.{StreamKitView, IsStreamKit, AreLoadersOut, StreamBegun, stream_before, MayEndStream}
 use Rattle.vt_swap_machine.specs.declared.draw_kit.DrawKit.{DrawKit}
-use Rattle.vt_swap_machine.specs.DrawKits.{IsDrawKit, IsReadyDraw}
+use Rattle.vt_swap_machine.specs.DrawKits.{IsReadyDraw}
 use Rattle.vt_swap_machine.specs.SwapPasses.{MayEndDraw}
 use Rattle.vt_swap_machine.specs.SwapMachines.{SwapView, swap_setup, swap_state, state_by, journal_by, drawn_by, IsFitFeeder, IsReadySwap, IsReadyBy, IsIdleBy, AreOut, Begun, MayFinish, SwapEnds, SwapFinishes}
 

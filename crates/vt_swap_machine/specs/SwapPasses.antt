@@ -1,5 +1,5 @@
 -- A pass over a page cache, by what its workers did.
-use Rattle.std.specs.Prelude.{◌≡◌, ℕ, ◌%◌, ◌<◌, false, Some, List, [], length, slice_get, slice_index, All, Contains}
+use Rattle.std.specs.Prelude.{◌≡◌, ℕ, ◌%◌, ◌<◌, false, Some, List, length, slice_get, slice_index, All, Contains}
 use Rattle.logbook.specs.Pages.{Book}
 use Rattle.vt_camera.specs.Paths.{PathView}
 use Rattle.vt_pages.specs.Shape.{Shape}

@@ -2,7 +2,6 @@
 
 ghost use Rattle.std.specs.Prelude.{◌≡◌, ℕ, ◌^◌, ◌<◌, ◌≤◌, [], All, IsTrue, length, slice_index, slice_index_or};
 ghost use Rattle.vt_pages.specs.Shape.{Shape};
-ghost use Rattle.logbook.specs.Pages.{Book};
 ghost use Rattle.vt_swap_workers.specs.declared.workers.SwapDrawer.{SwapDrawer as Task};
 ghost use Rattle.vt_swap_machine.specs.DrawKits.{AreDrawers, HasReader, IsToldBy, lines_of, counted_together};
 ghost use Rattle.vt_swap_machine.specs.SwapPasses.{IsIntact};

@@ -1,4 +1,4 @@
-use Rattle.std.proofs.Common.{◌≡◌, refl, sym, subst}
+use Rattle.std.proofs.Common.{refl, sym, subst}
 use Rattle.std.specs.Prelude.{All}
 use Rattle.vt_workers.specs.Jobs.{job_of}
 use Rattle.vt_swap_machine.specs.DrawKits.{HasReader}

@@ -1,4 +1,4 @@
-use Rattle.std.proofs.Common.{◌≡◌, ◌<◌, length, get_or, sym, subst, rules, arith}
+use Rattle.std.proofs.Common.{◌≡◌, ◌<◌, length, get_or, subst, rules, arith}
 use Rattle.std.proofs.lemmas.List.{get_or_default}
 use Rattle.vt_swap_machine.proofs.Drawers.{AreSeeing, seeing_none, seeing_more, still_has, all_seeing}
 use Rattle.vt_swap_machine.proofs.seen.see_all.Goals as goal

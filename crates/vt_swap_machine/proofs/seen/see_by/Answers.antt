@@ -1,4 +1,4 @@
-use Rattle.std.proofs.Common.{refl, ap, sym, ◌∙◌}
+use Rattle.std.proofs.Common.{refl, sym, ◌∙◌}
 use Rattle.vt_swap_machine.proofs.Drawers.{reader_sees}
 use Rattle.vt_swap_machine.proofs.seen.see_by.Goals as goal
 

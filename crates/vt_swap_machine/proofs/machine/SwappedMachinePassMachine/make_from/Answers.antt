@@ -1,4 +1,4 @@
-use Rattle.std.proofs.Common.{refl, sym, ap, ◌∙◌}
+use Rattle.std.proofs.Common.{refl}
 use Rattle.vt_swap_machine.proofs.Idle.{idle_made}
 use Rattle.vt_swap_machine.proofs.machine.SwappedMachinePassMachine.make_from.Goals as goal
 

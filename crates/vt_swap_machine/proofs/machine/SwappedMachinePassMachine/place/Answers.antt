@@ -1,6 +1,5 @@
-use Rattle.std.proofs.Common.{◌≡◌, ◌<◌, ◌≤◌, ◌*◌, Option, length, ap, sym, ◌∙◌, subst}
-use Rattle.vt_swap_machine.specs.SwapMachines.{SwapView, IsIdleSwap, IsIdleBy, state_by, journal_by}
-use Rattle.vt_swap_workers.specs.declared.workers.SwapFeeder.{SwapFeeder}
+use Rattle.std.proofs.Common.{ap, sym, ◌∙◌, subst}
+use Rattle.vt_swap_machine.specs.SwapMachines.{SwapView, IsIdleSwap}
 use Rattle.vt_swap_machine.proofs.Idle.{machine_placed}
 use Rattle.vt_swap_machine.proofs.machine.SwappedMachinePassMachine.place.Goals as goal
 
