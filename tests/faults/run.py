@@ -1,9 +1,9 @@
 #!/usr/bin/env python3
 """Lets each call of a kind on the system fail in turn, for each command and each machine of `walk`, over small textures, stores, paths and journals.
 
-usage: run.py [--program PROGRAM] [--workers N] [--only WORD..] [--without WORD..]
+usage: run.py [--program PROGRAM] [--workers N] [--only WORD..] [--without WORD..] [--limit SECONDS]
 
-(crates/vtex/out/vtex, a worker for each processor, and all commands, else those that have one of these words; it wants gcc)
+(crates/vtex/out/vtex, a worker for each processor, all commands, else those that have one of these words, and 120 seconds; it wants gcc)
 
 Outside the gate. The kinds are those of failing.py: an allocation that is refused, or it and all later ones; an opening, a seek, a length, a read or a write that fails,
 or it and all later ones; a read that fails late, while other threads go on; a read or a write that comes short; a thread that cannot be made, or it and all
@@ -162,10 +162,10 @@ OUTPUTS = {
 FULL_FILES = "full files"
 
 
-def ended(command, out=None, error=None, before=None):
+def ended(command, limit, out=None, error=None, before=None):
     """What a command left."""
     given = [subprocess.PIPE if make is None else make() for make in (out, error)]
-    done = subprocess.run(command, stdin=subprocess.DEVNULL, stdout=given[0], stderr=given[1], timeout=LIMIT, preexec_fn=before)
+    done = subprocess.run(command, stdin=subprocess.DEVNULL, stdout=given[0], stderr=given[1], timeout=limit, preexec_fn=before)
     for output in given:
         if output != subprocess.PIPE:
             output.close()
@@ -185,8 +185,8 @@ def full_after(size):
 class Worker:
     """Runs jobs in a folder of its own."""
 
-    def __init__(self, program, scratch):
-        self.program, self.failing = program, Failing(program, scratch)
+    def __init__(self, program, scratch, limit):
+        self.program, self.limit, self.failing = program, limit, Failing(program, scratch, limit)
         os.chdir(tempfile.mkdtemp(dir=scratch))
 
     def fill(self):
@@ -220,7 +220,7 @@ class Worker:
     def try_outputs(self, job, kind):
         """The same for outputs that take nothing. A command that prints does not end well then."""
         self.fill()
-        left = ended([self.program, *job.words], *OUTPUTS[kind])
+        left = ended([self.program, *job.words], self.limit, *OUTPUTS[kind])
         flaws = self.changed(job) + job.flaws(left, Doubt({3} if job.prints else ()))
         yield 1, left.status, flaws + (["it ends well"] if job.prints and left.status == 0 else [])
 
@@ -229,7 +229,7 @@ class Worker:
         size, status = 0, None
         while status != 0 and size < 1000:
             self.fill()
-            left = ended([self.program, *job.words], before=full_after(size))
+            left = ended([self.program, *job.words], self.limit, before=full_after(size))
             yield size, left.status, self.changed(job) + job.flaws(left, Doubt({3}))
             size, status = size + 1, 0 if left.status in (0, 5) else left.status
 
@@ -263,6 +263,7 @@ def main():
     parser.add_argument("--workers", type=int, default=os.cpu_count())
     parser.add_argument("--only", nargs="+")
     parser.add_argument("--without", nargs="+", default=[])
+    parser.add_argument("--limit", type=float, default=LIMIT)
     options, begun = parser.parse_args(), time.monotonic()
     kinds = [*KINDS, *OUTPUTS, FULL_FILES]
     only, without = set(options.only or [job.words[0] for job in JOBS]), set(options.without)
@@ -270,7 +271,7 @@ def main():
     by_kind, wrong = {kind: Counter() for kind in kinds}, 0
     with tempfile.TemporaryDirectory() as scratch:
         Failing(os.path.abspath(options.program), scratch)
-        with Pool(options.workers, begin, (os.path.abspath(options.program), scratch)) as pool:
+        with Pool(options.workers, begin, (os.path.abspath(options.program), scratch, options.limit)) as pool:
             for words, kind, statuses, found in pool.imap(try_all, tasks):
                 print("%s, %s: %s" % (" ".join(words), kind, counted(statuses) or "no such call"), flush=True)
                 by_kind[kind].update(statuses)

@@ -218,7 +218,9 @@ fn stops(rt: &(impl Threads + Wait + Sync), alloc: Global, plain: &Scene) -> boo
 }
 
 #[test]
-fn a_settled_walk_over_many_pages_draws_the_plain_pictures_up_to_a_creation_that_fails(rt: HostRuntime) {
+fn a_settled_walk_over_many_pages_draws_the_plain_pictures_up_to_a_creation_that_fails(
+    rt: HostRuntime,
+) {
     let alloc = rt.alloc();
     let mut scene = Scene::new(alloc);
     assert!(rt; walks_far(&rt, alloc, &mut scene));

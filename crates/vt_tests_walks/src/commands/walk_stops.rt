@@ -23,7 +23,8 @@ struct Walk<'a> {
 }
 
 // Its journal. The head ends at byte 14, and the passes at the bytes 49, 98, 147 and 182.
-const JOURNAL: &[u8] = b"map 1 1 0 0 0\npass 1 picture 0 start 1\nrow 0 ? 1\npass 2 picture 0 start 1\n\
+const JOURNAL: &[u8] =
+    b"map 1 1 0 0 0\npass 1 picture 0 start 1\nrow 0 ? 1\npass 2 picture 0 start 1\n\
         map 2 0 0 0 1\nrow 0 ? ?\npass 3 picture 0 start 2\nmap 3 0 0 1 2\nrow 0 ? ?\n\
         pass 4 picture 0 start 3\nrow 0 ? 3\n";
 
@@ -324,12 +325,7 @@ fn stops_in(
 }
 
 // Whether a walk ends so where the call fails.
-fn stops(
-    rt: &(impl Threads + Wait + Sync),
-    alloc: Global,
-    walk: &Walk<'_>,
-    stop: &Stop,
-) -> bool {
+fn stops(rt: &(impl Threads + Wait + Sync), alloc: Global, walk: &Walk<'_>, stop: &Stop) -> bool {
     match Scene::failing_each(alloc, &fails_of(stop.fail)) {
         Ok(mut scene) => stops_in(rt, alloc, walk, stop, &mut scene),
         Err(_) => false,
@@ -345,7 +341,10 @@ fn stop_all(
 ) {
     for i in 0..walks.len() {
         for j in 0..table.len() {
-            assert!(rt; stops(rt, alloc, &walks[i], &table[j]), "walk {i}, stop {j}");
+            assert!(rt;
+                stops(rt, alloc, &walks[i], &table[j]),
+                "walk {i}, stop {j}"
+            );
         }
     }
 }
