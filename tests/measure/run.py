@@ -216,8 +216,9 @@ def measured(programs, rounds, compared):
 
 
 def row(title, programs, rounds):
-    """A row of a table, from so many runs of each program in turn."""
-    middles, is_same = measured(programs, rounds, rounds)
+    """A row of a table, from so many runs of each program in turn. What a live walk shows depends on when pages come, so it is not compared."""
+    is_live = any(words[0] == "walk" and "--settled" not in words for _, words in programs)
+    middles, is_same = measured(programs, rounds, 0 if is_live else rounds)
     cells = ["%.3f | %.3f | %.0f" % tuple(middle) if middle else "- | - | -" for middle in middles[:1]]
     cells += ["%.3f" % middle[0] if middle else "-" for middle in middles[1:]]
     if len(middles) == 2:
