@@ -1,5 +1,5 @@
 -- A pass of the machine whose samplers share rows, by what its loaders and its samplers left.
-use Rattle.std.proofs.Common.{◌≡◌, ℕ, ◌<◌, false, List, [], length, get_or, Some, Ok, sym, ap, ◌∙◌, subst, arith}
+use Rattle.std.proofs.Common.{◌≡◌, ℕ, ◌<◌, false, Bool, List, [], ◌++◌, length, get_or, Option, Some, Ok, sym, ap, ◌∙◌, subst, arith}
 use Rattle.std.specs.Prelude.{slice_get, All, IfSome}
 use Rattle.std.proofs.lemmas.Bool.{false≢true}
 use Rattle.std.proofs.lemmas.List.{length-map, get_or-map}
@@ -10,7 +10,9 @@ use Rattle.vt_pages.specs.Shape.{Shape}
 use Rattle.vt_pages.specs.Pages.{pages_of, IsWithinLimits}
 use Rattle.vt_draw.specs.Shots.{shot_row}
 use Rattle.vt_journal.specs.declared.changes.Change.{Change}
+use Rattle.vt_journal.specs.declared.changes.Event.{Event}
 use Rattle.vt_journal.specs.declared.changes.RowLine.{RowLine}
+use Rattle.vt_journal.specs.JournalText.{changes_of}
 use Rattle.vt_filter.specs.declared.filters.Filter.{Ghosts as FilterMeanings}
 use Rattle.vt_filter.specs.Evidence.{AreShown}
 use Rattle.vt_filter.specs.FilterLaws.{IsUnder}
@@ -22,18 +24,24 @@ use Rattle.vt_loaders.specs.declared.queued.Queues.{Queues}
 use Rattle.vt_loaders.specs.QueuedLoaders.{QueuedView}
 use Rattle.vt_workers.specs.Jobs.{Job}
 use Rattle.vt_machine.specs.declared.crew.PassReport.{PassReport}
+use Rattle.vt_machine.specs.Outcomes.{IsOutcome}
 use Rattle.vt_machine.specs.RowOrders.{AreRowsInOrder}
-use Rattle.vt_machine.specs.Machines.{told_by}
+use Rattle.vt_machine.specs.Requests.{AreReadFor}
+use Rattle.vt_machine.specs.Machines.{files_of, told_by}
 use Rattle.vt_machine.specs.Passes.{IsPictured, Ends}
+use Rattle.vt_requests.specs.BatchRounds.{result_events}
+use Rattle.vt_streaming.specs.Made.{HasStreamed, results_contents}
 use Rattle.vt_noted.specs.Noted.{IsNotedBy}
 use Rattle.vt_noted.specs.Stored.{AreStored}
+use Rattle.vt_noted.proofs.Growing.{stored_grow}
 use Rattle.vt_noted.proofs.Replayed.{picture_replayed}
 use Rattle.vt_word_workers.specs.declared.workers.WordStreamer.{WordStreamer}
+use Rattle.vt_word_workers.proofs.Contents.{results_stored}
 use Rattle.vt_word_workers.proofs.Returned.{journal_stays, contents_stay}
+use Rattle.vt_stream_kit.specs.StreamKits.{StreamKitView, stream_before}
 use Rattle.vt_shared_rows.specs.declared.bag.RowJob.{RowJob}
 use Rattle.vt_shared_rows.specs.declared.bag.RowBag.{RowBag}
 use Rattle.vt_steal.specs.declared.row_kit.RowKit.{RowKit}
-use Rattle.vt_steal.specs.StreamKits.{StreamKitView, stream_before}
 use Rattle.vt_steal.specs.RowTasks.{RowTask}
 use Rattle.vt_steal.specs.RowEnds.{line_of, bytes_of, WasShared}
 use Rattle.vt_steal.specs.SharingMachines.{sharing_of, state_by, drawn_by, Agree, IsIdleSharing, Begun, MayFinish, HasFinished}
@@ -42,12 +50,12 @@ use Rattle.vt_steal.proofs.Lists.{made_of}
 module _ {F P : Type 0} (g : FileMeanings F) (filter : FilterMeanings P) (law : IsUnder filter.shown filter.under) (words : WordsValue) (q : Queues)
     (bag : RowBag) (k l : StreamKitView F) (r s : RowKit) (job : Job) (report : PassReport) (c : List (QueuedView F)) (f : List RowTask)
     (t d : WordStreamer) (b : Begun F) (may : MayFinish g filter words q bag k r job c f t b)
-    (done : HasFinished g filter words k l r s job report f t.streamer d.streamer b) where
+    (done : HasFinished g filter words k l r s job report f t d.streamer b) where
   abbrev w : StreamerView
   w = d.streamer
 
   abbrev start : List Change
-  start = b.stream.streamer.streamer.writer.journal
+  start = b.streamer.streamer.writer.journal
 
   jobs : List RowJob
   jobs = s.drawn.elements
@@ -74,20 +82,40 @@ module _ {F P : Type 0} (g : FileMeanings F) (filter : FilterMeanings P) (law : 
     count = ap (λ (x : RowKit). x.count) done.rows.rest ∙ may.agree.count ∙ sym same_samplers;
   }
 
+  -- the changes of the results were published
+  streamed : HasStreamed k.shape job.batch t.report.results.elements b.streamer.streamer.writer t.streamer.writer
+  streamed = subst (λ (x : Shape). HasStreamed x job.batch t.report.results.elements b.streamer.streamer.writer t.streamer.writer) may.fit.shape
+      may.fed.streamed
+
+  events_are : report.events.elements ≡ result_events job.batch t.report.results.elements
+  events_are = done.events ∙ may.fed.events ∙ ap (λ (es : List Event). es ++ result_events job.batch t.report.results.elements) may.no_events
+
+  journal_is : w.writer.journal ≡ start ++ changes_of report.events.elements
+  journal_is = journal_same ∙ streamed.journal ∙ ap (λ (es : List Event). start ++ changes_of es) (sym events_are)
+
+  -- each page was mapped with the words of its tile
   stored_after : AreStored l.shape l.depth (told_by g l.stores) w.writer.journal w.writer.contents
-  stored_after = subst (λ (z : Shape × ℕ × List Change × List (List ℕ)). AreStored z.0 z.1 (told_by g l.stores) z.2 z.3)
-      (λ i. (sym same_shape i, sym same_depth i, sym journal_same i, sym contents_same i)) done.stream.stored
+  stored_after =
+      let v = b.streamer.streamer.writer in
+      let results = t.report.results.elements in
+      let old : AreStored k.shape k.depth (told_by g l.stores) v.journal v.contents =
+      subst (λ (o : Option (List ℕ)). AreStored k.shape k.depth o v.journal v.contents) (sym done.stream.told) may.fit.stored in
+      let new = results_stored k.shape k.depth (told_by g l.stores) job.batch results done.stream.entries done.stream.good in
+      subst (λ (z : Shape × ℕ × List Change × List (List ℕ)). AreStored z.0 z.1 (told_by g l.stores) z.2 z.3)
+      (λ i. (sym same_shape i, sym same_depth i, sym (journal_same ∙ streamed.journal) i, sym (contents_same ∙ streamed.contents) i))
+      (stored_grow k.shape k.depth (told_by g l.stores) v.journal (changes_of (result_events job.batch results)) v.contents
+      (results_contents k.shape job.batch results) may.fit.of.sound.contents old new)
 
   -- the machine can go on
   pub goes_on : IsIdleSharing g words w l s
   goes_on = record {
     fit = record {
       of = done.rows.of;
-      shape = ap (λ (x : StreamerView). x.shape) done.rows.back ∙ may.stream.fed.shape ∙ may.stream.fit.shape ∙ sym same_shape;
-      samplers = may.stream.fit.samplers ∙ sym same_samplers;
+      shape = ap (λ (x : StreamerView). x.shape) done.rows.back ∙ may.fed.shape ∙ may.fit.shape ∙ sym same_shape;
+      samplers = may.fit.samplers ∙ sym same_samplers;
       stored = stored_after;
-      kit = done.stream.kit;
     };
+    kit = done.stream.kit;
     all_in = done.rows.all_in;
     rows = done.rows.idle;
     agree = agree;
@@ -205,10 +233,12 @@ module _ {F P : Type 0} (g : FileMeanings F) (filter : FilterMeanings P) (law : 
         crew = (ap (λ (x : StreamKitView F). x.crew) done.stream.rest) i;
         bytes = done.stream.told i;
       };
-      outcome = done.stream.outcome;
-      journal = journal_same ∙ done.stream.journal;
+      outcome = subst (λ (losses : List Bool). IsOutcome job.batch losses report.events.elements) (sym done.losses)
+          (done.stream.outcome report.events.elements events_are);
+      journal = journal_is;
       rows = in_order;
-      read = done.stream.read;
+      read = subst (λ (losses : List Bool). AreReadFor k.shape k.depth job.batch losses (files_of g (stream_before k b.stream).stores)
+          (files_of g l.stores)) (sym done.losses) done.stream.read;
       picture = pictured;
     };
     goes_on = goes_on;

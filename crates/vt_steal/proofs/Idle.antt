@@ -33,15 +33,14 @@ use Rattle.vt_noted.proofs.Growing.{stored_grow}
 use Rattle.vt_word_workers.specs.declared.workers.WordStreamer.{WordStreamer}
 use Rattle.vt_word_workers.specs.Kits.{AreAllIn}
 use Rattle.vt_word_workers.proofs.Rooms.{told_same, files_same}
+use Rattle.vt_stream_kit.specs.StreamKits.{StreamKitView, IsStreamKit, IsSameStream}
 use Rattle.vt_pass.specs.Placed.{HasPlaced}
 use Rattle.vt_shared_rows.specs.declared.bag.RowBag.{RowBag}
 use Rattle.vt_steal.specs.declared.row_kit.RowKit.{RowKit}
-use Rattle.vt_steal.specs.StreamKits.{StreamKitView, IsStreamKit, IsSameStream}
 use Rattle.vt_steal.specs.RowTasks.{RowTask, MayDrawShared}
 use Rattle.vt_steal.specs.RowKits.{IsIdleRows}
 use Rattle.vt_steal.specs.SharingMachines.{SharingView, sharing_setup, sharing_state, state_by, journal_by, IsIdleSharing, IsReadySharing, IsIdleBy, IsReadyBy}
 use Rattle.vt_steal.proofs.Lists.{made_at}
-use Rattle.vt_steal.proofs.StreamRooms.{fit_still, same_stream}
 
 -- no pass of the first writer is out
 none_out : (m n : ℕ) → get_or (replicate m false) n false ≡ false
@@ -62,8 +61,8 @@ module _ {F : Type 0} (g : FileMeanings F) where
       samplers = ap (λ (z : Sizes). z.samplers) sizes ∙ ap (λ (c : Crew). c.samplers) (sym crew_is);
       stored = subst (λ (w : WriterView). AreStored k.shape k.depth (told_by g k.stores) w.journal w.contents) (sym writer)
           (λ j page frame is. absurd (none-some (Map page frame) is));
-      kit = kit;
     };
+    kit = kit;
     all_in = λ n. ap (λ (w : WriterView). is_out w n) writer ∙ none_out crew.samplers n;
     rows = rows;
     agree = record { shape = geometry ∙ sym same; depth = depth; count = count ∙ ap (λ (c : Crew). c.samplers) (sym crew_is) };
@@ -83,8 +82,8 @@ module _ {F : Type 0} (g : FileMeanings F) where
           (λ i. (sym placed.journal i, sym placed.contents i))
           (stored_grow k.shape k.depth (told_by g k.stores) v.writer.journal (Map page frame ∷ []) v.writer.contents (words_in v.shape tile ∷ [])
           idle.fit.of.sound.contents idle.fit.stored one);
-      kit = idle.fit.kit;
     };
+    kit = idle.kit;
     all_in = λ n. ap (λ o. slice_index_or o n false) placed.out ∙ idle.all_in n;
     rows = idle.rows;
     agree = idle.agree;
@@ -100,7 +99,14 @@ module _ {F : Type 0} (g : FileMeanings F) where
         }
     one (suc j) p f is = absurd (none-some (Map p f) is)
   idle_placed words v w k r page frame tile (Err e) idle of may placed refused = record {
-    fit = fit_still g words v w k k refused (same_stream g k) idle.fit idle.fit.kit.buffers;
+    fit = record {
+      of = of;
+      shape = ap (λ (u : StreamerView). u.shape) refused ∙ idle.fit.shape;
+      samplers = idle.fit.samplers;
+      stored = subst (λ (u : StreamerView). AreStored k.shape k.depth (told_by g k.stores) u.writer.journal u.writer.contents) (sym refused)
+          idle.fit.stored;
+    };
+    kit = idle.kit;
     all_in = subst AreAllIn (sym refused) idle.all_in;
     rows = idle.rows;
     agree = idle.agree;
@@ -121,7 +127,7 @@ module _ {F : Type 0} (g : FileMeanings F) where
       → tasks ≡ r.tasks.elements → AllReady (MayDrawShared words bag job.scene job.picture) tasks
   may_draw job words q bag t k r tasks ready root job_is same = subst (AllReady (MayDrawShared words bag job.scene job.picture)) (sym same)
       (λ n d inside.
-      let fit = ready.streams.fit in
+      let fit = ready.fit in
       let task : RowTask = get_or r.tasks.elements n d in
       let there = slice_get-get_or r.tasks.elements n d inside in
       let sampler = made_at (λ (x : RowTask). x.sampler) r.tasks.elements n task there in

@@ -5,8 +5,6 @@ pub mod Placement
 pub mod Giving
 pub mod KeptRows
 pub mod EndedRows
-pub mod StreamRooms
-pub mod StreamEnd
 pub mod Finishing
 pub mod Preparing
 pub mod RowsEnding

@@ -1,6 +1,8 @@
 -- A pass whose rows are shared is prepared, once its requests were put and its passes given.
-use Rattle.std.proofs.Common.{◌≡◌, List, sym, ap, ◌∙◌, subst}
+use Rattle.std.proofs.Common.{◌≡◌, ℕ, ◌*◌, ◌≤◌, List, length, Option, sym, ap, ◌∙◌, subst}
 use Rattle.vt_outside.specs.declared.outside.File.{Ghosts as FileMeanings}
+use Rattle.vt_pages.specs.Shape.{Shape}
+use Rattle.vt_journal.specs.Changes.{newest}
 use Rattle.vt_grace.specs.declared.views.WriterView.{WriterView}
 use Rattle.vt_grace.specs.Values.{WordsValue}
 use Rattle.vt_streamer.specs.Views.{StreamerView, IsStreamerOf}
@@ -9,56 +11,58 @@ use Rattle.vt_queue.specs.declared.queue.QueuePass.{QueuePass}
 use Rattle.vt_queue.specs.declared.items.Loaded.{Loaded}
 use Rattle.vt_loaders.specs.declared.queued.Queues.{Queues}
 use Rattle.vt_machine.specs.declared.crew.Crew.{Crew}
+use Rattle.vt_machine.specs.Machines.{told_by}
+use Rattle.vt_machine.specs.Outcomes.{IsBatchFor}
+use Rattle.vt_noted.specs.Stored.{AreStored}
 use Rattle.vt_streaming.specs.declared.report.StreamReport.{StreamReport}
 use Rattle.vt_word_workers.specs.GivenPasses.{HaveNewPasses, HasGiven}
+use Rattle.vt_word_workers.proofs.Rooms.{told_same}
+use Rattle.vt_stream_kit.specs.StreamKits.{StreamKitView, IsAskedStream, IsSameStream}
 use Rattle.vt_shared_rows.specs.declared.bag.RowBag.{RowBag}
 use Rattle.vt_steal.specs.declared.row_kit.RowKit.{RowKit}
-use Rattle.vt_steal.specs.StreamKits.{StreamKitView, IsAskedStream, IsSameStream}
 use Rattle.vt_steal.specs.RowKits.{samplers_of, IsSharedKit}
-use Rattle.vt_steal.specs.SharingMachines.{Agree, IsReadySharing}
+use Rattle.vt_steal.specs.SharingMachines.{IsFitStreamer, IsIdleSharing, IsReadySharing}
 
 module _ {F : Type 0} (g : FileMeanings F) where
-  -- the streamer that gave passes streams as before
-  given_asked : (words : WordsValue) (q : Queues) (v w : StreamerView) (answers : QueuePass Loaded) (report : StreamReport) (k : StreamKitView F)
-      (batch : List Planned) → w ≡ record v { writer = w.writer } → HasGiven v.writer w.writer → IsStreamerOf words w
-      → IsAskedStream g words q (record { streamer = v; answers = answers; report = report }) k batch
-      → IsAskedStream g words q (record { streamer = w; answers = answers; report = report }) k batch
-  given_asked words q v w answers report k batch same given of h =
-      let gave : StreamerView = record v { writer = record v.writer { floors = w.writer.floors; looks = w.writer.looks; out = w.writer.out } } in
-      let gave_is : w ≡ gave = same ∙ ap (λ (x : WriterView). record v { writer = x }) given.rest in
-      subst (λ (x : StreamerView). IsAskedStream g words q (record { streamer = x; answers = answers; report = report }) k batch) (sym gave_is) (record {
-        fit = record {
-          of = subst (IsStreamerOf words) gave_is of;
-          shape = h.fit.shape;
-          samplers = h.fit.samplers;
-          stored = h.fit.stored;
-          kit = h.fit.kit;
-        };
-        lawful = h.lawful;
-        few = h.few;
-        room = record { spare = h.room.spare; report = h.room.report; no_events = h.room.no_events };
-        reads = h.reads;
-        queued = h.queued;
-      })
-
+  -- the streamer got room and gave passes, and streams as before
   pub ready_once : (words : WordsValue) (q : Queues) (bag : RowBag) (u v w : StreamerView) (answers : QueuePass Loaded) (report : StreamReport)
-      (k l m : StreamKitView F) (r s t : RowKit) (batch : List Planned)
-      → IsAskedStream g words q (record { streamer = v; answers = answers; report = report }) m batch → IsSameStream g k l
-      → m ≡ record l { round = m.round }
+      (k l m : StreamKitView F) (r s t : RowKit) (batch : List Planned) → IsIdleSharing g words u k r
+      → IsBatchFor u.shape (length u.owners) (newest u.writer.journal) batch → v ≡ record u { spare = v.spare } → 2 * length batch ≤ v.spare
+      → IsAskedStream g q answers report m batch → IsSameStream g k l → m ≡ record l { round = m.round }
       → s ≡ record r { tasks = s.tasks; drawn = s.drawn; lines = s.lines; rows = s.rows } → t ≡ record s { tasks = t.tasks }
       → IsSharedKit bag t (samplers_of t.tasks.elements) → IsStreamerOf words w → w ≡ record v { writer = w.writer } → HasGiven v.writer w.writer
-      → HaveNewPasses words w.writer t.tasks.elements → Agree k r
+      → HaveNewPasses words w.writer t.tasks.elements
       → IsReadySharing g words q bag (record { streamer = w; answers = answers; report = report }) m t batch
-  ready_once words q bag u v w answers report k l m r s t batch asked same rest shared given shared_is of streamer passes_given passes agree = record {
-    streams = given_asked words q v w answers report m batch streamer passes_given of asked;
-    rows = shared_is;
-    passes = passes;
-    agree = record {
-      shape = ap (λ (x : RowKit). x.geometry) given ∙ ap (λ (x : RowKit). x.geometry) shared ∙ agree.shape ∙ sym same.shape
-          ∙ sym (ap (λ (x : StreamKitView F). x.shape) rest);
-      depth = ap (λ (x : RowKit). x.depth) given ∙ ap (λ (x : RowKit). x.depth) shared ∙ agree.depth ∙ sym same.depth
-          ∙ sym (ap (λ (x : StreamKitView F). x.depth) rest);
-      count = ap (λ (x : RowKit). x.count) given ∙ ap (λ (x : RowKit). x.count) shared ∙ agree.count ∙ ap (λ (c : Crew). c.samplers) (sym same.crew)
-          ∙ sym (ap (λ (x : StreamKitView F). x.crew.samplers) rest);
-    };
-  }
+  ready_once words q bag u v w answers report k l m r s t batch idle lawful roomy spare asked same rest shared given shared_is of streamer passes_given
+      passes =
+      let gave : StreamerView = record u {
+        spare = v.spare;
+        writer = record u.writer { floors = w.writer.floors; looks = w.writer.looks; out = w.writer.out };
+      } in
+      let gave_is : w ≡ gave = streamer ∙ ap (λ (x : WriterView). record v { writer = x }) passes_given.rest
+      ∙ ap (λ (x : StreamerView). record x { writer = record x.writer { floors = w.writer.floors; looks = w.writer.looks; out = w.writer.out } }) roomy in
+      let shape : m.shape ≡ k.shape = ap (λ (x : StreamKitView F). x.shape) rest ∙ same.shape in
+      let depth : m.depth ≡ k.depth = ap (λ (x : StreamKitView F). x.depth) rest ∙ same.depth in
+      let crew : m.crew ≡ k.crew = ap (λ (x : StreamKitView F). x.crew) rest ∙ same.crew in
+      let told : told_by g m.stores ≡ told_by g k.stores = ap (λ (x : StreamKitView F). told_by g x.stores) rest
+      ∙ told_same g k.stores l.stores same.stores in
+      let fit : IsFitStreamer g words w m = subst (λ (x : StreamerView). IsFitStreamer g words x m) (sym gave_is) (record {
+        of = subst (IsStreamerOf words) gave_is of;
+        shape = idle.fit.shape ∙ sym shape;
+        samplers = idle.fit.samplers ∙ ap (λ (c : Crew). c.samplers) (sym crew);
+        stored = subst (λ (z : Shape × ℕ × Option (List ℕ)). AreStored z.0 z.1 z.2 u.writer.journal u.writer.contents)
+            (λ i. (sym shape i, sym depth i, sym told i)) idle.fit.stored;
+      }) in
+      record {
+        fit = fit;
+        asked = asked;
+        lawful = subst (λ (x : StreamerView). IsBatchFor x.shape (length x.owners) (newest x.writer.journal) batch) (sym gave_is) lawful;
+        spare = subst (λ (x : StreamerView). 2 * length batch ≤ x.spare) (sym gave_is) spare;
+        rows = shared_is;
+        passes = passes;
+        agree = record {
+          shape = ap (λ (x : RowKit). x.geometry) given ∙ ap (λ (x : RowKit). x.geometry) shared ∙ idle.agree.shape ∙ sym shape;
+          depth = ap (λ (x : RowKit). x.depth) given ∙ ap (λ (x : RowKit). x.depth) shared ∙ idle.agree.depth ∙ sym depth;
+          count = ap (λ (x : RowKit). x.count) given ∙ ap (λ (x : RowKit). x.count) shared ∙ idle.agree.count ∙ ap (λ (c : Crew). c.samplers) (sym crew);
+        };
+      }

@@ -1,4 +1,3 @@
-pub mod StreamKits
 pub mod RowTasks
 pub mod RowKits
 pub mod RowEnds

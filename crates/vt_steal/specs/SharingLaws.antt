@@ -1,5 +1,5 @@
 -- What the workers of the machine whose samplers share rows did is a pass, once they are moved back.
-use Rattle.std.specs.Prelude.{◌≡◌, ℕ, ◌≤◌, Option, List, length, Result, IsOk, OnErr}
+use Rattle.std.specs.Prelude.{◌≡◌, ℕ, ◌≤◌, Option, List, length, reverse, Result, IsOk, OnErr}
 use Rattle.std.proofs.Common.{refl, subst, sym, ap, ◌∙◌, arith}
 use Rattle.std.proofs.lemmas.List.{length-reverse, length-map}
 use Rattle.vt_outside.specs.Lists.{ListView}
@@ -26,13 +26,13 @@ use Rattle.vt_word_workers.specs.RoundKits.{IsDealt}
 use Rattle.vt_word_workers.specs.GivenPasses.{HaveNewPasses}
 use Rattle.vt_pass.specs.WordLaws.{ends_after}
 use Rattle.vt_pass.specs.WordLaws as word_laws
+use Rattle.vt_stream_kit.specs.StreamKits.{StreamKitView, IsStreamKit, IsAskedStream, AreLoadersOut, StreamBegun, stream_before, MayEndStream}
 use Rattle.vt_shared_rows.specs.declared.bag.RowBag.{RowBag}
 use Rattle.vt_steal.specs.declared.row_kit.RowKit.{RowKit}
-use Rattle.vt_steal.specs.StreamKits.{StreamKitView, IsFitStream, IsAskedStream, AreLoadersOut, StreamBegun, stream_before, MayEndStream}
 use Rattle.vt_steal.specs.RowTasks.{RowTask, HasDrawnShared}
 use Rattle.vt_steal.specs.RowKits.{samplers_of, IsSharedKit}
 use Rattle.vt_steal.specs.RowEnds.{MayEndRows}
-use Rattle.vt_steal.specs.SharingMachines.{SharingView, sharing_of, sharing_setup, sharing_state, state_by, journal_by, drawn_by, IsReadySharing, IsReadyBy, IsIdleBy, AreOut, Begun, MayFinish, SharingEnds, SharingFinishes}
+use Rattle.vt_steal.specs.SharingMachines.{SharingView, sharing_of, sharing_setup, sharing_state, state_by, journal_by, drawn_by, IsFitStreamer, IsReadySharing, IsReadyBy, IsIdleBy, AreOut, Begun, MayFinish, SharingEnds, SharingFinishes}
 
 -- a pass that was run refused nothing
 pub none_refused : (r : Result PassReport NoMemory) → IsOk r → OnErr r ⊥
@@ -41,8 +41,8 @@ none_refused r ok = word_laws.none_refused r ok
 -- the loaders were moved out of a kit whose streamer is there
 module _ {F : Type 0} (g : FileMeanings F) (words : WordsValue) (q : Queues) (was b d : WordStreamer) (k l : StreamKitView F) (batch : List Planned)
     (a c : List (QueuedView F)) (out : AreLoadersOut g q k l was.answers b.answers a) (streamer_is : b ≡ record was { answers = b.answers })
-    (ready : IsAskedStream g words q was k batch) (number : length c ≡ length a) (did_load : AllDid (HasLoaded g q) a c)
-    (did_stream : HasFed words q batch b d) where
+    (fit : IsFitStreamer g words was.streamer k) (asked : IsAskedStream g q was.answers was.report k batch) (number : length c ≡ length a)
+    (did_load : AllDid (HasLoaded g q) a c) (did_stream : HasFed words q batch b d) where
   -- a loader was made of each store
   dealt : IsDealt g q k.round l.round was.answers b.answers k.stores a
   dealt = out.dealt
@@ -57,44 +57,42 @@ module _ {F : Type 0} (g : FileMeanings F) (words : WordsValue) (q : Queues) (wa
     told = told_by g k.stores;
   }
 
-  -- how streaming began
+  -- how the loaders' work began
   unfoldable pub stream_begun : StreamBegun F
-  stream_begun = record { round = round; streamer = b }
+  stream_begun = record { round = round; answers = b.answers }
 
   number_is : length a ≡ length k.stores
   number_is = sym (length-reverse (stores_of a) ∙ length-map a (λ (x : QueuedView F). x.loader.store)) ∙ ap length dealt.stores_are
 
   sizes : AreSized (tile_length k.shape k.depth) l.round.buffers.elements
-  sizes = subst (λ (x : ListView (ListView ℕ)). AreSized (tile_length k.shape k.depth) x.elements) (sym dealt.buffers) ready.fit.kit.buffers
+  sizes = subst (λ (x : ListView (ListView ℕ)). AreSized (tile_length k.shape k.depth) x.elements) (sym dealt.buffers) asked.kit.buffers
+
+  -- the kit is as it was but for its requests
+  same_kit : IsStreamKit g (record k { stores = reverse (stores_of a); round = l.round })
+  same_kit = subst (λ (x : List (StoreView F)). IsStreamKit g (record k { stores = x; round = l.round })) (sym dealt.stores_are) (record {
+    crew = asked.kit.crew;
+    depth = asked.kit.depth;
+    stores = asked.kit.stores;
+    told = asked.kit.told;
+    buffers = sizes;
+  })
 
   -- they may be taken back
-  pub stream_back : MayEndStream g words q l batch c d stream_begun
+  pub stream_back : MayEndStream g q l batch c d.answers d.report stream_begun
   unfolding stream_begun round
-  stream_back = subst (λ (x : StreamKitView F). MayEndStream g words q x batch c d stream_begun) (sym out.rest) (record {
-    fit = subst (λ (x : List (StoreView F)). IsFitStream g words b.streamer (record k { stores = x; round = l.round })) (sym dealt.stores_are)
-        (subst (λ (x : WordStreamer). IsFitStream g words x.streamer (record k { round = l.round })) (sym streamer_is) (record {
-          of = ready.fit.of;
-          shape = ready.fit.shape;
-          samplers = ready.fit.samplers;
-          stored = ready.fit.stored;
-          kit = record {
-            crew = ready.fit.kit.crew;
-            depth = ready.fit.kit.depth;
-            stores = ready.fit.kit.stores;
-            told = ready.fit.kit.told;
-            buffers = sizes;
-          };
-        }));
-    no_events = ap (λ (x : WordStreamer). x.report.events.elements) streamer_is ∙ ready.room.no_events;
-    fed = did_stream;
+  stream_back = subst (λ (x : StreamKitView F). MayEndStream g q x batch c d.answers d.report stream_begun) (sym out.rest) (record {
+    kit = same_kit;
+    took = did_stream.took;
+    all = did_stream.all;
+    losses = did_stream.losses;
     ended = record {
-      asked = ready.queued.put;
-      answers_all = ap (λ w. w.shares) ready.queued.no_answers;
-      no_results = ap (λ w. w.put) ready.queued.no_answers;
-      no_answers = ap (λ w. w.took) ready.queued.no_answers;
+      asked = asked.queued.put;
+      answers_all = ap (λ w. w.shares) asked.queued.no_answers;
+      no_results = ap (λ w. w.put) asked.queued.no_answers;
+      no_answers = ap (λ w. w.took) asked.queued.no_answers;
       split = dealt.split;
-      depth_is = ready.fit.kit.depth;
-      loaders = dealt.of k.shape k.depth (told_by g k.stores) (λ j x inside. let are = ready.fit.kit.stores in
+      depth_is = asked.kit.depth;
+      loaders = dealt.of k.shape k.depth (told_by g k.stores) (λ j x inside. let are = asked.kit.stores in
           (are.shapes j x inside, are.depths j x inside, are.told j x inside));
       number = number;
       loaded = did_load;
@@ -104,11 +102,22 @@ module _ {F : Type 0} (g : FileMeanings F) (words : WordsValue) (q : Queues) (wa
     no_stores = refl;
     passes = record { requests = dealt.passes.requests; results = did_stream.answers };
     loaders_of = λ j x inside. (did_load j x (omega (arith, number, inside))).passes;
-    some = (let x = ready.fit.kit.crew.some_loader in let y = ready.fit.kit.stores.count in let z = number_is in omega (arith, x, y, z, number));
+    some = (let x = asked.kit.crew.some_loader in let y = asked.kit.stores.count in let z = number_is in omega (arith, x, y, z, number));
     stores_room = (let x = dealt.room in omega (arith, x, number));
-    buffers = subst (λ (x : ListView (ListView ℕ)). length batch ≤ x.spare) (sym dealt.buffers) ready.queued.buffers;
-    sizes = sizes;
+    buffers = subst (λ (x : ListView (ListView ℕ)). length batch ≤ x.spare) (sym dealt.buffers) asked.queued.buffers;
   })
+
+  -- the streamer fits the kit before the loaders were made of its stores
+  pub fit_back : IsFitStreamer g words b.streamer (stream_before l stream_begun)
+  unfolding stream_begun round
+  fit_back = subst (λ (x : StreamKitView F). IsFitStreamer g words b.streamer (record x { stores = reverse (stores_of a) })) (sym out.rest)
+      (subst (λ (x : WordStreamer × List (StoreView F)). IsFitStreamer g words x.0.streamer (record k { stores = x.1; round = l.round }))
+      (λ i. (sym streamer_is i, sym dealt.stores_are i)) (record {
+        of = fit.of;
+        shape = fit.shape;
+        samplers = fit.samplers;
+        stored = fit.stored;
+      }))
 
 -- the samplers were moved out of a kit
 module _ {F P : Type 0} (g : FileMeanings F) (filter : FilterMeanings P) (words : WordsValue) (q : Queues) (bag : RowBag) (was b d : WordStreamer)
@@ -139,7 +148,7 @@ module _ {F P : Type 0} (g : FileMeanings F) (filter : FilterMeanings P) (words 
         ready.passes;
     number = number_f;
     drawn = did_draw;
-    samplers = ready.streams.fit.samplers ∙ sym ready.agree.count;
+    samplers = ready.fit.samplers ∙ sym ready.agree.count;
     of = did_stream.streamer;
   })
 
@@ -164,18 +173,23 @@ module _ {F P : Type 0} (g : FileMeanings F) (filter : FilterMeanings P) (job : 
   -- how the work began
   z : Begun F
   z = record {
-    stream = stream_begun g m.words m.queues detached.was b d m.streams n.streams job.batch a c detached.loaders_out detached.streamer_is was_ready.streams
-        number has_loaded has_fed;
+    stream = stream_begun g m.words m.queues detached.was b d m.streams n.streams job.batch a c detached.loaders_out detached.streamer_is was_ready.fit
+        was_ready.asked number has_loaded has_fed;
+    streamer = b;
     tasks = e;
   }
 
   -- it leaves what may be moved back
   may_finish : MayFinish g filter n.words n.queues n.bag n.streams n.rows job c f d z
-  unfolding z stream_begun
+  unfolding z
   may_finish = subst (λ (x : WordsValue × Queues × RowBag). MayFinish g filter x.0 x.1 x.2 n.streams n.rows job c f d z)
       (λ i. (sym detached.words i, sym detached.queues i, sym detached.bag i)) (record {
         stream = stream_back g m.words m.queues detached.was b d m.streams n.streams job.batch a c detached.loaders_out detached.streamer_is
-            was_ready.streams number has_loaded has_fed;
+            was_ready.fit was_ready.asked number has_loaded has_fed;
+        fit = fit_back g m.words m.queues detached.was b d m.streams n.streams job.batch a c detached.loaders_out detached.streamer_is
+            was_ready.fit was_ready.asked number has_loaded has_fed;
+        no_events = ap (λ (x : WordStreamer). x.report.events.elements) detached.streamer_is ∙ was_ready.asked.no_events;
+        fed = has_fed;
         rows = rows_back g filter m.words m.queues m.bag detached.was b d m.streams m.rows n.rows job e f detached.streamer_is was_ready job_is
             detached.tasks_are detached.rows number_f has_drawn has_fed;
         agree = record {
@@ -212,7 +226,7 @@ module _ {F P : Type 0} (g : FileMeanings F) (filter : FilterMeanings P) (job : 
   -- and then the machine has run the pass
   pub has_ended : (p : SharingView F) (r : Result PassReport NoMemory) → SharingFinishes g filter job r n c f d p
       → SharingEnds g filter job r (sharing_state g m) p
-  unfolding z stream_begun
+  unfolding z
   has_ended p r done = ends_after (sharing_of filter) (drawn_by filter p.rows p.streamer) job (sharing_state g m)
       (state_by g n.words b.streamer.writer.journal (stream_before n.streams z.stream) n.rows) (sharing_state g p) before
       (IsIdleBy g p.words p.streamer p.streams p.rows) r (done z may_finish)

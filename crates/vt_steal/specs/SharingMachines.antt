@@ -1,12 +1,13 @@
 -- The machine whose samplers share the rows of each picture.
-use Rattle.std.specs.Prelude.{◌≡◌, ℕ, false, Option, None, Some, List, [], Result}
+use Rattle.std.specs.Prelude.{◌≡◌, ℕ, ◌*◌, ◌≤◌, false, Option, None, Some, List, [], length, Result}
 use Rattle.vt_outside.specs.declared.outside.File.{Ghosts as FileMeanings}
 use Rattle.vt_outside.specs.declared.answers.NoMemory.{NoMemory}
 use Rattle.vt_camera.specs.Paths.{PathView}
 use Rattle.vt_filter.specs.declared.filters.Filter.{Ghosts as FilterMeanings}
 use Rattle.vt_journal.specs.declared.changes.Change.{Change}
+use Rattle.vt_journal.specs.Changes.{newest}
 use Rattle.vt_grace.specs.Values.{WordsValue}
-use Rattle.vt_streamer.specs.Views.{StreamerView}
+use Rattle.vt_streamer.specs.Views.{StreamerView, IsStreamerOf}
 use Rattle.vt_plan.specs.declared.batches.Planned.{Planned}
 use Rattle.vt_loaders.specs.declared.queued.Queues.{Queues}
 use Rattle.vt_loaders.specs.QueuedLoaders.{QueuedView}
@@ -14,18 +15,21 @@ use Rattle.vt_workers.specs.Jobs.{Job}
 use Rattle.vt_machine.specs.declared.crew.PassReport.{PassReport}
 use Rattle.vt_machine.specs.Drawings.{Drawing, drawing_of}
 use Rattle.vt_machine.specs.Machines.{Setup, MachineState, files_of, told_by}
+use Rattle.vt_machine.specs.Outcomes.{IsBatchFor}
 use Rattle.vt_machine.specs.Passes.{Ends}
+use Rattle.vt_noted.specs.Stored.{AreStored}
 use Rattle.vt_word_workers.specs.declared.workers.WordStreamer.{WordStreamer}
+use Rattle.vt_word_workers.specs.WordTasks.{HasFed}
 use Rattle.vt_word_workers.specs.GivenPasses.{HaveNewPasses}
 use Rattle.vt_word_workers.specs.Kits.{AreAllIn}
+use Rattle.vt_stream_kit.specs.StreamKits.{StreamKitView, IsStreamKit, IsAskedStream, AreLoadersOut, StreamBegun, stream_before, MayEndStream, HasEndedStream}
 use Rattle.vt_shared_rows.specs.declared.bag.RowBag.{RowBag}
 use Rattle.vt_steal.specs.declared.row_kit.RowKit.{RowKit}
-use Rattle.vt_steal.specs.StreamKits.{StreamKitView, IsFitStream, IsAskedStream, AreLoadersOut, StreamBegun, stream_before, MayEndStream, HasEndedStream}
 use Rattle.vt_steal.specs.RowTasks.{RowTask}
 use Rattle.vt_steal.specs.RowKits.{samplers_of, IsIdleRows, IsSharedKit}
 use Rattle.vt_steal.specs.RowEnds.{bytes_of, WasShared, MayEndRows, HasEndedRows}
 
--- a machine: its words, its queues, its bag of rows, its streamer, which is out while a pass is run, and what streaming and drawing use
+-- a machine: its words, its queues, its bag of rows, its streamer, which is out while a pass is run, and what loading and drawing use
 pub record SharingView (F : Type 0) : Type 0 where
   pub words : WordsValue
   pub queues : Queues
@@ -75,17 +79,28 @@ pub record Agree {F : Type 0} (k : StreamKitView F) (r : RowKit) : Type 0 where
   pub depth : r.depth ≡ k.depth
   pub count : r.count ≡ k.crew.samplers
 
+-- the streamer of words for a kit's texture and its crew's samplers, by which each page was mapped with the words of its tile
+pub record IsFitStreamer {F : Type 0} (g : FileMeanings F) (words : WordsValue) (v : StreamerView) (k : StreamKitView F) : Type 0 where
+  pub of : IsStreamerOf words v
+  pub shape : v.shape ≡ k.shape
+  pub samplers : words.sizes.samplers ≡ k.crew.samplers
+  pub stored : AreStored k.shape k.depth (told_by g k.stores) v.writer.journal v.writer.contents
+
 -- no sampler has a pass, and none is prepared
 pub record IsIdleSharing {F : Type 0} (g : FileMeanings F) (words : WordsValue) (v : StreamerView) (k : StreamKitView F) (r : RowKit) : Type 0 where
-  pub fit : IsFitStream g words v k
+  pub fit : IsFitStreamer g words v k
+  pub kit : IsStreamKit g k
   pub all_in : AreAllIn v
   pub rows : IsIdleRows r
   pub agree : Agree k r
 
--- a pass is prepared for a batch
+-- a pass is prepared for a batch, which is lawful for the newest version
 pub record IsReadySharing {F : Type 0} (g : FileMeanings F) (words : WordsValue) (q : Queues) (bag : RowBag) (t : WordStreamer)
     (k : StreamKitView F) (r : RowKit) (batch : List Planned) : Type 0 where
-  pub streams : IsAskedStream g words q t k batch
+  pub fit : IsFitStreamer g words t.streamer k
+  pub asked : IsAskedStream g q t.answers t.report k batch
+  pub lawful : IsBatchFor t.streamer.shape (length t.streamer.owners) (newest t.streamer.writer.journal) batch
+  pub spare : 2 * length batch ≤ t.streamer.spare
   pub rows : IsSharedKit bag r (samplers_of r.tasks.elements)
   pub passes : HaveNewPasses words t.streamer.writer r.tasks.elements
   pub agree : Agree k r
@@ -118,24 +133,30 @@ pub record AreOut {F : Type 0} (g : FileMeanings F) (m n : SharingView F) (loade
   pub tasks_are : tasks ≡ m.rows.tasks.elements
   pub rows : n.rows ≡ record m.rows { tasks = n.rows.tasks }
 
--- how the work of a pass began: its streaming, and the samplers
+-- how the work of a pass began: the round of the loaders, the streamer and the samplers
 pub record Begun (F : Type 0) : Type 0 where
   pub stream : StreamBegun F
+  pub streamer : WordStreamer
   pub tasks : List RowTask
 
 -- workers may be moved back into a machine
 pub record MayFinish {F P : Type 0} (g : FileMeanings F) (filter : FilterMeanings P) (words : WordsValue) (q : Queues) (bag : RowBag)
     (k : StreamKitView F) (r : RowKit) (job : Job) (loaders : List (QueuedView F)) (tasks : List RowTask) (t : WordStreamer) (b : Begun F)
     : Type 0 where
-  pub stream : MayEndStream g words q k job.batch loaders t b.stream
-  pub rows : MayEndRows filter words bag r job.scene job.picture b.stream.streamer.streamer.writer t.streamer b.tasks tasks
+  pub stream : MayEndStream g q k job.batch loaders t.answers t.report b.stream
+  pub fit : IsFitStreamer g words b.streamer.streamer (stream_before k b.stream)
+  pub no_events : b.streamer.report.events.elements ≡ []
+  pub fed : HasFed words q job.batch b.streamer t
+  pub rows : MayEndRows filter words bag r job.scene job.picture b.streamer.streamer.writer t.streamer b.tasks tasks
   pub agree : Agree k r
 
--- the loaders and the samplers were taken back, by the streamer before and after
+-- the loaders and the samplers were taken back, by the streamer before and after, and the events and losses are those that it told
 pub record HasFinished {F P : Type 0} (g : FileMeanings F) (filter : FilterMeanings P) (words : WordsValue) (k l : StreamKitView F) (r s : RowKit)
-    (job : Job) (report : PassReport) (tasks : List RowTask) (t u : StreamerView) (b : Begun F) : Type 0 where
-  pub stream : HasEndedStream g k l job.batch report.losses.elements report.events.elements b.stream t.writer
-  pub rows : HasEndedRows filter words r s job.scene job.picture b.stream.streamer.streamer.writer t u tasks report.rows.elements
+    (job : Job) (report : PassReport) (tasks : List RowTask) (t : WordStreamer) (u : StreamerView) (b : Begun F) : Type 0 where
+  pub stream : HasEndedStream g k l job.batch t.report b.stream
+  pub events : report.events.elements ≡ t.report.events.elements
+  pub losses : report.losses.elements ≡ t.report.losses.elements
+  pub rows : HasEndedRows filter words r s job.scene job.picture b.streamer.streamer.writer t.streamer u tasks report.rows.elements
 
 -- how a pass of a machine ends
 abbrev pub SharingEnds : {F P : Type 0} → FileMeanings F → FilterMeanings P → Job → Result PassReport NoMemory → MachineState → SharingView F → Type 0
@@ -147,4 +168,4 @@ abbrev pub SharingFinishes : {F P : Type 0} → FileMeanings F → FilterMeaning
     → List RowTask → WordStreamer → SharingView F → Type 0
 SharingFinishes g filter job result n loaders tasks t p = (b : Begun _)
     → MayFinish g filter n.words n.queues n.bag n.streams n.rows job loaders tasks t b
-    → SharingEnds g filter job result (state_by g n.words b.stream.streamer.streamer.writer.journal (stream_before n.streams b.stream) n.rows) p
+    → SharingEnds g filter job result (state_by g n.words b.streamer.streamer.writer.journal (stream_before n.streams b.stream) n.rows) p

@@ -8,10 +8,9 @@ mod passes;
 mod row_kit;
 mod shared;
 mod sharing;
-mod streams;
 
 pub use machine::{SharingMachine, StealMachine};
 pub use row_kit::{RowKit, RowTask};
 pub use shared::SharingShared;
-pub use streams::StreamKit;
 pub use vt_shared_rows::{BagPass, RowBag, RowJob, RowSampler};
+pub use vt_stream_kit::StreamKit;

@@ -13,7 +13,6 @@ ghost use Rattle.vt_steal.specs.SharingMachines.{SharingView, sharing_of, sharin
 use crate::passes::{end_pass, prepare_pass};
 use crate::row_kit::{RowKit, RowTask};
 use crate::shared::SharingShared;
-use crate::streams::StreamKit;
 use std::alloc::Global;
 use std::marker::Model;
 use std::mem;
@@ -32,6 +31,7 @@ use vt_pages::Geometry;
 use vt_pass::place_page;
 use vt_requests::answered;
 use vt_shared_rows::RowBag;
+use vt_stream_kit::StreamKit;
 use vt_tiles::Stores;
 use vt_word_workers::{WordShared, WordStreamer, new_parts};
 

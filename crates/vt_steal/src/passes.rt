@@ -5,12 +5,11 @@ ghost use Rattle.vt_journal.specs.Changes.{newest};
 ghost use Rattle.vt_machine.specs.Crews.{last_start};
 ghost use Rattle.vt_machine.specs.Outcomes.{IsBatchFor};
 ghost use Rattle.vt_workers.specs.Jobs.{job_of};
-ghost use Rattle.vt_steal.specs.StreamKits.{IsSameStream};
+ghost use Rattle.vt_stream_kit.specs.StreamKits.{IsSameStream};
 ghost use Rattle.vt_steal.specs.SharingMachines.{IsIdleSharing, IsReadySharing, Begun, MayFinish, HasFinished};
 
 use crate::row_kit::{RowKit, RowTask};
 use crate::shared::SharingShared;
-use crate::streams::StreamKit;
 use std::sync::Wait;
 use std::thread::Threads;
 use vt_draw::Shot;
@@ -19,6 +18,7 @@ use vt_filter::Filter;
 use vt_loaders::QueuedLoader;
 use vt_machine::PassReport;
 use vt_outside::{File, Items, NoMemory};
+use vt_stream_kit::StreamKit;
 use vt_word_workers::WordStreamer;
 
 /// Makes all room for a pass that streams a batch, puts its requests into new queues and the rows into a new bag, and gives the samplers their
@@ -43,13 +43,9 @@ pub(crate) fn prepare_pass<Rt: Threads + Wait, F: File, P: Filter>(
     ensures streams { IsSameStream F.File streams.old streams.new }
     ensures sides { (rows.new.width ≡ rows.old.width) × (rows.new.height ≡ rows.old.height) }
 {
-    streams.prepare(
-        &mut shared.queues,
-        &mut own.streamer,
-        &mut own.answers,
-        &mut own.report,
-        batch,
-    )?;
+    let entries = batch.len() as u64;
+    own.streamer.reserve(2 * entries)?;
+    streams.prepare(&mut shared.queues, &mut own.answers, &mut own.report, batch)?;
     rows.share(rt, &mut shared.bag)?;
     streams.ask(rt, &shared.queues, batch);
     rows.give(&shared.words, &mut own.streamer);
@@ -74,7 +70,7 @@ pub(crate) fn end_pass<Rt: Threads + Wait, F: File, P: Filter>(
     ensures { (b : Begun F) → MayFinish F.File P.Filter shared.now.words shared.now.queues shared.now.bag streams.old rows.old
         (job_of shot.now batch.now.elements) loaders.elements samplers.elements own.old b
         → HasFinished F.File P.Filter shared.now.words streams.old streams.new rows.old rows.new (job_of shot.now batch.now.elements)
-        result samplers.elements own.old.streamer own.new.streamer b }
+        result samplers.elements own.old own.new.streamer b }
 {
     let (events, losses) = streams.end_round(
         &shared.queues,
