@@ -160,6 +160,8 @@ def main():
     parser.add_argument("--chain", action="store_true")
     parser.add_argument("--flip", type=int)
     options, words = parser.parse_known_args()
+    if len([word for word in words if not word.startswith("-")]) < 4:
+        parser.error("wants a store, a path, a prefix and a journal")
     found, settings = walk_words(words)
     evidence = Evidence(found.names, settings, any(word.startswith("--frames") for word in words), options.chain)
     said = evidence.verdicts()

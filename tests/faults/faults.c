@@ -85,13 +85,14 @@ extern void __libc_free(void *);
 
 // What the C library itself asks for, as the place of a thread, it wants refused with this errno.
 static int refused(const void *caller) {
+    int is_refused = hit("alloc");
+    // A thread whose own memory is refused is never made, so what was refused is left out: it would stand for no thread.
     if ((uintptr_t)caller >= text_begin && (uintptr_t)caller < text_end) {
-        is_counted = __atomic_load_n(&running, __ATOMIC_SEQ_CST) > 0;
+        is_counted = !is_refused && __atomic_load_n(&running, __ATOMIC_SEQ_CST) > 0;
         __atomic_add_fetch(&grown, is_counted, __ATOMIC_SEQ_CST);
     }
-    if (!hit("alloc")) return 0;
-    errno = ENOMEM;
-    return 1;
+    if (is_refused) errno = ENOMEM;
+    return is_refused;
 }
 
 #define REFUSED refused(__builtin_return_address(0))
