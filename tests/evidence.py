@@ -155,14 +155,14 @@ def row_line(row, pixels):
 
 
 def main():
-    parser = argparse.ArgumentParser(allow_abbrev=False, usage=__doc__.split("\n")[2])
+    parser = argparse.ArgumentParser(allow_abbrev=False, usage=__doc__.split("\n")[2].removeprefix("usage: "))
     parser.add_argument("--quiet", action="store_true")
     parser.add_argument("--chain", action="store_true")
     parser.add_argument("--flip", type=int)
     options, words = parser.parse_known_args()
-    if len([word for word in words if not word.startswith("-")]) < 4:
-        parser.error("wants a store, a path, a prefix and a journal")
     found, settings = walk_words(words)
+    if len(found.names) != 4:
+        parser.error("wants a store, a path, a prefix and a journal")
     evidence = Evidence(found.names, settings, any(word.startswith("--frames") for word in words), options.chain)
     said = evidence.verdicts()
     is_sound = set(said.values()) == {"agrees"}
