@@ -201,12 +201,12 @@ def show(log, least=0.025):
         if crate not in small:
             say_row(crate, row)
     if small:
-        say_row(f"{len(small)} others", sum_of(rows[crate] for crate in small))
+        say_row(f"{len(small)} others", sum_of([rows[crate] for crate in small]))
     say_row("all", whole)
     print()
     print(f"The gate took {seconds / 60:.1f} minutes and {spent:.0f} processor seconds, those of what is run and linked among them.")
     together, chain = longest_chain(checks, below("crates.txt"))
-    print(f"The longest chain takes {together:.0f} seconds: " + ", ".join(f"{crate} {took:.0f}" for crate, took in chain) + ".")
+    print(f"The longest chain takes {together:.0f} seconds by the clock: " + ", ".join(f"{crate} {took:.0f}" for crate, took in chain) + ".")
 
 
 def main(words):
