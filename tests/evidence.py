@@ -1,16 +1,18 @@
 #!/usr/bin/env python3
 """Shows what each picture of a finished walk was drawn from, and holds its journal, its pictures and its store against each other.
 
-usage: evidence.py STORE PATH PREFIX JOURNAL [--filter FILTER] [OPTIONS] [--chain] [--quiet] [--flip N]
+usage: evidence.py STORE PATH PREFIX JOURNAL [--filter FILTER] [OPTIONS] [--chain] [--short] [--quiet] [--flip N]
 
-For each picture: its last pass, the versions at the beginning and the end of it, and for each run of rows that are equal in this the sampler, the version, how
-many pixels show which mip level, and how many show a coarser one than they want. By blends a pixel counts for the coarsest of its four texels.
+For each picture: its last pass, the versions at the beginning and the end of it, how many pixels show which mip level, and how many show a coarser one than
+they want; then for each run of rows that are equal in this the sampler, the version, and the same of their pixels. By blends a pixel counts for the coarsest
+of its four texels. --short leaves out the rows, --quiet the pictures.
 Then for each file `agrees`, or its first place that contradicts the others. Where a sample of a picture is not what the journal's replay gives, this is told of
 the picture, of the line of its row and of the bytes of the store that it is drawn from, with how many of the bytes drawn by them are otherwise: one byte alone
-points to the picture, all that were drawn from one byte of the store to the store.
+points to the picture, all that were drawn from one byte of the store to the store; what one byte of a picture alone was drawn from cannot be told from it. A
+byte of the store that no picture shows is not found, nor a version that shows the same.
 
 OPTIONS are those of `vtex walk` but --journal. Where --frames is among them, the journal has to be one that a walk with these options writes. With --chain the
-store has to be what `vtex tile` makes of the texture that its level 0 shows. --quiet leaves out the pictures. --flip N flips the lowest bit of N random bytes (0:
+store has to be what `vtex tile` makes of the texture that its level 0 shows. --flip N flips the lowest bit of N random bytes (0:
 of each byte) of journal, pictures and store, one at a time, and says how many of the flips are found, and where those lie that are not: by flips.py. The status
 is 1 where anything contradicts.
 """
@@ -56,7 +58,8 @@ def replayed(path, store, journal, settings, is_walk, is_chain):
         kind = "journal"
         journal = Journal(store.geometry, path.height, text, len(path.cameras))
         if is_walk and not (follower := followed(Walk(store.geometry, path, settings), text)).is_over():
-            raise Flaw("line %d may not come next" % (follower.lines.taken + 1))
+            line = follower.lines.taken + 1
+            raise Flaw("line %d may not come next" % line if line <= text.count(b"\n") else "ends before the walk is over")
     except (Flaw, Wrong) as flaw:
         raise Contradiction(kind, str(flaw).removeprefix("journal: "))
     return path, store, journal, [picture_of(store, path, pass_rows(store, path, journal, *last)) for last in journal.last_passes()]
@@ -79,7 +82,7 @@ class Evidence:
 
     def __init__(self, names, settings, is_walk, is_chain):
         self.kind, self.names = (settings, is_walk, is_chain), dict(zip(("store", "path", "prefix", "journal"), names))
-        self.store, self.path, self.journal = (contents(self.names[kind]) or b"" for kind in ("store", "path", "journal"))
+        self.store, self.path, self.journal = (contents(self.names[kind]) for kind in ("store", "path", "journal"))
         self.pictures = []
         while (picture := contents(self.picture_name(len(self.pictures)))) is not None:
             self.pictures.append(picture)
@@ -88,6 +91,9 @@ class Evidence:
         return "%s%04d.ppm" % (self.names["prefix"], number)
 
     def replay(self):
+        for kind in ("path", "store", "journal"):
+            if getattr(self, kind) is None:
+                raise Contradiction(kind, "missing")
         return replayed(self.path, self.store, self.journal, *self.kind)
 
     def agrees(self):
@@ -102,13 +108,17 @@ class Evidence:
         for last, table in journal.last_passes():
             yield last, pass_rows(store, path, journal, last, table, texels)
 
-    def show(self):
-        passes = self.replay()[2].passes
+    def show(self, is_short):
+        path, _, journal, due = self.replay()
         for k, (last, rows) in enumerate(self.rows()):
-            print("%s: pass %d, versions %d to %d" % (self.picture_name(k), passes.index(last) + 1, last.start, last.last))
-            for told, group in groupby(enumerate(rows), lambda row: row_line(last.rows[row[0]], row[1])):
+            rows = list(rows)
+            began = "%s: pass %d, versions %d to %d" % (self.picture_name(k), journal.passes.index(last) + 1, last.start, last.last)
+            print("%s, %s" % (began, levels_line([pixel for pixels in rows for pixel in pixels])))
+            for told, group in groupby(enumerate([] if is_short else rows), lambda row: row_line(last.rows[row[0]], row[1])):
                 numbers = [y for y, _ in group]
                 print("  %s: %s" % ("row %d" % numbers[0] if len(numbers) == 1 else "rows %d to %d" % (numbers[0], numbers[-1]), told))
+        if len(due) < len(path.cameras):
+            print("%d of the %d pictures of the path are drawn" % (len(due), len(path.cameras)))
 
     def verdicts(self):
         """For each file what is said of it."""
@@ -149,16 +159,21 @@ def difference(want, have):
 
 
 def row_line(row, pixels):
+    return "sampler %d, version %d, %s" % (*row, levels_line(pixels))
+
+
+def levels_line(pixels):
     levels, coarser = Counter(max(pixel)[0] for pixel in pixels), sum(any(up for _, up, _ in pixel) for pixel in pixels)
     shown = ", ".join("%d of level %d" % (count, level) for level, count in sorted(levels.items()))
-    return "sampler %d, version %d, pixels %s, coarser than wanted %d" % (*row, shown, coarser)
+    return "pixels %s, coarser than wanted %d" % (shown, coarser)
 
 
 def main():
     parser = argparse.ArgumentParser(allow_abbrev=False, usage=__doc__.split("\n")[2].removeprefix("usage: "))
-    parser.add_argument("--quiet", action="store_true")
-    parser.add_argument("--chain", action="store_true")
-    parser.add_argument("--flip", type=int)
+    parser.add_argument("--quiet", action="store_true", help="say nothing of the pictures but whether they agree")
+    parser.add_argument("--short", action="store_true", help="say nothing of rows")
+    parser.add_argument("--chain", action="store_true", help="hold the store against its own level 0")
+    parser.add_argument("--flip", type=int, metavar="N", help="flip N bytes (0: each), and say which flips are found")
     options, words = parser.parse_known_args()
     found, settings = walk_words(words)
     if len(found.names) != 4:
@@ -167,7 +182,7 @@ def main():
     said = evidence.verdicts()
     is_sound = set(said.values()) == {"agrees"}
     if not options.quiet and "not judged" not in said.values():
-        evidence.show()
+        evidence.show(options.short)
     print("\n".join("%s: %s" % both for both in said.items()))
     if options.flip is not None and is_sound:
         flip(evidence, options.flip)
