@@ -17,27 +17,21 @@ its threads are asked for, begin and end. All figures are medians, in millisecon
 It wants gcc.
 """
 import argparse
-import glob
 import os
 import shutil
 import statistics
 import subprocess
 import tempfile
 
-from run import CREWS, HERE, SIDES, SIZES, WRITTEN, Inputs, measured, walk_words
+from run import CREWS, HERE, SIDES, SIZES, Inputs, crew_words, measured, remove_written
 
 # What the functions that draw are called.
 DRAWING = "draw_pixels", "sampler"
 
 
-def clean():
-    for name in [name for pattern in WRITTEN for name in glob.glob(pattern)]:
-        os.remove(name)
-
-
 def timeline(program, words):
     """Start, threads, mean wait of a thread, time alone, time with a crew, processor time of the crew and of the first thread; milliseconds."""
-    clean()
+    remove_written()
     subprocess.run([program, *words], check=True, stdout=subprocess.DEVNULL, env={**os.environ, "LD_PRELOAD": "./threads.so", "THREADS": "threads"})
     with open("threads") as file:
         *notes, (end, first) = [tuple(map(float, line.split())) for line in file]
@@ -55,7 +49,7 @@ def drawing(program, words):
     """The processor milliseconds of the drawing function."""
     if not shutil.which("perf"):
         return float("nan")
-    clean()
+    remove_written()
     record = ["perf", "record", "-q", "-F", "4000", "-e", "cpu-clock:u", "-o", "perf.data", program, *words]
     subprocess.run(record, check=True, stdout=subprocess.DEVNULL, stderr=subprocess.DEVNULL)
     report = ["perf", "report", "-i", "perf.data", "--stdio", "--no-children", "-F", "sample,symbol"]
@@ -93,9 +87,7 @@ def main():
                     continue
                 for kind in ("live", "settled"):
                     for samplers, loaders in CREWS:
-                        options = ("--frames", frames[at], "--samplers", samplers, "--loaders", loaders)
-                        words = walk_words(inputs, *options, store=inputs.store(side), path=inputs.path(width, height, pictures))
-                        words = [word for word in words if kind == "settled" or word != "--settled"]
+                        words = crew_words(inputs, kind, side, frames[at], (width, height, pictures), samplers, loaders)
                         middles, _ = measured([(program, words) for program in programs], asked.rounds, 0)
                         title = "%s, %d of %dx%d, %s, %d/%d" % (format(side, ","), pictures, width, height, kind, samplers, loaders)
                         for name, program, middle in zip(("vtex", "plain Rust"), programs, middles):

@@ -180,11 +180,15 @@ def replay_words(inputs, side, pictures):
     return ["replay", store, path, inputs.journal(store, path), "f"]
 
 
+def remove_written():
+    for name in sum(map(glob.glob, WRITTEN), []):
+        os.remove(name)
+
+
 def run(program, words, is_compared=True):
     """The seconds, the processors' seconds, the mebibytes and a digest of the pictures or the store of a run, or None where its status is not 0.
     The digest is None where nothing is to be compared. A program that writes its own seconds to w.own is taken at its word."""
-    for name in [name for pattern in WRITTEN for name in glob.glob(pattern)]:
-        os.remove(name)
+    remove_written()
     subprocess.run(["./timed", "figures", program, *words], check=True, stdout=subprocess.DEVNULL, stderr=subprocess.DEVNULL)
     with open("figures") as file:
         *figures, status = file.read().split()
@@ -282,6 +286,13 @@ def print_commands(inputs, programs, rounds):
         print("| %s | %s | %s |" % (title, " | ".join(cells + beside), grows), flush=True)
 
 
+def crew_words(inputs, kind, side, frames, size, samplers, loaders):
+    """A walk, live or settled, by a crew: over a texture of a side, of pictures of a size and number."""
+    crew = "--frames", frames, "--samplers", samplers, "--loaders", loaders
+    words = walk_words(inputs, *crew, store=inputs.store(side), path=inputs.path(*size))
+    return [word for word in words if kind == "settled" or word != "--settled"]
+
+
 def print_walks(inputs, programs, rounds):
     print("\n| side | pictures | walk | %s |\n|%s" % (" | ".join("%d/%d" % crew for crew in CREWS), "---|" * (3 + len(CREWS))))
     for at, side in enumerate(SIDES):
@@ -289,9 +300,7 @@ def print_walks(inputs, programs, rounds):
             for kind in ("live", "settled"):
                 cells = []
                 for samplers, loaders in CREWS:
-                    options = ("--frames", frames[at], "--samplers", samplers, "--loaders", loaders)
-                    words = walk_words(inputs, *options, store=inputs.store(side), path=inputs.path(width, height, pictures))
-                    words = [word for word in words if kind == "settled" or word != "--settled"]
+                    words = crew_words(inputs, kind, side, frames[at], (width, height, pictures), samplers, loaders)
                     middles, is_same = measured([(program, words) for program in programs], rounds, int(kind == "settled"))
                     cell = "%.1f ms" % (1000 * middles[0][0]) if middles[0] else "-"
                     cells.append(cell + (": " + ratios(middles) if len(programs) > 1 else "") + ("" if is_same else " OTHER BYTES"))
@@ -317,10 +326,8 @@ def print_image_cache(inputs, programs, names, rounds):
     for at, side in enumerate(SIDES):
         for width, height, pictures, frames in ((2, 2, 1, (256, 256)), *SIZES[1:]):
             for samplers, loaders in ((1, 1), (4, 3)):
-                path = inputs.path(width, height, pictures)
-                options = ("--frames", frames[at], "--samplers", samplers, "--loaders", loaders)
-                words = walk_words(inputs, *options, store=inputs.store(side), path=path)
-                foreign = [inputs.mip_mapped(side), path, "f", str(samplers), str(frames[at] * 3 * 64 * 64 / 2**20), "w.own"]
+                words = crew_words(inputs, "settled", side, frames[at], (width, height, pictures), samplers, loaders)
+                foreign = [inputs.mip_mapped(side), inputs.path(width, height, pictures), "f", str(samplers), str(frames[at] * 3 * 64 * 64 / 2**20), "w.own"]
                 middles, is_same = measured([(program, words) for program in programs] + [("./image_cache", foreign)], rounds, 1)
                 title = "%s | %d of %dx%d | %d/%d" % (format(side, ","), pictures, width, height, samplers, loaders)
                 print("| %s | %s%s |" % (title, cells_of(middles), "" if is_same else " OTHER BYTES"), flush=True)
