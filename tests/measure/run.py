@@ -3,7 +3,7 @@
 
 usage: run.py [PROGRAM] [--sweeps tile,walk-batch,..] [--rounds 5] [--most 8192] [--beside OTHER] [--words 'tile: --threads 1']..
        run.py [PROGRAM] --summary [--rounds 9] [--beside OTHER]
-       run.py [PROGRAM] --foreign [walk,tile] [--rounds 9] [--beside OTHER]
+       run.py [PROGRAM] --foreign [walk,tile,arrangement] [--rounds 9] [--beside OTHER]
 
 Each row is a run of a command: the medians of its seconds and of the processors' seconds, and the most memory that it held. With --beside
 another program is run in turn with it on the same words, and with those that --words gives it for a command; its seconds and how many times
@@ -15,7 +15,7 @@ programs choose their own numbers of threads for all that is no walk, and bytes 
 
 --foreign measures libraries of others in turn with both programs: settled walks beside OpenImageIO's ImageCache (image_cache.cpp, which wants g++,
 maketx and libopenimageio-dev), from its `main` on, and `tile` beside libvips (`vips`). The first rows, with next to nothing to do, are what a start
-takes.
+takes. `arrangement` measures `plain` and `tile` in turn with a program in C that arranges them in the same way (arrangement.c).
 """
 import argparse
 import glob
@@ -350,6 +350,21 @@ def print_vips(inputs, programs, names, rounds):
         print_other_levels(inputs.store(side))
 
 
+def print_arrangement(inputs, programs, names, rounds):
+    """`plain` and `tile` beside the same arrangement of threads in C."""
+    subprocess.run(["gcc", "-O3", "-pthread", os.path.join(HERE, "arrangement.c"), "-o", "arrangement"], check=True)
+    print_foreign(["side", "command"], names + ["arrangement in C"])
+    flights = [("60 of 320x200", (320, 200, 60), []), ("240 of 320x200", (320, 200, 240), []), ("1 of 2048x2048", (2048, 2048, 1), ["keep"])]
+    for side in SIDES:
+        texture = inputs.texture(side)
+        jobs = [("`tile`", ["tile", texture, "w.vts"], [])]
+        jobs += [("`plain`, %s" % title, ["plain", texture, inputs.path(*size), "f"], more) for title, size, more in flights]
+        for title, words, more in jobs:
+            runs = [(program, words) for program in programs] + [("./arrangement", words + more)]
+            middles, is_same = measured(runs, rounds, 1)
+            print("| %s | %s | %s%s |" % (format(side, ","), title, cells_of(middles), "" if is_same else " OTHER BYTES"), flush=True)
+
+
 def print_other_levels(store):
     """Says which levels of the image that libvips wrote last are not those of a store."""
     for number, picture in enumerate(levels_of(Store(contents(store)))):
@@ -387,6 +402,8 @@ def main():
             print_image_cache(inputs, programs, names, rounds)
         if asked.foreign and "tile" in asked.foreign:
             print_vips(inputs, programs, names, rounds)
+        if asked.foreign and "arrangement" in asked.foreign:
+            print_arrangement(inputs, programs, names, rounds)
         sweeps = {} if asked.summary or asked.foreign else sweeps_of(inputs, [side for side in (1024, 2048, 4096, 8192) if side <= asked.most])
         for sweep in asked.sweeps.split(",") if asked.sweeps and sweeps else sweeps:
             head = ["seconds", "processor seconds", "MiB"] + (["the other's seconds", "times"] if beside else [])
