@@ -1,6 +1,7 @@
 pub mod Reading
 pub mod Opening
 pub mod Seeing
+pub mod Textures
 pub mod OpenWriting
 pub mod Contents
 pub mod Excluded

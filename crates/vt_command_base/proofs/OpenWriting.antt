@@ -20,7 +20,7 @@ use Rattle.vt_command_base.specs.OpenWrites.{WritesMade}
 abbrev pub read_first : FolderState → FolderState → FolderState
 read_first before after = record { files = before.files; asked = after.asked; faults = before.faults }
 
-closed_places : (before mid after : FolderState) (old new : FileState) (places : List Place)
+pub closed_places : (before mid after : FolderState) (old new : FileState) (places : List Place)
     → new.asked ≡ option_map (λ held. held ++ places) old.asked → new.name ≡ old.name → mid.asked ≡ before.asked
     → Closed new (record { before = mid; after = after })
     → after.asked ≡ option_map (with_places old.name (option_map (λ held. held ++ places) old.asked)) before.asked
@@ -46,7 +46,7 @@ made_written made Are name before mid after old new places h are gained same non
   faults = let le : mid.faults ≤ after.faults = c.kept in omega (arith, faults, le);
 }
 
-rise : (b m a z n : ℕ) → b ≤ m → m ≤ a → a ≡ added m n → Rose b m ⊎ Rose z n → Rose b a
+pub rise : (b m a z n : ℕ) → b ≤ m → m ≤ a → a ≡ added m n → Rose b m ⊎ Rose z n → Rose b a
 rise b m a z n le more sum (inl rose) = omega (arith, le, more, rose)
 rise b m a z n le more sum (inr rose) = omega (arith, le, more, sum, rose)
 

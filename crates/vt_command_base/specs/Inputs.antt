@@ -1,5 +1,6 @@
 -- What a command reads: the kinds of inputs, each with a row in every definition here.
 use Rattle.std.specs.Prelude.{◌≡◌, ◌⊎◌, ℕ, ◌≤◌, ◌<◌, Bool, true, false, List, [], ◌∷◌, ◌++◌, length, min, All, Option, Some, None, Result, Ok, IfSome}
+use Rattle.vt_definitions.specs.Limits.{most_read_side, most_tiled_side}
 use Rattle.vt_outside.specs.Files.{noted}
 use Rattle.vt_outside.specs.declared.place.Place.{Place}
 use Rattle.vt_ppm.specs.Image.{ImageView}
@@ -179,13 +180,27 @@ AsksStrips tile told places = AreHeaderPlaces told places
     ⊎ ((header : Header) × (seen : List Place) × (strips : List Place) × AreSeenPlaces told header (Ok tt) seen × AreStrips header tile strips
     × (places ≡ seen ++ strips)))
 
+-- how many rows a strip has of a texture that is not cut into tiles
+abbrev pub texture_strip : ℕ
+texture_strip = 128
+
+-- the header of a texture may be asked, and then its raster, at once or by strips
+abbrev pub AsksTexture : Option (List ℕ) → List Place → Type 0
+AsksTexture told places = AreImagePlaces told places ⊎ AsksStrips texture_strip told places
+
 -- the places that may be asked of an input whose bytes may be told: of a texture a prefix that holds its header, and then its raster,
--- at once, or by rows if it is cut into tiles
+-- at once or by rows; if it is cut into tiles, by rows
 abbrev pub MayAsk : Input → Option (List ℕ) → List Place → Type 0
 MayAsk (PathInput name) = AsksWhole
-MayAsk (TextureInput name) = AreImagePlaces
+MayAsk (TextureInput name) = AsksTexture
 MayAsk (TiledTexture name tile) = AsksStrips tile
 MayAsk (StoreInput name) = AsksHeader
 MayAsk (NarrowStore name) = AsksPieces
 MayAsk (PagedStore name) = AsksTiles
 MayAsk (JournalInput name) = AsksWhole
+
+-- the input of a name is a texture whose sides are at most a number
+abbrev pub IsTextureUpTo : List ℕ → ℕ → Input → Type 0
+IsTextureUpTo name most (TextureInput named) = (named ≡ name) × (most ≡ most_read_side)
+IsTextureUpTo name most (TiledTexture named tile) = (named ≡ name) × (most ≡ most_tiled_side)
+IsTextureUpTo name most _ = ⊥

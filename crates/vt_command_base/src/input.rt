@@ -3,6 +3,8 @@
 ghost use Rattle.std.specs.Prelude.{◌≡◌, ℕ, ◌≤◌, ◌++◌, true, Ok, OnOk, IfOk, IfErr, IfSome, IsErrOf, option_map};
 ghost use Rattle.vt_definitions.specs.Depths.{IsDepth};
 ghost use Rattle.vt_outside.specs.Counts.{Rose};
+ghost use Rattle.vt_definitions.specs.Limits.{most_read_side, most_tiled_side};
+ghost use Rattle.vt_ppm.specs.Flaws.{AreImageSides};
 ghost use Rattle.vt_ppm.specs.Reads.{AreImagePlaces};
 ghost use Rattle.vt_ppm.specs.Strips.{IsTextureHeader, IsTextureIfTold};
 ghost use Rattle.vt_tiles.specs.StoreViews.{IsStoreIfTold};
@@ -19,7 +21,7 @@ ghost use Rattle.vt_command_base.specs.Inputs.{
   StoreContent,
   TextContent,
 };
-ghost use Rattle.vt_command_base.specs.Inputs.{name_of, AsksWhole, AsksHeader, AsksStrips, header_places};
+ghost use Rattle.vt_command_base.specs.Inputs.{name_of, AsksWhole, AsksHeader, AsksStrips, IsTextureUpTo, header_places};
 ghost use Rattle.vt_command_base.specs.Reads.{file_state, visit, Opened, Refused, Visits, IsCausedIn, FindsIn, Finds, Reads, OpensStore, OpensTexture};
 ghost use Rattle.vt_command_base.specs.Reads.{LooksOver, MayLookOver, SeesTexture};
 
@@ -30,7 +32,7 @@ use std::thread::Threads;
 use vt_camera::{Path, parse_path};
 use vt_outside::{File, Folder, OutsideError};
 use vt_pages::Geometry;
-use vt_ppm::{Image, StripReader, read_image};
+use vt_ppm::{Image, MOST_READ_SIDE, MOST_TILED_SIDE, StripReader, read_image};
 use vt_tiles::Store;
 
 /// Opens a name. Whatever is to be read of it, a refusal is that of the input.
@@ -132,8 +134,41 @@ pub fn open_texture<'a, D: Folder>(
     ensures checked { IfOk result (λ reader. reader.checked ≡ true) }
     ensures refused { (tile : ℕ) → IfErr result (λ refusal. Refused (TiledTexture name.now tile) refusal (folder_effect D.Folder folder.old folder.new)) }
 {
+    open_up_to(alloc, folder, name, MOST_TILED_SIDE)
+}
+
+/// Opens the texture of a name that is not cut into tiles, to read it by strips, and looks its samples over. Its file is left open.
+pub fn open_image<'a, D: Folder>(
+    alloc: Global,
+    folder: &mut D,
+    name: &'a str,
+) -> Result<StripReader<D::File>, Refusal<'a>>
+    ensures opens { IfOk result (λ reader. OpensTexture name.now reader.header (file_state D.File.File reader.file)
+        (folder_effect D.Folder folder.old folder.new)) }
+    ensures checked { IfOk result (λ reader. reader.checked ≡ true) }
+    ensures sides { IfOk result (λ reader. AreImageSides most_read_side reader.header.width reader.header.height) }
+    ensures refused { IfErr result (λ refusal. Refused (TextureInput name.now) refusal (folder_effect D.Folder folder.old folder.new)) }
+{
+    open_up_to(alloc, folder, name, MOST_READ_SIDE)
+}
+
+// Opens the texture of a name whose sides are at most `most`, and looks its samples over. Its file is left open.
+fn open_up_to<'a, D: Folder>(
+    alloc: Global,
+    folder: &mut D,
+    name: &'a str,
+    most: u32,
+) -> Result<StripReader<D::File>, Refusal<'a>>
+    requires { most ≤ most_tiled_side }
+    ensures opens { IfOk result (λ reader. OpensTexture name.now reader.header (file_state D.File.File reader.file)
+        (folder_effect D.Folder folder.old folder.new)) }
+    ensures checked { IfOk result (λ reader. reader.checked ≡ true) }
+    ensures sides { IfOk result (λ reader. AreImageSides most reader.header.width reader.header.height) }
+    ensures refused { (input : Input) → IsTextureUpTo name.now most input
+        → IfErr result (λ refusal. Refused input refusal (folder_effect D.Folder folder.old folder.new)) }
+{
     let file = open_input(folder, name)?;
-    match reader_in(alloc, name, file) {
+    match reader_in(alloc, name, file, most) {
         Ok(reader) => Ok(reader),
         Err((file, refusal)) => {
             folder.close(file);
@@ -142,22 +177,25 @@ pub fn open_texture<'a, D: Folder>(
     }
 }
 
-// The texture in an open file, whose samples were looked over. A refusal hands the file back.
+// The texture in an open file, whose samples were looked over, and whose sides are at most `most`. A refusal hands the file back.
 fn reader_in<F: File>(
     alloc: Global,
     name: &str,
     file: F,
+    most: u32,
 ) -> Result<StripReader<F>, (F, Refusal<'_>)>
+    requires { most ≤ most_tiled_side }
     ensures is { IfOk result (λ reader. IsTextureIfTold (F.bytes file) reader.header) }
     ensures limits { IfOk result (λ reader. IsTextureHeader reader.header) }
+    ensures sides { IfOk result (λ reader. AreImageSides most reader.header.width reader.header.height) }
     ensures checked { IfOk result (λ reader. reader.checked ≡ true) }
     ensures seen { IfOk result (λ reader. SeesTexture (F.bytes file) reader.header (Ok tt) (F.asked file) (F.asked reader.file)) }
     ensures bytes { IfOk result (λ reader. F.bytes reader.file ≡ F.bytes file) }
     ensures name { IfOk result (λ reader. F.name reader.file ≡ F.name file) }
-    ensures caused { (tile : ℕ) → IfErr result (λ e. IsCausedIn (TiledTexture name.now tile) (visit F.File file e.0) e.1) }
+    ensures caused { (input : Input) → IsTextureUpTo name.now most input → IfErr result (λ e. IsCausedIn input (visit F.File file e.0) e.1) }
     ensures tried { (tile : ℕ) → IfErr result (λ e. Visits (AsksStrips tile) (visit F.File file e.0)) }
 {
-    match StripReader::open(alloc, file) {
+    match StripReader::open_within(alloc, file, most) {
         Ok(mut reader) => match look_over(name, &mut reader) {
             Ok(()) => Ok(reader),
             Err(refusal) => Err((reader.into_file(), refusal)),
@@ -172,7 +210,8 @@ fn look_over<'a, F: File>(name: &'a str, reader: &mut StripReader<F>) -> Result<
     ensures checked { OnOk result (reader.new.checked ≡ true) }
     ensures seen { OnOk result (LooksOver reader.old.header (Ok tt) (F.asked reader.old.file) (F.asked reader.new.file)) }
     ensures tried { MayLookOver reader.old.header (F.asked reader.old.file) (F.asked reader.new.file) }
-    ensures caused { (tile : ℕ) → IfErr result (IsCausedIn (TiledTexture name.now tile) (visit F.File reader.old.file reader.new.file)) }
+    ensures caused { (input : Input) (most : ℕ) → AreImageSides most reader.old.header.width reader.old.header.height
+        → IsTextureUpTo name.now most input → IfErr result (IsCausedIn input (visit F.File reader.old.file reader.new.file)) }
     ensures bytes { F.bytes reader.new.file ≡ F.bytes reader.old.file }
     ensures name { F.name reader.new.file ≡ F.name reader.old.file }
     ensures faults { F.faults reader.old.file ≤ F.faults reader.new.file }

@@ -9,7 +9,8 @@ mod refusal;
 
 pub use flaws::Flaw;
 pub use input::{
-    StoreHeader, open_store, open_texture, read_journal, read_path, read_store_header, read_texture,
+    StoreHeader, open_image, open_store, open_texture, read_journal, read_path, read_store_header,
+    read_texture,
 };
 pub use output::{add, outside_error, put_end, put_store_line};
 pub use refusal::{Refusal, refusal_of, status_of, tell_end};

@@ -29,6 +29,28 @@ over_more f n =
     ∙ flat_map-append f (range_with_len 0 n) (n ∷ [])
     ∙ ap (λ (t : List ℕ). flat_map f (range_with_len 0 n) ++ t) (append-nil (f n))
 
+-- what two functions give that are alike over a range
+over_same : (f g : ℕ → List ℕ) (n : ℕ) → ((i : ℕ) → i < n → f i ≡ g i) → flat_map f (range_with_len 0 n) ≡ flat_map g (range_with_len 0 n)
+over_same f g zero same = refl
+over_same f g (suc n) same =
+    ap (λ (m : ℕ). flat_map f (range_with_len 0 m)) (sym (add-one n))
+    ∙ over_more f n
+    ∙ ap (λ (t : List ℕ). t ++ f n) (over_same f g n (λ i low. same i (omega (arith, low))))
+    ∙ ap (λ (t : List ℕ). flat_map g (range_with_len 0 n) ++ t) (same n (omega arith))
+    ∙ sym (over_more g n)
+    ∙ ap (λ (m : ℕ). flat_map g (range_with_len 0 m)) (add-one n)
+
+-- rows of sources that show the same words
+pub rows_alike : (d : ℕ) (source other : Source) (surface : Surface) (path : PathView) (camera : Camera) (rows : ℕ)
+    → ((y x : ℕ) → y < rows → x < path.width
+    → shown_word source (row_of path camera y surface) x ≡ shown_word other (row_of path camera y surface) x)
+    → first_rows d source surface path camera rows ≡ first_rows d other surface path camera rows
+unfolding first_rows row_samples
+rows_alike d source other surface path camera rows same =
+    over_same (λ y. row_samples d source (row_of path camera y surface) path.width) (λ y. row_samples d other (row_of path camera y surface) path.width) rows
+    (λ y low. over_same (λ x. word_bytes d (shown_word source (row_of path camera y surface) x))
+    (λ x. word_bytes d (shown_word other (row_of path camera y surface) x)) path.width (λ x inside. ap (word_bytes d) (same y x low inside)))
+
 pub row_samples-none : (d : ℕ) (source : Source) (row : RowView) → ◌≡◌ {A = List ℕ} [] (row_samples d source row 0)
 unfolding row_samples
 row_samples-none d source row = refl

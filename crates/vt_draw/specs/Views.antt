@@ -1,24 +1,44 @@
 -- What the rows of a plain picture are drawn of.
-use Rattle.std.specs.Prelude.{◌≡◌, ◌-◌, ◌*◌, ◌≤◌, ℕ, List}
+use Rattle.std.specs.Prelude.{◌≡◌, ◌-◌, ◌*◌, ◌<◌, ◌≤◌, ℕ, List}
 use Rattle.vt_definitions.specs.Depths.{IsDepth, texel_length}
 use Rattle.vt_definitions.specs.Limits.{most_levels}
-use Rattle.vt_camera.specs.Paths.{IsCamera}
-use Rattle.vt_camera.specs.Rows.{IsSurface}
+use Rattle.vt_definitions.specs.Sides.{side}
+use Rattle.vt_definitions.specs.Texels.{Source}
+use Rattle.vt_mip.specs.Chains.{chain_levels, chain_width, chain_height}
+use Rattle.vt_camera.specs.declared.paths.Camera.{Camera}
+use Rattle.vt_camera.specs.Paths.{PathView, IsCamera}
+use Rattle.vt_camera.specs.Rows.{IsSurface, row_of, row_level}
+use Rattle.vt_draw.specs.declared.plain.Levels.{Levels}
 use Rattle.vt_draw.specs.declared.plain.View.{View}
-use Rattle.vt_draw.specs.Plain.{chain_of, surface_of, first_rows}
+use Rattle.vt_draw.specs.Plain.{chain_of, levels_from, first_rows}
 
--- a chain whose samples have d bytes as a surface of its own, and a camera
+-- the levels of a texture as a source, of those that are there
+abbrev pub source_of : Levels → Source
+source_of l = levels_from l.skipped (chain_of l.chain.now.base)
+
+-- the chain has the levels of the surface from the first on that is there, each with its sides
+pub record AreLevels (l : Levels) : Type 0 where
+  pub limits : IsSurface l.surface
+  pub few : l.surface.levels ≤ most_levels
+  pub there : (k : ℕ) → l.skipped ≤ k → k < l.surface.levels → k - l.skipped < chain_levels l.chain.now
+  pub columns : (k : ℕ) → l.skipped ≤ k → k < l.surface.levels → chain_width l.chain.now (k - l.skipped) ≡ side l.surface.width k
+  pub rows : (k : ℕ) → l.skipped ≤ k → k < l.surface.levels → chain_height l.chain.now (k - l.skipped) ≡ side l.surface.height k
+
+-- no row that a camera of a path shows wants a level that is left out
+abbrev pub WantsNone : Levels → PathView → Camera → Type 0
+WantsNone l path camera = (y : ℕ) → y < path.height → l.skipped ≤ row_level (row_of path camera y l.surface)
+
+-- levels whose samples have d bytes, and a camera that wants none that is left out
 pub record IsView (d : ℕ) (v : View) : Type 0 where
   pub depth : IsDepth d
-  pub own : v.chain.now.base.depth ≡ d
-  pub surface : v.surface ≡ surface_of v.chain.now.base v.chain.now.tile
-  pub limits : IsSurface v.surface
-  pub levels : v.surface.levels ≤ most_levels
+  pub own : v.levels.chain.now.base.depth ≡ d
+  pub levels : AreLevels v.levels
   pub camera : IsCamera v.camera
+  pub wants : WantsNone v.levels v.path.now v.camera
 
--- the bytes of so many rows from the top, as the camera shows the chain
+-- the bytes of so many rows from the top, as the camera shows the levels
 abbrev pub rows_shown : ℕ → View → ℕ → List ℕ
-rows_shown d v rows = first_rows d (chain_of v.chain.now.base) v.surface v.path.now v.camera rows
+rows_shown d v rows = first_rows d (source_of v.levels) v.levels.surface v.path.now v.camera rows
 
 -- so many bytes have room for the rows from one on to another, of those that the camera shows
 pub record IsRoomFor (d : ℕ) (v : View) (first end room : ℕ) : Type 0 where

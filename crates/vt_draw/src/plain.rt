@@ -1,12 +1,14 @@
 //! Drawing the plain picture.
 
-ghost use Rattle.std.specs.Prelude.{◌≡◌, ◌+◌, ◌*◌, ◌<◌, ◌≤◌, ◌++◌, length, take, IfOk};
+ghost use Rattle.std.specs.Prelude.{◌≡◌, ◌+◌, ◌-◌, ◌*◌, ◌<◌, ◌≤◌, ◌++◌, length, take, IfOk};
 ghost use Rattle.std.specs.Thread.{IsSync};
 ghost use Rattle.vt_definitions.specs.Depths.{IsDepth, texel_length, texel_bytes};
 ghost use Rattle.vt_definitions.specs.Limits.{most_levels};
-ghost use Rattle.vt_camera.specs.Rows.{IsSurface};
-ghost use Rattle.vt_draw.specs.Plain.{chain_of, surface_of, row_samples, plain_samples};
-ghost use Rattle.vt_draw.specs.Views.{IsView, IsRoomFor, rows_shown};
+ghost use Rattle.vt_definitions.specs.Sides.{side};
+ghost use Rattle.vt_mip.specs.Chains.{chain_levels, chain_width, chain_height};
+ghost use Rattle.vt_camera.specs.Rows.{IsSurface, row_level};
+ghost use Rattle.vt_draw.specs.Plain.{camera_at, chain_of, levels_from, surface_of, row_samples, plain_picture, plain_samples};
+ghost use Rattle.vt_draw.specs.Views.{AreLevels, IsView, IsRoomFor, WantsNone, rows_shown, source_of};
 
 use std::alloc::Global;
 use std::thread::{Threads, join_mut};
@@ -57,42 +59,76 @@ pub fn draw_plain_into<Rt: Threads + Sync>(
     requires room { length out.old ≡ texel_length chain.now.base.depth * (path.now.width * path.now.height) }
     ensures { out.new ≡ plain_samples chain.now.base chain.now.tile path.now picture }
 {
-    if chain.depth() == 1 {
-        draw_picture::<Rt, 1>(rt, threads, chain, path, picture, out);
+    let levels = Levels {
+        chain,
+        skipped: 0,
+        surface: surface_of(chain),
+    };
+    draw_levels_into(rt, threads, &levels, path, picture, out);
+}
+
+/// The levels of a texture that pictures are drawn of. The first ones may be left out: then the chain begins with the first that is there.
+#[derive(Clone, Copy)]
+pub struct Levels<'a> {
+    /// The chain of the first level that is there.
+    pub chain: &'a Chain,
+    /// How many levels are left out.
+    pub skipped: u32,
+    /// The whole texture as a camera sees it.
+    pub surface: Surface,
+}
+
+/// Draws the plain picture with this number of a path as `draw_plain_into` does, of levels of which it wants none that is left out.
+pub fn draw_levels_into<Rt: Threads + Sync>(
+    rt: &Rt,
+    threads: usize,
+    levels: &Levels<'_>,
+    path: &Path,
+    picture: u32,
+    out: &mut [u8],
+)
+    requires levels { AreLevels levels.now }
+    requires wants { WantsNone levels.now path.now (camera_at path.now picture) }
+    requires picture { picture < length path.now.cameras }
+    requires room { length out.old ≡ texel_length levels.now.chain.now.base.depth * (path.now.width * path.now.height) }
+    ensures { out.new ≡ plain_picture levels.now.chain.now.base.depth (source_of levels.now) levels.now.surface path.now picture }
+{
+    if levels.chain.depth() == 1 {
+        draw_picture::<Rt, 1>(rt, threads, levels, path, picture, out);
     } else {
-        draw_picture::<Rt, 2>(rt, threads, chain, path, picture, out);
+        draw_picture::<Rt, 2>(rt, threads, levels, path, picture, out);
     }
 }
 
-// What the rows of a picture are drawn of: a chain, a path, the picture's camera, and the chain as a surface to it.
+// What the rows of a picture are drawn of: levels, a path, and the picture's camera.
 #[derive(Clone, Copy)]
 struct View<'a> {
-    chain: &'a Chain,
+    levels: Levels<'a>,
     path: &'a Path,
     camera: Camera,
-    surface: Surface,
 }
 
-// Draws the plain picture of a chain whose samples have DEPTH bytes.
+// Draws the plain picture of levels whose samples have DEPTH bytes.
 fn draw_picture<Rt: Threads + Sync, const DEPTH: u32>(
     rt: &Rt,
     threads: usize,
-    chain: &Chain,
+    levels: &Levels<'_>,
     path: &Path,
     picture: u32,
     out: &mut [u8],
 )
     requires depth { IsDepth DEPTH }
-    requires own { chain.now.base.depth ≡ DEPTH }
+    requires own { levels.now.chain.now.base.depth ≡ DEPTH }
+    requires levels { AreLevels levels.now }
+    requires wants { WantsNone levels.now path.now (camera_at path.now picture) }
     requires picture { picture < length path.now.cameras }
-    requires room { length out.old ≡ texel_length chain.now.base.depth * (path.now.width * path.now.height) }
-    ensures { out.new ≡ plain_samples chain.now.base chain.now.tile path.now picture }
+    requires room { length out.old ≡ texel_length levels.now.chain.now.base.depth * (path.now.width * path.now.height) }
+    ensures { out.new ≡ plain_picture levels.now.chain.now.base.depth (source_of levels.now) levels.now.surface path.now picture }
 {
     let view = View {
-        chain,
+        levels: *levels,
         path,
         camera: path.camera(picture),
-        surface: surface_of(chain),
     };
     draw_all::<Rt, DEPTH>(rt, threads, &view, out);
 }
@@ -199,25 +235,41 @@ fn draw_rows<const DEPTH: u32>(view: &View<'_>, first: u32, end: u32, out: &mut 
 {
     let columns = view.path.width();
     let size = texel_length(DEPTH) * columns as usize;
+    let levels = view.levels;
     for y in first..end {
-        let row = Row::of(view.path, &view.camera, y, &view.surface);
+        let row = Row::of(view.path, &view.camera, y, &levels.surface);
         let at = size * (y - first) as usize;
-        draw_plain_row::<DEPTH>(view.chain, row, columns, &mut out[at..at + size]);
+        draw_plain_row::<DEPTH>(
+            levels.chain,
+            levels.skipped,
+            row,
+            columns,
+            &mut out[at..at + size],
+        );
     }
 }
 
 // Writes the bytes of a row of so many pixels. It takes the row by value, for then no write can be one to the row's numbers.
 #[inline(never)]
-fn draw_plain_row<const DEPTH: u32>(chain: &Chain, row: Row, columns: u32, out: &mut [u8])
+fn draw_plain_row<const DEPTH: u32>(
+    chain: &Chain,
+    skipped: u32,
+    row: Row,
+    columns: u32,
+    out: &mut [u8],
+)
     requires depth { IsDepth DEPTH }
     requires own { chain.now.base.depth ≡ DEPTH }
-    requires surface { row.surface ≡ surface_of chain.now.base chain.now.tile }
+    requires wanted { skipped ≤ row_level row }
+    requires there { row_level row - skipped < chain_levels chain.now }
+    requires columns { chain_width chain.now (row_level row - skipped) ≡ side row.surface.width (row_level row) }
+    requires rows { chain_height chain.now (row_level row - skipped) ≡ side row.surface.height (row_level row) }
     requires width { columns ≤ row.width }
-    requires levels { row.surface.levels ≤ most_levels }
     requires room { length out.old ≡ texel_length DEPTH * columns }
-    ensures { out.new ≡ row_samples DEPTH (chain_of chain.now.base) row columns }
+    ensures { out.new ≡ row_samples DEPTH (levels_from skipped (chain_of chain.now.base)) row columns }
 {
-    let level = row.level();
+    let wanted = row.level();
+    let level = wanted - skipped;
     let texels = chain.samples(level);
     let (width, _) = chain.size(level);
     for x in 0..columns {

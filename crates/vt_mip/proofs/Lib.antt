@@ -9,3 +9,4 @@ pub mod StripRows
 pub mod StripReads
 pub mod StripRoom
 pub mod InPlace
+pub mod HalvedStrips

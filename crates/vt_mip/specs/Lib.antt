@@ -5,3 +5,4 @@ pub mod Laws
 pub mod TakenRows
 pub mod StripChains
 pub mod InPlace
+pub mod HalvedStrips

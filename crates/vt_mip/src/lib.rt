@@ -2,6 +2,7 @@
 #![tactic(auto)]
 
 mod chain;
+mod halved_strips;
 mod halving;
 mod laws;
 mod shrinking;
@@ -9,6 +10,7 @@ mod strip_chain;
 mod taken_rows;
 
 pub use chain::{Chain, texture_samples_are_bytes};
+pub use halved_strips::halve_texture;
 pub use laws::{chain_words_are_small, chains_go_on};
 pub use shrinking::Shrinking;
 pub use strip_chain::StripChain;

@@ -9,6 +9,8 @@ use Rattle.vt_definitions.specs.Depths.{IsDepth, AreBytes, sample_at, texel_leng
 use Rattle.vt_definitions.proofs.TexelWords.{words_small}
 use Rattle.vt_ppm.specs.Image.{ImageView, texel_of}
 use Rattle.vt_ppm.specs.Format.{IsHeader, HasHeader, AreSameHeaders, IsImageUpTo, AreScaled, depth_of, scaled}
+use Rattle.vt_ppm.specs.declared.header.Header.{Header}
+use Rattle.vt_ppm.specs.Strips.{HasRaster, IsTextureHeader}
 use Rattle.vt_ppm.specs.Flaws.{AreImageSides, HasBadSize, IsSized, HasBadMaximum, IsLawfulHeader, IsTruncated, IsSampleOver, IsFlawUpTo}
 use Rattle.vt_ppm.proofs.SampleValues.{front_sample, sample_room, samples_of_texels, same_bytes}
 use Rattle.vt_ppm.proofs.Headers.{AreSameTexts, header_is_one}
@@ -215,3 +217,77 @@ image_is_texture b p i = record {
   kept = i.kept;
   bytes = i.bytes;
 }
+
+-- sides and a header that are lawful where less is taken are lawful where more is
+pub wider_sides : (m n w h : ℕ) → m ≤ n → AreImageSides m w h → AreImageSides n w h
+wider_sides m n w h more sides = record {
+  some_columns = sides.some_columns;
+  few_columns = omega (arith, sides.few_columns, more);
+  some_rows = sides.some_rows;
+  few_rows = omega (arith, sides.few_rows, more);
+}
+
+pub wider_header : (m n : ℕ) (b : List ℕ) (r w h x : ℕ) → m ≤ n → IsLawfulHeader m b r w h x → IsLawfulHeader n b r w h x
+wider_header m n b r w h x more header = record {
+  sized = record { header = header.sized.header; sides = wider_sides m n w h more header.sized.sides };
+  lawful = header.lawful;
+}
+
+-- a lawful header is one of a texture
+pub texture_header : (most : ℕ) (b : List ℕ) (h : Header) → most ≤ most_tiled_side → IsLawfulHeader most b h.raster h.width h.height h.maximum
+    → IsTextureHeader h
+texture_header most b h few header = record {
+  sides = wider_sides most most_tiled_side h.width h.height few header.sized.sides;
+  maximum = header.lawful;
+  early = header.sized.header.early;
+}
+
+-- a texture whose sides are not above a number is an image up to it
+pub texture_within_sides : (most : ℕ) (b : List ℕ) (p : ImageView) → AreImageSides most p.width p.height → IsImageUpTo most_tiled_side b p
+    → IsImageUpTo most b p
+texture_within_sides most b p sides i = record {
+  text = i.text;
+  raster = i.raster;
+  rest = i.rest;
+  maximum = i.maximum;
+  spelt = i.spelt;
+  header = i.header;
+  early = i.early;
+  lawful = i.lawful;
+  depth_is = i.depth_is;
+  image = record {
+    depth = i.image.depth;
+    some_columns = i.image.some_columns;
+    few_columns = sides.few_columns;
+    some_rows = i.image.some_rows;
+    few_rows = sides.few_rows;
+    full = i.image.full;
+  };
+  full = i.full;
+  few = i.few;
+  kept = i.kept;
+  bytes = i.bytes;
+}
+
+-- a sample above the maximum of such a texture is its flaw as an image up to the number
+pub sample_flaw_within_sides : (most : ℕ) (b : List ℕ) (h : Header) (at : ℕ) → HasRaster b h → AreImageSides most h.width h.height
+    → IsSampleOver most_tiled_side b at → IsSampleOver most b at
+sample_flaw_within_sides most b h at has sides over =
+    let e : AreSameHeaders h.raster h.width h.height h.maximum over.raster over.width over.height over.maximum =
+    start_is_one b h.raster h.width h.height h.maximum over.raster over.width over.height over.maximum has.header.sized.header over.header.sized.header in
+    record {
+      raster = over.raster;
+      width = over.width;
+      height = over.height;
+      maximum = over.maximum;
+      number = over.number;
+      header = record {
+        sized = record { header = over.header.sized.header; sides = same_sides most h.width h.height over.width over.height e.width e.height sides };
+        lawful = over.header.lawful;
+      };
+      full = over.full;
+      within = over.within;
+      over = over.over;
+      first = over.first;
+      at_is = over.at_is;
+    }

@@ -13,5 +13,6 @@ pub mod FlawLaws
 pub mod WrittenPictures
 pub mod AskedPlaces
 pub mod StripLaws
+pub mod StripPlaces
 pub mod CheckedPieces
 pub mod Refusing

@@ -2,7 +2,9 @@
 ghost use Rattle.std.specs.Prelude.{◌≡◌, ℕ, ◌*◌, ◌<◌, ◌^◌, List};
 ghost use Rattle.vt_definitions.specs.Depths.{IsDepth, AreBytes};
 ghost use Rattle.vt_ppm.specs.declared.error.PpmError.{PpmError};
-ghost use Rattle.vt_ppm.specs.Flaws.{IsFlawUpTo, IsLawfulHeader};
+ghost use Rattle.vt_ppm.specs.Flaws.{AreImageSides, IsFlawUpTo, IsHeaderFlaw, IsLawfulHeader};
+ghost use Rattle.vt_ppm.specs.declared.header.Header.{Header};
+ghost use Rattle.vt_ppm.specs.Strips.{HasRaster};
 ghost use Rattle.vt_ppm.specs.Format.{AreSameHeaders, HasHeader, IsImage, IsImageUpTo, IsTexture};
 ghost use Rattle.vt_ppm.specs.Image.{ImageView, IsLawfulImage, texel_of};
 ghost use Rattle.vt_ppm.specs.Picture.{picture_bytes};
@@ -23,6 +25,17 @@ pub fn image_is_one()
 /// Bytes that spell an image that may be read whole spell it as a texture too, so that both readers answer the same samples.
 pub fn image_is_texture()
     ensures { (b : List ℕ) (p : ImageView) → IsImage b p → IsTexture b p }
+{}
+
+/// A texture whose sides are not above a number is an image up to that number.
+pub fn texture_within_sides()
+    ensures { (most : ℕ) (b : List ℕ) (p : ImageView) → AreImageSides most p.width p.height → IsTexture b p → IsImageUpTo most b p }
+{}
+
+/// A sample above the maximum of a texture whose sides are not above a number is its flaw as an image up to that number.
+pub fn sample_flaw_within_sides()
+    ensures { (most : ℕ) (b : List ℕ) (h : Header) (at : ℕ) → HasRaster b h → AreImageSides most h.width h.height
+        → IsHeaderFlaw b (PpmError.SampleOver at) → IsFlawUpTo most b (PpmError.SampleOver at) }
 {}
 
 /// The bytes that are written of an image spell that image.

@@ -15,12 +15,12 @@ mod strips;
 mod whole;
 
 pub use error::PpmError;
-pub use header::Header;
+pub use header::{Header, MOST_READ_SIDE, MOST_TILED_SIDE};
 pub use image::Image;
 pub use laws::{
     flaw_is_one, header_has_no_flaw, header_is_one, image_has_no_flaw, image_is_one,
-    image_is_texture, samples_are_bytes, spelt_samples_are_bytes, texel_words_are_small,
-    written_is_read,
+    image_is_texture, sample_flaw_within_sides, samples_are_bytes, spelt_samples_are_bytes,
+    texel_words_are_small, texture_within_sides, written_is_read,
 };
 pub use picture::{begin_picture, encode, encode_into, encode_wide};
 pub use read::{read_header, read_image};

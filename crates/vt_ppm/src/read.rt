@@ -4,7 +4,7 @@ ghost use Rattle.vt_definitions.specs.Limits.{header_limit, most_tiled_side};
 ghost use Rattle.vt_outside.specs.Counts.{Rose};
 ghost use Rattle.vt_outside.specs.Files.{IsPiece, TellsBytes};
 ghost use Rattle.vt_ppm.specs.Format.{IsImage};
-ghost use Rattle.vt_ppm.specs.Flaws.{IsHeaderFlaw, IsImageFlaw, IsLawfulHeader};
+ghost use Rattle.vt_ppm.specs.Flaws.{AreImageSides, IsFlawUpTo, IsHeaderFlaw, IsImageFlaw, IsLawfulHeader};
 ghost use Rattle.vt_ppm.specs.Reads.{AsksHeader, AsksImage, AnswersOfHeader, AnswersOfImage, ReadsFront, NotesRead, IsImagePrefix};
 ghost use Rattle.vt_ppm.specs.Refusals.{IsOutsideRefusal, IsRasterRefusal, IsSampleRefusal};
 ghost use Rattle.vt_ppm.specs.Strips.{IsTextureHeader, HasRasterIfTold};
@@ -96,12 +96,18 @@ pub fn read_header<F: File>(alloc: Global, file: &mut F) -> Result<Header, PpmEr
     lawful_header(&front.bytes, MOST_TILED_SIDE)
 }
 
-/// Reads the header of a texture that may be cut into tiles, and looks whether its raster is there. The refusals are those of
+/// Reads the header of a texture whose sides are at most `most`, and looks whether its raster is there. The refusals are those of
 /// `StripReader::open`.
-pub fn read_texture_header<F: File>(alloc: Global, file: &mut F) -> Result<Header, PpmError>
+pub fn read_texture_header<F: File>(
+    alloc: Global,
+    file: &mut F,
+    most: u32,
+) -> Result<Header, PpmError>
+    requires { most ≤ most_tiled_side }
     ensures limits { IfOk result IsTextureHeader }
+    ensures sides { IfOk result (λ h. AreImageSides most h.width h.height) }
     ensures raster { IfOk result (HasRasterIfTold (F.bytes file.old)) }
-    ensures flaw { IfErr result (λ e. (IsOutsideRefusal e → ⊥) → IfSome (F.bytes file.old) (λ b. IsHeaderFlaw b e)) }
+    ensures flaw { IfErr result (λ e. (IsOutsideRefusal e → ⊥) → IfSome (F.bytes file.old) (λ b. IsFlawUpTo most b e)) }
     ensures no_sample { IfErr result (λ e. IsSampleRefusal e → ⊥) }
     ensures failed { IsErrOf result PpmError.Failed → Rose (F.faults file.old) (F.faults file.new) }
     ensures asked { AsksHeader (F.bytes file.old) (F.asked file.old) (F.asked file.new) }
@@ -111,7 +117,7 @@ pub fn read_texture_header<F: File>(alloc: Global, file: &mut F) -> Result<Heade
     ensures faults { F.faults file.old ≤ F.faults file.new }
 {
     let Front { bytes, length } = front_of(alloc, file, 1)?;
-    let header = lawful_header(&bytes, MOST_TILED_SIDE)?;
+    let header = lawful_header(&bytes, most)?;
     let want = raster_length(&header);
     let have = length - header.raster;
     if have < want {

@@ -3,13 +3,13 @@ ghost use Rattle.std.specs.Prelude.{◌≡◌, ◌+◌, ◌*◌, ◌<◌, ◌≤
 ghost use Rattle.vt_definitions.specs.Depths.{IsDepth, AreBytes};
 ghost use Rattle.vt_definitions.specs.Limits.{most_tiled_side};
 ghost use Rattle.vt_outside.specs.Counts.{Rose};
-ghost use Rattle.vt_ppm.specs.Flaws.{IsHeaderFlaw};
+ghost use Rattle.vt_ppm.specs.Flaws.{AreImageSides, IsFlawUpTo, IsHeaderFlaw};
 ghost use Rattle.vt_ppm.specs.Format.{depth_of};
 ghost use Rattle.vt_ppm.specs.Reads.{AsksHeader, AnswersOfHeader};
 ghost use Rattle.vt_ppm.specs.Refusals.{IsOutsideRefusal, IsSampleRefusal, IsCheckRefusal};
 ghost use Rattle.vt_ppm.specs.Strips.{AreRowsUpTo, HasRasterIfTold, HasSamplesIfTold, IsTextureIfTold, IsTextureHeader, MayBeOver, ChecksPieces, ChecksRows, ReadsNothing, GainsRows, RowsAsked, piece_rows, row_length, rows_of, file_after, answer_in};
 
-use crate::header::depth_of;
+use crate::header::{MOST_TILED_SIDE, depth_of};
 use crate::raster::{first_over, scale};
 use crate::read::{read_texture_header, zeros};
 use crate::rows::{may_be_over, piece_rows, pieces_of, row_length, row_start, sample_count};
@@ -50,13 +50,15 @@ fn room_length(header: &Header) -> usize
     piece_rows(header) as usize * row_length(header)
 }
 
-// The header of a texture, and room to look its rows over.
-fn opened<F: File>(alloc: Global, file: &mut F) -> Result<(Header, Vec<u8>), PpmError>
+// The header of a texture whose sides are at most `most`, and room to look its rows over.
+fn opened<F: File>(alloc: Global, file: &mut F, most: u32) -> Result<(Header, Vec<u8>), PpmError>
+    requires { most ≤ most_tiled_side }
     ensures limits { IfOk result (λ o. IsTextureHeader o.0) }
+    ensures sides { IfOk result (λ o. AreImageSides most o.0.width o.0.height) }
     ensures raster { IfOk result (λ o. HasRasterIfTold (F.bytes file.old) o.0) }
     ensures room { IfOk result (λ o. MayBeOver o.0 → length o.1.items ≡ piece_rows o.0 * row_length o.0) }
     ensures none { IfOk result (λ o. (MayBeOver o.0 → ⊥) → length o.1.items ≡ 0) }
-    ensures flaw { IfErr result (λ e. (IsOutsideRefusal e → ⊥) → IfSome (F.bytes file.old) (λ b. IsHeaderFlaw b e)) }
+    ensures flaw { IfErr result (λ e. (IsOutsideRefusal e → ⊥) → IfSome (F.bytes file.old) (λ b. IsFlawUpTo most b e)) }
     ensures no_sample { IfErr result (λ e. IsSampleRefusal e → ⊥) }
     ensures failed { IsErrOf result PpmError.Failed → Rose (F.faults file.old) (F.faults file.new) }
     ensures asked { AsksHeader (F.bytes file.old) (F.asked file.old) (F.asked file.new) }
@@ -65,7 +67,7 @@ fn opened<F: File>(alloc: Global, file: &mut F) -> Result<(Header, Vec<u8>), Ppm
     ensures name { F.name file.new ≡ F.name file.old }
     ensures faults { F.faults file.old ≤ F.faults file.new }
 {
-    let header = read_texture_header(alloc, file)?;
+    let header = read_texture_header(alloc, file, most)?;
     let buffer = zeros(alloc, room_length(&header))?;
     Ok((header, buffer))
 }
@@ -165,7 +167,7 @@ impl<F: File> StripReader<F> {
     /// Where the file tells its bytes, `BadMagic` to `Truncated` come exactly as the first flaw of those bytes, after that one
     /// read. `Failed` comes only where the file's count of faults rose, and `NoMemory` where memory was refused. No other
     /// refusal comes: samples are looked over by `check`.
-    pub fn open(alloc: Global, mut file: F) -> Result<StripReader<F>, (F, PpmError)>
+    pub fn open(alloc: Global, file: F) -> Result<StripReader<F>, (F, PpmError)>
         ensures limits { IfOk result (λ s. IsTextureHeader s.header) }
         ensures raster { IfOk result (λ s. HasRasterIfTold (F.bytes file) s.header) }
         ensures unchecked { IfOk result (λ s. s.checked ≡ false) }
@@ -178,7 +180,30 @@ impl<F: File> StripReader<F> {
         ensures name { F.name (file_after result) ≡ F.name file }
         ensures faults { F.faults file ≤ F.faults (file_after result) }
     {
-        match opened(alloc, &mut file) {
+        StripReader::open_within(alloc, file, MOST_TILED_SIDE)
+    }
+
+    /// Opens the texture of a file as `open` does, where no side is to be above `most`: from 1 to 16,384.
+    pub fn open_within(
+        alloc: Global,
+        mut file: F,
+        most: u32,
+    ) -> Result<StripReader<F>, (F, PpmError)>
+        requires { most ≤ most_tiled_side }
+        ensures limits { IfOk result (λ s. IsTextureHeader s.header) }
+        ensures sides { IfOk result (λ s. AreImageSides most s.header.width s.header.height) }
+        ensures raster { IfOk result (λ s. HasRasterIfTold (F.bytes file) s.header) }
+        ensures unchecked { IfOk result (λ s. s.checked ≡ false) }
+        ensures flaw { IfErr result (λ e. (IsOutsideRefusal e.1 → ⊥) → IfSome (F.bytes file) (λ b. IsFlawUpTo most b e.1)) }
+        ensures no_sample { IfErr result (λ e. IsSampleRefusal e.1 → ⊥) }
+        ensures failed { IfErr result (λ e. e.1 ≡ PpmError.Failed → Rose (F.faults file) (F.faults e.0)) }
+        ensures asked { AsksHeader (F.bytes file) (F.asked file) (F.asked (file_after result)) }
+        ensures read { AnswersOfHeader (answer_in result) (F.bytes file) (F.asked file) (F.asked (file_after result)) }
+        ensures bytes { F.bytes (file_after result) ≡ F.bytes file }
+        ensures name { F.name (file_after result) ≡ F.name file }
+        ensures faults { F.faults file ≤ F.faults (file_after result) }
+    {
+        match opened(alloc, &mut file, most) {
             Ok((header, buffer)) => Ok(StripReader {
                 file,
                 header,

@@ -10,7 +10,7 @@ use Rattle.vt_outside.specs.declared.answers.OutsideError.TheVariants as outside
 use Rattle.vt_outside.specs.declared.place.Place.{Place}
 use Rattle.vt_ppm.specs.declared.header.Header.{Header}
 use Rattle.vt_ppm.specs.Format.{depth_of}
-use Rattle.vt_ppm.specs.StripPlaces.{strip_rows, strips_of}
+use Rattle.vt_ppm.specs.StripPlaces.{strip_rows, strips_of, StripsAsked, StripsTried}
 use Rattle.vt_ppm.specs.Strips.{RowsAsked, texture_of}
 use Rattle.vt_mip.specs.TakenRows.{HalvingView, HalvesFront}
 use Rattle.vt_pages.specs.Shape.{Shape, shape_of}
@@ -19,10 +19,11 @@ use Rattle.vt_tiles.specs.declared.error.StoreError.{StoreError}
 use Rattle.vt_tiles.specs.declared.error.StoreError.TheVariants.{Failed}
 use Rattle.vt_tiles.specs.Made.{HoldsMade, HoldsMadeFront}
 use Rattle.vt_tiles.specs.Refusals.{IsOutsideRefusal, refusal_by}
-use Rattle.vt_store.specs.StripStores.{StripsAsked, StripsTried, strip_front, strip_tiles}
+use Rattle.vt_store.specs.StripStores.{strip_front, strip_tiles}
 use Rattle.vt_store.specs.Steps.{AddsFront, StepDone, StepStopped}
 use Rattle.vt_store.specs.StripSteps.{StripsState, KeepsStrips, IsNextStrip, StripMade, StripLost, MakesStrip, StripTried, StripStep, StripsDone, StripsStopped, AddsStrips, state_store}
-use Rattle.vt_store.proofs.StripStores.{store_made, made_moved, made_more, made_part, there_made, more_strips, no_strips, strips_front, strip_tried}
+use Rattle.vt_store.proofs.StripStores.{store_made, made_moved, made_more, made_part, there_made}
+use Rattle.vt_ppm.proofs.StripPlaces.{more_strips, no_strips, strips_front, strip_tried}
 use Rattle.vt_store.proofs.StripLevels.{all_taken, strip_inside, strips_are, strip_low, next_taken}
 use Rattle.vt_store.proofs.WideStores.{rose_along}
 

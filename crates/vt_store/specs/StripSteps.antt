@@ -6,7 +6,7 @@ use Rattle.vt_outside.specs.declared.outside.File.{Ghosts as FileMeanings}
 use Rattle.vt_outside.specs.declared.place.Place.{Place}
 use Rattle.vt_ppm.specs.declared.header.Header.{Header}
 use Rattle.vt_ppm.specs.Format.{depth_of}
-use Rattle.vt_ppm.specs.StripPlaces.{strip_rows, strips_of}
+use Rattle.vt_ppm.specs.StripPlaces.{strip_rows, strips_of, StripsAsked, StripsTried}
 use Rattle.vt_ppm.specs.Strips.{RowsAsked, texture_of}
 use Rattle.vt_mip.specs.StripChains.{StripChainView}
 use Rattle.vt_mip.specs.TakenRows.{HalvingView, HalvesFront}
@@ -18,7 +18,7 @@ use Rattle.vt_tiles.specs.Made.{HoldsMade, HoldsMadeFront}
 use Rattle.vt_tiles.specs.Refusals.{IsOutsideRefusal}
 use Rattle.vt_store.specs.ChainStores.{texture_store}
 use Rattle.vt_store.specs.Steps.{Makes, Steps}
-use Rattle.vt_store.specs.StripStores.{StripsAsked, StripsTried, strip_front, strip_tiles}
+use Rattle.vt_store.specs.StripStores.{strip_front, strip_tiles}
 
 -- a texture that is read by strips: its file's bytes and places, where they are told, its name and its counts; its header and tile side; and
 -- level 1 as far as it is made

@@ -1,7 +1,6 @@
 -- The store of a texture that is read by strips: whole rows, as many as a tile has.
-use Rattle.std.specs.Prelude.{◌≡◌, ◌⊎◌, ℕ, ◌*◌, ◌<◌, ◌≤◌, true, List, [], ◌∷◌, ◌++◌, Option, option_map, length, vec_len}
+use Rattle.std.specs.Prelude.{◌≡◌, ◌⊎◌, ℕ, ◌*◌, List, ◌++◌, length, vec_len}
 use Rattle.vt_definitions.specs.Depths.{texel_length}
-use Rattle.vt_outside.specs.declared.place.Place.{Place}
 use Rattle.vt_ppm.specs.declared.header.Header.{Header}
 use Rattle.vt_ppm.specs.Format.{depth_of}
 use Rattle.vt_ppm.specs.Image.{ImageView}
@@ -13,7 +12,6 @@ use Rattle.vt_pages.specs.Pages.{IsWithinLimits, columns_at}
 use Rattle.vt_store.specs.declared.strips.StripRoom.{StripRoom}
 use Rattle.vt_store.specs.ChainStores.{texture_store}
 use Rattle.vt_tiles.specs.Format.{header_bytes, tile_length, tiles_bytes}
-use Rattle.vt_ppm.specs.StripPlaces.{strips_of, strip_place, strip_places}
 
 -- the shape of the pages of a texture that is read by rows
 abbrev pub strip_shape : {F : Type 0} → StripChainView F → Shape
@@ -30,17 +28,6 @@ strip_front s h pages b = header_bytes s (depth_of h.maximum) ++ tiles_bytes s (
 -- the tiles of a strip: those of a row of tiles of level 0
 abbrev pub strip_tiles : Shape → Header → ℕ → List ℕ → List ℕ
 strip_tiles s h i b = tiles_bytes s (depth_of h.maximum) (texture_texel h b) (i * columns_at s 0) (columns_at s 0)
-
--- the first n strips were asked more, each once and in order
-abbrev pub StripsAsked : Header → ℕ → ℕ → Option (List Place) → Option (List Place) → Type 0
-StripsAsked h t n before after = after ≡ option_map (λ places. places ++ strip_places h t n) before
-
--- a prefix of all strips was asked, of which at most the last read failed
-pub record StripsTried (h : Header) (t : ℕ) (before after : Option (List Place)) : Type 0 where
-  pub count : ℕ
-  pub few : count ≤ strips_of h t
-  pub asked : StripsAsked h t count before after
-      ⊎ ((count < strips_of h t) × (after ≡ option_map (λ places. places ++ (strip_places h t count ++ strip_place h t true count ∷ [])) before))
 
 -- the room in which a texture of this shape and depth is tiled by strips, with a second row of tiles or none: no row was halved into level 1 yet
 pub record IsStripRoom (s : Shape) (d : ℕ) (room : StripRoom) : Type 0 where

@@ -7,9 +7,9 @@ ghost use Rattle.vt_pages.specs.Pages.{IsWithinLimits, columns_at, rows_at};
 ghost use Rattle.vt_tiles.specs.Format.{tile_length};
 ghost use Rattle.vt_tiles.specs.Refusals.{IsOutsideRefusal};
 ghost use Rattle.vt_tiles.specs.Made.{HoldsMade, HoldsMadeFront};
-ghost use Rattle.vt_store.specs.StripStores.{IsStripRoom, StripsAsked, StripsTried, strip_shape, strip_store};
+ghost use Rattle.vt_store.specs.StripStores.{IsStripRoom, strip_shape, strip_store};
+ghost use Rattle.vt_ppm.specs.StripPlaces.{StripsAsked, StripsTried, strips_of};
 ghost use Rattle.vt_store.specs.StripSteps.{AddsStrips, IsNextStrip, KeepsStrips, strips_state};
-ghost use Rattle.vt_ppm.specs.StripPlaces.{strips_of};
 
 use crate::levels::write_levels;
 use crate::steps::{add_row, tile_rooms, write_next};

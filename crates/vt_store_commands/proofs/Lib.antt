@@ -4,3 +4,5 @@ pub mod Making
 pub mod Upgrading
 pub mod PlainFiles
 pub mod PlainGroups
+pub mod SeenTextures
+pub mod SeenPictures

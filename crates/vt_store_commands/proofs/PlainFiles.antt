@@ -7,9 +7,10 @@ use Rattle.std.proofs.lemmas.Fmt.{length-decimal-le}
 use borrow.Rule.Slice.PartMut.{put_mid}
 use Rattle.vt_definitions.specs.Depths.{IsDepth, texel_length, greatest_sample}
 use Rattle.vt_camera.specs.Paths.{PathView}
-use Rattle.vt_ppm.specs.Image.{ImageView}
 use Rattle.vt_ppm.specs.Picture.{picture_header}
-use Rattle.vt_draw.specs.Plain.{chain_of, surface_of, camera_at, plain_samples}
+use Rattle.vt_draw.specs.declared.plain.Levels.{Levels}
+use Rattle.vt_draw.specs.Plain.{chain_of, surface_of, camera_at}
+use Rattle.vt_draw.specs.Views.{source_of}
 use Rattle.vt_draw.proofs.Drawn.{length-first_rows}
 use Rattle.vt_draw.proofs.PartsDrawn.{row_put}
 use Rattle.vt_plain_bilinear.specs.Plain.{plain_blends}
@@ -17,9 +18,8 @@ use Rattle.vt_plain_bilinear.proofs.PlainBlends.{length-rows}
 use Rattle.vt_words.specs.declared.filters.Filtering.{Filtering}
 use Rattle.vt_words.specs.declared.filters.Filtering.TheVariants.{Nearest, Bilinear}
 use Rattle.vt_tiles.proofs.Spans.{span_add, span_length}
-use Rattle.vt_store_commands.specs.Pictures.{samples_by}
 use Rattle.vt_store_commands.specs.declared.plain_files.PlainPictures.{PlainPictures}
-use Rattle.vt_store_commands.specs.PlainFiles.{file_of, files_between, file_size, HasHeader, IsRoomForFiles, HasRoom, HoldsFiles}
+use Rattle.vt_store_commands.specs.PlainFiles.{AreWanted, samples_with, file_of, files_between, file_size, HasHeader, IsRoomForFiles, HasRoom, HoldsFiles}
 use Rattle.vt_store_commands.proofs.Drawing.{file_is}
 
 parts_length : (a b c d e f g : List ℕ) → length (a ++ b ++ c ++ d ++ e ++ f ++ g)
@@ -48,13 +48,14 @@ header_short d w h depth wide high =
     greatest d (inr two) = rw two (let few : length (decimal 65535) ≤ 10 = length-decimal-le 10 65535 (omega arith) (omega arith) (omega arith) in few)
 
 -- the header of a path's pictures
-pub has_header : (p : PlainPictures) (d w h : ℕ) → p.header.now ≡ picture_header d w h → d ≡ p.chain.now.base.depth → w ≡ p.path.now.width
-    → h ≡ p.path.now.height → IsDepth d → w ≤ 2048 → h ≤ 2048 → HasHeader p
-has_header p d w h is depth columns rows lawful wide high = record {
+pub has_header : (p : PlainPictures) (d w h : ℕ) → AreWanted p.levels p.path.now → p.header.now ≡ picture_header d w h → d ≡ p.levels.chain.now.base.depth
+    → w ≡ p.path.now.width → h ≡ p.path.now.height → IsDepth d → w ≤ 2048 → h ≤ 2048 → HasHeader p
+has_header p d w h wanted is depth columns rows lawful wide high = record {
+  wanted = wanted;
   header = is
       ∙ ap (λ (n : ℕ). picture_header n w h) depth
-      ∙ ap (λ (n : ℕ). picture_header p.chain.now.base.depth n h) columns
-      ∙ ap (λ (n : ℕ). picture_header p.chain.now.base.depth p.path.now.width n) rows;
+      ∙ ap (λ (n : ℕ). picture_header p.levels.chain.now.base.depth n h) columns
+      ∙ ap (λ (n : ℕ). picture_header p.levels.chain.now.base.depth p.path.now.width n) rows;
   short = let same : length p.header.now ≡ length (picture_header d w h) = ap length is in omega (arith, same, header_short d w h lawful wide high);
 }
 
@@ -63,27 +64,26 @@ pub size_small : (t w h : ℕ) → t ≤ 6 → w ≤ 2048 → h ≤ 2048 → t *
 size_small t w h few wide high = mul-le t (w * h) 6 4194304 few (mul-le w h 2048 2048 wide high)
 
 -- the samples of a picture by a filter
-pub length-samples_by : (filter : Filtering) (texture : ImageView) (tile : ℕ) (path : PathView) (picture : ℕ)
-    → length (samples_by filter texture tile path picture) ≡ texel_length texture.depth * (path.width * path.height)
-unfolding plain_samples plain_blends
-length-samples_by Nearest texture tile path picture =
-    length-first_rows texture.depth (chain_of texture) (surface_of texture tile) path (camera_at path picture) path.height
-length-samples_by Bilinear texture tile path picture =
-    length-rows texture.depth (chain_of texture) (surface_of texture tile) path (camera_at path picture) path.height
+pub length-samples_with : (filter : Filtering) (l : Levels) (path : PathView) (picture : ℕ)
+    → length (samples_with filter l path picture) ≡ texel_length l.chain.now.base.depth * (path.width * path.height)
+unfolding plain_blends
+length-samples_with Nearest l path picture =
+    length-first_rows l.chain.now.base.depth (source_of l) l.surface path (camera_at path picture) path.height
+length-samples_with Bilinear l path picture =
+    length-rows l.chain.now.base.depth (chain_of l.chain.now.base) (surface_of l.chain.now.base l.chain.now.tile) path (camera_at path picture) path.height
 
 -- a header and samples behind it are the file
 pub file_whole : (p : PlainPictures) (picture : ℕ) (bytes : List ℕ) → HasHeader p
-    → bytes ≡ p.header.now ++ samples_by p.filter p.chain.now.base p.chain.now.tile p.path.now picture → bytes ≡ file_of p picture
+    → bytes ≡ p.header.now ++ samples_with p.filter p.levels p.path.now picture → bytes ≡ file_of p picture
 file_whole p picture bytes has is =
-    file_is p.filter p.chain.now.base p.chain.now.tile p.path.now picture p.chain.now.base.depth p.path.now.width p.path.now.height bytes bytes
-    p.header.now refl is has.header refl refl refl
+    file_is p.levels.chain.now.base.depth p.path.now.width p.path.now.height bytes p.header.now (samples_with p.filter p.levels p.path.now picture) is has.header
 
 pub length-file : (p : PlainPictures) → HasHeader p → (picture : ℕ) → length (file_of p picture) ≡ file_size p
 length-file p has picture =
-    let samples = samples_by p.filter p.chain.now.base p.chain.now.tile p.path.now picture in
+    let samples = samples_with p.filter p.levels p.path.now picture in
     ap length (sym (file_whole p picture (p.header.now ++ samples) has refl))
     ∙ length-append p.header.now samples
-    ∙ ap (λ (n : ℕ). length p.header.now + n) (length-samples_by p.filter p.chain.now.base p.chain.now.tile p.path.now picture)
+    ∙ ap (λ (n : ℕ). length p.header.now + n) (length-samples_with p.filter p.levels p.path.now picture)
 
 module _ (file : ℕ → List ℕ) where
   -- no files

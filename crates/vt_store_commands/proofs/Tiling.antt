@@ -15,8 +15,7 @@ use Rattle.vt_pages.specs.Shape.{shape_of, is_texture_side}
 use Rattle.vt_pages.specs.Pages.{refusal_of, pages_of}
 use Rattle.vt_pages.specs.declared.PagesError.{PagesError}
 use Rattle.vt_pages.specs.declared.PagesError.TheVariants as pages_error
-use Rattle.vt_store.specs.StripStores.{StripsTried}
-use Rattle.vt_ppm.specs.StripPlaces.{strip_place, strip_places}
+use Rattle.vt_ppm.specs.StripPlaces.{StripsTried, strip_place, strip_places}
 use Rattle.vt_files.specs.Effects.{FolderState}
 use Rattle.vt_files.specs.Expectations.{Writes}
 use Rattle.vt_command_base.specs.Inputs.{TiledTexture, TextureContent, AreStrips}

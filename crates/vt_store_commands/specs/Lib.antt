@@ -1,3 +1,4 @@
 pub mod Pictures
 pub mod commands
 pub mod PlainFiles
+pub mod SeenTextures

@@ -1,18 +1,37 @@
 -- The files of plain pictures, one behind the other in one room.
-use Rattle.std.specs.Prelude.{◌≡◌, ℕ, ◌+◌, ◌-◌, ◌*◌, ◌≤◌, List, length, take, Result, Ok, Err}
+use Rattle.std.specs.Prelude.{◌≡◌, ℕ, ◌+◌, ◌-◌, ◌*◌, ◌<◌, ◌≤◌, List, length, take, Result, Ok, Err}
 use Rattle.std.specs.List.{flat_map, range_with_len}
 use Rattle.vt_definitions.specs.Depths.{texel_length}
 use Rattle.vt_outside.specs.declared.answers.OutsideError.{OutsideError}
-use Rattle.vt_ppm.specs.Picture.{picture_header}
+use Rattle.vt_ppm.specs.Picture.{picture_header, picture_bytes}
+use Rattle.vt_camera.specs.Paths.{PathView}
+use Rattle.vt_draw.specs.declared.plain.Levels.{Levels}
+use Rattle.vt_draw.specs.Plain.{camera_at, plain_picture}
+use Rattle.vt_draw.specs.Views.{AreLevels, WantsNone, source_of}
+use Rattle.vt_plain_bilinear.specs.Plain.{plain_blends}
+use Rattle.vt_words.specs.declared.filters.Filtering.{Filtering}
+use Rattle.vt_words.specs.declared.filters.Filtering.TheVariants.{Nearest, Bilinear}
 use Rattle.vt_files.specs.Effects.{FolderState, FolderEffect}
 use Rattle.vt_files.specs.Expectations.{Writes}
 use Rattle.vt_files.specs.Pictures.{expected_pictures}
-use Rattle.vt_store_commands.specs.Pictures.{plain_file}
 use Rattle.vt_store_commands.specs.declared.plain_files.PlainPictures.{PlainPictures}
 
--- the file of a picture
+-- the samples of a picture by a filter: of the levels that are there by the nearest texel, and of the whole chain by a blend
+abbrev pub samples_with : Filtering → Levels → PathView → ℕ → List ℕ
+samples_with Nearest l path picture = plain_picture l.chain.now.base.depth (source_of l) l.surface path picture
+samples_with Bilinear l path picture = plain_blends l.chain.now.base l.chain.now.tile path picture
+
+-- the file of a picture (the Netpbm manual's P6 page)
+abbrev pub file_with : Filtering → Levels → PathView → ℕ → List ℕ
+file_with filter l path picture = picture_bytes l.chain.now.base.depth path.width path.height (samples_with filter l path picture)
+
 abbrev pub file_of : PlainPictures → ℕ → List ℕ
-file_of p picture = plain_file p.filter p.chain.now.base p.chain.now.tile p.path.now picture
+file_of p picture = file_with p.filter p.levels p.path.now picture
+
+-- the levels are there that the rows of a path's pictures want
+pub record AreWanted (l : Levels) (path : PathView) : Type 0 where
+  pub levels : AreLevels l
+  pub wants : (picture : ℕ) → picture < length path.cameras → WantsNone l path (camera_at path picture)
 
 -- the files of the pictures from one on to another
 unfoldable pub files_between : (ℕ → List ℕ) → ℕ → ℕ → List ℕ
@@ -20,11 +39,12 @@ files_between file first end = flat_map file (range_with_len first (end - first)
 
 -- how many bytes each file has
 abbrev pub file_size : PlainPictures → ℕ
-file_size p = length p.header.now + texel_length p.chain.now.base.depth * (p.path.now.width * p.path.now.height)
+file_size p = length p.header.now + texel_length p.levels.chain.now.base.depth * (p.path.now.width * p.path.now.height)
 
--- the header is that of each file
+-- the header is that of each file, and the levels are there
 pub record HasHeader (p : PlainPictures) : Type 0 where
-  pub header : p.header.now ≡ picture_header p.chain.now.base.depth p.path.now.width p.path.now.height
+  pub wanted : AreWanted p.levels p.path.now
+  pub header : p.header.now ≡ picture_header p.levels.chain.now.base.depth p.path.now.width p.path.now.height
   pub short : length p.header.now ≤ 64
 
 -- there are pictures from one on to another, and so many bytes are exactly their files' room

@@ -4,3 +4,4 @@
 pub mod commands;
 mod plain_files;
 mod plain_groups;
+mod seen_textures;

@@ -3,14 +3,12 @@
 ghost use Rattle.std.specs.Prelude.{◌≡◌, ◌+◌, ◌*◌, ◌<◌, ◌≤◌, ◌^◌, length};
 ghost use Rattle.std.specs.Thread.{IsSync};
 ghost use Rattle.vt_definitions.specs.Depths.{texel_length};
-ghost use Rattle.vt_store_commands.specs.Pictures.{samples_by};
-ghost use Rattle.vt_store_commands.specs.PlainFiles.{HasHeader, HasRoom, HoldsFiles, IsRoomForFiles, file_of, file_size, files_between};
+ghost use Rattle.vt_store_commands.specs.PlainFiles.{AreWanted, HasHeader, HasRoom, HoldsFiles, IsRoomForFiles, file_of, file_size, files_between, samples_with};
 
 use std::thread::{Threads, join_mut};
 use vt_camera::Path;
 use vt_definitions::texel_length;
-use vt_draw::draw_plain_into;
-use vt_mip::Chain;
+use vt_draw::{Levels, draw_levels_into};
 use vt_parts::share;
 use vt_plain_bilinear::draw_plain_blend_into;
 use vt_words::Filtering;
@@ -18,7 +16,7 @@ use vt_words::Filtering;
 /// What the files of plain pictures are made of, and the header that each of them begins with.
 #[derive(Clone, Copy)]
 pub(crate) struct PlainPictures<'a> {
-    pub(crate) chain: &'a Chain,
+    pub(crate) levels: Levels<'a>,
     pub(crate) path: &'a Path,
     pub(crate) filter: Filtering,
     pub(crate) header: &'a [u8],
@@ -32,7 +30,8 @@ pub(crate) fn file_size(pictures: &PlainPictures<'_>) -> usize
 {
     let path = pictures.path;
     pictures.header.len()
-        + texel_length(pictures.chain.depth()) * (path.width() as usize * path.height() as usize)
+        + texel_length(pictures.levels.chain.depth())
+            * (path.width() as usize * path.height() as usize)
 }
 
 // Draws a picture by a filter, in so many threads.
@@ -40,18 +39,19 @@ fn draw_samples<Rt: Threads + Sync>(
     rt: &Rt,
     threads: usize,
     filter: Filtering,
-    chain: &Chain,
+    levels: &Levels<'_>,
     path: &Path,
     picture: u32,
     out: &mut [u8],
 )
+    requires wanted { AreWanted levels.now path.now }
     requires picture { picture < length path.now.cameras }
-    requires room { length out.old ≡ texel_length chain.now.base.depth * (path.now.width * path.now.height) }
-    ensures { out.new ≡ samples_by filter chain.now.base chain.now.tile path.now picture }
+    requires room { length out.old ≡ texel_length levels.now.chain.now.base.depth * (path.now.width * path.now.height) }
+    ensures { out.new ≡ samples_with filter levels.now path.now picture }
 {
     match filter {
-        Filtering::Nearest => draw_plain_into(rt, threads, chain, path, picture, out),
-        Filtering::Bilinear => draw_plain_blend_into(rt, threads, chain, path, picture, out),
+        Filtering::Nearest => draw_levels_into(rt, threads, levels, path, picture, out),
+        Filtering::Bilinear => draw_plain_blend_into(rt, threads, levels.chain, path, picture, out),
     }
 }
 
@@ -74,7 +74,7 @@ fn draw_file<Rt: Threads + Sync>(
         rt,
         threads,
         pictures.filter,
-        pictures.chain,
+        &pictures.levels,
         pictures.path,
         picture,
         samples,

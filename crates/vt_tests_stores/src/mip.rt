@@ -1,5 +1,6 @@
 //! Mip chains of whole textures.
 
+mod halves;
 mod strips;
 
 ghost use Rattle.vt_definitions.specs.Tiles.{IsTileSide};

@@ -4,10 +4,11 @@ ghost use Rattle.std.specs.Prelude.{◌≡◌, true, IfSome, map, option_map, le
 ghost use Rattle.clap.specs.Words.{rows_of, found_of};
 ghost use Rattle.vt_words.specs.Arguments.{rule_for, are_simple};
 ghost use Rattle.vt_store_commands.specs.commands.{PlainCommand, shown_store, IsLawfulStore};
-ghost use Rattle.vt_store_commands.specs.commands.Plain.{plain_rules, plain_clash, plain_values, shown_plain, plain_task, expected_path};
+ghost use Rattle.vt_store_commands.specs.commands.Plain.{plain_rules, plain_clash, plain_values, shown_plain, plain_task};
 ghost use Rattle.vt_definitions.specs.Tiles.{IsTileSide};
 ghost use Rattle.vt_files.specs.Effects.{call_effect, folder_effect};
-ghost use Rattle.vt_store_commands.specs.Pictures.{plain_file};
+ghost use Rattle.vt_store_commands.specs.PlainFiles.{AreWanted, file_with};
+ghost use Rattle.vt_store_commands.specs.SeenTextures.{IsEnough, seen_path};
 ghost use Rattle.vt_files.specs.Expectations.{Leaves, Writes};
 ghost use Rattle.vt_command_base.specs.CommandSpecs.{Ends};
 ghost use Rattle.vt_files.specs.Pictures.{expected_pictures};
@@ -15,14 +16,16 @@ ghost use Rattle.vt_files.specs.Pictures.{expected_pictures};
 use crate::commands::StoreCommand;
 use crate::plain_files::PlainPictures;
 use crate::plain_groups::write_pictures;
+use crate::seen_textures::{Seen, read_seen};
 use clap::ArgMatches;
 use std::alloc::Global;
 use std::thread::Threads;
-use vt_camera::Path;
-use vt_command_base::{Refusal, put_end, read_path, read_texture};
+use vt_camera::{Path, Surface};
+use vt_command_base::{Refusal, put_end, read_path};
+use vt_draw::Levels;
 use vt_mip::Chain;
 use vt_outside::{Folder, OutsideError, Sink};
-use vt_ppm::{Image, begin_picture};
+use vt_ppm::begin_picture;
 use vt_words::arguments::{Argument, text};
 use vt_words::filters::filter_of;
 use vt_words::numbers::side_of;
@@ -98,26 +101,51 @@ pub fn plain<'a, Rt: Threads + Sync, D: Folder, O: Sink>(
     ensures { Ends (plain_task (shown_plain words.now)) (call_effect D.Folder O.Sink folder.old folder.new out.old out.new) result }
 {
     let path = read_path(alloc, folder, words.path)?;
-    let texture = read_texture(rt, alloc, folder, words.texture)?;
-    leave_pictures(rt, alloc, texture, &path, words, folder, out)?;
+    let seen = read_seen(
+        rt,
+        alloc,
+        folder,
+        words.texture,
+        words.filter,
+        words.tile,
+        &path,
+    )?;
+    leave_pictures(rt, alloc, seen, &path, words, folder, out)?;
     Ok(())
 }
 
-// Writes all pictures of a path over a texture, and puts the end line.
+// Writes all pictures of a path over what is there of a texture, and puts the end line.
 fn leave_pictures<Rt: Threads + Sync, D: Folder, O: Sink>(
     rt: &Rt,
     alloc: Global,
-    texture: Image,
+    seen: Seen,
     path: &Path,
     words: &PlainWords<'_>,
     folder: &mut D,
     out: &mut O,
 ) -> Result<(), OutsideError>
-    requires { IsTileSide words.now.tile }
-    ensures { Leaves (expected_path (shown_plain words.now) texture path.now) (call_effect D.Folder O.Sink folder.old folder.new out.old out.new) result }
+    requires tile { IsTileSide words.now.tile }
+    requires enough { IsEnough seen words.now.tile path.now }
+    ensures { Leaves (seen_path words.now.prefix.now words.now.filter seen words.now.tile path.now)
+        (call_effect D.Folder O.Sink folder.old folder.new out.old out.new) result }
 {
-    let chain = Chain::build(rt, alloc, texture, words.tile)?;
-    write_all(rt, alloc, &chain, path, words, folder)?;
+    let Seen {
+        image,
+        width,
+        height,
+        skipped,
+    } = seen;
+    let chain = Chain::build(rt, alloc, image, words.tile)?;
+    let levels = Levels {
+        chain: &chain,
+        skipped,
+        surface: Surface {
+            width,
+            height,
+            levels: chain.levels() + skipped,
+        },
+    };
+    write_all(rt, alloc, &levels, path, words, folder)?;
     put_end(out, path.pictures())
 }
 
@@ -125,25 +153,26 @@ fn leave_pictures<Rt: Threads + Sync, D: Folder, O: Sink>(
 fn write_all<Rt: Threads + Sync, D: Folder>(
     rt: &Rt,
     alloc: Global,
-    chain: &Chain,
+    levels: &Levels<'_>,
     path: &Path,
     words: &PlainWords<'_>,
     folder: &mut D,
 ) -> Result<(), OutsideError>
+    requires { AreWanted levels.now path.now }
     ensures { Writes (expected_pictures words.now.prefix.now
-        (plain_file words.now.filter chain.now.base chain.now.tile path.now) (length path.now.cameras))
+        (file_with words.now.filter levels.now path.now) (length path.now.cameras))
         (folder_effect D.Folder folder.old folder.new) result }
 {
     let mut header = Vec::new(alloc);
     begin_picture(
         &mut header,
         alloc,
-        chain.depth(),
+        levels.chain.depth(),
         path.width(),
         path.height(),
     )?;
     let pictures = PlainPictures {
-        chain,
+        levels: *levels,
         path,
         filter: words.filter,
         header: header.as_slice(),

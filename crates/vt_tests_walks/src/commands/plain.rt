@@ -1,4 +1,5 @@
 // Runs of `plain`.
+mod strips;
 mod textures;
 
 use super::files::{FAULT, G4, PATH, PICTURE, USAGE};

@@ -4,6 +4,7 @@ use Rattle.vt_files.specs.Effects.{folder_state}
 use Rattle.vt_command_base.specs.Inputs.{TextureInput, TextureContent}
 use Rattle.vt_command_base.specs.Reads.{visit}
 use Rattle.vt_command_base.proofs.Reading.{closed}
+use Rattle.vt_command_base.proofs.Textures.{image_visited}
 use Rattle.vt_command_base.proofs.input.read_texture.Goals as goal
 
 pub returns-in_err-file : goal.returns-in_err-file
@@ -15,5 +16,5 @@ pub returns : goal.returns
 returns g c =
     closed (TextureInput c.args.name.now) TextureContent (folder_state g.D.Folder c.args.folder.now) (folder_state g.D.Folder c.open_input.new.folder)
     (folder_state g.D.Folder c.close.new.self) (visit g.D.File.File c.in_ok-file.file c.texture_in-texture.new.file) c.texture_in-texture.result
-    c.in_ok-file.ensures.opened c.texture_in-texture.ensures.visits c.texture_in-texture.ensures.finds
+    c.in_ok-file.ensures.opened (image_visited c.args.name.now _ c.texture_in-texture.ensures.visits) c.texture_in-texture.ensures.finds
     (record { files = c.close.ensures.files; asked = c.close.ensures.asked; kept = c.close.ensures.kept; faults = c.close.ensures.faults })

@@ -1,6 +1,7 @@
 use Rattle.std.proofs.Common.{◌≤◌, Ok, sym, subst, ◌∙◌, arith}
 use Rattle.vt_ppm.specs.declared.header.Header.{Header}
-use Rattle.vt_command_base.specs.Inputs.{TiledTexture, AsksStrips}
+use Rattle.vt_ppm.specs.Flaws.{AreImageSides}
+use Rattle.vt_command_base.specs.Inputs.{AsksStrips}
 use Rattle.vt_command_base.specs.Reads.{Visits, IsCausedIn, SeesTexture, file_state}
 use Rattle.vt_command_base.proofs.Seeing.{seen, caused_later, tried_visited}
 use Rattle.vt_command_base.proofs.input.reader_in.Goals as goal
@@ -14,14 +15,18 @@ returns-in-Ok-look_over-clause-seen g c =
     subst (λ (h : Header). SeesTexture told h (Ok tt) before after) (sym c.in-Ok-look_over.ensures.header)
     (seen told c.in-Ok.reader.header (Ok tt) before (g.F.File.asked c.in-Ok.reader.file) after e.read e.raster c.in-Ok-look_over.ensures.seen)
 
+pub returns-in-Ok-look_over-clause-sides : goal.returns-in-Ok-look_over-clause-sides
+returns-in-Ok-look_over-clause-sides g c =
+    subst (λ (h : Header). AreImageSides c.args.most h.width h.height) (sym c.in-Ok-look_over.ensures.header) c.in-Ok.ensures.sides
+
 pub returns-in-Err-look_over-clause-caused : goal.returns-in-Err-look_over-clause-caused
-returns-in-Err-look_over-clause-caused g c = λ tile.
+returns-in-Err-look_over-clause-caused g c = λ input up.
     let e = c.in-Ok.ensures in
     let old = file_state g.F.File c.args.file in
     let new = file_state g.F.File c.look_over.new.reader.file in
-    let caused : IsCausedIn (TiledTexture c.args.name.now tile) (record { before = old; after = new }) c.in-Err-look_over.refusal =
-    caused_later (TiledTexture c.args.name.now tile) old (file_state g.F.File c.in-Ok.reader.file) new c.in-Err-look_over.refusal
-    e.bytes e.faults (c.in-Err-look_over.ensures.caused tile) in
+    let caused : IsCausedIn input (record { before = old; after = new }) c.in-Err-look_over.refusal =
+    caused_later input old (file_state g.F.File c.in-Ok.reader.file) new c.in-Err-look_over.refusal
+    e.bytes e.faults (c.in-Err-look_over.ensures.caused input c.args.most e.sides up) in
     rw c.into_file.ensures caused
 
 pub returns-in-Err-look_over-clause-tried : goal.returns-in-Err-look_over-clause-tried

@@ -1,9 +1,8 @@
 use Rattle.std.proofs.Common.{◌≡◌, ℕ, ◌-◌, ◌*◌, ◌≤◌, ◌++◌, length, take, ap, ap₂, sym, subst, ◌∙◌, arith}
 use Rattle.vt_definitions.specs.Depths.{texel_length}
-use Rattle.vt_definitions.specs.Limits.{most_levels}
 use Rattle.vt_camera.specs.Rows.{RowView}
-use Rattle.vt_draw.specs.Plain.{chain_of}
-use Rattle.vt_draw.specs.Views.{rows_shown}
+use Rattle.vt_draw.specs.Views.{rows_shown, source_of}
+use Rattle.vt_draw.proofs.WantedLevels.{drawable}
 use Rattle.vt_draw.proofs.PartsDrawn.{rows_none, row_more, row_within, rows_all}
 use Rattle.vt_draw.proofs.plain.draw_rows.Goals as goal
 
@@ -14,7 +13,7 @@ pub of-row-requires-clause-limits : goal.of-row-requires-clause-limits
 of-row-requires-clause-limits g c = c.requires.view.camera
 
 pub of-row-requires-clause-sides : goal.of-row-requires-clause-sides
-of-row-requires-clause-sides g c = c.requires.view.limits
+of-row-requires-clause-sides g c = c.requires.view.levels.limits
 
 pub draw_plain_row-requires-clause-depth : goal.draw_plain_row-requires-clause-depth
 draw_plain_row-requires-clause-depth g c = c.requires.view.depth
@@ -22,16 +21,26 @@ draw_plain_row-requires-clause-depth g c = c.requires.view.depth
 pub draw_plain_row-requires-clause-own : goal.draw_plain_row-requires-clause-own
 draw_plain_row-requires-clause-own g c = c.requires.view.own
 
-pub draw_plain_row-requires-clause-surface : goal.draw_plain_row-requires-clause-surface
-draw_plain_row-requires-clause-surface g c = ap (λ (r : RowView). r.surface) c.of-row.ensures ∙ c.requires.view.surface
+pub draw_plain_row-requires-clause-wanted : goal.draw_plain_row-requires-clause-wanted
+draw_plain_row-requires-clause-wanted g c =
+    (drawable g.row.DEPTH c.args.view.now c.loop-y.y c.of-row.result c.requires.view (omega (arith, c.requires.rows)) c.of-row.ensures).wanted
+
+pub draw_plain_row-requires-clause-there : goal.draw_plain_row-requires-clause-there
+draw_plain_row-requires-clause-there g c =
+    (drawable g.row.DEPTH c.args.view.now c.loop-y.y c.of-row.result c.requires.view (omega (arith, c.requires.rows)) c.of-row.ensures).there
+
+pub draw_plain_row-requires-clause-columns : goal.draw_plain_row-requires-clause-columns
+draw_plain_row-requires-clause-columns g c =
+    (drawable g.row.DEPTH c.args.view.now c.loop-y.y c.of-row.result c.requires.view (omega (arith, c.requires.rows)) c.of-row.ensures).columns
+
+pub draw_plain_row-requires-clause-rows : goal.draw_plain_row-requires-clause-rows
+draw_plain_row-requires-clause-rows g c =
+    (drawable g.row.DEPTH c.args.view.now c.loop-y.y c.of-row.result c.requires.view (omega (arith, c.requires.rows)) c.of-row.ensures).rows
 
 pub draw_plain_row-requires-clause-width : goal.draw_plain_row-requires-clause-width
 draw_plain_row-requires-clause-width g c =
     let wide : c.of-row.result.width ≡ c.args.view.now.path.now.width = ap (λ (r : RowView). r.width) c.of-row.ensures in
     omega (arith, wide, c.width-columns.ensures.value)
-
-pub draw_plain_row-requires-clause-levels : goal.draw_plain_row-requires-clause-levels
-draw_plain_row-requires-clause-levels g c = subst (λ (r : RowView). r.surface.levels ≤ most_levels) (sym c.of-row.ensures) c.requires.view.levels
 
 pub loop-y-preserved : goal.loop-y-preserved
 loop-y-preserved g c =
@@ -41,7 +50,7 @@ loop-y-preserved g c =
     let size = c.texel_length.result * c.width-columns.result in
     let is : size ≡ texel_length g.row.DEPTH * v.path.now.width = ap₂ (λ (m n : ℕ). m * n) c.texel_length.ensures.value c.width-columns.ensures.value in
     let fits = row_within g.row.DEPTH v first c.args.end (length c.args.out.now) size y c.requires is (omega arith) (omega arith) in
-    row_more g.row.DEPTH (chain_of v.chain.now.base) v.surface v.path.now v.camera first y c.width-columns.result _ size c.of-row.result
+    row_more g.row.DEPTH (source_of v.levels) v.levels.surface v.path.now v.camera first y c.width-columns.result _ size c.of-row.result
     c.loop-y.out c.draw_plain_row.new.out (omega arith) (omega (arith, c.draw_plain_row.auto.out, fits, c.loop-y.auto.out))
     (omega (arith, fits, c.loop-y.auto.out)) c.draw_plain_row.ensures c.of-row.ensures c.width-columns.ensures.value c.loop-y.invariant
 

@@ -4,6 +4,7 @@ use Rattle.std.proofs.Common.{refl}
 use Rattle.std.proofs.lemmas.Result.{err_from_is_err_and}
 use Rattle.vt_outside.proofs.Refusing.{no_value, handed_on}
 use Rattle.vt_definitions.specs.Limits.{most_tiled_side}
+use Rattle.vt_ppm.proofs.ImageLaws.{texture_header, wider_header}
 use Rattle.vt_ppm.proofs.StripLaws.{raster_told}
 use Rattle.vt_ppm.proofs.TellingFiles.{flaw_told, truncated_told}
 use Rattle.vt_ppm.proofs.read.read_texture_header.Goals as goal
@@ -11,20 +12,21 @@ use Rattle.vt_ppm.proofs.read.read_texture_header.Goals as goal
 pub returns-in_err-header-clause-flaw : goal.returns-in_err-header-clause-flaw
 returns-in_err-header-clause-flaw g c =
     let p = err_from_is_err_and c.from_residual-in_err-header.result c.from_residual-in_err-header.ensures.1 in
-    rw (p.1, p.2) (λ _. flaw_told most_tiled_side _ c.in_ok-bytes.field-0.length c.deref.result.now (rw c.deref.ensures.value c.in_ok-bytes.ensures.front)
+    rw (p.1, p.2) (λ _. flaw_told c.args.most _ c.in_ok-bytes.field-0.length c.deref.result.now (rw c.deref.ensures.value c.in_ok-bytes.ensures.front)
     c.in_err-header.field-0.0 c.in_err-header.ensures.no_raster c.in_err-header.ensures.flaw)
 
 pub returns-then-have-want-clause-flaw : goal.returns-then-have-want-clause-flaw
 returns-then-have-want-clause-flaw g c =
     let h = c.in_ok-header.header in
-    λ _. truncated_told most_tiled_side _ c.in_ok-bytes.field-0.length h.raster h.width h.height h.maximum c.deref.result.now
+    λ _. truncated_told c.args.most _ c.in_ok-bytes.field-0.length h.raster h.width h.height h.maximum c.deref.result.now
     (rw c.deref.ensures.value c.in_ok-bytes.ensures.front) c.in_ok-header.ensures.header
     _ _ (rw c.deref.ensures.value c.in_ok-bytes.ensures.few) c.raster_length-want.ensures refl c.if-have-want.true
 
 pub returns-clause-raster : goal.returns-clause-raster
 returns-clause-raster g c =
     raster_told _ c.in_ok-bytes.field-0.length c.deref.result.now c.in_ok-header.header _ _
-    (rw c.deref.ensures.value c.in_ok-bytes.ensures.front) (rw c.deref.ensures.value c.in_ok-bytes.ensures.few) c.in_ok-header.ensures.header
+    (rw c.deref.ensures.value c.in_ok-bytes.ensures.front) (rw c.deref.ensures.value c.in_ok-bytes.ensures.few)
+    (let h = c.in_ok-header.header in wider_header c.args.most most_tiled_side _ h.raster h.width h.height h.maximum c.requires c.in_ok-header.ensures.header)
     c.raster_length-want.ensures refl c.if-have-want.false c.in_ok-bytes.ensures.values
 
 pub returns-in_err-bytes-clause-limits : goal.returns-in_err-bytes-clause-limits
@@ -136,3 +138,18 @@ returns-clause-name g c = c.front_of.ensures.name
 
 pub returns-clause-faults : goal.returns-clause-faults
 returns-clause-faults g c = c.front_of.ensures.faults
+
+pub returns-clause-limits : goal.returns-clause-limits
+returns-clause-limits g c = texture_header c.args.most _ c.in_ok-header.header c.requires c.in_ok-header.ensures.header
+
+pub returns-clause-sides : goal.returns-clause-sides
+returns-clause-sides g c = c.in_ok-header.ensures.header.sized.sides
+
+pub returns-in_err-bytes-clause-sides : goal.returns-in_err-bytes-clause-sides
+returns-in_err-bytes-clause-sides g c = no_value c.from_residual.result _ _ c.from_residual.ensures.1
+
+pub returns-in_err-header-clause-sides : goal.returns-in_err-header-clause-sides
+returns-in_err-header-clause-sides g c = no_value c.from_residual-in_err-header.result _ _ c.from_residual-in_err-header.ensures.1
+
+pub returns-then-have-want-clause-sides : goal.returns-then-have-want-clause-sides
+returns-then-have-want-clause-sides g c = tt

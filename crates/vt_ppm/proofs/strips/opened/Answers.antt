@@ -114,3 +114,12 @@ returns-clause-name g c = c.read_texture_header.ensures.name
 
 pub returns-clause-faults : goal.returns-clause-faults
 returns-clause-faults g c = c.read_texture_header.ensures.faults
+
+pub returns-in_err-header-clause-sides : goal.returns-in_err-header-clause-sides
+returns-in_err-header-clause-sides g c = no_value c.from_residual.result _ _ c.from_residual.ensures.1
+
+pub returns-in_err-buffer-clause-sides : goal.returns-in_err-buffer-clause-sides
+returns-in_err-buffer-clause-sides g c = no_value c.from_residual-in_err-buffer.result _ _ c.from_residual-in_err-buffer.ensures.1
+
+pub returns-clause-sides : goal.returns-clause-sides
+returns-clause-sides g c = c.in_ok-header.ensures.sides

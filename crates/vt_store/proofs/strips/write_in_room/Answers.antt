@@ -12,7 +12,8 @@ use Rattle.vt_store.specs.ChainStores.{level_source}
 use Rattle.vt_store.specs.StripStores.{strip_front}
 use Rattle.vt_store.specs.StripSteps.{strips_state}
 use Rattle.vt_store.proofs.WideStores.{rose_along, no_less}
-use Rattle.vt_store.proofs.StripStores.{made_moved, made_begun, made_header, made_whole, made_rest_part, store_seen, front_seen, header_seen, no_strips, strips_front}
+use Rattle.vt_store.proofs.StripStores.{made_moved, made_begun, made_header, made_whole, made_rest_part, store_seen, front_seen, header_seen}
+use Rattle.vt_ppm.proofs.StripPlaces.{no_strips, strips_front}
 use Rattle.vt_store.proofs.StripLevels.{first_pages, first_inside, are_strips, rest_tiles, level_made}
 use Rattle.vt_store.proofs.OneStep.{error_is}
 use Rattle.vt_store.proofs.StripSteps.{first_next}

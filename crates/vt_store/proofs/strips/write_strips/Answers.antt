@@ -6,13 +6,13 @@ use Rattle.vt_outside.proofs.Untold.{OnErr-all}
 use Rattle.vt_outside.proofs.Refusing.{none_made, no_fewer}
 use Rattle.vt_ppm.specs.declared.header.Header.{Header}
 use Rattle.vt_ppm.specs.Strips.{texture_of}
-use Rattle.vt_ppm.specs.StripPlaces.{strips_of}
+use Rattle.vt_ppm.specs.StripPlaces.{strips_of, StripsAsked, StripsTried}
 use Rattle.vt_tiles.specs.Made.{HoldsMade, HoldsMadeFront}
 use Rattle.vt_tiles.proofs.Refusing.{by_memory, no_fault}
 use Rattle.vt_store.specs.ChainStores.{texture_store}
-use Rattle.vt_store.specs.StripStores.{StripsAsked, StripsTried}
 use Rattle.vt_store.proofs.WideStores.{no_less}
-use Rattle.vt_store.proofs.StripStores.{seen_at, no_strips, strips_front}
+use Rattle.vt_store.proofs.StripStores.{seen_at}
+use Rattle.vt_ppm.proofs.StripPlaces.{no_strips, strips_front}
 use Rattle.vt_store.proofs.strips.write_strips.Goals as goal
 
 pub returns-in_err-reserve-clause-whole : goal.returns-in_err-reserve-clause-whole

@@ -12,5 +12,5 @@ returns-in_err-begin_picture g c =
 
 pub write_pictures-requires-after_bounds : goal.write_pictures-requires-after_bounds
 write_pictures-requires-after_bounds g c κs within =
-    has_header _ c.depth.result c.width.result c.height.result (c.as_slice.ensures.value ∙ c.in_ok-begin_picture.ensures) c.depth.ensures.value
+    has_header _ c.depth.result c.width.result c.height.result c.requires (c.as_slice.ensures.value ∙ c.in_ok-begin_picture.ensures) c.depth.ensures.value
     c.width.ensures.value c.height.ensures.value c.depth.ensures.depth c.width.ensures.high c.height.ensures.high

@@ -1,7 +1,7 @@
 use Rattle.std.proofs.Common.{ℕ, Vec, Global, Err, refl, ap}
 use Rattle.vt_ppm.specs.declared.header.Header.{Header}
 use Rattle.vt_ppm.proofs.Refusing.{answered}
-use Rattle.vt_ppm.proofs.strips.StripReader.open.Goals as goal
+use Rattle.vt_ppm.proofs.strips.StripReader.open_within.Goals as goal
 
 pub returns-in-Ok-clause-limits : goal.returns-in-Ok-clause-limits
 returns-in-Ok-clause-limits g c = c.in-Ok.ensures.limits
@@ -68,3 +68,9 @@ returns-in-Err-clause-name g c = c.opened.ensures.name
 
 pub returns-in-Err-clause-faults : goal.returns-in-Err-clause-faults
 returns-in-Err-clause-faults g c = c.opened.ensures.faults
+
+pub returns-in-Ok-clause-sides : goal.returns-in-Ok-clause-sides
+returns-in-Ok-clause-sides g c = c.in-Ok.ensures.sides
+
+pub returns-in-Err-clause-sides : goal.returns-in-Err-clause-sides
+returns-in-Err-clause-sides g c = tt
