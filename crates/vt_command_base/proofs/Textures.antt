@@ -1,5 +1,5 @@
 -- Textures as inputs whose sides are bounded: why they are refused, and what is asked of them.
-use Rattle.std.proofs.Common.{◌≡◌, ℕ, List, Option, Some, None, Ok, Err, refl, sym, ap, subst, ◌∙◌, inl, inr}
+use Rattle.std.proofs.Common.{◌≡◌, ℕ, List, Option, Some, None, Ok, refl, sym, ap, subst, ◌∙◌, inl, inr}
 use Rattle.std.specs.Prelude.{IfSome}
 use Rattle.vt_outside.specs.Counts.{Rose}
 use Rattle.vt_ppm.specs.declared.error.PpmError.{PpmError}

@@ -19,7 +19,7 @@ use Rattle.vt_camera.proofs.LevelLemmas as levels
 use Rattle.vt_draw.specs.declared.plain.Levels.{Levels}
 use Rattle.vt_draw.specs.declared.plain.View.{View}
 use Rattle.vt_draw.specs.Plain.{camera_at, chain_of, levels_from, plain_picture, plain_samples, shown_word, surface_of}
-use Rattle.vt_draw.specs.Views.{AreLevels, IsView, WantsNone}
+use Rattle.vt_draw.specs.Views.{AreLevels, IsView}
 use Rattle.vt_draw.proofs.Drawn.{rows_alike}
 
 -- a level of a source that lacks some

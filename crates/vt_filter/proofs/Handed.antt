@@ -1,6 +1,6 @@
 -- What holds by notes that are said: handed on, and what it shows where they are true.
-use Rattle.std.proofs.Common.{◌≡◌, ℕ, ◌<◌, List}
-use Rattle.std.specs.Prelude.{All, Contains}
+use Rattle.std.proofs.Common.{◌≡◌, ℕ, List}
+use Rattle.std.specs.Prelude.{All}
 use Rattle.std.proofs.lemmas.List.Elements.{All-weaker, All-contains}
 use Rattle.vt_definitions.specs.Depths.{texel_bytes}
 use Rattle.vt_definitions.specs.Texels.{Source}

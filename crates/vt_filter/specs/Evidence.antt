@@ -1,5 +1,5 @@
 -- What is known of pixels by the notes of a look-up.
-use Rattle.std.specs.Prelude.{◌≡◌, ℕ, ◌+◌, ◌<◌, Option, Some, None, List, All, Contains, length, slice_index}
+use Rattle.std.specs.Prelude.{◌≡◌, ℕ, ◌+◌, ◌<◌, Some, None, List, All, Contains, length, slice_index}
 use Rattle.vt_definitions.specs.Texels.{Source}
 use Rattle.vt_definitions.specs.Depths.{texel_bytes}
 use Rattle.vt_pages.specs.Shape.{Shape}

@@ -14,7 +14,7 @@ use Rattle.vt_grace.specs.declared.views.PassView.{PassView}
 use Rattle.vt_grace.specs.declared.views.WriterView.{WriterView}
 use Rattle.vt_grace.specs.declared.views.View.{View}
 use Rattle.vt_grace.specs.declared.views.View.TheVariants.{Writing, Passing, Spent}
-use Rattle.vt_journal.specs.Changes.{Table, at, newest, changed}
+use Rattle.vt_journal.specs.Changes.{Table, at, newest}
 use Rattle.vt_grace.specs.Contents.{backed}
 use Rattle.vt_journal.specs.Lookups.{is_mapped}
 use Rattle.vt_grace.specs.Places.{words_of, entry_place, bank_of}

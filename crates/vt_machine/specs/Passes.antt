@@ -1,5 +1,5 @@
 -- What the calls of a machine ask and leave, each as a record over its states before and after.
-use Rattle.std.specs.Prelude.{◌≡◌, ℕ, ◌<◌, ◌≤◌, Bool, Some, IsSome, IfSome, List, [], ◌∷◌, ◌++◌, length, slice_get, slice_index, slice_index_or, All, Result, IfOk, OnOk, OnErr}
+use Rattle.std.specs.Prelude.{◌≡◌, ℕ, ◌<◌, ◌≤◌, Some, IsSome, IfSome, List, [], ◌∷◌, ◌++◌, length, slice_get, slice_index, slice_index_or, All, Result, IfOk, OnOk, OnErr}
 use Rattle.vt_outside.specs.Files.{IsPiece}
 use Rattle.vt_outside.specs.declared.answers.NoMemory.{NoMemory}
 use Rattle.vt_pages.specs.Shape.{Shape}

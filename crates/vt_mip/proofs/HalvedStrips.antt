@@ -1,16 +1,15 @@
 -- A texture that is halved strip by strip: what is so after some strips, and where a read failed.
-use Rattle.std.proofs.Common.{◌≡◌, ℕ, ◌+◌, ◌-◌, ◌*◌, ◌<◌, ◌≤◌, inl, inr, true, false, Option, Some, List, length, take, drop, min, refl, sym, ap, ◌∙◌, subst, arith}
+use Rattle.std.proofs.Common.{◌≡◌, ℕ, ◌+◌, ◌-◌, ◌*◌, ◌<◌, ◌≤◌, inr, true, false, Option, Some, List, length, take, drop, refl, sym, ap, ◌∙◌, subst, arith}
 use Rattle.std.specs.Prelude.{IfSome}
 use Rattle.std.proofs.lemmas.List.{length-take-le, length-drop}
 use Rattle.std.proofs.lemmas.Nat.{mul-le}
 use Rattle.vt_definitions.specs.Depths.{texel_length}
 use Rattle.vt_outside.specs.Files.{IsPiece}
-use Rattle.vt_outside.specs.declared.place.Place.{Place}
 use Rattle.vt_ppm.specs.declared.header.Header.{Header}
 use Rattle.vt_ppm.specs.Format.{depth_of}
 use Rattle.vt_ppm.specs.Image.{ImageView}
-use Rattle.vt_ppm.specs.Strips.{IsTextureIfTold, RowsAsked, row_length, rows_of, texture_of}
-use Rattle.vt_ppm.specs.StripPlaces.{StripsAsked, StripsTried, strip_rows, strips_of}
+use Rattle.vt_ppm.specs.Strips.{IsTextureIfTold, RowsAsked, row_length, texture_of}
+use Rattle.vt_ppm.specs.StripPlaces.{StripsTried, strip_rows, strips_of}
 use Rattle.vt_ppm.proofs.StripPlaces.{more_strips, no_strips, strip_tried}
 use Rattle.vt_mip.specs.TakenRows.{HalvingView, HalvesFront}
 use Rattle.vt_mip.specs.HalvedStrips.{ReaderState, KeepsReader, IsHalvedTo, HoldsStrip, IsAtStrip, strip_height, strip_length}
@@ -40,10 +39,6 @@ piece_moved p v h i rows room front to is piece =
     ∙ ap (λ (n : ℕ). texel_length n * (p.width * v.taken)) (sym to.depth ∙ front.depth) in
     subst (λ (l : List ℕ). IsPiece p.samples (texel_length p.depth * (p.width * v.taken)) l) (sym is)
     (subst (λ (n : ℕ). IsPiece p.samples n (take (strip_length h i) room)) place piece)
-
--- no strip is longer than the first
-pub no_longer : (h : Header) (i : ℕ) → strip_length h i ≤ strip_length h 0
-no_longer h i = mul-le (strip_rows h strip_height i) (row_length h) (strip_rows h strip_height 0) (row_length h) (omega arith) (omega arith)
 
 -- a strip that a room begins with is a piece of the texture
 strip_is_piece : (h : Header) (i : ℕ) (b room : List ℕ) → i < strips_of h strip_height

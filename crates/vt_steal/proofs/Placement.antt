@@ -13,12 +13,6 @@ use Rattle.vt_steal.specs.RowKits.{samplers_of}
 use Rattle.vt_steal.specs.RowEnds.{kept_rows}
 use Rattle.vt_steal.specs.Placing.{IsPlacedAt, ArePlaced, counted_by, joined_if, all_rows_joined}
 
-pub placed_none : (old : List RowJob) → ArePlaced [] old old
-placed_none old = record {
-  number = refl;
-  each = λ y d inside. inl (refl, λ job has. absurd (let low = has.1 in omega (arith, low)));
-}
-
 -- one row more, which was before the others
 pub placed_one : (rows old mid : List RowJob) (job : RowJob) → ArePlaced rows old mid → job.row < length old
     → ArePlaced (job ∷ rows) old (slice_set mid job.row job)

@@ -13,4 +13,3 @@ pub use machine::{SharingMachine, StealMachine};
 pub use row_kit::{RowKit, RowTask};
 pub use shared::SharingShared;
 pub use vt_shared_rows::{BagPass, RowBag, RowJob, RowSampler};
-pub use vt_stream_kit::StreamKit;

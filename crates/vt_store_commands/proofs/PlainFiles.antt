@@ -2,7 +2,7 @@
 use Rattle.std.proofs.Common.{◌≡◌, ℕ, ◌+◌, ◌-◌, ◌*◌, ◌<◌, ◌≤◌, List, [], ◌++◌, length, take, drop, refl, sym, ap, subst, ◌∙◌, append_assoc, length-append, take-append-drop, inl, inr, arith, codes, decimal}
 use Rattle.std.specs.List.{flat_map, range_with_len}
 use Rattle.std.proofs.lemmas.List.{append-nil, take_at, drop_at}
-use Rattle.std.proofs.lemmas.Nat.{mul-le, column_fits}
+use Rattle.std.proofs.lemmas.Nat.{column_fits}
 use Rattle.std.proofs.lemmas.Fmt.{length-decimal-le}
 use borrow.Rule.Slice.PartMut.{put_mid}
 use Rattle.vt_definitions.specs.Depths.{IsDepth, texel_length, greatest_sample}
@@ -58,10 +58,6 @@ has_header p d w h wanted is depth columns rows lawful wide high = record {
       ∙ ap (λ (n : ℕ). picture_header p.levels.chain.now.base.depth p.path.now.width n) rows;
   short = let same : length p.header.now ≡ length (picture_header d w h) = ap length is in omega (arith, same, header_short d w h lawful wide high);
 }
-
--- a file is not long
-pub size_small : (t w h : ℕ) → t ≤ 6 → w ≤ 2048 → h ≤ 2048 → t * (w * h) ≤ 25165824
-size_small t w h few wide high = mul-le t (w * h) 6 4194304 few (mul-le w h 2048 2048 wide high)
 
 -- the samples of a picture by a filter
 pub length-samples_with : (filter : Filtering) (l : Levels) (path : PathView) (picture : ℕ)

@@ -1,14 +1,13 @@
 -- The pictures of what is there of a texture, as callers expect them.
-use Rattle.std.proofs.Common.{◌≡◌, ◌⊎◌, ℕ, ◌+◌, ◌<◌, ◌≤◌, List, [], ◌∷◌, ◌++◌, length, take, Option, Some, None, Ok, Err, refl, sym, ap, subst, ◌∙◌, inl, inr, arith}
+use Rattle.std.proofs.Common.{◌≡◌, ℕ, ◌+◌, ◌≤◌, List, [], ◌∷◌, length, Option, Some, None, Ok, Err, refl, sym, ap, subst, ◌∙◌, inl, inr, arith}
 use Rattle.std.specs.Prelude.{Result}
 use Rattle.std.specs.Option.{option_map, IsSome}
 use Rattle.vt_definitions.specs.Limits.{most_levels}
 use Rattle.vt_definitions.specs.Sides.{side, level_count}
 use Rattle.vt_definitions.specs.Tiles.{IsTileSide}
 use Rattle.vt_definitions.proofs.Levels.{level_count_least}
-use Rattle.vt_outside.specs.Files.{Files, with_bytes}
+use Rattle.vt_outside.specs.Files.{Files}
 use Rattle.vt_outside.specs.declared.answers.OutsideError.{OutsideError}
-use Rattle.vt_ppm.specs.Image.{ImageView}
 use Rattle.vt_ppm.specs.Picture.{picture_bytes}
 use Rattle.vt_mip.specs.Chains.{ChainView, chain_levels}
 use Rattle.vt_mip.proofs.Following.{levels_go_on}
@@ -18,11 +17,10 @@ use Rattle.vt_camera.specs.Paths.{PathView}
 use Rattle.vt_camera.specs.Rows.{row_of, row_level}
 use Rattle.vt_draw.specs.declared.plain.Levels.{Levels}
 use Rattle.vt_draw.specs.Plain.{camera_at, chain_of, levels_from, plain_picture, surface_of}
-use Rattle.vt_draw.specs.Views.{AreLevels}
 use Rattle.vt_draw.proofs.WantedLevels.{later_levels, whole_levels}
 use Rattle.vt_plain_bilinear.specs.Plain.{plain_blends}
 use Rattle.vt_files.specs.Effects.{CallEffect, FolderEffect}
-use Rattle.vt_files.specs.Expectations.{ExpectedFile, Expected, IsWrittenPrefix, IsPart, Leaves, Writes, with_files}
+use Rattle.vt_files.specs.Expectations.{ExpectedFile, IsWrittenPrefix, IsPart, Leaves, Writes, with_files}
 use Rattle.vt_files.specs.Pictures.{expected_pictures}
 use Rattle.vt_files.proofs.Writing.{part_none}
 use Rattle.vt_words.specs.declared.filters.Filtering.{Filtering}

@@ -1,14 +1,12 @@
 -- What is there of the texture of `plain`, and its pictures.
-use Rattle.std.proofs.Common.{◌≡◌, ◌⊎◌, ℕ, zero, suc, ◌+◌, ◌-◌, ◌*◌, ◌/◌, ◌<◌, ◌≤◌, List, [], ◌∷◌, ◌++◌, length, take, drop, Option, Some, None, Ok, Err, refl, sym, ap, subst, ◌∙◌, inl, inr, arith}
-use Rattle.std.specs.Option.{option_map, IsSome, unwrap_or}
-use Rattle.std.proofs.lemmas.List.{take_all}
+use Rattle.std.proofs.Common.{◌≡◌, ℕ, zero, suc, ◌+◌, ◌-◌, ◌*◌, ◌<◌, ◌≤◌, List, [], ◌++◌, length, Option, Some, refl, sym, ap, ◌∙◌, inl, inr, arith}
+use Rattle.std.specs.Option.{option_map, unwrap_or}
 use Rattle.vt_definitions.specs.Depths.{IsDepth, texel_length}
-use Rattle.vt_definitions.specs.Limits.{most_read_side, most_levels}
+use Rattle.vt_definitions.specs.Limits.{most_read_side}
 use Rattle.vt_definitions.specs.Sides.{side, level_count}
 use Rattle.vt_definitions.specs.Tiles.{IsTileSide}
 use Rattle.vt_definitions.proofs.Levels.{level_count_least}
-use Rattle.vt_outside.specs.Counts.{Rose, added}
-use Rattle.vt_outside.specs.Files.{Asked, with_places}
+use Rattle.vt_outside.specs.Counts.{Rose}
 use Rattle.vt_outside.specs.declared.place.Place.{Place}
 use Rattle.vt_outside.specs.declared.answers.OutsideError.{OutsideError}
 use Rattle.vt_outside.specs.declared.answers.OutsideError.TheVariants as outside
@@ -17,15 +15,14 @@ use Rattle.vt_ppm.specs.Flaws.{AreImageSides}
 use Rattle.vt_ppm.specs.Format.{IsTexture, depth_of}
 use Rattle.vt_ppm.specs.Image.{ImageView, IsLawfulImage}
 use Rattle.vt_ppm.specs.Picture.{picture_bytes}
-use Rattle.vt_ppm.specs.Strips.{IsTextureHeader, row_length, rows_of, texture_of}
+use Rattle.vt_ppm.specs.Strips.{IsTextureHeader, row_length, texture_of}
 use Rattle.vt_ppm.specs.StripPlaces.{StripsAsked, StripsTried, strips_of, strip_places}
 use Rattle.vt_ppm.proofs.ImageLaws.{texture_within_sides}
-use Rattle.vt_mip.specs.Halves.{IsHalf}
 use Rattle.vt_mip.specs.Levels.{IsLevel}
 use Rattle.vt_mip.proofs.Words.{half_is_next}
 use Rattle.vt_camera.specs.declared.surfaces.Surface.{Surface}
 use Rattle.vt_camera.specs.Paths.{PathView}
-use Rattle.vt_camera.specs.Rows.{IsSurface, row_of, row_level}
+use Rattle.vt_camera.specs.Rows.{row_of, row_level}
 use Rattle.vt_draw.specs.Plain.{camera_at, chain_of, levels_from, plain_picture, plain_samples, surface_of}
 use Rattle.vt_draw.proofs.WantedLevels.{levels_whole, pictures_go_on}
 use Rattle.vt_files.specs.Effects.{FolderState}
@@ -37,7 +34,7 @@ use Rattle.vt_command_base.proofs.Seeing.{texture_there, strips_asked}
 use Rattle.vt_words.specs.declared.filters.Filtering.{Filtering}
 use Rattle.vt_words.specs.declared.filters.Filtering.TheVariants.{Nearest, Bilinear}
 use Rattle.vt_store_commands.specs.Pictures.{plain_file}
-use Rattle.vt_store_commands.specs.SeenTextures.{HasSides, IsEnough, IsOf, Sees, seen_file, seen_surface}
+use Rattle.vt_store_commands.specs.SeenTextures.{IsEnough, IsOf, seen_file, seen_surface}
 use Rattle.vt_store_commands.specs.declared.seen_textures.Seen.{Seen}
 use Rattle.vt_store_commands.proofs.Tiling.{strips_tried}
 
@@ -61,16 +58,6 @@ rows_lawful h d samples sides depth is full = record {
   full = full ∙ (let same : h.height * (texel_length (depth_of h.maximum) * h.width) ≡ texel_length (depth_of h.maximum) * (h.width * h.height) = grind arith in same)
       ∙ ap (λ (n : ℕ). texel_length n * (h.width * h.height)) (sym is);
 }
-
--- and its samples are the texture's
-pub rows_whole : (h : Header) (b : List ℕ) → IsTexture b (texture_of h b) → rows_of h b 0 h.height ≡ (texture_of h b).samples
-rows_whole h b is =
-    let samples : List ℕ = (texture_of h b).samples in
-    let z : ℕ = row_length h in
-    let whole : h.height * z ≡ texel_length (depth_of h.maximum) * (h.width * h.height) = grind arith in
-    let full : length samples ≡ texel_length (depth_of h.maximum) * (h.width * h.height) = is.image.full in
-    ap (λ (n : ℕ). take (h.height * z) (drop n samples)) (let none : 0 * z ≡ 0 = omega arith in none)
-    ∙ take_all (h.height * z) samples (omega (arith, whole, full))
 
 -- a texture that does not fit into a tile has further levels
 pub two_levels : (w h t : ℕ) → 1 ≤ t → (w ≤ t → h ≤ t → ⊥) → 2 ≤ level_count w h t

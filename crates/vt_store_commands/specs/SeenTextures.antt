@@ -1,11 +1,11 @@
 -- The texture of `plain`, of which level 0 may be left out where no picture wants it.
-use Rattle.std.specs.Prelude.{◌≡◌, ◌⊎◌, ℕ, ◌+◌, ◌/◌, ◌<◌, ◌≤◌, List, length, Option, Some, IsSome, is_some}
+use Rattle.std.specs.Prelude.{◌≡◌, ◌⊎◌, ℕ, ◌<◌, ◌≤◌, List, length, Option, Some, IsSome}
 use Rattle.vt_definitions.specs.Sides.{side, level_count}
 use Rattle.vt_ppm.specs.declared.header.Header.{Header}
 use Rattle.vt_ppm.specs.Format.{depth_of}
 use Rattle.vt_ppm.specs.Image.{ImageView, IsLawfulImage}
 use Rattle.vt_ppm.specs.Picture.{picture_bytes}
-use Rattle.vt_ppm.specs.Strips.{IsTextureHeader, IsTextureIfTold, texture_of}
+use Rattle.vt_ppm.specs.Strips.{texture_of}
 use Rattle.vt_mip.specs.Halves.{IsHalf}
 use Rattle.vt_camera.specs.declared.surfaces.Surface.{Surface}
 use Rattle.vt_camera.specs.Paths.{PathView}

@@ -1,8 +1,8 @@
 -- A page is brought into a frame.
-use Rattle.std.proofs.Common.{◌≡◌, ℕ, ◌≤◌, ◌≢◌, inl, inr, Option, Some, None, List, [], ◌∷◌, ◌++◌, length, refl, sym, ap, ◌∙◌, subst, arith, append_assoc}
+use Rattle.std.proofs.Common.{◌≡◌, ℕ, inl, inr, Some, None, List, [], ◌∷◌, ◌++◌, length, sym, ap, ◌∙◌, arith, append_assoc}
 use Rattle.vt_journal.specs.declared.changes.Change.{Change}
 use Rattle.vt_journal.specs.declared.changes.Change.TheVariants.{Map, Unmap}
-use Rattle.vt_journal.specs.Changes.{Table, newest, changed, IsFree, IsNext, AreInTurn, IsOneToOne}
+use Rattle.vt_journal.specs.Changes.{Table, newest, changed, IsNext, AreInTurn, IsOneToOne}
 use Rattle.vt_journal.proofs.Versions.{newest-more, entry-same, entry-other, same_page, mapped_after_unmap, one_to_one}
 use Rattle.vt_swap.specs.declared.records.LogRecord.{LogRecord}
 use Rattle.vt_swap.specs.declared.records.LogRecord.TheVariants.{Changed, Filled}

@@ -1,5 +1,5 @@
 -- What is noted and published.
-use Rattle.std.proofs.Common.{◌≡◌, ℕ, ◌+◌, ◌<◌, ◌≤◌, ◌^◌, Bool, true, false, Option, Some, None, List, [], ◌∷◌, ◌++◌, length, refl, sym, ap, ◌∙◌, subst, arith, length-append, append_assoc}
+use Rattle.std.proofs.Common.{◌≡◌, ℕ, ◌+◌, ◌<◌, ◌≤◌, ◌^◌, Option, Some, None, List, [], ◌∷◌, ◌++◌, length, sym, ap, ◌∙◌, subst, arith, length-append, append_assoc}
 use Rattle.std.specs.Prelude.{IfSome, Result, Ok, Err, MatchResult}
 use Rattle.vt_definitions.specs.Limits.{most_versions}
 use Rattle.vt_journal.specs.declared.changes.Change.{Change}
@@ -12,7 +12,7 @@ use Rattle.vt_swap.specs.declared.log.Front.{Front}
 use Rattle.vt_swap.specs.declared.table.NewestTable.{NewestTable}
 use Rattle.vt_swap.specs.declared.table.Operation.{Operation}
 use Rattle.vt_swap.specs.declared.rule.Known.{Known}
-use Rattle.vt_swap.specs.Logs.{changes_in, MayFollow, IsFilledLast}
+use Rattle.vt_swap.specs.Logs.{changes_in, MayFollow}
 use Rattle.vt_swap.specs.Tables.{journal_of, AreOfOneLog, IsPublished, MayPublish}
 use Rattle.vt_swap.specs.Rules.{KnowsLog}
 use Rattle.vt_swap.proofs.Lawful.{changes-append, changes-filled}

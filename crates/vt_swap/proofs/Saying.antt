@@ -1,17 +1,15 @@
 -- What a log says it says however it grows.
-use Rattle.std.proofs.Common.{◌≡◌, ℕ, suc, ◌+◌, ◌<◌, ◌≤◌, Bool, true, false, List, [], ◌∷◌, ◌++◌, length, refl, sym, ap, ◌∙◌, subst, arith, length-append}
-use Rattle.std.specs.Prelude.{slice_index, Option, Some, None, IfSome}
-use Rattle.std.proofs.lemmas.Bool.{false≢true}
+use Rattle.std.proofs.Common.{◌≡◌, ℕ, suc, ◌+◌, ◌≤◌, false, List, length, sym, ap, ◌∙◌, subst, arith}
+use Rattle.std.specs.Prelude.{Option, Some, None, IfSome}
 use mathlib.Core.List.{IsPrefix}
 use Rattle.vt_draw.specs.Lookups.{Note, EntryNote, WordNote}
 use Rattle.vt_journal.specs.declared.changes.Change.{Change}
-use Rattle.vt_journal.specs.Changes.{Table, at, newest}
+use Rattle.vt_journal.specs.Changes.{Table, at}
 use Rattle.vt_journal.specs.Kept.{entry_of}
 use Rattle.vt_journal.proofs.Versions.{at-front}
 use Rattle.vt_swap.specs.declared.records.LogRecord.{LogRecord}
 use Rattle.vt_swap.specs.declared.table.NewestTable.{NewestTable}
 use Rattle.vt_swap.specs.Logs.{changes_in}
-use Rattle.vt_swap.specs.Tables.{IsTable}
 use Rattle.vt_swap.specs.Notes.{HasWord, IsEntry, IsWord, IsSaidBy}
 use Rattle.vt_pages.specs.Pages.{ancestor_of}
 use Rattle.vt_draw.specs.declared.lookups.Found.{Found}
@@ -49,20 +47,6 @@ said_on rs ss (WordNote version frame place word) pre is =
       mapped = ap (λ (m : Table). m is.page) (at_prefix (changes_in rs) (changes_in ss) version js is.known) ∙ is.mapped;
       has = has_on rs ss frame is.page place word pre is.has;
     }
-
--- the entry of a page in a table is said by what was seen of the log when the table was made
-pub table_entry : (t : NewestTable) (page : ℕ) → IsTable t → page < length t.entries.items
-    → IsEntry t.front.seen.log t.version page (slice_index t.entries.items page)
-table_entry t page table inside = record {
-  known = omega (arith, table.version_is);
-  entry_is =
-      table.entries_are page inside
-      ∙ ap (λ (v : ℕ). at (changes_in t.front.seen.log) v page) (sym table.version_is);
-}
-
--- where a check failed, all is said
-pub all_said : (v : LookupView) (note : Note) → v.failed ≡ true → IsSaidIn v note
-all_said v note failed = λ none. absurd (false≢true (sym none ∙ failed))
 
 -- what was said is said
 pub still_said : (v w : LookupView) (note : Note) → IsPrefix v.log w.log → (w.failed ≡ false → v.failed ≡ false) → IsSaidIn v note → IsSaidIn w note

@@ -22,7 +22,7 @@ use Rattle.vt_swap.specs.declared.rule.Known.{Known}
 use Rattle.vt_swap.specs.Logs.{changes_in}
 use Rattle.vt_swap.specs.Entries.{changed_entries, IsAt}
 use Rattle.vt_swap.specs.Tables.{shown, applied, journal_of, IsTable, AreOfOneLog, MayPublish}
-use Rattle.vt_swap.specs.Rules.{nothing_known, Knows, IsKept, HasEntered, HasPublished, KnowsLog}
+use Rattle.vt_swap.specs.Rules.{nothing_known, Knows, IsKept, HasEntered, HasPublished}
 
 -- the entry of a page after another entry was set
 entry_set : (entries : List ℕ) (m : Table) (page number : ℕ) (entry : Option ℕ) → entry_of number ≡ entry

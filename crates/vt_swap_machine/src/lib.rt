@@ -10,5 +10,4 @@ mod told;
 
 pub use draw_kit::DrawKit;
 pub use machine::{SwapMachine, SwappedMachine};
-pub use vt_stream_kit::StreamKit;
 pub use vt_swap_workers::{SwapDrawer, SwapFeeder, SwapShared};

@@ -1,5 +1,5 @@
 -- What a log says of a version is true of its table over the store, and what is drawn by it is the replay.
-use Rattle.std.proofs.Common.{◌≡◌, ℕ, suc, ◌+◌, ◌*◌, ◌<◌, ◌≤◌, List, [], get_or, Option, Some, None, refl, sym, ap, ◌∙◌, subst, arith}
+use Rattle.std.proofs.Common.{◌≡◌, ℕ, suc, ◌+◌, ◌*◌, ◌<◌, List, [], get_or, Option, Some, None, refl, sym, ap, ◌∙◌, subst, arith}
 use Rattle.std.specs.Prelude.{slice_get, IfSome}
 use Rattle.vt_definitions.specs.Depths.{texel_bytes}
 use Rattle.vt_definitions.specs.Texels.{Source}
@@ -7,7 +7,7 @@ use Rattle.vt_pages.specs.Shape.{Shape}
 use Rattle.vt_pages.specs.Pages.{texel_page, IsWithinLimits}
 use Rattle.vt_pages.specs.Laws.{IsInside}
 use Rattle.vt_camera.specs.Rows.{RowView}
-use Rattle.vt_draw.specs.Lookups.{Note, EntryNote, WordNote, place_in_tile}
+use Rattle.vt_draw.specs.Lookups.{Note, WordNote, place_in_tile}
 use Rattle.vt_draw.specs.Shots.{shot_row}
 use Rattle.vt_journal.specs.declared.changes.RowLine.{RowLine}
 use Rattle.vt_journal.specs.Changes.{Table, at}

@@ -1,8 +1,8 @@
 -- What lasts while the results of a batch are streamed one after another.
-use Rattle.std.proofs.Common.{◌≡◌, ◌≢◌, ℕ, zero, suc, ◌+◌, ◌*◌, ◌<◌, ◌≤◌, inl, inr, ◌⊎◌, Bool, true, false, List, [], ◌∷◌, ◌++◌, length, set, get_or, Option, Some, None, refl, sym, ap, ◌∙◌, subst, append_assoc, length-append, arith}
+use Rattle.std.proofs.Common.{◌≡◌, ◌≢◌, ℕ, zero, suc, ◌+◌, ◌<◌, ◌≤◌, inl, inr, ◌⊎◌, Bool, true, false, List, [], ◌∷◌, ◌++◌, length, set, get_or, Option, Some, None, sym, ap, ◌∙◌, subst, append_assoc, length-append, arith}
 use Rattle.std.specs.Prelude.{slice_get, slice_index_or, All, Contains}
 use Rattle.std.proofs.lemmas.List.{append-nil, length-set, get_or-set_same, get_or-set_other}
-use Rattle.std.proofs.lemmas.List.Elements.{All-nil, All-push, Contains-append_left, Contains-append_right}
+use Rattle.std.proofs.lemmas.List.Elements.{All-push, Contains-append_left, Contains-append_right}
 use Rattle.std.proofs.lemmas.Bool.{cases_lt, false≢true}
 use Rattle.std.proofs.lemmas.Grind.{flat_map-append}
 use Rattle.std.proofs.lemmas.Option.{get_or_from_slice_get, slice_get_within, slice_get-get_or}
@@ -23,7 +23,7 @@ use Rattle.vt_streaming.specs.Reports.{IsBlank}
 use Rattle.vt_swap.specs.declared.records.LogRecord.{LogRecord}
 use Rattle.vt_swap.specs.declared.records.LogRecord.TheVariants.{Filled}
 use Rattle.vt_swap.specs.Streamers.{StreamerView}
-use Rattle.vt_swap_streaming.specs.Brought.{HasStreamed, HasApplied, HasKept, IsFillOf, AreFillsOf, IsUnderWay}
+use Rattle.vt_swap_streaming.specs.Brought.{HasStreamed, HasApplied, HasKept, AreFillsOf, IsUnderWay}
 use Rattle.vt_swap_streaming.proofs.Taking.{flag_was, flag_set}
 
 no_fills : (d texels : ℕ) (batch : List Planned) (results : List Loaded) → AreFillsOf d texels batch results []

@@ -4,7 +4,7 @@ use Rattle.std.specs.Prelude.{MatchOption}
 use Rattle.std.proofs.lemmas.List.{append-nil}
 use Rattle.vt_pages.specs.Shape.{Shape}
 use Rattle.vt_journal.specs.declared.changes.Change.{Change}
-use Rattle.vt_journal.specs.declared.changes.Change.TheVariants.{Map, Unmap}
+use Rattle.vt_journal.specs.declared.changes.Change.TheVariants.{Map}
 use Rattle.vt_journal.specs.declared.changes.Event.{Event}
 use Rattle.vt_journal.specs.declared.changes.Event.TheVariants.{Changed as Made}
 use Rattle.vt_journal.specs.Changes.{Table, IsFree}
@@ -18,7 +18,7 @@ use Rattle.vt_swap.specs.declared.records.LogRecord.{LogRecord}
 use Rattle.vt_swap.specs.declared.records.LogRecord.TheVariants.{Changed, Filled}
 use Rattle.vt_swap.specs.Notes.{AreWordsOf}
 use Rattle.vt_swap.specs.Streamers.{StreamerView, MayBring, HasBrought, victim_changes, victim_records}
-use Rattle.vt_swap_streaming.specs.Brought.{HasPut, HasApplied, IsFillOf, AreFillsOf}
+use Rattle.vt_swap_streaming.specs.Brought.{HasPut, HasApplied, AreFillsOf}
 
 -- a lawful entry may be brought
 by_victim : (s : Shape) (m : Table) (frame : ℕ) (o : Option ℕ) → MatchOption o (IsFree m frame) (IsVictimOf s m frame)

@@ -59,9 +59,6 @@ kept_inside size taken r e = below _ _ (both_parts _ _ (both_parts _ _ e).0).0
 pub kept_new : (size : ℕ) (taken : List Bool) (r : Loaded) → is_kept size taken r ≡ true → get_or taken r.request.ticket false ≡ false
 kept_new size taken r e = not_so _ (both_parts _ _ (both_parts _ _ e).0).1
 
-pub kept_full : (size : ℕ) (taken : List Bool) (r : Loaded) → is_kept size taken r ≡ true → length r.request.buffer.elements ≡ size
-kept_full size taken r e = same _ _ (both_parts _ _ e).1
-
 taken_more : (v w x : PassView Loaded) (got : List (ℕ × Loaded)) (r : Loaded) → w ≡ with_taken v got → (t : Takes w r x)
     → x ≡ with_taken v (got ++ (t.place, r) ∷ [])
 taken_more v w x got r is t = t.is ∙ ap (λ (u : PassView Loaded). pass_view u.shares u.known u.put (u.took ++ (t.place, r) ∷ [])) is

@@ -1,5 +1,5 @@
 -- What streaming a batch into a page cache leaves.
-use Rattle.std.specs.Prelude.{◌≡◌, ℕ, ◌+◌, ◌≤◌, ◌*◌, false, true, Some, List, [], ◌∷◌, ◌++◌, length, slice_get, slice_index_or, slice_set, All, Contains, nat_eq, ◌&&◌, Bool}
+use Rattle.std.specs.Prelude.{◌≡◌, ℕ, ◌+◌, ◌≤◌, ◌*◌, false, true, Some, List, [], ◌∷◌, ◌++◌, length, slice_get, slice_index_or, slice_set, Contains, nat_eq, ◌&&◌, Bool}
 use Rattle.vt_pages.specs.Shape.{Shape}
 use Rattle.vt_journal.specs.declared.changes.Event.{Event}
 use Rattle.vt_journal.specs.declared.changes.Change.TheVariants.{Map}
@@ -9,7 +9,7 @@ use Rattle.vt_plan.specs.declared.batches.Planned.{Planned}
 use Rattle.vt_queue.specs.declared.items.Loaded.{Loaded}
 use Rattle.vt_load.specs.Readings.{is_lost}
 use Rattle.vt_machine.specs.Outcomes.{IsEntryFor, group_of}
-use Rattle.vt_requests.specs.BatchRounds.{result_group, result_events, page_if, AreLossesOf}
+use Rattle.vt_requests.specs.BatchRounds.{result_group, result_events, page_if}
 use Rattle.vt_streaming.specs.declared.report.StreamReport.{StreamReport}
 use Rattle.vt_streaming.specs.Streams.{is_new}
 use Rattle.vt_swap.specs.declared.records.LogRecord.{LogRecord}

@@ -1,18 +1,15 @@
 -- What is known of a streamer that has published nothing.
-use Rattle.std.proofs.Common.{◌≡◌, ◌+◌, ℕ, Some, None, List, length, refl, ap, ◌∙◌, sym, subst, arith}
-use Rattle.vt_pages.specs.Pages.{pages_of}
+use Rattle.std.proofs.Common.{◌≡◌, ◌+◌, ℕ, Some, None, List, refl, ap, ◌∙◌, sym, subst, arith}
 use Rattle.vt_journal.specs.declared.changes.Change.{Change}
 use Rattle.vt_journal.specs.declared.changes.Change.TheVariants.{Map}
 use Rattle.vt_journal.specs.Changes.{newest, IsFree, IsLegalNext}
 use Rattle.vt_journal.proofs.Versions.{newest-none}
-use Rattle.vt_table.specs.Views.{IsTile}
 use Rattle.vt_table.proofs.Lawful.{table_spared}
-use Rattle.vt_grace.specs.declared.sizes.Sizes.{Sizes}
 use Rattle.vt_grace.specs.declared.views.PassView.{PassView}
 use Rattle.vt_grace.specs.PassViews.{HasEntry, noting}
 use Rattle.vt_grace.specs.Values.{WordsValue}
 use Rattle.vt_grace.specs.Banks.{MayFill}
-use Rattle.vt_streamer.specs.Views.{StreamerView, table_of, IsStreamerOf}
+use Rattle.vt_streamer.specs.Views.{StreamerView, table_of}
 use Rattle.vt_tests_words.specs.BlankStreams.{IsBlank}
 
 none_some : (f : ℕ) → None ≡ Some f → ⊥

@@ -1,4 +1,4 @@
-use Rattle.std.proofs.Common.{◌≡◌, ℕ, List, Option, Err, sym, ap, subst, ◌∙◌}
+use Rattle.std.proofs.Common.{ℕ, List, Option, Err, ap, subst}
 use Rattle.std.specs.Prelude.{IfSome}
 use Rattle.vt_outside.specs.Counts.{Rose}
 use Rattle.vt_ppm.specs.Flaws.{IsHeaderFlaw}

@@ -1,7 +1,7 @@
-use Rattle.std.proofs.Common.{ℕ, List, Err, refl, sym, subst}
+use Rattle.std.proofs.Common.{ℕ, List, Err, sym, subst}
 use Rattle.std.proofs.lemmas.Result.{err_from_is_err_and}
 use Rattle.vt_files.specs.Effects.{folder_effect, folder_state}
-use Rattle.vt_command_base.specs.Inputs.{Content, name_of}
+use Rattle.vt_command_base.specs.Inputs.{Content}
 use Rattle.vt_command_base.specs.Reads.{Opened, file_state, visit}
 use Rattle.vt_command_base.proofs.Reading.{closed}
 use Rattle.vt_command_base.proofs.Textures.{strips_visited, texture_named}

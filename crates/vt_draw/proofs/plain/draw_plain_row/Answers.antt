@@ -1,6 +1,5 @@
 use Rattle.std.proofs.Common.{◌≡◌, ℕ, ◌+◌, ◌-◌, ◌*◌, ◌<◌, ◌≤◌, take, refl, sym, ap, ◌∙◌, subst, arith}
 use Rattle.std.proofs.Math.Nat.{mul-le-mul_left}
-use Rattle.vt_definitions.specs.Texels.{Source}
 use Rattle.vt_mip.specs.Chains.{chain_levels, chain_width, chain_height, IsTexelRaster}
 use Rattle.vt_draw.specs.Plain.{chain_of, levels_from}
 use Rattle.vt_draw.proofs.Inside.{lines_small, texel_inside}

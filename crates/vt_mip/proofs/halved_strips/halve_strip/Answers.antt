@@ -1,4 +1,4 @@
-use Rattle.std.proofs.Common.{◌≡◌, ℕ, ◌*◌, List, take, refl, ap, ap₂}
+use Rattle.std.proofs.Common.{ℕ, ◌*◌, take, ap, ap₂}
 use Rattle.vt_mip.proofs.HalvedStrips.{piece_moved}
 use Rattle.vt_mip.proofs.halved_strips.halve_strip.Goals as goal
 

@@ -1,4 +1,4 @@
-use Rattle.std.proofs.Common.{◌≡◌, List, [], Err, refl, ap, arith}
+use Rattle.std.proofs.Common.{◌≡◌, [], Err, ap}
 use Rattle.std.proofs.lemmas.Result.{err_from_is_err_and}
 use Rattle.std.specs.Option.{unwrap_or}
 use Rattle.vt_ppm.specs.Strips.{texture_of}

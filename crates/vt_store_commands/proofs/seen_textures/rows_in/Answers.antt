@@ -1,10 +1,9 @@
 use Rattle.std.proofs.Common.{◌≡◌, ℕ, ◌*◌, List, length, sym, ap, ap₂, subst, ◌∙◌}
 use Rattle.std.proofs.lemmas.List.{with_items_is}
 use Rattle.vt_ppm.specs.declared.header.Header.{Header}
-use Rattle.vt_ppm.specs.Format.{depth_of}
-use Rattle.vt_ppm.specs.Image.{ImageView, IsLawfulImage}
-use Rattle.vt_ppm.specs.Strips.{row_length, rows_of, texture_of}
-use Rattle.vt_store_commands.proofs.SeenTextures.{rows_lawful, rows_whole}
+use Rattle.vt_ppm.specs.Image.{IsLawfulImage}
+use Rattle.vt_ppm.specs.Strips.{row_length}
+use Rattle.vt_store_commands.proofs.SeenTextures.{rows_lawful}
 use Rattle.vt_store_commands.proofs.seen_textures.rows_in.Goals as goal
 
 pub new-requires : goal.new-requires

@@ -1,4 +1,4 @@
-use Rattle.std.proofs.Common.{ℕ, ◌+◌, ◌/◌, refl, sym, ap, ◌∙◌, inl, inr, arith}
+use Rattle.std.proofs.Common.{ℕ, ◌+◌, ◌/◌, refl, sym, ap, ◌∙◌, inl, inr}
 use Rattle.vt_ppm.specs.declared.header.Header.{Header}
 use Rattle.vt_store_commands.proofs.SeenTextures.{tile_some, two_levels}
 use Rattle.vt_store_commands.proofs.seen_textures.seen_in.Goals as goal

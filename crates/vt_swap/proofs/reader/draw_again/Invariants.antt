@@ -1,4 +1,4 @@
-use Rattle.std.proofs.Common.{◌≡◌, ℕ, List}
+use Rattle.std.proofs.Common.{ℕ, List}
 use Rattle.vt_swap.specs.Readers.{HasEnteredMore}
 use Rattle.vt_swap.proofs.reader.draw_again.Given as goal
 

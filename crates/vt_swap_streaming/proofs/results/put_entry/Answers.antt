@@ -1,4 +1,3 @@
-use Rattle.std.proofs.Common.{arith}
 use Rattle.vt_swap_streaming.proofs.Putting.{may_bring}
 use Rattle.vt_swap_streaming.proofs.results.put_entry.Goals as goal
 

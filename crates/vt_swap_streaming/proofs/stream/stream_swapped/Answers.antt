@@ -1,4 +1,4 @@
-use Rattle.std.proofs.Common.{◌≡◌, ℕ, ◌+◌, ◌*◌, ◌<◌, ◌∙◌, ap, sym, refl, subst, arith, length, length-append, true, [], ◌∷◌, List, Bool}
+use Rattle.std.proofs.Common.{◌≡◌, ℕ, ◌+◌, ◌<◌, ◌∙◌, ap, sym, refl, subst, arith, length, length-append, true, [], ◌∷◌, List, Bool}
 use Rattle.std.specs.Prelude.{slice_get, slice_index_or}
 use Rattle.std.proofs.lemmas.List.Elements.{All-nil}
 use Rattle.vt_journal.specs.JournalText.{changes_of}
@@ -9,7 +9,7 @@ use Rattle.vt_requests.specs.BatchRounds.{result_group, AreLossesOf}
 use Rattle.vt_streaming.specs.Streams.{Streams}
 use Rattle.vt_swap_streaming.specs.Brought.{is_kept}
 use Rattle.vt_swap_streaming.proofs.Putting.{group_short}
-use Rattle.vt_swap_streaming.proofs.Taking.{kept_inside, kept_new, streams_none, streams_dropped, streams_kept}
+use Rattle.vt_swap_streaming.proofs.Taking.{kept_inside, kept_new, streams_none, streams_kept}
 use Rattle.vt_swap_streaming.proofs.Lasting.{begun, under_way, losses_more}
 use Rattle.vt_swap_streaming.proofs.stream.stream_swapped.Goals as goal
 

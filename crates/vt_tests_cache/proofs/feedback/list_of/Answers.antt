@@ -1,4 +1,4 @@
-use Rattle.std.proofs.Common.{rules, ◌≡◌, ℕ, ◌<◌, length, arith}
+use Rattle.std.proofs.Common.{rules, ◌≡◌, ◌<◌, length, arith}
 use Rattle.std.specs.Prelude.{slice_index, replicate}
 use Rattle.vt_pages.specs.Pages.{pages_of}
 use Rattle.vt_tests_cache.proofs.Blank.{none_before}

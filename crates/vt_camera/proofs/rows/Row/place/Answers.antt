@@ -1,4 +1,4 @@
-use Rattle.std.proofs.Common.{◌≡◌, ◌*◌, ◌%◌, ◌<◌, ◌≤◌, ap, ◌∙◌, subst, arith}
+use Rattle.std.proofs.Common.{◌*◌, ◌%◌, ◌<◌, ap, ◌∙◌, subst, arith}
 use Rattle.vt_camera.specs.Rows.{RowView}
 use Rattle.vt_camera.proofs.Rings.{kept_spot, kept_spot_within}
 use Rattle.vt_camera.proofs.rows.Row.place.Goals as goal

@@ -1,4 +1,4 @@
-use Rattle.std.proofs.Common.{◌≡◌, ℕ, Ok, Err, refl, subst, arith}
+use Rattle.std.proofs.Common.{ℕ, Ok, Err, refl, subst}
 use Rattle.std.proofs.lemmas.Result.{err_from_is_err_and}
 use Rattle.vt_files.specs.Effects.{folder_state, sink_state, folder_effect, sink_effect}
 use Rattle.vt_command_base.specs.Lines.{end_line}

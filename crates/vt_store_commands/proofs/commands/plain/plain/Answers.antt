@@ -1,4 +1,4 @@
-use Rattle.std.proofs.Common.{ℕ, [], ◌∷◌, Ok, Err, refl, length, subst}
+use Rattle.std.proofs.Common.{[], ◌∷◌, Ok, Err, refl, length, subst}
 use Rattle.std.specs.Option.{IsSome}
 use Rattle.std.proofs.lemmas.Result.{err_from_is_err_and}
 use Rattle.vt_files.specs.Effects.{folder_state, sink_state, call_effect}
