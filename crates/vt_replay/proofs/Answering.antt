@@ -8,7 +8,8 @@ use Rattle.vt_camera.specs.Paths.{PathView}
 use Rattle.vt_journal.specs.JournalText.{Content}
 use Rattle.vt_replay.specs.Outcomes.{IsReplayable, Leaves, replay_answer}
 use Rattle.vt_replay.specs.Playing.{HasWritten}
-use Rattle.vt_replay.specs.Replayed.{Under, pictures_of, expected_replay}
+use Rattle.vt_replay_rows.specs.Trying.{Under}
+use Rattle.vt_replay.specs.Replayed.{pictures_of, expected_replay}
 use Rattle.vt_replay.specs.declared.error.ReplayError.{ReplayError}
 
 pub leaves_played : (under : Under) (s : Shape) (d : ℕ) (told : Option (List ℕ)) (path : PathView) (text prefix : List ℕ) (content : Content)

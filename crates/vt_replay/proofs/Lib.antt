@@ -1,15 +1,7 @@
 pub mod Answering
 pub mod Passes
-pub mod Reading
-pub mod ReplayLookupLaws
-pub mod Climbing
-pub mod Tiling
-pub mod Readying
-pub mod Following
 pub mod Scanning
 pub mod Judging
 pub mod Rows
-pub mod Places
 pub mod Written
 pub mod Staging
-pub mod Trying

@@ -22,7 +22,8 @@ use Rattle.vt_journal.proofs.ByParts.{parts_of_lawful, content_pinned}
 use Rattle.vt_journal.proofs.Growing.{lawful_in_turn}
 use Rattle.vt_journal.proofs.Versions.{pinned_stay}
 use Rattle.vt_journal.proofs.Heads.{count_to}
-use Rattle.vt_replay.specs.Playing.{MayBePlayed, AreRowsWithin, ArePlayed}
+use Rattle.vt_replay_rows.specs.Following.{MayBePlayed}
+use Rattle.vt_replay.specs.Playing.{AreRowsWithin, ArePlayed}
 
 -- a change's page and frame are within their bounds
 abbrev IsBounded : Shape → Change → Type 0

@@ -12,8 +12,9 @@ use Rattle.vt_journal.specs.declared.changes.RowLine.{RowLine}
 use Rattle.vt_journal.specs.Changes.{at}
 use Rattle.vt_pictures.specs.Scenes.{Scene}
 use Rattle.vt_pictures.specs.Replays.{HasPixels, IsReplayOf}
-use Rattle.vt_replay.specs.ReplayLookups.{row_of}
-use Rattle.vt_replay.specs.Replayed.{Under, version_of, replayed_row, replayed_rows}
+use Rattle.vt_replay_rows.specs.ReplayLookups.{row_of}
+use Rattle.vt_replay_rows.specs.Trying.{Under}
+use Rattle.vt_replay.specs.Replayed.{version_of, replayed_row, replayed_rows}
 
 -- bytes are their pieces of so many bytes each, one after another
 pieces_joined : (z n a : ℕ) (f : ℕ → List ℕ) (bytes : List ℕ) → length bytes ≡ n * z → ((x : ℕ) → x < n → take z (drop (x * z) bytes) ≡ f (a + x))

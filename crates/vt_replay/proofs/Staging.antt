@@ -6,8 +6,9 @@ use Rattle.vt_pages.specs.Shape.{Shape}
 use Rattle.vt_pages.specs.Pages.{pages_of}
 use Rattle.vt_journal.specs.declared.changes.Change.{Change}
 use Rattle.vt_tiles.specs.StoreViews.{StoreView, IsStoreIfTold}
-use Rattle.vt_replay.specs.Playing.{Follows, IsStaged}
-use Rattle.vt_replay.specs.ReplayLookups.{AreTiles}
+use Rattle.vt_replay_rows.specs.Following.{Follows}
+use Rattle.vt_replay.specs.Playing.{IsStaged}
+use Rattle.vt_replay_rows.specs.ReplayLookups.{AreTiles}
 
 pub restaged : {F : Type 0} (g : FileMeanings F) (s t : Shape) (d e width height : ℕ) (js ks : List Change) (entries : List ℕ)
     (version size : ℕ) (slots owners bytes samples counts : List ℕ) (store : StoreView F) → t ≡ s → e ≡ d → ks ≡ js

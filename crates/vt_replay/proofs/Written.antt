@@ -1,10 +1,7 @@
 -- What is written of a journal's pictures, from what was written of each.
-use Rattle.std.proofs.Common.{◌≡◌, ◌≢◌, ◌⊎◌, ℕ, zero, suc, ◌+◌, ◌-◌, ◌<◌, ◌≤◌, ◌==◌, inl, inr, Bool, true, false, T, eqb→eq, List, [], ◌∷◌, ◌++◌, length, take, drop, Option, Some, None, Ok, Err, refl, sym, ap, ◌∙◌, subst, arith}
+use Rattle.std.proofs.Common.{◌≡◌, ◌≢◌, ◌⊎◌, ℕ, zero, suc, ◌+◌, ◌-◌, ◌<◌, ◌≤◌, ◌==◌, inl, inr, Bool, true, false, T, eqb→eq, List, [], ◌∷◌, length, Option, Some, None, Ok, Err, refl, sym, ap, ◌∙◌, subst, arith}
 use Rattle.std.specs.Prelude.{slice_get, if◌then◌else◌, MatchOption, Result}
-use Rattle.std.proofs.lemmas.List.{append-nil}
 use Rattle.std.proofs.lemmas.Option.{slice_get_within, slice_get-get_or}
-use Rattle.std.proofs.Math.Seq.{take-length}
-use Rattle.std.proofs.Math.ListN.{drop_of_length-le}
 use Rattle.vt_outside.specs.Files.{Files}
 use Rattle.vt_outside.specs.declared.answers.OutsideError.{OutsideError}
 use Rattle.vt_outside.specs.declared.answers.OutsideError.TheVariants.{NoMemory}
@@ -21,14 +18,8 @@ use Rattle.vt_pages.specs.Shape.{Shape}
 use Rattle.vt_camera.specs.Paths.{PathView}
 use Rattle.vt_pictures.specs.Scenes.{Scene, scene_of}
 use Rattle.vt_replay.specs.Playing.{HasWritten, AreRowsWithin, ArePlayed}
-use Rattle.vt_replay.specs.Replayed.{Under, replayed_rows, lines_after, last_lines, pictures_after, pictures_of, replay_file}
-
--- a list that was written through a slice of all of it
-pub written_back : (len : ℕ) (new old : List ℕ) → length new ≡ len → length old ≡ len → take len (new ++ drop (length new) old) ≡ new
-written_back len new old full same =
-    let past : length old ≤ length new = omega arith in
-    ap (λ (bs : List ℕ). take len (new ++ bs)) (drop_of_length-le old past)
-    ∙ ap (take len) (append-nil new) ∙ ap (λ (n : ℕ). take n new) (sym full) ∙ take-length new
+use Rattle.vt_replay_rows.specs.Trying.{Under}
+use Rattle.vt_replay.specs.Replayed.{replayed_rows, lines_after, last_lines, pictures_after, pictures_of, replay_file}
 
 pub has_written : {T : Type 0} (expected : List ExpectedFile) (p : FolderEffect) (r : Result T OutsideError) → Writes expected p r → HasWritten expected p.before.files p.after.files r
 has_written expected p (Ok x) h = h.1

@@ -10,7 +10,8 @@ use Rattle.vt_journal.specs.JournalFlaws.{IsLawful}
 use Rattle.vt_files.specs.Expectations.{with_files, IsPart}
 use Rattle.vt_replay.specs.Flaws.{IsFirstRefused}
 use Rattle.vt_tiles.specs.Places.{IsTilePlace}
-use Rattle.vt_replay.specs.Replayed.{Under, pictures_of, expected_replay}
+use Rattle.vt_replay_rows.specs.Trying.{Under}
+use Rattle.vt_replay.specs.Replayed.{pictures_of, expected_replay}
 use Rattle.vt_replay.specs.declared.error.ReplayError.{ReplayError}
 use Rattle.vt_replay.specs.declared.error.ReplayError.TheVariants.{BadJournal, Failed, NoMemory}
 

@@ -13,14 +13,11 @@ use Rattle.vt_tiles.specs.Format.{stored}
 use Rattle.vt_files.specs.Expectations.{ExpectedFile}
 use Rattle.vt_files.specs.Pictures.{expected_pictures}
 use Rattle.vt_pictures.specs.Scenes.{Scene, scene_of}
+use Rattle.vt_replay_rows.specs.Trying.{Under}
 
 -- the version that the line of a row names
 abbrev pub version_of : List RowLine → ℕ → ℕ
 version_of lines y = unwrap_or (option_map (λ line. line.version) (slice_get lines y)) 0
-
--- how a filter shows pixels: the bytes of pixel (x, y) of picture i of a scene under a page table, of a source of texels
-abbrev pub Under : Type 0
-Under = Source → Scene → Table → ℕ → ℕ → ℕ → List ℕ
 
 -- the bytes of the first pixels of a row of a picture under a page table, as a filter shows them
 unfoldable pub replayed_row : Under → Source → Scene → Table → ℕ → ℕ → ℕ → List ℕ

@@ -6,7 +6,8 @@ ghost use Rattle.vt_journal.specs.declared.changes.Change.{Change};
 ghost use Rattle.vt_journal.specs.declared.changes.RowLine.{RowLine};
 ghost use Rattle.vt_pictures.specs.Scenes.{Scene};
 ghost use Rattle.vt_pictures.specs.Replays.{IsReplayOf};
-ghost use Rattle.vt_replay.specs.Replayed.{Under, replayed_rows};
+ghost use Rattle.vt_replay_rows.specs.Trying.{Under};
+ghost use Rattle.vt_replay.specs.Replayed.{replayed_rows};
 
 /// A pass of which there is a line for each row has one replay, however a filter shows pixels under a page table: samples that are
 /// its replay are these. So what a walk drew of a pass that its journal tells is what is drawn again from the journal.

@@ -5,7 +5,7 @@ ghost use Rattle.vt_outside.specs.Counts.{Rose, added};
 ghost use Rattle.vt_files.specs.Effects.{folder_effect};
 ghost use Rattle.vt_files.specs.Expectations.{AsksNone};
 ghost use Rattle.vt_pictures.specs.Replays.{pixel_under};
-ghost use Rattle.vt_replay.specs.Playing.{IsReadOn};
+ghost use Rattle.vt_replay_rows.specs.Following.{IsReadOn};
 ghost use Rattle.vt_replay.specs.Flaws.{IsFirstRefused};
 ghost use Rattle.vt_replay.specs.Outcomes.{Leaves, IsClosed, replay_answer};
 

@@ -15,15 +15,12 @@ ghost use Rattle.vt_files.specs.Expectations.{AsksNone};
 ghost use Rattle.vt_files.specs.Pictures.{expected_picture, expected_pictures};
 ghost use Rattle.vt_pictures.specs.Scenes.{scene_of};
 ghost use Rattle.vt_pictures.specs.Replays.{HasPixels};
-ghost use Rattle.vt_replay.specs.Playing.{IsReadOn, Follows, MayBePlayed, IsStaged, AreRowsWithin, ArePlayed, HasWritten};
-ghost use Rattle.vt_replay.specs.ReplayLookups.{row_of, AreTiles};
+ghost use Rattle.vt_replay_rows.specs.Following.{IsReadOn, Follows, MayBePlayed};
+ghost use Rattle.vt_replay.specs.Playing.{IsStaged, AreRowsWithin, ArePlayed, HasWritten};
+ghost use Rattle.vt_replay_rows.specs.ReplayLookups.{row_of, AreTiles};
 ghost use Rattle.vt_replay.specs.Replayed.{replayed_rows, pictures_of, replay_file, expected_replay};
 
-use crate::beside::{Part, parts_for};
 use crate::stream::slots_for;
-use crate::table::PageTable;
-use crate::tiles::Tiles;
-use crate::version::draw_version;
 use crate::writing::write_picture;
 use std::alloc::Global;
 use std::thread::Threads;
@@ -35,6 +32,7 @@ use vt_filter::Filter;
 use vt_journal::{Journal, JournalText, PassText};
 use vt_outside::{File, Folder, NoMemory, OutsideError};
 use vt_pages::Geometry;
+use vt_replay_rows::{PageTable, Part, Tiles, draw_version, parts_for};
 use vt_tiles::Store;
 
 /// The table that follows the journal, the loaded tiles, and the room to draw in: the samples of a picture, a count for each page,

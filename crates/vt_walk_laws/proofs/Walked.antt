@@ -39,7 +39,8 @@ use Rattle.vt_walk.specs.Written.{IsWritten, AreWritten}
 use Rattle.vt_walk.proofs.Showing.{rows_after}
 use Rattle.vt_walk.proofs.Telling.{told_changes, run_is_lawful}
 use Rattle.vt_replay.specs.Outcomes.{IsReplayable}
-use Rattle.vt_replay.specs.Replayed.{Under, replayed_rows, lines_after, last_lines, pictures_after, pictures_of, replay_file, expected_replay}
+use Rattle.vt_replay_rows.specs.Trying.{Under}
+use Rattle.vt_replay.specs.Replayed.{replayed_rows, lines_after, last_lines, pictures_after, pictures_of, replay_file, expected_replay}
 use Rattle.vt_walk_laws.specs.Walked.{IsOfStore, named_pictures}
 use Rattle.vt_replay.proofs.Rows.{replay_is_one}
 

@@ -21,7 +21,8 @@ ghost use Rattle.vt_walk.specs.States.{WalkState};
 ghost use Rattle.vt_walk.specs.Walks.{WalkGiven, WalkNames, AreSettings, given_by};
 ghost use Rattle.vt_walk.specs.Written.{IsDrawnBySome, IsWritten};
 ghost use Rattle.vt_replay.specs.Outcomes.{IsReplayable};
-ghost use Rattle.vt_replay.specs.Replayed.{Under, last_lines, pictures_of, replay_file, expected_replay};
+ghost use Rattle.vt_replay_rows.specs.Trying.{Under};
+ghost use Rattle.vt_replay.specs.Replayed.{last_lines, pictures_of, replay_file, expected_replay};
 ghost use Rattle.vt_walk_laws.specs.Walked.{IsOfStore, named_pictures};
 
 use vt_machine::PassMachine;

@@ -12,7 +12,8 @@ use Rattle.vt_files.specs.Effects.{FolderEffect, CallEffect}
 use Rattle.vt_files.specs.Expectations.{Expected, with_files, IsPart}
 use Rattle.vt_replay.specs.Flaws.{IsFirstRefused}
 use Rattle.vt_replay.specs.Outcomes.{IsReplayable}
-use Rattle.vt_replay.specs.Replayed.{Under, expected_replay, pictures_of}
+use Rattle.vt_replay_rows.specs.Trying.{Under}
+use Rattle.vt_replay.specs.Replayed.{expected_replay, pictures_of}
 use Rattle.vt_replay.specs.declared.error.ReplayError.{ReplayError}
 use Rattle.vt_replay.specs.declared.error.ReplayError.TheVariants as replay
 use Rattle.vt_words.specs.Replay.{ReplayText}

@@ -2,7 +2,7 @@ use Rattle.std.proofs.Common.{refl, sym, ◌∙◌, subst, arith}
 use Rattle.vt_pages.specs.Shape.{Shape}
 use Rattle.vt_replay.specs.Outcomes.{IsReplayable, Leaves}
 use Rattle.vt_replay.proofs.Answering.{leaves_played, played_failed}
-use Rattle.vt_replay.proofs.Reading.{read_none}
+use Rattle.vt_replay_rows.proofs.Reading.{read_none}
 use Rattle.vt_replay.proofs.pictures.replay_open.Goals as goal
 
 pub returns-clause-leaves : goal.returns-clause-leaves

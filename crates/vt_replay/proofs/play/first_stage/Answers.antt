@@ -1,6 +1,6 @@
 use Rattle.std.proofs.Common.{ℕ, List, sym, ◌∙◌, subst}
-use Rattle.vt_replay.specs.Playing.{Follows}
-use Rattle.vt_replay.proofs.Readying.{tiles_same}
+use Rattle.vt_replay_rows.specs.Following.{Follows}
+use Rattle.vt_replay_rows.proofs.Readying.{tiles_same}
 use Rattle.vt_replay.proofs.play.first_stage.Goals as goal
 
 pub returns-clause-first : goal.returns-clause-first

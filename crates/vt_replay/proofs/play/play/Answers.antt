@@ -6,10 +6,11 @@ use Rattle.vt_journal.specs.Changes.{at}
 use Rattle.vt_tiles.specs.Format.{stored}
 use Rattle.vt_files.specs.Pictures.{expected_pictures}
 use Rattle.vt_pictures.specs.Scenes.{scene_of}
-use Rattle.vt_replay.specs.Playing.{MayBePlayed, ArePlayed, HasWritten}
+use Rattle.vt_replay_rows.specs.Following.{MayBePlayed}
+use Rattle.vt_replay.specs.Playing.{ArePlayed, HasWritten}
 use Rattle.vt_replay.specs.Replayed.{replay_file, pictures_of}
 use Rattle.vt_replay.proofs.Passes.{may_be_played, root_mapped, are_played}
-use Rattle.vt_replay.proofs.Reading.{read_none}
+use Rattle.vt_replay_rows.proofs.Reading.{read_none}
 use Rattle.vt_replay.proofs.Staging.{staged_first}
 use Rattle.vt_replay.proofs.play.play.Goals as goal
 

@@ -14,7 +14,7 @@ use Rattle.vt_files.proofs.Writing.{HasPictures, no_pictures}
 use Rattle.vt_pictures.specs.Scenes.{scene_of}
 use Rattle.vt_replay.specs.Playing.{AreRowsWithin}
 use Rattle.vt_replay.specs.Replayed.{replayed_rows, pictures_of, replay_file}
-use Rattle.vt_replay.proofs.Reading.{read_none, read_then}
+use Rattle.vt_replay_rows.proofs.Reading.{read_none, read_then}
 use Rattle.vt_replay.proofs.Staging.{restaged}
 use Rattle.vt_replay.proofs.Written.{turn_first, turn_at, turn_same, turn_next, rows_within, shown_is, picture_counted, one_more, one_stopped}
 use Rattle.vt_replay.proofs.play.play_passes.Goals as goal

@@ -7,8 +7,8 @@ use Rattle.vt_journal.specs.Changes.{at}
 use Rattle.vt_tiles.specs.Format.{stored}
 use Rattle.vt_pictures.specs.Scenes.{scene_of}
 use Rattle.vt_pictures.specs.Replays.{HasPixels}
-use Rattle.vt_replay.specs.ReplayLookups.{row_of}
-use Rattle.vt_replay.proofs.Reading.{read_none, read_then}
+use Rattle.vt_replay_rows.specs.ReplayLookups.{row_of}
+use Rattle.vt_replay_rows.proofs.Reading.{read_none, read_then}
 use Rattle.vt_replay.proofs.Rows.{rows_are_replayed}
 use Rattle.vt_replay.proofs.play.show_pass.Goals as goal
 

@@ -6,8 +6,9 @@ use Rattle.vt_journal.specs.Changes.{at}
 use Rattle.vt_tiles.specs.Format.{stored}
 use Rattle.vt_pictures.specs.Scenes.{scene_of}
 use Rattle.vt_pictures.specs.Replays.{HasPixels}
-use Rattle.vt_replay.specs.Playing.{IsReadOn, IsStaged}
-use Rattle.vt_replay.specs.ReplayLookups.{row_of}
+use Rattle.vt_replay_rows.specs.Following.{IsReadOn}
+use Rattle.vt_replay.specs.Playing.{IsStaged}
+use Rattle.vt_replay_rows.specs.ReplayLookups.{row_of}
 use Rattle.vt_replay.proofs.play.show_pass.Given as goal
 
 -- the rows of the versions so far are drawn

@@ -7,8 +7,8 @@ use Rattle.vt_journal.specs.Kept.{entries_of}
 use Rattle.vt_tiles.specs.Format.{stored}
 use Rattle.vt_pictures.specs.Scenes.{scene_of}
 use Rattle.vt_pictures.specs.Replays.{HasPixels}
-use Rattle.vt_replay.specs.ReplayLookups.{row_of}
-use Rattle.vt_replay.proofs.Written.{written_back}
+use Rattle.vt_replay_rows.specs.ReplayLookups.{row_of}
+use Rattle.vt_replay_rows.proofs.Places.{written_back}
 use Rattle.vt_replay.proofs.play.show_version.Goals as goal
 
 pub returns-clause-shown : goal.returns-clause-shown

@@ -1,0 +1,6 @@
+use Rattle.std.proofs.Common.{◌≤◌}
+use Rattle.vt_replay_rows.proofs.beside.place_behind.Given as goal
+
+-- no more than so many rows
+abbrev pub invariant-loop-k : goal.invariant-loop-k
+invariant-loop-k l = l.before ≤ l.k

@@ -1,0 +1,3 @@
+pub mod ReplayLookups
+pub mod Following
+pub mod Trying
