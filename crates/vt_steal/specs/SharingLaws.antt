@@ -1,16 +1,11 @@
 -- What the workers of the machine whose samplers share rows did is a pass, once they are moved back.
-use Rattle.std.specs.Prelude.{◌≡◌, ℕ, ◌≤◌, Option, List, length, reverse, Result, IsOk, OnErr}
-use Rattle.std.proofs.Common.{refl, subst, sym, ap, ◌∙◌, arith}
-use Rattle.std.proofs.lemmas.List.{length-reverse, length-map}
-use Rattle.vt_outside.specs.Lists.{ListView}
+use Rattle.std.specs.Prelude.{◌≡◌, Option, List, length, reverse, Result, IsOk, OnErr}
+use Rattle.std.proofs.Common.{subst, sym, ap, ◌∙◌}
 use Rattle.vt_outside.specs.declared.outside.File.{Ghosts as FileMeanings}
 use Rattle.vt_outside.specs.declared.answers.NoMemory.{NoMemory}
 use Rattle.vt_filter.specs.declared.filters.Filter.{Ghosts as FilterMeanings}
-use Rattle.vt_tiles.specs.Format.{tile_length}
 use Rattle.vt_tiles.specs.StoreViews.{StoreView}
 use Rattle.vt_grace.specs.Values.{WordsValue}
-use Rattle.vt_plan.specs.declared.batches.Planned.{Planned}
-use Rattle.vt_queue.specs.Queues.{view_of}
 use Rattle.vt_loaders.specs.declared.queued.Queues.{Queues}
 use Rattle.vt_loaders.specs.QueuedLoaders.{QueuedView, HasLoaded, stores_of}
 use Rattle.vt_workers.specs.Jobs.{Job}
@@ -18,15 +13,13 @@ use Rattle.vt_workers.specs.All.{AllDid}
 use Rattle.vt_machine.specs.declared.crew.PassReport.{PassReport}
 use Rattle.vt_machine.specs.Machines.{files_of, told_by}
 use Rattle.vt_machine.specs.Passes.{IsJobFor, IsUntouched}
-use Rattle.vt_requests.specs.BatchRounds.{Begun as Round}
-use Rattle.vt_requests.specs.Sizes.{AreSized}
 use Rattle.vt_word_workers.specs.declared.workers.WordStreamer.{WordStreamer}
 use Rattle.vt_word_workers.specs.WordTasks.{HasFed}
-use Rattle.vt_word_workers.specs.RoundKits.{IsDealt}
 use Rattle.vt_word_workers.specs.GivenPasses.{HaveNewPasses}
 use Rattle.vt_pass.specs.WordLaws.{ends_after}
 use Rattle.vt_pass.specs.WordLaws as word_laws
-use Rattle.vt_stream_kit.specs.StreamKits.{StreamKitView, IsStreamKit, IsAskedStream, AreLoadersOut, StreamBegun, stream_before, MayEndStream}
+use Rattle.vt_stream_kit.specs.StreamKits.{StreamKitView, AreLoadersOut, stream_before}
+use Rattle.vt_stream_kit.specs.StreamBacks.{round, stream_begun, stream_back}
 use Rattle.vt_shared_rows.specs.declared.bag.RowBag.{RowBag}
 use Rattle.vt_steal.specs.declared.row_kit.RowKit.{RowKit}
 use Rattle.vt_steal.specs.RowTasks.{RowTask, HasDrawnShared}
@@ -39,80 +32,15 @@ pub none_refused : (r : Result PassReport NoMemory) → IsOk r → OnErr r ⊥
 none_refused r ok = word_laws.none_refused r ok
 
 -- the loaders were moved out of a kit whose streamer is there
-module _ {F : Type 0} (g : FileMeanings F) (words : WordsValue) (q : Queues) (was b d : WordStreamer) (k l : StreamKitView F) (batch : List Planned)
-    (a c : List (QueuedView F)) (out : AreLoadersOut g q k l was.answers b.answers a) (streamer_is : b ≡ record was { answers = b.answers })
-    (fit : IsFitStreamer g words was.streamer k) (asked : IsAskedStream g q was.answers was.report k batch) (number : length c ≡ length a)
-    (did_load : AllDid (HasLoaded g q) a c) (did_stream : HasFed words q batch b d) where
-  -- a loader was made of each store
-  dealt : IsDealt g q k.round l.round was.answers b.answers k.stores a
-  dealt = out.dealt
-
-  -- how the round of the loaders began
-  pub round : Round F
-  round = record {
-    asks = view_of k.round.asks;
-    answers = view_of was.answers;
-    first = a;
-    depth = k.depth;
-    told = told_by g k.stores;
-  }
-
-  -- how the loaders' work began
-  unfoldable pub stream_begun : StreamBegun F
-  stream_begun = record { round = round; answers = b.answers }
-
-  number_is : length a ≡ length k.stores
-  number_is = sym (length-reverse (stores_of a) ∙ length-map a (λ (x : QueuedView F). x.loader.store)) ∙ ap length dealt.stores_are
-
-  sizes : AreSized (tile_length k.shape k.depth) l.round.buffers.elements
-  sizes = subst (λ (x : ListView (ListView ℕ)). AreSized (tile_length k.shape k.depth) x.elements) (sym dealt.buffers) asked.kit.buffers
-
-  -- the kit is as it was but for its requests
-  same_kit : IsStreamKit g (record k { stores = reverse (stores_of a); round = l.round })
-  same_kit = subst (λ (x : List (StoreView F)). IsStreamKit g (record k { stores = x; round = l.round })) (sym dealt.stores_are) (record {
-    crew = asked.kit.crew;
-    depth = asked.kit.depth;
-    stores = asked.kit.stores;
-    told = asked.kit.told;
-    buffers = sizes;
-  })
-
-  -- they may be taken back
-  pub stream_back : MayEndStream g q l batch c d.answers d.report stream_begun
-  unfolding stream_begun round
-  stream_back = subst (λ (x : StreamKitView F). MayEndStream g q x batch c d.answers d.report stream_begun) (sym out.rest) (record {
-    kit = same_kit;
-    took = did_stream.took;
-    all = did_stream.all;
-    losses = did_stream.losses;
-    ended = record {
-      asked = asked.queued.put;
-      answers_all = ap (λ w. w.shares) asked.queued.no_answers;
-      no_results = ap (λ w. w.put) asked.queued.no_answers;
-      no_answers = ap (λ w. w.took) asked.queued.no_answers;
-      split = dealt.split;
-      depth_is = asked.kit.depth;
-      loaders = dealt.of k.shape k.depth (told_by g k.stores) (λ j x inside. let are = asked.kit.stores in
-          (are.shapes j x inside, are.depths j x inside, are.told j x inside));
-      number = number;
-      loaded = did_load;
-    };
-    depth_is = refl;
-    told_is = ap (told_by g) (sym dealt.stores_are);
-    no_stores = refl;
-    passes = record { requests = dealt.passes.requests; results = did_stream.answers };
-    loaders_of = λ j x inside. (did_load j x (omega (arith, number, inside))).passes;
-    some = (let x = asked.kit.crew.some_loader in let y = asked.kit.stores.count in let z = number_is in omega (arith, x, y, z, number));
-    stores_room = (let x = dealt.room in omega (arith, x, number));
-    buffers = subst (λ (x : ListView (ListView ℕ)). length batch ≤ x.spare) (sym dealt.buffers) asked.queued.buffers;
-  })
-
+module _ {F : Type 0} (g : FileMeanings F) (words : WordsValue) (q : Queues) (was b : WordStreamer) (k l : StreamKitView F) (a : List (QueuedView F))
+    (out : AreLoadersOut g q k l was.answers b.answers a) (streamer_is : b ≡ record was { answers = b.answers })
+    (fit : IsFitStreamer g words was.streamer k) where
   -- the streamer fits the kit before the loaders were made of its stores
-  pub fit_back : IsFitStreamer g words b.streamer (stream_before l stream_begun)
+  pub fit_back : IsFitStreamer g words b.streamer (stream_before l (stream_begun g was.answers b.answers k a))
   unfolding stream_begun round
   fit_back = subst (λ (x : StreamKitView F). IsFitStreamer g words b.streamer (record x { stores = reverse (stores_of a) })) (sym out.rest)
       (subst (λ (x : WordStreamer × List (StoreView F)). IsFitStreamer g words x.0.streamer (record k { stores = x.1; round = l.round }))
-      (λ i. (sym streamer_is i, sym dealt.stores_are i)) (record {
+      (λ i. (sym streamer_is i, sym out.dealt.stores_are i)) (record {
         of = fit.of;
         shape = fit.shape;
         samplers = fit.samplers;
@@ -173,8 +101,7 @@ module _ {F P : Type 0} (g : FileMeanings F) (filter : FilterMeanings P) (job : 
   -- how the work began
   z : Begun F
   z = record {
-    stream = stream_begun g m.words m.queues detached.was b d m.streams n.streams job.batch a c detached.loaders_out detached.streamer_is was_ready.fit
-        was_ready.asked number has_loaded has_fed;
+    stream = stream_begun g detached.was.answers b.answers m.streams a;
     streamer = b;
     tasks = e;
   }
@@ -184,10 +111,9 @@ module _ {F P : Type 0} (g : FileMeanings F) (filter : FilterMeanings P) (job : 
   unfolding z
   may_finish = subst (λ (x : WordsValue × Queues × RowBag). MayFinish g filter x.0 x.1 x.2 n.streams n.rows job c f d z)
       (λ i. (sym detached.words i, sym detached.queues i, sym detached.bag i)) (record {
-        stream = stream_back g m.words m.queues detached.was b d m.streams n.streams job.batch a c detached.loaders_out detached.streamer_is
-            was_ready.fit was_ready.asked number has_loaded has_fed;
-        fit = fit_back g m.words m.queues detached.was b d m.streams n.streams job.batch a c detached.loaders_out detached.streamer_is
-            was_ready.fit was_ready.asked number has_loaded has_fed;
+        stream = stream_back g m.queues detached.was.answers b.answers d.answers m.streams n.streams job.batch detached.was.report d.report a c
+            detached.loaders_out was_ready.asked number has_loaded has_fed.took has_fed.all has_fed.losses has_fed.answers;
+        fit = fit_back g m.words m.queues detached.was b m.streams n.streams a detached.loaders_out detached.streamer_is was_ready.fit;
         no_events = ap (λ (x : WordStreamer). x.report.events.elements) detached.streamer_is ∙ was_ready.asked.no_events;
         fed = has_fed;
         rows = rows_back g filter m.words m.queues m.bag detached.was b d m.streams m.rows n.rows job e f detached.streamer_is was_ready job_is

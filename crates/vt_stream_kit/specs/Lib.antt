@@ -1,1 +1,2 @@
 pub mod StreamKits
+pub mod StreamBacks
