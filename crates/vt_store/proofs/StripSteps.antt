@@ -1,7 +1,7 @@
 -- The steps of writing a store by strips: how one ends, and what is left after some.
 use Rattle.std.proofs.Common.{◌≡◌, ℕ, ◌+◌, ◌-◌, ◌*◌, ◌<◌, ◌≤◌, inl, inr, Bool, Option, Some, List, take, min, refl, sym, ap, ◌∙◌, subst, arith, Ok, Err}
 use Rattle.std.proofs.lemmas.Nat.{le-div}
-use Rattle.std.specs.Prelude.{option_map, Result}
+use Rattle.std.specs.Prelude.{option_map, IfSome, Result}
 use Rattle.std.specs.Result.{IsErrAnd}
 use Rattle.vt_outside.specs.Counts.{Rose}
 use Rattle.vt_outside.specs.Files.{Files, with_appended}
@@ -11,7 +11,7 @@ use Rattle.vt_outside.specs.declared.place.Place.{Place}
 use Rattle.vt_ppm.specs.declared.header.Header.{Header}
 use Rattle.vt_ppm.specs.Format.{depth_of}
 use Rattle.vt_ppm.specs.StripPlaces.{strip_rows, strips_of, StripsAsked, StripsTried}
-use Rattle.vt_ppm.specs.Strips.{RowsAsked, texture_of}
+use Rattle.vt_ppm.specs.Strips.{RowsAsked, rows_of, texture_of}
 use Rattle.vt_mip.specs.TakenRows.{HalvingView, HalvesFront}
 use Rattle.vt_pages.specs.Shape.{Shape, shape_of}
 use Rattle.vt_pages.specs.Pages.{IsWithinLimits, columns_at, rows_at}
@@ -21,10 +21,11 @@ use Rattle.vt_tiles.specs.Made.{HoldsMade, HoldsMadeFront}
 use Rattle.vt_tiles.specs.Refusals.{IsOutsideRefusal, refusal_by}
 use Rattle.vt_store.specs.StripStores.{strip_front, strip_tiles}
 use Rattle.vt_store.specs.Steps.{AddsFront, StepDone, StepStopped}
-use Rattle.vt_store.specs.StripSteps.{StripsState, KeepsStrips, IsNextStrip, StripMade, StripLost, MakesStrip, StripTried, StripStep, StripsDone, StripsStopped, AddsStrips, state_store}
+use Rattle.vt_store.specs.StripSteps.{StripsState, KeepsStrips, IsNextStrip, StripMade, StripLost, StripRead, ReadsStrip, IsStripThere, StripTried, StripStep, StripsDone, StripsStopped, AddsStrips, state_store}
 use Rattle.vt_store.proofs.StripStores.{store_made, made_moved, made_more, made_part, there_made}
 use Rattle.vt_ppm.proofs.StripPlaces.{more_strips, no_strips, strips_front, strip_tried}
 use Rattle.vt_store.proofs.StripLevels.{all_taken, strip_inside, strips_are, strip_low, next_taken}
+use Rattle.vt_store.proofs.StripTiles.{IsStrip, is_strip}
 use Rattle.vt_store.proofs.WideStores.{rose_along}
 
 -- nothing is lost where nothing was done
@@ -46,10 +47,34 @@ pub asked_at : (h : Header) (t i y count : ℕ) (failed : Bool) (p q : Option (L
 asked_at h t i y count failed p q ey ec one =
     subst (λ (n : ℕ). RowsAsked h (i * t) n failed p q) ec (subst (λ (n : ℕ). RowsAsked h n count failed p q) ey one)
 
--- how a strip was read that was made, or not
-pub read_of : {T E : Type 0} (s : Shape) (i : ℕ) (a b : StripsState) (tiles : List ℕ) (r : Result T E) → MakesStrip s i a b tiles r → StripTried s i a b
-read_of s i a b tiles (Ok x) made = inr (inl made.read)
-read_of s i a b tiles (Err e) lost = inr (inr lost.read)
+-- a strip's rows, where they were read by their first one and their number
+pub rows_told : (told : Option (List ℕ)) (h : Header) (t i y count : ℕ) (rows : List ℕ) → y ≡ i * t → count ≡ strip_rows h t i
+    → IfSome told (λ b. rows ≡ rows_of h b y count) → IfSome told (λ b. rows ≡ rows_of h b (i * t) (strip_rows h t i))
+rows_told told h t i y count rows ey ec are =
+    subst (λ (n : ℕ). IfSome told (λ b. rows ≡ rows_of h b (i * t) n)) ec (subst (λ (n : ℕ). IfSome told (λ b. rows ≡ rows_of h b n count)) ey are)
+
+-- which of a strip's places were asked that was read, or not
+pub read_of : {T E : Type 0} (s : Shape) (i : ℕ) (a b : StripsState) (rows : List ℕ) (r : Result T E) → ReadsStrip s i a b rows r → StripTried s i a b
+read_of s i a b rows (Ok x) was = inr (inl was.read)
+read_of s i a b rows (Err e) lost = inr (inr lost.read)
+
+-- a strip that was read is there
+pub there_after : (s : Shape) (i : ℕ) (a b : StripsState) (rows : List ℕ) → IsNextStrip s i a → KeepsStrips a b → StripRead s i a b rows → IsStripThere s i b
+there_after s i a b rows next kept was = record {
+  shape = ap (λ (h : Header). shape_of h.width h.height b.tile) kept.header ∙ ap (λ (t : ℕ). shape_of a.header.width a.header.height t) kept.tile ∙ next.shape;
+  inside = next.inside;
+  depth = was.depth ∙ next.depth ∙ ap (λ (h : Header). depth_of h.maximum) (sym kept.header);
+  width = was.width ∙ next.width ∙ ap (λ (h : Header). h.width) (sym kept.header);
+  height = was.height ∙ next.height ∙ ap (λ (h : Header). h.height) (sym kept.header);
+  taken = was.taken ∙ next.taken;
+}
+
+-- the numbers of the next strip
+pub is_next : (s : Shape) (i : ℕ) (a : StripsState) (columns : ℕ) → IsNextStrip s i a → IsWithinLimits s → columns ≡ columns_at s 0
+    → IsStrip s a.header i (i * s.tile) (strip_rows a.header s.tile i) columns
+is_next s i a columns next limits across =
+    is_strip s a.header a.tile i s.tile (i * s.tile) s.height (strip_rows a.header s.tile i) columns next.shape limits next.inside refl refl refl
+    (ap (λ (z : Shape). min s.tile (z.height - i * s.tile)) next.shape) across
 
 -- The name holds the tiles of the first strips, those of strip i are made, and the strips up to it were read and halved
 pub record IsAhead (s : Shape) (n : List ℕ) (i : ℕ) (a b : StripsState) (f g : Option Files) (m k : ℕ) (row : List ℕ) : Type 0 where

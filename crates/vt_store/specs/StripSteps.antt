@@ -1,5 +1,5 @@
--- What the writing of a store of strips does in one step: a strip's row of tiles is added while the next one's is made.
-use Rattle.std.specs.Prelude.{◌≡◌, ◌⊎◌, ℕ, ◌+◌, ◌*◌, ◌<◌, ◌≤◌, Bool, true, false, List, Option, Some, Result, Ok, Err}
+-- What the writing of a store of strips does in one step: a strip's row of tiles is added while the next strip is read.
+use Rattle.std.specs.Prelude.{◌≡◌, ◌⊎◌, ℕ, ◌+◌, ◌*◌, ◌<◌, ◌≤◌, Bool, true, false, List, Option, Some, Result, Ok, Err, IfSome}
 use Rattle.vt_outside.specs.Counts.{Rose}
 use Rattle.vt_outside.specs.Files.{Files}
 use Rattle.vt_outside.specs.declared.outside.File.{Ghosts as FileMeanings}
@@ -7,7 +7,8 @@ use Rattle.vt_outside.specs.declared.place.Place.{Place}
 use Rattle.vt_ppm.specs.declared.header.Header.{Header}
 use Rattle.vt_ppm.specs.Format.{depth_of}
 use Rattle.vt_ppm.specs.StripPlaces.{strip_rows, strips_of, StripsAsked, StripsTried}
-use Rattle.vt_ppm.specs.Strips.{RowsAsked, texture_of}
+use Rattle.vt_ppm.specs.Image.{ImageView}
+use Rattle.vt_ppm.specs.Strips.{IsTextureIfTold, RowsAsked, rows_of, texture_of}
 use Rattle.vt_mip.specs.StripChains.{StripChainView}
 use Rattle.vt_mip.specs.TakenRows.{HalvingView, HalvesFront}
 use Rattle.vt_pages.specs.Shape.{Shape, shape_of}
@@ -66,6 +67,26 @@ pub record IsNextStrip (s : Shape) (i : ℕ) (a : StripsState) : Type 0 where
 abbrev pub StripAsked : Shape → ℕ → Bool → StripsState → StripsState → Type 0
 StripAsked s i failed before after = RowsAsked before.header (i * s.tile) (strip_rows before.header s.tile i) failed before.places after.places
 
+-- strip i is there, as above, but that no further read may be noted
+pub record IsStripThere (s : Shape) (i : ℕ) (a : StripsState) : Type 0 where
+  pub shape : shape_of a.header.width a.header.height a.tile ≡ s
+  pub inside : i < rows_at s 0
+  pub depth : a.half.depth ≡ depth_of a.header.maximum
+  pub width : a.half.width ≡ a.header.width
+  pub height : a.half.height ≡ a.header.height
+  pub taken : a.half.taken ≡ i * s.tile
+
+-- strip i was read into a room, and level 1 stands as before
+pub record StripRead (s : Shape) (i : ℕ) (before after : StripsState) (room : List ℕ) : Type 0 where
+  pub read : StripAsked s i false before after
+  pub texture : IsTextureIfTold before.told before.header
+  pub rows : IfSome before.told (λ b. room ≡ rows_of before.header b (i * s.tile) (strip_rows before.header s.tile i))
+  pub halves : (p : ImageView) → HalvesFront p before.half → HalvesFront p after.half
+  pub taken : after.half.taken ≡ before.half.taken
+  pub depth : after.half.depth ≡ before.half.depth
+  pub width : after.half.width ≡ before.half.width
+  pub height : after.half.height ≡ before.half.height
+
 -- strip i was read, its rows were halved into level 1, and its tiles were made
 pub record StripMade (s : Shape) (i : ℕ) (before after : StripsState) (row : List ℕ) : Type 0 where
   pub read : StripAsked s i false before after
@@ -81,6 +102,10 @@ pub record StripMade (s : Shape) (i : ℕ) (before after : StripsState) (row : L
 pub record StripLost (s : Shape) (i : ℕ) (before after : StripsState) : Type 0 where
   pub read : StripAsked s i true before after
   pub rose : Rose before.faults after.faults
+
+-- strip i was read, or not
+abbrev pub ReadsStrip : {T E : Type 0} → Shape → ℕ → StripsState → StripsState → List ℕ → Result T E → Type 0
+ReadsStrip s i before after room r = Makes (StripRead s i before after room) (StripLost s i before after) r
 
 -- strip i was made, or not
 abbrev pub MakesStrip : {T E : Type 0} → Shape → ℕ → StripsState → StripsState → List ℕ → Result T E → Type 0

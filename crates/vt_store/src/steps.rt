@@ -1,14 +1,16 @@
-//! The steps of writing a store by strips: a strip's row of tiles is added while the next one's is made.
+//! The steps of writing a store by strips: a strip's row of tiles is added while the next strip is read.
 ghost use Rattle.std.specs.Prelude.{◌≡◌, ◌⊎◌, ◌+◌, ◌*◌, ◌≤◌, length, vec_len, IfOk};
 ghost use Rattle.std.specs.Thread.{IsSend, IsSync};
 ghost use Rattle.vt_definitions.specs.Depths.{texel_length};
 ghost use Rattle.vt_ppm.specs.Format.{depth_of};
+ghost use Rattle.vt_ppm.specs.StripPlaces.{strip_rows};
+ghost use Rattle.vt_ppm.specs.Strips.{row_length};
 ghost use Rattle.vt_pages.specs.Pages.{columns_at};
 ghost use Rattle.vt_tiles.specs.Format.{tile_length};
 ghost use Rattle.vt_store.specs.Steps.{Adds};
-ghost use Rattle.vt_store.specs.StripSteps.{IsNextStrip, KeepsStrips, MakesStrip, StripStep, strips_state};
+ghost use Rattle.vt_store.specs.StripSteps.{IsNextStrip, KeepsStrips, ReadsStrip, StripStep, strips_state};
 
-use crate::strip::make_strip;
+use crate::strip::{finish_strip, make_strip, read_strip, strip_size};
 use std::alloc::Global;
 use std::mem;
 use std::thread::{Threads, join_mut};
@@ -75,24 +77,22 @@ fn step_in_turn<Rt: Threads + Sync, F: File, D: Folder>(
     Ok(())
 }
 
-// Makes the row of tiles of a strip in a thread of its own, and adds another one meanwhile. Where no thread can be made, it is added first.
-fn add_and_make<Rt: Threads + Sync, F: File + Send, D: Folder>(
+// Reads a strip in a thread of its own, and adds a row of tiles meanwhile. Where no thread can be made, the row is added first.
+fn add_and_read<Rt: Threads + Sync, F: File + Send, D: Folder>(
     rt: &Rt,
     threads: usize,
     chain: &mut StripChain<F>,
     geometry: &Geometry,
     strip: u32,
     rows: &mut [u8],
-    next: &mut [u8],
     half: &mut Halving,
     folder: &mut D,
     name: &str,
     tiles: &[u8],
 ) -> (Result<(), Failed>, Result<(), OutsideError>)
     requires next { IsNextStrip geometry.now strip (strips_state F.File chain.old half.old) }
-    requires rows { length rows.old ≡ geometry.now.tile * (texel_length (depth_of chain.old.header.maximum) * geometry.now.width) }
-    requires room { length next.old ≡ columns_at geometry.now 0 * tile_length geometry.now (depth_of chain.old.header.maximum) }
-    ensures made { MakesStrip geometry.now strip (strips_state F.File chain.old half.old) (strips_state F.File chain.new half.new) next.new result.0 }
+    requires rows { length rows.old ≡ strip_rows chain.old.header geometry.now.tile strip * row_length chain.old.header }
+    ensures read { ReadsStrip geometry.now strip (strips_state F.File chain.old half.old) (strips_state F.File chain.new half.new) rows.new result.0 }
     ensures kept { KeepsStrips (strips_state F.File chain.old half.old) (strips_state F.File chain.new half.new) }
     ensures spare { F.spare chain.old.file ≤ F.spare chain.new.file + 1 }
     ensures added { Adds name.now tiles.now (D.files folder.old) (D.files folder.new) (D.faults folder.old) (D.faults folder.new) result.1 }
@@ -103,13 +103,12 @@ fn add_and_make<Rt: Threads + Sync, F: File + Send, D: Folder>(
         rt,
         &mut || -> Result<(), Failed>
             requires { IsSync Rt.row × IsSend F.row × IsNextStrip geometry.now strip (strips_state F.File chain.now half.now)
-                × (length rows.now ≡ geometry.now.tile * (texel_length (depth_of chain.now.header.maximum) * geometry.now.width))
-                × (length next.now ≡ columns_at geometry.now 0 * tile_length geometry.now (depth_of chain.now.header.maximum)) }
-            ensures { MakesStrip geometry.entry.now strip (strips_state F.File chain.entry.now half.entry.now)
-                (strips_state F.File chain.exit.now half.exit.now) next.exit.now result
+                × (length rows.now ≡ strip_rows chain.now.header geometry.now.tile strip * row_length chain.now.header) }
+            ensures { ReadsStrip geometry.entry.now strip (strips_state F.File chain.entry.now half.entry.now)
+                (strips_state F.File chain.exit.now half.exit.now) rows.exit.now result
                 × KeepsStrips (strips_state F.File chain.entry.now half.entry.now) (strips_state F.File chain.exit.now half.exit.now)
                 × (F.spare chain.entry.now.file ≤ F.spare chain.exit.now.file + 1) }
-        { make_strip(rt, threads, chain, geometry, strip, rows, next, half) },
+        { read_strip(rt, threads, chain, geometry, strip, rows, half) },
         &mut || -> Result<(), OutsideError>
             ensures { Adds name.entry.now tiles.entry.now (D.files folder.entry.now) (D.files folder.exit.now) (D.faults folder.entry.now)
                 (D.faults folder.exit.now) result
@@ -118,7 +117,7 @@ fn add_and_make<Rt: Threads + Sync, F: File + Send, D: Folder>(
     )
 }
 
-// Adds a row of tiles, and makes that of a strip meanwhile.
+// Adds a row of tiles, and reads a strip meanwhile. Then the strip's own row of tiles is made.
 fn step_at_once<Rt: Threads + Sync, F: File + Send, D: Folder>(
     rt: &Rt,
     threads: usize,
@@ -142,16 +141,19 @@ fn step_at_once<Rt: Threads + Sync, F: File + Send, D: Folder>(
     ensures asked { D.asked folder.new ≡ D.asked folder.old }
     ensures faults { D.faults folder.old ≤ D.faults folder.new }
 {
-    let (made, added) = add_and_make(
-        rt, threads, chain, geometry, strip, rows, next, half, folder, name, tiles,
+    let size = strip_size(chain, geometry, strip);
+    let room = &mut rows[..size];
+    let (read, added) = add_and_read(
+        rt, threads, chain, geometry, strip, room, half, folder, name, tiles,
     );
     added?;
-    made?;
+    read?;
+    finish_strip(rt, threads, chain, geometry, strip, room, next, half);
     Ok(())
 }
 
-/// Adds the row of tiles in `front` to the name, and makes there that of a strip: meanwhile, where `back` has room for a row, or else after
-/// it. `Failed` comes only where the folder's count of faults rose or the file's; then a prefix of the row was added, and the strip may have
+/// Adds the row of tiles in `front` to the name, and makes there that of a strip. The strip is read meanwhile, where `back` has room for a row, or
+/// else after it. `Failed` comes only where the folder's count of faults rose or the file's; then a prefix of the row was added, and the strip may have
 /// been read.
 pub(crate) fn write_next<Rt: Threads + Sync, F: File + Send, D: Folder>(
     rt: &Rt,

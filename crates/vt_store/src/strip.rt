@@ -10,10 +10,11 @@ ghost use Rattle.vt_ppm.specs.StripPlaces.{strip_rows};
 ghost use Rattle.vt_ppm.specs.Image.{ImageView};
 ghost use Rattle.vt_ppm.specs.Strips.{row_length, rows_of, IsTextureIfTold, RowsAsked};
 ghost use Rattle.vt_mip.specs.TakenRows.{HalvesFront};
-ghost use Rattle.vt_pages.specs.Pages.{columns_at, name_at, pages_of};
+ghost use Rattle.vt_pages.specs.Shape.{shape_of};
+ghost use Rattle.vt_pages.specs.Pages.{columns_at, name_at, pages_of, rows_at};
 ghost use Rattle.vt_tiles.specs.Format.{tile_length, tiles_bytes};
 ghost use Rattle.vt_tiles.specs.TileLines.{HasTileRows, tile_rows_length};
-ghost use Rattle.vt_store.specs.StripSteps.{IsNextStrip, KeepsStrips, MakesStrip, strips_state};
+ghost use Rattle.vt_store.specs.StripSteps.{IsNextStrip, IsStripThere, KeepsStrips, MakesStrip, ReadsStrip, StripMade, StripRead, StripsState, strips_state};
 
 use crate::write::{put_tiles, tile_columns};
 use std::thread::{Threads, join_mut};
@@ -22,8 +23,8 @@ use vt_mip::{Halving, StripChain};
 use vt_outside::{Failed, File};
 use vt_pages::Geometry;
 
-// Halves the rows of a strip into level 1, and makes of them its row of tiles: the one beside the other, where three threads are at work, of
-// which one adds another row of tiles. With more, the rows are halved in several.
+// Halves the rows of a strip into level 1, and makes of them its row of tiles: the one beside the other, where two threads are at work. To halve
+// takes less than half as long, so it is the new thread's (docs/DECISIONS.md).
 fn halve_and_cut<Rt: Threads + Sync>(
     rt: &Rt,
     threads: usize,
@@ -54,12 +55,11 @@ fn halve_and_cut<Rt: Threads + Sync>(
         → IsPiece p.samples (texel_length p.depth * (p.width * half.old.taken)) rows.now → HalvesFront p half.new }
     ensures tiles { (src : Source) → HasTileRows geometry.now depth src first rows.now → tiles.new ≡ tiles_bytes geometry.now depth src first columns }
 {
-    if threads < 3 {
+    if threads < 2 {
         half.take(rt, 1, rows, count);
         put_tiles(tiles, rows, depth, geometry, first, columns);
         return;
     }
-    let halvers = threads - 2;
     join_mut(
         rt,
         &mut || -> ()
@@ -70,7 +70,7 @@ fn halve_and_cut<Rt: Threads + Sync>(
                 × (half.exit.now.width ≡ half.entry.now.width) × (half.exit.now.height ≡ half.entry.now.height)
                 × ((p : ImageView) → HalvesFront p half.entry.now
                 → IsPiece p.samples (texel_length p.depth * (p.width * half.entry.now.taken)) rows.entry.now → HalvesFront p half.exit.now) }
-        { half.take(rt, halvers, rows, count) },
+        { half.take(rt, 1, rows, count) },
         &mut || -> ()
             requires { IsDepth depth × (first < pages_of geometry.now)
                 × ((name_at geometry.now first).col + columns ≤ columns_at geometry.now (name_at geometry.now first).level)
@@ -82,7 +82,8 @@ fn halve_and_cut<Rt: Threads + Sync>(
     );
 }
 
-// Reads rows of a texture, and makes room for their half: meanwhile, where three threads are at work, or else it is made when they are halved.
+// Reads rows of a texture, and makes room for their half: meanwhile, where three threads are at work, of which one adds a row of tiles, or else it
+// is made when they are halved.
 fn read_rows<Rt: Threads + Sync, F: File>(
     rt: &Rt,
     threads: usize,
@@ -141,30 +142,66 @@ fn read_rows<Rt: Threads + Sync, F: File>(
     read
 }
 
-// Reads a strip into a buffer of its length, halves its rows into level 1, and makes its row of tiles.
-fn read_strip<Rt: Threads + Sync, F: File>(
+/// How many bytes the rows of a strip have.
+pub(crate) fn strip_size<F: File>(chain: &StripChain<F>, geometry: &Geometry, strip: u32) -> usize
+    requires shape { shape_of chain.now.header.width chain.now.header.height chain.now.tile ≡ geometry.now }
+    requires strip { strip < rows_at geometry.now 0 }
+    ensures value { result ≡ strip_rows chain.now.header geometry.now.tile strip * row_length chain.now.header }
+    ensures few { result ≤ geometry.now.tile * (texel_length (depth_of chain.now.header.maximum) * geometry.now.width) }
+{
+    let (width, height, side) = (geometry.width(), geometry.height(), geometry.tile());
+    let row = texel_length(chain.depth()) * width as usize;
+    let count = side.min(height - strip * side);
+    count as usize * row
+}
+
+/// Reads a strip into a room of its length, and makes room for its half. It makes one read and takes no memory. `Failed` comes only where
+/// the file's count of faults rose.
+pub(crate) fn read_strip<Rt: Threads + Sync, F: File>(
     rt: &Rt,
     threads: usize,
     chain: &mut StripChain<F>,
     geometry: &Geometry,
     strip: u32,
     rows: &mut [u8],
-    tiles: &mut [u8],
     half: &mut Halving,
 ) -> Result<(), Failed>
     requires next { IsNextStrip geometry.now strip (strips_state F.File chain.old half.old) }
     requires rows { length rows.old ≡ strip_rows chain.old.header geometry.now.tile strip * row_length chain.old.header }
-    requires tiles { length tiles.old ≡ columns_at geometry.now 0 * tile_length geometry.now (depth_of chain.old.header.maximum) }
-    ensures made { MakesStrip geometry.now strip (strips_state F.File chain.old half.old) (strips_state F.File chain.new half.new) tiles.new result }
+    ensures read { ReadsStrip geometry.now strip (strips_state F.File chain.old half.old) (strips_state F.File chain.new half.new) rows.new result }
     ensures kept { KeepsStrips (strips_state F.File chain.old half.old) (strips_state F.File chain.new half.new) }
     ensures spare { F.spare chain.old.file ≤ F.spare chain.new.file + 1 }
 {
     let side = geometry.tile();
     let y = strip * side;
     let count = side.min(geometry.height() - y);
+    read_rows(rt, threads, chain, y, count, rows, half)?;
+    Ok(())
+}
+
+/// Halves the rows of a strip that was read into level 1, and makes its row of tiles, in a room of a row of tiles of level 0.
+pub(crate) fn finish_strip<Rt: Threads + Sync, F: File>(
+    rt: &Rt,
+    threads: usize,
+    chain: &StripChain<F>,
+    geometry: &Geometry,
+    strip: u32,
+    rows: &[u8],
+    tiles: &mut [u8],
+    half: &mut Halving,
+)
+    requires there { IsStripThere geometry.now strip (strips_state F.File chain.now half.old) }
+    requires rows { length rows.now ≡ strip_rows chain.now.header geometry.now.tile strip * row_length chain.now.header }
+    requires tiles { length tiles.old ≡ columns_at geometry.now 0 * tile_length geometry.now (depth_of chain.now.header.maximum) }
+    ensures made { (a : StripsState) → IsNextStrip geometry.now strip a → KeepsStrips a (strips_state F.File chain.now half.old)
+        → StripRead geometry.now strip a (strips_state F.File chain.now half.old) rows.now
+        → StripMade geometry.now strip a (strips_state F.File chain.now half.new) tiles.new }
+{
+    let side = geometry.tile();
+    let y = strip * side;
+    let count = side.min(geometry.height() - y);
     let columns = tile_columns(geometry, 0);
     let depth = chain.depth();
-    read_rows(rt, threads, chain, y, count, rows, half)?;
     halve_and_cut(
         rt,
         threads,
@@ -177,11 +214,10 @@ fn read_strip<Rt: Threads + Sync, F: File>(
         strip * columns,
         columns,
     );
-    Ok(())
 }
 
 /// Reads a strip, halves its rows into level 1, and makes its row of tiles. The rooms are as long as the longest strip and as a row of
-/// tiles of level 0. With three threads the rows are halved in one of their own, with more in several. It makes one read and takes no memory. `Failed` comes only where the file's count of faults rose.
+/// tiles of level 0. It makes one read and takes no memory. `Failed` comes only where the file's count of faults rose.
 pub(crate) fn make_strip<Rt: Threads + Sync, F: File>(
     rt: &Rt,
     threads: usize,
@@ -199,18 +235,9 @@ pub(crate) fn make_strip<Rt: Threads + Sync, F: File>(
     ensures kept { KeepsStrips (strips_state F.File chain.old half.old) (strips_state F.File chain.new half.new) }
     ensures spare { F.spare chain.old.file ≤ F.spare chain.new.file + 1 }
 {
-    let depth = chain.depth();
-    let (width, height, side) = (geometry.width(), geometry.height(), geometry.tile());
-    let row = texel_length(depth) * width as usize;
-    let count = side.min(height - strip * side);
-    read_strip(
-        rt,
-        threads,
-        chain,
-        geometry,
-        strip,
-        &mut rows[..count as usize * row],
-        tiles,
-        half,
-    )
+    let size = strip_size(chain, geometry, strip);
+    let room = &mut rows[..size];
+    read_strip(rt, threads, chain, geometry, strip, room, half)?;
+    finish_strip(rt, threads, chain, geometry, strip, room, tiles, half);
+    Ok(())
 }

@@ -35,7 +35,7 @@ fn strip_count(geometry: &Geometry) -> u32
 }
 
 // Adds the tiles of level 0 to the name, which holds the store's header, and makes level 1: each strip is read once, in order. Where
-// `back` has room for a second row of tiles, a strip's tiles are added while the next one's are made.
+// `back` has room for a second row of tiles, a strip's tiles are added while the next strip is read.
 fn write_first_level<Rt: Threads + Sync, F: File + Send, D: Folder>(
     rt: &Rt,
     threads: usize,
@@ -190,10 +190,10 @@ fn write_in_room<Rt: Threads + Sync, F: File + Send, D: Folder>(
 /// the other.
 ///
 /// It reads the texture in strips of as many rows as a tile has, each once and in order, and keeps level 1 in memory. Where two
-/// processors are there and rows of tiles are long enough, one is added while the next is made: so a strip may be read before the tiles
-/// of the one above it stand. `Failed` comes
-/// only where the folder's count of faults rose or the file's, and `NoMemory` where memory was refused; then the name holds a front
-/// part of the store, or is as before where it was not created, and a prefix of the strips was read. No other refusal comes.
+/// processors are there and rows of tiles are long enough, one is added while the next strip is read: so a strip may be read before the
+/// tiles of the one above it stand. `Failed` comes only where the folder's count of faults rose or the file's, and `NoMemory` where memory
+/// was refused; then the name holds a front part of the store, or is as before where it was not created, and a prefix of the strips was
+/// read. No other refusal comes.
 pub fn write_strips<Rt: Threads + Sync, F: File + Send, D: Folder>(
     rt: &Rt,
     alloc: Global,
