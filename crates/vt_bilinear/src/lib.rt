@@ -5,6 +5,7 @@ mod replay;
 
 pub use replay::replay_blend;
 use vt_pass::FilteredMachine;
+pub use vt_pass::WordMachine;
 use vt_plain_bilinear::Bilinear;
 
 /// The machine whose pixels are blends of four texels. A row is drawn under one hold, so its blends are of one version.

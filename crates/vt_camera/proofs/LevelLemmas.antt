@@ -4,7 +4,7 @@ use Rattle.std.proofs.lemmas.Bool.{leb-true, leb-false, cases_lt}
 use Rattle.std.proofs.lemmas.Nat.{pow_pos}
 use Rattle.std.proofs.Math.Nat.{pow-le-pow_right, pow-suc, div-div-eq-div-mul}
 use Rattle.std.specs.Prelude.{nat_le, if◌then◌else◌}
-use Rattle.vt_definitions.specs.Sides.{side}
+use Rattle.vt_text.specs.Sides.{side}
 use Rattle.vt_camera.specs.declared.paths.Camera.{Camera}
 use Rattle.vt_camera.specs.Rows.{level_within, camera_level, span, IsLevelOf}
 

@@ -4,7 +4,7 @@ use Rattle.std.specs.List.{All, join_with_byte}
 use Rattle.std.proofs.lemmas.Bool.{le-leb, lt-leb, cases_lt}
 use Rattle.std.proofs.lemmas.List.Elements.{All-head, All-tail}
 use Rattle.std.proofs.lemmas.List.FromFn.{length-map-range_with_len}
-use Rattle.vt_definitions.specs.Limits.{most_pictures, blank}
+use Rattle.vt_text.specs.Limits.{most_pictures, blank}
 use Rattle.vt_text.specs.Lines.{lines_of}
 use Rattle.vt_camera.specs.declared.paths.Camera.{Camera}
 use Rattle.vt_camera.specs.declared.parse.PathError.{PathError}

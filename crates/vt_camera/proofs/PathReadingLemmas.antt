@@ -1,7 +1,7 @@
 -- What the steps of the reading of a path find.
 use Rattle.std.proofs.Common.{◌≡◌, ◌≢◌, ℕ, ◌+◌, ◌^◌, ◌<◌, ◌≤◌, List, [], ◌∷◌, sym, ap, ◌∙◌, subst, arith, rules, ℤ, pos, negsuc, Option, Some, None, slice_get, codes, w64, to_z, of_z, FitsSigned, ◌≤ℤ◌, MatchOption}
 use Rattle.std.proofs.lemmas.Int.{ints, to_z-of_z}
-use Rattle.vt_definitions.specs.Limits.{most_focal}
+use Rattle.vt_text.specs.Limits.{most_focal}
 use Rattle.vt_text.specs.Numbers.{number_spelling, spelling, IsWithin}
 use Rattle.vt_text.specs.Lines.{fields_of}
 use Rattle.vt_camera.specs.declared.paths.Camera.{Camera}

@@ -5,7 +5,7 @@ use Rattle.std.proofs.lemmas.List.{append-nil, drop_all}
 use Rattle.std.proofs.lemmas.List.Elements.{All-nil, All-cons, All-append, All-map}
 use Rattle.std.proofs.lemmas.List.FromFn.{length-range_with_len, get_or-range_with_len}
 use Rattle.std.proofs.lemmas.List.Splits.{length-slice_split}
-use Rattle.vt_definitions.specs.Limits.{most_pictures, line_feed, blank}
+use Rattle.vt_text.specs.Limits.{most_pictures, line_feed, blank}
 use Rattle.vt_text.specs.Lines.{lines_of, parts_of}
 use Rattle.vt_camera.specs.declared.paths.Camera.{Camera}
 use Rattle.vt_camera.specs.declared.parse.PathError.{PathError}

@@ -2,7 +2,7 @@
 use Rattle.std.proofs.Common.{◌≡◌, ℕ, ◌+◌, ◌-◌, ◌*◌, ◌/◌, ◌%◌, ◌^◌, ◌<◌, ◌≤◌, sym, ap, ◌∙◌, arith}
 use Rattle.std.proofs.lemmas.Nat.{mul-le, div-mul-add, mod-mul-add, pow_pos, pow-add, shr_le}
 use Rattle.std.proofs.Math.Nat.{div-add-mod, div-div-eq-div-mul, mul-div-mul_right, pow-le-pow_right}
-use Rattle.vt_definitions.specs.Sides.{side}
+use Rattle.vt_text.specs.Sides.{side}
 use Rattle.vt_camera.specs.RowParts.{part_of, turn_at, on_ring}
 use Rattle.vt_camera.proofs.LevelLemmas.{inside_level}
 

@@ -1,6 +1,6 @@
 -- The first flawed line of a path's text.
 use Rattle.std.specs.Prelude.{◌≡◌, ◌≢◌, ℕ, zero, suc, ◌+◌, nat_le, if◌then◌else◌, List, [], ◌∷◌, Option, Some, None, ◌⊎◌}
-use Rattle.vt_definitions.specs.Limits.{most_pictures}
+use Rattle.vt_text.specs.Limits.{most_pictures}
 use Rattle.vt_text.specs.Lines.{fields_of, lines_of}
 use Rattle.vt_camera.specs.declared.parse.PathError.{PathError}
 use Rattle.vt_camera.specs.declared.parse.PathError.TheVariants.{BadLine, NoKey, TooManyPictures}

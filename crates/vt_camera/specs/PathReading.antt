@@ -1,7 +1,7 @@
 -- What the reading of a path's lines finds, before a path is made of it.
 use Rattle.std.specs.Prelude.{◌≡◌, ◌≢◌, ℕ, ◌+◌, ◌<◌, ◌≤◌, List, [], ◌∷◌, ◌++◌, map, length, drop, ℤ, Option, Some, None, slice_get, MatchOption, All}
 use Rattle.std.specs.List.{join_with_byte}
-use Rattle.vt_definitions.specs.Limits.{most_pictures, blank}
+use Rattle.vt_text.specs.Limits.{most_pictures, blank}
 use Rattle.vt_text.specs.Numbers.{number_spelling, spelling, IsWithin}
 use Rattle.vt_text.specs.Lines.{fields_of, lines_of}
 use Rattle.vt_camera.specs.declared.paths.Camera.{Camera}

@@ -1,6 +1,6 @@
 -- The text of a path: lines of fields, one line for the sides, one for the focal number, and one for each key.
 use Rattle.std.specs.Prelude.{◌≡◌, ℕ, ◌≤◌, Option, Some, None, ◌++◌, List, [], ◌∷◌, map, codes, All}
-use Rattle.vt_definitions.specs.Limits.{most_pictures}
+use Rattle.vt_text.specs.Limits.{most_pictures}
 use Rattle.vt_text.specs.Lines.{text_of}
 use Rattle.vt_text.specs.Numbers.{number_spelling, spelling}
 use Rattle.vt_camera.specs.declared.paths.Camera.{Camera}

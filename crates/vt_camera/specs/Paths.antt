@@ -1,6 +1,6 @@
 -- A path as its numbers, and the limits that they keep.
 use Rattle.std.specs.Prelude.{ℕ, ◌≤◌, List, length, pos, neg_ℤ, ◌≤ℤ◌, All}
-use Rattle.vt_definitions.specs.Limits.{most_picture_side, most_focal, most_pictures}
+use Rattle.vt_text.specs.Limits.{most_picture_side, most_focal, most_pictures}
 use Rattle.vt_camera.specs.declared.paths.Camera.{Camera}
 
 -- a path as its numbers: the picture's sides, the focal number and a camera for each picture

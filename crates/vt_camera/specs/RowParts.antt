@@ -1,6 +1,6 @@
 -- What a `Row` keeps beside what it stands for: the numbers that are the same at each pixel of it.
 use Rattle.std.specs.Prelude.{◌≡◌, ℕ, ◌+◌, ◌-◌, ◌*◌, ◌/◌, ◌%◌, ◌^◌, ◌≤◌, ℤ, pos, negsuc, ◌+ℤ◌, ◌*ℤ◌, ◌≤ℤ◌}
-use Rattle.vt_definitions.specs.Limits.{most_picture_side, most_focal}
+use Rattle.vt_text.specs.Limits.{most_picture_side, most_focal}
 use Rattle.vt_camera.specs.declared.rows.Axis.{Axis}
 use Rattle.vt_camera.specs.Paths.{IsCamera}
 use Rattle.vt_camera.specs.Rows.{RowView, IsSurface, floor_div, distance, span, row_level}

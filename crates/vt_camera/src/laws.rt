@@ -1,7 +1,7 @@
 //! Laws of the definitions: each is the contract of a function that does nothing.
 
 ghost use Rattle.std.specs.Prelude.{ℕ, ◌-◌, ◌/◌, ◌^◌, ◌<◌, ◌≤◌};
-ghost use Rattle.vt_definitions.specs.Sides.{side};
+ghost use Rattle.vt_text.specs.Sides.{side};
 ghost use Rattle.vt_camera.specs.declared.paths.Camera.{Camera};
 ghost use Rattle.vt_camera.specs.Rows.{span, camera_level, camera_place, IsLevelOf};
 

@@ -2,7 +2,7 @@
 
 ghost use Rattle.std.specs.Prelude.{◌≡◌, ◌≢◌, ◌≤◌, ◌+◌, ◌++◌, ◌⊎◌, ℕ, List, [], ◌∷◌, length, drop, slice_get, Some, None, MatchOption, MatchResult, IfOk, IfErr};
 ghost use Rattle.std.specs.Bool.{MatchBool};
-ghost use Rattle.vt_definitions.specs.Limits.{most_pictures};
+ghost use Rattle.vt_text.specs.Limits.{most_pictures};
 ghost use Rattle.vt_text.specs.Lines.{fields_of, lines_of};
 ghost use Rattle.vt_camera.specs.declared.paths.Camera.{Camera};
 ghost use Rattle.vt_camera.specs.declared.parse.PathError.{PathError};

@@ -1,7 +1,7 @@
 //! A camera, and the path of cameras that a sequence of pictures is drawn along.
 
 ghost use Rattle.std.specs.Prelude.{◌≡◌, ◌<◌, ◌≤◌, length, slice_get, Some};
-ghost use Rattle.vt_definitions.specs.Limits.{most_picture_side, most_focal, most_pictures};
+ghost use Rattle.vt_text.specs.Limits.{most_picture_side, most_focal, most_pictures};
 ghost use Rattle.vt_camera.specs.Paths.{IsCamera, IsPath};
 
 use std::marker::Model;

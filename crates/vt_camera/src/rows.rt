@@ -1,8 +1,8 @@
 //! A row of a picture: its mip level, and the texel that each of its pixels shows.
 
 ghost use Rattle.std.specs.Prelude.{◌≡◌, ◌+◌, ◌-◌, ◌*◌, ◌/◌, ◌%◌, ◌^◌, ◌<◌, ◌≤◌, ℤ, pos, negsuc, neg_ℤ, ◌+ℤ◌, ◌-ℤ◌, ◌*ℤ◌, ◌≤ℤ◌, ◌<ℤ◌};
-ghost use Rattle.vt_definitions.specs.Limits.{most_picture_side, most_focal};
-ghost use Rattle.vt_definitions.specs.Sides.{side};
+ghost use Rattle.vt_text.specs.Limits.{most_picture_side, most_focal};
+ghost use Rattle.vt_text.specs.Sides.{side};
 ghost use Rattle.vt_camera.specs.Paths.{IsCamera, most_direction, most_height, most_place};
 ghost use Rattle.vt_camera.specs.Rows.{longest_side, IsSurface, floor_div, distance, span, level_within, off_middle, row_of, row_level, row_place, row_spot};
 ghost use Rattle.vt_camera.specs.RowParts.{whole_turns, middle_of, part_of, turn_at, on_ring, IsAxis};

@@ -1,7 +1,7 @@
 //! The cameras on the way from one key of a path to the next.
 
 ghost use Rattle.std.specs.Prelude.{◌≡◌, ◌≤◌, ◌++◌, ℤ, pos, negsuc, neg_ℤ, ◌*ℤ◌, IfOk};
-ghost use Rattle.vt_definitions.specs.Limits.{most_pictures};
+ghost use Rattle.vt_text.specs.Limits.{most_pictures};
 ghost use Rattle.vt_text.specs.Numbers.{IsWithin};
 ghost use Rattle.vt_camera.specs.Paths.{IsCamera, most_place};
 ghost use Rattle.vt_camera.specs.Rows.{floor_div};

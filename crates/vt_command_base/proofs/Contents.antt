@@ -1,7 +1,7 @@
 -- Bytes that are an input with some content have no flaw as that input.
 use Rattle.std.proofs.Common.{◌≡◌, ℕ, List, None, sym, subst, ◌∙◌, inl, inr, arith}
 use Rattle.vt_ppm.specs.Image.{ImageView}
-use Rattle.vt_definitions.specs.Limits.{most_read_side, most_tiled_side}
+use Rattle.vt_pages.specs.Limits.{most_read_side, most_tiled_side}
 use Rattle.vt_ppm.proofs.ImageLaws.{no_image_flaw, one_image}
 use Rattle.vt_camera.proofs.PathFlawLemmas.{no_path_flaw}
 use Rattle.vt_pages.specs.Pages.{refusal_of}

@@ -1,3 +1,4 @@
+pub use Rattle.vt_files.proofs.Writing
 pub mod Reading
 pub mod Opening
 pub mod Seeing

@@ -6,7 +6,7 @@ use Rattle.vt_camera.specs.Paths.{PathView}
 use Rattle.vt_camera.proofs.PathFields.{path_unique}
 use Rattle.vt_pages.specs.Shape.{Shape}
 use Rattle.vt_ppm.specs.Image.{ImageView}
-use Rattle.vt_definitions.specs.Limits.{most_read_side, most_tiled_side}
+use Rattle.vt_pages.specs.Limits.{most_read_side, most_tiled_side}
 use Rattle.vt_ppm.proofs.ImageLaws.{one_image}
 use Rattle.vt_command_base.specs.Inputs
 use Rattle.vt_command_base.specs.Inputs.{Input, Content, name_of, IsContent}

@@ -2,7 +2,7 @@
 use Rattle.std.specs.Prelude.{ℕ, List, ◌++◌, codes, Result, Ok, Err}
 use Rattle.vt_outside.specs.declared.answers.OutsideError.{OutsideError}
 use Rattle.vt_outside.specs.declared.answers.OutsideError.TheVariants as outside
-use Rattle.vt_text.specs.Numbers.{number_spelling}
+use Rattle.vt_words.specs.TextNumbers.{number_spelling}
 use Rattle.vt_ppm.specs.declared.error.PpmError.{PpmError}
 use Rattle.vt_ppm.specs.declared.error.PpmError.TheVariants as ppm
 use Rattle.vt_camera.specs.declared.parse.PathError.{PathError}

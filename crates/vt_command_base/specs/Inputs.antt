@@ -1,6 +1,6 @@
 -- What a command reads: the kinds of inputs, each with a row in every definition here.
 use Rattle.std.specs.Prelude.{◌≡◌, ◌⊎◌, ℕ, ◌≤◌, ◌<◌, Bool, true, false, List, [], ◌∷◌, ◌++◌, length, min, All, Option, Some, None, Result, Ok, IfSome}
-use Rattle.vt_definitions.specs.Limits.{most_read_side, most_tiled_side}
+use Rattle.vt_pages.specs.Limits.{most_read_side, most_tiled_side}
 use Rattle.vt_outside.specs.Files.{noted}
 use Rattle.vt_outside.specs.declared.place.Place.{Place}
 use Rattle.vt_ppm.specs.Image.{ImageView}

@@ -1,3 +1,5 @@
+pub use Rattle.vt_files.specs.Effects
+pub use Rattle.vt_print.specs.Places
 pub mod Lines
 pub mod Flaws
 pub mod Refusals

@@ -1,6 +1,6 @@
 -- What the program prints.
 use Rattle.std.specs.Prelude.{ℕ, List, ◌++◌, codes}
-use Rattle.vt_text.specs.Numbers.{number_spelling}
+use Rattle.vt_words.specs.TextNumbers.{number_spelling}
 use Rattle.vt_print.specs.Places.{place_line}
 use Rattle.vt_pages.specs.Shape.{Shape}
 use Rattle.vt_pages.specs.Pages.{levels_of, pages_of}

@@ -1,9 +1,9 @@
 //! Reading what the commands work on. Each reader opens a name, reads its file and closes it.
 
 ghost use Rattle.std.specs.Prelude.{◌≡◌, ℕ, ◌≤◌, ◌++◌, true, Ok, OnOk, IfOk, IfErr, IfSome, IsErrOf, option_map};
-ghost use Rattle.vt_definitions.specs.Depths.{IsDepth};
+ghost use Rattle.vt_ppm.specs.Depths.{IsDepth};
 ghost use Rattle.vt_outside.specs.Counts.{Rose};
-ghost use Rattle.vt_definitions.specs.Limits.{most_read_side, most_tiled_side};
+ghost use Rattle.vt_pages.specs.Limits.{most_read_side, most_tiled_side};
 ghost use Rattle.vt_ppm.specs.Flaws.{AreImageSides};
 ghost use Rattle.vt_ppm.specs.Reads.{AreImagePlaces};
 ghost use Rattle.vt_ppm.specs.Strips.{IsTextureHeader, IsTextureIfTold};

@@ -1,8 +1,8 @@
 //! Writing what the commands make.
 
 ghost use Rattle.std.specs.Prelude.{◌≡◌, ◌↔◌, ◌+◌, ◌≤◌, ◌++◌, length};
-ghost use Rattle.vt_definitions.specs.Depths.{IsDepth};
-ghost use Rattle.vt_text.specs.Numbers.{number_spelling};
+ghost use Rattle.vt_ppm.specs.Depths.{IsDepth};
+ghost use Rattle.vt_words.specs.TextNumbers.{number_spelling};
 ghost use Rattle.vt_files.specs.Effects.{sink_effect};
 ghost use Rattle.vt_files.specs.Expectations.{Puts};
 ghost use Rattle.vt_command_base.specs.Lines.{end_line, store_line};

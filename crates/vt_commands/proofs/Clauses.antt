@@ -3,7 +3,7 @@ use Rattle.std.proofs.Common.{◌≡◌, ◌≢◌, ◌⊎◌, ℕ, ◌≤◌, L
 use Rattle.std.specs.Prelude.{Result, IsNone}
 use Rattle.std.specs.Option.{is_some}
 use Rattle.std.proofs.lemmas.Bool.{false≢true}
-use Rattle.vt_files.specs.Effects.{CallEffect, SinkState, FolderState, SinkEffect, IsWithoutEffect, IsIdle}
+use Rattle.vt_command_base.specs.Effects.{CallEffect, SinkState, FolderState, SinkEffect, IsWithoutEffect, IsIdle}
 use Rattle.vt_command_base.specs.Inputs.{Input, Content}
 use Rattle.vt_command_base.specs.Causes.{Cause, MissingName, FlawedInput, cause_status, IsFirstCause, AreHeld, AreAccepted}
 use Rattle.vt_command_base.specs.Tasks.{HasBadInput}

@@ -1,6 +1,6 @@
 -- What is known of the specification of every command.
 use Rattle.std.proofs.Common.{[], List, refl, ap}
-use Rattle.vt_files.specs.Effects.{CallEffect, FolderState, IsIdle}
+use Rattle.vt_command_base.specs.Effects.{CallEffect, FolderState, IsIdle}
 use Rattle.vt_command_base.specs.Inputs.{Input}
 use Rattle.vt_command_base.specs.Causes.{AsksInOrder}
 use Rattle.vt_command_base.specs.Tasks.{Task}

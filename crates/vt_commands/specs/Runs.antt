@@ -2,8 +2,8 @@
 use Rattle.std.specs.Prelude.{◌≡◌, ◌≢◌, ◌≤◌, ◌⊎◌, ℕ, List, Some, IsNone}
 use Rattle.vt_outside.specs.declared.outside.Folder.{Ghosts as FolderMeanings}
 use Rattle.vt_outside.specs.declared.outside.Sink.{Ghosts as SinkMeanings}
-use Rattle.vt_print.specs.Places.{bad_input_line}
-use Rattle.vt_files.specs.Effects.{CallEffect, SinkEffect, call_effect, sink_effect, IsWithoutEffect, IsIdle}
+use Rattle.vt_command_base.specs.Places.{bad_input_line}
+use Rattle.vt_command_base.specs.Effects.{CallEffect, SinkEffect, call_effect, sink_effect, IsWithoutEffect, IsIdle}
 use Rattle.vt_command_base.specs.Flaws.{flaw_place}
 use Rattle.vt_command_base.specs.Inputs.{Content}
 use Rattle.vt_command_base.specs.Lines.{memory_line, fault_line}

@@ -2,7 +2,7 @@
 use Rattle.std.specs.Prelude.{◌≡◌, ◌⊎◌, ℕ, List, Option, Some, IsNone, Result, Ok, Err}
 use Rattle.vt_words.specs.Commands.{ReplayCommand, WalkCommand, TrialCommand}
 use Rattle.vt_commands.specs.Words.{CommandText, OfStore, OfWalk, command_text}
-use Rattle.vt_files.specs.Effects.{CallEffect, IsIdle}
+use Rattle.vt_command_base.specs.Effects.{CallEffect, IsIdle}
 use Rattle.vt_command_base.specs.CommandSpecs.{CommandSpec, EndsBy}
 use Rattle.vt_store_commands.specs.commands.{store_spec}
 use Rattle.vt_walk_commands.specs.commands.Replay.{replay_spec}

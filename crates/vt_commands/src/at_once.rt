@@ -3,7 +3,7 @@
 ghost use Rattle.std.specs.Prelude.{◌≡◌, false};
 ghost use Rattle.vt_words.specs.Arguments.{texts};
 ghost use Rattle.vt_commands.specs.Words.{shown, IsLawful};
-ghost use Rattle.vt_files.specs.Effects.{call_effect};
+ghost use Rattle.vt_command_base.specs.Effects.{call_effect};
 ghost use Rattle.vt_command_base.specs.CommandSpecs.{EndsBy};
 ghost use Rattle.vt_commands.specs.commands.{spec_of, EndsRun};
 ghost use Rattle.vt_commands.specs.Waits.{is_waiting_name, may_wait, MayWait, no_machines};

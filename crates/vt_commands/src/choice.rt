@@ -1,7 +1,7 @@
 //! The choice of the machine by which the words have a walk drawn: a machine is a type parameter, and an arm here.
 
 ghost use Rattle.vt_words.specs.Walk.{shown_walk, IsLawfulWalk};
-ghost use Rattle.vt_files.specs.Effects.{call_effect};
+ghost use Rattle.vt_command_base.specs.Effects.{call_effect};
 ghost use Rattle.vt_walk_commands.specs.commands.Walk.{walk_spec};
 ghost use Rattle.vt_command_base.specs.CommandSpecs.{EndsBy};
 ghost use Rattle.vt_walk_commands.specs.Machines.{machines_of, chosen};

@@ -3,7 +3,7 @@
 ghost use Rattle.std.specs.Prelude.{◌≡◌, true};
 ghost use Rattle.vt_words.specs.Arguments.{texts};
 ghost use Rattle.vt_commands.specs.Words.{shown, IsLawful};
-ghost use Rattle.vt_files.specs.Effects.{call_effect};
+ghost use Rattle.vt_command_base.specs.Effects.{call_effect};
 ghost use Rattle.vt_walk_commands.specs.Machines.{machines_of};
 ghost use Rattle.vt_command_base.specs.CommandSpecs.{EndsBy};
 ghost use Rattle.vt_commands.specs.commands.{spec_of, EndsRun};

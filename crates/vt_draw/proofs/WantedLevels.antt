@@ -5,7 +5,7 @@ use Rattle.std.proofs.lemmas.Nat.{le-div, mul-le}
 use Rattle.vt_definitions.specs.Limits.{most_levels}
 use Rattle.vt_definitions.specs.Sides.{side, level_count}
 use Rattle.vt_definitions.specs.Texels.{Source}
-use Rattle.vt_ppm.specs.Image.{ImageView}
+use Rattle.vt_mip.specs.Image.{ImageView}
 use Rattle.vt_mip.specs.Chains.{chain_levels, chain_width, chain_height}
 use Rattle.vt_mip.specs.Levels.{IsLevel}
 use Rattle.vt_mip.proofs.Following.{side_after, levels_go_on, chains_go_on}

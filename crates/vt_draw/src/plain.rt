@@ -14,8 +14,7 @@ use std::alloc::Global;
 use std::thread::{Threads, join_mut};
 use vt_camera::{Camera, Path, Row, Surface};
 use vt_definitions::texel_length;
-use vt_mip::Chain;
-use vt_outside::NoMemory;
+use vt_mip::{Chain, NoMemory};
 use vt_parts::{processors, share, threads_for};
 
 /// How many nanoseconds it takes to draw a pixel, about: 3.5 were measured.

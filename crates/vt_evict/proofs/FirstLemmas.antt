@@ -6,9 +6,9 @@ use Rattle.std.proofs.lemmas.Bool.{cases_lt}
 use Rattle.std.proofs.lemmas.Bool.Decides.{nat_tests}
 use Rattle.std.proofs.lemmas.List.{get_or_append_left, get_or-append-add, get_or_past, length-replicate}
 use Rattle.std.proofs.lemmas.List.FromFn.{length-range_with_len, get_or-range_with_len}
-use Rattle.vt_definitions.specs.Limits.{most_frames}
-use Rattle.vt_pages.specs.Shape.{Shape}
-use Rattle.vt_pages.specs.Pages.{pages_of, IsWithinLimits}
+use Rattle.vt_plan.specs.Limits.{most_frames}
+use Rattle.vt_plan.specs.Shape.{Shape}
+use Rattle.vt_plan.specs.Pages.{pages_of, IsWithinLimits}
 use Rattle.vt_evict.specs.Views.{IsTable, is_held, first_view}
 use Rattle.vt_evict.proofs.SettleLemmas.{held_from, held_by, same_bool}
 

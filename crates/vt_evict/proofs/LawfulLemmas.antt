@@ -10,15 +10,15 @@ use Rattle.std.proofs.lemmas.List.FromFn.{get_or-map-range_with_len, length-map-
 use Rattle.std.proofs.lemmas.List.Sorted.{IsPermutation-reverse}
 use Rattle.std.proofs.lemmas.Map.Keys.{IsDistinct-IsPermutation}
 use Rattle.std.proofs.lemmas.Map.Made.{AllPairs-from_IsDistinct}
-use Rattle.vt_pages.specs.Shape.{Shape}
-use Rattle.vt_pages.specs.Pages.{levels_of, pages_of, index_of, IsWithinLimits, level_of, name_at, parent_name, parent_of}
-use Rattle.vt_pages.proofs.Lines.{parent_is, parent_none}
-use Rattle.vt_pages.proofs.Parents.{parent_facts, level_below}
-use Rattle.vt_pages.proofs.Steps.{step_root, step_below, step_up}
-use Rattle.vt_feedback.specs.declared.Wanted.{Wanted}
-use Rattle.vt_feedback.specs.Wants.{pages_wanted}
+use Rattle.vt_plan.specs.Shape.{Shape}
+use Rattle.vt_plan.specs.Pages.{levels_of, pages_of, index_of, IsWithinLimits, level_of, name_at, parent_name, parent_of}
+use Rattle.vt_plan.proofs.Lines.{parent_is, parent_none}
+use Rattle.vt_plan.proofs.Parents.{parent_facts, level_below}
+use Rattle.vt_plan.proofs.Steps.{step_root, step_below, step_up}
+use Rattle.vt_plan.specs.FeedbackTypes.Wanted.{Wanted}
+use Rattle.vt_plan.specs.Wants.{pages_wanted}
 use Rattle.vt_plan.specs.declared.batches.Planned.{Planned}
-use Rattle.vt_pages.specs.Lookups.{next_finer_page}
+use Rattle.vt_plan.specs.Lookups.{next_finer_page}
 use Rattle.vt_evict.specs.Orders.{line_pages}
 use Rattle.vt_plan.specs.PageLists.{is_in}
 use Rattle.vt_evict.specs.Views.{RecencyView, IsTable, is_pinned, is_loose, is_held, frame_of, free_frames}

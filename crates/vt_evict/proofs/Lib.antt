@@ -1,3 +1,4 @@
+pub use Rattle.vt_plan.proofs.ListLemmas as PlanListLemmas
 pub mod LineLemmas
 pub mod ListLemmas
 pub mod WalkLemmas

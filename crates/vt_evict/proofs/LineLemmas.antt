@@ -9,10 +9,10 @@ use Rattle.std.proofs.lemmas.List.{reverse-append}
 use Rattle.std.proofs.lemmas.Bool.Decides.{nat_tests}
 use Rattle.std.proofs.lemmas.List.Elements.{All-from_get_or, filter-append}
 use Rattle.std.proofs.lemmas.List.Folds.{list_any_none}
-use Rattle.vt_pages.specs.Shape.{Shape}
-use Rattle.vt_pages.specs.Pages.{levels_of, pages_of, index_of, IsWithinLimits, level_of, name_at, parent_name, parent_of, ancestors_of}
-use Rattle.vt_pages.proofs.Lines.{parent_is, reaches_root}
-use Rattle.vt_pages.proofs.Parents.{parent_page, line-root, line-parent, parent_facts, root_facts, level_below, line_distinct}
+use Rattle.vt_plan.specs.Shape.{Shape}
+use Rattle.vt_plan.specs.Pages.{levels_of, pages_of, index_of, IsWithinLimits, level_of, name_at, parent_name, parent_of, ancestors_of}
+use Rattle.vt_plan.proofs.Lines.{parent_is, reaches_root}
+use Rattle.vt_plan.proofs.Parents.{parent_page, line-root, line-parent, parent_facts, root_facts, level_below, line_distinct}
 use Rattle.vt_evict.specs.Orders.{line_pages}
 use Rattle.vt_plan.specs.PageLists.{is_in, each_once, with_page}
 use Rattle.vt_evict.specs.Kept.{IsClosed}

@@ -7,9 +7,9 @@ use Rattle.std.proofs.lemmas.List.FromFn.{length-range_with_len}
 use Rattle.std.proofs.lemmas.Map.Made.{length-le_from_is_member}
 use Rattle.std.proofs.lemmas.List.Elements.{All-head, All-tail, filter_passes, recursion_from_All}
 use Rattle.std.proofs.lemmas.List.Kept.{AllPairs-filter}
-use Rattle.vt_pages.specs.Shape.{Shape}
-use Rattle.vt_pages.specs.Pages.{pages_of, level_of, ancestors_of, IsWithinLimits}
-use Rattle.vt_pages.proofs.Parents.{line_rises}
+use Rattle.vt_plan.specs.Shape.{Shape}
+use Rattle.vt_plan.specs.Pages.{pages_of, level_of, ancestors_of, IsWithinLimits}
+use Rattle.vt_plan.proofs.Parents.{line_rises}
 use Rattle.vt_evict.specs.Orders.{line_pages}
 use Rattle.vt_plan.specs.PageLists.{is_in, each_once}
 use Rattle.vt_evict.proofs.ListLemmas.{below_in, is_in-append, is_in-reverse, each_once_distinct}

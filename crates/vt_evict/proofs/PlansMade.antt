@@ -3,8 +3,8 @@ use Rattle.std.proofs.Common.{◌≡◌, ℕ, ◌<◌, ◌≤◌, List, length, 
 use Rattle.std.specs.Prelude.{IfOk}
 use Rattle.std.specs.List.{All}
 use Rattle.vt_outside.specs.Lists.{ListView}
-use Rattle.vt_pages.specs.Pages.{pages_of}
-use Rattle.vt_feedback.specs.declared.Wanted.{Wanted}
+use Rattle.vt_plan.specs.Pages.{pages_of}
+use Rattle.vt_plan.specs.FeedbackTypes.Wanted.{Wanted}
 use Rattle.vt_plan.specs.declared.batches.Planned.{Planned}
 use Rattle.vt_evict.specs.Views.{RecencyView, IsTable}
 use Rattle.vt_evict.specs.Batches.{IsLawful}

@@ -1,6 +1,6 @@
 -- What a recency's fields say, as callers see it.
 use Rattle.std.proofs.Common.{ℕ, List}
-use Rattle.vt_pages.specs.Shape.{Shape}
+use Rattle.vt_plan.specs.Shape.{Shape}
 use Rattle.vt_evict.specs.Views.{RecencyView}
 
 -- the view of some fields

@@ -7,9 +7,9 @@ use Rattle.std.proofs.lemmas.List.Elements.{All-append, All-filter, All-map, All
 use Rattle.std.proofs.lemmas.List.Folds.{list_any_at}
 use Rattle.std.proofs.lemmas.List.Kept.{AllPairs-filter}
 use Rattle.std.proofs.lemmas.List.Sums.{passes_at_first}
-use Rattle.vt_pages.specs.Shape.{Shape}
-use Rattle.vt_pages.specs.Pages.{level_of, ancestors_of, pages_of, IsWithinLimits}
-use Rattle.vt_feedback.specs.Wants.{pages_wanted}
+use Rattle.vt_plan.specs.Shape.{Shape}
+use Rattle.vt_plan.specs.Pages.{level_of, ancestors_of, pages_of, IsWithinLimits}
+use Rattle.vt_plan.specs.Wants.{pages_wanted}
 use Rattle.vt_evict.specs.Orders.{line_pages, put_first}
 use Rattle.vt_plan.specs.PageLists.{is_in}
 use Rattle.vt_evict.specs.Views.{RecencyView, IsTable, is_loose, touched, touched_pages}

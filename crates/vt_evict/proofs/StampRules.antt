@@ -7,11 +7,11 @@ use Rattle.std.proofs.lemmas.List.Elements.{All-filter}
 use Rattle.std.proofs.lemmas.List.Folds.{list_any_at, Any-from_list_any}
 use Rattle.std.proofs.lemmas.List.Kept.{AllPairs-filter}
 use Rattle.std.proofs.lemmas.List.Sorted.{All-permutation, IsPermutation-reverse}
-use Rattle.vt_pages.specs.Shape.{Shape}
-use Rattle.vt_pages.specs.Pages.{ancestors_of}
-use Rattle.vt_feedback.specs.declared.Wanted.{Wanted}
-use Rattle.vt_feedback.specs.Wants.{pages_wanted}
-use Rattle.vt_feedback.proofs.OrderedLists.{ordered_are_one}
+use Rattle.vt_plan.specs.Shape.{Shape}
+use Rattle.vt_plan.specs.Pages.{ancestors_of}
+use Rattle.vt_plan.specs.FeedbackTypes.Wanted.{Wanted}
+use Rattle.vt_plan.specs.Wants.{pages_wanted}
+use Rattle.vt_plan.proofs.OrderedLists.{ordered_are_one}
 use Rattle.vt_plan.specs.declared.batches.Planned.{Planned}
 use Rattle.vt_evict.specs.Orders.{line_pages}
 use Rattle.vt_plan.specs.PageLists.{is_in}

@@ -1,7 +1,7 @@
 -- Batches of pages to be loaded, and what a table is after one.
 use Rattle.std.specs.Prelude.{◌≡◌, ◌≢◌, ℕ, ◌+◌, ◌<◌, nat_eq, Bool, Contains, true, false, not, Option, None, Some, MatchOption, List, [], ◌∷◌, ◌++◌, map, length, slice_index}
 use Rattle.std.specs.List.{All, AllPairs, filter, list_any}
-use Rattle.vt_pages.specs.Pages.{pages_of}
+use Rattle.vt_plan.specs.Pages.{pages_of}
 use Rattle.vt_plan.specs.declared.batches.Planned.{Planned}
 use Rattle.vt_evict.specs.Views.{RecencyView}
 

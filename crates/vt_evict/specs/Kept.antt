@@ -2,9 +2,9 @@
 use Rattle.std.specs.Prelude.{◌≡◌, ℕ, ◌+◌, ◌-◌, ◌^◌, ◌≤◌, min, map, ◌&&◌, not, nat_lt, [], Bool, true, false, nat_eq, slice_set, Option, None, Some, ◌∷◌, ◌++◌, List, length, slice_index_or}
 use Rattle.std.specs.List.{IsDistinct, filter, range_with_len}
 use Rattle.vt_outside.specs.Lists.{ListView}
-use Rattle.vt_pages.specs.Shape.{Shape}
-use Rattle.vt_pages.specs.Pages.{pages_of, parent_of}
-use Rattle.vt_feedback.specs.declared.Wanted.{Wanted}
+use Rattle.vt_plan.specs.Shape.{Shape}
+use Rattle.vt_plan.specs.Pages.{pages_of, parent_of}
+use Rattle.vt_plan.specs.FeedbackTypes.Wanted.{Wanted}
 use Rattle.vt_plan.specs.declared.batches.Planned.{Planned}
 use Rattle.vt_plan.specs.PageLists.{is_in}
 use Rattle.vt_plan.specs.Entries.{taken_at}

@@ -1,8 +1,8 @@
 -- Orders of pages, and the pages of lines.
 use Rattle.std.specs.Prelude.{ℕ, nat_eq, Bool, true, false, not, List, ◌∷◌, ◌++◌, reverse}
 use Rattle.std.specs.List.{filter, flat_map}
-use Rattle.vt_pages.specs.Shape.{Shape}
-use Rattle.vt_pages.specs.Pages.{ancestors_of}
+use Rattle.vt_plan.specs.Shape.{Shape}
+use Rattle.vt_plan.specs.Pages.{ancestors_of}
 use Rattle.vt_plan.specs.PageLists.{is_in, each_once}
 
 -- some pages first, and then the others of a list in their order

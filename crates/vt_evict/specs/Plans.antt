@@ -1,8 +1,8 @@
 -- The plan: which pages are loaded next, and into which frames.
 use Rattle.std.specs.Prelude.{ℕ, ◌+◌, ◌-◌, nat_lt, not, min, if◌then◌else◌, None, List, ◌++◌, map, length, slice_index, slice_get, reverse}
 use Rattle.std.specs.List.{filter, range_with_len}
-use Rattle.vt_feedback.specs.declared.Wanted.{Wanted}
-use Rattle.vt_feedback.specs.Wants.{pages_wanted}
+use Rattle.vt_plan.specs.FeedbackTypes.Wanted.{Wanted}
+use Rattle.vt_plan.specs.Wants.{pages_wanted}
 use Rattle.vt_plan.specs.declared.batches.Planned.{Planned}
 use Rattle.vt_plan.specs.PageLists.{is_in}
 use Rattle.vt_plan.specs.Missing.{missing_from}

@@ -1,11 +1,11 @@
 -- What contracts see of the recency of mapped pages: the table, and the unpinned mapped pages, the most recent first.
 use Rattle.std.specs.Prelude.{◌≡◌, ℕ, ◌+◌, ◌-◌, ◌<◌, ◌≤◌, ◌==◌, true, replicate, [], ◌++◌, nat_eq, nat_lt, nat_le, Bool, not, ◌&&◌, List, length, slice_index}
 use Rattle.std.specs.List.{IsDistinct, count_by, filter, list_any, range_with_len}
-use Rattle.vt_definitions.specs.Limits.{most_frames}
-use Rattle.vt_pages.specs.Shape.{Shape}
-use Rattle.vt_pages.specs.Pages.{pages_of, IsWithinLimits}
-use Rattle.vt_feedback.specs.declared.Wanted.{Wanted}
-use Rattle.vt_feedback.specs.Wants.{pages_wanted}
+use Rattle.vt_plan.specs.Limits.{most_frames}
+use Rattle.vt_plan.specs.Shape.{Shape}
+use Rattle.vt_plan.specs.Pages.{pages_of, IsWithinLimits}
+use Rattle.vt_plan.specs.FeedbackTypes.Wanted.{Wanted}
+use Rattle.vt_plan.specs.Wants.{pages_wanted}
 use Rattle.vt_plan.specs.PageLists.{is_in}
 use Rattle.vt_plan.specs.Missing.{is_mapped}
 use Rattle.vt_evict.specs.Orders.{line_pages, put_first}

@@ -2,8 +2,8 @@
 
 ghost use Rattle.std.specs.Prelude.{ℕ, ◌<◌, ◌≤◌, List, length};
 ghost use Rattle.std.specs.List.{All};
-ghost use Rattle.vt_pages.specs.Pages.{pages_of};
-ghost use Rattle.vt_feedback.specs.declared.Wanted.{Wanted};
+ghost use Rattle.vt_plan.specs.Pages.{pages_of};
+ghost use Rattle.vt_plan.specs.FeedbackTypes.Wanted.{Wanted};
 ghost use Rattle.vt_evict.specs.Views.{RecencyView, IsTable};
 ghost use Rattle.vt_evict.specs.Batches.{IsLawful};
 ghost use Rattle.vt_evict.specs.Plans.{plan_of};

@@ -2,9 +2,9 @@
 
 ghost use Rattle.std.specs.Prelude.{◌≡◌, ℕ, ◌+◌, ◌<◌, ◌&&◌, not, List, IsSome};
 ghost use Rattle.std.specs.List.{All, AllPairs, list_any};
-ghost use Rattle.vt_pages.specs.Shape.{Shape};
-ghost use Rattle.vt_pages.specs.Pages.{pages_of, ancestors_of};
-ghost use Rattle.vt_feedback.specs.declared.Wanted.{Wanted};
+ghost use Rattle.vt_plan.specs.Shape.{Shape};
+ghost use Rattle.vt_plan.specs.Pages.{pages_of, ancestors_of};
+ghost use Rattle.vt_plan.specs.FeedbackTypes.Wanted.{Wanted};
 ghost use Rattle.vt_plan.specs.PageLists.{is_in};
 ghost use Rattle.vt_evict.specs.Views.{RecencyView, IsTable, is_loose, touched, first_view};
 ghost use Rattle.vt_evict.specs.Batches.{IsLawful, IsSettled, read_entries};

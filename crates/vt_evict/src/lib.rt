@@ -18,4 +18,4 @@ pub use laws::{
     stamps_give_one_order,
 };
 pub use recency::Recency;
-pub use vt_plan::{Batch, Losses, Planned};
+pub use vt_plan::{Batch, Counts, Losses, Planned};

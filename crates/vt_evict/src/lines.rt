@@ -2,18 +2,16 @@
 
 ghost use Rattle.std.specs.Prelude.{◌≡◌, ◌+◌, ◌<◌, false, not, [], ◌∷◌, ◌++◌, IfOk, IfSome, IfNone, OnOk, reverse};
 ghost use Rattle.std.specs.List.{filter, All};
-ghost use Rattle.vt_pages.specs.Pages.{IsWithinLimits, pages_of, ancestors_of};
-ghost use Rattle.vt_feedback.specs.Wants.{pages_wanted};
+ghost use Rattle.vt_plan.specs.Pages.{IsWithinLimits, pages_of, ancestors_of};
+ghost use Rattle.vt_plan.specs.Wants.{pages_wanted};
 ghost use Rattle.vt_evict.specs.Orders.{line_pages};
 ghost use Rattle.vt_plan.specs.PageLists.{is_in};
 ghost use Rattle.vt_evict.specs.Kept.{IsWalk, IsClosed};
 
 use indexmap::IndexSet;
 use std::alloc::Global;
-use vt_feedback::Wants;
 use vt_outside::{Items, NoMemory};
-use vt_pages::Geometry;
-use vt_plan::add_page;
+use vt_plan::{Geometry, Wants, add_page};
 
 /// The pages that were walked over, each once, and a mark for each page whether it is one of them.
 #[derive(Drop)]

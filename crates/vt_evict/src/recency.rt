@@ -2,8 +2,8 @@
 
 ghost use Rattle.std.specs.Prelude.{◌≡◌, ℕ, ◌+◌, ◌-◌, ◌<◌, ◌≤◌, ◌&&◌, ◌||◌, if◌then◌else◌, not, nat_eq, nat_le, nat_lt, count_by, replicate, ◌++◌, length, IfOk, OnOk};
 ghost use Rattle.std.specs.List.{All, range_with_len};
-ghost use Rattle.vt_definitions.specs.Limits.{most_frames};
-ghost use Rattle.vt_pages.specs.Pages.{pages_of};
+ghost use Rattle.vt_plan.specs.Limits.{most_frames};
+ghost use Rattle.vt_plan.specs.Pages.{pages_of};
 ghost use Rattle.vt_plan.specs.PageLists.{is_in};
 ghost use Rattle.vt_evict.specs.Views.{IsTable, first_view, free_frames, touched, pages_needed};
 ghost use Rattle.vt_evict.specs.Batches.{IsLawful, IsLawfulEntry, IsSettled, read_entries};
@@ -16,10 +16,8 @@ use lru::LruCache;
 use std::alloc::Global;
 use std::collections::BTreeSet;
 use std::marker::Model;
-use vt_feedback::Wants;
 use vt_outside::NoMemory;
-use vt_pages::Geometry;
-use vt_plan::{Batch, Losses, Planned, missing_of, put_victims, with_free};
+use vt_plan::{Batch, Geometry, Losses, Planned, Wants, missing_of, put_victims, with_free};
 
 /// A table that maps pages to frames, with the recency of its mapped pages. Contracts see the table, and the unpinned
 /// mapped pages, the most recently used first.

@@ -8,8 +8,6 @@ ghost use Rattle.vt_feedback.specs.Wants.{IsWants};
 
 use std::alloc::Global;
 use std::marker::Model;
-use vt_outside::{Items, NoMemory};
-use vt_pages::Geometry;
 
 mod blocks;
 mod laws;
@@ -19,6 +17,8 @@ use blocks::{BLOCK, add_blocks, clear_blocks};
 pub use laws::wants_are_one;
 use ranks::ranks_of;
 pub use ranks::{Rank, rank_at, wants_of};
+pub use vt_outside::{Items, NoMemory};
+pub use vt_pages::Geometry;
 
 /// A page that a picture wants.
 #[derive(Clone, Copy, Debug, PartialEq, Eq)]

@@ -1,7 +1,7 @@
 //! Writing a picture.
 
 ghost use Rattle.std.specs.Prelude.{◌≡◌, ◌*◌, ◌<◌, [], ◌∷◌, length, IfOk};
-ghost use Rattle.vt_definitions.specs.Depths.{IsDepth, texel_length};
+ghost use Rattle.vt_ppm.specs.Depths.{IsDepth, texel_length};
 ghost use Rattle.vt_words.specs.Names.{four_digit_numbers};
 ghost use Rattle.vt_ppm.specs.Picture.{picture_bytes};
 ghost use Rattle.vt_files.specs.Effects.{folder_effect};

@@ -18,7 +18,7 @@ use Rattle.vt_grace.specs.declared.views.View.TheVariants.{Writing}
 use Rattle.vt_journal.specs.Changes.{Table, at, newest, changed, with_entry, IsNext}
 use Rattle.vt_journal.specs.Lookups.{change_page}
 use Rattle.vt_grace.specs.Changes.{IsNextKeeping}
-use Rattle.vt_definitions.specs.Limits.{most_versions}
+use Rattle.vt_journal.specs.Limits.{most_versions}
 use Rattle.vt_grace.specs.Places.{words_of, entry_place, entry_word, texel_place, texel_word, content_of, bank_of}
 use Rattle.vt_grace.specs.Stages.{announcement, IsStageIn}
 use Rattle.vt_grace.specs.WriterViews.{version_of, floor_of, raised, after_look, after_change, after_entry, after_word}

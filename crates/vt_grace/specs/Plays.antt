@@ -6,7 +6,7 @@ use Rattle.vt_grace.specs.declared.views.Stage.TheVariants.{Hinted, Announced}
 use Rattle.vt_grace.specs.declared.views.PassView.{PassView}
 use Rattle.vt_grace.specs.declared.views.WriterView.{WriterView}
 use Rattle.vt_grace.specs.Seats.{Sat, passing, writing, pass_in, writer_in}
-use Rattle.vt_definitions.specs.Limits.{most_versions}
+use Rattle.vt_journal.specs.Limits.{most_versions}
 use Rattle.vt_grace.specs.Stages.{hint_of, held_of}
 use Rattle.vt_grace.specs.PassViews.{at_stage, idle, holding, noting, wording, NoneAbove}
 use Rattle.vt_grace.specs.WriterViews.{is_out, version_of, after_look, after_change, after_entry, after_word}

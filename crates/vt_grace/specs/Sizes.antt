@@ -1,8 +1,8 @@
 -- How large a table of words is.
 use Rattle.std.specs.Prelude.{ℕ, ◌*◌, ◌<◌, ◌≤◌}
-use Rattle.vt_definitions.specs.Limits.{most_samplers, most_pages, most_frames, most_frame_texels, most_tile_side}
-use Rattle.vt_pages.specs.Shape.{Shape}
-use Rattle.vt_pages.specs.Pages.{pages_of, root_of}
+use Rattle.vt_journal.specs.Limits.{most_samplers, most_pages, most_frames, most_frame_texels, most_tile_side}
+use Rattle.vt_journal.specs.Shape.{Shape}
+use Rattle.vt_journal.specs.Pages.{pages_of, root_of}
 use Rattle.vt_grace.specs.declared.sizes.Sizes.{Sizes}
 
 -- the sizes of a table for a texture's pages, with so many frames and samplers

@@ -1,6 +1,6 @@
 -- What is true of what the writer knows, and of what a pass knows.
 use Rattle.std.specs.Prelude.{◌≡◌, ◌≢◌, ℕ, ◌*◌, ◌<◌, ◌≤◌, true, List, length, All, None}
-use Rattle.vt_definitions.specs.Limits.{most_versions}
+use Rattle.vt_journal.specs.Limits.{most_versions}
 use Rattle.vt_journal.specs.declared.changes.Change.{Change}
 use Rattle.vt_journal.specs.Changes.{at}
 use Rattle.vt_grace.specs.declared.sizes.Sizes.{Sizes}

@@ -1,10 +1,10 @@
 //! How large a table of words is.
 
 ghost use Rattle.std.specs.Prelude.{◌≡◌, ◌*◌, ◌≤◌};
-ghost use Rattle.vt_definitions.specs.Limits.{most_samplers, most_frames, most_frame_texels};
+ghost use Rattle.vt_journal.specs.Limits.{most_samplers, most_frames, most_frame_texels};
 ghost use Rattle.vt_grace.specs.Sizes.{AreWithinLimits, sizes_of};
 
-use vt_pages::Geometry;
+use vt_journal::Geometry;
 
 /// The sizes of a table of words.
 #[derive(Clone, Copy)]

@@ -87,7 +87,7 @@ impl Model for WriterSeat {
     ghost use Rattle.std.specs.Prelude.{◌≡◌, ◌≤◌};
     ghost use Rattle.vt_grace.specs.Seats.{IsWriting, writer_at};
     ghost use Rattle.vt_grace.specs.WriterViews.{version_of};
-    ghost use Rattle.vt_definitions.specs.Limits.{most_versions};
+    ghost use Rattle.vt_journal.specs.Limits.{most_versions};
     ghost use Rattle.vt_grace.specs.Values.{WriterValue};
 
     ghost Value = { WriterValue };

@@ -1,7 +1,7 @@
 //! A new table of words.
 
 ghost use Rattle.std.specs.Prelude.{◌≡◌, ◌*◌, ◌≤◌, IfOk};
-ghost use Rattle.vt_definitions.specs.Limits.{most_samplers, most_frames, most_frame_texels};
+ghost use Rattle.vt_journal.specs.Limits.{most_samplers, most_frames, most_frame_texels};
 ghost use Rattle.vt_grace.specs.Sizes.{sizes_of};
 ghost use Rattle.vt_grace.specs.WriterViews.{first_writer};
 ghost use Rattle.vt_grace.specs.Sound.{IsSound};
@@ -12,8 +12,8 @@ use crate::sizes::sizes_for;
 use crate::tokens::{Words, WriterSeat};
 use atomic_table::Table;
 use std::alloc::Global;
+use vt_journal::Geometry;
 use vt_outside::NoMemory;
-use vt_pages::Geometry;
 
 impl Words {
     /// A table of version 0, which maps nothing, whose words are all 0, and the right to write it. The frames are at most

@@ -4,7 +4,7 @@
 ghost use Rattle.std.specs.Prelude.{◌≡◌, ◌≤◌, ◌<◌, ◌+◌, false, true};
 ghost use Rattle.vt_grace.specs.WriterViews.{is_out, version_of, after_look, after_entry, after_word, after_change};
 ghost use Rattle.vt_grace.specs.Giving.{after_giving, after_return, new_pass};
-ghost use Rattle.vt_definitions.specs.Limits.{most_versions};
+ghost use Rattle.vt_journal.specs.Limits.{most_versions};
 ghost use Rattle.vt_grace.specs.Sound.{IsSound};
 ghost use Rattle.vt_grace.specs.Banks.{MayWriteNext, MayFill, MayPublish};
 ghost use Rattle.vt_grace.specs.Tokens.{IsPassOf, IsWriterOf};

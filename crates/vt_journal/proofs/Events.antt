@@ -1,7 +1,7 @@
 -- The events of a pass, read one after another.
 use Rattle.std.proofs.Common.{◌≡◌, ◌≢◌, ℕ, ◌+◌, ◌≤◌, inr, List, [], ◌∷◌, ◌++◌, length, refl, sym, ap, ◌∙◌, subst, arith, append_assoc, length-append, None, drop}
 use Rattle.std.proofs.lemmas.List.{append-nil}
-use Rattle.vt_definitions.specs.Limits.{most_versions}
+use Rattle.vt_text.specs.Limits.{most_versions}
 use Rattle.vt_pages.specs.Shape.{Shape}
 use Rattle.vt_journal.specs.declared.changes.Change.{Change}
 use Rattle.vt_journal.specs.declared.changes.Change.TheVariants.{Map, Unmap}

@@ -1,7 +1,7 @@
 -- Lists that begin with one another.
 use Rattle.std.proofs.Common.{◌≡◌, ◌++◌, ◌∷◌, [], ℕ, List, ap, ◌∙◌, append_assoc}
 use Rattle.std.proofs.lemmas.List.{append-nil}
-use Rattle.vt_definitions.specs.Limits.{blank}
+use Rattle.vt_text.specs.Limits.{blank}
 use Rattle.vt_journal.specs.JournalText.{behind_blanks}
 use Rattle.vt_journal.specs.Fronts.{IsFrontOf}
 

@@ -1,3 +1,5 @@
+pub use Rattle.vt_pages.proofs.Lines
+pub use Rattle.vt_pages.proofs.Parents
 pub mod Versions
 pub mod Finding
 pub mod EventLines

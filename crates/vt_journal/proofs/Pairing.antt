@@ -1,7 +1,7 @@
 -- The numbers of pages and frames give each other.
 use Rattle.std.proofs.Common.{◌≡◌, ◌≢◌, ℕ, zero, suc, ◌+◌, ◌<◌, ◌≤◌, inl, inr, Bool, true, false, eqb, List, length, get_or, set, refl, sym, ap, ◌∙◌, arith, Some, None, MatchBool, get_or-set_other, get_or-set_same, length-set}
 use Rattle.std.proofs.lemmas.Bool.{eqb-true, eqb-false}
-use Rattle.vt_definitions.specs.Limits.{most_pages, most_frames}
+use Rattle.vt_text.specs.Limits.{most_pages, most_frames}
 use Rattle.vt_journal.specs.Changes.{IsFree, nothing_mapped}
 use Rattle.vt_journal.specs.Kept.{entry_of, entries_of, ArePaired}
 use Rattle.vt_journal.proofs.Versions.{same_page}

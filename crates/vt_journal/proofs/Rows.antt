@@ -10,7 +10,7 @@ use Rattle.vt_journal.specs.declared.lines.Line.TheVariants.{Begins, Makes, Lose
 use Rattle.vt_journal.specs.declared.passes.PassText.{PassText}
 use Rattle.vt_journal.specs.declared.parse.JournalError.{JournalError}
 use Rattle.vt_journal.specs.declared.parse.JournalError.TheVariants.{BadLine}
-use Rattle.vt_definitions.specs.Limits.{most_samplers}
+use Rattle.vt_text.specs.Limits.{most_samplers}
 use Rattle.vt_journal.specs.JournalFlaws.{Reading, Admits, IsComplete, after, after_all, IsFlawFrom}
 use Rattle.vt_journal.specs.JournalText.{line_fields}
 use Rattle.vt_text.specs.Lines.{fields_of, lines_of}

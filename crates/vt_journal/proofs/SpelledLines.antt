@@ -1,7 +1,7 @@
 -- The lines of a journal's text: their fields are words, so the text and its lines tell each other.
 use Rattle.std.proofs.Common.{◌≡◌, ℕ, List, [], ◌∷◌, ◌++◌, map, refl, sym, ap, ◌∙◌, arith}
 use Rattle.std.specs.List.{join_with_byte}
-use Rattle.vt_definitions.specs.Limits.{blank}
+use Rattle.vt_text.specs.Limits.{blank}
 use Rattle.vt_text.specs.Lines.{fields_of, lines_of, text_of}
 use Rattle.vt_text.proofs.Words.{HasWords, AllHaveWords, word-number_spelling, fields_of-join, join-fields_of, lines_of-text_of, text_of-lines_of}
 use Rattle.vt_pages.specs.Shape.{Shape}

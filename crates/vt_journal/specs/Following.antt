@@ -7,7 +7,7 @@ use Rattle.vt_journal.specs.declared.changes.Change.TheVariants.{Map, Unmap}
 use Rattle.vt_journal.specs.declared.changes.Event.{Event}
 use Rattle.vt_journal.specs.declared.changes.Event.TheVariants.{Changed, Lost}
 use Rattle.vt_journal.specs.declared.changes.RowLine.{RowLine}
-use Rattle.vt_definitions.specs.Limits.{most_frames, most_samplers}
+use Rattle.vt_text.specs.Limits.{most_frames, most_samplers}
 use Rattle.vt_journal.specs.Changes.{newest, IsNext}
 use Rattle.vt_journal.specs.JournalText.{Pass, Content, changes_of, pinned_changes}
 use Rattle.vt_journal.specs.JournalFlaws.{IsNextPicture}

@@ -10,7 +10,7 @@ use Rattle.vt_journal.specs.declared.lines.Line.{Line}
 use Rattle.vt_journal.specs.declared.lines.Line.TheVariants.{Begins, Makes, Loses, Draws}
 use Rattle.vt_journal.specs.declared.parse.JournalError.{JournalError}
 use Rattle.vt_journal.specs.declared.parse.JournalError.TheVariants.{BadLine}
-use Rattle.vt_definitions.specs.Limits.{most_frames, most_samplers}
+use Rattle.vt_text.specs.Limits.{most_frames, most_samplers}
 use Rattle.vt_journal.specs.Changes.{newest, IsNext}
 use Rattle.vt_journal.specs.Lookups.{change_page}
 use Rattle.vt_journal.specs.JournalText.{Content, line_fields, content_lines}

@@ -1,7 +1,7 @@
 -- What the reading of a journal's lines finds, before a content is made of it.
 use Rattle.std.specs.Prelude.{◌≡◌, ◌≢◌, ℕ, ◌+◌, ◌<◌, ◌≤◌, ◌^◌, ◌⊎◌, List, [], ◌∷◌, ◌++◌, map, length, drop, Option, Some, slice_get, slice_index, MatchOption}
 use Rattle.std.specs.List.{join_with_byte, flat_map, range_with_len}
-use Rattle.vt_definitions.specs.Limits.{blank, most_versions, most_frames, most_samplers}
+use Rattle.vt_text.specs.Limits.{blank, most_versions, most_frames, most_samplers}
 use Rattle.vt_text.specs.Numbers.{number_spelling}
 use Rattle.vt_text.specs.Lines.{fields_of, lines_of}
 use Rattle.vt_pages.specs.Shape.{Shape}

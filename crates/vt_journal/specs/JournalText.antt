@@ -1,7 +1,7 @@
 -- The text of a journal: a line for each pinned page, and then the lines of each pass.
 use Rattle.std.specs.Prelude.{ℕ, ◌+◌, ◌-◌, ◌<◌, List, [], ◌∷◌, ◌++◌, map, codes}
 use Rattle.std.specs.List.{join_with_byte, flat_map, range_with_len}
-use Rattle.vt_definitions.specs.Limits.{line_feed, blank}
+use Rattle.vt_text.specs.Limits.{line_feed, blank}
 use Rattle.vt_text.specs.Numbers.{number_spelling}
 use Rattle.vt_pages.specs.Shape.{Shape}
 use Rattle.vt_pages.specs.Pages.{name_at, pages_of}

@@ -1,7 +1,7 @@
 -- A journal as contracts see it.
 use Rattle.std.specs.Prelude.{ℕ, ◌-◌, min, length, List}
 use Rattle.vt_journal.specs.declared.changes.Change.{Change}
-use Rattle.vt_definitions.specs.Limits.{most_versions}
+use Rattle.vt_text.specs.Limits.{most_versions}
 
 -- the changes in order, and how many more there is room for
 pub record JournalView : Type 0 where

@@ -1,6 +1,6 @@
 -- What the reader keeps of a journal beside its changes: the newest version, by pages and by frames.
 use Rattle.std.specs.Prelude.{◌≡◌, ℕ, zero, suc, ◌<◌, ◌≤◌, Option, Some, None, List, length, slice_index}
-use Rattle.vt_definitions.specs.Limits.{most_pages, most_frames}
+use Rattle.vt_text.specs.Limits.{most_pages, most_frames}
 use Rattle.vt_journal.specs.declared.changes.Change.{Change}
 use Rattle.vt_journal.specs.declared.changes.Change.TheVariants.{Map, Unmap}
 use Rattle.vt_journal.specs.Changes.{Table}

@@ -1,3 +1,8 @@
+pub use Rattle.vt_pages.specs.Laws
+pub use Rattle.vt_pages.specs.Lookups as PagesLookups
+pub use Rattle.vt_pages.specs.Pages
+pub use Rattle.vt_pages.specs.Shape
+pub use Rattle.vt_text.specs.Limits
 pub mod Changes
 pub mod Journals
 pub mod Lookups

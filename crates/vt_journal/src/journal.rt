@@ -1,7 +1,7 @@
 //! The versions of a page table, kept as the list of changes.
 
 ghost use Rattle.std.specs.Prelude.{◌≡◌, ◌+◌, ◌-◌, ◌≤◌, [], ◌∷◌, ◌++◌, length, slice_get, Some, OnOk, OnErr};
-ghost use Rattle.vt_definitions.specs.Limits.{most_versions};
+ghost use Rattle.vt_text.specs.Limits.{most_versions};
 ghost use Rattle.vt_journal.specs.Changes.{IsNext, AreInTurn, newest};
 
 use crate::changes::Change;
@@ -18,7 +18,7 @@ pub struct Journal {
 
 impl Model for Journal {
     ghost use Rattle.std.specs.Prelude.{length, ◌≤◌};
-    ghost use Rattle.vt_definitions.specs.Limits.{most_versions};
+    ghost use Rattle.vt_text.specs.Limits.{most_versions};
     ghost use Rattle.vt_journal.specs.Changes.{AreInTurn};
     ghost use Rattle.vt_journal.specs.Journals.{JournalView, room_of};
 

@@ -2,7 +2,7 @@
 
 ghost use Rattle.std.specs.Prelude.{◌≡◌, ◌≢◌, ◌+◌, ◌<◌, ◌≤◌, None, [], ◌∷◌, ◌++◌, length, OnOk, IfOk};
 ghost use Rattle.std.specs.Bool.{MatchBool};
-ghost use Rattle.vt_definitions.specs.Limits.{most_pages, most_versions};
+ghost use Rattle.vt_text.specs.Limits.{most_pages, most_versions};
 ghost use Rattle.vt_journal.specs.Changes.{IsNext, newest};
 ghost use Rattle.vt_journal.specs.Lookups.{change_page};
 ghost use Rattle.vt_journal.specs.Kept.{change_frame, IsWithinTable};

@@ -32,4 +32,5 @@ pub use laws::{
 pub use parse::JournalError;
 pub use passes::PassText;
 pub use text::{JournalText, parse_journal};
+pub use vt_pages::Geometry;
 pub use write::{add_pass, write_head, write_pass};

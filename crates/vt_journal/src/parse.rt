@@ -1,7 +1,7 @@
 //! The lines of a journal's text, read.
 
 ghost use Rattle.std.specs.Prelude.{◌≡◌, ◌≢◌, ◌-◌, ◌<◌, ℕ, MatchOption};
-ghost use Rattle.vt_definitions.specs.Limits.{most_frames};
+ghost use Rattle.vt_text.specs.Limits.{most_frames};
 ghost use Rattle.vt_text.specs.Lines.{fields_of};
 ghost use Rattle.vt_journal.specs.declared.parse.JournalError.TheVariants as journal_error;
 ghost use Rattle.vt_pages.specs.Pages.{pages_of};

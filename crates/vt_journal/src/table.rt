@@ -2,7 +2,7 @@
 
 ghost use Rattle.std.specs.Prelude.{◌≡◌, ◌<◌, ◌≤◌, ℕ, length, slice_index, Some, None, IfOk};
 ghost use Rattle.std.specs.Bool.{MatchBool};
-ghost use Rattle.vt_definitions.specs.Limits.{most_pages, most_frames};
+ghost use Rattle.vt_text.specs.Limits.{most_pages, most_frames};
 ghost use Rattle.vt_journal.specs.Changes.{IsFree, IsNext, nothing_mapped, with_entry, changed};
 ghost use Rattle.vt_journal.specs.Lookups.{change_page};
 ghost use Rattle.vt_journal.specs.Kept.{IsWithinTable, entries_of, change_frame};

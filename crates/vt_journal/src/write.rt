@@ -2,7 +2,7 @@
 
 ghost use Rattle.std.specs.Prelude.{◌≡◌, ◌+◌, ◌<◌, ◌≤◌, [], ◌∷◌, ◌++◌, length, map, OnOk, IfOk, All};
 ghost use Rattle.std.specs.List.{join_with_byte};
-ghost use Rattle.vt_definitions.specs.Limits.{blank, most_versions};
+ghost use Rattle.vt_text.specs.Limits.{blank, most_versions};
 ghost use Rattle.vt_text.specs.Numbers.{number_spelling};
 ghost use Rattle.vt_pages.specs.Pages.{pages_of};
 ghost use Rattle.vt_journal.specs.declared.lines.Line.{Line};

@@ -1,1 +1,3 @@
+pub use Rattle.vt_queue.proofs.Gathered
+pub use Rattle.vt_queue.proofs.OrderLemmas
 pub mod Loading

@@ -3,8 +3,8 @@ use Rattle.std.specs.Prelude.{◌≡◌, ℕ, ◌+◌, ◌≤◌, ◌&&◌, Bool
 use Rattle.vt_outside.specs.Counts.{Rose}
 use Rattle.vt_outside.specs.Files.{IsPiece}
 use Rattle.vt_outside.specs.declared.outside.File.{Ghosts as FileMeanings}
-use Rattle.vt_pages.specs.Shape.{Shape}
-use Rattle.vt_pages.specs.Pages.{pages_of}
+use Rattle.vt_tiles.specs.Shape.{Shape}
+use Rattle.vt_tiles.specs.Pages.{pages_of}
 use Rattle.vt_tiles.specs.Format.{tile_start, tile_length}
 use Rattle.vt_tiles.specs.Places.{TileAsked}
 use Rattle.vt_queue.specs.declared.items.Request.{Request}

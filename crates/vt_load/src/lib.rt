@@ -5,3 +5,5 @@ mod load;
 mod loader;
 
 pub use loader::Loader;
+pub use vt_queue::{Loaded, Queue, QueuePass, Request, RequestQueue, ResultQueue};
+pub use vt_tiles::{Store, Stores};

@@ -3,7 +3,7 @@
 ghost use Rattle.std.specs.Prelude.{◌≡◌, ◌+◌, ◌<◌, ◌≤◌, true, nat_lt, [], ◌∷◌, length, IfSome};
 ghost use Rattle.vt_outside.specs.Counts.{Rose};
 ghost use Rattle.vt_outside.specs.Files.{IsPiece};
-ghost use Rattle.vt_pages.specs.Pages.{pages_of};
+ghost use Rattle.vt_tiles.specs.Pages.{pages_of};
 ghost use Rattle.vt_tiles.specs.Format.{tile_start, tile_length};
 ghost use Rattle.vt_tiles.specs.Places.{TileAsked};
 ghost use Rattle.vt_queue.specs.Steps.{Puts};
@@ -15,9 +15,8 @@ use std::sync::Wait;
 use std::thread;
 use std::thread::Threads;
 use vt_outside::{Bytes, File, Gate, Point};
-use vt_pages::Geometry;
 use vt_queue::{Full, Loaded, Outcome, QueuePass, Request, RequestQueue, ResultQueue};
-use vt_tiles::{Store, tile_length};
+use vt_tiles::{Geometry, Store, tile_length};
 
 // Puts a result, and tries again where the queue is full.
 fn put_waiting<Rt: Threads + Wait>(

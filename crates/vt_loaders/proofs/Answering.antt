@@ -9,15 +9,15 @@ use Rattle.vt_outside.specs.Counts.{Rose, RoseBy}
 use Rattle.vt_outside.specs.Files.{IsPiece, noted}
 use Rattle.vt_outside.specs.declared.place.Place.{Place}
 use Rattle.vt_outside.specs.declared.outside.File.{Ghosts as FileMeanings}
-use Rattle.vt_pages.specs.Shape.{Shape}
-use Rattle.vt_tiles.specs.Format.{tile_start, tile_length}
-use Rattle.vt_queue.specs.declared.items.Request.{Request}
-use Rattle.vt_queue.specs.declared.items.Loaded.{Loaded}
-use Rattle.vt_queue.specs.declared.items.Outcome.{Outcome}
-use Rattle.vt_queue.specs.declared.items.Outcome.TheVariants.{Read, Lost}
-use Rattle.vt_queue.specs.Orders.{items_of}
-use Rattle.vt_queue.proofs.Gathered.{shuffled_as, append_nil, all_cut}
-use Rattle.vt_queue.proofs.OrderLemmas.{items_as_put, count_of, facts_of}
+use Rattle.vt_load.specs.Shape.{Shape}
+use Rattle.vt_load.specs.Format.{tile_start, tile_length}
+use Rattle.vt_load.specs.QueueTypes.items.Request.{Request}
+use Rattle.vt_load.specs.QueueTypes.items.Loaded.{Loaded}
+use Rattle.vt_load.specs.QueueTypes.items.Outcome.{Outcome}
+use Rattle.vt_load.specs.QueueTypes.items.Outcome.TheVariants.{Read, Lost}
+use Rattle.vt_load.specs.Orders.{items_of}
+use Rattle.vt_load.proofs.Gathered.{shuffled_as, append_nil, all_cut}
+use Rattle.vt_load.proofs.OrderLemmas.{items_as_put, count_of, facts_of}
 use Rattle.vt_load.specs.Readings.{is_readable, is_lost, IsReading, AreReadings}
 use Rattle.vt_loaders.specs.Results.{wanted_by, given_by, read_place, lost_among, IsGood, IsReadFor}
 use Rattle.vt_loaders.specs.Together.{Portion, IsPortion, all_took, all_put, Exchange, IsExchange, IsAnsweredOnce}

@@ -6,16 +6,16 @@ use Rattle.std.proofs.Math.Nat.{div-le_of_le-mul}
 use Rattle.std.proofs.lemmas.List.{map-append, reverse-append}
 use Rattle.std.proofs.lemmas.List.Sorted.{IsPermutation-reverse, IsPermutation-sym, All-permutation}
 use Rattle.std.proofs.lemmas.List.Elements.{All-nil, All-cons, All-head, All-tail, All-push}
-use Rattle.vt_queue.specs.declared.items.Request.{Request}
-use Rattle.vt_queue.specs.declared.items.Loaded.{Loaded}
-use Rattle.vt_queue.specs.declared.views.PassView.{PassView}
-use Rattle.vt_queue.specs.PassViews.{pass_view, all_shares, split_part, Splits, joined, all_joined, shares_of}
-use Rattle.vt_queue.specs.Queues.{view_of, capacity_of}
+use Rattle.vt_load.specs.QueueTypes.items.Request.{Request}
+use Rattle.vt_load.specs.QueueTypes.items.Loaded.{Loaded}
+use Rattle.vt_load.specs.QueueTypes.views.PassView.{PassView}
+use Rattle.vt_load.specs.PassViews.{pass_view, all_shares, split_part, Splits, joined, all_joined, shares_of}
+use Rattle.vt_load.specs.Queues.{view_of, capacity_of}
 use Rattle.vt_outside.specs.declared.outside.File.{Ghosts as FileMeanings}
 use Rattle.vt_loaders.specs.declared.queued.Queues.{Queues}
-use Rattle.vt_queue.proofs.Gathered.{all_cut}
-use Rattle.vt_pages.specs.Shape.{Shape}
-use Rattle.vt_tiles.specs.StoreViews.{StoreView}
+use Rattle.vt_load.proofs.Gathered.{all_cut}
+use Rattle.vt_load.specs.Shape.{Shape}
+use Rattle.vt_load.specs.StoreViews.{StoreView}
 use Rattle.vt_loaders.specs.QueuedLoaders.{QueuedView, AreOf, asks_of, answers_of, stores_of, numbers_of, MayLoad, IsLoaderOf, IsNew, AreSplitOff}
 
 -- What is split off at once is a small part.

@@ -3,15 +3,15 @@ use Rattle.std.proofs.Common.{◌≡◌, ℕ, suc, ◌<◌, List, [], ◌∷◌,
 use Rattle.std.specs.Prelude.{All, filter, IsPermutation}
 use Rattle.std.proofs.lemmas.List.Elements.{All-nil, All-cons, All-head, All-tail}
 use Rattle.vt_outside.specs.declared.outside.File.{Ghosts as FileMeanings}
-use Rattle.vt_pages.specs.Shape.{Shape}
-use Rattle.vt_queue.specs.declared.items.Request.{Request}
-use Rattle.vt_queue.specs.declared.items.Loaded.{Loaded}
-use Rattle.vt_queue.specs.declared.views.PassView.{PassView}
-use Rattle.vt_queue.specs.PassViews.{all_shares, all_joined, shares_of}
-use Rattle.vt_queue.specs.Orders.{items_of, gathered, IsFirstInFirstOut}
-use Rattle.vt_queue.specs.Queues.{view_of}
-use Rattle.vt_queue.proofs.Gathered.{append_nil}
-use Rattle.vt_queue.proofs.OrderLemmas.{order_of, joined_shares, joined_takes, joined_puts}
+use Rattle.vt_load.specs.Shape.{Shape}
+use Rattle.vt_load.specs.QueueTypes.items.Request.{Request}
+use Rattle.vt_load.specs.QueueTypes.items.Loaded.{Loaded}
+use Rattle.vt_load.specs.QueueTypes.views.PassView.{PassView}
+use Rattle.vt_load.specs.PassViews.{all_shares, all_joined, shares_of}
+use Rattle.vt_load.specs.Orders.{items_of, gathered, IsFirstInFirstOut}
+use Rattle.vt_load.specs.Queues.{view_of}
+use Rattle.vt_load.proofs.Gathered.{append_nil}
+use Rattle.vt_load.proofs.OrderLemmas.{order_of, joined_shares, joined_takes, joined_puts}
 use Rattle.vt_loaders.specs.declared.queued.Queues.{Queues}
 use Rattle.vt_load.specs.Readings.{is_readable, AreReadings}
 use Rattle.vt_loaders.specs.Results.{wanted_by, given_by, IsGood}

@@ -1,3 +1,5 @@
+pub use Rattle.vt_load.proofs.Gathered
+pub use Rattle.vt_load.proofs.OrderLemmas
 pub mod Answering
 pub mod Dealing
 pub mod Gathering

@@ -5,14 +5,14 @@ use Rattle.std.proofs.lemmas.List.{length-map}
 use Rattle.std.proofs.lemmas.List.Elements.{All-head, All-tail}
 use Rattle.std.proofs.lemmas.List.Sorted.{length_permutation}
 use Rattle.vt_outside.specs.declared.outside.File.{Ghosts as FileMeanings}
-use Rattle.vt_pages.specs.Shape.{Shape}
-use Rattle.vt_queue.specs.declared.items.Request.{Request}
-use Rattle.vt_queue.specs.declared.items.Loaded.{Loaded}
-use Rattle.vt_queue.specs.declared.views.PassView.{PassView}
-use Rattle.vt_queue.specs.PassViews.{pass_view, all_shares, all_joined, joined}
-use Rattle.vt_queue.specs.Orders.{items_of}
-use Rattle.vt_queue.proofs.Gathered.{append_nil}
-use Rattle.vt_queue.proofs.OrderLemmas.{order_of, count_of, joined_shares, joined_takes, joined_puts}
+use Rattle.vt_load.specs.Shape.{Shape}
+use Rattle.vt_load.specs.QueueTypes.items.Request.{Request}
+use Rattle.vt_load.specs.QueueTypes.items.Loaded.{Loaded}
+use Rattle.vt_load.specs.QueueTypes.views.PassView.{PassView}
+use Rattle.vt_load.specs.PassViews.{pass_view, all_shares, all_joined, joined}
+use Rattle.vt_load.specs.Orders.{items_of}
+use Rattle.vt_load.proofs.Gathered.{append_nil}
+use Rattle.vt_load.proofs.OrderLemmas.{order_of, count_of, joined_shares, joined_takes, joined_puts}
 use Rattle.vt_loaders.specs.declared.queued.Queues.{Queues}
 use Rattle.vt_load.specs.Readings.{is_readable, AreReadings}
 use Rattle.vt_loaders.specs.Together.{Portion, IsPortion, all_took, all_put}

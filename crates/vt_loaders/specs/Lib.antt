@@ -1,3 +1,11 @@
+pub use Rattle.vt_load.specs.Format
+pub use Rattle.vt_load.specs.Loaders
+pub use Rattle.vt_load.specs.Orders
+pub use Rattle.vt_load.specs.PassViews
+pub use Rattle.vt_load.specs.QueueTypes
+pub use Rattle.vt_load.specs.Queues
+pub use Rattle.vt_load.specs.Readings
+pub use Rattle.vt_load.specs.Steps
 pub mod Results
 pub mod Together
 pub mod QueuedLoaders

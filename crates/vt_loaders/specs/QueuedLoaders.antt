@@ -1,14 +1,14 @@
 -- A loader with its passes of the two queues, and how several of them are made of a pass and made one again.
 use Rattle.std.specs.Prelude.{◌≡◌, ℕ, ◌+◌, ◌≤◌, List, [], ◌++◌, length, map, All, Option}
 use Rattle.vt_outside.specs.declared.outside.File.{Ghosts as FileMeanings}
-use Rattle.vt_pages.specs.Shape.{Shape}
-use Rattle.vt_tiles.specs.StoreViews.{StoreView}
-use Rattle.vt_queue.specs.declared.items.Request.{Request}
-use Rattle.vt_queue.specs.declared.items.Loaded.{Loaded}
-use Rattle.vt_queue.specs.declared.views.PassView.{PassView}
-use Rattle.vt_queue.specs.declared.queue.QueuePass.{QueuePass}
-use Rattle.vt_queue.specs.PassViews.{pass_view, shares_of}
-use Rattle.vt_queue.specs.Queues.{view_of, IsOf, capacity_of}
+use Rattle.vt_load.specs.Shape.{Shape}
+use Rattle.vt_load.specs.StoreViews.{StoreView}
+use Rattle.vt_load.specs.QueueTypes.items.Request.{Request}
+use Rattle.vt_load.specs.QueueTypes.items.Loaded.{Loaded}
+use Rattle.vt_load.specs.QueueTypes.views.PassView.{PassView}
+use Rattle.vt_load.specs.QueueTypes.queue.QueuePass.{QueuePass}
+use Rattle.vt_load.specs.PassViews.{pass_view, shares_of}
+use Rattle.vt_load.specs.Queues.{view_of, IsOf, capacity_of}
 use Rattle.vt_loaders.specs.declared.queued.Queues.{Queues}
 use Rattle.vt_load.specs.Loaders.{LoaderView, with_file}
 use Rattle.vt_load.specs.Loads.{Loads, HasEnded}

@@ -4,11 +4,11 @@ use Rattle.vt_outside.specs.Counts.{RoseBy}
 use Rattle.vt_outside.specs.Files.{IsPiece}
 use Rattle.vt_outside.specs.declared.place.Place.{Place}
 use Rattle.vt_outside.specs.declared.outside.File.{Ghosts as FileMeanings}
-use Rattle.vt_pages.specs.Shape.{Shape}
-use Rattle.vt_tiles.specs.Format.{tile_start, tile_length}
-use Rattle.vt_queue.specs.declared.items.Request.{Request}
-use Rattle.vt_queue.specs.declared.items.Loaded.{Loaded}
-use Rattle.vt_queue.specs.declared.items.Outcome.TheVariants.{Read}
+use Rattle.vt_load.specs.Shape.{Shape}
+use Rattle.vt_load.specs.Format.{tile_start, tile_length}
+use Rattle.vt_load.specs.QueueTypes.items.Request.{Request}
+use Rattle.vt_load.specs.QueueTypes.items.Loaded.{Loaded}
+use Rattle.vt_load.specs.QueueTypes.items.Outcome.TheVariants.{Read}
 use Rattle.vt_load.specs.Readings.{is_lost}
 
 -- what a request asks for: its ticket and its page

@@ -1,13 +1,13 @@
 -- A round of requests through both queues: put before loaders begin, answered by them, and taken once they are done.
 use Rattle.std.specs.Prelude.{◌≡◌, ℕ, ◌<◌, true, List, [], length, map, slice_index_or, All, IsPermutation, Option}
 use Rattle.vt_outside.specs.declared.outside.File.{Ghosts as FileMeanings}
-use Rattle.vt_pages.specs.Shape.{Shape}
-use Rattle.vt_queue.specs.declared.items.Request.{Request}
-use Rattle.vt_queue.specs.declared.items.Loaded.{Loaded}
-use Rattle.vt_queue.specs.declared.views.PassView.{PassView}
-use Rattle.vt_queue.specs.PassViews.{all_shares, all_joined}
-use Rattle.vt_queue.specs.Orders.{items_of}
-use Rattle.vt_queue.specs.Steps.{IsAtStep}
+use Rattle.vt_load.specs.Shape.{Shape}
+use Rattle.vt_load.specs.QueueTypes.items.Request.{Request}
+use Rattle.vt_load.specs.QueueTypes.items.Loaded.{Loaded}
+use Rattle.vt_load.specs.QueueTypes.views.PassView.{PassView}
+use Rattle.vt_load.specs.PassViews.{all_shares, all_joined}
+use Rattle.vt_load.specs.Orders.{items_of}
+use Rattle.vt_load.specs.Steps.{IsAtStep}
 use Rattle.vt_loaders.specs.declared.queued.Queues.{Queues}
 use Rattle.vt_load.specs.Readings.{is_readable}
 use Rattle.vt_loaders.specs.Results.{wanted_by, given_by, IsGood, IsReadFor}

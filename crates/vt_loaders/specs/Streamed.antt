@@ -1,12 +1,12 @@
 -- A round of requests whose results are taken while the loaders are at work.
 use Rattle.std.specs.Prelude.{◌≡◌, ℕ, ◌<◌, ◌≤◌, true, List, [], ◌++◌, length, slice_index_or, All, Option}
 use Rattle.vt_outside.specs.declared.outside.File.{Ghosts as FileMeanings}
-use Rattle.vt_pages.specs.Shape.{Shape}
-use Rattle.vt_queue.specs.declared.items.Loaded.{Loaded}
-use Rattle.vt_queue.specs.declared.views.PassView.{PassView}
-use Rattle.vt_queue.specs.PassViews.{pass_view, all_shares, all_joined}
-use Rattle.vt_queue.specs.Orders.{items_of}
-use Rattle.vt_queue.specs.Steps.{IsAtStep}
+use Rattle.vt_load.specs.Shape.{Shape}
+use Rattle.vt_load.specs.QueueTypes.items.Loaded.{Loaded}
+use Rattle.vt_load.specs.QueueTypes.views.PassView.{PassView}
+use Rattle.vt_load.specs.PassViews.{pass_view, all_shares, all_joined}
+use Rattle.vt_load.specs.Orders.{items_of}
+use Rattle.vt_load.specs.Steps.{IsAtStep}
 use Rattle.vt_loaders.specs.declared.queued.Queues.{Queues}
 use Rattle.vt_load.specs.Readings.{is_readable}
 use Rattle.vt_loaders.specs.QueuedLoaders.{QueuedView, asks_of, answers_of, HasLoaded, IsLoaderOf, AreSplitOff}

@@ -1,10 +1,10 @@
 -- What several loaders do together: each request is answered once.
 use Rattle.std.specs.Prelude.{◌≡◌, ℕ, true, List, [], length, map, filter, All, IsPermutation, Option}
 use Rattle.vt_outside.specs.declared.outside.File.{Ghosts as FileMeanings}
-use Rattle.vt_pages.specs.Shape.{Shape}
-use Rattle.vt_queue.specs.declared.items.Request.{Request}
-use Rattle.vt_queue.specs.declared.items.Loaded.{Loaded}
-use Rattle.vt_queue.specs.Orders.{items_of, gathered, IsFirstInFirstOut}
+use Rattle.vt_load.specs.Shape.{Shape}
+use Rattle.vt_load.specs.QueueTypes.items.Request.{Request}
+use Rattle.vt_load.specs.QueueTypes.items.Loaded.{Loaded}
+use Rattle.vt_load.specs.Orders.{items_of, gathered, IsFirstInFirstOut}
 use Rattle.vt_load.specs.Readings.{is_readable, AreReadings}
 use Rattle.vt_loaders.specs.Results.{wanted_by, given_by, IsGood, IsReadFor}
 

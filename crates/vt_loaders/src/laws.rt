@@ -1,7 +1,7 @@
 //! Laws of loaders, each the contract of a function that does nothing.
 
 ghost use Rattle.std.specs.Prelude.{◌≡◌, ℕ, List, Option, length};
-ghost use Rattle.vt_pages.specs.Shape.{Shape};
+ghost use Rattle.vt_load.specs.Shape.{Shape};
 ghost use Rattle.vt_loaders.specs.declared.queued.Queues.{Queues as Both};
 ghost use Rattle.vt_loaders.specs.Rounds.{Round, IsRound, AreServed};
 ghost use Rattle.vt_loaders.specs.Streamed.{IsStreamedRound};

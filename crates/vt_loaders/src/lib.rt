@@ -6,3 +6,4 @@ mod queued;
 
 pub use laws::{each_request_is_answered_once, each_streamed_request_is_answered_once};
 pub use queued::{QueuedLoader, Queues, deal, take_back};
+pub use vt_load::{Loaded, QueuePass, Request, RequestQueue};

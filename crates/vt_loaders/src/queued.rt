@@ -2,23 +2,23 @@
 
 ghost use Rattle.std.specs.Prelude.{◌≡◌, ◌+◌, ◌/◌, ◌≤◌, [], List, Option, length, reverse, All, ℕ};
 ghost use Rattle.std.specs.List.{range_with_len};
-ghost use Rattle.vt_definitions.specs.Limits.{most_loaders};
-ghost use Rattle.vt_pages.specs.Shape.{Shape};
-ghost use Rattle.vt_queue.specs.PassViews.{all_shares, split_part, Splits, all_joined};
-ghost use Rattle.vt_queue.specs.Steps.{IsAtStep};
-ghost use Rattle.vt_queue.specs.Queues.{view_of, splits_of, IsOf, capacity_of};
-ghost use Rattle.vt_queue.specs.declared.items.Request.{Request as Ask};
-ghost use Rattle.vt_queue.specs.declared.items.Loaded.{Loaded as Answer};
+ghost use Rattle.vt_load.specs.Limits.{most_loaders};
+ghost use Rattle.vt_load.specs.Shape.{Shape};
+ghost use Rattle.vt_load.specs.PassViews.{all_shares, split_part, Splits, all_joined};
+ghost use Rattle.vt_load.specs.Steps.{IsAtStep};
+ghost use Rattle.vt_load.specs.Queues.{view_of, splits_of, IsOf, capacity_of};
+ghost use Rattle.vt_load.specs.QueueTypes.items.Request.{Request as Ask};
+ghost use Rattle.vt_load.specs.QueueTypes.items.Loaded.{Loaded as Answer};
 ghost use Rattle.vt_loaders.specs.QueuedLoaders.{AreOf, MayLoad, HasLoaded, IsLoaderOf, AreSplitOff, asks_of, answers_of, stores_of, numbers_of};
 
 use std::alloc::Global;
 use std::marker::Model;
 use std::sync::Wait;
 use std::thread::Threads;
-use vt_load::Loader;
+use vt_load::{
+    Loaded, Loader, Queue, QueuePass, Request, RequestQueue, ResultQueue, Store, Stores,
+};
 use vt_outside::{File, Gate, Items};
-use vt_queue::{Loaded, Queue, QueuePass, Request, RequestQueue, ResultQueue};
-use vt_tiles::{Store, Stores};
 
 /// The two queues of a pass, which its workers share.
 #[derive(Drop)]

@@ -1,3 +1,16 @@
+pub use Rattle.vt_evict.proofs.FreeLemmas
+pub use Rattle.vt_evict.proofs.LineOrders
+pub use Rattle.vt_evict.proofs.ListLemmas
+pub use Rattle.vt_evict.proofs.PlanListLemmas
+pub use Rattle.vt_evict.proofs.SettleLemmas
+pub use Rattle.vt_evict.proofs.StampLemmas
+pub use Rattle.vt_evict.proofs.StampRules
+pub use Rattle.vt_pages.proofs.Counts
+pub use Rattle.vt_pages.proofs.Lines
+pub use Rattle.vt_pages.proofs.Parents
+pub use Rattle.vt_pages.proofs.Steps
+pub use Rattle.vt_workers.proofs.Contents
+pub use Rattle.vt_workers.proofs.Lent
 pub mod Settled
 pub mod Streaming
 pub mod OneRead

@@ -13,7 +13,7 @@ use Rattle.vt_outside.specs.Files.{noted}
 use Rattle.vt_outside.specs.Counts.{Rose, RoseTogetherBy, count_end}
 use Rattle.vt_pages.specs.Shape.{Shape}
 use Rattle.vt_tiles.specs.Format.{tile_start, tile_length}
-use Rattle.vt_plan.specs.declared.batches.Planned.{Planned}
+use Rattle.vt_evict.specs.PlanTypes.batches.Planned.{Planned}
 use Rattle.vt_evict.specs.Batches.{read_entries}
 use Rattle.vt_machine.specs.Outcomes.{lost_count}
 use Rattle.vt_machine.specs.Requests.{FileState, AllTell, is_tile_at, times_planned, lost_entries, counts_of, AreReadFor}

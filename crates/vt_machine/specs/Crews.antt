@@ -1,6 +1,6 @@
 -- How many workers a pass may have, and the limits of what a machine is made for.
 use Rattle.std.specs.Prelude.{ℕ, ◌*◌, ◌≤◌, ◌^◌}
-use Rattle.vt_definitions.specs.Limits.{most_frames, most_frame_texels, most_samplers, most_loaders, most_entries}
+use Rattle.vt_pages.specs.Limits.{most_frames, most_frame_texels, most_samplers, most_loaders, most_entries}
 use Rattle.vt_pages.specs.Shape.{Shape}
 use Rattle.vt_machine.specs.declared.crew.Crew.{Crew}
 

@@ -3,11 +3,11 @@ use Rattle.std.specs.Prelude.{◌≡◌, ◌≢◌, ℕ, ◌<◌, Bool, true, fa
 use Rattle.std.specs.List.{range_with_len}
 use Rattle.vt_pages.specs.Shape.{Shape}
 use Rattle.vt_pages.specs.Pages.{pages_of, root_of}
-use Rattle.vt_journal.specs.declared.changes.Change.TheVariants.{Map, Unmap}
-use Rattle.vt_journal.specs.declared.changes.Event.{Event}
-use Rattle.vt_journal.specs.declared.changes.Event.TheVariants.{Changed, Lost}
-use Rattle.vt_journal.specs.Changes.{Table, IsFree}
-use Rattle.vt_plan.specs.declared.batches.Planned.{Planned}
+use Rattle.vt_workers.specs.JournalTypes.changes.Change.TheVariants.{Map, Unmap}
+use Rattle.vt_workers.specs.JournalTypes.changes.Event.{Event}
+use Rattle.vt_workers.specs.JournalTypes.changes.Event.TheVariants.{Changed, Lost}
+use Rattle.vt_workers.specs.Changes.{Table, IsFree}
+use Rattle.vt_evict.specs.PlanTypes.batches.Planned.{Planned}
 
 -- a page is mapped to this frame, and is not the root (Mayer 2010)
 pub record IsVictimOf (s : Shape) (m : Table) (frame p : ℕ) : Type 0 where

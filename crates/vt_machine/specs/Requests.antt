@@ -4,7 +4,7 @@ use Rattle.vt_outside.specs.declared.place.Place.{Place}
 use Rattle.vt_outside.specs.Places.{times_asked, times_failed}
 use Rattle.vt_outside.specs.Counts.{RoseTogetherBy}
 use Rattle.vt_pages.specs.Shape.{Shape}
-use Rattle.vt_plan.specs.declared.batches.Planned.{Planned}
+use Rattle.vt_evict.specs.PlanTypes.batches.Planned.{Planned}
 use Rattle.vt_evict.specs.Batches.{read_entries}
 use Rattle.vt_tiles.specs.Format.{tile_start, tile_length}
 use Rattle.vt_machine.specs.Outcomes.{lost_count}

@@ -2,26 +2,26 @@
 
 ghost use Rattle.std.specs.Prelude.{◌≡◌, ◌≢◌, ℕ, ◌+◌, ◌<◌, ◌≤◌, Bool, true, List, [], ◌∷◌, ◌++◌, Some, length, take, slice_get, slice_index_or, slice_set, option_map};
 ghost use Rattle.std.specs.List.{concat, range_with_len};
-ghost use Rattle.vt_definitions.specs.Texels.{Source};
+ghost use Rattle.vt_tiles.specs.Texels.{Source};
 ghost use Rattle.vt_outside.specs.Counts.{Rose};
 ghost use Rattle.vt_outside.specs.Files.{noted};
 ghost use Rattle.vt_pages.specs.Shape.{Shape};
 ghost use Rattle.vt_pages.specs.Pages.{IsWithinLimits};
-ghost use Rattle.vt_draw.specs.Shots.{pixels_wanting};
-ghost use Rattle.vt_filter.specs.FilterLaws.{picture_wants};
-ghost use Rattle.vt_journal.specs.declared.changes.Change.{Change};
-ghost use Rattle.vt_journal.specs.declared.changes.Event.{Event};
-ghost use Rattle.vt_journal.specs.Changes.{Table, newest};
-ghost use Rattle.vt_journal.specs.JournalText.{changes_of};
-ghost use Rattle.vt_plan.specs.declared.batches.Planned.{Planned};
+ghost use Rattle.vt_workers.specs.Shots.{pixels_wanting};
+ghost use Rattle.vt_workers.specs.FilterLaws.{picture_wants};
+ghost use Rattle.vt_workers.specs.JournalTypes.changes.Change.{Change};
+ghost use Rattle.vt_workers.specs.JournalTypes.changes.Event.{Event};
+ghost use Rattle.vt_workers.specs.Changes.{Table, newest};
+ghost use Rattle.vt_workers.specs.JournalText.{changes_of};
+ghost use Rattle.vt_evict.specs.PlanTypes.batches.Planned.{Planned};
 ghost use Rattle.vt_tiles.specs.Format.{tile_start, tile_length};
 ghost use Rattle.vt_tiles.specs.StoreViews.{IsStore};
 ghost use Rattle.vt_machine.specs.declared.crew.PassReport.{PassReport as Report};
-ghost use Rattle.vt_pictures.specs.Scenes.{Scene};
+ghost use Rattle.vt_workers.specs.Scenes.{Scene};
 ghost use Rattle.vt_workers.specs.Jobs.{Job};
 ghost use Rattle.vt_machine.specs.Outcomes.{IsEntryFor, IsBatchFor, group_of, pass_events, IsOutcome};
 ghost use Rattle.vt_machine.specs.Requests.{FileState, AreReadFor};
-ghost use Rattle.vt_pictures.specs.Replays.{IsPictureOf, pixel_under, plain_pixel};
+ghost use Rattle.vt_workers.specs.Replays.{IsPictureOf, pixel_under, plain_pixel};
 ghost use Rattle.vt_machine.specs.Machines.{MachineState};
 ghost use Rattle.vt_machine.specs.Passes.{IsJobFor, MapsNeeded, Ran};
 

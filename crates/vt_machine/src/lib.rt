@@ -13,4 +13,5 @@ pub use laws::{
     settled_pass_is_plain,
 };
 pub use machine::PassMachine;
+pub use vt_evict::{Losses, Planned};
 pub use vt_workers::{Task, work_together};

@@ -2,15 +2,15 @@
 
 ghost use Rattle.std.specs.Prelude.{◌≡◌, ℕ, ◌<◌, List, [], length, Result, IfOk, IfErr, OnOk, OnErr};
 ghost use Rattle.std.specs.List.{concat};
-ghost use Rattle.vt_definitions.specs.Depths.{IsDepth};
+ghost use Rattle.vt_tiles.specs.Depths.{IsDepth};
 ghost use Rattle.vt_pages.specs.Pages.{IsWithinLimits};
-ghost use Rattle.vt_camera.specs.Paths.{PathView};
-ghost use Rattle.vt_journal.specs.Changes.{Table};
+ghost use Rattle.vt_workers.specs.Paths.{PathView};
+ghost use Rattle.vt_workers.specs.Changes.{Table};
 ghost use Rattle.vt_tiles.specs.StoreViews.{IsStore};
-ghost use Rattle.vt_plan.specs.declared.batches.Planned.{Planned};
+ghost use Rattle.vt_evict.specs.PlanTypes.batches.Planned.{Planned};
 ghost use Rattle.vt_outside.specs.declared.answers.NoMemory.{NoMemory as Refusal};
 ghost use Rattle.vt_machine.specs.declared.crew.PassReport.{PassReport as Report};
-ghost use Rattle.vt_pictures.specs.Scenes.{Scene};
+ghost use Rattle.vt_workers.specs.Scenes.{Scene};
 ghost use Rattle.vt_machine.specs.Drawings.{Drawing};
 ghost use Rattle.vt_workers.specs.Jobs.{Job, job_of};
 ghost use Rattle.vt_machine.specs.Crews.{IsCrew, AreFrames};
@@ -22,15 +22,11 @@ use crate::crew::{Crew, PassReport};
 use std::alloc::Global;
 use std::sync::Wait;
 use std::thread::Threads;
-use vt_camera::Path;
-use vt_draw::Shot;
-use vt_evict::Batch;
-use vt_feedback::Counts;
-use vt_journal::Journal;
+use vt_evict::{Batch, Counts};
 use vt_outside::{File, Gate, Items, NoMemory};
 use vt_pages::Geometry;
 use vt_tiles::Stores;
-use vt_workers::{Task, work_together};
+use vt_workers::{Journal, Path, Shot, Task, work_together};
 
 /// A value that streams tiles of a store into frames, and draws the pictures of a path from them.
 ///

@@ -5,7 +5,7 @@ use Rattle.std.proofs.lemmas.Nat.{mul-add-lt, mul-le}
 use Rattle.std.proofs.Math.Nat.{mul-le-mul_left}
 use borrow.Rule.Slice.PartMut.{put_mid, drop_put}
 use Rattle.vt_definitions.specs.Depths.{texel_length}
-use Rattle.vt_outside.specs.Files.{IsPiece}
+use Rattle.vt_ppm.specs.Files.{IsPiece}
 use Rattle.vt_ppm.specs.Image.{ImageView}
 use Rattle.vt_mip.specs.Chains.{halved}
 use Rattle.vt_box_filter.specs.HalvedRows.{IsHalvedRow}

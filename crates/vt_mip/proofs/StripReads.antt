@@ -3,7 +3,7 @@ use Rattle.std.proofs.Common.{◌≡◌, ℕ, zero, suc, ◌+◌, ◌-◌, ◌*�
 use Rattle.std.proofs.Math.Nat.{pow-succ'}
 use Rattle.std.specs.Prelude.{option_map}
 use Rattle.vt_definitions.specs.Sides.{side}
-use Rattle.vt_outside.specs.declared.place.Place.{Place}
+use Rattle.vt_ppm.specs.OutsideTypes.place.Place.{Place}
 use Rattle.vt_ppm.specs.declared.header.Header.{Header}
 use Rattle.vt_ppm.specs.Strips.{RowsAsked, row_length, row_start}
 use Rattle.vt_mip.specs.StripChains.{IsUpper, RowsRead, RowsFailed, row_place, row_places, first_under, rows_under}

@@ -1,7 +1,7 @@
 -- Level 1 of a texture that is read by strips, each of which is read while the one before it is halved.
 use Rattle.std.specs.Prelude.{◌≡◌, ℕ, ◌+◌, ◌*◌, ◌≤◌, Bool, List, take, Option, Some}
-use Rattle.vt_outside.specs.declared.outside.File.{Ghosts as FileMeanings}
-use Rattle.vt_outside.specs.declared.place.Place.{Place}
+use Rattle.vt_ppm.specs.OutsideTypes.outside.File.{Ghosts as FileMeanings}
+use Rattle.vt_ppm.specs.OutsideTypes.place.Place.{Place}
 use Rattle.vt_ppm.specs.declared.header.Header.{Header}
 use Rattle.vt_ppm.specs.Format.{depth_of}
 use Rattle.vt_ppm.specs.Strips.{StripView, row_length, rows_of, texture_of}

@@ -1,3 +1,4 @@
+pub use Rattle.vt_ppm.specs.Image
 pub mod Chains
 pub mod Halves
 pub mod Levels

@@ -6,7 +6,7 @@ use Rattle.vt_definitions.specs.Limits.{most_levels, most_tiled_side}
 use Rattle.vt_definitions.specs.Sides.{side, level_count}
 use Rattle.vt_definitions.specs.Texels.{Source}
 use Rattle.vt_definitions.specs.Tiles.{IsTileSide}
-use Rattle.vt_outside.specs.declared.place.Place.{Place}
+use Rattle.vt_ppm.specs.OutsideTypes.place.Place.{Place}
 use Rattle.vt_ppm.specs.declared.header.Header.{Header}
 use Rattle.vt_ppm.specs.Format.{depth_of}
 use Rattle.vt_ppm.specs.Image.{texel_of}

@@ -10,9 +10,8 @@ use std::alloc::Global;
 use std::marker::Model;
 use std::thread::Threads;
 use vt_definitions::texel_length;
-use vt_outside::NoMemory;
 use vt_parts::processors;
-use vt_ppm::{Image, samples_are_bytes};
+use vt_ppm::{Image, NoMemory, samples_are_bytes};
 
 /// A texture and its coarser levels, each the one before it halved, down to the first whose two sides are at most the tile side.
 #[derive(Drop)]

@@ -2,8 +2,8 @@
 
 ghost use Rattle.std.specs.Prelude.{◌≡◌, ℕ, ◌+◌, ◌*◌, ◌/◌, ◌%◌, ◌<◌, ◌≤◌, ◌⊎◌, List, Some, take, true, length, vec_len, is_err, IsErr, IsErrOf, IfOk, IfSome, OnOk, OnErr};
 ghost use Rattle.std.specs.Thread.{IsSync};
-ghost use Rattle.vt_outside.specs.Counts.{Rose};
-ghost use Rattle.vt_outside.specs.Files.{IsPiece};
+ghost use Rattle.vt_ppm.specs.Counts.{Rose};
+ghost use Rattle.vt_ppm.specs.Files.{IsPiece};
 ghost use Rattle.vt_ppm.specs.Format.{depth_of};
 ghost use Rattle.vt_ppm.specs.Image.{ImageView, IsLawfulImage};
 ghost use Rattle.vt_ppm.specs.StripPlaces.{StripsAsked, StripsTried, strip_rows, strips_of};
@@ -16,9 +16,8 @@ use crate::taken_rows::Halving;
 use std::alloc::Global;
 use std::mem;
 use std::thread::{Threads, join_mut};
-use vt_outside::{Failed, File, NoMemory, OutsideError};
 use vt_parts::{processors, threads_for};
-use vt_ppm::{Header, Image, StripReader};
+use vt_ppm::{Failed, File, Header, Image, NoMemory, OutsideError, StripReader};
 
 // How many rows a strip has.
 const STRIP_ROWS: u32 = 128;

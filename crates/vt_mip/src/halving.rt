@@ -11,9 +11,8 @@ use std::alloc::Global;
 use std::thread::{Threads, join_mut};
 use vt_box_filter::halve_rows;
 use vt_definitions::texel_length;
-use vt_outside::NoMemory;
 use vt_parts::{share, threads_for};
-use vt_ppm::{Image, samples_are_bytes};
+use vt_ppm::{Image, NoMemory, samples_are_bytes};
 
 // How many nanoseconds it takes to make a texel of a half, about: from 2.5 to 3 were measured.
 const TEXEL_TIME: u64 = 3;

@@ -15,3 +15,4 @@ pub use laws::{chain_words_are_small, chains_go_on};
 pub use shrinking::Shrinking;
 pub use strip_chain::StripChain;
 pub use taken_rows::Halving;
+pub use vt_ppm::NoMemory;

@@ -2,7 +2,7 @@
 
 ghost use Rattle.std.specs.Prelude.{◌≡◌, ℕ, ◌+◌, ◌*◌, ◌/◌, ◌%◌, ◌<◌, ◌≤◌, ◌⊎◌, List, length, IfOk};
 ghost use Rattle.vt_definitions.specs.Depths.{IsDepth, texel_length};
-ghost use Rattle.vt_outside.specs.Files.{IsPiece};
+ghost use Rattle.vt_ppm.specs.Files.{IsPiece};
 ghost use Rattle.vt_ppm.specs.Image.{ImageView, IsLawfulImage};
 ghost use Rattle.vt_mip.specs.Halves.{IsHalf};
 ghost use Rattle.vt_mip.specs.InPlace.{IsRoomFor, IsShrunk, ShrinksFront};
@@ -11,8 +11,7 @@ use std::alloc::Global;
 use std::marker::Model;
 use vt_box_filter::halve_rows;
 use vt_definitions::texel_length;
-use vt_outside::NoMemory;
-use vt_ppm::Image;
+use vt_ppm::{Image, NoMemory};
 
 /// An image whose rows are halved in its own memory, in order from the top, once they were read.
 #[derive(Drop)]

@@ -5,7 +5,7 @@ ghost use Rattle.vt_definitions.specs.Depths.{IsDepth, AreBytes};
 ghost use Rattle.vt_definitions.specs.Limits.{most_levels, most_tiled_side};
 ghost use Rattle.vt_definitions.specs.Sides.{side, level_count};
 ghost use Rattle.vt_definitions.specs.Tiles.{IsTileSide};
-ghost use Rattle.vt_outside.specs.Counts.{Rose};
+ghost use Rattle.vt_ppm.specs.Counts.{Rose};
 ghost use Rattle.vt_ppm.specs.Format.{depth_of};
 ghost use Rattle.vt_ppm.specs.Strips.{IsTextureIfTold, RowsAsked, row_length, rows_of};
 ghost use Rattle.vt_mip.specs.Chains.{IsTexelRow};
@@ -15,8 +15,7 @@ use std::alloc::Global;
 use std::marker::Model;
 use vt_box_filter::halve_rows;
 use vt_definitions::texel_length;
-use vt_outside::{Failed, File, NoMemory};
-use vt_ppm::StripReader;
+use vt_ppm::{Failed, File, NoMemory, StripReader};
 
 /// A texture that is read by rows, and its coarser levels, each the one before it halved, down to the first whose two sides are
 /// at most the tile side. Contracts see the file, the header of the texture and the tile side.

@@ -3,7 +3,7 @@
 ghost use Rattle.std.specs.Prelude.{◌≡◌, ℕ, ◌+◌, ◌*◌, ◌/◌, ◌%◌, ◌≤◌, ◌⊎◌, ◌++◌, List, length, vec_len, vec_capacity, IfOk};
 ghost use Rattle.vt_definitions.specs.Depths.{IsDepth, texel_length};
 ghost use Rattle.vt_definitions.specs.Limits.{most_tiled_side};
-ghost use Rattle.vt_outside.specs.Files.{IsPiece};
+ghost use Rattle.vt_ppm.specs.Files.{IsPiece};
 ghost use Rattle.vt_ppm.specs.Image.{ImageView, IsLawfulImage};
 ghost use Rattle.vt_mip.specs.Halves.{IsHalf, IsHalvedRaster};
 ghost use Rattle.vt_mip.specs.TakenRows.{HalvesFront};
@@ -13,8 +13,7 @@ use std::alloc::Global;
 use std::marker::Model;
 use std::thread::Threads;
 use vt_definitions::texel_length;
-use vt_outside::NoMemory;
-use vt_ppm::Image;
+use vt_ppm::{Image, NoMemory};
 
 /// Level 1 of a texture as far as the texture's rows were taken, in order from the top. Room for all of it is asked for at once, but it is
 /// written row by row: so nobody waits until a large level is full of zeros.

@@ -2,10 +2,10 @@
 use Rattle.std.proofs.Common.{◌≡◌, ℕ, zero, suc, ◌∙◌, Bool, true, false, eqb, List, [], get_or, Option, Some, None, slice_get, refl, sym, ap}
 use Rattle.std.specs.Prelude.{if◌then◌else◌}
 use Rattle.std.proofs.lemmas.Bool.{eqb-true}
-use Rattle.vt_journal.specs.declared.changes.Change.{Change}
-use Rattle.vt_journal.specs.declared.changes.Change.TheVariants.{Map, Unmap}
-use Rattle.vt_journal.specs.Changes.{Table, at, changed_by}
-use Rattle.vt_grace.specs.Contents.{Backing, backed, backed_by}
+use Rattle.vt_streamer.specs.JournalTypes.changes.Change.{Change}
+use Rattle.vt_streamer.specs.JournalTypes.changes.Change.TheVariants.{Map, Unmap}
+use Rattle.vt_pictures.specs.Changes.{Table, at, changed_by}
+use Rattle.vt_streamer.specs.Contents.{Backing, backed, backed_by}
 
 -- a version's entry for a page is the frame, and a change mapped the page to it with the content
 pub record IsBrought (js : List Change) (cs : List (List ℕ)) (page frame : ℕ) (content : List ℕ) (entry : Option ℕ) : Type 0 where

@@ -1,7 +1,7 @@
 -- Contents of a journal and of the changes that were added to it.
 use Rattle.std.proofs.Common.{◌≡◌, ℕ, zero, suc, List, [], ◌∷◌, ◌++◌, length, Option, arith}
-use Rattle.vt_pages.specs.Shape.{Shape}
-use Rattle.vt_journal.specs.declared.changes.Change.{Change}
+use Rattle.vt_tiles.specs.Shape.{Shape}
+use Rattle.vt_streamer.specs.JournalTypes.changes.Change.{Change}
 use Rattle.vt_noted.specs.Stored.{AreStored}
 
 pub stored_grow : (s : Shape) (d : ℕ) (told : Option (List ℕ)) (journal added : List Change) (contents more : List (List ℕ)) → length contents ≡ length journal

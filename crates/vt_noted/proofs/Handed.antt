@@ -2,12 +2,12 @@
 use Rattle.std.proofs.Common.{◌≡◌, List, sym, subst}
 use Rattle.std.specs.Prelude.{Contains}
 use Rattle.std.proofs.lemmas.List.Elements.{Contains-append_left, Contains-append_right}
-use Rattle.vt_draw.specs.Lookups.{Note, EntryNote, WordNote}
-use Rattle.vt_grace.specs.declared.views.EntryNote.{EntryNote as ReadEntry}
-use Rattle.vt_grace.specs.declared.views.WordNote.{WordNote as ReadWord}
-use Rattle.vt_grace.specs.declared.views.PassView.{PassView}
-use Rattle.vt_grace.specs.declared.views.WriterView.{WriterView}
-use Rattle.vt_grace.specs.Giving.{after_return}
+use Rattle.vt_pictures.specs.DrawLookups.{Note, EntryNote, WordNote}
+use Rattle.vt_streamer.specs.GraceTypes.views.EntryNote.{EntryNote as ReadEntry}
+use Rattle.vt_streamer.specs.GraceTypes.views.WordNote.{WordNote as ReadWord}
+use Rattle.vt_streamer.specs.GraceTypes.views.PassView.{PassView}
+use Rattle.vt_streamer.specs.GraceTypes.views.WriterView.{WriterView}
+use Rattle.vt_streamer.specs.Giving.{after_return}
 use Rattle.vt_noted.specs.Noted.{IsAmong, IsNotedBy, HasNoted, HasNotesOf}
 
 -- each note of some is one that a writer has

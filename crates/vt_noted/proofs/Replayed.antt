@@ -4,28 +4,28 @@ use Rattle.std.specs.Prelude.{slice_get, IfSome}
 use Rattle.std.proofs.lemmas.List.Elements.{All-contains}
 use Rattle.std.proofs.lemmas.List.FromFn.{get_or-map-range_with_len}
 use Rattle.std.proofs.lemmas.Nat.{mod_below, mul-add-lt}
-use Rattle.vt_definitions.specs.Depths.{texel_length, texel_bytes}
-use Rattle.vt_definitions.specs.Texels.{Source}
-use Rattle.vt_pages.specs.Shape.{Shape}
-use Rattle.vt_pages.specs.Pages.{texel_page, IsWithinLimits}
-use Rattle.vt_pages.specs.Laws.{IsInside}
-use Rattle.vt_camera.specs.Rows.{RowView}
-use Rattle.vt_draw.specs.Lookups.{Note, EntryNote, WordNote, place_in_tile}
-use Rattle.vt_draw.specs.Shots.{shot_row}
-use Rattle.vt_journal.specs.declared.changes.RowLine.{RowLine}
-use Rattle.vt_journal.specs.Changes.{Table, at, AreInTurn}
-use Rattle.vt_journal.proofs.Versions.{one_to_one}
-use Rattle.vt_filter.specs.Evidence.{IsBy, AreTrue, AreShown}
-use Rattle.vt_filter.specs.FilterLaws.{IsUnder}
-use Rattle.vt_filter.proofs.Handed.{pixel_is_under}
+use Rattle.vt_tiles.specs.Depths.{texel_length, texel_bytes}
+use Rattle.vt_tiles.specs.Texels.{Source}
+use Rattle.vt_tiles.specs.Shape.{Shape}
+use Rattle.vt_tiles.specs.Pages.{texel_page, IsWithinLimits}
+use Rattle.vt_tiles.specs.PagesLaws.{IsInside}
+use Rattle.vt_pictures.specs.Rows.{RowView}
+use Rattle.vt_pictures.specs.DrawLookups.{Note, EntryNote, WordNote, place_in_tile}
+use Rattle.vt_pictures.specs.Shots.{shot_row}
+use Rattle.vt_streamer.specs.JournalTypes.changes.RowLine.{RowLine}
+use Rattle.vt_pictures.specs.Changes.{Table, at, AreInTurn}
+use Rattle.vt_streamer.proofs.Versions.{one_to_one}
+use Rattle.vt_pictures.specs.Evidence.{IsBy, AreTrue, AreShown}
+use Rattle.vt_pictures.specs.FilterLaws.{IsUnder}
+use Rattle.vt_pictures.proofs.Handed.{pixel_is_under}
 use Rattle.vt_tiles.specs.Format.{stored}
 use Rattle.vt_tiles.specs.StoreViews.{IsStore, IsStoreIfTold}
 use Rattle.vt_tiles.proofs.Stored.{pieces_hold_texels}
-use Rattle.vt_table.specs.Views.{tile_word}
-use Rattle.vt_table.proofs.TileWords.{word_is}
-use Rattle.vt_grace.specs.declared.views.WriterView.{WriterView}
-use Rattle.vt_grace.specs.Notes.{entry_number, IsTrueNote, IsTrueWord}
-use Rattle.vt_grace.specs.Sound.{IsSound}
+use Rattle.vt_streamer.specs.TableViews.{tile_word}
+use Rattle.vt_streamer.proofs.TileWords.{word_is}
+use Rattle.vt_streamer.specs.GraceTypes.views.WriterView.{WriterView}
+use Rattle.vt_streamer.specs.Notes.{entry_number, IsTrueNote, IsTrueWord}
+use Rattle.vt_streamer.specs.Sound.{IsSound}
 use Rattle.vt_pictures.specs.Scenes.{Scene}
 use Rattle.vt_pictures.specs.Replays.{HasPixels, AreReplayed}
 use Rattle.vt_noted.specs.Noted.{IsNotedBy}

@@ -1,2 +1,10 @@
+pub use Rattle.vt_pictures.specs.Replays
+pub use Rattle.vt_pictures.specs.Scenes
+pub use Rattle.vt_streamer.specs.Banks
+pub use Rattle.vt_streamer.specs.Fills
+pub use Rattle.vt_streamer.specs.Giving
+pub use Rattle.vt_streamer.specs.Looks
+pub use Rattle.vt_streamer.specs.Sound
+pub use Rattle.vt_streamer.specs.WriterViews
 pub mod Noted
 pub mod Stored

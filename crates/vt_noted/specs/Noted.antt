@@ -1,9 +1,9 @@
 -- What is said by the notes of entries and of words that were read under holds.
 use Rattle.std.specs.Prelude.{List, Contains}
-use Rattle.vt_draw.specs.Lookups.{Note, EntryNote, WordNote}
-use Rattle.vt_grace.specs.declared.views.EntryNote.{EntryNote as ReadEntry}
-use Rattle.vt_grace.specs.declared.views.WordNote.{WordNote as ReadWord}
-use Rattle.vt_grace.specs.declared.views.WriterView.{WriterView}
+use Rattle.vt_pictures.specs.DrawLookups.{Note, EntryNote, WordNote}
+use Rattle.vt_streamer.specs.GraceTypes.views.EntryNote.{EntryNote as ReadEntry}
+use Rattle.vt_streamer.specs.GraceTypes.views.WordNote.{WordNote as ReadWord}
+use Rattle.vt_streamer.specs.GraceTypes.views.WriterView.{WriterView}
 
 -- a note is among those of the entries or those of the words that were read
 abbrev pub IsAmong : List ReadEntry → List ReadWord → Note → Type 0

@@ -1,9 +1,9 @@
 -- The contents that pages were mapped with, where they are tiles of a store.
 use Rattle.std.specs.Prelude.{◌≡◌, ℕ, Option, Some, IfSome, List, [], length, slice_get, slice_index_or}
-use Rattle.vt_outside.specs.Files.{IsPiece}
-use Rattle.vt_pages.specs.Shape.{Shape}
-use Rattle.vt_journal.specs.declared.changes.Change.{Change}
-use Rattle.vt_journal.specs.declared.changes.Change.TheVariants.{Map}
+use Rattle.vt_tiles.specs.Files.{IsPiece}
+use Rattle.vt_tiles.specs.Shape.{Shape}
+use Rattle.vt_streamer.specs.JournalTypes.changes.Change.{Change}
+use Rattle.vt_streamer.specs.JournalTypes.changes.Change.TheVariants.{Map}
 use Rattle.vt_tiles.specs.Format.{tile_length, tile_start}
 use Rattle.vt_streamer.specs.Fills.{words_in}
 

@@ -1,29 +1,29 @@
 //! Laws of rows that are drawn by notes of the shared words: each is the contract of a function that does nothing.
 
 ghost use Rattle.std.specs.Prelude.{◌≡◌, ℕ, ◌++◌, Option, Some, IfSome, List, [], length, slice_get, slice_index_or};
-ghost use Rattle.vt_pages.specs.Shape.{Shape};
-ghost use Rattle.vt_pages.specs.Pages.{IsWithinLimits};
-ghost use Rattle.vt_camera.specs.Rows.{RowView};
-ghost use Rattle.vt_draw.specs.Shots.{shot_row, AreDrawn};
-ghost use Rattle.vt_journal.specs.declared.changes.Change.{Change};
-ghost use Rattle.vt_journal.specs.declared.changes.RowLine.{RowLine};
-ghost use Rattle.vt_journal.specs.Changes.{at};
+ghost use Rattle.vt_tiles.specs.Shape.{Shape};
+ghost use Rattle.vt_tiles.specs.Pages.{IsWithinLimits};
+ghost use Rattle.vt_pictures.specs.Rows.{RowView};
+ghost use Rattle.vt_pictures.specs.Shots.{shot_row, AreDrawn};
+ghost use Rattle.vt_streamer.specs.JournalTypes.changes.Change.{Change};
+ghost use Rattle.vt_streamer.specs.JournalTypes.changes.RowLine.{RowLine};
+ghost use Rattle.vt_pictures.specs.Changes.{at};
 ghost use Rattle.vt_tiles.specs.Format.{stored};
 ghost use Rattle.vt_tiles.specs.StoreViews.{IsStore, IsStoreIfTold};
-ghost use Rattle.vt_grace.specs.declared.views.EntryNote.{EntryNote as ReadEntry};
-ghost use Rattle.vt_grace.specs.declared.views.WordNote.{WordNote as ReadWord};
-ghost use Rattle.vt_grace.specs.declared.views.PassView.{PassView};
-ghost use Rattle.vt_grace.specs.declared.views.WriterView.{WriterView};
-ghost use Rattle.vt_grace.specs.WriterViews.{after_look, after_entry, after_word, after_change};
-ghost use Rattle.vt_grace.specs.Giving.{after_giving, after_return};
-ghost use Rattle.vt_grace.specs.Sound.{IsSound};
+ghost use Rattle.vt_streamer.specs.GraceTypes.views.EntryNote.{EntryNote as ReadEntry};
+ghost use Rattle.vt_streamer.specs.GraceTypes.views.WordNote.{WordNote as ReadWord};
+ghost use Rattle.vt_streamer.specs.GraceTypes.views.PassView.{PassView};
+ghost use Rattle.vt_streamer.specs.GraceTypes.views.WriterView.{WriterView};
+ghost use Rattle.vt_streamer.specs.WriterViews.{after_look, after_entry, after_word, after_change};
+ghost use Rattle.vt_streamer.specs.Giving.{after_giving, after_return};
+ghost use Rattle.vt_streamer.specs.Sound.{IsSound};
 ghost use Rattle.vt_pictures.specs.Scenes.{Scene};
 ghost use Rattle.vt_pictures.specs.Replays.{HasPixels, AreReplayed};
-ghost use Rattle.vt_filter.specs.Evidence.{IsBy, AreTrue, AreShown};
+ghost use Rattle.vt_pictures.specs.Evidence.{IsBy, AreTrue, AreShown};
 ghost use Rattle.vt_noted.specs.Noted.{IsAmong, IsNotedBy, HasNoted, HasNotesOf};
 ghost use Rattle.vt_noted.specs.Stored.{AreStored};
 
-use vt_filter::{Filter, Nearest};
+use vt_pictures::{Filter, Nearest};
 
 /// What a writer took back as notes of a version is true of that version's table over the store, where the contents of its
 /// changes are tiles of the store.

@@ -15,15 +15,15 @@ use Rattle.vt_grace.specs.declared.views.WriterView.{WriterView}
 use Rattle.vt_grace.specs.Sizes.{sizes_of}
 use Rattle.vt_grace.specs.WriterViews.{first_writer, is_out}
 use Rattle.vt_grace.specs.Values.{WordsValue}
-use Rattle.vt_streamer.specs.Fills.{words_in}
-use Rattle.vt_streamer.specs.Views.{StreamerView, IsStreamerOf}
+use Rattle.vt_word_workers.specs.Fills.{words_in}
+use Rattle.vt_word_workers.specs.Views.{StreamerView, IsStreamerOf}
 use Rattle.vt_workers.specs.Jobs.{Job}
 use Rattle.vt_workers.specs.All.{AllReady}
-use Rattle.vt_machine.specs.declared.crew.Crew.{Crew}
-use Rattle.vt_machine.specs.Machines.{told_by}
-use Rattle.vt_machine.specs.Passes.{MapsRoot, MayPlace, IsJobFor, IsUntouched, IsSpent}
-use Rattle.vt_noted.specs.Stored.{AreStored}
-use Rattle.vt_noted.proofs.Growing.{stored_grow}
+use Rattle.vt_word_workers.specs.MachineTypes.crew.Crew.{Crew}
+use Rattle.vt_requests.specs.Machines.{told_by}
+use Rattle.vt_requests.specs.Passes.{MapsRoot, MayPlace, IsJobFor, IsUntouched, IsSpent}
+use Rattle.vt_word_workers.specs.Stored.{AreStored}
+use Rattle.vt_word_workers.proofs.Growing.{stored_grow}
 use Rattle.vt_word_workers.specs.WordSamplers.{WordSampler}
 use Rattle.vt_word_workers.specs.declared.workers.WordStreamer.{WordStreamer}
 use Rattle.vt_word_workers.specs.WordTasks.{MayDraw}

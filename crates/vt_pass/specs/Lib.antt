@@ -1,3 +1,4 @@
+pub use Rattle.vt_word_workers.specs.Kits
 pub mod PassKits
 pub mod Placed
 pub mod WordMachines

@@ -1,8 +1,8 @@
 -- A page that was placed while no sampler has a pass.
 use Rattle.std.specs.Prelude.{◌≡◌, ℕ, List, [], ◌∷◌, ◌++◌}
 use Rattle.vt_journal.specs.declared.changes.Change.TheVariants.{Map}
-use Rattle.vt_streamer.specs.Fills.{words_in}
-use Rattle.vt_streamer.specs.Views.{StreamerView}
+use Rattle.vt_word_workers.specs.Fills.{words_in}
+use Rattle.vt_word_workers.specs.Views.{StreamerView}
 
 -- a page was mapped to a frame, with the words of a tile; no pass was given or taken back
 pub record HasPlaced (v w : StreamerView) (page frame : ℕ) (tile : List ℕ) : Type 0 where

@@ -1,12 +1,12 @@
 //! The machine over a page table of shared words.
 
 ghost use Rattle.std.specs.Prelude.{◌≡◌, [], IsOk, IfOk, OnOk, OnErr};
-ghost use Rattle.vt_definitions.specs.Depths.{IsDepth};
-ghost use Rattle.vt_machine.specs.Crews.{IsCrew};
-ghost use Rattle.vt_machine.specs.Machines.{AreStoresFor};
+ghost use Rattle.vt_tiles.specs.Depths.{IsDepth};
+ghost use Rattle.vt_word_workers.specs.Crews.{IsCrew};
+ghost use Rattle.vt_requests.specs.Machines.{AreStoresFor};
 ghost use Rattle.vt_word_workers.specs.Kits.{IsMadeFor};
 ghost use Rattle.vt_workers.specs.Jobs.{job_of};
-ghost use Rattle.vt_machine.specs.Drawings.{drawing_of};
+ghost use Rattle.vt_requests.specs.Drawings.{drawing_of};
 ghost use Rattle.vt_word_workers.specs.KitPasses.{Begun, MayFinish};
 ghost use Rattle.vt_pass.specs.WordMachines.{WordView, word_state, IsIdleBy, IsReadyBy, drawn_by, IsMustered, WordFinishes};
 
@@ -18,19 +18,17 @@ use std::mem;
 use std::sync::Wait;
 use std::thread::Threads;
 use vt_camera::Path;
-use vt_draw::Shot;
 use vt_evict::Batch;
 use vt_feedback::Counts;
-use vt_filter::{Filter, Nearest};
 use vt_journal::Journal;
 use vt_loaders::QueuedLoader;
-use vt_machine::{Crew, PassMachine, PassReport};
 use vt_outside::{File, Gate, Items, NoMemory};
 use vt_pages::Geometry;
 use vt_queue::{QueuePass, Request};
-use vt_requests::answered;
+use vt_requests::{Crew, PassMachine, PassReport, answered};
 use vt_tiles::Stores;
-use vt_word_workers::{WordKit, WordSampler, WordShared, WordStreamer, new_parts};
+use vt_word_workers::{Filter, Nearest, WordKit, WordSampler, WordShared, WordStreamer, new_parts};
+use vt_workers::Shot;
 
 /// A machine that draws the rows of a picture by a filter, each under a version that it holds meanwhile, and streams the
 /// batch at the same time.

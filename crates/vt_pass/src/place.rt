@@ -3,19 +3,19 @@
 ghost use Rattle.std.specs.Prelude.{◌≡◌, ◌<◌, ◌≤◌, None, OnOk, OnErr, length};
 ghost use Rattle.vt_pages.specs.Pages.{pages_of};
 ghost use Rattle.vt_journal.specs.Changes.{newest, IsFree, IsLegalNext};
-ghost use Rattle.vt_machine.specs.Crews.{last_start};
-ghost use Rattle.vt_table.specs.Views.{IsTile, IsReady, IsWithin};
+ghost use Rattle.vt_word_workers.specs.Crews.{last_start};
+ghost use Rattle.vt_requests.specs.Views.{IsTile, IsReady, IsWithin};
 ghost use Rattle.vt_grace.specs.Banks.{MayFill};
-ghost use Rattle.vt_streamer.specs.Banks.{HasPublished};
-ghost use Rattle.vt_streamer.specs.Looks.{HasLooked};
-ghost use Rattle.vt_streamer.specs.Views.{IsStreamerOf, table_of};
+ghost use Rattle.vt_word_workers.specs.Banks.{HasPublished};
+ghost use Rattle.vt_word_workers.specs.Looks.{HasLooked};
+ghost use Rattle.vt_word_workers.specs.Views.{IsStreamerOf, table_of};
 ghost use Rattle.vt_word_workers.specs.Kits.{AreAllIn};
 ghost use Rattle.vt_pass.specs.Placed.{HasPlaced};
 
 use vt_grace::Words;
 use vt_journal::Change;
 use vt_outside::NoMemory;
-use vt_streamer::Streamer;
+use vt_word_workers::Streamer;
 
 // Frees a frame that no page is mapped to, for which it waits for no sampler.
 fn free_at_once(words: &Words, streamer: &mut Streamer, frame: u32)

@@ -1,12 +1,12 @@
 -- What a picture shows: under a page table, and without one; and what a replay is.
 use Rattle.std.specs.Prelude.{◌≡◌, ℕ, ◌*◌, ◌/◌, ◌^◌, ◌<◌, Some, unwrap_or, List, [], length, slice_get, slice_index_or, All}
 use Rattle.std.specs.List.{concat}
-use Rattle.vt_definitions.specs.Depths.{texel_length, texel_bytes, word_bytes}
-use Rattle.vt_definitions.specs.Texels.{Source}
-use Rattle.vt_pages.specs.Shape.{Shape}
-use Rattle.vt_pages.specs.Pages.{level_of, root_of}
-use Rattle.vt_pages.specs.Lookups.{lookup}
-use Rattle.vt_camera.specs.Rows.{RowView, row_place, row_level}
+use Rattle.vt_draw.specs.Depths.{texel_length, texel_bytes, word_bytes}
+use Rattle.vt_draw.specs.Texels.{Source}
+use Rattle.vt_journal.specs.Shape.{Shape}
+use Rattle.vt_journal.specs.Pages.{level_of, root_of}
+use Rattle.vt_journal.specs.PagesLookups.{lookup}
+use Rattle.vt_draw.specs.Rows.{RowView, row_place, row_level}
 use Rattle.vt_draw.specs.Shots.{shot_row, wanted_page}
 use Rattle.vt_journal.specs.declared.changes.Change.{Change}
 use Rattle.vt_journal.specs.declared.changes.RowLine.{RowLine}

@@ -1,7 +1,7 @@
 -- What pictures are drawn of.
 use Rattle.std.specs.Prelude.{ℕ}
-use Rattle.vt_pages.specs.Shape.{Shape}
-use Rattle.vt_camera.specs.Paths.{PathView}
+use Rattle.vt_journal.specs.Shape.{Shape}
+use Rattle.vt_draw.specs.Paths.{PathView}
 
 -- what pictures are drawn of: a texture that is cut into pages, how many bytes its samples have, and a path
 pub record Scene : Type 0 where

@@ -7,8 +7,8 @@ use Rattle.vt_pages.specs.Shape.{Shape}
 use Rattle.vt_pages.specs.Pages.{level_of, ancestor_of, texel_page}
 use Rattle.vt_camera.specs.Rows.{RowView, row_level}
 use Rattle.vt_draw.specs.Lookups.{Note, EntryNote, WordNote}
-use Rattle.vt_filter.specs.Evidence.{IsBy, AreShown}
-use Rattle.vt_filter.proofs.NearestNotes.{finer, finer_said, finer_there}
+use Rattle.vt_pictures.specs.Evidence.{IsBy, AreShown}
+use Rattle.vt_pictures.proofs.NearestNotes.{finer, finer_said, finer_there}
 use Rattle.vt_plain_bilinear.specs.Corners.{corners_of}
 use Rattle.vt_plain_bilinear.specs.Served.{coarser_place, IsServed, IsBlended, AreBlended}
 use Rattle.vt_plain_bilinear.proofs.Kept.{served_kept}

@@ -4,7 +4,7 @@ use Rattle.std.specs.List.{flat_map, range_with_len}
 use Rattle.std.proofs.lemmas.List.{append-nil}
 use Rattle.vt_definitions.specs.Depths.{IsDepth, AreBytes, texel_bytes, word_bytes, word_at}
 use Rattle.vt_definitions.specs.Texels.{Source}
-use Rattle.vt_ppm.specs.Image.{ImageView}
+use Rattle.vt_mip.specs.Image.{ImageView}
 use Rattle.vt_mip.specs.Chains.{IsTexelRaster}
 use Rattle.vt_mip.specs.Laws.{ChainWordsAreSmall}
 use Rattle.vt_camera.specs.declared.paths.Camera.{Camera}

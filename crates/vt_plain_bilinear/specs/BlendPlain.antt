@@ -15,11 +15,11 @@ use Rattle.vt_camera.specs.Rows.{RowView, row_level}
 use Rattle.vt_draw.specs.Shots.{shot_row, run_of, wants_in_rows}
 use Rattle.vt_draw.proofs.Counts.{run-own}
 use Rattle.vt_draw.proofs.Drawn.{range_more}
-use Rattle.vt_journal.specs.Changes.{Table}
+use Rattle.vt_pictures.specs.Changes.{Table}
 use Rattle.vt_pictures.specs.Scenes.{Scene}
 use Rattle.vt_pictures.specs.Replays.{scene_row}
-use Rattle.vt_filter.specs.FilterLaws.{picture_wants}
-use Rattle.vt_filter.specs.NearestPlain.{serves_itself}
+use Rattle.vt_pictures.specs.FilterLaws.{picture_wants}
+use Rattle.vt_pictures.specs.NearestPlain.{serves_itself}
 use Rattle.vt_plain_bilinear.specs.declared.blends.Texels.{Texels}
 use Rattle.vt_plain_bilinear.specs.declared.served.Pages.{Pages}
 use Rattle.vt_plain_bilinear.specs.Corners.{corners_of, weights_of}

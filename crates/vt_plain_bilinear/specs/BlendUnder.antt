@@ -9,11 +9,11 @@ use Rattle.vt_pages.specs.Laws.{IsInside}
 use Rattle.vt_pages.proofs.Lines.{texel_is_page}
 use Rattle.vt_camera.specs.Rows.{row_level}
 use Rattle.vt_draw.specs.Lookups.{Note}
-use Rattle.vt_journal.specs.Changes.{Table}
+use Rattle.vt_pictures.specs.Changes.{Table}
 use Rattle.vt_pictures.specs.Scenes.{Scene}
 use Rattle.vt_pictures.specs.Replays.{scene_row}
-use Rattle.vt_filter.specs.Evidence.{AreTrue}
-use Rattle.vt_filter.specs.NearestPixels.{served_by}
+use Rattle.vt_pictures.specs.Evidence.{AreTrue}
+use Rattle.vt_pictures.specs.NearestPixels.{served_by}
 use Rattle.vt_plain_bilinear.specs.declared.blends.Texels.{Texels}
 use Rattle.vt_plain_bilinear.specs.Corners.{corners_of, weights_of}
 use Rattle.vt_plain_bilinear.specs.Blends.{blended_word, texels_of, blend_of}

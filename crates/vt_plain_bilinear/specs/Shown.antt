@@ -5,8 +5,8 @@ use Rattle.vt_pages.specs.Shape.{Shape}
 use Rattle.vt_pages.specs.Pages.{level_of, root_of, texel_page}
 use Rattle.vt_pages.specs.Lookups.{lookup}
 use Rattle.vt_camera.specs.Rows.{row_level}
-use Rattle.vt_journal.specs.Changes.{Table}
-use Rattle.vt_journal.specs.Lookups.{is_mapped}
+use Rattle.vt_pictures.specs.Changes.{Table}
+use Rattle.vt_pictures.specs.Lookups.{is_mapped}
 use Rattle.vt_pictures.specs.Scenes.{Scene}
 use Rattle.vt_pictures.specs.Replays.{scene_row}
 use Rattle.vt_plain_bilinear.specs.Blends.{blend_bytes}

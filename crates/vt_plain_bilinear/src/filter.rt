@@ -2,7 +2,7 @@
 
 use crate::rows::draw_row_blend;
 use vt_draw::{Lookup, Shot};
-use vt_filter::Filter;
+use vt_pictures::Filter;
 
 /// Each pixel is the blend of the four texels about its place, of its row's level, each served by the finest mapped page.
 pub struct Bilinear {}

@@ -5,9 +5,9 @@ use Rattle.std.proofs.Math.Seq.{drop-append_seam}
 use Rattle.std.proofs.lemmas.List.{map-append, get_or-drop, reverse-append}
 use Rattle.std.proofs.lemmas.List.Elements.{filter-append}
 use Rattle.std.proofs.lemmas.List.FromFn.{map-range_with_len_more}
-use Rattle.vt_pages.specs.Shape.{Shape}
+use Rattle.vt_feedback.specs.Shape.{Shape}
 use Rattle.vt_plan.specs.declared.batches.Planned.{Planned}
-use Rattle.vt_pages.specs.Lookups.{next_finer_page}
+use Rattle.vt_feedback.specs.Lookups.{next_finer_page}
 use Rattle.vt_plan.specs.PageLists.{is_in, each_once, with_page}
 use Rattle.vt_plan.specs.Missing.{is_mapped, missing_from}
 use Rattle.vt_plan.specs.Entries.{freed_at, taken_at, taken_with}

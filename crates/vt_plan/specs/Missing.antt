@@ -1,8 +1,8 @@
 -- Which pages are mapped by a page table's entries, and which are missing.
 use Rattle.std.specs.Prelude.{ℕ, nat_lt, Bool, not, List, map, slice_index}
 use Rattle.std.specs.List.{filter}
-use Rattle.vt_pages.specs.Shape.{Shape}
-use Rattle.vt_pages.specs.Lookups.{next_finer_page}
+use Rattle.vt_feedback.specs.Shape.{Shape}
+use Rattle.vt_feedback.specs.Lookups.{next_finer_page}
 use Rattle.vt_plan.specs.PageLists.{each_once}
 
 -- a page has a frame

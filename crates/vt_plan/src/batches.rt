@@ -1,6 +1,6 @@
 //! What a pass loads.
 
-use vt_outside::Items;
+use vt_feedback::Items;
 
 /// A page that is to be loaded.
 #[derive(Clone, Copy, Debug, PartialEq, Eq)]

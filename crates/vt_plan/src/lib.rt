@@ -8,3 +8,4 @@ mod plans;
 
 pub use batches::{Batch, Losses, Planned};
 pub use plans::{add_page, missing_of, put_victims, with_free};
+pub use vt_feedback::{Counts, Geometry, Wants};

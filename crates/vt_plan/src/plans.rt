@@ -3,9 +3,9 @@
 ghost use Rattle.std.specs.Prelude.{◌≡◌, ◌+◌, ◌-◌, ◌<◌, ◌≤◌, false, not, min, if◌then◌else◌, ◌++◌, [], ◌∷◌, map, reverse, length, IfOk, OnOk, IfSome, IfNone, slice_index};
 ghost use Rattle.std.specs.List.{All, filter, range_with_len};
 ghost use Rattle.std.specs.Map.{keys_of};
-ghost use Rattle.vt_pages.specs.Pages.{IsWithinLimits, pages_of};
+ghost use Rattle.vt_feedback.specs.Pages.{IsWithinLimits, pages_of};
 ghost use Rattle.vt_feedback.specs.Wants.{pages_wanted};
-ghost use Rattle.vt_pages.specs.Lookups.{next_finer_page as step_above};
+ghost use Rattle.vt_feedback.specs.Lookups.{next_finer_page as step_above};
 ghost use Rattle.vt_plan.specs.PageLists.{is_in, with_page};
 ghost use Rattle.vt_plan.specs.Missing.{is_mapped, missing_from};
 ghost use Rattle.vt_plan.specs.Entries.{freed_at, taken_at, taken_with};
@@ -15,9 +15,7 @@ use indexmap::IndexSet;
 use lru::{Iter, LruCache};
 use std::alloc::Global;
 use std::collections::BTreeSet;
-use vt_feedback::Wants;
-use vt_outside::NoMemory;
-use vt_pages::Geometry;
+use vt_feedback::{Geometry, NoMemory, Wants};
 
 /// Adds a page unless it is there. After a refusal the set can only be dropped.
 pub fn add_page(pages: &mut IndexSet<u32>, page: u32) -> Result<(), NoMemory>

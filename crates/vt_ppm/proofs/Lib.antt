@@ -1,3 +1,5 @@
+pub use Rattle.vt_outside.proofs.Refusing as OutsideRefusing
+pub use Rattle.vt_outside.proofs.Untold
 pub mod Gaps
 pub mod Headers
 pub mod Runs

@@ -1,3 +1,7 @@
+pub use Rattle.vt_definitions.specs.Depths
+pub use Rattle.vt_outside.specs.Counts
+pub use Rattle.vt_outside.specs.Files
+pub use Rattle.vt_outside.specs.declared as OutsideTypes
 pub mod Image
 pub mod Format
 pub mod Flaws

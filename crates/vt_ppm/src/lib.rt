@@ -25,4 +25,5 @@ pub use laws::{
 pub use picture::{begin_picture, encode, encode_into, encode_wide};
 pub use read::{read_header, read_image};
 pub use strips::StripReader;
+pub use vt_outside::{Failed, File, NoMemory, OutsideError};
 pub use whole::image_flaw;

@@ -1,3 +1,4 @@
+pub use Rattle.vt_definitions.specs.Limits
 pub mod PassViews
 pub mod Orders
 pub mod Steps

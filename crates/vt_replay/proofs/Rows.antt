@@ -10,8 +10,8 @@ use Rattle.vt_definitions.specs.Texels.{Source}
 use Rattle.vt_journal.specs.declared.changes.Change.{Change}
 use Rattle.vt_journal.specs.declared.changes.RowLine.{RowLine}
 use Rattle.vt_journal.specs.Changes.{at}
-use Rattle.vt_pictures.specs.Scenes.{Scene}
-use Rattle.vt_pictures.specs.Replays.{HasPixels, IsReplayOf}
+use Rattle.vt_replay_rows.specs.Scenes.{Scene}
+use Rattle.vt_replay_rows.specs.Replays.{HasPixels, IsReplayOf}
 use Rattle.vt_replay_rows.specs.ReplayLookups.{row_of}
 use Rattle.vt_replay_rows.specs.Trying.{Under}
 use Rattle.vt_replay.specs.Replayed.{version_of, replayed_row, replayed_rows}

@@ -16,7 +16,7 @@ use Rattle.vt_files.specs.Pictures.{expected_picture, expected_pictures}
 use Rattle.vt_files.proofs.Writing.{HasPictures, more_pictures, stopped_pictures, part_none}
 use Rattle.vt_pages.specs.Shape.{Shape}
 use Rattle.vt_camera.specs.Paths.{PathView}
-use Rattle.vt_pictures.specs.Scenes.{Scene, scene_of}
+use Rattle.vt_replay_rows.specs.Scenes.{Scene, scene_of}
 use Rattle.vt_replay.specs.Playing.{HasWritten, AreRowsWithin, ArePlayed}
 use Rattle.vt_replay_rows.specs.Trying.{Under}
 use Rattle.vt_replay.specs.Replayed.{replayed_rows, lines_after, last_lines, pictures_after, pictures_of, replay_file}

@@ -12,7 +12,7 @@ use Rattle.vt_journal.specs.JournalText.{Pass, Content, content_changes}
 use Rattle.vt_tiles.specs.Format.{stored}
 use Rattle.vt_files.specs.Expectations.{ExpectedFile}
 use Rattle.vt_files.specs.Pictures.{expected_pictures}
-use Rattle.vt_pictures.specs.Scenes.{Scene, scene_of}
+use Rattle.vt_replay_rows.specs.Scenes.{Scene, scene_of}
 use Rattle.vt_replay_rows.specs.Trying.{Under}
 
 -- the version that the line of a row names

@@ -4,8 +4,8 @@ ghost use Rattle.std.specs.Prelude.{◌≡◌, ℕ, List, length};
 ghost use Rattle.vt_definitions.specs.Texels.{Source};
 ghost use Rattle.vt_journal.specs.declared.changes.Change.{Change};
 ghost use Rattle.vt_journal.specs.declared.changes.RowLine.{RowLine};
-ghost use Rattle.vt_pictures.specs.Scenes.{Scene};
-ghost use Rattle.vt_pictures.specs.Replays.{IsReplayOf};
+ghost use Rattle.vt_replay_rows.specs.Scenes.{Scene};
+ghost use Rattle.vt_replay_rows.specs.Replays.{IsReplayOf};
 ghost use Rattle.vt_replay_rows.specs.Trying.{Under};
 ghost use Rattle.vt_replay.specs.Replayed.{replayed_rows};
 

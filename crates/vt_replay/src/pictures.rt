@@ -4,7 +4,7 @@ ghost use Rattle.std.specs.Prelude.{◌≡◌, ◌⊎◌, ◌≤◌, ℕ, length
 ghost use Rattle.vt_outside.specs.Counts.{Rose, added};
 ghost use Rattle.vt_files.specs.Effects.{folder_effect};
 ghost use Rattle.vt_files.specs.Expectations.{AsksNone};
-ghost use Rattle.vt_pictures.specs.Replays.{pixel_under};
+ghost use Rattle.vt_replay_rows.specs.Replays.{pixel_under};
 ghost use Rattle.vt_replay_rows.specs.Following.{IsReadOn};
 ghost use Rattle.vt_replay.specs.Flaws.{IsFirstRefused};
 ghost use Rattle.vt_replay.specs.Outcomes.{Leaves, IsClosed, replay_answer};
@@ -15,8 +15,8 @@ use crate::play::play;
 use std::alloc::Global;
 use std::thread::Threads;
 use vt_camera::Path;
-use vt_filter::{Filter, Nearest};
 use vt_outside::{Folder, OutsideError};
+use vt_replay_rows::{Filter, Nearest};
 use vt_tiles::Store;
 
 /// Writes the picture of the last pass of each picture of a journal, drawn from a store along the journal's path, each pixel of the

@@ -13,8 +13,8 @@ ghost use Rattle.vt_tiles.specs.Format.{stored};
 ghost use Rattle.vt_files.specs.Effects.{folder_effect};
 ghost use Rattle.vt_files.specs.Expectations.{AsksNone};
 ghost use Rattle.vt_files.specs.Pictures.{expected_picture, expected_pictures};
-ghost use Rattle.vt_pictures.specs.Scenes.{scene_of};
-ghost use Rattle.vt_pictures.specs.Replays.{HasPixels};
+ghost use Rattle.vt_replay_rows.specs.Scenes.{scene_of};
+ghost use Rattle.vt_replay_rows.specs.Replays.{HasPixels};
 ghost use Rattle.vt_replay_rows.specs.Following.{IsReadOn, Follows, MayBePlayed};
 ghost use Rattle.vt_replay.specs.Playing.{IsStaged, AreRowsWithin, ArePlayed, HasWritten};
 ghost use Rattle.vt_replay_rows.specs.ReplayLookups.{row_of, AreTiles};
@@ -28,11 +28,10 @@ use vt_camera::Path;
 use vt_definitions::texel_length;
 use vt_draw::Shot;
 use vt_files::Picture;
-use vt_filter::Filter;
 use vt_journal::{Journal, JournalText, PassText};
 use vt_outside::{File, Folder, NoMemory, OutsideError};
 use vt_pages::Geometry;
-use vt_replay_rows::{PageTable, Part, Tiles, draw_version, parts_for};
+use vt_replay_rows::{Filter, PageTable, Part, Tiles, draw_version, parts_for};
 use vt_tiles::Store;
 
 /// The table that follows the journal, the loaded tiles, and the room to draw in: the samples of a picture, a count for each page,

@@ -10,7 +10,7 @@ use Rattle.vt_journal.specs.Kept.{entry_of, entries_of}
 use Rattle.vt_tiles.specs.Format.{stored}
 use Rattle.vt_tiles.specs.StoreViews.{IsStore}
 use Rattle.vt_tiles.proofs.Stored.{pieces_hold_texels}
-use Rattle.vt_filter.specs.Evidence.{AreTrue}
+use Rattle.vt_pictures.specs.Evidence.{AreTrue}
 use Rattle.vt_replay_rows.specs.ReplayLookups.{ReplayLookupView, IsReplayLookup, IsTrueOf, IsIn, HasWord, AreTiles, entry_number, replay_lookup_base, row_of}
 use Rattle.vt_replay_rows.proofs.Places.{row_room}
 

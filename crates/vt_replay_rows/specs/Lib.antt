@@ -1,3 +1,5 @@
+pub use Rattle.vt_pictures.specs.Replays
+pub use Rattle.vt_pictures.specs.Scenes
 pub mod ReplayLookups
 pub mod Following
 pub mod Trying

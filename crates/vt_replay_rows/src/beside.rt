@@ -21,10 +21,10 @@ use std::thread::{Threads, join_mut};
 use vt_camera::Path;
 use vt_definitions::texel_length;
 use vt_draw::Shot;
-use vt_filter::Filter;
 use vt_outside::{File, NoMemory, OutsideError};
 use vt_pages::Geometry;
 use vt_parts::{processors, share, threads_for};
+use vt_pictures::Filter;
 use vt_tiles::Store;
 
 // How long a pixel takes at least, in nanoseconds.

@@ -16,8 +16,8 @@ use crate::table::PageTable;
 use crate::tiles::Tiles;
 use vt_definitions::texel_length;
 use vt_draw::Shot;
-use vt_filter::Filter;
 use vt_outside::{File, OutsideError};
+use vt_pictures::Filter;
 use vt_tiles::Store;
 
 /// What came of a row that was drawn over the loaded tiles: whether one was missed, and which pages were used and which missing.

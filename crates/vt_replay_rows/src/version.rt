@@ -17,9 +17,9 @@ use crate::table::PageTable;
 use crate::tiles::Tiles;
 use std::thread::Threads;
 use vt_draw::Shot;
-use vt_filter::Filter;
 use vt_journal::RowLine;
 use vt_outside::{File, OutsideError};
+use vt_pictures::Filter;
 use vt_tiles::Store;
 
 // How many rows a picture has at most.

@@ -6,19 +6,19 @@ use Rattle.std.proofs.lemmas.List.{map-append}
 use Rattle.std.proofs.lemmas.List.FromFn.{map-range_with_len_more}
 use Rattle.std.proofs.lemmas.List.Elements.{All-nil, All-push}
 use Rattle.std.proofs.lemmas.Option.{slice_get-get_or}
-use Rattle.vt_pages.specs.Shape.{Shape}
-use Rattle.vt_pages.specs.Pages.{pages_of}
-use Rattle.vt_tiles.specs.Format.{tile_length}
-use Rattle.vt_plan.specs.declared.batches.Planned.{Planned}
-use Rattle.vt_queue.specs.declared.items.Request.{Request}
-use Rattle.vt_queue.specs.declared.queue.Queue.{Queue}
-use Rattle.vt_queue.specs.declared.views.PassView.{PassView}
-use Rattle.vt_queue.specs.PassViews.{all_shares, first_view}
-use Rattle.vt_queue.specs.Orders.{items_of}
-use Rattle.vt_queue.specs.Steps.{Puts}
-use Rattle.vt_queue.specs.Queues.{capacity_of, WasFull}
-use Rattle.vt_queue.proofs.OrderLemmas.{puts_last, full_of}
-use Rattle.vt_load.specs.Readings.{is_readable}
+use Rattle.vt_table.specs.Shape.{Shape}
+use Rattle.vt_table.specs.Pages.{pages_of}
+use Rattle.vt_loaders.specs.Format.{tile_length}
+use Rattle.vt_machine.specs.PlanTypes.batches.Planned.{Planned}
+use Rattle.vt_loaders.specs.QueueTypes.items.Request.{Request}
+use Rattle.vt_loaders.specs.QueueTypes.queue.Queue.{Queue}
+use Rattle.vt_loaders.specs.QueueTypes.views.PassView.{PassView}
+use Rattle.vt_loaders.specs.PassViews.{all_shares, first_view}
+use Rattle.vt_loaders.specs.Orders.{items_of}
+use Rattle.vt_loaders.specs.Steps.{Puts}
+use Rattle.vt_loaders.specs.Queues.{capacity_of, WasFull}
+use Rattle.vt_loaders.proofs.OrderLemmas.{puts_last, full_of}
+use Rattle.vt_loaders.specs.Readings.{is_readable}
 use Rattle.vt_loaders.specs.Results.{wanted_by}
 use Rattle.vt_requests.specs.BatchRounds.{page_if, entry_asks, ArePut}
 

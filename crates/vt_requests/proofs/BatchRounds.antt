@@ -12,13 +12,13 @@ use Rattle.vt_outside.specs.declared.place.Place.{Place}
 use Rattle.vt_outside.specs.declared.outside.File.{Ghosts as FileMeanings}
 use Rattle.vt_outside.specs.Places.{times_asked, times_failed, is_read_of}
 use Rattle.vt_outside.specs.Counts.{RoseBy, RoseTogetherBy, count_end}
-use Rattle.vt_pages.specs.Shape.{Shape}
-use Rattle.vt_journal.specs.declared.changes.Event.{Event}
-use Rattle.vt_plan.specs.declared.batches.Planned.{Planned}
-use Rattle.vt_evict.specs.Batches.{read_entries}
-use Rattle.vt_queue.specs.declared.items.Loaded.{Loaded}
-use Rattle.vt_queue.specs.Orders.{items_of}
-use Rattle.vt_load.specs.Readings.{is_lost}
+use Rattle.vt_table.specs.Shape.{Shape}
+use Rattle.vt_table.specs.JournalTypes.changes.Event.{Event}
+use Rattle.vt_machine.specs.PlanTypes.batches.Planned.{Planned}
+use Rattle.vt_machine.specs.Batches.{read_entries}
+use Rattle.vt_loaders.specs.QueueTypes.items.Loaded.{Loaded}
+use Rattle.vt_loaders.specs.Orders.{items_of}
+use Rattle.vt_loaders.specs.Readings.{is_lost}
 use Rattle.vt_loaders.specs.Results.{given_by, read_place, lost_among, IsReadFor}
 use Rattle.vt_loaders.specs.Together.{Portion, all_put}
 use Rattle.vt_loaders.specs.QueuedLoaders.{QueuedView, stores_of}

@@ -3,16 +3,16 @@ use Rattle.std.proofs.Common.{◌≡◌, ℕ, List, ◌++◌, length, Option, So
 use Rattle.std.specs.Prelude.{MatchOption}
 use Rattle.std.proofs.lemmas.List.{append-nil}
 use Rattle.std.proofs.lemmas.Option.{none-some}
-use Rattle.vt_pages.specs.Shape.{Shape}
-use Rattle.vt_journal.specs.declared.changes.Change.{Change}
-use Rattle.vt_journal.specs.declared.changes.Change.TheVariants.{Unmap}
-use Rattle.vt_journal.specs.declared.changes.Event.{Event}
-use Rattle.vt_journal.specs.Changes.{Table, changed, newest, IsFree}
-use Rattle.vt_journal.specs.JournalText.{changes_of}
-use Rattle.vt_journal.proofs.Versions.{newest-more, mapped_after_unmap}
-use Rattle.vt_plan.specs.declared.batches.Planned.{Planned}
-use Rattle.vt_definitions.specs.Depths.{IsDepth, texel_length}
-use Rattle.vt_tiles.specs.Format.{tile_length}
+use Rattle.vt_table.specs.Shape.{Shape}
+use Rattle.vt_table.specs.JournalTypes.changes.Change.{Change}
+use Rattle.vt_table.specs.JournalTypes.changes.Change.TheVariants.{Unmap}
+use Rattle.vt_table.specs.JournalTypes.changes.Event.{Event}
+use Rattle.vt_table.specs.Changes.{Table, changed, newest, IsFree}
+use Rattle.vt_machine.specs.JournalText.{changes_of}
+use Rattle.vt_table.proofs.Versions.{newest-more, mapped_after_unmap}
+use Rattle.vt_machine.specs.PlanTypes.batches.Planned.{Planned}
+use Rattle.vt_table.specs.Depths.{IsDepth, texel_length}
+use Rattle.vt_loaders.specs.Format.{tile_length}
 use Rattle.vt_table.specs.Views.{TableView, IsTable, IsTile}
 use Rattle.vt_machine.specs.Outcomes.{IsEntryFor, IsVictimOf, victim_events}
 use Rattle.vt_requests.specs.Streams.{Publishes}

@@ -1,3 +1,5 @@
+pub use Rattle.vt_machine.proofs.Lent
+pub use Rattle.vt_machine.proofs.Streaming
 pub mod Entries
 pub mod Asking
 pub mod BatchRounds

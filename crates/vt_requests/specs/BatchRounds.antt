@@ -1,18 +1,18 @@
 -- A batch whose tiles are read by a round of requests.
 use Rattle.std.specs.Prelude.{◌≡◌, ℕ, ◌<◌, Bool, true, Option, Some, None, List, [], length, map, slice_get, slice_index_or, flat_map, All}
 use Rattle.std.specs.List.{range_with_len}
-use Rattle.vt_definitions.specs.Depths.{IsDepth}
+use Rattle.vt_table.specs.Depths.{IsDepth}
 use Rattle.vt_outside.specs.declared.outside.File.{Ghosts as FileMeanings}
-use Rattle.vt_pages.specs.Shape.{Shape}
-use Rattle.vt_journal.specs.declared.changes.Event.{Event}
-use Rattle.vt_plan.specs.declared.batches.Planned.{Planned}
-use Rattle.vt_queue.specs.declared.items.Request.{Request}
-use Rattle.vt_queue.specs.declared.items.Loaded.{Loaded}
-use Rattle.vt_queue.specs.declared.views.PassView.{PassView}
-use Rattle.vt_queue.specs.PassViews.{all_shares}
-use Rattle.vt_queue.specs.Orders.{items_of}
+use Rattle.vt_table.specs.Shape.{Shape}
+use Rattle.vt_table.specs.JournalTypes.changes.Event.{Event}
+use Rattle.vt_machine.specs.PlanTypes.batches.Planned.{Planned}
+use Rattle.vt_loaders.specs.QueueTypes.items.Request.{Request}
+use Rattle.vt_loaders.specs.QueueTypes.items.Loaded.{Loaded}
+use Rattle.vt_loaders.specs.QueueTypes.views.PassView.{PassView}
+use Rattle.vt_loaders.specs.PassViews.{all_shares}
+use Rattle.vt_loaders.specs.Orders.{items_of}
 use Rattle.vt_loaders.specs.declared.queued.Queues.{Queues}
-use Rattle.vt_load.specs.Readings.{is_lost, is_readable}
+use Rattle.vt_loaders.specs.Readings.{is_lost, is_readable}
 use Rattle.vt_loaders.specs.Results.{wanted_by}
 use Rattle.vt_loaders.specs.QueuedLoaders.{QueuedView, HasLoaded, IsLoaderOf, AreSplitOff}
 use Rattle.vt_machine.specs.Outcomes.{group_if}

@@ -1,7 +1,7 @@
 -- What an entry that is put into a page table does.
 use Rattle.std.specs.Prelude.{◌≡◌, ◌++◌, List}
-use Rattle.vt_journal.specs.declared.changes.Event.{Event}
-use Rattle.vt_journal.specs.JournalText.{changes_of}
+use Rattle.vt_table.specs.JournalTypes.changes.Event.{Event}
+use Rattle.vt_machine.specs.JournalText.{changes_of}
 use Rattle.vt_table.specs.Views.{TableView}
 
 -- the changes of some events were made, and the events noted

@@ -1,20 +1,20 @@
 //! Requests for the tiles of a batch.
 
 ghost use Rattle.std.specs.Prelude.{◌≡◌, ℕ, ◌<◌, ◌≤◌, ◌+◌, ◌^◌, [], ◌∷◌, ◌++◌, length, All, slice_get};
-ghost use Rattle.vt_pages.specs.Shape.{Shape};
-ghost use Rattle.vt_pages.specs.Pages.{pages_of};
-ghost use Rattle.vt_tiles.specs.Format.{tile_length};
-ghost use Rattle.vt_queue.specs.PassViews.{first_view};
-ghost use Rattle.vt_queue.specs.Steps.{Puts};
-ghost use Rattle.vt_queue.specs.Queues.{view_of, splits_of, IsOf, capacity_of, WasFull};
+ghost use Rattle.vt_table.specs.Shape.{Shape};
+ghost use Rattle.vt_table.specs.Pages.{pages_of};
+ghost use Rattle.vt_loaders.specs.Format.{tile_length};
+ghost use Rattle.vt_loaders.specs.PassViews.{first_view};
+ghost use Rattle.vt_loaders.specs.Steps.{Puts};
+ghost use Rattle.vt_loaders.specs.Queues.{view_of, splits_of, IsOf, capacity_of, WasFull};
 ghost use Rattle.vt_requests.specs.BatchRounds.{ArePut, page_if};
 ghost use Rattle.vt_requests.specs.Sizes.{AreSized};
 
 use std::sync::Wait;
 use std::thread::Threads;
-use vt_evict::Planned;
+use vt_loaders::{Loaded, QueuePass, Request, RequestQueue};
+use vt_machine::Planned;
 use vt_outside::{Bytes, Items};
-use vt_queue::{Loaded, QueuePass, Request, RequestQueue};
 
 // The request for an entry of a batch, by its place, with a buffer from the end of a list.
 fn request_for(batch: &[Planned], ticket: usize, buffers: &mut Items<Bytes>) -> Request

@@ -8,3 +8,4 @@ mod rounds;
 pub use asks::{ask_batch, give_back};
 pub use dealing::{answered, sampler_of};
 pub use rounds::rounds_are_passes;
+pub use vt_machine::{Crew, Losses, PassMachine, PassReport, Planned, Task};

@@ -1,10 +1,10 @@
 //! A batch whose tiles are read by loaders through two queues.
 
 ghost use Rattle.std.specs.Prelude.{◌≡◌, ℕ, Bool, List, length, All, Option};
-ghost use Rattle.vt_pages.specs.Shape.{Shape};
-ghost use Rattle.vt_journal.specs.declared.changes.Event.{Event};
-ghost use Rattle.vt_plan.specs.declared.batches.Planned.{Planned as Entry};
-ghost use Rattle.vt_queue.specs.Orders.{items_of};
+ghost use Rattle.vt_table.specs.Shape.{Shape};
+ghost use Rattle.vt_table.specs.JournalTypes.changes.Event.{Event};
+ghost use Rattle.vt_machine.specs.PlanTypes.batches.Planned.{Planned as Entry};
+ghost use Rattle.vt_loaders.specs.Orders.{items_of};
 ghost use Rattle.vt_loaders.specs.QueuedLoaders.{stores_of};
 ghost use Rattle.vt_loaders.specs.Rounds.{Round, AreServed};
 ghost use Rattle.vt_machine.specs.Outcomes.{IsOrder, IsOutcome};

@@ -2,7 +2,7 @@
 use Rattle.std.proofs.Common.{◌≡◌, ℕ, suc, ◌+◌, ◌<◌, Bool, true, false, Option, None, Some, List, [], ◌∷◌, slice_get, refl, ap, ◌∙◌, arith, nat_lt, slice_index}
 use Rattle.std.specs.Prelude.{MatchOption}
 use Rattle.std.proofs.lemmas.Bool.Decides.{nat_tests}
-use Rattle.vt_plan.specs.Missing.{is_mapped}
+use Rattle.vt_evict.specs.Missing.{is_mapped}
 use Rattle.vt_residency.specs.declared.places.Place.{Place}
 use Rattle.vt_residency.specs.Places.{IsPlaceOf}
 use Rattle.std.specs.List.{position_or_len}

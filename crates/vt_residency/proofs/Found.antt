@@ -3,8 +3,8 @@ use Rattle.std.proofs.Common.{◌≡◌, ℕ, suc, ◌<◌, ◌||◌, Bool, true
 use Rattle.std.specs.Prelude.{Contains}
 use Rattle.std.specs.List.{list_any}
 use Rattle.std.proofs.lemmas.Bool.{false≢true}
-use Rattle.vt_plan.specs.PageLists.{is_in}
-use Rattle.vt_plan.proofs.ListLemmas.{nat_eq_true}
+use Rattle.vt_evict.specs.PageLists.{is_in}
+use Rattle.vt_evict.proofs.PlanListLemmas.{nat_eq_true}
 
 -- a page that is in a list is at a place of it
 pub in_found : (xs : List ℕ) (p : ℕ) → is_in xs p ≡ true → (k : ℕ) × (k < length xs) × (slice_index xs k ≡ p)

@@ -1,6 +1,6 @@
 -- The pages of a level among those of the chain.
 use Rattle.std.proofs.Common.{◌≡◌, ℕ, suc, ◌+◌, ◌-◌, ◌*◌, ◌/◌, ◌<◌, ◌≤◌, refl, arith}
-use Rattle.vt_definitions.specs.Sides.{side}
+use Rattle.vt_pages.specs.Sides.{side}
 use Rattle.vt_pages.specs.Shape.{Shape}
 use Rattle.vt_pages.specs.Pages.{columns_at, rows_at, levels_of, pages_of, pages_below, index_at, texel_page}
 use Rattle.vt_pages.proofs.Counts.{pages_below-suc, pages_below_le, pages_of-is}

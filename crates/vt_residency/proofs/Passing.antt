@@ -5,12 +5,12 @@ use Rattle.std.specs.List.{All, range_with_len}
 use Rattle.std.proofs.lemmas.List.{get_or_default}
 use Rattle.std.proofs.lemmas.List.Filters.{length-filter_both}
 use Rattle.std.proofs.lemmas.List.FromFn.{length-range_with_len, length-map-range_with_len}
-use Rattle.vt_definitions.specs.Limits.{most_frames}
+use Rattle.vt_pages.specs.Limits.{most_frames}
 use Rattle.vt_pages.specs.Shape.{Shape}
 use Rattle.vt_pages.specs.Pages.{pages_of}
 use Rattle.vt_feedback.specs.declared.Wanted.{Wanted}
 use Rattle.vt_feedback.specs.Wants.{IsWants}
-use Rattle.vt_plan.specs.declared.batches.Planned.{Planned}
+use Rattle.vt_evict.specs.PlanTypes.batches.Planned.{Planned}
 use Rattle.vt_evict.specs.Views.{RecencyView, IsTable, is_held, free_frames}
 use Rattle.vt_evict.specs.Batches.{IsLawful}
 use Rattle.vt_residency.specs.Residencies.{ResidencyView, IsPlanned, IsPassed, pinned_at}

@@ -10,7 +10,7 @@ use Rattle.std.proofs.lemmas.Map.Keys.{IsDistinct-from_apart, apart_from_distinc
 use Rattle.vt_outside.specs.Lists.{ListView}
 use Rattle.vt_pages.specs.Shape.{Shape}
 use Rattle.vt_pages.specs.Pages.{pages_of}
-use Rattle.vt_plan.specs.PageLists.{is_in}
+use Rattle.vt_evict.specs.PageLists.{is_in}
 use Rattle.vt_feedback.specs.declared.ranks.Rank.{Rank}
 use Rattle.vt_feedback.specs.Ranks.{rank_of, wanted_by}
 use Rattle.vt_feedback.specs.Wants.{IsWants}

@@ -6,7 +6,7 @@ use Rattle.std.proofs.Math.Seq.{map-set_same}
 use Rattle.std.proofs.lemmas.Bool.Decides.{nat_tests}
 use Rattle.std.proofs.lemmas.List.{length-map, map-set}
 use Rattle.vt_outside.specs.Lists.{ListView}
-use Rattle.vt_plan.specs.PageLists.{is_in}
+use Rattle.vt_evict.specs.PageLists.{is_in}
 use Rattle.vt_evict.specs.Kept.{IsWalk}
 use Rattle.vt_evict.proofs.WalkLemmas.{marked_below, room_at, added_walk, popped_walk, last_below, no_walk}
 use Rattle.std.proofs.Common.{zero, suc, cond, take}
@@ -17,7 +17,7 @@ use Rattle.std.proofs.lemmas.List.Folds.{list_any_at}
 use Rattle.std.proofs.lemmas.List.Elements.{All-from_get_or}
 use Rattle.std.proofs.lemmas.List.Sums.{sum_by_more, sum_by_push}
 use Rattle.vt_feedback.specs.Ranks.{most_pixels}
-use Rattle.vt_plan.proofs.ListLemmas.{nat_eq_true}
+use Rattle.vt_evict.proofs.PlanListLemmas.{nat_eq_true}
 use Rattle.vt_evict.proofs.SettleLemmas.{self_eq, eq_false}
 use Rattle.vt_residency.specs.declared.feedback.Listed.{Listed}
 use Rattle.vt_residency.specs.Tallies.{IsTally, pixels_for, pixels_of, one_pixel}

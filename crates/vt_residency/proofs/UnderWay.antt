@@ -12,10 +12,10 @@ use Rattle.std.proofs.lemmas.List.Folds.{list_any_at}
 use Rattle.std.proofs.lemmas.List.FromFn.{length-range_with_len}
 use Rattle.std.proofs.lemmas.Map.Keys.{IsDistinct-from_apart}
 use Rattle.std.proofs.lemmas.Map.Made.{length-le_from_is_member}
-use Rattle.vt_definitions.specs.Limits.{most_frames}
+use Rattle.vt_pages.specs.Limits.{most_frames}
 use Rattle.vt_feedback.specs.declared.Wanted.{Wanted}
-use Rattle.vt_plan.specs.declared.batches.Planned.{Planned}
-use Rattle.vt_plan.proofs.ListLemmas.{nat_eq_true}
+use Rattle.vt_evict.specs.PlanTypes.batches.Planned.{Planned}
+use Rattle.vt_evict.proofs.PlanListLemmas.{nat_eq_true}
 use Rattle.vt_evict.specs.Views.{RecencyView, IsTable, touched}
 use Rattle.vt_evict.specs.Batches.{IsFree, IsVictim, IsLawful, IsLawfulEntry, IsSettled, is_page, is_read, is_victim, read_entries}
 use Rattle.vt_evict.proofs.ListLemmas.{below_in}

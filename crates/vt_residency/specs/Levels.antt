@@ -1,6 +1,6 @@
 -- The levels of a mip chain as callers see them, and the page table of one.
 use Rattle.std.specs.Prelude.{◌≡◌, ℕ, ◌*◌, ◌<◌, List, take, drop}
-use Rattle.vt_definitions.specs.Sides.{side}
+use Rattle.vt_pages.specs.Sides.{side}
 use Rattle.vt_pages.specs.Shape.{Shape}
 use Rattle.vt_pages.specs.Pages.{columns_at, rows_at, levels_of, pages_below}
 use Rattle.vt_residency.specs.declared.levels.Level.{Level}

@@ -1,7 +1,7 @@
 -- Loads that are under way.
 use Rattle.std.specs.Prelude.{◌≡◌, ℕ, ◌<◌, ◌≤◌, nat_eq, Bool, not, ◌||◌, Option, None, Some, List, map, take, drop, length}
 use Rattle.std.specs.List.{list_any}
-use Rattle.vt_plan.specs.declared.batches.Planned.{Planned}
+use Rattle.vt_evict.specs.PlanTypes.batches.Planned.{Planned}
 use Rattle.vt_residency.specs.declared.loads.Load.{Load}
 
 -- a page, or the number that stands for none

@@ -3,7 +3,7 @@ use Rattle.std.specs.Prelude.{◌≡◌, ℕ, ◌+◌, Some, List, slice_index}
 use Rattle.vt_pages.specs.Shape.{Shape}
 use Rattle.vt_pages.specs.Pages.{level_of}
 use Rattle.vt_pages.specs.Lookups.{lookup}
-use Rattle.vt_plan.specs.Missing.{is_mapped}
+use Rattle.vt_evict.specs.Missing.{is_mapped}
 use Rattle.vt_residency.specs.declared.places.Place.{Place}
 
 -- a place is that of a page's look-up, and its frame and level are that page's

@@ -1,13 +1,13 @@
 -- What is seen of a residency: the table with the order of its pages, the loads that are under way, and what came last.
 use Rattle.std.specs.Prelude.{◌≡◌, ℕ, ◌+◌, ◌-◌, ◌≤◌, not, nat_eq, Bool, None, List, [], ◌++◌, map, length}
 use Rattle.std.specs.List.{filter, flat_map, range_with_len}
-use Rattle.vt_definitions.specs.Limits.{most_frames}
+use Rattle.vt_pages.specs.Limits.{most_frames}
 use Rattle.vt_outside.specs.Lists.{ListView}
 use Rattle.vt_pages.specs.Shape.{Shape}
 use Rattle.vt_pages.specs.Pages.{pages_of}
 use Rattle.vt_feedback.specs.declared.Wanted.{Wanted}
 use Rattle.vt_feedback.specs.Wants.{IsWants}
-use Rattle.vt_plan.specs.declared.batches.Planned.{Planned}
+use Rattle.vt_evict.specs.PlanTypes.batches.Planned.{Planned}
 use Rattle.vt_evict.specs.Views.{RecencyView, IsTable, free_frames, touched, first_view}
 use Rattle.vt_evict.specs.Batches.{IsLawful, IsSettled, read_entries}
 use Rattle.vt_evict.specs.Plans.{plan_of}

@@ -3,7 +3,7 @@
 ghost use Rattle.std.specs.Prelude.{◌≡◌, ◌+◌, ◌<◌, length, slice_index, MatchOption, None};
 ghost use Rattle.vt_pages.specs.Pages.{IsWithinLimits, pages_of};
 ghost use Rattle.vt_pages.specs.Lookups.{lookup};
-ghost use Rattle.vt_plan.specs.Missing.{is_mapped};
+ghost use Rattle.vt_evict.specs.Missing.{is_mapped};
 ghost use Rattle.vt_residency.specs.Places.{IsPlaceOf};
 
 use vt_pages::Geometry;

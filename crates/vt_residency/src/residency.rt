@@ -4,10 +4,10 @@ ghost use Rattle.std.specs.Prelude.{◌≡◌, ℕ, ◌+◌, ◌-◌, ◌<◌, �
 ghost use Rattle.std.specs.Bool.{MatchBool};
 ghost use Rattle.std.specs.List.{All, range_with_len};
 ghost use Rattle.vt_residency.specs.Levels.{IsLevelTable, HasLevelLength};
-ghost use Rattle.vt_definitions.specs.Limits.{most_frames};
+ghost use Rattle.vt_pages.specs.Limits.{most_frames};
 ghost use Rattle.vt_pages.specs.Pages.{IsWithinLimits, pages_of, pages_below, levels_of};
 ghost use Rattle.vt_pages.specs.Lookups.{lookup};
-ghost use Rattle.vt_plan.specs.Missing.{is_mapped};
+ghost use Rattle.vt_evict.specs.Missing.{is_mapped};
 ghost use Rattle.vt_evict.specs.Views.{IsTable, free_frames};
 ghost use Rattle.vt_evict.specs.Batches.{IsLawful, read_entries};
 ghost use Rattle.vt_residency.specs.Places.{IsPlaceOf};

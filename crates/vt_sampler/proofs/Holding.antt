@@ -4,8 +4,8 @@ use Rattle.std.specs.Prelude.{Contains, slice_index, slice_set}
 use Rattle.std.proofs.lemmas.Bool.{cases_lt}
 use Rattle.std.proofs.lemmas.List.{get_or-set_same, get_or-set_other}
 use Rattle.std.proofs.lemmas.List.Elements.{All-contains, All-contains_itself, Contains-append_left, Contains-append_right}
-use Rattle.vt_grace.specs.declared.views.PassView.{PassView}
-use Rattle.vt_grace.specs.PassViews.{NoneAbove}
+use Rattle.vt_lookup.specs.GraceTypes.views.PassView.{PassView}
+use Rattle.vt_lookup.specs.PassViews.{NoneAbove}
 use Rattle.vt_lookup.specs.Notes.{HasHeldMore}
 use Rattle.vt_sampler.specs.Held.{WasHeld}
 use Rattle.vt_sampler.proofs.Quotients.{quotient_before, apart}

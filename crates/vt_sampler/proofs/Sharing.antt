@@ -13,7 +13,7 @@ use Rattle.vt_pages.specs.Shape.{Shape}
 use Rattle.vt_camera.specs.Paths.{PathView, ArePictureSides}
 use Rattle.vt_camera.specs.Rows.{RowView}
 use Rattle.vt_draw.specs.Shots.{shot_row, wants_in_rows}
-use Rattle.vt_filter.specs.FilterLaws.{WantsFew}
+use Rattle.vt_lookup.specs.FilterLaws.{WantsFew}
 use Rattle.vt_sampler.specs.Samplers.{own_rows, own_count, row_in}
 use Rattle.vt_sampler.proofs.Quotients.{apart, quotient_from, rest_small}
 

@@ -5,17 +5,15 @@ ghost use Rattle.vt_definitions.specs.Limits.{most_samplers};
 ghost use Rattle.vt_definitions.specs.Depths.{IsDepth, texel_length};
 ghost use Rattle.vt_pages.specs.Pages.{pages_of};
 ghost use Rattle.vt_draw.specs.Shots.{shot_row, wants_in_rows};
-ghost use Rattle.vt_filter.specs.Evidence.{AreShown};
-ghost use Rattle.vt_grace.specs.Tokens.{IsPassOf};
+ghost use Rattle.vt_lookup.specs.Evidence.{AreShown};
+ghost use Rattle.vt_lookup.specs.Tokens.{IsPassOf};
 ghost use Rattle.vt_lookup.specs.Notes.{Fits, IsNotedIn, HasHeldMore};
 ghost use Rattle.vt_sampler.specs.Held.{WasHeld};
 ghost use Rattle.vt_sampler.specs.Samplers.{own_rows, own_count, row_in, row_length};
 
 use vt_definitions::texel_length;
 use vt_draw::Shot;
-use vt_filter::Filter;
-use vt_grace::{Pass, Words};
-use vt_lookup::draw_held;
+use vt_lookup::{Filter, Pass, Words, draw_held};
 use vt_outside::Gate;
 
 /// Draws the rows of a sampler of a picture by a filter over a table of words, one after the other, each in the newest version,

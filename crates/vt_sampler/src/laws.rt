@@ -7,7 +7,7 @@ ghost use Rattle.vt_camera.specs.Paths.{PathView, ArePictureSides};
 ghost use Rattle.vt_sampler.specs.Samplers.{own_rows};
 ghost use Rattle.vt_draw.specs.Shots.{wants_in_rows};
 
-use vt_filter::Filter;
+use vt_lookup::Filter;
 
 /// What the samplers of a picture count together is what all its rows want.
 pub fn samplers_share_the_rows<P: Filter>()

@@ -2,7 +2,7 @@
 
 ghost use Rattle.std.specs.Prelude.{◌≡◌, ◌*◌, ◌<◌, Some, None, length, IfSome, IfNone};
 ghost use Rattle.vt_pages.specs.Pages.{pages_of, index_of, IsPage};
-ghost use Rattle.vt_journal.specs.Changes.{newest};
+ghost use Rattle.vt_table.specs.Changes.{newest};
 ghost use Rattle.vt_draw.specs.Lookups.{IsFinest};
 ghost use Rattle.vt_table.specs.Views.{TableView, IsMapped, word_in};
 ghost use Rattle.vt_sampler.specs.Notes.{IsTrueOf, MapsRoot};

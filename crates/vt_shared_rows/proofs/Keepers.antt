@@ -8,12 +8,12 @@ use Rattle.std.proofs.lemmas.List.Quantifiers.{all_pairs_push}
 use Rattle.std.proofs.lemmas.List.Elements.{All-weaker, All-push}
 use Rattle.std.proofs.lemmas.List.Sums.{sum_by-le}
 use Rattle.vt_pages.specs.Shape.{Shape}
-use Rattle.vt_camera.specs.Paths.{PathView}
-use Rattle.vt_camera.specs.Rows.{RowView}
+use Rattle.vt_draw.specs.Paths.{PathView}
+use Rattle.vt_draw.specs.Rows.{RowView}
 use Rattle.vt_draw.specs.Shots.{shot_row, wants_in_rows}
-use Rattle.vt_filter.specs.declared.filters.Filter.{Ghosts as FilterMeanings}
-use Rattle.vt_filter.specs.Evidence.{AreShown}
-use Rattle.vt_filter.proofs.Handed.{shown_by_more}
+use Rattle.vt_pictures.specs.declared.filters.Filter.{Ghosts as FilterMeanings}
+use Rattle.vt_pictures.specs.Evidence.{AreShown}
+use Rattle.vt_pictures.proofs.Handed.{shown_by_more}
 use Rattle.vt_grace.specs.declared.views.PassView.{PassView}
 use Rattle.vt_grace.specs.PassViews.{NoneAbove}
 use Rattle.vt_lookup.specs.Notes.{IsNotedIn, HasHeldMore}

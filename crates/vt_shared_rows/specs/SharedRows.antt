@@ -3,10 +3,10 @@ use Rattle.std.specs.Prelude.{◌≡◌, ℕ, ◌<◌, ◌≤◌, ◌⊎◌, Som
 use Rattle.std.specs.List.{range_with_len}
 use Rattle.vt_pages.specs.Shape.{Shape}
 use Rattle.vt_pages.specs.Pages.{pages_of}
-use Rattle.vt_camera.specs.Paths.{PathView}
+use Rattle.vt_draw.specs.Paths.{PathView}
 use Rattle.vt_draw.specs.Shots.{shot_row, wants_in_rows}
-use Rattle.vt_filter.specs.declared.filters.Filter.{Ghosts as FilterMeanings}
-use Rattle.vt_filter.specs.Evidence.{AreShown}
+use Rattle.vt_pictures.specs.declared.filters.Filter.{Ghosts as FilterMeanings}
+use Rattle.vt_pictures.specs.Evidence.{AreShown}
 use Rattle.vt_grace.specs.declared.views.PassView.{PassView as WordsPass}
 use Rattle.vt_lookup.specs.Notes.{IsNotedIn}
 use Rattle.vt_sampler.specs.Held.{WasHeld}

@@ -3,9 +3,9 @@
 ghost use Rattle.std.specs.Prelude.{◌≡◌, ℕ, ◌+◌, ◌*◌, ◌<◌, ◌≤◌, ◌^◌, true, List, [], ◌∷◌, length, slice_index, All, MatchBool, IfSome, IfNone};
 ghost use Rattle.vt_definitions.specs.Depths.{IsDepth};
 ghost use Rattle.vt_pages.specs.Pages.{pages_of};
-ghost use Rattle.vt_camera.specs.Paths.{ArePictureSides};
+ghost use Rattle.vt_draw.specs.Paths.{ArePictureSides};
 ghost use Rattle.vt_draw.specs.Shots.{shot_row, wants_in_rows};
-ghost use Rattle.vt_filter.specs.Evidence.{AreShown, AreRaised};
+ghost use Rattle.vt_pictures.specs.Evidence.{AreShown, AreRaised};
 ghost use Rattle.vt_grace.specs.PassViews.{NoneAbove};
 ghost use Rattle.vt_grace.specs.Tokens.{IsPassOf};
 ghost use Rattle.vt_lookup.specs.Notes.{Fits, IsNotedIn, HasHeldMore};
@@ -18,10 +18,10 @@ use crate::bag::{BagPass, RowBag, RowJob};
 use std::sync::Wait;
 use vt_definitions::texel_length;
 use vt_draw::Shot;
-use vt_filter::Filter;
 use vt_grace::{Pass, Words};
 use vt_lookup::draw_held;
 use vt_outside::{Gate, Items};
+use vt_pictures::Filter;
 
 // Whether it is a row of the shot's picture, with as many bytes as a row has.
 fn fits(job: &RowJob, shot: &Shot) -> bool

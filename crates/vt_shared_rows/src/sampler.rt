@@ -12,10 +12,10 @@ use crate::rows::draw_rows;
 use std::alloc::Global;
 use std::sync::Wait;
 use vt_draw::Shot;
-use vt_filter::Filter;
 use vt_grace::{Pass, Words};
 use vt_outside::{Gate, Items, NoMemory};
 use vt_pages::Geometry;
+use vt_pictures::Filter;
 
 /// A sampler that takes rows from a bag and keeps those that it has drawn.
 #[derive(Drop)]

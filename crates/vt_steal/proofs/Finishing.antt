@@ -13,9 +13,9 @@ use Rattle.vt_journal.specs.declared.changes.Change.{Change}
 use Rattle.vt_journal.specs.declared.changes.Event.{Event}
 use Rattle.vt_journal.specs.declared.changes.RowLine.{RowLine}
 use Rattle.vt_journal.specs.JournalText.{changes_of}
-use Rattle.vt_filter.specs.declared.filters.Filter.{Ghosts as FilterMeanings}
-use Rattle.vt_filter.specs.Evidence.{AreShown}
-use Rattle.vt_filter.specs.FilterLaws.{IsUnder}
+use Rattle.vt_pictures.specs.declared.filters.Filter.{Ghosts as FilterMeanings}
+use Rattle.vt_pictures.specs.Evidence.{AreShown}
+use Rattle.vt_pictures.specs.FilterLaws.{IsUnder}
 use Rattle.vt_tiles.specs.Format.{stored}
 use Rattle.vt_pictures.specs.Replays.{IsFull, AreReplayed}
 use Rattle.vt_grace.specs.Values.{WordsValue}
@@ -30,11 +30,11 @@ use Rattle.vt_machine.specs.Requests.{AreReadFor}
 use Rattle.vt_machine.specs.Machines.{files_of, told_by}
 use Rattle.vt_machine.specs.Passes.{IsPictured, Ends}
 use Rattle.vt_requests.specs.BatchRounds.{result_events}
-use Rattle.vt_streaming.specs.Made.{HasStreamed, results_contents}
-use Rattle.vt_noted.specs.Noted.{IsNotedBy}
-use Rattle.vt_noted.specs.Stored.{AreStored}
-use Rattle.vt_noted.proofs.Growing.{stored_grow}
-use Rattle.vt_noted.proofs.Replayed.{picture_replayed}
+use Rattle.vt_word_workers.specs.Made.{HasStreamed, results_contents}
+use Rattle.vt_word_workers.specs.Noted.{IsNotedBy}
+use Rattle.vt_word_workers.specs.Stored.{AreStored}
+use Rattle.vt_word_workers.proofs.Growing.{stored_grow}
+use Rattle.vt_word_workers.proofs.Replayed.{picture_replayed}
 use Rattle.vt_word_workers.specs.declared.workers.WordStreamer.{WordStreamer}
 use Rattle.vt_word_workers.proofs.Contents.{results_stored}
 use Rattle.vt_word_workers.proofs.Returned.{journal_stays, contents_stay}

@@ -19,7 +19,7 @@ use Rattle.vt_grace.specs.declared.views.WriterView.{WriterView}
 use Rattle.vt_grace.specs.Sizes.{sizes_of}
 use Rattle.vt_grace.specs.WriterViews.{first_writer, is_out}
 use Rattle.vt_grace.specs.Values.{WordsValue}
-use Rattle.vt_lookup.specs.Notes.{Fits}
+use Rattle.vt_shared_rows.specs.Notes.{Fits}
 use Rattle.vt_streamer.specs.Fills.{words_in}
 use Rattle.vt_streamer.specs.Views.{StreamerView, IsStreamerOf}
 use Rattle.vt_workers.specs.Jobs.{Job}
@@ -28,8 +28,8 @@ use Rattle.vt_loaders.specs.declared.queued.Queues.{Queues}
 use Rattle.vt_machine.specs.declared.crew.Crew.{Crew}
 use Rattle.vt_machine.specs.Machines.{told_by}
 use Rattle.vt_machine.specs.Passes.{MapsRoot, MayPlace, IsJobFor, IsUntouched, IsSpent}
-use Rattle.vt_noted.specs.Stored.{AreStored}
-use Rattle.vt_noted.proofs.Growing.{stored_grow}
+use Rattle.vt_word_workers.specs.Stored.{AreStored}
+use Rattle.vt_word_workers.proofs.Growing.{stored_grow}
 use Rattle.vt_word_workers.specs.declared.workers.WordStreamer.{WordStreamer}
 use Rattle.vt_word_workers.specs.Kits.{AreAllIn}
 use Rattle.vt_word_workers.proofs.Rooms.{told_same, files_same}

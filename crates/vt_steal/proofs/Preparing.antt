@@ -7,14 +7,14 @@ use Rattle.vt_grace.specs.declared.views.WriterView.{WriterView}
 use Rattle.vt_grace.specs.Values.{WordsValue}
 use Rattle.vt_streamer.specs.Views.{StreamerView, IsStreamerOf}
 use Rattle.vt_plan.specs.declared.batches.Planned.{Planned}
-use Rattle.vt_queue.specs.declared.queue.QueuePass.{QueuePass}
-use Rattle.vt_queue.specs.declared.items.Loaded.{Loaded}
+use Rattle.vt_loaders.specs.QueueTypes.queue.QueuePass.{QueuePass}
+use Rattle.vt_loaders.specs.QueueTypes.items.Loaded.{Loaded}
 use Rattle.vt_loaders.specs.declared.queued.Queues.{Queues}
 use Rattle.vt_machine.specs.declared.crew.Crew.{Crew}
 use Rattle.vt_machine.specs.Machines.{told_by}
 use Rattle.vt_machine.specs.Outcomes.{IsBatchFor}
-use Rattle.vt_noted.specs.Stored.{AreStored}
-use Rattle.vt_streaming.specs.declared.report.StreamReport.{StreamReport}
+use Rattle.vt_word_workers.specs.Stored.{AreStored}
+use Rattle.vt_word_workers.specs.StreamingTypes.report.StreamReport.{StreamReport}
 use Rattle.vt_word_workers.specs.GivenPasses.{HaveNewPasses, HasGiven}
 use Rattle.vt_word_workers.proofs.Rooms.{told_same}
 use Rattle.vt_stream_kit.specs.StreamKits.{StreamKitView, IsAskedStream, IsSameStream}

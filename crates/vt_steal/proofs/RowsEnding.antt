@@ -5,8 +5,8 @@ use Rattle.std.specs.List.{refill}
 use Rattle.std.proofs.lemmas.List.{length-map}
 use Rattle.vt_outside.specs.Lists.{ListView}
 use Rattle.vt_journal.specs.declared.changes.RowLine.{RowLine}
-use Rattle.vt_filter.specs.declared.filters.Filter.{Ghosts as FilterMeanings}
-use Rattle.vt_filter.specs.FilterLaws.{WantsFew}
+use Rattle.vt_pictures.specs.declared.filters.Filter.{Ghosts as FilterMeanings}
+use Rattle.vt_pictures.specs.FilterLaws.{WantsFew}
 use Rattle.vt_grace.specs.declared.sizes.Sizes.{Sizes}
 use Rattle.vt_grace.specs.declared.views.WriterView.{WriterView}
 use Rattle.vt_grace.specs.Sound.{IsSound}
@@ -14,8 +14,8 @@ use Rattle.vt_grace.specs.Values.{WordsValue}
 use Rattle.vt_grace.specs.WriterViews.{is_out}
 use Rattle.vt_streamer.specs.Views.{StreamerView, IsStreamerOf}
 use Rattle.vt_pictures.specs.Scenes.{Scene}
-use Rattle.vt_queue.specs.declared.views.PassView.{PassView}
-use Rattle.vt_queue.specs.Steps.{IsAtStep}
+use Rattle.vt_loaders.specs.QueueTypes.views.PassView.{PassView}
+use Rattle.vt_loaders.specs.Steps.{IsAtStep}
 use Rattle.vt_word_workers.specs.GivenPasses.{all_returned, without_passes}
 use Rattle.vt_word_workers.proofs.Returned.{have_returned}
 use Rattle.vt_shared_rows.specs.declared.bag.RowJob.{RowJob}

@@ -6,16 +6,16 @@ use Rattle.vt_pages.specs.Pages.{pages_of}
 use Rattle.vt_camera.specs.Paths.{PathView}
 use Rattle.vt_draw.specs.Shots.{shot_row}
 use Rattle.vt_journal.specs.declared.changes.RowLine.{RowLine}
-use Rattle.vt_filter.specs.declared.filters.Filter.{Ghosts as FilterMeanings}
-use Rattle.vt_filter.specs.Evidence.{AreShown}
-use Rattle.vt_filter.specs.FilterLaws.{picture_wants}
+use Rattle.vt_pictures.specs.declared.filters.Filter.{Ghosts as FilterMeanings}
+use Rattle.vt_pictures.specs.Evidence.{AreShown}
+use Rattle.vt_pictures.specs.FilterLaws.{picture_wants}
 use Rattle.vt_pictures.specs.Scenes.{Scene}
 use Rattle.vt_grace.specs.declared.views.WriterView.{WriterView}
 use Rattle.vt_grace.specs.declared.views.Returned.{Returned}
 use Rattle.vt_grace.specs.WriterViews.{version_of}
 use Rattle.vt_grace.specs.Values.{WordsValue}
 use Rattle.vt_streamer.specs.Views.{StreamerView, IsStreamerOf}
-use Rattle.vt_noted.specs.Noted.{IsNotedBy}
+use Rattle.vt_word_workers.specs.Noted.{IsNotedBy}
 use Rattle.vt_workers.specs.All.{AllDid}
 use Rattle.vt_word_workers.specs.GivenPasses.{HaveNewPasses, all_returned}
 use Rattle.vt_word_workers.specs.HeldPasses.{IsHeldRow}

@@ -3,9 +3,9 @@ use Rattle.std.specs.Prelude.{◌≡◌, ℕ, ◌<◌, true, Some, List, length}
 use Rattle.vt_definitions.specs.Depths.{IsDepth}
 use Rattle.vt_grace.specs.Values.{WordsValue, PassValue}
 use Rattle.vt_grace.specs.Tokens.{IsPassOf}
-use Rattle.vt_lookup.specs.Notes.{Fits, HasHeldMore}
+use Rattle.vt_shared_rows.specs.Notes.{Fits, HasHeldMore}
 use Rattle.vt_pictures.specs.Scenes.{Scene}
-use Rattle.vt_filter.specs.declared.filters.Filter.{Ghosts as FilterMeanings}
+use Rattle.vt_pictures.specs.declared.filters.Filter.{Ghosts as FilterMeanings}
 use Rattle.vt_word_workers.specs.declared.workers.WithPass.{WithPass}
 use Rattle.vt_shared_rows.specs.declared.bag.RowBag.{RowBag}
 use Rattle.vt_shared_rows.specs.declared.sampler.RowSampler.{RowSampler}

@@ -3,7 +3,7 @@ use Rattle.std.specs.Prelude.{◌≡◌, Option, List, length, reverse, Result, 
 use Rattle.std.proofs.Common.{subst, sym, ap, ◌∙◌}
 use Rattle.vt_outside.specs.declared.outside.File.{Ghosts as FileMeanings}
 use Rattle.vt_outside.specs.declared.answers.NoMemory.{NoMemory}
-use Rattle.vt_filter.specs.declared.filters.Filter.{Ghosts as FilterMeanings}
+use Rattle.vt_pictures.specs.declared.filters.Filter.{Ghosts as FilterMeanings}
 use Rattle.vt_tiles.specs.StoreViews.{StoreView}
 use Rattle.vt_grace.specs.Values.{WordsValue}
 use Rattle.vt_loaders.specs.declared.queued.Queues.{Queues}

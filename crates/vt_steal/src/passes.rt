@@ -14,10 +14,10 @@ use std::sync::Wait;
 use std::thread::Threads;
 use vt_draw::Shot;
 use vt_evict::Batch;
-use vt_filter::Filter;
 use vt_loaders::QueuedLoader;
 use vt_machine::PassReport;
 use vt_outside::{File, Items, NoMemory};
+use vt_pictures::Filter;
 use vt_stream_kit::StreamKit;
 use vt_word_workers::WordStreamer;
 

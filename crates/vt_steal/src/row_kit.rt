@@ -4,7 +4,7 @@ ghost use Rattle.std.specs.Prelude.{◌≡◌, ◌≤◌, IfOk, OnOk, length};
 ghost use Rattle.std.specs.List.{concat};
 ghost use Rattle.vt_definitions.specs.Limits.{most_samplers};
 ghost use Rattle.vt_definitions.specs.Depths.{IsDepth};
-ghost use Rattle.vt_sampler.specs.Samplers.{row_length};
+ghost use Rattle.vt_shared_rows.specs.Samplers.{row_length};
 ghost use Rattle.vt_steal.specs.RowKits.{samplers_of, AreRowSamplers, AreInPlace, IsIdleRows};
 ghost use Rattle.vt_steal.specs.RowEnds.{bytes_of};
 

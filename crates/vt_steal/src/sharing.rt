@@ -1,8 +1,8 @@
 //! The rows of a picture are put into a bag, of which each sampler gets a pass.
 
 ghost use Rattle.std.specs.Prelude.{◌≡◌, [], ◌∷◌, ◌++◌, OnOk, length};
-ghost use Rattle.vt_queue.specs.PassViews.{first_view, pass_view, all_shares};
-ghost use Rattle.vt_queue.specs.Orders.{placed};
+ghost use Rattle.vt_loaders.specs.PassViews.{first_view, pass_view, all_shares};
+ghost use Rattle.vt_loaders.specs.Orders.{placed};
 ghost use Rattle.vt_streamer.specs.Views.{IsStreamerOf};
 ghost use Rattle.vt_shared_rows.specs.declared.bag.RowBag.{RowBag as Bag};
 ghost use Rattle.vt_shared_rows.specs.Bags.{view_of, IsOf};

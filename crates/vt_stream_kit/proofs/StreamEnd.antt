@@ -9,7 +9,7 @@ use Rattle.vt_outside.specs.declared.outside.File.{Ghosts as FileMeanings}
 use Rattle.vt_journal.specs.declared.changes.Event.{Event}
 use Rattle.vt_tiles.specs.Format.{tile_length}
 use Rattle.vt_tiles.specs.StoreViews.{StoreView, IsStoreIfTold}
-use Rattle.vt_plan.specs.declared.batches.Planned.{Planned}
+use Rattle.vt_evict.specs.PlanTypes.batches.Planned.{Planned}
 use Rattle.vt_queue.specs.declared.items.Request.{Request}
 use Rattle.vt_queue.specs.declared.items.Loaded.{Loaded}
 use Rattle.vt_queue.specs.declared.views.PassView.{PassView}
@@ -17,17 +17,17 @@ use Rattle.vt_queue.specs.declared.queue.QueuePass.{QueuePass}
 use Rattle.vt_queue.specs.PassViews.{all_joined}
 use Rattle.vt_queue.specs.Queues.{view_of}
 use Rattle.vt_queue.specs.Steps.{IsAtStep}
-use Rattle.vt_load.specs.Loaders.{LoaderView}
+use Rattle.vt_loaders.specs.Loaders.{LoaderView}
 use Rattle.vt_loaders.specs.declared.queued.Queues.{Queues}
 use Rattle.vt_loaders.specs.QueuedLoaders.{QueuedView, asks_of, answers_of, stores_of}
 use Rattle.vt_loaders.specs.Results.{IsGood}
 use Rattle.vt_loaders.proofs.Answering.{bytes_kept}
-use Rattle.vt_machine.specs.Outcomes.{IsOutcome}
-use Rattle.vt_machine.specs.Requests.{AreReadFor}
-use Rattle.vt_machine.specs.Machines.{files_of, told_by, AreStoresFor}
-use Rattle.vt_requests.specs.BatchRounds.{result_events}
-use Rattle.vt_requests.specs.Sizes.{AreSized}
-use Rattle.vt_streaming.specs.declared.report.StreamReport.{StreamReport}
+use Rattle.vt_word_workers.specs.Outcomes.{IsOutcome}
+use Rattle.vt_word_workers.specs.Requests.{AreReadFor}
+use Rattle.vt_word_workers.specs.Machines.{files_of, told_by, AreStoresFor}
+use Rattle.vt_word_workers.specs.BatchRounds.{result_events}
+use Rattle.vt_word_workers.specs.Sizes.{AreSized}
+use Rattle.vt_word_workers.specs.StreamingTypes.report.StreamReport.{StreamReport}
 use Rattle.vt_word_workers.specs.RoundKits.{RoundKitView}
 use Rattle.vt_word_workers.proofs.Ending.{all_entries, all_good, all_sizes, outcome, read}
 use Rattle.vt_stream_kit.specs.StreamKits.{StreamKitView, StreamBegun, MayEndStream, HasEndedStream}

@@ -2,19 +2,19 @@
 use Rattle.std.proofs.Common.{◌≡◌, ℕ, ◌≤◌, List, [], length, Option, refl, sym, subst}
 use Rattle.std.specs.Prelude.{All}
 use Rattle.vt_outside.specs.declared.outside.File.{Ghosts as FileMeanings}
-use Rattle.vt_definitions.specs.Depths.{IsDepth}
+use Rattle.vt_tiles.specs.Depths.{IsDepth}
 use Rattle.vt_pages.specs.Shape.{Shape}
 use Rattle.vt_tiles.specs.Format.{tile_length}
 use Rattle.vt_tiles.specs.StoreViews.{StoreView, IsStoreIfTold}
-use Rattle.vt_plan.specs.declared.batches.Planned.{Planned}
+use Rattle.vt_evict.specs.PlanTypes.batches.Planned.{Planned}
 use Rattle.vt_queue.specs.declared.queue.QueuePass.{QueuePass}
 use Rattle.vt_queue.specs.declared.items.Loaded.{Loaded}
 use Rattle.vt_loaders.specs.declared.queued.Queues.{Queues}
-use Rattle.vt_machine.specs.declared.crew.Crew.{Crew}
-use Rattle.vt_machine.specs.Crews.{IsCrew}
-use Rattle.vt_machine.specs.Machines.{AreStoresFor}
-use Rattle.vt_streaming.specs.declared.report.StreamReport.{StreamReport}
-use Rattle.vt_streaming.specs.Reports.{IsBlank}
+use Rattle.vt_word_workers.specs.MachineTypes.crew.Crew.{Crew}
+use Rattle.vt_word_workers.specs.Crews.{IsCrew}
+use Rattle.vt_word_workers.specs.Machines.{AreStoresFor}
+use Rattle.vt_word_workers.specs.StreamingTypes.report.StreamReport.{StreamReport}
+use Rattle.vt_word_workers.specs.Reports.{IsBlank}
 use Rattle.vt_word_workers.specs.RoundKits.{IsSetUp, IsAsked}
 use Rattle.vt_word_workers.specs.Kits.{AreSameStores}
 use Rattle.vt_word_workers.proofs.Rooms.{same_none, told_same, stores_for}

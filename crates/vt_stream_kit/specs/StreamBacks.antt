@@ -6,18 +6,18 @@ use Rattle.vt_outside.specs.Lists.{ListView}
 use Rattle.vt_outside.specs.declared.outside.File.{Ghosts as FileMeanings}
 use Rattle.vt_tiles.specs.Format.{tile_length}
 use Rattle.vt_tiles.specs.StoreViews.{StoreView}
-use Rattle.vt_plan.specs.declared.batches.Planned.{Planned}
+use Rattle.vt_evict.specs.PlanTypes.batches.Planned.{Planned}
 use Rattle.vt_queue.specs.declared.queue.QueuePass.{QueuePass}
 use Rattle.vt_queue.specs.declared.items.Loaded.{Loaded}
 use Rattle.vt_queue.specs.Queues.{IsOf, view_of}
 use Rattle.vt_loaders.specs.declared.queued.Queues.{Queues}
 use Rattle.vt_loaders.specs.QueuedLoaders.{QueuedView, HasLoaded, stores_of}
-use Rattle.vt_workers.specs.All.{AllDid}
-use Rattle.vt_machine.specs.Machines.{told_by}
-use Rattle.vt_requests.specs.BatchRounds.{Begun as Round, AreLossesOf}
-use Rattle.vt_requests.specs.Sizes.{AreSized}
-use Rattle.vt_streaming.specs.declared.report.StreamReport.{StreamReport}
-use Rattle.vt_streaming.specs.Streams.{Streams}
+use Rattle.vt_word_workers.specs.All.{AllDid}
+use Rattle.vt_word_workers.specs.Machines.{told_by}
+use Rattle.vt_word_workers.specs.BatchRounds.{Begun as Round, AreLossesOf}
+use Rattle.vt_word_workers.specs.Sizes.{AreSized}
+use Rattle.vt_word_workers.specs.StreamingTypes.report.StreamReport.{StreamReport}
+use Rattle.vt_word_workers.specs.Streams.{Streams}
 use Rattle.vt_word_workers.specs.RoundKits.{IsDealt}
 use Rattle.vt_stream_kit.specs.StreamKits.{StreamKitView, IsStreamKit, IsAskedStream, AreLoadersOut, StreamBegun, MayEndStream}
 

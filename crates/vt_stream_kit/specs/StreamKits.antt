@@ -1,28 +1,28 @@
 -- What the loaders of a pass are done with, whoever streams their results.
 use Rattle.std.specs.Prelude.{◌≡◌, ℕ, ◌≤◌, List, [], length, reverse, All}
-use Rattle.vt_definitions.specs.Depths.{IsDepth}
+use Rattle.vt_tiles.specs.Depths.{IsDepth}
 use Rattle.vt_outside.specs.declared.outside.File.{Ghosts as FileMeanings}
 use Rattle.vt_pages.specs.Shape.{Shape}
 use Rattle.vt_journal.specs.declared.changes.Event.{Event}
 use Rattle.vt_tiles.specs.Format.{tile_length}
 use Rattle.vt_tiles.specs.StoreViews.{StoreView, IsStoreIfTold}
-use Rattle.vt_plan.specs.declared.batches.Planned.{Planned}
+use Rattle.vt_evict.specs.PlanTypes.batches.Planned.{Planned}
 use Rattle.vt_queue.specs.declared.queue.QueuePass.{QueuePass}
 use Rattle.vt_queue.specs.declared.items.Loaded.{Loaded}
 use Rattle.vt_queue.specs.Queues.{view_of}
 use Rattle.vt_loaders.specs.declared.queued.Queues.{Queues}
 use Rattle.vt_loaders.specs.QueuedLoaders.{QueuedView, AreOf, stores_of}
 use Rattle.vt_loaders.specs.Results.{IsGood}
-use Rattle.vt_machine.specs.declared.crew.Crew.{Crew}
-use Rattle.vt_machine.specs.Crews.{IsCrew}
-use Rattle.vt_machine.specs.Outcomes.{IsOutcome}
-use Rattle.vt_machine.specs.Requests.{AreReadFor}
-use Rattle.vt_machine.specs.Machines.{files_of, told_by, AreStoresFor}
-use Rattle.vt_requests.specs.BatchRounds.{Begun as Round, IsEndedRound, IsResultOf, AreLossesOf, result_events}
-use Rattle.vt_requests.specs.Sizes.{AreSized}
-use Rattle.vt_streaming.specs.declared.report.StreamReport.{StreamReport}
-use Rattle.vt_streaming.specs.Streams.{Streams}
-use Rattle.vt_streaming.specs.Reports.{IsBlank}
+use Rattle.vt_word_workers.specs.MachineTypes.crew.Crew.{Crew}
+use Rattle.vt_word_workers.specs.Crews.{IsCrew}
+use Rattle.vt_word_workers.specs.Outcomes.{IsOutcome}
+use Rattle.vt_word_workers.specs.Requests.{AreReadFor}
+use Rattle.vt_word_workers.specs.Machines.{files_of, told_by, AreStoresFor}
+use Rattle.vt_word_workers.specs.BatchRounds.{Begun as Round, IsEndedRound, IsResultOf, AreLossesOf, result_events}
+use Rattle.vt_word_workers.specs.Sizes.{AreSized}
+use Rattle.vt_word_workers.specs.StreamingTypes.report.StreamReport.{StreamReport}
+use Rattle.vt_word_workers.specs.Streams.{Streams}
+use Rattle.vt_word_workers.specs.Reports.{IsBlank}
 use Rattle.vt_word_workers.specs.RoundKits.{RoundKitView, IsSetUp, IsAsked, IsDealt}
 use Rattle.vt_word_workers.specs.Kits.{AreSameStores}
 

@@ -1,17 +1,17 @@
 //! What the loaders of a pass are done with.
 
 ghost use Rattle.std.specs.Prelude.{◌≡◌, ◌<◌, ◌≤◌, List, All, OnOk, length};
-ghost use Rattle.vt_definitions.specs.Depths.{IsDepth};
+ghost use Rattle.vt_tiles.specs.Depths.{IsDepth};
 ghost use Rattle.vt_pages.specs.Pages.{pages_of};
 ghost use Rattle.vt_tiles.specs.Format.{tile_length};
-ghost use Rattle.vt_plan.specs.declared.batches.Planned.{Planned as Entry};
+ghost use Rattle.vt_evict.specs.PlanTypes.batches.Planned.{Planned as Entry};
 ghost use Rattle.vt_queue.specs.declared.queue.QueuePass.{QueuePass as Token};
 ghost use Rattle.vt_queue.specs.declared.items.Loaded.{Loaded as Answer};
 ghost use Rattle.vt_loaders.specs.QueuedLoaders.{MayLoad};
-ghost use Rattle.vt_machine.specs.Crews.{IsCrew};
-ghost use Rattle.vt_machine.specs.Machines.{AreStoresFor};
-ghost use Rattle.vt_requests.specs.Sizes.{AreSized};
-ghost use Rattle.vt_streaming.specs.declared.report.StreamReport.{StreamReport as Told};
+ghost use Rattle.vt_word_workers.specs.Crews.{IsCrew};
+ghost use Rattle.vt_word_workers.specs.Machines.{AreStoresFor};
+ghost use Rattle.vt_word_workers.specs.Sizes.{AreSized};
+ghost use Rattle.vt_word_workers.specs.StreamingTypes.report.StreamReport.{StreamReport as Told};
 ghost use Rattle.vt_word_workers.specs.RoundKits.{IsSetUp};
 ghost use Rattle.vt_stream_kit.specs.StreamKits.{StreamKitView, IsStreamKit, IsPreparedStream, IsAskedStream, IsSameStream, AreLoadersOut, StreamBegun, MayEndStream, HasEndedStream};
 
@@ -23,13 +23,11 @@ use std::thread::Threads;
 use vt_evict::{Batch, Losses};
 use vt_journal::Events;
 use vt_loaders::{QueuedLoader, Queues};
-use vt_machine::Crew;
 use vt_outside::{File, Items, NoMemory};
 use vt_pages::Geometry;
 use vt_queue::{Loaded, QueuePass, Request};
-use vt_streaming::StreamReport;
 use vt_tiles::{Stores, tile_length};
-use vt_word_workers::{RoundKit, blank_report, reserve_reads};
+use vt_word_workers::{Crew, RoundKit, StreamReport, blank_report, reserve_reads};
 
 /// What the loaders of a pass are done with but for the queues: their stores, and what they are made with. Contracts see all of these.
 pub struct StreamKit<F: File> {

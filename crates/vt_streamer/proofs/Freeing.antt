@@ -1,10 +1,10 @@
 -- Since when frames are free, as changes are published.
 use Rattle.std.proofs.Common.{◌≡◌, ℕ, zero, suc, ◌+◌, ◌-◌, ◌<◌, ◌≤◌, inl, inr, List, [], ◌∷◌, ◌++◌, length, get_or, set, sym, ap, ◌∙◌, subst, arith, slice_get, length-append, get_or-set_same, get_or-set_other}
 use Rattle.std.proofs.lemmas.Bool.{cases_lt}
-use Rattle.vt_journal.specs.declared.changes.Change.{Change}
-use Rattle.vt_journal.specs.declared.changes.Change.TheVariants.{Map, Unmap}
-use Rattle.vt_journal.specs.Changes.{Table, at, newest, IsFree, IsNext, IsOneToOne, AreInTurn}
-use Rattle.vt_journal.proofs.Versions.{at-front, newest-more, slice_get-front, slice_get-seam, free_after_map, free_after_unmap, same_page}
+use Rattle.vt_table.specs.JournalTypes.changes.Change.{Change}
+use Rattle.vt_table.specs.JournalTypes.changes.Change.TheVariants.{Map, Unmap}
+use Rattle.vt_table.specs.Changes.{Table, at, newest, IsFree, IsNext, IsOneToOne, AreInTurn}
+use Rattle.vt_table.proofs.Versions.{at-front, newest-more, slice_get-front, slice_get-seam, free_after_map, free_after_unmap, same_page}
 use Rattle.vt_grace.specs.declared.views.WriterView.{WriterView}
 use Rattle.vt_grace.specs.WriterViews.{version_of, floor_of}
 use Rattle.vt_grace.specs.Banks.{MayFill}

@@ -3,10 +3,10 @@ use Rattle.std.proofs.Common.{◌≡◌, ℕ, ◌+◌, ◌-◌, ◌*◌, ◌<◌
 use Rattle.vt_definitions.specs.Limits.{most_frames}
 use Rattle.vt_pages.specs.Shape.{Shape}
 use Rattle.vt_pages.specs.Pages.{pages_of, IsWithinLimits}
-use Rattle.vt_journal.specs.declared.changes.Change.{Change}
-use Rattle.vt_journal.specs.Changes.{Table, at, newest, changed, IsFree, IsLegalNext}
-use Rattle.vt_journal.specs.Kept.{entries_of}
-use Rattle.vt_journal.proofs.Versions.{newest-none, newest-more, slice_get-push}
+use Rattle.vt_table.specs.JournalTypes.changes.Change.{Change}
+use Rattle.vt_table.specs.Changes.{Table, at, newest, changed, IsFree, IsLegalNext}
+use Rattle.vt_table.specs.JournalKept.{entries_of}
+use Rattle.vt_table.proofs.Versions.{newest-none, newest-more, slice_get-push}
 use Rattle.vt_table.specs.Views.{TableView, IsTable, IsWithin, IsReady, filled_after}
 use Rattle.vt_table.proofs.Lawful.{Follows, table_spared, table_filled, table_published, table_none}
 use Rattle.vt_table.proofs.Keeping.{entries_none}

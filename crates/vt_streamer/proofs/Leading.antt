@@ -2,11 +2,11 @@
 use Rattle.std.proofs.Common.{◌≡◌, ◌≢◌, ℕ, ◌+◌, ◌-◌, ◌*◌, ◌<◌, List, [], ◌∷◌, ◌++◌, length, get_or, set, refl, sym, ap, ◌∙◌, subst, arith, Some, None, slice_get, get_or-set_same, get_or-set_other, length-append}
 use mathlib.Core.Logic.{dite}
 use native.Mathlib.Decide.{ℕ_discrete}
-use Rattle.vt_journal.specs.declared.changes.Change.{Change}
-use Rattle.vt_journal.specs.declared.changes.Change.TheVariants.{Map, Unmap}
-use Rattle.vt_journal.specs.Changes.{Table, at, newest, changed, with_entry}
-use Rattle.vt_journal.specs.Lookups.{change_page}
-use Rattle.vt_journal.proofs.Versions.{entry-same, entry-other, at-front, at-next, newest-more}
+use Rattle.vt_table.specs.JournalTypes.changes.Change.{Change}
+use Rattle.vt_table.specs.JournalTypes.changes.Change.TheVariants.{Map, Unmap}
+use Rattle.vt_table.specs.Changes.{Table, at, newest, changed, with_entry}
+use Rattle.vt_table.specs.Lookups.{change_page}
+use Rattle.vt_table.proofs.Versions.{entry-same, entry-other, at-front, at-next, newest-more}
 use Rattle.vt_grace.specs.declared.sizes.Sizes.{Sizes}
 use Rattle.vt_grace.specs.declared.views.WriterView.{WriterView}
 use Rattle.vt_grace.specs.Changes.{IsNextKeeping}

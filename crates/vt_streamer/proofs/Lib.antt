@@ -1,3 +1,7 @@
+pub use Rattle.vt_table.proofs.FewChanges
+pub use Rattle.vt_table.proofs.Lawful
+pub use Rattle.vt_table.proofs.TileWords
+pub use Rattle.vt_table.proofs.Versions
 mod Looking
 mod Leading
 mod Filling

@@ -1,10 +1,10 @@
 -- The four banks between two publications, and the stores that lead the next one on to the next version.
 use Rattle.std.specs.Prelude.{◌≡◌, ◌≢◌, ℕ, ◌+◌, ◌-◌, ◌<◌, Some, List, [], ◌∷◌, ◌++◌, slice_get, slice_index}
-use Rattle.vt_journal.specs.declared.changes.Change.{Change}
-use Rattle.vt_journal.specs.declared.changes.Change.TheVariants.{Map, Unmap}
-use Rattle.vt_journal.specs.Changes.{at}
-use Rattle.vt_journal.specs.Lookups.{change_page}
-use Rattle.vt_journal.specs.Kept.{change_frame}
+use Rattle.vt_table.specs.JournalTypes.changes.Change.{Change}
+use Rattle.vt_table.specs.JournalTypes.changes.Change.TheVariants.{Map, Unmap}
+use Rattle.vt_table.specs.Changes.{at}
+use Rattle.vt_table.specs.Lookups.{change_page}
+use Rattle.vt_table.specs.JournalKept.{change_frame}
 use Rattle.vt_grace.specs.declared.sizes.Sizes.{Sizes}
 use Rattle.vt_grace.specs.declared.views.WriterView.{WriterView}
 use Rattle.vt_grace.specs.WriterViews.{version_of}

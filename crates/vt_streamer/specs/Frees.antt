@@ -1,8 +1,8 @@
 -- Since which version no page is mapped to a frame.
 use Rattle.std.specs.Prelude.{◌≡◌, ◌≢◌, ℕ, zero, suc, ◌-◌, ◌≤◌, Some, List, length, slice_get, slice_set}
-use Rattle.vt_journal.specs.declared.changes.Change.{Change}
-use Rattle.vt_journal.specs.declared.changes.Change.TheVariants.{Map, Unmap}
-use Rattle.vt_journal.specs.Changes.{at}
+use Rattle.vt_table.specs.JournalTypes.changes.Change.{Change}
+use Rattle.vt_table.specs.JournalTypes.changes.Change.TheVariants.{Map, Unmap}
+use Rattle.vt_table.specs.Changes.{at}
 
 -- no version from this one to the newest maps a page to the frame
 abbrev pub IsFreeFrom : List Change → ℕ → ℕ → Type 0

@@ -2,9 +2,9 @@
 use Rattle.std.specs.Prelude.{◌≡◌, ℕ, ◌<◌, List, length, slice_index}
 use Rattle.vt_pages.specs.Shape.{Shape}
 use Rattle.vt_pages.specs.Pages.{pages_of}
-use Rattle.vt_journal.specs.declared.changes.Change.{Change}
-use Rattle.vt_journal.specs.Changes.{newest, IsFree}
-use Rattle.vt_journal.specs.Kept.{entries_of}
+use Rattle.vt_table.specs.JournalTypes.changes.Change.{Change}
+use Rattle.vt_table.specs.Changes.{newest, IsFree}
+use Rattle.vt_table.specs.JournalKept.{entries_of}
 use Rattle.vt_table.specs.Views.{IsTable}
 use Rattle.vt_grace.specs.Values.{WriterValue}
 use Rattle.vt_grace.specs.Sizes.{sizes_of}

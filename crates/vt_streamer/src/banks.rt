@@ -2,8 +2,8 @@
 
 ghost use Rattle.std.specs.Prelude.{◌≡◌, ℕ, ◌+◌, ◌≤◌, ◌<◌, length};
 ghost use Rattle.vt_definitions.specs.Limits.{most_versions};
-ghost use Rattle.vt_journal.specs.Changes.{at, newest};
-ghost use Rattle.vt_journal.specs.Lookups.{change_page};
+ghost use Rattle.vt_table.specs.Changes.{at, newest};
+ghost use Rattle.vt_table.specs.Lookups.{change_page};
 ghost use Rattle.vt_grace.specs.Changes.{IsNextKeeping};
 ghost use Rattle.vt_grace.specs.WriterViews.{version_of, after_entry};
 ghost use Rattle.vt_grace.specs.Places.{bank_of};
@@ -13,7 +13,7 @@ ghost use Rattle.vt_grace.specs.Tokens.{IsWriterOf};
 ghost use Rattle.vt_streamer.specs.Banks.{new_entry, IsInside, AreInside, AreRotated, HasEntered, HasPublished};
 
 use vt_grace::{Words, WriterSeat};
-use vt_journal::{Change, Journal};
+use vt_table::{Change, Journal};
 
 // Writes the entry that a change gives its page into the bank of the next version.
 fn advance(words: &Words, writer: &mut WriterSeat, change: Change)

@@ -1,10 +1,10 @@
 //! Since when frames are free.
 
 ghost use Rattle.std.specs.Prelude.{◌≡◌, ◌<◌, length};
-ghost use Rattle.vt_journal.specs.Kept.{change_frame};
+ghost use Rattle.vt_table.specs.JournalKept.{change_frame};
 ghost use Rattle.vt_streamer.specs.Frees.{since_after};
 
-use vt_journal::Change;
+use vt_table::Change;
 
 /// Notes the version that unmaps a frame.
 pub(crate) fn note_unmapped(unmapped: &mut [u64], change: Change, version: u64)

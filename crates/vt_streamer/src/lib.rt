@@ -9,3 +9,4 @@ mod streamer;
 
 pub use looks::Waiting;
 pub use streamer::Streamer;
+pub use vt_grace::Words;

@@ -10,13 +10,13 @@ use Rattle.vt_journal.specs.declared.changes.Change.{Change}
 use Rattle.vt_journal.specs.declared.changes.Event.{Event}
 use Rattle.vt_journal.specs.Changes.{newest}
 use Rattle.vt_journal.specs.JournalText.{changes_of}
-use Rattle.vt_table.specs.Views.{IsTile}
-use Rattle.vt_plan.specs.declared.batches.Planned.{Planned}
+use Rattle.vt_streamer.specs.TableViews.{IsTile}
+use Rattle.vt_requests.specs.PlanTypes.batches.Planned.{Planned}
 use Rattle.vt_queue.specs.declared.items.Loaded.{Loaded}
-use Rattle.vt_load.specs.Readings.{is_lost}
+use Rattle.vt_requests.specs.Readings.{is_lost}
 use Rattle.vt_streamer.specs.Views.{StreamerView}
-use Rattle.vt_machine.specs.Outcomes.{IsEntryFor, IsBatchFor, group_if}
-use Rattle.vt_machine.proofs.Streaming.{entry_stays}
+use Rattle.vt_requests.specs.Outcomes.{IsEntryFor, IsBatchFor, group_if}
+use Rattle.vt_requests.proofs.Streaming.{entry_stays}
 use Rattle.vt_requests.specs.BatchRounds.{result_group, result_events, AreLossesOf}
 use Rattle.vt_streaming.specs.declared.report.StreamReport.{StreamReport}
 use Rattle.vt_streaming.specs.Made.{HasMade, HasStreamed, result_contents, results_contents}

@@ -1,3 +1,4 @@
+pub use Rattle.vt_requests.proofs.Streaming
 mod Making
 mod Taking
 mod Lasting

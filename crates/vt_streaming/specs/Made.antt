@@ -3,10 +3,10 @@ use Rattle.std.specs.Prelude.{◌≡◌, ℕ, Bool, true, false, Option, Some, N
 use Rattle.vt_pages.specs.Shape.{Shape}
 use Rattle.vt_journal.specs.declared.changes.Event.{Event}
 use Rattle.vt_journal.specs.JournalText.{changes_of}
-use Rattle.vt_plan.specs.declared.batches.Planned.{Planned}
-use Rattle.vt_grace.specs.declared.views.WriterView.{WriterView}
+use Rattle.vt_requests.specs.PlanTypes.batches.Planned.{Planned}
+use Rattle.vt_streamer.specs.GraceTypes.views.WriterView.{WriterView}
 use Rattle.vt_queue.specs.declared.items.Loaded.{Loaded}
-use Rattle.vt_load.specs.Readings.{is_lost}
+use Rattle.vt_requests.specs.Readings.{is_lost}
 use Rattle.vt_streamer.specs.Fills.{words_in}
 use Rattle.vt_streamer.specs.Views.{StreamerView}
 use Rattle.vt_requests.specs.BatchRounds.{result_events}

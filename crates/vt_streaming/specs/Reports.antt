@@ -2,12 +2,12 @@
 use Rattle.std.specs.Prelude.{◌≡◌, ℕ, ◌+◌, ◌*◌, ◌≤◌, true, false, Some, List, [], ◌∷◌, ◌++◌, length, slice_get, slice_index_or, slice_set, All}
 use Rattle.vt_journal.specs.declared.changes.Event.{Event}
 use Rattle.vt_journal.specs.Changes.{newest}
-use Rattle.vt_table.specs.Views.{IsTile}
-use Rattle.vt_plan.specs.declared.batches.Planned.{Planned}
+use Rattle.vt_streamer.specs.TableViews.{IsTile}
+use Rattle.vt_requests.specs.PlanTypes.batches.Planned.{Planned}
 use Rattle.vt_queue.specs.declared.items.Loaded.{Loaded}
-use Rattle.vt_load.specs.Readings.{is_lost}
+use Rattle.vt_requests.specs.Readings.{is_lost}
 use Rattle.vt_streamer.specs.Views.{StreamerView}
-use Rattle.vt_machine.specs.Outcomes.{IsEntryFor}
+use Rattle.vt_requests.specs.Outcomes.{IsEntryFor}
 use Rattle.vt_requests.specs.BatchRounds.{result_group, result_events, AreLossesOf}
 use Rattle.vt_streaming.specs.declared.report.StreamReport.{StreamReport}
 use Rattle.vt_streaming.specs.Made.{HasStreamed}

@@ -5,7 +5,7 @@ use Rattle.vt_pages.specs.Shape.{Shape}
 use Rattle.vt_queue.specs.declared.items.Loaded.{Loaded}
 use Rattle.vt_queue.specs.declared.views.PassView.{PassView}
 use Rattle.vt_queue.specs.Orders.{items_of}
-use Rattle.vt_loaders.specs.Streamed.{with_taken}
+use Rattle.vt_requests.specs.Streamed.{with_taken}
 
 -- a ticket is one of so many, for which nothing was taken
 abbrev pub is_new : List Bool → ℕ → ℕ → Bool

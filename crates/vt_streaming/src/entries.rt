@@ -5,19 +5,18 @@ ghost use Rattle.vt_pages.specs.Pages.{pages_of};
 ghost use Rattle.vt_journal.specs.declared.changes.Change.TheVariants.{Map};
 ghost use Rattle.vt_journal.specs.declared.changes.Event.TheVariants.{Changed};
 ghost use Rattle.vt_journal.specs.Changes.{newest, IsFree};
-ghost use Rattle.vt_table.specs.Views.{IsTile};
+ghost use Rattle.vt_streamer.specs.TableViews.{IsTile};
 ghost use Rattle.vt_streamer.specs.Fills.{words_in};
 ghost use Rattle.vt_streamer.specs.Views.{IsStreamerOf};
-ghost use Rattle.vt_machine.specs.Outcomes.{IsEntryFor, group_of, victim_events};
+ghost use Rattle.vt_requests.specs.Outcomes.{IsEntryFor, group_of, victim_events};
 ghost use Rattle.vt_streaming.specs.Made.{HasMade, victim_contents, group_contents};
 
 use crate::waits::{free_frame, publish};
 use std::sync::Wait;
-use vt_evict::Planned;
-use vt_grace::Words;
 use vt_journal::{Change, Event, Events};
 use vt_outside::Gate;
-use vt_streamer::Streamer;
+use vt_requests::Planned;
+use vt_streamer::{Streamer, Words};
 
 // Unmaps an entry's victim, if it has one.
 fn unmap_victim<Rt: Wait, G: Gate>(

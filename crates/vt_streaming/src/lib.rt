@@ -11,3 +11,4 @@ mod waits;
 
 pub use report::StreamReport;
 pub use stream::stream_batch;
+pub use vt_streamer::Streamer;

@@ -1,9 +1,9 @@
 //! What streaming a batch tells.
 
-use vt_evict::Losses;
 use vt_journal::Events;
 use vt_outside::Items;
 use vt_queue::Loaded;
+use vt_requests::Losses;
 
 /// What streaming a batch tells.
 #[derive(Drop)]

@@ -2,11 +2,11 @@
 
 ghost use Rattle.std.specs.Prelude.{◌≡◌, ◌+◌, ◌<◌, ◌≤◌, Some, ◌++◌, length, slice_get};
 ghost use Rattle.vt_journal.specs.Changes.{newest};
-ghost use Rattle.vt_table.specs.Views.{IsTile};
+ghost use Rattle.vt_streamer.specs.TableViews.{IsTile};
 ghost use Rattle.vt_streamer.specs.Views.{IsStreamerOf};
-ghost use Rattle.vt_plan.specs.declared.batches.Planned.{Planned as Entry};
-ghost use Rattle.vt_load.specs.Readings.{is_lost};
-ghost use Rattle.vt_machine.specs.Outcomes.{IsEntryFor, group_of};
+ghost use Rattle.vt_requests.specs.PlanTypes.batches.Planned.{Planned as Entry};
+ghost use Rattle.vt_requests.specs.Readings.{is_lost};
+ghost use Rattle.vt_requests.specs.Outcomes.{IsEntryFor, group_of};
 ghost use Rattle.vt_requests.specs.BatchRounds.{result_group};
 ghost use Rattle.vt_streaming.specs.Made.{HasMade, group_contents, result_contents};
 ghost use Rattle.vt_streaming.specs.Streams.{is_new, is_tile_length, is_wanted};
@@ -15,13 +15,12 @@ ghost use Rattle.vt_streaming.specs.Reports.{HasNoted};
 use crate::entries::put_entry;
 use crate::report::StreamReport;
 use std::sync::Wait;
-use vt_evict::{Losses, Planned};
-use vt_grace::Words;
 use vt_journal::{Event, Events};
 use vt_outside::Gate;
 use vt_pages::Geometry;
 use vt_queue::{Loaded, Outcome};
-use vt_streamer::Streamer;
+use vt_requests::{Losses, Planned};
+use vt_streamer::{Streamer, Words};
 
 // Whether a result is for an entry, by its ticket, whose result was not taken.
 fn is_new(taken: &Losses, ticket: usize) -> bool

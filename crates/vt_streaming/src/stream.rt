@@ -2,10 +2,10 @@
 
 ghost use Rattle.std.specs.Prelude.{◌≡◌, ◌+◌, ◌*◌, ◌<◌, ◌≤◌, ◌^◌, ◌++◌, length, All};
 ghost use Rattle.vt_journal.specs.Changes.{newest};
-ghost use Rattle.vt_table.specs.Views.{IsTile};
+ghost use Rattle.vt_streamer.specs.TableViews.{IsTile};
 ghost use Rattle.vt_queue.specs.Queues.{view_of, splits_of, IsOf};
 ghost use Rattle.vt_streamer.specs.Views.{IsStreamerOf};
-ghost use Rattle.vt_machine.specs.Outcomes.{IsBatchFor};
+ghost use Rattle.vt_requests.specs.Outcomes.{IsBatchFor};
 ghost use Rattle.vt_requests.specs.BatchRounds.{result_events, AreLossesOf};
 ghost use Rattle.vt_streaming.specs.Made.{HasStreamed};
 ghost use Rattle.vt_streaming.specs.Streams.{Streams};
@@ -16,11 +16,10 @@ use crate::results::{is_wanted, stream_result};
 use crate::waits::take_result;
 use std::sync::Wait;
 use std::thread::Threads;
-use vt_evict::Planned;
-use vt_grace::Words;
 use vt_outside::Gate;
 use vt_queue::{Loaded, QueuePass, ResultQueue};
-use vt_streamer::Streamer;
+use vt_requests::Planned;
+use vt_streamer::{Streamer, Words};
 
 /// Takes results until there was one for each entry of a batch, and applies each to the entry of its ticket as it comes:
 /// where the tile was read, the victim is unmapped, the frame filled once no sampler may look at it, and the page mapped;

@@ -3,9 +3,9 @@
 ghost use Rattle.std.specs.Prelude.{◌≡◌, ◌+◌, ◌<◌, ◌≤◌, [], ◌∷◌, length};
 ghost use Rattle.vt_journal.specs.declared.changes.Event.TheVariants.{Changed};
 ghost use Rattle.vt_journal.specs.Changes.{newest, IsFree, IsLegalNext};
-ghost use Rattle.vt_table.specs.Views.{filled_for, filled_after, IsReady, IsWithin};
-ghost use Rattle.vt_grace.specs.Places.{content_of};
-ghost use Rattle.vt_grace.specs.Banks.{MayFill};
+ghost use Rattle.vt_streamer.specs.TableViews.{filled_for, filled_after, IsReady, IsWithin};
+ghost use Rattle.vt_streamer.specs.Places.{content_of};
+ghost use Rattle.vt_streamer.specs.GraceBanks.{MayFill};
 ghost use Rattle.vt_streamer.specs.Views.{table_of, IsStreamerOf};
 ghost use Rattle.vt_queue.specs.Steps.{Takes};
 ghost use Rattle.vt_queue.specs.Queues.{view_of, splits_of, IsOf};
@@ -14,11 +14,10 @@ ghost use Rattle.vt_streaming.specs.Made.{HasMade, after_looks};
 use crate::pause::pause;
 use std::sync::Wait;
 use std::thread::Threads;
-use vt_grace::Words;
 use vt_journal::Change;
 use vt_outside::{Gate, Point};
 use vt_queue::{Loaded, QueuePass, ResultQueue};
-use vt_streamer::Streamer;
+use vt_streamer::{Streamer, Words};
 
 /// Takes the first result. It waits until there is one.
 pub(crate) fn take_result<Rt: Threads + Wait>(

@@ -1,3 +1,4 @@
+pub use Rattle.vt_journal.specs.Kept
 pub mod Logs
 pub mod Heads
 pub mod Entries

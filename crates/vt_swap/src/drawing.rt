@@ -5,7 +5,7 @@ ghost use mathlib.Core.List.{IsPrefix};
 ghost use Rattle.vt_definitions.specs.Depths.{IsDepth, texel_length};
 ghost use Rattle.vt_pages.specs.Pages.{pages_of};
 ghost use Rattle.vt_draw.specs.Shots.{shot_row};
-ghost use Rattle.vt_filter.specs.Evidence.{AreShown, AreRaised};
+ghost use Rattle.vt_pictures.specs.Evidence.{AreShown, AreRaised};
 ghost use Rattle.vt_swap.specs.Tables.{AreOfOneLog, IsTable};
 ghost use Rattle.vt_swap.specs.Slots.{AreSlotsOf};
 ghost use Rattle.vt_swap.specs.Notes.{IsSaidBy};
@@ -16,7 +16,7 @@ use crate::log::Front;
 use crate::lookup::SwapLookup;
 use crate::table::NewestTable;
 use vt_draw::Shot;
-use vt_filter::Filter;
+use vt_pictures::Filter;
 
 /// Draws row `y` of a picture in a version that was entered, and tells whether a check of a frame failed. If one did, what it drew means
 /// nothing; the counts are raised all the same.

@@ -5,7 +5,7 @@ ghost use mathlib.Core.List.{IsPrefix};
 ghost use Rattle.vt_definitions.specs.Depths.{IsDepth, texel_length};
 ghost use Rattle.vt_pages.specs.Pages.{pages_of};
 ghost use Rattle.vt_draw.specs.Shots.{shot_row};
-ghost use Rattle.vt_filter.specs.Evidence.{AreShown, AreRaised};
+ghost use Rattle.vt_pictures.specs.Evidence.{AreShown, AreRaised};
 ghost use Rattle.vt_swap.specs.Logs.{changes_in, IsLawful};
 ghost use Rattle.vt_swap.specs.Slots.{AreSlotsOf};
 ghost use Rattle.vt_swap.specs.Notes.{IsEntry, IsSaidBy};
@@ -22,8 +22,8 @@ use std::marker::Model;
 use std::sync::Wait;
 use std::thread;
 use vt_draw::Shot;
-use vt_filter::Filter;
 use vt_outside::{Gate, Point};
+use vt_pictures::Filter;
 
 /// A reader of the newest page table and of the frames, as a sampler has it. Contracts see which log it is, what the reader has
 /// seen of it, and which versions it entered, the newest first.

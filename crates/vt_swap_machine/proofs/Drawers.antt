@@ -13,8 +13,8 @@ use Rattle.vt_outside.specs.Lists.{ListView}
 use Rattle.vt_pages.specs.Shape.{Shape}
 use Rattle.vt_pages.specs.Pages.{pages_of}
 use Rattle.vt_journal.specs.declared.changes.RowLine.{RowLine}
-use Rattle.vt_sampler.specs.Samplers.{SamplerView, IsOwn, version_at}
-use Rattle.vt_workers.specs.All.{AllDid}
+use Rattle.vt_word_workers.specs.Samplers.{SamplerView, IsOwn, version_at}
+use Rattle.vt_machine.specs.All.{AllDid}
 use Rattle.vt_swap.specs.Readers.{ReaderView, WasEntered}
 use Rattle.vt_swap.specs.Making.{IsNewReader}
 use Rattle.vt_swap_workers.specs.declared.workers.SwapDrawer.{SwapDrawer}

@@ -10,12 +10,12 @@ use Rattle.vt_pages.specs.Shape.{Shape}
 use Rattle.vt_pages.specs.Pages.{pages_of}
 use Rattle.vt_camera.specs.Paths.{ArePictureSides}
 use Rattle.vt_draw.specs.Shots.{shot_row, wants_in_rows}
-use Rattle.vt_filter.specs.declared.filters.Filter.{Ghosts as FilterMeanings}
-use Rattle.vt_filter.specs.Evidence.{AreShown}
-use Rattle.vt_filter.specs.FilterLaws.{WantsFew, picture_wants}
-use Rattle.vt_filter.proofs.Handed.{shown_by_more}
-use Rattle.vt_sampler.specs.Samplers.{IsOwn, own_rows, row_at, row_length, version_at}
-use Rattle.vt_sampler.proofs.Sharing.{picture_few}
+use Rattle.vt_pictures.specs.declared.filters.Filter.{Ghosts as FilterMeanings}
+use Rattle.vt_pictures.specs.Evidence.{AreShown}
+use Rattle.vt_pictures.specs.FilterLaws.{WantsFew, picture_wants}
+use Rattle.vt_pictures.proofs.Handed.{shown_by_more}
+use Rattle.vt_word_workers.specs.Samplers.{IsOwn, own_rows, row_at, row_length, version_at}
+use Rattle.vt_word_workers.proofs.Sharing.{picture_few}
 use Rattle.vt_pictures.specs.Scenes.{Scene}
 use Rattle.vt_swap.specs.Logs.{changes_in}
 use Rattle.vt_swap.specs.Notes.{IsSaidBy}

@@ -8,11 +8,11 @@ use Rattle.vt_outside.specs.Files.{IsPiece}
 use Rattle.vt_pages.specs.Shape.{Shape}
 use Rattle.vt_journal.specs.declared.changes.Change.TheVariants.{Map}
 use Rattle.vt_tiles.specs.Format.{tile_length, tile_start}
-use Rattle.vt_plan.specs.declared.batches.Planned.{Planned}
-use Rattle.vt_queue.specs.declared.items.Loaded.{Loaded}
-use Rattle.vt_queue.specs.declared.items.Outcome.{Outcome}
-use Rattle.vt_queue.specs.declared.items.Outcome.TheVariants.{Read, Lost}
-use Rattle.vt_load.specs.Readings.{is_lost}
+use Rattle.vt_evict.specs.PlanTypes.batches.Planned.{Planned}
+use Rattle.vt_loaders.specs.QueueTypes.items.Loaded.{Loaded}
+use Rattle.vt_loaders.specs.QueueTypes.items.Outcome.{Outcome}
+use Rattle.vt_loaders.specs.QueueTypes.items.Outcome.TheVariants.{Read, Lost}
+use Rattle.vt_loaders.specs.Readings.{is_lost}
 use Rattle.vt_loaders.specs.Results.{IsGood}
 use Rattle.vt_requests.specs.BatchRounds.{IsResultOf}
 use Rattle.vt_swap.specs.declared.records.LogRecord.{LogRecord}
@@ -21,7 +21,7 @@ use Rattle.vt_swap.specs.Notes.{AreWordsOf}
 use Rattle.vt_swap.specs.Streamers.{StreamerView, HasMapped}
 use Rattle.vt_swap_noted.specs.Filled.{AreStoredFills}
 use Rattle.vt_swap_noted.proofs.Adding.{fills_grow}
-use Rattle.vt_swap_streaming.specs.Brought.{AreFillsOf}
+use Rattle.vt_swap_workers.specs.Brought.{AreFillsOf}
 
 was_read : (o : Outcome) → is_lost o ≡ false → o ≡ Read
 was_read Read e = refl

@@ -11,14 +11,14 @@ use Rattle.vt_journal.specs.declared.changes.Change.{Change}
 use Rattle.vt_journal.specs.declared.changes.Event.{Event}
 use Rattle.vt_journal.specs.declared.changes.RowLine.{RowLine}
 use Rattle.vt_journal.specs.JournalText.{changes_of}
-use Rattle.vt_filter.specs.declared.filters.Filter.{Ghosts as FilterMeanings}
-use Rattle.vt_filter.specs.FilterLaws.{IsUnder}
+use Rattle.vt_pictures.specs.declared.filters.Filter.{Ghosts as FilterMeanings}
+use Rattle.vt_pictures.specs.FilterLaws.{IsUnder}
 use Rattle.vt_tiles.specs.Format.{stored}
 use Rattle.vt_tiles.specs.StoreViews.{IsStoreIfTold}
 use Rattle.vt_pictures.specs.Replays.{IsFull, AreReplayed}
 use Rattle.vt_loaders.specs.declared.queued.Queues.{Queues}
 use Rattle.vt_loaders.specs.QueuedLoaders.{QueuedView}
-use Rattle.vt_workers.specs.Jobs.{Job}
+use Rattle.vt_machine.specs.Jobs.{Job}
 use Rattle.vt_machine.specs.declared.crew.PassReport.{PassReport}
 use Rattle.vt_machine.specs.Drawings.{drawing_of}
 use Rattle.vt_machine.specs.Machines.{MachineState, files_of, told_by}
@@ -33,7 +33,7 @@ use Rattle.vt_swap.specs.Streamers.{StreamerView}
 use Rattle.vt_swap_noted.specs.Filled.{AreStoredFills}
 use Rattle.vt_swap_noted.proofs.Adding.{fills_grow}
 use Rattle.vt_swap_noted.proofs.Replaying.{picture_replayed}
-use Rattle.vt_swap_streaming.specs.Brought.{AreFillsOf, HasStreamed}
+use Rattle.vt_swap_workers.specs.Brought.{AreFillsOf, HasStreamed}
 use Rattle.vt_swap_workers.specs.declared.workers.SwapDrawer.{SwapDrawer}
 use Rattle.vt_swap_workers.specs.declared.workers.SwapFeeder.{SwapFeeder}
 use Rattle.vt_stream_kit.specs.StreamKits.{StreamKitView, stream_before, HasEndedStream}

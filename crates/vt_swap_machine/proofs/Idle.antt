@@ -11,11 +11,11 @@ use Rattle.vt_outside.specs.declared.answers.NoMemory.{NoMemory}
 use Rattle.vt_pages.specs.Shape.{Shape}
 use Rattle.vt_pages.specs.Pages.{pages_of, IsWithinLimits}
 use Rattle.vt_journal.specs.Changes.{newest}
-use Rattle.vt_plan.specs.declared.batches.Planned.{Planned}
-use Rattle.vt_queue.specs.Queues.{IsOf}
+use Rattle.vt_evict.specs.PlanTypes.batches.Planned.{Planned}
+use Rattle.vt_loaders.specs.Queues.{IsOf}
 use Rattle.vt_loaders.specs.declared.queued.Queues.{Queues}
-use Rattle.vt_workers.specs.Jobs.{Job}
-use Rattle.vt_workers.specs.All.{AllReady}
+use Rattle.vt_machine.specs.Jobs.{Job}
+use Rattle.vt_machine.specs.All.{AllReady}
 use Rattle.vt_machine.specs.declared.crew.Crew.{Crew}
 use Rattle.vt_machine.specs.Crews.{last_start}
 use Rattle.vt_machine.specs.Machines.{told_by}

@@ -12,8 +12,8 @@ use Rattle.vt_camera.specs.Paths.{PathView}
 use Rattle.vt_camera.specs.Rows.{RowView}
 use Rattle.vt_draw.specs.Shots.{wants_in_rows}
 use Rattle.vt_journal.specs.declared.changes.RowLine.{RowLine}
-use Rattle.vt_sampler.specs.Samplers.{own_rows}
-use Rattle.vt_sampler.proofs.Sharing.{rows_shared}
+use Rattle.vt_word_workers.specs.Samplers.{own_rows}
+use Rattle.vt_word_workers.proofs.Sharing.{rows_shared}
 use Rattle.vt_machine.specs.RowOrders.{AreRowsInOrder}
 use Rattle.vt_swap_workers.specs.declared.workers.SwapDrawer.{SwapDrawer}
 use Rattle.vt_swap_machine.specs.DrawKits.{version_by, line_of, lines_of, counted_together}

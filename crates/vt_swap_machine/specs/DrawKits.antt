@@ -9,7 +9,7 @@ use Rattle.vt_pages.specs.Shape.{Shape}
 use Rattle.vt_pages.specs.Pages.{pages_of}
 use Rattle.vt_camera.specs.Paths.{ArePictureSides}
 use Rattle.vt_journal.specs.declared.changes.RowLine.{RowLine}
-use Rattle.vt_sampler.specs.Samplers.{row_at, version_at}
+use Rattle.vt_word_workers.specs.Samplers.{row_at, version_at}
 use Rattle.vt_swap.specs.declared.records.LogRecord.{LogRecord}
 use Rattle.vt_swap.specs.Readers.{ReaderView}
 use Rattle.vt_swap_workers.specs.declared.workers.SwapDrawer.{SwapDrawer}

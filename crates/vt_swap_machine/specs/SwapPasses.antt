@@ -4,11 +4,11 @@ use Rattle.logbook.specs.Pages.{Book}
 use Rattle.vt_camera.specs.Paths.{PathView}
 use Rattle.vt_pages.specs.Shape.{Shape}
 use Rattle.vt_draw.specs.Shots.{shot_row}
-use Rattle.vt_filter.specs.declared.filters.Filter.{Ghosts as FilterMeanings}
-use Rattle.vt_filter.specs.Evidence.{AreShown}
+use Rattle.vt_pictures.specs.declared.filters.Filter.{Ghosts as FilterMeanings}
+use Rattle.vt_pictures.specs.Evidence.{AreShown}
 use Rattle.vt_journal.specs.declared.changes.RowLine.{RowLine}
 use Rattle.vt_pictures.specs.Scenes.{Scene}
-use Rattle.vt_workers.specs.All.{AllDid}
+use Rattle.vt_machine.specs.All.{AllDid}
 use Rattle.vt_swap.specs.Logs.{changes_in, IsLawful}
 use Rattle.vt_swap.specs.Notes.{IsSaidBy}
 use Rattle.vt_swap.specs.Readers.{ReaderView}

@@ -23,8 +23,7 @@ use vt_outside::{Items, NoMemory};
 use vt_pages::Geometry;
 use vt_requests::sampler_of;
 use vt_swap::TableReader;
-use vt_swap_sampler::SwapSampler;
-use vt_swap_workers::{SwapDrawer, SwapFeeder};
+use vt_swap_workers::{SwapDrawer, SwapFeeder, SwapSampler};
 use vt_word_workers::with_room;
 
 /// What the samplers of a pass over a page cache are done with: the samplers with their readers, how many texels the last picture needs of

@@ -2,7 +2,7 @@
 
 ghost use Rattle.std.specs.Prelude.{◌≡◌, ◌≤◌, ℕ, All, length};
 ghost use Rattle.logbook.specs.Pages.{Book};
-ghost use Rattle.vt_workers.specs.All.{AllDid};
+ghost use Rattle.vt_machine.specs.All.{AllDid};
 ghost use Rattle.vt_swap.specs.Readers.{WasEntered};
 ghost use Rattle.vt_swap_machine.specs.DrawKits.{HasReader, Sees};
 

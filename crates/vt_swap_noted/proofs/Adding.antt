@@ -1,6 +1,6 @@
 -- Fills of a log and of records behind it.
 use Rattle.std.proofs.Common.{ℕ, zero, suc, List, [], ◌∷◌, ◌++◌, Option}
-use Rattle.vt_pages.specs.Shape.{Shape}
+use Rattle.vt_tiles.specs.Shape.{Shape}
 use Rattle.vt_swap.specs.declared.records.LogRecord.{LogRecord}
 use Rattle.vt_swap_noted.specs.Filled.{AreStoredFills}
 

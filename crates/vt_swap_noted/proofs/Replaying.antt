@@ -1,21 +1,21 @@
 -- What a log says of a version is true of its table over the store, and what is drawn by it is the replay.
 use Rattle.std.proofs.Common.{◌≡◌, ℕ, suc, ◌+◌, ◌*◌, ◌<◌, List, [], get_or, Option, Some, None, refl, sym, ap, ◌∙◌, subst, arith}
 use Rattle.std.specs.Prelude.{slice_get, IfSome}
-use Rattle.vt_definitions.specs.Depths.{texel_bytes}
-use Rattle.vt_definitions.specs.Texels.{Source}
-use Rattle.vt_pages.specs.Shape.{Shape}
-use Rattle.vt_pages.specs.Pages.{texel_page, IsWithinLimits}
-use Rattle.vt_pages.specs.Laws.{IsInside}
-use Rattle.vt_camera.specs.Rows.{RowView}
-use Rattle.vt_draw.specs.Lookups.{Note, WordNote, place_in_tile}
-use Rattle.vt_draw.specs.Shots.{shot_row}
-use Rattle.vt_journal.specs.declared.changes.RowLine.{RowLine}
-use Rattle.vt_journal.specs.Changes.{Table, at}
-use Rattle.vt_journal.specs.Kept.{entry_of}
-use Rattle.vt_journal.proofs.Versions.{one_to_one}
-use Rattle.vt_filter.specs.Evidence.{IsBy, AreTrue, AreShown}
-use Rattle.vt_filter.specs.FilterLaws.{IsUnder}
-use Rattle.vt_filter.proofs.Handed.{pixel_is_under}
+use Rattle.vt_tiles.specs.Depths.{texel_bytes}
+use Rattle.vt_tiles.specs.Texels.{Source}
+use Rattle.vt_tiles.specs.Shape.{Shape}
+use Rattle.vt_tiles.specs.Pages.{texel_page, IsWithinLimits}
+use Rattle.vt_tiles.specs.PagesLaws.{IsInside}
+use Rattle.vt_pictures.specs.Rows.{RowView}
+use Rattle.vt_pictures.specs.DrawLookups.{Note, WordNote, place_in_tile}
+use Rattle.vt_pictures.specs.Shots.{shot_row}
+use Rattle.vt_pictures.specs.JournalTypes.changes.RowLine.{RowLine}
+use Rattle.vt_pictures.specs.Changes.{Table, at}
+use Rattle.vt_swap.specs.Kept.{entry_of}
+use Rattle.vt_pictures.proofs.Versions.{one_to_one}
+use Rattle.vt_pictures.specs.Evidence.{IsBy, AreTrue, AreShown}
+use Rattle.vt_pictures.specs.FilterLaws.{IsUnder}
+use Rattle.vt_pictures.proofs.Handed.{pixel_is_under}
 use Rattle.vt_tiles.specs.Format.{stored}
 use Rattle.vt_tiles.specs.StoreViews.{IsStore, IsStoreIfTold}
 use Rattle.vt_tiles.proofs.Stored.{pieces_hold_texels}

@@ -1,7 +1,7 @@
 -- Frames that were filled with tiles of a store.
 use Rattle.std.specs.Prelude.{◌≡◌, ℕ, ◌*◌, Option, Some, IfSome, List, length, slice_get}
-use Rattle.vt_outside.specs.Files.{IsPiece}
-use Rattle.vt_pages.specs.Shape.{Shape}
+use Rattle.vt_tiles.specs.Files.{IsPiece}
+use Rattle.vt_tiles.specs.Shape.{Shape}
 use Rattle.vt_tiles.specs.Format.{tile_length, tile_start}
 use Rattle.vt_swap.specs.declared.records.LogRecord.{LogRecord}
 use Rattle.vt_swap.specs.declared.records.LogRecord.TheVariants.{Filled}

@@ -2,24 +2,24 @@
 
 ghost use Rattle.std.specs.Prelude.{◌≡◌, ℕ, ◌≤◌, ◌++◌, Option, Some, IfSome, List, [], slice_get, slice_index_or};
 ghost use mathlib.Core.List.{IsPrefix};
-ghost use Rattle.vt_pages.specs.Shape.{Shape};
-ghost use Rattle.vt_pages.specs.Pages.{IsWithinLimits};
-ghost use Rattle.vt_camera.specs.Rows.{RowView};
-ghost use Rattle.vt_draw.specs.Lookups.{Note};
-ghost use Rattle.vt_draw.specs.Shots.{shot_row};
-ghost use Rattle.vt_journal.specs.declared.changes.RowLine.{RowLine};
-ghost use Rattle.vt_journal.specs.Changes.{at};
+ghost use Rattle.vt_tiles.specs.Shape.{Shape};
+ghost use Rattle.vt_tiles.specs.Pages.{IsWithinLimits};
+ghost use Rattle.vt_pictures.specs.Rows.{RowView};
+ghost use Rattle.vt_pictures.specs.DrawLookups.{Note};
+ghost use Rattle.vt_pictures.specs.Shots.{shot_row};
+ghost use Rattle.vt_pictures.specs.JournalTypes.changes.RowLine.{RowLine};
+ghost use Rattle.vt_pictures.specs.Changes.{at};
 ghost use Rattle.vt_tiles.specs.Format.{stored};
 ghost use Rattle.vt_tiles.specs.StoreViews.{IsStore, IsStoreIfTold};
 ghost use Rattle.vt_pictures.specs.Scenes.{Scene};
 ghost use Rattle.vt_pictures.specs.Replays.{HasPixels, AreReplayed};
-ghost use Rattle.vt_filter.specs.Evidence.{AreTrue, AreShown};
+ghost use Rattle.vt_pictures.specs.Evidence.{AreTrue, AreShown};
 ghost use Rattle.vt_swap.specs.declared.records.LogRecord.{LogRecord};
 ghost use Rattle.vt_swap.specs.Logs.{changes_in, IsLawful};
 ghost use Rattle.vt_swap.specs.Notes.{IsSaidBy};
 ghost use Rattle.vt_swap_noted.specs.Filled.{AreStoredFills};
 
-use vt_filter::Filter;
+use vt_pictures::Filter;
 
 /// What a lawful log says of a version is true of that version's table over the store, where each frame was filled with a tile of
 /// the store.

@@ -1,1 +1,2 @@
+pub use Rattle.vt_sampler.specs.Samplers
 pub mod Entered

@@ -5,7 +5,7 @@ ghost use Rattle.vt_definitions.specs.Limits.{most_samplers};
 ghost use Rattle.vt_definitions.specs.Depths.{IsDepth};
 ghost use Rattle.vt_pages.specs.Pages.{pages_of};
 ghost use Rattle.vt_draw.specs.Shots.{shot_row, wants_in_rows};
-ghost use Rattle.vt_filter.specs.Evidence.{AreShown};
+ghost use Rattle.vt_pictures.specs.Evidence.{AreShown};
 ghost use Rattle.vt_swap.specs.Slots.{AreSlotsOf};
 ghost use Rattle.vt_swap.specs.Notes.{IsSaidBy};
 ghost use Rattle.vt_swap.specs.Readers.{HasEnteredMore};
@@ -15,8 +15,8 @@ ghost use Rattle.vt_swap_sampler.specs.Entered.{WasEnteredBetween};
 use std::sync::Wait;
 use vt_definitions::texel_length;
 use vt_draw::Shot;
-use vt_filter::Filter;
 use vt_outside::Gate;
+use vt_pictures::Filter;
 use vt_swap::{Slot, TableReader};
 
 /// Draws the rows of a sampler of a picture by a filter over a page cache, one after the other, each in a version that it enters, and

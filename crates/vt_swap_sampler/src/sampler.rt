@@ -4,7 +4,7 @@ ghost use Rattle.std.specs.Prelude.{◌≡◌, ℕ, ◌<◌, ◌≤◌, List, le
 ghost use Rattle.vt_definitions.specs.Limits.{most_samplers};
 ghost use Rattle.vt_definitions.specs.Depths.{IsDepth};
 ghost use Rattle.vt_draw.specs.Shots.{shot_row, wants_in_rows};
-ghost use Rattle.vt_filter.specs.Evidence.{AreShown};
+ghost use Rattle.vt_pictures.specs.Evidence.{AreShown};
 ghost use Rattle.vt_swap.specs.Slots.{AreSlotsOf};
 ghost use Rattle.vt_swap.specs.Notes.{IsSaidBy};
 ghost use Rattle.vt_swap.specs.Readers.{HasEnteredMore};
@@ -18,9 +18,9 @@ use std::sync::Wait;
 use vt_camera::Path;
 use vt_definitions::texel_length;
 use vt_draw::Shot;
-use vt_filter::Filter;
 use vt_outside::{Gate, NoMemory};
 use vt_pages::Geometry;
+use vt_pictures::Filter;
 use vt_swap::{Slot, TableReader};
 
 /// One of the samplers that share the rows of a picture: each draws the rows whose number leaves its own by the number of

@@ -9,11 +9,11 @@ use Rattle.vt_journal.specs.declared.changes.Event.{Event}
 use Rattle.vt_journal.specs.declared.changes.Event.TheVariants.{Changed as Made}
 use Rattle.vt_journal.specs.Changes.{Table, IsFree}
 use Rattle.vt_journal.specs.JournalText.{changes_of}
-use Rattle.vt_plan.specs.declared.batches.Planned.{Planned}
+use Rattle.vt_evict.specs.PlanTypes.batches.Planned.{Planned}
 use Rattle.vt_queue.specs.declared.items.Loaded.{Loaded}
-use Rattle.vt_load.specs.Readings.{is_lost}
-use Rattle.vt_machine.specs.Outcomes.{IsEntryFor, IsVictimOf, victim_events, group_of, group_if}
-use Rattle.vt_requests.specs.BatchRounds.{result_group, page_if}
+use Rattle.vt_streaming.specs.Readings.{is_lost}
+use Rattle.vt_streaming.specs.Outcomes.{IsEntryFor, IsVictimOf, victim_events, group_of, group_if}
+use Rattle.vt_streaming.specs.BatchRounds.{result_group, page_if}
 use Rattle.vt_swap.specs.declared.records.LogRecord.{LogRecord}
 use Rattle.vt_swap.specs.declared.records.LogRecord.TheVariants.{Changed, Filled}
 use Rattle.vt_swap.specs.Notes.{AreWordsOf}

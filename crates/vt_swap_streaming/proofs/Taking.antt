@@ -10,7 +10,7 @@ use Rattle.vt_queue.specs.declared.items.Loaded.{Loaded}
 use Rattle.vt_queue.specs.declared.views.PassView.{PassView}
 use Rattle.vt_queue.specs.PassViews.{pass_view}
 use Rattle.vt_queue.specs.Steps.{Takes}
-use Rattle.vt_loaders.specs.Streamed.{with_taken}
+use Rattle.vt_streaming.specs.Streamed.{with_taken}
 use Rattle.vt_streaming.specs.Streams.{Streams}
 use Rattle.vt_swap_streaming.specs.Brought.{is_kept}
 

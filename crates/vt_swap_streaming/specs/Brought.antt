@@ -5,11 +5,11 @@ use Rattle.vt_journal.specs.declared.changes.Event.{Event}
 use Rattle.vt_journal.specs.declared.changes.Change.TheVariants.{Map}
 use Rattle.vt_journal.specs.Changes.{newest}
 use Rattle.vt_journal.specs.JournalText.{changes_of}
-use Rattle.vt_plan.specs.declared.batches.Planned.{Planned}
+use Rattle.vt_evict.specs.PlanTypes.batches.Planned.{Planned}
 use Rattle.vt_queue.specs.declared.items.Loaded.{Loaded}
-use Rattle.vt_load.specs.Readings.{is_lost}
-use Rattle.vt_machine.specs.Outcomes.{IsEntryFor, group_of}
-use Rattle.vt_requests.specs.BatchRounds.{result_group, result_events, page_if}
+use Rattle.vt_streaming.specs.Readings.{is_lost}
+use Rattle.vt_streaming.specs.Outcomes.{IsEntryFor, group_of}
+use Rattle.vt_streaming.specs.BatchRounds.{result_group, result_events, page_if}
 use Rattle.vt_streaming.specs.declared.report.StreamReport.{StreamReport}
 use Rattle.vt_streaming.specs.Streams.{is_new}
 use Rattle.vt_swap.specs.declared.records.LogRecord.{LogRecord}

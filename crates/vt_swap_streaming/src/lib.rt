@@ -5,3 +5,4 @@ mod results;
 mod stream;
 
 pub use stream::stream_swapped;
+pub use vt_streaming::StreamReport;

@@ -1,1 +1,2 @@
+pub use Rattle.vt_swap_streaming.specs.Brought
 pub mod SwapTasks

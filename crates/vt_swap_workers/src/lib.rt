@@ -7,4 +7,5 @@ mod workers;
 
 pub use shared::SwapShared;
 pub use tasks::may_be_sent;
+pub use vt_swap_sampler::SwapSampler;
 pub use workers::{SwapDrawer, SwapFeeder};

@@ -1,8 +1,8 @@
 -- The tables of a few changes, and the last page.
 use Rattle.std.proofs.Common.{◌≡◌, ◌≢◌, ℕ, ◌+◌, ◌≤◌, Bool, true, false, cond, Some, None, List, [], ◌∷◌, sym, ap, ◌∙◌, arith}
-use Rattle.vt_pages.specs.Shape.{Shape}
-use Rattle.vt_pages.specs.Pages.{pages_of, root_of, IsWithinLimits}
-use Rattle.vt_pages.proofs.Lines.{reaches_root}
+use Rattle.vt_journal.specs.Shape.{Shape}
+use Rattle.vt_journal.specs.Pages.{pages_of, root_of, IsWithinLimits}
+use Rattle.vt_journal.proofs.Lines.{reaches_root}
 use Rattle.vt_journal.specs.declared.changes.Change.{Change}
 use Rattle.vt_journal.specs.declared.changes.Change.TheVariants.{Map, Unmap}
 use Rattle.vt_journal.specs.Changes.{newest, at}

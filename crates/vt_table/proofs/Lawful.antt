@@ -1,8 +1,8 @@
 -- When a page table is lawful, after each of its calls.
 use Rattle.std.proofs.Common.{◌≡◌, ◌≢◌, ℕ, ◌+◌, ◌≤◌, ◌<◌, inl, inr, Some, None, List, [], ◌∷◌, ◌++◌, length, set, sym, ap, ◌∙◌, subst, arith, length-set, get_or-set_other}
 use Rattle.vt_definitions.specs.Limits.{most_frames}
-use Rattle.vt_pages.specs.Shape.{Shape}
-use Rattle.vt_pages.specs.Pages.{pages_of, IsWithinLimits}
+use Rattle.vt_journal.specs.Shape.{Shape}
+use Rattle.vt_journal.specs.Pages.{pages_of, IsWithinLimits}
 use Rattle.vt_journal.specs.declared.changes.Change.{Change}
 use Rattle.vt_journal.specs.declared.changes.Change.TheVariants.{Map, Unmap}
 use Rattle.vt_journal.specs.Changes.{Table, newest, changed, IsFree, IsLegalNext, AreLegal}

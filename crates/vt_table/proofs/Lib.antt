@@ -1,3 +1,4 @@
+pub use Rattle.vt_journal.proofs.Versions
 pub mod Rooms
 pub mod Entries
 pub mod TileWords

@@ -2,7 +2,7 @@
 
 ghost use Rattle.std.specs.Prelude.{◌≡◌, ◌≢◌, ℕ, ◌*◌, ◌≤◌, List, [], ◌∷◌, ◌++◌, length};
 ghost use Rattle.vt_definitions.specs.Depths.{texel_length, word_at};
-ghost use Rattle.vt_pages.specs.Shape.{Shape};
+ghost use Rattle.vt_journal.specs.Shape.{Shape};
 ghost use Rattle.vt_journal.specs.declared.changes.Change.{Change};
 ghost use Rattle.vt_journal.specs.Changes.{newest, IsFree};
 ghost use Rattle.vt_table.specs.Views.{TableView, tile_of, tile_depth, tile_word, HoldsTiles, BringsTile};

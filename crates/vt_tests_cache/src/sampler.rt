@@ -3,8 +3,8 @@
 mod tables;
 
 ghost use Rattle.std.specs.Prelude.{◌≡◌, ◌<◌, ◌≤◌, length};
-ghost use Rattle.vt_definitions.specs.Limits.{most_samplers};
-ghost use Rattle.vt_definitions.specs.Depths.{IsDepth};
+ghost use Rattle.vt_pages.specs.Limits.{most_samplers};
+ghost use Rattle.vt_tiles.specs.Depths.{IsDepth};
 ghost use Rattle.vt_sampler.specs.Notes.{MapsRoot};
 
 use crate::checks::holds;

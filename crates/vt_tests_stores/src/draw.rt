@@ -4,7 +4,7 @@ mod blends;
 mod tables;
 
 ghost use Rattle.std.specs.Prelude.{◌≡◌, length, IfSome};
-ghost use Rattle.vt_definitions.specs.Depths.{IsDepth};
+ghost use Rattle.vt_ppm.specs.Depths.{IsDepth};
 
 use crate::draw::tables::Table;
 use crate::fixtures::{FOUR, holds, image_of};

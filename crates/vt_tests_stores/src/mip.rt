@@ -3,7 +3,7 @@
 mod halves;
 mod strips;
 
-ghost use Rattle.vt_definitions.specs.Tiles.{IsTileSide};
+ghost use Rattle.vt_text.specs.Tiles.{IsTileSide};
 
 use crate::fixtures::{FIVE_BY_THREE, FOUR, holds, image_of};
 use std::alloc::Global;

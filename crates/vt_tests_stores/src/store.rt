@@ -4,7 +4,7 @@ mod foreign;
 mod making;
 mod strips;
 
-ghost use Rattle.vt_definitions.specs.Depths.{IsDepth};
+ghost use Rattle.vt_ppm.specs.Depths.{IsDepth};
 
 use crate::fixtures::{FIVE_BY_THREE, FOUR, folder_of, holds, place};
 use crate::store::making::{

@@ -1,9 +1,9 @@
 -- What may be done to small page tables.
 use Rattle.std.proofs.Common.{◌≡◌, ℕ, Option, Some, None, List, [], ◌∷◌, inl, inr, refl, sym, ap, ◌∙◌, subst, arith}
-use Rattle.vt_journal.specs.declared.changes.Change.{Change}
-use Rattle.vt_journal.specs.declared.changes.Change.TheVariants.{Map}
-use Rattle.vt_journal.specs.Changes.{at, newest, IsNext}
-use Rattle.vt_journal.proofs.Versions.{newest-none, newest-more, mapped_after_map}
+use Rattle.vt_pictures.specs.JournalTypes.changes.Change.{Change}
+use Rattle.vt_pictures.specs.JournalTypes.changes.Change.TheVariants.{Map}
+use Rattle.vt_pictures.specs.Changes.{at, newest, IsNext}
+use Rattle.vt_pictures.proofs.Versions.{newest-none, newest-more, mapped_after_map}
 use Rattle.vt_swap.specs.Streamers.{MayBring}
 
 none_some : (x : ℕ) (o : Option ℕ) → o ≡ None → o ≡ Some x → ⊥

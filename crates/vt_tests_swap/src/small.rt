@@ -3,16 +3,16 @@
 
 ghost use Rattle.std.specs.Prelude.{◌≡◌, ◌<◌, [], ◌∷◌, length, IsTrue};
 ghost use Rattle.vt_pages.specs.Pages.{pages_of};
-ghost use Rattle.vt_journal.specs.declared.changes.Change.TheVariants.{Map, Unmap};
+ghost use Rattle.vt_pictures.specs.JournalTypes.changes.Change.TheVariants.{Map, Unmap};
 ghost use Rattle.vt_swap.specs.Slots.{AreSlotsOf};
 
 use std::alloc::Global;
 use std::sync::Wait;
 use vt_camera::{Path, parse_path};
 use vt_draw::Shot;
-use vt_filter::Nearest;
 use vt_outside::OpenGate;
 use vt_pages::Geometry;
+use vt_pictures::Nearest;
 use vt_swap::{Slot, SwapStreamer, TableReader, new_cache};
 
 // A picture of two pixels that want the pages 2 and 0.

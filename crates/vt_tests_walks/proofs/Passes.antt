@@ -11,16 +11,16 @@ use Rattle.vt_journal.specs.declared.changes.Change.TheVariants.{Map}
 use Rattle.vt_journal.specs.Changes.{Table, changed, at, newest, IsFree, IsNext}
 use Rattle.vt_journal.proofs.Versions.{newest-more, newest-none, mapped_after_map}
 use Rattle.vt_tiles.specs.Format.{tile_length, tile_start}
-use Rattle.vt_table.specs.Views.{IsTile}
+use Rattle.vt_streamer.specs.TableViews.{IsTile}
 use Rattle.vt_grace.specs.declared.sizes.Sizes.{Sizes}
 use Rattle.vt_grace.specs.Values.{WordsValue}
 use Rattle.vt_streamer.specs.Views.{StreamerView, IsStreamerOf}
-use Rattle.vt_plan.specs.declared.batches.Planned.{Planned}
+use Rattle.vt_evict.specs.PlanTypes.batches.Planned.{Planned}
 use Rattle.vt_machine.specs.Crews.{last_start}
 use Rattle.vt_machine.specs.Machines.{told_by}
 use Rattle.vt_machine.specs.Outcomes.{IsEntryFor, IsBatchFor}
 use Rattle.vt_machine.specs.Passes.{MayPlace}
-use Rattle.vt_word_workers.specs.Kits.{KitView, kit_state, IsIdleKit}
+use Rattle.vt_pass.specs.Kits.{KitView, kit_state, IsIdleKit}
 use Rattle.vt_pass.specs.Placed.{HasPlaced}
 use Rattle.vt_pass.proofs.Idle.{idle_placed}
 

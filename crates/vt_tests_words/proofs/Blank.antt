@@ -4,7 +4,7 @@ use Rattle.vt_journal.specs.declared.changes.Change.{Change}
 use Rattle.vt_journal.specs.declared.changes.Change.TheVariants.{Map}
 use Rattle.vt_journal.specs.Changes.{newest, IsFree, IsLegalNext}
 use Rattle.vt_journal.proofs.Versions.{newest-none}
-use Rattle.vt_table.proofs.Lawful.{table_spared}
+use Rattle.vt_streamer.proofs.Lawful.{table_spared}
 use Rattle.vt_grace.specs.declared.views.PassView.{PassView}
 use Rattle.vt_grace.specs.PassViews.{HasEntry, noting}
 use Rattle.vt_grace.specs.Values.{WordsValue}

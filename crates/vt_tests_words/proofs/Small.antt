@@ -1,9 +1,9 @@
 -- What is known of a small streamer.
 use Rattle.std.proofs.Common.{◌≡◌, ◌*◌, ℕ, List, length, refl, ap, ◌∙◌, sym, subst, arith, inl}
 use Rattle.vt_pages.specs.Pages.{pages_of, root_of}
-use Rattle.vt_table.specs.Views.{IsTile}
-use Rattle.vt_table.proofs.Lawful.{table_spared}
-use Rattle.vt_table.proofs.FewChanges.{last_page}
+use Rattle.vt_streamer.specs.TableViews.{IsTile}
+use Rattle.vt_streamer.proofs.Lawful.{table_spared}
+use Rattle.vt_streamer.proofs.FewChanges.{last_page}
 use Rattle.vt_grace.specs.declared.sizes.Sizes.{Sizes}
 use Rattle.vt_grace.specs.Values.{WordsValue}
 use Rattle.vt_streamer.specs.Views.{StreamerView, table_of, IsStreamerOf}

@@ -2,10 +2,10 @@
 use Rattle.std.specs.Prelude.{◌≡◌, ◌≢◌, ℕ, true}
 use Rattle.vt_pages.specs.Shape.{Shape}
 use Rattle.vt_camera.specs.Paths.{PathView}
-use Rattle.vt_plan.specs.declared.batches.Planned.{Planned}
+use Rattle.vt_evict.specs.PlanTypes.batches.Planned.{Planned}
 use Rattle.vt_grace.specs.Values.{WordsValue, PassValue}
 use Rattle.vt_grace.specs.Tokens.{IsPassOf}
-use Rattle.vt_lookup.specs.Notes.{Fits}
+use Rattle.vt_sampler.specs.LookupNotes.{Fits}
 use Rattle.vt_sampler.specs.Samplers.{SamplerView, IsFor}
 use Rattle.vt_streamer.specs.Views.{StreamerView, IsStreamerOf}
 

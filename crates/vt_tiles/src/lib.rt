@@ -12,3 +12,4 @@ pub use header::{header_of, parse_header, store_length, tile_length, tile_start}
 pub use laws::{pieces_hold_texels, stored_words_are_small, stores_hold_sources, stores_open};
 pub use store::{Store, Stores};
 pub use texels::{double_bytes, put_span, rows_above};
+pub use vt_pages::Geometry;

@@ -2,7 +2,7 @@
 use Rattle.std.proofs.Common.{◌≡◌, ℕ, ◌+◌, ◌<◌, ◌≤◌, ◌^◌, Bool, true, false, nat_lt, List, [], ◌∷◌, length, Option, Result, Ok, Err, refl, sym, ap, ◌∙◌, subst, arith}
 use Rattle.std.specs.Prelude.{All, IsSome, slice_index, count_by, if◌then◌else◌, ◌==◌}
 use Rattle.std.proofs.lemmas.List.Sums.{sum_by-cons}
-use Rattle.vt_definitions.specs.Limits.{most_versions, most_entries}
+use Rattle.vt_pages.specs.Limits.{most_versions, most_entries}
 use Rattle.vt_pages.specs.Shape.{Shape}
 use Rattle.vt_pages.specs.Pages.{pages_of, root_of}
 use Rattle.vt_camera.specs.Paths.{PathView}
@@ -12,20 +12,20 @@ use Rattle.vt_journal.specs.Changes.{newest}
 use Rattle.vt_journal.specs.JournalText.{Pass, IsEventInChain}
 use Rattle.vt_feedback.specs.declared.Wanted.{Wanted}
 use Rattle.vt_feedback.specs.Wants.{IsWants}
-use Rattle.vt_plan.specs.declared.batches.Planned.{Planned}
+use Rattle.vt_evict.specs.PlanTypes.batches.Planned.{Planned}
 use Rattle.vt_evict.specs.Views.{RecencyView, pages_needed}
 use Rattle.vt_evict.specs.Batches.{IsLawful, IsSettled, read_entries}
 use Rattle.vt_evict.specs.Plans.{plan_of}
-use Rattle.vt_machine.specs.Drawings.{Drawing}
-use Rattle.vt_machine.specs.declared.crew.PassReport.{PassReport}
-use Rattle.vt_machine.specs.Crews.{last_start}
-use Rattle.vt_workers.specs.Jobs.{Job}
-use Rattle.vt_machine.specs.Outcomes.{IsBatchFor, IsOutcome}
-use Rattle.vt_machine.specs.Requests.{FileState, AreReadFor, ArePartlyReadFor, counts_of, lost_entries}
+use Rattle.vt_walk_decisions.specs.Drawings.{Drawing}
+use Rattle.vt_walk_decisions.specs.MachineTypes.crew.PassReport.{PassReport}
+use Rattle.vt_walk_decisions.specs.Crews.{last_start}
+use Rattle.vt_walk_decisions.specs.Jobs.{Job}
+use Rattle.vt_walk_decisions.specs.Outcomes.{IsBatchFor, IsOutcome}
+use Rattle.vt_walk_decisions.specs.Requests.{FileState, AreReadFor, ArePartlyReadFor, counts_of, lost_entries}
 use Rattle.vt_outside.specs.Counts.{RoseTogetherBy}
 use Rattle.vt_outside.specs.declared.answers.NoMemory.{NoMemory}
-use Rattle.vt_machine.specs.Machines.{Setup, MachineState}
-use Rattle.vt_machine.specs.Passes.{MayPrepare, IsJobFor, Ran, Broke, Ends}
+use Rattle.vt_walk_decisions.specs.Machines.{Setup, MachineState}
+use Rattle.vt_walk_decisions.specs.Passes.{MayPrepare, IsJobFor, Ran, Broke, Ends}
 use Rattle.vt_walk_decisions.specs.declared.steps.Outlook.{Outlook}
 use Rattle.vt_walk_decisions.specs.declared.tallies.Tally.{Tally}
 use Rattle.vt_walk_decisions.specs.declared.input.WalkInput.{WalkInput}

@@ -3,9 +3,9 @@ use Rattle.std.proofs.Common.{◌≡◌, ℕ, suc, ◌+◌, Bool, true, false, c
 use Rattle.std.specs.List.{filter, count_by}
 use Rattle.std.proofs.lemmas.List.Sums.{length-filter, sum_by-append}
 use Rattle.vt_pages.specs.Shape.{Shape}
-use Rattle.vt_plan.specs.declared.batches.Planned.{Planned}
-use Rattle.vt_machine.specs.Outcomes.{lost_count}
-use Rattle.vt_machine.specs.Requests.{is_tile_at, times_planned, lost_entries}
+use Rattle.vt_evict.specs.PlanTypes.batches.Planned.{Planned}
+use Rattle.vt_walk_decisions.specs.Outcomes.{lost_count}
+use Rattle.vt_walk_decisions.specs.Requests.{is_tile_at, times_planned, lost_entries}
 use Rattle.vt_walk.specs.Fits.{WalkSetup}
 use Rattle.vt_walk.specs.Runs.{WalkPass, IsRun, planned_in, lost_in}
 use Rattle.vt_walk.specs.Logs.{reads_of}

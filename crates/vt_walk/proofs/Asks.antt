@@ -12,8 +12,8 @@ use Rattle.vt_outside.specs.Files.{Asked}
 use Rattle.vt_outside.specs.Places.{times_asked, times_failed, is_read_of}
 use Rattle.vt_outside.specs.declared.place.Place.{Place}
 use Rattle.vt_pages.specs.Shape.{Shape}
-use Rattle.vt_plan.specs.declared.batches.Planned.{Planned}
-use Rattle.vt_machine.specs.Requests.{FileState, AllTell, AreReadFor, ArePartlyReadFor, times_asked_by, times_failed_by, lost_entries}
+use Rattle.vt_evict.specs.PlanTypes.batches.Planned.{Planned}
+use Rattle.vt_walk_decisions.specs.Requests.{FileState, AllTell, AreReadFor, ArePartlyReadFor, times_asked_by, times_failed_by, lost_entries}
 use Rattle.vt_walk.specs.Reads.{AreAskedFor, AreAskedAtMostFor, OnTold}
 use Rattle.vt_walk.specs.States.{places_of}
 use Rattle.vt_walk.proofs.Asking.{count_both}

@@ -21,11 +21,11 @@ use Rattle.vt_journal.specs.declared.changes.Change.{Change}
 use Rattle.vt_journal.specs.JournalText.{head_text, pinned_changes}
 use Rattle.vt_tiles.specs.Format.{tile_start, tile_length}
 use Rattle.vt_tiles.specs.StoreViews.{IsStoreIfTold}
-use Rattle.vt_plan.specs.declared.batches.Planned.{Planned}
+use Rattle.vt_evict.specs.PlanTypes.batches.Planned.{Planned}
 use Rattle.vt_evict.specs.Views.{RecencyView, first_view}
-use Rattle.vt_machine.specs.Drawings.{Drawing}
-use Rattle.vt_machine.specs.Requests.{FileState, AllTell, counts_of}
-use Rattle.vt_machine.specs.Machines.{MachineState}
+use Rattle.vt_walk_decisions.specs.Drawings.{Drawing}
+use Rattle.vt_walk_decisions.specs.Requests.{FileState, AllTell, counts_of}
+use Rattle.vt_walk_decisions.specs.Machines.{MachineState}
 use Rattle.vt_walk_decisions.specs.declared.error.WalkError.{WalkError}
 use Rattle.vt_walk_decisions.specs.declared.input.WalkInput.{WalkInput}
 use Rattle.vt_walk_decisions.specs.Refusals.{refusal_by}

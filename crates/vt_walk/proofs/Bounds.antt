@@ -6,7 +6,7 @@ use Rattle.std.proofs.lemmas.List.Elements.{All-from_recursion}
 use Rattle.std.proofs.lemmas.List.Sorted.{length_permutation}
 use Rattle.std.proofs.lemmas.List.Sums.{sum_by-cons, count_by-le-length}
 use Rattle.std.proofs.lemmas.List.FromFn.{length-range_with_len}
-use Rattle.vt_definitions.specs.Limits.{most_entries}
+use Rattle.vt_pages.specs.Limits.{most_entries}
 use Rattle.vt_pages.specs.Shape.{Shape}
 use Rattle.vt_journal.specs.declared.changes.Change.{Change}
 use Rattle.vt_journal.specs.declared.changes.Change.TheVariants.{Map, Unmap}
@@ -15,8 +15,8 @@ use Rattle.vt_journal.specs.declared.changes.Event.TheVariants.{Changed, Lost}
 use Rattle.vt_journal.specs.JournalText.{IsEventInChain, changes_of, pinned_change}
 use Rattle.vt_journal.specs.Following.{AreEventsAfter}
 use Rattle.vt_journal.proofs.EventLines.{length-changes_of}
-use Rattle.vt_plan.specs.declared.batches.Planned.{Planned}
-use Rattle.vt_machine.specs.Outcomes.{victim_events, group_if, group_at, pass_events, IsOutcome}
+use Rattle.vt_evict.specs.PlanTypes.batches.Planned.{Planned}
+use Rattle.vt_walk_decisions.specs.Outcomes.{victim_events, group_if, group_at, pass_events, IsOutcome}
 use Rattle.vt_walk.specs.Fits.{WalkSetup}
 use Rattle.vt_walk.specs.Runs.{WalkPass, IsWalkSetup, IsRun, IsNextPass, journal_after}
 use Rattle.vt_walk.specs.Logs.{events_in, reads_of}

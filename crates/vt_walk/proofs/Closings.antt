@@ -10,7 +10,7 @@ use Rattle.vt_outside.specs.Files.{Asked, with_places}
 use Rattle.vt_outside.specs.Places.{times_asked, times_failed, is_read_of}
 use Rattle.vt_outside.specs.declared.place.Place.{Place}
 use Rattle.vt_outside.specs.declared.outside.Folder.{Ghosts as FolderMeanings}
-use Rattle.vt_machine.specs.Requests.{FileState, AreSameFiles, counts_of}
+use Rattle.vt_walk_decisions.specs.Requests.{FileState, AreSameFiles, counts_of}
 use Rattle.vt_walk.specs.States.{WalkState, AreOpen, places_of, walk_state}
 use Rattle.vt_walk.specs.Reads.{OnTold}
 use Rattle.vt_walk.specs.Closing.{with_closed, AreOtherNamesAsBefore}

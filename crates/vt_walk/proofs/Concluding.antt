@@ -11,7 +11,7 @@ use Rattle.vt_outside.specs.declared.answers.OutsideError.{OutsideError}
 use Rattle.vt_outside.specs.declared.answers.OutsideError.TheVariants.{Failed as Fault, NoMemory as NoRoom}
 use Rattle.vt_outside.specs.declared.outside.Folder.{Ghosts as FolderMeanings}
 use Rattle.vt_camera.specs.Paths.{PathView}
-use Rattle.vt_machine.specs.Requests.{FileState, AreSameFiles, counts_of}
+use Rattle.vt_walk_decisions.specs.Requests.{FileState, AreSameFiles, counts_of}
 use Rattle.vt_walk_decisions.specs.declared.error.WalkError.{WalkError}
 use Rattle.vt_walk_decisions.specs.declared.error.WalkError.TheVariants.{NoMemory}
 use Rattle.vt_walk_decisions.specs.Refusals.{refusal_by}

@@ -9,12 +9,12 @@ use Rattle.vt_journal.specs.declared.changes.Change.{Change}
 use Rattle.vt_journal.specs.declared.changes.RowLine.{RowLine}
 use Rattle.vt_journal.specs.Changes.{Table, newest}
 use Rattle.vt_tiles.specs.StoreViews.{IsStore}
-use Rattle.vt_pictures.specs.Scenes.{Scene}
-use Rattle.vt_machine.specs.Drawings.{Drawing}
-use Rattle.vt_machine.specs.Machines.{Setup, MachineState}
-use Rattle.vt_pictures.specs.Replays.{IsPictureOf}
-use Rattle.vt_machine.specs.Passes.{IsPictured, IsJobFor, MapsNeeded}
-use Rattle.vt_machine.proofs.Settled.{settled}
+use Rattle.vt_walk_decisions.specs.Scenes.{Scene}
+use Rattle.vt_walk_decisions.specs.Drawings.{Drawing}
+use Rattle.vt_walk_decisions.specs.Machines.{Setup, MachineState}
+use Rattle.vt_walk_decisions.specs.Replays.{IsPictureOf}
+use Rattle.vt_walk_decisions.specs.Passes.{IsPictured, IsJobFor, MapsNeeded}
+use Rattle.vt_walk_decisions.proofs.Settled.{settled}
 use Rattle.vt_walk_decisions.specs.declared.settings.Settings.{Settings}
 use Rattle.vt_walk_decisions.specs.declared.mode.Mode.{Mode}
 use Rattle.vt_walk_decisions.specs.declared.mode.Mode.TheVariants.{Settled}

@@ -12,15 +12,15 @@ use Rattle.vt_words.specs.Names.{picture_name}
 use Rattle.vt_camera.specs.Paths.{PathView}
 use Rattle.vt_journal.specs.Changes.{Table}
 use Rattle.vt_tiles.specs.StoreViews.{IsStore}
-use Rattle.vt_plan.specs.declared.batches.Planned.{Planned}
+use Rattle.vt_evict.specs.PlanTypes.batches.Planned.{Planned}
 use Rattle.vt_evict.specs.Views.{RecencyView, pages_needed}
-use Rattle.vt_pictures.specs.Scenes.{Scene}
-use Rattle.vt_machine.specs.Drawings.{Drawing}
-use Rattle.vt_machine.specs.Outcomes.{lost_count}
-use Rattle.vt_machine.specs.Requests.{FileState, AllTell, ArePartlyReadFor, counts_of}
-use Rattle.vt_machine.specs.Machines.{Setup, MachineState}
-use Rattle.vt_pictures.specs.Replays.{IsFull}
-use Rattle.vt_machine.specs.Passes.{MapsNeeded}
+use Rattle.vt_walk_decisions.specs.Scenes.{Scene}
+use Rattle.vt_walk_decisions.specs.Drawings.{Drawing}
+use Rattle.vt_walk_decisions.specs.Outcomes.{lost_count}
+use Rattle.vt_walk_decisions.specs.Requests.{FileState, AllTell, ArePartlyReadFor, counts_of}
+use Rattle.vt_walk_decisions.specs.Machines.{Setup, MachineState}
+use Rattle.vt_walk_decisions.specs.Replays.{IsFull}
+use Rattle.vt_walk_decisions.specs.Passes.{MapsNeeded}
 use Rattle.vt_walk_decisions.specs.declared.error.WalkError.{WalkError}
 use Rattle.vt_walk_decisions.specs.declared.error.WalkError.TheVariants as walk_error
 use Rattle.vt_walk_decisions.specs.declared.mode.Mode.{Mode}

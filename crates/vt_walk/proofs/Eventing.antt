@@ -18,11 +18,11 @@ use Rattle.vt_journal.specs.Changes.{Table, changed, newest, IsFree, IsNext, IsO
 use Rattle.vt_journal.specs.JournalText.{changes_of}
 use Rattle.vt_journal.specs.Following.{AreEventsAfter}
 use Rattle.vt_journal.proofs.Versions.{newest-more, in_turn-more, one_to_one, mapped_after_unmap}
-use Rattle.vt_plan.specs.declared.batches.Planned.{Planned}
+use Rattle.vt_evict.specs.PlanTypes.batches.Planned.{Planned}
 use Rattle.vt_evict.proofs.SettleLemmas.{self_eq}
 use Rattle.vt_evict.proofs.ListLemmas.{nat_eq_swap, range_once}
-use Rattle.vt_machine.specs.Outcomes.{IsEntryFor, IsBatchFor, IsVictimOf, victim_events, group_of, group_if, group_at, pass_events, IsOutcome}
-use Rattle.vt_machine.proofs.Streaming.{entry_stays}
+use Rattle.vt_walk_decisions.specs.Outcomes.{IsEntryFor, IsBatchFor, IsVictimOf, victim_events, group_of, group_if, group_at, pass_events, IsOutcome}
+use Rattle.vt_walk_decisions.proofs.Streaming.{entry_stays}
 
 -- an entry's victim is not pinned
 abbrev pub HasUnpinnedVictim : Shape → ℕ → Planned → Type 0

@@ -2,7 +2,7 @@
 use Rattle.std.proofs.Common.{ℕ, ◌+◌, ◌≤◌, inr, List, ◌∷◌, ◌++◌, length, length-append, sum, Option, Some, None, arith}
 use Rattle.vt_outside.specs.Counts.{added, Rose, RoseBy, RoseTogetherBy}
 use Rattle.vt_outside.specs.declared.place.Place.{Place}
-use Rattle.vt_plan.specs.declared.batches.Planned.{Planned}
+use Rattle.vt_evict.specs.PlanTypes.batches.Planned.{Planned}
 use Rattle.vt_walk.specs.Walks.{WalkGiven}
 use Rattle.vt_walk.specs.States.{WalkState}
 use Rattle.vt_walk.specs.Reads.{AreAskedFor, OnTold}

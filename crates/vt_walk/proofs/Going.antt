@@ -5,10 +5,10 @@ use Rattle.vt_camera.specs.Paths.{PathView}
 use Rattle.vt_journal.specs.Changes.{Table}
 use Rattle.vt_tiles.specs.StoreViews.{IsStore}
 use Rattle.vt_evict.specs.Views.{RecencyView}
-use Rattle.vt_pictures.specs.Scenes.{Scene}
-use Rattle.vt_machine.specs.Drawings.{Drawing}
-use Rattle.vt_machine.specs.Machines.{MachineState}
-use Rattle.vt_machine.specs.Passes.{MapsNeeded}
+use Rattle.vt_walk_decisions.specs.Scenes.{Scene}
+use Rattle.vt_walk_decisions.specs.Drawings.{Drawing}
+use Rattle.vt_walk_decisions.specs.Machines.{MachineState}
+use Rattle.vt_walk_decisions.specs.Passes.{MapsNeeded}
 use Rattle.vt_walk_decisions.specs.declared.error.WalkError.{WalkError}
 use Rattle.vt_walk_decisions.specs.declared.error.WalkError.TheVariants as walk_error
 use Rattle.vt_walk_decisions.specs.declared.mode.Mode.TheVariants.{Settled}

@@ -6,14 +6,14 @@ use Rattle.std.proofs.Math.Nat.{mul-div_cancel}
 use Rattle.std.proofs.lemmas.Bool.Decides.{nat_tests}
 use Rattle.std.proofs.lemmas.List.Sums.{sum_by-cons}
 use Rattle.std.proofs.lemmas.Nat.{mul-le}
-use Rattle.vt_definitions.specs.Depths.{IsDepth, texel_length}
+use Rattle.vt_ppm.specs.Depths.{IsDepth, texel_length}
 use Rattle.vt_outside.specs.Places.{times_failed}
 use Rattle.vt_outside.specs.declared.place.Place.{Place}
 use Rattle.vt_pages.specs.Shape.{Shape}
 use Rattle.vt_pages.specs.Pages.{IsWithinLimits, pages_of}
 use Rattle.vt_tiles.specs.Format.{tile_area, tile_length, tile_start}
-use Rattle.vt_plan.specs.declared.batches.Planned.{Planned}
-use Rattle.vt_machine.specs.Requests.{is_tile_at, times_planned}
+use Rattle.vt_evict.specs.PlanTypes.batches.Planned.{Planned}
+use Rattle.vt_walk_decisions.specs.Requests.{is_tile_at, times_planned}
 use Rattle.vt_walk.specs.Reads.{lost_reads}
 
 -- a tile has bytes

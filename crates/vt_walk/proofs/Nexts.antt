@@ -7,12 +7,12 @@ use Rattle.vt_feedback.specs.declared.Wanted.{Wanted}
 use Rattle.vt_feedback.specs.Wants.{IsWants}
 use Rattle.vt_evict.specs.Views.{RecencyView}
 use Rattle.vt_evict.specs.Batches.{IsSettled, read_entries}
-use Rattle.vt_machine.specs.Drawings.{Drawing}
-use Rattle.vt_machine.specs.declared.crew.PassReport.{PassReport}
-use Rattle.vt_workers.specs.Jobs.{Job}
-use Rattle.vt_machine.specs.RowOrders.{AreRowsInOrder}
-use Rattle.vt_machine.specs.Machines.{MachineState}
-use Rattle.vt_machine.specs.Passes.{Ran}
+use Rattle.vt_walk_decisions.specs.Drawings.{Drawing}
+use Rattle.vt_walk_decisions.specs.MachineTypes.crew.PassReport.{PassReport}
+use Rattle.vt_walk_decisions.specs.Jobs.{Job}
+use Rattle.vt_walk_decisions.specs.RowOrders.{AreRowsInOrder}
+use Rattle.vt_walk_decisions.specs.Machines.{MachineState}
+use Rattle.vt_walk_decisions.specs.Passes.{Ran}
 use Rattle.vt_walk.specs.Fits.{WalkSetup}
 use Rattle.vt_walk.specs.Runs.{WalkPass, pass_of, journal_after, recency_after, plan_after, IsStepOf, IsNextPass}
 

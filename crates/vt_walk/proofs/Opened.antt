@@ -11,8 +11,8 @@ use Rattle.vt_outside.specs.declared.place.Place.{Place}
 use Rattle.vt_outside.specs.declared.outside.File.{Ghosts as FileMeanings}
 use Rattle.vt_pages.specs.Shape.{Shape}
 use Rattle.vt_tiles.specs.StoreViews.{StoreView}
-use Rattle.vt_machine.specs.Requests.{counts_of}
-use Rattle.vt_machine.specs.Machines.{files_of, told_by}
+use Rattle.vt_walk_decisions.specs.Requests.{counts_of}
+use Rattle.vt_walk_decisions.specs.Machines.{files_of, told_by}
 use Rattle.vt_walk.specs.States.{places_of}
 use Rattle.vt_walk.specs.Closing.{with_closed, AreFresh}
 use Rattle.vt_walk.specs.Opening.{IsFresh}

@@ -8,11 +8,11 @@ use Rattle.vt_outside.specs.declared.answers.OutsideError.TheVariants.{Failed, N
 use Rattle.vt_camera.specs.Paths.{PathView}
 use Rattle.vt_journal.specs.JournalText.{Pass, pass_text}
 use Rattle.vt_journal.specs.Passes.{pass_of as text_of}
-use Rattle.vt_plan.specs.declared.batches.Planned.{Planned}
+use Rattle.vt_evict.specs.PlanTypes.batches.Planned.{Planned}
 use Rattle.vt_evict.specs.Views.{RecencyView}
-use Rattle.vt_machine.specs.Outcomes.{lost_count}
-use Rattle.vt_machine.specs.Requests.{FileState, AllTell, AreSameFiles, ArePartlyReadFor, counts_of}
-use Rattle.vt_machine.specs.Machines.{MachineState}
+use Rattle.vt_walk_decisions.specs.Outcomes.{lost_count}
+use Rattle.vt_walk_decisions.specs.Requests.{FileState, AllTell, AreSameFiles, ArePartlyReadFor, counts_of}
+use Rattle.vt_walk_decisions.specs.Machines.{MachineState}
 use Rattle.vt_walk_decisions.specs.declared.error.WalkError.{WalkError}
 use Rattle.vt_walk_decisions.specs.declared.error.WalkError.TheVariants as walk_error
 use Rattle.vt_walk_decisions.specs.declared.steps.WalkStep.{WalkStep}

@@ -5,7 +5,7 @@ use Rattle.std.specs.List.{range_with_len}
 use Rattle.std.proofs.lemmas.List.FromFn.{map-range_with_len_more, length-map-range_with_len}
 use Rattle.std.proofs.lemmas.List.Sums.{sum_by_push}
 use mathlib.Core.Path.{fun_ext}
-use Rattle.vt_definitions.specs.Depths.{IsDepth}
+use Rattle.vt_ppm.specs.Depths.{IsDepth}
 use Rattle.vt_outside.specs.Files.{noted}
 use Rattle.vt_outside.specs.Places.{times_asked, times_failed, is_read_of}
 use Rattle.vt_outside.specs.declared.place.Place.{Place}
@@ -19,9 +19,9 @@ use Rattle.vt_journal.specs.Changes.{Table, changed, newest, IsNext}
 use Rattle.vt_journal.specs.JournalText.{pinned_change}
 use Rattle.vt_journal.proofs.Versions.{newest-none, newest-more, mapped_after_map}
 use Rattle.vt_evict.proofs.FirstLemmas.{range-more}
-use Rattle.vt_machine.specs.Machines.{MachineState}
-use Rattle.vt_machine.specs.Passes.{with_placed}
-use Rattle.vt_machine.specs.Requests.{is_tile_at, times_planned}
+use Rattle.vt_walk_decisions.specs.Machines.{MachineState}
+use Rattle.vt_walk_decisions.specs.Passes.{with_placed}
+use Rattle.vt_walk_decisions.specs.Requests.{is_tile_at, times_planned}
 use Rattle.vt_walk.specs.Reads.{AreAskedFor, AreAskedAtMostFor, OnTold, lost_reads}
 use Rattle.vt_walk.specs.Placing.{with_changes, first_pinned, tile_place, with_tiles}
 use Rattle.vt_walk.proofs.Asking.{count_both}

@@ -8,7 +8,7 @@ use Rattle.vt_outside.specs.declared.answers.OutsideError.{OutsideError}
 use Rattle.vt_outside.specs.declared.answers.OutsideError.TheVariants.{Failed, NoMemory}
 use Rattle.vt_camera.specs.Paths.{PathView}
 use Rattle.vt_evict.specs.Views.{RecencyView}
-use Rattle.vt_machine.specs.Machines.{MachineState}
+use Rattle.vt_walk_decisions.specs.Machines.{MachineState}
 use Rattle.vt_walk_decisions.specs.declared.error.WalkError.{WalkError}
 use Rattle.vt_walk_decisions.specs.declared.steps.WalkStep.{WalkStep}
 use Rattle.vt_walk_decisions.specs.Refusals.{refusal_by}

@@ -3,8 +3,8 @@ use Rattle.std.proofs.Common.{◌≡◌, ℕ, ◌*◌, List, [], ◌∷◌, leng
 use Rattle.std.specs.Prelude.{All}
 use Rattle.std.specs.List.{AllByRecursion, concat}
 use Rattle.std.proofs.lemmas.List.Elements.{recursion_from_All}
-use Rattle.vt_definitions.specs.Depths.{texel_length}
-use Rattle.vt_pictures.specs.Replays.{IsFull}
+use Rattle.vt_ppm.specs.Depths.{texel_length}
+use Rattle.vt_walk_decisions.specs.Replays.{IsFull}
 
 joined : (m : ℕ) (rows : List (List ℕ)) → AllByRecursion (λ row. length row ≡ m) rows → length (concat rows) ≡ length rows * m
 joined m [] all = omega arith

@@ -16,13 +16,13 @@ use Rattle.vt_journal.proofs.Growing.{lawful_in_turn}
 use Rattle.vt_journal.proofs.ByParts.{lawful_by_parts}
 use Rattle.vt_feedback.specs.declared.Wanted.{Wanted}
 use Rattle.vt_feedback.specs.Wants.{IsWants}
-use Rattle.vt_plan.specs.declared.batches.Planned.{Planned}
+use Rattle.vt_evict.specs.PlanTypes.batches.Planned.{Planned}
 use Rattle.vt_evict.specs.Views.{RecencyView, IsTable, first_view, touched}
 use Rattle.vt_evict.specs.Batches.{IsLawful, IsFree, IsVictim}
 use Rattle.vt_evict.proofs.FirstLemmas.{range-more, first_table}
 use Rattle.vt_evict.proofs.TouchLemmas.{touched_table}
 use Rattle.vt_evict.proofs.LawfulLemmas.{plan_lawful, plan_count}
-use Rattle.vt_machine.specs.Outcomes.{IsBatchFor}
+use Rattle.vt_walk_decisions.specs.Outcomes.{IsBatchFor}
 use Rattle.vt_walk.specs.Fits.{WalkSetup}
 use Rattle.vt_walk.specs.Runs.{WalkPass, IsWalkSetup, journal_after, recency_after, plan_after, IsNextPass, IsRun}
 use Rattle.vt_walk.specs.Agreements.{entry_of, Agrees}

@@ -16,14 +16,14 @@ use Rattle.vt_journal.specs.Changes.{Table, changed, newest, with_entry}
 use Rattle.vt_journal.specs.JournalText.{changes_of}
 use Rattle.vt_journal.proofs.Versions.{newest-more, entry-same, entry-other, same_page}
 use Rattle.vt_journal.proofs.EventLines.{changes_of-append}
-use Rattle.vt_plan.specs.declared.batches.Planned.{Planned}
+use Rattle.vt_evict.specs.PlanTypes.batches.Planned.{Planned}
 use Rattle.vt_evict.specs.Views.{RecencyView, IsTable}
 use Rattle.vt_evict.specs.Batches.{IsLawful, IsLawfulEntry, IsFree, IsVictim, IsSettled, IsSettledTable, read_entries, is_read, is_victim}
 use Rattle.vt_evict.specs.Kept.{applied, without_victim}
-use Rattle.vt_plan.proofs.ListLemmas.{nat_eq_true}
+use Rattle.vt_evict.proofs.PlanListLemmas.{nat_eq_true}
 use Rattle.vt_evict.proofs.SettleLemmas.{applied_some, applied_none, settle_step, nothing_read, contains_tail}
-use Rattle.vt_machine.specs.Outcomes.{victim_events, group_of, group_if, group_at, pass_events, IsOutcome}
-use Rattle.vt_machine.proofs.AnyOrder.{any_order}
+use Rattle.vt_walk_decisions.specs.Outcomes.{victim_events, group_of, group_if, group_at, pass_events, IsOutcome}
+use Rattle.vt_walk_decisions.proofs.AnyOrder.{any_order}
 use Rattle.vt_walk.specs.Agreements.{entry_of, Agrees}
 use Rattle.vt_walk.proofs.Agreeing.{may_be_run}
 

@@ -8,11 +8,11 @@ use Rattle.vt_journal.specs.declared.changes.RowLine.{RowLine}
 use Rattle.vt_journal.specs.Changes.{Table, at}
 use Rattle.vt_journal.specs.JournalText.{changes_of}
 use Rattle.vt_journal.proofs.Versions.{at-front}
-use Rattle.vt_workers.specs.Jobs.{Job}
-use Rattle.vt_machine.specs.Drawings.{Drawing}
-use Rattle.vt_machine.specs.Machines.{MachineState}
-use Rattle.vt_machine.specs.Passes.{IsPictured}
-use Rattle.vt_pictures.specs.Replays.{HasPixels}
+use Rattle.vt_walk_decisions.specs.Jobs.{Job}
+use Rattle.vt_walk_decisions.specs.Drawings.{Drawing}
+use Rattle.vt_walk_decisions.specs.Machines.{MachineState}
+use Rattle.vt_walk_decisions.specs.Passes.{IsPictured}
+use Rattle.vt_walk_decisions.specs.Replays.{HasPixels}
 use Rattle.vt_walk.specs.Fits.{WalkSetup}
 use Rattle.vt_walk.specs.Runs.{WalkPass, journal_after, IsRun}
 use Rattle.vt_walk.specs.Shown.{last_rows, IsRunPicture}

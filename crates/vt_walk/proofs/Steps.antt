@@ -13,8 +13,8 @@ use Rattle.vt_journal.specs.JournalText.{pass_text}
 use Rattle.vt_pages.specs.Shape.{Shape}
 use Rattle.vt_words.specs.Names.{picture_name}
 use Rattle.vt_evict.proofs.FirstLemmas.{range-more}
-use Rattle.vt_machine.specs.Outcomes.{lost_count}
-use Rattle.vt_machine.specs.Requests.{lost_entries}
+use Rattle.vt_walk_decisions.specs.Outcomes.{lost_count}
+use Rattle.vt_walk_decisions.specs.Requests.{lost_entries}
 use Rattle.vt_walk.specs.Runs.{WalkPass, IsRun, IsNextPass, IsFinished, run_text, told_of, planned_in, lost_in}
 use Rattle.vt_walk.specs.Logs.{picture_line, picture_lines}
 use Rattle.vt_walk.specs.Shown.{last_rows, IsRunPicture}

@@ -1,8 +1,8 @@
 -- A machine before a walk has placed its pinned pages.
 use Rattle.std.specs.Prelude.{◌≡◌, List, [], Option, IsSome, is_some}
 use Rattle.vt_outside.specs.Files.{Asked}
-use Rattle.vt_machine.specs.Requests.{FileState, AllTell}
-use Rattle.vt_machine.specs.Machines.{MachineState}
+use Rattle.vt_walk_decisions.specs.Requests.{FileState, AllTell}
+use Rattle.vt_walk_decisions.specs.Machines.{MachineState}
 use Rattle.vt_walk.specs.Walks.{WalkGiven, machine_of}
 
 -- a machine was made for a walk, and its journal is empty

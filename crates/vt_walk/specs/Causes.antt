@@ -6,7 +6,7 @@ use Rattle.vt_camera.specs.Paths.{PathView}
 use Rattle.vt_walk_decisions.specs.declared.error.WalkError.{WalkError}
 use Rattle.vt_walk_decisions.specs.declared.error.WalkError.TheVariants.{TooFewFrames, DoesNotFit, Failed, NoMemory}
 use Rattle.vt_walk_decisions.specs.declared.mode.Mode.TheVariants.{Settled}
-use Rattle.vt_machine.specs.Outcomes.{lost_count}
+use Rattle.vt_walk_decisions.specs.Outcomes.{lost_count}
 use Rattle.vt_walk.specs.Fits.{Fits, DoesNotFit as IsTooLarge, room_of}
 use Rattle.vt_walk.specs.Runs.{WalkPass}
 use Rattle.vt_walk.specs.Logs.{passes_of}

@@ -5,8 +5,8 @@ use Rattle.vt_outside.specs.Files.{Asked, with_places}
 use Rattle.vt_outside.specs.declared.outside.File.{Ghosts as FileMeanings}
 use Rattle.vt_pages.specs.Shape.{Shape}
 use Rattle.vt_tiles.specs.StoreViews.{StoreView}
-use Rattle.vt_machine.specs.Requests.{FileState, counts_of}
-use Rattle.vt_machine.specs.Machines.{files_of, told_by, AreStoresFor}
+use Rattle.vt_walk_decisions.specs.Requests.{FileState, counts_of}
+use Rattle.vt_walk_decisions.specs.Machines.{files_of, told_by, AreStoresFor}
 use Rattle.vt_walk.specs.States.{AreOpen, places_of}
 
 -- the places that were asked of each name once these files are closed, the last one first

@@ -5,8 +5,8 @@ use Rattle.vt_outside.specs.Files.{with_bytes, with_appended, gained}
 use Rattle.vt_outside.specs.declared.place.Place.{Place}
 use Rattle.vt_camera.specs.Paths.{PathView}
 use Rattle.vt_journal.specs.JournalText.{head_text, pass_text}
-use Rattle.vt_machine.specs.Outcomes.{lost_count}
-use Rattle.vt_machine.specs.Requests.{lost_entries}
+use Rattle.vt_walk_decisions.specs.Outcomes.{lost_count}
+use Rattle.vt_walk_decisions.specs.Requests.{lost_entries}
 use Rattle.vt_words.specs.Names.{picture_name}
 use Rattle.vt_walk.specs.Runs.{WalkPass, IsStepOf, IsNextPass, IsFinished, IsWhole, plan_after, told_of}
 use Rattle.vt_walk.specs.Logs.{picture_line, walk_end_line}

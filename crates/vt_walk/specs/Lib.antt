@@ -1,3 +1,9 @@
+pub use Rattle.vt_evict.specs.Plans
+pub use Rattle.vt_evict.specs.Views
+pub use Rattle.vt_feedback.specs.Wants
+pub use Rattle.vt_feedback.specs.declared as FeedbackTypes
+pub use Rattle.vt_walk_decisions.specs.Nearest
+pub use Rattle.vt_walk_decisions.specs.declared as WalkDecisionsTypes
 pub mod Runs
 pub mod Fits
 pub mod Shown

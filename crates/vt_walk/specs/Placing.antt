@@ -7,7 +7,7 @@ use Rattle.vt_pages.specs.Pages.{pages_of}
 use Rattle.vt_tiles.specs.Format.{tile_start, tile_length}
 use Rattle.vt_journal.specs.declared.changes.Change.{Change}
 use Rattle.vt_journal.specs.JournalText.{pinned_change, pinned_changes}
-use Rattle.vt_machine.specs.Machines.{Setup, MachineState}
+use Rattle.vt_walk_decisions.specs.Machines.{Setup, MachineState}
 
 -- a store with these bytes, where they are told, and of this shape and depth is the one for which a machine was made
 pub record IsStoreOf (given : Setup) (told : Option (List ℕ)) (s : Shape) (d : ℕ) : Type 0 where

@@ -6,8 +6,8 @@ use Rattle.vt_outside.specs.Places.{times_asked, times_failed}
 use Rattle.vt_pages.specs.Shape.{Shape}
 use Rattle.vt_pages.specs.Pages.{pages_of}
 use Rattle.vt_tiles.specs.Format.{tile_start, tile_length}
-use Rattle.vt_plan.specs.declared.batches.Planned.{Planned}
-use Rattle.vt_machine.specs.Requests.{is_tile_at, times_planned}
+use Rattle.vt_evict.specs.PlanTypes.batches.Planned.{Planned}
+use Rattle.vt_walk_decisions.specs.Requests.{is_tile_at, times_planned}
 
 -- how often a place is that of a pinned page's tile; the pinned pages are the last so many (Mayer 2010)
 abbrev pub times_pinned : Shape → ℕ → ℕ → ℕ → ℕ → ℕ

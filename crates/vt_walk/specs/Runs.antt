@@ -1,6 +1,6 @@
 -- Runs: passes that follow one another, the newest pass first.
 use Rattle.std.specs.Prelude.{◌≡◌, ◌⊎◌, ℕ, ◌+◌, ◌<◌, ◌≤◌, Bool, List, [], ◌∷◌, ◌++◌, length, flat_map}
-use Rattle.vt_definitions.specs.Limits.{most_frames, most_samplers}
+use Rattle.vt_pages.specs.Limits.{most_frames, most_samplers}
 use Rattle.vt_pages.specs.Pages.{IsWithinLimits, pages_of}
 use Rattle.vt_journal.specs.declared.changes.Change.{Change}
 use Rattle.vt_journal.specs.declared.changes.Event.{Event}
@@ -8,15 +8,15 @@ use Rattle.vt_journal.specs.declared.changes.RowLine.{RowLine}
 use Rattle.vt_journal.specs.JournalText.{Pass, Content, changes_of, pinned_changes, journal_text}
 use Rattle.vt_feedback.specs.declared.Wanted.{Wanted}
 use Rattle.vt_feedback.specs.Wants.{IsWants}
-use Rattle.vt_plan.specs.declared.batches.Planned.{Planned}
+use Rattle.vt_evict.specs.PlanTypes.batches.Planned.{Planned}
 use Rattle.vt_evict.specs.Views.{RecencyView, first_view, touched}
 use Rattle.vt_evict.specs.Batches.{IsSettled, read_entries}
 use Rattle.vt_evict.specs.Plans.{plan_of}
-use Rattle.vt_machine.specs.declared.crew.PassReport.{PassReport}
-use Rattle.vt_workers.specs.Jobs.{Job}
-use Rattle.vt_machine.specs.Outcomes.{IsOutcome, lost_count}
-use Rattle.vt_machine.specs.RowOrders.{AreRowsInOrder}
-use Rattle.vt_machine.specs.Requests.{lost_entries}
+use Rattle.vt_walk_decisions.specs.MachineTypes.crew.PassReport.{PassReport}
+use Rattle.vt_walk_decisions.specs.Jobs.{Job}
+use Rattle.vt_walk_decisions.specs.Outcomes.{IsOutcome, lost_count}
+use Rattle.vt_walk_decisions.specs.RowOrders.{AreRowsInOrder}
+use Rattle.vt_walk_decisions.specs.Requests.{lost_entries}
 use Rattle.vt_walk_decisions.specs.declared.mode.Mode.{Mode}
 use Rattle.vt_walk_decisions.specs.declared.mode.Mode.TheVariants.{Live, Settled}
 use Rattle.vt_walk.specs.Fits.{WalkSetup, Fits}

@@ -4,7 +4,7 @@ use Rattle.vt_outside.specs.Counts.{added}
 use Rattle.vt_outside.specs.Files.{Files, Asked}
 use Rattle.vt_outside.specs.declared.place.Place.{Place}
 use Rattle.vt_outside.specs.declared.outside.Folder.{Ghosts as FolderMeanings}
-use Rattle.vt_machine.specs.Requests.{FileState, counts_of}
+use Rattle.vt_walk_decisions.specs.Requests.{FileState, counts_of}
 
 -- what the folder holds and the text that was put, where they are told; the counts of faults of the folder and of the sink; and the
 -- places that were asked of the store's name, where they are told. The folder's count and the places are taken with those of the

@@ -5,8 +5,8 @@ use Rattle.vt_outside.specs.declared.outside.Folder.{Ghosts as FolderMeanings}
 use Rattle.vt_outside.specs.declared.outside.Sink.{Ghosts as SinkMeanings}
 use Rattle.vt_camera.specs.Paths.{PathView}
 use Rattle.vt_tiles.specs.StoreViews.{StoreView}
-use Rattle.vt_machine.specs.Machines.{file_state}
-use Rattle.vt_machine.specs.Requests.{FileState}
+use Rattle.vt_walk_decisions.specs.Machines.{file_state}
+use Rattle.vt_walk_decisions.specs.Requests.{FileState}
 use Rattle.vt_walk_decisions.specs.declared.error.WalkError.{WalkError}
 use Rattle.vt_walk.specs.Walks.{WalkGiven}
 use Rattle.vt_walk.specs.States.{WalkState, walk_state}

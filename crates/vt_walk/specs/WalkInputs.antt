@@ -1,10 +1,10 @@
 -- A walk as the parts of its code are given it.
 use Rattle.std.specs.Prelude.{◌≡◌, ℕ, ◌≤◌, Option, List, length}
-use Rattle.vt_definitions.specs.Limits.{most_pictures}
-use Rattle.vt_definitions.specs.Depths.{IsDepth}
+use Rattle.vt_pages.specs.Limits.{most_pictures}
+use Rattle.vt_ppm.specs.Depths.{IsDepth}
 use Rattle.vt_pages.specs.Pages.{IsWithinLimits, pages_of, pinned_of}
-use Rattle.vt_pictures.specs.Scenes.{Scene, scene_of}
-use Rattle.vt_machine.specs.Drawings.{Drawing}
+use Rattle.vt_walk_decisions.specs.Scenes.{Scene, scene_of}
+use Rattle.vt_walk_decisions.specs.Drawings.{Drawing}
 use Rattle.vt_walk_decisions.specs.declared.input.WalkInput.{WalkInput}
 use Rattle.vt_walk.specs.Fits.{WalkSetup}
 use Rattle.vt_walk.specs.Walks.{WalkGiven, given_by, walk_setup, names_of, AreSettings}

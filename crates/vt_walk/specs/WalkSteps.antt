@@ -1,17 +1,17 @@
 -- A walk between two passes, and after a pass.
 use Rattle.std.specs.Prelude.{◌≡◌, ℕ, ◌+◌, ◌<◌, ◌≤◌, IsTrue, ◌↔◌, List, [], ◌∷◌, length, Option, IsSome}
-use Rattle.vt_definitions.specs.Depths.{IsDepth}
+use Rattle.vt_ppm.specs.Depths.{IsDepth}
 use Rattle.vt_pages.specs.Pages.{IsWithinLimits}
 use Rattle.vt_tiles.specs.StoreViews.{IsStoreIfTold}
 use Rattle.vt_camera.specs.Paths.{PathView}
 use Rattle.vt_journal.specs.Passes.{pass_of as text_of}
 use Rattle.vt_evict.specs.Views.{RecencyView, pages_needed}
-use Rattle.vt_machine.specs.declared.crew.PassReport.{PassReport}
-use Rattle.vt_workers.specs.Jobs.{Job}
-use Rattle.vt_machine.specs.Requests.{FileState, AllTell, AreReadFor}
-use Rattle.vt_machine.specs.Outcomes.{lost_count}
-use Rattle.vt_machine.specs.Machines.{MachineState}
-use Rattle.vt_machine.specs.Passes.{Ran}
+use Rattle.vt_walk_decisions.specs.MachineTypes.crew.PassReport.{PassReport}
+use Rattle.vt_walk_decisions.specs.Jobs.{Job}
+use Rattle.vt_walk_decisions.specs.Requests.{FileState, AllTell, AreReadFor}
+use Rattle.vt_walk_decisions.specs.Outcomes.{lost_count}
+use Rattle.vt_walk_decisions.specs.Machines.{MachineState}
+use Rattle.vt_walk_decisions.specs.Passes.{Ran}
 use Rattle.vt_walk_decisions.specs.declared.error.WalkError.{WalkError}
 use Rattle.vt_walk_decisions.specs.declared.steps.WalkStep.{WalkStep}
 use Rattle.vt_walk_decisions.specs.declared.steps.Passed.{Passed}

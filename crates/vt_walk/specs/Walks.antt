@@ -5,11 +5,11 @@ use Rattle.vt_pages.specs.Shape.{Shape}
 use Rattle.vt_pages.specs.Pages.{pinned_of}
 use Rattle.vt_camera.specs.Paths.{PathView}
 use Rattle.vt_tiles.specs.StoreViews.{StoreView}
-use Rattle.vt_pictures.specs.Scenes.{Scene, scene_of}
-use Rattle.vt_machine.specs.Crews.{IsCrew, AreFrames}
-use Rattle.vt_machine.specs.Drawings.{Drawing}
-use Rattle.vt_machine.specs.Machines.{Setup, setup_of}
-use Rattle.vt_machine.specs.declared.crew.Crew.{Crew}
+use Rattle.vt_walk_decisions.specs.Scenes.{Scene, scene_of}
+use Rattle.vt_walk_decisions.specs.Crews.{IsCrew, AreFrames}
+use Rattle.vt_walk_decisions.specs.Drawings.{Drawing}
+use Rattle.vt_walk_decisions.specs.Machines.{Setup, setup_of}
+use Rattle.vt_walk_decisions.specs.MachineTypes.crew.Crew.{Crew}
 use Rattle.vt_walk_decisions.specs.declared.settings.Settings.{Settings}
 use Rattle.vt_walk_decisions.specs.declared.settings.Names.{Names}
 use Rattle.vt_walk_decisions.specs.declared.mode.Mode.{Mode}

@@ -4,7 +4,7 @@ use Rattle.std.specs.List.{concat}
 use Rattle.vt_ppm.specs.Picture.{picture_bytes}
 use Rattle.vt_camera.specs.Paths.{PathView}
 use Rattle.vt_journal.specs.declared.changes.RowLine.{RowLine}
-use Rattle.vt_pictures.specs.Replays.{IsPictureOf}
+use Rattle.vt_walk_decisions.specs.Replays.{IsPictureOf}
 use Rattle.vt_walk_decisions.specs.declared.mode.Mode.TheVariants.{Settled}
 use Rattle.vt_walk.specs.Walks.{WalkGiven}
 use Rattle.vt_walk.specs.Runs.{WalkPass}

@@ -1,7 +1,7 @@
 //! The drawing of the next pass of a walk.
 
 ghost use Rattle.std.specs.Prelude.{ℕ, ◌<◌, List, Option, length, IfOk, OnOk, OnErr};
-ghost use Rattle.vt_machine.specs.Requests.{AreSameFiles, ArePartlyReadFor};
+ghost use Rattle.vt_walk_decisions.specs.Requests.{AreSameFiles, ArePartlyReadFor};
 ghost use Rattle.vt_walk.specs.WalkInputs.{given_of, IsWalkInput};
 ghost use Rattle.vt_walk.specs.Runs.{WalkPass};
 ghost use Rattle.vt_walk.specs.Written.{IsDrawnBySome};
@@ -14,9 +14,8 @@ use std::sync::Wait;
 use std::thread::Threads;
 use vt_draw::Shot;
 use vt_evict::Recency;
-use vt_machine::{PassMachine, PassReport};
 use vt_outside::{Gate, NoMemory};
-use vt_walk_decisions::{Drawn, Next, WalkInput, WalkStep, drawn_of};
+use vt_walk_decisions::{Drawn, Next, PassMachine, PassReport, WalkInput, WalkStep, drawn_of};
 
 /// Draws the next pass of a walk, streams its batch, and plans what comes after it; or does nothing where all pictures are finished.
 pub fn draw_next<Rt: Threads + Wait + Sync, M: PassMachine, G: Gate + Sync>(

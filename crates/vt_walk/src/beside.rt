@@ -5,9 +5,9 @@ ghost use Rattle.std.specs.List.{concat};
 ghost use Rattle.std.specs.Thread.{IsSync, IsSend};
 ghost use Rattle.vt_ppm.specs.Picture.{picture_bytes};
 ghost use Rattle.vt_words.specs.Names.{picture_name};
-ghost use Rattle.vt_workers.specs.Jobs.{job_of};
-ghost use Rattle.vt_machine.specs.Passes.{MayPrepare, IsJobFor, Ends};
-ghost use Rattle.vt_machine.specs.Requests.{AreSameFiles};
+ghost use Rattle.vt_walk_decisions.specs.Jobs.{job_of};
+ghost use Rattle.vt_walk_decisions.specs.Passes.{MayPrepare, IsJobFor, Ends};
+ghost use Rattle.vt_walk_decisions.specs.Requests.{AreSameFiles};
 ghost use Rattle.vt_walk_decisions.specs.Judging.{MayGoOn, IsFollowed};
 ghost use Rattle.vt_walk_decisions.specs.Reported.{next_step};
 ghost use Rattle.vt_walk.specs.WalkInputs.{given_of, IsWalkInput};
@@ -26,9 +26,8 @@ use std::sync::Wait;
 use std::thread::{Threads, join_mut};
 use vt_draw::Shot;
 use vt_evict::{Batch, Recency};
-use vt_machine::{PassMachine, PassReport};
 use vt_outside::{Folder, Gate, NoMemory, OutsideError, Sink};
-use vt_walk_decisions::{Next, Passed, WalkError, WalkInput, step_after};
+use vt_walk_decisions::{Next, PassMachine, PassReport, Passed, WalkError, WalkInput, step_after};
 
 /// Draws the next picture's first pass while the one that was finished is written, and puts the line of that. Its bytes are made in the
 /// buffer before. After a refusal of the writing nothing is told of the pass: of it only reads are seen.

@@ -1,12 +1,12 @@
 //! Opening the store for each loader, and closing.
 
 ghost use Rattle.std.specs.Prelude.{◌≡◌, ◌≤◌, [], length, sum, All, IfOk, OnOk, IsErrOf};
-ghost use Rattle.vt_definitions.specs.Depths.{IsDepth};
+ghost use Rattle.vt_ppm.specs.Depths.{IsDepth};
 ghost use Rattle.vt_outside.specs.Counts.{Rose, RoseBy};
 ghost use Rattle.vt_outside.specs.Files.{bytes_at, IsThere};
 ghost use Rattle.vt_tiles.specs.StoreViews.{IsStoreIfTold};
-ghost use Rattle.vt_machine.specs.Requests.{counts_of};
-ghost use Rattle.vt_machine.specs.Machines.{files_of};
+ghost use Rattle.vt_walk_decisions.specs.Requests.{counts_of};
+ghost use Rattle.vt_walk_decisions.specs.Machines.{files_of};
 ghost use Rattle.vt_walk.specs.Closing.{with_closed, AreFresh};
 ghost use Rattle.vt_walk.specs.Opening.{IsFresh};
 

@@ -1,15 +1,15 @@
 //! The steps of one pass.
 
 ghost use Rattle.std.specs.Prelude.{◌≡◌, ◌⊎◌, ℕ, ◌+◌, ◌≤◌, take, length, slice_index, All, IfOk, OnOk, OnErr, IsErrOf, option_map};
-ghost use Rattle.vt_definitions.specs.Limits.{most_versions};
+ghost use Rattle.vt_pages.specs.Limits.{most_versions};
 ghost use Rattle.vt_outside.specs.Counts.{Rose};
 ghost use Rattle.vt_outside.specs.Files.{with_appended, IsThere};
 ghost use Rattle.vt_pages.specs.Pages.{pages_of};
 ghost use Rattle.vt_journal.specs.JournalText.{IsEventInChain, pass_text};
 ghost use Rattle.vt_journal.specs.Passes.{pass_of};
 ghost use Rattle.vt_evict.specs.Batches.{IsLawful};
-ghost use Rattle.vt_workers.specs.Jobs.{job_of};
-ghost use Rattle.vt_machine.specs.Passes.{MayPrepare, IsJobFor, Ends};
+ghost use Rattle.vt_walk_decisions.specs.Jobs.{job_of};
+ghost use Rattle.vt_walk_decisions.specs.Passes.{MayPrepare, IsJobFor, Ends};
 ghost use Rattle.vt_walk.specs.Outlooks.{IsOutlook};
 
 use std::alloc::Global;
@@ -19,10 +19,9 @@ use vt_draw::Shot;
 use vt_evict::{Batch, Losses, Recency};
 use vt_feedback::Counts;
 use vt_journal::{PassText, add_pass};
-use vt_machine::{PassMachine, PassReport};
 use vt_outside::{Folder, Gate, NoMemory, OutsideError};
 use vt_pages::Geometry;
-use vt_walk_decisions::Outlook;
+use vt_walk_decisions::{Outlook, PassMachine, PassReport};
 
 /// Prepares a pass for a batch and runs it.
 pub fn run_pass<Rt: Threads + Wait + Sync, M: PassMachine, G: Gate + Sync>(

@@ -2,24 +2,23 @@
 
 ghost use Rattle.std.specs.Prelude.{◌≡◌, ◌⊎◌, ℕ, ◌+◌, ◌<◌, ◌≤◌, ◌++◌, take, length, All, IfOk, OnOk, OnErr, IsErrOf, option_map, string_bytes};
 ghost use Rattle.std.specs.List.{concat};
-ghost use Rattle.vt_definitions.specs.Depths.{IsDepth};
+ghost use Rattle.vt_ppm.specs.Depths.{IsDepth};
 ghost use Rattle.vt_outside.specs.Counts.{Rose};
 ghost use Rattle.vt_outside.specs.Files.{with_bytes, gained};
-ghost use Rattle.vt_text.specs.Numbers.{number_spelling};
+ghost use Rattle.vt_words.specs.TextNumbers.{number_spelling};
 ghost use Rattle.vt_ppm.specs.Picture.{picture_bytes};
 ghost use Rattle.vt_words.specs.Names.{four_digit_numbers, picture_name};
-ghost use Rattle.vt_pictures.specs.Replays.{IsFull};
+ghost use Rattle.vt_walk_decisions.specs.Replays.{IsFull};
 ghost use Rattle.vt_walk.specs.Logs.{end_line};
 ghost use Rattle.vt_walk.specs.Tallies.{numbers_line};
 
 use crate::files::write_file;
 use std::alloc::Global;
 use vt_camera::Path;
-use vt_machine::PassMachine;
 use vt_outside::{Folder, NoMemory, OutsideError, Sink};
 use vt_ppm::encode_into;
 use vt_print::{LINE_ROOM, Line};
-use vt_walk_decisions::Tally;
+use vt_walk_decisions::{PassMachine, Tally};
 use vt_words::picture_name;
 
 /// Writes the picture of a machine's last pass under its name, by one creation and one append. After a refusal the

@@ -7,19 +7,18 @@ ghost use Rattle.vt_tiles.specs.Format.{tile_length as length_of_tile};
 ghost use Rattle.vt_tiles.specs.Places.{TileAsked};
 ghost use Rattle.vt_journal.specs.declared.changes.Change.TheVariants.{Map};
 ghost use Rattle.vt_journal.specs.Changes.{newest, IsNext};
-ghost use Rattle.vt_machine.specs.Crews.{last_start};
-ghost use Rattle.vt_machine.specs.Passes.{with_placed};
+ghost use Rattle.vt_walk_decisions.specs.Crews.{last_start};
+ghost use Rattle.vt_walk_decisions.specs.Passes.{with_placed};
 ghost use Rattle.vt_walk.specs.Reads.{AreAskedFor, AreAskedAtMostFor, OnTold, lost_reads};
 ghost use Rattle.vt_walk.specs.Placing.{IsStoreOf, with_pinned};
 
 use std::alloc::Global;
 use std::sync::Wait;
 use std::thread::Threads;
-use vt_machine::PassMachine;
 use vt_outside::{File, OutsideError};
 use vt_pages::Geometry;
 use vt_tiles::{Store, tile_length};
-use vt_walk_decisions::pinned_page;
+use vt_walk_decisions::{PassMachine, pinned_page};
 
 /// Reads the tile of each pinned page, the last so many pages, from the store in the order of their indexes, and
 /// places it: the first in frame 0, and each further one in the next frame (Mayer 2010).

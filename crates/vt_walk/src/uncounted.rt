@@ -13,10 +13,9 @@ use std::alloc::Global;
 use std::sync::Wait;
 use std::thread::Threads;
 use vt_camera::Path;
-use vt_machine::PassMachine;
 use vt_outside::{Folder, Gate, Sink};
 use vt_tiles::Store;
-use vt_walk_decisions::{Names, Settings, WalkError};
+use vt_walk_decisions::{Names, PassMachine, Settings, WalkError};
 
 /// Walks over all pictures of a path by a machine, live or settled.
 ///

@@ -4,8 +4,8 @@ ghost use Rattle.std.specs.Prelude.{◌≡◌, ℕ, ◌<◌, ◌≤◌, List, []
 ghost use Rattle.vt_outside.specs.Files.{bytes_at};
 ghost use Rattle.vt_pages.specs.Pages.{pinned_of};
 ghost use Rattle.vt_tiles.specs.StoreViews.{IsStoreIfTold};
-ghost use Rattle.vt_pictures.specs.Scenes.{scene_of};
-ghost use Rattle.vt_machine.specs.Machines.{file_state};
+ghost use Rattle.vt_walk_decisions.specs.Scenes.{scene_of};
+ghost use Rattle.vt_walk_decisions.specs.Machines.{file_state};
 ghost use Rattle.vt_walk.specs.Walks.{given_to, walk_setup, mode_of, AreSettings};
 ghost use Rattle.vt_walk.specs.Counts.{HasCounts};
 ghost use Rattle.vt_walk.specs.States.{walk_state, places_of, AreOpen};
@@ -14,7 +14,7 @@ ghost use Rattle.vt_walk.specs.WalkSteps.{StandsFirst, LeftByRefusal};
 ghost use Rattle.vt_walk.specs.WalkEffects.{walk_effect, file_of, Walks};
 ghost use Rattle.vt_walk.specs.WalkInputs.{given_of, setup_of_input, IsWalkInput};
 ghost use Rattle.vt_walk.specs.Beginnings.{IsBegun, AreTold, IsSameFile};
-ghost use Rattle.vt_machine.specs.Requests.{AreSameFiles, counts_of};
+ghost use Rattle.vt_walk_decisions.specs.Requests.{AreSameFiles, counts_of};
 ghost use Rattle.vt_walk.specs.Closing.{AreFresh, AreOtherNamesAsBefore};
 
 use crate::files::begin_journal;
@@ -26,10 +26,11 @@ use std::sync::Wait;
 use std::thread::Threads;
 use vt_camera::Path;
 use vt_evict::Recency;
-use vt_machine::PassMachine;
 use vt_outside::{Folder, Gate, Sink};
 use vt_tiles::{Store, Stores};
-use vt_walk_decisions::{Mode, Names, Settings, WalkError, WalkInput, has_too_few_frames};
+use vt_walk_decisions::{
+    Mode, Names, PassMachine, Settings, WalkError, WalkInput, has_too_few_frames,
+};
 
 /// Walks over all pictures of a path by a machine, as `walk_with` does, and answers how many passes it had and how
 /// many tiles it asked for: those of a whole run. Conditions, refusals and causes are those of `walk_with`.

@@ -1,7 +1,7 @@
 //! Pass after pass.
 
 ghost use Rattle.std.specs.Prelude.{◌≡◌, ◌+◌, ◌<◌, ◌≤◌, ◌^◌, ◌∷◌, MatchResult, OnOk, IfOk};
-ghost use Rattle.vt_machine.specs.Requests.{AreSameFiles};
+ghost use Rattle.vt_walk_decisions.specs.Requests.{AreSameFiles};
 ghost use Rattle.vt_walk.specs.States.{walk_state};
 ghost use Rattle.vt_walk.specs.WalkInputs.{given_of, setup_of_input, IsWalkInput};
 ghost use Rattle.vt_walk.specs.Standing.{Finished};
@@ -20,10 +20,9 @@ use std::alloc::Global;
 use std::sync::Wait;
 use std::thread::Threads;
 use vt_evict::{Batch, Recency};
-use vt_machine::PassMachine;
 use vt_outside::{Folder, Gate, Sink};
 use vt_walk_decisions::{
-    Drawn, Next, Outlook, Passed, Tally, WalkError, WalkInput, WalkStep, is_finished,
+    Drawn, Next, Outlook, PassMachine, Passed, Tally, WalkError, WalkInput, WalkStep, is_finished,
     is_written_beside, judge,
 };
 

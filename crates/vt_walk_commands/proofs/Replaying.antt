@@ -12,10 +12,10 @@ use Rattle.vt_outside.specs.declared.answers.OutsideError.TheVariants as outside
 use Rattle.vt_pages.specs.Shape.{Shape}
 use Rattle.vt_camera.specs.Paths.{PathView}
 use Rattle.vt_tiles.specs.StoreViews.{IsStore, IsStoreIfTold}
-use Rattle.vt_journal.specs.JournalText.{Content as Journal}
-use Rattle.vt_files.specs.Effects.{FolderState, SinkState}
-use Rattle.vt_files.specs.Expectations.{with_files, IsPart, FailsOnly, Puts}
-use Rattle.vt_files.proofs.Writing.{part_whole}
+use Rattle.vt_machine.specs.JournalText.{Content as Journal}
+use Rattle.vt_command_base.specs.Effects.{FolderState, SinkState}
+use Rattle.vt_replay.specs.Expectations.{with_files, IsPart, FailsOnly, Puts}
+use Rattle.vt_command_base.proofs.Writing.{part_whole}
 use Rattle.vt_replay.specs.Flaws.{IsFirstRefused}
 use Rattle.vt_tiles.specs.Places.{IsTilePlace}
 use Rattle.vt_replay.specs.Outcomes.{HoldsReplay, HoldsPart, Stopped, Leaves, IsClosed}

@@ -1,7 +1,7 @@
 -- What is known of the specification of the commands that walk or replay.
 use Rattle.std.proofs.Common.{◌≡◌, List, [], ◌∷◌, Option, refl, sym, ap, subst, ◌∙◌, inl, arith}
 use Rattle.vt_outside.specs.Files.{Files, Asked}
-use Rattle.vt_files.specs.Effects.{CallEffect, FolderState, IsIdle}
+use Rattle.vt_command_base.specs.Effects.{CallEffect, FolderState, IsIdle}
 use Rattle.vt_command_base.specs.Inputs.{Input, Content}
 use Rattle.vt_command_base.specs.Causes.{AreAskedOrNot}
 use Rattle.vt_command_base.specs.CommandSpecs.{CommandSpec, Conflict, FlawedBeside, ManyTexels, FewFrames, LargePicture, conflict_status}

@@ -26,8 +26,8 @@ use Rattle.vt_walk.specs.States.{AreOpen}
 use Rattle.vt_walk.proofs.Rounds.{each_fits}
 use Rattle.vt_walk.proofs.Wholeness.{fits_or_not}
 use Rattle.vt_words.specs.Trial.{TrialText}
-use Rattle.vt_files.specs.Effects.{FolderState, SinkState, SinkEffect, IsWithoutEffect}
-use Rattle.vt_files.specs.Expectations.{FailsOnly, Puts}
+use Rattle.vt_command_base.specs.Effects.{FolderState, SinkState, SinkEffect, IsWithoutEffect}
+use Rattle.vt_replay.specs.Expectations.{FailsOnly, Puts}
 use Rattle.vt_command_base.specs.CommandSpecs.{Conflict, FlawedBeside, ManyTexels, FewFrames, LargePicture, IsRefusalBy, EndsBy}
 use Rattle.vt_command_base.specs.Refusals.{cause_of}
 use Rattle.vt_walk_commands.specs.commands.Trial.{trial_shape, trial_path, trial_settings, trial_setup, trial_line, trial_spec, IsTrial, IsFirstUnfit, ConflictsInTrial, IsWalkRefusal, IsTrialRefusal, Compares, TriesOut, beside}

@@ -5,18 +5,18 @@ use Rattle.std.specs.Option.{option_map, IsSome}
 use Rattle.std.specs.Str.{bytes_eq}
 use Rattle.std.proofs.lemmas.List.{append-nil}
 use Rattle.std.proofs.lemmas.Bool.{cases_lt, false≢true}
-use Rattle.vt_definitions.specs.Limits.{most_frame_texels}
+use Rattle.vt_pages.specs.Limits.{most_frame_texels}
 use Rattle.vt_outside.specs.Counts.{added}
 use Rattle.vt_outside.specs.Files.{Files, Asked, bytes_at}
 use Rattle.vt_outside.specs.declared.place.Place.{Place}
 use Rattle.vt_pages.specs.Shape.{Shape}
 use Rattle.vt_camera.specs.Paths.{PathView}
-use Rattle.vt_files.specs.Effects.{FolderState, SinkState, CallEffect, IsWithoutEffect}
+use Rattle.vt_command_base.specs.Effects.{FolderState, SinkState, CallEffect, IsWithoutEffect}
 use Rattle.vt_machine.specs.Requests.{counts_of}
 use Rattle.vt_machine.specs.Requests
 use Rattle.vt_pictures.specs.Scenes.{scene_of}
-use Rattle.vt_walk_decisions.specs.declared.error.WalkError.{WalkError}
-use Rattle.vt_walk_decisions.specs.declared.error.WalkError.TheVariants as walks
+use Rattle.vt_walk.specs.WalkDecisionsTypes.error.WalkError.{WalkError}
+use Rattle.vt_walk.specs.WalkDecisionsTypes.error.WalkError.TheVariants as walks
 use Rattle.vt_walk.specs.Walks.{WalkGiven, given_by, mode_of}
 use Rattle.vt_walk.specs.Folders.{IsApart}
 use Rattle.vt_walk.specs.States.{WalkState, places_of}

@@ -5,15 +5,15 @@ use Rattle.std.specs.List.{AllByRecursion, filter, IsDistinct}
 use Rattle.std.proofs.lemmas.Bool.{false≢true}
 use Rattle.std.proofs.lemmas.Grind.{flat_map-append}
 use Rattle.std.proofs.lemmas.List.{append-nil, map-append}
-use Rattle.vt_feedback.specs.declared.Wanted.{Wanted}
-use Rattle.vt_plan.specs.declared.batches.Planned.{Planned}
-use Rattle.vt_plan.specs.PageLists.{is_in}
-use Rattle.vt_evict.proofs.ListLemmas.{is_in-append, distinct-append}
-use Rattle.vt_plan.proofs.ListLemmas.{is_in-filter, filter_twice, filter_same, filter_all, all_true}
-use Rattle.vt_evict.proofs.SettleLemmas.{same_bool}
+use Rattle.vt_walk.specs.FeedbackTypes.Wanted.{Wanted}
+use Rattle.vt_machine.specs.PlanTypes.batches.Planned.{Planned}
+use Rattle.vt_machine.specs.PageLists.{is_in}
+use Rattle.vt_machine.proofs.ListLemmas.{is_in-append, distinct-append}
+use Rattle.vt_machine.proofs.PlanListLemmas.{is_in-filter, filter_twice, filter_same, filter_all, all_true}
+use Rattle.vt_machine.proofs.SettleLemmas.{same_bool}
 use Rattle.vt_machine.specs.Outcomes.{lost_count}
-use Rattle.vt_walk_decisions.specs.declared.mode.Mode.{Mode}
-use Rattle.vt_walk_decisions.specs.declared.mode.Mode.TheVariants.{Settled}
+use Rattle.vt_walk.specs.WalkDecisionsTypes.mode.Mode.{Mode}
+use Rattle.vt_walk.specs.WalkDecisionsTypes.mode.Mode.TheVariants.{Settled}
 use Rattle.vt_walk.specs.Fits.{WalkSetup, Fits}
 use Rattle.vt_walk.specs.Runs.{WalkPass, IsWalkSetup, plan_after, Finishes, IsFinished, IsRun, planned_in}
 use Rattle.vt_walk.specs.Logs.{passes_of}

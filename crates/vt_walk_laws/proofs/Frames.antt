@@ -13,22 +13,22 @@ use Rattle.std.proofs.lemmas.List.Sorted.{IsPermutation-reverse}
 use Rattle.std.proofs.lemmas.List.Sums.{length-filter}
 use Rattle.std.proofs.lemmas.Map.Keys.{IsDistinct-IsPermutation}
 use Rattle.std.proofs.lemmas.Map.Made.{length-le_from_is_member}
-use Rattle.vt_pages.specs.Shape.{Shape}
-use Rattle.vt_pages.specs.Pages.{levels_of, pages_of, ancestors_of, level_of}
-use Rattle.vt_pages.specs.Lookups.{next_finer_page}
-use Rattle.vt_pages.proofs.Parents.{level_below}
-use Rattle.vt_feedback.specs.declared.Wanted.{Wanted}
-use Rattle.vt_feedback.specs.Wants.{pages_wanted}
-use Rattle.vt_evict.specs.Orders.{line_pages}
-use Rattle.vt_plan.specs.PageLists.{is_in}
-use Rattle.vt_evict.specs.Views.{RecencyView, IsTable, is_pinned, is_held, frame_of, free_frames, pages_needed}
-use Rattle.vt_plan.specs.Missing.{is_mapped, missing_from}
-use Rattle.vt_evict.specs.Plans.{missing_pages, candidates, planned_at, planned_count, plan_of}
-use Rattle.vt_evict.proofs.ListLemmas.{nat_eq_swap, is_in-append, is_in-reverse, each_once_distinct, distinct-filter, distinct-append, range_once}
-use Rattle.vt_plan.proofs.ListLemmas.{nat_eq_true, is_in-filter, is_in-each_once}
-use Rattle.vt_evict.proofs.FreeLemmas.{is_in-range}
-use Rattle.vt_evict.proofs.LineOrders.{in_lines}
-use Rattle.vt_evict.proofs.SettleLemmas.{self_eq, held_by}
+use Rattle.vt_machine.specs.Shape.{Shape}
+use Rattle.vt_machine.specs.Pages.{levels_of, pages_of, ancestors_of, level_of}
+use Rattle.vt_machine.specs.Lookups.{next_finer_page}
+use Rattle.vt_machine.proofs.Parents.{level_below}
+use Rattle.vt_walk.specs.FeedbackTypes.Wanted.{Wanted}
+use Rattle.vt_walk.specs.Wants.{pages_wanted}
+use Rattle.vt_machine.specs.Orders.{line_pages}
+use Rattle.vt_machine.specs.PageLists.{is_in}
+use Rattle.vt_walk.specs.Views.{RecencyView, IsTable, is_pinned, is_held, frame_of, free_frames, pages_needed}
+use Rattle.vt_machine.specs.Missing.{is_mapped, missing_from}
+use Rattle.vt_walk.specs.Plans.{missing_pages, candidates, planned_at, planned_count, plan_of}
+use Rattle.vt_machine.proofs.ListLemmas.{nat_eq_swap, is_in-append, is_in-reverse, each_once_distinct, distinct-filter, distinct-append, range_once}
+use Rattle.vt_machine.proofs.PlanListLemmas.{nat_eq_true, is_in-filter, is_in-each_once}
+use Rattle.vt_machine.proofs.FreeLemmas.{is_in-range}
+use Rattle.vt_machine.proofs.LineOrders.{in_lines}
+use Rattle.vt_machine.proofs.SettleLemmas.{self_eq, held_by}
 use Rattle.vt_walk_laws.proofs.LineFronts.{IsStep, front_in, step_is}
 
 pub or_right : (b c : Bool) → c ≡ true → (b || c) ≡ true

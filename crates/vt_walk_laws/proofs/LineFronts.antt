@@ -3,15 +3,15 @@ use Rattle.std.proofs.Common.{◌≡◌, ℕ, zero, suc, ◌+◌, ◌<◌, Bool,
 use Rattle.std.specs.List.{filter, flat_map, position_or_len}
 use Rattle.std.proofs.lemmas.Bool.{false≢true}
 use Rattle.std.proofs.lemmas.List.Elements.{filter-append}
-use Rattle.vt_pages.specs.Shape.{Shape}
-use Rattle.vt_pages.specs.Pages.{levels_of, pages_of, index_of, IsWithinLimits, level_of, name_at, parent_name, parent_of, ancestors_of}
-use Rattle.vt_pages.specs.Lookups.{next_finer_page}
-use Rattle.vt_pages.proofs.Lines.{parent_is, parent_none}
-use Rattle.vt_pages.proofs.Parents.{parent_facts, root_facts, line_begins}
-use Rattle.vt_pages.proofs.Steps.{step_root, step_below, step_up}
-use Rattle.vt_plan.specs.PageLists.{is_in, each_once}
-use Rattle.vt_plan.proofs.ListLemmas.{nat_eq_true, filter_twice, filter_same}
-use Rattle.vt_evict.proofs.SettleLemmas.{self_eq}
+use Rattle.vt_machine.specs.Shape.{Shape}
+use Rattle.vt_machine.specs.Pages.{levels_of, pages_of, index_of, IsWithinLimits, level_of, name_at, parent_name, parent_of, ancestors_of}
+use Rattle.vt_machine.specs.Lookups.{next_finer_page}
+use Rattle.vt_machine.proofs.Lines.{parent_is, parent_none}
+use Rattle.vt_machine.proofs.Parents.{parent_facts, root_facts, line_begins}
+use Rattle.vt_machine.proofs.Steps.{step_root, step_below, step_up}
+use Rattle.vt_machine.specs.PageLists.{is_in, each_once}
+use Rattle.vt_machine.proofs.PlanListLemmas.{nat_eq_true, filter_twice, filter_same}
+use Rattle.vt_machine.proofs.SettleLemmas.{self_eq}
 
 -- the part of a list before the first page that is mapped
 abbrev pub front : (ℕ → Bool) → List ℕ → List ℕ

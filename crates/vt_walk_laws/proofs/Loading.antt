@@ -3,18 +3,18 @@ use Rattle.std.proofs.Common.{◌≡◌, ℕ, suc, ◌+◌, ◌-◌, ◌<◌, �
 use Rattle.std.specs.List.{filter, IsDistinct}
 use Rattle.std.specs.Prelude.{nat_eq}
 use Rattle.std.proofs.lemmas.List.Sums.{length-filter}
-use Rattle.vt_pages.specs.Shape.{Shape}
-use Rattle.vt_feedback.specs.declared.Wanted.{Wanted}
-use Rattle.vt_feedback.specs.Wants.{pages_wanted, IsWants}
-use Rattle.vt_plan.specs.declared.batches.Planned.{Planned}
-use Rattle.vt_plan.specs.PageLists.{is_in}
-use Rattle.vt_evict.specs.Views.{RecencyView, IsTable, pages_needed}
-use Rattle.vt_plan.specs.Missing.{is_mapped}
-use Rattle.vt_evict.specs.Batches.{IsSettledTable, read_entries}
-use Rattle.vt_evict.specs.Plans.{missing_pages, plan_of}
+use Rattle.vt_machine.specs.Shape.{Shape}
+use Rattle.vt_walk.specs.FeedbackTypes.Wanted.{Wanted}
+use Rattle.vt_walk.specs.Wants.{pages_wanted, IsWants}
+use Rattle.vt_machine.specs.PlanTypes.batches.Planned.{Planned}
+use Rattle.vt_machine.specs.PageLists.{is_in}
+use Rattle.vt_walk.specs.Views.{RecencyView, IsTable, pages_needed}
+use Rattle.vt_machine.specs.Missing.{is_mapped}
+use Rattle.vt_machine.specs.Batches.{IsSettledTable, read_entries}
+use Rattle.vt_walk.specs.Plans.{missing_pages, plan_of}
 use Rattle.vt_machine.specs.Outcomes.{lost_count}
-use Rattle.vt_walk_decisions.specs.declared.mode.Mode.{Mode}
-use Rattle.vt_walk_decisions.specs.declared.mode.Mode.TheVariants.{Settled}
+use Rattle.vt_walk.specs.WalkDecisionsTypes.mode.Mode.{Mode}
+use Rattle.vt_walk.specs.WalkDecisionsTypes.mode.Mode.TheVariants.{Settled}
 use Rattle.vt_walk.specs.Fits.{WalkSetup, Fits}
 use Rattle.vt_walk.specs.Runs.{WalkPass, IsWalkSetup, recency_after, plan_after, GoesOn, IsRun}
 use Rattle.vt_walk_laws.specs.PassCounts.{pages_to_load, most_before, mapped_after, batch_pages}

@@ -8,21 +8,21 @@ use Rattle.std.proofs.Math.Nat.{suc-mul, le-div_iff_mul-le}
 use Rattle.std.proofs.lemmas.Bool.{false≢true, cases_lt}
 use Rattle.std.proofs.lemmas.Grind.{div_ceil_times}
 use Rattle.std.proofs.lemmas.Map.Made.{length-le_from_is_member}
-use Rattle.vt_feedback.specs.declared.Wanted.{Wanted}
-use Rattle.vt_feedback.specs.Wants.{pages_wanted}
-use Rattle.vt_plan.specs.declared.batches.Planned.{Planned}
-use Rattle.vt_plan.specs.PageLists.{is_in}
-use Rattle.vt_evict.proofs.ListLemmas.{each_once_distinct}
-use Rattle.vt_evict.proofs.SettleLemmas.{self_eq}
+use Rattle.vt_walk.specs.FeedbackTypes.Wanted.{Wanted}
+use Rattle.vt_walk.specs.Wants.{pages_wanted}
+use Rattle.vt_machine.specs.PlanTypes.batches.Planned.{Planned}
+use Rattle.vt_machine.specs.PageLists.{is_in}
+use Rattle.vt_machine.proofs.ListLemmas.{each_once_distinct}
+use Rattle.vt_machine.proofs.SettleLemmas.{self_eq}
 use Rattle.vt_machine.specs.Outcomes.{lost_count}
-use Rattle.vt_walk_decisions.specs.declared.mode.Mode.{Mode}
-use Rattle.vt_walk_decisions.specs.declared.mode.Mode.TheVariants.{Settled}
+use Rattle.vt_walk.specs.WalkDecisionsTypes.mode.Mode.{Mode}
+use Rattle.vt_walk.specs.WalkDecisionsTypes.mode.Mode.TheVariants.{Settled}
 use Rattle.vt_walk.specs.Fits.{WalkSetup, Fits}
 use Rattle.vt_walk.specs.Runs.{WalkPass, IsWalkSetup, recency_after, plan_after, Finishes, IsFinished, IsPictureAfter, GoesOn, IsRun, planned_in}
 use Rattle.vt_walk.specs.Logs.{passes_of}
 use Rattle.vt_walk_laws.specs.PassCounts.{pages_to_load, mapped_after, picture_pages, most_in_line, batch_pages, IsFinishedPicture}
 use Rattle.vt_walk_laws.proofs.Frames.{or_left}
-use Rattle.vt_pages.specs.Shape.{Shape}
+use Rattle.vt_machine.specs.Shape.{Shape}
 use Rattle.vt_walk.proofs.Running.{run_kept, plan_most}
 use Rattle.vt_walk_laws.proofs.PlanPages.{none_missing, mapped_done, length-pages}
 use Rattle.vt_walk_laws.proofs.Loading.{to_load_after, most_after, fitting, IsLoading, loading, fits_of, done, none_planned, plan_inside}

@@ -7,22 +7,22 @@ use Rattle.std.proofs.lemmas.Bool.{false≢true}
 use Rattle.std.proofs.lemmas.Bool.Decides.{nat_tests}
 use Rattle.std.proofs.lemmas.List.{take_more}
 use Rattle.std.proofs.lemmas.List.FromFn.{map-range_with_len_more}
-use Rattle.vt_pages.specs.Shape.{Shape}
-use Rattle.vt_pages.specs.Pages.{levels_of, pages_of, ancestors_of, level_of, IsWithinLimits}
-use Rattle.vt_pages.specs.Lookups.{next_finer_page, pages_before}
-use Rattle.vt_pages.proofs.Parents.{level_below, line_begins}
-use Rattle.vt_feedback.specs.declared.Wanted.{Wanted}
-use Rattle.vt_feedback.specs.Wants.{pages_wanted}
-use Rattle.vt_plan.specs.declared.batches.Planned.{Planned}
-use Rattle.vt_evict.specs.Orders.{line_pages}
-use Rattle.vt_plan.specs.PageLists.{is_in, each_once}
-use Rattle.vt_evict.specs.Views.{RecencyView, IsTable, free_frames}
-use Rattle.vt_plan.specs.Missing.{is_mapped, missing_from}
-use Rattle.vt_evict.specs.Batches.{IsSettledTable, is_page, is_read, is_victim}
-use Rattle.vt_evict.specs.Plans.{missing_pages, candidates, planned_at, planned_count, plan_of}
-use Rattle.vt_evict.proofs.ListLemmas.{nat_eq_swap, is_in-append}
-use Rattle.vt_plan.proofs.ListLemmas.{nat_eq_true, is_in-filter, is_in-each_once}
-use Rattle.vt_evict.proofs.SettleLemmas.{self_eq, contains_tail}
+use Rattle.vt_machine.specs.Shape.{Shape}
+use Rattle.vt_machine.specs.Pages.{levels_of, pages_of, ancestors_of, level_of, IsWithinLimits}
+use Rattle.vt_machine.specs.Lookups.{next_finer_page, pages_before}
+use Rattle.vt_machine.proofs.Parents.{level_below, line_begins}
+use Rattle.vt_walk.specs.FeedbackTypes.Wanted.{Wanted}
+use Rattle.vt_walk.specs.Wants.{pages_wanted}
+use Rattle.vt_machine.specs.PlanTypes.batches.Planned.{Planned}
+use Rattle.vt_machine.specs.Orders.{line_pages}
+use Rattle.vt_machine.specs.PageLists.{is_in, each_once}
+use Rattle.vt_walk.specs.Views.{RecencyView, IsTable, free_frames}
+use Rattle.vt_machine.specs.Missing.{is_mapped, missing_from}
+use Rattle.vt_machine.specs.Batches.{IsSettledTable, is_page, is_read, is_victim}
+use Rattle.vt_walk.specs.Plans.{missing_pages, candidates, planned_at, planned_count, plan_of}
+use Rattle.vt_machine.proofs.ListLemmas.{nat_eq_swap, is_in-append}
+use Rattle.vt_machine.proofs.PlanListLemmas.{nat_eq_true, is_in-filter, is_in-each_once}
+use Rattle.vt_machine.proofs.SettleLemmas.{self_eq, contains_tail}
 use Rattle.vt_walk_laws.specs.PassCounts.{before_lookup, pages_to_load, most_before, batch_pages}
 use Rattle.vt_walk_laws.proofs.LineFronts.{front, front_mapped, length-front, front_loaded, step_is, line_steps, each_once-filter, flat_map-filter}
 use Rattle.vt_walk_laws.proofs.Frames.{or_left, or_right, both, second_true, not_true, in_map, ArePages, missing_is, missing_distinct, in_wanted_lines}

@@ -1,8 +1,8 @@
 -- The order of a run's pages is that of their stamps.
 use Rattle.std.proofs.Common.{◌≡◌, ◌+◌, List, [], ◌∷◌, length, refl, sym, ap, ◌∙◌, subst, arith}
-use Rattle.vt_evict.specs.Stamps.{Stamps, no_stamps, AreAfter, AreBefore, IsByStamps}
-use Rattle.vt_evict.proofs.StampLemmas.{order_by_stamps, still_before}
-use Rattle.vt_evict.proofs.StampRules.{after_some, after_one, none_before, first_by_stamps}
+use Rattle.vt_machine.specs.Stamps.{Stamps, no_stamps, AreAfter, AreBefore, IsByStamps}
+use Rattle.vt_machine.proofs.StampLemmas.{order_by_stamps, still_before}
+use Rattle.vt_machine.proofs.StampRules.{after_some, after_one, none_before, first_by_stamps}
 use Rattle.vt_walk.specs.Fits.{WalkSetup}
 use Rattle.vt_walk.specs.Runs.{WalkPass, IsWalkSetup, recency_after, IsRun}
 use Rattle.vt_walk_laws.specs.Stamped.{stamping, AreStampsOf}

@@ -5,24 +5,24 @@ use Rattle.std.proofs.lemmas.List.FromFn.{map-range_with_len_more}
 use Rattle.std.specs.Str.{bytes_eq}
 use Rattle.std.proofs.lemmas.Slice.Eq.{bytes_eq-Decides}
 use mathlib.Core.Path.{fun_ext}
-use Rattle.vt_outside.specs.Files.{Files, with_bytes}
-use Rattle.vt_camera.specs.Paths.{PathView}
-use Rattle.vt_ppm.specs.Picture.{picture_bytes}
-use Rattle.vt_pages.specs.Shape.{Shape}
-use Rattle.vt_pages.specs.Pages.{levels_of, pages_below, pages_of, index_at, root_of, pinned_of, IsWithinLimits}
-use Rattle.vt_pages.proofs.Counts.{pages_below_le}
-use Rattle.vt_words.specs.Names.{picture_name}
-use Rattle.vt_tiles.specs.Format.{stored}
-use Rattle.vt_files.specs.Expectations.{ExpectedFile, with_files}
-use Rattle.vt_files.specs.Pictures.{expected_picture, expected_pictures}
-use Rattle.vt_journal.specs.declared.changes.Change.{Change}
-use Rattle.vt_journal.specs.declared.changes.RowLine.{RowLine}
-use Rattle.vt_journal.specs.Changes.{Table}
-use Rattle.vt_journal.specs.JournalFlaws.{IsLawful}
-use Rattle.vt_journal.specs.JournalText.{Pass, Content, content_changes, journal_text}
-use Rattle.vt_journal.proofs.Contents.{content_unique}
-use Rattle.vt_pictures.specs.Replays.{IsReplayOf}
-use Rattle.vt_pictures.specs.Scenes.{Scene}
+use Rattle.vt_machine.specs.Files.{Files, with_bytes}
+use Rattle.vt_machine.specs.Paths.{PathView}
+use Rattle.vt_replay.specs.Picture.{picture_bytes}
+use Rattle.vt_machine.specs.Shape.{Shape}
+use Rattle.vt_machine.specs.Pages.{levels_of, pages_below, pages_of, index_at, root_of, pinned_of, IsWithinLimits}
+use Rattle.vt_machine.proofs.Counts.{pages_below_le}
+use Rattle.vt_replay.specs.Names.{picture_name}
+use Rattle.vt_machine.specs.Format.{stored}
+use Rattle.vt_replay.specs.Expectations.{ExpectedFile, with_files}
+use Rattle.vt_replay.specs.Pictures.{expected_picture, expected_pictures}
+use Rattle.vt_machine.specs.JournalTypes.changes.Change.{Change}
+use Rattle.vt_machine.specs.JournalTypes.changes.RowLine.{RowLine}
+use Rattle.vt_machine.specs.Changes.{Table}
+use Rattle.vt_replay.specs.JournalFlaws.{IsLawful}
+use Rattle.vt_machine.specs.JournalText.{Pass, Content, content_changes, journal_text}
+use Rattle.vt_machine.proofs.Contents.{content_unique}
+use Rattle.vt_machine.specs.Replays.{IsReplayOf}
+use Rattle.vt_machine.specs.Scenes.{Scene}
 use Rattle.vt_walk.specs.Fits.{WalkSetup}
 use Rattle.vt_walk.specs.Folders.{with_pictures, with_walk, IsApart}
 use Rattle.vt_walk.specs.Runs.{WalkPass, IsWalkSetup, IsRun, IsWhole, IsPictureAfter, journal_after, told_of, passes_told, run_content, run_text}
@@ -30,8 +30,8 @@ use Rattle.vt_walk.specs.Shown.{last_rows, IsRunPicture}
 use Rattle.vt_walk.specs.Standing.{HasReached, Stands, Finished}
 use Rattle.vt_walk.specs.States.{WalkState}
 use Rattle.vt_machine.specs.Drawings.{Drawing}
-use Rattle.vt_walk_decisions.specs.declared.mode.Mode.{Mode}
-use Rattle.vt_walk_decisions.specs.declared.settings.Settings.{Settings}
+use Rattle.vt_walk.specs.WalkDecisionsTypes.mode.Mode.{Mode}
+use Rattle.vt_walk.specs.WalkDecisionsTypes.settings.Settings.{Settings}
 use Rattle.vt_walk.specs.Walks.{WalkGiven, WalkNames, AreSettings, walk_setup}
 use Rattle.vt_walk.proofs.Agreeing.{root_last}
 use Rattle.vt_walk.proofs.Apart.{other_name}
@@ -39,7 +39,7 @@ use Rattle.vt_walk.specs.Written.{IsWritten, AreWritten}
 use Rattle.vt_walk.proofs.Showing.{rows_after}
 use Rattle.vt_walk.proofs.Telling.{told_changes, run_is_lawful}
 use Rattle.vt_replay.specs.Outcomes.{IsReplayable}
-use Rattle.vt_replay_rows.specs.Trying.{Under}
+use Rattle.vt_replay.specs.Trying.{Under}
 use Rattle.vt_replay.specs.Replayed.{replayed_rows, lines_after, last_lines, pictures_after, pictures_of, replay_file, expected_replay}
 use Rattle.vt_walk_laws.specs.Walked.{IsOfStore, named_pictures}
 use Rattle.vt_replay.proofs.Rows.{replay_is_one}

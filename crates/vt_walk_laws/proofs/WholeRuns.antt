@@ -1,14 +1,14 @@
 -- Whole settled runs of a walk have one number of passes, and ask for one number of tiles.
 use Rattle.std.proofs.Common.{◌≡◌, ℕ, ◌<◌, ◌≤◌, ◌⊎◌, inl, inr, List, [], ◌∷◌, length, refl, sym, ap, ◌∙◌, subst, length-append, arith}
 use Rattle.std.proofs.lemmas.Bool.{cases_lt}
-use Rattle.vt_feedback.specs.declared.Wanted.{Wanted}
-use Rattle.vt_feedback.specs.Wants.{IsWants}
-use Rattle.vt_plan.specs.declared.batches.Planned.{Planned}
-use Rattle.vt_evict.specs.Views.{RecencyView, touched}
-use Rattle.vt_evict.specs.Batches.{IsSettled}
-use Rattle.vt_evict.specs.Plans.{plan_of}
+use Rattle.vt_walk.specs.FeedbackTypes.Wanted.{Wanted}
+use Rattle.vt_walk.specs.Wants.{IsWants}
+use Rattle.vt_machine.specs.PlanTypes.batches.Planned.{Planned}
+use Rattle.vt_walk.specs.Views.{RecencyView, touched}
+use Rattle.vt_machine.specs.Batches.{IsSettled}
+use Rattle.vt_walk.specs.Plans.{plan_of}
 use Rattle.vt_machine.specs.Outcomes.{lost_count}
-use Rattle.vt_walk_decisions.specs.declared.mode.Mode.TheVariants.{Settled}
+use Rattle.vt_walk.specs.WalkDecisionsTypes.mode.Mode.TheVariants.{Settled}
 use Rattle.vt_walk.specs.Fits.{WalkSetup}
 use Rattle.vt_walk.specs.Runs.{WalkPass, recency_after, plan_after, planned_in, Finishes, IsFinished, IsPictureAfter, IsStepOf, IsNextPass, IsRun, IsWhole}
 use Rattle.vt_walk.specs.Logs.{reads_of}

@@ -3,14 +3,14 @@
 -- whose lines are 0 16 20 and 12 18 20, loads 0, 16, 12 and 18, two in one line: 3 or 4 passes by batches of 64, 6 to 8 one by one.
 use Rattle.std.specs.Prelude.{◌≡◌, ℕ, max, Bool, List, [], ◌∷◌, ◌++◌, map, take}
 use Rattle.std.specs.List.{flat_map, AllByRecursion}
-use Rattle.vt_pages.specs.Shape.{Shape}
-use Rattle.vt_pages.specs.Pages.{ancestors_of}
-use Rattle.vt_pages.specs.Lookups.{pages_before}
-use Rattle.vt_feedback.specs.Wants.{pages_wanted}
-use Rattle.vt_plan.specs.declared.batches.Planned.{Planned}
-use Rattle.vt_plan.specs.PageLists.{each_once}
-use Rattle.vt_plan.specs.Missing.{is_mapped}
-use Rattle.vt_walk_decisions.specs.declared.mode.Mode.TheVariants.{Settled}
+use Rattle.vt_machine.specs.Shape.{Shape}
+use Rattle.vt_machine.specs.Pages.{ancestors_of}
+use Rattle.vt_machine.specs.Lookups.{pages_before}
+use Rattle.vt_walk.specs.Wants.{pages_wanted}
+use Rattle.vt_machine.specs.PlanTypes.batches.Planned.{Planned}
+use Rattle.vt_machine.specs.PageLists.{each_once}
+use Rattle.vt_machine.specs.Missing.{is_mapped}
+use Rattle.vt_walk.specs.WalkDecisionsTypes.mode.Mode.TheVariants.{Settled}
 use Rattle.vt_walk.specs.Fits.{WalkSetup}
 use Rattle.vt_walk.specs.Runs.{WalkPass, IsWalkSetup, IsRun, IsFinished, GoesOn, recency_after}
 use Rattle.vt_walk.specs.Logs.{passes_of}

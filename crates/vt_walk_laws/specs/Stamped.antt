@@ -1,6 +1,6 @@
 -- The stamps of a run, by which the order of its pages goes.
 use Rattle.std.specs.Prelude.{◌≡◌, ◌+◌, List, [], ◌∷◌, length}
-use Rattle.vt_evict.specs.Stamps.{Pass, Stamps, no_stamps, AreAfter}
+use Rattle.vt_machine.specs.Stamps.{Pass, Stamps, no_stamps, AreAfter}
 use Rattle.vt_walk.specs.Runs.{WalkPass}
 
 -- what the stamps of a pass that comes after passes depend on

@@ -1,10 +1,10 @@
 -- A walk whose journal is replayed.
 use Rattle.std.specs.Prelude.{◌≡◌, ℕ, List, [], ◌∷◌, ◌++◌, Some, length}
-use Rattle.vt_words.specs.Names.{picture_name}
-use Rattle.vt_tiles.specs.Format.{stored}
-use Rattle.vt_files.specs.Expectations.{ExpectedFile}
+use Rattle.vt_replay.specs.Names.{picture_name}
+use Rattle.vt_machine.specs.Format.{stored}
+use Rattle.vt_replay.specs.Expectations.{ExpectedFile}
 use Rattle.vt_walk.specs.Walks.{WalkGiven}
-use Rattle.vt_replay_rows.specs.Trying.{Under}
+use Rattle.vt_replay.specs.Trying.{Under}
 
 -- a walk is of a store of these known bytes: its numbers are those of its scene, and each pixel is what a filter shows of the store under a
 -- page table (van Waveren 2012)

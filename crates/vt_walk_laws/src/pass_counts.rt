@@ -3,11 +3,11 @@
 ghost use Rattle.std.specs.Prelude.{◌≡◌, ℕ, ◌+◌, ◌/◌, ◌<◌, ◌≤◌, min, nat_eq, true, false, List, ◌∷◌, ◌++◌, length, IsSome, None};
 ghost use Rattle.std.specs.Int.{div_ceil};
 ghost use Rattle.std.specs.List.{IsDistinct};
-ghost use Rattle.vt_journal.specs.Changes.{newest};
-ghost use Rattle.vt_evict.specs.Plans.{missing_pages};
-ghost use Rattle.vt_plan.specs.PageLists.{is_in};
-ghost use Rattle.vt_feedback.specs.Wants.{pages_wanted};
-ghost use Rattle.vt_walk_decisions.specs.declared.mode.Mode.TheVariants.{Settled};
+ghost use Rattle.vt_machine.specs.Changes.{newest};
+ghost use Rattle.vt_walk.specs.Plans.{missing_pages};
+ghost use Rattle.vt_machine.specs.PageLists.{is_in};
+ghost use Rattle.vt_walk.specs.Wants.{pages_wanted};
+ghost use Rattle.vt_walk.specs.WalkDecisionsTypes.mode.Mode.TheVariants.{Settled};
 ghost use Rattle.vt_walk.specs.Fits.{WalkSetup, Fits};
 ghost use Rattle.vt_walk.specs.Runs.{WalkPass, IsWalkSetup, IsRun, IsWhole, IsFinished, GoesOn, journal_after, recency_after, plan_after, planned_in};
 ghost use Rattle.vt_walk.specs.Logs.{passes_of};

@@ -1,17 +1,17 @@
 //! Laws that tie walks to replays: each is the contract of a function that does nothing.
 
 ghost use Rattle.std.specs.Prelude.{◌≡◌, ℕ, ◌+◌, ◌<◌, ◌≤◌, List, ◌∷◌, length, Option, Some, option_map};
-ghost use Rattle.vt_outside.specs.Files.{Files};
-ghost use Rattle.vt_pages.specs.Pages.{pinned_of, IsWithinLimits};
-ghost use Rattle.vt_journal.specs.JournalText.{Content, content_changes};
-ghost use Rattle.vt_tiles.specs.Format.{stored};
-ghost use Rattle.vt_files.specs.Expectations.{with_files};
-ghost use Rattle.vt_files.specs.Pictures.{expected_pictures};
-ghost use Rattle.vt_pictures.specs.Scenes.{Scene};
-ghost use Rattle.vt_pictures.specs.Replays.{pixel_under};
+ghost use Rattle.vt_machine.specs.Files.{Files};
+ghost use Rattle.vt_machine.specs.Pages.{pinned_of, IsWithinLimits};
+ghost use Rattle.vt_machine.specs.JournalText.{Content, content_changes};
+ghost use Rattle.vt_machine.specs.Format.{stored};
+ghost use Rattle.vt_replay.specs.Expectations.{with_files};
+ghost use Rattle.vt_replay.specs.Pictures.{expected_pictures};
+ghost use Rattle.vt_machine.specs.Scenes.{Scene};
+ghost use Rattle.vt_machine.specs.Replays.{pixel_under};
 ghost use Rattle.vt_machine.specs.Nearest.{nearest};
-ghost use Rattle.vt_walk_decisions.specs.declared.mode.Mode.{Mode};
-ghost use Rattle.vt_walk_decisions.specs.declared.settings.Settings.{Settings};
+ghost use Rattle.vt_walk.specs.WalkDecisionsTypes.mode.Mode.{Mode};
+ghost use Rattle.vt_walk.specs.WalkDecisionsTypes.settings.Settings.{Settings};
 ghost use Rattle.vt_walk.specs.Fits.{WalkSetup};
 ghost use Rattle.vt_walk.specs.Folders.{with_pictures, IsApart};
 ghost use Rattle.vt_walk.specs.Runs.{WalkPass, IsWalkSetup, IsRun, IsWhole, passes_told, run_content, run_text};
@@ -21,7 +21,7 @@ ghost use Rattle.vt_walk.specs.States.{WalkState};
 ghost use Rattle.vt_walk.specs.Walks.{WalkGiven, WalkNames, AreSettings, given_by};
 ghost use Rattle.vt_walk.specs.Written.{IsDrawnBySome, IsWritten};
 ghost use Rattle.vt_replay.specs.Outcomes.{IsReplayable};
-ghost use Rattle.vt_replay_rows.specs.Trying.{Under};
+ghost use Rattle.vt_replay.specs.Trying.{Under};
 ghost use Rattle.vt_replay.specs.Replayed.{last_lines, pictures_of, replay_file, expected_replay};
 ghost use Rattle.vt_walk_laws.specs.Walked.{IsOfStore, named_pictures};
 

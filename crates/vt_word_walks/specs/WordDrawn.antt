@@ -2,7 +2,7 @@
 use Rattle.std.specs.Prelude.{ℕ, List}
 use Rattle.vt_outside.specs.declared.outside.File.{Ghosts as FileMeanings}
 use Rattle.vt_camera.specs.Paths.{PathView}
-use Rattle.vt_filter.specs.declared.filters.Filter.{Ghosts as FilterMeanings}
+use Rattle.vt_pictures.specs.declared.filters.Filter.{Ghosts as FilterMeanings}
 use Rattle.vt_pass.specs.WordMachines.{WordView, drawn_by}
 
 -- by what a machine that draws by a filter over files of some meanings has done up to now, a row of a path's picture, drawn at a version, has

@@ -2,8 +2,8 @@
 
 ghost use Rattle.std.specs.Prelude.{◌≡◌, ◌<◌, ◌≤◌, [], true, false, is_some};
 ghost use Rattle.vt_outside.specs.Files.{bytes_at};
-ghost use Rattle.vt_pages.specs.Pages.{pinned_of};
-ghost use Rattle.vt_machine.specs.Nearest.{nearest};
+ghost use Rattle.vt_tiles.specs.Pages.{pinned_of};
+ghost use Rattle.vt_walk.specs.Nearest.{nearest};
 ghost use Rattle.vt_walk.specs.Walks.{given_to, AreSettings};
 ghost use Rattle.vt_walk.specs.States.{AreOpen};
 ghost use Rattle.vt_walk.specs.WalkEffects.{walk_effect, file_of, Walks};
@@ -14,9 +14,9 @@ use std::alloc::Global;
 use std::sync::Wait;
 use std::thread::Threads;
 use vt_camera::Path;
-use vt_filter::{Filter, Nearest};
 use vt_outside::{Folder, Gate, Sink};
 use vt_pass::WordMachine;
+use vt_pictures::{Filter, Nearest};
 use vt_tiles::Store;
 use vt_walk::{Names, Settings, WalkError, walk_with};
 

@@ -16,11 +16,11 @@ use Rattle.vt_plan.specs.declared.batches.Planned.{Planned}
 use Rattle.vt_queue.specs.declared.items.Loaded.{Loaded}
 use Rattle.vt_queue.specs.declared.items.Outcome.{Outcome}
 use Rattle.vt_queue.specs.declared.items.Outcome.TheVariants.{Read, Lost}
-use Rattle.vt_load.specs.Readings.{is_lost}
+use Rattle.vt_loaders.specs.Readings.{is_lost}
 use Rattle.vt_loaders.specs.Results.{IsGood}
-use Rattle.vt_machine.specs.Outcomes.{victim_events, group_if}
+use Rattle.vt_requests.specs.Outcomes.{victim_events, group_if}
 use Rattle.vt_requests.specs.BatchRounds.{page_if, result_group, result_events, IsResultOf}
-use Rattle.vt_streamer.specs.Fills.{words_in}
+use Rattle.vt_noted.specs.Fills.{words_in}
 use Rattle.vt_streaming.specs.Made.{victim_contents, contents_if, result_contents, results_contents}
 use Rattle.vt_noted.specs.Stored.{IsStored, AreStored}
 use Rattle.vt_noted.proofs.Growing.{stored_grow}

@@ -10,26 +10,26 @@ use Rattle.vt_outside.specs.declared.outside.File.{Ghosts as FileMeanings}
 use Rattle.vt_pages.specs.Shape.{Shape}
 use Rattle.vt_pages.specs.Pages.{pages_of}
 use Rattle.vt_camera.specs.Paths.{ArePictureSides}
-use Rattle.vt_draw.specs.Shots.{shot_row, wants_in_rows}
-use Rattle.vt_filter.specs.declared.filters.Filter.{Ghosts as FilterMeanings}
-use Rattle.vt_filter.specs.Evidence.{AreShown}
-use Rattle.vt_filter.specs.FilterLaws.{WantsFew, picture_wants}
-use Rattle.vt_filter.proofs.Handed.{shown_by_more}
+use Rattle.vt_sampler.specs.Shots.{shot_row, wants_in_rows}
+use Rattle.vt_sampler.specs.PicturesTypes.filters.Filter.{Ghosts as FilterMeanings}
+use Rattle.vt_sampler.specs.Evidence.{AreShown}
+use Rattle.vt_sampler.specs.FilterLaws.{WantsFew, picture_wants}
+use Rattle.vt_sampler.proofs.Handed.{shown_by_more}
 use Rattle.vt_journal.specs.declared.changes.RowLine.{RowLine}
-use Rattle.vt_grace.specs.declared.views.PassView.{PassView}
-use Rattle.vt_grace.specs.declared.views.WriterView.{WriterView}
-use Rattle.vt_grace.specs.Giving.{new_pass}
-use Rattle.vt_grace.specs.Sound.{IsSound, IsSoundReturn}
-use Rattle.vt_grace.specs.Tokens.{IsPassOf}
-use Rattle.vt_grace.specs.Values.{WordsValue, PassValue}
-use Rattle.vt_grace.specs.WriterViews.{version_of, is_out}
-use Rattle.vt_lookup.specs.Notes.{IsNotedIn}
+use Rattle.vt_sampler.specs.GraceTypes.views.PassView.{PassView}
+use Rattle.vt_sampler.specs.GraceTypes.views.WriterView.{WriterView}
+use Rattle.vt_noted.specs.Giving.{new_pass}
+use Rattle.vt_noted.specs.Sound.{IsSound, IsSoundReturn}
+use Rattle.vt_sampler.specs.Tokens.{IsPassOf}
+use Rattle.vt_sampler.specs.Values.{WordsValue, PassValue}
+use Rattle.vt_noted.specs.WriterViews.{version_of, is_out}
+use Rattle.vt_sampler.specs.LookupNotes.{IsNotedIn}
 use Rattle.vt_sampler.specs.Samplers.{IsOwn, own_rows, row_at, row_length, version_at}
 use Rattle.vt_sampler.proofs.Sharing.{picture_few}
 use Rattle.vt_noted.specs.Noted.{IsNotedBy}
 use Rattle.vt_loaders.specs.declared.queued.Queues.{Queues}
 use Rattle.vt_loaders.specs.QueuedLoaders.{QueuedView}
-use Rattle.vt_workers.specs.Jobs.{Job}
+use Rattle.vt_requests.specs.Jobs.{Job}
 use Rattle.vt_word_workers.specs.WordSamplers.{WordSampler}
 use Rattle.vt_word_workers.specs.declared.workers.WordStreamer.{WordStreamer}
 use Rattle.vt_word_workers.specs.GivenPasses.{HasNewPass, ArePassesOf, all_returned, without_pass, without_passes}

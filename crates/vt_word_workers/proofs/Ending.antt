@@ -23,9 +23,9 @@ use Rattle.vt_loaders.specs.QueuedLoaders.{QueuedView, asks_of, answers_of, stor
 use Rattle.vt_loaders.specs.Rounds.{Round, AreServed}
 use Rattle.vt_loaders.specs.Streamed.{IsStreamedRound}
 use Rattle.vt_loaders.proofs.Streaming.{exact, served}
-use Rattle.vt_machine.specs.Outcomes.{lost_count, IsOutcome}
-use Rattle.vt_machine.specs.Requests.{FileState, times_planned, lost_entries, counts_of, AreReadFor}
-use Rattle.vt_machine.specs.Machines.{file_state, files_of}
+use Rattle.vt_requests.specs.Outcomes.{lost_count, IsOutcome}
+use Rattle.vt_requests.specs.Requests.{FileState, times_planned, lost_entries, counts_of, AreReadFor}
+use Rattle.vt_requests.specs.Machines.{file_state, files_of}
 use Rattle.vt_requests.specs.BatchRounds.{result_events, IsResultOf, AreLossesOf, Begun, IsEndedRound}
 use Rattle.vt_requests.proofs.BatchRounds.{results_of_entries, round_outcome, round_read}
 use Rattle.vt_streaming.specs.Streams.{Streams}

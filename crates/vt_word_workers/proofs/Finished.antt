@@ -15,32 +15,32 @@ use Rattle.vt_journal.specs.declared.changes.RowLine.{RowLine}
 use Rattle.vt_journal.specs.JournalText.{changes_of}
 use Rattle.vt_tiles.specs.Format.{stored, tile_length}
 use Rattle.vt_tiles.specs.StoreViews.{StoreView, IsStoreIfTold}
-use Rattle.vt_pictures.specs.Replays.{IsFull, AreReplayed}
-use Rattle.vt_filter.specs.declared.filters.Filter.{Ghosts as FilterMeanings}
-use Rattle.vt_filter.specs.FilterLaws.{IsUnder}
-use Rattle.vt_grace.specs.declared.views.WriterView.{WriterView}
-use Rattle.vt_grace.specs.declared.sizes.Sizes.{Sizes}
-use Rattle.vt_grace.specs.Values.{WordsValue}
-use Rattle.vt_streamer.specs.Views.{StreamerView, IsStreamerOf}
+use Rattle.vt_noted.specs.Replays.{IsFull, AreReplayed}
+use Rattle.vt_sampler.specs.PicturesTypes.filters.Filter.{Ghosts as FilterMeanings}
+use Rattle.vt_sampler.specs.FilterLaws.{IsUnder}
+use Rattle.vt_sampler.specs.GraceTypes.views.WriterView.{WriterView}
+use Rattle.vt_sampler.specs.GraceTypes.sizes.Sizes.{Sizes}
+use Rattle.vt_sampler.specs.Values.{WordsValue}
+use Rattle.vt_streaming.specs.Views.{StreamerView, IsStreamerOf}
 use Rattle.vt_queue.specs.declared.items.Request.{Request}
 use Rattle.vt_queue.specs.declared.items.Loaded.{Loaded}
 use Rattle.vt_queue.specs.declared.views.PassView.{PassView}
 use Rattle.vt_queue.specs.PassViews.{all_joined}
 use Rattle.vt_queue.specs.Queues.{view_of}
 use Rattle.vt_queue.specs.Steps.{IsAtStep}
-use Rattle.vt_load.specs.Loaders.{LoaderView}
+use Rattle.vt_loaders.specs.Loaders.{LoaderView}
 use Rattle.vt_loaders.specs.declared.queued.Queues.{Queues}
 use Rattle.vt_loaders.specs.QueuedLoaders.{QueuedView, asks_of, answers_of, stores_of}
 use Rattle.vt_loaders.specs.Results.{IsGood}
 use Rattle.vt_loaders.proofs.Answering.{bytes_kept}
-use Rattle.vt_workers.specs.Jobs.{Job}
-use Rattle.vt_machine.specs.declared.crew.PassReport.{PassReport}
-use Rattle.vt_machine.specs.Outcomes.{IsOutcome}
-use Rattle.vt_machine.specs.RowOrders.{AreRowsInOrder}
-use Rattle.vt_machine.specs.Requests.{AreReadFor}
-use Rattle.vt_machine.specs.Machines.{files_of, told_by, AreStoresFor}
-use Rattle.vt_machine.specs.Drawings.{drawing_of}
-use Rattle.vt_machine.specs.Passes.{IsPictured}
+use Rattle.vt_requests.specs.Jobs.{Job}
+use Rattle.vt_requests.specs.MachineTypes.crew.PassReport.{PassReport}
+use Rattle.vt_requests.specs.Outcomes.{IsOutcome}
+use Rattle.vt_requests.specs.RowOrders.{AreRowsInOrder}
+use Rattle.vt_requests.specs.Requests.{AreReadFor}
+use Rattle.vt_requests.specs.Machines.{files_of, told_by, AreStoresFor}
+use Rattle.vt_requests.specs.Drawings.{drawing_of}
+use Rattle.vt_requests.specs.Passes.{IsPictured}
 use Rattle.vt_requests.specs.BatchRounds.{result_events}
 use Rattle.vt_requests.specs.Sizes.{AreSized}
 use Rattle.vt_streaming.specs.Made.{HasStreamed, results_contents}

@@ -6,12 +6,12 @@ use Rattle.std.proofs.lemmas.List.{length-map}
 use Rattle.vt_outside.specs.Lists.{ListView}
 use Rattle.vt_outside.specs.declared.outside.File.{Ghosts as FileMeanings}
 use Rattle.vt_journal.specs.declared.changes.RowLine.{RowLine}
-use Rattle.vt_filter.specs.declared.filters.Filter.{Ghosts as FilterMeanings}
-use Rattle.vt_filter.specs.FilterLaws.{IsUnder}
+use Rattle.vt_sampler.specs.PicturesTypes.filters.Filter.{Ghosts as FilterMeanings}
+use Rattle.vt_sampler.specs.FilterLaws.{IsUnder}
 use Rattle.vt_tiles.specs.Format.{tile_length}
 use Rattle.vt_tiles.specs.StoreViews.{StoreView}
-use Rattle.vt_grace.specs.Values.{WordsValue}
-use Rattle.vt_streamer.specs.Views.{StreamerView, IsStreamerOf}
+use Rattle.vt_sampler.specs.Values.{WordsValue}
+use Rattle.vt_streaming.specs.Views.{StreamerView, IsStreamerOf}
 use Rattle.vt_queue.specs.declared.items.Request.{Request}
 use Rattle.vt_queue.specs.declared.items.Loaded.{Loaded}
 use Rattle.vt_queue.specs.declared.views.PassView.{PassView}
@@ -20,9 +20,9 @@ use Rattle.vt_queue.specs.Queues.{view_of}
 use Rattle.vt_queue.specs.Steps.{IsAtStep}
 use Rattle.vt_loaders.specs.declared.queued.Queues.{Queues}
 use Rattle.vt_loaders.specs.QueuedLoaders.{QueuedView, asks_of, answers_of, stores_of}
-use Rattle.vt_workers.specs.Jobs.{Job}
-use Rattle.vt_workers.proofs.Lent.{refilled}
-use Rattle.vt_machine.specs.declared.crew.PassReport.{PassReport}
+use Rattle.vt_requests.specs.Jobs.{Job}
+use Rattle.vt_requests.proofs.Lent.{refilled}
+use Rattle.vt_requests.specs.MachineTypes.crew.PassReport.{PassReport}
 use Rattle.vt_requests.specs.Sizes.{AreSized}
 use Rattle.vt_word_workers.specs.WordSamplers.{WordSampler}
 use Rattle.vt_word_workers.specs.declared.workers.WordStreamer.{WordStreamer}

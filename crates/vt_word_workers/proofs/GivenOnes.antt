@@ -6,12 +6,12 @@ use Rattle.std.proofs.lemmas.Bool.{cases_eq}
 use Rattle.std.proofs.lemmas.Option.{get_or_from_slice_get, slice_get-get_or, slice_get_within}
 use Rattle.vt_outside.specs.declared.outside.File.{Ghosts as FileMeanings}
 use Rattle.vt_pages.specs.Shape.{Shape}
-use Rattle.vt_grace.specs.declared.views.WriterView.{WriterView}
-use Rattle.vt_grace.specs.Giving.{after_giving, new_pass}
-use Rattle.vt_grace.specs.WriterViews.{after_look, is_out}
-use Rattle.vt_grace.specs.Values.{WordsValue, PassValue}
-use Rattle.vt_grace.specs.Tokens.{IsPassOf}
-use Rattle.vt_streamer.specs.Views.{StreamerView, IsStreamerOf}
+use Rattle.vt_sampler.specs.GraceTypes.views.WriterView.{WriterView}
+use Rattle.vt_noted.specs.Giving.{after_giving, new_pass}
+use Rattle.vt_noted.specs.WriterViews.{after_look, is_out}
+use Rattle.vt_sampler.specs.Values.{WordsValue, PassValue}
+use Rattle.vt_sampler.specs.Tokens.{IsPassOf}
+use Rattle.vt_streaming.specs.Views.{StreamerView, IsStreamerOf}
 use Rattle.vt_plan.specs.declared.batches.Planned.{Planned}
 use Rattle.vt_queue.specs.declared.queue.QueuePass.{QueuePass}
 use Rattle.vt_queue.specs.declared.items.Loaded.{Loaded}

@@ -14,20 +14,20 @@ use Rattle.vt_sampler.specs.Samplers.{SamplerView, IsFor, IsOwn, version_at}
 use Rattle.vt_tiles.specs.StoreViews.{StoreView, IsStoreIfTold}
 use Rattle.vt_journal.specs.Changes.{newest}
 use Rattle.vt_journal.specs.Lookups.{is_mapped}
-use Rattle.vt_grace.specs.declared.sizes.Sizes.{Sizes}
-use Rattle.vt_grace.specs.declared.views.PassView.{PassView}
-use Rattle.vt_grace.specs.Values.{WordsValue}
-use Rattle.vt_streamer.specs.Views.{StreamerView}
-use Rattle.vt_lookup.specs.Notes.{Fits}
-use Rattle.vt_machine.specs.Machines.{told_by, AreStoresFor}
+use Rattle.vt_sampler.specs.GraceTypes.sizes.Sizes.{Sizes}
+use Rattle.vt_sampler.specs.GraceTypes.views.PassView.{PassView}
+use Rattle.vt_sampler.specs.Values.{WordsValue}
+use Rattle.vt_streaming.specs.Views.{StreamerView}
+use Rattle.vt_sampler.specs.LookupNotes.{Fits}
+use Rattle.vt_requests.specs.Machines.{told_by, AreStoresFor}
 use Rattle.vt_camera.specs.Paths.{PathView}
 use Rattle.vt_loaders.specs.declared.queued.Queues.{Queues}
 use Rattle.vt_word_workers.specs.WordSamplers.{WordSampler}
-use Rattle.vt_workers.specs.Jobs.{Job}
-use Rattle.vt_workers.specs.All.{AllReady}
+use Rattle.vt_requests.specs.Jobs.{Job}
+use Rattle.vt_requests.specs.All.{AllReady}
 use Rattle.vt_word_workers.specs.declared.workers.WordStreamer.{WordStreamer}
 use Rattle.vt_word_workers.specs.WordTasks.{MayDraw}
-use Rattle.vt_machine.specs.Passes.{MapsRoot, IsJobFor}
+use Rattle.vt_requests.specs.Passes.{MapsRoot, IsJobFor}
 use Rattle.vt_word_workers.specs.Kits.{KitView, kit_setup, kit_state, IsSamplerOf, AreSamplersOf, IsKit, IsFitKit, IsReadyKit, version_by, line_of, lines_of, counted_together}
 
 -- what holds of each place of a list holds of it with one more

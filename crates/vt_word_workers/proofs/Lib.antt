@@ -1,3 +1,6 @@
+pub use Rattle.vt_noted.proofs.Growing
+pub use Rattle.vt_noted.proofs.Replayed
+pub use Rattle.vt_sampler.proofs.Sharing
 pub mod Kits
 pub mod Rooms
 pub mod Returned

@@ -3,13 +3,13 @@ use Rattle.std.proofs.Common.{◌≡◌, ℕ, zero, suc, ◌≤◌, inl, inr, Bo
 use Rattle.std.specs.Prelude.{slice_get, slice_set, All, Contains}
 use Rattle.std.proofs.lemmas.List.Elements.{Contains-append_left, Contains-append_right}
 use Rattle.std.proofs.lemmas.Option.{none-some, same_Some, slice_get_cases}
-use Rattle.vt_draw.specs.Lookups.{Note, EntryNote, WordNote}
-use Rattle.vt_grace.specs.declared.views.PassView.{PassView}
-use Rattle.vt_grace.specs.declared.views.Returned.{Returned}
-use Rattle.vt_grace.specs.declared.views.WriterView.{WriterView}
-use Rattle.vt_grace.specs.WriterViews.{is_out}
-use Rattle.vt_grace.specs.Values.{PassValue}
-use Rattle.vt_lookup.specs.Notes.{IsNotedIn}
+use Rattle.vt_sampler.specs.Lookups.{Note, EntryNote, WordNote}
+use Rattle.vt_sampler.specs.GraceTypes.views.PassView.{PassView}
+use Rattle.vt_sampler.specs.GraceTypes.views.Returned.{Returned}
+use Rattle.vt_sampler.specs.GraceTypes.views.WriterView.{WriterView}
+use Rattle.vt_noted.specs.WriterViews.{is_out}
+use Rattle.vt_sampler.specs.Values.{PassValue}
+use Rattle.vt_sampler.specs.LookupNotes.{IsNotedIn}
 use Rattle.vt_noted.specs.Noted.{IsAmong, IsNotedBy, HasNoted, HasNotesOf}
 use Rattle.vt_noted.proofs.Handed.{noted_by, notes_alike, pass_noted, notes_stay, noted_onward}
 use Rattle.vt_word_workers.specs.declared.workers.WithPass.{WithPass}

@@ -14,18 +14,18 @@ use Rattle.vt_journal.specs.declared.changes.RowLine.{RowLine}
 use Rattle.vt_journal.specs.Changes.{newest}
 use Rattle.vt_tiles.specs.Format.{tile_length}
 use Rattle.vt_tiles.specs.StoreViews.{StoreView, IsStoreIfTold}
-use Rattle.vt_table.specs.Views.{IsTable}
-use Rattle.vt_grace.specs.Values.{WordsValue}
-use Rattle.vt_streamer.specs.Views.{StreamerView, table_of, IsStreamerOf}
+use Rattle.vt_sampler.specs.Views.{IsTable}
+use Rattle.vt_sampler.specs.Values.{WordsValue}
+use Rattle.vt_streaming.specs.Views.{StreamerView, table_of, IsStreamerOf}
 use Rattle.vt_plan.specs.declared.batches.Planned.{Planned}
 use Rattle.vt_queue.specs.declared.queue.QueuePass.{QueuePass}
 use Rattle.vt_queue.specs.declared.items.Loaded.{Loaded}
 use Rattle.vt_loaders.specs.declared.queued.Queues.{Queues}
-use Rattle.vt_workers.proofs.Lent.{refilled}
-use Rattle.vt_machine.specs.declared.crew.Crew.{Crew}
-use Rattle.vt_machine.specs.Crews.{IsCrew}
-use Rattle.vt_machine.specs.Machines.{file_state, files_of, told_by, AreStoresFor}
-use Rattle.vt_machine.specs.Outcomes.{IsBatchFor}
+use Rattle.vt_requests.proofs.Lent.{refilled}
+use Rattle.vt_requests.specs.MachineTypes.crew.Crew.{Crew}
+use Rattle.vt_requests.specs.Crews.{IsCrew}
+use Rattle.vt_requests.specs.Machines.{file_state, files_of, told_by, AreStoresFor}
+use Rattle.vt_requests.specs.Outcomes.{IsBatchFor}
 use Rattle.vt_noted.specs.Stored.{AreStored}
 use Rattle.vt_streaming.specs.declared.report.StreamReport.{StreamReport}
 use Rattle.vt_streaming.specs.Reports.{IsBlank}

@@ -10,11 +10,11 @@ use Rattle.vt_definitions.specs.Limits.{most_samplers}
 use Rattle.vt_pages.specs.Shape.{Shape}
 use Rattle.vt_camera.specs.Paths.{PathView}
 use Rattle.vt_camera.specs.Rows.{RowView}
-use Rattle.vt_draw.specs.Shots.{wants_in_rows}
+use Rattle.vt_sampler.specs.Shots.{wants_in_rows}
 use Rattle.vt_journal.specs.declared.changes.RowLine.{RowLine}
 use Rattle.vt_sampler.specs.Samplers.{own_rows}
 use Rattle.vt_sampler.proofs.Sharing.{rows_shared}
-use Rattle.vt_machine.specs.RowOrders.{AreRowsInOrder}
+use Rattle.vt_requests.specs.RowOrders.{AreRowsInOrder}
 use Rattle.vt_word_workers.specs.WordSamplers.{WordSampler}
 use Rattle.vt_word_workers.specs.Kits.{version_by, line_of, lines_of, counted_together}
 

@@ -1,9 +1,9 @@
 -- Passes that are given to samplers, and taken back from them.
 use Rattle.std.specs.Prelude.{◌≡◌, ℕ, ◌<◌, Option, Some, None, List, [], ◌∷◌, length, map, slice_get, slice_index_or, IfSome, All}
-use Rattle.vt_grace.specs.declared.views.WriterView.{WriterView}
-use Rattle.vt_grace.specs.Giving.{new_pass, after_return}
-use Rattle.vt_grace.specs.Values.{WordsValue, PassValue}
-use Rattle.vt_grace.specs.Tokens.{IsPassOf}
+use Rattle.vt_sampler.specs.GraceTypes.views.WriterView.{WriterView}
+use Rattle.vt_noted.specs.Giving.{new_pass, after_return}
+use Rattle.vt_sampler.specs.Values.{WordsValue, PassValue}
+use Rattle.vt_sampler.specs.Tokens.{IsPassOf}
 use Rattle.vt_word_workers.specs.declared.workers.WithPass.{WithPass}
 
 -- a sampler of this number has a pass that was given to it by the writer of these words, and has held and noted nothing

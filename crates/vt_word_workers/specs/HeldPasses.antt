@@ -1,9 +1,9 @@
 -- At which versions the rows of a pass over shared words were drawn.
 use Rattle.std.specs.Prelude.{◌≡◌, ℕ, Some, List, ◌++◌, slice_get, Contains}
 use Rattle.vt_journal.specs.declared.changes.RowLine.{RowLine}
-use Rattle.vt_grace.specs.declared.views.Returned.{Returned}
-use Rattle.vt_grace.specs.declared.views.WriterView.{WriterView}
-use Rattle.vt_grace.specs.WriterViews.{version_of}
+use Rattle.vt_sampler.specs.GraceTypes.views.Returned.{Returned}
+use Rattle.vt_sampler.specs.GraceTypes.views.WriterView.{WriterView}
+use Rattle.vt_noted.specs.WriterViews.{version_of}
 
 -- a row's version is one that a pass of its sampler held, which was given at this start and is among these that were taken back
 pub record IsHeldRow (start : ℕ) (returned : List Returned) (row : RowLine) : Type 0 where

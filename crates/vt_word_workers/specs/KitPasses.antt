@@ -3,25 +3,25 @@ use Rattle.std.specs.Prelude.{◌≡◌, ℕ, ◌%◌, ◌≤◌, List, [], leng
 use Rattle.vt_outside.specs.declared.outside.File.{Ghosts as FileMeanings}
 use Rattle.vt_pages.specs.Shape.{Shape}
 use Rattle.vt_camera.specs.Paths.{PathView}
-use Rattle.vt_draw.specs.Shots.{shot_row}
-use Rattle.vt_filter.specs.declared.filters.Filter.{Ghosts as FilterMeanings}
-use Rattle.vt_filter.specs.Evidence.{AreShown}
+use Rattle.vt_sampler.specs.Shots.{shot_row}
+use Rattle.vt_sampler.specs.PicturesTypes.filters.Filter.{Ghosts as FilterMeanings}
+use Rattle.vt_sampler.specs.Evidence.{AreShown}
 use Rattle.vt_tiles.specs.Format.{tile_length}
-use Rattle.vt_grace.specs.declared.views.WriterView.{WriterView}
-use Rattle.vt_grace.specs.declared.views.Returned.{Returned}
-use Rattle.vt_grace.specs.Values.{WordsValue}
-use Rattle.vt_streamer.specs.Views.{StreamerView}
+use Rattle.vt_sampler.specs.GraceTypes.views.WriterView.{WriterView}
+use Rattle.vt_sampler.specs.GraceTypes.views.Returned.{Returned}
+use Rattle.vt_sampler.specs.Values.{WordsValue}
+use Rattle.vt_streaming.specs.Views.{StreamerView}
 use Rattle.vt_queue.specs.declared.queue.QueuePass.{QueuePass}
 use Rattle.vt_queue.specs.declared.items.Loaded.{Loaded}
 use Rattle.vt_queue.specs.Queues.{view_of}
 use Rattle.vt_loaders.specs.declared.queued.Queues.{Queues}
 use Rattle.vt_loaders.specs.QueuedLoaders.{QueuedView, AreOf, stores_of}
-use Rattle.vt_workers.specs.Jobs.{Job}
-use Rattle.vt_workers.specs.All.{AllDid}
-use Rattle.vt_machine.specs.declared.crew.PassReport.{PassReport}
-use Rattle.vt_machine.specs.Drawings.{drawing_of}
-use Rattle.vt_machine.specs.Machines.{told_by}
-use Rattle.vt_machine.specs.Passes.{IsJobFor, Ran}
+use Rattle.vt_requests.specs.Jobs.{Job}
+use Rattle.vt_requests.specs.All.{AllDid}
+use Rattle.vt_requests.specs.MachineTypes.crew.PassReport.{PassReport}
+use Rattle.vt_requests.specs.Drawings.{drawing_of}
+use Rattle.vt_requests.specs.Machines.{told_by}
+use Rattle.vt_requests.specs.Passes.{IsJobFor, Ran}
 use Rattle.vt_requests.specs.BatchRounds.{Begun as Round, IsEndedRound}
 use Rattle.vt_requests.specs.Sizes.{AreSized}
 use Rattle.vt_noted.specs.Noted.{IsNotedBy}

@@ -12,15 +12,15 @@ use Rattle.vt_journal.specs.declared.changes.RowLine.{RowLine}
 use Rattle.vt_journal.specs.Changes.{newest}
 use Rattle.vt_tiles.specs.Format.{tile_length}
 use Rattle.vt_tiles.specs.StoreViews.{StoreView, IsStoreIfTold}
-use Rattle.vt_grace.specs.Values.{WordsValue}
-use Rattle.vt_grace.specs.WriterViews.{is_out}
-use Rattle.vt_streamer.specs.Views.{StreamerView, IsStreamerOf}
+use Rattle.vt_sampler.specs.Values.{WordsValue}
+use Rattle.vt_noted.specs.WriterViews.{is_out}
+use Rattle.vt_streaming.specs.Views.{StreamerView, IsStreamerOf}
 use Rattle.vt_sampler.specs.Samplers.{SamplerView, row_at, version_at}
 use Rattle.vt_plan.specs.declared.batches.Planned.{Planned}
-use Rattle.vt_machine.specs.declared.crew.Crew.{Crew}
-use Rattle.vt_machine.specs.Crews.{IsCrew}
-use Rattle.vt_machine.specs.Outcomes.{IsBatchFor}
-use Rattle.vt_machine.specs.Machines.{Setup, MachineState, file_state, files_of, told_by, AreStoresFor}
+use Rattle.vt_requests.specs.MachineTypes.crew.Crew.{Crew}
+use Rattle.vt_requests.specs.Crews.{IsCrew}
+use Rattle.vt_requests.specs.Outcomes.{IsBatchFor}
+use Rattle.vt_requests.specs.Machines.{Setup, MachineState, file_state, files_of, told_by, AreStoresFor}
 use Rattle.vt_loaders.specs.declared.queued.Queues.{Queues}
 use Rattle.vt_requests.specs.Sizes.{AreSized}
 use Rattle.vt_streaming.specs.Reports.{IsBlank}

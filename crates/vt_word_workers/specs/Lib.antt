@@ -1,3 +1,22 @@
+pub use Rattle.vt_noted.specs.Banks
+pub use Rattle.vt_noted.specs.Fills
+pub use Rattle.vt_noted.specs.Looks
+pub use Rattle.vt_noted.specs.Noted
+pub use Rattle.vt_noted.specs.Stored
+pub use Rattle.vt_requests.specs.All
+pub use Rattle.vt_requests.specs.BatchRounds
+pub use Rattle.vt_requests.specs.Crews
+pub use Rattle.vt_requests.specs.MachineTypes
+pub use Rattle.vt_requests.specs.Machines
+pub use Rattle.vt_requests.specs.Outcomes
+pub use Rattle.vt_requests.specs.Requests
+pub use Rattle.vt_requests.specs.Sizes
+pub use Rattle.vt_sampler.specs.Samplers
+pub use Rattle.vt_streaming.specs.Made
+pub use Rattle.vt_streaming.specs.Reports
+pub use Rattle.vt_streaming.specs.Streams
+pub use Rattle.vt_streaming.specs.Views
+pub use Rattle.vt_streaming.specs.declared as StreamingTypes
 pub mod WordSamplers
 pub mod WordTasks
 pub mod RoundKits

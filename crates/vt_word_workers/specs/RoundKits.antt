@@ -14,7 +14,7 @@ use Rattle.vt_queue.specs.PassViews.{all_shares, first_view}
 use Rattle.vt_queue.specs.Queues.{view_of, splits_of, capacity_of}
 use Rattle.vt_loaders.specs.declared.queued.Queues.{Queues}
 use Rattle.vt_loaders.specs.QueuedLoaders.{QueuedView, AreOf, IsLoaderOf, AreSplitOff, stores_of, numbers_of}
-use Rattle.vt_machine.specs.declared.crew.Crew.{Crew}
+use Rattle.vt_requests.specs.MachineTypes.crew.Crew.{Crew}
 use Rattle.vt_requests.specs.BatchRounds.{ArePut}
 use Rattle.vt_requests.specs.Sizes.{AreSized}
 

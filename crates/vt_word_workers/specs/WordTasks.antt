@@ -1,21 +1,21 @@
 -- What the samplers and the streamer of a pass over shared words ask and leave.
 use Rattle.std.specs.Prelude.{◌≡◌, ℕ, ◌*◌, ◌^◌, ◌<◌, ◌≤◌, ◌++◌, true, Some, List, length, slice_index}
-use Rattle.vt_draw.specs.Shots.{shot_row, wants_in_rows}
+use Rattle.vt_sampler.specs.Shots.{shot_row, wants_in_rows}
 use Rattle.vt_journal.specs.Changes.{newest}
-use Rattle.vt_grace.specs.Values.{WordsValue, PassValue}
-use Rattle.vt_grace.specs.Tokens.{IsPassOf}
-use Rattle.vt_lookup.specs.Notes.{Fits, IsNotedIn, HasHeldMore}
+use Rattle.vt_sampler.specs.Values.{WordsValue, PassValue}
+use Rattle.vt_sampler.specs.Tokens.{IsPassOf}
+use Rattle.vt_sampler.specs.LookupNotes.{Fits, IsNotedIn, HasHeldMore}
 use Rattle.vt_sampler.specs.Held.{WasHeld}
 use Rattle.vt_sampler.specs.Samplers.{IsOwn, IsFor, own_rows, row_at, row_length, version_at}
-use Rattle.vt_pictures.specs.Scenes.{Scene}
-use Rattle.vt_filter.specs.declared.filters.Filter.{Ghosts as FilterMeanings}
-use Rattle.vt_filter.specs.Evidence.{AreShown}
+use Rattle.vt_noted.specs.Scenes.{Scene}
+use Rattle.vt_sampler.specs.PicturesTypes.filters.Filter.{Ghosts as FilterMeanings}
+use Rattle.vt_sampler.specs.Evidence.{AreShown}
 use Rattle.vt_plan.specs.declared.batches.Planned.{Planned}
-use Rattle.vt_machine.specs.Outcomes.{IsBatchFor}
+use Rattle.vt_requests.specs.Outcomes.{IsBatchFor}
 use Rattle.vt_queue.specs.Queues.{view_of, splits_of, IsOf}
 use Rattle.vt_loaders.specs.declared.queued.Queues.{Queues}
 use Rattle.vt_requests.specs.BatchRounds.{result_events, AreLossesOf}
-use Rattle.vt_streamer.specs.Views.{IsStreamerOf}
+use Rattle.vt_streaming.specs.Views.{IsStreamerOf}
 use Rattle.vt_streaming.specs.Made.{HasStreamed}
 use Rattle.vt_streaming.specs.Streams.{Streams}
 use Rattle.vt_streaming.specs.Reports.{IsBlank}

@@ -1,15 +1,15 @@
 //! Passes of the words that are given to samplers, and taken back from them.
 
 ghost use Rattle.std.specs.Prelude.{◌≡◌, ℕ, false, IfSome, length};
-ghost use Rattle.vt_grace.specs.WriterViews.{is_out};
-ghost use Rattle.vt_grace.specs.Tokens.{IsPassOf};
-ghost use Rattle.vt_streamer.specs.Views.{IsStreamerOf};
+ghost use Rattle.vt_noted.specs.WriterViews.{is_out};
+ghost use Rattle.vt_sampler.specs.Tokens.{IsPassOf};
+ghost use Rattle.vt_streaming.specs.Views.{IsStreamerOf};
 ghost use Rattle.vt_word_workers.specs.GivenPasses.{HaveNewPasses, HasGiven, AreSameSamplers, ArePassesOf, after_pass, all_returned, without_passes};
 
 use crate::workers::WithPass;
 use std::mem;
-use vt_grace::Words;
-use vt_streamer::Streamer;
+use vt_sampler::Words;
+use vt_streaming::Streamer;
 
 /// Gives each sampler its pass. None has one.
 pub fn give_passes<W>(words: &Words, streamer: &mut Streamer, tasks: &mut [WithPass<W>])

@@ -5,13 +5,11 @@ use crate::workers::{WordSampler, WordStreamer};
 use std::marker::PhantomData;
 use std::sync::Wait;
 use std::thread::Threads;
-use vt_draw::Shot;
-use vt_filter::Filter;
-use vt_grace::Words;
 use vt_loaders::{QueuedLoader, Queues};
 use vt_outside::{File, Gate};
 use vt_plan::Planned;
-use vt_workers::Task;
+use vt_requests::Task;
+use vt_sampler::{Filter, Shot, Words};
 
 /// What the workers of a pass have in common where its caller holds the words.
 #[derive(Drop)]

@@ -20,4 +20,7 @@ pub use room::{reserve_reads, with_room};
 pub use round::{RoundKit, blank_report, new_queues};
 pub use shared::WordShared;
 pub use tasks::stream_own;
+pub use vt_requests::Crew;
+pub use vt_sampler::{Filter, Nearest};
+pub use vt_streaming::{StreamReport, Streamer};
 pub use workers::{WithPass, WordSampler, WordStreamer};

@@ -1,6 +1,6 @@
 //! What samplers and streamer of a pass over shared words do.
 
-ghost use Rattle.vt_pictures.specs.Scenes.{scene_of};
+ghost use Rattle.vt_noted.specs.Scenes.{scene_of};
 ghost use Rattle.vt_word_workers.specs.WordTasks.{MayDraw, HasDrawn, MayStream, HasFed};
 
 use crate::shared::WordShared;
@@ -8,14 +8,12 @@ use crate::workers::{WordSampler, WordStreamer};
 use std::mem;
 use std::sync::Wait;
 use std::thread::Threads;
-use vt_draw::Shot;
-use vt_filter::Filter;
-use vt_grace::Words;
 use vt_loaders::Queues;
 use vt_outside::Gate;
 use vt_plan::Planned;
+use vt_requests::Task;
+use vt_sampler::{Filter, Shot, Words};
 use vt_streaming::stream_batch;
-use vt_workers::Task;
 
 /// Lets a sampler draw its rows by a filter with its pass, which it has back afterwards.
 pub(crate) fn draw_own<P: Filter, G: Gate>(

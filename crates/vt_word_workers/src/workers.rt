@@ -1,10 +1,8 @@
 //! The workers of a pass over shared words, as they lie in its machine.
 
-use vt_grace::Pass;
 use vt_queue::{Loaded, QueuePass};
-use vt_sampler::Sampler;
-use vt_streamer::Streamer;
-use vt_streaming::StreamReport;
+use vt_sampler::{Pass, Sampler};
+use vt_streaming::{StreamReport, Streamer};
 
 /// A sampler of any kind with its pass of the words, which it has while a pass is run.
 #[derive(Drop)]

@@ -1,3 +1,4 @@
+pub use Rattle.vt_text.specs.Numbers as TextNumbers
 pub mod Arguments
 pub mod Reading
 pub mod Numbers

@@ -3,8 +3,8 @@ use Rattle.std.specs.Prelude.{ℕ, List, Option, Some, None, ◌≤◌, ◌&&◌
 use Rattle.std.specs.Str.{bytes_eq}
 use Rattle.std.specs.Str.Parse.{digits_value}
 use Rattle.clap.specs.Words.{Row, Text, first_of}
-use Rattle.vt_definitions.specs.Limits.{most_tile_side}
-use Rattle.vt_definitions.specs.Tiles.{is_tile_side}
+use Rattle.vt_text.specs.Limits.{most_tile_side}
+use Rattle.vt_text.specs.Tiles.{is_tile_side}
 use Rattle.vt_text.specs.Numbers.{number_spelling}
 use Rattle.vt_words.specs.Arguments.{given}
 

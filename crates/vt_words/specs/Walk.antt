@@ -1,7 +1,7 @@
 -- The words of `walk`.
 use Rattle.std.specs.Prelude.{◌≡◌, ℕ, List, [], ◌∷◌, Option, Some, None, Bool, false, codes, if◌then◌else◌}
 use Rattle.clap.specs.Words.{Row, Rule, Text, first_of}
-use Rattle.vt_definitions.specs.Limits.{most_frames, most_samplers, most_loaders, most_entries}
+use Rattle.vt_text.specs.Limits.{most_frames, most_samplers, most_loaders, most_entries}
 use Rattle.vt_words.specs.Arguments.{word, option, flag, given, is_set}
 use Rattle.vt_words.specs.Filters.{filter_option}
 use Rattle.vt_words.specs.Journals.{names_clash}

@@ -2,7 +2,7 @@
 
 ghost use Rattle.std.specs.Prelude.{◌≡◌, IfSome};
 ghost use Rattle.clap.specs.Words.{rows_of, found_of};
-ghost use Rattle.vt_definitions.specs.Tiles.{is_tile_side, IsTileSide};
+ghost use Rattle.vt_text.specs.Tiles.{is_tile_side, IsTileSide};
 ghost use Rattle.vt_words.specs.Numbers.{number_between, number_of, side_of, IsBetween};
 
 use crate::arguments::text;

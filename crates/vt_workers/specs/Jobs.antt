@@ -1,6 +1,6 @@
 -- What a pass draws, and what it loads meanwhile.
 use Rattle.std.specs.Prelude.{ℕ, List}
-use Rattle.vt_draw.specs.declared.shots.Shot.{Shot}
+use Rattle.vt_pictures.specs.DrawTypes.shots.Shot.{Shot}
 use Rattle.vt_pictures.specs.Scenes.{Scene, scene_of}
 use Rattle.vt_plan.specs.declared.batches.Planned.{Planned}
 

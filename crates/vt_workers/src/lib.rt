@@ -6,4 +6,5 @@ mod threads;
 mod work;
 
 pub use task::Task;
+pub use vt_pictures::{Events, Journal, Path, RowLines, Shot};
 pub use work::work_together;

@@ -4,8 +4,8 @@ ghost use Rattle.vt_workers.specs.Jobs.{Job, job_of};
 
 use std::sync::Wait;
 use std::thread::Threads;
-use vt_draw::Shot;
 use vt_outside::Gate;
+use vt_pictures::Shot;
 use vt_plan::Planned;
 
 /// A part of a pass that one worker does: it changes itself alone, and reads what it shares with the other workers, an `S`.

@@ -6,7 +6,7 @@
 
 ghost use Rattle.std.specs.Prelude.{◌≡◌, ◌+◌, ◌*◌, ◌<◌, ◌≤◌, length};
 
-use vt_draw::Shot;
+use vt_pictures::Shot;
 use vt_plan::Planned;
 
 // For how many pixels a thread more pays.

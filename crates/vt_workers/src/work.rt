@@ -8,8 +8,8 @@ use crate::task::Task;
 use crate::threads::{loader_threads, sampler_threads};
 use std::sync::Wait;
 use std::thread::{Threads, join_mut};
-use vt_draw::Shot;
 use vt_outside::Gate;
+use vt_pictures::Shot;
 use vt_plan::Planned;
 
 /// The samplers, and beside them the loaders and the streamer, in as many threads as pay: in this one alone where the batch is empty and the

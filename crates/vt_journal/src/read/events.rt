@@ -2,7 +2,7 @@
 
 ghost use Rattle.std.specs.Prelude.{◌≡◌, ◌≢◌, None, ◌<◌, ◌≤◌, length, MatchOption, MatchResult};
 ghost use Rattle.std.specs.Bool.{MatchBool};
-ghost use Rattle.vt_definitions.specs.Limits.{most_versions};
+ghost use Rattle.vt_text.specs.Limits.{most_versions};
 ghost use Rattle.vt_pages.specs.Pages.{pages_of};
 ghost use Rattle.vt_journal.specs.declared.lines.Line.{Line};
 ghost use Rattle.vt_journal.specs.declared.changes.Event.{Event};

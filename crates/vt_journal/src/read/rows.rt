@@ -2,7 +2,7 @@
 
 ghost use Rattle.std.specs.Prelude.{◌≡◌, ◌+◌, ◌<◌, ◌≤◌, [], ◌∷◌, ◌++◌, length, slice_index, MatchResult};
 ghost use Rattle.std.specs.Bool.{MatchBool};
-ghost use Rattle.vt_definitions.specs.Limits.{most_samplers};
+ghost use Rattle.vt_text.specs.Limits.{most_samplers};
 ghost use Rattle.vt_journal.specs.JournalReading.{IsCursor, IsRefusal, IsSmall, IsNoEventAt, IsRowInTurn, AreSeen, AreRowsBegun, IsRowRead, AreRowsRead, with_rows};
 
 use crate::changes::{RowLine, RowLines};

@@ -7,14 +7,14 @@ ghost use Rattle.vt_pages.specs.Pages.{pages_of};
 ghost use Rattle.vt_journal.specs.Changes.{newest};
 ghost use Rattle.vt_journal.specs.declared.changes.Change.TheVariants.{Map as MapEntry};
 ghost use Rattle.vt_tiles.specs.Format.{tile_length, tile_start};
-ghost use Rattle.vt_table.specs.Views.{IsTile};
+ghost use Rattle.vt_streamer.specs.TableViews.{IsTile};
 ghost use Rattle.vt_streamer.specs.Views.{IsStreamerOf};
-ghost use Rattle.vt_workers.specs.Jobs.{job_of};
+ghost use Rattle.vt_machine.specs.Jobs.{job_of};
 ghost use Rattle.vt_machine.specs.Machines.{told_by};
 ghost use Rattle.vt_machine.specs.Outcomes.{IsBatchFor};
 ghost use Rattle.vt_machine.specs.Passes.{IsJobFor};
 ghost use Rattle.vt_pass.specs.Placed.{HasPlaced};
-ghost use Rattle.vt_word_workers.specs.Kits.{kit_setup, IsIdleKit};
+ghost use Rattle.vt_pass.specs.Kits.{kit_setup, IsIdleKit};
 
 use crate::cases::{Case, Deed, check};
 use crate::fixtures::{FOUR, HEADER, ONE_PICTURE, ROOT_TILE, TILE_0, TILE_2};

@@ -2,7 +2,7 @@
 
 ghost use Rattle.std.specs.Prelude.{◌≡◌, Some};
 ghost use Rattle.std.specs.Bool.{MatchBool};
-ghost use Rattle.vt_table.specs.Views.{IsTile, filled_for};
+ghost use Rattle.vt_streamer.specs.TableViews.{IsTile, filled_for};
 ghost use Rattle.vt_grace.specs.Banks.{MayFill};
 ghost use Rattle.vt_streamer.specs.Views.{IsStreamerOf, table_of};
 ghost use Rattle.vt_tests_words.specs.BlankStreams.{IsBlank};

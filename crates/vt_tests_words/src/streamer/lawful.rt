@@ -3,8 +3,8 @@
 ghost use Rattle.std.specs.Prelude.{ℕ, ◌<◌, All, AllPairs, MatchOption, length, slice_index_or};
 ghost use Rattle.std.specs.Bool.{MatchBool};
 ghost use Rattle.vt_journal.specs.Changes.{newest, IsFree};
-ghost use Rattle.vt_plan.specs.declared.batches.Planned.{Planned as Entry};
-ghost use Rattle.vt_machine.specs.Outcomes.{IsEntryFor, IsVictimOf, IsBatchFor};
+ghost use Rattle.vt_evict.specs.PlanTypes.batches.Planned.{Planned as Entry};
+ghost use Rattle.vt_streaming.specs.Outcomes.{IsEntryFor, IsVictimOf, IsBatchFor};
 ghost use Rattle.vt_tests_words.specs.SmallStreams.{IsSmall, AreOther};
 
 use crate::streamer::small::{is_mapped_to, is_unmapped, is_unused};

@@ -5,14 +5,14 @@ use Rattle.vt_outside.specs.declared.answers.OutsideError.{OutsideError}
 use Rattle.vt_outside.specs.declared.answers.OutsideError.TheVariants as outside
 use Rattle.vt_pages.specs.Shape.{Shape}
 use Rattle.vt_camera.specs.Paths.{PathView}
-use Rattle.vt_journal.specs.JournalText.{Content as Journal}
+use Rattle.vt_machine.specs.JournalText.{Content as Journal}
 use Rattle.vt_pictures.specs.Replays.{pixel_under}
-use Rattle.vt_plain_bilinear.specs.Shown.{blend_under}
-use Rattle.vt_files.specs.Effects.{FolderEffect, CallEffect}
-use Rattle.vt_files.specs.Expectations.{Expected, with_files, IsPart}
+use Rattle.vt_bilinear.specs.Shown.{blend_under}
+use Rattle.vt_command_base.specs.Effects.{FolderEffect, CallEffect}
+use Rattle.vt_replay.specs.Expectations.{Expected, with_files, IsPart}
 use Rattle.vt_replay.specs.Flaws.{IsFirstRefused}
 use Rattle.vt_replay.specs.Outcomes.{IsReplayable}
-use Rattle.vt_replay_rows.specs.Trying.{Under}
+use Rattle.vt_replay.specs.Trying.{Under}
 use Rattle.vt_replay.specs.Replayed.{expected_replay, pictures_of}
 use Rattle.vt_replay.specs.declared.error.ReplayError.{ReplayError}
 use Rattle.vt_replay.specs.declared.error.ReplayError.TheVariants as replay

@@ -1,17 +1,17 @@
 -- The command `walk`: the pictures of a path, drawn while the pages that they want are streamed from a store.
 use Rattle.std.specs.Prelude.{◌≡◌, ◌⊎◌, ℕ, ◌+◌, ◌*◌, ◌<◌, ◌≤◌, List, [], ◌∷◌, ◌++◌, length, Option, IsSome, option_map, Result, Ok, Err}
-use Rattle.vt_definitions.specs.Limits.{most_frame_texels}
+use Rattle.vt_pages.specs.Limits.{most_frame_texels}
 use Rattle.vt_outside.specs.Counts.{Rose, RoseBy, added}
 use Rattle.vt_outside.specs.Files.{Files, Asked, bytes_at}
 use Rattle.vt_pages.specs.Shape.{Shape}
 use Rattle.vt_pages.specs.Pages.{pinned_of}
 use Rattle.vt_camera.specs.Paths.{PathView}
 use Rattle.vt_pictures.specs.Scenes.{scene_of}
-use Rattle.vt_files.specs.Effects.{CallEffect}
-use Rattle.vt_walk_decisions.specs.declared.settings.Settings.{Settings}
-use Rattle.vt_walk_decisions.specs.declared.mode.Mode.TheVariants.{Settled}
-use Rattle.vt_walk_decisions.specs.declared.error.WalkError.{WalkError}
-use Rattle.vt_walk_decisions.specs.declared.error.WalkError.TheVariants as walks
+use Rattle.vt_command_base.specs.Effects.{CallEffect}
+use Rattle.vt_walk.specs.WalkDecisionsTypes.settings.Settings.{Settings}
+use Rattle.vt_walk.specs.WalkDecisionsTypes.mode.Mode.TheVariants.{Settled}
+use Rattle.vt_walk.specs.WalkDecisionsTypes.error.WalkError.{WalkError}
+use Rattle.vt_walk.specs.WalkDecisionsTypes.error.WalkError.TheVariants as walks
 use Rattle.vt_walk.specs.Fits.{WalkSetup, Fits, DoesNotFit as IsTooLarge, room_of}
 use Rattle.vt_walk.specs.Walks.{WalkGiven, WalkNames, walk_setup, given_by, mode_of}
 use Rattle.vt_walk.specs.Folders.{IsApart}

@@ -2,7 +2,7 @@
 
 ghost use Rattle.std.specs.Prelude.{◌≡◌, ◌⊎◌, ℕ, length, IfOk, IfErr};
 ghost use Rattle.vt_outside.specs.Counts.{Rose, added};
-ghost use Rattle.vt_files.specs.Effects.{call_effect, folder_effect};
+ghost use Rattle.vt_command_base.specs.Effects.{call_effect, folder_effect};
 ghost use Rattle.vt_words.specs.Replay.{shown_replay};
 ghost use Rattle.vt_replay.specs.Flaws.{IsFirstRefused};
 ghost use Rattle.vt_replay.specs.Outcomes.{Leaves, IsClosed};
@@ -16,8 +16,8 @@ use std::thread::Threads;
 use vt_bilinear::replay_blend;
 use vt_camera::Path;
 use vt_command_base::{Flaw, Refusal, open_store, put_end, read_journal, read_path, refusal_of};
-use vt_filter::Nearest;
 use vt_outside::{Folder, OutsideError, Sink};
+use vt_pictures::Nearest;
 use vt_replay::{ReplayError, replay_by};
 use vt_tiles::Store;
 use vt_words::{Filtering, ReplayWords};

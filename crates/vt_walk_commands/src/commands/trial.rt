@@ -9,8 +9,8 @@ ghost use Rattle.vt_words.specs.Names.{four_digit_numbers};
 ghost use Rattle.vt_words.specs.Trial.{IsLawfulTrial, shown_trial};
 ghost use Rattle.vt_camera.specs.PathText.{IsPathText};
 ghost use Rattle.vt_pages.specs.Shape.{shape_of};
-ghost use Rattle.vt_files.specs.Effects.{FolderState, sink_effect};
-ghost use Rattle.vt_files.specs.Expectations.{Puts};
+ghost use Rattle.vt_command_base.specs.Effects.{FolderState, sink_effect};
+ghost use Rattle.vt_replay.specs.Expectations.{Puts};
 ghost use Rattle.vt_command_base.specs.CommandSpecs.{EndsBy};
 ghost use Rattle.vt_walk_commands.specs.commands.Trial.{
   trial_shape,
@@ -32,6 +32,7 @@ ghost use Rattle.vt_walk_commands.specs.commands.Trial.{
 use std::alloc::Global;
 use std::sync::Wait;
 use std::thread::Threads;
+use vt_bilinear::WordMachine;
 use vt_camera::{Path, parse_path};
 use vt_command_base::{Refusal, add};
 use vt_draw::draw_plain;
@@ -39,7 +40,6 @@ use vt_machine::Crew;
 use vt_mip::Chain;
 use vt_outside::{Fails, Folder, Gate, MemoryFolder, MemorySink, NoMemory, OutsideError, Sink};
 use vt_pages::Geometry;
-use vt_pass::WordMachine;
 use vt_ppm::{Image, encode};
 use vt_print::Line;
 use vt_store::write_store;

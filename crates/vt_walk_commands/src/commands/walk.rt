@@ -1,8 +1,8 @@
 //! The command `walk`: the pictures of a path, drawn while the pages that they want are streamed from a store.
 
 ghost use Rattle.std.specs.Prelude.{◌≡◌, ◌<◌, ◌≤◌, ◌*◌, ◌↔◌, IsTrue};
-ghost use Rattle.vt_definitions.specs.Limits.{most_frames, most_frame_texels};
-ghost use Rattle.vt_files.specs.Effects.{call_effect};
+ghost use Rattle.vt_pages.specs.Limits.{most_frames, most_frame_texels};
+ghost use Rattle.vt_command_base.specs.Effects.{call_effect};
 ghost use Rattle.vt_words.specs.Walk.{shown_walk, IsLawfulWalk};
 ghost use Rattle.vt_walk_commands.specs.Machines.{kind_of};
 ghost use Rattle.vt_command_base.specs.CommandSpecs.{EndsBy};

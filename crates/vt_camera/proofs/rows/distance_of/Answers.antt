@@ -4,7 +4,7 @@ use Rattle.std.specs.Int.{w64}
 use Rattle.std.proofs.lemmas.Int.{ints}
 use Rattle.std.proofs.lemmas.Nat.{mul-le}
 use Rattle.std.proofs.Math.Nat.{div-le_self}
-use Rattle.vt_definitions.specs.Limits.{most_focal}
+use Rattle.vt_text.specs.Limits.{most_focal}
 use Rattle.vt_camera.proofs.rows.distance_of.Goals as goal
 
 -- a height and a focal number within their limits

@@ -1,6 +1,6 @@
 use Rattle.std.proofs.Common.{◌≡◌, ℕ, List, [], ◌++◌, ap, ◌∙◌}
 use Rattle.std.specs.Prelude.{codes}
-use Rattle.vt_text.specs.Numbers.{number_spelling}
+use Rattle.vt_words.specs.TextNumbers.{number_spelling}
 use Rattle.vt_files.specs.Effects.{sink_effect}
 use Rattle.vt_command_base.specs.Lines.{end_line}
 use Rattle.vt_command_base.proofs.Putting.{three_pieces, pieces_put}

@@ -1,6 +1,6 @@
 use Rattle.std.proofs.Common.{ℕ, List, subst}
 use Rattle.vt_words.specs.Arguments.{texts}
-use Rattle.vt_files.specs.Effects.{sink_effect}
+use Rattle.vt_command_base.specs.Effects.{sink_effect}
 use Rattle.vt_command_base.specs.Refusals.{EndTold}
 use Rattle.vt_walk_commands.specs.Machines.{machines_of}
 use Rattle.vt_commands.specs.Runs.{run_of}

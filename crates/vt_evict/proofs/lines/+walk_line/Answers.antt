@@ -1,8 +1,8 @@
 use Rattle.std.proofs.Common.{◌≡◌, ℕ, ◌∙◌, List, sym, ap, subst, Some, None, true, false, arith}
-use Rattle.vt_pages.specs.Pages.{parent_of}
+use Rattle.vt_plan.specs.Pages.{parent_of}
 use Rattle.vt_plan.specs.PageLists.{is_in}
 use Rattle.vt_evict.proofs.LineLemmas.{over_none, over_root, over_more, still_new, parent_in, closed_push}
-use Rattle.vt_pages.proofs.Parents.{parent_facts, level_below}
+use Rattle.vt_plan.proofs.Parents.{parent_facts, level_below}
 use Rattle.vt_evict.proofs.lines.+walk_line.Goals as goal
 
 pub returns-then-is_marked-clause-walked : goal.returns-then-is_marked-clause-walked

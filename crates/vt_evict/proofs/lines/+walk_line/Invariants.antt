@@ -1,5 +1,5 @@
 use Rattle.std.proofs.Common.{◌-◌}
-use Rattle.vt_pages.specs.Pages.{level_of, levels_of}
+use Rattle.vt_plan.specs.Pages.{level_of, levels_of}
 use Rattle.vt_evict.proofs.lines.+walk_line.Given as goal
 
 abbrev pub decreases-walk_line : goal.decreases-walk_line

@@ -1,9 +1,9 @@
 use Rattle.std.proofs.Common.{ℕ, ◌<◌, List, length, get_or, ◌∙◌, sym, ap, take, arith}
 use Rattle.std.proofs.lemmas.List.{map_more}
-use Rattle.vt_pages.specs.Shape.{Shape}
-use Rattle.vt_pages.specs.Pages.{pages_of}
-use Rattle.vt_feedback.specs.declared.Wanted.{Wanted}
-use Rattle.vt_feedback.specs.Wants.{pages_wanted}
+use Rattle.vt_plan.specs.Shape.{Shape}
+use Rattle.vt_plan.specs.Pages.{pages_of}
+use Rattle.vt_plan.specs.FeedbackTypes.Wanted.{Wanted}
+use Rattle.vt_plan.specs.Wants.{pages_wanted}
 use Rattle.vt_evict.specs.Orders.{line_pages}
 use Rattle.vt_evict.proofs.LineLemmas.{line_pages-none, line_pages-more, walked_over, closed_none}
 use Rattle.vt_evict.proofs.lines.walk_lines.Goals as goal

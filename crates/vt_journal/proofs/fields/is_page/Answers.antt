@@ -1,5 +1,5 @@
 use Rattle.std.proofs.Common.{◌≡◌, ℕ, ◌+◌, ◌-◌, ◌/◌, ◌<◌, Bool, true, false, MatchBool, sym, subst, ap}
-use Rattle.vt_definitions.specs.Sides.{side}
+use Rattle.vt_pages.specs.Sides.{side}
 use Rattle.vt_pages.specs.declared.PageName.{PageName}
 use Rattle.vt_pages.specs.Shape.{Shape}
 use Rattle.vt_pages.specs.Pages.{IsPage, levels_of, columns_at, rows_at}

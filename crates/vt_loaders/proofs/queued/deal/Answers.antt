@@ -1,6 +1,6 @@
 use Rattle.std.proofs.Common.{arith, ◌≡◌, ℕ, ◌+◌, ◌≤◌, ◌++◌, length, reverse, ap, ◌∙◌, subst, [], ◌∷◌, length-append}
-use Rattle.vt_queue.proofs.Gathered.{append_nil}
-use Rattle.vt_queue.specs.Queues.{view_of, capacity_of}
+use Rattle.vt_load.proofs.Gathered.{append_nil}
+use Rattle.vt_load.specs.Queues.{view_of, capacity_of}
 use Rattle.std.specs.List.{range_with_len}
 use Rattle.vt_loaders.specs.QueuedLoaders.{stores_of, numbers_of}
 use Rattle.vt_loaders.proofs.Dealing.{split_more, order_more, popped_all, may_load, loaders_of, none_dealt, none_may, none_numbered, numbers_more}

@@ -1,8 +1,8 @@
 use Rattle.std.proofs.Common.{◌≡◌, ◌+◌, ◌*◌, ◌/◌, ◌≤◌, ◌++◌, length, reverse}
 use Rattle.std.specs.Prelude.{All}
 use Rattle.std.specs.List.{range_with_len}
-use Rattle.vt_queue.specs.PassViews.{all_shares, split_part}
-use Rattle.vt_queue.specs.Queues.{view_of, splits_of, capacity_of}
+use Rattle.vt_load.specs.PassViews.{all_shares, split_part}
+use Rattle.vt_load.specs.Queues.{view_of, splits_of, capacity_of}
 use Rattle.vt_loaders.specs.QueuedLoaders.{AreOf, MayLoad, AreSplitOff, stores_of, numbers_of}
 use Rattle.vt_loaders.proofs.queued.deal.Given as goal
 

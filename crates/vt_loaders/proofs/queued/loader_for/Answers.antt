@@ -1,6 +1,6 @@
 use Rattle.std.proofs.Common.{sym, ap, ◌∙◌, subst}
-use Rattle.vt_queue.specs.PassViews.{Splits}
-use Rattle.vt_queue.specs.Queues.{view_of, IsOf}
+use Rattle.vt_load.specs.PassViews.{Splits}
+use Rattle.vt_load.specs.Queues.{view_of, IsOf}
 use Rattle.vt_loaders.proofs.queued.loader_for.Goals as goal
 
 pub returns : goal.returns

@@ -1,7 +1,7 @@
 use Rattle.std.proofs.Common.{arith, length, ◌≡◌, ◌+◌, ◌++◌, ap, sym, subst, refl, reverse, ◌∙◌, length-append, [], ◌∷◌}
-use Rattle.vt_queue.specs.Queues.{view_of, IsOf}
-use Rattle.vt_queue.specs.PassViews.{joined, all_joined}
-use Rattle.vt_queue.proofs.Gathered.{append_nil}
+use Rattle.vt_load.specs.Queues.{view_of, IsOf}
+use Rattle.vt_load.specs.PassViews.{joined, all_joined}
+use Rattle.vt_load.proofs.Gathered.{append_nil}
 use Rattle.vt_loaders.specs.QueuedLoaders.{AreOf, asks_of, answers_of, stores_of}
 use Rattle.vt_loaders.proofs.Dealing.{popped_all, popped_joined, back_more}
 use Rattle.vt_loaders.proofs.queued.take_back.Goals as goal

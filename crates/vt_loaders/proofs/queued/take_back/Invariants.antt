@@ -1,10 +1,10 @@
 use Rattle.std.proofs.Common.{◌≡◌, ◌≤◌, ◌<◌, ◌++◌, length, reverse, List}
 use Rattle.std.specs.Prelude.{All}
-use Rattle.vt_queue.specs.PassViews.{all_joined}
-use Rattle.vt_queue.specs.Steps.{IsAtStep}
-use Rattle.vt_queue.specs.Queues.{view_of}
-use Rattle.vt_queue.specs.declared.items.Request.{Request}
-use Rattle.vt_queue.specs.declared.items.Loaded.{Loaded}
+use Rattle.vt_load.specs.PassViews.{all_joined}
+use Rattle.vt_load.specs.Steps.{IsAtStep}
+use Rattle.vt_load.specs.Queues.{view_of}
+use Rattle.vt_load.specs.QueueTypes.items.Request.{Request}
+use Rattle.vt_load.specs.QueueTypes.items.Loaded.{Loaded}
 use Rattle.vt_loaders.specs.QueuedLoaders.{AreOf, asks_of, answers_of, stores_of}
 use Rattle.vt_loaders.proofs.queued.take_back.Given as goal
 

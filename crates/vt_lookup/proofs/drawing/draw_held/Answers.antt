@@ -1,7 +1,7 @@
 use Rattle.std.proofs.Common.{ℕ, sym, subst}
 use Rattle.vt_draw.specs.Shots.{shot_row}
-use Rattle.vt_filter.specs.Evidence.{AreShown}
-use Rattle.vt_filter.proofs.Handed.{shown_by_more}
+use Rattle.vt_pictures.specs.Evidence.{AreShown}
+use Rattle.vt_pictures.proofs.Handed.{shown_by_more}
 use Rattle.vt_lookup.specs.Notes.{IsNotedIn}
 use Rattle.vt_lookup.proofs.Ending.{held_one, noted_idle}
 use Rattle.vt_lookup.proofs.drawing.draw_held.Goals as goal

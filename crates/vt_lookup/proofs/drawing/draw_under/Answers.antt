@@ -1,8 +1,8 @@
 use Rattle.std.proofs.Common.{◌≡◌, ℕ, sym, ap, ◌∙◌, subst}
 use Rattle.vt_draw.specs.Lookups.{Note}
 use Rattle.vt_draw.specs.Shots.{shot_row}
-use Rattle.vt_filter.specs.Evidence.{AreShown}
-use Rattle.vt_filter.proofs.Handed.{shown_by_more}
+use Rattle.vt_pictures.specs.Evidence.{AreShown}
+use Rattle.vt_pictures.proofs.Handed.{shown_by_more}
 use Rattle.vt_grace.specs.Values.{HeldValue}
 use Rattle.vt_lookup.specs.Notes.{IsNotedIn, LookupValue}
 use Rattle.vt_lookup.proofs.drawing.draw_under.Goals as goal

@@ -1,5 +1,5 @@
 use Rattle.std.proofs.Common.{◌∙◌, subst, arith}
-use Rattle.vt_outside.proofs.Untold.{OnErr-all}
+use Rattle.vt_ppm.proofs.Untold.{OnErr-all}
 use Rattle.vt_ppm.specs.declared.header.Header.{Header}
 use Rattle.vt_ppm.specs.Strips.{texture_of}
 use Rattle.vt_ppm.proofs.StripPlaces.{no_strips, strips_front}

@@ -1,12 +1,12 @@
 use Rattle.std.proofs.Common.{◌≡◌, ℕ, ◌+◌, ◌-◌, ◌*◌, ◌<◌, ◌≤◌, length, refl, sym, ◌∙◌, subst, arith, rules}
 use Rattle.std.proofs.Math.Nat.{le_trans}
 use Rattle.std.proofs.lemmas.Result.{on_ok_weaker}
-use Rattle.vt_outside.proofs.Untold.{OnErr-all}
+use Rattle.vt_ppm.proofs.Untold.{OnErr-all}
 use Rattle.vt_definitions.specs.Sides.{side}
 use Rattle.vt_ppm.specs.declared.header.Header.{Header}
 use Rattle.vt_mip.proofs.StripRows.{first_words, one_row, two_rows}
 use Rattle.std.proofs.lemmas.Bool.{false≢true}
-use Rattle.vt_outside.proofs.Refusing.{none_made, rose_later}
+use Rattle.vt_ppm.proofs.OutsideRefusing.{none_made, rose_later}
 use Rattle.vt_mip.proofs.StripReads.{first_read, first_room, first_tried, first_spare, upper_failed, alone_read, both_read, second_failed, second_spare, both_spare}
 use Rattle.vt_mip.specs.StripChains.{room_length, level_row_length}
 use Rattle.vt_mip.proofs.StripRoom.{half_length}

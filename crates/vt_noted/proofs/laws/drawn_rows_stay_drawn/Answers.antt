@@ -1,4 +1,4 @@
-use Rattle.vt_filter.proofs.Handed.{shown_by_more}
+use Rattle.vt_pictures.proofs.Handed.{shown_by_more}
 use Rattle.vt_noted.specs.Noted.{IsAmong, IsNotedBy}
 use Rattle.vt_noted.proofs.Handed.{noted_by}
 use Rattle.vt_noted.proofs.laws.drawn_rows_stay_drawn.Goals as goal

@@ -1,4 +1,4 @@
-use Rattle.vt_filter.proofs.NearestNotes.{row_by_notes, row_by_said}
+use Rattle.vt_pictures.proofs.NearestNotes.{row_by_notes, row_by_said}
 use Rattle.vt_noted.specs.Noted.{IsNotedBy}
 use Rattle.vt_noted.proofs.laws.nearest_rows_are_drawn.Goals as goal
 

@@ -1,6 +1,6 @@
 use Rattle.std.proofs.Common.{refl}
-use Rattle.vt_grace.specs.WriterViews.{after_look, after_entry, after_word, after_change}
-use Rattle.vt_grace.specs.Giving.{after_giving}
+use Rattle.vt_streamer.specs.WriterViews.{after_look, after_entry, after_word, after_change}
+use Rattle.vt_streamer.specs.Giving.{after_giving}
 use Rattle.vt_noted.proofs.Handed.{pass_noted, notes_stay, notes_alike, noted_onward}
 use Rattle.vt_noted.proofs.laws.notes_are_kept.Goals as goal
 

@@ -2,7 +2,7 @@ use Rattle.std.proofs.Common.{List, refl, sym, subst, ap, rules, length}
 use Rattle.std.specs.Prelude.{All}
 use Rattle.std.specs.List.{refill}
 use Rattle.vt_grace.specs.Values.{WordsValue}
-use Rattle.vt_plan.specs.declared.batches.Planned.{Planned}
+use Rattle.vt_evict.specs.PlanTypes.batches.Planned.{Planned}
 use Rattle.vt_loaders.specs.declared.queued.Queues.{Queues}
 use Rattle.vt_loaders.specs.QueuedLoaders.{QueuedView, MayLoad, HasLoaded}
 use Rattle.vt_workers.specs.All.{AllReady}

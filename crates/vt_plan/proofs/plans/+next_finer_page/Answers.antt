@@ -1,8 +1,8 @@
 use Rattle.std.proofs.Common.{◌≡◌, ◌∙◌, Some, sym, arith}
 use Rattle.std.proofs.lemmas.Bool.Decides.{nat_tests}
-use Rattle.vt_pages.specs.Pages.{parent_of}
-use Rattle.vt_pages.proofs.Parents.{parent_facts, level_below}
-use Rattle.vt_pages.proofs.Steps.{step_root, step_below, step_up}
+use Rattle.vt_feedback.specs.Pages.{parent_of}
+use Rattle.vt_feedback.proofs.Parents.{parent_facts, level_below}
+use Rattle.vt_feedback.proofs.Steps.{step_root, step_below, step_up}
 use Rattle.vt_plan.specs.Missing.{is_mapped}
 use Rattle.vt_plan.proofs.plans.+next_finer_page.Goals as goal
 

@@ -1,7 +1,7 @@
 use Rattle.std.proofs.Common.{◌≡◌, ℕ, Bool, false, cond, sym, subst, arith}
 use Rattle.std.specs.Prelude.{OnOk}
 use Rattle.std.proofs.lemmas.Bool.Decides.{nat_tests}
-use Rattle.vt_pages.specs.Lookups.{next_finer_page}
+use Rattle.vt_feedback.specs.Lookups.{next_finer_page}
 use Rattle.vt_plan.specs.Missing.{is_mapped}
 use Rattle.vt_plan.specs.PageLists.{with_page}
 use Rattle.vt_plan.proofs.plans.ask.Goals as goal

@@ -1,9 +1,9 @@
 use Rattle.std.proofs.Common.{ℕ, ◌<◌, cond, List, length, get_or, take, sym, ap, ◌∙◌, arith}
 use Rattle.std.proofs.lemmas.List.{map_more}
-use Rattle.vt_pages.specs.Shape.{Shape}
+use Rattle.vt_feedback.specs.Shape.{Shape}
 use Rattle.vt_feedback.specs.declared.Wanted.{Wanted}
 use Rattle.vt_feedback.specs.Wants.{pages_wanted}
-use Rattle.vt_pages.specs.Lookups.{next_finer_page}
+use Rattle.vt_feedback.specs.Lookups.{next_finer_page}
 use Rattle.vt_plan.specs.Missing.{is_mapped, missing_from}
 use Rattle.vt_plan.specs.PageLists.{with_page}
 use Rattle.vt_plan.proofs.PlanLemmas.{missing-none, missing-more}

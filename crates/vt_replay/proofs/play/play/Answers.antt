@@ -5,7 +5,7 @@ use Rattle.vt_journal.specs.declared.changes.Change.{Change}
 use Rattle.vt_journal.specs.Changes.{at}
 use Rattle.vt_tiles.specs.Format.{stored}
 use Rattle.vt_files.specs.Pictures.{expected_pictures}
-use Rattle.vt_pictures.specs.Scenes.{scene_of}
+use Rattle.vt_replay_rows.specs.Scenes.{scene_of}
 use Rattle.vt_replay_rows.specs.Following.{MayBePlayed}
 use Rattle.vt_replay.specs.Playing.{ArePlayed, HasWritten}
 use Rattle.vt_replay.specs.Replayed.{replay_file, pictures_of}

@@ -5,7 +5,7 @@ use Rattle.vt_tiles.specs.Format.{stored}
 use Rattle.vt_files.specs.Effects.{folder_effect}
 use Rattle.vt_files.specs.Expectations.{Writes}
 use Rattle.vt_files.specs.Pictures.{expected_picture}
-use Rattle.vt_pictures.specs.Scenes.{scene_of}
+use Rattle.vt_replay_rows.specs.Scenes.{scene_of}
 use Rattle.vt_replay.specs.Replayed.{replayed_rows}
 use Rattle.vt_replay.proofs.Written.{nothing_written, samples_written}
 use Rattle.vt_outside.proofs.Untold.{OnOk-all}

@@ -11,7 +11,7 @@ use Rattle.vt_files.specs.Effects.{folder_state}
 use Rattle.vt_files.specs.Expectations.{with_files}
 use Rattle.vt_files.specs.Pictures.{expected_pictures}
 use Rattle.vt_files.proofs.Writing.{HasPictures, no_pictures}
-use Rattle.vt_pictures.specs.Scenes.{scene_of}
+use Rattle.vt_replay_rows.specs.Scenes.{scene_of}
 use Rattle.vt_replay.specs.Playing.{AreRowsWithin}
 use Rattle.vt_replay.specs.Replayed.{replayed_rows, pictures_of, replay_file}
 use Rattle.vt_replay_rows.proofs.Reading.{read_none, read_then}

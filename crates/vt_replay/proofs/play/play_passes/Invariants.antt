@@ -4,7 +4,7 @@ use Rattle.vt_tiles.specs.Format.{stored}
 use Rattle.vt_files.specs.Effects.{folder_state, folder_effect}
 use Rattle.vt_files.specs.Expectations.{AsksNone}
 use Rattle.vt_files.proofs.Writing.{HasPictures}
-use Rattle.vt_pictures.specs.Scenes.{scene_of}
+use Rattle.vt_replay_rows.specs.Scenes.{scene_of}
 use Rattle.vt_replay_rows.specs.Following.{IsReadOn}
 use Rattle.vt_replay.specs.Playing.{IsStaged}
 use Rattle.vt_replay.specs.Replayed.{pictures_of, replay_file}

@@ -5,8 +5,8 @@ use Rattle.vt_definitions.specs.Depths.{texel_length}
 use Rattle.vt_journal.specs.declared.changes.RowLine.{RowLine}
 use Rattle.vt_journal.specs.Changes.{at}
 use Rattle.vt_tiles.specs.Format.{stored}
-use Rattle.vt_pictures.specs.Scenes.{scene_of}
-use Rattle.vt_pictures.specs.Replays.{HasPixels}
+use Rattle.vt_replay_rows.specs.Scenes.{scene_of}
+use Rattle.vt_replay_rows.specs.Replays.{HasPixels}
 use Rattle.vt_replay_rows.specs.ReplayLookups.{row_of}
 use Rattle.vt_replay_rows.proofs.Reading.{read_none, read_then}
 use Rattle.vt_replay.proofs.Rows.{rows_are_replayed}

@@ -4,8 +4,8 @@ use Rattle.vt_definitions.specs.Depths.{texel_length}
 use Rattle.vt_journal.specs.declared.changes.RowLine.{RowLine}
 use Rattle.vt_journal.specs.Changes.{at}
 use Rattle.vt_tiles.specs.Format.{stored}
-use Rattle.vt_pictures.specs.Scenes.{scene_of}
-use Rattle.vt_pictures.specs.Replays.{HasPixels}
+use Rattle.vt_replay_rows.specs.Scenes.{scene_of}
+use Rattle.vt_replay_rows.specs.Replays.{HasPixels}
 use Rattle.vt_replay_rows.specs.Following.{IsReadOn}
 use Rattle.vt_replay.specs.Playing.{IsStaged}
 use Rattle.vt_replay_rows.specs.ReplayLookups.{row_of}

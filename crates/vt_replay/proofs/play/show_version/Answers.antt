@@ -5,8 +5,8 @@ use Rattle.vt_journal.specs.declared.changes.RowLine.{RowLine}
 use Rattle.vt_journal.specs.Changes.{Table, at}
 use Rattle.vt_journal.specs.Kept.{entries_of}
 use Rattle.vt_tiles.specs.Format.{stored}
-use Rattle.vt_pictures.specs.Scenes.{scene_of}
-use Rattle.vt_pictures.specs.Replays.{HasPixels}
+use Rattle.vt_replay_rows.specs.Scenes.{scene_of}
+use Rattle.vt_replay_rows.specs.Replays.{HasPixels}
 use Rattle.vt_replay_rows.specs.ReplayLookups.{row_of}
 use Rattle.vt_replay_rows.proofs.Places.{written_back}
 use Rattle.vt_replay.proofs.play.show_version.Goals as goal

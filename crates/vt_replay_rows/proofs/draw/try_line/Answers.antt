@@ -4,8 +4,8 @@ use Rattle.vt_draw.specs.Shots.{shot_row}
 use Rattle.vt_journal.specs.Kept.{entries_of}
 use Rattle.vt_tiles.specs.Format.{stored}
 use Rattle.vt_pictures.specs.Scenes.{scene_of}
-use Rattle.vt_filter.specs.Evidence.{AreShown}
-use Rattle.vt_filter.proofs.Handed.{row_is_under}
+use Rattle.vt_pictures.specs.Evidence.{AreShown}
+use Rattle.vt_pictures.proofs.Handed.{row_is_under}
 use Rattle.vt_replay_rows.specs.ReplayLookups.{ReplayLookupView, IsTrueOf, replay_lookup_base}
 use Rattle.vt_replay_rows.specs.Trying.{HoldsTiles}
 use Rattle.vt_replay_rows.proofs.ReplayLookupLaws.{none_missed, true_replay_lookup}

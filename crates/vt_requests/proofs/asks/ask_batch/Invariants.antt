@@ -1,9 +1,9 @@
 use Rattle.std.proofs.Common.{◌≡◌, ℕ, ◌+◌, ◌<◌, length}
 use Rattle.std.specs.Prelude.{All}
-use Rattle.vt_pages.specs.Shape.{Shape}
-use Rattle.vt_pages.specs.Pages.{pages_of}
-use Rattle.vt_tiles.specs.Format.{tile_length}
-use Rattle.vt_queue.specs.Queues.{view_of, splits_of, IsOf}
+use Rattle.vt_table.specs.Shape.{Shape}
+use Rattle.vt_table.specs.Pages.{pages_of}
+use Rattle.vt_loaders.specs.Format.{tile_length}
+use Rattle.vt_loaders.specs.Queues.{view_of, splits_of, IsOf}
 use Rattle.vt_requests.specs.BatchRounds.{ArePut}
 use Rattle.vt_requests.proofs.Asking.{HasPut}
 use Rattle.vt_requests.proofs.asks.ask_batch.Given as goal

@@ -1,6 +1,6 @@
 use Rattle.std.proofs.Common.{ap, sym, None, refl}
 use Rattle.std.proofs.lemmas.Option.{slice_get-get_or}
-use Rattle.vt_plan.specs.declared.batches.Planned.{Planned}
+use Rattle.vt_machine.specs.PlanTypes.batches.Planned.{Planned}
 use Rattle.vt_requests.specs.BatchRounds.{page_if}
 use Rattle.vt_requests.proofs.asks.request_for.Goals as goal
 

@@ -1,5 +1,5 @@
 use Rattle.std.proofs.Common.{◌≡◌, ℕ, ◌+◌, ◌*◌, ◌-◌, ◌/◌, ◌≤◌, ap, subst, sym, ◌∙◌, arith}
-use Rattle.vt_definitions.specs.Sides.{side}
+use Rattle.vt_pages.specs.Sides.{side}
 use Rattle.vt_pages.specs.Shape.{Shape}
 use Rattle.vt_pages.specs.Pages.{rows_at, pages_of, pages_below}
 use Rattle.vt_residency.proofs.Leveling.{columns_are, rows_are, first_is, level_inside}

@@ -1,5 +1,5 @@
 use Rattle.std.proofs.Common.{◌≡◌, ℕ, Bool, List, ◌++◌, cond, [], ◌∷◌, get_or, take, sym, ap, ◌∙◌, arith}
-use Rattle.vt_plan.specs.declared.batches.Planned.{Planned}
+use Rattle.vt_evict.specs.PlanTypes.batches.Planned.{Planned}
 use Rattle.vt_evict.specs.Batches.{read_entries}
 use Rattle.vt_evict.proofs.SettleLemmas.{read_at}
 use Rattle.vt_residency.proofs.UnderWay.{read_more}

@@ -4,10 +4,10 @@ use Rattle.std.proofs.lemmas.Nat.{mul-le}
 use Rattle.std.proofs.lemmas.Bool.{cases_lt}
 use Rattle.std.proofs.lemmas.List.{get_or-set_same}
 use Rattle.vt_draw.specs.Lookups.{Note}
-use Rattle.vt_filter.specs.Evidence.{AreShown}
-use Rattle.vt_filter.proofs.Handed.{shown_by_more}
+use Rattle.vt_lookup.specs.Evidence.{AreShown}
+use Rattle.vt_lookup.proofs.Handed.{shown_by_more}
 use Rattle.vt_draw.specs.Shots.{shot_row, wants_in_rows}
-use Rattle.vt_grace.specs.declared.views.PassView.{PassView}
+use Rattle.vt_lookup.specs.GraceTypes.views.PassView.{PassView}
 use Rattle.vt_lookup.specs.Notes.{IsNotedIn}
 use Rattle.vt_sampler.specs.Held.{WasHeld}
 use Rattle.vt_sampler.specs.Samplers.{own_rows, own_count, row_in, row_length}

@@ -1,8 +1,8 @@
 use Rattle.std.proofs.Common.{◌≡◌, ℕ, ◌-◌, ◌*◌, ◌/◌, ◌%◌, ◌<◌, ◌≤◌, List, length}
 use Rattle.std.specs.Prelude.{slice_index}
 use Rattle.vt_draw.specs.Shots.{shot_row, wants_in_rows}
-use Rattle.vt_filter.specs.Evidence.{AreShown}
-use Rattle.vt_grace.specs.Tokens.{IsPassOf}
+use Rattle.vt_lookup.specs.Evidence.{AreShown}
+use Rattle.vt_lookup.specs.Tokens.{IsPassOf}
 use Rattle.vt_lookup.specs.Notes.{IsNotedIn, HasHeldMore}
 use Rattle.vt_sampler.specs.Held.{WasHeld}
 use Rattle.vt_sampler.specs.Samplers.{own_rows, row_in}

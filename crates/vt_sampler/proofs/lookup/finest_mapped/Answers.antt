@@ -3,7 +3,7 @@ use Rattle.std.specs.Prelude.{IsSome}
 use Rattle.std.proofs.lemmas.Bool.{cases_lt}
 use Rattle.vt_pages.specs.Shape.{Shape}
 use Rattle.vt_pages.specs.Pages.{levels_of, index_of, level_of, ancestor_of, root_of}
-use Rattle.vt_journal.specs.Changes.{newest}
+use Rattle.vt_table.specs.Changes.{newest}
 use Rattle.vt_sampler.specs.Notes.{entry_number}
 use Rattle.vt_lookup.proofs.Climbing.{half_more, ancestor_named, ancestor_index, ancestor_level}
 use Rattle.vt_sampler.proofs.Climbing.{some_mapped}

@@ -1,6 +1,6 @@
 use Rattle.std.proofs.Common.{◌≡◌, ℕ, ◌-◌, ◌/◌, ◌^◌, ◌<◌, ◌≤◌, None}
 use Rattle.vt_pages.specs.Pages.{level_of, name_at, ancestor_of}
-use Rattle.vt_journal.specs.Changes.{newest}
+use Rattle.vt_table.specs.Changes.{newest}
 use Rattle.vt_sampler.proofs.lookup.finest_mapped.Given as goal
 
 -- the column and the row are those of the page's ancestor at the level, and no finer page of the line is mapped

@@ -1,5 +1,5 @@
 use Rattle.std.proofs.Common.{arith, ◌≡◌, ◌+◌, ◌-◌, ℕ, List, Some, slice_get, ap, ◌∙◌}
-use Rattle.vt_journal.specs.declared.changes.Change.{Change}
+use Rattle.vt_table.specs.JournalTypes.changes.Change.{Change}
 use Rattle.vt_streamer.specs.Banks.{IsInside}
 use Rattle.vt_streamer.proofs.Leading.{lead_step, entered_more, may_still}
 use Rattle.vt_streamer.proofs.banks.lead_on.Goals as goal

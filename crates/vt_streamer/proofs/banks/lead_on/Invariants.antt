@@ -1,5 +1,5 @@
 use Rattle.std.proofs.Common.{◌+◌}
-use Rattle.vt_journal.specs.Changes.{at}
+use Rattle.vt_table.specs.Changes.{at}
 use Rattle.vt_grace.specs.WriterViews.{version_of}
 use Rattle.vt_grace.specs.Places.{bank_of}
 use Rattle.vt_grace.specs.Banks.{MayWriteNext, Stands}

@@ -1,5 +1,5 @@
 use Rattle.std.proofs.Common.{arith, ◌+◌, sym, ap, ◌∙◌, subst}
-use Rattle.vt_journal.specs.Changes.{newest, changed}
+use Rattle.vt_table.specs.Changes.{newest, changed}
 use Rattle.vt_grace.specs.declared.sizes.Sizes.{Sizes}
 use Rattle.vt_grace.specs.WriterViews.{version_of}
 use Rattle.vt_grace.specs.Places.{bank_of}

@@ -4,10 +4,10 @@ use Rattle.vt_pages.specs.Pages.{pages_of}
 use Rattle.vt_journal.specs.declared.changes.Change.TheVariants.{Map}
 use Rattle.vt_journal.specs.declared.changes.Event.{Event}
 use Rattle.vt_journal.specs.declared.changes.Event.TheVariants.{Changed}
-use Rattle.vt_table.specs.Views.{IsTile}
+use Rattle.vt_streamer.specs.TableViews.{IsTile}
 use Rattle.vt_streamer.specs.Fills.{words_in}
 use Rattle.vt_streamer.specs.Views.{table_of}
-use Rattle.vt_machine.specs.Outcomes.{victim_events}
+use Rattle.vt_requests.specs.Outcomes.{victim_events}
 use Rattle.vt_requests.proofs.Entries.{still_unmapped, then_free}
 use Rattle.vt_streaming.specs.Made.{HasMade}
 use Rattle.vt_streaming.proofs.Making.{made_both, publishes, as_many_frames}

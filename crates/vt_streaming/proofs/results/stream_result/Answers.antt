@@ -1,9 +1,9 @@
 use Rattle.std.proofs.Common.{Option, Bool, ◌++◌, ◌∙◌, ap, sym, subst}
 use Rattle.std.specs.Prelude.{slice_set}
 use Rattle.std.proofs.lemmas.Option.{slice_get-get_or}
-use Rattle.vt_plan.specs.declared.batches.Planned.{Planned}
-use Rattle.vt_load.specs.Readings.{is_lost}
-use Rattle.vt_machine.specs.Outcomes.{group_if}
+use Rattle.vt_requests.specs.PlanTypes.batches.Planned.{Planned}
+use Rattle.vt_requests.specs.Readings.{is_lost}
+use Rattle.vt_requests.specs.Outcomes.{group_if}
 use Rattle.vt_streaming.specs.Made.{HasMade, contents_if}
 use Rattle.vt_streaming.proofs.results.stream_result.Goals as goal
 

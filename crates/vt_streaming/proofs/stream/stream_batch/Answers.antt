@@ -1,6 +1,6 @@
 use Rattle.std.proofs.Common.{◌≡◌, ◌+◌, ◌<◌, ◌∙◌, ap, sym, refl, subst, arith, length, length-append, true, [], ◌∷◌, List, Bool}
 use Rattle.vt_pages.specs.Shape.{Shape}
-use Rattle.vt_table.specs.Views.{IsTile}
+use Rattle.vt_streamer.specs.TableViews.{IsTile}
 use Rattle.vt_queue.specs.declared.items.Loaded.{Loaded}
 use Rattle.vt_queue.specs.Queues.{view_of}
 use Rattle.vt_streaming.specs.Streams.{Streams, is_wanted}

@@ -1,7 +1,7 @@
 use Rattle.std.proofs.Common.{◌≡◌, ◌+◌, ◌≤◌, ℕ, [], ap, ◌∙◌, sym, subst}
 use Rattle.vt_journal.specs.Changes.{newest, IsLegalNext}
-use Rattle.vt_table.specs.Views.{filled_for, filled_after, IsReady, IsWithin}
-use Rattle.vt_grace.specs.Places.{content_of}
+use Rattle.vt_streamer.specs.TableViews.{filled_for, filled_after, IsReady, IsWithin}
+use Rattle.vt_streamer.specs.Places.{content_of}
 use Rattle.vt_streamer.specs.Views.{StreamerView, table_of}
 use Rattle.vt_streaming.proofs.Making.{made_looked, made_published, made_both, looked_more}
 use Rattle.vt_streaming.proofs.waits.publish.Goals as goal

@@ -2,8 +2,8 @@ use Rattle.std.proofs.Common.{◌≡◌, ℕ, false, List, sym, ap, ◌∙◌, s
 use mathlib.Core.List.{IsPrefix}
 use Rattle.vt_draw.specs.Lookups.{Note}
 use Rattle.vt_draw.specs.Shots.{shot_row}
-use Rattle.vt_filter.specs.Evidence.{AreShown}
-use Rattle.vt_filter.proofs.Handed.{shown_by_more}
+use Rattle.vt_pictures.specs.Evidence.{AreShown}
+use Rattle.vt_pictures.proofs.Handed.{shown_by_more}
 use Rattle.vt_swap.specs.declared.records.LogRecord.{LogRecord}
 use Rattle.vt_swap.specs.Notes.{IsSaidBy}
 use Rattle.vt_swap.specs.Readers.{LookupView, IsSaidIn}

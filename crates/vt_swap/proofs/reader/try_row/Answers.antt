@@ -1,7 +1,7 @@
 use Rattle.std.proofs.Common.{◌≤◌, [], ◌∷◌, length, sym, ap, ◌∙◌, subst}
 use Rattle.left_right.specs.Sides.{view}
 use Rattle.vt_draw.specs.Shots.{shot_row}
-use Rattle.vt_filter.specs.Evidence.{AreShown}
+use Rattle.vt_pictures.specs.Evidence.{AreShown}
 use Rattle.vt_swap.specs.declared.table.NewestTable.{NewestTable}
 use Rattle.vt_swap.specs.declared.rule.Known.{Known}
 use Rattle.vt_swap.specs.Logs.{changes_in}

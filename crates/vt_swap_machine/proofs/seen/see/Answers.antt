@@ -1,6 +1,6 @@
 use Rattle.std.proofs.Common.{rules, ◌∷◌, [], ◌++◌}
 use Rattle.vt_swap.proofs.Entering.{entered_none, was_later}
-use Rattle.vt_swap_sampler.proofs.EnteredRows.{entered_more}
+use Rattle.vt_swap_workers.proofs.EnteredRows.{entered_more}
 use Rattle.vt_swap_machine.proofs.seen.see.Goals as goal
 
 pub loop-init : goal.loop-init

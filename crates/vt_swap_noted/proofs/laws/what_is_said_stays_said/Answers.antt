@@ -1,4 +1,4 @@
-use Rattle.vt_filter.proofs.Handed.{shown_by_more}
+use Rattle.vt_pictures.proofs.Handed.{shown_by_more}
 use Rattle.vt_swap.specs.Notes.{IsSaidBy}
 use Rattle.vt_swap.proofs.Saying.{said_on}
 use Rattle.vt_swap_noted.proofs.laws.what_is_said_stays_said.Goals as goal

@@ -1,8 +1,8 @@
 use Rattle.std.proofs.Common.{Option, ◌++◌, ◌∙◌, ap, sym}
 use Rattle.std.proofs.lemmas.Option.{slice_get-get_or}
-use Rattle.vt_plan.specs.declared.batches.Planned.{Planned}
-use Rattle.vt_load.specs.Readings.{is_lost}
-use Rattle.vt_machine.specs.Outcomes.{group_if}
+use Rattle.vt_evict.specs.PlanTypes.batches.Planned.{Planned}
+use Rattle.vt_streaming.specs.Readings.{is_lost}
+use Rattle.vt_streaming.specs.Outcomes.{group_if}
 use Rattle.vt_swap_streaming.proofs.Putting.{applied_of}
 use Rattle.vt_swap_streaming.proofs.results.apply_at.Goals as goal
 

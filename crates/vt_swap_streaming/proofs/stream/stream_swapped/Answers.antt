@@ -4,8 +4,8 @@ use Rattle.std.proofs.lemmas.List.Elements.{All-nil}
 use Rattle.vt_journal.specs.JournalText.{changes_of}
 use Rattle.vt_queue.specs.declared.items.Loaded.{Loaded}
 use Rattle.vt_queue.specs.Queues.{view_of}
-use Rattle.vt_load.specs.Readings.{is_lost}
-use Rattle.vt_requests.specs.BatchRounds.{result_group, AreLossesOf}
+use Rattle.vt_streaming.specs.Readings.{is_lost}
+use Rattle.vt_streaming.specs.BatchRounds.{result_group, AreLossesOf}
 use Rattle.vt_streaming.specs.Streams.{Streams}
 use Rattle.vt_swap_streaming.specs.Brought.{is_kept}
 use Rattle.vt_swap_streaming.proofs.Putting.{group_short}

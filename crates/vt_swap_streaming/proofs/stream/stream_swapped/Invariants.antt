@@ -1,7 +1,7 @@
 use Rattle.std.proofs.Common.{◌≡◌, ◌+◌, ◌*◌, ◌≤◌, false, length}
 use Rattle.vt_definitions.specs.Limits.{most_versions}
 use Rattle.vt_queue.specs.Queues.{view_of, splits_of, IsOf}
-use Rattle.vt_requests.specs.BatchRounds.{AreLossesOf}
+use Rattle.vt_streaming.specs.BatchRounds.{AreLossesOf}
 use Rattle.vt_streaming.specs.Streams.{Streams}
 use Rattle.vt_swap_streaming.specs.Brought.{IsUnderWay}
 use Rattle.vt_swap_streaming.proofs.stream.stream_swapped.Given as goal

@@ -2,8 +2,8 @@ use Rattle.std.proofs.Common.{◌+◌, ◌∷◌, ap, Ok, Err, arith, subst}
 use Rattle.std.specs.Prelude.{Result}
 use Rattle.std.proofs.lemmas.Result.{err_from_is_err_and}
 use Rattle.vt_outside.specs.declared.answers.NoMemory.{NoMemory as Refusal}
-use Rattle.vt_machine.specs.declared.crew.PassReport.{PassReport}
-use Rattle.vt_machine.specs.Passes.{Ends}
+use Rattle.vt_walk_decisions.specs.MachineTypes.crew.PassReport.{PassReport}
+use Rattle.vt_walk_decisions.specs.Passes.{Ends}
 use Rattle.vt_walk.specs.States.{walk_state}
 use Rattle.vt_walk.specs.WalkInputs.{input_scene}
 use Rattle.vt_walk.specs.Written.{IsDrawnBySome}

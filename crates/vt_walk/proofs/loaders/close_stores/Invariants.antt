@@ -1,7 +1,7 @@
 use Rattle.std.proofs.Common.{◌≡◌, ◌≤◌, length, sum}
 use Rattle.vt_outside.specs.Counts.{added, RoseBy}
-use Rattle.vt_machine.specs.Requests.{counts_of}
-use Rattle.vt_machine.specs.Machines.{files_of}
+use Rattle.vt_walk_decisions.specs.Requests.{counts_of}
+use Rattle.vt_walk_decisions.specs.Machines.{files_of}
 use Rattle.vt_walk.specs.Closing.{with_closed}
 use Rattle.vt_walk.proofs.loaders.close_stores.Given as goal
 

@@ -1,6 +1,6 @@
 use Rattle.std.proofs.Common.{ap, ◌∙◌}
 use Rattle.vt_outside.specs.Files.{bytes_at}
-use Rattle.vt_machine.specs.Machines.{files_of}
+use Rattle.vt_walk_decisions.specs.Machines.{files_of}
 use Rattle.vt_walk.specs.Closing.{with_closed}
 use Rattle.vt_walk.proofs.Opened.{all_fresh, closed_fresh}
 use Rattle.vt_walk.proofs.loaders.open_loaders.Goals as goal

@@ -1,5 +1,5 @@
 use Rattle.std.proofs.Common.{◌*◌, ◌∙◌, sym}
-use Rattle.vt_definitions.specs.Depths.{texel_length}
+use Rattle.vt_ppm.specs.Depths.{texel_length}
 use Rattle.vt_walk.proofs.Rows.{rows_length}
 use Rattle.vt_walk.proofs.pictures.make_picture.Goals as goal
 

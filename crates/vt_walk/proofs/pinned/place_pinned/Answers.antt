@@ -1,7 +1,7 @@
 use Rattle.std.proofs.Common.{[], ◌≡◌, ◌+◌, ◌-◌, refl, ap, ◌∙◌, arith}
 use Rattle.vt_outside.proofs.Untold.{OnErr-all}
 use Rattle.vt_pages.specs.Pages.{pages_of}
-use Rattle.vt_machine.specs.Machines.{MachineState}
+use Rattle.vt_walk_decisions.specs.Machines.{MachineState}
 use Rattle.vt_walk.specs.Reads.{AreAskedAtMostFor, lost_reads}
 use Rattle.vt_walk.specs.Placing.{with_tiles}
 use Rattle.vt_walk.proofs.Asks.{told_same}

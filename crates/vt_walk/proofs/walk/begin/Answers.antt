@@ -2,7 +2,7 @@ use Rattle.std.proofs.Common.{None, refl, subst, ap, Err, inl, arith}
 use Rattle.std.proofs.lemmas.Result.{err_from_is_err_and}
 use Rattle.vt_outside.specs.declared.answers.OutsideError.TheVariants.{NoMemory}
 use Rattle.vt_tiles.specs.StoreViews.{IsStoreIfTold}
-use Rattle.vt_machine.specs.Machines.{file_state}
+use Rattle.vt_walk_decisions.specs.Machines.{file_state}
 use Rattle.vt_walk.specs.Written.{IsDrawnBySome}
 use Rattle.vt_walk.proofs.Beginning.{pinned_broke, head_broke, head_stands, pages_pinned}
 use Rattle.vt_walk.proofs.walk.begin.Goals as goal

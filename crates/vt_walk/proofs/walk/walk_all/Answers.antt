@@ -1,6 +1,6 @@
 use Rattle.std.proofs.Common.{◌∷◌, sym, subst, arith, ◌∙◌}
 use Rattle.std.proofs.lemmas.Result.{err_from_is_err_and}
-use Rattle.vt_machine.specs.Machines.{file_state}
+use Rattle.vt_walk_decisions.specs.Machines.{file_state}
 use Rattle.vt_walk.specs.States.{walk_state}
 use Rattle.vt_walk.specs.WalkInputs.{given_of}
 use Rattle.vt_walk.specs.WalkSteps.{LeftByRefusal}

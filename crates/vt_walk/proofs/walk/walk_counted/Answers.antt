@@ -1,13 +1,13 @@
 use Rattle.std.proofs.Common.{◌≡◌, ℕ, ◌<◌, ◌≤◌, [], ◌∷◌, Err, ap, sym, ◌∙◌, subst}
 use Rattle.std.specs.Prelude.{MatchResult, option_map}
-use Rattle.vt_definitions.specs.Depths.{IsDepth}
-use Rattle.vt_definitions.specs.Limits.{most_pictures}
+use Rattle.vt_ppm.specs.Depths.{IsDepth}
+use Rattle.vt_pages.specs.Limits.{most_pictures}
 use Rattle.vt_outside.specs.Counts.{added}
 use Rattle.vt_outside.specs.Files.{with_places}
 use Rattle.vt_pages.specs.Shape.{Shape}
 use Rattle.vt_pages.specs.Pages.{pinned_of}
-use Rattle.vt_pictures.specs.Scenes.{scene_of}
-use Rattle.vt_machine.specs.Machines.{file_state}
+use Rattle.vt_walk_decisions.specs.Scenes.{scene_of}
+use Rattle.vt_walk_decisions.specs.Machines.{file_state}
 use Rattle.vt_walk_decisions.specs.declared.error.WalkError.TheVariants.{TooFewFrames}
 use Rattle.vt_walk_decisions.specs.declared.mode.Mode.{Mode}
 use Rattle.vt_walk.specs.Walks.{WalkGiven, given_by, mode_of, names_of, AreSettings}

@@ -1,9 +1,9 @@
 use Rattle.std.proofs.Common.{◌≡◌, List, sum, Option, ap, sym, ◌∙◌, subst, arith}
 use Rattle.std.specs.Prelude.{is_some}
 use Rattle.vt_outside.specs.Counts.{RoseBy}
-use Rattle.vt_machine.specs.Requests.{FileState, counts_of}
+use Rattle.vt_walk_decisions.specs.Requests.{FileState, counts_of}
 use Rattle.vt_outside.specs.Files.{Asked}
-use Rattle.vt_machine.specs.Machines.{file_state, files_of}
+use Rattle.vt_walk_decisions.specs.Machines.{file_state, files_of}
 use Rattle.vt_walk.specs.States.{AreOpen}
 use Rattle.vt_walk.specs.Closing.{with_closed, AreOtherNamesAsBefore}
 use Rattle.vt_walk.specs.WalkInputs.{given_of}

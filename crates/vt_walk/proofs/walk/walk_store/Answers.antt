@@ -1,6 +1,6 @@
 use Rattle.std.proofs.Common.{[], ◌∷◌, ◌<◌, ◌≤◌, Err, refl, ap, sym, subst, rules, arith}
 use Rattle.std.specs.Prelude.{MatchBool}
-use Rattle.vt_machine.specs.Machines.{file_state}
+use Rattle.vt_walk_decisions.specs.Machines.{file_state}
 use Rattle.vt_walk_decisions.specs.declared.error.WalkError.{WalkError}
 use Rattle.vt_walk.specs.States.{walk_state}
 use Rattle.vt_walk.specs.WalkInputs.{given_of}

@@ -2,8 +2,8 @@ use Rattle.std.proofs.Common.{◌≡◌, ℕ, List, [], ◌∷◌, sum, Option, 
 use Rattle.std.specs.Prelude.{is_some}
 use Rattle.vt_outside.specs.Counts.{RoseBy}
 use Rattle.vt_outside.specs.Files.{Asked}
-use Rattle.vt_machine.specs.Requests.{FileState, counts_of}
-use Rattle.vt_machine.specs.Machines.{file_state, files_of, setup_of}
+use Rattle.vt_walk_decisions.specs.Requests.{FileState, counts_of}
+use Rattle.vt_walk_decisions.specs.Machines.{file_state, files_of, setup_of}
 use Rattle.vt_walk_decisions.specs.declared.error.WalkError.{WalkError}
 use Rattle.vt_walk.specs.States.{AreOpen, places_of, walk_state}
 use Rattle.vt_walk.specs.Closing.{with_closed}

@@ -1,5 +1,5 @@
 use Rattle.std.proofs.Common.{◌≡◌, ◌≤◌, ◌∷◌}
-use Rattle.vt_machine.specs.Requests.{AreSameFiles}
+use Rattle.vt_walk_decisions.specs.Requests.{AreSameFiles}
 use Rattle.vt_walk.specs.WalkEffects.{state_by}
 use Rattle.vt_walk.specs.WalkInputs.{given_of}
 use Rattle.vt_walk.specs.Written.{IsDrawnBySome}

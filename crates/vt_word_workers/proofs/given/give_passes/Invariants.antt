@@ -1,5 +1,5 @@
 use Rattle.std.proofs.Common.{◌≡◌}
-use Rattle.vt_streamer.specs.Views.{IsStreamerOf}
+use Rattle.vt_streaming.specs.Views.{IsStreamerOf}
 use Rattle.vt_word_workers.proofs.GivenOnes.{HaveGiven}
 use Rattle.vt_word_workers.proofs.given.give_passes.Given as goal
 

@@ -1,5 +1,5 @@
 use Rattle.std.proofs.Common.{◌≡◌, ◌++◌, map, take, drop}
-use Rattle.vt_streamer.specs.Views.{IsStreamerOf}
+use Rattle.vt_streaming.specs.Views.{IsStreamerOf}
 use Rattle.vt_word_workers.specs.GivenPasses.{all_returned, without_pass}
 use Rattle.vt_word_workers.proofs.given.return_passes.Given as goal
 

@@ -1,5 +1,5 @@
 use Rattle.std.proofs.Common.{ap, ◌∙◌, replicate, false, arith}
-use Rattle.vt_pages.specs.Pages.{pages_of}
+use Rattle.vt_plan.specs.Pages.{pages_of}
 use Rattle.vt_evict.proofs.WalkLemmas.{no_walk}
 use Rattle.vt_evict.proofs.lines.Walk.new.Goals as goal
 

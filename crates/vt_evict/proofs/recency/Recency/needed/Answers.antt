@@ -3,8 +3,8 @@ use Rattle.std.specs.List.{All}
 use Rattle.std.specs.Map.{keys_of}
 use Rattle.std.proofs.lemmas.List.Elements.{All-map}
 use Rattle.std.proofs.lemmas.List.Sums.{count_by-le-length}
-use Rattle.vt_pages.specs.Pages.{pages_of}
-use Rattle.vt_feedback.specs.Wants.{pages_wanted}
+use Rattle.vt_plan.specs.Pages.{pages_of}
+use Rattle.vt_plan.specs.Wants.{pages_wanted}
 use Rattle.vt_evict.specs.Orders.{line_pages}
 use Rattle.vt_evict.specs.Views.{RecencyView, IsTable, pages_needed}
 use Rattle.vt_evict.proofs.LineOrders.{lines_few}

@@ -1,8 +1,8 @@
 use Rattle.std.proofs.Common.{◌≡◌, ℕ, ◌-◌, ◌&&◌, not, nat_lt, List, ◌++◌, [], replicate, sym, ap, ◌∙◌, subst}
 use Rattle.std.specs.List.{range_with_len}
 use Rattle.std.specs.Map.{keys_of}
-use Rattle.vt_pages.specs.Shape.{Shape}
-use Rattle.vt_pages.specs.Pages.{pages_of}
+use Rattle.vt_plan.specs.Shape.{Shape}
+use Rattle.vt_plan.specs.Pages.{pages_of}
 use Rattle.vt_evict.specs.Views.{RecencyView, IsTable, is_held, first_view}
 use Rattle.vt_evict.proofs.FirstLemmas.{first_table, first_free}
 use Rattle.vt_evict.proofs.recency.Recency.new.Goals as goal

@@ -1,8 +1,8 @@
 use Rattle.std.proofs.Common.{◌≡◌, ℕ, ◌<◌, List, length, sym, ap, ◌∙◌, subst}
 use Rattle.std.specs.List.{All}
-use Rattle.vt_pages.specs.Pages.{pages_of}
-use Rattle.vt_feedback.specs.declared.Wanted.{Wanted}
-use Rattle.vt_feedback.specs.Wants.{pages_wanted}
+use Rattle.vt_plan.specs.Pages.{pages_of}
+use Rattle.vt_plan.specs.FeedbackTypes.Wanted.{Wanted}
+use Rattle.vt_plan.specs.Wants.{pages_wanted}
 use Rattle.vt_evict.specs.Views.{RecencyView, IsTable}
 use Rattle.vt_evict.specs.Plans.{missing_pages}
 use Rattle.vt_plan.specs.Missing.{missing_from}

@@ -1,7 +1,7 @@
 use Rattle.std.proofs.Common.{◌≡◌, ℕ, ◌-◌, List, sym, ap, ◌∙◌, subst}
 use Rattle.std.specs.List.{filter}
 use Rattle.std.specs.Map.{keys_of}
-use Rattle.vt_pages.specs.Pages.{pages_of}
+use Rattle.vt_plan.specs.Pages.{pages_of}
 use Rattle.vt_evict.specs.Orders.{put_first}
 use Rattle.vt_evict.specs.Views.{RecencyView, IsTable, is_loose_below, touched}
 use Rattle.vt_evict.specs.Kept.{IsWalk}

@@ -1,5 +1,5 @@
 use Rattle.std.proofs.Common.{ap, sym, ◌∙◌, subst}
-use Rattle.vt_streamer.specs.Views.{IsStreamerOf}
+use Rattle.vt_word_workers.specs.Views.{IsStreamerOf}
 use Rattle.vt_pass.specs.WordMachines.{WordView}
 use Rattle.vt_word_workers.specs.Kits.{IsIdleKit}
 use Rattle.vt_pass.proofs.Idle.{machine_placed}

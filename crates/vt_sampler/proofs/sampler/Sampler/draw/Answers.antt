@@ -1,5 +1,5 @@
 use Rattle.vt_draw.specs.Shots.{shot_row}
-use Rattle.vt_filter.proofs.NearestNotes.{row_by_said}
+use Rattle.vt_lookup.proofs.NearestNotes.{row_by_said}
 use Rattle.vt_lookup.specs.Notes.{IsNotedIn}
 use Rattle.vt_sampler.specs.Samplers.{row_at, version_at}
 use Rattle.vt_sampler.proofs.sampler.Sampler.draw.Goals as goal

@@ -2,7 +2,7 @@ use Rattle.std.proofs.Common.{◌<◌, List, length, refl, sym, subst}
 use Rattle.std.specs.Prelude.{All}
 use Rattle.vt_pages.specs.Pages.{pages_of}
 use Rattle.vt_tiles.specs.Format.{tile_length}
-use Rattle.vt_plan.specs.declared.batches.Planned.{Planned}
+use Rattle.vt_evict.specs.PlanTypes.batches.Planned.{Planned}
 use Rattle.vt_word_workers.specs.RoundKits.{IsSetUp, IsAsked}
 use Rattle.vt_stream_kit.specs.StreamKits.{StreamKitView, IsPreparedStream}
 use Rattle.vt_stream_kit.proofs.StreamRooms.{once_asked}

@@ -1,11 +1,11 @@
 use Rattle.std.proofs.Common.{ℕ, ◌≤◌, subst, sym}
 use Rattle.std.specs.Prelude.{All}
-use Rattle.vt_definitions.specs.Depths.{IsDepth}
+use Rattle.vt_tiles.specs.Depths.{IsDepth}
 use Rattle.vt_pages.specs.Shape.{Shape}
-use Rattle.vt_machine.specs.Crews.{IsCrew}
+use Rattle.vt_word_workers.specs.Crews.{IsCrew}
 use Rattle.vt_tiles.specs.Format.{tile_length}
-use Rattle.vt_requests.specs.Sizes.{AreSized}
-use Rattle.vt_streaming.specs.Reports.{IsBlank}
+use Rattle.vt_word_workers.specs.Sizes.{AreSized}
+use Rattle.vt_word_workers.specs.Reports.{IsBlank}
 use Rattle.vt_word_workers.specs.RoundKits.{RoundKitView, IsSetUp}
 use Rattle.vt_word_workers.proofs.Rooms.{on_ok}
 use Rattle.vt_stream_kit.specs.StreamKits.{StreamKitView}

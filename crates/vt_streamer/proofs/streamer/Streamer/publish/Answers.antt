@@ -1,7 +1,7 @@
 use Rattle.std.proofs.Common.{◌+◌, ℕ, List, length, refl, sym, ap, ◌∙◌, subst}
 use Rattle.std.proofs.lemmas.List.{with_items_is}
-use Rattle.vt_journal.specs.Changes.{newest, changed, IsLegalNext}
-use Rattle.vt_journal.specs.Kept.{entries_of}
+use Rattle.vt_table.specs.Changes.{newest, changed, IsLegalNext}
+use Rattle.vt_table.specs.JournalKept.{entries_of}
 use Rattle.vt_table.specs.Views.{IsWithin, IsReady, filled_after}
 use Rattle.vt_streamer.specs.Frees.{since_after}
 use Rattle.vt_streamer.specs.Views.{StreamerView, table_of}

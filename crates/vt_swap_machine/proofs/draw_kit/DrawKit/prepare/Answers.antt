@@ -1,6 +1,6 @@
 use Rattle.std.proofs.Common.{length, refl, sym, ap, ◌∙◌, subst, arith}
 use Rattle.std.specs.Prelude.{All}
-use Rattle.vt_workers.proofs.Lent.{refilled}
+use Rattle.vt_machine.proofs.Lent.{refilled}
 use Rattle.vt_swap_machine.specs.DrawKits.{HasReader}
 use Rattle.vt_swap_machine.proofs.Drawers.{ready_draw}
 use Rattle.vt_swap_machine.proofs.draw_kit.DrawKit.prepare.Goals as goal

@@ -1,5 +1,5 @@
 use Rattle.std.proofs.Common.{Option, Some, sym, subst}
-use Rattle.vt_workers.specs.Jobs.{job_of}
+use Rattle.vt_machine.specs.Jobs.{job_of}
 use Rattle.vt_machine.specs.Drawings.{drawing_of}
 use Rattle.vt_machine.specs.Passes.{Ends}
 use Rattle.vt_stream_kit.specs.StreamKits.{stream_before}

@@ -3,7 +3,7 @@ use Rattle.std.specs.Prelude.{slice_index}
 use Rattle.std.specs.Vec.{with_items}
 use Rattle.std.proofs.lemmas.List.{with_items_is}
 use Rattle.vt_draw.specs.Shots.{shot_row}
-use Rattle.vt_filter.specs.Evidence.{AreShown}
+use Rattle.vt_pictures.specs.Evidence.{AreShown}
 use Rattle.vt_swap.specs.Notes.{IsSaidBy}
 use Rattle.vt_sampler.specs.Samplers.{SamplerView, IsFor, own_count, row_length, row_in}
 use Rattle.vt_sampler.proofs.Sharing.{own_full}

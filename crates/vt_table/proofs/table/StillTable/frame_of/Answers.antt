@@ -1,6 +1,6 @@
 use Rattle.std.proofs.Common.{◌≡◌, ℕ, zero, suc, ◌-◌, ◌<◌, ◌≤◌, length, Some, sym, ap, subst, ◌∙◌, arith}
 use Rattle.std.proofs.lemmas.List.{get_or_read}
-use Rattle.vt_pages.specs.Pages.{pages_of}
+use Rattle.vt_journal.specs.Pages.{pages_of}
 use Rattle.vt_journal.specs.Changes.{Table, newest}
 use Rattle.vt_journal.specs.Kept.{entry_of}
 use Rattle.vt_table.specs.Views.{TableView}

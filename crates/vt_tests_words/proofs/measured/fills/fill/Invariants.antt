@@ -1,5 +1,5 @@
 use Rattle.std.proofs.Common.{◌≡◌, Some}
-use Rattle.vt_table.specs.Views.{IsTile, filled_for}
+use Rattle.vt_streamer.specs.TableViews.{IsTile, filled_for}
 use Rattle.vt_grace.specs.Banks.{MayFill}
 use Rattle.vt_streamer.specs.Views.{table_of}
 use Rattle.vt_tests_words.specs.BlankStreams.{IsBlank}

@@ -1,8 +1,8 @@
 use Rattle.std.proofs.Common.{ℕ, ◌<◌}
 use Rattle.std.specs.Prelude.{slice_index_or}
-use Rattle.vt_plan.specs.declared.batches.Planned.{Planned}
+use Rattle.vt_evict.specs.PlanTypes.batches.Planned.{Planned}
 use Rattle.vt_journal.specs.Changes.{newest}
-use Rattle.vt_machine.specs.Outcomes.{IsEntryFor}
+use Rattle.vt_streaming.specs.Outcomes.{IsEntryFor}
 use Rattle.vt_tests_words.proofs.streamer.lawful.are_entries.Given as goal
 
 -- the entries so far are lawful

@@ -3,7 +3,7 @@ use Rattle.std.specs.Bool.{MatchBool}
 use Rattle.vt_pages.specs.Shape.{Shape}
 use Rattle.vt_pages.specs.Pages.{root_of}
 use Rattle.vt_journal.specs.Changes.{Table, newest}
-use Rattle.vt_machine.specs.Outcomes.{IsVictimOf}
+use Rattle.vt_streaming.specs.Outcomes.{IsVictimOf}
 use Rattle.vt_tests_words.proofs.Small.{root_is_4}
 use Rattle.vt_tests_words.proofs.streamer.lawful.is_victim.Goals as goal
 

@@ -1,5 +1,5 @@
 use Rattle.std.proofs.Common.{refl}
-use Rattle.vt_files.specs.Effects.{folder_state, folder_effect}
+use Rattle.vt_command_base.specs.Effects.{folder_state, folder_effect}
 use Rattle.vt_command_base.specs.Reads.{file_state, Closed}
 use Rattle.vt_walk_commands.proofs.commands.replay.read_beside.Goals as goal
 

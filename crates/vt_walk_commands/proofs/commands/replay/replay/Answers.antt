@@ -1,7 +1,7 @@
 use Rattle.std.proofs.Common.{ℕ, List, sym, subst}
 use Rattle.std.proofs.lemmas.Result.{err_from_is_err_and}
 use Rattle.vt_tiles.specs.StoreViews.{StoreView}
-use Rattle.vt_files.specs.Effects.{folder_state, sink_state}
+use Rattle.vt_command_base.specs.Effects.{folder_state, sink_state}
 use Rattle.vt_words.specs.Replay.{shown_replay}
 use Rattle.vt_command_base.specs.Inputs.{JournalInput, TextContent}
 use Rattle.vt_command_base.specs.Reads.{file_state, OpensStore, Took}

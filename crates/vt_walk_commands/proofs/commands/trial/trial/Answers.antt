@@ -1,6 +1,6 @@
 use Rattle.std.proofs.Common.{Err, sym, subst}
 use Rattle.vt_words.specs.Trial.{shown_trial}
-use Rattle.vt_files.specs.Effects.{sink_effect}
+use Rattle.vt_command_base.specs.Effects.{sink_effect}
 use Rattle.vt_command_base.specs.CommandSpecs.{EndsBy}
 use Rattle.vt_walk_commands.specs.commands.Trial.{trial_spec, beside}
 use Rattle.vt_command_base.specs.declared.refusal.Refusal.{Refusal}

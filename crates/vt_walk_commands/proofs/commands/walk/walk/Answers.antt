@@ -1,5 +1,5 @@
 use Rattle.std.proofs.lemmas.Result.{err_from_is_err_and}
-use Rattle.vt_files.specs.Effects.{folder_state, sink_state}
+use Rattle.vt_command_base.specs.Effects.{folder_state, sink_state}
 use Rattle.vt_words.specs.Walk.{shown_walk}
 use Rattle.vt_walk_commands.specs.Machines.{kind_of}
 use Rattle.vt_command_base.specs.Reads.{file_state, Closed}

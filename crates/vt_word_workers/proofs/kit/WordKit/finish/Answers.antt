@@ -1,7 +1,7 @@
 use Rattle.std.proofs.Common.{◌<◌, ◌^◌, length, sym, subst}
 use Rattle.std.specs.List.{refill}
-use Rattle.vt_workers.specs.Jobs.{job_of}
-use Rattle.vt_machine.specs.declared.crew.PassReport.{PassReport}
+use Rattle.vt_requests.specs.Jobs.{job_of}
+use Rattle.vt_requests.specs.MachineTypes.crew.PassReport.{PassReport}
 use Rattle.vt_word_workers.specs.declared.workers.WordStreamer.{WordStreamer}
 use Rattle.vt_word_workers.specs.Kits.{KitView, AreSamplersOf, counted_together}
 use Rattle.vt_word_workers.specs.KitPasses.{MayFinish, KitRan, kit_before}

@@ -1,7 +1,7 @@
 use Rattle.std.proofs.Common.{ℕ, ◌≤◌, arith, subst, sym}
 use Rattle.vt_definitions.specs.Depths.{IsDepth}
 use Rattle.vt_pages.specs.Shape.{Shape}
-use Rattle.vt_machine.specs.Crews.{IsCrew}
+use Rattle.vt_requests.specs.Crews.{IsCrew}
 use Rattle.std.specs.Prelude.{All}
 use Rattle.vt_tiles.specs.Format.{tile_length}
 use Rattle.vt_requests.specs.Sizes.{AreSized}

@@ -3,14 +3,14 @@ use Rattle.std.proofs.Common.{◌≡◌, ℕ, zero, suc, ◌+◌, ◌-◌, ◌<�
 use Rattle.std.specs.Prelude.{All, Contains}
 use Rattle.std.proofs.lemmas.Bool.{cases_lt}
 use Rattle.std.proofs.lemmas.List.Elements.{All-nil, All-cons, All-contains, Contains-append_right}
-use Rattle.vt_definitions.specs.Depths.{texel_bytes}
-use Rattle.vt_pages.specs.Shape.{Shape}
-use Rattle.vt_pages.specs.Pages.{level_of, ancestor_of}
-use Rattle.vt_camera.specs.Rows.{RowView}
+use Rattle.vt_draw.specs.Depths.{texel_bytes}
+use Rattle.vt_journal.specs.Shape.{Shape}
+use Rattle.vt_journal.specs.Pages.{level_of, ancestor_of}
+use Rattle.vt_draw.specs.Rows.{RowView}
 use Rattle.vt_draw.specs.Lookups.{Note, EntryNote, WordNote}
 use Rattle.vt_draw.specs.Shots.{wanted_page, drawn_place, IsDrawn, AreDrawn}
 use Rattle.vt_draw.proofs.DrawnRows.{pixel_by_more}
-use Rattle.vt_filter.specs.Evidence.{IsBy, AreShown}
+use Rattle.vt_pictures.specs.Evidence.{IsBy, AreShown}
 
 -- each page of a line is unmapped, at so many levels from one on
 module _ (s : Shape) (version p : ℕ) where

@@ -1,7 +1,7 @@
 use Rattle.std.proofs.Common.{arith}
 use Rattle.vt_draw.specs.Shots.{shot_row}
-use Rattle.vt_filter.proofs.NearestNotes.{row_by_notes}
-use Rattle.vt_filter.proofs.nearest.NearestFilter.draw_row.Goals as goal
+use Rattle.vt_pictures.proofs.NearestNotes.{row_by_notes}
+use Rattle.vt_pictures.proofs.nearest.NearestFilter.draw_row.Goals as goal
 
 pub draw_row-requires-clause-room : goal.draw_row-requires-clause-room
 draw_row-requires-clause-room g c p below = omega (arith, c.requires.room p below)

@@ -1,17 +1,17 @@
 //! How pixels are made of texels, as who draws sees it.
 
 ghost use Rattle.std.specs.Prelude.{◌≡◌, ℕ, ◌+◌, ◌*◌, ◌<◌, ◌^◌, List, length, slice_index};
-ghost use Rattle.vt_definitions.specs.Depths.{IsDepth, texel_length};
-ghost use Rattle.vt_definitions.specs.Texels.{Source};
-ghost use Rattle.vt_pages.specs.Shape.{Shape};
-ghost use Rattle.vt_pages.specs.Pages.{pages_of};
-ghost use Rattle.vt_camera.specs.Rows.{RowView};
+ghost use Rattle.vt_draw.specs.Depths.{IsDepth, texel_length};
+ghost use Rattle.vt_draw.specs.Texels.{Source};
+ghost use Rattle.vt_journal.specs.Shape.{Shape};
+ghost use Rattle.vt_journal.specs.Pages.{pages_of};
+ghost use Rattle.vt_draw.specs.Rows.{RowView};
 ghost use Rattle.vt_draw.specs.Lookups.{Note};
 ghost use Rattle.vt_draw.specs.Shots.{shot_row};
 ghost use Rattle.vt_journal.specs.Changes.{Table};
 ghost use Rattle.vt_pictures.specs.Scenes.{Scene};
-ghost use Rattle.vt_filter.specs.Evidence.{AreShown, AreRaised};
-ghost use Rattle.vt_filter.specs.FilterLaws.{IsUnder, IsPlain, WantsFew};
+ghost use Rattle.vt_pictures.specs.Evidence.{AreShown, AreRaised};
+ghost use Rattle.vt_pictures.specs.FilterLaws.{IsUnder, IsPlain, WantsFew};
 
 use vt_draw::{Lookup, Shot};
 

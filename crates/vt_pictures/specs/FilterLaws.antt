@@ -1,16 +1,16 @@
 -- What holds of every filter, by what it wants of pages, what it shows by notes, and its pixels under a page table and without one.
 use Rattle.std.specs.Prelude.{◌≡◌, ℕ, ◌*◌, ◌<◌, ◌≤◌, IsSome, List}
 use Rattle.std.specs.List.{range_with_len}
-use Rattle.vt_definitions.specs.Texels.{Source}
-use Rattle.vt_pages.specs.Shape.{Shape}
-use Rattle.vt_pages.specs.Pages.{pages_of, root_of, IsWithinLimits}
-use Rattle.vt_camera.specs.Rows.{RowView}
+use Rattle.vt_draw.specs.Texels.{Source}
+use Rattle.vt_journal.specs.Shape.{Shape}
+use Rattle.vt_journal.specs.Pages.{pages_of, root_of, IsWithinLimits}
+use Rattle.vt_draw.specs.Rows.{RowView}
 use Rattle.vt_draw.specs.Lookups.{Note}
 use Rattle.vt_draw.specs.Shots.{wants_in_rows}
 use Rattle.vt_journal.specs.Changes.{Table}
 use Rattle.vt_pictures.specs.Scenes.{Scene}
 use Rattle.vt_pictures.specs.Replays.{scene_row}
-use Rattle.vt_filter.specs.Evidence.{AreTrueNotes}
+use Rattle.vt_pictures.specs.Evidence.{AreTrueNotes}
 
 -- by notes that are true of a table over a source, a pixel is that of the table
 abbrev pub IsUnder : (Shape → ℕ → ℕ → List Note → RowView → ℕ → List ℕ → Type 0) → (Source → Scene → Table → ℕ → ℕ → ℕ → List ℕ) → Type 0

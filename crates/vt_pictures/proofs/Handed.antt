@@ -2,17 +2,17 @@
 use Rattle.std.proofs.Common.{◌≡◌, ℕ, List}
 use Rattle.std.specs.Prelude.{All}
 use Rattle.std.proofs.lemmas.List.Elements.{All-weaker, All-contains}
-use Rattle.vt_definitions.specs.Depths.{texel_bytes}
-use Rattle.vt_definitions.specs.Texels.{Source}
-use Rattle.vt_pages.specs.Shape.{Shape}
-use Rattle.vt_pages.specs.Pages.{IsWithinLimits}
-use Rattle.vt_camera.specs.Rows.{RowView}
+use Rattle.vt_draw.specs.Depths.{texel_bytes}
+use Rattle.vt_draw.specs.Texels.{Source}
+use Rattle.vt_journal.specs.Shape.{Shape}
+use Rattle.vt_journal.specs.Pages.{IsWithinLimits}
+use Rattle.vt_draw.specs.Rows.{RowView}
 use Rattle.vt_draw.specs.Lookups.{Note}
 use Rattle.vt_journal.specs.Changes.{Table}
 use Rattle.vt_pictures.specs.Scenes.{Scene}
 use Rattle.vt_pictures.specs.Replays.{scene_row, HasPixels}
-use Rattle.vt_filter.specs.Evidence.{IsBy, AreTrue, AreTrueNotes, AreShown}
-use Rattle.vt_filter.specs.FilterLaws.{IsUnder}
+use Rattle.vt_pictures.specs.Evidence.{IsBy, AreTrue, AreTrueNotes, AreShown}
+use Rattle.vt_pictures.specs.FilterLaws.{IsUnder}
 
 -- what holds by notes that are said holds where no less is said
 pub by_more : (says more : Note → Type 0) (holds : List Note → Type 0) → ((note : Note) → says note → more note) → IsBy says holds → IsBy more holds

@@ -1,11 +1,11 @@
 -- What is known of pixels by the notes of a look-up.
 use Rattle.std.specs.Prelude.{◌≡◌, ℕ, ◌+◌, ◌<◌, Some, None, List, All, Contains, length, slice_index}
-use Rattle.vt_definitions.specs.Texels.{Source}
-use Rattle.vt_definitions.specs.Depths.{texel_bytes}
-use Rattle.vt_pages.specs.Shape.{Shape}
-use Rattle.vt_pages.specs.Pages.{texel_page}
-use Rattle.vt_pages.specs.Laws.{IsInside}
-use Rattle.vt_camera.specs.Rows.{RowView}
+use Rattle.vt_draw.specs.Texels.{Source}
+use Rattle.vt_draw.specs.Depths.{texel_bytes}
+use Rattle.vt_journal.specs.Shape.{Shape}
+use Rattle.vt_journal.specs.Pages.{texel_page}
+use Rattle.vt_journal.specs.Laws.{IsInside}
+use Rattle.vt_draw.specs.Rows.{RowView}
 use Rattle.vt_draw.specs.Lookups.{Note, EntryNote, WordNote, place_in_tile}
 use Rattle.vt_journal.specs.Changes.{Table}
 

@@ -2,14 +2,14 @@
 use Rattle.std.proofs.Common.{◌≡◌, ℕ, ◌+◌, ◌-◌, ◌/◌, ◌^◌, ◌<◌, ◌≤◌, List, Option, Some, sym, ap, ◌∙◌, arith}
 use Rattle.std.specs.Prelude.{slice_get, unwrap_or}
 use Rattle.std.proofs.lemmas.Option.{slice_get-get_or, same_Some}
-use Rattle.vt_definitions.specs.Depths.{word_bytes}
-use Rattle.vt_definitions.specs.Texels.{Source}
-use Rattle.vt_pages.specs.Shape.{Shape}
-use Rattle.vt_pages.specs.Pages.{pages_of, levels_of, level_of, ancestors_of, ancestor_of, root_of, texel_page, IsWithinLimits}
-use Rattle.vt_pages.specs.Lookups.{lookup}
-use Rattle.vt_pages.specs.Laws.{ReachesRoot, IsInside}
-use Rattle.vt_pages.proofs.Lines.{reaches_root}
-use Rattle.vt_camera.specs.Rows.{row_level, row_place}
+use Rattle.vt_draw.specs.Depths.{word_bytes}
+use Rattle.vt_draw.specs.Texels.{Source}
+use Rattle.vt_journal.specs.Shape.{Shape}
+use Rattle.vt_journal.specs.Pages.{pages_of, levels_of, level_of, ancestors_of, ancestor_of, root_of, texel_page, IsWithinLimits}
+use Rattle.vt_journal.specs.PagesLookups.{lookup}
+use Rattle.vt_journal.specs.Laws.{ReachesRoot, IsInside}
+use Rattle.vt_journal.proofs.Lines.{reaches_root}
+use Rattle.vt_draw.specs.Rows.{row_level, row_place}
 use Rattle.vt_draw.specs.declared.lookups.Found.{Found}
 use Rattle.vt_draw.specs.Lookups.{Note, IsFinest}
 use Rattle.vt_draw.specs.Shots.{wanted_page, IsDrawn}
@@ -19,7 +19,7 @@ use Rattle.vt_journal.specs.Lookups.{is_mapped, IsFirstMapped}
 use Rattle.vt_journal.proofs.Finding.{finest-lookup}
 use Rattle.vt_pictures.specs.Scenes.{Scene}
 use Rattle.vt_pictures.specs.Replays.{scene_row, shown_at, serving_page, pixel_under}
-use Rattle.vt_filter.specs.Evidence.{AreTrue}
+use Rattle.vt_pictures.specs.Evidence.{AreTrue}
 
 -- what was found for a page is the page that serves it
 module _ (s : Shape) (source : Source) (m : Table) (version : ℕ) (says : Note → Type 0) (p : ℕ) (found : Found) (limits : IsWithinLimits s)

@@ -7,14 +7,14 @@ use Rattle.std.proofs.lemmas.Bool.Decides.{nat_tests}
 use Rattle.std.proofs.lemmas.List.Sums.{get_or-le-sum_by}
 use Rattle.std.proofs.lemmas.List.FromFn.{length-range_with_len, get_or-range_with_len}
 use Rattle.std.proofs.lemmas.Option.{slice_get-get_or}
-use Rattle.vt_definitions.specs.Texels.{Source}
-use Rattle.vt_pages.specs.Shape.{Shape}
-use Rattle.vt_pages.specs.Pages.{pages_of, level_of, ancestors_of, root_of, IsWithinLimits}
-use Rattle.vt_pages.specs.Lookups.{lookup}
-use Rattle.vt_pages.specs.Laws.{ReachesRoot}
-use Rattle.vt_pages.proofs.Lines.{reaches_root}
-use Rattle.vt_pages.proofs.Parents.{level_below}
-use Rattle.vt_camera.specs.Rows.{RowView}
+use Rattle.vt_draw.specs.Texels.{Source}
+use Rattle.vt_journal.specs.Shape.{Shape}
+use Rattle.vt_journal.specs.Pages.{pages_of, level_of, ancestors_of, root_of, IsWithinLimits}
+use Rattle.vt_journal.specs.PagesLookups.{lookup}
+use Rattle.vt_journal.specs.Laws.{ReachesRoot}
+use Rattle.vt_journal.proofs.Lines.{reaches_root}
+use Rattle.vt_journal.proofs.Parents.{level_below}
+use Rattle.vt_draw.specs.Rows.{RowView}
 use Rattle.vt_draw.specs.Shots.{shot_row, wanted_page, pixels_wanting, wants_in_rows}
 use Rattle.vt_draw.proofs.Places.{wanted_in_chain}
 use Rattle.vt_draw.proofs.Counts.{pixels-most}
@@ -23,7 +23,7 @@ use Rattle.vt_journal.specs.Lookups.{is_mapped, IsFirstMapped}
 use Rattle.vt_journal.proofs.Finding.{finest-lookup}
 use Rattle.vt_pictures.specs.Scenes.{Scene}
 use Rattle.vt_pictures.specs.Replays.{scene_row, shown_at, pixel_under, plain_pixel}
-use Rattle.vt_filter.specs.FilterLaws.{picture_wants}
+use Rattle.vt_pictures.specs.FilterLaws.{picture_wants}
 
 same_number : (p : ℕ) → (p == p) ≡ true
 same_number p = grind (arith, nat_tests)

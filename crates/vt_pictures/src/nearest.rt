@@ -10,8 +10,8 @@ impl Filter for Nearest {
     ghost use Rattle.std.specs.Prelude.{Contains};
     ghost use Rattle.vt_draw.specs.Shots.{pixels_wanting, IsDrawn};
     ghost use Rattle.vt_pictures.specs.Replays.{pixel_under, plain_pixel};
-    ghost use Rattle.vt_filter.specs.NearestPixels.{shown_is_under};
-    ghost use Rattle.vt_filter.specs.NearestPlain.{mapped_is_plain, wants_one};
+    ghost use Rattle.vt_pictures.specs.NearestPixels.{shown_is_under};
+    ghost use Rattle.vt_pictures.specs.NearestPlain.{mapped_is_plain, wants_one};
 
     ghost wants = { pixels_wanting };
 

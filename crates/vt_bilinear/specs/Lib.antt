@@ -1,0 +1,1 @@
+pub use Rattle.vt_plain_bilinear.specs.Shown

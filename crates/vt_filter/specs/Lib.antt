@@ -1,4 +1,0 @@
-pub mod Evidence
-pub mod FilterLaws
-pub mod NearestPixels
-pub mod NearestPlain

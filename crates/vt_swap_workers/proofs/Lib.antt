@@ -1,0 +1,1 @@
+pub use Rattle.vt_swap_sampler.proofs.EnteredRows

@@ -1,0 +1,3 @@
+pub use Rattle.vt_machine.proofs.AnyOrder
+pub use Rattle.vt_machine.proofs.Settled
+pub use Rattle.vt_machine.proofs.Streaming
