@@ -9,6 +9,7 @@
 Nothing else is to be at work on the machine. The checks are watched twice a second, so a figure may lack half a second. The check of
 a crate's first must-fail edit proves the whole crate a second time: of its time what is above the mean of the other edits counts as
 "again for edits", and so does the last look at the crate. Tests are proved, linked and built; that they run costs next to nothing.
+Machines differ by more than twice, so the gate's price is also told as a ratio: its processor seconds over those of two proofs.
 """
 import glob
 import os
@@ -17,8 +18,12 @@ import subprocess
 import sys
 import time
 
+from uses import crates
+
 TICKS = os.sysconf("SC_CLK_TCK")
 KINDS = ("proof", "again for edits", "edits", "tests")
+# What the gate's price is measured by: the proofs of these crates.
+UNIT = ("vt_outside", "vt_ppm")
 
 
 def processes():
@@ -33,6 +38,16 @@ def processes():
                 continue
             found[int(name)] = int(fields[1]), sum(int(it) for it in fields[11:15]) / TICKS, int(fields[19]) / TICKS
     return found
+
+
+def alone(process):
+    """The processor seconds of a process without those of its children."""
+    try:
+        with open(f"/proc/{process}/stat") as it:
+            fields = it.read().rpartition(")")[2].split()
+    except OSError:
+        return 0.0
+    return (int(fields[11]) + int(fields[12])) / TICKS
 
 
 def words_of(process):
@@ -61,14 +76,17 @@ def what_is(words, folder):
 
 
 class Watch:
-    """The checks below a process: for each its crate, its kind, its start and end, and its processor seconds."""
+    """The checks below a process: for each its crate, its kind, its start and end, and its processor seconds. Beside them those of the
+    process alone."""
 
     def __init__(self, top):
         self.top = top
         self.checks = {}
+        self.alone = 0.0
 
     def look(self):
         table = processes()
+        self.alone = max(self.alone, alone(self.top))
         children = {}
         for process, (parent, _, _) in table.items():
             children.setdefault(parent, []).append(process)
@@ -112,13 +130,13 @@ def run(log):
     with open(log, "a") as out:
         for crate, kind, shared, first, last, spent in sorted(watch.checks.values(), key=lambda it: it[3]):
             print(f"time: {crate} {kind} {shared} {first - began:.1f} {last - began:.1f} {spent:.2f}", file=out)
-        print(f"time: all {time.time() - began:.1f} {used.children_user + used.children_system:.1f}", file=out)
+        print(f"time: all {time.time() - began:.1f} {used.children_user + used.children_system:.1f} {watch.alone:.1f}", file=out)
     return gate.returncode
 
 
 def read(log):
-    """The checks of a log, and the seconds and processor seconds of the whole gate."""
-    checks, whole = [], (0.0, 0.0)
+    """The checks of a log, and the seconds and processor seconds of the whole gate and of rt's own process."""
+    checks, whole = [], (0.0, 0.0, 0.0)
     with open(log, errors="replace") as it:
         for line in it:
             found = re.fullmatch(r"time: (\w+) (proof|tests|edit) (\S+) (\S+) (\S+) (\S+)\n", line)
@@ -151,17 +169,6 @@ def rows_of(checks):
     return rows
 
 
-def below(path):
-    """The libraries of each crate, by the repository's list."""
-    found = {}
-    with open(path) as it:
-        for line in it:
-            name, _, libraries = line.partition("#")[0].partition(":")
-            if name.strip():
-                found[name.split()[0]] = libraries.split()
-    return found
-
-
 def longest_chain(checks, libraries):
     """The chain of crates whose proofs take longest, one after the other, with the seconds of each."""
     took = {}
@@ -192,7 +199,7 @@ def say_row(title, row):
 
 def show(log, least=0.025):
     """The table of a log; crates that take less than this part of the whole stand in one row."""
-    checks, (seconds, spent) = read(log)
+    checks, (seconds, spent, own) = read(log)
     rows = rows_of(checks)
     whole = sum_of(rows.values())
     small = {crate for crate, row in rows.items() if sum(row[:4]) < least * sum(whole[:4])}
@@ -204,8 +211,11 @@ def show(log, least=0.025):
         say_row(f"{len(small)} others", sum_of([rows[crate] for crate in small]))
     say_row("all", whole)
     print()
-    print(f"The gate took {seconds / 60:.1f} minutes and {spent:.0f} processor seconds, those of what is run and linked among them.")
-    together, chain = longest_chain(checks, below("crates.txt"))
+    print(f"The gate took {seconds / 60:.1f} minutes and {spent:.0f} processor seconds, those of what is run and linked among them, and {own:.0f} of rt's own process.")
+    unit = sum(rows[crate][0] for crate in UNIT if crate in rows)
+    if unit:
+        print(f"That is {spent / unit:.1f} times the {unit:.0f} seconds of the proofs of {' and '.join(UNIT)}.")
+    together, chain = longest_chain(checks, crates())
     print(f"The longest chain takes {together:.0f} seconds by the clock: " + ", ".join(f"{crate} {took:.0f}" for crate, took in chain) + ".")
 
 
