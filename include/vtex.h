@@ -123,6 +123,13 @@ uint32_t vtex_cache_pass_pages(vtex_cache *at, const uint32_t *list, size_t coun
  * last pass added come last; else `out` is as it was. 0 for a closed cache. */
 uint32_t vtex_cache_loads(vtex_cache *at, vtex_load *out, size_t room);
 
+/* Which loads under way no wanted page needs any more. `list` has wanted pages as vtex_cache_pass_pages takes them, those of the last picture
+ * or of several. `states` gets a byte for each load, in the order of vtex_cache_loads: VTEX_UNDER_WAY where a page of the list is the load's
+ * page or lies below it, else VTEX_LOST. So vtex_cache_settle takes it as it is, or with VTEX_CAME written over those that came. A load that a
+ * pass just planned is needed by the pages of that pass. Changes nothing. Costs what is wanted, and a step a load.
+ * VTEX_DONE; VTEX_BAD_NUMBER where `list` has another number or `room` is not the number of loads; VTEX_CLOSED. */
+uint32_t vtex_cache_stale_loads(vtex_cache *at, const uint32_t *list, size_t count, uint8_t *states, size_t room);
+
 /* Says what became of the loads under way: a byte for each, in the order of vtex_cache_loads. For each that came its victim is unmapped and
  * its page mapped; one that was lost is forgotten; one that is under way stays so. The pages that came are the most recent ones.
  * VTEX_DONE; VTEX_BAD_NUMBER where `count` is another number: nothing changed; VTEX_CLOSED; VTEX_NO_MEMORY: the cache is closed now.

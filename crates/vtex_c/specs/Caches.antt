@@ -1,11 +1,12 @@
 -- What the calls from C do to a cache, by the number that they answer.
-use Rattle.std.specs.Prelude.{◌≡◌, ℕ, ◌<◌, ◌≤◌, Option, None, Some, List, length, IfSome, IfNone}
+use Rattle.std.specs.Prelude.{◌≡◌, ℕ, ◌<◌, ◌≤◌, Option, None, Some, List, length, map, IfSome, IfNone}
 use Rattle.std.specs.List.{All}
 use Rattle.vt_pages.specs.Limits.{most_frames}
 use Rattle.vt_pages.specs.Pages.{pages_of}
 use Rattle.vt_residency.specs.Changes.{HasChanges}
 use Rattle.vt_residency.specs.Levels.{IsLevelTable, HasLevelLength}
 use Rattle.vt_residency.specs.Loads.{HasLoads}
+use Rattle.vt_residency.specs.Needs.{state_for}
 use Rattle.vt_residency.specs.Places.{IsPlaceOf}
 use Rattle.vt_residency.specs.Residencies.{ResidencyView, IsPassed, IsKept, IsCommitted, IsInfo, first_residency}
 use Rattle.vt_residency.specs.Tallies.{IsPageOrNone}
@@ -76,6 +77,18 @@ pub record IsSettledBy (old : Cache) (states : List ℕ) (status : ℕ) (new : C
   pub kept : status ≡ 2 → new.inner ≡ old.inner
   pub gone : status ≡ 3 → new.inner ≡ None
   pub closed : status ≡ 4 → (old.inner ≡ None) × (new.inner ≡ None)
+
+-- a number was told for each load that is under way, by what wanted pages need: 0; they are no pages, or there is not a byte for each load: 2;
+-- there is no residency: 4
+pub record AreStates (old : Cache) (wanted before : List ℕ) (status : ℕ) (after : List ℕ) (new : Cache) : Type 0 where
+  pub same : new ≡ old
+  pub long : length after ≡ length before
+  pub statuses : (status < 5) × (status ≡ 1 → ⊥) × (status ≡ 3 → ⊥)
+  pub fits : status ≡ 0 → Holding (λ a. ArePages wanted a × (length before ≡ length a.loads)) old.inner
+  pub told : status ≡ 0 → Holding (λ a. after ≡ map (state_for a.table.shape wanted) a.loads) old.inner
+  pub unfit : status ≡ 2 → Holding (λ a. ArePages wanted a → length before ≡ length a.loads → ⊥) old.inner
+  pub closed : status ≡ 4 → old.inner ≡ None
+  pub kept : (status ≡ 0 → ⊥) → after ≡ before
 
 -- the changes of the last settling were listed, or there is no residency
 pub record AreChanges (old : Cache) (before : List Change) (count : ℕ) (after : List Change) (new : Cache) : Type 0 where

@@ -11,7 +11,7 @@ ghost use Rattle.vt_pages.specs.Pages.{IsWithinLimits, levels_of, pages_of, pare
 ghost use Rattle.vt_residency.specs.Tallies.{pixels_of, one_pixel};
 ghost use Rattle.vtex_c.specs.contracts.cache.Cache.{the_row};
 ghost use Rattle.vtex_c.specs.declared.cache.Cache.{Cache};
-ghost use Rattle.vtex_c.specs.Caches.{IsOpened, IsPassedBy, AreCounts, AreListed, ArePages, IsListed, IsSettledBy, AreChanges, IsLookedUp, IsTabled, IsTold, IsClosed};
+ghost use Rattle.vtex_c.specs.Caches.{IsOpened, IsPassedBy, AreCounts, AreListed, ArePages, IsListed, AreStates, IsSettledBy, AreChanges, IsLookedUp, IsTabled, IsTold, IsClosed};
 ghost use Rattle.vtex_c.specs.Shapes.{shape_in, page_in, IsLevelTold, IsNamed, IsPageTold};
 ghost use Rattle.vtex_c.specs.Statuses.{IsRefused};
 ghost use Rattle.vtex_c.specs.Stores.{IsStoreOpened, IsTileFound};
@@ -272,6 +272,20 @@ pub unsafe extern "C" fn vtex_cache_loads(at: *mut VtexCache, out: &mut [Load]) 
     ensures* { ∃ₛ (λ (d : Cache). sem 𝓛 (lies_at the_row full_share at d) ∗ ⌜ IsListed c out.old result out.new d ⌝) }
 {
     cache::loads(&mut *(at as *mut Cache), out)
+}
+
+/// Tells which loads under way no wanted page needs, by a byte for each as `vtex_cache_settle` takes it: 1 for such a load, else 2.
+#[unsafe(no_mangle)]
+pub unsafe extern "C" fn vtex_cache_stale_loads(
+    at: *mut VtexCache,
+    wanted: &[u32],
+    states: &mut [u8],
+) -> u32
+    ghost c: { Cache }
+    requires* { sem 𝓛 (lies_at the_row full_share at c) }
+    ensures* { ∃ₛ (λ (d : Cache). sem 𝓛 (lies_at the_row full_share at d) ∗ ⌜ AreStates c wanted.now states.old result states.new d ⌝) }
+{
+    cache::stale_loads(&mut *(at as *mut Cache), wanted, states)
 }
 
 /// Settles the loads that are under way. `states` has a byte for each: 0 it came, 2 it is still under way, else it was lost.
