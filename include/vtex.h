@@ -9,9 +9,10 @@
  * malloc and realloc) only in vtex_cache_open, the three passes and vtex_cache_settle, and given back (by free) there and in
  * vtex_cache_close.
  *
- * Each number is tested. Most calls answer a status; one other than VTEX_DONE leaves what the call was to write as it was. What cannot be
- * tested, C upholds: a pointer is that of such an object, a length is the true one, what a call writes is no other argument's memory, and
- * the place of a cache stays where it is from vtex_cache_init to vtex_cache_close. A length of 0 may come with any pointer but NULL.
+ * Each number is tested. Most calls answer a status: VTEX_DONE only where each number was inside its bounds, and another one leaves what the
+ * call was to write as it was. What cannot be tested, C upholds: a pointer is that of such an object, a length is the true one, what a call
+ * writes is no other argument's memory, and the place of a cache is aligned and stays where it is from vtex_cache_init to vtex_cache_close.
+ * A length of 0 may come with any pointer but NULL.
  */
 #ifndef VTEX_H
 #define VTEX_H
@@ -94,7 +95,7 @@ uint32_t vtex_store_tile(const vtex_store *store, uint32_t page, vtex_range *ran
 /* How many bytes the place of a cache has. */
 size_t vtex_cache_size(void);
 
-/* Makes a closed cache of a place. It takes no memory and cannot fail. */
+/* Makes a closed cache of a place. It takes no memory and cannot fail. A cache that is open there is lost, with its memory: close it first. */
 void vtex_cache_init(vtex_cache *at);
 
 /* Opens the cache for so many frames, at most 65535, in which the last `pinned` pages are mapped for good, the first of them to frame 0.
@@ -107,8 +108,8 @@ uint32_t vtex_cache_open(vtex_cache *at, const vtex_shape *shape, uint32_t frame
  * to load next: the missing page nearest above each wanted one, coarse before fine and many pixels before few, into the free frames and
  * then into those of the least recent pages that no wanted page needs. Of this plan of at most `most` entries those are added to the loads
  * under way that have neither the page nor the frame of one that is under way already. Pixels past 4294967295 for a page count as so many.
- *   VTEX_DONE; VTEX_BAD_NUMBER where the feedback does not fit, and VTEX_CLOSED: nothing changed; VTEX_NO_MEMORY: the table and the loads
- *   are as they were, and the next pass goes on.
+ *   VTEX_DONE: the feedback fitted; VTEX_BAD_NUMBER: it does not fit, and VTEX_CLOSED: nothing changed; VTEX_NO_MEMORY: the table and the
+ *   loads are as they were, their order of use may have changed, and the next pass goes on.
  * Takes some 20 to 80 bytes a wanted page and 12 a load while it runs, and keeps 12 a load. */
 
 /* A number of pixels for each page: `pages` numbers. Costs what there is. */
@@ -119,8 +120,15 @@ uint32_t vtex_cache_pass_wanted(vtex_cache *at, const vtex_wanted *list, size_t 
 uint32_t vtex_cache_pass_pages(vtex_cache *at, const uint32_t *list, size_t count, uint32_t most);
 
 /* How many loads are under way. If there is room for them all they are written to the front of `out`, the oldest first, so those that the
- * last pass added come last. 0 for a closed cache. */
+ * last pass added come last; else `out` is as it was. 0 for a closed cache. */
 uint32_t vtex_cache_loads(vtex_cache *at, vtex_load *out, size_t room);
+
+/* Which loads under way no wanted page needs any more. `list` has wanted pages as vtex_cache_pass_pages takes them, those of the last picture
+ * or of several. `states` gets a byte for each load, in the order of vtex_cache_loads: VTEX_UNDER_WAY where a page of the list is the load's
+ * page or lies below it, else VTEX_LOST. So vtex_cache_settle takes it as it is, or with VTEX_CAME written over those that came. A load that a
+ * pass just planned is needed by the pages of that pass. Changes nothing. Costs what is wanted, and a step a load.
+ * VTEX_DONE; VTEX_BAD_NUMBER where `list` has another number or `room` is not the number of loads; VTEX_CLOSED. */
+uint32_t vtex_cache_stale_loads(vtex_cache *at, const uint32_t *list, size_t count, uint8_t *states, size_t room);
 
 /* Says what became of the loads under way: a byte for each, in the order of vtex_cache_loads. For each that came its victim is unmapped and
  * its page mapped; one that was lost is forgotten; one that is under way stays so. The pages that came are the most recent ones.
@@ -129,7 +137,8 @@ uint32_t vtex_cache_loads(vtex_cache *at, vtex_load *out, size_t room);
 uint32_t vtex_cache_settle(vtex_cache *at, const uint8_t *states, size_t count);
 
 /* How many changes the last settling made, or the opening. If there is room for them all they are written to the front of `out`, in an
- * order in which they may be uploaded: a page is taken out of its frame before the next is mapped to it. 0 for a closed cache. */
+ * order in which they may be uploaded: a page is taken out of its frame before the next is mapped to it. Else `out` is as it was. 0 for a
+ * closed cache. */
 uint32_t vtex_cache_changes(vtex_cache *at, vtex_change *out, size_t room);
 
 /* The first mapped page of a page's line, which has the page itself, its parent and so on to the root: VTEX_DONE, VTEX_BAD_NUMBER,

@@ -27,6 +27,7 @@ static int is_info(uint32_t free, uint32_t under_way, uint32_t changed) {
 static void closed(void) {
     const uint32_t pixels[5] = {3, 0, 2, 0, 0};
     const uint8_t states[1] = {0};
+    uint8_t told[1] = {9};
     const vtex_wanted list[1] = {{0, 1}};
     vtex_place place = {9, 9, 9};
     vtex_info info = {9, 9, 9, 9};
@@ -36,6 +37,7 @@ static void closed(void) {
     CHECK(vtex_cache_pass_wanted(cache, list, 1, 8) == VTEX_CLOSED);
     CHECK(vtex_cache_pass_pages(cache, pixels, 1, 8) == VTEX_CLOSED);
     CHECK(vtex_cache_settle(cache, states, 0) == VTEX_CLOSED);
+    CHECK(vtex_cache_stale_loads(cache, pixels, 1, told, 1) == VTEX_CLOSED && told[0] == 9);
     CHECK(vtex_cache_loads(cache, loads, 8) == 0 && loads[0].page == 9);
     CHECK(vtex_cache_changes(cache, changes, 8) == 0 && changes[0].page == 9);
     CHECK(vtex_cache_look_up(cache, 0, &place) == VTEX_CLOSED && place.page == 9);
@@ -102,6 +104,32 @@ static void forms(void) {
     CHECK(vtex_cache_pass_counts(cache, pixels, 5, 0) == VTEX_DONE && vtex_cache_loads(cache, loads, 8) == 0);
 }
 
+/* The two loads under way, 16 and 17, by what these pages need. */
+static int are_states(const uint32_t *list, size_t count, uint8_t one, uint8_t other) {
+    uint8_t states[3] = {9, 9, 9};
+    return vtex_cache_stale_loads(cache, list, count, states, 2) == VTEX_DONE && states[0] == one && states[1] == other && states[2] == 9;
+}
+
+/* Which loads no wanted page needs: over pages 0 to 15 of 8 by 8 texels lie 16 to 19, and the root 20 over those. */
+static void stale(void) {
+    const vtex_shape eight = {8, 8, 2};
+    const uint32_t first[2] = {0, 2}, below[2] = {VTEX_NO_PAGE, 5}, beside[1] = {10}, above[2] = {20, VTEX_NO_PAGE}, own[1] = {17}, past[2] = {0, 21};
+    uint8_t states[3] = {9, 9, 9};
+    CHECK(vtex_cache_open(cache, &eight, 4, 1) == VTEX_DONE && vtex_cache_stale_loads(cache, first, 2, states, 0) == VTEX_DONE);
+    CHECK(vtex_cache_pass_pages(cache, first, 2, 8) == VTEX_DONE && vtex_cache_loads(cache, loads, 8) == 2);
+    CHECK(is_load(0, 16, 1, VTEX_NO_PAGE) && is_load(1, 17, 2, VTEX_NO_PAGE));
+    CHECK(are_states(first, 2, VTEX_UNDER_WAY, VTEX_UNDER_WAY));
+    CHECK(are_states(below, 2, VTEX_UNDER_WAY, VTEX_LOST) && are_states(own, 1, VTEX_LOST, VTEX_UNDER_WAY));
+    CHECK(are_states(beside, 1, VTEX_LOST, VTEX_LOST) && are_states(above, 2, VTEX_LOST, VTEX_LOST) && are_states(first, 0, VTEX_LOST, VTEX_LOST));
+    CHECK(vtex_cache_stale_loads(cache, past, 2, states, 2) == VTEX_BAD_NUMBER && vtex_cache_stale_loads(cache, first, 2, states, 1) == VTEX_BAD_NUMBER);
+    CHECK(vtex_cache_stale_loads(cache, first, 2, states, 3) == VTEX_BAD_NUMBER && states[0] == 9 && vtex_cache_loads(cache, loads, 8) == 2);
+    /* what is told may be settled: the first load is forgotten, and the second comes */
+    CHECK(vtex_cache_stale_loads(cache, own, 1, states, 2) == VTEX_DONE && vtex_cache_settle(cache, states, 2) == VTEX_DONE);
+    CHECK(vtex_cache_loads(cache, loads, 8) == 1 && is_load(0, 17, 2, VTEX_NO_PAGE) && vtex_cache_changes(cache, changes, 8) == 0);
+    states[0] = VTEX_CAME;
+    CHECK(vtex_cache_settle(cache, states, 1) == VTEX_DONE && is_place(2, 17, 2, 1) && is_place(0, 20, 0, 2));
+}
+
 /* Loads that come, are lost and stay under way, over several passes. */
 static void passes(void) {
     const uint32_t first[2] = {0, 2}, second[2] = {1, 3};
@@ -141,6 +169,7 @@ int main(void) {
     opened();
     misused();
     forms();
+    stale();
     passes();
     CHECK(vtex_cache_close(cache) == VTEX_DONE);
     closed();

@@ -1,5 +1,5 @@
 # Writes the walks of the exports that take a cache, from the kinds of their other parameters. Run it in crates/vtex_c, then `rt tidy`.
-# Kinds: num (u32), slice (&[T]), ref (&T), mutref (&mut T), mutslice (&mut [T], one alone). The inner function takes `&mut Cache` and then
+# Kinds: num (u32), slice (&[T]), ref (&T), mutref (&mut T), mutslice (&mut [T], alone or behind one number or slice). The inner function takes `&mut Cache` and then
 # the same parameters, answers a u32, and has one clause, a record with a field `long` where there is a mutslice. vtex_cache_init is not among them.
 import os
 CR='vtex_c'
@@ -55,7 +55,7 @@ def gen(fn, callee, mod, params, fact, fact_imports, comment):
     move ! (0 ∷ 2 ∷ []) $ fjoin ! $ move ! (0 ∷ 2 ∷ []) $ fjoin ! $ nothing ! $ fjoin ! $ keep ! (5 ∷ 0 ∷ 4 ∷ 2 ∷ []) $ group ! 3 $ frame ! $
 '''
     elif has_mut:
-        assert [p[0] for p in params]==['num','mutslice']
+        assert [p[0] for p in params] in (['num','mutslice'],['slice','mutslice'])
         endstep='''    move ! (2 ∷ []) $ fsplit ! $ move ! (1 ∷ []) $ fsplit ! $ fsplit ! $ fsplit ! $
     -- [what says the slice's last value; its length; its borrow; nothing; the number's; the cache; its borrow; the result; the tokens]
     move ! (0 ∷ 2 ∷ []) $ fjoin ! $ move ! (0 ∷ 2 ∷ []) $ fjoin ! $ move ! (2 ∷ 0 ∷ []) $ fjoin ! $ nothing ! $ fjoin ! $
@@ -133,6 +133,7 @@ gen('vtex_cache_pass_counts','pass_counts','cache',[('slice','u32',None),('num',
 gen('vtex_cache_pass_wanted','pass_wanted','cache',[('slice','ListedRow',row('feedback','Listed')),('num','u32',None)],'IsPassedBy x (pixels_of a.1.0.now) (AreListed a.1.0.now) a.1.1.0 u %s',CF%'IsPassedBy, AreListed'+TALLY%'pixels_of',lent('pass_wanted'))
 gen('vtex_cache_pass_pages','pass_pages','cache',[('slice','u32',None),('num','u32',None)],'IsPassedBy x (pixels_of (map one_pixel a.1.0.now)) (ArePages a.1.0.now) a.1.1.0 u %s',CF%'IsPassedBy, ArePages'+TALLY%'pixels_of, one_pixel'+'\nuse Rattle.std.specs.Prelude.{map}',lent('pass_pages'))
 gen('vtex_cache_loads','loads','cache',[('mutslice','LoadRow',row('loads','Load'))],'IsListed x a.1.0.now u ws.1.0 %s',CF%'IsListed',lent('loads'))
+gen('vtex_cache_stale_loads','stale_loads','cache',[('slice','u32',None),('mutslice','u8',None)],'AreStates x a.1.0.now a.1.1.0.now u ws.1.1.0 %s',CF%'AreStates',lent('stale_loads'))
 gen('vtex_cache_settle','settle','cache',[('slice','u8',None)],'IsSettledBy x a.1.0.now u %s',CF%'IsSettledBy',lent('settle'))
 gen('vtex_cache_changes','changes','cache',[('mutslice','ChangeRow',row('changes','Change'))],'AreChanges x a.1.0.now u ws.1.0 %s',CF%'AreChanges',lent('changes'))
 gen('vtex_cache_look_up','look_up','cache',[('num','u32',None),('mutref','PlaceRow',row('places','Place'))],'IsLookedUp x a.1.0 a.1.1.0.now u ws.1.1.0 %s',CF%'IsLookedUp',lent('look_up'))

@@ -6,3 +6,4 @@ pub mod UnderWay
 pub mod Passing
 pub mod Leveling
 pub mod Listing
+pub mod Needing

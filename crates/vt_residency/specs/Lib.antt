@@ -4,3 +4,4 @@ pub mod Places
 pub mod Changes
 pub mod Residencies
 pub mod Levels
+pub mod Needs

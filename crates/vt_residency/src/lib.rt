@@ -6,6 +6,7 @@ mod changes;
 mod feedback;
 mod levels;
 mod loads;
+mod needs;
 mod places;
 mod residency;
 mod tally;

@@ -11,6 +11,7 @@ ghost use Rattle.vt_evict.specs.Missing.{is_mapped};
 ghost use Rattle.vt_evict.specs.Views.{IsTable, free_frames};
 ghost use Rattle.vt_evict.specs.Batches.{IsLawful, read_entries};
 ghost use Rattle.vt_residency.specs.Places.{IsPlaceOf};
+ghost use Rattle.vt_residency.specs.Needs.{state_for};
 ghost use Rattle.vt_residency.specs.Tallies.{IsTally, pixels_of, one_pixel};
 ghost use Rattle.vt_residency.specs.Residencies.{IsPlanned, IsPassed, IsKept, IsCommitted, IsInfo, first_residency, pinned_at, has_not_come, is_over};
 
@@ -18,6 +19,7 @@ use crate::changes::change_count;
 use crate::feedback::{Listed, add_counts, add_listed, add_pages};
 use crate::levels::put_level;
 use crate::loads::{add_apart, unmarked};
+use crate::needs::{count_needed, put_states};
 use crate::places::{Place, find};
 use crate::tally::Tally;
 use std::alloc::Global;
@@ -244,6 +246,19 @@ impl Residency {
         ensures few { length result.now < 2 ^ 31 }
     {
         self.came.slice()
+    }
+
+    /// Writes a number for each load that is under way, as `settle` takes them: 2 where one of a list of wanted pages needs its page,
+    /// which is then in that page's line, and 1 where none does. What is no page needs none. It takes no memory.
+    pub fn put_needs(&mut self, wanted: &[u32], states: &mut [u8])
+        requires { length states.old ≡ length self.old.loads }
+        ensures same { self.new ≡ self.old }
+        ensures states { states.new ≡ map (state_for self.old.table.shape wanted.now) self.old.loads }
+    {
+        let pages = self.geometry.page_count();
+        count_needed(&mut self.tally, &self.geometry, wanted);
+        put_states(self.loads.slice(), &self.tally, pages, states);
+        self.tally.clear(pages);
     }
 
     /// The look-up of a page.

@@ -6,6 +6,7 @@ ghost use Rattle.std.specs.List.{All};
 ghost use Rattle.vt_pages.specs.Pages.{pages_of};
 ghost use Rattle.vt_feedback.specs.Wants.{IsWants};
 ghost use Rattle.vt_feedback.specs.Ranks.{most_pixels, rank_of};
+ghost use Rattle.vt_residency.specs.Needs.{is_counted};
 ghost use Rattle.vt_residency.specs.Tallies.{IsTally, with_pixels};
 
 use std::alloc::Global;
@@ -80,6 +81,16 @@ impl Tally {
         }
     }
 
+    /// Whether a page has a count above 0.
+    pub fn is_counted(&self, pages: u32, page: u32) -> bool
+        requires tally { IsTally pages self.now.counts.items self.now.pages }
+        requires inside { page < pages }
+        ensures { result ≡ is_counted self.now.counts.items page }
+    {
+        let _ = pages;
+        self.counts[page as usize] > 0
+    }
+
     // Takes out the page that was listed last.
     fn pop(&mut self, pages: u32) -> Option<u32>
         requires tally { IsTally pages self.old.counts.items self.old.pages }
@@ -92,8 +103,8 @@ impl Tally {
         Some(page)
     }
 
-    // Takes all pixels out.
-    fn clear(&mut self, pages: u32)
+    /// Takes all pixels out.
+    pub fn clear(&mut self, pages: u32)
         requires { IsTally pages self.old.counts.items self.old.pages }
         ensures tally { IsTally pages self.new.counts.items self.new.pages }
         ensures none { self.new.pages.elements ≡ [] }

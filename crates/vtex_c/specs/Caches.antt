@@ -1,11 +1,12 @@
 -- What the calls from C do to a cache, by the number that they answer.
-use Rattle.std.specs.Prelude.{◌≡◌, ℕ, ◌<◌, ◌≤◌, Option, None, Some, List, length, IfSome, IfNone}
+use Rattle.std.specs.Prelude.{◌≡◌, ℕ, ◌<◌, ◌≤◌, Option, None, Some, List, length, map, IfSome, IfNone}
 use Rattle.std.specs.List.{All}
 use Rattle.vt_pages.specs.Limits.{most_frames}
 use Rattle.vt_pages.specs.Pages.{pages_of}
 use Rattle.vt_residency.specs.Changes.{HasChanges}
 use Rattle.vt_residency.specs.Levels.{IsLevelTable, HasLevelLength}
 use Rattle.vt_residency.specs.Loads.{HasLoads}
+use Rattle.vt_residency.specs.Needs.{state_for}
 use Rattle.vt_residency.specs.Places.{IsPlaceOf}
 use Rattle.vt_residency.specs.Residencies.{ResidencyView, IsPassed, IsKept, IsCommitted, IsInfo, first_residency}
 use Rattle.vt_residency.specs.Tallies.{IsPageOrNone}
@@ -53,6 +54,7 @@ ArePages list a = All (IsPageOrNone (pages_of a.table.shape)) list
 -- a pass was planned: 0; its feedback does not fit: 2; memory was refused, and at most the order changed: 3; there is no residency: 4
 pub record IsPassedBy (old : Cache) (pixels : ℕ → ℕ) (Fits : ResidencyView → Type 0) (q status : ℕ) (new : Cache) : Type 0 where
   pub statuses : (status < 5) × (status ≡ 1 → ⊥)
+  pub fits : status ≡ 0 → Holding Fits old.inner
   pub planned : status ≡ 0 → Between (λ a b. IsPassed a pixels q b) old.inner new.inner
   pub unfit : status ≡ 2 → Holding (λ a. Fits a → ⊥) old.inner
   pub same : status ≡ 2 → new.inner ≡ old.inner
@@ -64,28 +66,42 @@ pub record IsListed (old : Cache) (before : List Load) (count : ℕ) (after : Li
   pub same : new ≡ old
   pub long : length after ≡ length before
   pub listed : IfSome old.inner (λ a. HasLoads a.loads before count after)
-  pub closed : IfNone old.inner (count ≡ 0)
+  pub closed : IfNone old.inner ((count ≡ 0) × (after ≡ before))
 
 -- the loads were settled: 0; there is not a byte for each: 2; memory was refused, and the residency is gone: 3; there is none: 4
 pub record IsSettledBy (old : Cache) (states : List ℕ) (status : ℕ) (new : Cache) : Type 0 where
   pub statuses : (status < 5) × (status ≡ 1 → ⊥)
+  pub fits : status ≡ 0 → Holding (λ a. length states ≡ length a.loads) old.inner
   pub settled : status ≡ 0 → Between (λ a b. IsCommitted a states b) old.inner new.inner
   pub unfit : status ≡ 2 → Holding (λ a. length states ≡ length a.loads → ⊥) old.inner
   pub kept : status ≡ 2 → new.inner ≡ old.inner
   pub gone : status ≡ 3 → new.inner ≡ None
   pub closed : status ≡ 4 → (old.inner ≡ None) × (new.inner ≡ None)
 
+-- a number was told for each load that is under way, by what wanted pages need: 0; they are no pages, or there is not a byte for each load: 2;
+-- there is no residency: 4
+pub record AreStates (old : Cache) (wanted before : List ℕ) (status : ℕ) (after : List ℕ) (new : Cache) : Type 0 where
+  pub same : new ≡ old
+  pub long : length after ≡ length before
+  pub statuses : (status < 5) × (status ≡ 1 → ⊥) × (status ≡ 3 → ⊥)
+  pub fits : status ≡ 0 → Holding (λ a. ArePages wanted a × (length before ≡ length a.loads)) old.inner
+  pub told : status ≡ 0 → Holding (λ a. after ≡ map (state_for a.table.shape wanted) a.loads) old.inner
+  pub unfit : status ≡ 2 → Holding (λ a. ArePages wanted a → length before ≡ length a.loads → ⊥) old.inner
+  pub closed : status ≡ 4 → old.inner ≡ None
+  pub kept : (status ≡ 0 → ⊥) → after ≡ before
+
 -- the changes of the last settling were listed, or there is no residency
 pub record AreChanges (old : Cache) (before : List Change) (count : ℕ) (after : List Change) (new : Cache) : Type 0 where
   pub same : new ≡ old
   pub long : length after ≡ length before
   pub listed : IfSome old.inner (λ a. HasChanges a.came before count after)
-  pub closed : IfNone old.inner (count ≡ 0)
+  pub closed : IfNone old.inner ((count ≡ 0) × (after ≡ before))
 
 -- a page was looked up: 0; there is no such page: 2; there is no residency: 4
 pub record IsLookedUp (old : Cache) (page : ℕ) (before : Place) (status : ℕ) (after : Place) (new : Cache) : Type 0 where
   pub same : new ≡ old
   pub statuses : (status < 5) × (status ≡ 1 → ⊥) × (status ≡ 3 → ⊥)
+  pub inside : status ≡ 0 → Holding (λ a. page < pages_of a.table.shape) old.inner
   pub found : status ≡ 0 → Holding (λ a. IsPlaceOf a.table.shape a.table.entries page after) old.inner
   pub outside : status ≡ 2 → Holding (λ a. pages_of a.table.shape ≤ page) old.inner
   pub closed : status ≡ 4 → old.inner ≡ None

@@ -29,6 +29,8 @@ page_in (Some p) = p
 -- a level was told: 0; the shape is refused: 1; it has no such level: 2
 pub record IsLevelTold (shape : VtexShape) (level : ℕ) (old : Level) (status : ℕ) (new : Level) : Type 0 where
   pub statuses : status < 3
+  pub lawful : status ≡ 0 → IsWithinLimits (shape_in shape)
+  pub inside : status ≡ 0 → level < levels_of (shape_in shape)
   pub told : status ≡ 0 → IsLevelOf (shape_in shape) level new
   pub refused : status ≡ 1 → IsRefused (shape_in shape)
   pub outside : status ≡ 2 → level < levels_of (shape_in shape) → ⊥
@@ -37,6 +39,8 @@ pub record IsLevelTold (shape : VtexShape) (level : ℕ) (old : Level) (status :
 -- a page was named: 0; the shape is refused: 1; it has no such page: 2
 pub record IsNamed (shape : VtexShape) (page : ℕ) (old : VtexName) (status : ℕ) (new : VtexName) : Type 0 where
   pub statuses : status < 3
+  pub lawful : status ≡ 0 → IsWithinLimits (shape_in shape)
+  pub inside : status ≡ 0 → page < pages_of (shape_in shape)
   pub named : status ≡ 0 → name_in new ≡ name_at (shape_in shape) page
   pub refused : status ≡ 1 → IsRefused (shape_in shape)
   pub outside : status ≡ 2 → page < pages_of (shape_in shape) → ⊥
@@ -45,6 +49,8 @@ pub record IsNamed (shape : VtexShape) (page : ℕ) (old : VtexName) (status : �
 -- the page of a name was told: 0; the shape is refused: 1; no page has this name: 2
 pub record IsPageTold (shape : VtexShape) (name : VtexName) (old status new : ℕ) : Type 0 where
   pub statuses : status < 3
+  pub lawful : status ≡ 0 → IsWithinLimits (shape_in shape)
+  pub inside : status ≡ 0 → IsPage (shape_in shape) (name_in name)
   pub page : status ≡ 0 → new ≡ index_of (shape_in shape) (name_in name)
   pub refused : status ≡ 1 → IsRefused (shape_in shape)
   pub outside : status ≡ 2 → IsPage (shape_in shape) (name_in name) → ⊥

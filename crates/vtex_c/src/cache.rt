@@ -3,7 +3,7 @@
 ghost use Rattle.std.specs.Prelude.{◌≡◌, ◌&&◌, nat_le, map, None, slice_index};
 ghost use Rattle.vt_pages.specs.Limits.{most_frames};
 ghost use Rattle.vt_residency.specs.Tallies.{pixels_of, one_pixel};
-ghost use Rattle.vtex_c.specs.Caches.{IsOpened, IsPassedBy, AreCounts, AreListed, ArePages, IsListed, IsSettledBy, AreChanges, IsLookedUp, IsTabled, IsTold, IsClosed};
+ghost use Rattle.vtex_c.specs.Caches.{IsOpened, IsPassedBy, AreCounts, AreListed, ArePages, IsListed, AreStates, IsSettledBy, AreChanges, IsLookedUp, IsTabled, IsTold, IsClosed};
 
 use crate::shape::{VtexShape, geometry_of};
 use crate::{BAD_NUMBER, BAD_SHAPE, CLOSED, DONE, NO_MEMORY};
@@ -117,6 +117,25 @@ pub fn loads(cache: &mut Cache, out: &mut [Load]) -> u32
     match &cache.inner {
         None => 0,
         Some(residency) => put_loads(residency.loads(), out),
+    }
+}
+
+/// Writes a byte for each load that is under way, as `settle` takes them: 2 where a wanted page needs it, and 1 where none does.
+pub fn stale_loads(cache: &mut Cache, wanted: &[u32], states: &mut [u8]) -> u32
+    ensures { AreStates cache.old wanted.now states.old result states.new cache.new }
+{
+    match &mut cache.inner {
+        None => CLOSED,
+        Some(residency) => {
+            if states.len() != residency.loads().len() {
+                return BAD_NUMBER;
+            }
+            if !are_pages_or_none(wanted, residency.page_count()) {
+                return BAD_NUMBER;
+            }
+            residency.put_needs(wanted, states);
+            DONE
+        }
     }
 }
 

@@ -7,11 +7,11 @@ ghost use Rattle.std.specs.Borrow.{full_share, sem};
 ghost use Rattle.std.specs.Mem.{type_size};
 ghost use Rattle.std.specs.Ptr.{lies_at, room_at};
 ghost use Rattle.vt_pages.specs.Laws.{IsInside};
-ghost use Rattle.vt_pages.specs.Pages.{levels_of, pages_of, parent_of, pinned_of, texel_page};
+ghost use Rattle.vt_pages.specs.Pages.{IsWithinLimits, levels_of, pages_of, parent_of, pinned_of, texel_page};
 ghost use Rattle.vt_residency.specs.Tallies.{pixels_of, one_pixel};
 ghost use Rattle.vtex_c.specs.contracts.cache.Cache.{the_row};
 ghost use Rattle.vtex_c.specs.declared.cache.Cache.{Cache};
-ghost use Rattle.vtex_c.specs.Caches.{IsOpened, IsPassedBy, AreCounts, AreListed, ArePages, IsListed, IsSettledBy, AreChanges, IsLookedUp, IsTabled, IsTold, IsClosed};
+ghost use Rattle.vtex_c.specs.Caches.{IsOpened, IsPassedBy, AreCounts, AreListed, ArePages, IsListed, AreStates, IsSettledBy, AreChanges, IsLookedUp, IsTabled, IsTold, IsClosed};
 ghost use Rattle.vtex_c.specs.Shapes.{shape_in, page_in, IsLevelTold, IsNamed, IsPageTold};
 ghost use Rattle.vtex_c.specs.Statuses.{IsRefused};
 ghost use Rattle.vtex_c.specs.Stores.{IsStoreOpened, IsTileFound};
@@ -42,6 +42,7 @@ const BAD_STORE: u32 = 5;
 /// How many pages the chain of a shape has.
 #[unsafe(no_mangle)]
 pub extern "C" fn vtex_page_count(shape: &VtexShape, pages: &mut u32) -> u32
+    ensures lawful { result ≡ 0 → IsWithinLimits (shape_in shape.now) }
     ensures pages { result ≡ 0 → pages.new ≡ pages_of (shape_in shape.now) }
     ensures refused { (result ≡ 0 → ⊥) → (result ≡ 1) × IsRefused (shape_in shape.now) × (pages.new ≡ pages.old) }
 {
@@ -57,6 +58,7 @@ pub extern "C" fn vtex_page_count(shape: &VtexShape, pages: &mut u32) -> u32
 /// How many levels the chain of a shape has.
 #[unsafe(no_mangle)]
 pub extern "C" fn vtex_level_count(shape: &VtexShape, levels: &mut u32) -> u32
+    ensures lawful { result ≡ 0 → IsWithinLimits (shape_in shape.now) }
     ensures levels { result ≡ 0 → levels.new ≡ levels_of (shape_in shape.now) }
     ensures refused { (result ≡ 0 → ⊥) → (result ≡ 1) × IsRefused (shape_in shape.now) × (levels.new ≡ levels.old) }
 {
@@ -93,8 +95,10 @@ pub extern "C" fn vtex_page_of_texel(
     y: u32,
     page: &mut u32,
 ) -> u32
+    ensures lawful { result ≡ 0 → IsWithinLimits (shape_in shape.now) }
     ensures page { result ≡ 0 → page.new ≡ texel_page (shape_in shape.now) level x y }
     ensures refused { result ≡ 1 → IsRefused (shape_in shape.now) × (page.new ≡ page.old) }
+    ensures inside { result ≡ 0 → IsInside (shape_in shape.now) level x y }
     ensures outside { result ≡ 2 → (IsInside (shape_in shape.now) level x y → ⊥) × (page.new ≡ page.old) }
     ensures statuses { result ≤ 2 }
 {
@@ -142,8 +146,10 @@ pub extern "C" fn vtex_page_at(shape: &VtexShape, name: &VtexName, page: &mut u3
 /// The page of the next coarser level over a page's place, or 4294967295 for the root.
 #[unsafe(no_mangle)]
 pub extern "C" fn vtex_parent(shape: &VtexShape, page: u32, parent: &mut u32) -> u32
+    ensures lawful { result ≡ 0 → IsWithinLimits (shape_in shape.now) }
     ensures parent { result ≡ 0 → parent.new ≡ page_in (parent_of (shape_in shape.now) page) }
     ensures refused { result ≡ 1 → IsRefused (shape_in shape.now) }
+    ensures inside { result ≡ 0 → page < pages_of (shape_in shape.now) }
     ensures outside { result ≡ 2 → pages_of (shape_in shape.now) ≤ page }
     ensures kept { (result ≡ 0 → ⊥) → parent.new ≡ parent.old }
     ensures statuses { result ≤ 2 }
@@ -161,6 +167,7 @@ pub extern "C" fn vtex_parent(shape: &VtexShape, page: u32, parent: &mut u32) ->
 /// How many pages the last so many levels have, which are the last indexes.
 #[unsafe(no_mangle)]
 pub extern "C" fn vtex_pinned_count(shape: &VtexShape, levels: u32, pages: &mut u32) -> u32
+    ensures lawful { result ≡ 0 → IsWithinLimits (shape_in shape.now) }
     ensures pages { result ≡ 0 → pages.new ≡ pinned_of (shape_in shape.now) levels }
     ensures refused { (result ≡ 0 → ⊥) → (result ≡ 1) × IsRefused (shape_in shape.now) × (pages.new ≡ pages.old) }
 {
@@ -265,6 +272,20 @@ pub unsafe extern "C" fn vtex_cache_loads(at: *mut VtexCache, out: &mut [Load]) 
     ensures* { ∃ₛ (λ (d : Cache). sem 𝓛 (lies_at the_row full_share at d) ∗ ⌜ IsListed c out.old result out.new d ⌝) }
 {
     cache::loads(&mut *(at as *mut Cache), out)
+}
+
+/// Tells which loads under way no wanted page needs, by a byte for each as `vtex_cache_settle` takes it: 1 for such a load, else 2.
+#[unsafe(no_mangle)]
+pub unsafe extern "C" fn vtex_cache_stale_loads(
+    at: *mut VtexCache,
+    wanted: &[u32],
+    states: &mut [u8],
+) -> u32
+    ghost c: { Cache }
+    requires* { sem 𝓛 (lies_at the_row full_share at c) }
+    ensures* { ∃ₛ (λ (d : Cache). sem 𝓛 (lies_at the_row full_share at d) ∗ ⌜ AreStates c wanted.now states.old result states.new d ⌝) }
+{
+    cache::stale_loads(&mut *(at as *mut Cache), wanted, states)
 }
 
 /// Settles the loads that are under way. `states` has a byte for each: 0 it came, 2 it is still under way, else it was lost.
