@@ -8,7 +8,7 @@ use Rattle.vt_journal.specs.Shape.{Shape}
 use Rattle.vt_journal.specs.Pages.{pages_of, levels_of, level_of, ancestors_of, ancestor_of, root_of, texel_page, IsWithinLimits}
 use Rattle.vt_journal.specs.PagesLookups.{lookup}
 use Rattle.vt_journal.specs.Laws.{ReachesRoot, IsInside}
-use Rattle.vt_journal.proofs.Lines.{reaches_root}
+use Rattle.vt_pages.proofs.Lines.{reaches_root}
 use Rattle.vt_draw.specs.Rows.{row_level, row_place}
 use Rattle.vt_draw.specs.declared.lookups.Found.{Found}
 use Rattle.vt_draw.specs.Lookups.{Note, IsFinest}

@@ -12,8 +12,8 @@ use Rattle.vt_journal.specs.Shape.{Shape}
 use Rattle.vt_journal.specs.Pages.{pages_of, level_of, ancestors_of, root_of, IsWithinLimits}
 use Rattle.vt_journal.specs.PagesLookups.{lookup}
 use Rattle.vt_journal.specs.Laws.{ReachesRoot}
-use Rattle.vt_journal.proofs.Lines.{reaches_root}
-use Rattle.vt_journal.proofs.Parents.{level_below}
+use Rattle.vt_pages.proofs.Lines.{reaches_root}
+use Rattle.vt_pages.proofs.Parents.{level_below}
 use Rattle.vt_draw.specs.Rows.{RowView}
 use Rattle.vt_draw.specs.Shots.{shot_row, wanted_page, pixels_wanting, wants_in_rows}
 use Rattle.vt_draw.proofs.Places.{wanted_in_chain}
