@@ -4,11 +4,11 @@ use Rattle.vt_definitions.specs.Depths.{texel_bytes, word_bytes}
 use Rattle.vt_pages.specs.Shape.{Shape}
 use Rattle.vt_camera.specs.Rows.{RowView, row_level}
 use Rattle.vt_draw.specs.Lookups.{Note}
-use Rattle.vt_plain_bilinear.specs.declared.corners.Corners.{Corners}
-use Rattle.vt_plain_bilinear.specs.declared.corners.Weights.{Weights}
-use Rattle.vt_plain_bilinear.specs.declared.blends.Texels.{Texels}
-use Rattle.vt_plain_bilinear.specs.Corners.{corners_of, weights_of}
-use Rattle.vt_plain_bilinear.specs.Blends.{blended_word}
+use Rattle.vt_blend.specs.declared.corners.Corners.{Corners}
+use Rattle.vt_blend.specs.declared.corners.Weights.{Weights}
+use Rattle.vt_blend.specs.declared.blends.Texels.{Texels}
+use Rattle.vt_blend.specs.Corners.{corners_of, weights_of}
+use Rattle.vt_blend.specs.Blends.{blended_word}
 use Rattle.vt_plain_bilinear.specs.Served.{AreServed, IsBlended, AreBlended, AreTexelsCounted}
 use Rattle.vt_plain_bilinear.proofs.Kept.{all_served_kept}
 

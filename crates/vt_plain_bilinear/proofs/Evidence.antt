@@ -9,7 +9,7 @@ use Rattle.vt_camera.specs.Rows.{RowView, row_level}
 use Rattle.vt_draw.specs.Lookups.{Note, EntryNote, WordNote}
 use Rattle.vt_pictures.specs.Evidence.{IsBy, AreShown}
 use Rattle.vt_pictures.proofs.NearestNotes.{finer, finer_said, finer_there}
-use Rattle.vt_plain_bilinear.specs.Corners.{corners_of}
+use Rattle.vt_blend.specs.Corners.{corners_of}
 use Rattle.vt_plain_bilinear.specs.Served.{coarser_place, IsServed, IsBlended, AreBlended}
 use Rattle.vt_plain_bilinear.proofs.Kept.{served_kept}
 

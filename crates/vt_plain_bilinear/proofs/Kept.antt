@@ -6,8 +6,8 @@ use Rattle.vt_pages.specs.Pages.{texel_page}
 use Rattle.vt_draw.specs.Lookups.{Note, WordNote, IsFinest}
 use Rattle.vt_draw.proofs.DrawnPixels.{finest_kept, finest_moved}
 use Rattle.vt_plain_bilinear.specs.declared.served.Memo.{Memo}
-use Rattle.vt_plain_bilinear.specs.declared.corners.Corners.{Corners}
-use Rattle.vt_plain_bilinear.specs.declared.blends.Texels.{Texels}
+use Rattle.vt_blend.specs.declared.corners.Corners.{Corners}
+use Rattle.vt_blend.specs.declared.blends.Texels.{Texels}
 use Rattle.vt_plain_bilinear.specs.Served.{GoesOn, coarser_place, IsServed, AreServed, IsMemo}
 
 -- one call after the other

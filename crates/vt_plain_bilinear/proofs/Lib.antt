@@ -1,4 +1,3 @@
-pub mod Weighing
 pub mod Joined
 pub mod PlainBlends
 pub mod Counts

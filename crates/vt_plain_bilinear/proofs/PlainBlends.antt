@@ -13,11 +13,11 @@ use Rattle.vt_camera.specs.Paths.{PathView}
 use Rattle.vt_camera.specs.Rows.{RowView, row_of, row_level}
 use Rattle.vt_draw.specs.Plain.{chain_of}
 use Rattle.vt_tiles.proofs.Spans.{span_add, span_length}
-use Rattle.vt_plain_bilinear.specs.declared.corners.Corners.{Corners}
-use Rattle.vt_plain_bilinear.specs.declared.corners.Weights.{Weights}
-use Rattle.vt_plain_bilinear.specs.declared.blends.Texels.{Texels}
-use Rattle.vt_plain_bilinear.specs.Corners.{corners_of, weights_of, AreInside}
-use Rattle.vt_plain_bilinear.specs.Blends.{blended_word, texels_of, blend_of, blend_bytes}
+use Rattle.vt_blend.specs.declared.corners.Corners.{Corners}
+use Rattle.vt_blend.specs.declared.corners.Weights.{Weights}
+use Rattle.vt_blend.specs.declared.blends.Texels.{Texels}
+use Rattle.vt_blend.specs.Corners.{corners_of, weights_of, AreInside}
+use Rattle.vt_blend.specs.Blends.{blended_word, texels_of, blend_of, blend_bytes}
 use Rattle.vt_plain_bilinear.specs.Plain.{row_blends, first_blended_rows}
 use Rattle.vt_plain_bilinear.proofs.Joined.{joined, length-word_bytes}
 

@@ -20,21 +20,15 @@ use Rattle.vt_pictures.specs.Scenes.{Scene}
 use Rattle.vt_pictures.specs.Replays.{scene_row}
 use Rattle.vt_pictures.specs.FilterLaws.{picture_wants}
 use Rattle.vt_pictures.specs.NearestPlain.{serves_itself}
-use Rattle.vt_plain_bilinear.specs.declared.blends.Texels.{Texels}
-use Rattle.vt_plain_bilinear.specs.declared.served.Pages.{Pages}
-use Rattle.vt_plain_bilinear.specs.Corners.{corners_of, weights_of}
-use Rattle.vt_plain_bilinear.specs.Blends.{blended_word, texels_of, blend_of}
-use Rattle.vt_plain_bilinear.specs.Served.{pages_about, times_among, texels_wanting}
+use Rattle.vt_blend.specs.declared.blends.Texels.{Texels}
+use Rattle.vt_blend.specs.declared.counting.Pages.{Pages}
+use Rattle.vt_blend.specs.Corners.{corners_of, weights_of}
+use Rattle.vt_blend.specs.Blends.{blended_word, texels_of, blend_of}
+use Rattle.vt_plain_bilinear.specs.Served.{pages_about, texels_wanting}
+use Rattle.vt_blend.specs.Counting.{times_among}
+use Rattle.vt_blend.proofs.CountedRuns.{run-most}
 use Rattle.vt_plain_bilinear.specs.Shown.{texel_under, blend_under, plain_blend}
 use Rattle.vt_plain_bilinear.specs.Inside.{row_level_inside, pixel_corners_inside}
-
--- a run has no more for any page than it has
-pub run-most : (page run p : ℕ) → run_of page run p ≤ run
-unfolding run_of
-run-most page run p = step (page == p) where
-  step : (b : Bool) → (if b then run else 0) ≤ run
-  step true = omega arith
-  step false = omega arith
 
 times-most : (pages : Pages) (p : ℕ) → times_among pages p ≤ 4
 unfolding times_among

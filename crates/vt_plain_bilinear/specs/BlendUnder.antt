@@ -14,9 +14,9 @@ use Rattle.vt_pictures.specs.Scenes.{Scene}
 use Rattle.vt_pictures.specs.Replays.{scene_row}
 use Rattle.vt_pictures.specs.Evidence.{AreTrue}
 use Rattle.vt_pictures.specs.NearestPixels.{served_by}
-use Rattle.vt_plain_bilinear.specs.declared.blends.Texels.{Texels}
-use Rattle.vt_plain_bilinear.specs.Corners.{corners_of, weights_of}
-use Rattle.vt_plain_bilinear.specs.Blends.{blended_word, texels_of, blend_of}
+use Rattle.vt_blend.specs.declared.blends.Texels.{Texels}
+use Rattle.vt_blend.specs.Corners.{corners_of, weights_of}
+use Rattle.vt_blend.specs.Blends.{blended_word, texels_of, blend_of}
 use Rattle.vt_plain_bilinear.specs.Served.{IsServed, IsBlended}
 use Rattle.vt_plain_bilinear.specs.Shown.{serving_level, texel_under, blend_under}
 use Rattle.vt_plain_bilinear.specs.Inside.{row_level_inside, pixel_corners_inside, covered}

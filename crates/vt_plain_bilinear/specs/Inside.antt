@@ -1,8 +1,5 @@
 -- Where the corners of a place lie: inside their level, in the page that serves them.
-use Rattle.std.proofs.Common.{◌≡◌, ℕ, ◌+◌, ◌-◌, ◌*◌, ◌/◌, ◌^◌, ◌<◌, ◌≤◌, Bool, true, false, refl, sym, ap, ◌∙◌, subst, mul_comm, arith}
-use Rattle.std.specs.Prelude.{◌==◌, if◌then◌else◌}
-use Rattle.std.proofs.lemmas.Bool.{eqb-false}
-use Rattle.std.proofs.Math.Nat.{div-div-eq-div-mul}
+use Rattle.std.proofs.Common.{◌≡◌, ℕ, ◌+◌, ◌-◌, ◌*◌, ◌/◌, ◌^◌, ◌<◌, ◌≤◌, sym, ◌∙◌, subst, arith}
 use Rattle.vt_definitions.specs.Sides.{side}
 use Rattle.vt_pages.specs.Shape.{Shape}
 use Rattle.vt_pages.specs.Pages.{levels_of, level_of, ancestor_of, texel_page, IsWithinLimits}
@@ -10,39 +7,14 @@ use Rattle.vt_pages.specs.Laws.{IsInside}
 use Rattle.vt_pages.proofs.Lines.{texel_is_page, lines_follow_places}
 use Rattle.vt_camera.specs.Paths.{PathView}
 use Rattle.vt_camera.specs.Rows.{row_level, row_spot, camera_spot}
-use Rattle.vt_camera.proofs.LevelLemmas.{inside_level, level_of_within}
+use Rattle.vt_camera.proofs.LevelLemmas.{level_of_within}
 use Rattle.vt_camera.proofs.Ground.{ring_place_below}
 use Rattle.vt_draw.specs.declared.lookups.Found.{Found}
 use Rattle.vt_draw.specs.Lookups.{Note, IsFinest}
 use Rattle.vt_draw.specs.Plain.{camera_at}
 use Rattle.vt_draw.specs.Shots.{shot_row}
-use Rattle.vt_plain_bilinear.specs.Corners.{after, corners_at, corners_of, AreInside}
-
--- the one after is another of as many
-pub after_inside : (many n : ℕ) → n < many → after many n < many
-after_inside many n inside = step (n + 1 == many) refl where
-  step : (b : Bool) → (n + 1 == many) ≡ b → (if b then 0 else n + 1) < many
-  step true e = omega (arith, inside)
-  step false e = let other = eqb-false _ _ e in grind arith
-
--- a place in 1/256 texel lies in a texel, and so does the place that is halved once a level
-pub texel_inside : (width place k : ℕ) → place < 256 * width → place / 2 ^ k / 256 < side width k
-texel_inside width place k inside =
-    let whole : place / 256 < width = omega (arith, inside) in
-    let swapped : place / 2 ^ k / 256 ≡ place / 256 / 2 ^ k =
-    div-div-eq-div-mul place (2 ^ k) 256 ∙ ap (λ (n : ℕ). place / n) (mul_comm (2 ^ k) 256) ∙ sym (div-div-eq-div-mul place 256 (2 ^ k)) in
-    omega (arith, swapped, inside_level width (place / 256) k whole)
-
--- corners of a place that lies in a texel
-pub corners_inside : (columns rows a b : ℕ) → a / 256 < columns → b / 256 < rows → AreInside columns rows (corners_at columns rows a b)
-corners_inside columns rows a b wide high = record {
-  column = wide;
-  next_column = after_inside columns (a / 256) wide;
-  line = high;
-  next_line = after_inside rows (b / 256) high;
-  across = omega arith;
-  down = omega arith;
-}
+use Rattle.vt_blend.specs.Corners.{corners_of, AreInside}
+use Rattle.vt_blend.proofs.Inside.{texel_inside, corners_inside}
 
 -- the level of a row of a picture is one of the chain's
 pub row_level_inside : (s : Shape) (path : PathView) (picture y : ℕ) → IsWithinLimits s → row_level (shot_row s path picture y) < levels_of s

@@ -1,5 +1,3 @@
-pub mod Corners
-pub mod Blends
 pub mod Plain
 pub mod Served
 pub mod Shown

@@ -8,7 +8,7 @@ use Rattle.vt_camera.specs.declared.surfaces.Surface.{Surface}
 use Rattle.vt_camera.specs.Paths.{PathView}
 use Rattle.vt_camera.specs.Rows.{RowView, row_of, row_level}
 use Rattle.vt_draw.specs.Plain.{camera_at, surface_of, chain_of}
-use Rattle.vt_plain_bilinear.specs.Blends.{blend_bytes}
+use Rattle.vt_blend.specs.Blends.{blend_bytes}
 
 -- the bytes of the first pixels of a row of a source of depth d: each is a blend of texels of the row's own level
 unfoldable pub row_blends : ℕ → Source → RowView → ℕ → List ℕ

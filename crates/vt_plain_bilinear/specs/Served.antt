@@ -8,12 +8,13 @@ use Rattle.vt_camera.specs.Rows.{RowView, row_level}
 use Rattle.vt_draw.specs.declared.lookups.Found.{Found}
 use Rattle.vt_draw.specs.Lookups.{Note, WordNote, IsFinest, place_in_tile}
 use Rattle.vt_draw.specs.Shots.{run_of}
-use Rattle.vt_plain_bilinear.specs.declared.corners.Corners.{Corners}
-use Rattle.vt_plain_bilinear.specs.declared.blends.Texels.{Texels}
-use Rattle.vt_plain_bilinear.specs.declared.served.Pages.{Pages}
+use Rattle.vt_blend.specs.declared.corners.Corners.{Corners}
+use Rattle.vt_blend.specs.declared.blends.Texels.{Texels}
+use Rattle.vt_blend.specs.declared.counting.Pages.{Pages}
 use Rattle.vt_plain_bilinear.specs.declared.served.Memo.{Memo}
-use Rattle.vt_plain_bilinear.specs.Corners.{corners_of, weights_of}
-use Rattle.vt_plain_bilinear.specs.Blends.{blended_word}
+use Rattle.vt_blend.specs.Counting.{times_among}
+use Rattle.vt_blend.specs.Corners.{corners_of, weights_of}
+use Rattle.vt_blend.specs.Blends.{blended_word}
 
 -- a look-up looks at the same pages and version as before, rests on the same, and says no less
 pub record GoesOn {A : Type 0} (s : Shape) (v : ℕ) (says : Note → Type 0) (a : A) (t : Shape) (w : ℕ) (tells : Note → Type 0) (b : A) : Type 0 where
@@ -58,10 +59,6 @@ pages_about s k at = record {
   third = texel_page s k at.column at.next_line;
   fourth = texel_page s k at.next_column at.next_line;
 }
-
--- how many of four pages are page p
-unfoldable pub times_among : Pages → ℕ → ℕ
-times_among pages p = run_of pages.first 1 p + run_of pages.second 1 p + run_of pages.third 1 p + run_of pages.fourth 1 p
 
 -- how many of the four texels of each of the first n pixels of a row are in page p (Mayer 2010)
 unfoldable pub texels_wanting : Shape → RowView → ℕ → ℕ → ℕ

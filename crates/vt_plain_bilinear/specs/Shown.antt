@@ -9,7 +9,7 @@ use Rattle.vt_pictures.specs.Changes.{Table}
 use Rattle.vt_pictures.specs.Lookups.{is_mapped}
 use Rattle.vt_pictures.specs.Scenes.{Scene}
 use Rattle.vt_pictures.specs.Replays.{scene_row}
-use Rattle.vt_plain_bilinear.specs.Blends.{blend_bytes}
+use Rattle.vt_blend.specs.Blends.{blend_bytes}
 
 -- the level of the page that serves a page under a table: the finest that it maps of the page and its ancestors; the root where none is
 -- (van Waveren 2012)

@@ -2,8 +2,6 @@
 //! of pages.
 #![tactic(auto)]
 
-mod blends;
-mod corners;
 mod filter;
 mod plain;
 mod rows;

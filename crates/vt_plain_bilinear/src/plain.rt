@@ -5,15 +5,14 @@ ghost use Rattle.std.specs.Thread.{IsSync};
 ghost use Rattle.vt_definitions.specs.Depths.{IsDepth, texel_length, word_at};
 ghost use Rattle.vt_definitions.specs.Limits.{most_levels, most_read_side};
 ghost use Rattle.vt_draw.specs.Plain.{chain_of, surface_of};
-ghost use Rattle.vt_plain_bilinear.specs.Corners.{AreInside};
-ghost use Rattle.vt_plain_bilinear.specs.Blends.{texels_of};
+ghost use Rattle.vt_blend.specs.Corners.{AreInside};
+ghost use Rattle.vt_blend.specs.Blends.{texels_of};
 ghost use Rattle.vt_plain_bilinear.specs.Plain.{row_blends, plain_blends};
 ghost use Rattle.vt_plain_bilinear.specs.BlendViews.{IsBlendView, IsBlendRoom, rows_blended};
 
-use crate::blends::{Texels, blend_words};
-use crate::corners::{Corners, corners_of, weights_of};
 use std::alloc::Global;
 use std::thread::{Threads, join_mut};
+use vt_blend::{Corners, Texels, blend_words, corners_of, weights_of};
 use vt_camera::{Camera, Path, Row, Surface};
 use vt_definitions::{put_word, texel_length, texels_with_bytes_have_words, word_at};
 use vt_draw::surface_of;

@@ -6,12 +6,14 @@ ghost use Rattle.vt_definitions.specs.Sides.{side};
 ghost use Rattle.vt_pages.specs.Pages.{levels_of, pages_of, IsWithinLimits};
 ghost use Rattle.vt_draw.specs.Lookups.{Note, IsFinest};
 ghost use Rattle.vt_draw.specs.Shots.{paged_surface, shot_row, run_of};
-ghost use Rattle.vt_plain_bilinear.specs.Corners.{AreInside};
-ghost use Rattle.vt_plain_bilinear.specs.Served.{GoesOn, AreServed, pages_about, times_among, IsMemo, AreBlended, AreTexelsCounted};
+ghost use Rattle.vt_blend.specs.Corners.{AreInside};
+ghost use Rattle.vt_plain_bilinear.specs.Served.{GoesOn, AreServed, pages_about, IsMemo, AreBlended, AreTexelsCounted};
+ghost use Rattle.vt_blend.specs.Counting.{times_among};
 
-use crate::blends::{Texels, blend_words};
-use crate::corners::{Corners, corners_of, weights_of};
-use crate::served::{Memo, Pages, Seen, found_by, pages_about, words_apart, words_by};
+use crate::served::{Memo, Seen, found_by, pages_about, words_apart, words_by};
+use vt_blend::{
+    Corners, Texels, add_texels, blend_words, corners_of, count_apart, count_together, weights_of,
+};
 use vt_camera::Row;
 use vt_definitions::put_word;
 use vt_draw::{Lookup, Shot, row_of};
@@ -55,47 +57,6 @@ pub fn draw_row_blend<K: Lookup>(
     } else {
         blend_pixels::<K, 2>(lookup, shot.geometry, row, columns, out, counts);
     }
-}
-
-// Adds so many texels of a page to the page's count.
-#[inline(always)]
-fn add_texels(counts: &mut [u32], page: u32, many: u32)
-    requires page { page < length counts.old }
-    requires room { slice_index counts.old page + many < 2 ^ 32 }
-    ensures added { (p : ℕ) → slice_index counts.new p ≡ slice_index counts.old p + run_of page many p }
-{
-    counts[page as usize] += many;
-}
-
-// Counts the four texels of a pixel that are in one page: one that wants the page of the pixel before it makes that page's run longer,
-// and any other begins a run.
-#[inline(always)]
-fn count_together(counts: &mut [u32], before: u32, run: u32, page: u32) -> u32
-    requires before { before < length counts.old }
-    requires room { slice_index counts.old before + run + 4 < 2 ^ 32 }
-    ensures counted { (p : ℕ) → slice_index counts.new p + run_of page result p
-        ≡ slice_index counts.old p + run_of before run p + run_of page 4 p }
-{
-    if page == before {
-        return run + 4;
-    }
-    add_texels(counts, before, run);
-    4
-}
-
-// Counts the four texels of a pixel one by one.
-fn count_apart(counts: &mut [u32], pages: &Pages)
-    requires first { pages.now.first < length counts.old }
-    requires second { pages.now.second < length counts.old }
-    requires third { pages.now.third < length counts.old }
-    requires fourth { pages.now.fourth < length counts.old }
-    requires room { (p : ℕ) → p < length counts.old → slice_index counts.old p + 4 < 2 ^ 32 }
-    ensures counted { (p : ℕ) → slice_index counts.new p ≡ slice_index counts.old p + times_among pages.now p }
-{
-    add_texels(counts, pages.first, 1);
-    add_texels(counts, pages.second, 1);
-    add_texels(counts, pages.third, 1);
-    add_texels(counts, pages.fourth, 1);
 }
 
 // The words at the corners of a pixel of a level, and the page that was seen last of those in which all four of a pixel stand, with

@@ -5,22 +5,12 @@ ghost use Rattle.vt_pages.specs.Pages.{pages_of, levels_of, texel_page, IsWithin
 ghost use Rattle.vt_pages.specs.Laws.{IsInside};
 ghost use Rattle.vt_definitions.specs.Sides.{side};
 ghost use Rattle.vt_draw.specs.Lookups.{WordNote, IsFinest};
-ghost use Rattle.vt_plain_bilinear.specs.Corners.{AreInside};
+ghost use Rattle.vt_blend.specs.Corners.{AreInside};
 ghost use Rattle.vt_plain_bilinear.specs.Served.{GoesOn, coarser_place, AreServed, pages_about, IsMemo};
 
-use crate::blends::Texels;
-use crate::corners::Corners;
+use vt_blend::{Corners, Pages, Texels};
 use vt_draw::{Found, Lookup};
 use vt_pages::Geometry;
-
-/// The pages of the four texels of a pixel.
-#[derive(Clone, Copy)]
-pub(crate) struct Pages {
-    pub first: u32,
-    pub second: u32,
-    pub third: u32,
-    pub fourth: u32,
-}
 
 /// A page that a look-up was asked for, and what it found.
 #[derive(Clone, Copy)]

@@ -3,7 +3,7 @@ use Rattle.vt_definitions.specs.Depths.{word_bytes, word_at}
 use Rattle.vt_camera.specs.Rows.{row_level}
 use Rattle.vt_mip.specs.Chains.{chain_width, chain_height, IsTexelRaster}
 use Rattle.vt_draw.specs.Plain.{chain_of}
-use Rattle.vt_plain_bilinear.specs.Blends.{blend_bytes}
+use Rattle.vt_blend.specs.Blends.{blend_bytes}
 use Rattle.vt_plain_bilinear.proofs.PlainBlends.{row_is, word_is, raster_word, pixel_more}
 use Rattle.vt_plain_bilinear.proofs.plain.blend_row.Goals as goal
 

@@ -2,7 +2,7 @@ use Rattle.std.proofs.Common.{◌≡◌, ℕ, ◌<◌}
 use Rattle.vt_definitions.specs.Depths.{texel_bytes}
 use Rattle.vt_camera.specs.Rows.{row_level}
 use Rattle.vt_draw.specs.Plain.{chain_of}
-use Rattle.vt_plain_bilinear.specs.Blends.{blend_bytes}
+use Rattle.vt_blend.specs.Blends.{blend_bytes}
 use Rattle.vt_plain_bilinear.proofs.plain.blend_row.Given as goal
 
 -- the pixels so far were written

@@ -4,8 +4,9 @@ use Rattle.vt_definitions.specs.Depths.{texel_bytes}
 use Rattle.vt_camera.specs.Rows.{row_level}
 use Rattle.vt_draw.specs.Lookups.{IsFinest}
 use Rattle.vt_draw.proofs.Counts.{run-none}
-use Rattle.vt_plain_bilinear.specs.Corners.{corners_of}
-use Rattle.vt_plain_bilinear.specs.Served.{pages_about, times_among, texels_wanting, IsMemo, AreServed, IsBlended}
+use Rattle.vt_blend.specs.Corners.{corners_of}
+use Rattle.vt_plain_bilinear.specs.Served.{pages_about, texels_wanting, IsMemo, AreServed, IsBlended}
+use Rattle.vt_blend.specs.Counting.{times_among}
 use Rattle.vt_plain_bilinear.specs.BlendPlain.{wanting-none, wanting-more}
 use Rattle.vt_plain_bilinear.proofs.Counts.{run_fits, last_fits}
 use Rattle.vt_plain_bilinear.proofs.Kept.{goes_on, finest_before}

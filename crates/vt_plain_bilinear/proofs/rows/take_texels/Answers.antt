@@ -1,8 +1,8 @@
 use Rattle.std.proofs.Common.{ℕ, ◌<◌, refl, sym, ap, subst, arith}
 use Rattle.vt_draw.proofs.Counts.{run-own}
-use Rattle.vt_plain_bilinear.specs.declared.served.Pages.{Pages}
-use Rattle.vt_plain_bilinear.specs.Served.{times_among}
-use Rattle.vt_plain_bilinear.proofs.Counts.{times-one}
+use Rattle.vt_blend.specs.declared.counting.Pages.{Pages}
+use Rattle.vt_blend.specs.Counting.{times_among}
+use Rattle.vt_blend.proofs.CountedRuns.{times-one}
 use Rattle.vt_plain_bilinear.proofs.Kept.{memo_kept}
 use Rattle.vt_plain_bilinear.proofs.rows.take_texels.Goals as goal
 

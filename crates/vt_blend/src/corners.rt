@@ -4,27 +4,27 @@ ghost use Rattle.std.specs.Prelude.{◌≡◌, ◌<◌};
 ghost use Rattle.vt_definitions.specs.Limits.{most_levels};
 ghost use Rattle.vt_definitions.specs.Sides.{side};
 ghost use Rattle.vt_camera.specs.Rows.{row_level};
-ghost use Rattle.vt_plain_bilinear.specs.Corners.{after, corners_of, weights_of, AreInside, AreWhole};
+ghost use Rattle.vt_blend.specs.Corners.{after, corners_of, weights_of, AreInside, AreWhole};
 
 use vt_camera::Row;
 
 /// The columns and rows of the four texels about a place of a level, and where the place lies in the first of them.
 #[derive(Clone, Copy)]
-pub(crate) struct Corners {
-    // The column and the row that the place lies in.
+pub struct Corners {
+    /// The column and the row that the place lies in.
     pub column: u32,
     pub line: u32,
-    // The ones after them.
+    /// The ones after them.
     pub next_column: u32,
     pub next_line: u32,
-    // How far the place lies in that column and that row, in 1/256 texel.
+    /// How far the place lies in that column and that row, in 1/256 texel.
     pub across: u32,
     pub down: u32,
 }
 
 /// What the texels weigh in a blend, in 1/65536: those in the first and in the second column of the first row, and those of the second.
 #[derive(Clone, Copy)]
-pub(crate) struct Weights {
+pub struct Weights {
     pub first: u32,
     pub second: u32,
     pub third: u32,
@@ -41,9 +41,9 @@ fn after(many: u32, n: u32) -> u32
     if n + 1 == many { 0 } else { n + 1 }
 }
 
-// The corners of pixel x of a row of this level, which has so many columns and rows.
+/// The corners of pixel x of a row of this level, which has so many columns and rows.
 #[inline(always)]
-pub(crate) fn corners_of(row: &Row, level: u32, columns: u32, rows: u32, x: u32) -> Corners
+pub fn corners_of(row: &Row, level: u32, columns: u32, rows: u32, x: u32) -> Corners
     requires within { x < row.now.width }
     requires level { level ≡ row_level row.now }
     requires few { level < most_levels }
@@ -64,9 +64,9 @@ pub(crate) fn corners_of(row: &Row, level: u32, columns: u32, rows: u32, x: u32)
     }
 }
 
-// What the texels at some corners weigh.
+/// What the texels at some corners weigh.
 #[inline(always)]
-pub(crate) fn weights_of(at: &Corners) -> Weights
+pub fn weights_of(at: &Corners) -> Weights
     requires across { at.now.across < 256 }
     requires down { at.now.down < 256 }
     ensures value { result ≡ weights_of at.now }

@@ -2,8 +2,8 @@
 use Rattle.std.proofs.Common.{◌≡◌, ℕ, ◌+◌, ◌-◌, ◌*◌, ◌/◌, ◌^◌, ◌<◌, ap, ◌∙◌, arith}
 use Rattle.vt_definitions.specs.Sides.{side}
 use Rattle.vt_camera.specs.Rows.{RowView, row_level, row_spot}
-use Rattle.vt_plain_bilinear.specs.declared.corners.Corners.{Corners}
-use Rattle.vt_plain_bilinear.specs.Corners.{corners_at, corners_of, weights_of, AreWhole}
+use Rattle.vt_blend.specs.declared.corners.Corners.{Corners}
+use Rattle.vt_blend.specs.Corners.{corners_at, corners_of, weights_of, AreWhole}
 
 -- the corners of a pixel, by the numbers of its row
 pub corners_are : (row : RowView) (x level columns rows u v : ℕ) → level ≡ row_level row → columns ≡ side row.surface.width level

@@ -2,8 +2,8 @@
 use Rattle.std.specs.Prelude.{◌≡◌, ℕ, ◌+◌, ◌-◌, ◌*◌, ◌/◌, ◌%◌, ◌^◌, ◌<◌, ◌==◌, if◌then◌else◌}
 use Rattle.vt_definitions.specs.Sides.{side}
 use Rattle.vt_camera.specs.Rows.{RowView, row_level, row_spot}
-use Rattle.vt_plain_bilinear.specs.declared.corners.Corners.{Corners}
-use Rattle.vt_plain_bilinear.specs.declared.corners.Weights.{Weights}
+use Rattle.vt_blend.specs.declared.corners.Corners.{Corners}
+use Rattle.vt_blend.specs.declared.corners.Weights.{Weights}
 
 -- the column after one of a level with so many, or the row after one: the first where there is no further, for the texture repeats
 abbrev pub after : ℕ → ℕ → ℕ

@@ -1,7 +1,7 @@
 use Rattle.std.proofs.Common.{ℕ, ap, arith}
 use Rattle.vt_draw.specs.Shots.{run_of}
-use Rattle.vt_plain_bilinear.proofs.Counts.{run-sum}
-use Rattle.vt_plain_bilinear.proofs.rows.count_together.Goals as goal
+use Rattle.vt_blend.proofs.CountedRuns.{run-sum}
+use Rattle.vt_blend.proofs.counting.count_together.Goals as goal
 
 pub returns-then-page-before : goal.returns-then-page-before
 returns-then-page-before c = record {

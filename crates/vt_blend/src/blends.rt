@@ -2,14 +2,14 @@
 
 ghost use Rattle.std.specs.Prelude.{◌≡◌, ◌/◌, ◌%◌, ◌<◌, ◌≤◌};
 ghost use Rattle.vt_definitions.specs.Depths.{IsDepth};
-ghost use Rattle.vt_plain_bilinear.specs.Corners.{AreWhole};
-ghost use Rattle.vt_plain_bilinear.specs.Blends.{blended, blended_word};
+ghost use Rattle.vt_blend.specs.Corners.{AreWhole};
+ghost use Rattle.vt_blend.specs.Blends.{blended, blended_word};
 
 use crate::corners::Weights;
 
 /// The words of the four texels about a place, in the order of their weights.
 #[derive(Clone, Copy)]
-pub(crate) struct Texels {
+pub struct Texels {
     pub first: u64,
     pub second: u64,
     pub third: u64,
@@ -98,9 +98,9 @@ fn wide_blend(w: &Weights, t: &Texels) -> u64
         + wide_channel(w, t, 1)
 }
 
-// The blend of the words of four texels whose samples have DEPTH bytes, 1 or 2.
+/// The blend of the words of four texels whose samples have DEPTH bytes, 1 or 2.
 #[inline(always)]
-pub(crate) fn blend_words<const DEPTH: u32>(w: &Weights, t: &Texels) -> u64
+pub fn blend_words<const DEPTH: u32>(w: &Weights, t: &Texels) -> u64
     requires depth { IsDepth DEPTH }
     requires whole { AreWhole w.now }
     ensures { result ≡ blended_word DEPTH w.now t.now }

@@ -1,9 +1,9 @@
 use Rattle.std.proofs.Common.{◌≡◌, ℕ, ◌/◌, ◌%◌, ◌^◌, ◌<◌, sym, subst, ◌∙◌}
-use Rattle.vt_plain_bilinear.specs.declared.corners.Corners.{Corners}
-use Rattle.vt_plain_bilinear.specs.Corners.{corners_at}
-use Rattle.vt_plain_bilinear.specs.Inside.{texel_inside}
-use Rattle.vt_plain_bilinear.proofs.Weighing.{corners_are}
-use Rattle.vt_plain_bilinear.proofs.corners.corners_of.Goals as goal
+use Rattle.vt_blend.specs.declared.corners.Corners.{Corners}
+use Rattle.vt_blend.specs.Corners.{corners_at}
+use Rattle.vt_blend.proofs.Inside.{texel_inside}
+use Rattle.vt_blend.proofs.Weighing.{corners_are}
+use Rattle.vt_blend.proofs.corners.corners_of.Goals as goal
 
 pub after-requires : goal.after-requires
 after-requires c =

@@ -2,10 +2,10 @@
 use Rattle.std.specs.Prelude.{ℕ, ◌+◌, ◌*◌, ◌/◌, List}
 use Rattle.vt_definitions.specs.Depths.{word_of, red_of, green_of, blue_of, word_bytes}
 use Rattle.vt_camera.specs.Rows.{RowView}
-use Rattle.vt_plain_bilinear.specs.declared.corners.Corners.{Corners}
-use Rattle.vt_plain_bilinear.specs.declared.corners.Weights.{Weights}
-use Rattle.vt_plain_bilinear.specs.declared.blends.Texels.{Texels}
-use Rattle.vt_plain_bilinear.specs.Corners.{corners_of, weights_of}
+use Rattle.vt_blend.specs.declared.corners.Corners.{Corners}
+use Rattle.vt_blend.specs.declared.corners.Weights.{Weights}
+use Rattle.vt_blend.specs.declared.blends.Texels.{Texels}
+use Rattle.vt_blend.specs.Corners.{corners_of, weights_of}
 
 -- the blend of four samples: what they weigh, in 1/65536, rounded to the nearest sample, a half up
 abbrev pub blended : Weights → ℕ → ℕ → ℕ → ℕ → ℕ

@@ -1,7 +1,7 @@
 use Rattle.std.proofs.Common.{refl}
-use Rattle.vt_plain_bilinear.specs.Corners.{weights_of}
-use Rattle.vt_plain_bilinear.proofs.Weighing.{weights_whole}
-use Rattle.vt_plain_bilinear.proofs.corners.weights_of.Goals as goal
+use Rattle.vt_blend.specs.Corners.{weights_of}
+use Rattle.vt_blend.proofs.Weighing.{weights_whole}
+use Rattle.vt_blend.proofs.corners.weights_of.Goals as goal
 
 pub returns-clause-value : goal.returns-clause-value
 unfolding weights_of

@@ -1,7 +1,7 @@
 use Rattle.std.proofs.Common.{arith}
-use Rattle.vt_plain_bilinear.specs.BlendPlain.{run-most}
-use Rattle.vt_plain_bilinear.proofs.Counts.{times-are}
-use Rattle.vt_plain_bilinear.proofs.rows.count_apart.Goals as goal
+use Rattle.vt_blend.proofs.CountedRuns.{run-most}
+use Rattle.vt_blend.proofs.CountedRuns.{times-are}
+use Rattle.vt_blend.proofs.counting.count_apart.Goals as goal
 
 pub add_texels-requires-2-clause-room : goal.add_texels-requires-2-clause-room
 add_texels-requires-2-clause-room c =

@@ -1,7 +1,7 @@
 use Rattle.std.proofs.Common.{◌≡◌, ◌+◌, ◌*◌, ◌%◌, ◌∙◌}
 use Rattle.std.proofs.Math.Nat.{div-one}
-use Rattle.vt_plain_bilinear.specs.Blends.{blended, blended_word}
-use Rattle.vt_plain_bilinear.proofs.blends.narrow_blend.Goals as goal
+use Rattle.vt_blend.specs.Blends.{blended, blended_word}
+use Rattle.vt_blend.proofs.blends.narrow_blend.Goals as goal
 
 pub returns : goal.returns
 unfolding blended_word

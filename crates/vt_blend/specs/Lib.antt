@@ -1,0 +1,3 @@
+pub mod Corners
+pub mod Blends
+pub mod Counting
