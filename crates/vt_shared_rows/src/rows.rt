@@ -1,6 +1,6 @@
 //! The rows that a sampler takes from a bag, and draws.
 
-ghost use Rattle.std.specs.Prelude.{◌≡◌, ℕ, ◌+◌, ◌*◌, ◌<◌, ◌≤◌, ◌^◌, true, List, [], ◌∷◌, length, reverse, slice_index, All, MatchBool, IfSome, IfNone};
+ghost use Rattle.std.specs.Prelude.{◌≡◌, ℕ, ◌+◌, ◌*◌, ◌<◌, ◌≤◌, ◌^◌, true, [], ◌∷◌, length, reverse, slice_index, All, MatchBool, IfSome, IfNone};
 ghost use Rattle.vt_definitions.specs.Depths.{IsDepth};
 ghost use Rattle.vt_pages.specs.Pages.{pages_of};
 ghost use Rattle.vt_draw.specs.Paths.{ArePictureSides};

@@ -1,5 +1,5 @@
 -- What the samplers that share rows ask and leave.
-use Rattle.std.specs.Prelude.{◌≡◌, ℕ, ◌<◌, true, Some, List, length, reverse}
+use Rattle.std.specs.Prelude.{◌≡◌, ℕ, ◌<◌, true, Some, length, reverse}
 use Rattle.vt_definitions.specs.Depths.{IsDepth}
 use Rattle.vt_grace.specs.Values.{WordsValue, PassValue}
 use Rattle.vt_grace.specs.Tokens.{IsPassOf}
