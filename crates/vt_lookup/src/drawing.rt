@@ -50,10 +50,10 @@ fn draw_under<P: Filter>(
 /// Draws row `y` of a picture by a filter for a sampler in the newest version of a table of words, holds that version
 /// meanwhile, and tells it.
 ///
-/// The pass was given at a version that maps the root, and the words are those of the picture's geometry. `y` is below the
-/// picture's height, `out` has three samples a column of the shot's depth, and `counts` has a number for each page, each of
-/// which can rise by four times the picture's width. The gate is told of the row after the pin and before the first look-up. It takes no
-/// memory and refuses nothing.
+/// The pass is the sampler's and was given at a version that maps the root, and the words are those of the picture's geometry.
+/// `y` is below the picture's height, `out` has three samples a column of the shot's depth, and `counts` has a number for each page,
+/// each of which can rise by four times the picture's width. The gate is told of the row after the pin and before the first look-up.
+/// It takes no memory and refuses nothing.
 pub fn draw_held<P: Filter, G: Gate>(
     pass: Pass,
     words: &Words,
@@ -67,6 +67,7 @@ pub fn draw_held<P: Filter, G: Gate>(
     requires of { IsPassOf words.now pass }
     requires fits { Fits shot.now.geometry.now words.now.sizes }
     requires rooted { pass.view.rooted ≡ true }
+    requires own { pass.view.sampler ≡ sampler }
     requires depth { IsDepth shot.now.depth }
     requires picture { shot.now.picture < length shot.now.path.now.cameras }
     requires within { y < shot.now.path.now.height }

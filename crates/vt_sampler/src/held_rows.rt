@@ -1,6 +1,6 @@
 //! The rows of a sampler, each drawn under a hold of its own.
 
-ghost use Rattle.std.specs.Prelude.{◌≡◌, ℕ, ◌+◌, ◌*◌, ◌/◌, ◌%◌, ◌<◌, ◌≤◌, true, List, length, slice_index};
+ghost use Rattle.std.specs.Prelude.{◌≡◌, ℕ, ◌+◌, ◌*◌, ◌/◌, ◌%◌, ◌<◌, ◌≤◌, true, length, slice_index, reverse};
 ghost use Rattle.vt_definitions.specs.Limits.{most_samplers};
 ghost use Rattle.vt_definitions.specs.Depths.{IsDepth, texel_length};
 ghost use Rattle.vt_pages.specs.Pages.{pages_of};
@@ -17,7 +17,7 @@ use vt_lookup::{Filter, Pass, Words, draw_held};
 use vt_outside::Gate;
 
 /// Draws the rows of a sampler of a picture by a filter over a table of words, one after the other, each in the newest version,
-/// and tells at which version each was drawn.
+/// which it holds for that row alone, and tells at which version each was drawn.
 pub(crate) fn draw_held_rows<P: Filter, G: Gate>(
     pass: Pass,
     words: &Words,
@@ -32,6 +32,7 @@ pub(crate) fn draw_held_rows<P: Filter, G: Gate>(
     requires of { IsPassOf words.now pass }
     requires fits { Fits shot.now.geometry.now words.now.sizes }
     requires rooted { pass.view.rooted ≡ true }
+    requires own { pass.view.sampler ≡ sampler }
     requires one_of { sampler < samplers }
     requires few { samplers ≤ most_samplers }
     requires depth { IsDepth shot.now.depth }
@@ -42,7 +43,7 @@ pub(crate) fn draw_held_rows<P: Filter, G: Gate>(
     requires pages { length counts.old ≡ pages_of shot.now.geometry.now }
     requires none { (p : ℕ) → p < length counts.old → slice_index counts.old p ≡ 0 }
     ensures of { IsPassOf words.now result }
-    ensures pass { (more : List ℕ) × HasHeldMore pass.view result.view more }
+    ensures holds { HasHeldMore pass.view result.view (reverse versions.new) }
     ensures drawn { (y : ℕ) → y < shot.now.path.now.height → y % samplers ≡ sampler
         → let row = shot_row shot.now.geometry.now shot.now.path.now shot.now.picture y in
         let line = row_length shot.now.depth shot.now.path.now.width in

@@ -1,6 +1,6 @@
 //! A sampler, which draws its share of the rows of a picture.
 
-ghost use Rattle.std.specs.Prelude.{◌≡◌, ℕ, ◌<◌, ◌≤◌, true, List, length, slice_index, IfOk};
+ghost use Rattle.std.specs.Prelude.{◌≡◌, ℕ, ◌<◌, ◌≤◌, true, length, slice_index, reverse, IfOk};
 ghost use Rattle.vt_definitions.specs.Limits.{most_samplers};
 ghost use Rattle.vt_definitions.specs.Depths.{IsDepth};
 ghost use Rattle.vt_draw.specs.Shots.{shot_row, AreDrawn, wants_in_rows, pixels_in_rows};
@@ -154,7 +154,7 @@ impl Sampler {
         requires rooted { pass.view.rooted ≡ true }
         requires own { pass.view.sampler ≡ self.old.sampler }
         ensures of { IsPassOf words.now result }
-        ensures pass { (more : List ℕ) × HasHeldMore pass.view result.view more }
+        ensures holds { HasHeldMore pass.view result.view (reverse self.new.versions) }
         ensures drawn { (y : ℕ) → IsOwn self.new y
             → let row = shot_row shot.now.geometry.now shot.now.path.now shot.now.picture y in
             AreShown P.shown shot.now.geometry.now shot.now.depth (version_at self.new y) (IsNotedIn result.view) row
@@ -193,7 +193,7 @@ impl Sampler {
         requires rooted { pass.view.rooted ≡ true }
         requires own { pass.view.sampler ≡ self.old.sampler }
         ensures of { IsPassOf words.now result }
-        ensures pass { (more : List ℕ) × HasHeldMore pass.view result.view more }
+        ensures holds { HasHeldMore pass.view result.view (reverse self.new.versions) }
         ensures drawn { (y : ℕ) → IsOwn self.new y
             → let row = shot_row shot.now.geometry.now shot.now.path.now shot.now.picture y in
             AreDrawn shot.now.geometry.now shot.now.depth (version_at self.new y) (IsNotedIn result.view) row

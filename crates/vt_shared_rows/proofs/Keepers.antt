@@ -1,9 +1,9 @@
 -- One row more that a sampler keeps.
-use Rattle.std.proofs.Common.{◌≡◌, ℕ, ◌*◌, ◌≤◌, List, [], ◌∷◌, ◌++◌, length, get_or, take, drop, sym, ap, ◌∙◌}
+use Rattle.std.proofs.Common.{◌≡◌, ℕ, ◌*◌, ◌≤◌, List, [], ◌∷◌, ◌++◌, length, reverse, get_or, take, drop, sym, ap, ◌∙◌}
 use Rattle.std.specs.Prelude.{All}
 use Rattle.std.specs.List.{refill}
 use Rattle.std.proofs.Math.Seq.{take-append_seam}
-use Rattle.std.proofs.lemmas.List.{length-map}
+use Rattle.std.proofs.lemmas.List.{length-map, map-append, reverse-append}
 use Rattle.std.proofs.lemmas.List.Quantifiers.{all_pairs_push}
 use Rattle.std.proofs.lemmas.List.Elements.{All-weaker, All-push}
 use Rattle.std.proofs.lemmas.List.Sums.{sum_by-le}
@@ -20,7 +20,7 @@ use Rattle.vt_lookup.specs.Notes.{IsNotedIn, HasHeldMore}
 use Rattle.vt_sampler.specs.Samplers.{row_length}
 use Rattle.vt_sampler.proofs.Holding.{was_held_then, was_held_now, not_above}
 use Rattle.vt_shared_rows.specs.declared.bag.RowJob.{RowJob}
-use Rattle.vt_shared_rows.specs.SharedRows.{rows_of, FitsRow, IsKeptRow, VersionsRise}
+use Rattle.vt_shared_rows.specs.SharedRows.{rows_of, versions_of, FitsRow, IsKeptRow, VersionsRise}
 
 -- a list whose lent elements are all back
 pub refilled : {W : Type 0} (xs ws : List W) → length ws ≡ length xs → refill (length xs) xs ws ≡ ws
@@ -36,6 +36,11 @@ wants_most wants s path picture p most few rows =
 
 pub rows_number : (jobs : List RowJob) → length (rows_of jobs) ≡ length jobs
 rows_number jobs = length-map jobs (λ (j : RowJob). j.row)
+
+-- the versions of rows, the newest first, where one row more was drawn
+pub versions_push : (jobs : List RowJob) (job : RowJob) → reverse (versions_of (jobs ++ job ∷ [])) ≡ job.version ∷ reverse (versions_of jobs)
+versions_push jobs job =
+    ap reverse (map-append (λ (j : RowJob). j.version) jobs (job ∷ [])) ∙ reverse-append (versions_of jobs) (job.version ∷ [])
 
 module _ {P : Type 0} (filter : FilterMeanings P) (s : Shape) (d : ℕ) (path : PathView) (picture number : ℕ) (first q r : PassView)
     (more : List ℕ) (before : HasHeldMore first q more) (kept : List RowJob) (job : RowJob) (then : HasHeldMore q r (job.version ∷ []))

@@ -25,6 +25,10 @@ use Rattle.vt_shared_rows.specs.Bags.{view_of, IsOf}
 abbrev pub rows_of : List RowJob → List ℕ
 rows_of jobs = map (λ job. job.row) jobs
 
+-- the versions at which rows were drawn
+abbrev pub versions_of : List RowJob → List ℕ
+versions_of jobs = map (λ job. job.version) jobs
+
 -- it is a row of a picture of so many, with as many bytes as a row has
 pub record FitsRow (height line : ℕ) (job : RowJob) : Type 0 where
   pub inside : job.row < height

@@ -1,6 +1,6 @@
 //! The rows that a sampler takes from a bag, and draws.
 
-ghost use Rattle.std.specs.Prelude.{◌≡◌, ℕ, ◌+◌, ◌*◌, ◌<◌, ◌≤◌, ◌^◌, true, List, [], ◌∷◌, length, slice_index, All, MatchBool, IfSome, IfNone};
+ghost use Rattle.std.specs.Prelude.{◌≡◌, ℕ, ◌+◌, ◌*◌, ◌<◌, ◌≤◌, ◌^◌, true, [], ◌∷◌, length, reverse, slice_index, All, MatchBool, IfSome, IfNone};
 ghost use Rattle.vt_definitions.specs.Depths.{IsDepth};
 ghost use Rattle.vt_pages.specs.Pages.{pages_of};
 ghost use Rattle.vt_draw.specs.Paths.{ArePictureSides};
@@ -12,7 +12,7 @@ ghost use Rattle.vt_lookup.specs.Notes.{Fits, IsNotedIn, HasHeldMore};
 ghost use Rattle.vt_sampler.specs.Samplers.{row_length};
 ghost use Rattle.vt_queue.specs.Steps.{Takes};
 ghost use Rattle.vt_shared_rows.specs.Bags.{view_of, IsOf};
-ghost use Rattle.vt_shared_rows.specs.SharedRows.{FitsRow, EndsTaking, HasTaken, HasEnded, IsKeptRow, VersionsRise, rows_of};
+ghost use Rattle.vt_shared_rows.specs.SharedRows.{FitsRow, EndsTaking, HasTaken, HasEnded, IsKeptRow, VersionsRise, rows_of, versions_of};
 
 use crate::bag::{BagPass, RowBag, RowJob};
 use std::sync::Wait;
@@ -66,6 +66,7 @@ fn draw_row_of<P: Filter, G: Gate>(
     requires of { IsPassOf words.now pass }
     requires fits { Fits shot.now.geometry.now words.now.sizes }
     requires rooted { pass.view.rooted ≡ true }
+    requires own { pass.view.sampler ≡ sampler }
     requires depth { IsDepth shot.now.depth }
     requires picture { shot.now.picture < length shot.now.path.now.cameras }
     requires job { FitsRow shot.now.path.now.height (row_length shot.now.depth shot.now.path.now.width) job }
@@ -100,8 +101,8 @@ fn draw_row_of<P: Filter, G: Gate>(
     (pass, job)
 }
 
-/// Draws rows of a picture by a filter over a table of words, each in the newest version, which it holds meanwhile: takes the next one from
-/// the bag when the last is drawn, until there is none, and keeps them in that order.
+/// Draws rows of a picture by a filter over a table of words, each in the newest version, which it holds for that row alone: takes the next
+/// one from the bag when the last is drawn, until there is none, and keeps them in that order.
 pub(crate) fn draw_rows<Rt: Wait, P: Filter, G: Gate>(
     rt: &Rt,
     bag: &RowBag,
@@ -118,6 +119,7 @@ pub(crate) fn draw_rows<Rt: Wait, P: Filter, G: Gate>(
     requires of { IsPassOf words.now pass }
     requires fits { Fits shot.now.geometry.now words.now.sizes }
     requires rooted { pass.view.rooted ≡ true }
+    requires own { pass.view.sampler ≡ sampler }
     requires depth { IsDepth shot.now.depth }
     requires picture { shot.now.picture < length shot.now.path.now.cameras }
     requires none { kept.old.elements ≡ [] }
@@ -126,7 +128,7 @@ pub(crate) fn draw_rows<Rt: Wait, P: Filter, G: Gate>(
     requires zero { (p : ℕ) → p < length counts.old → slice_index counts.old p ≡ 0 }
     ensures bag { IsOf bag.now own.new }
     ensures of { IsPassOf words.now result }
-    ensures pass { (more : List ℕ) × HasHeldMore pass.view result.view more }
+    ensures holds { HasHeldMore pass.view result.view (reverse (versions_of kept.new.elements)) }
     ensures taken { (taken : HasTaken shot.now.path.now.height (row_length shot.now.depth shot.now.path.now.width) (view_of own.old)
         (view_of own.new) kept.new.elements) × HasEnded shot.now.path.now.height (row_length shot.now.depth shot.now.path.now.width)
         (view_of own.old) (view_of own.new) kept.new.elements taken }

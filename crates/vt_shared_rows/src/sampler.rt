@@ -1,11 +1,11 @@
 //! A sampler that shares the rows of a picture with others.
 
-ghost use Rattle.std.specs.Prelude.{◌≡◌, ℕ, ◌<◌, true, None, [], List, length, slice_index, IfOk};
+ghost use Rattle.std.specs.Prelude.{◌≡◌, ℕ, ◌<◌, true, None, [], length, reverse, slice_index, IfOk};
 ghost use Rattle.vt_definitions.specs.Depths.{IsDepth};
 ghost use Rattle.vt_pages.specs.Pages.{pages_of};
 ghost use Rattle.vt_grace.specs.Tokens.{IsPassOf};
 ghost use Rattle.vt_lookup.specs.Notes.{Fits, HasHeldMore};
-ghost use Rattle.vt_shared_rows.specs.SharedRows.{MayShare, HasShared};
+ghost use Rattle.vt_shared_rows.specs.SharedRows.{MayShare, HasShared, versions_of};
 
 use crate::bag::{BagPass, RowBag, RowJob};
 use crate::rows::draw_rows;
@@ -54,10 +54,10 @@ impl RowSampler {
         })
     }
 
-    /// Draws rows of a picture by a filter over a table of words, each in the newest version, which it holds meanwhile: takes the next one
-    /// from the bag when the last is drawn, until there is none. It gives its pass of the words back.
+    /// Draws rows of a picture by a filter over a table of words, each in the newest version, which it holds for that row alone: takes
+    /// the next one from the bag when the last is drawn, until there is none. It gives its pass of the words back.
     ///
-    /// The pass was given at a version that maps the root, and all are for one path, one texture and one depth. The gate is told of a row
+    /// The pass is this sampler's and was given at a version that maps the root, and all are for one path, one texture and one depth. The gate is told of a row
     /// after the pin and before its first look-up. It takes no memory and refuses nothing. It may wait.
     pub fn draw<Rt: Wait, P: Filter, G: Gate>(
         &mut self,
@@ -72,10 +72,11 @@ impl RowSampler {
         requires of { IsPassOf words.now pass }
         requires fits { Fits shot.now.geometry.now words.now.sizes }
         requires rooted { pass.view.rooted ≡ true }
+        requires own { pass.view.sampler ≡ self.old.sampler }
         requires depth { IsDepth shot.now.depth }
         requires picture { shot.now.picture < length shot.now.path.now.cameras }
         ensures of { IsPassOf words.now result }
-        ensures pass { (more : List ℕ) × HasHeldMore pass.view result.view more }
+        ensures holds { HasHeldMore pass.view result.view (reverse (versions_of self.new.kept.elements)) }
         ensures shared { HasShared P.Filter bag.now shot.now.geometry.now shot.now.depth shot.now.path.now shot.now.picture pass.view
             result.view self.old self.new }
     {

@@ -157,6 +157,7 @@ module _ {F : Type 0} (g : FileMeanings F) where
         of = has.of;
         rooted = ap (λ (p : PassView). p.rooted) has.view
             ∙ subst (λ z. is_mapped (newest t.streamer.writer.journal) z ≡ true) (sym is) root;
+        own = ap (λ (p : PassView). p.sampler) has.view ∙ sym its.number_is;
       })
 
   pub detach_draws : (job : Job) (m : SharingView F) (t : WordStreamer) (tasks : List RowTask) → m.streamer ≡ Some t

@@ -63,7 +63,7 @@ module _ {P : Type 0} (filter : FilterMeanings P) (k : DrawKit) (scene : Scene) 
       record {
         reader = d.drawn.reader;
         has = d.drawn.has;
-        of = d.drawn.entered_more.book ∙ ap (λ (r : ReaderView). r.book) (same_reader m (get_or f m task) d) ∙ d.seen.of;
+        of = d.drawn.rows.entered.book ∙ ap (λ (r : ReaderView). r.book) (same_reader m (get_or f m task) d) ∙ d.seen.of;
       }
 
   stays : (m : ℕ) (task : SwapDrawer) → slice_get f m ≡ Some task → IsSamplerOf k.geometry k.depth k.width k.height k.count m task.sampler
@@ -187,6 +187,6 @@ module _ {P : Type 0} (filter : FilterMeanings P) (k : DrawKit) (scene : Scene) 
           dealt_to = r.there;
           reader = d.drawn.reader;
           has = d.drawn.has;
-          of = d.drawn.entered_more.book ∙ ap (λ (x : ReaderView). x.book) (same_reader (y % k.count) r.task d) ∙ d.seen.of ∙ sym book_is;
+          of = d.drawn.rows.entered.book ∙ ap (λ (x : ReaderView). x.book) (same_reader (y % k.count) r.task d) ∙ d.seen.of ∙ sym book_is;
           entered = subst (λ (l : List ℕ). Contains l u) (sym was.entered) (Contains-append_left was.more d.drawn.before.entered u was.among);
         }

@@ -1,11 +1,11 @@
 -- One version more that is entered.
-use Rattle.std.proofs.Common.{ℕ, ◌≤◌, List, ◌∷◌, ◌++◌, refl, sym, ap, ◌∙◌, subst, arith, append_assoc}
+use Rattle.std.proofs.Common.{ℕ, ◌≤◌, List, [], ◌∷◌, ◌++◌, refl, sym, ap, ◌∙◌, subst, arith, append_assoc}
 use Rattle.std.specs.Prelude.{All, Contains}
 use Rattle.std.proofs.lemmas.List.Elements.{All-contains, Contains-append_left, Contains-append_right}
 use Rattle.vt_swap.specs.Readers.{ReaderView, HasEnteredMore, WasEntered}
 use Rattle.vt_swap.proofs.Prefixes.{prefix_trans}
-use Rattle.vt_swap.proofs.Entering.{all_behind, known_on}
-use Rattle.vt_swap_sampler.specs.Entered.{WasEnteredBetween}
+use Rattle.vt_swap.proofs.Entering.{entered_none, all_behind, known_on}
+use Rattle.vt_swap_sampler.specs.Entered.{WasEnteredBetween, HasEnteredRows}
 
 -- a reader that entered more, and then more
 pub entered_more : (r q s : ReaderView) (more then : List ℕ) → HasEnteredMore r q more → HasEnteredMore q s then → HasEnteredMore r s (then ++ more)
@@ -40,3 +40,15 @@ pub not_above : (r q : ReaderView) (u v : ℕ) → All (λ (x : ℕ). x ≤ v) q
 not_above r q u v later was =
     All-contains (λ (x : ℕ). x ≤ v) q.entered u later
     (subst (λ (l : List ℕ). Contains l u) (sym was.entered) (Contains-append_left was.more r.entered u was.among))
+
+-- a reader that entered no version for a row yet
+pub no_rows : (r : ReaderView) → HasEnteredRows r r []
+no_rows r = record { more = []; entered = entered_none r; for_rows = refl }
+
+-- and one that entered versions for one row more
+pub rows_more : (r q s : ReaderView) (versions : List ℕ) (v : ℕ) → HasEnteredRows r q versions → WasEntered q s v → HasEnteredRows r s (v ∷ versions)
+rows_more r q s versions v one two = record {
+  more = (v ∷ two.before) ++ one.more;
+  entered = entered_more r q s one.more (v ∷ two.before) one.entered two.more;
+  for_rows = (two.before, one.more, refl, one.for_rows);
+}

@@ -1,6 +1,6 @@
 //! The rows of a sampler, each drawn in a version that is entered for it.
 
-ghost use Rattle.std.specs.Prelude.{◌≡◌, ℕ, ◌+◌, ◌*◌, ◌/◌, ◌%◌, ◌<◌, ◌≤◌, List, length, slice_index};
+ghost use Rattle.std.specs.Prelude.{◌≡◌, ℕ, ◌+◌, ◌*◌, ◌/◌, ◌%◌, ◌<◌, ◌≤◌, length, reverse, slice_index};
 ghost use Rattle.vt_definitions.specs.Limits.{most_samplers};
 ghost use Rattle.vt_definitions.specs.Depths.{IsDepth};
 ghost use Rattle.vt_pages.specs.Pages.{pages_of};
@@ -8,9 +8,8 @@ ghost use Rattle.vt_draw.specs.Shots.{shot_row, wants_in_rows};
 ghost use Rattle.vt_pictures.specs.Evidence.{AreShown};
 ghost use Rattle.vt_swap.specs.Slots.{AreSlotsOf};
 ghost use Rattle.vt_swap.specs.Notes.{IsSaidBy};
-ghost use Rattle.vt_swap.specs.Readers.{HasEnteredMore};
 ghost use Rattle.vt_sampler.specs.Samplers.{own_rows, own_count, row_in, row_length};
-ghost use Rattle.vt_swap_sampler.specs.Entered.{WasEnteredBetween};
+ghost use Rattle.vt_swap_sampler.specs.Entered.{WasEnteredBetween, HasEnteredRows};
 
 use std::sync::Wait;
 use vt_definitions::texel_length;
@@ -19,8 +18,8 @@ use vt_outside::Gate;
 use vt_pictures::Filter;
 use vt_swap::{Slot, TableReader};
 
-/// Draws the rows of a sampler of a picture by a filter over a page cache, one after the other, each in a version that it enters, and
-/// tells at which version each was drawn.
+/// Draws the rows of a sampler of a picture by a filter over a page cache, one after the other, each in a version that it enters for
+/// the row, and tells at which version each was drawn.
 pub(crate) fn draw_own_rows<P: Filter, G: Gate, R: Wait>(
     rt: &R,
     reader: TableReader,
@@ -41,11 +40,11 @@ pub(crate) fn draw_own_rows<P: Filter, G: Gate, R: Wait>(
     requires picture { shot.now.picture < length shot.now.path.now.cameras }
     requires bytes { length bytes.old ≡ own_count sampler samplers shot.now.path.now.height
         * row_length shot.now.depth shot.now.path.now.width }
-    requires rows { length versions.old ≡ own_count sampler samplers shot.now.path.now.height }
+    requires versions { length versions.old ≡ own_count sampler samplers shot.now.path.now.height }
     requires pages { length counts.old ≡ pages_of shot.now.geometry.now }
     requires spares { length spare.old ≡ pages_of shot.now.geometry.now }
     requires none { (p : ℕ) → p < length counts.old → slice_index counts.old p ≡ 0 }
-    ensures reader { (more : List ℕ) × HasEnteredMore reader result more }
+    ensures rows { HasEnteredRows reader result (reverse versions.new) }
     ensures drawn { (y : ℕ) → y < shot.now.path.now.height → y % samplers ≡ sampler
         → let row = shot_row shot.now.geometry.now shot.now.path.now shot.now.picture y in
         let line = row_length shot.now.depth shot.now.path.now.width in

@@ -1,15 +1,14 @@
 //! A sampler over a page cache whose table is published in two copies.
 
-ghost use Rattle.std.specs.Prelude.{◌≡◌, ℕ, ◌<◌, ◌≤◌, List, length, slice_index, IfOk};
+ghost use Rattle.std.specs.Prelude.{◌≡◌, ℕ, ◌<◌, ◌≤◌, length, reverse, slice_index, IfOk};
 ghost use Rattle.vt_definitions.specs.Limits.{most_samplers};
 ghost use Rattle.vt_definitions.specs.Depths.{IsDepth};
 ghost use Rattle.vt_draw.specs.Shots.{shot_row, wants_in_rows};
 ghost use Rattle.vt_pictures.specs.Evidence.{AreShown};
 ghost use Rattle.vt_swap.specs.Slots.{AreSlotsOf};
 ghost use Rattle.vt_swap.specs.Notes.{IsSaidBy};
-ghost use Rattle.vt_swap.specs.Readers.{HasEnteredMore};
 ghost use Rattle.vt_sampler.specs.Samplers.{SamplerView, IsOwn, IsFor, own_rows, row_length, row_at, version_at};
-ghost use Rattle.vt_swap_sampler.specs.Entered.{WasEnteredBetween};
+ghost use Rattle.vt_swap_sampler.specs.Entered.{WasEnteredBetween, HasEnteredRows};
 
 use crate::own_rows::draw_own_rows;
 use std::alloc::Global;
@@ -123,7 +122,7 @@ impl SwapSampler {
         requires for_it { IsFor self.old shot.now.geometry.now shot.now.path.now shot.now.depth }
         requires picture { shot.now.picture < length shot.now.path.now.cameras }
         requires slots { AreSlotsOf reader.book slots.now }
-        ensures reader { (more : List ℕ) × HasEnteredMore reader result more }
+        ensures rows { HasEnteredRows reader result (reverse self.new.versions) }
         ensures drawn { (y : ℕ) → IsOwn self.new y
             → let row = shot_row shot.now.geometry.now shot.now.path.now shot.now.picture y in
             AreShown P.shown shot.now.geometry.now shot.now.depth (version_at self.new y) (IsSaidBy result.log) row

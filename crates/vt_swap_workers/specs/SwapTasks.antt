@@ -1,5 +1,5 @@
 -- What the samplers and the streamer of a pass over a page cache ask and leave.
-use Rattle.std.specs.Prelude.{◌≡◌, ℕ, ◌+◌, ◌*◌, ◌^◌, ◌<◌, ◌≤◌, ◌++◌, false, Some, List, length, slice_index}
+use Rattle.std.specs.Prelude.{◌≡◌, ℕ, ◌+◌, ◌*◌, ◌^◌, ◌<◌, ◌≤◌, ◌++◌, false, Some, List, length, reverse, slice_index}
 use Rattle.vt_draw.specs.Depths.{IsDepth}
 use Rattle.vt_pages.specs.Limits.{most_frames, most_versions}
 use Rattle.vt_draw.specs.Shots.{shot_row, wants_in_rows}
@@ -18,8 +18,8 @@ use Rattle.vt_swap_streaming.specs.Reports.{IsBlank}
 use Rattle.vt_swap.specs.declared.frame.FrameKey.{FrameKey}
 use Rattle.vt_swap.specs.Slots.{AreSlotsOf}
 use Rattle.vt_swap.specs.Notes.{IsSaidBy}
-use Rattle.vt_swap.specs.Readers.{ReaderView, HasEnteredMore}
-use Rattle.vt_swap_sampler.specs.Entered.{WasEnteredBetween}
+use Rattle.vt_swap.specs.Readers.{ReaderView}
+use Rattle.vt_swap_sampler.specs.Entered.{WasEnteredBetween, HasEnteredRows}
 use Rattle.vt_swap_streaming.specs.Brought.{HasStreamed}
 use Rattle.vt_swap_workers.specs.declared.workers.SwapDrawer.{SwapDrawer}
 use Rattle.vt_swap_workers.specs.declared.workers.SwapFeeder.{SwapFeeder}
@@ -33,7 +33,7 @@ pub record MayDraw (slots : List FrameKey) (scene : Scene) (picture : ℕ) (a : 
   pub slots_are : AreSlotsOf reader.book slots
 
 -- a sampler has drawn its rows of a picture of a scene by a filter, by what its reader saw of the log, each at a version that the reader entered
--- meanwhile; these never fall from row to row; and it has counted the texels that the rows want
+-- for it; these never fall from row to row; and it has counted the texels that the rows want
 pub record HasDrawn {P : Type 0} (filter : FilterMeanings P) (scene : Scene) (picture : ℕ) (a b : SwapDrawer) : Type 0 where
   pub number : b.sampler.sampler ≡ a.sampler.sampler
   pub among : b.sampler.samplers ≡ a.sampler.samplers
@@ -42,8 +42,7 @@ pub record HasDrawn {P : Type 0} (filter : FilterMeanings P) (scene : Scene) (pi
   pub had : a.reader ≡ Some before
   pub reader : ReaderView
   pub has : b.reader ≡ Some reader
-  pub more : List ℕ
-  pub entered_more : HasEnteredMore before reader more
+  pub rows : HasEnteredRows before reader (reverse b.sampler.versions)
   pub drawn : (y : ℕ) → IsOwn b.sampler y → AreShown filter.shown scene.shape scene.depth (version_at b.sampler y) (IsSaidBy reader.log)
       (shot_row scene.shape scene.path picture y) scene.path.width (row_at b.sampler y)
   pub full : (y : ℕ) → IsOwn b.sampler y → length (row_at b.sampler y) ≡ row_length scene.depth scene.path.width

@@ -7,4 +7,6 @@ mod bag;
 #[cfg(test)]
 mod gates;
 #[cfg(test)]
+mod told;
+#[cfg(test)]
 mod walks;

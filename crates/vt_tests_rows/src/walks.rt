@@ -1,4 +1,4 @@
-//! Walks by the machine whose samplers share rows, and by the one over a swapped page table, over a store in memory.
+//! Walks by the machine whose samplers share rows, by the one over a swapped page table and by those over shared words, over a store in memory.
 
 ghost use Rattle.std.specs.Prelude.{◌≡◌, [], ◌∷◌, is_some};
 ghost use Rattle.std.specs.Bool.{OnTrue};
@@ -8,14 +8,17 @@ ghost use Rattle.vt_walk.specs.Walks.{AreSettings};
 ghost use Rattle.vt_walk.specs.States.{AreOpen};
 
 use crate::gates::FirstAndLater;
+use crate::told::{count_of, is_told};
 use std::alloc::Global;
 use std::process::Abort;
 use std::sync::Wait;
 use std::thread::Threads;
+use vt_bilinear::BlendMachine;
 use vt_camera::{Path, parse_path};
 use vt_machine::{Crew, PassMachine};
 use vt_outside::{Fails, Folder, Gate, MemoryFile, MemoryFolder, MemorySink, OpenGate};
 use vt_pages::Geometry;
+use vt_pass::WordMachine;
 use vt_steal::StealMachine;
 use vt_swap_machine::SwapMachine;
 use vt_tiles::Store;
@@ -35,6 +38,8 @@ struct Case<'a> {
     path: &'a [u8],
     settings: Settings,
     settled: bool,
+    // The text of its journal, with a `?` for each sampler and each version that is open; or none, and the journal is not looked at.
+    journal: Option<&'a [u8]>,
     log: &'a [u8],
     picture: &'a [u8],
 }
@@ -42,6 +47,10 @@ struct Case<'a> {
 type Steal = StealMachine<MemoryFile>;
 
 type Swap = SwapMachine<MemoryFile>;
+
+type Dealt = WordMachine<MemoryFile>;
+
+type Blend = BlendMachine<MemoryFile>;
 
 // Opens the store of a folder, after its path, as the program does.
 fn open_after_path<D: Folder>(rt: &impl Abort, folder: &mut D, name: &str) -> Store<D::File>
@@ -118,6 +127,15 @@ fn is_walked<
     .is_ok()
 }
 
+// Whether the folder of a walk has the journal that is to come of a case.
+fn has_journal(folder: &MemoryFolder, case: &Case<'_>) -> bool {
+    match (case.journal, folder.bytes_of("j")) {
+        (None, _) => true,
+        (Some(text), Some(bytes)) => is_told(bytes, text),
+        (Some(_), None) => false,
+    }
+}
+
 // Whether all comes of the walk of a case by a machine that is to come of it, in a folder of no names.
 fn comes<
     Rt: Abort + Threads + Wait + Sync,
@@ -130,6 +148,7 @@ fn comes<
         Ok(path) => {
             laid && is_walked::<Rt, M, G>(rt, alloc, folder, &path, case, &mut out, gate)
                 && out.bytes() == case.log
+                && has_journal(folder, case)
                 && folder.holds("f0000.ppm", case.picture)
         }
         Err(_) => false,
@@ -150,6 +169,10 @@ const BY_ONE: Case<'_> = Case {
     path: b"size 2 1\nfocal 1\nat 0 0 256 16384 0\n",
     settings: SETTINGS,
     settled: true,
+    journal: Some(
+        b"map 1 1 0 0 0\npass 1 picture 0 start 1\nrow 0 ? 1\npass 2 picture 0 start 1\nmap 2 0 0 0 1\nrow 0 ? ?\n\
+            pass 3 picture 0 start 2\nmap 3 0 0 1 2\nrow 0 ? ?\npass 4 picture 0 start 3\nrow 0 ? 3\n",
+    ),
     log: b"picture 0 passes 4 wanted 2 loaded 2 lost 0 evicted 0\nend pictures 1 reads 3\n",
     picture: b"P6\n2 1\n255\n\x0d\x0d\x0d\x01\x01\x01",
 };
@@ -204,6 +227,10 @@ fn a_settled_picture_is_the_same_over_a_swapped_table(rt: HostRuntime) {
     assert!(&rt; comes_by_any_crew::<HostRuntime, Swap>(&rt, rt.alloc()));
 }
 
+// The journal of the next walk.
+const ANY_ROWS: &[u8] =
+    b"map 1 1 0 0 0\npass 1 picture 0 start 1\nrow 0 ? 1\nrow 1 ? 1\nrow 2 ? 1\nrow 3 ? 1\n";
+
 const FOUR_ROWS: Case<'_> = Case {
     path: b"size 2 4\nfocal 1\nat 0 0 1024 16384 0\n",
     settings: Settings {
@@ -216,9 +243,22 @@ const FOUR_ROWS: Case<'_> = Case {
         ..SETTINGS
     },
     settled: false,
+    journal: Some(ANY_ROWS),
     log: b"picture 0 passes 1 wanted 3 loaded 0 lost 0 evicted 0\nend pictures 1 reads 1\n",
     picture: b"P6\n2 4\n255\n\x0b\x0b\x0b\x0b\x0b\x0b\x0d\x0d\x0d\x05\x05\x05\x0b\x0b\x0b\x03\x03\x03\x0b\x0b\x0b\x03\x03\x03",
 };
+
+// Whether one of two samplers stands in one row of its journal, and the other in three.
+fn has_one_and_three(folder: &MemoryFolder) -> bool {
+    match folder.bytes_of("j") {
+        Some(journal) => {
+            let first = count_of(journal, ANY_ROWS, b'0');
+            let second = count_of(journal, ANY_ROWS, b'1');
+            first == 1 && second == 3 || first == 3 && second == 1
+        }
+        None => false,
+    }
+}
 
 #[test]
 fn a_sampler_draws_three_rows_while_another_waits(rt: HostRuntime) {
@@ -227,6 +267,7 @@ fn a_sampler_draws_three_rows_while_another_waits(rt: HostRuntime) {
     assert!(&rt;
         comes::<HostRuntime, Steal, FirstAndLater>(&rt, rt.alloc(), &mut folder, &FOUR_ROWS, &gate)
     );
+    assert!(&rt; has_one_and_three(&folder));
     assert!(&rt; gate.came());
 }
 
@@ -244,24 +285,44 @@ const ONE_TEXEL: Case<'_> = Case {
         ..SETTINGS
     },
     settled: true,
+    journal: None,
     log: b"picture 0 passes 3 wanted 1 loaded 1 lost 0 evicted 0\nend pictures 1 reads 2\n",
     picture: HEADER,
 };
 
-#[test]
-fn a_sampler_enters_the_swapped_table_while_another_has(rt: HostRuntime) {
+// All pixels are the blend of the texels 0, 1, 4 and 5 with the weights 36864, 12288, 12288 and 4096.
+const ONE_BLEND: Case<'_> = Case {
+    path: b"size 128 128\nfocal 1\nat 64 64 1 0 0\n",
+    ..ONE_TEXEL
+};
+
+// Whether the walk of a case by a machine shows so many pixels of these samples, and its second sampler begins a row while the first is at one.
+fn meets<Rt: Abort + Threads + Wait + Sync, M: PassMachine<File = MemoryFile> + Send>(
+    rt: &Rt,
+    alloc: Global,
+    case: &Case<'_>,
+    sample: u8,
+) -> bool {
     let gate = FirstAndLater::new(2);
-    let mut folder = MemoryFolder::new(rt.alloc(), Fails::new(rt.alloc()));
-    let Ok(mut picture) = Vec::from_elem(rt.alloc(), 5, HEADER.len() + 128 * 128 * 3) else {
-        panic!(&rt; "no memory");
+    let mut folder = MemoryFolder::new(alloc, Fails::new(alloc));
+    let Ok(mut picture) = Vec::from_elem(alloc, sample, HEADER.len() + 128 * 128 * 3) else {
+        return false;
     };
     picture[..HEADER.len()].copy_from_slice(HEADER);
-    let case = Case {
+    let shown = Case {
         picture: picture.as_slice(),
-        ..ONE_TEXEL
+        ..*case
     };
-    assert!(&rt;
-        comes::<HostRuntime, Swap, FirstAndLater>(&rt, rt.alloc(), &mut folder, &case, &gate)
-    );
-    assert!(&rt; gate.came());
+    comes::<Rt, M, FirstAndLater>(rt, alloc, &mut folder, &shown, &gate) && gate.came()
+}
+
+#[test]
+fn a_sampler_enters_the_swapped_table_while_another_has(rt: HostRuntime) {
+    assert!(&rt; meets::<HostRuntime, Swap>(&rt, rt.alloc(), &ONE_TEXEL, 5));
+}
+
+#[test]
+fn a_sampler_of_the_shared_words_draws_a_row_while_another_does(rt: HostRuntime) {
+    assert!(&rt; meets::<HostRuntime, Dealt>(&rt, rt.alloc(), &ONE_TEXEL, 5));
+    assert!(&rt; meets::<HostRuntime, Blend>(&rt, rt.alloc(), &ONE_BLEND, 1));
 }

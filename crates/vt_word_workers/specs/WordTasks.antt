@@ -1,5 +1,5 @@
 -- What the samplers and the streamer of a pass over shared words ask and leave.
-use Rattle.std.specs.Prelude.{◌≡◌, ℕ, ◌*◌, ◌^◌, ◌<◌, ◌≤◌, ◌++◌, true, Some, List, length, slice_index}
+use Rattle.std.specs.Prelude.{◌≡◌, ℕ, ◌*◌, ◌^◌, ◌<◌, ◌≤◌, ◌++◌, true, Some, List, length, reverse, slice_index}
 use Rattle.vt_sampler.specs.Shots.{shot_row, wants_in_rows}
 use Rattle.vt_journal.specs.Changes.{newest}
 use Rattle.vt_sampler.specs.Values.{WordsValue, PassValue}
@@ -33,8 +33,8 @@ pub record MayDraw (words : WordsValue) (scene : Scene) (picture : ℕ) (a : Wor
   pub rooted : pass.view.rooted ≡ true
   pub own : pass.view.sampler ≡ a.sampler.sampler
 
--- a sampler has drawn its rows of a picture of a scene by a filter over words, by what its pass noted, each at a version that the pass held
--- hold meanwhile; these never fall from row to row; and it has counted the texels that the rows want
+-- a sampler has drawn its rows of a picture of a scene by a filter over words, by what its pass noted, which held the version of each row in its
+-- turn; these never fall from row to row; and it has counted the texels that the rows want
 pub record HasDrawn {P : Type 0} (filter : FilterMeanings P) (words : WordsValue) (scene : Scene) (picture : ℕ) (a b : WordSampler) : Type 0 where
   pub number : b.sampler.sampler ≡ a.sampler.sampler
   pub among : b.sampler.samplers ≡ a.sampler.samplers
@@ -44,8 +44,7 @@ pub record HasDrawn {P : Type 0} (filter : FilterMeanings P) (words : WordsValue
   pub pass : PassValue
   pub has : b.pass ≡ Some pass
   pub of : IsPassOf words pass
-  pub more : List ℕ
-  pub held_more : HasHeldMore before.view pass.view more
+  pub held_more : HasHeldMore before.view pass.view (reverse b.sampler.versions)
   pub drawn : (y : ℕ) → IsOwn b.sampler y → AreShown filter.shown scene.shape scene.depth (version_at b.sampler y) (IsNotedIn pass.view)
       (shot_row scene.shape scene.path picture y) scene.path.width (row_at b.sampler y)
   pub full : (y : ℕ) → IsOwn b.sampler y → length (row_at b.sampler y) ≡ row_length scene.depth scene.path.width

@@ -19,6 +19,8 @@ pub(super) struct Flight<'a> {
     pub told: Told<'a>,
     /// What each picture holds, by the version of its row from the least on.
     pub shown: &'a [&'a [&'a [u8]]],
+    /// The words that replay its journal.
+    pub replay: &'a str,
 }
 
 // What a replay of so many pictures prints, from 0 to 4.
@@ -52,17 +54,18 @@ fn is_laid(scene: &mut Scene, files: &[(&str, Held<'_>)], walked: &Scene) -> boo
     }
 }
 
-// What a walk of so many pictures left is replayed to its pictures.
+// What a walk of so many pictures left is replayed to its pictures by these words.
 fn is_replayed(
     rt: &(impl Threads + Wait + Sync),
     alloc: Global,
+    words: &str,
     row: &Row<'_>,
     pictures: usize,
     walked: &Scene,
 ) -> bool {
     let mut scene = Scene::new(alloc);
     is_laid(&mut scene, row.files, walked)
-        && play(rt, alloc, REPLAY, &mut scene) == 0
+        && play(rt, alloc, words, &mut scene) == 0
         && scene.printed(end_of(pictures), b"")
         && have_same_pictures(walked, &scene)
 }
@@ -72,7 +75,7 @@ fn walks(rt: &(impl Threads + Wait + Sync), alloc: Global, row: &Row<'_>) -> boo
     match Scene::failing(alloc, row.fail, row.err_fail) {
         Ok(mut scene) => {
             leaves_in(rt, alloc, row, &mut scene)
-                && is_replayed(rt, alloc, row, row.pictures.len(), &scene)
+                && is_replayed(rt, alloc, REPLAY, row, row.pictures.len(), &scene)
         }
         Err(_) => false,
     }
@@ -121,11 +124,18 @@ fn flies_in(
         && play(rt, alloc, flight.row.words, scene) == flight.row.status
         && stands_beside(scene, &flight.row)
         && has_flown(scene, flight)
-        && is_replayed(rt, alloc, &flight.row, flight.shown.len(), scene)
+        && is_replayed(
+            rt,
+            alloc,
+            flight.replay,
+            &flight.row,
+            flight.shown.len(),
+            scene,
+        )
 }
 
-/// Its walk, whose workers have this meeting, leaves what it says.
-pub(super) fn flies(
+// Its walk, whose workers have this meeting, leaves what it says.
+fn flies(
     rt: &(impl Threads + Wait + Sync),
     alloc: Global,
     flight: &Flight<'_>,
@@ -140,16 +150,14 @@ pub(super) fn flies(
     }
 }
 
-/// Each flight leaves what it says.
+/// Each flight, whose workers have this meeting, leaves what it says.
 pub(super) fn fly_all(
     rt: &(impl Abort + Threads + Wait + Sync),
     alloc: Global,
     flights: &[Flight<'_>],
+    meeting: Meeting,
 ) {
     for i in 0..flights.len() {
-        assert!(rt;
-            flies(rt, alloc, &flights[i], Meeting::Nobody),
-            "flight {i}"
-        );
+        assert!(rt; flies(rt, alloc, &flights[i], meeting), "flight {i}");
     }
 }

@@ -13,8 +13,9 @@ pub enum Meeting {
     Nobody,
     /// The read of ticket 0 waits until that of ticket 1 was reached.
     Reads,
-    /// The third read of the walk waits until its fourth row was reached, and that row until version 4 was published.
-    RowAndStream,
+    /// The read of this number of the walk, from 0, waits until the row of this number was reached, and that row until this version was
+    /// published.
+    RowAndStream { read: u64, row: u64, version: u64 },
 }
 
 /// A gate for a meeting, which notes what was reached.
@@ -75,24 +76,24 @@ impl Meetings {
     }
 
     // A point, where a row and what is streamed meet.
-    fn meets(&self, point: Point) {
+    fn meets(&self, point: Point, read: u64, row: u64, version: u64) {
         match point {
             Point::Read {
                 loader: _,
                 ticket: _,
             } => {
-                if self.reads.fetch_add(1, Ordering::SeqCst) == 2 {
+                if self.reads.fetch_add(1, Ordering::SeqCst) == read {
                     self.wait_for(&self.first);
                 }
             }
             Point::Row { sampler: _, row: _ } => {
-                if self.rows.fetch_add(1, Ordering::SeqCst) == 3 {
+                if self.rows.fetch_add(1, Ordering::SeqCst) == row {
                     reach(&self.first);
                     self.wait_for(&self.second);
                 }
             }
-            Point::Published { version } => {
-                if version == 4 {
+            Point::Published { version: published } => {
+                if published == version {
                     reach(&self.second);
                 }
             }
@@ -104,7 +105,11 @@ impl Meetings {
         let reached = match self.meeting {
             Meeting::Nobody => true,
             Meeting::Reads => was_reached(&self.first),
-            Meeting::RowAndStream => was_reached(&self.first) && was_reached(&self.second),
+            Meeting::RowAndStream {
+                read: _,
+                row: _,
+                version: _,
+            } => was_reached(&self.first) && was_reached(&self.second),
         };
         reached && !was_reached(&self.late)
     }
@@ -119,7 +124,7 @@ impl Gate for Meetings {
                     self.read_meets(ticket);
                 }
             }
-            Meeting::RowAndStream => self.meets(point),
+            Meeting::RowAndStream { read, row, version } => self.meets(point, read, row, version),
         }
     }
 }

@@ -19,6 +19,8 @@ pub enum Held<'a> {
     Front(&'a [u8], usize),
     /// A journal of this text.
     Journal(Told<'a>),
+    /// A journal of one of these texts.
+    Either(Told<'a>, Told<'a>),
 }
 
 /// A run, and what it leaves.
@@ -52,7 +54,7 @@ pub(super) static PICTURES: [&str; 5] = [
     "f0004.ppm",
 ];
 
-// The bytes themselves; of a journal the text.
+// The bytes themselves; of a journal the text, or the first.
 fn bytes_of<'a>(held: &Held<'a>) -> &'a [u8] {
     match *held {
         Held::All(bytes) => bytes,
@@ -64,6 +66,7 @@ fn bytes_of<'a>(held: &Held<'a>) -> &'a [u8] {
             }
         }
         Held::Journal(told) => told.text,
+        Held::Either(told, _) => told.text,
     }
 }
 
@@ -81,6 +84,7 @@ pub fn adds(folder: &mut MemoryFolder, files: &[(&str, Held<'_>)]) -> bool {
 fn is_held(folder: &MemoryFolder, name: &str, held: &Held<'_>) -> bool {
     match (held, folder.bytes_of(name)) {
         (Held::Journal(told), Some(bytes)) => told.is(bytes),
+        (Held::Either(told, other), Some(bytes)) => told.is(bytes) || other.is(bytes),
         (_, Some(bytes)) => bytes == bytes_of(held),
         (_, None) => false,
     }

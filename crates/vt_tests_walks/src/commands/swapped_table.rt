@@ -1,6 +1,7 @@
 // Walks whose page table lies twice.
 use super::files::USAGE;
 use super::flights::{Flight, fly_all, walk_all};
+use super::gates::Meeting;
 use super::rows::{Row, hold};
 use super::walk_rows::{REUSED, REUSED_ROW, SETTLED, TALL};
 use std::test::*;
@@ -36,7 +37,7 @@ static FLIGHTS: [Flight<'static>; 1] = [Flight {
 #[test]
 fn a_walk_over_the_swapped_table_leaves_the_same(rt: HostRuntime) {
     walk_all(&rt, rt.alloc(), &WALKS);
-    fly_all(&rt, rt.alloc(), &FLIGHTS);
+    fly_all(&rt, rt.alloc(), &FLIGHTS, Meeting::Nobody);
 }
 
 const REFUSES: Row<'static> = Row {

@@ -1,7 +1,7 @@
 // Rows of walks, with what each leaves.
 use super::files::{G4_STORE, PATH, PICTURE};
 use super::flights::Flight;
-use super::replay_rows::OVER_G4;
+use super::replay_rows::{OVER_G4, REPLAY};
 use super::rows::Held::{All, Journal};
 use super::rows::Row;
 use crate::told::Told;
@@ -166,6 +166,7 @@ pub(super) const REUSED: Flight<'static> = Flight {
         &[FAR],
         &[FAR, FAR, FAR_WITH_PAGE_1, FAR_WITH_PAGE_1, OTHER],
     ],
+    replay: REPLAY,
 };
 
 // The same where page 1 is lost, in whose place page 2 stays.
@@ -200,6 +201,7 @@ pub(super) const LOST: Flight<'static> = Flight {
         &[FAR],
         &[FAR, FAR, FAR_WITH_PAGE_3],
     ],
+    replay: REPLAY,
 };
 
 // The words of the settled walk of one picture.

@@ -1,6 +1,7 @@
 // Runs of `walk`.
 use super::files::{FAULT, G4, G4_STORE, PATH, USAGE, WIDE_STORE};
 use super::flights::{Flight, fly_all, walk_all};
+use super::gates::Meeting;
 use super::rows::Held::All;
 use super::rows::{Row, hold, leaves_in};
 use super::runs::{Scene, play};
@@ -32,7 +33,7 @@ static FLIGHTS: [Flight<'static>; 2] = [REUSED, LOST];
 
 #[test]
 fn each_live_picture_is_that_of_its_version_and_is_replayed(rt: HostRuntime) {
-    fly_all(&rt, rt.alloc(), &FLIGHTS);
+    fly_all(&rt, rt.alloc(), &FLIGHTS, Meeting::Nobody);
 }
 
 const SETTLED_WIDE: Row<'static> = Row {

@@ -1,17 +1,17 @@
-use Rattle.std.proofs.Common.{◌≡◌, ℕ, ◌+◌, ◌*◌, ◌/◌, ◌%◌, ◌≤◌, ◌<◌, inl, inr, List, [], ◌∷◌, ◌∙◌, ap, sym, subst, length, arith}
+use Rattle.std.proofs.Common.{◌≡◌, ℕ, ◌+◌, ◌*◌, ◌/◌, ◌%◌, ◌≤◌, ◌<◌, inl, inr, List, [], ◌∷◌, ◌∙◌, ap, sym, subst, length, take, reverse, arith}
 use Rattle.std.specs.Prelude.{slice_index, slice_set}
 use Rattle.std.proofs.lemmas.Nat.{mul-le}
 use Rattle.std.proofs.lemmas.Bool.{cases_lt}
-use Rattle.std.proofs.lemmas.List.{get_or-set_same}
+use Rattle.std.proofs.lemmas.List.{get_or-set_same, take_more_set, take_all, reverse-append}
 use Rattle.vt_draw.specs.Lookups.{Note}
 use Rattle.vt_lookup.specs.Evidence.{AreShown}
 use Rattle.vt_lookup.proofs.Handed.{shown_by_more}
 use Rattle.vt_draw.specs.Shots.{shot_row, wants_in_rows}
 use Rattle.vt_lookup.specs.GraceTypes.views.PassView.{PassView}
-use Rattle.vt_lookup.specs.Notes.{IsNotedIn}
+use Rattle.vt_lookup.specs.Notes.{IsNotedIn, HasHeldMore}
 use Rattle.vt_sampler.specs.Held.{WasHeld}
 use Rattle.vt_sampler.specs.Samplers.{own_rows, own_count, row_in, row_length}
-use Rattle.vt_sampler.proofs.Quotients.{apart, quotient_after, rest_after, rest_small, quotient_small}
+use Rattle.vt_sampler.proofs.Quotients.{apart, quotient_after, rest_after, rest_small, quotient_small, own_done}
 use Rattle.vt_sampler.proofs.Sharing.{own_fits, own_room, own_rows-first, own_rows-next, own_rows-same, own_most, wants-none, wants-push}
 use Rattle.vt_sampler.proofs.Drawing.{rows_after}
 use Rattle.vt_sampler.proofs.Holding.{none_held, held_then, was_held_then, was_held_now, not_above, version_before, versions_after, rising_after}
@@ -23,7 +23,9 @@ loop-y-init g c =
     omega (arith, rest_small c.args.samplers z (omega (arith, below, c.requires.one_of)), own) in
     record {
       of = c.requires.of;
-      pass = ([], none_held c.args.pass.view);
+      holds =
+          subst (λ (k : ℕ). HasHeldMore c.args.pass.view c.args.pass.view (reverse (take k c.args.versions.now)))
+          (sym (quotient_small c.args.samplers c.args.sampler c.requires.one_of)) (none_held c.args.pass.view);
       place = sym (ap (λ n. n * (c.texel_length.result * c.width.result)) (quotient_small c.args.samplers c.args.sampler c.requires.one_of) ∙ omega arith);
       own = rest_small c.args.samplers c.args.sampler c.requires.one_of;
       last = λ z below own. absurd (none z below own);
@@ -94,12 +96,16 @@ loop-y-preserved g c =
     (row_in n (c.texel_length.result * c.width.result) c.loop-y.bytes z) c.draw_held-next.ensures.more.notes
     (subst (λ (u : ℕ). D u (IsNotedIn old) z (row_in n (c.texel_length.result * c.width.result) c.loop-y.bytes z))
     (sym (version_before n c.loop-y.y z v c.loop-y.versions same less)) (c.loop-y.invariant.drawn z less (same ∙ c.loop-y.invariant.own))) in
+    let so_far : List ℕ = reverse (take (c.loop-y.y / n) c.loop-y.versions) in
+    let one_more : reverse (take ((c.loop-y.y + n) / n) versions) ≡ v ∷ so_far =
+    ap (λ (k : ℕ). reverse (take k versions)) (quotient_after n c.loop-y.y some)
+    ∙ ap reverse (take_more_set c.loop-y.versions (c.loop-y.y / n) v fits)
+    ∙ reverse-append (take (c.loop-y.y / n) c.loop-y.versions) (v ∷ []) in
     record {
       of = c.draw_held-next.ensures.of;
-      pass = (
-        v ∷ c.loop-y.invariant.pass.0,
-        held_then first old new c.loop-y.invariant.pass.0 v c.loop-y.invariant.pass.1 c.draw_held-next.ensures.more,
-      );
+      holds =
+          subst (λ (us : List ℕ). HasHeldMore first new us) (sym one_more)
+          (held_then first old new so_far v c.loop-y.invariant.holds c.draw_held-next.ensures.more);
       place = omega (arith, c.loop-y.invariant.place, ap (λ m. m * (c.texel_length.result * c.width.result)) (quotient_after n c.loop-y.y some));
       own = rest_after n c.loop-y.y some ∙ c.loop-y.invariant.own;
       last = λ z below own.
@@ -116,7 +122,7 @@ loop-y-preserved g c =
           c.loop-y.invariant.place room full here before z below (own ∙ sym c.loop-y.invariant.own);
       held = λ z below own.
           versions_after (λ (i : ℕ) (u : ℕ). WasHeld first new u) n c.loop-y.y v c.loop-y.versions fits
-          (was_held_now first old new c.loop-y.invariant.pass.0 v c.loop-y.invariant.pass.1 c.draw_held-next.ensures.more c.draw_held-next.ensures.given
+          (was_held_now first old new so_far v c.loop-y.invariant.holds c.draw_held-next.ensures.more c.draw_held-next.ensures.given
           c.draw_held-next.ensures.later)
           (λ i less same. was_held_then first old new _ v c.draw_held-next.ensures.more (c.loop-y.invariant.held i less (same ∙ c.loop-y.invariant.own)))
           z below (own ∙ sym c.loop-y.invariant.own);
@@ -152,3 +158,16 @@ returns-clause-drawn g c y inside own =
     let low : y < c.loop-y.y = omega (arith, inside, c.loop-y-test.false, c.height-height.ensures.value) in
     subst (λ (n : ℕ). AreShown g.P.Filter.shown s depth (slice_index c.loop-y.versions (y / c.args.samplers)) (IsNotedIn c.loop-y.pass.view)
     (shot_row s path c.args.shot.now.picture y) path.width (row_in c.args.samplers n c.loop-y.bytes y)) line (c.loop-y.invariant.drawn y low own)
+
+pub returns-clause-holds : goal.returns-clause-holds
+returns-clause-holds g c =
+    let all : length c.loop-y.versions ≤ c.loop-y.y / c.args.samplers =
+    omega (
+      arith,
+      own_done c.args.sampler c.args.samplers c.args.shot.now.path.now.height c.loop-y.y c.requires.one_of
+          (omega (arith, c.loop-y-test.false, c.height-height.ensures.value)) c.loop-y.invariant.own,
+      c.loop-y.auto.versions,
+      c.requires.rows,
+    ) in
+    subst (λ (us : List ℕ). HasHeldMore c.args.pass.view c.loop-y.pass.view (reverse us))
+    (take_all (c.loop-y.y / c.args.samplers) c.loop-y.versions all) c.loop-y.invariant.holds

@@ -1,4 +1,4 @@
-use Rattle.std.proofs.Common.{◌≡◌, ℕ, ◌-◌, ◌*◌, ◌/◌, ◌%◌, ◌<◌, ◌≤◌, List, length}
+use Rattle.std.proofs.Common.{◌≡◌, ℕ, ◌-◌, ◌*◌, ◌/◌, ◌%◌, ◌<◌, ◌≤◌, length, take, reverse}
 use Rattle.std.specs.Prelude.{slice_index}
 use Rattle.vt_draw.specs.Shots.{shot_row, wants_in_rows}
 use Rattle.vt_lookup.specs.Evidence.{AreShown}
@@ -12,7 +12,7 @@ use Rattle.vt_sampler.proofs.held_rows.draw_held_rows.Given as goal
 abbrev pub invariant-loop-y : goal.invariant-loop-y
 invariant-loop-y g l = record {
   of : IsPassOf l.words l.pass;
-  pass : (more : List ℕ) × HasHeldMore l.fn.pass.view l.pass.view more;
+  holds : HasHeldMore l.fn.pass.view l.pass.view (reverse (take (l.y / l.samplers) l.versions));
   place : l.at ≡ l.y / l.samplers * l.line;
   own : l.y % l.samplers ≡ l.sampler;
   last : (z : ℕ) → z < l.y → z % l.samplers ≡ l.sampler → z < l.height;

@@ -1,17 +1,18 @@
-use Rattle.std.proofs.Common.{inl, inr, ◌≡◌, ℕ, ◌+◌, ◌*◌, ◌<◌, ◌≤◌, List, [], ◌∷◌, ◌++◌, length, sym, ap, ◌∙◌, subst, arith}
+use Rattle.std.proofs.Common.{inl, inr, ◌≡◌, ℕ, ◌+◌, ◌*◌, ◌<◌, ◌≤◌, List, [], ◌∷◌, ◌++◌, length, reverse, sym, ap, ◌∙◌, subst, arith}
 use Rattle.std.specs.Prelude.{All}
 use Rattle.std.proofs.lemmas.Nat.{mul-le}
 use Rattle.std.proofs.lemmas.List.{length_push}
 use Rattle.std.proofs.lemmas.List.Elements.{All-nil}
 use Rattle.vt_draw.specs.Shots.{shot_row, wants_in_rows}
+use Rattle.vt_lookup.specs.Notes.{HasHeldMore}
 use Rattle.vt_sampler.specs.Samplers.{row_length}
 use Rattle.vt_sampler.proofs.Holding.{none_held, held_then}
 use Rattle.vt_sampler.proofs.Sharing.{wants-none, wants-push}
 use Rattle.vt_shared_rows.specs.declared.bag.RowJob.{RowJob}
 use Rattle.vt_shared_rows.specs.Bags.{view_of}
-use Rattle.vt_shared_rows.specs.SharedRows.{HasTaken, IsKeptRow, VersionsRise, rows_of}
+use Rattle.vt_shared_rows.specs.SharedRows.{HasTaken, IsKeptRow, VersionsRise, rows_of, versions_of}
 use Rattle.vt_shared_rows.proofs.Taken.{rows_push, taken_none, taken_more, taken_number, taken_ends}
-use Rattle.vt_shared_rows.proofs.Keepers.{wants_most, rows_number, kept_more, versions_more}
+use Rattle.vt_shared_rows.proofs.Keepers.{wants_most, rows_number, kept_more, versions_more, versions_push}
 use Rattle.vt_shared_rows.proofs.rows.draw_rows.Goals as goal
 
 pub loop-init : goal.loop-init
@@ -26,7 +27,7 @@ loop-init g c =
     record {
       bag = c.requires.bag;
       of = c.requires.of;
-      pass = ([], none_held first);
+      holds = subst (λ (l : List RowJob). HasHeldMore first first (reverse (versions_of l))) (sym none) (none_held first);
       taken = (taken_none path.height (row_length d path.width) (view_of c.args.own.now) kept none, omega arith);
       drawn = subst (λ (l : List RowJob). All (IsKeptRow g.P.Filter s d path picture c.args.sampler first first) l) (sym none)
           (All-nil (IsKeptRow g.P.Filter s d path picture c.args.sampler first first));
@@ -74,11 +75,13 @@ loop-preserved g c =
     let job = c.in-Some.job in
     let e = c.draw_row_of-next.ensures in
     let now = c.draw_row_of-next.result.1 in
+    let new = c.draw_row_of-next.result.0.view in
     let all : c.push.new.self.elements ≡ kept ++ now ∷ [] = c.push.ensures.elements in
     record {
       bag = c.in-Some.ensures.of;
       of = e.of;
-      pass = (now.version ∷ i.pass.0, held_then first c.loop.pass.view c.draw_row_of-next.result.0.view i.pass.0 now.version i.pass.1 e.more);
+      holds = subst (HasHeldMore first new) (sym (versions_push kept now) ∙ ap (λ (l : List RowJob). reverse (versions_of l)) (sym all))
+          (held_then first c.loop.pass.view new (reverse (versions_of kept)) now.version i.holds e.more);
       taken = subst (λ (l : List RowJob). (t : HasTaken path.height (row_length d path.width) (view_of c.args.own.now) (view_of c.take_row.new.own) l)
           × (c.loop.counter + 1 ≤ length t.got)) (sym all) (
             taken_more path.height (row_length d path.width) (view_of c.args.own.now) (view_of c.loop.own) (view_of c.take_row.new.own) kept job now
@@ -86,11 +89,11 @@ loop-preserved g c =
             taken_number path.height (row_length d path.width) c.loop.counter (view_of c.args.own.now) (view_of c.loop.own)
                 (view_of c.take_row.new.own) kept job now i.taken.0 c.in-Some.ensures.some.0 e.row i.taken.1,
           );
-      drawn = subst (λ (l : List RowJob). All (IsKeptRow g.P.Filter s d path picture c.args.sampler first c.draw_row_of-next.result.0.view) l) (sym all)
-          (kept_more g.P.Filter s d path picture c.args.sampler first c.loop.pass.view c.draw_row_of-next.result.0.view i.pass.0 i.pass.1 kept now e.more
+      drawn = subst (λ (l : List RowJob). All (IsKeptRow g.P.Filter s d path picture c.args.sampler first new) l) (sym all)
+          (kept_more g.P.Filter s d path picture c.args.sampler first c.loop.pass.view new (reverse (versions_of kept)) i.holds kept now e.more
           e.later e.given i.drawn e.fits e.by e.drawn);
       rising = subst VersionsRise (sym all)
-          (versions_more g.P.Filter s d path picture c.args.sampler first c.loop.pass.view c.draw_row_of-next.result.0.view i.pass.0 i.pass.1 kept now e.more
+          (versions_more g.P.Filter s d path picture c.args.sampler first c.loop.pass.view new (reverse (versions_of kept)) i.holds kept now e.more
           e.later e.given i.drawn i.rising);
       counted = λ p inside.
           let low : p < length c.loop.counts = (let n = c.draw_row_of-next.auto.counts in omega (arith, n, inside)) in

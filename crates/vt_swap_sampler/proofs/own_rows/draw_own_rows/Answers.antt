@@ -1,8 +1,8 @@
-use Rattle.std.proofs.Common.{◌≡◌, ℕ, ◌+◌, ◌*◌, ◌/◌, ◌%◌, ◌≤◌, ◌<◌, inl, inr, List, [], ◌∷◌, ◌++◌, ◌∙◌, ap, sym, subst, length, arith}
+use Rattle.std.proofs.Common.{◌≡◌, ℕ, ◌+◌, ◌*◌, ◌/◌, ◌%◌, ◌≤◌, ◌<◌, inl, inr, List, [], ◌∷◌, ◌∙◌, ap, sym, subst, length, take, reverse, arith}
 use Rattle.std.specs.Prelude.{slice_index, slice_set}
 use Rattle.std.proofs.lemmas.Nat.{mul-le}
 use Rattle.std.proofs.lemmas.Bool.{cases_lt}
-use Rattle.std.proofs.lemmas.List.{get_or-set_same}
+use Rattle.std.proofs.lemmas.List.{get_or-set_same, take_more_set, take_all, reverse-append}
 use Rattle.vt_draw.specs.Lookups.{Note}
 use Rattle.vt_pictures.specs.Evidence.{AreShown}
 use Rattle.vt_pictures.proofs.Handed.{shown_by_more}
@@ -10,14 +10,13 @@ use Rattle.vt_draw.specs.Shots.{shot_row, wants_in_rows}
 use Rattle.vt_swap.specs.Notes.{IsSaidBy}
 use Rattle.vt_swap.specs.Readers.{ReaderView}
 use Rattle.vt_swap.proofs.Saying.{said_on}
-use Rattle.vt_swap.proofs.Entering.{entered_none}
 use Rattle.vt_sampler.specs.Samplers.{own_rows, own_count, row_in, row_length}
-use Rattle.vt_sampler.proofs.Quotients.{apart, quotient_after, rest_after, rest_small, quotient_small}
+use Rattle.vt_sampler.proofs.Quotients.{apart, quotient_after, rest_after, rest_small, quotient_small, own_done}
 use Rattle.vt_sampler.proofs.Sharing.{own_fits, own_room, own_rows-first, own_rows-next, own_rows-same, own_most, wants-none, wants-push}
 use Rattle.vt_sampler.proofs.Drawing.{rows_after}
 use Rattle.vt_sampler.proofs.Holding.{version_before, versions_after, rising_after}
-use Rattle.vt_swap_sampler.specs.Entered.{WasEnteredBetween}
-use Rattle.vt_swap_sampler.proofs.EnteredRows.{entered_more, was_entered_then, was_entered_now, not_above}
+use Rattle.vt_swap_sampler.specs.Entered.{WasEnteredBetween, HasEnteredRows}
+use Rattle.vt_swap_sampler.proofs.EnteredRows.{was_entered_then, was_entered_now, not_above, no_rows, rows_more}
 use Rattle.vt_swap_sampler.proofs.own_rows.draw_own_rows.Goals as goal
 
 pub loop-y-init : goal.loop-y-init
@@ -25,7 +24,9 @@ loop-y-init g c =
     let none : (z : ℕ) → z < c.args.sampler → z % c.args.samplers ≡ c.args.sampler → ⊥ = λ z below own.
     omega (arith, rest_small c.args.samplers z (omega (arith, below, c.requires.one_of)), own) in
     record {
-      reader = ([], entered_none c.args.reader);
+      rows =
+          subst (λ (k : ℕ). HasEnteredRows c.args.reader c.args.reader (reverse (take k c.args.versions.now)))
+          (sym (quotient_small c.args.samplers c.args.sampler c.requires.one_of)) (no_rows c.args.reader);
       place = sym (ap (λ n. n * (c.texel_length.result * c.width.result)) (quotient_small c.args.samplers c.args.sampler c.requires.one_of) ∙ omega arith);
       own = rest_small c.args.samplers c.args.sampler c.requires.one_of;
       last = λ z below own. absurd (none z below own);
@@ -74,7 +75,7 @@ loop-y-preserved g c =
       arith,
       own_fits c.args.sampler n c.args.shot.now.path.now.height c.loop-y.y c.requires.one_of inside c.loop-y.invariant.own,
       c.loop-y.auto.versions,
-      c.requires.rows,
+      c.requires.versions,
     ) in
     let versions : List ℕ = slice_set c.loop-y.versions (c.loop-y.y / n) v in
     let D : ℕ → (Note → Type 0) → ℕ → List ℕ → Type 0 = λ u says z row.
@@ -96,12 +97,15 @@ loop-y-preserved g c =
     (row_in n (c.texel_length.result * c.width.result) c.loop-y.bytes z) (λ note said. said_on old.log new.log note c.draw_row-next.ensures.entered.more.log said)
     (subst (λ (u : ℕ). D u (IsSaidBy old.log) z (row_in n (c.texel_length.result * c.width.result) c.loop-y.bytes z))
     (sym (version_before n c.loop-y.y z v c.loop-y.versions same less)) (c.loop-y.invariant.drawn z less (same ∙ c.loop-y.invariant.own))) in
+    let so_far : List ℕ = reverse (take (c.loop-y.y / n) c.loop-y.versions) in
+    let one_more : reverse (take ((c.loop-y.y + n) / n) versions) ≡ v ∷ so_far =
+    ap (λ (k : ℕ). reverse (take k versions)) (quotient_after n c.loop-y.y some)
+    ∙ ap reverse (take_more_set c.loop-y.versions (c.loop-y.y / n) v fits)
+    ∙ reverse-append (take (c.loop-y.y / n) c.loop-y.versions) (v ∷ []) in
     record {
-      reader = (
-        (v ∷ c.draw_row-next.ensures.entered.before) ++ c.loop-y.invariant.reader.0,
-        entered_more first old new c.loop-y.invariant.reader.0 (v ∷ c.draw_row-next.ensures.entered.before) c.loop-y.invariant.reader.1
-            c.draw_row-next.ensures.entered.more,
-      );
+      rows =
+          subst (HasEnteredRows first new) (sym one_more)
+          (rows_more first old new so_far v c.loop-y.invariant.rows c.draw_row-next.ensures.entered);
       place = omega (arith, c.loop-y.invariant.place, ap (λ m. m * (c.texel_length.result * c.width.result)) (quotient_after n c.loop-y.y some));
       own = rest_after n c.loop-y.y some ∙ c.loop-y.invariant.own;
       last = λ z below own.
@@ -118,7 +122,7 @@ loop-y-preserved g c =
           c.loop-y.invariant.place room full here before z below (own ∙ sym c.loop-y.invariant.own);
       entered = λ z below own.
           versions_after (λ (i : ℕ) (u : ℕ). WasEnteredBetween first new u) n c.loop-y.y v c.loop-y.versions fits
-          (was_entered_now first old new c.loop-y.invariant.reader.0 v c.loop-y.invariant.reader.1 c.draw_row-next.ensures.entered)
+          (was_entered_now first old new c.loop-y.invariant.rows.more v c.loop-y.invariant.rows.entered c.draw_row-next.ensures.entered)
           (λ i less same. was_entered_then first old new (v ∷ c.draw_row-next.ensures.entered.before) _ c.draw_row-next.ensures.entered.more
           (c.loop-y.invariant.entered i less (same ∙ c.loop-y.invariant.own)))
           z below (own ∙ sym c.loop-y.invariant.own);
@@ -154,3 +158,16 @@ returns-clause-drawn g c y inside own =
     let low : y < c.loop-y.y = omega (arith, inside, c.loop-y-test.false, c.height-height.ensures.value) in
     subst (λ (n : ℕ). AreShown g.P.Filter.shown s depth (slice_index c.loop-y.versions (y / c.args.samplers)) (IsSaidBy c.loop-y.reader.log)
     (shot_row s path c.args.shot.now.picture y) path.width (row_in c.args.samplers n c.loop-y.bytes y)) line (c.loop-y.invariant.drawn y low own)
+
+pub returns-clause-rows : goal.returns-clause-rows
+returns-clause-rows g c =
+    let all : length c.loop-y.versions ≤ c.loop-y.y / c.args.samplers =
+    omega (
+      arith,
+      own_done c.args.sampler c.args.samplers c.args.shot.now.path.now.height c.loop-y.y c.requires.one_of
+          (omega (arith, c.loop-y-test.false, c.height-height.ensures.value)) c.loop-y.invariant.own,
+      c.loop-y.auto.versions,
+      c.requires.versions,
+    ) in
+    subst (λ (us : List ℕ). HasEnteredRows c.args.reader c.loop-y.reader (reverse us))
+    (take_all (c.loop-y.y / c.args.samplers) c.loop-y.versions all) c.loop-y.invariant.rows

@@ -1,17 +1,16 @@
-use Rattle.std.proofs.Common.{◌≡◌, ℕ, ◌-◌, ◌*◌, ◌/◌, ◌%◌, ◌<◌, ◌≤◌, List, length}
+use Rattle.std.proofs.Common.{◌≡◌, ℕ, ◌-◌, ◌*◌, ◌/◌, ◌%◌, ◌<◌, ◌≤◌, length, take, reverse}
 use Rattle.std.specs.Prelude.{slice_index}
 use Rattle.vt_draw.specs.Shots.{shot_row, wants_in_rows}
 use Rattle.vt_pictures.specs.Evidence.{AreShown}
 use Rattle.vt_swap.specs.Notes.{IsSaidBy}
-use Rattle.vt_swap.specs.Readers.{HasEnteredMore}
 use Rattle.vt_sampler.specs.Samplers.{own_rows, row_in}
-use Rattle.vt_swap_sampler.specs.Entered.{WasEnteredBetween}
+use Rattle.vt_swap_sampler.specs.Entered.{WasEnteredBetween, HasEnteredRows}
 use Rattle.vt_swap_sampler.proofs.own_rows.draw_own_rows.Given as goal
 
 -- the sampler's rows so far are drawn and counted, each at a version that the reader entered, which never fell
 abbrev pub invariant-loop-y : goal.invariant-loop-y
 invariant-loop-y g l = record {
-  reader : (more : List ℕ) × HasEnteredMore l.fn.reader l.reader more;
+  rows : HasEnteredRows l.fn.reader l.reader (reverse (take (l.y / l.samplers) l.versions));
   place : l.at ≡ l.y / l.samplers * l.line;
   own : l.y % l.samplers ≡ l.sampler;
   last : (z : ℕ) → z < l.y → z % l.samplers ≡ l.sampler → z < l.height;

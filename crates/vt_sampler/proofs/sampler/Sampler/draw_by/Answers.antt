@@ -1,10 +1,10 @@
-use Rattle.std.proofs.Common.{◌≡◌, ℕ, ◌*◌, ◌/◌, ◌≤◌, ◌<◌, List, ◌∙◌, ap, subst, sym, length}
+use Rattle.std.proofs.Common.{◌≡◌, ℕ, ◌*◌, ◌/◌, ◌≤◌, ◌<◌, List, ◌∙◌, ap, subst, sym, length, reverse}
 use Rattle.std.specs.Prelude.{slice_index}
 use Rattle.std.specs.Vec.{with_items}
 use Rattle.std.proofs.lemmas.List.{with_items_is}
 use Rattle.vt_draw.specs.Shots.{shot_row}
 use Rattle.vt_lookup.specs.Evidence.{AreShown}
-use Rattle.vt_lookup.specs.Notes.{IsNotedIn}
+use Rattle.vt_lookup.specs.Notes.{IsNotedIn, HasHeldMore}
 use Rattle.vt_sampler.specs.Samplers.{SamplerView, IsFor, own_count, row_length, row_in}
 use Rattle.vt_sampler.proofs.Sharing.{own_full}
 use Rattle.vt_sampler.proofs.sampler.Sampler.draw_by.Goals as goal
@@ -48,3 +48,9 @@ returns-clause-rising g c y z own_y own_z low =
     let inside : z < c.args.shot.now.path.now.height = subst (λ (n : ℕ). z < n) for_it.height own_z.inside in
     subst (λ (us : List ℕ). slice_index us (y / s.samplers) ≤ slice_index us (z / s.samplers)) (sym versions)
     (c.draw_held_rows.ensures.rising y z inside own_y.own own_z.own low)
+
+pub returns-clause-holds : goal.returns-clause-holds
+returns-clause-holds g c =
+    let s = c.self.inside in
+    let versions = with_items_is s.versions c.draw_held_rows.new.versions (c.draw_held_rows.auto.versions ∙ c.as_mut_slice-3.ensures.len) in
+    subst (λ (us : List ℕ). HasHeldMore c.args.pass.view c.draw_held_rows.result.view (reverse us)) (sym versions) c.draw_held_rows.ensures.holds

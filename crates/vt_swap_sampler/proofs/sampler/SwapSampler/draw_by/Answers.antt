@@ -1,4 +1,4 @@
-use Rattle.std.proofs.Common.{◌≡◌, ℕ, ◌*◌, ◌/◌, ◌≤◌, ◌<◌, List, ◌∙◌, ap, subst, sym, length}
+use Rattle.std.proofs.Common.{◌≡◌, ℕ, ◌*◌, ◌/◌, ◌≤◌, ◌<◌, List, ◌∙◌, ap, subst, sym, length, reverse}
 use Rattle.std.specs.Prelude.{slice_index}
 use Rattle.std.specs.Vec.{with_items}
 use Rattle.std.proofs.lemmas.List.{with_items_is}
@@ -7,6 +7,7 @@ use Rattle.vt_pictures.specs.Evidence.{AreShown}
 use Rattle.vt_swap.specs.Notes.{IsSaidBy}
 use Rattle.vt_sampler.specs.Samplers.{SamplerView, IsFor, own_count, row_length, row_in}
 use Rattle.vt_sampler.proofs.Sharing.{own_full}
+use Rattle.vt_swap_sampler.specs.Entered.{HasEnteredRows}
 use Rattle.vt_swap_sampler.proofs.sampler.SwapSampler.draw_by.Goals as goal
 
 pub returns-clause-full : goal.returns-clause-full
@@ -48,3 +49,9 @@ returns-clause-rising g c y z own_y own_z low =
     let inside : z < c.args.shot.now.path.now.height = subst (λ (n : ℕ). z < n) for_it.height own_z.inside in
     subst (λ (us : List ℕ). slice_index us (y / s.samplers) ≤ slice_index us (z / s.samplers)) (sym versions)
     (c.draw_own_rows.ensures.rising y z inside own_y.own own_z.own low)
+
+pub returns-clause-rows : goal.returns-clause-rows
+returns-clause-rows g c =
+    let s = c.self.inside in
+    let versions = with_items_is s.versions c.draw_own_rows.new.versions (c.draw_own_rows.auto.versions ∙ c.as_mut_slice-3.ensures.len) in
+    subst (λ (us : List ℕ). HasEnteredRows c.args.reader c.draw_own_rows.result (reverse us)) (sym versions) c.draw_own_rows.ensures.rows
