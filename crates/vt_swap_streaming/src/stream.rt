@@ -40,7 +40,7 @@ pub fn stream_swapped<Rt: Threads + Wait, G: Gate>(
     into: &mut StreamReport,
     gate: &G,
 ) -> bool
-    requires slots { AreSlotsOf streamer.old.book slots.now }
+    requires slots { AreSlotsOf streamer.old.cache slots.now }
     requires few_frames { length slots.now ≤ most_frames }
     requires depth { IsDepth depth }
     requires answers { IsOf results.now answers.old }
@@ -48,7 +48,7 @@ pub fn stream_swapped<Rt: Threads + Wait, G: Gate>(
     requires few { length batch.now < 2 ^ 32 }
     requires early { length streamer.old.journal + 2 * length batch.now ≤ most_versions }
     requires report { IsBlank (length batch.now) into.old }
-    ensures book { streamer.new.book ≡ streamer.old.book }
+    ensures cache { streamer.new.cache ≡ streamer.old.cache }
     ensures answers { IsOf results.now answers.new × (splits_of answers.new ≡ splits_of answers.old) }
     ensures took { Streams (length batch.now) (view_of answers.old) (view_of answers.new) into.new.taken.elements
         into.new.results.elements }
