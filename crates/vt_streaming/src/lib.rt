@@ -12,3 +12,4 @@ mod waits;
 pub use report::StreamReport;
 pub use stream::stream_batch;
 pub use vt_streamer::Streamer;
+pub use waits::take_result;

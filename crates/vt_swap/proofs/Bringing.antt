@@ -4,8 +4,8 @@ use Rattle.vt_journal.specs.declared.changes.Change.{Change}
 use Rattle.vt_journal.specs.declared.changes.Change.TheVariants.{Map, Unmap}
 use Rattle.vt_journal.specs.Changes.{Table, newest, changed, IsNext, AreInTurn, IsOneToOne}
 use Rattle.vt_journal.proofs.Versions.{newest-more, entry-same, entry-other, same_page, mapped_after_unmap, one_to_one}
-use Rattle.vt_swap.specs.declared.records.LogRecord.{LogRecord}
-use Rattle.vt_swap.specs.declared.records.LogRecord.TheVariants.{Changed, Filled}
+use Rattle.vt_swap_steps.specs.LogTypes.records.LogRecord.{LogRecord}
+use Rattle.vt_swap_steps.specs.LogTypes.records.LogRecord.TheVariants.{Changed, Filled}
 use Rattle.vt_swap.specs.Streamers.{StreamerView, HasUnmapped, HasMapped, HasBrought, MayBring}
 
 -- a page may be mapped to a frame once the frame's page was unmapped
@@ -30,7 +30,7 @@ next_unmapped js page frame victim turn may =
 pub brought_after : (d texels : ℕ) (tile : List ℕ) (v m w : StreamerView) (page frame victim : ℕ) → HasUnmapped v m victim frame
     → HasMapped d texels tile m w page frame → HasBrought d texels tile v w page frame (Some victim)
 brought_after d texels tile v m w page frame victim one two = record {
-  book = two.book ∙ one.book;
+  cache = two.cache ∙ one.cache;
   words = two.words;
   words_of = two.words_of;
   log =
@@ -44,7 +44,7 @@ brought_after d texels tile v m w page frame victim one two = record {
 pub brought_free : (d texels : ℕ) (tile : List ℕ) (v w : StreamerView) (page frame : ℕ) → HasMapped d texels tile v w page frame
     → HasBrought d texels tile v w page frame None
 brought_free d texels tile v w page frame one = record {
-  book = one.book;
+  cache = one.cache;
   words = one.words;
   words_of = one.words_of;
   log = one.log;

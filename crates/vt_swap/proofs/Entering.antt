@@ -3,13 +3,13 @@ use Rattle.std.proofs.Common.{ℕ, ◌≤◌, List, [], ◌∷◌, ◌++◌, len
 use Rattle.std.specs.Prelude.{All}
 use Rattle.std.proofs.lemmas.List.Elements.{All-tail}
 use mathlib.Core.List.{IsPrefix}
-use Rattle.vt_swap.specs.declared.records.LogRecord.{LogRecord}
-use Rattle.vt_swap.specs.declared.table.NewestTable.{NewestTable}
-use Rattle.vt_swap.specs.Logs.{changes_in}
-use Rattle.vt_swap.specs.Tables.{IsTable}
+use Rattle.vt_swap_steps.specs.LogTypes.records.LogRecord.{LogRecord}
+use Rattle.vt_swap_steps.specs.declared.table.NewestTable.{NewestTable}
+use Rattle.vt_swap_steps.specs.Logs.{changes_in}
+use Rattle.vt_swap_steps.specs.Tables.{IsTable}
 use Rattle.vt_swap.specs.Readers.{ReaderView, HasEnteredMore, WasEntered}
-use Rattle.vt_swap.proofs.Prefixes.{prefix_self, prefix_trans, prefix_length}
-use Rattle.vt_swap.proofs.Lawful.{changes_prefix}
+use Rattle.vt_swap_steps.proofs.Prefixes.{prefix_self, prefix_trans, prefix_length}
+use Rattle.vt_swap_steps.proofs.Lawful.{changes_prefix}
 
 -- what is so of each element is so of those behind a front
 pub all_behind : {X : Type 0} (P : X → Type 0) (xs ys : List X) → All P (xs ++ ys) → All P ys
@@ -17,12 +17,12 @@ all_behind P [] ys all = all
 all_behind P (x ∷ xs) ys all = all_behind P xs ys (All-tail P x (xs ++ ys) all)
 
 pub entered_none : (r : ReaderView) → HasEnteredMore r r []
-entered_none r = record { book = refl; log = prefix_self r.log; entered = refl }
+entered_none r = record { cache = refl; log = prefix_self r.log; entered = refl }
 
 pub entered_then : (r q s : ReaderView) (more : List ℕ) (version : ℕ) → HasEnteredMore r q more → HasEnteredMore q s (version ∷ [])
     → HasEnteredMore r s (version ∷ more)
 entered_then r q s more version one two = record {
-  book = two.book ∙ one.book;
+  cache = two.cache ∙ one.cache;
   log = prefix_trans r.log q.log s.log one.log two.log;
   entered = two.entered ∙ ap (λ (l : List ℕ). version ∷ l) one.entered;
 }
@@ -42,7 +42,7 @@ pub was_later : (r q s : ReaderView) (more : List ℕ) (version : ℕ) → HasEn
 was_later r q s more version one two = record {
   before = two.before ++ more;
   more = record {
-    book = two.more.book ∙ one.book;
+    cache = two.more.cache ∙ one.cache;
     log = prefix_trans r.log q.log s.log one.log two.more.log;
     entered =
         two.more.entered ∙ ap (λ (l : List ℕ). version ∷ (two.before ++ l)) one.entered

@@ -1,8 +1,6 @@
-pub mod Prefixes
-pub mod Lawful
-pub mod Adding
-pub mod Turning
+pub use Rattle.vt_swap_steps.proofs.Lawful
+pub use Rattle.vt_swap_steps.proofs.Prefixes
 pub mod Saying
 pub mod Entering
-pub mod Published
 pub mod Bringing
+pub mod Shown

@@ -7,16 +7,17 @@ use Rattle.vt_journal.specs.declared.changes.Change.{Change}
 use Rattle.vt_journal.specs.Changes.{Table, at}
 use Rattle.vt_journal.specs.Kept.{entry_of}
 use Rattle.vt_journal.proofs.Versions.{at-front}
-use Rattle.vt_swap.specs.declared.records.LogRecord.{LogRecord}
-use Rattle.vt_swap.specs.declared.table.NewestTable.{NewestTable}
-use Rattle.vt_swap.specs.Logs.{changes_in}
-use Rattle.vt_swap.specs.Notes.{HasWord, IsEntry, IsWord, IsSaidBy}
+use Rattle.vt_swap_steps.specs.LogTypes.records.LogRecord.{LogRecord}
+use Rattle.vt_swap_steps.specs.declared.table.NewestTable.{NewestTable}
+use Rattle.vt_swap_steps.specs.Logs.{changes_in}
+use Rattle.vt_swap_steps.specs.Told.{HasWord, IsEntry}
+use Rattle.vt_swap.specs.Notes.{IsWord, IsSaidBy}
 use Rattle.vt_pages.specs.Pages.{ancestor_of}
 use Rattle.vt_draw.specs.declared.lookups.Found.{Found}
 use Rattle.vt_draw.specs.Lookups.{IsFinest}
 use Rattle.vt_swap.specs.Readers.{LookupView, IsLookup, IsSaidIn}
-use Rattle.vt_swap.proofs.Prefixes.{prefix_get, prefix_length}
-use Rattle.vt_swap.proofs.Lawful.{changes_prefix}
+use Rattle.vt_swap_steps.proofs.Prefixes.{prefix_get, prefix_length}
+use Rattle.vt_swap_steps.proofs.Lawful.{changes_prefix}
 
 -- the versions of a beginning of a journal are those of the journal
 at_prefix : (js ks : List Change) (v : ℕ) → IsPrefix js ks → v ≤ length js → at ks v ≡ at js v

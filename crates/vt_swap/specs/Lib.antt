@@ -1,10 +1,8 @@
 pub use Rattle.vt_journal.specs.Kept
-pub mod Logs
-pub mod Heads
-pub mod Entries
-pub mod Tables
-pub mod Rules
-pub mod Slots
+pub use Rattle.vt_swap_steps.specs.Caches
+pub use Rattle.vt_swap_steps.specs.LogTypes
+pub use Rattle.vt_swap_steps.specs.Logs
+pub use Rattle.vt_swap_steps.specs.Slots
 pub mod Notes
 pub mod Readers
 pub mod Streamers

@@ -1,6 +1,6 @@
 -- A page cache that is new.
 use Rattle.std.specs.Prelude.{◌≡◌, false, []}
-use Rattle.logbook.specs.Pages.{Book}
+use Rattle.vt_swap_steps.specs.Caches.{Cache}
 use Rattle.vt_swap.specs.Readers.{ReaderView}
 use Rattle.vt_swap.specs.Streamers.{StreamerView}
 
@@ -10,6 +10,6 @@ pub record IsNewStreamer (v : StreamerView) : Type 0 where
   pub journal : v.journal ≡ []
   pub goes_on : v.broken ≡ false
 
--- a reader of this log has seen and entered nothing
-abbrev pub IsNewReader : Book → ReaderView → Type 0
-IsNewReader book r = r ≡ record { book = book; log = []; entered = [] }
+-- a reader of this cache has seen and entered nothing
+abbrev pub IsNewReader : Cache → ReaderView → Type 0
+IsNewReader cache r = r ≡ record { cache = cache; log = []; entered = [] }

@@ -1,25 +1,11 @@
 -- What a log says of versions of the page table, and of the words of frames.
-use Rattle.std.specs.Prelude.{◌≡◌, ℕ, ◌<◌, ◌≤◌, Some, List, length, slice_get, slice_index}
+use Rattle.std.specs.Prelude.{◌≡◌, ℕ, ◌<◌, ◌≤◌, Some, List, length, slice_index}
 use Rattle.vt_definitions.specs.Depths.{word_at}
 use Rattle.vt_draw.specs.Lookups.{Note, EntryNote, WordNote}
 use Rattle.vt_journal.specs.Changes.{at}
-use Rattle.vt_journal.specs.Kept.{entry_of}
-use Rattle.vt_swap.specs.declared.records.LogRecord.{LogRecord}
-use Rattle.vt_swap.specs.declared.records.LogRecord.TheVariants.{Filled}
-use Rattle.vt_swap.specs.Logs.{changes_in}
-
--- the log tells that a frame was filled with a tile of a page that has the word at a place
-pub record HasWord (log : List LogRecord) (frame page place word : ℕ) : Type 0 where
-  pub number : ℕ
-  pub words : List ℕ
-  pub filled : slice_get log number ≡ Some (Filled frame page words)
-  pub inside : place < length words
-  pub word_is : slice_index words place ≡ word
-
--- a version of the log's journal has an entry for a page
-pub record IsEntry (log : List LogRecord) (version page entry : ℕ) : Type 0 where
-  pub known : version ≤ length (changes_in log)
-  pub entry_is : entry_of entry ≡ at (changes_in log) version page
+use Rattle.vt_swap_steps.specs.LogTypes.records.LogRecord.{LogRecord}
+use Rattle.vt_swap_steps.specs.Logs.{changes_in}
+use Rattle.vt_swap_steps.specs.Told.{HasWord, IsEntry}
 
 -- a version of the log's journal maps a page to a frame, and the frame was filled with a tile of that page that has the word at a place
 pub record IsWord (log : List LogRecord) (version frame place word : ℕ) : Type 0 where

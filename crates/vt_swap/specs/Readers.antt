@@ -1,29 +1,26 @@
 -- What a reader of the page table has seen, and a look-up in a version that it entered.
 use Rattle.std.specs.Prelude.{◌≡◌, ℕ, ◌≤◌, Bool, false, List, [], ◌∷◌, ◌++◌, length, All}
 use mathlib.Core.List.{IsPrefix}
-use Rattle.logbook.specs.Pages.{Book}
 use Rattle.vt_pages.specs.Shape.{Shape}
 use Rattle.vt_draw.specs.Lookups.{Note}
-use Rattle.vt_swap.specs.declared.records.LogRecord.{LogRecord}
-use Rattle.vt_swap.specs.declared.log.Front.{Front}
-use Rattle.vt_swap.specs.declared.table.NewestTable.{NewestTable}
-use Rattle.vt_swap.specs.declared.rule.Known.{Known}
-use Rattle.vt_swap.specs.declared.frame.FrameKey.{FrameKey}
-use Rattle.vt_swap.specs.Logs.{changes_in}
-use Rattle.vt_swap.specs.Tables.{IsTable, AreOfOneLog}
-use Rattle.vt_swap.specs.Rules.{KnowsLog}
-use Rattle.vt_swap.specs.Slots.{AreSlotsOf}
+use Rattle.vt_swap_steps.specs.LogTypes.records.LogRecord.{LogRecord}
+use Rattle.vt_swap_steps.specs.declared.table.NewestTable.{NewestTable}
+use Rattle.vt_swap_steps.specs.LogTypes.frame.FrameKey.{FrameKey}
+use Rattle.vt_swap_steps.specs.Logs.{changes_in}
+use Rattle.vt_swap_steps.specs.Caches.{Cache}
+use Rattle.vt_swap_steps.specs.Tables.{IsTable}
+use Rattle.vt_swap_steps.specs.Slots.{AreSlotsOf}
 use Rattle.vt_swap.specs.Notes.{IsSaidBy}
 
--- a reader: which log it is, what was seen of it, and the versions that were entered, the newest first
+-- a reader: of which page cache, what was seen of its log, and the versions that were entered, the newest first
 pub record ReaderView : Type 0 where
-  pub book : Book
+  pub cache : Cache
   pub log : List LogRecord
   pub entered : List ℕ
 
 -- a reader has seen no less, and entered versions besides
 pub record HasEnteredMore (r q : ReaderView) (more : List ℕ) : Type 0 where
-  pub book : q.book ≡ r.book
+  pub cache : q.cache ≡ r.cache
   pub log : IsPrefix r.log q.log
   pub entered : q.entered ≡ more ++ r.entered
 
@@ -34,20 +31,13 @@ pub record WasEntered (r q : ReaderView) (version : ℕ) : Type 0 where
   pub later : All (λ u. u ≤ version) r.entered
   pub known : version ≤ length (changes_in q.log)
 
--- a version is being read: it is that of its journal, which was seen
-pub record IsEntered (k : Known) (t : NewestTable) (front : Front) : Type 0 where
-  pub knows : KnowsLog k front
-  pub one_log : AreOfOneLog t.front front
-  pub table : IsTable t
-  pub seen : IsPrefix t.front.seen.log front.seen.log
-
--- a look-up: the shape of the pages, the table, the slots of the frames, which log it is and what was seen of it; the frame that it has the right
+-- a look-up: the shape of the pages, the table, the slots of the frames, which page cache it is and what was seen of its log; the frame that it has the right
 -- to read, if it has one; and whether a check failed
 pub record LookupView : Type 0 where
   pub shape : Shape
   pub table : NewestTable
   pub slots : List FrameKey
-  pub book : Book
+  pub cache : Cache
   pub log : List LogRecord
   pub slot : ℕ
   pub failed : Bool
@@ -56,7 +46,7 @@ pub record LookupView : Type 0 where
 pub record IsLookup (v : LookupView) : Type 0 where
   pub table : IsTable v.table
   pub seen : IsPrefix v.table.front.seen.log v.log
-  pub slots_are : AreSlotsOf v.book v.slots
+  pub slots_are : AreSlotsOf v.cache v.slots
 
 -- where no check failed, it says what the log says
 abbrev pub IsSaidIn : LookupView → Note → Type 0

@@ -1,36 +1,41 @@
 -- The writer of a page cache.
-use Rattle.std.specs.Prelude.{◌≡◌, ℕ, Bool, false, Option, Some, None, MatchOption, List, [], ◌∷◌, ◌++◌}
-use Rattle.logbook.specs.Pages.{Book}
+use Rattle.std.specs.Prelude.{◌≡◌, ℕ, Bool, false, Option, Some, None, MatchOption, List, [], ◌∷◌, ◌++◌, length}
 use Rattle.vt_journal.specs.declared.changes.Change.{Change}
 use Rattle.vt_journal.specs.declared.changes.Change.TheVariants.{Map, Unmap}
 use Rattle.vt_journal.specs.Changes.{Table, IsFree}
-use Rattle.vt_swap.specs.declared.records.LogRecord.{LogRecord}
-use Rattle.vt_swap.specs.declared.records.LogRecord.TheVariants.{Changed, Filled}
-use Rattle.vt_swap.specs.Logs.{changes_in}
+use Rattle.vt_swap_steps.specs.LogTypes.records.LogRecord.{LogRecord}
+use Rattle.vt_swap_steps.specs.LogTypes.records.LogRecord.TheVariants.{Changed, Filled}
+use Rattle.vt_swap_steps.specs.Logs.{changes_in}
+use Rattle.vt_swap_steps.specs.Caches.{Cache}
 use Rattle.vt_swap.specs.Notes.{AreWordsOf}
 
--- a writer: which log it is, and what it has done by the log; the journal of the page table, and how many more changes there is room for; and
--- whether it was refused memory in mid-step, after which it does nothing any more
+-- a writer: of which page cache, and what it has done by the log; the journal of the page table, and how many more changes there is room for; the
+-- version that readers find who enter; and whether it was refused memory in mid-step, after which it does nothing any more
 pub record StreamerView : Type 0 where
-  pub book : Book
+  pub cache : Cache
   pub log : List LogRecord
   pub journal : List Change
   pub room : ℕ
+  pub shown : ℕ
   pub broken : Bool
 
 -- the journal is that of the log, where the writer was not refused memory in between
 abbrev pub IsWhole : StreamerView → Type 0
 IsWhole v = v.broken ≡ false → changes_in v.log ≡ v.journal
 
+-- the version that readers find is the newest
+abbrev pub IsShown : StreamerView → Type 0
+IsShown v = v.shown ≡ length v.journal
+
 -- a page was unmapped
 pub record HasUnmapped (v w : StreamerView) (page frame : ℕ) : Type 0 where
-  pub book : w.book ≡ v.book
+  pub cache : w.cache ≡ v.cache
   pub log : w.log ≡ v.log ++ Changed (Unmap page frame) ∷ []
   pub journal : w.journal ≡ v.journal ++ Unmap page frame ∷ []
 
 -- a page was mapped to a frame, which was filled with its tile before
 pub record HasMapped (d texels : ℕ) (tile : List ℕ) (v w : StreamerView) (page frame : ℕ) : Type 0 where
-  pub book : w.book ≡ v.book
+  pub cache : w.cache ≡ v.cache
   pub words : List ℕ
   pub words_of : AreWordsOf d texels tile words
   pub log : w.log ≡ v.log ++ Filled frame page words ∷ Changed (Map page frame) ∷ []
@@ -38,7 +43,7 @@ pub record HasMapped (d texels : ℕ) (tile : List ℕ) (v w : StreamerView) (pa
 
 -- memory was refused: the journal is as it was, and so is the log, where the writer goes on
 pub record IsRefused (v w : StreamerView) : Type 0 where
-  pub book : w.book ≡ v.book
+  pub cache : w.cache ≡ v.cache
   pub journal : w.journal ≡ v.journal
   pub log : w.broken ≡ false → w.log ≡ v.log
 
@@ -59,7 +64,7 @@ victim_records (Some victim) frame = Changed (Unmap victim frame) ∷ []
 
 -- a page was brought into a frame: first its victim was unmapped, if there is one; then the frame was filled; then the page was mapped
 pub record HasBrought (d texels : ℕ) (tile : List ℕ) (v w : StreamerView) (page frame : ℕ) (victim : Option ℕ) : Type 0 where
-  pub book : w.book ≡ v.book
+  pub cache : w.cache ≡ v.cache
   pub words : List ℕ
   pub words_of : AreWordsOf d texels tile words
   pub log : w.log ≡ v.log ++ (victim_records victim frame ++ Filled frame page words ∷ Changed (Map page frame) ∷ [])

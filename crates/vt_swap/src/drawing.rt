@@ -6,17 +6,15 @@ ghost use Rattle.vt_definitions.specs.Depths.{IsDepth, texel_length};
 ghost use Rattle.vt_pages.specs.Pages.{pages_of};
 ghost use Rattle.vt_draw.specs.Shots.{shot_row};
 ghost use Rattle.vt_pictures.specs.Evidence.{AreShown, AreRaised};
-ghost use Rattle.vt_swap.specs.Tables.{AreOfOneLog, IsTable};
-ghost use Rattle.vt_swap.specs.Slots.{AreSlotsOf};
+ghost use Rattle.vt_swap_steps.specs.Caches.{AreOfOneLog, cache_of};
+ghost use Rattle.vt_swap_steps.specs.Tables.{IsTable};
+ghost use Rattle.vt_swap_steps.specs.Slots.{AreSlotsOf};
 ghost use Rattle.vt_swap.specs.Notes.{IsSaidBy};
 
-use crate::frame::Slot;
-use crate::fronts::{again, learn};
-use crate::log::Front;
 use crate::lookup::SwapLookup;
-use crate::table::NewestTable;
 use vt_draw::Shot;
 use vt_pictures::Filter;
+use vt_swap_steps::{Front, NewestTable, Slot, again, learn};
 
 /// Draws row `y` of a picture in a version that was entered, and tells whether a check of a frame failed. If one did, what it drew means
 /// nothing; the counts are raised all the same.
@@ -31,14 +29,14 @@ pub(crate) fn draw_under<P: Filter>(
 ) -> bool
     requires table { IsTable table.now }
     requires seen { IsPrefix table.now.front.seen.log front.old.seen.log }
-    requires slots { AreSlotsOf front.old.seen.book slots.now }
+    requires slots { AreSlotsOf (cache_of front.old) slots.now }
     requires depth { IsDepth shot.now.depth }
     requires picture { shot.now.picture < length shot.now.path.now.cameras }
     requires within { y < shot.now.path.now.height }
     requires bytes { length out.old ≡ texel_length shot.now.depth * shot.now.path.now.width }
     requires pages { length counts.old ≡ pages_of shot.now.geometry.now }
     requires room { (p : ℕ) → p < length counts.old → slice_index counts.old p + 4 * shot.now.path.now.width < 2 ^ 32 }
-    ensures book { AreOfOneLog front.new front.old }
+    ensures cache { AreOfOneLog front.new front.old }
     ensures later { IsPrefix front.old.seen.log front.new.seen.log }
     ensures drawn { result ≡ false
         → let row = shot_row shot.now.geometry.now shot.now.path.now shot.now.picture y in

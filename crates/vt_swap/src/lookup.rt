@@ -4,21 +4,21 @@ ghost use Rattle.std.specs.Prelude.{◌≡◌, ◌+◌, ◌<◌, ◌≤◌, fals
 ghost use mathlib.Core.List.{IsPrefix};
 ghost use Rattle.vt_pages.specs.Pages.{pages_of, level_of, levels_of, ancestor_of};
 ghost use Rattle.vt_draw.specs.Lookups.{IsFinest};
-ghost use Rattle.vt_swap.specs.Tables.{IsTable};
-ghost use Rattle.vt_swap.specs.Slots.{AreSlotsOf, IsSlotOf};
-ghost use Rattle.logbook.specs.Pages.{Book};
-ghost use Rattle.vt_swap.specs.Notes.{HasWord, IsEntry, IsSaidBy};
+ghost use Rattle.vt_swap_steps.specs.Tables.{IsTable};
+ghost use Rattle.vt_swap_steps.specs.Slots.{AreSlotsOf, IsSlotOf};
+ghost use Rattle.vt_swap_steps.specs.Caches.{Cache, cache_of};
+ghost use Rattle.vt_swap_steps.specs.Told.{HasWord, IsEntry};
+ghost use Rattle.vt_swap.specs.Notes.{IsSaidBy};
 ghost use Rattle.vt_swap.specs.Readers.{LookupView, IsSaidIn, lookup_base};
 
-use crate::frame::{Frame, Slot};
-use crate::log::Front;
-use crate::slots::{right_to_read, word_in_hand};
-use crate::table::NewestTable;
 use counted_slot::Claim;
 use std::marker::Model;
 use std::mem;
 use vt_draw::{Found, Lookup, place_of};
 use vt_pages::Geometry;
+use vt_swap_steps::{
+    Frame, Front, NewestTable, Slot, entry_of, give_back, right_to_read, word_in_hand,
+};
 
 /// A look-up of pages in a version of the page table that was entered. It has the right to read one frame at a time: that of the
 /// texel it read last. Where a frame does not have the tile of the page that the table maps to it, the check is noted as failed, and
@@ -36,7 +36,8 @@ pub(crate) struct SwapLookup<'a> {
 
 impl<'a> Model for SwapLookup<'a> {
     ghost use Rattle.std.specs.Prelude.{◌≡◌, IfSome};
-    ghost use Rattle.vt_swap.specs.Slots.{IsSlotOf};
+    ghost use Rattle.vt_swap_steps.specs.Caches.{cache_of};
+    ghost use Rattle.vt_swap_steps.specs.Slots.{IsSlotOf};
     ghost use Rattle.vt_swap.specs.Readers.{LookupView, IsLookup};
 
     ghost Value = { LookupView };
@@ -45,7 +46,7 @@ impl<'a> Model for SwapLookup<'a> {
       shape = l.geometry.now;
       table = l.table.now;
       slots = l.slots.now;
-      book = l.front.seen.book;
+      cache = cache_of l.front;
       log = l.front.seen.log;
       slot = l.slot;
       failed = l.failed;
@@ -55,11 +56,11 @@ impl<'a> Model for SwapLookup<'a> {
       shape = l.geometry.now;
       table = l.table.now;
       slots = l.slots.now;
-      book = l.front.seen.book;
+      cache = cache_of l.front;
       log = l.front.seen.log;
       slot = l.slot;
       failed = l.failed;
-    }) × IfSome l.held (λ claim. (claim.right ≡ 1) × IsSlotOf l.front.seen.book l.slot claim.tag) };
+    }) × IfSome l.held (λ claim. (claim.right ≡ 1) × IsSlotOf (cache_of l.front) l.slot claim.tag) };
 }
 
 impl<'a> SwapLookup<'a> {
@@ -72,12 +73,12 @@ impl<'a> SwapLookup<'a> {
     ) -> SwapLookup<'a>
         requires table { IsTable table.now }
         requires seen { IsPrefix table.now.front.seen.log front.seen.log }
-        requires slots { AreSlotsOf front.seen.book slots.now }
+        requires slots { AreSlotsOf (cache_of front) slots.now }
         ensures { result ≡ record {
           shape = geometry.now;
           table = table.now;
           slots = slots.now;
-          book = front.seen.book;
+          cache = cache_of front;
           log = front.seen.log;
           slot = 0;
           failed = false;
@@ -96,7 +97,7 @@ impl<'a> SwapLookup<'a> {
 
     /// Gives the right in hand back, and tells what was seen of the log and whether a check failed.
     pub(crate) fn end(self) -> (Front, bool)
-        ensures front { (result.0.seen.log ≡ self.entry.log) × (result.0.seen.book ≡ self.entry.book) }
+        ensures front { (result.0.seen.log ≡ self.entry.log) × (cache_of result.0 ≡ self.entry.cache) }
         ensures failed { result.1 ≡ self.entry.failed }
     {
         let SwapLookup {
@@ -163,22 +164,10 @@ impl<'a> SwapLookup<'a> {
     }
 }
 
-// Gives a right back, if there is one.
-fn give_back(held: Option<Claim<'_, Frame>>)
-    requires { IfSome held (λ claim. claim.right ≡ 1) }
-{
-    match held {
-        Some(claim) => {
-            claim.leave();
-        }
-        None => {}
-    }
-}
-
 // The right to read a frame, if there is such a frame, and it has a tile that nobody is writing.
 fn right_to_frame<'a>(slots: &'a [Slot], frame: u32) -> Option<Claim<'a, Frame>>
-    ensures { (book : Book) → AreSlotsOf book slots.now
-        → IfSome result (λ claim. (claim.right ≡ 1) × IsSlotOf book frame claim.tag) }
+    ensures { (cache : Cache) → AreSlotsOf cache slots.now
+        → IfSome result (λ claim. (claim.right ≡ 1) × IsSlotOf cache frame claim.tag) }
 {
     let place = frame as usize;
     if place >= slots.len() {
@@ -208,19 +197,6 @@ fn finest_mapped(table: &NewestTable, geometry: &Geometry, page: u32) -> Option<
         }
     }
     None
-}
-
-/// The entry of a page, if the table has one.
-#[inline(always)]
-pub(crate) fn entry_of(table: &NewestTable, page: u32) -> Option<u32>
-    requires { IsTable table.now }
-    ensures { IfSome result (IsEntry table.now.front.seen.log table.now.version page) }
-{
-    let place = page as usize;
-    if place >= table.entries.len() {
-        return None;
-    }
-    Some(table.entries[place])
 }
 
 // A page as if it had been found.

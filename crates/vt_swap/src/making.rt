@@ -1,28 +1,25 @@
 //! A page cache that is new.
 
-ghost use Rattle.std.specs.Prelude.{◌≡◌, ◌≤◌, [], ◌∷◌, drop, length, replicate, IfOk, All};
+ghost use Rattle.std.specs.Prelude.{◌≡◌, ◌≤◌, [], drop, length, IfOk, All};
 ghost use Rattle.left_right.specs.Sides.{view};
-ghost use Rattle.vt_swap.specs.Rules.{IsKept, KnowsLog, nothing_known};
-ghost use Rattle.vt_swap.specs.Tables.{IsPublished, shown};
-ghost use Rattle.vt_swap.specs.Slots.{AreSlotsOf};
+ghost use Rattle.vt_swap_steps.specs.Caches.{cache_of};
+ghost use Rattle.vt_swap_steps.specs.Rules.{KnowsLog, nothing_known};
+ghost use Rattle.vt_swap_steps.specs.Tables.{IsPublished, journal_of};
+ghost use Rattle.vt_swap_steps.specs.Slots.{AreSlotsOf};
 ghost use Rattle.vt_swap.specs.Making.{IsNewStreamer, IsNewReader};
 
-use crate::entered::LeftRightReader;
-use crate::frame::Slot;
-use crate::fronts::{again, open_log};
-use crate::log::Front;
-use crate::publishing::TableWriter;
 use crate::reader::TableReader;
-use crate::rule::{Publishes, Tells};
-use crate::slots::new_slot;
 use crate::streamer::SwapStreamer;
-use crate::table::NewestTable;
 use left_right::writer::Writer;
 use std::alloc::Global;
 use std::sync::Wait;
 use std::thread;
 use vt_journal::Journal;
 use vt_outside::{Items, NoMemory};
+use vt_swap_steps::{
+    Front, LeftRightReader, Publishes, Slot, TableWriter, Tells, again, first_table, new_slot,
+    open_log,
+};
 
 /// A page cache whose newest table maps none of so many pages: its writer, a slot for each frame, of which none is filled, and as many
 /// readers as are asked for, at least one. It waits where a reader is refused its place, and asks again.
@@ -35,16 +32,17 @@ pub fn new_cache<R: Wait>(
 ) -> Result<(SwapStreamer, Items<Slot>, Items<TableReader>), NoMemory>
     requires some { 1 ≤ readers }
     ensures streamer { IfOk result (λ made. IsNewStreamer made.0) }
-    ensures slots { IfOk result (λ made. AreSlotsOf made.0.book made.1.elements) }
+    ensures slots { IfOk result (λ made. AreSlotsOf made.0.cache made.1.elements) }
+    ensures pages { IfOk result (λ made. made.0.cache.pages ≡ pages) }
     ensures frames { IfOk result (λ made. length made.1.elements ≡ frames) }
-    ensures each { IfOk result (λ made. All (IsNewReader made.0.book) made.2.elements) }
+    ensures each { IfOk result (λ made. All (IsNewReader made.0.cache) made.2.elements) }
     ensures readers { IfOk result (λ made. length made.2.elements ≡ readers) }
 {
-    let (head, front) = open_log();
-    let slots = new_slots(alloc, frames, &front)?;
+    let (head, front) = open_log(pages, frames);
+    let slots = new_slots(alloc, &front)?;
     let mut list = Items::new(alloc);
     list.reserve(u64::from(readers))?;
-    let mut writer = first_writer(rt, alloc, pages, readers, &front)?;
+    let mut writer = first_writer(rt, alloc, readers, &front)?;
     add_readers(rt, &mut writer, &mut list, readers, &front);
     let streamer = SwapStreamer {
         alloc,
@@ -58,12 +56,12 @@ pub fn new_cache<R: Wait>(
     Ok((streamer, slots, list))
 }
 
-// The slots of so many frames.
-fn new_slots(alloc: Global, frames: u32, front: &Front) -> Result<Items<Slot>, NoMemory>
-    ensures slots { IfOk result (λ slots. AreSlotsOf front.now.seen.book slots.elements) }
-    ensures count { IfOk result (λ slots. length slots.elements ≡ frames) }
+// The slots of a cache's frames.
+fn new_slots(alloc: Global, front: &Front) -> Result<Items<Slot>, NoMemory>
+    ensures { IfOk result (λ slots. AreSlotsOf (cache_of front.now) slots.elements) }
 {
     let mut slots = Items::new(alloc);
+    let frames = front.frames;
     slots.reserve(u64::from(frames))?;
     for frame in 0..frames {
         slots.push(new_slot(alloc, frame, front));
@@ -71,28 +69,10 @@ fn new_slots(alloc: Global, frames: u32, front: &Front) -> Result<Items<Slot>, N
     Ok(slots)
 }
 
-// A table of version 0, which maps none of so many pages.
-#[tactic(auto, using(crate::proofs::Turning::kept_first))]
-fn first_table(alloc: Global, pages: u32, front: &Front) -> Result<NewestTable, NoMemory>
-    requires empty { front.now.seen.log ≡ [] }
-    ensures shown { IfOk result
-        (λ t. shown t ≡ record { version = 0; entries = replicate pages 0; front = front.now }) }
-    ensures front { IfOk result (λ t. t.front ≡ front.now) }
-    ensures kept { IfOk result (λ t. IsKept t (nothing_known ∷ [])) }
-{
-    let entries = Vec::from_elem(alloc, 0, pages as usize)?;
-    Ok(NewestTable {
-        version: 0,
-        entries,
-        front: again(front),
-    })
-}
-
 // The writer of such a table, which knows which log it is.
 fn first_writer<R: Wait>(
     rt: &R,
     alloc: Global,
-    pages: u32,
     readers: u32,
     front: &Front,
 ) -> Result<TableWriter, NoMemory>
@@ -101,8 +81,8 @@ fn first_writer<R: Wait>(
     ensures published { IfOk result (λ w. IsPublished w.desk.shown.value (drop w.behind w.log.items) front.now) }
     ensures knows { IfOk result (λ w. KnowsLog (view w.desk.place) front.now) }
 {
-    let first = first_table(alloc, pages, front)?;
-    let second = first_table(alloc, pages, front)?;
+    let first = first_table(alloc, front)?;
+    let second = first_table(alloc, front)?;
     let writer: TableWriter = Writer::new(alloc, first, second, readers as usize)?;
     Ok(begin(rt, writer, front))
 }
@@ -110,6 +90,7 @@ fn first_writer<R: Wait>(
 // Lets a writer publish what it shows anyhow, by which it knows which log it is.
 fn begin<R: Wait>(rt: &R, writer: TableWriter, front: &Front) -> TableWriter
     requires front { writer.desk.shown.value.front ≡ front.now }
+    requires version { writer.desk.shown.value.version ≡ length (journal_of front.now) }
     requires none { drop writer.behind writer.log.items ≡ [] }
     ensures published { IsPublished result.desk.shown.value (drop result.behind result.log.items) front.now }
     ensures knows { KnowsLog (view result.desk.place) front.now }
@@ -138,7 +119,7 @@ fn ask_reader<R: Wait>(rt: &R, writer: &TableWriter) -> LeftRightReader
 // A reader that knows which log it is, since the writer tells it.
 fn new_reader<R: Wait>(rt: &R, writer: &mut TableWriter, front: &Front) -> TableReader
     requires knows { KnowsLog (view writer.old.desk.place) front.now }
-    ensures reader { result ≡ record { book = front.now.seen.book; log = front.now.seen.log; entered = [] } }
+    ensures reader { result ≡ record { cache = cache_of front.now; log = front.now.seen.log; entered = [] } }
     ensures shown { writer.new.desk.shown ≡ writer.old.desk.shown }
     ensures pending { drop writer.new.behind writer.new.log.items ≡ drop writer.old.behind writer.old.log.items }
     ensures view { view writer.new.desk.place ≡ view writer.old.desk.place }
@@ -163,7 +144,7 @@ fn add_readers<R: Wait>(
     requires room { count ≤ list.old.spare }
     requires empty { front.now.seen.log ≡ [] }
     requires knows { KnowsLog (view writer.old.desk.place) front.now }
-    ensures each { All (IsNewReader front.now.seen.book) list.new.elements }
+    ensures each { All (IsNewReader (cache_of front.now)) list.new.elements }
     ensures count { length list.new.elements ≡ count }
     ensures shown { writer.new.desk.shown ≡ writer.old.desk.shown }
     ensures pending { drop writer.new.behind writer.new.log.items ≡ drop writer.old.behind writer.old.log.items }

@@ -1,22 +1,18 @@
 //! A reader of a page cache.
 
-ghost use Rattle.std.specs.Prelude.{◌≡◌, ℕ, ◌+◌, ◌*◌, ◌<◌, ◌≤◌, ◌^◌, [], ◌∷◌, false, length, slice_index, All, IfSome, MatchBool};
+ghost use Rattle.std.specs.Prelude.{◌≡◌, ℕ, ◌+◌, ◌*◌, ◌<◌, ◌≤◌, ◌^◌, [], ◌∷◌, false, length, slice_index, All, IfSome, MatchBool, MatchOption};
 ghost use mathlib.Core.List.{IsPrefix};
 ghost use Rattle.vt_definitions.specs.Depths.{IsDepth, texel_length};
 ghost use Rattle.vt_pages.specs.Pages.{pages_of};
 ghost use Rattle.vt_draw.specs.Shots.{shot_row};
 ghost use Rattle.vt_pictures.specs.Evidence.{AreShown, AreRaised};
-ghost use Rattle.vt_swap.specs.Logs.{changes_in, IsLawful};
-ghost use Rattle.vt_swap.specs.Slots.{AreSlotsOf};
-ghost use Rattle.vt_swap.specs.Notes.{IsEntry, IsSaidBy};
+ghost use Rattle.vt_swap_steps.specs.Logs.{changes_in, IsLawful};
+ghost use Rattle.vt_swap_steps.specs.Slots.{AreSlotsOf};
+ghost use Rattle.vt_swap_steps.specs.Told.{IsEntry};
+ghost use Rattle.vt_swap.specs.Notes.{IsSaidBy};
 ghost use Rattle.vt_swap.specs.Readers.{HasEnteredMore, WasEntered};
 
 use crate::drawing::draw_under;
-use crate::entered::{LeftRightReader, enter};
-use crate::frame::Slot;
-use crate::fronts::{is_behind, is_lawful};
-use crate::log::Front;
-use crate::lookup::entry_of;
 use crate::streamer::SwapStreamer;
 use std::marker::Model;
 use std::sync::Wait;
@@ -24,9 +20,10 @@ use std::thread;
 use vt_draw::Shot;
 use vt_outside::{Gate, Point};
 use vt_pictures::Filter;
+use vt_swap_steps::{Front, LeftRightReader, Slot, enter, entry_of, is_behind, is_lawful};
 
-/// A reader of the newest page table and of the frames, as a sampler has it. Contracts see which log it is, what the reader has
-/// seen of it, and which versions it entered, the newest first.
+/// A reader of the newest page table and of the frames, as a sampler has it. Contracts see which cache it is, what the reader has
+/// seen of its log, and which versions it entered, the newest first.
 #[derive(Drop)]
 pub struct TableReader {
     pub(crate) reader: LeftRightReader,
@@ -35,12 +32,13 @@ pub struct TableReader {
 
 impl Model for TableReader {
     ghost use Rattle.left_right.specs.Sides.{view as known_by};
-    ghost use Rattle.vt_swap.specs.Rules.{KnowsLog};
+    ghost use Rattle.vt_swap_steps.specs.Caches.{cache_of};
+    ghost use Rattle.vt_swap_steps.specs.Rules.{KnowsLog};
     ghost use Rattle.vt_swap.specs.Readers.{ReaderView};
 
     ghost Value = { ReaderView };
 
-    ghost view = { λ r. record { book = r.front.seen.book; log = r.front.seen.log; entered = (known_by r.reader.place).entered } };
+    ghost view = { λ r. record { cache = cache_of r.front; log = r.front.seen.log; entered = (known_by r.reader.place).entered } };
 
     ghost invariant = { λ r. KnowsLog (known_by r.reader.place) r.front };
 }
@@ -48,7 +46,7 @@ impl Model for TableReader {
 impl TableReader {
     /// Whether what it has seen of the log is a beginning of what the writer has done.
     pub fn is_told_by(&self, writer: &SwapStreamer) -> bool
-        requires { self.now.book ≡ writer.now.book }
+        requires { self.now.cache ≡ writer.now.cache }
         ensures { MatchBool result (IsPrefix self.now.log writer.now.log) (IsPrefix writer.now.log self.now.log) }
     {
         is_behind(&self.front, &writer.front)
@@ -62,14 +60,14 @@ impl TableReader {
     }
 
     /// The entry of a page in the version that was published last, which is 0 where the page is not mapped and else 1 more than its
-    /// frame; `None` where the table has no such page. It tells that version.
+    /// frame; `None` where the cache has no such page, and only there. It tells that version.
     pub fn entry<R: Wait>(self, rt: &R, page: u32) -> (TableReader, u64, Option<u32>)
         ensures entered { WasEntered self result.0 result.1 }
         ensures entry { IfSome result.2 (IsEntry result.0.log result.1 page) }
+        ensures inside { MatchOption result.2 (self.cache.pages ≤ page) (λ entry. page < self.cache.pages) }
     {
         let TableReader { reader, mut front } = self;
-        let reading = enter(rt, reader, &mut front);
-        let version = reading.get().version;
+        let (reading, version) = enter(rt, reader, &mut front);
         let entry = entry_of(reading.get(), page);
         let reader = reading.leave();
         (TableReader { reader, front }, version, entry)
@@ -79,7 +77,7 @@ impl TableReader {
     /// enters anew, and draws the row anew, each time a frame did not have the tile of the page that the version maps to it. So it may
     /// wait.
     ///
-    /// `y` is below the picture's height, `out` has three samples a column of the shot's depth, and `counts` has a number for each
+    /// `slots` are those of all frames, `y` is below the picture's height, `out` has three samples a column of the shot's depth, and `counts` has a number for each
     /// page, each of which can rise by four times the picture's width; they are raised once. `spare` has as many numbers, which
     /// mean nothing. The gate is told of the row each time after a version was entered, and before the first look-up. It takes no
     /// memory and refuses nothing.
@@ -95,7 +93,7 @@ impl TableReader {
         counts: &mut [u32],
         spare: &mut [u32],
     ) -> (TableReader, u64)
-        requires slots { AreSlotsOf self.book slots.now }
+        requires slots { AreSlotsOf self.cache slots.now }
         requires depth { IsDepth shot.now.depth }
         requires picture { shot.now.picture < length shot.now.path.now.cameras }
         requires within { y < shot.now.path.now.height }
@@ -132,7 +130,7 @@ fn try_row<P: Filter, G: Gate, R: Wait>(
     out: &mut [u8],
     counts: &mut [u32],
 ) -> (TableReader, u64, bool)
-    requires slots { AreSlotsOf reader.book slots.now }
+    requires slots { AreSlotsOf reader.cache slots.now }
     requires depth { IsDepth shot.now.depth }
     requires picture { shot.now.picture < length shot.now.path.now.cameras }
     requires within { y < shot.now.path.now.height }
@@ -150,9 +148,8 @@ fn try_row<P: Filter, G: Gate, R: Wait>(
         AreRaised P.wants shot.now.geometry.now row shot.now.path.now.width counts.old counts.new }
 {
     let TableReader { reader, mut front } = reader;
-    let reading = enter(rt, reader, &mut front);
+    let (reading, version) = enter(rt, reader, &mut front);
     gate.at(Point::Row { sampler, row: y });
-    let version = reading.get().version;
     let failed = draw_under::<P>(reading.get(), &mut front, slots, shot, y, out, counts);
     let reader = reading.leave();
     (TableReader { reader, front }, version, failed)
@@ -170,7 +167,7 @@ fn draw_again<P: Filter, G: Gate, R: Wait>(
     out: &mut [u8],
     spare: &mut [u32],
 ) -> (TableReader, u64)
-    requires slots { AreSlotsOf reader.book slots.now }
+    requires slots { AreSlotsOf reader.cache slots.now }
     requires depth { IsDepth shot.now.depth }
     requires picture { shot.now.picture < length shot.now.path.now.cameras }
     requires within { y < shot.now.path.now.height }

@@ -5,24 +5,22 @@ ghost use Rattle.vt_definitions.specs.Depths.{IsDepth, texel_length};
 ghost use Rattle.vt_definitions.specs.Limits.{most_versions};
 ghost use Rattle.vt_journal.specs.declared.changes.Change.TheVariants.{Map, Unmap};
 ghost use Rattle.vt_journal.specs.Changes.{newest, IsNext};
-ghost use Rattle.vt_swap.specs.declared.records.LogRecord.TheVariants.{Changed, Filled};
-ghost use Rattle.vt_swap.specs.Slots.{AreSlotsOf, IsSlotOf};
-ghost use Rattle.vt_swap.specs.Logs.{IsLawful};
-ghost use Rattle.vt_swap.specs.Streamers.{IsWhole, HasUnmapped, HasMapped, HasBrought, IsRefused, MayBring};
+ghost use Rattle.vt_swap_steps.specs.LogTypes.records.LogRecord.TheVariants.{Changed, Filled};
+ghost use Rattle.vt_swap_steps.specs.Slots.{AreSlotsOf, IsSlotOf};
+ghost use Rattle.vt_swap_steps.specs.Logs.{IsLawful};
+ghost use Rattle.vt_swap.specs.Streamers.{IsWhole, IsShown, HasUnmapped, HasMapped, HasBrought, IsRefused, MayBring};
 
-use crate::frame::Slot;
-use crate::fronts::is_lawful;
-use crate::log::{Front, Head};
-use crate::publishing::{TableWriter, fill_and_map, lay_out, note_and_publish};
+use crate::layout::lay_out;
 use std::alloc::Global;
 use std::marker::Model;
 use std::mem;
 use std::sync::Wait;
 use vt_journal::{Change, Journal};
 use vt_outside::{Gate, NoMemory, Point};
+use vt_swap_steps::{Front, Head, Slot, TableWriter, fill_and_map, is_lawful, note_and_publish};
 
 /// The writer of a page cache: it changes the page table, and fills frames with tiles. Contracts see what it has done, the
-/// journal of the page table, and whether it was refused memory in mid-step, after which it refuses all that is asked.
+/// journal of the page table, the version that readers find who enter, and whether it was refused memory in mid-step, after which it refuses all that is asked.
 pub struct SwapStreamer {
     pub(crate) alloc: Global,
     pub(crate) writer: Option<TableWriter>,
@@ -35,18 +33,20 @@ pub struct SwapStreamer {
 }
 
 impl Model for SwapStreamer {
-    ghost use Rattle.std.specs.Prelude.{◌≡◌, false, drop, IfSome, IsSome};
-    ghost use Rattle.vt_swap.specs.Heads.{IsHeadOf};
-    ghost use Rattle.vt_swap.specs.Tables.{IsPublished, journal_of};
+    ghost use Rattle.std.specs.Prelude.{◌≡◌, false, drop, option_map, unwrap_or, IfSome, IsSome};
+    ghost use Rattle.vt_swap_steps.specs.Caches.{cache_of};
+    ghost use Rattle.vt_swap_steps.specs.Heads.{IsHeadOf};
+    ghost use Rattle.vt_swap_steps.specs.Tables.{IsPublished, journal_of};
     ghost use Rattle.vt_swap.specs.Streamers.{StreamerView};
 
     ghost Value = { StreamerView };
 
     ghost view = { λ s. record {
-      book = s.front.seen.book;
+      cache = cache_of s.front;
       log = s.front.seen.log;
       journal = s.journal.changes;
       room = s.journal.spare;
+      shown = unwrap_or (option_map (λ w. w.desk.shown.value.version) s.writer) 0;
       broken = s.broken;
     } };
 
@@ -69,6 +69,7 @@ impl SwapStreamer {
         ensures broken { result ≡ self.now.broken }
         ensures lawful { IsLawful self.now.log }
         ensures whole { IsWhole self.now }
+        ensures shown { self.now.broken ≡ false → IsShown self.now }
     {
         is_lawful(&self.front);
         self.broken
@@ -82,6 +83,7 @@ impl SwapStreamer {
         requires small { frame + 1 < 2 ^ 32 }
         ensures unmapped { OnOk result (HasUnmapped self.old self.new page frame) }
         ensures goes_on { OnOk result (self.new.broken ≡ false) }
+        ensures shown { OnOk result (IsShown self.new) }
         ensures refused { OnErr result (IsRefused self.old self.new) }
     {
         if self.broken {
@@ -110,7 +112,7 @@ impl SwapStreamer {
         depth: u32,
         texels: u32,
     ) -> Result<(), NoMemory>
-        requires slots { AreSlotsOf self.old.book slots.now }
+        requires slots { AreSlotsOf self.old.cache slots.now }
         requires inside { frame < length slots.now }
         requires small { frame + 1 < 2 ^ 32 }
         requires next { IsNext (newest self.old.journal) (Map page frame) }
@@ -119,6 +121,7 @@ impl SwapStreamer {
         requires full { length tile.now ≡ texel_length depth * texels }
         ensures mapped { OnOk result (HasMapped depth texels tile.now self.old self.new page frame) }
         ensures goes_on { OnOk result (self.new.broken ≡ false) }
+        ensures shown { OnOk result (IsShown self.new) }
         ensures refused { OnErr result (IsRefused self.old self.new) }
     {
         if self.broken {
@@ -140,15 +143,16 @@ impl SwapStreamer {
         words: Vec<u64>,
     ) -> Result<(), NoMemory>
         requires goes_on { self.old.broken ≡ false }
-        requires slot { IsSlotOf self.old.book frame slot.now }
+        requires slot { IsSlotOf self.old.cache frame slot.now }
         requires small { frame + 1 < 2 ^ 32 }
         requires next { IsNext (newest self.old.journal) (Map page frame) }
         requires early { length self.old.journal + 1 ≤ most_versions }
         requires room { 1 ≤ self.old.room }
-        ensures book { self.new.book ≡ self.old.book }
+        ensures cache { self.new.cache ≡ self.old.cache }
         ensures log { OnOk result (self.new.log ≡ self.old.log ++ Filled frame page words.items ∷ Changed (Map page frame) ∷ []) }
         ensures journal { OnOk result (self.new.journal ≡ self.old.journal ++ Map page frame ∷ []) }
         ensures goes_on { OnOk result (self.new.broken ≡ false) }
+        ensures shown { OnOk result (IsShown self.new) }
         ensures refused { OnErr result (IsRefused self.old self.new) }
     {
         self.broken = true;
@@ -183,7 +187,7 @@ impl SwapStreamer {
         texels: u32,
         gate: &G,
     ) -> Result<(), NoMemory>
-        requires slots { AreSlotsOf self.old.book slots.now }
+        requires slots { AreSlotsOf self.old.cache slots.now }
         requires inside { frame < length slots.now }
         requires small { frame + 1 < 2 ^ 32 }
         requires may { MayBring (newest self.old.journal) page frame victim }
@@ -192,7 +196,8 @@ impl SwapStreamer {
         requires full { length tile.now ≡ texel_length depth * texels }
         ensures brought { OnOk result (HasBrought depth texels tile.now self.old self.new page frame victim) }
         ensures goes_on { OnOk result (self.new.broken ≡ false) }
-        ensures book { self.new.book ≡ self.old.book }
+        ensures shown { OnOk result (IsShown self.new) }
+        ensures cache { self.new.cache ≡ self.old.cache }
     {
         match victim {
             Some(victim) => self.replace(rt, slots, page, frame, victim, tile, depth, texels, gate),
@@ -219,7 +224,7 @@ impl SwapStreamer {
         texels: u32,
         gate: &G,
     ) -> Result<(), NoMemory>
-        requires slots { AreSlotsOf self.old.book slots.now }
+        requires slots { AreSlotsOf self.old.cache slots.now }
         requires inside { frame < length slots.now }
         requires small { frame + 1 < 2 ^ 32 }
         requires next { IsNext (newest self.old.journal) (Map page frame) }
@@ -228,6 +233,7 @@ impl SwapStreamer {
         requires full { length tile.now ≡ texel_length depth * texels }
         ensures mapped { OnOk result (HasMapped depth texels tile.now self.old self.new page frame) }
         ensures goes_on { OnOk result (self.new.broken ≡ false) }
+        ensures shown { OnOk result (IsShown self.new) }
         ensures refused { OnErr result (IsRefused self.old self.new) }
     {
         self.map(rt, slots, page, frame, tile, depth, texels)?;
@@ -249,7 +255,7 @@ impl SwapStreamer {
         texels: u32,
         gate: &G,
     ) -> Result<(), NoMemory>
-        requires slots { AreSlotsOf self.old.book slots.now }
+        requires slots { AreSlotsOf self.old.cache slots.now }
         requires inside { frame < length slots.now }
         requires small { frame + 1 < 2 ^ 32 }
         requires may { MayBring (newest self.old.journal) page frame (Some victim) }
@@ -258,7 +264,8 @@ impl SwapStreamer {
         requires full { length tile.now ≡ texel_length depth * texels }
         ensures brought { OnOk result (HasBrought depth texels tile.now self.old self.new page frame (Some victim)) }
         ensures goes_on { OnOk result (self.new.broken ≡ false) }
-        ensures book { self.new.book ≡ self.old.book }
+        ensures shown { OnOk result (IsShown self.new) }
+        ensures cache { self.new.cache ≡ self.old.cache }
     {
         let _version = self.journal.version();
         self.unmap(rt, victim, frame)?;

@@ -8,7 +8,7 @@ use Rattle.std.proofs.lemmas.List.FromFn.{map-range_with_len_more}
 use Rattle.std.proofs.lemmas.List.Sums.{sum_by_push, sum_by-take-le}
 use Rattle.std.proofs.lemmas.Nat.{mod_below}
 use Rattle.std.proofs.lemmas.Option.{none-some, slice_get_within, slice_get-get_or, get_or_from_slice_get}
-use Rattle.logbook.specs.Pages.{Book}
+use Rattle.vt_swap.specs.Caches.{Cache}
 use Rattle.vt_outside.specs.Lists.{ListView}
 use Rattle.vt_pages.specs.Shape.{Shape}
 use Rattle.vt_pages.specs.Pages.{pages_of}
@@ -44,25 +44,25 @@ module _ (s : Shape) (d width height samplers : ℕ) where
   all_first tasks h = record { count = h.count; each = h.each }
 
 -- a reader was taken off the end of a list
-pub record IsTaken (book : Book) (old new : List ReaderView) (o : Option ReaderView) : Type 0 where
+pub record IsTaken (cache : Cache) (old new : List ReaderView) (o : Option ReaderView) : Type 0 where
   pub fewer : length new + 1 ≡ length old
-  pub rest : All (IsNewReader book) new
+  pub rest : All (IsNewReader cache) new
   pub reader : ReaderView
   pub is : o ≡ Some reader
-  pub of : reader.book ≡ book
+  pub of : reader.cache ≡ cache
 
-pub taken : (book : Book) (o : Option ReaderView) (old new : ListView ReaderView) → IfNone o ((old.elements ≡ []) × (new ≡ old))
-    → IfSome o (λ r. old.elements ≡ new.elements ++ r ∷ []) → 1 ≤ length old.elements → All (IsNewReader book) old.elements
-    → IsTaken book old.elements new.elements o
-taken book None old new none some enough all = absurd (let e = ap length none.0 in omega (arith, e, enough))
-taken book (Some r) old new none some enough all =
-    let parts = All-pop (IsNewReader book) old.elements new.elements (Some r) some all in
+pub taken : (cache : Cache) (o : Option ReaderView) (old new : ListView ReaderView) → IfNone o ((old.elements ≡ []) × (new ≡ old))
+    → IfSome o (λ r. old.elements ≡ new.elements ++ r ∷ []) → 1 ≤ length old.elements → All (IsNewReader cache) old.elements
+    → IsTaken cache old.elements new.elements o
+taken cache None old new none some enough all = absurd (let e = ap length none.0 in omega (arith, e, enough))
+taken cache (Some r) old new none some enough all =
+    let parts = All-pop (IsNewReader cache) old.elements new.elements (Some r) some all in
     record {
       fewer = sym (ap length some ∙ length-append new.elements (r ∷ []));
       rest = parts.0;
       reader = r;
       is = refl;
-      of = ap (λ (x : ReaderView). x.book) parts.1;
+      of = ap (λ (x : ReaderView). x.cache) parts.1;
     }
 
 pub fewer : (o : Option ReaderView) (old new : ListView ReaderView) → IfNone o ((old.elements ≡ []) × (new ≡ old))
@@ -70,9 +70,9 @@ pub fewer : (o : Option ReaderView) (old new : ListView ReaderView) → IfNone o
 fewer None old new none some enough = absurd (let e = ap length none.0 in omega (arith, e, enough))
 fewer (Some r) old new none some enough = sym (ap length some ∙ length-append new.elements (r ∷ []))
 
-pub readers_more : (book : Book) (tasks : List SwapDrawer) (v : SamplerView) (o : Option ReaderView) (old new : List ReaderView)
-    → All (HasReader book) tasks → IsTaken book old new o → All (HasReader book) (tasks ++ record { sampler = v; reader = o } ∷ [])
-readers_more book tasks v o old new all took = All-push (HasReader book) tasks (record { sampler = v; reader = o }) all
+pub readers_more : (cache : Cache) (tasks : List SwapDrawer) (v : SamplerView) (o : Option ReaderView) (old new : List ReaderView)
+    → All (HasReader cache) tasks → IsTaken cache old new o → All (HasReader cache) (tasks ++ record { sampler = v; reader = o } ∷ [])
+readers_more cache tasks v o old new all took = All-push (HasReader cache) tasks (record { sampler = v; reader = o }) all
     (record { reader = took.reader; has = took.is; of = took.of })
 
 -- Readers that come to see a version, one after another.
@@ -111,10 +111,10 @@ seeing_more start n before after was now h inside is sees =
     }
 
 -- a sampler that is still to see has its reader
-pub still_has : (book : Book) (start n : ℕ) (before after : List SwapDrawer) (was : SwapDrawer) → AreSeeing start n before after → n < length before
-    → was ≡ get_or after n was → All (HasReader book) before → HasReader book was
-still_has book start n before after was h inside is all =
-    subst (HasReader book) (sym (is ∙ h.rest n was (omega arith) inside)) (all n was inside)
+pub still_has : (cache : Cache) (start n : ℕ) (before after : List SwapDrawer) (was : SwapDrawer) → AreSeeing start n before after → n < length before
+    → was ≡ get_or after n was → All (HasReader cache) before → HasReader cache was
+still_has cache start n before after was h inside is all =
+    subst (HasReader cache) (sym (is ∙ h.rest n was (omega arith) inside)) (all n was inside)
 
 pub all_seeing : (start : ℕ) (before after : List SwapDrawer) → AreSeeing start (length before) before after → AllDid (Sees start) before after
 all_seeing start before after h k d inside = h.first k d inside inside
@@ -124,12 +124,12 @@ pub reader_sees : (start : ℕ) (v : SamplerView) (r q : ReaderView) (was : Swap
     → (version : ℕ) × (start ≤ version) × WasEntered r q version → Sees start was (record { sampler = v; reader = Some q })
 reader_sees start v r q was sampler had seen = record {
   sampler = sym sampler;
-  seen = λ book has.
+  seen = λ cache has.
       let same : has.reader ≡ r = some_is has.reader r (sym has.has ∙ had) in
       record {
         reader = q;
         has = refl;
-        of = seen.2.more.book ∙ ap (λ (x : ReaderView). x.book) (sym same) ∙ has.of;
+        of = seen.2.more.cache ∙ ap (λ (x : ReaderView). x.cache) (sym same) ∙ has.of;
         version = seen.0;
         entered = subst (λ (l : List ℕ). Contains l seen.0) (sym seen.2.more.entered)
             (Contains-append_left (seen.0 ∷ seen.2.before) r.entered seen.0 (0, omega arith, refl));
@@ -153,20 +153,20 @@ module _ (start : ℕ) (before after : List SwapDrawer) (number : length after �
         (are.each n (get_or before n task) (slice_get-get_or before n task low));
   }
 
-  pub have_seen : (book : Book) → All (HasReader book) before → All (HasSeen book start) after
-  have_seen book all k d inside =
+  pub have_seen : (cache : Cache) → All (HasReader cache) before → All (HasSeen cache start) after
+  have_seen cache all k d inside =
       let low : k < length before = omega (arith, inside, number) in
-      (sees k d low).seen book (all k d low)
+      (sees k d low).seen cache (all k d low)
 
 -- a kit that was prepared
-pub ready_draw : (book : Book) (start : ℕ) (k : DrawKit) (lent ws : List SwapDrawer) (lines : ListView RowLine) → lent ≡ k.tasks.elements
-    → length ws ≡ length lent → AllDid (Sees start) lent ws → IsIdleDraw book k → lines.elements ≡ [] → k.height ≤ lines.spare
-    → (l : DrawKit) → l ≡ record k { tasks = l.tasks; lines = lines } → l.tasks.elements ≡ ws → IsReadyDraw book start l l.tasks.elements
-ready_draw book start k lent ws lines lent_is number sees idle empty room l rest back =
+pub ready_draw : (cache : Cache) (start : ℕ) (k : DrawKit) (lent ws : List SwapDrawer) (lines : ListView RowLine) → lent ≡ k.tasks.elements
+    → length ws ≡ length lent → AllDid (Sees start) lent ws → IsIdleDraw cache k → lines.elements ≡ [] → k.height ≤ lines.spare
+    → (l : DrawKit) → l ≡ record k { tasks = l.tasks; lines = lines } → l.tasks.elements ≡ ws → IsReadyDraw cache start l l.tasks.elements
+ready_draw cache start k lent ws lines lent_is number sees idle empty room l rest back =
     let on : AllDid (Sees start) k.tasks.elements ws = subst (λ (x : List SwapDrawer). AllDid (Sees start) x ws) lent_is sees in
     let many : length ws ≡ length k.tasks.elements = number ∙ ap length lent_is in
-    subst (λ (x : DrawKit). IsReadyDraw book start x l.tasks.elements) (sym rest)
-    (subst (λ (x : List SwapDrawer). IsReadyDraw book start (record k { tasks = l.tasks; lines = lines }) x) (sym back) (record {
+    subst (λ (x : DrawKit). IsReadyDraw cache start x l.tasks.elements) (sym rest)
+    (subst (λ (x : List SwapDrawer). IsReadyDraw cache start (record k { tasks = l.tasks; lines = lines }) x) (sym back) (record {
       kit = record {
         some = idle.kit.some;
         few = idle.kit.few;
@@ -175,7 +175,7 @@ ready_draw book start k lent ws lines lent_is number sees idle empty room l rest
         samplers = still_drawers start k.tasks.elements ws many on k.geometry k.depth k.width k.height k.count idle.kit.samplers;
         counts = idle.kit.counts;
       };
-      readers = have_seen start k.tasks.elements ws many on book idle.readers;
+      readers = have_seen start k.tasks.elements ws many on cache idle.readers;
       lines = record { no_lines = empty; room = room };
     }))
 

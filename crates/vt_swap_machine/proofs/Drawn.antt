@@ -5,7 +5,7 @@ use Rattle.std.proofs.lemmas.List.Elements.{All-contains, Contains-append_left}
 use Rattle.std.proofs.lemmas.Nat.{mod_below}
 use Rattle.std.proofs.lemmas.Option.{same_Some, slice_get_within, slice_get-get_or, get_or_from_slice_get, slice_get_cases}
 use mathlib.Core.List.{IsPrefix}
-use Rattle.logbook.specs.Pages.{Book}
+use Rattle.vt_swap.specs.Caches.{Cache}
 use Rattle.vt_pages.specs.Shape.{Shape}
 use Rattle.vt_pages.specs.Pages.{pages_of}
 use Rattle.vt_camera.specs.Paths.{ArePictureSides}
@@ -31,13 +31,13 @@ use Rattle.vt_swap_machine.specs.DrawKits.{AreDrawers, HasReader, HasSeen, IsTol
 use Rattle.vt_swap_machine.specs.SwapPasses.{WasDrawn, MayEndDraw}
 use Rattle.vt_swap_machine.proofs.RowLines.{row_version, counted_is_wanted}
 
-module _ {P : Type 0} (filter : FilterMeanings P) (k : DrawKit) (scene : Scene) (picture : ℕ) (book : Book) (start : ℕ) (e f : List SwapDrawer)
-    (h : MayEndDraw filter k scene picture book start e f) where
+module _ {P : Type 0} (filter : FilterMeanings P) (k : DrawKit) (scene : Scene) (picture : ℕ) (cache : Cache) (start : ℕ) (e f : List SwapDrawer)
+    (h : MayEndDraw filter k scene picture cache start e f) where
   -- what a sampler was, that its reader had seen the start, and that it has drawn
   record HasWorked (number : ℕ) (task : SwapDrawer) : Type 0 where
     before : SwapDrawer
     was : IsSamplerOf k.geometry k.depth k.width k.height k.count number before.sampler
-    seen : HasSeen book start before
+    seen : HasSeen cache start before
     drawn : HasDrawn filter scene picture before task
 
   worked : (m : ℕ) (task : SwapDrawer) → slice_get f m ≡ Some task → HasWorked m task
@@ -57,13 +57,13 @@ module _ {P : Type 0} (filter : FilterMeanings P) (k : DrawKit) (scene : Scene) 
   same_reader m task d = same_Some d.drawn.before d.seen.reader (sym d.drawn.had ∙ d.seen.has)
 
   -- each has its reader, which is of the same log
-  pub has_reader : All (HasReader book) f
+  pub has_reader : All (HasReader cache) f
   has_reader m task inside =
       let d = worked m (get_or f m task) (slice_get-get_or f m task inside) in
       record {
         reader = d.drawn.reader;
         has = d.drawn.has;
-        of = d.drawn.rows.entered.book ∙ ap (λ (r : ReaderView). r.book) (same_reader m (get_or f m task) d) ∙ d.seen.of;
+        of = d.drawn.rows.entered.cache ∙ ap (λ (r : ReaderView). r.cache) (same_reader m (get_or f m task) d) ∙ d.seen.of;
       }
 
   stays : (m : ℕ) (task : SwapDrawer) → slice_get f m ≡ Some task → IsSamplerOf k.geometry k.depth k.width k.height k.count m task.sampler
@@ -156,7 +156,7 @@ module _ {P : Type 0} (filter : FilterMeanings P) (k : DrawKit) (scene : Scene) 
       omega (arith, up, late)
 
   -- the readers have seen no more of the log than the streamer did
-  module _ (v : StreamerView) (book_is : v.book ≡ book) (told : All (IsToldBy v.log) f) where
+  module _ (v : StreamerView) (cache_is : v.cache ≡ cache) (told : All (IsToldBy v.log) f) where
     seen_less : (y : ℕ) (r : HasRow y) → IsPrefix (worked (y % k.count) r.task r.there).drawn.reader.log v.log
     seen_less y r =
         let d = worked (y % k.count) r.task r.there in
@@ -187,6 +187,6 @@ module _ {P : Type 0} (filter : FilterMeanings P) (k : DrawKit) (scene : Scene) 
           dealt_to = r.there;
           reader = d.drawn.reader;
           has = d.drawn.has;
-          of = d.drawn.rows.entered.book ∙ ap (λ (x : ReaderView). x.book) (same_reader (y % k.count) r.task d) ∙ d.seen.of ∙ sym book_is;
+          of = d.drawn.rows.entered.cache ∙ ap (λ (x : ReaderView). x.cache) (same_reader (y % k.count) r.task d) ∙ d.seen.of ∙ sym cache_is;
           entered = subst (λ (l : List ℕ). Contains l u) (sym was.entered) (Contains-append_left was.more d.drawn.before.entered u was.among);
         }

@@ -15,8 +15,8 @@ use Rattle.vt_loaders.specs.QueueTypes.items.Outcome.TheVariants.{Read, Lost}
 use Rattle.vt_loaders.specs.Readings.{is_lost}
 use Rattle.vt_loaders.specs.Results.{IsGood}
 use Rattle.vt_requests.specs.BatchRounds.{IsResultOf}
-use Rattle.vt_swap.specs.declared.records.LogRecord.{LogRecord}
-use Rattle.vt_swap.specs.declared.records.LogRecord.TheVariants.{Changed, Filled}
+use Rattle.vt_swap.specs.LogTypes.records.LogRecord.{LogRecord}
+use Rattle.vt_swap.specs.LogTypes.records.LogRecord.TheVariants.{Changed, Filled}
 use Rattle.vt_swap.specs.Notes.{AreWordsOf}
 use Rattle.vt_swap.specs.Streamers.{StreamerView, HasMapped}
 use Rattle.vt_swap_noted.specs.Filled.{AreStoredFills}

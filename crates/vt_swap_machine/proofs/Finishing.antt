@@ -27,7 +27,7 @@ use Rattle.vt_machine.specs.RowOrders.{AreRowsInOrder}
 use Rattle.vt_machine.specs.Requests.{AreReadFor}
 use Rattle.vt_machine.specs.Passes.{IsPictured, Ran, Broke, Ends}
 use Rattle.vt_requests.specs.BatchRounds.{result_events}
-use Rattle.vt_swap.specs.declared.frame.FrameKey.{FrameKey}
+use Rattle.vt_swap.specs.LogTypes.frame.FrameKey.{FrameKey}
 use Rattle.vt_swap.specs.Slots.{AreSlotsOf}
 use Rattle.vt_swap.specs.Streamers.{StreamerView}
 use Rattle.vt_swap_noted.specs.Filled.{AreStoredFills}
@@ -60,7 +60,7 @@ module _ {F P : Type 0} (g : FileMeanings F) (filter : FilterMeanings P) (law : 
   abbrev start : List Change
   start = b.feeder.streamer.journal
 
-  abbrev h : MayEndDraw filter r job.scene job.picture b.feeder.streamer.book (length start) b.tasks f.elements
+  abbrev h : MayEndDraw filter r job.scene job.picture b.feeder.streamer.cache (length start) b.tasks f.elements
   h = may.draw
 
   same_shape : l.shape ≡ k.shape
@@ -87,8 +87,8 @@ module _ {F P : Type 0} (g : FileMeanings F) (filter : FilterMeanings P) (law : 
   streamer_is : u.streamer ≡ t.streamer
   streamer_is = ap (λ (x : SwapFeeder). x.streamer) own
 
-  book_is : t.streamer.book ≡ b.feeder.streamer.book
-  book_is = may.fed.book
+  cache_is : t.streamer.cache ≡ b.feeder.streamer.cache
+  cache_is = may.fed.cache
 
   agree : Agree l s
   agree = record {
@@ -144,7 +144,7 @@ module _ {F P : Type 0} (g : FileMeanings F) (filter : FilterMeanings P) (law : 
     idle_with : IsIdleSwap g slots (record t { answers = u.answers; report = u.report }) l (record r { tasks = f; counts = s.counts; lines = s.lines })
     idle_with = record {
       fit = record {
-        slots_are = subst (λ x. AreSlotsOf x slots.elements) (sym book_is) may.fit.slots_are;
+        slots_are = subst (λ x. AreSlotsOf x slots.elements) (sym cache_is) may.fit.slots_are;
         few_frames = may.fit.few_frames;
         limits = subst IsWithinLimits (sym same_shape) may.fit.limits;
         shape = may.fed.geometry ∙ may.fit.shape ∙ sym same_shape;
@@ -158,11 +158,11 @@ module _ {F P : Type 0} (g : FileMeanings F) (filter : FilterMeanings P) (law : 
           few = h.ready.kit.few;
           depth = h.ready.kit.depth;
           sides = h.ready.kit.sides;
-          samplers = samplers_stay filter r job.scene job.picture b.feeder.streamer.book (length start) b.tasks f.elements h;
+          samplers = samplers_stay filter r job.scene job.picture b.feeder.streamer.cache (length start) b.tasks f.elements h;
           counts = told.number ∙ h.ready.kit.counts;
         };
-        readers = subst (λ x. All (HasReader x) f.elements) (sym book_is)
-            (has_reader filter r job.scene job.picture b.feeder.streamer.book (length start) b.tasks f.elements h);
+        readers = subst (λ x. All (HasReader x) f.elements) (sym cache_is)
+            (has_reader filter r job.scene job.picture b.feeder.streamer.cache (length start) b.tasks f.elements h);
       };
       agree = record {
         shape = may.agree.shape ∙ sym same_shape;
@@ -187,18 +187,18 @@ module _ {F P : Type 0} (g : FileMeanings F) (filter : FilterMeanings P) (law : 
     rows_full : All (IsFull r.depth r.width) (drawn_rows kit)
     rows_full y d inside =
         let low : y < r.height = (let e = length-map-range_with_len (drawn_row kit) 0 r.height in omega (arith, e, inside)) in
-        let row = has_row filter r job.scene job.picture b.feeder.streamer.book (length start) b.tasks f.elements h y low in
+        let row = has_row filter r job.scene job.picture b.feeder.streamer.cache (length start) b.tasks f.elements h y low in
         subst (IsFull r.depth r.width) (sym (row_there y d low ∙ row.bytes_are))
-        (row_full filter r job.scene job.picture b.feeder.streamer.book (length start) b.tasks f.elements h y row)
+        (row_full filter r job.scene job.picture b.feeder.streamer.cache (length start) b.tasks f.elements h y row)
 
     from_draws : (y : ℕ) (line : RowLine) → slice_get lines y ≡ Some line
         → WasDrawn filter r.geometry r.depth r.count t.streamer f.elements job.scene.path job.picture y line.version (get_or (drawn_rows kit) y [])
     from_draws y line is =
         let at = line_there r.count f.elements r.height y line is in
-        let row = has_row filter r job.scene job.picture b.feeder.streamer.book (length start) b.tasks f.elements h y at.0 in
+        let row = has_row filter r job.scene job.picture b.feeder.streamer.cache (length start) b.tasks f.elements h y at.0 in
         subst (λ (z : ℕ × List ℕ). WasDrawn filter r.geometry r.depth r.count t.streamer f.elements job.scene.path job.picture y z.0 z.1)
         (λ i. (sym (ap (λ (x : RowLine). x.version) at.1 ∙ row.version_is) i, sym (row_there y [] at.0 ∙ row.bytes_are) i))
-        (row_drawn filter r job.scene job.picture b.feeder.streamer.book (length start) b.tasks f.elements h t.streamer book_is told.readers y row)
+        (row_drawn filter r job.scene job.picture b.feeder.streamer.cache (length start) b.tasks f.elements h t.streamer cache_is told.readers y row)
 
     limits : IsWithinLimits r.geometry
     limits = subst IsWithinLimits (sym may.agree.shape) may.fit.limits
@@ -219,13 +219,13 @@ module _ {F P : Type 0} (g : FileMeanings F) (filter : FilterMeanings P) (law : 
     in_order : AreRowsInOrder true r.count r.height (length start) (length t.streamer.journal) lines
     in_order = lines_in_order r.count r.height (length start) (length t.streamer.journal) f.elements h.ready.kit.some h.ready.kit.few
         (λ y inside.
-        let row = has_row filter r job.scene job.picture b.feeder.streamer.book (length start) b.tasks f.elements h y inside in
+        let row = has_row filter r job.scene job.picture b.feeder.streamer.cache (length start) b.tasks f.elements h y inside in
         let e = row.version_is in
-        let from = row_from filter r job.scene job.picture b.feeder.streamer.book (length start) b.tasks f.elements h y row in
-        let to = row_to filter r job.scene job.picture b.feeder.streamer.book (length start) b.tasks f.elements h t.streamer book_is told.readers y row in
+        let from = row_from filter r job.scene job.picture b.feeder.streamer.cache (length start) b.tasks f.elements h y row in
+        let to = row_to filter r job.scene job.picture b.feeder.streamer.cache (length start) b.tasks f.elements h t.streamer cache_is told.readers y row in
         let last = ap length told.whole.journal in
         (omega (arith, e, from), omega (arith, e, to, last)))
-        (rows_rise filter r job.scene job.picture b.feeder.streamer.book (length start) b.tasks f.elements h)
+        (rows_rise filter r job.scene job.picture b.feeder.streamer.cache (length start) b.tasks f.elements h)
 
     abbrev state : MachineState
     state = state_by g slots t.streamer.journal l kit
@@ -241,7 +241,7 @@ module _ {F P : Type 0} (g : FileMeanings F) (filter : FilterMeanings P) (law : 
       counts_are = λ p inside.
           let low : p < length r.counts = (let n = h.ready.kit.counts in let e = ap (λ x. pages_of x) (same_shape ∙ sym may.agree.shape) in
           omega (arith, n, e, inside)) in
-          told.sums p low ∙ counted filter r job.scene job.picture b.feeder.streamer.book (length start) b.tasks f.elements h p low;
+          told.sums p low ∙ counted filter r job.scene job.picture b.feeder.streamer.cache (length start) b.tasks f.elements h p low;
     }
 
     -- and what was done is a pass

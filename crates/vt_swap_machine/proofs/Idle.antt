@@ -2,7 +2,7 @@
 use Rattle.std.proofs.Common.{◌≡◌, ℕ, ◌*◌, ◌≤◌, false, List, length, get_or, Option, Some, sym, ap, ◌∙◌, subst, arith}
 use Rattle.std.specs.Prelude.{All, Result, Ok, Err, OnOk, OnErr}
 use Rattle.std.proofs.lemmas.Option.{none-some, slice_get-get_or}
-use Rattle.logbook.specs.Pages.{Book}
+use Rattle.vt_swap.specs.Caches.{Cache}
 use Rattle.vt_definitions.specs.Depths.{IsDepth}
 use Rattle.vt_definitions.specs.Limits.{most_frames}
 use Rattle.vt_outside.specs.Lists.{ListView}
@@ -22,8 +22,8 @@ use Rattle.vt_machine.specs.Machines.{told_by}
 use Rattle.vt_machine.specs.Outcomes.{IsBatchFor}
 use Rattle.vt_machine.specs.Passes.{MayPlace, IsJobFor, IsUntouched, IsSpent}
 use Rattle.vt_word_workers.proofs.Rooms.{told_same, files_same}
-use Rattle.vt_swap.specs.declared.frame.FrameKey.{FrameKey}
-use Rattle.vt_swap.specs.declared.records.LogRecord.TheVariants.{Filled}
+use Rattle.vt_swap.specs.LogTypes.frame.FrameKey.{FrameKey}
+use Rattle.vt_swap.specs.LogTypes.records.LogRecord.TheVariants.{Filled}
 use Rattle.vt_swap.specs.Slots.{AreSlotsOf}
 use Rattle.vt_swap.specs.Streamers.{StreamerView, HasMapped, IsRefused}
 use Rattle.vt_swap.specs.Making.{IsNewStreamer}
@@ -40,9 +40,9 @@ use Rattle.vt_swap_machine.proofs.Fills.{placed_stored}
 module _ {F : Type 0} (g : FileMeanings F) where
   -- a machine that was made is idle
   pub idle_made : (slots : ListView FrameKey) (t : SwapFeeder) (k : StreamKitView F) (r : DrawKit) (s : Shape) (d frames : ℕ) (crew : Crew)
-      → IsNewStreamer t.streamer → AreSlotsOf t.streamer.book slots.elements → length slots.elements ≡ frames → frames ≤ most_frames
+      → IsNewStreamer t.streamer → AreSlotsOf t.streamer.cache slots.elements → length slots.elements ≡ frames → frames ≤ most_frames
       → IsWithinLimits s → t.geometry ≡ s → t.depth ≡ d → IsStreamKit g k → k.shape ≡ s → k.depth ≡ d → k.crew ≡ crew
-      → IsDrawKit r r.tasks.elements → All (HasReader t.streamer.book) r.tasks.elements → r.geometry ≡ s → r.depth ≡ d → r.count ≡ crew.samplers
+      → IsDrawKit r r.tasks.elements → All (HasReader t.streamer.cache) r.tasks.elements → r.geometry ≡ s → r.depth ≡ d → r.count ≡ crew.samplers
       → IsIdleSwap g slots t k r
   idle_made slots t k r s d frames crew new slots_are count few limits shape depth kit same deep crew_is draw readers geometry depth_is samplers = record {
     fit = record {
@@ -73,7 +73,7 @@ module _ {F : Type 0} (g : FileMeanings F) where
       let mapped = subst (λ (z : ℕ × Shape). HasMapped z.0 (z.1.tile * z.1.tile) tile t.streamer w page frame) (λ i. (fit.depth i, fit.shape i)) placed in
       record {
         fit = record {
-          slots_are = subst (λ b. AreSlotsOf b slots.elements) (sym placed.book) fit.slots_are;
+          slots_are = subst (λ b. AreSlotsOf b slots.elements) (sym placed.cache) fit.slots_are;
           few_frames = fit.few_frames;
           limits = fit.limits;
           shape = fit.shape;
@@ -84,7 +84,7 @@ module _ {F : Type 0} (g : FileMeanings F) where
         kit = idle.kit;
         draw = record {
           kit = idle.draw.kit;
-          readers = subst (λ b. All (HasReader b) r.tasks.elements) (sym placed.book) idle.draw.readers;
+          readers = subst (λ b. All (HasReader b) r.tasks.elements) (sym placed.cache) idle.draw.readers;
         };
         agree = idle.agree;
       }
@@ -92,7 +92,7 @@ module _ {F : Type 0} (g : FileMeanings F) where
       let fit = idle.fit in
       record {
         fit = record {
-          slots_are = subst (λ b. AreSlotsOf b slots.elements) (sym refused.book) fit.slots_are;
+          slots_are = subst (λ b. AreSlotsOf b slots.elements) (sym refused.cache) fit.slots_are;
           few_frames = fit.few_frames;
           limits = fit.limits;
           shape = fit.shape;
@@ -102,7 +102,7 @@ module _ {F : Type 0} (g : FileMeanings F) where
         kit = idle.kit;
         draw = record {
           kit = idle.draw.kit;
-          readers = subst (λ b. All (HasReader b) r.tasks.elements) (sym refused.book) idle.draw.readers;
+          readers = subst (λ b. All (HasReader b) r.tasks.elements) (sym refused.cache) idle.draw.readers;
         };
         agree = idle.agree;
       }
@@ -124,7 +124,7 @@ module _ {F : Type 0} (g : FileMeanings F) where
       → IsIdleSwap g slots t k r → t.streamer.broken ≡ false → IsBatchFor t.geometry (length slots.elements) (newest t.streamer.journal) batch
       → length batch ≤ k.crew.batch → length t.streamer.journal ≤ last_start → u ≡ record t { answers = u.answers; report = u.report }
       → IsSameStream g k l → m ≡ record l { round = m.round } → IsAskedStream g q u.answers u.report m batch
-      → IsReadyDraw t.streamer.book (length t.streamer.journal) s s.tasks.elements → s ≡ record r { tasks = s.tasks; lines = s.lines }
+      → IsReadyDraw t.streamer.cache (length t.streamer.journal) s s.tasks.elements → s ≡ record r { tasks = s.tasks; lines = s.lines }
       → IsReadySwap g slots q u m s batch
   ready_once slots q t u k l m r s batch idle on lawful few early own same rest asked draw drawers =
       let shape : m.shape ≡ k.shape = ap (λ (x : StreamKitView F). x.shape) rest ∙ same.shape in
@@ -148,7 +148,7 @@ module _ {F : Type 0} (g : FileMeanings F) where
         lawful = subst (λ (x : SwapFeeder). IsBatchFor x.geometry (length slots.elements) (newest x.streamer.journal) batch) (sym own) lawful;
         early = (let n = ap (λ (x : SwapFeeder). length x.streamer.journal) own in let most = idle.kit.crew.few_entries in
             omega (arith, n, early, few, most));
-        draw = subst (λ (x : SwapFeeder). IsReadyDraw x.streamer.book (length x.streamer.journal) s s.tasks.elements) (sym own) draw;
+        draw = subst (λ (x : SwapFeeder). IsReadyDraw x.streamer.cache (length x.streamer.journal) s s.tasks.elements) (sym own) draw;
         agree = record {
           shape = ap (λ (x : DrawKit). x.geometry) drawers ∙ idle.agree.shape ∙ sym shape;
           depth = ap (λ (x : DrawKit). x.depth) drawers ∙ idle.agree.depth ∙ sym depth;
@@ -176,7 +176,7 @@ module _ {F : Type 0} (g : FileMeanings F) where
         picture_is = job_is.picture;
         reader = has.reader;
         has = has.has;
-        slots_are = subst (λ (b : Book). AreSlotsOf b m.slots.elements) (sym has.of) ready.fit.slots_are;
+        slots_are = subst (λ (b : Cache). AreSlotsOf b m.slots.elements) (sym has.of) ready.fit.slots_are;
       })
 
   -- and so may the streamer stream

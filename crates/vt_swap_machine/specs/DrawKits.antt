@@ -2,7 +2,7 @@
 use Rattle.std.specs.Prelude.{◌≡◌, ℕ, ◌%◌, ◌≤◌, Option, None, Some, List, [], length, map, slice_get, slice_index, sum_by, All, Contains}
 use Rattle.std.specs.List.{range_with_len}
 use mathlib.Core.List.{IsPrefix}
-use Rattle.logbook.specs.Pages.{Book}
+use Rattle.vt_swap.specs.Caches.{Cache}
 use Rattle.vt_definitions.specs.Depths.{IsDepth}
 use Rattle.vt_definitions.specs.Limits.{most_samplers}
 use Rattle.vt_pages.specs.Shape.{Shape}
@@ -10,7 +10,7 @@ use Rattle.vt_pages.specs.Pages.{pages_of}
 use Rattle.vt_camera.specs.Paths.{ArePictureSides}
 use Rattle.vt_journal.specs.declared.changes.RowLine.{RowLine}
 use Rattle.vt_word_workers.specs.Samplers.{row_at, version_at}
-use Rattle.vt_swap.specs.declared.records.LogRecord.{LogRecord}
+use Rattle.vt_swap.specs.LogTypes.records.LogRecord.{LogRecord}
 use Rattle.vt_swap.specs.Readers.{ReaderView}
 use Rattle.vt_swap_workers.specs.declared.workers.SwapDrawer.{SwapDrawer}
 use Rattle.vt_word_workers.specs.Kits.{IsSamplerOf}
@@ -52,16 +52,16 @@ pub record AreDrawers (s : Shape) (d width height samplers : ℕ) (tasks : List 
   pub each : (n : ℕ) (task : SwapDrawer) → slice_get tasks n ≡ Some task → IsSamplerOf s d width height samplers n task.sampler
 
 -- a sampler has a reader of this log
-pub record HasReader (book : Book) (a : SwapDrawer) : Type 0 where
+pub record HasReader (cache : Cache) (a : SwapDrawer) : Type 0 where
   pub reader : ReaderView
   pub has : a.reader ≡ Some reader
-  pub of : reader.book ≡ book
+  pub of : reader.cache ≡ cache
 
 -- and the reader has entered a version that is not before this one
-pub record HasSeen (book : Book) (start : ℕ) (a : SwapDrawer) : Type 0 where
+pub record HasSeen (cache : Cache) (start : ℕ) (a : SwapDrawer) : Type 0 where
   pub reader : ReaderView
   pub has : a.reader ≡ Some reader
-  pub of : reader.book ≡ book
+  pub of : reader.cache ≡ cache
   pub version : ℕ
   pub entered : Contains reader.entered version
   pub late : start ≤ version
@@ -69,7 +69,7 @@ pub record HasSeen (book : Book) (start : ℕ) (a : SwapDrawer) : Type 0 where
 -- a reader came to see such a version, and the sampler is as it was
 pub record Sees (start : ℕ) (a b : SwapDrawer) : Type 0 where
   pub sampler : b.sampler ≡ a.sampler
-  pub seen : (book : Book) → HasReader book a → HasSeen book start b
+  pub seen : (cache : Cache) → HasReader cache a → HasSeen cache start b
 
 -- what the reader of a sampler has seen of a log is a beginning of this
 pub record IsToldBy (log : List LogRecord) (a : SwapDrawer) : Type 0 where
@@ -87,9 +87,9 @@ pub record IsDrawKit (k : DrawKit) (tasks : List SwapDrawer) : Type 0 where
   pub counts : length k.counts ≡ pages_of k.geometry
 
 -- between passes each sampler has its reader
-pub record IsIdleDraw (book : Book) (k : DrawKit) : Type 0 where
+pub record IsIdleDraw (cache : Cache) (k : DrawKit) : Type 0 where
   pub kit : IsDrawKit k k.tasks.elements
-  pub readers : All (HasReader book) k.tasks.elements
+  pub readers : All (HasReader cache) k.tasks.elements
 
 -- a kit has room for the lines of a picture's rows
 pub record HasLineRoom (k : DrawKit) : Type 0 where
@@ -97,7 +97,7 @@ pub record HasLineRoom (k : DrawKit) : Type 0 where
   pub room : k.height ≤ k.lines.spare
 
 -- a pass is prepared that starts at a version: none of its rows can be drawn in an earlier one
-pub record IsReadyDraw (book : Book) (start : ℕ) (k : DrawKit) (tasks : List SwapDrawer) : Type 0 where
+pub record IsReadyDraw (cache : Cache) (start : ℕ) (k : DrawKit) (tasks : List SwapDrawer) : Type 0 where
   pub kit : IsDrawKit k tasks
-  pub readers : All (HasSeen book start) tasks
+  pub readers : All (HasSeen cache start) tasks
   pub lines : HasLineRoom k

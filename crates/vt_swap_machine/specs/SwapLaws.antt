@@ -15,7 +15,7 @@ use Rattle.vt_machine.specs.Drawings.{drawing_of}
 use Rattle.vt_machine.specs.Machines.{files_of, told_by}
 use Rattle.vt_machine.specs.Passes.{IsJobFor, IsUntouched}
 use Rattle.vt_pass.specs.WordLaws.{ends_after}
-use Rattle.vt_swap.specs.declared.frame.FrameKey.{FrameKey}
+use Rattle.vt_swap.specs.LogTypes.frame.FrameKey.{FrameKey}
 use Rattle.vt_swap_workers.specs.declared.workers.SwapDrawer.{SwapDrawer}
 use Rattle.vt_swap_workers.specs.declared.workers.SwapFeeder.{SwapFeeder}
 use Rattle.vt_swap_workers.specs.SwapTasks.{HasDrawn, HasFed}
@@ -55,10 +55,10 @@ module _ {F P : Type 0} (g : FileMeanings F) (filter : FilterMeanings P) (slots 
     (ready : IsReadySwap g slots q was k r job.batch) (job_is : IsJobFor (swap_setup g slots k r) job)
     (tasks_are : e ≡ r.tasks.elements) (drawers_are : s ≡ record r { tasks = s.tasks }) (number : length f ≡ length e)
     (did_draw : AllDid (HasDrawn filter job.scene job.picture) e f) where
-  pub draw_back : MayEndDraw filter s job.scene job.picture b.streamer.book (length b.streamer.journal) e f
-  draw_back = subst (λ (x : DrawKit × SwapFeeder). MayEndDraw filter x.0 job.scene job.picture x.1.streamer.book (length x.1.streamer.journal) e f)
+  pub draw_back : MayEndDraw filter s job.scene job.picture b.streamer.cache (length b.streamer.journal) e f
+  draw_back = subst (λ (x : DrawKit × SwapFeeder). MayEndDraw filter x.0 job.scene job.picture x.1.streamer.cache (length x.1.streamer.journal) e f)
       (λ i. (sym drawers_are i, sym feeder_is i)) (record {
-        ready = subst (λ (x : List SwapDrawer). IsReadyDraw was.streamer.book (length was.streamer.journal) (record r { tasks = s.tasks }) x)
+        ready = subst (λ (x : List SwapDrawer). IsReadyDraw was.streamer.cache (length was.streamer.journal) (record r { tasks = s.tasks }) x)
             (sym tasks_are) (record {
               kit = record {
                 some = ready.draw.kit.some;

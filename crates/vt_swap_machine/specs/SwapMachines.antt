@@ -18,7 +18,7 @@ use Rattle.vt_machine.specs.Drawings.{drawing_of}
 use Rattle.vt_machine.specs.Machines.{Setup, MachineState, files_of, told_by}
 use Rattle.vt_machine.specs.Outcomes.{IsBatchFor}
 use Rattle.vt_machine.specs.Passes.{Ends}
-use Rattle.vt_swap.specs.declared.frame.FrameKey.{FrameKey}
+use Rattle.vt_swap.specs.LogTypes.frame.FrameKey.{FrameKey}
 use Rattle.vt_swap.specs.Slots.{AreSlotsOf}
 use Rattle.vt_swap_noted.specs.Filled.{AreStoredFills}
 use Rattle.vt_swap_workers.specs.declared.workers.SwapDrawer.{SwapDrawer}
@@ -77,7 +77,7 @@ pub record Agree {F : Type 0} (k : StreamKitView F) (r : DrawKit) : Type 0 where
 -- a kit and the streamer of a page cache for its texture, whose frames were filled with tiles of the store, unless the streamer was refused
 -- memory in mid-step
 pub record IsFitFeeder {F : Type 0} (g : FileMeanings F) (slots : ListView FrameKey) (t : SwapFeeder) (k : StreamKitView F) : Type 0 where
-  pub slots_are : AreSlotsOf t.streamer.book slots.elements
+  pub slots_are : AreSlotsOf t.streamer.cache slots.elements
   pub few_frames : length slots.elements ≤ most_frames
   pub limits : IsWithinLimits k.shape
   pub shape : t.geometry ≡ k.shape
@@ -88,7 +88,7 @@ pub record IsFitFeeder {F : Type 0} (g : FileMeanings F) (slots : ListView Frame
 pub record IsIdleSwap {F : Type 0} (g : FileMeanings F) (slots : ListView FrameKey) (t : SwapFeeder) (k : StreamKitView F) (r : DrawKit) : Type 0 where
   pub fit : IsFitFeeder g slots t k
   pub kit : IsStreamKit g k
-  pub draw : IsIdleDraw t.streamer.book r
+  pub draw : IsIdleDraw t.streamer.cache r
   pub agree : Agree k r
 
 -- a pass is prepared for a batch, which is lawful for the newest version
@@ -99,7 +99,7 @@ pub record IsReadySwap {F : Type 0} (g : FileMeanings F) (slots : ListView Frame
   pub asked : IsAskedStream g q t.answers t.report k batch
   pub lawful : IsBatchFor t.geometry (length slots.elements) (newest t.streamer.journal) batch
   pub early : length t.streamer.journal + 2 * length batch ≤ most_versions
-  pub draw : IsReadyDraw t.streamer.book (length t.streamer.journal) r r.tasks.elements
+  pub draw : IsReadyDraw t.streamer.cache (length t.streamer.journal) r r.tasks.elements
   pub agree : Agree k r
 
 -- so with a streamer that may be out
@@ -145,7 +145,7 @@ pub record MayFinish {F P : Type 0} (g : FileMeanings F) (filter : FilterMeaning
     pub goes_on : b.feeder.streamer.broken ≡ false
     pub no_events : b.feeder.report.events.elements ≡ []
     pub fed : HasFed q job.batch b.feeder t
-    pub draw : MayEndDraw filter r job.scene job.picture b.feeder.streamer.book (length b.feeder.streamer.journal) b.tasks tasks
+    pub draw : MayEndDraw filter r job.scene job.picture b.feeder.streamer.cache (length b.feeder.streamer.journal) b.tasks tasks
     pub agree : Agree k r
 
 -- how a pass of a machine ends

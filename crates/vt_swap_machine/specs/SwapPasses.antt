@@ -1,6 +1,6 @@
 -- A pass over a page cache, by what its workers did.
 use Rattle.std.specs.Prelude.{◌≡◌, ℕ, ◌%◌, ◌<◌, false, Some, List, length, slice_get, slice_index, All, Contains}
-use Rattle.logbook.specs.Pages.{Book}
+use Rattle.vt_swap.specs.Caches.{Cache}
 use Rattle.vt_camera.specs.Paths.{PathView}
 use Rattle.vt_pages.specs.Shape.{Shape}
 use Rattle.vt_draw.specs.Shots.{shot_row}
@@ -27,7 +27,7 @@ pub record WasDrawn {P : Type 0} (filter : FilterMeanings P) (s : Shape) (d samp
   pub dealt_to : slice_get tasks (y % samplers) ≡ Some by
   pub reader : ReaderView
   pub has : by.reader ≡ Some reader
-  pub of : reader.book ≡ v.book
+  pub of : reader.cache ≡ v.cache
   pub entered : Contains reader.entered version
 
 -- a streamer was refused no memory: what it has done is lawful, and its journal is that of its log
@@ -38,9 +38,9 @@ pub record IsIntact (t : SwapFeeder) : Type 0 where
   pub journal : changes_in t.streamer.log ≡ t.streamer.journal
 
 -- samplers have drawn a picture of a scene, whose readers saw a version that is not before the start of the pass
-pub record MayEndDraw {P : Type 0} (filter : FilterMeanings P) (k : DrawKit) (scene : Scene) (picture : ℕ) (book : Book) (start : ℕ)
+pub record MayEndDraw {P : Type 0} (filter : FilterMeanings P) (k : DrawKit) (scene : Scene) (picture : ℕ) (cache : Cache) (start : ℕ)
     (before after : List SwapDrawer) : Type 0 where
-  pub ready : IsReadyDraw book start k before
+  pub ready : IsReadyDraw cache start k before
   pub shape : scene.shape ≡ k.geometry
   pub depth : scene.depth ≡ k.depth
   pub width : scene.path.width ≡ k.width

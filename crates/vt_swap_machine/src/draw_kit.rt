@@ -2,7 +2,7 @@
 
 ghost use Rattle.std.specs.Prelude.{◌≡◌, ◌<◌, ◌≤◌, ◌^◌, ℕ, All, IfOk, OnOk, length};
 ghost use Rattle.std.specs.List.{concat};
-ghost use Rattle.logbook.specs.Pages.{Book};
+ghost use Rattle.vt_swap.specs.Caches.{Cache};
 ghost use Rattle.vt_definitions.specs.Limits.{most_samplers};
 ghost use Rattle.vt_definitions.specs.Depths.{IsDepth};
 ghost use Rattle.vt_pages.specs.Pages.{pages_of};
@@ -55,7 +55,7 @@ fn new_tasks(
     requires depth { IsDepth depth }
     requires enough { length readers.elements ≡ count }
     ensures samplers { IfOk result (λ s. AreDrawers geometry.now depth path.now.width path.now.height count s.elements) }
-    ensures readers { (book : Book) → All (IsNewReader book) readers.elements → IfOk result (λ s. All (HasReader book) s.elements) }
+    ensures readers { (cache : Cache) → All (IsNewReader cache) readers.elements → IfOk result (λ s. All (HasReader cache) s.elements) }
 {
     let mut readers = readers;
     let mut tasks = Items::new(alloc);
@@ -83,8 +83,8 @@ impl DrawKit {
         requires depth { IsDepth depth }
         requires enough { length readers.elements ≡ count }
         ensures kit { IfOk result (λ k. IsDrawKit k k.tasks.elements) }
-        ensures readers { (book : Book) → All (IsNewReader book) readers.elements
-            → IfOk result (λ k. All (HasReader book) k.tasks.elements) }
+        ensures readers { (cache : Cache) → All (IsNewReader cache) readers.elements
+            → IfOk result (λ k. All (HasReader cache) k.tasks.elements) }
         ensures geometry { IfOk result (λ k. k.geometry ≡ geometry.now) }
         ensures depth { IfOk result (λ k. k.depth ≡ depth) }
         ensures width { IfOk result (λ k. k.width ≡ path.now.width) }
@@ -108,9 +108,9 @@ impl DrawKit {
 
     /// Makes room for what a pass tells, and lets each reader see a version from this one on. It may wait.
     pub(crate) fn prepare<R: Wait>(&mut self, rt: &R, start: u64) -> Result<(), NoMemory>
-        requires { (book : Book) × IsIdleDraw book self.old }
-        ensures ready { OnOk result ((book : Book) → IsIdleDraw book self.old
-            → IsReadyDraw book start self.new self.new.tasks.elements) }
+        requires { (cache : Cache) × IsIdleDraw cache self.old }
+        ensures ready { OnOk result ((cache : Cache) → IsIdleDraw cache self.old
+            → IsReadyDraw cache start self.new self.new.tasks.elements) }
         ensures rest { self.new ≡ record self.old { tasks = self.new.tasks; lines = self.new.lines } }
     {
         self.lines = with_room(self.alloc, u64::from(self.height))?;
@@ -135,7 +135,7 @@ impl DrawKit {
     ) -> Result<RowLines, NoMemory>
         requires some { 1 ≤ self.old.count }
         requires samplers { AreDrawers self.old.geometry self.old.depth self.old.width self.old.height self.old.count tasks.elements }
-        requires readers { All (HasReader own.now.streamer.book) tasks.elements }
+        requires readers { All (HasReader own.now.streamer.cache) tasks.elements }
         requires counts { length self.old.counts ≡ pages_of self.old.geometry }
         requires few { (p : ℕ) → p < length self.old.counts → counted_together tasks.elements p < 2 ^ 32 }
         requires room { HasLineRoom self.old }

@@ -3,7 +3,7 @@
 ghost use Rattle.std.specs.Prelude.{◌≡◌, ◌<◌, ◌≤◌, ◌*◌, false, None, All, IfOk, OnOk, OnErr, length};
 ghost use Rattle.vt_definitions.specs.Depths.{IsDepth};
 ghost use Rattle.vt_definitions.specs.Limits.{most_frames, most_samplers};
-ghost use Rattle.vt_pages.specs.Pages.{IsWithinLimits};
+ghost use Rattle.vt_pages.specs.Pages.{IsWithinLimits, pages_of};
 ghost use Rattle.vt_journal.specs.declared.changes.Change.TheVariants.{Map};
 ghost use Rattle.vt_journal.specs.Changes.{newest, IsNext};
 ghost use Rattle.vt_tiles.specs.Format.{tile_length};
@@ -48,10 +48,11 @@ pub(crate) fn cache_for<R: Wait>(
     requires few { samplers ≤ most_samplers }
     requires depth { IsDepth depth }
     ensures streamer { IfOk result (λ made. IsNewStreamer made.0) }
-    ensures slots { IfOk result (λ made. AreSlotsOf made.0.book made.1.elements) }
+    ensures slots { IfOk result (λ made. AreSlotsOf made.0.cache made.1.elements) }
+    ensures pages { IfOk result (λ made. made.0.cache.pages ≡ pages_of geometry.now) }
     ensures frames { IfOk result (λ made. length made.1.elements ≡ frames) }
     ensures kit { IfOk result (λ made. IsDrawKit made.2 made.2.tasks.elements) }
-    ensures readers { IfOk result (λ made. All (HasReader made.0.book) made.2.tasks.elements) }
+    ensures readers { IfOk result (λ made. All (HasReader made.0.cache) made.2.tasks.elements) }
     ensures geometry { IfOk result (λ made. made.2.geometry ≡ geometry.now) }
     ensures depth { IfOk result (λ made. made.2.depth ≡ depth) }
     ensures width { IfOk result (λ made. made.2.width ≡ path.now.width) }
@@ -92,7 +93,7 @@ pub(crate) fn place_page<R: Wait>(
     frame: u32,
     tile: &[u8],
 ) -> Result<(), NoMemory>
-    requires slots { AreSlotsOf own.old.streamer.book slots.now }
+    requires slots { AreSlotsOf own.old.streamer.cache slots.now }
     requires few { length slots.now ≤ most_frames }
     requires inside { frame < length slots.now }
     requires next { IsNext (newest own.old.streamer.journal) (Map page frame) }

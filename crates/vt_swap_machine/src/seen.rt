@@ -1,7 +1,7 @@
 //! The readers of samplers see a version before a pass is run, so that none of its rows is drawn in an earlier one.
 
 ghost use Rattle.std.specs.Prelude.{◌≡◌, ◌≤◌, ℕ, All, length};
-ghost use Rattle.logbook.specs.Pages.{Book};
+ghost use Rattle.vt_swap.specs.Caches.{Cache};
 ghost use Rattle.vt_machine.specs.All.{AllDid};
 ghost use Rattle.vt_swap.specs.Readers.{WasEntered};
 ghost use Rattle.vt_swap_machine.specs.DrawKits.{HasReader, Sees};
@@ -29,7 +29,7 @@ fn see<R: Wait>(rt: &R, reader: TableReader, start: u64) -> TableReader
 
 // The same for the reader of a sampler.
 fn see_by<R: Wait>(rt: &R, task: &mut SwapDrawer, start: u64)
-    requires { (book : Book) × HasReader book task.old }
+    requires { (cache : Cache) × HasReader cache task.old }
     ensures { Sees start task.old task.new }
 {
     let reader = mem::replace(&mut task.reader, None);
@@ -41,7 +41,7 @@ fn see_by<R: Wait>(rt: &R, task: &mut SwapDrawer, start: u64)
 
 /// Lets the readers of samplers enter until the version that each entered is not before this one. It may wait.
 pub(crate) fn see_all<R: Wait>(rt: &R, tasks: &mut [SwapDrawer], start: u64)
-    requires { (book : Book) × All (HasReader book) tasks.old }
+    requires { (cache : Cache) × All (HasReader cache) tasks.old }
     ensures number { length tasks.new ≡ length tasks.old }
     ensures seen { AllDid (Sees start) tasks.old tasks.new }
 {

@@ -14,7 +14,7 @@ use vt_swap_workers::{SwapDrawer, SwapFeeder};
 
 // Whether the reader of a sampler has seen no more of the log than the streamer did.
 fn is_told_by(task: &SwapDrawer, streamer: &SwapStreamer) -> bool
-    requires { HasReader streamer.now.book task.now }
+    requires { HasReader streamer.now.cache task.now }
     ensures { IsTrue result → IsToldBy streamer.now.log task.now }
 {
     match &task.reader {
@@ -25,7 +25,7 @@ fn is_told_by(task: &SwapDrawer, streamer: &SwapStreamer) -> bool
 
 // The same for the readers of all samplers.
 fn are_told(tasks: &[SwapDrawer], streamer: &SwapStreamer) -> bool
-    requires { All (HasReader streamer.now.book) tasks.now }
+    requires { All (HasReader streamer.now.cache) tasks.now }
     ensures { IsTrue result → All (IsToldBy streamer.now.log) tasks.now }
 {
     for i in 0..tasks.len() {
@@ -38,7 +38,7 @@ fn are_told(tasks: &[SwapDrawer], streamer: &SwapStreamer) -> bool
 
 /// Whether the streamer was refused no memory, and the readers of samplers have seen no more of the log than it did.
 pub(crate) fn is_told(tasks: &[SwapDrawer], own: &SwapFeeder) -> bool
-    requires { All (HasReader own.now.streamer.book) tasks.now }
+    requires { All (HasReader own.now.streamer.cache) tasks.now }
     ensures readers { IsTrue result → All (IsToldBy own.now.streamer.log) tasks.now }
     ensures whole { IsTrue result → IsIntact own.now }
 {

@@ -1,7 +1,7 @@
 -- Fills of a log and of records behind it.
 use Rattle.std.proofs.Common.{ℕ, zero, suc, List, [], ◌∷◌, ◌++◌, Option}
 use Rattle.vt_tiles.specs.Shape.{Shape}
-use Rattle.vt_swap.specs.declared.records.LogRecord.{LogRecord}
+use Rattle.vt_swap.specs.LogTypes.records.LogRecord.{LogRecord}
 use Rattle.vt_swap_noted.specs.Filled.{AreStoredFills}
 
 pub fills_grow : (s : Shape) (d : ℕ) (told : Option (List ℕ)) (rs ss : List LogRecord) → AreStoredFills s d told rs → AreStoredFills s d told ss

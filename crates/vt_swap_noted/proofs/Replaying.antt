@@ -21,7 +21,7 @@ use Rattle.vt_tiles.specs.StoreViews.{IsStore, IsStoreIfTold}
 use Rattle.vt_tiles.proofs.Stored.{pieces_hold_texels}
 use Rattle.vt_pictures.specs.Scenes.{Scene}
 use Rattle.vt_pictures.specs.Replays.{HasPixels, AreReplayed}
-use Rattle.vt_swap.specs.declared.records.LogRecord.{LogRecord}
+use Rattle.vt_swap.specs.LogTypes.records.LogRecord.{LogRecord}
 use Rattle.vt_swap.specs.Logs.{changes_in, IsLawful}
 use Rattle.vt_swap.specs.Notes.{IsSaidBy}
 use Rattle.vt_swap_noted.specs.Filled.{AreStoredFills, IsStoredTile}

@@ -3,8 +3,8 @@ use Rattle.std.specs.Prelude.{◌≡◌, ℕ, ◌*◌, Option, Some, IfSome, Lis
 use Rattle.vt_tiles.specs.Files.{IsPiece}
 use Rattle.vt_tiles.specs.Shape.{Shape}
 use Rattle.vt_tiles.specs.Format.{tile_length, tile_start}
-use Rattle.vt_swap.specs.declared.records.LogRecord.{LogRecord}
-use Rattle.vt_swap.specs.declared.records.LogRecord.TheVariants.{Filled}
+use Rattle.vt_swap.specs.LogTypes.records.LogRecord.{LogRecord}
+use Rattle.vt_swap.specs.LogTypes.records.LogRecord.TheVariants.{Filled}
 use Rattle.vt_swap.specs.Notes.{AreWordsOf}
 
 -- words are those of a page's tile, which is the store's where that is told

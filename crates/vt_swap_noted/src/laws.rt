@@ -14,7 +14,7 @@ ghost use Rattle.vt_tiles.specs.StoreViews.{IsStore, IsStoreIfTold};
 ghost use Rattle.vt_pictures.specs.Scenes.{Scene};
 ghost use Rattle.vt_pictures.specs.Replays.{HasPixels, AreReplayed};
 ghost use Rattle.vt_pictures.specs.Evidence.{AreTrue, AreShown};
-ghost use Rattle.vt_swap.specs.declared.records.LogRecord.{LogRecord};
+ghost use Rattle.vt_swap.specs.LogTypes.records.LogRecord.{LogRecord};
 ghost use Rattle.vt_swap.specs.Logs.{changes_in, IsLawful};
 ghost use Rattle.vt_swap.specs.Notes.{IsSaidBy};
 ghost use Rattle.vt_swap_noted.specs.Filled.{AreStoredFills};

@@ -10,7 +10,7 @@ use Rattle.vt_swap_sampler.specs.Entered.{WasEnteredBetween, HasEnteredRows}
 -- a reader that entered more, and then more
 pub entered_more : (r q s : ReaderView) (more then : List ℕ) → HasEnteredMore r q more → HasEnteredMore q s then → HasEnteredMore r s (then ++ more)
 entered_more r q s more then one two = record {
-  book = two.book ∙ one.book;
+  cache = two.cache ∙ one.cache;
   log = prefix_trans r.log q.log s.log one.log two.log;
   entered = two.entered ∙ ap (λ (l : List ℕ). then ++ l) one.entered ∙ sym (append_assoc then more r.entered);
 }

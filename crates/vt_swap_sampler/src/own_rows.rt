@@ -33,7 +33,7 @@ pub(crate) fn draw_own_rows<P: Filter, G: Gate, R: Wait>(
     counts: &mut [u32],
     spare: &mut [u32],
 ) -> TableReader
-    requires slots { AreSlotsOf reader.book slots.now }
+    requires slots { AreSlotsOf reader.cache slots.now }
     requires one_of { sampler < samplers }
     requires few { samplers ≤ most_samplers }
     requires depth { IsDepth shot.now.depth }

@@ -108,9 +108,9 @@ impl SwapSampler {
     /// Draws its rows of a picture by a filter over a page cache, from the top, each in a version of the page table that it enters for
     /// the row, and counts how many texels they want of each page. It gives the reader back.
     ///
-    /// All are for one path, one texture and one depth. The gate is told of a row each time after a version was entered for it, and
-    /// before the first look-up. It takes no memory and refuses nothing. It waits where the gate does, and where frames are written
-    /// that it is about to read.
+    /// All are for one path, one texture and one depth, and `slots` are those of all frames. The gate is told of a row each time after a
+    /// version was entered for it, and before the first look-up. It takes no memory and refuses nothing. It waits where the gate does, and
+    /// where frames are written that it is about to read.
     pub fn draw_by<P: Filter, G: Gate, R: Wait>(
         &mut self,
         rt: &R,
@@ -121,7 +121,7 @@ impl SwapSampler {
     ) -> TableReader
         requires for_it { IsFor self.old shot.now.geometry.now shot.now.path.now shot.now.depth }
         requires picture { shot.now.picture < length shot.now.path.now.cameras }
-        requires slots { AreSlotsOf reader.book slots.now }
+        requires slots { AreSlotsOf reader.cache slots.now }
         ensures rows { HasEnteredRows reader result (reverse self.new.versions) }
         ensures drawn { (y : ℕ) → IsOwn self.new y
             → let row = shot_row shot.now.geometry.now shot.now.path.now shot.now.picture y in

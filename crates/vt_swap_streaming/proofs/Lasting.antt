@@ -20,8 +20,8 @@ use Rattle.vt_streaming.proofs.Streaming.{entry_stays}
 use Rattle.vt_streaming.specs.BatchRounds.{result_group, result_events, AreLossesOf}
 use Rattle.vt_streaming.specs.declared.report.StreamReport.{StreamReport}
 use Rattle.vt_streaming.specs.Reports.{IsBlank}
-use Rattle.vt_swap.specs.declared.records.LogRecord.{LogRecord}
-use Rattle.vt_swap.specs.declared.records.LogRecord.TheVariants.{Filled}
+use Rattle.vt_swap.specs.LogTypes.records.LogRecord.{LogRecord}
+use Rattle.vt_swap.specs.LogTypes.records.LogRecord.TheVariants.{Filled}
 use Rattle.vt_swap.specs.Streamers.{StreamerView}
 use Rattle.vt_swap_streaming.specs.Brought.{HasStreamed, HasApplied, HasKept, AreFillsOf, IsUnderWay}
 use Rattle.vt_swap_streaming.proofs.Taking.{flag_was, flag_set}

@@ -14,8 +14,8 @@ use Rattle.vt_queue.specs.declared.items.Loaded.{Loaded}
 use Rattle.vt_streaming.specs.Readings.{is_lost}
 use Rattle.vt_streaming.specs.Outcomes.{IsEntryFor, IsVictimOf, victim_events, group_of, group_if}
 use Rattle.vt_streaming.specs.BatchRounds.{result_group, page_if}
-use Rattle.vt_swap.specs.declared.records.LogRecord.{LogRecord}
-use Rattle.vt_swap.specs.declared.records.LogRecord.TheVariants.{Changed, Filled}
+use Rattle.vt_swap.specs.LogTypes.records.LogRecord.{LogRecord}
+use Rattle.vt_swap.specs.LogTypes.records.LogRecord.TheVariants.{Changed, Filled}
 use Rattle.vt_swap.specs.Notes.{AreWordsOf}
 use Rattle.vt_swap.specs.Streamers.{StreamerView, MayBring, HasBrought, victim_changes, victim_records}
 use Rattle.vt_swap_streaming.specs.Brought.{HasPut, HasApplied, AreFillsOf}

@@ -12,8 +12,8 @@ use Rattle.vt_streaming.specs.Outcomes.{IsEntryFor, group_of}
 use Rattle.vt_streaming.specs.BatchRounds.{result_group, result_events, page_if}
 use Rattle.vt_streaming.specs.declared.report.StreamReport.{StreamReport}
 use Rattle.vt_streaming.specs.Streams.{is_new}
-use Rattle.vt_swap.specs.declared.records.LogRecord.{LogRecord}
-use Rattle.vt_swap.specs.declared.records.LogRecord.TheVariants.{Changed, Filled}
+use Rattle.vt_swap.specs.LogTypes.records.LogRecord.{LogRecord}
+use Rattle.vt_swap.specs.LogTypes.records.LogRecord.TheVariants.{Changed, Filled}
 use Rattle.vt_swap.specs.Notes.{AreWordsOf}
 use Rattle.vt_swap.specs.Streamers.{StreamerView, victim_records}
 

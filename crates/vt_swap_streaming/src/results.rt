@@ -75,13 +75,13 @@ fn put_entry<R: Wait, G: Gate>(
     texels: u32,
     gate: &G,
 ) -> bool
-    requires slots { AreSlotsOf streamer.old.book slots.now }
+    requires slots { AreSlotsOf streamer.old.cache slots.now }
     requires few { length slots.now ≤ most_frames }
     requires entry { (s : Shape) × IsEntryFor s (length slots.now) (newest streamer.old.journal) planned.now }
     requires early { length streamer.old.journal + 2 ≤ most_versions }
     requires depth { IsDepth depth }
     requires full { length tile.now ≡ texel_length depth * texels }
-    ensures book { streamer.new.book ≡ streamer.old.book }
+    ensures cache { streamer.new.cache ≡ streamer.old.cache }
     ensures put { result ≡ false → HasPut depth texels tile.now planned.now streamer.old streamer.new }
 {
     match streamer.bring(
@@ -112,14 +112,14 @@ fn apply_result<R: Wait, G: Gate>(
     events: &mut Events,
     gate: &G,
 ) -> bool
-    requires slots { AreSlotsOf streamer.old.book slots.now }
+    requires slots { AreSlotsOf streamer.old.cache slots.now }
     requires few { length slots.now ≤ most_frames }
     requires entry { (s : Shape) × IsEntryFor s (length slots.now) (newest streamer.old.journal) planned.now }
     requires early { length streamer.old.journal + 2 ≤ most_versions }
     requires depth { IsDepth depth }
     requires full { length loaded.now.request.buffer.elements ≡ texel_length depth * texels }
     requires room { 2 ≤ events.old.spare }
-    ensures book { streamer.new.book ≡ streamer.old.book }
+    ensures cache { streamer.new.cache ≡ streamer.old.cache }
     ensures read { result ≡ false → is_lost loaded.now.outcome ≡ false
         → HasPut depth texels loaded.now.request.buffer.elements planned.now streamer.old streamer.new }
     ensures lost { is_lost loaded.now.outcome ≡ true → streamer.new ≡ streamer.old }
@@ -155,7 +155,7 @@ pub(crate) fn stream_result<R: Wait, G: Gate>(
     into: &mut StreamReport,
     gate: &G,
 ) -> bool
-    requires slots { AreSlotsOf streamer.old.book slots.now }
+    requires slots { AreSlotsOf streamer.old.cache slots.now }
     requires few { length slots.now ≤ most_frames }
     requires inside { loaded.request.ticket < length batch.now }
     requires entry { refused ≡ false → (e : Entry) → slice_get batch.now loaded.request.ticket ≡ Some e
@@ -167,7 +167,7 @@ pub(crate) fn stream_result<R: Wait, G: Gate>(
     requires taken { length into.old.taken.elements ≡ length batch.now }
     requires room { refused ≡ false → 2 ≤ into.old.events.spare }
     requires results_room { 1 ≤ into.old.results.spare }
-    ensures book { streamer.new.book ≡ streamer.old.book }
+    ensures cache { streamer.new.cache ≡ streamer.old.cache }
     ensures before { result ≡ false → refused ≡ false }
     ensures applied { result ≡ false → HasApplied depth texels batch.now loaded streamer.old streamer.new }
     ensures events { result ≡ false → into.new.events.elements ≡ into.old.events.elements ++ result_group batch.now loaded }
@@ -214,7 +214,7 @@ fn apply_at<R: Wait, G: Gate>(
     events: &mut Events,
     gate: &G,
 ) -> bool
-    requires slots { AreSlotsOf streamer.old.book slots.now }
+    requires slots { AreSlotsOf streamer.old.cache slots.now }
     requires few { length slots.now ≤ most_frames }
     requires inside { loaded.now.request.ticket < length batch.now }
     requires entry { (e : Entry) → slice_get batch.now loaded.now.request.ticket ≡ Some e
@@ -223,7 +223,7 @@ fn apply_at<R: Wait, G: Gate>(
     requires depth { IsDepth depth }
     requires full { length loaded.now.request.buffer.elements ≡ texel_length depth * texels }
     requires room { 2 ≤ events.old.spare }
-    ensures book { streamer.new.book ≡ streamer.old.book }
+    ensures cache { streamer.new.cache ≡ streamer.old.cache }
     ensures applied { result ≡ false → HasApplied depth texels batch.now loaded.now streamer.old streamer.new }
     ensures events { result ≡ false → events.new.elements ≡ events.old.elements ++ result_group batch.now loaded.now }
     ensures room { events.old.spare ≤ events.new.spare + 2 }

@@ -4,7 +4,6 @@ ghost use Rattle.std.specs.Prelude.{◌≡◌, ◌+◌, ◌*◌, ◌<◌, ◌≤
 ghost use Rattle.vt_definitions.specs.Depths.{IsDepth};
 ghost use Rattle.vt_definitions.specs.Limits.{most_versions, most_frames};
 ghost use Rattle.vt_journal.specs.Changes.{newest};
-ghost use Rattle.vt_queue.specs.Steps.{Takes};
 ghost use Rattle.vt_queue.specs.Queues.{view_of, splits_of, IsOf};
 ghost use Rattle.vt_streaming.specs.Outcomes.{IsBatchFor};
 ghost use Rattle.vt_streaming.specs.BatchRounds.{result_events, AreLossesOf};
@@ -15,34 +14,14 @@ ghost use Rattle.vt_swap_streaming.specs.Brought.{HasStreamed};
 
 use crate::results::{is_kept, stream_result};
 use std::sync::Wait;
-use std::thread;
 use std::thread::Threads;
 use vt_definitions::texel_length;
 use vt_evict::Planned;
 use vt_outside::Gate;
 use vt_pages::Geometry;
 use vt_queue::{Loaded, QueuePass, ResultQueue};
-use vt_streaming::StreamReport;
+use vt_streaming::{StreamReport, take_result};
 use vt_swap::{Slot, SwapStreamer};
-
-// Takes the first result. It waits until there is one.
-fn take_result<Rt: Threads + Wait>(
-    rt: &Rt,
-    results: &ResultQueue,
-    answers: &mut QueuePass<Loaded>,
-) -> Loaded
-    requires of { IsOf results.now answers.old }
-    ensures of { IsOf results.now answers.new × (splits_of answers.new ≡ splits_of answers.old) }
-    ensures takes { Takes (view_of answers.old) result (view_of answers.new) }
-{
-    for _ in rt.forever() {
-        if let Some(loaded) = results.take(rt, answers) {
-            return loaded;
-        }
-        thread::yield_now();
-    }
-    unreachable!()
-}
 
 /// Takes results until there was one for each entry of a batch, and applies each to the entry of its ticket as it comes: where the
 /// tile was read, the victim is unmapped, the frame filled and the page mapped; where it is lost, that is noted. Other results are
@@ -61,7 +40,7 @@ pub fn stream_swapped<Rt: Threads + Wait, G: Gate>(
     into: &mut StreamReport,
     gate: &G,
 ) -> bool
-    requires slots { AreSlotsOf streamer.old.book slots.now }
+    requires slots { AreSlotsOf streamer.old.cache slots.now }
     requires few_frames { length slots.now ≤ most_frames }
     requires depth { IsDepth depth }
     requires answers { IsOf results.now answers.old }
@@ -69,7 +48,7 @@ pub fn stream_swapped<Rt: Threads + Wait, G: Gate>(
     requires few { length batch.now < 2 ^ 32 }
     requires early { length streamer.old.journal + 2 * length batch.now ≤ most_versions }
     requires report { IsBlank (length batch.now) into.old }
-    ensures book { streamer.new.book ≡ streamer.old.book }
+    ensures cache { streamer.new.cache ≡ streamer.old.cache }
     ensures answers { IsOf results.now answers.new × (splits_of answers.new ≡ splits_of answers.old) }
     ensures took { Streams (length batch.now) (view_of answers.old) (view_of answers.new) into.new.taken.elements
         into.new.results.elements }

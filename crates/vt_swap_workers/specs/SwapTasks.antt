@@ -15,7 +15,7 @@ use Rattle.vt_loaders.specs.declared.queued.Queues.{Queues}
 use Rattle.vt_swap_streaming.specs.BatchRounds.{result_events, AreLossesOf}
 use Rattle.vt_swap_streaming.specs.Streams.{Streams}
 use Rattle.vt_swap_streaming.specs.Reports.{IsBlank}
-use Rattle.vt_swap.specs.declared.frame.FrameKey.{FrameKey}
+use Rattle.vt_swap.specs.LogTypes.frame.FrameKey.{FrameKey}
 use Rattle.vt_swap.specs.Slots.{AreSlotsOf}
 use Rattle.vt_swap.specs.Notes.{IsSaidBy}
 use Rattle.vt_swap.specs.Readers.{ReaderView}
@@ -30,7 +30,7 @@ pub record MayDraw (slots : List FrameKey) (scene : Scene) (picture : ℕ) (a : 
   pub picture_is : picture < length scene.path.cameras
   pub reader : ReaderView
   pub has : a.reader ≡ Some reader
-  pub slots_are : AreSlotsOf reader.book slots
+  pub slots_are : AreSlotsOf reader.cache slots
 
 -- a sampler has drawn its rows of a picture of a scene by a filter, by what its reader saw of the log, each at a version that the reader entered
 -- for it; these never fall from row to row; and it has counted the texels that the rows want
@@ -55,7 +55,7 @@ pub record HasDrawn {P : Type 0} (filter : FilterMeanings P) (scene : Scene) (pi
 -- the streamer may stream a batch: the slots tell of its log, its pass is one of the results, the batch is lawful for the newest version, and there
 -- is room for what is told
 pub record MayStream (slots : List FrameKey) (q : Queues) (batch : List Planned) (a : SwapFeeder) : Type 0 where
-  pub slots_are : AreSlotsOf a.streamer.book slots
+  pub slots_are : AreSlotsOf a.streamer.cache slots
   pub few_frames : length slots ≤ most_frames
   pub depth_is : IsDepth a.depth
   pub answers : IsOf q.results a.answers
@@ -67,7 +67,7 @@ pub record MayStream (slots : List FrameKey) (q : Queues) (batch : List Planned)
 -- the streamer has streamed a batch: it took a result for each entry; and where it was not refused memory, it published the changes of these, and
 -- told of each
 pub record HasFed (q : Queues) (batch : List Planned) (a b : SwapFeeder) : Type 0 where
-  pub book : b.streamer.book ≡ a.streamer.book
+  pub cache : b.streamer.cache ≡ a.streamer.cache
   pub geometry : b.geometry ≡ a.geometry
   pub depth : b.depth ≡ a.depth
   pub answers : IsOf q.results b.answers

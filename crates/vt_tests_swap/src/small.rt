@@ -36,11 +36,11 @@ fn draw<R: Wait>(
     geometry: &Geometry,
     path: &Path,
 ) -> (TableReader, Drawn)
-    requires slots { AreSlotsOf reader.book slots.now }
+    requires slots { AreSlotsOf reader.cache slots.now }
     requires pages { pages_of geometry.now ≡ 5 }
     requires pictures { length path.now.cameras ≡ 1 }
     requires width { path.now.width ≡ 2 }
-    ensures { result.0.book ≡ reader.book }
+    ensures { result.0.cache ≡ reader.cache }
 {
     let _height = path.height();
     let shot = Shot {
@@ -68,10 +68,10 @@ fn draw<R: Wait>(
 
 // Maps the root to frame 0.
 fn bring_root<R: Wait>(rt: &R, streamer: &mut SwapStreamer, slots: &[Slot]) -> bool
-    requires slots { AreSlotsOf streamer.old.book slots.now }
+    requires slots { AreSlotsOf streamer.old.cache slots.now }
     requires count { length slots.now ≡ 2 }
     requires new { streamer.old.journal ≡ [] }
-    ensures book { streamer.new.book ≡ streamer.old.book }
+    ensures cache { streamer.new.cache ≡ streamer.old.cache }
     ensures mapped { IsTrue result → streamer.new.journal ≡ Map 4 0 ∷ [] }
 {
     match streamer.map(rt, slots, 4, 0, &ROOT, 1, 4) {
@@ -82,10 +82,10 @@ fn bring_root<R: Wait>(rt: &R, streamer: &mut SwapStreamer, slots: &[Slot]) -> b
 
 // Brings page 2 into frame 1, which is free.
 fn bring_first<R: Wait>(rt: &R, streamer: &mut SwapStreamer, slots: &[Slot]) -> bool
-    requires slots { AreSlotsOf streamer.old.book slots.now }
+    requires slots { AreSlotsOf streamer.old.cache slots.now }
     requires count { length slots.now ≡ 2 }
     requires rooted { streamer.old.journal ≡ Map 4 0 ∷ [] }
-    ensures book { streamer.new.book ≡ streamer.old.book }
+    ensures cache { streamer.new.cache ≡ streamer.old.cache }
     ensures mapped { IsTrue result → streamer.new.journal ≡ Map 4 0 ∷ Map 2 1 ∷ [] }
 {
     match streamer.bring(rt, slots, 2, 1, None, &TILE_2, 1, 4, &OpenGate) {
@@ -96,10 +96,10 @@ fn bring_first<R: Wait>(rt: &R, streamer: &mut SwapStreamer, slots: &[Slot]) -> 
 
 // Brings page 0 into frame 1, from which page 2 is unmapped before.
 fn bring_second<R: Wait>(rt: &R, streamer: &mut SwapStreamer, slots: &[Slot]) -> bool
-    requires slots { AreSlotsOf streamer.old.book slots.now }
+    requires slots { AreSlotsOf streamer.old.cache slots.now }
     requires count { length slots.now ≡ 2 }
     requires first { streamer.old.journal ≡ Map 4 0 ∷ Map 2 1 ∷ [] }
-    ensures book { streamer.new.book ≡ streamer.old.book }
+    ensures cache { streamer.new.cache ≡ streamer.old.cache }
 {
     match streamer.bring(rt, slots, 0, 1, Some(2), &TILE_0, 1, 4, &OpenGate) {
         Ok(()) => true,
@@ -116,8 +116,8 @@ fn is_drawn_after_each<R: Wait>(
     geometry: &Geometry,
     path: &Path,
 ) -> bool
-    requires slots { AreSlotsOf streamer.old.book slots.now }
-    requires book { reader.book ≡ streamer.old.book }
+    requires slots { AreSlotsOf streamer.old.cache slots.now }
+    requires cache { reader.cache ≡ streamer.old.cache }
     requires count { length slots.now ≡ 2 }
     requires new { streamer.old.journal ≡ [] }
     requires pages { pages_of geometry.now ≡ 5 }

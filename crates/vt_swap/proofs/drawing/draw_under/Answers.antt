@@ -4,7 +4,7 @@ use Rattle.vt_draw.specs.Lookups.{Note}
 use Rattle.vt_draw.specs.Shots.{shot_row}
 use Rattle.vt_pictures.specs.Evidence.{AreShown}
 use Rattle.vt_pictures.proofs.Handed.{shown_by_more}
-use Rattle.vt_swap.specs.declared.records.LogRecord.{LogRecord}
+use Rattle.vt_swap_steps.specs.LogTypes.records.LogRecord.{LogRecord}
 use Rattle.vt_swap.specs.Notes.{IsSaidBy}
 use Rattle.vt_swap.specs.Readers.{LookupView, IsSaidIn}
 use Rattle.vt_swap.proofs.Saying.{said_on}

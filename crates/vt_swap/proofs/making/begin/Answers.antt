@@ -1,10 +1,10 @@
 use Rattle.std.proofs.Common.{◌∙◌, ap, List, fold}
 use Rattle.left_right.specs.Sides.{view}
-use Rattle.vt_swap.specs.declared.table.Operation.{Operation}
-use Rattle.vt_swap.specs.Tables.{shown, applied}
-use Rattle.vt_swap.specs.declared.table.TableState.{TableState}
-use Rattle.vt_swap.proofs.Turning.{begins}
-use Rattle.vt_swap.proofs.Published.{when_ok, knows_published}
+use Rattle.vt_swap_steps.specs.declared.table.Operation.{Operation}
+use Rattle.vt_swap_steps.specs.Tables.{shown, applied}
+use Rattle.vt_swap_steps.specs.declared.table.TableState.{TableState}
+use Rattle.vt_swap_steps.proofs.Turning.{begins}
+use Rattle.vt_swap_steps.proofs.Published.{when_ok, knows_published}
 use Rattle.vt_swap.proofs.making.begin.Goals as goal
 
 pub publish_as-writer-requires : goal.publish_as-writer-requires

@@ -1,7 +1,8 @@
 use Rattle.std.proofs.Common.{rules, sym, ap, ◌∙◌}
-use Rattle.vt_swap.specs.declared.log.Front.{Front}
-use Rattle.vt_swap.specs.declared.rule.Known.{Known}
-use Rattle.vt_swap.proofs.Turning.{forks, merges}
+use Rattle.vt_swap_steps.specs.Caches.{cache_of}
+use Rattle.vt_swap_steps.specs.LogTypes.log.Front.{Front}
+use Rattle.vt_swap_steps.specs.declared.rule.Known.{Known}
+use Rattle.vt_swap_steps.proofs.Turning.{forks, merges}
 use Rattle.vt_swap.proofs.making.new_reader.Goals as goal
 
 pub tell-requires : goal.tell-requires
@@ -16,5 +17,5 @@ invariant_of-result g c =
     record {
       other = k.other;
       has = ap (λ (v : Known). v.front) c.learn.ensures.1 ∙ (ap (λ (v : Known). v.front) c.tell.ensures.given.1 ∙ k.has);
-      one_log = k.one_log ∙ sym (ap (λ (f : Front). f.seen.book) c.again.ensures);
+      one_log = k.one_log ∙ sym (ap (λ (f : Front). cache_of f) c.again.ensures);
     }

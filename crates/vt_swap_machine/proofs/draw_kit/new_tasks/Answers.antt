@@ -23,10 +23,10 @@ loop-number-preserved c =
       left = (let a = c.loop-number.invariant.left in
           let b = fewer o c.loop-number.readers c.pop-reader.new.self c.pop-reader.ensures.none c.pop-reader.ensures.some enough in
           omega (arith, a, b));
-      readers = λ book new.
-          let are = c.loop-number.invariant.readers book new in
-          let took = taken book o c.loop-number.readers c.pop-reader.new.self c.pop-reader.ensures.none c.pop-reader.ensures.some enough are.0 in (
+      readers = λ cache new.
+          let are = c.loop-number.invariant.readers cache new in
+          let took = taken cache o c.loop-number.readers c.pop-reader.new.self c.pop-reader.ensures.none c.pop-reader.ensures.some enough are.0 in (
             took.rest,
-            subst (All (HasReader book)) (sym c.push.ensures.elements) (readers_more book old v o _ _ are.1 took),
+            subst (All (HasReader cache)) (sym c.push.ensures.elements) (readers_more cache old v o _ _ are.1 took),
           );
     }

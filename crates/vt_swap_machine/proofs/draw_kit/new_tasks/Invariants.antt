@@ -1,6 +1,6 @@
 use Rattle.std.proofs.Common.{◌≡◌, ◌+◌, ◌≤◌, length}
 use Rattle.std.specs.Prelude.{All}
-use Rattle.logbook.specs.Pages.{Book}
+use Rattle.vt_swap.specs.Caches.{Cache}
 use Rattle.vt_swap.specs.Making.{IsNewReader}
 use Rattle.vt_swap_machine.specs.DrawKits.{HasReader}
 use Rattle.vt_swap_machine.proofs.Drawers.{AreFirst}
@@ -11,6 +11,6 @@ invariant-loop-number l = record {
   first : AreFirst l.geometry l.depth l.path.width l.path.height l.count l.number l.tasks.elements;
   spare : l.count ≤ l.number + l.tasks.spare;
   left : length l.readers.elements + l.number ≡ l.count;
-  readers : (book : Book) → All (IsNewReader book) l.fn.readers.elements
-      → All (IsNewReader book) l.readers.elements × All (HasReader book) l.tasks.elements;
+  readers : (cache : Cache) → All (IsNewReader cache) l.fn.readers.elements
+      → All (IsNewReader cache) l.readers.elements × All (HasReader cache) l.tasks.elements;
 }

@@ -20,7 +20,7 @@ finish-requires g c =
     record {
       some = h.ready.kit.some;
       samplers = samplers_stay g.P.Filter r job.scene job.picture _ _ b.tasks f h;
-      readers = subst (λ x. All (HasReader x) f) (sym may.fed.book) (has_reader g.P.Filter r job.scene job.picture _ _ b.tasks f h);
+      readers = subst (λ x. All (HasReader x) f) (sym may.fed.cache) (has_reader g.P.Filter r job.scene job.picture _ _ b.tasks f h);
       counts = h.ready.kit.counts;
       few = counts_low g.P.Filter r job.scene job.picture _ _ b.tasks f h g.met.P.Filter.wants_few;
       room = h.ready.lines;

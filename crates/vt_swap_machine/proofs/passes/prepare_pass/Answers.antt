@@ -20,4 +20,4 @@ returns-clause-ready g c =
     let draw = c.in_ok-prepare-2.ensures.ready _ idle.draw in
     ready_once g.F.File _ _ c.args.own.now _ c.args.streams.now c.prepare.new.self c.ask.new.self c.args.drawers.now s c.args.batch.now.elements idle
     (search rules) c.requires.lawful c.requires.few c.requires.early refl c.prepare.ensures.same c.ask.ensures.rest asked
-    (subst (λ n. IsReadyDraw c.args.own.now.streamer.book n s s.tasks.elements) (search rules) draw) c.prepare-2.ensures.rest
+    (subst (λ n. IsReadyDraw c.args.own.now.streamer.cache n s s.tasks.elements) (search rules) draw) c.prepare-2.ensures.rest

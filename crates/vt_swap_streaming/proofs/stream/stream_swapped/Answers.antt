@@ -17,7 +17,7 @@ pub loop-init : goal.loop-init
 loop-init g c =
     let r = c.requires in let a = r.report in let view = view_of c.args.answers.now in
     record {
-      book = refl;
+      cache = refl;
       answers = r.answers;
       splits = refl;
       few = omega arith;
@@ -50,7 +50,7 @@ loop-preserved-then-is_kept g c =
     let count : length flags ≡ all = i.streams.flags in
     let inside : x.request.ticket < all = subst (λ n. x.request.ticket < n) count (kept_inside _ flags x (sym c.is_kept.ensures ∙ c.if-is_kept.true)) in
     record {
-      book = did.book ∙ i.book;
+      cache = did.cache ∙ i.cache;
       answers = took.of.0;
       splits = took.of.1 ∙ i.splits;
       few = (let a = c.if-done-batch.false in omega (arith, a));

@@ -8,7 +8,7 @@ use Rattle.vt_swap_streaming.proofs.stream.stream_swapped.Given as goal
 
 abbrev pub invariant-loop : goal.invariant-loop
 invariant-loop g l = record {
-  book : l.streamer.book ≡ l.initial.streamer.book;
+  cache : l.streamer.cache ≡ l.initial.streamer.cache;
   answers : IsOf l.results l.answers;
   splits : splits_of l.answers ≡ splits_of l.initial.answers;
   few : l.done ≤ length l.batch;

@@ -1,0 +1,5 @@
+pub mod Logs
+pub mod Heads
+pub mod Caches
+pub mod Slots
+pub mod Told
