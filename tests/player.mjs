@@ -4,7 +4,7 @@
 import { readFileSync, writeFileSync } from 'node:fs';
 import { createInterface } from 'node:readline';
 import { readJournal, lastPasses } from '../examples/viewer/journal.mjs';
-import { Drawing, Flaw, openStore, pictureFile, pixelOf, readPath, Table, tileStart } from '../examples/viewer/replay.mjs';
+import { Drawing, Flaw, openStore, pictureFile, pixelOf, readPath, sampleAt, Table, tileStart } from '../examples/viewer/replay.mjs';
 
 // The same with the input's name in the flaw.
 function reading(file, read) {
@@ -26,13 +26,13 @@ function walkOf(names) {
 
 // One pixel of each row by the function that explains pixels: its samples, and the level that shows it.
 function hasPixels({ store, path, journal }, bytes, table, pass, filter, { raster, levels }) {
-  const { depth } = store, sampleAt = (data, at) => (depth === 1 ? data[at] : 256 * data[at] + data[at + 1]);
+  const { depth } = store;
   for (let y = 0; y < path.height; y++) {
     const x = (7 * y + pass) % path.width, pixel = y * path.width + x, made = pixelOf({ store, path, journal }, table, pass, x, y, filter);
     if (Math.max(...made.texels.map(({ up }) => made.level + up)) !== levels[pixel]) return false;
     for (let channel = 0; channel < 3; channel++) {
-      const sum = made.texels.reduce((all, { weight, byte }) => all + weight * sampleAt(bytes, byte + channel * depth), 32768);
-      if (Math.floor(sum / 65536) !== sampleAt(raster, depth * (3 * pixel + channel))) return false;
+      const sum = made.texels.reduce((all, { weight, byte }) => all + weight * sampleAt(bytes, byte + channel * depth, depth), 32768);
+      if (Math.floor(sum / 65536) !== sampleAt(raster, depth * (3 * pixel + channel), depth)) return false;
     }
   }
   return true;

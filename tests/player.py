@@ -4,7 +4,7 @@ is built, of the program; and opens the player in headless Chromium.
 
 usage: player.py [--program PROGRAM] [--cases N] [--seed N] [--shots FOLDER]
 
-(crates/vtex/out/vtex, 400 cases of another seed each time, and no screenshots where they are not given)
+(crates/vtex/out/vtex, 400 cases of another seed each time, and no screenshot where they are not given; the screenshot wants the program)
 
 In node: worked paths, stores and journals with their flaws; random ones, of which most have parts of their grammar changed (hostile/mutations.py); and walks
 of the reference, live and settled, of both depths, with lost pages and with rows at any versions that a journal allows, each drawn by both filters. The
@@ -204,7 +204,7 @@ def main():
     with tempfile.TemporaryDirectory(prefix="vtex-player-") as folder:
         os.chdir(folder)
         try_node(check, program, options, folder) if shutil.which("node") else check.skip("the player in node, which is not installed")
-        try_page(check, shots)
+        try_page(check, program, shots)
         os.chdir(top)
     print("player: %d passed, %d failed" % (check.passed, check.failed))
     return 1 if check.failed else 0
@@ -222,7 +222,7 @@ def try_node(check, program, options, folder):
     node.close()
 
 
-def try_page(check, shots):
+def try_page(check, program, shots):
     try:
         import browser
     except ImportError as error:
@@ -231,7 +231,7 @@ def try_page(check, shots):
         return check.skip("the player in Chromium, which is not installed")
     import player_page
 
-    return player_page.try_page(check, make_walk, shots)
+    return player_page.try_page(check, make_walk, program, shots)
 
 
 if __name__ == "__main__":

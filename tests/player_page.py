@@ -1,8 +1,10 @@
 """Opens the player in headless Chromium: its pictures, hands, residency, requests, flaws and faults. Called by player.py."""
 import hashlib
 import os
+import subprocess
 import time
 
+import strip
 from browser import Browser, Site
 from client import pictures_of
 from journals import Journal, pass_rows
@@ -27,6 +29,14 @@ DIGESTS = """(async (passes) => {
     found.push([...bytes].map((byte) => byte.toString(16).padStart(2, '0')).join(''));
   }
   return found;
+})(%s)"""
+# A place over the picture, by shares of its sides.
+OVER = "(() => { const it = document.getElementById('picture').getBoundingClientRect(); return { x: it.left + it.width * %s, y: it.top + it.height * %s }; })()"
+# Drops some files on the page, which it fetches before.
+DROP = """(async (names) => {
+  const dropped = new DataTransfer();
+  for (const name of names) dropped.items.add(new File([await (await fetch('stores/' + name)).blob()], name));
+  dispatchEvent(new DragEvent('drop', { dataTransfer: dropped, cancelable: true }));
 })(%s)"""
 
 
@@ -119,7 +129,7 @@ def try_walk(check, browser, site, walk, name):
         page.close()
 
 
-def try_hands(check, browser, site, walk, shots):
+def try_hands(check, browser, site, walk):
     """Keys, time line, slider, list, play and the residency."""
     page, passes = browser.open(site.base + "player.html?" + walk.words, 1300, 1100), walk.journal.passes
     page.until(BEGIN)
@@ -156,11 +166,9 @@ def try_hands(check, browser, site, walk, shots):
     page.ask(event + ".click()")
     page.until("player.shown.isDrawn")
     check.say(text.split(" ")[1] == str(at()[1]), "a click on an event: %s" % text)
-    page.call("Input.dispatchMouseEvent", type="mouseMoved", **page.ask("(() => { const it = document.getElementById('picture').getBoundingClientRect(); return { x: it.left + 60, y: it.top + 90 }; })()"))
+    page.call("Input.dispatchMouseEvent", type="mouseMoved", **page.ask(OVER % (0.1, 0.25)))
     page.until("document.getElementById('pixel-said').textContent.includes('sampler')")
     is_quiet(check, page, "hands")
-    if shots:
-        page.shot(os.path.join(shots, "player.png"))
     page.close()
 
 
@@ -199,6 +207,24 @@ def try_files(check, browser, site, walks):
     page.until("document.getElementById('journal-said').className.includes('flaw')")
     check.say("bad line 2" in text_of(page, "journal-said") and page.ask("document.getElementById('walk').hidden"), "chosen files: a journal of another store")
     is_quiet(check, page, "chosen files")
+    page.close()
+
+
+def try_drop_and_save(check, browser, site, folder, walk):
+    """Files that are dropped on the page, and a picture that is saved."""
+    page, last = browser.open(site.base + "player.html", 1300, 1100), len(walk.journal.passes)
+    page.ask(DROP % list(walk.names.values()))
+    page.until(BEGIN)
+    kept = os.path.join(folder, "kept")
+    browser.call("Browser.setDownloadBehavior", behavior="allow", downloadPath=kept)
+    page.ask("player.show(%d)" % last)
+    page.until(BEGIN)
+    click(page, "#save")
+    name, end = os.path.join(kept, "picture%04d.ppm" % walk.journal.passes[-1].picture), time.monotonic() + 30
+    while not os.path.exists(name) and time.monotonic() < end:
+        time.sleep(0.05)
+    check.say(digest(contents(name) or b"") == walk.digests(NEAREST)[1][-1], "a saved picture")
+    is_quiet(check, page, "dropped files")
     page.close()
 
 
@@ -259,7 +285,25 @@ def try_faults(check, browser, site, walk):
     page.close()
 
 
-def try_page(check, make_walk, shots):
+def make_shots(check, browser, site, folder, program, shots):
+    """The picture of docs/PLAYER.md: a live walk over the map of strip.py, in a pass whose rows have several versions."""
+    name, run = os.path.join(folder, "terrain"), lambda words: subprocess.run([program, *words], stdin=subprocess.DEVNULL, stdout=subprocess.DEVNULL)
+    strip.terrain(name + ".ppm")
+    with open(name + ".path", "wb") as file:
+        file.write(b"size 320 200\nfocal 100\nat 131072 131072 51200 11585 11585\nto 40 262144 196608 30000 16384 0\n")
+    run(["tile", name + ".ppm", name + ".vts", "--tile", "32"])
+    run(["walk", name + ".vts", name + ".path", name, "--journal", name + ".txt", "--frames", "200", "--batch", "24", "--loaders", "1"])
+    walk = Walked(folder, "terrain")
+    varied = max(range(9, len(walk.journal.passes)), key=lambda n: len({row[1] for row in walk.journal.passes[n - 1].rows}))
+    page = browser.open(site.base + "player.html?%s&pass=%d" % (walk.words, varied), 1280, 1130)
+    page.until(BEGIN)
+    page.call("Input.dispatchMouseEvent", type="mouseMoved", **page.ask(OVER % (0.4, 0.55)))
+    page.until("document.getElementById('pixel-said').textContent.includes('sampler')")
+    page.shot(os.path.join(shots, "player.png"))
+    is_quiet(check, page, "screenshot")
+
+
+def try_page(check, make_walk, program, shots):
     folder = os.path.abspath("walks")
     os.mkdir(folder)
     for name, walk in WALKS.items():
@@ -270,9 +314,12 @@ def try_page(check, make_walk, shots):
     with Site(folder) as site, Browser() as browser:
         for name, walk in walks.items():
             try_walk(check, browser, site, walk, name)
-        try_hands(check, browser, site, walks["small"], None)
-        try_hands(check, browser, site, walks["large"], shots)
+        try_hands(check, browser, site, walks["small"])
+        try_hands(check, browser, site, walks["large"])
         try_requests(check, browser, site, walks["large"])
         try_files(check, browser, site, walks)
+        try_drop_and_save(check, browser, site, folder, walks["wide"])
         try_flaws(check, browser, site, folder, walks["small"])
         try_faults(check, browser, site, walks["large"])
+        if shots and program:
+            make_shots(check, browser, site, folder, program, shots)

@@ -3,13 +3,13 @@
 import { Flaw, indexOf, LOST, MAP, nameOf, shortened, UNMAP } from './replay.mjs';
 
 const FRAMES = 65535, SAMPLERS = 64, LINE_FEED = 10, ZERO = 48;
-// What stands around the numbers of each line.
+// What stands around the numbers of each line; most lines are rows.
 const FORMS = {
+  row: ['row ', ' ', ' ', '\n'],
   map: ['map ', ' ', ' ', ' ', ' ', '\n'],
   unmap: ['unmap ', ' ', ' ', ' ', ' ', '\n'],
   lost: ['lost ', ' ', ' ', '\n'],
   pass: ['pass ', ' picture ', ' start ', '\n'],
-  row: ['row ', ' ', ' ', '\n'],
 };
 
 // A list of numbers below 2^31 that grows.

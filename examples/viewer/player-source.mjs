@@ -37,7 +37,9 @@ class Chosen {
   }
 }
 
-// A file on a web server, whose ranges are held to the length and the ETag of the first answer.
+const tagOf = ({ headers }) => headers.get('ETag') ?? headers.get('Last-Modified');
+
+// A file on a web server, whose ranges are held to the length and the ETag (or the date) of the first answer.
 class Address {
   constructor(url) {
     Object.assign(this, { url, kept: null, length: 0, tag: null });
@@ -46,7 +48,7 @@ class Address {
   /** The first bytes and the length. A server that answers no ranges gives the whole file, which is kept. */
   async begin(signal) {
     const answer = await this.fetch({ Range: `bytes=0-${HEAD_BYTES - 1}` }, signal, [200, 206, 416]);
-    this.tag = answer.headers.get('ETag');
+    this.tag = tagOf(answer);
     if (answer.status === 200) {
       if (Number(answer.headers.get('Content-Length')) > MOST_WHOLE) await refuse(answer, 'the server answers no ranges, and the file is too long to be read whole');
       this.kept = await bytesOf(answer);
@@ -65,7 +67,7 @@ class Address {
     if (start === end) return new Uint8Array(0);
     return again(signal, async () => {
       const answer = await this.fetch({ Range: `bytes=${start}-${end - 1}` }, signal, [206]);
-      if (answer.headers.get('ETag') !== this.tag || !answer.headers.get('Content-Range')?.endsWith(`/${this.length}`)) {
+      if (tagOf(answer) !== this.tag || !answer.headers.get('Content-Range')?.endsWith(`/${this.length}`)) {
         await refuse(answer, 'the file was replaced on the server; load this page again');
       }
       const bytes = await bytesOf(answer);

@@ -45,7 +45,7 @@ export function passAt(canvas, passes, x) {
 
 export function drawLine(canvas, journal, counts, pass) {
   const { context, width, height } = begin(canvas), columns = journal.passes + 1, side = width / columns;
-  drawBands(context, journal, width, height, side);
+  drawBands(context, journal, height, side);
   const greatest = (list, from, to) => { let most = 0; for (let i = from; i < to; i++) most = Math.max(most, list[i]); return most; };
   const ends = Math.max(1, greatest(counts[MAP], 1, columns), greatest(counts[UNMAP], 1, columns), greatest(counts[LOST], 1, columns));
   const middle = LABELS + (height - LABELS) * 0.6, above = middle - LABELS - 2, below = height - middle - 2, step = Math.max(1, side);
@@ -63,18 +63,21 @@ export function drawLine(canvas, journal, counts, pass) {
 }
 
 // The pictures' numbers over bands of their passes.
-function drawBands(context, { passes, picture }, width, height, side) {
-  context.font = '11px system-ui, sans-serif';
-  let labelled = -Infinity;
+function drawBands(context, { passes, picture }, height, side) {
+  const bands = [];
   for (let pass = 1, from = 1; pass <= passes; pass++) {
     if (pass < passes && picture[pass + 1] === picture[from]) continue;
-    if (side * (pass + 1 - from) >= 2 && picture[from] % 2 === 1) bar(context, '#272b33', from * side, 0, (pass + 1 - from) * side, height);
-    if (from * side >= labelled) {
-      context.fillStyle = '#a3abb8';
-      context.fillText(String(picture[from]), from * side + 2, 11);
-      labelled = from * side + 9 + 7 * String(picture[from]).length;
-    }
+    bands.push({ number: picture[from], x: from * side, wide: (pass + 1 - from) * side });
     from = pass + 1;
+  }
+  for (const { number, x, wide } of bands) if (number % 2 === 1 && wide >= 2) bar(context, '#272b33', x, 0, wide, height);
+  context.font = '11px system-ui, sans-serif';
+  context.fillStyle = '#a3abb8';
+  let labelled = -Infinity;
+  for (const { number, x } of bands) {
+    if (x < labelled) continue;
+    context.fillText(String(number), x + 2, 11);
+    labelled = x + 9 + 7 * String(number).length;
   }
 }
 
@@ -87,18 +90,39 @@ function drawInUse(context, { frames, passes }, { mapped }, side, middle, above)
 
 // ---- The picture
 
-/** The pixels of a picture as it is shown: its samples, the mip levels that show it, or how much coarser these are than wanted. */
-export function imageOf({ width, height }, { depth, levels: all }, drawn, view) {
-  const image = new ImageData(width, height), { raster, levels, rowLevels } = drawn, to = image.data, last = Math.max(1, all.length - 1);
-  for (let i = 0, y = 0; y < height; y++) {
-    for (let x = 0; x < width; x++, i++) {
-      if (view === 'picture') for (let c = 0; c < 3; c++) to[4 * i + c] = raster[depth * (3 * i + c)];
-      else if (view === 'level') to.fill(240 - (220 * levels[i]) / last, 4 * i, 4 * i + 3);
-      else to.set(COARSER[Math.min(COARSER.length - 1, levels[i] - rowLevels[y])], 4 * i);
-      to[4 * i + 3] = 255;
+const opaque = ([red, green, blue]) => 0xff000000 | (blue << 16) | (green << 8) | red;
+
+// The colours of the mip levels, dark for coarse, or of how much coarser a level is than wanted.
+function coloursOf({ levels }, view) {
+  if (view === 'coarser') return COARSER;
+  return levels.map((_, level) => new Array(3).fill(Math.round(240 - (220 * level) / Math.max(1, levels.length - 1))));
+}
+
+/** The pixels of a picture as it is shown: its samples (of two bytes the higher ones), the mip levels that show it, or how much coarser these are than
+ *  wanted. */
+export function imageOf({ width, height }, store, drawn, view) {
+  const image = new ImageData(width, height), { raster, levels, rowLevels } = drawn, { depth } = store, to = new Uint32Array(image.data.buffer);
+  const colours = Uint32Array.from(coloursOf(store, view), opaque), last = colours.length - 1;
+  for (let i = 0, from = 0, y = 0; y < height; y++) {
+    const wanted = view === 'coarser' ? rowLevels[y] : 0;
+    for (let x = 0; x < width; x++, i++, from += 3 * depth) {
+      if (view === 'picture') to[i] = 0xff000000 | (raster[from + 2 * depth] << 16) | (raster[from + depth] << 8) | raster[from];
+      else to[i] = colours[Math.min(last, levels[i] - wanted)];
     }
   }
   return image;
+}
+
+/** What the colours of a view say. */
+export function legendOf(store, view) {
+  if (view === 'picture') return [];
+  const said = (i) => (view === 'level' ? `${i}` : i === 0 ? 'as wanted' : `${i}${i === COARSER.length - 1 ? ' or more' : ''}`);
+  return coloursOf(store, view).map((colour, i) => {
+    const one = document.createElement('span'), box = document.createElement('i');
+    box.style.background = `rgb(${colour})`;
+    one.append(box, said(i));
+    return one;
+  });
 }
 
 /** How many pixels show a coarser level than their row wants. */
@@ -122,6 +146,12 @@ const EDGE = 10;
 export function versionAt(canvas, { start, last }, pass, x) {
   const share = (x - EDGE) / Math.max(1, canvas.clientWidth - 2 * EDGE);
   return Math.round(start[pass] + Math.max(0, Math.min(1, share)) * (last[pass] - start[pass]));
+}
+
+/** The row of a pass on which the pointer is, or -1. */
+export function rowAt(canvas, { height }, y) {
+  const row = Math.floor((y / canvas.clientHeight) * height);
+  return row >= 0 && row < height ? row : -1;
 }
 
 export function drawRows(canvas, journal, pass, version, scale) {

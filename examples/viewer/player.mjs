@@ -3,8 +3,8 @@
 // The address may hold `store`, `path`, `journal`, `filter`, `view`, `pass` and `version`.
 
 import { eventLine, eventsOf, lastPasses, lineOfPass, passOfVersion } from './journal.mjs';
-import { coarserThanWanted, countsOf, drawLine, drawRows, EventList, imageOf, passAt, Residency, scaleOf, versionAt } from './player-views.mjs';
-import { LOST, MAP, nameOf, pictureFile, pixelOf, storeLine, Table, UNMAP } from './replay.mjs';
+import { coarserThanWanted, countsOf, drawLine, drawRows, EventList, imageOf, legendOf, passAt, Residency, rowAt, scaleOf, versionAt } from './player-views.mjs';
+import { LOST, MAP, nameOf, pictureFile, pixelOf, sampleAt, storeLine, Table, UNMAP } from './replay.mjs';
 
 const FILES = ['store', 'path', 'journal'];
 const MOST_KEPT = 192 << 20;
@@ -78,7 +78,7 @@ function begin() {
   counts = countsOf(journal);
   written = new Set(lastPasses(journal));
   [table, pixelTable] = [new Table(journal, store.pages), new Table(journal, store.pages)];
-  [kept, drawn, pending, wanted] = [new Map(), null, null, new Int32Array(store.pages)];
+  [kept, drawn, pending, wanted, painted] = [new Map(), null, null, new Int32Array(store.pages), {}];
   residency = new Residency(at('levels'), store, sayPage);
   at('version').max = journal.versions;
   const number = (name, or) => (/^[0-9]{1,9}$/.test(words.get(name) ?? '') ? Number(words.get(name)) : or);
@@ -141,8 +141,9 @@ function freshPages() {
   return fresh.pages;
 }
 
+let painted = {};
 function showPicture(scale) {
-  const { path, store } = walk, canvas = at('picture');
+  const { path, store } = walk, canvas = at('picture'), view = at('view').value;
   canvas.style.width = `${path.width * scale}px`;
   canvas.style.height = `${path.height * scale}px`;
   canvas.style.imageRendering = scale >= 1 ? 'pixelated' : 'auto';
@@ -151,8 +152,11 @@ function showPicture(scale) {
     return;
   }
   canvas.style.opacity = 1;
+  if (painted.drawn === drawn && painted.view === view) return;
+  painted = { drawn, view };
   [canvas.width, canvas.height] = [path.width, path.height];
-  if (drawn !== null) canvas.getContext('2d').putImageData(imageOf(path, store, drawn, at('view').value), 0, 0);
+  at('view-legend').replaceChildren(...legendOf(store, view));
+  if (drawn !== null) canvas.getContext('2d').putImageData(imageOf(path, store, drawn, view), 0, 0);
 }
 
 // Draws a pass that is not kept, and shows it if it is still the one to be shown.
@@ -173,7 +177,7 @@ async function drawPicture(number) {
 }
 
 function keep(key, answer) {
-  kept.set(key, answer);
+  kept.set(key, { ...answer, coarser: coarserThanWanted(answer) });
   let bytes = 0;
   for (const one of kept.values()) bytes += one.raster.length + one.levels.length;
   for (const old of kept.keys()) {
@@ -203,7 +207,7 @@ function sayPass() {
   parts.push(`line ${lineOfPass(journal, pass)} of the journal`, countsText(pass));
   parts.push(`${counts.mapped[pass]} of ${journal.frames} frames in use at its end`);
   if (drawn !== null) {
-    const coarser = coarserThanWanted(drawn), all = drawn.levels.length;
+    const { coarser } = drawn, all = drawn.levels.length;
     parts.push(`${drawn.wanted.pages.length} pages wanted`, `${coarser} of ${all} pixels coarser than wanted (${((100 * coarser) / all).toFixed(1)} %)`);
     parts.push(`drawn in ${drawn.drawing.toFixed(0)} ms`, `${(drawn.read / 1e6).toFixed(1)} MB of ${(store.length / 1e6).toFixed(1)} MB read`);
   }
@@ -230,18 +234,21 @@ function sayPage(page) {
   return at('page-said').replaceChildren(`${pageText(page)} (index ${page}): ${frame < 0 ? 'not mapped' : `in frame ${frame}`}${pinned}${want}`);
 }
 
+// A row's sampler and version, and where the journal says so.
+function rowText(y) {
+  const { journal } = walk, [from, to] = eventsOf(journal, pass), { sampler, version: seen } = journal.rows, row = (pass - 1) * journal.height + y;
+  return `sampler ${sampler[row]}, version ${seen[row]}, line ${lineOfPass(journal, pass) + to - from + 1 + y} of the journal`;
+}
+
 function sayPixel(x, y) {
-  const { journal, store } = walk, filter = at('filter').value, made = pixelOf(walk, pixelTable, pass, x, y, filter);
-  const line = lineOfPass(journal, pass) + eventsOf(journal, pass)[1] - eventsOf(journal, pass)[0] + 1 + y;
+  const { store } = walk, filter = at('filter').value, made = pixelOf(walk, pixelTable, pass, x, y, filter);
   const lines = made.texels.map(({ weight, page, column, row, shown, up, frame, byte }) => {
     const as = up === 0 ? 'which is mapped' : `shown by ${pageText(shown)}, ${up} coarser`;
     return `  texel (${column}, ${row}) of ${pageText(page)}, ${as}, in frame ${frame}, byte ${byte} of the store${filter === 'bilinear' ? `, weight ${weight}/65536` : ''}`;
   });
-  const samples = drawn === null ? '' : `: ${[0, 1, 2].map((c) => sampleAt(drawn.raster, store.depth, 3 * (y * walk.path.width + x) + c)).join(' ')}`;
-  at('pixel-said').textContent = `pixel (${x}, ${y})${samples}\n  row ${y}: level ${made.level}, sampler ${made.sampler}, version ${made.version}, line ${line} of the journal\n${lines.join('\n')}`;
+  const samples = drawn === null ? '' : `: ${[0, 1, 2].map((c) => sampleAt(drawn.raster, store.depth * (3 * (y * walk.path.width + x) + c), store.depth)).join(' ')}`;
+  at('pixel-said').textContent = `pixel (${x}, ${y})${samples}\n  row ${y}: level ${made.level}, ${rowText(y)}\n${lines.join('\n')}`;
 }
-
-const sampleAt = (raster, depth, i) => (depth === 1 ? raster[i] : 256 * raster[2 * i] + raster[2 * i + 1]);
 
 // The address holds what is shown, where all three files are of a server.
 let addressing = null;
@@ -312,6 +319,10 @@ whilePressed(at('line'), ({ offsetX }) => {
   if (chosen !== pass) show(chosen);
 });
 whilePressed(at('rows'), ({ offsetX }) => show(pass, versionAt(at('rows'), walk.journal, pass, offsetX)));
+at('rows').addEventListener('pointermove', ({ offsetY }) => {
+  const y = rowAt(at('rows'), walk.journal, offsetY);
+  at('pixel-said').textContent = pass > 0 && y >= 0 ? `row ${y}: ${rowText(y)}` : '\u00a0';
+});
 at('line').addEventListener('pointermove', ({ offsetX }) => {
   const { journal } = walk, over = passAt(at('line'), journal.passes, offsetX), name = over === 0 ? 'head' : `pass ${over}, picture ${journal.picture[over]}`;
   at('line-said').textContent = `${name}: ${countsText(over)}, versions ${journal.start[over]} to ${journal.last[over]}`;
@@ -321,7 +332,7 @@ at('picture').addEventListener('pointermove', ({ offsetX, offsetY }) => {
   const { clientWidth, clientHeight } = at('picture'), { width, height } = walk.path, x = Math.floor((offsetX / clientWidth) * width), y = Math.floor((offsetY / clientHeight) * height);
   if (pass > 0 && x >= 0 && y >= 0 && x < width && y < height) sayPixel(x, y);
 });
-at('picture').addEventListener('pointerleave', () => { at('pixel-said').textContent = '\u00a0'; });
+for (const id of ['picture', 'rows']) at(id).addEventListener('pointerleave', () => { at('pixel-said').textContent = '\u00a0'; });
 
 function save() {
   if (drawn === null) return;

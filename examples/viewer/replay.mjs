@@ -169,6 +169,18 @@ export function texelsAt(store, level, across, down, filter) {
   return [[0, 0], [1, 0], [0, 1], [1, 1]].map(([i, j]) => ({ column: columns[i], row: rows[j], weight: (i ? e : 256 - e) * (j ? f : 256 - f) }));
 }
 
+/** The sample of one byte or two at a place of some bytes. */
+export function sampleAt(bytes, at, depth) {
+  return depth === 1 ? bytes[at] : (bytes[at] << 8) | bytes[at + 1];
+}
+
+// Writes a sample; answers the place behind it.
+function putSample(bytes, at, depth, sample) {
+  if (depth === 2) bytes[at++] = sample >> 8;
+  bytes[at] = sample & 255;
+  return at + 1;
+}
+
 /** Draws the passes of a walk, which is a store, a path and a journal. `tileAt(page)` answers a page's tile as the store holds it, or null where it is
  *  not at hand. */
 export class Drawing {
@@ -233,41 +245,35 @@ export class Drawing {
   }
 
   blendRow({ raster, levels, rowLevels }, y) {
-    const { across, down } = this, { store, path } = this.walk, level = rowLevels[y], { depth } = store, { width, height } = store.levels[level];
-    const sums = new Float64Array(3);
+    const { across, down, stamps, stamp, ups, tiles, counts } = this, { store, path } = this.walk, { depth } = store, level = rowLevels[y];
+    const { width, height, columns, first } = store.levels[level], shift = 31 - Math.clz32(store.tile), mask = store.tile - 1;
     for (let x = 0, to = 3 * depth * y * path.width; x < path.width; x++) {
-      const a = across[x] >> level, b = down[x] >> level, e = a & 255, f = b & 255;
-      const left = a >> 8, right = left + 1 === width ? 0 : left + 1, top = b >> 8, bottom = top + 1 === height ? 0 : top + 1;
-      sums.fill(32768);
-      const shown = Math.max(this.addTexel(sums, level, left, top, (256 - e) * (256 - f)), this.addTexel(sums, level, right, top, e * (256 - f)),
-        this.addTexel(sums, level, left, bottom, (256 - e) * f), this.addTexel(sums, level, right, bottom, e * f));
-      for (let i = 0; i < 3; i++) {
-        const sample = sums[i] >>> 16;
-        if (depth === 2) raster[to++] = sample >> 8;
-        raster[to++] = sample & 255;
+      const a = across[x] >> level, b = down[x] >> level, e = a & 255, f = b & 255, left = a >> 8, top = b >> 8;
+      let red = 32768, green = 32768, blue = 32768, shown = 0;
+      for (let corner = 0; corner < 4; corner++) {
+        const isRight = corner & 1, isBelow = corner & 2, weight = (isRight ? e : 256 - e) * (isBelow ? f : 256 - f);
+        const column = isRight ? (left + 1 === width ? 0 : left + 1) : left, row = isBelow ? (top + 1 === height ? 0 : top + 1) : top;
+        const page = first + (row >> shift) * columns + (column >> shift);
+        if (stamps[page] !== stamp) this.lookUp(page, level, column >> shift, row >> shift);
+        counts[page]++;
+        const up = ups[page], tile = tiles[page], from = 3 * depth * ((((row >> up) & mask) << shift) + ((column >> up) & mask));
+        if (up > shown) shown = up;
+        red += weight * sampleAt(tile, from, depth);
+        green += weight * sampleAt(tile, from + depth, depth);
+        blue += weight * sampleAt(tile, from + 2 * depth, depth);
       }
-      levels[y * path.width + x] = shown;
+      to = putSample(raster, putSample(raster, putSample(raster, to, depth, red >>> 16), depth, green >>> 16), depth, blue >>> 16);
+      levels[y * path.width + x] = level + shown;
     }
-  }
-
-  // Adds the samples that show a texel of a level, each times a weight; answers the level that shows it.
-  addTexel(sums, level, column, row, weight) {
-    const { store } = this.walk, { columns, first } = store.levels[level], shift = 31 - Math.clz32(store.tile), mask = store.tile - 1;
-    const page = first + (row >> shift) * columns + (column >> shift);
-    if (this.stamps[page] !== this.stamp) this.lookUp(page, level, column >> shift, row >> shift);
-    this.counts[page]++;
-    const up = this.ups[page], tile = this.tiles[page], from = 3 * store.depth * ((((row >> up) & mask) << shift) + ((column >> up) & mask));
-    for (let i = 0; i < 3; i++) sums[i] += weight * (store.depth === 1 ? tile[from + i] : 256 * tile[from + 2 * i] + tile[from + 2 * i + 1]);
-    return level + up;
   }
 }
 
-/** What a pixel of a pass is made of: its row's level, version and sampler, and of each texel its weight, the page that it wants, the page that shows it
- *  with that page's frame, and the byte of the store at which its samples begin. `table` is one of the same journal; it moves to the row's version. */
+/** What a pixel of a pass is made of: its row's level, and of each texel its weight, its column and row, the page that it wants, the page that shows it, how
+ *  many levels coarser that is, and its frame, and the byte of the store at which its samples begin. `table` is of the journal, and moves to the row's version. */
 export function pixelOf({ store, path, journal }, table, number, x, y, filter) {
-  const across = new Int32Array(path.width), down = new Int32Array(path.width), at = (number - 1) * path.height + y;
-  const level = placeRow(store, path, journal.picture[number], y, across, down), version = journal.rows.version[at];
-  const { frames } = table.goTo(version), shift = 31 - Math.clz32(store.tile), mask = store.tile - 1;
+  const across = new Int32Array(path.width), down = new Int32Array(path.width);
+  const level = placeRow(store, path, journal.picture[number], y, across, down);
+  const { frames } = table.goTo(journal.rows.version[(number - 1) * path.height + y]), shift = 31 - Math.clz32(store.tile), mask = store.tile - 1;
   const texels = texelsAt(store, level, across[x], down[x], filter).map(({ column, row, weight }) => {
     let up = 0;
     const pageAt = () => indexOf(store, level + up, column >> (up + shift), row >> (up + shift)), page = pageAt();
@@ -275,7 +281,7 @@ export function pixelOf({ store, path, journal }, table, number, x, y, filter) {
     const shown = pageAt(), place = (((row >> up) & mask) << shift) + ((column >> up) & mask);
     return { weight, page, column, row, shown, up, frame: frames[shown], byte: tileStart(store, shown) + 3 * store.depth * place };
   });
-  return { level, version, sampler: journal.rows.sampler[at], texels };
+  return { level, texels };
 }
 
 /** The bytes of a picture's file. */
