@@ -67,9 +67,9 @@ class Address {
     if (start === end) return new Uint8Array(0);
     return again(signal, async () => {
       const answer = await this.fetch({ Range: `bytes=${start}-${end - 1}` }, signal, [206]);
-      if (tagOf(answer) !== this.tag || !answer.headers.get('Content-Range')?.endsWith(`/${this.length}`)) {
-        await refuse(answer, 'the file was replaced on the server; load this page again');
-      }
+      const range = answer.headers.get('Content-Range') ?? '';
+      if (tagOf(answer) !== this.tag || !range.endsWith(`/${this.length}`)) await refuse(answer, 'the file was replaced on the server; load this page again');
+      if (!range.startsWith(`bytes ${start}-${end - 1}/`)) await refuse(answer, 'the server answered another range than was asked for');
       const bytes = await bytesOf(answer);
       if (bytes.length !== end - start) throw new Passing(`the server answered ${bytes.length} bytes, and ${end - start} were asked for`);
       return bytes;

@@ -21,7 +21,7 @@ worker.onmessage = ({ data }) => {
   waiting.get(data.number)(data);
   waiting.delete(data.number);
 };
-worker.onerror = () => tell('the worker cannot run: the page has to come from a web server, not from a file');
+worker.onerror = ({ message }) => tell(`the worker cannot run: ${message ?? 'its modules cannot be read'}`);
 
 // The answer to a message; a later message stops it.
 function ask(job, said) {
@@ -42,11 +42,13 @@ const fileName = (file) => (typeof file === 'string' ? file : file.name);
 const sourceFor = (file) => (typeof file === 'string' ? new URL(file, location.href).href : file);
 
 function tell(sentence) {
+  at('told').className = '';
   at('told').textContent = sentence;
   at('told').hidden = sentence === '';
 }
 
 async function openAll() {
+  for (const name of FILES) if (files[name]) at(`${name}-said`).replaceChildren(`${fileName(files[name])}: reading`);
   const answer = await ask('open', { files: Object.fromEntries(FILES.map((name) => [name, files[name] && sourceFor(files[name])])) });
   if (answer.stopped) return;
   tell(answer.failed.line ?? '');
@@ -384,5 +386,6 @@ globalThis.player = {
   walk: () => walk,
 };
 
+tell('');
 for (const id of ['filter', 'view']) if ([...at(id).options].some(({ value }) => value === words.get(id))) at(id).value = words.get(id);
 if (FILES.some((name) => files[name])) openAll();
