@@ -133,7 +133,7 @@ def try_tables(check, node):
         check.say(len(found) == answer if isinstance(answer, int) else found == "j.txt: " + answer, "journal %r" % text)
 
 
-def try_case(check, node, seed):
+def try_case(check, node, program, seed):
     """A replay of small inputs, of which one is mutated mostly."""
     make, case = Mutations(seed), None
     while case is None or not is_small(case):
@@ -148,6 +148,8 @@ def try_case(check, node, seed):
     check.say(found == due, "case of seed %d: %s" % (seed, found if isinstance(found, str) else due if isinstance(due, str) else "pictures"))
     if not isinstance(due, str):
         check.say(list(pictures_of(*NAMES.values(), filtering)) == due, "case of seed %d: client.py" % seed)
+    if program:
+        check.say(program_draws(program, filtering) == found, "case of seed %d: the program" % seed)
 
 
 def make_walk(sides, tile, route, settings, lost, seed=1):
@@ -169,10 +171,12 @@ def try_walk(check, node, program, what, *walk):
 
 
 def program_draws(program, filtering):
-    """The pictures of `vtex replay`, or None where it fails."""
-    ran = subprocess.run([program, "replay", *NAMES.values(), "v", "--filter", filtering], stdin=subprocess.DEVNULL, stdout=subprocess.PIPE)
-    number = int(ran.stdout.split()[-1]) if ran.returncode == 0 else 0
-    return [contents("v%04d.ppm" % k) for k in range(number)] if ran.returncode == 0 else None
+    """The pictures of `vtex replay`, or the line of its refusal behind `vtex: bad input: `."""
+    words = [program, "replay", *NAMES.values(), "v", "--filter", filtering]
+    ran = subprocess.run(words, stdin=subprocess.DEVNULL, stdout=subprocess.PIPE, stderr=subprocess.PIPE, text=True)
+    if ran.returncode != 0:
+        return ran.stderr.removeprefix("vtex: bad input: ").removesuffix("\n")
+    return [contents("v%04d.ppm" % k) for k in range(int(ran.stdout.split()[-1]))]
 
 
 def try_program(check, node, program):
@@ -214,7 +218,7 @@ def try_node(check, program, options, folder):
     node = Node(folder)
     try_tables(check, node)
     for seed in range(options.seed, options.seed + options.cases):
-        try_case(check, node, seed)
+        try_case(check, node, program, seed)
     for walk in WALKS:
         try_walk(check, node, program, *walk)
     if program:
