@@ -30,6 +30,8 @@ DIGESTS = """(async (passes) => {
   }
   return found;
 })(%s)"""
+# The bytes that the picture's canvas shows, four a pixel.
+CANVAS = "(({ width, height }, context) => new Uint8Array(context.getImageData(0, 0, width, height).data.buffer))(document.getElementById('picture'), document.getElementById('picture').getContext('2d'))"
 # A place over the picture, by shares of its sides.
 OVER = "(() => { const it = document.getElementById('picture').getBoundingClientRect(); return { x: it.left + it.width * %s, y: it.top + it.height * %s }; })()"
 # Drops some files on the page, which it fetches before.
@@ -119,12 +121,23 @@ def is_quiet(check, page, what, may=()):
     check.say(not said, "%s: console: %s" % (what, said))
 
 
+def canvas_is(check, page, walk, filtering, what):
+    """The pixels on the screen are those of the last pass's picture; of samples of two bytes the higher ones."""
+    page.until(BEGIN + " && player.shown.pass === %d" % len(walk.journal.passes))
+    found, last = page.pixels(CANVAS), walk.journal.last_passes()[-1]
+    walk.path.filtering = filtering
+    samples = b"".join(pass_rows(walk.store, walk.path, walk.journal, *last))[:: walk.store.depth]
+    due = b"".join(samples[at : at + 3] + b"\xff" for at in range(0, len(samples), 3))
+    check.say(found == due, what + ": the pixels of the canvas")
+
+
 def try_walk(check, browser, site, walk, name):
     """All pictures by both filters, by the address."""
     for filtering in (NEAREST, BILINEAR):
         page = browser.open(site.base + "player.html?%s&filter=%s" % (walk.words, filtering), 1300, 1100)
         page.until(BEGIN)
         pictures_are(check, page, walk, filtering, "%s, %s" % (name, filtering))
+        canvas_is(check, page, walk, filtering, "%s, %s" % (name, filtering))
         is_quiet(check, page, "%s, %s" % (name, filtering))
         page.close()
 

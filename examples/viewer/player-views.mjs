@@ -7,7 +7,9 @@ const COLOURS = { [MAP]: '#5aa9f0', [UNMAP]: '#eda73f', [LOST]: '#ff5470' };
 const WORDS = { [MAP]: 'map', [UNMAP]: 'unmap', [LOST]: 'lost' };
 const SAMPLERS = ['#7fd0ff', '#ffb454', '#8fe388', '#ff8fa3', '#c9a7ff', '#f2e36b', '#5fe0c8', '#d9d9d9'];
 const COARSER = [[38, 43, 51], [250, 221, 110], [246, 165, 74], [232, 106, 66], [200, 53, 79], [150, 30, 100], [105, 25, 120]];
-const UNMAPPED = [38, 42, 49], MISSING = [255, 84, 112];
+// A colour of an image as the word that its four bytes are; browsers run on processors whose lowest byte comes first.
+const opaque = ([red, green, blue]) => (0xff000000 | (blue << 16) | (green << 8) | red) >>> 0;
+const UNMAPPED = opaque([38, 42, 49]), MISSING = opaque([255, 84, 112]);
 
 // A canvas's context in CSS pixels, cleared, at a size or at the one that its style gives.
 function begin(canvas, width = canvas.clientWidth, height = canvas.clientHeight) {
@@ -89,8 +91,6 @@ function drawInUse(context, { frames, passes }, { mapped }, side, middle, above)
 }
 
 // ---- The picture
-
-const opaque = ([red, green, blue]) => 0xff000000 | (blue << 16) | (green << 8) | red;
 
 // The colours of the mip levels, dark for coarse, or of how much coarser a level is than wanted.
 function coloursOf({ levels }, view) {
@@ -250,15 +250,13 @@ export class Residency {
   }
 
   drawLevel({ k, columns, rows, first, cell, canvas, caption, image }, frames, counts, isFresh) {
-    const { context } = begin(canvas), pages = columns * rows;
+    const { context } = begin(canvas), pages = columns * rows, cells = new Uint32Array(image.data.buffer);
     let mapped = 0, missing = 0;
     for (let i = 0; i < pages; i++) {
-      const frame = frames[first + i], isWanted = counts[first + i] > 0, at = 4 * i;
+      const frame = frames[first + i], isWanted = counts[first + i] > 0;
       mapped += frame >= 0 ? 1 : 0;
       missing += frame < 0 && isWanted ? 1 : 0;
-      const colour = frame >= 0 ? colourOf(frame, isWanted) : isWanted && cell < 6 ? MISSING : UNMAPPED;
-      image.data.set(colour, at);
-      image.data[at + 3] = 255;
+      cells[i] = frame >= 0 ? colourOf(frame, isWanted) : isWanted && cell < 6 ? MISSING : UNMAPPED;
     }
     paint(context, image, columns * cell, rows * cell);
     if (cell >= 4) this.drawMarks(context, first, columns, pages, cell, frames, counts, isFresh);
@@ -293,11 +291,11 @@ function paint(context, image, width, height) {
   context.drawImage(whole, 0, 0, width, height);
 }
 
-// A frame's colour: hues far from each other for frames near each other, none of them red.
+// A frame's colour as a word: hues far from each other for frames near each other, none of them red.
 function colourOf(frame, isWanted) {
   const hue = 45 + ((frame * 137.508) % 270), [saturation, light] = isWanted ? [0.55, 0.58] : [0.3, 0.34], most = saturation * Math.min(light, 1 - light);
-  return [0, 8, 4].map((n) => {
+  return opaque([0, 8, 4].map((n) => {
     const k = (n + hue / 30) % 12;
     return Math.round(255 * (light - most * Math.max(-1, Math.min(k - 3, 9 - k, 1))));
-  });
+  }));
 }
