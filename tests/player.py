@@ -38,6 +38,32 @@ from walks import SHARED, Settings, Shuffled, Walk, walked
 
 NAMES = {"store": "s.vts", "path": "p.path", "journal": "j.txt"}
 FOUR_PATH = b"size 2 1\nfocal 1\nat 0 0 256 16384 0\n"
+# Journals of pictures of three rows over the store of four texels a side, and how many pictures they give or why they are refused.
+THREE_PATH = b"size 2 3\nfocal 1\nat 0 0 256 16384 0\n"
+THREE = "map 1 1 0 0 0\npass 1 picture 0 start 1\nrow 0 0 1\nrow 1 63 1\nrow 2 7 1\npass 2 picture 0 start 1\n"
+THREE_ROWS = "row 0 0 2\nrow 1 0 2\nrow 2 0 2\n"
+EDGES = [
+    (THREE + "map 2 0 0 0 65534\n" + THREE_ROWS, 1),
+    (THREE + "map 2 0 0 0 65535\n" + THREE_ROWS, "bad line 7"),
+    (THREE + "map 2 0 1 1 1\nrow 0 0 2\nrow 1 1 1\nrow 2 0 2\n", 1),
+    (THREE + "map 2 0 1 1 1\nrow 0 0 2\nrow 1 1 1\nrow 2 0 1\n", "bad line 10"),
+    (THREE + "map 2 0 1 1 1\nrow 0 0 3\n", "bad line 8"),
+    (THREE + "map 2 0 0 0 1\nmap 3 0 1 1 1\n", "bad line 8"),
+    (THREE + "map 2 0 0 0 1\nmap 3 0 0 0 2\n", "bad line 8"),
+    (THREE + "map 2 0 0 0 1\nlost 0 0 0\n", "bad line 8"),
+    (THREE + "unmap 2 0 0 0 1\n", "bad line 7"),
+    (THREE + "unmap 2 1 0 0 0\n", "bad line 7"),
+    (THREE + "lost 0 1 1\nrow 0 0 1\nrow 1 0 1\nrow 2 0 1\n", 1),
+    (THREE + "row 0 0 1\nlost 0 1 1\n", "bad line 8"),
+    (THREE + "row 0 0 1\nmap 2 0 1 1 1\n", "bad line 8"),
+    (THREE + "row 0 0 1:\n", "bad line 7"),
+    (THREE + "row 0 0 1/\n", "bad line 7"),
+    (THREE + "row 0 0 01\n", "bad line 7"),
+    ("map 1 0 1 1 0\nmap 2 1 0 0 1\npass 1 picture 0 start 2\nunmap 3 0 1 1 0\n", "bad line 4"),
+    ("map 1 0 1 1 0\nmap 2 1 0 0 1\nmap 3 0 0 0 2\n", "bad line 3"),
+    ("map 1 0 0 1 0\nmap 2 1 0 0 1\n", "bad line 2"),
+    ("lost 0 0 0\n", "bad line 1"),
+]
 TURNS = "size 9 12\nfocal 7\nat -300 -300 2000 -16384 3\nto 6 9000 -9000 60000 0 -16384\nat 2147483648 -2147483648 16777216 16384 -16384\n"
 
 # What a walk is over: the sides, the seed and the maximum of its texture, the tile side, the path, the settings, and the numbers of the reads that fail.
@@ -127,9 +153,12 @@ def try_tables(check, node):
     for what, magic, length, flaw in STORE_FLAWS:
         write_walk((magic + FOUR_STORE[4:] + b"x")[:length], FOUR_PATH, head)
         check.say(node.draw(NEAREST) == "s.vts: " + flaw, what)
-    for text, answer in JOURNALS:
-        write_walk(FOUR_STORE, FOUR_PATH, text.encode())
-        found = node.draw(NEAREST)
+    write_walk(FOUR_STORE, FOUR_PATH + b"to 9998 0 0 256 16384 0\n", head)
+    check.say(node.draw(NEAREST) == [], "a path of 9,999 pictures")
+    for route, text, answer in [(FOUR_PATH, *row) for row in JOURNALS] + [(THREE_PATH, *row) for row in EDGES]:
+        write_walk(FOUR_STORE, route, text.encode())
+        found, due = node.draw(NEAREST), due_of(NEAREST)
+        check.say(found == due, "journal %r: %s is due" % (text, due))
         check.say(len(found) == answer if isinstance(answer, int) else found == "j.txt: " + answer, "journal %r" % text)
 
 
