@@ -1,0 +1,60 @@
+// The panel: figures, and the residency of each level as a small picture.
+
+const CLEAR = [38, 42, 50], MAPPED = [64, 132, 196], SHOWN = [120, 200, 255], WANTED = [226, 156, 40], UNDER_WAY = [255, 255, 255];
+
+const megabytes = (bytes) => (bytes < 1e6 ? `${Math.round(bytes / 1e3)} kB` : `${(bytes / 1e6).toFixed(bytes < 1e8 ? 1 : 0)} MB`);
+
+export class Panel {
+  constructor(place, session) {
+    const { store } = session;
+    Object.assign(this, { place, session });
+    place.querySelector('#shape').textContent = `${store.width} × ${store.height} texels, ${8 * store.depth} bits a sample, tiles of ${store.tile}, ${store.pages} pages in ${store.levels.length} levels`;
+    this.pictures = store.levels.map(({ columns, rows }, k) => pictureOf(place.querySelector('#levels'), columns, rows, k));
+  }
+
+  /** Shows the state of the session. `times`: milliseconds of the last feedback. */
+  show(times) {
+    const { session } = this, { link, cache, store } = session, info = cache.info();
+    const whole = link.source.length, part = 100 * link.bytes / whole;
+    this.set('frames', `${session.frames - info.free} of ${session.frames}`);
+    this.set('loads', `${info.loads} in ${link.flights.size} request${link.flights.size === 1 ? '' : 's'}`);
+    this.set('fetched', `${megabytes(link.bytes)} of ${megabytes(whole)} (${part < 10 ? part.toFixed(2) : part.toFixed(0)} %), ${link.requests} requests`);
+    this.set('pass', `${session.lastPass.toFixed(2)} ms, ${session.wanted.pages.length} pages wanted`);
+    this.set('feedback', `${times.feedback.toFixed(0)} ms behind`);
+    this.set('lost', `${link.failures} failed, ${link.aborted} given up`);
+    store.levels.forEach((_, k) => this.showLevel(k));
+  }
+
+  set(name, text) {
+    const at = this.place.querySelector(`#${name}`);
+    if (at.textContent !== text) at.textContent = text;
+  }
+
+  showLevel(k) {
+    const { session: { cache, wanted, store }, pictures } = this, { first } = store.levels[k], { image, context } = pictures[k];
+    const entries = cache.table(k), loads = cache.loads(), { data } = image, put = (at, colour) => data.set(colour, 4 * at);
+    entries.forEach((entry, i) => put(i, entry === 0 ? CLEAR : MAPPED));
+    for (const page of wanted.pages) {
+      const at = page - first;
+      if (at >= 0 && at < entries.length) put(at, entries[at] === 0 ? WANTED : SHOWN);
+    }
+    for (let i = 0; i < loads.length; i += 3) {
+      const at = loads[i] - first;
+      if (at >= 0 && at < entries.length) put(at, UNDER_WAY);
+    }
+    context.putImageData(image, 0, 0);
+  }
+}
+
+function pictureOf(place, columns, rows, k) {
+  const canvas = document.createElement('canvas'), figure = document.createElement('figure'), caption = document.createElement('figcaption');
+  Object.assign(canvas, { width: columns, height: rows });
+  canvas.style.width = `${Math.min(Math.max(4 * columns, 8), 248)}px`;
+  caption.textContent = `${k}`;
+  figure.title = `level ${k}: ${columns} × ${rows} pages`;
+  figure.append(canvas, caption);
+  place.append(figure);
+  const context = canvas.getContext('2d'), image = context.createImageData(columns, rows);
+  for (let i = 3; i < image.data.length; i += 4) image.data[i] = 255;
+  return { context, image };
+}
