@@ -235,6 +235,7 @@ class Site:
     """
 
     def __init__(self, folder, page=serve.HERE):
+        self.folder = folder
         self.asked, self.amiss, self.ranges, self.wait, self.lock = [], None, True, 0, threading.Lock()
         kind = type("Noted", (Noted,), {"site": self, "folder": folder, "page": page})
         self.server = serve.Server(("127.0.0.1", 0), kind)

@@ -2,7 +2,7 @@
 //
 // A map is { mode: 'map', u, v, scale }: the texel in the middle of the picture, and how many texels a pixel has.
 // A flight is { mode: 'fly', u, v, h, c, s, focal }: the camera's place and height in texels, its heading, and its focal length in widths of the
-// picture. The horizon lies just above the first row.
+// picture. The horizon lies just above the first row. With isWalk its rows are rounded as those of `vtex walk` are.
 import { Trouble } from './source.mjs';
 
 export const FOCAL = 0.5;
@@ -19,10 +19,11 @@ function levelOf(texels, rounding, last) {
 /** For each row of a picture from the top: where its first pixel is, the step from pixel to pixel, both in texels, and its level; eight numbers. */
 export function rowsOf(view, store, width, height, rounding) {
   const rows = new Float32Array(8 * height), last = store.levels.length - 1;
-  for (let y = 0; y < height; y++) rows.set(view.mode === 'map' ? mapRow(view, width, height, y) : flightRow(view, store, width, y), 8 * y);
   for (let y = 0; y < height; y++) {
-    const texels = view.mode === 'map' ? view.scale : view.h / (y + 1);
-    rows[8 * y + 4] = levelOf(texels, rounding, last);
+    const row = view.mode === 'map' ? mapRow(view, width, height, y) : flightRow(view, store, width, y);
+    rows.set(row, 8 * y);
+    rows[8 * y + 4] = levelOf(Math.hypot(row[2], row[3]), rounding, last);
+    if (view.isWalk) rows[8 * y + 4] = levelOf(Math.floor(256 * view.h / (y + 1)) / 256, rounding, last);
   }
   return rows;
 }
@@ -31,9 +32,12 @@ function mapRow({ u, v, scale }, width, height, y) {
   return [u + (0.5 - width / 2) * scale, v + (y + 0.5 - height / 2) * scale, scale, 0];
 }
 
-function flightRow({ u, v, h, c, s, focal }, store, width, y) {
-  const p = h / (y + 1), z = p * focal * width, side = (0.5 - width / 2) * p;
-  return [around(u + z * c - side * s, store.width), around(v + z * s + side * c, store.height), -p * s, p * c];
+// Lengths are counted in 1/256 texel, and cut to whole ones in a picture of a path, as in vtex walk.
+function flightRow({ u, v, h, c, s, focal, isWalk }, store, width, y) {
+  const cut = isWalk ? Math.floor : (x) => x, f = isWalk ? Math.round(focal * width) : focal * width;
+  const p = cut(256 * h / (y + 1)), z = cut(256 * h * f / (y + 1)), side = (0.5 - width / 2) * p;
+  const [across, down] = [256 * u + cut(z * c) - side * s, 256 * v + cut(z * s) + side * c];
+  return [around(across / 256, store.width), around(down / 256, store.height), -p * s / 256, p * c / 256];
 }
 
 /** The map that has the whole texture in a picture of this size. */

@@ -66,10 +66,10 @@ export class Session {
     this.show(tiles);
   }
 
-  /** Settles what has come, passes what is wanted, and sends what the link can carry. Returns whether the page table changed. */
+  /** Settles what has come, passes what is wanted (which may be nothing), and sends what the link can carry. Returns whether the page table changed. */
   step() {
     let changed = this.take();
-    if (this.link.trouble || this.wanted.pages.length === 0) return changed;
+    if (this.link.trouble) return changed;
     this.pass();
     if (this.giveUp()) {
       changed = this.take() || changed;

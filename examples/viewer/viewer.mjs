@@ -61,9 +61,10 @@ export class Viewer {
     this.schedule();
   }
 
-  move(view) {
+  /** Shows another view; `isWalk`: a picture of a path, rounded as in `vtex walk`. */
+  move(view, isWalk = false) {
     if (view.mode !== this.look.view.mode) this.look.rounding = roundingOf(view);
-    this.set({ view });
+    this.set({ view: { ...view, isWalk } });
   }
 
   fit() { this.move(fitted(this.store, this.canvas.width, this.canvas.height)); }
@@ -112,7 +113,7 @@ export class Viewer {
     if (!this.path) return;
     this.begun ??= now;
     const i = Math.min(Math.floor((now - this.begun) * PICTURES_A_SECOND / 1000), this.path.length - 1);
-    if (i !== this.shown) this.move(this.path[i]);
+    if (i !== this.shown) this.move(this.path[i], true);
     this.shown = i;
     if (i === this.path.length - 1) this.path = this.shown = null;
   }
