@@ -40,6 +40,30 @@ function flightRow({ u, v, h, c, s, focal, isWalk }, store, width, y) {
   return [around(across / 256, store.width), around(down / 256, store.height), -p * s / 256, p * c / 256];
 }
 
+/** Calls `told` with each page that a map's pixels want, and how many do. The pages are a rectangle, so columns and rows are counted apart. */
+export function countMap({ view, rounding, filter }, store, width, height, told) {
+  const level = levelOf(view.scale, rounding, store.levels.length - 1), { columns, first, ...sides } = store.levels[level];
+  const [begins, below, step] = mapRow(view, width, height, 0), tile = store.tile;
+  const across = counted(begins, step, width, store.width, level, sides.width, tile, filter);
+  const down = counted(below, step, height, store.height, level, sides.height, tile, filter);
+  for (const [row, pixels] of down) for (const [column, more] of across) told(first + row * columns + column, pixels * more);
+}
+
+// The columns (or rows) of pages that a line of pixels wants, in the numbers of the shader, and by how many pixels each.
+function counted(begin, step, pixels, size, level, side, tile, filter) {
+  const found = new Map();
+  for (let i = 0; i < pixels; i++) {
+    const at = Math.fround(Math.fround(begin) + Math.fround(i * Math.fround(step)));
+    if (at < 0 || at >= size) continue;
+    const place = at / 2 ** level, first = Math.floor(filter === 'bilinear' ? place - 0.5 : place);
+    for (let texel = first; texel <= (filter === 'bilinear' ? first + 1 : first); texel++) {
+      const page = Math.floor(Math.min(Math.max(texel, 0), side - 1) / tile);
+      found.set(page, (found.get(page) ?? 0) + 1);
+    }
+  }
+  return found;
+}
+
 /** The map that has the whole texture in a picture of this size. */
 export function fitted(store, width, height) {
   return { mode: 'map', u: store.width / 2, v: store.height / 2, scale: Math.max(store.width / width, store.height / height) };

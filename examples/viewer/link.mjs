@@ -5,7 +5,7 @@ const LEAST_PAUSE = 250, LONGEST_PAUSE = 8000;
 
 export class Link {
   /** `parallel`: the most requests at a time; `run`: the most tiles of one; `heard`: called when something came, failed, or may be sent again. */
-  constructor(source, store, { parallel = 6, run = 16, heard = () => {} } = {}) {
+  constructor(source, store, { parallel = 6, run = 16, heard = () => {} }) {
     Object.assign(this, { source, store, parallel, run, heard });
     this.flights = new Set();                              // the requests on their way
     this.came = new Map();                                 // the tiles that came and were not taken yet, by page
@@ -14,6 +14,7 @@ export class Link {
     this.isPaused = false;
     this.trouble = null;
     this.hasNews = false;                                  // something came, failed, or may be sent, since `take`
+    this.isFreed = false;                                  // a request was freed since `send`
     Object.assign(this, { requests: 0, bytes: 0, failures: 0, aborted: 0 });
   }
 
@@ -31,6 +32,7 @@ export class Link {
   /** Sends requests for pages, the first of them before the others, as far as requests are free. Returns the set of pages that were sent. */
   send(pages) {
     const sent = new Set();
+    this.isFreed = false;
     for (const [first, count] of this.runs(pages).slice(0, this.free)) {
       for (let page = first; page < first + count; page++) sent.add(page);
       this.fly(first, count);
@@ -38,7 +40,7 @@ export class Link {
     return sent;
   }
 
-  // Runs of neighbouring pages, in the order of their most urgent pages.
+  // Runs of neighbouring pages: those of coarser levels first, in a level the longest, and of these the one with the most urgent page.
   runs(pages) {
     const place = new Map(pages.map((page, i) => [page, i])), runs = [];
     for (const page of [...pages].sort((a, b) => a - b)) {
@@ -48,7 +50,8 @@ export class Link {
         last[2] = Math.min(last[2], place.get(page));
       } else runs.push([page, 1, place.get(page)]);
     }
-    return runs.sort((a, b) => a[2] - b[2]);
+    const level = (page) => this.store.levels.findLastIndex(({ first }) => first <= page);
+    return runs.sort((a, b) => level(b[0]) - level(a[0]) || b[1] - a[1] || a[2] - b[2]);
   }
 
   async fly(first, count) {
@@ -70,6 +73,7 @@ export class Link {
       if (!stop.signal.aborted) this.fail(flight, error);
     }
     this.flights.delete(flight);
+    this.isFreed = true;
     this.tell();
   }
 
@@ -86,6 +90,7 @@ export class Link {
     this.pause = Math.min(Math.max(2 * this.pause, LEAST_PAUSE), LONGEST_PAUSE);
     setTimeout(() => {
       this.isPaused = false;
+      this.isFreed = true;
       this.tell();
     }, this.pause);
   }

@@ -1,6 +1,8 @@
 // A cache and its link: what is wanted goes in, what is mapped comes out. Nothing here draws.
 import { CAME, LOST, NO_PAGE, UNDER_WAY } from './vtex.mjs';
 
+const CHOICE = 4;                                          // how many times the loads that can be sent are planned
+
 /** Which pages the pixels of the view want, and how many pixels each. */
 export class Wanted {
   constructor(pages) {
@@ -13,11 +15,9 @@ export class Wanted {
     this.pages = [];
   }
 
-  add(ids) {
-    for (const page of ids) {
-      if (page === NO_PAGE) continue;
-      if (this.pixels[page]++ === 0) this.pages.push(page);
-    }
+  add(page, pixels = 1) {
+    if (this.pixels[page] === 0) this.pages.push(page);
+    this.pixels[page] += pixels;
   }
 
   pairs() {
@@ -27,8 +27,8 @@ export class Wanted {
   }
 }
 
-/** For each load whether no wanted page has it in its line: it may be given up. */
-export function needless(store, wanted, loads) {
+// For each load UNDER_WAY where a wanted page has it in its line, else LOST: what vtex_cache_stale_loads answers, for a module without that call.
+function staleLoads(store, wanted, loads) {
   const lines = new Set();
   for (let page of wanted) {
     while (page !== NO_PAGE && !lines.has(page)) {
@@ -36,7 +36,7 @@ export function needless(store, wanted, loads) {
       page = parentOf(store, page);
     }
   }
-  return Array.from({ length: loads.length / 3 }, (_, i) => !lines.has(loads[3 * i]));
+  return Array.from({ length: loads.length / 3 }, (_, i) => (lines.has(loads[3 * i]) ? UNDER_WAY : LOST));
 }
 
 function parentOf({ levels }, page) {
@@ -66,10 +66,12 @@ export class Session {
     this.show(tiles);
   }
 
-  /** Settles what has come, passes what is wanted (which may be nothing), and sends what the link can carry. Returns whether the page table changed. */
-  step() {
+  /** Settles what has come. Where a request was freed, or `isNew` says that other pages are wanted, it passes what is wanted (which may be
+   *  nothing), and sends what the link can carry: tiles that come one by one show at once, and their children are asked for together. Returns
+   *  whether the page table changed. */
+  step(isNew = false) {
     let changed = this.take();
-    if (this.link.trouble) return changed;
+    if (this.link.trouble || !(isNew || this.link.isFreed)) return changed;
     this.pass();
     if (this.giveUp()) {
       changed = this.take() || changed;
@@ -78,9 +80,10 @@ export class Session {
     return changed;
   }
 
-  // As many loads are planned as free requests can carry. What is then not sent is settled as lost at once, and so planned anew by the next pass.
+  // Some more loads are planned than free requests can carry, so that there are neighbours among them. What is not sent is settled as lost at once, and
+  // so planned anew by the next pass: only what is on its way stays under way.
   pass() {
-    const { cache, link } = this, before = cache.info().loads, room = link.free * link.run;
+    const { cache, link } = this, before = cache.info().loads, room = CHOICE * link.free * link.run;
     const begun = performance.now();
     cache.passWanted(this.wanted.pairs(), room > 0 ? before + room : 0);
     this.lastPass = performance.now() - begun;
@@ -99,10 +102,13 @@ export class Session {
 
   // Aborts requests that no wanted page needs any more, and returns whether there were such.
   giveUp() {
-    const loads = this.cache.loads(), flags = needless(this.store, this.wanted.pages, loads);
-    const pages = new Set(flags.flatMap((flag, i) => (flag ? [loads[3 * i]] : [])));
-    if (pages.size > 0) this.link.abort((page) => pages.has(page));
-    return this.link.gone.size > 0;
+    const { cache, link, store, wanted } = this, loads = cache.loads();
+    if (loads.length === 0) return false;
+    const has = 'vtex_cache_stale_loads' in cache.library.calls, states = has ? cache.staleLoads(wanted.pages) : staleLoads(store, wanted.pages, loads);
+    const stale = new Set();
+    states.forEach((state, i) => { if (state === LOST) stale.add(loads[3 * i]); });
+    if (stale.size > 0) link.abort((page) => stale.has(page));
+    return link.gone.size > 0;
   }
 
   // Settles what came and what was lost. Returns whether the page table changed.

@@ -1,10 +1,10 @@
 // The page: opens the store that the address names, and shows it. `window.viewer` is for the console and for tests.
-import { load, VtexError } from './vtex.mjs';
+import { load, NO_PAGE, VtexError } from './vtex.mjs';
 import { Failed, LocalFile, Trouble, WebFile } from './source.mjs';
 import { Link } from './link.mjs';
 import { Session } from './session.mjs';
 import { contextOf, mostFrames, Screen } from './screen.mjs';
-import { bounded, fitted, flightOver, lookOf, mapUnder, pathOf, roundingOf, wordsOfLook } from './camera.mjs';
+import { bounded, countMap, fitted, flightOver, lookOf, mapUnder, pathOf, roundingOf, wordsOfLook } from './camera.mjs';
 import { Panel } from './panel.mjs';
 import { takeHands } from './hand.mjs';
 
@@ -13,7 +13,7 @@ const options = new URLSearchParams(location.search);
 const number = (name, or) => (options.has(name) && options.get(name) !== '' ? Number(options.get(name)) : or);
 const sleep = (time) => new Promise((done) => { setTimeout(done, time); });
 
-const PICTURES_A_SECOND = 24, PANEL_EVERY = 200, ADDRESS_AFTER = 300, PINNED_BYTES = 300e3;
+const PICTURES_A_SECOND = 24, PANEL_EVERY = 200, ADDRESS_AFTER = 300, PINNED_BYTES = 300e3, RUN_BYTES = 250e3;
 
 function say(sentence) {
   at('trouble').textContent = sentence;
@@ -30,6 +30,7 @@ export class Viewer {
     this.phase = 0;                                        // the next one to be read
     this.isChanged = true;                                 // a picture is to be drawn
     this.isScheduled = false;
+    this.isAtWork = false;
     this.waits = [];
     this.path = null;
     this.times = { opened: performance.now(), first: 0, changed: 0, feedback: 0, draws: 0, feedbacks: 0 };
@@ -42,7 +43,10 @@ export class Viewer {
   get phases() { return this.screen.phases(this.look, this.blockSide); }
 
   /** Whether each pixel's page is mapped, or has nothing left to come. */
-  get isSharp() { return this.session.isSettled && this.heard === this.number && this.phase >= this.phases && !this.asked; }
+  get isSharp() {
+    const isHeard = this.look.view.mode === 'map' || this.phase >= this.phases && !this.asked;
+    return this.session.isSettled && this.heard === this.number && isHeard && !this.isChanged;
+  }
 
   /** Resolves once the picture is sharp, or the showing has ended by some trouble. */
   sharp() {
@@ -90,15 +94,28 @@ export class Viewer {
   }
 
   tick(now) {
-    const { session, screen } = this;
-    if (screen.gl.isContextLost()) return;
+    if (this.screen.gl.isContextLost()) return;
     this.resize();
     this.follow(now);
-    const isHeard = this.hear();
-    if ((isHeard || session.link.hasNews) && session.step()) this.isChanged = true;
+    if (this.hear()) this.step(true);
     if (this.isChanged) this.draw();
     this.ask();
     this.after(now);
+  }
+
+  // Something came or may be sent: the link does not wait for the next picture. What comes together is one step.
+  work() {
+    if (this.isAtWork) return;
+    this.isAtWork = true;
+    setTimeout(() => {
+      this.isAtWork = false;
+      if (this.session.link.hasNews && this.heard >= 0 && !this.screen.gl.isContextLost()) this.step();
+      this.schedule();
+    }, 0);
+  }
+
+  step(isNew = false) {
+    if (this.session.step(isNew)) this.isChanged = true;
   }
 
   resize() {
@@ -118,13 +135,20 @@ export class Viewer {
     if (i === this.path.length - 1) this.path = this.shown = null;
   }
 
-  // Takes what the pixels want, once it is read back. The pages of a look are those of all its phases so far.
+  // Takes what the pixels want, and returns whether that is news: of a map at once, of a flight as the feedback is read back, part by part.
   hear() {
-    const ids = this.asked && this.screen.seen();
+    const { wanted } = this.session;
+    if (this.look.view.mode === 'map') {
+      if (this.heard === this.number) return false;
+      wanted.clear();
+      countMap(this.look, this.store, this.canvas.width, this.canvas.height, (page, pixels) => wanted.add(page, pixels));
+      this.heard = this.number;
+      return true;
+    }
+    const ids = this.asked && this.screen.seen(), { asked } = this;
     if (!ids) return false;
-    const { wanted } = this.session, { asked } = this;
     if (asked.number !== this.heard) wanted.clear();
-    wanted.add(ids);
+    for (const page of ids) if (page !== NO_PAGE) wanted.add(page);
     this.heard = asked.number;
     this.times.feedback = performance.now() - asked.begun;
     this.times.feedbacks++;
@@ -133,7 +157,7 @@ export class Viewer {
   }
 
   ask() {
-    if (this.asked || this.phase >= this.phases) return;
+    if (this.look.view.mode === 'map' || this.asked || this.phase >= this.phases) return;
     this.asked = { number: this.number, begun: performance.now() };
     this.screen.want(this.look, this.blockSide, this.phase++);
   }
@@ -205,7 +229,7 @@ async function open(source) {
   const [library, head] = await Promise.all([load(import.meta.url, options.get('module') === '32' ? false : undefined), tried(() => source.open())]);
   const store = library.open(head, source.length), sizes = sizesOf(store, gl);
   let viewer = null;
-  const link = new Link(source, store, { parallel: number('parallel', 6), run: number('run', 16), heard: () => viewer?.schedule() });
+  const link = new Link(source, store, { parallel: number('parallel', 6), run: number('run', Math.min(Math.max(Math.floor(RUN_BYTES / store.tileBytes), 4), 64)), heard: () => viewer?.work() });
   const screen = new Screen(gl, store, sizes.frames);
   const session = new Session(store, link, { ...sizes, upload: (...change) => screen.upload(...change) });
   await tried(() => session.pin());

@@ -200,6 +200,14 @@ export class Cache {
   /** The loads under way, the oldest first: of each its page, its frame and its victim (or NO_PAGE), one after the other. */
   loads() { return this.triples('vtex_cache_loads', this.info().loads); }
 
+  /** For each of `loads()` UNDER_WAY where one of these pages still needs it, else LOST: `settle` takes it. */
+  staleLoads(pages) {
+    const count = this.info().loads, at = this.roomFor(pages.length + ((count + 3) >> 2)), states = at + 4 * pages.length;
+    this.library.words(at, pages.length).set(pages);
+    this.ask('vtex_cache_stale_loads', BigInt(at), BigInt(pages.length), BigInt(states), BigInt(count));
+    return this.library.octets(states, count).slice();
+  }
+
   /** What the last settling or the opening changed: of each change its page, its frame, and 1 for a map or 0 for an unmap. */
   changes() { return this.triples('vtex_cache_changes', this.info().changes); }
 
