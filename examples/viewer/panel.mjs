@@ -1,5 +1,6 @@
 // The panel: figures, and the residency of each level as a small picture.
 
+const WIDEST = 140;
 const CLEAR = [38, 42, 50], MAPPED = [64, 132, 196], SHOWN = [120, 200, 255], WANTED = [226, 156, 40], UNDER_WAY = [255, 255, 255];
 
 const megabytes = (bytes) => (bytes < 1e6 ? `${Math.round(bytes / 1e3)} kB` : `${(bytes / 1e6).toFixed(bytes < 1e8 ? 1 : 0)} MB`);
@@ -9,18 +10,19 @@ export class Panel {
     const { store } = session;
     Object.assign(this, { place, session });
     place.querySelector('#shape').textContent = `${store.width} × ${store.height} texels, ${8 * store.depth} bits a sample, tiles of ${store.tile}, ${store.pages} pages in ${store.levels.length} levels`;
-    this.pictures = store.levels.map(({ columns, rows }, k) => pictureOf(place.querySelector('#levels'), columns, rows, k));
+    const scale = Math.min(4, WIDEST / store.levels[0].columns);
+    this.pictures = store.levels.map((level, k) => pictureOf(place.querySelector('#levels'), level, k, scale));
   }
 
-  /** Shows the state of the session. `times`: milliseconds of the last feedback. */
-  show(times) {
+  /** Shows the state of the session. `behind`: how many milliseconds the last feedback took to come, or null where pages are counted. */
+  show(behind) {
     const { session } = this, { link, cache, store } = session, info = cache.info();
     const whole = link.source.length, part = 100 * link.bytes / whole;
     this.set('frames', `${session.frames - info.free} of ${session.frames}`);
     this.set('loads', `${info.loads} in ${link.flights.size} request${link.flights.size === 1 ? '' : 's'}`);
     this.set('fetched', `${megabytes(link.bytes)} of ${megabytes(whole)} (${part < 10 ? part.toFixed(2) : part.toFixed(0)} %), ${link.requests} requests`);
-    this.set('pass', `${session.lastPass.toFixed(2)} ms, ${session.wanted.pages.length} pages wanted`);
-    this.set('feedback', `${times.feedback.toFixed(0)} ms behind`);
+    this.set('pass', `${session.lastPass < 0.1 ? 'under 0.1' : session.lastPass.toFixed(1)} ms, ${session.wanted.pages.length} pages wanted`);
+    this.set('feedback', behind === null ? 'none: a map is counted' : `${behind.toFixed(0)} ms behind`);
     this.set('lost', `${link.failures} failed, ${link.aborted} given up`);
     store.levels.forEach((_, k) => this.showLevel(k));
   }
@@ -46,10 +48,10 @@ export class Panel {
   }
 }
 
-function pictureOf(place, columns, rows, k) {
+function pictureOf(place, { columns, rows }, k, scale) {
   const canvas = document.createElement('canvas'), figure = document.createElement('figure'), caption = document.createElement('figcaption');
   Object.assign(canvas, { width: columns, height: rows });
-  canvas.style.width = `${Math.min(Math.max(4 * columns, 8), 248)}px`;
+  canvas.style.width = `${Math.max(scale * columns, 6)}px`;
   caption.textContent = `${k}`;
   figure.title = `level ${k}: ${columns} × ${rows} pages`;
   figure.append(canvas, caption);

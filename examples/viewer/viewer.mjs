@@ -176,17 +176,19 @@ export class Viewer {
     else say(link.pause > 1000 ? 'The server of this store does not answer. Trying again.' : '');
     if (!at('panel').hidden && !(now - this.paneled < PANEL_EVERY)) {
       this.paneled = now;
-      this.panel.show(this.times);
+      this.showPanel();
     }
     if (this.isSharp || link.trouble) {
       this.waits.splice(0).forEach((done) => done(this.isSharp));
       if (!this.path) {
-        if (!at('panel').hidden) this.panel.show(this.times);
+        if (!at('panel').hidden) this.showPanel();
         return;
       }
     }
     this.schedule();
   }
+
+  showPanel() { this.panel.show(this.look.view.mode === 'map' ? null : this.times.feedback); }
 
   // The address has the view, once it stays for a moment.
   noteAddress() {
@@ -211,10 +213,10 @@ async function tried(call) {
   }
 }
 
-// Frames for three times the tiles of a screen, and as many levels pinned as a few hundred kilobytes hold.
+// Frames for six times the tiles of a screen, since a flight wants finer levels and each page those above it; and as many levels pinned as a few hundred kilobytes hold.
 function sizesOf(store, gl) {
   const ratio = devicePixelRatio || 1, tiles = (pixels) => pixels * ratio / store.tile + 2;
-  const enough = 2 ** Math.ceil(Math.log2(3 * tiles(Math.max(screen.width, innerWidth)) * tiles(Math.max(screen.height, innerHeight))));
+  const enough = 2 ** Math.ceil(Math.log2(6 * tiles(Math.max(screen.width, innerWidth)) * tiles(Math.max(screen.height, innerHeight))));
   let levels = 1;
   while (levels < store.levels.length && store.pinned(levels + 1) * store.tileBytes <= PINNED_BYTES) levels++;
   levels = number('pinned', levels);
