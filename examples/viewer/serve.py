@@ -53,7 +53,7 @@ class Handler(http.server.BaseHTTPRequestHandler):
 
     def name_of(self, path):
         """The file that a path names, or None where it leads out of its folder."""
-        parts = urllib.parse.unquote(urllib.parse.urlsplit(path).path).split("/")[1:]
+        parts = urllib.parse.unquote(urllib.parse.urlsplit(path).path).split("/")[1:] or [""]
         root, parts = (self.folder, parts[1:]) if parts[0] == "stores" else (self.page, parts)
         parts = parts[:-1] + [parts[-1] or "index.html"] if parts else [""]
         if any(it in ("", ".", "..") or os.sep in it or "\0" in it for it in parts):
