@@ -250,7 +250,7 @@ def test_hand(site, there, stores):
     say(view()["mode"] == "map" and view()["v"] < drawn["v"], "and back, further on")
     key("f")
     say(page.ask("viewer.sharp()") and view()["scale"] == 2.5, "the key F fits")
-    cells = "[...document.querySelectorAll('#levels canvas')].map((it) => { const all = it.getContext('2d').getImageData(0, 0, it.width, it.height).data; let n = 0; for (let i = 0; i < all.length; i += 4) n += all[i] !== 38; return n; })"
+    cells = "[...document.querySelectorAll('#levels canvas')].map((it) => { const all = it.getContext('2d').getImageData(0, 0, it.width, it.height).data; let n = 0; for (let i = 0; i < all.length; i += 4) n += all[i] !== 58; return n; })"
     page.ask("document.getElementById('panel').hidden = false, viewer.showPanel()")
     say(sum(page.ask(cells)) == page.ask("viewer.session.frames - viewer.session.cache.info().free"), "the panel's levels have a spot for each mapped page")
     say(page.told == [], "the hand: " + " ".join(page.told))

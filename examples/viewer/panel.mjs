@@ -1,7 +1,7 @@
 // The panel: figures, and the residency of each level as a small picture.
 
 const WIDEST = 140;
-const CLEAR = [38, 42, 50], MAPPED = [64, 132, 196], SHOWN = [120, 200, 255], WANTED = [226, 156, 40], UNDER_WAY = [255, 255, 255];
+const CLEAR = [58, 64, 74], MAPPED = [64, 132, 196], SHOWN = [120, 200, 255], WANTED = [226, 156, 40], UNDER_WAY = [255, 255, 255];
 
 const megabytes = (bytes) => (bytes < 1e6 ? `${Math.round(bytes / 1e3)} kB` : `${(bytes / 1e6).toFixed(bytes < 1e8 ? 1 : 0)} MB`);
 
