@@ -13,6 +13,7 @@ pub mod Walks
 pub mod Folders
 pub mod States
 pub mod Reads
+pub mod DrawnBy
 pub mod Written
 pub mod Writing
 pub mod Standing

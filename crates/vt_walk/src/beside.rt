@@ -11,7 +11,7 @@ ghost use Rattle.vt_walk_decisions.specs.Requests.{AreSameFiles};
 ghost use Rattle.vt_walk_decisions.specs.Judging.{MayGoOn, IsFollowed};
 ghost use Rattle.vt_walk_decisions.specs.Reported.{next_step};
 ghost use Rattle.vt_walk.specs.WalkInputs.{given_of, IsWalkInput};
-ghost use Rattle.vt_walk.specs.Written.{IsDrawnBySome};
+ghost use Rattle.vt_walk.specs.DrawnBy.{IsDrawnBySome};
 ghost use Rattle.vt_walk.specs.Writing.{WritesFile};
 ghost use Rattle.vt_walk.specs.WalkSteps.{WalkStart, StandsAfter, LeftByRefusal};
 ghost use Rattle.vt_walk.specs.Following.{StandsRan, StandsNext};
@@ -55,10 +55,10 @@ pub fn draw_beside<
     requires few { number + 1 < 2 ^ 32 }
     requires goes_on { MayGoOn input.now passed }
     requires followed { IsFollowed input.now passed }
-    requires stands { (b : WalkStart) × StandsAfter (IsDrawnBySome M.drawn) (given_of M.drawing input.now b.told) number
+    requires stands { (b : WalkStart) × StandsAfter (IsDrawnBySome M.PassMachine) (given_of M.drawing input.now b.told) number
         passed b.first (state_by D.Folder O.Sink input.now.names.store.now folder.old out.old
         (b.kept ∷ (M.state machine.old).files)) (M.state machine.old) recency.old }
-    ensures taken { (b : WalkStart) → let some = IsDrawnBySome M.drawn in
+    ensures taken { (b : WalkStart) → let some = IsDrawnBySome M.PassMachine in
         let given = given_of M.drawing input.now b.told in
         let name = input.now.names.store.now in
         StandsAfter some given number passed b.first (state_by D.Folder O.Sink name folder.old out.old
@@ -138,10 +138,10 @@ fn write_beside<
     requires name { name.now ≡ picture_name input.now.names.prefix.now passed.now.picture }
     requires bytes { bytes.now ≡ picture_bytes input.now.depth input.now.path.now.width input.now.path.now.height
         (concat (M.state machine.old).rows) }
-    requires stands { (b : WalkStart) × StandsAfter (IsDrawnBySome M.drawn) (given_of M.drawing input.now b.told) number
+    requires stands { (b : WalkStart) × StandsAfter (IsDrawnBySome M.PassMachine) (given_of M.drawing input.now b.told) number
         passed.now b.first (state_by D.Folder O.Sink input.now.names.store.now folder.old out.old
         (b.kept ∷ (M.state machine.old).files)) (M.state machine.old) recency.now }
-    ensures ran { (b : WalkStart) → let some = IsDrawnBySome M.drawn in
+    ensures ran { (b : WalkStart) → let some = IsDrawnBySome M.PassMachine in
         let given = given_of M.drawing input.now b.told in
         let name = input.now.names.store.now in
         StandsAfter some given number passed.now b.first (state_by D.Folder O.Sink name folder.old out.old

@@ -5,7 +5,7 @@ ghost use Rattle.vt_walk_decisions.specs.Requests.{AreSameFiles};
 ghost use Rattle.vt_walk.specs.States.{walk_state};
 ghost use Rattle.vt_walk.specs.WalkInputs.{given_of, setup_of_input, IsWalkInput};
 ghost use Rattle.vt_walk.specs.Standing.{Finished};
-ghost use Rattle.vt_walk.specs.Written.{IsDrawnBySome};
+ghost use Rattle.vt_walk.specs.DrawnBy.{IsDrawnBySome};
 ghost use Rattle.vt_walk.specs.WalkSteps.{WalkStart, PassStart, StandsFirst, StandsAt, StandsAfter, StandsLast, LeftByRefusal};
 ghost use Rattle.vt_walk.specs.Following.{StandsDrawn, StandsNext};
 ghost use Rattle.vt_walk.specs.WalkEffects.{state_by};
@@ -56,10 +56,10 @@ pub fn walk_on<
     requires input { IsWalkInput input.now }
     requires enough_frames { input.now.pinned ≤ input.now.settings.frames }
     requires idle { M.is_idle machine.old }
-    requires stands { (b : WalkStart) × StandsFirst (IsDrawnBySome M.drawn) (given_of M.drawing input.now b.told) b.first
+    requires stands { (b : WalkStart) × StandsFirst (IsDrawnBySome M.PassMachine) (given_of M.drawing input.now b.told) b.first
         (state_by D.Folder O.Sink input.now.names.store.now folder.old out.old (b.kept ∷ (M.state machine.old).files))
         (M.state machine.old) recency.old }
-    ensures walked { (b : WalkStart) → let drawn = IsDrawnBySome M.drawn in
+    ensures walked { (b : WalkStart) → let drawn = IsDrawnBySome M.PassMachine in
         let given = given_of M.drawing input.now b.told in
         let name = input.now.names.store.now in
         let before = state_by D.Folder O.Sink name folder.old out.old (b.kept ∷ (M.state machine.old).files) in
@@ -94,10 +94,10 @@ fn take_steps<Rt: Threads + Wait + Sync, M: PassMachine + Send, D: Folder, O: Si
     requires input { IsWalkInput input.now }
     requires enough_frames { input.now.pinned ≤ input.now.settings.frames }
     requires idle { M.is_idle machine.old }
-    requires stands { (b : WalkStart) × StandsFirst (IsDrawnBySome M.drawn) (given_of M.drawing input.now b.told) b.first
+    requires stands { (b : WalkStart) × StandsFirst (IsDrawnBySome M.PassMachine) (given_of M.drawing input.now b.told) b.first
         (state_by D.Folder O.Sink input.now.names.store.now folder.old out.old (b.kept ∷ (M.state machine.old).files))
         (M.state machine.old) recency.old }
-    ensures walked { (b : WalkStart) → let drawn = IsDrawnBySome M.drawn in
+    ensures walked { (b : WalkStart) → let drawn = IsDrawnBySome M.PassMachine in
         let given = given_of M.drawing input.now b.told in
         let name = input.now.names.store.now in
         let before = state_by D.Folder O.Sink name folder.old out.old (b.kept ∷ (M.state machine.old).files) in
@@ -154,10 +154,10 @@ fn take_step<Rt: Threads + Wait + Sync, M: PassMachine + Send, D: Folder, O: Sin
     requires enough_frames { input.now.pinned ≤ input.now.settings.frames }
     requires idle { M.is_idle machine.old }
     requires few { number + 1 < 2 ^ 32 }
-    requires stands { (b : WalkStart) × StandsDrawn (IsDrawnBySome M.drawn) (given_of M.drawing input.now b.told) number
+    requires stands { (b : WalkStart) × StandsDrawn (IsDrawnBySome M.PassMachine) (given_of M.drawing input.now b.told) number
         drawn b.first (λ files. state_by D.Folder O.Sink input.now.names.store.now folder.old out.old (b.kept ∷ files))
         (M.state machine.old) recency.old }
-    ensures taken { (b : WalkStart) → let some = IsDrawnBySome M.drawn in
+    ensures taken { (b : WalkStart) → let some = IsDrawnBySome M.PassMachine in
         let given = given_of M.drawing input.now b.told in
         let name = input.now.names.store.now in
         StandsDrawn some given number drawn b.first (λ files. state_by D.Folder O.Sink name folder.old out.old
@@ -190,11 +190,11 @@ fn tell_drawn<M: PassMachine, D: Folder>(
     drawn: Drawn,
 ) -> Result<Passed, WalkError>
     requires input { IsWalkInput input.now }
-    requires stands { (b : PassStart) × StandsDrawn (IsDrawnBySome M.drawn)
+    requires stands { (b : PassStart) × StandsDrawn (IsDrawnBySome M.PassMachine)
         (given_of M.drawing input.now b.start.told) number drawn b.start.first
         (λ files. walk_state D.Folder input.now.names.store.now folder.old (b.start.kept ∷ files) b.held b.out_faults)
         (M.state machine.now) recency.now }
-    ensures told { (b : PassStart) → let some = IsDrawnBySome M.drawn in
+    ensures told { (b : PassStart) → let some = IsDrawnBySome M.PassMachine in
         let given = given_of M.drawing input.now b.start.told in
         let name = input.now.names.store.now in
         let after = walk_state D.Folder name folder.new (b.start.kept ∷ (M.state machine.now).files) b.held
@@ -237,10 +237,10 @@ fn go_on<Rt: Threads + Wait + Sync, M: PassMachine + Send, D: Folder, O: Sink, G
     requires idle { M.is_idle machine.old }
     requires few { number + 1 < 2 ^ 32 }
     requires goes_on { MayGoOn input.now passed }
-    requires stands { (b : WalkStart) × StandsAfter (IsDrawnBySome M.drawn) (given_of M.drawing input.now b.told) number
+    requires stands { (b : WalkStart) × StandsAfter (IsDrawnBySome M.PassMachine) (given_of M.drawing input.now b.told) number
         passed b.first (state_by D.Folder O.Sink input.now.names.store.now folder.old out.old
         (b.kept ∷ (M.state machine.old).files)) (M.state machine.old) recency.old }
-    ensures taken { (b : WalkStart) → let some = IsDrawnBySome M.drawn in
+    ensures taken { (b : WalkStart) → let some = IsDrawnBySome M.PassMachine in
         let given = given_of M.drawing input.now b.told in
         let name = input.now.names.store.now in
         StandsAfter some given number passed b.first (state_by D.Folder O.Sink name folder.old out.old
@@ -282,11 +282,11 @@ fn end_step<M: PassMachine, D: Folder, O: Sink>(
     requires input { IsWalkInput input.now }
     requires idle { M.is_idle machine.now }
     requires goes_on { MayGoOn input.now passed }
-    requires stands { (b : WalkStart) × StandsAfter (IsDrawnBySome M.drawn)
+    requires stands { (b : WalkStart) × StandsAfter (IsDrawnBySome M.PassMachine)
         (given_of M.drawing input.now b.told) number passed b.first
         (state_by D.Folder O.Sink input.now.names.store.now folder.old out.old (b.kept ∷ (M.state machine.now).files))
         (M.state machine.now) recency.now }
-    ensures ended { (b : WalkStart) → let drawn = IsDrawnBySome M.drawn in
+    ensures ended { (b : WalkStart) → let drawn = IsDrawnBySome M.PassMachine in
         let given = given_of M.drawing input.now b.told in
         let name = input.now.names.store.now in
         let before = state_by D.Folder O.Sink name folder.old out.old (b.kept ∷ (M.state machine.now).files) in

@@ -4,13 +4,13 @@ use Rattle.vt_walk_decisions.specs.Machines.{file_state}
 use Rattle.vt_walk.specs.States.{walk_state}
 use Rattle.vt_walk.specs.WalkInputs.{given_of}
 use Rattle.vt_walk.specs.WalkSteps.{LeftByRefusal}
-use Rattle.vt_walk.specs.Written.{IsDrawnBySome}
+use Rattle.vt_walk.specs.DrawnBy.{IsDrawnBySome}
 use Rattle.vt_walk.proofs.walk.walk_all.Goals as goal
 
 pub returns-in_err-recency-clause-walked : goal.returns-in_err-recency-clause-walked
 returns-in_err-recency-clause-walked g c =
     let p = err_from_is_err_and c.from_residual.result c.from_residual.ensures.1 in
-    rw p.1 (subst (LeftByRefusal (IsDrawnBySome g.M.PassMachine.drawn)
+    rw p.1 (subst (LeftByRefusal (IsDrawnBySome g.M.PassMachine)
     (given_of g.M.PassMachine.drawing c.args.input.now
     (g.D.File.File.bytes c.args.store.now.file)) (walk_state g.D.Folder c.args.input.now.names.store.now c.args.folder.now
     (file_state g.D.File.File c.args.store.now.file ∷ (g.M.PassMachine.state c.args.machine.now).files) (g.O.Sink.held c.args.out.now)

@@ -3,14 +3,14 @@ use Rattle.std.proofs.lemmas.Result.{err_from_is_err_and}
 use Rattle.vt_walk.specs.States.{walk_state}
 use Rattle.vt_walk.specs.WalkInputs.{given_of}
 use Rattle.vt_walk.specs.WalkSteps.{LeftByRefusal}
-use Rattle.vt_walk.specs.Written.{IsDrawnBySome}
+use Rattle.vt_walk.specs.DrawnBy.{IsDrawnBySome}
 use Rattle.vt_walk.proofs.Rounds.{last_done, last_broke}
 use Rattle.vt_walk.proofs.walk_steps.walk_on.Goals as goal
 
 pub returns-in_err-took-clause-walked : goal.returns-in_err-took-clause-walked
 returns-in_err-took-clause-walked g c =
     let p = err_from_is_err_and c.from_residual.result c.from_residual.ensures.1 in
-    λ b at. rw p.1 (subst (LeftByRefusal (IsDrawnBySome g.M.PassMachine.drawn)
+    λ b at. rw p.1 (subst (LeftByRefusal (IsDrawnBySome g.M.PassMachine)
     (given_of g.M.PassMachine.drawing c.args.input.now b.told) b.first
     (walk_state g.D.Folder c.args.input.now.names.store.now c.take_steps.new.folder
     (b.kept ∷ (g.M.PassMachine.state c.take_steps.new.machine).files) (g.O.Sink.held c.take_steps.new.out)
@@ -19,7 +19,7 @@ returns-in_err-took-clause-walked g c =
 pub returns-in_err-put_end_line-clause-walked : goal.returns-in_err-put_end_line-clause-walked
 returns-in_err-put_end_line-clause-walked g c =
     let p = err_from_is_err_and c.from_residual-in_err-put_end_line.result c.from_residual-in_err-put_end_line.ensures.1 in
-    λ b at. rw p.1 (last_broke (IsDrawnBySome g.M.PassMachine.drawn)
+    λ b at. rw p.1 (last_broke (IsDrawnBySome g.M.PassMachine)
     (given_of g.M.PassMachine.drawing c.args.input.now b.told) b.first
     (walk_state g.D.Folder c.args.input.now.names.store.now c.take_steps.new.folder
     (b.kept ∷ (g.M.PassMachine.state c.take_steps.new.machine).files) (g.O.Sink.held c.take_steps.new.out) (g.O.Sink.faults c.take_steps.new.out))
@@ -28,7 +28,7 @@ returns-in_err-put_end_line-clause-walked g c =
     c.in_err-put_end_line.ensures.part c.in_err-put_end_line.ensures.faults (λ is. c.in_err-put_end_line.ensures.failed (ap Err is)) p.2)
 
 pub returns-clause-walked : goal.returns-clause-walked
-returns-clause-walked g c = λ b at. last_done (IsDrawnBySome g.M.PassMachine.drawn)
+returns-clause-walked g c = λ b at. last_done (IsDrawnBySome g.M.PassMachine)
     (given_of g.M.PassMachine.drawing c.args.input.now b.told) b.first
     (walk_state g.D.Folder c.args.input.now.names.store.now c.take_steps.new.folder (b.kept ∷ (g.M.PassMachine.state c.take_steps.new.machine).files)
     (g.O.Sink.held c.take_steps.new.out) (g.O.Sink.faults c.take_steps.new.out)) c.in_ok-took.took.reads c.pictures.result
