@@ -30,7 +30,7 @@ no_machine = record {
     shows = λ scene bytes table picture x y. [];
     whole = λ scene bytes picture x y. [];
   };
-  drawn = λ path picture row version bytes. ⊥;
+  drawn = λ machine path picture lines. ⊥;
 }
 
 -- with no machine: the specification of a command that does not wait is the same by any

@@ -4,7 +4,7 @@ ghost use Rattle.vt_words.specs.Walk.{shown_walk, IsLawfulWalk};
 ghost use Rattle.vt_command_base.specs.Effects.{call_effect};
 ghost use Rattle.vt_walk_commands.specs.commands.Walk.{walk_spec};
 ghost use Rattle.vt_command_base.specs.CommandSpecs.{EndsBy};
-ghost use Rattle.vt_walk_commands.specs.Machines.{machines_of, chosen};
+ghost use Rattle.vt_walk_commands.specs.Machines.{machines_of, kind_of, chosen};
 
 use std::alloc::Global;
 use std::sync::Wait;
@@ -35,7 +35,7 @@ pub fn walk_chosen<
     gate: &G,
 ) -> Result<(), Refusal<'a>>
     requires { IsLawfulWalk words.now }
-    ensures { let machines = machines_of M.drawing M.drawn Swap.drawing Swap.drawn Steal.drawing Steal.drawn Blend.drawing Blend.drawn in
+    ensures { let machines = machines_of (kind_of M.PassMachine) (kind_of Swap.PassMachine) (kind_of Steal.PassMachine) (kind_of Blend.PassMachine) in
         let asked = shown_walk words.now in
         EndsBy (walk_spec (chosen machines asked) asked)
         (call_effect D.Folder O.Sink folder.old folder.new out.old out.new) result }

@@ -1,7 +1,7 @@
 //! The top call.
 
 ghost use Rattle.vt_words.specs.Arguments.{texts};
-ghost use Rattle.vt_walk_commands.specs.Machines.{machines_of};
+ghost use Rattle.vt_walk_commands.specs.Machines.{machines_of, kind_of};
 ghost use Rattle.vt_commands.specs.Runs.{run_of, IsRun};
 
 use crate::at_once::{may_wait, run_at_once};
@@ -47,7 +47,7 @@ pub fn run<
     err: &mut E,
     gate: &G,
 ) -> u8
-    ensures { IsRun (run_of (machines_of M.drawing M.drawn Swap.drawing Swap.drawn Steal.drawing Steal.drawn Blend.drawing Blend.drawn)
+    ensures { IsRun (run_of (machines_of (kind_of M.PassMachine) (kind_of Swap.PassMachine) (kind_of Steal.PassMachine) (kind_of Blend.PassMachine))
         D.Folder O.Sink E.Sink (texts words.now) folder.old folder.new out.old out.new err.old err.new) result }
 {
     if may_wait(words) {

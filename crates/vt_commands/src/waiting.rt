@@ -4,7 +4,7 @@ ghost use Rattle.std.specs.Prelude.{◌≡◌, true};
 ghost use Rattle.vt_words.specs.Arguments.{texts};
 ghost use Rattle.vt_commands.specs.Words.{shown, IsLawful};
 ghost use Rattle.vt_command_base.specs.Effects.{call_effect};
-ghost use Rattle.vt_walk_commands.specs.Machines.{machines_of};
+ghost use Rattle.vt_walk_commands.specs.Machines.{machines_of, kind_of};
 ghost use Rattle.vt_command_base.specs.CommandSpecs.{EndsBy};
 ghost use Rattle.vt_commands.specs.commands.{spec_of, EndsRun};
 ghost use Rattle.vt_commands.specs.Waits.{may_wait, MayWait};
@@ -42,7 +42,7 @@ pub fn run_waiting<
     gate: &G,
 ) -> u8
     requires { may_wait (texts words.now) ≡ true }
-    ensures { IsRun (run_of (machines_of M.drawing M.drawn Swap.drawing Swap.drawn Steal.drawing Steal.drawn Blend.drawing Blend.drawn)
+    ensures { IsRun (run_of (machines_of (kind_of M.PassMachine) (kind_of Swap.PassMachine) (kind_of Steal.PassMachine) (kind_of Blend.PassMachine))
         D.Folder O.Sink E.Sink (texts words.now) folder.old folder.new out.old out.new err.old err.new) result }
 {
     let end = do_waiting::<M, Swap, Steal, Blend, Rt, D, O, G>(rt, alloc, words, folder, out, gate);
@@ -70,7 +70,7 @@ fn do_waiting<
     gate: &G,
 ) -> Result<(), Refusal<'a>>
     requires { may_wait (texts words.now) ≡ true }
-    ensures { EndsRun (machines_of M.drawing M.drawn Swap.drawing Swap.drawn Steal.drawing Steal.drawn Blend.drawing Blend.drawn)
+    ensures { EndsRun (machines_of (kind_of M.PassMachine) (kind_of Swap.PassMachine) (kind_of Steal.PassMachine) (kind_of Blend.PassMachine))
         (texts words.now) (call_effect D.Folder O.Sink folder.old folder.new out.old out.new) result }
 {
     let command = read_command(alloc, words)?;
@@ -98,7 +98,7 @@ fn perform_waiting<
 ) -> Result<(), Refusal<'a>>
     requires lawful { IsLawful command.now }
     requires waits { MayWait (shown command.now) }
-    ensures { EndsBy (spec_of (machines_of M.drawing M.drawn Swap.drawing Swap.drawn Steal.drawing Steal.drawn Blend.drawing Blend.drawn)
+    ensures { EndsBy (spec_of (machines_of (kind_of M.PassMachine) (kind_of Swap.PassMachine) (kind_of Steal.PassMachine) (kind_of Blend.PassMachine))
         (shown command.now)) (call_effect D.Folder O.Sink folder.old folder.new out.old out.new) result }
 {
     match command {

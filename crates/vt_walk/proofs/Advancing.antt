@@ -17,6 +17,7 @@ use Rattle.vt_evict.specs.Views.{RecencyView, pages_needed}
 use Rattle.vt_evict.specs.Batches.{IsLawful, IsSettled, read_entries}
 use Rattle.vt_evict.specs.Plans.{plan_of}
 use Rattle.vt_walk_decisions.specs.Drawings.{Drawing}
+use Rattle.vt_walk_decisions.specs.MachineTypes.machine.PassMachine.{Ghosts as MachineMeanings}
 use Rattle.vt_walk_decisions.specs.MachineTypes.crew.PassReport.{PassReport}
 use Rattle.vt_walk_decisions.specs.Crews.{last_start}
 use Rattle.vt_walk_decisions.specs.Jobs.{Job}
@@ -31,6 +32,7 @@ use Rattle.vt_walk_decisions.specs.declared.tallies.Tally.{Tally}
 use Rattle.vt_walk_decisions.specs.declared.input.WalkInput.{WalkInput}
 use Rattle.vt_walk_decisions.specs.declared.steps.WalkStep.{WalkStep}
 use Rattle.vt_walk_decisions.specs.declared.steps.Drawn.{Drawn}
+use Rattle.vt_walk.specs.DrawnBy.{PictureDrawn, IsDrawnBySome, AnyRow}
 use Rattle.vt_walk.specs.Fits.{WalkSetup}
 use Rattle.vt_walk.specs.Runs.{WalkPass, IsWalkSetup, IsRun, pass_of, journal_after, recency_after}
 use Rattle.vt_walk_decisions.specs.Tallies.{is_load, is_loss, is_eviction}
@@ -42,7 +44,6 @@ use Rattle.vt_walk.specs.Tallies.{tally_of}
 use Rattle.vt_walk.specs.WalkInputs.{given_of, input_scene, IsWalkInput}
 use Rattle.vt_walk.specs.WalkSteps.{MayDraw, HasDrawnPass}
 use Rattle.vt_walk.specs.Following.{HasRunStep}
-use Rattle.vt_walk.specs.Written.{IsDrawnBySome}
 use Rattle.vt_walk.specs.Walks.{machine_of}
 use Rattle.vt_walk.proofs.Agreeing.{root_last}
 use Rattle.vt_walk.proofs.Asking.{count_lost, reads_more}
@@ -121,12 +122,10 @@ wants_for s f g wants same h = record {
   );
 }
 
--- what a machine has drawn, some machine has
-pub ran_by_some : {M : Type 0} (draws : Drawing)
-    (drawn : M → PathView → ℕ → ℕ → ℕ → List ℕ → Type 0)
-    (machine : M) (job : Job) (report : PassReport) (s t : MachineState) → Ran draws (drawn machine) job report s t
-    → Ran draws (IsDrawnBySome drawn) job report s t
-ran_by_some draws drawn machine job report s t ran = record {
+-- a pass that was run was run, however its rows came about
+pub ran_anyhow : (draws : Drawing) (drawn : PathView → ℕ → ℕ → ℕ → List ℕ → Type 0) (job : Job) (report : PassReport) (s t : MachineState)
+    → Ran draws drawn job report s t → Ran draws AnyRow job report s t
+ran_anyhow draws drawn job report s t ran = record {
   setup = ran.setup;
   outcome = ran.outcome;
   journal = ran.journal;
@@ -136,11 +135,18 @@ ran_by_some draws drawn machine job report s t ran = record {
     count = ran.picture.count;
     full = ran.picture.full;
     replayed = ran.picture.replayed;
-    from_draws = λ y line at. (machine, ran.picture.from_draws y line at);
+    from_draws = λ y line at. tt;
     all_counts = ran.picture.all_counts;
     counts_are = ran.picture.counts_are;
   };
 }
+
+-- what a machine has drawn, some machine has
+pub drawn_by_some : {M F Shared Loader Sampler Streamer : Type 0} (kind : MachineMeanings M F Shared Loader Sampler Streamer) (machine : M)
+    (job : Job) (report : PassReport) (s : MachineState) → kind.is_idle machine
+    → Ran kind.drawing (kind.drawn machine) job report s (kind.state machine)
+    → IsDrawnBySome kind (kind.state machine) job.scene.path job.picture report.rows.elements
+drawn_by_some kind machine job report s idle ran = record { machine = machine; idle = idle; state_is = refl; each = ran.picture.from_draws }
 
 -- files that were read for a batch were read for a part of it
 pub read_partly : (s : Shape) (d : ℕ) (batch : List Planned) (losses : List Bool) (old new : List FileState) → length losses ≡ length batch
@@ -245,7 +251,7 @@ module _ (draws : Drawing)
   read_ended drawn idle run number step m after v (Ok report) may ends = read_at_most drawn run number step m after v report may ends.ran
   read_ended drawn idle run number step m after v (Err refusal) may ends = read_broken run number step m after v may ends.broke
 
-  pub has_drawn : (drawn : PathView → ℕ → ℕ → ℕ → List ℕ → Type 0) (run : List WalkPass) (number start : ℕ) (step : WalkStep)
+  pub has_drawn : (drawn : PictureDrawn) (run : List WalkPass) (number start : ℕ) (step : WalkStep)
       (m after : MachineState)
       (v v' : RecencyView) (counts : List ℕ) (report : PassReport) (o : Outlook) (d : Drawn)
       → HasRunStep drawn (given_of draws t told) run number step start report m after v
@@ -266,7 +272,7 @@ module _ (draws : Drawing)
       let settles = subst (λ (x : RecencyView). IsSettled x (read_entries step.batch.elements report.losses.elements) outlook.settled) may.at_run.recency
       outlook.settles in
       let pass : WalkPass = pass_of job report outlook.wants outlook.settled in
-      let next = comes_next draws drawn g.setup run job report outlook.wants outlook.settled m after ran refl
+      let next = comes_next draws AnyRow g.setup run job report outlook.wants outlook.settled m after ran refl
       (ap (λ (x : Setup). x.crew.samplers) (sym may.at_run.setup))
       (ap (λ (x : Setup). x.height) (sym may.at_run.setup)) may.at_run.journal may.step.step may.more may.step.batch wanted settles in
       record {
@@ -277,11 +283,11 @@ module _ (draws : Drawing)
         at_run = record {
           is_run = (may.at_run.is_run, next);
           setup = setup;
-          journal = journal_grown draws drawn g.setup run job report outlook.wants outlook.settled m after ran may.at_run.journal;
+          journal = journal_grown draws AnyRow g.setup run job report outlook.wants outlook.settled m after ran may.at_run.journal;
           recency = outlook.after_is;
         };
         read = subst (λ (x : Setup). AreReadFor x.shape x.depth step.batch.elements report.losses.elements m.files after.files) may.at_run.setup ran.read;
-        has_run = record { before = m; report = report; setup = may.at_run.setup; journal = may.at_run.journal; ran = ran; rows_are = refl };
+        has_run = record { before = m; report = report; setup = may.at_run.setup; journal = may.at_run.journal; ran = ran; by = made.by; rows_are = refl };
         text = reported.text ∙ (λ i. record {
           pass = may.step.number_is i;
           picture = step.picture;
@@ -306,7 +312,7 @@ module _ (draws : Drawing)
       }
 
   -- the events that its text tells are in the chain
-  pub told_in_chain : (drawn : PathView → ℕ → ℕ → ℕ → List ℕ → Type 0) (run : List WalkPass) (number : ℕ) (step : WalkStep) (m after : MachineState)
+  pub told_in_chain : (drawn : PictureDrawn) (run : List WalkPass) (number : ℕ) (step : WalkStep) (m after : MachineState)
       (v v' : RecencyView) (d : Drawn)
       → MayDraw (given_of draws t told) run number step m v
       → HasDrawnPass drawn (given_of draws t told) run step m after v' d
@@ -316,7 +322,7 @@ module _ (draws : Drawing)
       (events_in_chain (given_of draws t told).setup run has.pass may.given.setup may.at_run.is_run has.next)
 
   -- there is room for the versions that its text tells
-  pub told_have_room : (drawn : PathView → ℕ → ℕ → ℕ → List ℕ → Type 0) (run : List WalkPass) (number : ℕ) (step : WalkStep) (m after : MachineState)
+  pub told_have_room : (drawn : PictureDrawn) (run : List WalkPass) (number : ℕ) (step : WalkStep) (m after : MachineState)
       (v v' : RecencyView) (d : Drawn)
       → IsWalkInput t → number < 4294967296 → MayDraw (given_of draws t told) run number step m v
       → HasDrawnPass drawn (given_of draws t told) run step m after v' d

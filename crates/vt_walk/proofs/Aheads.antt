@@ -1,7 +1,6 @@
 -- A walk whose next pass was run or drawn before it is told.
 use Rattle.std.proofs.Common.{◌≡◌, ℕ, ◌-◌, inl, inr, List, ◌∷◌, Option, refl, sym, ◌∙◌, subst, arith}
 use Rattle.vt_outside.specs.Files.{Files, Asked}
-use Rattle.vt_camera.specs.Paths.{PathView}
 use Rattle.vt_evict.specs.PlanTypes.batches.Planned.{Planned}
 use Rattle.vt_evict.specs.Views.{RecencyView}
 use Rattle.vt_walk_decisions.specs.Requests.{FileState, ArePartlyReadFor}
@@ -11,6 +10,7 @@ use Rattle.vt_walk_decisions.specs.declared.steps.WalkStep.{WalkStep}
 use Rattle.vt_walk_decisions.specs.declared.steps.Drawn.{Drawn}
 use Rattle.vt_walk_decisions.specs.declared.steps.Next.{Next}
 use Rattle.vt_walk_decisions.specs.declared.steps.Next.TheVariants as next
+use Rattle.vt_walk.specs.DrawnBy.{PictureDrawn}
 use Rattle.vt_walk.specs.declared.walk_steps.Walked.{Walked}
 use Rattle.vt_walk.specs.Counts.{HasCounts}
 use Rattle.vt_walk.specs.Runs.{WalkPass}
@@ -22,7 +22,7 @@ use Rattle.vt_walk.proofs.Advancing.{read_partly}
 use Rattle.vt_walk.proofs.Passing.{state_of, pass_broke}
 use Rattle.vt_walk.proofs.Rounds.{is_whole}
 
-module _ (drawn : PathView → ℕ → ℕ → ℕ → List ℕ → Type 0) (g : WalkGiven) (first : WalkState) where
+module _ (drawn : PictureDrawn) (g : WalkGiven) (first : WalkState) where
   -- the next pass is at its step, if there is one
   pub may_turn : (number : ℕ) (t : WalkStep) (now : WalkState) (m : MachineState) (v : RecencyView) → (s : StandsAt drawn g number t first now m v)
       → MayStep g s.run number t m v

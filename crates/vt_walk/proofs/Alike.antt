@@ -4,7 +4,6 @@ use Rattle.std.specs.Prelude.{MatchResult, option_map}
 use Rattle.vt_outside.specs.Files.{Files, IsThere, with_bytes, gained}
 use Rattle.vt_outside.specs.Places.{times_failed}
 use Rattle.vt_outside.specs.declared.place.Place.{Place}
-use Rattle.vt_camera.specs.Paths.{PathView}
 use Rattle.vt_pages.specs.Shape.{Shape}
 use Rattle.vt_pages.specs.Pages.{pages_of}
 use Rattle.vt_tiles.specs.Format.{tile_start, tile_length}
@@ -12,6 +11,7 @@ use Rattle.vt_evict.specs.PlanTypes.batches.Planned.{Planned}
 use Rattle.vt_walk_decisions.specs.declared.error.WalkError.{WalkError}
 use Rattle.vt_walk_decisions.specs.declared.error.WalkError.TheVariants.{TooFewFrames, DoesNotFit, Failed, NoMemory}
 use Rattle.vt_words.specs.Names.{picture_name}
+use Rattle.vt_walk.specs.DrawnBy.{PictureDrawn}
 use Rattle.vt_walk.specs.Runs.{WalkPass, plan_after, planned_in, lost_in}
 use Rattle.vt_walk.specs.Logs.{picture_line}
 use Rattle.vt_walk.specs.Walks.{WalkGiven}
@@ -41,7 +41,7 @@ still_at_most s d pinned planned a b c asked same =
     told_twice (AreAskedAtMostFor s d pinned planned) AreSamePlaces (AreAskedAtMostFor s d pinned planned) a b c
     (λ x y z first then at len. omega (arith, then.asked at len, first at len)) asked same
 
-module _ (drawn : PathView → ℕ → ℕ → ℕ → List ℕ → Type 0) (g : WalkGiven) (first mid last : WalkState) (alike : IsAlike mid last) where
+module _ (drawn : PictureDrawn) (g : WalkGiven) (first mid last : WalkState) (alike : IsAlike mid last) where
   pub finished_alike : Finished drawn g first mid → Finished drawn g first last
   finished_alike f = record {
     run = f.run;

@@ -15,7 +15,6 @@ use Rattle.vt_outside.specs.declared.answers.OutsideError.{OutsideError}
 use Rattle.vt_outside.specs.declared.answers.OutsideError.TheVariants.{Failed, NoMemory}
 use Rattle.vt_pages.specs.Shape.{Shape}
 use Rattle.vt_pages.specs.Pages.{pages_of}
-use Rattle.vt_camera.specs.Paths.{PathView}
 use Rattle.vt_journal.specs.Changes.{Pinned}
 use Rattle.vt_journal.specs.declared.changes.Change.{Change}
 use Rattle.vt_journal.specs.JournalText.{head_text, pinned_changes}
@@ -29,6 +28,7 @@ use Rattle.vt_walk_decisions.specs.Machines.{MachineState}
 use Rattle.vt_walk_decisions.specs.declared.error.WalkError.{WalkError}
 use Rattle.vt_walk_decisions.specs.declared.input.WalkInput.{WalkInput}
 use Rattle.vt_walk_decisions.specs.Refusals.{refusal_by}
+use Rattle.vt_walk.specs.DrawnBy.{PictureDrawn}
 use Rattle.vt_walk.specs.Walks.{WalkGiven}
 use Rattle.vt_walk.specs.States.{WalkState, places_of}
 use Rattle.vt_walk.specs.Reads.{AreAskedFor, AreAskedAtMostFor, OnTold, lost_reads}
@@ -177,7 +177,7 @@ others_tell : (asked : Option Asked) (f : FileState) (files : List FileState) �
 others_tell asked f files told some = λ k d inside. told some (suc k) d (omega (arith, inside))
 
 module _ (draws : Drawing)
-    (drawn : PathView → ℕ → ℕ → ℕ → List ℕ → Type 0) (t : WalkInput) (told : Option (List ℕ)) (d : ℕ) (store : List ℕ) (kept now : FileState)
+    (drawn : PictureDrawn) (t : WalkInput) (told : Option (List ℕ)) (d : ℕ) (store : List ℕ) (kept now : FileState)
     (files : Option Files) (asked : Option Asked) (faults : ℕ) (m n : MachineState) (held : Option (List ℕ)) (out_faults : ℕ)
     (input : IsWalkInput t) (frames : t.pinned ≤ t.settings.frames) (is_store : IsStoreIfTold told t.geometry.now d) (depth : d ≡ t.depth)
     (begins : IsBegun (given_of draws t told) m) (tells : AreTold asked (kept ∷ m.files)) where

@@ -33,6 +33,7 @@ use Rattle.vt_walk_decisions.specs.Judging.{MayGoOn, IsFollowed}
 use Rattle.vt_walk_decisions.specs.Refusals.{refusal_by}
 use Rattle.vt_walk_decisions.specs.Reported.{next_step}
 use Rattle.vt_walk_decisions.specs.Tallies.{no_passes}
+use Rattle.vt_walk.specs.DrawnBy.{PictureDrawn, AnyRow}
 use Rattle.vt_walk.specs.Tallies.{numbers_line}
 use Rattle.vt_walk.specs.Walks.{WalkGiven, names_of}
 use Rattle.vt_walk.specs.States.{WalkState, walk_state}
@@ -46,14 +47,14 @@ use Rattle.vt_walk.proofs.Going.{room_left}
 use Rattle.vt_walk.proofs.Passing.{may_draw, pass_broke}
 
 -- the same by an equal step and an equal start
-pub ran_as : (drawn : PathView → ℕ → ℕ → ℕ → List ℕ → Type 0) (g : WalkGiven) (number : ℕ) (t u : WalkStep) (start begun : ℕ) (r : PassReport)
+pub ran_as : (drawn : PictureDrawn) (g : WalkGiven) (number : ℕ) (t u : WalkStep) (start begun : ℕ) (r : PassReport)
     (first : WalkState) (at : List FileState → WalkState) (n : MachineState) (v : RecencyView) → u ≡ t → begun ≡ start
     → StandsRan drawn g number t start r first at n v → StandsRan drawn g number u begun r first at n v
 ran_as drawn g number t u start begun r first at n v steps starts s =
     subst (λ (x : WalkStep × ℕ). StandsRan drawn g number x.0 x.1 r first at n v) (λ i. (sym steps i, sym starts i)) s
 
 -- a pass that was run could not be planned after, or was
-module _ (draws : Drawing) (drawn : PathView → ℕ → ℕ → ℕ → List ℕ → Type 0) (t : WalkInput) (told : Option (List ℕ))
+module _ (draws : Drawing) (drawn : PictureDrawn) (t : WalkInput) (told : Option (List ℕ))
     {D F : Type 0} (d : FolderMeanings D F) (store : List ℕ) (kept : FileState) (held : Option (List ℕ)) (out_faults : ℕ) (folder : D)
     (number start : ℕ) (step : WalkStep) (r : PassReport) (first : WalkState) (n : MachineState) (v u : RecencyView)
     (s : StandsRan drawn (given_of draws t told) number step start r first (λ files. walk_state d store folder (kept ∷ files) held out_faults) n v) where
@@ -62,13 +63,13 @@ module _ (draws : Drawing) (drawn : PathView → ℕ → ℕ → ℕ → List �
   plan_broke e is =
       pass_broke drawn (given_of draws t told) number step first store kept held out_faults (d.files folder) (d.asked folder) (d.faults folder)
       s.before n v u s.stands s.has_run.may.more
-      (read_at_most draws t told drawn s.stands.run number step s.before n v r s.has_run.may s.has_run.ran) e is
+      (read_at_most draws t told AnyRow s.stands.run number step s.before n v r s.has_run.may s.has_run.ran) e is
 
   pub is_drawn : (x : Drawn) → HasDrawnPass drawn (given_of draws t told) s.stands.run step s.before n u x
       → StandsDrawn drawn (given_of draws t told) number x first (λ files. walk_state d store folder (kept ∷ files) held out_faults) n u
   is_drawn x is = record { step = step; before = s.before; recency = v; stands = s.stands; more = s.has_run.may.more; has_drawn = is }
 
-module _ (draws : Drawing) (drawn : PathView → ℕ → ℕ → ℕ → List ℕ → Type 0)
+module _ (draws : Drawing) (drawn : PictureDrawn)
     (law : (scene : Scene) (b : List ℕ) (m : Table) (i x y : ℕ) → IsWithinLimits scene.shape → IsStore b scene.shape scene.depth
     → i < length scene.path.cameras → x < scene.path.width → y < scene.path.height → MapsNeeded scene.shape m (draws.needs scene i)
     → draws.shows scene b m i x y ≡ draws.whole scene b i x y)
@@ -163,10 +164,10 @@ module _ (draws : Drawing) (drawn : PathView → ℕ → ℕ → ℕ → List �
             (d.faults after) m n v v stands_next followed.more read e gives
 
         -- its first pass was run
-        pub pass_ran : (report : PassReport) → Ran draws drawn job report m n
+        pub pass_ran : (report : PassReport) → Ran draws AnyRow job report m n → drawn n job.scene.path job.picture report.rows.elements
             → StandsRan drawn given (number + 1) (next_step p) (length m.journal) report first
             (λ files. walk_state d store after (kept ∷ files) held' out_faults') n v
-        pass_ran report ran = record {
+        pass_ran report ran by = record {
           before = m;
           stands = stands_next;
           has_run = record {
@@ -174,5 +175,6 @@ module _ (draws : Drawing) (drawn : PathView → ℕ → ℕ → ℕ → List �
                 followed.more;
             start_is = refl;
             ran = ran;
+            by = by;
           };
         }

@@ -10,11 +10,11 @@ use Rattle.vt_outside.specs.declared.place.Place.{Place}
 use Rattle.vt_outside.specs.declared.answers.OutsideError.{OutsideError}
 use Rattle.vt_outside.specs.declared.answers.OutsideError.TheVariants.{Failed as Fault, NoMemory as NoRoom}
 use Rattle.vt_outside.specs.declared.outside.Folder.{Ghosts as FolderMeanings}
-use Rattle.vt_camera.specs.Paths.{PathView}
 use Rattle.vt_walk_decisions.specs.Requests.{FileState, AreSameFiles, counts_of}
 use Rattle.vt_walk_decisions.specs.declared.error.WalkError.{WalkError}
 use Rattle.vt_walk_decisions.specs.declared.error.WalkError.TheVariants.{NoMemory}
 use Rattle.vt_walk_decisions.specs.Refusals.{refusal_by}
+use Rattle.vt_walk.specs.DrawnBy.{PictureDrawn}
 use Rattle.vt_walk.specs.Walks.{WalkGiven}
 use Rattle.vt_walk.specs.States.{WalkState, AreOpen, places_of, walk_state}
 use Rattle.vt_walk.specs.Reads.{AreAskedAtMostFor, OnTold}
@@ -92,7 +92,7 @@ module _ {D F : Type 0} (d : FolderMeanings D F) (name : List ℕ) where
           asked = option_map (λ (asked : Asked). asked name ++ places) (d.asked folder);
         }
 
-  module _ (drawn : PathView → ℕ → ℕ → ℕ → List ℕ → Type 0) (g : WalkGiven) where
+  module _ (drawn : PictureDrawn) (g : WalkGiven) where
     -- how a walk ended between two states
     abbrev pub Ends : {T : Type 0} → Result T WalkError → WalkState → WalkState → Type 0
     Ends r first now = MatchResult r (λ _. Finished drawn g first now) (LeftByRefusal drawn g first now)

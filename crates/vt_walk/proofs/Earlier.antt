@@ -1,9 +1,9 @@
 -- A walk that began with fewer faults.
 use Rattle.std.proofs.Common.{ℕ, ◌≤◌, inl, inr, List, ◌∷◌, Result, Ok, Err, arith}
 use Rattle.std.specs.Prelude.{MatchResult}
-use Rattle.vt_camera.specs.Paths.{PathView}
 use Rattle.vt_walk_decisions.specs.declared.error.WalkError.{WalkError}
 use Rattle.vt_walk_decisions.specs.declared.error.WalkError.TheVariants.{TooFewFrames, DoesNotFit, Failed, NoMemory}
+use Rattle.vt_walk.specs.DrawnBy.{PictureDrawn}
 use Rattle.vt_walk.specs.Runs.{WalkPass}
 use Rattle.vt_walk.specs.Walks.{WalkGiven}
 use Rattle.vt_walk.specs.States.{WalkState}
@@ -12,7 +12,7 @@ use Rattle.vt_walk.specs.Leaving.{Left}
 use Rattle.vt_walk.specs.Causes.{HasFailed, IsCausedBy}
 use Rattle.vt_walk.specs.WalkSteps.{LeftByRefusal}
 
-module _ (drawn : PathView → ℕ → ℕ → ℕ → List ℕ → Type 0) (g : WalkGiven) (first now : WalkState) (fewer : ℕ) (few : fewer ≤ first.faults) where
+module _ (drawn : PictureDrawn) (g : WalkGiven) (first now : WalkState) (fewer : ℕ) (few : fewer ≤ first.faults) where
   -- what was there before
   abbrev earlier : WalkState
   earlier = record first { faults = fewer }

@@ -9,7 +9,6 @@ use Rattle.vt_outside.specs.declared.answers.OutsideError.TheVariants.{Failed, N
 use Rattle.vt_pages.specs.Pages.{IsWithinLimits}
 use Rattle.vt_ppm.specs.Picture.{picture_bytes}
 use Rattle.vt_words.specs.Names.{picture_name}
-use Rattle.vt_camera.specs.Paths.{PathView}
 use Rattle.vt_journal.specs.Changes.{Table}
 use Rattle.vt_tiles.specs.StoreViews.{IsStore}
 use Rattle.vt_evict.specs.PlanTypes.batches.Planned.{Planned}
@@ -29,6 +28,7 @@ use Rattle.vt_walk_decisions.specs.declared.settings.Settings.{Settings}
 use Rattle.vt_walk_decisions.specs.declared.tallies.Tally.{Tally}
 use Rattle.vt_walk_decisions.specs.declared.steps.Passed.{Passed}
 use Rattle.vt_walk_decisions.specs.Refusals.{refusal_by}
+use Rattle.vt_walk.specs.DrawnBy.{PictureDrawn}
 use Rattle.vt_walk.specs.Fits.{WalkSetup, room_of, DoesNotFit, NeedsFrames}
 use Rattle.vt_walk.specs.Runs.{WalkPass, IsWalkSetup, IsRun, Finishes, GoesOn, plan_after, recency_after, planned_in, lost_in}
 use Rattle.vt_walk.specs.Logs.{passes_of, picture_line, wanted_in}
@@ -103,7 +103,7 @@ line_is p run picture wanted t same wants tally =
     ∙ ap (λ k. numbers_line p.picture k (tally_of (passes_of p.picture (p ∷ run)))) (ap wanted_in (sym (line_of p run)))
 
 module _ (draws : Drawing)
-    (drawn : PathView → ℕ → ℕ → ℕ → List ℕ → Type 0)
+    (drawn : PictureDrawn)
     (law : (scene : Scene) (b : List ℕ) (m : Table) (i x y : ℕ) → IsWithinLimits scene.shape → IsStore b scene.shape scene.depth
     → i < length scene.path.cameras → x < scene.path.width → y < scene.path.height → MapsNeeded scene.shape m (draws.needs scene i)
     → draws.shows scene b m i x y ≡ draws.whole scene b i x y)

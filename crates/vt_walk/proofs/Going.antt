@@ -1,7 +1,6 @@
 -- A walk that goes on after a pass, or does not.
 use Rattle.std.proofs.Common.{◌≡◌, ℕ, ◌-◌, ◌<◌, ◌≤◌, List, length, Option, arith}
 use Rattle.vt_pages.specs.Pages.{IsWithinLimits, pinned_of}
-use Rattle.vt_camera.specs.Paths.{PathView}
 use Rattle.vt_journal.specs.Changes.{Table}
 use Rattle.vt_tiles.specs.StoreViews.{IsStore}
 use Rattle.vt_evict.specs.Views.{RecencyView}
@@ -15,6 +14,7 @@ use Rattle.vt_walk_decisions.specs.declared.mode.Mode.TheVariants.{Settled}
 use Rattle.vt_walk_decisions.specs.declared.input.WalkInput.{WalkInput}
 use Rattle.vt_walk_decisions.specs.declared.steps.Passed.{Passed}
 use Rattle.vt_walk_decisions.specs.Judging.{IsStoppedBy, MayGoOn}
+use Rattle.vt_walk.specs.DrawnBy.{PictureDrawn}
 use Rattle.vt_walk.specs.Walks.{names_of}
 use Rattle.vt_walk.specs.States.{WalkState}
 use Rattle.vt_walk.specs.WalkInputs.{IsWalkInput, given_of, input_scene}
@@ -27,7 +27,7 @@ room_left t p h goes_on settled = let fits = goes_on.fits settled in let pages =
 
 -- the walk stops after a pass, for its cause
 pub stopped : (draws : Drawing)
-    (drawn : PathView → ℕ → ℕ → ℕ → List ℕ → Type 0)
+    (drawn : PictureDrawn)
     (law : (scene : Scene) (b : List ℕ) (m : Table) (i x y : ℕ) → IsWithinLimits scene.shape → IsStore b scene.shape scene.depth
     → i < length scene.path.cameras → x < scene.path.width → y < scene.path.height → MapsNeeded scene.shape m (draws.needs scene i)
     → draws.shows scene b m i x y ≡ draws.whole scene b i x y)

@@ -5,7 +5,6 @@ use Rattle.vt_outside.specs.Counts.{added, Rose, RoseBy}
 use Rattle.vt_outside.specs.Files.{Files, Asked, with_appended, IsThere}
 use Rattle.vt_outside.specs.declared.answers.OutsideError.{OutsideError}
 use Rattle.vt_outside.specs.declared.answers.OutsideError.TheVariants.{Failed, NoMemory}
-use Rattle.vt_camera.specs.Paths.{PathView}
 use Rattle.vt_journal.specs.JournalText.{Pass, pass_text}
 use Rattle.vt_journal.specs.Passes.{pass_of as text_of}
 use Rattle.vt_evict.specs.PlanTypes.batches.Planned.{Planned}
@@ -18,6 +17,7 @@ use Rattle.vt_walk_decisions.specs.declared.error.WalkError.TheVariants as walk_
 use Rattle.vt_walk_decisions.specs.declared.steps.WalkStep.{WalkStep}
 use Rattle.vt_walk_decisions.specs.declared.steps.Drawn.{Drawn}
 use Rattle.vt_walk_decisions.specs.Refusals.{refusal_by}
+use Rattle.vt_walk.specs.DrawnBy.{PictureDrawn}
 use Rattle.vt_walk.specs.Runs.{IsStepOf, plan_after, planned_in, lost_in}
 use Rattle.vt_walk.specs.Walks.{WalkGiven}
 use Rattle.vt_walk.specs.States.{WalkState}
@@ -54,7 +54,7 @@ all_told (x ∷ xs) (y ∷ ys) same tell =
       pick head more (suc k) d inside = more k d (omega (arith, inside))
 
 -- a machine may take the step
-pub may_draw : (drawn : PathView → ℕ → ℕ → ℕ → List ℕ → Type 0) (g : WalkGiven) (number : ℕ) (t : WalkStep) (first now : WalkState) (m : MachineState)
+pub may_draw : (drawn : PictureDrawn) (g : WalkGiven) (number : ℕ) (t : WalkStep) (first now : WalkState) (m : MachineState)
     (v : RecencyView)
     → (s : StandsAt drawn g number t first now m v) → t.picture < g.setup.pictures → MayDraw g s.run number t m v
 may_draw drawn g number t first now m v s more = record { given = s.given; at_run = s.at_run; step = s.step; more = more }
@@ -63,7 +63,7 @@ may_draw drawn g number t first now m v s more = record { given = s.given; at_ru
 pub still_tell : (old new : List FileState) → AreSameFiles old new → AllTell old → AllTell new
 still_tell old new same tell = all_told old new same.tell tell
 
-module _ (drawn : PathView → ℕ → ℕ → ℕ → List ℕ → Type 0)
+module _ (drawn : PictureDrawn)
     (g : WalkGiven) (number : ℕ) (t : WalkStep) (first : WalkState) (store : List ℕ) (kept : FileState) (held : Option (List ℕ)) (out_faults : ℕ)
     (files : Option Files) (asked : Option Asked) (faults : ℕ) (m n : MachineState) (v u : RecencyView) where
   abbrev was : WalkState

@@ -6,7 +6,6 @@ use Rattle.vt_outside.specs.Counts.{Rose}
 use Rattle.vt_outside.specs.Files.{gained}
 use Rattle.vt_outside.specs.declared.answers.OutsideError.{OutsideError}
 use Rattle.vt_outside.specs.declared.answers.OutsideError.TheVariants.{Failed, NoMemory}
-use Rattle.vt_camera.specs.Paths.{PathView}
 use Rattle.vt_evict.specs.Views.{RecencyView}
 use Rattle.vt_walk_decisions.specs.Machines.{MachineState}
 use Rattle.vt_walk_decisions.specs.declared.error.WalkError.{WalkError}
@@ -14,6 +13,7 @@ use Rattle.vt_walk_decisions.specs.declared.steps.WalkStep.{WalkStep}
 use Rattle.vt_walk_decisions.specs.Refusals.{refusal_by}
 use Rattle.vt_walk_decisions.specs.declared.mode.Mode.{Mode}
 use Rattle.vt_walk_decisions.specs.declared.mode.Mode.TheVariants.{Settled}
+use Rattle.vt_walk.specs.DrawnBy.{PictureDrawn}
 use Rattle.vt_walk.specs.Fits.{WalkSetup, Fits}
 use Rattle.vt_walk.specs.Runs.{WalkPass, IsRun, IsStepOf, IsWhole, GoesOn}
 use Rattle.vt_walk.specs.Logs.{end_line, reads_of, picture_lines}
@@ -45,7 +45,7 @@ each_fits w (p ∷ run) settled is_run whole picture below = pick (cases_lt pict
       let same : p.picture ≡ picture = let last = whole.2 in omega (arith, last, below, not_before) in
       subst (Fits w) same (subst (λ (m : Mode). GoesOn m w p) settled whole.0).1
 
-module _ (drawn : PathView → ℕ → ℕ → ℕ → List ℕ → Type 0) (g : WalkGiven) (first now : WalkState) where
+module _ (drawn : PictureDrawn) (g : WalkGiven) (first now : WalkState) where
   -- the first step
   pub first_at : (m : MachineState) (v : RecencyView) (t : WalkStep) → StandsFirst drawn g first now m v → t.picture ≡ 0 → t.batch.elements ≡ []
       → t.tally ≡ no_passes

@@ -15,7 +15,7 @@ use Rattle.vt_walk_decisions.specs.Passes.{IsPictured}
 use Rattle.vt_walk_decisions.specs.Replays.{HasPixels}
 use Rattle.vt_walk.specs.Fits.{WalkSetup}
 use Rattle.vt_walk.specs.Runs.{WalkPass, journal_after, IsRun}
-use Rattle.vt_walk.specs.Shown.{last_rows, IsRunPicture}
+use Rattle.vt_walk.specs.Shown.{last_rows, run_through, IsRunPicture}
 use Rattle.vt_walk.specs.Logs.{passes_of, picture_line, picture_lines}
 
 same_number : (p q : ℕ) → (p == q) ≡ true → p ≡ q
@@ -36,6 +36,10 @@ self_number p = pick (p == p) refl where
 pub rows_after : (b : Bool) (p : WalkPass) (passes : List WalkPass) (picture : ℕ) → (p.picture == picture) ≡ b
     → last_rows (p ∷ passes) picture ≡ (if b then p.rows else last_rows passes picture)
 rows_after b p passes picture is = ap (λ (t : Bool). if t then p.rows else last_rows passes picture) is
+
+pub through_after : (b : Bool) (p : WalkPass) (passes : List WalkPass) (picture : ℕ) → (p.picture == picture) ≡ b
+    → run_through (p ∷ passes) picture ≡ (if b then p ∷ passes else run_through passes picture)
+through_after b p passes picture is = ap (λ (t : Bool). if t then p ∷ passes else run_through passes picture) is
 
 -- a row names a version that the journal has
 rows_known : (w : WalkSetup) (passes : List WalkPass) (picture y : ℕ) (row : RowLine) → IsRun w passes

@@ -8,25 +8,25 @@ use Rattle.vt_outside.specs.Counts.{RoseBy}
 use Rattle.vt_outside.specs.Files.{Files, with_bytes, with_appended, gained, IsThere}
 use Rattle.vt_outside.specs.declared.place.Place.{Place}
 use Rattle.vt_outside.proofs.Changes.{told-bytes-appended}
-use Rattle.vt_camera.specs.Paths.{PathView}
 use Rattle.vt_journal.specs.JournalText.{pass_text}
 use Rattle.vt_pages.specs.Shape.{Shape}
 use Rattle.vt_words.specs.Names.{picture_name}
 use Rattle.vt_evict.proofs.FirstLemmas.{range-more}
 use Rattle.vt_walk_decisions.specs.Outcomes.{lost_count}
 use Rattle.vt_walk_decisions.specs.Requests.{lost_entries}
-use Rattle.vt_walk.specs.Runs.{WalkPass, IsRun, IsNextPass, IsFinished, run_text, told_of, planned_in, lost_in}
+use Rattle.vt_walk.specs.DrawnBy.{PictureDrawn}
+use Rattle.vt_walk.specs.Runs.{WalkPass, IsRun, IsNextPass, IsFinished, journal_after, run_text, told_of, planned_in, lost_in}
 use Rattle.vt_walk.specs.Logs.{picture_line, picture_lines}
 use Rattle.vt_walk.specs.Shown.{last_rows, IsRunPicture}
 use Rattle.vt_walk.specs.Walks.{WalkGiven, WalkNames}
 use Rattle.vt_walk.specs.Folders.{with_walk, with_pictures, IsApart}
 use Rattle.vt_walk.specs.States.{WalkState}
 use Rattle.vt_walk.specs.Reads.{AreAskedFor, OnTold}
-use Rattle.vt_walk.specs.Written.{IsWritten, AreWritten, AreDrawn}
+use Rattle.vt_walk.specs.Written.{IsWritten, AreWritten}
 use Rattle.vt_walk.specs.Standing.{Stands}
 use Rattle.vt_walk.proofs.Asking.{planned_more, lost_more, losses_more}
 use Rattle.vt_walk.proofs.Asks.{told_twice}
-use Rattle.vt_walk.proofs.Showing.{picture_stays, lines_stay, other_number, rows_after}
+use Rattle.vt_walk.proofs.Showing.{picture_stays, lines_stay, other_number, rows_after, through_after}
 use Rattle.vt_walk.proofs.Telling.{text_grows}
 use Rattle.vt_walk.proofs.Apart.{other_name, either_first, there_stays}
 
@@ -53,7 +53,7 @@ journal_more names text more pictures told =
     ∙ changed_twice (with_bytes names.journal (text ++ more)) (with_pictures names.prefix pictures) told
 
 -- what was written of earlier pictures stays
-written_stays : (drawn : PathView → ℕ → ℕ → ℕ → List ℕ → Type 0) (g : WalkGiven) (p : WalkPass) (run : List WalkPass) (picture : ℕ) (bytes : List ℕ)
+written_stays : (drawn : PictureDrawn) (g : WalkGiven) (p : WalkPass) (run : List WalkPass) (picture : ℕ) (bytes : List ℕ)
     → IsRun g.setup run → p.picture ≢ picture → IsWritten drawn g run picture bytes → IsWritten drawn g (p ∷ run) picture bytes
 written_stays drawn g p run picture bytes is_run other w =
     let same : last_rows (p ∷ run) picture ≡ last_rows run picture = rows_after false p run picture (other_number p.picture picture other) in
@@ -62,14 +62,24 @@ written_stays drawn g p run picture bytes is_run other w =
       encoded = w.encoded;
       replay = stays g.told w.replay;
       plain = w.plain;
-      from_draws = subst (λ lines. AreDrawn drawn g.scene.path picture lines w.samples) (sym same) w.from_draws;
+      from_draws = record {
+        machine = w.from_draws.machine;
+        setup = w.from_draws.setup;
+        journal = w.from_draws.journal
+            ∙ ap (journal_after g.setup) (sym (through_after false p run picture (other_number p.picture picture other)));
+        joined = w.from_draws.joined;
+        count = w.from_draws.count;
+        full = w.from_draws.full;
+        lines = ap length same ∙ w.from_draws.lines;
+        drawn_by = subst (drawn w.from_draws.machine g.scene.path picture) (sym same) w.from_draws.drawn_by;
+      };
     } where
       stays : (told : Option (List ℕ)) → IfSome told (λ b. IsRunPicture g.setup run g.scene.depth g.scene.path.width (g.draws.shows g.scene b) picture w.samples)
           → IfSome told (λ b. IsRunPicture g.setup (p ∷ run) g.scene.depth g.scene.path.width (g.draws.shows g.scene b) picture w.samples)
       stays None shown = tt
       stays (Some b) shown = picture_stays g.setup p run g.scene.depth g.scene.path.width (g.draws.shows g.scene b) picture w.samples is_run other shown
 
-pub all_stay : (drawn : PathView → ℕ → ℕ → ℕ → List ℕ → Type 0) (g : WalkGiven) (p : WalkPass) (run : List WalkPass) (pictures : List (List ℕ))
+pub all_stay : (drawn : PictureDrawn) (g : WalkGiven) (p : WalkPass) (run : List WalkPass) (pictures : List (List ℕ))
     → IsRun g.setup run → length pictures ≤ p.picture → AreWritten drawn g run pictures → AreWritten drawn g (p ∷ run) pictures
 all_stay drawn g p run [] is_run few w = tt
 all_stay drawn g p run (bytes ∷ pictures) is_run few w =
@@ -89,7 +99,7 @@ asked_more s d pinned p run a b c before more =
     }) before more
 
 -- a pass whose text is in the journal
-pub pass_told : (drawn : PathView → ℕ → ℕ → ℕ → List ℕ → Type 0) (g : WalkGiven) (p : WalkPass) (run : List WalkPass) (pictures : List (List ℕ))
+pub pass_told : (drawn : PictureDrawn) (g : WalkGiven) (p : WalkPass) (run : List WalkPass) (pictures : List (List ℕ))
     (first was now : WalkState) → Stands drawn g run pictures first was → IsNextPass g.setup run p → p.picture ≡ length pictures
     → now.files ≡ option_map (with_appended g.names.journal (pass_text g.setup.shape (told_of g.setup run p))) was.files
     → IsThere now.files g.names.journal → now.held ≡ was.held
@@ -129,7 +139,7 @@ picture_first names text bytes pictures (Some files) apart =
     (other_name names (length pictures) apart))
 
 -- a picture that is written, and its line
-pub picture_told : (drawn : PathView → ℕ → ℕ → ℕ → List ℕ → Type 0) (g : WalkGiven) (p : WalkPass) (run : List WalkPass) (pictures : List (List ℕ))
+pub picture_told : (drawn : PictureDrawn) (g : WalkGiven) (p : WalkPass) (run : List WalkPass) (pictures : List (List ℕ))
     (bytes : List ℕ) (first was now : WalkState) → Stands drawn g (p ∷ run) pictures first was → IsFinished g.setup p run → p.picture ≡ length pictures
     → IsWritten drawn g (p ∷ run) (length pictures) bytes
     → now.files ≡ option_map (with_bytes (picture_name g.names.prefix (length pictures)) bytes) was.files

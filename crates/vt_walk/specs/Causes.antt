@@ -2,11 +2,11 @@
 use Rattle.std.specs.Prelude.{◌≡◌, ◌⊎◌, ℕ, ◌+◌, ◌-◌, ◌<◌, ◌≤◌, List, [], ◌∷◌, length, Option, Some}
 use Rattle.vt_outside.specs.Counts.{Rose, RoseBy}
 use Rattle.vt_outside.specs.declared.place.Place.{Place}
-use Rattle.vt_camera.specs.Paths.{PathView}
 use Rattle.vt_walk_decisions.specs.declared.error.WalkError.{WalkError}
 use Rattle.vt_walk_decisions.specs.declared.error.WalkError.TheVariants.{TooFewFrames, DoesNotFit, Failed, NoMemory}
 use Rattle.vt_walk_decisions.specs.declared.mode.Mode.TheVariants.{Settled}
 use Rattle.vt_walk_decisions.specs.Outcomes.{lost_count}
+use Rattle.vt_walk.specs.DrawnBy.{PictureDrawn}
 use Rattle.vt_walk.specs.Fits.{Fits, DoesNotFit as IsTooLarge, room_of}
 use Rattle.vt_walk.specs.Runs.{WalkPass}
 use Rattle.vt_walk.specs.Logs.{passes_of}
@@ -28,7 +28,7 @@ HasBroken g first now = Rose first.out_faults now.out_faults ⊎ RoseBy (reads_l
 
 -- a settled walk lost a tile: what is left is the beginning of a run that ends with the pass that lost it, so the journal tells that pass,
 -- and nothing else
-pub record HasLost (drawn : PathView → ℕ → ℕ → ℕ → List ℕ → Type 0) (g : WalkGiven) (first now : WalkState) : Type 0 where
+pub record HasLost (drawn : PictureDrawn) (g : WalkGiven) (first now : WalkState) : Type 0 where
   pub settled : g.setup.mode ≡ Settled
   pub pass : WalkPass
   pub before : List WalkPass
@@ -38,7 +38,7 @@ pub record HasLost (drawn : PathView → ℕ → ℕ → ℕ → List ℕ → Ty
   pub rose : Rose first.faults now.faults
 
 -- a call failed that ends the walk; in a live walk a lost tile is none
-abbrev pub HasFailed : (PathView → ℕ → ℕ → ℕ → List ℕ → Type 0) → WalkGiven → WalkState → WalkState → Type 0
+abbrev pub HasFailed : PictureDrawn → WalkGiven → WalkState → WalkState → Type 0
 HasFailed drawn g first now = HasBroken g first now ⊎ HasLost drawn g first now
 
 -- there are fewer frames than pinned pages, and nothing was written
@@ -50,7 +50,7 @@ pub record HasTooFewFrames (g : WalkGiven) (frames needed : ℕ) (first now : Wa
 
 -- a picture of a settled walk does not fit, and each before it does: what is left is the beginning of a run that ends with the picture's
 -- first pass, the pictures before it and their lines, and nothing else
-pub record HasUnfit (drawn : PathView → ℕ → ℕ → ℕ → List ℕ → Type 0) (g : WalkGiven) (picture needed room : ℕ) (first now : WalkState) : Type 0 where
+pub record HasUnfit (drawn : PictureDrawn) (g : WalkGiven) (picture needed room : ℕ) (first now : WalkState) : Type 0 where
   pub settled : g.setup.mode ≡ Settled
   pub room_is : room ≡ room_of g.setup
   pub unfit : IsTooLarge g.setup picture needed
@@ -64,7 +64,7 @@ pub record HasUnfit (drawn : PathView → ℕ → ℕ → ℕ → List ℕ → T
   pub stands : Stands drawn g (pass ∷ before) pictures first now
 
 -- the cause of each refusal; want of memory is free
-abbrev pub IsCausedBy : (PathView → ℕ → ℕ → ℕ → List ℕ → Type 0) → WalkGiven → WalkState → WalkState → WalkError → Type 0
+abbrev pub IsCausedBy : PictureDrawn → WalkGiven → WalkState → WalkState → WalkError → Type 0
 IsCausedBy drawn g first now (TooFewFrames frames needed) = HasTooFewFrames g frames needed first now
 IsCausedBy drawn g first now (DoesNotFit picture needed room) = HasUnfit drawn g picture needed room first now
 IsCausedBy drawn g first now Failed = HasFailed drawn g first now

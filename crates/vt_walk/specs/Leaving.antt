@@ -3,11 +3,11 @@ use Rattle.std.specs.Prelude.{◌≡◌, ◌⊎◌, ℕ, ◌+◌, ◌<◌, ◌�
 use Rattle.vt_outside.specs.Counts.{RoseBy}
 use Rattle.vt_outside.specs.Files.{with_bytes, with_appended, gained}
 use Rattle.vt_outside.specs.declared.place.Place.{Place}
-use Rattle.vt_camera.specs.Paths.{PathView}
 use Rattle.vt_journal.specs.JournalText.{head_text, pass_text}
 use Rattle.vt_walk_decisions.specs.Outcomes.{lost_count}
 use Rattle.vt_walk_decisions.specs.Requests.{lost_entries}
 use Rattle.vt_words.specs.Names.{picture_name}
+use Rattle.vt_walk.specs.DrawnBy.{PictureDrawn}
 use Rattle.vt_walk.specs.Runs.{WalkPass, IsStepOf, IsNextPass, IsFinished, IsWhole, plan_after, told_of}
 use Rattle.vt_walk.specs.Logs.{picture_line, walk_end_line}
 use Rattle.vt_walk.specs.Walks.{WalkGiven}
@@ -77,7 +77,7 @@ pub record AsksAhead (g : WalkGiven) (run : List WalkPass) (picture : ℕ) (befo
   pub out_faults : before.out_faults ≤ after.out_faults
 
 -- the name of a finished picture holds a prefix of it, or is as before
-pub record LeftInPicture (drawn : PathView → ℕ → ℕ → ℕ → List ℕ → Type 0) (g : WalkGiven) (run : List WalkPass) (picture : ℕ)
+pub record LeftInPicture (drawn : PictureDrawn) (g : WalkGiven) (run : List WalkPass) (picture : ℕ)
     (before after : WalkState) : Type 0 where
   pub finished : HasFinished g run picture
   pub bytes : List ℕ
@@ -88,7 +88,7 @@ pub record LeftInPicture (drawn : PathView → ℕ → ℕ → ℕ → List ℕ 
   pub ahead : AsksAhead g run picture before after
 
 -- a finished picture is whole, and the output ends with a prefix of its line
-pub record LeftInLine (drawn : PathView → ℕ → ℕ → ℕ → List ℕ → Type 0) (g : WalkGiven) (run : List WalkPass) (picture : ℕ)
+pub record LeftInLine (drawn : PictureDrawn) (g : WalkGiven) (run : List WalkPass) (picture : ℕ)
     (before after : WalkState) : Type 0 where
   pub finished : HasFinished g run picture
   pub bytes : List ℕ
@@ -108,7 +108,7 @@ pub record LeftAtEnd (g : WalkGiven) (run : List WalkPass) (pictures : ℕ) (bef
   pub none : AsksNothing before after
 
 -- what is left of the step that was under way after a run's beginning with so many whole pictures: nothing, or a prefix of a step
-abbrev pub IsWalkPrefix : (PathView → ℕ → ℕ → ℕ → List ℕ → Type 0) → WalkGiven → List WalkPass → ℕ → WalkState → WalkState → Type 0
+abbrev pub IsWalkPrefix : PictureDrawn → WalkGiven → List WalkPass → ℕ → WalkState → WalkState → Type 0
 IsWalkPrefix drawn g run pictures before after =
     (WritesNothing before after × AsksNothing before after)
     ⊎ (LeftInPass g run pictures before after
@@ -118,7 +118,7 @@ IsWalkPrefix drawn g run pictures before after =
     ⊎ LeftAtEnd g run pictures before after))))
 
 -- the beginning of a run is whole, and of the step that was under way there is a prefix
-pub record LeftInRun (drawn : PathView → ℕ → ℕ → ℕ → List ℕ → Type 0) (g : WalkGiven) (first now : WalkState) : Type 0 where
+pub record LeftInRun (drawn : PictureDrawn) (g : WalkGiven) (first now : WalkState) : Type 0 where
   pub run : List WalkPass
   pub pictures : List (List ℕ)
   pub mid : WalkState
@@ -126,5 +126,5 @@ pub record LeftInRun (drawn : PathView → ℕ → ℕ → ℕ → List ℕ → 
   pub front : IsWalkPrefix drawn g run (length pictures) mid now
 
 -- what a refused walk leaves
-abbrev pub Left : (PathView → ℕ → ℕ → ℕ → List ℕ → Type 0) → WalkGiven → WalkState → WalkState → Type 0
+abbrev pub Left : PictureDrawn → WalkGiven → WalkState → WalkState → Type 0
 Left drawn g first now = LeftAtHead g first now ⊎ LeftInRun drawn g first now

@@ -2,9 +2,9 @@
 use Rattle.std.specs.Prelude.{◌≡◌, ◌⊎◌, ℕ, ◌+◌, ◌<◌, ◌≤◌, List, [], ◌∷◌, length, option_map}
 use Rattle.vt_outside.specs.Counts.{RoseBy}
 use Rattle.vt_outside.specs.Files.{gained, IsThere}
-use Rattle.vt_camera.specs.Paths.{PathView}
 use Rattle.vt_journal.specs.Changes.{AreLegal, Pinned}
 use Rattle.vt_walk_decisions.specs.declared.mode.Mode.TheVariants.{Settled}
+use Rattle.vt_walk.specs.DrawnBy.{PictureDrawn}
 use Rattle.vt_walk.specs.Fits.{WalkSetup, Fits}
 use Rattle.vt_walk.specs.Runs.{WalkPass, IsRun, IsWhole, IsFinished, journal_after, run_text, planned_in, lost_in}
 use Rattle.vt_walk.specs.Logs.{picture_lines, log_text}
@@ -21,7 +21,7 @@ HasReached w (p ∷ passes) picture = (picture ≡ p.picture) ⊎ (IsFinished w 
 
 -- the beginning of a run is whole: the journal has its text and the output the lines of the pictures that it has finished, these
 -- pictures are whole, and the store was asked for its tiles alone, each once
-pub record Stands (drawn : PathView → ℕ → ℕ → ℕ → List ℕ → Type 0) (g : WalkGiven) (run : List WalkPass) (pictures : List (List ℕ))
+pub record Stands (drawn : PictureDrawn) (g : WalkGiven) (run : List WalkPass) (pictures : List (List ℕ))
     (first now : WalkState) : Type 0 where
   pub is_run : IsRun g.setup run
   pub reached : HasReached g.setup run (length pictures)
@@ -36,7 +36,7 @@ pub record Stands (drawn : PathView → ℕ → ℕ → ℕ → List ℕ → Typ
 -- a finished walk: the run is whole, there are frames for the pinned pages and, in a settled walk, for each picture's, the journal is
 -- legal and keeps the pinned pages, all pictures are whole, journal and output have
 -- all their text, the store was asked for the run's tiles alone, each once, and the folder's count rose at least by the lost ones
-pub record Finished (drawn : PathView → ℕ → ℕ → ℕ → List ℕ → Type 0) (g : WalkGiven) (first now : WalkState) : Type 0 where
+pub record Finished (drawn : PictureDrawn) (g : WalkGiven) (first now : WalkState) : Type 0 where
   pub run : List WalkPass
   pub is_run : IsRun g.setup run
   pub whole : IsWhole g.setup run

@@ -3,7 +3,6 @@ use Rattle.std.specs.Prelude.{ℕ, List, [], ◌∷◌, Result, MatchResult}
 use Rattle.vt_outside.specs.declared.outside.File.{Ghosts as FileMeanings}
 use Rattle.vt_outside.specs.declared.outside.Folder.{Ghosts as FolderMeanings}
 use Rattle.vt_outside.specs.declared.outside.Sink.{Ghosts as SinkMeanings}
-use Rattle.vt_camera.specs.Paths.{PathView}
 use Rattle.vt_tiles.specs.StoreViews.{StoreView}
 use Rattle.vt_walk_decisions.specs.Machines.{file_state}
 use Rattle.vt_walk_decisions.specs.Requests.{FileState}
@@ -12,7 +11,7 @@ use Rattle.vt_walk.specs.Walks.{WalkGiven}
 use Rattle.vt_walk.specs.States.{WalkState, walk_state}
 use Rattle.vt_walk.specs.Standing.{Finished}
 use Rattle.vt_walk.specs.WalkSteps.{LeftByRefusal}
-use Rattle.vt_walk.specs.Written.{IsDrawnBySome}
+use Rattle.vt_walk.specs.DrawnBy.{PictureDrawn}
 
 -- what was there before a walk, and what is there after it
 pub record WalkEffect : Type 0 where
@@ -32,7 +31,7 @@ walk_effect d o store opened_old opened_new folder_old folder_new out_old out_ne
 abbrev pub file_of : {F : Type 0} → FileMeanings F → StoreView F → List FileState
 file_of f store = file_state f store.file ∷ []
 
--- a walk is finished, or it was refused and has left what it may, for its cause; by what some machine of a type has drawn
-abbrev pub Walks : {M T : Type 0} → (M → PathView → ℕ → ℕ → ℕ → List ℕ → Type 0) → WalkGiven → WalkEffect → Result T WalkError → Type 0
+-- a walk is finished, or it was refused and has left what it may, for its cause; as its pictures are drawn
+abbrev pub Walks : {T : Type 0} → PictureDrawn → WalkGiven → WalkEffect → Result T WalkError → Type 0
 Walks drawn given c result =
-    MatchResult result (λ _. Finished (IsDrawnBySome drawn) given c.first c.last) (LeftByRefusal (IsDrawnBySome drawn) given c.first c.last)
+    MatchResult result (λ _. Finished drawn given c.first c.last) (LeftByRefusal drawn given c.first c.last)

@@ -3,7 +3,6 @@ use Rattle.std.specs.Prelude.{◌≡◌, ℕ, ◌+◌, ◌<◌, ◌≤◌, IsTru
 use Rattle.vt_ppm.specs.Depths.{IsDepth}
 use Rattle.vt_pages.specs.Pages.{IsWithinLimits}
 use Rattle.vt_tiles.specs.StoreViews.{IsStoreIfTold}
-use Rattle.vt_camera.specs.Paths.{PathView}
 use Rattle.vt_journal.specs.Passes.{pass_of as text_of}
 use Rattle.vt_evict.specs.Views.{RecencyView, pages_needed}
 use Rattle.vt_walk_decisions.specs.MachineTypes.crew.PassReport.{PassReport}
@@ -16,6 +15,7 @@ use Rattle.vt_walk_decisions.specs.declared.error.WalkError.{WalkError}
 use Rattle.vt_walk_decisions.specs.declared.steps.WalkStep.{WalkStep}
 use Rattle.vt_walk_decisions.specs.declared.steps.Passed.{Passed}
 use Rattle.vt_walk_decisions.specs.declared.steps.Drawn.{Drawn}
+use Rattle.vt_walk.specs.DrawnBy.{PictureDrawn, AnyRow}
 use Rattle.vt_walk.specs.Runs.{WalkPass, IsWalkSetup, IsRun, IsStepOf, IsNextPass, IsWhole, journal_after, recency_after, plan_after, told_of}
 use Rattle.vt_walk.specs.Logs.{passes_of, reads_of}
 use Rattle.vt_walk.specs.Walks.{WalkGiven, machine_of}
@@ -84,18 +84,19 @@ pub record IsPassed (g : WalkGiven) (run : List WalkPass) (pass : WalkPass) (p :
 abbrev pub job_for : WalkGiven → WalkPass → Job
 job_for g pass = record { scene = g.scene; picture = pass.picture; batch = pass.batch }
 
--- a machine has run a pass that comes after a run
-pub record HasRun (drawn : PathView → ℕ → ℕ → ℕ → List ℕ → Type 0) (g : WalkGiven) (run : List WalkPass) (pass : WalkPass)
+-- a machine has run a pass that comes after a run, and drawn its picture
+pub record HasRun (drawn : PictureDrawn) (g : WalkGiven) (run : List WalkPass) (pass : WalkPass)
     (m : MachineState) : Type 0 where
   pub before : MachineState
   pub report : PassReport
   pub setup : before.setup ≡ machine_of g
   pub journal : before.journal ≡ journal_after g.setup run
-  pub ran : Ran g.draws drawn (job_for g pass) report before m
+  pub ran : Ran g.draws AnyRow (job_for g pass) report before m
+  pub by : drawn m g.scene.path pass.picture report.rows.elements
   pub rows_are : report.rows.elements ≡ pass.rows
 
 -- a machine has drawn the next pass of a run, and streamed its batch
-pub record HasDrawnPass (drawn : PathView → ℕ → ℕ → ℕ → List ℕ → Type 0) (g : WalkGiven) (run : List WalkPass) (t : WalkStep)
+pub record HasDrawnPass (drawn : PictureDrawn) (g : WalkGiven) (run : List WalkPass) (t : WalkStep)
     (before after : MachineState) (v : RecencyView) (d : Drawn) : Type 0 where
   pub pass : WalkPass
   pub next : IsNextPass g.setup run pass
@@ -108,7 +109,7 @@ pub record HasDrawnPass (drawn : PathView → ℕ → ℕ → ℕ → List ℕ �
   pub passed : IsPassed g run pass d.passed
 
 -- the beginning of a run is whole, and the step is that of its next pass
-pub record StandsAt (drawn : PathView → ℕ → ℕ → ℕ → List ℕ → Type 0) (g : WalkGiven) (number : ℕ) (t : WalkStep) (first now : WalkState)
+pub record StandsAt (drawn : PictureDrawn) (g : WalkGiven) (number : ℕ) (t : WalkStep) (first now : WalkState)
     (m : MachineState) (v : RecencyView) : Type 0 where
   pub run : List WalkPass
   pub pictures : List (List ℕ)
@@ -120,7 +121,7 @@ pub record StandsAt (drawn : PathView → ℕ → ℕ → ℕ → List ℕ → T
   pub tell : IsSome now.asked → AllTell m.files
 
 -- the beginning of a run is whole, and its newest pass has just been made
-pub record StandsAfter (drawn : PathView → ℕ → ℕ → ℕ → List ℕ → Type 0) (g : WalkGiven) (number : ℕ) (p : Passed)
+pub record StandsAfter (drawn : PictureDrawn) (g : WalkGiven) (number : ℕ) (p : Passed)
     (first now : WalkState) (m : MachineState) (v : RecencyView) : Type 0 where
   pub run : List WalkPass
   pub pass : WalkPass
@@ -135,15 +136,14 @@ pub record StandsAfter (drawn : PathView → ℕ → ℕ → ℕ → List ℕ �
   pub tell : IsSome now.asked → AllTell m.files
 
 -- a run has begun: nothing but the journal's head is there
-pub record StandsFirst (drawn : PathView → ℕ → ℕ → ℕ → List ℕ
-    → Type 0) (g : WalkGiven) (first now : WalkState) (m : MachineState) (v : RecencyView) : Type 0 where
+pub record StandsFirst (drawn : PictureDrawn) (g : WalkGiven) (first now : WalkState) (m : MachineState) (v : RecencyView) : Type 0 where
   pub given : IsGiven g
   pub stands : Stands drawn g [] [] first now
   pub at_run : IsAtRun g [] m v
   pub tell : IsSome now.asked → AllTell m.files
 
 -- a run is whole, in which so many tiles were asked for
-pub record StandsLast (drawn : PathView → ℕ → ℕ → ℕ → List ℕ → Type 0) (g : WalkGiven) (reads : ℕ) (first now : WalkState) : Type 0 where
+pub record StandsLast (drawn : PictureDrawn) (g : WalkGiven) (reads : ℕ) (first now : WalkState) : Type 0 where
   pub run : List WalkPass
   pub pictures : List (List ℕ)
   pub given : IsGiven g
@@ -153,5 +153,5 @@ pub record StandsLast (drawn : PathView → ℕ → ℕ → ℕ → List ℕ →
   pub reads_are : reads ≡ reads_of g.setup run
 
 -- a refused walk has left what it may, for its cause
-abbrev pub LeftByRefusal : (PathView → ℕ → ℕ → ℕ → List ℕ → Type 0) → WalkGiven → WalkState → WalkState → WalkError → Type 0
+abbrev pub LeftByRefusal : PictureDrawn → WalkGiven → WalkState → WalkState → WalkError → Type 0
 LeftByRefusal drawn g first now error = Left drawn g first now × IsCausedBy drawn g first now error

@@ -4,7 +4,7 @@ ghost use Rattle.std.specs.Prelude.{ℕ, ◌<◌, List, Option, length, IfOk, On
 ghost use Rattle.vt_walk_decisions.specs.Requests.{AreSameFiles, ArePartlyReadFor};
 ghost use Rattle.vt_walk.specs.WalkInputs.{given_of, IsWalkInput};
 ghost use Rattle.vt_walk.specs.Runs.{WalkPass};
-ghost use Rattle.vt_walk.specs.Written.{IsDrawnBySome};
+ghost use Rattle.vt_walk.specs.DrawnBy.{IsDrawnBySome};
 ghost use Rattle.vt_walk.specs.WalkSteps.{MayDraw, HasDrawnPass};
 ghost use Rattle.vt_walk.specs.Following.{PassBefore, MayStep, HasRunStep, DrawsNext};
 
@@ -34,7 +34,7 @@ pub fn draw_next<Rt: Threads + Wait + Sync, M: PassMachine, G: Gate + Sync>(
         (given_of M.drawing input.now told) run number step (M.state machine.old) recency.old }
     ensures next { (told : Option (List ℕ)) (run : List WalkPass) → MayStep
         (given_of M.drawing input.now told) run number step (M.state machine.old) recency.old
-        → IfOk result (DrawsNext (IsDrawnBySome M.drawn) (given_of M.drawing input.now told) run step
+        → IfOk result (DrawsNext (IsDrawnBySome M.PassMachine) (given_of M.drawing input.now told) run step
         (M.state machine.old) (M.state machine.new) recency.new) }
     ensures more { OnErr result (step.picture < length input.now.path.now.cameras) }
     ensures refused { OnErr result (ArePartlyReadFor input.now.geometry.now input.now.depth step.batch.elements
@@ -68,7 +68,7 @@ fn draw_pass<Rt: Threads + Wait + Sync, M: PassMachine, G: Gate + Sync>(
         (given_of M.drawing input.now told) run number step (M.state machine.old) recency.old }
     ensures drawn { (told : Option (List ℕ)) (run : List WalkPass) → MayDraw
         (given_of M.drawing input.now told) run number step (M.state machine.old) recency.old
-        → IfOk result (HasDrawnPass (IsDrawnBySome M.drawn) (given_of M.drawing input.now told) run step
+        → IfOk result (HasDrawnPass (IsDrawnBySome M.PassMachine) (given_of M.drawing input.now told) run step
         (M.state machine.old) (M.state machine.new) recency.new) }
     ensures refused { OnErr result (ArePartlyReadFor input.now.geometry.now input.now.depth step.batch.elements
         (M.state machine.old).files (M.state machine.new).files) }
@@ -99,11 +99,11 @@ pub fn plan_on<M: PassMachine>(
 ) -> Result<Drawn, NoMemory>
     requires input { IsWalkInput input.now }
     requires idle { M.is_idle machine.now }
-    requires ran { (b : PassBefore) × HasRunStep (IsDrawnBySome M.drawn) (given_of M.drawing input.now b.told) b.run
+    requires ran { (b : PassBefore) × HasRunStep (IsDrawnBySome M.PassMachine) (given_of M.drawing input.now b.told) b.run
         number step start report b.machine (M.state machine.now) recency.old }
-    ensures { (b : PassBefore) → HasRunStep (IsDrawnBySome M.drawn) (given_of M.drawing input.now b.told) b.run
+    ensures { (b : PassBefore) → HasRunStep (IsDrawnBySome M.PassMachine) (given_of M.drawing input.now b.told) b.run
         number step start report b.machine (M.state machine.now) recency.old
-        → IfOk result (HasDrawnPass (IsDrawnBySome M.drawn) (given_of M.drawing input.now b.told) b.run step b.machine
+        → IfOk result (HasDrawnPass (IsDrawnBySome M.PassMachine) (given_of M.drawing input.now b.told) b.run step b.machine
         (M.state machine.now) recency.new) }
 {
     let most = input.settings.crew.batch;

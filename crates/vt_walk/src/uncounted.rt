@@ -5,6 +5,7 @@ ghost use Rattle.vt_outside.specs.Files.{bytes_at};
 ghost use Rattle.vt_pages.specs.Pages.{pinned_of};
 ghost use Rattle.vt_walk.specs.Walks.{given_to, AreSettings};
 ghost use Rattle.vt_walk.specs.States.{AreOpen};
+ghost use Rattle.vt_walk.specs.DrawnBy.{IsDrawnBySome};
 ghost use Rattle.vt_walk.specs.WalkEffects.{walk_effect, file_of, Walks};
 ghost use Rattle.vt_walk.specs.Closing.{AreOtherNamesAsBefore};
 
@@ -54,7 +55,7 @@ pub fn walk_with<
     requires bytes { D.File.bytes store.file ≡ bytes_at (D.files folder.old) names.now.store.now }
     requires tells { is_some (D.File.bytes store.file) ≡ is_some (D.files folder.old) }
     requires opened { AreOpen 1 names.now.store.now (D.asked folder.old) (file_of D.File.File store) }
-    ensures walked { Walks M.drawn (given_to M.drawing D.File.File store path.now names.now settings.now settled)
+    ensures walked { Walks (IsDrawnBySome M.PassMachine) (given_to M.drawing D.File.File store path.now names.now settings.now settled)
         (walk_effect D.Folder O.Sink names.now.store.now (file_of D.File.File store) [] folder.old folder.new out.old
         out.new) result }
     ensures few { let needed = pinned_of store.shape settings.now.pinned in settings.now.frames < needed

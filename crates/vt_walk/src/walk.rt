@@ -9,7 +9,7 @@ ghost use Rattle.vt_walk_decisions.specs.Machines.{file_state};
 ghost use Rattle.vt_walk.specs.Walks.{given_to, walk_setup, mode_of, AreSettings};
 ghost use Rattle.vt_walk.specs.Counts.{HasCounts};
 ghost use Rattle.vt_walk.specs.States.{walk_state, places_of, AreOpen};
-ghost use Rattle.vt_walk.specs.Written.{IsDrawnBySome};
+ghost use Rattle.vt_walk.specs.DrawnBy.{IsDrawnBySome};
 ghost use Rattle.vt_walk.specs.WalkSteps.{StandsFirst, LeftByRefusal};
 ghost use Rattle.vt_walk.specs.WalkEffects.{walk_effect, file_of, Walks};
 ghost use Rattle.vt_walk.specs.WalkInputs.{given_of, setup_of_input, IsWalkInput};
@@ -56,7 +56,7 @@ pub fn walk_counted<
     requires bytes { D.File.bytes store.file ≡ bytes_at (D.files folder.old) names.now.store.now }
     requires tells { is_some (D.File.bytes store.file) ≡ is_some (D.files folder.old) }
     requires opened { AreOpen 1 names.now.store.now (D.asked folder.old) (file_of D.File.File store) }
-    ensures walked { Walks M.drawn (given_to M.drawing D.File.File store path.now names.now settings.now settled)
+    ensures walked { Walks (IsDrawnBySome M.PassMachine) (given_to M.drawing D.File.File store path.now names.now settings.now settled)
         (walk_effect D.Folder O.Sink names.now.store.now (file_of D.File.File store) [] folder.old folder.new out.old
         out.new) result }
     ensures counted { IfOk result (HasCounts (walk_setup M.drawing (scene_of store.shape store.depth path.now)
@@ -117,7 +117,7 @@ fn walk_store<
     requires bytes { D.File.bytes store.old.file ≡ bytes_at (D.files folder.old) input.now.names.store.now }
     requires tells { is_some (D.File.bytes store.old.file) ≡ is_some (D.files folder.old) }
     requires opened { AreOpen 1 input.now.names.store.now (D.asked folder.old) (file_of D.File.File store.old) }
-    ensures walked { Walks M.drawn (given_of M.drawing input.now (D.File.bytes store.old.file))
+    ensures walked { Walks (IsDrawnBySome M.PassMachine) (given_of M.drawing input.now (D.File.bytes store.old.file))
         (walk_effect D.Folder O.Sink input.now.names.store.now (file_of D.File.File store.old)
         (file_of D.File.File store.new) folder.old folder.new out.old out.new) result }
     ensures counted { IfOk result (HasCounts (setup_of_input M.drawing input.now)) }
@@ -176,7 +176,7 @@ fn walk_stores<
         input.now.names.store.now
         (D.asked folder.old) (D.File.bytes store.old.file) stores.elements }
     requires opened { AreOpen 1 input.now.names.store.now (D.asked folder.old) (file_of D.File.File store.old) }
-    ensures walked { Walks M.drawn (given_of M.drawing input.now (D.File.bytes store.old.file))
+    ensures walked { Walks (IsDrawnBySome M.PassMachine) (given_of M.drawing input.now (D.File.bytes store.old.file))
         (walk_effect D.Folder O.Sink input.now.names.store.now (file_of D.File.File store.old)
         (file_of D.File.File store.new) folder.old folder.new out.old out.new) result }
     ensures counted { IfOk result (HasCounts (setup_of_input M.drawing input.now)) }
@@ -235,7 +235,7 @@ fn walk_machine<
     requires loaders { AreOpen input.now.settings.crew.loaders input.now.names.store.now (D.asked folder.old)
         (M.state machine).files }
     requires opened { AreOpen 1 input.now.names.store.now (D.asked folder.old) (file_of D.File.File store.old) }
-    ensures walked { Walks M.drawn (given_of M.drawing input.now (D.File.bytes store.old.file))
+    ensures walked { Walks (IsDrawnBySome M.PassMachine) (given_of M.drawing input.now (D.File.bytes store.old.file))
         (walk_effect D.Folder O.Sink input.now.names.store.now (file_of D.File.File store.old)
         (file_of D.File.File store.new) folder.old folder.new out.old out.new) result }
     ensures counted { IfOk result (HasCounts (setup_of_input M.drawing input.now)) }
@@ -275,7 +275,7 @@ fn walk_all<
     requires begins { IsBegun (given_of M.drawing input.now (D.File.bytes store.old.file))
         (M.state machine.old) }
     requires tell { AreTold (D.asked folder.old) (file_state D.File.File store.old.file ∷ (M.state machine.old).files) }
-    ensures walked { Walks M.drawn (given_of M.drawing input.now (D.File.bytes store.old.file))
+    ensures walked { Walks (IsDrawnBySome M.PassMachine) (given_of M.drawing input.now (D.File.bytes store.old.file))
         (walk_effect D.Folder O.Sink input.now.names.store.now
         (file_state D.File.File store.old.file ∷ (M.state machine.old).files)
         (file_state D.File.File store.new.file ∷ (M.state machine.new).files) folder.old folder.new out.old out.new)
@@ -320,7 +320,7 @@ fn begin<Rt: Threads + Wait + Sync, M: PassMachine, D: Folder>(
     requires begins { IsBegun (given_of M.drawing input.now (D.File.bytes store.old.file))
         (M.state machine.old) }
     requires tell { AreTold (D.asked folder.old) (file_state D.File.File store.old.file ∷ (M.state machine.old).files) }
-    ensures begun { (held : Option (List ℕ)) (out_faults : ℕ) → let drawn = IsDrawnBySome M.drawn in
+    ensures begun { (held : Option (List ℕ)) (out_faults : ℕ) → let drawn = IsDrawnBySome M.PassMachine in
         let given = given_of M.drawing input.now (D.File.bytes store.old.file) in
         let name = input.now.names.store.now in
         let first = walk_state D.Folder name folder.old (file_state D.File.File store.old.file

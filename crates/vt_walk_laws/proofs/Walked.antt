@@ -6,7 +6,6 @@ use Rattle.std.specs.Str.{bytes_eq}
 use Rattle.std.proofs.lemmas.Slice.Eq.{bytes_eq-Decides}
 use mathlib.Core.Path.{fun_ext}
 use Rattle.vt_machine.specs.Files.{Files, with_bytes}
-use Rattle.vt_machine.specs.Paths.{PathView}
 use Rattle.vt_replay.specs.Picture.{picture_bytes}
 use Rattle.vt_machine.specs.Shape.{Shape}
 use Rattle.vt_machine.specs.Pages.{levels_of, pages_below, pages_of, index_at, root_of, pinned_of, IsWithinLimits}
@@ -23,6 +22,7 @@ use Rattle.vt_machine.specs.JournalText.{Pass, Content, content_changes, journal
 use Rattle.vt_machine.proofs.Contents.{content_unique}
 use Rattle.vt_machine.specs.Replays.{IsReplayOf}
 use Rattle.vt_machine.specs.Scenes.{Scene}
+use Rattle.vt_walk.specs.DrawnBy.{PictureDrawn}
 use Rattle.vt_walk.specs.Fits.{WalkSetup}
 use Rattle.vt_walk.specs.Folders.{with_pictures, with_walk, IsApart}
 use Rattle.vt_walk.specs.Runs.{WalkPass, IsWalkSetup, IsRun, IsWhole, IsPictureAfter, journal_after, told_of, passes_told, run_content, run_text}
@@ -109,7 +109,7 @@ rows_full w (p ∷ q ∷ passes) picture run low = pick (p.picture == picture) r
       ap length (rows_after false p (q ∷ passes) picture other) ∙ earlier (grind (arith, low, count, before, most, apart))
 
 -- what was written of a picture is the file of the replay of the run's journal
-pub written_again : (under : Under) (drawn : PathView → ℕ → ℕ → ℕ → List ℕ → Type 0) (g : WalkGiven) (b : List ℕ) (run : List WalkPass) (picture : ℕ) (bytes : List ℕ)
+pub written_again : (under : Under) (drawn : PictureDrawn) (g : WalkGiven) (b : List ℕ) (run : List WalkPass) (picture : ℕ) (bytes : List ℕ)
     → IsOfStore under g b → IsRun g.setup run → picture < pictures_of (passes_told g.setup run) → IsWritten drawn g run picture bytes
     → bytes ≡ replay_file under (stored b) g.scene (content_changes g.scene.shape (run_content g.setup run)) (passes_told g.setup run) picture
 unfolding replay_file
@@ -136,7 +136,7 @@ written_again under drawn g b run picture bytes store is_run low written =
     (sym (last_told g.setup run picture)))
 
 -- the pictures that were written, by their numbers
-named_again : (under : Under) (drawn : PathView → ℕ → ℕ → ℕ → List ℕ → Type 0) (g : WalkGiven) (b prefix : List ℕ) (run : List WalkPass) (pictures : List (List ℕ))
+named_again : (under : Under) (drawn : PictureDrawn) (g : WalkGiven) (b prefix : List ℕ) (run : List WalkPass) (pictures : List (List ℕ))
     → IsOfStore under g b → IsRun g.setup run → length pictures ≤ pictures_of (passes_told g.setup run) → AreWritten drawn g run pictures
     → expected_pictures prefix (replay_file under (stored b) g.scene (content_changes g.scene.shape (run_content g.setup run)) (passes_told g.setup run)) (length pictures)
     ≡ named_pictures prefix pictures
@@ -152,7 +152,7 @@ named_again under drawn g b prefix run (bytes ∷ pictures) store is_run most wr
     (sym (written_again under drawn g b run (length pictures) bytes store is_run (omega (arith, most)) written.1))
 
 -- the files of the replay of a whole run are its pictures
-expected_again : (under : Under) (drawn : PathView → ℕ → ℕ → ℕ → List ℕ → Type 0) (g : WalkGiven) (b prefix : List ℕ) (run : List WalkPass) (pictures : List (List ℕ))
+expected_again : (under : Under) (drawn : PictureDrawn) (g : WalkGiven) (b prefix : List ℕ) (run : List WalkPass) (pictures : List (List ℕ))
     → IsOfStore under g b → IsRun g.setup run → IsWhole g.setup run → length pictures ≡ g.setup.pictures → AreWritten drawn g run pictures
     → expected_replay under g.scene.shape g.scene.depth b g.scene.path prefix (run_content g.setup run) ≡ named_pictures prefix pictures
 expected_again under drawn g b prefix run pictures store is_run whole all written =
@@ -207,7 +207,7 @@ pub count_read : (under : Under) (g : WalkGiven) (b : List ℕ) (run : List Walk
 count_read under g b run content store h is_run whole read =
     subst (λ (c : Content). pictures_of c.passes ≡ g.setup.pictures) (content_is under g b run content store h is_run read) (count_whole g.setup run whole)
 
-pub expected_read : (under : Under) (drawn : PathView → ℕ → ℕ → ℕ → List ℕ → Type 0) (g : WalkGiven) (b prefix : List ℕ) (run : List WalkPass) (pictures : List (List ℕ))
+pub expected_read : (under : Under) (drawn : PictureDrawn) (g : WalkGiven) (b prefix : List ℕ) (run : List WalkPass) (pictures : List (List ℕ))
     (content : Content)
     → IsOfStore under g b → IsWalkSetup g.setup → IsRun g.setup run → IsWhole g.setup run → length pictures ≡ g.setup.pictures → AreWritten drawn g run pictures
     → IsReplayable g.scene.shape g.scene.path (run_text g.setup run) content
@@ -281,7 +281,7 @@ told_again names text pictures expected (Some files) last apart is left =
     ∙ sym left
 
 -- a replay in the folder of a finished walk leaves what it holds
-pub left_again : (under : Under) (drawn : PathView → ℕ → ℕ → ℕ → List ℕ → Type 0) (g : WalkGiven) (b : List ℕ) (first last : WalkState) (content : Content)
+pub left_again : (under : Under) (drawn : PictureDrawn) (g : WalkGiven) (b : List ℕ) (first last : WalkState) (content : Content)
     → IsOfStore under g b → IsWalkSetup g.setup → (walk : Finished drawn g first last) → IsReplayable g.scene.shape g.scene.path (run_text g.setup walk.run) content
     → IsApart g.names → option_map (with_files (expected_replay under g.scene.shape g.scene.depth b g.scene.path g.names.prefix content)) last.files ≡ last.files
 left_again under drawn g b first last content store h walk read apart =
@@ -290,7 +290,7 @@ left_again under drawn g b first last content store h walk read apart =
     (expected_read under drawn g b g.names.prefix walk.run walk.pictures content store h walk.is_run walk.whole walk.all walk.written read) (walk.files apart)
 
 -- the pictures of a run's beginning are those of the replay of its journal
-pub standing_again : (under : Under) (drawn : PathView → ℕ → ℕ → ℕ → List ℕ → Type 0) (g : WalkGiven) (b prefix : List ℕ) (run : List WalkPass) (pictures : List (List ℕ))
+pub standing_again : (under : Under) (drawn : PictureDrawn) (g : WalkGiven) (b prefix : List ℕ) (run : List WalkPass) (pictures : List (List ℕ))
     (first now : WalkState)
     → IsOfStore under g b → Stands drawn g run pictures first now
     → expected_pictures prefix (replay_file under (stored b) g.scene (content_changes g.scene.shape (run_content g.setup run)) (passes_told g.setup run)) (length pictures)

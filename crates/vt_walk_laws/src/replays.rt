@@ -19,7 +19,8 @@ ghost use Rattle.vt_walk.specs.Shown.{last_rows};
 ghost use Rattle.vt_walk.specs.Standing.{Stands, Finished};
 ghost use Rattle.vt_walk.specs.States.{WalkState};
 ghost use Rattle.vt_walk.specs.Walks.{WalkGiven, WalkNames, AreSettings, given_by};
-ghost use Rattle.vt_walk.specs.Written.{IsDrawnBySome, IsWritten};
+ghost use Rattle.vt_walk.specs.DrawnBy.{IsDrawnBySome};
+ghost use Rattle.vt_walk.specs.Written.{IsWritten};
 ghost use Rattle.vt_replay.specs.Outcomes.{IsReplayable};
 ghost use Rattle.vt_replay.specs.Trying.{Under};
 ghost use Rattle.vt_replay.specs.Replayed.{last_lines, pictures_of, replay_file, expected_replay};
@@ -44,7 +45,7 @@ pub fn journal_tells_its_run()
 pub fn replay_gives_the_written_picture<M: PassMachine>()
     ensures { (under : Under) (g : WalkGiven) (b : List ℕ) (run : List WalkPass) (picture : ℕ) (bytes : List ℕ) → IsOfStore under g b
         → IsRun g.setup run
-        → picture < pictures_of (passes_told g.setup run) → IsWritten (IsDrawnBySome M.drawn) g run picture bytes
+        → picture < pictures_of (passes_told g.setup run) → IsWritten (IsDrawnBySome M.PassMachine) g run picture bytes
         → bytes ≡ replay_file under (stored b) g.scene (content_changes g.scene.shape (run_content g.setup run))
         (passes_told g.setup run) picture }
 {}
@@ -55,7 +56,7 @@ pub fn replay_gives_what_stands<M: PassMachine>()
     ensures { (under : Under) (g : WalkGiven) (b prefix : List ℕ) (run : List WalkPass) (pictures : List (List ℕ))
         (first now : WalkState)
         → IsOfStore under g b
-        → Stands (IsDrawnBySome M.drawn) g run pictures first now
+        → Stands (IsDrawnBySome M.PassMachine) g run pictures first now
         → let file = replay_file under (stored b) g.scene (content_changes g.scene.shape (run_content g.setup run))
         (passes_told g.setup run) in
         expected_pictures prefix file (length pictures) ≡ named_pictures prefix pictures }
@@ -66,23 +67,23 @@ pub fn replay_gives_what_stands<M: PassMachine>()
 /// and no more, under its names or others; so in the walk's own folder a replay leaves what it holds.
 pub fn replay_gives_the_walk<M: PassMachine>()
     ensures replayable { (under : Under) (g : WalkGiven) (b : List ℕ) (first last : WalkState) → IsOfStore under g b → IsWalkSetup g.setup
-        → (walk : Finished (IsDrawnBySome M.drawn) g first last)
+        → (walk : Finished (IsDrawnBySome M.PassMachine) g first last)
         → IsReplayable g.scene.shape g.scene.path (run_text g.setup walk.run) (run_content g.setup walk.run) }
     ensures count { (under : Under) (g : WalkGiven) (b : List ℕ) (first last : WalkState) (content : Content) → IsOfStore under g b
         → IsWalkSetup g.setup
-        → (walk : Finished (IsDrawnBySome M.drawn) g first last)
+        → (walk : Finished (IsDrawnBySome M.PassMachine) g first last)
         → IsReplayable g.scene.shape g.scene.path (run_text g.setup walk.run) content
         → pictures_of content.passes ≡ g.setup.pictures }
     ensures expected { (under : Under) (g : WalkGiven) (b prefix : List ℕ) (first last : WalkState) (content : Content) → IsOfStore under g b
         → IsWalkSetup g.setup
-        → (walk : Finished (IsDrawnBySome M.drawn) g first last)
+        → (walk : Finished (IsDrawnBySome M.PassMachine) g first last)
         → IsReplayable g.scene.shape g.scene.path (run_text g.setup walk.run) content
         → expected_replay under g.scene.shape g.scene.depth b g.scene.path prefix content ≡ named_pictures prefix walk.pictures }
     ensures files { (prefix : List ℕ) (pictures : List (List ℕ)) (files : Files)
         → with_files (named_pictures prefix pictures) files ≡ with_pictures prefix pictures files }
     ensures again { (under : Under) (g : WalkGiven) (b : List ℕ) (first last : WalkState) (content : Content) → IsOfStore under g b
         → IsWalkSetup g.setup
-        → (walk : Finished (IsDrawnBySome M.drawn) g first last)
+        → (walk : Finished (IsDrawnBySome M.PassMachine) g first last)
         → IsReplayable g.scene.shape g.scene.path (run_text g.setup walk.run) content → IsApart g.names
         → option_map (with_files (expected_replay under g.scene.shape g.scene.depth b g.scene.path g.names.prefix content))
         last.files

@@ -4,11 +4,11 @@ ghost use Rattle.std.specs.Prelude.{◌≡◌, ◌<◌, ◌≤◌, [], true, fal
 ghost use Rattle.vt_outside.specs.Files.{bytes_at};
 ghost use Rattle.vt_tiles.specs.Pages.{pinned_of};
 ghost use Rattle.vt_walk.specs.Nearest.{nearest};
+ghost use Rattle.vt_walk.specs.DrawnBy.{IsDrawnBySome};
 ghost use Rattle.vt_walk.specs.Walks.{given_to, AreSettings};
 ghost use Rattle.vt_walk.specs.States.{AreOpen};
 ghost use Rattle.vt_walk.specs.WalkEffects.{walk_effect, file_of, Walks};
 ghost use Rattle.vt_walk.specs.Closing.{AreOtherNamesAsBefore};
-ghost use Rattle.vt_word_walks.specs.WordDrawn.{drawn_over};
 
 use std::alloc::Global;
 use std::sync::Wait;
@@ -16,9 +16,8 @@ use std::thread::Threads;
 use vt_camera::Path;
 use vt_outside::{Folder, Gate, Sink};
 use vt_pass::WordMachine;
-use vt_pictures::{Filter, Nearest};
 use vt_tiles::Store;
-use vt_walk::{Names, Settings, WalkError, walk_with};
+use vt_walk::{Names, PassMachine, Settings, WalkError, walk_with};
 
 /// Walks over all pictures of a path, one pass a picture: what is missing is loaded for the next picture, and a lost
 /// tile is left out. Conditions, refusals and causes are those of `walk_with`, but that `DoesNotFit` does not come.
@@ -38,7 +37,8 @@ pub fn walk_live<Rt: Threads + Wait + Sync, D: Folder, O: Sink, G: Gate + Sync>(
     requires bytes { D.File.bytes store.file ≡ bytes_at (D.files folder.old) names.now.store.now }
     requires tells { is_some (D.File.bytes store.file) ≡ is_some (D.files folder.old) }
     requires opened { AreOpen 1 names.now.store.now (D.asked folder.old) (file_of D.File.File store) }
-    ensures walked { Walks (drawn_over ⟦<Nearest as Filter>⟧ D.File.File) (given_to nearest D.File.File store path.now names.now settings.now false)
+    ensures walked { Walks (IsDrawnBySome ⟦<WordMachine<D::File> as PassMachine>⟧)
+        (given_to nearest D.File.File store path.now names.now settings.now false)
         (walk_effect D.Folder O.Sink names.now.store.now (file_of D.File.File store) [] folder.old folder.new out.old
         out.new) result }
     ensures few { let needed = pinned_of store.shape settings.now.pinned in settings.now.frames < needed
@@ -69,7 +69,8 @@ pub fn walk_settled<Rt: Threads + Wait + Sync, D: Folder, O: Sink, G: Gate + Syn
     requires bytes { D.File.bytes store.file ≡ bytes_at (D.files folder.old) names.now.store.now }
     requires tells { is_some (D.File.bytes store.file) ≡ is_some (D.files folder.old) }
     requires opened { AreOpen 1 names.now.store.now (D.asked folder.old) (file_of D.File.File store) }
-    ensures walked { Walks (drawn_over ⟦<Nearest as Filter>⟧ D.File.File) (given_to nearest D.File.File store path.now names.now settings.now true)
+    ensures walked { Walks (IsDrawnBySome ⟦<WordMachine<D::File> as PassMachine>⟧)
+        (given_to nearest D.File.File store path.now names.now settings.now true)
         (walk_effect D.Folder O.Sink names.now.store.now (file_of D.File.File store) [] folder.old folder.new out.old
         out.new) result }
     ensures few { let needed = pinned_of store.shape settings.now.pinned in settings.now.frames < needed

@@ -40,7 +40,7 @@ pub fn walk<
     gate: &G,
 ) -> Result<(), Refusal<'a>>
     requires { IsLawfulWalk words.now }
-    ensures { EndsBy (walk_spec (kind_of M.drawing M.drawn) (shown_walk words.now))
+    ensures { EndsBy (walk_spec (kind_of M.PassMachine) (shown_walk words.now))
         (call_effect D.Folder O.Sink folder.old folder.new out.old out.new) result }
 {
     let path = read_path(alloc, folder, words.path)?;

@@ -1,6 +1,6 @@
 use Rattle.std.proofs.Common.{sym, ◌∙◌}
 use Rattle.vt_words.specs.Arguments.{texts}
-use Rattle.vt_walk_commands.specs.Machines.{machines_of}
+use Rattle.vt_walk_commands.specs.Machines.{machines_of, kind_of}
 use Rattle.vt_commands.specs.Runs.{run_of}
 use Rattle.vt_commands.specs.Waits.{no_machines}
 use Rattle.vt_commands.proofs.Waits.{by_any}
@@ -8,8 +8,7 @@ use Rattle.vt_commands.proofs.top_call.run.Goals as goal
 
 pub returns : goal.returns
 returns g c =
-    by_any (machines_of g.M.PassMachine.drawing g.M.PassMachine.drawn g.Swap.PassMachine.drawing g.Swap.PassMachine.drawn
-    g.Steal.PassMachine.drawing g.Steal.PassMachine.drawn g.Blend.PassMachine.drawing g.Blend.PassMachine.drawn)
+    by_any (machines_of (kind_of g.M.PassMachine) (kind_of g.Swap.PassMachine) (kind_of g.Steal.PassMachine) (kind_of g.Blend.PassMachine))
     (run_of no_machines g.D.Folder g.O.Sink g.E.Sink (texts c.args.words.now) c.args.folder.now c.run_at_once.new.folder
     c.args.out.now c.run_at_once.new.out c.args.err.now c.run_at_once.new.err)
     c.run_at_once.result (sym c.may_wait.ensures ∙ c.if-may_wait.false) c.run_at_once.ensures

@@ -3,7 +3,7 @@ use Rattle.std.proofs.lemmas.Result.{err_from_is_err_and}
 use Rattle.vt_words.specs.Arguments.{texts}
 use Rattle.vt_commands.specs.Words.{shown}
 use Rattle.vt_command_base.specs.Effects.{call_effect}
-use Rattle.vt_walk_commands.specs.Machines.{machines_of}
+use Rattle.vt_walk_commands.specs.Machines.{machines_of, kind_of}
 use Rattle.vt_commands.proofs.Clauses.{runs_unread, runs_command}
 use Rattle.vt_commands.proofs.Waits.{is_waiting}
 use Rattle.vt_commands.proofs.waiting.do_waiting.Goals as goal
@@ -11,8 +11,7 @@ use Rattle.vt_commands.proofs.waiting.do_waiting.Goals as goal
 pub returns-in_err-command : goal.returns-in_err-command
 returns-in_err-command g c =
     let p = err_from_is_err_and c.from_residual.result c.from_residual.ensures.1 in
-    rw (p.1, p.2) (runs_unread (machines_of g.M.PassMachine.drawing g.M.PassMachine.drawn g.Swap.PassMachine.drawing g.Swap.PassMachine.drawn
-    g.Steal.PassMachine.drawing g.Steal.PassMachine.drawn g.Blend.PassMachine.drawing g.Blend.PassMachine.drawn) _ (texts c.args.words.now) _
+    rw (p.1, p.2) (runs_unread (machines_of (kind_of g.M.PassMachine) (kind_of g.Swap.PassMachine) (kind_of g.Steal.PassMachine) (kind_of g.Blend.PassMachine)) _ (texts c.args.words.now) _
     c.in_err-command.field-0.0 (record { folder = refl; out = refl }) (λ is. c.in_err-command.ensures.usage (ap Err is)))
 
 pub perform_waiting-requires-clause-waits : goal.perform_waiting-requires-clause-waits
@@ -20,7 +19,6 @@ perform_waiting-requires-clause-waits g c lives outlive = is_waiting (texts c.ar
 
 pub returns : goal.returns
 returns g c =
-    runs_command (machines_of g.M.PassMachine.drawing g.M.PassMachine.drawn g.Swap.PassMachine.drawing g.Swap.PassMachine.drawn
-    g.Steal.PassMachine.drawing g.Steal.PassMachine.drawn g.Blend.PassMachine.drawing g.Blend.PassMachine.drawn) _ (texts c.args.words.now)
+    runs_command (machines_of (kind_of g.M.PassMachine) (kind_of g.Swap.PassMachine) (kind_of g.Steal.PassMachine) (kind_of g.Blend.PassMachine)) _ (texts c.args.words.now)
     (call_effect g.D.Folder g.O.Sink c.args.folder.now c.perform_waiting.new.folder c.args.out.now c.perform_waiting.new.out)
     c.perform_waiting.result (shown c.in_ok-command.command) c.in_ok-command.ensures.read c.perform_waiting.ensures

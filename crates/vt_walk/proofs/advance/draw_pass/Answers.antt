@@ -4,7 +4,7 @@ use Rattle.std.specs.Prelude.{length}
 use Rattle.vt_journal.specs.declared.changes.Change.{Change}
 use Rattle.vt_outside.proofs.Untold.{OnErr-all}
 use Rattle.vt_walk.specs.WalkInputs.{input_scene}
-use Rattle.vt_walk.proofs.Advancing.{may_prepare, is_job, read_at_most, read_broken, ran_by_some}
+use Rattle.vt_walk.proofs.Advancing.{may_prepare, is_job, read_at_most, read_broken, ran_anyhow, drawn_by_some}
 use Rattle.vt_walk.proofs.advance.draw_pass.Goals as goal
 
 pub run_pass-requires-clause-may : goal.run_pass-requires-clause-may
@@ -24,9 +24,12 @@ plan_on-requires-clause-ran g c κs within = (
   record {
     may = c.requires.may.2;
     start_is = c.version-start.ensures.version ∙ ap (λ (x : List Change). length x) c.journal.ensures;
-    ran = ran_by_some g.M.PassMachine.drawing g.M.PassMachine.drawn c.run_pass.new.machine
+    ran = ran_anyhow g.M.PassMachine.drawing (g.M.PassMachine.drawn c.run_pass.new.machine)
         (record { scene = input_scene c.args.input.now; picture = c.args.step.picture; batch = c.args.step.batch.elements })
         c.in_ok-report.report (g.M.PassMachine.state c.args.machine.now) (g.M.PassMachine.state c.run_pass.new.machine) c.in_ok-report.ensures.ran;
+    by = drawn_by_some g.M.PassMachine c.run_pass.new.machine
+        (record { scene = input_scene c.args.input.now; picture = c.args.step.picture; batch = c.args.step.batch.elements })
+        c.in_ok-report.report (g.M.PassMachine.state c.args.machine.now) c.in_ok-report.ensures.goes_on c.in_ok-report.ensures.ran;
   },
 )
 
@@ -43,9 +46,12 @@ returns-clause-drawn g c = λ told run may. c.plan_on.ensures
     (record {
       may = may;
       start_is = c.version-start.ensures.version ∙ ap (λ (x : List Change). length x) c.journal.ensures;
-      ran = ran_by_some g.M.PassMachine.drawing g.M.PassMachine.drawn c.run_pass.new.machine
+      ran = ran_anyhow g.M.PassMachine.drawing (g.M.PassMachine.drawn c.run_pass.new.machine)
           (record { scene = input_scene c.args.input.now; picture = c.args.step.picture; batch = c.args.step.batch.elements })
           c.in_ok-report.report (g.M.PassMachine.state c.args.machine.now) (g.M.PassMachine.state c.run_pass.new.machine) c.in_ok-report.ensures.ran;
+      by = drawn_by_some g.M.PassMachine c.run_pass.new.machine
+          (record { scene = input_scene c.args.input.now; picture = c.args.step.picture; batch = c.args.step.batch.elements })
+          c.in_ok-report.report (g.M.PassMachine.state c.args.machine.now) c.in_ok-report.ensures.goes_on c.in_ok-report.ensures.ran;
     })
 
 pub returns-clause-refused : goal.returns-clause-refused

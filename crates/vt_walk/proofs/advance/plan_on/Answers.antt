@@ -1,4 +1,4 @@
-use Rattle.vt_walk.specs.Written.{IsDrawnBySome}
+use Rattle.vt_walk.specs.DrawnBy.{IsDrawnBySome}
 use Rattle.vt_walk.proofs.Advancing.{recency_shape, turn_lawful, has_room, has_drawn}
 use Rattle.vt_walk.proofs.advance.plan_on.Goals as goal
 
@@ -42,6 +42,6 @@ drawn_of-requires-clause-reads g c = (has_room g.M.PassMachine.drawing c.args.in
 
 pub returns : goal.returns
 returns g c = λ b made. has_drawn g.M.PassMachine.drawing c.args.input.now b.told
-    (IsDrawnBySome g.M.PassMachine.drawn) b.run c.args.number c.args.start c.args.step b.machine (g.M.PassMachine.state c.args.machine.now)
+    (IsDrawnBySome g.M.PassMachine) b.run c.args.number c.args.start c.args.step b.machine (g.M.PassMachine.state c.args.machine.now)
     c.args.recency.now c.look_out.new.recency c.counts.result.now c.args.report c.in_ok-outlook.outlook c.drawn_of.result made
     c.counts.ensures c.in_ok-outlook.ensures c.drawn_of.ensures

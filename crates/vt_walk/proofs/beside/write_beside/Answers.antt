@@ -6,15 +6,15 @@ use Rattle.vt_walk_decisions.specs.MachineTypes.crew.PassReport.{PassReport}
 use Rattle.vt_walk_decisions.specs.Passes.{Ends}
 use Rattle.vt_walk.specs.States.{walk_state}
 use Rattle.vt_walk.specs.WalkInputs.{input_scene}
-use Rattle.vt_walk.specs.Written.{IsDrawnBySome}
-use Rattle.vt_walk.proofs.Advancing.{ran_by_some}
+use Rattle.vt_walk.specs.DrawnBy.{IsDrawnBySome}
+use Rattle.vt_walk.proofs.Advancing.{ran_anyhow, drawn_by_some}
 use Rattle.vt_walk.proofs.Besides.{may_prepare_next, is_next_job, next_read, picture_left, line_left, pass_left, pass_ran}
 use Rattle.vt_walk.proofs.beside.write_beside.Goals as goal
 
 pub run_and_write-ran-requires-clause-may : goal.run_and_write-ran-requires-clause-may
 run_and_write-ran-requires-clause-may g c κs within =
     let b = c.requires.stands.0 in
-    may_prepare_next g.M.PassMachine.drawing (IsDrawnBySome g.M.PassMachine.drawn) (g.met.M.PassMachine g.world.𝓛 g.world.𝓜 g.world.𝓡 ((λ s x. x), (λ x. x), (λ x. x), λ x. x)).shows_whole c.args.input.now b.told c.args.number c.args.passed.now b.first
+    may_prepare_next g.M.PassMachine.drawing (IsDrawnBySome g.M.PassMachine) (g.met.M.PassMachine g.world.𝓛 g.world.𝓜 g.world.𝓡 ((λ s x. x), (λ x. x), (λ x. x), λ x. x)).shows_whole c.args.input.now b.told c.args.number c.args.passed.now b.first
     (g.M.PassMachine.state c.args.machine.now) c.args.recency.now c.requires.input c.requires.goes_on c.requires.followed
     (walk_state g.D.Folder c.args.input.now.names.store.now c.args.folder.now (b.kept ∷ (g.M.PassMachine.state c.args.machine.now).files)
     (g.O.Sink.held c.args.out.now) (g.O.Sink.faults c.args.out.now)) c.requires.stands.1 c.requires.few
@@ -22,7 +22,7 @@ run_and_write-ran-requires-clause-may g c κs within =
 pub run_and_write-ran-requires-clause-job : goal.run_and_write-ran-requires-clause-job
 run_and_write-ran-requires-clause-job g c κs within =
     let b = c.requires.stands.0 in
-    is_next_job g.M.PassMachine.drawing (IsDrawnBySome g.M.PassMachine.drawn) (g.met.M.PassMachine g.world.𝓛 g.world.𝓜 g.world.𝓡 ((λ s x. x), (λ x. x), (λ x. x), λ x. x)).shows_whole c.args.input.now b.told c.args.number c.args.passed.now b.first
+    is_next_job g.M.PassMachine.drawing (IsDrawnBySome g.M.PassMachine) (g.met.M.PassMachine g.world.𝓛 g.world.𝓜 g.world.𝓡 ((λ s x. x), (λ x. x), (λ x. x), λ x. x)).shows_whole c.args.input.now b.told c.args.number c.args.passed.now b.first
     (g.M.PassMachine.state c.args.machine.now) c.args.recency.now c.requires.input c.requires.goes_on c.requires.followed
     (walk_state g.D.Folder c.args.input.now.names.store.now c.args.folder.now (b.kept ∷ (g.M.PassMachine.state c.args.machine.now).files)
     (g.O.Sink.held c.args.out.now) (g.O.Sink.faults c.args.out.now)) c.requires.stands.1
@@ -30,12 +30,12 @@ run_and_write-ran-requires-clause-job g c κs within =
 pub returns-in_err-written-clause-ran : goal.returns-in_err-written-clause-ran
 returns-in_err-written-clause-ran g c =
     let p = err_from_is_err_and c.from_residual.result c.from_residual.ensures.1 in
-    λ b at. rw p.1 (picture_left g.M.PassMachine.drawing (IsDrawnBySome g.M.PassMachine.drawn) (g.met.M.PassMachine g.world.𝓛 g.world.𝓜 g.world.𝓡 ((λ s x. x), (λ x. x), (λ x. x), λ x. x)).shows_whole c.args.input.now b.told c.args.number c.args.passed.now b.first
+    λ b at. rw p.1 (picture_left g.M.PassMachine.drawing (IsDrawnBySome g.M.PassMachine) (g.met.M.PassMachine g.world.𝓛 g.world.𝓜 g.world.𝓡 ((λ s x. x), (λ x. x), (λ x. x), λ x. x)).shows_whole c.args.input.now b.told c.args.number c.args.passed.now b.first
     (g.M.PassMachine.state c.args.machine.now) c.args.recency.now c.requires.input c.requires.goes_on c.requires.followed
     g.D.Folder c.args.input.now.names.store.now b.kept (g.O.Sink.held c.args.out.now) (g.O.Sink.faults c.args.out.now) c.args.folder.now
     c.run_and_write-ran.new.folder c.args.name.now c.args.bytes.now c.run_and_write-ran.result.1 (g.M.PassMachine.state c.run_and_write-ran.new.machine)
     c.requires.name c.requires.bytes c.run_and_write-ran.ensures.written
-    (next_read g.M.PassMachine.drawing (IsDrawnBySome g.M.PassMachine.drawn) (g.met.M.PassMachine g.world.𝓛 g.world.𝓜 g.world.𝓡 ((λ s x. x), (λ x. x), (λ x. x), λ x. x)).shows_whole c.args.input.now b.told c.args.number c.args.passed.now b.first
+    (next_read g.M.PassMachine.drawing (IsDrawnBySome g.M.PassMachine) (g.met.M.PassMachine g.world.𝓛 g.world.𝓜 g.world.𝓡 ((λ s x. x), (λ x. x), (λ x. x), λ x. x)).shows_whole c.args.input.now b.told c.args.number c.args.passed.now b.first
     (g.M.PassMachine.state c.args.machine.now) c.args.recency.now c.requires.input c.requires.goes_on c.requires.followed
     (walk_state g.D.Folder c.args.input.now.names.store.now c.args.folder.now (b.kept ∷ (g.M.PassMachine.state c.args.machine.now).files)
     (g.O.Sink.held c.args.out.now) (g.O.Sink.faults c.args.out.now)) at
@@ -45,12 +45,12 @@ returns-in_err-written-clause-ran g c =
 pub returns-in_err-put_picture_line-clause-ran : goal.returns-in_err-put_picture_line-clause-ran
 returns-in_err-put_picture_line-clause-ran g c =
     let p = err_from_is_err_and c.from_residual-in_err-put_picture_line.result c.from_residual-in_err-put_picture_line.ensures.1 in
-    λ b at. rw p.1 (line_left g.M.PassMachine.drawing (IsDrawnBySome g.M.PassMachine.drawn) (g.met.M.PassMachine g.world.𝓛 g.world.𝓜 g.world.𝓡 ((λ s x. x), (λ x. x), (λ x. x), λ x. x)).shows_whole c.args.input.now b.told c.args.number c.args.passed.now b.first
+    λ b at. rw p.1 (line_left g.M.PassMachine.drawing (IsDrawnBySome g.M.PassMachine) (g.met.M.PassMachine g.world.𝓛 g.world.𝓜 g.world.𝓡 ((λ s x. x), (λ x. x), (λ x. x), λ x. x)).shows_whole c.args.input.now b.told c.args.number c.args.passed.now b.first
     (g.M.PassMachine.state c.args.machine.now) c.args.recency.now c.requires.input c.requires.goes_on c.requires.followed
     g.D.Folder c.args.input.now.names.store.now b.kept (g.O.Sink.held c.args.out.now) (g.O.Sink.faults c.args.out.now) c.args.folder.now
     c.run_and_write-ran.new.folder c.args.name.now c.args.bytes.now c.run_and_write-ran.result.1 (g.M.PassMachine.state c.run_and_write-ran.new.machine)
     c.requires.name c.requires.bytes c.run_and_write-ran.ensures.written
-    (next_read g.M.PassMachine.drawing (IsDrawnBySome g.M.PassMachine.drawn) (g.met.M.PassMachine g.world.𝓛 g.world.𝓜 g.world.𝓡 ((λ s x. x), (λ x. x), (λ x. x), λ x. x)).shows_whole c.args.input.now b.told c.args.number c.args.passed.now b.first
+    (next_read g.M.PassMachine.drawing (IsDrawnBySome g.M.PassMachine) (g.met.M.PassMachine g.world.𝓛 g.world.𝓜 g.world.𝓡 ((λ s x. x), (λ x. x), (λ x. x), λ x. x)).shows_whole c.args.input.now b.told c.args.number c.args.passed.now b.first
     (g.M.PassMachine.state c.args.machine.now) c.args.recency.now c.requires.input c.requires.goes_on c.requires.followed
     (walk_state g.D.Folder c.args.input.now.names.store.now c.args.folder.now (b.kept ∷ (g.M.PassMachine.state c.args.machine.now).files)
     (g.O.Sink.held c.args.out.now) (g.O.Sink.faults c.args.out.now)) at
@@ -62,12 +62,12 @@ returns-in_err-put_picture_line-clause-ran g c =
 pub returns-in_err-report-clause-ran : goal.returns-in_err-report-clause-ran
 returns-in_err-report-clause-ran g c =
     let p = err_from_is_err_and c.from_residual-in_err-report.result c.from_residual-in_err-report.ensures.1 in
-    λ b at. rw p.1 (pass_left g.M.PassMachine.drawing (IsDrawnBySome g.M.PassMachine.drawn) (g.met.M.PassMachine g.world.𝓛 g.world.𝓜 g.world.𝓡 ((λ s x. x), (λ x. x), (λ x. x), λ x. x)).shows_whole c.args.input.now b.told c.args.number c.args.passed.now b.first
+    λ b at. rw p.1 (pass_left g.M.PassMachine.drawing (IsDrawnBySome g.M.PassMachine) (g.met.M.PassMachine g.world.𝓛 g.world.𝓜 g.world.𝓡 ((λ s x. x), (λ x. x), (λ x. x), λ x. x)).shows_whole c.args.input.now b.told c.args.number c.args.passed.now b.first
     (g.M.PassMachine.state c.args.machine.now) c.args.recency.now c.requires.input c.requires.goes_on c.requires.followed
     g.D.Folder c.args.input.now.names.store.now b.kept (g.O.Sink.held c.args.out.now) (g.O.Sink.faults c.args.out.now) c.args.folder.now
     c.run_and_write-ran.new.folder c.args.name.now c.args.bytes.now c.run_and_write-ran.result.1 (g.M.PassMachine.state c.run_and_write-ran.new.machine)
     c.requires.name c.requires.bytes c.run_and_write-ran.ensures.written
-    (next_read g.M.PassMachine.drawing (IsDrawnBySome g.M.PassMachine.drawn) (g.met.M.PassMachine g.world.𝓛 g.world.𝓜 g.world.𝓡 ((λ s x. x), (λ x. x), (λ x. x), λ x. x)).shows_whole c.args.input.now b.told c.args.number c.args.passed.now b.first
+    (next_read g.M.PassMachine.drawing (IsDrawnBySome g.M.PassMachine) (g.met.M.PassMachine g.world.𝓛 g.world.𝓜 g.world.𝓡 ((λ s x. x), (λ x. x), (λ x. x), λ x. x)).shows_whole c.args.input.now b.told c.args.number c.args.passed.now b.first
     (g.M.PassMachine.state c.args.machine.now) c.args.recency.now c.requires.input c.requires.goes_on c.requires.followed
     (walk_state g.D.Folder c.args.input.now.names.store.now c.args.folder.now (b.kept ∷ (g.M.PassMachine.state c.args.machine.now).files)
     (g.O.Sink.held c.args.out.now) (g.O.Sink.faults c.args.out.now)) at
@@ -84,94 +84,77 @@ returns-clause-ran g c =
     (g.M.PassMachine.is_idle c.run_and_write-ran.new.machine)
     (record { scene = input_scene c.args.input.now; picture = c.args.passed.now.picture + 1; batch = c.args.passed.now.outlook.plan.elements })
     r (g.M.PassMachine.state c.args.machine.now) (g.M.PassMachine.state c.run_and_write-ran.new.machine)) c.in_ok-report.was c.run_and_write-ran.ensures.ran in
-    λ b at. pass_ran g.M.PassMachine.drawing (IsDrawnBySome g.M.PassMachine.drawn) (g.met.M.PassMachine g.world.𝓛 g.world.𝓜 g.world.𝓡 ((λ s x. x), (λ x. x), (λ x. x), λ x. x)).shows_whole c.args.input.now b.told c.args.number c.args.passed.now b.first
+    λ b at. pass_ran g.M.PassMachine.drawing (IsDrawnBySome g.M.PassMachine) (g.met.M.PassMachine g.world.𝓛 g.world.𝓜 g.world.𝓡 ((λ s x. x), (λ x. x), (λ x. x), λ x. x)).shows_whole c.args.input.now b.told c.args.number c.args.passed.now b.first
     (g.M.PassMachine.state c.args.machine.now) c.args.recency.now c.requires.input c.requires.goes_on c.requires.followed
     g.D.Folder c.args.input.now.names.store.now b.kept (g.O.Sink.held c.args.out.now) (g.O.Sink.faults c.args.out.now) c.args.folder.now
     c.run_and_write-ran.new.folder c.args.name.now c.args.bytes.now c.run_and_write-ran.result.1 (g.M.PassMachine.state c.run_and_write-ran.new.machine)
     c.requires.name c.requires.bytes c.run_and_write-ran.ensures.written
-    (next_read g.M.PassMachine.drawing (IsDrawnBySome g.M.PassMachine.drawn) (g.met.M.PassMachine g.world.𝓛 g.world.𝓜 g.world.𝓡 ((λ s x. x), (λ x. x), (λ x. x), λ x. x)).shows_whole c.args.input.now b.told c.args.number c.args.passed.now b.first
+    (next_read g.M.PassMachine.drawing (IsDrawnBySome g.M.PassMachine) (g.met.M.PassMachine g.world.𝓛 g.world.𝓜 g.world.𝓡 ((λ s x. x), (λ x. x), (λ x. x), λ x. x)).shows_whole c.args.input.now b.told c.args.number c.args.passed.now b.first
     (g.M.PassMachine.state c.args.machine.now) c.args.recency.now c.requires.input c.requires.goes_on c.requires.followed
     (walk_state g.D.Folder c.args.input.now.names.store.now c.args.folder.now (b.kept ∷ (g.M.PassMachine.state c.args.machine.now).files)
     (g.O.Sink.held c.args.out.now) (g.O.Sink.faults c.args.out.now)) at
     (g.M.PassMachine.drawn c.run_and_write-ran.new.machine) (g.M.PassMachine.is_idle c.run_and_write-ran.new.machine) (g.M.PassMachine.state c.run_and_write-ran.new.machine) c.run_and_write-ran.result.0
     c.run_and_write-ran.ensures.ran) at _ c.in_ok-written.was (g.O.Sink.held c.put_picture_line.new.out) (g.O.Sink.faults c.put_picture_line.new.out)
     c.in_ok-put_picture_line.ensures.whole c.in_ok-put_picture_line.ensures.faults c.in_ok-report.report
-    (ran_by_some g.M.PassMachine.drawing g.M.PassMachine.drawn c.run_and_write-ran.new.machine
+    (ran_anyhow g.M.PassMachine.drawing (g.M.PassMachine.drawn c.run_and_write-ran.new.machine)
     (record { scene = input_scene c.args.input.now; picture = c.args.passed.now.picture + 1; batch = c.args.passed.now.outlook.plan.elements })
     c.in_ok-report.report (g.M.PassMachine.state c.args.machine.now) (g.M.PassMachine.state c.run_and_write-ran.new.machine) ends.ran)
+    (drawn_by_some g.M.PassMachine c.run_and_write-ran.new.machine
+    (record { scene = input_scene c.args.input.now; picture = c.args.passed.now.picture + 1; batch = c.args.passed.now.outlook.plan.elements })
+    c.in_ok-report.report (g.M.PassMachine.state c.args.machine.now) ends.goes_on ends.ran)
 
-pub returns-in_err-written-clause-asked : goal.returns-in_err-written-clause-asked
-returns-in_err-written-clause-asked g c = c.run_and_write-ran.ensures.written.asked
+pub returns-in_err-written-clause-kept : goal.returns-in_err-written-clause-kept
+returns-in_err-written-clause-kept g c = record {
+  same = let b = c.requires.stands.0 in
+      (next_read g.M.PassMachine.drawing (IsDrawnBySome g.M.PassMachine) (g.met.M.PassMachine g.world.𝓛 g.world.𝓜 g.world.𝓡 ((λ s x. x), (λ x. x), (λ x. x), λ x. x)).shows_whole c.args.input.now b.told c.args.number c.args.passed.now b.first
+      (g.M.PassMachine.state c.args.machine.now) c.args.recency.now c.requires.input c.requires.goes_on c.requires.followed
+      (walk_state g.D.Folder c.args.input.now.names.store.now c.args.folder.now (b.kept ∷ (g.M.PassMachine.state c.args.machine.now).files)
+      (g.O.Sink.held c.args.out.now) (g.O.Sink.faults c.args.out.now)) c.requires.stands.1
+      (g.M.PassMachine.drawn c.run_and_write-ran.new.machine) (g.M.PassMachine.is_idle c.run_and_write-ran.new.machine)
+      (g.M.PassMachine.state c.run_and_write-ran.new.machine) c.run_and_write-ran.result.0 c.run_and_write-ran.ensures.ran).same;
+  asked = c.run_and_write-ran.ensures.written.asked;
+  faults = c.run_and_write-ran.ensures.written.faults;
+  out_faults = omega arith;
+}
 
-pub returns-in_err-written-clause-faults : goal.returns-in_err-written-clause-faults
-returns-in_err-written-clause-faults g c = c.run_and_write-ran.ensures.written.faults
+pub returns-in_err-put_picture_line-clause-kept : goal.returns-in_err-put_picture_line-clause-kept
+returns-in_err-put_picture_line-clause-kept g c = record {
+  same = let b = c.requires.stands.0 in
+      (next_read g.M.PassMachine.drawing (IsDrawnBySome g.M.PassMachine) (g.met.M.PassMachine g.world.𝓛 g.world.𝓜 g.world.𝓡 ((λ s x. x), (λ x. x), (λ x. x), λ x. x)).shows_whole c.args.input.now b.told c.args.number c.args.passed.now b.first
+      (g.M.PassMachine.state c.args.machine.now) c.args.recency.now c.requires.input c.requires.goes_on c.requires.followed
+      (walk_state g.D.Folder c.args.input.now.names.store.now c.args.folder.now (b.kept ∷ (g.M.PassMachine.state c.args.machine.now).files)
+      (g.O.Sink.held c.args.out.now) (g.O.Sink.faults c.args.out.now)) c.requires.stands.1
+      (g.M.PassMachine.drawn c.run_and_write-ran.new.machine) (g.M.PassMachine.is_idle c.run_and_write-ran.new.machine)
+      (g.M.PassMachine.state c.run_and_write-ran.new.machine) c.run_and_write-ran.result.0 c.run_and_write-ran.ensures.ran).same;
+  asked = c.run_and_write-ran.ensures.written.asked;
+  faults = c.run_and_write-ran.ensures.written.faults;
+  out_faults = c.put_picture_line.ensures.faults;
+}
 
-pub returns-in_err-written-clause-out_faults : goal.returns-in_err-written-clause-out_faults
-returns-in_err-written-clause-out_faults g c = omega arith
+pub returns-in_err-report-clause-kept : goal.returns-in_err-report-clause-kept
+returns-in_err-report-clause-kept g c = record {
+  same = let b = c.requires.stands.0 in
+      (next_read g.M.PassMachine.drawing (IsDrawnBySome g.M.PassMachine) (g.met.M.PassMachine g.world.𝓛 g.world.𝓜 g.world.𝓡 ((λ s x. x), (λ x. x), (λ x. x), λ x. x)).shows_whole c.args.input.now b.told c.args.number c.args.passed.now b.first
+      (g.M.PassMachine.state c.args.machine.now) c.args.recency.now c.requires.input c.requires.goes_on c.requires.followed
+      (walk_state g.D.Folder c.args.input.now.names.store.now c.args.folder.now (b.kept ∷ (g.M.PassMachine.state c.args.machine.now).files)
+      (g.O.Sink.held c.args.out.now) (g.O.Sink.faults c.args.out.now)) c.requires.stands.1
+      (g.M.PassMachine.drawn c.run_and_write-ran.new.machine) (g.M.PassMachine.is_idle c.run_and_write-ran.new.machine)
+      (g.M.PassMachine.state c.run_and_write-ran.new.machine) c.run_and_write-ran.result.0 c.run_and_write-ran.ensures.ran).same;
+  asked = c.run_and_write-ran.ensures.written.asked;
+  faults = c.run_and_write-ran.ensures.written.faults;
+  out_faults = c.put_picture_line.ensures.faults;
+}
 
-pub returns-in_err-written-clause-same : goal.returns-in_err-written-clause-same
-returns-in_err-written-clause-same g c =
-    let b = c.requires.stands.0 in
-    (next_read g.M.PassMachine.drawing (IsDrawnBySome g.M.PassMachine.drawn) (g.met.M.PassMachine g.world.𝓛 g.world.𝓜 g.world.𝓡 ((λ s x. x), (λ x. x), (λ x. x), λ x. x)).shows_whole c.args.input.now b.told c.args.number c.args.passed.now b.first
-    (g.M.PassMachine.state c.args.machine.now) c.args.recency.now c.requires.input c.requires.goes_on c.requires.followed
-    (walk_state g.D.Folder c.args.input.now.names.store.now c.args.folder.now (b.kept ∷ (g.M.PassMachine.state c.args.machine.now).files)
-    (g.O.Sink.held c.args.out.now) (g.O.Sink.faults c.args.out.now)) c.requires.stands.1
-    (g.M.PassMachine.drawn c.run_and_write-ran.new.machine) (g.M.PassMachine.is_idle c.run_and_write-ran.new.machine)
-    (g.M.PassMachine.state c.run_and_write-ran.new.machine) c.run_and_write-ran.result.0 c.run_and_write-ran.ensures.ran).same
-
-pub returns-in_err-put_picture_line-clause-asked : goal.returns-in_err-put_picture_line-clause-asked
-returns-in_err-put_picture_line-clause-asked g c = c.run_and_write-ran.ensures.written.asked
-
-pub returns-in_err-put_picture_line-clause-faults : goal.returns-in_err-put_picture_line-clause-faults
-returns-in_err-put_picture_line-clause-faults g c = c.run_and_write-ran.ensures.written.faults
-
-pub returns-in_err-put_picture_line-clause-out_faults : goal.returns-in_err-put_picture_line-clause-out_faults
-returns-in_err-put_picture_line-clause-out_faults g c = c.put_picture_line.ensures.faults
-
-pub returns-in_err-put_picture_line-clause-same : goal.returns-in_err-put_picture_line-clause-same
-returns-in_err-put_picture_line-clause-same g c =
-    let b = c.requires.stands.0 in
-    (next_read g.M.PassMachine.drawing (IsDrawnBySome g.M.PassMachine.drawn) (g.met.M.PassMachine g.world.𝓛 g.world.𝓜 g.world.𝓡 ((λ s x. x), (λ x. x), (λ x. x), λ x. x)).shows_whole c.args.input.now b.told c.args.number c.args.passed.now b.first
-    (g.M.PassMachine.state c.args.machine.now) c.args.recency.now c.requires.input c.requires.goes_on c.requires.followed
-    (walk_state g.D.Folder c.args.input.now.names.store.now c.args.folder.now (b.kept ∷ (g.M.PassMachine.state c.args.machine.now).files)
-    (g.O.Sink.held c.args.out.now) (g.O.Sink.faults c.args.out.now)) c.requires.stands.1
-    (g.M.PassMachine.drawn c.run_and_write-ran.new.machine) (g.M.PassMachine.is_idle c.run_and_write-ran.new.machine)
-    (g.M.PassMachine.state c.run_and_write-ran.new.machine) c.run_and_write-ran.result.0 c.run_and_write-ran.ensures.ran).same
-
-pub returns-in_err-report-clause-asked : goal.returns-in_err-report-clause-asked
-returns-in_err-report-clause-asked g c = c.run_and_write-ran.ensures.written.asked
-
-pub returns-in_err-report-clause-faults : goal.returns-in_err-report-clause-faults
-returns-in_err-report-clause-faults g c = c.run_and_write-ran.ensures.written.faults
-
-pub returns-in_err-report-clause-out_faults : goal.returns-in_err-report-clause-out_faults
-returns-in_err-report-clause-out_faults g c = c.put_picture_line.ensures.faults
-
-pub returns-in_err-report-clause-same : goal.returns-in_err-report-clause-same
-returns-in_err-report-clause-same g c =
-    let b = c.requires.stands.0 in
-    (next_read g.M.PassMachine.drawing (IsDrawnBySome g.M.PassMachine.drawn) (g.met.M.PassMachine g.world.𝓛 g.world.𝓜 g.world.𝓡 ((λ s x. x), (λ x. x), (λ x. x), λ x. x)).shows_whole c.args.input.now b.told c.args.number c.args.passed.now b.first
-    (g.M.PassMachine.state c.args.machine.now) c.args.recency.now c.requires.input c.requires.goes_on c.requires.followed
-    (walk_state g.D.Folder c.args.input.now.names.store.now c.args.folder.now (b.kept ∷ (g.M.PassMachine.state c.args.machine.now).files)
-    (g.O.Sink.held c.args.out.now) (g.O.Sink.faults c.args.out.now)) c.requires.stands.1
-    (g.M.PassMachine.drawn c.run_and_write-ran.new.machine) (g.M.PassMachine.is_idle c.run_and_write-ran.new.machine)
-    (g.M.PassMachine.state c.run_and_write-ran.new.machine) c.run_and_write-ran.result.0 c.run_and_write-ran.ensures.ran).same
-
-pub returns-clause-asked : goal.returns-clause-asked
-returns-clause-asked g c = c.run_and_write-ran.ensures.written.asked
-
-pub returns-clause-faults : goal.returns-clause-faults
-returns-clause-faults g c = c.run_and_write-ran.ensures.written.faults
-
-pub returns-clause-out_faults : goal.returns-clause-out_faults
-returns-clause-out_faults g c = c.put_picture_line.ensures.faults
-
-pub returns-clause-same : goal.returns-clause-same
-returns-clause-same g c =
-    let b = c.requires.stands.0 in
-    (next_read g.M.PassMachine.drawing (IsDrawnBySome g.M.PassMachine.drawn) (g.met.M.PassMachine g.world.𝓛 g.world.𝓜 g.world.𝓡 ((λ s x. x), (λ x. x), (λ x. x), λ x. x)).shows_whole c.args.input.now b.told c.args.number c.args.passed.now b.first
-    (g.M.PassMachine.state c.args.machine.now) c.args.recency.now c.requires.input c.requires.goes_on c.requires.followed
-    (walk_state g.D.Folder c.args.input.now.names.store.now c.args.folder.now (b.kept ∷ (g.M.PassMachine.state c.args.machine.now).files)
-    (g.O.Sink.held c.args.out.now) (g.O.Sink.faults c.args.out.now)) c.requires.stands.1
-    (g.M.PassMachine.drawn c.run_and_write-ran.new.machine) (g.M.PassMachine.is_idle c.run_and_write-ran.new.machine)
-    (g.M.PassMachine.state c.run_and_write-ran.new.machine) c.run_and_write-ran.result.0 c.run_and_write-ran.ensures.ran).same
+pub returns-clause-kept : goal.returns-clause-kept
+returns-clause-kept g c = record {
+  same = let b = c.requires.stands.0 in
+      (next_read g.M.PassMachine.drawing (IsDrawnBySome g.M.PassMachine) (g.met.M.PassMachine g.world.𝓛 g.world.𝓜 g.world.𝓡 ((λ s x. x), (λ x. x), (λ x. x), λ x. x)).shows_whole c.args.input.now b.told c.args.number c.args.passed.now b.first
+      (g.M.PassMachine.state c.args.machine.now) c.args.recency.now c.requires.input c.requires.goes_on c.requires.followed
+      (walk_state g.D.Folder c.args.input.now.names.store.now c.args.folder.now (b.kept ∷ (g.M.PassMachine.state c.args.machine.now).files)
+      (g.O.Sink.held c.args.out.now) (g.O.Sink.faults c.args.out.now)) c.requires.stands.1
+      (g.M.PassMachine.drawn c.run_and_write-ran.new.machine) (g.M.PassMachine.is_idle c.run_and_write-ran.new.machine)
+      (g.M.PassMachine.state c.run_and_write-ran.new.machine) c.run_and_write-ran.result.0 c.run_and_write-ran.ensures.ran).same;
+  asked = c.run_and_write-ran.ensures.written.asked;
+  faults = c.run_and_write-ran.ensures.written.faults;
+  out_faults = c.put_picture_line.ensures.faults;
+}

@@ -3,7 +3,7 @@ use Rattle.std.proofs.lemmas.Result.{err_from_is_err_and}
 use Rattle.vt_outside.specs.declared.answers.OutsideError.TheVariants.{NoMemory}
 use Rattle.vt_tiles.specs.StoreViews.{IsStoreIfTold}
 use Rattle.vt_walk_decisions.specs.Machines.{file_state}
-use Rattle.vt_walk.specs.Written.{IsDrawnBySome}
+use Rattle.vt_walk.specs.DrawnBy.{IsDrawnBySome}
 use Rattle.vt_walk.proofs.Beginning.{pinned_broke, head_broke, head_stands, pages_pinned}
 use Rattle.vt_walk.proofs.walk.begin.Goals as goal
 
@@ -11,7 +11,7 @@ pub returns-in_err-place_pinned-clause-begun : goal.returns-in_err-place_pinned-
 returns-in_err-place_pinned-clause-begun g c =
     let p = err_from_is_err_and c.from_residual.result c.from_residual.ensures.1 in
     λ held out_faults. rw p.1 (pinned_broke g.M.PassMachine.drawing
-    (IsDrawnBySome g.M.PassMachine.drawn) c.args.input.now
+    (IsDrawnBySome g.M.PassMachine) c.args.input.now
     (g.D.File.File.bytes c.args.store.now.file) c.args.store.now.depth c.args.input.now.names.store.now
     (file_state g.D.File.File c.args.store.now.file) (file_state g.D.File.File c.place_pinned.new.store.file)
     (g.D.Folder.files c.args.folder.now) (g.D.Folder.asked c.args.folder.now) (g.D.Folder.faults c.args.folder.now)
@@ -26,7 +26,7 @@ pub returns-in_err-recency-clause-begun : goal.returns-in_err-recency-clause-beg
 returns-in_err-recency-clause-begun g c =
     let p = err_from_is_err_and c.from_residual-in_err-recency.result c.from_residual-in_err-recency.ensures.1 in
     λ held out_faults. rw p.1 (head_broke g.M.PassMachine.drawing
-    (IsDrawnBySome g.M.PassMachine.drawn) c.args.input.now
+    (IsDrawnBySome g.M.PassMachine) c.args.input.now
     (g.D.File.File.bytes c.args.store.now.file) c.args.store.now.depth c.args.input.now.names.store.now
     (file_state g.D.File.File c.args.store.now.file) (file_state g.D.File.File c.place_pinned.new.store.file)
     (g.D.Folder.files c.args.folder.now) (g.D.Folder.asked c.args.folder.now) (g.D.Folder.faults c.args.folder.now)
@@ -40,7 +40,7 @@ returns-in_err-recency-clause-begun g c =
 
 pub begin_journal-requires-after_bounds : goal.begin_journal-requires-after_bounds
 begin_journal-requires-after_bounds g c κs within =
-    pages_pinned g.M.PassMachine.drawing (IsDrawnBySome g.M.PassMachine.drawn) c.args.input.now
+    pages_pinned g.M.PassMachine.drawing (IsDrawnBySome g.M.PassMachine) c.args.input.now
     (g.D.File.File.bytes c.args.store.now.file) c.args.store.now.depth c.args.input.now.names.store.now
     (file_state g.D.File.File c.args.store.now.file) (file_state g.D.File.File c.place_pinned.new.store.file)
     (g.D.Folder.files c.args.folder.now) (g.D.Folder.asked c.args.folder.now) (g.D.Folder.faults c.args.folder.now)
@@ -53,7 +53,7 @@ pub returns-in_err-begin_journal-clause-begun : goal.returns-in_err-begin_journa
 returns-in_err-begin_journal-clause-begun g c =
     let p = err_from_is_err_and c.from_residual-in_err-begin_journal.result c.from_residual-in_err-begin_journal.ensures.1 in
     λ held out_faults. rw p.1 (head_broke g.M.PassMachine.drawing
-    (IsDrawnBySome g.M.PassMachine.drawn) c.args.input.now
+    (IsDrawnBySome g.M.PassMachine) c.args.input.now
     (g.D.File.File.bytes c.args.store.now.file) c.args.store.now.depth c.args.input.now.names.store.now
     (file_state g.D.File.File c.args.store.now.file) (file_state g.D.File.File c.place_pinned.new.store.file)
     (g.D.Folder.files c.args.folder.now) (g.D.Folder.asked c.args.folder.now) (g.D.Folder.faults c.args.folder.now)
@@ -67,7 +67,7 @@ returns-in_err-begin_journal-clause-begun g c =
 
 pub returns-clause-begun : goal.returns-clause-begun
 returns-clause-begun g c = λ held out_faults. head_stands g.M.PassMachine.drawing
-    (IsDrawnBySome g.M.PassMachine.drawn) c.args.input.now
+    (IsDrawnBySome g.M.PassMachine) c.args.input.now
     (g.D.File.File.bytes c.args.store.now.file) c.args.store.now.depth c.args.input.now.names.store.now
     (file_state g.D.File.File c.args.store.now.file) (file_state g.D.File.File c.place_pinned.new.store.file)
     (g.D.Folder.files c.args.folder.now) (g.D.Folder.asked c.args.folder.now) (g.D.Folder.faults c.args.folder.now)

@@ -14,7 +14,7 @@ use Rattle.vt_walk.specs.Walks.{WalkGiven, given_by, mode_of, names_of, AreSetti
 use Rattle.vt_walk.specs.States.{walk_state}
 use Rattle.vt_walk.specs.Standing.{Finished}
 use Rattle.vt_walk.specs.WalkSteps.{LeftByRefusal}
-use Rattle.vt_walk.specs.Written.{IsDrawnBySome}
+use Rattle.vt_walk.specs.DrawnBy.{IsDrawnBySome}
 use Rattle.vt_walk.proofs.Closings.{others_closed}
 use Rattle.vt_walk.proofs.Concluding.{others_chain, store_closed}
 use Rattle.vt_walk.proofs.WalkInputLaws.{some_pinned}
@@ -36,7 +36,7 @@ walk_store-walked-requires-clause-input g c κs within =
 
 pub returns-clause-walked : goal.returns-clause-walked
 returns-clause-walked g c =
-    let drawn = IsDrawnBySome g.M.PassMachine.drawn in
+    let drawn = IsDrawnBySome g.M.PassMachine in
     let name = c.args.names.now.store.now in
     let told = g.D.File.File.bytes c.args.store.file in
     let given = λ (s : Shape) (d : ℕ) (m : Mode). given_by g.M.PassMachine.drawing

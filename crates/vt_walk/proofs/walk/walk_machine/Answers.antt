@@ -7,7 +7,7 @@ use Rattle.vt_walk_decisions.specs.Machines.{file_state, files_of}
 use Rattle.vt_walk.specs.States.{AreOpen}
 use Rattle.vt_walk.specs.Closing.{with_closed, AreOtherNamesAsBefore}
 use Rattle.vt_walk.specs.WalkInputs.{given_of}
-use Rattle.vt_walk.specs.Written.{IsDrawnBySome}
+use Rattle.vt_walk.specs.DrawnBy.{IsDrawnBySome}
 use Rattle.vt_walk.proofs.Closings.{closed_tells, others_closed, same_open}
 use Rattle.vt_walk.proofs.Concluding.{open_told, one_open, machine_closed}
 use Rattle.vt_walk.proofs.walk.walk_machine.Goals as goal
@@ -22,7 +22,7 @@ returns-clause-walked g c =
     let left = (g.M.PassMachine.state c.walk_all-walked.new.machine).files in
     let mid = c.walk_all-walked.new.folder in
     let last = c.close_stores.new.folder in
-    machine_closed g.D.Folder c.args.input.now.names.store.now (IsDrawnBySome g.M.PassMachine.drawn)
+    machine_closed g.D.Folder c.args.input.now.names.store.now (IsDrawnBySome g.M.PassMachine)
     (given_of g.M.PassMachine.drawing c.args.input.now
     (g.D.File.File.bytes c.args.store.now.file))
     c.walk_all-walked.result (file_state g.D.File.File c.args.store.now.file) (file_state g.D.File.File c.walk_all-walked.new.store.file)

@@ -5,7 +5,7 @@ use Rattle.vt_walk_decisions.specs.declared.error.WalkError.{WalkError}
 use Rattle.vt_walk.specs.States.{walk_state}
 use Rattle.vt_walk.specs.WalkInputs.{given_of}
 use Rattle.vt_walk.specs.WalkSteps.{LeftByRefusal}
-use Rattle.vt_walk.specs.Written.{IsDrawnBySome}
+use Rattle.vt_walk.specs.DrawnBy.{IsDrawnBySome}
 use Rattle.vt_walk.proofs.Concluding.{told_there, opened_first, refused_first}
 use Rattle.vt_walk.proofs.walk.walk_store.Goals as goal
 
@@ -17,7 +17,7 @@ open_loaders-requires-clause-there g c κs within =
 pub returns-in-Ok-clause-walked : goal.returns-in-Ok-clause-walked
 returns-in-Ok-clause-walked g c =
     let name = c.args.input.now.names.store.now in
-    opened_first g.D.Folder name (IsDrawnBySome g.M.PassMachine.drawn)
+    opened_first g.D.Folder name (IsDrawnBySome g.M.PassMachine)
     (given_of g.M.PassMachine.drawing c.args.input.now
     (g.D.File.File.bytes c.args.store.now.file))
     c.walk_stores.result (file_state g.D.File.File c.args.store.now.file) c.args.folder.now c.open_loaders.new.folder (g.O.Sink.held c.args.out.now)
@@ -28,7 +28,7 @@ returns-in-Ok-clause-walked g c =
 
 pub returns-in-Err-clause-walked : goal.returns-in-Err-clause-walked
 returns-in-Err-clause-walked g c =
-    let drawn = IsDrawnBySome g.M.PassMachine.drawn in
+    let drawn = IsDrawnBySome g.M.PassMachine in
     let given = given_of g.M.PassMachine.drawing c.args.input.now
     (g.D.File.File.bytes c.args.store.now.file) in
     let name = c.args.input.now.names.store.now in

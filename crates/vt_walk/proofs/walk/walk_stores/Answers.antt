@@ -9,7 +9,7 @@ use Rattle.vt_walk.specs.States.{AreOpen, places_of, walk_state}
 use Rattle.vt_walk.specs.Closing.{with_closed}
 use Rattle.vt_walk.specs.WalkInputs.{given_of}
 use Rattle.vt_walk.specs.WalkSteps.{LeftByRefusal}
-use Rattle.vt_walk.specs.Written.{IsDrawnBySome}
+use Rattle.vt_walk.specs.DrawnBy.{IsDrawnBySome}
 use Rattle.vt_walk.proofs.Closings.{closed_tells, others_closed}
 use Rattle.vt_walk.proofs.Concluding.{one_open, stores_closed}
 use Rattle.vt_walk.proofs.walk.walk_stores.Goals as goal
@@ -38,7 +38,7 @@ walk_machine-requires-clause-loaders g c κs within =
 
 pub returns-in-Err-clause-walked : goal.returns-in-Err-clause-walked
 returns-in-Err-clause-walked g c =
-    let drawn = IsDrawnBySome g.M.PassMachine.drawn in
+    let drawn = IsDrawnBySome g.M.PassMachine in
     let given = given_of g.M.PassMachine.drawing c.args.input.now
     (g.D.File.File.bytes c.args.store.now.file) in
     let name = c.args.input.now.names.store.now in

@@ -4,14 +4,14 @@ use Rattle.std.proofs.lemmas.Result.{err_from_is_err_and}
 use Rattle.vt_walk.specs.Walks.{names_of}
 use Rattle.vt_walk.specs.States.{walk_state}
 use Rattle.vt_walk.specs.WalkInputs.{input_scene}
-use Rattle.vt_walk.specs.Written.{IsDrawnBySome}
+use Rattle.vt_walk.specs.DrawnBy.{IsDrawnBySome}
 use Rattle.vt_walk_decisions.specs.Judging.{IsEnd}
 use Rattle.vt_walk.proofs.Ending.{rows_count, rows_full, same_picture, next_picture, picture_broke, line_broke}
 use Rattle.vt_walk.proofs.Going.{room_left}
 use Rattle.vt_walk.proofs.walk_steps.end_step.Goals as goal
 
 pub returns-then-not-is_finished-clause-ended : goal.returns-then-not-is_finished-clause-ended
-returns-then-not-is_finished-clause-ended g c = λ b at. same_picture g.M.PassMachine.drawing (IsDrawnBySome g.M.PassMachine.drawn) g.met.M.PassMachine.shows_whole (input_scene c.args.input.now) c.args.input.now.settings
+returns-then-not-is_finished-clause-ended g c = λ b at. same_picture g.M.PassMachine.drawing (IsDrawnBySome g.M.PassMachine) g.met.M.PassMachine.shows_whole (input_scene c.args.input.now) c.args.input.now.settings
     c.args.input.now.mode b.told (names_of c.args.input.now.names)
     c.args.number c.args.passed b.first (g.M.PassMachine.state c.args.machine.now) c.args.recency.now
     (walk_state g.D.Folder c.args.input.now.names.store.now c.args.folder.now (b.kept ∷ (g.M.PassMachine.state c.args.machine.now).files)
@@ -26,7 +26,7 @@ write_picture-requires-clause-few g c κs within =
 
 pub write_picture-requires-clause-count : goal.write_picture-requires-clause-count
 write_picture-requires-clause-count g c κs within = rows_count g.M.PassMachine.drawing
-    (IsDrawnBySome g.M.PassMachine.drawn) g.met.M.PassMachine.shows_whole (input_scene c.args.input.now) c.args.input.now.settings c.args.input.now.mode
+    (IsDrawnBySome g.M.PassMachine) g.met.M.PassMachine.shows_whole (input_scene c.args.input.now) c.args.input.now.settings c.args.input.now.mode
     c.requires.stands.0.told (names_of c.args.input.now.names)
     c.args.number c.args.passed c.requires.stands.0.first (g.M.PassMachine.state c.args.machine.now) c.args.recency.now
     (walk_state g.D.Folder c.args.input.now.names.store.now c.args.folder.now
@@ -35,7 +35,7 @@ write_picture-requires-clause-count g c κs within = rows_count g.M.PassMachine.
 
 pub write_picture-requires-clause-full : goal.write_picture-requires-clause-full
 write_picture-requires-clause-full g c κs within = rows_full g.M.PassMachine.drawing
-    (IsDrawnBySome g.M.PassMachine.drawn) g.met.M.PassMachine.shows_whole (input_scene c.args.input.now) c.args.input.now.settings c.args.input.now.mode
+    (IsDrawnBySome g.M.PassMachine) g.met.M.PassMachine.shows_whole (input_scene c.args.input.now) c.args.input.now.settings c.args.input.now.mode
     c.requires.stands.0.told (names_of c.args.input.now.names)
     c.args.number c.args.passed c.requires.stands.0.first (g.M.PassMachine.state c.args.machine.now) c.args.recency.now
     (walk_state g.D.Folder c.args.input.now.names.store.now c.args.folder.now
@@ -46,7 +46,7 @@ pub returns-in_err-write_picture-clause-ended : goal.returns-in_err-write_pictur
 returns-in_err-write_picture-clause-ended g c =
     let p = err_from_is_err_and c.from_residual.result c.from_residual.ensures.1 in
     λ b at. rw p.1 (picture_broke g.M.PassMachine.drawing
-    (IsDrawnBySome g.M.PassMachine.drawn) g.met.M.PassMachine.shows_whole (input_scene c.args.input.now) c.args.input.now.settings
+    (IsDrawnBySome g.M.PassMachine) g.met.M.PassMachine.shows_whole (input_scene c.args.input.now) c.args.input.now.settings
     c.args.input.now.mode b.told (names_of c.args.input.now.names)
     c.args.number c.args.passed b.first (g.M.PassMachine.state c.args.machine.now) c.args.recency.now c.args.input.now.names.store.now b.kept
     (g.D.Folder.files c.args.folder.now) (g.D.Folder.files c.write_picture.new.folder)
@@ -64,7 +64,7 @@ pub returns-in_err-put_picture_line-clause-ended : goal.returns-in_err-put_pictu
 returns-in_err-put_picture_line-clause-ended g c =
     let p = err_from_is_err_and c.from_residual-in_err-put_picture_line.result c.from_residual-in_err-put_picture_line.ensures.1 in
     λ b at. rw p.1 (line_broke g.M.PassMachine.drawing
-    (IsDrawnBySome g.M.PassMachine.drawn) g.met.M.PassMachine.shows_whole (input_scene c.args.input.now) c.args.input.now.settings
+    (IsDrawnBySome g.M.PassMachine) g.met.M.PassMachine.shows_whole (input_scene c.args.input.now) c.args.input.now.settings
     c.args.input.now.mode b.told (names_of c.args.input.now.names)
     c.args.number c.args.passed b.first (g.M.PassMachine.state c.args.machine.now) c.args.recency.now c.args.input.now.names.store.now b.kept
     (g.D.Folder.files c.args.folder.now) (g.D.Folder.files c.write_picture.new.folder)
@@ -84,7 +84,7 @@ overflow_add-result g c =
 
 pub returns-clause-ended : goal.returns-clause-ended
 returns-clause-ended g c = λ b at. next_picture g.M.PassMachine.drawing
-    (IsDrawnBySome g.M.PassMachine.drawn) g.met.M.PassMachine.shows_whole (input_scene c.args.input.now) c.args.input.now.settings c.args.input.now.mode
+    (IsDrawnBySome g.M.PassMachine) g.met.M.PassMachine.shows_whole (input_scene c.args.input.now) c.args.input.now.settings c.args.input.now.mode
     b.told (names_of c.args.input.now.names)
     c.args.number c.args.passed b.first (g.M.PassMachine.state c.args.machine.now) c.args.recency.now c.args.input.now.names.store.now b.kept
     (g.D.Folder.files c.args.folder.now) (g.D.Folder.files c.write_picture.new.folder)
@@ -98,38 +98,34 @@ returns-clause-ended g c = λ b at. next_picture g.M.PassMachine.drawing
     c.in_ok-write_picture.ensures.asked c.in_ok-write_picture.ensures.faults
     c.in_ok-put_picture_line.ensures.faults c.new.result c.new.ensures
 
-pub returns-then-not-is_finished-clause-asked : goal.returns-then-not-is_finished-clause-asked
-returns-then-not-is_finished-clause-asked g c = refl
+pub returns-then-not-is_finished-clause-kept : goal.returns-then-not-is_finished-clause-kept
+returns-then-not-is_finished-clause-kept g c = record {
+  same = record { names = refl; tell = refl };
+  asked = refl;
+  faults = omega arith;
+  out_faults = omega arith;
+}
 
-pub returns-then-not-is_finished-clause-faults : goal.returns-then-not-is_finished-clause-faults
-returns-then-not-is_finished-clause-faults g c = omega arith
+pub returns-in_err-write_picture-clause-kept : goal.returns-in_err-write_picture-clause-kept
+returns-in_err-write_picture-clause-kept g c = record {
+  same = record { names = refl; tell = refl };
+  asked = c.write_picture.ensures.asked;
+  faults = c.write_picture.ensures.faults;
+  out_faults = omega arith;
+}
 
-pub returns-then-not-is_finished-clause-out_faults : goal.returns-then-not-is_finished-clause-out_faults
-returns-then-not-is_finished-clause-out_faults g c = omega arith
+pub returns-in_err-put_picture_line-clause-kept : goal.returns-in_err-put_picture_line-clause-kept
+returns-in_err-put_picture_line-clause-kept g c = record {
+  same = record { names = refl; tell = refl };
+  asked = c.write_picture.ensures.asked;
+  faults = c.write_picture.ensures.faults;
+  out_faults = c.put_picture_line.ensures.faults;
+}
 
-pub returns-in_err-write_picture-clause-asked : goal.returns-in_err-write_picture-clause-asked
-returns-in_err-write_picture-clause-asked g c = c.write_picture.ensures.asked
-
-pub returns-in_err-write_picture-clause-faults : goal.returns-in_err-write_picture-clause-faults
-returns-in_err-write_picture-clause-faults g c = c.write_picture.ensures.faults
-
-pub returns-in_err-write_picture-clause-out_faults : goal.returns-in_err-write_picture-clause-out_faults
-returns-in_err-write_picture-clause-out_faults g c = omega arith
-
-pub returns-in_err-put_picture_line-clause-asked : goal.returns-in_err-put_picture_line-clause-asked
-returns-in_err-put_picture_line-clause-asked g c = c.write_picture.ensures.asked
-
-pub returns-in_err-put_picture_line-clause-faults : goal.returns-in_err-put_picture_line-clause-faults
-returns-in_err-put_picture_line-clause-faults g c = c.write_picture.ensures.faults
-
-pub returns-in_err-put_picture_line-clause-out_faults : goal.returns-in_err-put_picture_line-clause-out_faults
-returns-in_err-put_picture_line-clause-out_faults g c = c.put_picture_line.ensures.faults
-
-pub returns-clause-asked : goal.returns-clause-asked
-returns-clause-asked g c = c.write_picture.ensures.asked
-
-pub returns-clause-faults : goal.returns-clause-faults
-returns-clause-faults g c = c.write_picture.ensures.faults
-
-pub returns-clause-out_faults : goal.returns-clause-out_faults
-returns-clause-out_faults g c = c.put_picture_line.ensures.faults
+pub returns-clause-kept : goal.returns-clause-kept
+returns-clause-kept g c = record {
+  same = record { names = refl; tell = refl };
+  asked = c.write_picture.ensures.asked;
+  faults = c.write_picture.ensures.faults;
+  out_faults = c.put_picture_line.ensures.faults;
+}

@@ -5,7 +5,7 @@ use Rattle.vt_walk_decisions.specs.Judging.{IsFollowed}
 use Rattle.vt_walk.specs.States.{walk_state}
 use Rattle.vt_walk.specs.WalkInputs.{given_of}
 use Rattle.vt_walk.specs.WalkSteps.{LeftByRefusal}
-use Rattle.vt_walk.specs.Written.{IsDrawnBySome}
+use Rattle.vt_walk.specs.DrawnBy.{IsDrawnBySome}
 use Rattle.vt_walk.specs.WalkEffects.{state_by}
 use Rattle.vt_walk.proofs.Aheads.{may_turn, next_stands}
 use Rattle.vt_walk.proofs.Passing.{pass_broke}
@@ -21,7 +21,7 @@ draw_next-requires-clause-may g c κs within =
     let s = c.in_ok-step.ensures.ended b c.requires.stands.1 in (
       b.told,
       s.run,
-      may_turn (IsDrawnBySome g.M.PassMachine.drawn) (given_of g.M.PassMachine.drawing c.args.input.now b.told) b.first (c.args.number + 1)
+      may_turn (IsDrawnBySome g.M.PassMachine) (given_of g.M.PassMachine.drawing c.args.input.now b.told) b.first (c.args.number + 1)
           c.in_ok-step.step
           (walk_state g.D.Folder c.args.input.now.names.store.now c.end_step.new.folder (b.kept ∷ (g.M.PassMachine.state c.args.machine.now).files)
           (g.O.Sink.held c.end_step.new.out) (g.O.Sink.faults c.end_step.new.out)) (g.M.PassMachine.state c.args.machine.now) c.args.recency.now s,
@@ -30,7 +30,7 @@ draw_next-requires-clause-may g c κs within =
 pub returns-in_err-step-clause-taken : goal.returns-in_err-step-clause-taken
 returns-in_err-step-clause-taken g c =
     let p = err_from_is_err_and c.from_residual.result c.from_residual.ensures.1 in
-    λ b at. rw p.1 (subst (LeftByRefusal (IsDrawnBySome g.M.PassMachine.drawn)
+    λ b at. rw p.1 (subst (LeftByRefusal (IsDrawnBySome g.M.PassMachine)
     (given_of g.M.PassMachine.drawing c.args.input.now b.told) b.first
     (walk_state g.D.Folder c.args.input.now.names.store.now c.end_step.new.folder (b.kept ∷ (g.M.PassMachine.state c.args.machine.now).files)
     (g.O.Sink.held c.end_step.new.out) (g.O.Sink.faults c.end_step.new.out))) (sym p.2) (c.in_err-step.ensures.ended b at))
@@ -38,7 +38,7 @@ returns-in_err-step-clause-taken g c =
 pub returns-in_err-next-clause-taken : goal.returns-in_err-next-clause-taken
 returns-in_err-next-clause-taken g c =
     let p = err_from_is_err_and c.from_residual-in_err-next.result c.from_residual-in_err-next.ensures.1 in
-    λ b at. rw p.1 (pass_broke (IsDrawnBySome g.M.PassMachine.drawn) (given_of g.M.PassMachine.drawing c.args.input.now b.told) (c.args.number + 1)
+    λ b at. rw p.1 (pass_broke (IsDrawnBySome g.M.PassMachine) (given_of g.M.PassMachine.drawing c.args.input.now b.told) (c.args.number + 1)
     c.in_ok-step.step b.first c.args.input.now.names.store.now b.kept (g.O.Sink.held c.end_step.new.out) (g.O.Sink.faults c.end_step.new.out)
     (g.D.Folder.files c.end_step.new.folder) (g.D.Folder.asked c.end_step.new.folder) (g.D.Folder.faults c.end_step.new.folder)
     (g.M.PassMachine.state c.args.machine.now) (g.M.PassMachine.state c.draw_next.new.machine) c.args.recency.now c.draw_next.new.recency
@@ -49,45 +49,33 @@ returns-clause-taken g c = λ b at.
     let s = c.in_ok-step.ensures.ended b at in
     let now = walk_state g.D.Folder c.args.input.now.names.store.now c.end_step.new.folder (b.kept ∷ (g.M.PassMachine.state c.args.machine.now).files)
     (g.O.Sink.held c.end_step.new.out) (g.O.Sink.faults c.end_step.new.out) in
-    next_stands (IsDrawnBySome g.M.PassMachine.drawn) (given_of g.M.PassMachine.drawing c.args.input.now b.told) b.first (c.args.number + 1)
+    next_stands (IsDrawnBySome g.M.PassMachine) (given_of g.M.PassMachine.drawing c.args.input.now b.told) b.first (c.args.number + 1)
     c.in_ok-step.step (λ files. state_by g.D.Folder g.O.Sink c.args.input.now.names.store.now c.end_step.new.folder c.end_step.new.out (b.kept ∷ files))
     (g.M.PassMachine.state c.args.machine.now) (g.M.PassMachine.state c.draw_next.new.machine) c.args.recency.now c.draw_next.new.recency s
     c.in_ok-next.next (c.in_ok-next.ensures.next b.told s.run
-    (may_turn (IsDrawnBySome g.M.PassMachine.drawn) (given_of g.M.PassMachine.drawing c.args.input.now b.told) b.first (c.args.number + 1)
+    (may_turn (IsDrawnBySome g.M.PassMachine) (given_of g.M.PassMachine.drawing c.args.input.now b.told) b.first (c.args.number + 1)
     c.in_ok-step.step now (g.M.PassMachine.state c.args.machine.now) c.args.recency.now s))
 
-pub returns-in_err-step-clause-same : goal.returns-in_err-step-clause-same
-returns-in_err-step-clause-same g c = record { names = refl; tell = refl }
+pub returns-in_err-step-clause-kept : goal.returns-in_err-step-clause-kept
+returns-in_err-step-clause-kept g c = record {
+  same = record { names = refl; tell = refl };
+  asked = c.end_step.ensures.kept.asked;
+  faults = c.end_step.ensures.kept.faults;
+  out_faults = c.end_step.ensures.kept.out_faults;
+}
 
-pub returns-in_err-step-clause-asked : goal.returns-in_err-step-clause-asked
-returns-in_err-step-clause-asked g c = c.end_step.ensures.asked
+pub returns-in_err-next-clause-kept : goal.returns-in_err-next-clause-kept
+returns-in_err-next-clause-kept g c = record {
+  same = c.draw_next.ensures.same;
+  asked = c.end_step.ensures.kept.asked;
+  faults = c.end_step.ensures.kept.faults;
+  out_faults = c.end_step.ensures.kept.out_faults;
+}
 
-pub returns-in_err-step-clause-faults : goal.returns-in_err-step-clause-faults
-returns-in_err-step-clause-faults g c = c.end_step.ensures.faults
-
-pub returns-in_err-step-clause-out_faults : goal.returns-in_err-step-clause-out_faults
-returns-in_err-step-clause-out_faults g c = c.end_step.ensures.out_faults
-
-pub returns-in_err-next-clause-same : goal.returns-in_err-next-clause-same
-returns-in_err-next-clause-same g c = c.draw_next.ensures.same
-
-pub returns-in_err-next-clause-asked : goal.returns-in_err-next-clause-asked
-returns-in_err-next-clause-asked g c = c.end_step.ensures.asked
-
-pub returns-in_err-next-clause-faults : goal.returns-in_err-next-clause-faults
-returns-in_err-next-clause-faults g c = c.end_step.ensures.faults
-
-pub returns-in_err-next-clause-out_faults : goal.returns-in_err-next-clause-out_faults
-returns-in_err-next-clause-out_faults g c = c.end_step.ensures.out_faults
-
-pub returns-clause-same : goal.returns-clause-same
-returns-clause-same g c = c.draw_next.ensures.same
-
-pub returns-clause-asked : goal.returns-clause-asked
-returns-clause-asked g c = c.end_step.ensures.asked
-
-pub returns-clause-faults : goal.returns-clause-faults
-returns-clause-faults g c = c.end_step.ensures.faults
-
-pub returns-clause-out_faults : goal.returns-clause-out_faults
-returns-clause-out_faults g c = c.end_step.ensures.out_faults
+pub returns-clause-kept : goal.returns-clause-kept
+returns-clause-kept g c = record {
+  same = c.draw_next.ensures.same;
+  asked = c.end_step.ensures.kept.asked;
+  faults = c.end_step.ensures.kept.faults;
+  out_faults = c.end_step.ensures.kept.out_faults;
+}

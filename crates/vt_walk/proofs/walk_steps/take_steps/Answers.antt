@@ -6,22 +6,23 @@ use Rattle.vt_walk.specs.States.{walk_state}
 use Rattle.vt_walk.specs.WalkInputs.{given_of}
 use Rattle.vt_walk.specs.WalkSteps.{LeftByRefusal}
 use Rattle.vt_walk.specs.Following.{StandsNext}
-use Rattle.vt_walk.specs.Written.{IsDrawnBySome}
+use Rattle.vt_walk.specs.DrawnBy.{IsDrawnBySome}
 use Rattle.vt_walk.proofs.Rounds.{first_at}
 use Rattle.vt_walk.proofs.Passing.{pass_broke}
+use Rattle.vt_walk.proofs.Keeping.{kept_on}
 use Rattle.vt_walk.proofs.Aheads.{may_turn, next_stands, next_left, end_counts}
 use Rattle.vt_walk.proofs.walk_steps.take_steps.Goals as goal
 
 pub draw_next-requires-clause-may : goal.draw_next-requires-clause-may
 draw_next-requires-clause-may g c κs within =
     let b = c.requires.stands.0 in
-    let s = first_at (IsDrawnBySome g.M.PassMachine.drawn) (given_of g.M.PassMachine.drawing c.args.input.now b.told) b.first
+    let s = first_at (IsDrawnBySome g.M.PassMachine) (given_of g.M.PassMachine.drawing c.args.input.now b.told) b.first
     (walk_state g.D.Folder c.args.input.now.names.store.now c.args.folder.now (b.kept ∷ (g.M.PassMachine.state c.args.machine.now).files)
     (g.O.Sink.held c.args.out.now) (g.O.Sink.faults c.args.out.now)) (g.M.PassMachine.state c.args.machine.now) c.args.recency.now
     (record { picture = 0; batch = c.new.result; tally = c.new-2.result; reads = c.args.input.now.pinned }) c.requires.stands.1 refl c.new.ensures c.new-2.ensures c.requires.input.pages in (
       b.told,
       s.run,
-      may_turn (IsDrawnBySome g.M.PassMachine.drawn) (given_of g.M.PassMachine.drawing c.args.input.now b.told) b.first 1
+      may_turn (IsDrawnBySome g.M.PassMachine) (given_of g.M.PassMachine.drawing c.args.input.now b.told) b.first 1
           (record { picture = 0; batch = c.new.result; tally = c.new-2.result; reads = c.args.input.now.pinned })
           (walk_state g.D.Folder c.args.input.now.names.store.now c.args.folder.now (b.kept ∷ (g.M.PassMachine.state c.args.machine.now).files)
           (g.O.Sink.held c.args.out.now) (g.O.Sink.faults c.args.out.now)) (g.M.PassMachine.state c.args.machine.now) c.args.recency.now s,
@@ -30,11 +31,11 @@ draw_next-requires-clause-may g c κs within =
 pub returns-in_err-next-clause-walked : goal.returns-in_err-next-clause-walked
 returns-in_err-next-clause-walked g c =
     let p = err_from_is_err_and c.from_residual.result c.from_residual.ensures.1 in
-    λ b at. rw p.1 (pass_broke (IsDrawnBySome g.M.PassMachine.drawn) (given_of g.M.PassMachine.drawing c.args.input.now b.told) 1
+    λ b at. rw p.1 (pass_broke (IsDrawnBySome g.M.PassMachine) (given_of g.M.PassMachine.drawing c.args.input.now b.told) 1
     (record { picture = 0; batch = c.new.result; tally = c.new-2.result; reads = c.args.input.now.pinned }) b.first c.args.input.now.names.store.now b.kept
     (g.O.Sink.held c.args.out.now) (g.O.Sink.faults c.args.out.now) (g.D.Folder.files c.args.folder.now) (g.D.Folder.asked c.args.folder.now)
     (g.D.Folder.faults c.args.folder.now) (g.M.PassMachine.state c.args.machine.now) (g.M.PassMachine.state c.draw_next.new.machine)
-    c.args.recency.now c.draw_next.new.recency (first_at (IsDrawnBySome g.M.PassMachine.drawn) (given_of g.M.PassMachine.drawing c.args.input.now b.told) b.first
+    c.args.recency.now c.draw_next.new.recency (first_at (IsDrawnBySome g.M.PassMachine) (given_of g.M.PassMachine.drawing c.args.input.now b.told) b.first
     (walk_state g.D.Folder c.args.input.now.names.store.now c.args.folder.now (b.kept ∷ (g.M.PassMachine.state c.args.machine.now).files)
     (g.O.Sink.held c.args.out.now) (g.O.Sink.faults c.args.out.now)) (g.M.PassMachine.state c.args.machine.now) c.args.recency.now
     (record { picture = 0; batch = c.new.result; tally = c.new-2.result; reads = c.args.input.now.pinned }) at refl c.new.ensures c.new-2.ensures c.requires.input.pages) c.in_err-next.ensures.more
@@ -43,42 +44,39 @@ returns-in_err-next-clause-walked g c =
 pub loop-number-init : goal.loop-number-init
 loop-number-init g c =
     let b = c.requires.stands.0 in
-    let s = first_at (IsDrawnBySome g.M.PassMachine.drawn) (given_of g.M.PassMachine.drawing c.args.input.now b.told) b.first
+    let s = first_at (IsDrawnBySome g.M.PassMachine) (given_of g.M.PassMachine.drawing c.args.input.now b.told) b.first
     (walk_state g.D.Folder c.args.input.now.names.store.now c.args.folder.now (b.kept ∷ (g.M.PassMachine.state c.args.machine.now).files)
     (g.O.Sink.held c.args.out.now) (g.O.Sink.faults c.args.out.now)) (g.M.PassMachine.state c.args.machine.now) c.args.recency.now
     (record { picture = 0; batch = c.new.result; tally = c.new-2.result; reads = c.args.input.now.pinned }) c.requires.stands.1 refl c.new.ensures c.new-2.ensures c.requires.input.pages in
     record {
       some = (
         b,
-        next_stands (IsDrawnBySome g.M.PassMachine.drawn) (given_of g.M.PassMachine.drawing c.args.input.now b.told) b.first 1
+        next_stands (IsDrawnBySome g.M.PassMachine) (given_of g.M.PassMachine.drawing c.args.input.now b.told) b.first 1
             (record { picture = 0; batch = c.new.result; tally = c.new-2.result; reads = c.args.input.now.pinned })
             (λ files. state_by g.D.Folder g.O.Sink c.args.input.now.names.store.now c.args.folder.now c.args.out.now (b.kept ∷ files))
             (g.M.PassMachine.state c.args.machine.now) (g.M.PassMachine.state c.draw_next.new.machine) c.args.recency.now c.draw_next.new.recency s
             c.in_ok-next.next (c.in_ok-next.ensures.next b.told s.run
-            (may_turn (IsDrawnBySome g.M.PassMachine.drawn) (given_of g.M.PassMachine.drawing c.args.input.now b.told) b.first 1
+            (may_turn (IsDrawnBySome g.M.PassMachine) (given_of g.M.PassMachine.drawing c.args.input.now b.told) b.first 1
             (record { picture = 0; batch = c.new.result; tally = c.new-2.result; reads = c.args.input.now.pinned })
             (walk_state g.D.Folder c.args.input.now.names.store.now c.args.folder.now (b.kept ∷ (g.M.PassMachine.state c.args.machine.now).files)
             (g.O.Sink.held c.args.out.now) (g.O.Sink.faults c.args.out.now)) (g.M.PassMachine.state c.args.machine.now) c.args.recency.now s)),
       );
       each = λ b at.
-          let s = first_at (IsDrawnBySome g.M.PassMachine.drawn) (given_of g.M.PassMachine.drawing c.args.input.now b.told) b.first
+          let s = first_at (IsDrawnBySome g.M.PassMachine) (given_of g.M.PassMachine.drawing c.args.input.now b.told) b.first
           (walk_state g.D.Folder c.args.input.now.names.store.now c.args.folder.now (b.kept ∷ (g.M.PassMachine.state c.args.machine.now).files)
           (g.O.Sink.held c.args.out.now) (g.O.Sink.faults c.args.out.now)) (g.M.PassMachine.state c.args.machine.now) c.args.recency.now
           (record { picture = 0; batch = c.new.result; tally = c.new-2.result; reads = c.args.input.now.pinned }) at refl c.new.ensures c.new-2.ensures c.requires.input.pages in
-          next_stands (IsDrawnBySome g.M.PassMachine.drawn) (given_of g.M.PassMachine.drawing c.args.input.now b.told) b.first 1
+          next_stands (IsDrawnBySome g.M.PassMachine) (given_of g.M.PassMachine.drawing c.args.input.now b.told) b.first 1
           (record { picture = 0; batch = c.new.result; tally = c.new-2.result; reads = c.args.input.now.pinned })
           (λ files. state_by g.D.Folder g.O.Sink c.args.input.now.names.store.now c.args.folder.now c.args.out.now (b.kept ∷ files))
           (g.M.PassMachine.state c.args.machine.now) (g.M.PassMachine.state c.draw_next.new.machine) c.args.recency.now c.draw_next.new.recency s
           c.in_ok-next.next (c.in_ok-next.ensures.next b.told s.run
-          (may_turn (IsDrawnBySome g.M.PassMachine.drawn) (given_of g.M.PassMachine.drawing c.args.input.now b.told) b.first 1
+          (may_turn (IsDrawnBySome g.M.PassMachine) (given_of g.M.PassMachine.drawing c.args.input.now b.told) b.first 1
           (record { picture = 0; batch = c.new.result; tally = c.new-2.result; reads = c.args.input.now.pinned })
           (walk_state g.D.Folder c.args.input.now.names.store.now c.args.folder.now (b.kept ∷ (g.M.PassMachine.state c.args.machine.now).files)
           (g.O.Sink.held c.args.out.now) (g.O.Sink.faults c.args.out.now)) (g.M.PassMachine.state c.args.machine.now) c.args.recency.now s));
       idle = c.in_ok-next.ensures.idle;
-      same = c.draw_next.ensures.same;
-      asked = refl;
-      faults = omega arith;
-      out_faults = omega arith;
+      kept = record { same = c.draw_next.ensures.same; asked = refl; faults = omega arith; out_faults = omega arith };
     }
 
 pub take_step-requires-clause-stands : goal.take_step-requires-clause-stands
@@ -86,7 +84,7 @@ take_step-requires-clause-stands g c κs within =
     let s = c.loop-number.invariant.some in
     let b = s.0 in (
       b,
-      subst (λ (x : Next). StandsNext (IsDrawnBySome g.M.PassMachine.drawn) (given_of g.M.PassMachine.drawing c.args.input.now b.told) c.loop-number.number x b.first
+      subst (λ (x : Next). StandsNext (IsDrawnBySome g.M.PassMachine) (given_of g.M.PassMachine.drawing c.args.input.now b.told) c.loop-number.number x b.first
           (λ files. state_by g.D.Folder g.O.Sink c.args.input.now.names.store.now c.loop-number.folder c.loop-number.out (b.kept ∷ files)) (g.M.PassMachine.state c.loop-number.machine)
           c.loop-number.recency) c.in-Pass.is s.1,
     )
@@ -98,24 +96,21 @@ loop-number-preserved g c =
     record {
       some = (
         i.some.0,
-        t.taken i.some.0 (subst (λ (x : Next). StandsNext (IsDrawnBySome g.M.PassMachine.drawn) (given_of g.M.PassMachine.drawing c.args.input.now i.some.0.told)
+        t.taken i.some.0 (subst (λ (x : Next). StandsNext (IsDrawnBySome g.M.PassMachine) (given_of g.M.PassMachine.drawing c.args.input.now i.some.0.told)
             c.loop-number.number x i.some.0.first
             (λ files. state_by g.D.Folder g.O.Sink c.args.input.now.names.store.now c.loop-number.folder c.loop-number.out (i.some.0.kept ∷ files))
             (g.M.PassMachine.state c.loop-number.machine) c.loop-number.recency) c.in-Pass.is i.some.1),
       );
-      each = λ b at. t.taken b (subst (λ (x : Next). StandsNext (IsDrawnBySome g.M.PassMachine.drawn) (given_of g.M.PassMachine.drawing c.args.input.now b.told)
+      each = λ b at. t.taken b (subst (λ (x : Next). StandsNext (IsDrawnBySome g.M.PassMachine) (given_of g.M.PassMachine.drawing c.args.input.now b.told)
           c.loop-number.number x b.first
           (λ files. state_by g.D.Folder g.O.Sink c.args.input.now.names.store.now c.loop-number.folder c.loop-number.out (b.kept ∷ files))
           (g.M.PassMachine.state c.loop-number.machine) c.loop-number.recency) c.in-Pass.is (i.each b at));
       idle = t.idle;
-      same = record { names = t.same.names ∙ i.same.names; tell = t.same.tell ∙ i.same.tell };
-      asked = t.asked ∙ i.asked;
-      faults = omega (arith, t.faults, i.faults);
-      out_faults = omega (arith, t.out_faults, i.out_faults);
+      kept = kept_on _ _ _ i.kept t.kept;
     }
 
 pub returns-in-End-clause-walked : goal.returns-in-End-clause-walked
-returns-in-End-clause-walked g c = λ b at. (subst (λ (x : Next). StandsNext (IsDrawnBySome g.M.PassMachine.drawn) (given_of g.M.PassMachine.drawing c.args.input.now b.told)
+returns-in-End-clause-walked g c = λ b at. (subst (λ (x : Next). StandsNext (IsDrawnBySome g.M.PassMachine) (given_of g.M.PassMachine.drawing c.args.input.now b.told)
     c.loop-number.number x b.first
     (λ files. state_by g.D.Folder g.O.Sink c.args.input.now.names.store.now c.loop-number.folder c.loop-number.out (b.kept ∷ files))
     (g.M.PassMachine.state c.loop-number.machine) c.loop-number.recency) c.in-End.is (c.loop-number.invariant.each b at)).last
@@ -124,16 +119,16 @@ pub returns-in-End-clause-counted : goal.returns-in-End-clause-counted
 returns-in-End-clause-counted g c =
     let s = c.loop-number.invariant.some in
     let b = s.0 in
-    end_counts (IsDrawnBySome g.M.PassMachine.drawn) (given_of g.M.PassMachine.drawing c.args.input.now b.told) b.first c.loop-number.number c.in-End.reads
+    end_counts (IsDrawnBySome g.M.PassMachine) (given_of g.M.PassMachine.drawing c.args.input.now b.told) b.first c.loop-number.number c.in-End.reads
     (state_by g.D.Folder g.O.Sink c.args.input.now.names.store.now c.loop-number.folder c.loop-number.out
     (b.kept ∷ (g.M.PassMachine.state c.loop-number.machine).files))
     (record { passes = c.loop-number.number - 1; reads = c.in-End.reads })
-    (subst (λ (x : Next). StandsNext (IsDrawnBySome g.M.PassMachine.drawn) (given_of g.M.PassMachine.drawing c.args.input.now b.told) c.loop-number.number x b.first
+    (subst (λ (x : Next). StandsNext (IsDrawnBySome g.M.PassMachine) (given_of g.M.PassMachine.drawing c.args.input.now b.told) c.loop-number.number x b.first
     (λ files. state_by g.D.Folder g.O.Sink c.args.input.now.names.store.now c.loop-number.folder c.loop-number.out (b.kept ∷ files))
     (g.M.PassMachine.state c.loop-number.machine) c.loop-number.recency) c.in-End.is s.1) refl refl
 
 pub returns-clause-walked : goal.returns-clause-walked
-returns-clause-walked g c = λ b at. next_left (IsDrawnBySome g.M.PassMachine.drawn) (given_of g.M.PassMachine.drawing c.args.input.now b.told) b.first c.loop-number.number c.loop-number.next
+returns-clause-walked g c = λ b at. next_left (IsDrawnBySome g.M.PassMachine) (given_of g.M.PassMachine.drawing c.args.input.now b.told) b.first c.loop-number.number c.loop-number.next
     c.args.input.now.names.store.now b.kept (g.O.Sink.held c.loop-number.out) (g.O.Sink.faults c.loop-number.out)
     (g.D.Folder.files c.loop-number.folder) (g.D.Folder.asked c.loop-number.folder) (g.D.Folder.faults c.loop-number.folder)
     (g.M.PassMachine.state c.loop-number.machine) c.loop-number.recency (c.loop-number.invariant.each b at)
@@ -141,49 +136,22 @@ returns-clause-walked g c = λ b at. next_left (IsDrawnBySome g.M.PassMachine.dr
 pub returns-in_err-next-in-Pass-clause-walked : goal.returns-in_err-next-in-Pass-clause-walked
 returns-in_err-next-in-Pass-clause-walked g c =
     let p = err_from_is_err_and c.from_residual-in_err-next-in-Pass.result c.from_residual-in_err-next-in-Pass.ensures.1 in
-    λ b at. rw p.1 (subst (LeftByRefusal (IsDrawnBySome g.M.PassMachine.drawn) (given_of g.M.PassMachine.drawing c.args.input.now b.told) b.first
+    λ b at. rw p.1 (subst (LeftByRefusal (IsDrawnBySome g.M.PassMachine) (given_of g.M.PassMachine.drawing c.args.input.now b.told) b.first
     (walk_state g.D.Folder c.args.input.now.names.store.now c.take_step.new.folder
     (b.kept ∷ (g.M.PassMachine.state c.take_step.new.machine).files) (g.O.Sink.held c.take_step.new.out) (g.O.Sink.faults c.take_step.new.out)))
-    (sym p.2) (c.in_err-next-in-Pass.ensures.taken b (subst (λ (x : Next). StandsNext (IsDrawnBySome g.M.PassMachine.drawn) (given_of g.M.PassMachine.drawing c.args.input.now b.told)
+    (sym p.2) (c.in_err-next-in-Pass.ensures.taken b (subst (λ (x : Next). StandsNext (IsDrawnBySome g.M.PassMachine) (given_of g.M.PassMachine.drawing c.args.input.now b.told)
     c.loop-number.number x b.first
     (λ files. state_by g.D.Folder g.O.Sink c.args.input.now.names.store.now c.loop-number.folder c.loop-number.out (b.kept ∷ files))
     (g.M.PassMachine.state c.loop-number.machine) c.loop-number.recency) c.in-Pass.is (c.loop-number.invariant.each b at))))
 
-pub returns-in_err-next-in-Pass-clause-same : goal.returns-in_err-next-in-Pass-clause-same
-returns-in_err-next-in-Pass-clause-same g c = record {
-  names = c.take_step.ensures.same.names ∙ c.loop-number.invariant.same.names;
-  tell = c.take_step.ensures.same.tell ∙ c.loop-number.invariant.same.tell;
-}
+pub returns-in_err-next-in-Pass-clause-kept : goal.returns-in_err-next-in-Pass-clause-kept
+returns-in_err-next-in-Pass-clause-kept g c = kept_on _ _ _ c.loop-number.invariant.kept c.take_step.ensures.kept
 
-pub returns-in_err-next-in-Pass-clause-asked : goal.returns-in_err-next-in-Pass-clause-asked
-returns-in_err-next-in-Pass-clause-asked g c = c.take_step.ensures.asked ∙ c.loop-number.invariant.asked
+pub returns-in-End-clause-kept : goal.returns-in-End-clause-kept
+returns-in-End-clause-kept g c = c.loop-number.invariant.kept
 
-pub returns-in_err-next-in-Pass-clause-faults : goal.returns-in_err-next-in-Pass-clause-faults
-returns-in_err-next-in-Pass-clause-faults g c = omega (arith, c.take_step.ensures.faults, c.loop-number.invariant.faults)
+pub returns-clause-kept : goal.returns-clause-kept
+returns-clause-kept g c = c.loop-number.invariant.kept
 
-pub returns-in_err-next-in-Pass-clause-out_faults : goal.returns-in_err-next-in-Pass-clause-out_faults
-returns-in_err-next-in-Pass-clause-out_faults g c = omega (arith, c.take_step.ensures.out_faults, c.loop-number.invariant.out_faults)
-
-pub returns-in-End-clause-same : goal.returns-in-End-clause-same
-returns-in-End-clause-same g c = c.loop-number.invariant.same
-
-pub returns-in-End-clause-asked : goal.returns-in-End-clause-asked
-returns-in-End-clause-asked g c = c.loop-number.invariant.asked
-
-pub returns-in-End-clause-faults : goal.returns-in-End-clause-faults
-returns-in-End-clause-faults g c = c.loop-number.invariant.faults
-
-pub returns-in-End-clause-out_faults : goal.returns-in-End-clause-out_faults
-returns-in-End-clause-out_faults g c = c.loop-number.invariant.out_faults
-
-pub returns-clause-same : goal.returns-clause-same
-returns-clause-same g c = c.loop-number.invariant.same
-
-pub returns-clause-asked : goal.returns-clause-asked
-returns-clause-asked g c = c.loop-number.invariant.asked
-
-pub returns-clause-faults : goal.returns-clause-faults
-returns-clause-faults g c = c.loop-number.invariant.faults
-
-pub returns-clause-out_faults : goal.returns-clause-out_faults
-returns-clause-out_faults g c = c.loop-number.invariant.out_faults
+pub returns-in_err-next-clause-kept : goal.returns-in_err-next-clause-kept
+returns-in_err-next-clause-kept g c = record { same = c.draw_next.ensures.same; asked = refl; faults = omega arith; out_faults = omega arith }

@@ -3,14 +3,14 @@ use Rattle.std.proofs.lemmas.Result.{err_from_is_err_and}
 use Rattle.vt_walk.specs.States.{walk_state}
 use Rattle.vt_walk.specs.WalkInputs.{given_of}
 use Rattle.vt_walk.specs.WalkSteps.{LeftByRefusal}
-use Rattle.vt_walk.specs.Written.{IsDrawnBySome}
+use Rattle.vt_walk.specs.DrawnBy.{IsDrawnBySome}
 use Rattle.vt_walk.proofs.Rounds.{last_done, last_broke}
 use Rattle.vt_walk.proofs.walk_steps.walk_on.Goals as goal
 
 pub returns-in_err-took-clause-walked : goal.returns-in_err-took-clause-walked
 returns-in_err-took-clause-walked g c =
     let p = err_from_is_err_and c.from_residual.result c.from_residual.ensures.1 in
-    λ b at. rw p.1 (subst (LeftByRefusal (IsDrawnBySome g.M.PassMachine.drawn)
+    λ b at. rw p.1 (subst (LeftByRefusal (IsDrawnBySome g.M.PassMachine)
     (given_of g.M.PassMachine.drawing c.args.input.now b.told) b.first
     (walk_state g.D.Folder c.args.input.now.names.store.now c.take_steps.new.folder
     (b.kept ∷ (g.M.PassMachine.state c.take_steps.new.machine).files) (g.O.Sink.held c.take_steps.new.out)
@@ -19,7 +19,7 @@ returns-in_err-took-clause-walked g c =
 pub returns-in_err-put_end_line-clause-walked : goal.returns-in_err-put_end_line-clause-walked
 returns-in_err-put_end_line-clause-walked g c =
     let p = err_from_is_err_and c.from_residual-in_err-put_end_line.result c.from_residual-in_err-put_end_line.ensures.1 in
-    λ b at. rw p.1 (last_broke (IsDrawnBySome g.M.PassMachine.drawn)
+    λ b at. rw p.1 (last_broke (IsDrawnBySome g.M.PassMachine)
     (given_of g.M.PassMachine.drawing c.args.input.now b.told) b.first
     (walk_state g.D.Folder c.args.input.now.names.store.now c.take_steps.new.folder
     (b.kept ∷ (g.M.PassMachine.state c.take_steps.new.machine).files) (g.O.Sink.held c.take_steps.new.out) (g.O.Sink.faults c.take_steps.new.out))
@@ -28,48 +28,31 @@ returns-in_err-put_end_line-clause-walked g c =
     c.in_err-put_end_line.ensures.part c.in_err-put_end_line.ensures.faults (λ is. c.in_err-put_end_line.ensures.failed (ap Err is)) p.2)
 
 pub returns-clause-walked : goal.returns-clause-walked
-returns-clause-walked g c = λ b at. last_done (IsDrawnBySome g.M.PassMachine.drawn)
+returns-clause-walked g c = λ b at. last_done (IsDrawnBySome g.M.PassMachine)
     (given_of g.M.PassMachine.drawing c.args.input.now b.told) b.first
     (walk_state g.D.Folder c.args.input.now.names.store.now c.take_steps.new.folder (b.kept ∷ (g.M.PassMachine.state c.take_steps.new.machine).files)
     (g.O.Sink.held c.take_steps.new.out) (g.O.Sink.faults c.take_steps.new.out)) c.in_ok-took.took.reads c.pictures.result
     (g.O.Sink.held c.put_end_line.new.out) (g.O.Sink.faults c.put_end_line.new.out) (c.in_ok-took.ensures.walked b at) c.pictures.ensures.value
     c.in_ok-put_end_line.ensures.whole
 
-pub returns-in_err-took-clause-same : goal.returns-in_err-took-clause-same
-returns-in_err-took-clause-same g c = c.take_steps.ensures.same
-
-pub returns-in_err-took-clause-asked : goal.returns-in_err-took-clause-asked
-returns-in_err-took-clause-asked g c = c.take_steps.ensures.asked
-
-pub returns-in_err-took-clause-faults : goal.returns-in_err-took-clause-faults
-returns-in_err-took-clause-faults g c = c.take_steps.ensures.faults
-
-pub returns-in_err-took-clause-out_faults : goal.returns-in_err-took-clause-out_faults
-returns-in_err-took-clause-out_faults g c = c.take_steps.ensures.out_faults
-
-pub returns-in_err-put_end_line-clause-same : goal.returns-in_err-put_end_line-clause-same
-returns-in_err-put_end_line-clause-same g c = c.take_steps.ensures.same
-
-pub returns-in_err-put_end_line-clause-asked : goal.returns-in_err-put_end_line-clause-asked
-returns-in_err-put_end_line-clause-asked g c = c.take_steps.ensures.asked
-
-pub returns-in_err-put_end_line-clause-faults : goal.returns-in_err-put_end_line-clause-faults
-returns-in_err-put_end_line-clause-faults g c = c.take_steps.ensures.faults
-
-pub returns-in_err-put_end_line-clause-out_faults : goal.returns-in_err-put_end_line-clause-out_faults
-returns-in_err-put_end_line-clause-out_faults g c = omega (arith, c.take_steps.ensures.out_faults, c.put_end_line.ensures.faults)
-
-pub returns-clause-same : goal.returns-clause-same
-returns-clause-same g c = c.take_steps.ensures.same
-
-pub returns-clause-asked : goal.returns-clause-asked
-returns-clause-asked g c = c.take_steps.ensures.asked
-
-pub returns-clause-faults : goal.returns-clause-faults
-returns-clause-faults g c = c.take_steps.ensures.faults
-
-pub returns-clause-out_faults : goal.returns-clause-out_faults
-returns-clause-out_faults g c = omega (arith, c.take_steps.ensures.out_faults, c.put_end_line.ensures.faults)
-
 pub returns-clause-counted : goal.returns-clause-counted
 returns-clause-counted g c = c.in_ok-took.ensures.counted
+
+pub returns-in_err-took-clause-kept : goal.returns-in_err-took-clause-kept
+returns-in_err-took-clause-kept g c = c.take_steps.ensures.kept
+
+pub returns-in_err-put_end_line-clause-kept : goal.returns-in_err-put_end_line-clause-kept
+returns-in_err-put_end_line-clause-kept g c = record {
+  same = c.take_steps.ensures.kept.same;
+  asked = c.take_steps.ensures.kept.asked;
+  faults = c.take_steps.ensures.kept.faults;
+  out_faults = omega (arith, c.take_steps.ensures.kept.out_faults, c.put_end_line.ensures.faults);
+}
+
+pub returns-clause-kept : goal.returns-clause-kept
+returns-clause-kept g c = record {
+  same = c.take_steps.ensures.kept.same;
+  asked = c.take_steps.ensures.kept.asked;
+  faults = c.take_steps.ensures.kept.faults;
+  out_faults = omega (arith, c.take_steps.ensures.kept.out_faults, c.put_end_line.ensures.faults);
+}

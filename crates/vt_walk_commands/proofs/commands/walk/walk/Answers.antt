@@ -10,21 +10,21 @@ use Rattle.vt_walk_commands.proofs.commands.walk.walk.Goals as goal
 pub returns-in_err-path : goal.returns-in_err-path
 returns-in_err-path g c =
     let p = err_from_is_err_and c.from_residual.result c.from_residual.ensures.1 in
-    let m = kind_of g.M.PassMachine.drawing g.M.PassMachine.drawn in
+    let m = kind_of g.M.PassMachine in
     rw (p.1, p.2) (path_refused m (shown_walk c.args.words.now) c.in_err-path.field-0.0 (folder_state g.D.Folder c.args.folder.now)
     (folder_state g.D.Folder c.read_path.new.folder) (sink_state g.O.Sink c.args.out.now) c.in_err-path.ensures)
 
 pub returns-in_err-store : goal.returns-in_err-store
 returns-in_err-store g c =
     let p = err_from_is_err_and c.from_residual-in_err-store.result c.from_residual-in_err-store.ensures.1 in
-    let m = kind_of g.M.PassMachine.drawing g.M.PassMachine.drawn in
+    let m = kind_of g.M.PassMachine in
     rw (p.1, p.2) (store_refused m (shown_walk c.args.words.now) c.in_ok-path.path c.in_err-store.field-0.0
     (folder_state g.D.Folder c.args.folder.now) (folder_state g.D.Folder c.read_path.new.folder) (folder_state g.D.Folder c.open_store.new.folder)
     (sink_state g.O.Sink c.args.out.now) c.in_ok-path.ensures c.in_err-store.ensures.refused)
 
 pub returns-then-has_many_texels : goal.returns-then-has_many_texels
 returns-then-has_many_texels g c =
-    let m = kind_of g.M.PassMachine.drawing g.M.PassMachine.drawn in
+    let m = kind_of g.M.PassMachine in
     let words = shown_walk c.args.words.now in
     let store = c.in_ok-store.store in
     let file = file_state g.D.File.File store.file in
@@ -42,7 +42,7 @@ returns-then-has_many_texels g c =
 
 pub returns : goal.returns
 returns g c =
-    let m = kind_of g.M.PassMachine.drawing g.M.PassMachine.drawn in
+    let m = kind_of g.M.PassMachine in
     let words = shown_walk c.args.words.now in
     let store = c.in_ok-store.store in
     let file = file_state g.D.File.File store.file in
