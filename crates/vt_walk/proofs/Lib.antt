@@ -23,6 +23,7 @@ pub mod Placed
 pub mod Passing
 pub mod Ending
 pub mod Going
+pub mod Keeping
 pub mod Rounds
 pub mod Aheads
 pub mod Besides

@@ -13,6 +13,7 @@ pub mod Walks
 pub mod Folders
 pub mod States
 pub mod Reads
+pub mod Moments
 pub mod DrawnBy
 pub mod Written
 pub mod Writing
@@ -26,6 +27,7 @@ pub mod Outlooks
 pub mod Tallies
 pub mod WalkSteps
 pub mod Following
+pub mod Goings
 pub mod WalkEffects
 pub mod Beginnings
 pub mod Opening

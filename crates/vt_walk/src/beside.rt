@@ -1,21 +1,18 @@
 //! A picture that is written while the next one is drawn.
 
-ghost use Rattle.std.specs.Prelude.{◌≡◌, ◌+◌, ◌<◌, ◌≤◌, ◌^◌, ◌∷◌, length, MatchResult, OnOk};
+ghost use Rattle.std.specs.Prelude.{◌≡◌, ◌+◌, ◌<◌, ◌^◌, OnOk};
 ghost use Rattle.std.specs.List.{concat};
 ghost use Rattle.std.specs.Thread.{IsSync, IsSend};
 ghost use Rattle.vt_ppm.specs.Picture.{picture_bytes};
 ghost use Rattle.vt_words.specs.Names.{picture_name};
 ghost use Rattle.vt_walk_decisions.specs.Jobs.{job_of};
 ghost use Rattle.vt_walk_decisions.specs.Passes.{MayPrepare, IsJobFor, Ends};
-ghost use Rattle.vt_walk_decisions.specs.Requests.{AreSameFiles};
 ghost use Rattle.vt_walk_decisions.specs.Judging.{MayGoOn, IsFollowed};
-ghost use Rattle.vt_walk_decisions.specs.Reported.{next_step};
-ghost use Rattle.vt_walk.specs.WalkInputs.{given_of, IsWalkInput};
-ghost use Rattle.vt_walk.specs.DrawnBy.{IsDrawnBySome};
+ghost use Rattle.vt_walk.specs.WalkInputs.{IsWalkInput};
 ghost use Rattle.vt_walk.specs.Writing.{WritesFile};
-ghost use Rattle.vt_walk.specs.WalkSteps.{WalkStart, StandsAfter, LeftByRefusal};
-ghost use Rattle.vt_walk.specs.Following.{StandsRan, StandsNext};
-ghost use Rattle.vt_walk.specs.WalkEffects.{state_by};
+ghost use Rattle.vt_walk.specs.WalkSteps.{WalkStart};
+ghost use Rattle.vt_walk.specs.Moments.{moment, KeepsWalk};
+ghost use Rattle.vt_walk.specs.Goings.{walk_by, AtPass, GoesFromPass, RunsBeside};
 
 use crate::advance::plan_on;
 use crate::files::write_file;
@@ -55,23 +52,14 @@ pub fn draw_beside<
     requires few { number + 1 < 2 ^ 32 }
     requires goes_on { MayGoOn input.now passed }
     requires followed { IsFollowed input.now passed }
-    requires stands { (b : WalkStart) × StandsAfter (IsDrawnBySome M.PassMachine) (given_of M.drawing input.now b.told) number
-        passed b.first (state_by D.Folder O.Sink input.now.names.store.now folder.old out.old
-        (b.kept ∷ (M.state machine.old).files)) (M.state machine.old) recency.old }
-    ensures taken { (b : WalkStart) → let some = IsDrawnBySome M.PassMachine in
-        let given = given_of M.drawing input.now b.told in
-        let name = input.now.names.store.now in
-        StandsAfter some given number passed b.first (state_by D.Folder O.Sink name folder.old out.old
-        (b.kept ∷ (M.state machine.old).files)) (M.state machine.old) recency.old
-        → MatchResult result (λ next. StandsNext some given (number + 1) next b.first
-        (λ files. state_by D.Folder O.Sink name folder.new out.new (b.kept ∷ files)) (M.state machine.new) recency.new)
-        (LeftByRefusal some given b.first (state_by D.Folder O.Sink name folder.new out.new
-        (b.kept ∷ (M.state machine.new).files))) }
+    requires stands { (b : WalkStart) × AtPass (walk_by M.PassMachine input.now) b
+        (moment D.Folder O.Sink folder.old out.old (M.state machine.old) recency.old) number passed }
+    ensures taken { GoesFromPass (walk_by M.PassMachine input.now) number passed
+        (moment D.Folder O.Sink folder.old out.old (M.state machine.old) recency.old)
+        (moment D.Folder O.Sink folder.new out.new (M.state machine.new) recency.new) result }
     ensures idle { OnOk result (M.is_idle machine.new) }
-    ensures same { AreSameFiles (M.state machine.old).files (M.state machine.new).files }
-    ensures asked { D.asked folder.new ≡ D.asked folder.old }
-    ensures faults { D.faults folder.old ≤ D.faults folder.new }
-    ensures out_faults { O.faults out.old ≤ O.faults out.new }
+    ensures kept { KeepsWalk (moment D.Folder O.Sink folder.old out.old (M.state machine.old) recency.old)
+        (moment D.Folder O.Sink folder.new out.new (M.state machine.new) recency.new) }
 {
     let start = machine.journal().version();
     let name = make_picture(
@@ -138,24 +126,14 @@ fn write_beside<
     requires name { name.now ≡ picture_name input.now.names.prefix.now passed.now.picture }
     requires bytes { bytes.now ≡ picture_bytes input.now.depth input.now.path.now.width input.now.path.now.height
         (concat (M.state machine.old).rows) }
-    requires stands { (b : WalkStart) × StandsAfter (IsDrawnBySome M.PassMachine) (given_of M.drawing input.now b.told) number
-        passed.now b.first (state_by D.Folder O.Sink input.now.names.store.now folder.old out.old
-        (b.kept ∷ (M.state machine.old).files)) (M.state machine.old) recency.now }
-    ensures ran { (b : WalkStart) → let some = IsDrawnBySome M.PassMachine in
-        let given = given_of M.drawing input.now b.told in
-        let name = input.now.names.store.now in
-        StandsAfter some given number passed.now b.first (state_by D.Folder O.Sink name folder.old out.old
-        (b.kept ∷ (M.state machine.old).files)) (M.state machine.old) recency.now
-        → MatchResult result (λ report. StandsRan some given (number + 1) (next_step passed.now)
-        (length (M.state machine.old).journal) report b.first
-        (λ files. state_by D.Folder O.Sink name folder.new out.new (b.kept ∷ files)) (M.state machine.new) recency.now)
-        (LeftByRefusal some given b.first (state_by D.Folder O.Sink name folder.new out.new
-        (b.kept ∷ (M.state machine.new).files))) }
+    requires stands { (b : WalkStart) × AtPass (walk_by M.PassMachine input.now) b
+        (moment D.Folder O.Sink folder.old out.old (M.state machine.old) recency.now) number passed.now }
+    ensures ran { RunsBeside (walk_by M.PassMachine input.now) number passed.now
+        (moment D.Folder O.Sink folder.old out.old (M.state machine.old) recency.now)
+        (moment D.Folder O.Sink folder.new out.new (M.state machine.new) recency.now) result }
     ensures idle { OnOk result (M.is_idle machine.new) }
-    ensures same { AreSameFiles (M.state machine.old).files (M.state machine.new).files }
-    ensures asked { D.asked folder.new ≡ D.asked folder.old }
-    ensures faults { D.faults folder.old ≤ D.faults folder.new }
-    ensures out_faults { O.faults out.old ≤ O.faults out.new }
+    ensures kept { KeepsWalk (moment D.Folder O.Sink folder.old out.old (M.state machine.old) recency.now)
+        (moment D.Folder O.Sink folder.new out.new (M.state machine.new) recency.now) }
 {
     let _ = recency;
     let _ = number;

@@ -1,14 +1,13 @@
 //! Pass after pass.
 
 ghost use Rattle.std.specs.Prelude.{◌≡◌, ◌+◌, ◌<◌, ◌≤◌, ◌^◌, ◌∷◌, MatchResult, OnOk, IfOk};
-ghost use Rattle.vt_walk_decisions.specs.Requests.{AreSameFiles};
 ghost use Rattle.vt_walk.specs.States.{walk_state};
 ghost use Rattle.vt_walk.specs.WalkInputs.{given_of, setup_of_input, IsWalkInput};
-ghost use Rattle.vt_walk.specs.Standing.{Finished};
 ghost use Rattle.vt_walk.specs.DrawnBy.{IsDrawnBySome};
-ghost use Rattle.vt_walk.specs.WalkSteps.{WalkStart, PassStart, StandsFirst, StandsAt, StandsAfter, StandsLast, LeftByRefusal};
-ghost use Rattle.vt_walk.specs.Following.{StandsDrawn, StandsNext};
-ghost use Rattle.vt_walk.specs.WalkEffects.{state_by};
+ghost use Rattle.vt_walk.specs.WalkSteps.{WalkStart, PassStart, StandsAfter, LeftByRefusal};
+ghost use Rattle.vt_walk.specs.Following.{StandsDrawn};
+ghost use Rattle.vt_walk.specs.Moments.{moment, KeepsWalk};
+ghost use Rattle.vt_walk.specs.Goings.{walk_by, AtFirst, AtDrawn, AtPass, WalksOn, TakesSteps, GoesFromDrawn, GoesFromPass, EndsPass};
 ghost use Rattle.vt_walk.specs.Counts.{HasCounts};
 ghost use Rattle.vt_walk_decisions.specs.Judging.{MayGoOn};
 
@@ -56,21 +55,14 @@ pub fn walk_on<
     requires input { IsWalkInput input.now }
     requires enough_frames { input.now.pinned ≤ input.now.settings.frames }
     requires idle { M.is_idle machine.old }
-    requires stands { (b : WalkStart) × StandsFirst (IsDrawnBySome M.PassMachine) (given_of M.drawing input.now b.told) b.first
-        (state_by D.Folder O.Sink input.now.names.store.now folder.old out.old (b.kept ∷ (M.state machine.old).files))
-        (M.state machine.old) recency.old }
-    ensures walked { (b : WalkStart) → let drawn = IsDrawnBySome M.PassMachine in
-        let given = given_of M.drawing input.now b.told in
-        let name = input.now.names.store.now in
-        let before = state_by D.Folder O.Sink name folder.old out.old (b.kept ∷ (M.state machine.old).files) in
-        let after = state_by D.Folder O.Sink name folder.new out.new (b.kept ∷ (M.state machine.new).files) in
-        StandsFirst drawn given b.first before (M.state machine.old) recency.old
-        → MatchResult result (λ _. Finished drawn given b.first after) (LeftByRefusal drawn given b.first after) }
+    requires stands { (b : WalkStart) × AtFirst (walk_by M.PassMachine input.now) b
+        (moment D.Folder O.Sink folder.old out.old (M.state machine.old) recency.old) }
+    ensures walked { WalksOn (walk_by M.PassMachine input.now)
+        (moment D.Folder O.Sink folder.old out.old (M.state machine.old) recency.old)
+        (moment D.Folder O.Sink folder.new out.new (M.state machine.new) recency.new) result }
     ensures counted { IfOk result (HasCounts (setup_of_input M.drawing input.now)) }
-    ensures same { AreSameFiles (M.state machine.old).files (M.state machine.new).files }
-    ensures asked { D.asked folder.new ≡ D.asked folder.old }
-    ensures faults { D.faults folder.old ≤ D.faults folder.new }
-    ensures out_faults { O.faults out.old ≤ O.faults out.new }
+    ensures kept { KeepsWalk (moment D.Folder O.Sink folder.old out.old (M.state machine.old) recency.old)
+        (moment D.Folder O.Sink folder.new out.new (M.state machine.new) recency.new) }
 {
     let took = take_steps(
         rt, alloc, folder, machine, recency, input, buffer, out, gate,
@@ -94,22 +86,14 @@ fn take_steps<Rt: Threads + Wait + Sync, M: PassMachine + Send, D: Folder, O: Si
     requires input { IsWalkInput input.now }
     requires enough_frames { input.now.pinned ≤ input.now.settings.frames }
     requires idle { M.is_idle machine.old }
-    requires stands { (b : WalkStart) × StandsFirst (IsDrawnBySome M.PassMachine) (given_of M.drawing input.now b.told) b.first
-        (state_by D.Folder O.Sink input.now.names.store.now folder.old out.old (b.kept ∷ (M.state machine.old).files))
-        (M.state machine.old) recency.old }
-    ensures walked { (b : WalkStart) → let drawn = IsDrawnBySome M.PassMachine in
-        let given = given_of M.drawing input.now b.told in
-        let name = input.now.names.store.now in
-        let before = state_by D.Folder O.Sink name folder.old out.old (b.kept ∷ (M.state machine.old).files) in
-        let after = state_by D.Folder O.Sink name folder.new out.new (b.kept ∷ (M.state machine.new).files) in
-        StandsFirst drawn given b.first before (M.state machine.old) recency.old
-        → MatchResult result (λ walked. StandsLast drawn given walked.reads b.first after)
-        (LeftByRefusal drawn given b.first after) }
+    requires stands { (b : WalkStart) × AtFirst (walk_by M.PassMachine input.now) b
+        (moment D.Folder O.Sink folder.old out.old (M.state machine.old) recency.old) }
+    ensures walked { TakesSteps (walk_by M.PassMachine input.now)
+        (moment D.Folder O.Sink folder.old out.old (M.state machine.old) recency.old)
+        (moment D.Folder O.Sink folder.new out.new (M.state machine.new) recency.new) result }
     ensures counted { IfOk result (HasCounts (setup_of_input M.drawing input.now)) }
-    ensures same { AreSameFiles (M.state machine.old).files (M.state machine.new).files }
-    ensures asked { D.asked folder.new ≡ D.asked folder.old }
-    ensures faults { D.faults folder.old ≤ D.faults folder.new }
-    ensures out_faults { O.faults out.old ≤ O.faults out.new }
+    ensures kept { KeepsWalk (moment D.Folder O.Sink folder.old out.old (M.state machine.old) recency.old)
+        (moment D.Folder O.Sink folder.new out.new (M.state machine.new) recency.new) }
 {
     let step = WalkStep {
         picture: 0,
@@ -154,23 +138,14 @@ fn take_step<Rt: Threads + Wait + Sync, M: PassMachine + Send, D: Folder, O: Sin
     requires enough_frames { input.now.pinned ≤ input.now.settings.frames }
     requires idle { M.is_idle machine.old }
     requires few { number + 1 < 2 ^ 32 }
-    requires stands { (b : WalkStart) × StandsDrawn (IsDrawnBySome M.PassMachine) (given_of M.drawing input.now b.told) number
-        drawn b.first (λ files. state_by D.Folder O.Sink input.now.names.store.now folder.old out.old (b.kept ∷ files))
-        (M.state machine.old) recency.old }
-    ensures taken { (b : WalkStart) → let some = IsDrawnBySome M.PassMachine in
-        let given = given_of M.drawing input.now b.told in
-        let name = input.now.names.store.now in
-        StandsDrawn some given number drawn b.first (λ files. state_by D.Folder O.Sink name folder.old out.old
-        (b.kept ∷ files)) (M.state machine.old) recency.old
-        → MatchResult result (λ next. StandsNext some given (number + 1) next b.first
-        (λ files. state_by D.Folder O.Sink name folder.new out.new (b.kept ∷ files)) (M.state machine.new) recency.new)
-        (LeftByRefusal some given b.first (state_by D.Folder O.Sink name folder.new out.new
-        (b.kept ∷ (M.state machine.new).files))) }
+    requires stands { (b : WalkStart) × AtDrawn (walk_by M.PassMachine input.now) b
+        (moment D.Folder O.Sink folder.old out.old (M.state machine.old) recency.old) number drawn }
+    ensures taken { GoesFromDrawn (walk_by M.PassMachine input.now) number drawn
+        (moment D.Folder O.Sink folder.old out.old (M.state machine.old) recency.old)
+        (moment D.Folder O.Sink folder.new out.new (M.state machine.new) recency.new) result }
     ensures idle { OnOk result (M.is_idle machine.new) }
-    ensures same { AreSameFiles (M.state machine.old).files (M.state machine.new).files }
-    ensures asked { D.asked folder.new ≡ D.asked folder.old }
-    ensures faults { D.faults folder.old ≤ D.faults folder.new }
-    ensures out_faults { O.faults out.old ≤ O.faults out.new }
+    ensures kept { KeepsWalk (moment D.Folder O.Sink folder.old out.old (M.state machine.old) recency.old)
+        (moment D.Folder O.Sink folder.new out.new (M.state machine.new) recency.new) }
 {
     let passed = tell_drawn(buffer, folder, machine, recency, input, number, drawn)?;
     judge(input, &passed)?;
@@ -237,23 +212,14 @@ fn go_on<Rt: Threads + Wait + Sync, M: PassMachine + Send, D: Folder, O: Sink, G
     requires idle { M.is_idle machine.old }
     requires few { number + 1 < 2 ^ 32 }
     requires goes_on { MayGoOn input.now passed }
-    requires stands { (b : WalkStart) × StandsAfter (IsDrawnBySome M.PassMachine) (given_of M.drawing input.now b.told) number
-        passed b.first (state_by D.Folder O.Sink input.now.names.store.now folder.old out.old
-        (b.kept ∷ (M.state machine.old).files)) (M.state machine.old) recency.old }
-    ensures taken { (b : WalkStart) → let some = IsDrawnBySome M.PassMachine in
-        let given = given_of M.drawing input.now b.told in
-        let name = input.now.names.store.now in
-        StandsAfter some given number passed b.first (state_by D.Folder O.Sink name folder.old out.old
-        (b.kept ∷ (M.state machine.old).files)) (M.state machine.old) recency.old
-        → MatchResult result (λ next. StandsNext some given (number + 1) next b.first
-        (λ files. state_by D.Folder O.Sink name folder.new out.new (b.kept ∷ files)) (M.state machine.new) recency.new)
-        (LeftByRefusal some given b.first (state_by D.Folder O.Sink name folder.new out.new
-        (b.kept ∷ (M.state machine.new).files))) }
+    requires stands { (b : WalkStart) × AtPass (walk_by M.PassMachine input.now) b
+        (moment D.Folder O.Sink folder.old out.old (M.state machine.old) recency.old) number passed }
+    ensures taken { GoesFromPass (walk_by M.PassMachine input.now) number passed
+        (moment D.Folder O.Sink folder.old out.old (M.state machine.old) recency.old)
+        (moment D.Folder O.Sink folder.new out.new (M.state machine.new) recency.new) result }
     ensures idle { OnOk result (M.is_idle machine.new) }
-    ensures same { AreSameFiles (M.state machine.old).files (M.state machine.new).files }
-    ensures asked { D.asked folder.new ≡ D.asked folder.old }
-    ensures faults { D.faults folder.old ≤ D.faults folder.new }
-    ensures out_faults { O.faults out.old ≤ O.faults out.new }
+    ensures kept { KeepsWalk (moment D.Folder O.Sink folder.old out.old (M.state machine.old) recency.old)
+        (moment D.Folder O.Sink folder.new out.new (M.state machine.new) recency.new) }
 {
     if is_written_beside(input, &passed) {
         return draw_beside(
@@ -282,22 +248,13 @@ fn end_step<M: PassMachine, D: Folder, O: Sink>(
     requires input { IsWalkInput input.now }
     requires idle { M.is_idle machine.now }
     requires goes_on { MayGoOn input.now passed }
-    requires stands { (b : WalkStart) × StandsAfter (IsDrawnBySome M.PassMachine)
-        (given_of M.drawing input.now b.told) number passed b.first
-        (state_by D.Folder O.Sink input.now.names.store.now folder.old out.old (b.kept ∷ (M.state machine.now).files))
-        (M.state machine.now) recency.now }
-    ensures ended { (b : WalkStart) → let drawn = IsDrawnBySome M.PassMachine in
-        let given = given_of M.drawing input.now b.told in
-        let name = input.now.names.store.now in
-        let before = state_by D.Folder O.Sink name folder.old out.old (b.kept ∷ (M.state machine.now).files) in
-        let after = state_by D.Folder O.Sink name folder.new out.new (b.kept ∷ (M.state machine.now).files) in
-        StandsAfter drawn given number passed b.first before (M.state machine.now) recency.now
-        → MatchResult result (λ next. StandsAt drawn given (number + 1) next b.first after
-        (M.state machine.now) recency.now)
-        (LeftByRefusal drawn given b.first after) }
-    ensures asked { D.asked folder.new ≡ D.asked folder.old }
-    ensures faults { D.faults folder.old ≤ D.faults folder.new }
-    ensures out_faults { O.faults out.old ≤ O.faults out.new }
+    requires stands { (b : WalkStart) × AtPass (walk_by M.PassMachine input.now) b
+        (moment D.Folder O.Sink folder.old out.old (M.state machine.now) recency.now) number passed }
+    ensures ended { EndsPass (walk_by M.PassMachine input.now) number passed
+        (moment D.Folder O.Sink folder.old out.old (M.state machine.now) recency.now)
+        (moment D.Folder O.Sink folder.new out.new (M.state machine.now) recency.now) result }
+    ensures kept { KeepsWalk (moment D.Folder O.Sink folder.old out.old (M.state machine.now) recency.now)
+        (moment D.Folder O.Sink folder.new out.new (M.state machine.now) recency.now) }
 {
     let _ = recency;
     let Passed {

@@ -79,50 +79,29 @@ returns-clause-taken g c = λ b at.
     c.args.recency.now c.plan_on.new.recency s c.in_ok-drawn.drawn
     (c.in_ok-drawn.ensures (record { told = b.told; run = s.stands.run; machine = s.before }) s.has_run)
 
-pub returns-in_err-name-clause-same : goal.returns-in_err-name-clause-same
-returns-in_err-name-clause-same g c = record { names = refl; tell = refl }
+pub returns-in_err-name-clause-kept : goal.returns-in_err-name-clause-kept
+returns-in_err-name-clause-kept g c = record {
+  same = record { names = refl; tell = refl };
+  asked = refl;
+  faults = omega arith;
+  out_faults = omega arith;
+}
 
-pub returns-in_err-name-clause-asked : goal.returns-in_err-name-clause-asked
-returns-in_err-name-clause-asked g c = refl
+pub returns-in_err-report-clause-kept : goal.returns-in_err-report-clause-kept
+returns-in_err-report-clause-kept g c = c.write_beside.ensures.kept
 
-pub returns-in_err-name-clause-faults : goal.returns-in_err-name-clause-faults
-returns-in_err-name-clause-faults g c = omega arith
+pub returns-in_err-drawn-clause-kept : goal.returns-in_err-drawn-clause-kept
+returns-in_err-drawn-clause-kept g c = record {
+  same = c.write_beside.ensures.kept.same;
+  asked = c.write_beside.ensures.kept.asked;
+  faults = c.write_beside.ensures.kept.faults;
+  out_faults = c.write_beside.ensures.kept.out_faults;
+}
 
-pub returns-in_err-name-clause-out_faults : goal.returns-in_err-name-clause-out_faults
-returns-in_err-name-clause-out_faults g c = omega arith
-
-pub returns-in_err-report-clause-same : goal.returns-in_err-report-clause-same
-returns-in_err-report-clause-same g c = c.write_beside.ensures.same
-
-pub returns-in_err-report-clause-asked : goal.returns-in_err-report-clause-asked
-returns-in_err-report-clause-asked g c = c.write_beside.ensures.asked
-
-pub returns-in_err-report-clause-faults : goal.returns-in_err-report-clause-faults
-returns-in_err-report-clause-faults g c = c.write_beside.ensures.faults
-
-pub returns-in_err-report-clause-out_faults : goal.returns-in_err-report-clause-out_faults
-returns-in_err-report-clause-out_faults g c = c.write_beside.ensures.out_faults
-
-pub returns-in_err-drawn-clause-same : goal.returns-in_err-drawn-clause-same
-returns-in_err-drawn-clause-same g c = c.write_beside.ensures.same
-
-pub returns-in_err-drawn-clause-asked : goal.returns-in_err-drawn-clause-asked
-returns-in_err-drawn-clause-asked g c = c.write_beside.ensures.asked
-
-pub returns-in_err-drawn-clause-faults : goal.returns-in_err-drawn-clause-faults
-returns-in_err-drawn-clause-faults g c = c.write_beside.ensures.faults
-
-pub returns-in_err-drawn-clause-out_faults : goal.returns-in_err-drawn-clause-out_faults
-returns-in_err-drawn-clause-out_faults g c = c.write_beside.ensures.out_faults
-
-pub returns-clause-same : goal.returns-clause-same
-returns-clause-same g c = c.write_beside.ensures.same
-
-pub returns-clause-asked : goal.returns-clause-asked
-returns-clause-asked g c = c.write_beside.ensures.asked
-
-pub returns-clause-faults : goal.returns-clause-faults
-returns-clause-faults g c = c.write_beside.ensures.faults
-
-pub returns-clause-out_faults : goal.returns-clause-out_faults
-returns-clause-out_faults g c = c.write_beside.ensures.out_faults
+pub returns-clause-kept : goal.returns-clause-kept
+returns-clause-kept g c = record {
+  same = c.write_beside.ensures.kept.same;
+  asked = c.write_beside.ensures.kept.asked;
+  faults = c.write_beside.ensures.kept.faults;
+  out_faults = c.write_beside.ensures.kept.out_faults;
+}

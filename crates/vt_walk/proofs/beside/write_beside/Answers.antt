@@ -103,78 +103,58 @@ returns-clause-ran g c =
     (record { scene = input_scene c.args.input.now; picture = c.args.passed.now.picture + 1; batch = c.args.passed.now.outlook.plan.elements })
     c.in_ok-report.report (g.M.PassMachine.state c.args.machine.now) ends.goes_on ends.ran)
 
-pub returns-in_err-written-clause-asked : goal.returns-in_err-written-clause-asked
-returns-in_err-written-clause-asked g c = c.run_and_write-ran.ensures.written.asked
+pub returns-in_err-written-clause-kept : goal.returns-in_err-written-clause-kept
+returns-in_err-written-clause-kept g c = record {
+  same = let b = c.requires.stands.0 in
+      (next_read g.M.PassMachine.drawing (IsDrawnBySome g.M.PassMachine) (g.met.M.PassMachine g.world.𝓛 g.world.𝓜 g.world.𝓡 ((λ s x. x), (λ x. x), (λ x. x), λ x. x)).shows_whole c.args.input.now b.told c.args.number c.args.passed.now b.first
+      (g.M.PassMachine.state c.args.machine.now) c.args.recency.now c.requires.input c.requires.goes_on c.requires.followed
+      (walk_state g.D.Folder c.args.input.now.names.store.now c.args.folder.now (b.kept ∷ (g.M.PassMachine.state c.args.machine.now).files)
+      (g.O.Sink.held c.args.out.now) (g.O.Sink.faults c.args.out.now)) c.requires.stands.1
+      (g.M.PassMachine.drawn c.run_and_write-ran.new.machine) (g.M.PassMachine.is_idle c.run_and_write-ran.new.machine)
+      (g.M.PassMachine.state c.run_and_write-ran.new.machine) c.run_and_write-ran.result.0 c.run_and_write-ran.ensures.ran).same;
+  asked = c.run_and_write-ran.ensures.written.asked;
+  faults = c.run_and_write-ran.ensures.written.faults;
+  out_faults = omega arith;
+}
 
-pub returns-in_err-written-clause-faults : goal.returns-in_err-written-clause-faults
-returns-in_err-written-clause-faults g c = c.run_and_write-ran.ensures.written.faults
+pub returns-in_err-put_picture_line-clause-kept : goal.returns-in_err-put_picture_line-clause-kept
+returns-in_err-put_picture_line-clause-kept g c = record {
+  same = let b = c.requires.stands.0 in
+      (next_read g.M.PassMachine.drawing (IsDrawnBySome g.M.PassMachine) (g.met.M.PassMachine g.world.𝓛 g.world.𝓜 g.world.𝓡 ((λ s x. x), (λ x. x), (λ x. x), λ x. x)).shows_whole c.args.input.now b.told c.args.number c.args.passed.now b.first
+      (g.M.PassMachine.state c.args.machine.now) c.args.recency.now c.requires.input c.requires.goes_on c.requires.followed
+      (walk_state g.D.Folder c.args.input.now.names.store.now c.args.folder.now (b.kept ∷ (g.M.PassMachine.state c.args.machine.now).files)
+      (g.O.Sink.held c.args.out.now) (g.O.Sink.faults c.args.out.now)) c.requires.stands.1
+      (g.M.PassMachine.drawn c.run_and_write-ran.new.machine) (g.M.PassMachine.is_idle c.run_and_write-ran.new.machine)
+      (g.M.PassMachine.state c.run_and_write-ran.new.machine) c.run_and_write-ran.result.0 c.run_and_write-ran.ensures.ran).same;
+  asked = c.run_and_write-ran.ensures.written.asked;
+  faults = c.run_and_write-ran.ensures.written.faults;
+  out_faults = c.put_picture_line.ensures.faults;
+}
 
-pub returns-in_err-written-clause-out_faults : goal.returns-in_err-written-clause-out_faults
-returns-in_err-written-clause-out_faults g c = omega arith
+pub returns-in_err-report-clause-kept : goal.returns-in_err-report-clause-kept
+returns-in_err-report-clause-kept g c = record {
+  same = let b = c.requires.stands.0 in
+      (next_read g.M.PassMachine.drawing (IsDrawnBySome g.M.PassMachine) (g.met.M.PassMachine g.world.𝓛 g.world.𝓜 g.world.𝓡 ((λ s x. x), (λ x. x), (λ x. x), λ x. x)).shows_whole c.args.input.now b.told c.args.number c.args.passed.now b.first
+      (g.M.PassMachine.state c.args.machine.now) c.args.recency.now c.requires.input c.requires.goes_on c.requires.followed
+      (walk_state g.D.Folder c.args.input.now.names.store.now c.args.folder.now (b.kept ∷ (g.M.PassMachine.state c.args.machine.now).files)
+      (g.O.Sink.held c.args.out.now) (g.O.Sink.faults c.args.out.now)) c.requires.stands.1
+      (g.M.PassMachine.drawn c.run_and_write-ran.new.machine) (g.M.PassMachine.is_idle c.run_and_write-ran.new.machine)
+      (g.M.PassMachine.state c.run_and_write-ran.new.machine) c.run_and_write-ran.result.0 c.run_and_write-ran.ensures.ran).same;
+  asked = c.run_and_write-ran.ensures.written.asked;
+  faults = c.run_and_write-ran.ensures.written.faults;
+  out_faults = c.put_picture_line.ensures.faults;
+}
 
-pub returns-in_err-written-clause-same : goal.returns-in_err-written-clause-same
-returns-in_err-written-clause-same g c =
-    let b = c.requires.stands.0 in
-    (next_read g.M.PassMachine.drawing (IsDrawnBySome g.M.PassMachine) (g.met.M.PassMachine g.world.𝓛 g.world.𝓜 g.world.𝓡 ((λ s x. x), (λ x. x), (λ x. x), λ x. x)).shows_whole c.args.input.now b.told c.args.number c.args.passed.now b.first
-    (g.M.PassMachine.state c.args.machine.now) c.args.recency.now c.requires.input c.requires.goes_on c.requires.followed
-    (walk_state g.D.Folder c.args.input.now.names.store.now c.args.folder.now (b.kept ∷ (g.M.PassMachine.state c.args.machine.now).files)
-    (g.O.Sink.held c.args.out.now) (g.O.Sink.faults c.args.out.now)) c.requires.stands.1
-    (g.M.PassMachine.drawn c.run_and_write-ran.new.machine) (g.M.PassMachine.is_idle c.run_and_write-ran.new.machine)
-    (g.M.PassMachine.state c.run_and_write-ran.new.machine) c.run_and_write-ran.result.0 c.run_and_write-ran.ensures.ran).same
-
-pub returns-in_err-put_picture_line-clause-asked : goal.returns-in_err-put_picture_line-clause-asked
-returns-in_err-put_picture_line-clause-asked g c = c.run_and_write-ran.ensures.written.asked
-
-pub returns-in_err-put_picture_line-clause-faults : goal.returns-in_err-put_picture_line-clause-faults
-returns-in_err-put_picture_line-clause-faults g c = c.run_and_write-ran.ensures.written.faults
-
-pub returns-in_err-put_picture_line-clause-out_faults : goal.returns-in_err-put_picture_line-clause-out_faults
-returns-in_err-put_picture_line-clause-out_faults g c = c.put_picture_line.ensures.faults
-
-pub returns-in_err-put_picture_line-clause-same : goal.returns-in_err-put_picture_line-clause-same
-returns-in_err-put_picture_line-clause-same g c =
-    let b = c.requires.stands.0 in
-    (next_read g.M.PassMachine.drawing (IsDrawnBySome g.M.PassMachine) (g.met.M.PassMachine g.world.𝓛 g.world.𝓜 g.world.𝓡 ((λ s x. x), (λ x. x), (λ x. x), λ x. x)).shows_whole c.args.input.now b.told c.args.number c.args.passed.now b.first
-    (g.M.PassMachine.state c.args.machine.now) c.args.recency.now c.requires.input c.requires.goes_on c.requires.followed
-    (walk_state g.D.Folder c.args.input.now.names.store.now c.args.folder.now (b.kept ∷ (g.M.PassMachine.state c.args.machine.now).files)
-    (g.O.Sink.held c.args.out.now) (g.O.Sink.faults c.args.out.now)) c.requires.stands.1
-    (g.M.PassMachine.drawn c.run_and_write-ran.new.machine) (g.M.PassMachine.is_idle c.run_and_write-ran.new.machine)
-    (g.M.PassMachine.state c.run_and_write-ran.new.machine) c.run_and_write-ran.result.0 c.run_and_write-ran.ensures.ran).same
-
-pub returns-in_err-report-clause-asked : goal.returns-in_err-report-clause-asked
-returns-in_err-report-clause-asked g c = c.run_and_write-ran.ensures.written.asked
-
-pub returns-in_err-report-clause-faults : goal.returns-in_err-report-clause-faults
-returns-in_err-report-clause-faults g c = c.run_and_write-ran.ensures.written.faults
-
-pub returns-in_err-report-clause-out_faults : goal.returns-in_err-report-clause-out_faults
-returns-in_err-report-clause-out_faults g c = c.put_picture_line.ensures.faults
-
-pub returns-in_err-report-clause-same : goal.returns-in_err-report-clause-same
-returns-in_err-report-clause-same g c =
-    let b = c.requires.stands.0 in
-    (next_read g.M.PassMachine.drawing (IsDrawnBySome g.M.PassMachine) (g.met.M.PassMachine g.world.𝓛 g.world.𝓜 g.world.𝓡 ((λ s x. x), (λ x. x), (λ x. x), λ x. x)).shows_whole c.args.input.now b.told c.args.number c.args.passed.now b.first
-    (g.M.PassMachine.state c.args.machine.now) c.args.recency.now c.requires.input c.requires.goes_on c.requires.followed
-    (walk_state g.D.Folder c.args.input.now.names.store.now c.args.folder.now (b.kept ∷ (g.M.PassMachine.state c.args.machine.now).files)
-    (g.O.Sink.held c.args.out.now) (g.O.Sink.faults c.args.out.now)) c.requires.stands.1
-    (g.M.PassMachine.drawn c.run_and_write-ran.new.machine) (g.M.PassMachine.is_idle c.run_and_write-ran.new.machine)
-    (g.M.PassMachine.state c.run_and_write-ran.new.machine) c.run_and_write-ran.result.0 c.run_and_write-ran.ensures.ran).same
-
-pub returns-clause-asked : goal.returns-clause-asked
-returns-clause-asked g c = c.run_and_write-ran.ensures.written.asked
-
-pub returns-clause-faults : goal.returns-clause-faults
-returns-clause-faults g c = c.run_and_write-ran.ensures.written.faults
-
-pub returns-clause-out_faults : goal.returns-clause-out_faults
-returns-clause-out_faults g c = c.put_picture_line.ensures.faults
-
-pub returns-clause-same : goal.returns-clause-same
-returns-clause-same g c =
-    let b = c.requires.stands.0 in
-    (next_read g.M.PassMachine.drawing (IsDrawnBySome g.M.PassMachine) (g.met.M.PassMachine g.world.𝓛 g.world.𝓜 g.world.𝓡 ((λ s x. x), (λ x. x), (λ x. x), λ x. x)).shows_whole c.args.input.now b.told c.args.number c.args.passed.now b.first
-    (g.M.PassMachine.state c.args.machine.now) c.args.recency.now c.requires.input c.requires.goes_on c.requires.followed
-    (walk_state g.D.Folder c.args.input.now.names.store.now c.args.folder.now (b.kept ∷ (g.M.PassMachine.state c.args.machine.now).files)
-    (g.O.Sink.held c.args.out.now) (g.O.Sink.faults c.args.out.now)) c.requires.stands.1
-    (g.M.PassMachine.drawn c.run_and_write-ran.new.machine) (g.M.PassMachine.is_idle c.run_and_write-ran.new.machine)
-    (g.M.PassMachine.state c.run_and_write-ran.new.machine) c.run_and_write-ran.result.0 c.run_and_write-ran.ensures.ran).same
+pub returns-clause-kept : goal.returns-clause-kept
+returns-clause-kept g c = record {
+  same = let b = c.requires.stands.0 in
+      (next_read g.M.PassMachine.drawing (IsDrawnBySome g.M.PassMachine) (g.met.M.PassMachine g.world.𝓛 g.world.𝓜 g.world.𝓡 ((λ s x. x), (λ x. x), (λ x. x), λ x. x)).shows_whole c.args.input.now b.told c.args.number c.args.passed.now b.first
+      (g.M.PassMachine.state c.args.machine.now) c.args.recency.now c.requires.input c.requires.goes_on c.requires.followed
+      (walk_state g.D.Folder c.args.input.now.names.store.now c.args.folder.now (b.kept ∷ (g.M.PassMachine.state c.args.machine.now).files)
+      (g.O.Sink.held c.args.out.now) (g.O.Sink.faults c.args.out.now)) c.requires.stands.1
+      (g.M.PassMachine.drawn c.run_and_write-ran.new.machine) (g.M.PassMachine.is_idle c.run_and_write-ran.new.machine)
+      (g.M.PassMachine.state c.run_and_write-ran.new.machine) c.run_and_write-ran.result.0 c.run_and_write-ran.ensures.ran).same;
+  asked = c.run_and_write-ran.ensures.written.asked;
+  faults = c.run_and_write-ran.ensures.written.faults;
+  out_faults = c.put_picture_line.ensures.faults;
+}

@@ -1,6 +1,7 @@
-use Rattle.std.proofs.Common.{◌∷◌, sym, subst, arith, ◌∙◌}
+use Rattle.std.proofs.Common.{List, ◌∷◌, sym, subst, arith, ◌∙◌}
 use Rattle.std.proofs.lemmas.Result.{err_from_is_err_and}
 use Rattle.vt_walk_decisions.specs.Machines.{file_state}
+use Rattle.vt_walk_decisions.specs.Requests.{FileState, AreSameFiles}
 use Rattle.vt_walk.specs.States.{walk_state}
 use Rattle.vt_walk.specs.WalkInputs.{given_of}
 use Rattle.vt_walk.specs.WalkSteps.{LeftByRefusal}
@@ -57,13 +58,17 @@ pub returns-clause-store : goal.returns-clause-store
 returns-clause-store g c = c.begin.ensures.store
 
 pub returns-clause-asked : goal.returns-clause-asked
-returns-clause-asked g c = c.walk_on.ensures.asked ∙ c.begin.ensures.asked
+returns-clause-asked g c = c.walk_on.ensures.kept.asked ∙ c.begin.ensures.asked
 
 pub returns-clause-faults : goal.returns-clause-faults
-returns-clause-faults g c = omega (arith, c.begin.ensures.faults, c.walk_on.ensures.faults)
+returns-clause-faults g c = omega (arith, c.begin.ensures.faults, c.walk_on.ensures.kept.faults)
 
 pub returns-clause-out_faults : goal.returns-clause-out_faults
-returns-clause-out_faults g c = c.walk_on.ensures.out_faults
+returns-clause-out_faults g c = c.walk_on.ensures.kept.out_faults
 
 pub returns-clause-counted : goal.returns-clause-counted
 returns-clause-counted g c = c.walk_on.ensures.counted
+
+pub returns-clause-same : goal.returns-clause-same
+returns-clause-same g c = subst (λ (files : List FileState). AreSameFiles files (g.M.PassMachine.state c.walk_on.new.machine).files)
+    c.begin.ensures.files c.walk_on.ensures.kept.same

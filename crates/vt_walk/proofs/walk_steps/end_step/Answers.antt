@@ -98,38 +98,34 @@ returns-clause-ended g c = λ b at. next_picture g.M.PassMachine.drawing
     c.in_ok-write_picture.ensures.asked c.in_ok-write_picture.ensures.faults
     c.in_ok-put_picture_line.ensures.faults c.new.result c.new.ensures
 
-pub returns-then-not-is_finished-clause-asked : goal.returns-then-not-is_finished-clause-asked
-returns-then-not-is_finished-clause-asked g c = refl
+pub returns-then-not-is_finished-clause-kept : goal.returns-then-not-is_finished-clause-kept
+returns-then-not-is_finished-clause-kept g c = record {
+  same = record { names = refl; tell = refl };
+  asked = refl;
+  faults = omega arith;
+  out_faults = omega arith;
+}
 
-pub returns-then-not-is_finished-clause-faults : goal.returns-then-not-is_finished-clause-faults
-returns-then-not-is_finished-clause-faults g c = omega arith
+pub returns-in_err-write_picture-clause-kept : goal.returns-in_err-write_picture-clause-kept
+returns-in_err-write_picture-clause-kept g c = record {
+  same = record { names = refl; tell = refl };
+  asked = c.write_picture.ensures.asked;
+  faults = c.write_picture.ensures.faults;
+  out_faults = omega arith;
+}
 
-pub returns-then-not-is_finished-clause-out_faults : goal.returns-then-not-is_finished-clause-out_faults
-returns-then-not-is_finished-clause-out_faults g c = omega arith
+pub returns-in_err-put_picture_line-clause-kept : goal.returns-in_err-put_picture_line-clause-kept
+returns-in_err-put_picture_line-clause-kept g c = record {
+  same = record { names = refl; tell = refl };
+  asked = c.write_picture.ensures.asked;
+  faults = c.write_picture.ensures.faults;
+  out_faults = c.put_picture_line.ensures.faults;
+}
 
-pub returns-in_err-write_picture-clause-asked : goal.returns-in_err-write_picture-clause-asked
-returns-in_err-write_picture-clause-asked g c = c.write_picture.ensures.asked
-
-pub returns-in_err-write_picture-clause-faults : goal.returns-in_err-write_picture-clause-faults
-returns-in_err-write_picture-clause-faults g c = c.write_picture.ensures.faults
-
-pub returns-in_err-write_picture-clause-out_faults : goal.returns-in_err-write_picture-clause-out_faults
-returns-in_err-write_picture-clause-out_faults g c = omega arith
-
-pub returns-in_err-put_picture_line-clause-asked : goal.returns-in_err-put_picture_line-clause-asked
-returns-in_err-put_picture_line-clause-asked g c = c.write_picture.ensures.asked
-
-pub returns-in_err-put_picture_line-clause-faults : goal.returns-in_err-put_picture_line-clause-faults
-returns-in_err-put_picture_line-clause-faults g c = c.write_picture.ensures.faults
-
-pub returns-in_err-put_picture_line-clause-out_faults : goal.returns-in_err-put_picture_line-clause-out_faults
-returns-in_err-put_picture_line-clause-out_faults g c = c.put_picture_line.ensures.faults
-
-pub returns-clause-asked : goal.returns-clause-asked
-returns-clause-asked g c = c.write_picture.ensures.asked
-
-pub returns-clause-faults : goal.returns-clause-faults
-returns-clause-faults g c = c.write_picture.ensures.faults
-
-pub returns-clause-out_faults : goal.returns-clause-out_faults
-returns-clause-out_faults g c = c.put_picture_line.ensures.faults
+pub returns-clause-kept : goal.returns-clause-kept
+returns-clause-kept g c = record {
+  same = record { names = refl; tell = refl };
+  asked = c.write_picture.ensures.asked;
+  faults = c.write_picture.ensures.faults;
+  out_faults = c.put_picture_line.ensures.faults;
+}

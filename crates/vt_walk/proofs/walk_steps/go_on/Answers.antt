@@ -56,38 +56,26 @@ returns-clause-taken g c = λ b at.
     (may_turn (IsDrawnBySome g.M.PassMachine) (given_of g.M.PassMachine.drawing c.args.input.now b.told) b.first (c.args.number + 1)
     c.in_ok-step.step now (g.M.PassMachine.state c.args.machine.now) c.args.recency.now s))
 
-pub returns-in_err-step-clause-same : goal.returns-in_err-step-clause-same
-returns-in_err-step-clause-same g c = record { names = refl; tell = refl }
+pub returns-in_err-step-clause-kept : goal.returns-in_err-step-clause-kept
+returns-in_err-step-clause-kept g c = record {
+  same = record { names = refl; tell = refl };
+  asked = c.end_step.ensures.kept.asked;
+  faults = c.end_step.ensures.kept.faults;
+  out_faults = c.end_step.ensures.kept.out_faults;
+}
 
-pub returns-in_err-step-clause-asked : goal.returns-in_err-step-clause-asked
-returns-in_err-step-clause-asked g c = c.end_step.ensures.asked
+pub returns-in_err-next-clause-kept : goal.returns-in_err-next-clause-kept
+returns-in_err-next-clause-kept g c = record {
+  same = c.draw_next.ensures.same;
+  asked = c.end_step.ensures.kept.asked;
+  faults = c.end_step.ensures.kept.faults;
+  out_faults = c.end_step.ensures.kept.out_faults;
+}
 
-pub returns-in_err-step-clause-faults : goal.returns-in_err-step-clause-faults
-returns-in_err-step-clause-faults g c = c.end_step.ensures.faults
-
-pub returns-in_err-step-clause-out_faults : goal.returns-in_err-step-clause-out_faults
-returns-in_err-step-clause-out_faults g c = c.end_step.ensures.out_faults
-
-pub returns-in_err-next-clause-same : goal.returns-in_err-next-clause-same
-returns-in_err-next-clause-same g c = c.draw_next.ensures.same
-
-pub returns-in_err-next-clause-asked : goal.returns-in_err-next-clause-asked
-returns-in_err-next-clause-asked g c = c.end_step.ensures.asked
-
-pub returns-in_err-next-clause-faults : goal.returns-in_err-next-clause-faults
-returns-in_err-next-clause-faults g c = c.end_step.ensures.faults
-
-pub returns-in_err-next-clause-out_faults : goal.returns-in_err-next-clause-out_faults
-returns-in_err-next-clause-out_faults g c = c.end_step.ensures.out_faults
-
-pub returns-clause-same : goal.returns-clause-same
-returns-clause-same g c = c.draw_next.ensures.same
-
-pub returns-clause-asked : goal.returns-clause-asked
-returns-clause-asked g c = c.end_step.ensures.asked
-
-pub returns-clause-faults : goal.returns-clause-faults
-returns-clause-faults g c = c.end_step.ensures.faults
-
-pub returns-clause-out_faults : goal.returns-clause-out_faults
-returns-clause-out_faults g c = c.end_step.ensures.out_faults
+pub returns-clause-kept : goal.returns-clause-kept
+returns-clause-kept g c = record {
+  same = c.draw_next.ensures.same;
+  asked = c.end_step.ensures.kept.asked;
+  faults = c.end_step.ensures.kept.faults;
+  out_faults = c.end_step.ensures.kept.out_faults;
+}

@@ -55,38 +55,26 @@ pub returns-clause-taken : goal.returns-clause-taken
 returns-clause-taken g c = λ b at. c.go_on.ensures.taken b
     (c.in_ok-passed.ensures.told (record { start = b; held = g.O.Sink.held c.args.out.now; out_faults = g.O.Sink.faults c.args.out.now }) at)
 
-pub returns-in_err-passed-clause-asked : goal.returns-in_err-passed-clause-asked
-returns-in_err-passed-clause-asked g c = c.tell_drawn.ensures.asked
+pub returns-in_err-passed-clause-kept : goal.returns-in_err-passed-clause-kept
+returns-in_err-passed-clause-kept g c = record {
+  same = record { names = refl; tell = refl };
+  asked = c.tell_drawn.ensures.asked;
+  faults = c.tell_drawn.ensures.faults;
+  out_faults = omega arith;
+}
 
-pub returns-in_err-passed-clause-faults : goal.returns-in_err-passed-clause-faults
-returns-in_err-passed-clause-faults g c = c.tell_drawn.ensures.faults
+pub returns-in_err-judge-clause-kept : goal.returns-in_err-judge-clause-kept
+returns-in_err-judge-clause-kept g c = record {
+  same = record { names = refl; tell = refl };
+  asked = c.tell_drawn.ensures.asked;
+  faults = c.tell_drawn.ensures.faults;
+  out_faults = omega arith;
+}
 
-pub returns-in_err-judge-clause-asked : goal.returns-in_err-judge-clause-asked
-returns-in_err-judge-clause-asked g c = c.tell_drawn.ensures.asked
-
-pub returns-in_err-judge-clause-faults : goal.returns-in_err-judge-clause-faults
-returns-in_err-judge-clause-faults g c = c.tell_drawn.ensures.faults
-
-pub returns-in_err-passed-clause-same : goal.returns-in_err-passed-clause-same
-returns-in_err-passed-clause-same g c = record { names = refl; tell = refl }
-
-pub returns-in_err-judge-clause-same : goal.returns-in_err-judge-clause-same
-returns-in_err-judge-clause-same g c = record { names = refl; tell = refl }
-
-pub returns-in_err-passed-clause-out_faults : goal.returns-in_err-passed-clause-out_faults
-returns-in_err-passed-clause-out_faults g c = omega arith
-
-pub returns-in_err-judge-clause-out_faults : goal.returns-in_err-judge-clause-out_faults
-returns-in_err-judge-clause-out_faults g c = omega arith
-
-pub returns-clause-same : goal.returns-clause-same
-returns-clause-same g c = c.go_on.ensures.same
-
-pub returns-clause-asked : goal.returns-clause-asked
-returns-clause-asked g c = c.go_on.ensures.asked ∙ c.tell_drawn.ensures.asked
-
-pub returns-clause-faults : goal.returns-clause-faults
-returns-clause-faults g c = omega (arith, c.go_on.ensures.faults, c.tell_drawn.ensures.faults)
-
-pub returns-clause-out_faults : goal.returns-clause-out_faults
-returns-clause-out_faults g c = c.go_on.ensures.out_faults
+pub returns-clause-kept : goal.returns-clause-kept
+returns-clause-kept g c = record {
+  same = c.go_on.ensures.kept.same;
+  asked = c.go_on.ensures.kept.asked ∙ c.tell_drawn.ensures.asked;
+  faults = omega (arith, c.go_on.ensures.kept.faults, c.tell_drawn.ensures.faults);
+  out_faults = c.go_on.ensures.kept.out_faults;
+}

@@ -9,6 +9,7 @@ use Rattle.vt_walk.specs.Following.{StandsNext}
 use Rattle.vt_walk.specs.DrawnBy.{IsDrawnBySome}
 use Rattle.vt_walk.proofs.Rounds.{first_at}
 use Rattle.vt_walk.proofs.Passing.{pass_broke}
+use Rattle.vt_walk.proofs.Keeping.{kept_on}
 use Rattle.vt_walk.proofs.Aheads.{may_turn, next_stands, next_left, end_counts}
 use Rattle.vt_walk.proofs.walk_steps.take_steps.Goals as goal
 
@@ -75,10 +76,7 @@ loop-number-init g c =
           (walk_state g.D.Folder c.args.input.now.names.store.now c.args.folder.now (b.kept ∷ (g.M.PassMachine.state c.args.machine.now).files)
           (g.O.Sink.held c.args.out.now) (g.O.Sink.faults c.args.out.now)) (g.M.PassMachine.state c.args.machine.now) c.args.recency.now s));
       idle = c.in_ok-next.ensures.idle;
-      same = c.draw_next.ensures.same;
-      asked = refl;
-      faults = omega arith;
-      out_faults = omega arith;
+      kept = record { same = c.draw_next.ensures.same; asked = refl; faults = omega arith; out_faults = omega arith };
     }
 
 pub take_step-requires-clause-stands : goal.take_step-requires-clause-stands
@@ -108,10 +106,7 @@ loop-number-preserved g c =
           (λ files. state_by g.D.Folder g.O.Sink c.args.input.now.names.store.now c.loop-number.folder c.loop-number.out (b.kept ∷ files))
           (g.M.PassMachine.state c.loop-number.machine) c.loop-number.recency) c.in-Pass.is (i.each b at));
       idle = t.idle;
-      same = record { names = t.same.names ∙ i.same.names; tell = t.same.tell ∙ i.same.tell };
-      asked = t.asked ∙ i.asked;
-      faults = omega (arith, t.faults, i.faults);
-      out_faults = omega (arith, t.out_faults, i.out_faults);
+      kept = kept_on _ _ _ i.kept t.kept;
     }
 
 pub returns-in-End-clause-walked : goal.returns-in-End-clause-walked
@@ -149,41 +144,14 @@ returns-in_err-next-in-Pass-clause-walked g c =
     (λ files. state_by g.D.Folder g.O.Sink c.args.input.now.names.store.now c.loop-number.folder c.loop-number.out (b.kept ∷ files))
     (g.M.PassMachine.state c.loop-number.machine) c.loop-number.recency) c.in-Pass.is (c.loop-number.invariant.each b at))))
 
-pub returns-in_err-next-in-Pass-clause-same : goal.returns-in_err-next-in-Pass-clause-same
-returns-in_err-next-in-Pass-clause-same g c = record {
-  names = c.take_step.ensures.same.names ∙ c.loop-number.invariant.same.names;
-  tell = c.take_step.ensures.same.tell ∙ c.loop-number.invariant.same.tell;
-}
+pub returns-in_err-next-in-Pass-clause-kept : goal.returns-in_err-next-in-Pass-clause-kept
+returns-in_err-next-in-Pass-clause-kept g c = kept_on _ _ _ c.loop-number.invariant.kept c.take_step.ensures.kept
 
-pub returns-in_err-next-in-Pass-clause-asked : goal.returns-in_err-next-in-Pass-clause-asked
-returns-in_err-next-in-Pass-clause-asked g c = c.take_step.ensures.asked ∙ c.loop-number.invariant.asked
+pub returns-in-End-clause-kept : goal.returns-in-End-clause-kept
+returns-in-End-clause-kept g c = c.loop-number.invariant.kept
 
-pub returns-in_err-next-in-Pass-clause-faults : goal.returns-in_err-next-in-Pass-clause-faults
-returns-in_err-next-in-Pass-clause-faults g c = omega (arith, c.take_step.ensures.faults, c.loop-number.invariant.faults)
+pub returns-clause-kept : goal.returns-clause-kept
+returns-clause-kept g c = c.loop-number.invariant.kept
 
-pub returns-in_err-next-in-Pass-clause-out_faults : goal.returns-in_err-next-in-Pass-clause-out_faults
-returns-in_err-next-in-Pass-clause-out_faults g c = omega (arith, c.take_step.ensures.out_faults, c.loop-number.invariant.out_faults)
-
-pub returns-in-End-clause-same : goal.returns-in-End-clause-same
-returns-in-End-clause-same g c = c.loop-number.invariant.same
-
-pub returns-in-End-clause-asked : goal.returns-in-End-clause-asked
-returns-in-End-clause-asked g c = c.loop-number.invariant.asked
-
-pub returns-in-End-clause-faults : goal.returns-in-End-clause-faults
-returns-in-End-clause-faults g c = c.loop-number.invariant.faults
-
-pub returns-in-End-clause-out_faults : goal.returns-in-End-clause-out_faults
-returns-in-End-clause-out_faults g c = c.loop-number.invariant.out_faults
-
-pub returns-clause-same : goal.returns-clause-same
-returns-clause-same g c = c.loop-number.invariant.same
-
-pub returns-clause-asked : goal.returns-clause-asked
-returns-clause-asked g c = c.loop-number.invariant.asked
-
-pub returns-clause-faults : goal.returns-clause-faults
-returns-clause-faults g c = c.loop-number.invariant.faults
-
-pub returns-clause-out_faults : goal.returns-clause-out_faults
-returns-clause-out_faults g c = c.loop-number.invariant.out_faults
+pub returns-in_err-next-clause-kept : goal.returns-in_err-next-clause-kept
+returns-in_err-next-clause-kept g c = record { same = c.draw_next.ensures.same; asked = refl; faults = omega arith; out_faults = omega arith }

@@ -1,10 +1,10 @@
-use Rattle.std.proofs.Common.{◌≡◌, ◌≤◌, ◌∷◌}
-use Rattle.vt_walk_decisions.specs.Requests.{AreSameFiles}
+use Rattle.std.proofs.Common.{◌∷◌}
 use Rattle.vt_walk.specs.WalkEffects.{state_by}
 use Rattle.vt_walk.specs.WalkInputs.{given_of}
 use Rattle.vt_walk.specs.DrawnBy.{IsDrawnBySome}
 use Rattle.vt_walk.specs.WalkSteps.{WalkStart, StandsFirst}
 use Rattle.vt_walk.specs.Following.{StandsNext}
+use Rattle.vt_walk.specs.Moments.{moment, KeepsWalk}
 use Rattle.vt_walk.proofs.walk_steps.take_steps.Given as goal
 
 abbrev pub invariant-loop-number : goal.invariant-loop-number
@@ -19,8 +19,6 @@ invariant-loop-number g l = record {
       → StandsNext (IsDrawnBySome g.M.PassMachine) (given_of g.M.PassMachine.drawing l.input b.told) l.number l.next b.first
       (λ files. state_by g.D.Folder g.O.Sink l.input.names.store.now l.folder l.out (b.kept ∷ files)) (g.M.PassMachine.state l.machine) l.recency;
   idle : g.M.PassMachine.is_idle l.machine;
-  same : AreSameFiles (g.M.PassMachine.state l.fn.machine).files (g.M.PassMachine.state l.machine).files;
-  asked : g.D.Folder.asked l.folder ≡ g.D.Folder.asked l.fn.folder;
-  faults : g.D.Folder.faults l.fn.folder ≤ g.D.Folder.faults l.folder;
-  out_faults : g.O.Sink.faults l.fn.out ≤ g.O.Sink.faults l.out;
+  kept : KeepsWalk (moment g.D.Folder g.O.Sink l.fn.folder l.fn.out (g.M.PassMachine.state l.fn.machine) l.fn.recency)
+      (moment g.D.Folder g.O.Sink l.folder l.out (g.M.PassMachine.state l.machine) l.recency);
 }

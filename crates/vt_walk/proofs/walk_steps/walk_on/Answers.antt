@@ -35,41 +35,24 @@ returns-clause-walked g c = λ b at. last_done (IsDrawnBySome g.M.PassMachine)
     (g.O.Sink.held c.put_end_line.new.out) (g.O.Sink.faults c.put_end_line.new.out) (c.in_ok-took.ensures.walked b at) c.pictures.ensures.value
     c.in_ok-put_end_line.ensures.whole
 
-pub returns-in_err-took-clause-same : goal.returns-in_err-took-clause-same
-returns-in_err-took-clause-same g c = c.take_steps.ensures.same
-
-pub returns-in_err-took-clause-asked : goal.returns-in_err-took-clause-asked
-returns-in_err-took-clause-asked g c = c.take_steps.ensures.asked
-
-pub returns-in_err-took-clause-faults : goal.returns-in_err-took-clause-faults
-returns-in_err-took-clause-faults g c = c.take_steps.ensures.faults
-
-pub returns-in_err-took-clause-out_faults : goal.returns-in_err-took-clause-out_faults
-returns-in_err-took-clause-out_faults g c = c.take_steps.ensures.out_faults
-
-pub returns-in_err-put_end_line-clause-same : goal.returns-in_err-put_end_line-clause-same
-returns-in_err-put_end_line-clause-same g c = c.take_steps.ensures.same
-
-pub returns-in_err-put_end_line-clause-asked : goal.returns-in_err-put_end_line-clause-asked
-returns-in_err-put_end_line-clause-asked g c = c.take_steps.ensures.asked
-
-pub returns-in_err-put_end_line-clause-faults : goal.returns-in_err-put_end_line-clause-faults
-returns-in_err-put_end_line-clause-faults g c = c.take_steps.ensures.faults
-
-pub returns-in_err-put_end_line-clause-out_faults : goal.returns-in_err-put_end_line-clause-out_faults
-returns-in_err-put_end_line-clause-out_faults g c = omega (arith, c.take_steps.ensures.out_faults, c.put_end_line.ensures.faults)
-
-pub returns-clause-same : goal.returns-clause-same
-returns-clause-same g c = c.take_steps.ensures.same
-
-pub returns-clause-asked : goal.returns-clause-asked
-returns-clause-asked g c = c.take_steps.ensures.asked
-
-pub returns-clause-faults : goal.returns-clause-faults
-returns-clause-faults g c = c.take_steps.ensures.faults
-
-pub returns-clause-out_faults : goal.returns-clause-out_faults
-returns-clause-out_faults g c = omega (arith, c.take_steps.ensures.out_faults, c.put_end_line.ensures.faults)
-
 pub returns-clause-counted : goal.returns-clause-counted
 returns-clause-counted g c = c.in_ok-took.ensures.counted
+
+pub returns-in_err-took-clause-kept : goal.returns-in_err-took-clause-kept
+returns-in_err-took-clause-kept g c = c.take_steps.ensures.kept
+
+pub returns-in_err-put_end_line-clause-kept : goal.returns-in_err-put_end_line-clause-kept
+returns-in_err-put_end_line-clause-kept g c = record {
+  same = c.take_steps.ensures.kept.same;
+  asked = c.take_steps.ensures.kept.asked;
+  faults = c.take_steps.ensures.kept.faults;
+  out_faults = omega (arith, c.take_steps.ensures.kept.out_faults, c.put_end_line.ensures.faults);
+}
+
+pub returns-clause-kept : goal.returns-clause-kept
+returns-clause-kept g c = record {
+  same = c.take_steps.ensures.kept.same;
+  asked = c.take_steps.ensures.kept.asked;
+  faults = c.take_steps.ensures.kept.faults;
+  out_faults = omega (arith, c.take_steps.ensures.kept.out_faults, c.put_end_line.ensures.faults);
+}
