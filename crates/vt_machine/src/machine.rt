@@ -17,6 +17,7 @@ ghost use Rattle.vt_machine.specs.Crews.{IsCrew, AreFrames};
 ghost use Rattle.vt_machine.specs.Machines.{MachineState, setup_of, files_of, told_by, AreStoresFor};
 ghost use Rattle.vt_machine.specs.Passes.{Begins, MayPlace, with_placed, MayPrepare, IsUntouched, IsSpent, MapsRoot, IsJobFor, Ends, MapsNeeded};
 ghost use Rattle.vt_workers.specs.All.{AllReady, AllDid};
+ghost use Rattle.vt_workers.specs.JournalTypes.changes.RowLine.{RowLine};
 
 use crate::crew::{Crew, PassReport};
 use std::alloc::Global;
@@ -54,6 +55,10 @@ pub trait PassMachine: Sized {
     /// Whether row y is always drawn by sampler y modulo their number.
     const DEALT: bool;
 
+    /// The same as a value.
+    fn is_dealt() -> bool
+        ensures { result ≡ drawing.dealt };
+
     /// How machines of this kind draw.
     ghost drawing: { Drawing };
 
@@ -71,6 +76,9 @@ pub trait PassMachine: Sized {
 
     /// What is so where want of memory ends the run of a pass: nothing, for machines that take all their memory before.
     ghost refuses: { Type 0 };
+
+    /// How the rows of a pass that was run came in it, by what it was before and is after it.
+    ghost held: { Self → Self → Job → List RowLine → Type 0 };
 
     /// What its workers share.
     ghost lent: { Self → Self.Shared };
@@ -105,8 +113,7 @@ pub trait PassMachine: Sized {
             (told_by Self.File.File stores.old.elements)) (files_of Self.File.File stores.old.elements) (state m)) }
         ensures idle { IfOk result is_idle }
         ensures taken { OnOk result (stores.new.elements ≡ []) }
-        ensures refused { OnErr result (files_of Self.File.File stores.new.elements
-            ≡ files_of Self.File.File stores.old.elements) };
+        ensures refused { OnErr result (stores.new.elements ≡ stores.old.elements) };
 
     /// Makes a machine with one store for each loader, whose journal is empty. A refusal hands the stores back.
     ///
@@ -132,6 +139,7 @@ pub trait PassMachine: Sized {
         ensures idle { IfOk result is_idle }
         ensures refused { IfErr result (λ e. files_of Self.File.File e.0.elements
             ≡ files_of Self.File.File stores.elements) }
+        ensures back { IfErr result (λ e. e.0.elements ≡ stores.elements) }
     {
         match Self::make_from(rt, alloc, geometry, path, frames, crew, depth, &mut stores) {
             Ok(machine) => {
@@ -219,6 +227,8 @@ pub trait PassMachine: Sized {
         ensures ends { Ends drawing (drawn self.new) (is_idle self.new)
             (job_of shot.now batch.now.elements) result (state self.old) (state self.new) }
         ensures refused { OnErr result refuses }
+        ensures held { IfOk result (λ report. held self.old self.new (job_of shot.now batch.now.elements)
+            report.rows.elements) }
     {
         let (mut loaders, mut samplers, mut streamer) = self.detach_workers(shot, batch);
         work_together(
@@ -269,7 +279,7 @@ pub trait PassMachine: Sized {
         → Self.Streamer.did (lent n) job b d
         → may_reattach n job c f d };
 
-    /// What the workers did is a pass, once they are moved back.
+    /// What the workers did is a pass, once they are moved back, and its rows came in it.
     ghost has_run: { (job : Job) (m n p : Self) (a c : List Self.Loader) (e f : List Self.Sampler)
         (b d : Self.Streamer) (r : Result Report Refusal)
         → is_ready m job.batch → MapsRoot (state m) → IsJobFor (state m).setup job → detached m job n a e b
@@ -277,7 +287,8 @@ pub trait PassMachine: Sized {
         → AllDid (Self.Loader.did (lent n) job) a c → AllDid (Self.Sampler.did (lent n) job) e f
         → Self.Streamer.did (lent n) job b d
         → reattached n job c f d p r
-        → Ends drawing (drawn p) (is_idle p) job r (state m) (state p) };
+        → Ends drawing (drawn p) (is_idle p) job r (state m) (state p)
+        × IfOk r (λ report. held m p job report.rows.elements) };
 
     /// Where the pass was refused memory, that is so which may refuse it.
     ghost has_answered: { (job : Job) (n p : Self) (c : List Self.Loader) (f : List Self.Sampler) (d : Self.Streamer)

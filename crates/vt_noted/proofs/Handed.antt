@@ -1,5 +1,5 @@
 -- What notes say is handed on to notes that say no less.
-use Rattle.std.proofs.Common.{◌≡◌, List, sym, subst}
+use Rattle.std.proofs.Common.{◌≡◌, List, sym, subst, ◌++◌, ℕ, [], ◌∷◌, length, refl, ap, ◌∙◌, length-append, arith}
 use Rattle.std.specs.Prelude.{Contains}
 use Rattle.std.proofs.lemmas.List.Elements.{Contains-append_left, Contains-append_right}
 use Rattle.vt_pictures.specs.DrawLookups.{Note, EntryNote, WordNote}
@@ -43,3 +43,27 @@ noted_onward v w entries words has more = record {
   each_entry = λ n is. more.each_entry n (has.each_entry n is);
   each_word = λ n is. more.each_word n (has.each_word n is);
 }
+
+-- what is among some notes is among these and others
+pub among_left : (entries more : List ReadEntry) (words added : List ReadWord) (note : Note) → IsAmong entries words note
+    → IsAmong (entries ++ more) (words ++ added) note
+among_left entries more words added (EntryNote version page entry) is = Contains-append_left entries more _ is
+among_left entries more words added (WordNote version frame place word) is = Contains-append_left words added _ is
+
+pub among_right : (more entries : List ReadEntry) (added words : List ReadWord) (note : Note) → IsAmong entries words note
+    → IsAmong (more ++ entries) (added ++ words) note
+among_right more entries added words (EntryNote version page entry) is = Contains-append_right more entries _ is
+among_right more entries added words (WordNote version frame place word) is = Contains-append_right added words _ is
+
+-- where a list with others before it is the list, there are no others
+none_before : {X : Type 0} (xs ys : List X) → ys ≡ xs ++ ys → xs ≡ []
+none_before [] ys e = refl
+none_before (x ∷ xs) ys e = absurd (let n = ap length e in let m = length-append (x ∷ xs) ys in omega (arith, n, m))
+
+-- where no word was added to those that were noted, none is said by what was added
+pub no_word : (v w : WriterView) (entries : List ReadEntry) (words : List ReadWord) → w.word_notes ≡ words ++ v.word_notes → w.word_notes ≡ v.word_notes
+    → (version frame place word : ℕ) → IsAmong entries words (WordNote version frame place word) → ⊥
+no_word v w entries words more same version frame place word is =
+    let there = subst (λ (l : List ReadWord). Contains l (record { version = version; frame = frame; place = place; word = word }))
+    (none_before words v.word_notes (sym same ∙ more)) is in
+    let low = there.1 in absurd (omega (arith, low))

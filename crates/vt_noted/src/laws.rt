@@ -1,8 +1,9 @@
 //! Laws of rows that are drawn by notes of the shared words: each is the contract of a function that does nothing.
 
-ghost use Rattle.std.specs.Prelude.{◌≡◌, ℕ, ◌++◌, Option, Some, IfSome, List, [], length, slice_get, slice_index_or};
+ghost use Rattle.std.specs.Prelude.{◌≡◌, ℕ, ◌++◌, Option, Some, IfSome, List, [], length, slice_get, slice_index_or, ◌≤◌};
 ghost use Rattle.vt_tiles.specs.Shape.{Shape};
 ghost use Rattle.vt_tiles.specs.Pages.{IsWithinLimits};
+ghost use Rattle.vt_pictures.specs.Paths.{PathView};
 ghost use Rattle.vt_pictures.specs.Rows.{RowView};
 ghost use Rattle.vt_pictures.specs.Shots.{shot_row, AreDrawn};
 ghost use Rattle.vt_streamer.specs.JournalTypes.changes.Change.{Change};
@@ -20,7 +21,7 @@ ghost use Rattle.vt_streamer.specs.Sound.{IsSound};
 ghost use Rattle.vt_pictures.specs.Scenes.{Scene};
 ghost use Rattle.vt_pictures.specs.Replays.{HasPixels, AreReplayed};
 ghost use Rattle.vt_pictures.specs.Evidence.{IsBy, AreTrue, AreShown};
-ghost use Rattle.vt_noted.specs.Noted.{IsAmong, IsNotedBy, HasNoted, HasNotesOf};
+ghost use Rattle.vt_noted.specs.Noted.{IsAmong, IsNotedBy, HasNoted, HasNotesOf, AreNotedRows};
 ghost use Rattle.vt_noted.specs.Stored.{AreStored};
 
 use vt_pictures::{Filter, Nearest};
@@ -85,6 +86,14 @@ pub fn drawn_rows_stay_drawn<P: Filter>()
         (row : RowView) (bytes : List ℕ) → HasNoted w entries words
         → AreShown P.shown s d version (IsAmong entries words) row n bytes
         → AreShown P.shown s d version (IsNotedBy w) row n bytes }
+{}
+
+/// Where no texel word was noted between two views of a writer, no row that has a pixel of one texel was drawn by what was noted
+/// between them: rows that were drawn before cannot be handed out anew.
+pub fn rows_need_new_notes()
+    ensures { (s : Shape) (d : ℕ) (v w : WriterView) (path : PathView) (i y : ℕ) (lines : List RowLine) (line : RowLine)
+        (rows : List (List ℕ)) → AreNotedRows ⟦<Nearest as Filter>⟧ s d v w path i lines rows
+        → slice_get lines y ≡ Some line → 1 ≤ path.width → w.word_notes ≡ v.word_notes → ⊥ }
 {}
 
 /// A row whose pixels are one texel each is shown by notes of a writer where it is drawn by them, and else is not.

@@ -6,5 +6,5 @@ mod laws;
 pub use laws::{
     drawn_rows_stay_drawn, nearest_rows_are_drawn, noted_pixels_are_replayed,
     noted_rows_are_replayed, notes_are_kept, notes_are_true, pictures_by_notes_are_replayed,
-    stored_contents_grow,
+    rows_need_new_notes, stored_contents_grow,
 };

@@ -19,9 +19,10 @@ use Rattle.vt_word_workers.specs.declared.workers.WordStreamer.{WordStreamer}
 use Rattle.vt_word_workers.specs.WordTasks.{HasDrawn, HasFed}
 use Rattle.vt_word_workers.specs.GivenPasses.{HasGiven}
 use Rattle.vt_word_workers.specs.HeldPasses.{IsHeldRow, AreHeldRows}
-use Rattle.vt_word_workers.specs.Kits.{KitView, kit_setup, kit_state, IsReadyKit}
+use Rattle.vt_word_workers.specs.Kits.{KitView, kit_setup, kit_state, IsReadyKit, kit_rows}
 use Rattle.vt_word_workers.specs.KitPasses.{Begun, AreOut, MayFinish, KitRan, kit_before, kit_drawn}
 use Rattle.vt_pass.specs.WordLaws.{ran_after, begun, kit_back, same_kit}
+use Rattle.vt_word_workers.specs.Noted.{AreNotedRows}
 
 module _ {F P : Type 0} (g : FileMeanings F) (filter : FilterMeanings P) (words : WordsValue) (q : Queues) (was b d : WordStreamer) (k l : KitView F) (job : Job)
     (a c : List (QueuedView F)) (e f : List WordSampler) (out : AreOut g q k l was.answers b.answers a e)
@@ -42,6 +43,8 @@ module _ {F P : Type 0} (g : FileMeanings F) (filter : FilterMeanings P) (words 
         (kit_state g words b.streamer.writer.journal (kit_before l (begun g filter words q was b d k l job a c e f out streamer_is)))
         (kit_state g words w.writer.journal m) (same_kit g filter words q was b d k l job a c e f out streamer_is) report done.ran;
     held = subst (λ (x : WordStreamer). AreHeldRows x.streamer.writer w.writer report.rows.elements) streamer_is done.held;
+    noted = subst (λ (x : WordStreamer). AreNotedRows filter m.shape m.depth x.streamer.writer w.writer job.scene.path job.picture
+        report.rows.elements (kit_rows m)) streamer_is done.noted;
   }
 
 module _ {F : Type 0} (g : FileMeanings F) (words : WordsValue) (t : WordStreamer) (v : StreamerView) (k l m : KitView F)
@@ -73,5 +76,12 @@ module _ {F : Type 0} (g : FileMeanings F) (words : WordsValue) (t : WordStreame
       more = done.held.more;
       returned = done.held.returned ∙ ap (λ (x : WriterView). done.held.more ++ x.returned) given.rest;
       each = λ y row is. subst (λ (n : ℕ). IsHeldRow n done.held.more row) (ap (λ (x : WriterView). version_of x) given.rest) (done.held.each y row is);
+    };
+    noted = record {
+      entries = done.noted.entries;
+      words = done.noted.words;
+      noted = done.noted.noted ∙ ap (λ (x : WriterView). done.noted.entries ++ x.notes) given.rest;
+      worded = done.noted.worded ∙ ap (λ (x : WriterView). done.noted.words ++ x.word_notes) given.rest;
+      each = done.noted.each;
     };
   }

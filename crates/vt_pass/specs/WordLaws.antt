@@ -29,7 +29,7 @@ use Rattle.vt_word_workers.specs.RoundKits.{IsDealt}
 use Rattle.vt_word_workers.specs.GivenPasses.{HaveNewPasses}
 use Rattle.vt_word_workers.specs.Kits.{KitView, kit_setup, kit_state, IsFitKit, IsReadyKit}
 use Rattle.vt_word_workers.specs.KitPasses.{Begun, kit_before, AreOut, MayFinish}
-use Rattle.vt_pass.specs.WordMachines.{WordView, word_state, journal_by, drawn_by, IsReadyBy, IsMustered, IsIdleBy, WordEnds, WordFinishes}
+use Rattle.vt_pass.specs.WordMachines.{WordView, word_state, journal_by, drawn_by, IsReadyBy, IsMustered, IsIdleBy, WordEnds, WordFinishes, held_by, new_rows_by}
 
 -- a pass that was run refused nothing
 pub none_refused : (r : Result PassReport NoMemory) → IsOk r → OnErr r ⊥
@@ -200,8 +200,13 @@ module _ {F P : Type 0} (g : FileMeanings F) (filter : FilterMeanings P) (job : 
       (λ i. (sym detached.words i, sym detached.there i))
       (same_kit g filter m.words m.queues detached.was b d m.kit n.kit job a c e f detached.out detached.streamer_is)
 
-  -- and then the machine has run the pass
-  pub has_ended : (p : WordView F) (r : Result PassReport NoMemory) → WordFinishes g filter job r n c f d p → WordEnds g filter job r (word_state g m) p
+  -- and then the machine has run the pass, and its rows came in it
+  pub has_ended : (p : WordView F) (r : Result PassReport NoMemory) → WordFinishes g filter job r n c f d p
+      → WordEnds g filter job r (word_state g m) p × IfOk r (λ report. held_by filter m.streamer p.kit p.streamer job report.rows.elements)
   unfolding z begun
-  has_ended p r done = ends_after (drawing_of filter) (drawn_by filter p.kit p.streamer) job (word_state g m)
-      (kit_state g n.words b.streamer.writer.journal (kit_before n.kit z)) (word_state g p) before (IsIdleBy g p.words p.streamer p.kit) r (done z may_finish)
+  has_ended p r done = let both = done z may_finish in (
+    ends_after (drawing_of filter) (drawn_by filter p.kit p.streamer) job (word_state g m)
+        (kit_state g n.words b.streamer.writer.journal (kit_before n.kit z)) (word_state g p) before (IsIdleBy g p.words p.streamer p.kit) r both.0,
+    subst (λ (x : Option WordStreamer). IfOk r (λ report. held_by filter x p.kit p.streamer job report.rows.elements)) (sym detached.there)
+        (subst (λ (x : WordStreamer). IfOk r (λ report. new_rows_by filter x.streamer.writer p.kit p.streamer job report.rows.elements)) detached.streamer_is both.1),
+  )

@@ -1,5 +1,5 @@
 -- The machine over shared words.
-use Rattle.std.specs.Prelude.{◌≡◌, ℕ, Option, None, Some, List, [], Result}
+use Rattle.std.specs.Prelude.{◌≡◌, ℕ, Option, None, Some, List, [], Result, IfOk}
 use Rattle.vt_outside.specs.declared.outside.File.{Ghosts as FileMeanings}
 use Rattle.vt_outside.specs.declared.answers.NoMemory.{NoMemory}
 use Rattle.vt_camera.specs.Paths.{PathView}
@@ -16,8 +16,11 @@ use Rattle.vt_requests.specs.Machines.{MachineState}
 use Rattle.vt_requests.specs.Passes.{Ends}
 use Rattle.vt_word_workers.specs.WordSamplers.{WordSampler}
 use Rattle.vt_word_workers.specs.declared.workers.WordStreamer.{WordStreamer}
-use Rattle.vt_word_workers.specs.Kits.{KitView, kit_state, IsIdleKit, IsReadyKit}
+use Rattle.vt_word_workers.specs.Kits.{KitView, kit_state, IsIdleKit, IsReadyKit, kit_rows}
 use Rattle.vt_word_workers.specs.KitPasses.{kit_drawn, AreOut, Begun, kit_before, MayFinish}
+use Rattle.vt_journal.specs.declared.changes.RowLine.{RowLine}
+use Rattle.vt_grace.specs.declared.views.WriterView.{WriterView}
+use Rattle.vt_word_workers.specs.HeldPasses.{AreNewRows}
 
 -- a machine: its words, its queues, its streamer, which is out while a pass is run, and its kit
 pub record WordView (F : Type 0) : Type 0 where
@@ -50,6 +53,17 @@ abbrev pub drawn_by : {F P : Type 0} → FilterMeanings P → KitView F → Opti
 drawn_by filter k None path i y version bytes = ⊥
 drawn_by filter k (Some t) path i y version bytes = kit_drawn filter k t.streamer path i y version bytes
 
+-- how the rows of a pass that began with a writer came in it, by a streamer that may be out
+abbrev pub new_rows_by : {F P : Type 0} → FilterMeanings P → WriterView → KitView F → Option WordStreamer → Job → List RowLine → Type 0
+new_rows_by filter v k None job lines = ⊥
+new_rows_by filter v k (Some t) job lines =
+    AreNewRows filter k.shape k.depth v t.streamer.writer job.scene.path job.picture lines (kit_rows k)
+
+-- and of one that began with a streamer that may be out
+abbrev pub held_by : {F P : Type 0} → FilterMeanings P → Option WordStreamer → KitView F → Option WordStreamer → Job → List RowLine → Type 0
+held_by filter None k t job lines = ⊥
+held_by filter (Some was) k t job lines = new_rows_by filter was.streamer.writer k t job lines
+
 -- the workers were moved out of a machine
 pub record IsMustered {F : Type 0} (g : FileMeanings F) (m n : WordView F) (loaders : List (QueuedView F)) (samplers : List WordSampler)
     (streamer : WordStreamer) : Type 0 where
@@ -64,8 +78,9 @@ pub record IsMustered {F : Type 0} (g : FileMeanings F) (m n : WordView F) (load
 abbrev pub WordEnds : {F P : Type 0} → FileMeanings F → FilterMeanings P → Job → Result PassReport NoMemory → MachineState → WordView F → Type 0
 WordEnds g filter job result before p = Ends (drawing_of filter) (drawn_by filter p.kit p.streamer) (IsIdleBy g p.words p.streamer p.kit) job result before (word_state g p)
 
--- however the work began, what was done is a pass
+-- however the work began, what was done is a pass, and its rows came in it
 abbrev pub WordFinishes : {F P : Type 0} → FileMeanings F → FilterMeanings P → Job → Result PassReport NoMemory → WordView F → List (QueuedView F)
     → List WordSampler → WordStreamer → WordView F → Type 0
 WordFinishes g filter job result n loaders samplers t p = (b : Begun _) → MayFinish g filter n.words n.queues n.kit job loaders samplers t b
     → WordEnds g filter job result (kit_state g n.words b.streamer.streamer.writer.journal (kit_before n.kit b)) p
+    × IfOk result (λ report. new_rows_by filter b.streamer.streamer.writer p.kit p.streamer job report.rows.elements)

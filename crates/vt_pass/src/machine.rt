@@ -8,7 +8,7 @@ ghost use Rattle.vt_word_workers.specs.Kits.{IsMadeFor};
 ghost use Rattle.vt_workers.specs.Jobs.{job_of};
 ghost use Rattle.vt_requests.specs.Drawings.{drawing_of};
 ghost use Rattle.vt_word_workers.specs.KitPasses.{Begun, MayFinish};
-ghost use Rattle.vt_pass.specs.WordMachines.{WordView, word_state, IsIdleBy, IsReadyBy, drawn_by, IsMustered, WordFinishes};
+ghost use Rattle.vt_pass.specs.WordMachines.{WordView, word_state, IsIdleBy, IsReadyBy, drawn_by, IsMustered, WordFinishes, held_by};
 
 use crate::place::place_page;
 use crate::prepare::prepare_pass;
@@ -99,6 +99,10 @@ impl<F: File + Send, P: Filter + Sync> PassMachine for FilteredMachine<F, P> {
 
     const DEALT: bool = true;
 
+    fn is_dealt() -> bool {
+        Self::DEALT
+    }
+
     ghost drawing = { drawing_of P.Filter };
 
     ghost state = { λ m. word_state F.File m };
@@ -110,6 +114,8 @@ impl<F: File + Send, P: Filter + Sync> PassMachine for FilteredMachine<F, P> {
     ghost drawn = { λ m. drawn_by P.Filter m.kit m.streamer };
 
     ghost refuses = { ⊥ };
+
+    ghost held = { λ m p job lines. held_by P.Filter m.streamer p.kit p.streamer job lines };
 
     ghost lent = { λ m. record { words = m.words; queues = m.queues; filter = record {} } };
 

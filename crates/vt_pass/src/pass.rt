@@ -4,6 +4,7 @@ ghost use Rattle.vt_workers.specs.Jobs.{job_of};
 ghost use Rattle.vt_requests.specs.Passes.{MapsRoot, IsJobFor};
 ghost use Rattle.vt_word_workers.specs.Kits.{kit_setup, kit_state, IsIdleKit, IsPreparedKit, IsReadyKit};
 ghost use Rattle.vt_word_workers.specs.KitPasses.{KitRan};
+ghost use Rattle.vt_word_workers.specs.RoundKits.{AreEmptied};
 
 use std::marker::PhantomData;
 use std::sync::Wait;
@@ -33,6 +34,7 @@ fn draw_and_stream<Rt: Threads + Wait + Sync, F: File + Send, P: Filter + Sync, 
     ensures ran { KitRan F.File P.Filter words.now (job_of shot.now batch.now.elements) result own.old.streamer kit.old
         own.new.streamer kit.new }
     ensures idle { IsIdleKit F.File words.now own.new.streamer kit.new }
+    ensures emptied { AreEmptied queues.now kit.new.round.asks own.new.answers }
 {
     let (mut loaders, mut samplers) = kit.detach_workers(queues, &mut own.answers);
     let shared = LentShared::<P> {
@@ -86,6 +88,7 @@ pub(crate) fn ask_and_run<
     ensures ran { KitRan F.File P.Filter words.now (job_of shot.now batch.now.elements) result own.old.streamer kit.old
         own.new.streamer kit.new }
     ensures idle { IsIdleKit F.File words.now own.new.streamer kit.new }
+    ensures emptied { AreEmptied queues.now kit.new.round.asks own.new.answers }
 {
     kit.ask(rt, queues, batch);
     kit.give(words, &mut own.streamer);

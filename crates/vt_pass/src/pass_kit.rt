@@ -12,6 +12,7 @@ ghost use Rattle.vt_requests.specs.Passes.{MapsRoot, IsJobFor};
 ghost use Rattle.vt_pass.specs.PassKits.{IsPreparedFor};
 ghost use Rattle.vt_word_workers.specs.Kits.{kit_setup, kit_state, kit_rows, IsKit, IsIdleKit, IsSameKit};
 ghost use Rattle.vt_word_workers.specs.KitPasses.{KitRan};
+ghost use Rattle.vt_word_workers.specs.RoundKits.{AreEmptied};
 
 use crate::pass::ask_and_run;
 use std::alloc::Global;
@@ -167,6 +168,7 @@ pub fn run_pass_by<Rt: Threads + Wait + Sync, F: File + Send, P: Filter + Sync, 
     ensures ran { KitRan F.File P.Filter words.now (job_of shot.now batch.now.elements) result streamer.old kit.old.kit
         streamer.new kit.new.kit }
     ensures idle { IsIdleKit F.File words.now streamer.new kit.new.kit }
+    ensures emptied { AreEmptied kit.new.queues kit.new.kit.round.asks kit.new.answers }
 {
     mem::swap(streamer, &mut kit.own.streamer);
     let report = ask_and_run::<Rt, F, P, G>(
@@ -199,6 +201,7 @@ pub fn run_pass<Rt: Threads + Wait + Sync, F: File + Send, G: Gate + Sync>(
     ensures ran { KitRan F.File ⟦<Nearest as Filter>⟧ words.now (job_of shot.now batch.now.elements) result streamer.old kit.old.kit
         streamer.new kit.new.kit }
     ensures idle { IsIdleKit F.File words.now streamer.new kit.new.kit }
+    ensures emptied { AreEmptied kit.new.queues kit.new.kit.round.asks kit.new.answers }
 {
     run_pass_by::<Rt, F, Nearest, G>(rt, kit, words, streamer, shot, batch, gate)
 }

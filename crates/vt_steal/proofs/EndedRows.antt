@@ -28,11 +28,11 @@ use Rattle.vt_shared_rows.specs.Notes.{IsNotedIn}
 use Rattle.vt_shared_rows.specs.Samplers.{row_length}
 use Rattle.vt_shared_rows.proofs.Sharing.{picture_few}
 use Rattle.vt_streamer.specs.Views.{StreamerView}
-use Rattle.vt_word_workers.specs.Noted.{IsNotedBy}
+use Rattle.vt_word_workers.specs.Noted.{IsNotedBy, IsAmong}
 use Rattle.vt_pictures.specs.Scenes.{Scene}
 use Rattle.vt_loaders.specs.Steps.{IsAtStep}
 use Rattle.vt_word_workers.specs.GivenPasses.{HasNewPass, ArePassesOf, all_returned, after_pass, without_pass, without_passes}
-use Rattle.vt_word_workers.proofs.Returned.{holds_of, HasOwnPass, return_of, WasReturned, was_returned, have_returned, says_more, none_out}
+use Rattle.vt_word_workers.proofs.Returned.{holds_of, HasOwnPass, return_of, WasReturned, was_returned, have_returned, says_more, none_out, have_noted}
 use Rattle.vt_shared_rows.specs.declared.bag.RowJob.{RowJob}
 use Rattle.vt_shared_rows.specs.declared.bag.RowBag.{RowBag}
 use Rattle.vt_shared_rows.specs.declared.sampler.RowSampler.{RowSampler}
@@ -284,6 +284,20 @@ module _ {P : Type 0} (filter : FilterMeanings P) (words : WordsValue) (bag : Ro
         low_number : r.m < k.count
         low_number = (let w = slice_get_within f r.m r.task r.there in let n = number_is in omega (arith, w, n))
 
+        shown : AreShown filter.shown k.geometry k.depth job.version (IsNotedIn by_one.drawn.pass.view) (shot_row k.geometry scene.path picture y)
+            scene.path.width job.samples.elements
+        shown = subst (λ (z : Shape × ℕ × ℕ). AreShown filter.shown z.0 z.1 job.version (IsNotedIn by_one.drawn.pass.view)
+            (shot_row z.0 scene.path picture z.2) scene.path.width job.samples.elements)
+            (λ i. (h.shape i, h.depth i, r.row i)) was_kept.drawn
+
+        -- the notes by which it was drawn are among those that came back
+        row_noted : AreShown filter.shown k.geometry k.depth job.version (IsAmong (have_noted t.writer f).entries (have_noted t.writer f).words)
+            (shot_row k.geometry scene.path picture y) scene.path.width job.samples.elements
+        row_noted = let all = have_noted t.writer f in
+            shown_by_more filter.shown k.geometry k.depth job.version scene.path.width (IsNotedIn by_one.drawn.pass.view)
+            (IsAmong all.entries all.words) (shot_row k.geometry scene.path picture y) job.samples.elements
+            (all.each r.m r.task by_one.drawn.pass r.there by_one.drawn.has) shown
+
         row_of_pass : IsSound after → IsRowOfPass filter k scene picture start after (have_returned t.writer f).more y job
         row_of_pass sound = record {
           among = (let a = by_sampler in let b = low_number in omega (arith, a, b));
@@ -295,9 +309,7 @@ module _ {P : Type 0} (filter : FilterMeanings P) (words : WordsValue) (bag : Ro
           drawn = record {
             drawn = shown_by_more filter.shown k.geometry k.depth job.version scene.path.width (IsNotedIn by_one.drawn.pass.view)
                 (IsNotedBy after) (shot_row k.geometry scene.path picture y) job.samples.elements (says_more after by_one.drawn.pass.view was_back)
-                (subst (λ (z : Shape × ℕ × ℕ). AreShown filter.shown z.0 z.1 job.version (IsNotedIn by_one.drawn.pass.view)
-                (shot_row z.0 scene.path picture z.2) scene.path.width job.samples.elements)
-                (λ i. (h.shape i, h.depth i, r.row i)) was_kept.drawn);
+                shown;
             by = return_of by_one.drawn.pass.view;
             returned = was_back.returned;
             among = (let a = own_number r.m r.task by_one in let b = low_number in omega (arith, a, b));
@@ -315,6 +327,11 @@ module _ {P : Type 0} (filter : FilterMeanings P) (words : WordsValue) (bag : Ro
       pub rows_of_pass : IsSound after → (y : ℕ) (job : RowJob) → slice_get new y ≡ Some job
           → IsRowOfPass filter k scene picture start after (have_returned t.writer f).more y job
       rows_of_pass sound y job is = row_of_pass y job (has_row y job is) sound
+
+      pub rows_noted : (y : ℕ) (job : RowJob) → slice_get new y ≡ Some job
+          → AreShown filter.shown k.geometry k.depth job.version (IsAmong (have_noted t.writer f).entries (have_noted t.writer f).words)
+          (shot_row k.geometry scene.path picture y) scene.path.width job.samples.elements
+      rows_noted y job is = row_noted y job (has_row y job is)
 
       pub in_place : AreInPlace k.height (line_of_kit k) new
       in_place = record {

@@ -2,9 +2,9 @@
 use Rattle.std.proofs.Common.{◌≡◌, ℕ, ◌<◌, false, Bool, List, [], ◌++◌, length, get_or, Option, Some, Ok, sym, ap, ◌∙◌, subst, arith}
 use Rattle.std.specs.Prelude.{slice_get, All, IfSome}
 use Rattle.std.proofs.lemmas.Bool.{false≢true}
-use Rattle.std.proofs.lemmas.List.{length-map, get_or-map}
+use Rattle.std.proofs.lemmas.List.{length-map}
 use Rattle.std.proofs.lemmas.List.Elements.{All-map}
-use Rattle.std.proofs.lemmas.Option.{slice_get_within, slice_get-get_or, get_or_from_slice_get}
+use Rattle.std.proofs.lemmas.Option.{slice_get-get_or}
 use Rattle.vt_outside.specs.declared.outside.File.{Ghosts as FileMeanings}
 use Rattle.vt_pages.specs.Shape.{Shape}
 use Rattle.vt_pages.specs.Pages.{pages_of, IsWithinLimits}
@@ -31,7 +31,7 @@ use Rattle.vt_machine.specs.Machines.{files_of, told_by}
 use Rattle.vt_machine.specs.Passes.{IsPictured, Ends}
 use Rattle.vt_requests.specs.BatchRounds.{result_events}
 use Rattle.vt_word_workers.specs.Made.{HasStreamed, results_contents}
-use Rattle.vt_word_workers.specs.Noted.{IsNotedBy}
+use Rattle.vt_word_workers.specs.Noted.{IsNotedBy, AreNotedRows}
 use Rattle.vt_word_workers.specs.Stored.{AreStored}
 use Rattle.vt_word_workers.proofs.Growing.{stored_grow}
 use Rattle.vt_word_workers.proofs.Replayed.{picture_replayed}
@@ -46,6 +46,10 @@ use Rattle.vt_steal.specs.RowTasks.{RowTask}
 use Rattle.vt_steal.specs.RowEnds.{line_of, bytes_of, WasShared}
 use Rattle.vt_steal.specs.SharingMachines.{sharing_of, state_by, drawn_by, Agree, IsIdleSharing, Begun, MayFinish, HasFinished}
 use Rattle.vt_steal.proofs.Lists.{made_of}
+use Rattle.vt_grace.specs.declared.views.WriterView.{WriterView}
+use Rattle.vt_grace.specs.WriterViews.{version_of}
+use Rattle.vt_word_workers.specs.HeldPasses.{IsHeldRow, AreNewRows}
+use Rattle.vt_steal.proofs.RowsEnding.{bytes_at}
 
 module _ {F P : Type 0} (g : FileMeanings F) (filter : FilterMeanings P) (law : IsUnder filter.shown filter.under) (words : WordsValue) (q : Queues)
     (bag : RowBag) (k l : StreamKitView F) (r s : RowKit) (job : Job) (report : PassReport) (c : List (QueuedView F)) (f : List RowTask)
@@ -167,11 +171,8 @@ module _ {F P : Type 0} (g : FileMeanings F) (filter : FilterMeanings P) (law : 
   unfolding jobs
   from_draws y line is =
       let x = line_there y line is in
-      let low = slice_get_within s.drawn.elements y x.0 x.1 in
       let its = done.rows.each y x.0 x.1 in
-      let bytes : get_or (bytes_of s.drawn.elements) y [] ≡ x.0.samples.elements =
-      get_or-map (λ (j : RowJob). j.samples.elements) s.drawn.elements y x.0 [] low
-      ∙ ap (λ (j : RowJob). j.samples.elements) (get_or_from_slice_get s.drawn.elements y x.0 x.0 x.1) in
+      let bytes = bytes_at s.drawn.elements y x.0 x.1 in
       subst (λ (z : Shape × ℕ × ℕ × ℕ × List ℕ). WasShared filter z.0 z.1 z.2 w.writer job.scene.path job.picture y z.3 z.4)
       (λ i. (
         (sym (ap (λ (v : RowKit). v.geometry) done.rows.rest)) i,
@@ -244,3 +245,31 @@ module _ {F P : Type 0} (g : FileMeanings F) (filter : FilterMeanings P) (law : 
     goes_on = goes_on;
     broke = tt;
   }
+
+  -- whose rows came in it
+  pub new_rows : AreNewRows filter s.geometry s.depth b.streamer.streamer.writer w.writer job.scene.path job.picture report.rows.elements
+      (bytes_of s.drawn.elements)
+  unfolding jobs
+  new_rows = record {
+    held = record {
+      more = done.rows.returned;
+      returned = done.rows.returned_are ∙ ap (λ (x : WriterView). done.rows.returned ++ x.returned) streamed.rest;
+      each = λ y line is.
+          let x = line_there y line is in
+          subst (λ (z : RowLine). IsHeldRow (version_of b.streamer.streamer.writer) done.rows.returned z) x.2 (done.rows.each y x.0 x.1).held;
+    };
+    noted = record {
+      entries = noted.entries;
+      words = noted.words;
+      noted = noted.noted ∙ ap (λ (x : WriterView). noted.entries ++ x.notes) streamed.rest;
+      worded = noted.worded ∙ ap (λ (x : WriterView). noted.words ++ x.word_notes) streamed.rest;
+      each = noted.each;
+    };
+  } where
+    noted : AreNotedRows filter s.geometry s.depth t.streamer.writer w.writer job.scene.path job.picture report.rows.elements
+        (bytes_of s.drawn.elements)
+    noted = subst (λ (z : Shape × ℕ). AreNotedRows filter z.0 z.1 t.streamer.writer w.writer job.scene.path job.picture report.rows.elements
+        (bytes_of s.drawn.elements)) (λ i. (
+          (sym (ap (λ (v : RowKit). v.geometry) done.rows.rest)) i,
+          (sym (ap (λ (v : RowKit). v.depth) done.rows.rest)) i,
+        )) done.rows.noted

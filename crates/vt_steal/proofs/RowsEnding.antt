@@ -1,8 +1,8 @@
 -- What the calls that end a pass whose rows were shared leave.
-use Rattle.std.proofs.Common.{◌≡◌, ℕ, ◌^◌, ◌<◌, List, [], length, map, refl, sym, ap, ◌∙◌, subst}
-use Rattle.std.specs.Prelude.{slice_index}
+use Rattle.std.proofs.Common.{◌≡◌, ℕ, ◌^◌, ◌<◌, List, [], length, map, refl, sym, ap, ◌∙◌, subst, get_or, Some}
+use Rattle.std.specs.Prelude.{slice_index, slice_get}
 use Rattle.std.specs.List.{refill}
-use Rattle.std.proofs.lemmas.List.{length-map}
+use Rattle.std.proofs.lemmas.List.{length-map, get_or-map}
 use Rattle.vt_outside.specs.Lists.{ListView}
 use Rattle.vt_journal.specs.declared.changes.RowLine.{RowLine}
 use Rattle.vt_pictures.specs.declared.filters.Filter.{Ghosts as FilterMeanings}
@@ -17,7 +17,7 @@ use Rattle.vt_pictures.specs.Scenes.{Scene}
 use Rattle.vt_loaders.specs.QueueTypes.views.PassView.{PassView}
 use Rattle.vt_loaders.specs.Steps.{IsAtStep}
 use Rattle.vt_word_workers.specs.GivenPasses.{all_returned, without_passes}
-use Rattle.vt_word_workers.proofs.Returned.{have_returned}
+use Rattle.vt_word_workers.proofs.Returned.{have_returned, have_noted}
 use Rattle.vt_shared_rows.specs.declared.bag.RowJob.{RowJob}
 use Rattle.vt_shared_rows.specs.declared.bag.RowBag.{RowBag}
 use Rattle.vt_shared_rows.specs.declared.bag.BagPass.{BagPass}
@@ -26,15 +26,26 @@ use Rattle.vt_shared_rows.proofs.Keepers.{refilled}
 use Rattle.vt_steal.specs.declared.row_kit.RowKit.{RowKit}
 use Rattle.vt_steal.specs.RowTasks.{RowTask}
 use Rattle.vt_steal.specs.RowKits.{samplers_of, AreRowSamplers}
-use Rattle.vt_steal.specs.RowEnds.{kept_rows, lines_of, MayEndRows, IsRowOfPass, HasEndedRows}
+use Rattle.vt_steal.specs.RowEnds.{kept_rows, lines_of, MayEndRows, IsRowOfPass, HasEndedRows, line_of, bytes_of}
 use Rattle.vt_steal.specs.Placing.{ArePlaced, counted_by, all_rows_joined, ended_task}
-use Rattle.vt_steal.proofs.EndedRows.{returned_ended, counted_ended, samplers_stay, all_in, each_once, counted, counts_low, rows_of_pass, in_place, rising}
+use Rattle.vt_steal.proofs.EndedRows.{returned_ended, counted_ended, samplers_stay, all_in, each_once, counted, counts_low, rows_of_pass, in_place, rising, rows_noted}
+use Rattle.std.proofs.lemmas.Option.{slice_get_within, get_or_from_slice_get}
+use Rattle.vt_draw.specs.Shots.{shot_row}
+use Rattle.vt_pictures.specs.Evidence.{AreShown}
+use Rattle.vt_word_workers.specs.Noted.{IsAmong}
+use Rattle.vt_steal.proofs.Lists.{made_of}
 
 -- samplers that were lent to have their rows taken
 pub tasks_ended : (f lent ws : List RowTask) → lent ≡ f → ws ≡ map ended_task lent → refill (length f) f ws ≡ map ended_task f
 tasks_ended f lent ws same are =
     let all : ws ≡ map ended_task f = are ∙ ap (map ended_task) same in
     refilled f ws (ap length all ∙ length-map f ended_task) ∙ all
+
+-- the bytes of the row at a place
+pub bytes_at : (jobs : List RowJob) (y : ℕ) (job : RowJob) → slice_get jobs y ≡ Some job → get_or (bytes_of jobs) y [] ≡ job.samples.elements
+bytes_at jobs y job is =
+    get_or-map (λ (j : RowJob). j.samples.elements) jobs y job [] (slice_get_within jobs y job is)
+    ∙ ap (λ (j : RowJob). j.samples.elements) (get_or_from_slice_get jobs y job job is)
 
 module _ {P : Type 0} (filter : FilterMeanings P) (words : WordsValue) (bag : RowBag) (k : RowKit) (scene : Scene) (picture : ℕ)
     (start : WriterView) (t : StreamerView) (e f : List RowTask) (h : MayEndRows filter words bag k scene picture start t e f)
@@ -66,6 +77,7 @@ module _ {P : Type 0} (filter : FilterMeanings P) (words : WordsValue) (bag : Ro
       let many : (all_returned t.writer f).sizes.samplers ≡ k.count =
       sym (ap (λ (x : WriterView). x.sizes.samplers) writer) ∙ ap (λ (z : Sizes). z.samplers) of.seen ∙ h.samplers in
       let all = have_returned t.writer f in
+      let notes = have_noted t.writer f in
       record {
         rest = refl;
         idle = record {
@@ -89,6 +101,18 @@ module _ {P : Type 0} (filter : FilterMeanings P) (words : WordsValue) (bag : Ro
         returned_are = ap (λ (x : WriterView). x.returned) writer ∙ all.returned;
         each = λ y job is. subst (λ (x : WriterView). IsRowOfPass filter k scene picture start x all.more y job) (sym writer)
             (rows_of_pass filter words bag k scene picture start t e f h is_empty drawn.elements placed_is sound y job is);
+        noted = record {
+          entries = notes.entries;
+          words = notes.words;
+          noted = ap (λ (x : WriterView). x.notes) writer ∙ notes.noted;
+          worded = ap (λ (x : WriterView). x.word_notes) writer ∙ notes.worded;
+          each = λ y line is.
+              let at = made_of line_of drawn.elements y line (sym (ap (λ (l : List RowLine). slice_get l y) lines_are) ∙ is) in
+              subst (λ (z : ℕ × List ℕ). AreShown filter.shown k.geometry k.depth z.0 (IsAmong notes.entries notes.words)
+              (shot_row k.geometry scene.path picture y) scene.path.width z.1)
+              (λ i. (ap (λ (l : RowLine). l.version) at.2 i, sym (bytes_at drawn.elements y at.0 at.1) i))
+              (rows_noted filter words bag k scene picture start t e f h is_empty drawn.elements placed_is y at.0 at.1);
+        };
         rising = rising filter words bag k scene picture start t e f h is_empty drawn.elements placed_is;
         counted = λ p inside. sums p (subst (λ (n : ℕ). p < n) (sym h.shared.kit.counts) inside) ∙ counted_ended f p
             ∙ counted filter words bag k scene picture start t e f h is_empty p inside;

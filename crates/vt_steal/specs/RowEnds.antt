@@ -15,7 +15,7 @@ use Rattle.vt_grace.specs.declared.views.Returned.{Returned}
 use Rattle.vt_grace.specs.WriterViews.{version_of}
 use Rattle.vt_grace.specs.Values.{WordsValue}
 use Rattle.vt_streamer.specs.Views.{StreamerView, IsStreamerOf}
-use Rattle.vt_word_workers.specs.Noted.{IsNotedBy}
+use Rattle.vt_word_workers.specs.Noted.{IsNotedBy, AreNotedRows}
 use Rattle.vt_workers.specs.All.{AllDid}
 use Rattle.vt_word_workers.specs.GivenPasses.{HaveNewPasses, all_returned}
 use Rattle.vt_word_workers.specs.HeldPasses.{IsHeldRow}
@@ -100,6 +100,7 @@ pub record HasEndedRows {P : Type 0} (filter : FilterMeanings P) (words : WordsV
   pub returned_are : w.writer.returned ≡ returned ++ t.writer.returned
   pub each : (y : ℕ) (job : RowJob) → slice_get l.drawn.elements y ≡ Some job
       → IsRowOfPass filter k scene picture start w.writer returned y job
+  pub noted : AreNotedRows filter k.geometry k.depth t.writer w.writer scene.path picture lines (bytes_of l.drawn.elements)
   pub rising : RiseBySampler l.drawn.elements
   pub counted : (p : ℕ) → p < pages_of k.geometry → slice_index l.counts p ≡ picture_wants filter.wants scene picture p
   pub once : IsEachRowOnce k.height tasks

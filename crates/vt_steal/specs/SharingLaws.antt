@@ -1,5 +1,5 @@
 -- What the workers of the machine whose samplers share rows did is a pass, once they are moved back.
-use Rattle.std.specs.Prelude.{◌≡◌, Option, List, length, reverse, Result, IsOk, OnErr}
+use Rattle.std.specs.Prelude.{◌≡◌, Option, List, length, reverse, Result, IsOk, OnErr, IfOk}
 use Rattle.std.proofs.Common.{subst, sym, ap, ◌∙◌}
 use Rattle.vt_outside.specs.declared.outside.File.{Ghosts as FileMeanings}
 use Rattle.vt_outside.specs.declared.answers.NoMemory.{NoMemory}
@@ -25,7 +25,7 @@ use Rattle.vt_steal.specs.declared.row_kit.RowKit.{RowKit}
 use Rattle.vt_steal.specs.RowTasks.{RowTask, HasDrawnShared}
 use Rattle.vt_steal.specs.RowKits.{samplers_of, IsSharedKit}
 use Rattle.vt_steal.specs.RowEnds.{MayEndRows}
-use Rattle.vt_steal.specs.SharingMachines.{SharingView, sharing_of, sharing_setup, sharing_state, state_by, journal_by, drawn_by, IsFitStreamer, IsReadySharing, IsReadyBy, IsIdleBy, AreOut, Begun, MayFinish, SharingEnds, SharingFinishes}
+use Rattle.vt_steal.specs.SharingMachines.{SharingView, sharing_of, sharing_setup, sharing_state, state_by, journal_by, drawn_by, IsFitStreamer, IsReadySharing, IsReadyBy, IsIdleBy, AreOut, Begun, MayFinish, SharingEnds, SharingFinishes, held_by, new_rows_by}
 
 -- a pass that was run refused nothing
 pub none_refused : (r : Result PassReport NoMemory) → IsOk r → OnErr r ⊥
@@ -149,10 +149,15 @@ module _ {F P : Type 0} (g : FileMeanings F) (filter : FilterMeanings P) (job : 
         journal = ap (λ (x : WordStreamer). x.streamer.writer.journal) detached.streamer_is ∙ sym (ap journal_by detached.there);
       }
 
-  -- and then the machine has run the pass
+  -- and then the machine has run the pass, and its rows came in it
   pub has_ended : (p : SharingView F) (r : Result PassReport NoMemory) → SharingFinishes g filter job r n c f d p
-      → SharingEnds g filter job r (sharing_state g m) p
+      → SharingEnds g filter job r (sharing_state g m) p × IfOk r (λ report. held_by filter m.streamer p.rows p.streamer job report.rows.elements)
   unfolding z
-  has_ended p r done = ends_after (sharing_of filter) (drawn_by filter p.rows p.streamer) job (sharing_state g m)
-      (state_by g n.words b.streamer.writer.journal (stream_before n.streams z.stream) n.rows) (sharing_state g p) before
-      (IsIdleBy g p.words p.streamer p.streams p.rows) r (done z may_finish)
+  has_ended p r done = let both = done z may_finish in (
+    ends_after (sharing_of filter) (drawn_by filter p.rows p.streamer) job (sharing_state g m)
+        (state_by g n.words b.streamer.writer.journal (stream_before n.streams z.stream) n.rows) (sharing_state g p) before
+        (IsIdleBy g p.words p.streamer p.streams p.rows) r both.0,
+    subst (λ (x : Option WordStreamer). IfOk r (λ report. held_by filter x p.rows p.streamer job report.rows.elements)) (sym detached.there)
+        (subst (λ (x : WordStreamer). IfOk r (λ report. new_rows_by filter x.streamer.writer p.rows p.streamer job report.rows.elements)) detached.streamer_is
+        both.1),
+  )

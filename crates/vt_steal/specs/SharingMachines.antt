@@ -1,5 +1,5 @@
 -- The machine whose samplers share the rows of each picture.
-use Rattle.std.specs.Prelude.{◌≡◌, ℕ, ◌*◌, ◌≤◌, false, Option, None, Some, List, [], length, Result}
+use Rattle.std.specs.Prelude.{◌≡◌, ℕ, ◌*◌, ◌≤◌, false, Option, None, Some, List, [], length, Result, IfOk}
 use Rattle.vt_outside.specs.declared.outside.File.{Ghosts as FileMeanings}
 use Rattle.vt_outside.specs.declared.answers.NoMemory.{NoMemory}
 use Rattle.vt_camera.specs.Paths.{PathView}
@@ -28,6 +28,9 @@ use Rattle.vt_steal.specs.declared.row_kit.RowKit.{RowKit}
 use Rattle.vt_steal.specs.RowTasks.{RowTask}
 use Rattle.vt_steal.specs.RowKits.{samplers_of, IsIdleRows, IsSharedKit}
 use Rattle.vt_steal.specs.RowEnds.{bytes_of, WasShared, MayEndRows, HasEndedRows}
+use Rattle.vt_journal.specs.declared.changes.RowLine.{RowLine}
+use Rattle.vt_grace.specs.declared.views.WriterView.{WriterView}
+use Rattle.vt_word_workers.specs.HeldPasses.{AreNewRows}
 
 -- a machine: its words, its queues, its bag of rows, its streamer, which is out while a pass is run, and what loading and drawing use
 pub record SharingView (F : Type 0) : Type 0 where
@@ -120,6 +123,17 @@ abbrev pub drawn_by : {P : Type 0} → FilterMeanings P → RowKit → Option Wo
 drawn_by filter r None path i y version bytes = ⊥
 drawn_by filter r (Some t) path i y version bytes = WasShared filter r.geometry r.depth r.count t.streamer.writer path i y version bytes
 
+-- how the rows of a pass that began with a writer came in it, by a streamer that may be out
+abbrev pub new_rows_by : {P : Type 0} → FilterMeanings P → WriterView → RowKit → Option WordStreamer → Job → List RowLine → Type 0
+new_rows_by filter v r None job lines = ⊥
+new_rows_by filter v r (Some t) job lines =
+    AreNewRows filter r.geometry r.depth v t.streamer.writer job.scene.path job.picture lines (bytes_of r.drawn.elements)
+
+-- and of one that began with a streamer that may be out
+abbrev pub held_by : {P : Type 0} → FilterMeanings P → Option WordStreamer → RowKit → Option WordStreamer → Job → List RowLine → Type 0
+held_by filter None r t job lines = ⊥
+held_by filter (Some was) r t job lines = new_rows_by filter was.streamer.writer r t job lines
+
 -- the workers were moved out of a machine
 pub record AreOut {F : Type 0} (g : FileMeanings F) (m n : SharingView F) (loaders : List (QueuedView F)) (tasks : List RowTask)
     (streamer : WordStreamer) : Type 0 where
@@ -163,9 +177,10 @@ abbrev pub SharingEnds : {F P : Type 0} → FileMeanings F → FilterMeanings P 
 SharingEnds g filter job result before p = Ends (sharing_of filter) (drawn_by filter p.rows p.streamer)
     (IsIdleBy g p.words p.streamer p.streams p.rows) job result before (sharing_state g p)
 
--- however the work began, what was done is a pass
+-- however the work began, what was done is a pass, and its rows came in it
 abbrev pub SharingFinishes : {F P : Type 0} → FileMeanings F → FilterMeanings P → Job → Result PassReport NoMemory → SharingView F → List (QueuedView F)
     → List RowTask → WordStreamer → SharingView F → Type 0
 SharingFinishes g filter job result n loaders tasks t p = (b : Begun _)
     → MayFinish g filter n.words n.queues n.bag n.streams n.rows job loaders tasks t b
     → SharingEnds g filter job result (state_by g n.words b.streamer.streamer.writer.journal (stream_before n.streams b.stream) n.rows) p
+    × IfOk result (λ report. new_rows_by filter b.streamer.streamer.writer p.rows p.streamer job report.rows.elements)

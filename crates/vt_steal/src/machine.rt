@@ -8,7 +8,7 @@ ghost use Rattle.vt_streamer.specs.Views.{IsStreamerOf};
 ghost use Rattle.vt_machine.specs.Crews.{IsCrew, AreFrames};
 ghost use Rattle.vt_machine.specs.Machines.{AreStoresFor};
 ghost use Rattle.vt_workers.specs.Jobs.{job_of};
-ghost use Rattle.vt_steal.specs.SharingMachines.{SharingView, sharing_of, sharing_state, IsIdleBy, IsReadyBy, drawn_by, AreOut, Begun, MayFinish, SharingFinishes};
+ghost use Rattle.vt_steal.specs.SharingMachines.{SharingView, sharing_of, sharing_state, IsIdleBy, IsReadyBy, drawn_by, AreOut, Begun, MayFinish, SharingFinishes, held_by};
 
 use crate::passes::{end_pass, prepare_pass};
 use crate::row_kit::{RowKit, RowTask};
@@ -79,6 +79,10 @@ impl<F: File + Send, P: Filter + Sync> PassMachine for SharingMachine<F, P> {
 
     const DEALT: bool = false;
 
+    fn is_dealt() -> bool {
+        Self::DEALT
+    }
+
     ghost drawing = { sharing_of P.Filter };
 
     ghost state = { λ m. sharing_state F.File m };
@@ -90,6 +94,8 @@ impl<F: File + Send, P: Filter + Sync> PassMachine for SharingMachine<F, P> {
     ghost drawn = { λ m. drawn_by P.Filter m.rows m.streamer };
 
     ghost refuses = { ⊥ };
+
+    ghost held = { λ m p job lines. held_by P.Filter m.streamer p.rows p.streamer job lines };
 
     ghost lent = { λ m. record { words = m.words; queues = m.queues; bag = m.bag; filter = record {} } };
 

@@ -28,7 +28,7 @@ use Rattle.vt_swap_workers.specs.SwapTasks.{HasDrawn}
 use Rattle.vt_word_workers.specs.Kits.{IsSamplerOf}
 use Rattle.vt_swap_machine.specs.declared.draw_kit.DrawKit.{DrawKit}
 use Rattle.vt_swap_machine.specs.DrawKits.{AreDrawers, HasReader, HasSeen, IsToldBy, row_by, version_by, counted_together}
-use Rattle.vt_swap_machine.specs.SwapPasses.{WasDrawn, MayEndDraw}
+use Rattle.vt_swap_machine.specs.SwapPasses.{WasDrawn, MayEndDraw, reader_by, IsEnteredRow}
 use Rattle.vt_swap_machine.proofs.RowLines.{row_version, counted_is_wanted}
 
 module _ {P : Type 0} (filter : FilterMeanings P) (k : DrawKit) (scene : Scene) (picture : ℕ) (cache : Cache) (start : ℕ) (e f : List SwapDrawer)
@@ -36,6 +36,7 @@ module _ {P : Type 0} (filter : FilterMeanings P) (k : DrawKit) (scene : Scene) 
   -- what a sampler was, that its reader had seen the start, and that it has drawn
   record HasWorked (number : ℕ) (task : SwapDrawer) : Type 0 where
     before : SwapDrawer
+    there : slice_get e number ≡ Some before
     was : IsSamplerOf k.geometry k.depth k.width k.height k.count number before.sampler
     seen : HasSeen cache start before
     drawn : HasDrawn filter scene picture before task
@@ -46,6 +47,7 @@ module _ {P : Type 0} (filter : FilterMeanings P) (k : DrawKit) (scene : Scene) 
       let there = slice_get-get_or e m task low in
       record {
         before = get_or e m task;
+        there = there;
         was = h.ready.kit.samplers.each m (get_or e m task) there;
         seen = h.ready.readers m task low;
         drawn = subst (λ (x : SwapDrawer). HasDrawn filter scene picture (get_or e m task) x) (get_or_from_slice_get f m task task is)
@@ -154,6 +156,20 @@ module _ {P : Type 0} (filter : FilterMeanings P) (k : DrawKit) (scene : Scene) 
       let up = All-contains (λ (u : ℕ). u ≤ version_at r.task.sampler y) d.seen.reader.entered d.seen.version later d.seen.entered in
       let late = d.seen.late in
       omega (arith, up, late)
+
+  -- its sampler entered its version since the pass began
+  pub row_entered : (y : ℕ) (r : HasRow y)
+      → IsEnteredRow filter k.geometry k.depth e f scene.path picture y (record { row = y; sampler = y % k.count; version = version_at r.task.sampler y })
+      (row_at r.task.sampler y)
+  row_entered y r = let d = worked (y % k.count) r.task r.there in record {
+    was = d.drawn.before;
+    had = ap reader_by d.there ∙ d.drawn.had;
+    reader = d.drawn.reader;
+    has = ap reader_by r.there ∙ d.drawn.has;
+    entered = d.drawn.entered y r.own;
+    drawn = subst (λ (z : Shape × ℕ). AreShown filter.shown z.0 z.1 (version_at r.task.sampler y) (IsSaidBy d.drawn.reader.log)
+        (shot_row z.0 scene.path picture y) scene.path.width (row_at r.task.sampler y)) (λ i. (h.shape i, h.depth i)) (d.drawn.drawn y r.own);
+  }
 
   -- the readers have seen no more of the log than the streamer did
   module _ (v : StreamerView) (cache_is : v.cache ≡ cache) (told : All (IsToldBy v.log) f) where

@@ -1,5 +1,5 @@
 -- A pass of the machine over a page cache, by what its loaders and its samplers left.
-use Rattle.std.proofs.Common.{◌≡◌, ℕ, ◌+◌, ◌*◌, ◌<◌, ◌++◌, true, Bool, List, [], length, get_or, Option, Some, None, sym, ap, ◌∙◌, subst, arith}
+use Rattle.std.proofs.Common.{◌≡◌, ℕ, ◌+◌, ◌*◌, ◌<◌, ◌++◌, true, Bool, List, [], length, get_or, Option, Some, None, sym, ap, ◌∙◌, subst, arith, ◌%◌}
 use Rattle.std.specs.Prelude.{slice_get, All, IfSome, Result, Ok, Err, IfOk}
 use Rattle.std.proofs.lemmas.List.FromFn.{length-map-range_with_len, get_or-map-range_with_len}
 use Rattle.vt_outside.specs.Lists.{ListView}
@@ -39,10 +39,10 @@ use Rattle.vt_swap_workers.specs.declared.workers.SwapFeeder.{SwapFeeder}
 use Rattle.vt_stream_kit.specs.StreamKits.{StreamKitView, stream_before, HasEndedStream}
 use Rattle.vt_swap_machine.specs.declared.draw_kit.DrawKit.{DrawKit}
 use Rattle.vt_swap_machine.specs.DrawKits.{HasReader, drawn_row, drawn_rows, lines_of}
-use Rattle.vt_swap_machine.specs.SwapPasses.{WasDrawn, MayEndDraw, HasTold}
+use Rattle.vt_swap_machine.specs.SwapPasses.{WasDrawn, MayEndDraw, HasTold, IsEnteredRow, entered_by}
 use Rattle.vt_swap_machine.specs.SwapMachines.{state_by, drawn_by, Agree, IsIdleSwap, Begun, MayFinish}
 use Rattle.vt_swap_machine.proofs.RowLines.{line_there, lines_in_order}
-use Rattle.vt_swap_machine.proofs.Drawn.{samplers_stay, has_reader, counted, has_row, row_full, rows_rise, row_from, row_to, row_drawn}
+use Rattle.vt_swap_machine.proofs.Drawn.{samplers_stay, has_reader, counted, has_row, row_full, rows_rise, row_from, row_to, row_drawn, row_entered}
 use Rattle.vt_swap_machine.proofs.Fills.{results_stored}
 use Rattle.vt_swap_machine.proofs.PartlyRead.{read_partly}
 
@@ -271,11 +271,30 @@ module _ {F P : Type 0} (g : FileMeanings F) (filter : FilterMeanings P) (law : 
         WasDrawn filter z.1.geometry z.1.depth z.1.count z.0 z.1.tasks.elements path i y version bytes) job report
         (state_by g slots start (stream_before k b.stream) r) (state_by g slots z.0.journal l z.1)) (λ i. (sym streamer_is i, sym draw i)) ran_with
 
+    entered_with : entered_by filter b.tasks kit job lines
+    entered_with y line is =
+        let at = line_there r.count f.elements r.height y line is in
+        let row = has_row filter r job.scene job.picture b.feeder.streamer.book (length start) b.tasks f.elements h y at.0 in
+        subst (λ (z : RowLine × List ℕ). IsEnteredRow filter r.geometry r.depth b.tasks f.elements job.scene.path job.picture y z.0 z.1)
+        (λ i. (
+          sym (at.1 ∙ ap (λ (v : ℕ). let l : RowLine = record { row = y; sampler = y % r.count; version = v } in l) row.version_is) i,
+          sym (row_there y [] at.0 ∙ row.bytes_are) i,
+        ))
+        (row_entered filter r job.scene job.picture b.feeder.streamer.book (length start) b.tasks f.elements h y row)
+
+    -- and the rows came in it
+    pub entered : entered_by filter b.tasks s job report.rows.elements
+    entered = subst (λ (z : DrawKit × List RowLine). entered_by filter b.tasks z.0 job z.1) (λ i. (sym draw i, sym told.lines_are i)) entered_with
+
   -- however it ends
   pub finished : (result : Result PassReport NoMemory) → IfOk result (λ report. HasTold r s f.elements t report.rows.elements)
       → IfOk result (λ report. report.events.elements ≡ t.report.events.elements)
       → IfOk result (λ report. report.losses.elements ≡ t.report.losses.elements)
       → Ends (drawing_of filter) (drawn_by filter s (Some u)) (IsIdleSwap g slots u l s) job result (state_by g slots start (stream_before k b.stream) r)
       (state_by g slots u.streamer.journal l s)
-  finished (Ok report) told events losses = record { ran = ran report told events losses; goes_on = goes_on report told events losses; broke = tt }
-  finished (Err refusal) told events losses = record { ran = tt; goes_on = tt; broke = refused }
+      × IfOk result (λ report. entered_by filter b.tasks s job report.rows.elements)
+  finished (Ok report) told events losses = (
+    record { ran = ran report told events losses; goes_on = goes_on report told events losses; broke = tt },
+    entered report told events losses,
+  )
+  finished (Err refusal) told events losses = (record { ran = tt; goes_on = tt; broke = refused }, tt)

@@ -1,5 +1,5 @@
 -- What the workers of the machine over a page cache did is a pass, once they are moved back.
-use Rattle.std.specs.Prelude.{◌≡◌, Option, List, length, reverse, Result, Ok, Err, OnErr}
+use Rattle.std.specs.Prelude.{◌≡◌, Option, List, length, reverse, Result, Ok, Err, OnErr, IfOk}
 use Rattle.std.proofs.Common.{subst, sym, ap, ◌∙◌}
 use Rattle.vt_outside.specs.Lists.{ListView}
 use Rattle.vt_outside.specs.declared.outside.File.{Ghosts as FileMeanings}
@@ -23,7 +23,7 @@ use Rattle.vt_stream_kit.specs.StreamKits.{StreamKitView, AreLoadersOut, stream_
 use Rattle.vt_stream_kit.specs.StreamBacks.{round, stream_begun, stream_back}
 use Rattle.vt_swap_machine.specs.declared.draw_kit.DrawKit.{DrawKit}
 use Rattle.vt_swap_machine.specs.DrawKits.{IsReadyDraw}
-use Rattle.vt_swap_machine.specs.SwapPasses.{MayEndDraw}
+use Rattle.vt_swap_machine.specs.SwapPasses.{MayEndDraw, entered_by}
 use Rattle.vt_swap_machine.specs.SwapMachines.{SwapView, swap_setup, swap_state, state_by, journal_by, drawn_by, IsFitFeeder, IsReadySwap, IsReadyBy, IsIdleBy, AreOut, Begun, MayFinish, SwapEnds, SwapFinishes}
 
 -- a pass may be refused memory
@@ -148,10 +148,13 @@ module _ {F P : Type 0} (g : FileMeanings F) (filter : FilterMeanings P) (job : 
         journal = ap (λ (x : SwapFeeder). x.streamer.journal) detached.feeder_is ∙ sym (ap journal_by detached.there);
       }
 
-  -- and then the machine has run the pass
+  -- and then the machine has run the pass, and its rows came in it
   pub has_ended : (p : SwapView F) (r : Result PassReport NoMemory) → SwapFinishes g filter job r n c f d p
-      → SwapEnds g filter job r (swap_state g m) p
+      → SwapEnds g filter job r (swap_state g m) p × IfOk r (λ report. entered_by filter m.drawers.tasks.elements p.drawers job report.rows.elements)
   unfolding z
-  has_ended p r done = ends_after (drawing_of filter) (drawn_by filter p.drawers p.feeder) job (swap_state g m)
-      (state_by g n.slots b.streamer.journal (stream_before n.streams z.stream) n.drawers) (swap_state g p) before
-      (IsIdleBy g p.slots p.feeder p.streams p.drawers) r (done z may_finish)
+  has_ended p r done = let both = done z may_finish in (
+    ends_after (drawing_of filter) (drawn_by filter p.drawers p.feeder) job (swap_state g m)
+        (state_by g n.slots b.streamer.journal (stream_before n.streams z.stream) n.drawers) (swap_state g p) before
+        (IsIdleBy g p.slots p.feeder p.streams p.drawers) r both.0,
+    subst (λ (x : List SwapDrawer). IfOk r (λ report. entered_by filter x p.drawers job report.rows.elements)) detached.tasks_are both.1,
+  )

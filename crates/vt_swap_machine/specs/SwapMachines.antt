@@ -1,5 +1,5 @@
 -- The machine over a page cache.
-use Rattle.std.specs.Prelude.{◌≡◌, ℕ, ◌+◌, ◌*◌, ◌≤◌, false, Option, None, Some, List, [], length, Result}
+use Rattle.std.specs.Prelude.{◌≡◌, ℕ, ◌+◌, ◌*◌, ◌≤◌, false, Option, None, Some, List, [], length, Result, IfOk}
 use Rattle.vt_definitions.specs.Limits.{most_frames, most_versions}
 use Rattle.vt_outside.specs.Lists.{ListView}
 use Rattle.vt_outside.specs.declared.outside.File.{Ghosts as FileMeanings}
@@ -27,7 +27,7 @@ use Rattle.vt_swap_workers.specs.SwapTasks.{HasFed}
 use Rattle.vt_stream_kit.specs.StreamKits.{StreamKitView, IsStreamKit, IsAskedStream, AreLoadersOut, StreamBegun, stream_before, MayEndStream}
 use Rattle.vt_swap_machine.specs.declared.draw_kit.DrawKit.{DrawKit}
 use Rattle.vt_swap_machine.specs.DrawKits.{IsIdleDraw, IsReadyDraw, drawn_rows}
-use Rattle.vt_swap_machine.specs.SwapPasses.{WasDrawn, MayEndDraw}
+use Rattle.vt_swap_machine.specs.SwapPasses.{WasDrawn, MayEndDraw, entered_by}
 
 -- a machine: the slots of its frames, its queues, its streamer, which is out while a pass is run, and what loading and drawing are done with
 pub record SwapView (F : Type 0) : Type 0 where
@@ -153,9 +153,10 @@ abbrev pub SwapEnds : {F P : Type 0} → FileMeanings F → FilterMeanings P →
 SwapEnds g filter job result before p = Ends (drawing_of filter) (drawn_by filter p.drawers p.feeder)
     (IsIdleBy g p.slots p.feeder p.streams p.drawers) job result before (swap_state g p)
 
--- however the work began, what was done is a pass, or memory was refused
+-- however the work began, what was done is a pass, and its rows came in it; or memory was refused
 abbrev pub SwapFinishes : {F P : Type 0} → FileMeanings F → FilterMeanings P → Job → Result PassReport NoMemory → SwapView F → List (QueuedView F)
     → List SwapDrawer → SwapFeeder → SwapView F → Type 0
 SwapFinishes g filter job result n loaders tasks t p = (b : Begun _)
     → MayFinish g filter n.slots n.queues n.feeder n.streams n.drawers job loaders tasks t b
     → SwapEnds g filter job result (state_by g n.slots b.feeder.streamer.journal (stream_before n.streams b.stream) n.drawers) p
+    × IfOk result (λ report. entered_by filter b.tasks p.drawers job report.rows.elements)

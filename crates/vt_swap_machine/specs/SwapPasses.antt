@@ -1,5 +1,5 @@
 -- A pass over a page cache, by what its workers did.
-use Rattle.std.specs.Prelude.{◌≡◌, ℕ, ◌%◌, ◌<◌, false, Some, List, length, slice_get, slice_index, All, Contains}
+use Rattle.std.specs.Prelude.{◌≡◌, ℕ, ◌%◌, ◌<◌, false, Some, List, length, slice_get, slice_index, All, Contains, Option, None, [], slice_index_or}
 use Rattle.vt_swap.specs.Caches.{Cache}
 use Rattle.vt_camera.specs.Paths.{PathView}
 use Rattle.vt_pages.specs.Shape.{Shape}
@@ -17,7 +17,9 @@ use Rattle.vt_swap_workers.specs.declared.workers.SwapDrawer.{SwapDrawer}
 use Rattle.vt_swap_workers.specs.declared.workers.SwapFeeder.{SwapFeeder}
 use Rattle.vt_swap_workers.specs.SwapTasks.{HasDrawn}
 use Rattle.vt_swap_machine.specs.declared.draw_kit.DrawKit.{DrawKit}
-use Rattle.vt_swap_machine.specs.DrawKits.{IsReadyDraw, IsToldBy, lines_of, counted_together}
+use Rattle.vt_swap_machine.specs.DrawKits.{IsReadyDraw, IsToldBy, lines_of, counted_together, drawn_rows}
+use Rattle.vt_machine.specs.Jobs.{Job}
+use Rattle.vt_swap_workers.specs.Entered.{WasEnteredBetween}
 
 -- a row of a picture was drawn by a filter at a version by what a streamer's log says, and the version is one that the reader of its sampler entered
 pub record WasDrawn {P : Type 0} (filter : FilterMeanings P) (s : Shape) (d samplers : ℕ) (v : StreamerView) (tasks : List SwapDrawer)
@@ -29,6 +31,27 @@ pub record WasDrawn {P : Type 0} (filter : FilterMeanings P) (s : Shape) (d samp
   pub has : by.reader ≡ Some reader
   pub of : reader.cache ≡ v.cache
   pub entered : Contains reader.entered version
+
+-- the reader of a sampler, if both are there
+abbrev pub reader_by : Option SwapDrawer → Option ReaderView
+reader_by None = None
+reader_by (Some task) = task.reader
+
+-- a row came between samplers before and after: the reader of its line's sampler entered the line's version meanwhile, and the row was drawn by a
+-- filter by what that reader has seen of the log
+pub record IsEnteredRow {P : Type 0} (filter : FilterMeanings P) (s : Shape) (d : ℕ) (before after : List SwapDrawer) (path : PathView) (i y : ℕ)
+    (line : RowLine) (bytes : List ℕ) : Type 0 where
+  pub was : ReaderView
+  pub had : reader_by (slice_get before line.sampler) ≡ Some was
+  pub reader : ReaderView
+  pub has : reader_by (slice_get after line.sampler) ≡ Some reader
+  pub entered : WasEnteredBetween was reader line.version
+  pub drawn : AreShown filter.shown s d line.version (IsSaidBy reader.log) (shot_row s path i y) path.width bytes
+
+-- each of the rows of these lines came so, the last ones of a kit
+abbrev pub entered_by : {P : Type 0} → FilterMeanings P → List SwapDrawer → DrawKit → Job → List RowLine → Type 0
+entered_by filter before k job lines = (y : ℕ) (line : RowLine) → slice_get lines y ≡ Some line
+    → IsEnteredRow filter k.geometry k.depth before k.tasks.elements job.scene.path job.picture y line (slice_index_or (drawn_rows k) y [])
 
 -- a streamer was refused no memory: what it has done is lawful, and its journal is that of its log
 pub record IsIntact (t : SwapFeeder) : Type 0 where

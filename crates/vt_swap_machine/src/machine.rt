@@ -7,6 +7,7 @@ ghost use Rattle.vt_machine.specs.Drawings.{drawing_of};
 ghost use Rattle.vt_machine.specs.Machines.{AreStoresFor};
 ghost use Rattle.vt_machine.specs.Jobs.{job_of};
 ghost use Rattle.vt_swap_machine.specs.SwapMachines.{SwapView, swap_state, IsIdleBy, IsReadyBy, drawn_by, AreOut, Begun, MayFinish, SwapFinishes};
+ghost use Rattle.vt_swap_machine.specs.SwapPasses.{entered_by};
 
 use crate::draw_kit::DrawKit;
 use crate::passes::{cache_for, end_feeder, end_pass, place_page, prepare_pass};
@@ -75,6 +76,10 @@ impl<F: File + Send, P: Filter + Sync> PassMachine for SwappedMachine<F, P> {
 
     const DEALT: bool = true;
 
+    fn is_dealt() -> bool {
+        Self::DEALT
+    }
+
     ghost drawing = { drawing_of P.Filter };
 
     ghost state = { λ m. swap_state F.File m };
@@ -86,6 +91,8 @@ impl<F: File + Send, P: Filter + Sync> PassMachine for SwappedMachine<F, P> {
     ghost drawn = { λ m. drawn_by P.Filter m.drawers m.feeder };
 
     ghost refuses = { Unit {0} };
+
+    ghost held = { λ m p job lines. entered_by P.Filter m.drawers.tasks.elements p.drawers job lines };
 
     ghost lent = { λ m. record { slots = m.slots; queues = m.queues; filter = record {} } };
 

@@ -1,2 +1,3 @@
+pub use Rattle.vt_swap_sampler.specs.Entered
 pub use Rattle.vt_swap_streaming.specs.Brought
 pub mod SwapTasks

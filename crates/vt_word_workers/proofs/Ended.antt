@@ -26,7 +26,7 @@ use Rattle.vt_noted.specs.WriterViews.{version_of, is_out}
 use Rattle.vt_sampler.specs.LookupNotes.{IsNotedIn}
 use Rattle.vt_sampler.specs.Samplers.{IsOwn, own_rows, row_at, row_length, version_at}
 use Rattle.vt_sampler.proofs.Sharing.{picture_few}
-use Rattle.vt_noted.specs.Noted.{IsNotedBy}
+use Rattle.vt_noted.specs.Noted.{IsNotedBy, IsAmong}
 use Rattle.vt_loaders.specs.declared.queued.Queues.{Queues}
 use Rattle.vt_loaders.specs.QueuedLoaders.{QueuedView}
 use Rattle.vt_requests.specs.Jobs.{Job}
@@ -37,7 +37,7 @@ use Rattle.vt_word_workers.specs.WordTasks.{HasDrawn}
 use Rattle.vt_word_workers.specs.Kits.{KitView, IsSamplerOf, AreSamplersOf, row_by, version_by, counted_together}
 use Rattle.vt_word_workers.specs.HeldPasses.{IsHeldRow}
 use Rattle.vt_word_workers.specs.KitPasses.{Begun, HaveWorked, WasDrawn}
-use Rattle.vt_word_workers.proofs.Returned.{holds_of, HasOwnPass, return_of, WasReturned, was_returned, have_returned, says_more, none_out}
+use Rattle.vt_word_workers.proofs.Returned.{holds_of, HasOwnPass, return_of, WasReturned, was_returned, have_returned, says_more, none_out, have_noted}
 use Rattle.vt_word_workers.proofs.RowLines.{row_version, counted_is_wanted}
 
 -- a sampler without its pass, of those without passes
@@ -218,14 +218,26 @@ module _ {F P : Type 0} (g : FileMeanings F) (filter : FilterMeanings P) (words 
         let back = holds_of (IsSoundReturn (version_of after)) after.returned (return_of by.drawn.pass.view) sound.returned was_back.returned in
         holds_of (λ v. v ≤ version_of after) by.drawn.pass.view.held (version_at r.task.sampler y) back.held held
 
+    shown : AreShown filter.shown k.shape k.depth (version_at r.task.sampler y) (IsNotedIn by.drawn.pass.view)
+        (shot_row k.shape job.scene.path job.picture y) job.scene.path.width (row_at r.task.sampler y)
+    shown = subst (λ (z : Shape × ℕ). AreShown filter.shown z.0 z.1 (version_at r.task.sampler y) (IsNotedIn by.drawn.pass.view)
+        (shot_row z.0 job.scene.path job.picture y) job.scene.path.width (row_at r.task.sampler y))
+        (λ i. (h.job_is.shape i, h.job_is.depth i)) (by.drawn.drawn y r.own)
+
+    -- the notes by which it was drawn are among those that came back
+    pub row_noted : AreShown filter.shown k.shape k.depth (version_at r.task.sampler y)
+        (IsAmong (have_noted t.streamer.writer f).entries (have_noted t.streamer.writer f).words)
+        (shot_row k.shape job.scene.path job.picture y) job.scene.path.width (row_at r.task.sampler y)
+    row_noted = let all = have_noted t.streamer.writer f in
+        shown_by_more filter.shown k.shape k.depth (version_at r.task.sampler y) job.scene.path.width (IsNotedIn by.drawn.pass.view)
+        (IsAmong all.entries all.words) (shot_row k.shape job.scene.path job.picture y) (row_at r.task.sampler y)
+        (all.each (y % k.crew.samplers) r.task by.drawn.pass r.there by.drawn.has) shown
+
     pub row_drawn : WasDrawn filter k.shape k.depth k.crew.samplers after job.scene.path job.picture y (version_at r.task.sampler y) (row_at r.task.sampler y)
     row_drawn = record {
       drawn = shown_by_more filter.shown k.shape k.depth (version_at r.task.sampler y) job.scene.path.width (IsNotedIn by.drawn.pass.view)
           (IsNotedBy after) (shot_row k.shape job.scene.path job.picture y) (row_at r.task.sampler y)
-          (says_more after by.drawn.pass.view was_back)
-          (subst (λ (z : Shape × ℕ). AreShown filter.shown z.0 z.1 (version_at r.task.sampler y) (IsNotedIn by.drawn.pass.view)
-          (shot_row z.0 job.scene.path job.picture y) job.scene.path.width (row_at r.task.sampler y))
-          (λ i. (h.job_is.shape i, h.job_is.depth i)) (by.drawn.drawn y r.own));
+          (says_more after by.drawn.pass.view was_back) shown;
       by = return_of by.drawn.pass.view;
       returned = was_back.returned;
       dealt_to = own_number (y % k.crew.samplers) r.task by;

@@ -14,7 +14,7 @@ use Rattle.vt_plan.specs.declared.batches.Planned.{Planned}
 use Rattle.vt_queue.specs.declared.items.Request.{Request}
 use Rattle.vt_queue.specs.declared.items.Loaded.{Loaded}
 use Rattle.vt_queue.specs.declared.views.PassView.{PassView}
-use Rattle.vt_queue.specs.PassViews.{all_joined}
+use Rattle.vt_queue.specs.PassViews.{all_joined, all_shares}
 use Rattle.vt_queue.specs.Orders.{items_of}
 use Rattle.vt_queue.specs.Steps.{IsAtStep}
 use Rattle.vt_loaders.specs.declared.queued.Queues.{Queues}
@@ -29,6 +29,8 @@ use Rattle.vt_requests.specs.Machines.{file_state, files_of}
 use Rattle.vt_requests.specs.BatchRounds.{result_events, IsResultOf, AreLossesOf, Begun, IsEndedRound}
 use Rattle.vt_requests.proofs.BatchRounds.{results_of_entries, round_outcome, round_read}
 use Rattle.vt_streaming.specs.Streams.{Streams}
+use Rattle.vt_queue.proofs.OrderLemmas.{joined_shares}
+use Rattle.vt_loaders.proofs.Gathering.{Gathering, gathering}
 
 -- Files in the other order were read as well.
 map_reverse : {X Y : Type 0} (f : X → Y) (xs : List X) → map f (reverse xs) ≡ reverse (map f xs)
@@ -123,6 +125,30 @@ module _ {F : Type 0} (g : FileMeanings F) (q : Queues) (s : Shape) (batch : Lis
   is_served : AreServed g s b.depth b.told (with_results results)
   is_served = subst (λ (xs : List Loaded). AreServed g s b.depth b.told (with_results xs)) (sym results_are)
       (served g s b.depth b.told q (with_results (items_of took.got)) is_streamed)
+
+  together : Gathering g q s b.depth b.told b.first last
+  together = gathering g q s b.depth b.told b.first last ended.number ended.split.new ended.loaders ended.loaded
+
+  -- the passes of the queues are whole again
+  pub asks_whole : asks_back.shares ≡ all_shares
+  asks_whole =
+      let a = ap (λ (w : PassView Request). w.shares) joined in let c = joined_shares asks (asks_of last) in
+      let e = together.asks_shares in let f = ended.split.asks_shares in let h = ended.asked.whole in omega (arith, a, c, e, f, h)
+
+  pub answers_whole : answers_end.shares ≡ all_shares
+  answers_whole =
+      let a = ap (λ (w : PassView Loaded). w.shares) given in let c = joined_shares answers_back (answers_of last) in
+      let k = ap (λ (w : PassView Loaded). w.shares) took.is in
+      let e = together.answers_shares in let f = ended.split.answers_shares in let h = ended.answers_all in omega (arith, a, c, k, e, f, h)
+
+  -- and nothing is left in the queues
+  pub no_asks : IsAtStep asks_back []
+  unfolding with_results
+  no_asks = subst (λ (l : List Request). IsAtStep asks_back l) is_served.none_unread at_step
+
+  pub no_answers : IsAtStep answers_end []
+  unfolding with_results
+  no_answers = subst (λ (l : List Loaded). IsAtStep answers_end l) is_served.none_over end_at_step
 
   pub all_entries : All (IsResultOf batch) results
   unfolding with_results

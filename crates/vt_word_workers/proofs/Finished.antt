@@ -30,7 +30,7 @@ use Rattle.vt_queue.specs.Queues.{view_of}
 use Rattle.vt_queue.specs.Steps.{IsAtStep}
 use Rattle.vt_loaders.specs.Loaders.{LoaderView}
 use Rattle.vt_loaders.specs.declared.queued.Queues.{Queues}
-use Rattle.vt_loaders.specs.QueuedLoaders.{QueuedView, asks_of, answers_of, stores_of}
+use Rattle.vt_loaders.specs.QueuedLoaders.{QueuedView, asks_of, answers_of, stores_of, AreOf}
 use Rattle.vt_loaders.specs.Results.{IsGood}
 use Rattle.vt_loaders.proofs.Answering.{bytes_kept}
 use Rattle.vt_requests.specs.Jobs.{Job}
@@ -50,15 +50,19 @@ use Rattle.vt_noted.proofs.Replayed.{picture_replayed}
 use Rattle.vt_word_workers.specs.WordSamplers.{WordSampler}
 use Rattle.vt_word_workers.specs.declared.workers.WordStreamer.{WordStreamer}
 use Rattle.vt_word_workers.specs.GivenPasses.{all_returned, without_passes}
-use Rattle.vt_word_workers.specs.RoundKits.{RoundKitView}
+use Rattle.vt_word_workers.specs.RoundKits.{RoundKitView, AreEmptied}
 use Rattle.vt_word_workers.specs.Kits.{KitView, kit_row, kit_rows, kit_setup, kit_state, lines_of, IsIdleKit, counted_together}
 use Rattle.vt_word_workers.specs.HeldPasses.{AreHeldRows}
 use Rattle.vt_word_workers.specs.KitPasses.{Begun, MayFinish, HaveWorked, WasDrawn, KitRan, kit_before, kit_drawn}
-use Rattle.vt_word_workers.proofs.Returned.{journal_stays, contents_stay, have_returned}
+use Rattle.vt_word_workers.proofs.Returned.{journal_stays, contents_stay, have_returned, have_noted}
 use Rattle.vt_word_workers.proofs.RowLines.{line_there, lines_in_order}
 use Rattle.vt_word_workers.proofs.Contents.{results_stored}
-use Rattle.vt_word_workers.proofs.Ended.{samplers_stay, counted, all_in, has_row, row_full, rows_rise, row_from, row_to, row_drawn, row_held}
-use Rattle.vt_word_workers.proofs.Ending.{all_entries, all_good, all_sizes, outcome, read}
+use Rattle.vt_word_workers.proofs.Ended.{samplers_stay, counted, all_in, has_row, row_full, rows_rise, row_from, row_to, row_drawn, row_held, row_noted}
+use Rattle.vt_word_workers.proofs.Ending.{all_entries, all_good, all_sizes, outcome, read, asks_whole, answers_whole, no_asks, no_answers}
+use Rattle.vt_noted.specs.Noted.{IsAmong, AreNotedRows}
+use Rattle.vt_sampler.specs.Shots.{shot_row}
+use Rattle.vt_sampler.specs.Evidence.{AreShown}
+use Rattle.vt_queue.specs.declared.queue.QueuePass.{QueuePass}
 
 -- stores that all tell the same, tell it together
 told_all : {F : Type 0} (g : FileMeanings F) (told : Option (List ℕ)) (stores : List (StoreView F)) → 1 ≤ length stores
@@ -128,6 +132,25 @@ module _ {F P : Type 0} (g : FileMeanings F) (filter : FilterMeanings P) (words 
     sizes_back = subst (λ (d : ℕ). All (λ (x : Loaded). length x.request.buffer.elements ≡ tile_length k.shape d) t.report.results.elements) h.depth_is
         (all_sizes g q k.shape job.batch (view_of k.round.asks) asks_back (view_of b.streamer.answers) (view_of t.answers) answers_end c
         t.report.taken.elements t.report.results.elements unread.0 over.0 joined unread.1 h.fed.took h.fed.all given over.1 b.round h.ended)
+
+    -- nothing is left in the queues
+    pub emptied : (asks : QueuePass Request) (answers : QueuePass Loaded) → AreOf q asks answers → view_of asks ≡ asks_back → view_of answers ≡ answers_end
+        → AreEmptied q asks answers
+    emptied asks answers of same_asks same_answers = record {
+      passes = of;
+      all_asks = ap (λ (v : PassView Request). v.shares) same_asks
+          ∙ asks_whole g q k.shape job.batch (view_of k.round.asks) asks_back (view_of b.streamer.answers) (view_of t.answers) answers_end c
+          t.report.taken.elements t.report.results.elements unread.0 over.0 joined unread.1 h.fed.took h.fed.all given over.1 b.round h.ended;
+      all_answers = ap (λ (v : PassView Loaded). v.shares) same_answers
+          ∙ answers_whole g q k.shape job.batch (view_of k.round.asks) asks_back (view_of b.streamer.answers) (view_of t.answers) answers_end c
+          t.report.taken.elements t.report.results.elements unread.0 over.0 joined unread.1 h.fed.took h.fed.all given over.1 b.round h.ended;
+      no_asks = subst (λ (v : PassView Request). IsAtStep v []) (sym same_asks)
+          (no_asks g q k.shape job.batch (view_of k.round.asks) asks_back (view_of b.streamer.answers) (view_of t.answers) answers_end c
+          t.report.taken.elements t.report.results.elements unread.0 over.0 joined unread.1 h.fed.took h.fed.all given over.1 b.round h.ended);
+      no_answers = subst (λ (v : PassView Loaded). IsAtStep v []) (sym same_answers)
+          (no_answers g q k.shape job.batch (view_of k.round.asks) asks_back (view_of b.streamer.answers) (view_of t.answers) answers_end c
+          t.report.taken.elements t.report.results.elements unread.0 over.0 joined unread.1 h.fed.took h.fed.all given over.1 b.round h.ended);
+    }
 
     outcome_is : IsOutcome job.batch t.report.losses.elements t.report.events.elements
     outcome_is = outcome g q k.shape job.batch (view_of k.round.asks) asks_back (view_of b.streamer.answers) (view_of t.answers) answers_end c
@@ -267,6 +290,21 @@ module _ {F P : Type 0} (g : FileMeanings F) (filter : FilterMeanings P) (words 
             row_held g filter words q k job c f t b h y r line (ap (λ (l : RowLine). l.sampler) at.1) (ap (λ (l : RowLine). l.version) at.1 ∙ r.version_is);
       }
 
+      noted_rows : AreNotedRows filter k.shape k.depth b.streamer.streamer.writer after job.scene.path job.picture lines (kit_rows kit_after)
+      noted_rows = let all = have_noted t.streamer.writer f in record {
+        entries = all.entries;
+        words = all.words;
+        noted = all.noted ∙ ap (λ (w : WriterView). all.entries ++ w.notes) streamed.rest;
+        worded = all.worded ∙ ap (λ (w : WriterView). all.words ++ w.word_notes) streamed.rest;
+        each = λ y line is.
+            let at = line_there k.crew.samplers (without_passes f) k.height y line is in
+            let r = has_row g filter words q k job c f t b h y at.0 in
+            subst (λ (z : ℕ × List ℕ). AreShown filter.shown k.shape k.depth z.0 (IsAmong all.entries all.words)
+            (shot_row k.shape job.scene.path job.picture y) job.scene.path.width z.1)
+            (λ i. (sym (ap (λ (l : RowLine). l.version) at.1 ∙ r.version_is) i, sym (row_there y [] at.0 ∙ r.bytes_are) i))
+            (row_noted g filter words q k job c f t b h y r);
+      }
+
       -- and what was done is a pass
       pub ran_after : (report : PassReport) → report.rows.elements ≡ lines → report.events ≡ t.report.events → report.losses ≡ t.report.losses
           → KitRan g filter words job report b.streamer.streamer (kit_before k b) streamer_after kit_after
@@ -284,6 +322,8 @@ module _ {F P : Type 0} (g : FileMeanings F) (filter : FilterMeanings P) (words 
               (sym lines_are) pictured;
         };
         held = subst (AreHeldRows b.streamer.streamer.writer after) (sym lines_are) held_rows;
+        noted = subst (λ (l : List RowLine). AreNotedRows filter k.shape k.depth b.streamer.streamer.writer after job.scene.path job.picture l
+            (kit_rows kit_after)) (sym lines_are) noted_rows;
       }
 
       -- so it is of a streamer and a kit that are these

@@ -11,9 +11,11 @@ use Rattle.vt_noted.specs.WriterViews.{is_out}
 use Rattle.vt_sampler.specs.Values.{PassValue}
 use Rattle.vt_sampler.specs.LookupNotes.{IsNotedIn}
 use Rattle.vt_noted.specs.Noted.{IsAmong, IsNotedBy, HasNoted, HasNotesOf}
-use Rattle.vt_noted.proofs.Handed.{noted_by, notes_alike, pass_noted, notes_stay, noted_onward}
+use Rattle.vt_noted.proofs.Handed.{noted_by, notes_alike, pass_noted, notes_stay, noted_onward, among_left, among_right}
 use Rattle.vt_word_workers.specs.declared.workers.WithPass.{WithPass}
 use Rattle.vt_word_workers.specs.GivenPasses.{after_pass, all_returned}
+use Rattle.vt_sampler.specs.GraceTypes.views.EntryNote.{EntryNote as ReadEntry}
+use Rattle.vt_sampler.specs.GraceTypes.views.WordNote.{WordNote as ReadWord}
 
 -- what holds of each element of a list holds of one that it contains
 pub holds_of : {X : Type 0} (P : X → Type 0) (xs : List X) (x : X) → All P xs → Contains xs x → P x
@@ -118,6 +120,69 @@ in_among p (WordNote version frame place word) is = is
 
 pub says_more : (w : WriterView) (p : PassView) → WasReturned w p → (note : Note) → IsNotedIn p note → IsNotedBy w note
 says_more w p was note is = noted_by w p.notes p.word_notes was.noted note (in_among p note is)
+
+-- Which notes were added to those that the writer had.
+entries_once : Option PassValue → List ReadEntry
+entries_once None = []
+entries_once (Some pass) = pass.view.notes
+
+words_once : Option PassValue → List ReadWord
+words_once None = []
+words_once (Some pass) = pass.view.word_notes
+
+one_entries : (w : WriterView) (o : Option PassValue) → (after_pass w o).notes ≡ entries_once o ++ w.notes
+unfolding entries_once
+one_entries w None = refl
+one_entries w (Some pass) = refl
+
+one_words : (w : WriterView) (o : Option PassValue) → (after_pass w o).word_notes ≡ words_once o ++ w.word_notes
+unfolding words_once
+one_words w None = refl
+one_words w (Some pass) = refl
+
+pub record HaveNoted {W : Type 0} (w : WriterView) (tasks : List (WithPass W)) : Type 0 where
+  pub entries : List ReadEntry
+  pub words : List ReadWord
+  pub noted : (all_returned w tasks).notes ≡ entries ++ w.notes
+  pub worded : (all_returned w tasks).word_notes ≡ words ++ w.word_notes
+  pub each : (n : ℕ) (task : WithPass W) (pass : PassValue) → slice_get tasks n ≡ Some task → task.pass ≡ Some pass
+      → (note : Note) → IsNotedIn pass.view note → IsAmong entries words note
+
+noted_once : (o : Option PassValue) (pass : PassValue) → o ≡ Some pass → (note : Note) → IsNotedIn pass.view note
+    → IsAmong (entries_once o) (words_once o) note
+unfolding entries_once words_once
+noted_once o pass has note is =
+    subst (λ p. IsAmong (entries_once p) (words_once p) note) (sym has) (in_among pass.view note is)
+
+each_noted : {W : Type 0} → (t : WithPass W) (ts : List (WithPass W)) (entries one : List ReadEntry) (words now : List ReadWord)
+    → ((pass : PassValue) → t.pass ≡ Some pass → (note : Note) → IsNotedIn pass.view note → IsAmong one now note)
+    → ((n : ℕ) (task : WithPass W) (pass : PassValue) → slice_get ts n ≡ Some task → task.pass ≡ Some pass
+    → (note : Note) → IsNotedIn pass.view note → IsAmong entries words note)
+    → (n : ℕ) (task : WithPass W) (pass : PassValue) → slice_get (t ∷ ts) n ≡ Some task → task.pass ≡ Some pass
+    → (note : Note) → IsNotedIn pass.view note → IsAmong (entries ++ one) (words ++ now) note
+each_noted t ts entries one words now here later zero task pass is has note noted =
+    among_right entries one words now note (here pass (ap (λ (x : WithPass _). x.pass) (same_Some t task is) ∙ has) note noted)
+each_noted t ts entries one words now here later (suc n) task pass is has note noted =
+    among_left entries one words now note (later n task pass is has note noted)
+
+pub have_noted : {W : Type 0} → (w : WriterView) (tasks : List (WithPass W)) → HaveNoted w tasks
+have_noted w [] = record {
+  entries = [];
+  words = [];
+  noted = refl;
+  worded = refl;
+  each = λ n task pass is has. absurd (none-some task is);
+}
+have_noted w (t ∷ ts) =
+    let rest = have_noted (after_pass w t.pass) ts in
+    record {
+      entries = rest.entries ++ entries_once t.pass;
+      words = rest.words ++ words_once t.pass;
+      noted = rest.noted ∙ ap (λ l. rest.entries ++ l) (one_entries w t.pass) ∙ sym (append_assoc rest.entries (entries_once t.pass) w.notes);
+      worded = rest.worded ∙ ap (λ l. rest.words ++ l) (one_words w t.pass) ∙ sym (append_assoc rest.words (words_once t.pass) w.word_notes);
+      each = each_noted t ts rest.entries (entries_once t.pass) rest.words (words_once t.pass)
+          (λ pass has. noted_once t.pass pass has) rest.each;
+    }
 
 -- No sampler whose pass was taken back has one.
 set_in : (l : List Bool) (i n : ℕ) → get_or l n false ≡ false → get_or (slice_set l i false) n false ≡ false

@@ -24,14 +24,14 @@ use Rattle.vt_requests.specs.Machines.{told_by}
 use Rattle.vt_requests.specs.Passes.{IsJobFor, Ran}
 use Rattle.vt_requests.specs.BatchRounds.{Begun as Round, IsEndedRound}
 use Rattle.vt_requests.specs.Sizes.{AreSized}
-use Rattle.vt_noted.specs.Noted.{IsNotedBy}
+use Rattle.vt_noted.specs.Noted.{IsNotedBy, AreNotedRows}
 use Rattle.vt_word_workers.specs.WordSamplers.{WordSampler}
 use Rattle.vt_word_workers.specs.declared.workers.WordStreamer.{WordStreamer}
 use Rattle.vt_word_workers.specs.WordTasks.{HasDrawn, HasFed}
 use Rattle.vt_word_workers.specs.RoundKits.{IsDealt}
 use Rattle.vt_word_workers.specs.GivenPasses.{HaveNewPasses}
 use Rattle.vt_word_workers.specs.HeldPasses.{AreHeldRows}
-use Rattle.vt_word_workers.specs.Kits.{KitView, kit_setup, kit_state, IsFitKit, HasRoom}
+use Rattle.vt_word_workers.specs.Kits.{KitView, kit_setup, kit_state, IsFitKit, HasRoom, kit_rows}
 
 -- a row of a picture was drawn by a filter at a version by notes that a writer took back, and the version is one that a pass of its sampler held
 pub record WasDrawn {P : Type 0} (filter : FilterMeanings P) (s : Shape) (d samplers : ℕ) (w : WriterView) (path : PathView) (i y version : ℕ) (bytes : List ℕ) : Type 0 where
@@ -90,8 +90,10 @@ pub record MayFinish {F P : Type 0} (g : FileMeanings F) (filter : FilterMeaning
   pub buffers : length job.batch ≤ k.round.buffers.spare
   pub sizes : AreSized (tile_length k.shape k.depth) k.round.buffers.elements
 
--- a pass was run by a filter over words with a kit, by their streamer before and after; and each row's version is one that its sampler's pass held
+-- a pass was run by a filter over words with a kit, by their streamer before and after; each row's version is one that its sampler's pass held,
+-- and the notes by which it was drawn came back in this pass
 pub record KitRan {F P : Type 0} (g : FileMeanings F) (filter : FilterMeanings P) (words : WordsValue) (job : Job) (report : PassReport)
     (v : StreamerView) (k : KitView F) (w : StreamerView) (l : KitView F) : Type 0 where
   pub ran : Ran (drawing_of filter) (kit_drawn filter l w) job report (kit_state g words v.writer.journal k) (kit_state g words w.writer.journal l)
   pub held : AreHeldRows v.writer w.writer report.rows.elements
+  pub noted : AreNotedRows filter l.shape l.depth v.writer w.writer job.scene.path job.picture report.rows.elements (kit_rows l)

@@ -17,6 +17,7 @@ use Rattle.vt_loaders.specs.QueuedLoaders.{QueuedView, AreOf, IsLoaderOf, AreSpl
 use Rattle.vt_requests.specs.MachineTypes.crew.Crew.{Crew}
 use Rattle.vt_requests.specs.BatchRounds.{ArePut}
 use Rattle.vt_requests.specs.Sizes.{AreSized}
+use Rattle.vt_queue.specs.Steps.{IsAtStep}
 
 -- what the loaders of a pass work with: the pass of the requests, room for the loaders and for their stores, and the buffers
 pub record RoundKitView (F : Type 0) : Type 0 where
@@ -72,3 +73,11 @@ pub record IsDealt {F : Type 0} (g : FileMeanings F) (q : Queues) (r r' : RoundK
       → All (IsLoaderOf g s d told) loaders
   pub split : AreSplitOff (view_of r.asks) (view_of r'.asks) (view_of answers) (view_of answers') loaders
   pub buffers : r'.buffers ≡ r.buffers
+
+-- nothing is left in two queues, by these passes of them, which are whole: all that was put was taken
+pub record AreEmptied (q : Queues) (asks : QueuePass Request) (answers : QueuePass Loaded) : Type 0 where
+  pub passes : AreOf q asks answers
+  pub all_asks : (view_of asks).shares ≡ all_shares
+  pub all_answers : (view_of answers).shares ≡ all_shares
+  pub no_asks : IsAtStep (view_of asks) []
+  pub no_answers : IsAtStep (view_of answers) []

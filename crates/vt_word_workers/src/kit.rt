@@ -20,7 +20,7 @@ ghost use Rattle.vt_requests.specs.Machines.{AreStoresFor};
 ghost use Rattle.vt_requests.specs.Sizes.{AreSized};
 ghost use Rattle.vt_streaming.specs.declared.report.StreamReport.{StreamReport as Told};
 ghost use Rattle.vt_word_workers.specs.declared.workers.WordStreamer.{WordStreamer as Own};
-ghost use Rattle.vt_word_workers.specs.RoundKits.{IsSetUp, IsAsked};
+ghost use Rattle.vt_word_workers.specs.RoundKits.{IsSetUp, IsAsked, AreEmptied};
 ghost use Rattle.vt_word_workers.specs.GivenPasses.{HasGiven};
 ghost use Rattle.vt_word_workers.specs.Kits.{KitView, AreSamplersOf, IsKit, IsMadeFor, IsFitKit, IsIdleKit, AreAllIn, IsPreparedKit, IsAskedKit, IsReadyKit, HasRoom, IsSameKit, kit_row, kit_rows, lines_of, counted_together};
 ghost use Rattle.vt_word_workers.specs.KitPasses.{AreOut, Begun, MayFinish, KitRan, kit_before};
@@ -381,6 +381,7 @@ impl<F: File> WordKit<F> {
             → KitRan F.File P.Filter words.now (job_of _shot.now _batch.now.elements) result
             b.streamer.streamer (kit_before self.old b) streamer.new self.new }
         ensures idle { IsIdleKit F.File words.now streamer.new self.new }
+        ensures emptied { AreEmptied queues.now self.new.round.asks answers.new }
     {
         let stores = self.round.end_round(queues, answers, loaders);
         return_passes(words, streamer, samplers.slice_mut());

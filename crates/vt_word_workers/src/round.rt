@@ -257,6 +257,7 @@ impl<F: File> RoundKit<F> {
         requires some { 1 ≤ length loaders.elements }
         requires room { length loaders.elements ≤ self.old.stores.spare }
         ensures stores { result.elements ≡ reverse (stores_of loaders.elements) }
+        ensures passes { AreOf queues.now self.new.asks answers.new }
         ensures asks { view_of self.new.asks ≡ all_joined (view_of self.old.asks) (asks_of loaders.elements) }
         ensures answers { view_of answers.new ≡ all_joined (view_of answers.old) (answers_of loaders.elements) }
         ensures asks_at_step { (left : List Ask) × IsAtStep (view_of self.new.asks) left }
@@ -272,6 +273,7 @@ impl<F: File> RoundKit<F> {
     pub fn keep(&mut self, results: &mut Items<Loaded>)
         requires { length results.old.elements ≤ self.old.buffers.spare }
         ensures none { results.new.elements ≡ [] }
+        ensures asks { self.new.asks ≡ self.old.asks }
         ensures count { length self.new.buffers.elements
             ≡ length self.old.buffers.elements + length results.old.elements }
         ensures sizes { (n : ℕ) → All (λ x. length x.request.buffer.elements ≡ n) results.old.elements

@@ -44,7 +44,7 @@ returns-clause-ends g c =
     let out = c.detach_workers-loaders.result in
     let done = c.work_together in
     let same = ap with c.slice.ensures in
-    g.met.Self.PassMachine.has_run (with c.args.batch.now.elements) c.args.self.now c.detach_workers-loaders.new.self c.reattach_workers.new.self
+    (g.met.Self.PassMachine.has_run (with c.args.batch.now.elements) c.args.self.now c.detach_workers-loaders.new.self c.reattach_workers.new.self
     out.0.elements _ out.1.elements _ out.2 done.new.streamer c.reattach_workers.result
     c.requires.ready c.requires.root c.requires.job c.detach_workers-loaders.ensures.detached
     (same_number out.0.elements _ done.new.loaders c.slice_mut.ensures.value (search rules))
@@ -53,7 +53,25 @@ returns-clause-ends g c =
     done.ensures.loaders)
     (all_did g.Self.Sampler.Task.did _ _ _ _ c.shared.ensures same out.1.elements _ done.new.samplers c.slice_mut-2.ensures.value (search rules)
     done.ensures.samplers)
-    (one_did g.Self.Streamer.Task.did _ _ _ _ c.shared.ensures same out.2 done.new.streamer done.ensures.streamer) c.reattach_workers.ensures
+    (one_did g.Self.Streamer.Task.did _ _ _ _ c.shared.ensures same out.2 done.new.streamer done.ensures.streamer) c.reattach_workers.ensures).0
+
+pub returns-clause-held : goal.returns-clause-held
+returns-clause-held g c =
+    let shot = c.args.shot.now in
+    let with = λ (batch : List Planned). job_of shot batch in
+    let out = c.detach_workers-loaders.result in
+    let done = c.work_together in
+    let same = ap with c.slice.ensures in
+    (g.met.Self.PassMachine.has_run (with c.args.batch.now.elements) c.args.self.now c.detach_workers-loaders.new.self c.reattach_workers.new.self
+    out.0.elements _ out.1.elements _ out.2 done.new.streamer c.reattach_workers.result
+    c.requires.ready c.requires.root c.requires.job c.detach_workers-loaders.ensures.detached
+    (same_number out.0.elements _ done.new.loaders c.slice_mut.ensures.value (search rules))
+    (same_number out.1.elements _ done.new.samplers c.slice_mut-2.ensures.value (search rules))
+    (all_did g.Self.Loader.Task.did _ _ _ _ c.shared.ensures same out.0.elements _ done.new.loaders c.slice_mut.ensures.value (search rules)
+    done.ensures.loaders)
+    (all_did g.Self.Sampler.Task.did _ _ _ _ c.shared.ensures same out.1.elements _ done.new.samplers c.slice_mut-2.ensures.value (search rules)
+    done.ensures.samplers)
+    (one_did g.Self.Streamer.Task.did _ _ _ _ c.shared.ensures same out.2 done.new.streamer done.ensures.streamer) c.reattach_workers.ensures).1
 
 pub returns-clause-refused : goal.returns-clause-refused
 returns-clause-refused g c =

@@ -23,12 +23,12 @@ returns g c =
     let w = c.finish-report.new.streamer in
     let kit = c.finish-report.new.self in rw c.answered.ensures (
       refl,
-      λ b may. subst (λ (m : WordView _). Ends (drawing_of g.P.Filter) (kit_drawn g.P.Filter kit w) (IsIdleKit g.F.File words w kit) job (Ok c.finish-report.result)
-          (kit_state g.F.File m.words b.streamer.streamer.writer.journal (kit_before m.kit b)) (kit_state g.F.File words w.writer.journal kit))
-          c.self.view_is (record {
-            ran = (c.finish-report.ensures.ran b
-                (subst (λ (m : WordView _). MayFinish g.F.File g.P.Filter m.words m.queues m.kit job loaders samplers own b) (sym c.self.view_is) may)).ran;
-            goes_on = c.finish-report.ensures.idle;
-            broke = tt;
-          }),
+      λ b may.
+          let ran = c.finish-report.ensures.ran b
+          (subst (λ (m : WordView _). MayFinish g.F.File g.P.Filter m.words m.queues m.kit job loaders samplers own b) (sym c.self.view_is) may) in (
+            subst (λ (m : WordView _). Ends (drawing_of g.P.Filter) (kit_drawn g.P.Filter kit w) (IsIdleKit g.F.File words w kit) job (Ok c.finish-report.result)
+                (kit_state g.F.File m.words b.streamer.streamer.writer.journal (kit_before m.kit b)) (kit_state g.F.File words w.writer.journal kit))
+                c.self.view_is (record { ran = ran.ran; goes_on = c.finish-report.ensures.idle; broke = tt }),
+            record { held = ran.held; noted = ran.noted },
+          ),
     )

@@ -3,7 +3,7 @@ use Rattle.vt_workers.specs.Jobs.{job_of}
 use Rattle.vt_machine.specs.Passes.{Ends}
 use Rattle.vt_stream_kit.specs.StreamKits.{stream_before}
 use Rattle.vt_steal.specs.SharingMachines.{SharingView, MayFinish, sharing_of, state_by, drawn_by, IsIdleSharing}
-use Rattle.vt_steal.proofs.Finishing.{finished}
+use Rattle.vt_steal.proofs.Finishing.{finished, new_rows}
 use Rattle.vt_steal.proofs.machine.SharingMachinePassMachine.reattach_workers.Goals as goal
 
 pub returns : goal.returns
@@ -20,9 +20,11 @@ returns g c =
       λ b given.
           let may = subst (λ (m : SharingView _). MayFinish g.F.File g.P.Filter m.words m.queues m.bag m.streams m.rows job loaders tasks own b)
           (sym c.self.view_is) given in
-          subst (λ (m : SharingView _). Ends (sharing_of g.P.Filter) (drawn_by g.P.Filter s (Some now)) (IsIdleSharing g.F.File words now.streamer l s) job
-          (Ok c.end_pass-report.result) (state_by g.F.File m.words b.streamer.streamer.writer.journal (stream_before m.streams b.stream) m.rows)
-          (state_by g.F.File words now.streamer.writer.journal l s)) c.self.view_is
-          (finished g.F.File g.P.Filter g.met.P.Filter.is_under words _ _ _ l _ s job c.end_pass-report.result loaders tasks own now b may
-          (c.end_pass-report.ensures b may)),
+          let done = c.end_pass-report.ensures b may in (
+            subst (λ (m : SharingView _). Ends (sharing_of g.P.Filter) (drawn_by g.P.Filter s (Some now)) (IsIdleSharing g.F.File words now.streamer l s) job
+                (Ok c.end_pass-report.result) (state_by g.F.File m.words b.streamer.streamer.writer.journal (stream_before m.streams b.stream) m.rows)
+                (state_by g.F.File words now.streamer.writer.journal l s)) c.self.view_is
+                (finished g.F.File g.P.Filter g.met.P.Filter.is_under words _ _ _ l _ s job c.end_pass-report.result loaders tasks own now b may done),
+            new_rows g.F.File g.P.Filter g.met.P.Filter.is_under words _ _ _ l _ s job c.end_pass-report.result loaders tasks own now b may done,
+          ),
     )

@@ -21,12 +21,14 @@ returns g c = λ b given.
     let s = c.end_pass-report.new.drawers in
     let may = subst (λ (m : SwapView _). MayFinish g.F.File g.P.Filter m.slots m.queues m.feeder m.streams m.drawers job loaders tasks.elements own b)
     (sym c.self.view_is) given in
-    subst (λ (x : Option SwapFeeder). Ends (drawing_of g.P.Filter) (drawn_by g.P.Filter s x) (IsIdleBy g.F.File slots x l s) job
-    c.end_pass-report.result (state_by g.F.File c.args.self.now.slots b.feeder.streamer.journal (stream_before c.args.self.now.streams b.stream)
-    c.args.self.now.drawers) (state_by g.F.File slots (journal_by x) l s)) (sym c.replace-gone.ensures.after)
-    (subst (λ (m : SwapView _). Ends (drawing_of g.P.Filter) (drawn_by g.P.Filter s (Some now)) (IsIdleSwap g.F.File slots now l s) job
-    c.end_pass-report.result (state_by g.F.File m.slots b.feeder.streamer.journal (stream_before m.streams b.stream) m.drawers)
-    (state_by g.F.File slots now.streamer.journal l s)) c.self.view_is
-    (finished g.F.File g.P.Filter g.met.P.Filter.is_under slots _ _ _ l _ s job loaders tasks own now b may
+    let both = finished g.F.File g.P.Filter g.met.P.Filter.is_under slots _ _ _ l _ s job loaders tasks own now b may
     (e.ended b (at_none g.F.File g.P.Filter slots _ _ _ _ job loaders tasks.elements own b may)) e.own e.drawers
-    c.end_pass-report.result e.told e.events e.losses))
+    c.end_pass-report.result e.told e.events e.losses in (
+      subst (λ (x : Option SwapFeeder). Ends (drawing_of g.P.Filter) (drawn_by g.P.Filter s x) (IsIdleBy g.F.File slots x l s) job
+          c.end_pass-report.result (state_by g.F.File c.args.self.now.slots b.feeder.streamer.journal (stream_before c.args.self.now.streams b.stream)
+          c.args.self.now.drawers) (state_by g.F.File slots (journal_by x) l s)) (sym c.replace-gone.ensures.after)
+          (subst (λ (m : SwapView _). Ends (drawing_of g.P.Filter) (drawn_by g.P.Filter s (Some now)) (IsIdleSwap g.F.File slots now l s) job
+          c.end_pass-report.result (state_by g.F.File m.slots b.feeder.streamer.journal (stream_before m.streams b.stream) m.drawers)
+          (state_by g.F.File slots now.streamer.journal l s)) c.self.view_is both.0),
+      both.1,
+    )

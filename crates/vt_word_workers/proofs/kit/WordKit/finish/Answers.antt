@@ -1,4 +1,4 @@
-use Rattle.std.proofs.Common.{◌<◌, ◌^◌, length, sym, subst}
+use Rattle.std.proofs.Common.{◌<◌, ◌^◌, length, sym, subst, refl, ap, ◌∙◌}
 use Rattle.std.specs.List.{refill}
 use Rattle.vt_requests.specs.Jobs.{job_of}
 use Rattle.vt_requests.specs.MachineTypes.crew.PassReport.{PassReport}
@@ -8,6 +8,10 @@ use Rattle.vt_word_workers.specs.KitPasses.{MayFinish, KitRan, kit_before}
 use Rattle.vt_word_workers.proofs.Ended.{samplers_stay, counts_low}
 use Rattle.vt_word_workers.proofs.Finishing.{tasks_back, goes_on, ran}
 use Rattle.vt_word_workers.proofs.kit.WordKit.finish.Goals as goal
+use Rattle.vt_queue.specs.declared.items.Request.{Request}
+use Rattle.vt_queue.specs.declared.queue.QueuePass.{QueuePass}
+use Rattle.vt_word_workers.specs.RoundKits.{AreEmptied}
+use Rattle.vt_word_workers.proofs.Finished.{emptied}
 
 pub tell-rows-requires-clause-samplers : goal.tell-rows-requires-clause-samplers
 tell-rows-requires-clause-samplers g c =
@@ -68,3 +72,18 @@ returns-clause-idle g c =
     e.ensures.answers_at_step e.ensures.stores c.slice_mut.result.now s.new.tasks c.slice_mut.ensures.value s.ensures.tasks s.new.streamer s.ensures.of
     s.ensures.returned e.new.self c.keep.new.self e.ensures.buffers c.keep.ensures.sizes told.new.self told.new.self.counts told.new.self.rows
     told.ensures.rest told.ensures.number told.ensures.sums
+
+pub returns-clause-emptied : goal.returns-clause-emptied
+returns-clause-emptied g c =
+    let words = c.args.words.now in
+    let q = c.args.queues.now in
+    let job = job_of c.args._shot.now c.args._batch.now.elements in
+    let f = c.args.samplers.elements in
+    let t : WordStreamer = record { streamer = c.args.streamer.now; answers = c.args.answers.now; report = c.args.report.now } in
+    let b = c.requires.0 in
+    let may = subst (λ (x : KitView _). MayFinish g.F.File g.P.Filter words q x job c.args.loaders.elements f t b) (sym c.self.view_is) c.requires.1 in
+    let e = c.end_round-stores in
+    subst (λ (x : QueuePass Request). AreEmptied q x e.new.answers)
+    (sym (ap (λ (x : KitView _). x.round.asks) c.tell-rows.ensures.rest ∙ c.keep.ensures.asks))
+    (emptied g.F.File g.P.Filter words q _ job c.args.loaders.elements f t b may _ _ e.ensures.asks e.ensures.answers e.ensures.asks_at_step
+    e.ensures.answers_at_step e.new.self.asks e.new.answers e.ensures.passes refl refl)

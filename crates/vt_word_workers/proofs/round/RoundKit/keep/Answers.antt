@@ -6,6 +6,7 @@ use Rattle.vt_word_workers.proofs.round.RoundKit.keep.Goals as goal
 pub returns : goal.returns
 returns g c = record {
   none = c.give_back.ensures.none;
+  asks = ap (λ (r : RoundKitView _). r.asks) c.self.view_is;
   count = c.give_back.ensures.count
       ∙ ap (λ (r : RoundKitView _). length r.buffers.elements + length c.args.results.now.elements) c.self.view_is;
   sizes = λ n all sized. c.give_back.ensures.sizes n all (subst (λ (r : RoundKitView _). AreSized n r.buffers.elements) (sym c.self.view_is) sized);
