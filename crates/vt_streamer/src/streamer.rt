@@ -1,6 +1,6 @@
 //! The page table of shared words with its journal, as the one who changes it has it.
 
-ghost use Rattle.std.specs.Prelude.{◌≡◌, ◌≢◌, ℕ, ◌+◌, ◌-◌, ◌*◌, ◌<◌, ◌≤◌, false, length, IfOk, IfErr, OnOk, OnErr, IsOk};
+ghost use Rattle.std.specs.Prelude.{◌≡◌, ◌≢◌, ℕ, ◌+◌, ◌-◌, ◌*◌, ◌<◌, ◌≤◌, false, length, IfOk, IfErr, OnOk, OnErr, IsOk, slice_index};
 ghost use Rattle.vt_definitions.specs.Limits.{most_samplers, most_frames, most_frame_texels, most_versions};
 ghost use Rattle.vt_pages.specs.Pages.{pages_of};
 ghost use Rattle.vt_table.specs.Changes.{newest, nothing_mapped, IsFree, IsLegalNext};
@@ -231,6 +231,24 @@ impl Streamer {
     {
         let _samplers = self.samplers;
         &self.geometry
+    }
+
+    /// How many frames there are.
+    #[inline]
+    pub fn frames(&self) -> usize
+        ensures { result ≡ length self.now.owners }
+    {
+        let _samplers = self.samplers;
+        self.owners.len()
+    }
+
+    /// One more than the page for which a frame was filled since it could be, or 0.
+    #[inline]
+    pub fn owner_of(&self, frame: u32) -> u32
+        requires { frame < length self.now.owners }
+        ensures { result ≡ slice_index self.now.owners frame }
+    {
+        self.owners[frame as usize]
     }
 
     /// The frame of a page in the newest version; `None` exactly where the page is not mapped.

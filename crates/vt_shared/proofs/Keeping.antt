@@ -1,0 +1,161 @@
+-- What stays over the steps of the owner.
+use Rattle.std.proofs.Common.{◌≡◌, ℕ, ◌-◌, ◌<◌, List, [], ◌∷◌, ◌++◌, length, sym, ap, ◌∙◌, subst}
+use Rattle.vt_pages.specs.Shape.{Shape}
+use Rattle.vt_journal.specs.declared.changes.Change.{Change}
+use Rattle.vt_journal.specs.declared.changes.Change.TheVariants.{Map, Unmap}
+use Rattle.vt_grace.specs.declared.sizes.Sizes.{Sizes}
+use Rattle.vt_grace.specs.declared.views.WriterView.{WriterView}
+use Rattle.vt_grace.specs.Banks.{MayFill}
+use Rattle.vt_grace.specs.Places.{frame_words}
+use Rattle.vt_grace.specs.WriterViews.{version_of}
+use Rattle.vt_streamer.specs.Banks.{HasPublished}
+use Rattle.vt_streamer.specs.Fills.{words_in}
+use Rattle.vt_streamer.specs.Frees.{IsUnmappedBy}
+use Rattle.vt_streamer.specs.Looks.{HasLooked, IsFirstBehind}
+use Rattle.vt_grace.specs.Values.{WordsValue}
+use Rattle.vt_table.proofs.Lawful.{table_spared}
+use Rattle.vt_streamer.specs.Views.{StreamerView, table_of, IsStreamerOf}
+use Rattle.vt_shared.specs.Owners.{HasKept, HasMapped, HasUnmapped, WasLeft, IsAwaited, AwaitsBank, AwaitsFrame}
+
+-- nothing was published either
+pub record HasSame (v w : StreamerView) : Type 0 where
+  pub kept : HasKept v w
+  pub journal : w.writer.journal ≡ v.writer.journal
+  pub contents : w.writer.contents ≡ v.writer.contents
+
+pub kept_both : (u v w : StreamerView) → HasKept u v → HasKept v w → HasKept u w
+kept_both u v w a b = record {
+  table = b.table ∙ a.table;
+  shape = b.shape ∙ a.shape;
+  sizes = b.sizes ∙ a.sizes;
+  out = b.out ∙ a.out;
+  returned = b.returned ∙ a.returned;
+  notes = b.notes ∙ a.notes;
+  word_notes = b.word_notes ∙ a.word_notes;
+}
+
+pub same_both : (u v w : StreamerView) → HasSame u v → HasSame v w → HasSame u w
+same_both u v w a b = record {
+  kept = kept_both u v w a.kept b.kept;
+  journal = b.journal ∙ a.journal;
+  contents = b.contents ∙ a.contents;
+}
+
+-- room was made
+pub same_reserved : (v w : StreamerView) → w ≡ record v { spare = w.spare } → HasSame v w
+same_reserved v w e = record {
+  kept = record {
+    table = ap (λ (y : StreamerView). y.table) e;
+    shape = ap (λ (y : StreamerView). y.shape) e;
+    sizes = ap (λ (y : StreamerView). y.writer.sizes) e;
+    out = ap (λ (y : StreamerView). y.writer.out) e;
+    returned = ap (λ (y : StreamerView). y.writer.returned) e;
+    notes = ap (λ (y : StreamerView). y.writer.notes) e;
+    word_notes = ap (λ (y : StreamerView). y.writer.word_notes) e;
+  };
+  journal = ap (λ (y : StreamerView). y.writer.journal) e;
+  contents = ap (λ (y : StreamerView). y.writer.contents) e;
+}
+
+-- samplers were looked at
+pub same_looked : (v w : StreamerView) → HasLooked v.writer w.writer → w ≡ record v { writer = w.writer } → HasSame v w
+same_looked v w looked e = record {
+  kept = record {
+    table = ap (λ (y : StreamerView). y.table) e;
+    shape = ap (λ (y : StreamerView). y.shape) e;
+    sizes = ap (λ (y : WriterView). y.sizes) looked.rest;
+    out = ap (λ (y : WriterView). y.out) looked.rest;
+    returned = ap (λ (y : WriterView). y.returned) looked.rest;
+    notes = ap (λ (y : WriterView). y.notes) looked.rest;
+    word_notes = ap (λ (y : WriterView). y.word_notes) looked.rest;
+  };
+  journal = ap (λ (y : WriterView). y.journal) looked.rest;
+  contents = ap (λ (y : WriterView). y.contents) looked.rest;
+}
+
+-- a frame was filled
+pub same_filled : (v w : StreamerView) → w ≡ record v { writer = record v.writer { texels = w.writer.texels }; owners = w.owners } → HasSame v w
+same_filled v w e = record {
+  kept = record {
+    table = ap (λ (y : StreamerView). y.table) e;
+    shape = ap (λ (y : StreamerView). y.shape) e;
+    sizes = ap (λ (y : StreamerView). y.writer.sizes) e;
+    out = ap (λ (y : StreamerView). y.writer.out) e;
+    returned = ap (λ (y : StreamerView). y.writer.returned) e;
+    notes = ap (λ (y : StreamerView). y.writer.notes) e;
+    word_notes = ap (λ (y : StreamerView). y.writer.word_notes) e;
+  };
+  journal = ap (λ (y : StreamerView). y.writer.journal) e;
+  contents = ap (λ (y : StreamerView). y.writer.contents) e;
+}
+
+-- a change was published
+pub kept_published : (v w : StreamerView) (change : Change) → HasPublished v.writer w.writer change → w.table ≡ v.table → w.shape ≡ v.shape → HasKept v w
+kept_published v w change h table shape = record {
+  table = table;
+  shape = shape;
+  sizes = ap (λ (y : WriterView). y.sizes) h.rest;
+  out = ap (λ (y : WriterView). y.out) h.rest;
+  returned = ap (λ (y : WriterView). y.returned) h.rest;
+  notes = ap (λ (y : WriterView). y.notes) h.rest;
+  word_notes = ap (λ (y : WriterView). y.word_notes) h.rest;
+}
+
+-- looks said that a frame may be filled
+pub was_left : (u v w : StreamerView) (frame : ℕ) → v ≡ record u { spare = v.spare } → HasLooked v.writer w.writer → MayFill w.writer frame
+    → WasLeft u.writer frame
+was_left u v w frame e looked may = record {
+  seen = w.writer;
+  looked = subst (λ (x : WriterView). HasLooked x w.writer) (ap (λ (y : StreamerView). y.writer) e) looked;
+  may = may;
+}
+
+-- whom a step waits for
+awaited : (v w : WriterView) (least k h : ℕ) → HasLooked v w → IsFirstBehind v w least k h → IsAwaited w least k h
+awaited v w least k h looked first = record {
+  inside = subst (λ (y : Sizes). k < y.samplers) (sym (ap (λ (x : WriterView). x.sizes) looked.rest)) first.inside;
+  below = first.behind.below;
+  low = first.behind.low;
+  earlier = first.behind.before ++ v.looks;
+  looked = first.behind.looks;
+  others = first.others;
+}
+
+pub bank_awaited : (u v w : StreamerView) (k h : ℕ) → HasSame u v → HasLooked v.writer w.writer
+    → IsFirstBehind v.writer w.writer (version_of v.writer - 2) k h → AwaitsBank u w k h
+bank_awaited u v w k h same looked first =
+    subst (λ (js : List Change). IsAwaited w.writer (length js - 2) k h) same.journal (awaited v.writer w.writer (version_of v.writer - 2) k h looked first)
+
+pub frame_awaited : (u v w : StreamerView) (frame k h : ℕ) → HasSame u v → HasLooked v.writer w.writer
+    → (version : ℕ) × IsUnmappedBy v.writer.journal frame version × IsFirstBehind v.writer w.writer version k h → AwaitsFrame u frame w k h
+frame_awaited u v w frame k h same looked p = record {
+  version = p.0;
+  unmapped = subst (λ (js : List Change). IsUnmappedBy js frame p.0) same.journal p.1;
+  awaited = awaited v.writer w.writer p.0 k h looked p.2;
+}
+
+pub has_mapped : (z : Sizes) (u w x : StreamerView) (page frame : ℕ) (tile : List ℕ) → WasLeft u.writer frame → HasSame u w → w.writer.sizes ≡ z
+    → frame_words z w.writer.texels frame ≡ words_in u.shape tile → HasPublished w.writer x.writer (Map page frame) → HasMapped u page frame tile x
+has_mapped z u w x page frame tile left same sizes content h =
+    let brought = ap (λ (y : Sizes). frame_words y w.writer.texels frame) sizes ∙ content in record {
+      left = left;
+      journal = h.journal ∙ ap (λ (js : List Change). js ++ Map page frame ∷ []) same.journal;
+      contents = h.contents ∙ (λ i. same.contents i ++ brought i ∷ []);
+    }
+
+pub has_unmapped : (u w x : StreamerView) (page frame : ℕ) → HasSame u w → HasPublished w.writer x.writer (Unmap page frame) → HasUnmapped u page frame x
+has_unmapped u w x page frame same h = record {
+  journal = h.journal ∙ ap (λ (js : List Change). js ++ Unmap page frame ∷ []) same.journal;
+  contents = h.contents ∙ ap (λ (cs : List (List ℕ)). cs ++ [] ∷ []) same.contents;
+}
+
+-- room says nothing of the words
+pub reserved_of : (words : WordsValue) (v w : StreamerView) → w ≡ record v { spare = w.spare } → IsStreamerOf words v → IsStreamerOf words w
+reserved_of words v w e of = subst (IsStreamerOf words) (sym e) record {
+  table = of.table;
+  seen = of.seen;
+  sizes = of.sizes;
+  limits = of.limits;
+  sound = of.sound;
+  lawful = table_spared (table_of v) w.spare of.lawful;
+}

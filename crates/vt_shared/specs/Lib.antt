@@ -1,0 +1,5 @@
+pub mod Given
+pub mod Owners
+pub mod Points
+pub mod Readers
+pub mod Spans
