@@ -23,8 +23,8 @@ from concurrent.futures import ProcessPoolExecutor
 
 import client
 from journals import Journal, replay
-from judge import FAULT, Doubt, Left, flaws_of_walk
-from real_rows import BLANKS, DEFAULTS, GENERATED, HEAD, JOURNALS, KEYS, LARGE_OTHERS, LARGE_PATH, LARGE_STORES, LONG_SIDES, OPTIONS, OTHERS
+from judge import FAULT, LINES, Doubt, Left, flaws_of_walk
+from real_rows import BLANKS, DEFAULTS, GENERATED, HEAD, JOURNALS, KEYS, LARGE_OTHERS, LARGE_PATH, LARGE_STORES, LONG_SIDES, ODD, OPTIONS, OTHERS
 from real_rows import PATHS, PICTURES, REFUSALS, REFUSED_TEXTURES, STORE_FLAWS, STORES, TEXTURES, WALKS, bad_input
 from reference import walk_words, write
 from rows import FOUR_STORE, wrong_rows
@@ -421,6 +421,47 @@ def unfit_picture(check):
     check.say(is_told and not pictures("no") and contents("no.txt") == HEAD.encode(), "walk of a picture that does not fit")
 
 
+def tables_by_memory(check):
+    """Only the swapped table walks with 2,048 frames of 64x64 texels in 64 MiB.
+
+    Over shared words a machine makes the words of all its frames before the first pass, of eight bytes a texel: here 64 MiB, so that much memory is
+    too little with whatever else the program needs. The swapped table makes a frame when it is first filled, which is one here."""
+    for option, machine in [("", "the standard machine"), ("--rows shared", "shared rows"), ("--filter bilinear", "blends")]:
+        ran = check.run("walk g64.vts a.path no --frames 2048 --samplers 1 --loaders 1 " + option, 65536)
+        check.say((ran.returncode, ran.stdout, ran.stderr) == (1, b"", LINES[1]) and not pictures("no"), machine + " in 64 MiB")
+    ran = check.run("walk g64.vts a.path swap --frames 2048 --samplers 1 --loaders 1 --table swap", 65536)
+    check.say(ran.returncode == 0 and not ran.stderr and len(pictures("swap")) == 1, "the swapped table in 64 MiB")
+
+
+def are_dealt(journal, samplers):
+    """Row y of each pass was drawn by sampler y modulo their number."""
+    rows = [line.split() for line in journal.splitlines() if line.startswith(b"row ")]
+    return len(rows) >= 2048 and all(int(sampler) == int(row) % samplers for _, row, sampler, _ in rows)
+
+
+def rows_by_sampler(check):
+    """Rows that are dealt stand beside their samplers in the journal, and rows that are shared do not.
+
+    A sampler of shared rows takes the next row when its last one is drawn. So the rows look dealt only where two threads take 2,048 rows in turn, which
+    nothing makes them do; and where one of them takes all, because the other began late or was not made, they do not."""
+    write("tall.path", b"size 1 2048\nfocal 1\nat 0 0 256 16384 0\n")
+    for option, wanted in [("", True), ("--rows dealt", True), ("--table swap", True), ("--filter bilinear", True), ("--rows shared", False)]:
+        ran = check.run("walk g4.vts tall.path rows --samplers 2 " + option)
+        check.say(ran.returncode == 0 and are_dealt(contents("journal.txt"), 2) == wanted, "rows by their samplers: " + option)
+
+
+def pixels_by_filter(check):
+    """A settled walk by blends is the plain picture by blends, and not that by the nearest texel."""
+    write("t.ppm", made(*ODD[1]))
+    write("t.path", KEYS.encode())
+    check.run("tile t.ppm t.vts --tile 16")
+    for name in ("nearest", "bilinear"):
+        check.run("plain t.ppm t.path %s --tile 16 --filter %s" % (name, name))
+        ran = check.run("walk t.vts t.path %s.w --settled --frames 200 --filter %s" % (name, name))
+        check.say(ran.returncode == 0 and are_pictures(name + ".w", pictures(name)), "settled walk by the filter " + name)
+    check.say(pictures("nearest") != pictures("bilinear"), "pictures by the two filters")
+
+
 def try_trial(check):
     first, second = check.run("trial 7"), check.run("trial 7")
     check.say(is_done(first, trial(7)[0]), "trial 7")
@@ -474,6 +515,9 @@ TABLES = [
     (full_output, [()]),
     (worked_rows, [()]),
     (unfit_picture, [()]),
+    (tables_by_memory, [()]),
+    (rows_by_sampler, [()]),
+    (pixels_by_filter, [()]),
     (try_text, [("row.txt", "replay g4.vts a.path row.txt row", *row) for row in JOURNALS]),
     (try_trial, [()]),
 ]

@@ -4,18 +4,26 @@
 ghost use Rattle.std.specs.Prelude.{◌≡◌};
 ghost use Rattle.std.specs.IoError.{error_kind};
 ghost use Rattle.vt_command_base.specs.Refusals.{unread_refusal};
+ghost use Rattle.vt_words.specs.Arguments.{texts};
+ghost use Rattle.vt_commands.specs.Runs.{run_of, IsRun};
+ghost use Rattle.vt_commands.specs.Machines.{machines_of, kind_of};
+ghost use Rattle.vtex.specs.Here.{DrawsHere};
 
 use std::alloc::Global;
-use std::fs::File;
 use std::io::ErrorKind;
 use std::process::ExitCode;
+use std::sync::Wait;
+use std::thread::Threads;
 use std::{env, io};
 use vt_bilinear::BlendMachine;
 use vt_command_base::Refusal;
 pub use vt_commands::run;
 use vt_commands::usage_line;
-use vt_outside::{OpenGate, RealFile, RealFolder, RealSink};
+use vt_machine::PassMachine;
+use vt_outside::{Folder, Gate, OpenGate, RealFolder, RealSink, Sink};
 use vt_pass::WordMachine;
+use vt_pictures::{Filter, Nearest};
+use vt_plain_bilinear::Bilinear;
 use vt_steal::StealMachine;
 use vt_swap_machine::SwapMachine;
 
@@ -38,6 +46,37 @@ fn unread(error: &io::Error) -> Refusal<'static>
     }
 }
 
+// Does what the words say, as `run` of vt_commands does, by the machines of this program: a walk draws the nearest texel over
+// shared words with its rows dealt to the samplers, but where its words ask for the swapped table, for shared rows, or for blends.
+fn run_here<Rt: Threads + Wait + Sync, D: Folder, O: Sink, E: Sink, G: Gate + Sync>(
+    rt: &Rt,
+    alloc: Global,
+    words: &[String],
+    folder: &mut D,
+    out: &mut O,
+    err: &mut E,
+    gate: &G,
+) -> u8
+    ensures run { IsRun (run_of (machines_of (kind_of ⟦<WordMachine<D::File> as PassMachine>⟧) (kind_of ⟦<SwapMachine<D::File> as PassMachine>⟧)
+        (kind_of ⟦<StealMachine<D::File> as PassMachine>⟧) (kind_of ⟦<BlendMachine<D::File> as PassMachine>⟧)) D.Folder O.Sink E.Sink
+        (texts words.now) folder.old folder.new out.old out.new err.old err.new) result }
+    ensures drawings { DrawsHere ⟦<Nearest as Filter>⟧ ⟦<Bilinear as Filter>⟧ ⟦<WordMachine<D::File> as PassMachine>⟧.drawing
+        ⟦<SwapMachine<D::File> as PassMachine>⟧.drawing ⟦<StealMachine<D::File> as PassMachine>⟧.drawing
+        ⟦<BlendMachine<D::File> as PassMachine>⟧.drawing }
+{
+    run::<
+        WordMachine<D::File>,
+        SwapMachine<D::File>,
+        StealMachine<D::File>,
+        BlendMachine<D::File>,
+        Rt,
+        D,
+        O,
+        E,
+        G,
+    >(rt, alloc, words, folder, out, err, gate)
+}
+
 fn main(rt: HostRuntime) -> ExitCode {
     let alloc = rt.alloc();
     let mut err = RealSink::new(rt.stderr());
@@ -51,17 +90,7 @@ fn main(rt: HostRuntime) -> ExitCode {
     };
     let mut folder = RealFolder::new(&rt);
     let mut out = RealSink::new(rt.stdout());
-    let status = run::<
-        WordMachine<RealFile<File>>,
-        SwapMachine<RealFile<File>>,
-        StealMachine<RealFile<File>>,
-        BlendMachine<RealFile<File>>,
-        _,
-        _,
-        _,
-        _,
-        _,
-    >(
+    let status = run_here(
         &rt,
         alloc,
         words.as_slice(),
