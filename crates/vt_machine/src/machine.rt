@@ -1,6 +1,6 @@
 //! What streams and draws, as its callers see it.
 
-ghost use Rattle.std.specs.Prelude.{◌≡◌, ℕ, ◌<◌, List, [], length, Result, IfOk, IfErr, OnOk, OnErr};
+ghost use Rattle.std.specs.Prelude.{◌≡◌, ℕ, ◌<◌, Bool, List, [], length, Result, IfOk, IfErr, OnOk, OnErr};
 ghost use Rattle.std.specs.List.{concat};
 ghost use Rattle.vt_tiles.specs.Depths.{IsDepth};
 ghost use Rattle.vt_pages.specs.Pages.{IsWithinLimits};
@@ -54,6 +54,9 @@ pub trait PassMachine: Sized {
 
     /// Whether row y is always drawn by sampler y modulo their number.
     const DEALT: bool;
+
+    /// Its value.
+    ghost DEALT: { Bool };
 
     /// The same as a value.
     fn is_dealt() -> bool

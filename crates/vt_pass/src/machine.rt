@@ -84,6 +84,7 @@ fn kit_from<F: File>(
 }
 
 impl<F: File + Send, P: Filter + Sync> PassMachine for FilteredMachine<F, P> {
+    ghost use Rattle.std.specs.Prelude.{true};
     ghost use Rattle.vt_tiles.specs.Format.{stored};
     ghost use Rattle.vt_pass.specs.WordLaws.{come_back, has_ended, none_refused};
 
@@ -98,6 +99,8 @@ impl<F: File + Send, P: Filter + Sync> PassMachine for FilteredMachine<F, P> {
     type Streamer = WordStreamer;
 
     const DEALT: bool = true;
+
+    ghost DEALT = { true };
 
     fn is_dealt() -> bool {
         Self::DEALT

@@ -64,6 +64,7 @@ impl<F: File, P: Filter> Model for SharingMachine<F, P> {
 }
 
 impl<F: File + Send, P: Filter + Sync> PassMachine for SharingMachine<F, P> {
+    ghost use Rattle.std.specs.Prelude.{false};
     ghost use Rattle.vt_tiles.specs.Format.{stored};
     ghost use Rattle.vt_steal.specs.SharingLaws.{come_back, has_ended, none_refused};
 
@@ -78,6 +79,8 @@ impl<F: File + Send, P: Filter + Sync> PassMachine for SharingMachine<F, P> {
     type Streamer = WordStreamer;
 
     const DEALT: bool = false;
+
+    ghost DEALT = { false };
 
     fn is_dealt() -> bool {
         Self::DEALT

@@ -60,7 +60,7 @@ impl<F: File, P: Filter> Model for SwappedMachine<F, P> {
 }
 
 impl<F: File + Send, P: Filter + Sync> PassMachine for SwappedMachine<F, P> {
-    ghost use Rattle.std.specs.Prelude.{None};
+    ghost use Rattle.std.specs.Prelude.{None, true};
     ghost use Rattle.vt_tiles.specs.Format.{stored};
     ghost use Rattle.vt_swap_machine.specs.SwapLaws.{come_back, has_ended, may_refuse};
 
@@ -75,6 +75,8 @@ impl<F: File + Send, P: Filter + Sync> PassMachine for SwappedMachine<F, P> {
     type Streamer = SwapFeeder;
 
     const DEALT: bool = true;
+
+    ghost DEALT = { true };
 
     fn is_dealt() -> bool {
         Self::DEALT
