@@ -27,7 +27,7 @@ Holding P (Some a) = P a
 pub record IsNumbered (old : ReaderPlace) (before status told : ℕ) (new : ReaderPlace) : Type 0 where
   pub same : new ≡ old
   pub statuses : (status ≡ 0) ⊎ (status ≡ 4)
-  pub told : status ≡ 0 → Holding (λ a. told ≡ a.sampler) old.inner
+  pub number : status ≡ 0 → Holding (λ a. told ≡ a.sampler) old.inner
   pub closed : status ≡ 4 → old.inner ≡ None
   pub kept : (status ≡ 0 → ⊥) → told ≡ before
 
