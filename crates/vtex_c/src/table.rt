@@ -1,10 +1,11 @@
 //! A place for the owner of a shared table, which C keeps in memory of its own.
 
-ghost use Rattle.std.specs.Prelude.{◌≡◌, None};
+ghost use Rattle.std.specs.Prelude.{◌≡◌, Some, None, MatchOption};
 ghost use Rattle.std.specs.Bool.{MatchBool};
 ghost use Rattle.vt_definitions.specs.Depths.{IsDepth};
 ghost use Rattle.vt_shared.specs.Given.{HasTileLength};
 ghost use Rattle.vtex_c.specs.Tables.{AreNumbers, IsTableOpened, IsMapped, IsUnmapped, IsAdmitted, IsTakenBack, IsTableClosed, AreOfOneTable, MayMap, MayUnmap};
+ghost use Rattle.vt_journal.specs.Changes.{newest};
 
 use crate::reader::ReaderPlace;
 use crate::shape::{VtexShape, geometry_of};
@@ -74,6 +75,20 @@ fn may_map(owner: &Owner, page: u32, frame: u32, bytes: usize) -> bool
     owner.is_free(frame)
 }
 
+// The frame of a page that can be taken out of it.
+fn frame_to_leave(owner: &Owner, page: u32) -> Option<u32>
+    ensures { MatchOption result (MayUnmap owner.now page → ⊥)
+        (λ frame. (newest owner.now.streamer.writer.journal page ≡ Some frame) × MayUnmap owner.now page) }
+{
+    if page >= owner.geometry().page_count() - 1 {
+        return None;
+    }
+    if owner.version() >= 4611686018427387904 {
+        return None;
+    }
+    owner.frame_of(page)
+}
+
 /// Opens a table, in place of the one that there is.
 pub fn open(place: &mut TablePlace, shape: &VtexShape, depth: u32, frames: u32, readers: u32) -> u32
     ensures { IsTableOpened place.old shape.now depth frames readers result place.new }
@@ -131,22 +146,19 @@ pub fn unmap(place: &mut TablePlace, page: u32, waiting: &mut VtexWaiting) -> u3
     match &mut place.inner {
         None => CLOSED,
         Some(owner) => {
-            if page >= owner.geometry().page_count() - 1 || owner.version() >= 4611686018427387904 {
+            let Some(frame) = frame_to_leave(owner, page) else {
                 return BAD_NUMBER;
-            }
-            match owner.frame_of(page) {
-                None => BAD_NUMBER,
-                Some(frame) => match owner.unmap(page, frame) {
-                    Ok(()) => DONE,
-                    Err(Refusal::NoMemory) => NO_MEMORY,
-                    Err(Refusal::Waits(who)) => {
-                        *waiting = VtexWaiting {
-                            reader: who.sampler,
-                            version: who.holds,
-                        };
-                        WAITING
-                    }
-                },
+            };
+            match owner.unmap(page, frame) {
+                Ok(()) => DONE,
+                Err(Refusal::NoMemory) => NO_MEMORY,
+                Err(Refusal::Waits(who)) => {
+                    *waiting = VtexWaiting {
+                        reader: who.sampler,
+                        version: who.holds,
+                    };
+                    WAITING
+                }
             }
         }
     }
