@@ -28,8 +28,10 @@ enum {
     VTEX_BAD_SHAPE = 1,  /* the sides or the tile side make no chain of pages */
     VTEX_BAD_NUMBER = 2, /* a number or a length is outside its bounds */
     VTEX_NO_MEMORY = 3,  /* memory was refused */
-    VTEX_CLOSED = 4,     /* the cache is not open */
-    VTEX_BAD_STORE = 5   /* the bytes are no store's */
+    VTEX_CLOSED = 4,     /* the cache, the table or the reader is not open */
+    VTEX_BAD_STORE = 5,  /* the bytes are no store's */
+    VTEX_WAITING = 6,    /* a reader may still hold a version that the call would write over: make it again later */
+    VTEX_NOT_HELD = 7    /* the reader holds no version, or holds one already */
 };
 
 /* What stands for no page. */
@@ -154,6 +156,71 @@ uint32_t vtex_cache_info(vtex_cache *at, vtex_info *told);
 
 /* Gives all memory back: VTEX_DONE. The place may then be forgotten, or the cache opened again. */
 uint32_t vtex_cache_close(vtex_cache *at);
+
+/* ---- a shared table: one thread changes the page table and fills frames, others look pages up and read texels at the same time
+ *
+ * A table has versions: version 0 maps nothing, and each vtex_table_map and vtex_table_unmap makes the next one. A reader takes hold of the
+ * newest version and reads in it until it releases it. What a held version maps stays as it is; a call that would write over it answers
+ * VTEX_WAITING, changes nothing that a reader sees, and is made again later. No call of a reader waits, loops for others or takes memory.
+ *
+ * The calls on a table are for one thread at a time, those on a reader for one thread at a time, and all of them may run at once. A place
+ * passes to another thread by what orders the two: a lock, a thread's start or join, a seq_cst atomic. It stays where it is from init to
+ * close or dismiss. Memory is taken in vtex_table_open, vtex_table_map, vtex_table_unmap and vtex_table_admit. */
+
+/* A place of level 0, and the level at which it is wanted. */
+typedef struct { uint32_t level, x, y; } vtex_point;
+/* A run of texels: the level at which they are wanted, the place of level 0 of the first one, the step to the next, and how many they are.
+ * Places and steps are in parts of 65536 of a texel; the texel at a place is the one that it lies in. */
+typedef struct { uint32_t level, x, y; int32_t step_x, step_y; uint32_t count; } vtex_span;
+/* Whom a call waits for: the number of a reader, and the version that it announced. It may hold that one or a later one. */
+typedef struct { uint32_t reader; uint64_t version; } vtex_waiting;
+
+/* A table and a reader, whose places are the engine's: so many bytes, aligned as a pointer. */
+typedef struct vtex_table vtex_table;
+typedef struct vtex_reader vtex_reader;
+size_t vtex_table_size(void);
+size_t vtex_reader_size(void);
+
+/* Make a closed table, a closed reader of a place. They take no memory and cannot fail. */
+void vtex_table_init(vtex_table *at);
+void vtex_reader_init(vtex_reader *at);
+
+/* Opens a table of so many frames, from 1 to 65535 with at most 8388608 texels together, for up to `readers` readers at once, from 1 to
+ * 64. `depth` is how many bytes a sample has, 1 or 2. A table that is open is opened anew. Takes 36 bytes a page, 12 a frame and 8 a
+ * texel of the frames. VTEX_DONE, VTEX_BAD_SHAPE, VTEX_BAD_NUMBER, VTEX_NO_MEMORY; on all but the first the table is as it was. */
+uint32_t vtex_table_open(vtex_table *at, const vtex_shape *shape, uint32_t depth, uint32_t frames, uint32_t readers);
+/* Fills a frame that no page has with the tile of an unmapped page, as a store has it, and maps the page to it in the next version.
+ * VTEX_DONE, VTEX_BAD_NUMBER, VTEX_NO_MEMORY, VTEX_CLOSED, or VTEX_WAITING where a reader may hold a version that maps the frame, or one
+ * more than two before the newest: `waiting` then says which. Keeps 12 bytes. */
+uint32_t vtex_table_map(vtex_table *at, uint32_t page, uint32_t frame, const uint8_t *tile, size_t bytes, vtex_waiting *waiting);
+/* Takes a mapped page, but not the root, out of its frame in the next version. Answers as vtex_table_map. */
+uint32_t vtex_table_unmap(vtex_table *at, uint32_t page, vtex_waiting *waiting);
+/* Opens a closed reader, where the root is mapped and fewer than `readers` are open. VTEX_DONE, VTEX_BAD_NUMBER, VTEX_NO_MEMORY,
+ * VTEX_CLOSED. */
+uint32_t vtex_table_admit(vtex_table *at, vtex_reader *reader);
+/* Closes a reader of this very table; it may hold a version. VTEX_DONE, VTEX_CLOSED where either is closed. */
+uint32_t vtex_table_dismiss(vtex_table *at, vtex_reader *reader);
+/* Closes the table: VTEX_DONE. Readers that are open go on in its newest version; the last of all gives the memory back. */
+uint32_t vtex_table_close(vtex_table *at);
+
+/* The number of a reader, from 0 on, by which `waiting` names it: VTEX_DONE, VTEX_CLOSED. */
+uint32_t vtex_reader_number(vtex_reader *at, uint32_t *number);
+/* Takes hold of the newest version and tells it; it is never below one that this reader held before. VTEX_DONE, VTEX_CLOSED, VTEX_NOT_HELD
+ * where it holds one already. */
+uint32_t vtex_reader_hold(vtex_reader *at, uint64_t *version);
+/* The first mapped page of a page's line in the held version: VTEX_DONE, VTEX_BAD_NUMBER, VTEX_CLOSED, VTEX_NOT_HELD. */
+uint32_t vtex_reader_look_up(vtex_reader *at, uint32_t page, vtex_place *found);
+/* The texels over `count` points, fewer than 2^32, each from the first mapped page of the line of its page. `bytes` is 3 times the depth
+ * for each point; a point is one of the texture's. VTEX_DONE, VTEX_BAD_NUMBER, VTEX_CLOSED, VTEX_NOT_HELD. */
+uint32_t vtex_reader_texels(vtex_reader *at, const vtex_point *points, size_t count, uint8_t *out, size_t bytes);
+/* The texels of a run, as those of vtex_reader_texels, and the page that each of them wants, as vtex_cache_pass_pages takes them. `wanted`
+ * is the run's count, `bytes` 3 times the depth for each. All places are the texture's. Answers as vtex_reader_texels. */
+uint32_t vtex_reader_run(vtex_reader *at, const vtex_span *span, uint8_t *out, size_t bytes, uint32_t *pages, size_t wanted);
+/* Holds its version no longer: VTEX_DONE, VTEX_CLOSED, VTEX_NOT_HELD. */
+uint32_t vtex_reader_release(vtex_reader *at);
+/* Closes a reader whose table is closed: VTEX_DONE. Where the table is open vtex_table_dismiss is the call: after this one the table waits
+ * for the version that the reader holds for good. */
+uint32_t vtex_reader_close(vtex_reader *at);
 
 #ifdef __cplusplus
 }

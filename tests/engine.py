@@ -4,7 +4,8 @@
 usage: engine.py [PROGRAM]
 
 The static library is taken from crates/vtex_c/out, where `rt lib` puts it; if it is not there, `rt lib` is run. Everything is built by gcc and g++, and a
-second time with -fsanitize=address,undefined. PROGRAM is the built vtex, crates/vtex/out/vtex where it is left out.
+second time with -fsanitize=address,undefined; the readers of a shared table a third time with -fsanitize=thread. PROGRAM is the built vtex,
+crates/vtex/out/vtex where it is left out.
 
 The engine draws each row at the start of its pass and has one sampler and one loader. So has the walk of reference.py, and all of both is compared byte
 for byte: pictures, journal and log. A live walk of the program may draw a row at any version of its pass. Of that walk the journal without the versions
@@ -12,6 +13,7 @@ of its rows and the log are the engine's, and so are the pictures that the progr
 drawn by `vtex replay`. A path whose last camera stands still long enough is settled at its end: the last picture is that of a settled walk.
 """
 import os
+import re
 import subprocess
 import sys
 import tempfile
@@ -22,6 +24,7 @@ LIBRARY = os.path.join(CRATE, "out", "libvtex_c.a")
 REFERENCE = [sys.executable, os.path.join(TOP, "tests", "reference.py")]
 WARNINGS = ["-O2", "-g", "-Wall", "-Wextra", "-Werror", "-I" + os.path.join(TOP, "include")]
 SANITIZERS = ["-fsanitize=address,undefined", "-fno-sanitize-recover=all"]
+RACES = ["-fsanitize=thread"]
 REFUSING = ["-Wl,--wrap=malloc,--wrap=realloc,--wrap=free"]
 STILL = "size 2 1\nfocal 1\nat 0 0 256 16384 0\nat 0 0 256 16384 0\nat 512 0 256 16384 0\nat 512 0 256 16384 0\n"
 SLANTED = "size 60 40\nfocal 30\nat 1792 0 20480 16384 0\nto 9 60000 9000 30480 14000 6000\nat -5000 77 4096 0 -16384\nto 5 9000 -9000 70000 -11585 11585\n"
@@ -36,6 +39,16 @@ WALKS = [
     (3, 257, 130, 8, SLANTED, ["--frames", "12", "--batch", "3", "--pinned", "2"]),
     (1, 65, 33, 4, ENDING, ["--frames", "300", "--batch", "16"]),
     (1, 65, 33, 4, ENDING, ["--frames", "40", "--batch", "5", "--lost", "4"]),
+]
+
+# What the smallest program of the cache prints.
+CACHE_SAYS = "map page 4, frame 0\nload page 0\nload page 1\nmap page 0, frame 1\nmap page 1, frame 2\n"
+
+# Readers, milliseconds, the texture's sides, the tile's, the frames and the depth of a shared table.
+SHARED = [
+    ("3", "400", "1000", "700", "16", "60", "1"),
+    ("5", "200", "300", "257", "8", "24", "2"),
+    ("1", "100", "64", "64", "4", "5", "1"),
 ]
 
 passed, failed = 0, 0
@@ -71,19 +84,45 @@ def build(compiler, source, name, *flags):
 
 
 def build_all():
-    for name in ("geometry", "cache"):
+    for name in ("geometry", "cache", "table"):
         source = "tests/engine/%s.c" % name
         build(["gcc"], source, name)
         build(["gcc"], source, name + "_checked", *SANITIZERS)
     build(["gcc"], "tests/engine/refused.c", "refused", *REFUSING)
+    for name, flags in (("shared", []), ("shared_checked", SANITIZERS), ("shared_raced", RACES)):
+        build(["g++", "-std=c++17"], "tests/engine/shared.cpp", name, "-pthread", *flags)
     build(["g++", "-std=c++17"], "examples/engine/engine.cpp", "engine", "-pthread")
     build(["g++", "-std=c++17"], "examples/engine/engine.cpp", "engine_checked", "-pthread", *SANITIZERS)
+    for name, flags in (("streaming", []), ("streaming_checked", SANITIZERS), ("streaming_raced", RACES)):
+        build(["g++", "-std=c++17"], "examples/engine/streaming.cpp", name, "-pthread", *flags)
 
 
 def try_calls():
-    for name in ("geometry", "geometry_checked", "cache", "cache_checked", "refused"):
+    for name in ("geometry", "geometry_checked", "cache", "cache_checked", "table", "table_checked", "refused"):
+        try_call("./" + name)
+    for name in ("shared", "shared_checked", "shared_raced"):
+        for words in SHARED:
+            try_call("./" + name, *words)
+
+
+def try_call(*words):
+    ran = run(*words)
+    say(ran.returncode == 0 and not ran.stderr, "%s: %s" % (" ".join(words), (ran.stdout + ran.stderr).decode()))
+
+
+def smallest():
+    """The two programs of docs/ENGINES.md."""
+    with open(os.path.join(TOP, "docs", "ENGINES.md"), encoding="utf-8") as file:
+        programs = re.findall(r"^```(c|cpp)\n(.*?)^```", file.read(), re.DOTALL | re.MULTILINE)
+    said = {"c": CACHE_SAYS, "cpp": "version 2: 9 8, of pages 0 and 1\n"}
+    say(sorted(kind for kind, _ in programs) == sorted(said), "two smallest programs")
+    for kind, source in programs:
+        name = "smallest_" + kind
+        with open(name + "." + kind, "w") as file:
+            file.write(source)
+        build(["gcc"] if kind == "c" else ["g++", "-std=c++17"], os.path.abspath(name + "." + kind), name, "-pthread", *SANITIZERS)
         ran = run("./" + name)
-        say(ran.returncode == 0 and not ran.stderr, "%s: %s" % (name, (ran.stdout + ran.stderr).decode()))
+        say(ran.returncode == 0 and ran.stdout.decode() == said[kind] and not ran.stderr, name + ": " + (ran.stdout + ran.stderr).decode())
 
 
 def pictures(prefix, count):
@@ -136,6 +175,23 @@ def walk_of_program(number, program, store, path, options, count, log):
     say(pictures("starts.", count) == pictures("got.", count), what + "pictures at the starts of passes")
 
 
+def stream(number, row, program):
+    """The pictures of an engine that streams while it draws are those that replay makes of its journal."""
+    store, path = "store%d" % number, "path%d" % number
+    options = [word for word in row[5] if word not in ("--lost", "4")]
+    for engine in ("./streaming", "./streaming_checked", "./streaming_raced"):
+        for crew in (["--drawing", "1", "--loading", "1"], ["--drawing", "4", "--loading", "3"]):
+            ran = run(engine, store, path, "live.", "--journal", "live.txt", *options, *crew)
+            what = "streaming %d by %s, %s: " % (number, engine, crew)
+            say(ran.returncode == 0 and not ran.stderr, what + ran.stderr.decode())
+            count = int(ran.stdout.split()[2]) if ran.returncode == 0 else 0
+            again = run(*REFERENCE, "replay", store, path, "live.txt", "again.")
+            say(again.returncode == 0 and pictures("live.", count) == pictures("again.", count), what + "the replay of reference.py")
+            if program:
+                again = run(program, "replay", store, path, "live.txt", "once.")
+                say(again.returncode == 0 and pictures("live.", count) == pictures("once.", count), what + "the replay of vtex")
+
+
 def settle(number, row):
     """The engine's last picture, where loads stay under way for some passes, is that of a settled walk."""
     seed, width, height, tile, text, options = row
@@ -159,8 +215,10 @@ def main():
         os.chdir(work)
         build_all()
         try_calls()
+        smallest()
         for number, row in enumerate(WALKS):
             walk(number, row, program)
+            stream(number, row, program)
         settle(5, WALKS[5])
     print("%d passed, %d failed" % (passed, failed))
     sys.exit(failed > 0)

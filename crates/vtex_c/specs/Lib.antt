@@ -2,3 +2,5 @@ pub mod Statuses
 pub mod Shapes
 pub mod Stores
 pub mod Caches
+pub mod Readers
+pub mod Tables

@@ -17,8 +17,11 @@ ghost use Rattle.vtex_c.specs.Statuses.{IsRefused};
 ghost use Rattle.vtex_c.specs.Stores.{IsStoreOpened, IsTileFound};
 
 mod cache;
+mod reader;
 mod shape;
+mod shared;
 mod store;
+mod table;
 
 use cache::Cache;
 use shape::{VtexName, VtexShape, geometry_of, is_inside, is_page, name_of, page_name};
@@ -38,6 +41,10 @@ const NO_MEMORY: u32 = 3;
 const CLOSED: u32 = 4;
 
 const BAD_STORE: u32 = 5;
+
+const WAITING: u32 = 6;
+
+const NOT_HELD: u32 = 7;
 
 /// How many pages the chain of a shape has.
 #[unsafe(no_mangle)]

@@ -1,0 +1,188 @@
+-- What the calls from C do to a shared table, by the number that they answer.
+use Rattle.std.specs.Prelude.{◌≡◌, ◌≢◌, ℕ, ◌+◌, ◌*◌, ◌<◌, ◌≤◌, ◌⊎◌, Option, None, Some, IsSome, true, List, length}
+use Rattle.vt_definitions.specs.Limits.{most_frames, most_frame_texels, most_samplers, most_versions}
+use Rattle.vt_definitions.specs.Depths.{IsDepth}
+use Rattle.vt_pages.specs.Shape.{Shape}
+use Rattle.vt_pages.specs.Pages.{pages_of, root_of}
+use Rattle.vt_journal.specs.Changes.{newest, IsFree}
+use Rattle.vt_journal.specs.Lookups.{is_mapped}
+use Rattle.vt_grace.specs.Sizes.{sizes_of}
+use Rattle.vt_grace.specs.Sound.{IsSound}
+use Rattle.vt_grace.specs.WriterViews.{first_writer, is_out}
+use Rattle.vt_grace.specs.Giving.{after_return}
+use Rattle.vt_lookup.specs.Notes.{IsNotedIn}
+use Rattle.vt_shared.specs.declared.points.Point.{Point}
+use Rattle.vt_shared.specs.Given.{HasTileLength, IsOfItsTile}
+use Rattle.vt_shared.specs.Owners.{OwnerView, HasKept, HasMapped, HasUnmapped, AwaitsBank, AwaitsEither}
+use Rattle.vt_shared.specs.Points.{IsAnswered}
+use Rattle.vt_shared.specs.Readers.{ReaderView, left_by, IsReaderOf, IsAdmitted as IsAdmittedBy}
+use Rattle.vtex_c.specs.declared.shape.VtexShape.{VtexShape}
+use Rattle.vtex_c.specs.declared.table.TablePlace.{TablePlace}
+use Rattle.vtex_c.specs.declared.table.VtexWaiting.{VtexWaiting}
+use Rattle.vtex_c.specs.declared.reader.ReaderPlace.{ReaderPlace}
+use Rattle.vtex_c.specs.Shapes.{shape_in}
+use Rattle.vtex_c.specs.Statuses.{IsRefused}
+
+-- there is an owner before and after, and the two are related
+abbrev pub Between : (OwnerView → OwnerView → Type 0) → Option OwnerView → Option OwnerView → Type 0
+Between P None new = ⊥
+Between P (Some a) None = ⊥
+Between P (Some a) (Some b) = P a b
+
+-- there is an owner, of which this holds
+abbrev pub Holding : (OwnerView → Type 0) → Option OwnerView → Type 0
+Holding P None = ⊥
+Holding P (Some a) = P a
+
+-- the depth, the frames and the readers that a table may have
+pub record AreNumbers (s : Shape) (depth frames readers : ℕ) : Type 0 where
+  pub depth_is : IsDepth depth
+  pub some_frame : 1 ≤ frames
+  pub few_frames : frames ≤ most_frames
+  pub few_texels : frames * (s.tile * s.tile) ≤ most_frame_texels
+  pub some_reader : 1 ≤ readers
+  pub few_readers : readers ≤ most_samplers
+
+-- a new table
+pub record IsNew (s : Shape) (depth frames readers : ℕ) (o : OwnerView) : Type 0 where
+  pub shape : o.streamer.shape ≡ s
+  pub depth_is : o.depth ≡ depth
+  pub writer : o.streamer.writer ≡ first_writer (sizes_of s frames readers)
+
+-- a table was opened: 0; else it is as it was, and the shape was refused: 1; a number was: 2; memory was: 3
+pub record IsTableOpened (old : TablePlace) (s : VtexShape) (depth frames readers status : ℕ) (new : TablePlace) : Type 0 where
+  pub statuses : status < 4
+  pub inside : status ≡ 0 → AreNumbers (shape_in s) depth frames readers
+  pub opened : status ≡ 0 → Holding (IsNew (shape_in s) depth frames readers) new.inner
+  pub refused : status ≡ 1 → IsRefused (shape_in s)
+  pub unfit : status ≡ 2 → AreNumbers (shape_in s) depth frames readers → ⊥
+  pub kept : (status ≡ 0 → ⊥) → new ≡ old
+
+-- a page was mapped, with the words of a tile, in the next version
+pub record HasMappedPage (page frame : ℕ) (tile : List ℕ) (a b : OwnerView) : Type 0 where
+  pub rest : b ≡ record a { streamer = b.streamer }
+  pub kept : HasKept a.streamer b.streamer
+  pub mapped : HasMapped a.streamer page frame tile b.streamer
+
+-- a page was taken out of its frame, in the next version
+pub record HasUnmappedPage (page : ℕ) (a b : OwnerView) : Type 0 where
+  pub frame : ℕ
+  pub rest : b ≡ record a { streamer = b.streamer }
+  pub kept : HasKept a.streamer b.streamer
+  pub unmapped : HasUnmapped a.streamer page frame b.streamer
+
+-- there is no new version
+pub record HasNoVersion (a b : OwnerView) : Type 0 where
+  pub rest : b ≡ record a { streamer = b.streamer }
+  pub kept : HasKept a.streamer b.streamer
+  pub journal : b.streamer.writer.journal ≡ a.streamer.writer.journal
+  pub contents : b.streamer.writer.contents ≡ a.streamer.writer.contents
+
+-- a page can be mapped to a frame
+pub record MayMap (o : OwnerView) (page frame bytes : ℕ) : Type 0 where
+  pub depth_is : IsDepth o.depth
+  pub page_inside : page < pages_of o.streamer.shape
+  pub frame_inside : frame < length o.streamer.owners
+  pub bytes_are : HasTileLength o.streamer.shape o.depth bytes
+  pub unmapped : newest o.streamer.writer.journal page ≡ None
+  pub free : IsFree (newest o.streamer.writer.journal) frame
+  pub room : length o.streamer.writer.journal < most_versions
+
+-- a page can be taken out of its frame
+pub record MayUnmap (o : OwnerView) (page : ℕ) : Type 0 where
+  pub page_inside : page < pages_of o.streamer.shape
+  pub other : page ≢ root_of o.streamer.shape
+  pub mapped : IsSome (newest o.streamer.writer.journal page)
+  pub room : length o.streamer.writer.journal < most_versions
+
+-- a page was mapped: 0; a number or a length is none that it may be: 2; memory was refused: 3; there is no table: 4; a reader may still
+-- hold a version that needs the frame or the bank, and it is told which: 6
+pub record IsMapped (old : TablePlace) (page frame : ℕ) (tile : List ℕ) (before : VtexWaiting) (status : ℕ) (after : VtexWaiting) (new : TablePlace) : Type 0 where
+  pub statuses : (status ≡ 0) ⊎ (status ≡ 2) ⊎ (status ≡ 3) ⊎ (status ≡ 4) ⊎ (status ≡ 6)
+  pub inside : status ≡ 0 → Holding (λ o. MayMap o page frame (length tile)) old.inner
+  pub mapped : status ≡ 0 → Between (HasMappedPage page frame tile) old.inner new.inner
+  pub unfit : status ≡ 2 → Holding (λ o. MayMap o page frame (length tile) → ⊥) old.inner
+  pub same : status ≡ 2 → new ≡ old
+  pub refused : status ≡ 3 → Between HasNoVersion old.inner new.inner
+  pub closed : status ≡ 4 → (old.inner ≡ None) × (new ≡ old)
+  pub waits : status ≡ 6 → Between HasNoVersion old.inner new.inner
+  pub awaited : status ≡ 6 → Between (λ a b. AwaitsEither a.streamer frame b.streamer after.reader after.version) old.inner new.inner
+  pub kept : (status ≡ 6 → ⊥) → after ≡ before
+
+-- a page was taken out of its frame: 0; it is not mapped, or is the root: 2; memory was refused: 3; there is no table: 4; a reader may
+-- still hold a version that needs the bank, and it is told which: 6
+pub record IsUnmapped (old : TablePlace) (page : ℕ) (before : VtexWaiting) (status : ℕ) (after : VtexWaiting) (new : TablePlace) : Type 0 where
+  pub statuses : (status ≡ 0) ⊎ (status ≡ 2) ⊎ (status ≡ 3) ⊎ (status ≡ 4) ⊎ (status ≡ 6)
+  pub inside : status ≡ 0 → Holding (λ o. MayUnmap o page) old.inner
+  pub unmapped : status ≡ 0 → Between (HasUnmappedPage page) old.inner new.inner
+  pub unfit : status ≡ 2 → Holding (λ o. MayUnmap o page → ⊥) old.inner
+  pub same : status ≡ 2 → new ≡ old
+  pub refused : status ≡ 3 → Between HasNoVersion old.inner new.inner
+  pub closed : status ≡ 4 → (old.inner ≡ None) × (new ≡ old)
+  pub waits : status ≡ 6 → Between HasNoVersion old.inner new.inner
+  pub awaited : status ≡ 6 → Between (λ a b. AwaitsBank a.streamer b.streamer after.reader after.version) old.inner new.inner
+  pub kept : (status ≡ 6 → ⊥) → after ≡ before
+
+-- if the root is mapped, the pass of each sampler is out
+abbrev pub CannotAdmit : OwnerView → Type 0
+CannotAdmit o = is_mapped (newest o.streamer.writer.journal) (root_of o.streamer.shape) ≡ true
+    → (k : ℕ) → k < o.words.sizes.samplers → is_out o.streamer.writer k ≡ true
+
+-- a reader of the table was opened
+abbrev pub IsNewReader : Option OwnerView → Option ReaderView → Type 0
+IsNewReader None reader = ⊥
+IsNewReader (Some o) None = ⊥
+IsNewReader (Some o) (Some r) = (k : ℕ) × IsAdmittedBy o k r
+
+-- nothing but which passes are out, and what is known of readers, differs
+pub record HasSameVersions (a b : OwnerView) : Type 0 where
+  pub rest : b ≡ record a { streamer = record a.streamer { writer = b.streamer.writer } }
+  pub journal : b.streamer.writer.journal ≡ a.streamer.writer.journal
+  pub contents : b.streamer.writer.contents ≡ a.streamer.writer.contents
+
+-- a reader was opened: 0; all passes are out, the root is not mapped, or the reader is open: 2; memory was refused: 3; there is no table: 4
+pub record IsAdmitted (old : TablePlace) (before : ReaderPlace) (status : ℕ) (new : TablePlace) (after : ReaderPlace) : Type 0 where
+  pub statuses : (status ≡ 0) ⊎ (status ≡ 2) ⊎ (status ≡ 3) ⊎ (status ≡ 4)
+  pub inside : status ≡ 0 → before.inner ≡ None
+  pub unfit : status ≡ 2 → before.inner ≡ None → Holding CannotAdmit old.inner
+  pub admitted : status ≡ 0 → IsNewReader old.inner after.inner
+  pub versions : status ≡ 0 → Between HasSameVersions old.inner new.inner
+  pub kept : (status ≡ 0 → ⊥) → (new ≡ old) × (after ≡ before)
+  pub closed : status ≡ 4 → old.inner ≡ None
+
+-- an open reader is one of an open table
+abbrev pub HaveOneTable : Option OwnerView → Option ReaderView → Type 0
+HaveOneTable None reader = Unit {0}
+HaveOneTable (Some o) None = Unit {0}
+HaveOneTable (Some o) (Some r) = IsReaderOf o r
+
+-- if both are open, the reader is the table's
+abbrev pub AreOfOneTable : TablePlace → ReaderPlace → Type 0
+AreOfOneTable t r = HaveOneTable t.inner r.inner
+
+-- what a reader noted was taken in, and all of it is true of the journal: each texel that it was answered under a hold is that of the tile
+-- that was given for the page that was found, in the version that was held
+pub record HasTakenBack (r : ReaderView) (a b : OwnerView) : Type 0 where
+  pub is : b ≡ record a { streamer = record a.streamer { writer = after_return a.streamer.writer (left_by r.stand) } }
+  pub sound : IsSound b.streamer.writer
+  pub tiles : (version : ℕ) (p : Point) (bytes : List ℕ)
+      → IsAnswered b.streamer.shape b.depth version (IsNotedIn (left_by r.stand)) p bytes
+      → IsOfItsTile b.streamer.shape b.depth b.streamer.writer.journal b.streamer.writer.contents version p bytes
+
+-- with the reader there was
+abbrev pub TookBack : Option ReaderView → Option OwnerView → Option OwnerView → Type 0
+TookBack None old new = ⊥
+TookBack (Some r) old new = Between (HasTakenBack r) old new
+
+-- a reader was taken back: 0; the table or the reader is closed: 4
+pub record IsTakenBack (old : TablePlace) (before : ReaderPlace) (status : ℕ) (new : TablePlace) (after : ReaderPlace) : Type 0 where
+  pub statuses : (status ≡ 0) ⊎ (status ≡ 4)
+  pub taken : status ≡ 0 → TookBack before.inner old.inner new.inner
+  pub gone : status ≡ 0 → after.inner ≡ None
+  pub kept : (status ≡ 0 → ⊥) → (new ≡ old) × (after ≡ before)
+  pub closed : status ≡ 4 → (old.inner ≡ None) ⊎ (before.inner ≡ None)
+
+-- a table was closed: 0
+pub record IsTableClosed (old : TablePlace) (status : ℕ) (new : TablePlace) : Type 0 where
+  pub done : status ≡ 0
+  pub closed : new.inner ≡ None
