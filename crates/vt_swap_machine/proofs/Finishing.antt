@@ -274,13 +274,13 @@ module _ {F P : Type 0} (g : FileMeanings F) (filter : FilterMeanings P) (law : 
     entered_with : entered_by filter b.tasks kit job lines
     entered_with y line is =
         let at = line_there r.count f.elements r.height y line is in
-        let row = has_row filter r job.scene job.picture b.feeder.streamer.book (length start) b.tasks f.elements h y at.0 in
+        let row = has_row filter r job.scene job.picture b.feeder.streamer.cache (length start) b.tasks f.elements h y at.0 in
         subst (λ (z : RowLine × List ℕ). IsEnteredRow filter r.geometry r.depth b.tasks f.elements job.scene.path job.picture y z.0 z.1)
         (λ i. (
           sym (at.1 ∙ ap (λ (v : ℕ). let l : RowLine = record { row = y; sampler = y % r.count; version = v } in l) row.version_is) i,
           sym (row_there y [] at.0 ∙ row.bytes_are) i,
         ))
-        (row_entered filter r job.scene job.picture b.feeder.streamer.book (length start) b.tasks f.elements h y row)
+        (row_entered filter r job.scene job.picture b.feeder.streamer.cache (length start) b.tasks f.elements h y row)
 
     -- and the rows came in it
     pub entered : entered_by filter b.tasks s job report.rows.elements
