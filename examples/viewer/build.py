@@ -7,7 +7,8 @@ usage: build.py [--to FOLDER]
    links to the toolchain, in which clang is a script that keeps a copy of the module.
 2. Of the module's text the lines of data layout and triple are those of wasm64 then, and three attributes of x86-64 are taken out. Nothing else is
    changed. Both targets have addresses of 64 bits, the lowest byte first, and the same alignments.
-3. The toolchain's clang and linker make vtex.wasm of it and of heap.c, the allocator. It exports the calls of include/vtex.h and three of heap.c.
+3. The toolchain's clang and linker make vtex.wasm of it and of heap.c, the allocator. It exports the calls of include/vtex.h and three of heap.c,
+   but not those of the shared table, which is for many threads: a page has one.
 4. wasm-opt (of binaryen) makes vtex32.wasm of vtex.wasm, for browsers without 64-bit memories. It has the same calls. Without wasm-opt it is left out.
 
 FOLDER is the one of this script where it is left out.
@@ -26,6 +27,8 @@ OWN = ["vtex_malloc", "vtex_free", "vtex_held"]
 TARGET = ["--target=wasm64-unknown-unknown", "-O3", "-mcpu=lime1", "-ffunction-sections", "-fdata-sections", "-nostdlib", "-ffreestanding", "--no-default-config"]
 LAYOUT = 'target datalayout = "e-m:e-p:64:64-p10:8:8-p20:8:8-i64:64-i128:128-n32:64-S128-ni:1:10:20"'
 TRIPLE = 'target triple = "wasm64-unknown-unknown"'
+# Holds the compiler to the order of the words' steps; it stands for no instruction, on either target.
+BARRIER = 'call void asm sideeffect "", "~{memory}"()'
 ATTRIBUTES = ' "probe-stack"="inline-asm" "stack-probe-size"="3072" "target-cpu"="x86-64-v2"'
 LOWERING = ["--enable-memory64", "--enable-bulk-memory", "--enable-nontrapping-float-to-int", "--enable-sign-ext", "--enable-mutable-globals", "--memory64-lowering"]
 KEEPER = """#!/bin/sh
@@ -83,14 +86,14 @@ def for_wasm(text):
         if count != 1:
             stop("the module has %d lines %s" % (count, pattern))
     text = text.replace(ATTRIBUTES, "")
-    left = re.search(r'"(?:target-cpu|probe-stack|target-features)"=.*|.*\basm\b.*|.*@llvm\.x86\..*', text)
+    left = re.search(r'"(?:target-cpu|probe-stack|target-features)"=.*|.*\basm\b.*|.*@llvm\.x86\..*', text.replace(BARRIER, ""))
     if left:
         stop("the module has more of x86-64 than is known here: " + left[0][:200])
     return text
 
 
 def exports_of(text):
-    return sorted(set(re.findall(r"(?m)^define [^@]*@(vtex_[a-z_]+)", text)))
+    return sorted(set(re.findall(r"(?m)^define [^@]*@(vtex_(?!table_|reader_)[a-z_]+)", text)))
 
 
 def make(kit, to, room):

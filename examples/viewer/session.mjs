@@ -1,5 +1,5 @@
 // A cache and its link: what is wanted goes in, what is mapped comes out. Nothing here draws.
-import { CAME, LOST, NO_PAGE, UNDER_WAY } from './vtex.mjs';
+import { CAME, LOST, UNDER_WAY } from './vtex.mjs';
 
 const CHOICE = 4;                                          // how many times the loads that can be sent are planned
 
@@ -25,26 +25,6 @@ export class Wanted {
     this.pages.forEach((page, i) => { [list[2 * i], list[2 * i + 1]] = [page, this.pixels[page]]; });
     return list;
   }
-}
-
-// For each load UNDER_WAY where a wanted page has it in its line, else LOST: what vtex_cache_stale_loads answers, for a module without that call.
-function staleLoads(store, wanted, loads) {
-  const lines = new Set();
-  for (let page of wanted) {
-    while (page !== NO_PAGE && !lines.has(page)) {
-      lines.add(page);
-      page = parentOf(store, page);
-    }
-  }
-  return Array.from({ length: loads.length / 3 }, (_, i) => (lines.has(loads[3 * i]) ? UNDER_WAY : LOST));
-}
-
-function parentOf({ levels }, page) {
-  let k = levels.length - 1;
-  while (levels[k].first > page) k--;
-  if (k === levels.length - 1) return NO_PAGE;
-  const at = page - levels[k].first, { columns } = levels[k], above = levels[k + 1];
-  return above.first + (Math.floor(at / columns) >> 1) * above.columns + ((at % columns) >> 1);
 }
 
 export class Session {
@@ -102,11 +82,10 @@ export class Session {
 
   // Aborts requests that no wanted page needs any more, and returns whether there were such.
   giveUp() {
-    const { cache, link, store, wanted } = this, loads = cache.loads();
+    const { cache, link, wanted } = this, loads = cache.loads();
     if (loads.length === 0) return false;
-    const has = 'vtex_cache_stale_loads' in cache.library.calls, states = has ? cache.staleLoads(wanted.pages) : staleLoads(store, wanted.pages, loads);
     const stale = new Set();
-    states.forEach((state, i) => { if (state === LOST) stale.add(loads[3 * i]); });
+    cache.staleLoads(wanted.pages).forEach((state, i) => { if (state === LOST) stale.add(loads[3 * i]); });
     if (stale.size > 0) link.abort((page) => stale.has(page));
     return link.gone.size > 0;
   }
