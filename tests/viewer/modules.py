@@ -17,7 +17,7 @@ RUNS, PASSES = 300, 30
 # What vtex.h includes, for a target without a C library.
 HEADERS = {
     "stddef.h": "#define NULL 0\ntypedef unsigned long size_t;\n",
-    "stdint.h": "typedef unsigned char uint8_t;\ntypedef unsigned uint32_t;\ntypedef unsigned long uint64_t;\n#define UINT32_MAX 4294967295u\n",
+    "stdint.h": "typedef unsigned char uint8_t;\ntypedef unsigned uint32_t;\ntypedef int int32_t;\ntypedef unsigned long uint64_t;\n#define UINT32_MAX 4294967295u\n",
 }
 
 
