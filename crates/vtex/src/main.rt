@@ -5,8 +5,8 @@ ghost use Rattle.std.specs.Prelude.{◌≡◌};
 ghost use Rattle.std.specs.IoError.{error_kind};
 ghost use Rattle.vt_command_base.specs.Refusals.{unread_refusal};
 ghost use Rattle.vt_words.specs.Arguments.{texts};
-ghost use Rattle.vt_commands.specs.Runs.{run_of, IsRun};
-ghost use Rattle.vt_commands.specs.Machines.{machines_of, kind_of};
+ghost use Rattle.vt_top_call.specs.Runs.{run_of, IsRun};
+ghost use Rattle.vt_top_call.specs.Machines.{machines_of, kind_of};
 ghost use Rattle.vtex.specs.Here.{DrawsHere};
 
 use std::alloc::Global;
@@ -17,8 +17,6 @@ use std::thread::Threads;
 use std::{env, io};
 use vt_bilinear::BlendMachine;
 use vt_command_base::Refusal;
-pub use vt_commands::run;
-use vt_commands::usage_line;
 use vt_machine::PassMachine;
 use vt_outside::{Folder, Gate, OpenGate, RealFolder, RealSink, Sink};
 use vt_pass::WordMachine;
@@ -26,6 +24,8 @@ use vt_pictures::{Filter, Nearest};
 use vt_plain_bilinear::Bilinear;
 use vt_steal::StealMachine;
 use vt_swap_machine::SwapMachine;
+pub use vt_top_call::run;
+use vt_top_call::usage_line;
 
 // The words after the program's name.
 fn words_of(rt: &HostRuntime, alloc: Global) -> io::Result<Vec<String>> {
@@ -46,7 +46,7 @@ fn unread(error: &io::Error) -> Refusal<'static>
     }
 }
 
-// Does what the words say, as `run` of vt_commands does, by the machines of this program: a walk draws the nearest texel over
+// Does what the words say, as `run` of vt_top_call does, by the machines of this program: a walk draws the nearest texel over
 // shared words with its rows dealt to the samplers, but where its words ask for the swapped table, for shared rows, or for blends.
 fn run_here<Rt: Threads + Wait + Sync, D: Folder, O: Sink, E: Sink, G: Gate + Sync>(
     rt: &Rt,

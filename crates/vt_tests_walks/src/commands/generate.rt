@@ -3,8 +3,8 @@ use super::files::{FAULT, G4, PATH, USAGE};
 use super::rows::Held::{All, Front};
 use super::rows::{Row, hold};
 use std::test::*;
-use vt_commands::{Command, read_command};
 use vt_outside::Fail;
+use vt_top_call::{Command, read_command};
 use vt_words::WordsError;
 
 // The texture of number 1 with sides of two texels.

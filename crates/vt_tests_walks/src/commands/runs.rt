@@ -5,11 +5,11 @@ use std::alloc::{AllocError, Global};
 use std::sync::Wait;
 use std::thread::Threads;
 use vt_bilinear::BlendMachine;
-use vt_commands::run;
 use vt_outside::{Fail, Fails, MemoryFile, MemoryFolder, MemorySink, NoMemory};
 use vt_pass::WordMachine;
 use vt_steal::StealMachine;
 use vt_swap_machine::SwapMachine;
+use vt_top_call::run;
 
 /// What commands run over: a folder in memory, the output and the error output, and the gate of their workers.
 #[derive(Drop)]

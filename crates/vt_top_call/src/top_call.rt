@@ -1,14 +1,13 @@
 //! The top call.
 
 ghost use Rattle.vt_words.specs.Arguments.{texts};
-ghost use Rattle.vt_walk_commands.specs.Machines.{machines_of, kind_of};
+ghost use Rattle.vt_commands.specs.Machines.{machines_of, kind_of};
 ghost use Rattle.vt_commands.specs.Runs.{run_of, IsRun};
 
-use crate::at_once::{may_wait, run_at_once};
-use crate::waiting::run_waiting;
 use std::alloc::Global;
 use std::sync::Wait;
 use std::thread::Threads;
+use vt_commands::{may_wait, run_at_once, run_waiting};
 use vt_machine::PassMachine;
 use vt_outside::{Folder, Gate, Sink};
 
@@ -26,7 +25,7 @@ use vt_outside::{Folder, Gate, Sink};
 /// settled in memory over a texture and a path that are made from a number, and tells how many passes and reads it took.
 /// `walk` and `trial` may wait; any other words are handed to `run_at_once`.
 ///
-/// The contract is the record `IsRun` of `specs/Runs.antt`, with a field for each promise: what was left, what was
+/// The contract is the record `IsRun` of vt_commands `specs/Runs.antt`, with a field for each promise: what was left, what was
 /// asked, the cause of each status, and the line on the error output.
 pub fn run<
     M: PassMachine<File = D::File> + Send,

@@ -1,10 +1,10 @@
 use Rattle.std.proofs.Common.{sym, ◌∙◌}
 use Rattle.vt_words.specs.Arguments.{texts}
-use Rattle.vt_walk_commands.specs.Machines.{machines_of, kind_of}
+use Rattle.vt_commands.specs.Machines.{machines_of, kind_of}
 use Rattle.vt_commands.specs.Runs.{run_of}
 use Rattle.vt_commands.specs.Waits.{no_machines}
 use Rattle.vt_commands.proofs.Waits.{by_any}
-use Rattle.vt_commands.proofs.top_call.run.Goals as goal
+use Rattle.vt_top_call.proofs.top_call.run.Goals as goal
 
 pub returns : goal.returns
 returns g c =

@@ -1,0 +1,2 @@
+pub use Rattle.vt_commands.specs.Machines
+pub use Rattle.vt_commands.specs.Runs

@@ -1,0 +1,7 @@
+//! The top call, which does any command that words ask for.
+#![tactic(auto)]
+
+mod top_call;
+
+pub use top_call::run;
+pub use vt_commands::{Command, may_wait, read_command, run_at_once, usage_line};
