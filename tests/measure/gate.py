@@ -1,10 +1,11 @@
 #!/usr/bin/env python3
 """What a gate costs, crate by crate, in processor seconds.
 
-    python3 tests/measure/gate.py run LOG      runs `rt ci` at the top of the repository; LOG gets what it prints, and a line of
-                                               time for each check
+    python3 tests/measure/gate.py run LOG      runs `rt ci --anew` at the top of the repository, which takes nothing that earlier runs
+                                               kept; LOG gets what it prints, and a line of time for each check
     python3 tests/measure/gate.py table LOG    prints the table of such a log, the sums, and the longest chain of crates; crates that
-                                               take less than a fortieth stand in one row, and with `all` behind LOG in their own
+                                               take less than a fortieth stand in one row, and with `all` behind LOG in their own.
+                                               Below it stand the crates whose edits are more than their proof allows
 
 Nothing else is to be at work on the machine. The checks are watched twice a second, so a figure may lack half a second. The check of
 a crate's first must-fail edit proves the whole crate a second time: of its time what is above the mean of the other edits counts as
@@ -24,6 +25,8 @@ TICKS = os.sysconf("SC_CLK_TCK")
 KINDS = ("proof", "again for edits", "edits", "tests")
 # What the gate's price is measured by: the proofs of these crates.
 UNIT = ("vt_outside", "vt_ppm")
+# A crate whose own proof takes more seconds than this has at most so many must-fail edits.
+LONG, FEW = 60, 2
 
 
 def processes():
@@ -121,7 +124,7 @@ def run(log):
     """Runs the gate, and returns its status."""
     began = time.time()
     with open(log, "w") as out:
-        gate = subprocess.Popen(["rt", "ci"], stdin=subprocess.DEVNULL, stdout=out, stderr=subprocess.STDOUT)
+        gate = subprocess.Popen(["rt", "ci", "--anew"], stdin=subprocess.DEVNULL, stdout=out, stderr=subprocess.STDOUT)
         watch = Watch(gate.pid)
         while gate.poll() is None:
             watch.look()
@@ -215,6 +218,9 @@ def show(log, least=0.025):
     unit = sum(rows[crate][0] for crate in UNIT if crate in rows)
     if unit:
         print(f"That is {spent / unit:.1f} times the {unit:.0f} seconds of the proofs of {' and '.join(UNIT)}.")
+    many = sorted(crate for crate, row in rows.items() if row[0] > LONG and row[4] > FEW)
+    if many:
+        print(f"More than {FEW} edits, and a proof of more than {LONG} seconds: {', '.join(many)}.")
     together, chain = longest_chain(checks, crates())
     print(f"The longest chain takes {together:.0f} seconds by the clock: " + ", ".join(f"{crate} {took:.0f}" for crate, took in chain) + ".")
 
