@@ -24,7 +24,7 @@ from concurrent.futures import ProcessPoolExecutor
 import client
 from journals import Journal, replay
 from judge import FAULT, LINES, Doubt, Left, flaws_of_walk
-from real_rows import BLANKS, DEFAULTS, GENERATED, HEAD, JOURNALS, KEYS, LARGE_OTHERS, LARGE_PATH, LARGE_STORES, LONG_SIDES, ODD, OPTIONS, OTHERS
+from real_rows import BLANKS, DEFAULTS, GENERATED, HEAD, JOURNALS, KEYS, LARGE_OTHERS, LARGE_PATH, LARGE_STORES, LONG_SIDES, NO_STORES, ODD, OPTIONS, OTHERS
 from real_rows import PATHS, PICTURES, REFUSALS, REFUSED_TEXTURES, STORE_FLAWS, STORES, TEXTURES, WALKS, bad_input
 from reference import walk_words, write
 from rows import FOUR_STORE, wrong_rows
@@ -139,17 +139,21 @@ def most_pictures(check):
 
 
 PLAIN, TILE = "plain row.ppm pixel.path row --tile 2", "tile row.ppm row.vts --tile 2"
+# The same from so high that no texel of level 0 is wanted: then the texture is read by strips.
+HIGHER = "plain row.ppm higher.path row --tile 2"
 
 
 def write_texture(data):
-    """Writes the texture, and a path whose one pixel shows the texture's first texel."""
+    """Writes the texture, a path whose one pixel shows the texture's first texel, and one of a pixel from higher."""
     write("row.ppm", data)
     write("pixel.path", b"size 1 1\nfocal 1\nat 0 0 256 0 0\n")
+    write("higher.path", b"size 1 1\nfocal 1\nat 0 0 512 16384 0\n")
 
 
 def try_refused_texture(check, data, by_plain, by_tile):
     write_texture(data)
-    check.say(check.refuses(PLAIN, 4, bad_input("row.ppm", by_plain)), "texture %.40r: %s" % (data, by_plain))
+    for words in (PLAIN, HIGHER):
+        check.say(check.refuses(words, 4, bad_input("row.ppm", by_plain)), "texture %.40r by %s: %s" % (data, words, by_plain))
     if by_tile is not None:
         check.say(check.refuses(TILE, 4, bad_input("row.ppm", by_tile)), "the same by tile: %.40r: %s" % (data, by_tile))
 
@@ -289,15 +293,30 @@ def large_upgrade(check):
 
 
 def try_store_flaw(check, what, magic, length, flaw):
-    write("cut.vts", (magic + FOUR_STORE[4:] + b"x")[:length])
-    check.say(check.refuses("info cut.vts", 4, bad_input("cut.vts", flaw)), what)
+    try_no_store(check, what, (magic + FOUR_STORE[4:] + b"x")[:length], flaw)
+
+
+def try_no_store(check, what, data, flaw):
+    write("cut.vts", data)
+    for words in ("info cut.vts", "upgrade cut.vts new.vts", "walk cut.vts a.path no"):
+        check.say(check.refuses(words, 4, bad_input("cut.vts", flaw)), "%s: %s" % (words, what))
 
 
 def too_many_pages(check):
-    with open("wide.ppm", "wb") as file:
-        file.writelines(noise(8192, 128, 1, 1))
-    good = check.refuses("tile wide.ppm wide.vts --tile 2", 4, bad_input("wide.ppm", "too many pages 349567"))
-    check.say(good, "too many pages")
+    """One page more than a store may have, and many more. The samples are looked over before the pages are counted."""
+    for header, sample, flaw in [
+        (b"P6\n1024 768\n255\n", b"\0", "too many pages 262145"),
+        (b"P6\n1024 768\n254\n", b"\377", "sample over maximum at byte 16"),
+        (b"P6\n8192 128\n255\n", b"\1", "too many pages 349567"),
+    ]:
+        write("wide.ppm", header + sample * (3 * 1048576 if b"8192" in header else 3 * 786432))
+        check.say(check.refuses("tile wide.ppm wide.vts --tile 2", 4, bad_input("wide.ppm", flaw)), flaw)
+
+
+def other_geometry(check):
+    """A journal beside a store of another geometry, whose pages have other names."""
+    write("j.txt", HEAD.encode())
+    check.say(check.refuses("replay g64.vts a.path j.txt row", 4, bad_input("j.txt", "bad line 1")), "a journal beside another store")
 
 
 def first_generated(check):
@@ -506,6 +525,7 @@ TABLES = [
     (widest, [()]),
     (odd_upgrade, [()]),
     (try_store_flaw, STORE_FLAWS),
+    (try_no_store, NO_STORES),
     (too_many_pages, [()]),
     (first_generated, [()]),
     (try_gen, GENERATED),
@@ -515,6 +535,7 @@ TABLES = [
     (full_output, [()]),
     (worked_rows, [()]),
     (unfit_picture, [()]),
+    (other_geometry, [()]),
     (tables_by_memory, [()]),
     (rows_by_sampler, [()]),
     (pixels_by_filter, [()]),

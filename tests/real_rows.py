@@ -165,6 +165,14 @@ STORE_FLAWS = [
     ("a store with a byte more", b"VTS1", 77, "length 77, wanted 76"),
 ]
 
+# What is no store, and why it is refused.
+NO_STORES = [
+    ("nothing", b"", "bad magic"),
+    ("a store of tiles of 3x3 texels", b"VTS1\0\0\0\4\0\0\0\4\0\0\0\3\0\0\0", "bad geometry"),
+    ("a store of too many pages", b"VTS1\0\0\40\0\0\0\40\0\0\0\0\2\0\0\0", "bad geometry"),
+    ("a texture", b"P6\n4 4\n255\n" + bytes(48), "bad magic"),
+]
+
 # The number and the sides of a texture that `gen` makes.
 GENERATED = [(0, 1, 1), (1, 300, 257), (7, 64, 64), (65535, 3, 700), (256, 8192, 3), (3, 1, 8192)]
 
@@ -201,11 +209,35 @@ DEFAULTS = "--frames 64 --samplers 4 --loaders 3 --batch 64 --pinned 1 --table w
 
 # Words that are refused, the status and the line.
 REFUSALS = [
+    ("", 2, USAGE),
     ("plain g4.ppm none no --tile 2", 3, FAULT),
+    ("plain none a.path no --tile 2", 3, FAULT),
+    ("plain none g4.ppm no --tile 2", 4, bad_input("g4.ppm", "bad line 1")),
+    ("plain a.path none no --tile 2", 3, FAULT),
     ("plain a.path a.path no --tile 2", 4, bad_input("a.path", "bad magic")),
+    ("plain a.path g4.ppm no --tile 2", 4, bad_input("g4.ppm", "bad line 1")),
+    ("plain g4.ppm g4.ppm no --tile 2", 4, bad_input("g4.ppm", "bad line 1")),
+    ("Plain g4.ppm a.path no --tile 2", 2, USAGE),
+    ("plain g4.ppm a.path no --tile", 2, USAGE),
+    ("plain g4.ppm a.path no --tile 2 2", 2, USAGE),
     ("plain g4.ppm a.path no --tile 3", 2, USAGE),
+    ("plain g4.ppm a.path no --tile 02", 2, USAGE),
+    ("plain no0000.ppm a.path no --tile 2", 2, USAGE),
+    ("plain g4.ppm no1234.ppm no --tile 2", 2, USAGE),
     ("tile g4.ppm g4.ppm --tile 2", 2, USAGE),
+    ("tile g4.ppm no.vts --tile 3", 2, USAGE),
+    ("tile g4.ppm no.vts --tiles 2", 2, USAGE),
+    ("tile g4.ppm no.vts --tile", 2, USAGE),
+    ("tile g4.ppm no.vts --tile 2 2", 2, USAGE),
+    ("tile none no.vts --tile 2", 3, FAULT),
+    ("info", 2, USAGE),
+    ("info g4.vts g4.vts", 2, USAGE),
+    ("info none", 3, FAULT),
+    ("upgrade", 2, USAGE),
+    ("upgrade g4.vts", 2, USAGE),
     ("upgrade g4.vts g4.vts", 2, USAGE),
+    ("upgrade g4.vts no.vts no.vts", 2, USAGE),
+    ("upgrade g4.vts no.vts --tile 2", 2, USAGE),
     ("upgrade none no.vts", 3, FAULT),
     ("gen 0 0 1 no.ppm", 2, USAGE),
     ("gen 0 8193 1 no.ppm", 2, USAGE),
@@ -226,6 +258,7 @@ REFUSALS = [
     ("walk g4.vts a.path no --table other", 2, USAGE),
     ("walk g4.vts a.path no --table swap --rows shared", 2, USAGE),
     ("walk g4.vts a.path no --table swap --filter bilinear", 2, USAGE),
+    ("walk g4.vts", 2, USAGE),
     ("walk g4.vts a.path", 2, USAGE),
     ("walk g4.vts a.path no --journal g4.vts", 2, USAGE),
     ("walk g4.vts a.path no --journal a.path", 2, USAGE),
@@ -239,7 +272,16 @@ REFUSALS = [
     ("walk a.path a.path no", 4, bad_input("a.path", "bad magic")),
     ("walk g4.vts a.path no --frames 4 --pinned 2", 5, b"vtex: 4 frames, pinned pages need 5\n"),
     ("replay g4.vts a.path row0000.ppm row", 2, USAGE),
+    ("replay g4.vts a.path a.path", 2, USAGE),
+    ("replay g4.vts a.path g4.vts row", 2, USAGE),
+    ("replay row0000.ppm a.path none row", 2, USAGE),
     ("replay g4.vts a.path none row", 3, FAULT),
+    ("replay g4.vts none g4.ppm row", 3, FAULT),
+    ("replay none a.path g4.ppm row", 3, FAULT),
+    ("replay g4.vts a.path g4.ppm row", 4, bad_input("g4.ppm", "bad line 1")),
+    ("replay g4.vts g64.vts g4.ppm row", 4, bad_input("g64.vts", "bad line 1")),
+    ("replay g4.ppm g64.vts a.path row", 4, bad_input("g64.vts", "bad line 1")),
+    ("replay g4.ppm a.path g64.vts row", 4, bad_input("g4.ppm", "bad magic")),
     ("trial 65536", 2, USAGE),
     ("trial -1", 2, USAGE),
     ("trial 07", 2, USAGE),
@@ -257,6 +299,8 @@ JOURNALS = [
     ("map 1 1 0 0 0", "bad line 1"),
     ("map 1 0 0 0 0\n", "bad line 2"),
     (HEAD + "pass 2 picture 1 start 1\nrow 0 0 1\n", "bad line 4"),
+    (HEAD + "pass 2 picture 1 start 1\nrow 0 0 2\n", "bad line 4"),
+    ("map 1 1 0 0 0\npass 1 picture 0 start 1\nrow 0 0 2\npass 2 picture 1 start 1\nrow 0 0 1\n", "bad line 3"),
     (HEAD + "pass 2 picture 0 start 1\nlost 0 0 0\nrow 0 0 2\n", "bad line 6"),
     (HEAD + "pass 2 picture 0 start 1\nmap 2 0 0 0 1\nrow 0 63 2\n", 1),
     (HEAD + "pass 2 picture 0 start 1\nmap 2 0 0 0 1\nrow 0 64 2\n", "bad line 6"),

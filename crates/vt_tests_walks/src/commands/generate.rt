@@ -1,5 +1,5 @@
-// Runs of `gen`, of a command whose option is left out, and of no words.
-use super::files::{FAULT, G4, PATH, USAGE};
+// Runs of `gen`, and of no words.
+use super::files::{FAULT, G4, PATH};
 use super::rows::Held::{All, Front};
 use super::rows::{Row, hold};
 use std::test::*;
@@ -96,49 +96,6 @@ static STOPPED: [Row<'static>; 4] = [
 #[test]
 fn a_call_that_fails_stops_gen(rt: HostRuntime) {
     hold(&rt, rt.alloc(), &STOPPED);
-}
-
-// Words by which nothing is made.
-const REFUSES: Row<'static> = Row {
-    fail: None,
-    status: 2,
-    left: &[],
-    missing: &["g.ppm"],
-    err: USAGE,
-    ..MAKES
-};
-
-static OF_NO_TEXTURE: [Row<'static>; 3] = [
-    Row {
-        words: "gen 1 0 1 g.ppm",
-        ..REFUSES
-    },
-    Row {
-        words: "gen 1 1 8193 g.ppm",
-        ..REFUSES
-    },
-    Row {
-        words: "gen 65536 1 1 g.ppm",
-        ..REFUSES
-    },
-];
-
-#[test]
-fn sides_of_no_texture_are_refused(rt: HostRuntime) {
-    hold(&rt, rt.alloc(), &OF_NO_TEXTURE);
-}
-
-static NO_TILE_SIDE: [Row<'static>; 1] = [Row {
-    words: "tile g4.ppm s.vts",
-    fail: None,
-    left: &[],
-    out: b"store 4 4 tile 64 levels 1 pages 1 bytes 12304\n",
-    ..MAKES
-}];
-
-#[test]
-fn the_tile_side_may_be_left_out(rt: HostRuntime) {
-    hold(&rt, rt.alloc(), &NO_TILE_SIDE);
 }
 
 // Whether words were read as those of no command.

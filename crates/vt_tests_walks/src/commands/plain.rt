@@ -2,7 +2,7 @@
 mod strips;
 mod textures;
 
-use super::files::{FAULT, G4, PATH, PICTURE, USAGE};
+use super::files::{FAULT, G4, PATH, PICTURE};
 use super::rows::Held::All;
 use super::rows::{Row, hold};
 use std::test::*;
@@ -30,13 +30,6 @@ const REFUSES: Row<'static> = Row {
     pictures: &[],
     out: b"",
     ..DRAWS
-};
-
-// A run over words that are those of no command.
-const MISUSES: Row<'static> = Row {
-    status: 2,
-    err: USAGE,
-    ..REFUSES
 };
 
 // A run that a call or a missing name stops before the picture.
@@ -78,48 +71,6 @@ fn a_row_is_drawn_at_its_own_level(rt: HostRuntime) {
     hold(&rt, rt.alloc(), &HEIGHTS);
 }
 
-const BAD_LINE: &[u8] = b"vtex: bad input: a.path: bad line 2\n";
-
-static FLAWED_PATHS: [Row<'static>; 4] = [
-    Row {
-        files: &[
-            ("g4.ppm", All(G4)),
-            ("a.path", All(b"size 2 1\nsize 2 1\n")),
-        ],
-        err: BAD_LINE,
-        ..REFUSES
-    },
-    Row {
-        files: &[("g4.ppm", All(G4)), ("a.path", All(b"size 2 1\nfocal 1"))],
-        err: BAD_LINE,
-        ..REFUSES
-    },
-    Row {
-        files: &[
-            ("g4.ppm", All(G4)),
-            ("a.path", All(b"size 2 1\nfocal 1\nto 1 0 0 1 0 0\n")),
-        ],
-        err: b"vtex: bad input: a.path: no key at line 3\n",
-        ..REFUSES
-    },
-    Row {
-        files: &[
-            ("g4.ppm", All(G4)),
-            (
-                "a.path",
-                All(b"size 2 1\nfocal 1\nat 0 0 1 0 0\nto 9999 0 0 1 0 0\n"),
-            ),
-        ],
-        err: b"vtex: bad input: a.path: too many pictures\n",
-        ..REFUSES
-    },
-];
-
-#[test]
-fn a_flawed_path_is_told_with_its_line(rt: HostRuntime) {
-    hold(&rt, rt.alloc(), &FLAWED_PATHS);
-}
-
 const MOVED: &[u8] = b"P6\n2 1\n255\n\x0c\x0c\x0c\x00\x00\x00";
 
 // The places 0, -4, -7 and -10: from the second on the pixels show the column before.
@@ -139,86 +90,6 @@ static ON_THE_WAY: [Row<'static>; 1] = [Row {
 #[test]
 fn pictures_on_the_way_are_drawn(rt: HostRuntime) {
     hold(&rt, rt.alloc(), &ON_THE_WAY);
-}
-
-static NO_PICTURES: [Row<'static>; 1] = [Row {
-    files: &[("g4.ppm", All(G4)), ("a.path", All(b"size 2 1\nfocal 1\n"))],
-    pictures: &[],
-    out: b"end pictures 0\n",
-    ..DRAWS
-}];
-
-#[test]
-fn a_path_may_have_no_pictures(rt: HostRuntime) {
-    hold(&rt, rt.alloc(), &NO_PICTURES);
-}
-
-static NO_COMMANDS: [Row<'static>; 8] = [
-    Row {
-        words: "",
-        ..MISUSES
-    },
-    Row {
-        words: "Plain g4.ppm a.path f --tile 2",
-        ..MISUSES
-    },
-    Row {
-        words: "plain g4.ppm a.path f --tile",
-        ..MISUSES
-    },
-    Row {
-        words: "plain g4.ppm a.path f --tile 2 2",
-        ..MISUSES
-    },
-    Row {
-        words: "plain g4.ppm a.path f --tile 3",
-        ..MISUSES
-    },
-    Row {
-        words: "plain g4.ppm a.path f --tile 02",
-        ..MISUSES
-    },
-    Row {
-        words: "plain f0000.ppm a.path f --tile 2",
-        ..MISUSES
-    },
-    Row {
-        words: "plain g4.ppm f1234.ppm f --tile 2",
-        ..MISUSES
-    },
-];
-
-#[test]
-fn words_of_no_command_are_refused(rt: HostRuntime) {
-    hold(&rt, rt.alloc(), &NO_COMMANDS);
-}
-
-// Texture and path may have one name, since both are only read; these bytes are no path.
-static ONE_NAME: [Row<'static>; 1] = [Row {
-    words: "plain g4.ppm g4.ppm f --tile 2",
-    err: b"vtex: bad input: g4.ppm: bad line 1\n",
-    ..REFUSES
-}];
-
-#[test]
-fn texture_and_path_may_have_one_name(rt: HostRuntime) {
-    hold(&rt, rt.alloc(), &ONE_NAME);
-}
-
-static MISSING_NAMES: [Row<'static>; 2] = [
-    Row {
-        words: "plain none a.path f --tile 2",
-        ..STOPS
-    },
-    Row {
-        words: "plain g4.ppm none f --tile 2",
-        ..STOPS
-    },
-];
-
-#[test]
-fn a_missing_name_is_a_fault(rt: HostRuntime) {
-    hold(&rt, rt.alloc(), &MISSING_NAMES);
 }
 
 static STOPPED: [Row<'static>; 12] = [
@@ -305,25 +176,6 @@ static LINE_CUT: [Row<'static>; 1] = [Row {
 #[test]
 fn a_line_ends_where_a_put_fails(rt: HostRuntime) {
     hold(&rt, rt.alloc(), &LINE_CUT);
-}
-
-static FIRST_CAUSES: [Row<'static>; 2] = [
-    Row {
-        words: "plain none a.path f --tile 2",
-        files: &[("g4.ppm", All(G4)), ("a.path", All(b""))],
-        err: b"vtex: bad input: a.path: bad line 1\n",
-        ..REFUSES
-    },
-    Row {
-        words: "plain g4.ppm none f --tile 2",
-        files: &[("g4.ppm", All(b"")), ("a.path", All(PATH))],
-        ..STOPS
-    },
-];
-
-#[test]
-fn the_first_cause_among_the_inputs_decides(rt: HostRuntime) {
-    hold(&rt, rt.alloc(), &FIRST_CAUSES);
 }
 
 // A second creation would fail.

@@ -1,9 +1,9 @@
 // Runs of `replay`.
-use super::files::{FAULT, G4_STORE, PATH, PICTURE, USAGE, WIDE_STORE};
+use super::files::{FAULT, G4_STORE, PATH, PICTURE, WIDE_STORE};
 use super::replay_rows::{REPLAY_REFUSES, REPLAYS};
 use super::rows::Held::All;
 use super::rows::{Held, Row, hold};
-use super::walk_rows::{SETTLED_PASSES, SINGLE_STORE, WIDE_PICTURE};
+use super::walk_rows::WIDE_PICTURE;
 use std::test::*;
 use vt_outside::Fail;
 
@@ -47,110 +47,18 @@ fn a_journal_is_replayed_at_both_depths(rt: HostRuntime) {
     hold(&rt, rt.alloc(), &BOTH_DEPTHS);
 }
 
-// A journal over a store and a path, and the line by which it is refused.
-static REFUSED: [Row<'static>; 9] = [
-    Row {
-        files: &[
-            ("s.vts", All(G4_STORE)),
-            ("a.path", All(PATH)),
-            ("j.txt", All(BROKEN)),
-        ],
-        err: b"vtex: bad input: j.txt: bad line 9\n",
-        ..REPLAY_REFUSES
-    },
-    Row {
-        files: &[
-            ("s.vts", All(G4_STORE)),
-            ("a.path", All(PATH)),
-            ("j.txt", All(b"map 1 0 0 0 0\n")),
-        ],
-        err: b"vtex: bad input: j.txt: bad line 2\n",
-        ..REPLAY_REFUSES
-    },
-    // A picture that the path has not, alone, before a line that is bad by itself, and after one.
-    Row {
-        files: &[
-            ("s.vts", All(G4_STORE)),
-            ("a.path", All(PATH)),
-            (
-                "j.txt",
-                All(
-                    b"map 1 1 0 0 0\npass 1 picture 0 start 1\nrow 0 0 1\npass 2 picture 1 start 1\nrow 0 0 1\n",
-                ),
-            ),
-        ],
-        err: b"vtex: bad input: j.txt: bad line 4\n",
-        ..REPLAY_REFUSES
-    },
-    Row {
-        files: &[
-            ("s.vts", All(G4_STORE)),
-            ("a.path", All(PATH)),
-            (
-                "j.txt",
-                All(
-                    b"map 1 1 0 0 0\npass 1 picture 0 start 1\nrow 0 0 1\npass 2 picture 1 start 1\nrow 0 0 2\n",
-                ),
-            ),
-        ],
-        err: b"vtex: bad input: j.txt: bad line 4\n",
-        ..REPLAY_REFUSES
-    },
-    Row {
-        files: &[
-            ("s.vts", All(G4_STORE)),
-            ("a.path", All(PATH)),
-            (
-                "j.txt",
-                All(
-                    b"map 1 1 0 0 0\npass 1 picture 0 start 1\nrow 0 0 2\npass 2 picture 1 start 1\nrow 0 0 1\n",
-                ),
-            ),
-        ],
-        err: b"vtex: bad input: j.txt: bad line 3\n",
-        ..REPLAY_REFUSES
-    },
-    // A store of another geometry, whose pages have other names.
-    Row {
-        files: &[
-            ("s.vts", All(SINGLE_STORE)),
-            ("a.path", All(PATH)),
-            ("j.txt", All(SETTLED_PASSES)),
-        ],
-        err: b"vtex: bad input: j.txt: bad line 1\n",
-        ..REPLAY_REFUSES
-    },
-    Row {
-        files: &[
-            ("s.vts", All(G4_STORE)),
-            ("a.path", All(b"size 2 1\n")),
-            ("j.txt", All(BROKEN)),
-        ],
-        err: b"vtex: bad input: a.path: bad line 2\n",
-        ..REPLAY_REFUSES
-    },
-    Row {
-        files: &[
-            ("s.vts", All(b"VTS")),
-            ("a.path", All(b"size 2 1\n")),
-            ("j.txt", All(BROKEN)),
-        ],
-        err: b"vtex: bad input: a.path: bad line 2\n",
-        ..REPLAY_REFUSES
-    },
-    Row {
-        files: &[
-            ("s.vts", All(b"VTS")),
-            ("a.path", All(PATH)),
-            ("j.txt", All(BROKEN)),
-        ],
-        err: b"vtex: bad input: s.vts: bad magic\n",
-        ..REPLAY_REFUSES
-    },
-];
+static REFUSED: [Row<'static>; 1] = [Row {
+    files: &[
+        ("s.vts", All(G4_STORE)),
+        ("a.path", All(PATH)),
+        ("j.txt", All(BROKEN)),
+    ],
+    err: b"vtex: bad input: j.txt: bad line 9\n",
+    ..REPLAY_REFUSES
+}];
 
 #[test]
-fn a_journal_is_refused_beside_its_path_and_its_store(rt: HostRuntime) {
+fn a_journal_that_names_a_version_which_is_not_there_is_refused(rt: HostRuntime) {
     hold(&rt, rt.alloc(), &REFUSED);
 }
 
@@ -254,43 +162,4 @@ static STOPPED: [Row<'static>; 14] = [
 #[test]
 fn what_stands_after_a_failed_call_of_a_replay(rt: HostRuntime) {
     hold(&rt, rt.alloc(), &STOPPED);
-}
-
-// A replay by words that are those of no command.
-const MISUSES: Row<'static> = Row {
-    status: 2,
-    err: USAGE,
-    ..STOPS
-};
-
-static WORDS_AND_NAMES: [Row<'static>; 6] = [
-    Row {
-        words: "replay s.vts a.path j.txt",
-        ..MISUSES
-    },
-    Row {
-        words: "replay s.vts a.path s.vts f",
-        ..MISUSES
-    },
-    Row {
-        words: "replay f0000.ppm a.path j.txt f",
-        ..MISUSES
-    },
-    Row {
-        words: "replay t.vts a.path j.txt f",
-        ..STOPS
-    },
-    Row {
-        words: "replay s.vts b.path j.txt f",
-        ..STOPS
-    },
-    Row {
-        words: "replay s.vts a.path k.txt f",
-        ..STOPS
-    },
-];
-
-#[test]
-fn a_replay_is_refused_for_its_words_and_for_a_missing_name(rt: HostRuntime) {
-    hold(&rt, rt.alloc(), &WORDS_AND_NAMES);
 }

@@ -1,10 +1,9 @@
 // Runs of `tile` and `info`, and what runs of other commands on stores share.
-mod large;
 mod stops;
 mod upgrade;
 
-use super::files::{FAULT, G4, G4_STORE, PATH, USAGE};
-use super::rows::Held::{All, Front};
+use super::files::{FAULT, G4, G4_STORE, PATH};
+use super::rows::Held::All;
 use super::rows::{Row, hold};
 use std::test::*;
 
@@ -39,13 +38,6 @@ const REFUSES: Row<'static> = Row {
     missing: &["s.vts"],
     out: b"",
     ..TILES
-};
-
-// A run over words that are those of no command.
-const MISUSES: Row<'static> = Row {
-    status: 2,
-    err: USAGE,
-    ..REFUSES
 };
 
 const SINGLE_STORE: &[u8] =
@@ -184,110 +176,6 @@ static ROUNDED: [Row<'static>; 2] = [
 #[test]
 fn boxes_are_rounded(rt: HostRuntime) {
     hold(&rt, rt.alloc(), &ROUNDED);
-}
-
-const TILE_OF_THREE: &[u8] = b"VTS1\x00\x00\x00\x04\x00\x00\x00\x04\x00\x00\x00\x03\x00\x00\x00";
-
-const TOO_MANY: &[u8] = b"VTS1\x00\x00\x20\x00\x00\x00\x20\x00\x00\x00\x00\x02\x00\x00\x00";
-
-const LONGER: &[u8] =
-    b"VTS1\x00\x00\x00\x01\x00\x00\x00\x01\x00\x00\x00\x02\x0a\x14\x1e\x0a\x14\x1e\x0a\x14\x1e\x0a\x14\x1e\x00";
-
-const TAKEN_FOR_WIDE: &[u8] =
-    b"VTS2\x00\x00\x00\x01\x00\x00\x00\x01\x00\x00\x00\x02\x0a\x14\x1e\x0a\x14\x1e\x0a\x14\x1e\x0a\x14\x1e";
-
-// A run of `info` that is refused.
-const MISINFORMS: Row<'static> = Row {
-    words: "info t.ppm",
-    ..REFUSES
-};
-
-static FLAWED_STORES: [Row<'static>; 8] = [
-    Row {
-        files: &[("t.ppm", All(LONGER)), ("a.path", All(PATH))],
-        err: b"vtex: bad input: t.ppm: length 29, wanted 28\n",
-        ..MISINFORMS
-    },
-    Row {
-        files: &[("t.ppm", Front(G4_STORE, 75)), ("a.path", All(PATH))],
-        err: b"vtex: bad input: t.ppm: length 75, wanted 76\n",
-        ..MISINFORMS
-    },
-    Row {
-        files: &[("t.ppm", All(TAKEN_FOR_WIDE)), ("a.path", All(PATH))],
-        err: b"vtex: bad input: t.ppm: length 28, wanted 40\n",
-        ..MISINFORMS
-    },
-    Row {
-        files: &[("t.ppm", All(TILE_OF_THREE)), ("a.path", All(PATH))],
-        err: b"vtex: bad input: t.ppm: bad geometry\n",
-        ..MISINFORMS
-    },
-    Row {
-        files: &[("t.ppm", All(TOO_MANY)), ("a.path", All(PATH))],
-        err: b"vtex: bad input: t.ppm: bad geometry\n",
-        ..MISINFORMS
-    },
-    Row {
-        files: &[("t.ppm", All(b"VTS1\x00")), ("a.path", All(PATH))],
-        err: b"vtex: bad input: t.ppm: length 5, wanted 16\n",
-        ..MISINFORMS
-    },
-    Row {
-        files: &[("t.ppm", All(b"VTS")), ("a.path", All(PATH))],
-        err: b"vtex: bad input: t.ppm: bad magic\n",
-        ..MISINFORMS
-    },
-    Row {
-        files: &[("t.ppm", All(G4)), ("a.path", All(PATH))],
-        err: b"vtex: bad input: t.ppm: bad magic\n",
-        ..MISINFORMS
-    },
-];
-
-#[test]
-fn a_flawed_store_is_told_with_its_numbers(rt: HostRuntime) {
-    hold(&rt, rt.alloc(), &FLAWED_STORES);
-}
-
-static NO_COMMANDS: [Row<'static>; 8] = [
-    Row {
-        words: "tile t.ppm t.ppm --tile 2",
-        ..MISUSES
-    },
-    Row {
-        words: "tile t.ppm s.vts --tile 3",
-        ..MISUSES
-    },
-    Row {
-        words: "tile t.ppm s.vts --tiles 2",
-        ..MISUSES
-    },
-    Row {
-        words: "tile t.ppm s.vts --tile",
-        ..MISUSES
-    },
-    Row {
-        words: "tile t.ppm s.vts --tile 2 2",
-        ..MISUSES
-    },
-    Row {
-        words: "info",
-        ..MISUSES
-    },
-    Row {
-        words: "info t.ppm t.ppm",
-        ..MISUSES
-    },
-    Row {
-        words: "walk t.ppm",
-        ..MISUSES
-    },
-];
-
-#[test]
-fn words_of_neither_command_are_refused(rt: HostRuntime) {
-    hold(&rt, rt.alloc(), &NO_COMMANDS);
 }
 
 // A run that a call or a missing name stops before the store.

@@ -142,7 +142,7 @@ const REFUSES: Row<'static> = Row {
     ..SETTLED
 };
 
-static REFUSED: [Row<'static>; 8] = [
+static REFUSED: [Row<'static>; 3] = [
     Row {
         words: "walk s.vts a.path f --frames 4 --pinned 2",
         status: 5,
@@ -156,39 +156,7 @@ static REFUSED: [Row<'static>; 8] = [
         ..REFUSES
     },
     Row {
-        words: "walk t.vts a.path f",
-        status: 3,
-        err: FAULT,
-        ..REFUSES
-    },
-    Row {
-        words: "walk t.vts a.path f",
-        files: &[("s.vts", All(G4_STORE)), ("a.path", All(b"size 2 1\n"))],
-        status: 4,
-        err: b"vtex: bad input: a.path: bad line 2\n",
-        ..REFUSES
-    },
-    Row {
-        words: "walk s.vts a.path f --frames 1",
-        files: &[("s.vts", All(b"VTS")), ("a.path", All(PATH))],
-        status: 4,
-        err: b"vtex: bad input: s.vts: bad magic\n",
-        ..REFUSES
-    },
-    Row {
         words: "walk s.vts a.path f --samplers 65",
-        status: 2,
-        err: USAGE,
-        ..REFUSES
-    },
-    Row {
-        words: "walk s.vts a.path",
-        status: 2,
-        err: USAGE,
-        ..REFUSES
-    },
-    Row {
-        words: "walk s.vts a.path f --journal s.vts",
         status: 2,
         err: USAGE,
         ..REFUSES

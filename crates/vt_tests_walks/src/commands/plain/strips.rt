@@ -1,8 +1,8 @@
 // Runs of `plain` whose pictures want no texel of level 0, so that the texture is read by strips.
 use super::super::files::G4;
-use super::super::rows::Held::{All, Front};
+use super::super::rows::Held::All;
 use super::super::rows::{Row, hold};
-use super::{DRAWS, REFUSES, STOPS};
+use super::{DRAWS, STOPS};
 use std::test::*;
 use vt_outside::Fail;
 
@@ -103,71 +103,6 @@ static READ_ONCE: [Row<'static>; 2] = [
 #[test]
 fn each_strip_is_read_once(rt: HostRuntime) {
     hold(&rt, rt.alloc(), &READ_ONCE);
-}
-
-static FLAWED: [Row<'static>; 10] = [
-    Row {
-        files: &[("g4.ppm", All(b"")), ("a.path", All(HIGHER))],
-        err: b"vtex: bad input: g4.ppm: bad magic\n",
-        ..REFUSES
-    },
-    Row {
-        files: &[("g4.ppm", All(b"P6 1 1 255#")), ("a.path", All(HIGHER))],
-        err: b"vtex: bad input: g4.ppm: bad header at byte 10\n",
-        ..REFUSES
-    },
-    Row {
-        files: &[("g4.ppm", All(b"P6 0 1 255\n")), ("a.path", All(HIGHER))],
-        err: b"vtex: bad input: g4.ppm: bad size\n",
-        ..REFUSES
-    },
-    // Sides that a texture may have which is cut into tiles.
-    Row {
-        files: &[("g4.ppm", All(b"P6 8193 1 255\n")), ("a.path", All(HIGHER))],
-        err: b"vtex: bad input: g4.ppm: bad size\n",
-        ..REFUSES
-    },
-    Row {
-        files: &[("g4.ppm", All(b"P6 1 8193 255\n")), ("a.path", All(HIGHER))],
-        err: b"vtex: bad input: g4.ppm: bad size\n",
-        ..REFUSES
-    },
-    Row {
-        files: &[("g4.ppm", All(b"P6 1 1 0\n")), ("a.path", All(HIGHER))],
-        err: b"vtex: bad input: g4.ppm: bad maximum\n",
-        ..REFUSES
-    },
-    Row {
-        files: &[("g4.ppm", All(b"P6 8192 1 255\n")), ("a.path", All(HIGHER))],
-        err: b"vtex: bad input: g4.ppm: raster of 0 bytes, wanted 24576\n",
-        ..REFUSES
-    },
-    Row {
-        files: &[("g4.ppm", Front(G4, G4.len() - 1)), ("a.path", All(HIGHER))],
-        err: b"vtex: bad input: g4.ppm: raster of 47 bytes, wanted 48\n",
-        ..REFUSES
-    },
-    Row {
-        files: &[
-            ("g4.ppm", All(b"P6 1 1 100\n\x01\x65\x00")),
-            ("a.path", All(HIGHER)),
-        ],
-        err: b"vtex: bad input: g4.ppm: sample over maximum at byte 12\n",
-        ..REFUSES
-    },
-    Row {
-        files: &[
-            ("g4.ppm", All(b"P6 1 1 256\n\x01\x00\x00\x80\x01\x01")),
-            ("a.path", All(HIGHER)),
-        ],
-        err: b"vtex: bad input: g4.ppm: sample over maximum at byte 15\n",
-        ..REFUSES
-    },
-];
-
-#[test]
-fn a_flaw_is_told_as_where_the_texture_is_read_whole(rt: HostRuntime) {
-    hold(&rt, rt.alloc(), &FLAWED);
 }
 
 // A texture of one level is drawn from any height, at either depth.

@@ -1,70 +1,9 @@
 // Runs of `plain` over textures of either depth.
-use super::super::files::{G4, PATH};
-use super::super::rows::Held::{All, Front};
+use super::super::files::PATH;
+use super::super::rows::Held::All;
 use super::super::rows::{Row, hold};
-use super::{DRAWS, REFUSES};
+use super::DRAWS;
 use std::test::*;
-
-// Each fault of a texture, with its place.
-static FLAWED: [Row<'static>; 9] = [
-    Row {
-        files: &[("g4.ppm", All(b"")), ("a.path", All(PATH))],
-        err: b"vtex: bad input: g4.ppm: bad magic\n",
-        ..REFUSES
-    },
-    Row {
-        files: &[("g4.ppm", All(b"P6 1 1 255#")), ("a.path", All(PATH))],
-        err: b"vtex: bad input: g4.ppm: bad header at byte 10\n",
-        ..REFUSES
-    },
-    Row {
-        files: &[("g4.ppm", All(b"P6 0 1 255\n")), ("a.path", All(PATH))],
-        err: b"vtex: bad input: g4.ppm: bad size\n",
-        ..REFUSES
-    },
-    Row {
-        files: &[("g4.ppm", All(b"P6 1 1 0\n")), ("a.path", All(PATH))],
-        err: b"vtex: bad input: g4.ppm: bad maximum\n",
-        ..REFUSES
-    },
-    Row {
-        files: &[("g4.ppm", All(b"P6 1 1 256\nabc")), ("a.path", All(PATH))],
-        err: b"vtex: bad input: g4.ppm: raster of 3 bytes, wanted 6\n",
-        ..REFUSES
-    },
-    Row {
-        files: &[("g4.ppm", Front(G4, G4.len() - 1)), ("a.path", All(PATH))],
-        err: b"vtex: bad input: g4.ppm: raster of 47 bytes, wanted 48\n",
-        ..REFUSES
-    },
-    Row {
-        files: &[
-            ("g4.ppm", All(b"P6 1 1 100\n\x01\x65\x00")),
-            ("a.path", All(PATH)),
-        ],
-        err: b"vtex: bad input: g4.ppm: sample over maximum at byte 12\n",
-        ..REFUSES
-    },
-    Row {
-        files: &[
-            ("g4.ppm", All(b"P6 1 1 256\n\x01\x00\x00\x80\x01\x01")),
-            ("a.path", All(PATH)),
-        ],
-        err: b"vtex: bad input: g4.ppm: sample over maximum at byte 15\n",
-        ..REFUSES
-    },
-    // The path is read first.
-    Row {
-        files: &[("g4.ppm", All(b"")), ("a.path", All(b""))],
-        err: b"vtex: bad input: a.path: bad line 1\n",
-        ..REFUSES
-    },
-];
-
-#[test]
-fn a_flawed_texture_is_told_with_its_place(rt: HostRuntime) {
-    hold(&rt, rt.alloc(), &FLAWED);
-}
 
 // The first picture's texture with 100 as its maximum: 13 becomes 33, and 1 becomes 3.
 const G100: &[u8] =

@@ -1,5 +1,5 @@
 // Runs of `upgrade`.
-use super::super::files::{FAULT, G4, G4_STORE, PATH, USAGE, WIDE_STORE};
+use super::super::files::{FAULT, G4_STORE, PATH, WIDE_STORE};
 use super::super::rows::Held::{All, Front};
 use super::super::rows::{Row, hold};
 use super::{G4_LINE, INFORMS};
@@ -31,13 +31,6 @@ const REFUSES: Row<'static> = Row {
     ..UPGRADES
 };
 
-// A run over words that are not two names.
-const MISUSES: Row<'static> = Row {
-    status: 2,
-    err: USAGE,
-    ..REFUSES
-};
-
 // A run that a call or a missing name stops before the new store.
 const STOPS: Row<'static> = Row {
     status: 3,
@@ -61,26 +54,6 @@ fn a_store_is_upgraded(rt: HostRuntime) {
     hold(&rt, rt.alloc(), &UPGRADED);
 }
 
-// The store of one texel has other texels in its tile, which no level has.
-const EDGED: &[u8] =
-    b"VTS1\x00\x00\x00\x01\x00\x00\x00\x01\x00\x00\x00\x02\x0a\x14\xff\x01\x01\x01\x02\x02\x02\x03\x03\x03";
-
-const WIDE_EDGED: &[u8] =
-    b"VTS2\x00\x00\x00\x01\x00\x00\x00\x01\x00\x00\x00\x02\x0a\x0a\x14\x14\xff\xff\x0a\x0a\x14\x14\xff\xff\
-        \x0a\x0a\x14\x14\xff\xff\x0a\x0a\x14\x14\xff\xff";
-
-static PAST_AN_EDGE: [Row<'static>; 1] = [Row {
-    files: &[("s.vts", All(EDGED)), ("a.path", All(PATH))],
-    left: &[("w.vts", All(WIDE_EDGED))],
-    out: b"store 1 1 tile 2 levels 1 pages 1 bytes 40\n",
-    ..UPGRADES
-}];
-
-#[test]
-fn past_an_edge_the_last_texel_stands_again(rt: HostRuntime) {
-    hold(&rt, rt.alloc(), &PAST_AN_EDGE);
-}
-
 static WRITTEN_ANEW: [Row<'static>; 1] = [Row {
     words: "upgrade s.vts a.path",
     left: &[("a.path", All(WIDE_STORE))],
@@ -90,86 +63,6 @@ static WRITTEN_ANEW: [Row<'static>; 1] = [Row {
 #[test]
 fn a_name_that_is_there_is_written_anew(rt: HostRuntime) {
     hold(&rt, rt.alloc(), &WRITTEN_ANEW);
-}
-
-const TAKEN_FOR_WIDE: &[u8] =
-    b"VTS2\x00\x00\x00\x01\x00\x00\x00\x01\x00\x00\x00\x02\x0a\x14\x1e\x0a\x14\x1e\x0a\x14\x1e\x0a\x14\x1e";
-
-const TILE_OF_THREE: &[u8] = b"VTS1\x00\x00\x00\x04\x00\x00\x00\x04\x00\x00\x00\x03";
-
-static REFUSED: [Row<'static>; 8] = [
-    Row {
-        files: &[("s.vts", All(WIDE_STORE)), ("a.path", All(PATH))],
-        err: b"vtex: bad input: s.vts: already wide\n",
-        ..REFUSES
-    },
-    Row {
-        files: &[("s.vts", Front(WIDE_STORE, 135)), ("a.path", All(PATH))],
-        err: b"vtex: bad input: s.vts: length 135, wanted 136\n",
-        ..REFUSES
-    },
-    Row {
-        files: &[("s.vts", Front(G4_STORE, 75)), ("a.path", All(PATH))],
-        err: b"vtex: bad input: s.vts: length 75, wanted 76\n",
-        ..REFUSES
-    },
-    Row {
-        files: &[("s.vts", All(TAKEN_FOR_WIDE)), ("a.path", All(PATH))],
-        err: b"vtex: bad input: s.vts: length 28, wanted 40\n",
-        ..REFUSES
-    },
-    Row {
-        files: &[("s.vts", All(TILE_OF_THREE)), ("a.path", All(PATH))],
-        err: b"vtex: bad input: s.vts: bad geometry\n",
-        ..REFUSES
-    },
-    Row {
-        files: &[("s.vts", All(b"")), ("a.path", All(PATH))],
-        err: b"vtex: bad input: s.vts: bad magic\n",
-        ..REFUSES
-    },
-    Row {
-        files: &[("s.vts", All(G4)), ("a.path", All(PATH))],
-        err: b"vtex: bad input: s.vts: bad magic\n",
-        ..REFUSES
-    },
-    Row {
-        words: "upgrade none w.vts",
-        ..STOPS
-    },
-];
-
-#[test]
-fn a_store_that_is_wide_flawed_or_missing_is_refused(rt: HostRuntime) {
-    hold(&rt, rt.alloc(), &REFUSED);
-}
-
-static NOT_TWO_NAMES: [Row<'static>; 5] = [
-    Row {
-        words: "upgrade",
-        ..MISUSES
-    },
-    Row {
-        words: "upgrade s.vts",
-        ..MISUSES
-    },
-    Row {
-        words: "upgrade s.vts w.vts w.vts",
-        ..MISUSES
-    },
-    Row {
-        words: "upgrade s.vts s.vts",
-        ..MISUSES
-    },
-    Row {
-        words: "upgrade s.vts w.vts --tile 2",
-        ..MISUSES
-    },
-];
-
-#[test]
-fn words_that_are_not_two_names_are_refused(rt: HostRuntime) {
-    hold(&rt, rt.alloc(), &NOT_TWO_NAMES);
 }
 
 // A run that a call stops when the new store has been created.
