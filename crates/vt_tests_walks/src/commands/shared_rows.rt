@@ -1,8 +1,7 @@
 // Walks whose samplers share the rows of a picture.
-use super::files::USAGE;
 use super::flights::walk_all;
 use super::rows::Held::Journal;
-use super::rows::{Row, hold};
+use super::rows::Row;
 use super::walk_rows::{SETTLED, TALL};
 use crate::told::Told;
 use std::test::*;
@@ -61,32 +60,4 @@ static WALKS: [Row<'static>; 4] = [
 #[test]
 fn a_walk_with_shared_rows_leaves_the_same_pictures_by_any_samplers(rt: HostRuntime) {
     walk_all(&rt, rt.alloc(), &WALKS);
-}
-
-const REFUSES: Row<'static> = Row {
-    words: "walk s.vts a.path f --rows shared --filter bilinear",
-    status: 2,
-    left: &[],
-    missing: &["j.txt", "journal.txt"],
-    pictures: &[],
-    out: b"",
-    err: USAGE,
-    ..SETTLED
-};
-
-static REFUSED: [Row<'static>; 3] = [
-    REFUSES,
-    Row {
-        words: "walk s.vts a.path f --rows taken",
-        ..REFUSES
-    },
-    Row {
-        words: "replay s.vts a.path j.txt f --rows shared",
-        ..REFUSES
-    },
-];
-
-#[test]
-fn shared_rows_are_refused_beside_blends(rt: HostRuntime) {
-    hold(&rt, rt.alloc(), &REFUSED);
 }

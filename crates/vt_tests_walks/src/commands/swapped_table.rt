@@ -1,8 +1,7 @@
 // Walks whose page table lies twice.
-use super::files::USAGE;
 use super::flights::{Flight, fly_all, walk_all};
 use super::gates::Meeting;
-use super::rows::{Row, hold};
+use super::rows::Row;
 use super::walk_rows::{REUSED, REUSED_ROW, SETTLED, TALL};
 use std::test::*;
 
@@ -38,40 +37,4 @@ static FLIGHTS: [Flight<'static>; 1] = [Flight {
 fn a_walk_over_the_swapped_table_leaves_the_same(rt: HostRuntime) {
     walk_all(&rt, rt.alloc(), &WALKS);
     fly_all(&rt, rt.alloc(), &FLIGHTS, Meeting::Nobody);
-}
-
-const REFUSES: Row<'static> = Row {
-    words: "walk s.vts a.path f --table swap --rows shared",
-    status: 2,
-    left: &[],
-    missing: &["j.txt", "journal.txt"],
-    pictures: &[],
-    out: b"",
-    err: USAGE,
-    ..SETTLED
-};
-
-static REFUSED: [Row<'static>; 5] = [
-    REFUSES,
-    Row {
-        words: "walk s.vts a.path f --filter bilinear --table swap",
-        ..REFUSES
-    },
-    Row {
-        words: "walk s.vts a.path f --table other",
-        ..REFUSES
-    },
-    Row {
-        words: "walk s.vts a.path f --table",
-        ..REFUSES
-    },
-    Row {
-        words: "replay s.vts a.path j.txt f --table swap",
-        ..REFUSES
-    },
-];
-
-#[test]
-fn the_swapped_table_is_refused_beside_shared_rows_and_blends(rt: HostRuntime) {
-    hold(&rt, rt.alloc(), &REFUSED);
 }

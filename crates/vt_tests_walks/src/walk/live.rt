@@ -1,57 +1,12 @@
 //! Live walks.
 
 use crate::cases::{Case, Deed, check};
-use crate::fixtures::{FAR, FOUR, FOUR_PICTURES, LOW, ONE_PICTURE};
+use crate::fixtures::{FAR, FOUR, FOUR_PICTURES, LOW};
 use crate::told::Told;
 use crate::walk::worked::Walk;
 use vt_machine::Crew;
 use vt_outside::Fail;
-use vt_walk::{Mode, Settings, WalkError};
-
-const FEW: Walk<'_> = Walk {
-    settings: Settings {
-        frames: 4,
-        pinned: 2,
-        crew: Crew {
-            samplers: 4,
-            loaders: 3,
-            batch: 64,
-        },
-    },
-    mode: Mode::Live,
-    error: Some(WalkError::TooFewFrames {
-        frames: 4,
-        needed: 5,
-    }),
-    journal: None,
-    log: b"",
-    pictures: &[],
-};
-
-const FEW_SETTLED: Walk<'_> = Walk {
-    mode: Mode::Settled,
-    ..FEW
-};
-
-static FEW_FRAMES: [Case<'static>; 2] = [
-    Case {
-        store: &FOUR,
-        path: ONE_PICTURE,
-        fails: &[],
-        deed: Deed::Walk(FEW),
-    },
-    Case {
-        store: &FOUR,
-        path: ONE_PICTURE,
-        fails: &[],
-        deed: Deed::Walk(FEW_SETTLED),
-    },
-];
-
-#[test]
-fn fewer_frames_than_pinned_pages_are_refused(rt: HostRuntime) {
-    check(&rt, rt.alloc(), &FEW_FRAMES);
-}
+use vt_walk::{Mode, Settings};
 
 // A read of a loader's file that fails: the third file is that of the first loader.
 macro_rules! failing {

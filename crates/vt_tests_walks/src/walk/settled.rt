@@ -5,7 +5,7 @@ use crate::fixtures::{FINE, FOUR, ONE_PICTURE};
 use crate::told::Told;
 use crate::walk::worked::Walk;
 use vt_machine::Crew;
-use vt_walk::{Mode, Settings, WalkError};
+use vt_walk::{Mode, Settings};
 
 const SETTINGS: Settings = Settings {
     frames: 3,
@@ -72,33 +72,4 @@ static CREWS: [Case<'static>; 2] = [
 #[test]
 fn a_settled_picture_is_the_same_by_any_crew(rt: HostRuntime) {
     check(&rt, rt.alloc(), &CREWS);
-}
-
-const UNFIT: Walk<'_> = Walk {
-    settings: Settings {
-        frames: 2,
-        ..SETTINGS
-    },
-    error: Some(WalkError::DoesNotFit {
-        picture: 0,
-        wanted: 2,
-        room: 1,
-    }),
-    journal: Some(Told {
-        text: b"map 1 1 0 0 0\npass 1 picture 0 start 1\nrow 0 0 1\n",
-        versions: &[],
-    }),
-    log: b"",
-    pictures: &[],
-    ..BY_ONE
-};
-
-static UNFIT_PICTURE: [Case<'static>; 1] = [Case {
-    deed: Deed::Walk(UNFIT),
-    ..ONE
-}];
-
-#[test]
-fn a_picture_that_does_not_fit_is_refused_after_its_first_pass(rt: HostRuntime) {
-    check(&rt, rt.alloc(), &UNFIT_PICTURE);
 }
