@@ -6,20 +6,23 @@
     python3 tests/measure/gate.py table LOG    prints the table of such a log, the sums, and the longest chain of crates; crates that
                                                take less than a fortieth stand in one row, and with `all` behind LOG in their own.
                                                Below it stand the crates whose edits are more than their proof allows
+    python3 tests/measure/gate.py page LOG     puts what `table LOG` prints into docs/PROVING.md, in place of what stands there
 
 Nothing else is to be at work on the machine. The checks are watched twice a second, so a figure may lack half a second. The check of
 a crate's first must-fail edit proves the whole crate a second time: of its time what is above the mean of the other edits counts as
 "again for edits", and so does the last look at the crate. Tests are proved, linked and built; that they run costs next to nothing.
 Machines differ by more than twice, so the gate's price is also told as a ratio: its processor seconds over those of two proofs.
 """
+import contextlib
 import glob
+import io
 import os
 import re
 import subprocess
 import sys
 import time
 
-from uses import crates
+from uses import TOP, crates
 
 TICKS = os.sysconf("SC_CLK_TCK")
 KINDS = ("proof", "again for edits", "edits", "tests")
@@ -27,6 +30,8 @@ KINDS = ("proof", "again for edits", "edits", "tests")
 UNIT = ("vt_outside", "vt_ppm")
 # A crate whose own proof takes more seconds than this has at most so many must-fail edits.
 LONG, FEW = 60, 2
+# Where the page has the table: from its head to the longest chain.
+PAGE, PLACE = f"{TOP}/docs/PROVING.md", re.compile(r"^\| crate \| proof .*?^The longest chain takes [^\n]*\n", re.DOTALL | re.MULTILINE)
 
 
 def processes():
@@ -225,9 +230,21 @@ def show(log, least=0.025):
     print(f"The longest chain takes {together:.0f} seconds by the clock: " + ", ".join(f"{crate} {took:.0f}" for crate, took in chain) + ".")
 
 
+def put_page(log):
+    with contextlib.redirect_stdout(io.StringIO()) as printed:
+        show(log)
+    with open(PAGE) as it:
+        text, count = PLACE.subn(lambda _: printed.getvalue(), it.read())
+    with open(PAGE, "w") as it:
+        it.write(text)
+    return 0 if count == 1 else 1
+
+
 def main(words):
     if len(words) == 2 and words[0] == "run":
         return run(words[1])
+    if len(words) == 2 and words[0] == "page":
+        return put_page(words[1])
     if len(words) in (2, 3) and words[0] == "table" and words[2:] in ([], ["all"]):
         show(words[1], 0 if words[2:] else 0.025)
         return 0
