@@ -22,8 +22,14 @@ CAUSED = re.compile(r"OnErr result \(.*splits_of pass\.old ≡ 0")
 
 def answer(text):
     """The type that a function answers and its clauses, by the text behind its name."""
-    depth = 0
-    for place in range(text.find("("), len(text)):
+    depth, place = 0, 0
+    if text.startswith("<"):
+        for found in re.finditer(r"->|=>|<|>", text):
+            depth += {"<": 1, ">": -1}.get(found.group(), 0)
+            if depth == 0:
+                place = found.end()
+                break
+    for place in range(text.index("(", place), len(text)):
         depth += {"(": 1, ")": -1}.get(text[place], 0)
         if depth == 0:
             break
