@@ -1,4 +1,4 @@
-//! The commands that words ask for, by which words they are asked for, and their statuses: those that do not wait, and those that may.
+//! Which command words ask for, and its run to a status: of the commands that do not wait, and of those that may.
 #![tactic(auto)]
 
 mod at_once;
