@@ -20,6 +20,7 @@ import os
 import re
 import subprocess
 import sys
+import textwrap
 import time
 
 from uses import TOP, crates
@@ -30,8 +31,8 @@ KINDS = ("proof", "again for edits", "edits", "tests")
 UNIT = ("vt_outside", "vt_ppm")
 # A crate whose own proof takes more seconds than this has at most so many must-fail edits.
 LONG, FEW = 60, 2
-# Where the page has the table: from its head to the longest chain.
-PAGE, PLACE = f"{TOP}/docs/PROVING.md", re.compile(r"^\| crate \| proof .*?^The longest chain takes [^\n]*\n", re.DOTALL | re.MULTILINE)
+# Where the page has the table: from its head to the end of the lines on the longest chain.
+PAGE, PLACE = f"{TOP}/docs/PROVING.md", re.compile(r"^\| crate \| proof .*?^The longest chain takes .*?\n(?=\n)", re.DOTALL | re.MULTILINE)
 
 
 def processes():
@@ -219,15 +220,16 @@ def show(log, least=0.025):
         say_row(f"{len(small)} others", sum_of([rows[crate] for crate in small]))
     say_row("all", whole)
     print()
-    print(f"The gate took {seconds / 60:.1f} minutes and {spent:.0f} processor seconds, those of what is run and linked among them, and {own:.0f} of rt's own process.")
+    say = lambda text: print(textwrap.fill(text, 150))
+    say(f"The gate took {seconds / 60:.1f} minutes and {spent:.0f} processor seconds, those of what is run and linked among them, and {own:.0f} of rt's own process.")
     unit = sum(rows[crate][0] for crate in UNIT if crate in rows)
     if unit:
-        print(f"That is {spent / unit:.1f} times the {unit:.0f} seconds of the proofs of {' and '.join(UNIT)}.")
+        say(f"That is {spent / unit:.1f} times the {unit:.0f} seconds of the proofs of {' and '.join(UNIT)}.")
     many = sorted(crate for crate, row in rows.items() if row[0] > LONG and row[4] > FEW)
     if many:
-        print(f"More than {FEW} edits, and a proof of more than {LONG} seconds: {', '.join(many)}.")
+        say(f"More than {FEW} edits, and a proof of more than {LONG} seconds: {', '.join(many)}.")
     together, chain = longest_chain(checks, crates())
-    print(f"The longest chain takes {together:.0f} seconds by the clock: " + ", ".join(f"{crate} {took:.0f}" for crate, took in chain) + ".")
+    say(f"The longest chain takes {together:.0f} seconds by the clock: " + ", ".join(f"{crate} {took:.0f}" for crate, took in chain) + ".")
 
 
 def put_page(log):
