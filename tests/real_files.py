@@ -24,8 +24,8 @@ from concurrent.futures import ProcessPoolExecutor
 import client
 from journals import Journal, replay
 from judge import FAULT, LINES, Doubt, Left, flaws_of_walk
-from real_rows import BLANKS, DEFAULTS, GENERATED, HEAD, JOURNALS, KEYS, LARGE_OTHERS, LARGE_PATH, LARGE_STORES, LONG_SIDES, NO_STORES, ODD, OPTIONS, OTHERS
-from real_rows import PATHS, PICTURES, REFUSALS, REFUSED_TEXTURES, STORE_FLAWS, STORES, TEXTURES, WALKS, bad_input
+from real_rows import BLANKS, DEFAULTS, GENERATED, HEAD, JOURNALS, KEYS, LARGE_OTHERS, LARGE_PATH, LARGE_STORES, LONG_SIDES, NO_STORES, ODD, OPTIONS
+from real_rows import OTHERS, PATHS, PICTURES, REFUSALS, REFUSED_TEXTURES, STORE_FLAWS, STORES, TEXTURES, WALKS, bad_input
 from reference import walk_words, write
 from rows import FOUR_STORE, wrong_rows
 from stores import Path, Store, contents

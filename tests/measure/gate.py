@@ -221,7 +221,10 @@ def show(log, least=0.025):
     say_row("all", whole)
     print()
     say = lambda text: print(textwrap.fill(text, 150))
-    say(f"The gate took {seconds / 60:.1f} minutes and {spent:.0f} processor seconds, those of what is run and linked among them, and {own:.0f} of rt's own process.")
+    say(
+        f"The gate took {seconds / 60:.1f} minutes and {spent:.0f} processor seconds, those of what is run and linked among them, "
+        f"and {own:.0f} of rt's own process."
+    )
     unit = sum(rows[crate][0] for crate in UNIT if crate in rows)
     if unit:
         say(f"That is {spent / unit:.1f} times the {unit:.0f} seconds of the proofs of {' and '.join(UNIT)}.")
