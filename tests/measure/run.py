@@ -1,5 +1,5 @@
 #!/usr/bin/env python3
-"""Measures the program's commands over growing inputs and prints the tables of docs/PERFORMANCE.md; by hand, on a machine that does nothing else.
+"""Measures the program's commands over growing inputs and prints the tables of docs/PERFORMANCE.md and history.md; by hand, on a machine that does nothing else.
 
 usage: run.py [PROGRAM] [--sweeps tile,walk-batch,..] [--rounds 5] [--most 8192] [--beside OTHER] [--words 'tile: --threads 1']..
        run.py [PROGRAM] --summary [--rounds 9] [--beside OTHER]
@@ -10,7 +10,7 @@ another program is run in turn with it on the same words, and with those that --
 as long the first one takes stand behind, and OTHER BYTES where both do not leave the same pictures or store. A program that answers another
 status than 0 has a dash. Textures have sides of up to --most. All files stand in memory, in /dev/shm where there is one. It wants gcc.
 
---summary prints the first two tables of the page: what each command costs over textures of two sides, and walks by several crews. There both
+--summary prints the first two tables of history.md: what each command costs over textures of two sides, and walks by several crews. There both
 programs choose their own numbers of threads for all that is no walk, and bytes are compared once, where a walk is settled.
 
 --foreign measures libraries of others in turn with both programs: settled walks beside OpenImageIO's ImageCache (image_cache.cpp, which wants g++,

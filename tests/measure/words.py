@@ -1,5 +1,5 @@
 #!/usr/bin/env python3
-"""What the calls on the shared words cost, beside the bare atomic operations in plain Rust: prints the table of docs/PERFORMANCE.md.
+"""What the calls on the shared words cost, beside the bare atomic operations in plain Rust: prints the table of history.md.
 
 usage: words.py [TESTS] [--rounds 9]
 
