@@ -1,27 +1,25 @@
 -- The samplers of a kit, one after another.
-use Rattle.std.proofs.Common.{◌≡◌, ◌≢◌, ℕ, ◌+◌, ◌%◌, ◌<◌, ◌≤◌, ⊎_elim, List, [], ◌∷◌, ◌++◌, length, get_or, take, Option, Some, None, refl, sym, ap, ◌∙◌, subst, arith}
-use Rattle.std.specs.Prelude.{slice_get, slice_index, slice_set, All, IfSome, IfNone, Contains}
-use Rattle.std.proofs.lemmas.Bool.{cases_eq}
-use Rattle.std.proofs.lemmas.List.{length-append, length-set, get_or-set_same, get_or-set_other, get_or_default, take_more}
-use Rattle.std.proofs.lemmas.List.Elements.{All-push, All-pop, Contains-append_left}
+use Rattle.std.proofs.Common.{◌≡◌, ℕ, ◌+◌, ◌%◌, ◌<◌, ◌≤◌, List, [], ◌∷◌, ◌++◌, length, get_or, take, Option, Some, None, refl, sym, ap, ◌∙◌, subst, arith}
+use Rattle.std.specs.Prelude.{slice_get, slice_index, All, IfSome, IfNone}
+use Rattle.std.proofs.lemmas.List.{length-append, take_more}
+use Rattle.std.proofs.lemmas.List.Elements.{All-push, All-pop}
 use Rattle.std.proofs.lemmas.List.FromFn.{map-range_with_len_more}
 use Rattle.std.proofs.lemmas.List.Sums.{sum_by_push, sum_by-take-le}
 use Rattle.std.proofs.lemmas.Nat.{mod_below}
-use Rattle.std.proofs.lemmas.Option.{none-some, slice_get_within, slice_get-get_or, get_or_from_slice_get}
+use Rattle.std.proofs.lemmas.Option.{none-some, slice_get-get_or}
 use Rattle.vt_swap.specs.Caches.{Cache}
 use Rattle.vt_outside.specs.Lists.{ListView}
 use Rattle.vt_pages.specs.Shape.{Shape}
 use Rattle.vt_pages.specs.Pages.{pages_of}
 use Rattle.vt_journal.specs.declared.changes.RowLine.{RowLine}
 use Rattle.vt_word_workers.specs.Samplers.{SamplerView, IsOwn, version_at}
-use Rattle.vt_machine.specs.All.{AllDid}
-use Rattle.vt_swap.specs.Readers.{ReaderView, WasEntered}
+use Rattle.vt_swap.specs.Readers.{ReaderView}
 use Rattle.vt_swap.specs.Making.{IsNewReader}
 use Rattle.vt_swap_workers.specs.declared.workers.SwapDrawer.{SwapDrawer}
 use Rattle.vt_word_workers.specs.Kits.{IsSamplerOf}
 use Rattle.vt_word_workers.proofs.Kits.{each_more}
 use Rattle.vt_swap_machine.specs.declared.draw_kit.DrawKit.{DrawKit}
-use Rattle.vt_swap_machine.specs.DrawKits.{AreDrawers, HasReader, HasSeen, Sees, IsIdleDraw, IsReadyDraw, version_by, line_of, lines_of, counted_together}
+use Rattle.vt_swap_machine.specs.DrawKits.{AreDrawers, HasReader, IsIdleDraw, IsReadyDraw, version_by, line_of, lines_of, counted_together}
 
 module _ (s : Shape) (d width height samplers : ℕ) where
   -- the samplers of the first numbers
@@ -75,109 +73,21 @@ pub readers_more : (cache : Cache) (tasks : List SwapDrawer) (v : SamplerView) (
 readers_more cache tasks v o old new all took = All-push (HasReader cache) tasks (record { sampler = v; reader = o }) all
     (record { reader = took.reader; has = took.is; of = took.of })
 
--- Readers that come to see a version, one after another.
--- the first n of some samplers have seen a version that is not before this one, and the others are as they were
-pub record AreSeeing (start n : ℕ) (before after : List SwapDrawer) : Type 0 where
-  pub number : length after ≡ length before
-  pub first : (k : ℕ) (d : SwapDrawer) → k < n → k < length before → Sees start (get_or before k d) (get_or after k d)
-  pub rest : (k : ℕ) (d : SwapDrawer) → n ≤ k → k < length before → get_or after k d ≡ get_or before k d
-
-pub seeing_none : (start : ℕ) (tasks : List SwapDrawer) → AreSeeing start 0 tasks tasks
-seeing_none start tasks = record {
-  number = refl;
-  first = λ k d none. absurd (omega (arith, none));
-  rest = λ k d low inside. refl;
-}
-
-pub seeing_more : (start n : ℕ) (before after : List SwapDrawer) (was now : SwapDrawer) → AreSeeing start n before after → n < length before
-    → was ≡ get_or after n was → Sees start was now → AreSeeing start (n + 1) before (slice_set after n now)
-seeing_more start n before after was now h inside is sees =
-    let number = h.number in
-    let low : n < length after = omega (arith, inside, number) in
-    record {
-      number = length-set after n now ∙ h.number;
-      first = λ k d below within. ⊎_elim
-          (λ (same : k ≡ n).
-          let here : get_or (slice_set after n now) k d ≡ now = ap (λ i. get_or (slice_set after n now) i d) same ∙ get_or-set_same after n now d low in
-          let old : get_or before k d ≡ was = sym (h.rest n d (omega arith) inside ∙ ap (λ i. get_or before i d) (sym same))
-          ∙ get_or_default after n d was low ∙ sym is in
-          subst (λ (z : SwapDrawer × SwapDrawer). Sees start z.0 z.1) (λ i. (sym old i, sym here i)) sees)
-          (λ (other : k ≢ n). subst (Sees start (get_or before k d)) (sym (get_or-set_other after n k now d other))
-          (h.first k d (omega (arith, below, other)) within))
-          (cases_eq k n);
-      rest = λ k d above within.
-          let other : k ≢ n = (λ same. absurd (omega (arith, same, above))) in
-          get_or-set_other after n k now d other ∙ h.rest k d (omega (arith, above)) within;
-    }
-
--- a sampler that is still to see has its reader
-pub still_has : (cache : Cache) (start n : ℕ) (before after : List SwapDrawer) (was : SwapDrawer) → AreSeeing start n before after → n < length before
-    → was ≡ get_or after n was → All (HasReader cache) before → HasReader cache was
-still_has cache start n before after was h inside is all =
-    subst (HasReader cache) (sym (is ∙ h.rest n was (omega arith) inside)) (all n was inside)
-
-pub all_seeing : (start : ℕ) (before after : List SwapDrawer) → AreSeeing start (length before) before after → AllDid (Sees start) before after
-all_seeing start before after h k d inside = h.first k d inside inside
-
--- a reader that entered a version, or a later one, has seen it
-pub reader_sees : (start : ℕ) (v : SamplerView) (r q : ReaderView) (was : SwapDrawer) → was.sampler ≡ v → was.reader ≡ Some r
-    → (version : ℕ) × (start ≤ version) × WasEntered r q version → Sees start was (record { sampler = v; reader = Some q })
-reader_sees start v r q was sampler had seen = record {
-  sampler = sym sampler;
-  seen = λ cache has.
-      let same : has.reader ≡ r = some_is has.reader r (sym has.has ∙ had) in
-      record {
-        reader = q;
-        has = refl;
-        of = seen.2.more.cache ∙ ap (λ (x : ReaderView). x.cache) (sym same) ∙ has.of;
-        version = seen.0;
-        entered = subst (λ (l : List ℕ). Contains l seen.0) (sym seen.2.more.entered)
-            (Contains-append_left (seen.0 ∷ seen.2.before) r.entered seen.0 (0, omega arith, refl));
-        late = seen.1;
-      };
-} where
-  some_is : (x y : ReaderView) → Some x ≡ Some y → x ≡ y
-  some_is x y e = cc e
-
-module _ (start : ℕ) (before after : List SwapDrawer) (number : length after ≡ length before) (sees : AllDid (Sees start) before after) where
-  -- samplers that came to see a version are the same samplers
-  pub still_drawers : (s : Shape) (d width height samplers : ℕ) → AreDrawers s d width height samplers before
-      → AreDrawers s d width height samplers after
-  still_drawers s d width height samplers are = record {
-    count = number ∙ are.count;
-    each = λ n task is.
-        let low : n < length before = (let w = slice_get_within after n task is in omega (arith, w, number)) in
-        let now : get_or after n task ≡ task = get_or_from_slice_get after n task task is in
-        let same : task.sampler ≡ (get_or before n task).sampler = ap (λ (x : SwapDrawer). x.sampler) (sym now) ∙ (sees n task low).sampler in
-        subst (IsSamplerOf s d width height samplers n) (sym same)
-        (are.each n (get_or before n task) (slice_get-get_or before n task low));
-  }
-
-  pub have_seen : (cache : Cache) → All (HasReader cache) before → All (HasSeen cache start) after
-  have_seen cache all k d inside =
-      let low : k < length before = omega (arith, inside, number) in
-      (sees k d low).seen cache (all k d low)
-
 -- a kit that was prepared
-pub ready_draw : (cache : Cache) (start : ℕ) (k : DrawKit) (lent ws : List SwapDrawer) (lines : ListView RowLine) → lent ≡ k.tasks.elements
-    → length ws ≡ length lent → AllDid (Sees start) lent ws → IsIdleDraw cache k → lines.elements ≡ [] → k.height ≤ lines.spare
-    → (l : DrawKit) → l ≡ record k { tasks = l.tasks; lines = lines } → l.tasks.elements ≡ ws → IsReadyDraw cache start l l.tasks.elements
-ready_draw cache start k lent ws lines lent_is number sees idle empty room l rest back =
-    let on : AllDid (Sees start) k.tasks.elements ws = subst (λ (x : List SwapDrawer). AllDid (Sees start) x ws) lent_is sees in
-    let many : length ws ≡ length k.tasks.elements = number ∙ ap length lent_is in
-    subst (λ (x : DrawKit). IsReadyDraw cache start x l.tasks.elements) (sym rest)
-    (subst (λ (x : List SwapDrawer). IsReadyDraw cache start (record k { tasks = l.tasks; lines = lines }) x) (sym back) (record {
-      kit = record {
-        some = idle.kit.some;
-        few = idle.kit.few;
-        depth = idle.kit.depth;
-        sides = idle.kit.sides;
-        samplers = still_drawers start k.tasks.elements ws many on k.geometry k.depth k.width k.height k.count idle.kit.samplers;
-        counts = idle.kit.counts;
-      };
-      readers = have_seen start k.tasks.elements ws many on cache idle.readers;
-      lines = record { no_lines = empty; room = room };
-    }))
+pub ready_draw : (cache : Cache) (k : DrawKit) (lines : ListView RowLine) → IsIdleDraw cache k → lines.elements ≡ [] → k.height ≤ lines.spare
+    → IsReadyDraw cache (record k { lines = lines }) k.tasks.elements
+ready_draw cache k lines idle empty room = record {
+  kit = record {
+    some = idle.kit.some;
+    few = idle.kit.few;
+    depth = idle.kit.depth;
+    sides = idle.kit.sides;
+    samplers = idle.kit.samplers;
+    counts = idle.kit.counts;
+  };
+  readers = idle.readers;
+  lines = record { no_lines = empty; room = room };
+}
 
 -- the line of one row more
 pub lines_more : (samplers : ℕ) (tasks : List SwapDrawer) (row : ℕ) → lines_of samplers tasks (row + 1) ≡ lines_of samplers tasks row

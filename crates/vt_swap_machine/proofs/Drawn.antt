@@ -1,7 +1,7 @@
 -- What the samplers of a pass over a page cache have drawn.
 use Rattle.std.proofs.Common.{◌≡◌, ℕ, ◌%◌, ◌^◌, ◌<◌, ◌≤◌, inl, inr, List, length, get_or, Some, sym, ap, ◌∙◌, subst, arith}
 use Rattle.std.specs.Prelude.{slice_get, slice_index, All, Contains}
-use Rattle.std.proofs.lemmas.List.Elements.{All-contains, Contains-append_left}
+use Rattle.std.proofs.lemmas.List.Elements.{Contains-append_left}
 use Rattle.std.proofs.lemmas.Nat.{mod_below}
 use Rattle.std.proofs.lemmas.Option.{same_Some, slice_get_within, slice_get-get_or, get_or_from_slice_get, slice_get_cases}
 use mathlib.Core.List.{IsPrefix}
@@ -25,21 +25,22 @@ use Rattle.vt_swap.proofs.Saying.{said_on}
 use Rattle.vt_swap.proofs.Entering.{known_on}
 use Rattle.vt_swap_workers.specs.declared.workers.SwapDrawer.{SwapDrawer}
 use Rattle.vt_swap_workers.specs.SwapTasks.{HasDrawn}
+use Rattle.vt_swap_workers.proofs.FromStart.{entered_from, entered_since}
 use Rattle.vt_word_workers.specs.Kits.{IsSamplerOf}
 use Rattle.vt_swap_machine.specs.declared.draw_kit.DrawKit.{DrawKit}
-use Rattle.vt_swap_machine.specs.DrawKits.{AreDrawers, HasReader, HasSeen, IsToldBy, row_by, version_by, counted_together}
+use Rattle.vt_swap_machine.specs.DrawKits.{AreDrawers, HasReader, IsToldBy, row_by, version_by, counted_together}
 use Rattle.vt_swap_machine.specs.SwapPasses.{WasDrawn, MayEndDraw, reader_by, IsEnteredRow}
 use Rattle.vt_swap_machine.proofs.RowLines.{row_version, counted_is_wanted}
 
 module _ {P : Type 0} (filter : FilterMeanings P) (k : DrawKit) (scene : Scene) (picture : ℕ) (cache : Cache) (start : ℕ) (e f : List SwapDrawer)
     (h : MayEndDraw filter k scene picture cache start e f) where
-  -- what a sampler was, that its reader had seen the start, and that it has drawn
+  -- what a sampler was, that it had its reader, and that it has drawn
   record HasWorked (number : ℕ) (task : SwapDrawer) : Type 0 where
     before : SwapDrawer
     there : slice_get e number ≡ Some before
     was : IsSamplerOf k.geometry k.depth k.width k.height k.count number before.sampler
-    seen : HasSeen cache start before
-    drawn : HasDrawn filter scene picture before task
+    reads : HasReader cache before
+    drawn : HasDrawn filter start scene picture before task
 
   worked : (m : ℕ) (task : SwapDrawer) → slice_get f m ≡ Some task → HasWorked m task
   worked m task is =
@@ -49,14 +50,15 @@ module _ {P : Type 0} (filter : FilterMeanings P) (k : DrawKit) (scene : Scene) 
         before = get_or e m task;
         there = there;
         was = h.ready.kit.samplers.each m (get_or e m task) there;
-        seen = h.ready.readers m task low;
-        drawn = subst (λ (x : SwapDrawer). HasDrawn filter scene picture (get_or e m task) x) (get_or_from_slice_get f m task task is)
+        reads = h.ready.readers m task low;
+        drawn = subst (λ (x : SwapDrawer). HasDrawn filter start scene picture (get_or e m task) x) (get_or_from_slice_get f m task task is)
             (h.drawn m task low);
       }
 
-  -- the reader that had seen the start is that with which it began to draw
-  same_reader : (m : ℕ) (task : SwapDrawer) (d : HasWorked m task) → d.drawn.before ≡ d.seen.reader
-  same_reader m task d = same_Some d.drawn.before d.seen.reader (sym d.drawn.had ∙ d.seen.has)
+  -- its reader afterwards is one of the same log
+  same_log : (m : ℕ) (task : SwapDrawer) (d : HasWorked m task) → d.drawn.reader.cache ≡ cache
+  same_log m task d = d.drawn.rows.entered.cache ∙ d.drawn.seen.entered.more.cache
+      ∙ ap (λ (r : ReaderView). r.cache) (same_Some d.drawn.before d.reads.reader (sym d.drawn.had ∙ d.reads.has)) ∙ d.reads.of
 
   -- each has its reader, which is of the same log
   pub has_reader : All (HasReader cache) f
@@ -65,7 +67,7 @@ module _ {P : Type 0} (filter : FilterMeanings P) (k : DrawKit) (scene : Scene) 
       record {
         reader = d.drawn.reader;
         has = d.drawn.has;
-        of = d.drawn.rows.entered.cache ∙ ap (λ (r : ReaderView). r.cache) (same_reader m (get_or f m task) d) ∙ d.seen.of;
+        of = same_log m (get_or f m task) d;
       }
 
   stays : (m : ℕ) (task : SwapDrawer) → slice_get f m ≡ Some task → IsSamplerOf k.geometry k.depth k.width k.height k.count m task.sampler
@@ -151,11 +153,7 @@ module _ {P : Type 0} (filter : FilterMeanings P) (k : DrawKit) (scene : Scene) 
   pub row_from : (y : ℕ) (r : HasRow y) → start ≤ version_at r.task.sampler y
   row_from y r =
       let d = worked (y % k.count) r.task r.there in
-      let was = d.drawn.entered y r.own in
-      let later = subst (λ (x : ReaderView). All (λ (u : ℕ). u ≤ version_at r.task.sampler y) x.entered) (same_reader (y % k.count) r.task d) was.later in
-      let up = All-contains (λ (u : ℕ). u ≤ version_at r.task.sampler y) d.seen.reader.entered d.seen.version later d.seen.entered in
-      let late = d.seen.late in
-      omega (arith, up, late)
+      entered_from start d.drawn.before d.drawn.first d.drawn.reader (version_at r.task.sampler y) d.drawn.seen (d.drawn.entered y r.own)
 
   -- its sampler entered its version since the pass began
   pub row_entered : (y : ℕ) (r : HasRow y)
@@ -166,7 +164,7 @@ module _ {P : Type 0} (filter : FilterMeanings P) (k : DrawKit) (scene : Scene) 
     had = ap reader_by d.there ∙ d.drawn.had;
     reader = d.drawn.reader;
     has = ap reader_by r.there ∙ d.drawn.has;
-    entered = d.drawn.entered y r.own;
+    entered = entered_since start d.drawn.before d.drawn.first d.drawn.reader (version_at r.task.sampler y) d.drawn.seen (d.drawn.entered y r.own);
     drawn = subst (λ (z : Shape × ℕ). AreShown filter.shown z.0 z.1 (version_at r.task.sampler y) (IsSaidBy d.drawn.reader.log)
         (shot_row z.0 scene.path picture y) scene.path.width (row_at r.task.sampler y)) (λ i. (h.shape i, h.depth i)) (d.drawn.drawn y r.own);
   }
@@ -203,6 +201,6 @@ module _ {P : Type 0} (filter : FilterMeanings P) (k : DrawKit) (scene : Scene) 
           dealt_to = r.there;
           reader = d.drawn.reader;
           has = d.drawn.has;
-          of = d.drawn.rows.entered.cache ∙ ap (λ (x : ReaderView). x.cache) (same_reader (y % k.count) r.task d) ∙ d.seen.of ∙ sym cache_is;
-          entered = subst (λ (l : List ℕ). Contains l u) (sym was.entered) (Contains-append_left was.more d.drawn.before.entered u was.among);
+          of = same_log (y % k.count) r.task d ∙ sym cache_is;
+          entered = subst (λ (l : List ℕ). Contains l u) (sym was.entered) (Contains-append_left was.more d.drawn.first.entered u was.among);
         }

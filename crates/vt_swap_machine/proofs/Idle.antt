@@ -120,13 +120,14 @@ module _ {F : Type 0} (g : FileMeanings F) where
       placed went_on refused still)
 
   -- a pass is prepared once the requests were put
-  pub ready_once : (slots : ListView FrameKey) (q : Queues) (t u : SwapFeeder) (k l m : StreamKitView F) (r s : DrawKit) (batch : List Planned)
-      → IsIdleSwap g slots t k r → t.streamer.broken ≡ false → IsBatchFor t.geometry (length slots.elements) (newest t.streamer.journal) batch
-      → length batch ≤ k.crew.batch → length t.streamer.journal ≤ last_start → u ≡ record t { answers = u.answers; report = u.report }
+  pub ready_once : (slots : ListView FrameKey) (q : Queues) (start : ℕ) (t u : SwapFeeder) (k l m : StreamKitView F) (r s : DrawKit)
+      (batch : List Planned) → IsIdleSwap g slots t k r → t.streamer.broken ≡ false
+      → IsBatchFor t.geometry (length slots.elements) (newest t.streamer.journal) batch → length batch ≤ k.crew.batch
+      → length t.streamer.journal ≤ last_start → start ≡ length t.streamer.journal → u ≡ record t { answers = u.answers; report = u.report }
       → IsSameStream g k l → m ≡ record l { round = m.round } → IsAskedStream g q u.answers u.report m batch
-      → IsReadyDraw t.streamer.cache (length t.streamer.journal) s s.tasks.elements → s ≡ record r { tasks = s.tasks; lines = s.lines }
-      → IsReadySwap g slots q u m s batch
-  ready_once slots q t u k l m r s batch idle on lawful few early own same rest asked draw drawers =
+      → IsReadyDraw t.streamer.cache s s.tasks.elements → s ≡ record r { lines = s.lines }
+      → IsReadySwap g slots q start u m s batch
+  ready_once slots q start t u k l m r s batch idle on lawful few early start_is own same rest asked draw drawers =
       let shape : m.shape ≡ k.shape = ap (λ (x : StreamKitView F). x.shape) rest ∙ same.shape in
       let depth : m.depth ≡ k.depth = ap (λ (x : StreamKitView F). x.depth) rest ∙ same.depth in
       let crew : m.crew ≡ k.crew = ap (λ (x : StreamKitView F). x.crew) rest ∙ same.crew in
@@ -148,7 +149,8 @@ module _ {F : Type 0} (g : FileMeanings F) where
         lawful = subst (λ (x : SwapFeeder). IsBatchFor x.geometry (length slots.elements) (newest x.streamer.journal) batch) (sym own) lawful;
         early = (let n = ap (λ (x : SwapFeeder). length x.streamer.journal) own in let most = idle.kit.crew.few_entries in
             omega (arith, n, early, few, most));
-        draw = subst (λ (x : SwapFeeder). IsReadyDraw x.streamer.cache (length x.streamer.journal) s s.tasks.elements) (sym own) draw;
+        start_is = start_is ∙ ap (λ (x : SwapFeeder). length x.streamer.journal) (sym own);
+        draw = subst (λ (x : SwapFeeder). IsReadyDraw x.streamer.cache s s.tasks.elements) (sym own) draw;
         agree = record {
           shape = ap (λ (x : DrawKit). x.geometry) drawers ∙ idle.agree.shape ∙ sym shape;
           depth = ap (λ (x : DrawKit). x.depth) drawers ∙ idle.agree.depth ∙ sym depth;
@@ -158,10 +160,10 @@ module _ {F : Type 0} (g : FileMeanings F) where
 
   -- samplers that are moved out of a prepared machine may draw
   pub may_draw : (job : Job) (m : SwapView F) (t : SwapFeeder) (tasks : List SwapDrawer) → m.feeder ≡ Some t
-      → IsReadyBy g m.slots m.queues m.feeder m.streams m.drawers job.batch → IsJobFor (swap_state g m).setup job
+      → IsReadyBy g m.slots m.queues m.start m.feeder m.streams m.drawers job.batch → IsJobFor (swap_state g m).setup job
       → tasks ≡ m.drawers.tasks.elements → AllReady (MayDraw m.slots.elements job.scene job.picture) tasks
   may_draw job m t tasks there is_ready job_is same =
-      let ready = subst (λ (x : Option SwapFeeder). IsReadyBy g m.slots m.queues x m.streams m.drawers job.batch) there is_ready in
+      let ready = subst (λ (x : Option SwapFeeder). IsReadyBy g m.slots m.queues m.start x m.streams m.drawers job.batch) there is_ready in
       subst (AllReady (MayDraw m.slots.elements job.scene job.picture)) (sym same) (λ n d inside.
       let task : SwapDrawer = get_or m.drawers.tasks.elements n d in
       let its = ready.draw.kit.samplers.each n task (slice_get-get_or m.drawers.tasks.elements n d inside) in
@@ -180,10 +182,10 @@ module _ {F : Type 0} (g : FileMeanings F) where
       })
 
   -- and so may the streamer stream
-  pub may_stream : (slots : ListView FrameKey) (q : Queues) (t u : SwapFeeder) (k : StreamKitView F) (r : DrawKit) (batch : List Planned)
-      → IsReadySwap g slots q t k r batch → u ≡ record t { answers = u.answers } → IsOf q.results u.answers
+  pub may_stream : (slots : ListView FrameKey) (q : Queues) (start : ℕ) (t u : SwapFeeder) (k : StreamKitView F) (r : DrawKit) (batch : List Planned)
+      → IsReadySwap g slots q start t k r batch → u ≡ record t { answers = u.answers } → IsOf q.results u.answers
       → MayStream slots.elements q batch u
-  may_stream slots q t u k r batch ready own of = subst (λ (x : SwapFeeder). MayStream slots.elements q batch x) (sym own) (record {
+  may_stream slots q start t u k r batch ready own of = subst (λ (x : SwapFeeder). MayStream slots.elements q batch x) (sym own) (record {
     slots_are = ready.fit.slots_are;
     few_frames = ready.fit.few_frames;
     depth_is = subst IsDepth (sym ready.fit.depth) ready.asked.kit.depth;

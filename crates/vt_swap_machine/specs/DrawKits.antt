@@ -1,5 +1,5 @@
 -- What the samplers of a pass over a page cache are done with, and what holds of it.
-use Rattle.std.specs.Prelude.{◌≡◌, ℕ, ◌%◌, ◌≤◌, Option, None, Some, List, [], length, map, slice_get, slice_index, sum_by, All, Contains}
+use Rattle.std.specs.Prelude.{◌≡◌, ℕ, ◌%◌, ◌≤◌, Option, None, Some, List, [], length, map, slice_get, slice_index, sum_by, All}
 use Rattle.std.specs.List.{range_with_len}
 use mathlib.Core.List.{IsPrefix}
 use Rattle.vt_swap.specs.Caches.{Cache}
@@ -57,20 +57,6 @@ pub record HasReader (cache : Cache) (a : SwapDrawer) : Type 0 where
   pub has : a.reader ≡ Some reader
   pub of : reader.cache ≡ cache
 
--- and the reader has entered a version that is not before this one
-pub record HasSeen (cache : Cache) (start : ℕ) (a : SwapDrawer) : Type 0 where
-  pub reader : ReaderView
-  pub has : a.reader ≡ Some reader
-  pub of : reader.cache ≡ cache
-  pub version : ℕ
-  pub entered : Contains reader.entered version
-  pub late : start ≤ version
-
--- a reader came to see such a version, and the sampler is as it was
-pub record Sees (start : ℕ) (a b : SwapDrawer) : Type 0 where
-  pub sampler : b.sampler ≡ a.sampler
-  pub seen : (cache : Cache) → HasReader cache a → HasSeen cache start b
-
 -- what the reader of a sampler has seen of a log is a beginning of this
 pub record IsToldBy (log : List LogRecord) (a : SwapDrawer) : Type 0 where
   pub reader : ReaderView
@@ -96,8 +82,8 @@ pub record HasLineRoom (k : DrawKit) : Type 0 where
   pub no_lines : k.lines.elements ≡ []
   pub room : k.height ≤ k.lines.spare
 
--- a pass is prepared that starts at a version: none of its rows can be drawn in an earlier one
-pub record IsReadyDraw (cache : Cache) (start : ℕ) (k : DrawKit) (tasks : List SwapDrawer) : Type 0 where
+-- a pass is prepared
+pub record IsReadyDraw (cache : Cache) (k : DrawKit) (tasks : List SwapDrawer) : Type 0 where
   pub kit : IsDrawKit k tasks
-  pub readers : All (HasSeen cache start) tasks
+  pub readers : All (HasReader cache) tasks
   pub lines : HasLineRoom k

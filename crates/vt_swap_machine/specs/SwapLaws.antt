@@ -1,5 +1,5 @@
 -- What the workers of the machine over a page cache did is a pass, once they are moved back.
-use Rattle.std.specs.Prelude.{◌≡◌, Option, List, length, reverse, Result, Ok, Err, OnErr, IfOk}
+use Rattle.std.specs.Prelude.{◌≡◌, ℕ, Option, List, length, reverse, Result, Ok, Err, OnErr, IfOk}
 use Rattle.std.proofs.Common.{subst, sym, ap, ◌∙◌}
 use Rattle.vt_outside.specs.Lists.{ListView}
 use Rattle.vt_outside.specs.declared.outside.File.{Ghosts as FileMeanings}
@@ -32,9 +32,9 @@ may_refuse (Ok report) = tt
 may_refuse (Err refusal) = tt
 
 -- the loaders were moved out of a kit whose streamer is there
-module _ {F : Type 0} (g : FileMeanings F) (slots : ListView FrameKey) (q : Queues) (was b : SwapFeeder) (k l : StreamKitView F) (r : DrawKit) (job : Job)
-    (a : List (QueuedView F)) (out : AreLoadersOut g q k l was.answers b.answers a) (feeder_is : b ≡ record was { answers = b.answers })
-    (ready : IsReadySwap g slots q was k r job.batch) where
+module _ {F : Type 0} (g : FileMeanings F) (slots : ListView FrameKey) (q : Queues) (start : ℕ) (was b : SwapFeeder) (k l : StreamKitView F)
+    (r : DrawKit) (job : Job) (a : List (QueuedView F)) (out : AreLoadersOut g q k l was.answers b.answers a)
+    (feeder_is : b ≡ record was { answers = b.answers }) (ready : IsReadySwap g slots q start was k r job.batch) where
   -- the streamer fits the kit before the loaders were made of its stores
   pub fit_back : IsFitFeeder g slots b (stream_before l (stream_begun g was.answers b.answers k a))
   unfolding stream_begun round
@@ -50,15 +50,15 @@ module _ {F : Type 0} (g : FileMeanings F) (slots : ListView FrameKey) (q : Queu
       }))
 
 -- the samplers were moved out of a kit
-module _ {F P : Type 0} (g : FileMeanings F) (filter : FilterMeanings P) (slots : ListView FrameKey) (q : Queues) (was b : SwapFeeder)
+module _ {F P : Type 0} (g : FileMeanings F) (filter : FilterMeanings P) (slots : ListView FrameKey) (q : Queues) (start : ℕ) (was b : SwapFeeder)
     (k : StreamKitView F) (r s : DrawKit) (job : Job) (e f : List SwapDrawer) (feeder_is : b ≡ record was { answers = b.answers })
-    (ready : IsReadySwap g slots q was k r job.batch) (job_is : IsJobFor (swap_setup g slots k r) job)
+    (ready : IsReadySwap g slots q start was k r job.batch) (job_is : IsJobFor (swap_setup g slots k r) job)
     (tasks_are : e ≡ r.tasks.elements) (drawers_are : s ≡ record r { tasks = s.tasks }) (number : length f ≡ length e)
-    (did_draw : AllDid (HasDrawn filter job.scene job.picture) e f) where
+    (did_draw : AllDid (HasDrawn filter start job.scene job.picture) e f) where
   pub draw_back : MayEndDraw filter s job.scene job.picture b.streamer.cache (length b.streamer.journal) e f
   draw_back = subst (λ (x : DrawKit × SwapFeeder). MayEndDraw filter x.0 job.scene job.picture x.1.streamer.cache (length x.1.streamer.journal) e f)
       (λ i. (sym drawers_are i, sym feeder_is i)) (record {
-        ready = subst (λ (x : List SwapDrawer). IsReadyDraw was.streamer.cache (length was.streamer.journal) (record r { tasks = s.tasks }) x)
+        ready = subst (λ (x : List SwapDrawer). IsReadyDraw was.streamer.cache (record r { tasks = s.tasks }) x)
             (sym tasks_are) (record {
               kit = record {
                 some = ready.draw.kit.some;
@@ -76,19 +76,22 @@ module _ {F P : Type 0} (g : FileMeanings F) (filter : FilterMeanings P) (slots 
         width = job_is.width;
         height = job_is.height;
         number = number;
-        drawn = did_draw;
+        drawn = subst (λ (n : ℕ). AllDid (HasDrawn filter n job.scene job.picture) e f) ready.start_is did_draw;
       })
 
 module _ {F P : Type 0} (g : FileMeanings F) (filter : FilterMeanings P) (job : Job) (m n : SwapView F) (a c : List (QueuedView F))
-    (e f : List SwapDrawer) (b d : SwapFeeder) (ready : IsReadyBy g m.slots m.queues m.feeder m.streams m.drawers job.batch)
+    (e f : List SwapDrawer) (b d : SwapFeeder) (ready : IsReadyBy g m.slots m.queues m.start m.feeder m.streams m.drawers job.batch)
     (job_is : IsJobFor (swap_state g m).setup job) (detached : AreOut g m n a e b) (number : length c ≡ length a) (number_f : length f ≡ length e)
-    (did_load : AllDid (HasLoaded g n.queues) a c) (did_draw : AllDid (HasDrawn filter job.scene job.picture) e f)
+    (did_load : AllDid (HasLoaded g n.queues) a c) (did_draw : AllDid (HasDrawn filter n.start job.scene job.picture) e f)
     (did_stream : HasFed n.queues job.batch b d) where
-  was_ready : IsReadySwap g m.slots m.queues detached.was m.streams m.drawers job.batch
-  was_ready = subst (λ (x : Option SwapFeeder). IsReadyBy g m.slots m.queues x m.streams m.drawers job.batch) detached.there ready
+  was_ready : IsReadySwap g m.slots m.queues m.start detached.was m.streams m.drawers job.batch
+  was_ready = subst (λ (x : Option SwapFeeder). IsReadyBy g m.slots m.queues m.start x m.streams m.drawers job.batch) detached.there ready
 
   has_loaded : AllDid (HasLoaded g m.queues) a c
   has_loaded = subst (λ (x : Queues). AllDid (HasLoaded g x) a c) detached.queues did_load
+
+  have_drawn : AllDid (HasDrawn filter m.start job.scene job.picture) e f
+  have_drawn = subst (λ (x : ℕ). AllDid (HasDrawn filter x job.scene job.picture) e f) detached.start did_draw
 
   has_fed : HasFed m.queues job.batch b d
   has_fed = subst (λ (x : Queues). HasFed x job.batch b d) detached.queues did_stream
@@ -109,12 +112,12 @@ module _ {F P : Type 0} (g : FileMeanings F) (filter : FilterMeanings P) (job : 
         gone = detached.gone;
         stream = stream_back g m.queues detached.was.answers b.answers d.answers m.streams n.streams job.batch detached.was.report d.report a c
             detached.loaders_out was_ready.asked number has_loaded has_fed.took has_fed.all has_fed.losses has_fed.answers;
-        fit = fit_back g m.slots m.queues detached.was b m.streams n.streams m.drawers job a detached.loaders_out detached.feeder_is was_ready;
+        fit = fit_back g m.slots m.queues m.start detached.was b m.streams n.streams m.drawers job a detached.loaders_out detached.feeder_is was_ready;
         goes_on = ap (λ (x : SwapFeeder). x.streamer.broken) detached.feeder_is ∙ was_ready.goes_on;
         no_events = ap (λ (x : SwapFeeder). x.report.events.elements) detached.feeder_is ∙ was_ready.asked.no_events;
         fed = has_fed;
-        draw = draw_back g filter m.slots m.queues detached.was b m.streams m.drawers n.drawers job e f detached.feeder_is was_ready job_is
-            detached.tasks_are detached.drawers number_f did_draw;
+        draw = draw_back g filter m.slots m.queues m.start detached.was b m.streams m.drawers n.drawers job e f detached.feeder_is was_ready job_is
+            detached.tasks_are detached.drawers number_f have_drawn;
         agree = record {
           shape = ap (λ (x : DrawKit). x.geometry) detached.drawers ∙ was_ready.agree.shape
               ∙ sym (ap (λ (x : StreamKitView F). x.shape) detached.loaders_out.rest);

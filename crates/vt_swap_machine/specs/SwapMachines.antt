@@ -29,10 +29,12 @@ use Rattle.vt_swap_machine.specs.declared.draw_kit.DrawKit.{DrawKit}
 use Rattle.vt_swap_machine.specs.DrawKits.{IsIdleDraw, IsReadyDraw, drawn_rows}
 use Rattle.vt_swap_machine.specs.SwapPasses.{WasDrawn, MayEndDraw, entered_by}
 
--- a machine: the slots of its frames, its queues, its streamer, which is out while a pass is run, and what loading and drawing are done with
+-- a machine: the slots of its frames, its queues, the version at which its last pass started, its streamer, which is out while a pass is run, and
+-- what loading and drawing are done with
 pub record SwapView (F : Type 0) : Type 0 where
   pub slots : ListView FrameKey
   pub queues : Queues
+  pub start : ℕ
   pub feeder : Option SwapFeeder
   pub streams : StreamKitView F
   pub drawers : DrawKit
@@ -91,15 +93,16 @@ pub record IsIdleSwap {F : Type 0} (g : FileMeanings F) (slots : ListView FrameK
   pub draw : IsIdleDraw t.streamer.cache r
   pub agree : Agree k r
 
--- a pass is prepared for a batch, which is lawful for the newest version
-pub record IsReadySwap {F : Type 0} (g : FileMeanings F) (slots : ListView FrameKey) (q : Queues) (t : SwapFeeder) (k : StreamKitView F) (r : DrawKit)
-    (batch : List Planned) : Type 0 where
+-- a pass is prepared for a batch, which is lawful for the newest version, at which the pass starts
+pub record IsReadySwap {F : Type 0} (g : FileMeanings F) (slots : ListView FrameKey) (q : Queues) (start : ℕ) (t : SwapFeeder) (k : StreamKitView F)
+    (r : DrawKit) (batch : List Planned) : Type 0 where
   pub fit : IsFitFeeder g slots t k
   pub goes_on : t.streamer.broken ≡ false
   pub asked : IsAskedStream g q t.answers t.report k batch
   pub lawful : IsBatchFor t.geometry (length slots.elements) (newest t.streamer.journal) batch
   pub early : length t.streamer.journal + 2 * length batch ≤ most_versions
-  pub draw : IsReadyDraw t.streamer.cache (length t.streamer.journal) r r.tasks.elements
+  pub start_is : start ≡ length t.streamer.journal
+  pub draw : IsReadyDraw t.streamer.cache r r.tasks.elements
   pub agree : Agree k r
 
 -- so with a streamer that may be out
@@ -107,9 +110,10 @@ abbrev pub IsIdleBy : {F : Type 0} → FileMeanings F → ListView FrameKey → 
 IsIdleBy g slots None k r = ⊥
 IsIdleBy g slots (Some t) k r = IsIdleSwap g slots t k r
 
-abbrev pub IsReadyBy : {F : Type 0} → FileMeanings F → ListView FrameKey → Queues → Option SwapFeeder → StreamKitView F → DrawKit → List Planned → Type 0
-IsReadyBy g slots q None k r batch = ⊥
-IsReadyBy g slots q (Some t) k r batch = IsReadySwap g slots q t k r batch
+abbrev pub IsReadyBy : {F : Type 0} → FileMeanings F → ListView FrameKey → Queues → ℕ → Option SwapFeeder → StreamKitView F → DrawKit → List Planned
+    → Type 0
+IsReadyBy g slots q start None k r batch = ⊥
+IsReadyBy g slots q start (Some t) k r batch = IsReadySwap g slots q start t k r batch
 
 -- what samplers have drawn up to now by the log of a streamer
 abbrev pub drawn_by : {P : Type 0} → FilterMeanings P → DrawKit → Option SwapFeeder → PathView → ℕ → ℕ → ℕ → List ℕ → Type 0
@@ -121,6 +125,7 @@ pub record AreOut {F : Type 0} (g : FileMeanings F) (m n : SwapView F) (loaders 
     : Type 0 where
   pub slots : n.slots ≡ m.slots
   pub queues : n.queues ≡ m.queues
+  pub start : n.start ≡ m.start
   pub gone : n.feeder ≡ None
   pub was : SwapFeeder
   pub there : m.feeder ≡ Some was

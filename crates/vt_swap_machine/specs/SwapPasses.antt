@@ -60,16 +60,16 @@ pub record IsIntact (t : SwapFeeder) : Type 0 where
   pub lawful : IsLawful t.streamer.log
   pub journal : changes_in t.streamer.log ≡ t.streamer.journal
 
--- samplers have drawn a picture of a scene, whose readers saw a version that is not before the start of the pass
+-- samplers have drawn a picture of a scene in a pass that starts at a version, which the reader of each saw first
 pub record MayEndDraw {P : Type 0} (filter : FilterMeanings P) (k : DrawKit) (scene : Scene) (picture : ℕ) (cache : Cache) (start : ℕ)
     (before after : List SwapDrawer) : Type 0 where
-  pub ready : IsReadyDraw cache start k before
+  pub ready : IsReadyDraw cache k before
   pub shape : scene.shape ≡ k.geometry
   pub depth : scene.depth ≡ k.depth
   pub width : scene.path.width ≡ k.width
   pub height : scene.path.height ≡ k.height
   pub number : length after ≡ length before
-  pub drawn : AllDid (HasDrawn filter scene picture) before after
+  pub drawn : AllDid (HasDrawn filter start scene picture) before after
 
 -- the samplers were moved back, and it was told by whom each row was drawn
 pub record HasTold (k l : DrawKit) (tasks : List SwapDrawer) (t : SwapFeeder) (lines : List RowLine) : Type 0 where

@@ -10,11 +10,9 @@ ghost use Rattle.vt_swap.specs.Making.{IsNewReader};
 ghost use Rattle.vt_swap_machine.specs.DrawKits.{AreDrawers, HasReader, IsDrawKit, IsIdleDraw, IsReadyDraw, HasLineRoom, drawn_row, drawn_rows, counted_together};
 ghost use Rattle.vt_swap_machine.specs.SwapPasses.{HasTold};
 
-use crate::seen::see_all;
 use crate::told::{count_together, is_told, note_lines};
 use std::alloc::Global;
 use std::mem;
-use std::sync::Wait;
 use vt_camera::Path;
 use vt_definitions::texel_length;
 use vt_feedback::Counts;
@@ -106,15 +104,13 @@ impl DrawKit {
         })
     }
 
-    /// Makes room for what a pass tells, and lets each reader see a version from this one on. It may wait.
-    pub(crate) fn prepare<R: Wait>(&mut self, rt: &R, start: u64) -> Result<(), NoMemory>
-        requires { (cache : Cache) × IsIdleDraw cache self.old }
+    /// Makes room for what a pass tells.
+    pub(crate) fn prepare(&mut self) -> Result<(), NoMemory>
         ensures ready { OnOk result ((cache : Cache) → IsIdleDraw cache self.old
-            → IsReadyDraw cache start self.new self.new.tasks.elements) }
-        ensures rest { self.new ≡ record self.old { tasks = self.new.tasks; lines = self.new.lines } }
+            → IsReadyDraw cache self.new self.new.tasks.elements) }
+        ensures rest { self.new ≡ record self.old { lines = self.new.lines } }
     {
         self.lines = with_room(self.alloc, u64::from(self.height))?;
-        see_all(rt, self.tasks.slice_mut(), start);
         Ok(())
     }
 

@@ -5,7 +5,6 @@
 mod draw_kit;
 mod machine;
 mod passes;
-mod seen;
 mod told;
 
 pub use draw_kit::DrawKit;

@@ -53,6 +53,7 @@ impl<F: File, P: Filter> Model for SwappedMachine<F, P> {
     ghost view = { λ m. record {
       slots = m.shared.slots;
       queues = m.shared.queues;
+      start = m.shared.start;
       feeder = m.feeder;
       streams = m.streams;
       drawers = m.drawers;
@@ -88,7 +89,7 @@ impl<F: File + Send, P: Filter + Sync> PassMachine for SwappedMachine<F, P> {
 
     ghost is_idle = { λ m. IsIdleBy F.File m.slots m.feeder m.streams m.drawers };
 
-    ghost is_ready = { λ m batch. IsReadyBy F.File m.slots m.queues m.feeder m.streams m.drawers batch };
+    ghost is_ready = { λ m batch. IsReadyBy F.File m.slots m.queues m.start m.feeder m.streams m.drawers batch };
 
     ghost drawn = { λ m. drawn_by P.Filter m.drawers m.feeder };
 
@@ -96,7 +97,7 @@ impl<F: File + Send, P: Filter + Sync> PassMachine for SwappedMachine<F, P> {
 
     ghost held = { λ m p job lines. entered_by P.Filter m.drawers.tasks.elements p.drawers job lines };
 
-    ghost lent = { λ m. record { slots = m.slots; queues = m.queues; filter = record {} } };
+    ghost lent = { λ m. record { slots = m.slots; queues = m.queues; filter = record {}; start = m.start } };
 
     ghost detached = { λ m job n loaders samplers streamer. AreOut F.File m n loaders samplers streamer };
 
@@ -142,6 +143,7 @@ impl<F: File + Send, P: Filter + Sync> PassMachine for SwappedMachine<F, P> {
                 slots,
                 queues,
                 filter: PhantomData,
+                start: 0,
             },
             feeder: Some(feeder),
             streams,

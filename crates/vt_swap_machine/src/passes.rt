@@ -115,7 +115,8 @@ pub(crate) fn place_page<R: Wait>(
         .map(rt, slots, page, frame, tile, own.depth, side * side)
 }
 
-/// Makes room for a pass that streams a batch, lets the readers see the newest version, and puts the requests into new queues. It may wait.
+/// Makes room for a pass that streams a batch and starts at the newest version, and puts the requests into new queues, which have room for
+/// them. So it waits for nobody.
 pub(crate) fn prepare_pass<Rt: Threads + Wait, F: File, P: Filter>(
     rt: &Rt,
     shared: &mut SwapShared<P>,
@@ -128,7 +129,8 @@ pub(crate) fn prepare_pass<Rt: Threads + Wait, F: File, P: Filter>(
     requires lawful { IsBatchFor own.old.geometry (length shared.old.slots.elements) (newest own.old.streamer.journal) batch.now.elements }
     requires few { length batch.now.elements ≤ streams.old.crew.batch }
     requires early { length own.old.streamer.journal ≤ last_start }
-    ensures ready { OnOk result (IsReadySwap F.File shared.new.slots shared.new.queues own.new streams.new drawers.new batch.now.elements) }
+    ensures ready { OnOk result
+        (IsReadySwap F.File shared.new.slots shared.new.queues shared.new.start own.new streams.new drawers.new batch.now.elements) }
     ensures slots { shared.new.slots ≡ shared.old.slots }
     ensures streamer { own.new.streamer ≡ own.old.streamer }
     ensures streams { IsSameStream F.File streams.old streams.new }
@@ -138,7 +140,8 @@ pub(crate) fn prepare_pass<Rt: Threads + Wait, F: File, P: Filter>(
         return Err(NoMemory);
     }
     streams.prepare(&mut shared.queues, &mut own.answers, &mut own.report, batch)?;
-    drawers.prepare(rt, own.streamer.journal().version())?;
+    drawers.prepare()?;
+    shared.start = own.streamer.journal().version();
     streams.ask(rt, &shared.queues, batch);
     Ok(())
 }

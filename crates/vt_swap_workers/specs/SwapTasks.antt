@@ -18,7 +18,7 @@ use Rattle.vt_swap_streaming.specs.Reports.{IsBlank}
 use Rattle.vt_swap.specs.LogTypes.frame.FrameKey.{FrameKey}
 use Rattle.vt_swap.specs.Slots.{AreSlotsOf}
 use Rattle.vt_swap.specs.Notes.{IsSaidBy}
-use Rattle.vt_swap.specs.Readers.{ReaderView}
+use Rattle.vt_swap.specs.Readers.{ReaderView, WasEntered}
 use Rattle.vt_swap_sampler.specs.Entered.{WasEnteredBetween, HasEnteredRows}
 use Rattle.vt_swap_streaming.specs.Brought.{HasStreamed}
 use Rattle.vt_swap_workers.specs.declared.workers.SwapDrawer.{SwapDrawer}
@@ -32,21 +32,30 @@ pub record MayDraw (slots : List FrameKey) (scene : Scene) (picture : ℕ) (a : 
   pub has : a.reader ≡ Some reader
   pub slots_are : AreSlotsOf reader.cache slots
 
--- a sampler has drawn its rows of a picture of a scene by a filter, by what its reader saw of the log, each at a version that the reader entered
--- for it; these never fall from row to row; and it has counted the texels that the rows want
-pub record HasDrawn {P : Type 0} (filter : FilterMeanings P) (scene : Scene) (picture : ℕ) (a b : SwapDrawer) : Type 0 where
+-- a reader has seen a version: it entered this one or a later one, the last of all
+pub record HasSeen (start : ℕ) (r q : ReaderView) : Type 0 where
+  pub version : ℕ
+  pub late : start ≤ version
+  pub entered : WasEntered r q version
+
+-- a sampler has drawn its rows of a picture of a scene by a filter, by what its reader saw of the log: first the reader saw the version at which the
+-- pass starts; then it entered a version for each row, at which the row was drawn; these never fall from row to row; and the sampler has counted the
+-- texels that the rows want
+pub record HasDrawn {P : Type 0} (filter : FilterMeanings P) (start : ℕ) (scene : Scene) (picture : ℕ) (a b : SwapDrawer) : Type 0 where
   pub number : b.sampler.sampler ≡ a.sampler.sampler
   pub among : b.sampler.samplers ≡ a.sampler.samplers
   pub for_it : IsFor b.sampler scene.shape scene.path scene.depth
   pub before : ReaderView
   pub had : a.reader ≡ Some before
+  pub first : ReaderView
+  pub seen : HasSeen start before first
   pub reader : ReaderView
   pub has : b.reader ≡ Some reader
-  pub rows : HasEnteredRows before reader (reverse b.sampler.versions)
+  pub rows : HasEnteredRows first reader (reverse b.sampler.versions)
   pub drawn : (y : ℕ) → IsOwn b.sampler y → AreShown filter.shown scene.shape scene.depth (version_at b.sampler y) (IsSaidBy reader.log)
       (shot_row scene.shape scene.path picture y) scene.path.width (row_at b.sampler y)
   pub full : (y : ℕ) → IsOwn b.sampler y → length (row_at b.sampler y) ≡ row_length scene.depth scene.path.width
-  pub entered : (y : ℕ) → IsOwn b.sampler y → WasEnteredBetween before reader (version_at b.sampler y)
+  pub entered : (y : ℕ) → IsOwn b.sampler y → WasEnteredBetween first reader (version_at b.sampler y)
   pub rising : (y z : ℕ) → IsOwn b.sampler y → IsOwn b.sampler z → y ≤ z → version_at b.sampler y ≤ version_at b.sampler z
   pub counted : (p : ℕ) → p < length b.sampler.counts
       → slice_index b.sampler.counts p ≡ wants_in_rows filter.wants scene.shape scene.path picture

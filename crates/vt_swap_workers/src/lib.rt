@@ -1,6 +1,7 @@
 //! The workers of a pass over a page cache with a swapped table: samplers, loaders and the streamer.
 #![tactic(auto)]
 
+mod seen;
 mod shared;
 mod tasks;
 mod workers;

@@ -20,6 +20,8 @@ pub struct SwapShared<P: Filter> {
     pub queues: Queues,
     /// The filter by which the samplers draw.
     pub filter: PhantomData<P>,
+    /// The version at which the pass starts. Each sampler sees it before its first row.
+    pub start: u64,
 }
 
 impl<F: File, P: Filter + Sync> Task<SwapShared<P>> for QueuedLoader<F> {

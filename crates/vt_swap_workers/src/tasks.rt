@@ -3,6 +3,7 @@
 ghost use Rattle.vt_pictures.specs.Scenes.{scene_of};
 ghost use Rattle.vt_swap_workers.specs.SwapTasks.{MayDraw, HasDrawn, MayStream, HasFed};
 
+use crate::seen::see;
 use crate::shared::SwapShared;
 use crate::workers::{SwapDrawer, SwapFeeder};
 use std::mem;
@@ -17,24 +18,27 @@ use vt_swap::Slot;
 use vt_swap_streaming::stream_swapped;
 use vt_workers::Task;
 
-// Lets a sampler draw its rows by a filter with its reader, which it has back afterwards.
+// Lets a sampler see the version at which the pass starts, and then draw its rows by a filter with its reader, which it has back
+// afterwards.
 fn draw_own<P: Filter, G: Gate, Rt: Wait>(
     rt: &Rt,
     task: &mut SwapDrawer,
     shot: &Shot<'_>,
     slots: &[Slot],
+    start: u64,
     gate: &G,
 )
     requires { MayDraw slots.now (scene_of shot.now.geometry.now shot.now.depth shot.now.path.now) shot.now.picture task.old }
-    ensures { HasDrawn P.Filter (scene_of shot.now.geometry.now shot.now.depth shot.now.path.now) shot.now.picture
+    ensures { HasDrawn P.Filter start (scene_of shot.now.geometry.now shot.now.depth shot.now.path.now) shot.now.picture
         task.old task.new }
 {
     let reader = mem::replace(&mut task.reader, None);
     match reader {
         Some(reader) => {
+            let seen = see(rt, reader, start);
             task.reader = Some(
                 task.sampler
-                    .draw_by::<P, G, Rt>(rt, shot, slots, reader, gate),
+                    .draw_by::<P, G, Rt>(rt, shot, slots, seen, gate),
             );
         }
         None => unreachable!(),
@@ -70,7 +74,7 @@ fn stream_own<Rt: Threads + Wait, G: Gate>(
 impl<P: Filter + Sync> Task<SwapShared<P>> for SwapDrawer {
     ghost ready = { λ shared job task. MayDraw shared.slots.elements job.scene job.picture task };
 
-    ghost did = { λ shared job before after. HasDrawn P.Filter job.scene job.picture before after };
+    ghost did = { λ shared job before after. HasDrawn P.Filter shared.start job.scene job.picture before after };
 
     fn work<Rt: Threads + Wait, G: Gate>(
         &mut self,
@@ -80,7 +84,7 @@ impl<P: Filter + Sync> Task<SwapShared<P>> for SwapDrawer {
         _batch: &[Planned],
         gate: &G,
     ) {
-        draw_own::<P, G, Rt>(rt, self, shot, shared.slots.slice(), gate);
+        draw_own::<P, G, Rt>(rt, self, shot, shared.slots.slice(), shared.start, gate);
     }
 }
 

@@ -1,7 +1,6 @@
 use Rattle.std.proofs.Common.{◌<◌, get_or, refl, sym, ◌∙◌, subst, rules}
 use Rattle.vt_pages.specs.Shape.{Shape}
 use Rattle.vt_pages.specs.Pages.{pages_of}
-use Rattle.vt_swap_machine.specs.DrawKits.{IsReadyDraw}
 use Rattle.vt_swap_machine.proofs.Idle.{ready_once}
 use Rattle.vt_swap_machine.proofs.passes.prepare_pass.Goals as goal
 
@@ -17,7 +16,6 @@ returns-clause-ready g c =
     let idle = c.requires.idle in
     let asked = c.ask.ensures.asked _ _ c.in_ok-prepare.ensures.prepared in
     let s = c.prepare-2.new.self in
-    let draw = c.in_ok-prepare-2.ensures.ready _ idle.draw in
-    ready_once g.F.File _ _ c.args.own.now _ c.args.streams.now c.prepare.new.self c.ask.new.self c.args.drawers.now s c.args.batch.now.elements idle
-    (search rules) c.requires.lawful c.requires.few c.requires.early refl c.prepare.ensures.same c.ask.ensures.rest asked
-    (subst (λ n. IsReadyDraw c.args.own.now.streamer.cache n s s.tasks.elements) (search rules) draw) c.prepare-2.ensures.rest
+    ready_once g.F.File _ _ _ c.args.own.now _ c.args.streams.now c.prepare.new.self c.ask.new.self c.args.drawers.now s c.args.batch.now.elements
+    idle (search rules) c.requires.lawful c.requires.few c.requires.early (search rules) refl c.prepare.ensures.same c.ask.ensures.rest asked
+    (c.in_ok-prepare-2.ensures.ready _ idle.draw) c.prepare-2.ensures.rest

@@ -24,7 +24,8 @@ returns-clause-streamer g c =
     let now = c.detach-loaders.new.answers in
     let m = c.args.self.now in
     let there = ap (λ (x : SwapView _). x.feeder) (sym c.self.view_is) ∙ sym c.replace-own.ensures.value ∙ c.in-Some.is in
-    let ready = subst (λ (x : Option SwapFeeder). IsReadyBy g.F.File m.slots m.queues x m.streams m.drawers c.args._batch.now.elements) there c.requires.ready in
+    let ready = subst (λ (x : Option SwapFeeder). IsReadyBy g.F.File m.slots m.queues m.start x m.streams m.drawers c.args._batch.now.elements) there
+    c.requires.ready in
     subst (λ (x : SwapView _). MayStream x.slots.elements x.queues c.args._batch.now.elements (record own { answers = now })) (sym c.self.view_is)
-    (may_stream g.F.File m.slots m.queues own _ m.streams m.drawers c.args._batch.now.elements ready refl
+    (may_stream g.F.File m.slots m.queues m.start own _ m.streams m.drawers c.args._batch.now.elements ready refl
     (subst (λ (x : SwapView _). IsOf x.queues.results now) c.self.view_is c.detach-loaders.ensures.out.dealt.passes.results))

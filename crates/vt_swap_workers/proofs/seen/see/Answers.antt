@@ -1,7 +1,7 @@
 use Rattle.std.proofs.Common.{rules, ◌∷◌, [], ◌++◌}
 use Rattle.vt_swap.proofs.Entering.{entered_none, was_later}
 use Rattle.vt_swap_workers.proofs.EnteredRows.{entered_more}
-use Rattle.vt_swap_machine.proofs.seen.see.Goals as goal
+use Rattle.vt_swap_workers.proofs.seen.see.Goals as goal
 
 pub loop-init : goal.loop-init
 loop-init g c = ([], entered_none c.args.reader)
@@ -12,4 +12,8 @@ loop-preserved g c =
     ((c.entry-next.result.1 ∷ e.before) ++ c.loop.invariant.0, entered_more _ _ _ _ _ c.loop.invariant.1 e.more)
 
 pub returns-then-version-start : goal.returns-then-version-start
-returns-then-version-start g c = (c.entry-next.result.1, search rules, was_later _ _ _ _ _ c.loop.invariant.1 c.entry-next.ensures.entered)
+returns-then-version-start g c = record {
+  version = c.entry-next.result.1;
+  late = search rules;
+  entered = was_later _ _ _ _ _ c.loop.invariant.1 c.entry-next.ensures.entered;
+}
