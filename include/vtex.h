@@ -165,7 +165,7 @@ uint32_t vtex_cache_close(vtex_cache *at);
  *
  * The calls on a table are for one thread at a time, those on a reader for one thread at a time, and all of them may run at once. A place
  * passes to another thread by what orders the two: a lock, a thread's start or join, a seq_cst atomic. It stays where it is from init to
- * close or dismiss. Memory is taken in vtex_table_open, vtex_table_map, vtex_table_unmap and vtex_table_admit. */
+ * close or dismiss. Memory is taken in vtex_table_open alone, so a table that is open goes on for any number of versions, up to 2^62. */
 
 /* A place of level 0, and the level at which it is wanted. */
 typedef struct { uint32_t level, x, y; } vtex_point;
@@ -189,11 +189,11 @@ void vtex_reader_init(vtex_reader *at);
  * 64. `depth` is how many bytes a sample has, 1 or 2. A table that is open is opened anew. Takes 36 bytes a page, 12 a frame and 8 a
  * texel of the frames. VTEX_DONE, VTEX_BAD_SHAPE, VTEX_BAD_NUMBER, VTEX_NO_MEMORY; on all but the first the table is as it was. */
 uint32_t vtex_table_open(vtex_table *at, const vtex_shape *shape, uint32_t depth, uint32_t frames, uint32_t readers);
-/* Fills a frame that no page has with the tile of an unmapped page, as a store has it, and maps the page to it in the next version.
- * VTEX_DONE, VTEX_BAD_NUMBER, VTEX_NO_MEMORY, VTEX_CLOSED, or VTEX_WAITING where a reader may hold a version that maps the frame, or one
- * more than two before the newest: `waiting` then says which. Keeps 12 bytes. */
+/* Fills a frame that no page has with the tile of an unmapped page, as a store has it, and maps the page to it in the next version. Takes no
+ * memory. VTEX_DONE, VTEX_BAD_NUMBER, VTEX_CLOSED, or VTEX_WAITING where a reader may hold a version that maps the frame, or one more than two
+ * before the newest: `waiting` then says which. */
 uint32_t vtex_table_map(vtex_table *at, uint32_t page, uint32_t frame, const uint8_t *tile, size_t bytes, vtex_waiting *waiting);
-/* Takes a mapped page, but not the root, out of its frame in the next version. Answers as vtex_table_map. */
+/* Takes a mapped page, but not the root, out of its frame in the next version. Takes no memory. Answers as vtex_table_map. */
 uint32_t vtex_table_unmap(vtex_table *at, uint32_t page, vtex_waiting *waiting);
 /* Opens a closed reader, where the root is mapped and fewer than `readers` are open. VTEX_DONE, VTEX_BAD_NUMBER, VTEX_NO_MEMORY,
  * VTEX_CLOSED. */
