@@ -174,6 +174,9 @@ typedef struct { uint32_t level, x, y; } vtex_point;
 typedef struct { uint32_t level, x, y; int32_t step_x, step_y; uint32_t count; } vtex_span;
 /* Whom a call waits for: the number of a reader, and the version that it announced. It may hold that one or a later one. */
 typedef struct { uint32_t reader; uint64_t version; } vtex_waiting;
+/* A step of vtex_table_settle: the page is mapped to the frame with a tile (mapped is 1), which is the given one of that number, from 0 on;
+ * or it is taken out of the frame (0), and `tile` is not read. */
+typedef struct { uint32_t page, frame, mapped, tile; } vtex_step;
 
 /* A table and a reader, whose places are the engine's: so many bytes, aligned as a pointer. */
 typedef struct vtex_table vtex_table;
@@ -195,8 +198,14 @@ uint32_t vtex_table_open(vtex_table *at, const vtex_shape *shape, uint32_t depth
 uint32_t vtex_table_map(vtex_table *at, uint32_t page, uint32_t frame, const uint8_t *tile, size_t bytes, vtex_waiting *waiting);
 /* Takes a mapped page, but not the root, out of its frame in the next version. Takes no memory. Answers as vtex_table_map. */
 uint32_t vtex_table_unmap(vtex_table *at, uint32_t page, vtex_waiting *waiting);
-/* Opens a closed reader, where the root is mapped and fewer than `readers` are open. VTEX_DONE, VTEX_BAD_NUMBER, VTEX_NO_MEMORY,
- * VTEX_CLOSED. */
+/* Makes steps in their order, each in the next version, until one cannot be made at once. `tiles` has whole tiles one after the other, in
+ * any order. `made` is the number of steps that were made, so the rest is `steps + made`. Takes no memory. VTEX_DONE where all were made;
+ * VTEX_WAITING where the next one waits as in vtex_table_map, for whom `waiting` says; VTEX_BAD_NUMBER where the next one can never be made
+ * as the table is: its page, frame or tile is none, the page of a map is mapped or its frame is not free, the page of an unmap is the root
+ * or is not in that frame. VTEX_CLOSED: `made` is as it was. */
+uint32_t vtex_table_settle(vtex_table *at, const vtex_step *steps, size_t count, const uint8_t *tiles, size_t bytes, uint64_t *made, vtex_waiting *waiting);
+/* Opens a closed reader, where the root is mapped and fewer than `readers` are open. Takes no memory, and answers VTEX_NO_MEMORY only past
+ * 2^63 readers. VTEX_DONE, VTEX_BAD_NUMBER, VTEX_CLOSED. */
 uint32_t vtex_table_admit(vtex_table *at, vtex_reader *reader);
 /* Closes a reader of this very table; it may hold a version. VTEX_DONE, VTEX_CLOSED where either is closed. */
 uint32_t vtex_table_dismiss(vtex_table *at, vtex_reader *reader);
