@@ -203,7 +203,8 @@ uint32_t vtex_table_unmap(vtex_table *at, uint32_t page, vtex_waiting *waiting);
  * VTEX_WAITING where the next one waits as in vtex_table_map, for whom `waiting` says; VTEX_BAD_NUMBER where the next one can never be made
  * as the table is: its page, frame or tile is none, the page of a map is mapped or its frame is not free, the page of an unmap is the root
  * or is not in that frame. VTEX_CLOSED: `made` is as it was. */
-uint32_t vtex_table_settle(vtex_table *at, const vtex_step *steps, size_t count, const uint8_t *tiles, size_t bytes, uint64_t *made, vtex_waiting *waiting);
+uint32_t vtex_table_settle(vtex_table *at, const vtex_step *steps, size_t count, const uint8_t *tiles, size_t bytes, uint64_t *made,
+    vtex_waiting *waiting);
 /* Opens a closed reader, where the root is mapped and fewer than `readers` are open. Takes no memory, and answers VTEX_NO_MEMORY only past
  * 2^63 readers. VTEX_DONE, VTEX_BAD_NUMBER, VTEX_CLOSED. */
 uint32_t vtex_table_admit(vtex_table *at, vtex_reader *reader);
