@@ -165,7 +165,7 @@ uint32_t vtex_cache_close(vtex_cache *at);
  *
  * The calls on a table are for one thread at a time, those on a reader for one thread at a time, and all of them may run at once. A place
  * passes to another thread by what orders the two: a lock, a thread's start or join, a seq_cst atomic. It stays where it is from init to
- * close or dismiss. Memory is taken in vtex_table_open, vtex_table_map, vtex_table_unmap and vtex_table_admit. */
+ * close or dismiss. Memory is taken in vtex_table_open alone, so a table that is open goes on for any number of versions, up to 2^62. */
 
 /* A place of level 0, and the level at which it is wanted. */
 typedef struct { uint32_t level, x, y; } vtex_point;
@@ -174,6 +174,9 @@ typedef struct { uint32_t level, x, y; } vtex_point;
 typedef struct { uint32_t level, x, y; int32_t step_x, step_y; uint32_t count; } vtex_span;
 /* Whom a call waits for: the number of a reader, and the version that it announced. It may hold that one or a later one. */
 typedef struct { uint32_t reader; uint64_t version; } vtex_waiting;
+/* A step of vtex_table_settle: the page is mapped to the frame with a tile (mapped is 1), which is the given one of that number, from 0 on;
+ * or it is taken out of the frame (0), and `tile` is not read. */
+typedef struct { uint32_t page, frame, mapped, tile; } vtex_step;
 
 /* A table and a reader, whose places are the engine's: so many bytes, aligned as a pointer. */
 typedef struct vtex_table vtex_table;
@@ -189,14 +192,21 @@ void vtex_reader_init(vtex_reader *at);
  * 64. `depth` is how many bytes a sample has, 1 or 2. A table that is open is opened anew. Takes 36 bytes a page, 12 a frame and 8 a
  * texel of the frames. VTEX_DONE, VTEX_BAD_SHAPE, VTEX_BAD_NUMBER, VTEX_NO_MEMORY; on all but the first the table is as it was. */
 uint32_t vtex_table_open(vtex_table *at, const vtex_shape *shape, uint32_t depth, uint32_t frames, uint32_t readers);
-/* Fills a frame that no page has with the tile of an unmapped page, as a store has it, and maps the page to it in the next version.
- * VTEX_DONE, VTEX_BAD_NUMBER, VTEX_NO_MEMORY, VTEX_CLOSED, or VTEX_WAITING where a reader may hold a version that maps the frame, or one
- * more than two before the newest: `waiting` then says which. Keeps 12 bytes. */
+/* Fills a frame that no page has with the tile of an unmapped page, as a store has it, and maps the page to it in the next version. Takes no
+ * memory. VTEX_DONE, VTEX_BAD_NUMBER, VTEX_CLOSED, or VTEX_WAITING where a reader may hold a version that maps the frame, or one more than two
+ * before the newest: `waiting` then says which. */
 uint32_t vtex_table_map(vtex_table *at, uint32_t page, uint32_t frame, const uint8_t *tile, size_t bytes, vtex_waiting *waiting);
-/* Takes a mapped page, but not the root, out of its frame in the next version. Answers as vtex_table_map. */
+/* Takes a mapped page, but not the root, out of its frame in the next version. Takes no memory. Answers as vtex_table_map. */
 uint32_t vtex_table_unmap(vtex_table *at, uint32_t page, vtex_waiting *waiting);
-/* Opens a closed reader, where the root is mapped and fewer than `readers` are open. VTEX_DONE, VTEX_BAD_NUMBER, VTEX_NO_MEMORY,
- * VTEX_CLOSED. */
+/* Makes steps in their order, each in the next version, until one cannot be made at once. `tiles` has whole tiles one after the other, in
+ * any order. `made` is the number of steps that were made, so the rest is `steps + made`. Takes no memory. VTEX_DONE where all were made;
+ * VTEX_WAITING where the next one waits as in vtex_table_map, for whom `waiting` says; VTEX_BAD_NUMBER where the next one can never be made
+ * as the table is: its page, frame or tile is none, the page of a map is mapped or its frame is not free, the page of an unmap is the root
+ * or is not in that frame. VTEX_CLOSED: `made` is as it was. */
+uint32_t vtex_table_settle(vtex_table *at, const vtex_step *steps, size_t count, const uint8_t *tiles, size_t bytes, uint64_t *made,
+    vtex_waiting *waiting);
+/* Opens a closed reader, where the root is mapped and fewer than `readers` are open. Takes no memory, and answers VTEX_NO_MEMORY only past
+ * 2^63 readers. VTEX_DONE, VTEX_BAD_NUMBER, VTEX_CLOSED. */
 uint32_t vtex_table_admit(vtex_table *at, vtex_reader *reader);
 /* Closes a reader of this very table; it may hold a version. VTEX_DONE, VTEX_CLOSED where either is closed. */
 uint32_t vtex_table_dismiss(vtex_table *at, vtex_reader *reader);

@@ -180,7 +180,7 @@ def stream(number, row, program):
     store, path = "store%d" % number, "path%d" % number
     options = [word for word in row[5] if word not in ("--lost", "4")]
     for engine in ("./streaming", "./streaming_checked", "./streaming_raced"):
-        for crew in (["--drawing", "1", "--loading", "1"], ["--drawing", "4", "--loading", "3"]):
+        for crew in (["--drawing", "1", "--loading", "1", "--spare", "0"], ["--drawing", "4", "--loading", "3"]):
             ran = run(engine, store, path, "live.", "--journal", "live.txt", *options, *crew)
             what = "streaming %d by %s, %s: " % (number, engine, crew)
             say(ran.returncode == 0 and not ran.stderr, what + ran.stderr.decode())

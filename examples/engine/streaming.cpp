@@ -1,9 +1,10 @@
 // An engine that streams while it draws: drawing threads, threads that read tiles, and one writer, over the cache and the shared table of
 // include/vtex.h. Each drawing thread has a reader of the table and takes the next row of the picture: it holds the newest version, reads the
-// row's texels, and releases. Meanwhile the writer settles the tiles that have come and makes the cache's changes in the table. It writes the
+// row's texels, and releases. Meanwhile the writer settles the tiles that have come and makes the cache's changes in the table, which has more
+// frames than the cache: a page is mapped to the frame that has been free for longest, so that no reader is left that needs it. It writes the
 // pictures and a journal of its versions, of which `vtex replay` makes the same pictures (docs/FORMATS.md).
 //
-//     streaming STORE PATH PREFIX [--frames F] [--batch Q] [--pinned N] [--journal NAME] [--drawing N] [--loading N]
+//     streaming STORE PATH PREFIX [--frames F] [--spare S] [--batch Q] [--pinned N] [--journal NAME] [--drawing N] [--loading N]
 #include "vtex.h"
 
 #include <atomic>
@@ -162,7 +163,8 @@ class Engine {
         vtex_table_init(table.at());
         done(vtex_pinned_count(&store.shape, numbers["--pinned"], &pinned), "pinned pages");
         done(vtex_cache_open(cache.at(), &store.shape, numbers["--frames"], pinned), "opening the cache");
-        done(vtex_table_open(table.at(), &store.shape, store.depth, numbers["--frames"], numbers["--drawing"]), "opening the table");
+        done(vtex_table_open(table.at(), &store.shape, store.depth, numbers["--frames"] + numbers["--spare"], numbers["--drawing"]), "opening the table");
+        for (uint32_t frame = 0; frame < numbers["--frames"] + numbers["--spare"]; frame++) free.push_back(frame);
         uint32_t count = 0;
         done(vtex_level_count(&store.shape, &count), "levels");
         levels.resize(count);
@@ -227,20 +229,39 @@ class Engine {
 
     // ---- the writer
 
-    // Makes a change in the table as soon as no reader stands in its way, and writes it into the journal.
-    void change(const vtex_change &change, const Read *tile) {
-        vtex_waiting who;
-        for (;;) {
-            uint32_t status = change.mapped ? vtex_table_map(table.at(), change.page, change.frame, tile->bytes.data(), tile->bytes.size(), &who)
-                                            : vtex_table_unmap(table.at(), change.page, &who);
-            if (status == VTEX_DONE) break;
-            if (status != VTEX_WAITING) done(status, "a change");
-            waits++;
-            std::this_thread::yield();
+    // Makes the cache's changes in the table, in their order, each as soon as no reader stands in its way. A map takes the frame that was
+    // unmapped first.
+    void change(const std::vector<vtex_change> &changes, const std::map<uint32_t, std::shared_ptr<Read>> &came) {
+        std::vector<vtex_step> steps;
+        std::vector<uint8_t> tiles;
+        for (const vtex_change &change : changes) {
+            if (!change.mapped) {
+                steps.push_back({change.page, frame_of.at(change.page), 0, 0});
+                free.push_back(frame_of.at(change.page));
+                frame_of.erase(change.page);
+                continue;
+            }
+            const std::vector<uint8_t> &bytes = came.at(change.page)->bytes;
+            steps.push_back({change.page, free.front(), 1, static_cast<uint32_t>(tiles.size() / bytes.size())});
+            tiles.insert(tiles.end(), bytes.begin(), bytes.end());
+            frame_of[change.page] = free.front();
+            free.pop_front();
         }
+        for (size_t next = 0; next < steps.size();) {
+            uint64_t made = 0;
+            vtex_waiting who;
+            const uint32_t status = vtex_table_settle(table.at(), &steps[next], steps.size() - next, front_of(tiles), tiles.size(), &made, &who);
+            for (; made > 0; made--) note(steps[next++]);
+            if (status != VTEX_WAITING) done(status, "changes");
+            else waits++, std::this_thread::yield();
+        }
+    }
+
+    // Writes a change into the journal.
+    void note(const vtex_step &step) {
         vtex_name name;
-        done(vtex_page_name(&store.shape, change.page, &name), "a name");
-        journal << (change.mapped ? "map " : "unmap ") << ++version << ' ' << name.level << ' ' << name.column << ' ' << name.row << ' ' << change.frame << '\n';
+        done(vtex_page_name(&store.shape, step.page, &name), "a name");
+        journal << (step.mapped ? "map " : "unmap ") << ++version << ' ' << name.level << ' ' << name.column << ' ' << name.row << ' ' << step.frame << '\n';
     }
 
     std::vector<vtex_change> changes_of() {
@@ -253,11 +274,13 @@ class Engine {
 
     // The pinned pages, which are the changes of the opening.
     void head() {
-        for (const vtex_change &pinned_page : changes_of()) {
-            std::shared_ptr<Read> read = read_of(pinned_page.page);
-            loaders->wait_for(*read);
-            change(pinned_page, read.get());
+        const std::vector<vtex_change> changes = changes_of();
+        std::map<uint32_t, std::shared_ptr<Read>> came;
+        for (const vtex_change &pinned_page : changes) {
+            came[pinned_page.page] = read_of(pinned_page.page);
+            loaders->wait_for(*came[pinned_page.page]);
         }
+        change(changes, came);
     }
 
     // Settles what comes, again and again, until the picture is drawn.
@@ -280,7 +303,7 @@ class Engine {
         reads.resize(left);
         if (came.empty()) return std::this_thread::yield();
         done(vtex_cache_settle(cache.at(), front_of(states), states.size()), "settling");
-        for (const vtex_change &next : changes_of()) change(next, next.mapped ? came.at(next.page).get() : nullptr);
+        change(changes_of(), came);
     }
 
     // Has the loads read that the last pass added.
@@ -341,13 +364,15 @@ class Engine {
     std::vector<vtex_load> loads;               // the loads under way, in the cache's order,
     std::vector<std::shared_ptr<Read>> reads;   // and their reads
     std::unique_ptr<Loaders> loaders;
+    std::deque<uint32_t> free;                  // the table's frames that no page has, the one that was unmapped first in front,
+    std::map<uint32_t, uint32_t> frame_of;      // and those of the mapped pages
     uint64_t version = 0, waits = 0;
 };
 
 } // namespace
 
 int main(int count, char **words) {
-    std::map<std::string, uint32_t> numbers = {{"--frames", 64}, {"--batch", 64}, {"--pinned", 1}, {"--drawing", 3}, {"--loading", 2}};
+    std::map<std::string, uint32_t> numbers = {{"--frames", 64}, {"--spare", 16}, {"--batch", 64}, {"--pinned", 1}, {"--drawing", 3}, {"--loading", 2}};
     std::vector<std::string> names;
     std::string journal = "journal.txt";
     for (int i = 1; i < count; i++) {

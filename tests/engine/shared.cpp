@@ -132,9 +132,16 @@ struct Writing {
         return status == VTEX_DONE;
     }
 
+    size_t tile_bytes() const { return chain.texel() * chain.shape.tile * chain.shape.tile; }
+
+    // Adds the tile of a page.
+    void add_tile(std::vector<uint8_t> &tiles, uint32_t page) const {
+        for (size_t i = 0; i < tile_bytes(); i++) tiles.push_back(byte_of(page, uint32_t(i / chain.texel()), uint32_t(i % chain.texel())));
+    }
+
     bool map(Clock::time_point end, uint32_t page, uint32_t frame) {
-        std::vector<uint8_t> tile(chain.texel() * chain.shape.tile * chain.shape.tile);
-        for (size_t i = 0; i < tile.size(); i++) tile[i] = byte_of(page, uint32_t(i / chain.texel()), uint32_t(i % chain.texel()));
+        std::vector<uint8_t> tile;
+        add_tile(tile, page);
         bool is = done(end, [&](vtex_waiting *who) { return vtex_table_map(table, page, frame, tile.data(), tile.size(), who); });
         if (is) frame_of[page] = frame, owner[frame] = page, maps++;
         return is;
@@ -147,8 +154,47 @@ struct Writing {
         return is;
     }
 
+    void note(const vtex_step &step) {
+        if (step.mapped) frame_of[step.page] = step.frame, owner[step.frame] = step.page, maps++;
+        else frame_of[step.page] = owner[step.frame] = UINT32_MAX;
+    }
+
+    // Some changes in one batch, whose rest is made again until time is up.
+    bool settle(Clock::time_point end) {
+        std::vector<vtex_step> steps;
+        std::vector<uint8_t> tiles;
+        std::vector<bool> taken(owner.size());
+        for (uint32_t i = 0; i < 4; i++) {
+            uint32_t page = random() % (chain.pages - 1), frame = 1 + random() % (owner.size() - 1);
+            bool again = false;
+            for (const vtex_step &step : steps) again = again || step.page == page;
+            if (frame_of[page] != UINT32_MAX || taken[frame] || again) continue;
+            taken[frame] = true;
+            if (owner[frame] != UINT32_MAX) steps.push_back({owner[frame], frame, 0, 0});
+            steps.push_back({page, frame, 1, uint32_t(tiles.size() / tile_bytes())});
+            add_tile(tiles, page);
+        }
+        for (size_t next = 0; next < steps.size();) {
+            uint64_t made = 0;
+            vtex_waiting who = {};
+            uint32_t status = vtex_table_settle(table, &steps[next], steps.size() - next, tiles.data(), tiles.size(), &made, &who);
+            CHECK(made <= steps.size() - next && (status == VTEX_DONE) == (made == steps.size() - next));
+            for (; made > 0; made--) note(steps[next++]);
+            if (status == VTEX_DONE) break;
+            CHECK(status == VTEX_WAITING && who.reader < 64);
+            waits++;
+            if (status != VTEX_WAITING || Clock::now() > end) return false;
+            std::this_thread::yield();
+        }
+        return true;
+    }
+
     void go_on(Clock::time_point end) {
         while (Clock::now() < end) {
+            if (random() % 2) {
+                if (!settle(end)) return;
+                continue;
+            }
             uint32_t page = random() % (chain.pages - 1), frame = 1 + random() % (owner.size() - 1);
             if (frame_of[page] != UINT32_MAX) continue;
             if (owner[frame] != UINT32_MAX && !unmap(end, frame)) return;

@@ -143,6 +143,37 @@ static void waiting(void) {
     CHECK(is_place(readers[2], 3, 3, 1, 0) && is_place(readers[2], 2, 2, 3, 0) && is_place(readers[2], 0, 4, 0, 1));
 }
 
+/* A batch of changes is made as far as it can be made at once. */
+static void settling(void) {
+    vtex_step first[4] = {{4, 0, 1, 2}, {0, 1, 1, 0}, {1, 2, 1, 1}, {0, 1, 0, 9}}, then[3] = {{1, 2, 0, 0}, {0, 2, 1, 0}, {1, 1, 1, 1}};
+    const vtex_step elsewhere = {0, 1, 0, 0}, root = {4, 0, 0, 0}, outside = {5, 3, 1, 0}, taken = {2, 2, 1, 0};
+    const vtex_point point = {0, 2, 0};
+    uint8_t tiles[36];
+    uint64_t made = 99;
+    for (uint32_t i = 0; i < 36; i++) tiles[i] = (uint8_t)i;
+    CHECK(vtex_table_settle(table, first, 1, tiles, 36, &made, &who) == VTEX_CLOSED && made == 99);
+    CHECK(vtex_table_open(table, &four, 1, 4, 2) == VTEX_DONE);
+    CHECK(vtex_table_settle(table, first, 4, tiles, 35, &made, &who) == VTEX_BAD_NUMBER && made == 0); /* there is no tile 2 */
+    CHECK(vtex_table_settle(table, first, 0, tiles, 36, &made, &who) == VTEX_DONE && made == 0);
+    CHECK(vtex_table_settle(table, first, 4, tiles, 36, &made, &who) == VTEX_DONE && made == 4);
+    CHECK(vtex_table_admit(table, readers[0]) == VTEX_DONE && holds(readers[0], 4));
+    CHECK(is_place(readers[0], 1, 1, 2, 0) && is_place(readers[0], 0, 4, 0, 1));
+    CHECK(vtex_reader_texels(readers[0], &point, 1, out, 3) == VTEX_DONE && out[0] == 12 && out[2] == 14); /* tile 1 */
+    who.reader = 9;
+    CHECK(vtex_table_settle(table, then, 3, tiles, 36, &made, &who) == VTEX_WAITING && made == 1 && who.reader == 0 && who.version == 4);
+    CHECK(vtex_table_settle(table, then + 1, 2, tiles, 36, &made, &who) == VTEX_WAITING && made == 0);
+    CHECK(is_place(readers[0], 1, 1, 2, 0) && vtex_reader_release(readers[0]) == VTEX_DONE);
+    CHECK(vtex_table_settle(table, then + 1, 2, tiles, 36, &made, &who) == VTEX_DONE && made == 2);
+    CHECK(vtex_table_settle(table, &elsewhere, 1, tiles, 36, &made, &who) == VTEX_BAD_NUMBER && made == 0);
+    CHECK(vtex_table_settle(table, &root, 1, tiles, 36, &made, &who) == VTEX_BAD_NUMBER && made == 0);
+    CHECK(vtex_table_settle(table, &outside, 1, tiles, 36, &made, &who) == VTEX_BAD_NUMBER && made == 0);
+    CHECK(vtex_table_settle(table, &taken, 1, tiles, 36, &made, &who) == VTEX_BAD_NUMBER && made == 0);
+    CHECK(holds(readers[0], 7) && is_place(readers[0], 0, 0, 2, 0) && is_place(readers[0], 1, 1, 1, 0));
+    CHECK(vtex_table_dismiss(table, readers[0]) == VTEX_DONE);
+    CHECK(vtex_table_close(table) == VTEX_DONE);
+    closed();
+}
+
 /* A table that is closed before its last readers. */
 static void ending(void) {
     CHECK(vtex_table_close(table) == VTEX_DONE);
@@ -164,6 +195,7 @@ int main(void) {
     read_on();
     waiting();
     ending();
+    settling();
     free(table);
     for (int i = 0; i < 3; i++) free(readers[i]);
     return ended("table");

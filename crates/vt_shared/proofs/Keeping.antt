@@ -1,6 +1,5 @@
 -- What stays over the steps of the owner.
-use Rattle.std.proofs.Common.{◌≡◌, ℕ, ◌-◌, ◌<◌, List, [], ◌∷◌, ◌++◌, length, sym, ap, ◌∙◌, subst}
-use Rattle.vt_pages.specs.Shape.{Shape}
+use Rattle.std.proofs.Common.{◌≡◌, ◌≢◌, ℕ, ◌-◌, ◌<◌, inl, inr, List, [], ◌∷◌, ◌++◌, length, refl, sym, ap, ◌∙◌, subst, arith}
 use Rattle.vt_journal.specs.declared.changes.Change.{Change}
 use Rattle.vt_journal.specs.declared.changes.Change.TheVariants.{Map, Unmap}
 use Rattle.vt_grace.specs.declared.sizes.Sizes.{Sizes}
@@ -12,10 +11,8 @@ use Rattle.vt_streamer.specs.Banks.{HasPublished}
 use Rattle.vt_streamer.specs.Fills.{words_in}
 use Rattle.vt_streamer.specs.Frees.{IsUnmappedBy}
 use Rattle.vt_streamer.specs.Looks.{HasLooked, IsFirstBehind}
-use Rattle.vt_grace.specs.Values.{WordsValue}
-use Rattle.vt_table.proofs.Lawful.{table_spared}
-use Rattle.vt_streamer.specs.Views.{StreamerView, table_of, IsStreamerOf}
-use Rattle.vt_shared.specs.Owners.{HasKept, HasMapped, HasUnmapped, WasLeft, IsAwaited, AwaitsBank, AwaitsFrame}
+use Rattle.vt_streamer.specs.Views.{StreamerView}
+use Rattle.vt_shared.specs.Owners.{HasKept, HasWritten, HasMapped, HasUnmapped, WasLeft, IsAwaited, AwaitsBank, AwaitsFrame}
 
 -- nothing was published either
 pub record HasSame (v w : StreamerView) : Type 0 where
@@ -41,20 +38,12 @@ same_both u v w a b = record {
   contents = b.contents ∙ a.contents;
 }
 
--- room was made
-pub same_reserved : (v w : StreamerView) → w ≡ record v { spare = w.spare } → HasSame v w
-same_reserved v w e = record {
-  kept = record {
-    table = ap (λ (y : StreamerView). y.table) e;
-    shape = ap (λ (y : StreamerView). y.shape) e;
-    sizes = ap (λ (y : StreamerView). y.writer.sizes) e;
-    out = ap (λ (y : StreamerView). y.writer.out) e;
-    returned = ap (λ (y : StreamerView). y.writer.returned) e;
-    notes = ap (λ (y : StreamerView). y.writer.notes) e;
-    word_notes = ap (λ (y : StreamerView). y.writer.word_notes) e;
-  };
-  journal = ap (λ (y : StreamerView). y.writer.journal) e;
-  contents = ap (λ (y : StreamerView). y.writer.contents) e;
+-- nothing was done
+pub same_none : (v : StreamerView) → HasSame v v
+same_none v = record {
+  kept = record { table = refl; shape = refl; sizes = refl; out = refl; returned = refl; notes = refl; word_notes = refl };
+  journal = refl;
+  contents = refl;
 }
 
 -- samplers were looked at
@@ -102,12 +91,29 @@ kept_published v w change h table shape = record {
 }
 
 -- looks said that a frame may be filled
-pub was_left : (u v w : StreamerView) (frame : ℕ) → v ≡ record u { spare = v.spare } → HasLooked v.writer w.writer → MayFill w.writer frame
-    → WasLeft u.writer frame
-was_left u v w frame e looked may = record {
-  seen = w.writer;
-  looked = subst (λ (x : WriterView). HasLooked x w.writer) (ap (λ (y : StreamerView). y.writer) e) looked;
-  may = may;
+pub was_left : (v w : StreamerView) (frame : ℕ) → HasLooked v.writer w.writer → MayFill w.writer frame → WasLeft v.writer frame
+was_left v w frame looked may = record { seen = w.writer; looked = looked; may = may }
+
+-- nothing was written where samplers were looked at
+pub written_none : (v w : StreamerView) (frame : ℕ) → HasLooked v.writer w.writer → HasWritten v frame w
+written_none v w frame looked = let same : w.writer.texels ≡ v.writer.texels = ap (λ (y : WriterView). y.texels) looked.rest in record {
+  others = λ f low other. ap (λ (t : List ℕ). frame_words v.writer.sizes t f) same;
+  own = inl same;
+}
+
+-- and one frame where looks said that it may be filled
+pub written_one : (z : Sizes) (v w x y : StreamerView) (frame : ℕ) → v.writer.sizes ≡ z → HasLooked v.writer w.writer → w ≡ record v { writer = w.writer }
+    → MayFill w.writer frame
+    → ((f : ℕ) → f < length w.owners → f ≢ frame → frame_words z x.writer.texels f ≡ frame_words z w.writer.texels f)
+    → y.writer.texels ≡ x.writer.texels → HasWritten v frame y
+written_one z v w x y frame sizes looked rest may filled after = record {
+  others = λ f low other.
+      let count : length w.owners ≡ length v.owners = ap (λ (u : StreamerView). length u.owners) rest in
+      subst (λ (s : Sizes). frame_words s y.writer.texels f ≡ frame_words s v.writer.texels f) (sym sizes)
+      (ap (λ (t : List ℕ). frame_words z t f) after
+      ∙ filled f (omega (arith, count, low)) other
+      ∙ ap (λ (t : List ℕ). frame_words z t f) (ap (λ (u : WriterView). u.texels) looked.rest));
+  own = inr (was_left v w frame looked may);
 }
 
 -- whom a step waits for
@@ -147,15 +153,4 @@ pub has_unmapped : (u w x : StreamerView) (page frame : ℕ) → HasSame u w →
 has_unmapped u w x page frame same h = record {
   journal = h.journal ∙ ap (λ (js : List Change). js ++ Unmap page frame ∷ []) same.journal;
   contents = h.contents ∙ ap (λ (cs : List (List ℕ)). cs ++ [] ∷ []) same.contents;
-}
-
--- room says nothing of the words
-pub reserved_of : (words : WordsValue) (v w : StreamerView) → w ≡ record v { spare = w.spare } → IsStreamerOf words v → IsStreamerOf words w
-reserved_of words v w e of = subst (IsStreamerOf words) (sym e) record {
-  table = of.table;
-  seen = of.seen;
-  sizes = of.sizes;
-  limits = of.limits;
-  sound = of.sound;
-  lawful = table_spared (table_of v) w.spare of.lawful;
 }

@@ -1,15 +1,15 @@
 -- The tiles that pages were mapped with, and that what a reader had is theirs.
-use Rattle.std.proofs.Common.{◌≡◌, Fits, w8, ℕ, zero, suc, ◌+◌, ◌*◌, ◌%◌, ◌<◌, ◌≤◌, List, [], ◌∷◌, ◌++◌, length, get_or, Option, Some, None, refl, sym, ap, ◌∙◌, subst, mul_comm, arith}
+use Rattle.std.proofs.Common.{◌≡◌, Fits, w8, ℕ, zero, suc, ◌+◌, ◌*◌, ◌<◌, ◌≤◌, List, [], ◌∷◌, ◌++◌, length, get_or, Option, Some, None, refl, sym, ap, ◌∙◌, subst, arith}
 use Rattle.std.specs.Prelude.{Contains, slice_get}
 use Rattle.std.proofs.lemmas.Option.{none-some}
 use Rattle.std.proofs.lemmas.List.{get_or_default}
 use Rattle.std.proofs.lemmas.List.Elements.{All-contains, Contains-append_left}
 use Rattle.std.proofs.lemmas.List.FromFn.{get_or-map-range_with_len}
 use Rattle.std.proofs.lemmas.Nat.{mod_below, mul-add-lt}
-use Rattle.vt_definitions.specs.Depths.{IsDepth, AreBytes, texel_length, word_at, word_bytes, texel_bytes}
+use Rattle.vt_definitions.specs.Depths.{IsDepth, AreBytes, word_at, word_bytes}
 use Rattle.vt_definitions.proofs.TexelWords.{texel_words}
 use Rattle.vt_pages.specs.Shape.{Shape}
-use Rattle.vt_draw.specs.Lookups.{Note, covering_place}
+use Rattle.vt_draw.specs.Lookups.{covering_place}
 use Rattle.vt_journal.specs.declared.changes.Change.{Change}
 use Rattle.vt_journal.specs.declared.changes.Change.TheVariants.{Map, Unmap}
 use Rattle.vt_journal.specs.Changes.{at, AreInTurn}

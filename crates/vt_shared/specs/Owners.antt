@@ -1,10 +1,11 @@
 -- What is seen of the owner of a table of shared words, and what its calls change.
-use Rattle.std.specs.Prelude.{◌≡◌, ◌⊎◌, ℕ, ◌+◌, ◌-◌, ◌<◌, ◌≤◌, Bool, List, [], ◌∷◌, ◌++◌}
+use Rattle.std.specs.Prelude.{◌≡◌, ◌≢◌, ◌⊎◌, ℕ, ◌+◌, ◌-◌, ◌<◌, ◌≤◌, Bool, List, [], ◌∷◌, ◌++◌, length}
 use Rattle.vt_definitions.specs.Depths.{IsDepth}
 use Rattle.vt_journal.specs.declared.changes.Change.TheVariants.{Map, Unmap}
 use Rattle.vt_grace.specs.declared.views.Look.{Look}
 use Rattle.vt_grace.specs.declared.views.WriterView.{WriterView}
 use Rattle.vt_grace.specs.Banks.{MayFill}
+use Rattle.vt_grace.specs.Places.{frame_words}
 use Rattle.vt_grace.specs.Values.{WordsValue}
 use Rattle.vt_grace.specs.WriterViews.{version_of, floor_of}
 use Rattle.vt_streamer.specs.Fills.{words_in}
@@ -12,8 +13,6 @@ use Rattle.vt_streamer.specs.Frees.{IsUnmappedBy}
 use Rattle.vt_streamer.specs.Looks.{HasLooked}
 use Rattle.vt_streamer.specs.Views.{StreamerView, IsStreamerOf}
 use Rattle.vt_shared.specs.Given.{AreOfTiles}
-use Rattle.vt_shared.specs.declared.steps.Refusal.{Refusal}
-use Rattle.vt_shared.specs.declared.steps.Refusal.TheVariants.{Waits, NoMemory}
 
 -- the words, what their streamer knows, and how many bytes a sample has
 pub record OwnerView : Type 0 where
@@ -43,6 +42,11 @@ pub record WasLeft (v : WriterView) (frame : ℕ) : Type 0 where
   pub seen : WriterView
   pub looked : HasLooked v seen
   pub may : MayFill seen frame
+
+-- no frame was written but this one, and this one only once looks said that none may still hold a version that maps it
+pub record HasWritten (v : StreamerView) (frame : ℕ) (w : StreamerView) : Type 0 where
+  pub others : (f : ℕ) → f < length v.owners → f ≢ frame → frame_words v.writer.sizes w.writer.texels f ≡ frame_words v.writer.sizes v.writer.texels f
+  pub own : (w.writer.texels ≡ v.writer.texels) ⊎ WasLeft v.writer frame
 
 -- the next version maps a page to a frame, with the words of a tile; the frame was filled when no sampler could hold a version that maps it
 pub record HasMapped (v : StreamerView) (page frame : ℕ) (tile : List ℕ) (w : StreamerView) : Type 0 where
@@ -77,8 +81,3 @@ pub record AwaitsFrame (v : StreamerView) (frame : ℕ) (w : StreamerView) (samp
 -- a map waits for either
 abbrev pub AwaitsEither : StreamerView → ℕ → StreamerView → ℕ → ℕ → Type 0
 AwaitsEither v frame w sampler holds = AwaitsFrame v frame w sampler holds ⊎ AwaitsBank v w sampler holds
-
--- why a step was refused: memory was, or a sampler is waited for
-abbrev pub IsWhy : (ℕ → ℕ → Type 0) → Refusal → Type 0
-IsWhy Awaits NoMemory = Unit {0}
-IsWhy Awaits (Waits k) = Awaits k.sampler k.holds

@@ -14,4 +14,4 @@ pub use owner::Owner;
 pub use points::{Point, are_points};
 pub use reader::{Reader, Stand};
 pub use spans::{Span, is_run};
-pub use steps::Refusal;
+pub use vt_streamer::Waiting;

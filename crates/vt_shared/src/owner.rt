@@ -14,12 +14,12 @@ ghost use Rattle.vt_grace.specs.Giving.{after_giving, after_return, new_pass};
 ghost use Rattle.vt_lookup.specs.Notes.{IsNotedIn};
 ghost use Rattle.vt_shared.specs.declared.points.Point.{Point};
 ghost use Rattle.vt_shared.specs.Given.{HasTileLength, IsOfItsTile};
-ghost use Rattle.vt_shared.specs.Owners.{HasMapped, HasUnmapped, HasKept, IsWhy, AwaitsBank, AwaitsEither};
+ghost use Rattle.vt_shared.specs.Owners.{HasWritten, HasMapped, HasUnmapped, HasKept, AwaitsBank, AwaitsEither};
 ghost use Rattle.vt_shared.specs.Points.{IsAnswered};
 ghost use Rattle.vt_shared.specs.Readers.{left_by, IsAdmitted, IsReaderOf};
 
 use crate::reader::Reader;
-use crate::steps::{Refusal, is_free, put_page, take_page};
+use crate::steps::{is_free, put_page, take_page};
 use std::alloc::Global;
 use std::marker::Model;
 use std::sync::Arc;
@@ -28,13 +28,13 @@ use vt_grace::{
 };
 use vt_outside::NoMemory;
 use vt_pages::Geometry;
-use vt_streamer::Streamer;
+use vt_streamer::{TableWriter, Waiting};
 
 /// The owner of a table of shared words. Contracts see the words, what their streamer knows, and how many bytes a sample has.
 #[derive(Drop)]
 pub struct Owner {
     words: Arc<Words, Global>,
-    streamer: Streamer,
+    table: TableWriter,
     // For each sampler whether its pass is out.
     out: Vec<bool>,
     depth: u32,
@@ -46,9 +46,9 @@ impl Model for Owner {
 
     ghost Value = { OwnerView };
 
-    ghost view = { λ o. record { words = arc_value o.words; streamer = o.streamer; depth = o.depth } };
+    ghost view = { λ o. record { words = arc_value o.words; streamer = o.table; depth = o.depth } };
 
-    ghost invariant = { λ o. IsOwning (arc_value o.words) o.streamer o.out.items o.depth };
+    ghost invariant = { λ o. IsOwning (arc_value o.words) o.table o.out.items o.depth };
 }
 
 impl Owner {
@@ -70,12 +70,12 @@ impl Owner {
         ensures depth { IfOk result (λ o. o.depth ≡ depth) }
         ensures writer { IfOk result (λ o. o.streamer.writer ≡ first_writer (sizes_of geometry.now frames samplers)) }
     {
-        let (words, streamer) = Streamer::new(alloc, geometry, frames, samplers)?;
+        let (words, table) = TableWriter::new(alloc, geometry, frames, samplers)?;
         let out = Vec::from_elem(alloc, false, samplers as usize)?;
         let words = Arc::new(alloc, words)?;
         Ok(Owner {
             words,
-            streamer,
+            table,
             out,
             depth,
         })
@@ -86,7 +86,7 @@ impl Owner {
         ensures { result.now ≡ self.now.streamer.shape }
     {
         let _depth = self.depth;
-        self.streamer.geometry()
+        self.table.geometry()
     }
 
     /// How many bytes a sample has.
@@ -103,7 +103,7 @@ impl Owner {
         ensures most { result ≤ most_versions }
     {
         let _depth = self.depth;
-        self.streamer.journal().version()
+        self.table.version()
     }
 
     /// How many frames there are.
@@ -111,7 +111,7 @@ impl Owner {
         ensures { result ≡ length self.now.streamer.owners }
     {
         let _depth = self.depth;
-        self.streamer.frames()
+        self.table.frames()
     }
 
     /// The frame of a page in the newest version.
@@ -120,7 +120,7 @@ impl Owner {
         ensures { result ≡ newest self.now.streamer.writer.journal page }
     {
         let _depth = self.depth;
-        self.streamer.frame_of(page)
+        self.table.frame_of(page)
     }
 
     /// Whether no page is mapped to a frame.
@@ -130,11 +130,12 @@ impl Owner {
             (IsFree (newest self.now.streamer.writer.journal) frame → ⊥) }
     {
         let _depth = self.depth;
-        is_free(&self.streamer, frame)
+        is_free(&self.table, frame)
     }
 
-    /// Fills a frame with the tile of a page and maps the page to it, as soon as no reader may hold a version that maps the frame.
-    pub fn map(&mut self, page: u32, frame: u32, tile: &[u8]) -> Result<(), Refusal>
+    /// Fills a frame with the tile of a page and maps the page to it, as soon as no reader may hold a version that maps the frame. It takes
+    /// no memory.
+    pub fn map(&mut self, page: u32, frame: u32, tile: &[u8]) -> Result<(), Waiting>
         requires page { page < pages_of self.old.streamer.shape }
         requires unmapped { newest self.old.streamer.writer.journal page ≡ None }
         requires frame { frame < length self.old.streamer.owners }
@@ -143,35 +144,30 @@ impl Owner {
         requires room { length self.old.streamer.writer.journal < most_versions }
         ensures rest { self.new ≡ record self.old { streamer = self.new.streamer } }
         ensures kept { HasKept self.old.streamer self.new.streamer }
+        ensures written { HasWritten self.old.streamer frame self.new.streamer }
         ensures mapped { OnOk result (HasMapped self.old.streamer page frame tile.now self.new.streamer) }
-        ensures why { IfErr result (IsWhy (AwaitsEither self.old.streamer frame self.new.streamer)) }
+        ensures waiting { IfErr result (λ w. AwaitsEither self.old.streamer frame self.new.streamer w.sampler w.holds) }
         ensures refused { OnErr result (self.new.streamer.writer.journal ≡ self.old.streamer.writer.journal) }
         ensures contents { OnErr result (self.new.streamer.writer.contents ≡ self.old.streamer.writer.contents) }
     {
-        put_page(
-            &*self.words,
-            &mut self.streamer,
-            self.depth,
-            page,
-            frame,
-            tile,
-        )
+        put_page(&*self.words, &mut self.table, self.depth, page, frame, tile)
     }
 
-    /// Takes a page out of its frame.
-    pub fn unmap(&mut self, page: u32, frame: u32) -> Result<(), Refusal>
+    /// Takes a page out of its frame. It takes no memory.
+    pub fn unmap(&mut self, page: u32, frame: u32) -> Result<(), Waiting>
         requires page { page < pages_of self.old.streamer.shape }
         requires mapped { newest self.old.streamer.writer.journal page ≡ Some frame }
         requires other { page ≢ root_of self.old.streamer.shape }
         requires room { length self.old.streamer.writer.journal < most_versions }
         ensures rest { self.new ≡ record self.old { streamer = self.new.streamer } }
         ensures kept { HasKept self.old.streamer self.new.streamer }
+        ensures written { self.new.streamer.writer.texels ≡ self.old.streamer.writer.texels }
         ensures unmapped { OnOk result (HasUnmapped self.old.streamer page frame self.new.streamer) }
-        ensures why { IfErr result (IsWhy (AwaitsBank self.old.streamer self.new.streamer)) }
+        ensures waiting { IfErr result (λ w. AwaitsBank self.old.streamer self.new.streamer w.sampler w.holds) }
         ensures refused { OnErr result (self.new.streamer.writer.journal ≡ self.old.streamer.writer.journal) }
         ensures contents { OnErr result (self.new.streamer.writer.contents ≡ self.old.streamer.writer.contents) }
     {
-        take_page(&*self.words, &mut self.streamer, page, frame)
+        take_page(&*self.words, &mut self.table, page, frame)
     }
 
     /// Whether the root is mapped in the newest version.
@@ -179,8 +175,8 @@ impl Owner {
         ensures { result ≡ is_mapped (newest self.now.streamer.writer.journal) (root_of self.now.streamer.shape) }
     {
         let _depth = self.depth;
-        let root = self.streamer.geometry().page_count() - 1;
-        match self.streamer.frame_of(root) {
+        let root = self.table.geometry().page_count() - 1;
+        match self.table.frame_of(root) {
             Some(_) => true,
             None => false,
         }
@@ -210,9 +206,9 @@ impl Owner {
         ensures refused { OnErr result (self.new ≡ self.old) }
     {
         let words = Arc::try_clone(&self.words)?;
-        let pass = self.streamer.give_pass(&*self.words, sampler);
+        let pass = self.table.give_pass(&*self.words, sampler);
         self.out[sampler as usize] = true;
-        let geometry = *self.streamer.geometry();
+        let geometry = *self.table.geometry();
         Ok(Reader::new(words, geometry, self.depth, sampler, pass))
     }
 
@@ -235,7 +231,7 @@ impl Owner {
         contents_are_those_of_the_change_in_force();
         let sampler = reader.sampler();
         let pass = reader.into_pass();
-        self.streamer.take_back(&*self.words, pass);
+        self.table.take_back(&*self.words, pass);
         self.out[sampler as usize] = false;
     }
 }

@@ -1,4 +1,4 @@
-//! What the owner does to the words, each a step that may be refused and made again.
+//! What the owner does to the words, each a step that may have to wait for a sampler, and is made again then. None takes memory.
 
 ghost use Rattle.std.specs.Prelude.{◌≡◌, ◌≢◌, ℕ, ◌<◌, None, Some, length, IfErr, OnOk, OnErr};
 ghost use Rattle.vt_definitions.specs.Limits.{most_versions};
@@ -9,23 +9,14 @@ ghost use Rattle.vt_definitions.specs.Depths.{IsDepth};
 ghost use Rattle.vt_table.specs.Views.{IsTable};
 ghost use Rattle.vt_streamer.specs.Views.{IsStreamerOf, table_of};
 ghost use Rattle.vt_shared.specs.Given.{HasTileLength, AreOfTiles};
-ghost use Rattle.vt_shared.specs.Owners.{HasMapped, HasUnmapped, HasKept, IsWhy, AwaitsBank, AwaitsEither};
+ghost use Rattle.vt_shared.specs.Owners.{HasWritten, HasMapped, HasUnmapped, HasKept, AwaitsBank, AwaitsEither};
 
 use vt_grace::Words;
 use vt_journal::Change;
-use vt_streamer::{Streamer, Waiting};
-
-/// Why a step was refused.
-#[derive(Clone, Copy)]
-pub enum Refusal {
-    /// A sampler may still hold a version that the step would write over.
-    Waits(Waiting),
-    /// Memory was refused.
-    NoMemory,
-}
+use vt_streamer::{TableWriter, Waiting};
 
 /// Whether no page is mapped to a frame: a frame that is mapped was filled for its page.
-pub(crate) fn is_free(streamer: &Streamer, frame: u32) -> bool
+pub(crate) fn is_free(streamer: &TableWriter, frame: u32) -> bool
     requires lawful { IsTable (table_of streamer.now) }
     requires inside { frame < length streamer.now.owners }
     ensures { MatchBool result (IsFree (newest streamer.now.writer.journal) frame)
@@ -50,12 +41,12 @@ pub(crate) fn is_free(streamer: &Streamer, frame: u32) -> bool
 /// Fills a frame with the tile of a page and maps the page to it, as soon as no reader may hold a version that maps the frame.
 pub(crate) fn put_page(
     words: &Words,
-    streamer: &mut Streamer,
+    streamer: &mut TableWriter,
     depth: u32,
     page: u32,
     frame: u32,
     tile: &[u8],
-) -> Result<(), Refusal>
+) -> Result<(), Waiting>
     requires of { IsStreamerOf words.now streamer.old }
     requires page { page < pages_of streamer.old.shape }
     requires unmapped { newest streamer.old.writer.journal page ≡ None }
@@ -68,31 +59,29 @@ pub(crate) fn put_page(
     ensures of { IsStreamerOf words.now streamer.new }
     ensures kept { HasKept streamer.old streamer.new }
     ensures given { AreOfTiles streamer.new.shape depth streamer.new.writer.journal streamer.new.writer.contents }
+    ensures written { HasWritten streamer.old frame streamer.new }
     ensures mapped { OnOk result (HasMapped streamer.old page frame tile.now streamer.new) }
-    ensures why { IfErr result (IsWhy (AwaitsEither streamer.old frame streamer.new)) }
+    ensures waiting { IfErr result (λ w. AwaitsEither streamer.old frame streamer.new w.sampler w.holds) }
     ensures refused { OnErr result (streamer.new.writer.journal ≡ streamer.old.writer.journal) }
     ensures contents { OnErr result (streamer.new.writer.contents ≡ streamer.old.writer.contents) }
 {
-    if streamer.reserve(1).is_err() {
-        return Err(Refusal::NoMemory);
-    }
     if let Err(waiting) = streamer.try_free(words, frame) {
-        return Err(Refusal::Waits(waiting));
+        return Err(waiting);
     }
     streamer.fill(words, frame, page, tile);
     match streamer.try_publish(words, Change::Map { page, frame }) {
         Ok(_) => Ok(()),
-        Err(waiting) => Err(Refusal::Waits(waiting)),
+        Err(waiting) => Err(waiting),
     }
 }
 
 /// Takes a page out of its frame.
 pub(crate) fn take_page(
     words: &Words,
-    streamer: &mut Streamer,
+    streamer: &mut TableWriter,
     page: u32,
     frame: u32,
-) -> Result<(), Refusal>
+) -> Result<(), Waiting>
     requires of { IsStreamerOf words.now streamer.old }
     requires page { page < pages_of streamer.old.shape }
     requires mapped { newest streamer.old.writer.journal page ≡ Some frame }
@@ -102,16 +91,14 @@ pub(crate) fn take_page(
     ensures kept { HasKept streamer.old streamer.new }
     ensures given { (d : ℕ) → AreOfTiles streamer.old.shape d streamer.old.writer.journal streamer.old.writer.contents
         → AreOfTiles streamer.new.shape d streamer.new.writer.journal streamer.new.writer.contents }
+    ensures written { streamer.new.writer.texels ≡ streamer.old.writer.texels }
     ensures unmapped { OnOk result (HasUnmapped streamer.old page frame streamer.new) }
-    ensures why { IfErr result (IsWhy (AwaitsBank streamer.old streamer.new)) }
+    ensures waiting { IfErr result (λ w. AwaitsBank streamer.old streamer.new w.sampler w.holds) }
     ensures refused { OnErr result (streamer.new.writer.journal ≡ streamer.old.writer.journal) }
     ensures contents { OnErr result (streamer.new.writer.contents ≡ streamer.old.writer.contents) }
 {
-    if streamer.reserve(1).is_err() {
-        return Err(Refusal::NoMemory);
-    }
     match streamer.try_publish(words, Change::Unmap { page, frame }) {
         Ok(_) => Ok(()),
-        Err(waiting) => Err(Refusal::Waits(waiting)),
+        Err(waiting) => Err(waiting),
     }
 }

@@ -3,7 +3,9 @@ pub use Rattle.vt_table.proofs.Lawful
 pub use Rattle.vt_table.proofs.TileWords
 pub use Rattle.vt_table.proofs.Versions
 mod Looking
+mod Lasting
 mod Leading
 mod Filling
 mod Freeing
 mod Keeping
+mod Sparing

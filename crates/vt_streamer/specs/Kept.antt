@@ -1,8 +1,7 @@
--- What a streamer keeps beside its view.
+-- What the writer of a table keeps beside its view.
 use Rattle.std.specs.Prelude.{◌≡◌, ℕ, ◌<◌, List, length, slice_index}
 use Rattle.vt_pages.specs.Shape.{Shape}
 use Rattle.vt_pages.specs.Pages.{pages_of}
-use Rattle.vt_table.specs.JournalTypes.changes.Change.{Change}
 use Rattle.vt_table.specs.Changes.{newest, IsFree}
 use Rattle.vt_table.specs.JournalKept.{entries_of}
 use Rattle.vt_table.specs.Views.{IsTable}
@@ -11,18 +10,21 @@ use Rattle.vt_grace.specs.Sizes.{sizes_of}
 use Rattle.vt_grace.specs.Sound.{IsSound}
 use Rattle.vt_streamer.specs.Banks.{AreInside, AreRotated}
 use Rattle.vt_streamer.specs.Frees.{IsFreeSince}
+use Rattle.vt_streamer.specs.declared.latest.Latest.{Latest}
+use Rattle.vt_streamer.specs.Latests.{AreLatest}
 use Rattle.vt_streamer.specs.Views.{StreamerView, table_of}
 
 -- what is seen of what is kept
-abbrev pub view_of : Shape → WriterValue → ℕ → List ℕ → StreamerView
-view_of s seat spare owners = record { table = seat.table; shape = s; writer = seat.view; spare = spare; owners = owners }
+abbrev pub view_of : Shape → WriterValue → List ℕ → StreamerView
+view_of s seat owners = record { table = seat.table; shape = s; writer = seat.view; spare = 0; owners = owners }
 
--- what is kept is the writer's: its journal, its floors, for each page the number of its frame, and for each free frame since when it is free
-pub record IsKept (v : StreamerView) (samplers : ℕ) (changes : List Change) (entries floors since : List ℕ) : Type 0 where
+-- what is kept is the writer's: the last three changes, its floors, for each page the number of its frame, and for each free frame since when
+-- it is free
+pub record IsKept (v : StreamerView) (samplers : ℕ) (latest : Latest) (entries floors since : List ℕ) : Type 0 where
   pub lawful : IsTable (table_of v)
   pub sound : IsSound v.writer
   pub sizes : v.writer.sizes ≡ sizes_of v.shape (length v.owners) samplers
-  pub journal : v.writer.journal ≡ changes
+  pub last_three : AreLatest v.writer.journal latest
   pub inside : AreInside v.writer.sizes v.writer.journal
   pub rotated : AreRotated v.writer
   pub all_floors : floors ≡ v.writer.floors

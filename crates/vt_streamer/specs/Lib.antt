@@ -14,4 +14,5 @@ pub mod Banks
 pub mod Fills
 pub mod Frees
 pub mod Views
+pub mod Latests
 pub mod Kept

@@ -8,14 +8,18 @@ use Rattle.vt_grace.specs.Values.{WordsValue}
 use Rattle.vt_grace.specs.Sound.{IsSound}
 use Rattle.vt_table.specs.Views.{TableView, IsTable}
 
--- of which words it is, the shape of the pages, what the writer knows, the room for more changes, and for each frame 1 more than the page
--- for which it was filled since it could be, or 0
+-- of which words it is, the shape of the pages, what the writer knows, the room for more changes where the journal is kept (else 0), and
+-- for each frame 1 more than the page for which it was filled since it could be, or 0
 pub record StreamerView : Type 0 where
   pub table : TableId
   pub shape : Shape
   pub writer : WriterView
   pub spare : ℕ
   pub owners : List ℕ
+
+-- it keeps its journal, with so much room for more changes
+abbrev pub with_room : StreamerView → ℕ → StreamerView
+with_room v room = record v { spare = room }
 
 -- its page table, as that of a table that changes only between draws; the frames hold words here, and no bytes of tiles
 abbrev pub table_of : StreamerView → TableView

@@ -1,6 +1,6 @@
 //! The bank of the next version is made, change by change, from the version that it had to the next one.
 
-ghost use Rattle.std.specs.Prelude.{◌≡◌, ℕ, ◌+◌, ◌≤◌, ◌<◌, length};
+ghost use Rattle.std.specs.Prelude.{◌≡◌, ℕ, ◌+◌, ◌≤◌, ◌<◌};
 ghost use Rattle.vt_definitions.specs.Limits.{most_versions};
 ghost use Rattle.vt_table.specs.Changes.{at, newest};
 ghost use Rattle.vt_table.specs.Lookups.{change_page};
@@ -11,9 +11,11 @@ ghost use Rattle.vt_grace.specs.Banks.{MayWriteNext, Stands};
 ghost use Rattle.vt_grace.specs.Sound.{IsSound};
 ghost use Rattle.vt_grace.specs.Tokens.{IsWriterOf};
 ghost use Rattle.vt_streamer.specs.Banks.{new_entry, IsInside, AreInside, AreRotated, HasEntered, HasPublished};
+ghost use Rattle.vt_streamer.specs.Latests.{AreLatest};
 
+use crate::latest::{Latest, change_back};
 use vt_grace::{Words, WriterSeat};
-use vt_table::{Change, Journal};
+use vt_table::Change;
 
 // Writes the entry that a change gives its page into the bank of the next version.
 fn advance(words: &Words, writer: &mut WriterSeat, change: Change)
@@ -30,36 +32,38 @@ fn advance(words: &Words, writer: &mut WriterSeat, change: Change)
     }
 }
 
-// Leads the bank of the next version on, from an older version to the newest.
-fn lead_on(words: &Words, writer: &mut WriterSeat, journal: &Journal, from: u64)
+// Leads the bank of the next version on, from a version at most three before the newest one.
+fn lead_on(words: &Words, writer: &mut WriterSeat, latest: &Latest, from: u64, version: u64)
     requires of { IsWriterOf words.now writer.old }
     requires sound { IsSound writer.old.view }
     requires may { MayWriteNext writer.old.view }
-    requires changes { journal.now.changes ≡ writer.old.view.journal }
-    requires inside { AreInside words.now.sizes journal.now.changes }
-    requires from { from ≤ length journal.now.changes }
-    requires stands { Stands words.now.sizes writer.old.view.entries (at journal.now.changes from)
+    requires latest { AreLatest writer.old.view.journal latest.now }
+    requires inside { AreInside words.now.sizes writer.old.view.journal }
+    requires version { version ≡ version_of writer.old.view }
+    requires from { from ≤ version }
+    requires few { version ≤ from + 3 }
+    requires stands { Stands words.now.sizes writer.old.view.entries (at writer.old.view.journal from)
         (bank_of (version_of writer.old.view + 1)) }
     ensures of { IsWriterOf words.now writer.new }
     ensures sound { IsSound writer.new.view }
     ensures entered { HasEntered writer.old.view writer.new.view }
-    ensures stands { Stands words.now.sizes writer.new.view.entries (newest journal.now.changes)
+    ensures stands { Stands words.now.sizes writer.new.view.entries (newest writer.old.view.journal)
         (bank_of (version_of writer.old.view + 1)) }
 {
-    for version in from..journal.version() {
-        advance(words, writer, journal.change(version + 1));
+    for made in from..version {
+        advance(words, writer, change_back(latest, version - made));
     }
 }
 
 /// Writes the entries by which the next version differs from the one four before it, at most four, and publishes it.
-pub(crate) fn put_next(words: &Words, writer: &mut WriterSeat, journal: &Journal, change: Change)
+pub(crate) fn put_next(words: &Words, writer: &mut WriterSeat, latest: &Latest, change: Change)
     requires of { IsWriterOf words.now writer.old }
     requires sound { IsSound writer.old.view }
     requires may { MayWriteNext writer.old.view }
-    requires changes { journal.now.changes ≡ writer.old.view.journal }
-    requires all { AreInside words.now.sizes journal.now.changes }
+    requires latest { AreLatest writer.old.view.journal latest.now }
+    requires all { AreInside words.now.sizes writer.old.view.journal }
     requires rotated { AreRotated writer.old.view }
-    requires next { IsNextKeeping words.now.sizes.root (newest journal.now.changes) change }
+    requires next { IsNextKeeping words.now.sizes.root (newest writer.old.view.journal) change }
     requires inside { IsInside words.now.sizes change }
     requires room { version_of writer.old.view < most_versions }
     ensures of { IsWriterOf words.now writer.new }
@@ -68,8 +72,9 @@ pub(crate) fn put_next(words: &Words, writer: &mut WriterSeat, journal: &Journal
     ensures published { HasPublished writer.old.view writer.new.view change }
     ensures floors { writer.new.view.floors ≡ writer.old.view.floors }
 {
-    let from = journal.version().saturating_sub(3);
-    lead_on(words, writer, journal, from);
+    let version = writer.version();
+    let from = version.saturating_sub(3);
+    lead_on(words, writer, latest, from, version);
     advance(words, writer, change);
     writer.publish(words, change);
 }

@@ -4,9 +4,12 @@
 mod banks;
 mod fills;
 mod frees;
+mod latest;
 mod looks;
 mod streamer;
+mod table_writer;
 
 pub use looks::Waiting;
 pub use streamer::Streamer;
+pub use table_writer::TableWriter;
 pub use vt_grace::Words;

@@ -1,6 +1,6 @@
 //! The page table of shared words with its journal, as the one who changes it has it.
 
-ghost use Rattle.std.specs.Prelude.{◌≡◌, ◌≢◌, ℕ, ◌+◌, ◌-◌, ◌*◌, ◌<◌, ◌≤◌, false, length, IfOk, IfErr, OnOk, OnErr, IsOk, slice_index};
+ghost use Rattle.std.specs.Prelude.{◌≡◌, ◌≢◌, ℕ, ◌+◌, ◌-◌, ◌*◌, ◌<◌, ◌≤◌, false, length, IfOk, IfErr, OnOk, OnErr, IsOk};
 ghost use Rattle.vt_definitions.specs.Limits.{most_samplers, most_frames, most_frame_texels, most_versions};
 ghost use Rattle.vt_pages.specs.Pages.{pages_of};
 ghost use Rattle.vt_table.specs.Changes.{newest, nothing_mapped, IsFree, IsLegalNext};
@@ -9,7 +9,7 @@ ghost use Rattle.vt_grace.specs.Sizes.{sizes_of};
 ghost use Rattle.vt_grace.specs.Places.{frame_words};
 ghost use Rattle.vt_grace.specs.WriterViews.{first_writer, version_of, is_out, after_look};
 ghost use Rattle.vt_grace.specs.Giving.{after_giving, after_return, new_pass};
-ghost use Rattle.vt_grace.specs.Banks.{MayWriteNext, MayFill};
+ghost use Rattle.vt_grace.specs.Banks.{MayFill};
 ghost use Rattle.vt_grace.specs.Tokens.{IsPassOf};
 ghost use Rattle.vt_streamer.specs.Looks.{HasLooked, IsFirstBehind};
 ghost use Rattle.vt_streamer.specs.Banks.{HasPublished};
@@ -17,45 +17,32 @@ ghost use Rattle.vt_streamer.specs.Fills.{words_in};
 ghost use Rattle.vt_streamer.specs.Frees.{IsFreeFrom, IsUnmappedBy};
 ghost use Rattle.vt_streamer.specs.Views.{StreamerView, table_of, IsStreamerOf};
 
-use crate::banks::put_next;
-use crate::fills::fill_frame;
-use crate::frees::note_unmapped;
-use crate::looks::{Waiting, reach_all};
+use crate::looks::Waiting;
+use crate::table_writer::TableWriter;
 use std::alloc::Global;
 use std::marker::Model;
-use vt_grace::{Pass, Words, WriterSeat};
+use vt_grace::{Pass, Words};
 use vt_outside::NoMemory;
 use vt_pages::Geometry;
-use vt_table::{Change, Journal, depth_in, free_owner, put_entry};
+use vt_table::{Change, Journal};
 
-/// A page table of shared words with its journal, as its one writer has it (Mayer 2010). Contracts see of which words it is, what the
-/// writer knows, the room for more changes, and of each frame for which page it was filled since it could be.
+/// A page table of shared words with its journal, as its one writer has it. Contracts see of which words it is, what the writer knows, the
+/// room for more changes, and of each frame for which page it was filled since it could be.
 #[derive(Drop)]
 pub struct Streamer {
-    geometry: Geometry,
-    samplers: u32,
-    seat: WriterSeat,
+    table: TableWriter,
     journal: Journal,
-    // For each page 1 more than its frame, or 0.
-    entries: Vec<u32>,
-    // For each frame 1 more than the page for which it was filled since it could be, or 0.
-    owners: Vec<u32>,
-    // For each sampler the version below which it can hold nothing.
-    floors: Vec<u64>,
-    // For each frame the version that unmapped it last, or 0.
-    unmapped: Vec<u64>,
 }
 
 impl Model for Streamer {
-    ghost use Rattle.vt_streamer.specs.Views.{StreamerView};
-    ghost use Rattle.vt_streamer.specs.Kept.{view_of, IsKept};
+    ghost use Rattle.std.specs.Prelude.{◌≡◌};
+    ghost use Rattle.vt_streamer.specs.Views.{StreamerView, with_room};
 
     ghost Value = { StreamerView };
 
-    ghost view = { λ s. view_of s.geometry s.seat s.journal.spare s.owners.items };
+    ghost view = { λ s. with_room s.table s.journal.spare };
 
-    ghost invariant = { λ s. IsKept (view_of s.geometry s.seat s.journal.spare s.owners.items)
-        s.samplers s.journal.changes s.entries.items s.floors.items s.unmapped.items };
+    ghost invariant = { λ s. s.table.writer.journal ≡ s.journal.changes };
 }
 
 impl Streamer {
@@ -78,22 +65,12 @@ impl Streamer {
         ensures writer { IfOk result (λ made. made.1.writer ≡ first_writer (sizes_of geometry.now frames samplers)) }
         ensures unfilled { IfOk result (λ made. filled_for (table_of made.1) ≡ nothing_mapped) }
     {
-        let (words, seat) = Words::new(alloc, geometry, frames, samplers)?;
-        let entries = Vec::from_elem(alloc, 0, geometry.page_count() as usize)?;
-        let owners = Vec::from_elem(alloc, 0, frames as usize)?;
-        let floors = Vec::from_elem(alloc, 0, samplers as usize)?;
-        let unmapped = Vec::from_elem(alloc, 0, frames as usize)?;
+        let (words, table) = TableWriter::new(alloc, geometry, frames, samplers)?;
         Ok((
             words,
             Streamer {
-                geometry: *geometry,
-                samplers,
-                seat,
+                table,
                 journal: Journal::new(alloc),
-                entries,
-                owners,
-                floors,
-                unmapped,
             },
         ))
     }
@@ -125,12 +102,7 @@ impl Streamer {
         ensures never { IsFreeFrom self.old.writer.journal frame 0 → IsOk result }
         ensures idle { ((k : ℕ) → is_out self.old.writer k ≡ false) → IsOk result }
     {
-        let least = self.unmapped[frame as usize];
-        let floors = self.floors.as_mut_slice();
-        if let Some(waiting) = reach_all(words, &mut self.seat, floors, self.samplers, least) {
-            return Err(waiting);
-        }
-        Ok(())
+        self.table.try_free(words, frame)
     }
 
     /// Fills a frame that may be filled with the tile of a page: the bytes of its texels row by row, three samples a texel, of one byte
@@ -152,11 +124,7 @@ impl Streamer {
           owners = self.new.owners;
         } }
     {
-        let side = self.geometry.tile();
-        let texels = side * side;
-        let depth = u32::from(depth_in(tile.len(), 6 * texels as usize));
-        fill_frame(words, &mut self.seat, frame, tile, depth, texels);
-        self.owners[frame as usize] = page + 1;
+        self.table.fill(words, frame, page, tile);
     }
 
     /// Publishes a change, which makes the next version, and answers that version. There is room for the change, it is legal next, and
@@ -181,37 +149,14 @@ impl Streamer {
             IsFirstBehind self.old.writer self.new.writer (version_of self.old.writer - 2) w.sampler w.holds) }
         ensures idle { ((k : ℕ) → is_out self.old.writer k ≡ false) → IsOk result }
     {
-        let least = self.journal.version().saturating_sub(2);
-        let floors = self.floors.as_mut_slice();
-        match reach_all(words, &mut self.seat, floors, self.samplers, least) {
-            None => Ok(self.publish(words, change)),
-            Some(waiting) => Err(waiting),
+        let _version = self.journal.version();
+        match self.table.try_publish(words, change) {
+            Ok(version) => {
+                self.journal.push(change);
+                Ok(version)
+            }
+            Err(waiting) => Err(waiting),
         }
-    }
-
-    // Publishes a change, where no floor is more than two versions behind.
-    fn publish(&mut self, words: &Words, change: Change) -> u64
-        requires of { IsStreamerOf words.now self.old }
-        requires may { MayWriteNext self.old.writer }
-        requires room { 1 ≤ self.old.spare }
-        requires within { IsWithin (table_of self.old) change }
-        requires legal { IsLegalNext self.old.shape (newest self.old.writer.journal) change }
-        requires ready { IsReady (table_of self.old) change }
-        ensures of { IsStreamerOf words.now self.new }
-        ensures version { result ≡ version_of self.new.writer }
-        ensures published { HasPublished self.old.writer self.new.writer change }
-        ensures filled { filled_for (table_of self.new) ≡ filled_after (filled_for (table_of self.old)) change }
-        ensures spare { self.old.spare ≤ self.new.spare + 1 }
-        ensures bound { version_of self.new.writer + self.new.spare ≤ most_versions }
-        ensures shape { self.new.shape ≡ self.old.shape }
-    {
-        let version = self.journal.version() + 1;
-        put_next(words, &mut self.seat, &self.journal, change);
-        self.journal.push(change);
-        put_entry(self.entries.as_mut_slice(), change);
-        free_owner(self.owners.as_mut_slice(), change);
-        note_unmapped(self.unmapped.as_mut_slice(), change, version);
-        version
     }
 
     /// The journal of the page table, whose newest version is the table's.
@@ -220,7 +165,7 @@ impl Streamer {
         ensures changes { result.now.changes ≡ self.now.writer.journal }
         ensures spare { result.now.spare ≡ self.now.spare }
     {
-        let _samplers = self.samplers;
+        let _version = self.table.version();
         &self.journal
     }
 
@@ -229,26 +174,8 @@ impl Streamer {
     pub fn geometry(&self) -> &Geometry
         ensures { result.now ≡ self.now.shape }
     {
-        let _samplers = self.samplers;
-        &self.geometry
-    }
-
-    /// How many frames there are.
-    #[inline]
-    pub fn frames(&self) -> usize
-        ensures { result ≡ length self.now.owners }
-    {
-        let _samplers = self.samplers;
-        self.owners.len()
-    }
-
-    /// One more than the page for which a frame was filled since it could be, or 0.
-    #[inline]
-    pub fn owner_of(&self, frame: u32) -> u32
-        requires { frame < length self.now.owners }
-        ensures { result ≡ slice_index self.now.owners frame }
-    {
-        self.owners[frame as usize]
+        let _version = self.journal.version();
+        self.table.geometry()
     }
 
     /// The frame of a page in the newest version; `None` exactly where the page is not mapped.
@@ -257,10 +184,8 @@ impl Streamer {
         requires { page < pages_of self.now.shape }
         ensures { result ≡ newest self.now.writer.journal page }
     {
-        match self.entries[page as usize] {
-            0 => None,
-            number => Some(number - 1),
-        }
+        let _version = self.journal.version();
+        self.table.frame_of(page)
     }
 
     /// Gives a pass to a sampler that has none.
@@ -273,9 +198,7 @@ impl Streamer {
         ensures pass { result.view ≡ new_pass self.old.writer sampler }
         ensures given { self.new ≡ record self.old { writer = after_giving (after_look self.old.writer sampler 0) sampler } }
     {
-        let pass = self.seat.give_pass(words, sampler);
-        self.floors[sampler as usize] = self.journal.version();
-        pass
+        self.table.give_pass(words, sampler)
     }
 
     /// Takes a pass back. From then on all that it noted is known to be true of the journal.
@@ -285,6 +208,6 @@ impl Streamer {
         ensures of { IsStreamerOf words.now self.new }
         ensures taken { self.new ≡ record self.old { writer = after_return self.old.writer pass.view } }
     {
-        self.seat.take_back(words, pass);
+        self.table.take_back(words, pass);
     }
 }

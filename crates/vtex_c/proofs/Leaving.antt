@@ -1,5 +1,5 @@
 -- Which pages can be taken out of their frames.
-use Rattle.std.proofs.Common.{◌≡◌, ◌≢◌, ◌∙◌, ◌<◌, ◌≤◌, ◌-◌, ℕ, sym, ap, Option, None, Some, arith}
+use Rattle.std.proofs.Common.{◌≡◌, ◌∙◌, ◌<◌, ◌≤◌, ◌-◌, ℕ, sym, ap, Option, None, Some, arith}
 use Rattle.std.specs.Prelude.{length, is_some, MatchOption}
 use Rattle.std.proofs.lemmas.Bool.{false≢true}
 use Rattle.vt_definitions.specs.Limits.{most_versions}

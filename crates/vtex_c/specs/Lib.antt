@@ -4,3 +4,4 @@ pub mod Stores
 pub mod Caches
 pub mod Readers
 pub mod Tables
+pub mod Settlings

@@ -1,5 +1,5 @@
 -- What the calls from C do to a shared table, by the number that they answer.
-use Rattle.std.specs.Prelude.{◌≡◌, ◌≢◌, ℕ, ◌+◌, ◌*◌, ◌<◌, ◌≤◌, ◌⊎◌, Option, None, Some, IsSome, true, List, length}
+use Rattle.std.specs.Prelude.{◌≡◌, ◌≢◌, ℕ, ◌*◌, ◌<◌, ◌≤◌, ◌⊎◌, Option, None, Some, IsSome, true, List, length}
 use Rattle.vt_definitions.specs.Limits.{most_frames, most_frame_texels, most_samplers, most_versions}
 use Rattle.vt_definitions.specs.Depths.{IsDepth}
 use Rattle.vt_pages.specs.Shape.{Shape}
@@ -13,7 +13,7 @@ use Rattle.vt_grace.specs.Giving.{after_return}
 use Rattle.vt_lookup.specs.Notes.{IsNotedIn}
 use Rattle.vt_shared.specs.declared.points.Point.{Point}
 use Rattle.vt_shared.specs.Given.{HasTileLength, IsOfItsTile}
-use Rattle.vt_shared.specs.Owners.{OwnerView, HasKept, HasMapped, HasUnmapped, AwaitsBank, AwaitsEither}
+use Rattle.vt_shared.specs.Owners.{OwnerView, HasKept, HasWritten, HasMapped, HasUnmapped, AwaitsBank, AwaitsEither}
 use Rattle.vt_shared.specs.Points.{IsAnswered}
 use Rattle.vt_shared.specs.Readers.{ReaderView, left_by, IsReaderOf, IsAdmitted as IsAdmittedBy}
 use Rattle.vtex_c.specs.declared.shape.VtexShape.{VtexShape}
@@ -62,14 +62,21 @@ pub record IsTableOpened (old : TablePlace) (s : VtexShape) (depth frames reader
 pub record HasMappedPage (page frame : ℕ) (tile : List ℕ) (a b : OwnerView) : Type 0 where
   pub rest : b ≡ record a { streamer = b.streamer }
   pub kept : HasKept a.streamer b.streamer
+  pub written : HasWritten a.streamer frame b.streamer
   pub mapped : HasMapped a.streamer page frame tile b.streamer
 
--- a page was taken out of its frame, in the next version
-pub record HasUnmappedPage (page : ℕ) (a b : OwnerView) : Type 0 where
-  pub frame : ℕ
+-- a page was taken out of a frame, in the next version
+pub record HasLeftFrame (page frame : ℕ) (a b : OwnerView) : Type 0 where
   pub rest : b ≡ record a { streamer = b.streamer }
   pub kept : HasKept a.streamer b.streamer
+  pub written : b.streamer.writer.texels ≡ a.streamer.writer.texels
   pub unmapped : HasUnmapped a.streamer page frame b.streamer
+
+-- a page was taken out of the frame that it had
+pub record HasUnmappedPage (page : ℕ) (a b : OwnerView) : Type 0 where
+  pub frame : ℕ
+  pub was : newest a.streamer.writer.journal page ≡ Some frame
+  pub left : HasLeftFrame page frame a b
 
 -- there is no new version
 pub record HasNoVersion (a b : OwnerView) : Type 0 where
@@ -95,31 +102,54 @@ pub record MayUnmap (o : OwnerView) (page : ℕ) : Type 0 where
   pub mapped : IsSome (newest o.streamer.writer.journal page)
   pub room : length o.streamer.writer.journal < most_versions
 
--- a page was mapped: 0; a number or a length is none that it may be: 2; memory was refused: 3; there is no table: 4; a reader may still
--- hold a version that needs the frame or the bank, and it is told which: 6
+-- in an open table a page was mapped: 0; a number or a length is none that it may be: 2; a reader may still hold a version that needs the
+-- frame or the bank, and it is told which: 6
+pub record IsPut (a : OwnerView) (page frame : ℕ) (tile : List ℕ) (before : VtexWaiting) (status : ℕ) (after : VtexWaiting) (b : OwnerView) : Type 0 where
+  pub statuses : (status ≡ 0) ⊎ (status ≡ 2) ⊎ (status ≡ 6)
+  pub inside : status ≡ 0 → MayMap a page frame (length tile)
+  pub mapped : status ≡ 0 → HasMappedPage page frame tile a b
+  pub unfit : status ≡ 2 → MayMap a page frame (length tile) → ⊥
+  pub same : status ≡ 2 → b ≡ a
+  pub waits : status ≡ 6 → HasNoVersion a b
+  pub wrote : status ≡ 6 → HasWritten a.streamer frame b.streamer
+  pub awaited : status ≡ 6 → AwaitsEither a.streamer frame b.streamer after.reader after.version
+  pub kept : (status ≡ 6 → ⊥) → after ≡ before
+
+-- in an open table a page was taken out of the frame that it had: 0; a reader may still hold a version that needs the bank, and it is told
+-- which: 6
+pub record IsLeft (a : OwnerView) (page frame : ℕ) (before : VtexWaiting) (status : ℕ) (after : VtexWaiting) (b : OwnerView) : Type 0 where
+  pub statuses : (status ≡ 0) ⊎ (status ≡ 6)
+  pub left : status ≡ 0 → HasLeftFrame page frame a b
+  pub waits : status ≡ 6 → HasNoVersion a b
+  pub wrote : status ≡ 6 → b.streamer.writer.texels ≡ a.streamer.writer.texels
+  pub awaited : status ≡ 6 → AwaitsBank a.streamer b.streamer after.reader after.version
+  pub kept : (status ≡ 6 → ⊥) → after ≡ before
+
+-- a page was mapped: 0; a number or a length is none that it may be: 2; there is no table: 4; a reader may still hold a version that needs
+-- the frame or the bank, and it is told which: 6. No memory is taken, so none is refused
 pub record IsMapped (old : TablePlace) (page frame : ℕ) (tile : List ℕ) (before : VtexWaiting) (status : ℕ) (after : VtexWaiting) (new : TablePlace) : Type 0 where
-  pub statuses : (status ≡ 0) ⊎ (status ≡ 2) ⊎ (status ≡ 3) ⊎ (status ≡ 4) ⊎ (status ≡ 6)
+  pub statuses : (status ≡ 0) ⊎ (status ≡ 2) ⊎ (status ≡ 4) ⊎ (status ≡ 6)
   pub inside : status ≡ 0 → Holding (λ o. MayMap o page frame (length tile)) old.inner
   pub mapped : status ≡ 0 → Between (HasMappedPage page frame tile) old.inner new.inner
   pub unfit : status ≡ 2 → Holding (λ o. MayMap o page frame (length tile) → ⊥) old.inner
   pub same : status ≡ 2 → new ≡ old
-  pub refused : status ≡ 3 → Between HasNoVersion old.inner new.inner
   pub closed : status ≡ 4 → (old.inner ≡ None) × (new ≡ old)
   pub waits : status ≡ 6 → Between HasNoVersion old.inner new.inner
+  pub wrote : status ≡ 6 → Between (λ a b. HasWritten a.streamer frame b.streamer) old.inner new.inner
   pub awaited : status ≡ 6 → Between (λ a b. AwaitsEither a.streamer frame b.streamer after.reader after.version) old.inner new.inner
   pub kept : (status ≡ 6 → ⊥) → after ≡ before
 
--- a page was taken out of its frame: 0; it is not mapped, or is the root: 2; memory was refused: 3; there is no table: 4; a reader may
--- still hold a version that needs the bank, and it is told which: 6
+-- a page was taken out of its frame: 0; it is not mapped, or is the root: 2; there is no table: 4; a reader may still hold a version that
+-- needs the bank, and it is told which: 6. No memory is taken, so none is refused
 pub record IsUnmapped (old : TablePlace) (page : ℕ) (before : VtexWaiting) (status : ℕ) (after : VtexWaiting) (new : TablePlace) : Type 0 where
-  pub statuses : (status ≡ 0) ⊎ (status ≡ 2) ⊎ (status ≡ 3) ⊎ (status ≡ 4) ⊎ (status ≡ 6)
+  pub statuses : (status ≡ 0) ⊎ (status ≡ 2) ⊎ (status ≡ 4) ⊎ (status ≡ 6)
   pub inside : status ≡ 0 → Holding (λ o. MayUnmap o page) old.inner
   pub unmapped : status ≡ 0 → Between (HasUnmappedPage page) old.inner new.inner
   pub unfit : status ≡ 2 → Holding (λ o. MayUnmap o page → ⊥) old.inner
   pub same : status ≡ 2 → new ≡ old
-  pub refused : status ≡ 3 → Between HasNoVersion old.inner new.inner
   pub closed : status ≡ 4 → (old.inner ≡ None) × (new ≡ old)
   pub waits : status ≡ 6 → Between HasNoVersion old.inner new.inner
+  pub wrote : status ≡ 6 → Between (λ a b. b.streamer.writer.texels ≡ a.streamer.writer.texels) old.inner new.inner
   pub awaited : status ≡ 6 → Between (λ a b. AwaitsBank a.streamer b.streamer after.reader after.version) old.inner new.inner
   pub kept : (status ≡ 6 → ⊥) → after ≡ before
 
@@ -144,6 +174,7 @@ pub record HasSameVersions (a b : OwnerView) : Type 0 where
 pub record IsAdmitted (old : TablePlace) (before : ReaderPlace) (status : ℕ) (new : TablePlace) (after : ReaderPlace) : Type 0 where
   pub statuses : (status ≡ 0) ⊎ (status ≡ 2) ⊎ (status ≡ 3) ⊎ (status ≡ 4)
   pub inside : status ≡ 0 → before.inner ≡ None
+  pub rooted : status ≡ 0 → Holding (λ o. is_mapped (newest o.streamer.writer.journal) (root_of o.streamer.shape) ≡ true) old.inner
   pub unfit : status ≡ 2 → before.inner ≡ None → Holding CannotAdmit old.inner
   pub admitted : status ≡ 0 → IsNewReader old.inner after.inner
   pub versions : status ≡ 0 → Between HasSameVersions old.inner new.inner

@@ -18,6 +18,7 @@ ghost use Rattle.vtex_c.specs.Stores.{IsStoreOpened, IsTileFound};
 
 mod cache;
 mod reader;
+mod settle;
 mod shape;
 mod shared;
 mod store;

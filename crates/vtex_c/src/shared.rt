@@ -10,12 +10,14 @@ ghost use Rattle.vtex_c.specs.contracts.reader.ReaderPlace.{the_row as reader_ro
 ghost use Rattle.vtex_c.specs.declared.table.TablePlace.{TablePlace};
 ghost use Rattle.vtex_c.specs.declared.reader.ReaderPlace.{ReaderPlace};
 ghost use Rattle.vtex_c.specs.Tables.{IsTableOpened, IsMapped, IsUnmapped, IsAdmitted, IsTakenBack, IsTableClosed, AreOfOneTable};
+ghost use Rattle.vtex_c.specs.Settlings.{IsSettled};
 ghost use Rattle.vtex_c.specs.Readers.{IsNumbered, IsHeld, IsFoundUnder, IsRead, IsRunRead, IsReleased, IsShut};
 
 use crate::reader::ReaderPlace;
+use crate::settle::VtexStep;
 use crate::shape::VtexShape;
 use crate::table::{TablePlace, VtexWaiting};
-use crate::{reader, table};
+use crate::{reader, settle, table};
 use std::alloc::Global;
 use vt_residency::Place;
 use vt_shared::{Point, Span};
@@ -111,6 +113,23 @@ pub unsafe extern "C" fn vtex_table_unmap(
     ensures* { ∃ₛ (λ (d : TablePlace). sem 𝓛 (lies_at table_row full_share at d) ∗ ⌜ IsUnmapped c page waiting.old result waiting.new d ⌝) }
 {
     table::unmap(&mut *(at as *mut TablePlace), page, waiting)
+}
+
+/// Makes changes in their order until one cannot be made at once, tells how many were made, and whom the next one waits for. A map has one
+/// of the tiles given, which stand one after the other.
+#[unsafe(no_mangle)]
+pub unsafe extern "C" fn vtex_table_settle(
+    at: *mut VtexTable,
+    steps: &[VtexStep],
+    tiles: &[u8],
+    made: &mut u64,
+    waiting: &mut VtexWaiting,
+) -> u32
+    ghost c: { TablePlace }
+    requires* { sem 𝓛 (lies_at table_row full_share at c) }
+    ensures* { ∃ₛ (λ (d : TablePlace). sem 𝓛 (lies_at table_row full_share at d) ∗ ⌜ IsSettled c steps.now tiles.now made.old waiting.old result made.new waiting.new d ⌝) }
+{
+    settle::settle(&mut *(at as *mut TablePlace), steps, tiles, made, waiting)
 }
 
 /// Opens a reader of a table whose root is mapped. The reader may then pass to another thread.

@@ -4,7 +4,7 @@ ghost use Rattle.std.specs.Prelude.{◌≡◌, Some, None, MatchOption};
 ghost use Rattle.std.specs.Bool.{MatchBool};
 ghost use Rattle.vt_definitions.specs.Depths.{IsDepth};
 ghost use Rattle.vt_shared.specs.Given.{HasTileLength};
-ghost use Rattle.vtex_c.specs.Tables.{AreNumbers, IsTableOpened, IsMapped, IsUnmapped, IsAdmitted, IsTakenBack, IsTableClosed, AreOfOneTable, MayMap, MayUnmap};
+ghost use Rattle.vtex_c.specs.Tables.{AreNumbers, IsTableOpened, IsPut, IsLeft, IsMapped, IsUnmapped, IsAdmitted, IsTakenBack, IsTableClosed, AreOfOneTable, MayMap, MayUnmap};
 ghost use Rattle.vt_journal.specs.Changes.{newest};
 
 use crate::reader::ReaderPlace;
@@ -12,7 +12,7 @@ use crate::shape::{VtexShape, geometry_of};
 use crate::{BAD_NUMBER, BAD_SHAPE, CLOSED, DONE, NO_MEMORY, WAITING};
 use std::alloc::Global;
 use vt_pages::Geometry;
-use vt_shared::{Owner, Refusal};
+use vt_shared::{Owner, Waiting};
 
 /// Whom a call waits for: the number of a reader, and the version that it announced. It may hold this one or a later one.
 #[repr(C)]
@@ -75,8 +75,8 @@ fn may_map(owner: &Owner, page: u32, frame: u32, bytes: usize) -> bool
     owner.is_free(frame)
 }
 
-// The frame of a page that can be taken out of it.
-fn frame_to_leave(owner: &Owner, page: u32) -> Option<u32>
+/// The frame of a page that can be taken out of it.
+pub fn frame_to_leave(owner: &Owner, page: u32) -> Option<u32>
     ensures { MatchOption result (MayUnmap owner.now page → ⊥)
         (λ frame. (newest owner.now.streamer.writer.journal page ≡ Some frame) × MayUnmap owner.now page) }
 {
@@ -108,6 +108,48 @@ pub fn open(place: &mut TablePlace, shape: &VtexShape, depth: u32, frames: u32, 
     }
 }
 
+// Whom a step waits for, as C is told.
+fn told(who: Waiting) -> VtexWaiting
+    ensures reader { result.reader ≡ who.sampler }
+    ensures version { result.version ≡ who.holds }
+{
+    VtexWaiting {
+        reader: who.sampler,
+        version: who.holds,
+    }
+}
+
+/// Fills a frame with a page's tile and maps the page to it, in an open table.
+pub fn put(owner: &mut Owner, page: u32, frame: u32, tile: &[u8], waiting: &mut VtexWaiting) -> u32
+    ensures { IsPut owner.old page frame tile.now waiting.old result waiting.new owner.new }
+{
+    if !may_map(owner, page, frame, tile.len()) {
+        return BAD_NUMBER;
+    }
+    match owner.map(page, frame, tile) {
+        Ok(()) => DONE,
+        Err(who) => {
+            *waiting = told(who);
+            WAITING
+        }
+    }
+}
+
+/// Takes a page out of the frame that it has, in an open table.
+pub fn leave(owner: &mut Owner, page: u32, frame: u32, waiting: &mut VtexWaiting) -> u32
+    requires may { MayUnmap owner.old page }
+    requires at { newest owner.old.streamer.writer.journal page ≡ Some frame }
+    ensures { IsLeft owner.old page frame waiting.old result waiting.new owner.new }
+{
+    match owner.unmap(page, frame) {
+        Ok(()) => DONE,
+        Err(who) => {
+            *waiting = told(who);
+            WAITING
+        }
+    }
+}
+
 /// Fills a frame with a page's tile and maps the page to it.
 pub fn map(
     place: &mut TablePlace,
@@ -120,22 +162,7 @@ pub fn map(
 {
     match &mut place.inner {
         None => CLOSED,
-        Some(owner) => {
-            if !may_map(owner, page, frame, tile.len()) {
-                return BAD_NUMBER;
-            }
-            match owner.map(page, frame, tile) {
-                Ok(()) => DONE,
-                Err(Refusal::NoMemory) => NO_MEMORY,
-                Err(Refusal::Waits(who)) => {
-                    *waiting = VtexWaiting {
-                        reader: who.sampler,
-                        version: who.holds,
-                    };
-                    WAITING
-                }
-            }
-        }
+        Some(owner) => put(owner, page, frame, tile, waiting),
     }
 }
 
@@ -145,22 +172,10 @@ pub fn unmap(place: &mut TablePlace, page: u32, waiting: &mut VtexWaiting) -> u3
 {
     match &mut place.inner {
         None => CLOSED,
-        Some(owner) => {
-            let Some(frame) = frame_to_leave(owner, page) else {
-                return BAD_NUMBER;
-            };
-            match owner.unmap(page, frame) {
-                Ok(()) => DONE,
-                Err(Refusal::NoMemory) => NO_MEMORY,
-                Err(Refusal::Waits(who)) => {
-                    *waiting = VtexWaiting {
-                        reader: who.sampler,
-                        version: who.holds,
-                    };
-                    WAITING
-                }
-            }
-        }
+        Some(owner) => match frame_to_leave(owner, page) {
+            None => BAD_NUMBER,
+            Some(frame) => leave(owner, page, frame, waiting),
+        },
     }
 }
 

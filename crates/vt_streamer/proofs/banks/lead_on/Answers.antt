@@ -1,19 +1,28 @@
-use Rattle.std.proofs.Common.{arith, ◌≡◌, ◌+◌, ◌-◌, ℕ, List, Some, slice_get, ap, ◌∙◌}
+use Rattle.std.proofs.Common.{arith, ◌≡◌, ◌-◌, ◌<◌, ◌≤◌, ℕ, List, Some, length, slice_get, sym, ap, ◌∙◌}
 use Rattle.vt_table.specs.JournalTypes.changes.Change.{Change}
+use Rattle.vt_streamer.specs.declared.latest.Latest.{Latest}
 use Rattle.vt_streamer.specs.Banks.{IsInside}
+use Rattle.vt_streamer.specs.Latests.{AreLatest}
 use Rattle.vt_streamer.proofs.Leading.{lead_step, entered_more, may_still}
 use Rattle.vt_streamer.proofs.banks.lead_on.Goals as goal
 
-made_by : (js : List Change) (v : ℕ) (c : Change) → slice_get js (v + 1 - 1) ≡ Some c → slice_get js v ≡ Some c
-made_by js v c is = let same : v ≡ v + 1 - 1 = omega arith in ap (slice_get js) same ∙ is
+-- the change that comes after a version, by how far that is behind the next one
+made_by : (js : List Change) (l : Latest) (version made : ℕ) (c : Change) → version ≡ length js → made < version → AreLatest js l
+    → ((changes : List Change) → AreLatest changes l → version - made ≤ length changes → slice_get changes (length changes - (version - made)) ≡ Some c)
+    → slice_get js made ≡ Some c
+made_by js l version made c count low latest back =
+    let place : length js - (version - made) ≡ made = omega (arith, count, low) in
+    ap (slice_get js) (sym place) ∙ back js latest (omega (arith, count, low))
 
 pub advance-requires-clause-inside : goal.advance-requires-clause-inside
-advance-requires-clause-inside c = c.requires.inside c.loop-version.version _ (made_by c.args.journal.now.changes c.loop-version.version _ c.change.ensures)
+advance-requires-clause-inside c = c.requires.inside c.loop-made.made _
+    (made_by c.args.writer.now.view.journal c.args.latest.now c.args.version c.loop-made.made _ c.requires.version c.loop-made-test.true c.requires.latest c.change_back.ensures)
 
-pub loop-version-preserved : goal.loop-version-preserved
-loop-version-preserved c = let view = c.advance.ensures.view in let inv = c.loop-version.invariant in
-    let here = made_by c.args.journal.now.changes c.loop-version.version _ c.change.ensures in
-    let one : IsInside c.args.words.now.sizes c.change.result = c.requires.inside c.loop-version.version _ here in record {
+pub loop-made-preserved : goal.loop-made-preserved
+loop-made-preserved c = let view = c.advance.ensures.view in let inv = c.loop-made.invariant in
+    let here = made_by c.args.writer.now.view.journal c.args.latest.now c.args.version c.loop-made.made _ c.requires.version c.loop-made-test.true c.requires.latest c.change_back.ensures in
+    let one : IsInside c.args.words.now.sizes c.change_back.result = c.requires.inside c.loop-made.made _ here in record {
+      begun = omega (arith, inv.begun);
       of = c.advance.ensures.of;
       sound = c.advance.ensures.sound;
       may = may_still _ _ _ _ view inv.may;

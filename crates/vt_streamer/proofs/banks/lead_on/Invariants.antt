@@ -1,4 +1,4 @@
-use Rattle.std.proofs.Common.{◌+◌}
+use Rattle.std.proofs.Common.{◌+◌, ◌≤◌}
 use Rattle.vt_table.specs.Changes.{at}
 use Rattle.vt_grace.specs.WriterViews.{version_of}
 use Rattle.vt_grace.specs.Places.{bank_of}
@@ -8,11 +8,12 @@ use Rattle.vt_grace.specs.Tokens.{IsWriterOf}
 use Rattle.vt_streamer.specs.Banks.{HasEntered}
 use Rattle.vt_streamer.proofs.banks.lead_on.Given as goal
 
-abbrev pub invariant-loop-version : goal.invariant-loop-version
-invariant-loop-version l = record {
+abbrev pub invariant-loop-made : goal.invariant-loop-made
+invariant-loop-made l = record {
+  begun : l.from ≤ l.made;
   of : IsWriterOf l.words l.writer;
   sound : IsSound l.writer.view;
   may : MayWriteNext l.writer.view;
   entered : HasEntered l.fn.writer.view l.writer.view;
-  stands : Stands l.words.sizes l.writer.view.entries (at l.journal.changes l.version) (bank_of (version_of l.fn.writer.view + 1));
+  stands : Stands l.words.sizes l.writer.view.entries (at l.fn.writer.view.journal l.made) (bank_of (version_of l.fn.writer.view + 1));
 }

@@ -1,12 +1,13 @@
-use Rattle.std.proofs.Common.{refl, sym, ap, ◌∙◌}
-use Rattle.vt_grace.specs.declared.views.WriterView.{WriterView}
-use Rattle.vt_streamer.proofs.Keeping.{kept_alike}
+use Rattle.std.proofs.Common.{ap, ◌∙◌}
+use Rattle.vt_streamer.specs.Views.{StreamerView}
+use Rattle.vt_streamer.proofs.Sparing.{of_spared, of_table}
 use Rattle.vt_streamer.proofs.streamer.Streamer.take_back.Goals as goal
 
+pub take_back-requires-clause-of : goal.take_back-requires-clause-of
+take_back-requires-clause-of c = of_table _ _ _ _ c.self.view_is c.requires.of
+
 pub invariant_of-self : goal.invariant_of-self
-invariant_of-self c =
-    let t = c.self.inside in let k = c.self.invariant in let view = c.take_back.ensures.view in
-    kept_alike t.geometry t.seat c.take_back.new.self t.journal.spare t.journal.spare t.samplers t.owners.items t.entries.items t.floors.items t.floors.items t.unmapped.items
-    t.journal.changes t.journal.changes
-    record { sizes = ap (λ (w : WriterView). w.sizes) view; journal = ap (λ (w : WriterView). w.journal) view; entries = ap (λ (w : WriterView). w.entries) view }
-    c.take_back.ensures.sound (k.all_floors ∙ sym (ap (λ (w : WriterView). w.floors) view)) refl k
+invariant_of-self c = ap (λ (v : StreamerView). v.writer.journal) c.take_back.ensures.taken ∙ c.self.invariant
+
+pub returns-clause-of : goal.returns-clause-of
+returns-clause-of c = of_spared _ _ _ c.take_back.ensures.of

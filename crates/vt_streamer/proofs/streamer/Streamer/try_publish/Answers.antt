@@ -1,18 +1,27 @@
-use Rattle.std.proofs.Common.{refl, ◌∙◌}
-use Rattle.std.proofs.lemmas.List.{with_items_is}
-use Rattle.vt_streamer.proofs.Keeping.{kept_alike, alike_looked}
+use Rattle.std.proofs.Common.{List, [], ◌∷◌, ◌++◌, ap, sym, ◌∙◌}
+use Rattle.vt_table.specs.JournalTypes.changes.Change.{Change}
+use Rattle.vt_grace.specs.declared.views.WriterView.{WriterView}
+use Rattle.vt_streamer.proofs.Sparing.{of_spared, of_table, within_table, ready_table}
 use Rattle.vt_streamer.proofs.streamer.Streamer.try_publish.Goals as goal
 
-pub invariant_of-self : goal.invariant_of-self
-invariant_of-self c =
-    let t = c.self.inside in
-    let floors = with_items_is t.floors c.reach_all.new.floors (c.reach_all.auto.floors ∙ c.as_mut_slice-floors.ensures.len) in
-    kept_alike t.geometry t.seat c.reach_all.new.writer t.journal.spare t.journal.spare t.samplers t.owners.items t.entries.items t.floors.items _ t.unmapped.items
-    t.journal.changes t.journal.changes (alike_looked _ _ c.reach_all.ensures.looked) c.reach_all.ensures.sound (floors ∙ c.reach_all.ensures.floors) refl c.self.invariant
+pub try_publish-requires-clause-of : goal.try_publish-requires-clause-of
+try_publish-requires-clause-of c = of_table _ _ _ _ c.self.view_is c.requires.of
 
-pub invariant_of-self-in-Some : goal.invariant_of-self-in-Some
-invariant_of-self-in-Some c =
-    let t = c.self.inside in
-    let floors = with_items_is t.floors c.reach_all.new.floors (c.reach_all.auto.floors ∙ c.as_mut_slice-floors.ensures.len) in
-    kept_alike t.geometry t.seat c.reach_all.new.writer t.journal.spare t.journal.spare t.samplers t.owners.items t.entries.items t.floors.items _ t.unmapped.items
-    t.journal.changes t.journal.changes (alike_looked _ _ c.reach_all.ensures.looked) c.reach_all.ensures.sound (floors ∙ c.reach_all.ensures.floors) refl c.self.invariant
+pub try_publish-requires-clause-within : goal.try_publish-requires-clause-within
+try_publish-requires-clause-within c = within_table _ _ _ c.args.change c.self.view_is c.requires.within
+
+pub try_publish-requires-clause-ready : goal.try_publish-requires-clause-ready
+try_publish-requires-clause-ready c =
+    ready_table c.self.inside.table c.self.inside.journal.spare c.args.self.now c.args.change c.self.view_is c.requires.ready
+
+pub invariant_of-self : goal.invariant_of-self
+invariant_of-self c = c.in-Ok.ensures.published.journal ∙ (ap (λ (js : List Change). js ++ c.args.change ∷ []) c.self.invariant ∙ sym c.push.ensures.changes)
+
+pub invariant_of-self-in-Err : goal.invariant_of-self-in-Err
+invariant_of-self-in-Err c = ap (λ (w : WriterView). w.journal) c.in-Err.ensures.refused.rest ∙ c.self.invariant
+
+pub returns-in-Ok-clause-of : goal.returns-in-Ok-clause-of
+returns-in-Ok-clause-of c = of_spared _ _ _ c.try_publish.ensures.of
+
+pub returns-in-Err-clause-of : goal.returns-in-Err-clause-of
+returns-in-Err-clause-of c = of_spared _ _ _ c.try_publish.ensures.of

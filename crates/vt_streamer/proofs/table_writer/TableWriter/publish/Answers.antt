@@ -6,11 +6,14 @@ use Rattle.vt_table.specs.Views.{IsWithin, IsReady, filled_after}
 use Rattle.vt_streamer.specs.Frees.{since_after}
 use Rattle.vt_streamer.specs.Views.{StreamerView, table_of}
 use Rattle.vt_streamer.proofs.Keeping.{kept_published, asks_all, asks_inside, seat_of, streamer_of}
-use Rattle.vt_streamer.proofs.streamer.Streamer.publish.Goals as goal
+use Rattle.vt_streamer.proofs.table_writer.TableWriter.publish.Goals as goal
 
 pub put_next-requires-clause-all : goal.put_next-requires-clause-all
 put_next-requires-clause-all c =
-    asks_all _ _ _ _ _ _ _ _ _ _ (seat_of _ _ _ _ _ _ c.self.view_is c.requires.of).sizes c.self.invariant
+    asks_all _ _ _ _ _ _ _ _ _ (seat_of _ _ _ _ _ c.self.view_is c.requires.of).sizes c.self.invariant
+
+pub put_next-requires-clause-latest : goal.put_next-requires-clause-latest
+put_next-requires-clause-latest c = c.self.invariant.last_three
 
 pub invariant_of-self : goal.invariant_of-self
 invariant_of-self c =
@@ -19,18 +22,17 @@ invariant_of-self c =
     let owners = with_items_is t.owners c.free_owner.new.owners (c.free_owner.auto.owners ∙ c.as_mut_slice-2.ensures.len) in
     let since = with_items_is t.unmapped c.note_unmapped.new.unmapped (c.note_unmapped.auto.unmapped ∙ c.as_mut_slice-3.ensures.len) in
     let within = subst (λ (v : StreamerView). IsWithin (table_of v) c.args.change) back c.requires.within in
-    kept_published t.geometry t.seat c.put_next.new.writer t.journal.spare c.push.new.self.spare t.samplers c.args.change t.owners.items _ t.entries.items _ t.floors.items
-    t.unmapped.items _ t.journal.changes c.push.new.self.changes c.put_next.ensures.published c.put_next.ensures.sound c.put_next.ensures.rotated c.put_next.ensures.floors
-    c.push.ensures.changes
+    kept_published t.geometry t.seat c.put_next.new.writer t.samplers c.args.change t.latest c.one_more-self-inside.result t.owners.items _ t.entries.items _ t.floors.items
+    t.unmapped.items _ c.put_next.ensures.published c.put_next.ensures.sound c.put_next.ensures.rotated c.put_next.ensures.floors c.one_more-self-inside.ensures
     (ap length entries ∙ c.put_entry.auto.entries ∙ ap length c.as_mut_slice.ensures.value)
     (ap length owners ∙ c.free_owner.auto.owners ∙ ap length c.as_mut_slice-2.ensures.value)
     (ap entries_of entries ∙ c.put_entry.ensures ∙ ap (λ (xs : List ℕ). changed (entries_of xs) c.args.change) c.as_mut_slice.ensures.value)
     (ap entries_of owners ∙ c.free_owner.ensures ∙ ap (λ (xs : List ℕ). filled_after (entries_of xs) c.args.change) c.as_mut_slice-2.ensures.value)
-    (since ∙ c.note_unmapped.ensures ∙ ap (λ (x : List ℕ × ℕ). since_after x.0 c.args.change (x.1 + 1)) (λ i. (c.as_mut_slice-3.ensures.value i, c.version-version.ensures.version i)))
+    (since ∙ c.note_unmapped.ensures ∙ ap (λ (x : List ℕ × ℕ). since_after x.0 c.args.change (x.1 + 1)) (λ i. (c.as_mut_slice-3.ensures.value i, c.version-version.ensures i)))
     (ap length since ∙ c.note_unmapped.auto.unmapped ∙ ap length c.as_mut_slice-3.ensures.value)
-    (asks_inside _ _ _ _ _ _ _ _ _ _ c.args.change refl k within) within
+    (asks_inside _ _ _ _ _ _ _ _ _ c.args.change refl k within) within
     (subst (λ (v : StreamerView). IsLegalNext v.shape (newest v.writer.journal) c.args.change) back c.requires.legal)
     (subst (λ (v : StreamerView). IsReady (table_of v) c.args.change) back c.requires.ready) k
 
 pub returns-clause-of : goal.returns-clause-of
-returns-clause-of c = streamer_of _ _ _ _ _ _ _ _ _ _ c.put_next.ensures.of (invariant_of-self c)
+returns-clause-of c = streamer_of _ _ _ _ _ _ _ _ _ c.put_next.ensures.of (invariant_of-self c)
