@@ -1,4 +1,5 @@
 pub mod Answering
+pub mod Blending
 pub mod Freeing
 pub mod Handing
 pub mod Keeping

@@ -1,3 +1,5 @@
+pub mod Blends
+pub mod BlendLaws
 pub mod Given
 pub mod Owners
 pub mod Points

@@ -2,6 +2,7 @@
 //! count of its own, so it may lie anywhere and pass to another thread, and the last one gives the words back.
 #![tactic(auto)]
 
+mod blends;
 mod crossing;
 mod owner;
 mod points;
