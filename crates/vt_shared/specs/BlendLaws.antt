@@ -10,29 +10,14 @@ use Rattle.vt_pages.specs.Pages.{levels_of, texel_page}
 use Rattle.vt_pages.specs.Laws.{IsInside}
 use Rattle.vt_journal.specs.declared.changes.Change.{Change}
 use Rattle.vt_draw.specs.Lookups.{Note, WordNote, IsFinest, place_in_tile}
-use Rattle.vt_blend.specs.declared.blends.Texels.{Texels}
 use Rattle.vt_blend.specs.declared.corners.Corners.{Corners}
-use Rattle.vt_blend.specs.Blends.{blended_word}
-use Rattle.vt_blend.specs.Corners.{weights_of, AreInside}
+use Rattle.vt_blend.specs.Corners.{AreInside}
 use Rattle.vt_plain_bilinear.specs.Inside.{covered}
 use Rattle.vt_plain_bilinear.specs.Served.{IsServed}
 use Rattle.vt_shared.specs.declared.points.Point.{Point}
-use Rattle.vt_shared.specs.Blends.{IsBlendAt}
+use Rattle.vt_shared.specs.Blends.{texel_point, IsBlendAt, IsBlendOfTiles}
 use Rattle.vt_shared.specs.Given.{IsOfItsTile}
 use Rattle.vt_shared.specs.Points.{IsAnswered}
-
--- a level, and the first place of level 0 that a texel of it covers
-abbrev pub texel_point : ℕ → ℕ → ℕ → Point
-texel_point k x y = record { level = k; x = x * 2 ^ k; y = y * 2 ^ k }
-
--- the bytes are those of the blend of four texels, each of the tile that was given for the page that serves it
-pub record IsBlendOfTiles (s : Shape) (d : ℕ) (journal : List Change) (contents : List (List ℕ)) (version k : ℕ) (at : Corners) (bytes : List ℕ) : Type 0 where
-  pub texels : Texels
-  pub first : IsOfItsTile s d journal contents version (texel_point k at.column at.line) (word_bytes d texels.first)
-  pub second : IsOfItsTile s d journal contents version (texel_point k at.next_column at.line) (word_bytes d texels.second)
-  pub third : IsOfItsTile s d journal contents version (texel_point k at.column at.next_line) (word_bytes d texels.third)
-  pub fourth : IsOfItsTile s d journal contents version (texel_point k at.next_column at.next_line) (word_bytes d texels.fourth)
-  pub shown : bytes ≡ word_bytes d (blended_word d (weights_of at) texels)
 
 first_place : (x k : ℕ) → x * 2 ^ k / 2 ^ k ≡ x
 first_place x k = mul-div_cancel x (pow_pos k)

@@ -9,7 +9,10 @@ use Rattle.vt_blend.specs.declared.corners.Corners.{Corners}
 use Rattle.vt_blend.specs.Blends.{blended_word}
 use Rattle.vt_blend.specs.Corners.{corners_at, weights_of}
 use Rattle.vt_plain_bilinear.specs.Served.{AreServed}
+use Rattle.vt_journal.specs.declared.changes.Change.{Change}
+use Rattle.vt_shared.specs.declared.points.Point.{Point}
 use Rattle.vt_shared.specs.declared.spans.Span.{Span}
+use Rattle.vt_shared.specs.Given.{IsOfItsTile}
 
 -- a place of level 0 in 1/256 texel, of a start and so many steps in parts of 65536, which go round at 2^32
 abbrev pub spot_at : ℕ → ℕ → ℕ → ℕ
@@ -31,3 +34,16 @@ pub record IsBlendAt (s : Shape) (d version : ℕ) (says : Note → Type 0) (k :
 abbrev pub AreBlendsAlong : Shape → ℕ → ℕ → (Note → Type 0) → Span → ℕ → List ℕ → Type 0
 AreBlendsAlong s d version says r n bytes =
     (i : ℕ) → i < n → IsBlendAt s d version says r.level (span_corners s r i) (texel_bytes d bytes i)
+
+-- a level, and the first place of level 0 that a texel of it covers
+abbrev pub texel_point : ℕ → ℕ → ℕ → Point
+texel_point k x y = record { level = k; x = x * 2 ^ k; y = y * 2 ^ k }
+
+-- the bytes are those of the blend of four texels, each of the tile that was given for the page that serves it
+pub record IsBlendOfTiles (s : Shape) (d : ℕ) (journal : List Change) (contents : List (List ℕ)) (version k : ℕ) (at : Corners) (bytes : List ℕ) : Type 0 where
+  pub texels : Texels
+  pub first : IsOfItsTile s d journal contents version (texel_point k at.column at.line) (word_bytes d texels.first)
+  pub second : IsOfItsTile s d journal contents version (texel_point k at.next_column at.line) (word_bytes d texels.second)
+  pub third : IsOfItsTile s d journal contents version (texel_point k at.column at.next_line) (word_bytes d texels.third)
+  pub fourth : IsOfItsTile s d journal contents version (texel_point k at.next_column at.next_line) (word_bytes d texels.fourth)
+  pub shown : bytes ≡ word_bytes d (blended_word d (weights_of at) texels)

@@ -138,12 +138,7 @@ pub fn run(place: &mut ReaderPlace, span: &Span, out: &mut [u8], pages: &mut [u3
 }
 
 /// Writes the bytes of a run of texels by bilinear filtering in the version that is held, and the page that each of them wants.
-pub fn blended_run(
-    place: &mut ReaderPlace,
-    span: &Span,
-    out: &mut [u8],
-    pages: &mut [u32],
-) -> u32
+pub fn blended_run(place: &mut ReaderPlace, span: &Span, out: &mut [u8], pages: &mut [u32]) -> u32
     ensures { IsRunBlended place.old span.now out.old pages.old result out.new pages.new place.new }
 {
     match &mut place.inner {
