@@ -51,11 +51,15 @@ corners_are_along s r i wide high at w h is =
     let b : ℕ = spot_at r.y r.step_y i / 2 ^ r.level in
     is ∙ ap (λ (n : ℕ). corners_at n high a b) w ∙ ap (λ (n : ℕ). corners_at (side s.width r.level) n a b) h
 
--- the page of the first corner is the one that the run's point wants
-pub first_page : (s : Shape) (r : Span) (i : ℕ)
+first_page : (s : Shape) (r : Span) (i : ℕ)
     → texel_page s r.level (span_corners s r i).column (span_corners s r i).line ≡ covering_page s (span_point r i).level (span_point r i).x (span_point r i).y
 unfolding span_corners
 first_page s r i = λ j. texel_page s r.level (spot_column r.x r.step_x i r.level j) (spot_column r.y r.step_y i r.level j)
+
+-- the page of the first corner is the one that the run's point wants
+pub page_along : (s : Shape) (r : Span) (i page : ℕ) (at : Corners) → page ≡ texel_page s r.level at.column at.line → at ≡ span_corners s r i
+    → page ≡ covering_page s (span_point r i).level (span_point r i).x (span_point r i).y
+page_along s r i page at of is = of ∙ ap (λ (q : Corners). texel_page s r.level q.column q.line) is ∙ first_page s r i
 
 -- the bytes of the blend of words that serve some corners, by the names of what was computed
 pub blend_here : (s : Shape) (d version : ℕ) (says : Note → Type 0) (k word : ℕ) (at same : Corners) (w : Weights) (t : Texels) (bytes : List ℕ)

@@ -1,13 +1,11 @@
-use Rattle.std.proofs.Common.{◌≡◌, ℕ, ◌+◌, ◌*◌, ◌≤◌, subst, sym, ap, ◌∙◌, arith}
+use Rattle.std.proofs.Common.{◌≡◌, ℕ, ◌+◌, ◌*◌, ◌≤◌, subst, sym, ap, arith}
 use Rattle.std.proofs.Math.Nat.{mul-le-mul_left}
 use Rattle.vt_definitions.specs.Depths.{texel_bytes, texel_length}
 use Rattle.vt_definitions.specs.Sides.{side}
-use Rattle.vt_pages.specs.Pages.{texel_page}
-use Rattle.vt_blend.specs.declared.corners.Corners.{Corners}
 use Rattle.vt_plain_bilinear.specs.Served.{IsMemo, AreServed}
 use Rattle.vt_plain_bilinear.proofs.Kept.{goes_on}
 use Rattle.vt_shared.specs.Blends.{span_corners, IsBlendAt}
-use Rattle.vt_shared.proofs.Blending.{column_inside, corners_are_along, first_page, blend_here, blends_more}
+use Rattle.vt_shared.proofs.Blending.{column_inside, corners_are_along, page_along, blend_here, blends_more}
 use Rattle.vt_shared.proofs.Spanning.{wanted_more}
 use Rattle.vt_shared.proofs.blends.blend_each.Goals as goal
 
@@ -72,7 +70,7 @@ loop-i-preserved g c =
       answered = blends_more s d v (g.K.Lookup.says c.loop-i.lookup) later r x c.loop-i.out c.put_word.new.bytes about.ensures.on.said
           c.put_word.ensures.kept here c.loop-i.invariant.answered;
       told = wanted_more s r x about.result.1 c.loop-i.pages (omega (arith, c.loop-i.auto.pages, c.requires.pages))
-          (about.ensures.page ∙ ap (λ (q : Corners). texel_page s r.level q.column q.line) corners ∙ first_page s r x) c.loop-i.invariant.told;
+          (page_along s r x about.result.1 at.result about.ensures.page corners) c.loop-i.invariant.told;
     }
 
 pub put_word-requires-clause-room : goal.put_word-requires-clause-room
