@@ -9,15 +9,15 @@ use Rattle.vt_grace.specs.Values.{WordsValue, PassValue, HeldValue}
 use Rattle.vt_grace.specs.Tokens.{IsPassOf, IsHeldOf}
 use Rattle.vt_grace.specs.PassViews.{NoneAbove, idle, no_pass}
 use Rattle.vt_lookup.specs.Notes.{Fits, IsNotedIn, HasNotedMore}
-use Rattle.vt_shared.specs.declared.points.Point.{Point}
+use Rattle.vt_texel_runs.specs.declared.points.Point.{Point}
 use Rattle.vt_shared.specs.declared.reader.Stand.{Stand}
-use Rattle.vt_shared.specs.declared.spans.Span.{Span}
+use Rattle.vt_texel_runs.specs.declared.spans.Span.{Span}
 use Rattle.vt_shared.specs.declared.reader.Stand.TheVariants.{Gone, Resting, Holding}
 use Rattle.vt_grace.specs.Giving.{new_pass}
-use Rattle.vt_shared.specs.Blends.{AreBlendsAlong}
+use Rattle.vt_texel_runs.specs.Blends.{AreBlendsAlong}
 use Rattle.vt_shared.specs.Owners.{OwnerView}
-use Rattle.vt_shared.specs.Points.{AreAnswered}
-use Rattle.vt_shared.specs.Spans.{AreSpanned, AreWanted}
+use Rattle.vt_texel_runs.specs.Points.{AreAnswered}
+use Rattle.vt_texel_runs.specs.Spans.{AreSpanned, AreWanted}
 
 -- the words, the shape of their pages, how many bytes a sample has, which sampler it is, and its pass or hold
 pub record ReaderView : Type 0 where

@@ -2,17 +2,13 @@
 //! count of its own, so it may lie anywhere and pass to another thread, and the last one gives the words back.
 #![tactic(auto)]
 
-mod blends;
 mod crossing;
 mod owner;
-mod points;
 mod reader;
-mod spans;
 mod steps;
 
 pub use crossing::{owner_may_cross, reader_may_cross};
 pub use owner::Owner;
-pub use points::{Point, are_points};
 pub use reader::{Reader, Stand};
-pub use spans::{Span, is_run};
 pub use steps::Refusal;
+pub use vt_texel_runs::{Point, Span, are_points, is_run};

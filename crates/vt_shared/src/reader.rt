@@ -9,15 +9,12 @@ ghost use Rattle.vt_pages.specs.Pages.{pages_of};
 ghost use Rattle.vt_draw.specs.Lookups.{IsFinest};
 ghost use Rattle.vt_grace.specs.Tokens.{IsPassOf, IsHeldOf};
 ghost use Rattle.vt_lookup.specs.Notes.{Fits, IsNotedIn, HasNotedMore};
-ghost use Rattle.vt_shared.specs.Points.{IsPoint, AreAnswered};
-ghost use Rattle.vt_shared.specs.Blends.{AreBlendsAlong};
+ghost use Rattle.vt_texel_runs.specs.Points.{IsPoint, AreAnswered};
+ghost use Rattle.vt_texel_runs.specs.Blends.{AreBlendsAlong};
 ghost use Rattle.vt_shared.specs.Readers.{left_by, HasTakenHold, HasReleased, HasLookedUp, HasRead, HasReadRun, HasBlendedRun};
-ghost use Rattle.vt_shared.specs.Spans.{IsRun, AreSpanned, AreWanted};
+ghost use Rattle.vt_texel_runs.specs.Spans.{IsRun, AreSpanned, AreWanted};
 ghost use Rattle.vt_shared.specs.declared.reader.Stand.TheVariants.{Resting};
 
-use crate::blends::blend_run;
-use crate::points::{Point, read_all};
-use crate::spans::{Span, read_run};
 use std::alloc::Global;
 use std::marker::Model;
 use std::mem;
@@ -26,6 +23,7 @@ use vt_draw::{Found, Lookup};
 use vt_grace::{Held, Pass, Words};
 use vt_lookup::HeldLookup;
 use vt_pages::Geometry;
+use vt_texel_runs::{Point, Span, blend_run, read_all, read_run};
 
 /// What a reader has of the words: its pass, or the version that it holds.
 #[derive(Drop)]

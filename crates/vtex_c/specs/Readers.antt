@@ -5,11 +5,11 @@ use Rattle.vt_definitions.specs.Depths.{texel_length}
 use Rattle.vt_pages.specs.Pages.{pages_of}
 use Rattle.vt_draw.specs.declared.lookups.Found.{Found}
 use Rattle.vt_residency.specs.declared.places.Place.{Place}
-use Rattle.vt_shared.specs.declared.points.Point.{Point}
-use Rattle.vt_shared.specs.declared.spans.Span.{Span}
-use Rattle.vt_shared.specs.Points.{IsPoint}
+use Rattle.vt_texel_runs.specs.declared.points.Point.{Point}
+use Rattle.vt_texel_runs.specs.declared.spans.Span.{Span}
+use Rattle.vt_texel_runs.specs.Points.{IsPoint}
 use Rattle.vt_shared.specs.Readers.{ReaderView, HasTakenHold, HasReleased, HasLookedUp, HasRead, HasReadRun, HasBlendedRun}
-use Rattle.vt_shared.specs.Spans.{IsRun}
+use Rattle.vt_texel_runs.specs.Spans.{IsRun}
 use Rattle.vtex_c.specs.declared.reader.ReaderPlace.{ReaderPlace}
 
 -- there is a reader before and after, and the two are related
