@@ -226,6 +226,11 @@ uint32_t vtex_reader_texels(vtex_reader *at, const vtex_point *points, size_t co
 /* The texels of a run, as those of vtex_reader_texels, and the page that each of them wants, as vtex_cache_pass_pages takes them. `wanted`
  * is the run's count, `bytes` 3 times the depth for each. All places are the texture's. Answers as vtex_reader_texels. */
 uint32_t vtex_reader_run(vtex_reader *at, const vtex_span *span, uint8_t *out, size_t bytes, uint32_t *pages, size_t wanted);
+/* The texels of a run by bilinear filtering, as `vtex walk --filter bilinear` blends them: each is the blend of four of the wanted level, the
+ * one that its place lies in and its neighbours to the right and below, the first behind the last, each from the first mapped page of the
+ * line of its own page. They weigh by how far the place lies from them, to 1/256 texel: at whole numbers of the level the first is all.
+ * The pages are those of vtex_reader_run, and it answers as that. */
+uint32_t vtex_reader_blended_run(vtex_reader *at, const vtex_span *span, uint8_t *out, size_t bytes, uint32_t *pages, size_t wanted);
 /* Holds its version no longer: VTEX_DONE, VTEX_CLOSED, VTEX_NOT_HELD. */
 uint32_t vtex_reader_release(vtex_reader *at);
 /* Closes a reader whose table is closed: VTEX_DONE. Where the table is open vtex_table_dismiss is the call: after this one the table waits

@@ -1,5 +1,6 @@
 // Readers and one writer of a shared table in threads. Each texel that a reader gets is compared with the tile of the page that it finds
-// under the same hold. Some readers stall within a hold, and readers are dismissed and admitted while the others read.
+// under the same hold, and each blend with that of four texels of such pages, computed here. Some readers stall within a hold, and readers
+// are dismissed and admitted while the others read.
 //
 // usage: shared [READERS [MILLISECONDS [WIDTH HEIGHT TILE FRAMES DEPTH]]]
 #include "check.h"
@@ -15,11 +16,11 @@ using Clock = std::chrono::steady_clock;
 struct Chain {
     vtex_shape shape;
     uint32_t depth, levels = 0, pages = 0;
-    std::vector<uint32_t> columns, first;
+    std::vector<uint32_t> columns, first, wide, high;
 
     Chain(vtex_shape s, uint32_t d) : shape(s), depth(d) {
         for (uint32_t w = s.width, h = s.height;; w = (w + 1) / 2, h = (h + 1) / 2, levels++) {
-            columns.push_back((w + s.tile - 1) / s.tile), first.push_back(pages);
+            columns.push_back((w + s.tile - 1) / s.tile), first.push_back(pages), wide.push_back(w), high.push_back(h);
             pages += columns.back() * ((h + s.tile - 1) / s.tile);
             if (w <= s.tile && h <= s.tile) break;
         }
@@ -38,6 +39,12 @@ static uint8_t byte_of(uint32_t page, uint32_t place, uint32_t i) {
     uint64_t h = page * 0x9E3779B97F4A7C15ull + place * 0xBF58476D1CE4E5B9ull + i * 0x94D049BB133111EBull;
     h = (h ^ h >> 29) * 0xD6E8FEB86659FD93ull;
     return uint8_t(h >> 40);
+}
+
+// Sample i of a texel of a page.
+static uint32_t sample_of(const Chain &chain, uint32_t page, uint32_t place, uint32_t i) {
+    if (chain.depth == 1) return byte_of(page, place, i);
+    return 256u * byte_of(page, place, 2 * i) + byte_of(page, place, 2 * i + 1);
 }
 
 // The memory of a table or a reader.
@@ -95,12 +102,45 @@ struct Reading {
         count.texels += 256;
     }
 
+    // The sample of a texel of a level that the page serves which a look-up finds.
+    uint32_t served(uint32_t level, uint32_t column, uint32_t line, uint32_t i) {
+        vtex_place found = {};
+        if (!good(vtex_reader_look_up(reader, chain.page(level, column << level, line << level), &found))) return 0;
+        return sample_of(chain, found.page, chain.place(found.level, column << level, line << level), i);
+    }
+
+    // Compares a blended texel, and its page, with the blend of the four about a place of level 0 in parts of 65536.
+    void compare_blend(const uint8_t *texel, uint32_t page, uint32_t level, uint32_t x, uint32_t y) {
+        const uint32_t a = x >> 8 >> level, b = y >> 8 >> level, wide = chain.wide[level], high = chain.high[level];
+        const uint32_t column = a / 256, line = b / 256, next = (column + 1) % wide, below = (line + 1) % high, right = a % 256, down = b % 256;
+        count.wrong += page != chain.page(level, x >> 16, y >> 16);
+        for (uint32_t i = 0; i < 3; i++) {
+            const uint32_t top = (256 - right) * served(level, column, line, i) + right * served(level, next, line, i);
+            const uint32_t bottom = (256 - right) * served(level, column, below, i) + right * served(level, next, below, i);
+            const uint64_t want = (uint64_t(256 - down) * top + uint64_t(down) * bottom + 32768) / 65536;
+            const uint64_t is = chain.depth == 1 ? texel[i] : 256u * texel[2 * i] + texel[2 * i + 1];
+            count.wrong += is != want;
+        }
+    }
+
+    // A run at a slant by bilinear filtering, from one place to another.
+    void blend() {
+        const uint32_t level = random() % chain.levels, most = 64, wide = chain.shape.width << 16, high = chain.shape.height << 16;
+        const uint32_t x = random() % wide, y = random() % high, to_x = random() % wide, to_y = random() % high;
+        const vtex_span span = {level, x, y, int32_t((int64_t(to_x) - x) / most), int32_t((int64_t(to_y) - y) / most), most};
+        if (!good(vtex_reader_blended_run(reader, &span, bytes.data(), most * chain.texel(), pages.data(), most))) return;
+        for (uint32_t i = 0; i < most; i++)
+            compare_blend(&bytes[i * chain.texel()], pages[i], level, x + uint32_t(span.step_x) * i, y + uint32_t(span.step_y) * i);
+        count.texels += most;
+    }
+
     void go_on(const std::atomic<bool> &stop, bool stalls) {
         while (!stop) {
             uint64_t version = 0;
             if (!good(vtex_reader_hold(reader, &version))) return;
             count.holds++, count.back += version < last, last = version;
             for (uint32_t rows = random() % 3; rows < 3; rows++) row();
+            if (random() % 4 == 0) blend();
             if (stalls) std::this_thread::sleep_for(std::chrono::milliseconds(1 + random() % 4));
             if (stalls) row();
             if (!good(vtex_reader_release(reader))) return;

@@ -43,6 +43,7 @@ static void closed(void) {
     CHECK(vtex_reader_look_up(readers[0], 0, &place) == VTEX_CLOSED && place.page == 9);
     CHECK(vtex_reader_texels(readers[0], &point, 1, out, 3) == VTEX_CLOSED);
     CHECK(vtex_reader_run(readers[0], &span, out, 3, pages, 1) == VTEX_CLOSED);
+    CHECK(vtex_reader_blended_run(readers[0], &span, out, 3, pages, 1) == VTEX_CLOSED);
     CHECK(vtex_reader_release(readers[0]) == VTEX_CLOSED);
     CHECK(vtex_reader_close(readers[0]) == VTEX_DONE);
     CHECK(vtex_table_close(table) == VTEX_DONE);
@@ -122,6 +123,30 @@ static void read_on(void) {
     CHECK(vtex_reader_release(readers[0]) == VTEX_DONE);
 }
 
+/* Blended runs, in the version that maps page 0 and the root, and those that do not fit. */
+static void blend(void) {
+    vtex_span span = {0, 0x8000, 0, 0x10000, 0, 4}; /* between the columns 0 and 1, 1 and 2, 2 and 3, and 3 and 0 of the top row */
+    memset(out, 99, sizeof out), memset(pages, 9, sizeof pages);
+    CHECK(vtex_reader_blended_run(readers[0], &span, out, 12, pages, 4) == VTEX_NOT_HELD && out[0] == 99 && pages[0] == 0x9090909);
+    CHECK(holds(readers[0], 2));
+    CHECK(vtex_reader_blended_run(readers[0], &span, out, 11, pages, 4) == VTEX_BAD_NUMBER);
+    CHECK(vtex_reader_blended_run(readers[0], &span, out, 12, pages, 5) == VTEX_BAD_NUMBER);
+    span.count = 5; /* its last place is right of the texture */
+    CHECK(vtex_reader_blended_run(readers[0], &span, out, 15, pages, 5) == VTEX_BAD_NUMBER);
+    span.count = 4, span.level = 2;
+    CHECK(vtex_reader_blended_run(readers[0], &span, out, 12, pages, 4) == VTEX_BAD_NUMBER && out[0] == 99 && pages[0] == 0x9090909);
+    span.level = 0;
+    CHECK(vtex_reader_blended_run(readers[0], &span, out, 12, pages, 4) == VTEX_DONE);
+    CHECK(out[0] == 2 && out[1] == 3 && out[2] == 4); /* the texels 0 and 3 of page 0, a half up */
+    CHECK(out[3] == 35 && out[6] == 67 && out[9] == 34); /* 3 and 67, which the root serves; 67 twice; 67 and 0 */
+    CHECK(pages[0] == 0 && pages[1] == 0 && pages[2] == 1 && pages[3] == 1);
+    const vtex_span down = {0, 0, 0x4000, 0, 0, 1}, coarse = {1, 0x10000, 0, 0, 0, 1}, none = {9, 1, 1, 1, 1, 0};
+    CHECK(vtex_reader_blended_run(readers[0], &down, out, 3, pages, 1) == VTEX_DONE && out[0] == 2 && pages[0] == 0); /* 0 and 6, a quarter */
+    CHECK(vtex_reader_blended_run(readers[0], &coarse, out, 3, pages, 1) == VTEX_DONE && out[0] == 66 && pages[0] == 4); /* 64 and 67 */
+    CHECK(vtex_reader_blended_run(readers[0], &none, out, 0, pages, 0) == VTEX_DONE);
+    CHECK(vtex_reader_release(readers[0]) == VTEX_DONE);
+}
+
 /* The writer waits for a reader that holds a version which maps the frame, and for one that is more than two versions behind. */
 static void waiting(void) {
     CHECK(holds(readers[1], 2));
@@ -193,6 +218,7 @@ int main(void) {
     opened();
     admitted();
     read_on();
+    blend();
     waiting();
     ending();
     settling();

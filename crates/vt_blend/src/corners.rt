@@ -1,10 +1,10 @@
 //! The four texels about the place of a pixel, and what they weigh.
 
-ghost use Rattle.std.specs.Prelude.{◌≡◌, ◌<◌};
+ghost use Rattle.std.specs.Prelude.{◌≡◌, ◌/◌, ◌<◌};
 ghost use Rattle.vt_definitions.specs.Limits.{most_levels};
 ghost use Rattle.vt_definitions.specs.Sides.{side};
 ghost use Rattle.vt_camera.specs.Rows.{row_level};
-ghost use Rattle.vt_blend.specs.Corners.{after, corners_of, weights_of, AreInside, AreWhole};
+ghost use Rattle.vt_blend.specs.Corners.{after, corners_at, corners_of, weights_of, AreInside, AreWhole};
 
 use vt_camera::Row;
 
@@ -41,6 +41,24 @@ fn after(many: u32, n: u32) -> u32
     if n + 1 == many { 0 } else { n + 1 }
 }
 
+/// The corners of a place of a level with so many columns and rows, in 1/256 texel of the level.
+#[inline(always)]
+pub fn corners_at(columns: u32, rows: u32, a: u32, b: u32) -> Corners
+    requires column { a / 256 < columns }
+    requires line { b / 256 < rows }
+    ensures value { result ≡ corners_at columns rows a b }
+    ensures inside { AreInside columns rows result }
+{
+    Corners {
+        column: a / 256,
+        line: b / 256,
+        next_column: after(columns, a / 256),
+        next_line: after(rows, b / 256),
+        across: a % 256,
+        down: b % 256,
+    }
+}
+
 /// The corners of pixel x of a row of this level, which has so many columns and rows.
 #[inline(always)]
 pub fn corners_of(row: &Row, level: u32, columns: u32, rows: u32, x: u32) -> Corners
@@ -53,15 +71,7 @@ pub fn corners_of(row: &Row, level: u32, columns: u32, rows: u32, x: u32) -> Cor
     ensures inside { AreInside columns rows result }
 {
     let (u, v) = row.place(x);
-    let (a, b) = (u >> level, v >> level);
-    Corners {
-        column: a / 256,
-        line: b / 256,
-        next_column: after(columns, a / 256),
-        next_line: after(rows, b / 256),
-        across: a % 256,
-        down: b % 256,
-    }
+    corners_at(columns, rows, u >> level, v >> level)
 }
 
 /// What the texels at some corners weigh.

@@ -6,5 +6,5 @@ mod corners;
 mod counting;
 
 pub use blends::{Texels, blend_words};
-pub use corners::{Corners, Weights, corners_of, weights_of};
+pub use corners::{Corners, Weights, corners_at, corners_of, weights_of};
 pub use counting::{Pages, add_texels, count_apart, count_together};

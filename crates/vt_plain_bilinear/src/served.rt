@@ -14,7 +14,7 @@ use vt_pages::Geometry;
 
 /// A page that a look-up was asked for, and what it found.
 #[derive(Clone, Copy)]
-pub(crate) struct Seen {
+pub struct Seen {
     pub page: u32,
     pub found: Found,
 }
@@ -22,7 +22,7 @@ pub(crate) struct Seen {
 /// The pages that a look-up was asked for last, the newest first: a pixel has four pages at most, so one that wants those of the pixel
 /// before it asks for none.
 #[derive(Clone, Copy)]
-pub(crate) struct Memo {
+pub struct Memo {
     pub first: Seen,
     pub second: Seen,
     pub third: Seen,
@@ -205,4 +205,55 @@ pub(crate) fn words_apart<K: Lookup>(
     words_by(
         lookup, geometry, level, at, &first, &second, &third, &fourth,
     )
+}
+
+/// The words at some corners of a level, each of the finest mapped page of the line of its own page, and the page of the first.
+#[inline(always)]
+pub fn words_about<K: Lookup>(
+    lookup: &mut K,
+    geometry: &Geometry,
+    memo: &mut Memo,
+    level: u32,
+    at: &Corners,
+) -> (Texels, u32)
+    requires limits { IsWithinLimits geometry.now }
+    requires shape { K.shape lookup.old ≡ geometry.now }
+    requires known { IsMemo geometry.now (K.version lookup.old) (K.says lookup.old) memo.old }
+    requires level { level < levels_of geometry.now }
+    requires inside { AreInside (side geometry.now.width level) (side geometry.now.height level) at.now }
+    ensures served { AreServed geometry.now (K.version lookup.old) (K.says lookup.new) level at.now result.0 }
+    ensures page { result.1 ≡ texel_page geometry.now level at.now.column at.now.line }
+    ensures known { IsMemo geometry.now (K.version lookup.old) (K.says lookup.new) memo.new }
+    ensures on { GoesOn (K.shape lookup.old) (K.version lookup.old) (K.says lookup.old) (K.kept lookup.old)
+        (K.shape lookup.new) (K.version lookup.new) (K.says lookup.new) (K.kept lookup.new) }
+{
+    let pages = pages_about(geometry, level, at);
+    let page = pages.first;
+    if pages.second == page && pages.third == page && pages.fourth == page {
+        let found = recall(lookup, geometry, memo, page);
+        let texels = words_by(lookup, geometry, level, at, &found, &found, &found, &found);
+        (texels, page)
+    } else {
+        let texels = words_apart(lookup, geometry, memo, level, at, &pages);
+        (texels, page)
+    }
+}
+
+/// What a look-up finds for a page, as all that it was asked for.
+#[inline(always)]
+pub fn memo_of<K: Lookup>(lookup: &mut K, geometry: &Geometry, page: u32) -> Memo
+    requires shape { K.shape lookup.old ≡ geometry.now }
+    requires inside { page < pages_of geometry.now }
+    ensures known { IsMemo geometry.now (K.version lookup.old) (K.says lookup.new) result }
+    ensures on { GoesOn (K.shape lookup.old) (K.version lookup.old) (K.says lookup.old) (K.kept lookup.old)
+        (K.shape lookup.new) (K.version lookup.new) (K.says lookup.new) (K.kept lookup.new) }
+{
+    let found = lookup.find(page);
+    let seen = Seen { page, found };
+    Memo {
+        first: seen,
+        second: seen,
+        third: seen,
+        fourth: seen,
+    }
 }

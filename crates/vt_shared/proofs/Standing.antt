@@ -7,13 +7,13 @@ use Rattle.vt_grace.specs.Values.{WordsValue, PassValue, HeldValue}
 use Rattle.vt_grace.specs.Tokens.{IsPassOf, IsHeldOf}
 use Rattle.vt_grace.specs.PassViews.{NoneAbove, idle}
 use Rattle.vt_lookup.specs.Notes.{HasNotedMore, IsNotedIn}
-use Rattle.vt_shared.specs.declared.points.Point.{Point}
+use Rattle.vt_texel_runs.specs.declared.points.Point.{Point}
 use Rattle.vt_shared.specs.declared.reader.Stand.{Stand}
 use Rattle.vt_shared.specs.declared.reader.Stand.TheVariants.{Resting, Holding}
-use Rattle.vt_shared.specs.declared.spans.Span.{Span}
-use Rattle.vt_shared.specs.Points.{AreAnswered}
+use Rattle.vt_texel_runs.specs.declared.spans.Span.{Span}
+use Rattle.vt_texel_runs.specs.Points.{AreAnswered}
 use Rattle.vt_shared.specs.Readers.{ReaderView, IsStanding, HasTakenHold, HasReleased, HasReadOn, HasLookedUp, HasRead, HasReadRun}
-use Rattle.vt_shared.specs.Spans.{AreSpanned, AreWanted}
+use Rattle.vt_texel_runs.specs.Spans.{AreSpanned, AreWanted}
 
 -- what it has, under another name
 pub standing_at : (words : WordsValue) (k : ℕ) (stand other : Stand) → other ≡ stand → IsStanding words k stand → IsStanding words k other

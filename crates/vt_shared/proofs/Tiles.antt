@@ -25,9 +25,9 @@ use Rattle.vt_grace.specs.Sound.{IsSound}
 use Rattle.vt_lookup.specs.Notes.{IsNotedIn}
 use Rattle.vt_streamer.specs.Fills.{words_in}
 use Rattle.vt_streamer.specs.Views.{StreamerView}
-use Rattle.vt_shared.specs.declared.points.Point.{Point}
+use Rattle.vt_texel_runs.specs.declared.points.Point.{Point}
 use Rattle.vt_shared.specs.Given.{HasTileLength, IsOfTile, AreOfTiles, IsOfItsTile}
-use Rattle.vt_shared.specs.Points.{IsAnswered}
+use Rattle.vt_texel_runs.specs.Points.{IsAnswered}
 
 -- what a slice is known to hold are bytes
 pub are_bytes : (l : List ℕ) → ((i : ℕ) → Fits w8 (get_or l i 0)) → AreBytes l

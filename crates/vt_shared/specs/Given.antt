@@ -9,7 +9,7 @@ use Rattle.vt_journal.specs.Changes.{at}
 use Rattle.vt_draw.specs.Lookups.{covering_page, covering_place}
 use Rattle.vt_grace.specs.Contents.{IsPutBy}
 use Rattle.vt_streamer.specs.Fills.{words_in}
-use Rattle.vt_shared.specs.declared.points.Point.{Point}
+use Rattle.vt_texel_runs.specs.declared.points.Point.{Point}
 
 -- so many bytes are those of a tile of a depth
 abbrev pub HasTileLength : Shape → ℕ → ℕ → Type 0

@@ -1,5 +1,3 @@
 pub mod Given
 pub mod Owners
-pub mod Points
 pub mod Readers
-pub mod Spans

@@ -9,14 +9,15 @@ use Rattle.vt_grace.specs.Values.{WordsValue, PassValue, HeldValue}
 use Rattle.vt_grace.specs.Tokens.{IsPassOf, IsHeldOf}
 use Rattle.vt_grace.specs.PassViews.{NoneAbove, idle, no_pass}
 use Rattle.vt_lookup.specs.Notes.{Fits, IsNotedIn, HasNotedMore}
-use Rattle.vt_shared.specs.declared.points.Point.{Point}
+use Rattle.vt_texel_runs.specs.declared.points.Point.{Point}
 use Rattle.vt_shared.specs.declared.reader.Stand.{Stand}
-use Rattle.vt_shared.specs.declared.spans.Span.{Span}
+use Rattle.vt_texel_runs.specs.declared.spans.Span.{Span}
 use Rattle.vt_shared.specs.declared.reader.Stand.TheVariants.{Gone, Resting, Holding}
 use Rattle.vt_grace.specs.Giving.{new_pass}
+use Rattle.vt_texel_runs.specs.Blends.{AreBlendsAlong}
 use Rattle.vt_shared.specs.Owners.{OwnerView}
-use Rattle.vt_shared.specs.Points.{AreAnswered}
-use Rattle.vt_shared.specs.Spans.{AreSpanned, AreWanted}
+use Rattle.vt_texel_runs.specs.Points.{AreAnswered}
+use Rattle.vt_texel_runs.specs.Spans.{AreSpanned, AreWanted}
 
 -- the words, the shape of their pages, how many bytes a sample has, which sampler it is, and its pass or hold
 pub record ReaderView : Type 0 where
@@ -94,6 +95,14 @@ pub record HasReadRun (v w : ReaderView) (span : Span) (bytes pages : List ℕ) 
   pub now : HeldValue
   pub on : HasReadOn v w held now
   pub answered : AreSpanned v.shape v.depth now.version (IsNotedIn now.view) span span.count bytes
+  pub wanted : AreWanted v.shape span span.count pages
+
+-- it read a run of texels by bilinear filtering in the version that it holds, and told the page that each wants
+pub record HasBlendedRun (v w : ReaderView) (span : Span) (bytes pages : List ℕ) : Type 0 where
+  pub held : HeldValue
+  pub now : HeldValue
+  pub on : HasReadOn v w held now
+  pub answered : AreBlendsAlong v.shape v.depth now.version (IsNotedIn now.view) span span.count bytes
   pub wanted : AreWanted v.shape span span.count pages
 
 -- it is a reader of an owner's table

@@ -4,14 +4,11 @@
 
 mod crossing;
 mod owner;
-mod points;
 mod reader;
-mod spans;
 mod steps;
 
 pub use crossing::{owner_may_cross, reader_may_cross};
 pub use owner::Owner;
-pub use points::{Point, are_points};
 pub use reader::{Reader, Stand};
-pub use spans::{Span, is_run};
 pub use vt_streamer::Waiting;
+pub use vt_texel_runs::{Point, Span, are_points, is_run};

@@ -12,10 +12,10 @@ ghost use Rattle.vt_grace.specs.Sound.{IsSound};
 ghost use Rattle.vt_grace.specs.WriterViews.{first_writer, is_out, after_look};
 ghost use Rattle.vt_grace.specs.Giving.{after_giving, after_return, new_pass};
 ghost use Rattle.vt_lookup.specs.Notes.{IsNotedIn};
-ghost use Rattle.vt_shared.specs.declared.points.Point.{Point};
+ghost use Rattle.vt_texel_runs.specs.declared.points.Point.{Point};
 ghost use Rattle.vt_shared.specs.Given.{HasTileLength, IsOfItsTile};
 ghost use Rattle.vt_shared.specs.Owners.{HasWritten, HasMapped, HasUnmapped, HasKept, AwaitsBank, AwaitsEither};
-ghost use Rattle.vt_shared.specs.Points.{IsAnswered};
+ghost use Rattle.vt_texel_runs.specs.Points.{IsAnswered};
 ghost use Rattle.vt_shared.specs.Readers.{left_by, IsAdmitted, IsReaderOf};
 
 use crate::reader::Reader;

@@ -9,13 +9,12 @@ ghost use Rattle.vt_pages.specs.Pages.{pages_of};
 ghost use Rattle.vt_draw.specs.Lookups.{IsFinest};
 ghost use Rattle.vt_grace.specs.Tokens.{IsPassOf, IsHeldOf};
 ghost use Rattle.vt_lookup.specs.Notes.{Fits, IsNotedIn, HasNotedMore};
-ghost use Rattle.vt_shared.specs.Points.{IsPoint, AreAnswered};
-ghost use Rattle.vt_shared.specs.Readers.{left_by, HasTakenHold, HasReleased, HasLookedUp, HasRead, HasReadRun};
-ghost use Rattle.vt_shared.specs.Spans.{IsRun, AreSpanned, AreWanted};
+ghost use Rattle.vt_texel_runs.specs.Points.{IsPoint, AreAnswered};
+ghost use Rattle.vt_texel_runs.specs.Blends.{AreBlendsAlong};
+ghost use Rattle.vt_shared.specs.Readers.{left_by, HasTakenHold, HasReleased, HasLookedUp, HasRead, HasReadRun, HasBlendedRun};
+ghost use Rattle.vt_texel_runs.specs.Spans.{IsRun, AreSpanned, AreWanted};
 ghost use Rattle.vt_shared.specs.declared.reader.Stand.TheVariants.{Resting};
 
-use crate::points::{Point, read_all};
-use crate::spans::{Span, read_run};
 use std::alloc::Global;
 use std::marker::Model;
 use std::mem;
@@ -24,6 +23,7 @@ use vt_draw::{Found, Lookup};
 use vt_grace::{Held, Pass, Words};
 use vt_lookup::HeldLookup;
 use vt_pages::Geometry;
+use vt_texel_runs::{Point, Span, blend_run, read_all, read_run};
 
 /// What a reader has of the words: its pass, or the version that it holds.
 #[derive(Drop)]
@@ -126,6 +126,35 @@ fn run_under(
     let _levels = geometry.levels();
     let mut lookup = HeldLookup::new(held, words, geometry);
     read_run(&mut lookup, geometry, depth, span, out, pages);
+    lookup.into_held()
+}
+
+// Reads a run of texels by bilinear filtering under a hold.
+fn blends_under(
+    held: Held,
+    words: &Words,
+    geometry: &Geometry,
+    depth: u32,
+    span: &Span,
+    out: &mut [u8],
+    pages: &mut [u32],
+) -> Held
+    requires of { IsHeldOf words.now held }
+    requires fits { Fits geometry.now words.now.sizes }
+    requires rooted { held.view.rooted ≡ true }
+    requires depth { IsDepth depth }
+    requires inside { IsRun geometry.now span.now }
+    requires bytes { length out.old ≡ texel_length depth * span.now.count }
+    requires pages { length pages.old ≡ span.now.count }
+    ensures of { IsHeldOf words.now result }
+    ensures version { result.version ≡ held.version }
+    ensures more { HasNotedMore held.view result.view }
+    ensures answered { AreBlendsAlong geometry.now depth result.version (IsNotedIn result.view) span.now span.now.count out.new }
+    ensures wanted { AreWanted geometry.now span.now span.now.count pages.new }
+{
+    let _levels = geometry.levels();
+    let mut lookup = HeldLookup::new(held, words, geometry);
+    blend_run(&mut lookup, geometry, depth, span, out, pages);
     lookup.into_held()
 }
 
@@ -268,6 +297,38 @@ impl Reader {
         match mem::replace(&mut self.stand, Stand::Gone) {
             Stand::Holding(held) => {
                 let held = run_under(
+                    held,
+                    &*self.words,
+                    &self.geometry,
+                    self.depth,
+                    span,
+                    out,
+                    pages,
+                );
+                self.stand = Stand::Holding(held);
+                true
+            }
+            other => {
+                self.stand = other;
+                false
+            }
+        }
+    }
+
+    /// Writes the bytes of a run of texels by bilinear filtering in the version that it holds, and the page that each of them wants, as
+    /// `run` does by the nearest ones. False where it holds none.
+    pub fn blended_run(&mut self, span: &Span, out: &mut [u8], pages: &mut [u32]) -> bool
+        requires inside { IsRun self.old.shape span.now }
+        requires room { length out.old ≡ texel_length self.old.depth * span.now.count }
+        requires pages { length pages.old ≡ span.now.count }
+        ensures read { MatchBool result (HasBlendedRun self.old self.new span.now out.new pages.new)
+            ((self.new ≡ self.old) × (out.new ≡ out.old) × (pages.new ≡ pages.old)) }
+        ensures long { length out.new ≡ length out.old }
+        ensures wide { length pages.new ≡ length pages.old }
+    {
+        match mem::replace(&mut self.stand, Stand::Gone) {
+            Stand::Holding(held) => {
+                let held = blends_under(
                     held,
                     &*self.words,
                     &self.geometry,

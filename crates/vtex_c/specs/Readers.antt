@@ -5,11 +5,11 @@ use Rattle.vt_definitions.specs.Depths.{texel_length}
 use Rattle.vt_pages.specs.Pages.{pages_of}
 use Rattle.vt_draw.specs.declared.lookups.Found.{Found}
 use Rattle.vt_residency.specs.declared.places.Place.{Place}
-use Rattle.vt_shared.specs.declared.points.Point.{Point}
-use Rattle.vt_shared.specs.declared.spans.Span.{Span}
-use Rattle.vt_shared.specs.Points.{IsPoint}
-use Rattle.vt_shared.specs.Readers.{ReaderView, HasTakenHold, HasReleased, HasLookedUp, HasRead, HasReadRun}
-use Rattle.vt_shared.specs.Spans.{IsRun}
+use Rattle.vt_texel_runs.specs.declared.points.Point.{Point}
+use Rattle.vt_texel_runs.specs.declared.spans.Span.{Span}
+use Rattle.vt_texel_runs.specs.Points.{IsPoint}
+use Rattle.vt_shared.specs.Readers.{ReaderView, HasTakenHold, HasReleased, HasLookedUp, HasRead, HasReadRun, HasBlendedRun}
+use Rattle.vt_texel_runs.specs.Spans.{IsRun}
 use Rattle.vtex_c.specs.declared.reader.ReaderPlace.{ReaderPlace}
 
 -- there is a reader before and after, and the two are related
@@ -76,17 +76,26 @@ pub record IsFit (span : Span) (bytes pages : ℕ) (r : ReaderView) : Type 0 whe
   pub room : bytes ≡ texel_length r.depth * span.count
   pub each : pages ≡ span.count
 
--- a run of texels was read: 0; a point is outside, or a room has another length: 2; the reader is closed: 4; it holds nothing: 7
-pub record IsRunRead (old : ReaderPlace) (span : Span) (before was : List ℕ) (status : ℕ) (after are : List ℕ) (new : ReaderPlace) : Type 0 where
+-- a run of texels was read in some way: 0; a point is outside, or a room has another length: 2; the reader is closed: 4; it holds nothing: 7
+pub record IsRunReadBy (Reads : ReaderView → ReaderView → Span → List ℕ → List ℕ → Type 0) (old : ReaderPlace) (span : Span) (before was : List ℕ)
+    (status : ℕ) (after are : List ℕ) (new : ReaderPlace) : Type 0 where
   pub long : length after ≡ length before
   pub wide : length are ≡ length was
   pub statuses : (status ≡ 0) ⊎ (status ≡ 2) ⊎ (status ≡ 4) ⊎ (status ≡ 7)
   pub inside : status ≡ 0 → Holding (IsFit span (length before) (length was)) old.inner
-  pub read : status ≡ 0 → Between (λ a b. HasReadRun a b span after are) old.inner new.inner
+  pub read : status ≡ 0 → Between (λ a b. Reads a b span after are) old.inner new.inner
   pub unfit : status ≡ 2 → Holding (λ a. IsFit span (length before) (length was) a → ⊥) old.inner
   pub same : (status ≡ 0 → ⊥) → new ≡ old
   pub kept : (status ≡ 0 → ⊥) → (after ≡ before) × (are ≡ was)
   pub closed : status ≡ 4 → old.inner ≡ None
+
+-- by the nearest texels
+abbrev pub IsRunRead : ReaderPlace → Span → List ℕ → List ℕ → ℕ → List ℕ → List ℕ → ReaderPlace → Type 0
+IsRunRead old span before was status after are new = IsRunReadBy HasReadRun old span before was status after are new
+
+-- by bilinear filtering
+abbrev pub IsRunBlended : ReaderPlace → Span → List ℕ → List ℕ → ℕ → List ℕ → List ℕ → ReaderPlace → Type 0
+IsRunBlended old span before was status after are new = IsRunReadBy HasBlendedRun old span before was status after are new
 
 -- the version is held no longer: 0; the reader is closed: 4; it held none: 7
 pub record IsReleased (old : ReaderPlace) (status : ℕ) (new : ReaderPlace) : Type 0 where

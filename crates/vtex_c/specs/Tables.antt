@@ -11,10 +11,10 @@ use Rattle.vt_grace.specs.Sound.{IsSound}
 use Rattle.vt_grace.specs.WriterViews.{first_writer, is_out}
 use Rattle.vt_grace.specs.Giving.{after_return}
 use Rattle.vt_lookup.specs.Notes.{IsNotedIn}
-use Rattle.vt_shared.specs.declared.points.Point.{Point}
+use Rattle.vt_texel_runs.specs.declared.points.Point.{Point}
 use Rattle.vt_shared.specs.Given.{HasTileLength, IsOfItsTile}
 use Rattle.vt_shared.specs.Owners.{OwnerView, HasKept, HasWritten, HasMapped, HasUnmapped, AwaitsBank, AwaitsEither}
-use Rattle.vt_shared.specs.Points.{IsAnswered}
+use Rattle.vt_texel_runs.specs.Points.{IsAnswered}
 use Rattle.vt_shared.specs.Readers.{ReaderView, left_by, IsReaderOf, IsAdmitted as IsAdmittedBy}
 use Rattle.vtex_c.specs.declared.shape.VtexShape.{VtexShape}
 use Rattle.vtex_c.specs.declared.table.TablePlace.{TablePlace}

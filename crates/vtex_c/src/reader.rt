@@ -2,7 +2,7 @@
 
 ghost use Rattle.std.specs.Prelude.{◌≡◌, None};
 ghost use Rattle.std.specs.Bool.{MatchBool};
-ghost use Rattle.vtex_c.specs.Readers.{IsNumbered, IsHeld, IsFoundUnder, IsRead, IsRunRead, IsReleased, IsShut, AreFit, IsFit};
+ghost use Rattle.vtex_c.specs.Readers.{IsNumbered, IsHeld, IsFoundUnder, IsRead, IsRunRead, IsRunBlended, IsReleased, IsShut, AreFit, IsFit};
 
 use crate::{BAD_NUMBER, CLOSED, DONE, NOT_HELD};
 use std::alloc::Global;
@@ -129,6 +129,25 @@ pub fn run(place: &mut ReaderPlace, span: &Span, out: &mut [u8], pages: &mut [u3
                 return BAD_NUMBER;
             }
             if reader.run(span, out, pages) {
+                DONE
+            } else {
+                NOT_HELD
+            }
+        }
+    }
+}
+
+/// Writes the bytes of a run of texels by bilinear filtering in the version that is held, and the page that each of them wants.
+pub fn blended_run(place: &mut ReaderPlace, span: &Span, out: &mut [u8], pages: &mut [u32]) -> u32
+    ensures { IsRunBlended place.old span.now out.old pages.old result out.new pages.new place.new }
+{
+    match &mut place.inner {
+        None => CLOSED,
+        Some(reader) => {
+            if !is_fit(reader, span, out.len(), pages.len()) {
+                return BAD_NUMBER;
+            }
+            if reader.blended_run(span, out, pages) {
                 DONE
             } else {
                 NOT_HELD

@@ -11,7 +11,7 @@ ghost use Rattle.vtex_c.specs.declared.table.TablePlace.{TablePlace};
 ghost use Rattle.vtex_c.specs.declared.reader.ReaderPlace.{ReaderPlace};
 ghost use Rattle.vtex_c.specs.Tables.{IsTableOpened, IsMapped, IsUnmapped, IsAdmitted, IsTakenBack, IsTableClosed, AreOfOneTable};
 ghost use Rattle.vtex_c.specs.Settlings.{IsSettled};
-ghost use Rattle.vtex_c.specs.Readers.{IsNumbered, IsHeld, IsFoundUnder, IsRead, IsRunRead, IsReleased, IsShut};
+ghost use Rattle.vtex_c.specs.Readers.{IsNumbered, IsHeld, IsFoundUnder, IsRead, IsRunRead, IsRunBlended, IsReleased, IsShut};
 
 use crate::reader::ReaderPlace;
 use crate::settle::VtexStep;
@@ -235,6 +235,21 @@ pub unsafe extern "C" fn vtex_reader_run(
     ensures* { ∃ₛ (λ (d : ReaderPlace). sem 𝓛 (lies_at reader_row full_share at d) ∗ ⌜ IsRunRead c span.now out.old pages.old result out.new pages.new d ⌝) }
 {
     reader::run(&mut *(at as *mut ReaderPlace), span, out, pages)
+}
+
+/// Writes the bytes of a run of texels by bilinear filtering in the version that is held, and the page that each of them wants.
+#[unsafe(no_mangle)]
+pub unsafe extern "C" fn vtex_reader_blended_run(
+    at: *mut VtexReader,
+    span: &Span,
+    out: &mut [u8],
+    pages: &mut [u32],
+) -> u32
+    ghost c: { ReaderPlace }
+    requires* { sem 𝓛 (lies_at reader_row full_share at c) }
+    ensures* { ∃ₛ (λ (d : ReaderPlace). sem 𝓛 (lies_at reader_row full_share at d) ∗ ⌜ IsRunBlended c span.now out.old pages.old result out.new pages.new d ⌝) }
+{
+    reader::blended_run(&mut *(at as *mut ReaderPlace), span, out, pages)
 }
 
 /// Holds the version no longer.

@@ -1,7 +1,7 @@
 use Rattle.std.proofs.Common.{ℕ, sym, subst}
 use Rattle.vt_grace.specs.Values.{HeldValue}
 use Rattle.vt_lookup.specs.Notes.{IsNotedIn}
-use Rattle.vt_shared.specs.Spans.{AreSpanned}
+use Rattle.vt_texel_runs.specs.Spans.{AreSpanned}
 use Rattle.vt_shared.proofs.reader.run_under.Goals as goal
 
 pub returns-clause-answered : goal.returns-clause-answered

@@ -4,7 +4,7 @@ use types.Logic.{sem}
 use prog.Wp.{WpFn}
 use Rattle.vtex_c.specs.Readers.{IsRunRead}
 use Rattle.vtex_c.specs.contracts.reader.ReaderPlace.{the_row as R}
-use Rattle.vt_shared.specs.contracts.spans.Span.{the_row as SpanRow}
+use Rattle.vt_texel_runs.specs.contracts.spans.Span.{the_row as SpanRow}
 use Rattle.vtex_c.specs.contracts.shared.vtex_reader_run as f
 use Rattle.vtex_c.proofs.shared.vtex_reader_run.Statement.{statement}
 use Rattle.vtex_c.proofs.shared.vtex_reader_run.Code as code

@@ -4,7 +4,7 @@ use types.Logic.{sem}
 use prog.Wp.{WpFn}
 use Rattle.vtex_c.specs.Readers.{IsRead}
 use Rattle.vtex_c.specs.contracts.reader.ReaderPlace.{the_row as R}
-use Rattle.vt_shared.specs.contracts.points.Point.{the_row as PointRow}
+use Rattle.vt_texel_runs.specs.contracts.points.Point.{the_row as PointRow}
 use Rattle.vtex_c.specs.contracts.shared.vtex_reader_texels as f
 use Rattle.vtex_c.proofs.shared.vtex_reader_texels.Statement.{statement}
 use Rattle.vtex_c.proofs.shared.vtex_reader_texels.Code as code

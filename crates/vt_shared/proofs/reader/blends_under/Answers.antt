@@ -1,0 +1,10 @@
+use Rattle.std.proofs.Common.{sym, subst}
+use Rattle.vt_grace.specs.Values.{HeldValue}
+use Rattle.vt_lookup.specs.Notes.{IsNotedIn}
+use Rattle.vt_texel_runs.specs.Blends.{AreBlendsAlong}
+use Rattle.vt_shared.proofs.reader.blends_under.Goals as goal
+
+pub returns-clause-answered : goal.returns-clause-answered
+returns-clause-answered c =
+    subst (λ (h : HeldValue). AreBlendsAlong c.args.geometry.now c.args.depth h.version (IsNotedIn h.view) c.args.span.now c.args.span.now.count c.blend_run.new.out)
+    (sym c.into_held.ensures.held) c.blend_run.ensures.answered

@@ -1,0 +1,15 @@
+use Rattle.std.proofs.Common.{◌≡◌, ℕ}
+use Rattle.vt_draw.specs.Lookups.{Note, IsFinest}
+use Rattle.vt_texel_runs.specs.Points.{AreAnswered}
+use Rattle.vt_texel_runs.proofs.points.read_points.Given as goal
+
+-- the points so far are answered, and the look-up stands for what was found for the last of them
+abbrev pub invariant-loop-i : goal.invariant-loop-i
+invariant-loop-i g l = record {
+  shape : g.K.Lookup.shape l.lookup ≡ l.geometry;
+  version : g.K.Lookup.version l.lookup ≡ g.K.Lookup.version l.fn.lookup;
+  said : (note : Note) → g.K.Lookup.says l.fn.lookup note → g.K.Lookup.says l.lookup note;
+  kept : g.K.Lookup.kept l.lookup ≡ g.K.Lookup.kept l.fn.lookup;
+  finest : IsFinest (g.K.Lookup.shape l.lookup) (g.K.Lookup.version l.lookup) (g.K.Lookup.says l.lookup) l.wanted l.found;
+  answered : AreAnswered l.geometry g.row.DEPTH (g.K.Lookup.version l.fn.lookup) (g.K.Lookup.says l.lookup) l.points l.i l.out;
+}

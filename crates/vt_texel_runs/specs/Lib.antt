@@ -1,0 +1,4 @@
+pub mod Points
+pub mod Spans
+pub mod Blends
+pub mod BlendLaws
