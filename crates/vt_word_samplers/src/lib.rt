@@ -14,4 +14,4 @@ pub use told::{count_together, note_lines};
 pub use vt_feedback::Counts;
 pub use vt_journal::RowLines;
 pub use vt_sampler::{Filter, Nearest, Sampler, Shot, Words};
-pub use vt_streaming::{StreamReport, Streamer, sampler_of, stream_batch};
+pub use vt_streaming::{StreamReport, Streamer, stream_batch};
