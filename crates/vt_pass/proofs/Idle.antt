@@ -26,7 +26,7 @@ use Rattle.vt_word_workers.specs.Stored.{AreStored}
 use Rattle.vt_word_workers.proofs.Growing.{stored_grow}
 use Rattle.vt_word_workers.specs.WordSamplers.{WordSampler}
 use Rattle.vt_word_workers.specs.declared.workers.WordStreamer.{WordStreamer}
-use Rattle.vt_word_workers.specs.WordTasks.{MayDraw}
+use Rattle.vt_word_workers.specs.SamplerTasks.{MayDraw}
 use Rattle.vt_pass.specs.Placed.{HasPlaced}
 use Rattle.vt_word_workers.specs.Kits.{KitView, kit_state, IsKit, IsIdleKit, IsSameKit, AreAllIn}
 use Rattle.vt_pass.specs.WordMachines.{WordView, journal_by, word_state, IsIdleBy, IsReadyBy}

@@ -16,7 +16,8 @@ use Rattle.vt_requests.specs.Drawings.{drawing_of}
 use Rattle.vt_requests.specs.Passes.{MapsRoot, IsJobFor, IsUntouched}
 use Rattle.vt_word_workers.specs.WordSamplers.{WordSampler}
 use Rattle.vt_word_workers.specs.declared.workers.WordStreamer.{WordStreamer}
-use Rattle.vt_word_workers.specs.WordTasks.{HasDrawn, HasFed}
+use Rattle.vt_word_workers.specs.SamplerTasks.{HasDrawn}
+use Rattle.vt_word_workers.specs.WordTasks.{HasFed}
 use Rattle.vt_word_workers.specs.GivenPasses.{HasGiven}
 use Rattle.vt_word_workers.specs.HeldPasses.{IsHeldRow, AreHeldRows}
 use Rattle.vt_word_workers.specs.Kits.{KitView, kit_setup, kit_state, IsReadyKit, kit_rows}

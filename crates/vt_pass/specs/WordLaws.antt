@@ -24,7 +24,8 @@ use Rattle.vt_requests.specs.BatchRounds.{Begun as Round}
 use Rattle.vt_requests.specs.Sizes.{AreSized}
 use Rattle.vt_word_workers.specs.WordSamplers.{WordSampler}
 use Rattle.vt_word_workers.specs.declared.workers.WordStreamer.{WordStreamer}
-use Rattle.vt_word_workers.specs.WordTasks.{HasDrawn, HasFed}
+use Rattle.vt_word_workers.specs.SamplerTasks.{HasDrawn}
+use Rattle.vt_word_workers.specs.WordTasks.{HasFed}
 use Rattle.vt_word_workers.specs.RoundKits.{IsDealt}
 use Rattle.vt_word_workers.specs.GivenPasses.{HaveNewPasses}
 use Rattle.vt_word_workers.specs.Kits.{KitView, kit_setup, kit_state, IsFitKit, IsReadyKit}

@@ -6,7 +6,7 @@ use Rattle.vt_grace.specs.Tokens.{IsPassOf}
 use Rattle.vt_shared_rows.specs.Notes.{Fits, HasHeldMore}
 use Rattle.vt_pictures.specs.Scenes.{Scene}
 use Rattle.vt_pictures.specs.declared.filters.Filter.{Ghosts as FilterMeanings}
-use Rattle.vt_word_workers.specs.declared.workers.WithPass.{WithPass}
+use Rattle.vt_word_workers.specs.SamplerTypes.samplers.WithPass.{WithPass}
 use Rattle.vt_shared_rows.specs.declared.bag.RowBag.{RowBag}
 use Rattle.vt_shared_rows.specs.declared.sampler.RowSampler.{RowSampler}
 use Rattle.vt_shared_rows.specs.SharedRows.{MayShare, HasShared, versions_of}

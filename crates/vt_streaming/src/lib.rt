@@ -11,5 +11,6 @@ mod waits;
 
 pub use report::StreamReport;
 pub use stream::stream_batch;
+pub use vt_requests::sampler_of;
 pub use vt_streamer::Streamer;
 pub use waits::take_result;

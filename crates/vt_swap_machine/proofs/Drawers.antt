@@ -16,7 +16,7 @@ use Rattle.vt_word_workers.specs.Samplers.{SamplerView, IsOwn, version_at}
 use Rattle.vt_swap.specs.Readers.{ReaderView}
 use Rattle.vt_swap.specs.Making.{IsNewReader}
 use Rattle.vt_swap_workers.specs.declared.workers.SwapDrawer.{SwapDrawer}
-use Rattle.vt_word_workers.specs.Kits.{IsSamplerOf}
+use Rattle.vt_word_workers.specs.DealtRows.{IsSamplerOf}
 use Rattle.vt_word_workers.proofs.Kits.{each_more}
 use Rattle.vt_swap_machine.specs.declared.draw_kit.DrawKit.{DrawKit}
 use Rattle.vt_swap_machine.specs.DrawKits.{AreDrawers, HasReader, IsIdleDraw, IsReadyDraw, version_by, line_of, lines_of, counted_together}

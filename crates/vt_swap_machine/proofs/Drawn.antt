@@ -26,7 +26,7 @@ use Rattle.vt_swap.proofs.Entering.{known_on}
 use Rattle.vt_swap_workers.specs.declared.workers.SwapDrawer.{SwapDrawer}
 use Rattle.vt_swap_workers.specs.SwapTasks.{HasDrawn}
 use Rattle.vt_swap_workers.proofs.FromStart.{entered_from, entered_since}
-use Rattle.vt_word_workers.specs.Kits.{IsSamplerOf}
+use Rattle.vt_word_workers.specs.DealtRows.{IsSamplerOf}
 use Rattle.vt_swap_machine.specs.declared.draw_kit.DrawKit.{DrawKit}
 use Rattle.vt_swap_machine.specs.DrawKits.{AreDrawers, HasReader, IsToldBy, row_by, version_by, counted_together}
 use Rattle.vt_swap_machine.specs.SwapPasses.{WasDrawn, MayEndDraw, reader_by, IsEnteredRow}

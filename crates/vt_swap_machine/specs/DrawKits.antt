@@ -13,7 +13,7 @@ use Rattle.vt_word_workers.specs.Samplers.{row_at, version_at}
 use Rattle.vt_swap.specs.LogTypes.records.LogRecord.{LogRecord}
 use Rattle.vt_swap.specs.Readers.{ReaderView}
 use Rattle.vt_swap_workers.specs.declared.workers.SwapDrawer.{SwapDrawer}
-use Rattle.vt_word_workers.specs.Kits.{IsSamplerOf}
+use Rattle.vt_word_workers.specs.DealtRows.{IsSamplerOf}
 use Rattle.vt_swap_machine.specs.declared.draw_kit.DrawKit.{DrawKit}
 
 -- the bytes of a row of a sampler, if it is there

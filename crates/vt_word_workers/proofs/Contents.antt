@@ -6,11 +6,11 @@ use Rattle.std.proofs.lemmas.List.Elements.{All-head, All-tail}
 use Rattle.std.proofs.lemmas.Option.{none-some, same_Some}
 use Rattle.vt_outside.specs.Files.{IsPiece}
 use Rattle.vt_pages.specs.Shape.{Shape}
-use Rattle.vt_journal.specs.declared.changes.Change.{Change}
-use Rattle.vt_journal.specs.declared.changes.Change.TheVariants.{Map, Unmap}
-use Rattle.vt_journal.specs.declared.changes.Event.TheVariants.{Changed}
-use Rattle.vt_journal.specs.JournalText.{changes_of}
-use Rattle.vt_journal.proofs.EventLines.{changes_of-append}
+use Rattle.vt_word_samplers.specs.JournalTypes.changes.Change.{Change}
+use Rattle.vt_word_samplers.specs.JournalTypes.changes.Change.TheVariants.{Map, Unmap}
+use Rattle.vt_word_samplers.specs.JournalTypes.changes.Event.TheVariants.{Changed}
+use Rattle.vt_word_samplers.specs.JournalText.{changes_of}
+use Rattle.vt_word_samplers.proofs.EventLines.{changes_of-append}
 use Rattle.vt_tiles.specs.Format.{tile_length, tile_start}
 use Rattle.vt_plan.specs.declared.batches.Planned.{Planned}
 use Rattle.vt_queue.specs.declared.items.Loaded.{Loaded}
@@ -20,10 +20,10 @@ use Rattle.vt_loaders.specs.Readings.{is_lost}
 use Rattle.vt_loaders.specs.Results.{IsGood}
 use Rattle.vt_requests.specs.Outcomes.{victim_events, group_if}
 use Rattle.vt_requests.specs.BatchRounds.{page_if, result_group, result_events, IsResultOf}
-use Rattle.vt_noted.specs.Fills.{words_in}
-use Rattle.vt_streaming.specs.Made.{victim_contents, contents_if, result_contents, results_contents}
-use Rattle.vt_noted.specs.Stored.{IsStored, AreStored}
-use Rattle.vt_noted.proofs.Growing.{stored_grow}
+use Rattle.vt_word_samplers.specs.Fills.{words_in}
+use Rattle.vt_word_samplers.specs.Made.{victim_contents, contents_if, result_contents, results_contents}
+use Rattle.vt_word_samplers.specs.Stored.{IsStored, AreStored}
+use Rattle.vt_word_samplers.proofs.Growing.{stored_grow}
 
 page_of : Change → ℕ
 page_of (Map page frame) = page

@@ -10,31 +10,32 @@ use Rattle.vt_outside.specs.declared.outside.File.{Ghosts as FileMeanings}
 use Rattle.vt_pages.specs.Shape.{Shape}
 use Rattle.vt_pages.specs.Pages.{pages_of}
 use Rattle.vt_camera.specs.Paths.{ArePictureSides}
-use Rattle.vt_sampler.specs.Shots.{shot_row, wants_in_rows}
-use Rattle.vt_sampler.specs.PicturesTypes.filters.Filter.{Ghosts as FilterMeanings}
-use Rattle.vt_sampler.specs.Evidence.{AreShown}
-use Rattle.vt_sampler.specs.FilterLaws.{WantsFew, picture_wants}
-use Rattle.vt_sampler.proofs.Handed.{shown_by_more}
-use Rattle.vt_journal.specs.declared.changes.RowLine.{RowLine}
-use Rattle.vt_sampler.specs.GraceTypes.views.PassView.{PassView}
-use Rattle.vt_sampler.specs.GraceTypes.views.WriterView.{WriterView}
-use Rattle.vt_noted.specs.Giving.{new_pass}
-use Rattle.vt_noted.specs.Sound.{IsSound, IsSoundReturn}
-use Rattle.vt_sampler.specs.Tokens.{IsPassOf}
-use Rattle.vt_sampler.specs.Values.{WordsValue, PassValue}
-use Rattle.vt_noted.specs.WriterViews.{version_of, is_out}
-use Rattle.vt_sampler.specs.LookupNotes.{IsNotedIn}
-use Rattle.vt_sampler.specs.Samplers.{IsOwn, own_rows, row_at, row_length, version_at}
-use Rattle.vt_sampler.proofs.Sharing.{picture_few}
-use Rattle.vt_noted.specs.Noted.{IsNotedBy, IsAmong}
+use Rattle.vt_word_samplers.specs.Shots.{shot_row, wants_in_rows}
+use Rattle.vt_word_samplers.specs.PicturesTypes.filters.Filter.{Ghosts as FilterMeanings}
+use Rattle.vt_word_samplers.specs.Evidence.{AreShown}
+use Rattle.vt_word_samplers.specs.FilterLaws.{WantsFew, picture_wants}
+use Rattle.vt_word_samplers.proofs.SamplerHanded.{shown_by_more}
+use Rattle.vt_word_samplers.specs.JournalTypes.changes.RowLine.{RowLine}
+use Rattle.vt_word_samplers.specs.GraceTypes.views.PassView.{PassView}
+use Rattle.vt_word_samplers.specs.GraceTypes.views.WriterView.{WriterView}
+use Rattle.vt_word_samplers.specs.Giving.{new_pass}
+use Rattle.vt_word_samplers.specs.Sound.{IsSound, IsSoundReturn}
+use Rattle.vt_word_samplers.specs.Tokens.{IsPassOf}
+use Rattle.vt_word_samplers.specs.Values.{WordsValue, PassValue}
+use Rattle.vt_word_samplers.specs.WriterViews.{version_of, is_out}
+use Rattle.vt_word_samplers.specs.LookupNotes.{IsNotedIn}
+use Rattle.vt_word_samplers.specs.Samplers.{IsOwn, own_rows, row_at, row_length, version_at}
+use Rattle.vt_word_samplers.proofs.Sharing.{picture_few}
+use Rattle.vt_word_samplers.specs.Noted.{IsNotedBy, IsAmong}
 use Rattle.vt_loaders.specs.declared.queued.Queues.{Queues}
 use Rattle.vt_loaders.specs.QueuedLoaders.{QueuedView}
 use Rattle.vt_requests.specs.Jobs.{Job}
-use Rattle.vt_word_workers.specs.WordSamplers.{WordSampler}
+use Rattle.vt_word_samplers.specs.WordSamplers.{WordSampler}
 use Rattle.vt_word_workers.specs.declared.workers.WordStreamer.{WordStreamer}
-use Rattle.vt_word_workers.specs.GivenPasses.{HasNewPass, ArePassesOf, all_returned, without_pass, without_passes}
-use Rattle.vt_word_workers.specs.WordTasks.{HasDrawn}
-use Rattle.vt_word_workers.specs.Kits.{KitView, IsSamplerOf, AreSamplersOf, row_by, version_by, counted_together}
+use Rattle.vt_word_samplers.specs.GivenPasses.{HasNewPass, ArePassesOf, all_returned, without_pass, without_passes}
+use Rattle.vt_word_samplers.specs.SamplerTasks.{HasDrawn}
+use Rattle.vt_word_samplers.specs.DealtRows.{IsSamplerOf, AreSamplersOf, row_by, version_by, counted_together}
+use Rattle.vt_word_workers.specs.Kits.{KitView}
 use Rattle.vt_word_workers.specs.HeldPasses.{IsHeldRow}
 use Rattle.vt_word_workers.specs.KitPasses.{Begun, HaveWorked, WasDrawn}
 use Rattle.vt_word_workers.proofs.Returned.{holds_of, HasOwnPass, return_of, WasReturned, was_returned, have_returned, says_more, none_out, have_noted}

@@ -7,7 +7,7 @@ use Rattle.vt_outside.specs.declared.outside.File.{Ghosts as FileMeanings}
 use Rattle.vt_outside.specs.Counts.{RoseTogetherBy, count_end}
 use Rattle.vt_outside.specs.Places.{times_asked, times_failed}
 use Rattle.vt_pages.specs.Shape.{Shape}
-use Rattle.vt_journal.specs.declared.changes.Event.{Event}
+use Rattle.vt_word_samplers.specs.JournalTypes.changes.Event.{Event}
 use Rattle.vt_tiles.specs.Format.{tile_length}
 use Rattle.vt_tiles.specs.StoreViews.{StoreView}
 use Rattle.vt_plan.specs.declared.batches.Planned.{Planned}
@@ -28,7 +28,7 @@ use Rattle.vt_requests.specs.Requests.{FileState, times_planned, lost_entries, c
 use Rattle.vt_requests.specs.Machines.{file_state, files_of}
 use Rattle.vt_requests.specs.BatchRounds.{result_events, IsResultOf, AreLossesOf, Begun, IsEndedRound}
 use Rattle.vt_requests.proofs.BatchRounds.{results_of_entries, round_outcome, round_read}
-use Rattle.vt_streaming.specs.Streams.{Streams}
+use Rattle.vt_word_samplers.specs.Streams.{Streams}
 use Rattle.vt_queue.proofs.OrderLemmas.{joined_shares}
 use Rattle.vt_loaders.proofs.Gathering.{Gathering, gathering}
 

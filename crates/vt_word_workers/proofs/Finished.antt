@@ -9,19 +9,19 @@ use Rattle.vt_outside.specs.Lists.{ListView}
 use Rattle.vt_outside.specs.declared.outside.File.{Ghosts as FileMeanings}
 use Rattle.vt_pages.specs.Shape.{Shape}
 use Rattle.vt_pages.specs.Pages.{IsWithinLimits}
-use Rattle.vt_journal.specs.declared.changes.Change.{Change}
-use Rattle.vt_journal.specs.declared.changes.Event.{Event}
-use Rattle.vt_journal.specs.declared.changes.RowLine.{RowLine}
-use Rattle.vt_journal.specs.JournalText.{changes_of}
+use Rattle.vt_word_samplers.specs.JournalTypes.changes.Change.{Change}
+use Rattle.vt_word_samplers.specs.JournalTypes.changes.Event.{Event}
+use Rattle.vt_word_samplers.specs.JournalTypes.changes.RowLine.{RowLine}
+use Rattle.vt_word_samplers.specs.JournalText.{changes_of}
 use Rattle.vt_tiles.specs.Format.{stored, tile_length}
 use Rattle.vt_tiles.specs.StoreViews.{StoreView, IsStoreIfTold}
-use Rattle.vt_noted.specs.Replays.{IsFull, AreReplayed}
-use Rattle.vt_sampler.specs.PicturesTypes.filters.Filter.{Ghosts as FilterMeanings}
-use Rattle.vt_sampler.specs.FilterLaws.{IsUnder}
-use Rattle.vt_sampler.specs.GraceTypes.views.WriterView.{WriterView}
-use Rattle.vt_sampler.specs.GraceTypes.sizes.Sizes.{Sizes}
-use Rattle.vt_sampler.specs.Values.{WordsValue}
-use Rattle.vt_streaming.specs.Views.{StreamerView, IsStreamerOf}
+use Rattle.vt_word_samplers.specs.Replays.{IsFull, AreReplayed}
+use Rattle.vt_word_samplers.specs.PicturesTypes.filters.Filter.{Ghosts as FilterMeanings}
+use Rattle.vt_word_samplers.specs.FilterLaws.{IsUnder}
+use Rattle.vt_word_samplers.specs.GraceTypes.views.WriterView.{WriterView}
+use Rattle.vt_word_samplers.specs.GraceTypes.sizes.Sizes.{Sizes}
+use Rattle.vt_word_samplers.specs.Values.{WordsValue}
+use Rattle.vt_word_samplers.specs.Views.{StreamerView, IsStreamerOf}
 use Rattle.vt_queue.specs.declared.items.Request.{Request}
 use Rattle.vt_queue.specs.declared.items.Loaded.{Loaded}
 use Rattle.vt_queue.specs.declared.views.PassView.{PassView}
@@ -43,15 +43,16 @@ use Rattle.vt_requests.specs.Drawings.{drawing_of}
 use Rattle.vt_requests.specs.Passes.{IsPictured}
 use Rattle.vt_requests.specs.BatchRounds.{result_events}
 use Rattle.vt_requests.specs.Sizes.{AreSized}
-use Rattle.vt_streaming.specs.Made.{HasStreamed, results_contents}
-use Rattle.vt_noted.specs.Stored.{AreStored}
-use Rattle.vt_noted.proofs.Growing.{stored_grow}
-use Rattle.vt_noted.proofs.Replayed.{picture_replayed}
-use Rattle.vt_word_workers.specs.WordSamplers.{WordSampler}
+use Rattle.vt_word_samplers.specs.Made.{HasStreamed, results_contents}
+use Rattle.vt_word_samplers.specs.Stored.{AreStored}
+use Rattle.vt_word_samplers.proofs.Growing.{stored_grow}
+use Rattle.vt_word_samplers.proofs.Replayed.{picture_replayed}
+use Rattle.vt_word_samplers.specs.WordSamplers.{WordSampler}
 use Rattle.vt_word_workers.specs.declared.workers.WordStreamer.{WordStreamer}
-use Rattle.vt_word_workers.specs.GivenPasses.{all_returned, without_passes}
+use Rattle.vt_word_samplers.specs.GivenPasses.{all_returned, without_passes}
 use Rattle.vt_word_workers.specs.RoundKits.{RoundKitView, AreEmptied}
-use Rattle.vt_word_workers.specs.Kits.{KitView, kit_row, kit_rows, kit_setup, kit_state, lines_of, IsIdleKit, counted_together}
+use Rattle.vt_word_samplers.specs.DealtRows.{lines_of, counted_together}
+use Rattle.vt_word_workers.specs.Kits.{KitView, kit_row, kit_rows, kit_setup, kit_state, IsIdleKit}
 use Rattle.vt_word_workers.specs.HeldPasses.{AreHeldRows}
 use Rattle.vt_word_workers.specs.KitPasses.{Begun, MayFinish, HaveWorked, WasDrawn, KitRan, kit_before, kit_drawn}
 use Rattle.vt_word_workers.proofs.Returned.{journal_stays, contents_stay, have_returned, have_noted}
@@ -59,9 +60,9 @@ use Rattle.vt_word_workers.proofs.RowLines.{line_there, lines_in_order}
 use Rattle.vt_word_workers.proofs.Contents.{results_stored}
 use Rattle.vt_word_workers.proofs.Ended.{samplers_stay, counted, all_in, has_row, row_full, rows_rise, row_from, row_to, row_drawn, row_held, row_noted}
 use Rattle.vt_word_workers.proofs.Ending.{all_entries, all_good, all_sizes, outcome, read, asks_whole, answers_whole, no_asks, no_answers}
-use Rattle.vt_noted.specs.Noted.{IsAmong, AreNotedRows}
-use Rattle.vt_sampler.specs.Shots.{shot_row}
-use Rattle.vt_sampler.specs.Evidence.{AreShown}
+use Rattle.vt_word_samplers.specs.Noted.{IsAmong, AreNotedRows}
+use Rattle.vt_word_samplers.specs.Shots.{shot_row}
+use Rattle.vt_word_samplers.specs.Evidence.{AreShown}
 use Rattle.vt_queue.specs.declared.queue.QueuePass.{QueuePass}
 
 -- stores that all tell the same, tell it together

@@ -5,13 +5,13 @@ use Rattle.std.specs.List.{refill}
 use Rattle.std.proofs.lemmas.List.{length-map}
 use Rattle.vt_outside.specs.Lists.{ListView}
 use Rattle.vt_outside.specs.declared.outside.File.{Ghosts as FileMeanings}
-use Rattle.vt_journal.specs.declared.changes.RowLine.{RowLine}
-use Rattle.vt_sampler.specs.PicturesTypes.filters.Filter.{Ghosts as FilterMeanings}
-use Rattle.vt_sampler.specs.FilterLaws.{IsUnder}
+use Rattle.vt_word_samplers.specs.JournalTypes.changes.RowLine.{RowLine}
+use Rattle.vt_word_samplers.specs.PicturesTypes.filters.Filter.{Ghosts as FilterMeanings}
+use Rattle.vt_word_samplers.specs.FilterLaws.{IsUnder}
 use Rattle.vt_tiles.specs.Format.{tile_length}
 use Rattle.vt_tiles.specs.StoreViews.{StoreView}
-use Rattle.vt_sampler.specs.Values.{WordsValue}
-use Rattle.vt_streaming.specs.Views.{StreamerView, IsStreamerOf}
+use Rattle.vt_word_samplers.specs.Values.{WordsValue}
+use Rattle.vt_word_samplers.specs.Views.{StreamerView, IsStreamerOf}
 use Rattle.vt_queue.specs.declared.items.Request.{Request}
 use Rattle.vt_queue.specs.declared.items.Loaded.{Loaded}
 use Rattle.vt_queue.specs.declared.views.PassView.{PassView}
@@ -24,11 +24,12 @@ use Rattle.vt_requests.specs.Jobs.{Job}
 use Rattle.vt_requests.proofs.Lent.{refilled}
 use Rattle.vt_requests.specs.MachineTypes.crew.PassReport.{PassReport}
 use Rattle.vt_requests.specs.Sizes.{AreSized}
-use Rattle.vt_word_workers.specs.WordSamplers.{WordSampler}
+use Rattle.vt_word_samplers.specs.WordSamplers.{WordSampler}
 use Rattle.vt_word_workers.specs.declared.workers.WordStreamer.{WordStreamer}
-use Rattle.vt_word_workers.specs.GivenPasses.{all_returned, without_pass, without_passes}
+use Rattle.vt_word_samplers.specs.GivenPasses.{all_returned, without_pass, without_passes}
 use Rattle.vt_word_workers.specs.RoundKits.{RoundKitView}
-use Rattle.vt_word_workers.specs.Kits.{KitView, IsIdleKit, lines_of, counted_together}
+use Rattle.vt_word_samplers.specs.DealtRows.{lines_of, counted_together}
+use Rattle.vt_word_workers.specs.Kits.{KitView, IsIdleKit}
 use Rattle.vt_word_workers.specs.KitPasses.{Begun, MayFinish, KitRan, kit_before}
 use Rattle.vt_word_workers.proofs.Finished.{sizes_back, idle_finished, ran_finished}
 

@@ -1,6 +1,6 @@
-pub use Rattle.vt_noted.proofs.Growing
-pub use Rattle.vt_noted.proofs.Replayed
-pub use Rattle.vt_sampler.proofs.Sharing
+pub use Rattle.vt_word_samplers.proofs.Growing
+pub use Rattle.vt_word_samplers.proofs.Replayed
+pub use Rattle.vt_word_samplers.proofs.Sharing
 pub mod Kits
 pub mod Rooms
 pub mod Returned
@@ -10,5 +10,4 @@ pub mod RowLines
 pub mod Ended
 pub mod Finished
 pub mod GivenOnes
-pub mod ReturnedOnes
 pub mod Finishing

@@ -3,19 +3,19 @@ use Rattle.std.proofs.Common.{◌≡◌, ℕ, zero, suc, ◌≤◌, inl, inr, Bo
 use Rattle.std.specs.Prelude.{slice_get, slice_set, All, Contains}
 use Rattle.std.proofs.lemmas.List.Elements.{Contains-append_left, Contains-append_right}
 use Rattle.std.proofs.lemmas.Option.{none-some, same_Some, slice_get_cases}
-use Rattle.vt_sampler.specs.Lookups.{Note, EntryNote, WordNote}
-use Rattle.vt_sampler.specs.GraceTypes.views.PassView.{PassView}
-use Rattle.vt_sampler.specs.GraceTypes.views.Returned.{Returned}
-use Rattle.vt_sampler.specs.GraceTypes.views.WriterView.{WriterView}
-use Rattle.vt_noted.specs.WriterViews.{is_out}
-use Rattle.vt_sampler.specs.Values.{PassValue}
-use Rattle.vt_sampler.specs.LookupNotes.{IsNotedIn}
-use Rattle.vt_noted.specs.Noted.{IsAmong, IsNotedBy, HasNoted, HasNotesOf}
-use Rattle.vt_noted.proofs.Handed.{noted_by, notes_alike, pass_noted, notes_stay, noted_onward, among_left, among_right}
-use Rattle.vt_word_workers.specs.declared.workers.WithPass.{WithPass}
-use Rattle.vt_word_workers.specs.GivenPasses.{after_pass, all_returned}
-use Rattle.vt_sampler.specs.GraceTypes.views.EntryNote.{EntryNote as ReadEntry}
-use Rattle.vt_sampler.specs.GraceTypes.views.WordNote.{WordNote as ReadWord}
+use Rattle.vt_word_samplers.specs.Lookups.{Note, EntryNote, WordNote}
+use Rattle.vt_word_samplers.specs.GraceTypes.views.PassView.{PassView}
+use Rattle.vt_word_samplers.specs.GraceTypes.views.Returned.{Returned}
+use Rattle.vt_word_samplers.specs.GraceTypes.views.WriterView.{WriterView}
+use Rattle.vt_word_samplers.specs.WriterViews.{is_out}
+use Rattle.vt_word_samplers.specs.Values.{PassValue}
+use Rattle.vt_word_samplers.specs.LookupNotes.{IsNotedIn}
+use Rattle.vt_word_samplers.specs.Noted.{IsAmong, IsNotedBy, HasNoted, HasNotesOf}
+use Rattle.vt_word_samplers.proofs.Handed.{noted_by, notes_alike, pass_noted, notes_stay, noted_onward, among_left, among_right}
+use Rattle.vt_word_samplers.specs.declared.samplers.WithPass.{WithPass}
+use Rattle.vt_word_samplers.specs.GivenPasses.{after_pass, all_returned}
+use Rattle.vt_word_samplers.specs.GraceTypes.views.EntryNote.{EntryNote as ReadEntry}
+use Rattle.vt_word_samplers.specs.GraceTypes.views.WordNote.{WordNote as ReadWord}
 
 -- what holds of each element of a list holds of one that it contains
 pub holds_of : {X : Type 0} (P : X → Type 0) (xs : List X) (x : X) → All P xs → Contains xs x → P x

@@ -10,13 +10,13 @@ use Rattle.vt_definitions.specs.Depths.{IsDepth}
 use Rattle.vt_pages.specs.Shape.{Shape}
 use Rattle.vt_pages.specs.Pages.{pages_of}
 use Rattle.vt_camera.specs.Paths.{ArePictureSides}
-use Rattle.vt_journal.specs.declared.changes.RowLine.{RowLine}
-use Rattle.vt_journal.specs.Changes.{newest}
+use Rattle.vt_word_samplers.specs.JournalTypes.changes.RowLine.{RowLine}
+use Rattle.vt_word_samplers.specs.Changes.{newest}
 use Rattle.vt_tiles.specs.Format.{tile_length}
 use Rattle.vt_tiles.specs.StoreViews.{StoreView, IsStoreIfTold}
-use Rattle.vt_sampler.specs.Views.{IsTable}
-use Rattle.vt_sampler.specs.Values.{WordsValue}
-use Rattle.vt_streaming.specs.Views.{StreamerView, table_of, IsStreamerOf}
+use Rattle.vt_word_samplers.specs.TableViews.{IsTable}
+use Rattle.vt_word_samplers.specs.Values.{WordsValue}
+use Rattle.vt_word_samplers.specs.Views.{StreamerView, table_of, IsStreamerOf}
 use Rattle.vt_plan.specs.declared.batches.Planned.{Planned}
 use Rattle.vt_queue.specs.declared.queue.QueuePass.{QueuePass}
 use Rattle.vt_queue.specs.declared.items.Loaded.{Loaded}
@@ -26,12 +26,13 @@ use Rattle.vt_requests.specs.MachineTypes.crew.Crew.{Crew}
 use Rattle.vt_requests.specs.Crews.{IsCrew}
 use Rattle.vt_requests.specs.Machines.{file_state, files_of, told_by, AreStoresFor}
 use Rattle.vt_requests.specs.Outcomes.{IsBatchFor}
-use Rattle.vt_noted.specs.Stored.{AreStored}
-use Rattle.vt_streaming.specs.declared.report.StreamReport.{StreamReport}
-use Rattle.vt_streaming.specs.Reports.{IsBlank}
+use Rattle.vt_word_samplers.specs.Stored.{AreStored}
+use Rattle.vt_word_samplers.specs.StreamingTypes.report.StreamReport.{StreamReport}
+use Rattle.vt_word_samplers.specs.Reports.{IsBlank}
 use Rattle.vt_word_workers.specs.declared.workers.WordStreamer.{WordStreamer}
 use Rattle.vt_word_workers.specs.RoundKits.{IsSetUp, IsAsked}
-use Rattle.vt_word_workers.specs.Kits.{KitView, IsKit, IsFitKit, IsIdleKit, AreAllIn, IsPreparedKit, IsAskedKit, HasRoom, IsSameKit, IsSameStore, AreSameStores, AreSamplersOf}
+use Rattle.vt_word_samplers.specs.DealtRows.{AreSamplersOf}
+use Rattle.vt_word_workers.specs.Kits.{KitView, IsKit, IsFitKit, IsIdleKit, AreAllIn, IsPreparedKit, IsAskedKit, HasRoom, IsSameKit, IsSameStore, AreSameStores}
 
 -- the streamer of words stays so with more room
 pub streamer_still : (words : WordsValue) (v w : StreamerView) → w ≡ record v { spare = w.spare } → IsStreamerOf words v → IsStreamerOf words w

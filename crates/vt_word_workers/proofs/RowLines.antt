@@ -10,13 +10,13 @@ use Rattle.vt_definitions.specs.Limits.{most_samplers}
 use Rattle.vt_pages.specs.Shape.{Shape}
 use Rattle.vt_camera.specs.Paths.{PathView}
 use Rattle.vt_camera.specs.Rows.{RowView}
-use Rattle.vt_sampler.specs.Shots.{wants_in_rows}
-use Rattle.vt_journal.specs.declared.changes.RowLine.{RowLine}
-use Rattle.vt_sampler.specs.Samplers.{own_rows}
-use Rattle.vt_sampler.proofs.Sharing.{rows_shared}
+use Rattle.vt_word_samplers.specs.Shots.{wants_in_rows}
+use Rattle.vt_word_samplers.specs.JournalTypes.changes.RowLine.{RowLine}
+use Rattle.vt_word_samplers.specs.Samplers.{own_rows}
+use Rattle.vt_word_samplers.proofs.Sharing.{rows_shared}
 use Rattle.vt_requests.specs.RowOrders.{AreRowsInOrder}
-use Rattle.vt_word_workers.specs.WordSamplers.{WordSampler}
-use Rattle.vt_word_workers.specs.Kits.{version_by, line_of, lines_of, counted_together}
+use Rattle.vt_word_samplers.specs.WordSamplers.{WordSampler}
+use Rattle.vt_word_samplers.specs.DealtRows.{version_by, line_of, lines_of, counted_together}
 
 -- what is at a place of a list that is made place by place
 made_at : {A : Type 0} (f : ℕ → A) (a n y : ℕ) (x : A) → slice_get (map f (range_with_len a n)) y ≡ Some x → x ≡ f (a + y)

@@ -1,13 +1,13 @@
 -- At which versions the rows of a pass over shared words were drawn.
 use Rattle.std.specs.Prelude.{◌≡◌, ℕ, Some, List, ◌++◌, slice_get, Contains}
-use Rattle.vt_journal.specs.declared.changes.RowLine.{RowLine}
-use Rattle.vt_sampler.specs.GraceTypes.views.Returned.{Returned}
-use Rattle.vt_sampler.specs.GraceTypes.views.WriterView.{WriterView}
-use Rattle.vt_noted.specs.WriterViews.{version_of}
+use Rattle.vt_word_samplers.specs.JournalTypes.changes.RowLine.{RowLine}
+use Rattle.vt_word_samplers.specs.GraceTypes.views.Returned.{Returned}
+use Rattle.vt_word_samplers.specs.GraceTypes.views.WriterView.{WriterView}
+use Rattle.vt_word_samplers.specs.WriterViews.{version_of}
 use Rattle.vt_pages.specs.Shape.{Shape}
 use Rattle.vt_camera.specs.Paths.{PathView}
-use Rattle.vt_sampler.specs.PicturesTypes.filters.Filter.{Ghosts as FilterMeanings}
-use Rattle.vt_noted.specs.Noted.{AreNotedRows}
+use Rattle.vt_word_samplers.specs.PicturesTypes.filters.Filter.{Ghosts as FilterMeanings}
+use Rattle.vt_word_samplers.specs.Noted.{AreNotedRows}
 
 -- a row's version is one that a pass of its sampler held, which was given at this start and is among these that were taken back
 pub record IsHeldRow (start : ℕ) (returned : List Returned) (row : RowLine) : Type 0 where

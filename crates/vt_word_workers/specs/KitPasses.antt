@@ -3,14 +3,14 @@ use Rattle.std.specs.Prelude.{◌≡◌, ℕ, ◌%◌, ◌≤◌, List, [], leng
 use Rattle.vt_outside.specs.declared.outside.File.{Ghosts as FileMeanings}
 use Rattle.vt_pages.specs.Shape.{Shape}
 use Rattle.vt_camera.specs.Paths.{PathView}
-use Rattle.vt_sampler.specs.Shots.{shot_row}
-use Rattle.vt_sampler.specs.PicturesTypes.filters.Filter.{Ghosts as FilterMeanings}
-use Rattle.vt_sampler.specs.Evidence.{AreShown}
+use Rattle.vt_word_samplers.specs.Shots.{shot_row}
+use Rattle.vt_word_samplers.specs.PicturesTypes.filters.Filter.{Ghosts as FilterMeanings}
+use Rattle.vt_word_samplers.specs.Evidence.{AreShown}
 use Rattle.vt_tiles.specs.Format.{tile_length}
-use Rattle.vt_sampler.specs.GraceTypes.views.WriterView.{WriterView}
-use Rattle.vt_sampler.specs.GraceTypes.views.Returned.{Returned}
-use Rattle.vt_sampler.specs.Values.{WordsValue}
-use Rattle.vt_streaming.specs.Views.{StreamerView}
+use Rattle.vt_word_samplers.specs.GraceTypes.views.WriterView.{WriterView}
+use Rattle.vt_word_samplers.specs.GraceTypes.views.Returned.{Returned}
+use Rattle.vt_word_samplers.specs.Values.{WordsValue}
+use Rattle.vt_word_samplers.specs.Views.{StreamerView}
 use Rattle.vt_queue.specs.declared.queue.QueuePass.{QueuePass}
 use Rattle.vt_queue.specs.declared.items.Loaded.{Loaded}
 use Rattle.vt_queue.specs.Queues.{view_of}
@@ -24,12 +24,13 @@ use Rattle.vt_requests.specs.Machines.{told_by}
 use Rattle.vt_requests.specs.Passes.{IsJobFor, Ran}
 use Rattle.vt_requests.specs.BatchRounds.{Begun as Round, IsEndedRound}
 use Rattle.vt_requests.specs.Sizes.{AreSized}
-use Rattle.vt_noted.specs.Noted.{IsNotedBy, AreNotedRows}
-use Rattle.vt_word_workers.specs.WordSamplers.{WordSampler}
+use Rattle.vt_word_samplers.specs.Noted.{IsNotedBy, AreNotedRows}
+use Rattle.vt_word_samplers.specs.WordSamplers.{WordSampler}
 use Rattle.vt_word_workers.specs.declared.workers.WordStreamer.{WordStreamer}
-use Rattle.vt_word_workers.specs.WordTasks.{HasDrawn, HasFed}
+use Rattle.vt_word_samplers.specs.SamplerTasks.{HasDrawn}
+use Rattle.vt_word_workers.specs.WordTasks.{HasFed}
 use Rattle.vt_word_workers.specs.RoundKits.{IsDealt}
-use Rattle.vt_word_workers.specs.GivenPasses.{HaveNewPasses}
+use Rattle.vt_word_samplers.specs.GivenPasses.{HaveNewPasses}
 use Rattle.vt_word_workers.specs.HeldPasses.{AreHeldRows}
 use Rattle.vt_word_workers.specs.Kits.{KitView, kit_setup, kit_state, IsFitKit, HasRoom, kit_rows}
 

@@ -1,5 +1,5 @@
 -- What a pass over shared words uses, and what holds of it.
-use Rattle.std.specs.Prelude.{◌≡◌, ℕ, ◌*◌, ◌%◌, ◌<◌, ◌≤◌, false, Option, None, Some, List, [], length, map, slice_get, slice_index, slice_index_or, sum_by, All}
+use Rattle.std.specs.Prelude.{◌≡◌, ℕ, ◌*◌, ◌%◌, ◌<◌, ◌≤◌, false, List, [], length, map, slice_get, slice_index_or, All}
 use Rattle.std.specs.List.{range_with_len}
 use Rattle.vt_definitions.specs.Depths.{IsDepth}
 use Rattle.vt_outside.specs.Lists.{ListView}
@@ -7,15 +7,14 @@ use Rattle.vt_outside.specs.declared.outside.File.{Ghosts as FileMeanings}
 use Rattle.vt_pages.specs.Shape.{Shape}
 use Rattle.vt_pages.specs.Pages.{pages_of}
 use Rattle.vt_camera.specs.Paths.{ArePictureSides}
-use Rattle.vt_journal.specs.declared.changes.Change.{Change}
-use Rattle.vt_journal.specs.declared.changes.RowLine.{RowLine}
-use Rattle.vt_journal.specs.Changes.{newest}
+use Rattle.vt_word_samplers.specs.JournalTypes.changes.Change.{Change}
+use Rattle.vt_word_samplers.specs.JournalTypes.changes.RowLine.{RowLine}
+use Rattle.vt_word_samplers.specs.Changes.{newest}
 use Rattle.vt_tiles.specs.Format.{tile_length}
 use Rattle.vt_tiles.specs.StoreViews.{StoreView, IsStoreIfTold}
-use Rattle.vt_sampler.specs.Values.{WordsValue}
-use Rattle.vt_noted.specs.WriterViews.{is_out}
-use Rattle.vt_streaming.specs.Views.{StreamerView, IsStreamerOf}
-use Rattle.vt_sampler.specs.Samplers.{SamplerView, row_at, version_at}
+use Rattle.vt_word_samplers.specs.Values.{WordsValue}
+use Rattle.vt_word_samplers.specs.WriterViews.{is_out}
+use Rattle.vt_word_samplers.specs.Views.{StreamerView, IsStreamerOf}
 use Rattle.vt_plan.specs.declared.batches.Planned.{Planned}
 use Rattle.vt_requests.specs.MachineTypes.crew.Crew.{Crew}
 use Rattle.vt_requests.specs.Crews.{IsCrew}
@@ -23,12 +22,13 @@ use Rattle.vt_requests.specs.Outcomes.{IsBatchFor}
 use Rattle.vt_requests.specs.Machines.{Setup, MachineState, file_state, files_of, told_by, AreStoresFor}
 use Rattle.vt_loaders.specs.declared.queued.Queues.{Queues}
 use Rattle.vt_requests.specs.Sizes.{AreSized}
-use Rattle.vt_streaming.specs.Reports.{IsBlank}
-use Rattle.vt_noted.specs.Stored.{AreStored}
-use Rattle.vt_word_workers.specs.WordSamplers.{WordSampler}
+use Rattle.vt_word_samplers.specs.Reports.{IsBlank}
+use Rattle.vt_word_samplers.specs.Stored.{AreStored}
+use Rattle.vt_word_samplers.specs.WordSamplers.{WordSampler}
+use Rattle.vt_word_samplers.specs.DealtRows.{AreSamplersOf, row_by}
 use Rattle.vt_word_workers.specs.declared.workers.WordStreamer.{WordStreamer}
 use Rattle.vt_word_workers.specs.RoundKits.{RoundKitView, IsSetUp, IsAsked}
-use Rattle.vt_word_workers.specs.GivenPasses.{HaveNewPasses}
+use Rattle.vt_word_samplers.specs.GivenPasses.{HaveNewPasses}
 
 -- a kit: how the texture is cut into pages, how many bytes its samples have, the sides of the pictures, the crew; the samplers and the
 -- loaders' stores; how many texels the last picture needs of each page; the list that the next pass fills; and what its loaders work with
@@ -44,16 +44,6 @@ pub record KitView (F : Type 0) : Type 0 where
   pub rows : ListView RowLine
   pub round : RoundKitView F
 
--- the bytes of a row of a sampler, if it is there
-abbrev pub row_by : Option WordSampler → ℕ → List ℕ
-row_by None y = []
-row_by (Some task) y = row_at task.sampler y
-
--- the version of a row of a sampler, if it is there
-abbrev pub version_by : Option WordSampler → ℕ → ℕ
-version_by None y = 0
-version_by (Some task) y = version_at task.sampler y
-
 -- the bytes of row y of the last picture: those of the sampler that it is dealt to
 abbrev pub kit_row : {F : Type 0} → KitView F → ℕ → List ℕ
 kit_row k y = row_by (slice_get k.samplers (y % k.crew.samplers)) y
@@ -61,18 +51,6 @@ kit_row k y = row_by (slice_get k.samplers (y % k.crew.samplers)) y
 -- the rows of the last picture, from the top
 abbrev pub kit_rows : {F : Type 0} → KitView F → List (List ℕ)
 kit_rows k = map (kit_row k) (range_with_len 0 k.height)
-
--- the line of a row: it was drawn by the sampler that it is dealt to, at the version of that sampler's row
-abbrev pub line_of : ℕ → List WordSampler → ℕ → RowLine
-line_of samplers tasks y = record { row = y; sampler = y % samplers; version = version_by (slice_get tasks (y % samplers)) y }
-
--- the lines of the rows of a picture, from the top
-abbrev pub lines_of : ℕ → List WordSampler → ℕ → List RowLine
-lines_of samplers tasks height = map (line_of samplers tasks) (range_with_len 0 height)
-
--- how many texels samplers have counted together for a page
-abbrev pub counted_together : List WordSampler → ℕ → ℕ
-counted_together tasks p = sum_by (λ task. slice_index task.sampler.counts p) tasks
 
 -- what a machine of words and a kit was made for
 abbrev pub kit_setup : {F : Type 0} → FileMeanings F → WordsValue → KitView F → Setup
@@ -95,20 +73,6 @@ kit_state g words journal k = record {
   rows = kit_rows k;
   counts = k.counts;
 }
-
--- a sampler has this number among so many, and draws pictures of these sides, of a texture that is cut into pages, at a depth
-pub record IsSamplerOf (s : Shape) (d width height samplers number : ℕ) (v : SamplerView) : Type 0 where
-  pub number_is : v.sampler ≡ number
-  pub among : v.samplers ≡ samplers
-  pub width_is : v.width ≡ width
-  pub height_is : v.height ≡ height
-  pub depth_is : v.depth ≡ d
-  pub pages : length v.counts ≡ pages_of s
-
--- there are so many samplers, each at the place of its number
-pub record AreSamplersOf (s : Shape) (d width height samplers : ℕ) (tasks : List WordSampler) : Type 0 where
-  pub count : length tasks ≡ samplers
-  pub each : (n : ℕ) (task : WordSampler) → slice_get tasks n ≡ Some task → IsSamplerOf s d width height samplers n task.sampler
 
 -- a kit that is whole: its parts are for one texture and for pictures of one size
 pub record IsKit {F : Type 0} (g : FileMeanings F) (k : KitView F) : Type 0 where

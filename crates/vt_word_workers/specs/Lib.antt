@@ -1,8 +1,3 @@
-pub use Rattle.vt_noted.specs.Banks
-pub use Rattle.vt_noted.specs.Fills
-pub use Rattle.vt_noted.specs.Looks
-pub use Rattle.vt_noted.specs.Noted
-pub use Rattle.vt_noted.specs.Stored
 pub use Rattle.vt_requests.specs.All
 pub use Rattle.vt_requests.specs.BatchRounds
 pub use Rattle.vt_requests.specs.Crews
@@ -11,16 +6,24 @@ pub use Rattle.vt_requests.specs.Machines
 pub use Rattle.vt_requests.specs.Outcomes
 pub use Rattle.vt_requests.specs.Requests
 pub use Rattle.vt_requests.specs.Sizes
-pub use Rattle.vt_sampler.specs.Samplers
-pub use Rattle.vt_streaming.specs.Made
-pub use Rattle.vt_streaming.specs.Reports
-pub use Rattle.vt_streaming.specs.Streams
-pub use Rattle.vt_streaming.specs.Views
-pub use Rattle.vt_streaming.specs.declared as StreamingTypes
-pub mod WordSamplers
+pub use Rattle.vt_word_samplers.specs.Banks
+pub use Rattle.vt_word_samplers.specs.DealtRows
+pub use Rattle.vt_word_samplers.specs.Fills
+pub use Rattle.vt_word_samplers.specs.GivenPasses
+pub use Rattle.vt_word_samplers.specs.Looks
+pub use Rattle.vt_word_samplers.specs.Made
+pub use Rattle.vt_word_samplers.specs.Noted
+pub use Rattle.vt_word_samplers.specs.Reports
+pub use Rattle.vt_word_samplers.specs.SamplerTasks
+pub use Rattle.vt_word_samplers.specs.Samplers
+pub use Rattle.vt_word_samplers.specs.Stored
+pub use Rattle.vt_word_samplers.specs.StreamingTypes
+pub use Rattle.vt_word_samplers.specs.Streams
+pub use Rattle.vt_word_samplers.specs.Views
+pub use Rattle.vt_word_samplers.specs.WordSamplers
+pub use Rattle.vt_word_samplers.specs.declared as SamplerTypes
 pub mod WordTasks
 pub mod RoundKits
-pub mod GivenPasses
 pub mod HeldPasses
 pub mod Kits
 pub mod KitPasses

@@ -5,9 +5,9 @@ ghost use Rattle.std.specs.List.{concat};
 ghost use Rattle.vt_definitions.specs.Limits.{most_samplers};
 ghost use Rattle.vt_definitions.specs.Depths.{IsDepth};
 ghost use Rattle.vt_pages.specs.Pages.{pages_of};
-ghost use Rattle.vt_journal.specs.Changes.{newest};
+ghost use Rattle.vt_word_samplers.specs.Changes.{newest};
 ghost use Rattle.vt_tiles.specs.Format.{tile_length};
-ghost use Rattle.vt_sampler.specs.Values.{WordsValue};
+ghost use Rattle.vt_word_samplers.specs.Values.{WordsValue};
 ghost use Rattle.vt_queue.specs.declared.items.Loaded.{Loaded as Answer};
 ghost use Rattle.vt_queue.specs.declared.queue.QueuePass.{QueuePass as Token};
 ghost use Rattle.vt_plan.specs.declared.batches.Planned.{Planned as Entry};
@@ -18,18 +18,16 @@ ghost use Rattle.vt_requests.specs.Crews.{IsCrew, last_start};
 ghost use Rattle.vt_requests.specs.Outcomes.{IsBatchFor};
 ghost use Rattle.vt_requests.specs.Machines.{AreStoresFor};
 ghost use Rattle.vt_requests.specs.Sizes.{AreSized};
-ghost use Rattle.vt_streaming.specs.declared.report.StreamReport.{StreamReport as Told};
+ghost use Rattle.vt_word_samplers.specs.StreamingTypes.report.StreamReport.{StreamReport as Told};
 ghost use Rattle.vt_word_workers.specs.declared.workers.WordStreamer.{WordStreamer as Own};
 ghost use Rattle.vt_word_workers.specs.RoundKits.{IsSetUp, IsAsked, AreEmptied};
-ghost use Rattle.vt_word_workers.specs.GivenPasses.{HasGiven};
-ghost use Rattle.vt_word_workers.specs.Kits.{KitView, AreSamplersOf, IsKit, IsMadeFor, IsFitKit, IsIdleKit, AreAllIn, IsPreparedKit, IsAskedKit, IsReadyKit, HasRoom, IsSameKit, kit_row, kit_rows, lines_of, counted_together};
+ghost use Rattle.vt_word_samplers.specs.GivenPasses.{HasGiven};
+ghost use Rattle.vt_word_samplers.specs.DealtRows.{AreSamplersOf, lines_of, counted_together};
+ghost use Rattle.vt_word_workers.specs.Kits.{KitView, IsKit, IsMadeFor, IsFitKit, IsIdleKit, AreAllIn, IsPreparedKit, IsAskedKit, IsReadyKit, HasRoom, IsSameKit, kit_row, kit_rows};
 ghost use Rattle.vt_word_workers.specs.KitPasses.{AreOut, Begun, MayFinish, KitRan, kit_before};
 
-use crate::given::{give_passes, return_passes};
 use crate::room::{reserve_reads, with_room};
 use crate::round::{RoundKit, blank_report};
-use crate::told::{count_together, note_lines};
-use crate::workers::{WithPass, WordSampler};
 use std::alloc::Global;
 use std::marker::Model;
 use std::mem;
@@ -38,16 +36,16 @@ use std::thread::Threads;
 use vt_camera::Path;
 use vt_definitions::texel_length;
 use vt_evict::Batch;
-use vt_feedback::Counts;
-use vt_journal::RowLines;
 use vt_loaders::{QueuedLoader, Queues};
 use vt_outside::{File, Items, NoMemory};
 use vt_pages::Geometry;
 use vt_queue::{Loaded, QueuePass, Request};
 use vt_requests::{Crew, PassReport, sampler_of};
-use vt_sampler::{Filter, Sampler, Shot, Words};
-use vt_streaming::{StreamReport, Streamer};
 use vt_tiles::{Stores, tile_length};
+use vt_word_samplers::{
+    Counts, Filter, RowLines, Sampler, Shot, StreamReport, Streamer, WithPass, WordSampler, Words,
+    count_together, give_passes, note_lines, return_passes,
+};
 
 /// What a pass over shared words uses but for the queues and the streamer: the samplers, the loaders' stores,
 /// and room for what the pass tells. Contracts see all of these.

@@ -1,7 +1,7 @@
 //! What the workers of a pass have in common where its caller holds the words.
 
-use crate::tasks::{draw_own, stream_own};
-use crate::workers::{WordSampler, WordStreamer};
+use crate::tasks::stream_own;
+use crate::workers::WordStreamer;
 use std::marker::PhantomData;
 use std::sync::Wait;
 use std::thread::Threads;
@@ -9,7 +9,7 @@ use vt_loaders::{QueuedLoader, Queues};
 use vt_outside::{File, Gate};
 use vt_plan::Planned;
 use vt_requests::Task;
-use vt_sampler::{Filter, Shot, Words};
+use vt_word_samplers::{Filter, Shot, WordSampler, Words, draw_own};
 
 /// What the workers of a pass have in common where its caller holds the words.
 #[derive(Drop)]
@@ -42,7 +42,7 @@ impl<'a, F: File, P: Filter + Sync> Task<LentShared<'a, P>> for QueuedLoader<F> 
 }
 
 impl<'a, P: Filter + Sync> Task<LentShared<'a, P>> for WordSampler {
-    ghost use Rattle.vt_word_workers.specs.WordTasks.{MayDraw, HasDrawn};
+    ghost use Rattle.vt_word_samplers.specs.SamplerTasks.{MayDraw, HasDrawn};
 
     ghost ready = { λ shared job task. MayDraw shared.words.now job.scene job.picture task };
 

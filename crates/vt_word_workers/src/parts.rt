@@ -2,10 +2,10 @@
 
 ghost use Rattle.std.specs.Prelude.{◌≡◌, ◌≤◌, IfOk};
 ghost use Rattle.vt_definitions.specs.Limits.{most_samplers};
-ghost use Rattle.vt_sampler.specs.Sizes.{sizes_of};
-ghost use Rattle.vt_noted.specs.WriterViews.{first_writer};
+ghost use Rattle.vt_word_samplers.specs.Sizes.{sizes_of};
+ghost use Rattle.vt_word_samplers.specs.WriterViews.{first_writer};
 ghost use Rattle.vt_requests.specs.Crews.{AreFrames};
-ghost use Rattle.vt_streaming.specs.Views.{IsStreamerOf};
+ghost use Rattle.vt_word_samplers.specs.Views.{IsStreamerOf};
 
 use crate::round::{blank_report, new_queues};
 use crate::shared::WordShared;
@@ -15,8 +15,7 @@ use std::marker::PhantomData;
 use vt_outside::NoMemory;
 use vt_pages::Geometry;
 use vt_queue::{QueuePass, Request};
-use vt_sampler::Filter;
-use vt_streaming::Streamer;
+use vt_word_samplers::{Filter, Streamer};
 
 /// Words that map nothing with their streamer, and queues with which no pass is made, with a pass of the requests: each
 /// pass is prepared with new ones.

@@ -14,7 +14,7 @@ ghost use Rattle.vt_queue.specs.Queues.{view_of, splits_of, IsOf, capacity_of};
 ghost use Rattle.vt_loaders.specs.QueuedLoaders.{AreOf, MayLoad, stores_of, asks_of, answers_of};
 ghost use Rattle.vt_requests.specs.MachineTypes.crew.Crew.{Crew as Hands};
 ghost use Rattle.vt_requests.specs.Sizes.{AreSized};
-ghost use Rattle.vt_streaming.specs.Reports.{IsBlank};
+ghost use Rattle.vt_word_samplers.specs.Reports.{IsBlank};
 ghost use Rattle.vt_word_workers.specs.RoundKits.{AreNew, HasPlaces, IsSetUp, IsAsked, IsDealt};
 
 use crate::room::with_room;
@@ -29,7 +29,7 @@ use vt_outside::{Bytes, File, Items, NoMemory};
 use vt_plan::Planned;
 use vt_queue::{Loaded, QueuePass, Request, RequestQueue, ResultQueue};
 use vt_requests::{Crew, ask_batch, give_back};
-use vt_streaming::StreamReport;
+use vt_word_samplers::StreamReport;
 use vt_tiles::Stores;
 
 /// What the loaders of a pass work with: the pass of the requests, and room for the loaders, their stores and the

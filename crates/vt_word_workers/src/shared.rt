@@ -7,7 +7,7 @@ use vt_loaders::{QueuedLoader, Queues};
 use vt_outside::{File, Gate};
 use vt_plan::Planned;
 use vt_requests::Task;
-use vt_sampler::{Filter, Shot, Words};
+use vt_word_samplers::{Filter, Shot, Words};
 
 /// What the workers of a pass over shared words have in common.
 #[derive(Drop)]

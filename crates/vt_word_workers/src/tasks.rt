@@ -1,37 +1,17 @@
 //! What samplers and streamer of a pass over shared words do.
 
-ghost use Rattle.vt_noted.specs.Scenes.{scene_of};
-ghost use Rattle.vt_word_workers.specs.WordTasks.{MayDraw, HasDrawn, MayStream, HasFed};
+ghost use Rattle.vt_word_samplers.specs.SamplerTasks.{MayDraw, HasDrawn};
+ghost use Rattle.vt_word_workers.specs.WordTasks.{MayStream, HasFed};
 
 use crate::shared::WordShared;
-use crate::workers::{WordSampler, WordStreamer};
-use std::mem;
+use crate::workers::WordStreamer;
 use std::sync::Wait;
 use std::thread::Threads;
 use vt_loaders::Queues;
 use vt_outside::Gate;
 use vt_plan::Planned;
 use vt_requests::Task;
-use vt_sampler::{Filter, Shot, Words};
-use vt_streaming::stream_batch;
-
-/// Lets a sampler draw its rows by a filter with its pass, which it has back afterwards.
-pub(crate) fn draw_own<P: Filter, G: Gate>(
-    task: &mut WordSampler,
-    shot: &Shot<'_>,
-    words: &Words,
-    gate: &G,
-)
-    requires { MayDraw words.now (scene_of shot.now.geometry.now shot.now.depth shot.now.path.now) shot.now.picture task.old }
-    ensures { HasDrawn P.Filter words.now (scene_of shot.now.geometry.now shot.now.depth shot.now.path.now) shot.now.picture
-        task.old task.new }
-{
-    let pass = mem::replace(&mut task.pass, None);
-    match pass {
-        Some(pass) => task.pass = Some(task.sampler.draw_by::<P, G>(shot, words, pass, gate)),
-        None => unreachable!(),
-    }
-}
+use vt_word_samplers::{Filter, Shot, WordSampler, Words, draw_own, stream_batch};
 
 /// Lets the streamer stream the batch. It may wait.
 pub fn stream_own<Rt: Threads + Wait, G: Gate>(

@@ -56,17 +56,46 @@ const BY_TWO_LOADERS: Row<'static> = Row {
     ..BATCH_OF_TWO
 };
 
-static OVERTAKEN: [Row<'static>; 2] = [
+static OVERTAKEN: [Row<'static>; 3] = [
     BY_TWO_LOADERS,
+    Row {
+        words: "walk s.vts a.path f --frames 3 --samplers 1 --loaders 2 --batch 2 --journal j.txt --settled --rows shared",
+        ..BY_TWO_LOADERS
+    },
     Row {
         words: "walk s.vts a.path f --frames 3 --samplers 1 --loaders 2 --batch 2 --journal j.txt --settled --table swap",
         ..BY_TWO_LOADERS
     },
 ];
 
+// The same for the pages 0 and 1, of which a pixel half a texel to the right of texel (1, 0) and a quarter of one down is the blend.
+const BLENDED_BY_0_FIRST: Told<'static> = Told {
+    text: b"map 1 1 0 0 0\npass 1 picture 0 start 1\nrow 0 0 1\npass 2 picture 0 start 1\nmap 2 0 0 0 1\n\
+        map 3 0 1 0 2\nrow 0 0 ?\npass 3 picture 0 start 3\nrow 0 0 3\n",
+    versions: &[(1, 3)],
+};
+
+const BLENDED_BY_1_FIRST: Told<'static> = Told {
+    text: b"map 1 1 0 0 0\npass 1 picture 0 start 1\nrow 0 0 1\npass 2 picture 0 start 1\nmap 2 0 1 0 2\n\
+        map 3 0 0 0 1\nrow 0 0 ?\npass 3 picture 0 start 3\nrow 0 0 3\n",
+    versions: &[(1, 3)],
+};
+
+static BLENDED_OVERTAKEN: [Row<'static>; 1] = [Row {
+    words: "walk s.vts a.path f --frames 3 --samplers 1 --loaders 2 --batch 2 --journal j.txt --settled --filter bilinear",
+    files: &[
+        ("s.vts", All(G4_STORE)),
+        ("a.path", All(b"size 1 1\nfocal 1\nat 128 64 256 16384 0\n")),
+    ],
+    left: &[("j.txt", Either(BLENDED_BY_0_FIRST, BLENDED_BY_1_FIRST))],
+    pictures: &[b"P6\n1 1\n255\n\x03\x03\x03"],
+    ..BATCH_OF_TWO
+}];
+
 #[test]
 fn a_read_may_overtake_another(rt: HostRuntime) {
     meet_all(&rt, rt.alloc(), &OVERTAKEN, Meeting::Reads);
+    meet_all(&rt, rt.alloc(), &BLENDED_OVERTAKEN, Meeting::Reads);
 }
 
 // The row of the fourth picture holds version 3 when version 4 is published, and is drawn by it.

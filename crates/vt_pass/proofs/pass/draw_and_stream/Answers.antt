@@ -10,7 +10,8 @@ use Rattle.vt_workers.specs.Jobs.{Job, job_of}
 use Rattle.vt_workers.proofs.Lent.{same_number, all_did}
 use Rattle.vt_word_workers.specs.WordSamplers.{WordSampler}
 use Rattle.vt_word_workers.specs.declared.workers.WordStreamer.{WordStreamer}
-use Rattle.vt_word_workers.specs.WordTasks.{MayDraw, HasDrawn, HasFed}
+use Rattle.vt_word_workers.specs.SamplerTasks.{MayDraw, HasDrawn}
+use Rattle.vt_word_workers.specs.WordTasks.{HasFed}
 use Rattle.vt_word_workers.proofs.Kits.{may_draw}
 use Rattle.vt_pass.proofs.Lending.{lent_back, lent_ran}
 use Rattle.vt_pass.proofs.pass.draw_and_stream.Goals as goal

@@ -3,7 +3,8 @@ use Rattle.std.specs.List.{refill}
 use Rattle.vt_requests.specs.Jobs.{job_of}
 use Rattle.vt_requests.specs.MachineTypes.crew.PassReport.{PassReport}
 use Rattle.vt_word_workers.specs.declared.workers.WordStreamer.{WordStreamer}
-use Rattle.vt_word_workers.specs.Kits.{KitView, AreSamplersOf, counted_together}
+use Rattle.vt_word_samplers.specs.DealtRows.{AreSamplersOf, counted_together}
+use Rattle.vt_word_workers.specs.Kits.{KitView}
 use Rattle.vt_word_workers.specs.KitPasses.{MayFinish, KitRan, kit_before}
 use Rattle.vt_word_workers.proofs.Ended.{samplers_stay, counts_low}
 use Rattle.vt_word_workers.proofs.Finishing.{tasks_back, goes_on, ran}

@@ -1,9 +1,9 @@
 use Rattle.std.proofs.Common.{List, length, ap, sym, ◌∙◌, subst}
 use Rattle.std.specs.List.{refill}
-use Rattle.vt_sampler.specs.GraceTypes.views.WriterView.{WriterView}
+use Rattle.vt_word_samplers.specs.GraceTypes.views.WriterView.{WriterView}
 use Rattle.vt_requests.proofs.Lent.{refilled}
-use Rattle.vt_word_workers.specs.WordSamplers.{WordSampler}
-use Rattle.vt_word_workers.specs.GivenPasses.{AreSameSamplers}
+use Rattle.vt_word_samplers.specs.WordSamplers.{WordSampler}
+use Rattle.vt_word_samplers.specs.GivenPasses.{AreSameSamplers}
 use Rattle.vt_word_workers.specs.Kits.{KitView, IsReadyKit}
 use Rattle.vt_word_workers.proofs.GivenOnes.{once_given}
 use Rattle.vt_word_workers.proofs.kit.WordKit.give.Goals as goal

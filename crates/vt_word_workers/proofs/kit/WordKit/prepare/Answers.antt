@@ -5,7 +5,7 @@ use Rattle.vt_requests.specs.Crews.{IsCrew}
 use Rattle.std.specs.Prelude.{All}
 use Rattle.vt_tiles.specs.Format.{tile_length}
 use Rattle.vt_requests.specs.Sizes.{AreSized}
-use Rattle.vt_streaming.specs.Reports.{IsBlank}
+use Rattle.vt_word_samplers.specs.Reports.{IsBlank}
 use Rattle.vt_word_workers.specs.RoundKits.{RoundKitView, IsSetUp}
 use Rattle.vt_word_workers.specs.Kits.{KitView}
 use Rattle.vt_word_workers.proofs.Rooms.{on_ok, prepared_with, same_asked, room_asked}

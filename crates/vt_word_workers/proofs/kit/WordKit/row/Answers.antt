@@ -1,7 +1,8 @@
 use Rattle.std.proofs.Common.{◌%◌, Option, sym, ap, ◌∙◌}
 use Rattle.std.specs.Prelude.{slice_get}
-use Rattle.vt_word_workers.specs.WordSamplers.{WordSampler}
-use Rattle.vt_word_workers.specs.Kits.{KitView, row_by}
+use Rattle.vt_word_samplers.specs.WordSamplers.{WordSampler}
+use Rattle.vt_word_samplers.specs.DealtRows.{row_by}
+use Rattle.vt_word_workers.specs.Kits.{KitView}
 use Rattle.vt_word_workers.proofs.Kits.{own_turn}
 use Rattle.vt_word_workers.proofs.kit.WordKit.row.Goals as goal
 

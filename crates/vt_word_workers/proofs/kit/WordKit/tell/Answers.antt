@@ -1,8 +1,9 @@
 use Rattle.std.proofs.Common.{◌≡◌, ℕ, ◌<◌, ◌≤◌, ◌^◌, List, length, ap, sym, ◌∙◌, subst}
 use Rattle.std.specs.Prelude.{slice_index_or}
-use Rattle.vt_word_workers.specs.WordSamplers.{WordSampler}
-use Rattle.vt_word_workers.specs.Kits.{KitView, AreSamplersOf, lines_of, counted_together}
-use Rattle.vt_word_workers.proofs.Kits.{counts_fit}
+use Rattle.vt_word_samplers.specs.WordSamplers.{WordSampler}
+use Rattle.vt_word_samplers.specs.DealtRows.{AreSamplersOf, lines_of, counted_together}
+use Rattle.vt_word_workers.specs.Kits.{KitView}
+use Rattle.vt_word_samplers.proofs.Lines.{counts_fit}
 use Rattle.vt_word_workers.proofs.kit.WordKit.tell.Goals as goal
 
 pub destroy_empty-requires : goal.destroy_empty-requires

@@ -4,7 +4,7 @@ use Rattle.vt_sampler.specs.GraceTypes.views.WriterView.{WriterView}
 use Rattle.vt_noted.specs.Giving.{new_pass, after_return}
 use Rattle.vt_sampler.specs.Values.{WordsValue, PassValue}
 use Rattle.vt_sampler.specs.Tokens.{IsPassOf}
-use Rattle.vt_word_workers.specs.declared.workers.WithPass.{WithPass}
+use Rattle.vt_word_samplers.specs.declared.samplers.WithPass.{WithPass}
 
 -- a sampler of this number has a pass that was given to it by the writer of these words, and has held and noted nothing
 pub record HasNewPass {W : Type 0} (words : WordsValue) (w : WriterView) (number : ℕ) (task : WithPass W) : Type 0 where

@@ -4,9 +4,9 @@ use Rattle.std.specs.Prelude.{slice_set}
 use Rattle.std.proofs.lemmas.List.{take_more, length-map, length-append, length-drop, length-take-le, get_or-drop, get_or-append_right, get_or_default}
 use Rattle.std.proofs.lemmas.List.Edits.{map_over_more}
 use Rattle.vt_sampler.specs.GraceTypes.views.WriterView.{WriterView}
-use Rattle.vt_word_workers.specs.declared.workers.WithPass.{WithPass}
+use Rattle.vt_word_samplers.specs.declared.samplers.WithPass.{WithPass}
 use Rattle.vt_streaming.specs.Views.{StreamerView}
-use Rattle.vt_word_workers.specs.GivenPasses.{after_pass, all_returned, without_pass}
+use Rattle.vt_word_samplers.specs.GivenPasses.{after_pass, all_returned, without_pass}
 
 pub returned_append : {W : Type 0} → (w : WriterView) (xs ys : List (WithPass W)) → all_returned w (xs ++ ys) ≡ all_returned (all_returned w xs) ys
 returned_append w [] ys = refl

@@ -4,9 +4,9 @@ ghost use Rattle.std.specs.Prelude.{◌≡◌, ℕ, false, IfSome, length};
 ghost use Rattle.vt_noted.specs.WriterViews.{is_out};
 ghost use Rattle.vt_sampler.specs.Tokens.{IsPassOf};
 ghost use Rattle.vt_streaming.specs.Views.{IsStreamerOf};
-ghost use Rattle.vt_word_workers.specs.GivenPasses.{HaveNewPasses, HasGiven, AreSameSamplers, ArePassesOf, after_pass, all_returned, without_passes};
+ghost use Rattle.vt_word_samplers.specs.GivenPasses.{HaveNewPasses, HasGiven, AreSameSamplers, ArePassesOf, after_pass, all_returned, without_passes};
 
-use crate::workers::WithPass;
+use crate::samplers::WithPass;
 use std::mem;
 use vt_sampler::Words;
 use vt_streaming::Streamer;

@@ -1,7 +1,7 @@
 use Rattle.std.proofs.Common.{◌≡◌, ℕ, ◌<◌, length, take}
 use Rattle.std.specs.Prelude.{slice_index}
-use Rattle.vt_word_workers.specs.Kits.{counted_together}
-use Rattle.vt_word_workers.proofs.told.count_together.Given as goal
+use Rattle.vt_word_samplers.specs.DealtRows.{counted_together}
+use Rattle.vt_word_samplers.proofs.told.count_together.Given as goal
 
 abbrev pub invariant-loop-i : goal.invariant-loop-i
 invariant-loop-i l = record {

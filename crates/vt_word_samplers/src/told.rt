@@ -1,17 +1,17 @@
 //! What a pass over shared words tells of its samplers.
 
 ghost use Rattle.std.specs.Prelude.{◌≡◌, ℕ, ◌^◌, ◌<◌, ◌≤◌, [], length, slice_index, slice_index_or};
-ghost use Rattle.vt_pages.specs.Shape.{Shape};
-ghost use Rattle.vt_word_workers.specs.WordSamplers.{WordSampler as Task};
-ghost use Rattle.vt_word_workers.specs.Kits.{AreSamplersOf, lines_of, counted_together};
+ghost use Rattle.vt_journal.specs.Shape.{Shape};
+ghost use Rattle.vt_word_samplers.specs.WordSamplers.{WordSampler as Task};
+ghost use Rattle.vt_word_samplers.specs.DealtRows.{AreSamplersOf, lines_of, counted_together};
 
-use crate::workers::WordSampler;
+use crate::samplers::WordSampler;
 use vt_feedback::Counts;
 use vt_journal::{RowLine, RowLines};
-use vt_requests::sampler_of;
+use vt_streaming::sampler_of;
 
 /// Notes the lines of a picture's rows, each drawn by the sampler that it is dealt to, at the version of that sampler's row.
-pub(crate) fn note_lines(rows: &mut RowLines, samplers: &[WordSampler], count: u32, height: u32)
+pub fn note_lines(rows: &mut RowLines, samplers: &[WordSampler], count: u32, height: u32)
     requires some { 1 ≤ count }
     requires samplers { (s : Shape) × (d : ℕ) × (width : ℕ) × AreSamplersOf s d width height count samplers.now }
     requires none { rows.old.elements ≡ [] }
@@ -30,7 +30,7 @@ pub(crate) fn note_lines(rows: &mut RowLines, samplers: &[WordSampler], count: u
 }
 
 /// Puts what samplers have counted together in the place of counts.
-pub(crate) fn count_together(counts: &mut Counts, samplers: &[WordSampler])
+pub fn count_together(counts: &mut Counts, samplers: &[WordSampler])
     requires lengths { (k : ℕ) (d : Task) → k < length samplers.now
         → length (slice_index_or samplers.now k d).sampler.counts ≡ length counts.old }
     requires room { (p : ℕ) → p < length counts.old → counted_together samplers.now p < 2 ^ 32 }

@@ -1,6 +1,6 @@
 use Rattle.std.proofs.Common.{◌≡◌, ◌+◌, ◌≤◌}
-use Rattle.vt_word_workers.specs.Kits.{lines_of}
-use Rattle.vt_word_workers.proofs.told.note_lines.Given as goal
+use Rattle.vt_word_samplers.specs.DealtRows.{lines_of}
+use Rattle.vt_word_samplers.proofs.told.note_lines.Given as goal
 
 abbrev pub invariant-loop-row : goal.invariant-loop-row
 invariant-loop-row l = record {

@@ -1,7 +1,7 @@
 use Rattle.std.proofs.Common.{◌+◌, ◌<◌, subst, ap, arith, rules}
 use Rattle.std.specs.Prelude.{slice_index}
-use Rattle.vt_word_workers.proofs.Kits.{counted_more, counted_below}
-use Rattle.vt_word_workers.proofs.told.count_together.Goals as goal
+use Rattle.vt_word_samplers.proofs.Lines.{counted_more, counted_below}
+use Rattle.vt_word_samplers.proofs.told.count_together.Goals as goal
 
 pub merge-requires-clause-room : goal.merge-requires-clause-room
 merge-requires-clause-room c = λ p inside.

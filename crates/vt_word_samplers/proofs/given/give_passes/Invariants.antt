@@ -1,7 +1,7 @@
 use Rattle.std.proofs.Common.{◌≡◌}
 use Rattle.vt_streaming.specs.Views.{IsStreamerOf}
-use Rattle.vt_word_workers.proofs.GivenOnes.{HaveGiven}
-use Rattle.vt_word_workers.proofs.given.give_passes.Given as goal
+use Rattle.vt_word_samplers.proofs.GivenOnes.{HaveGiven}
+use Rattle.vt_word_samplers.proofs.given.give_passes.Given as goal
 
 abbrev pub invariant-loop-i : goal.invariant-loop-i
 invariant-loop-i g l = record {

@@ -1,7 +1,7 @@
 use Rattle.std.proofs.Common.{◌<◌, length, ap, ◌∙◌, rules}
 use Rattle.std.specs.Prelude.{slice_set}
-use Rattle.vt_word_workers.proofs.ReturnedOnes.{tasks_step, returned_step}
-use Rattle.vt_word_workers.proofs.given.return_passes.Goals as goal
+use Rattle.vt_word_samplers.proofs.ReturnedOnes.{tasks_step, returned_step}
+use Rattle.vt_word_samplers.proofs.given.return_passes.Goals as goal
 
 pub loop-i-preserved : goal.loop-i-preserved
 loop-i-preserved g c =

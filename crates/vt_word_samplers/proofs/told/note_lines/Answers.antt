@@ -1,8 +1,8 @@
 use Rattle.std.proofs.Common.{List, [], ◌∷◌, ◌++◌, ap, sym, ◌∙◌, rules}
 use Rattle.vt_journal.specs.declared.changes.RowLine.{RowLine}
-use Rattle.vt_word_workers.specs.Kits.{line_of}
-use Rattle.vt_word_workers.proofs.Kits.{lines_more, own_here, line_is}
-use Rattle.vt_word_workers.proofs.told.note_lines.Goals as goal
+use Rattle.vt_word_samplers.specs.DealtRows.{line_of}
+use Rattle.vt_word_samplers.proofs.Lines.{lines_more, own_here, line_is}
+use Rattle.vt_word_samplers.proofs.told.note_lines.Goals as goal
 
 pub version-version-requires : goal.version-version-requires
 version-version-requires c = own_here _ _ _ c.args.height c.args.count c.args.samplers.now c.loop-row.row c.sampler_of-sampler.result

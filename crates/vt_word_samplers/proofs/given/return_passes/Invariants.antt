@@ -1,7 +1,7 @@
 use Rattle.std.proofs.Common.{◌≡◌, ◌++◌, map, take, drop}
 use Rattle.vt_streaming.specs.Views.{IsStreamerOf}
-use Rattle.vt_word_workers.specs.GivenPasses.{all_returned, without_pass}
-use Rattle.vt_word_workers.proofs.given.return_passes.Given as goal
+use Rattle.vt_word_samplers.specs.GivenPasses.{all_returned, without_pass}
+use Rattle.vt_word_samplers.proofs.given.return_passes.Given as goal
 
 abbrev pub invariant-loop-i : goal.invariant-loop-i
 invariant-loop-i g l = record {
