@@ -29,8 +29,8 @@ use vt_outside::{Bytes, File, Items, NoMemory};
 use vt_plan::Planned;
 use vt_queue::{Loaded, QueuePass, Request, RequestQueue, ResultQueue};
 use vt_requests::{Crew, ask_batch, give_back};
-use vt_word_samplers::StreamReport;
 use vt_tiles::Stores;
+use vt_word_samplers::StreamReport;
 
 /// What the loaders of a pass work with: the pass of the requests, and room for the loaders, their stores and the
 /// buffers. Contracts see all of these.
