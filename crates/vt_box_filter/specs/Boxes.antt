@@ -1,4 +1,4 @@
--- The box filter of samples.
+-- The box filter: the mean of four samples, a half rounded up.
 use Rattle.std.specs.Prelude.{ℕ, ◌+◌, ◌-◌, ◌/◌, List, min}
 use Rattle.vt_definitions.specs.Depths.{sample_at}
 

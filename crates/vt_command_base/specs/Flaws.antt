@@ -1,4 +1,4 @@
--- What is wrong with an input, and how it is told.
+-- What is wrong with an input, and how it is printed.
 use Rattle.std.specs.Prelude.{ℕ, List, ◌++◌, codes, Result, Ok, Err}
 use Rattle.vt_outside.specs.declared.answers.OutsideError.{OutsideError}
 use Rattle.vt_outside.specs.declared.answers.OutsideError.TheVariants as outside

@@ -1,4 +1,4 @@
--- What a folder tells of an input.
+-- What a folder holds of an input: its content, its flaw, or no such name.
 use Rattle.std.specs.Prelude.{◌≡◌, ℕ, List, Option, Some, IsNone, IsSome}
 use Rattle.vt_outside.specs.Files.{Files, bytes_at}
 use Rattle.vt_command_base.specs.Inputs.{Input, Content, name_of, IsContent, IsFlawOf}

@@ -1,4 +1,4 @@
--- What the program prints.
+-- What the program prints: the last lines of commands, and the lines of refusals.
 use Rattle.std.specs.Prelude.{ℕ, List, ◌++◌, codes}
 use Rattle.vt_words.specs.TextNumbers.{number_spelling}
 use Rattle.vt_print.specs.Places.{place_line}

@@ -1,4 +1,4 @@
--- The sides of a mip chain's levels, and how many levels it has.
+-- The sides of a mip chain's levels, each half of the one before with a half texel as a whole one, and how many levels it has.
 use Rattle.std.specs.Prelude.{ℕ, zero, suc, ◌+◌, ◌-◌, ◌/◌, ◌≤◌, Bool, true, false, nat_le, ◌&&◌}
 
 -- the side of a level: the texture's, halved once a level, a half texel counting as a whole one

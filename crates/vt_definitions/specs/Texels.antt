@@ -1,4 +1,4 @@
--- What texels come from.
+-- A texel source: a word for each level, column and row.
 use Rattle.std.specs.Prelude.{ℕ}
 
 -- a texel source gives a word for a level, a column and a row

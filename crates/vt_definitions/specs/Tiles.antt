@@ -1,4 +1,4 @@
--- The sides that tiles may have.
+-- The sides that tiles may have: 2, 4, 8, 16, 32, 64 and 128.
 use Rattle.std.specs.Prelude.{ℕ, Bool, ◌==◌, ◌||◌, IsTrue}
 use Rattle.vt_definitions.specs.Limits.{most_tile_side}
 

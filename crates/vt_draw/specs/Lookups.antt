@@ -1,4 +1,4 @@
--- What a look-up of pages says of a table of pages and of its frames.
+-- Notes of reads, of an entry or of a word at a version, and what a look-up says by them.
 use Rattle.std.specs.Prelude.{◌≡◌, ℕ, ◌+◌, ◌*◌, ◌/◌, ◌%◌, ◌^◌, ◌<◌, ◌≤◌}
 use Rattle.vt_pages.specs.Shape.{Shape}
 use Rattle.vt_pages.specs.Pages.{level_of, levels_of, ancestor_of, texel_page}

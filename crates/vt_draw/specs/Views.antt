@@ -1,4 +1,4 @@
--- What the rows of a plain picture are drawn of.
+-- What the rows of a plain picture are drawn of: the levels of a texture that are there, and a camera whose rows want no other.
 use Rattle.std.specs.Prelude.{◌≡◌, ◌-◌, ◌*◌, ◌<◌, ◌≤◌, ℕ, List}
 use Rattle.vt_definitions.specs.Depths.{IsDepth, texel_length}
 use Rattle.vt_definitions.specs.Limits.{most_levels}

@@ -1,4 +1,4 @@
--- The stamps of pages, by which the kept order goes.
+-- The stamps of pages, by which the kept order goes: a pass, a place in it and a level, compared in this order.
 use Rattle.std.specs.Prelude.{◌≡◌, ℕ, ◌+◌, ◌-◌, ◌<◌, ◌==◌, ◌&&◌, ◌||◌, ◌⊎◌, nat_lt, Bool, true, false, Option, None, Some, List, length, slice_index, slice_index_or, IsSome}
 use Rattle.std.specs.List.{All, AllPairs}
 use Rattle.vt_plan.specs.Shape.{Shape}

@@ -1,4 +1,4 @@
--- The wanted list: the pages that a picture wants, in the order in which they are asked for.
+-- The wanted list: each page that a pixel wants, once, the coarser level first, then more pixels, then the smaller index.
 use Rattle.std.specs.Prelude.{◌≡◌, ℕ, ◌<◌, Bool, true, ◌==◌, nat_lt, nat_eq, ◌&&◌, ◌||◌, ◌↔◌, List, map, Contains}
 use Rattle.std.specs.List.{AllPairs, IsDistinct}
 use Rattle.vt_pages.specs.Shape.{Shape}

@@ -1,4 +1,4 @@
--- The files of pictures.
+-- The pictures that a command is to leave, each under its name.
 use Rattle.std.specs.Prelude.{ℕ, List, map}
 use Rattle.std.specs.List.{range_with_len}
 use Rattle.vt_words.specs.Names.{picture_name}

@@ -1,4 +1,4 @@
--- What each step tells its caller.
+-- What each step shows its caller.
 use Rattle.std.specs.Prelude.{◌≡◌, ◌≢◌, ℕ, ◌+◌, ◌-◌, ◌<◌, ◌≤◌, true, false}
 use Rattle.atomic_table.specs.Table.{Step}
 use Rattle.vt_journal.specs.declared.changes.Change.{Change}

@@ -1,4 +1,4 @@
--- A journal as contracts see it.
+-- A journal as contracts see it: its changes in order, and how many more there is room for.
 use Rattle.std.specs.Prelude.{ℕ, ◌-◌, min, length, List}
 use Rattle.vt_journal.specs.declared.changes.Change.{Change}
 use Rattle.vt_text.specs.Limits.{most_versions}

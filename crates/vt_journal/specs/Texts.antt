@@ -1,4 +1,4 @@
--- What the text of a journal tells, once it is read.
+-- The content of a journal's text, as it is read.
 use Rattle.std.specs.Prelude.{◌≡◌, ℕ, List, map}
 use Rattle.vt_pages.specs.Shape.{Shape}
 use Rattle.vt_journal.specs.declared.changes.Change.{Change}

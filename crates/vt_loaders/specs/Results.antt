@@ -1,4 +1,4 @@
--- What results tell of the reads of a file.
+-- What results show of the reads of a file: its places, each once and in order, and its faults.
 use Rattle.std.specs.Prelude.{◌≡◌, ℕ, ◌++◌, List, length, map, count_by, option_map, Option, IfSome}
 use Rattle.vt_outside.specs.Counts.{RoseBy}
 use Rattle.vt_outside.specs.Files.{IsPiece}

@@ -1,4 +1,4 @@
--- How a machine draws.
+-- How a machine draws: whether rows are dealt, how many texels a picture needs of each page, and what a pixel shows.
 use Rattle.std.specs.Prelude.{ℕ, Bool, true, List}
 use Rattle.vt_tiles.specs.Texels.{Source}
 use Rattle.vt_pages.specs.Shape.{Shape}

@@ -1,4 +1,4 @@
--- The order of the rows of a pass.
+-- The order of the rows of a pass: which sampler draws which row, and that the versions of one sampler never fall.
 use Rattle.std.specs.Prelude.{◌≡◌, ℕ, ◌%◌, ◌<◌, Bool, IsTrue, Some, List, slice_get}
 use Rattle.vt_workers.specs.JournalTypes.changes.RowLine.{RowLine}
 use Rattle.vt_workers.specs.Following.{AreRowsOf}

@@ -1,4 +1,4 @@
--- The laws of mip chains.
+-- The laws of mip chains: their words have the bytes of their depth, and from level 1 on a chain is that of level 1.
 use Rattle.std.specs.Prelude.{◌≡◌, ℕ, suc, ◌+◌, ◌^◌, ◌*◌, ◌<◌, ◌≤◌}
 use Rattle.vt_definitions.specs.Depths.{IsDepth, AreBytes}
 use Rattle.vt_definitions.specs.Sides.{side, level_count}

@@ -1,4 +1,4 @@
--- What files, folders and sinks hold, and what calls do to it.
+-- What files, folders and sinks hold, a folder as a function from names to bytes, and what calls do to it.
 use Rattle.std.specs.Prelude.{◌≡◌, ℕ, ◌+◌, ◌≤◌, ◌<◌, Bool, List, [], ◌∷◌, ◌++◌, length, take, drop, All, Option, Some, IsSome, IfSome, OnSome, option_map, option_and_then, unwrap_or, if◌then◌else◌}
 use Rattle.std.specs.Str.{bytes_eq}
 use Rattle.vt_outside.specs.declared.place.Place.{Place}

@@ -1,4 +1,4 @@
--- How often a place is in a list of places.
+-- How often a place, by its start and length, was asked, and how often that read failed.
 use Rattle.std.specs.Prelude.{◌==◌, ◌&&◌, ℕ, Bool, List, count_by}
 use Rattle.vt_outside.specs.declared.place.Place.{Place}
 

@@ -1,4 +1,4 @@
--- The look-up of a page where not each page is mapped, and the next finer page to load for it.
+-- The look-up: the first mapped page of a page's ancestor chain. The next finer page, just before it, is the one to load.
 use Rattle.std.specs.Prelude.{ℕ, ◌-◌, Bool, Option, slice_get, slice_index}
 use Rattle.std.specs.List.{position_or_len}
 use Rattle.vt_pages.specs.Shape.{Shape}

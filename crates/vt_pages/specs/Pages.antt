@@ -1,4 +1,4 @@
--- The pages of a mip chain: their names, their indexes, their ancestors and their tiles.
+-- The pages of a mip chain: their names, their indexes, their ancestor chains and their tiles.
 use Rattle.std.specs.Prelude.{◌≡◌, ℕ, zero, suc, ◌+◌, ◌-◌, ◌*◌, ◌/◌, ◌%◌, ◌^◌, ◌<◌, ◌≤◌, min, ◌==◌, ◌&&◌, not, nat_le, if◌then◌else◌, IsTrue, Option, Some, None, List, [], ◌∷◌, map, slice_index}
 use Rattle.std.specs.List.{range_with_len}
 use Rattle.vt_definitions.specs.Limits.{most_tile_side, most_tiled_side, most_pages, most_levels}

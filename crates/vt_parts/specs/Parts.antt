@@ -1,4 +1,4 @@
--- What a part of work has to be for a thread of its own.
+-- How many nanoseconds of work a thread is made for at least.
 use Rattle.std.specs.Prelude.{ℕ}
 
 -- how many nanoseconds of work a thread is made for at least

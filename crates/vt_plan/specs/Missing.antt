@@ -1,4 +1,4 @@
--- Which pages are mapped by a page table's entries, and which are missing.
+-- Which pages are mapped by a page table's entries, and which are missing: those just before the look-ups of wanted pages.
 use Rattle.std.specs.Prelude.{ℕ, nat_lt, Bool, not, List, map, slice_index}
 use Rattle.std.specs.List.{filter}
 use Rattle.vt_feedback.specs.Shape.{Shape}

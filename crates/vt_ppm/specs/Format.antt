@@ -1,4 +1,4 @@
--- The image format: a header, and a raster of samples.
+-- The image format: `P6`, gap, width, gap, height, gap, maximum, a white space byte and a raster, of which each sample is kept scaled.
 use Rattle.std.specs.Prelude.{◌≡◌, ◌⊎◌, ℕ, ◌+◌, ◌*◌, ◌/◌, ◌<◌, ◌≤◌, ◌==◌, ◌||◌, if◌then◌else◌, nat_le, Bool, not, IsTrue, List, [], ◌∷◌, ◌++◌, length, take, All, codes}
 use Rattle.std.specs.List.{list_all, flat_map}
 use Rattle.std.specs.Str.Parse.{digits_value, IsNumeral}

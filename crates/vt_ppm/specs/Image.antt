@@ -1,4 +1,4 @@
--- An image as its samples.
+-- An image as its samples: two sides, a depth and three samples a texel, row by row.
 use Rattle.std.specs.Prelude.{◌≡◌, ℕ, ◌+◌, ◌*◌, ◌≤◌, List, length}
 use Rattle.vt_definitions.specs.Depths.{IsDepth, texel_length, word_at}
 use Rattle.vt_definitions.specs.Limits.{most_read_side}

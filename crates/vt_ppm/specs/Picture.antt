@@ -1,4 +1,4 @@
--- The bytes of a picture as it is written.
+-- The bytes of a picture as it is written: `P6`, the sides, the greatest sample of the depth, the samples.
 use Rattle.std.specs.Prelude.{ℕ, List, ◌++◌, codes, decimal}
 use Rattle.vt_definitions.specs.Depths.{greatest_sample}
 

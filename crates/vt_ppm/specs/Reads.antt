@@ -1,4 +1,4 @@
--- What the readers ask of a file.
+-- What the readers ask of a file: a prefix that holds the header, and then the raster.
 use Rattle.std.specs.Prelude.{◌≡◌, ℕ, ◌+◌, ◌*◌, ◌≤◌, true, false, List, [], ◌∷◌, ◌++◌, length, take, Option, option_map, IfSome, Result, Ok, Err}
 use Rattle.vt_definitions.specs.Depths.{texel_length}
 use Rattle.vt_definitions.specs.Limits.{header_limit, most_read_side}

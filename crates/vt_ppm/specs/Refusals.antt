@@ -1,4 +1,4 @@
--- Which refusals come.
+-- Which refusals are the outside's, and which come of reading a header, a raster, or of looking samples over.
 use Rattle.vt_ppm.specs.declared.error.PpmError.{PpmError}
 use Rattle.vt_ppm.specs.declared.error.PpmError.TheVariants.{Failed, NoMemory, Truncated, SampleOver}
 

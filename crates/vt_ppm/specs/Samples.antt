@@ -1,4 +1,4 @@
--- What the passes over a raster answer.
+-- What the passes over a raster answer: its samples as they are kept, and the first one above the maximum.
 use Rattle.std.specs.Prelude.{◌≡◌, ℕ, ◌+◌, ◌*◌, ◌<◌, ◌≤◌, List, length, slice_index}
 use Rattle.vt_definitions.specs.Depths.{AreBytes, sample_at}
 use Rattle.vt_ppm.specs.Format.{AreUpTo, AreScaled, depth_of, most_byte, scaled}

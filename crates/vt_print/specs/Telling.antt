@@ -1,4 +1,4 @@
--- What a sink that may refuse puts was told.
+-- What a sink that may refuse puts has gained: a text, or a prefix of it where one of its counts rose.
 use Rattle.std.specs.Prelude.{◌≡◌, ◌⊎◌, ℕ, List, take, Option, option_map}
 use Rattle.vt_outside.specs.Counts.{Rose}
 use Rattle.vt_outside.specs.Files.{gained}

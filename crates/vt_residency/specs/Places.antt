@@ -1,4 +1,4 @@
--- What a look-up finds.
+-- What a look-up finds: a page, its frame and its level.
 use Rattle.std.specs.Prelude.{◌≡◌, ℕ, ◌+◌, Some, List, slice_index}
 use Rattle.vt_pages.specs.Shape.{Shape}
 use Rattle.vt_pages.specs.Pages.{level_of}

@@ -1,4 +1,4 @@
--- How many pixels want each page, gathered page by page.
+-- How many pixels want each page, gathered page by page, with the pages that have any listed once.
 use Rattle.std.specs.Prelude.{◌≡◌, ◌⊎◌, ℕ, ◌+◌, ◌<◌, ◌≤◌, nat_eq, nat_lt, min, if◌then◌else◌, List, map, slice_index}
 use Rattle.std.specs.List.{sum_by}
 use Rattle.vt_outside.specs.Lists.{ListView}

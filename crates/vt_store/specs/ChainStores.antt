@@ -1,4 +1,4 @@
--- The store of a mip chain.
+-- The store of a mip chain, and that of a texture, which holds the texture's chain.
 use Rattle.std.specs.Prelude.{◌≡◌, ℕ, ◌-◌, ◌<◌, List, ◌++◌, take, Option, option_map}
 use Rattle.vt_definitions.specs.Depths.{AreBytes}
 use Rattle.vt_definitions.specs.Texels.{Source}

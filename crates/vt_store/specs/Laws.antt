@@ -1,4 +1,4 @@
--- The law of the stores of textures.
+-- The law of stores of textures: each holds the texture's mip chain.
 use Rattle.std.specs.Prelude.{◌≡◌, ℕ, None, List}
 use Rattle.vt_ppm.specs.Image.{ImageView, texel_of}
 use Rattle.vt_ppm.specs.Format.{IsImage}

@@ -1,4 +1,4 @@
--- What is told while a batch is streamed.
+-- What is reported of a batch while it is streamed.
 use Rattle.std.specs.Prelude.{◌≡◌, ℕ, ◌+◌, ◌*◌, ◌≤◌, true, false, Some, List, [], ◌∷◌, ◌++◌, length, slice_get, slice_index_or, slice_set, All}
 use Rattle.vt_journal.specs.declared.changes.Event.{Event}
 use Rattle.vt_journal.specs.Changes.{newest}

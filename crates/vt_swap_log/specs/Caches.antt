@@ -1,4 +1,4 @@
--- Which page cache something is of.
+-- Which page cache something is of: its log, and how many pages and frames it has.
 use Rattle.std.specs.Prelude.{◌≡◌, ℕ}
 use Rattle.logbook.specs.Pages.{Book}
 use Rattle.vt_swap_log.specs.declared.log.Front.{Front}

@@ -1,4 +1,4 @@
--- Which log a word is of.
+-- The word that has the length of a log, and of which log it is.
 use Rattle.std.specs.Prelude.{◌≡◌}
 use Rattle.vt_swap_log.specs.Logs.{head_of}
 use Rattle.vt_swap_log.specs.declared.log.Head.{Head}

@@ -1,4 +1,4 @@
--- The slots of frames.
+-- Which frame a slot is; there is one for each frame.
 use Rattle.std.specs.Prelude.{◌≡◌, ℕ, ◌<◌, List, length, slice_index_or}
 use Rattle.vt_swap_log.specs.declared.frame.FrameKey.{FrameKey}
 use Rattle.vt_swap_log.specs.Caches.{Cache, cache_of}

@@ -1,4 +1,4 @@
--- What a log says of a version of the page table, and of the words of a frame.
+-- What a log says of a version's entries, and of the words of a frame.
 use Rattle.std.specs.Prelude.{◌≡◌, ℕ, ◌<◌, ◌≤◌, Some, List, length, slice_get, slice_index}
 use Rattle.vt_journal.specs.Changes.{at}
 use Rattle.vt_journal.specs.Kept.{entry_of}

@@ -1,4 +1,4 @@
--- The entries of a page table.
+-- The entries of a page table, and what a change makes of them.
 use Rattle.std.specs.Prelude.{◌≡◌, ℕ, ◌+◌, ◌%◌, ◌^◌, ◌<◌, ◌≤◌, List, length, slice_index, slice_set}
 use Rattle.vt_journal.specs.Limits.{most_versions}
 use Rattle.vt_journal.specs.declared.changes.Change.{Change}

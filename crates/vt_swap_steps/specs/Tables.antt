@@ -1,4 +1,4 @@
--- The page table as it is published.
+-- The page table as it is published: a version is that at the end of a journal, and what may be published next.
 use Rattle.std.specs.Prelude.{◌≡◌, ◌+◌, ◌%◌, ◌^◌, ◌<◌, ◌≤◌, List, [], ◌∷◌, ◌++◌, length}
 use Rattle.vt_journal.specs.Limits.{most_versions}
 use Rattle.vt_journal.specs.declared.changes.Change.{Change}

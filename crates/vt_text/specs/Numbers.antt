@@ -1,4 +1,4 @@
--- How numbers are spelled: one text for each.
+-- How numbers are spelled: digits without leading zeros, a minus before those of a negative number; one text for each.
 use Rattle.std.specs.Prelude.{◌≡◌, ◌≢◌, ◌+◌, ◌-◌, ◌^◌, ◌<◌, ◌⊎◌, ℕ, zero, suc, min, ℤ, pos, negsuc, neg_ℤ, ◌≤ℤ◌, ◌<ℤ◌, Bool, cond, List, [], ◌∷◌, length, map, slice_index}
 use Rattle.std.specs.Int.Digits.{digits_of}
 use Rattle.std.specs.Str.Parse.{AllDigits}

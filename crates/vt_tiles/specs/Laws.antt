@@ -1,4 +1,4 @@
--- The laws of stores.
+-- The laws of stores: each opens and holds its source, its words are those of its depth, and a tile holds the words of its page.
 use Rattle.std.specs.Prelude.{◌≡◌, ℕ, ◌+◌, ◌*◌, ◌^◌, ◌%◌, ◌<◌, None, List, length}
 use Rattle.vt_definitions.specs.Depths.{IsDepth, AreBytes, word_at}
 use Rattle.vt_definitions.specs.Texels.{Source}

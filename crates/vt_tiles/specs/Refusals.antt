@@ -1,4 +1,4 @@
--- Which refusals come.
+-- Which refusals are the outside's.
 use Rattle.vt_outside.specs.declared.answers.OutsideError.{OutsideError}
 use Rattle.vt_outside.specs.declared.answers.OutsideError.TheVariants as outside_error
 use Rattle.vt_tiles.specs.declared.error.StoreError.{StoreError}

@@ -1,4 +1,4 @@
--- The recency's table and the journal's.
+-- The entries of the recency are those of the journal's table.
 use Rattle.std.specs.Prelude.{◌≡◌, ℕ, ◌+◌, Option, None, Some, slice_index}
 use Rattle.vt_journal.specs.Changes.{Table}
 use Rattle.vt_evict.specs.Views.{RecencyView}

@@ -1,4 +1,4 @@
--- How much a walk took.
+-- How many passes and reads of tiles a whole run has.
 use Rattle.std.specs.Prelude.{◌≡◌, List, length}
 use Rattle.vt_walk.specs.declared.walk_steps.Walked.{Walked}
 use Rattle.vt_walk.specs.Fits.{WalkSetup}

@@ -1,4 +1,4 @@
--- Which pictures fit into the frames.
+-- Which pictures fit into the frames: how many unpinned pages are in the ancestor chains of their wanted pages.
 use Rattle.std.specs.Prelude.{◌≡◌, ℕ, ◌-◌, ◌<◌, ◌≤◌, Bool, List}
 use Rattle.vt_pages.specs.Shape.{Shape}
 use Rattle.vt_feedback.specs.declared.Wanted.{Wanted}

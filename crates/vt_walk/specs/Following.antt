@@ -1,4 +1,4 @@
--- A walk whose next pass was run, or drawn, before it is told.
+-- A walk whose next pass was run, or drawn, before its text is appended.
 use Rattle.std.specs.Prelude.{◌≡◌, ℕ, ◌+◌, ◌<◌, List, length, Option}
 use Rattle.vt_evict.specs.Views.{RecencyView}
 use Rattle.vt_walk_decisions.specs.MachineTypes.crew.PassReport.{PassReport}

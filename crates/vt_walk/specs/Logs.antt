@@ -1,4 +1,4 @@
--- What a walk prints.
+-- What a walk prints: a line for each picture, and the last line.
 use Rattle.std.specs.Prelude.{ℕ, ◌+◌, ◌==◌, Bool, List, [], ◌∷◌, ◌++◌, length, sum_by, count_by, codes, flat_map}
 use Rattle.std.specs.List.{filter, range_with_len}
 use Rattle.vt_words.specs.TextNumbers.{number_spelling}

@@ -1,4 +1,4 @@
--- What a walk asks of its store.
+-- What a walk asks of its store: the tiles of the pinned pages and of the batches, each once, and nothing else.
 use Rattle.std.specs.Prelude.{◌≡◌, ℕ, ◌+◌, ◌-◌, ◌≤◌, List, Option, Some, None, sum_by, count_by}
 use Rattle.std.specs.List.{range_with_len}
 use Rattle.vt_outside.specs.declared.place.Place.{Place}

@@ -1,4 +1,4 @@
--- What the pictures of a run show.
+-- What the pictures of a run show: each row of the last pass, at the version that it names.
 use Rattle.std.specs.Prelude.{ℕ, ◌==◌, if◌then◌else◌, List, [], ◌∷◌}
 use Rattle.vt_journal.specs.declared.changes.RowLine.{RowLine}
 use Rattle.vt_journal.specs.Changes.{Table}

@@ -1,4 +1,4 @@
--- What a walk has left at a time.
+-- What is there at a time of a walk: files, text, places and counts, taken with the files that are open.
 use Rattle.std.specs.Prelude.{◌≡◌, ℕ, ◌++◌, List, [], sum, replicate, map, flat_map, Option, IsSome, is_some, option_map, unwrap_or}
 use Rattle.vt_outside.specs.Counts.{added}
 use Rattle.vt_outside.specs.Files.{Files, Asked}

@@ -1,4 +1,4 @@
--- What a walk is given.
+-- What a walk is given: its numbers, scene, crew, store and names, and how its machine draws.
 use Rattle.std.specs.Prelude.{ℕ, ◌≤◌, Bool, true, false, Option, List, length}
 use Rattle.vt_outside.specs.declared.outside.File.{Ghosts as FileMeanings}
 use Rattle.vt_pages.specs.Shape.{Shape}

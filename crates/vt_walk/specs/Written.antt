@@ -1,4 +1,4 @@
--- What is written of a picture of a run.
+-- What is written of a picture of a run: the replay of its last pass, and in a settled walk the plain picture.
 use Rattle.std.specs.Prelude.{◌≡◌, ℕ, IfSome, List, [], ◌∷◌, length, All}
 use Rattle.std.specs.List.{concat}
 use Rattle.vt_ppm.specs.Picture.{picture_bytes}

@@ -1,4 +1,4 @@
--- The names of commands that have a store, a path, a journal and pictures.
+-- Names of commands with a store, a path, a journal and pictures, and when two of them clash.
 use Rattle.std.specs.Prelude.{Bool, ◌||◌}
 use Rattle.std.specs.Str.{bytes_eq}
 use Rattle.clap.specs.Words.{Text}

@@ -1,4 +1,4 @@
--- The names of the pictures.
+-- The names of the pictures: a prefix, four digits and `.ppm`.
 use Rattle.std.specs.Prelude.{ℕ, ◌+◌, ◌/◌, ◌%◌, List, [], ◌∷◌, ◌++◌, length, drop, Bool, false, ◌&&◌, nat_le, nat_eq, codes}
 use Rattle.std.specs.List.{starts_with}
 use Rattle.std.specs.Str.{bytes_eq}

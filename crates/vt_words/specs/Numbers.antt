@@ -1,4 +1,4 @@
--- The numbers among the words.
+-- The numbers among the words, by their one spelling and within their bounds.
 use Rattle.std.specs.Prelude.{ℕ, List, Option, Some, None, ◌≤◌, ◌&&◌, nat_le, if◌then◌else◌}
 use Rattle.std.specs.Str.{bytes_eq}
 use Rattle.std.specs.Str.Parse.{digits_value}

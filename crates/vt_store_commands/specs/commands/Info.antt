@@ -1,4 +1,4 @@
--- The command `info`: what the header of a tile store tells.
+-- The command `info`: what the header of a tile store says.
 use Rattle.std.specs.Prelude.{List, [], ◌∷◌, Option, Some, codes}
 use Rattle.clap.specs.Words.{Row, Rule, Text, first_of}
 use Rattle.vt_words.specs.Arguments.{word, given}
